@@ -1,0 +1,183 @@
+-- The register computes the remainder.
+use Rattle.std.proofs.Common.{◌≡◌, ℕ, zero, suc, ◌+◌, ◌*◌, ◌/◌, ◌%◌, ◌^◌, ◌<◌, ◌==◌, Bool, true, false, cond, List, [], ◌∷◌, length, refl, ap, sym, ◌∙◌, arith, add_comm}
+use Rattle.std.specs.Prelude.{bit_xor}
+use Rattle.std.specs.Int.{bit_at}
+use lib.Bits.{xor_assoc, xor_self}
+use Rattle.std.proofs.lemmas.Nat.{xor_block, xor_comm, xor_lt, pow_pos, pow-add, shl_below, mod_below, div_below, div-add-mod', shr_high}
+use Rattle.std.proofs.Math.Nat.{pow-succ'}
+use Rattle.terms.specs.Bits.{number_of}
+use Rattle.bit_slice.specs.Crc.{product, IsRemainder, remainder, crc32_of, CrcIsRemainder}
+use Rattle.bit_slice.specs.Register.{differ, step}
+use Rattle.terms.proofs.BitLemmas.{number_of-lt}
+
+-- the register after all bits
+abbrev pub register : ℕ → ℕ → ℕ → List Bool → ℕ
+register degree low s [] = s
+register degree low s (b ∷ bs) = register degree low (step degree low s b) bs
+
+-- a shift of a sum
+xor_shl : (a b k : ℕ) → bit_xor (a * 2 ^ k) (b * 2 ^ k) ≡ bit_xor a b * 2 ^ k
+xor_shl a b k =
+    let pos = pow_pos k in
+    let e = xor_block k a b 0 0 pos pos in
+    let ea : a * 2 ^ k + 0 ≡ a * 2 ^ k = omega arith in
+    let eb : b * 2 ^ k + 0 ≡ b * 2 ^ k = omega arith in
+    let ec : bit_xor a b * 2 ^ k + 0 ≡ bit_xor a b * 2 ^ k = omega arith in
+    rw (ea, eb) at e ∙ ec
+
+-- a sum taken twice
+xor_twice : (a b : ℕ) → bit_xor a (bit_xor b a) ≡ b
+xor_twice a b = ap (bit_xor a) (xor_comm b a) ∙ sym (xor_assoc a a b) ∙ ap (λ (x : ℕ). bit_xor x b) (xor_self a)
+
+-- the highest bits of both parts, and the rest
+split : (d n s b m : ℕ) → m < 2 ^ n → s < 2 ^ d →
+    bit_xor ((b * 2 ^ n + m) * 2 ^ d) (s * 2 ^ suc n)
+    ≡ bit_xor b (s * 2 / 2 ^ d) * 2 ^ (n + d) + bit_xor (m * 2 ^ d) (s * 2 % 2 ^ d * 2 ^ n)
+split d n s b m below small =
+    let t : ℕ = s * 2 / 2 ^ d in
+    let u : ℕ = s * 2 % 2 ^ d in
+    let k = pow-add 2 n d in
+    let left : (b * 2 ^ n + m) * 2 ^ d ≡ b * 2 ^ (n + d) + m * 2 ^ d = rw k (omega arith) in
+    let whole : s * 2 ≡ t * 2 ^ d + u = sym (div-add-mod' (s * 2) (2 ^ d)) in
+    let right : s * 2 ^ suc n ≡ t * 2 ^ (n + d) + u * 2 ^ n =
+    rw (k, pow-succ' 2 n) (let e = ap (λ (x : ℕ). x * 2 ^ n) whole in omega (arith, e)) in
+    let first : m * 2 ^ d < 2 ^ (n + d) = shl_below m n d below in
+    let pos = pow_pos d in
+    let small_u : u < 2 ^ d = mod_below (s * 2) (2 ^ d) pos in
+    let second : u * 2 ^ n < 2 ^ (n + d) = rw (add_comm n d) (shl_below u d n small_u) in
+    rw (left, right) (xor_block (n + d) b t (m * 2 ^ d) (u * 2 ^ n) first second)
+
+-- where the generator is added
+added : (d n u m low : ℕ) → m < 2 ^ n → u < 2 ^ d → low < 2 ^ d →
+    1 * 2 ^ (n + d) + bit_xor (m * 2 ^ d) (u * 2 ^ n)
+    ≡ bit_xor ((2 ^ d + low) * 2 ^ n) (bit_xor (m * 2 ^ d) (bit_xor u low * 2 ^ n))
+added d n u m low below small_u small =
+    let y : ℕ = bit_xor (m * 2 ^ d) (u * 2 ^ n) in
+    let l : ℕ = low * 2 ^ n in
+    let k = pow-add 2 n d in
+    let swap = add_comm n d in
+    let first : m * 2 ^ d < 2 ^ (n + d) = shl_below m n d below in
+    let second : u * 2 ^ n < 2 ^ (n + d) = rw swap (shl_below u d n small_u) in
+    let small_l : l < 2 ^ (n + d) = rw swap (shl_below low d n small) in
+    let small_y : y < 2 ^ (n + d) = xor_lt (n + d) (m * 2 ^ d) (u * 2 ^ n) first second in
+    let small_z : bit_xor y l < 2 ^ (n + d) = xor_lt (n + d) y l small_y small_l in
+    let g : (2 ^ d + low) * 2 ^ n ≡ 1 * 2 ^ (n + d) + l = rw k (omega arith) in
+    let z : bit_xor (m * 2 ^ d) (bit_xor u low * 2 ^ n) ≡ 0 * 2 ^ (n + d) + bit_xor y l =
+    ap (bit_xor (m * 2 ^ d)) (sym (xor_shl u low n)) ∙ sym (xor_assoc (m * 2 ^ d) (u * 2 ^ n) l) ∙ omega arith in
+    sym (rw (g, z) (xor_block (n + d) 1 0 l (bit_xor y l) small_l small_z ∙ ap (λ (x : ℕ). 1 * 2 ^ (n + d) + x) (xor_twice l y)))
+
+abbrev Divides : ℕ → ℕ → List Bool → ℕ → List Bool → Type 0
+Divides d low bs s quotient =
+    (length quotient ≡ length bs)
+    × (bit_xor (number_of bs * 2 ^ d) (s * 2 ^ length bs) ≡ bit_xor (product quotient (2 ^ d + low)) (register d low s bs))
+
+step_lt : (d low s : ℕ) (b : Bool) → low < 2 ^ d → step d low s b < 2 ^ d
+step_lt d low s b small =
+    let pos = pow_pos d in
+    let u : s * 2 % 2 ^ d < 2 ^ d = mod_below (s * 2) (2 ^ d) pos in
+    elim (differ (s * 2 / 2 ^ d == 1) b) as (λ v. cond v (bit_xor (s * 2 % 2 ^ d) low) (s * 2 % 2 ^ d) < 2 ^ d)
+    [ true ↦ xor_lt d (s * 2 % 2 ^ d) low u small | false ↦ u ]
+
+-- the bit that leaves the register
+top_lt : (d s : ℕ) → s < 2 ^ d → s * 2 / 2 ^ d < 2
+top_lt d s small = let pos = pow_pos d in let fits : s * 2 < 2 * 2 ^ d = omega arith in div_below (s * 2) (2 ^ d) 2 pos fits
+
+-- the difference of two bits, as a number
+differ_is : (t : ℕ) (b : Bool) → t < 2 → bit_xor (cond b 1 0) t ≡ cond (differ (t == 1) b) 1 0
+differ_is zero true h = refl
+differ_is zero false h = refl
+differ_is (suc zero) true h = refl
+differ_is (suc zero) false h = refl
+differ_is (suc (suc t)) b h = absurd (omega arith)
+
+number_is : (b : Bool) (bs : List Bool) → number_of (b ∷ bs) ≡ cond b 1 0 * 2 ^ length bs + number_of bs
+number_is true bs = omega arith
+number_is false bs = omega arith
+
+finish : (d low n u m : ℕ) (v : Bool) (p r : ℕ) → m < 2 ^ n → u < 2 ^ d → low < 2 ^ d →
+    bit_xor (m * 2 ^ d) (cond v (bit_xor u low) u * 2 ^ n) ≡ bit_xor p r →
+    cond v 1 0 * 2 ^ (n + d) + bit_xor (m * 2 ^ d) (u * 2 ^ n) ≡ bit_xor (bit_xor (cond v ((2 ^ d + low) * 2 ^ n) 0) p) r
+finish d low n u m true p r below small_u small e =
+    added d n u m low below small_u small ∙ ap (bit_xor ((2 ^ d + low) * 2 ^ n)) e ∙ sym (xor_assoc ((2 ^ d + low) * 2 ^ n) p r)
+finish d low n u m false p r below small_u small e = omega (arith, e)
+
+begun : (d : ℕ) (b : Bool) (bs : List Bool) (s : ℕ) → s < 2 ^ d →
+    bit_xor (number_of (b ∷ bs) * 2 ^ d) (s * 2 ^ suc (length bs))
+    ≡ cond (differ (s * 2 / 2 ^ d == 1) b) 1 0 * 2 ^ (length bs + d) + bit_xor (number_of bs * 2 ^ d) (s * 2 % 2 ^ d * 2 ^ length bs)
+begun d b bs s fits =
+    let heads = number_is b bs in
+    let parted = split d (length bs) s (cond b 1 0) (number_of bs) (number_of-lt bs) fits in
+    let bit = differ_is (s * 2 / 2 ^ d) b (top_lt d s fits) in
+    rw (heads, parted, bit) refl
+
+sum_lt : (d n u m : ℕ) → m < 2 ^ n → u < 2 ^ d → bit_xor (m * 2 ^ d) (u * 2 ^ n) < 2 ^ (n + d)
+sum_lt d n u m below small_u =
+    let first : m * 2 ^ d < 2 ^ (n + d) = shl_below m n d below in
+    let second : u * 2 ^ n < 2 ^ (n + d) = rw (add_comm n d) (shl_below u d n small_u) in
+    xor_lt (n + d) (m * 2 ^ d) (u * 2 ^ n) first second
+
+pub divides : (d low : ℕ) → low < 2 ^ d → (bs : List Bool) (s : ℕ) → s < 2 ^ d → (quotient : List Bool) × Divides d low bs s quotient
+divides d low small [] s fits =
+    let e : bit_xor (0 * 2 ^ d) (s * 2 ^ 0) ≡ bit_xor 0 s =
+    let l : 0 * 2 ^ d ≡ 0 = omega arith in
+    let r : s * 2 ^ 0 ≡ s = omega arith in
+    rw (l, r) refl in
+    ([], (refl, e))
+divides d low small (b ∷ bs) s fits =
+    let rest = divides d low small bs (step d low s b) (step_lt d low s b small) in
+    let pos = pow_pos d in
+    let small_u : s * 2 % 2 ^ d < 2 ^ d = mod_below (s * 2) (2 ^ d) pos in
+    let same : bit_xor (number_of bs * 2 ^ d) (step d low s b * 2 ^ length bs) ≡ bit_xor (product rest.0 (2 ^ d + low)) (register d low (step d low s b) bs) = rest.1.1 in
+    let ended = finish d low (length bs) (s * 2 % 2 ^ d) (number_of bs) (differ (s * 2 / 2 ^ d == 1) b) (product rest.0 (2 ^ d + low)) (register d low (step d low s b) bs) (number_of-lt bs) small_u small same in
+    (differ (s * 2 / 2 ^ d == 1) b ∷ rest.0, (ap suc rest.1.0, rw (rest.1.0) (begun d b bs s fits ∙ ended)))
+
+register_lt : (d low : ℕ) → low < 2 ^ d → (bs : List Bool) (s : ℕ) → s < 2 ^ d → register d low s bs < 2 ^ d
+register_lt d low small [] s fits = fits
+register_lt d low small (b ∷ bs) s fits = register_lt d low small bs (step d low s b) (step_lt d low s b small)
+
+-- what the register ends with is the remainder
+pub is_remainder : (d low : ℕ) → low < 2 ^ d → (bs : List Bool) (s : ℕ) → s < 2 ^ d →
+    IsRemainder d (bit_xor (number_of bs * 2 ^ d) (s * 2 ^ length bs)) (2 ^ d + low) (register d low s bs)
+is_remainder d low small bs s fits =
+    let found = divides d low small bs s fits in
+    (register_lt d low small bs s fits, (found.0, found.1.1))
+
+-- one step of long division
+divided_once : (d low n u m : ℕ) (v : Bool) (p : ℕ) → m < 2 ^ n → u < 2 ^ d → low < 2 ^ d →
+    p ≡ cond v 1 0 * 2 ^ (n + d) + bit_xor (m * 2 ^ d) (u * 2 ^ n) →
+    cond (bit_at p (n + d) == 1) (bit_xor p ((2 ^ d + low) * 2 ^ n)) p ≡ bit_xor (m * 2 ^ d) (cond v (bit_xor u low) u * 2 ^ n)
+divided_once d low n u m true p below small_u small e =
+    let y : bit_xor (m * 2 ^ d) (u * 2 ^ n) < 2 ^ (n + d) = sum_lt d n u m below small_u in
+    let top : bit_at p (n + d) ≡ 1 = rw e (ap (λ (x : ℕ). x % 2) (shr_high 1 (n + d) (bit_xor (m * 2 ^ d) (u * 2 ^ n)) y)) in
+    let g : p ≡ bit_xor ((2 ^ d + low) * 2 ^ n) (bit_xor (m * 2 ^ d) (bit_xor u low * 2 ^ n)) = e ∙ added d n u m low below small_u small in
+    rw top (xor_comm p ((2 ^ d + low) * 2 ^ n) ∙ ap (bit_xor ((2 ^ d + low) * 2 ^ n)) g
+    ∙ ap (bit_xor ((2 ^ d + low) * 2 ^ n)) (xor_comm ((2 ^ d + low) * 2 ^ n) (bit_xor (m * 2 ^ d) (bit_xor u low * 2 ^ n)))
+    ∙ xor_twice ((2 ^ d + low) * 2 ^ n) (bit_xor (m * 2 ^ d) (bit_xor u low * 2 ^ n)))
+divided_once d low n u m false p below small_u small e =
+    let y : bit_xor (m * 2 ^ d) (u * 2 ^ n) < 2 ^ (n + d) = sum_lt d n u m below small_u in
+    let top : bit_at p (n + d) ≡ 0 = rw e (ap (λ (x : ℕ). x % 2) (shr_high 0 (n + d) (bit_xor (m * 2 ^ d) (u * 2 ^ n)) y)) in
+    rw top (omega (arith, e))
+
+-- Long division gives what the register ends with.
+pub remainder_is_register : (d low : ℕ) → low < 2 ^ d → (bs : List Bool) (s : ℕ) → s < 2 ^ d →
+    remainder d (2 ^ d + low) (length bs) (bit_xor (number_of bs * 2 ^ d) (s * 2 ^ length bs)) ≡ register d low s bs
+remainder_is_register d low small [] s fits =
+    let l : 0 * 2 ^ d ≡ 0 = omega arith in
+    let r : s * 2 ^ 0 ≡ s = omega arith in
+    rw (l, r) refl
+remainder_is_register d low small (b ∷ bs) s fits =
+    let pos = pow_pos d in
+    let small_u : s * 2 % 2 ^ d < 2 ^ d = mod_below (s * 2) (2 ^ d) pos in
+    let e = begun d b bs s fits in
+    ap (remainder d (2 ^ d + low) (length bs))
+    (divided_once d low (length bs) (s * 2 % 2 ^ d) (number_of bs) (differ (s * 2 / 2 ^ d == 1) b)
+    (bit_xor (number_of (b ∷ bs) * 2 ^ d) (s * 2 ^ suc (length bs))) (number_of-lt bs) small_u small e)
+    ∙ remainder_is_register d low small bs (step d low s b) (step_lt d low s b small)
+
+pub crc32_of_is : (w : List Bool) → crc32_of w ≡ register 32 0x04C1_1DB7 0xFFFF_FFFF w
+unfolding crc32_of
+crc32_of_is w = remainder_is_register 32 0x04C1_1DB7 (omega arith) w 0xFFFF_FFFF (omega arith)
+
+pub crc_is_remainder : CrcIsRemainder
+unfolding crc32_of
+crc_is_remainder w = rw (crc32_of_is w) (is_remainder 32 0x04C1_1DB7 (omega arith) w 0xFFFF_FFFF (omega arith))

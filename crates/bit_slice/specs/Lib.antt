@@ -1,0 +1,3 @@
+pub mod Crc
+pub mod Register
+pub use Rattle.terms.specs.Bits

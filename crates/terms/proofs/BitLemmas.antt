@@ -1,0 +1,142 @@
+-- Bits of numbers and bytes, the numbers of bits, and parts of bits.
+use Rattle.std.proofs.Common.{◌≡◌, ℕ, zero, suc, ◌+◌, ◌-◌, ◌*◌, ◌/◌, ◌%◌, ◌^◌, ◌<◌, ◌≤◌, ◌==◌, Bool, true, false, cond, List, [], ◌∷◌, ◌++◌, length, take, drop, get_or, refl, ap, sym, ◌∙◌, arith, length-append, add-one}
+use Rattle.std.specs.Int.{bit_at}
+use Rattle.std.proofs.lemmas.List.{get_or_append_left, get_or-append-add, length_push, drop-take, take-take, drop-drop, get_or-take, get_or-drop, length-take, length-drop, drop-append-le, take-append-le}
+use Rattle.std.proofs.lemmas.List.Concat.{flat_map-append}
+use Rattle.std.proofs.lemmas.Nat.{pow-add, mod-pow-add, mod_below, shr_high}
+use Rattle.std.proofs.lemmas.Nat.Bits.{bit_at-lt, bit_at_above, bit_at_cat_low}
+use Rattle.std.proofs.Math.Nat.{pow-succ', add-mul, mod-eq_of_lt}
+use Rattle.std.proofs.Math.Seq.{take-append_seam, drop-append_seam}
+use Rattle.terms.specs.Bits.{field, bits_of, number_of, part}
+
+pub length-field : (w n : ℕ) → length (field w n) ≡ w
+unfolding field
+length-field zero n = refl
+length-field (suc w) n = ap suc (length-field w n)
+
+pub length-bits_of : (bytes : List ℕ) → length (bits_of bytes) ≡ 8 * length bytes
+length-bits_of [] = refl
+length-bits_of (b ∷ bytes) = length-append (field 8 b) (bits_of bytes) ∙ omega (arith, length-field 8 b, length-bits_of bytes)
+
+pub bits_of-append : (xs ys : List ℕ) → bits_of (xs ++ ys) ≡ bits_of xs ++ bits_of ys
+bits_of-append xs ys = flat_map-append (field 8) xs ys
+
+-- the bit at a place of a field
+pub get_or-field : (w n j : ℕ) → j < w → get_or (field w n) j false ≡ (bit_at n (w - 1 - j) == 1)
+unfolding field
+get_or-field zero n j h = absurd (omega arith)
+get_or-field (suc w) n zero h = let e : w ≡ suc w - 1 - 0 = omega arith in ap (λ (k : ℕ). bit_at n k == 1) e
+get_or-field (suc w) n (suc j) h =
+    let e : w - 1 - j ≡ suc w - 1 - suc j = omega arith in
+    get_or-field w n j (omega arith) ∙ ap (λ (k : ℕ). bit_at n k == 1) e
+
+-- the bit at a place of the bits of bytes
+pub get_or-bits_of : (bytes : List ℕ) (i j : ℕ) → j < 8 → i < length bytes → get_or (bits_of bytes) (8 * i + j) false ≡ (bit_at (get_or bytes i 0) (7 - j) == 1)
+get_or-bits_of [] i j within h = absurd (omega arith)
+get_or-bits_of (b ∷ bytes) zero j within h =
+    let e : 8 * 0 + j ≡ j = omega arith in
+    let inside : j < length (field 8 b) = omega (arith, length-field 8 b) in
+    ap (λ (k : ℕ). get_or (bits_of (b ∷ bytes)) k false) e
+    ∙ get_or_append_left (field 8 b) (bits_of bytes) false j inside ∙ get_or-field 8 b j within
+get_or-bits_of (b ∷ bytes) (suc i) j within h =
+    let e : 8 * suc i + j ≡ length (field 8 b) + (8 * i + j) = omega (arith, length-field 8 b) in
+    ap (λ (k : ℕ). get_or (bits_of (b ∷ bytes)) k false) e
+    ∙ get_or-append-add (field 8 b) (bits_of bytes) (8 * i + j) false
+    ∙ get_or-bits_of bytes i j within (omega arith)
+
+pub number_of-lt : (bs : List Bool) → number_of bs < 2 ^ length bs
+number_of-lt [] = omega arith
+number_of-lt (true ∷ bs) = let e : 2 ^ suc (length bs) ≡ 2 * 2 ^ length bs = pow-succ' 2 (length bs) in omega (arith, number_of-lt bs, e)
+number_of-lt (false ∷ bs) = let e : 2 ^ suc (length bs) ≡ 2 * 2 ^ length bs = pow-succ' 2 (length bs) in omega (arith, number_of-lt bs, e)
+
+-- one more bit at the end
+pub number_of-push : (bs : List Bool) (b : Bool) → number_of (bs ++ b ∷ []) ≡ 2 * number_of bs + (cond b 1 0)
+number_of-push [] true = refl
+number_of-push [] false = refl
+number_of-push (true ∷ bs) b =
+    let e : 2 ^ length (bs ++ b ∷ []) ≡ 2 * 2 ^ length bs = rw (length_push, add-one) (pow-succ' 2 (length bs)) in
+    omega (arith, number_of-push bs b, e)
+number_of-push (false ∷ bs) b = omega (arith, number_of-push bs b)
+
+-- a part of a part
+pub part-part : {X : Type 0} (xs : List X) (f l g m : ℕ) → g + m ≤ l → take m (drop g (take l (drop f xs))) ≡ take m (drop (f + g) xs)
+part-part xs f l g m h =
+    let e : l ≡ g + (l - g) = omega arith in
+    let within : m ≤ l - g = omega arith in
+    ap (λ (n : ℕ). take m (drop g (take n (drop f xs)))) e
+    ∙ ap (take m) (drop-take g (l - g) (drop f xs))
+    ∙ take-take m (l - g) (drop g (drop f xs)) within
+    ∙ ap (take m) (drop-drop g f xs)
+
+-- an element of a part
+pub get_or-part : {X : Type 0} (xs : List X) (f l at : ℕ) (d : X) → at < l → get_or (take l (drop f xs)) at d ≡ get_or xs (f + at) d
+get_or-part xs f l at d h = get_or-take l (drop f xs) at d h ∙ get_or-drop f xs at d
+
+pub length-part : {X : Type 0} (xs : List X) (f l : ℕ) → f + l ≤ length xs → length (take l (drop f xs)) ≡ l
+length-part xs f l h = simp (length-take, length-drop) (omega arith)
+
+-- A part of a front is a part of the whole.
+pub part-append : {X : Type 0} (xs ys : List X) (f l : ℕ) → f + l ≤ length xs → take l (drop f (xs ++ ys)) ≡ take l (drop f xs)
+part-append xs ys f l h =
+    let a : f ≤ length xs = omega arith in
+    let b : l ≤ length (drop f xs) = simp length-drop (omega arith) in
+    ap (take l) (drop-append-le f xs ys a) ∙ take-append-le l (drop f xs) ys b
+
+pub number_of-append : (xs ys : List Bool) → number_of (xs ++ ys) ≡ number_of xs * 2 ^ length ys + number_of ys
+number_of-append [] ys = omega arith
+number_of-append (true ∷ xs) ys =
+    let size : 2 ^ length (xs ++ ys) ≡ 2 ^ length xs * 2 ^ length ys = rw (length-append xs ys) (pow-add 2 (length xs) (length ys)) in
+    let product : (2 ^ length xs + number_of xs) * 2 ^ length ys ≡ 2 ^ length xs * 2 ^ length ys + number_of xs * 2 ^ length ys = add-mul (2 ^ length xs) (number_of xs) (2 ^ length ys) in
+    omega (arith, number_of-append xs ys, size, product)
+number_of-append (false ∷ xs) ys = omega (arith, number_of-append xs ys)
+
+-- a bit as a number
+bit_number : (k : ℕ) → k < 2 → (w : ℕ) → cond (k == 1) (2 ^ w) 0 ≡ k * 2 ^ w
+bit_number zero h w = omega arith
+bit_number (suc zero) h w = omega arith
+bit_number (suc (suc k)) h w = absurd (omega arith)
+
+-- a field holds the lowest bits of its number
+number_of-field-mod : (w n : ℕ) → number_of (field w n) ≡ n % 2 ^ w
+unfolding field
+number_of-field-mod zero n = omega (arith, mod_below n 1)
+number_of-field-mod (suc w) n =
+    let top : cond (bit_at n w == 1) (2 ^ w) 0 ≡ bit_at n w * 2 ^ w = bit_number (bit_at n w) (bit_at-lt n w) w in
+    let split : n % 2 ^ (1 + w) ≡ (n / 2 ^ w % 2 ^ 1) * 2 ^ w + n % 2 ^ w = mod-pow-add n 1 w in
+    let size : 2 ^ (1 + w) ≡ 2 ^ suc w = let e : 1 + w ≡ suc w = omega arith in ap (λ (k : ℕ). 2 ^ k) e in
+    rw (length-field w n, top, number_of-field-mod w n, ← size, split) refl
+
+pub number_of-field : (w n : ℕ) → n < 2 ^ w → number_of (field w n) ≡ n
+number_of-field w n h = number_of-field-mod w n ∙ mod-eq_of_lt h
+
+-- what stands above a field's width does not matter
+pub field-high : (w a n k : ℕ) → k ≤ w → field k (a * 2 ^ w + n) ≡ field k n
+unfolding field
+field-high w a n zero h = refl
+field-high w a n (suc k) h =
+    let here : bit_at (a * 2 ^ w + n) k ≡ bit_at n k = bit_at_cat_low a w n k (omega arith) in
+    rw (here, field-high w a n k (omega arith)) refl
+
+-- the bits of a number are those that spell it
+pub field-number_of : (bs : List Bool) → field (length bs) (number_of bs) ≡ bs
+unfolding field
+field-number_of [] = refl
+field-number_of (true ∷ bs) =
+    let one : 2 ^ length bs + number_of bs ≡ 1 * 2 ^ length bs + number_of bs = omega arith in
+    let top : bit_at (1 * 2 ^ length bs + number_of bs) (length bs) ≡ 1 = ap (λ (x : ℕ). x % 2) (shr_high 1 (length bs) (number_of bs) (number_of-lt bs)) in
+    rw (one, top, field-high (length bs) 1 (number_of bs) (length bs) (omega arith), field-number_of bs) refl
+field-number_of (false ∷ bs) =
+    let top : bit_at (number_of bs) (length bs) ≡ 0 = bit_at_above (number_of bs) (length bs) (length bs) (number_of-lt bs) (omega arith) in
+    let none : 0 + number_of bs ≡ number_of bs = omega arith in
+    rw (none, top, field-number_of bs) refl
+
+pub take-field : (w n : ℕ) (rest : List Bool) → take w (field w n ++ rest) ≡ field w n
+take-field w n rest = ap (λ (k : ℕ). take k (field w n ++ rest)) (sym (length-field w n)) ∙ take-append_seam (field w n) rest
+
+pub drop-field : (w n : ℕ) (rest : List Bool) → drop w (field w n ++ rest) ≡ rest
+drop-field w n rest = ap (λ (k : ℕ). drop k (field w n ++ rest)) (sym (length-field w n)) ∙ drop-append_seam (field w n) rest
+
+-- a field that stands in bits holds the number that it spells
+pub field-number_at : (bits : List Bool) (at width : ℕ) → at + width ≤ length bits → field width (number_of (take width (drop at bits))) ≡ take width (drop at bits)
+field-number_at bits at width h =
+    ap (λ (k : ℕ). field k (number_of (take width (drop at bits)))) (sym (length-part bits at width h)) ∙ field-number_of (take width (drop at bits))
