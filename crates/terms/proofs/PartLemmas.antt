@@ -1,0 +1,43 @@
+-- Parts of lists that stand side by side, and the bits of a front of bytes.
+use Rattle.std.specs.Prelude.{replicate}
+use Rattle.std.proofs.lemmas.Nat.{pow_pos}
+use Rattle.std.proofs.Common.{◌≡◌, ℕ, zero, suc, ◌+◌, ◌*◌, ◌^◌, ◌<◌, ◌≤◌, List, Bool, true, false, [], ◌∷◌, ◌++◌, length, take, drop, refl, ap, sym, ◌∙◌, arith}
+use Rattle.std.proofs.lemmas.List.{drop-drop, drop-append-le, take-append-le, take-append-drop, length-take-le, length-append}
+use Rattle.std.proofs.Math.Seq.{take-add, take-append_seam, drop-append_seam, take-length}
+use Rattle.terms.specs.Bits.{field, bits_of, number_of}
+use Rattle.terms.proofs.BitLemmas.{length-bits_of, bits_of-append, length-field, number_of-field, part-append}
+
+-- two parts that stand side by side are one
+pub part-add : {X : Type 0} (xs : List X) (at a b : ℕ) → take (a + b) (drop at xs) ≡ take a (drop at xs) ++ take b (drop (at + a) xs)
+part-add xs at a b = take-add a b (drop at xs) ∙ ap (λ (ys : List _). take a (drop at xs) ++ take b ys) (drop-drop a at xs)
+
+-- the bits of a front
+pub bits_of-take : (bytes : List ℕ) (n : ℕ) → n ≤ length bytes → bits_of (take n bytes) ≡ take (8 * n) (bits_of bytes)
+bits_of-take bytes n h =
+    let size : 8 * n ≡ length (bits_of (take n bytes)) = omega (arith, length-bits_of (take n bytes), length-take-le n bytes h) in
+    let whole : bits_of bytes ≡ bits_of (take n bytes) ++ bits_of (drop n bytes) = ap bits_of (sym (take-append-drop n bytes)) ∙ bits_of-append (take n bytes) (drop n bytes) in
+    sym (ap (take (8 * n)) whole ∙ ap (λ (k : ℕ). take k (bits_of (take n bytes) ++ bits_of (drop n bytes))) size ∙ take-append_seam (bits_of (take n bytes)) (bits_of (drop n bytes)))
+
+-- what stands behind a front is a part of the whole
+pub part-middle : {X : Type 0} (front mid more : List X) (at width : ℕ) → length front ≡ at → length mid ≡ width → take width (drop at ((front ++ mid) ++ more)) ≡ mid
+part-middle front mid more at width here wide =
+    let inside : at + width ≤ length (front ++ mid) = simp length-append (omega (arith, here, wide)) in
+    part-append (front ++ mid) more at width inside
+    ∙ ap (λ (k : ℕ). take width (drop k (front ++ mid))) (sym here)
+    ∙ ap (take width) (drop-append_seam front mid)
+    ∙ ap (λ (k : ℕ). take k mid) (sym wide)
+    ∙ take-length mid
+
+-- a field behind a front holds its number
+pub number-middle : (front more : List Bool) (at width n : ℕ) → length front ≡ at → n < 2 ^ width → number_of (take width (drop at ((front ++ field width n) ++ more))) ≡ n
+number-middle front more at width n here fits = ap number_of (part-middle front (field width n) more at width here (length-field width n)) ∙ number_of-field width n fits
+
+-- bits that spell 0 are zero bits
+pub zero_bits : (bits : List Bool) → number_of bits ≡ 0 → bits ≡ replicate (length bits) false
+zero_bits [] h = refl
+zero_bits (true ∷ bits) h = absurd (omega (arith, pow_pos (length bits)))
+zero_bits (false ∷ bits) h = ap (λ (rest : List Bool). false ∷ rest) (zero_bits bits (omega arith))
+
+pub number_of-zeros : (n : ℕ) → number_of (replicate n false) ≡ 0
+number_of-zeros zero = refl
+number_of-zeros (suc n) = omega (arith, number_of-zeros n)
