@@ -14,7 +14,7 @@ use Rattle.t2mi_packet.specs.declared.fault.PacketFault.{PacketFault}
 use Rattle.t2mi_packet.specs.declared.fault.PacketWhy.{PacketWhy}
 use Rattle.t2mi_packet.specs.declared.fault.PacketWhy.TheVariants.{Short, Crc, PadBits}
 use Rattle.t2mi_packet.specs.T2miPacket.{kind_of, payload_of, header_bits, pad_len, covered_bits, packet_bits, Fits, Spells, BeginsWith, payload_len, crc_place, IsShort, HasCrc, HasPad, Refuses, RefusesFor}
-use Rattle.t2mi_packet.specs.Laws.{OnePacket, NoRefusal, PacketLength}
+use Rattle.t2mi_packet.specs.Laws.{OnePacket, NoRefusal, OneRefusal, PacketLength}
 use Rattle.t2mi_packet.specs.Reading.{HasParts, IsRead}
 
 -- the bits of bytes that begin with a packet
@@ -140,7 +140,7 @@ same_packet p q a b c d = λ i. record { count = a i; superframe = b i; stream =
 pub one_read : (bytes : List ℕ) (p q : Packet) (m n : ℕ) → IsRead bytes p m → IsRead bytes q n → (p ≡ q) × (m ≡ n)
 one_read bytes p q m n a b = (
   same_packet p q (a.parts.count ∙ sym b.parts.count) (a.parts.superframe ∙ sym b.parts.superframe) (a.parts.stream ∙ sym b.parts.stream)
-  (same_body p.body q.body (a.parts.kind ∙ sym b.parts.kind) (a.parts.payload ∙ sym b.parts.payload)),
+      (same_body p.body q.body (a.parts.kind ∙ sym b.parts.kind) (a.parts.payload ∙ sym b.parts.payload)),
   a.end ∙ sym b.end,
 )
 
@@ -177,3 +177,17 @@ every_read bounded bytes r ok err p len b =
     let size : length (take len bytes) ≡ len = length-take-le len bytes b.inside in
     let there : IsRead bytes p len = subst (IsRead bytes p) size (subst (λ (all : List ℕ). IsRead all p (length (take len bytes))) whole (read_back bounded p (take len bytes) (drop len bytes) b.spells)) in
     answer bytes r p len there ok err
+
+refused_once : (bytes : List ℕ) (why other : PacketWhy) (at place : ℕ) → RefusesFor bytes why at → RefusesFor bytes other place → (at ≡ place) × (why ≡ other)
+refused_once bytes Short Short at place f g = (f.1 ∙ sym g.1, refl)
+refused_once bytes Short Crc at place f g = absurd (g.0 f.0)
+refused_once bytes Short PadBits at place f g = absurd (g.0 f.0)
+refused_once bytes Crc Short at place f g = absurd (f.0 g.0)
+refused_once bytes Crc Crc at place f g = (f.2 ∙ sym g.2, refl)
+refused_once bytes Crc PadBits at place f g = absurd (f.1 g.1)
+refused_once bytes PadBits Short at place f g = absurd (f.0 g.0)
+refused_once bytes PadBits Crc at place f g = absurd (g.1 f.1)
+refused_once bytes PadBits PadBits at place f g = (omega (arith, f.3, g.3), refl)
+
+pub one_refusal : OneRefusal
+one_refusal bytes fault other f g = let same = refused_once bytes fault.why other.why fault.at other.at f g in λ i. record { at = same.0 i; why = same.1 i }

@@ -8,7 +8,7 @@ use Rattle.terms.proofs.PartLemmas.{part-add, bits_of-take, zero_bits}
 use Rattle.bit_slice.specs.Crc.{crc32_of}
 use Rattle.t2mi_packet.specs.declared.packet.Packet.{Packet}
 use Rattle.t2mi_packet.specs.declared.packet.Body.TheVariants.{Other}
-use Rattle.t2mi_packet.specs.T2miPacket.{kind_of, payload_of, header_bits, pad_len, covered_bits, packet_bits, Fits, Spells, BeginsWith, payload_len, crc_place, IsShort, HasCrc, HasPad}
+use Rattle.t2mi_packet.specs.T2miPacket.{kind_of, payload_of, packet_len, header_bits, pad_len, covered_bits, packet_bits, Fits, Spells, BeginsWith, payload_len, crc_place, IsShort, HasCrc, HasPad}
 use Rattle.t2mi_packet.specs.Reading.{HasParts, IsRead}
 
 -- The bytes hold the whole packet that they begin with.
@@ -129,8 +129,8 @@ spelled bytes p len is_read =
         rfu = part xs 20 9;
         free = length-part xs 20 9 (omega (arith, h.header));
         bits = bits_of-take bytes len inside ∙ ap (λ (k : ℕ). take k xs) eight ∙ rw start at (part-add xs 0 place 32)
-        ∙ ap (λ (front : List Bool). front ++ part xs place 32) covered
-        ∙ ap (λ (tail : List Bool). covered_bits p (part xs 20 9) ++ tail) end;
+            ∙ ap (λ (front : List Bool). front ++ part xs place 32) covered
+            ∙ ap (λ (tail : List Bool). covered_bits p (part xs 20 9) ++ tail) end;
       };
     }
 
@@ -138,11 +138,13 @@ pub ok_spelled : {E : Type 0} (bytes : List ℕ) (r : Result (Packet × ℕ) E) 
 ok_spelled bytes (Ok x) h = spelled bytes x.0 x.1 h
 ok_spelled bytes (Err e) h = tt
 
-pub ok_len : {E : Type 0} (bytes : List ℕ) (r : Result (Packet × ℕ) E) → IfOk r (λ x. IsRead bytes x.0 x.1) → IfOk r (λ x. (10 ≤ x.1) × (x.1 ≤ 8202) × (x.1 ≤ length bytes))
+pub ok_len : {E : Type 0} (bytes : List ℕ) (r : Result (Packet × ℕ) E) → IfOk r (λ x. IsRead bytes x.0 x.1) → IfOk r (λ x. (x.1 ≡ packet_len x.0) × (x.1 ≤ 8202) × (x.1 ≤ length bytes))
 ok_len bytes (Ok x) h =
     let room = holds bytes h.whole in
-    let at = places bytes room in (
-      omega (arith, h.end),
+    let at = places bytes room in
+    let size = length-bits_of bytes in
+    let long : length (payload_of x.0.body) ≡ payload_len bytes = ap length h.parts.payload ∙ length-part (bits_of bytes) 48 (payload_len bytes) (omega (arith, at.covered, at.whole)) in (
+      rw long (omega (arith, h.end)),
       omega (arith, h.end, at.small),
       omega (arith, h.end, room.packet),
     )

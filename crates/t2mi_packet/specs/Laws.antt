@@ -13,6 +13,10 @@ OnePacket = (p q : Packet) (front other more rest : List ℕ) → Spells p front
 abbrev pub NoRefusal : Type 0
 NoRefusal = (p : Packet) (front more : List ℕ) (fault : PacketFault) → Spells p front → ¬ (Refuses (front ++ more) fault)
 
+-- Bytes that begin with no packet have one refusal.
+abbrev pub OneRefusal : Type 0
+OneRefusal = (bytes : List ℕ) (fault other : PacketFault) → Refuses bytes fault → Refuses bytes other → fault ≡ other
+
 -- The payload tells a packet's length.
 abbrev pub PacketLength : Type 0
 PacketLength = (p : Packet) (bytes : List ℕ) → Spells p bytes → (length bytes ≡ packet_len p) × (length bytes ≤ LARGEST)

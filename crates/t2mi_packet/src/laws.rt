@@ -1,5 +1,5 @@
 // Laws of the definitions. Their functions do nothing.
-ghost use Rattle.t2mi_packet.specs.Laws.{OnePacket, NoRefusal, PacketLength, FrontRefusal};
+ghost use Rattle.t2mi_packet.specs.Laws.{OnePacket, NoRefusal, OneRefusal, PacketLength, FrontRefusal};
 
 use bit_slice::crc32_law;
 
@@ -16,6 +16,11 @@ pub fn no_refusal()
 {
     crc32_law();
 }
+
+/// Bytes that begin with no packet have one refusal.
+pub fn one_refusal()
+    ensures { OneRefusal }
+{}
 
 /// The payload tells a packet's length.
 pub fn packet_length()

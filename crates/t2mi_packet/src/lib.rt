@@ -7,6 +7,6 @@ mod packet;
 mod reading;
 
 pub use fault::{PacketFault, PacketWhy};
-pub use laws::{front_refusal, no_refusal, one_packet, packet_length};
+pub use laws::{front_refusal, no_refusal, one_packet, one_refusal, packet_length};
 pub use packet::{Body, Packet};
 pub use reading::{LARGEST, read};

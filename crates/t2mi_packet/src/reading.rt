@@ -1,8 +1,7 @@
 // Reading a packet.
 ghost use Rattle.std.specs.Prelude.{◌≡◌, ℕ, ◌+◌, ◌*◌, ◌<◌, ◌≤◌, ◌^◌, length, IfOk, IfErr, Ok};
-ghost use Rattle.terms.specs.Bits.{number_at, part};
 ghost use Rattle.t2mi_packet.specs.declared.packet.Packet.{Packet};
-ghost use Rattle.t2mi_packet.specs.T2miPacket.{kind_of, payload_of, BeginsWith, Refuses};
+ghost use Rattle.t2mi_packet.specs.T2miPacket.{packet_len, BeginsWith, Refuses};
 ghost use Rattle.t2mi_packet.specs.Reading.{IsRead, HasParts};
 
 use crate::{Body, Packet, PacketFault, PacketWhy};
@@ -71,7 +70,7 @@ fn parse(bytes: &[u8]) -> Result<(Packet<'_>, usize), PacketFault>
 pub fn read(bytes: &[u8]) -> Result<(Packet<'_>, usize), PacketFault>
     requires { length bytes.now < 2 ^ 60 }
     ensures ok { IfOk result (λ x. BeginsWith bytes.now x.0 x.1) }
-    ensures len { IfOk result (λ x. (10 ≤ x.1) × (x.1 ≤ LARGEST) × (x.1 ≤ length bytes.now)) }
+    ensures len { IfOk result (λ x. (x.1 ≡ packet_len x.0) × (x.1 ≤ LARGEST) × (x.1 ≤ length bytes.now)) }
     // Where the bytes begin with a packet, it is read.
     ensures every { (p : Packet) (len : ℕ) → BeginsWith bytes.now p len → result ≡ Ok (p, len) }
     ensures err { IfErr result (Refuses bytes.now) }

@@ -1,0 +1,14 @@
+use Rattle.std.proofs.Common.{◌≡◌, ◌<◌, ◌≤◌, ◌+◌, ◌-◌, ◌^◌, length}
+use Rattle.site_top.specs.Reading.{ReadsOn}
+use Rattle.site_top.proofs.packets.fill.Given as goal
+
+-- the file was read on so far
+abbrev pub invariant-loop-desk : goal.invariant-loop-desk
+invariant-loop-desk g l = record {
+  reads : ReadsOn (g.D.Desk.state l.initial.desk) (g.D.Desk.state l.desk) l.handle l.initial.input l.input;
+  handles : length (g.D.Desk.state l.desk).opened ≡ length (g.D.Desk.state l.initial.desk).opened;
+  within : l.at + length l.input < 2 ^ 40;
+}
+
+abbrev pub decreases-loop-desk : goal.decreases-loop-desk
+decreases-loop-desk g l = 8202 - length l.input

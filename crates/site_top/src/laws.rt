@@ -1,0 +1,13 @@
+// Laws of the definitions. Their functions do nothing.
+ghost use Rattle.site_top.specs.Laws.{OneEnding};
+
+use t2mi_packet::{no_refusal, one_packet, one_refusal};
+
+/// The bytes of a file decide how a run over it must end.
+pub fn one_ending()
+    ensures { OneEnding }
+{
+    one_packet();
+    no_refusal();
+    one_refusal();
+}

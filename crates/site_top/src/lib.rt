@@ -1,0 +1,19 @@
+//! The commands of the program, over any desk.
+#![tactic(auto)]
+
+mod ending;
+mod input;
+mod laws;
+mod line;
+mod outcome;
+mod packet_line;
+mod packets;
+mod page;
+mod running;
+mod show;
+mod word;
+
+pub use laws::one_ending;
+pub use outcome::Outcome;
+pub use running::run;
+pub use word::Word;

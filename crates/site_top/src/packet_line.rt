@@ -1,0 +1,55 @@
+// The line that `show packets` says of a packet.
+ghost use Rattle.std.specs.Prelude.{◌≡◌, ◌*◌, ◌<◌, ◌≤◌, take, length};
+ghost use Rattle.terms.specs.Bits.{byte_at};
+ghost use Rattle.site_top.specs.SaidLines.{head_of, line_of};
+
+use crate::line::Line;
+use bit_slice::BitSlice;
+use t2mi_packet::Packet;
+
+// Byte k of some bits, a last part of a byte filled with zero bits.
+fn byte(bits: &BitSlice<'_>, k: usize) -> u8
+    requires { 8 * k < length bits.now }
+    ensures { result ≡ byte_at bits.now k }
+{
+    let left = bits.len() - 8 * k;
+    if left >= 8 {
+        bits.field(8 * k, 8) as u8
+    } else {
+        (bits.field(8 * k, left as u32) << (8 - left)) as u8
+    }
+}
+
+// Puts the first 8 bytes of some bits into the buffer, or all: how many.
+fn head(bits: &BitSlice<'_>, bytes: &mut [u8; 8]) -> usize
+    ensures head { take result bytes.new ≡ head_of bits.now }
+    ensures count { result ≤ 8 }
+{
+    let count = ((bits.len() + 7) / 8).min(8);
+    for k in 0..count {
+        bytes[k] = byte(bits, k);
+    }
+    count
+}
+
+/// The line of a packet that stands at a place of a file.
+#[tactic(auto, unfolding(crate::specs::SaidLines::line_of))]
+pub fn packet_line(at: u64, packet: &Packet<'_>) -> Line
+    ensures { result ≡ line_of at packet.now }
+{
+    let payload = packet.body.payload();
+    let mut bytes = [0; 8];
+    let count = head(&payload, &mut bytes);
+    let mut line = Line::new();
+    line.push_field(b"offset=", at);
+    line.push(b" type=");
+    line.push_hex(&[packet.body.kind()]);
+    line.push_field(b" count=", u64::from(packet.count));
+    line.push_field(b" superframe=", u64::from(packet.superframe));
+    line.push_field(b" stream=", u64::from(packet.stream));
+    line.push_field(b" bits=", payload.len() as u64);
+    line.push(b" head=");
+    line.push_hex(&bytes[..count]);
+    line.push(b"\n");
+    line
+}
