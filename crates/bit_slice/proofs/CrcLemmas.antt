@@ -2,32 +2,15 @@
 use Rattle.std.proofs.Common.{◌≡◌, ℕ, zero, suc, ◌+◌, ◌*◌, ◌/◌, ◌%◌, ◌^◌, ◌<◌, ◌==◌, Bool, true, false, cond, List, [], ◌∷◌, length, refl, ap, sym, ◌∙◌, arith, add_comm}
 use Rattle.std.specs.Prelude.{bit_xor}
 use Rattle.std.specs.Int.{bit_at}
-use lib.Bits.{xor_assoc, xor_self}
+use lib.Bits.{xor_assoc}
 use Rattle.std.proofs.lemmas.Nat.{xor_block, xor_comm, xor_lt, pow_pos, pow-add, shl_below, mod_below, div_below, div-add-mod', shr_high}
 use Rattle.std.proofs.Math.Nat.{pow-succ'}
 use Rattle.terms.specs.Bits.{number_of}
-use Rattle.bit_slice.specs.Crc.{product, IsRemainder, remainder, crc32_of, CrcIsRemainder}
-use Rattle.bit_slice.specs.Register.{differ, step}
+use Rattle.bit_slice.specs.Crc.{product, IsRemainder, remainder, crc32_of}
+use Rattle.bit_slice.specs.Laws.{CrcIsRemainder}
+use Rattle.bit_slice.specs.Register.{differ, step, register}
 use Rattle.terms.proofs.BitLemmas.{number_of-lt}
-
--- the register after all bits
-abbrev pub register : ℕ → ℕ → ℕ → List Bool → ℕ
-register degree low s [] = s
-register degree low s (b ∷ bs) = register degree low (step degree low s b) bs
-
--- a shift of a sum
-xor_shl : (a b k : ℕ) → bit_xor (a * 2 ^ k) (b * 2 ^ k) ≡ bit_xor a b * 2 ^ k
-xor_shl a b k =
-    let pos = pow_pos k in
-    let e = xor_block k a b 0 0 pos pos in
-    let ea : a * 2 ^ k + 0 ≡ a * 2 ^ k = omega arith in
-    let eb : b * 2 ^ k + 0 ≡ b * 2 ^ k = omega arith in
-    let ec : bit_xor a b * 2 ^ k + 0 ≡ bit_xor a b * 2 ^ k = omega arith in
-    rw (ea, eb) at e ∙ ec
-
--- a sum taken twice
-xor_twice : (a b : ℕ) → bit_xor a (bit_xor b a) ≡ b
-xor_twice a b = ap (bit_xor a) (xor_comm b a) ∙ sym (xor_assoc a a b) ∙ ap (λ (x : ℕ). bit_xor x b) (xor_self a)
+use Rattle.bit_slice.proofs.XorLemmas.{xor_shl, xor_twice}
 
 -- the highest bits of both parts, and the rest
 split : (d n s b m : ℕ) → m < 2 ^ n → s < 2 ^ d →

@@ -1,2 +1,4 @@
+pub mod XorLemmas
 pub mod SliceLemmas
 pub mod CrcLemmas
+pub mod RemainderLemmas

@@ -1,6 +1,6 @@
 // CRC-32 with the generator 04C11DB7, bit by bit.
 ghost use Rattle.std.specs.Prelude.{◌≡◌};
-ghost use Rattle.bit_slice.specs.Crc.{crc32_of, CrcIsRemainder};
+ghost use Rattle.bit_slice.specs.Crc.{crc32_of};
 ghost use Rattle.bit_slice.specs.Register.{step as step_of};
 
 use crate::BitSlice;
@@ -29,8 +29,3 @@ pub fn crc32(bits: BitSlice<'_>) -> u32
     }
     register
 }
-
-/// CRC-32 is the remainder of a polynomial.
-pub fn crc32_law()
-    ensures { CrcIsRemainder }
-{}

@@ -1,6 +1,7 @@
 use Rattle.std.proofs.Common.{◌≤◌, length, ap, sym, ◌∙◌, arith}
 use Rattle.std.proofs.lemmas.List.{drop_all}
-use Rattle.bit_slice.proofs.CrcLemmas.{register, crc32_of_is}
+use Rattle.bit_slice.specs.Register.{register}
+use Rattle.bit_slice.proofs.CrcLemmas.{crc32_of_is}
 use Rattle.bit_slice.proofs.crc.crc32.Goals as goal
 
 pub returns : goal.returns
