@@ -54,7 +54,7 @@ Divides d low bs s quotient =
     (length quotient ≡ length bs)
     × (bit_xor (number_of bs * 2 ^ d) (s * 2 ^ length bs) ≡ bit_xor (product quotient (2 ^ d + low)) (register d low s bs))
 
-step_lt : (d low s : ℕ) (b : Bool) → low < 2 ^ d → step d low s b < 2 ^ d
+pub step_lt : (d low s : ℕ) (b : Bool) → low < 2 ^ d → step d low s b < 2 ^ d
 step_lt d low s b small =
     let pos = pow_pos d in
     let u : s * 2 % 2 ^ d < 2 ^ d = mod_below (s * 2) (2 ^ d) pos in
@@ -62,7 +62,7 @@ step_lt d low s b small =
     [ true ↦ xor_lt d (s * 2 % 2 ^ d) low u small | false ↦ u ]
 
 -- the bit that leaves the register
-top_lt : (d s : ℕ) → s < 2 ^ d → s * 2 / 2 ^ d < 2
+pub top_lt : (d s : ℕ) → s < 2 ^ d → s * 2 / 2 ^ d < 2
 top_lt d s small = let pos = pow_pos d in let fits : s * 2 < 2 * 2 ^ d = omega arith in div_below (s * 2) (2 ^ d) 2 pos fits
 
 -- the difference of two bits, as a number
@@ -73,7 +73,7 @@ differ_is (suc zero) true h = refl
 differ_is (suc zero) false h = refl
 differ_is (suc (suc t)) b h = absurd (omega arith)
 
-number_is : (b : Bool) (bs : List Bool) → number_of (b ∷ bs) ≡ cond b 1 0 * 2 ^ length bs + number_of bs
+pub number_is : (b : Bool) (bs : List Bool) → number_of (b ∷ bs) ≡ cond b 1 0 * 2 ^ length bs + number_of bs
 number_is true bs = omega arith
 number_is false bs = omega arith
 

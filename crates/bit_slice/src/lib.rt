@@ -5,6 +5,7 @@ mod crc;
 mod laws;
 mod memory;
 mod slice;
+mod tables;
 
 pub use crc::crc32;
 pub use laws::{crc32_law, remainder_law};

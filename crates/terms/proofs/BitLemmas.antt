@@ -230,3 +230,9 @@ bits_of-bytes_of bits count h =
 
 pub length-bytes_of : (bits : List Bool) → length (bytes_of bits) ≡ bytes_for (length bits)
 length-bytes_of bits = length-map-range_with_len (byte_at bits) 0 (bytes_for (length bits))
+
+-- the number of bytes, the first of them apart
+pub number_of-bytes : (byte : ℕ) (bytes : List ℕ) → byte < 256 → number_of (bits_of (byte ∷ bytes)) ≡ byte * 2 ^ (8 * length bytes) + number_of (bits_of bytes)
+number_of-bytes byte bytes small =
+    number_of-append (field 8 byte) (bits_of bytes)
+    ∙ rw (length-bits_of bytes) (ap (λ (n : ℕ). n * 2 ^ (8 * length bytes) + number_of (bits_of bytes)) (number_of-field 8 byte small))
