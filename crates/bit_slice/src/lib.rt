@@ -6,6 +6,8 @@ mod laws;
 mod memory;
 mod slice;
 mod tables;
+#[cfg(test)]
+mod tests;
 
 pub use crc::crc32;
 pub use laws::{crc32_law, remainder_law};
