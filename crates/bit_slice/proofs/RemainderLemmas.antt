@@ -66,7 +66,7 @@ first_divided d g has false q r n below e =
     rw p (goes_on (bit_xor (product q g) r) n d (bit_xor (bit_xor (product q g) r) (g * 2 ^ n)) (sum_lt d g n q r has.1 below few))
 
 -- Long division of a quotient's product and a remainder gives the remainder.
-divided : (d g : ℕ) → HasDegree g d → (n : ℕ) (q : List Bool) (r : ℕ) → r < 2 ^ d → length q ≤ n → remainder d g n (bit_xor (product q g) r) ≡ r
+pub divided : (d g : ℕ) → HasDegree g d → (n : ℕ) (q : List Bool) (r : ℕ) → r < 2 ^ d → length q ≤ n → remainder d g n (bit_xor (product q g) r) ≡ r
 divided d g has zero [] r below few = xor_zero_l r
 divided d g has zero (b ∷ q) r below few = absurd (omega arith)
 divided d g has (suc n) [] r below few =

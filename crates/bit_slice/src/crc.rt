@@ -1,4 +1,4 @@
-// CRC-32 by the shift register that divides, eight bytes at a time where there are whole bytes.
+//! CRC-32 by the shift register that divides: each function gives the register after what it takes.
 ghost use Rattle.std.specs.Prelude.{◌≡◌, ◌+◌, ◌*◌, ◌^◌, ◌<◌, ◌≤◌};
 ghost use Rattle.std.specs.List.{flat_map};
 ghost use Rattle.terms.specs.Bits.{field, bits_of};
@@ -11,7 +11,8 @@ use crate::tables::TABLES;
 // The generator without its highest term.
 const LOW: u32 = 0x04C1_1DB7;
 
-/// The CRC-32 of the bits, from all ones and with no inversion at the end.
+/// The CRC-32 of the bits, any number of them: generator 04C11DB7, all ones at the start and no inversion at the end
+/// (EN 302 755, annex F; TS 102 773, annex A).
 pub fn crc32(bits: BitSlice<'_>) -> u32
     ensures { result ≡ crc32_of bits.entry }
 {
@@ -19,22 +20,21 @@ pub fn crc32(bits: BitSlice<'_>) -> u32
     after_bits(after_bytes(u32::MAX, bytes), &rest)
 }
 
-// The register after bits that may begin within a byte: by fields of eight, and the last ones one by one.
-fn after_bits(register: u32, bits: &BitSlice<'_>) -> u32
+// The bits may begin within a byte.
+fn after_bits(mut register: u32, bits: &BitSlice<'_>) -> u32
     ensures { result ≡ register_of 32 LOW register bits.now }
 {
-    let mut register = register;
-    let (len, count) = (bits.len(), bits.len() / 8);
+    let len = bits.len();
+    let count = len / 8;
     for k in 0..count {
         register = after_byte(register, bits.field(8 * k, 8) as u8);
     }
-    after_each(register, &bits.sub(8 * count, len - 8 * count))
+    bit_by_bit(register, &bits.sub(8 * count, len - 8 * count))
 }
 
-fn after_each(register: u32, bits: &BitSlice<'_>) -> u32
+fn bit_by_bit(mut register: u32, bits: &BitSlice<'_>) -> u32
     ensures { result ≡ register_of 32 LOW register bits.now }
 {
-    let mut register = register;
     for k in 0..bits.len() {
         register = after_bit(register, bits.bit(k));
     }
@@ -55,8 +55,8 @@ fn after_bit(register: u32, bit: bool) -> u32
 fn after_bytes(register: u32, bytes: &[u8]) -> u32
     ensures { result ≡ register_of 32 LOW register (bits_of bytes.now) }
 {
-    let (eights, rest) = bytes.as_chunks::<8>();
-    let mut register = after_eights(register, eights);
+    let (chunks, rest) = bytes.as_chunks::<8>();
+    let mut register = after_chunks(register, chunks);
     for byte in rest {
         register = after_byte(register, *byte);
     }
@@ -70,26 +70,26 @@ fn after_byte(register: u32, byte: u8) -> u32
     (register << 8) ^ entry(0, first ^ byte)
 }
 
-fn after_eights(register: u32, eights: &[[u8; 8]]) -> u32
-    ensures { result ≡ register_of 32 LOW register (flat_map bits_of eights.now) }
+fn after_chunks(mut register: u32, chunks: &[[u8; 8]]) -> u32
+    ensures { result ≡ register_of 32 LOW register (flat_map bits_of chunks.now) }
 {
-    let mut register = register;
-    for eight in eights {
-        register = after_eight(register, eight);
+    for chunk in chunks {
+        register = after_chunk(register, chunk);
     }
     register
 }
 
-fn after_eight(register: u32, bytes: &[u8; 8]) -> u32
-    ensures { result ≡ register_of 32 LOW register (bits_of bytes.now) }
+fn after_chunk(register: u32, chunk: &[u8; 8]) -> u32
+    ensures { result ≡ register_of 32 LOW register (bits_of chunk.now) }
 {
-    let [a, b, c, d, e, f, g, h] = *bytes;
+    let [a, b, c, d, e, f, g, h] = *chunk;
     let front = register ^ u32::from_be_bytes([a, b, c, d]);
     let back = u32::from_be_bytes([e, f, g, h]);
+    // The back comes first: its entries are read while the register is still under way.
     after_zeros(back, 0) ^ after_zeros(front, 4)
 }
 
-// The register after the zero bits that four tables stand for, from the first on.
+// After the zero bits of four tables, from the first one on.
 fn after_zeros(register: u32, first: usize) -> u32
     requires { first ≤ 4 }
     ensures { result ≡ zeros 32 LOW (8 * (first + 4)) register }
@@ -98,7 +98,7 @@ fn after_zeros(register: u32, first: usize) -> u32
     entry(first, d) ^ entry(first + 1, c) ^ entry(first + 2, b) ^ entry(first + 3, a)
 }
 
-// What 8 (table + 1) zero bits make of a byte at the top of the register.
+// What the zero bits of a table make of a byte at the top of the register.
 fn entry(table: usize, byte: u8) -> u32
     requires { table < 8 }
     ensures { result ≡ zeros 32 LOW (8 * (table + 1)) (byte * 2 ^ 24) }

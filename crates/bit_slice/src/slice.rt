@@ -1,4 +1,4 @@
-// Bits of borrowed bytes, seen as a list.
+//! Bits of borrowed bytes, seen as a list.
 ghost use Rattle.std.specs.Prelude.{◌≡◌, ◌↔◌, ◌++◌, IsTrue, ◌+◌, ◌*◌, ◌<◌, ◌≤◌, ◌^◌, false, length, take, drop, slice_index_or, List, Bool};
 ghost use Rattle.terms.specs.Bits.{bits_of, bytes_of, number_of, number_at, part};
 
@@ -72,7 +72,7 @@ impl<'a> BitSlice<'a> {
         }
     }
 
-    /// The number that the `width` bits at a place spell.
+    /// The number that the `width` bits from `at` on spell.
     pub fn field(&self, at: usize, width: u32) -> u64
         requires narrow { width ≤ 64 }
         requires inside { at + width ≤ length self.now }
@@ -81,12 +81,12 @@ impl<'a> BitSlice<'a> {
     {
         let start = self.first + at;
         let end = start + width as usize;
-        let last = end.div_ceil(8);
-        let number = number_of_bytes(&self.bytes[start / 8..last]);
-        (number >> (8 * last - end) & ((1 << width) - 1)) as u64
+        let end_byte = end.div_ceil(8);
+        let number = number_of_bytes(&self.bytes[start / 8..end_byte]);
+        (number >> (8 * end_byte - end) & ((1 << width) - 1)) as u64
     }
 
-    /// Copies the bits, whole bytes of them, to `out`.
+    /// Copies the bits to `out`, eight to a byte.
     pub fn copy_bytes(&self, out: &mut [u8])
         requires { length self.now ≡ 8 * length out.old }
         ensures bytes { out.new ≡ bytes_of self.now }
@@ -102,8 +102,7 @@ impl<'a> BitSlice<'a> {
         }
     }
 
-    // The bytes that can be borrowed from the front, and the bits behind them. There are such bytes only where the
-    // bits begin at a byte.
+    // The whole bytes at the front, and the bits behind them. Where the bits begin within a byte, none can be borrowed.
     pub(crate) fn split_bytes(&self) -> (&'a [u8], BitSlice<'a>)
         ensures { bits_of result.0.now ++ result.1 ≡ self.now }
     {

@@ -1,4 +1,5 @@
-// Table k holds what 8 (k + 1) zero bits make of each byte at the top of the register of CRC-32.
+//! Tables for CRC-32: table k holds what 8 (k + 1) zero bits make of each byte at the top of the register.
+
 #[rattlefmt::skip]
 pub const TABLES: [[u32; 256]; 8] = [
     [
