@@ -1,33 +1,16 @@
 -- The register computes the remainder.
-use Rattle.std.proofs.Common.{◌≡◌, ℕ, zero, suc, ◌+◌, ◌*◌, ◌/◌, ◌%◌, ◌^◌, ◌<◌, ◌==◌, Bool, true, false, cond, List, [], ◌∷◌, length, refl, ap, sym, ◌∙◌, arith, add_comm}
+use Rattle.std.proofs.Common.{◌≡◌, ℕ, zero, suc, ◌+◌, ◌*◌, ◌/◌, ◌%◌, ◌^◌, ◌<◌, ◌≤◌, ◌==◌, Bool, true, false, cond, List, [], ◌∷◌, length, refl, ap, sym, ◌∙◌, arith, add_comm, add-one}
 use Rattle.std.specs.Prelude.{bit_xor}
-use Rattle.std.specs.Int.{bit_at}
-use lib.Bits.{xor_assoc, xor_self}
-use Rattle.std.proofs.lemmas.Nat.{xor_block, xor_comm, xor_lt, pow_pos, pow-add, shl_below, mod_below, div_below, div-add-mod', shr_high}
+use lib.Bits.{xor_assoc}
+use Rattle.std.proofs.lemmas.Nat.{xor_block, xor_lt, pow_pos, pow-add, shl_below, mod_below, div_below, div-add-mod'}
 use Rattle.std.proofs.Math.Nat.{pow-succ'}
 use Rattle.terms.specs.Bits.{number_of}
-use Rattle.bit_slice.specs.Crc.{product, IsRemainder, remainder, crc32_of, CrcIsRemainder}
-use Rattle.bit_slice.specs.Register.{differ, step}
+use Rattle.bit_slice.specs.Crc.{product, HasDegree, IsRemainder, remainder, dividend, crc_of, crc32_of}
+use Rattle.bit_slice.specs.Laws.{CrcIsRemainder}
+use Rattle.bit_slice.specs.Register.{differ, step, register}
 use Rattle.terms.proofs.BitLemmas.{number_of-lt}
-
--- the register after all bits
-abbrev pub register : ℕ → ℕ → ℕ → List Bool → ℕ
-register degree low s [] = s
-register degree low s (b ∷ bs) = register degree low (step degree low s b) bs
-
--- a shift of a sum
-xor_shl : (a b k : ℕ) → bit_xor (a * 2 ^ k) (b * 2 ^ k) ≡ bit_xor a b * 2 ^ k
-xor_shl a b k =
-    let pos = pow_pos k in
-    let e = xor_block k a b 0 0 pos pos in
-    let ea : a * 2 ^ k + 0 ≡ a * 2 ^ k = omega arith in
-    let eb : b * 2 ^ k + 0 ≡ b * 2 ^ k = omega arith in
-    let ec : bit_xor a b * 2 ^ k + 0 ≡ bit_xor a b * 2 ^ k = omega arith in
-    rw (ea, eb) at e ∙ ec
-
--- a sum taken twice
-xor_twice : (a b : ℕ) → bit_xor a (bit_xor b a) ≡ b
-xor_twice a b = ap (bit_xor a) (xor_comm b a) ∙ sym (xor_assoc a a b) ∙ ap (λ (x : ℕ). bit_xor x b) (xor_self a)
+use Rattle.bit_slice.proofs.XorLemmas.{xor_shl, xor_twice}
+use Rattle.bit_slice.proofs.RemainderLemmas.{divided}
 
 -- the highest bits of both parts, and the rest
 split : (d n s b m : ℕ) → m < 2 ^ n → s < 2 ^ d →
@@ -71,7 +54,7 @@ Divides d low bs s quotient =
     (length quotient ≡ length bs)
     × (bit_xor (number_of bs * 2 ^ d) (s * 2 ^ length bs) ≡ bit_xor (product quotient (2 ^ d + low)) (register d low s bs))
 
-step_lt : (d low s : ℕ) (b : Bool) → low < 2 ^ d → step d low s b < 2 ^ d
+pub step_lt : (d low s : ℕ) (b : Bool) → low < 2 ^ d → step d low s b < 2 ^ d
 step_lt d low s b small =
     let pos = pow_pos d in
     let u : s * 2 % 2 ^ d < 2 ^ d = mod_below (s * 2) (2 ^ d) pos in
@@ -79,7 +62,7 @@ step_lt d low s b small =
     [ true ↦ xor_lt d (s * 2 % 2 ^ d) low u small | false ↦ u ]
 
 -- the bit that leaves the register
-top_lt : (d s : ℕ) → s < 2 ^ d → s * 2 / 2 ^ d < 2
+pub top_lt : (d s : ℕ) → s < 2 ^ d → s * 2 / 2 ^ d < 2
 top_lt d s small = let pos = pow_pos d in let fits : s * 2 < 2 * 2 ^ d = omega arith in div_below (s * 2) (2 ^ d) 2 pos fits
 
 -- the difference of two bits, as a number
@@ -90,7 +73,7 @@ differ_is (suc zero) true h = refl
 differ_is (suc zero) false h = refl
 differ_is (suc (suc t)) b h = absurd (omega arith)
 
-number_is : (b : Bool) (bs : List Bool) → number_of (b ∷ bs) ≡ cond b 1 0 * 2 ^ length bs + number_of bs
+pub number_is : (b : Bool) (bs : List Bool) → number_of (b ∷ bs) ≡ cond b 1 0 * 2 ^ length bs + number_of bs
 number_is true bs = omega arith
 number_is false bs = omega arith
 
@@ -110,13 +93,8 @@ begun d b bs s fits =
     let bit = differ_is (s * 2 / 2 ^ d) b (top_lt d s fits) in
     rw (heads, parted, bit) refl
 
-sum_lt : (d n u m : ℕ) → m < 2 ^ n → u < 2 ^ d → bit_xor (m * 2 ^ d) (u * 2 ^ n) < 2 ^ (n + d)
-sum_lt d n u m below small_u =
-    let first : m * 2 ^ d < 2 ^ (n + d) = shl_below m n d below in
-    let second : u * 2 ^ n < 2 ^ (n + d) = rw (add_comm n d) (shl_below u d n small_u) in
-    xor_lt (n + d) (m * 2 ^ d) (u * 2 ^ n) first second
-
-pub divides : (d low : ℕ) → low < 2 ^ d → (bs : List Bool) (s : ℕ) → s < 2 ^ d → (quotient : List Bool) × Divides d low bs s quotient
+-- the bits that come back are the quotient, and what stays in the register is the remainder
+divides : (d low : ℕ) → low < 2 ^ d → (bs : List Bool) (s : ℕ) → s < 2 ^ d → (quotient : List Bool) × Divides d low bs s quotient
 divides d low small [] s fits =
     let e : bit_xor (0 * 2 ^ d) (s * 2 ^ 0) ≡ bit_xor 0 s =
     let l : 0 * 2 ^ d ≡ 0 = omega arith in
@@ -131,52 +109,29 @@ divides d low small (b ∷ bs) s fits =
     let ended = finish d low (length bs) (s * 2 % 2 ^ d) (number_of bs) (differ (s * 2 / 2 ^ d == 1) b) (product rest.0 (2 ^ d + low)) (register d low (step d low s b) bs) (number_of-lt bs) small_u small same in
     (differ (s * 2 / 2 ^ d == 1) b ∷ rest.0, (ap suc rest.1.0, rw (rest.1.0) (begun d b bs s fits ∙ ended)))
 
+has_degree : (d low : ℕ) → low < 2 ^ d → HasDegree (2 ^ d + low) d
+has_degree d low small = let twice : 2 ^ (d + 1) ≡ 2 * 2 ^ d = rw add-one (pow-succ' 2 d) in (omega arith, omega arith)
+
 register_lt : (d low : ℕ) → low < 2 ^ d → (bs : List Bool) (s : ℕ) → s < 2 ^ d → register d low s bs < 2 ^ d
 register_lt d low small [] s fits = fits
 register_lt d low small (b ∷ bs) s fits = register_lt d low small bs (step d low s b) (step_lt d low s b small)
 
--- what the register ends with is the remainder
-pub is_remainder : (d low : ℕ) → low < 2 ^ d → (bs : List Bool) (s : ℕ) → s < 2 ^ d →
-    IsRemainder d (bit_xor (number_of bs * 2 ^ d) (s * 2 ^ length bs)) (2 ^ d + low) (register d low s bs)
+-- What the register ends with is the remainder, and so what long division gives.
+pub is_remainder : (d low : ℕ) → low < 2 ^ d → (bs : List Bool) (s : ℕ) → s < 2 ^ d → IsRemainder d (dividend d s bs) (2 ^ d + low) (register d low s bs)
 is_remainder d low small bs s fits =
     let found = divides d low small bs s fits in
     (register_lt d low small bs s fits, (found.0, found.1.1))
 
--- one step of long division
-divided_once : (d low n u m : ℕ) (v : Bool) (p : ℕ) → m < 2 ^ n → u < 2 ^ d → low < 2 ^ d →
-    p ≡ cond v 1 0 * 2 ^ (n + d) + bit_xor (m * 2 ^ d) (u * 2 ^ n) →
-    cond (bit_at p (n + d) == 1) (bit_xor p ((2 ^ d + low) * 2 ^ n)) p ≡ bit_xor (m * 2 ^ d) (cond v (bit_xor u low) u * 2 ^ n)
-divided_once d low n u m true p below small_u small e =
-    let y : bit_xor (m * 2 ^ d) (u * 2 ^ n) < 2 ^ (n + d) = sum_lt d n u m below small_u in
-    let top : bit_at p (n + d) ≡ 1 = rw e (ap (λ (x : ℕ). x % 2) (shr_high 1 (n + d) (bit_xor (m * 2 ^ d) (u * 2 ^ n)) y)) in
-    let g : p ≡ bit_xor ((2 ^ d + low) * 2 ^ n) (bit_xor (m * 2 ^ d) (bit_xor u low * 2 ^ n)) = e ∙ added d n u m low below small_u small in
-    rw top (xor_comm p ((2 ^ d + low) * 2 ^ n) ∙ ap (bit_xor ((2 ^ d + low) * 2 ^ n)) g
-    ∙ ap (bit_xor ((2 ^ d + low) * 2 ^ n)) (xor_comm ((2 ^ d + low) * 2 ^ n) (bit_xor (m * 2 ^ d) (bit_xor u low * 2 ^ n)))
-    ∙ xor_twice ((2 ^ d + low) * 2 ^ n) (bit_xor (m * 2 ^ d) (bit_xor u low * 2 ^ n)))
-divided_once d low n u m false p below small_u small e =
-    let y : bit_xor (m * 2 ^ d) (u * 2 ^ n) < 2 ^ (n + d) = sum_lt d n u m below small_u in
-    let top : bit_at p (n + d) ≡ 0 = rw e (ap (λ (x : ℕ). x % 2) (shr_high 0 (n + d) (bit_xor (m * 2 ^ d) (u * 2 ^ n)) y)) in
-    rw top (omega (arith, e))
-
--- Long division gives what the register ends with.
-pub remainder_is_register : (d low : ℕ) → low < 2 ^ d → (bs : List Bool) (s : ℕ) → s < 2 ^ d →
-    remainder d (2 ^ d + low) (length bs) (bit_xor (number_of bs * 2 ^ d) (s * 2 ^ length bs)) ≡ register d low s bs
-remainder_is_register d low small [] s fits =
-    let l : 0 * 2 ^ d ≡ 0 = omega arith in
-    let r : s * 2 ^ 0 ≡ s = omega arith in
-    rw (l, r) refl
-remainder_is_register d low small (b ∷ bs) s fits =
-    let pos = pow_pos d in
-    let small_u : s * 2 % 2 ^ d < 2 ^ d = mod_below (s * 2) (2 ^ d) pos in
-    let e = begun d b bs s fits in
-    ap (remainder d (2 ^ d + low) (length bs))
-    (divided_once d low (length bs) (s * 2 % 2 ^ d) (number_of bs) (differ (s * 2 / 2 ^ d == 1) b)
-    (bit_xor (number_of (b ∷ bs) * 2 ^ d) (s * 2 ^ suc (length bs))) (number_of-lt bs) small_u small e)
-    ∙ remainder_is_register d low small bs (step d low s b) (step_lt d low s b small)
+pub crc_of_is : (d low : ℕ) → low < 2 ^ d → (bs : List Bool) (s : ℕ) → s < 2 ^ d → crc_of d (2 ^ d + low) s bs ≡ register d low s bs
+crc_of_is d low small bs s fits =
+    let found = divides d low small bs s fits in
+    let few : length found.0 ≤ length bs = omega (arith, found.1.0) in
+    ap (remainder d (2 ^ d + low) (length bs)) found.1.1
+    ∙ divided d (2 ^ d + low) (has_degree d low small) (length bs) found.0 (register d low s bs) (register_lt d low small bs s fits) few
 
 pub crc32_of_is : (w : List Bool) → crc32_of w ≡ register 32 0x04C1_1DB7 0xFFFF_FFFF w
 unfolding crc32_of
-crc32_of_is w = remainder_is_register 32 0x04C1_1DB7 (omega arith) w 0xFFFF_FFFF (omega arith)
+crc32_of_is w = crc_of_is 32 0x04C1_1DB7 (omega arith) w 0xFFFF_FFFF (omega arith)
 
 pub crc_is_remainder : CrcIsRemainder
 unfolding crc32_of

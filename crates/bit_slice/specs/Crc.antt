@@ -1,8 +1,8 @@
--- Remainders of polynomials over two elements.
+-- Cyclic redundancy checks: remainders of polynomials over two elements.
 --
 -- A polynomial is the number that its coefficients spell, the highest first: the sum of two is `bit_xor`, and the
 -- product with X^n is the product with 2^n.
-use Rattle.std.specs.Prelude.{◌≡◌, ℕ, zero, suc, ◌+◌, ◌*◌, ◌<◌, ◌^◌, ◌-◌, ◌==◌, Bool, List, [], ◌∷◌, length, if◌then◌else◌, bit_xor}
+use Rattle.std.specs.Prelude.{◌≡◌, ℕ, zero, suc, ◌+◌, ◌*◌, ◌<◌, ◌≤◌, ◌^◌, ◌-◌, ◌==◌, Bool, List, [], ◌∷◌, length, if◌then◌else◌, bit_xor}
 use Rattle.std.specs.Int.{bit_at}
 use Rattle.terms.specs.Bits.{number_of}
 
@@ -10,6 +10,10 @@ use Rattle.terms.specs.Bits.{number_of}
 abbrev pub product : List Bool → ℕ → ℕ
 product [] g = 0
 product (b ∷ bs) g = bit_xor (if b then g * 2 ^ length bs else 0) (product bs g)
+
+-- the highest term of p is X^degree
+abbrev pub HasDegree : ℕ → ℕ → Type 0
+HasDegree p degree = (2 ^ degree ≤ p) × (p < 2 ^ (degree + 1))
 
 -- r is the remainder of p by g, a polynomial of this degree
 abbrev pub IsRemainder : ℕ → ℕ → ℕ → ℕ → Type 0
@@ -20,18 +24,23 @@ abbrev pub remainder : ℕ → ℕ → ℕ → ℕ → ℕ
 remainder degree g zero p = p
 remainder degree g (suc n) p = remainder degree g n (if bit_at p (n + degree) == 1 then bit_xor p (g * 2 ^ n) else p)
 
--- X^32 + X^26 + X^23 + .. + 1
+-- w * X^degree + first * X^(length w): the bits with zeros behind them for the check value, and a polynomial added to
+-- those at the front
+abbrev pub dividend : ℕ → ℕ → List Bool → ℕ
+dividend degree first w = bit_xor (number_of w * 2 ^ degree) (first * 2 ^ length w)
+
+-- the check value of bits
+abbrev pub crc_of : ℕ → ℕ → ℕ → List Bool → ℕ
+crc_of degree g first w = remainder degree g (length w) (dividend degree first w)
+
+-- X^32 + X^26 + X^23 + X^22 + X^16 + X^12 + X^11 + X^10 + X^8 + X^7 + X^5 + X^4 + X^2 + X + 1
 abbrev pub generator : ℕ
 generator = 0x1_04C1_1DB7
 
--- the bits with 32 zeros after them, and 32 ones added at the front
-abbrev pub preset : List Bool → ℕ
-preset w = bit_xor (number_of w * 2 ^ 32) ((2 ^ 32 - 1) * 2 ^ length w)
+-- X^31 + X^30 + .. + 1
+abbrev pub ones : ℕ
+ones = 2 ^ 32 - 1
 
--- the CRC-32 of bits
+-- the CRC-32 of bits (ISO/IEC 13818-1, annex A; EN 302 755, annex F; TS 102 773, annex A)
 unfoldable pub crc32_of : List Bool → ℕ
-crc32_of w = remainder 32 generator (length w) (preset w)
-
--- CRC-32 is the remainder of the preset polynomial by the generator.
-abbrev pub CrcIsRemainder : Type 0
-CrcIsRemainder = (w : List Bool) → IsRemainder 32 (preset w) generator (crc32_of w)
+crc32_of w = crc_of 32 generator ones w

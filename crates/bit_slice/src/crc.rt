@@ -1,14 +1,47 @@
-// CRC-32 with the generator 04C11DB7, bit by bit.
-ghost use Rattle.std.specs.Prelude.{◌≡◌};
-ghost use Rattle.bit_slice.specs.Crc.{crc32_of, CrcIsRemainder};
-ghost use Rattle.bit_slice.specs.Register.{step as step_of};
+//! CRC-32 by the shift register that divides: each function gives the register after what it takes.
+ghost use Rattle.std.specs.Prelude.{◌≡◌, ◌+◌, ◌*◌, ◌^◌, ◌<◌, ◌≤◌};
+ghost use Rattle.std.specs.List.{flat_map};
+ghost use Rattle.terms.specs.Bits.{field, bits_of};
+ghost use Rattle.bit_slice.specs.Crc.{crc32_of};
+ghost use Rattle.bit_slice.specs.Register.{step as step_of, register as register_of, zeros};
 
 use crate::BitSlice;
+use crate::tables::TABLES;
 
 // The generator without its highest term.
 const LOW: u32 = 0x04C1_1DB7;
 
-fn step(register: u32, bit: bool) -> u32
+/// The CRC-32 of the bits, any number of them: generator 04C11DB7, all ones at the start and no inversion at the end
+/// (EN 302 755, annex F; TS 102 773, annex A).
+pub fn crc32(bits: BitSlice<'_>) -> u32
+    ensures { result ≡ crc32_of bits.entry }
+{
+    let (bytes, rest) = bits.split_bytes();
+    after_bits(after_bytes(u32::MAX, bytes), &rest)
+}
+
+// The bits may begin within a byte.
+fn after_bits(mut register: u32, bits: &BitSlice<'_>) -> u32
+    ensures { result ≡ register_of 32 LOW register bits.now }
+{
+    let len = bits.len();
+    let count = len / 8;
+    for k in 0..count {
+        register = after_byte(register, bits.field(8 * k, 8) as u8);
+    }
+    bit_by_bit(register, &bits.sub(8 * count, len - 8 * count))
+}
+
+fn bit_by_bit(mut register: u32, bits: &BitSlice<'_>) -> u32
+    ensures { result ≡ register_of 32 LOW register bits.now }
+{
+    for k in 0..bits.len() {
+        register = after_bit(register, bits.bit(k));
+    }
+    register
+}
+
+fn after_bit(register: u32, bit: bool) -> u32
     ensures { result ≡ step_of 32 LOW register bit }
 {
     let shifted = register << 1;
@@ -19,18 +52,56 @@ fn step(register: u32, bit: bool) -> u32
     }
 }
 
-/// The CRC-32 of the bits, from all ones and with no inversion at the end.
-pub fn crc32(bits: BitSlice<'_>) -> u32
-    ensures { result ≡ crc32_of bits.entry }
+fn after_bytes(register: u32, bytes: &[u8]) -> u32
+    ensures { result ≡ register_of 32 LOW register (bits_of bytes.now) }
 {
-    let mut register: u32 = u32::MAX;
-    for k in 0..bits.len() {
-        register = step(register, bits.bit(k));
+    let (chunks, rest) = bytes.as_chunks::<8>();
+    let mut register = after_chunks(register, chunks);
+    for byte in rest {
+        register = after_byte(register, *byte);
     }
     register
 }
 
-/// CRC-32 is the remainder of a polynomial.
-pub fn crc32_law()
-    ensures { CrcIsRemainder }
-{}
+fn after_byte(register: u32, byte: u8) -> u32
+    ensures { result ≡ register_of 32 LOW register (field 8 byte) }
+{
+    let first = (register >> 24) as u8;
+    (register << 8) ^ entry(0, first ^ byte)
+}
+
+fn after_chunks(mut register: u32, chunks: &[[u8; 8]]) -> u32
+    ensures { result ≡ register_of 32 LOW register (flat_map bits_of chunks.now) }
+{
+    for chunk in chunks {
+        register = after_chunk(register, chunk);
+    }
+    register
+}
+
+fn after_chunk(register: u32, chunk: &[u8; 8]) -> u32
+    ensures { result ≡ register_of 32 LOW register (bits_of chunk.now) }
+{
+    let [a, b, c, d, e, f, g, h] = *chunk;
+    let front = register ^ u32::from_be_bytes([a, b, c, d]);
+    let back = u32::from_be_bytes([e, f, g, h]);
+    // The back comes first: its entries are read while the register is still under way.
+    after_zeros(back, 0) ^ after_zeros(front, 4)
+}
+
+// After the zero bits of four tables, from the first one on.
+fn after_zeros(register: u32, first: usize) -> u32
+    requires { first ≤ 4 }
+    ensures { result ≡ zeros 32 LOW (8 * (first + 4)) register }
+{
+    let [a, b, c, d] = register.to_be_bytes();
+    entry(first, d) ^ entry(first + 1, c) ^ entry(first + 2, b) ^ entry(first + 3, a)
+}
+
+// What the zero bits of a table make of a byte at the top of the register.
+fn entry(table: usize, byte: u8) -> u32
+    requires { table < 8 }
+    ensures { result ≡ zeros 32 LOW (8 * (table + 1)) (byte * 2 ^ 24) }
+{
+    TABLES[table][byte as usize]
+}

@@ -1,13 +1,15 @@
 -- Bits of numbers and bytes, the numbers of bits, and parts of bits.
-use Rattle.std.proofs.Common.{◌≡◌, ℕ, zero, suc, ◌+◌, ◌-◌, ◌*◌, ◌/◌, ◌%◌, ◌^◌, ◌<◌, ◌≤◌, ◌==◌, Bool, true, false, cond, List, [], ◌∷◌, ◌++◌, length, take, drop, get_or, refl, ap, sym, ◌∙◌, arith, length-append, add-one}
+use Rattle.std.proofs.Common.{◌≡◌, ℕ, zero, suc, ◌+◌, ◌-◌, ◌*◌, ◌/◌, ◌%◌, ◌^◌, ◌<◌, ◌≤◌, ◌==◌, Bool, true, false, cond, List, [], ◌∷◌, ◌++◌, length, take, drop, map, get_or, refl, ap, sym, ◌∙◌, arith, length-append, add-one}
 use Rattle.std.specs.Int.{bit_at}
-use Rattle.std.proofs.lemmas.List.{get_or_append_left, get_or-append-add, length_push, drop-take, take-take, drop-drop, get_or-take, get_or-drop, length-take, length-drop, drop-append-le, take-append-le}
+use Rattle.std.proofs.lemmas.List.{append_assoc, take_at, take_all, drop_all, drop_more, take-append-drop, length-take-le, get_or_append_left, get_or-append-add, length_push, drop-take, take-take, drop-drop, get_or-take, get_or-drop, length-take, length-drop, drop-append-le, take-append-le}
+use Rattle.std.specs.List.{range_with_len}
 use Rattle.std.proofs.lemmas.List.Concat.{flat_map-append}
-use Rattle.std.proofs.lemmas.Nat.{pow-add, mod-pow-add, mod_below, shr_high}
+use Rattle.std.proofs.lemmas.List.FromFn.{fill_by_all, length-map-range_with_len}
+use Rattle.std.proofs.lemmas.Nat.{pow-add, mod-pow-add, mod_below, mod_low, shr_high}
 use Rattle.std.proofs.lemmas.Nat.Bits.{bit_at-lt, bit_at_above, bit_at_cat_low}
 use Rattle.std.proofs.Math.Nat.{pow-succ', add-mul, mod-eq_of_lt}
-use Rattle.std.proofs.Math.Seq.{take-append_seam, drop-append_seam}
-use Rattle.terms.specs.Bits.{field, bits_of, number_of, part}
+use Rattle.std.proofs.Math.Seq.{take-add, take-append_seam, drop-append_seam}
+use Rattle.terms.specs.Bits.{field, bits_of, number_of, part, number_at, byte_at, bytes_for, bytes_of}
 
 pub length-field : (w n : ℕ) → length (field w n) ≡ w
 unfolding field
@@ -140,3 +142,97 @@ drop-field w n rest = ap (λ (k : ℕ). drop k (field w n ++ rest)) (sym (length
 pub field-number_at : (bits : List Bool) (at width : ℕ) → at + width ≤ length bits → field width (number_of (take width (drop at bits))) ≡ take width (drop at bits)
 field-number_at bits at width h =
     ap (λ (k : ℕ). field k (number_of (take width (drop at bits)))) (sym (length-part bits at width h)) ∙ field-number_of (take width (drop at bits))
+
+pub drop-bits_of : (n : ℕ) (bytes : List ℕ) → drop (8 * n) (bits_of bytes) ≡ bits_of (drop n bytes)
+drop-bits_of zero bytes = refl
+drop-bits_of (suc n) [] = drop_all (8 * suc n) [] (omega arith)
+drop-bits_of (suc n) (b ∷ bytes) =
+    let e : 8 * suc n ≡ 8 + 8 * n = omega arith in
+    ap (λ (k : ℕ). drop k (field 8 b ++ bits_of bytes)) e
+    ∙ sym (drop-drop (8 * n) 8 (field 8 b ++ bits_of bytes))
+    ∙ ap (drop (8 * n)) (drop-field 8 b (bits_of bytes))
+    ∙ drop-bits_of n bytes
+
+pub take-bits_of : (n : ℕ) (bytes : List ℕ) → n ≤ length bytes → take (8 * n) (bits_of bytes) ≡ bits_of (take n bytes)
+take-bits_of n bytes h =
+    let parts : bits_of bytes ≡ bits_of (take n bytes) ++ bits_of (drop n bytes) = sym (ap bits_of (take-append-drop n bytes)) ∙ bits_of-append (take n bytes) (drop n bytes) in
+    let size : length (bits_of (take n bytes)) ≡ 8 * n = length-bits_of (take n bytes) ∙ ap (λ (k : ℕ). 8 * k) (length-take-le n bytes h) in
+    ap (take (8 * n)) parts ∙ take_at (bits_of (take n bytes)) (bits_of (drop n bytes)) (8 * n) size
+
+-- the bits of some bytes are a part of the bits of all
+pub part-bits_of : (bytes : List ℕ) (from count : ℕ) → from + count ≤ length bytes → part (bits_of bytes) (8 * from) (8 * count) ≡ bits_of (take count (drop from bytes))
+part-bits_of bytes from count h =
+    let inside : count ≤ length (drop from bytes) = simp length-drop (omega arith) in
+    ap (take (8 * count)) (drop-bits_of from bytes) ∙ take-bits_of count (drop from bytes) inside
+
+-- The number of a part: what stands behind it is shifted out, and what stands before it is masked out.
+pub number_of-part : (bits : List Bool) (at width : ℕ) → at + width ≤ length bits → number_of (part bits at width) ≡ number_of bits / 2 ^ (length bits - (at + width)) % 2 ^ width
+number_of-part bits at width h =
+    let front : List Bool = take at bits in
+    let here : List Bool = part bits at width in
+    let behind : List Bool = drop width (drop at bits) in
+    let wide : length here ≡ width = length-part bits at width h in
+    let left : length behind ≡ length bits - (at + width) = simp length-drop (omega arith) in
+    let spelled : number_of bits ≡ (number_of front * 2 ^ width + number_of here) * 2 ^ length behind + number_of behind =
+    sym (ap number_of (take-append-drop at bits)) ∙ ap (λ (bs : List Bool). number_of (front ++ bs)) (sym (take-append-drop width (drop at bits)))
+    ∙ ap number_of (sym (append_assoc front here behind)) ∙ number_of-append (front ++ here) behind
+    ∙ ap (λ (n : ℕ). n * 2 ^ length behind + number_of behind) (number_of-append front here ∙ ap (λ (n : ℕ). number_of front * 2 ^ n + number_of here) wide) in
+    let small : number_of here < 2 ^ width = rw wide at (number_of-lt here) in
+    let shifted : number_of bits / 2 ^ length behind ≡ number_of front * 2 ^ width + number_of here = rw spelled (shr_high (number_of front * 2 ^ width + number_of here) (length behind) (number_of behind) (number_of-lt behind)) in
+    sym (rw (← left, shifted) (mod_low (number_of front) width (number_of here) small))
+
+-- a byte read as a field
+pub number_at-bits_of : (bytes : List ℕ) (k : ℕ) → k < length bytes → number_at (bits_of bytes) (8 * k) 8 ≡ get_or bytes k 0 % 2 ^ 8
+number_at-bits_of bytes k h =
+    ap (λ (bs : List Bool). number_of (take 8 bs)) (drop-bits_of k bytes ∙ ap bits_of (drop_more bytes k 0 h))
+    ∙ ap number_of (take-field 8 (get_or bytes k 0) (bits_of (drop (k + 1) bytes)))
+    ∙ number_of-field-mod 8 (get_or bytes k 0)
+
+-- where a whole byte stands at a place, nothing is filled up
+pub byte_at-whole : (bits : List Bool) (k : ℕ) → 8 * k + 8 ≤ length bits → byte_at bits k ≡ number_at bits (8 * k) 8
+byte_at-whole bits k h =
+    let none : 8 - length (drop (8 * k) bits) ≡ 0 = simp length-drop (omega arith) in
+    rw none (omega arith)
+
+-- bytes that hold the fields of eight bits, one after another
+pub bytes_of_fields : (bits : List Bool) (bytes : List ℕ) → length bits ≡ 8 * length bytes →
+    ((k : ℕ) → k < length bytes → get_or bytes k 0 ≡ number_at bits (8 * k) 8) → bytes ≡ bytes_of bits
+bytes_of_fields bits bytes size held =
+    let count : length bytes ≡ bytes_for (length bits) = omega arith in
+    let each : (k : ℕ) → k < length bytes → get_or bytes k 0 ≡ byte_at bits k = λ k h. held k h ∙ sym (byte_at-whole bits k (omega arith)) in
+    fill_by_all (byte_at bits) bytes (length bytes) 0 refl each ∙ ap (λ (n : ℕ). map (byte_at bits) (range_with_len 0 n)) count
+
+-- bytes are what their bits fill
+pub bytes_of-bits_of : (bytes : List ℕ) → ((k : ℕ) → get_or bytes k 0 < 256) → bytes_of (bits_of bytes) ≡ bytes
+bytes_of-bits_of bytes small =
+    sym (bytes_of_fields (bits_of bytes) bytes (length-bits_of bytes) (λ k h. sym (number_at-bits_of bytes k h ∙ mod-eq_of_lt (small k))))
+
+-- the bytes from one on, as far as whole bytes stand there, have the bits from there on
+bits_of-bytes_from : (bits : List Bool) (from count : ℕ) → 8 * (from + count) ≤ length bits →
+    bits_of (map (byte_at bits) (range_with_len from count)) ≡ part bits (8 * from) (8 * count)
+bits_of-bytes_from bits from zero h = refl
+bits_of-bytes_from bits from (suc count) h =
+    let here : field 8 (byte_at bits from) ≡ part bits (8 * from) 8 =
+    ap (field 8) (byte_at-whole bits from (omega arith)) ∙ field-number_at bits (8 * from) 8 (omega arith) in
+    let next : 8 * (from + 1) ≡ 8 * from + 8 = omega arith in
+    let rest : bits_of (map (byte_at bits) (range_with_len (from + 1) count)) ≡ take (8 * count) (drop 8 (drop (8 * from) bits)) =
+    bits_of-bytes_from bits (from + 1) count (omega arith)
+    ∙ ap (λ (k : ℕ). take (8 * count) (drop k bits)) next ∙ ap (take (8 * count)) (sym (drop-drop 8 (8 * from) bits)) in
+    let more : 8 + 8 * count ≡ 8 * suc count = omega arith in
+    rw (here, rest) (sym (take-add 8 (8 * count) (drop (8 * from) bits)) ∙ ap (λ (k : ℕ). take k (drop (8 * from) bits)) more)
+
+-- bits that fill whole bytes are those of the bytes
+pub bits_of-bytes_of : (bits : List Bool) (count : ℕ) → length bits ≡ 8 * count → bits_of (bytes_of bits) ≡ bits
+bits_of-bytes_of bits count h =
+    let filled : bytes_for (length bits) ≡ count = omega arith in
+    ap (λ (n : ℕ). bits_of (map (byte_at bits) (range_with_len 0 n))) filled
+    ∙ bits_of-bytes_from bits 0 count (omega arith) ∙ take_all (8 * count) bits (omega arith)
+
+pub length-bytes_of : (bits : List Bool) → length (bytes_of bits) ≡ bytes_for (length bits)
+length-bytes_of bits = length-map-range_with_len (byte_at bits) 0 (bytes_for (length bits))
+
+-- the number of bytes, the first of them apart
+pub number_of-bytes : (byte : ℕ) (bytes : List ℕ) → byte < 256 → number_of (bits_of (byte ∷ bytes)) ≡ byte * 2 ^ (8 * length bytes) + number_of (bits_of bytes)
+number_of-bytes byte bytes small =
+    number_of-append (field 8 byte) (bits_of bytes)
+    ∙ rw (length-bits_of bytes) (ap (λ (n : ℕ). n * 2 ^ (8 * length bytes) + number_of (bits_of bytes)) (number_of-field 8 byte small))

@@ -1,18 +1,14 @@
-use Rattle.std.proofs.Common.{◌≡◌, ℕ, Bool, ◌<◌, length, drop, take, false, arith, ap, sym, ◌∙◌, cond, get_or}
-use Rattle.std.proofs.lemmas.List.{get_or-drop, length-drop, length-take}
-use Rattle.terms.proofs.BitLemmas.{number_of-lt}
-use Rattle.bit_slice.proofs.SliceLemmas.{field_more, bool_byte_is}
+use Rattle.std.proofs.Common.{◌≤◌, ◌+◌, arith, ap, sym, ◌∙◌}
+use Rattle.terms.specs.Bits.{bits_of, number_of}
+use Rattle.terms.proofs.BitLemmas.{part-part}
+use Rattle.bit_slice.proofs.SliceLemmas.{seen_length, field_read}
 use Rattle.bit_slice.proofs.slice.BitSlice.field.Goals as goal
 
-pub loop-k-preserved : goal.loop-k-preserved
-loop-k-preserved c =
-    let e : c.from.result ≡ cond (get_or (drop c.args.at c.args.self.now) c.loop-k.k false) 1 0 =
-    c.from.ensures ∙ bool_byte_is c.bit.result ∙ ap (λ (b : Bool). cond {A = ℕ} b 1 0) (c.bit.ensures ∙ sym (get_or-drop c.args.at c.args.self.now c.loop-k.k false)) in
-    let inside : c.loop-k.k < length (drop c.args.at c.args.self.now) = simp length-drop (omega arith) in
-    rw e (field_more (drop c.args.at c.args.self.now) c.loop-k.k c.loop-k.value inside (omega arith) c.loop-k.invariant)
-
-pub returns-clause-small : goal.returns-clause-small
-returns-clause-small c =
-    let k : c.loop-k.k ≡ c.args.width = omega arith in
-    let size : length (take c.loop-k.k (drop c.args.at c.args.self.now)) ≡ c.args.width = simp (length-take, length-drop) (omega arith) in
-    rw c.loop-k.invariant (rw size at (number_of-lt (take c.loop-k.k (drop c.args.at c.args.self.now))))
+pub returns-clause-value : goal.returns-clause-value
+returns-clause-value c =
+    let size = seen_length c.self.inside.bytes.now c.self.inside.first c.self.inside.len c.args.self.now c.self.view_is (omega arith) in
+    let inside : c.args.at + c.args.width ≤ c.self.inside.len = omega arith in
+    rw (c.number_of_bytes-number.ensures, ← c.self.view_is)
+    (field_read c.self.inside.bytes.now (c.self.inside.first + c.args.at) c.args.width c.div_ceil-end_byte.result
+    (omega arith) (omega (arith, c.div_ceil-end_byte.ensures)) (omega (arith, c.div_ceil-end_byte.ensures)) (omega arith)
+    ∙ sym (ap number_of (part-part (bits_of c.self.inside.bytes.now) c.self.inside.first c.self.inside.len c.args.at c.args.width inside)))

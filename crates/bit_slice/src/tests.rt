@@ -1,0 +1,84 @@
+// Expected values are from integers of any size in Python, and CRCs of whole bytes from zlib besides.
+use crate::{BitSlice, crc32};
+
+const DATA: [u8; 24] = [
+    0xC3, 0xA5, 0x19, 0x7E, 0x02, 0xF0, 0xD4, 0x8B, 0x36, 0x5D, 0x0E, 0x91, 0xAB, 0x7C, 0x64, 0xFF,
+    0x18, 0x20, 0x95, 0x7A, 0xDE, 0xB3, 0x46, 0xCD,
+];
+
+#[test]
+fn crc_of_the_standard_text(rt: HostRuntime) {
+    assert_eq!(rt; crc32(BitSlice::whole(b"123456789")), 0x0376_E6E7);
+}
+
+// By first bit and length.
+#[test]
+fn crc_at_any_place_and_length(rt: HostRuntime) {
+    for (first, len, want) in [
+        (0, 0, 0xFFFF_FFFF),
+        (0, 1, 0xFFFF_FFFE),
+        (0, 13, 0x8A77_B5F5),
+        (0, 64, 0x046A_3ADB),
+        (0, 69, 0x97C1_16D2),
+        (0, 192, 0xE79F_C99C),
+        (8, 120, 0x8F12_F09C),
+        (3, 64, 0x2E73_4A1D),
+        (5, 101, 0x0F3B_DE97),
+        (11, 181, 0x6B97_843E),
+    ] {
+        let whole = BitSlice::whole(&DATA);
+        assert!(rt; first <= whole.len() && len <= whole.len() - first);
+        assert_eq!(rt;
+            crc32(whole.sub(first, len)),
+            want,
+            "{len} bits from {first}"
+        );
+    }
+}
+
+// By place and width: each place within a byte, each number of bytes touched.
+#[test]
+fn fields_at_any_place(rt: HostRuntime) {
+    for (at, width, want) in [
+        (60, 0, 0x0),
+        (192, 0, 0x0),
+        (0, 1, 0x1),
+        (1, 7, 0x43),
+        (10, 8, 0x94),
+        (19, 9, 0x197),
+        (28, 13, 0x1C05),
+        (37, 16, 0x5E1A),
+        (46, 24, 0x35_22CD),
+        (55, 31, 0x22CD_9743),
+        (56, 32, 0x8B36_5D0E),
+        (9, 33, 0x9465_F80B),
+        (27, 56, 0xF0_1786_A459_B2E8),
+        (36, 57, 0x5E_1A91_66CB_A1D2),
+        (45, 63, 0xD48B_365D_0E91_AB7),
+        (8, 64, 0xA519_7E02_F0D4_8B36),
+        (127, 64, 0x8C10_4ABD_6F59_A366),
+        (128, 64, 0x1820_957A_DEB3_46CD),
+    ] {
+        let bits = BitSlice::whole(&DATA);
+        assert!(rt; at <= bits.len() && width as usize <= bits.len() - at && width <= 64);
+        assert_eq!(rt; bits.field(at, width), want, "{width} bits from {at}");
+    }
+}
+
+#[test]
+fn bytes_of_bits_at_any_place(rt: HostRuntime) {
+    let whole = BitSlice::whole(&DATA);
+    let mut out = [0; 9];
+    whole.sub(16, 72).copy_bytes(&mut out);
+    assert_eq!(rt; out, [0x19, 0x7E, 0x02, 0xF0, 0xD4, 0x8B, 0x36, 0x5D, 0x0E]);
+    whole.sub(3, 72).copy_bytes(&mut out);
+    assert_eq!(rt; out, [0x1D, 0x28, 0xCB, 0xF0, 0x17, 0x86, 0xA4, 0x59, 0xB2]);
+}
+
+#[test]
+fn bits_and_parts(rt: HostRuntime) {
+    let whole = BitSlice::whole(&DATA);
+    assert!(rt; whole.bit(1) && !whole.bit(2) && !whole.is_empty());
+    let part = whole.sub(20, 0);
+    assert!(rt; part.is_empty() && part.len() == 0);
+}
