@@ -1,12 +1,11 @@
 -- What follows a long enough front decides nothing.
-use Rattle.std.proofs.Common.{◌≡◌, ℕ, ◌+◌, ◌-◌, ◌*◌, ◌/◌, ◌^◌, ◌<◌, ◌≤◌, ◌⊎◌, ⊎_elim, List, Bool, ◌++◌, length, take, drop, refl, ap, sym, ◌∙◌, arith, length-append}
-use Rattle.terms.specs.Bits.{bits_of, number_of, part, number_at, bytes_for}
+use Rattle.std.proofs.Common.{◌≡◌, ℕ, ◌+◌, ◌*◌, ◌^◌, ◌<◌, ◌≤◌, ⊎_elim, List, Bool, ◌++◌, length, ap, sym, ◌∙◌, arith, length-append}
+use Rattle.terms.specs.Bits.{bits_of, number_of, part, number_at}
 use Rattle.terms.proofs.BitLemmas.{length-bits_of, bits_of-append, part-append, length-part, number_of-lt}
 use Rattle.bit_slice.specs.Crc.{crc32_of}
-use Rattle.t2mi_packet.specs.declared.fault.PacketFault.{PacketFault}
 use Rattle.t2mi_packet.specs.declared.fault.PacketWhy.{PacketWhy}
 use Rattle.t2mi_packet.specs.declared.fault.PacketWhy.TheVariants.{Short, Crc, PadBits}
-use Rattle.t2mi_packet.specs.T2miPacket.{pad_len, payload_len, crc_place, IsShort, HasCrc, HasPad, RefusesFor, Refuses}
+use Rattle.t2mi_packet.specs.T2miPacket.{pad_len, payload_len, crc_place, IsShort, HasCrc, HasPad, RefusesFor}
 use Rattle.t2mi_packet.specs.Laws.{FrontRefusal}
 
 -- A part of a front of bytes is a part of the whole.

@@ -1,10 +1,10 @@
 -- Bytes that begin with a packet are read as that packet alone.
 use Rattle.std.specs.Prelude.{replicate, Result, Ok, Err, IfOk, IfErr}
 use Rattle.std.proofs.lemmas.List.{take-append-drop, length-take-le}
-use Rattle.std.proofs.Common.{◌≡◌, ℕ, zero, suc, ◌+◌, ◌-◌, ◌*◌, ◌/◌, ◌^◌, ◌<◌, ◌≤◌, ◌⊎◌, inl, inr, ⊎_elim, Bool, false, List, [], ◌∷◌, ◌++◌, length, take, drop, refl, ap, sym, subst, ◌∙◌, arith, append_assoc, length-append}
+use Rattle.std.proofs.Common.{◌≡◌, ℕ, zero, suc, ◌+◌, ◌*◌, ◌^◌, ◌<◌, ⊎_elim, Bool, false, List, [], ◌++◌, length, take, drop, refl, ap, sym, subst, ◌∙◌, arith, append_assoc, length-append}
 use Rattle.std.proofs.Math.Seq.{take-append_seam}
-use Rattle.terms.specs.Bits.{field, bits_of, number_of, part, number_at, bytes_for}
-use Rattle.terms.proofs.BitLemmas.{length-field, length-bits_of, bits_of-append, part-append}
+use Rattle.terms.specs.Bits.{field, bits_of, number_of, part, number_at}
+use Rattle.terms.proofs.BitLemmas.{length-field, length-bits_of, bits_of-append}
 use Rattle.terms.proofs.PartLemmas.{part-middle, number-middle, number_of-zeros}
 use Rattle.bit_slice.specs.Crc.{crc32_of}
 use Rattle.t2mi_packet.specs.declared.packet.Packet.{Packet}
@@ -13,7 +13,7 @@ use Rattle.t2mi_packet.specs.declared.packet.Body.TheVariants.{Other}
 use Rattle.t2mi_packet.specs.declared.fault.PacketFault.{PacketFault}
 use Rattle.t2mi_packet.specs.declared.fault.PacketWhy.{PacketWhy}
 use Rattle.t2mi_packet.specs.declared.fault.PacketWhy.TheVariants.{Short, Crc, PadBits}
-use Rattle.t2mi_packet.specs.T2miPacket.{kind_of, payload_of, header_bits, pad_len, covered_bits, packet_bits, Fits, Spells, BeginsWith, payload_len, crc_place, IsShort, HasCrc, HasPad, Refuses, RefusesFor}
+use Rattle.t2mi_packet.specs.T2miPacket.{kind_of, payload_of, header_bits, pad_len, covered_bits, packet_bits, Fits, Spells, BeginsWith, payload_len, crc_place, IsShort, Refuses, RefusesFor}
 use Rattle.t2mi_packet.specs.Laws.{OnePacket, NoRefusal, OneRefusal, PacketLength}
 use Rattle.t2mi_packet.specs.Reading.{HasParts, IsRead}
 

@@ -1,14 +1,13 @@
 -- What the header tells and the CRC covers, put together: the bytes spell a packet.
-use Rattle.std.proofs.Common.{◌≡◌, ℕ, ◌+◌, ◌-◌, ◌*◌, ◌/◌, ◌^◌, ◌<◌, ◌≤◌, ◌⊎◌, inl, inr, ⊎_elim, Bool, false, List, [], ◌∷◌, ◌++◌, length, take, drop, refl, ap, sym, ◌∙◌, arith}
+use Rattle.std.proofs.Common.{◌≡◌, ℕ, ◌+◌, ◌*◌, ◌^◌, ◌<◌, ◌≤◌, inl, inr, ⊎_elim, Bool, false, List, ◌++◌, length, take, refl, ap, sym, ◌∙◌, arith}
 use Rattle.std.specs.Prelude.{replicate, Result, Ok, Err, IfOk}
 use Rattle.std.proofs.lemmas.Bool.{cases_lt}
-use Rattle.terms.specs.Bits.{field, bits_of, number_of, part, number_at, bytes_for}
-use Rattle.terms.proofs.BitLemmas.{length-bits_of, length-part, number_of-lt, field-number_at}
-use Rattle.terms.proofs.PartLemmas.{part-add, bits_of-take, zero_bits}
+use Rattle.terms.specs.Bits.{field, bits_of, part, number_at}
+use Rattle.terms.proofs.BitLemmas.{length-bits_of, length-part, number_of-lt, field-number_at, take-bits_of}
+use Rattle.terms.proofs.PartLemmas.{part-add, zero_bits}
 use Rattle.bit_slice.specs.Crc.{crc32_of}
 use Rattle.t2mi_packet.specs.declared.packet.Packet.{Packet}
-use Rattle.t2mi_packet.specs.declared.packet.Body.TheVariants.{Other}
-use Rattle.t2mi_packet.specs.T2miPacket.{kind_of, payload_of, packet_len, header_bits, pad_len, covered_bits, packet_bits, Fits, Spells, BeginsWith, payload_len, crc_place, IsShort, HasCrc, HasPad}
+use Rattle.t2mi_packet.specs.T2miPacket.{kind_of, payload_of, packet_len, header_bits, pad_len, covered_bits, Fits, BeginsWith, payload_len, crc_place, IsShort, HasPad}
 use Rattle.t2mi_packet.specs.Reading.{HasParts, IsRead}
 
 -- The bytes hold the whole packet that they begin with.
@@ -128,7 +127,7 @@ spelled bytes p len is_read =
         fits = fits bytes p h r;
         rfu = part xs 20 9;
         free = length-part xs 20 9 (omega (arith, h.header));
-        bits = bits_of-take bytes len inside ∙ ap (λ (k : ℕ). take k xs) eight ∙ rw start at (part-add xs 0 place 32)
+        bits = sym (take-bits_of len bytes inside) ∙ ap (λ (k : ℕ). take k xs) eight ∙ rw start at (part-add xs 0 place 32)
             ∙ ap (λ (front : List Bool). front ++ part xs place 32) covered
             ∙ ap (λ (tail : List Bool). covered_bits p (part xs 20 9) ++ tail) end;
       };

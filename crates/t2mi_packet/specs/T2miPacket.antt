@@ -1,5 +1,5 @@
 -- T2-MI packets (ETSI TS 102 773, clause 5): how a packet is spelled, and why bytes begin with none.
-use Rattle.std.specs.Prelude.{◌≡◌, ◌≢◌, ◌⊎◌, ℕ, ◌+◌, ◌-◌, ◌*◌, ◌<◌, ◌≤◌, ◌^◌, List, Bool, false, ◌++◌, length, take, replicate}
+use Rattle.std.specs.Prelude.{◌≡◌, ◌⊎◌, ℕ, ◌+◌, ◌-◌, ◌*◌, ◌<◌, ◌≤◌, ◌^◌, List, Bool, false, ◌++◌, length, take, replicate}
 use Rattle.terms.specs.Bits.{field, bits_of, part, number_at, bytes_for}
 use Rattle.bit_slice.specs.Crc.{crc32_of}
 use Rattle.t2mi_packet.specs.declared.packet.Packet.{Packet}

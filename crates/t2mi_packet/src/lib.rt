@@ -10,3 +10,6 @@ pub use fault::{PacketFault, PacketWhy};
 pub use laws::{front_refusal, no_refusal, one_packet, one_refusal, packet_length};
 pub use packet::{Body, Packet};
 pub use reading::{LARGEST, read};
+
+#[cfg(test)]
+mod tests;

@@ -11,13 +11,6 @@ use Rattle.terms.proofs.BitLemmas.{length-bits_of, bits_of-append, length-field,
 pub part-add : {X : Type 0} (xs : List X) (at a b : ℕ) → take (a + b) (drop at xs) ≡ take a (drop at xs) ++ take b (drop (at + a) xs)
 part-add xs at a b = take-add a b (drop at xs) ∙ ap (λ (ys : List _). take a (drop at xs) ++ take b ys) (drop-drop a at xs)
 
--- the bits of a front
-pub bits_of-take : (bytes : List ℕ) (n : ℕ) → n ≤ length bytes → bits_of (take n bytes) ≡ take (8 * n) (bits_of bytes)
-bits_of-take bytes n h =
-    let size : 8 * n ≡ length (bits_of (take n bytes)) = omega (arith, length-bits_of (take n bytes), length-take-le n bytes h) in
-    let whole : bits_of bytes ≡ bits_of (take n bytes) ++ bits_of (drop n bytes) = ap bits_of (sym (take-append-drop n bytes)) ∙ bits_of-append (take n bytes) (drop n bytes) in
-    sym (ap (take (8 * n)) whole ∙ ap (λ (k : ℕ). take k (bits_of (take n bytes) ++ bits_of (drop n bytes))) size ∙ take-append_seam (bits_of (take n bytes)) (bits_of (drop n bytes)))
-
 -- what stands behind a front is a part of the whole
 pub part-middle : {X : Type 0} (front mid more : List X) (at width : ℕ) → length front ≡ at → length mid ≡ width → take width (drop at ((front ++ mid) ++ more)) ≡ mid
 part-middle front mid more at width here wide =

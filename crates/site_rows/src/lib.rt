@@ -1,0 +1,5 @@
+//! Worked runs of the commands, over desks in memory.
+#![tactic(auto)]
+
+#[cfg(test)]
+mod show_packets;

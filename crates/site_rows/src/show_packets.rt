@@ -1,0 +1,144 @@
+// `show packets FILE`.
+use ports::MemoryDesk;
+use site_top::{Outcome, Word, run};
+use std::alloc::Global;
+use std::process::Abort;
+use std::test::Fail;
+use t2mi_packet::PacketWhy;
+
+const TIMESTAMP: [u8; 21] = [
+    0x20, 0x00, 0x00, 0x00, 0x00, 0x58, 0x04, 0x00, 0x29, 0xB9, 0x27, 0x00, 0x00, 0x00, 0x00, 0x00,
+    0x05, 0x9C, 0x0C, 0x76, 0xE4,
+];
+
+const TIMESTAMP_LINE: &str =
+    "offset=0 type=20 count=0 superframe=0 stream=0 bits=88 head=040029b927000000\n";
+
+// Thirteen bits, no payload, and the bits for future use set.
+const SHORT_PACKETS: [u8; 33] = [
+    0x33, 0x07, 0x50, 0x02, 0x00, 0x0D, 0xAB, 0xC8, 0x42, 0x84, 0xCD, 0x0F, 0x42, 0xFF, 0xF0, 0x07,
+    0x00, 0x00, 0x82, 0x4F, 0x12, 0xEC, 0x10, 0x01, 0x1F, 0xF9, 0x00, 0x08, 0xF0, 0x09, 0xF9, 0x6B,
+    0x10,
+];
+
+const SHORT_LINES: &str = "\
+offset=0 type=33 count=7 superframe=5 stream=2 bits=13 head=abc8
+offset=12 type=42 count=255 superframe=15 stream=7 bits=0 head=
+offset=22 type=10 count=1 superframe=1 stream=1 bits=8 head=f0
+packets=3
+";
+
+// What a run over words said and how it ended, with one file on the desk.
+fn said(alloc: Global, words: &[&str], file: &[u8]) -> Result<(Outcome, Vec<u8>), Fail> {
+    let mut desk = MemoryDesk::new(alloc);
+    desk.put_file("f", file)?;
+    let mut list = Vec::new(alloc);
+    for word in words {
+        list.push(Word::new(alloc, word)?)?;
+    }
+    let outcome = run(alloc, list.as_slice(), &mut desk);
+    Ok((outcome, desk.said().to_vec(alloc)?))
+}
+
+// A run over a file says this and ends so.
+fn shows(
+    rt: &(impl AllocGlobal + Abort),
+    file: &[u8],
+    outcome: Outcome,
+    text: &str,
+) -> Result<(), Fail> {
+    let run = said(rt.alloc(), &["show", "packets", "f"], file)?;
+    assert_eq!(rt; run.0, outcome);
+    assert_eq!(rt; run.1.as_slice(), text.as_bytes());
+    Ok(())
+}
+
+#[test]
+fn lines_of_one_timestamp_packet(rt: HostRuntime) -> Result<(), Fail> {
+    let text = format!(in rt.alloc(); "{TIMESTAMP_LINE}packets=1\n")?;
+    shows(&rt, &TIMESTAMP, Outcome::Done, text.as_str())?;
+    assert_eq!(rt; Outcome::Done.status(), 0);
+    Ok(())
+}
+
+#[test]
+fn lines_of_short_packets(rt: HostRuntime) -> Result<(), Fail> {
+    shows(&rt, &SHORT_PACKETS, Outcome::Done, SHORT_LINES)
+}
+
+#[test]
+fn an_empty_file_has_no_packets(rt: HostRuntime) -> Result<(), Fail> {
+    shows(&rt, &[], Outcome::Done, "packets=0\n")
+}
+
+#[test]
+fn a_wrong_packet_is_refused_where_it_begins(rt: HostRuntime) -> Result<(), Fail> {
+    let refused = |at: u64, why: PacketWhy| Outcome::PacketRefused { at, why };
+    let mut wrong = TIMESTAMP;
+    wrong[20] = 0xE5;
+    let crc = refused(0, PacketWhy::Crc);
+    shows(&rt, &wrong, crc, "refused: packet at 0 why 2\n")?;
+    assert_eq!(rt; crc.status(), 10);
+    shows(
+        &rt,
+        &TIMESTAMP[..20],
+        refused(0, PacketWhy::Short),
+        "refused: packet at 0 why 1\n",
+    )?;
+
+    let alloc = rt.alloc();
+    let mut longer = TIMESTAMP.to_vec(alloc)?;
+    longer.push(0)?;
+    let text = format!(in alloc; "{TIMESTAMP_LINE}refused: packet at 21 why 1\n")?;
+    shows(
+        &rt,
+        longer.as_slice(),
+        refused(21, PacketWhy::Short),
+        text.as_str(),
+    )
+}
+
+#[test]
+fn other_words_are_no_command(rt: HostRuntime) -> Result<(), Fail> {
+    let lists: [&[&str]; 6] = [
+        &[],
+        &["frobnicate"],
+        &["show", "packets"],
+        &["show", "packets", ""],
+        &["show", "packet", "f"],
+        &["show", "packets", "f", "f"],
+    ];
+    for words in lists {
+        let run = said(rt.alloc(), words, &TIMESTAMP)?;
+        assert_eq!(rt; run.0, Outcome::Usage);
+        assert_eq!(rt; run.1.as_slice(), b"refused: usage\n".as_slice());
+    }
+    assert_eq!(rt; Outcome::Usage.status(), 2);
+    Ok(())
+}
+
+#[test]
+fn an_absent_file_is_a_read_fault(rt: HostRuntime) -> Result<(), Fail> {
+    let run = said(rt.alloc(), &["show", "packets", "g"], &TIMESTAMP)?;
+    assert_eq!(rt; run.0, Outcome::ReadFault);
+    assert_eq!(rt; run.1.as_slice(), b"fault: read\n".as_slice());
+    Ok(())
+}
+
+// More bytes than are read at once, and more lines than are said at once.
+#[test]
+fn many_packets_have_a_line_each(rt: HostRuntime) -> Result<(), Fail> {
+    let alloc = rt.alloc();
+    let mut file = Vec::new(alloc);
+    let mut text = String::new(alloc);
+    for k in 0..7000u32 {
+        file.extend_from_slice(&TIMESTAMP)?;
+        let line = format!(in alloc;
+            "offset={} type=20 count=0 superframe=0 stream=0 bits=88 head=040029b927000000\n",
+            k * 21
+        )?;
+        text.push_str(line.as_str())?;
+    }
+    text.push_str("packets=7000\n")?;
+    shows(&rt, file.as_slice(), Outcome::Done, text.as_str())
+}
