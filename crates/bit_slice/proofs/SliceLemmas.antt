@@ -1,6 +1,5 @@
 -- How bits are read from bytes.
-use Rattle.std.proofs.Common.{◌≡◌, ℕ, ◌+◌, ◌-◌, ◌*◌, ◌/◌, ◌%◌, ◌^◌, ◌<◌, ◌≤◌, ◌==◌, Bool, true, false, cond, List, [], ◌∷◌, ◌++◌, length, take, drop, get_or, refl, ap, sym, ◌∙◌, arith}
-use mir.Val.{bool_byte}
+use Rattle.std.proofs.Common.{◌≡◌, ℕ, ◌+◌, ◌-◌, ◌*◌, ◌/◌, ◌%◌, ◌^◌, ◌<◌, ◌≤◌, ◌==◌, Bool, false, List, [], ◌∷◌, ◌++◌, length, take, drop, get_or, refl, ap, sym, ◌∙◌, arith}
 use Rattle.std.specs.Prelude.{bit_and, bit_or}
 use Rattle.std.proofs.lemmas.List.{append-nil, take_all, take-take, length-take-le, take_more}
 use Rattle.std.proofs.lemmas.Nat.{or_shifted, and_mask, one_shl}
@@ -75,7 +74,3 @@ field_read bytes start width last h above below narrow =
     ∙ ap (λ (k : ℕ). part (bits_of bytes) k width) place in
     let spelled = number_of-part (bits_of (take count (drop from bytes))) (start % 8) width (omega (arith, size)) in
     rw (one_shl width 128 narrow, and_mask) (rw (size, behind, touched) at (sym spelled))
-
-pub bool_byte_is : (b : Bool) → bool_byte b ≡ cond b 1 0
-bool_byte_is true = refl
-bool_byte_is false = refl

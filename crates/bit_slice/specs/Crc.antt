@@ -24,23 +24,23 @@ abbrev pub remainder : ℕ → ℕ → ℕ → ℕ → ℕ
 remainder degree g zero p = p
 remainder degree g (suc n) p = remainder degree g n (if bit_at p (n + degree) == 1 then bit_xor p (g * 2 ^ n) else p)
 
--- w * X^degree + first * X^(length w): the bits with zeros behind them for the check value, and a polynomial added to
--- those at the front
+-- w * X^degree + first * X^(length w): the bits with room for the check value behind them, and a polynomial added at
+-- the front
 abbrev pub dividend : ℕ → ℕ → List Bool → ℕ
 dividend degree first w = bit_xor (number_of w * 2 ^ degree) (first * 2 ^ length w)
 
--- the check value of bits
+-- the check value of bits, by a generator of this degree
 abbrev pub crc_of : ℕ → ℕ → ℕ → List Bool → ℕ
 crc_of degree g first w = remainder degree g (length w) (dividend degree first w)
 
--- X^32 + X^26 + X^23 + X^22 + X^16 + X^12 + X^11 + X^10 + X^8 + X^7 + X^5 + X^4 + X^2 + X + 1
-abbrev pub generator : ℕ
-generator = 0x1_04C1_1DB7
+-- X^(n - 1) + .. + X + 1
+abbrev pub ones : ℕ → ℕ
+ones n = 2 ^ n - 1
 
--- X^31 + X^30 + .. + 1
-abbrev pub ones : ℕ
-ones = 2 ^ 32 - 1
+-- X^32 + X^26 + X^23 + X^22 + X^16 + X^12 + X^11 + X^10 + X^8 + X^7 + X^5 + X^4 + X^2 + X + 1
+abbrev pub crc32_generator : ℕ
+crc32_generator = 0x1_04C1_1DB7
 
 -- the CRC-32 of bits (ISO/IEC 13818-1, annex A; EN 302 755, annex F; TS 102 773, annex A)
 unfoldable pub crc32_of : List Bool → ℕ
-crc32_of w = crc_of 32 generator ones w
+crc32_of w = crc_of 32 crc32_generator (ones 32) w

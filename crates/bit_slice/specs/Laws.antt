@@ -1,10 +1,10 @@
 -- What holds of the definitions. The functions without a body ensure it.
 use Rattle.std.specs.Prelude.{◌≡◌, ℕ, List, Bool}
-use Rattle.bit_slice.specs.Crc.{HasDegree, IsRemainder, dividend, generator, ones, crc32_of}
+use Rattle.bit_slice.specs.Crc.{HasDegree, IsRemainder, dividend, ones, crc32_generator, crc32_of}
 
 -- The CRC-32 of w is the remainder of w * X^32 + (X^31 + .. + 1) * X^(length w) by the generator; so it is below 2^32.
 abbrev pub CrcIsRemainder : Type 0
-CrcIsRemainder = (w : List Bool) → IsRemainder 32 (dividend 32 ones w) generator (crc32_of w)
+CrcIsRemainder = (w : List Bool) → IsRemainder 32 (dividend 32 (ones 32) w) crc32_generator (crc32_of w)
 
 -- There is one remainder.
 abbrev pub RemainderIsUnique : Type 0

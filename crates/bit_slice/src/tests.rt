@@ -1,4 +1,4 @@
-// Expected values are from integers of any size in Python, and CRCs of whole bytes from zlib besides.
+// Expected values come from Python: its integers of any size, and for CRCs of whole bytes zlib, with bits turned round.
 use crate::{BitSlice, crc32};
 
 const DATA: [u8; 24] = [

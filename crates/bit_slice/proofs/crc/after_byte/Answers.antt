@@ -1,5 +1,5 @@
 use Rattle.std.proofs.Common.{sym, arith}
-use Rattle.bit_slice.proofs.ZerosLemmas.{register-byte}
+use Rattle.bit_slice.proofs.ByteLemmas.{register-byte}
 use Rattle.bit_slice.proofs.crc.after_byte.Goals as goal
 
 pub returns : goal.returns

@@ -1,5 +1,5 @@
 use Rattle.std.proofs.Common.{arith}
-use Rattle.bit_slice.proofs.ZerosLemmas.{register-eight}
+use Rattle.bit_slice.proofs.ByteLemmas.{register-eight}
 use Rattle.bit_slice.proofs.crc.after_chunk.Goals as goal
 
 pub returns : goal.returns

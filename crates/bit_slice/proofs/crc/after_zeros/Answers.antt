@@ -1,5 +1,5 @@
 use Rattle.std.proofs.Common.{arith}
-use Rattle.bit_slice.proofs.ZerosLemmas.{zeros-word}
+use Rattle.bit_slice.proofs.ByteLemmas.{zeros-word}
 use Rattle.bit_slice.proofs.crc.after_zeros.Goals as goal
 
 pub returns : goal.returns
