@@ -1,20 +1,19 @@
 -- What was left on the page was said: the end of a run, up to its last line.
 use Rattle.std.proofs.Math.Seq.{set-append_seam}
-use Rattle.std.proofs.Common.{◌≡◌, ◌⊎◌, ℕ, ◌+◌, ◌-◌, ◌<◌, ◌≤◌, ◌^◌, inl, inr, ⊎_elim, List, [], ◌∷◌, ◌++◌, length, drop, get_or, Option, Some, None, refl, ap, sym, subst, ◌∙◌, arith, append_assoc, append-nil, length-append}
-use Rattle.std.specs.Prelude.{IfSome, IsSome, option_map, option_and_then, unwrap_or, slice_index, slice_set}
+use Rattle.std.proofs.Common.{◌≡◌, ℕ, ◌+◌, ◌-◌, ◌<◌, ◌≤◌, ◌^◌, inl, inr, ⊎_elim, List, [], ◌++◌, length, Option, Some, None, refl, ap, sym, subst, ◌∙◌, arith, append_assoc, append-nil}
+use Rattle.std.specs.Prelude.{IfSome, IsSome, option_map, option_and_then, unwrap_or}
 use Rattle.std.specs.FinMap.{get}
 use Rattle.std.proofs.lemmas.Bool.{cases_lt}
-use Rattle.ports.specs.Desk.{State, Held, Keeps, Says, Rose, Opens, left_of, file_of, with_name}
+use Rattle.ports.specs.Desk.{State, Held, Keeps, Says, Rose, Opens, left_of}
 use Rattle.t2mi_packet.specs.declared.packet.Packet.{Packet}
 use Rattle.site_top.specs.declared.outcome.Outcome.{Outcome}
 use Rattle.site_top.specs.declared.outcome.Outcome.TheVariants.{Done, Usage, TooLong, PacketRefused, ReadFault, WriteFault, OutOfMemory}
-use Rattle.site_top.specs.PacketFile.{Packs, bytes_in, IsRefused}
+use Rattle.site_top.specs.PacketFile.{Packs, bytes_in}
 use Rattle.site_top.specs.SaidLines.{lines_of, count_line}
-use Rattle.site_top.specs.ShowPackets.{Said, SaidFirst, Opened, Unopened, ReadsFile, Counts, Shows, bytes_of_file}
-use Rattle.site_top.specs.Reading.{IsAtEnd}
+use Rattle.site_top.specs.ShowPackets.{Said, SaidFirst, Opened, ReadsFile, Counts, Shows, bytes_of_file}
 use Rattle.site_top.specs.Progress.{Shown, Only, StopsIn, StopsAt, EndsAt, GivesAll, Stops, Finishes, SaysRest, ShowsOpened}
 use Rattle.site_top.proofs.PacketFileLemmas.{packs_first, lines_of-append, file_len}
-use Rattle.site_top.proofs.ProgressLemmas.{if_some, said_only, said_more, shown_by, shown_lost}
+use Rattle.site_top.proofs.ProgressLemmas.{if_some, said_only, said_more}
 use Rattle.site_top.proofs.StopLemmas.{rose_from}
 
 -- the lines on the page were said, and a text behind them

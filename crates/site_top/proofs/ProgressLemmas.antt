@@ -1,18 +1,15 @@
 -- A run over a file of packets, step by step.
-use Rattle.std.proofs.Common.{◌≡◌, ◌⊎◌, ℕ, ◌+◌, ◌-◌, ◌<◌, ◌≤◌, ◌^◌, inl, inr, ⊎_elim, Bool, true, false, List, [], ◌∷◌, ◌++◌, length, take, drop, get_or, Option, Some, None, refl, ap, sym, subst, ◌∙◌, arith, append_assoc, append-nil, length-append, length-drop}
+use Rattle.std.proofs.Common.{◌≡◌, ℕ, ◌+◌, ◌-◌, ◌<◌, ◌≤◌, ⊎_elim, Bool, true, false, List, [], ◌∷◌, ◌++◌, length, drop, Option, Some, None, refl, ap, sym, subst, ◌∙◌, arith, append_assoc, append-nil, length-append, length-drop}
 use Rattle.std.specs.Prelude.{IfSome, IsTrue, option_map, slice_index, slice_set}
 use Rattle.std.proofs.lemmas.List.{get_or-set_same, set-set, set-get_or, drop-append-le}
-use Rattle.ports.specs.Desk.{State, Held, Keeps, Says, Rose, content, left_of}
+use Rattle.ports.specs.Desk.{State, Held, Keeps, Says, content, left_of}
 use Rattle.t2mi_packet.specs.declared.packet.Packet.{Packet}
 use Rattle.t2mi_packet.specs.T2miPacket.{packet_len, BeginsWith}
-use Rattle.t2mi_packet.specs.Laws.{FrontRefusal}
-use Rattle.site_top.specs.declared.outcome.Outcome.{Outcome}
-use Rattle.site_top.specs.declared.outcome.Outcome.TheVariants.{Done, Usage, TooLong, PacketRefused, ReadFault, WriteFault, OutOfMemory}
-use Rattle.site_top.specs.PacketFile.{Packs, bytes_in, IsRefused}
+use Rattle.site_top.specs.PacketFile.{Packs, bytes_in}
 use Rattle.site_top.specs.SaidLines.{line_of, lines_of}
 use Rattle.site_top.specs.Reading.{ReadsOn, IsAtEnd}
-use Rattle.site_top.specs.Progress.{Shown, Only, Comes, StopsReading, Takes, TakesNone, GivesWay, StopsIn, StopsAt, Stops, Finishes}
-use Rattle.site_top.proofs.PacketFileLemmas.{packs_more, packs_first, bytes_in-append, lines_of-append, lines_of-push, file_len, begins_on}
+use Rattle.site_top.specs.Progress.{Shown, Only, Comes, Takes, GivesWay}
+use Rattle.site_top.proofs.PacketFileLemmas.{packs_more, packs_first, bytes_in-append, lines_of-append, lines_of-push, begins_on}
 
 pub if_some : {A : Type 0} (o : Option A) (P Q : A → Type 0) → ((x : A) → P x → Q x) → IfSome o P → IfSome o Q
 if_some None P Q f h = h

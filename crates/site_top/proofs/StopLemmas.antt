@@ -1,16 +1,15 @@
 -- Why a run over a file of packets stops, and what stands then.
-use Rattle.std.proofs.Common.{◌≡◌, ◌≢◌, ◌⊎◌, ℕ, ◌+◌, ◌-◌, ◌<◌, ◌≤◌, ◌^◌, inl, inr, ⊎_elim, Bool, true, false, List, [], ◌∷◌, ◌++◌, length, take, drop, Option, Some, None, refl, ap, sym, subst, ◌∙◌, arith, append-nil, length-append}
-use Rattle.std.specs.Prelude.{IfSome, IsTrue, option_map, Result, Ok, Err, IfErr, IfOk}
-use Rattle.ports.specs.Desk.{State, Keeps, Says, Rose, left_of}
+use Rattle.std.proofs.Common.{◌≡◌, ◌≢◌, ◌⊎◌, ℕ, ◌+◌, ◌-◌, ◌<◌, ◌≤◌, ◌^◌, inl, inr, ⊎_elim, Bool, true, false, List, [], ◌∷◌, ◌++◌, length, Option, Some, None, refl, ap, sym, subst, ◌∙◌, arith, append-nil, length-append}
+use Rattle.std.specs.Prelude.{IfSome, IsTrue}
+use Rattle.ports.specs.Desk.{State, Keeps, Rose, left_of}
 use Rattle.t2mi_packet.specs.declared.fault.PacketWhy.{PacketWhy}
-use Rattle.t2mi_packet.specs.declared.fault.PacketFault.{PacketFault}
 use Rattle.t2mi_packet.specs.Laws.{FrontRefusal}
 use Rattle.t2mi_packet.specs.T2miPacket.{Refuses}
 use Rattle.site_top.specs.declared.outcome.Outcome.{Outcome}
 use Rattle.site_top.specs.declared.outcome.Outcome.TheVariants.{Done, Usage, TooLong, PacketRefused, ReadFault, WriteFault, OutOfMemory}
-use Rattle.site_top.specs.PacketFile.{Packs, bytes_in, IsRefused}
-use Rattle.site_top.specs.Reading.{ReadsOn, IsAtEnd}
-use Rattle.site_top.specs.Progress.{Shown, Only, Comes, StopsReading, TakesNone, StopsIn, StopsAt, Stops, Finishes}
+use Rattle.site_top.specs.PacketFile.{IsRefused}
+use Rattle.site_top.specs.Reading.{ReadsOn}
+use Rattle.site_top.specs.Progress.{Shown, Comes, StopsReading, TakesNone, Stops}
 use Rattle.site_top.proofs.PacketFileLemmas.{file_len}
 use Rattle.site_top.proofs.ProgressLemmas.{if_some, filled, shown_lost, said_only}
 

@@ -1,8 +1,7 @@
 -- How far `show packets` has come in a file. No public clause cites this module.
-use Rattle.std.specs.Prelude.{◌≡◌, ◌⊎◌, ℕ, ◌+◌, ◌≤◌, ◌<◌, ◌^◌, Bool, List, [], ◌∷◌, ◌++◌, length, drop, slice_set, IfSome, Some, option_map, IsTrue}
+use Rattle.std.specs.Prelude.{◌≡◌, ◌⊎◌, ℕ, ◌+◌, ◌≤◌, ◌<◌, ◌^◌, Bool, List, [], ◌++◌, length, drop, slice_set, IfSome, Some, option_map, IsTrue}
 use Rattle.ports.specs.Desk.{State, Rose, Keeps, Says, left_of}
 use Rattle.t2mi_packet.specs.declared.packet.Packet.{Packet}
-use Rattle.t2mi_packet.specs.declared.fault.PacketWhy.{PacketWhy}
 use Rattle.t2mi_packet.specs.T2miPacket.{packet_len, BeginsWith}
 use Rattle.site_top.specs.declared.outcome.Outcome.{Outcome}
 use Rattle.site_top.specs.declared.outcome.Outcome.TheVariants.{Done, Usage, TooLong, PacketRefused, ReadFault, WriteFault, OutOfMemory}

@@ -1,5 +1,5 @@
 -- How a file is read on, and what waits of it.
-use Rattle.std.specs.Prelude.{◌≡◌, ℕ, ◌+◌, ◌-◌, ◌≤◌, List, [], ◌++◌, length, take, drop, slice_index, slice_set, IfSome, option_map}
+use Rattle.std.specs.Prelude.{◌≡◌, ℕ, ◌+◌, ◌-◌, ◌≤◌, List, [], ◌++◌, length, slice_index, slice_set, IfSome, option_map}
 use Rattle.ports.specs.Desk.{State, left_of}
 
 -- The handle's file was read to its end, where the desk tells.

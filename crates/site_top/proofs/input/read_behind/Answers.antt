@@ -1,5 +1,4 @@
-use Rattle.std.proofs.Common.{◌≡◌, ℕ, List, ◌+◌, ◌-◌, ◌≤◌, ◌++◌, length, ap, ◌∙◌, arith, take, drop, length-drop}
-use Rattle.site_top.specs.Waiting.{part_in}
+use Rattle.std.proofs.Common.{ℕ, List, ◌≤◌, ◌++◌, length, ap, ◌∙◌, arith, take, drop, length-drop}
 use Rattle.site_top.proofs.InputLemmas.{kept, grown, reads_on, reads_not, on_err}
 use Rattle.site_top.proofs.input.read_behind.Goals as goal
 

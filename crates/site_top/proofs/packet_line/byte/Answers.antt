@@ -2,7 +2,6 @@ use Rattle.std.proofs.Common.{◌≡◌, ℕ, ◌+◌, ◌-◌, ◌*◌, ◌%◌
 use Rattle.std.proofs.lemmas.List.{take_all, length-drop}
 use Rattle.std.proofs.lemmas.Nat.{shl_below}
 use Rattle.terms.specs.Bits.{number_of}
-use Rattle.terms.specs.Bits.{byte_at}
 use Rattle.site_top.proofs.packet_line.byte.Goals as goal
 
 -- a value of w bits, moved up to 8

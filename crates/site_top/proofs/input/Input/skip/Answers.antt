@@ -1,4 +1,4 @@
-use Rattle.std.proofs.Common.{◌≡◌, ℕ, ◌+◌, ◌-◌, ◌≤◌, length, ap, sym, ◌∙◌, arith, take, drop}
+use Rattle.std.proofs.Common.{◌≡◌, ℕ, ◌+◌, ◌-◌, length, ap, sym, ◌∙◌, arith, take, drop}
 use Rattle.terms.proofs.BitLemmas.{length-part}
 use Rattle.site_top.proofs.InputLemmas.{skipped}
 use Rattle.site_top.proofs.input.Input.skip.Goals as goal
