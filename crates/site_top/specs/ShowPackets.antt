@@ -30,10 +30,11 @@ pub record Opened (old new : State) (name : List ℕ) (given : ℕ) : Type 0 whe
   pub held : new.held ≡ option_map (with_name name) old.held
   pub opened : new.opened ≡ old.opened ++ given ∷ []
 
--- No file was opened, and none changed.
+-- No file was opened and none changed, and nothing was said.
 pub record Unopened (old new : State) : Type 0 where
   pub held : new.held ≡ old.held
   pub opened : new.opened ≡ old.opened
+  pub said : new.said ≡ old.said
 
 -- a file that gives so many bytes is too long
 abbrev pub most_bytes : ℕ
@@ -79,10 +80,17 @@ pub record Shows (old new : State) (name : List ℕ) (outcome : Outcome) : Type 
   pub said : IfSome old.held (λ held. Said (bytes_of_file held name) old new outcome)
   pub counts : Counts old new outcome
 
--- A run that is not done says its last line, once; a run that is done says nothing more.
+-- The last line was said, once, unless its own count rose, and no other count changed.
+pub record EndsBy (before after : State) (line : List ℕ) : Type 0 where
+  pub said : SaysLast before after line
+  pub line_faults : before.line_faults ≤ after.line_faults
+  pub read_faults : after.read_faults ≡ before.read_faults
+  pub write_faults : after.write_faults ≡ before.write_faults
+
+-- A run that is done says nothing more, and any other says its last line.
 abbrev pub Ends : State → State → Outcome → Type 0
 Ends before after Done = after ≡ before
-Ends before after outcome = SaysLast before after (last_line outcome) × (after.read_faults ≡ before.read_faults) × (after.write_faults ≡ before.write_faults)
+Ends before after outcome = EndsBy before after (last_line outcome)
 
 -- How a run over a file must end, where nothing outside fails.
 abbrev pub MustEnd : List ℕ → Outcome → Type 0
