@@ -1,0 +1,63 @@
+-- What the places of handles are, and what a handle has left, after it was read.
+use Rattle.std.proofs.Common.{◌≡◌, ℕ, ◌+◌, ◌-◌, ◌<◌, ◌≤◌, List, [], ◌++◌, length, take, drop, map, set, get_or, Some, refl, ap, sym, ◌∙◌, arith, ◌↔◌, string_bytes}
+use Rattle.std.proofs.lemmas.List.{map-set, get_or-map, get_or-set_same, get_or-set_other, take_all, take-append-drop, drop-drop, length-map, length-drop, length-take-le}
+use Rattle.std.proofs.Math.Seq.{map-set_same, take-append_seam}
+use Rattle.ports.specs.declared.memory.Handle.{Handle}
+use Rattle.ports.specs.Desk.{Files, State, bytes_of, Reads}
+
+-- one value moved by n
+pub map-set_moved : {A : Type 0} (f : A → ℕ) (xs : List A) (i n : ℕ) (x y : A) → i < length xs → x ≡ get_or xs i x → f y ≡ f x + n →
+    map f (set xs i y) ≡ set (map f xs) i (get_or (map f xs) i 0 + n)
+map-set_moved f xs i n x y inside is moved =
+    map-set f xs i y
+    ∙ ap (set (map f xs) i) (moved ∙ ap (λ (k : ℕ). k + n) (ap f is ∙ sym (get_or-map f xs i x 0 inside)))
+
+-- no value moved
+pub map-set_stayed : {A B : Type 0} (f : A → B) (xs : List A) (i : ℕ) (x y : A) → x ≡ get_or xs i x → f y ≡ f x → map f (set xs i y) ≡ map f xs
+map-set_stayed f xs i x y is same = map-set_same f xs i y x (same ∙ ap f is)
+
+-- a piece that was copied, and what stands after it
+pub copied : (bytes piece kept : List ℕ) (place n : ℕ) → n ≤ length bytes - place → piece ≡ take n (take (length bytes - place) (drop place bytes)) →
+    drop place bytes ≡ take n (piece ++ kept) ++ drop (place + n) bytes
+copied bytes piece kept place n inside is =
+    let all : take (length bytes - place) (drop place bytes) ≡ drop place bytes = take_all (length bytes - place) (drop place bytes) (omega (arith, length-drop place bytes)) in
+    let front : piece ≡ take n (drop place bytes) = is ∙ ap (take n) all in
+    let size : length piece ≡ n = ap length front ∙ length-take-le n (drop place bytes) (omega (arith, length-drop place bytes)) in
+    let whole : take n (piece ++ kept) ≡ piece = ap (λ (k : ℕ). take k (piece ++ kept)) (sym size) ∙ take-append_seam piece kept in
+    sym (take-append-drop n (drop place bytes)) ∙ rw (whole, drop-drop n place bytes) (ap (λ (x : List ℕ). x ++ drop (place + n) bytes) (sym front))
+
+-- a desk with these files and handles
+abbrev desk : Files → List Handle → List ℕ → ℕ → ℕ → ℕ → State
+desk files handles said read_faults write_faults line_faults = record {
+  held = Some (record { files = files; names = map (λ h. string_bytes h.name) handles });
+  said = Some said;
+  opened = map (λ h. h.place) handles;
+  read_faults = read_faults;
+  write_faults = write_faults;
+  line_faults = line_faults;
+}
+
+-- a desk after the handle x at a place was read on to y
+pub reads_on : (files : Files) (xs : List Handle) (said : List ℕ) (r w l at n : ℕ) (x y : Handle) (buffer : List ℕ) →
+    at < length xs → x ≡ get_or xs at x → y.name ≡ x.name → y.place ≡ x.place + n →
+    drop x.place (bytes_of files (string_bytes x.name)) ≡ take n buffer ++ drop y.place (bytes_of files (string_bytes x.name)) →
+    ((n ≡ 0) ↔ (drop x.place (bytes_of files (string_bytes x.name)) ≡ [])) →
+    Reads (desk files xs said r w l) (desk files (set xs at y) said r w l) at n buffer
+reads_on files xs said r w l at n x y buffer came is name moved next end =
+    let names : map (λ h. string_bytes h.name) (set xs at y) ≡ map (λ h. string_bytes h.name) xs = map-set_stayed (λ h. string_bytes h.name) xs at x y is (ap string_bytes name) in
+    let places : map (λ h. h.place) (set xs at y) ≡ set (map (λ h. h.place) xs) at (get_or (map (λ h. h.place) xs) at 0 + n) = map-set_moved (λ h. h.place) xs at n x y came is moved in
+    let place : get_or (map (λ h. h.place) xs) at 0 ≡ x.place = get_or-map (λ h. h.place) xs at x 0 came ∙ ap (λ (h : Handle). h.place) (sym is) in
+    let called : get_or (map (λ h. string_bytes h.name) xs) at [] ≡ string_bytes x.name = get_or-map (λ h. string_bytes h.name) xs at x [] came ∙ ap (λ (h : Handle). string_bytes h.name) (sym is) in
+    let after : get_or (map (λ h. h.place) (set xs at y)) at 0 ≡ y.place =
+    ap (λ (ps : List ℕ). get_or ps at 0) (map-set (λ h. h.place) xs at y) ∙ get_or-set_same (map (λ h. h.place) xs) at y.place 0 (rw length-map came) in
+    record {
+      held = ap (λ (ns : List (List ℕ)). Some (record { files = files; names = ns })) names;
+      said = refl;
+      opened = places;
+      next = rw (names, called, place, after) (ap Some next);
+      end = rw (called, place) end;
+      others = λ other apart.
+          let same : get_or (map (λ h. h.place) (set xs at y)) other 0 ≡ get_or (map (λ h. h.place) xs) other 0 =
+          ap (λ (ps : List ℕ). get_or ps other 0) (map-set (λ h. h.place) xs at y) ∙ get_or-set_other (map (λ h. h.place) xs) at other y.place 0 apart in
+          rw (names, same) refl;
+    }

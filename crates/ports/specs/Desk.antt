@@ -1,0 +1,97 @@
+-- What a desk means, and what its calls do.
+use Rattle.std.specs.Prelude.{◌≡◌, ◌≢◌, ◌⊎◌, ◌↔◌, ℕ, ◌+◌, ◌-◌, ◌<◌, ◌≤◌, ◌^◌, List, [], ◌∷◌, ◌++◌, length, take, drop, slice_index, slice_index_or, slice_set, unwrap_or, is_some, IsSome, IfSome, Result, OnErr, option_map, option_and_then}
+use Rattle.std.specs.declared.option.Option.{Option}
+use Rattle.std.specs.Ordering.{nat_cmp}
+use Rattle.std.specs.Cmp.Lexicographic.{slice_cmp}
+use Rattle.std.specs.FinMap.{FinMap, get}
+
+-- the bytes of each file, by its name
+abbrev pub Files : Type 0
+Files = FinMap (slice_cmp nat_cmp) (List ℕ)
+
+-- the files, and the name of each handle in order of opening
+pub record Held : Type 0 where
+  pub files : Files
+  pub names : List (List ℕ)
+
+-- what a desk holds and what was said, where it tells; the place of each handle in order of opening; and how often reading, writing
+-- and saying the last line failed
+pub record State : Type 0 where
+  pub held : Option Held
+  pub said : Option (List ℕ)
+  pub opened : List ℕ
+  pub read_faults : ℕ
+  pub write_faults : ℕ
+  pub line_faults : ℕ
+
+-- the bytes of a named file, none where there is none of that name
+abbrev pub bytes_of : Files → List ℕ → List ℕ
+bytes_of files name = unwrap_or (get files name) []
+
+-- the bytes of a handle's file
+abbrev pub content : Held → ℕ → List ℕ
+content h handle = bytes_of h.files (slice_index_or h.names handle [])
+
+-- the bytes of a named file, where there is one and the desk tells
+abbrev pub file_of : State → List ℕ → Option (List ℕ)
+file_of s name = option_and_then (λ h. get h.files name) s.held
+
+-- the bytes of a handle's file from its place on, where the desk tells
+abbrev pub left_of : State → ℕ → Option (List ℕ)
+left_of s handle = option_map (λ h. drop (slice_index s.opened handle) (content h handle)) s.held
+
+-- A count rose if it is greater after than before, or stands at the last value of its counter.
+abbrev pub Rose : ℕ → ℕ → Type 0
+Rose before now = (before < now) ⊎ (now ≡ 2 ^ 64 - 1)
+
+-- A count never falls, and a fault comes only where it rose.
+pub record HasCause {T E : Type 0} (before now : ℕ) (result : Result T E) : Type 0 where
+  pub later : before ≤ now
+  pub rose : OnErr result (Rose before now)
+
+-- A desk that tells what it holds, or what was said, keeps telling it, and one that does not never begins.
+pub record TellsAlike (old new : State) : Type 0 where
+  pub held : is_some new.held ≡ is_some old.held
+  pub said : is_some new.said ≡ is_some old.said
+
+-- Nothing but counts changed.
+pub record Keeps (old new : State) : Type 0 where
+  pub held : new.held ≡ old.held
+  pub said : new.said ≡ old.said
+  pub opened : new.opened ≡ old.opened
+
+-- the same files, and one more handle of this name
+abbrev pub with_name : List ℕ → Held → Held
+with_name name h = record h { names = h.names ++ name ∷ [] }
+
+-- The named file is there, and one more handle stands at its start.
+pub record Opens (old new : State) (name : List ℕ) (handle : ℕ) : Type 0 where
+  pub number : handle ≡ length old.opened
+  pub present : IfSome old.held (λ h. IsSome (get h.files name))
+  pub held : new.held ≡ option_map (with_name name) old.held
+  pub names : IfSome new.held (λ h. length h.names ≡ length new.opened)
+  pub said : new.said ≡ old.said
+  pub opened : new.opened ≡ old.opened ++ 0 ∷ []
+  -- so the whole file is left behind this handle, and behind each other what was
+  pub left : left_of new handle ≡ file_of old name
+  pub others : (other : ℕ) → other < length old.opened → left_of new other ≡ left_of old other
+
+-- The first n bytes of the buffer are the next bytes of a handle's file, and there are none only at its end.
+pub record Reads (old new : State) (handle n : ℕ) (buffer : List ℕ) : Type 0 where
+  pub held : new.held ≡ old.held
+  pub said : new.said ≡ old.said
+  pub opened : new.opened ≡ slice_set old.opened handle (slice_index old.opened handle + n)
+  pub next : left_of old handle ≡ option_map (λ left. take n buffer ++ left) (left_of new handle)
+  pub end : IfSome (left_of old handle) (λ left. (n ≡ 0) ↔ (left ≡ []))
+  -- so behind each other handle what was left is left
+  pub others : (other : ℕ) → other ≢ handle → left_of new other ≡ left_of old other
+
+-- The text was said.
+pub record Says (old new : State) (text : List ℕ) : Type 0 where
+  pub held : new.held ≡ old.held
+  pub said : new.said ≡ option_map (λ said. said ++ text) old.said
+  pub opened : new.opened ≡ old.opened
+
+-- The last text was said, or nothing was where the count rose.
+abbrev pub SaysLast : State → State → List ℕ → Type 0
+SaysLast old new text = Says old new text ⊎ (Keeps old new × Rose old.line_faults new.line_faults)

@@ -1,0 +1,4 @@
+pub mod Desk
+pub mod Host
+pub mod Memory
+pub mod Stored

@@ -1,0 +1,68 @@
+// The outside of a command.
+ghost use Rattle.std.specs.Prelude.{◌≡◌, ◌<◌, ◌≤◌, length, IfOk, OnOk, OnErr};
+ghost use Rattle.ports.specs.Desk.{State, HasCause, TellsAlike, Keeps, Opens, Reads, Says, SaysLast};
+ghost use Rattle.ports.specs.Memory.{one_more};
+
+use thiserror::Error;
+
+/// A call of a desk failed.
+#[derive(Clone, Copy, Debug, PartialEq, Eq, Error)]
+#[error("the outside failed: a file could not be opened, read or written, or standard output took no text")]
+pub struct DeskFault;
+
+/// The outside of a command: named files, and standard output.
+pub trait Desk {
+    /// What the desk holds and what was said, where it tells, the place of each handle, and how often it failed.
+    ghost state: { Self → State };
+
+    /// Opens a file: a handle at its start. An absent name is a fault.
+    fn open(&mut self, name: &str) -> Result<u32, DeskFault>
+        ensures ok { IfOk result (Opens (state self.old) (state self.new) name.now) }
+        ensures err { OnErr result (Keeps (state self.old) (state self.new)) }
+        ensures tells { TellsAlike (state self.old) (state self.new) }
+
+        ensures cause { HasCause (state self.old).read_faults (state self.new).read_faults result }
+        ensures write_faults { (state self.new).write_faults ≡ (state self.old).write_faults }
+        ensures line_faults { (state self.new).line_faults ≡ (state self.old).line_faults };
+
+    /// Reads the next bytes of a file into the front of the buffer: how many, and 0 only at the end.
+    fn read(&mut self, handle: u32, buffer: &mut [u8]) -> Result<usize, DeskFault>
+        requires opened { handle < length (state self.old).opened }
+        requires room { 0 < length buffer.old }
+        ensures count { IfOk result (λ n. n ≤ length buffer.new) }
+        ensures ok { IfOk result (λ n. Reads (state self.old) (state self.new) handle n buffer.new) }
+        ensures err { OnErr result (Keeps (state self.old) (state self.new)) }
+        ensures tells { TellsAlike (state self.old) (state self.new) }
+
+        ensures cause { HasCause (state self.old).read_faults (state self.new).read_faults result }
+        ensures write_faults { (state self.new).write_faults ≡ (state self.old).write_faults }
+        ensures line_faults { (state self.new).line_faults ≡ (state self.old).line_faults };
+
+    /// Appends a text to standard output.
+    fn say(&mut self, text: &[u8]) -> Result<(), DeskFault>
+        ensures ok { OnOk result (Says (state self.old) (state self.new) text.now) }
+        ensures err { OnErr result (Keeps (state self.old) (state self.new)) }
+        ensures tells { TellsAlike (state self.old) (state self.new) }
+
+        ensures cause { HasCause (state self.old).write_faults (state self.new).write_faults result }
+        ensures read_faults { (state self.new).read_faults ≡ (state self.old).read_faults }
+        ensures line_faults { (state self.new).line_faults ≡ (state self.old).line_faults };
+
+    /// Appends the last text to standard output. That it failed shows in `line_faults` alone.
+    fn say_last(&mut self, text: &[u8])
+        ensures said { SaysLast (state self.old) (state self.new) text.now }
+        ensures tells { TellsAlike (state self.old) (state self.new) }
+
+        ensures later { (state self.old).line_faults ≤ (state self.new).line_faults }
+        ensures read_faults { (state self.new).read_faults ≡ (state self.old).read_faults }
+        ensures write_faults { (state self.new).write_faults ≡ (state self.old).write_faults };
+}
+
+// One more fault of a count, which stays at its last value.
+pub(crate) fn fault(count: &mut u64) -> DeskFault
+    ensures one { count.new ≡ one_more count.old }
+    ensures later { count.old ≤ count.new }
+{
+    *count = count.saturating_add(1);
+    DeskFault
+}

@@ -1,0 +1,161 @@
+// A desk over real files and standard output.
+ghost use Rattle.std.specs.Prelude.{◌≡◌, ◌⊎◌, ◌<◌, ◌≤◌, ◌+◌, ◌^◌, length, IfOk, IfSome, IfNone, IsNone};
+
+use crate::desk::fault;
+use crate::{Desk, DeskFault};
+use std::alloc::Global;
+use std::io::{ErrorKind, Read};
+use std::marker::Model;
+use std::rt::Files;
+use std::{fs, io};
+
+/// A file that was opened, and how many of its bytes were read.
+#[derive(Drop)]
+struct Handle<F> {
+    file: F,
+    place: u64,
+}
+
+/// A desk over real files and standard output. It tells nothing of what they hold.
+#[derive(Drop)]
+pub struct HostDesk<R: Files + Print + Drop> {
+    rt: R,
+    handles: Vec<Handle<R::File>>,
+    read_faults: u64,
+    write_faults: u64,
+    line_faults: u64,
+}
+
+impl<R: Files + Print + Drop> Model for HostDesk<R> {
+    ghost use Rattle.std.specs.Prelude.{None, map};
+    ghost use Rattle.ports.specs.Desk.{State};
+    ghost use Rattle.ports.specs.Stored.{state_code};
+
+    ghost Value = { State };
+
+    ghost coded = { state_code };
+
+    ghost view = { λ d. record {
+      held = None;
+      said = None;
+      opened = map (λ handle. handle.place) d.handles.items;
+      read_faults = d.read_faults;
+      write_faults = d.write_faults;
+      line_faults = d.line_faults;
+    } };
+}
+
+// Reads again where a signal came in between.
+fn read_again<F: Read>(file: &mut F, buffer: &mut [u8]) -> io::Result<usize>
+    ensures { IfOk result (λ n. n ≤ length buffer.new) }
+{
+    for _ in 0..u64::MAX {
+        match file.read(buffer) {
+            Err(error) if error.kind() == ErrorKind::Interrupted => {}
+            answer => return answer,
+        }
+    }
+    Err(io::Error::from(ErrorKind::Interrupted))
+}
+
+impl<F: Read> Handle<F> {
+    // Reads on from its place.
+    fn read(&mut self, buffer: &mut [u8]) -> Option<usize>
+        ensures count { IfSome result (λ n. n ≤ length buffer.new) }
+        ensures some { IfSome result (λ n. self.new.place ≡ self.old.place + n) }
+        ensures none { IfNone result (self.new.place ≡ self.old.place) }
+    {
+        let count = read_again(&mut self.file, buffer).ok()?;
+        self.place = self.place.checked_add(count as u64)?;
+        Some(count)
+    }
+}
+
+impl<R: Files + Print + Drop> HostDesk<R> {
+    ghost use Rattle.ports.specs.Desk.{Opens};
+    ghost use Rattle.ports.specs.Host.{untold_state};
+    ghost use Rattle.ports.specs.Memory.{SameCounts};
+
+    /// A desk with no file opened and no fault.
+    pub fn new(rt: R, alloc: Global) -> HostDesk<R>
+        ensures { result ≡ untold_state }
+    {
+        HostDesk {
+            rt,
+            handles: Vec::new(alloc),
+            read_faults: 0,
+            write_faults: 0,
+            line_faults: 0,
+        }
+    }
+
+    // A handle at the start of a file that can be opened.
+    fn add_handle(&mut self, name: &str) -> Option<u32>
+        ensures some { IfSome result (Opens self.old self.new name.now) }
+        ensures none { IfNone result (self.new ≡ self.old) }
+        ensures counts { SameCounts self.old self.new }
+        ensures full { 2 ^ 32 ≤ length self.old.opened → IsNone result }
+    {
+        let handle = u32::try_from(self.handles.len()).ok()?;
+        let file = fs::open(&self.rt, name).ok()?;
+        self.handles.push(Handle { file, place: 0 }).ok()?;
+        Some(handle)
+    }
+}
+
+impl<R: Files + Print + Drop> Desk for HostDesk<R> {
+    ghost use Rattle.std.specs.Prelude.{IsErr, OnOk, OnErr};
+    ghost use Rattle.ports.specs.Desk.{Opens, Reads, Says};
+    ghost use Rattle.ports.specs.Memory.{SameCounts, with_read_fault, with_write_fault, with_line_fault};
+
+    ghost state = { λ d. d };
+
+    fn open(&mut self, name: &str) -> Result<u32, DeskFault>
+        ensures ok { IfOk result (Opens self.old self.new name.now) }
+        ensures counts { OnOk result (SameCounts self.old self.new) }
+        ensures full { 2 ^ 32 ≤ length self.old.opened → IsErr result }
+        ensures fault { OnErr result (self.new ≡ with_read_fault self.old) }
+        ensures later { self.old.read_faults ≤ self.new.read_faults }
+    {
+        match self.add_handle(name) {
+            Some(handle) => Ok(handle),
+            None => Err(fault(&mut self.read_faults)),
+        }
+    }
+
+    fn read(&mut self, handle: u32, buffer: &mut [u8]) -> Result<usize, DeskFault>
+        requires opened { handle < length self.old.opened }
+        requires room { 0 < length buffer.old }
+        ensures count { IfOk result (λ n. n ≤ length buffer.new) }
+        ensures ok { IfOk result (λ n. Reads self.old self.new handle n buffer.new) }
+        ensures counts { OnOk result (SameCounts self.old self.new) }
+        ensures fault { OnErr result (self.new ≡ with_read_fault self.old) }
+        ensures later { self.old.read_faults ≤ self.new.read_faults }
+    {
+        match self.handles[handle as usize].read(buffer) {
+            Some(count) => Ok(count),
+            None => Err(fault(&mut self.read_faults)),
+        }
+    }
+
+    fn say(&mut self, text: &[u8]) -> Result<(), DeskFault>
+        ensures ok { OnOk result (Says self.old self.new text.now) }
+        ensures counts { OnOk result (SameCounts self.old self.new) }
+        ensures fault { OnErr result (self.new ≡ with_write_fault self.old) }
+        ensures later { self.old.write_faults ≤ self.new.write_faults }
+    {
+        match self.rt.write_all(text) {
+            Ok(()) => Ok(()),
+            Err(_) => Err(fault(&mut self.write_faults)),
+        }
+    }
+
+    fn say_last(&mut self, text: &[u8])
+        ensures said { (Says self.old self.new text.now × SameCounts self.old self.new) ⊎ (self.new ≡ with_line_fault self.old) }
+        ensures later { self.old.line_faults ≤ self.new.line_faults }
+    {
+        if self.rt.write_all(text).is_err() {
+            let _ = fault(&mut self.line_faults);
+        }
+    }
+}

@@ -1,0 +1,231 @@
+// A desk in memory.
+ghost use Rattle.std.specs.Prelude.{◌≡◌, ◌⊎◌, ◌<◌, ◌≤◌, ◌+◌, ◌-◌, ◌^◌, ◌++◌, ◌↔◌, [], length, take, drop, option_copied, OnOk, OnErr, string_bytes};
+ghost use Rattle.std.specs.FinMap.{get, insert};
+ghost use Rattle.ports.specs.Desk.{bytes_of};
+ghost use Rattle.ports.specs.Stored.{files_of};
+
+use crate::desk::fault;
+use crate::{Desk, DeskFault};
+use bit_slice::OutOfMemory;
+use std::alloc::Global;
+use std::collections::BTreeMap;
+use std::marker::Model;
+
+/// A file that was opened, and the place up to which it was read.
+#[derive(Drop)]
+struct Handle {
+    name: String,
+    place: u64,
+}
+
+/// A desk in memory. It tells all that it holds and all that was said.
+#[derive(Drop)]
+pub struct MemoryDesk {
+    alloc: Global,
+    files: BTreeMap<String, Vec<u8>>,
+    handles: Vec<Handle>,
+    said: Vec<u8>,
+    read_faults: u64,
+    write_faults: u64,
+    line_faults: u64,
+}
+
+impl Model for MemoryDesk {
+    ghost use Rattle.std.specs.Prelude.{Some, map, string_bytes};
+    ghost use Rattle.ports.specs.Desk.{State};
+    ghost use Rattle.ports.specs.Stored.{files_of, state_code};
+
+    ghost Value = { State };
+
+    ghost coded = { state_code };
+
+    ghost view = { λ m. record {
+      held = Some (record {
+        files = files_of m.files;
+        names = map (λ handle. string_bytes handle.name) m.handles.items;
+      });
+      said = Some m.said.items;
+      opened = map (λ handle. handle.place) m.handles.items;
+      read_faults = m.read_faults;
+      write_faults = m.write_faults;
+      line_faults = m.line_faults;
+    } };
+}
+
+// Copies what stands from a place on, as much as there is room for.
+fn copy_next(bytes: &[u8], place: u64, buffer: &mut [u8]) -> usize
+    requires { 0 < length buffer.old }
+    ensures count { result ≤ length buffer.new }
+    ensures small { place + result < 2 ^ 64 }
+    ensures next { drop place bytes.now ≡ take result buffer.new ++ drop (place + result) bytes.now }
+    ensures end { (result ≡ 0) ↔ (drop place bytes.now ≡ []) }
+{
+    if place >= bytes.len() as u64 {
+        return 0;
+    }
+    let rest = &bytes[place as usize..];
+    let count = rest.len().min(buffer.len());
+    buffer[..count].copy_from_slice(&rest[..count]);
+    count
+}
+
+// The bytes of the file of a name, where there is one.
+#[tactic(auto, using(crate::proofs::FileLemmas::files))]
+fn find<'a>(files: &'a BTreeMap<String, Vec<u8>>, name: &str) -> Option<&'a [u8]>
+    ensures { option_copied result ≡ get (files_of files.now) name.now }
+{
+    match files.get(name) {
+        Some(bytes) => Some(bytes),
+        None => None,
+    }
+}
+
+// Sets the file of a name.
+#[tactic(auto, using(crate::proofs::FileLemmas::files))]
+fn set(
+    files: &mut BTreeMap<String, Vec<u8>>,
+    name: String,
+    bytes: Vec<u8>,
+) -> Result<(), OutOfMemory>
+    ensures ok { OnOk result (files_of files.new ≡ insert (files_of files.old) (string_bytes name) bytes.items) }
+    ensures err { OnErr result (files_of files.new ≡ files_of files.old) }
+{
+    files.insert(name, bytes)?;
+    Ok(())
+}
+
+impl Handle {
+    // Reads on from its place, as much as there is room for.
+    fn read(&mut self, files: &BTreeMap<String, Vec<u8>>, buffer: &mut [u8]) -> usize
+        requires { 0 < length buffer.old }
+        ensures name { self.new.name ≡ self.old.name }
+        ensures place { self.new.place ≡ self.old.place + result }
+        ensures count { result ≤ length buffer.new }
+        ensures next { let file = bytes_of (files_of files.now) (string_bytes self.old.name) in
+            drop self.old.place file ≡ take result buffer.new ++ drop self.new.place file }
+        ensures end { let file = bytes_of (files_of files.now) (string_bytes self.old.name) in
+            (result ≡ 0) ↔ (drop self.old.place file ≡ []) }
+    {
+        let bytes = find(files, self.name.as_str()).unwrap_or(&[]);
+        let count = copy_next(bytes, self.place, buffer);
+        self.place += count as u64;
+        count
+    }
+}
+
+impl MemoryDesk {
+    ghost use Rattle.std.specs.Prelude.{Some, IsSome, IsNone, IfSome, IfNone};
+    ghost use Rattle.ports.specs.Desk.{Opens, file_of};
+    ghost use Rattle.ports.specs.Memory.{empty_state, with_file, SameCounts};
+
+    /// A desk with no file, on which nothing was done.
+    pub fn new(alloc: Global) -> MemoryDesk
+        ensures { result ≡ empty_state }
+    {
+        MemoryDesk {
+            alloc,
+            files: BTreeMap::new(alloc),
+            handles: Vec::new(alloc),
+            said: Vec::new(alloc),
+            read_faults: 0,
+            write_faults: 0,
+            line_faults: 0,
+        }
+    }
+
+    /// Sets a file, in the place of one of that name.
+    pub fn put_file(&mut self, name: &str, bytes: &[u8]) -> Result<(), OutOfMemory>
+        ensures ok { OnOk result (self.new ≡ with_file name.now bytes.now self.old) }
+        ensures err { OnErr result (self.new ≡ self.old) }
+    {
+        let name = String::from_str(self.alloc, name)?;
+        let bytes = Vec::from_slice(self.alloc, bytes)?;
+        set(&mut self.files, name, bytes)
+    }
+
+    /// The bytes of a file, or None where there is none of that name.
+    pub fn file(&self, name: &str) -> Option<&[u8]>
+        ensures file { option_copied result ≡ file_of self.now name.now }
+        ensures told { IsSome self.now.held }
+    {
+        find(&self.files, name)
+    }
+
+    /// What was said.
+    pub fn said(&self) -> &[u8]
+        ensures { self.now.said ≡ Some result.now }
+    {
+        &self.said
+    }
+
+    // A handle at the start of a file that is there.
+    fn add_handle(&mut self, name: &str) -> Option<u32>
+        ensures some { IfSome result (Opens self.old self.new name.now) }
+        ensures none { IfNone result (self.new ≡ self.old) }
+        ensures counts { SameCounts self.old self.new }
+        ensures absent { IsNone (file_of self.old name.now) → IsNone result }
+        ensures full { 2 ^ 32 - 1 ≤ length self.old.opened → IsNone result }
+    {
+        let at = self.handles.len();
+        if at >= u32::MAX as usize || find(&self.files, name).is_none() {
+            return None;
+        }
+        let name = String::from_str(self.alloc, name).ok()?;
+        self.handles.push(Handle { name, place: 0 }).ok()?;
+        Some(at as u32)
+    }
+}
+
+impl Desk for MemoryDesk {
+    ghost use Rattle.std.specs.Prelude.{IsNone, IsOk, IsErr, IfOk, OnOk, OnErr};
+    ghost use Rattle.ports.specs.Desk.{Opens, Reads, Says, file_of};
+    ghost use Rattle.ports.specs.Memory.{SameCounts, with_read_fault, with_write_fault, with_line_fault};
+
+    ghost state = { λ m. m };
+
+    fn open(&mut self, name: &str) -> Result<u32, DeskFault>
+        ensures ok { IfOk result (Opens self.old self.new name.now) }
+        ensures counts { OnOk result (SameCounts self.old self.new) }
+        ensures absent { IsNone (file_of self.old name.now) → IsErr result }
+        ensures full { 2 ^ 32 - 1 ≤ length self.old.opened → IsErr result }
+        ensures fault { OnErr result (self.new ≡ with_read_fault self.old) }
+        ensures later { self.old.read_faults ≤ self.new.read_faults }
+    {
+        match self.add_handle(name) {
+            Some(handle) => Ok(handle),
+            None => Err(fault(&mut self.read_faults)),
+        }
+    }
+
+    fn read(&mut self, handle: u32, buffer: &mut [u8]) -> Result<usize, DeskFault>
+        requires opened { handle < length self.old.opened }
+        requires room { 0 < length buffer.old }
+        ensures ok { IsOk result }
+        ensures count { IfOk result (λ n. n ≤ length buffer.new) }
+        ensures reads { IfOk result (λ n. Reads self.old self.new handle n buffer.new) }
+        ensures counts { SameCounts self.old self.new }
+    {
+        Ok(self.handles[handle as usize].read(&self.files, buffer))
+    }
+
+    fn say(&mut self, text: &[u8]) -> Result<(), DeskFault>
+        ensures ok { OnOk result (Says self.old self.new text.now) }
+        ensures counts { OnOk result (SameCounts self.old self.new) }
+        ensures fault { OnErr result (self.new ≡ with_write_fault self.old) }
+        ensures later { self.old.write_faults ≤ self.new.write_faults }
+    {
+        match self.said.extend_from_slice(text) {
+            Ok(()) => Ok(()),
+            Err(_) => Err(fault(&mut self.write_faults)),
+        }
+    }
+
+    fn say_last(&mut self, text: &[u8])
+        ensures said { (Says self.old self.new text.now × SameCounts self.old self.new) ⊎ (self.new ≡ with_line_fault self.old) }
+        ensures later { self.old.line_faults ≤ self.new.line_faults }
+    {
+        if self.said.extend_from_slice(text).is_err() {
+            let _ = fault(&mut self.line_faults);
+        }
+    }
+}
