@@ -1,7 +1,7 @@
 // The outside of a command.
 ghost use Rattle.std.specs.Prelude.{◌≡◌, ◌<◌, ◌≤◌, length, IfOk, OnOk, OnErr};
 ghost use Rattle.ports.specs.Desk.{State, HasCause, TellsAlike, Keeps, Opens, Reads, Says, SaysLast};
-ghost use Rattle.ports.specs.Memory.{one_more};
+ghost use Rattle.ports.specs.Faults.{one_more};
 
 use thiserror::Error;
 

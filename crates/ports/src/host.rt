@@ -29,7 +29,7 @@ pub struct HostDesk<R: Files + Print + Drop> {
 impl<R: Files + Print + Drop> Model for HostDesk<R> {
     ghost use Rattle.std.specs.Prelude.{None, map};
     ghost use Rattle.ports.specs.Desk.{State};
-    ghost use Rattle.ports.specs.Stored.{state_code};
+    ghost use Rattle.ports.specs.StateCode.{state_code};
 
     ghost Value = { State };
 
@@ -73,8 +73,8 @@ impl<F: Read> Handle<F> {
 
 impl<R: Files + Print + Drop> HostDesk<R> {
     ghost use Rattle.ports.specs.Desk.{Opens};
-    ghost use Rattle.ports.specs.Host.{untold_state};
-    ghost use Rattle.ports.specs.Memory.{SameCounts};
+    ghost use Rattle.ports.specs.Faults.{SameCounts};
+    ghost use Rattle.ports.specs.HostDesk.{untold_state};
 
     /// A desk with no file opened and no fault.
     pub fn new(rt: R, alloc: Global) -> HostDesk<R>
@@ -106,7 +106,7 @@ impl<R: Files + Print + Drop> HostDesk<R> {
 impl<R: Files + Print + Drop> Desk for HostDesk<R> {
     ghost use Rattle.std.specs.Prelude.{IsErr, OnOk, OnErr};
     ghost use Rattle.ports.specs.Desk.{Opens, Reads, Says};
-    ghost use Rattle.ports.specs.Memory.{SameCounts, with_read_fault, with_write_fault, with_line_fault};
+    ghost use Rattle.ports.specs.Faults.{SameCounts, with_read_fault, with_write_fault, with_line_fault};
 
     ghost state = { λ d. d };
 
@@ -155,7 +155,49 @@ impl<R: Files + Print + Drop> Desk for HostDesk<R> {
         ensures later { self.old.line_faults ≤ self.new.line_faults }
     {
         if self.rt.write_all(text).is_err() {
-            let _ = fault(&mut self.line_faults);
+            fault(&mut self.line_faults);
         }
+    }
+}
+
+#[cfg(test)]
+mod tests {
+    use super::*;
+    use std::test::Fail;
+
+    #[test]
+    fn reads_a_real_file_to_its_end(rt: HostRuntime) -> Result<(), Fail> {
+        fs::write(&rt, "host_desk_test", b"hello")?;
+        let mut desk = HostDesk::new(&rt, rt.alloc());
+        let handle = desk.open("host_desk_test")?;
+        let mut buffer = [0u8; 8];
+        let count = desk.read(handle, &mut buffer)?;
+        assert_eq!(rt; &buffer[..count], b"hello".as_slice());
+        let count = desk.read(handle, &mut buffer)?;
+        assert_eq!(rt; count, 0);
+        fs::remove_file(&rt, "host_desk_test")?;
+        Ok(())
+    }
+
+    #[test]
+    fn counts_what_cannot_be_opened_or_read(rt: HostRuntime) -> Result<(), Fail> {
+        let mut desk = HostDesk::new(&rt, rt.alloc());
+        assert_eq!(rt; desk.open("no_such_file"), Err(DeskFault));
+        let folder = desk.open(".")?;
+        assert_eq!(rt; desk.read(folder, &mut [0u8; 8]), Err(DeskFault));
+        assert_eq!(rt;
+            (desk.read_faults, desk.write_faults, desk.line_faults),
+            (2, 0, 0)
+        );
+        Ok(())
+    }
+
+    #[test]
+    fn says_to_standard_output(rt: HostRuntime) -> Result<(), Fail> {
+        let mut desk = HostDesk::new(&rt, rt.alloc());
+        desk.say(b"said\n")?;
+        desk.say_last(b"last\n");
+        assert_eq!(rt; (desk.write_faults, desk.line_faults), (0, 0));
+        Ok(())
     }
 }
