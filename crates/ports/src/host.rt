@@ -17,6 +17,9 @@ struct Handle<F> {
 }
 
 /// A desk over real files and standard output. It tells nothing of what they hold.
+///
+/// That reads and writes of the runtime do what they say is trusted. A text is said by one write,
+/// with no buffer, so that a full device or a closed pipe is a fault of that very call.
 #[derive(Drop)]
 pub struct HostDesk<R: Files + Print + Drop> {
     rt: R,
@@ -45,7 +48,7 @@ impl<R: Files + Print + Drop> Model for HostDesk<R> {
     } };
 }
 
-// Reads again where a signal came in between.
+// Reads once more where a signal cut the call short, which std leaves to the caller.
 fn read_again<F: Read>(file: &mut F, buffer: &mut [u8]) -> io::Result<usize>
     ensures { IfOk result (λ n. n ≤ length buffer.new) }
 {
@@ -89,7 +92,7 @@ impl<R: Files + Print + Drop> HostDesk<R> {
         }
     }
 
-    // A handle at the start of a file that can be opened.
+    // Opens a file as the next handle, where it can.
     fn add_handle(&mut self, name: &str) -> Option<u32>
         ensures some { IfSome result (Opens self.old self.new name.now) }
         ensures none { IfNone result (self.new ≡ self.old) }

@@ -160,7 +160,7 @@ impl MemoryDesk {
         &self.said
     }
 
-    // A handle at the start of a file that is there.
+    // Opens a file as the next handle, where it can.
     fn add_handle(&mut self, name: &str) -> Option<u32>
         ensures some { IfSome result (Opens self.old self.new name.now) }
         ensures none { IfNone result (self.new ≡ self.old) }
@@ -185,6 +185,7 @@ impl Desk for MemoryDesk {
 
     ghost state = { λ m. m };
 
+    /// Beside want of memory, an absent name and the handle after 2^32 - 1 others are faults.
     fn open(&mut self, name: &str) -> Result<u32, DeskFault>
         ensures ok { IfOk result (Opens self.old self.new name.now) }
         ensures counts { OnOk result (SameCounts self.old self.new) }
@@ -199,6 +200,7 @@ impl Desk for MemoryDesk {
         }
     }
 
+    /// Never a fault.
     fn read(&mut self, handle: u32, buffer: &mut [u8]) -> Result<usize, DeskFault>
         requires opened { handle < length self.old.opened }
         requires room { 0 < length buffer.old }
@@ -210,6 +212,7 @@ impl Desk for MemoryDesk {
         Ok(self.handles[handle as usize].read(&self.files, buffer))
     }
 
+    /// Want of memory is a fault.
     fn say(&mut self, text: &[u8]) -> Result<(), DeskFault>
         ensures ok { OnOk result (Says self.old self.new text.now) }
         ensures counts { OnOk result (SameCounts self.old self.new) }
@@ -222,6 +225,7 @@ impl Desk for MemoryDesk {
         }
     }
 
+    /// Want of memory is a fault.
     fn say_last(&mut self, text: &[u8])
         ensures said { (Says self.old self.new text.now × SameCounts self.old self.new) ⊎ (self.new ≡ with_line_fault self.old) }
         ensures later { self.old.line_faults ≤ self.new.line_faults }
