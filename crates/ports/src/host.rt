@@ -164,43 +164,4 @@ impl<R: Files + Print + Drop> Desk for HostDesk<R> {
 }
 
 #[cfg(test)]
-mod tests {
-    use super::*;
-    use std::test::Fail;
-
-    #[test]
-    fn reads_a_real_file_to_its_end(rt: HostRuntime) -> Result<(), Fail> {
-        fs::write(&rt, "host_desk_test", b"hello")?;
-        let mut desk = HostDesk::new(&rt, rt.alloc());
-        let handle = desk.open("host_desk_test")?;
-        let mut buffer = [0u8; 8];
-        let count = desk.read(handle, &mut buffer)?;
-        assert_eq!(rt; &buffer[..count], b"hello".as_slice());
-        let count = desk.read(handle, &mut buffer)?;
-        assert_eq!(rt; count, 0);
-        fs::remove_file(&rt, "host_desk_test")?;
-        Ok(())
-    }
-
-    #[test]
-    fn counts_what_cannot_be_opened_or_read(rt: HostRuntime) -> Result<(), Fail> {
-        let mut desk = HostDesk::new(&rt, rt.alloc());
-        assert_eq!(rt; desk.open("no_such_file"), Err(DeskFault));
-        let folder = desk.open(".")?;
-        assert_eq!(rt; desk.read(folder, &mut [0u8; 8]), Err(DeskFault));
-        assert_eq!(rt;
-            (desk.read_faults, desk.write_faults, desk.line_faults),
-            (2, 0, 0)
-        );
-        Ok(())
-    }
-
-    #[test]
-    fn says_to_standard_output(rt: HostRuntime) -> Result<(), Fail> {
-        let mut desk = HostDesk::new(&rt, rt.alloc());
-        desk.say(b"said\n")?;
-        desk.say_last(b"last\n");
-        assert_eq!(rt; (desk.write_faults, desk.line_faults), (0, 0));
-        Ok(())
-    }
-}
+mod tests;
