@@ -19,10 +19,12 @@ Stored = BTreeMap (String Global) (Vec ℕ Global)
 abbrev items : Vec ℕ Global → List ℕ
 items v = v.items
 
+-- a map of a choice is a choice of maps
 option_map-cond : {A B : Type 0} (f : A → B) (b : Bool) (x y : Option A) → option_map f (cond b x y) ≡ cond b (option_map f x) (option_map f y)
 option_map-cond f true x y = refl
 option_map-cond f false x y = refl
 
+-- what is found among the names is the value at that text
 find-entries : (name : List ℕ) (es : List (String Global × Vec ℕ Global)) →
     find (slice_cmp nat_cmp) name (map entry_of es) ≡ option_map items (lookup (is_at (λ k. slice_cmp nat_cmp name (string_bytes k))) es)
 find-entries name [] = refl

@@ -26,12 +26,18 @@ copied bytes piece kept place n inside is =
     let whole : take n (piece ++ kept) ≡ piece = ap (λ (k : ℕ). take k (piece ++ kept)) (sym size) ∙ take-append_seam piece kept in
     sym (take-append-drop n (drop place bytes)) ∙ rw (whole, drop-drop n place bytes) (ap (λ (x : List ℕ). x ++ drop (place + n) bytes) (sym front))
 
+abbrev name_of : Handle → List ℕ
+name_of handle = string_bytes handle.name
+
+abbrev place_of : Handle → ℕ
+place_of handle = handle.place
+
 -- a desk with these files and handles
 abbrev desk : Files → List Handle → List ℕ → ℕ → ℕ → ℕ → State
 desk files handles said read_faults write_faults line_faults = record {
-  held = Some (record { files = files; names = map (λ h. string_bytes h.name) handles });
+  held = Some (record { files = files; names = map name_of handles });
   said = Some said;
-  opened = map (λ h. h.place) handles;
+  opened = map place_of handles;
   read_faults = read_faults;
   write_faults = write_faults;
   line_faults = line_faults;
@@ -40,24 +46,24 @@ desk files handles said read_faults write_faults line_faults = record {
 -- a desk after the handle x at a place was read on to y
 pub reads_on : (files : Files) (xs : List Handle) (said : List ℕ) (r w l at n : ℕ) (x y : Handle) (buffer : List ℕ) →
     at < length xs → x ≡ get_or xs at x → y.name ≡ x.name → y.place ≡ x.place + n →
-    drop x.place (bytes_of files (string_bytes x.name)) ≡ take n buffer ++ drop y.place (bytes_of files (string_bytes x.name)) →
-    ((n ≡ 0) ↔ (drop x.place (bytes_of files (string_bytes x.name)) ≡ [])) →
+    drop x.place (bytes_of files (name_of x)) ≡ take n buffer ++ drop y.place (bytes_of files (name_of x)) →
+    ((n ≡ 0) ↔ (drop x.place (bytes_of files (name_of x)) ≡ [])) →
     Reads (desk files xs said r w l) (desk files (set xs at y) said r w l) at n buffer
 reads_on files xs said r w l at n x y buffer came is name moved next end =
-    let names : map (λ h. string_bytes h.name) (set xs at y) ≡ map (λ h. string_bytes h.name) xs = map-set_stayed (λ h. string_bytes h.name) xs at x y is (ap string_bytes name) in
-    let places : map (λ h. h.place) (set xs at y) ≡ set (map (λ h. h.place) xs) at (get_or (map (λ h. h.place) xs) at 0 + n) = map-set_moved (λ h. h.place) xs at n x y came is moved in
-    let place : get_or (map (λ h. h.place) xs) at 0 ≡ x.place = get_or-map (λ h. h.place) xs at x 0 came ∙ ap (λ (h : Handle). h.place) (sym is) in
-    let called : get_or (map (λ h. string_bytes h.name) xs) at [] ≡ string_bytes x.name = get_or-map (λ h. string_bytes h.name) xs at x [] came ∙ ap (λ (h : Handle). string_bytes h.name) (sym is) in
-    let after : get_or (map (λ h. h.place) (set xs at y)) at 0 ≡ y.place =
-    ap (λ (ps : List ℕ). get_or ps at 0) (map-set (λ h. h.place) xs at y) ∙ get_or-set_same (map (λ h. h.place) xs) at y.place 0 (rw length-map came) in
+    let names : map name_of (set xs at y) ≡ map name_of xs = map-set_stayed name_of xs at x y is (ap string_bytes name) in
+    let places : map place_of (set xs at y) ≡ set (map place_of xs) at y.place = map-set place_of xs at y in
+    let called : get_or (map name_of xs) at [] ≡ name_of x = get_or-map name_of xs at x [] came ∙ ap name_of (sym is) in
+    let before : get_or (map place_of xs) at 0 ≡ x.place = get_or-map place_of xs at x 0 came ∙ ap place_of (sym is) in
+    let after : get_or (map place_of (set xs at y)) at 0 ≡ y.place =
+    ap (λ (ps : List ℕ). get_or ps at 0) places ∙ get_or-set_same (map place_of xs) at y.place 0 (rw length-map came) in
     record {
       held = ap (λ (ns : List (List ℕ)). Some (record { files = files; names = ns })) names;
       said = refl;
-      opened = places;
-      next = rw (names, called, place, after) (ap Some next);
-      end = rw (called, place) end;
+      opened = map-set_moved place_of xs at n x y came is moved;
+      next = rw (names, called, before, after) (ap Some next);
+      end = rw (called, before) end;
       others = λ other apart.
-          let same : get_or (map (λ h. h.place) (set xs at y)) other 0 ≡ get_or (map (λ h. h.place) xs) other 0 =
-          ap (λ (ps : List ℕ). get_or ps other 0) (map-set (λ h. h.place) xs at y) ∙ get_or-set_other (map (λ h. h.place) xs) at other y.place 0 apart in
+          let same : get_or (map place_of (set xs at y)) other 0 ≡ get_or (map place_of xs) other 0 =
+          ap (λ (ps : List ℕ). get_or ps other 0) places ∙ get_or-set_other (map place_of xs) at other y.place 0 apart in
           rw (names, same) refl;
     }

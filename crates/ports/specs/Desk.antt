@@ -14,8 +14,8 @@ pub record Held : Type 0 where
   pub files : Files
   pub names : List (List ℕ)
 
--- what a desk holds and what was said, where it tells; the place of each handle in order of opening; and how often reading, writing
--- and saying the last line failed
+-- What a desk means: what it holds and what was said, where it tells; the place of each handle in order of opening; and how often
+-- opening and reading failed, how often saying did, and how often the last line did.
 pub record State : Type 0 where
   pub held : Option Held
   pub said : Option (List ℕ)
@@ -72,18 +72,18 @@ pub record Opens (old new : State) (name : List ℕ) (handle : ℕ) : Type 0 whe
   pub names : IfSome new.held (λ h. length h.names ≡ length new.opened)
   pub said : new.said ≡ old.said
   pub opened : new.opened ≡ old.opened ++ 0 ∷ []
-  -- so the whole file is left behind this handle, and behind each other what was
+  -- so this handle has the whole file left, and every other one what it had
   pub left : left_of new handle ≡ file_of old name
   pub others : (other : ℕ) → other < length old.opened → left_of new other ≡ left_of old other
 
--- The first n bytes of the buffer are the next bytes of a handle's file, and there are none only at its end.
+-- The first n bytes of the buffer are the next ones of a handle's file, and n is 0 exactly at its end.
 pub record Reads (old new : State) (handle n : ℕ) (buffer : List ℕ) : Type 0 where
   pub held : new.held ≡ old.held
   pub said : new.said ≡ old.said
   pub opened : new.opened ≡ slice_set old.opened handle (slice_index old.opened handle + n)
   pub next : left_of old handle ≡ option_map (λ left. take n buffer ++ left) (left_of new handle)
   pub end : IfSome (left_of old handle) (λ left. (n ≡ 0) ↔ (left ≡ []))
-  -- so behind each other handle what was left is left
+  -- so every other handle has left what it had
   pub others : (other : ℕ) → other ≢ handle → left_of new other ≡ left_of old other
 
 -- The text was said.

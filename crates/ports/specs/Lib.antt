@@ -1,4 +1,6 @@
 pub mod Desk
-pub mod Host
-pub mod Memory
+pub mod Faults
+pub mod HostDesk
+pub mod MemoryDesk
+pub mod StateCode
 pub mod Stored

@@ -1,21 +1,24 @@
 // The outside of a command.
 ghost use Rattle.std.specs.Prelude.{◌≡◌, ◌<◌, ◌≤◌, length, IfOk, OnOk, OnErr};
 ghost use Rattle.ports.specs.Desk.{State, HasCause, TellsAlike, Keeps, Opens, Reads, Says, SaysLast};
-ghost use Rattle.ports.specs.Memory.{one_more};
+ghost use Rattle.ports.specs.Faults.{one_more};
 
 use thiserror::Error;
 
-/// A call of a desk failed.
+/// A call of a desk failed. The desk counts each one.
 #[derive(Clone, Copy, Debug, PartialEq, Eq, Error)]
-#[error("the outside failed: a file could not be opened, read or written, or standard output took no text")]
+#[error("a file or standard output failed")]
 pub struct DeskFault;
 
 /// The outside of a command: named files, and standard output.
+///
+/// After a fault all is as before but the count of its kind: `read_faults` for opening and reading,
+/// `write_faults` for saying, and `line_faults` for the last line.
 pub trait Desk {
-    /// What the desk holds and what was said, where it tells, the place of each handle, and how often it failed.
+    /// What the desk holds and what was said, where it tells; the place of each handle; its counts.
     ghost state: { Self → State };
 
-    /// Opens a file: a handle at its start. An absent name is a fault.
+    /// Opens a file and gives a handle at its first byte. An absent name is a fault.
     fn open(&mut self, name: &str) -> Result<u32, DeskFault>
         ensures ok { IfOk result (Opens (state self.old) (state self.new) name.now) }
         ensures err { OnErr result (Keeps (state self.old) (state self.new)) }
@@ -25,7 +28,8 @@ pub trait Desk {
         ensures write_faults { (state self.new).write_faults ≡ (state self.old).write_faults }
         ensures line_faults { (state self.new).line_faults ≡ (state self.old).line_faults };
 
-    /// Reads the next bytes of a file into the front of the buffer: how many, and 0 only at the end.
+    /// Reads the next bytes of a file into the front of the buffer. Answers how many, at most as
+    /// many as the buffer has room for, and 0 exactly at the end of the file.
     fn read(&mut self, handle: u32, buffer: &mut [u8]) -> Result<usize, DeskFault>
         requires opened { handle < length (state self.old).opened }
         requires room { 0 < length buffer.old }
@@ -48,7 +52,7 @@ pub trait Desk {
         ensures read_faults { (state self.new).read_faults ≡ (state self.old).read_faults }
         ensures line_faults { (state self.new).line_faults ≡ (state self.old).line_faults };
 
-    /// Appends the last text to standard output. That it failed shows in `line_faults` alone.
+    /// Appends the last text of a run to standard output. A failure shows in `line_faults` alone.
     fn say_last(&mut self, text: &[u8])
         ensures said { SaysLast (state self.old) (state self.new) text.now }
         ensures tells { TellsAlike (state self.old) (state self.new) }

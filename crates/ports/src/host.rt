@@ -17,6 +17,9 @@ struct Handle<F> {
 }
 
 /// A desk over real files and standard output. It tells nothing of what they hold.
+///
+/// That reads and writes of the runtime do what they say is trusted. A text is said by one write,
+/// with no buffer, so that a full device or a closed pipe is a fault of that very call.
 #[derive(Drop)]
 pub struct HostDesk<R: Files + Print + Drop> {
     rt: R,
@@ -29,7 +32,7 @@ pub struct HostDesk<R: Files + Print + Drop> {
 impl<R: Files + Print + Drop> Model for HostDesk<R> {
     ghost use Rattle.std.specs.Prelude.{None, map};
     ghost use Rattle.ports.specs.Desk.{State};
-    ghost use Rattle.ports.specs.Stored.{state_code};
+    ghost use Rattle.ports.specs.StateCode.{state_code};
 
     ghost Value = { State };
 
@@ -45,7 +48,7 @@ impl<R: Files + Print + Drop> Model for HostDesk<R> {
     } };
 }
 
-// Reads again where a signal came in between.
+// Reads once more where a signal cut the call short, which std leaves to the caller.
 fn read_again<F: Read>(file: &mut F, buffer: &mut [u8]) -> io::Result<usize>
     ensures { IfOk result (λ n. n ≤ length buffer.new) }
 {
@@ -73,8 +76,8 @@ impl<F: Read> Handle<F> {
 
 impl<R: Files + Print + Drop> HostDesk<R> {
     ghost use Rattle.ports.specs.Desk.{Opens};
-    ghost use Rattle.ports.specs.Host.{untold_state};
-    ghost use Rattle.ports.specs.Memory.{SameCounts};
+    ghost use Rattle.ports.specs.Faults.{SameCounts};
+    ghost use Rattle.ports.specs.HostDesk.{untold_state};
 
     /// A desk with no file opened and no fault.
     pub fn new(rt: R, alloc: Global) -> HostDesk<R>
@@ -89,7 +92,7 @@ impl<R: Files + Print + Drop> HostDesk<R> {
         }
     }
 
-    // A handle at the start of a file that can be opened.
+    // Opens a file as the next handle, where it can.
     fn add_handle(&mut self, name: &str) -> Option<u32>
         ensures some { IfSome result (Opens self.old self.new name.now) }
         ensures none { IfNone result (self.new ≡ self.old) }
@@ -106,7 +109,7 @@ impl<R: Files + Print + Drop> HostDesk<R> {
 impl<R: Files + Print + Drop> Desk for HostDesk<R> {
     ghost use Rattle.std.specs.Prelude.{IsErr, OnOk, OnErr};
     ghost use Rattle.ports.specs.Desk.{Opens, Reads, Says};
-    ghost use Rattle.ports.specs.Memory.{SameCounts, with_read_fault, with_write_fault, with_line_fault};
+    ghost use Rattle.ports.specs.Faults.{SameCounts, with_read_fault, with_write_fault, with_line_fault};
 
     ghost state = { λ d. d };
 
@@ -155,7 +158,10 @@ impl<R: Files + Print + Drop> Desk for HostDesk<R> {
         ensures later { self.old.line_faults ≤ self.new.line_faults }
     {
         if self.rt.write_all(text).is_err() {
-            let _ = fault(&mut self.line_faults);
+            fault(&mut self.line_faults);
         }
     }
 }
+
+#[cfg(test)]
+mod tests;

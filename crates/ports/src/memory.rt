@@ -33,7 +33,8 @@ pub struct MemoryDesk {
 impl Model for MemoryDesk {
     ghost use Rattle.std.specs.Prelude.{Some, map, string_bytes};
     ghost use Rattle.ports.specs.Desk.{State};
-    ghost use Rattle.ports.specs.Stored.{files_of, state_code};
+    ghost use Rattle.ports.specs.StateCode.{state_code};
+    ghost use Rattle.ports.specs.Stored.{files_of};
 
     ghost Value = { State };
 
@@ -116,7 +117,8 @@ impl Handle {
 impl MemoryDesk {
     ghost use Rattle.std.specs.Prelude.{Some, IsSome, IsNone, IfSome, IfNone};
     ghost use Rattle.ports.specs.Desk.{Opens, file_of};
-    ghost use Rattle.ports.specs.Memory.{empty_state, with_file, SameCounts};
+    ghost use Rattle.ports.specs.Faults.{SameCounts};
+    ghost use Rattle.ports.specs.MemoryDesk.{empty_state, with_file};
 
     /// A desk with no file, on which nothing was done.
     pub fn new(alloc: Global) -> MemoryDesk
@@ -158,7 +160,7 @@ impl MemoryDesk {
         &self.said
     }
 
-    // A handle at the start of a file that is there.
+    // Opens a file as the next handle, where it can.
     fn add_handle(&mut self, name: &str) -> Option<u32>
         ensures some { IfSome result (Opens self.old self.new name.now) }
         ensures none { IfNone result (self.new ≡ self.old) }
@@ -179,10 +181,11 @@ impl MemoryDesk {
 impl Desk for MemoryDesk {
     ghost use Rattle.std.specs.Prelude.{IsNone, IsOk, IsErr, IfOk, OnOk, OnErr};
     ghost use Rattle.ports.specs.Desk.{Opens, Reads, Says, file_of};
-    ghost use Rattle.ports.specs.Memory.{SameCounts, with_read_fault, with_write_fault, with_line_fault};
+    ghost use Rattle.ports.specs.Faults.{SameCounts, with_read_fault, with_write_fault, with_line_fault};
 
     ghost state = { λ m. m };
 
+    /// Beside want of memory, an absent name and the handle after 2^32 - 1 others are faults.
     fn open(&mut self, name: &str) -> Result<u32, DeskFault>
         ensures ok { IfOk result (Opens self.old self.new name.now) }
         ensures counts { OnOk result (SameCounts self.old self.new) }
@@ -197,6 +200,7 @@ impl Desk for MemoryDesk {
         }
     }
 
+    /// Never a fault.
     fn read(&mut self, handle: u32, buffer: &mut [u8]) -> Result<usize, DeskFault>
         requires opened { handle < length self.old.opened }
         requires room { 0 < length buffer.old }
@@ -208,6 +212,7 @@ impl Desk for MemoryDesk {
         Ok(self.handles[handle as usize].read(&self.files, buffer))
     }
 
+    /// Want of memory is a fault.
     fn say(&mut self, text: &[u8]) -> Result<(), DeskFault>
         ensures ok { OnOk result (Says self.old self.new text.now) }
         ensures counts { OnOk result (SameCounts self.old self.new) }
@@ -220,12 +225,85 @@ impl Desk for MemoryDesk {
         }
     }
 
+    /// Want of memory is a fault.
     fn say_last(&mut self, text: &[u8])
         ensures said { (Says self.old self.new text.now × SameCounts self.old self.new) ⊎ (self.new ≡ with_line_fault self.old) }
         ensures later { self.old.line_faults ≤ self.new.line_faults }
     {
         if self.said.extend_from_slice(text).is_err() {
-            let _ = fault(&mut self.line_faults);
+            fault(&mut self.line_faults);
         }
+    }
+}
+
+#[cfg(test)]
+mod tests {
+    use super::*;
+    use std::test::Fail;
+
+    #[test]
+    fn reads_a_file_in_pieces_to_its_end(rt: HostRuntime) -> Result<(), Fail> {
+        let mut desk = MemoryDesk::new(rt.alloc());
+        desk.put_file("note", b"hello")?;
+        let handle = desk.open("note")?;
+        let mut buffer = [0u8; 3];
+        let count = desk.read(handle, &mut buffer)?;
+        assert_eq!(rt; &buffer[..count], b"hel".as_slice());
+        let count = desk.read(handle, &mut buffer)?;
+        assert_eq!(rt; &buffer[..count], b"lo".as_slice());
+        let count = desk.read(handle, &mut buffer)?;
+        assert_eq!(rt; count, 0);
+        Ok(())
+    }
+
+    #[test]
+    fn reads_two_handles_apart(rt: HostRuntime) -> Result<(), Fail> {
+        let mut desk = MemoryDesk::new(rt.alloc());
+        desk.put_file("a", b"first")?;
+        desk.put_file("b", b"second")?;
+        let first = desk.open("a")?;
+        let second = desk.open("b")?;
+        let mut buffer = [0u8; 4];
+        let count = desk.read(second, &mut buffer)?;
+        assert_eq!(rt; &buffer[..count], b"seco".as_slice());
+        let count = desk.read(first, &mut buffer)?;
+        assert_eq!(rt; &buffer[..count], b"firs".as_slice());
+        Ok(())
+    }
+
+    #[test]
+    fn counts_an_absent_name_as_a_read_fault(rt: HostRuntime) -> Result<(), Fail> {
+        let mut desk = MemoryDesk::new(rt.alloc());
+        desk.put_file("note", b"hello")?;
+        assert_eq!(rt; desk.open("other"), Err(DeskFault));
+        assert_eq!(rt;
+            (desk.read_faults, desk.write_faults, desk.line_faults),
+            (1, 0, 0)
+        );
+        assert_eq!(rt; desk.open("note"), Ok(0));
+        Ok(())
+    }
+
+    #[test]
+    fn gives_the_file_of_a_name(rt: HostRuntime) -> Result<(), Fail> {
+        let mut desk = MemoryDesk::new(rt.alloc());
+        desk.put_file("a", b"old")?;
+        desk.put_file("b", b"other")?;
+        desk.put_file("a", b"new")?;
+        assert_eq!(rt; desk.file("a").ok_or("a is absent")?, b"new".as_slice());
+        assert_eq!(rt; desk.file("b").ok_or("b is absent")?, b"other".as_slice());
+        assert!(rt; desk.file("c").is_none());
+        Ok(())
+    }
+
+    #[test]
+    fn gives_what_was_said(rt: HostRuntime) -> Result<(), Fail> {
+        let mut desk = MemoryDesk::new(rt.alloc());
+        desk.say(b"one\n")?;
+        desk.say(b"two\n")?;
+        desk.say_last(b"last\n");
+        assert_eq!(rt; desk.said(), b"one\ntwo\nlast\n".as_slice());
+        assert_eq!(rt; (desk.write_faults, desk.line_faults), (0, 0));
+        Ok(())
     }
 }

@@ -4,13 +4,13 @@ use Rattle.std.proofs.Common.{◌≡◌, ℕ, ◌+◌, ◌-◌, ◌<◌, ◌≤�
 use Rattle.std.specs.Prelude.{IfSome, IsSome, option_map, option_and_then, unwrap_or}
 use Rattle.std.specs.FinMap.{get}
 use Rattle.std.proofs.lemmas.Bool.{cases_lt}
-use Rattle.ports.specs.Desk.{State, Held, Keeps, Says, Rose, Opens, left_of}
+use Rattle.ports.specs.Desk.{State, Held, Keeps, Says, Rose, Opens, left_of, bytes_of}
 use Rattle.t2mi_packet.specs.declared.packet.Packet.{Packet}
 use Rattle.site_top.specs.declared.outcome.Outcome.{Outcome}
 use Rattle.site_top.specs.declared.outcome.Outcome.TheVariants.{Done, Usage, TooLong, PacketRefused, ReadFault, WriteFault, OutOfMemory}
 use Rattle.site_top.specs.PacketFile.{Packs, bytes_in}
 use Rattle.site_top.specs.SaidLines.{lines_of, count_line}
-use Rattle.site_top.specs.ShowPackets.{Said, SaidFirst, Opened, ReadsFile, Counts, Shows, bytes_of_file}
+use Rattle.site_top.specs.ShowPackets.{Said, SaidFirst, Opened, ReadsFile, Counts, Shows}
 use Rattle.site_top.specs.Progress.{Shown, Only, StopsIn, StopsAt, EndsAt, GivesAll, Stops, Finishes, SaysRest, ShowsOpened}
 use Rattle.site_top.proofs.PacketFileLemmas.{packs_first, lines_of-append, file_len}
 use Rattle.site_top.proofs.ProgressLemmas.{if_some, said_only, said_more}
@@ -137,10 +137,10 @@ was_some (Some x) d h = refl
 
 -- what is left behind a handle that was just opened is the file
 told : (held : Option Held) (name : List ℕ) (left : Option (List ℕ)) (P : List ℕ → Type 0) → left ≡ option_and_then (λ h. get h.files name) held → IfSome held (λ h. IsSome (get h.files name)) → IfSome left P →
-    IfSome held (λ h. P (bytes_of_file h name))
+    IfSome held (λ h. P (bytes_of h.files name))
 told None name left P e present h = tt
 told (Some k) name left P e present h =
-    let there : left ≡ Some (bytes_of_file k name) = e ∙ was_some (get k.files name) [] present in
+    let there : left ≡ Some (bytes_of k.files name) = e ∙ was_some (get k.files name) [] present in
     rw there at h
 
 -- the handle that was just opened moved alone
@@ -153,7 +153,7 @@ moved old mid new name handle given o m = record {
 
 -- what a run over an opened file read, by outcome
 reads_by : (old mid new : State) (name : List ℕ) (handle given : ℕ) (outcome : Outcome) → Opens old mid name handle → Only mid new handle given → EndsAt mid new given outcome →
-    IfSome old.held (λ h. GivesAll (bytes_of_file h name) given outcome) → ReadsFile old new name outcome
+    IfSome old.held (λ h. GivesAll (bytes_of h.files name) given outcome) → ReadsFile old new name outcome
 reads_by old mid new name handle given Done o m c all = (given, moved old mid new name handle given o m, c, all)
 reads_by old mid new name handle given (PacketRefused at why) o m c all = (given, moved old mid new name handle given o m, c)
 reads_by old mid new name handle given WriteFault o m c all = (given, moved old mid new name handle given o m, c.1)
@@ -195,8 +195,8 @@ pub shows : (old mid new : State) (name : List ℕ) (handle : ℕ) (outcome : Ou
 shows old mid new name handle outcome o rf wf lf s =
     let both = told old.held name (left_of mid handle) (λ file. Said file mid new outcome × GivesAll file s.given outcome) o.left o.present s.said in
     record {
-      reads = reads_by old mid new name handle s.given outcome o s.only s.cause (both_second old.held (λ h. Said (bytes_of_file h name) mid new outcome) (λ h. GivesAll (bytes_of_file h name) s.given outcome) both);
-      said = if_some old.held _ _ (λ h x. said_since (bytes_of_file h name) old mid new outcome o.said x)
-          (both_first old.held (λ h. Said (bytes_of_file h name) mid new outcome) (λ h. GivesAll (bytes_of_file h name) s.given outcome) both);
+      reads = reads_by old mid new name handle s.given outcome o s.only s.cause (both_second old.held (λ h. Said (bytes_of h.files name) mid new outcome) (λ h. GivesAll (bytes_of h.files name) s.given outcome) both);
+      said = if_some old.held _ _ (λ h x. said_since (bytes_of h.files name) old mid new outcome o.said x)
+          (both_first old.held (λ h. Said (bytes_of h.files name) mid new outcome) (λ h. GivesAll (bytes_of h.files name) s.given outcome) both);
       counts = counts_by old mid new handle s.given outcome rf wf lf s.only s.cause;
     }

@@ -10,8 +10,8 @@ use Rattle.t2mi_packet.specs.Laws.{OnePacket, NoRefusal, OneRefusal}
 use Rattle.site_top.specs.declared.outcome.Outcome.{Outcome}
 use Rattle.site_top.specs.declared.outcome.Outcome.TheVariants.{Done, Usage, TooLong, PacketRefused, ReadFault, WriteFault, OutOfMemory}
 use Rattle.site_top.specs.PacketFile.{Packs, bytes_in, IsRefused}
-use Rattle.ports.specs.Desk.{State, Rose}
-use Rattle.site_top.specs.ShowPackets.{MustEnd, Said, Counts, ReadsFile, Shows, IsComplete, bytes_of_file}
+use Rattle.ports.specs.Desk.{State, Rose, bytes_of}
+use Rattle.site_top.specs.ShowPackets.{MustEnd, Said, Counts, ReadsFile, Shows, IsComplete}
 use Rattle.site_top.proofs.ProgressLemmas.{if_some}
 use Rattle.site_top.specs.Laws.{OneEnding}
 
@@ -87,7 +87,7 @@ not_usage : (old new : State) (name : List ℕ) (result : Outcome) → ReadsFile
 not_usage old new name result r e = subst (ReadsFile old new name) e r
 
 is_complete : OneEnding → (old new : State) (name : List ℕ) (result : Outcome) → Shows old new name result → IsComplete old new name result
-is_complete law old new name result s = if_some old.held _ _ (λ held x. ends_so law (bytes_of_file held name) old new result (not_usage old new name result s.reads) x s.counts) s.said
+is_complete law old new name result s = if_some old.held _ _ (λ held x. ends_so law (bytes_of held.files name) old new result (not_usage old new name result s.reads) x s.counts) s.said
 
 -- the last line does not change it
 complete_on : (old mid new : State) (name : List ℕ) (result : Outcome) → new.read_faults ≡ mid.read_faults → new.write_faults ≡ mid.write_faults → IsComplete old mid name result → IsComplete old new name result

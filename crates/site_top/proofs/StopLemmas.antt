@@ -8,10 +8,10 @@ use Rattle.t2mi_packet.specs.T2miPacket.{Refuses}
 use Rattle.site_top.specs.declared.outcome.Outcome.{Outcome}
 use Rattle.site_top.specs.declared.outcome.Outcome.TheVariants.{Done, Usage, TooLong, PacketRefused, ReadFault, WriteFault, OutOfMemory}
 use Rattle.site_top.specs.PacketFile.{IsRefused}
-use Rattle.site_top.specs.Reading.{ReadsOn}
+use Rattle.site_top.specs.Reading.{ReadsOn, IsAtEnd}
 use Rattle.site_top.specs.Progress.{Shown, Comes, StopsReading, TakesNone, Stops}
 use Rattle.site_top.proofs.PacketFileLemmas.{file_len}
-use Rattle.site_top.proofs.ProgressLemmas.{if_some, filled, shown_lost, said_only}
+use Rattle.site_top.proofs.ProgressLemmas.{if_some, filled, taken, shown_lost, said_only}
 
 pub rose_from : (start old new : ℕ) → start ≤ old → Rose old new → Rose start new
 rose_from start old new h r = ⊎_elim (λ (l : old < new). let up : start < new = omega arith in inl up) (λ (e : new ≡ 2 ^ 64 - 1). inr e) r
@@ -97,3 +97,19 @@ stopped_saying start old new handle at count waiting page left ended outcome c k
       cause = (rose_from start.write_faults old.write_faults new.write_faults c.only.write_faults rose, few);
       shown = if_some (left_of start handle) _ _ (λ file x. shown_lost file start old new at count (waiting ++ x.0) page k.said x.2) c.shown;
     }))
+
+-- the file was read on, and then no packet began what waited
+pub refused_after : FrontRefusal → (start old now : State) (handle at count : ℕ) (waiting more page : List ℕ) (was ended : Bool) (outcome : Outcome) → handle < length start.opened →
+    Comes start old handle at count waiting page was → ReadsOn old now handle waiting more → (IsTrue ended → IsAtEnd now handle) →
+    TakesNone more at outcome → at + length more < 2 ^ 40 → (8202 ≤ length more) ⊎ (IsTrue ended) → Stops start now handle page outcome
+refused_after law start old now handle at count waiting more page was ended outcome came c r e t few full =
+    stopped_refused law start now handle at count more page ended outcome (filled start old now handle at count waiting more page was ended came c r e) t few full
+
+-- the file was read on and a packet was taken, and then the lines on the page could not be said
+pub unsaid_after : (start old now new : State) (handle at count len : ℕ) (waiting more rest page longer left : List ℕ) (was ended : Bool) (outcome : Outcome) → handle < length start.opened →
+    Comes start old handle at count waiting page was → ReadsOn old now handle waiting more → (IsTrue ended → IsAtEnd now handle) → Takes more rest at len page longer →
+    Keeps now new → left ≡ [] → outcome ≡ WriteFault → Rose now.write_faults new.write_faults → at + len + length rest < 2 ^ 40 →
+    new.read_faults ≡ now.read_faults → now.write_faults ≤ new.write_faults → new.line_faults ≡ now.line_faults → Stops start new handle left outcome
+unsaid_after start old now new handle at count len waiting more rest page longer left was ended outcome came c r e t k none is rose few rf wf lf =
+    stopped_saying start now new handle (at + len) (count + 1) rest longer left ended outcome
+    (taken start now handle at count len more rest page longer ended (filled start old now handle at count waiting more page was ended came c r e) t) k none is rose few rf wf lf

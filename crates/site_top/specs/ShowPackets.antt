@@ -1,9 +1,9 @@
 -- What `show packets FILE` does.
-use Rattle.std.specs.Prelude.{◌≡◌, ◌⊎◌, ℕ, ◌<◌, ◌≤◌, ◌^◌, Bool, true, false, not, ◌&&◌, List, [], ◌∷◌, ◌++◌, length, codes, if◌then◌else◌, IsSome, IfSome, Some, None, unwrap_or, option_map}
+use Rattle.std.specs.Prelude.{◌≡◌, ◌⊎◌, ℕ, ◌<◌, ◌≤◌, ◌^◌, Bool, true, false, not, ◌&&◌, List, [], ◌∷◌, ◌++◌, length, codes, if◌then◌else◌, IsSome, IfSome, Some, None, option_map}
 use Rattle.std.specs.declared.option.Option.{Option}
 use Rattle.std.specs.Str.{bytes_eq}
 use Rattle.std.specs.FinMap.{get}
-use Rattle.ports.specs.Desk.{State, Held, Rose, SaysLast, with_name}
+use Rattle.ports.specs.Desk.{State, Rose, SaysLast, bytes_of, with_name}
 use Rattle.t2mi_packet.specs.declared.packet.Packet.{Packet}
 use Rattle.site_top.specs.declared.outcome.Outcome.{Outcome}
 use Rattle.site_top.specs.declared.outcome.Outcome.TheVariants.{Done, Usage, TooLong, PacketRefused, ReadFault, WriteFault, OutOfMemory}
@@ -19,10 +19,6 @@ is_empty (c ∷ cs) = false
 abbrev pub shown_file : List (List ℕ) → Option (List ℕ)
 shown_file (a ∷ b ∷ name ∷ []) = if bytes_eq a (codes "show") && bytes_eq b (codes "packets") && not (is_empty name) then Some name else None
 shown_file words = None
-
--- the bytes of a named file, none where there is no such file
-abbrev pub bytes_of_file : Held → List ℕ → List ℕ
-bytes_of_file held name = unwrap_or (get held.files name) []
 
 -- The file was opened once, and reads gave so many of its bytes. No file changed.
 pub record Opened (old new : State) (name : List ℕ) (given : ℕ) : Type 0 where
@@ -42,7 +38,7 @@ most_bytes = 2 ^ 40
 
 -- What was opened and read, by outcome: Done where the file was read to its end, and TooLong exactly where it gave the greatest number of bytes.
 abbrev pub ReadsFile : State → State → List ℕ → Outcome → Type 0
-ReadsFile old new name Done = (given : ℕ) × Opened old new name given × (given < most_bytes) × IfSome old.held (λ held. given ≡ length (bytes_of_file held name))
+ReadsFile old new name Done = (given : ℕ) × Opened old new name given × (given < most_bytes) × IfSome old.held (λ held. given ≡ length (bytes_of held.files name))
 ReadsFile old new name (PacketRefused at why) = (given : ℕ) × Opened old new name given × (given < most_bytes)
 ReadsFile old new name WriteFault = (given : ℕ) × Opened old new name given × (given ≤ most_bytes)
 ReadsFile old new name (TooLong count) = Opened old new name count × (count ≡ most_bytes)
@@ -77,7 +73,7 @@ pub record Counts (old new : State) (outcome : Outcome) : Type 0 where
 -- A run over a named file, up to its last line.
 pub record Shows (old new : State) (name : List ℕ) (outcome : Outcome) : Type 0 where
   pub reads : ReadsFile old new name outcome
-  pub said : IfSome old.held (λ held. Said (bytes_of_file held name) old new outcome)
+  pub said : IfSome old.held (λ held. Said (bytes_of held.files name) old new outcome)
   pub counts : Counts old new outcome
 
 -- The last line was said, once, unless its own count rose, and no other count changed.
@@ -100,5 +96,5 @@ MustEnd file outcome = ⊥
 
 -- Where nothing outside fails, the bytes of the file decide the outcome, unless memory runs out.
 abbrev pub IsComplete : State → State → List ℕ → Outcome → Type 0
-IsComplete old new name result = IfSome old.held (λ held. (outcome : Outcome) → MustEnd (bytes_of_file held name) outcome → length (bytes_of_file held name) < most_bytes
+IsComplete old new name result = IfSome old.held (λ held. (outcome : Outcome) → MustEnd (bytes_of held.files name) outcome → length (bytes_of held.files name) < most_bytes
     → ¬ (Rose old.read_faults new.read_faults) → ¬ (Rose old.write_faults new.write_faults) → (result ≡ outcome) ⊎ (result ≡ OutOfMemory))

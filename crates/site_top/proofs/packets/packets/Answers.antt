@@ -1,8 +1,8 @@
-use Rattle.std.proofs.Common.{length, refl, ap, ◌∙◌, arith, length-drop}
+use Rattle.std.proofs.Common.{◌≡◌, ◌+◌, ◌<◌, ◌^◌, length, refl, ap, ◌∙◌, arith, length-drop}
 use Rattle.std.proofs.lemmas.Result.{err_from_is_err_and}
 use Rattle.site_top.proofs.InputLemmas.{length-read}
 use Rattle.site_top.proofs.ProgressLemmas.{begun, filled, taken, gave_way, length-way}
-use Rattle.site_top.proofs.StopLemmas.{stopped_reading, stopped_refused, stopped_saying}
+use Rattle.site_top.proofs.StopLemmas.{stopped_reading, refused_after, unsaid_after}
 use Rattle.site_top.proofs.packets.packets.Goals as goal
 
 pub each-init : goal.each-init
@@ -25,9 +25,9 @@ returns-in_err-ended-clause-err g c =
 pub returns-in_err-at-clause-err : goal.returns-in_err-at-clause-err
 returns-in_err-at-clause-err g c =
     let p = err_from_is_err_and c.from_residual-in_err-at.result c.from_residual-in_err-at.ensures.1 in
-    let comes = filled _ _ _ _ _ _ _ _ _ _ c.in_ok-ended.ended c.requires.opened c.each.invariant.comes c.in_ok-ended.ensures.reads (c.in_ok-ended.ensures.end c.each.invariant.comes.end) in
     let same = c.in_err-at.ensures.unchanged in
-    rw (p.1, p.2, same.1) (stopped_refused c.front_refusal.ensures _ _ _ _ _ _ _ _ _ comes c.in_err-at.ensures.err c.in_ok-ended.ensures.within c.in_ok-ended.ensures.full)
+    rw (p.1, p.2, same.1) (refused_after c.front_refusal.ensures _ _ _ _ _ c.each.count _ _ _ _ c.in_ok-ended.ended _ c.requires.opened c.each.invariant.comes c.in_ok-ended.ensures.reads
+    (c.in_ok-ended.ensures.end c.each.invariant.comes.end) c.in_err-at.ensures.err c.in_ok-ended.ensures.within c.in_ok-ended.ensures.full)
 
 pub each-preserved : goal.each-preserved
 each-preserved g c =
@@ -48,12 +48,13 @@ each-preserved g c =
 
 pub returns-in_err-make_way-clause-err : goal.returns-in_err-make_way-clause-err
 returns-in_err-make_way-clause-err g c =
-    let comes = filled _ _ _ _ _ _ _ _ _ _ c.in_ok-ended.ended c.requires.opened c.each.invariant.comes c.in_ok-ended.ensures.reads (c.in_ok-ended.ensures.end c.each.invariant.comes.end) in
-    let more = taken _ _ _ _ _ _ _ _ _ _ _ comes c.in_ok-at.ensures.ok in
     let p = err_from_is_err_and c.from_residual-in_err-make_way.result c.from_residual-in_err-make_way.ensures.1 in
     let cause = c.in_err-make_way.ensures.cause in
     let counts = c.in_ok-at.ensures.len in
     let rest = ap length c.in_ok-at.ensures.ok.taken in
     let size = length-drop c.in_ok-at.field-0 c.fill.new.input in
     let few = c.in_ok-ended.ensures.within in
-    rw (p.1, p.2) (stopped_saying _ _ _ _ _ _ _ _ _ _ _ more c.in_err-make_way.ensures.err c.in_err-make_way.ensures.page cause.0 cause.1 (omega arith) c.make_way.ensures.read_faults c.make_way.ensures.write_faults c.make_way.ensures.line_faults)
+    let within : c.each.at + c.in_ok-at.field-0 + length c.take_packet.new.input < 2 ^ 40 = omega arith in
+    rw (p.1, p.2) (unsaid_after _ _ _ _ _ _ c.each.count _ _ _ _ _ _ _ _ c.in_ok-ended.ended _ c.requires.opened c.each.invariant.comes c.in_ok-ended.ensures.reads
+    (c.in_ok-ended.ensures.end c.each.invariant.comes.end) c.in_ok-at.ensures.ok c.in_err-make_way.ensures.err c.in_err-make_way.ensures.page cause.0 cause.1 within
+    c.make_way.ensures.read_faults c.make_way.ensures.write_faults c.make_way.ensures.line_faults)

@@ -1,7 +1,7 @@
--- What a desk over real files is at its start.
+-- A desk over real files at its start.
 use Rattle.std.specs.Prelude.{[], None}
 use Rattle.ports.specs.Desk.{State}
 
--- a desk that tells nothing, with no file opened and no fault
+-- a desk that tells nothing, on which nothing was done
 abbrev pub untold_state : State
 untold_state = record { held = None; said = None; opened = []; read_faults = 0; write_faults = 0; line_faults = 0 }

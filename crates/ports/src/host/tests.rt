@@ -1,0 +1,152 @@
+use super::*;
+use std::alloc::Allocator;
+use std::fmt::Display;
+use std::fs::{File, Metadata, OpenOptions};
+use std::test::Fail;
+
+// A runtime with no files, whose standard output takes nothing.
+#[derive(Drop)]
+struct Deaf;
+
+fn refused<T>() -> io::Result<T> {
+    Err(io::Error::from(ErrorKind::StorageFull))
+}
+
+impl Print for Deaf {
+    fn print<D: Display + Drop>(&self, _value: D) -> io::Result<()> {
+        refused()
+    }
+
+    fn println<D: Display + Drop>(&self, _value: D) -> io::Result<()> {
+        refused()
+    }
+
+    fn write_all(&self, _bytes: &[u8]) -> io::Result<()> {
+        refused()
+    }
+}
+
+impl Files for Deaf {
+    type File = File;
+
+    type Dir = File;
+
+    fn open_file(&self, _how: &OpenOptions, _path: &str) -> io::Result<File> {
+        refused()
+    }
+
+    fn open_dir(&self, _path: &str) -> io::Result<File> {
+        refused()
+    }
+
+    fn metadata(&self, _path: &str) -> io::Result<Metadata> {
+        refused()
+    }
+
+    fn symlink_metadata(&self, _path: &str) -> io::Result<Metadata> {
+        refused()
+    }
+
+    fn copy(&self, _from: &str, _to: &str) -> io::Result<u64> {
+        refused()
+    }
+
+    fn rename(&self, _from: &str, _to: &str) -> io::Result<()> {
+        refused()
+    }
+
+    fn remove_file(&self, _path: &str) -> io::Result<()> {
+        refused()
+    }
+
+    fn create_dir(&self, _path: &str) -> io::Result<()> {
+        refused()
+    }
+
+    fn remove_dir(&self, _path: &str) -> io::Result<()> {
+        refused()
+    }
+
+    fn remove_dir_all<B: Allocator>(&self, _alloc: B, _path: &str) -> io::Result<()> {
+        refused()
+    }
+}
+
+// A reader that a signal interrupts before each byte.
+#[derive(Drop)]
+struct Interrupted {
+    now: bool,
+}
+
+impl Read for Interrupted {
+    fn read(&mut self, buffer: &mut [u8]) -> io::Result<usize> {
+        self.now = !self.now;
+        if self.now {
+            return Err(io::Error::from(ErrorKind::Interrupted));
+        }
+        if buffer.is_empty() {
+            return Ok(0);
+        }
+        buffer[0] = b'x';
+        Ok(1)
+    }
+}
+
+#[test]
+fn reads_a_real_file_to_its_end(rt: HostRuntime) -> Result<(), Fail> {
+    fs::write(&rt, "host_desk_test", b"hello")?;
+    let mut desk = HostDesk::new(&rt, rt.alloc());
+    let handle = desk.open("host_desk_test")?;
+    let mut buffer = [0u8; 8];
+    let count = desk.read(handle, &mut buffer)?;
+    assert_eq!(rt; &buffer[..count], b"hello".as_slice());
+    let count = desk.read(handle, &mut buffer)?;
+    assert_eq!(rt; count, 0);
+    fs::remove_file(&rt, "host_desk_test")?;
+    Ok(())
+}
+
+#[test]
+fn counts_what_cannot_be_opened_or_read(rt: HostRuntime) -> Result<(), Fail> {
+    let mut desk = HostDesk::new(&rt, rt.alloc());
+    assert_eq!(rt; desk.open("no_such_file"), Err(DeskFault));
+    let folder = desk.open(".")?;
+    assert_eq!(rt; desk.read(folder, &mut [0u8; 8]), Err(DeskFault));
+    assert_eq!(rt;
+        (desk.read_faults, desk.write_faults, desk.line_faults),
+        (2, 0, 0)
+    );
+    Ok(())
+}
+
+#[test]
+fn says_to_standard_output(rt: HostRuntime) -> Result<(), Fail> {
+    let mut desk = HostDesk::new(&rt, rt.alloc());
+    desk.say(b"said\n")?;
+    desk.say_last(b"last\n");
+    assert_eq!(rt; (desk.write_faults, desk.line_faults), (0, 0));
+    Ok(())
+}
+
+#[test]
+fn counts_what_standard_output_does_not_take(rt: HostRuntime) {
+    let mut desk = HostDesk::new(Deaf, rt.alloc());
+    assert_eq!(rt; desk.say(b"lost\n"), Err(DeskFault));
+    desk.say_last(b"lost too\n");
+    assert_eq!(rt;
+        (desk.read_faults, desk.write_faults, desk.line_faults),
+        (0, 1, 1)
+    );
+}
+
+#[test]
+fn reads_on_after_a_signal(rt: HostRuntime) {
+    let mut handle = Handle {
+        file: Interrupted { now: false },
+        place: 0,
+    };
+    let mut buffer = [0u8; 4];
+    assert_eq!(rt; handle.read(&mut buffer), Some(1));
+    assert_eq!(rt; handle.read(&mut buffer), Some(1));
+    assert_eq!(rt; handle.place, 2);
+}
