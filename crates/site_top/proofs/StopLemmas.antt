@@ -9,7 +9,7 @@ use Rattle.site_top.specs.declared.outcome.Outcome.{Outcome}
 use Rattle.site_top.specs.declared.outcome.Outcome.TheVariants.{Done, Usage, TooLong, PacketRefused, ReadFault, WriteFault, OutOfMemory}
 use Rattle.site_top.specs.PacketFile.{IsRefused}
 use Rattle.site_top.specs.Reading.{ReadsOn, IsAtEnd}
-use Rattle.site_top.specs.Progress.{Shown, Comes, StopsReading, TakesNone, Stops}
+use Rattle.site_top.specs.Progress.{Shown, Comes, StopsReading, Takes, TakesNone, Stops}
 use Rattle.site_top.proofs.PacketFileLemmas.{file_len}
 use Rattle.site_top.proofs.ProgressLemmas.{if_some, filled, taken, shown_lost, said_only}
 
