@@ -31,12 +31,13 @@ pub struct Input {
 impl Model for Input {
     ghost use Rattle.std.specs.Prelude.{◌≡◌, ◌≤◌, List, ℕ, vec_len};
     ghost use Rattle.site_top.specs.Waiting.{part_in};
+    ghost use Rattle.site_top.specs.declared.input.TheConstants.{BUFFER};
 
     ghost Value = { List ℕ };
 
     ghost view = { λ i. part_in i.span i.bytes.items };
 
-    ghost invariant = { λ i. (i.span.start ≤ i.span.end) × (i.span.end ≤ 131072) × (vec_len i.bytes ≡ 131072) };
+    ghost invariant = { λ i. (i.span.start ≤ i.span.end) × (i.span.end ≤ BUFFER) × (vec_len i.bytes ≡ BUFFER) };
 }
 
 // Where the bytes of a span wait once they were moved to the front, if there was little room behind them.

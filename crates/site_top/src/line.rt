@@ -18,12 +18,13 @@ pub struct Line {
 
 impl Model for Line {
     ghost use Rattle.std.specs.Prelude.{◌≤◌, List, ℕ, take};
+    ghost use Rattle.site_top.specs.declared.line.TheConstants.{ROOM};
 
     ghost Value = { List ℕ };
 
     ghost view = { λ l. take l.len l.bytes };
 
-    ghost invariant = { λ l. l.len ≤ 192 };
+    ghost invariant = { λ l. l.len ≤ ROOM };
 }
 
 impl Line {

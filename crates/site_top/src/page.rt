@@ -16,12 +16,13 @@ pub struct Page {
 
 impl Model for Page {
     ghost use Rattle.std.specs.Prelude.{◌≤◌, List, ℕ, vec_len, vec_capacity};
+    ghost use Rattle.site_top.specs.declared.page.TheConstants.{PAGE};
 
     ghost Value = { List ℕ };
 
     ghost view = { λ p. p.text.items };
 
-    ghost invariant = { λ p. (65536 ≤ vec_capacity p.text) × (vec_len p.text ≤ 65536) };
+    ghost invariant = { λ p. (PAGE ≤ vec_capacity p.text) × (vec_len p.text ≤ PAGE) };
 }
 
 impl Page {
