@@ -1,0 +1,6 @@
+pub mod Tables
+pub mod Plps
+pub mod FirstFailure
+pub mod Rules
+pub mod RuleTests
+pub mod SlotTime
