@@ -1,2 +1,4 @@
 pub mod RuleLemmas
 pub mod PlpRuleLemmas
+pub mod TableLemmas
+pub mod CapacityLemmas

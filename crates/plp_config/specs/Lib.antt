@@ -4,3 +4,5 @@ pub mod FirstFailure
 pub mod Rules
 pub mod RuleTests
 pub mod SlotTime
+pub mod Capacity
+pub mod CapacityTests

@@ -22,7 +22,9 @@ pub enum Band {
 impl Band {
     // Subseconds in a second.
     pub(crate) fn subseconds_per_second(self) -> u32
-        ensures { result ≡ subseconds_per_second self }
+        ensures value { result ≡ subseconds_per_second self }
+        ensures least { 40000000 ≤ result }
+        ensures greatest { result ≤ 131000000 }
     {
         match self {
             Band::Mhz1_7 => 131_000_000,
@@ -36,7 +38,9 @@ impl Band {
 
     // Subseconds in an elementary period.
     pub(crate) fn subseconds_per_tick(self) -> u32
-        ensures { result ≡ subseconds_per_tick self }
+        ensures value { result ≡ subseconds_per_tick self }
+        ensures least { 7 ≤ result }
+        ensures greatest { result ≤ 71 }
     {
         match self {
             Band::Mhz1_7 => 71,
@@ -46,7 +50,8 @@ impl Band {
 
     // Elementary periods in 250 ms.
     pub(crate) fn greatest_ticks(self) -> u32
-        ensures { result ≡ greatest_ticks self }
+        ensures value { result ≡ greatest_ticks self }
+        ensures greatest { result ≤ 2857142 }
     {
         match self {
             Band::Mhz1_7 => 461_267,

@@ -90,7 +90,9 @@ pub struct Plp {
 impl Plp {
     // Bits of a baseband frame, Kbch.
     pub(crate) fn info_bits(&self) -> u32
-        ensures { result ≡ info_bits self.now.fec self.now.rate }
+        ensures value { result ≡ info_bits self.now.fec self.now.rate }
+        ensures least { 7032 ≤ result }
+        ensures greatest { result ≤ 53840 }
     {
         match (self.fec, self.rate) {
             (FecSize::Normal, Rate::R1_2) => 32_208,
@@ -110,7 +112,9 @@ impl Plp {
 
     // Cells of a block.
     pub(crate) fn block_cells(&self) -> u32
-        ensures { result ≡ cells_per_block self.now.fec self.now.modulation }
+        ensures value { result ≡ cells_per_block self.now.fec self.now.modulation }
+        ensures least { 2025 ≤ result }
+        ensures greatest { result ≤ 32400 }
     {
         match (self.fec, self.modulation) {
             (FecSize::Normal, Modulation::Qpsk) => 32_400,

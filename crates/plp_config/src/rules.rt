@@ -46,6 +46,13 @@ impl Valid {
     {
         &self.config
     }
+
+    pub(crate) fn into_config(self) -> Config
+        ensures value { result ≡ self }
+        ensures rules { AllRules self }
+    {
+        self.config
+    }
 }
 
 /// Tries the rules, in their order. A configuration that breaks one comes back unchanged.
