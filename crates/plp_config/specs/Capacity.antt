@@ -1,9 +1,10 @@
 -- What a block holds, and whether the PLPs fit their frames.
 use Rattle.std.specs.Prelude.{◌≡◌, ℕ, ◌-◌, ◌*◌, ◌/◌, ◌%◌, ◌<◌, ◌≤◌, Bool, true, false, None, length, sum_by, unwrap_or, MatchBool, IsSomeAnd, if◌then◌else◌}
+use Rattle.std.specs.Int.{div_ceil}
 use Rattle.plp_config.specs.FirstFailure.{HoldsBelow, IsFirstFailure}
 use Rattle.plp_config.specs.Plps.{plp_at}
 use Rattle.plp_config.specs.Rules.{AllRules}
-use Rattle.plp_config.specs.SlotTime.{ceil_div, num, den}
+use Rattle.plp_config.specs.SlotTime.{num, den}
 use Rattle.plp_config.specs.Tables.{info_bits, cells_per_block}
 use Rattle.plp_config.specs.declared.config.Config.{Config}
 use Rattle.plp_config.specs.declared.capacity.CapacityFault.{CapacityFault}
@@ -59,7 +60,7 @@ TestHolds test c = HoldsBelow (PlaceFits test c) (length c.plps)
 
 -- what a test needs, and what there is, at a place where it speaks of one
 abbrev pub need_of : Test → Config → ℕ → ℕ
-need_of Throughput c plp = ceil_div (up_bytes c plp * c.ticks * den c plp) (num c)
+need_of Throughput c plp = div_ceil (up_bytes c plp * c.ticks * den c plp) (num c)
 need_of CellCount c plp = cell_need c
 need_of EvenSubSlices c plp = c.sub_slices
 need_of CellAddresses c plp = c.cells

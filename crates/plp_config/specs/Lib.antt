@@ -6,3 +6,6 @@ pub mod RuleTests
 pub mod SlotTime
 pub mod Capacity
 pub mod CapacityTests
+pub mod Emission
+pub mod RunLength
+pub mod Laws

@@ -9,9 +9,11 @@ ghost use Rattle.plp_config.specs.CapacityTests.{AnswersTest};
 
 use crate::config::Config;
 use crate::plan::Plan;
-use crate::plp::{Plp, PlpKind};
+use crate::plp::PlpKind;
 use crate::rules::Valid;
-use crate::time::{den, num, plp_count, sub_slices, ticks};
+use crate::values::{
+    block_cells, capacity, den, num, plp_at, plp_count, sub_slices, ticks, up_bytes,
+};
 use thiserror::Error;
 
 /// The first test of the capacity that a configuration fails.
@@ -26,71 +28,6 @@ pub struct CapacityFault {
     pub need: u64,
     /// What there is.
     pub have: u64,
-}
-
-pub(crate) fn plp_at(config: &Config, plp: usize) -> &Plp
-    requires rules { AllRules config.now }
-    requires configured { plp < length config.now.plps }
-    ensures value { result.now ≡ plp_at config.now.plps plp }
-    ensures blocks { (1 ≤ result.now.blocks) × (result.now.blocks ≤ 1023) }
-    ensures rate { (1 ≤ result.now.bits_per_second) × (result.now.bits_per_second ≤ 72000000) }
-{
-    &config.plps.as_slice()[plp]
-}
-
-#[tactic(auto, unfolding(crate::specs::Capacity::block_bytes))]
-pub(crate) fn block_bytes(config: &Config, plp: usize) -> u32
-    requires rules { AllRules config.now }
-    requires configured { plp < length config.now.plps }
-    ensures value { result ≡ block_bytes config.now plp }
-    ensures least { 879 ≤ result }
-    ensures greatest { result ≤ 6730 }
-{
-    plp_at(config, plp).info_bits() / 8
-}
-
-#[tactic(auto, unfolding(crate::specs::Capacity::field_bytes))]
-pub(crate) fn field_bytes(config: &Config, plp: usize) -> u32
-    requires rules { AllRules config.now }
-    requires configured { plp < length config.now.plps }
-    ensures value { result ≡ field_bytes config.now plp }
-    ensures least { 869 ≤ result }
-    ensures greatest { result ≤ 6720 }
-{
-    block_bytes(config, plp) - 10
-}
-
-#[tactic(auto, unfolding(crate::specs::Capacity::block_cells))]
-pub(crate) fn block_cells(config: &Config, plp: usize) -> u32
-    requires rules { AllRules config.now }
-    requires configured { plp < length config.now.plps }
-    ensures value { result ≡ block_cells config.now plp }
-    ensures least { 2025 ≤ result }
-    ensures greatest { result ≤ 32400 }
-{
-    plp_at(config, plp).block_cells()
-}
-
-#[tactic(auto, unfolding(crate::specs::Capacity::up_bytes))]
-pub(crate) fn up_bytes(config: &Config, plp: usize) -> u32
-    requires rules { AllRules config.now }
-    requires configured { plp < length config.now.plps }
-    ensures value { result ≡ up_bytes config.now plp }
-    ensures least { 187 ≤ result }
-    ensures greatest { result ≤ 188 }
-{
-    if plp_at(config, plp).delete { 188 } else { 187 }
-}
-
-#[tactic(auto, unfolding(crate::specs::Capacity::capacity))]
-pub(crate) fn capacity(config: &Config, plp: usize) -> u32
-    requires rules { AllRules config.now }
-    requires configured { plp < length config.now.plps }
-    ensures value { result ≡ capacity config.now plp }
-    ensures least { 869 ≤ result }
-    ensures greatest { result ≤ 6874560 }
-{
-    u32::from(plp_at(config, plp).blocks) * field_bytes(config, plp)
 }
 
 /// Tries the capacity tests, in their order. A configuration that fails one comes back unchanged.

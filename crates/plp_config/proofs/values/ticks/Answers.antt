@@ -1,7 +1,7 @@
 use Rattle.std.proofs.Common.{arith}
 use Rattle.plp_config.proofs.TableLemmas.{greatest_ticks-le, quarter}
 use Rattle.plp_config.specs.Rules.{FrameDuration}
-use Rattle.plp_config.proofs.time.ticks.Goals as goal
+use Rattle.plp_config.proofs.values.ticks.Goals as goal
 
 pub returns-clause-least : goal.returns-clause-least
 returns-clause-least c = (c.requires FrameDuration).0

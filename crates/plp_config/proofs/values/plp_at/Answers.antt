@@ -1,5 +1,5 @@
 use Rattle.plp_config.specs.Rules.{BlockLimit, BitRate}
-use Rattle.plp_config.proofs.capacity.plp_at.Goals as goal
+use Rattle.plp_config.proofs.values.plp_at.Goals as goal
 
 pub returns-clause-blocks : goal.returns-clause-blocks
 returns-clause-blocks c = rw c.as_slice.ensures (c.requires.rules BlockLimit c.args.plp c.requires.configured)
