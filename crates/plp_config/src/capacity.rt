@@ -7,6 +7,7 @@ ghost use Rattle.plp_config.specs.Capacity.{block_bytes, field_bytes, block_cell
 ghost use Rattle.plp_config.specs.SlotTime.{den};
 ghost use Rattle.plp_config.specs.CapacityTests.{AnswersTest};
 
+use crate::at::At;
 use crate::config::Config;
 use crate::plan::Plan;
 use crate::plp::PlpKind;
@@ -18,7 +19,7 @@ use thiserror::Error;
 
 /// The first test of the capacity that a configuration fails.
 #[derive(Clone, Copy, Debug, PartialEq, Eq, Error)]
-#[error("capacity test {test} fails: it needs {need}, and there is {have}")]
+#[error("capacity test {test} fails{}: {}, needs {need} and has {have}", At(self.plp), self.subject())]
 pub struct CapacityFault {
     /// The number of the test, from 1.
     pub test: u8,
@@ -28,6 +29,18 @@ pub struct CapacityFault {
     pub need: u64,
     /// What there is.
     pub have: u64,
+}
+
+impl CapacityFault {
+    fn subject(&self) -> &'static str {
+        match self.test {
+            1 => "the blocks of a frame carry the stream's bytes",
+            2 => "the cells of a frame hold all blocks",
+            3 => "the sub-slices divide the cells of a block",
+            4 => "the cells of a frame have 22-bit addresses",
+            _ => "there is no such test",
+        }
+    }
 }
 
 /// Tries the capacity tests, in their order. A configuration that fails one comes back unchanged.

@@ -1,6 +1,7 @@
 //! The configuration of a DVB-T2 network: its rules, its capacity tests and its times.
 #![tactic(auto)]
 
+mod at;
 mod band;
 mod capacity;
 mod config;

@@ -3,6 +3,7 @@ ghost use Rattle.std.specs.Prelude.{◌≡◌, ◌<◌, ◌↔◌, length, slice
 ghost use Rattle.plp_config.specs.FirstFailure.{FindsFailure};
 ghost use Rattle.plp_config.specs.Rules.{RulesBelow, AllRules, Refuses};
 
+use crate::at::At;
 use crate::config::Config;
 use crate::network_rules::network_tests;
 use crate::plp_rules::{
@@ -13,12 +14,34 @@ use thiserror::Error;
 
 /// The first rule that a configuration breaks.
 #[derive(Clone, Copy, Debug, PartialEq, Eq, Error)]
-#[error("rule {rule} of the configuration fails")]
+#[error("rule {rule} fails{}: {}", At(self.plp), self.demand())]
 pub struct ConfigFault {
     /// The number of the rule, from 1.
     pub rule: u8,
     /// The first place where it fails, for the rules 10 to 14.
     pub plp: Option<u8>,
+}
+
+impl ConfigFault {
+    fn demand(&self) -> &'static str {
+        match self.rule {
+            1 => "a frame lasts from 1000 ticks to 250 ms",
+            2 => "a superframe has from 2 to 255 frames",
+            3 => "a frame has at least 2025 cells",
+            4 => "the start has from 1 to 2^39 seconds, and fewer subseconds than a second has",
+            5 => "utco is below 8192",
+            6 => "the PID is from 16 to 8190",
+            7 => "each L1 number fits its field, and S2 is even",
+            8 => "there are from 2 to 6480 sub-slices with a PLP of type 2, and 1 without",
+            9 => "there are from 1 to 255 PLPs",
+            10 => "no two PLPs have one identifier",
+            11 => "no PLP of type 1 stands behind one of type 2",
+            12 => "a PLP has from 1 to 1023 blocks",
+            13 => "the interleaver length is at most the number of blocks, and at most 255",
+            14 => "a PLP has from 1 to 72000000 bit/s",
+            _ => "there is no such rule",
+        }
+    }
 }
 
 /// A configuration that satisfies every rule.
