@@ -27,3 +27,6 @@ pub use moment::Moment;
 pub use plan::Plan;
 pub use plp::{FecSize, Modulation, Plp, PlpKind, Rate};
 pub use rules::{ConfigFault, Valid, validate};
+
+#[cfg(test)]
+mod tests;
