@@ -72,3 +72,11 @@ emission_fits c frame rules lt =
       (div-lt_iff_lt-mul some).1 (omega (arith, begin.2)),
       omega (arith, emission_carried c frame, second_range c.band),
     )
+
+-- the seconds that have passed at a frame, of subseconds that fit 32 bits
+pub seconds_passed : (subseconds frame length second : ℕ) → 40000000 ≤ second → subseconds < 2 ^ 32 → frame < 2 ^ 32 → 4 * length ≤ second
+    → (subseconds + frame * length) / second < 2 ^ 31
+seconds_passed subseconds frame length second long few early short =
+    let run : frame * (4 * length) ≤ 2 ^ 32 * second = mul-le frame (4 * length) (2 ^ 32) second (omega arith) short in
+    let run4 : frame * (4 * length) ≡ 4 * (frame * length) = omega arith in
+    (div-lt_iff_lt-mul {k = second} (omega arith)).1 (omega arith)

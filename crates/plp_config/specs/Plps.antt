@@ -8,7 +8,7 @@ use Rattle.plp_config.specs.declared.plp.FecSize.TheVariants.{Short}
 use Rattle.plp_config.specs.declared.plp.Rate.TheVariants.{R1_2}
 use Rattle.plp_config.specs.declared.plp.Modulation.TheVariants.{Qpsk}
 
--- what `plp_at` gives past the end, where nobody asks
+-- what `plp_at` gives past the end, where nobody asks: the PLP that the check itself reads there
 abbrev pub no_plp : Plp
 no_plp = record {
   id = 0;

@@ -169,7 +169,7 @@ fn is_even(config: &Config, plp: usize) -> bool
     requires configured { plp < length config.now.plps }
     ensures { IsTrue result ↔ PlaceFits EvenSubSlices config.now plp }
 {
-    plp_at(config, plp).kind == PlpKind::Type1
+    plp_at(config, plp).kind != PlpKind::Type2
         || block_cells(config, plp) % u32::from(sub_slices(config)) == 0
 }
 

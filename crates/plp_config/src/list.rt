@@ -1,6 +1,7 @@
 // The PLPs of a network.
-ghost use Rattle.std.specs.Prelude.{◌≡◌, ◌≤◌, ◌↔◌, List, [], ◌∷◌, ◌++◌, length, IsNone, OnOk, OnErr, slice_get};
+ghost use Rattle.std.specs.Prelude.{◌≡◌, ◌≤◌, ◌↔◌, List, [], ◌∷◌, ◌++◌, length, IsNone, IfSome, OnOk, OnErr, slice_get};
 ghost use Rattle.std.specs.Option.{option_copied};
+ghost use Rattle.plp_config.specs.Plps.{plp_at};
 ghost use Rattle.plp_config.specs.declared.plp.Plp.{Plp};
 
 use crate::plp::Plp;
@@ -49,6 +50,7 @@ impl PlpList {
     /// The PLP at a place, `None` past the end.
     pub fn get(&self, place: usize) -> Option<&Plp>
         ensures plp { option_copied result ≡ slice_get self.now place }
+        ensures at { IfSome result (λ plp. plp.now ≡ plp_at self.now place) }
         ensures none { IsNone result ↔ (length self.now ≤ place) }
     {
         self.plps.get(place)

@@ -1,5 +1,5 @@
 // A configuration that every layer above can rely on.
-ghost use Rattle.std.specs.Prelude.{◌≡◌, ◌+◌, ◌^◌, ◌<◌, ◌≤◌, length};
+ghost use Rattle.std.specs.Prelude.{◌≡◌, ◌-◌, ◌^◌, ◌<◌, ◌≤◌, length};
 ghost use Rattle.plp_config.specs.Capacity.{AllTests, block_bytes, field_bytes, block_cells, up_bytes, capacity};
 ghost use Rattle.plp_config.specs.Emission.{emission};
 ghost use Rattle.plp_config.specs.Rules.{AllRules};
@@ -150,6 +150,8 @@ impl Plan {
         requires { frame < 2 ^ 32 }
         ensures emission { result ≡ emission self.now frame }
         ensures subseconds { result.subseconds < subseconds_per_second self.now.band }
+        // it is neither a relative nor a null timestamp
+        ensures seconds { (1 ≤ result.seconds) × (result.seconds < 2 ^ 40 - 1) }
     {
         let second = u64::from(self.config.band.subseconds_per_second());
         let passed = u64::from(self.config.subseconds)

@@ -63,7 +63,7 @@ pub enum FecSize {
 /// One PLP of a network.
 #[derive(Clone, Copy, Debug, PartialEq, Eq)]
 pub struct Plp {
-    /// PLP_ID.
+    /// PLP_ID; no two PLPs have one.
     pub id: u8,
     /// PLP_TYPE.
     pub kind: PlpKind,
@@ -77,13 +77,13 @@ pub struct Plp {
     pub fec: FecSize,
     /// Whether the constellation is rotated.
     pub rotation: bool,
-    /// The greatest number of blocks in a frame, PLP_NUM_BLOCKS_MAX.
+    /// The greatest number of blocks in a frame, PLP_NUM_BLOCKS_MAX; 1 to 1,023.
     pub blocks: u16,
-    /// TIME_IL_LENGTH: time interleaver blocks in a frame, or 0 for none.
+    /// TIME_IL_LENGTH: time interleaver blocks in a frame, or 0 for none; at most `blocks`, and at most 255.
     pub interleave: u16,
     /// Whether null packets are deleted.
     pub delete: bool,
-    /// The rate of the transport stream, in bits per second.
+    /// The rate of the transport stream, in bits per second; 1 to 72,000,000.
     pub bits_per_second: u32,
 }
 

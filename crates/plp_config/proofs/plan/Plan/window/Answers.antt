@@ -1,4 +1,5 @@
-use Rattle.std.proofs.Common.{◌≡◌, ◌≤◌, ◌*◌, ap, ◌∙◌, arith}
+use Rattle.std.proofs.Common.{◌≡◌, ◌≤◌, ◌<◌, ◌+◌, ◌*◌, ◌^◌, ap, ◌∙◌, arith}
+use Rattle.std.specs.Int.{div_ceil}
 use Rattle.plp_config.specs.SlotTime.{num, den, delay_ticks}
 use Rattle.plp_config.specs.declared.config.Config.{Config}
 use Rattle.plp_config.proofs.TimeLemmas.{window_small}
@@ -13,4 +14,6 @@ returns-clause-small c =
     let t : c.from.result ≡ plan.ticks = c.from.ensures ∙ c.ticks.ensures.value ∙ ap (λ (x : Config). x.ticks) same in
     let late : c.delay.result ≡ delay_ticks c.num-num.result c.den-den.result c.from.result = rw (n, d, t) c.delay.ensures.delay in
     let long : 38 * c.den-den.result ≤ c.num-num.result = omega (arith, c.den-den.ensures.long, c.num-num.ensures.value) in
-    rw (c.div_ceil.ensures, late) (window_small c.num-num.result c.den-den.result c.from.result c.den-den.ensures.least long (omega arith))
+    let small : div_ceil ((c.delay.result + c.from.result) * c.den-den.result) c.num-num.result + 2 < 2 ^ 20
+    = rw late (window_small c.num-num.result c.den-den.result c.from.result c.den-den.ensures.least long (omega arith)) in
+    omega (arith, c.div_ceil.ensures)
