@@ -2,12 +2,14 @@
 use Rattle.std.proofs.Common.{◌≡◌, ℕ, ◌*◌, ◌/◌, ◌%◌, ◌≤◌, Bool, true, false, cond, MatchBool, refl, lit≤, arith}
 use Rattle.std.specs.Int.{div_ceil}
 use Rattle.std.proofs.lemmas.Nat.{mul-le}
-use Rattle.plp_config.specs.Capacity.{block_bytes, field_bytes, block_cells, up_bytes, capacity}
+use Rattle.plp_config.specs.Capacity.{block_bytes, field_bytes, block_cells, up_bytes, capacity, CellAddresses, IsPlan}
 use Rattle.plp_config.specs.Laws.{SlotLength, FrameTicks, FrameQuarter, FieldRange, BlockBits, UserPacketRange, CapacityHoldsUp, CellsByFive, BlockChunks}
-use Rattle.plp_config.specs.Plps.{plp_at}
-use Rattle.plp_config.specs.Rules.{FrameDuration, BlockLimit, BitRate}
+use Rattle.plp_config.specs.Plps.{plp_at, has_type2}
+use Rattle.plp_config.specs.Ranges.{HasRanges}
+use Rattle.plp_config.specs.Rules.{FrameDuration, SuperframeLength, LeastCells, SubSlices, PlpCount, BlockLimit, BitRate}
 use Rattle.plp_config.specs.SlotTime.{num, den}
 use Rattle.plp_config.specs.Tables.{subseconds_per_second, subseconds_per_tick, greatest_ticks, info_bits, cells_per_block}
+use Rattle.plp_config.specs.declared.config.Config.{Config}
 use Rattle.plp_config.specs.declared.band.Band.{Band}
 use Rattle.plp_config.specs.declared.band.Band.TheVariants.{Mhz1_7, Mhz5, Mhz6, Mhz7, Mhz8, Mhz10}
 use Rattle.plp_config.specs.declared.plp.FecSize.{FecSize}
@@ -175,3 +177,13 @@ cells_by_five c plp = cell_table (plp_at c.plps plp).fec (plp_at c.plps plp).mod
 pub block_chunks : BlockChunks
 unfolding block_bytes block_cells
 block_chunks c plp = chunk_table (plp_at c.plps plp).fec (plp_at c.plps plp).rate (plp_at c.plps plp).modulation
+
+-- the ranges of a plan
+pub plan_ranges : (c : Config) → IsPlan c → HasRanges c
+plan_ranges c plan = record {
+  ticks = frame_ticks c plan.rules;
+  frames = plan.rules SuperframeLength;
+  cells = (plan.rules LeastCells, plan.tests CellAddresses);
+  sub_slices = sub_slices-range (has_type2 c.plps) c.sub_slices (plan.rules SubSlices);
+  plps = plan.rules PlpCount
+}

@@ -6,6 +6,7 @@ pub mod RuleTests
 pub mod SlotTime
 pub mod Capacity
 pub mod CapacityTests
+pub mod Ranges
 pub mod Emission
 pub mod RunLength
 pub mod Laws

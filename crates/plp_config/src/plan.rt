@@ -2,6 +2,7 @@
 ghost use Rattle.std.specs.Prelude.{◌≡◌, ◌-◌, ◌^◌, ◌<◌, ◌≤◌, length};
 ghost use Rattle.plp_config.specs.Capacity.{AllTests, block_bytes, field_bytes, block_cells, up_bytes, capacity};
 ghost use Rattle.plp_config.specs.Emission.{emission};
+ghost use Rattle.plp_config.specs.Ranges.{HasRanges};
 ghost use Rattle.plp_config.specs.Rules.{AllRules};
 ghost use Rattle.plp_config.specs.SlotTime.{start, slots_by, delay, window};
 ghost use Rattle.plp_config.specs.Tables.{subseconds_per_second};
@@ -43,6 +44,7 @@ impl Plan {
     pub fn config(&self) -> &Config
         ensures value { result.now ≡ self.now }
         ensures plan { IsPlan self.now }
+        ensures ranges { HasRanges result.now }
     {
         &self.config
     }
