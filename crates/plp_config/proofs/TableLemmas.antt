@@ -185,5 +185,5 @@ plan_ranges c plan = record {
   frames = plan.rules SuperframeLength;
   cells = (plan.rules LeastCells, plan.tests CellAddresses);
   sub_slices = sub_slices-range (has_type2 c.plps) c.sub_slices (plan.rules SubSlices);
-  plps = plan.rules PlpCount
+  plps = plan.rules PlpCount;
 }

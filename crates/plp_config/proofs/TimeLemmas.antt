@@ -6,7 +6,7 @@ use Rattle.std.proofs.lemmas.Grind.{div_ceil_times}
 use Rattle.std.proofs.lemmas.Bool.{cases_lt, cases_order}
 use Rattle.std.specs.Int.{div_ceil}
 use Rattle.plp_config.specs.SlotTime.{slot_start, slot_count, InRange, tick_of_iscr, delay_ticks, released_count, window_slots}
-use Rattle.plp_config.specs.Laws.{StartsBefore, StartsFrom, StartsAt, IsOver, IsNotOver, CountReaches, StartRises, CountRises, NoneAtZero, EndsAfterStart, StartsApart, RangesPartition, RangeBounds, SpansEpoch, OneSlotPerIscr, IscrFindsSlot, DelayOutlasts, ReleasedFirst, ReleasedOld, WindowHolds}
+use Rattle.plp_config.specs.Laws.{StartsBefore, StartsFrom, StartsAt, OverBy, NotOverBy, CountReaches, StartRises, CountRises, NoneAtZero, EndsAfterStart, StartsApart, RangesPartition, RangeBounds, SpansEpoch, OneSlotPerIscr, IscrFindsSlot, DelayOutlasts, ReleasedFirst, ReleasedOld, WindowHolds}
 
 -- ---- quotients rounded up
 
@@ -42,20 +42,20 @@ starts_at num den slot tick pos = (
 pub count_reaches : CountReaches
 count_reaches num den slots tick pos = le-div_iff_mul-le pos
 
-pub is_over : IsOver
-is_over num den slot tick pos = (
+pub over_by : OverBy
+over_by num den slot tick pos = (
   (λ over. (count_reaches num den (slot + 1) tick pos).0 (omega arith)),
   (λ over. omega (arith, (count_reaches num den (slot + 1) tick pos).1 over)),
 )
 
-pub is_not_over : IsNotOver
-is_not_over num den slot tick pos = (
+pub not_over_by : NotOverBy
+not_over_by num den slot tick pos = (
   (λ not. elim (cases_lt (tick * den) ((slot + 1) * num)) [
     | inl lt ↦ lt
-    | inr le ↦ absurd (omega (arith, (is_over num den slot tick pos).1 le))
+    | inr le ↦ absurd (omega (arith, (over_by num den slot tick pos).1 le))
   ]),
   (λ not. elim (cases_lt slot (slot_count num den tick)) [
-    | inl lt ↦ absurd (omega (arith, (is_over num den slot tick pos).0 lt))
+    | inl lt ↦ absurd (omega (arith, (over_by num den slot tick pos).0 lt))
     | inr le ↦ le
   ]),
 )
@@ -73,7 +73,7 @@ count_rises num den tick later pos le =
 pub none_at_zero : NoneAtZero
 none_at_zero num den pos =
     elim (cases_lt 0 (slot_count num den 0)) [
-      | inl some ↦ absurd (omega (arith, (is_over num den 0 0 pos).0 some))
+      | inl some ↦ absurd (omega (arith, (over_by num den 0 0 pos).0 some))
       | inr none ↦ omega arith
     ]
 
@@ -108,8 +108,8 @@ positive_epoch num den epoch (suc m) slot pos lt = omega arith
 pub range_bounds : RangeBounds
 range_bounds num den epoch m slot pos range = (
   positive_epoch num den epoch m slot pos range.1,
-  (is_over num den slot (m * epoch) pos).0 range.1,
-  (is_not_over num den slot ((m - 1) * epoch) pos).0 range.0,
+  (over_by num den slot (m * epoch) pos).0 range.1,
+  (not_over_by num den slot ((m - 1) * epoch) pos).0 range.0,
 )
 
 -- the range of a slot is that of the epoch in which it ends
@@ -134,8 +134,8 @@ ranges_partition num den epoch slot pos den_pos long =
       record {
         positive = omega arith;
         inside = (
-          (is_not_over num den slot ((m - 1) * epoch) pos).1 (omega arith),
-          (is_over num den slot (m * epoch) pos).1 (omega arith),
+          (not_over_by num den slot ((m - 1) * epoch) pos).1 (omega arith),
+          (over_by num den slot (m * epoch) pos).1 (omega arith),
         );
         only = only;
       },
@@ -242,7 +242,7 @@ released_old num den epoch tick slot pos den_pos released =
     let early : start + delay_ticks num den epoch ≤ tick = (released_first num den (delay_ticks num den epoch) tick slot pos den_pos).0 released in
     let end : (slot + 1) * num < (start + 1 + div_ceil num den) * den = ends_after_start num den slot den_pos in
     let room : (start + 1 + div_ceil num den) * den ≤ (tick - 3 * epoch) * den = mul-le-mul_right den (omega arith) in
-    (omega arith, (is_over num den slot (tick - 3 * epoch) pos).1 (omega arith))
+    (omega arith, (over_by num den slot (tick - 3 * epoch) pos).1 (omega arith))
 
 -- the slots held last no longer than the delay
 held_slots : (num den delay tick first : ℕ) → 0 < num → 0 < den → released_count num den delay tick ≤ first

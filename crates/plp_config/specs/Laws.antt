@@ -24,11 +24,11 @@ abbrev pub StartsAt : Type 0
 StartsAt = (num den slot tick : ℕ) → 0 < den → (slot_start num den slot ≡ tick) ↔ ((tick * den ≤ slot * num) × (slot * num < (tick + 1) * den))
 
 -- a slot is over by a tick: its end, the start of the next one, is not after it
-abbrev pub IsOver : Type 0
-IsOver = (num den slot tick : ℕ) → 0 < num → (slot < slot_count num den tick) ↔ ((slot + 1) * num ≤ tick * den)
+abbrev pub OverBy : Type 0
+OverBy = (num den slot tick : ℕ) → 0 < num → (slot < slot_count num den tick) ↔ ((slot + 1) * num ≤ tick * den)
 
-abbrev pub IsNotOver : Type 0
-IsNotOver = (num den slot tick : ℕ) → 0 < num → (slot_count num den tick ≤ slot) ↔ (tick * den < (slot + 1) * num)
+abbrev pub NotOverBy : Type 0
+NotOverBy = (num den slot tick : ℕ) → 0 < num → (slot_count num den tick ≤ slot) ↔ (tick * den < (slot + 1) * num)
 
 -- so many slots are over by a tick
 abbrev pub CountReaches : Type 0

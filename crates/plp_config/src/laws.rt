@@ -1,13 +1,14 @@
 // Laws between the definitions, for the crates above. No function here does anything.
-ghost use Rattle.plp_config.specs.Laws.{StartsBefore, StartsFrom, StartsAt, IsOver, IsNotOver, CountReaches, StartRises, CountRises, NoneAtZero, EndsAfterStart, StartsApart, RangesPartition, RangeBounds, SpansEpoch, OneSlotPerIscr, IscrFindsSlot, DelayOutlasts, ReleasedFirst, ReleasedOld, WindowHolds, EmissionTotal, EmissionsDiffer, EmissionFound, EmissionFits, FrameCountLeast, SlotLength, FrameTicks, FrameQuarter, FieldRange, BlockBits, UserPacketRange, CapacityHoldsUp, CellsByFive, BlockChunks};
+ghost use Rattle.plp_config.specs.Laws.{StartsBefore, StartsFrom, StartsAt, OverBy, NotOverBy, CountReaches, StartRises, CountRises, NoneAtZero, EndsAfterStart, StartsApart, RangesPartition, RangeBounds, SpansEpoch, OneSlotPerIscr, IscrFindsSlot, DelayOutlasts, ReleasedFirst, ReleasedOld, WindowHolds, EmissionTotal, EmissionsDiffer, EmissionFound, EmissionFits, FrameCountLeast, SlotLength, FrameTicks, FrameQuarter, FieldRange, BlockBits, UserPacketRange, CapacityHoldsUp, CellsByFive, BlockChunks};
 
-/// When slots start and when they are over. The two are adjoint: a count reaches a number exactly where the slots before it are over.
+/// When slots start and when they are over. A count reaches a number exactly where the end of the
+/// last slot below it is not after the tick.
 pub fn slot_time_law()
     ensures starts_before { StartsBefore }
     ensures starts_from { StartsFrom }
     ensures starts_at { StartsAt }
-    ensures is_over { IsOver }
-    ensures is_not_over { IsNotOver }
+    ensures over_by { OverBy }
+    ensures not_over_by { NotOverBy }
     ensures count_reaches { CountReaches }
     ensures start_rises { StartRises }
     ensures count_rises { CountRises }

@@ -29,13 +29,13 @@ pub(crate) fn network_tests(config: &Config) -> [bool; 9]
 fn has_frame_duration(config: &Config) -> bool
     ensures { IsTrue result ↔ RuleHolds FrameDuration config.now }
 {
-    1_000 <= config.ticks && config.ticks <= config.band.greatest_ticks()
+    (1_000..=config.band.greatest_ticks()).contains(&config.ticks)
 }
 
 fn has_superframe_length(config: &Config) -> bool
     ensures { IsTrue result ↔ RuleHolds SuperframeLength config.now }
 {
-    2 <= config.frames && config.frames <= 255
+    (2..=255).contains(&config.frames)
 }
 
 fn has_least_cells(config: &Config) -> bool
@@ -47,8 +47,7 @@ fn has_least_cells(config: &Config) -> bool
 fn has_start_time(config: &Config) -> bool
     ensures { IsTrue result ↔ RuleHolds StartTime config.now }
 {
-    1 <= config.seconds
-        && config.seconds <= 1 << 39
+    (1..=1 << 39).contains(&config.seconds)
         && config.subseconds < config.band.subseconds_per_second()
 }
 
@@ -61,7 +60,7 @@ fn has_utc_offset(config: &Config) -> bool
 fn has_pid(config: &Config) -> bool
     ensures { IsTrue result ↔ RuleHolds PidRange config.now }
 {
-    16 <= config.pid && config.pid <= 8_190
+    (16..=8_190).contains(&config.pid)
 }
 
 fn has_l1_fields(config: &Config) -> bool
@@ -94,7 +93,7 @@ fn has_sub_slices(config: &Config) -> bool
     ensures { IsTrue result ↔ RuleHolds SubSlices config.now }
 {
     if has_type2(config.plps.as_slice()) {
-        2 <= config.sub_slices && config.sub_slices <= 6_480
+        (2..=6_480).contains(&config.sub_slices)
     } else {
         config.sub_slices == 1
     }
@@ -109,5 +108,5 @@ fn has_type2(plps: &[Plp]) -> bool
 fn has_plp_count(config: &Config) -> bool
     ensures { IsTrue result ↔ RuleHolds PlpCount config.now }
 {
-    1 <= config.plps.len() && config.plps.len() <= 255
+    (1..=255).contains(&config.plps.len())
 }

@@ -42,7 +42,7 @@ pub(crate) fn wrong_block_limit(config: &Config) -> Option<usize>
         .plps
         .as_slice()
         .iter()
-        .position(|plp| plp.blocks < 1 || plp.blocks > 1_023)
+        .position(|plp| !(1..=1_023).contains(&plp.blocks))
 }
 
 pub(crate) fn wrong_interleaver_length(config: &Config) -> Option<usize>
@@ -58,6 +58,9 @@ pub(crate) fn wrong_interleaver_length(config: &Config) -> Option<usize>
 pub(crate) fn wrong_bit_rate(config: &Config) -> Option<usize>
     ensures { FindsFailure (PlaceHolds BitRate config.now) (length config.now.plps) result }
 {
-    config.plps.as_slice().iter().position(|plp| plp.bits_per_second < 1
-        || plp.bits_per_second > 72_000_000)
+    config
+        .plps
+        .as_slice()
+        .iter()
+        .position(|plp| !(1..=72_000_000).contains(&plp.bits_per_second))
 }

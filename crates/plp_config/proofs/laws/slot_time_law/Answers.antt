@@ -1,4 +1,4 @@
-use Rattle.plp_config.proofs.TimeLemmas.{starts_before, starts_from, starts_at, is_over, is_not_over, count_reaches, start_rises, count_rises, none_at_zero, ends_after_start, starts_apart}
+use Rattle.plp_config.proofs.TimeLemmas.{starts_before, starts_from, starts_at, over_by, not_over_by, count_reaches, start_rises, count_rises, none_at_zero, ends_after_start, starts_apart}
 use Rattle.plp_config.proofs.laws.slot_time_law.Goals as goal
 
 pub returns-clause-starts_before : goal.returns-clause-starts_before
@@ -10,11 +10,11 @@ returns-clause-starts_from c = starts_from
 pub returns-clause-starts_at : goal.returns-clause-starts_at
 returns-clause-starts_at c = starts_at
 
-pub returns-clause-is_over : goal.returns-clause-is_over
-returns-clause-is_over c = is_over
+pub returns-clause-over_by : goal.returns-clause-over_by
+returns-clause-over_by c = over_by
 
-pub returns-clause-is_not_over : goal.returns-clause-is_not_over
-returns-clause-is_not_over c = is_not_over
+pub returns-clause-not_over_by : goal.returns-clause-not_over_by
+returns-clause-not_over_by c = not_over_by
 
 pub returns-clause-count_reaches : goal.returns-clause-count_reaches
 returns-clause-count_reaches c = count_reaches
