@@ -7,6 +7,7 @@ use Rattle.plp_config.specs.CapacityTests.{AnswersTest}
 use Rattle.plp_config.specs.declared.config.Config.{Config}
 use Rattle.plp_config.specs.declared.capacity.CapacityFault.{CapacityFault}
 
+-- the numbers go from 1 to 4
 test_number-range : (test : Test) → (1 ≤ test_number test) × (test_number test < 5)
 test_number-range Throughput = (omega arith, omega arith)
 test_number-range CellCount = (omega arith, omega arith)
@@ -48,6 +49,7 @@ Tried number c fault = MatchOption fault (TestsBelow number c) (Lacks c)
 pub Tried-none : (c : Config) → Tried 1 c None
 Tried-none c test lt = absurd (omega (arith, test_number-range test))
 
+-- the first of two answers
 Tried-or : (c : Config) (test : Test) (fault answer : Option CapacityFault)
     → Tried (test_number test) c fault → AnswersTest test c answer → Tried (test_number test + 1) c (option_or fault answer)
 Tried-or c test (Some fault) answer tried answers = tried

@@ -8,6 +8,7 @@ use Rattle.plp_config.specs.Plps.{plp_at, plp_type}
 use Rattle.plp_config.specs.Rules.{PlaceHolds, KindOrder, DistinctIds}
 use Rattle.plp_config.specs.declared.config.Config.{Config}
 
+-- a type that is no less than the greatest keeps the order
 pub KindOrder-more : (c : Config) (last now place : ℕ)
     → HoldsBelow (PlaceHolds KindOrder c) place
     → HoldsBelow (λ earlier. plp_type (plp_at c.plps earlier).kind ≤ last) place
@@ -17,6 +18,7 @@ pub KindOrder-more : (c : Config) (last now place : ℕ)
 KindOrder-more c last now place holds greatest is le =
     below_more (PlaceHolds KindOrder c) place holds (λ earlier lt. omega (arith, greatest earlier lt, is))
 
+-- and it is the greatest of all so far
 pub greatest-more : (c : Config) (last now place : ℕ)
     → HoldsBelow (λ earlier. plp_type (plp_at c.plps earlier).kind ≤ last) place
     → now ≡ plp_type (plp_at c.plps place).kind
@@ -35,6 +37,7 @@ DistinctIds-more c seen place holds all new =
     below_more (PlaceHolds DistinctIds c) place holds
     (λ earlier lt same. false≢true (sym new ∙ ap (λ (id : ℕ). get_or seen id false) (sym same) ∙ all earlier lt))
 
+-- its identifier is seen from now on, with those before
 pub seen-more : (c : Config) (seen : List Bool) (place : ℕ)
     → HoldsBelow (λ earlier. get_or seen (plp_at c.plps earlier).id false ≡ true) place
     → (plp_at c.plps place).id < length seen
@@ -47,6 +50,7 @@ seen-more c seen place all inside =
     ])
     (get_or-set_same seen (plp_at c.plps place).id true false inside)
 
+-- and no other is
 pub only-more : (c : Config) (seen : List Bool) (place id : ℕ)
     → (get_or seen id false ≡ true → (earlier : ℕ) × (earlier < place) × ((plp_at c.plps earlier).id ≡ id))
     → get_or (set seen (plp_at c.plps place).id true) id false ≡ true

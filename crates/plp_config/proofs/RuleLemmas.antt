@@ -8,6 +8,7 @@ use Rattle.plp_config.specs.RuleTests.{TellsRules}
 use Rattle.plp_config.specs.declared.config.Config.{Config}
 use Rattle.plp_config.specs.declared.rules.ConfigFault.{ConfigFault}
 
+-- the numbers go from 1 to 14
 pub rule_number-range : (rule : Rule) → (1 ≤ rule_number rule) × (rule_number rule < 15)
 rule_number-range FrameDuration = (omega arith, omega arith)
 rule_number-range SuperframeLength = (omega arith, omega arith)
@@ -26,21 +27,7 @@ rule_number-range BitRate = (omega arith, omega arith)
 
 -- the rule with a number
 rule_at : ℕ → Rule
-rule_at zero = FrameDuration
-rule_at (suc zero) = FrameDuration
-rule_at (suc (suc zero)) = SuperframeLength
-rule_at (suc (suc (suc zero))) = LeastCells
-rule_at (suc (suc (suc (suc zero)))) = StartTime
-rule_at (suc (suc (suc (suc (suc zero))))) = UtcOffset
-rule_at (suc (suc (suc (suc (suc (suc zero)))))) = PidRange
-rule_at (suc (suc (suc (suc (suc (suc (suc zero))))))) = L1Fields
-rule_at (suc (suc (suc (suc (suc (suc (suc (suc zero)))))))) = SubSlices
-rule_at (suc (suc (suc (suc (suc (suc (suc (suc (suc zero))))))))) = PlpCount
-rule_at (suc (suc (suc (suc (suc (suc (suc (suc (suc (suc zero)))))))))) = DistinctIds
-rule_at (suc (suc (suc (suc (suc (suc (suc (suc (suc (suc (suc zero))))))))))) = KindOrder
-rule_at (suc (suc (suc (suc (suc (suc (suc (suc (suc (suc (suc (suc zero)))))))))))) = BlockLimit
-rule_at (suc (suc (suc (suc (suc (suc (suc (suc (suc (suc (suc (suc (suc zero))))))))))))) = InterleaverLength
-rule_at _ = BitRate
+rule_at number = get_or (FrameDuration ∷ SuperframeLength ∷ LeastCells ∷ StartTime ∷ UtcOffset ∷ PidRange ∷ L1Fields ∷ SubSlices ∷ PlpCount ∷ DistinctIds ∷ KindOrder ∷ BlockLimit ∷ InterleaverLength ∷ BitRate ∷ []) (number - 1) BitRate
 
 rule_at-rule_number : (rule : Rule) → rule_at (rule_number rule) ≡ rule
 unfolding rule_at
@@ -85,6 +72,7 @@ RulesBelow-more c rule below here other lt =
       | inr differ ↦ below other (omega arith)
     ]
 
+-- there is no rule 15
 AllRules-from : (c : Config) → RulesBelow 15 c → AllRules c
 AllRules-from c below rule = below rule (rule_number-range rule).1
 
@@ -107,6 +95,7 @@ refused_at c rule place late whole below first = record {
   place = rw (le-leb 10 (rule_number rule) late) first;
 }
 
+-- the first of two answers
 Tried-or : (c : Config) (rule : Rule) (fault : Option ConfigFault) (place : Option ℕ) (other : Option ConfigFault)
     → 10 ≤ rule_number rule
     → (RuleHolds rule c → HoldsBelow (PlaceHolds rule c) (length c.plps))
@@ -133,10 +122,12 @@ pub Tried-more : (c : Config) (rule : Rule) (fault : Option ConfigFault) (place 
     → Tried (rule_number rule + 1) c all
 Tried-more c rule fault place other all late whole parts tried finds told is = rw is (Tried-or c rule fault place other late whole parts tried finds told)
 
+-- every rule was tried
 pub Tried-all : (c : Config) (fault : Option ConfigFault) → Tried 15 c fault → MatchOption fault (AllRules c) (Refuses c)
 Tried-all c None below = AllRules-from c below
 Tried-all c (Some fault) refuses = refuses
 
+-- the nine tests, each with its rule
 pub TellsRules-from : (c : Config) (duration superframe cells start utc pid l1 slices plps : Bool)
     → IsTrue duration ↔ RuleHolds FrameDuration c
     → IsTrue superframe ↔ RuleHolds SuperframeLength c
@@ -163,11 +154,13 @@ TellsRules-from _ _ _ _ _ _ _ _ _ _ _ _ _ _ _ _ _ _ _ BlockLimit lt = absurd (om
 TellsRules-from _ _ _ _ _ _ _ _ _ _ _ _ _ _ _ _ _ _ _ InterleaverLength lt = absurd (omega arith)
 TellsRules-from _ _ _ _ _ _ _ _ _ _ _ _ _ _ _ _ _ _ _ BitRate lt = absurd (omega arith)
 
+-- where every test tells true, the rules 1 to 9 hold
 pub RulesBelow-from_tests : (c : Config) (tests : List Bool) → length tests ≡ 9 → TellsRules c tests
     → HoldsBelow (λ place. IsTrue (get_or tests place true)) (length tests) → RulesBelow 10 c
 RulesBelow-from_tests c tests nine tells all rule lt =
     (tells rule lt).0 (all (rule_number rule - 1) (omega (arith, rule_number-range rule)))
 
+-- the first test that tells false gives the refusal
 pub refused_by_test : (c : Config) (tests : List Bool) (place : ℕ) → length tests ≡ 9 → TellsRules c tests
     → IsFirstFailure (λ k. IsTrue (get_or tests k true)) (length tests) place → Refuses c (record { rule = place + 1; plp = None })
 refused_by_test c tests place nine tells first =

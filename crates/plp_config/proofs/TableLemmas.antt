@@ -19,6 +19,7 @@ use Rattle.plp_config.specs.declared.plp.Rate.TheVariants.{R1_2, R3_5, R2_3, R3_
 use Rattle.plp_config.specs.declared.plp.Modulation.{Modulation}
 use Rattle.plp_config.specs.declared.plp.Modulation.TheVariants.{Qpsk, Qam16, Qam64, Qam256}
 
+-- the longest frame of all bandwidths
 pub greatest_ticks-le : (band : Band) → greatest_ticks band ≤ 2857142
 greatest_ticks-le Mhz1_7 = lit≤ tt
 greatest_ticks-le Mhz5 = lit≤ tt
@@ -36,6 +37,7 @@ greatest_quarter Mhz7 = lit≤ tt
 greatest_quarter Mhz8 = lit≤ tt
 greatest_quarter Mhz10 = lit≤ tt
 
+-- no frame lasts longer than a quarter of a second
 pub quarter : (band : Band) (ticks : ℕ) → ticks ≤ greatest_ticks band → 4 * ticks * subseconds_per_tick band ≤ subseconds_per_second band
 quarter band ticks h =
     let four : 4 * ticks ≤ 4 * greatest_ticks band = omega arith in
@@ -43,6 +45,7 @@ quarter band ticks h =
     mul-le (4 * ticks) (subseconds_per_tick band) (4 * greatest_ticks band) (subseconds_per_tick band) four (omega arith) in
     omega (arith, greatest_quarter band)
 
+-- the sub-slices of either case
 pub sub_slices-range : (several : Bool) (sub_slices : ℕ) → MatchBool several ((2 ≤ sub_slices) × (sub_slices ≤ 6480)) (sub_slices ≡ 1)
     → (1 ≤ sub_slices) × (sub_slices ≤ 6480)
 sub_slices-range true sub_slices range = (omega (arith, range), range.1)
@@ -57,6 +60,7 @@ fastest Mhz7 = lit≤ tt
 fastest Mhz8 = lit≤ tt
 fastest Mhz10 = lit≤ tt
 
+-- the subseconds of a tick
 tick_range : (band : Band) → (1 ≤ subseconds_per_tick band) × (subseconds_per_tick band ≤ 71)
 tick_range Mhz1_7 = (lit≤ tt, lit≤ tt)
 tick_range Mhz5 = (lit≤ tt, lit≤ tt)
@@ -65,6 +69,7 @@ tick_range Mhz7 = (lit≤ tt, lit≤ tt)
 tick_range Mhz8 = (lit≤ tt, lit≤ tt)
 tick_range Mhz10 = (lit≤ tt, lit≤ tt)
 
+-- the subseconds of a second
 pub second_range : (band : Band) → (1 ≤ subseconds_per_second band) × (subseconds_per_second band ≤ 131000000)
 second_range Mhz1_7 = (lit≤ tt, lit≤ tt)
 second_range Mhz5 = (lit≤ tt, lit≤ tt)
@@ -73,6 +78,7 @@ second_range Mhz7 = (lit≤ tt, lit≤ tt)
 second_range Mhz8 = (lit≤ tt, lit≤ tt)
 second_range Mhz10 = (lit≤ tt, lit≤ tt)
 
+-- the bytes of a block, which are whole
 block_table : (fec : FecSize) (rate : Rate) → (879 ≤ info_bits fec rate / 8) × (info_bits fec rate / 8 ≤ 6730) × (8 * (info_bits fec rate / 8) ≡ info_bits fec rate)
 block_table Normal R1_2 = (lit≤ tt, lit≤ tt, refl)
 block_table Normal R3_5 = (lit≤ tt, lit≤ tt, refl)
@@ -87,6 +93,7 @@ block_table Short R3_4 = (lit≤ tt, lit≤ tt, refl)
 block_table Short R4_5 = (lit≤ tt, lit≤ tt, refl)
 block_table Short R5_6 = (lit≤ tt, lit≤ tt, refl)
 
+-- the cells of a block
 cell_table : (fec : FecSize) (modulation : Modulation)
     → (cells_per_block fec modulation % 5 ≡ 0) × (2025 ≤ cells_per_block fec modulation) × (cells_per_block fec modulation ≤ 32400)
 cell_table Normal Qpsk = (refl, lit≤ tt, lit≤ tt)
@@ -117,6 +124,7 @@ normal_cells Qam256 = lit≤ tt
 chunks_of : (bytes cells most : ℕ) → bytes ≤ 256 * (7 * most) → 2025 * most ≤ cells → div_ceil bytes 256 ≤ 7 * (cells / 2025)
 chunks_of bytes cells most few many = omega arith
 
+-- the chunks of a block
 chunk_table : (fec : FecSize) (rate : Rate) (modulation : Modulation) → div_ceil (info_bits fec rate / 8) 256 ≤ 7 * (cells_per_block fec modulation / 2025)
 chunk_table Normal rate modulation =
     chunks_of (info_bits Normal rate / 8) (cells_per_block Normal modulation) 4 (omega (arith, (block_table Normal rate).1)) (normal_cells modulation)
@@ -155,6 +163,7 @@ pub block_bits : BlockBits
 unfolding block_bytes
 block_bits c plp = (block_table (plp_at c.plps plp).fec (plp_at c.plps plp).rate).2
 
+-- the bytes of a user packet
 up_range : (delete : Bool) → (187 ≤ cond delete 188 187) × (cond delete 188 187 ≤ 188)
 up_range true = (lit≤ tt, lit≤ tt)
 up_range false = (lit≤ tt, lit≤ tt)

@@ -10,9 +10,11 @@ use Rattle.plp_config.specs.Laws.{StartsBefore, StartsFrom, StartsAt, OverBy, No
 
 -- ---- quotients rounded up
 
+-- the quotient rounded up is enough
 pub div_ceil-ge : (a b : ℕ) → 0 < b → a ≤ div_ceil a b * b
 div_ceil-ge a b pos = (div_ceil_times a b pos).0
 
+-- and one less is not
 pub div_ceil-lt : (a b : ℕ) → 0 < b → div_ceil a b * b < a + b
 div_ceil-lt a b pos = (div_ceil_times a b pos).1
 
