@@ -1,0 +1,11 @@
+use Rattle.plp_config.proofs.TableLemmas.{slot_length, frame_ticks, frame_quarter}
+use Rattle.plp_config.proofs.laws.length_law.Goals as goal
+
+pub returns-clause-slot : goal.returns-clause-slot
+returns-clause-slot c = slot_length
+
+pub returns-clause-frame : goal.returns-clause-frame
+returns-clause-frame c = frame_ticks
+
+pub returns-clause-quarter : goal.returns-clause-quarter
+returns-clause-quarter c = frame_quarter

@@ -1,0 +1,12 @@
+pub mod Tables
+pub mod Plps
+pub mod FirstFailure
+pub mod Rules
+pub mod RuleTests
+pub mod SlotTime
+pub mod Capacity
+pub mod CapacityTests
+pub mod Ranges
+pub mod Emission
+pub mod RunLength
+pub mod Laws

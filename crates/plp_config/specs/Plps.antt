@@ -1,0 +1,42 @@
+-- The PLPs of a configuration, by their places from 0.
+use Rattle.std.specs.Prelude.{ℕ, Bool, true, false, List, slice_index_or}
+use Rattle.std.specs.List.{list_any}
+use Rattle.plp_config.specs.declared.plp.Plp.{Plp}
+use Rattle.plp_config.specs.declared.plp.PlpKind.{PlpKind}
+use Rattle.plp_config.specs.declared.plp.PlpKind.TheVariants.{Type1, Type2}
+use Rattle.plp_config.specs.declared.plp.FecSize.TheVariants.{Short}
+use Rattle.plp_config.specs.declared.plp.Rate.TheVariants.{R1_2}
+use Rattle.plp_config.specs.declared.plp.Modulation.TheVariants.{Qpsk}
+
+-- what `plp_at` gives past the end, where nobody asks: the PLP that the check itself reads there
+abbrev pub no_plp : Plp
+no_plp = record {
+  id = 0;
+  kind = Type1;
+  group = 0;
+  rate = R1_2;
+  modulation = Qpsk;
+  fec = Short;
+  rotation = false;
+  blocks = 0;
+  interleave = 0;
+  delete = false;
+  bits_per_second = 0;
+}
+
+-- the PLP at a place
+abbrev pub plp_at : List Plp → ℕ → Plp
+plp_at plps place = slice_index_or plps place no_plp
+
+-- PLP_TYPE (EN 302 755, clause 7.2.3.1)
+abbrev pub plp_type : PlpKind → ℕ
+plp_type Type1 = 1
+plp_type Type2 = 2
+
+abbrev pub is_type2 : PlpKind → Bool
+is_type2 Type1 = false
+is_type2 Type2 = true
+
+-- whether a PLP is of type 2
+abbrev pub has_type2 : List Plp → Bool
+has_type2 plps = list_any (λ plp. is_type2 plp.kind) plps

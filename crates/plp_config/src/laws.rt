@@ -1,0 +1,73 @@
+// Laws between the definitions, for the crates above. No function here does anything.
+ghost use Rattle.plp_config.specs.Laws.{StartsBefore, StartsFrom, StartsAt, OverBy, NotOverBy, CountReaches, StartRises, CountRises, NoneAtZero, EndsAfterStart, StartsApart, RangesPartition, RangeBounds, SpansEpoch, OneSlotPerIscr, IscrFindsSlot, DelayOutlasts, ReleasedFirst, ReleasedOld, WindowHolds, EmissionTotal, EmissionsDiffer, EmissionFound, EmissionFits, FrameCountLeast, SlotLength, FrameTicks, FrameQuarter, FieldRange, BlockBits, UserPacketRange, CapacityHoldsUp, CellsByFive, BlockChunks};
+
+/// When slots start and when they are over. A count reaches a number exactly where the end of the
+/// last slot below it is not after the tick.
+pub fn slot_time_law()
+    ensures starts_before { StartsBefore }
+    ensures starts_from { StartsFrom }
+    ensures starts_at { StartsAt }
+    ensures over_by { OverBy }
+    ensures not_over_by { NotOverBy }
+    ensures count_reaches { CountReaches }
+    ensures start_rises { StartRises }
+    ensures count_rises { CountRises }
+    ensures none_at_zero { NoneAtZero }
+    ensures ends_after_start { EndsAfterStart }
+    ensures starts_apart { StartsApart }
+{}
+
+/// The ranges of the epochs: they partition the slots.
+pub fn range_law()
+    ensures partition { RangesPartition }
+    ensures bounds { RangeBounds }
+{}
+
+/// An ISCR names one slot of an epoch.
+pub fn iscr_law()
+    ensures spans { SpansEpoch }
+    ensures unique { OneSlotPerIscr }
+    ensures found { IscrFindsSlot }
+{}
+
+/// The delay is long enough for a user packet that ends in the epoch after its own.
+pub fn delay_law()
+    ensures { DelayOutlasts }
+{}
+
+/// Which slots are given out by a tick, and how many are held.
+pub fn release_law()
+    ensures first { ReleasedFirst }
+    ensures old { ReleasedOld }
+    ensures window { WindowHolds }
+{}
+
+/// The moments at which frames leave.
+pub fn emission_law()
+    ensures total { EmissionTotal }
+    ensures differ { EmissionsDiffer }
+    ensures found { EmissionFound }
+    ensures fits { EmissionFits }
+{}
+
+/// The number of frames of a run.
+pub fn run_length_law()
+    ensures { FrameCountLeast }
+{}
+
+/// The lengths of slots and frames, as the tables and the rules give them.
+pub fn length_law()
+    ensures slot { SlotLength }
+    ensures frame { FrameTicks }
+    ensures quarter { FrameQuarter }
+{}
+
+/// The sizes of blocks, as the tables give them.
+pub fn block_law()
+    ensures field { FieldRange }
+    ensures bits { BlockBits }
+    ensures user_packet { UserPacketRange }
+    ensures capacity { CapacityHoldsUp }
+    ensures cells { CellsByFive }
+    ensures chunks { BlockChunks }
+{}

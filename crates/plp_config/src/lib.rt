@@ -1,0 +1,32 @@
+//! The configuration of a DVB-T2 network: its rules, its capacity tests and its times.
+#![tactic(auto)]
+
+mod at;
+mod band;
+mod capacity;
+mod config;
+mod laws;
+mod list;
+mod moment;
+mod network_rules;
+mod plan;
+mod plp;
+mod plp_rules;
+mod rules;
+mod values;
+
+pub use band::Band;
+pub use capacity::{CapacityFault, fits};
+pub use config::{Config, L1Numbers};
+pub use laws::{
+    block_law, delay_law, emission_law, iscr_law, length_law, range_law, release_law,
+    run_length_law, slot_time_law,
+};
+pub use list::PlpList;
+pub use moment::Moment;
+pub use plan::Plan;
+pub use plp::{FecSize, Modulation, Plp, PlpKind, Rate};
+pub use rules::{ConfigFault, Valid, validate};
+
+#[cfg(test)]
+mod tests;

@@ -1,0 +1,166 @@
+// A configuration that every layer above can rely on.
+ghost use Rattle.std.specs.Prelude.{◌≡◌, ◌-◌, ◌^◌, ◌<◌, ◌≤◌, length};
+ghost use Rattle.plp_config.specs.Capacity.{AllTests, block_bytes, field_bytes, block_cells, up_bytes, capacity};
+ghost use Rattle.plp_config.specs.Emission.{emission};
+ghost use Rattle.plp_config.specs.Ranges.{HasRanges};
+ghost use Rattle.plp_config.specs.Rules.{AllRules};
+ghost use Rattle.plp_config.specs.SlotTime.{start, slots_by, delay, window};
+ghost use Rattle.plp_config.specs.Tables.{subseconds_per_second};
+
+use crate::config::Config;
+use crate::moment::Moment;
+use crate::values;
+use std::marker::Model;
+
+/// A configuration that satisfies every rule and every capacity test.
+#[derive(Debug, Drop)]
+pub struct Plan {
+    config: Config,
+}
+
+impl Model for Plan {
+    ghost use Rattle.plp_config.specs.declared.config.Config.{Config};
+    ghost use Rattle.plp_config.specs.Capacity.{IsPlan};
+
+    ghost Value = { Config };
+
+    ghost view = { λ p. p.config };
+
+    ghost invariant = { λ p. IsPlan p.config };
+}
+
+impl Plan {
+    ghost use Rattle.plp_config.specs.Capacity.{IsPlan};
+
+    pub(crate) fn new(config: Config) -> Plan
+        requires rules { AllRules config }
+        requires tests { AllTests config }
+        ensures { result ≡ config }
+    {
+        Plan { config }
+    }
+
+    /// The configuration.
+    pub fn config(&self) -> &Config
+        ensures value { result.now ≡ self.now }
+        ensures plan { IsPlan self.now }
+        ensures ranges { HasRanges result.now }
+    {
+        &self.config
+    }
+
+    /// How many slots of a PLP are over by a tick.
+    pub fn slots_by(&self, plp: usize, tick: u64) -> u64
+        requires configured { plp < length self.now.plps }
+        requires tick { tick < 2 ^ 54 }
+        ensures count { result ≡ slots_by self.now plp tick }
+        ensures small { result ≤ tick }
+    {
+        let num = u128::from(values::num(&self.config));
+        let den = u128::from(values::den(&self.config, plp));
+        (u128::from(tick) * den / num) as u64
+    }
+
+    /// The tick at which a slot of a PLP starts.
+    pub fn start_of(&self, plp: usize, slot: u64) -> u128
+        requires configured { plp < length self.now.plps }
+        requires slot { slot < 2 ^ 54 }
+        ensures start { result ≡ start self.now plp slot }
+        ensures small { result < 2 ^ 92 }
+    {
+        let num = u128::from(values::num(&self.config));
+        let den = u128::from(values::den(&self.config, plp));
+        u128::from(slot) * num / den
+    }
+
+    /// The constant delay of a PLP: the ticks from the start of a slot until its packet is due.
+    pub fn delay(&self, plp: usize) -> u64
+        requires { plp < length self.now.plps }
+        ensures delay { result ≡ delay self.now plp }
+        ensures small { result < 2 ^ 38 }
+    {
+        let num = values::num(&self.config);
+        let den = values::den(&self.config, plp);
+        num.div_ceil(den) + 1 + 3 * u64::from(values::ticks(&self.config))
+    }
+
+    /// How many slots of a PLP a receiver holds at most.
+    pub fn window(&self, plp: usize) -> u64
+        requires { plp < length self.now.plps }
+        ensures window { result ≡ window self.now plp }
+        ensures small { result < 2 ^ 20 }
+    {
+        let num = values::num(&self.config);
+        let den = values::den(&self.config, plp);
+        let ticks = self.delay(plp) + u64::from(values::ticks(&self.config));
+        (ticks * den).div_ceil(num) + 2
+    }
+
+    /// Bytes of the data field of a block.
+    pub fn field_bytes(&self, plp: usize) -> u32
+        requires { plp < length self.now.plps }
+        ensures value { result ≡ field_bytes self.now plp }
+        ensures least { 869 ≤ result }
+        ensures greatest { result ≤ 6720 }
+    {
+        values::field_bytes(&self.config, plp)
+    }
+
+    /// Bytes of a block.
+    pub fn block_bytes(&self, plp: usize) -> u32
+        requires { plp < length self.now.plps }
+        ensures value { result ≡ block_bytes self.now plp }
+        ensures least { 879 ≤ result }
+        ensures greatest { result ≤ 6730 }
+    {
+        values::block_bytes(&self.config, plp)
+    }
+
+    /// Cells of a block.
+    pub fn block_cells(&self, plp: usize) -> u32
+        requires { plp < length self.now.plps }
+        ensures value { result ≡ block_cells self.now plp }
+        ensures least { 2025 ≤ result }
+        ensures greatest { result ≤ 32400 }
+    {
+        values::block_cells(&self.config, plp)
+    }
+
+    /// Bytes of the data fields of a frame, at most.
+    pub fn capacity(&self, plp: usize) -> u32
+        requires { plp < length self.now.plps }
+        ensures value { result ≡ capacity self.now plp }
+        ensures least { 869 ≤ result }
+        ensures greatest { result ≤ 6874560 }
+    {
+        values::capacity(&self.config, plp)
+    }
+
+    /// Bytes of a user packet: 188 where null packets are deleted, else 187.
+    pub fn up_bytes(&self, plp: usize) -> u32
+        requires { plp < length self.now.plps }
+        ensures value { result ≡ up_bytes self.now plp }
+        ensures least { 187 ≤ result }
+        ensures greatest { result ≤ 188 }
+    {
+        values::up_bytes(&self.config, plp)
+    }
+
+    /// When a frame leaves.
+    #[tactic(auto, unfolding(crate::specs::Emission::emission))]
+    pub fn emission(&self, frame: u64) -> Moment
+        requires { frame < 2 ^ 32 }
+        ensures emission { result ≡ emission self.now frame }
+        ensures subseconds { result.subseconds < subseconds_per_second self.now.band }
+        // it is neither a relative nor a null timestamp
+        ensures seconds { (1 ≤ result.seconds) × (result.seconds < 2 ^ 40 - 1) }
+    {
+        let second = u64::from(self.config.band.subseconds_per_second());
+        let passed = u64::from(self.config.subseconds)
+            + frame * values::frame_subseconds(&self.config);
+        Moment {
+            seconds: self.config.seconds + passed / second,
+            subseconds: (passed % second) as u32,
+        }
+    }
+}

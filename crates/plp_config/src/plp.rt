@@ -1,0 +1,130 @@
+// One physical layer pipe, and the tables of its blocks.
+ghost use Rattle.std.specs.Prelude.{◌≡◌, ◌<◌, ◌≤◌};
+ghost use Rattle.plp_config.specs.Plps.{plp_type};
+ghost use Rattle.plp_config.specs.Tables.{info_bits, cells_per_block};
+
+/// How a PLP lies in a frame. Its number is PLP_TYPE (EN 302 755, clause 7.2.3.1).
+#[derive(Clone, Copy, Debug, PartialEq, Eq)]
+pub enum PlpKind {
+    /// One slice in each frame.
+    Type1 = 1,
+    /// Several sub-slices in each frame.
+    Type2 = 2,
+}
+
+impl PlpKind {
+    // PLP_TYPE.
+    pub(crate) fn plp_type(self) -> u8
+        ensures { result ≡ plp_type self }
+    {
+        self as u8
+    }
+}
+
+/// The code rate of the LDPC code (EN 302 755, clause 6.1).
+#[derive(Clone, Copy, Debug, PartialEq, Eq)]
+pub enum Rate {
+    /// 1/2.
+    R1_2,
+    /// 3/5.
+    R3_5,
+    /// 2/3.
+    R2_3,
+    /// 3/4.
+    R3_4,
+    /// 4/5.
+    R4_5,
+    /// 5/6.
+    R5_6,
+}
+
+/// The constellation of the cells (EN 302 755, clause 6.2).
+#[derive(Clone, Copy, Debug, PartialEq, Eq)]
+pub enum Modulation {
+    /// QPSK, 2 bits a cell.
+    Qpsk,
+    /// 16-QAM, 4 bits a cell.
+    Qam16,
+    /// 64-QAM, 6 bits a cell.
+    Qam64,
+    /// 256-QAM, 8 bits a cell.
+    Qam256,
+}
+
+/// The size of a coded block (EN 302 755, clause 6.1).
+#[derive(Clone, Copy, Debug, PartialEq, Eq)]
+pub enum FecSize {
+    /// 16,200 bits.
+    Short,
+    /// 64,800 bits.
+    Normal,
+}
+
+/// One PLP of a network.
+#[derive(Clone, Copy, Debug, PartialEq, Eq)]
+pub struct Plp {
+    /// PLP_ID; no two PLPs have one.
+    pub id: u8,
+    /// PLP_TYPE.
+    pub kind: PlpKind,
+    /// PLP_GROUP_ID.
+    pub group: u8,
+    /// PLP_COD.
+    pub rate: Rate,
+    /// PLP_MOD.
+    pub modulation: Modulation,
+    /// PLP_FEC_TYPE.
+    pub fec: FecSize,
+    /// Whether the constellation is rotated.
+    pub rotation: bool,
+    /// The greatest number of blocks in a frame, PLP_NUM_BLOCKS_MAX; 1 to 1,023.
+    pub blocks: u16,
+    /// TIME_IL_LENGTH: time interleaver blocks in a frame, or 0 for none; at most `blocks`, and at most 255.
+    pub interleave: u16,
+    /// Whether null packets are deleted.
+    pub delete: bool,
+    /// The rate of the transport stream, in bits per second; 1 to 72,000,000.
+    pub bits_per_second: u32,
+}
+
+impl Plp {
+    // Bits of a baseband frame, Kbch.
+    pub(crate) fn info_bits(&self) -> u32
+        ensures value { result ≡ info_bits self.now.fec self.now.rate }
+        ensures least { 7032 ≤ result }
+        ensures greatest { result ≤ 53840 }
+    {
+        match (self.fec, self.rate) {
+            (FecSize::Normal, Rate::R1_2) => 32_208,
+            (FecSize::Normal, Rate::R3_5) => 38_688,
+            (FecSize::Normal, Rate::R2_3) => 43_040,
+            (FecSize::Normal, Rate::R3_4) => 48_408,
+            (FecSize::Normal, Rate::R4_5) => 51_648,
+            (FecSize::Normal, Rate::R5_6) => 53_840,
+            (FecSize::Short, Rate::R1_2) => 7_032,
+            (FecSize::Short, Rate::R3_5) => 9_552,
+            (FecSize::Short, Rate::R2_3) => 10_632,
+            (FecSize::Short, Rate::R3_4) => 11_712,
+            (FecSize::Short, Rate::R4_5) => 12_432,
+            (FecSize::Short, Rate::R5_6) => 13_152,
+        }
+    }
+
+    // Cells of a block.
+    pub(crate) fn block_cells(&self) -> u32
+        ensures value { result ≡ cells_per_block self.now.fec self.now.modulation }
+        ensures least { 2025 ≤ result }
+        ensures greatest { result ≤ 32400 }
+    {
+        match (self.fec, self.modulation) {
+            (FecSize::Normal, Modulation::Qpsk) => 32_400,
+            (FecSize::Normal, Modulation::Qam16) => 16_200,
+            (FecSize::Normal, Modulation::Qam64) => 10_800,
+            (FecSize::Normal, Modulation::Qam256) => 8_100,
+            (FecSize::Short, Modulation::Qpsk) => 8_100,
+            (FecSize::Short, Modulation::Qam16) => 4_050,
+            (FecSize::Short, Modulation::Qam64) => 2_700,
+            (FecSize::Short, Modulation::Qam256) => 2_025,
+        }
+    }
+}

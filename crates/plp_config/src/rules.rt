@@ -1,0 +1,131 @@
+// The rules of a configuration, and which of them fails first.
+ghost use Rattle.std.specs.Prelude.{◌≡◌, ◌<◌, ◌↔◌, length, slice_index_or, true, IsTrue, MatchOption, IsOk, IfOk, IfErr};
+ghost use Rattle.plp_config.specs.FirstFailure.{FindsFailure};
+ghost use Rattle.plp_config.specs.Rules.{RulesBelow, AllRules, Refuses};
+
+use crate::at::At;
+use crate::config::Config;
+use crate::network_rules::network_tests;
+use crate::plp_rules::{
+    falling_kind, repeated_id, wrong_bit_rate, wrong_block_limit, wrong_interleaver_length,
+};
+use std::marker::Model;
+use thiserror::Error;
+
+/// The first rule that a configuration breaks.
+#[derive(Clone, Copy, Debug, PartialEq, Eq, Error)]
+#[error("rule {rule} fails{}: {}", At(self.plp), self.demand())]
+pub struct ConfigFault {
+    /// The number of the rule, from 1.
+    pub rule: u8,
+    /// The first place where it fails, for the rules 10 to 14.
+    pub plp: Option<u8>,
+}
+
+impl ConfigFault {
+    fn demand(&self) -> &'static str {
+        match self.rule {
+            1 => "a frame lasts from 1000 ticks to 250 ms",
+            2 => "a superframe has from 2 to 255 frames",
+            3 => "a frame has at least 2025 cells",
+            4 => "the start has from 1 to 2^39 seconds, and fewer subseconds than a second has",
+            5 => "utco is below 8192",
+            6 => "the PID is from 16 to 8190",
+            7 => "each L1 number fits its field, and S2 is even",
+            8 => "there are from 2 to 6480 sub-slices with a PLP of type 2, and 1 without",
+            9 => "there are from 1 to 255 PLPs",
+            10 => "no two PLPs have one identifier",
+            11 => "no PLP of type 1 stands behind one of type 2",
+            12 => "a PLP has from 1 to 1023 blocks",
+            13 => "the interleaver length is at most the number of blocks, and at most 255",
+            14 => "a PLP has from 1 to 72000000 bit/s",
+            _ => "there is no such rule",
+        }
+    }
+}
+
+/// A configuration that satisfies every rule.
+#[derive(Debug, Drop)]
+pub struct Valid {
+    config: Config,
+}
+
+impl Model for Valid {
+    ghost use Rattle.plp_config.specs.declared.config.Config.{Config};
+    ghost use Rattle.plp_config.specs.Rules.{AllRules};
+
+    ghost Value = { Config };
+
+    ghost view = { λ v. v.config };
+
+    ghost invariant = { λ v. AllRules v.config };
+}
+
+impl Valid {
+    /// The configuration.
+    pub fn config(&self) -> &Config
+        ensures value { result.now ≡ self.now }
+        ensures rules { AllRules self.now }
+    {
+        &self.config
+    }
+
+    pub(crate) fn into_config(self) -> Config
+        ensures value { result ≡ self }
+        ensures rules { AllRules self }
+    {
+        self.config
+    }
+}
+
+/// Tries the rules, in their order. A configuration that breaks one comes back unchanged.
+pub fn validate(config: Config) -> Result<Valid, (Config, ConfigFault)>
+    ensures valid { IsOk result ↔ AllRules config }
+    ensures ok { IfOk result (λ valid. valid ≡ config) }
+    ensures same { IfErr result (λ refusal. refusal.0 ≡ config) }
+    ensures fault { IfErr result (λ refusal. Refuses config refusal.1) }
+{
+    match first_fault(&config) {
+        Some(fault) => Err((config, fault)),
+        None => Ok(Valid { config }),
+    }
+}
+
+fn first_fault(config: &Config) -> Option<ConfigFault>
+    ensures { MatchOption result (AllRules config.now) (Refuses config.now) }
+{
+    network_fault(config)
+        .or(fault_at(10, repeated_id(config)))
+        .or(fault_at(11, falling_kind(config)))
+        .or(fault_at(12, wrong_block_limit(config)))
+        .or(fault_at(13, wrong_interleaver_length(config)))
+        .or(fault_at(14, wrong_bit_rate(config)))
+}
+
+// The least of the rules 1 to 9 that fails.
+fn network_fault(config: &Config) -> Option<ConfigFault>
+    ensures { MatchOption result (RulesBelow 10 config.now) (Refuses config.now) }
+{
+    let place = first_false(&network_tests(config))?;
+    Some(ConfigFault {
+        rule: place as u8 + 1,
+        plp: None,
+    })
+}
+
+// The fault of a rule of the PLPs, by the first place where it fails.
+fn fault_at(rule: u8, place: Option<usize>) -> Option<ConfigFault>
+    ensures { MatchOption place (result ≡ None) (λ p. p < 256 → result ≡ Some (record { rule = rule; plp = Some p })) }
+{
+    place.map(|place| ConfigFault {
+        rule,
+        plp: u8::try_from(place).ok(),
+    })
+}
+
+// The first test that fails.
+fn first_false(tests: &[bool]) -> Option<usize>
+    ensures { FindsFailure (λ place. IsTrue (slice_index_or tests.now place true)) (length tests.now) result }
+{
+    tests.iter().position(|test| !test)
+}

@@ -1,0 +1,140 @@
+// The values of a configuration that satisfies the rules, with the ranges that follow from these.
+ghost use Rattle.std.specs.Prelude.{◌≡◌, ◌<◌, ◌≤◌, ◌*◌, length};
+ghost use Rattle.plp_config.specs.Capacity.{block_bytes, field_bytes, block_cells, up_bytes, capacity};
+ghost use Rattle.plp_config.specs.Emission.{frame_subseconds};
+ghost use Rattle.plp_config.specs.Plps.{plp_at};
+ghost use Rattle.plp_config.specs.Rules.{AllRules};
+ghost use Rattle.plp_config.specs.SlotTime.{num, den};
+ghost use Rattle.plp_config.specs.Tables.{subseconds_per_second, subseconds_per_tick};
+
+use crate::config::Config;
+use crate::plp::Plp;
+
+// The duration of a frame in ticks.
+pub(crate) fn ticks(config: &Config) -> u32
+    requires { AllRules config.now }
+    ensures value { result ≡ config.now.ticks }
+    ensures least { 1000 ≤ result }
+    ensures greatest { result ≤ 2857142 }
+    // 250 ms at most
+    ensures quarter { 4 * result * subseconds_per_tick config.now.band ≤ subseconds_per_second config.now.band }
+{
+    config.ticks
+}
+
+// The subseconds of a frame: a quarter of a second at most.
+pub(crate) fn frame_subseconds(config: &Config) -> u64
+    requires { AllRules config.now }
+    ensures value { result ≡ frame_subseconds config.now }
+    ensures quarter { 4 * result ≤ subseconds_per_second config.now.band }
+{
+    u64::from(ticks(config)) * u64::from(config.band.subseconds_per_tick())
+}
+
+// The number of PLPs.
+pub(crate) fn plp_count(config: &Config) -> u8
+    requires { AllRules config.now }
+    ensures value { result ≡ length config.now.plps }
+    ensures least { 1 ≤ result }
+{
+    config.plps.len() as u8
+}
+
+// Sub-slices in a frame.
+pub(crate) fn sub_slices(config: &Config) -> u16
+    requires { AllRules config.now }
+    ensures value { result ≡ config.now.sub_slices }
+    ensures least { 1 ≤ result }
+    ensures greatest { result ≤ 6480 }
+{
+    config.sub_slices
+}
+
+// The length of a slot in ticks is a fraction. Its numerator: 1504 bits, in subseconds.
+#[tactic(auto, unfolding(crate::specs::SlotTime::num))]
+pub(crate) fn num(config: &Config) -> u64
+    ensures value { result ≡ num config.now }
+    ensures least { 1 ≤ result }
+    ensures greatest { result ≤ 197024000000 }
+{
+    1_504 * u64::from(config.band.subseconds_per_second())
+}
+
+// Its denominator.
+#[tactic(auto, unfolding(crate::specs::SlotTime::num, crate::specs::SlotTime::den))]
+pub(crate) fn den(config: &Config, plp: usize) -> u64
+    requires rules { AllRules config.now }
+    requires configured { plp < length config.now.plps }
+    ensures value { result ≡ den config.now plp }
+    ensures least { 1 ≤ result }
+    ensures greatest { result ≤ 5112000000 }
+    // a slot lasts 38 ticks or more
+    ensures long { 38 * result ≤ num config.now }
+{
+    u64::from(plp_at(config, plp).bits_per_second) * u64::from(config.band.subseconds_per_tick())
+}
+
+pub(crate) fn plp_at(config: &Config, plp: usize) -> &Plp
+    requires rules { AllRules config.now }
+    requires configured { plp < length config.now.plps }
+    ensures value { result.now ≡ plp_at config.now.plps plp }
+    ensures blocks { (1 ≤ result.now.blocks) × (result.now.blocks ≤ 1023) }
+    ensures rate { (1 ≤ result.now.bits_per_second) × (result.now.bits_per_second ≤ 72000000) }
+{
+    &config.plps.as_slice()[plp]
+}
+
+#[tactic(auto, unfolding(crate::specs::Capacity::block_bytes))]
+pub(crate) fn block_bytes(config: &Config, plp: usize) -> u32
+    requires rules { AllRules config.now }
+    requires configured { plp < length config.now.plps }
+    ensures value { result ≡ block_bytes config.now plp }
+    ensures least { 879 ≤ result }
+    ensures greatest { result ≤ 6730 }
+{
+    plp_at(config, plp).info_bits() / 8
+}
+
+#[tactic(auto, unfolding(crate::specs::Capacity::field_bytes))]
+pub(crate) fn field_bytes(config: &Config, plp: usize) -> u32
+    requires rules { AllRules config.now }
+    requires configured { plp < length config.now.plps }
+    ensures value { result ≡ field_bytes config.now plp }
+    ensures least { 869 ≤ result }
+    ensures greatest { result ≤ 6720 }
+{
+    block_bytes(config, plp) - 10
+}
+
+#[tactic(auto, unfolding(crate::specs::Capacity::block_cells))]
+pub(crate) fn block_cells(config: &Config, plp: usize) -> u32
+    requires rules { AllRules config.now }
+    requires configured { plp < length config.now.plps }
+    ensures value { result ≡ block_cells config.now plp }
+    ensures least { 2025 ≤ result }
+    ensures greatest { result ≤ 32400 }
+{
+    plp_at(config, plp).block_cells()
+}
+
+#[tactic(auto, unfolding(crate::specs::Capacity::up_bytes))]
+pub(crate) fn up_bytes(config: &Config, plp: usize) -> u32
+    requires rules { AllRules config.now }
+    requires configured { plp < length config.now.plps }
+    ensures value { result ≡ up_bytes config.now plp }
+    ensures least { 187 ≤ result }
+    ensures greatest { result ≤ 188 }
+{
+    if plp_at(config, plp).delete { 188 } else { 187 }
+}
+
+#[tactic(auto, unfolding(crate::specs::Capacity::capacity))]
+pub(crate) fn capacity(config: &Config, plp: usize) -> u32
+    requires rules { AllRules config.now }
+    requires configured { plp < length config.now.plps }
+    ensures value { result ≡ capacity config.now plp }
+    ensures least { 869 ≤ result }
+    ensures greatest { result ≤ 6874560 }
+{
+    u32::from(plp_at(config, plp).blocks) * field_bytes(config, plp)
+}
