@@ -1,5 +1,5 @@
 -- What a desk means, and what its calls do.
-use Rattle.std.specs.Prelude.{◌≡◌, ◌≢◌, ◌⊎◌, ◌↔◌, ℕ, ◌+◌, ◌-◌, ◌<◌, ◌≤◌, ◌^◌, List, [], ◌∷◌, ◌++◌, length, take, drop, slice_index, slice_index_or, slice_set, unwrap_or, is_some, IsSome, IfSome, Result, OnErr, option_map, option_and_then}
+use Rattle.std.specs.Prelude.{◌≡◌, ◌≢◌, ◌⊎◌, ◌↔◌, ℕ, ◌+◌, ◌-◌, ◌<◌, ◌≤◌, ◌^◌, List, [], ◌∷◌, ◌++◌, length, take, drop, slice_index, slice_index_or, slice_set, unwrap_or, IsSome, IfSome, Result, OnErr, option_map, option_and_then}
 use Rattle.std.specs.declared.option.Option.{Option}
 use Rattle.std.specs.Ordering.{nat_cmp}
 use Rattle.std.specs.Cmp.Lexicographic.{slice_cmp}
@@ -49,10 +49,11 @@ pub record HasCause {T E : Type 0} (before now : ℕ) (result : Result T E) : Ty
   pub later : before ≤ now
   pub rose : OnErr result (Rose before now)
 
--- A desk that tells what it holds, or what was said, keeps telling it, and one that does not never begins.
-pub record TellsAlike (old new : State) : Type 0 where
-  pub held : is_some new.held ≡ is_some old.held
-  pub said : is_some new.said ≡ is_some old.said
+-- No count changed.
+pub record SameCounts (old new : State) : Type 0 where
+  pub read_faults : new.read_faults ≡ old.read_faults
+  pub write_faults : new.write_faults ≡ old.write_faults
+  pub line_faults : new.line_faults ≡ old.line_faults
 
 -- Nothing but counts changed.
 pub record Keeps (old new : State) : Type 0 where
@@ -94,4 +95,4 @@ pub record Says (old new : State) (text : List ℕ) : Type 0 where
 
 -- The last text was said, or nothing was where the count rose.
 abbrev pub SaysLast : State → State → List ℕ → Type 0
-SaysLast old new text = Says old new text ⊎ (Keeps old new × Rose old.line_faults new.line_faults)
+SaysLast old new text = (Says old new text × SameCounts old new) ⊎ (Keeps old new × Rose old.line_faults new.line_faults)

@@ -1,5 +1,5 @@
 -- What one counted fault makes of a state.
-use Rattle.std.specs.Prelude.{◌≡◌, ℕ, ◌+◌, ◌-◌, ◌^◌, min}
+use Rattle.std.specs.Prelude.{ℕ, ◌+◌, ◌-◌, ◌^◌, min}
 use Rattle.ports.specs.Desk.{State}
 
 -- a count one higher, which stays at its last value
@@ -14,9 +14,3 @@ with_write_fault s = record s { write_faults = one_more s.write_faults }
 
 abbrev pub with_line_fault : State → State
 with_line_fault s = record s { line_faults = one_more s.line_faults }
-
--- No count changed.
-pub record SameCounts (old new : State) : Type 0 where
-  pub read_faults : new.read_faults ≡ old.read_faults
-  pub write_faults : new.write_faults ≡ old.write_faults
-  pub line_faults : new.line_faults ≡ old.line_faults

@@ -1,6 +1,6 @@
 // The outside of a command.
 ghost use Rattle.std.specs.Prelude.{◌≡◌, ◌<◌, ◌≤◌, length, IfOk, OnOk, OnErr};
-ghost use Rattle.ports.specs.Desk.{State, HasCause, TellsAlike, Keeps, Opens, Reads, Says, SaysLast};
+ghost use Rattle.ports.specs.Desk.{State, HasCause, SameCounts, Keeps, Opens, Reads, Says, SaysLast};
 ghost use Rattle.ports.specs.Faults.{one_more};
 
 use thiserror::Error;
@@ -13,7 +13,7 @@ pub struct DeskFault;
 /// The outside of a command: named files, and standard output.
 ///
 /// After a fault all is as before but the count of its kind: `read_faults` for opening and reading,
-/// `write_faults` for saying, and `line_faults` for the last line.
+/// `write_faults` for saying, and `line_faults` for the last line. A call that is Ok changes no count.
 pub trait Desk {
     /// What the desk holds and what was said, where it tells; the place of each handle; its counts.
     ghost state: { Self → State };
@@ -22,7 +22,7 @@ pub trait Desk {
     fn open(&mut self, name: &str) -> Result<u32, DeskFault>
         ensures ok { IfOk result (Opens (state self.old) (state self.new) name.now) }
         ensures err { OnErr result (Keeps (state self.old) (state self.new)) }
-        ensures tells { TellsAlike (state self.old) (state self.new) }
+        ensures counts { OnOk result (SameCounts (state self.old) (state self.new)) }
 
         ensures cause { HasCause (state self.old).read_faults (state self.new).read_faults result }
         ensures write_faults { (state self.new).write_faults ≡ (state self.old).write_faults }
@@ -36,7 +36,7 @@ pub trait Desk {
         ensures count { IfOk result (λ n. n ≤ length buffer.new) }
         ensures ok { IfOk result (λ n. Reads (state self.old) (state self.new) handle n buffer.new) }
         ensures err { OnErr result (Keeps (state self.old) (state self.new)) }
-        ensures tells { TellsAlike (state self.old) (state self.new) }
+        ensures counts { OnOk result (SameCounts (state self.old) (state self.new)) }
 
         ensures cause { HasCause (state self.old).read_faults (state self.new).read_faults result }
         ensures write_faults { (state self.new).write_faults ≡ (state self.old).write_faults }
@@ -46,7 +46,7 @@ pub trait Desk {
     fn say(&mut self, text: &[u8]) -> Result<(), DeskFault>
         ensures ok { OnOk result (Says (state self.old) (state self.new) text.now) }
         ensures err { OnErr result (Keeps (state self.old) (state self.new)) }
-        ensures tells { TellsAlike (state self.old) (state self.new) }
+        ensures counts { OnOk result (SameCounts (state self.old) (state self.new)) }
 
         ensures cause { HasCause (state self.old).write_faults (state self.new).write_faults result }
         ensures read_faults { (state self.new).read_faults ≡ (state self.old).read_faults }
@@ -55,8 +55,6 @@ pub trait Desk {
     /// Appends the last text of a run to standard output. A failure shows in `line_faults` alone.
     fn say_last(&mut self, text: &[u8])
         ensures said { SaysLast (state self.old) (state self.new) text.now }
-        ensures tells { TellsAlike (state self.old) (state self.new) }
-
         ensures later { (state self.old).line_faults ≤ (state self.new).line_faults }
         ensures read_faults { (state self.new).read_faults ≡ (state self.old).read_faults }
         ensures write_faults { (state self.new).write_faults ≡ (state self.old).write_faults };

@@ -75,8 +75,7 @@ impl<F: Read> Handle<F> {
 }
 
 impl<R: Files + Print + Drop> HostDesk<R> {
-    ghost use Rattle.ports.specs.Desk.{Opens};
-    ghost use Rattle.ports.specs.Faults.{SameCounts};
+    ghost use Rattle.ports.specs.Desk.{SameCounts, Opens};
     ghost use Rattle.ports.specs.HostDesk.{untold_state};
 
     /// A desk with no file opened and no fault.
@@ -108,8 +107,8 @@ impl<R: Files + Print + Drop> HostDesk<R> {
 
 impl<R: Files + Print + Drop> Desk for HostDesk<R> {
     ghost use Rattle.std.specs.Prelude.{IsErr, OnOk, OnErr};
-    ghost use Rattle.ports.specs.Desk.{Opens, Reads, Says};
-    ghost use Rattle.ports.specs.Faults.{SameCounts, with_read_fault, with_write_fault, with_line_fault};
+    ghost use Rattle.ports.specs.Desk.{SameCounts, Opens, Reads, Says};
+    ghost use Rattle.ports.specs.Faults.{with_read_fault, with_write_fault, with_line_fault};
 
     ghost state = { λ d. d };
 

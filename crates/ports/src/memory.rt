@@ -116,8 +116,7 @@ impl Handle {
 
 impl MemoryDesk {
     ghost use Rattle.std.specs.Prelude.{Some, IsSome, IsNone, IfSome, IfNone};
-    ghost use Rattle.ports.specs.Desk.{Opens, file_of};
-    ghost use Rattle.ports.specs.Faults.{SameCounts};
+    ghost use Rattle.ports.specs.Desk.{SameCounts, Opens, file_of};
     ghost use Rattle.ports.specs.MemoryDesk.{empty_state, with_file};
 
     /// A desk with no file, on which nothing was done.
@@ -180,8 +179,8 @@ impl MemoryDesk {
 
 impl Desk for MemoryDesk {
     ghost use Rattle.std.specs.Prelude.{IsNone, IsOk, IsErr, IfOk, OnOk, OnErr};
-    ghost use Rattle.ports.specs.Desk.{Opens, Reads, Says, file_of};
-    ghost use Rattle.ports.specs.Faults.{SameCounts, with_read_fault, with_write_fault, with_line_fault};
+    ghost use Rattle.ports.specs.Desk.{SameCounts, Opens, Reads, Says, file_of};
+    ghost use Rattle.ports.specs.Faults.{with_read_fault, with_write_fault, with_line_fault};
 
     ghost state = { λ m. m };
 

@@ -4,7 +4,7 @@ use Rattle.std.proofs.Common.{◌≡◌, ℕ, ◌+◌, ◌-◌, ◌<◌, ◌≤�
 use Rattle.std.specs.Prelude.{IfSome, IsSome, option_map, option_and_then, unwrap_or}
 use Rattle.std.specs.FinMap.{get}
 use Rattle.std.proofs.lemmas.Bool.{cases_lt}
-use Rattle.ports.specs.Desk.{State, Held, Keeps, Says, Rose, Opens, left_of, bytes_of}
+use Rattle.ports.specs.Desk.{State, Held, SameCounts, Keeps, Says, Rose, Opens, left_of, bytes_of}
 use Rattle.t2mi_packet.specs.declared.packet.Packet.{Packet}
 use Rattle.site_top.specs.declared.outcome.Outcome.{Outcome}
 use Rattle.site_top.specs.declared.outcome.Outcome.TheVariants.{Done, Usage, TooLong, PacketRefused, ReadFault, WriteFault, OutOfMemory}
@@ -94,16 +94,20 @@ given_most start now given OutOfMemory c = absurd c
 pub stopped_ends : (start now new : State) (handle : ℕ) (page : List ℕ) (outcome end : Outcome) → Stops start now handle page outcome → SaysRest now new page outcome end → ShowsOpened start new handle end
 stopped_ends start now new handle page outcome end s r =
     ⊎_elim
-    (λ (said : Says now new page × (end ≡ outcome)). subst (ShowsOpened start new handle) (sym said.1) (record {
+    (λ (said : Says now new page × (end ≡ outcome) × (new.write_faults ≡ now.write_faults)). subst (ShowsOpened start new handle) (sym said.1) (record {
       given = s.given;
       only = said_only start now new handle s.given s.only said.0.held said.0.opened r.read_faults r.write_faults r.line_faults;
       cause = cause_on start now new s.given outcome s.only.read_faults s.only.write_faults r.read_faults r.write_faults s.cause;
+      reads = λ other another. r.read_faults ∙ s.reads other;
+      says = λ other. said.2 ∙ s.says other;
       said = if_some (left_of start handle) _ _ (λ file x. said_by file start now new page s.given outcome s.cause x said.0) s.shown;
     }))
     (λ (lost : Keeps now new × (end ≡ WriteFault) × Rose now.write_faults new.write_faults). subst (ShowsOpened start new handle) (sym lost.1) (record {
       given = s.given;
       only = said_only start now new handle s.given s.only lost.0.held lost.0.opened r.read_faults r.write_faults r.line_faults;
       cause = (rose_from start.write_faults now.write_faults new.write_faults s.only.write_faults lost.2, given_most start now s.given outcome s.cause);
+      reads = λ other another. absurd (another refl);
+      says = λ other. absurd (other refl);
       said = if_some (left_of start handle) _ _ (λ file x. (said_though file start now new page s.given outcome s.cause x lost.0, tt)) s.shown;
     }))
     r.way
@@ -113,10 +117,12 @@ pub finished_ends : (start now new : State) (handle count : ℕ) (page longer : 
     ShowsOpened start new handle end
 finished_ends start now new handle count page longer end s is r =
     ⊎_elim
-    (λ (said : Says now new longer × (end ≡ Done)). subst (ShowsOpened start new handle) (sym said.1) (record {
+    (λ (said : Says now new longer × (end ≡ Done) × (new.write_faults ≡ now.write_faults)). subst (ShowsOpened start new handle) (sym said.1) (record {
       given = s.given;
       only = said_only start now new handle s.given s.only said.0.held said.0.opened r.read_faults r.write_faults r.line_faults;
       cause = s.few;
+      reads = λ other another. r.read_faults ∙ s.calm.read_faults;
+      says = λ other. said.2 ∙ s.calm.write_faults;
       said = if_some (left_of start handle) _ _ (λ file x.
           let whole : new.said ≡ option_map (λ t. t ++ (page ++ count_line count)) now.said = said.0.said ∙ ap (λ (text : List ℕ). option_map (λ t. t ++ text) now.said) is in
           let lines = said_page file start now new s.given count [] page (count_line count) x whole in
@@ -127,6 +133,8 @@ finished_ends start now new handle count page longer end s is r =
       given = s.given;
       only = said_only start now new handle s.given s.only lost.0.held lost.0.opened r.read_faults r.write_faults r.line_faults;
       cause = (rose_from start.write_faults now.write_faults new.write_faults s.only.write_faults lost.2, omega (arith, s.few));
+      reads = λ other another. absurd (another refl);
+      says = λ other. absurd (other refl);
       said = if_some (left_of start handle) _ _ (λ file x. (said_before file start now new s.given count [] page x lost.0, tt)) s.shown;
     }))
     r.way
@@ -173,15 +181,19 @@ said_since file old mid new WriteFault e x = (x.0, x.1, x.2, x.3 ∙ ap (option_
 said_since file old mid new Usage e x = (x.0, x.1, x.2, x.3 ∙ ap (option_map (λ t. t ++ lines_of 0 x.0)) e)
 said_since file old mid new OutOfMemory e x = (x.0, x.1, x.2, x.3 ∙ ap (option_map (λ t. t ++ lines_of 0 x.0)) e)
 
-counts_by : (old mid new : State) (handle given : ℕ) (outcome : Outcome) → old.read_faults ≤ mid.read_faults → mid.write_faults ≡ old.write_faults → mid.line_faults ≡ old.line_faults → Only mid new handle given →
-    EndsAt mid new given outcome → Counts old new outcome
-counts_by old mid new handle given outcome rf wf lf m c = record {
-  read_fault = λ e. rose_from old.read_faults mid.read_faults new.read_faults rf ((subst (EndsAt mid new given) e c).0);
-  write_fault = λ e. let from : old.write_faults ≤ mid.write_faults = omega (arith, wf) in rose_from old.write_faults mid.write_faults new.write_faults from ((subst (EndsAt mid new given) e c).0);
-  read_faults = omega (arith, rf, m.read_faults);
-  write_faults = omega (arith, wf, m.write_faults);
-  line_faults = m.line_faults ∙ lf;
-}
+counts_by : (old mid new : State) (handle : ℕ) (outcome : Outcome) → SameCounts old mid → ShowsOpened mid new handle outcome → Counts old new outcome
+counts_by old mid new handle outcome calm s =
+    let reads : old.read_faults ≤ mid.read_faults = omega (arith, calm.read_faults) in
+    let writes : old.write_faults ≤ mid.write_faults = omega (arith, calm.write_faults) in
+    record {
+      read_fault = λ e. rose_from old.read_faults mid.read_faults new.read_faults reads ((subst (EndsAt mid new s.given) e s.cause).0);
+      write_fault = λ e. rose_from old.write_faults mid.write_faults new.write_faults writes ((subst (EndsAt mid new s.given) e s.cause).0);
+      reads = λ other another. s.reads other another ∙ calm.read_faults;
+      says = λ other. s.says other ∙ calm.write_faults;
+      read_faults = omega (arith, reads, s.only.read_faults);
+      write_faults = omega (arith, writes, s.only.write_faults);
+      line_faults = s.only.line_faults ∙ calm.line_faults;
+    }
 
 both_first : {A : Type 0} (o : Option A) (P Q : A → Type 0) → IfSome o (λ x. P x × Q x) → IfSome o P
 both_first o P Q h = if_some o (λ x. P x × Q x) P (λ x both. both.0) h
@@ -190,13 +202,12 @@ both_second : {A : Type 0} (o : Option A) (P Q : A → Type 0) → IfSome o (λ 
 both_second o P Q h = if_some o (λ x. P x × Q x) Q (λ x both. both.1) h
 
 -- A run over a file that it opened.
-pub shows : (old mid new : State) (name : List ℕ) (handle : ℕ) (outcome : Outcome) → Opens old mid name handle → old.read_faults ≤ mid.read_faults → mid.write_faults ≡ old.write_faults → mid.line_faults ≡ old.line_faults →
-    ShowsOpened mid new handle outcome → Shows old new name outcome
-shows old mid new name handle outcome o rf wf lf s =
+pub shows : (old mid new : State) (name : List ℕ) (handle : ℕ) (outcome : Outcome) → Opens old mid name handle → SameCounts old mid → ShowsOpened mid new handle outcome → Shows old new name outcome
+shows old mid new name handle outcome o calm s =
     let both = told old.held name (left_of mid handle) (λ file. Said file mid new outcome × GivesAll file s.given outcome) o.left o.present s.said in
     record {
       reads = reads_by old mid new name handle s.given outcome o s.only s.cause (both_second old.held (λ h. Said (bytes_of h.files name) mid new outcome) (λ h. GivesAll (bytes_of h.files name) s.given outcome) both);
       said = if_some old.held _ _ (λ h x. said_since (bytes_of h.files name) old mid new outcome o.said x)
           (both_first old.held (λ h. Said (bytes_of h.files name) mid new outcome) (λ h. GivesAll (bytes_of h.files name) s.given outcome) both);
-      counts = counts_by old mid new handle s.given outcome rf wf lf s.only s.cause;
+      counts = counts_by old mid new handle outcome calm s;
     }

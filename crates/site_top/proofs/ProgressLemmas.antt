@@ -2,7 +2,7 @@
 use Rattle.std.proofs.Common.{◌≡◌, ℕ, ◌+◌, ◌-◌, ◌<◌, ◌≤◌, ⊎_elim, Bool, true, false, List, [], ◌∷◌, ◌++◌, length, drop, Option, Some, None, refl, ap, sym, subst, ◌∙◌, arith, append_assoc, append-nil, length-append, length-drop}
 use Rattle.std.specs.Prelude.{IfSome, IsTrue, option_map, slice_index, slice_set}
 use Rattle.std.proofs.lemmas.List.{get_or-set_same, set-set, set-get_or, drop-append-le}
-use Rattle.ports.specs.Desk.{State, Held, Keeps, Says, content, left_of}
+use Rattle.ports.specs.Desk.{State, Held, SameCounts, Keeps, Says, content, left_of}
 use Rattle.t2mi_packet.specs.declared.packet.Packet.{Packet}
 use Rattle.t2mi_packet.specs.T2miPacket.{packet_len, BeginsWith}
 use Rattle.site_top.specs.PacketFile.{Packs, bytes_in}
@@ -47,6 +47,7 @@ begun s handle waiting page came first none empty =
         write_faults = omega arith;
         line_faults = refl;
       };
+      calm = record { read_faults = refl; write_faults = refl; line_faults = refl };
       end = λ never. let no : false ≡ true = never in cc;
       shown = here (left_of s handle) (λ file left. Shown file s s 0 0 (waiting ++ left) page) (λ file. record {
         first = [];
@@ -68,7 +69,7 @@ after_reading left (Some m) waiting more file start old new at count page e said
     let same : waiting ++ x.0 ≡ more ++ m = let some = rw x.1 at e in cc in
     (m, refl, shown_by file start old new at count (more ++ m) page said (subst (λ (rest : List ℕ). Shown file start old at count rest page) same x.2))
 
-read_only : (start old new : State) (handle at : ℕ) (waiting more : List ℕ) → handle < length start.opened → Only start old handle (at + length waiting) → ReadsOn old new handle waiting more →
+pub read_only : (start old new : State) (handle at : ℕ) (waiting more : List ℕ) → handle < length start.opened → Only start old handle (at + length waiting) → ReadsOn old new handle waiting more →
     Only start new handle (at + length more)
 read_only start old new handle at waiting more came o r =
     let place : slice_index old.opened handle ≡ at + length waiting = ap (λ (xs : List ℕ). slice_index xs handle) o.opened ∙ get_or-set_same start.opened handle (at + length waiting) 0 came in
@@ -81,13 +82,20 @@ read_only start old new handle at waiting more came o r =
       line_faults = r.line_faults ∙ o.line_faults;
     }
 
+-- what was shown is so still
+pub filled_shown : (start old new : State) (handle at count : ℕ) (waiting more page : List ℕ) (was : Bool) → Comes start old handle at count waiting page was → ReadsOn old new handle waiting more →
+    IfSome (left_of start handle) (λ file. (left : List ℕ) × (left_of new handle ≡ Some left) × Shown file start new at count (more ++ left) page)
+filled_shown start old new handle at count waiting more page was c r =
+    if_some (left_of start handle) _ _ (λ file x. after_reading (left_of old handle) (left_of new handle) waiting more file start old new at count page r.next r.said x) c.shown
+
 -- more of the file was read
 pub filled : (start old new : State) (handle at count : ℕ) (waiting more page : List ℕ) (was ended : Bool) → handle < length start.opened →
-    Comes start old handle at count waiting page was → ReadsOn old new handle waiting more → (IsTrue ended → IsAtEnd new handle) → Comes start new handle at count more page ended
-filled start old new handle at count waiting more page was ended came c r e = record {
+    Comes start old handle at count waiting page was → ReadsOn old new handle waiting more → new.read_faults ≡ old.read_faults → (IsTrue ended → IsAtEnd new handle) → Comes start new handle at count more page ended
+filled start old new handle at count waiting more page was ended came c r calm e = record {
   only = read_only start old new handle at waiting more came c.only r;
+  calm = record { read_faults = calm ∙ c.calm.read_faults; write_faults = r.write_faults ∙ c.calm.write_faults; line_faults = r.line_faults ∙ c.calm.line_faults };
   end = e;
-  shown = if_some (left_of start handle) _ _ (λ file x. after_reading (left_of old handle) (left_of new handle) waiting more file start old new at count page r.next r.said x) c.shown;
+  shown = filled_shown start old new handle at count waiting more page was c r;
 }
 
 -- what a handle has left depends on what is held and opened alone
@@ -148,13 +156,17 @@ said_only start old new handle given o held opened rf wf lf = record {
   line_faults = lf ∙ o.line_faults;
 }
 
+calm_on : (start old new : State) → SameCounts start old → new.read_faults ≡ old.read_faults → new.write_faults ≡ old.write_faults → new.line_faults ≡ old.line_faults → SameCounts start new
+calm_on start old new c rf wf lf = record { read_faults = rf ∙ c.read_faults; write_faults = wf ∙ c.write_faults; line_faults = lf ∙ c.line_faults }
+
 -- the page was flushed, or had room
 pub gave_way : (start old new : State) (handle at count : ℕ) (waiting page left : List ℕ) (ended : Bool) → Comes start old handle at count waiting page ended → GivesWay old new page left →
-    new.read_faults ≡ old.read_faults → old.write_faults ≤ new.write_faults → new.line_faults ≡ old.line_faults → Comes start new handle at count waiting left ended
+    new.read_faults ≡ old.read_faults → new.write_faults ≡ old.write_faults → new.line_faults ≡ old.line_faults → Comes start new handle at count waiting left ended
 gave_way start old new handle at count waiting page left ended c way rf wf lf =
     ⊎_elim
     (λ (kept : Keeps old new × (left ≡ page)). record {
-      only = said_only start old new handle (at + length waiting) c.only kept.0.held kept.0.opened rf wf lf;
+      only = said_only start old new handle (at + length waiting) c.only kept.0.held kept.0.opened rf (omega (arith, wf)) lf;
+      calm = calm_on start old new c.calm rf wf lf;
       end = λ e. rw (left_same old new handle kept.0.held kept.0.opened) (c.end e);
       shown = if_some (left_of start handle) _ _ (λ file x. (
         x.0,
@@ -163,7 +175,8 @@ gave_way start old new handle at count waiting page left ended c way rf wf lf =
       )) c.shown;
     })
     (λ (said : Says old new page × (left ≡ [])). record {
-      only = said_only start old new handle (at + length waiting) c.only said.0.held said.0.opened rf wf lf;
+      only = said_only start old new handle (at + length waiting) c.only said.0.held said.0.opened rf (omega (arith, wf)) lf;
+      calm = calm_on start old new c.calm rf wf lf;
       end = λ e. rw (left_same old new handle said.0.held said.0.opened) (c.end e);
       shown = if_some (left_of start handle) _ _ (λ file x. (
         x.0,
@@ -205,6 +218,7 @@ taken start now handle at count len waiting rest page longer ended c t =
     let same : at + length waiting ≡ at + len + length rest = omega arith in
     record {
       only = subst (Only start now handle) same c.only;
+      calm = c.calm;
       end = c.end;
       shown = if_some (left_of start handle) _ _ (λ file x. (x.0, x.1, shown_more file start now at count len waiting rest page longer x.0 t x.2)) c.shown;
     }

@@ -1,5 +1,5 @@
 -- Why a run over a file of packets stops, and what stands then.
-use Rattle.std.proofs.Common.{◌≡◌, ◌≢◌, ◌⊎◌, ℕ, ◌+◌, ◌-◌, ◌<◌, ◌≤◌, ◌^◌, inl, inr, ⊎_elim, Bool, true, false, List, [], ◌∷◌, ◌++◌, length, Option, Some, None, refl, ap, sym, subst, ◌∙◌, arith, append-nil, length-append}
+use Rattle.std.proofs.Common.{◌≡◌, ◌≢◌, ◌⊎◌, ℕ, ◌+◌, ◌-◌, ◌<◌, ◌≤◌, ◌^◌, inl, inr, ⊎_elim, Bool, List, [], ◌∷◌, ◌++◌, length, Option, Some, None, refl, ap, sym, subst, ◌∙◌, arith, append-nil, length-append}
 use Rattle.std.specs.Prelude.{IfSome, IsTrue}
 use Rattle.ports.specs.Desk.{State, Keeps, Rose, left_of}
 use Rattle.t2mi_packet.specs.declared.fault.PacketWhy.{PacketWhy}
@@ -11,7 +11,7 @@ use Rattle.site_top.specs.PacketFile.{IsRefused}
 use Rattle.site_top.specs.Reading.{ReadsOn, IsAtEnd}
 use Rattle.site_top.specs.Progress.{Shown, Comes, StopsReading, Takes, TakesNone, Stops}
 use Rattle.site_top.proofs.PacketFileLemmas.{file_len}
-use Rattle.site_top.proofs.ProgressLemmas.{if_some, filled, taken, shown_lost, said_only}
+use Rattle.site_top.proofs.ProgressLemmas.{if_some, read_only, filled, filled_shown, taken, shown_lost, said_only}
 
 pub rose_from : (start old new : ℕ) → start ≤ old → Rose old new → Rose start new
 rose_from start old new h r = ⊎_elim (λ (l : old < new). let up : start < new = omega arith in inl up) (λ (e : new ≡ 2 ^ 64 - 1). inr e) r
@@ -23,24 +23,24 @@ gave file left start now at count waiting page s = omega (arith, file_len file (
 -- reading on stopped
 pub stopped_reading : (start old new : State) (handle at count : ℕ) (waiting more page : List ℕ) (was : Bool) (outcome : Outcome) → handle < length start.opened →
     Comes start old handle at count waiting page was → ReadsOn old new handle waiting more → StopsReading old new (at + length more) outcome → Stops start new handle page outcome
-stopped_reading start old new handle at count waiting more page was ReadFault came c r s =
-    let now = filled start old new handle at count waiting more page was false came c r (λ never. let no : false ≡ true = never in cc) in
-    record {
-      given = at + length more;
-      only = now.only;
-      cause = (rose_from start.read_faults old.read_faults new.read_faults c.only.read_faults s.0, s.1);
-      shown = if_some (left_of start handle) _ _ (λ file x. (at, count, more ++ x.0, x.2)) now.shown;
-    }
-stopped_reading start old new handle at count waiting more page was (TooLong n) came c r s =
-    let now = filled start old new handle at count waiting more page was false came c r (λ never. let no : false ≡ true = never in cc) in
-    record {
-      given = at + length more;
-      only = now.only;
-      cause = s;
-      shown = if_some (left_of start handle) _ _ (λ file x.
-          let all : 2 ^ 40 ≤ length file = omega (arith, gave file x.0 start new at count more page x.2, s.1) in
-          (all, (at, count, more ++ x.0, x.2))) now.shown;
-    }
+stopped_reading start old new handle at count waiting more page was ReadFault came c r s = record {
+  given = at + length more;
+  only = read_only start old new handle at waiting more came c.only r;
+  cause = (rose_from start.read_faults old.read_faults new.read_faults c.only.read_faults s.0, s.1);
+  reads = λ other. absurd (other refl);
+  says = λ other. r.write_faults ∙ c.calm.write_faults;
+  shown = if_some (left_of start handle) _ _ (λ file x. (at, count, more ++ x.0, x.2)) (filled_shown start old new handle at count waiting more page was c r);
+}
+stopped_reading start old new handle at count waiting more page was (TooLong n) came c r s = record {
+  given = at + length more;
+  only = read_only start old new handle at waiting more came c.only r;
+  cause = (s.0, s.1);
+  reads = λ other. s.2 ∙ c.calm.read_faults;
+  says = λ other. r.write_faults ∙ c.calm.write_faults;
+  shown = if_some (left_of start handle) _ _ (λ file x.
+      let all : 2 ^ 40 ≤ length file = omega (arith, gave file x.0 start new at count more page x.2, s.1) in
+      (all, (at, count, more ++ x.0, x.2))) (filled_shown start old new handle at count waiting more page was c r);
+}
 stopped_reading start old new handle at count waiting more page was Done came c r s = absurd s
 stopped_reading start old new handle at count waiting more page was Usage came c r s = absurd s
 stopped_reading start old new handle at count waiting more page was (PacketRefused place why) came c r s = absurd s
@@ -74,6 +74,8 @@ stopped_refused law start now handle at count waiting page ended (PacketRefused 
   given = at + length waiting;
   only = c.only;
   cause = few;
+  reads = λ other. c.calm.read_faults;
+  says = λ other. c.calm.write_faults;
   shown = if_some (left_of start handle) _ _ (λ file x.
       let end : (8202 ≤ length waiting) ⊎ (x.0 ≡ []) =
       ⊎_elim (λ (long : 8202 ≤ length waiting). inl long) (λ (e : IsTrue ended). inr (no_left (left_of now handle) x.0 x.1 (c.end e))) full in
@@ -95,21 +97,23 @@ stopped_saying start old new handle at count waiting page left ended outcome c k
       given = at + length waiting;
       only = said_only start old new handle (at + length waiting) c.only k.held k.opened rf wf lf;
       cause = (rose_from start.write_faults old.write_faults new.write_faults c.only.write_faults rose, few);
+      reads = λ other. rf ∙ c.calm.read_faults;
+      says = λ other. absurd (other refl);
       shown = if_some (left_of start handle) _ _ (λ file x. shown_lost file start old new at count (waiting ++ x.0) page k.said x.2) c.shown;
     }))
 
 -- the file was read on, and then no packet began what waited
 pub refused_after : FrontRefusal → (start old now : State) (handle at count : ℕ) (waiting more page : List ℕ) (was ended : Bool) (outcome : Outcome) → handle < length start.opened →
-    Comes start old handle at count waiting page was → ReadsOn old now handle waiting more → (IsTrue ended → IsAtEnd now handle) →
+    Comes start old handle at count waiting page was → ReadsOn old now handle waiting more → now.read_faults ≡ old.read_faults → (IsTrue ended → IsAtEnd now handle) →
     TakesNone more at outcome → at + length more < 2 ^ 40 → (8202 ≤ length more) ⊎ (IsTrue ended) → Stops start now handle page outcome
-refused_after law start old now handle at count waiting more page was ended outcome came c r e t few full =
-    stopped_refused law start now handle at count more page ended outcome (filled start old now handle at count waiting more page was ended came c r e) t few full
+refused_after law start old now handle at count waiting more page was ended outcome came c r calm e t few full =
+    stopped_refused law start now handle at count more page ended outcome (filled start old now handle at count waiting more page was ended came c r calm e) t few full
 
 -- the file was read on and a packet was taken, and then the lines on the page could not be said
 pub unsaid_after : (start old now new : State) (handle at count len : ℕ) (waiting more rest page longer left : List ℕ) (was ended : Bool) (outcome : Outcome) → handle < length start.opened →
-    Comes start old handle at count waiting page was → ReadsOn old now handle waiting more → (IsTrue ended → IsAtEnd now handle) → Takes more rest at len page longer →
+    Comes start old handle at count waiting page was → ReadsOn old now handle waiting more → now.read_faults ≡ old.read_faults → (IsTrue ended → IsAtEnd now handle) → Takes more rest at len page longer →
     Keeps now new → left ≡ [] → outcome ≡ WriteFault → Rose now.write_faults new.write_faults → at + len + length rest < 2 ^ 40 →
     new.read_faults ≡ now.read_faults → now.write_faults ≤ new.write_faults → new.line_faults ≡ now.line_faults → Stops start new handle left outcome
-unsaid_after start old now new handle at count len waiting more rest page longer left was ended outcome came c r e t k none is rose few rf wf lf =
+unsaid_after start old now new handle at count len waiting more rest page longer left was ended outcome came c r calm e t k none is rose few rf wf lf =
     stopped_saying start now new handle (at + len) (count + 1) rest longer left ended outcome
-    (taken start now handle at count len more rest page longer ended (filled start old now handle at count waiting more page was ended came c r e) t) k none is rose few rf wf lf
+    (taken start now handle at count len more rest page longer ended (filled start old now handle at count waiting more page was ended came c r calm e) t) k none is rose few rf wf lf

@@ -1,6 +1,6 @@
 -- How far `show packets` has come in a file. No public clause cites this module.
-use Rattle.std.specs.Prelude.{◌≡◌, ◌⊎◌, ℕ, ◌+◌, ◌≤◌, ◌<◌, ◌^◌, Bool, List, [], ◌++◌, length, drop, slice_set, IfSome, Some, option_map, IsTrue}
-use Rattle.ports.specs.Desk.{State, Rose, Keeps, Says, left_of}
+use Rattle.std.specs.Prelude.{◌≡◌, ◌≢◌, ◌⊎◌, ℕ, ◌+◌, ◌≤◌, ◌<◌, ◌^◌, Bool, List, [], ◌++◌, length, drop, slice_set, IfSome, Some, option_map, IsTrue}
+use Rattle.ports.specs.Desk.{State, Rose, SameCounts, Keeps, Says, left_of}
 use Rattle.t2mi_packet.specs.declared.packet.Packet.{Packet}
 use Rattle.t2mi_packet.specs.T2miPacket.{packet_len, BeginsWith}
 use Rattle.site_top.specs.declared.outcome.Outcome.{Outcome}
@@ -31,13 +31,14 @@ pub record Only (start now : State) (handle given : ℕ) : Type 0 where
 -- The run has come to a place of the file, and these bytes wait behind it.
 pub record Comes (start now : State) (handle at count : ℕ) (waiting page : List ℕ) (ended : Bool) : Type 0 where
   pub only : Only start now handle (at + length waiting)
+  pub calm : SameCounts start now
   pub end : IsTrue ended → IsAtEnd now handle
   pub shown : IfSome (left_of start handle) (λ file. (left : List ℕ) × (left_of now handle ≡ Some left) × Shown file start now at count (waiting ++ left) page)
 
 -- Why reading on stopped.
 abbrev pub StopsReading : State → State → ℕ → Outcome → Type 0
 StopsReading old new given ReadFault = Rose old.read_faults new.read_faults × (given < 2 ^ 40)
-StopsReading old new given (TooLong count) = (count ≡ 2 ^ 40) × (given ≡ 2 ^ 40)
+StopsReading old new given (TooLong count) = (count ≡ 2 ^ 40) × (given ≡ 2 ^ 40) × (new.read_faults ≡ old.read_faults)
 StopsReading old new given Done = ⊥
 StopsReading old new given Usage = ⊥
 StopsReading old new given (PacketRefused at why) = ⊥
@@ -93,19 +94,22 @@ pub record Stops (start now : State) (handle : ℕ) (page : List ℕ) (outcome :
   pub given : ℕ
   pub only : Only start now handle given
   pub cause : StopsAt start now given outcome
+  pub reads : outcome ≢ ReadFault → now.read_faults ≡ start.read_faults
+  pub says : outcome ≢ WriteFault → now.write_faults ≡ start.write_faults
   pub shown : IfSome (left_of start handle) (λ file. StopsIn file start now page outcome)
 
 -- The run has come to the end of the file.
 pub record Finishes (start now : State) (handle count : ℕ) (page : List ℕ) : Type 0 where
   pub given : ℕ
   pub only : Only start now handle given
+  pub calm : SameCounts start now
   pub few : given < 2 ^ 40
   pub end : IsAtEnd now handle
   pub shown : IfSome (left_of start handle) (λ file. Shown file start now given count [] page)
 
 -- What was left on the page was said, or the run ends with a fault.
 pub record SaysRest (old new : State) (page : List ℕ) (outcome end : Outcome) : Type 0 where
-  pub way : (Says old new page × (end ≡ outcome)) ⊎ (Keeps old new × (end ≡ WriteFault) × Rose old.write_faults new.write_faults)
+  pub way : (Says old new page × (end ≡ outcome) × (new.write_faults ≡ old.write_faults)) ⊎ (Keeps old new × (end ≡ WriteFault) × Rose old.write_faults new.write_faults)
   pub read_faults : new.read_faults ≡ old.read_faults
   pub write_faults : old.write_faults ≤ new.write_faults
   pub line_faults : new.line_faults ≡ old.line_faults
@@ -115,4 +119,6 @@ pub record ShowsOpened (start new : State) (handle : ℕ) (outcome : Outcome) : 
   pub given : ℕ
   pub only : Only start new handle given
   pub cause : EndsAt start new given outcome
+  pub reads : outcome ≢ ReadFault → outcome ≢ WriteFault → new.read_faults ≡ start.read_faults
+  pub says : outcome ≢ WriteFault → new.write_faults ≡ start.write_faults
   pub said : IfSome (left_of start handle) (λ file. Said file start new outcome × GivesAll file given outcome)

@@ -1,5 +1,5 @@
 -- What `show packets FILE` does.
-use Rattle.std.specs.Prelude.{◌≡◌, ◌⊎◌, ℕ, ◌<◌, ◌≤◌, ◌^◌, Bool, true, false, not, ◌&&◌, List, [], ◌∷◌, ◌++◌, length, codes, if◌then◌else◌, IsSome, IfSome, Some, None, option_map}
+use Rattle.std.specs.Prelude.{◌≡◌, ◌≢◌, ◌⊎◌, ℕ, ◌<◌, ◌≤◌, ◌^◌, Bool, true, false, not, ◌&&◌, List, [], ◌∷◌, ◌++◌, length, codes, if◌then◌else◌, IsSome, IfSome, Some, None, option_map}
 use Rattle.std.specs.declared.option.Option.{Option}
 use Rattle.std.specs.Str.{bytes_eq}
 use Rattle.std.specs.FinMap.{get}
@@ -43,7 +43,7 @@ ReadsFile old new name (PacketRefused at why) = (given : ℕ) × Opened old new 
 ReadsFile old new name WriteFault = (given : ℕ) × Opened old new name given × (given ≤ most_bytes)
 ReadsFile old new name (TooLong count) = Opened old new name count × (count ≡ most_bytes)
 ReadsFile old new name ReadFault = Unopened old new ⊎ ((given : ℕ) × Opened old new name given × (given < most_bytes))
-ReadsFile old new name OutOfMemory = Unopened old new
+ReadsFile old new name OutOfMemory = new ≡ old
 ReadsFile old new name Usage = ⊥
 
 -- Standard output grew by a text.
@@ -62,10 +62,13 @@ Said file old new (PacketRefused at why) =
 Said file old new (TooLong count) = (most_bytes ≤ length file) × SaidFirst file old new
 Said file old new outcome = SaidFirst file old new
 
--- A fault comes only where its count rose, and no count fell.
+-- A fault comes only where its count rose, and the first fault ends the run: no other outcome raises a count. Where a read fault came
+-- and then what was left on the page could not be said, the outcome is the write fault. No count falls.
 pub record Counts (old new : State) (outcome : Outcome) : Type 0 where
   pub read_fault : outcome ≡ ReadFault → Rose old.read_faults new.read_faults
   pub write_fault : outcome ≡ WriteFault → Rose old.write_faults new.write_faults
+  pub reads : outcome ≢ ReadFault → outcome ≢ WriteFault → new.read_faults ≡ old.read_faults
+  pub says : outcome ≢ WriteFault → new.write_faults ≡ old.write_faults
   pub read_faults : old.read_faults ≤ new.read_faults
   pub write_faults : old.write_faults ≤ new.write_faults
   pub line_faults : new.line_faults ≡ old.line_faults

@@ -1,5 +1,5 @@
 // What was read of a file and not yet taken.
-ghost use Rattle.std.specs.Prelude.{◌≡◌, ◌↔◌, IsTrue, ◌+◌, ◌-◌, ◌<◌, ◌≤◌, [], length, take, drop, IfOk, OnErr};
+ghost use Rattle.std.specs.Prelude.{◌≡◌, ◌↔◌, IsTrue, ◌+◌, ◌-◌, ◌<◌, ◌≤◌, [], length, take, drop, IfOk, OnOk, OnErr};
 ghost use Rattle.ports.specs.Desk.{HasCause, Keeps, Reads};
 ghost use Rattle.site_top.specs.Reading.{ReadsOn, IsAtEnd};
 ghost use Rattle.site_top.specs.Waiting.{part_in, IsSettled};
@@ -75,6 +75,7 @@ fn read_at<D: Desk>(
     ensures count { IfOk result (λ n. end + n ≤ length bytes.new) }
     ensures most { IfOk result (λ n. n ≤ most) }
     ensures cause { HasCause (D.state desk.old).read_faults (D.state desk.new).read_faults result }
+    ensures calm { OnOk result ((D.state desk.new).read_faults ≡ (D.state desk.old).read_faults) }
     ensures write_faults { (D.state desk.new).write_faults ≡ (D.state desk.old).write_faults }
     ensures line_faults { (D.state desk.new).line_faults ≡ (D.state desk.old).line_faults }
 {
@@ -103,6 +104,7 @@ fn read_behind<D: Desk>(
     ensures end { IfOk result (λ n. n ≡ 0 → IsAtEnd (D.state desk.new) handle) }
     ensures err { OnErr result (part_in span.new bytes.new ≡ part_in span.old bytes.old) }
     ensures cause { HasCause (D.state desk.old).read_faults (D.state desk.new).read_faults result }
+    ensures calm { OnOk result ((D.state desk.new).read_faults ≡ (D.state desk.old).read_faults) }
 {
     *span = settle(bytes, *span);
     let count = read_at(desk, handle, bytes, span.end, most)?;
@@ -165,6 +167,7 @@ impl Input {
         ensures end { IfOk result (λ n. n ≡ 0 → IsAtEnd (D.state desk.new) handle) }
         ensures err { OnErr result (self.new ≡ self.old) }
         ensures cause { HasCause (D.state desk.old).read_faults (D.state desk.new).read_faults result }
+        ensures calm { OnOk result ((D.state desk.new).read_faults ≡ (D.state desk.old).read_faults) }
     {
         read_behind(desk, handle, &mut self.bytes, &mut self.span, most)
     }

@@ -29,6 +29,7 @@ fn read_more<D: Desk>(
     ensures count { IfOk result (λ n. length input.new ≡ length input.old + n) }
     ensures within { OnOk result (at + length input.new < 2 ^ 40) }
     ensures end { IfOk result (λ n. n ≡ 0 → IsAtEnd (D.state desk.new) handle) }
+    ensures calm { OnOk result ((D.state desk.new).read_faults ≡ (D.state desk.old).read_faults) }
     ensures err { IfErr result (StopsReading (D.state desk.old) (D.state desk.new) (at + length input.new)) }
 {
     let given = at + input.len() as u64;
@@ -55,6 +56,7 @@ fn fill<D: Desk>(
     ensures full { IfOk result (λ end. (LARGEST ≤ length input.new) ⊎ IsTrue end) }
     ensures within { OnOk result (at + length input.new < 2 ^ 40) }
     ensures end { (IsTrue ended → IsAtEnd (D.state desk.old) handle) → IfOk result (λ end. IsTrue end → IsAtEnd (D.state desk.new) handle) }
+    ensures calm { OnOk result ((D.state desk.new).read_faults ≡ (D.state desk.old).read_faults) }
     ensures err { IfErr result (StopsReading (D.state desk.old) (D.state desk.new) (at + length input.new)) }
 {
     if ended {
@@ -74,6 +76,7 @@ pub fn flush<D: Desk>(desk: &mut D, page: &mut Page) -> Result<(), Outcome>
     ensures err { OnErr result (Keeps (D.state desk.old) (D.state desk.new)) }
     ensures page { page.new ≡ [] }
     ensures cause { IfErr result (λ e. (e ≡ Outcome.WriteFault) × Rose (D.state desk.old).write_faults (D.state desk.new).write_faults) }
+    ensures calm { OnOk result ((D.state desk.new).write_faults ≡ (D.state desk.old).write_faults) }
     ensures read_faults { (D.state desk.new).read_faults ≡ (D.state desk.old).read_faults }
     ensures write_faults { (D.state desk.old).write_faults ≤ (D.state desk.new).write_faults }
     ensures line_faults { (D.state desk.new).line_faults ≡ (D.state desk.old).line_faults }
@@ -119,6 +122,7 @@ fn make_way<D: Desk>(desk: &mut D, page: &mut Page) -> Result<(), Outcome>
     ensures err { OnErr result (Keeps (D.state desk.old) (D.state desk.new)) }
     ensures page { OnErr result (page.new ≡ []) }
     ensures cause { IfErr result (λ e. (e ≡ Outcome.WriteFault) × Rose (D.state desk.old).write_faults (D.state desk.new).write_faults) }
+    ensures calm { OnOk result ((D.state desk.new).write_faults ≡ (D.state desk.old).write_faults) }
     ensures read_faults { (D.state desk.new).read_faults ≡ (D.state desk.old).read_faults }
     ensures write_faults { (D.state desk.old).write_faults ≤ (D.state desk.new).write_faults }
     ensures line_faults { (D.state desk.new).line_faults ≡ (D.state desk.old).line_faults }

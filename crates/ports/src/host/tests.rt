@@ -4,15 +4,15 @@ use std::fmt::Display;
 use std::fs::{File, Metadata, OpenOptions};
 use std::test::Fail;
 
-// A runtime with no files, whose standard output takes nothing.
+// A runtime with no files, whose standard output takes this text alone, and that at once.
 #[derive(Drop)]
-struct Deaf;
+struct Takes(&'static [u8]);
 
 fn refused<T>() -> io::Result<T> {
     Err(io::Error::from(ErrorKind::StorageFull))
 }
 
-impl Print for Deaf {
+impl Print for Takes {
     fn print<D: Display + Drop>(&self, _value: D) -> io::Result<()> {
         refused()
     }
@@ -21,12 +21,12 @@ impl Print for Deaf {
         refused()
     }
 
-    fn write_all(&self, _bytes: &[u8]) -> io::Result<()> {
-        refused()
+    fn write_all(&self, bytes: &[u8]) -> io::Result<()> {
+        if bytes == self.0 { Ok(()) } else { refused() }
     }
 }
 
-impl Files for Deaf {
+impl Files for Takes {
     type File = File;
 
     type Dir = File;
@@ -129,8 +129,16 @@ fn says_to_standard_output(rt: HostRuntime) -> Result<(), Fail> {
 }
 
 #[test]
+fn says_each_text_whole(rt: HostRuntime) {
+    let mut desk = HostDesk::new(Takes(b"whole\n"), rt.alloc());
+    assert_eq!(rt; desk.say(b"whole\n"), Ok(()));
+    desk.say_last(b"whole\n");
+    assert_eq!(rt; (desk.write_faults, desk.line_faults), (0, 0));
+}
+
+#[test]
 fn counts_what_standard_output_does_not_take(rt: HostRuntime) {
-    let mut desk = HostDesk::new(Deaf, rt.alloc());
+    let mut desk = HostDesk::new(Takes(b"other\n"), rt.alloc());
     assert_eq!(rt; desk.say(b"lost\n"), Err(DeskFault));
     desk.say_last(b"lost too\n");
     assert_eq!(rt;

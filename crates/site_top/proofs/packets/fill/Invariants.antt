@@ -7,6 +7,7 @@ abbrev pub invariant-loop-desk : goal.invariant-loop-desk
 invariant-loop-desk g l = record {
   reads : ReadsOn (g.D.Desk.state l.initial.desk) (g.D.Desk.state l.desk) l.handle l.initial.input l.input;
   handles : length (g.D.Desk.state l.desk).opened ≡ length (g.D.Desk.state l.initial.desk).opened;
+  calm : (g.D.Desk.state l.desk).read_faults ≡ (g.D.Desk.state l.initial.desk).read_faults;
   within : l.at + length l.input < 2 ^ 40;
 }
 

@@ -26,12 +26,12 @@ pub returns-in_err-at-clause-err : goal.returns-in_err-at-clause-err
 returns-in_err-at-clause-err g c =
     let p = err_from_is_err_and c.from_residual-in_err-at.result c.from_residual-in_err-at.ensures.1 in
     let same = c.in_err-at.ensures.unchanged in
-    rw (p.1, p.2, same.1) (refused_after c.front_refusal.ensures _ _ _ _ _ c.each.count _ _ _ _ c.in_ok-ended.ended _ c.requires.opened c.each.invariant.comes c.in_ok-ended.ensures.reads
+    rw (p.1, p.2, same.1) (refused_after c.front_refusal.ensures _ _ _ _ _ c.each.count _ _ _ _ c.in_ok-ended.ended _ c.requires.opened c.each.invariant.comes c.in_ok-ended.ensures.reads c.in_ok-ended.ensures.calm
     (c.in_ok-ended.ensures.end c.each.invariant.comes.end) c.in_err-at.ensures.err c.in_ok-ended.ensures.within c.in_ok-ended.ensures.full)
 
 pub each-preserved : goal.each-preserved
 each-preserved g c =
-    let comes = filled _ _ _ _ _ _ _ _ _ _ c.in_ok-ended.ended c.requires.opened c.each.invariant.comes c.in_ok-ended.ensures.reads (c.in_ok-ended.ensures.end c.each.invariant.comes.end) in
+    let comes = filled _ _ _ _ _ _ _ _ _ _ c.in_ok-ended.ended c.requires.opened c.each.invariant.comes c.in_ok-ended.ensures.reads c.in_ok-ended.ensures.calm (c.in_ok-ended.ensures.end c.each.invariant.comes.end) in
     let more = taken _ _ _ _ _ _ _ _ _ _ _ comes c.in_ok-at.ensures.ok in
     let read = length-read _ _ c.args.handle _ _ c.in_ok-ended.ensures.reads in
     let counts = c.in_ok-at.ensures.len in
@@ -39,7 +39,7 @@ each-preserved g c =
     let size = length-drop c.in_ok-at.field-0 c.fill.new.input in
     let few = c.in_ok-ended.ensures.within in
     record {
-      comes = gave_way _ _ _ _ _ _ _ _ _ _ more c.in_ok-make_way.ensures.ok c.make_way.ensures.read_faults c.make_way.ensures.write_faults c.make_way.ensures.line_faults;
+      comes = gave_way _ _ _ _ _ _ _ _ _ _ more c.in_ok-make_way.ensures.ok c.make_way.ensures.read_faults c.in_ok-make_way.ensures.calm c.make_way.ensures.line_faults;
       handles = length-way _ _ _ _ c.in_ok-make_way.ensures.ok ∙ read ∙ c.each.invariant.handles;
       within = omega arith;
       counted = omega (arith, c.each.invariant.counted);
@@ -55,6 +55,6 @@ returns-in_err-make_way-clause-err g c =
     let size = length-drop c.in_ok-at.field-0 c.fill.new.input in
     let few = c.in_ok-ended.ensures.within in
     let within : c.each.at + c.in_ok-at.field-0 + length c.take_packet.new.input < 2 ^ 40 = omega arith in
-    rw (p.1, p.2) (unsaid_after _ _ _ _ _ _ c.each.count _ _ _ _ _ _ _ _ c.in_ok-ended.ended _ c.requires.opened c.each.invariant.comes c.in_ok-ended.ensures.reads
+    rw (p.1, p.2) (unsaid_after _ _ _ _ _ _ c.each.count _ _ _ _ _ _ _ _ c.in_ok-ended.ended _ c.requires.opened c.each.invariant.comes c.in_ok-ended.ensures.reads c.in_ok-ended.ensures.calm
     (c.in_ok-ended.ensures.end c.each.invariant.comes.end) c.in_ok-at.ensures.ok c.in_err-make_way.ensures.err c.in_err-make_way.ensures.page cause.0 cause.1 within
     c.make_way.ensures.read_faults c.make_way.ensures.write_faults c.make_way.ensures.line_faults)
