@@ -30,7 +30,7 @@ test_at-test_number EvenSubSlices = refl
 test_at-test_number CellAddresses = refl
 
 -- two tests with one number are one
-same_test : (a b : Test) → test_number a ≡ test_number b → a ≡ b
+pub same_test : (a b : Test) → test_number a ≡ test_number b → a ≡ b
 same_test a b e = sym (test_at-test_number a) ∙ ap test_at e ∙ test_at-test_number b
 
 -- one test more holds

@@ -1,3 +1,4 @@
+pub mod RefusalLemmas
 pub mod RuleLemmas
 pub mod PlpRuleLemmas
 pub mod TableLemmas

@@ -1,14 +1,16 @@
 -- Laws of the times and the tables, for the crates above. A slot lasts num / den ticks, and an epoch is any number of ticks.
 use Rattle.std.specs.Prelude.{◌≡◌, ◌≢◌, ℕ, ◌+◌, ◌-◌, ◌*◌, ◌/◌, ◌%◌, ◌^◌, ◌<◌, ◌≤◌, ◌↔◌, length}
 use Rattle.std.specs.Int.{div_ceil}
-use Rattle.plp_config.specs.Capacity.{block_bytes, field_bytes, block_cells, up_bytes, capacity}
+use Rattle.plp_config.specs.Capacity.{block_bytes, field_bytes, block_cells, up_bytes, capacity, AllTests, Lacks}
 use Rattle.plp_config.specs.Emission.{subseconds_by, origin, frame_subseconds, emission, FindsFrame}
 use Rattle.plp_config.specs.Plps.{plp_at}
-use Rattle.plp_config.specs.Rules.{AllRules}
+use Rattle.plp_config.specs.Rules.{AllRules, Refuses}
 use Rattle.plp_config.specs.RunLength.{frame_count, IsFrameCount}
 use Rattle.plp_config.specs.Tables.{subseconds_per_second, info_bits}
+use Rattle.plp_config.specs.declared.capacity.CapacityFault.{CapacityFault}
 use Rattle.plp_config.specs.declared.config.Config.{Config}
 use Rattle.plp_config.specs.declared.moment.Moment.{Moment}
+use Rattle.plp_config.specs.declared.rules.ConfigFault.{ConfigFault}
 use Rattle.plp_config.specs.SlotTime.{num, den, slot_start, slot_count, InRange, iscr_slot, delay_ticks, released_count, window_slots}
 
 -- a slot starts before a tick
@@ -119,6 +121,20 @@ EmissionFits = (c : Config) (frame : ℕ) → AllRules c → frame < 2 ^ 31
 -- `frame_count` is the least number of whole superframes that is enough
 abbrev pub FrameCountLeast : Type 0
 FrameCountLeast = (c : Config) (packets : ℕ → ℕ) → AllRules c → IsFrameCount c packets (frame_count c packets)
+
+-- A configuration has one refusal at most, and then a rule fails.
+abbrev pub OneRuleFails : Type 0
+OneRuleFails = (c : Config) (fault other : ConfigFault) → Refuses c fault → Refuses c other → fault ≡ other
+
+abbrev pub RefusalFails : Type 0
+RefusalFails = (c : Config) (fault : ConfigFault) → Refuses c fault → ¬ (AllRules c)
+
+-- The same for the capacity.
+abbrev pub OneTestFails : Type 0
+OneTestFails = (c : Config) (fault other : CapacityFault) → Lacks c fault → Lacks c other → fault ≡ other
+
+abbrev pub LackFails : Type 0
+LackFails = (c : Config) (fault : CapacityFault) → Lacks c fault → ¬ (AllTests c)
 
 -- Facts of the tables, for every configuration or for those that satisfy the rules.
 

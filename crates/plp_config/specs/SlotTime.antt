@@ -1,7 +1,7 @@
 -- Slots and ticks. A PLP of R bit/s has one slot for the 1504 bits of a transport packet. In ticks, elementary periods T,
 -- a slot lasts num / den, with num = 1504 Q and den = R M: a second has Q subseconds, and a tick M.
-use Rattle.std.specs.Prelude.{ℕ, ◌+◌, ◌-◌, ◌*◌, ◌/◌, ◌%◌, ◌^◌, ◌<◌, ◌≤◌}
-use Rattle.std.specs.Int.{div_ceil}
+use Rattle.std.specs.Prelude.{◌≡◌, ℕ, ◌+◌, ◌-◌, ◌*◌, ◌/◌, ◌%◌, ◌^◌, ◌<◌, ◌≤◌}
+use Rattle.std.specs.Int.{div_ceil, IsGcd}
 use Rattle.plp_config.specs.Plps.{plp_at}
 use Rattle.plp_config.specs.Tables.{subseconds_per_second, subseconds_per_tick}
 use Rattle.plp_config.specs.declared.config.Config.{Config}
@@ -45,7 +45,11 @@ num c = 1504 * subseconds_per_second c.band
 unfoldable pub den : Config → ℕ → ℕ
 den c plp = (plp_at c.plps plp).bits_per_second * subseconds_per_tick c.band
 
--- the same for the PLP at a place of a configuration
+-- the same in lowest terms: both are divided by their greatest common divisor
+abbrev pub IsSlotLength : Config → ℕ → ℕ → ℕ → Type 0
+IsSlotLength c plp n d = (divisor : ℕ) × IsGcd (num c) (den c plp) divisor × (n ≡ num c / divisor) × (d ≡ den c plp / divisor)
+
+-- the times of the PLP at a place of a configuration
 abbrev pub start : Config → ℕ → ℕ → ℕ
 start c plp slot = slot_start (num c) (den c plp) slot
 

@@ -3,7 +3,7 @@ ghost use Rattle.std.specs.Prelude.{◌≡◌, ◌<◌, ◌≤◌, ◌*◌, ◌�
 ghost use Rattle.plp_config.specs.FirstFailure.{FindsFailure};
 ghost use Rattle.plp_config.specs.Plps.{plp_at};
 ghost use Rattle.plp_config.specs.Rules.{AllRules};
-ghost use Rattle.plp_config.specs.Capacity.{block_bytes, field_bytes, block_cells, up_bytes, capacity, cell_need, PlaceFits, AllTests, Lacks, Throughput, CellCount, EvenSubSlices, CellAddresses};
+ghost use Rattle.plp_config.specs.Capacity.{block_bytes, field_bytes, block_cells, up_bytes, capacity, cell_need, need_of, PlaceFits, AllTests, Lacks, Throughput, CellCount, EvenSubSlices, CellAddresses};
 ghost use Rattle.plp_config.specs.SlotTime.{den};
 ghost use Rattle.plp_config.specs.CapacityTests.{AnswersTest};
 
@@ -74,7 +74,7 @@ fn throughput_lack(config: &Config) -> Option<CapacityFault>
     Some(CapacityFault {
         test: 1,
         plp: Some(plp),
-        need: load(config, usize::from(plp)).div_ceil(num(config)),
+        need: throughput_need(config, usize::from(plp)),
         have: u64::from(capacity(config, usize::from(plp))),
     })
 }
@@ -107,6 +107,15 @@ fn load(config: &Config, plp: usize) -> u64
     ensures { result ≡ up_bytes config.now plp * config.now.ticks * den config.now plp }
 {
     u64::from(up_bytes(config, plp)) * u64::from(ticks(config)) * den(config, plp)
+}
+
+// The same for each frame, rounded up.
+pub(crate) fn throughput_need(config: &Config, plp: usize) -> u64
+    requires rules { AllRules config.now }
+    requires configured { plp < length config.now.plps }
+    ensures { result ≡ need_of Throughput config.now plp }
+{
+    load(config, plp).div_ceil(num(config))
 }
 
 fn cell_count_lack(config: &Config) -> Option<CapacityFault>

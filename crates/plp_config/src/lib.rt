@@ -5,6 +5,7 @@ mod at;
 mod band;
 mod capacity;
 mod config;
+mod gcd;
 mod laws;
 mod list;
 mod moment;
@@ -19,7 +20,7 @@ pub use band::Band;
 pub use capacity::{CapacityFault, fits};
 pub use config::{Config, L1Numbers};
 pub use laws::{
-    block_law, delay_law, emission_law, iscr_law, length_law, range_law, release_law,
+    block_law, delay_law, emission_law, iscr_law, length_law, range_law, refusal_law, release_law,
     run_length_law, slot_time_law,
 };
 pub use list::PlpList;

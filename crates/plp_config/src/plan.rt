@@ -1,13 +1,15 @@
 // A configuration that every layer above can rely on.
 ghost use Rattle.std.specs.Prelude.{◌≡◌, ◌-◌, ◌^◌, ◌<◌, ◌≤◌, length};
-ghost use Rattle.plp_config.specs.Capacity.{AllTests, block_bytes, field_bytes, block_cells, up_bytes, capacity};
+ghost use Rattle.plp_config.specs.Capacity.{AllTests, Throughput, block_bytes, field_bytes, block_cells, up_bytes, capacity, need_of};
 ghost use Rattle.plp_config.specs.Emission.{emission};
 ghost use Rattle.plp_config.specs.Ranges.{HasRanges};
 ghost use Rattle.plp_config.specs.Rules.{AllRules};
-ghost use Rattle.plp_config.specs.SlotTime.{start, slots_by, delay, window};
+ghost use Rattle.plp_config.specs.SlotTime.{IsSlotLength, start, slots_by, delay, window};
 ghost use Rattle.plp_config.specs.Tables.{subseconds_per_second};
 
+use crate::capacity::throughput_need;
 use crate::config::Config;
+use crate::gcd::gcd;
 use crate::moment::Moment;
 use crate::values;
 use std::marker::Model;
@@ -47,6 +49,18 @@ impl Plan {
         ensures ranges { HasRanges result.now }
     {
         &self.config
+    }
+
+    /// The length of a slot of a PLP in ticks, a fraction in lowest terms: its numerator and its
+    /// denominator.
+    pub fn slot_length(&self, plp: usize) -> (u64, u64)
+        requires { plp < length self.now.plps }
+        ensures { IsSlotLength self.now plp result.0 result.1 }
+    {
+        let num = values::num(&self.config);
+        let den = values::den(&self.config, plp);
+        let divisor = gcd(num, den);
+        (num / divisor, den / divisor)
     }
 
     /// How many slots of a PLP are over by a tick.
@@ -134,6 +148,14 @@ impl Plan {
         ensures greatest { result ≤ 6874560 }
     {
         values::capacity(&self.config, plp)
+    }
+
+    /// Bytes of user packets that a frame brings, rounded up; at most `capacity`.
+    pub fn need(&self, plp: usize) -> u64
+        requires { plp < length self.now.plps }
+        ensures { result ≡ need_of Throughput self.now plp }
+    {
+        throughput_need(&self.config, plp)
     }
 
     /// Bytes of a user packet: 188 where null packets are deleted, else 187.
