@@ -12,10 +12,11 @@ use words::words_of;
 
 fn main(rt: HostRuntime) -> ExitCode {
     let alloc = rt.alloc();
-    let outcome = match words_of(&rt) {
-        Ok(words) => run(alloc, words.as_slice(), &mut HostDesk::new(&rt, alloc)),
-        Err(_) => Outcome::OutOfMemory,
+    let Ok(words) = words_of(&rt) else {
+        advise(&rt, &[], Outcome::OutOfMemory);
+        return ExitCode::from(Outcome::OutOfMemory.status());
     };
-    advise(&rt, outcome);
+    let outcome = run(alloc, words.as_slice(), &mut HostDesk::new(&rt, alloc));
+    advise(&rt, words.as_slice(), outcome);
     ExitCode::from(outcome.status())
 }

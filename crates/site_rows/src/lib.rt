@@ -2,4 +2,8 @@
 #![tactic(auto)]
 
 #[cfg(test)]
+mod configuration;
+#[cfg(test)]
+mod runs;
+#[cfg(test)]
 mod show_packets;

@@ -1,7 +1,6 @@
 // `show packets FILE`.
-use ports::MemoryDesk;
-use site_top::{Outcome, Word, run};
-use std::alloc::Global;
+use crate::runs::said;
+use site_top::Outcome;
 use std::process::Abort;
 use std::test::Fail;
 use t2mi_packet::PacketWhy;
@@ -27,18 +26,6 @@ offset=12 type=42 count=255 superframe=15 stream=7 bits=0 head=
 offset=22 type=10 count=1 superframe=1 stream=1 bits=8 head=f0
 packets=3
 ";
-
-// What a run over words said and how it ended, with one file on the desk.
-fn said(alloc: Global, words: &[&str], file: &[u8]) -> Result<(Outcome, Vec<u8>), Fail> {
-    let mut desk = MemoryDesk::new(alloc);
-    desk.put_file("f", file)?;
-    let mut list = Vec::new(alloc);
-    for word in words {
-        list.push(Word::new(alloc, word)?)?;
-    }
-    let outcome = run(alloc, list.as_slice(), &mut desk);
-    Ok((outcome, desk.said().to_vec(alloc)?))
-}
 
 // A run over a file says this and ends so.
 fn shows(

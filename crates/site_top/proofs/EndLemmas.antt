@@ -7,10 +7,11 @@ use Rattle.std.proofs.lemmas.Bool.{cases_lt}
 use Rattle.ports.specs.Desk.{State, Held, SameCounts, Keeps, Says, Rose, Opens, left_of, bytes_of}
 use Rattle.t2mi_packet.specs.declared.packet.Packet.{Packet}
 use Rattle.site_top.specs.declared.outcome.Outcome.{Outcome}
-use Rattle.site_top.specs.declared.outcome.Outcome.TheVariants.{Done, Usage, TooLong, PacketRefused, ReadFault, WriteFault, OutOfMemory}
+use Rattle.site_top.specs.declared.outcome.Outcome.TheVariants.{Done, Usage, ConfigRefused, CapacityRefused, TooLong, PacketRefused, ReadFault, WriteFault, OutOfMemory}
 use Rattle.site_top.specs.PacketFile.{Packs, bytes_in}
 use Rattle.site_top.specs.SaidLines.{lines_of, count_line}
-use Rattle.site_top.specs.ShowPackets.{Said, SaidFirst, Opened, ReadsFile, Counts, Shows}
+use Rattle.site_top.specs.ShowPackets.{Said, SaidFirst, ReadsFile, Counts, Shows}
+use Rattle.site_top.specs.Files.{Opened}
 use Rattle.site_top.specs.Progress.{Shown, Only, StopsIn, StopsAt, EndsAt, GivesAll, Stops, Finishes, SaysRest, ShowsOpened}
 use Rattle.site_top.proofs.PacketFileLemmas.{packs_first, lines_of-append, file_len}
 use Rattle.site_top.proofs.ProgressLemmas.{if_some, said_only, said_more}
@@ -50,6 +51,8 @@ said_by file start now new page given ReadFault cause x says = (said_first file 
 said_by file start now new page given WriteFault cause x says = (said_first file start now new x.0 x.1 x.2 page x.3 says, tt)
 said_by file start now new page given Done cause x says = absurd cause
 said_by file start now new page given Usage cause x says = absurd cause
+said_by file start now new page given (ConfigRefused _) cause x says = absurd cause
+said_by file start now new page given (CapacityRefused _ _ _ _) cause x says = absurd cause
 said_by file start now new page given OutOfMemory cause x says = absurd cause
 
 -- what a run that stopped has said where its page was lost
@@ -60,6 +63,8 @@ said_though file start now new page given ReadFault cause x k = said_before file
 said_though file start now new page given WriteFault cause x k = said_before file start now new x.0 x.1 x.2 page x.3 k
 said_though file start now new page given Done cause x k = absurd cause
 said_though file start now new page given Usage cause x k = absurd cause
+said_though file start now new page given (ConfigRefused _) cause x k = absurd cause
+said_though file start now new page given (CapacityRefused _ _ _ _) cause x k = absurd cause
 said_though file start now new page given OutOfMemory cause x k = absurd cause
 
 -- a count that rose stays so
@@ -79,6 +84,8 @@ cause_on start now new given (TooLong n) r w rf wf c = c
 cause_on start now new given (PacketRefused at why) r w rf wf c = c
 cause_on start now new given Done r w rf wf c = absurd c
 cause_on start now new given Usage r w rf wf c = absurd c
+cause_on start now new given (ConfigRefused _) r w rf wf c = absurd c
+cause_on start now new given (CapacityRefused _ _ _ _) r w rf wf c = absurd c
 cause_on start now new given OutOfMemory r w rf wf c = absurd c
 
 given_most : (start now : State) (given : ℕ) (outcome : Outcome) → StopsAt start now given outcome → given ≤ 2 ^ 40
@@ -88,6 +95,8 @@ given_most start now given (TooLong n) c = omega (arith, c.1)
 given_most start now given (PacketRefused at why) c = omega (arith, c)
 given_most start now given Done c = absurd c
 given_most start now given Usage c = absurd c
+given_most start now given (ConfigRefused _) c = absurd c
+given_most start now given (CapacityRefused _ _ _ _) c = absurd c
 given_most start now given OutOfMemory c = absurd c
 
 -- a run that stopped ends
@@ -144,7 +153,7 @@ was_some None d h = cc
 was_some (Some x) d h = refl
 
 -- what is left behind a handle that was just opened is the file
-told : (held : Option Held) (name : List ℕ) (left : Option (List ℕ)) (P : List ℕ → Type 0) → left ≡ option_and_then (λ h. get h.files name) held → IfSome held (λ h. IsSome (get h.files name)) → IfSome left P →
+pub told : (held : Option Held) (name : List ℕ) (left : Option (List ℕ)) (P : List ℕ → Type 0) → left ≡ option_and_then (λ h. get h.files name) held → IfSome held (λ h. IsSome (get h.files name)) → IfSome left P →
     IfSome held (λ h. P (bytes_of h.files name))
 told None name left P e present h = tt
 told (Some k) name left P e present h =
@@ -152,7 +161,7 @@ told (Some k) name left P e present h =
     rw there at h
 
 -- the handle that was just opened moved alone
-moved : (old mid new : State) (name : List ℕ) (handle given : ℕ) → Opens old mid name handle → Only mid new handle given → Opened old new name given
+pub moved : (old mid new : State) (name : List ℕ) (handle given : ℕ) → Opens old mid name handle → Only mid new handle given → Opened old new name given
 moved old mid new name handle given o m = record {
   present = o.present;
   held = m.held ∙ o.held;
@@ -170,6 +179,8 @@ reads_by old mid new name handle given (TooLong n) o m c all =
 reads_by old mid new name handle given ReadFault o m c all = inr (given, moved old mid new name handle given o m, c.1)
 reads_by old mid new name handle given OutOfMemory o m c all = absurd c
 reads_by old mid new name handle given Usage o m c all = absurd c
+reads_by old mid new name handle given (ConfigRefused _) o m c all = absurd c
+reads_by old mid new name handle given (CapacityRefused _ _ _ _) o m c all = absurd c
 
 -- the lines that were said since the file was opened were said since before
 said_since : (file : List ℕ) (old mid new : State) (outcome : Outcome) → mid.said ≡ old.said → Said file mid new outcome → Said file old new outcome
@@ -179,6 +190,8 @@ said_since file old mid new (TooLong n) e x = (x.0, (x.1.0, x.1.1, x.1.2, x.1.3 
 said_since file old mid new ReadFault e x = (x.0, x.1, x.2, x.3 ∙ ap (option_map (λ t. t ++ lines_of 0 x.0)) e)
 said_since file old mid new WriteFault e x = (x.0, x.1, x.2, x.3 ∙ ap (option_map (λ t. t ++ lines_of 0 x.0)) e)
 said_since file old mid new Usage e x = (x.0, x.1, x.2, x.3 ∙ ap (option_map (λ t. t ++ lines_of 0 x.0)) e)
+said_since file old mid new (ConfigRefused _) e x = (x.0, x.1, x.2, x.3 ∙ ap (option_map (λ t. t ++ lines_of 0 x.0)) e)
+said_since file old mid new (CapacityRefused _ _ _ _) e x = (x.0, x.1, x.2, x.3 ∙ ap (option_map (λ t. t ++ lines_of 0 x.0)) e)
 said_since file old mid new OutOfMemory e x = (x.0, x.1, x.2, x.3 ∙ ap (option_map (λ t. t ++ lines_of 0 x.0)) e)
 
 counts_by : (old mid new : State) (handle : ℕ) (outcome : Outcome) → SameCounts old mid → ShowsOpened mid new handle outcome → Counts old new outcome

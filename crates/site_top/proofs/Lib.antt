@@ -1,7 +1,10 @@
+pub mod ConfigEndLemmas
+pub mod ConfigLemmas
 pub mod EndLemmas
 pub mod EndingLemmas
 pub mod InputLemmas
 pub mod LineLemmas
 pub mod PacketFileLemmas
 pub mod ProgressLemmas
+pub mod RunLemmas
 pub mod StopLemmas

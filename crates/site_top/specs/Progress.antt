@@ -4,7 +4,7 @@ use Rattle.ports.specs.Desk.{State, Rose, SameCounts, Keeps, Says, left_of}
 use Rattle.t2mi_packet.specs.declared.packet.Packet.{Packet}
 use Rattle.t2mi_packet.specs.T2miPacket.{packet_len, BeginsWith}
 use Rattle.site_top.specs.declared.outcome.Outcome.{Outcome}
-use Rattle.site_top.specs.declared.outcome.Outcome.TheVariants.{Done, Usage, TooLong, PacketRefused, ReadFault, WriteFault, OutOfMemory}
+use Rattle.site_top.specs.declared.outcome.Outcome.TheVariants.{Done, TooLong, PacketRefused, ReadFault, WriteFault}
 use Rattle.site_top.specs.PacketFile.{Packs, bytes_in, IsRefused}
 use Rattle.site_top.specs.SaidLines.{line_of, lines_of}
 use Rattle.site_top.specs.Reading.{IsAtEnd}
@@ -39,11 +39,7 @@ pub record Comes (start now : State) (handle at count : ℕ) (waiting page : Lis
 abbrev pub StopsReading : State → State → ℕ → Outcome → Type 0
 StopsReading old new given ReadFault = Rose old.read_faults new.read_faults × (given < 2 ^ 40)
 StopsReading old new given (TooLong count) = (count ≡ 2 ^ 40) × (given ≡ 2 ^ 40) × (new.read_faults ≡ old.read_faults)
-StopsReading old new given Done = ⊥
-StopsReading old new given Usage = ⊥
-StopsReading old new given (PacketRefused at why) = ⊥
-StopsReading old new given WriteFault = ⊥
-StopsReading old new given OutOfMemory = ⊥
+StopsReading old new given outcome = ⊥
 
 -- A packet began the bytes, and its line went onto the page.
 pub record Takes (bytes left : List ℕ) (at len : ℕ) (page longer : List ℕ) : Type 0 where
@@ -74,9 +70,7 @@ StopsAt start now given ReadFault = Rose start.read_faults now.read_faults × (g
 StopsAt start now given WriteFault = Rose start.write_faults now.write_faults × (given < 2 ^ 40)
 StopsAt start now given (TooLong count) = (count ≡ 2 ^ 40) × (given ≡ 2 ^ 40)
 StopsAt start now given (PacketRefused at why) = given < 2 ^ 40
-StopsAt start now given Done = ⊥
-StopsAt start now given Usage = ⊥
-StopsAt start now given OutOfMemory = ⊥
+StopsAt start now given outcome = ⊥
 
 -- the same, where the run may have come to the end
 abbrev pub EndsAt : State → State → ℕ → Outcome → Type 0

@@ -1,10 +1,12 @@
 // The last line of a run that is not done.
-ghost use Rattle.std.specs.Prelude.{◌≡◌, ◌≤◌, length};
+ghost use Rattle.std.specs.Prelude.{◌≡◌, ◌+◌, ◌++◌, ◌≤◌, codes, length};
 ghost use Rattle.site_top.specs.declared.line.TheConstants.{ROOM};
-ghost use Rattle.site_top.specs.Outcomes.{last_line as line_of_outcome, why_number as number_of_why};
+ghost use Rattle.site_top.specs.declared.outcome.ConfigCause.TheVariants.{Text, Rule};
+ghost use Rattle.site_top.specs.Outcomes.{last_line as line_of_outcome, why_number as number_of_why, text_why_number as number_of_text_why, place_word};
 
 use crate::line::Line;
-use crate::outcome::Outcome;
+use crate::outcome::{ConfigCause, Outcome};
+use config_text::TextWhy;
 use t2mi_packet::PacketWhy;
 
 fn why_number(why: PacketWhy) -> u8
@@ -34,6 +36,68 @@ fn packet_refused_line(at: u64, why: PacketWhy) -> Line
     line
 }
 
+fn text_why_number(why: TextWhy) -> u8
+    ensures { result ≡ number_of_text_why why }
+{
+    why as u8
+}
+
+#[tactic(auto, unfolding(crate::specs::Outcomes::last_line))]
+fn text_refused_line(line: u32, why: TextWhy) -> Line
+    ensures { result ≡ line_of_outcome (Outcome.ConfigRefused (Text line why)) }
+{
+    let mut last = Line::new();
+    last.push_field(b"refused: config line ", u64::from(line));
+    last.push_field(b" why ", u64::from(text_why_number(why)));
+    last.push(b"\n");
+    last
+}
+
+// Adds the place of a PLP, or a dash where there is none.
+fn push_place(line: &mut Line, plp: Option<u8>)
+    requires { length line.old + 25 ≤ ROOM }
+    ensures text { line.new ≡ line.old ++ codes " plp " ++ place_word plp }
+    ensures len { length line.new ≤ length line.old + 25 }
+{
+    match plp {
+        Some(place) => line.push_field(b" plp ", u64::from(place)),
+        None => line.push(b" plp -"),
+    }
+}
+
+#[tactic(auto, unfolding(crate::specs::Outcomes::last_line))]
+fn rule_refused_line(rule: u8, plp: Option<u8>) -> Line
+    ensures { result ≡ line_of_outcome (Outcome.ConfigRefused (Rule rule plp)) }
+{
+    let mut last = Line::new();
+    last.push_field(b"refused: config rule ", u64::from(rule));
+    push_place(&mut last, plp);
+    last.push(b"\n");
+    last
+}
+
+#[tactic(auto, unfolding(crate::specs::Outcomes::last_line))]
+fn capacity_refused_line(test: u8, plp: Option<u8>, need: u64, have: u64) -> Line
+    ensures { result ≡ line_of_outcome (Outcome.CapacityRefused test plp need have) }
+{
+    let mut last = Line::new();
+    last.push_field(b"refused: capacity test ", u64::from(test));
+    push_place(&mut last, plp);
+    last.push_field(b" need ", need);
+    last.push_field(b" have ", have);
+    last.push(b"\n");
+    last
+}
+
+fn config_refused_line(cause: ConfigCause) -> Line
+    ensures { result ≡ line_of_outcome (Outcome.ConfigRefused cause) }
+{
+    match cause {
+        ConfigCause::Text { line, why } => text_refused_line(line, why),
+        ConfigCause::Rule { rule, plp } => rule_refused_line(rule, plp),
+    }
+}
+
 fn line_with(text: &[u8]) -> Line
     requires { length text.now ≤ ROOM }
     ensures { result ≡ text.now }
@@ -51,6 +115,13 @@ pub fn last_line(outcome: Outcome) -> Line
     match outcome {
         Outcome::Done => Line::new(),
         Outcome::Usage => line_with(b"refused: usage\n"),
+        Outcome::ConfigRefused { cause } => config_refused_line(cause),
+        Outcome::CapacityRefused {
+            test,
+            plp,
+            need,
+            have,
+        } => capacity_refused_line(test, plp, need, have),
         Outcome::TooLong { count } => too_long_line(count),
         Outcome::PacketRefused { at, why } => packet_refused_line(at, why),
         Outcome::ReadFault => line_with(b"fault: read\n"),

@@ -44,7 +44,7 @@ impl Model for Input {
 fn settle(bytes: &mut [u8], span: Span) -> Span
     requires order { span.start ≤ span.end }
     requires within { span.end ≤ length bytes.old }
-    requires few { span.end - span.start < LARGEST }
+    requires few { span.end - span.start + LARGEST ≤ BUFFER }
     requires size { length bytes.old ≡ BUFFER }
     ensures { IsSettled bytes.old span bytes.new result }
 {
@@ -94,7 +94,7 @@ fn read_behind<D: Desk>(
     requires opened { handle < length (D.state desk.old).opened }
     requires order { span.old.start ≤ span.old.end }
     requires within { span.old.end ≤ length bytes.old }
-    requires few { span.old.end - span.old.start < LARGEST }
+    requires few { span.old.end - span.old.start + LARGEST ≤ BUFFER }
     requires size { length bytes.old ≡ BUFFER }
     requires some { 0 < most }
     ensures reads { ReadsOn (D.state desk.old) (D.state desk.new) handle (part_in span.old bytes.old) (part_in span.new bytes.new) }
@@ -159,7 +159,7 @@ impl Input {
         most: u64,
     ) -> Result<usize, DeskFault>
         requires opened { handle < length (D.state desk.old).opened }
-        requires few { length self.old < LARGEST }
+        requires few { length self.old + LARGEST ≤ BUFFER }
         requires some { 0 < most }
         ensures reads { ReadsOn (D.state desk.old) (D.state desk.new) handle self.old self.new }
         ensures count { IfOk result (λ n. length self.new ≡ length self.old + n) }

@@ -1,6 +1,8 @@
 // Laws of the definitions. Their functions do nothing.
 ghost use Rattle.site_top.specs.Laws.{OneEnding};
 
+use config_text::{not_refused, refused_once, spelled_once};
+use plp_config::refusal_law;
 use t2mi_packet::{no_refusal, one_packet, one_refusal};
 
 /// The bytes of a file decide how a run over it must end.
@@ -10,4 +12,8 @@ pub fn one_ending()
     one_packet();
     no_refusal();
     one_refusal();
+    spelled_once();
+    not_refused();
+    refused_once();
+    refusal_law();
 }

@@ -1,6 +1,8 @@
 //! The commands of the program, over any desk.
 #![tactic(auto)]
 
+mod config_commands;
+mod config_file;
 mod ending;
 mod input;
 mod laws;
@@ -9,11 +11,13 @@ mod outcome;
 mod packet_line;
 mod packets;
 mod page;
+mod plan_lines;
+mod request;
 mod running;
 mod show;
 mod word;
 
 pub use laws::one_ending;
-pub use outcome::Outcome;
+pub use outcome::{ConfigCause, Outcome};
 pub use running::run;
 pub use word::Word;

@@ -7,7 +7,7 @@ use itoa::Buffer;
 use std::marker::Model;
 
 // Room for the longest line, in bytes.
-pub const ROOM: usize = 192;
+pub const ROOM: usize = 384;
 
 /// A line of at most [`ROOM`] bytes, seen as its bytes.
 #[derive(Drop)]

@@ -2,7 +2,17 @@
 ghost use Rattle.std.specs.Prelude.{◌≡◌};
 ghost use Rattle.site_top.specs.Outcomes.{status_of};
 
+use config_text::TextWhy;
 use t2mi_packet::PacketWhy;
+
+/// Why a file gives no configuration that satisfies the rules.
+#[derive(Clone, Copy, Debug, PartialEq, Eq)]
+pub enum ConfigCause {
+    /// The text is refused at a line, counted from 1 with skipped ones; at line 0 for its length.
+    Text { line: u32, why: TextWhy },
+    /// A rule fails, and this is the first place where it does, if it is one of the PLPs.
+    Rule { rule: u8, plp: Option<u8> },
+}
 
 /// How a run ended.
 #[derive(Clone, Copy, Debug, PartialEq, Eq)]
@@ -11,10 +21,27 @@ pub enum Outcome {
     Done,
     /// The words are no command.
     Usage,
+    /// A file gives no configuration that satisfies the rules.
+    ConfigRefused {
+        cause: ConfigCause,
+    },
+    /// A capacity test fails, at this place first if it is one of the PLPs; what it needs there, and
+    /// what there is.
+    CapacityRefused {
+        test: u8,
+        plp: Option<u8>,
+        need: u64,
+        have: u64,
+    },
     /// A file gave as many bytes as no file may have; `count` is their number.
-    TooLong { count: u64 },
+    TooLong {
+        count: u64,
+    },
     /// No packet begins at byte `at` of the file, counted from 0, where one must.
-    PacketRefused { at: u64, why: PacketWhy },
+    PacketRefused {
+        at: u64,
+        why: PacketWhy,
+    },
     /// A file could not be opened or read.
     ReadFault,
     /// Standard output did not take a text.
@@ -31,6 +58,8 @@ impl Outcome {
         match self {
             Outcome::Done => 0,
             Outcome::Usage => 2,
+            Outcome::ConfigRefused { .. } => 3,
+            Outcome::CapacityRefused { .. } => 4,
             Outcome::TooLong { .. } => 9,
             Outcome::PacketRefused { .. } => 10,
             Outcome::ReadFault => 70,

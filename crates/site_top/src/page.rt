@@ -6,7 +6,7 @@ use std::alloc::Global;
 use std::marker::Model;
 
 /// How many bytes of lines are gathered at most.
-pub const PAGE: usize = 65536;
+pub const PAGE: usize = 131072;
 
 /// Lines that wait to be said together, seen as their bytes. After `open` it takes no memory.
 #[derive(Drop)]

@@ -1,63 +1,58 @@
 // The top call.
 ghost use Rattle.std.specs.Prelude.{◌≡◌, ◌↔◌, IfSome, IfNone, IsNone};
-ghost use Rattle.std.specs.Option.{option_map};
 ghost use Rattle.ports.specs.Desk.{State};
-ghost use Rattle.site_top.specs.ShowPackets.{shown_file, Shows, Ends, IsComplete};
+ghost use Rattle.site_top.specs.Commands.{command_of};
+ghost use Rattle.site_top.specs.Endings.{Ends};
+ghost use Rattle.site_top.specs.Runs.{Does, IsComplete};
 
+use crate::config_commands::{plan, show_config};
 use crate::ending::last_line;
 use crate::laws::one_ending;
 use crate::outcome::Outcome;
+use crate::request::{Request, request_of};
 use crate::show::show_packets;
 use crate::word::Word;
 use ports::Desk;
 use std::alloc::Global;
 
-// The name in the words `show packets FILE`.
-fn shown<'a>(words: &'a [Word]) -> Option<&'a str>
-    ensures { option_map (λ name. name.now) result ≡ shown_file words.now }
+// Does what the words say, but for the last line.
+fn command<D: Desk>(alloc: Global, words: &[Word], desk: &mut D) -> Outcome
+    ensures does { IfSome (command_of words.now) (λ command. Does command (D.state desk.old) (D.state desk.new) result) }
+    ensures refuses { IfNone (command_of words.now) ((result ≡ Outcome.Usage) × (D.state desk.new ≡ D.state desk.old)) }
 {
-    match words {
-        [show, packets, name] => {
-            if show.as_str() == "show"
-                && packets.as_str() == "packets"
-                && !name.as_str().is_empty()
-            {
-                Some(name.as_str())
-            } else {
-                None
-            }
-        }
-        _ => None,
+    match request_of(words) {
+        Some(Request::ShowPackets { file }) => show_packets(alloc, file, desk),
+        Some(Request::ShowConfig { file }) => show_config(alloc, file, desk),
+        Some(Request::Plan { config }) => plan(alloc, config, desk),
+        None => Outcome::Usage,
     }
 }
 
-// Does what the words say, but for the last line.
-fn command<D: Desk>(alloc: Global, words: &[Word], desk: &mut D) -> Outcome
-    ensures shows { IfSome (shown_file words.now) (λ name. Shows (D.state desk.old) (D.state desk.new) name result) }
-    ensures refuses { IfNone (shown_file words.now) ((result ≡ Outcome.Usage) × (D.state desk.new ≡ D.state desk.old)) }
+// Says the last line of a run that is not done.
+fn finish<D: Desk>(desk: &mut D, outcome: Outcome)
+    ensures ends { Ends (D.state desk.old) (D.state desk.new) outcome }
+    ensures read_faults { (D.state desk.new).read_faults ≡ (D.state desk.old).read_faults }
+    ensures write_faults { (D.state desk.new).write_faults ≡ (D.state desk.old).write_faults }
 {
-    match shown(words) {
-        Some(name) => show_packets(alloc, name, desk),
-        None => Outcome::Usage,
+    if outcome != Outcome::Done {
+        desk.say_last(last_line(outcome).as_bytes());
     }
 }
 
 /// Runs the command that the words name, over a desk.
 pub fn run<D: Desk>(alloc: Global, words: &[Word], desk: &mut D) -> Outcome
     // The words are no command, exactly where the outcome says so; then the last line is all that is done.
-    ensures usage { (result ≡ Outcome.Usage) ↔ IsNone (shown_file words.now) }
-    ensures refuses { IfNone (shown_file words.now) (Ends (D.state desk.old) (D.state desk.new) Outcome.Usage) }
+    ensures usage { (result ≡ Outcome.Usage) ↔ IsNone (command_of words.now) }
+    ensures refuses { IfNone (command_of words.now) (Ends (D.state desk.old) (D.state desk.new) Outcome.Usage) }
 
-    // Else the file is shown, and a run that is not done says its last line.
-    ensures shows { IfSome (shown_file words.now) (λ name.
-        (before : State) × Shows (D.state desk.old) before name result × Ends before (D.state desk.new) result) }
+    // Else the command is done, and a run that is not done says its last line.
+    ensures does { IfSome (command_of words.now) (λ command.
+        (before : State) × Does command (D.state desk.old) before result × Ends before (D.state desk.new) result) }
 
-    ensures complete { IfSome (shown_file words.now) (λ name. IsComplete (D.state desk.old) (D.state desk.new) name result) }
+    ensures complete { IfSome (command_of words.now) (λ command. IsComplete command (D.state desk.old) (D.state desk.new) result) }
 {
     one_ending();
     let outcome = command(alloc, words, desk);
-    if outcome != Outcome::Done {
-        desk.say_last(last_line(outcome).as_bytes());
-    }
+    finish(desk, outcome);
     outcome
 }

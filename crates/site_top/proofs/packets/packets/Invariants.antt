@@ -9,7 +9,7 @@ invariant-each g l = record {
   handles : length (g.D.Desk.state l.desk).opened ≡ length (g.D.Desk.state l.initial.desk).opened;
   within : l.at + length l.input < 2 ^ 40;
   counted : l.count ≤ l.at;
-  room : length l.page + 192 ≤ 65536;
+  room : length l.page + 384 ≤ 131072;
 }
 
 abbrev pub decreases-each : goal.decreases-each

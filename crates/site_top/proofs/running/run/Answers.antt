@@ -1,14 +1,11 @@
-use Rattle.std.proofs.Common.{refl}
-use Rattle.site_top.specs.ShowPackets.{shown_file}
-use Rattle.site_top.proofs.EndingLemmas.{run_complete}
+use Rattle.site_top.specs.Commands.{command_of}
+use Rattle.site_top.proofs.RunLemmas.{run_does, run_complete}
 use Rattle.site_top.proofs.running.run.Goals as goal
 
-pub returns-then-ne-clause-complete : goal.returns-then-ne-clause-complete
-returns-then-ne-clause-complete g c =
-    run_complete c.one_ending.ensures (shown_file c.args.words.now) (g.D.Desk.state c.args.desk.now) (g.D.Desk.state c.command-outcome.new.desk) (g.D.Desk.state c.say_last.new.self) c.command-outcome.result
-    c.say_last.ensures.read_faults c.say_last.ensures.write_faults c.command-outcome.ensures.shows
+pub returns-clause-does : goal.returns-clause-does
+returns-clause-does g c = run_does (command_of c.args.words.now) _ _ _ _ c.command-outcome.ensures.does c.finish.ensures.ends
 
-pub returns-else-ne-clause-complete : goal.returns-else-ne-clause-complete
-returns-else-ne-clause-complete g c =
-    run_complete c.one_ending.ensures (shown_file c.args.words.now) (g.D.Desk.state c.args.desk.now) (g.D.Desk.state c.command-outcome.new.desk) (g.D.Desk.state c.command-outcome.new.desk) c.command-outcome.result
-    refl refl c.command-outcome.ensures.shows
+pub returns-clause-complete : goal.returns-clause-complete
+returns-clause-complete g c =
+    run_complete c.one_ending.ensures (command_of c.args.words.now) (g.D.Desk.state c.args.desk.now) (g.D.Desk.state c.command-outcome.new.desk) (g.D.Desk.state c.finish.new.desk) c.command-outcome.result
+    c.finish.ensures.read_faults c.finish.ensures.write_faults c.command-outcome.ensures.does

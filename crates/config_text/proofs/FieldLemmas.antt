@@ -1,0 +1,85 @@
+-- The fields of a line, one after another.
+use Rattle.std.proofs.Common.{ℕ, zero, suc, ◌≡◌, ◌<◌, ◌≤◌, ◌+◌, ◌∷◌, ◌++◌, ◌∙◌, List, [], length, take, drop, get_or, set, ap, sym, subst, arith, refl, inl, inr, cond, Some, None, bytes_eq, Bool, true, false, append-nil, append_assoc, length-drop}
+use Rattle.std.proofs.lemmas.List.{drop_more, length-set}
+use Rattle.std.proofs.lemmas.Grind.{take-set_at}
+use Rattle.config_text.specs.ConfigText.{ReadsLine}
+use Rattle.config_text.specs.Fields.{SpellsField, SpellsFields, SpellsValue, FailsFirst, why_of, Spelling, spelling_of, place_from, fields_at}
+use Rattle.config_text.specs.Fields.Spelling.{Number, Word}
+use Rattle.config_text.specs.Words.{values_from, first_values, Fits, FitFields}
+use Rattle.config_text.specs.declared.field.Field.{Field}
+use Rattle.config_text.specs.declared.fault.TextWhy.{TextWhy}
+
+-- Fields up to i have their values, and the words that are left are for the others.
+pub record Goes (fields : List Field) (words : List (List ℕ)) (i : ℕ) (left : List (List ℕ)) (values : List ℕ) : Type 0 where
+  pub size : length values ≡ 12
+  pub count : length left + i ≡ length fields
+  pub ok : (vs : List ℕ) → SpellsFields (drop i fields) vs left → SpellsFields fields (take i values ++ vs) words
+  pub err : (why : TextWhy) → FailsFirst (drop i fields) left why → FailsFirst fields words why
+
+pub goes_first : (fields : List Field) (words : List (List ℕ)) (values : List ℕ) → length values ≡ 12 → length words ≡ length fields → Goes fields words 0 words values
+goes_first fields words values size count = record { size = size; count = omega arith; ok = λ vs h. h; err = λ why h. h }
+
+pub goes_on : (fields : List Field) (words : List (List ℕ)) (i : ℕ) (before left : List (List ℕ)) (word values : List ℕ) (n : ℕ) (d : Field)
+    → Goes fields words i before values → before ≡ word ∷ left → i < length fields → i < 12 → SpellsField (get_or fields i d) n word → Goes fields words (i + 1) left (set values i n)
+goes_on fields words i before left word values n d goes are inside room spelled = record {
+  size = length-set values i n ∙ goes.size;
+  count = omega (arith, goes.count, ap length are);
+  ok = λ vs h.
+      let front : SpellsFields (drop i fields) (n ∷ vs) before = rw (drop_more fields i d inside, are) (spelled, h) in
+      let all : SpellsFields fields (take i values ++ n ∷ vs) words = goes.ok (n ∷ vs) front in
+      let taken : take (i + 1) (set values i n) ≡ take i values ++ n ∷ [] = take-set_at values i (i + 1) n refl (omega (arith, goes.size)) in
+      subst (λ (row : List ℕ). SpellsFields fields row words) (sym (ap (λ (l : List ℕ). l ++ vs) taken ∙ append_assoc (take i values) (n ∷ []) vs)) all;
+  err = λ why h. goes.err why (rw (drop_more fields i d inside, are) (inr (n, spelled, h)));
+}
+
+pub goes_stops : (fields : List Field) (words : List (List ℕ)) (i : ℕ) (before left : List (List ℕ)) (word values : List ℕ) (d : Field)
+    → Goes fields words i before values → before ≡ word ∷ left → i < length fields → ((n : ℕ) → SpellsField (get_or fields i d) n word → ⊥)
+    → FailsFirst fields words (why_of (spelling_of (get_or fields i d)))
+goes_stops fields words i before left word values d goes are inside fails = goes.err _ (rw (drop_more fields i d inside, are) (inl (fails, refl)))
+
+values_from-cons : (x : ℕ) (n place : ℕ) (values : List ℕ) → values_from (suc place) n (x ∷ values) ≡ values_from place n values
+values_from-cons x zero place values = refl
+values_from-cons x (suc n) place values = ap (λ (l : List ℕ). get_or values place 0 ∷ l) (values_from-cons x n (suc place) values)
+
+pub first_values-take : (n : ℕ) (values : List ℕ) → n ≤ length values → first_values n values ≡ take n values
+first_values-take zero values within = refl
+first_values-take (suc n) [] within = absurd (omega arith)
+first_values-take (suc n) (x ∷ values) within = ap (λ (l : List ℕ). x ∷ l) (values_from-cons x n 0 values ∙ first_values-take n values (omega arith))
+
+-- nothing is left
+spelled_none : (fields : List Field) (left : List (List ℕ)) → length fields ≡ 0 → length left ≡ 0 → SpellsFields fields [] left
+spelled_none [] [] a b = tt
+spelled_none [] (w ∷ ws) a b = absurd (omega arith)
+spelled_none (f ∷ fs) left a b = absurd (omega arith)
+
+pub goes_ends : (fields : List Field) (words : List (List ℕ)) (i : ℕ) (left : List (List ℕ)) (values : List ℕ)
+    → Goes fields words i left values → i ≡ length fields → length fields ≤ 12 → SpellsFields fields (first_values (length fields) values) words
+goes_ends fields words i left values goes end few =
+    let none : SpellsFields (drop i fields) [] left = spelled_none (drop i fields) left (omega (arith, length-drop i fields)) (omega (arith, goes.count)) in
+    let all : SpellsFields fields (take i values) words = rw append-nil at (goes.ok [] none) in
+    let same : first_values (length fields) values ≡ take i values = first_values-take (length fields) values (omega (arith, goes.size)) ∙ ap (λ (k : ℕ). take k values) (sym end) in
+    subst (λ (row : List ℕ). SpellsFields fields row words) (sym same) all
+
+-- a place is one of the list
+place_lt : (k : ℕ) (word : List ℕ) (ws : List (List ℕ)) (n : ℕ) → place_from k word ws ≡ Some n → n < k + length ws
+place_lt k word [] n e = absurd (let none : None ≡ Some n = e in cc)
+place_lt k word (w ∷ ws) n e = step (bytes_eq word w) (λ later. place_lt (k + 1) word ws n later) e
+  where
+    step : (same : Bool) → (place_from (k + 1) word ws ≡ Some n → n < k + 1 + length ws) → cond same (Some k) (place_from (k + 1) word ws) ≡ Some n → n < k + length (w ∷ ws)
+    step true later e = (let here : Some k ≡ Some n = e in let same : k ≡ n = cc in omega arith)
+    step false later e = omega (arith, later e)
+
+value_fits : (s : Spelling) (n : ℕ) (word : List ℕ) → SpellsValue s n word → Fits s n
+value_fits (Number least greatest) n word spells = (spells.1, spells.2)
+value_fits (Word words) n word spells = omega (arith, place_lt 0 word words n spells)
+
+pub fields_fit : (fs : List Field) (ns : List ℕ) (ws : List (List ℕ)) → SpellsFields fs ns ws → FitFields fs ns
+fields_fit [] [] [] spells = tt
+fields_fit [] [] (w ∷ ws) spells = absurd spells
+fields_fit [] (n ∷ ns) ws spells = absurd spells
+fields_fit (f ∷ fs) [] ws spells = absurd spells
+fields_fit (f ∷ fs) (n ∷ ns) [] spells = absurd spells
+fields_fit (f ∷ fs) (n ∷ ns) (w ∷ ws) spells = (value_fits (spelling_of f) n w spells.0, fields_fit fs ns ws spells.1)
+
+pub line_fits : (due : ℕ) (line row : List ℕ) → ReadsLine due line row → FitFields (fields_at due) row
+line_fits due line row reads = fields_fit (fields_at due) row reads.words reads.fields

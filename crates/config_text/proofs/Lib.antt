@@ -1,0 +1,10 @@
+pub mod CanonicalLemmas
+pub mod DecideLemmas
+pub mod DraftLemmas
+pub mod FieldLemmas
+pub mod LineLemmas
+pub mod NumberLemmas
+pub mod PartLemmas
+pub mod RowLemmas
+pub mod TextLemmas
+pub mod WriteLemmas

@@ -1,0 +1,5 @@
+pub mod ConfigText
+pub mod Drafts
+pub mod Fields
+pub mod Rows
+pub mod Words

@@ -1,0 +1,24 @@
+//! The text that configures a network, read and written.
+#![tactic(auto)]
+
+mod draft;
+mod fault;
+mod field;
+mod laws;
+mod line;
+mod lines;
+mod number;
+mod parts;
+mod places;
+mod reading;
+mod values;
+mod words;
+mod writing;
+
+pub use fault::{TextFault, TextWhy};
+pub use laws::{decided, not_refused, refused_once, spelled_once};
+pub use reading::read;
+pub use writing::write;
+
+#[cfg(test)]
+mod tests;

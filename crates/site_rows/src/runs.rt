@@ -1,0 +1,17 @@
+// Runs over a desk in memory.
+use ports::MemoryDesk;
+use site_top::{Outcome, Word, run};
+use std::alloc::Global;
+use std::test::Fail;
+
+/// How a run over words ended and what it said, with one file `f` on the desk.
+pub fn said(alloc: Global, words: &[&str], file: &[u8]) -> Result<(Outcome, Vec<u8>), Fail> {
+    let mut desk = MemoryDesk::new(alloc);
+    desk.put_file("f", file)?;
+    let mut list = Vec::new(alloc);
+    for word in words {
+        list.push(Word::new(alloc, word)?)?;
+    }
+    let outcome = run(alloc, list.as_slice(), &mut desk);
+    Ok((outcome, desk.said().to_vec(alloc)?))
+}

@@ -1,0 +1,14 @@
+use Rattle.site_top.proofs.ConfigLemmas.{front_read, front_not_read, config_ok, config_err}
+use Rattle.site_top.proofs.config_file.read_config.Goals as goal
+
+pub returns-in_default-read_text-clause-err : goal.returns-in_default-read_text-clause-err
+returns-in_default-read_text-clause-err g c =
+    front_not_read _ _ _ _ _ _ _ c.in-Ok.ensures c.in-Ok-open.ensures.ok c.in-Ok-open.ensures.counts c.read_text.ensures.reads c.in_default-read_text.ensures.err c.in_default-read_text.ensures.cause.rose
+
+pub returns-clause-ok : goal.returns-clause-ok
+returns-clause-ok g c =
+    config_ok _ _ _ _ _ (front_read _ _ _ _ _ _ _ _ c.in-Ok.ensures c.as_bytes.ensures c.in-Ok-open.ensures.ok c.in-Ok-open.ensures.counts c.read_text.ensures.reads c.in-Ok-read_text.ensures.calm c.read_text.ensures.few c.in-Ok-read_text.ensures.end) c.valid_config.ensures.ok
+
+pub returns-clause-err : goal.returns-clause-err
+returns-clause-err g c =
+    config_err _ _ _ _ _ (front_read _ _ _ _ _ _ _ _ c.in-Ok.ensures c.as_bytes.ensures c.in-Ok-open.ensures.ok c.in-Ok-open.ensures.counts c.read_text.ensures.reads c.in-Ok-read_text.ensures.calm c.read_text.ensures.few c.in-Ok-read_text.ensures.end) c.valid_config.ensures.err
