@@ -10,6 +10,7 @@ use Rattle.terms.proofs.PartLemmas.{part-middle, number-middle}
 use Rattle.ts_packet.specs.declared.fault.TsFault.{TsFault}
 use Rattle.ts_packet.specs.declared.fault.TsFault.TheVariants.{NoSync, BadAdaptation}
 use Rattle.ts_packet.specs.TransportPacket.{Fields, flag, header_bits, control_of, adaptation_bytes, packet_bytes, Fits, Spells, HasSync, control_at, length_at, IsBadAdaptation, Refuses}
+use Rattle.ts_packet.specs.Null.{is_null}
 use Rattle.ts_packet.specs.Reading.{fields_of, place_for, IsRead}
 use Rattle.ts_packet.specs.Laws.{OnePacket, NoRefusal, SpelledOrRefused, OneRefusal, NullByPid}
 use Rattle.ts_packet.proofs.HeaderLemmas.{front_number}
@@ -194,6 +195,7 @@ one_refusal bytes BadAdaptation NoSync a b = absurd (b a.0)
 one_refusal bytes BadAdaptation BadAdaptation a b = refl
 
 pub null_by_pid : NullByPid
+unfolding is_null
 null_by_pid f bytes s =
     let r = read_back f bytes s in
     ap (λ (n : ℕ). n == 0x1FFF) (sym (front_number (bits_of bytes) 11 13 (omega arith)) ∙ ap (λ (g : Fields). g.pid) (sym r.fields))

@@ -10,7 +10,7 @@ use Rattle.terms.specs.Bits.{field, number_of, number_at, bytes_of, bytes_for}
 use Rattle.terms.proofs.BitLemmas.{length-field, number_of-append, number_of-field, field-number_of, number_of-part, bytes_of_fields, length-bytes_of}
 use Rattle.ts_packet.specs.TransportPacket.{Fields, flag, header_bits, control_of, adaptation_bytes, packet_bytes, Spells}
 use Rattle.ts_packet.specs.Written.{area_of, stuffing, written_fields, written_bytes}
-use Rattle.ts_packet.specs.Null.{null_packet}
+use Rattle.ts_packet.specs.Null.{is_null, null_packet}
 use Rattle.ts_packet.specs.Laws.{WrittenIsRead, CanonicalNull}
 
 -- numbers that share no bit
@@ -166,7 +166,7 @@ written_is_read pid counter pointer payload a b some room =
     }
 
 pub canonical_null : CanonicalNull
-unfolding field written_bytes packet_bytes
+unfolding is_null field written_bytes packet_bytes
 canonical_null = (
   refl,
   let same : written_bytes 0x1FFF 0 None (replicate 184 0xFF) ≡ null_packet = refl in

@@ -3,7 +3,7 @@ use Rattle.std.specs.Prelude.{ℕ, ◌==◌, Bool, List, ◌∷◌, replicate}
 use Rattle.terms.specs.Bits.{bits_of, number_at}
 
 -- The PID is that of null packets.
-abbrev pub is_null : List ℕ → Bool
+unfoldable pub is_null : List ℕ → Bool
 is_null packet = number_at (bits_of packet) 11 13 == 0x1FFF
 
 -- the canonical null packet: no adaptation field, a payload of bytes 0xFF, and a continuity_counter of 0
