@@ -78,10 +78,12 @@ restored_step keeps kept at true here next last k (x ∷ front) rest on after no
     ap (λ (n : ℕ). slot_after n (map (dnp keeps) (front ++ k ∷ []))) counted ∙ sym (slot_first last (dnp keeps at) (map (dnp keeps) (front ++ k ∷ []))) in
     later ∙ led ∙ ap (λ (n : ℕ). slot_after last (dnp keeps n ∷ map (dnp keeps) (front ++ k ∷ []))) same
 
+-- Nothing stands in an empty list.
 none_behind : (front : List ℕ) (k : ℕ) (rest : List ℕ) → [] ≡ front ++ k ∷ rest → ⊥
 none_behind [] k rest e = cc
 none_behind (x ∷ front) k rest e = cc
 
+-- all kept slots from one on
 restored : (keeps : ℕ → Bool) (len at : ℕ) → Restored keeps (filter keeps (range_with_len at len)) at
 restored keeps zero at = λ last k front rest on after none e. absurd (none_behind front k rest e)
 restored keeps (suc len) at = restored_step keeps (filter keeps (range_with_len (at + 1) len)) at (keeps at) refl (restored keeps len (at + 1))
@@ -90,6 +92,7 @@ restored keeps (suc len) at = restored_step keeps (filter keeps (range_with_len 
 abbrev FromFirst : (ℕ → Bool) → List ℕ → Type 0
 FromFirst keeps kept = (first k : ℕ) (front rest : List ℕ) → kept ≡ first ∷ (front ++ k ∷ rest) → k ≡ slot_after first (map (dnp keeps) (front ++ k ∷ []))
 
+-- one slot more is looked at
 first_step : (keeps : ℕ → Bool) (kept : List ℕ) (at : ℕ) (b : Bool) → keeps at ≡ b → FromFirst keeps kept → Restored keeps kept (at + 1) → FromFirst keeps (cond b (at ∷ kept) kept)
 first_step keeps kept at false off next behind first k front rest e = next first k front rest e
 first_step keeps kept at true here next behind first k front rest e =
@@ -97,6 +100,7 @@ first_step keeps kept at true here next behind first k front rest e =
     let others : kept ≡ front ++ k ∷ rest = cc in
     subst (λ (n : ℕ). k ≡ slot_after n (map (dnp keeps) (front ++ k ∷ []))) same (behind at k front rest here (omega arith) (λ j from to. absurd (omega arith)) others)
 
+-- all kept slots
 from_first : (keeps : ℕ → Bool) (len at : ℕ) → FromFirst keeps (filter keeps (range_with_len at len))
 from_first keeps zero at = λ first k front rest e. cc
 from_first keeps (suc len) at = first_step keeps (filter keeps (range_with_len (at + 1) len)) at (keeps at) refl (from_first keeps len (at + 1)) (restored keeps len (at + 1))

@@ -11,6 +11,7 @@ use Rattle.null_delete.specs.Deletion.{run_before, is_kept, dnp}
 range_more : (n : ℕ) → range_with_len 0 (n + 1) ≡ range_with_len 0 n ++ n ∷ []
 range_more n = let e = map-range_with_len_more (λ (x : ℕ). x) 0 n n (omega arith) in simp map-id at e
 
+-- the first element stays where it passes
 take_while_more : (passes : ℕ → Bool) (x : ℕ) (xs : List ℕ) → take_while passes (x ∷ xs) ≡ cond (passes x) (x ∷ take_while passes xs) []
 take_while_more passes x xs =
     let e : 1 + prefix_len passes xs ≡ suc (prefix_len passes xs) = omega arith in
@@ -19,6 +20,7 @@ take_while_more passes x xs =
       | false ↦ refl
     ]
 
+-- the run before the next slot
 run_more : (passes : ℕ → Bool) (k : ℕ) → run_before passes (k + 1) ≡ cond (passes k) (k ∷ run_before passes k) []
 unfolding run_before
 run_more passes k =
@@ -31,6 +33,7 @@ length-run_more passes k =
     ap length (run_more passes k)
     ∙ elim (passes k) as (λ b. length (cond b (k ∷ run_before passes k) []) ≡ cond b (length (run_before passes k) + 1) 0) [ true ↦ omega arith | false ↦ refl ]
 
+-- no slot stands before slot 0
 pub run_none : (passes : ℕ → Bool) → length (run_before passes 0) ≡ 0
 unfolding run_before
 run_none passes = refl
@@ -39,6 +42,7 @@ run_none passes = refl
 abbrev pub Same : (ℕ → Bool) → (ℕ → Bool) → ℕ → Type 0
 Same f g n = (j : ℕ) → j < n → f j ≡ g j
 
+-- A run follows from the slots before its end.
 pub run_same : (f g : ℕ → Bool) (n : ℕ) → Same f g n → length (run_before f n) ≡ length (run_before g n)
 run_same f g zero same = run_none f ∙ sym (run_none g)
 run_same f g (suc n) same =
@@ -55,6 +59,7 @@ kept_same true f g n same = λ j h.
     let here : f j ≡ g j = same j h in
     rw (before, here) refl
 
+-- So does a dnp.
 pub dnp_same : (deletes : Bool) (f g : ℕ → Bool) (n : ℕ) → Same f g n → dnp (is_kept deletes f) n ≡ dnp (is_kept deletes g) n
 dnp_same deletes f g n same = run_same _ _ n (λ j h. ap not (kept_same deletes f g n same j h))
 

@@ -1,4 +1,4 @@
--- Null-packet deletion (EN 302 755, clause 5.1.5): which packets are kept, and with which dnp. A packet stands in a slot.
+-- Null-packet deletion (EN 302 755, clause 5.1.5): which packets are kept, and with which dnp. Each packet has a slot, from 0 on.
 use Rattle.std.specs.Prelude.{ℕ, ◌+◌, ◌%◌, ◌==◌, Bool, true, not, ◌||◌, if◌then◌else◌, List, [], ◌∷◌, ◌++◌, length, filter, take_while, reverse, sum_by, slice_index_or, Option, Some, None}
 use Rattle.std.specs.List.{range_with_len}
 use Rattle.ts_packet.specs.Null.{is_null, null_packet}
@@ -24,14 +24,18 @@ kept_slots keeps n = filter keeps (range_with_len 0 n)
 abbrev pub answer_at : Bool → (ℕ → Bool) → ℕ → Option ℕ
 answer_at deletes nulls k = if is_kept deletes nulls k then Some (dnp (is_kept deletes nulls) k) else None
 
--- which slots are null, for the packets from slot 0 on: from their end on each one is
+-- the packet in slot k of those that begin at slot 0: from their end on null packets
+abbrev pub packet_at : List (List ℕ) → ℕ → List ℕ
+packet_at packets k = slice_index_or packets k null_packet
+
+-- which slots hold null packets
 abbrev pub nulls_of : List (List ℕ) → ℕ → Bool
-nulls_of packets k = is_null (slice_index_or packets k null_packet)
+nulls_of packets k = is_null (packet_at packets k)
 
 -- the answer to a packet behind others
 abbrev pub answer_of : Bool → List (List ℕ) → List ℕ → Option ℕ
 answer_of deletes packets packet = answer_at deletes (nulls_of (packets ++ packet ∷ [])) (length packets)
 
--- the slot to which dnps lead from a slot
+-- the slot to which dnps lead from a slot: each kept packet lies its dnp and 1 behind the one before it
 abbrev pub slot_after : ℕ → List ℕ → ℕ
 slot_after first dnps = first + sum_by (λ dnp. 1 + dnp) dnps

@@ -6,7 +6,7 @@ use Rattle.null_delete.specs.Deletion.{is_kept, dnp, kept_slots, slot_after}
 abbrev pub NoneKept : (ℕ → Bool) → ℕ → ℕ → Type 0
 NoneKept keeps from to = (j : ℕ) → from ≤ j → j < to → keeps j ≡ false
 
--- Each kept slot is the kept slot before it plus 1 plus its own dnp.
+-- Each kept slot is the kept slot before it plus 1 plus its own dnp, whichever slots are kept.
 abbrev pub NextKept : Type 0
 NextKept = (keeps : ℕ → Bool) (i k : ℕ) → keeps i ≡ true → i < k → NoneKept keeps (i + 1) k → k ≡ i + 1 + dnp keeps k
 

@@ -28,6 +28,7 @@ record Tells (f : Fields) (header : List Bool) (control : ℕ) : Type 0 where
   pub asked : number_at header 26 2 ≡ control
   pub fields : f ≡ fields_of header f.payload
 
+-- the header that fields make
 header_tells : (f : Fields) (priority : Bool) (control : ℕ) → Fits f → control < 2 ^ 2 → Tells f (header_bits f priority control) control
 header_tells f priority control fit small =
     let sync : List Bool = field 8 0x47 in
@@ -64,6 +65,7 @@ header_tells f priority control fit small =
       fields = sym (λ i. record { error = told_error i; starts = told_starts i; pid = told_pid i; scrambling = told_scrambling i; counter = told_counter i; payload = f.payload });
     }
 
+-- adaptation_field_control has two bits
 control_small : (adaptation : Option (List ℕ)) (payload : List ℕ) → control_of adaptation payload < 2 ^ 2
 control_small None payload = omega arith
 control_small (Some a) [] = omega arith
@@ -71,13 +73,13 @@ control_small (Some a) (x ∷ payload) = omega arith
 
 -- adaptation fields that are not bad
 none_good : (len : ℕ) → ¬ (IsBadAdaptation 1 len)
-none_good len bad = ⊎_elim (λ (e : 1 ≡ 0). omega arith) (λ (b : ((1 ≡ 2) × (len ≢ 183)) ⊎ ((1 ≡ 3) × (182 < len))). ⊎_elim (λ (x : (1 ≡ 2) × (len ≢ 183)). omega (arith, x.0)) (λ (x : (1 ≡ 3) × (182 < len)). omega (arith, x.0)) b) bad
+none_good len bad = grind arith
 
 alone_good : (len : ℕ) → len ≡ 183 → ¬ (IsBadAdaptation 2 len)
-alone_good len full bad = ⊎_elim (λ (e : 2 ≡ 0). omega arith) (λ (b : ((2 ≡ 2) × (len ≢ 183)) ⊎ ((2 ≡ 3) × (182 < len))). ⊎_elim (λ (x : (2 ≡ 2) × (len ≢ 183)). x.1 full) (λ (x : (2 ≡ 3) × (182 < len)). omega (arith, x.0)) b) bad
+alone_good len full bad = grind arith
 
 both_good : (len : ℕ) → len ≤ 182 → ¬ (IsBadAdaptation 3 len)
-both_good len short bad = ⊎_elim (λ (e : 3 ≡ 0). omega arith) (λ (b : ((3 ≡ 2) × (len ≢ 183)) ⊎ ((3 ≡ 3) × (182 < len))). ⊎_elim (λ (x : (3 ≡ 2) × (len ≢ 183)). omega (arith, x.0)) (λ (x : (3 ≡ 3) × (182 < len)). omega (arith, x.1)) b) bad
+both_good len short bad = grind arith
 
 -- A length is bad or not.
 bad_or_good : (control len : ℕ) → control < 4 → (IsBadAdaptation control len) ⊎ (¬ (IsBadAdaptation control len))
@@ -98,6 +100,7 @@ record HasField (bytes : List ℕ) (len : ℕ) (payload : List ℕ) : Type 0 whe
   pub rest : drop (5 + length_at bytes) bytes ≡ payload
   pub whole : length bytes ≡ 5 + len + length payload
 
+-- a header, an adaptation field and a payload, one behind another
 has_field : (header adaptation payload : List ℕ) → length header ≡ 4 → HasField (header ++ (length adaptation ∷ adaptation) ++ payload) (length adaptation) payload
 has_field header adaptation payload long =
     let bytes : List ℕ = header ++ (length adaptation ∷ adaptation) ++ payload in
@@ -109,6 +112,7 @@ has_field header adaptation payload long =
       whole = length-append (header ++ (length adaptation ∷ adaptation)) payload ∙ ap (λ (n : ℕ). n + length payload) front;
     }
 
+-- the same with or without an adaptation field
 found : (header : List ℕ) (adaptation : Option (List ℕ)) (payload : List ℕ) → length header ≡ 4 → length (header ++ adaptation_bytes adaptation ++ payload) ≡ 188 →
     Found (header ++ adaptation_bytes adaptation ++ payload) (control_of adaptation payload) payload
 found header None payload long whole = record {
@@ -155,10 +159,11 @@ read_packet f priority adaptation fit long =
           ∙ ap (fields_of (part (bits_of bytes) 0 32)) (sym rest.rest ∙ ap (λ (n : ℕ). drop (place_for n (length_at bytes)) bytes) asked);
     }
 
+-- Bytes that spell a packet are read as it.
 pub read_back : (f : Fields) (bytes : List ℕ) → Spells f bytes → IsRead bytes f
 read_back f bytes s = subst (λ (xs : List ℕ). IsRead xs f) (sym s.spelled) (read_packet f s.priority s.adaptation s.fits (ap length (sym s.spelled) ∙ s.whole))
 
--- what a sync byte and an adaptation field that is not bad come to
+-- Behind a sync byte, bytes spell a packet or are refused.
 spelled_if_good : (bytes : List ℕ) → length bytes ≡ 188 → ((k : ℕ) → get_or bytes k 0 < 256) → HasSync bytes → (IsBadAdaptation (control_at bytes) (length_at bytes)) ⊎ (¬ (IsBadAdaptation (control_at bytes) (length_at bytes))) →
     ((f : Fields) × Spells f bytes) ⊎ ((fault : TsFault) × Refuses bytes fault)
 spelled_if_good bytes long small sync (inl bad) = inr (BadAdaptation, (sync, bad))
@@ -166,6 +171,7 @@ spelled_if_good bytes long small sync (inr good) =
     let f : Fields = fields_of (part (bits_of bytes) 0 32) (drop (place_for (control_at bytes) (length_at bytes)) bytes) in
     inl (f, spelled bytes f long small (record { sync = sync; adaptation = good; fields = refl }))
 
+-- the same without knowing the sync byte
 spelled_if_sync : (bytes : List ℕ) → length bytes ≡ 188 → ((k : ℕ) → get_or bytes k 0 < 256) → (HasSync bytes) ⊎ (¬ (HasSync bytes)) → ((f : Fields) × Spells f bytes) ⊎ ((fault : TsFault) × Refuses bytes fault)
 spelled_if_sync bytes long small (inl sync) = spelled_if_good bytes long small sync (bad_or_good (control_at bytes) (length_at bytes) (narrow (bits_of bytes) 26 2 (omega (arith, long, length-bits_of bytes))))
 spelled_if_sync bytes long small (inr none) = inr (NoSync, none)
@@ -200,6 +206,7 @@ null_by_pid f bytes s =
     let r = read_back f bytes s in
     ap (λ (n : ℕ). n == 0x1FFF) (sym (front_number (bits_of bytes) 11 13 (omega arith)) ∙ ap (λ (g : Fields). g.pid) (sym r.fields))
 
+-- an answer, where the packet is known
 answer : (bytes : List ℕ) (r : Result Fields TsFault) (f : Fields) → IsRead bytes f → IfOk r (IsRead bytes) → IfErr r (Refuses bytes) → r ≡ Ok f
 answer bytes (Ok g) f there ok err = ap Ok (one_read bytes g f ok there)
 answer bytes (Err fault) f there ok err = absurd (not_refused bytes f fault there err)

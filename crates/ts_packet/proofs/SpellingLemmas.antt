@@ -1,7 +1,7 @@
 -- What was read place by place, put together: the bytes spell a packet.
-use Rattle.std.proofs.Common.{◌≡◌, ◌≢◌, ℕ, zero, suc, ◌+◌, ◌-◌, ◌*◌, ◌%◌, ◌^◌, ◌<◌, ◌≤◌, ◌==◌, inl, inr, ⊎_elim, Bool, true, false, List, [], ◌∷◌, ◌++◌, length, take, drop, get_or, refl, ap, sym, subst, ◌∙◌, arith}
+use Rattle.std.proofs.Common.{◌≡◌, ℕ, zero, suc, ◌+◌, ◌-◌, ◌*◌, ◌%◌, ◌^◌, ◌<◌, ◌≤◌, ◌==◌, inl, ⊎_elim, Bool, true, false, List, [], ◌∷◌, ◌++◌, length, take, drop, get_or, refl, ap, sym, subst, ◌∙◌, arith}
 use Rattle.std.specs.Prelude.{Result, Ok, Err, IfOk, Option, Some, None}
-use Rattle.std.proofs.lemmas.Bool.{cases_lt, cases_eq}
+use Rattle.std.proofs.lemmas.Bool.{cases_lt}
 use Rattle.std.proofs.lemmas.List.{take-append-drop, take_all, drop_all, drop_more, drop-drop, length-drop, length-take-le, append_assoc, get_or-take, get_or_past, length-take}
 use Rattle.terms.specs.Bits.{field, bits_of, number_of, part, number_at, bytes_of}
 use Rattle.terms.proofs.BitLemmas.{length-bits_of, length-part, part-bits_of, number_of-lt, field-number_at, bytes_of-bits_of, number_at-bits_of}
@@ -31,6 +31,7 @@ one_bit [] h = absurd (omega arith)
 one_bit (true ∷ bits) h = refl
 one_bit (false ∷ bits) h = refl
 
+-- a bit at a place, as a field
 flag_at : (bits : List Bool) (at : ℕ) → at < length bits → part bits at 1 ≡ flag (number_at bits at 1 == 1)
 flag_at bits at h = one_bit (drop at bits) (simp length-drop (omega arith))
 
@@ -76,11 +77,13 @@ field_parts bytes len long told inside =
 
 -- where the length is not bad, it is the one asked for
 exact : (len : ℕ) → ¬ (IsBadAdaptation 2 len) → len ≡ 183
-exact len good = ⊎_elim (λ (e : len ≡ 183). e) (λ (ne : len ≢ 183). absurd (good (inr (inl (refl, ne))))) (cases_eq len 183)
+exact len good = grind arith
 
+-- where it leaves a payload a byte, it is 182 at most
 most : (len : ℕ) → ¬ (IsBadAdaptation 3 len) → len ≤ 182
-most len good = ⊎_elim (λ (l : 182 < len). absurd (good (inr (inr (refl, l))))) (λ (le : len ≤ 182). le) (cases_lt 182 len)
+most len good = grind arith
 
+-- What stands behind a header whose adaptation field is not bad.
 behind : (bytes : List ℕ) (control : ℕ) → length bytes ≡ 188 → control < 4 → ¬ (IsBadAdaptation control (length_at bytes)) →
     Behind bytes control (drop (place_for control (length_at bytes)) bytes)
 behind bytes zero long small good = absurd (good (inl refl))
@@ -146,6 +149,7 @@ spelled bytes f long small r =
           ∙ sym (append_assoc (bytes_of (header_bits fields priority (control_of rest.adaptation payload))) (adaptation_bytes rest.adaptation) payload);
     })
 
+-- the same of an answer
 pub ok_spelled : {E : Type 0} (bytes : List ℕ) (r : Result Fields E) → length bytes ≡ 188 → ((k : ℕ) → get_or bytes k 0 < 256) → IfOk r (IsRead bytes) → IfOk r (λ f. Spells f bytes)
 ok_spelled bytes (Ok f) long small h = spelled bytes f long small h
 ok_spelled bytes (Err e) long small h = tt

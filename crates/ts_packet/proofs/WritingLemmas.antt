@@ -61,9 +61,11 @@ header_number pid counter control pointer a b c =
     let to_counter = push_field (flags ++ field 13 pid ++ field 2 0 ++ field 2 control) 4 counter b in
     omega arith
 
+-- a header has 32 bits
 pub length-header_bits : (f : Fields) (priority : Bool) (control : ℕ) → length (header_bits f priority control) ≡ 32
 length-header_bits f priority control = simp (length-append, length-field) refl
 
+-- a bit as a number
 bit_small : (b : Bool) → bool_byte b < 2
 bit_small true = omega arith
 bit_small false = omega arith
@@ -120,6 +122,7 @@ pointer_first (x ∷ area) rest payload pointer long e =
     let none : drop (length (x ∷ area) - 1) area ≡ [] = drop_all (length (x ∷ area) - 1) area (omega arith) in
     rw (none, append-nil, e) refl
 
+-- how long a payload area is
 pub length-area_of : (pointer : Option ℕ) (payload : List ℕ) → length (area_of pointer payload) ≡ length payload + bool_byte (is_some pointer)
 length-area_of None payload = omega arith
 length-area_of (Some p) payload = omega arith
@@ -130,7 +133,7 @@ length-stuffing zero = refl
 length-stuffing (suc zero) = refl
 length-stuffing (suc (suc n)) = omega (arith, length-replicate {A = ℕ} n 0xFF)
 
--- what adaptation_field_control says of the space
+-- with space there is an adaptation field in front of the payload
 pub control_filled : (n : ℕ) (area : List ℕ) → 0 < n → 1 ≤ length area → control_of (stuffing n) area ≡ 3
 control_filled zero area some more = absurd (omega arith)
 control_filled (suc zero) [] some more = absurd (omega arith)
@@ -138,6 +141,7 @@ control_filled (suc zero) (x ∷ area) some more = refl
 control_filled (suc (suc n)) [] some more = absurd (omega arith)
 control_filled (suc (suc n)) (x ∷ area) some more = refl
 
+-- without space there is no adaptation field
 pub control_full : (n : ℕ) (area : List ℕ) → n ≡ 0 → control_of (stuffing n) area ≡ 1
 control_full n area none = ap (λ (k : ℕ). control_of (stuffing k) area) none
 
@@ -149,6 +153,7 @@ pub written : (pid counter control at : ℕ) (pointer : Option ℕ) (payload hea
 unfolding written_bytes packet_bytes
 written pid counter control at pointer payload header e f g = rw (e, g, f) refl
 
+-- What is written spells what was to be written.
 pub written_is_read : WrittenIsRead
 unfolding written_bytes packet_bytes
 written_is_read pid counter pointer payload a b some room =
@@ -165,6 +170,7 @@ written_is_read pid counter pointer payload a b some room =
       spelled = refl;
     }
 
+-- the canonical null packet, computed
 pub canonical_null : CanonicalNull
 unfolding is_null field written_bytes packet_bytes
 canonical_null = (
