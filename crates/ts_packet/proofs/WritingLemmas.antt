@@ -11,7 +11,7 @@ use Rattle.terms.proofs.BitLemmas.{length-field, number_of-append, number_of-fie
 use Rattle.ts_packet.specs.TransportPacket.{Fields, flag, header_bits, control_of, adaptation_bytes, packet_bytes, Spells}
 use Rattle.ts_packet.specs.Written.{area_of, stuffing, written_fields, written_bytes}
 use Rattle.ts_packet.specs.Null.{is_null, null_packet}
-use Rattle.ts_packet.specs.Laws.{WrittenIsRead, CanonicalNull}
+use Rattle.ts_packet.specs.Laws.{WrittenSpells, CanonicalNull}
 
 -- numbers that share no bit
 or_apart : (a b k : ℕ) → b < 2 ^ k → a % 2 ^ k ≡ 0 → bit_or a b ≡ a + b
@@ -45,9 +45,9 @@ push_flag bits true = number_of-append bits (flag true)
 push_flag bits false = number_of-append bits (flag false)
 
 -- the number of a header without error, priority and scrambling
-header_number : (pid counter control : ℕ) (pointer : Option ℕ) → pid < 2 ^ 13 → counter < 2 ^ 4 → control < 2 ^ 2 →
+written_header : (pid counter control : ℕ) (pointer : Option ℕ) → pid < 2 ^ 13 → counter < 2 ^ 4 → control < 2 ^ 2 →
     number_of (header_bits (written_fields pid counter pointer []) false control) ≡ 1191182336 + bool_byte (is_some pointer) * 4194304 + pid * 256 + control * 16 + counter
-header_number pid counter control pointer a b c =
+written_header pid counter control pointer a b c =
     let sync : List Bool = field 8 0x47 in
     let flags : List Bool = sync ++ flag false ++ flag (is_some pointer) ++ flag false in
     let first : number_of sync ≡ 0x47 = number_of-field 8 0x47 (omega arith) in
@@ -79,7 +79,7 @@ header_joined pid counter control starts p q pointer a b c e f g =
     let bits : List Bool = header_bits (written_fields pid counter pointer []) false control in
     let wide : length bits ≡ 32 = length-header_bits (written_fields pid counter pointer []) false control in
     let joined = fields_joined starts p control q (omega (arith, bit_small (is_some pointer))) (omega arith) (omega arith) (omega arith) in
-    let number : 1191182336 + starts * 4194304 + p * 256 + control * 16 + q ≡ number_of bits = rw (e, f, g) (sym (header_number pid counter control pointer a b c)) in
+    let number : 1191182336 + starts * 4194304 + p * 256 + control * 16 + q ≡ number_of bits = rw (e, f, g) (sym (written_header pid counter control pointer a b c)) in
     ap (λ (n : ℕ). field 32 n) (joined ∙ number) ∙ ap (λ (w : ℕ). field w (number_of bits)) (sym wide) ∙ field-number_of bits
 
 -- a byte of a number of 32 bits
@@ -154,9 +154,9 @@ unfolding written_bytes packet_bytes
 written pid counter control at pointer payload header e f g = rw (e, g, f) refl
 
 -- What is written spells what was to be written.
-pub written_is_read : WrittenIsRead
+pub written_spells : WrittenSpells
 unfolding written_bytes packet_bytes
-written_is_read pid counter pointer payload a b some room =
+written_spells pid counter pointer payload a b some room =
     let fields : Fields = written_fields pid counter pointer payload in
     let area : List ℕ = area_of pointer payload in
     let space : ℕ = 184 - length area in
@@ -176,5 +176,5 @@ unfolding is_null field written_bytes packet_bytes
 canonical_null = (
   refl,
   let same : written_bytes 0x1FFF 0 None (replicate 184 0xFF) ≡ null_packet = refl in
-      subst (Spells (written_fields 0x1FFF 0 None (replicate 184 0xFF))) same (written_is_read 0x1FFF 0 None (replicate 184 0xFF) (omega arith) (omega arith) (omega arith) (omega arith)),
+      subst (Spells (written_fields 0x1FFF 0 None (replicate 184 0xFF))) same (written_spells 0x1FFF 0 None (replicate 184 0xFF) (omega arith) (omega arith) (omega arith) (omega arith)),
 )

@@ -23,8 +23,8 @@ abbrev pub OneRefusal : Type 0
 OneRefusal = (bytes : List ℕ) (fault other : TsFault) → Refuses bytes fault → Refuses bytes other → fault ≡ other
 
 -- What was written spells what was to be written.
-abbrev pub WrittenIsRead : Type 0
-WrittenIsRead = (pid counter : ℕ) (pointer : Option ℕ) (payload : List ℕ) → pid < 2 ^ 13 → counter < 2 ^ 4 → 1 ≤ length payload → length (area_of pointer payload) ≤ 184
+abbrev pub WrittenSpells : Type 0
+WrittenSpells = (pid counter : ℕ) (pointer : Option ℕ) (payload : List ℕ) → pid < 2 ^ 13 → counter < 2 ^ 4 → 1 ≤ length payload → length (area_of pointer payload) ≤ 184
     → Spells (written_fields pid counter pointer payload) (written_bytes pid counter pointer payload)
 
 -- A packet is null where its PID is that of null packets.

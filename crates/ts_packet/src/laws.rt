@@ -1,5 +1,5 @@
 // Laws of the definitions. Their functions do nothing.
-ghost use Rattle.ts_packet.specs.Laws.{OnePacket, NoRefusal, SpelledOrRefused, OneRefusal, WrittenIsRead, NullByPid, CanonicalNull};
+ghost use Rattle.ts_packet.specs.Laws.{OnePacket, NoRefusal, SpelledOrRefused, OneRefusal, WrittenSpells, NullByPid, CanonicalNull};
 
 /// A string spells one packet at most.
 pub fn one_packet()
@@ -21,9 +21,9 @@ pub fn one_refusal()
     ensures { OneRefusal }
 {}
 
-/// What was written is read as what was to be written.
-pub fn written_is_read()
-    ensures { WrittenIsRead }
+/// What was written spells what was to be written. So `read` gives it, by its clause `every`.
+pub fn written_spells()
+    ensures { WrittenSpells }
 {}
 
 /// A packet is null where its PID is that of null packets.

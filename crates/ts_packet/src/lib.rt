@@ -11,7 +11,7 @@ mod writing;
 pub use fault::TsFault;
 pub use laws::{
     canonical_null, no_refusal, null_by_pid, one_packet, one_refusal, spelled_or_refused,
-    written_is_read,
+    written_spells,
 };
 pub use packet::TsPacket;
 pub use view::{TsView, read};

@@ -1,7 +1,7 @@
 use Rattle.std.proofs.Common.{◌≡◌, ◌-◌, ◌+◌, ℕ, length, ap, sym, subst, ◌∙◌, arith}
 use Rattle.ts_packet.specs.TransportPacket.{control_of, Spells}
 use Rattle.ts_packet.specs.Written.{area_of, stuffing, written_fields}
-use Rattle.ts_packet.proofs.WritingLemmas.{length-area_of, control_filled, control_full, written, written_is_read}
+use Rattle.ts_packet.proofs.WritingLemmas.{length-area_of, control_filled, control_full, written, written_spells}
 use mir.Val.{bool_byte}
 use Rattle.ts_packet.proofs.writing.write_payload.Goals as goal
 use Rattle.ts_packet.proofs.writing.write_payload.Goals.{then-area-lt184, else-area-lt184}
@@ -23,4 +23,4 @@ returns-clause-bytes c =
 pub returns-clause-spells : goal.returns-clause-spells
 returns-clause-spells c =
     subst (Spells (written_fields c.args.pid c.args.counter c.args.pointer c.args.payload.now)) (sym (returns-clause-bytes c))
-    (written_is_read c.args.pid c.args.counter c.args.pointer c.args.payload.now c.requires.pid c.requires.counter c.requires.some c.requires.room)
+    (written_spells c.args.pid c.args.counter c.args.pointer c.args.payload.now c.requires.pid c.requires.counter c.requires.some c.requires.room)
