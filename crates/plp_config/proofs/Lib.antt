@@ -1,4 +1,6 @@
+pub mod NeedLemmas
 pub mod RefusalLemmas
+pub mod ReleaseLemmas
 pub mod RuleLemmas
 pub mod PlpRuleLemmas
 pub mod TableLemmas

@@ -11,7 +11,7 @@ use Rattle.plp_config.specs.declared.capacity.CapacityFault.{CapacityFault}
 use Rattle.plp_config.specs.declared.config.Config.{Config}
 use Rattle.plp_config.specs.declared.moment.Moment.{Moment}
 use Rattle.plp_config.specs.declared.rules.ConfigFault.{ConfigFault}
-use Rattle.plp_config.specs.SlotTime.{num, den, slot_start, slot_count, InRange, iscr_slot, delay_ticks, released_count, window_slots}
+use Rattle.plp_config.specs.SlotTime.{num, den, slot_start, slot_count, InRange, iscr_slot, delay, delay_ticks, released_count, window_slots, IsReleased}
 
 -- a slot starts before a tick
 abbrev pub StartsBefore : Type 0
@@ -83,13 +83,18 @@ abbrev pub IscrFindsSlot : Type 0
 IscrFindsSlot = (num den epoch m slot : ℕ) → 0 < den → den ≤ num → epoch < 2 ^ 22 → InRange num den epoch m slot
     → iscr_slot num den epoch m (slot_start num den slot % 2 ^ 22) ≡ slot
 
--- the delay of a slot has not passed before two epochs more have ended
+-- the delay of a slot has not passed when two epochs more have ended after the one in which the slot ends
 abbrev pub DelayOutlasts : Type 0
 DelayOutlasts = (num den epoch m slot : ℕ) → 0 < num → 0 < den → InRange num den epoch m slot → (m + 2) * epoch < slot_start num den slot + delay_ticks num den epoch
 
 -- the slots that are given out by a tick are the first ones
 abbrev pub ReleasedFirst : Type 0
 ReleasedFirst = (num den delay tick slot : ℕ) → 0 < num → 0 < den → (slot < released_count num den delay tick) ↔ (slot_start num den slot + delay ≤ tick)
+
+-- the slots that are given out when a frame has ended are the first ones
+abbrev pub ReleasedByFrame : Type 0
+ReleasedByFrame = (c : Config) (plp frame slot : ℕ) → AllRules c → plp < length c.plps
+    → IsReleased c plp frame slot ↔ (slot < released_count (num c) (den c plp) (delay c plp) ((frame + 1) * c.ticks))
 
 -- a slot that is given out has been over for three epochs
 abbrev pub ReleasedOld : Type 0

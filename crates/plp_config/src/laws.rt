@@ -1,5 +1,5 @@
 // Laws between the definitions, for the crates above. No function here does anything.
-ghost use Rattle.plp_config.specs.Laws.{StartsBefore, StartsFrom, StartsAt, OverBy, NotOverBy, CountReaches, StartRises, CountRises, NoneAtZero, EndsAfterStart, StartsApart, RangesPartition, RangeBounds, SpansEpoch, OneSlotPerIscr, IscrFindsSlot, DelayOutlasts, ReleasedFirst, ReleasedOld, WindowHolds, EmissionTotal, EmissionsDiffer, EmissionFound, EmissionFits, FrameCountLeast, OneRuleFails, RefusalFails, OneTestFails, LackFails, SlotLength, FrameTicks, FrameQuarter, FieldRange, BlockBits, UserPacketRange, CapacityHoldsUp, CellsByFive, BlockChunks};
+ghost use Rattle.plp_config.specs.Laws.{StartsBefore, StartsFrom, StartsAt, OverBy, NotOverBy, CountReaches, StartRises, CountRises, NoneAtZero, EndsAfterStart, StartsApart, RangesPartition, RangeBounds, SpansEpoch, OneSlotPerIscr, IscrFindsSlot, DelayOutlasts, ReleasedFirst, ReleasedByFrame, ReleasedOld, WindowHolds, EmissionTotal, EmissionsDiffer, EmissionFound, EmissionFits, FrameCountLeast, OneRuleFails, RefusalFails, OneTestFails, LackFails, SlotLength, FrameTicks, FrameQuarter, FieldRange, BlockBits, UserPacketRange, CapacityHoldsUp, CellsByFive, BlockChunks};
 
 /// When slots start and when they are over. A count reaches a number exactly where the end of the
 /// last slot below it is not after the tick.
@@ -30,7 +30,8 @@ pub fn iscr_law()
     ensures found { IscrFindsSlot }
 {}
 
-/// The delay is long enough for a user packet that ends in the epoch after its own.
+/// The delay of a slot has not passed when two epochs more have ended after the one in which the
+/// slot ends.
 pub fn delay_law()
     ensures { DelayOutlasts }
 {}
@@ -38,6 +39,7 @@ pub fn delay_law()
 /// Which slots are given out by a tick, and how many are held.
 pub fn release_law()
     ensures first { ReleasedFirst }
+    ensures frame { ReleasedByFrame }
     ensures old { ReleasedOld }
     ensures window { WindowHolds }
 {}

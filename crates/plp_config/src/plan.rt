@@ -153,7 +153,8 @@ impl Plan {
     /// Bytes of user packets that a frame brings, rounded up; at most `capacity`.
     pub fn need(&self, plp: usize) -> u64
         requires { plp < length self.now.plps }
-        ensures { result ≡ need_of Throughput self.now plp }
+        ensures value { result ≡ need_of Throughput self.now plp }
+        ensures fits { result ≤ capacity self.now plp }
     {
         throughput_need(&self.config, plp)
     }

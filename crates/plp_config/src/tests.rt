@@ -78,7 +78,8 @@ fn figures_of_a_small_network(rt: HostRuntime) -> Result<(), Fail> {
     assert_eq!(rt; plan.config().plps.len(), 1);
     assert_eq!(rt; plan.config().plps.get(0), Some(&PLP));
     assert_eq!(rt; plan.config().plps.get(1), None);
-    // A slot lasts 48128/7 ticks.
+    assert_eq!(rt; plan.slot_length(0), (48_128, 7));
+    assert_eq!(rt; plan.need(0), 2_735);
     assert_eq!(rt; plan.start_of(0, 1), 6_875);
     assert_eq!(rt; plan.start_of(0, 7), 48_128);
     for (frame, slots) in [(1, 14), (2, 29), (3, 43), (4, 58)] {
@@ -118,6 +119,8 @@ fn figures_of_a_realistic_network(rt: HostRuntime) -> Result<(), Fail> {
     config.cells = 1_700_000;
     let plan = plan(&rt, config)?;
     assert_eq!(rt; plan.config().plps.len(), 1);
+    assert_eq!(rt; plan.slot_length(0), (12_032, 35));
+    assert_eq!(rt; plan.need(0), 1_120_840);
     assert_eq!(rt; plan.start_of(0, 35), 12_032);
     for (frame, slots) in [(1, 5_961), (2, 11_923), (3, 17_885), (4, 23_847)] {
         assert_eq!(rt; plan.slots_by(0, frame * 2_049_536), slots);

@@ -1,0 +1,32 @@
+// Laws of the definitions. Their functions do nothing.
+ghost use Rattle.null_delete.specs.Laws.{NextKept, FirstKept, WithoutDeletion, SlotsRestored, DnpFits, DecidedByThePast};
+
+/// Each kept slot is the kept slot before it plus 1 plus its own dnp.
+pub fn next_kept()
+    ensures { NextKept }
+{}
+
+/// The first kept slot is its own dnp.
+pub fn first_kept()
+    ensures { FirstKept }
+{}
+
+/// With deletion off each slot is kept, and its dnp is 0.
+pub fn without_deletion()
+    ensures { WithoutDeletion }
+{}
+
+/// The dnps of the kept slots lead from the first of them to all others.
+pub fn slots_restored()
+    ensures { SlotsRestored }
+{}
+
+/// A dnp fits a byte.
+pub fn dnp_fits()
+    ensures { DnpFits }
+{}
+
+/// The packets that come later decide nothing.
+pub fn decided_by_the_past()
+    ensures { DecidedByThePast }
+{}

@@ -1,0 +1,4 @@
+pub mod HeaderLemmas
+pub mod SpellingLemmas
+pub mod LawLemmas
+pub mod WritingLemmas

@@ -1,0 +1,6 @@
+pub mod TransportPacket
+pub mod Null
+pub mod Reading
+pub mod Written
+pub mod Laws
+pub use Rattle.terms.specs.Bits

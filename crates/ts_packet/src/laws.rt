@@ -1,0 +1,37 @@
+// Laws of the definitions. Their functions do nothing.
+ghost use Rattle.ts_packet.specs.Laws.{OnePacket, NoRefusal, SpelledOrRefused, OneRefusal, WrittenSpells, NullByPid, CanonicalNull};
+
+/// A string spells one packet at most.
+pub fn one_packet()
+    ensures { OnePacket }
+{}
+
+/// What spells a packet is not refused.
+pub fn no_refusal()
+    ensures { NoRefusal }
+{}
+
+/// Each 188 bytes spell a packet or are refused.
+pub fn spelled_or_refused()
+    ensures { SpelledOrRefused }
+{}
+
+/// A string has one refusal at most.
+pub fn one_refusal()
+    ensures { OneRefusal }
+{}
+
+/// What was written spells what was to be written. So `read` gives it, by its clause `every`.
+pub fn written_spells()
+    ensures { WrittenSpells }
+{}
+
+/// A packet is null where its PID is that of null packets.
+pub fn null_by_pid()
+    ensures { NullByPid }
+{}
+
+/// The canonical null packet is null, and is spelled with a payload of 184 bytes 0xFF.
+pub fn canonical_null()
+    ensures { CanonicalNull }
+{}

@@ -1,0 +1,58 @@
+// A transport packet as its bytes.
+ghost use Rattle.std.specs.Prelude.{◌≡◌, length};
+ghost use Rattle.ts_packet.specs.Null.{is_null, null_packet};
+
+use crate::header::{field_at, header_of};
+use std::marker::Model;
+
+// The PID of null packets.
+const NULL_PID: u32 = 0x1FFF;
+
+/// The 188 bytes of a transport packet. Nothing is asked of them.
+#[derive(Clone, Copy, Debug, PartialEq, Eq)]
+pub struct TsPacket {
+    bytes: [u8; 188],
+}
+
+impl Model for TsPacket {
+    ghost use Rattle.std.specs.Prelude.{ℕ, List};
+
+    ghost Value = { List ℕ };
+
+    ghost view = { λ p. p.bytes };
+
+    ghost inverse = { λ bytes. record { bytes = bytes } };
+}
+
+impl TsPacket {
+    /// The packet of these bytes.
+    pub fn from_array(bytes: [u8; 188]) -> TsPacket
+        ensures { result ≡ bytes }
+    {
+        TsPacket { bytes }
+    }
+
+    /// The bytes of the packet.
+    pub fn as_array(&self) -> &[u8; 188]
+        ensures bytes { result.now ≡ self.now }
+        ensures whole { length self.now ≡ 188 }
+    {
+        &self.bytes
+    }
+
+    /// Whether the packet is a null packet, which its PID alone decides.
+    pub fn is_null(&self) -> bool
+        ensures { result ≡ is_null self.now }
+    {
+        field_at(header_of(&self.bytes), 11, 13) == NULL_PID
+    }
+
+    /// The canonical null packet: a payload of 184 bytes 0xFF, and a continuity_counter of 0.
+    pub fn canonical() -> TsPacket
+        ensures { result ≡ null_packet }
+    {
+        let mut bytes = [0xFF; 188];
+        bytes[..4].copy_from_slice(&[0x47, 0x1F, 0xFF, 0x10]);
+        TsPacket { bytes }
+    }
+}
