@@ -7,25 +7,25 @@ use thiserror::Error;
 #[derive(Clone, Copy, Debug, PartialEq, Eq, Error)]
 pub enum TextWhy {
     /// A byte is below 32 or above 126.
-    #[error("a byte is not printable ASCII")]
+    #[error("every byte must be printable ASCII, from 32 to 126")]
     NotAscii = 1,
     /// The first word is not the key that is due.
-    #[error("another line is due here")]
+    #[error("the lines must come in the order t2-gateway, bandwidth, frame, start, pid, network, l1, subslices, plp")]
     WrongKey = 2,
     /// The number of words is another, or there are more than 255 PLPs.
-    #[error("the line has too few or too many words, or is the 256th PLP")]
+    #[error("the line must have the words of its key, parted by single spaces, and there are at most 255 plp lines")]
     WrongCount = 3,
     /// A word is none of those that may stand there.
-    #[error("a word is none of those that may stand there")]
+    #[error("a word must be one of its list: 1.7 5 6 7 8 10, type1 type2, 1/2 3/5 2/3 3/4 4/5 5/6, qpsk 16qam 64qam 256qam, short normal, 0 1, delete keep")]
     BadWord = 4,
     /// A number is not written in decimal without sign and leading zeros, or does not fit.
-    #[error("a number is not written as it must be, or does not fit")]
+    #[error("a number must be decimal digits without sign and leading zeros, and fit the bits of its field; the version is 1")]
     BadNumber = 5,
     /// The text ends before its `subslices` line.
-    #[error("the text ends before its subslices line")]
+    #[error("the text must go on to its subslices line")]
     EndsEarly = 6,
     /// The text has more than 65,536 bytes.
-    #[error("the text has more than 65536 bytes")]
+    #[error("the text must have at most 65536 bytes")]
     TooLong = 7,
 }
 

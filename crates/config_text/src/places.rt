@@ -1,5 +1,5 @@
 // The places of words in their lists.
-ghost use Rattle.std.specs.Prelude.{◌≡◌, ◌<◌, [], slice_index_or};
+ghost use Rattle.std.specs.Prelude.{◌≡◌, ◌<◌, ◌≤◌, [], length, slice_index_or};
 ghost use Rattle.config_text.specs.Fields.{place_from, bands, kinds, rates, modulations, sizes, bits, deletions};
 
 /// The place of a bandwidth in MHz.
@@ -116,7 +116,8 @@ pub fn deletion(word: &[u8]) -> Option<u64>
 /// The bandwidth in MHz at a place.
 pub fn bandwidth_word(place: u64) -> &'static [u8]
     requires { place < 6 }
-    ensures { result.now ≡ slice_index_or bands place [] }
+    ensures word { result.now ≡ slice_index_or bands place [] }
+    ensures len { length result.now ≤ 3 }
 {
     match place {
         0 => b"1.7",

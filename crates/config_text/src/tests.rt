@@ -180,6 +180,9 @@ fn the_first_word_that_fails_is_told(rt: HostRuntime) -> Result<(), Fail> {
     let mut text = String::from_str(rt.alloc(), HEAD)?;
     text.push_str("plp 0 type3 256 1/2 qpsk short 2 4 1 delete 2000000\n")?;
     assert_eq!(rt; fault_of(rt.alloc(), &text), at(9, TextWhy::BadWord));
+    let mut text = String::from_str(rt.alloc(), HEAD)?;
+    text.push_str("plp 256 type3 1 1/2 qpsk short 0 4 1 delete 2000000\n")?;
+    assert_eq!(rt; fault_of(rt.alloc(), &text), at(9, TextWhy::BadNumber));
     Ok(())
 }
 

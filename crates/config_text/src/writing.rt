@@ -2,10 +2,11 @@
 ghost use Rattle.std.specs.Prelude.{◌≡◌, ◌<◌, ◌≤◌, ◌++◌, ◌∷◌, [], length, slice_index_or, IfOk, IfSome, IfNone, OnOk};
 ghost use Rattle.config_text.specs.ConfigText.{canonical_line, canonical_text, Spells};
 ghost use Rattle.config_text.specs.Fields.{plp_fields, l1_fields, fields_at, words_after};
-ghost use Rattle.config_text.specs.Rows.{rows_of, plp_row, l1_row, band_place, kind_place, rate_place, modulation_place, size_place};
+ghost use Rattle.config_text.specs.Rows.{band_word as word_of_band, rows_of, plp_row, l1_row, band_place, kind_place, rate_place, modulation_place, size_place};
 ghost use Rattle.config_text.specs.Words.{first_values, row_of, FitFields};
 
 use crate::field::{Field, fields_at, key_at};
+use crate::places::bandwidth_word;
 use crate::values::MOST_FIELDS;
 use bit_slice::OutOfMemory;
 use itoa::Buffer;
@@ -26,6 +27,14 @@ fn band_place(value: Band) -> u64
         Band::Mhz8 => 4,
         Band::Mhz10 => 5,
     }
+}
+
+/// The word of a bandwidth.
+pub fn band_word(band: Band) -> &'static [u8]
+    ensures word { result.now ≡ word_of_band band }
+    ensures len { length result.now ≤ 3 }
+{
+    bandwidth_word(band_place(band))
 }
 
 fn kind_place(value: PlpKind) -> u64

@@ -19,7 +19,7 @@ use thiserror::Error;
 
 /// The first test of the capacity that a configuration fails.
 #[derive(Clone, Copy, Debug, PartialEq, Eq, Error)]
-#[error("capacity test {test} fails{}: {}, needs {need} and has {have}", At(self.plp), self.subject())]
+#[error("capacity test {test} fails{}: {} (need {need}, have {have})", At(self.plp), self.subject())]
 pub struct CapacityFault {
     /// The number of the test, from 1.
     pub test: u8,
@@ -34,10 +34,10 @@ pub struct CapacityFault {
 impl CapacityFault {
     fn subject(&self) -> &'static str {
         match self.test {
-            1 => "the blocks of a frame carry the stream's bytes",
-            2 => "the cells of a frame hold all blocks",
-            3 => "the sub-slices divide the cells of a block",
-            4 => "the cells of a frame have 22-bit addresses",
+            1 => "the blocks of a frame must carry the bytes that the stream brings",
+            2 => "the cells of a frame must hold all blocks",
+            3 => "the sub-slices must divide the cells of a block",
+            4 => "the cells of a frame must have addresses of 22 bits",
             _ => "there is no such test",
         }
     }

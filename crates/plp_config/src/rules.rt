@@ -25,20 +25,23 @@ pub struct ConfigFault {
 impl ConfigFault {
     fn demand(&self) -> &'static str {
         match self.rule {
-            1 => "a frame lasts from 1000 ticks to 250 ms",
-            2 => "a superframe has from 2 to 255 frames",
-            3 => "a frame has at least 2025 cells",
-            4 => "the start has from 1 to 2^39 seconds, and fewer subseconds than a second has",
-            5 => "utco is below 8192",
-            6 => "the PID is from 16 to 8190",
-            7 => "each L1 number fits its field, and S2 is even",
-            8 => "there are from 2 to 6480 sub-slices with a PLP of type 2, and 1 without",
-            9 => "there are from 1 to 255 PLPs",
-            10 => "no two PLPs have one identifier",
-            11 => "no PLP of type 1 stands behind one of type 2",
-            12 => "a PLP has from 1 to 1023 blocks",
-            13 => "the interleaver length is at most the number of blocks, and at most 255",
-            14 => "a PLP has from 1 to 72000000 bit/s",
+            1 => "a frame must last from 1000 ticks to 250 ms",
+            2 => "a superframe must have from 2 to 255 frames",
+            3 => "a frame must have at least 2025 cells",
+            4 =>
+                "the start must have from 1 to 2^39 seconds, and fewer subseconds than a second has",
+            5 => "utco must be below 8192",
+            6 => "the PID must be from 16 to 8190",
+            7 => {
+                "BWT_EXT must be 0 or 1, S2 even and below 16, GUARD_INTERVAL and REGEN_FLAG below 8, PAPR, L1_MOD and PILOT_PATTERN below 16, L1_COD and L1_FEC_TYPE below 4, L1_POST_SIZE below 262144, NUM_DATA_SYMBOLS below 4096"
+            }
+            8 => "there must be from 2 to 6480 sub-slices with a PLP of type 2, and 1 without",
+            9 => "there must be from 1 to 255 PLPs",
+            10 => "no two PLPs may have one identifier",
+            11 => "no PLP of type 1 may stand behind one of type 2",
+            12 => "a PLP must have from 1 to 1023 blocks",
+            13 => "the interleaver length must be at most the number of blocks, and at most 255",
+            14 => "a PLP must have from 1 to 72000000 bit/s",
             _ => "there is no such rule",
         }
     }

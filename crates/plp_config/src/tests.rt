@@ -441,7 +441,7 @@ fn faults_in_words(rt: HostRuntime) -> Result<(), Fail> {
     let text = format!(in alloc; "{rule}")?;
     assert_eq!(rt;
         text.as_str(),
-        "rule 12 fails at the PLP of place 3: a PLP has from 1 to 1023 blocks"
+        "rule 12 fails at the PLP of place 3: a PLP must have from 1 to 1023 blocks"
     );
     let test = CapacityFault {
         test: 2,
@@ -452,7 +452,7 @@ fn faults_in_words(rt: HostRuntime) -> Result<(), Fail> {
     let text = format!(in alloc; "{test}")?;
     assert_eq!(rt;
         text.as_str(),
-        "capacity test 2 fails: the cells of a frame hold all blocks, needs 40500 and has 40000"
+        "capacity test 2 fails: the cells of a frame must hold all blocks (need 40500, have 40000)"
     );
     Ok(())
 }

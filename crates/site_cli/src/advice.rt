@@ -1,5 +1,5 @@
 // What is said for people, on standard error: what was wrong, where, and what to do.
-use config_text::TextFault;
+use config_text::{TextFault, TextWhy};
 use plp_config::{CapacityFault, ConfigFault};
 use site_top::{ConfigCause, Outcome, Word};
 use std::io::{self, Eprint};
@@ -24,6 +24,14 @@ fn say_usage(rt: &impl Eprint, words: &[Word]) -> io::Result<()> {
 
 fn say_cause(rt: &impl Eprint, file: &str, cause: ConfigCause) -> io::Result<()> {
     match cause {
+        ConfigCause::Text {
+            why: TextWhy::TooLong,
+            ..
+        } => eprintln!(rt; "{file}: {}; shorten it", TextWhy::TooLong),
+        ConfigCause::Text {
+            why: TextWhy::EndsEarly,
+            ..
+        } => eprintln!(rt; "{file}: {}; add the lines that are missing", TextWhy::EndsEarly),
         ConfigCause::Text { line, why } => eprintln!(rt;
             "{file}: {}; mend that line",
             TextFault::Refused { line, why }
@@ -47,7 +55,7 @@ fn say(rt: &impl Eprint, words: &[Word], file: &str, outcome: Outcome) -> io::Re
             need,
             have,
         } => eprintln!(rt;
-            "{file}: {}; make room in the configuration",
+            "{file}: {}; mend the configuration",
             CapacityFault {
                 test,
                 plp,

@@ -49,8 +49,8 @@ config_complete law old new name (TooLong _) s = absurd s
 config_complete law old new name (PacketRefused _ _) s = absurd s
 config_complete law old new name ReadFault s = if_any old.held _ (λ held. λ outcome must r w. absurd (r s.read_faults))
 config_complete law old new name WriteFault s =
-    let from : old.write_faults ≤ s.0.write_faults = omega (arith, s.1.counts.write_faults) in
-    if_any old.held _ (λ held. λ outcome must r w. absurd (w (rose_from old.write_faults s.0.write_faults new.write_faults from s.2.write_faults)))
+    let from : old.write_faults ≤ s.1.write_faults = omega (arith, s.2.reads.counts.write_faults) in
+    if_any old.held _ (λ held. λ outcome must r w. absurd (w (rose_from old.write_faults s.1.write_faults new.write_faults from s.3.write_faults)))
 config_complete law old new name OutOfMemory s = if_any old.held _ (λ held. λ outcome must r w. inr refl)
 
 plan_complete : OneEnding → (old new : State) (name : List ℕ) (result : Outcome) → Plans old new name result → IsComplete (Plan name) old new result
@@ -64,8 +64,8 @@ plan_complete law old new name (TooLong _) s = absurd s
 plan_complete law old new name (PacketRefused _ _) s = absurd s
 plan_complete law old new name ReadFault s = if_any old.held _ (λ held. λ outcome must r w. absurd (r s.read_faults))
 plan_complete law old new name WriteFault s =
-    let from : old.write_faults ≤ s.0.write_faults = omega (arith, s.1.counts.write_faults) in
-    if_any old.held _ (λ held. λ outcome must r w. absurd (w (rose_from old.write_faults s.0.write_faults new.write_faults from s.2.write_faults)))
+    let from : old.write_faults ≤ s.1.write_faults = omega (arith, s.2.reads.counts.write_faults) in
+    if_any old.held _ (λ held. λ outcome must r w. absurd (w (rose_from old.write_faults s.1.write_faults new.write_faults from s.4.write_faults)))
 plan_complete law old new name OutOfMemory s = if_any old.held _ (λ held. λ outcome must r w. inr refl)
 
 is_complete : OneEnding → (command : Command) (old new : State) (result : Outcome) → Does command old new result → IsComplete command old new result

@@ -1,10 +1,12 @@
 -- How the configuration of a named file is read, and why there is none.
-use Rattle.std.specs.Prelude.{◌≡◌, ◌⊎◌, ℕ, ◌<◌, ◌≤◌, min, List, length, IfSome}
+use Rattle.std.specs.Prelude.{◌≡◌, ◌⊎◌, ℕ, ◌+◌, ◌<◌, ◌≤◌, min, List, length, IfSome}
+use Rattle.std.specs.declared.option.Option.{Option}
 use Rattle.ports.specs.Desk.{State, Rose, SameCounts, Keeps, Says, bytes_of}
 use Rattle.plp_config.specs.Rules as rules
 use Rattle.plp_config.specs.Rules.{AllRules}
+use Rattle.plp_config.specs.declared.capacity.CapacityFault.{CapacityFault}
 use Rattle.plp_config.specs.declared.config.Config.{Config}
-use Rattle.config_text.specs.ConfigText.{Spells, Refuses}
+use Rattle.config_text.specs.ConfigText.{Spells, Refuses, most_bytes}
 use Rattle.site_top.specs.declared.outcome.ConfigCause.{ConfigCause}
 use Rattle.site_top.specs.declared.outcome.ConfigCause.TheVariants.{Text, Rule}
 use Rattle.site_top.specs.declared.outcome.Outcome.{Outcome}
@@ -13,7 +15,11 @@ use Rattle.site_top.specs.Files.{Opened, Unopened}
 
 -- how many bytes of a text are read at most: one more than a text may have
 abbrev pub read_bytes : ℕ
-read_bytes = 65537
+read_bytes = most_bytes + 1
+
+-- what fails of the capacity
+abbrev pub capacity_fault : ℕ → Option ℕ → ℕ → ℕ → CapacityFault
+capacity_fault test plp need have = record { test = test; plp = plp; need = need; have = have }
 
 -- The file was opened and read to its end, or until so many bytes were given, and nothing else was done.
 pub record ReadsText (old new : State) (name : List ℕ) : Type 0 where

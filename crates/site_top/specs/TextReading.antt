@@ -5,7 +5,7 @@ use Rattle.plp_config.specs.Capacity.{Lacks}
 use Rattle.plp_config.specs.declared.config.Config.{Config}
 use Rattle.site_top.specs.declared.outcome.Outcome.{Outcome}
 use Rattle.site_top.specs.declared.outcome.Outcome.TheVariants.{Done, ConfigRefused, CapacityRefused, WriteFault, OutOfMemory}
-use Rattle.site_top.specs.ConfigFile.{read_bytes, IsCause, SaysText, FailsToSay}
+use Rattle.site_top.specs.ConfigFile.{read_bytes, capacity_fault, IsCause, SaysText, FailsToSay}
 
 -- A text gives no configuration that satisfies the rules.
 abbrev pub RefusesText : List ℕ → Outcome → Type 0
@@ -21,7 +21,7 @@ Tells old new text outcome = ⊥
 
 -- A capacity test fails.
 abbrev pub LacksCapacity : Config → Outcome → Type 0
-LacksCapacity c (CapacityRefused test plp need have) = Lacks c (record { test = test; plp = plp; need = need; have = have })
+LacksCapacity c (CapacityRefused test plp need have) = Lacks c (capacity_fault test plp need have)
 LacksCapacity c outcome = ⊥
 
 -- The text is the front of a file: all of it, or as much as is read.

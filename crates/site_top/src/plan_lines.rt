@@ -1,27 +1,13 @@
 // The lines that `plan` says.
 ghost use Rattle.std.specs.Prelude.{◌≡◌, ◌+◌, ◌++◌, ◌<◌, ◌≤◌, ℕ, [], length};
 ghost use Rattle.plp_config.specs.SlotTime.{IsSlotLength};
-ghost use Rattle.config_text.specs.Rows.{band_word as word_of_band};
 ghost use Rattle.site_top.specs.PlanLines.{network_line as line_of_network, slot_part, size_part, count_part, plp_line as line_of_plp, IsPlanText};
 ghost use Rattle.site_top.specs.declared.line.TheConstants.{ROOM};
 
 use crate::line::Line;
 use crate::page::Page;
-use plp_config::{Band, Config, Plan};
-
-fn band_word(band: Band) -> &'static [u8]
-    ensures word { result.now ≡ word_of_band band }
-    ensures len { length result.now ≤ 3 }
-{
-    match band {
-        Band::Mhz1_7 => b"1.7",
-        Band::Mhz5 => b"5",
-        Band::Mhz6 => b"6",
-        Band::Mhz7 => b"7",
-        Band::Mhz8 => b"8",
-        Band::Mhz10 => b"10",
-    }
-}
+use config_text::band_word;
+use plp_config::{Config, Plan};
 
 #[tactic(auto, unfolding(crate::specs::PlanLines::network_line))]
 fn network_line(config: &Config) -> Line
