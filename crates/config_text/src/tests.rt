@@ -220,7 +220,7 @@ fn faults_are_told_in_words(rt: HostRuntime) -> Result<(), Fail> {
     )?;
     assert_eq!(rt;
         text.as_str(),
-        "config line 7: another line is due here; out of memory"
+        "config line 7: the lines must come in the order t2-gateway, bandwidth, frame, start, pid, network, l1, subslices, plp; out of memory"
     );
     Ok(())
 }
