@@ -6,3 +6,4 @@ pub mod ByteLemmas
 pub mod TableLemmas
 pub mod RunLemmas
 pub mod SliceLemmas
+pub mod PrbsLemmas

@@ -1,4 +1,5 @@
 pub mod Crc
 pub mod Laws
+pub mod Prbs
 pub mod Register
 pub use Rattle.terms.specs.Bits

@@ -1,15 +1,19 @@
-//! Slices of bits over borrowed bytes, and the CRC-32 of bits.
+//! Slices of bits over borrowed bytes, the CRCs of bits, and the sequence of a scrambler.
 #![tactic(auto)]
 
 mod crc;
+mod crc_eight;
 mod laws;
 mod memory;
+mod prbs;
 mod slice;
 mod tables;
 #[cfg(test)]
 mod tests;
 
 pub use crc::crc32;
-pub use laws::{crc32_law, remainder_law};
+pub use crc_eight::crc8;
+pub use laws::{crc8_law, crc32_law, prbs_law, remainder_law};
 pub use memory::OutOfMemory;
+pub use prbs::Prbs;
 pub use slice::BitSlice;

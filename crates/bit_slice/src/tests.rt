@@ -1,5 +1,5 @@
 // Expected values come from Python: its integers of any size, and for CRCs of whole bytes zlib, with bits turned round.
-use crate::{BitSlice, crc32};
+use crate::{BitSlice, Prbs, crc8, crc32};
 
 const DATA: [u8; 24] = [
     0xC3, 0xA5, 0x19, 0x7E, 0x02, 0xF0, 0xD4, 0x8B, 0x36, 0x5D, 0x0E, 0x91, 0xAB, 0x7C, 0x64, 0xFF,
@@ -33,6 +33,42 @@ fn crc_at_any_place_and_length(rt: HostRuntime) {
             want,
             "{len} bits from {first}"
         );
+    }
+}
+
+#[test]
+fn crc8_of_the_standard_text(rt: HostRuntime) {
+    assert_eq!(rt; crc8(BitSlice::whole(b"123456789")), 0xBC);
+}
+
+// By first bit and length.
+#[test]
+fn crc8_at_any_place_and_length(rt: HostRuntime) {
+    for (first, len, want) in [
+        (0, 0, 0x00),
+        (0, 1, 0xD5),
+        (0, 13, 0x7D),
+        (0, 72, 0xA6),
+        (8, 120, 0x17),
+        (3, 64, 0xBF),
+        (5, 101, 0xB6),
+    ] {
+        let whole = BitSlice::whole(&DATA);
+        assert!(rt; first <= whole.len() && len <= whole.len() - first);
+        assert_eq!(rt;
+            crc8(whole.sub(first, len)),
+            want,
+            "{len} bits from {first}"
+        );
+    }
+}
+
+// Counted bit by bit by the recurrence.
+#[test]
+fn the_sequence_begins(rt: HostRuntime) {
+    let mut sequence = Prbs::new();
+    for want in [0x03, 0xF6, 0x08, 0x34, 0x30, 0xB8, 0xA3, 0x93, 0xC9, 0x68] {
+        assert_eq!(rt; sequence.next_byte(), want);
     }
 }
 
