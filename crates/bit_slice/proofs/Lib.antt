@@ -7,3 +7,5 @@ pub mod TableLemmas
 pub mod RunLemmas
 pub mod SliceLemmas
 pub mod PrbsLemmas
+pub mod FillingLemmas
+pub mod SinkLemmas

@@ -99,7 +99,7 @@ bit_number (suc zero) h w = omega arith
 bit_number (suc (suc k)) h w = absurd (omega arith)
 
 -- a field holds the lowest bits of its number
-number_of-field-mod : (w n : ℕ) → number_of (field w n) ≡ n % 2 ^ w
+pub number_of-field-mod : (w n : ℕ) → number_of (field w n) ≡ n % 2 ^ w
 unfolding field
 number_of-field-mod zero n = omega (arith, mod_below n 1)
 number_of-field-mod (suc w) n =
