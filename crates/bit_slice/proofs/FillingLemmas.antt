@@ -10,7 +10,7 @@ use Rattle.std.proofs.lemmas.List.{append_assoc, append-nil, length-append, leng
 use Rattle.std.proofs.Math.Seq.{take-append-add, drop-append-add}
 use Rattle.std.proofs.lemmas.Nat.{or_shifted, pow-add, shr-shr, shr_split, shl_below}
 use Rattle.terms.specs.Bits.{field, bits_of, number_of, number_at, part, byte_at, bytes_of, bytes_for}
-use Rattle.terms.proofs.BitLemmas.{length-field, length-bits_of, bits_of-append, take-bits_of, drop-bits_of, number_of-append, number_of-field, field-number_of, number_at-bits_of, field-high, number_of-lt, length-part}
+use Rattle.terms.proofs.BitLemmas.{length-field, length-bits_of, bits_of-append, take-bits_of, drop-bits_of, number_of-append, number_of-field, field-number_of, number_at-bits_of, number_of-lt, length-part, bits_of-high-first}
 use Rattle.terms.proofs.PartLemmas.{number_of-zeros, part-add}
 use Rattle.bit_slice.specs.Filling.{padded, Holds}
 
@@ -90,44 +90,6 @@ placed old new piece bits more first count held put_in size begun fits inside pu
     ∙ ap (λ (k : ℕ). padded (bits ++ more) (8 * k)) (sym whole)
 
 -- ---- the window
-field-add : (a b n : ℕ) → field (a + b) n ≡ field a (n / 2 ^ b) ++ field b n
-unfolding field
-field-add zero b n = let e : 0 + b ≡ b = omega arith in ap (λ (k : ℕ). field k n) e
-field-add (suc a) b n =
-    let e : suc a + b ≡ suc (a + b) = omega arith in
-    let turn : b + a ≡ a + b = omega arith in
-    let top : n / 2 ^ b / 2 ^ a ≡ n / 2 ^ (a + b) = shr-shr n b a ∙ ap (λ (k : ℕ). n / 2 ^ k) turn in
-    ap (λ (k : ℕ). field k n) e
-    ∙ ap (λ (rest : List Bool). (bit_at n (a + b) == 1) ∷ rest) (field-add a b n)
-    ∙ ap (λ (k : ℕ). (k % 2 == 1) ∷ (field a (n / 2 ^ b) ++ field b n)) (sym top)
-
-field-low : (w n : ℕ) → field w (n % 2 ^ w) ≡ field w n
-field-low w n =
-    let same : w ≤ w = omega arith in
-    sym (field-high w (n / 2 ^ w) (n % 2 ^ w) w same) ∙ ap (field w) (shr_split n w)
-
-bytes_pow : (k : ℕ) → 256 ^ k ≡ 2 ^ (8 * k)
-bytes_pow zero = refl
-bytes_pow (suc k) =
-    let e : 8 * suc k ≡ 8 + 8 * k = omega arith in
-    pow-succ' 256 k ∙ ap (λ (x : ℕ). 256 * x) (bytes_pow k) ∙ sym (ap (λ (x : ℕ). 2 ^ x) e ∙ pow-add 2 8 (8 * k))
-
-field-byte : (k n : ℕ) → field 8 (number_byte k n) ≡ field 8 (n / 2 ^ (8 * k))
-field-byte zero n = let e : n ≡ n / 2 ^ (8 * 0) = omega arith in field-low 8 n ∙ ap (field 8) e
-field-byte (suc k) n = field-low 8 (n / 256 ^ suc k) ∙ ap (λ (x : ℕ). field 8 (n / x)) (bytes_pow (suc k))
-
-field-none : (n : ℕ) → field (8 * 0) n ≡ []
-unfolding field
-field-none n = refl
-
-bits_of-high-first : (k n : ℕ) → bits_of (bytes_high_first k n) ≡ field (8 * k) n
-bits_of-high-first zero n = sym (field-none n)
-bits_of-high-first (suc k) n =
-    let e : 8 * suc k ≡ 8 + 8 * k = omega arith in
-    let rest = bits_of-high-first k n in
-    ap (λ (xs : List Bool). xs ++ bits_of (bytes_high_first k n)) (field-byte k n) ∙ ap (λ (xs : List Bool). field 8 (n / 2 ^ (8 * k)) ++ xs) rest
-    ∙ sym (ap (λ (x : ℕ). field x n) e ∙ field-add 8 (8 * k) n)
-
 pub window_is : (front : List Bool) (byte first value width : ℕ) → length front ≡ first → first < 8 → 0 < width → width ≤ 64 → value < 2 ^ width →
     byte ≡ number_of front * 2 ^ (8 - first) →
     bits_of (bytes_high_first 16 (bit_or (byte * 2 ^ 120 % 2 ^ 128) (value * 2 ^ (128 - first - width) % 2 ^ 128))) ≡ padded (front ++ field width value) 128

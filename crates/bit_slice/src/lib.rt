@@ -19,7 +19,7 @@ pub use buf::BitBuf;
 pub use crc::crc32;
 pub use crc_eight::crc8;
 pub use fixed::FixedBits;
-pub use laws::{crc8_law, crc32_law, prbs_law, remainder_law};
+pub use laws::{crc8_law, crc32_law, prbs_law, puts_law, remainder_law, stops_law};
 pub use memory::OutOfMemory;
 pub use prbs::Prbs;
 pub use sink::{BitSink, SinkFault};
