@@ -1,14 +1,14 @@
 -- Where the parts of a frame stand, and how it is put together from them.
-use Rattle.std.proofs.Common.{◌≡◌, ℕ, ◌+◌, ◌-◌, ◌*◌, ◌/◌, ◌%◌, ◌^◌, ◌<◌, ◌≤◌, Bool, false, List, [], ◌++◌, length, take, drop, refl, ap, sym, ◌∙◌, arith, append_assoc, append-nil, length-append}
-use Rattle.std.specs.Prelude.{bit_xor, replicate}
-use Rattle.std.proofs.lemmas.List.{take_at, drop_at, take-append-drop, drop-drop, length-drop}
-use Rattle.std.proofs.lemmas.Nat.{xor_lt, shr-shr}
-use Rattle.terms.specs.Bits.{field, bits_of, number_of, part, number_at}
-use Rattle.terms.proofs.BitLemmas.{length-field, length-part, number_of-lt, field-number_at, field-high, number_of-field-mod, take-field}
+use Rattle.std.proofs.Common.{◌≡◌, ℕ, ◌+◌, ◌/◌, ◌%◌, ◌^◌, ◌<◌, ◌≤◌, Bool, List, [], ◌++◌, length, take, drop, refl, ap, sym, ◌∙◌, arith, append_assoc, length-append}
+use Rattle.std.specs.Prelude.{bit_xor}
+use Rattle.std.proofs.lemmas.List.{take_at, take-append-drop}
+use Rattle.std.proofs.lemmas.Nat.{xor_lt}
+use Rattle.terms.specs.Bits.{field, number_of, part, number_at}
+use Rattle.terms.proofs.BitLemmas.{length-field, length-part, number_of-lt, field-number_at, field-high, number_of-field-mod}
 use Rattle.terms.proofs.PartLemmas.{part-add, part-middle, number-middle}
 use Rattle.bit_slice.specs.Crc.{crc8_of}
 use Rattle.bb_frame.specs.declared.header.Header.{Header}
-use Rattle.bb_frame.specs.BasebandFrame.{fields_bits, mode, header_bits, frame_bits, Fits, IsPlace, Describes, Spells, told_crc, counted_crc, HasCrc, HasLength, HasSync}
+use Rattle.bb_frame.specs.BasebandFrame.{fields_bits, mode, header_bits, Fits, Spells, told_crc}
 use Rattle.bb_frame.specs.Reading.{HasFields, IsRead}
 
 -- what a CRC-8 can be

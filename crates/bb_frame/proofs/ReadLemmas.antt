@@ -1,5 +1,5 @@
 -- Bits that are a frame are read as that frame alone, and the others have one refusal.
-use Rattle.std.proofs.Common.{◌≡◌, ℕ, ◌+◌, ◌≤◌, Bool, List, length, refl, ap, sym, ◌∙◌, arith}
+use Rattle.std.proofs.Common.{◌≡◌, ℕ, ◌≤◌, Bool, List, length, refl, ap, sym, ◌∙◌, arith}
 use Rattle.std.specs.Prelude.{Result, Ok, Err, IfOk, IfErr, bit_xor}
 use lib.Bits.{xor_assoc, xor_self, xor_zero_l}
 use Rattle.terms.specs.Bits.{part}
@@ -7,7 +7,7 @@ use Rattle.bb_frame.specs.declared.header.Header.{Header}
 use Rattle.bb_frame.specs.declared.reading.BbView.{BbView}
 use Rattle.bb_frame.specs.declared.fault.BbFault.{BbFault}
 use Rattle.bb_frame.specs.declared.fault.BbFault.TheVariants.{Crc, Mode, Length, Sync}
-use Rattle.bb_frame.specs.BasebandFrame.{mode, frame_bits, Fits, Describes, Spells, counted_crc, told_crc, IsNormalMode, HasCrc, Refuses}
+use Rattle.bb_frame.specs.BasebandFrame.{mode, Spells, counted_crc, IsNormalMode, HasCrc, Refuses}
 use Rattle.bb_frame.specs.Reading.{HasFields, IsRead}
 use Rattle.bb_frame.specs.Laws.{WrittenIsSpelled, OneRefusal}
 use Rattle.bb_frame.proofs.FrameLemmas.{Bounded, placed, spelled}

@@ -1,5 +1,5 @@
 -- What the reader takes from bits, place by place. No public clause cites this module.
-use Rattle.std.specs.Prelude.{◌≡◌, ℕ, ◌+◌, ◌*◌, ◌^◌, List, Bool}
+use Rattle.std.specs.Prelude.{◌≡◌, ◌+◌, ◌*◌, ◌^◌, List, Bool}
 use Rattle.terms.specs.Bits.{part, number_at}
 use Rattle.bb_frame.specs.declared.header.Header.{Header}
 use Rattle.bb_frame.specs.BasebandFrame.{HasCrc, HasLength, HasSync}

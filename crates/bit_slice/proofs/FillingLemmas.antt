@@ -1,15 +1,15 @@
 -- Bits behind other bits in bytes, and zeros behind them.
-use Rattle.std.proofs.Common.{◌≡◌, ℕ, zero, suc, ◌+◌, ◌-◌, ◌*◌, ◌/◌, ◌%◌, ◌^◌, ◌<◌, ◌≤◌, ◌==◌, ⊎_elim, Bool, true, false, List, [], ◌∷◌, ◌++◌, length, take, drop, map, get_or, refl, ap, sym, ◌∙◌, arith}
+use Rattle.std.proofs.Common.{◌≡◌, ℕ, zero, suc, ◌+◌, ◌-◌, ◌*◌, ◌/◌, ◌%◌, ◌^◌, ◌<◌, ◌≤◌, ⊎_elim, Bool, true, false, List, [], ◌++◌, length, take, drop, map, get_or, refl, ap, sym, ◌∙◌, arith}
 use Rattle.std.specs.Prelude.{replicate, bit_or, if◌then◌else◌}
-use Rattle.std.specs.Int.{bytes_high_first, bit_at, byte_at as number_byte}
+use Rattle.std.specs.Int.{bytes_high_first}
 use Rattle.std.specs.List.{range_with_len}
 use Rattle.std.proofs.lemmas.Bool.{cases_lt}
 use Rattle.std.proofs.lemmas.List.FromFn.{fill_by_all}
-use Rattle.std.proofs.Math.Nat.{pow-succ', add-mul, mul_assoc, mod-eq_of_lt, pow-le-pow_right}
+use Rattle.std.proofs.Math.Nat.{add-mul, mul_assoc, mod-eq_of_lt, pow-le-pow_right}
 use Rattle.std.proofs.lemmas.List.{append_assoc, append-nil, length-append, length-drop, length-take-le, length-replicate, take-append-le, drop-append-le, take-append-drop, take_all, take_at, drop_all, drop-drop, replicate-append-replicate, take-replicate, drop-replicate}
 use Rattle.std.proofs.Math.Seq.{take-append-add, drop-append-add}
-use Rattle.std.proofs.lemmas.Nat.{or_shifted, pow-add, shr-shr, shr_split, shl_below}
-use Rattle.terms.specs.Bits.{field, bits_of, number_of, number_at, part, byte_at, bytes_of, bytes_for}
+use Rattle.std.proofs.lemmas.Nat.{or_shifted, pow-add, shl_below}
+use Rattle.terms.specs.Bits.{field, bits_of, number_of, part, byte_at, bytes_of, bytes_for}
 use Rattle.terms.proofs.BitLemmas.{length-field, length-bits_of, bits_of-append, take-bits_of, drop-bits_of, number_of-append, number_of-field, field-number_of, number_at-bits_of, number_of-lt, length-part, bits_of-high-first}
 use Rattle.terms.proofs.PartLemmas.{number_of-zeros, part-add}
 use Rattle.bit_slice.specs.Filling.{padded, Holds}

@@ -1,11 +1,10 @@
 -- Eight bits of the scrambler's sequence at a time.
-use Rattle.std.proofs.Common.{◌≡◌, ℕ, zero, suc, ◌+◌, ◌-◌, ◌*◌, ◌/◌, ◌%◌, ◌^◌, ◌<◌, ◌≤◌, Bool, true, false, cond, List, [], ◌∷◌, ◌++◌, length, take, drop, map, get_or, refl, ap, sym, ◌∙◌, arith}
+use Rattle.std.proofs.Common.{◌≡◌, ℕ, zero, suc, ◌+◌, ◌*◌, ◌/◌, ◌%◌, ◌^◌, ◌<◌, Bool, true, false, cond, List, [], ◌∷◌, ◌++◌, length, drop, map, refl, ap, sym, ◌∙◌, arith}
 use Rattle.std.specs.Prelude.{bit_and, bit_or, bit_xor}
 use Rattle.std.specs.List.{range_with_len}
-use lib.Bits.{xor_zero_l, xor_zero_r, xor_self}
-use Rattle.std.proofs.lemmas.Nat.{xor_block, xor_mod, or_shifted, and_mask, pow_pos}
+use Rattle.std.proofs.lemmas.Nat.{xor_block, xor_mod, or_shifted, and_mask}
 use Rattle.std.proofs.lemmas.List.{length-append, length-drop, take_all}
-use Rattle.terms.specs.Bits.{number_of, part, number_at}
+use Rattle.terms.specs.Bits.{number_of, part}
 use Rattle.terms.proofs.BitLemmas.{number_of-lt, number_of-part, number_of-append, length-part}
 use Rattle.bit_slice.specs.Prbs.{plus, next_bit, fifteen_before, prbs, prbs_byte}
 use Rattle.bit_slice.specs.Laws.{PrbsRecurs}

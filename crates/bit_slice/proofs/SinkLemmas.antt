@@ -1,13 +1,13 @@
 -- What puts do to sinks, and one put after another.
-use Rattle.std.proofs.Common.{◌≡◌, ℕ, ◌+◌, ◌-◌, ◌*◌, ◌<◌, ◌≤◌, Bool, true, false, List, [], ◌++◌, length, take, drop, Option, Some, None, refl, ap, sym, ◌∙◌, arith, append_assoc, append-nil, length-append}
+use Rattle.std.proofs.Common.{◌≡◌, ℕ, ◌+◌, ◌-◌, ◌<◌, ◌≤◌, Bool, true, false, List, [], ◌++◌, length, take, drop, Option, Some, None, refl, ap, sym, ◌∙◌, arith, append_assoc, append-nil, length-append}
 use Rattle.std.proofs.lemmas.List.{length-take, take_at, take-append-le, take-append-drop}
 use Rattle.std.specs.Prelude.{IfSome, min}
 use Rattle.std.specs.Option.{option_map}
 use Rattle.std.proofs.Math.Seq.{take-append-add}
 use Rattle.bit_slice.specs.declared.sink.SinkFault.{SinkFault}
 use Rattle.bit_slice.specs.declared.sink.SinkFault.TheVariants.{Full, OutOfMemory}
-use Rattle.bit_slice.specs.Sink.{State, Puts, Refuses, StopsFor, Stops}
-use Rattle.bit_slice.specs.Laws.{StopsHere, StopsEarly, StopsLater, IsCause, StopsRightly}
+use Rattle.bit_slice.specs.Sink.{State, Puts, Refuses, StopsFor}
+use Rattle.bit_slice.specs.Laws.{StopsHere, StopsEarly, StopsLater, StopsRightly}
 
 -- a sink with so much room in all
 pub fixed_puts : (all : ℕ) (old new more : List Bool) → new ≡ old ++ more → length old + length more ≤ all →
@@ -53,7 +53,7 @@ fits_none None = tt
 fits_none (Some r) = omega arith
 
 puts_none : (a : State) → Puts a a []
-puts_none a = record { written = sym (append-nil a.written); fits = fits_none a.room; room = room_same a.room; grows = refl; }
+puts_none a = record { written = sym (append-nil a.written); fits = fits_none a.room; room = room_same a.room; grows = refl }
 
 cause_here : (a : State) (count total : ℕ) (fault : SinkFault) → Refuses a count fault → count ≤ total → StopsFor a (total - 0) fault
 cause_here a count total (Full need room) h inside = let needed = h.0 in (h.1, h.2, omega arith)
@@ -61,10 +61,10 @@ cause_here a count total OutOfMemory h inside = h
 
 pub stops_here : StopsHere
 stops_here a bits count fault h inside = record {
-    count = 0;
-    front = puts_none a;
-    cause = cause_here a count (length bits) fault h inside;
-  }
+  count = 0;
+  front = puts_none a;
+  cause = cause_here a count (length bits) fault h inside;
+}
 
 pub stops_later : StopsLater
 stops_later a b c front more fault puts stops =

@@ -1,7 +1,6 @@
-use Rattle.std.proofs.Common.{◌≡◌, ◌-◌, ◌++◌, false, length, refl, ap, sym, ◌∙◌, arith, append_assoc}
+use Rattle.std.proofs.Common.{◌-◌, ◌++◌, false, length, refl, arith}
 use Rattle.std.specs.Prelude.{replicate}
 use Rattle.std.proofs.lemmas.Result.{err_from_is_err_and}
-use Rattle.std.proofs.lemmas.List.{length-append}
 use Rattle.bb_frame.specs.BasebandFrame.{header_bits, frame_bits}
 use Rattle.bb_frame.proofs.WriteLemmas.{part_stops, rest_faults, rest_puts}
 use Rattle.bb_frame.proofs.writing.write_frame.Goals as goal

@@ -1,4 +1,4 @@
-use Rattle.std.proofs.Common.{◌≡◌, ◌+◌, ◌-◌, ◌*◌, ◌/◌, ◌++◌, length, drop, [], refl, ap, ◌∙◌, arith}
+use Rattle.std.proofs.Common.{◌+◌, ◌-◌, ◌/◌, ◌∙◌, arith}
 use Rattle.bit_slice.proofs.FillingLemmas.{bytes_placed}
 use Rattle.bit_slice.proofs.filling.put_bytes.Goals as goal
 

@@ -1,4 +1,3 @@
-use Rattle.std.proofs.Common.{◌++◌}
 use Rattle.terms.proofs.BitLemmas.{field-number_at}
 use Rattle.bit_slice.proofs.filling.put_part.Goals as goal
 

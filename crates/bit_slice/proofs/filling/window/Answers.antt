@@ -1,5 +1,3 @@
-use Rattle.std.proofs.Common.{ap, ◌∙◌}
-use Rattle.terms.specs.Bits.{bits_of}
 use Rattle.bit_slice.proofs.FillingLemmas.{window_is}
 use Rattle.bit_slice.proofs.filling.window.Goals as goal
 

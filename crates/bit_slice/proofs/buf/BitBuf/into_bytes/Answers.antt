@@ -1,4 +1,4 @@
-use Rattle.std.proofs.Common.{◌≡◌, ◌<◌, ℕ, length, get_or, sym, ap, ◌∙◌, arith}
+use Rattle.std.proofs.Common.{◌≡◌, ◌<◌, ℕ, length, get_or, arith}
 use Rattle.terms.specs.Bits.{bytes_for}
 use Rattle.bit_slice.proofs.FillingLemmas.{seen_long, filled}
 use Rattle.bit_slice.proofs.buf.BitBuf.into_bytes.Goals as goal

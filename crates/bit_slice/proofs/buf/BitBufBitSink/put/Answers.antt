@@ -1,5 +1,4 @@
-use Rattle.std.proofs.Common.{◌≡◌, ◌+◌, ◌*◌, ◌++◌, length, take, sym, ap, ◌∙◌, arith}
-use Rattle.terms.specs.Bits.{bits_of}
+use Rattle.std.proofs.Common.{◌+◌, ◌++◌, ◌∙◌, arith}
 use Rattle.terms.specs.Bits.{field}
 use Rattle.terms.proofs.BitLemmas.{length-field}
 use Rattle.bit_slice.specs.Filling.{Holds}

@@ -1,5 +1,4 @@
-use Rattle.std.proofs.Common.{◌≡◌, ◌+◌, ◌*◌, ◌++◌, length, take, sym, ap, ◌∙◌, arith}
-use Rattle.terms.specs.Bits.{bits_of}
+use Rattle.std.proofs.Common.{◌+◌, ◌*◌, ◌++◌, sym, arith}
 use Rattle.bit_slice.specs.Filling.{Holds}
 use Rattle.bit_slice.proofs.FillingLemmas.{seen_long, seen_more, holds_seen}
 use Rattle.bit_slice.proofs.SinkLemmas.{fixed_puts}
