@@ -1,7 +1,7 @@
 -- What bytes make of the register, by what zero bits make of a byte at its top: the laws that tables rest on.
 use Rattle.std.proofs.Common.{◌≡◌, ℕ, ◌+◌, ◌-◌, ◌*◌, ◌/◌, ◌%◌, ◌^◌, ◌<◌, ◌≤◌, List, [], ◌∷◌, length, get_or, refl, ap, sym, ◌∙◌, arith}
 use Rattle.std.specs.Prelude.{bit_xor}
-use lib.Bits.{xor_shifted, xor_zero_r}
+use lib.Bits.{xor_shifted, xor_zero_l, xor_zero_r}
 use Rattle.std.proofs.lemmas.Nat.{xor_block, xor_comm, xor_lt, pow_pos, pow-add, shl_below, shr_below, shr_split, mod_below, mod_low}
 use Rattle.terms.specs.Bits.{field, bits_of, number_of}
 use Rattle.terms.proofs.BitLemmas.{length-field, length-bits_of, bits_of-append, number_of-field, number_of-bytes}
@@ -39,6 +39,15 @@ register-byte d low small wide s b fits fits_b =
     bits ∙ ap (zeros d low 8) parts ∙ zeros_xor d low small 8 (bit_xor high b * 2 ^ k) rest fits_top less
     ∙ xor_comm (zeros d low 8 (bit_xor high b * 2 ^ k)) (zeros d low 8 rest)
     ∙ ap (λ (x : ℕ). bit_xor x (zeros d low 8 (bit_xor high b * 2 ^ k))) (zeros_low d low 8 rest room ∙ sym moved)
+
+-- in a register of eight bits no byte is left below the highest one
+pub register-eight-bits : (low s b : ℕ) → low < 2 ^ 8 → s < 2 ^ 8 → b < 2 ^ 8 → register 8 low s (field 8 b) ≡ zeros 8 low 8 (bit_xor s b * 2 ^ (8 - 8))
+register-eight-bits low s b small fits fits_b =
+    let none : s * 2 ^ 8 % 2 ^ 8 ≡ 0 = omega arith in
+    let all : s / 2 ^ (8 - 8) ≡ s = omega arith in
+    let eight : 8 ≤ 8 = omega arith in
+    let byte = register-byte 8 low small eight s b fits fits_b in
+    byte ∙ rw (none, all) (xor_zero_l (zeros 8 low 8 (bit_xor s b * 2 ^ (8 - 8))))
 
 -- four tables: a word is the sum of its bytes, each of which moves to the top first
 pub zeros-word : (low first x : ℕ) → low < 2 ^ 32 → x < 2 ^ 32 →

@@ -5,8 +5,8 @@ use lib.Bits.{xor_assoc}
 use Rattle.std.proofs.lemmas.Nat.{xor_block, xor_lt, pow_pos, pow-add, shl_below, mod_below, div_below, div-add-mod'}
 use Rattle.std.proofs.Math.Nat.{pow-succ'}
 use Rattle.terms.specs.Bits.{number_of}
-use Rattle.bit_slice.specs.Crc.{product, HasDegree, IsRemainder, remainder, dividend, crc_of, crc32_of}
-use Rattle.bit_slice.specs.Laws.{CrcIsRemainder}
+use Rattle.bit_slice.specs.Crc.{product, HasDegree, IsRemainder, remainder, dividend, crc_of, crc32_of, crc8_of}
+use Rattle.bit_slice.specs.Laws.{CrcIsRemainder, Crc8IsRemainder}
 use Rattle.bit_slice.specs.Register.{differ, step, register}
 use Rattle.terms.proofs.BitLemmas.{number_of-lt}
 use Rattle.bit_slice.proofs.XorLemmas.{xor_shl, xor_twice}
@@ -136,3 +136,11 @@ crc32_of_is w = crc_of_is 32 0x04C1_1DB7 (omega arith) w 0xFFFF_FFFF (omega arit
 pub crc_is_remainder : CrcIsRemainder
 unfolding crc32_of
 crc_is_remainder w = rw (crc32_of_is w) (is_remainder 32 0x04C1_1DB7 (omega arith) w 0xFFFF_FFFF (omega arith))
+
+pub crc8_of_is : (w : List Bool) → crc8_of w ≡ register 8 0xD5 0 w
+unfolding crc8_of
+crc8_of_is w = crc_of_is 8 0xD5 (omega arith) w 0 (omega arith)
+
+pub crc8_is_remainder : Crc8IsRemainder
+unfolding crc8_of
+crc8_is_remainder w = rw (crc8_of_is w) (is_remainder 8 0xD5 (omega arith) w 0 (omega arith))

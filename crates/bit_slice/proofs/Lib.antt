@@ -6,3 +6,6 @@ pub mod ByteLemmas
 pub mod TableLemmas
 pub mod RunLemmas
 pub mod SliceLemmas
+pub mod PrbsLemmas
+pub mod FillingLemmas
+pub mod SinkLemmas

@@ -1,7 +1,7 @@
 -- The tables have the right entries: the check computes each one, and an induction makes a law of it.
 use Rattle.std.proofs.Common.{◌≡◌, ℕ, zero, suc, ◌+◌, ◌-◌, ◌*◌, ◌^◌, ◌<◌, ◌==◌, Bool, true, false, ◌&&◌, List, [], ◌∷◌, length, get_or, refl, ap, ◌∙◌, arith}
 use Rattle.std.proofs.lemmas.Bool.Decides.{Decides-eqb}
-use Rattle.bit_slice.specs.declared.tables.TheConstants.{TABLES}
+use Rattle.bit_slice.specs.declared.tables.TheConstants.{TABLES, BYTE_TABLE}
 use Rattle.bit_slice.specs.Register.{zeros}
 
 -- what n zero bits make of a byte at the top of the register
@@ -58,3 +58,12 @@ pub entry_is : (t byte : ℕ) → t < 8 → byte < 256 → get_or (get_or TABLES
 entry_is t byte h small =
     let count : 8 + 8 * t ≡ 8 * (t + 1) = omega arith in
     all_right_at 32 0x04C1_1DB7 TABLES 8 t byte tables_right h small ∙ ap (λ (k : ℕ). entry_of 32 0x04C1_1DB7 k byte) count
+
+byte_table_right : right 8 0xD5 8 0 BYTE_TABLE ≡ true
+unfolding zeros right
+byte_table_right = refl
+
+pub byte_entry_is : (byte : ℕ) → byte < 256 → get_or BYTE_TABLE byte 0 ≡ zeros 8 0xD5 8 (byte * 2 ^ (8 - 8))
+byte_entry_is byte small =
+    let sum : 0 + byte ≡ byte = omega arith in
+    right_at 8 0xD5 8 BYTE_TABLE 0 byte byte_table_right small ∙ ap (entry_of 8 0xD5 8) sum

@@ -44,3 +44,11 @@ crc32_generator = 0x1_04C1_1DB7
 -- the CRC-32 of bits (ISO/IEC 13818-1, annex A; EN 302 755, annex F; TS 102 773, annex A)
 unfoldable pub crc32_of : List Bool → ℕ
 crc32_of w = crc_of 32 crc32_generator (ones 32) w
+
+-- X^8 + X^7 + X^6 + X^4 + X^2 + 1
+abbrev pub crc8_generator : ℕ
+crc8_generator = 0x1D5
+
+-- the CRC-8 of bits (EN 302 755, annex F)
+unfoldable pub crc8_of : List Bool → ℕ
+crc8_of w = crc_of 8 crc8_generator 0 w

@@ -1,12 +1,36 @@
 //! Laws of the definitions: functions with nothing to do, whose contracts say what holds.
-ghost use Rattle.bit_slice.specs.Laws.{CrcIsRemainder, RemainderIsUnique};
+ghost use Rattle.bit_slice.specs.Laws.{CrcIsRemainder, Crc8IsRemainder, RemainderIsUnique, PrbsRecurs, PutsJoin, StopsHere, StopsEarly, StopsLater, StopsRightly};
 
 /// CRC-32 is the remainder of a polynomial.
 pub fn crc32_law()
     ensures { CrcIsRemainder }
 {}
 
+/// CRC-8 is the remainder of a polynomial.
+pub fn crc8_law()
+    ensures { Crc8IsRemainder }
+{}
+
 /// A polynomial has one remainder.
 pub fn remainder_law()
     ensures { RemainderIsUnique }
+{}
+
+/// Each bit of the scrambler's sequence is the sum of the fourteenth and the fifteenth before it.
+pub fn prbs_law()
+    ensures { PrbsRecurs }
+{}
+
+/// Puts one after another are one.
+pub fn puts_law()
+    ensures { PutsJoin }
+{}
+
+/// Where a writer of several parts stops: `here` at its first put, `early` before other parts, `later` behind them. It is `full` exactly where the
+/// sink had less room than all its bits.
+pub fn stops_law()
+    ensures here { StopsHere }
+    ensures early { StopsEarly }
+    ensures later { StopsLater }
+    ensures full { StopsRightly }
 {}

@@ -1,5 +1,5 @@
 // Expected values come from Python: its integers of any size, and for CRCs of whole bytes zlib, with bits turned round.
-use crate::{BitSlice, crc32};
+use crate::{BitBuf, BitSink, BitSlice, FixedBits, Prbs, SinkFault, crc8, crc32};
 
 const DATA: [u8; 24] = [
     0xC3, 0xA5, 0x19, 0x7E, 0x02, 0xF0, 0xD4, 0x8B, 0x36, 0x5D, 0x0E, 0x91, 0xAB, 0x7C, 0x64, 0xFF,
@@ -33,6 +33,42 @@ fn crc_at_any_place_and_length(rt: HostRuntime) {
             want,
             "{len} bits from {first}"
         );
+    }
+}
+
+#[test]
+fn crc8_of_the_standard_text(rt: HostRuntime) {
+    assert_eq!(rt; crc8(BitSlice::whole(b"123456789")), 0xBC);
+}
+
+// By first bit and length.
+#[test]
+fn crc8_at_any_place_and_length(rt: HostRuntime) {
+    for (first, len, want) in [
+        (0, 0, 0x00),
+        (0, 1, 0xD5),
+        (0, 13, 0x7D),
+        (0, 72, 0xA6),
+        (8, 120, 0x17),
+        (3, 64, 0xBF),
+        (5, 101, 0xB6),
+    ] {
+        let whole = BitSlice::whole(&DATA);
+        assert!(rt; first <= whole.len() && len <= whole.len() - first);
+        assert_eq!(rt;
+            crc8(whole.sub(first, len)),
+            want,
+            "{len} bits from {first}"
+        );
+    }
+}
+
+// Counted bit by bit by the recurrence.
+#[test]
+fn the_sequence_begins(rt: HostRuntime) {
+    let mut sequence = Prbs::new();
+    for want in [0x03, 0xF6, 0x08, 0x34, 0x30, 0xB8, 0xA3, 0x93, 0xC9, 0x68] {
+        assert_eq!(rt; sequence.next_byte(), want);
     }
 }
 
@@ -81,4 +117,44 @@ fn bits_and_parts(rt: HostRuntime) {
     assert!(rt; whole.bit(1) && !whole.bit(2) && !whole.is_empty());
     let part = whole.sub(20, 0);
     assert!(rt; part.is_empty() && part.len() == 0);
+}
+
+const ROW: [u8; 46] = [
+    0xB0, 0x09, 0x1A, 0x2B, 0x3C, 0x4D, 0x5E, 0x6F, 0x78, 0xE9, 0x46, 0x5F, 0x80, 0xBC, 0x35, 0x22,
+    0xCD, 0x97, 0x43, 0xA4, 0x6A, 0xF0, 0xE9, 0x46, 0x5F, 0x80, 0xBC, 0x35, 0x22, 0xCD, 0x97, 0x43,
+    0xA4, 0x6A, 0xDF, 0x19, 0x3F, 0xC6, 0x08, 0x25, 0x5E, 0xB7, 0xAC, 0xD1, 0xB3, 0x40,
+];
+
+// 362 bits, over bytes and within them.
+fn put_row<S: BitSink>(sink: &mut S) -> Result<(), SinkFault> {
+    let whole = BitSlice::whole(&DATA);
+    sink.put(0x16, 5)?;
+    sink.put(0x0123_4567_89AB_CDEF, 64)?;
+    sink.put_slice(whole.sub(3, 101))?;
+    sink.put_slice(whole)
+}
+
+#[test]
+fn a_sink_that_grows(rt: HostRuntime) {
+    let mut sink = BitBuf::new(rt.alloc());
+    assert_eq!(rt; put_row(&mut sink), Ok(()));
+    assert_eq!(rt; sink.as_slice().len(), 362);
+    assert!(rt; sink.into_bytes().as_slice() == ROW.as_slice());
+}
+
+#[test]
+fn a_sink_that_fills_up(rt: HostRuntime) {
+    let mut sink = FixedBits::<46>::new();
+    assert_eq!(rt; put_row(&mut sink), Ok(()));
+    assert_eq!(rt; sink.put(0, 7), Err(SinkFault::Full { need: 7, room: 6 }));
+    assert_eq!(rt;
+        sink.put_slice(BitSlice::whole(&[0xFF])),
+        Err(SinkFault::Full { need: 8, room: 6 })
+    );
+    assert_eq!(rt; sink.put(0, 6), Ok(()));
+    let bits = sink.as_slice();
+    assert!(rt; bits.len() == 368);
+    let mut out = [0; 46];
+    bits.copy_bytes(&mut out);
+    assert!(rt; out == ROW);
 }

@@ -1,11 +1,11 @@
 -- Bits of numbers and bytes, the numbers of bits, and parts of bits.
 use Rattle.std.proofs.Common.{◌≡◌, ℕ, zero, suc, ◌+◌, ◌-◌, ◌*◌, ◌/◌, ◌%◌, ◌^◌, ◌<◌, ◌≤◌, ◌==◌, Bool, true, false, cond, List, [], ◌∷◌, ◌++◌, length, take, drop, map, get_or, refl, ap, sym, ◌∙◌, arith, length-append, add-one}
-use Rattle.std.specs.Int.{bit_at}
+use Rattle.std.specs.Int.{bit_at, bytes_high_first, byte_at as number_byte}
 use Rattle.std.proofs.lemmas.List.{append_assoc, take_at, take_all, drop_all, drop_more, take-append-drop, length-take-le, get_or_append_left, get_or-append-add, length_push, drop-take, take-take, drop-drop, get_or-take, get_or-drop, length-take, length-drop, drop-append-le, take-append-le}
 use Rattle.std.specs.List.{range_with_len}
 use Rattle.std.proofs.lemmas.List.Concat.{flat_map-append}
 use Rattle.std.proofs.lemmas.List.FromFn.{fill_by_all, length-map-range_with_len}
-use Rattle.std.proofs.lemmas.Nat.{pow-add, mod-pow-add, mod_below, mod_low, shr_high}
+use Rattle.std.proofs.lemmas.Nat.{pow-add, shr-shr, shr_split, mod-pow-add, mod_below, mod_low, shr_high}
 use Rattle.std.proofs.lemmas.Nat.Bits.{bit_at-lt, bit_at_above, bit_at_cat_low}
 use Rattle.std.proofs.Math.Nat.{pow-succ', add-mul, mod-eq_of_lt}
 use Rattle.std.proofs.Math.Seq.{take-add, take-append_seam, drop-append_seam}
@@ -99,7 +99,7 @@ bit_number (suc zero) h w = omega arith
 bit_number (suc (suc k)) h w = absurd (omega arith)
 
 -- a field holds the lowest bits of its number
-number_of-field-mod : (w n : ℕ) → number_of (field w n) ≡ n % 2 ^ w
+pub number_of-field-mod : (w n : ℕ) → number_of (field w n) ≡ n % 2 ^ w
 unfolding field
 number_of-field-mod zero n = omega (arith, mod_below n 1)
 number_of-field-mod (suc w) n =
@@ -236,3 +236,45 @@ pub number_of-bytes : (byte : ℕ) (bytes : List ℕ) → byte < 256 → number_
 number_of-bytes byte bytes small =
     number_of-append (field 8 byte) (bits_of bytes)
     ∙ rw (length-bits_of bytes) (ap (λ (n : ℕ). n * 2 ^ (8 * length bytes) + number_of (bits_of bytes)) (number_of-field 8 byte small))
+
+-- a wide field in two
+pub field-add : (a b n : ℕ) → field (a + b) n ≡ field a (n / 2 ^ b) ++ field b n
+unfolding field
+field-add zero b n = let e : 0 + b ≡ b = omega arith in ap (λ (k : ℕ). field k n) e
+field-add (suc a) b n =
+    let e : suc a + b ≡ suc (a + b) = omega arith in
+    let turn : b + a ≡ a + b = omega arith in
+    let top : n / 2 ^ b / 2 ^ a ≡ n / 2 ^ (a + b) = shr-shr n b a ∙ ap (λ (k : ℕ). n / 2 ^ k) turn in
+    ap (λ (k : ℕ). field k n) e
+    ∙ ap (λ (rest : List Bool). (bit_at n (a + b) == 1) ∷ rest) (field-add a b n)
+    ∙ ap (λ (k : ℕ). (k % 2 == 1) ∷ (field a (n / 2 ^ b) ++ field b n)) (sym top)
+
+-- what stands above a field's width can be cut off
+pub field-low : (w n : ℕ) → field w (n % 2 ^ w) ≡ field w n
+field-low w n =
+    let same : w ≤ w = omega arith in
+    sym (field-high w (n / 2 ^ w) (n % 2 ^ w) w same) ∙ ap (field w) (shr_split n w)
+
+bytes_pow : (k : ℕ) → 256 ^ k ≡ 2 ^ (8 * k)
+bytes_pow zero = refl
+bytes_pow (suc k) =
+    let e : 8 * suc k ≡ 8 + 8 * k = omega arith in
+    pow-succ' 256 k ∙ ap (λ (x : ℕ). 256 * x) (bytes_pow k) ∙ sym (ap (λ (x : ℕ). 2 ^ x) e ∙ pow-add 2 8 (8 * k))
+
+-- a byte of a number
+pub field-byte : (k n : ℕ) → field 8 (number_byte k n) ≡ field 8 (n / 2 ^ (8 * k))
+field-byte zero n = let e : n ≡ n / 2 ^ (8 * 0) = omega arith in field-low 8 n ∙ ap (field 8) e
+field-byte (suc k) n = field-low 8 (n / 256 ^ suc k) ∙ ap (λ (x : ℕ). field 8 (n / x)) (bytes_pow (suc k))
+
+field-none : (n : ℕ) → field (8 * 0) n ≡ []
+unfolding field
+field-none n = refl
+
+-- the bytes of a number, the highest first, are its field
+pub bits_of-high-first : (k n : ℕ) → bits_of (bytes_high_first k n) ≡ field (8 * k) n
+bits_of-high-first zero n = sym (field-none n)
+bits_of-high-first (suc k) n =
+    let e : 8 * suc k ≡ 8 + 8 * k = omega arith in
+    let rest = bits_of-high-first k n in
+    ap (λ (xs : List Bool). xs ++ bits_of (bytes_high_first k n)) (field-byte k n) ∙ ap (λ (xs : List Bool). field 8 (n / 2 ^ (8 * k)) ++ xs) rest
+    ∙ sym (ap (λ (x : ℕ). field x n) e ∙ field-add 8 (8 * k) n)

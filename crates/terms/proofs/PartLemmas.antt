@@ -1,11 +1,11 @@
 -- Parts of lists that stand side by side, and the bits of a front of bytes.
 use Rattle.std.specs.Prelude.{replicate}
 use Rattle.std.proofs.lemmas.Nat.{pow_pos}
-use Rattle.std.proofs.Common.{◌≡◌, ℕ, zero, suc, ◌+◌, ◌*◌, ◌^◌, ◌<◌, ◌≤◌, List, Bool, true, false, [], ◌∷◌, ◌++◌, length, take, drop, refl, ap, sym, ◌∙◌, arith}
-use Rattle.std.proofs.lemmas.List.{drop-drop, drop-append-le, take-append-le, take-append-drop, length-take-le, length-append}
-use Rattle.std.proofs.Math.Seq.{take-add, take-append_seam, drop-append_seam, take-length}
-use Rattle.terms.specs.Bits.{field, bits_of, number_of}
-use Rattle.terms.proofs.BitLemmas.{length-bits_of, bits_of-append, length-field, number_of-field, part-append}
+use Rattle.std.proofs.Common.{◌≡◌, ℕ, zero, suc, ◌+◌, ◌^◌, ◌<◌, ◌≤◌, List, Bool, true, false, [], ◌∷◌, ◌++◌, length, take, drop, refl, ap, sym, ◌∙◌, arith}
+use Rattle.std.proofs.lemmas.List.{drop-drop, length-append}
+use Rattle.std.proofs.Math.Seq.{take-add, drop-append_seam, take-length}
+use Rattle.terms.specs.Bits.{field, number_of}
+use Rattle.terms.proofs.BitLemmas.{length-field, number_of-field, part-append}
 
 -- two parts that stand side by side are one
 pub part-add : {X : Type 0} (xs : List X) (at a b : ℕ) → take (a + b) (drop at xs) ≡ take a (drop at xs) ++ take b (drop (at + a) xs)

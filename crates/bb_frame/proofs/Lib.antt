@@ -1,0 +1,4 @@
+pub mod FrameLemmas
+pub mod ReadLemmas
+pub mod ScrambleLemmas
+pub mod WriteLemmas

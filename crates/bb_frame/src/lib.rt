@@ -1,0 +1,19 @@
+//! Baseband frames in high-efficiency mode, and their scrambling (EN 302 755, clauses 5.1.7 and 5.2.2).
+#![tactic(auto)]
+
+mod fault;
+mod header;
+mod laws;
+mod reading;
+mod scrambling;
+mod writing;
+
+pub use fault::BbFault;
+pub use header::Header;
+pub use laws::{one_refusal, scramble_twice, written_is_spelled};
+pub use reading::{BbView, read_frame};
+pub use scrambling::scramble;
+pub use writing::write_frame;
+
+#[cfg(test)]
+mod tests;

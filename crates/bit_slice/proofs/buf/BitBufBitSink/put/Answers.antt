@@ -1,0 +1,34 @@
+use Rattle.std.proofs.Common.{◌+◌, ◌++◌, ◌∙◌, arith}
+use Rattle.terms.specs.Bits.{field}
+use Rattle.terms.proofs.BitLemmas.{length-field}
+use Rattle.bit_slice.specs.Filling.{Holds}
+use Rattle.bit_slice.proofs.FillingLemmas.{seen_long, seen_more, holds_seen, written_back}
+use Rattle.bit_slice.proofs.SinkLemmas.{grown_puts}
+use Rattle.bit_slice.proofs.buf.BitBufBitSink.put.Goals as goal
+
+pub invariant_of-self-2 : goal.invariant_of-self-2
+invariant_of-self-2 c =
+    let bits = c.args.self.now in
+    let old = c.self.inside.bytes.items in
+    let new = c.put_field.new.bytes in
+    let long = seen_long old bits c.self.inside.used c.self.view_is (omega (arith, c.self.invariant.0)) in
+    let longer = c.lengthen.ensures.holds c.if-not-lengthen.false bits long (rw c.self.view_is at c.self.invariant.2) in
+    let held : Holds new (bits ++ (field c.args.width c.args.value)) = c.put_field.ensures.holds bits long (rw c.deref_mut.ensures.value longer) in
+    let back = written_back new c.lengthen.new.bytes.items c.lengthen.new.bytes.len (c.put_field.ensures.len ∙ c.deref_mut.ensures.len) in
+    let is = seen_more new bits (field c.args.width c.args.value) c.self.inside.used c.args.width held long (length-field c.args.width c.args.value) in (
+      c.lengthen.ensures.len c.if-not-lengthen.false,
+      c.lengthen.ensures.short c.if-not-lengthen.false,
+      rw back (holds_seen new (bits ++ (field c.args.width c.args.value)) (c.self.inside.used + c.args.width) is held),
+    )
+
+pub returns-clause-ok : goal.returns-clause-ok
+returns-clause-ok c =
+    let bits = c.args.self.now in
+    let old = c.self.inside.bytes.items in
+    let new = c.put_field.new.bytes in
+    let long = seen_long old bits c.self.inside.used c.self.view_is (omega (arith, c.self.invariant.0)) in
+    let longer = c.lengthen.ensures.holds c.if-not-lengthen.false bits long (rw c.self.view_is at c.self.invariant.2) in
+    let held : Holds new (bits ++ (field c.args.width c.args.value)) = c.put_field.ensures.holds bits long (rw c.deref_mut.ensures.value longer) in
+    let back = written_back new c.lengthen.new.bytes.items c.lengthen.new.bytes.len (c.put_field.ensures.len ∙ c.deref_mut.ensures.len) in
+    let is = seen_more new bits (field c.args.width c.args.value) c.self.inside.used c.args.width held long (length-field c.args.width c.args.value) in
+    grown_puts bits _ (field c.args.width c.args.value) (rw back is)

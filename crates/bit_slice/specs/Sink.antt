@@ -1,0 +1,35 @@
+-- Sinks of bits: what they hold, what a put does to it, and why it does not.
+use Rattle.std.specs.Prelude.{◌≡◌, ◌<◌, ◌≤◌, ℕ, ◌-◌, Bool, true, List, ◌++◌, length, take, Some, None, IfSome}
+use Rattle.std.specs.declared.option.Option.{Option}
+use Rattle.std.specs.Option.{option_map}
+use Rattle.bit_slice.specs.declared.sink.SinkFault.{SinkFault}
+use Rattle.bit_slice.specs.declared.sink.SinkFault.TheVariants.{Full, OutOfMemory}
+
+-- the bits written, the room left where the sink has an end, and whether it takes memory as it grows
+pub record State : Type 0 where
+  pub written : List Bool
+  pub room : Option ℕ
+  pub grows : Bool
+
+-- These bits were appended, for which there was room.
+pub record Puts (old new : State) (bits : List Bool) : Type 0 where
+  pub written : new.written ≡ old.written ++ bits
+  pub fits : IfSome old.room (λ room. length bits ≤ room)
+  pub room : new.room ≡ option_map (λ room. room - length bits) old.room
+  pub grows : new.grows ≡ old.grows
+
+-- Why so many bits were not put: there was less room, or the sink has no end and grows, and no memory was found.
+abbrev pub Refuses : State → ℕ → SinkFault → Type 0
+Refuses s count (Full need room) = (need ≡ count) × (s.room ≡ Some room) × (room < need)
+Refuses s count OutOfMemory = (s.room ≡ None) × (s.grows ≡ true)
+
+-- Why a writer stopped with so many bits still to be put: some of them had no room, or no memory was found.
+abbrev pub StopsFor : State → ℕ → SinkFault → Type 0
+StopsFor s left (Full need room) = (s.room ≡ Some room) × (room < need) × (need ≤ left)
+StopsFor s left OutOfMemory = (s.room ≡ None) × (s.grows ≡ true)
+
+-- A writer of these bits stopped: so many of them were put, and then no more.
+pub record Stops (old new : State) (bits : List Bool) (fault : SinkFault) : Type 0 where
+  pub count : ℕ
+  pub front : Puts old new (take count bits)
+  pub cause : StopsFor new (length bits - count) fault
