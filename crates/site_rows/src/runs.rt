@@ -5,7 +5,7 @@ use std::alloc::Global;
 use std::test::Fail;
 
 /// How a run over words ended and what it said, with one file `f` on the desk.
-pub fn said(alloc: Global, words: &[&str], file: &[u8]) -> Result<(Outcome, Vec<u8>), Fail> {
+pub(crate) fn said(alloc: Global, words: &[&str], file: &[u8]) -> Result<(Outcome, Vec<u8>), Fail> {
     let mut desk = MemoryDesk::new(alloc);
     desk.put_file("f", file)?;
     let mut list = Vec::new(alloc);
