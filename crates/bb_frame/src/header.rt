@@ -1,5 +1,8 @@
 // The header of a frame.
 
+/// MODE, which is added to the CRC-8 of the header: the high-efficiency mode.
+pub const MODE: u8 = 1;
+
 /// The fields of a BBHEADER in high-efficiency mode (EN 302 755, clause 5.1.7).
 #[derive(Clone, Copy, Debug, PartialEq, Eq)]
 pub struct Header {

@@ -4,14 +4,12 @@ ghost use Rattle.bb_frame.specs.declared.header.Header.{Header};
 ghost use Rattle.bb_frame.specs.BasebandFrame.{Spells, Refuses, IsPlace};
 ghost use Rattle.bb_frame.specs.Reading.{HasFields, IsRead};
 
+use crate::header::MODE;
 use crate::{BbFault, Header};
 use bit_slice::{BitSlice, crc8, crc8_law};
 
 // The length of the header, in bits.
 const HEADER: usize = 80;
-
-// MODE, which is added to the CRC-8: the high-efficiency mode.
-const MODE: u8 = 1;
 
 /// A frame that stands in some bits.
 #[derive(Drop)]

@@ -5,10 +5,8 @@ ghost use Rattle.bit_slice.specs.Sink.{Puts, Stops};
 ghost use Rattle.bb_frame.specs.BasebandFrame.{fields_bits, header_bits, frame_bits, Describes};
 
 use crate::Header;
+use crate::header::MODE;
 use bit_slice::{BitSink, BitSlice, SinkFault, crc8, puts_law, stops_law};
-
-// MODE, which is added to the CRC-8: the high-efficiency mode.
-const MODE: u8 = 1;
 
 // The bytes of the header but for the last one.
 fn field_bytes(header: &Header) -> [u8; 9]
