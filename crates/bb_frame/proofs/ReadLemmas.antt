@@ -1,5 +1,5 @@
 -- Bits that are a frame are read as that frame alone, and the others have one refusal.
-use Rattle.std.proofs.Common.{◌≡◌, ℕ, ◌≤◌, Bool, List, length, refl, ap, sym, ◌∙◌, arith}
+use Rattle.std.proofs.Common.{◌≡◌, ℕ, ◌-◌, ◌≤◌, Bool, false, List, ◌++◌, replicate, append_assoc, length, refl, ap, sym, ◌∙◌, arith}
 use Rattle.std.specs.Prelude.{Result, Ok, Err, IfOk, IfErr, bit_xor}
 use lib.Bits.{xor_assoc, xor_self, xor_zero_l}
 use Rattle.terms.specs.Bits.{part}
@@ -9,7 +9,7 @@ use Rattle.bb_frame.specs.declared.fault.BbFault.{BbFault}
 use Rattle.bb_frame.specs.declared.fault.BbFault.TheVariants.{Crc, Mode, Length, Sync}
 use Rattle.bb_frame.specs.BasebandFrame.{mode, Spells, counted_crc, IsNormalMode, HasCrc, Refuses}
 use Rattle.bb_frame.specs.Reading.{HasFields, IsRead}
-use Rattle.bb_frame.specs.Laws.{WrittenIsSpelled, OneRefusal}
+use Rattle.bb_frame.specs.Laws.{WrittenIsSpelled, NoRefusal, OneRefusal}
 use Rattle.bb_frame.proofs.FrameLemmas.{Bounded, placed, spelled}
 
 -- adding MODE changes the CRC-8
@@ -59,7 +59,15 @@ ok_spelled bits (Ok v) long h = spelled bits v.header v.field long h
 ok_spelled bits (Err e) long h = tt
 
 pub written : WrittenIsSpelled
-written h body size fits describes = record { fits = fits; describes = describes; padding = _; spelled = refl }
+written h body size after fits describes = record {
+  fits = fits;
+  describes = describes;
+  padding = replicate (size - 80 - length body) false ++ after;
+  spelled = simp append_assoc;
+}
+
+pub frame_passes : Bounded → NoRefusal
+frame_passes bounded h body bits fault s = not_refused bits h body fault (placed bounded h body bits s)
 
 pub refused_once : OneRefusal
 refused_once bits Mode Mode h k = refl

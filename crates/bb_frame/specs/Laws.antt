@@ -1,15 +1,19 @@
 -- What holds of the definitions. The functions without a body ensure it.
-use Rattle.std.specs.Prelude.{◌≡◌, ℕ, List, Bool}
+use Rattle.std.specs.Prelude.{◌≡◌, ℕ, List, ◌++◌, Bool}
 use Rattle.bb_frame.specs.declared.header.Header.{Header}
 use Rattle.bb_frame.specs.declared.fault.BbFault.{BbFault}
 use Rattle.bb_frame.specs.BasebandFrame.{frame_bits, Fits, Describes, Spells, Refuses}
 use Rattle.bb_frame.specs.Scrambled.{scrambled}
 
--- What is written spells what was to be written.
+-- What is written spells what was to be written, whatever follows it.
 abbrev pub WrittenIsSpelled : Type 0
-WrittenIsSpelled = (h : Header) (body : List Bool) (size : ℕ) → Fits h → Describes h body → Spells h body (frame_bits h body size)
+WrittenIsSpelled = (h : Header) (body : List Bool) (size : ℕ) (after : List Bool) → Fits h → Describes h body → Spells h body (frame_bits h body size ++ after)
 
--- Bits that are no frame have one refusal.
+-- Bits that are a frame are not refused.
+abbrev pub NoRefusal : Type 0
+NoRefusal = (h : Header) (body bits : List Bool) (fault : BbFault) → Spells h body bits → ¬ (Refuses bits fault)
+
+-- Bits have one refusal at most.
 abbrev pub OneRefusal : Type 0
 OneRefusal = (bits : List Bool) (fault other : BbFault) → Refuses bits fault → Refuses bits other → fault ≡ other
 

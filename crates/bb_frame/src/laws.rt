@@ -1,12 +1,22 @@
 // Laws of the definitions. Their functions do nothing.
-ghost use Rattle.bb_frame.specs.Laws.{WrittenIsSpelled, OneRefusal, ScramblesBack};
+ghost use Rattle.bb_frame.specs.Laws.{WrittenIsSpelled, NoRefusal, OneRefusal, ScramblesBack};
 
-/// What [`crate::write_frame`] appends is a frame that [`crate::read_frame`] reads as it was written.
+use bit_slice::crc8_law;
+
+/// What [`crate::write_frame`] appends is a frame that [`crate::read_frame`] reads as it was
+/// written, whatever follows it.
 pub fn written_is_spelled()
     ensures { WrittenIsSpelled }
 {}
 
-/// Bits that are no frame have one refusal.
+/// Bits that are a frame are not refused.
+pub fn no_refusal()
+    ensures { NoRefusal }
+{
+    crc8_law();
+}
+
+/// Bits have one refusal at most.
 pub fn one_refusal()
     ensures { OneRefusal }
 {}

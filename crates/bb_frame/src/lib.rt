@@ -10,7 +10,7 @@ mod writing;
 
 pub use fault::BbFault;
 pub use header::Header;
-pub use laws::{one_refusal, scramble_twice, written_is_spelled};
+pub use laws::{no_refusal, one_refusal, scramble_twice, written_is_spelled};
 pub use reading::{BbView, read_frame};
 pub use scrambling::scramble;
 pub use writing::write_frame;

@@ -1,7 +1,7 @@
 ghost use Rattle.std.specs.Prelude.{◌≤◌, length};
 
 use crate::{BbFault, Header, read_frame, scramble, write_frame};
-use bit_slice::{BitSink, BitSlice, FixedBits, SinkFault};
+use bit_slice::{BitBuf, BitSink, BitSlice, FixedBits, SinkFault};
 
 // Kbch of short frames at rate 1/2, and the bytes of a data field.
 const KBCH: u32 = 7032;
@@ -74,6 +74,28 @@ fn a_frame_with_too_little_room(rt: HostRuntime) {
             })
     );
     assert!(rt; sink.as_slice().len() == 80);
+}
+
+// A normal frame at rate 5/6, the longest, into a sink that grows.
+#[test]
+fn a_frame_in_a_sink_that_grows(rt: HostRuntime) {
+    let data = [0x47; 6720];
+    let header = Header {
+        dfl: 53_760,
+        ..FULL
+    };
+    let mut sink = BitBuf::new(rt.alloc());
+    assert!(rt; write_frame(&mut sink, &header, BitSlice::whole(&data), 53_840) == Ok(()));
+    let bytes = sink.into_bytes();
+    assert!(rt; bytes.len() == 6730 && bytes[10..] == data[..]);
+}
+
+#[test]
+fn numbers_of_the_refusals(rt: HostRuntime) {
+    let numbers = [BbFault::Crc, BbFault::Mode, BbFault::Length, BbFault::Sync].map(
+        |why| why as u8,
+    );
+    assert!(rt; numbers == [1, 2, 3, 4]);
 }
 
 fn fault_of(header: [u8; 10]) -> Option<BbFault> {
