@@ -31,7 +31,10 @@ fn say_cause(rt: &impl Eprint, file: &str, cause: ConfigCause) -> io::Result<()>
         ConfigCause::Text {
             why: TextWhy::EndsEarly,
             ..
-        } => eprintln!(rt; "{file}: {}; add the lines that are missing", TextWhy::EndsEarly),
+        } => eprintln!(rt;
+            "{file}: {}; add the lines that are missing",
+            TextWhy::EndsEarly
+        ),
         ConfigCause::Text { line, why } => eprintln!(rt;
             "{file}: {}; mend that line",
             TextFault::Refused { line, why }
