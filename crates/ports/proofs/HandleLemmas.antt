@@ -33,23 +33,24 @@ abbrev place_of : Handle → ℕ
 place_of handle = handle.place
 
 -- a desk with these files and handles
-abbrev desk : Files → List Handle → List ℕ → ℕ → ℕ → ℕ → State
-desk files handles said read_faults write_faults line_faults = record {
-  held = Some (record { files = files; names = map name_of handles });
+abbrev desk : Files → List Handle → List (List ℕ) → List ℕ → ℕ → ℕ → ℕ → ℕ → State
+desk files handles outs said created read_faults write_faults line_faults = record {
+  held = Some (record { files = files; names = map name_of handles; outs = outs });
   said = Some said;
   opened = map place_of handles;
+  created = created;
   read_faults = read_faults;
   write_faults = write_faults;
   line_faults = line_faults;
 }
 
 -- a desk after the handle x at a place was read on to y
-pub reads_on : (files : Files) (xs : List Handle) (said : List ℕ) (r w l at n : ℕ) (x y : Handle) (buffer : List ℕ) →
+pub reads_on : (files : Files) (xs : List Handle) (outs : List (List ℕ)) (said : List ℕ) (c r w l at n : ℕ) (x y : Handle) (buffer : List ℕ) →
     at < length xs → x ≡ get_or xs at x → y.name ≡ x.name → y.place ≡ x.place + n →
     drop x.place (bytes_of files (name_of x)) ≡ take n buffer ++ drop y.place (bytes_of files (name_of x)) →
     ((n ≡ 0) ↔ (drop x.place (bytes_of files (name_of x)) ≡ [])) →
-    Reads (desk files xs said r w l) (desk files (set xs at y) said r w l) at n buffer
-reads_on files xs said r w l at n x y buffer came is name moved next end =
+    Reads (desk files xs outs said c r w l) (desk files (set xs at y) outs said c r w l) at n buffer
+reads_on files xs outs said c r w l at n x y buffer came is name moved next end =
     let names : map name_of (set xs at y) ≡ map name_of xs = map-set_stayed name_of xs at x y is (ap string_bytes name) in
     let places : map place_of (set xs at y) ≡ set (map place_of xs) at y.place = map-set place_of xs at y in
     let called : get_or (map name_of xs) at [] ≡ name_of x = get_or-map name_of xs at x [] came ∙ ap name_of (sym is) in
@@ -57,9 +58,10 @@ reads_on files xs said r w l at n x y buffer came is name moved next end =
     let after : get_or (map place_of (set xs at y)) at 0 ≡ y.place =
     ap (λ (ps : List ℕ). get_or ps at 0) places ∙ get_or-set_same (map place_of xs) at y.place 0 (rw length-map came) in
     record {
-      held = ap (λ (ns : List (List ℕ)). Some (record { files = files; names = ns })) names;
+      held = ap (λ (ns : List (List ℕ)). Some (record { files = files; names = ns; outs = outs })) names;
       said = refl;
       opened = map-set_moved place_of xs at n x y came is moved;
+      created = refl;
       next = rw (names, called, before, after) (ap Some next);
       end = rw (called, before) end;
       others = λ other apart.

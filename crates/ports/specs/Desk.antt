@@ -1,25 +1,28 @@
 -- What a desk means, and what its calls do.
-use Rattle.std.specs.Prelude.{◌≡◌, ◌≢◌, ◌⊎◌, ◌↔◌, ℕ, ◌+◌, ◌-◌, ◌<◌, ◌≤◌, ◌^◌, List, [], ◌∷◌, ◌++◌, length, take, drop, slice_index, slice_index_or, slice_set, unwrap_or, IsSome, IfSome, Result, OnErr, option_map, option_and_then}
+use Rattle.std.specs.Prelude.{◌≡◌, ◌≢◌, ◌⊎◌, ◌↔◌, ℕ, ◌+◌, ◌-◌, ◌<◌, ◌≤◌, ◌^◌, List, [], ◌∷◌, ◌++◌, length, take, drop, slice_index, slice_index_or, slice_set, unwrap_or, None, Some, IsSome, IfSome, Result, OnErr, option_map, option_and_then}
 use Rattle.std.specs.declared.option.Option.{Option}
 use Rattle.std.specs.Ordering.{nat_cmp}
 use Rattle.std.specs.Cmp.Lexicographic.{slice_cmp}
-use Rattle.std.specs.FinMap.{FinMap, get}
+use Rattle.std.specs.FinMap.{FinMap, get, insert}
 
 -- the bytes of each file, by its name
 abbrev pub Files : Type 0
 Files = FinMap (slice_cmp nat_cmp) (List ℕ)
 
--- the files, and the name of each handle in order of opening
+-- the files, the name of each handle for reading in order of opening, and of each handle for writing in order of creating
 pub record Held : Type 0 where
   pub files : Files
   pub names : List (List ℕ)
+  pub outs : List (List ℕ)
 
--- What a desk means: what it holds and what was said, where it tells; the place of each handle in order of opening; and how often
--- opening and reading failed, how often saying did, and how often the last line did.
+-- What a desk means: what it holds and what was said, where it tells; the place of each handle for reading in order of opening, and the
+-- number of handles for writing; and how often opening and reading failed, how often creating, writing and saying did, and how often the
+-- last line did.
 pub record State : Type 0 where
   pub held : Option Held
   pub said : Option (List ℕ)
   pub opened : List ℕ
+  pub created : ℕ
   pub read_faults : ℕ
   pub write_faults : ℕ
   pub line_faults : ℕ
@@ -39,6 +42,18 @@ file_of s name = option_and_then (λ h. get h.files name) s.held
 -- the bytes of a handle's file from its place on, where the desk tells
 abbrev pub left_of : State → ℕ → Option (List ℕ)
 left_of s handle = option_map (λ h. drop (slice_index s.opened handle) (content h handle)) s.held
+
+-- the name of a handle for writing
+abbrev pub out_name : Held → ℕ → List ℕ
+out_name h out = slice_index_or h.outs out []
+
+-- the bytes of the file of a handle for writing, where the desk tells
+abbrev pub written_of : State → ℕ → Option (List ℕ)
+written_of s out = option_map (λ h. bytes_of h.files (out_name h out)) s.held
+
+-- A handle for reading is of another file than that of a name, where the desk tells.
+abbrev pub IsApart : Option Held → ℕ → List ℕ → Type 0
+IsApart held handle name = IfSome held (λ h. slice_index_or h.names handle [] ≢ name)
 
 -- A count rose if it is greater after than before, or stands at the last value of its counter.
 abbrev pub Rose : ℕ → ℕ → Type 0
@@ -60,6 +75,7 @@ pub record Keeps (old new : State) : Type 0 where
   pub held : new.held ≡ old.held
   pub said : new.said ≡ old.said
   pub opened : new.opened ≡ old.opened
+  pub created : new.created ≡ old.created
 
 -- the same files, and one more handle of this name
 abbrev pub with_name : List ℕ → Held → Held
@@ -73,6 +89,7 @@ pub record Opens (old new : State) (name : List ℕ) (handle : ℕ) : Type 0 whe
   pub names : IfSome new.held (λ h. length h.names ≡ length new.opened)
   pub said : new.said ≡ old.said
   pub opened : new.opened ≡ old.opened ++ 0 ∷ []
+  pub created : new.created ≡ old.created
   -- so this handle has the whole file left, and every other one what it had
   pub left : left_of new handle ≡ file_of old name
   pub others : (other : ℕ) → other < length old.opened → left_of new other ≡ left_of old other
@@ -82,16 +99,60 @@ pub record Reads (old new : State) (handle n : ℕ) (buffer : List ℕ) : Type 0
   pub held : new.held ≡ old.held
   pub said : new.said ≡ old.said
   pub opened : new.opened ≡ slice_set old.opened handle (slice_index old.opened handle + n)
+  pub created : new.created ≡ old.created
   pub next : left_of old handle ≡ option_map (λ left. take n buffer ++ left) (left_of new handle)
   pub end : IfSome (left_of old handle) (λ left. (n ≡ 0) ↔ (left ≡ []))
   -- so every other handle has left what it had
   pub others : (other : ℕ) → other ≢ handle → left_of new other ≡ left_of old other
+
+-- an empty file of this name, and one more handle for writing to it
+abbrev pub with_empty : List ℕ → Held → Held
+with_empty name h = record h { files = insert h.files name []; outs = h.outs ++ name ∷ [] }
+
+-- The named file is there and empty, and one more handle writes to it.
+pub record Creates (old new : State) (name : List ℕ) (out : ℕ) : Type 0 where
+  pub number : out ≡ old.created
+  pub held : new.held ≡ option_map (with_empty name) old.held
+  pub named : IfSome new.held (λ h. out_name h out ≡ name)
+  pub outs : IfSome new.held (λ h. length h.outs ≡ new.created)
+  pub said : new.said ≡ old.said
+  pub opened : new.opened ≡ old.opened
+  pub created : new.created ≡ old.created + 1
+  -- so a handle for reading from another file has left what it had
+  pub others : (handle : ℕ) → IsApart old.held handle name → left_of new handle ≡ left_of old handle
+
+-- The files but for that of this name are as before, and so are the names of handles.
+abbrev pub SameButFor : List ℕ → Option Held → Option Held → Type 0
+SameButFor name None new = new ≡ None
+SameButFor name (Some h) new = IfSome new (λ k. (k.names ≡ h.names) × (k.outs ≡ h.outs) × ((other : List ℕ) → other ≢ name → get k.files other ≡ get h.files other))
+
+-- The named file could not be created. Nothing is said of it.
+pub record FailsToCreate (old new : State) (name : List ℕ) : Type 0 where
+  pub held : SameButFor name old.held new.held
+  pub said : new.said ≡ old.said
+  pub opened : new.opened ≡ old.opened
+  pub created : new.created ≡ old.created
+
+-- with bytes behind those of the file of a handle for writing
+abbrev pub with_bytes : ℕ → List ℕ → Held → Held
+with_bytes out bytes h = record h { files = insert h.files (out_name h out) (bytes_of h.files (out_name h out) ++ bytes) }
+
+-- The bytes were written behind those of the handle's file.
+pub record Writes (old new : State) (out : ℕ) (bytes : List ℕ) : Type 0 where
+  pub held : new.held ≡ option_map (with_bytes out bytes) old.held
+  pub said : new.said ≡ old.said
+  pub opened : new.opened ≡ old.opened
+  pub created : new.created ≡ old.created
+  -- so the file has these bytes at its end, and a handle for reading from another file has left what it had
+  pub behind : written_of new out ≡ option_map (λ written. written ++ bytes) (written_of old out)
+  pub others : (handle : ℕ) → IfSome old.held (λ h. IsApart old.held handle (out_name h out)) → left_of new handle ≡ left_of old handle
 
 -- The text was said.
 pub record Says (old new : State) (text : List ℕ) : Type 0 where
   pub held : new.held ≡ old.held
   pub said : new.said ≡ option_map (λ said. said ++ text) old.said
   pub opened : new.opened ≡ old.opened
+  pub created : new.created ≡ old.created
 
 -- The last text was said, or nothing was where the count rose.
 abbrev pub SaysLast : State → State → List ℕ → Type 0

@@ -1,6 +1,7 @@
 pub mod Desk
 pub mod Faults
 pub mod HostDesk
+pub mod Laws
 pub mod MemoryDesk
 pub mod StateCode
 pub mod Stored

@@ -6,9 +6,10 @@ use Rattle.ports.specs.Desk.{Held, State}
 -- a desk with no file, on which nothing was done
 abbrev pub empty_state : State
 empty_state = record {
-  held = Some (record { files = empty; names = [] });
+  held = Some (record { files = empty; names = []; outs = [] });
   said = Some [];
   opened = [];
+  created = 0;
   read_faults = 0;
   write_faults = 0;
   line_faults = 0;

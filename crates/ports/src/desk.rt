@@ -1,6 +1,6 @@
 // The outside of a command.
-ghost use Rattle.std.specs.Prelude.{◌≡◌, ◌<◌, ◌≤◌, length, IfOk, OnOk, OnErr};
-ghost use Rattle.ports.specs.Desk.{State, HasCause, SameCounts, Keeps, Opens, Reads, Says, SaysLast};
+ghost use Rattle.std.specs.Prelude.{◌≡◌, ◌<◌, ◌≤◌, length, take, IfOk, OnOk, OnErr};
+ghost use Rattle.ports.specs.Desk.{State, HasCause, SameCounts, Keeps, Opens, Creates, FailsToCreate, Reads, Writes, Says, SaysLast};
 ghost use Rattle.ports.specs.Faults.{one_more};
 
 use thiserror::Error;
@@ -13,9 +13,11 @@ pub struct DeskFault;
 /// The outside of a command: named files, and standard output.
 ///
 /// After a fault all is as before but the count of its kind: `read_faults` for opening and reading,
-/// `write_faults` for saying, and `line_faults` for the last line. A call that is Ok changes no count.
+/// `write_faults` for creating, writing and saying, and `line_faults` for the last line. Of a file that could not be
+/// created nothing is known then. A call that is Ok changes no count.
 pub trait Desk {
-    /// What the desk holds and what was said, where it tells; the place of each handle; its counts.
+    /// What the desk holds and what was said, where it tells; the place of each handle for reading, and the number of
+    /// those for writing; its counts.
     ghost state: { Self → State };
 
     /// Opens a file and gives a handle at its first byte. An absent name is a fault.
@@ -40,6 +42,29 @@ pub trait Desk {
 
         ensures cause { HasCause (state self.old).read_faults (state self.new).read_faults result }
         ensures write_faults { (state self.new).write_faults ≡ (state self.old).write_faults }
+        ensures line_faults { (state self.new).line_faults ≡ (state self.old).line_faults };
+
+    /// Makes the named file empty, or makes an empty file of that name, and gives a handle for writing to it.
+    fn create(&mut self, name: &str) -> Result<u32, DeskFault>
+        ensures ok { IfOk result (Creates (state self.old) (state self.new) name.now) }
+        ensures err { OnErr result (FailsToCreate (state self.old) (state self.new) name.now) }
+        ensures counts { OnOk result (SameCounts (state self.old) (state self.new)) }
+
+        ensures cause { HasCause (state self.old).write_faults (state self.new).write_faults result }
+        ensures read_faults { (state self.new).read_faults ≡ (state self.old).read_faults }
+        ensures line_faults { (state self.new).line_faults ≡ (state self.old).line_faults };
+
+    /// Appends bytes from the front of the piece to a file. Answers how many, at least one.
+    fn write(&mut self, out: u32, piece: &[u8]) -> Result<usize, DeskFault>
+        requires created { out < (state self.old).created }
+        requires some { 0 < length piece.now }
+        ensures count { IfOk result (λ n. (0 < n) × (n ≤ length piece.now)) }
+        ensures ok { IfOk result (λ n. Writes (state self.old) (state self.new) out (take n piece.now)) }
+        ensures err { OnErr result (Keeps (state self.old) (state self.new)) }
+        ensures counts { OnOk result (SameCounts (state self.old) (state self.new)) }
+
+        ensures cause { HasCause (state self.old).write_faults (state self.new).write_faults result }
+        ensures read_faults { (state self.new).read_faults ≡ (state self.old).read_faults }
         ensures line_faults { (state self.new).line_faults ≡ (state self.old).line_faults };
 
     /// Appends a text to standard output.

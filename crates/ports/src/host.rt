@@ -4,7 +4,7 @@ ghost use Rattle.std.specs.Prelude.{◌≡◌, ◌⊎◌, ◌<◌, ◌≤◌, �
 use crate::desk::fault;
 use crate::{Desk, DeskFault};
 use std::alloc::Global;
-use std::io::{ErrorKind, Read};
+use std::io::{ErrorKind, Read, Write};
 use std::marker::Model;
 use std::rt::Files;
 use std::{fs, io};
@@ -24,13 +24,14 @@ struct Handle<F> {
 pub struct HostDesk<R: Files + Print + Drop> {
     rt: R,
     handles: Vec<Handle<R::File>>,
+    outs: Vec<R::File>,
     read_faults: u64,
     write_faults: u64,
     line_faults: u64,
 }
 
 impl<R: Files + Print + Drop> Model for HostDesk<R> {
-    ghost use Rattle.std.specs.Prelude.{None, map};
+    ghost use Rattle.std.specs.Prelude.{None, map, vec_len};
     ghost use Rattle.ports.specs.Desk.{State};
     ghost use Rattle.ports.specs.StateCode.{state_code};
 
@@ -42,6 +43,7 @@ impl<R: Files + Print + Drop> Model for HostDesk<R> {
       held = None;
       said = None;
       opened = map (λ handle. handle.place) d.handles.items;
+      created = vec_len d.outs;
       read_faults = d.read_faults;
       write_faults = d.write_faults;
       line_faults = d.line_faults;
@@ -54,6 +56,19 @@ fn read_again<F: Read>(file: &mut F, buffer: &mut [u8]) -> io::Result<usize>
 {
     for _ in 0..u64::MAX {
         match file.read(buffer) {
+            Err(error) if error.kind() == ErrorKind::Interrupted => {}
+            answer => return answer,
+        }
+    }
+    Err(io::Error::from(ErrorKind::Interrupted))
+}
+
+// Writes once more where a signal cut the call short.
+fn write_again<F: Write>(file: &mut F, piece: &[u8]) -> io::Result<usize>
+    ensures { IfOk result (λ n. n ≤ length piece.now) }
+{
+    for _ in 0..u64::MAX {
+        match file.write(piece) {
             Err(error) if error.kind() == ErrorKind::Interrupted => {}
             answer => return answer,
         }
@@ -75,7 +90,7 @@ impl<F: Read> Handle<F> {
 }
 
 impl<R: Files + Print + Drop> HostDesk<R> {
-    ghost use Rattle.ports.specs.Desk.{SameCounts, Opens};
+    ghost use Rattle.ports.specs.Desk.{SameCounts, Opens, Creates};
     ghost use Rattle.ports.specs.HostDesk.{untold_state};
 
     /// A desk with no file opened and no fault.
@@ -85,6 +100,7 @@ impl<R: Files + Print + Drop> HostDesk<R> {
         HostDesk {
             rt,
             handles: Vec::new(alloc),
+            outs: Vec::new(alloc),
             read_faults: 0,
             write_faults: 0,
             line_faults: 0,
@@ -103,11 +119,24 @@ impl<R: Files + Print + Drop> HostDesk<R> {
         self.handles.push(Handle { file, place: 0 }).ok()?;
         Some(handle)
     }
+
+    // Makes a file empty and gives the next handle for writing, where it can.
+    fn add_out(&mut self, name: &str) -> Option<u32>
+        ensures some { IfSome result (Creates self.old self.new name.now) }
+        ensures none { IfNone result (self.new ≡ self.old) }
+        ensures counts { SameCounts self.old self.new }
+        ensures full { 2 ^ 32 ≤ self.old.created → IsNone result }
+    {
+        let out = u32::try_from(self.outs.len()).ok()?;
+        let file = fs::create(&self.rt, name).ok()?;
+        self.outs.push(file).ok()?;
+        Some(out)
+    }
 }
 
 impl<R: Files + Print + Drop> Desk for HostDesk<R> {
-    ghost use Rattle.std.specs.Prelude.{IsErr, OnOk, OnErr};
-    ghost use Rattle.ports.specs.Desk.{SameCounts, Opens, Reads, Says};
+    ghost use Rattle.std.specs.Prelude.{IsErr, OnOk, OnErr, take};
+    ghost use Rattle.ports.specs.Desk.{SameCounts, Opens, Creates, Reads, Writes, Says};
     ghost use Rattle.ports.specs.Faults.{with_read_fault, with_write_fault, with_line_fault};
 
     ghost state = { λ d. d };
@@ -137,6 +166,34 @@ impl<R: Files + Print + Drop> Desk for HostDesk<R> {
         match self.handles[handle as usize].read(buffer) {
             Some(count) => Ok(count),
             None => Err(fault(&mut self.read_faults)),
+        }
+    }
+
+    fn create(&mut self, name: &str) -> Result<u32, DeskFault>
+        ensures ok { IfOk result (Creates self.old self.new name.now) }
+        ensures counts { OnOk result (SameCounts self.old self.new) }
+        ensures full { 2 ^ 32 ≤ self.old.created → IsErr result }
+        ensures fault { OnErr result (self.new ≡ with_write_fault self.old) }
+        ensures later { self.old.write_faults ≤ self.new.write_faults }
+    {
+        match self.add_out(name) {
+            Some(out) => Ok(out),
+            None => Err(fault(&mut self.write_faults)),
+        }
+    }
+
+    fn write(&mut self, out: u32, piece: &[u8]) -> Result<usize, DeskFault>
+        requires created { out < self.old.created }
+        requires some { 0 < length piece.now }
+        ensures count { IfOk result (λ n. (0 < n) × (n ≤ length piece.now)) }
+        ensures ok { IfOk result (λ n. Writes self.old self.new out (take n piece.now)) }
+        ensures counts { OnOk result (SameCounts self.old self.new) }
+        ensures fault { OnErr result (self.new ≡ with_write_fault self.old) }
+        ensures later { self.old.write_faults ≤ self.new.write_faults }
+    {
+        match write_again(&mut self.outs[out as usize], piece) {
+            Ok(count) if count > 0 => Ok(count),
+            _ => Err(fault(&mut self.write_faults)),
         }
     }
 

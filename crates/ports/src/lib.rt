@@ -3,8 +3,10 @@
 
 mod desk;
 mod host;
+mod laws;
 mod memory;
 
 pub use desk::{Desk, DeskFault};
 pub use host::HostDesk;
+pub use laws::writes_law;
 pub use memory::MemoryDesk;

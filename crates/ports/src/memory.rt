@@ -1,5 +1,5 @@
 // A desk in memory.
-ghost use Rattle.std.specs.Prelude.{◌≡◌, ◌⊎◌, ◌<◌, ◌≤◌, ◌+◌, ◌-◌, ◌^◌, ◌++◌, ◌↔◌, [], length, take, drop, option_copied, OnOk, OnErr, string_bytes};
+ghost use Rattle.std.specs.Prelude.{◌≡◌, ◌⊎◌, ◌<◌, ◌≤◌, ◌+◌, ◌-◌, ◌^◌, ◌++◌, ◌∷◌, ◌↔◌, [], length, map, vec_len, vec_capacity, take, drop, true, false, option_copied, IfSome, OnOk, OnErr, string_bytes};
 ghost use Rattle.std.specs.FinMap.{get, insert};
 ghost use Rattle.ports.specs.Desk.{bytes_of};
 ghost use Rattle.ports.specs.Stored.{files_of};
@@ -24,14 +24,18 @@ pub struct MemoryDesk {
     alloc: Global,
     files: BTreeMap<String, Vec<u8>>,
     handles: Vec<Handle>,
+    // The names of the files that are written.
+    outs: Vec<String>,
     said: Vec<u8>,
+    // How many bytes a read or a write moves at most.
+    cap: usize,
     read_faults: u64,
     write_faults: u64,
     line_faults: u64,
 }
 
 impl Model for MemoryDesk {
-    ghost use Rattle.std.specs.Prelude.{Some, map, string_bytes};
+    ghost use Rattle.std.specs.Prelude.{◌<◌, Some, map, string_bytes, vec_len};
     ghost use Rattle.ports.specs.Desk.{State};
     ghost use Rattle.ports.specs.StateCode.{state_code};
     ghost use Rattle.ports.specs.Stored.{files_of};
@@ -44,18 +48,23 @@ impl Model for MemoryDesk {
       held = Some (record {
         files = files_of m.files;
         names = map (λ handle. string_bytes handle.name) m.handles.items;
+        outs = map (λ name. string_bytes name) m.outs.items;
       });
       said = Some m.said.items;
       opened = map (λ handle. handle.place) m.handles.items;
+      created = vec_len m.outs;
       read_faults = m.read_faults;
       write_faults = m.write_faults;
       line_faults = m.line_faults;
     } };
+
+    ghost invariant = { λ m. 0 < m.cap };
 }
 
-// Copies what stands from a place on, as much as there is room for.
-fn copy_next(bytes: &[u8], place: u64, buffer: &mut [u8]) -> usize
-    requires { 0 < length buffer.old }
+// Copies what stands from a place on, as much as there is room for, but at most so many bytes.
+fn copy_next(bytes: &[u8], place: u64, buffer: &mut [u8], most: usize) -> usize
+    requires room { 0 < length buffer.old }
+    requires most { 0 < most }
     ensures count { result ≤ length buffer.new }
     ensures small { place + result < 2 ^ 64 }
     ensures next { drop place bytes.now ≡ take result buffer.new ++ drop (place + result) bytes.now }
@@ -65,9 +74,16 @@ fn copy_next(bytes: &[u8], place: u64, buffer: &mut [u8]) -> usize
         return 0;
     }
     let rest = &bytes[place as usize..];
-    let count = rest.len().min(buffer.len());
+    let count = rest.len().min(buffer.len()).min(most);
     buffer[..count].copy_from_slice(&rest[..count]);
     count
+}
+
+// A name of one's own, where memory is found.
+fn text(alloc: Global, name: &str) -> Option<String>
+    ensures { IfSome result (λ text. string_bytes text ≡ name.now) }
+{
+    String::from_str(alloc, name).ok()
 }
 
 // The bytes of the file of a name, where there is one.
@@ -95,10 +111,43 @@ fn set(
     Ok(())
 }
 
+// Makes the file of a name empty, or makes one. `false` where no memory was found.
+fn make_empty(files: &mut BTreeMap<String, Vec<u8>>, alloc: Global, name: &str) -> bool
+    ensures done { result ≡ true → files_of files.new ≡ insert (files_of files.old) name.now [] }
+    ensures not { result ≡ false → files_of files.new ≡ files_of files.old }
+{
+    match text(alloc, name) {
+        Some(name) => set(files, name, Vec::new(alloc)).is_ok(),
+        None => false,
+    }
+}
+
+// Adds a name, for which there is room.
+fn push_name(names: &mut Vec<String>, name: String)
+    requires { vec_len names.old < vec_capacity names.old }
+    ensures names { map (λ text. string_bytes text) names.new.items ≡ map (λ text. string_bytes text) names.old.items ++ string_bytes name ∷ [] }
+    ensures len { vec_len names.new ≡ vec_len names.old + 1 }
+{
+    names.push(name).unwrap();
+}
+
+// Appends bytes to the file of a name. `false` where there is none, or no memory was found.
+#[tactic(auto, using(crate::proofs::FileLemmas::files))]
+fn append(files: &mut BTreeMap<String, Vec<u8>>, name: &str, piece: &[u8]) -> bool
+    ensures done { result ≡ true → files_of files.new ≡ insert (files_of files.old) name.now (bytes_of (files_of files.old) name.now ++ piece.now) }
+    ensures not { result ≡ false → files_of files.new ≡ files_of files.old }
+{
+    match files.get_mut(name) {
+        Some(bytes) => bytes.extend_from_slice(piece).is_ok(),
+        None => false,
+    }
+}
+
 impl Handle {
-    // Reads on from its place, as much as there is room for.
-    fn read(&mut self, files: &BTreeMap<String, Vec<u8>>, buffer: &mut [u8]) -> usize
-        requires { 0 < length buffer.old }
+    // Reads on from its place, as much as there is room for, but at most so many bytes.
+    fn read(&mut self, files: &BTreeMap<String, Vec<u8>>, buffer: &mut [u8], most: usize) -> usize
+        requires room { 0 < length buffer.old }
+        requires most { 0 < most }
         ensures name { self.new.name ≡ self.old.name }
         ensures place { self.new.place ≡ self.old.place + result }
         ensures count { result ≤ length buffer.new }
@@ -108,15 +157,15 @@ impl Handle {
             (result ≡ 0) ↔ (drop self.old.place file ≡ []) }
     {
         let bytes = find(files, self.name.as_str()).unwrap_or(&[]);
-        let count = copy_next(bytes, self.place, buffer);
+        let count = copy_next(bytes, self.place, buffer, most);
         self.place += count as u64;
         count
     }
 }
 
 impl MemoryDesk {
-    ghost use Rattle.std.specs.Prelude.{Some, IsSome, IsNone, IfSome, IfNone};
-    ghost use Rattle.ports.specs.Desk.{SameCounts, Opens, file_of};
+    ghost use Rattle.std.specs.Prelude.{Some, IsSome, IsNone, IfNone};
+    ghost use Rattle.ports.specs.Desk.{SameCounts, Opens, Creates, file_of};
     ghost use Rattle.ports.specs.MemoryDesk.{empty_state, with_file};
 
     /// A desk with no file, on which nothing was done.
@@ -127,7 +176,9 @@ impl MemoryDesk {
             alloc,
             files: BTreeMap::new(alloc),
             handles: Vec::new(alloc),
+            outs: Vec::new(alloc),
             said: Vec::new(alloc),
+            cap: usize::MAX,
             read_faults: 0,
             write_faults: 0,
             line_faults: 0,
@@ -142,6 +193,14 @@ impl MemoryDesk {
         let name = String::from_str(self.alloc, name)?;
         let bytes = Vec::from_slice(self.alloc, bytes)?;
         set(&mut self.files, name, bytes)
+    }
+
+    /// Makes each read and write from now on move at most so many bytes, as devices do.
+    pub fn cap(&mut self, most: usize)
+        requires { 0 < most }
+        ensures { self.new ≡ self.old }
+    {
+        self.cap = most;
     }
 
     /// The bytes of a file, or None where there is none of that name.
@@ -175,11 +234,31 @@ impl MemoryDesk {
         self.handles.push(Handle { name, place: 0 }).ok()?;
         Some(at as u32)
     }
+
+    // Makes an empty file and gives the next handle for writing, where it can.
+    fn add_out(&mut self, name: &str) -> Option<u32>
+        ensures some { IfSome result (Creates self.old self.new name.now) }
+        ensures none { IfNone result (self.new ≡ self.old) }
+        ensures counts { SameCounts self.old self.new }
+        ensures full { 2 ^ 32 - 1 ≤ self.old.created → IsNone result }
+    {
+        let at = self.outs.len();
+        if at >= u32::MAX as usize {
+            return None;
+        }
+        let out = text(self.alloc, name)?;
+        self.outs.reserve(1).ok()?;
+        if !make_empty(&mut self.files, self.alloc, name) {
+            return None;
+        }
+        push_name(&mut self.outs, out);
+        Some(at as u32)
+    }
 }
 
 impl Desk for MemoryDesk {
     ghost use Rattle.std.specs.Prelude.{IsNone, IsOk, IsErr, IfOk, OnOk, OnErr};
-    ghost use Rattle.ports.specs.Desk.{SameCounts, Opens, Reads, Says, file_of};
+    ghost use Rattle.ports.specs.Desk.{SameCounts, Opens, Creates, Reads, Writes, Says, file_of};
     ghost use Rattle.ports.specs.Faults.{with_read_fault, with_write_fault, with_line_fault};
 
     ghost state = { λ m. m };
@@ -208,7 +287,40 @@ impl Desk for MemoryDesk {
         ensures reads { IfOk result (λ n. Reads self.old self.new handle n buffer.new) }
         ensures counts { SameCounts self.old self.new }
     {
-        Ok(self.handles[handle as usize].read(&self.files, buffer))
+        let most = self.cap;
+        Ok(self.handles[handle as usize].read(&self.files, buffer, most))
+    }
+
+    /// Beside want of memory, the handle after 2^32 - 1 others is a fault. After a fault the file is as it was.
+    fn create(&mut self, name: &str) -> Result<u32, DeskFault>
+        ensures ok { IfOk result (Creates self.old self.new name.now) }
+        ensures counts { OnOk result (SameCounts self.old self.new) }
+        ensures full { 2 ^ 32 - 1 ≤ self.old.created → IsErr result }
+        ensures fault { OnErr result (self.new ≡ with_write_fault self.old) }
+        ensures later { self.old.write_faults ≤ self.new.write_faults }
+    {
+        match self.add_out(name) {
+            Some(out) => Ok(out),
+            None => Err(fault(&mut self.write_faults)),
+        }
+    }
+
+    /// Want of memory is a fault.
+    fn write(&mut self, out: u32, piece: &[u8]) -> Result<usize, DeskFault>
+        requires created { out < self.old.created }
+        requires some { 0 < length piece.now }
+        ensures count { IfOk result (λ n. (0 < n) × (n ≤ length piece.now)) }
+        ensures ok { IfOk result (λ n. Writes self.old self.new out (take n piece.now)) }
+        ensures counts { OnOk result (SameCounts self.old self.new) }
+        ensures fault { OnErr result (self.new ≡ with_write_fault self.old) }
+        ensures later { self.old.write_faults ≤ self.new.write_faults }
+    {
+        let count = piece.len().min(self.cap);
+        let name = self.outs[out as usize].as_str();
+        if append(&mut self.files, name, &piece[..count]) {
+            return Ok(count);
+        }
+        Err(fault(&mut self.write_faults))
     }
 
     /// Want of memory is a fault.
@@ -292,6 +404,23 @@ mod tests {
         assert_eq!(rt; desk.file("a").ok_or("a is absent")?, b"new".as_slice());
         assert_eq!(rt; desk.file("b").ok_or("b is absent")?, b"other".as_slice());
         assert!(rt; desk.file("c").is_none());
+        Ok(())
+    }
+
+    #[test]
+    fn moves_as_many_bytes_as_the_cap_lets_it(rt: HostRuntime) -> Result<(), Fail> {
+        let mut desk = MemoryDesk::new(rt.alloc());
+        desk.put_file("out", b"old")?;
+        desk.put_file("in", b"hello")?;
+        let out = desk.create("out")?;
+        assert_eq!(rt; desk.file("out").ok_or("absent")?, b"".as_slice());
+        desk.cap(3);
+        assert_eq!(rt; desk.write(out, b"hello"), Ok(3));
+        assert_eq!(rt; desk.write(out, b"lo"), Ok(2));
+        assert_eq!(rt; desk.file("out").ok_or("absent")?, b"hello".as_slice());
+        let handle = desk.open("in")?;
+        assert_eq!(rt; desk.read(handle, &mut [0u8; 8]), Ok(3));
+        assert_eq!(rt; desk.read(handle, &mut [0u8; 8]), Ok(2));
         Ok(())
     }
 

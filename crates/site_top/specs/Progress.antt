@@ -24,6 +24,7 @@ pub record Shown (file : List ℕ) (start now : State) (at count : ℕ) (rest pa
 pub record Only (start now : State) (handle given : ℕ) : Type 0 where
   pub held : now.held ≡ start.held
   pub opened : now.opened ≡ slice_set start.opened handle given
+  pub created : now.created ≡ start.created
   pub read_faults : start.read_faults ≤ now.read_faults
   pub write_faults : start.write_faults ≤ now.write_faults
   pub line_faults : now.line_faults ≡ start.line_faults

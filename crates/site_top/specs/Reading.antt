@@ -11,6 +11,7 @@ pub record ReadsOn (old new : State) (handle : ℕ) (waiting more : List ℕ) : 
   pub held : new.held ≡ old.held
   pub said : new.said ≡ old.said
   pub opened : new.opened ≡ slice_set old.opened handle (slice_index old.opened handle + (length more - length waiting))
+  pub created : new.created ≡ old.created
   pub grown : length waiting ≤ length more
   pub next : option_map (λ left. more ++ left) (left_of new handle) ≡ option_map (λ left. waiting ++ left) (left_of old handle)
   pub read_faults : old.read_faults ≤ new.read_faults

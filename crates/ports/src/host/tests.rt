@@ -107,6 +107,32 @@ fn reads_a_real_file_to_its_end(rt: HostRuntime) -> Result<(), Fail> {
 }
 
 #[test]
+fn writes_a_real_file_anew(rt: HostRuntime) -> Result<(), Fail> {
+    fs::write(&rt, "host_desk_out", b"something older")?;
+    let mut desk = HostDesk::new(&rt, rt.alloc());
+    let out = desk.create("host_desk_out")?;
+    assert_eq!(rt; desk.write(out, b"hello"), Ok(5));
+    assert_eq!(rt; desk.write(out, b" all"), Ok(4));
+    let text = fs::read_to_string(&rt, "host_desk_out")?;
+    assert_eq!(rt; text.as_str(), "hello all");
+    fs::remove_file(&rt, "host_desk_out")?;
+    Ok(())
+}
+
+#[test]
+fn counts_what_cannot_be_created_or_written(rt: HostRuntime) -> Result<(), Fail> {
+    let mut desk = HostDesk::new(&rt, rt.alloc());
+    assert_eq!(rt; desk.create("no_such_folder/file"), Err(DeskFault));
+    let full = desk.create("/dev/full")?;
+    assert_eq!(rt; desk.write(full, b"lost"), Err(DeskFault));
+    assert_eq!(rt;
+        (desk.read_faults, desk.write_faults, desk.line_faults),
+        (0, 2, 0)
+    );
+    Ok(())
+}
+
+#[test]
 fn counts_what_cannot_be_opened_or_read(rt: HostRuntime) -> Result<(), Fail> {
     let mut desk = HostDesk::new(&rt, rt.alloc());
     assert_eq!(rt; desk.open("no_such_file"), Err(DeskFault));

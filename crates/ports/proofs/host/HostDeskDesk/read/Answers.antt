@@ -8,7 +8,7 @@ pub returns-in-Some-clause-ok : goal.returns-in-Some-clause-ok
 returns-in-Some-clause-ok g c =
     let came : c.args.handle < length c.self.inside.handles.items = grind (arith, common_steps, length-map) in
     let moved = map-set_moved (λ x. x.place) c.self.inside.handles.items c.args.handle c.in-Some.count c.index_mut.result.now c.read.new.self came c.index_mut.ensures.value c.in-Some.ensures.some in
-    rw (← c.self.view_is) (record { held = refl; said = refl; opened = moved; next = refl; end = tt; others = λ other apart. refl })
+    rw (← c.self.view_is) (record { held = refl; said = refl; opened = moved; created = refl; next = refl; end = tt; others = λ other apart. refl })
 
 pub returns-in-None-clause-fault : goal.returns-in-None-clause-fault
 returns-in-None-clause-fault g c =
