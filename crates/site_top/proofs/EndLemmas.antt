@@ -105,7 +105,7 @@ stopped_ends start now new handle page outcome end s r =
     ⊎_elim
     (λ (said : Says now new page × (end ≡ outcome) × (new.write_faults ≡ now.write_faults)). subst (ShowsOpened start new handle) (sym said.1) (record {
       given = s.given;
-      only = said_only start now new handle s.given s.only said.0.held said.0.opened r.read_faults r.write_faults r.line_faults;
+      only = said_only start now new handle s.given s.only said.0.held said.0.opened said.0.created r.read_faults r.write_faults r.line_faults;
       cause = cause_on start now new s.given outcome s.only.read_faults s.only.write_faults r.read_faults r.write_faults s.cause;
       reads = λ other another. r.read_faults ∙ s.reads other;
       says = λ other. said.2 ∙ s.says other;
@@ -113,7 +113,7 @@ stopped_ends start now new handle page outcome end s r =
     }))
     (λ (lost : Keeps now new × (end ≡ WriteFault) × Rose now.write_faults new.write_faults). subst (ShowsOpened start new handle) (sym lost.1) (record {
       given = s.given;
-      only = said_only start now new handle s.given s.only lost.0.held lost.0.opened r.read_faults r.write_faults r.line_faults;
+      only = said_only start now new handle s.given s.only lost.0.held lost.0.opened lost.0.created r.read_faults r.write_faults r.line_faults;
       cause = (rose_from start.write_faults now.write_faults new.write_faults s.only.write_faults lost.2, given_most start now s.given outcome s.cause);
       reads = λ other another. absurd (another refl);
       says = λ other. absurd (other refl);
@@ -128,7 +128,7 @@ finished_ends start now new handle count page longer end s is r =
     ⊎_elim
     (λ (said : Says now new longer × (end ≡ Done) × (new.write_faults ≡ now.write_faults)). subst (ShowsOpened start new handle) (sym said.1) (record {
       given = s.given;
-      only = said_only start now new handle s.given s.only said.0.held said.0.opened r.read_faults r.write_faults r.line_faults;
+      only = said_only start now new handle s.given s.only said.0.held said.0.opened said.0.created r.read_faults r.write_faults r.line_faults;
       cause = s.few;
       reads = λ other another. r.read_faults ∙ s.calm.read_faults;
       says = λ other. said.2 ∙ s.calm.write_faults;
@@ -140,7 +140,7 @@ finished_ends start now new handle count page longer end s is r =
     }))
     (λ (lost : Keeps now new × (end ≡ WriteFault) × Rose now.write_faults new.write_faults). subst (ShowsOpened start new handle) (sym lost.1) (record {
       given = s.given;
-      only = said_only start now new handle s.given s.only lost.0.held lost.0.opened r.read_faults r.write_faults r.line_faults;
+      only = said_only start now new handle s.given s.only lost.0.held lost.0.opened lost.0.created r.read_faults r.write_faults r.line_faults;
       cause = (rose_from start.write_faults now.write_faults new.write_faults s.only.write_faults lost.2, omega (arith, s.few));
       reads = λ other another. absurd (another refl);
       says = λ other. absurd (other refl);
@@ -166,6 +166,7 @@ moved old mid new name handle given o m = record {
   present = o.present;
   held = m.held ∙ o.held;
   opened = m.opened ∙ rw (o.opened, o.number) (set-append_seam old.opened 0 [] given);
+  created = m.created ∙ o.created;
 }
 
 -- what a run over an opened file read, by outcome

@@ -45,6 +45,7 @@ reads_on old new handle n buffer waiting more r inside is rf wf lf =
       held = r.held;
       said = r.said;
       opened = r.opened ∙ ap (λ (k : ℕ). slice_set old.opened handle (slice_index old.opened handle + k)) by;
+      created = r.created;
       grown = omega arith;
       next = rw is (joined (left_of new handle) waiting (take n buffer) ∙ ap (option_map (λ l. waiting ++ l)) (sym r.next));
       read_faults = rf;
@@ -66,6 +67,7 @@ reads_not old new handle waiting more came k is rf wf lf =
       held = k.held;
       said = k.said;
       opened = k.opened ∙ sym (ap (slice_set old.opened handle) none ∙ set-get_or old.opened handle 0);
+      created = k.created;
       grown = let size = ap length is in omega arith;
       next = rw is (ap (option_map (λ l. waiting ++ l)) (left_kept old new handle k));
       read_faults = rf;
@@ -95,7 +97,7 @@ on_err (Ok x) p = tt
 on_err (Err e) p = p
 
 pub reads_same : (s : State) (handle : ℕ) (waiting : List ℕ) → handle < length s.opened → ReadsOn s s handle waiting waiting
-reads_same s handle waiting came = reads_not s s handle waiting waiting came (record { held = refl; said = refl; opened = refl }) refl (omega arith) refl refl
+reads_same s handle waiting came = reads_not s s handle waiting waiting came (record { held = refl; said = refl; opened = refl; created = refl }) refl (omega arith) refl refl
 
 -- two readings are one
 pub reads_then : (a b c : State) (handle : ℕ) (u v w : List ℕ) → handle < length a.opened → ReadsOn a b handle u v → ReadsOn b c handle v w → ReadsOn a c handle u w
@@ -107,6 +109,7 @@ reads_then a b c handle u v w came p q =
       held = q.held ∙ p.held;
       said = q.said ∙ p.said;
       opened = q.opened ∙ rw (sum, p.opened) (set-set a.opened handle (slice_index a.opened handle + (length v - length u)) (slice_index a.opened handle + (length w - length u)));
+      created = q.created ∙ p.created;
       grown = omega (arith, p.grown, q.grown);
       next = q.next ∙ p.next;
       read_faults = omega (arith, p.read_faults, q.read_faults);

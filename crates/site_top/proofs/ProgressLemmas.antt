@@ -43,6 +43,7 @@ begun s handle waiting page came first none empty =
       only = record {
         held = refl;
         opened = sym (ap (slice_set s.opened handle) start ∙ set-get_or s.opened handle 0);
+        created = refl;
         read_faults = omega arith;
         write_faults = omega arith;
         line_faults = refl;
@@ -77,6 +78,7 @@ read_only start old new handle at waiting more came o r =
     record {
       held = r.held ∙ o.held;
       opened = r.opened ∙ rw (sum, o.opened) (set-set start.opened handle (at + length waiting) (at + length more));
+      created = r.created ∙ o.created;
       read_faults = omega (arith, o.read_faults, r.read_faults);
       write_faults = omega (arith, o.write_faults, r.write_faults);
       line_faults = r.line_faults ∙ o.line_faults;
@@ -146,11 +148,12 @@ shown_lost file start old new at count rest page e s =
       },
     )
 
-pub said_only : (start old new : State) (handle given : ℕ) → Only start old handle given → new.held ≡ old.held → new.opened ≡ old.opened →
+pub said_only : (start old new : State) (handle given : ℕ) → Only start old handle given → new.held ≡ old.held → new.opened ≡ old.opened → new.created ≡ old.created →
     new.read_faults ≡ old.read_faults → old.write_faults ≤ new.write_faults → new.line_faults ≡ old.line_faults → Only start new handle given
-said_only start old new handle given o held opened rf wf lf = record {
+said_only start old new handle given o held opened created rf wf lf = record {
   held = held ∙ o.held;
   opened = opened ∙ o.opened;
+  created = created ∙ o.created;
   read_faults = omega (arith, o.read_faults, rf);
   write_faults = omega (arith, o.write_faults, wf);
   line_faults = lf ∙ o.line_faults;
@@ -165,7 +168,7 @@ pub gave_way : (start old new : State) (handle at count : ℕ) (waiting page lef
 gave_way start old new handle at count waiting page left ended c way rf wf lf =
     ⊎_elim
     (λ (kept : Keeps old new × (left ≡ page)). record {
-      only = said_only start old new handle (at + length waiting) c.only kept.0.held kept.0.opened rf (omega (arith, wf)) lf;
+      only = said_only start old new handle (at + length waiting) c.only kept.0.held kept.0.opened kept.0.created rf (omega (arith, wf)) lf;
       calm = calm_on start old new c.calm rf wf lf;
       end = λ e. rw (left_same old new handle kept.0.held kept.0.opened) (c.end e);
       shown = if_some (left_of start handle) _ _ (λ file x. (
@@ -175,7 +178,7 @@ gave_way start old new handle at count waiting page left ended c way rf wf lf =
       )) c.shown;
     })
     (λ (said : Says old new page × (left ≡ [])). record {
-      only = said_only start old new handle (at + length waiting) c.only said.0.held said.0.opened rf (omega (arith, wf)) lf;
+      only = said_only start old new handle (at + length waiting) c.only said.0.held said.0.opened said.0.created rf (omega (arith, wf)) lf;
       calm = calm_on start old new c.calm rf wf lf;
       end = λ e. rw (left_same old new handle said.0.held said.0.opened) (c.end e);
       shown = if_some (left_of start handle) _ _ (λ file x. (
@@ -233,4 +236,5 @@ says_nothing s page none = record {
   held = refl;
   said = said_same s.said ∙ ap (λ (text : List ℕ). option_map (λ said. said ++ text) s.said) (sym none);
   opened = refl;
+  created = refl;
 }

@@ -99,7 +99,7 @@ pub stopped_saying : (start old new : State) (handle at count : ℕ) (waiting pa
 stopped_saying start old new handle at count waiting page left ended outcome c k none is rose few rf wf lf =
     subst (Stops start new handle left) (sym is) (subst (λ (text : List ℕ). Stops start new handle text WriteFault) (sym none) (record {
       given = at + length waiting;
-      only = said_only start old new handle (at + length waiting) c.only k.held k.opened rf wf lf;
+      only = said_only start old new handle (at + length waiting) c.only k.held k.opened k.created rf wf lf;
       cause = (rose_from start.write_faults old.write_faults new.write_faults c.only.write_faults rose, few);
       reads = λ other. rf ∙ c.calm.read_faults;
       says = λ other. absurd (other refl);
