@@ -1,12 +1,15 @@
 -- The sequence added a byte at a time.
-use Rattle.std.proofs.Common.{◌≡◌, ℕ, zero, suc, ◌+◌, ◌*◌, ◌%◌, ◌<◌, ◌==◌, Bool, true, false, List, [], ◌∷◌, ◌++◌, length, map, get_or, refl, ap, sym, ◌∙◌, arith}
+use Rattle.std.proofs.Common.{◌≡◌, ℕ, zero, suc, ◌+◌, ◌-◌, ◌*◌, ◌%◌, ◌<◌, ◌≤◌, ◌==◌, Bool, true, false, List, [], ◌∷◌, ◌++◌, ⊎_elim, length, take, drop, map, get_or, refl, ap, sym, ◌∙◌, arith}
 use Rattle.std.specs.Prelude.{bit_xor}
 use Rattle.std.specs.Int.{bit_at}
 use Rattle.std.specs.List.{range_with_len}
 use Rattle.std.proofs.lemmas.Nat.Bits.{bit_at-lt, bit_at_xor}
+use Rattle.std.proofs.lemmas.Bool.{cases_lt}
+use Rattle.std.proofs.lemmas.List.{get_or_append_left, get_or-append_right, get_or-take, get_or-drop, length-take-le, length-append, length-drop}
 use Rattle.terms.specs.Bits.{field, bits_of, number_of}
-use Rattle.terms.proofs.BitLemmas.{length-field, field-number_of}
+use Rattle.terms.proofs.BitLemmas.{length-part, get_or-part, length-field, field-number_of}
 use Rattle.bit_slice.specs.Prbs.{plus, prbs, prbs_byte}
+use Rattle.bit_slice.specs.PrbsBlocks.{Runs}
 use Rattle.bb_frame.specs.Scrambled.{added, scrambled}
 use Rattle.bb_frame.specs.Laws.{ScramblesBack}
 
@@ -91,3 +94,77 @@ pub all_scrambled : (old new : List ℕ) → length new ≡ length old → ((j :
     bits_of new ≡ scrambled (bits_of old)
 all_scrambled old new size each =
     bytes_added old new 0 size (λ j h. let e : j ≡ 0 + j = omega arith in each j h ∙ ap (λ (n : ℕ). bit_xor (get_or old j 0) (prbs_byte n)) e)
+
+-- ---- many bytes at a time
+-- the sequence was added to so many bytes
+pub record AddedTo (old new : List ℕ) (done : ℕ) : Type 0 where
+  pub size : length new ≡ length old
+  pub sums : (j : ℕ) → j < done → get_or new j 0 ≡ bit_xor (get_or old j 0) (prbs_byte j)
+  pub rest : (j : ℕ) → done ≤ j → get_or new j 0 ≡ get_or old j 0
+
+-- ---- a part that is put in place of another of its length
+mid : List ℕ → ℕ → List ℕ → List ℕ
+mid xs at piece = take at xs ++ (piece ++ drop (length piece) (drop at xs))
+
+before_mid : (xs piece : List ℕ) (at j : ℕ) → at ≤ length xs → j < at → get_or (mid xs at piece) j 0 ≡ get_or xs j 0
+unfolding mid
+before_mid xs piece at j inside h =
+    get_or_append_left (take at xs) (piece ++ drop (length piece) (drop at xs)) 0 j (omega (arith, length-take-le at xs inside)) ∙ get_or-take at xs j 0 h
+
+from_mid : (xs piece : List ℕ) (at j : ℕ) → at ≤ length xs → at ≤ j → get_or (mid xs at piece) j 0 ≡ get_or (piece ++ drop (length piece) (drop at xs)) (j - at) 0
+unfolding mid
+from_mid xs piece at j inside h = get_or-append_right (take at xs) (piece ++ drop (length piece) (drop at xs)) at j 0 (length-take-le at xs inside) h
+
+within_mid : (xs piece : List ℕ) (at j : ℕ) → at ≤ length xs → at ≤ j → j < at + length piece → get_or (mid xs at piece) j 0 ≡ get_or piece (j - at) 0
+within_mid xs piece at j inside h short =
+    from_mid xs piece at j inside h ∙ get_or_append_left piece (drop (length piece) (drop at xs)) 0 (j - at) (omega arith)
+
+behind_mid : (xs piece : List ℕ) (at j : ℕ) → at ≤ length xs → at + length piece ≤ j → get_or (mid xs at piece) j 0 ≡ get_or xs j 0
+behind_mid xs piece at j inside h =
+    let n : ℕ = length piece in
+    let place : at + (n + (j - at - n)) ≡ j = omega arith in
+    from_mid xs piece at j inside (omega arith)
+    ∙ get_or-append_right piece (drop n (drop at xs)) n (j - at) 0 refl (omega arith)
+    ∙ get_or-drop n (drop at xs) (j - at - n) 0 ∙ get_or-drop at xs (n + (j - at - n)) 0 ∙ ap (λ (i : ℕ). get_or xs i 0) place
+
+length-mid : (xs piece : List ℕ) (at : ℕ) → at + length piece ≤ length xs → length (mid xs at piece) ≡ length xs
+unfolding mid
+length-mid xs piece at inside = simp (length-append, length-drop) (omega (arith, length-take-le at xs (omega arith)))
+
+-- the sequence was added to a part more
+more_added : (old now piece sequence : List ℕ) (done : ℕ) → AddedTo old now done → done + length piece ≤ length now → length piece ≤ 120 → Runs sequence done →
+    ((k : ℕ) → k < length piece → get_or piece k 0 ≡ bit_xor (get_or now (done + k) 0) (get_or sequence k 0)) → AddedTo old (mid now done piece) (done + length piece)
+more_added old now piece sequence done a inside short runs each =
+    let within : done ≤ length now = omega arith in
+    record {
+      size = length-mid now piece done inside ∙ a.size;
+      sums = λ j h. ⊎_elim (λ less. before_mid now piece done j within less ∙ a.sums j less)
+          (λ more.
+          let k : ℕ = j - done in
+          let place : done + k ≡ j = omega arith in
+          within_mid now piece done j within more h ∙ each k (omega arith)
+          ∙ ap (λ (n : ℕ). bit_xor (get_or now (done + k) 0) n) (runs k (omega arith))
+          ∙ ap (λ (n : ℕ). bit_xor (get_or now n 0) (prbs_byte n)) place
+          ∙ ap (λ (n : ℕ). bit_xor n (prbs_byte j)) (a.rest j more))
+          (cases_lt j done);
+      rest = λ j h. behind_mid now piece done j within h ∙ a.rest j (omega arith);
+    }
+
+pub part_added : (old now piece sequence : List ℕ) (done count n : ℕ) → AddedTo old now done → done + count ≤ length now → count ≤ 120 → n ≡ count → length piece ≡ length (take n (drop done now)) →
+    Runs sequence done → ((k : ℕ) → k < length (take n (drop done now)) → get_or piece k 0 ≡ bit_xor (get_or (take n (drop done now)) k 0) (get_or sequence k 0)) →
+    AddedTo old (take done now ++ (piece ++ drop n (drop done now))) (done + count)
+unfolding mid
+part_added old now piece sequence done count n a inside short is size runs each =
+    let part : length (take n (drop done now)) ≡ count = length-part now done n (omega arith) ∙ is in
+    let long : length piece ≡ count = size ∙ part in
+    let same : n ≡ length piece = omega arith in
+    let sums : (k : ℕ) → k < length piece → get_or piece k 0 ≡ bit_xor (get_or now (done + k) 0) (get_or sequence k 0) =
+    λ k h. each k (omega arith) ∙ ap (λ (x : ℕ). bit_xor x (get_or sequence k 0)) (get_or-part now done n k 0 (omega arith)) in
+    let all = more_added old now piece sequence done a (omega arith) (omega arith) runs sums in
+    rw (same, ← long) all
+
+pub all_added : (old new : List ℕ) (done : ℕ) → AddedTo old new done → done ≡ length old → bits_of new ≡ scrambled (bits_of old)
+all_added old new done a is = all_scrambled old new a.size (λ j h. a.sums j (omega arith))
+
+pub none_added : (old : List ℕ) → AddedTo old old 0
+none_added old = record { size = refl; sums = λ j h. absurd (omega arith); rest = λ j h. refl }

@@ -37,6 +37,7 @@ fn a_full_frame(rt: HostRuntime) {
 
     scramble(&mut bytes);
     assert!(rt; bytes[0] == 0xFF && bytes[1] == 0xF6);
+    assert!(rt; bytes[120] == 0x47 ^ 0xCA && bytes[878] == 0x47 ^ 0x55);
     scramble(&mut bytes);
     assert!(rt; bytes[0] == 0xFC && bytes[878] == 0x47);
 }

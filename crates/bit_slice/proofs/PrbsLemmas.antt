@@ -1,12 +1,16 @@
 -- Eight bits of the scrambler's sequence at a time.
-use Rattle.std.proofs.Common.{◌≡◌, ℕ, zero, suc, ◌+◌, ◌*◌, ◌/◌, ◌%◌, ◌^◌, ◌<◌, Bool, true, false, cond, List, [], ◌∷◌, ◌++◌, length, drop, map, refl, ap, sym, ◌∙◌, arith}
+use Rattle.std.proofs.Common.{◌≡◌, ℕ, zero, suc, ◌+◌, ◌-◌, ◌*◌, ◌/◌, ◌%◌, ◌^◌, ◌<◌, ◌≤◌, ⊎_elim, Bool, true, false, cond, List, [], ◌∷◌, ◌++◌, length, drop, map, get_or, set, refl, ap, sym, ◌∙◌, arith}
 use Rattle.std.specs.Prelude.{bit_and, bit_or, bit_xor}
 use Rattle.std.specs.List.{range_with_len}
-use Rattle.std.proofs.lemmas.Nat.{xor_block, xor_mod, or_shifted, and_mask}
-use Rattle.std.proofs.lemmas.List.{length-append, length-drop, take_all}
+use Rattle.std.proofs.lemmas.Bool.{le-ltb, cases_lt}
+use Rattle.std.proofs.lemmas.List.FromFn.{map-range_with_len_more, length-map-range_with_len}
+use Rattle.std.proofs.Math.Nat.{pow-succ'}
+use Rattle.std.proofs.lemmas.Nat.{xor_block, xor_mod, xor_comm, or_shifted, and_mask}
+use Rattle.std.proofs.lemmas.List.{length-append, length-drop, take_all, length-set, get_or-set_other}
+use Rattle.std.proofs.lemmas.Grind.{get_or-set_at}
 use Rattle.terms.specs.Bits.{number_of, part}
 use Rattle.terms.proofs.BitLemmas.{number_of-lt, number_of-part, number_of-append, length-part}
-use Rattle.bit_slice.specs.Prbs.{plus, next_bit, fifteen_before, prbs, prbs_byte}
+use Rattle.bit_slice.specs.Prbs.{plus, next_bit, fifteen_before, prbs, sequence, prbs_byte}
 use Rattle.bit_slice.specs.Laws.{PrbsRecurs}
 
 -- the sum of bits, one by one
@@ -99,12 +103,109 @@ unfolding after
 fifteen_after (a ∷ b ∷ c ∷ d ∷ e ∷ f ∷ g ∷ h ∷ i ∷ j ∷ k ∷ l ∷ m ∷ n ∷ o ∷ []) long = refl
 fifteen_after w long = absurd (omega arith)
 
-pub prbs_recurs : PrbsRecurs
-prbs_recurs i =
+-- a sum of two bits, both from x(0) on
+recurs : (i : ℕ) → prbs (i + 15) ≡ plus (prbs (i + 1)) (prbs i)
+recurs i =
     ap next_bit (before-plus 15 i) ∙ fifteen_after (fifteen_before i) (length-before i)
     ∙ ap (λ (w : List Bool). plus (next_bit w) (prbs i)) (sym (before-one i))
 
--- the next byte by the register of fifteen bits
+-- ---- from the loading sequence on
+sequence-later : (i : ℕ) → sequence (i + 15) ≡ prbs i
+sequence-later i =
+    let e : i + 15 - 15 ≡ i = omega arith in
+    rw (le-ltb (i + 15) 15 (omega arith)) (ap prbs e)
+
+before_is : (i : ℕ) → fifteen_before i ≡ map sequence (range_with_len i 15)
+unfolding fifteen_before
+before_is zero = refl
+before_is (suc i) =
+    let place : i + 1 + 14 ≡ i + 15 = omega arith in
+    let next : i + 1 ≡ suc i = omega arith in
+    ap moved (before_is i)
+    ∙ ap (λ (b : Bool). map sequence (range_with_len (i + 1) 14) ++ b ∷ []) (sym (ap next_bit (before_is i)) ∙ sym (sequence-later i))
+    ∙ sym (map-range_with_len_more sequence (i + 1) 14 (i + 15) place) ∙ ap (λ (k : ℕ). map sequence (range_with_len k 15)) next
+
+pub prbs_recurs : PrbsRecurs
+prbs_recurs i = ap next_bit (before_is i)
+
+-- ---- sums of bits that lie further apart
+plus_middle : (a b c : Bool) → plus (plus a b) (plus b c) ≡ plus a c
+plus_middle true true c = cc
+plus_middle true false c = refl
+plus_middle false true true = refl
+plus_middle false true false = refl
+plus_middle false false c = refl
+
+-- x(i + 15 * 2^k) = x(i + 2^k) + x(i): twice the one for k is the next one
+apart : (k i : ℕ) → prbs (i + 15 * 2 ^ k) ≡ plus (prbs (i + 2 ^ k)) (prbs i)
+apart zero i = recurs i
+apart (suc k) i =
+    let p : ℕ = 2 ^ k in
+    let twice : 2 ^ suc k ≡ 2 * p = pow-succ' 2 k in
+    let whole : i + 15 * 2 ^ suc k ≡ i + 15 * p + 15 * p = omega arith in
+    let turn : i + 15 * p + p ≡ i + p + 15 * p = omega arith in
+    let sum : i + p + p ≡ i + 2 ^ suc k = omega arith in
+    ap prbs whole ∙ apart k (i + 15 * p)
+    ∙ ap (λ (b : Bool). plus b (prbs (i + 15 * p))) (ap prbs turn ∙ apart k (i + p))
+    ∙ ap (plus (plus (prbs (i + p + p)) (prbs (i + p)))) (apart k i)
+    ∙ plus_middle (prbs (i + p + p)) (prbs (i + p)) (prbs i) ∙ ap (λ (n : ℕ). plus (prbs n) (prbs i)) sum
+
+bits_apart : (n i : ℕ) → map prbs (range_with_len (i + 960) n) ≡ sums (map prbs (range_with_len (i + 64) n)) (map prbs (range_with_len i n))
+bits_apart zero i = refl
+bits_apart (suc n) i =
+    let far : i + 960 + 1 ≡ i + 1 + 960 = omega arith in
+    let near : i + 64 + 1 ≡ i + 1 + 64 = omega arith in
+    rw (far, near, bits_apart n (i + 1), apart 6 i) refl
+
+-- a byte is the sum of those 112 and 120 before it
+byte_apart : (k : ℕ) → prbs_byte (k + 120) ≡ bit_xor (prbs_byte (k + 8)) (prbs_byte k)
+byte_apart k =
+    let far : 8 * (k + 120) ≡ 8 * k + 960 = omega arith in
+    let near : 8 * (k + 8) ≡ 8 * k + 64 = omega arith in
+    let xs : List Bool = map prbs (range_with_len (8 * k + 64) 8) in
+    let ys : List Bool = map prbs (range_with_len (8 * k) 8) in
+    let long : length xs ≡ length ys = length-map-range_with_len prbs (8 * k + 64) 8 ∙ sym (length-map-range_with_len prbs (8 * k) 8) in
+    ap (λ (n : ℕ). number_of (map prbs (range_with_len n 8))) far ∙ ap number_of (bits_apart 8 (8 * k)) ∙ number_of-sums xs ys long
+    ∙ ap (λ (n : ℕ). bit_xor (number_of (map prbs (range_with_len n 8))) (number_of ys)) (sym near)
+
+-- the bytes from one on, of which so many were put in place of those 120 before them
+pub record RunsOn (bytes : List ℕ) (from done : ℕ) : Type 0 where
+  pub size : length bytes ≡ 120
+  pub new : (k : ℕ) → k < done → get_or bytes k 0 ≡ prbs_byte (from + 120 + k)
+  pub old : (k : ℕ) → done ≤ k → k < 120 → get_or bytes k 0 ≡ prbs_byte (from + k)
+
+pub runs_on : (bytes : List ℕ) (from done next : ℕ) → RunsOn bytes from done → done < 120 → next ≡ prbs_byte (from + done + 8) →
+    RunsOn (set bytes done (bit_xor (get_or bytes done 0) next)) from (done + 1)
+runs_on bytes from done next r inside is =
+    let sum : ℕ = bit_xor (get_or bytes done 0) next in
+    let far : from + done + 120 ≡ from + 120 + done = omega arith in
+    let stays : done ≤ done = omega arith in
+    let within : done < length bytes = omega (arith, r.size) in
+    let here : sum ≡ prbs_byte (from + 120 + done) =
+    ap (λ (n : ℕ). bit_xor n next) (r.old done stays inside) ∙ ap (bit_xor (prbs_byte (from + done))) is
+    ∙ xor_comm (prbs_byte (from + done)) (prbs_byte (from + done + 8)) ∙ sym (byte_apart (from + done)) ∙ ap prbs_byte far in
+    record {
+      size = length-set bytes done sum ∙ r.size;
+      new = λ k h. ⊎_elim (λ less. get_or-set_other bytes done k sum 0 (λ e. omega arith) ∙ r.new k less)
+          (λ more. let e : k ≡ done = omega arith in get_or-set_at bytes done k sum 0 e within ∙ here ∙ ap (λ (n : ℕ). prbs_byte (from + 120 + n)) (sym e)) (cases_lt k done);
+      old = λ k h short. get_or-set_other bytes done k sum 0 (λ e. omega arith) ∙ r.old k (omega arith) short;
+    }
+
+-- one of the first 112, by an old byte
+pub runs_near : (bytes : List ℕ) (from done : ℕ) → RunsOn bytes from done → done < 112 →
+    RunsOn (set bytes done (bit_xor (get_or bytes done 0) (get_or bytes (done + 8) 0))) from (done + 1)
+runs_near bytes from done r inside =
+    let sum : from + (done + 8) ≡ from + done + 8 = omega arith in
+    runs_on bytes from done (get_or bytes (done + 8) 0) r (omega arith) (r.old (done + 8) (omega arith) (omega arith) ∙ ap prbs_byte sum)
+
+-- one of the last eight, by a new byte
+pub runs_round : (bytes : List ℕ) (from done : ℕ) → RunsOn bytes from done → 112 ≤ done → done < 120 →
+    RunsOn (set bytes done (bit_xor (get_or bytes done 0) (get_or bytes (done - 112) 0))) from (done + 1)
+runs_round bytes from done r least inside =
+    let sum : from + 120 + (done - 112) ≡ from + done + 8 = omega arith in
+    runs_on bytes from done (get_or bytes (done - 112) 0) r inside (r.new (done - 112) (omega arith) ∙ ap prbs_byte sum)
+
+-- ---- the next byte by the register of fifteen bits
 eight_number : (w : List Bool) (r : ℕ) → length w ≡ 15 → r ≡ number_of w → number_of (nexts 8 w) ≡ bit_xor (r / 2 ^ 6) (r / 2 ^ 7) % 2 ^ 8
 eight_number w r long is =
     let same : length (part w 1 8) ≡ length (part w 0 8) = length-part w 1 8 (omega arith) ∙ sym (length-part w 0 8 (omega arith)) in

@@ -7,7 +7,7 @@ use Rattle.std.proofs.Math.Seq.{take-append-add}
 use Rattle.bit_slice.specs.declared.sink.SinkFault.{SinkFault}
 use Rattle.bit_slice.specs.declared.sink.SinkFault.TheVariants.{Full, OutOfMemory}
 use Rattle.bit_slice.specs.Sink.{State, Puts, Refuses, StopsFor}
-use Rattle.bit_slice.specs.Laws.{StopsHere, StopsEarly, StopsLater, StopsRightly}
+use Rattle.bit_slice.specs.Laws.{StopsHere, StopsEarly, StopsLater, StopsRightly, PutsFit}
 
 -- a sink with so much room in all
 pub fixed_puts : (all : ℕ) (old new more : List Bool) → new ≡ old ++ more → length old + length more ≤ all →
@@ -93,7 +93,10 @@ stops_rightly a b bits (Full need room) s =
     let put : ℕ = length (take s.count bits) in
     let left : length bits - s.count ≤ length bits - put = omega (arith, few s.count bits) in
     less_room a.room b.room put room need (length bits) s.front.room s.front.fits cause.0 cause.1 (omega (arith, left, cause.2))
-stops_rightly a b bits OutOfMemory s = no_end a.room b.room (length (take s.count bits)) s.front.room (s.cause.0)
+stops_rightly a b bits OutOfMemory s = (no_end a.room b.room (length (take s.count bits)) s.front.room s.cause.0, sym s.front.grows ∙ s.cause.1)
+
+pub puts_fit : PutsFit
+puts_fit a b bits puts = puts.fits
 
 more_left : (s : State) (m n : ℕ) (fault : SinkFault) → StopsFor s m fault → m ≤ n → StopsFor s n fault
 more_left s m n (Full need room) h less = let inside = h.2 in (h.0, h.1, omega arith)

@@ -1,5 +1,5 @@
 -- The sequence of the scrambler (EN 302 755, clause 5.2.2): x(i) = x(i - 14) + x(i - 15), modulo 2.
-use Rattle.std.specs.Prelude.{◌≡◌, ℕ, zero, suc, ◌*◌, Bool, true, false, not, List, [], ◌∷◌, ◌++◌, drop, map, slice_index_or}
+use Rattle.std.specs.Prelude.{◌≡◌, ℕ, zero, suc, ◌-◌, ◌*◌, Bool, true, false, not, List, [], ◌∷◌, ◌++◌, drop, map, nat_lt, slice_index_or, if◌then◌else◌}
 use Rattle.std.specs.List.{range_with_len}
 use Rattle.terms.specs.Bits.{number_of}
 use Rattle.bit_slice.specs.declared.prbs.Prbs.{Prbs}
@@ -25,6 +25,10 @@ fifteen_before (suc i) = drop 1 (fifteen_before i) ++ next_bit (fifteen_before i
 -- x(i)
 abbrev pub prbs : ℕ → Bool
 prbs i = next_bit (fifteen_before i)
+
+-- the sequence with the loading sequence before it: bit n is x(n - 15)
+abbrev pub sequence : ℕ → Bool
+sequence n = if nat_lt n 15 then slice_index_or loaded n false else prbs (n - 15)
 
 -- x(8 k) to x(8 k + 7) as a byte, the first one highest
 abbrev pub prbs_byte : ℕ → ℕ

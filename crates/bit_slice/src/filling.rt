@@ -46,8 +46,8 @@ pub fn put_field(bytes: &mut [u8], used: usize, value: u64, width: u32)
     bytes[first..end].copy_from_slice(&window[..end - first]);
 }
 
-/// Puts a part of bits behind the used bits.
-pub fn put_part(bytes: &mut [u8], used: usize, bits: &BitSlice<'_>, at: usize, width: u32)
+// Puts a part of bits behind the used bits.
+fn put_part(bytes: &mut [u8], used: usize, bits: &BitSlice<'_>, at: usize, width: u32)
     requires short { length bytes.old < 2 ^ 60 }
     requires narrow { width ≤ 64 }
     requires part { at + width ≤ length bits.now }
@@ -58,8 +58,8 @@ pub fn put_part(bytes: &mut [u8], used: usize, bits: &BitSlice<'_>, at: usize, w
     put_field(bytes, used, bits.field(at, width), width);
 }
 
-/// Puts whole bytes of bits behind the used bits, which end with a byte.
-pub fn put_bytes(bytes: &mut [u8], used: usize, bits: &BitSlice<'_>, at: usize, count: usize)
+// Puts whole bytes of bits behind the used bits, which end with a byte.
+fn put_bytes(bytes: &mut [u8], used: usize, bits: &BitSlice<'_>, at: usize, count: usize)
     requires short { length bytes.old < 2 ^ 60 }
     requires aligned { used % 8 ≡ 0 }
     requires part { at + 8 * count ≤ length bits.now }

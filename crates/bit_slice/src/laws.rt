@@ -1,5 +1,5 @@
 //! Laws of the definitions: functions with nothing to do, whose contracts say what holds.
-ghost use Rattle.bit_slice.specs.Laws.{CrcIsRemainder, Crc8IsRemainder, RemainderIsUnique, PrbsRecurs, PutsJoin, StopsHere, StopsEarly, StopsLater, StopsRightly};
+ghost use Rattle.bit_slice.specs.Laws.{CrcIsRemainder, Crc8IsRemainder, RemainderIsUnique, PrbsRecurs, PutsFit, PutsJoin, StopsHere, StopsEarly, StopsLater, StopsRightly};
 
 /// CRC-32 is the remainder of a polynomial.
 pub fn crc32_law()
@@ -16,7 +16,8 @@ pub fn remainder_law()
     ensures { RemainderIsUnique }
 {}
 
-/// Each bit of the scrambler's sequence is the sum of the fourteenth and the fifteenth before it.
+/// Each bit of the scrambler's sequence is the sum of the fourteenth and the fifteenth before it, the first ones by the
+/// loading sequence.
 pub fn prbs_law()
     ensures { PrbsRecurs }
 {}
@@ -26,11 +27,12 @@ pub fn puts_law()
     ensures { PutsJoin }
 {}
 
-/// Where a writer of several parts stops: `here` at its first put, `early` before other parts, `later` behind them. It is `full` exactly where the
-/// sink had less room than all its bits.
+/// Where a writer of several parts stops: `here` at its first put, `early` before other parts, `later` behind them.
+/// Where it finds the sink `full`, this had less room than all its bits; and where it put all of them, they `fit`.
 pub fn stops_law()
     ensures here { StopsHere }
     ensures early { StopsEarly }
     ensures later { StopsLater }
     ensures full { StopsRightly }
+    ensures fit { PutsFit }
 {}

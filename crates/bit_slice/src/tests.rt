@@ -1,5 +1,5 @@
 // Expected values come from Python: its integers of any size, and for CRCs of whole bytes zlib, with bits turned round.
-use crate::{BitBuf, BitSink, BitSlice, FixedBits, Prbs, SinkFault, crc8, crc32};
+use crate::{BitBuf, BitSink, BitSlice, FixedBits, Prbs, PrbsBlocks, SinkFault, crc8, crc32};
 
 const DATA: [u8; 24] = [
     0xC3, 0xA5, 0x19, 0x7E, 0x02, 0xF0, 0xD4, 0x8B, 0x36, 0x5D, 0x0E, 0x91, 0xAB, 0x7C, 0x64, 0xFF,
@@ -70,6 +70,18 @@ fn the_sequence_begins(rt: HostRuntime) {
     for want in [0x03, 0xF6, 0x08, 0x34, 0x30, 0xB8, 0xA3, 0x93, 0xC9, 0x68] {
         assert_eq!(rt; sequence.next_byte(), want);
     }
+}
+
+#[test]
+fn the_sequence_in_blocks(rt: HostRuntime) {
+    let mut blocks = PrbsBlocks::new();
+    assert!(rt; blocks.bytes()[..4] == [0x03, 0xF6, 0x08, 0x34] && blocks.bytes()[119] == 0x3A);
+    blocks.advance();
+    assert!(rt;
+        blocks.bytes()[0] == 0xCA && blocks.bytes()[7] == 0x66 && blocks.bytes()[119] == 0x5C
+    );
+    blocks.advance();
+    assert!(rt; blocks.bytes()[0] == 0xFD && blocks.bytes()[119] == 0x6E);
 }
 
 // By place and width: each place within a byte, each number of bytes touched.

@@ -1,4 +1,4 @@
-use Rattle.bit_slice.proofs.SinkLemmas.{stops_here, stops_early, stops_later, stops_rightly}
+use Rattle.bit_slice.proofs.SinkLemmas.{stops_here, stops_early, stops_later, stops_rightly, puts_fit}
 use Rattle.bit_slice.proofs.laws.stops_law.Goals as goal
 
 pub returns-clause-here : goal.returns-clause-here
@@ -12,3 +12,6 @@ returns-clause-later c = stops_later
 
 pub returns-clause-full : goal.returns-clause-full
 returns-clause-full c = stops_rightly
+
+pub returns-clause-fit : goal.returns-clause-fit
+returns-clause-fit c = puts_fit
