@@ -4,7 +4,7 @@ use Rattle.std.specs.Prelude.{bit_xor}
 use lib.Bits.{xor_shifted, xor_zero_l, xor_zero_r}
 use Rattle.std.proofs.lemmas.Nat.{xor_block, xor_comm, xor_lt, pow_pos, pow-add, shl_below, shr_below, shr_split, mod_below, mod_low}
 use Rattle.terms.specs.Bits.{field, bits_of, number_of}
-use Rattle.terms.proofs.BitLemmas.{length-field, length-bits_of, bits_of-append, number_of-field, number_of-bytes}
+use Rattle.terms.proofs.BitLemmas.{length-field, length-bits_of, bits_of-append, number_of-field, four_bytes}
 use Rattle.bit_slice.specs.Register.{register, zeros}
 use Rattle.bit_slice.proofs.XorLemmas.{xor_turn}
 use Rattle.bit_slice.proofs.ZerosLemmas.{zeros_lt, zeros_xor, zeros_low, zeros_moved, zeros-add, register-append, register_is_zeros}
@@ -98,11 +98,6 @@ register-word low s bytes small fits size =
     let few : length (bits_of bytes) ≤ 32 = omega arith in
     let e : number_of (bits_of bytes) * 2 ^ (32 - 32) ≡ number_of (bits_of bytes) = omega arith in
     rw (wide, e) at (register_is_zeros 32 low small (bits_of bytes) s fits few)
-
--- the number of four bytes
-four_bytes : (a b c d : ℕ) → a < 256 → b < 256 → c < 256 → d < 256 → number_of (bits_of (a ∷ b ∷ c ∷ d ∷ [])) ≡ a * 2 ^ 24 + b * 2 ^ 16 + c * 2 ^ 8 + d
-four_bytes a b c d fits_a fits_b fits_c fits_d =
-    omega (arith, number_of-bytes a (b ∷ c ∷ d ∷ []) fits_a, number_of-bytes b (c ∷ d ∷ []) fits_b, number_of-bytes c (d ∷ []) fits_c, number_of-bytes d [] fits_d)
 
 -- Eight bytes are 32 zero bits of the last four and 64 of the sum of the register and the first four.
 pub register-eight : (low s : ℕ) (bytes : List ℕ) → low < 2 ^ 32 → s < 2 ^ 32 → length bytes ≡ 8 → ((i : ℕ) → get_or bytes i 0 < 256) →

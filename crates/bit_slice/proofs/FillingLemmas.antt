@@ -10,7 +10,7 @@ use Rattle.std.proofs.lemmas.List.{append_assoc, append-nil, length-append, leng
 use Rattle.std.proofs.Math.Seq.{take-append-add, drop-append-add}
 use Rattle.std.proofs.lemmas.Nat.{or_shifted, pow-add, shl_below}
 use Rattle.terms.specs.Bits.{field, bits_of, number_of, part, byte_at, bytes_of, bytes_for}
-use Rattle.terms.proofs.BitLemmas.{length-field, length-bits_of, bits_of-append, take-bits_of, drop-bits_of, number_of-append, number_of-field, field-number_of, number_at-bits_of, number_of-lt, length-part, bits_of-high-first}
+use Rattle.terms.proofs.BitLemmas.{length-field, field-add, drop-field, length-bits_of, bits_of-append, take-bits_of, drop-bits_of, number_of-append, number_of-field, field-number_of, number_at-bits_of, number_of-lt, length-part, bits_of-high-first}
 use Rattle.terms.proofs.PartLemmas.{number_of-zeros, part-add}
 use Rattle.bit_slice.specs.Filling.{padded, Holds}
 
@@ -253,3 +253,13 @@ seen_long bytes bits used e few = ap length (sym e) ∙ length-take-le used (bit
 -- bytes that are written back whole
 pub written_back : (xs ys : List ℕ) (n : ℕ) → length xs ≡ n → take n (xs ++ drop (length xs) ys) ≡ xs
 written_back xs ys n e = take_at xs (drop (length xs) ys) n e
+
+-- a field is the end of a wider one
+pub field_end : (width all value : ℕ) → width ≤ all → part (field all value) (all - width) width ≡ field width value
+field_end width all value narrow =
+    let sum : all - width + width ≡ all = omega arith in
+    let front : ℕ = all - width in
+    let few : length (field width value) ≤ width = omega (arith, length-field width value) in
+    ap (λ (k : ℕ). part (field k value) front width) (sym sum)
+    ∙ ap (λ (bits : List Bool). part bits front width) (field-add front width value)
+    ∙ ap (take width) (drop-field front (value / 2 ^ width) (field width value)) ∙ take_all width (field width value) few

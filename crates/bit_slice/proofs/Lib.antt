@@ -9,3 +9,5 @@ pub mod SliceLemmas
 pub mod PrbsLemmas
 pub mod FillingLemmas
 pub mod SinkLemmas
+pub mod Walks
+pub mod JoinLemmas

@@ -1,17 +1,17 @@
 -- What puts do to sinks, and one put after another.
 use Rattle.std.proofs.Common.{◌≡◌, ℕ, ◌+◌, ◌-◌, ◌<◌, ◌≤◌, Bool, true, false, List, [], ◌++◌, length, take, drop, Option, Some, None, refl, ap, sym, ◌∙◌, arith, append_assoc, append-nil, length-append}
 use Rattle.std.proofs.lemmas.List.{length-take, take_at, take-append-le, take-append-drop}
-use Rattle.std.specs.Prelude.{IfSome, min}
+use Rattle.std.specs.Prelude.{IfSome, min, Result, Ok, Err, IfErr, OnErr}
 use Rattle.std.specs.Option.{option_map}
 use Rattle.std.proofs.Math.Seq.{take-append-add}
 use Rattle.bit_slice.specs.declared.sink.SinkFault.{SinkFault}
 use Rattle.bit_slice.specs.declared.sink.SinkFault.TheVariants.{Full, OutOfMemory}
-use Rattle.bit_slice.specs.Sink.{State, Puts, Refuses, StopsFor}
+use Rattle.bit_slice.specs.Sink.{State, Puts, Refuses, StopsFor, Stops}
 use Rattle.bit_slice.specs.Laws.{StopsHere, StopsEarly, StopsLater, StopsRightly, PutsFit}
 
 -- a sink with so much room in all
 pub fixed_puts : (all : ℕ) (old new more : List Bool) → new ≡ old ++ more → length old + length more ≤ all →
-    Puts record { written = old; room = Some (all - length old); grows = false } record { written = new; room = Some (all - length new); grows = false } more
+    Puts record { written = old; room = Some (all - length old); grows = false; below = [] } record { written = new; room = Some (all - length new); grows = false; below = [] } more
 fixed_puts all old new more is fits =
     let size : length new ≡ length old + length more = ap length is ∙ length-append old more in
     let left : all - length new ≡ all - length old - length more = omega arith in
@@ -20,12 +20,13 @@ fixed_puts all old new more is fits =
       fits = omega arith;
       room = ap Some left;
       grows = refl;
+      below = refl;
     }
 
 -- a sink that grows
 pub grown_puts : (old new more : List Bool) → new ≡ old ++ more →
-    Puts record { written = old; room = None; grows = true } record { written = new; room = None; grows = true } more
-grown_puts old new more is = record { written = is; fits = tt; room = refl; grows = refl }
+    Puts record { written = old; room = None; grows = true; below = [] } record { written = new; room = None; grows = true; below = [] } more
+grown_puts old new more is = record { written = is; fits = tt; room = refl; grows = refl; below = refl }
 
 room_on : (a b c : Option ℕ) (m n : ℕ) → b ≡ option_map (λ r. r - m) a → c ≡ option_map (λ r. r - n) b → c ≡ option_map (λ r. r - (m + n)) a
 room_on None b c m n p q = rw q (rw p refl)
@@ -41,7 +42,16 @@ puts_on a b c x y p q = record {
   fits = rw (length-append x y) (fits_on a.room b.room (length x) (length y) p.room p.fits q.fits);
   room = rw (length-append x y) (room_on a.room b.room c.room (length x) (length y) p.room q.room);
   grows = q.grows ∙ p.grows;
+  below = q.below ∙ p.below;
 }
+
+-- ---- sinks that keep nothing
+pub counted : (old more new : List Bool) (count need : ℕ) → count ≡ length old → need ≡ length more → new ≡ old ++ more → count + need ≡ length new
+counted old more new count need is size all = sym (ap length all ∙ length-append old more ∙ omega arith)
+
+-- what is put through a sink around another stands behind what stood in that one
+pub through : (old new stood put more all : List Bool) → new ≡ old ++ more → old ≡ stood ++ put → all ≡ put ++ more → new ≡ stood ++ all
+through old new stood put more all is was joined = is ∙ ap (λ (t : List Bool). t ++ more) was ∙ append_assoc stood put more ∙ sym (ap (λ (t : List Bool). stood ++ t) joined)
 
 -- ---- writers that stop
 room_same : (a : Option ℕ) → a ≡ option_map (λ r. r - 0) a
@@ -53,7 +63,7 @@ fits_none None = tt
 fits_none (Some r) = omega arith
 
 puts_none : (a : State) → Puts a a []
-puts_none a = record { written = sym (append-nil a.written); fits = fits_none a.room; room = room_same a.room; grows = refl }
+puts_none a = record { written = sym (append-nil a.written); fits = fits_none a.room; room = room_same a.room; grows = refl; below = refl }
 
 cause_here : (a : State) (count total : ℕ) (fault : SinkFault) → Refuses a count fault → count ≤ total → StopsFor a (total - 0) fault
 cause_here a count total (Full need room) h inside = let needed = h.0 in (h.1, h.2, omega arith)
@@ -116,3 +126,10 @@ stops_early a b front more fault s =
       front = rw taken s.front;
       cause = more_left b (length front - s.count) (length (front ++ more) - n) fault s.cause (omega (arith, length-append front more));
     }
+
+-- a second put that is refused
+pub second_stops : {T : Type 0} (a b c : State) (front more bits : List Bool) (r : Result T SinkFault) → Puts a b front → IfErr r (Refuses b (length more)) → OnErr r (c ≡ b) → bits ≡ front ++ more →
+    IfErr r (Stops a c bits)
+second_stops a b c front more bits (Ok x) puts refused same is = tt
+second_stops a b c front more bits (Err e) puts refused same is =
+    rw (is, same) (stops_later a b b front more e puts (stops_here b more (length more) e refused (omega arith)))

@@ -4,5 +4,6 @@ pub mod Filling
 pub mod Prbs
 pub mod PrbsBlocks
 pub mod Sink
+pub mod Source
 pub mod Register
 pub use Rattle.terms.specs.Bits

@@ -75,9 +75,9 @@ impl BitBuf {
 }
 
 impl BitSink for BitBuf {
-    ghost use Rattle.std.specs.Prelude.{None, true};
+    ghost use Rattle.std.specs.Prelude.{[], None, true};
 
-    ghost state = { λ b. record { written = b; room = None; grows = true } };
+    ghost state = { λ b. record { written = b; room = None; grows = true; below = [] } };
 
     fn put(&mut self, value: u64, width: u32) -> Result<(), SinkFault> {
         let used = self.used;

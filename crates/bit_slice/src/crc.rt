@@ -16,8 +16,25 @@ const LOW: u32 = 0x04C1_1DB7;
 pub fn crc32(bits: BitSlice<'_>) -> u32
     ensures { result ≡ crc32_of bits.entry }
 {
+    after_slice(u32::MAX, &bits)
+}
+
+pub(crate) fn after_slice(register: u32, bits: &BitSlice<'_>) -> u32
+    ensures { result ≡ register_of 32 LOW register bits.now }
+{
     let (bytes, rest) = bits.split_bytes();
-    after_bits(after_bytes(u32::MAX, bytes), &rest)
+    after_bits(after_bytes(register, bytes), &rest)
+}
+
+pub(crate) fn after_field(register: u32, value: u64, width: u32) -> u32
+    requires { width ≤ 64 }
+    ensures { result ≡ register_of 32 LOW register (field width value) }
+{
+    let bytes = value.to_be_bytes();
+    after_slice(
+        register,
+        &BitSlice::whole(&bytes).sub(64 - width as usize, width as usize),
+    )
 }
 
 // The bits may begin within a byte.

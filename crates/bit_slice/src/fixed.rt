@@ -53,9 +53,9 @@ impl<const N: usize> FixedBits<N> {
 }
 
 impl<const N: usize> BitSink for FixedBits<N> {
-    ghost use Rattle.std.specs.Prelude.{◌-◌, ◌*◌, length, Some, false};
+    ghost use Rattle.std.specs.Prelude.{◌-◌, ◌*◌, length, [], Some, false};
 
-    ghost state = { λ s. record { written = s; room = Some (8 * N - length s); grows = false } };
+    ghost state = { λ s. record { written = s; room = Some (8 * N - length s); grows = false; below = [] } };
 
     fn put(&mut self, value: u64, width: u32) -> Result<(), SinkFault> {
         let room = self.room();

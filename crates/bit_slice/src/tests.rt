@@ -1,5 +1,8 @@
 // Expected values come from Python: its integers of any size, and for CRCs of whole bytes zlib, with bits turned round.
-use crate::{BitBuf, BitSink, BitSlice, FixedBits, Prbs, PrbsBlocks, SinkFault, crc8, crc32};
+use crate::{
+    BitBuf, BitCount, BitReader, BitSink, BitSlice, BitSource, CrcSink, FixedBits, Joined,
+    JoinedReader, Prbs, PrbsBlocks, Short, SinkFault, crc8, crc32, put_joined, same_bits,
+};
 
 const DATA: [u8; 24] = [
     0xC3, 0xA5, 0x19, 0x7E, 0x02, 0xF0, 0xD4, 0x8B, 0x36, 0x5D, 0x0E, 0x91, 0xAB, 0x7C, 0x64, 0xFF,
@@ -169,4 +172,92 @@ fn a_sink_that_fills_up(rt: HostRuntime) {
     let mut out = [0; 46];
     bits.copy_bytes(&mut out);
     assert!(rt; out == ROW);
+}
+
+#[test]
+fn room_for_a_hundred_and_twenty_seven_bits(rt: HostRuntime) {
+    let whole = BitSlice::whole(&DATA);
+    let full = SinkFault::Full {
+        need: 127,
+        room: 120,
+    };
+    assert!(rt; FixedBits::<15>::new().put_slice(whole.sub(3, 127)) == Err(full));
+    assert!(rt; FixedBits::<16>::new().put_slice(whole.sub(3, 127)) == Ok(()));
+    let mut count = BitCount::new();
+    assert!(rt; count.put_slice(whole.sub(3, 120)) == Ok(()) && count.put(0, 7) == Ok(()));
+    assert!(rt; count.bits() == 127);
+}
+
+// Puts of odd widths, in all a number of bytes.
+#[test]
+fn crc_of_what_goes_through(rt: HostRuntime) {
+    let mut sink = CrcSink::new(BitBuf::new(rt.alloc()));
+    assert!(rt; put_row(&mut sink) == Ok(()) && sink.put(0x3F, 6) == Ok(()));
+    assert_eq!(rt; sink.crc(), 0x4F1C_0C17);
+    match sink.finish() {
+        Ok(inner) => {
+            let bits = inner.as_slice();
+            assert!(rt; bits.len() == 400);
+            assert_eq!(rt; bits.field(368, 32), 0x4F1C_0C17);
+        }
+        Err(_) => assert!(rt; false),
+    }
+}
+
+#[test]
+fn a_crc_without_room(rt: HostRuntime) {
+    let whole = BitSlice::whole(&DATA);
+    let mut sink = CrcSink::new(FixedBits::<9>::new());
+    assert!(rt; sink.put_slice(whole.sub(3, 7)) == Ok(()) && sink.put(1, 1) == Ok(()));
+    assert!(rt; sink.put_slice(whole.sub(20, 48)) == Ok(()));
+    assert_eq!(rt; sink.crc(), 0x4460_98C5);
+    match sink.finish() {
+        Ok(_) => assert!(rt; false),
+        Err((inner, fault)) => {
+            assert_eq!(rt; fault, SinkFault::Full { need: 32, room: 16 });
+            assert!(rt; inner.as_slice().len() == 56);
+        }
+    }
+}
+
+// The bits are 10110011.
+#[test]
+fn takes_from_a_slice(rt: HostRuntime) {
+    let mut source = BitReader::new(BitSlice::whole(&DATA).sub(60, 8));
+    assert!(rt; source.take(3) == Ok(0b101));
+    assert!(rt; source.take(6) == Err(Short { left: 5 }));
+    match source.take_slice(5) {
+        Ok(bits) => {
+            assert!(rt; bits.len() == 5);
+            assert_eq!(rt; bits.field(0, 5), 0b10011);
+        }
+        Err(_) => assert!(rt; false),
+    }
+    assert!(rt; source.take(1) == Err(Short { left: 0 }));
+}
+
+// The bits are 111100 and 0100011010.
+#[test]
+fn two_runs_of_bits(rt: HostRuntime) {
+    let whole = BitSlice::whole(&DATA);
+    let joined = Joined::new(whole.sub(40, 6), whole.sub(90, 10));
+    assert!(rt; joined.len() == 16 && !joined.is_empty());
+    assert!(rt; joined.field(0, 16) == 0xF11A && joined.field(4, 4) == 1);
+    assert!(rt; joined.field(1, 5) == 0b11100 && joined.field(7, 3) == 0b100);
+    let mut sink = FixedBits::<2>::new();
+    assert!(rt; put_joined(&mut sink, joined.sub(0, 16)) == Ok(()));
+    assert!(rt; same_bits(&sink.as_slice(), &BitSlice::whole(&[0xF1, 0x1A])));
+    assert!(rt; !same_bits(&sink.as_slice(), &BitSlice::whole(&[0xF1, 0x1B])));
+}
+
+#[test]
+fn takes_from_two_runs(rt: HostRuntime) {
+    let whole = BitSlice::whole(&DATA);
+    let mut source = JoinedReader::new(Joined::new(whole.sub(40, 6), whole.sub(90, 10)));
+    assert!(rt; source.take(4) == Ok(0xF));
+    match source.take_slice(8) {
+        Ok(bits) => assert_eq!(rt; bits.field(0, 8), 0x11),
+        Err(_) => assert!(rt; false),
+    }
+    assert!(rt; source.take(5) == Err(Short { left: 4 }) && source.take(4) == Ok(0xA));
 }

@@ -138,10 +138,13 @@ take-field w n rest = ap (λ (k : ℕ). take k (field w n ++ rest)) (sym (length
 pub drop-field : (w n : ℕ) (rest : List Bool) → drop w (field w n ++ rest) ≡ rest
 drop-field w n rest = ap (λ (k : ℕ). drop k (field w n ++ rest)) (sym (length-field w n)) ∙ drop-append_seam (field w n) rest
 
+-- the same, by the width
+pub field-number : (width : ℕ) (bits : List Bool) → length bits ≡ width → field width (number_of bits) ≡ bits
+field-number width bits size = ap (λ (k : ℕ). field k (number_of bits)) (sym size) ∙ field-number_of bits
+
 -- a field that stands in bits holds the number that it spells
 pub field-number_at : (bits : List Bool) (at width : ℕ) → at + width ≤ length bits → field width (number_of (take width (drop at bits))) ≡ take width (drop at bits)
-field-number_at bits at width h =
-    ap (λ (k : ℕ). field k (number_of (take width (drop at bits)))) (sym (length-part bits at width h)) ∙ field-number_of (take width (drop at bits))
+field-number_at bits at width h = field-number width (take width (drop at bits)) (length-part bits at width h)
 
 pub drop-bits_of : (n : ℕ) (bytes : List ℕ) → drop (8 * n) (bits_of bytes) ≡ bits_of (drop n bytes)
 drop-bits_of zero bytes = refl
@@ -236,6 +239,11 @@ pub number_of-bytes : (byte : ℕ) (bytes : List ℕ) → byte < 256 → number_
 number_of-bytes byte bytes small =
     number_of-append (field 8 byte) (bits_of bytes)
     ∙ rw (length-bits_of bytes) (ap (λ (n : ℕ). n * 2 ^ (8 * length bytes) + number_of (bits_of bytes)) (number_of-field 8 byte small))
+
+-- the number of four bytes
+pub four_bytes : (a b c d : ℕ) → a < 256 → b < 256 → c < 256 → d < 256 → number_of (bits_of (a ∷ b ∷ c ∷ d ∷ [])) ≡ a * 2 ^ 24 + b * 2 ^ 16 + c * 2 ^ 8 + d
+four_bytes a b c d fits_a fits_b fits_c fits_d =
+    omega (arith, number_of-bytes a (b ∷ c ∷ d ∷ []) fits_a, number_of-bytes b (c ∷ d ∷ []) fits_b, number_of-bytes c (d ∷ []) fits_c, number_of-bytes d [] fits_d)
 
 -- a wide field in two
 pub field-add : (a b n : ℕ) → field (a + b) n ≡ field a (n / 2 ^ b) ++ field b n

@@ -1,12 +1,6 @@
-use Rattle.std.proofs.Common.{ap, sym, ◌∙◌}
-use Rattle.terms.specs.Bits.{bits_of}
-use Rattle.bit_slice.specs.Register.{register}
+use Rattle.std.proofs.Common.{sym, ◌∙◌}
 use Rattle.bit_slice.proofs.CrcLemmas.{crc32_of_is}
-use Rattle.bit_slice.proofs.ZerosLemmas.{register-append}
 use Rattle.bit_slice.proofs.crc.crc32.Goals as goal
 
 pub returns : goal.returns
-returns c =
-    rw (c.after_bits.ensures, c.after_bytes.ensures)
-    (sym (register-append 32 0x04C1_1DB7 0xFFFF_FFFF (bits_of c.split_bytes-rest.result.0.now) c.split_bytes-rest.result.1)
-    ∙ ap (register 32 0x04C1_1DB7 0xFFFF_FFFF) c.split_bytes-rest.ensures ∙ sym (crc32_of_is c.args.bits))
+returns c = c.after_slice.ensures ∙ sym (crc32_of_is c.args.bits)
