@@ -1,13 +1,13 @@
 -- What puts do to sinks, and one put after another.
 use Rattle.std.proofs.Common.{◌≡◌, ℕ, ◌+◌, ◌-◌, ◌<◌, ◌≤◌, Bool, true, false, List, [], ◌++◌, length, take, drop, Option, Some, None, refl, ap, sym, ◌∙◌, arith, append_assoc, append-nil, length-append}
 use Rattle.std.proofs.lemmas.List.{length-take, take_at, take-append-le, take-append-drop}
-use Rattle.std.specs.Prelude.{IfSome, min, Result, Ok, Err, IfErr, OnErr}
+use Rattle.std.specs.Prelude.{IfSome, min, slice_index_or, Result, Ok, Err, IfErr, OnErr}
 use Rattle.std.specs.Option.{option_map}
 use Rattle.std.proofs.Math.Seq.{take-append-add}
 use Rattle.bit_slice.specs.declared.sink.SinkFault.{SinkFault}
 use Rattle.bit_slice.specs.declared.sink.SinkFault.TheVariants.{Full, OutOfMemory}
-use Rattle.bit_slice.specs.Sink.{State, Puts, Refuses, StopsFor, Stops}
-use Rattle.bit_slice.specs.Laws.{StopsHere, StopsEarly, StopsLater, StopsRightly, PutsFit}
+use Rattle.bit_slice.specs.Sink.{State, Puts, Refuses, StopsFor, Stops, unwrapped}
+use Rattle.bit_slice.specs.Laws.{StopsHere, StopsEarly, StopsLater, StopsRightly, PutsFit, PutsThrough, StopsThrough}
 
 -- a sink with so much room in all
 pub fixed_puts : (all : ℕ) (old new more : List Bool) → new ≡ old ++ more → length old + length more ≤ all →
@@ -133,3 +133,26 @@ pub second_stops : {T : Type 0} (a b c : State) (front more bits : List Bool) (r
 second_stops a b c front more bits (Ok x) puts refused same is = tt
 second_stops a b c front more bits (Err e) puts refused same is =
     rw (is, same) (stops_later a b b front more e puts (stops_here b more (length more) e refused (omega arith)))
+
+-- ---- a sink around another one
+pub puts_through : PutsThrough
+puts_through s t bits p =
+    let first : List (List Bool) → List Bool = λ below. slice_index_or below 0 [] in
+    record {
+      written = ap (λ (below : List (List Bool)). first below ++ t.written) p.below ∙ ap (λ (more : List Bool). s.written ++ more) p.written;
+      fits = p.fits;
+      room = p.room;
+      grows = p.grows;
+      below = ap (λ (below : List (List Bool)). drop 1 below) p.below;
+    }
+
+cause_through : (t : State) (left : ℕ) (fault : SinkFault) → StopsFor t left fault → StopsFor (unwrapped t) left fault
+cause_through t left (Full need room) h = h
+cause_through t left OutOfMemory h = h
+
+pub stops_through : StopsThrough
+stops_through s t bits fault stops = record {
+  count = stops.count;
+  front = puts_through s t (take stops.count bits) stops.front;
+  cause = cause_through t (length bits - stops.count) fault stops.cause;
+}

@@ -3,7 +3,7 @@ use Rattle.std.specs.Prelude.{◌≡◌, ◌+◌, ◌<◌, ◌≤◌, ℕ, List,
 use Rattle.bit_slice.specs.Crc.{HasDegree, IsRemainder, dividend, ones, crc32_generator, crc32_of, crc8_generator, crc8_of}
 use Rattle.bit_slice.specs.declared.sink.SinkFault.{SinkFault}
 use Rattle.bit_slice.specs.declared.sink.SinkFault.TheVariants.{Full, OutOfMemory}
-use Rattle.bit_slice.specs.Sink.{State, Puts, Refuses, Stops}
+use Rattle.bit_slice.specs.Sink.{State, Puts, Refuses, Stops, wrapped, unwrapped}
 use Rattle.bit_slice.specs.Prbs.{plus, prbs, sequence}
 
 -- The CRC-32 of w is the remainder of w * X^32 + (X^31 + .. + 1) * X^(length w) by the generator; so it is below 2^32.
@@ -49,3 +49,11 @@ IsCause a count OutOfMemory = (a.room ≡ None) × (a.grows ≡ true)
 
 abbrev pub StopsRightly : Type 0
 StopsRightly = (a b : State) (bits : List Bool) (fault : SinkFault) → Stops a b bits fault → IsCause a (length bits) fault
+
+-- What is put through a sink around another one is put to that one.
+abbrev pub PutsThrough : Type 0
+PutsThrough = (s t : State) (bits : List Bool) → Puts (wrapped s) t bits → Puts s (unwrapped t) bits
+
+-- A writer that stopped at a sink around another one stopped at that one.
+abbrev pub StopsThrough : Type 0
+StopsThrough = (s t : State) (bits : List Bool) (fault : SinkFault) → Stops (wrapped s) t bits fault → Stops s (unwrapped t) bits fault

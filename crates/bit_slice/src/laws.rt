@@ -1,5 +1,5 @@
 //! Laws of the definitions: functions with nothing to do, whose contracts say what holds.
-ghost use Rattle.bit_slice.specs.Laws.{CrcIsRemainder, Crc8IsRemainder, RemainderIsUnique, PrbsRecurs, PutsFit, PutsJoin, StopsHere, StopsEarly, StopsLater, StopsRightly};
+ghost use Rattle.bit_slice.specs.Laws.{CrcIsRemainder, Crc8IsRemainder, RemainderIsUnique, PrbsRecurs, PutsFit, PutsJoin, StopsHere, StopsEarly, StopsLater, StopsRightly, PutsThrough, StopsThrough};
 
 /// CRC-32 is the remainder of a polynomial.
 pub fn crc32_law()
@@ -35,4 +35,10 @@ pub fn stops_law()
     ensures later { StopsLater }
     ensures full { StopsRightly }
     ensures fit { PutsFit }
+{}
+
+/// What a writer did to a [`crate::CrcSink`], it did to the inner sink.
+pub fn wrapped_law()
+    ensures puts { PutsThrough }
+    ensures stops { StopsThrough }
 {}

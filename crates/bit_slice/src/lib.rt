@@ -32,7 +32,7 @@ pub use crc_sink::CrcSink;
 pub use fixed::FixedBits;
 pub use joined::{Joined, put_joined};
 pub use joined_reader::JoinedReader;
-pub use laws::{crc8_law, crc32_law, prbs_law, puts_law, remainder_law, stops_law};
+pub use laws::{crc8_law, crc32_law, prbs_law, puts_law, remainder_law, stops_law, wrapped_law};
 pub use memory::OutOfMemory;
 pub use prbs::Prbs;
 pub use prbs_blocks::PrbsBlocks;
