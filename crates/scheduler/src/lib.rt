@@ -1,0 +1,13 @@
+//! Where the PLPs of a frame stand (EN 302 755, clause 8.3.6).
+#![tactic(auto)]
+
+mod frame;
+mod laws;
+mod numbers;
+
+pub use frame::shape;
+pub use laws::field_law;
+pub use numbers::Shape;
+
+#[cfg(test)]
+mod tests;
