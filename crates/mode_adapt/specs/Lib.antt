@@ -1,0 +1,12 @@
+pub mod UserPackets
+pub mod Queue
+pub mod Matype
+pub mod Blocks
+pub mod Laws
+pub use Rattle.ts_packet.specs.Null
+pub use Rattle.terms.specs.Bits
+pub use Rattle.bb_frame.specs.BasebandFrame
+pub use Rattle.plp_config.specs.Capacity
+pub use Rattle.plp_config.specs.Plps
+pub use Rattle.plp_config.specs.SlotTime
+pub use Rattle.null_delete.specs.Deletion

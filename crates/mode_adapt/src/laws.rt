@@ -1,0 +1,42 @@
+// Laws of the definitions. Their functions do nothing.
+ghost use Rattle.mode_adapt.specs.Laws.{BacklogLaw, SentLaw, SentWithin, BeginLaw, EndLaw, PlaceLaw, JoinLaw, CountLaw};
+
+/// After each epoch less than one user packet waits.
+pub fn backlog_law()
+    ensures { BacklogLaw }
+{}
+
+/// In epoch 0 nothing is sent, and in each later one what waits, up to the capacity.
+pub fn sent_law()
+    ensures { SentLaw }
+{}
+
+/// What is sent has arrived, and it never falls.
+pub fn sent_within()
+    ensures { SentWithin }
+{}
+
+/// A user packet begins in the epoch in which its slot ends.
+pub fn begin_law()
+    ensures { BeginLaw }
+{}
+
+/// It ends there or in the next epoch.
+pub fn end_law()
+    ensures { EndLaw }
+{}
+
+/// The user packet of a kept slot stands at its place in the string.
+pub fn place_law()
+    ensures { PlaceLaw }
+{}
+
+/// The data fields of an epoch are together what it sends.
+pub fn join_law()
+    ensures { JoinLaw }
+{}
+
+/// An epoch has no more blocks than make its capacity.
+pub fn count_law()
+    ensures { CountLaw }
+{}
