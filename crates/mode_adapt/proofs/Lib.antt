@@ -4,3 +4,9 @@ pub mod BacklogLemmas
 pub mod EpochLemmas
 pub mod PlaceLemmas
 pub mod CutLemmas
+pub mod SettingsLemmas
+pub mod FirstLemmas
+pub mod SameLemmas
+pub mod OfferLemmas
+pub mod SendLemmas
+pub mod EventLemmas

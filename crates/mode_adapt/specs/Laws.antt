@@ -1,16 +1,23 @@
 -- Laws of the queue and of the blocks, for epochs of any number of ticks and for whichever slots are kept.
 use Rattle.std.specs.Prelude.{◌≡◌, ◌<◌, ◌≤◌, ℕ, ◌+◌, ◌-◌, ◌*◌, Bool, true, List, length, take, drop, min}
 use Rattle.std.specs.List.{flat_map}
+use Rattle.plp_config.specs.Capacity.{IsPlan}
 use Rattle.plp_config.specs.SlotTime.{InRange}
+use Rattle.plp_config.specs.declared.config.Config.{Config}
 use Rattle.mode_adapt.specs.Queue.{Rates, arrived, sent, sent_before}
 use Rattle.mode_adapt.specs.UserPackets.{keeps_of, user_packet, up_string, up_place}
-use Rattle.mode_adapt.specs.Blocks.{block_places}
+use Rattle.mode_adapt.specs.Blocks.{rates_of, block_places}
 
 -- An epoch carries the bytes that the stream brings in it.
 pub record IsWithin (r : Rates) : Type 0 where
   pub slot : 1 ≤ r.num
   pub packet : 1 ≤ r.up_len
   pub carried : r.up_len * r.epoch * r.den ≤ r.capacity * r.num
+
+-- The frames of every plan do, and each carries a user packet.
+abbrev pub WithinLaw : Type 0
+WithinLaw = (c : Config) (plp : ℕ) → IsPlan c → plp < length c.plps
+    → IsWithin (rates_of c plp c.ticks) × ((rates_of c plp c.ticks).up_len ≤ (rates_of c plp c.ticks).capacity)
 
 -- After each epoch less than one user packet waits.
 abbrev pub BacklogLaw : Type 0

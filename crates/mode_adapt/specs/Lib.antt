@@ -2,6 +2,11 @@ pub mod UserPackets
 pub mod Queue
 pub mod Matype
 pub mod Blocks
+pub mod Events
+pub mod Settings
+pub mod StandsFor
+pub mod Pieces
+pub mod Steps
 pub mod Laws
 pub use Rattle.ts_packet.specs.Null
 pub use Rattle.terms.specs.Bits

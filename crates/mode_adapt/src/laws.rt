@@ -1,5 +1,15 @@
 // Laws of the definitions. Their functions do nothing.
-ghost use Rattle.mode_adapt.specs.Laws.{BacklogLaw, SentLaw, SentWithin, BeginLaw, EndLaw, PlaceLaw, JoinLaw, CountLaw};
+ghost use Rattle.mode_adapt.specs.Laws.{WithinLaw, BacklogLaw, SentLaw, SentWithin, BeginLaw, EndLaw, PlaceLaw, JoinLaw, CountLaw};
+
+use plp_config::{block_law, length_law};
+
+/// A frame carries what the stream brings in it, and at least one user packet.
+pub fn within_law()
+    ensures { WithinLaw }
+{
+    length_law();
+    block_law();
+}
 
 /// After each epoch less than one user packet waits.
 pub fn backlog_law()

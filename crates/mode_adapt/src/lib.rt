@@ -1,8 +1,17 @@
 //! Mode adaptation of one PLP (EN 302 755, clause 5.1): its packets become baseband frames.
 #![tactic(auto)]
 
+mod block;
+mod chain;
+mod frame;
+mod front;
 mod laws;
+mod matype;
+mod settings;
 
+pub use chain::Chain;
+pub use frame::FrameBytes;
 pub use laws::{
     backlog_law, begin_law, count_law, end_law, join_law, place_law, sent_law, sent_within,
+    within_law,
 };

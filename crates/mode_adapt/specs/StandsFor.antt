@@ -1,0 +1,48 @@
+-- What a chain stands for.
+use Rattle.std.specs.Prelude.{◌≡◌, ◌≤◌, ◌<◌, ℕ, ◌-◌, ◌*◌, List, length, drop}
+use Rattle.std.specs.Int.{div_ceil}
+use Rattle.plp_config.specs.Capacity.{IsPlan, up_bytes}
+use Rattle.plp_config.specs.Plps.{plp_at}
+use Rattle.plp_config.specs.SlotTime.{slots_by}
+use Rattle.plp_config.specs.declared.config.Config.{Config}
+use Rattle.null_delete.specs.Deletion.{kept_slots, packet_at}
+use Rattle.null_delete.specs.StandsFor.{DeleterStandsFor}
+use Rattle.mode_adapt.specs.declared.chain.Chain.{Chain}
+use Rattle.mode_adapt.specs.Blocks.{rates_of, plp_keeps, plp_string}
+use Rattle.mode_adapt.specs.Queue.{sent_before}
+use Rattle.mode_adapt.specs.Settings.{AreSettings}
+use Rattle.mode_adapt.specs.Events.{Event, offered, cuts}
+
+-- It has sent its bytes before place `sent` of the string of the packets, and holds the rest with the slots of the user packets
+-- that begin there.
+pub record HoldsRest (chain : Chain) (c : Config) (plp : ℕ) (packets : List (List ℕ)) : Type 0 where
+  pub pending : chain.pending.items ≡ drop chain.sent (plp_string c plp (packet_at packets) (length packets))
+  pub slots : chain.slots.items ≡ drop (div_ceil chain.sent (up_bytes c plp)) (kept_slots (plp_keeps c plp (packet_at packets)) (length packets))
+  pub behind : chain.sent ≤ length (plp_string c plp (packet_at packets) (length packets))
+
+-- It was given these packets of the PLP at a place, and has sent what is sent before frame m.
+pub record Holds (chain : Chain) (c : Config) (plp : ℕ) (packets : List (List ℕ)) (m : ℕ) : Type 0 where
+  pub plan : IsPlan c
+  pub place : plp < length c.plps
+  pub settings : AreSettings chain.settings c plp
+  pub slot : chain.slot ≡ length packets
+  pub deleter : DeleterStandsFor chain.deleter (plp_at c.plps plp).delete packets
+  pub whole : (k : ℕ) → length (packet_at packets k) ≡ 188
+  pub sent : chain.sent ≡ sent_before (rates_of c plp c.ticks) (plp_keeps c plp (packet_at packets)) m
+  pub rest : HoldsRest chain c plp packets
+  pub from : slots_by c plp ((m - 1) * c.ticks) ≤ length packets
+  pub to : length packets ≤ slots_by c plp (m * c.ticks)
+
+-- its configuration and the place of its PLP, and what was done to it, in turn
+unfoldable pub ChainStandsFor : Chain → Config → ℕ → List Event → Type 0
+ChainStandsFor chain c plp events = Holds chain c plp (offered events) (cuts events)
+
+-- the slot of the next packet
+abbrev pub slot_of : Chain → ℕ
+slot_of chain = chain.slot
+
+-- the bytes of the packets offered that are not sent before the frame under way
+abbrev pub waiting : Config → ℕ → List Event → ℕ
+waiting c plp events =
+    length (plp_string c plp (packet_at (offered events)) (length (offered events)))
+    - sent_before (rates_of c plp c.ticks) (plp_keeps c plp (packet_at (offered events))) (cuts events)
