@@ -15,3 +15,6 @@ pub use laws::{
     backlog_law, begin_law, count_law, end_law, join_law, place_law, sent_law, sent_within,
     within_law,
 };
+
+#[cfg(test)]
+mod tests;

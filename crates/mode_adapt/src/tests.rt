@@ -1,0 +1,238 @@
+// Expected values come from worked examples and from a Python program that applies the rules to the whole list of packets.
+ghost use Rattle.std.specs.Prelude.{◌≡◌, ◌<◌, ◌≤◌, length};
+
+use crate::{Chain, FrameBytes};
+use bb_frame::scramble;
+use bit_slice::OutOfMemory;
+use plp_config::{
+    Band, Config, FecSize, L1Numbers, Modulation, Plan, Plp, PlpKind, PlpList, Rate, fits, validate,
+};
+use std::alloc::Global;
+use std::process::Abort;
+use std::test::Fail;
+use ts_packet::TsPacket;
+
+// A small network: 8 MHz, frames of 100,000 ticks and one PLP, whose slots last some 6,875 ticks.
+const PLP: Plp = Plp {
+    id: 9,
+    kind: PlpKind::Type1,
+    group: 1,
+    rate: Rate::R1_2,
+    modulation: Modulation::Qpsk,
+    fec: FecSize::Short,
+    rotation: false,
+    blocks: 4,
+    interleave: 1,
+    delete: true,
+    bits_per_second: 2_000_000,
+};
+
+const L1: L1Numbers = L1Numbers {
+    bwt_ext: 0,
+    s2: 6,
+    guard: 1,
+    papr: 0,
+    l1_mod: 1,
+    l1_cod: 0,
+    l1_fec: 0,
+    post_size: 1_000,
+    pilot: 6,
+    tx_id: 0,
+    symbols: 59,
+    regen: 0,
+};
+
+const TICKS: u32 = 100_000;
+
+fn network(alloc: Global, plps: &[Plp]) -> Result<Config, OutOfMemory> {
+    let mut list = PlpList::new(alloc);
+    for plp in plps {
+        list.push(*plp)?;
+    }
+    Ok(Config {
+        band: Band::Mhz8,
+        ticks: TICKS,
+        frames: 2,
+        cells: 80_000,
+        seconds: 700_000_000,
+        subseconds: 0,
+        utco: 5,
+        pid: 256,
+        cell_id: 1,
+        network_id: 2,
+        system_id: 3,
+        frequency: 474_000_000,
+        l1: L1,
+        sub_slices: 1,
+        plps: list,
+    })
+}
+
+// A chain with the slot of its next packet, for the first PLP of a plan.
+#[derive(Drop)]
+struct Feed {
+    plan: Plan,
+    chain: Chain,
+    slot: u64,
+    frame: u32,
+    ghost same: { slot_of chain ≡ slot },
+    ghost one: { 1 ≤ length plan.plps },
+}
+
+ghost use Rattle.mode_adapt.specs.StandsFor.{slot_of};
+
+fn packet(null: bool) -> TsPacket {
+    if null {
+        return TsPacket::canonical();
+    }
+    let mut bytes = *TsPacket::canonical().as_array();
+    bytes[2] = 0xFE;
+    TsPacket::from_array(bytes)
+}
+
+impl Feed {
+    fn new(rt: &(impl Abort + AllocGlobal), plps: &[Plp]) -> Result<Feed, OutOfMemory> {
+        let Ok(valid) = validate(network(rt.alloc(), plps)?) else {
+            panic!(rt; "a rule fails");
+        };
+        let Ok(plan) = fits(valid) else {
+            panic!(rt; "a test fails");
+        };
+        assert!(rt; plan.config().plps.len() > 0);
+        let chain = Chain::open(rt.alloc(), &plan, 0)?;
+        Ok(Feed {
+            plan,
+            chain,
+            slot: 0,
+            frame: 0,
+        })
+    }
+
+    fn offer(&mut self, packet: &TsPacket) -> Result<(), OutOfMemory> {
+        if self.slot >= 1 << 54 {
+            return Err(OutOfMemory);
+        }
+        self.chain.offer(packet)?;
+        self.slot += 1;
+        Ok(())
+    }
+
+    // The blocks of the next frame, where the packets of the slots from one on and before another are not null, and all others are.
+    fn next_frame(&mut self, from: u64, to: u64) -> Result<FrameBytes, OutOfMemory> {
+        let end = self
+            .plan
+            .slots_by(0, u64::from(self.frame) * u64::from(TICKS));
+        for slot in self.slot..end {
+            self.offer(&packet(slot < from || to <= slot))?;
+        }
+        self.frame = self.frame.wrapping_add(1);
+        self.chain.cut()
+    }
+}
+
+// Appends the data field of a block, as long as DFL says.
+fn append_field(bytes: &mut Vec<u8>, block: &[u8]) -> Result<(), OutOfMemory> {
+    if let [_, _, _, _, high, low, _, _, _, _, rest @ ..] = block {
+        let len = usize::from(u16::from_be_bytes([*high, *low]) / 8);
+        bytes.extend_from_slice(&rest[..len.min(rest.len())])?;
+    }
+    Ok(())
+}
+
+// The bytes that the blocks of a frame carry.
+fn carried(alloc: Global, frame: &FrameBytes) -> Result<Vec<u8>, OutOfMemory> {
+    let mut bytes = Vec::new(alloc);
+    for place in 0..frame.len() {
+        if let Some(block) = frame.get(place) {
+            append_field(&mut bytes, block)?;
+        }
+    }
+    Ok(bytes)
+}
+
+#[test]
+fn backlogs_of_a_loaded_network(rt: HostRuntime) -> Result<(), Fail> {
+    let plp = Plp {
+        blocks: 3,
+        bits_per_second: 1_906_000,
+        ..PLP
+    };
+    let mut feed = Feed::new(&rt, &[plp])?;
+    for (bytes, backlog) in [
+        (0, 0),
+        (2_444, 0),
+        (2_607, 25),
+        (2_607, 50),
+        (2_607, 75),
+        (2_607, 100),
+        (2_607, 125),
+        (2_607, 150),
+        (2_594, 0),
+    ] {
+        let frame = feed.next_frame(0, 110)?;
+        assert_eq!(rt; carried(rt.alloc(), &frame)?.len(), bytes);
+        assert_eq!(rt; feed.chain.backlog(), backlog);
+    }
+    Ok(())
+}
+
+#[test]
+fn blocks_of_the_first_frames(rt: HostRuntime) -> Result<(), Fail> {
+    let mut feed = Feed::new(&rt, &[PLP])?;
+    assert!(rt; feed.next_frame(0, 20)?.is_empty());
+    let frame = feed.next_frame(0, 20)?;
+    assert_eq!(rt; frame.len(), 4);
+    assert!(rt; frame.get(4).is_none());
+    assert_eq!(rt; carried(rt.alloc(), &frame)?.len(), 2_632);
+    let first = frame.get(0).unwrap_or(&[]);
+    assert_eq!(rt; first.len(), 879);
+    assert!(rt; first.starts_with(&[0xFC, 0x00, 0x80, 0x00, 0x1B, 0x28, 0x00, 0x00, 0x00, 0xFA, 0x1F, 0xFE, 0x10]));
+    // The second user packet that begins in it begins in the second block, 71 bytes on, in slot 5.
+    let second = frame.get(1).unwrap_or(&[]);
+    assert!(rt; second.starts_with(&[0xFC, 0x00, 0x80, 0x86, 0x1B, 0x28, 0x49, 0x02, 0x38, 0x82]));
+    let last = frame.get(3).unwrap_or(&[]);
+    assert!(rt; last.starts_with(&[0xFC, 0x00, 0x80, 0x00, 0x00, 0xC8, 0x00, 0xFF, 0xFF, 0x19]));
+    assert!(rt; last.len() == 879 && last[34] == 0 && last[33] == 0xFF && last[878] == 0);
+
+    let mut scrambled = [0; 879];
+    scrambled.copy_from_slice(first);
+    scramble(&mut scrambled);
+    assert!(rt; scrambled.starts_with(&[0xFF, 0xF6]));
+    Ok(())
+}
+
+#[test]
+fn a_null_packet_behind_255_is_sent(rt: HostRuntime) -> Result<(), Fail> {
+    let mut feed = Feed::new(&rt, &[PLP])?;
+    let mut bytes = Vec::new(rt.alloc());
+    // 261 slots are over by the tick at which frame 18 begins.
+    for _ in 0..19 {
+        let frame = feed.next_frame(256, 257)?;
+        bytes.extend_from_slice(&carried(rt.alloc(), &frame)?)?;
+    }
+    assert_eq!(rt; bytes.len(), 376);
+    assert!(rt; bytes.starts_with(&[0x1F, 0xFF, 0x10, 0xFF]));
+    assert_eq!(rt; &bytes[186..191], [0xFF, 255, 0x1F, 0xFE, 0x10].as_slice());
+    assert_eq!(rt; bytes[375], 0);
+    Ok(())
+}
+
+#[test]
+fn headers_of_several_plps(rt: HostRuntime) -> Result<(), Fail> {
+    let keeping = Plp {
+        delete: false,
+        ..PLP
+    };
+    let other = Plp { id: 3, ..PLP };
+    let coded = Plp {
+        rate: Rate::R2_3,
+        ..other
+    };
+    for (plps, matype) in [([keeping, other], [0xD8, 9]), ([keeping, coded], [0xC8, 9]), ([PLP, coded], [0xCC, 9])] {
+        let mut feed = Feed::new(&rt, &plps)?;
+        assert!(rt; feed.next_frame(0, 20)?.is_empty());
+        let frame = feed.next_frame(0, 20)?;
+        assert!(rt; frame.get(0).unwrap_or(&[]).starts_with(&matype));
+    }
+    Ok(())
+}
