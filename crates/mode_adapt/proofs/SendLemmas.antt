@@ -2,8 +2,8 @@
 use Rattle.std.proofs.Common.{◌≡◌, ℕ, ◌+◌, ◌-◌, ◌*◌, ◌≤◌, Bool, List, [], ◌∷◌, ◌++◌, Option, Some, None, length, take, drop, map, min, refl, ap, sym, ◌∙◌, arith, add-one, length-drop}
 use Rattle.std.specs.List.{range_with_len}
 use Rattle.std.specs.Int.{div_ceil}
-use Rattle.std.proofs.lemmas.List.{drop-drop, map-append}
-use Rattle.std.proofs.lemmas.List.FromFn.{map-range_with_len_more}
+use Rattle.std.proofs.lemmas.List.{drop-drop, map-append, length-map}
+use Rattle.std.proofs.lemmas.List.FromFn.{map-range_with_len_more, length-map-range_with_len}
 use Rattle.std.proofs.Math.Nat.{mul-le-mul_right}
 use Rattle.terms.specs.Bits.{bits_of}
 use Rattle.bb_frame.specs.BasebandFrame.{frame_bits}
@@ -96,7 +96,7 @@ waits chain c plp ps h = ap length h.pending ∙ length-drop chain.sent (plp_str
 
 -- what is sent by the end of the frame
 pub sent_next : SlotLength → (chain : Chain) (c : Config) (plp : ℕ) (ps : List (List ℕ)) (m count : ℕ) → Holds chain c plp ps m → length ps ≡ slots_by c plp (m * c.ticks)
-    → count ≡ min chain.settings.capacity (length chain.pending.items) → chain.sent + count ≡ sent (rates_of c plp c.ticks) (plp_keeps c plp (packet_at ps)) m
+    → count ≡ min (chain.settings.blocks * chain.settings.field_bytes) (length chain.pending.items) → chain.sent + count ≡ sent (rates_of c plp c.ticks) (plp_keeps c plp (packet_at ps)) m
 sent_next lengths chain c plp ps m count h due is =
     let now = sent_now (rates_of c plp c.ticks) (plp_keeps c plp (packet_at ps)) m (num_pos lengths chain c plp ps m h) in
     let came = all_came c plp ps m h.whole due in
@@ -121,7 +121,7 @@ rest_sent chain new c plp ps count one a le h k =
     }
 
 pub cut_done : SlotLength → (chain new : Chain) (c : Config) (plp : ℕ) (ps : List (List ℕ)) (m count : ℕ) → 1 ≤ up_bytes c plp → Holds chain c plp ps m
-    → length ps ≡ slots_by c plp (m * c.ticks) → count ≡ min chain.settings.capacity (length chain.pending.items) → Sends chain new count → Holds new c plp ps (m + 1)
+    → length ps ≡ slots_by c plp (m * c.ticks) → count ≡ min (chain.settings.blocks * chain.settings.field_bytes) (length chain.pending.items) → Sends chain new count → Holds new c plp ps (m + 1)
 cut_done lengths chain new c plp ps m count one h due is k =
     let pos = num_pos lengths chain c plp ps m h in
     let sum = sent_next lengths chain c plp ps m count h due is in
@@ -142,7 +142,7 @@ cut_done lengths chain new c plp ps m count one h due is k =
     }
 
 pub cut_blocks : SlotLength → FieldRange → (chain : Chain) (c : Config) (plp : ℕ) (ps : List (List ℕ)) (m count : ℕ) → 1 ≤ up_bytes c plp → Holds chain c plp ps m
-    → length ps ≡ slots_by c plp (m * c.ticks) → count ≡ min chain.settings.capacity (length chain.pending.items) → pieces_of chain count ≡ blocks_of c plp c.ticks (packet_at ps) m
+    → length ps ≡ slots_by c plp (m * c.ticks) → count ≡ min (chain.settings.blocks * chain.settings.field_bytes) (length chain.pending.items) → pieces_of chain count ≡ blocks_of c plp c.ticks (packet_at ps) m
 cut_blocks lengths fields chain c plp ps m count one h due is =
     pieces fields chain c plp ps count one h.settings h.rest
     ∙ ap (λ (v : ℕ). blocks_between c plp (packet_at ps) (length ps) chain.sent v) (sent_next lengths chain c plp ps m count h due is)
@@ -164,3 +164,7 @@ left_over chain c plp ps m h due =
     waits chain c plp ps h.rest
     ∙ ap (λ (v : ℕ). v - chain.sent) (sym (all_came c plp ps m h.whole due))
     ∙ ap (λ (v : ℕ). arrived (rates_of c plp c.ticks) (plp_keeps c plp (packet_at ps)) m - v) is
+
+-- as many blocks as are cut
+pub count_blocks : (f : ℕ → List Bool) (bs : List (List ℕ)) (n : ℕ) → map bits_of bs ≡ map f (range_with_len 0 n) → length bs ≡ n
+count_blocks f bs n e = sym (length-map bs bits_of) ∙ ap length e ∙ length-map-range_with_len f 0 n

@@ -41,6 +41,10 @@ ChainStandsFor chain c plp events = Holds chain c plp (offered events) (cuts eve
 abbrev pub slot_of : Chain → ℕ
 slot_of chain = chain.slot
 
+-- the greatest number of blocks that a cut gives
+abbrev pub most_blocks : Chain → ℕ
+most_blocks chain = chain.settings.blocks
+
 -- the bytes of the packets offered that are not sent before the frame under way
 abbrev pub waiting : Config → ℕ → List Event → ℕ
 waiting c plp events =

@@ -18,7 +18,8 @@ pub fn write_block(
     requires describes { Describes header.now (bits_of field.now) }
     requires inside { length field.now ≤ field_bytes }
     requires short { field_bytes ≤ 6720 }
-    ensures { IfOk result (λ block. bits_of block.items ≡ frame_bits header.now (bits_of field.now) (8 * (field_bytes + 10))) }
+    ensures bits { IfOk result (λ block. bits_of block.items ≡ frame_bits header.now (bits_of field.now) (8 * (field_bytes + 10))) }
+    ensures len { IfOk result (λ block. length block.items ≡ field_bytes + 10) }
 {
     let mut sink = BitBuf::new(alloc);
     match write_frame(

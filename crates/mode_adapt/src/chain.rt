@@ -1,7 +1,9 @@
 // The chain of one PLP.
 ghost use Rattle.std.specs.Prelude.{◌≡◌, ◌<◌, ◌≤◌, ◌+◌, ◌-◌, ◌*◌, ◌^◌, ◌++◌, ◌∷◌, [], List, ℕ, map, length, take, drop, min, vec_len, vec_capacity, IfOk, OnOk, OnErr, IfSome};
 ghost use Rattle.terms.specs.Bits.{bits_of};
+ghost use Rattle.std.specs.Int.{div_ceil};
 ghost use Rattle.plp_config.specs.Capacity.{up_bytes};
+ghost use Rattle.plp_config.specs.Plps.{plp_at};
 
 use crate::block::write_block;
 use crate::frame::FrameBytes;
@@ -46,7 +48,7 @@ fn with_dnp(packet: &[u8], dnp: u8) -> [u8; 188]
 impl Chain {
     ghost use Rattle.plp_config.specs.declared.config.Config.{Config};
     ghost use Rattle.mode_adapt.specs.Events.{Event, Offered, Cut, HasRoom, IsDue, offered, cuts};
-    ghost use Rattle.mode_adapt.specs.StandsFor.{ChainStandsFor, slot_of, waiting};
+    ghost use Rattle.mode_adapt.specs.StandsFor.{ChainStandsFor, slot_of, most_blocks, waiting};
     ghost use Rattle.mode_adapt.specs.Steps.{Keeps, Sends};
     ghost use Rattle.mode_adapt.specs.Pieces.{first_in, piece_of, pieces_of};
     ghost use Rattle.mode_adapt.specs.Blocks.{blocks_of, rates_of, plp_keeps};
@@ -59,6 +61,7 @@ impl Chain {
         requires { plp < length plan.now.plps }
         ensures stands { IfOk result (λ chain. ChainStandsFor chain plan.now plp []) }
         ensures slots { IfOk result (λ chain. slot_of chain ≡ 0) }
+        ensures most { IfOk result (λ chain. most_blocks chain ≡ (plp_at plan.now.plps plp).blocks) }
     {
         let settings = Settings::new(plan, plp);
         Ok(Chain {
@@ -68,7 +71,7 @@ impl Chain {
             slot: 0,
             sent: 0,
             // What a frame carries, and what may be left over.
-            pending: Vec::with_capacity(alloc, settings.capacity as usize + 188)?,
+            pending: Vec::with_capacity(alloc, settings.capacity() as usize + 188)?,
             slots: Vec::new(alloc),
         })
     }
@@ -81,6 +84,7 @@ impl Chain {
         ensures unchanged { OnErr result ((c : Config) (plp : ℕ) (events : List Event) → ChainStandsFor self.old c plp events → ChainStandsFor self.new c plp events) }
         ensures next { OnOk result (slot_of self.new ≡ slot_of self.old + 1) }
         ensures same { OnErr result (slot_of self.new ≡ slot_of self.old) }
+        ensures most { most_blocks self.new ≡ most_blocks self.old }
     {
         decided_by_the_past();
         block_law();
@@ -134,7 +138,8 @@ impl Chain {
         requires order { x ≤ y }
         requires inside { y ≤ vec_len self.now.pending }
         requires short { y ≤ x + self.now.settings.field_bytes }
-        ensures { IfOk result (λ block. bits_of block.items ≡ piece_of self.now x y) }
+        ensures bits { IfOk result (λ block. bits_of block.items ≡ piece_of self.now x y) }
+        ensures short { IfOk result (λ block. length block.items ≤ 6730) }
     {
         let up = self.first_up(x, y);
         let header = self.settings.header(self.sent + x as u64, y - x, up);
@@ -149,7 +154,8 @@ impl Chain {
     // The blocks of the first bytes of those that wait.
     fn blocks(&self, count: usize) -> Result<FrameBytes, OutOfMemory>
         requires inside { count ≤ vec_len self.now.pending }
-        ensures { IfOk result (λ frame. map bits_of frame ≡ pieces_of self.now count) }
+        ensures blocks { IfOk result (λ frame. map bits_of frame ≡ pieces_of self.now count) }
+        ensures len { IfOk result (λ frame. length frame ≡ div_ceil count self.now.settings.field_bytes) }
     {
         let field_bytes = self.settings.field_bytes as usize;
         let mut frame = FrameBytes::new(self.alloc);
@@ -166,8 +172,10 @@ impl Chain {
             → ChainStandsFor self.new c plp (events ++ Cut ∷ [])) }
         ensures answer { IfOk result (λ frame. (c : Config) (plp : ℕ) (events : List Event) → ChainStandsFor self.old c plp events → IsDue c plp events
             → map bits_of frame ≡ blocks_of c plp c.ticks (packet_at (offered events)) (cuts events)) }
+        ensures few { IfOk result (λ frame. length frame ≤ most_blocks self.old) }
         ensures unchanged { OnErr result (self.new ≡ self.old) }
         ensures same { slot_of self.new ≡ slot_of self.old }
+        ensures most { most_blocks self.new ≡ most_blocks self.old }
     {
         block_law();
         length_law();
@@ -179,10 +187,10 @@ impl Chain {
 
     // How many bytes a frame sends now.
     fn sendable(&self) -> usize
-        ensures count { result ≡ min self.now.settings.capacity (length self.now.pending.items) }
+        ensures count { result ≡ min (self.now.settings.blocks * self.now.settings.field_bytes) (length self.now.pending.items) }
         ensures inside { result ≤ vec_len self.now.pending }
     {
-        self.pending.len().min(self.settings.capacity as usize)
+        self.pending.len().min(self.settings.capacity() as usize)
     }
 
     // Sends bytes from the front.

@@ -1,5 +1,5 @@
 // The blocks of a frame.
-ghost use Rattle.std.specs.Prelude.{◌≡◌, ◌≤◌, ◌↔◌, ◌==◌, ◌∷◌, ◌++◌, [], length, slice_get, IsNone, OnOk, OnErr};
+ghost use Rattle.std.specs.Prelude.{◌≡◌, ◌≤◌, ◌↔◌, ◌==◌, ◌∷◌, ◌++◌, [], length, slice_get, IsNone, IfSome, OnOk, OnErr};
 ghost use Rattle.std.specs.Option.{option_copied};
 
 use bit_slice::OutOfMemory;
@@ -13,12 +13,15 @@ pub struct FrameBytes {
 }
 
 impl Model for FrameBytes {
-    ghost use Rattle.std.specs.Prelude.{ℕ, List, map};
+    ghost use Rattle.std.specs.Prelude.{ℕ, ◌≤◌, List, map, length, All};
     ghost use Rattle.std.specs.Global.{Vec};
 
     ghost Value = { List (List ℕ) };
 
     ghost view = { λ f. map (λ (b : Vec ℕ). b.items) f.blocks.items };
+
+    // as many bytes as the longest block has
+    ghost invariant = { λ f. All (λ (b : Vec ℕ). length b.items ≤ 6730) f.blocks.items };
 }
 
 impl FrameBytes {
@@ -31,6 +34,7 @@ impl FrameBytes {
     }
 
     pub(crate) fn push(&mut self, block: Vec<u8>) -> Result<(), OutOfMemory>
+        requires { length block.items ≤ 6730 }
         ensures ok { OnOk result (self.new ≡ self.old ++ block.items ∷ []) }
     {
         self.blocks.push(block)?;
@@ -55,6 +59,7 @@ impl FrameBytes {
     pub fn get(&self, place: usize) -> Option<&[u8]>
         ensures block { option_copied result ≡ slice_get self.now place }
         ensures none { IsNone result ↔ (length self.now ≤ place) }
+        ensures short { IfSome result (λ block. length block.now ≤ 6730) }
     {
         match self.blocks.get(place) {
             Some(block) => Some(block),

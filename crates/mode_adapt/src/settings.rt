@@ -1,6 +1,7 @@
 // What a chain takes from the plan.
 ghost use Rattle.std.specs.Prelude.{◌≡◌, ℕ, ◌<◌, ◌≤◌, ◌+◌, ◌*◌, ◌/◌, ◌%◌, ◌^◌, List, Bool, length, IfSome};
 ghost use Rattle.bb_frame.specs.BasebandFrame.{Describes};
+ghost use Rattle.plp_config.specs.Plps.{plp_at};
 ghost use Rattle.plp_config.specs.SlotTime.{start};
 
 use crate::matype::{matype1, matype2};
@@ -25,11 +26,11 @@ pub struct Settings {
     pub up_bytes: u32,
     // Bytes of a data field.
     pub field_bytes: u32,
-    // Bytes that a frame carries at most.
-    pub capacity: u32,
+    // Blocks of a frame at most.
+    pub blocks: u16,
     ghost up: { (187 ≤ up_bytes) × (up_bytes ≤ 188) },
     ghost field: { (869 ≤ field_bytes) × (field_bytes ≤ 6720) },
-    ghost most: { capacity ≤ 6874560 },
+    ghost most: { blocks ≤ 1023 },
     ghost rate: { (1 ≤ den) × (num < 2 ^ 38) },
 }
 
@@ -45,10 +46,23 @@ fn slot_length(plan: &Plan, plp: usize) -> (u64, u64)
     plan.slot_length(plp)
 }
 
+// The greatest number of blocks in a frame.
+fn blocks(plan: &Plan, plp: usize) -> u16
+    requires { plp < length plan.now.plps }
+    ensures value { result ≡ (plp_at plan.now.plps plp).blocks }
+    ensures small { result ≤ 1023 }
+{
+    match plan.config().plps.get(plp) {
+        Some(plp) => plp.blocks,
+        None => 0,
+    }
+}
+
 impl Settings {
     ghost use Rattle.mode_adapt.specs.Pieces.{header_by};
     ghost use Rattle.mode_adapt.specs.Settings.{AreSettings};
 
+    #[tactic(auto, unfolding(plp_config::specs::Capacity::capacity))]
     pub fn new(plan: &Plan, plp: usize) -> Settings
         requires { plp < length plan.now.plps }
         ensures { AreSettings result plan.now plp }
@@ -62,8 +76,16 @@ impl Settings {
             den,
             up_bytes: plan.up_bytes(plp),
             field_bytes: plan.field_bytes(plp),
-            capacity: plan.capacity(plp),
+            blocks: blocks(plan, plp),
         }
+    }
+
+    // How many bytes a frame carries at most.
+    pub fn capacity(&self) -> u32
+        ensures value { result ≡ self.now.blocks * self.now.field_bytes }
+        ensures small { result ≤ 6874560 }
+    {
+        u32::from(self.blocks) * self.field_bytes
     }
 
     // The header of a block of so many bytes from a place on, by the place and the slot of the first user packet that begins in it.

@@ -186,7 +186,11 @@ fn blocks_of_the_first_frames(rt: HostRuntime) -> Result<(), Fail> {
     assert_eq!(rt; carried(rt.alloc(), &frame)?.len(), 2_632);
     let first = frame.get(0).unwrap_or(&[]);
     assert_eq!(rt; first.len(), 879);
-    assert!(rt; first.starts_with(&[0xFC, 0x00, 0x80, 0x00, 0x1B, 0x28, 0x00, 0x00, 0x00, 0xFA, 0x1F, 0xFE, 0x10]));
+    assert!(rt;
+        first.starts_with(&[
+            0xFC, 0x00, 0x80, 0x00, 0x1B, 0x28, 0x00, 0x00, 0x00, 0xFA, 0x1F, 0xFE, 0x10
+        ])
+    );
     // The second user packet that begins in it begins in the second block, 71 bytes on, in slot 5.
     let second = frame.get(1).unwrap_or(&[]);
     assert!(rt; second.starts_with(&[0xFC, 0x00, 0x80, 0x86, 0x1B, 0x28, 0x49, 0x02, 0x38, 0x82]));
@@ -228,7 +232,11 @@ fn headers_of_several_plps(rt: HostRuntime) -> Result<(), Fail> {
         rate: Rate::R2_3,
         ..other
     };
-    for (plps, matype) in [([keeping, other], [0xD8, 9]), ([keeping, coded], [0xC8, 9]), ([PLP, coded], [0xCC, 9])] {
+    for (plps, matype) in [
+        ([keeping, other], [0xD8, 9]),
+        ([keeping, coded], [0xC8, 9]),
+        ([PLP, coded], [0xCC, 9]),
+    ] {
         let mut feed = Feed::new(&rt, &plps)?;
         assert!(rt; feed.next_frame(0, 20)?.is_empty());
         let frame = feed.next_frame(0, 20)?;
