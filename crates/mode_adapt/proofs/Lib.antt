@@ -10,3 +10,4 @@ pub mod SameLemmas
 pub mod OfferLemmas
 pub mod SendLemmas
 pub mod EventLemmas
+pub mod PlainLemmas

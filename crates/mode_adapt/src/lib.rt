@@ -17,4 +17,6 @@ pub use laws::{
 };
 
 #[cfg(test)]
+mod plain;
+#[cfg(test)]
 mod tests;

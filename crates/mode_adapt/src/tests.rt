@@ -1,9 +1,9 @@
 // Expected values come from worked examples and from a Python program that applies the rules to the whole list of packets.
 ghost use Rattle.std.specs.Prelude.{◌≡◌, ◌<◌, ◌≤◌, length};
 
-use crate::{Chain, FrameBytes};
+use crate::{Chain, FrameBytes, plain};
 use bb_frame::scramble;
-use bit_slice::OutOfMemory;
+use bit_slice::{BitSlice, OutOfMemory, crc32};
 use plp_config::{
     Band, Config, FecSize, L1Numbers, Modulation, Plan, Plp, PlpKind, PlpList, Rate, fits, validate,
 };
@@ -25,6 +25,13 @@ const PLP: Plp = Plp {
     interleave: 1,
     delete: true,
     bits_per_second: 2_000_000,
+};
+
+// A PLP with as much to send as its frames carry.
+const LOADED: Plp = Plp {
+    blocks: 3,
+    bits_per_second: 1_906_000,
+    ..PLP
 };
 
 const L1: L1Numbers = L1Numbers {
@@ -81,13 +88,34 @@ struct Feed {
 
 ghost use Rattle.mode_adapt.specs.StandsFor.{slot_of};
 
-fn packet(null: bool) -> TsPacket {
-    if null {
-        return TsPacket::canonical();
-    }
+// A packet with a number, null or not.
+fn packet(number: u64, null: bool) -> TsPacket {
     let mut bytes = *TsPacket::canonical().as_array();
-    bytes[2] = 0xFE;
+    if !null {
+        bytes[2] = 0xFE;
+    }
+    bytes[4] = (number % 251) as u8;
     TsPacket::from_array(bytes)
+}
+
+// So many packets, null before a slot.
+fn packets(alloc: Global, from: u64, count: u64) -> Result<Vec<TsPacket>, OutOfMemory> {
+    let mut packets = Vec::new(alloc);
+    for slot in 0..count {
+        packets.push(packet(slot, slot < from))?;
+    }
+    Ok(packets)
+}
+
+// Packets of which the first 500 are not null, and many of the others are, some in runs longer than 255.
+fn mixed(alloc: Global, count: u64) -> Result<Vec<TsPacket>, OutOfMemory> {
+    let mut packets = Vec::new(alloc);
+    for slot in 0..count {
+        let in_run = 600 <= slot && slot < 900 || 1_200 <= slot && slot < 1_717;
+        let null = in_run || slot % 7 < 3 || slot % 11 == 0;
+        packets.push(packet(slot, 500 <= slot && null))?;
+    }
+    Ok(packets)
 }
 
 impl Feed {
@@ -117,13 +145,16 @@ impl Feed {
         Ok(())
     }
 
-    // The blocks of the next frame, where the packets of the slots from one on and before another are not null, and all others are.
-    fn next_frame(&mut self, from: u64, to: u64) -> Result<FrameBytes, OutOfMemory> {
+    // The blocks of the next frame, where these packets begin at slot 0, and null packets follow.
+    fn next_frame(&mut self, packets: &[TsPacket]) -> Result<FrameBytes, OutOfMemory> {
         let end = self
             .plan
             .slots_by(0, u64::from(self.frame) * u64::from(TICKS));
         for slot in self.slot..end {
-            self.offer(&packet(slot < from || to <= slot))?;
+            match packets.get(slot as usize) {
+                Some(packet) => self.offer(packet)?,
+                None => self.offer(&TsPacket::canonical())?,
+            }
         }
         self.frame = self.frame.wrapping_add(1);
         self.chain.cut()
@@ -150,14 +181,20 @@ fn carried(alloc: Global, frame: &FrameBytes) -> Result<Vec<u8>, OutOfMemory> {
     Ok(bytes)
 }
 
+// Appends the blocks of a frame.
+fn append_blocks(bytes: &mut Vec<u8>, frame: &FrameBytes) -> Result<(), OutOfMemory> {
+    for place in 0..frame.len() {
+        if let Some(block) = frame.get(place) {
+            bytes.extend_from_slice(block)?;
+        }
+    }
+    Ok(())
+}
+
 #[test]
 fn backlogs_of_a_loaded_network(rt: HostRuntime) -> Result<(), Fail> {
-    let plp = Plp {
-        blocks: 3,
-        bits_per_second: 1_906_000,
-        ..PLP
-    };
-    let mut feed = Feed::new(&rt, &[plp])?;
+    let mut feed = Feed::new(&rt, &[LOADED])?;
+    let packets = packets(rt.alloc(), 0, 110)?;
     for (bytes, backlog) in [
         (0, 0),
         (2_444, 0),
@@ -169,7 +206,7 @@ fn backlogs_of_a_loaded_network(rt: HostRuntime) -> Result<(), Fail> {
         (2_607, 150),
         (2_594, 0),
     ] {
-        let frame = feed.next_frame(0, 110)?;
+        let frame = feed.next_frame(&packets)?;
         assert_eq!(rt; carried(rt.alloc(), &frame)?.len(), bytes);
         assert_eq!(rt; feed.chain.backlog(), backlog);
     }
@@ -179,8 +216,9 @@ fn backlogs_of_a_loaded_network(rt: HostRuntime) -> Result<(), Fail> {
 #[test]
 fn blocks_of_the_first_frames(rt: HostRuntime) -> Result<(), Fail> {
     let mut feed = Feed::new(&rt, &[PLP])?;
-    assert!(rt; feed.next_frame(0, 20)?.is_empty());
-    let frame = feed.next_frame(0, 20)?;
+    let packets = packets(rt.alloc(), 0, 20)?;
+    assert!(rt; feed.next_frame(&packets)?.is_empty());
+    let frame = feed.next_frame(&packets)?;
     assert_eq!(rt; frame.len(), 4);
     assert!(rt; frame.get(4).is_none());
     assert_eq!(rt; carried(rt.alloc(), &frame)?.len(), 2_632);
@@ -208,14 +246,15 @@ fn blocks_of_the_first_frames(rt: HostRuntime) -> Result<(), Fail> {
 #[test]
 fn a_null_packet_behind_255_is_sent(rt: HostRuntime) -> Result<(), Fail> {
     let mut feed = Feed::new(&rt, &[PLP])?;
+    let packets = packets(rt.alloc(), 256, 257)?;
     let mut bytes = Vec::new(rt.alloc());
     // 261 slots are over by the tick at which frame 18 begins.
     for _ in 0..19 {
-        let frame = feed.next_frame(256, 257)?;
+        let frame = feed.next_frame(&packets)?;
         bytes.extend_from_slice(&carried(rt.alloc(), &frame)?)?;
     }
     assert_eq!(rt; bytes.len(), 376);
-    assert!(rt; bytes.starts_with(&[0x1F, 0xFF, 0x10, 0xFF]));
+    assert!(rt; bytes.starts_with(&[0x1F, 0xFF, 0x10, 255 % 251, 0xFF]));
     assert_eq!(rt; &bytes[186..191], [0xFF, 255, 0x1F, 0xFE, 0x10].as_slice());
     assert_eq!(rt; bytes[375], 0);
     Ok(())
@@ -232,15 +271,45 @@ fn headers_of_several_plps(rt: HostRuntime) -> Result<(), Fail> {
         rate: Rate::R2_3,
         ..other
     };
+    let packets = packets(rt.alloc(), 0, 20)?;
     for (plps, matype) in [
         ([keeping, other], [0xD8, 9]),
         ([keeping, coded], [0xC8, 9]),
         ([PLP, coded], [0xCC, 9]),
     ] {
         let mut feed = Feed::new(&rt, &plps)?;
-        assert!(rt; feed.next_frame(0, 20)?.is_empty());
-        let frame = feed.next_frame(0, 20)?;
+        assert!(rt; feed.next_frame(&packets)?.is_empty());
+        let frame = feed.next_frame(&packets)?;
         assert!(rt; frame.get(0).unwrap_or(&[]).starts_with(&matype));
     }
+    Ok(())
+}
+
+#[test]
+fn a_long_run_is_what_the_definitions_say(rt: HostRuntime) -> Result<(), Fail> {
+    let mut feed = Feed::new(&rt, &[LOADED])?;
+    let packets = mixed(rt.alloc(), 2_000)?;
+    let arrivals = plain::arrivals(rt.alloc(), &feed.plan, 0, &packets, 147)?;
+    let string = plain::string(rt.alloc(), true, &packets, 2_000)?;
+    let capacity = feed.plan.capacity(0);
+    let mut blocks = Vec::new(rt.alloc());
+    let mut before = 0;
+    for frame in 0..147 {
+        let given = feed.next_frame(&packets)?;
+        append_blocks(&mut blocks, &given)?;
+        assert!(rt; frame < arrivals.len());
+        let sent = plain::sent(&arrivals, capacity, frame);
+        let backlog = u128::from(arrivals[frame]).wrapping_sub(sent);
+        assert_eq!(rt; u128::from(feed.chain.backlog()), backlog);
+        let to = usize::try_from(sent).unwrap_or(0);
+        assert!(rt;
+            carried(rt.alloc(), &given)?.as_slice() == string.get(before..to).unwrap_or(&[])
+        );
+        before = to;
+    }
+    // All blocks, by the Python program.
+    assert!(rt; blocks.len() < 1 << 60);
+    assert_eq!(rt; blocks.len(), 185_469);
+    assert_eq!(rt; crc32(BitSlice::whole(&blocks)), 0x84B2_2CF1);
     Ok(())
 }

@@ -1,6 +1,6 @@
 -- Laws of null-packet deletion.
-use Rattle.std.specs.Prelude.{◌≡◌, ◌<◌, ◌≤◌, ℕ, ◌+◌, Bool, true, false, List, [], ◌∷◌, ◌++◌, map}
-use Rattle.null_delete.specs.Deletion.{is_kept, dnp, kept_slots, slot_after}
+use Rattle.std.specs.Prelude.{◌≡◌, ◌<◌, ◌≤◌, ℕ, ◌+◌, Bool, true, false, List, [], ◌∷◌, ◌++◌, length, map, if◌then◌else◌}
+use Rattle.null_delete.specs.Deletion.{run_before, is_kept, dnp, kept_slots, slot_after}
 
 -- no slot from one on and before another is kept
 abbrev pub NoneKept : (ℕ → Bool) → ℕ → ℕ → Type 0
@@ -32,3 +32,11 @@ DnpFits = (deletes : Bool) (nulls : ℕ → Bool) (k : ℕ) → dnp (is_kept del
 abbrev pub DecidedByThePast : Type 0
 DecidedByThePast = (deletes : Bool) (f g : ℕ → Bool) (k : ℕ) → ((j : ℕ) → j ≤ k → f j ≡ g j)
     → (is_kept deletes f k ≡ is_kept deletes g k) × (dnp (is_kept deletes f) k ≡ dnp (is_kept deletes g) k)
+
+-- A run that ends before the next slot goes on where that slot passes; before slot 0 there is none.
+pub record RunsOn (passes : ℕ → Bool) : Type 0 where
+  pub none : length (run_before passes 0) ≡ 0
+  pub next : (k : ℕ) → length (run_before passes (k + 1)) ≡ (if passes k then length (run_before passes k) + 1 else 0)
+
+abbrev pub RunLaw : Type 0
+RunLaw = (passes : ℕ → Bool) → RunsOn passes

@@ -1,5 +1,5 @@
 // Laws of the definitions. Their functions do nothing.
-ghost use Rattle.null_delete.specs.Laws.{NextKept, FirstKept, WithoutDeletion, SlotsRestored, DnpFits, DecidedByThePast};
+ghost use Rattle.null_delete.specs.Laws.{NextKept, FirstKept, WithoutDeletion, SlotsRestored, DnpFits, DecidedByThePast, RunLaw};
 
 /// Each kept slot is the kept slot before it plus 1 plus its own dnp.
 pub fn next_kept()
@@ -29,4 +29,9 @@ pub fn dnp_fits()
 /// The packets that come later decide nothing.
 pub fn decided_by_the_past()
     ensures { DecidedByThePast }
+{}
+
+/// The run of slots before the next one goes on or ends.
+pub fn run_law()
+    ensures { RunLaw }
 {}

@@ -8,7 +8,7 @@ mod laws;
 pub use deleter::Deleter;
 pub use inserter::Inserter;
 pub use laws::{
-    decided_by_the_past, dnp_fits, first_kept, next_kept, slots_restored, without_deletion,
+    decided_by_the_past, dnp_fits, first_kept, next_kept, run_law, slots_restored, without_deletion,
 };
 
 #[cfg(test)]
