@@ -12,8 +12,8 @@ use Rattle.std.proofs.lemmas.List.Folds.{find-append}
 use Rattle.std.proofs.Math.Nat.{mul-le-mul_left, mul-le-mul_right}
 use Rattle.null_delete.specs.Deletion.{kept_slots}
 use Rattle.mode_adapt.specs.UserPackets.{up_place}
-use Rattle.mode_adapt.specs.Blocks.{first_up, with_place}
-use Rattle.mode_adapt.specs.Pieces.{up_with}
+use Rattle.mode_adapt.specs.Blocks.{first_up, with_place, up_with}
+use Rattle.mode_adapt.specs.Laws.{FirstLaw}
 use Rattle.mode_adapt.proofs.KeptLemmas.{kept_more}
 
 -- a slot, if its user packet begins early enough
@@ -140,3 +140,8 @@ first_of_rest len keeps s x y n one le =
     let sum : div_ceil s len + (div_ceil x len - div_ceil s len) ≡ div_ceil x len = omega (arith, number_le len s x one le) in
     ap (up_at (len * div_ceil x len) (nat_lt (len * div_ceil x len) y)) (got_behind (div_ceil s len) (div_ceil x len - div_ceil s len) (kept_slots keeps n) ∙ ap (slice_get (kept_slots keeps n)) sum)
     ∙ sym (first_at len keeps x y (div_ceil x len) n (numbered len x one))
+
+pub first_law : FirstLaw
+first_law len keeps n x y one =
+    let all : div_ceil x len - 0 ≡ div_ceil x len = omega arith in
+    first_at len keeps x y (div_ceil x len) n (numbered len x one) ∙ ap (λ (i : ℕ). up_at (len * div_ceil x len) (nat_lt (len * div_ceil x len) y) (slice_get (kept_slots keeps n) i)) (sym all)

@@ -15,8 +15,8 @@ use Rattle.plp_config.specs.declared.config.Config.{Config}
 use Rattle.null_delete.specs.Deletion.{kept_slots, packet_at}
 use Rattle.mode_adapt.specs.declared.chain.Chain.{Chain}
 use Rattle.mode_adapt.specs.declared.settings.Settings.{Settings}
-use Rattle.mode_adapt.specs.Blocks.{rates_of, plp_keeps, plp_string, first_up, with_place, header_at, block_bits, blocks_between, blocks_of}
-use Rattle.mode_adapt.specs.Pieces.{header_by, up_with, first_in, piece_of, pieces_of}
+use Rattle.mode_adapt.specs.Blocks.{rates_of, plp_keeps, plp_string, first_up, with_place, up_with, header_at, block_bits, blocks_between, blocks_of}
+use Rattle.mode_adapt.specs.Pieces.{header_by, first_in, piece_of, pieces_of}
 use Rattle.mode_adapt.specs.Queue.{arrived, sent, sent_before}
 use Rattle.mode_adapt.specs.Settings.{AreSettings}
 use Rattle.mode_adapt.specs.StandsFor.{HoldsRest, Holds}

@@ -1,6 +1,7 @@
 -- The blocks of one PLP (EN 302 755, clause 5.1): the string of user packets cut into baseband frames.
-use Rattle.std.specs.Prelude.{ℕ, ◌+◌, ◌-◌, ◌*◌, ◌%◌, ◌^◌, ◌&&◌, nat_le, nat_lt, Bool, List, map, take, drop, min, Some, None}
+use Rattle.std.specs.Prelude.{ℕ, ◌+◌, ◌-◌, ◌*◌, ◌%◌, ◌^◌, ◌&&◌, nat_le, nat_lt, Bool, List, map, take, drop, min, Some, None, slice_get, if◌then◌else◌}
 use Rattle.std.specs.declared.option.Option.{Option}
+use Rattle.std.specs.Option.{option_map}
 use Rattle.std.specs.List.{find, range_with_len}
 use Rattle.std.specs.Int.{div_ceil}
 use Rattle.terms.specs.Bits.{bits_of}
@@ -35,6 +36,10 @@ first_up len keeps n x y = find (λ k. nat_le x (up_place len keeps k) && nat_lt
 abbrev pub with_place : ℕ → (ℕ → Bool) → Option ℕ → Option (ℕ × ℕ)
 with_place len keeps None = None
 with_place len keeps (Some k) = Some (up_place len keeps k, k)
+
+-- the place and the slot of the user packet with a number, if it begins before place y; the slots are those from a number on
+abbrev pub up_with : ℕ → List ℕ → ℕ → ℕ → ℕ → Option (ℕ × ℕ)
+up_with len slots first number y = if nat_lt (len * number) y then option_map (λ k. (len * number, k)) (slice_get slots (number - first)) else None
 
 -- the header of a block of so many bytes from place x on, by the place and the slot of the first user packet that begins in it:
 -- SYNCD is its distance in bits, ISSY is 10 and ISCR, the 22 lowest bits of the tick at which its slot starts (clause 5.1.4)

@@ -1,12 +1,14 @@
 -- Laws of the queue and of the blocks, for epochs of any number of ticks and for whichever slots are kept.
 use Rattle.std.specs.Prelude.{◌≡◌, ◌<◌, ◌≤◌, ℕ, ◌+◌, ◌-◌, ◌*◌, Bool, true, List, length, take, drop, min}
 use Rattle.std.specs.List.{flat_map}
+use Rattle.std.specs.Int.{div_ceil}
+use Rattle.null_delete.specs.Deletion.{kept_slots}
 use Rattle.plp_config.specs.Capacity.{IsPlan}
 use Rattle.plp_config.specs.SlotTime.{InRange}
 use Rattle.plp_config.specs.declared.config.Config.{Config}
 use Rattle.mode_adapt.specs.Queue.{Rates, arrived, sent, sent_before}
 use Rattle.mode_adapt.specs.UserPackets.{keeps_of, user_packet, up_string, up_place}
-use Rattle.mode_adapt.specs.Blocks.{rates_of, block_places}
+use Rattle.mode_adapt.specs.Blocks.{rates_of, first_up, with_place, up_with, block_places}
 
 -- An epoch carries the bytes that the stream brings in it.
 pub record IsWithin (r : Rates) : Type 0 where
@@ -56,6 +58,11 @@ EndLaw = (r : Rates) (keeps : ℕ → Bool) (m k : ℕ) → IsWithin r → r.up_
 abbrev pub PlaceLaw : Type 0
 PlaceLaw = (deletes : Bool) (at : ℕ → List ℕ) (len n k : ℕ) → ((j : ℕ) → length (user_packet deletes at j) ≡ len) → keeps_of deletes at k ≡ true → k < n
     → take len (drop (up_place len (keeps_of deletes at) k) (up_string deletes at n)) ≡ user_packet deletes at k
+
+-- The first user packet that begins at place x or later is known by its number: the places are the multiples of its length.
+abbrev pub FirstLaw : Type 0
+FirstLaw = (len : ℕ) (keeps : ℕ → Bool) (n x y : ℕ) → 1 ≤ len
+    → with_place len keeps (first_up len keeps n x y) ≡ up_with len (kept_slots keeps n) 0 (div_ceil x len) y
 
 -- Pieces of so many bytes, the last one what is left, are together the bytes that they were cut from.
 abbrev pub JoinLaw : Type 0

@@ -1,12 +1,12 @@
 -- Blocks as a chain makes them from what waits. No public clause cites this module.
-use Rattle.std.specs.Prelude.{ℕ, ◌+◌, ◌-◌, ◌*◌, ◌/◌, ◌%◌, ◌^◌, nat_lt, Bool, List, map, take, drop, min, Some, None, slice_get, if◌then◌else◌}
+use Rattle.std.specs.Prelude.{ℕ, ◌+◌, ◌-◌, ◌*◌, ◌/◌, ◌%◌, ◌^◌, Bool, List, map, take, drop, min, Some, None}
 use Rattle.std.specs.declared.option.Option.{Option}
-use Rattle.std.specs.Option.{option_map}
 use Rattle.std.specs.List.{range_with_len}
 use Rattle.std.specs.Int.{div_ceil}
 use Rattle.terms.specs.Bits.{bits_of}
 use Rattle.bb_frame.specs.BasebandFrame.{frame_bits}
 use Rattle.bb_frame.specs.declared.header.Header.{Header}
+use Rattle.mode_adapt.specs.Blocks.{up_with}
 use Rattle.mode_adapt.specs.declared.settings.Settings.{Settings}
 use Rattle.mode_adapt.specs.declared.chain.Chain.{Chain}
 
@@ -14,10 +14,6 @@ use Rattle.mode_adapt.specs.declared.chain.Chain.{Chain}
 abbrev pub header_by : Settings → ℕ → ℕ → Option (ℕ × ℕ) → Header
 header_by s x len None = record { matype1 = s.matype1; matype2 = s.matype2; issy = 0x800000; dfl = 8 * len; syncd = 65535 }
 header_by s x len (Some up) = record { matype1 = s.matype1; matype2 = s.matype2; issy = 0x800000 + up.1 * s.num / s.den % 2 ^ 22; dfl = 8 * len; syncd = 8 * (up.0 - x) }
-
--- the place and the slot of the user packet with a number, if it begins before place y; the slots are those from a number on
-abbrev pub up_with : ℕ → List ℕ → ℕ → ℕ → ℕ → Option (ℕ × ℕ)
-up_with len slots first number y = if nat_lt (len * number) y then option_map (λ k. (len * number, k)) (slice_get slots (number - first)) else None
 
 -- the first user packet that begins in the bytes from x up to y of those that wait
 abbrev pub first_in : Chain → ℕ → ℕ → Option (ℕ × ℕ)

@@ -17,7 +17,8 @@ use plp_config::{Plan, block_law, length_law};
 use std::alloc::Global;
 use ts_packet::TsPacket;
 
-/// Makes the blocks of one PLP from its packets, frame by frame.
+/// Makes the blocks of one PLP from its packets, frame by frame (EN 302 755, clause 5.1): offer the packet of each slot, in
+/// order, and cut where a frame begins.
 #[derive(Drop)]
 pub struct Chain {
     alloc: Global,
@@ -76,13 +77,15 @@ impl Chain {
         })
     }
 
-    /// Takes the packet of the next slot. After `OutOfMemory` the chain stands for what it stood for.
+    /// Takes the packet of the next slot, one that is over by the tick at which the frame under way begins. After
+    /// `OutOfMemory` the chain stands for what it stood for.
     pub fn offer(&mut self, packet: &TsPacket) -> Result<(), OutOfMemory>
         requires slot { slot_of self.old < 2 ^ 54 }
-        ensures stands { OnOk result ((c : Config) (plp : ℕ) (events : List Event) → ChainStandsFor self.old c plp events → HasRoom c plp events
-            → ChainStandsFor self.new c plp (events ++ Offered packet.now ∷ [])) }
-        ensures unchanged { OnErr result ((c : Config) (plp : ℕ) (events : List Event) → ChainStandsFor self.old c plp events → ChainStandsFor self.new c plp events) }
-        ensures next { OnOk result (slot_of self.new ≡ slot_of self.old + 1) }
+        ensures stands { OnOk result ((c : Config) (plp : ℕ) (events : List Event)
+            → ChainStandsFor self.old c plp events → HasRoom c plp events → ChainStandsFor self.new c plp (events ++ Offered packet.now ∷ [])) }
+        ensures unchanged { OnErr result ((c : Config) (plp : ℕ) (events : List Event)
+            → ChainStandsFor self.old c plp events → ChainStandsFor self.new c plp events) }
+        ensures slots { OnOk result (slot_of self.new ≡ slot_of self.old + 1) }
         ensures same { OnErr result (slot_of self.new ≡ slot_of self.old) }
         ensures most { most_blocks self.new ≡ most_blocks self.old }
     {
@@ -166,15 +169,18 @@ impl Chain {
         Ok(frame)
     }
 
-    /// Ends the frame under way, the n-th cut (from 0) frame n, and gives its blocks. After `OutOfMemory` the chain is unchanged.
+    /// Gives the blocks of the frame under way, at most `blocks` of the PLP, and goes on to the next one: the first cut gives
+    /// those of frame 0, which has none. All slots that are over by the tick at which the frame begins were offered. After
+    /// `OutOfMemory` the chain is unchanged.
     pub fn cut(&mut self) -> Result<FrameBytes, OutOfMemory>
-        ensures stands { OnOk result ((c : Config) (plp : ℕ) (events : List Event) → ChainStandsFor self.old c plp events → IsDue c plp events
-            → ChainStandsFor self.new c plp (events ++ Cut ∷ [])) }
-        ensures answer { IfOk result (λ frame. (c : Config) (plp : ℕ) (events : List Event) → ChainStandsFor self.old c plp events → IsDue c plp events
+        ensures stands { OnOk result ((c : Config) (plp : ℕ) (events : List Event)
+            → ChainStandsFor self.old c plp events → IsDue c plp events → ChainStandsFor self.new c plp (events ++ Cut ∷ [])) }
+        ensures answer { IfOk result (λ frame. (c : Config) (plp : ℕ) (events : List Event)
+            → ChainStandsFor self.old c plp events → IsDue c plp events
             → map bits_of frame ≡ blocks_of c plp c.ticks (packet_at (offered events)) (cuts events)) }
         ensures few { IfOk result (λ frame. length frame ≤ most_blocks self.old) }
         ensures unchanged { OnErr result (self.new ≡ self.old) }
-        ensures same { slot_of self.new ≡ slot_of self.old }
+        ensures slots { slot_of self.new ≡ slot_of self.old }
         ensures most { most_blocks self.new ≡ most_blocks self.old }
     {
         block_law();
@@ -206,14 +212,17 @@ impl Chain {
         self.sent = sent;
     }
 
-    /// How many bytes of the packets offered are not sent yet, or 2^32 - 1 where there are more.
+    /// How many bytes of user packets wait, or 2^32 - 1 where there are more. After each cut it is less than one user packet.
     pub fn backlog(&self) -> u32
-        ensures answer { (c : Config) (plp : ℕ) (events : List Event) → ChainStandsFor self.now c plp events → result ≡ min (waiting c plp events) (2 ^ 32 - 1) }
+        ensures answer { (c : Config) (plp : ℕ) (events : List Event) → ChainStandsFor self.now c plp events
+            → result ≡ min (waiting c plp events) (2 ^ 32 - 1) }
         // After the cut of frame n: what has arrived by then and is not sent, less than one user packet.
-        ensures after_cut { (c : Config) (plp : ℕ) (events : List Event) → ChainStandsFor self.now c plp (events ++ Cut ∷ []) → IsDue c plp events
+        ensures after_cut { (c : Config) (plp : ℕ) (events : List Event)
+            → ChainStandsFor self.now c plp (events ++ Cut ∷ []) → IsDue c plp events
             → result ≡ arrived (rates_of c plp c.ticks) (plp_keeps c plp (packet_at (offered events))) (cuts events)
             - sent (rates_of c plp c.ticks) (plp_keeps c plp (packet_at (offered events))) (cuts events) }
-        ensures few { (c : Config) (plp : ℕ) (events : List Event) → ChainStandsFor self.now c plp (events ++ Cut ∷ []) → IsDue c plp events → result < up_bytes c plp }
+        ensures few { (c : Config) (plp : ℕ) (events : List Event)
+            → ChainStandsFor self.now c plp (events ++ Cut ∷ []) → IsDue c plp events → result < up_bytes c plp }
     {
         block_law();
         within_law();

@@ -1,5 +1,5 @@
 // Laws of the definitions. Their functions do nothing.
-ghost use Rattle.mode_adapt.specs.Laws.{WithinLaw, BacklogLaw, SentLaw, SentWithin, BeginLaw, EndLaw, PlaceLaw, JoinLaw, CountLaw};
+ghost use Rattle.mode_adapt.specs.Laws.{WithinLaw, BacklogLaw, SentLaw, SentWithin, BeginLaw, EndLaw, PlaceLaw, FirstLaw, JoinLaw, CountLaw};
 
 use plp_config::{block_law, length_law};
 
@@ -39,6 +39,11 @@ pub fn end_law()
 /// The user packet of a kept slot stands at its place in the string.
 pub fn place_law()
     ensures { PlaceLaw }
+{}
+
+/// The first user packet that begins in a block, by its number.
+pub fn first_law()
+    ensures { FirstLaw }
 {}
 
 /// The data fields of an epoch are together what it sends.

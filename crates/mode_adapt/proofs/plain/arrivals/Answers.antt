@@ -1,11 +1,10 @@
-use Rattle.std.proofs.Common.{◌≡◌, ◌*◌, ℕ, length, ap, ◌∙◌}
+use Rattle.std.proofs.Common.{◌≡◌, ◌*◌, ℕ, ap, ◌∙◌}
 use Rattle.plp_config.specs.Capacity.{up_bytes}
 use Rattle.plp_config.specs.Plps.{plp_at}
 use Rattle.plp_config.specs.declared.config.Config.{Config}
-use Rattle.null_delete.specs.Deletion.{packet_at, kept_slots}
+use Rattle.null_delete.specs.Deletion.{packet_at}
 use Rattle.mode_adapt.specs.Blocks.{rates_of, plp_keeps}
 use Rattle.mode_adapt.specs.Queue.{arrived}
-use Rattle.mode_adapt.specs.UserPackets.{keeps_of}
 use Rattle.mode_adapt.proofs.PlainLemmas.{frames_step, arrived_step}
 use Rattle.mode_adapt.proofs.plain.arrivals.Goals as goal
 
