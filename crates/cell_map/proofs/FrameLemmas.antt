@@ -1,0 +1,113 @@
+-- The facts of `ShareLemmas`, of what the code computed.
+use Rattle.std.proofs.Common.{◌≡◌, ℕ, ◌+◌, ◌*◌, ◌/◌, ◌%◌, ◌<◌, ◌≤◌, ◌⊎◌, ⊎_elim, List, length, take, sum, refl, ap, sym, ◌∙◌, arith}
+use Rattle.std.specs.Prelude.{slice_index}
+use Rattle.std.proofs.lemmas.List.Sums.{sum_by_more}
+use Rattle.plp_config.specs.Capacity.{IsPlan, block_cells}
+use Rattle.plp_config.specs.Plps.{plp_at, is_type2}
+use Rattle.plp_config.specs.declared.config.Config.{Config}
+use Rattle.plp_config.specs.declared.plp.PlpKind.{PlpKind}
+use Rattle.plp_config.specs.declared.plp.PlpKind.TheVariants.{Type1, Type2}
+use Rattle.scheduler.specs.Shape.{FrameShape, in_type2}
+use Rattle.cell_map.specs.Slices.{IsRow, slice_count, slices_of}
+use Rattle.cell_map.specs.Interleaver.{position}
+use Rattle.cell_map.specs.declared.rows.Row.{Row}
+use Rattle.cell_map.specs.declared.rows.PlpInFrame.{PlpInFrame}
+use Rattle.cell_map.specs.declared.slices.Slices.{Slices}
+use Rattle.cell_map.specs.Address.{IsCell, position_of, address_of}
+use Rattle.cell_map.specs.CellMap.{IsBeyond, Shares, Passes}
+use Rattle.cell_map.proofs.PlanLemmas.{plan_row}
+use Rattle.cell_map.proofs.AtLemmas.{At, at_of_cell}
+use Rattle.cell_map.proofs.MeetingLemmas.{parts_of}
+
+-- a row from its four numbers
+pub row_is : (c : Config) (plp cells blocks interleave slices : ℕ) → IsPlan c → plp < length c.plps
+    → cells ≡ block_cells c plp → blocks ≡ (plp_at c.plps plp).blocks → interleave ≡ (plp_at c.plps plp).interleave → slices ≡ slice_count c plp
+    → IsRow c plp (record { cells = cells; blocks = blocks; interleave = interleave; slices = slices })
+row_is c plp cells blocks interleave slices is h e f g k =
+    let r = plan_row c plp is h in
+    record {
+      cells = e;
+      blocks = f;
+      interleave = g;
+      slices = k;
+      fifth = rw e (r.fifth);
+      least = omega (arith, e, r.least);
+      greatest = omega (arith, e, r.greatest);
+      few = omega (arith, f, r.few);
+      short = omega (arith, g, r.interleave);
+      some = omega (arith, k, r.one);
+      most = omega (arith, k, r.most);
+    }
+
+-- the address of a cell by its position
+pub record AddressIs (c : Config) (shape : FrameShape) (plp block cell : ℕ) : Type 0 where
+  pub some : 0 < (slices_of c shape plp).len
+  pub value : (slices_of c shape plp).start + position_of c shape plp block cell / (slices_of c shape plp).len * shape.interval + position_of c shape plp block cell % (slices_of c shape plp).len ≡ address_of c shape plp block cell
+  pub single : slice_count c plp ≡ 1 → (slices_of c shape plp).start + position_of c shape plp block cell ≡ address_of c shape plp block cell
+
+pub address_is : (c : Config) (shape : FrameShape) (plp block cell : ℕ) → IsPlan c → IsCell c shape plp block cell → AddressIs c shape plp block cell
+address_is c shape plp block cell is there =
+    let (k, (t, x)) = at_of_cell c shape plp block cell is there in
+    let s = slices_of c shape plp in
+    let parts = parts_of s.len k t (position_of c shape plp block cell) x.inner (sym x.place) in
+    record {
+      some = omega (arith, x.inner);
+      value = rw (parts.0, parts.1) (sym x.address);
+      single = λ one.
+          let first : k ≡ 0 = omega (arith, x.slice, one) in
+          let place : position_of c shape plp block cell ≡ 0 * s.len + t = x.place ∙ ap (λ (n : ℕ). n * s.len + t) first in
+          let address : address_of c shape plp block cell ≡ s.start + 0 * shape.interval + t = x.address ∙ ap (λ (n : ℕ). s.start + n * shape.interval + t) first in
+          omega (arith, place, address);
+    }
+
+-- where a shape passes, nothing is wrong with it
+pub not_beyond : (c : Config) (shape : FrameShape) (plp : ℕ) → Passes c shape → plp < length c.plps → ¬ (IsBeyond c shape plp)
+not_beyond c shape plp passes h w =
+    ⊎_elim
+    (λ many. let never : ⊥ = omega (arith, many, passes.counts plp h) in never)
+    (λ far. let (block, cell, there, past) = far in let never : ⊥ = omega (arith, past, passes.below plp block cell there) in never)
+    w
+
+pub not_shared : (c : Config) (shape : FrameShape) (i j : ℕ) → Passes c shape → ¬ (Shares c shape i j)
+not_shared c shape i j passes s = s.apart (passes.apart i s.b s.q j s.d s.r s.one s.other s.same)
+
+-- the address that the code computes
+pub record Computes (c : Config) (shape : FrameShape) (plp block cell start position interval len : ℕ) : Type 0 where
+  pub some : 0 < len
+  pub value : start + position / len * interval + position % len ≡ address_of c shape plp block cell
+  pub below : start + position / len * interval + position % len < c.cells
+
+-- a PLP in a frame, as the code has it
+pub record IsInFrame (c : Config) (shape : FrameShape) (plp : ℕ) (it : PlpInFrame) : Type 0 where
+  pub row : IsRow c plp it.row
+  pub count : it.count ≡ slice_index shape.counts plp
+  pub slices : it.slices ≡ slices_of c shape plp
+
+pub computes : (c : Config) (shape : FrameShape) (plp block cell : ℕ) (it : PlpInFrame) (start at interval : ℕ)
+    → IsPlan c → Passes c shape → IsCell c shape plp block cell → IsInFrame c shape plp it
+    → start ≡ slice_index shape.starts plp → at ≡ position it.row.cells it.row.interleave it.count block cell → interval ≡ shape.interval
+    → Computes c shape plp block cell start at interval it.slices.len
+computes c shape plp block cell it start at interval is passes there in_frame e f g =
+    let a = address_is c shape plp block cell is there in
+    let below = passes.below plp block cell there in
+    let place : at ≡ position_of c shape plp block cell = rw (in_frame.row.cells, in_frame.row.interleave, in_frame.count) at f in
+    rw (e, place, g, in_frame.slices) (record { some = a.some; value = a.value; below = rw (sym a.value) at below })
+
+pub computes_single : (c : Config) (shape : FrameShape) (plp block cell : ℕ) (it : PlpInFrame) (start at : ℕ)
+    → IsPlan c → Passes c shape → IsCell c shape plp block cell → IsInFrame c shape plp it
+    → start ≡ slice_index shape.starts plp → at ≡ position it.row.cells it.row.interleave it.count block cell → it.row.slices ≡ 1
+    → (start + at ≡ address_of c shape plp block cell) × (start + at < c.cells)
+computes_single c shape plp block cell it start at is passes there in_frame e f one =
+    let a = address_is c shape plp block cell is there in
+    let place : at ≡ position_of c shape plp block cell = rw (in_frame.row.cells, in_frame.row.interleave, in_frame.count) at f in
+    let same : start + at ≡ address_of c shape plp block cell = rw (e, place) (a.single (sym in_frame.row.slices ∙ one)) in
+    (same, omega (arith, same, passes.below plp block cell there))
+
+-- one PLP more: its blocks are counted
+pub counted : (counts : List ℕ) (plp before count : ℕ) → plp < length counts → before ≡ sum (take plp counts) → count ≡ slice_index counts plp
+    → before + count ≡ sum (take (plp + 1) counts)
+counted counts plp before count inside e f = omega (arith, e, f, sum_by_more (λ (x : ℕ). x) counts plp 0 inside)
+
+-- a PLP has few blocks where a shape passes
+pub few_blocks : (c : Config) (shape : FrameShape) (plp : ℕ) → IsPlan c → Passes c shape → plp < length c.plps → slice_index shape.counts plp ≤ 1023
+few_blocks c shape plp is passes h = omega (arith, passes.counts plp h, (plan_row c plp is h).few)

@@ -1,0 +1,9 @@
+pub mod GroupLemmas
+pub mod RadixLemmas
+pub mod PositionLemmas
+pub mod MeetingLemmas
+pub mod PlanLemmas
+pub mod AtLemmas
+pub mod ShareLemmas
+pub mod FrameLemmas
+pub mod MapLemmas

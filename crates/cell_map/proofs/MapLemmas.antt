@@ -1,0 +1,153 @@
+-- What the finite map of the pairs has at an address.
+use Rattle.std.proofs.Common.{◌≡◌, ℕ, zero, suc, ◌+◌, ◌*◌, ◌<◌, ◌≤◌, ◌⊎◌, ⊎_elim, inl, inr, Bool, true, false, cond, List, [], ◌∷◌, ◌++◌, Option, Some, None, length, take, map, sum, refl, ap, sym, ◌∙◌, subst, arith}
+use Rattle.std.specs.Prelude.{slice_index, IfNone, IfSome}
+use Rattle.std.specs.Cmp.{nat_cmp_total, nat_cmp_is}
+use Rattle.std.specs.FinMap.{find, get, get-from_entries}
+use Rattle.std.specs.List.{flat_map, range_with_len}
+use Rattle.std.specs.Ordering.{nat_cmp, is_eq}
+use Rattle.std.specs.declared.cmp.Ordering.TheVariants.{Less, Equal, Greater}
+use Rattle.std.proofs.lemmas.Bool.{cases_eq, cases_lt}
+use Rattle.plp_config.specs.Capacity.{IsPlan, block_cells}
+use Rattle.plp_config.specs.declared.config.Config.{Config}
+use Rattle.scheduler.specs.Shape.{FrameShape}
+use Rattle.cell_map.specs.Address.{IsCell, address_of}
+use Rattle.cell_map.specs.CellMap.{Passes, ordinal_of, pair_of, block_pairs, plp_pairs, pairs, cell_map}
+use Rattle.cell_map.specs.Slices.{Found}
+use Rattle.cell_map.specs.declared.places.Cell.{Cell}
+use Rattle.cell_map.proofs.GroupLemmas.{bool_cases}
+
+abbrev Entries : Type 0
+Entries = List (ℕ × Cell)
+
+-- each entry is so
+Each : (ℕ × Cell → Type 0) → Entries → Type 0
+Each P [] = Unit {0}
+Each P (e ∷ es) = P e × Each P es
+
+-- one entry has this key
+Has : ℕ → Entries → Type 0
+Has key [] = ⊥
+Has key (e ∷ es) = (e.0 ≡ key) ⊎ Has key es
+
+each-append : (P : ℕ × Cell → Type 0) (xs ys : Entries) → Each P xs → Each P ys → Each P (xs ++ ys)
+unfolding Each
+each-append P [] ys a b = b
+each-append P (x ∷ xs) ys a b = (a.0, each-append P xs ys a.1 b)
+
+has-left : (key : ℕ) (xs ys : Entries) → Has key xs → Has key (xs ++ ys)
+unfolding Has
+has-left key [] ys h = absurd h
+has-left key (x ∷ xs) ys h = ⊎_elim (λ (a : x.0 ≡ key). inl a) (λ (b : Has key xs). inr (has-left key xs ys b)) h
+
+has-right : (key : ℕ) (xs ys : Entries) → Has key ys → Has key (xs ++ ys)
+unfolding Has
+has-right key [] ys h = h
+has-right key (x ∷ xs) ys h = inr (has-right key xs ys h)
+
+each-flat : (P : ℕ × Cell → Type 0) (f : ℕ → Entries) (s n : ℕ) → ((i : ℕ) → s ≤ i → i < s + n → Each P (f i)) → Each P (flat_map f (range_with_len s n))
+unfolding Each
+each-flat P f s zero h = tt
+each-flat P f s (suc n) h =
+    each-append P (f s) (flat_map f (range_with_len (s + 1) n)) (h s (omega arith) (omega arith))
+    (each-flat P f (s + 1) n (λ i a b. h i (omega arith) (omega arith)))
+
+has-flat : (key : ℕ) (f : ℕ → Entries) (s n i : ℕ) → s ≤ i → i < s + n → Has key (f i) → Has key (flat_map f (range_with_len s n))
+has-flat key f s zero i a b h = absurd (omega arith)
+has-flat key f s (suc n) i a b h =
+    elim (cases_eq s i) [
+      | inl same ↦ has-left key (f s) (flat_map f (range_with_len (s + 1) n)) (subst (λ (k : ℕ). Has key (f k)) (sym same) h)
+      | inr differ ↦ has-right key (f s) (flat_map f (range_with_len (s + 1) n)) (has-flat key f (s + 1) n i (omega arith) (omega arith) h)
+    ]
+
+each-map : (P : ℕ × Cell → Type 0) (f : ℕ → ℕ × Cell) (s n : ℕ) → ((i : ℕ) → s ≤ i → i < s + n → P (f i)) → Each P (map f (range_with_len s n))
+unfolding Each
+each-map P f s zero h = tt
+each-map P f s (suc n) h = (h s (omega arith) (omega arith), each-map P f (s + 1) n (λ i a b. h i (omega arith) (omega arith)))
+
+has-map : (key : ℕ) (f : ℕ → ℕ × Cell) (s n i : ℕ) → s ≤ i → i < s + n → (f i).0 ≡ key → Has key (map f (range_with_len s n))
+unfolding Has
+has-map key f s zero i a b h = absurd (omega arith)
+has-map key f s (suc n) i a b h =
+    elim (cases_eq s i) [
+      | inl same ↦ inl (subst (λ (k : ℕ). (f k).0 ≡ key) (sym same) h)
+      | inr differ ↦ inr (has-map key f (s + 1) n i (omega arith) (omega arith) h)
+    ]
+
+-- what holds of each cell holds of each pair
+each-pair : (c : Config) (shape : FrameShape) (P : ℕ × Cell → Type 0)
+    → ((plp block cell : ℕ) → IsCell c shape plp block cell → P (pair_of c shape plp block cell)) → Each P (pairs c shape)
+each-pair c shape P h =
+    each-flat P (plp_pairs c shape) 0 (length c.plps)
+    (λ plp _ configured. each-flat P (block_pairs c shape plp) 0 (slice_index shape.counts plp)
+    (λ block _ sent. each-map P (pair_of c shape plp block) 0 (block_cells c plp)
+    (λ cell _ within. h plp block cell (record { configured = omega (arith, configured); sent = omega (arith, sent); within = omega (arith, within) }))))
+
+-- each cell is in a pair
+has-pair : (c : Config) (shape : FrameShape) (plp block cell : ℕ) → IsCell c shape plp block cell → Has (address_of c shape plp block cell) (pairs c shape)
+has-pair c shape plp block cell there =
+    has-flat (address_of c shape plp block cell) (plp_pairs c shape) 0 (length c.plps) plp (omega arith) (omega (arith, there.configured))
+    (has-flat (address_of c shape plp block cell) (block_pairs c shape plp) 0 (slice_index shape.counts plp) block (omega arith) (omega (arith, there.sent))
+    (has-map (address_of c shape plp block cell) (pair_of c shape plp block) 0 (block_cells c plp) cell (omega arith) (omega (arith, there.within)) refl))
+
+-- a test of keys
+keys_equal : (a b : ℕ) → is_eq (nat_cmp a b) ≡ true → a ≡ b
+keys_equal a b h =
+    elim (cases_eq a b) [
+      | inl same ↦ same
+      | inr differ ↦ elim (cases_lt a b) [
+        | inl less ↦ (let e : is_eq Less ≡ true = ap is_eq (nat_cmp_is a b Less less) ∙ h in let never : false ≡ true = e in cc)
+        | inr more ↦ (let e : is_eq Greater ≡ true = ap is_eq (nat_cmp_is a b Greater (omega arith)) ∙ h in let never : false ≡ true = e in cc)
+      ]
+    ]
+
+keys_differ : (a b : ℕ) → is_eq (nat_cmp a b) ≡ false → ¬ (b ≡ a)
+keys_differ a b h e = let same : is_eq Equal ≡ false = ap is_eq (nat_cmp_is a b Equal (sym e)) ∙ h in let never : true ≡ false = same in cc
+
+find-none : (key : ℕ) (es : Entries) → Each (λ e. ¬ (e.0 ≡ key)) es → find nat_cmp key es ≡ None
+unfolding Each
+find-none key [] h = refl
+find-none key (e ∷ es) h =
+    bool_cases (is_eq (nat_cmp key e.0))
+    (λ t. absurd (h.0 (sym (keys_equal key e.0 t))))
+    (λ t. ap (λ (b : Bool). cond b (Some e.1) (find nat_cmp key es)) t ∙ find-none key es h.1)
+
+find-some : (key : ℕ) (v : Cell) (es : Entries) → Each (λ e. e.0 ≡ key → e.1 ≡ v) es → Has key es → find nat_cmp key es ≡ Some v
+unfolding Each Has
+find-some key v [] h has = absurd has
+find-some key v (e ∷ es) h has =
+    bool_cases (is_eq (nat_cmp key e.0))
+    (λ t. ap (λ (b : Bool). cond b (Some e.1) (find nat_cmp key es)) t ∙ ap (λ (x : Cell). Some x) (h.0 (sym (keys_equal key e.0 t))))
+    (λ t. ap (λ (b : Bool). cond b (Some e.1) (find nat_cmp key es)) t
+    ∙ find-some key v es h.1 (⊎_elim (λ (a : e.0 ≡ key). absurd (keys_differ key e.0 t a)) (λ (b : Has key es). b) has))
+
+-- the cell found at an address is the map's
+pub get-found : (c : Config) (shape : FrameShape) (address : ℕ) (v : Cell) → Passes c shape → Found c shape address v → get (cell_map c shape) address ≡ Some v
+unfolding cell_map
+get-found c shape address v passes found =
+    let only : (plp block cell : ℕ) → IsCell c shape plp block cell → address_of c shape plp block cell ≡ address
+    → record { ordinal = ordinal_of shape plp block; cell = cell } ≡ v =
+    λ plp block cell there here.
+    let same = passes.apart plp block cell found.plp found.block v.cell there found.there (here ∙ sym found.value) in
+    ap (λ (j : ℕ). record { ordinal = ordinal_of shape j block; cell = cell }) same.0
+    ∙ ap (λ (b : ℕ). record { ordinal = ordinal_of shape found.plp b; cell = cell }) same.1
+    ∙ ap (λ (q : ℕ). record { ordinal = ordinal_of shape found.plp found.block; cell = q }) same.2
+    ∙ ap (λ (n : ℕ). record { ordinal = n; cell = v.cell }) (sym found.ordinal) in
+    get-from_entries nat_cmp_total (pairs c shape) address
+    ∙ find-some address v (pairs c shape)
+    (each-pair c shape (λ e. e.0 ≡ address → e.1 ≡ v) only)
+    (subst (λ (a : ℕ). Has a (pairs c shape)) found.value (has-pair c shape found.plp found.block v.cell found.there))
+
+-- where no cell has the address the map has none
+pub get-none : (c : Config) (shape : FrameShape) (address : ℕ) → ((plp block cell : ℕ) → IsCell c shape plp block cell → ¬ (address_of c shape plp block cell ≡ address))
+    → get (cell_map c shape) address ≡ None
+unfolding cell_map
+get-none c shape address none =
+    get-from_entries nat_cmp_total (pairs c shape) address
+    ∙ find-none address (pairs c shape) (each-pair c shape (λ e. ¬ (e.0 ≡ address)) none)
+
+-- what was found, or not, is what the map has
+pub get-is : (c : Config) (shape : FrameShape) (address : ℕ) (answer : Option Cell) → Passes c shape
+    → IfNone answer ((plp block cell : ℕ) → IsCell c shape plp block cell → ¬ (address_of c shape plp block cell ≡ address))
+    → IfSome answer (Found c shape address) → answer ≡ get (cell_map c shape) address
+get-is c shape address None passes none some = sym (get-none c shape address none)
+get-is c shape address (Some v) passes none some = sym (get-found c shape address v passes some)

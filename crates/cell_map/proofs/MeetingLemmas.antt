@@ -1,0 +1,79 @@
+-- Where slices meet.
+use Rattle.std.proofs.Common.{◌≡◌, ℕ, zero, suc, ◌+◌, ◌-◌, ◌*◌, ◌/◌, ◌%◌, ◌<◌, ◌≤◌, ◌↔◌, ◌≢◌, ◌⊎◌, ⊎_elim, inl, inr, min, Bool, true, false, ltb, IsTrue, refl, ap, sym, ◌∙◌, subst, arith}
+use Rattle.std.proofs.lemmas.Bool.{lt-ltb, le-ltb, ltb-true, ltb-false}
+use Rattle.std.proofs.lemmas.Nat.{div-add-mod', mod_below, div_below, mul-le, le-div, div-mul-add, mod-mul-add}
+use Rattle.cell_map.specs.declared.slices.Slices.{Slices}
+use Rattle.cell_map.specs.Slices.{Meets, SliceMeets, SlicesMeet}
+use Rattle.cell_map.proofs.GroupLemmas.{bool_cases}
+
+pub last_below : (x interval last : ℕ) → last ≤ x / interval → last * interval ≤ x
+last_below x interval last h =
+    let all = div-add-mod' x interval in
+    let m : last * interval ≤ x / interval * interval = mul-le last interval (x / interval) interval h (omega arith) in
+    omega (arith, all, m)
+
+-- the last slice that begins before the interval's end decides
+pub meets_law : (start len : ℕ) (s : Slices) (interval last : ℕ) → 0 < interval → 0 < s.count → s.start < start + len →
+    last ≡ min (s.count - 1) ((start + len - s.start - 1) / interval) →
+    IsTrue (ltb start (s.start + last * interval + s.len)) ↔ SliceMeets start len s interval
+meets_law start len s interval last some has far e =
+    let x : ℕ = start + len - s.start - 1 in
+    let low : last ≤ x / interval = omega arith in
+    let m = last_below x interval last low in (
+      λ b. let lt = ltb-true start (s.start + last * interval + s.len) b in (last, omega arith, (lt, omega (arith, m))),
+      λ (k, below, meets).
+          let upto : k * interval ≤ x = omega (arith, meets.1) in
+          let quotient : k ≤ x / interval = le-div k x interval some upto in
+          let most : k ≤ last = omega arith in
+          let product : k * interval ≤ last * interval = mul-le k interval last interval most (omega arith) in
+          lt-ltb start (s.start + last * interval + s.len) (omega (arith, meets.0, product)),
+    )
+
+-- two slices meet where the first of the one meets one of the other's: shift both back by the smaller number
+pub meet_shifted : (a b : Slices) (interval : ℕ) → SlicesMeet a b interval → SliceMeets a.start a.len b interval ⊎ SliceMeets b.start b.len a interval
+meet_shifted a b interval (j, (k, hj, hk, meets)) =
+    bool_cases (ltb j k)
+    (λ e. let lt = ltb-true j k e in
+    let d : j + (k - j) ≡ k = omega arith in
+    let product : j * interval + (k - j) * interval ≡ k * interval = omega (arith, ap (λ (n : ℕ). n * interval) d) in
+    inl (k - j, omega arith, (omega (arith, meets.0, product), omega (arith, meets.1, product))))
+    (λ e. let le = ltb-false j k e in
+    let d : k + (j - k) ≡ j = omega arith in
+    let product : k * interval + (j - k) * interval ≡ j * interval = omega (arith, ap (λ (n : ℕ). n * interval) d) in
+    inr (j - k, omega arith, (omega (arith, meets.1, product), omega (arith, meets.0, product))))
+
+pub meet_first : (a b : Slices) (interval : ℕ) → 0 < a.count → SliceMeets a.start a.len b interval → SlicesMeet a b interval
+meet_first a b interval some (k, below, meets) = (0, (k, some, below, (omega (arith, meets.0), omega (arith, meets.1))))
+
+pub meet_second : (a b : Slices) (interval : ℕ) → 0 < b.count → SliceMeets b.start b.len a interval → SlicesMeet a b interval
+meet_second a b interval some (k, below, meets) = (k, (0, below, some, (omega (arith, meets.1), omega (arith, meets.0))))
+
+pub meet_law : (a b : Slices) (interval : ℕ) (first second : Bool) → 0 < a.count → 0 < b.count →
+    IsTrue first ↔ SliceMeets a.start a.len b interval → first ≡ false → IsTrue second ↔ SliceMeets b.start b.len a interval →
+    IsTrue second ↔ SlicesMeet a b interval
+meet_law a b interval first second ha hb f none g = (
+  λ e. meet_second a b interval hb (g.0 e),
+  λ w. ⊎_elim (λ x. absurd (let never : true ≡ false = sym (f.1 x) ∙ none in cc)) (λ y. g.1 y) (meet_shifted a b interval w),
+)
+
+pub parts_of : (interval k t rest : ℕ) → t < interval → k * interval + t ≡ rest → (rest / interval ≡ k) × (rest % interval ≡ t)
+parts_of interval k t rest h e =
+    (ap (λ (n : ℕ). n / interval) (sym e) ∙ div-mul-add k interval t h, ap (λ (n : ℕ). n % interval) (sym e) ∙ mod-mul-add k interval t h)
+
+pub no_place : (start len count interval address : ℕ) → (count ≡ 1) ⊎ (len ≤ interval) → count ≢ 1 → start ≤ address →
+    (count ≤ (address - start) / interval) ⊎ (len ≤ (address - start) % interval) →
+    (k t : ℕ) → k < count → t < len → start + k * interval + t ≡ address → ⊥
+no_place start len count interval address apart many low out k t hk ht e =
+    let long : len ≤ interval = ⊎_elim (λ (x : count ≡ 1). absurd (many x)) (λ (x : len ≤ interval). x) apart in
+    let rest : k * interval + t ≡ address - start = omega (arith, e) in
+    let inner : t < interval = omega (arith, long) in
+    let p = parts_of interval k t (address - start) inner rest in
+    ⊎_elim (λ (x : count ≤ (address - start) / interval). (let never : ⊥ = omega (arith, x, p.0) in never)) (λ (x : len ≤ (address - start) % interval). (let never : ⊥ = omega (arith, x, p.1) in never)) out
+
+pub never_law : {P : Type 0} → ¬ P → IsTrue false ↔ P
+never_law n = (λ e. absurd (let never : false ≡ true = e in cc), λ p. absurd (n p))
+
+pub more_below : (P : ℕ → Type 0) (first k : ℕ) → ((j : ℕ) → first ≤ j → j < k → P j) → P k → (j : ℕ) → first ≤ j → j < k + 1 → P j
+more_below P first k below here j a b =
+    bool_cases (ltb j k) (λ e. below j a (ltb-true j k e))
+    (λ e. let le = ltb-false j k e in let same : k ≡ j = omega (arith, le) in subst P same here)

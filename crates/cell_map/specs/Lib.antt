@@ -1,0 +1,8 @@
+pub mod Interleaver
+pub mod Address
+pub mod CellMap
+pub mod Slices
+pub use Rattle.plp_config.specs.Capacity
+pub use Rattle.plp_config.specs.Plps
+pub use Rattle.scheduler.specs.Shape
+pub use Rattle.scheduler.specs.Laws

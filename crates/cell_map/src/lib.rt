@@ -1,0 +1,11 @@
+//! The map of the cells of a frame (EN 302 755, clauses 6.5 and 8).
+#![tactic(auto)]
+
+mod faults;
+mod interleaving;
+mod places;
+mod rows;
+mod slices;
+
+pub use faults::{MapFault, check};
+pub use places::{Cell, address, at};

@@ -1,0 +1,87 @@
+// What the map needs of a PLP in a frame.
+ghost use Rattle.std.specs.Prelude.{◌≡◌, ◌<◌, ◌≤◌, ◌^◌, length, slice_index};
+ghost use Rattle.plp_config.specs.Capacity.{IsPlan};
+ghost use Rattle.scheduler.specs.Shape.{in_type2};
+ghost use Rattle.cell_map.specs.Slices.{IsRow, slice_count, slices_of};
+
+use crate::slices::Slices;
+use plp_config::{Plan, PlpKind};
+use scheduler::Shape;
+
+// What the plan says of a PLP.
+#[derive(Clone, Copy)]
+pub struct Row {
+    // Cells of a block.
+    pub cells: u32,
+    // Blocks in a frame at most.
+    pub blocks: u32,
+    // The length of its interleaver.
+    pub interleave: u32,
+    // Slices in a frame.
+    pub slices: u32,
+}
+
+fn is_type2(plan: &Plan, plp: usize) -> bool
+    requires { plp < length plan.now.plps }
+    ensures { result ≡ in_type2 plan.now plp }
+{
+    plan.config().plps.get(plp).unwrap().kind == PlpKind::Type2
+}
+
+fn slice_count(plan: &Plan, plp: usize) -> u32
+    requires { plp < length plan.now.plps }
+    ensures { result ≡ slice_count plan.now plp }
+{
+    if is_type2(plan, plp) {
+        u32::from(plan.config().sub_slices)
+    } else {
+        1
+    }
+}
+
+pub fn row_of(plan: &Plan, plp: usize) -> Row
+    requires { plp < length plan.now.plps }
+    ensures row { IsRow plan.now plp result }
+    ensures plan { IsPlan plan.now }
+{
+    let entry = plan.config().plps.get(plp).unwrap();
+    Row {
+        cells: plan.block_cells(plp),
+        blocks: u32::from(entry.blocks),
+        interleave: u32::from(entry.interleave),
+        slices: slice_count(plan, plp),
+    }
+}
+
+// A PLP in a frame: how many blocks it has, and its slices.
+#[derive(Clone, Copy)]
+pub struct PlpInFrame {
+    pub row: Row,
+    pub count: u32,
+    pub slices: Slices,
+}
+
+pub fn plp_in_frame(plan: &Plan, shape: &Shape, plp: usize) -> PlpInFrame
+    requires plps { length shape.now.counts ≡ length plan.now.plps }
+    requires plp { plp < length plan.now.plps }
+    ensures row { IsRow plan.now plp result.row }
+    ensures count { result.count ≡ slice_index shape.now.counts plp }
+    ensures slices { result.slices ≡ slices_of plan.now shape.now plp }
+    ensures start { result.slices.start < 2 ^ 32 }
+    ensures len { result.slices.len < 2 ^ 32 }
+    ensures some { 0 < result.slices.count }
+    ensures few { result.slices.count < 2 ^ 32 }
+    ensures plan { IsPlan plan.now }
+{
+    let row = row_of(plan, plp);
+    let count = u32::from(shape.count(plp));
+    PlpInFrame {
+        row,
+        count,
+        slices: Slices {
+            start: u64::from(shape.start(plp)),
+            len: u64::from(count * row.cells / row.slices),
+            count: u64::from(row.slices),
+        },
+    }
+}
