@@ -93,7 +93,7 @@ cells_fit c counts place is fit inside =
     omega (arith, parts, cells_before-le c counts place fit inside, most, need)
 
 -- a sum over more places is larger
-sum-rises : (f : ℕ → ℕ) (test : ℕ → Bool) (n more : ℕ)
+pub sum-rises : (f : ℕ → ℕ) (test : ℕ → Bool) (n more : ℕ)
     → sum_by f (filter test (range_with_len 0 n)) ≤ sum_by f (filter test (range_with_len 0 (n + more)))
 sum-rises f test n zero = let e : n + 0 ≡ n = omega arith in rw e (omega arith)
 sum-rises f test n (suc more) =

@@ -6,7 +6,7 @@ mod laws;
 mod numbers;
 
 pub use frame::shape;
-pub use laws::field_law;
+pub use laws::{field_law, order_law};
 pub use numbers::Shape;
 
 #[cfg(test)]
