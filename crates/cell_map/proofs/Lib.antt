@@ -7,3 +7,4 @@ pub mod AtLemmas
 pub mod ShareLemmas
 pub mod FrameLemmas
 pub mod MapLemmas
+pub mod PassLemmas

@@ -2,6 +2,7 @@
 use Rattle.std.proofs.Common.{◌≡◌, ℕ, zero, suc, ◌+◌, ◌-◌, ◌*◌, ◌/◌, ◌%◌, ◌<◌, ◌≤◌, refl, ap, sym, ◌∙◌, subst, arith}
 use Rattle.std.proofs.lemmas.Nat.{div-add-mod', mod_below, div-mul-add, mod-mul-add, div_below, mul-add-lt, mul-le, le-div, same_from_place}
 use Rattle.cell_map.specs.declared.interleaving.Group.{Group}
+use Rattle.cell_map.specs.Laws.{InterleaverFillsOnce}
 use Rattle.cell_map.specs.Interleaver.{sizes_of, group_in, group_of, in_group, position}
 use Rattle.cell_map.proofs.GroupLemmas.{Around, around, total, total-sizes}
 use Rattle.cell_map.proofs.RadixLemmas.{column_below, radix_below, Parts, radix_parts, Whole, radix_whole}
@@ -168,3 +169,10 @@ placed cells (suc groups) n p some f h =
     let g = group_of n (suc groups) (p / cells) in
     let rest = p - g.first * cells in
     (block_at rest g, (cell_at (cells / 5) rest g, holds cells groups n p f h))
+
+pub fills_once : InterleaverFillsOnce
+fills_once cells length n some fifth = record {
+  below = λ b q hb hq. position_below cells length n b q fifth hb hq;
+  apart = λ b q d r hb hq hd hr e. position_one cells length n b q d r fifth hb hq hd hr e;
+  onto = λ p h. let (b, (q, x)) = placed cells length n p some fifth h in (b, q, x.block, x.cell, x.value);
+}

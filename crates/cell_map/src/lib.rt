@@ -3,9 +3,11 @@
 
 mod faults;
 mod interleaving;
+mod laws;
 mod places;
 mod rows;
 mod slices;
 
 pub use faults::{MapFault, check};
+pub use laws::{interleaver_law, shape_law};
 pub use places::{Cell, address, at};

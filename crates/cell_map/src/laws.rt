@@ -1,0 +1,16 @@
+// Laws of the cell map. Their functions do nothing.
+ghost use Rattle.cell_map.specs.Laws.{InterleaverFillsOnce, ShapePasses};
+
+use scheduler::order_law;
+
+/// The interleaver is one to one, and onto.
+pub fn interleaver_law()
+    ensures { InterleaverFillsOnce }
+{}
+
+/// Every shape that `scheduler::shape` gives has a cell map.
+pub fn shape_law()
+    ensures { ShapePasses }
+{
+    order_law();
+}
