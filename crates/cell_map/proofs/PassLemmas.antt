@@ -45,9 +45,9 @@ in_order : (a la b lb interval j k : ℕ) → a + la ≤ b → b + lb ≤ a + in
 in_order a la b lb interval j k before within meets =
     elim (cases_lt k j) [
       | inl less ↦ (let product : (k + 1) * interval ≤ j * interval = mul-le (k + 1) interval j interval (omega arith) (omega arith) in
-        let never : ⊥ = omega (arith, product, meets.0, within) in never)
+          let never : ⊥ = omega (arith, product, meets.0, within) in never)
       | inr upto ↦ (let product : j * interval ≤ k * interval = mul-le j interval k interval upto (omega arith) in
-        let never : ⊥ = omega (arith, product, meets.1, before) in never)
+          let never : ⊥ = omega (arith, product, meets.1, before) in never)
     ]
 
 -- PLPs in order share no address

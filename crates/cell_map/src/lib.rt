@@ -11,3 +11,6 @@ mod slices;
 pub use faults::{MapFault, check};
 pub use laws::{interleaver_law, shape_law};
 pub use places::{Cell, address, at};
+
+#[cfg(test)]
+mod tests;
