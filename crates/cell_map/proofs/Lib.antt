@@ -8,3 +8,5 @@ pub mod ShareLemmas
 pub mod FrameLemmas
 pub mod MapLemmas
 pub mod PassLemmas
+pub mod RunLemmas
+pub mod ReadingLemmas

@@ -2,6 +2,8 @@ pub mod Interleaver
 pub mod Address
 pub mod CellMap
 pub mod Slices
+pub mod Runs
+pub mod Reading
 pub mod Laws
 pub use Rattle.plp_config.specs.Capacity
 pub use Rattle.plp_config.specs.Plps

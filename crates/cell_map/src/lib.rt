@@ -5,12 +5,15 @@ mod faults;
 mod interleaving;
 mod laws;
 mod places;
+mod reading;
 mod rows;
+mod runs;
 mod slices;
 
 pub use faults::{MapFault, check};
 pub use laws::{interleaver_law, shape_law};
 pub use places::{Cell, address, at};
+pub use reading::Cells;
 
 #[cfg(test)]
 mod tests;

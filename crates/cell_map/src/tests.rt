@@ -365,3 +365,22 @@ fn groups_of_several_sizes(rt: HostRuntime) -> Result<(), Fail> {
     }
     Ok(())
 }
+
+#[test]
+fn cells_in_the_order_of_their_addresses(rt: HostRuntime) -> Result<(), Fail> {
+    let plan = mixed(&rt)?;
+    let shape = shape_with(rt.alloc(), &plan, [2, 1, 1], [0, 4_050, 4_455], 1_215)?;
+    if shape.len() != plan.config().plps.len() {
+        panic!(rt; "another number of PLPs");
+    }
+    match check(&plan, &shape) {
+        Ok(()) => {
+            let mut cells = Cells::new(&plan, &shape);
+            for address in 0..plan.config().cells {
+                assert_eq!(rt; cells.next(), at(&plan, &shape, address));
+            }
+        }
+        Err(fault) => panic!(rt; "{fault}"),
+    }
+    Ok(())
+}

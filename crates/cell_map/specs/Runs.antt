@@ -1,0 +1,65 @@
+-- How `Cells` goes from address to address. No public clause cites this module.
+use Rattle.std.specs.Prelude.{◌≡◌, ℕ, ◌+◌, ◌*◌, ◌^◌, ◌<◌, ◌≤◌, length, take, sum, slice_index}
+use Rattle.plp_config.specs.Capacity.{block_cells}
+use Rattle.plp_config.specs.Plps.{plp_at}
+use Rattle.plp_config.specs.declared.config.Config.{Config}
+use Rattle.scheduler.specs.Shape.{FrameShape}
+use Rattle.cell_map.specs.Address.{address_at}
+use Rattle.cell_map.specs.CellMap.{Passes}
+use Rattle.cell_map.specs.Interleaver.{position}
+use Rattle.cell_map.specs.declared.runs.Run.{Run}
+
+-- the place of a run in its group: rows of so many columns a block
+abbrev pub place_in : Run → ℕ
+place_in run = run.row * (run.columns * run.size) + (run.columns * run.block + run.column)
+
+-- the cell of a block at a position
+pub record Holds (cells length n at block cell : ℕ) : Type 0 where
+  pub sent : block < n
+  pub within : cell < cells
+  pub value : position cells length n block cell ≡ at
+
+-- the places of a group, each of whose blocks is written column by column and which is read row by row
+abbrev pub HoldsAll : ℕ → ℕ → ℕ → ℕ → Run → Type 0
+HoldsAll cells length n first run = (row block column : ℕ) → row < run.rows → block < run.size → column < run.columns
+    → Holds cells length n (first * cells + (row * (run.columns * run.size) + (run.columns * block + column))) (first + block) (column * run.rows + row)
+
+-- a run at a position, of no more than so many cells
+pub record RunsFrom (cells length n before at limit : ℕ) (run : Run) : Type 0 where
+  pub first : ℕ
+  pub ordinal : run.first ≡ before + first
+  pub holds : HoldsAll cells length n first run
+  pub here : first * cells + place_in run ≡ at
+  pub block : run.block < run.size
+  pub column : run.column < run.columns
+  pub some : 0 < run.left
+  pub most : run.left ≤ limit
+  pub within : place_in run + run.left ≤ run.rows * (run.columns * run.size)
+  pub few : (run.rows < 2 ^ 15) × (run.size < 2 ^ 10) × (run.columns ≤ 5) × (run.first < 2 ^ 21)
+
+-- the cells of the next addresses are those of a run
+pub record RunsAt (c : Config) (shape : FrameShape) (address : ℕ) (run : Run) : Type 0 where
+  pub plp : ℕ
+  pub at : ℕ
+  pub limit : ℕ
+  pub configured : plp < length c.plps
+  pub runs : RunsFrom (block_cells c plp) (plp_at c.plps plp).interleave (slice_index shape.counts plp) (sum (take plp shape.counts)) at limit run
+  pub addresses : (i : ℕ) → i < limit → address_at c shape plp (at + i) ≡ address + i
+
+-- one step on
+pub record Steps (run next : Run) : Type 0 where
+  pub first : next.first ≡ run.first
+  pub rows : next.rows ≡ run.rows
+  pub columns : next.columns ≡ run.columns
+  pub size : next.size ≡ run.size
+  pub place : place_in next ≡ place_in run + 1
+  pub left : next.left + 1 ≡ run.left
+  pub block : next.block < next.size
+  pub column : next.column < next.columns
+
+-- what is known between two calls
+pub record IsReading (c : Config) (shape : FrameShape) (address : ℕ) (run : Run) : Type 0 where
+  pub plps : length shape.counts ≡ length c.plps
+  pub passes : Passes c shape
+  pub few : c.cells < 2 ^ 32
+  pub next : 0 < run.left → RunsAt c shape address run
