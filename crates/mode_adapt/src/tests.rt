@@ -78,6 +78,7 @@ fn network(alloc: Global, plps: &[Plp]) -> Result<Config, OutOfMemory> {
 // A chain with the slot of its next packet, for the first PLP of a plan.
 #[derive(Drop)]
 struct Feed {
+    alloc: Global,
     plan: Plan,
     chain: Chain,
     slot: u64,
@@ -129,6 +130,7 @@ impl Feed {
         assert!(rt; plan.config().plps.len() > 0);
         let chain = Chain::open(rt.alloc(), &plan, 0)?;
         Ok(Feed {
+            alloc: rt.alloc(),
             plan,
             chain,
             slot: 0,
@@ -213,33 +215,57 @@ fn backlogs_of_a_loaded_network(rt: HostRuntime) -> Result<(), Fail> {
     Ok(())
 }
 
+// Headers of the first frame with blocks, and what follows the first: FULL where slot 0 begins, NEXT where slot 5 begins 71 bytes
+// on, and LAST where none does.
+#[rattlefmt::skip]
+const FULL: [u8; 13] = [0xFC, 0x00, 0x80, 0x00, 0x1B, 0x28, 0x00, 0x00, 0x00, 0xFA, 0x1F, 0xFE, 0x10];
+
+#[rattlefmt::skip]
+const NEXT: [u8; 10] = [0xFC, 0x00, 0x80, 0x86, 0x1B, 0x28, 0x49, 0x02, 0x38, 0x82];
+
+#[rattlefmt::skip]
+const LAST: [u8; 10] = [0xFC, 0x00, 0x80, 0x00, 0x00, 0xC8, 0x00, 0xFF, 0xFF, 0x19];
+
+// Whether a block of a frame begins with these bytes.
+fn begins(frame: &FrameBytes, place: usize, bytes: &[u8]) -> bool {
+    frame.get(place).unwrap_or(&[]).starts_with(bytes)
+}
+
 #[test]
 fn blocks_of_the_first_frames(rt: HostRuntime) -> Result<(), Fail> {
     let mut feed = Feed::new(&rt, &[PLP])?;
     let packets = packets(rt.alloc(), 0, 20)?;
     assert!(rt; feed.next_frame(&packets)?.is_empty());
     let frame = feed.next_frame(&packets)?;
-    assert_eq!(rt; frame.len(), 4);
-    assert!(rt; frame.get(4).is_none());
-    assert_eq!(rt; carried(rt.alloc(), &frame)?.len(), 2_632);
-    let first = frame.get(0).unwrap_or(&[]);
-    assert_eq!(rt; first.len(), 879);
-    assert!(rt;
-        first.starts_with(&[
-            0xFC, 0x00, 0x80, 0x00, 0x1B, 0x28, 0x00, 0x00, 0x00, 0xFA, 0x1F, 0xFE, 0x10
-        ])
-    );
-    // The second user packet that begins in it begins in the second block, 71 bytes on, in slot 5.
-    let second = frame.get(1).unwrap_or(&[]);
-    assert!(rt; second.starts_with(&[0xFC, 0x00, 0x80, 0x86, 0x1B, 0x28, 0x49, 0x02, 0x38, 0x82]));
-    let last = frame.get(3).unwrap_or(&[]);
-    assert!(rt; last.starts_with(&[0xFC, 0x00, 0x80, 0x00, 0x00, 0xC8, 0x00, 0xFF, 0xFF, 0x19]));
-    assert!(rt; last.len() == 879 && last[34] == 0 && last[33] == 0xFF && last[878] == 0);
+    assert!(rt; frame.len() == 4 && frame.get(4).is_none());
+    assert!(rt; carried(rt.alloc(), &frame)?.len() == 2_632);
+    assert!(rt; begins(&frame, 0, &FULL) && begins(&frame, 1, &NEXT) && begins(&frame, 3, &LAST));
+    Ok(())
+}
 
-    let mut scrambled = [0; 879];
-    scrambled.copy_from_slice(first);
-    scramble(&mut scrambled);
-    assert!(rt; scrambled.starts_with(&[0xFF, 0xF6]));
+// A block of 879 bytes.
+fn block(frame: &FrameBytes, place: usize) -> [u8; 879] {
+    let mut bytes = [0xAA; 879];
+    if let Some(block) = frame.get(place) {
+        if block.len() == 879 {
+            bytes.copy_from_slice(block);
+        }
+    }
+    bytes
+}
+
+// The last user packet ends with 0xFF and its dnp, 0; zeros follow.
+#[test]
+fn padding_and_scrambling(rt: HostRuntime) -> Result<(), Fail> {
+    let mut feed = Feed::new(&rt, &[PLP])?;
+    let packets = packets(rt.alloc(), 0, 20)?;
+    assert!(rt; feed.next_frame(&packets)?.is_empty());
+    let frame = feed.next_frame(&packets)?;
+    let last = block(&frame, 3);
+    assert!(rt; last[33] == 0xFF && last[34..] == [0; 845]);
+    let mut first = block(&frame, 0);
+    scramble(&mut first);
+    assert!(rt; first.starts_with(&[0xFF, 0xF6]));
     Ok(())
 }
 
@@ -285,31 +311,62 @@ fn headers_of_several_plps(rt: HostRuntime) -> Result<(), Fail> {
     Ok(())
 }
 
+// The next frame of a run, beside what the definitions say: whether its bytes are those of the string from a place on, up to what
+// is sent, and whether as much waits. Its blocks are appended to those before.
+fn compare(
+    feed: &mut Feed,
+    packets: &[TsPacket],
+    rest: &[u8],
+    sizes: (u128, u128),
+    blocks: &mut Vec<u8>,
+) -> Result<bool, OutOfMemory> {
+    let frame = feed.next_frame(packets)?;
+    append_blocks(blocks, &frame)?;
+    let bytes = carried(feed.alloc, &frame)?;
+    let same = rest.starts_with(&bytes) && bytes.len() as u128 == sizes.0;
+    Ok(same && u128::from(feed.chain.backlog()) == sizes.1)
+}
+
+// What is sent in a frame and what waits after it, by the definitions.
+fn sizes(arrivals: &[u64], capacity: u32, frame: usize) -> (u128, u128)
+    requires { frame < length arrivals.now }
+{
+    let sent = plain::sent(arrivals, capacity, frame);
+    let before = match frame.checked_sub(1) {
+        Some(last) => plain::sent(arrivals, capacity, last),
+        None => 0,
+    };
+    let waits = u128::from(arrivals[frame]).wrapping_sub(sent);
+    (sent.wrapping_sub(before), waits)
+}
+
+// Whether a run of so many frames is what the definitions say, and its blocks.
+fn run(
+    feed: &mut Feed,
+    packets: &[TsPacket],
+    arrivals: &[u64],
+) -> Result<(bool, Vec<u8>), OutOfMemory> {
+    let string = plain::string(feed.alloc, true, packets, 2_000)?;
+    let capacity = feed.plan.capacity(0);
+    let (mut all, mut at, mut blocks) = (true, 0, Vec::new(feed.alloc));
+    for frame in 0..arrivals.len() {
+        let sizes = sizes(arrivals, capacity, frame);
+        let rest = string.get(at..).unwrap_or(&[]);
+        all &= compare(feed, packets, rest, sizes, &mut blocks)?;
+        at = at.wrapping_add(sizes.0.min(1 << 20) as usize);
+    }
+    Ok((all, blocks))
+}
+
+// The CRC-32 comes from the Python program.
 #[test]
 fn a_long_run_is_what_the_definitions_say(rt: HostRuntime) -> Result<(), Fail> {
     let mut feed = Feed::new(&rt, &[LOADED])?;
     let packets = mixed(rt.alloc(), 2_000)?;
     let arrivals = plain::arrivals(rt.alloc(), &feed.plan, 0, &packets, 147)?;
-    let string = plain::string(rt.alloc(), true, &packets, 2_000)?;
-    let capacity = feed.plan.capacity(0);
-    let mut blocks = Vec::new(rt.alloc());
-    let mut before = 0;
-    for frame in 0..147 {
-        let given = feed.next_frame(&packets)?;
-        append_blocks(&mut blocks, &given)?;
-        assert!(rt; frame < arrivals.len());
-        let sent = plain::sent(&arrivals, capacity, frame);
-        let backlog = u128::from(arrivals[frame]).wrapping_sub(sent);
-        assert_eq!(rt; u128::from(feed.chain.backlog()), backlog);
-        let to = usize::try_from(sent).unwrap_or(0);
-        assert!(rt;
-            carried(rt.alloc(), &given)?.as_slice() == string.get(before..to).unwrap_or(&[])
-        );
-        before = to;
-    }
-    // All blocks, by the Python program.
-    assert!(rt; blocks.len() < 1 << 60);
-    assert_eq!(rt; blocks.len(), 185_469);
-    assert_eq!(rt; crc32(BitSlice::whole(&blocks)), 0x84B2_2CF1);
+    let (all, blocks) = run(&mut feed, &packets, &arrivals)?;
+    assert!(rt; all);
+    assert!(rt; blocks.len() == 185_469);
+    assert!(rt; crc32(BitSlice::whole(&blocks)) == 0x84B2_2CF1);
     Ok(())
 }
