@@ -12,7 +12,7 @@ use Rattle.plp_config.specs.declared.config.Config.{Config}
 use Rattle.scheduler.specs.Shape.{FrameShape}
 use Rattle.cell_map.specs.Address.{IsCell, address_of}
 use Rattle.cell_map.specs.CellMap.{Passes, ordinal_of, pair_of, block_pairs, plp_pairs, pairs, cell_map}
-use Rattle.cell_map.specs.Slices.{Found}
+use Rattle.cell_map.specs.Laws.{StandsAt, MapHasEachCell, MapHasOnlyCells, DummyHasNoCell}
 use Rattle.cell_map.specs.declared.places.Cell.{Cell}
 use Rattle.cell_map.proofs.GroupLemmas.{bool_cases}
 
@@ -121,7 +121,7 @@ find-some key v (e ∷ es) h has =
     ∙ find-some key v es h.1 (⊎_elim (λ (a : e.0 ≡ key). absurd (keys_differ key e.0 t a)) (λ (b : Has key es). b) has))
 
 -- the cell found at an address is the map's
-pub get-found : (c : Config) (shape : FrameShape) (address : ℕ) (v : Cell) → Passes c shape → Found c shape address v → get (cell_map c shape) address ≡ Some v
+pub get-found : (c : Config) (shape : FrameShape) (address : ℕ) (v : Cell) → Passes c shape → StandsAt c shape address v → get (cell_map c shape) address ≡ Some v
 unfolding cell_map
 get-found c shape address v passes found =
     let only : (plp block cell : ℕ) → IsCell c shape plp block cell → address_of c shape plp block cell ≡ address
@@ -148,6 +148,37 @@ get-none c shape address none =
 -- what was found, or not, is what the map has
 pub get-is : (c : Config) (shape : FrameShape) (address : ℕ) (answer : Option Cell) → Passes c shape
     → IfNone answer ((plp block cell : ℕ) → IsCell c shape plp block cell → ¬ (address_of c shape plp block cell ≡ address))
-    → IfSome answer (Found c shape address) → answer ≡ get (cell_map c shape) address
+    → IfSome answer (StandsAt c shape address) → answer ≡ get (cell_map c shape) address
 get-is c shape address None passes none some = sym (get-none c shape address none)
 get-is c shape address (Some v) passes none some = sym (get-found c shape address v passes some)
+
+-- what is found is one of the pairs
+find-each : (P : ℕ × Cell → Type 0) (key : ℕ) (v : Cell) (es : Entries) → Each P es → find nat_cmp key es ≡ Some v → P (key, v)
+unfolding Each
+find-each P key v [] h is = absurd (let never : None ≡ Some v = is in cc)
+find-each P key v (e ∷ es) h is =
+    bool_cases (is_eq (nat_cmp key e.0))
+    (λ t. let found : Some e.1 ≡ Some v = sym (ap (λ (b : Bool). cond b (Some e.1) (find nat_cmp key es)) t) ∙ is in
+    let same : e.1 ≡ v = cc in
+    subst (λ (k : ℕ). P (k, v)) (sym (keys_equal key e.0 t)) (subst (λ (w : Cell). P (e.0, w)) same h.0))
+    (λ t. find-each P key v es h.1 (sym (ap (λ (b : Bool). cond b (Some e.1) (find nat_cmp key es)) t) ∙ is))
+
+pub map_has_each : MapHasEachCell
+map_has_each c shape plp block cell passes there =
+    get-found c shape (address_of c shape plp block cell) (record { ordinal = ordinal_of shape plp block; cell = cell }) passes
+    (record { plp = plp; block = block; there = there; value = refl; ordinal = refl })
+
+pub map_has_only : MapHasOnlyCells
+unfolding cell_map
+map_has_only c shape address found is =
+    find-each (λ e. StandsAt c shape e.0 e.1) address found (pairs c shape)
+    (each-pair c shape (λ e. StandsAt c shape e.0 e.1) (λ plp block cell there. record { plp = plp; block = block; there = there; value = refl; ordinal = refl }))
+    (sym (get-from_entries nat_cmp_total (pairs c shape) address) ∙ is)
+
+pub dummy_has_none : DummyHasNoCell
+dummy_has_none c shape address passes = (
+  λ is plp block cell there here.
+      let found = subst (λ (a : ℕ). get (cell_map c shape) a ≡ Some (record { ordinal = ordinal_of shape plp block; cell = cell })) here (map_has_each c shape plp block cell passes there) in
+      let never : None ≡ Some (record { ordinal = ordinal_of shape plp block; cell = cell }) = sym is ∙ found in cc,
+  λ none. get-none c shape address none,
+)

@@ -10,7 +10,8 @@ use Rattle.plp_config.specs.declared.config.Config.{Config}
 use Rattle.scheduler.specs.Shape.{FrameShape, in_type2, cells_of}
 use Rattle.cell_map.specs.Address.{IsCell, address_at, address_of, position_of}
 use Rattle.cell_map.specs.CellMap.{Passes, cell_map}
-use Rattle.cell_map.specs.Slices.{Found, slices_of}
+use Rattle.cell_map.specs.Laws.{StandsAt}
+use Rattle.cell_map.specs.Slices.{slices_of}
 use Rattle.cell_map.specs.Runs.{Holds, HoldsAll, RunsFrom, RunsAt, Steps, IsReading, place_in}
 use Rattle.cell_map.specs.declared.places.Cell.{Cell}
 use Rattle.cell_map.specs.declared.runs.Run.{Run}
@@ -41,7 +42,7 @@ ready c shape address run a =
 
 -- its next cell stands at the address
 found_run : (c : Config) (shape : FrameShape) (address : ℕ) (run : Run) → RunsAt c shape address run
-    → Found c shape address (record { ordinal = run.first + run.block; cell = run.column * run.rows + run.row })
+    → StandsAt c shape address (record { ordinal = run.first + run.block; cell = run.column * run.rows + run.row })
 found_run c shape address run a =
     let r = a.runs in
     let is = ready c shape address run a in

@@ -9,9 +9,10 @@ pub record Reading : Type 0 where
   pub shape : FrameShape
   pub address : ℕ
 
--- before the first address, and behind the next one
-abbrev pub at_start : Config → FrameShape → Reading
-at_start c shape = record { config = c; shape = shape; address = 0 }
+-- so many cells were read
+abbrev pub reading_at : Config → FrameShape → ℕ → Reading
+reading_at c shape address = record { config = c; shape = shape; address = address }
 
+-- one cell more
 abbrev pub next_address : Reading → Reading
 next_address reading = record reading { address = reading.address + 1 }

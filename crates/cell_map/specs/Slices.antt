@@ -5,8 +5,6 @@ use Rattle.plp_config.specs.Plps.{plp_at}
 use Rattle.plp_config.specs.declared.config.Config.{Config}
 use Rattle.scheduler.specs.Shape.{FrameShape, in_type2, cells_of}
 use Rattle.cell_map.specs.Address.{IsCell, address_of}
-use Rattle.cell_map.specs.CellMap.{ordinal_of}
-use Rattle.cell_map.specs.declared.places.Cell.{Cell}
 use Rattle.cell_map.specs.declared.interleaving.Place.{Place}
 use Rattle.cell_map.specs.declared.rows.Row.{Row}
 use Rattle.cell_map.specs.declared.slices.Slices.{Slices}
@@ -51,11 +49,3 @@ SlicesMeet a b interval =
 pub record PlaceOf (c : Config) (shape : FrameShape) (plp address : ℕ) (place : Place) : Type 0 where
   pub there : IsCell c shape plp place.block place.cell
   pub value : address_of c shape plp place.block place.cell ≡ address
-
--- the cell of a frame at an address
-pub record Found (c : Config) (shape : FrameShape) (address : ℕ) (found : Cell) : Type 0 where
-  pub plp : ℕ
-  pub block : ℕ
-  pub there : IsCell c shape plp block found.cell
-  pub value : address_of c shape plp block found.cell ≡ address
-  pub ordinal : found.ordinal ≡ ordinal_of shape plp block

@@ -1,5 +1,5 @@
 // Laws of the cell map. Their functions do nothing.
-ghost use Rattle.cell_map.specs.Laws.{InterleaverFillsOnce, ShapePasses};
+ghost use Rattle.cell_map.specs.Laws.{InterleaverFillsOnce, ShapePasses, MapHasEachCell, MapHasOnlyCells, DummyHasNoCell};
 
 use scheduler::order_law;
 
@@ -14,3 +14,10 @@ pub fn shape_law()
 {
     order_law();
 }
+
+/// The map has each cell at its address, and nothing else.
+pub fn map_law()
+    ensures each { MapHasEachCell }
+    ensures only { MapHasOnlyCells }
+    ensures dummy { DummyHasNoCell }
+{}

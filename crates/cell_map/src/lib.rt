@@ -11,7 +11,7 @@ mod runs;
 mod slices;
 
 pub use faults::{MapFault, check};
-pub use laws::{interleaver_law, shape_law};
+pub use laws::{interleaver_law, map_law, shape_law};
 pub use places::{Cell, address, at};
 pub use reading::Cells;
 

@@ -4,7 +4,8 @@ ghost use Rattle.std.specs.FinMap.{get};
 ghost use Rattle.plp_config.specs.Capacity.{IsPlan};
 ghost use Rattle.cell_map.specs.Address.{IsCell, address_of};
 ghost use Rattle.cell_map.specs.CellMap.{Passes, cell_map};
-ghost use Rattle.cell_map.specs.Slices.{PlaceOf, Found};
+ghost use Rattle.cell_map.specs.Laws.{StandsAt};
+ghost use Rattle.cell_map.specs.Slices.{PlaceOf};
 
 use crate::interleaving::{Place, place_at, position};
 use crate::rows::plp_in_frame;
@@ -73,7 +74,7 @@ fn found(plan: &Plan, shape: &Shape, address: u32) -> Option<Cell>
     requires plps { length shape.now.counts ≡ length plan.now.plps }
     requires passes { Passes plan.now shape.now }
     ensures none { IfNone result ((j b q : ℕ) → IsCell plan.now shape.now j b q → ¬ (address_of plan.now shape.now j b q ≡ address)) }
-    ensures some { IfSome result (λ cell. Found plan.now shape.now address cell) }
+    ensures some { IfSome result (λ cell. StandsAt plan.now shape.now address cell) }
 {
     let mut before = 0;
     for plp in 0..shape.len() {

@@ -111,13 +111,13 @@ fn cell_of(run: Run) -> Cell
 }
 
 impl<'a> Cells<'a> {
-    ghost use Rattle.cell_map.specs.Reading.{Reading, at_start, next_address};
+    ghost use Rattle.cell_map.specs.Reading.{reading_at, next_address};
 
     /// All cells of a frame: the next address is 0.
     pub fn new(plan: &'a Plan, shape: &'a Shape) -> Cells<'a>
         requires plps { length shape.now.counts ≡ length plan.now.plps }
         requires passes { Passes plan.now shape.now }
-        ensures { result ≡ at_start plan.now shape.now }
+        ensures { result ≡ reading_at plan.now shape.now 0 }
     {
         let _config = plan.config();
         let run = Run {

@@ -1,3 +1,6 @@
+ghost use Rattle.std.specs.Prelude.{◌≡◌, length};
+ghost use Rattle.cell_map.specs.CellMap.{Passes};
+
 use super::*;
 use bit_slice::OutOfMemory;
 use plp_config::{
@@ -176,6 +179,7 @@ fn two_plps_of_type_1(rt: HostRuntime) -> Result<(), Fail> {
         assert_eq!(rt; fault(&rt, &plan, &shape), expected);
     }
     interleaver_law();
+    map_law();
     shape_law();
     Ok(())
 }
@@ -366,6 +370,17 @@ fn groups_of_several_sizes(rt: HostRuntime) -> Result<(), Fail> {
     Ok(())
 }
 
+// One after the other the cells are those at their addresses.
+fn expect_in_order(rt: &impl Abort, plan: &Plan, shape: &Shape)
+    requires plps { length shape.now.counts ≡ length plan.now.plps }
+    requires passes { Passes plan.now shape.now }
+{
+    let mut cells = Cells::new(plan, shape);
+    for address in 0..plan.config().cells {
+        assert_eq!(rt; cells.next(), at(plan, shape, address));
+    }
+}
+
 #[test]
 fn cells_in_the_order_of_their_addresses(rt: HostRuntime) -> Result<(), Fail> {
     let plan = mixed(&rt)?;
@@ -374,12 +389,7 @@ fn cells_in_the_order_of_their_addresses(rt: HostRuntime) -> Result<(), Fail> {
         panic!(rt; "another number of PLPs");
     }
     match check(&plan, &shape) {
-        Ok(()) => {
-            let mut cells = Cells::new(&plan, &shape);
-            for address in 0..plan.config().cells {
-                assert_eq!(rt; cells.next(), at(&plan, &shape, address));
-            }
-        }
+        Ok(()) => expect_in_order(&rt, &plan, &shape),
         Err(fault) => panic!(rt; "{fault}"),
     }
     Ok(())
