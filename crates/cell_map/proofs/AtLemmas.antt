@@ -1,17 +1,16 @@
 -- Cells by slice and place in the slice.
-use Rattle.std.proofs.Common.{◌≡◌, ℕ, zero, suc, ◌+◌, ◌-◌, ◌*◌, ◌/◌, ◌%◌, ◌<◌, ◌≤◌, ◌↔◌, ◌⊎◌, ⊎_elim, inl, inr, Bool, true, false, cond, ltb, IsTrue, length, refl, ap, sym, ◌∙◌, subst, arith}
+use Rattle.std.proofs.Common.{◌≡◌, ℕ, zero, suc, ◌+◌, ◌*◌, ◌/◌, ◌%◌, ◌<◌, Bool, true, false, cond, length, refl, ap, sym, ◌∙◌, arith}
 use Rattle.std.specs.Prelude.{slice_index}
 use Rattle.std.proofs.lemmas.Nat.{div-add-mod', mod_below, div-mul-add, mod-mul-add, div_below, mul-add-lt}
 use Rattle.plp_config.specs.Capacity.{IsPlan, block_cells}
 use Rattle.plp_config.specs.Plps.{plp_at}
 use Rattle.plp_config.specs.declared.config.Config.{Config}
 use Rattle.scheduler.specs.Shape.{FrameShape, in_type2}
-use Rattle.cell_map.specs.declared.slices.Slices.{Slices}
 use Rattle.cell_map.specs.Interleaver.{position}
 use Rattle.cell_map.specs.Address.{IsCell, address_of}
 use Rattle.cell_map.specs.Slices.{slices_of}
 use Rattle.cell_map.proofs.PlanLemmas.{plan_row, sub_slices-some}
-use Rattle.cell_map.proofs.PositionLemmas.{position_below, position_one, placed, Holds}
+use Rattle.cell_map.proofs.PositionLemmas.{position_below, position_one, placed}
 
 -- slices that cut a block's cells cut those of all blocks
 pub cut_law : (n cells slices : ℕ) → 0 < slices → cells % slices ≡ 0 → slices * (n * cells / slices) ≡ n * cells

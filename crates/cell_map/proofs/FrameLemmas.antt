@@ -1,22 +1,18 @@
 -- The facts of `ShareLemmas`, of what the code computed.
-use Rattle.std.proofs.Common.{◌≡◌, ℕ, ◌+◌, ◌*◌, ◌/◌, ◌%◌, ◌<◌, ◌≤◌, ◌⊎◌, ⊎_elim, List, length, take, sum, refl, ap, sym, ◌∙◌, arith}
+use Rattle.std.proofs.Common.{◌≡◌, ℕ, ◌+◌, ◌*◌, ◌/◌, ◌%◌, ◌<◌, ◌≤◌, ⊎_elim, List, length, take, sum, ap, sym, ◌∙◌, arith}
 use Rattle.std.specs.Prelude.{slice_index}
 use Rattle.std.proofs.lemmas.List.Sums.{sum_by_more}
 use Rattle.plp_config.specs.Capacity.{IsPlan, block_cells}
-use Rattle.plp_config.specs.Plps.{plp_at, is_type2}
+use Rattle.plp_config.specs.Plps.{plp_at}
 use Rattle.plp_config.specs.declared.config.Config.{Config}
-use Rattle.plp_config.specs.declared.plp.PlpKind.{PlpKind}
-use Rattle.plp_config.specs.declared.plp.PlpKind.TheVariants.{Type1, Type2}
-use Rattle.scheduler.specs.Shape.{FrameShape, in_type2}
+use Rattle.scheduler.specs.Shape.{FrameShape}
 use Rattle.cell_map.specs.Slices.{IsRow, slice_count, slices_of}
 use Rattle.cell_map.specs.Interleaver.{position}
-use Rattle.cell_map.specs.declared.rows.Row.{Row}
 use Rattle.cell_map.specs.declared.rows.PlpInFrame.{PlpInFrame}
-use Rattle.cell_map.specs.declared.slices.Slices.{Slices}
 use Rattle.cell_map.specs.Address.{IsCell, position_of, address_of}
 use Rattle.cell_map.specs.CellMap.{IsBeyond, Shares, Passes}
 use Rattle.cell_map.proofs.PlanLemmas.{plan_row}
-use Rattle.cell_map.proofs.AtLemmas.{At, at_of_cell}
+use Rattle.cell_map.proofs.AtLemmas.{at_of_cell}
 use Rattle.cell_map.proofs.MeetingLemmas.{parts_of}
 
 -- a row from its four numbers

@@ -1,9 +1,9 @@
 -- Where slices meet.
-use Rattle.std.proofs.Common.{◌≡◌, ℕ, zero, suc, ◌+◌, ◌-◌, ◌*◌, ◌/◌, ◌%◌, ◌<◌, ◌≤◌, ◌↔◌, ◌≢◌, ◌⊎◌, ⊎_elim, inl, inr, min, Bool, true, false, ltb, IsTrue, refl, ap, sym, ◌∙◌, subst, arith}
-use Rattle.std.proofs.lemmas.Bool.{lt-ltb, le-ltb, ltb-true, ltb-false}
-use Rattle.std.proofs.lemmas.Nat.{div-add-mod', mod_below, div_below, mul-le, le-div, div-mul-add, mod-mul-add}
+use Rattle.std.proofs.Common.{◌≡◌, ℕ, ◌+◌, ◌-◌, ◌*◌, ◌/◌, ◌%◌, ◌<◌, ◌≤◌, ◌↔◌, ◌≢◌, ◌⊎◌, ⊎_elim, inl, inr, min, Bool, true, false, ltb, IsTrue, ap, sym, ◌∙◌, subst, arith}
+use Rattle.std.proofs.lemmas.Bool.{lt-ltb, ltb-true, ltb-false}
+use Rattle.std.proofs.lemmas.Nat.{div-add-mod', mul-le, le-div, div-mul-add, mod-mul-add}
 use Rattle.cell_map.specs.declared.slices.Slices.{Slices}
-use Rattle.cell_map.specs.Slices.{Meets, SliceMeets, SlicesMeet}
+use Rattle.cell_map.specs.Slices.{SliceMeets, SlicesMeet}
 use Rattle.cell_map.proofs.GroupLemmas.{bool_cases}
 
 pub last_below : (x interval last : ℕ) → last ≤ x / interval → last * interval ≤ x

@@ -1,5 +1,5 @@
 -- A shape whose PLPs stand in order has a cell map.
-use Rattle.std.proofs.Common.{◌≡◌, ℕ, zero, suc, ◌+◌, ◌-◌, ◌*◌, ◌/◌, ◌<◌, ◌≤◌, ◌⊎◌, inl, inr, Bool, true, false, cond, length, refl, ap, sym, ◌∙◌, subst, arith}
+use Rattle.std.proofs.Common.{◌≡◌, ℕ, zero, suc, ◌+◌, ◌-◌, ◌*◌, ◌/◌, ◌<◌, ◌≤◌, inl, inr, true, false, length, refl, ap, sym, subst, arith}
 use Rattle.std.specs.Prelude.{slice_index}
 use Rattle.std.proofs.lemmas.Bool.{cases_lt, cases_eq}
 use Rattle.std.proofs.lemmas.Nat.{mul-le}
@@ -7,10 +7,10 @@ use Rattle.std.proofs.Math.Nat.{div-le_self}
 use Rattle.plp_config.specs.Capacity.{IsPlan, block_cells}
 use Rattle.plp_config.specs.Plps.{plp_at}
 use Rattle.plp_config.specs.declared.config.Config.{Config}
-use Rattle.scheduler.specs.Laws.{StandsInOrder, IsSent1, IsSent2}
+use Rattle.scheduler.specs.Laws.{StandsInOrder}
 use Rattle.scheduler.specs.Shape.{FrameShape, in_type2, cells_of, slice_of}
-use Rattle.cell_map.specs.CellMap.{Shares, IsBeyond, Passes}
-use Rattle.cell_map.specs.Slices.{SlicesMeet, slices_of}
+use Rattle.cell_map.specs.CellMap.{Shares, Passes}
+use Rattle.cell_map.specs.Slices.{slices_of}
 use Rattle.cell_map.proofs.GroupLemmas.{bool_cases}
 use Rattle.cell_map.proofs.ShareLemmas.{not_beyond, some_of_shares, meet_of_shares, self_apart, passes_from}
 

@@ -1,5 +1,5 @@
 -- What the rules and the tests of a plan say of a PLP.
-use Rattle.std.proofs.Common.{◌≡◌, ℕ, ◌%◌, ◌<◌, ◌≤◌, Bool, true, false, cond, length, refl, sym, lit≤, arith}
+use Rattle.std.proofs.Common.{◌≡◌, ℕ, ◌%◌, ◌<◌, ◌≤◌, Bool, true, false, cond, length, refl, lit≤, arith}
 use Rattle.plp_config.specs.Capacity.{IsPlan, block_cells, EvenSubSlices}
 use Rattle.plp_config.specs.Plps.{plp_at, is_type2, has_type2}
 use Rattle.plp_config.specs.Rules.{BlockLimit, InterleaverLength, SubSlices}
@@ -13,7 +13,6 @@ use Rattle.plp_config.specs.declared.plp.PlpKind.{PlpKind}
 use Rattle.plp_config.specs.declared.plp.PlpKind.TheVariants.{Type1, Type2}
 use Rattle.scheduler.specs.Shape.{in_type2}
 use Rattle.cell_map.specs.Slices.{slice_count}
-use Rattle.cell_map.proofs.GroupLemmas.{bool_cases}
 
 -- the cells of a block are cut by five
 abbrev Five : ℕ → Type 0

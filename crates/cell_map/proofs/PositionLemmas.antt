@@ -1,11 +1,11 @@
 -- Positions are the numbers below blocks times cells, each once.
-use Rattle.std.proofs.Common.{◌≡◌, ℕ, zero, suc, ◌+◌, ◌-◌, ◌*◌, ◌/◌, ◌%◌, ◌<◌, ◌≤◌, refl, ap, sym, ◌∙◌, subst, arith}
+use Rattle.std.proofs.Common.{◌≡◌, ℕ, zero, suc, ◌+◌, ◌-◌, ◌*◌, ◌/◌, ◌%◌, ◌<◌, ◌≤◌, refl, ap, sym, ◌∙◌, arith}
 use Rattle.std.proofs.lemmas.Nat.{div-add-mod', mod_below, div-mul-add, mod-mul-add, div_below, mul-add-lt, mul-le, le-div, same_from_place}
 use Rattle.cell_map.specs.declared.interleaving.Group.{Group}
 use Rattle.cell_map.specs.Laws.{InterleaverFillsOnce}
-use Rattle.cell_map.specs.Interleaver.{sizes_of, group_in, group_of, in_group, position}
-use Rattle.cell_map.proofs.GroupLemmas.{Around, around, total, total-sizes}
-use Rattle.cell_map.proofs.RadixLemmas.{column_below, radix_below, Parts, radix_parts, Whole, radix_whole}
+use Rattle.cell_map.specs.Interleaver.{sizes_of, group_of, in_group, position}
+use Rattle.cell_map.proofs.GroupLemmas.{around, total, total-sizes}
+use Rattle.cell_map.proofs.RadixLemmas.{column_below, radix_below, radix_parts, radix_whole}
 
 pub record Law (n groups block : ℕ) (g : Group) : Type 0 where
   pub before : g.first ≤ block

@@ -1,5 +1,5 @@
 -- From address to address along a run.
-use Rattle.std.proofs.Common.{◌≡◌, ℕ, zero, suc, ◌+◌, ◌-◌, ◌*◌, ◌/◌, ◌%◌, ◌<◌, ◌≤◌, ◌^◌, inl, inr, Option, Some, None, refl, ap, sym, ◌∙◌, subst, arith, length, sum, take}
+use Rattle.std.proofs.Common.{◌≡◌, ℕ, ◌+◌, ◌-◌, ◌*◌, ◌<◌, ◌≤◌, ◌^◌, inl, inr, Some, ap, sym, ◌∙◌, arith, length, sum, take}
 use Rattle.std.specs.Prelude.{slice_index}
 use Rattle.std.specs.FinMap.{get}
 use Rattle.std.proofs.lemmas.Bool.{cases_lt}
@@ -8,16 +8,16 @@ use Rattle.plp_config.specs.Capacity.{IsPlan, block_cells}
 use Rattle.plp_config.specs.Plps.{plp_at}
 use Rattle.plp_config.specs.declared.config.Config.{Config}
 use Rattle.scheduler.specs.Shape.{FrameShape, in_type2, cells_of}
-use Rattle.cell_map.specs.Address.{IsCell, address_at, address_of, position_of}
+use Rattle.cell_map.specs.Address.{address_at, position_of}
 use Rattle.cell_map.specs.CellMap.{Passes, cell_map}
 use Rattle.cell_map.specs.Laws.{StandsAt}
 use Rattle.cell_map.specs.Slices.{slices_of}
-use Rattle.cell_map.specs.Runs.{Holds, HoldsAll, RunsFrom, RunsAt, Steps, IsReading, place_in}
+use Rattle.cell_map.specs.Runs.{RunsFrom, RunsAt, Steps, IsReading, place_in}
 use Rattle.cell_map.specs.declared.places.Cell.{Cell}
 use Rattle.cell_map.specs.declared.runs.Run.{Run}
 use Rattle.cell_map.specs.declared.slices.Slices.{Slices}
 use Rattle.cell_map.proofs.AtLemmas.{address_law}
-use Rattle.cell_map.proofs.MapLemmas.{get-found, get-none}
+use Rattle.cell_map.proofs.MapLemmas.{get-found}
 
 row_below : (row rows w x : ℕ) → row * w + x < rows * w → row < rows
 row_below row rows w x h =

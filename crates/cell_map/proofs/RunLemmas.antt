@@ -1,9 +1,9 @@
 -- Runs of cells whose places follow from one another.
-use Rattle.std.proofs.Common.{◌≡◌, ℕ, zero, suc, ◌+◌, ◌-◌, ◌*◌, ◌/◌, ◌%◌, ◌<◌, ◌≤◌, min, ◌^◌, refl, ap, sym, ◌∙◌, subst, arith, length, sum, take}
-use Rattle.std.proofs.lemmas.Nat.{div-add-mod', mod_below, div-mul-add, mod-mul-add, div_below, mul-add-lt, mul-le}
+use Rattle.std.proofs.Common.{◌≡◌, ℕ, zero, suc, ◌+◌, ◌-◌, ◌*◌, ◌/◌, ◌%◌, ◌<◌, ◌≤◌, min, ◌^◌, refl, ap, sym, ◌∙◌, arith, length}
+use Rattle.std.proofs.lemmas.Nat.{div-mul-add, mod-mul-add, div_below, mul-add-lt}
 use Rattle.cell_map.specs.declared.interleaving.Group.{Group}
-use Rattle.cell_map.specs.Interleaver.{group_of, in_group, position}
-use Rattle.cell_map.specs.Runs.{Holds, HoldsAll, RunsFrom, RunsAt, Steps, IsReading, place_in}
+use Rattle.cell_map.specs.Interleaver.{group_of, in_group}
+use Rattle.cell_map.specs.Runs.{Holds, RunsFrom, Steps}
 use Rattle.cell_map.specs.declared.runs.Run.{Run}
 use Rattle.cell_map.proofs.PositionLemmas.{Law, group_law, fifth_of, lies_in}
 use Rattle.cell_map.proofs.RadixLemmas.{radix_whole}

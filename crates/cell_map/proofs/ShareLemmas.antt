@@ -1,7 +1,7 @@
 -- What it means for slices that cells share an address, or stand beyond the end.
-use Rattle.std.proofs.Common.{◌≡◌, ℕ, zero, suc, ◌+◌, ◌-◌, ◌*◌, ◌/◌, ◌%◌, ◌<◌, ◌≤◌, ◌↔◌, ◌≢◌, ◌⊎◌, ⊎_elim, inl, inr, Bool, true, false, cond, ltb, eqb, ◌&&◌, rules, IsTrue, length, refl, ap, sym, ◌∙◌, subst, arith, List, [], ◌∷◌, take, get_or}
+use Rattle.std.proofs.Common.{◌≡◌, ℕ, ◌+◌, ◌-◌, ◌*◌, ◌<◌, ◌≤◌, ◌↔◌, ◌≢◌, ◌⊎◌, ⊎_elim, inl, inr, Bool, true, false, cond, ltb, eqb, ◌&&◌, rules, IsTrue, length, refl, ap, sym, ◌∙◌, subst, arith}
 use Rattle.std.specs.Prelude.{slice_index}
-use Rattle.std.proofs.lemmas.Bool.{lt-ltb, le-ltb, ltb-true, ltb-false}
+use Rattle.std.proofs.lemmas.Bool.{ltb-true, ltb-false}
 use Rattle.std.proofs.lemmas.Nat.{mul-le, same_from_place, mul-add-lt}
 use Rattle.plp_config.specs.Capacity.{IsPlan, block_cells}
 use Rattle.plp_config.specs.Plps.{plp_at}
@@ -13,7 +13,7 @@ use Rattle.cell_map.specs.Address.{IsCell, address_of}
 use Rattle.cell_map.specs.CellMap.{IsBeyond, Shares, Passes}
 use Rattle.cell_map.specs.Slices.{SlicesMeet, slices_of, PlaceOf}
 use Rattle.cell_map.specs.declared.interleaving.Place.{Place}
-use Rattle.cell_map.proofs.PlanLemmas.{plan_row, sub_slices-some}
+use Rattle.cell_map.proofs.PlanLemmas.{sub_slices-some}
 use Rattle.cell_map.proofs.GroupLemmas.{bool_cases}
 use Rattle.cell_map.proofs.AtLemmas.{At, at_of_cell, cell_of_at, one_cell, at_place, cut_of}
 use Rattle.cell_map.proofs.MeetingLemmas.{more_below}

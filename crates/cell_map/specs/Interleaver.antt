@@ -1,5 +1,5 @@
 -- The time interleaver (EN 302 755, clause 6.5): the position of a cell among the cells of its PLP in a frame.
-use Rattle.std.specs.Prelude.{ℕ, zero, suc, ◌+◌, ◌-◌, ◌*◌, ◌/◌, ◌%◌, ◌<◌, List, [], ◌∷◌, ◌++◌, replicate, if◌then◌else◌, nat_lt}
+use Rattle.std.specs.Prelude.{ℕ, zero, suc, ◌+◌, ◌-◌, ◌*◌, ◌/◌, ◌%◌, List, [], ◌∷◌, ◌++◌, replicate, if◌then◌else◌, nat_lt}
 use Rattle.cell_map.specs.declared.interleaving.Group.{Group}
 
 -- the sizes of the groups into which n blocks are split: groups of floor(n / length) blocks, then those of one block more

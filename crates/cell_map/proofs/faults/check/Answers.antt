@@ -1,6 +1,5 @@
-use Rattle.std.proofs.Common.{◌≡◌, ◌<◌, length, arith, refl}
+use Rattle.std.proofs.Common.{arith, refl}
 use Rattle.cell_map.proofs.ShareLemmas.{least_from, pairs_more, passes_from}
-use Rattle.cell_map.proofs.FrameLemmas.{not_beyond, not_shared}
 use Rattle.cell_map.proofs.faults.check.Goals as goal
 
 pub returns-in-Some-clause-fault : goal.returns-in-Some-clause-fault

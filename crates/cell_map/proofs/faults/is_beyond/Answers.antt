@@ -1,4 +1,4 @@
-use Rattle.std.proofs.Common.{◌≡◌, ◌≤◌, ◌∙◌, ap, sym, arith}
+use Rattle.std.proofs.Common.{◌≤◌, arith}
 use Rattle.std.specs.Prelude.{slice_index}
 use Rattle.plp_config.specs.Plps.{plp_at}
 use Rattle.cell_map.proofs.MeetingLemmas.{never_law}

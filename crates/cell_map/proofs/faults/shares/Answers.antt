@@ -1,4 +1,4 @@
-use Rattle.std.proofs.Common.{◌≡◌, ℕ, sym, subst, ◌≤◌, ◌<◌, ◌↔◌, Bool, false, ltb, IsTrue, arith}
+use Rattle.std.proofs.Common.{ℕ, subst, ◌↔◌, false, ltb, IsTrue, arith}
 use Rattle.cell_map.specs.CellMap.{Shares}
 use Rattle.cell_map.proofs.ShareLemmas.{shares_law, empty_first, empty_second, self_law, self_one}
 use Rattle.cell_map.proofs.MeetingLemmas.{never_law}

@@ -1,4 +1,4 @@
-use Rattle.std.proofs.Common.{◌≡◌, ◌<◌, ◌≤◌, ℕ, ap, sym, ◌∙◌, length, List, subst}
+use Rattle.std.proofs.Common.{◌≤◌, ℕ, sym, List, subst}
 use Rattle.std.specs.Prelude.{slice_index}
 use Rattle.plp_config.specs.Plps.{plp_at}
 use Rattle.scheduler.specs.Shape.{shape_of}

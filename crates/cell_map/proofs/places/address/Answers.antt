@@ -1,6 +1,6 @@
-use Rattle.std.proofs.Common.{◌≡◌, ◌<◌, ◌≤◌, ◌∙◌, arith}
+use Rattle.std.proofs.Common.{◌≤◌, ◌∙◌, arith}
 use Rattle.plp_config.specs.Capacity.{CellAddresses}
-use Rattle.cell_map.proofs.FrameLemmas.{IsInFrame, computes, computes_single}
+use Rattle.cell_map.proofs.FrameLemmas.{computes, computes_single}
 use Rattle.cell_map.proofs.places.address.Goals as goal
 
 pub overflow_add-result : goal.overflow_add-result

@@ -1,4 +1,4 @@
-use Rattle.std.proofs.Common.{arith, ◌≡◌, ℕ, ap, sym, ◌∙◌, ◌*◌, ◌+◌}
+use Rattle.std.proofs.Common.{◌∙◌}
 use Rattle.cell_map.proofs.ShareLemmas.{alone_at, nowhere, place_law}
 use Rattle.cell_map.proofs.places.place_of.Goals as goal
 

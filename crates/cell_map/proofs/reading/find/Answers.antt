@@ -1,4 +1,4 @@
-use Rattle.std.proofs.Common.{arith, ◌≡◌, ◌<◌, ◌≤◌, ◌+◌, ◌*◌, ℕ, ap, sym, ◌∙◌, length}
+use Rattle.std.proofs.Common.{arith, ◌≡◌, ◌<◌, ℕ, ◌∙◌, length}
 use Rattle.plp_config.specs.Rules.{PlpCount}
 use Rattle.cell_map.specs.Address.{IsCell, address_of}
 use Rattle.cell_map.proofs.FrameLemmas.{counted, few_blocks}

@@ -1,4 +1,4 @@
-use Rattle.std.proofs.Common.{arith, refl, ◌≡◌, ◌∙◌, ◌+◌, ◌-◌, ◌*◌}
+use Rattle.std.proofs.Common.{refl, ◌∙◌, ◌+◌, ◌-◌, ◌*◌}
 use Rattle.cell_map.proofs.ShareLemmas.{alone_at, nowhere}
 use Rattle.cell_map.proofs.ReadingLemmas.{begins}
 use Rattle.cell_map.proofs.reading.run_of.Goals as goal

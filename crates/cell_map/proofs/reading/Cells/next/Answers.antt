@@ -1,6 +1,5 @@
-use Rattle.std.proofs.Common.{arith, ◌≡◌, ◌<◌, ap, sym, ◌∙◌}
-use Rattle.cell_map.specs.Reading.{Reading}
-use Rattle.cell_map.proofs.ReadingLemmas.{ready, read, reading_on, reading_none}
+use Rattle.std.proofs.Common.{sym}
+use Rattle.cell_map.proofs.ReadingLemmas.{read, reading_on}
 use Rattle.cell_map.proofs.MapLemmas.{get-none}
 use Rattle.cell_map.proofs.reading.Cells.next.Goals as goal
 
