@@ -1,21 +1,20 @@
 -- The PLPs of a shape stand one behind the other.
-use Rattle.std.proofs.Common.{◌≡◌, ℕ, zero, suc, ◌+◌, ◌-◌, ◌*◌, ◌/◌, ◌%◌, ◌<◌, ◌≤◌, ◌==◌, ◌||◌, Bool, true, false, cond, not, List, [], ◌∷◌, length, get_or, map, filter, sum_by, refl, ap, sym, ◌∙◌, subst, arith}
+use Rattle.std.proofs.Common.{◌≡◌, ℕ, zero, suc, ◌+◌, ◌-◌, ◌*◌, ◌/◌, ◌%◌, ◌<◌, ◌≤◌, ◌==◌, Bool, true, false, not, List, length, map, filter, sum_by, refl, ap, sym, ◌∙◌, subst, arith}
 use Rattle.std.specs.Prelude.{slice_index}
 use Rattle.std.specs.List.{range_with_len}
 use Rattle.std.proofs.lemmas.List.FromFn.{get_or-map-range_with_len}
 use Rattle.std.proofs.lemmas.Bool.{eqb-true}
 use Rattle.std.proofs.lemmas.List.Folds.{list_any_at}
-use Rattle.std.proofs.lemmas.Nat.{mul-le, le-div, div-add-mod', div-mul-add}
+use Rattle.std.proofs.lemmas.Nat.{le-div, div-add-mod', div-mul-add}
 use Rattle.std.proofs.Math.Nat.{div-mul-le_self}
 use Rattle.plp_config.specs.Capacity.{IsPlan, block_cells, EvenSubSlices}
 use Rattle.plp_config.specs.Plps.{plp_at, is_type2, has_type2, no_plp}
 use Rattle.plp_config.specs.Rules.{SubSlices}
 use Rattle.plp_config.specs.declared.config.Config.{Config}
-use Rattle.plp_config.specs.declared.plp.Plp.{Plp}
 use Rattle.plp_config.specs.declared.plp.PlpKind.{PlpKind}
 use Rattle.plp_config.specs.declared.plp.PlpKind.TheVariants.{Type1, Type2}
-use Rattle.scheduler.specs.Laws.{CountsFit, IsSent1, IsSent2, StandsInOrder, ShapeStandsInOrder}
-use Rattle.scheduler.specs.Shape.{FrameShape, cells_of, slice_of, in_type2, type1_before, type2_before, type2_start_of, interval_of, start_of, shape_of}
+use Rattle.scheduler.specs.Laws.{ShapeStandsInOrder}
+use Rattle.scheduler.specs.Shape.{cells_of, slice_of, in_type2, type1_before, type2_before, type2_start_of, interval_of, start_of, shape_of}
 use Rattle.scheduler.proofs.SumLemmas.{sum-more, sum-rises, cells_fit}
 use Rattle.scheduler.proofs.ShapeLemmas.{bool_cases}
 
