@@ -1,3 +1,8 @@
+pub mod BodyLemmas
 pub mod FrontLemmas
 pub mod LawLemmas
-pub mod SpellingLemmas
+pub mod PacketLemmas
+pub mod RowLemmas
+pub mod SpellLemmas
+pub mod WrittenLemmas
+pub mod PutLemmas

@@ -1,5 +1,9 @@
+pub mod Laws
+pub mod Layout
 pub mod T2miPacket
 pub mod Reading
-pub mod Laws
+pub mod Spell
+pub mod Writing
 pub use Rattle.bit_slice.specs.Crc
+pub use Rattle.bit_slice.specs.Sink
 pub use Rattle.terms.specs.Bits

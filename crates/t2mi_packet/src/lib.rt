@@ -2,14 +2,24 @@
 #![tactic(auto)]
 
 mod fault;
+mod fields;
 mod laws;
 mod packet;
+mod packet_view;
 mod reading;
-
-pub use fault::{PacketFault, PacketWhy};
-pub use laws::{front_refusal, no_refusal, one_packet, one_refusal, packet_length};
-pub use packet::{Body, Packet};
-pub use reading::{LARGEST, read};
-
+#[cfg(test)]
+mod samples;
+mod shape;
 #[cfg(test)]
 mod tests;
+mod writing;
+
+pub use fault::{PacketFault, PacketWhy};
+pub use laws::{
+    complete_law, front_refusal, no_refusal, one_packet, one_refusal, packet_length, spell_law,
+    spelled_or_refused, view_law, written_law,
+};
+pub use packet::{Body, Packet, Stamp};
+pub use packet_view::PacketView;
+pub use reading::{LARGEST, needed, read, view};
+pub use writing::write;

@@ -1,97 +1,222 @@
 ghost use Rattle.std.specs.Prelude.{◌<◌, ◌^◌, length};
+ghost use Rattle.t2mi_packet.specs.T2miPacket.{Fits};
 
-use crate::{PacketFault, PacketWhy, read};
+use crate::samples::*;
+use crate::{Body, Packet, PacketFault, PacketWhy, Stamp, needed, read, view, write};
+use bit_slice::{BitBuf, BitSlice, FixedBits, SinkFault};
 use std::process::Abort;
-use std::test::Fail;
 
-// A packet as its parts: kind, count, superframe, stream, the payload's length and its first byte.
-type Parts = (u8, u8, u8, u8, usize, Option<u8>);
+const MOMENT: Stamp = Stamp {
+    bw: 4,
+    seconds: 700_000_000,
+    subseconds: 1_400_000,
+    utco: 5,
+};
 
-// Spelled by another program: the fields in order, then the CRC-32 that zlib gives for the reversed bits.
-const TIMESTAMP: [u8; 21] = [
-    0x20, 0x00, 0x00, 0x00, 0x00, 0x58, 0x04, 0x00, 0x29, 0xB9, 0x27, 0x00, 0x00, 0x00, 0x00, 0x00,
-    0x05, 0x9C, 0x0C, 0x76, 0xE4,
-];
-
-const THIRTEEN_BITS: [u8; 12] = [
-    0x33, 0x07, 0x50, 0x02, 0x00, 0x0D, 0xAB, 0xC8, 0x42, 0x84, 0xCD, 0x0F,
-];
-
-const NO_PAYLOAD: [u8; 10] = [0x42, 0xFF, 0xF0, 0x07, 0x00, 0x00, 0x82, 0x4F, 0x12, 0xEC];
-
-const FUTURE_BITS_SET: [u8; 11] = [
-    0x10, 0x01, 0x1F, 0xF9, 0x00, 0x08, 0xF0, 0x09, 0xF9, 0x6B, 0x10,
-];
-
-const PAD_BIT_SET: [u8; 12] = [
-    0x33, 0x07, 0x50, 0x02, 0x00, 0x0D, 0xAB, 0xC9, 0x46, 0x45, 0xD0, 0xB8,
-];
-
-fn parts_of(bytes: &[u8]) -> Result<(Parts, usize), PacketFault>
-    requires { length bytes.now < 2 ^ 60 }
+// What is written is this.
+fn writes(rt: &(impl AllocGlobal + Abort), packet: &Packet<'_>, want: &[u8])
+    requires { Fits packet.now }
 {
-    let (packet, len) = read(bytes)?;
-    let payload = packet.body.payload();
-    let first = if payload.len() >= 8 {
-        Some(payload.field(0, 8) as u8)
-    } else {
-        None
+    let mut sink = BitBuf::new(rt.alloc());
+    assert!(rt; write(&mut sink, packet) == Ok(()));
+    assert!(rt; sink.into_bytes().as_slice() == want);
+}
+
+#[test]
+fn a_timestamp_both_ways(rt: HostRuntime) {
+    let packet = Packet {
+        count: 3,
+        superframe: 1,
+        stream: 0,
+        body: Body::Timestamp(MOMENT),
     };
-    let parts = (
-        packet.body.kind(),
-        packet.count,
-        packet.superframe,
-        packet.stream,
-        payload.len(),
-        first,
-    );
-    Ok((parts, len))
+    writes(&rt, &packet, &STAMP);
+    for bytes in [&STAMP, &STAMP_BITS_SET] {
+        match read(bytes) {
+            Ok((packet, 21)) => {
+                assert!(rt; packet.count == 3 && packet.superframe == 1 && packet.stream == 0);
+                assert!(rt; matches!(packet.body, Body::Timestamp(MOMENT)));
+            }
+            _ => assert!(rt; false),
+        }
+    }
 }
 
-fn check(rt: &impl Abort, bytes: &[u8], want: Result<(Parts, usize), PacketFault>)
+// Whether bits are these, seen as bytes with zeros behind them.
+fn are(bits: &BitSlice<'_>, want: &[u8], len: usize) -> bool {
+    if bits.len() != len || want.len() != len.div_ceil(8) {
+        return false;
+    }
+    for k in 0..len / 8 {
+        if bits.field(8 * k, 8) != u64::from(want[k]) {
+            return false;
+        }
+    }
+    let rest = len % 8;
+    rest == 0 || bits.field(len - rest, rest as u32) == u64::from(want[len / 8] >> (8 - rest))
+}
+
+#[test]
+fn an_l1_current_both_ways(rt: HostRuntime) {
+    let (pre, conf, dynamic) = (&CURRENT[8..29], [0xAB, 0xC8], [0x96, 0x80]);
+    let packet = Packet {
+        count: 4,
+        superframe: 1,
+        stream: 0,
+        body: Body::L1Current {
+            frame_idx: 1,
+            pre: BitSlice::whole(pre),
+            conf: BitSlice::whole(&conf).sub(0, 13),
+            dynamic: BitSlice::whole(&dynamic).sub(0, 9),
+            extension: BitSlice::whole(&[]),
+        },
+    };
+    writes(&rt, &packet, &CURRENT);
+    match read(&CURRENT_BITS_SET) {
+        Ok(
+            (
+                Packet {
+                    body: Body::L1Current {
+                        frame_idx: 1,
+                        pre: read_pre,
+                        conf: read_conf,
+                        dynamic: read_dynamic,
+                        extension,
+                    },
+                    ..
+                },
+                44,
+            ),
+        ) => {
+            assert!(rt; are(&read_pre, pre, 168));
+            assert!(rt; are(&read_conf, &conf, 13));
+            assert!(rt; are(&read_dynamic, &dynamic, 9));
+            assert!(rt; are(&extension, &[0xA0], 3));
+        }
+        _ => assert!(rt; false),
+    }
+}
+
+#[test]
+fn a_frame_both_ways(rt: HostRuntime) {
+    let frame = [0xAB, 0xC0];
+    let packet = Packet {
+        count: 5,
+        superframe: 2,
+        stream: 3,
+        body: Body::Block {
+            frame_idx: 1,
+            plp: 7,
+            first: true,
+            bits: BitSlice::whole(&frame).sub(0, 12),
+        },
+    };
+    writes(&rt, &packet, &BLOCK);
+    match read(&BLOCK_BITS_SET) {
+        Ok(
+            (
+                Packet {
+                    count: 5,
+                    superframe: 2,
+                    stream: 3,
+                    body: Body::Block {
+                        frame_idx: 1,
+                        plp: 7,
+                        first: true,
+                        bits,
+                    },
+                },
+                15,
+            ),
+        ) => assert!(rt; are(&bits, &frame, 12)),
+        _ => assert!(rt; false),
+    }
+}
+
+#[test]
+fn another_type_both_ways(rt: HostRuntime) {
+    let payload = [0xAB, 0xC8];
+    let packet = Packet {
+        count: 7,
+        superframe: 5,
+        stream: 2,
+        body: Body::Other {
+            kind: 0x33,
+            bits: BitSlice::whole(&payload).sub(0, 13),
+        },
+    };
+    writes(&rt, &packet, &OTHER);
+    match view(&OTHER) {
+        Ok((seen, 12)) => {
+            assert!(rt;
+                seen.kind == 0x33 && seen.count == 7 && seen.superframe == 5 && seen.stream == 2
+            );
+            assert!(rt; are(&seen.payload, &payload, 13));
+        }
+        _ => assert!(rt; false),
+    }
+}
+
+fn length_of(bytes: &[u8]) -> Result<usize, PacketFault>
     requires { length bytes.now < 2 ^ 60 }
 {
-    assert!(rt; parts_of(bytes) == want);
-}
-
-#[test]
-fn reads_each_field(rt: HostRuntime) {
-    check(&rt, &TIMESTAMP, Ok(((0x20, 0, 0, 0, 88, Some(0x04)), 21)));
-    check(
-        &rt,
-        &THIRTEEN_BITS,
-        Ok(((0x33, 7, 5, 2, 13, Some(0xAB)), 12)),
-    );
-    check(&rt, &NO_PAYLOAD, Ok(((0x42, 255, 15, 7, 0, None), 10)));
-    check(
-        &rt,
-        &FUTURE_BITS_SET,
-        Ok(((0x10, 1, 1, 1, 8, Some(0xF0)), 11)),
-    );
-}
-
-#[test]
-fn ignores_what_follows(rt: HostRuntime) -> Result<(), Fail> {
-    let mut bytes = NO_PAYLOAD.to_vec(rt.alloc())?;
-    bytes.extend_from_slice(&TIMESTAMP)?;
-    check(&rt, bytes.as_slice(), Ok(((0x42, 255, 15, 7, 0, None), 10)));
-    Ok(())
+    let (_, len) = read(bytes)?;
+    Ok(len)
 }
 
 #[test]
 fn refuses_by_the_first_cause(rt: HostRuntime) {
-    let refused = |at: usize, why: PacketWhy| Err(PacketFault { at, why });
-    check(&rt, &[], refused(0, PacketWhy::Short));
-    check(&rt, &TIMESTAMP[..5], refused(5, PacketWhy::Short));
-    check(&rt, &TIMESTAMP[..20], refused(20, PacketWhy::Short));
-    check(&rt, &PAD_BIT_SET, refused(7, PacketWhy::PadBits));
+    let mut wrong_crc = BLOCK_23_PAD;
+    wrong_crc[12] = 0;
+    let refusals: [(&[u8], usize, PacketWhy); 13] = [
+        (&[], 0, PacketWhy::Short),
+        (&STAMP[..5], 5, PacketWhy::Short),
+        (&STAMP[..20], 20, PacketWhy::Short),
+        (&wrong_crc, 9, PacketWhy::Crc),
+        (&BLOCK_23_PAD, 8, PacketWhy::PadBits),
+        (&BLOCK_23, 6, PacketWhy::PayloadShape),
+        (&BLOCK_16, 6, PacketWhy::PayloadShape),
+        (&STAMP_80, 6, PacketWhy::PayloadShape),
+        (&STAMP_96, 6, PacketWhy::PayloadShape),
+        (&PART_TOO_LONG, 6, PacketWhy::PayloadShape),
+        (&PART_TOO_SHORT, 6, PacketWhy::PayloadShape),
+        (&NO_EXTENSION, 6, PacketWhy::PayloadShape),
+        (&A_BYTE_MORE, 6, PacketWhy::PayloadShape),
+    ];
+    for (bytes, at, why) in refusals {
+        assert!(rt; length_of(bytes) == Err(PacketFault { at, why }));
+    }
+    assert!(rt; length_of(&BLOCK_24) == Ok(13));
+}
 
-    let mut wrong = TIMESTAMP;
-    wrong[20] = 0xE5;
-    check(&rt, &wrong, refused(17, PacketWhy::Crc));
+#[test]
+fn six_bytes_tell_how_many_are_needed(rt: HostRuntime) {
+    assert!(rt; needed(&CURRENT[..5]) == None);
+    assert!(rt; needed(&CURRENT[..6]) == Some(43));
+    assert!(rt; needed(&OTHER) == Some(12));
+}
 
-    // A wrong CRC is told before a pad bit.
-    let mut both = PAD_BIT_SET;
-    both[11] = 0;
-    check(&rt, &both, refused(8, PacketWhy::Crc));
+#[test]
+fn a_packet_with_too_little_room(rt: HostRuntime) {
+    let packet = Packet {
+        count: 3,
+        superframe: 1,
+        stream: 0,
+        body: Body::Timestamp(MOMENT),
+    };
+    let mut sink = FixedBits::<10>::new();
+    assert!(rt; write(&mut sink, &packet) == Err(SinkFault::Full { need: 40, room: 24 }));
+    assert!(rt; are(&sink.as_slice(), &STAMP[..7], 56));
+}
+
+#[test]
+fn numbers_of_the_refusals(rt: HostRuntime) {
+    let numbers = [
+        PacketWhy::Short,
+        PacketWhy::Crc,
+        PacketWhy::PadBits,
+        PacketWhy::PayloadShape,
+    ]
+    .map(|why| why as u8);
+    assert!(rt; numbers == [1, 2, 3, 4]);
 }
