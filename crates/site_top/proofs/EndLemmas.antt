@@ -5,7 +5,6 @@ use Rattle.std.specs.Prelude.{IfSome, IsSome, option_map, option_and_then, unwra
 use Rattle.std.specs.FinMap.{get}
 use Rattle.std.proofs.lemmas.Bool.{cases_lt}
 use Rattle.ports.specs.Desk.{State, Held, SameCounts, Keeps, Says, Rose, Opens, left_of, bytes_of}
-use Rattle.t2mi_packet.specs.declared.packet.Packet.{Packet}
 use Rattle.site_top.specs.declared.outcome.Outcome.{Outcome}
 use Rattle.site_top.specs.declared.outcome.Outcome.TheVariants.{Done, Usage, ConfigRefused, CapacityRefused, TooLong, PacketRefused, ReadFault, WriteFault, OutOfMemory}
 use Rattle.site_top.specs.PacketFile.{Packs, bytes_in}
@@ -19,7 +18,7 @@ use Rattle.site_top.proofs.StopLemmas.{rose_from}
 
 -- the lines on the page were said, and a text behind them
 said_page : (file : List ℕ) (start now new : State) (at count : ℕ) (rest page extra : List ℕ) → Shown file start now at count rest page → new.said ≡ option_map (λ s. s ++ (page ++ extra)) now.said →
-    (packets : List Packet) × Packs file packets rest × (at ≡ bytes_in packets) × (count ≡ length packets) × (new.said ≡ option_map (λ s. s ++ (lines_of 0 packets ++ extra)) start.said)
+    (packets : List (List ℕ)) × Packs file packets rest × (at ≡ bytes_in packets) × (count ≡ length packets) × (new.said ≡ option_map (λ s. s ++ (lines_of 0 packets ++ extra)) start.said)
 said_page file start now new at count rest page extra s e =
     let from : 0 + bytes_in s.first ≡ bytes_in s.first = omega arith in
     let lines : lines_of 0 s.first ++ (page ++ extra) ≡ lines_of 0 (s.first ++ s.next) ++ extra =
@@ -29,7 +28,7 @@ said_page file start now new at count rest page extra s e =
 
 -- the lines on the page were said
 said_lines : (file : List ℕ) (start now new : State) (at count : ℕ) (rest page : List ℕ) → Shown file start now at count rest page → Says now new page →
-    (packets : List Packet) × Packs file packets rest × (at ≡ bytes_in packets) × (new.said ≡ option_map (λ s. s ++ lines_of 0 packets) start.said)
+    (packets : List (List ℕ)) × Packs file packets rest × (at ≡ bytes_in packets) × (new.said ≡ option_map (λ s. s ++ lines_of 0 packets) start.said)
 said_lines file start now new at count rest page s says =
     let whole : new.said ≡ option_map (λ s. s ++ (page ++ [])) now.said = says.said ∙ ap (λ (text : List ℕ). option_map (λ said. said ++ text) now.said) (sym (append-nil page)) in
     let x = said_page file start now new at count rest page [] s whole in

@@ -3,13 +3,11 @@ use Rattle.std.proofs.Common.{◌≡◌, ℕ, ◌+◌, ◌-◌, ◌<◌, ◌≤�
 use Rattle.std.specs.Prelude.{IfSome, IsTrue, option_map, slice_index, slice_set}
 use Rattle.std.proofs.lemmas.List.{get_or-set_same, set-set, set-get_or, drop-append-le}
 use Rattle.ports.specs.Desk.{State, Held, SameCounts, Keeps, Says, content, left_of}
-use Rattle.t2mi_packet.specs.declared.packet.Packet.{Packet}
-use Rattle.t2mi_packet.specs.T2miPacket.{packet_len, BeginsWith}
-use Rattle.site_top.specs.PacketFile.{Packs, bytes_in}
+use Rattle.site_top.specs.PacketFile.{Begins, Packs, bytes_in}
 use Rattle.site_top.specs.SaidLines.{line_of, lines_of}
 use Rattle.site_top.specs.Reading.{ReadsOn, IsAtEnd}
 use Rattle.site_top.specs.Progress.{Shown, Only, Comes, Takes, GivesWay}
-use Rattle.site_top.proofs.PacketFileLemmas.{packs_more, packs_first, bytes_in-append, lines_of-append, lines_of-push, begins_on}
+use Rattle.site_top.proofs.PacketFileLemmas.{begins_inside, packs_more, packs_first, bytes_in-append, lines_of-append, lines_of-push, begins_on}
 
 pub if_some : {A : Type 0} (o : Option A) (P Q : A → Type 0) → ((x : A) → P x → Q x) → IfSome o P → IfSome o Q
 if_some None P Q f h = h
@@ -121,7 +119,7 @@ shown_said file start old new at count rest page e s =
     record {
       first = s.first ++ s.next;
       next = [];
-      packs = subst (λ (ps : List Packet). Packs file ps rest) (sym all) s.packs;
+      packs = subst (λ (ps : List (List ℕ)). Packs file ps rest) (sym all) s.packs;
       place = s.place ∙ ap bytes_in (sym all);
       number = s.number ∙ ap length (sym all);
       said = e ∙ ap (option_map (λ text. text ++ page)) s.said ∙ said_more start.said (lines_of 0 s.first) page (lines_of 0 (s.first ++ s.next)) lines;
@@ -140,7 +138,7 @@ shown_lost file start old new at count rest page e s =
       record {
         first = s.first;
         next = [];
-        packs = subst (λ (ps : List Packet). Packs file ps before.0) (sym all) before.1;
+        packs = subst (λ (ps : List (List ℕ)). Packs file ps before.0) (sym all) before.1;
         place = refl;
         number = refl;
         said = e ∙ s.said;
@@ -193,21 +191,21 @@ gave_way start old new handle at count waiting page left ended c way rf wf lf =
 shown_more : (file : List ℕ) (start now : State) (at count len : ℕ) (waiting rest page longer left : List ℕ) → Takes waiting rest at len page longer → Shown file start now at count (waiting ++ left) page →
     Shown file start now (at + len) (count + 1) (rest ++ left) longer
 shown_more file start now at count len waiting rest page longer left t s =
-    let p : Packet = t.packet in
-    let size : len ≡ packet_len p = t.size in
-    let begins : BeginsWith (waiting ++ left) p (packet_len p) = subst (BeginsWith (waiting ++ left) p) size (begins_on waiting left p len t.begins) in
-    let inside : packet_len p ≤ length waiting = let i = t.begins.inside in omega (arith, size) in
-    let behind : drop (packet_len p) (waiting ++ left) ≡ rest ++ left =
-    drop-append-le (packet_len p) waiting left inside ∙ ap (λ (front : List ℕ). front ++ left) (ap (λ (k : ℕ). drop k waiting) (sym size) ∙ sym t.taken) in
+    let p : List ℕ = t.packet in
+    let size : len ≡ length p = t.size in
+    let begins : Begins (waiting ++ left) p = begins_on waiting left p t.begins in
+    let inside : length p ≤ length waiting = begins_inside waiting p t.begins in
+    let behind : drop (length p) (waiting ++ left) ≡ rest ++ left =
+    drop-append-le (length p) waiting left inside ∙ ap (λ (front : List ℕ). front ++ left) (ap (λ (k : ℕ). drop k waiting) (sym size) ∙ sym t.taken) in
     let all : s.first ++ (s.next ++ p ∷ []) ≡ (s.first ++ s.next) ++ p ∷ [] = sym (append_assoc s.first s.next (p ∷ [])) in
     let here : at ≡ bytes_in s.first + bytes_in s.next = s.place ∙ bytes_in-append s.first s.next in
     record {
       first = s.first;
       next = s.next ++ p ∷ [];
-      packs = subst (λ (ps : List Packet). Packs file ps (rest ++ left)) (sym all)
+      packs = subst (λ (ps : List (List ℕ)). Packs file ps (rest ++ left)) (sym all)
           (subst (Packs file ((s.first ++ s.next) ++ p ∷ [])) behind (packs_more file (waiting ++ left) (s.first ++ s.next) p s.packs begins));
       place = omega (arith, ap bytes_in all, bytes_in-append (s.first ++ s.next) (p ∷ []), s.place, size);
-      number = omega (arith, ap (length {A = Packet}) all, length-append (s.first ++ s.next) (p ∷ []), s.number);
+      number = omega (arith, ap (length {A = List ℕ}) all, length-append (s.first ++ s.next) (p ∷ []), s.number);
       said = s.said;
       gathered = t.line ∙ ap (λ (text : List ℕ). text ++ line_of at p) s.gathered ∙ ap (λ (k : ℕ). lines_of (bytes_in s.first) s.next ++ line_of k p) here ∙ sym (lines_of-push (bytes_in s.first) s.next p);
     }
@@ -216,7 +214,8 @@ pub taken : (start now : State) (handle at count len : ℕ) (waiting rest page l
     Comes start now handle (at + len) (count + 1) rest longer ended
 taken start now handle at count len waiting rest page longer ended c t =
     let size = length-drop len waiting in
-    let inside = t.begins.inside in
+    let inside = begins_inside waiting t.packet t.begins in
+    let packet = t.size in
     let left = ap length t.taken in
     let same : at + length waiting ≡ at + len + length rest = omega arith in
     record {

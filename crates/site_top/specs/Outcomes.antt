@@ -3,7 +3,7 @@ use Rattle.std.specs.Prelude.{ℕ, List, [], ◌++◌, codes, Some, None}
 use Rattle.std.specs.declared.option.Option.{Option}
 use Rattle.std.specs.Fmt.{decimal}
 use Rattle.t2mi_packet.specs.declared.fault.PacketWhy.{PacketWhy}
-use Rattle.t2mi_packet.specs.declared.fault.PacketWhy.TheVariants.{Short, Crc, PadBits}
+use Rattle.t2mi_packet.specs.declared.fault.PacketWhy.TheVariants.{Short, Crc, PadBits, PayloadShape}
 use Rattle.config_text.specs.declared.fault.TextWhy.{TextWhy}
 use Rattle.config_text.specs.declared.fault.TextWhy.TheVariants.{NotAscii, WrongKey, WrongCount, BadWord, BadNumber, EndsEarly, TooLong as TextTooLong}
 use Rattle.site_top.specs.declared.outcome.ConfigCause.TheVariants.{Text, Rule}
@@ -27,6 +27,7 @@ abbrev pub why_number : PacketWhy → ℕ
 why_number Short = 1
 why_number Crc = 2
 why_number PadBits = 3
+why_number PayloadShape = 4
 
 -- the number of a refusal of a text
 abbrev pub text_why_number : TextWhy → ℕ

@@ -1,19 +1,17 @@
 -- How far `show packets` has come in a file. No public clause cites this module.
 use Rattle.std.specs.Prelude.{◌≡◌, ◌≢◌, ◌⊎◌, ℕ, ◌+◌, ◌≤◌, ◌<◌, ◌^◌, Bool, List, [], ◌++◌, length, drop, slice_set, IfSome, Some, option_map, IsTrue}
 use Rattle.ports.specs.Desk.{State, Rose, SameCounts, Keeps, Says, left_of}
-use Rattle.t2mi_packet.specs.declared.packet.Packet.{Packet}
-use Rattle.t2mi_packet.specs.T2miPacket.{packet_len, BeginsWith}
 use Rattle.site_top.specs.declared.outcome.Outcome.{Outcome}
 use Rattle.site_top.specs.declared.outcome.Outcome.TheVariants.{Done, TooLong, PacketRefused, ReadFault, WriteFault}
-use Rattle.site_top.specs.PacketFile.{Packs, bytes_in, IsRefused}
+use Rattle.site_top.specs.PacketFile.{Begins, Packs, bytes_in, IsRefused}
 use Rattle.site_top.specs.SaidLines.{line_of, lines_of}
 use Rattle.site_top.specs.Reading.{IsAtEnd}
 use Rattle.site_top.specs.ShowPackets.{Said}
 
 -- Of the packets of a file the lines of the first were said, and those of the next are on the page; this is left behind them.
 pub record Shown (file : List ℕ) (start now : State) (at count : ℕ) (rest page : List ℕ) : Type 0 where
-  pub first : List Packet
-  pub next : List Packet
+  pub first : List (List ℕ)
+  pub next : List (List ℕ)
   pub packs : Packs file (first ++ next) rest
   pub place : at ≡ bytes_in (first ++ next)
   pub number : count ≡ length (first ++ next)
@@ -44,9 +42,9 @@ StopsReading old new given outcome = ⊥
 
 -- A packet began the bytes, and its line went onto the page.
 pub record Takes (bytes left : List ℕ) (at len : ℕ) (page longer : List ℕ) : Type 0 where
-  pub packet : Packet
-  pub begins : BeginsWith bytes packet len
-  pub size : len ≡ packet_len packet
+  pub packet : List ℕ
+  pub begins : Begins bytes packet
+  pub size : len ≡ length packet
   pub taken : left ≡ drop len bytes
   pub line : longer ≡ page ++ line_of at packet
 

@@ -1,7 +1,6 @@
 -- What `show packets FILE` does, up to its last line.
 use Rattle.std.specs.Prelude.{◌≡◌, ◌≢◌, ◌⊎◌, ℕ, ◌<◌, ◌≤◌, ◌^◌, List, [], ◌++◌, length, IfSome}
 use Rattle.ports.specs.Desk.{State, Rose, bytes_of}
-use Rattle.t2mi_packet.specs.declared.packet.Packet.{Packet}
 use Rattle.site_top.specs.declared.outcome.Outcome.{Outcome}
 use Rattle.site_top.specs.declared.outcome.Outcome.TheVariants.{Done, TooLong, PacketRefused, ReadFault, WriteFault, OutOfMemory}
 use Rattle.site_top.specs.Files.{Opened, Unopened, Grew}
@@ -24,13 +23,13 @@ ReadsFile old new name outcome = ⊥
 
 -- The lines of some packets were said, with which the file begins.
 abbrev pub SaidFirst : List ℕ → State → State → Type 0
-SaidFirst file old new = (packets : List Packet) × (rest : List ℕ) × Packs file packets rest × Grew old new (lines_of 0 packets)
+SaidFirst file old new = (packets : List (List ℕ)) × (rest : List ℕ) × Packs file packets rest × Grew old new (lines_of 0 packets)
 
 -- What was said of a file before the last line, by outcome.
 abbrev pub Said : List ℕ → State → State → Outcome → Type 0
-Said file old new Done = (packets : List Packet) × Packs file packets [] × Grew old new (lines_of 0 packets ++ count_line (length packets))
+Said file old new Done = (packets : List (List ℕ)) × Packs file packets [] × Grew old new (lines_of 0 packets ++ count_line (length packets))
 Said file old new (PacketRefused at why) =
-    (packets : List Packet) × (rest : List ℕ) × Packs file packets rest × IsRefused rest why × (at ≡ bytes_in packets) × Grew old new (lines_of 0 packets)
+    (packets : List (List ℕ)) × (rest : List ℕ) × Packs file packets rest × IsRefused rest why × (at ≡ bytes_in packets) × Grew old new (lines_of 0 packets)
 Said file old new (TooLong count) = (most_bytes ≤ length file) × SaidFirst file old new
 Said file old new outcome = SaidFirst file old new
 
@@ -53,6 +52,6 @@ pub record Shows (old new : State) (name : List ℕ) (outcome : Outcome) : Type 
 
 -- How a run over a file that is not too long must end, where nothing outside fails.
 abbrev pub PacketsEnd : List ℕ → Outcome → Type 0
-PacketsEnd file Done = (packets : List Packet) × Packs file packets []
-PacketsEnd file (PacketRefused at why) = (packets : List Packet) × (rest : List ℕ) × Packs file packets rest × IsRefused rest why × (at ≡ bytes_in packets)
+PacketsEnd file Done = (packets : List (List ℕ)) × Packs file packets []
+PacketsEnd file (PacketRefused at why) = (packets : List (List ℕ)) × (rest : List ℕ) × Packs file packets rest × IsRefused rest why × (at ≡ bytes_in packets)
 PacketsEnd file outcome = ⊥

@@ -3,7 +3,7 @@ ghost use Rattle.site_top.specs.Laws.{OneEnding};
 
 use config_text::{not_refused, refused_once, spelled_once};
 use plp_config::refusal_law;
-use t2mi_packet::{no_refusal, one_packet, one_refusal};
+use t2mi_packet::{no_refusal, one_packet, one_refusal, packet_length};
 
 /// The bytes of a file decide how a run over it must end.
 pub fn one_ending()
@@ -11,6 +11,7 @@ pub fn one_ending()
 {
     one_packet();
     no_refusal();
+    packet_length();
     one_refusal();
     spelled_once();
     not_refused();

@@ -1,11 +1,11 @@
 // The line that `show packets` says of a packet.
 ghost use Rattle.std.specs.Prelude.{◌≡◌, ◌*◌, ◌<◌, ◌≤◌, take, length};
 ghost use Rattle.terms.specs.Bits.{byte_at};
-ghost use Rattle.site_top.specs.SaidLines.{head_of, line_of};
+ghost use Rattle.site_top.specs.SaidLines.{head_of, view_line};
 
 use crate::line::Line;
 use bit_slice::BitSlice;
-use t2mi_packet::Packet;
+use t2mi_packet::PacketView;
 
 // Byte k of some bits, a last part of a byte filled with zero bits.
 fn byte(bits: &BitSlice<'_>, k: usize) -> u8
@@ -33,21 +33,20 @@ fn head(bits: &BitSlice<'_>, bytes: &mut [u8; 8]) -> usize
 }
 
 /// The line of a packet that stands at a place of a file.
-#[tactic(auto, unfolding(crate::specs::SaidLines::line_of))]
-pub fn packet_line(at: u64, packet: &Packet<'_>) -> Line
-    ensures { result ≡ line_of at packet.now }
+#[tactic(auto, unfolding(crate::specs::SaidLines::view_line))]
+pub fn packet_line(at: u64, packet: &PacketView<'_>) -> Line
+    ensures { result ≡ view_line at packet.now }
 {
-    let payload = packet.body.payload();
     let mut bytes = [0; 8];
-    let count = head(&payload, &mut bytes);
+    let count = head(&packet.payload, &mut bytes);
     let mut line = Line::new();
     line.push_field(b"offset=", at);
     line.push(b" type=");
-    line.push_hex(&[packet.body.kind()]);
+    line.push_hex(&[packet.kind]);
     line.push_field(b" count=", u64::from(packet.count));
     line.push_field(b" superframe=", u64::from(packet.superframe));
     line.push_field(b" stream=", u64::from(packet.stream));
-    line.push_field(b" bits=", payload.len() as u64);
+    line.push_field(b" bits=", packet.payload.len() as u64);
     line.push(b" head=");
     line.push_hex(&bytes[..count]);
     line.push(b"\n");

@@ -10,7 +10,7 @@ use crate::outcome::Outcome;
 use crate::packet_line::packet_line;
 use crate::page::{PAGE, Page};
 use ports::Desk;
-use t2mi_packet::{LARGEST, front_refusal, read};
+use t2mi_packet::{LARGEST, front_refusal, view};
 
 // A file that gives as many bytes is too long.
 const LIMIT: u64 = 1 << 40;
@@ -102,7 +102,7 @@ fn take_packet(input: &mut Input, page: &mut Page, at: u64) -> Result<usize, Out
     ensures err { IfErr result (TakesNone input.old at) }
     ensures unchanged { OnErr result ((input.new ≡ input.old) × (page.new ≡ page.old)) }
 {
-    let len = match read(input.as_bytes()) {
+    let len = match view(input.as_bytes()) {
         Ok((packet, len)) => {
             page.push(packet_line(at, &packet).as_bytes());
             len

@@ -3,7 +3,7 @@ use Rattle.site_top.proofs.RunLemmas.{one_ending}
 use Rattle.site_top.proofs.laws.one_ending.Goals as goal
 
 pub returns : goal.returns
-returns c = one_ending (packets_end_once c.one_packet.ensures c.no_refusal.ensures c.one_refusal.ensures) (record {
+returns c = one_ending (packets_end_once c.one_packet.ensures c.no_refusal.ensures c.packet_length.ensures c.one_refusal.ensures) (record {
   spelled = c.spelled_once.ensures;
   accepted = c.not_refused.ensures;
   refused = c.refused_once.ensures;
