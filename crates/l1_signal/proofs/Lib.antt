@@ -1,0 +1,9 @@
+pub mod ReadLemmas
+pub mod PutLemmas
+pub mod PartLemmas
+pub mod RowLemmas
+pub mod CrcLemmas
+pub mod PreLemmas
+pub mod ConfLemmas
+pub mod DynLemmas
+pub mod CompareLemmas

@@ -1,0 +1,14 @@
+use Rattle.std.proofs.Common.{◌≡◌, refl}
+use Rattle.std.proofs.lemmas.Result.{err_from_is_err_and}
+use Rattle.l1_signal.specs.Comparing.{back_read}
+use Rattle.l1_signal.proofs.comparing.read_back.Goals as goal
+
+pub returns-in_err-read_fields-clause-fault : goal.returns-in_err-read_fields-clause-fault
+unfolding back_read
+returns-in_err-read_fields-clause-fault g c =
+    let p = err_from_is_err_and c.from_residual.result c.from_residual.ensures.1 in
+    rw (p.1, p.2, c.in_err-read_fields.ensures.fault) refl
+
+pub returns-clause-ok : goal.returns-clause-ok
+unfolding back_read
+returns-clause-ok g c = rw c.in_ok-read_fields.ensures.ok refl

@@ -1,0 +1,16 @@
+use Rattle.std.proofs.Common.{◌≡◌, List, ℕ, sym, subst}
+use Rattle.l1_signal.specs.Fields.{Fits, row_bits, RowsFit}
+use Rattle.l1_signal.specs.L1Dynamic.{dyn_plp}
+use Rattle.l1_signal.proofs.dyn_plp.write_dyn_plp.Goals as goal
+
+pub put_fields-requires-clause-fits : goal.put_fields-requires-clause-fits
+unfolding RowsFit
+put_fields-requires-clause-fits g c = subst (Fits dyn_plp) (sym c.dyn_plp_values.ensures) c.requires
+
+pub returns-clause-ok : goal.returns-clause-ok
+unfolding row_bits
+returns-clause-ok g c = rw c.dyn_plp_values.ensures at c.put_fields.ensures.ok
+
+pub returns-clause-fault : goal.returns-clause-fault
+unfolding row_bits
+returns-clause-fault g c = rw c.dyn_plp_values.ensures at c.put_fields.ensures.fault

@@ -1,0 +1,8 @@
+use Rattle.l1_signal.proofs.PreLemmas.{pre_read_back, pre_was_spelled}
+use Rattle.l1_signal.proofs.laws.pre_law.Goals as goal
+
+pub returns-clause-back : goal.returns-clause-back
+returns-clause-back c = pre_read_back c.crc32_law.ensures
+
+pub returns-clause-spelled : goal.returns-clause-spelled
+returns-clause-spelled c = pre_was_spelled

@@ -1,0 +1,54 @@
+-- What holds of the definitions. The functions without a body ensure it.
+use Rattle.std.specs.Prelude.{◌≡◌, ◌+◌, ◌*◌, ℕ, Bool, true, false, List, [], ◌++◌, length, Ok}
+use Rattle.terms.specs.Bits.{field}
+use Rattle.bit_slice.specs.Crc.{crc32_of}
+use Rattle.l1_signal.specs.declared.pre.L1Pre.{L1Pre}
+use Rattle.l1_signal.specs.declared.conf.L1Conf.{L1Conf}
+use Rattle.l1_signal.specs.L1Configurable.{info_size, conf_read, conf_bits, ConfSpells, ConfFits}
+use Rattle.l1_signal.specs.declared.dynamic.L1Dyn.{L1Dyn}
+use Rattle.l1_signal.specs.L1Dynamic.{dyn_read, dyn_bits, DynSpells, DynFits}
+use Rattle.l1_signal.specs.L1Pre.{pre_reading, pre_bits, PreSpells, PreFits}
+
+-- L1-pre with CRC_32 behind it, or without
+abbrev pub crc_behind : Bool → List Bool → List Bool
+crc_behind true front = front ++ field 32 (crc32_of front)
+crc_behind false front = front
+
+-- What spells an L1-pre is read as that one, whatever follows it.
+abbrev pub PreReadBack : Type 0
+PreReadBack = (with_crc : Bool) (pre : L1Pre) (front rest : List Bool) → PreSpells pre front → pre_reading with_crc (crc_behind with_crc front ++ rest) ≡ Ok (pre, rest)
+
+-- What is read as an L1-pre spells it.
+pub record PreIsSpelled (with_crc : Bool) (bits : List Bool) (pre : L1Pre) (rest : List Bool) : Type 0 where
+  pub front : List Bool
+  pub spells : PreSpells pre front
+  pub whole : bits ≡ crc_behind with_crc front ++ rest
+
+abbrev pub PreReadSpelled : Type 0
+PreReadSpelled = (with_crc : Bool) (bits : List Bool) (pre : L1Pre) (rest : List Bool) → pre_reading with_crc bits ≡ Ok (pre, rest) → PreIsSpelled with_crc bits pre rest
+
+-- The same of the configurable part, where L1-pre tells the right L1_POST_INFO_SIZE.
+abbrev pub ConfReadBack : Type 0
+ConfReadBack = (conf : L1Conf) (front rest : List Bool) → ConfSpells conf front → conf_read (info_size (length conf.plps)) (front ++ rest) ≡ Ok (conf, rest)
+
+pub record ConfIsSpelled (told : ℕ) (bits : List Bool) (conf : L1Conf) (rest : List Bool) : Type 0 where
+  pub size : told ≡ info_size (length conf.plps)
+  pub front : List Bool
+  pub spells : ConfSpells conf front
+  pub whole : bits ≡ front ++ rest
+
+abbrev pub ConfReadSpelled : Type 0
+ConfReadSpelled = (told : ℕ) (bits : List Bool) (conf : L1Conf) (rest : List Bool) → conf_read told bits ≡ Ok (conf, rest) → ConfIsSpelled told bits conf rest
+
+-- The same of the dynamic part, with as many PLPs as it has.
+abbrev pub DynReadBack : Type 0
+DynReadBack = (dynamic : L1Dyn) (front rest : List Bool) → DynSpells dynamic front → dyn_read (length dynamic.plps) (front ++ rest) ≡ Ok (dynamic, rest)
+
+pub record DynIsSpelled (plps : ℕ) (bits : List Bool) (dynamic : L1Dyn) (rest : List Bool) : Type 0 where
+  pub count : length dynamic.plps ≡ plps
+  pub front : List Bool
+  pub spells : DynSpells dynamic front
+  pub whole : bits ≡ front ++ rest
+
+abbrev pub DynReadSpelled : Type 0
+DynReadSpelled = (plps : ℕ) (bits : List Bool) (dynamic : L1Dyn) (rest : List Bool) → dyn_read plps bits ≡ Ok (dynamic, rest) → DynIsSpelled plps bits dynamic rest

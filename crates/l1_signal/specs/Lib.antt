@@ -1,0 +1,11 @@
+pub mod Fields
+pub mod Places
+pub mod CrcField
+pub mod L1Pre
+pub mod L1Configurable
+pub mod L1Dynamic
+pub mod Comparing
+pub mod Laws
+pub use Rattle.bit_slice.specs.Crc
+pub use Rattle.bit_slice.specs.Sink
+pub use Rattle.terms.specs.Bits

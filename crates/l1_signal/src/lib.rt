@@ -1,0 +1,27 @@
+//! L1 signalling: L1-pre, and the configurable and the dynamic part of L1-post (EN 302 755, clause 7.2).
+#![tactic(auto)]
+
+mod comparing;
+mod conf;
+mod conf_plp;
+mod conf_rows;
+mod crc;
+mod dyn_plp;
+mod dyn_rows;
+mod dynamic;
+mod fault;
+mod fields;
+mod laws;
+mod pre;
+
+pub use comparing::is_conf;
+pub use conf::{L1Conf, read_conf, write_conf};
+pub use conf_plp::ConfPlp;
+pub use conf_rows::ConfRows;
+pub use crc::check_post;
+pub use dyn_plp::DynPlp;
+pub use dyn_rows::DynRows;
+pub use dynamic::{L1Dyn, read_dyn, write_dyn};
+pub use fault::L1Fault;
+pub use laws::pre_law;
+pub use pre::{L1Pre, read_pre, write_pre};
