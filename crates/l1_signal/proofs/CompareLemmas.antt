@@ -1,7 +1,10 @@
 -- Bits are a spelling of a configurable part exactly where what is read of them is that part, and nothing is left.
-use Rattle.std.proofs.Common.{◌≡◌, ◌≢◌, ℕ, suc, ◌+◌, ◌-◌, ◌≤◌, ◌<◌, Bool, List, [], ◌∷◌, ◌++◌, length, take, drop, get_or, replicate, Ok, Err, refl, ap, sym, subst, ◌∙◌, arith, append-nil}
-use Rattle.std.specs.Prelude.{slice_index}
+use Rattle.std.proofs.Common.{◌≡◌, ◌≢◌, ℕ, suc, ◌+◌, ◌-◌, ◌≤◌, ◌<◌, Bool, List, [], ◌∷◌, ◌++◌, length, take, drop, get_or, replicate, Ok, Err, refl, ap, sym, subst, ◌∙◌, arith, append-nil, rules}
+use Rattle.std.specs.Prelude.{slice_index, Result, OnOk, IfErr, IsTrue, ◌↔◌, true, false}
+use Rattle.std.specs.Result.{is_err}
 use Rattle.std.proofs.lemmas.List.{take_more, drop_more, drop_at, length-take-le}
+use Rattle.bit_slice.specs.declared.source.Short.{Short}
+use Rattle.bit_slice.specs.Source.{Takes}
 use Rattle.l1_signal.specs.declared.fault.L1Fault.{L1Fault}
 use Rattle.l1_signal.specs.declared.conf.L1Conf.{L1Conf}
 use Rattle.l1_signal.specs.declared.conf_plp.ConfPlp.{ConfPlp}
@@ -151,3 +154,25 @@ other_plp plps i d x all bits more rest is lt read ne ok =
     let here : get_or b.more 0 d ≡ get_or plps i d = ap (λ (l : List ConfPlp). get_or l 0 d) (sym left ∙ drop_more plps i d lt) in
     let first = first_is (replicate (length plps - (i + 1)) conf_plp_read) bits rest more x d b.more (ap (λ (m : ℕ). each_read (replicate m conf_plp_read) bits) (sym k) ∙ b.read) read in
     ne (sym first ∙ here)
+
+-- ---- what a test says
+is_true : IsTrue true
+is_true = search rules
+
+not_true : IsTrue false → ⊥
+not_true t = search rules
+
+pub holds : {P : Type 0} (b : Bool) → IsTrue b ↔ P → b ≡ true → P
+holds b iff e = iff.0 (subst IsTrue (sym e) is_true)
+
+pub fails : {P : Type 0} (b : Bool) → IsTrue b ↔ P → b ≡ false → P → ⊥
+fails b iff e p = not_true (subst IsTrue e (iff.1 p))
+
+pub refuted : {P : Type 0} → (P → ⊥) → IsTrue false ↔ P
+refuted none = (λ t. absurd (not_true t), λ p. absurd (none p))
+
+-- the last test: nothing is left
+pub ends : {T P : Type 0} (r : Result T Short) (b : Bool) (left new : List Bool) → b ≡ is_err r → OnOk r (Takes left new 1) → IfErr r (λ e. (e.left ≡ length left) × (e.left < 1)) →
+    (length left < 1 → P) → (1 ≤ length left → P → ⊥) → IsTrue b ↔ P
+ends (Ok x) b left new is takes short none some = (λ t. absurd (not_true (subst IsTrue is t)), λ p. absurd (some takes.inside p))
+ends (Err e) b left new is takes short none some = (λ t. none (omega (arith, short.0, short.1)), λ p. subst IsTrue (sym is) is_true)

@@ -7,3 +7,6 @@ pub mod PreLemmas
 pub mod ConfLemmas
 pub mod DynLemmas
 pub mod CompareLemmas
+pub mod FitLemmas
+pub mod ValueLemmas
+pub mod PostLemmas

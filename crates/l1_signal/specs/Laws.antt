@@ -3,11 +3,21 @@ use Rattle.std.specs.Prelude.{◌≡◌, ◌+◌, ◌*◌, ℕ, Bool, true, fals
 use Rattle.terms.specs.Bits.{field}
 use Rattle.bit_slice.specs.Crc.{crc32_of}
 use Rattle.l1_signal.specs.declared.pre.L1Pre.{L1Pre}
+use Rattle.plp_config.specs.declared.config.Config.{Config}
+use Rattle.scheduler.specs.Shape.{FrameShape}
+use Rattle.l1_signal.specs.declared.pre.TheConstants.{PRE}
+use Rattle.l1_signal.specs.declared.conf.TheConstants.{CONF_FIRST, CONF_MORE, CONF_BACK}
+use Rattle.l1_signal.specs.declared.conf_plp.TheConstants.{CONF_PLP}
+use Rattle.l1_signal.specs.declared.dyn_plp.TheConstants.{DYN_PLP}
+use Rattle.l1_signal.specs.declared.dynamic.TheConstants.{DYN_FRONT, DYN_BACK}
+use Rattle.l1_signal.specs.CrcField.{EndsInCrc}
+use Rattle.l1_signal.specs.Fields.{fields}
+use Rattle.l1_signal.specs.L1Of.{post_bits}
 use Rattle.l1_signal.specs.declared.conf.L1Conf.{L1Conf}
-use Rattle.l1_signal.specs.L1Configurable.{info_size, conf_read, conf_bits, ConfSpells, ConfFits}
+use Rattle.l1_signal.specs.L1Configurable.{conf_first_rows, conf_more_rows, conf_plp_rows, conf_back_rows, info_size, conf_read, conf_bits, ConfSpells, ConfFits}
 use Rattle.l1_signal.specs.declared.dynamic.L1Dyn.{L1Dyn}
-use Rattle.l1_signal.specs.L1Dynamic.{dyn_read, dyn_bits, DynSpells, DynFits}
-use Rattle.l1_signal.specs.L1Pre.{pre_reading, pre_bits, PreSpells, PreFits}
+use Rattle.l1_signal.specs.L1Dynamic.{dyn_front_rows, dyn_plp_rows, dyn_back_rows, dyn_read, dyn_bits, DynSpells, DynFits}
+use Rattle.l1_signal.specs.L1Pre.{pre_table, pre_reading, pre_bits, PreSpells, PreFits}
 
 -- L1-pre with CRC_32 behind it, or without
 abbrev pub crc_behind : Bool → List Bool → List Bool
@@ -27,6 +37,13 @@ pub record PreIsSpelled (with_crc : Bool) (bits : List Bool) (pre : L1Pre) (rest
 abbrev pub PreReadSpelled : Type 0
 PreReadSpelled = (with_crc : Bool) (bits : List Bool) (pre : L1Pre) (rest : List Bool) → pre_reading with_crc bits ≡ Ok (pre, rest) → PreIsSpelled with_crc bits pre rest
 
+-- What is written spells it.
+abbrev pub PreWritten : Type 0
+PreWritten = (pre : L1Pre) → PreFits pre → PreSpells pre (pre_bits pre)
+
+abbrev pub PreLength : Type 0
+PreLength = (pre : L1Pre) (bits : List Bool) → PreSpells pre bits → length bits ≡ 168
+
 -- The same of the configurable part, where L1-pre tells the right L1_POST_INFO_SIZE.
 abbrev pub ConfReadBack : Type 0
 ConfReadBack = (conf : L1Conf) (front rest : List Bool) → ConfSpells conf front → conf_read (info_size (length conf.plps)) (front ++ rest) ≡ Ok (conf, rest)
@@ -40,6 +57,12 @@ pub record ConfIsSpelled (told : ℕ) (bits : List Bool) (conf : L1Conf) (rest :
 abbrev pub ConfReadSpelled : Type 0
 ConfReadSpelled = (told : ℕ) (bits : List Bool) (conf : L1Conf) (rest : List Bool) → conf_read told bits ≡ Ok (conf, rest) → ConfIsSpelled told bits conf rest
 
+abbrev pub ConfWritten : Type 0
+ConfWritten = (conf : L1Conf) → ConfFits conf → ConfSpells conf (conf_bits conf)
+
+abbrev pub ConfLength : Type 0
+ConfLength = (conf : L1Conf) (bits : List Bool) → ConfSpells conf bits → length bits ≡ 102 + 89 * length conf.plps
+
 -- The same of the dynamic part, with as many PLPs as it has.
 abbrev pub DynReadBack : Type 0
 DynReadBack = (dynamic : L1Dyn) (front rest : List Bool) → DynSpells dynamic front → dyn_read (length dynamic.plps) (front ++ rest) ≡ Ok (dynamic, rest)
@@ -52,3 +75,28 @@ pub record DynIsSpelled (plps : ℕ) (bits : List Bool) (dynamic : L1Dyn) (rest 
 
 abbrev pub DynReadSpelled : Type 0
 DynReadSpelled = (plps : ℕ) (bits : List Bool) (dynamic : L1Dyn) (rest : List Bool) → dyn_read plps bits ≡ Ok (dynamic, rest) → DynIsSpelled plps bits dynamic rest
+
+abbrev pub DynWritten : Type 0
+DynWritten = (dynamic : L1Dyn) → DynFits dynamic → DynSpells dynamic (dyn_bits dynamic)
+
+abbrev pub DynLength : Type 0
+DynLength = (dynamic : L1Dyn) (bits : List Bool) → DynSpells dynamic bits → length bits ≡ 79 + 48 * length dynamic.plps
+
+-- L1-post of a frame
+abbrev pub PostLength : Type 0
+PostLength = (c : Config) (frame : ℕ) (shape : FrameShape) → length (post_bits c frame shape) ≡ 213 + 137 * length c.plps
+
+-- Bits with their CRC_32 behind them pass the test of L1-post.
+abbrev pub EndsInItsCrc : Type 0
+EndsInItsCrc = (front : List Bool) → EndsInCrc (front ++ field 32 (crc32_of front))
+
+-- The tables of the code are those of the rows.
+pub record TablesAreRows : Type 0 where
+  pub pre : PRE ≡ pre_table
+  pub conf_first : CONF_FIRST ≡ fields conf_first_rows
+  pub conf_more : CONF_MORE ≡ fields conf_more_rows
+  pub conf_plp : CONF_PLP ≡ fields conf_plp_rows
+  pub conf_back : CONF_BACK ≡ fields conf_back_rows
+  pub dyn_front : DYN_FRONT ≡ fields dyn_front_rows
+  pub dyn_plp : DYN_PLP ≡ fields dyn_plp_rows
+  pub dyn_back : DYN_BACK ≡ fields dyn_back_rows

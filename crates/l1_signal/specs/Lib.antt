@@ -4,8 +4,13 @@ pub mod CrcField
 pub mod L1Pre
 pub mod L1Configurable
 pub mod L1Dynamic
+pub mod L1Of
+pub mod Numbers
 pub mod Comparing
 pub mod Laws
 pub use Rattle.bit_slice.specs.Crc
 pub use Rattle.bit_slice.specs.Sink
 pub use Rattle.terms.specs.Bits
+pub use Rattle.plp_config.specs.Capacity
+pub use Rattle.plp_config.specs.Plps
+pub use Rattle.scheduler.specs.Shape

@@ -10,10 +10,10 @@ use crate::fields::read_fields;
 use crate::{ConfPlp, L1Conf, L1Fault};
 use bit_slice::{BitReader, BitSlice, BitSource};
 
-fn front_told(conf: &L1Conf) -> [u64; 5]
-    ensures { result ≡ front_told conf.now }
+fn is_front(front: &[u64; 5], conf: &L1Conf) -> bool
+    ensures { IsTrue result ↔ (front.now ≡ front_told conf.now) }
 {
-    [
+    *front == [
         u64::from(conf.sub_slices_per_frame),
         u64::from(conf.num_plp),
         u64::from(conf.num_aux),
@@ -42,6 +42,12 @@ fn read_back<'a, R: BitSource<'a>>(source: &mut R) -> Result<u64, L1Fault>
     Ok(back[0])
 }
 
+fn is_same(one: &ConfPlp, other: &ConfPlp) -> bool
+    ensures { IsTrue result ↔ (one.now ≡ other.now) }
+{
+    one == other
+}
+
 // Whether these PLPs come next.
 fn has_plps<'a, R: BitSource<'a>>(source: &mut R, plps: &[ConfPlp]) -> bool
     ensures yes { result ≡ true → each_read (replicate (length plps.now) conf_plp_read) (R.left source.old) ≡ Ok (plps.now, R.left source.new) }
@@ -51,7 +57,7 @@ fn has_plps<'a, R: BitSource<'a>>(source: &mut R, plps: &[ConfPlp]) -> bool
         let Ok(plp) = read_conf_plp(source) else {
             return false;
         };
-        if plp != plps[i] {
+        if !is_same(&plp, &plps[i]) {
             return false;
         }
     }
@@ -69,7 +75,7 @@ pub fn is_conf(bits: BitSlice<'_>, conf: &L1Conf) -> bool
     let Ok(front) = read_front(&mut source) else {
         return false;
     };
-    if front != front_told(conf) {
+    if !is_front(&front, conf) {
         return false;
     }
     if !has_plps(&mut source, conf.plps.as_slice()) {

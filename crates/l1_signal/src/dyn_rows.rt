@@ -27,7 +27,7 @@ impl Model for DynRows {
 }
 
 impl DynRows {
-    ghost use Rattle.std.specs.Prelude.{◌≡◌, ◌↔◌, ◌<◌, ◌≤◌, IsTrue, length, replicate, Ok, Err, IfOk, IfErr, OnOk, IsNone, slice_get, slice_set};
+    ghost use Rattle.std.specs.Prelude.{◌≡◌, ◌↔◌, ◌<◌, ◌≤◌, IsTrue, length, replicate, Ok, Err, IfOk, IfErr, OnOk, IsNone, slice_get, slice_set, slice_index_or};
     ghost use Rattle.std.specs.Option.{option_copied};
     ghost use Rattle.l1_signal.specs.Fields.{each_read, HasGiven};
     ghost use Rattle.l1_signal.specs.L1Dynamic.{dyn_plp_read, no_dyn_plp};
@@ -67,6 +67,13 @@ impl DynRows {
         ensures { result.now ≡ self.now }
     {
         &self.rows
+    }
+
+    pub(crate) fn at(&self, place: usize) -> DynPlp
+        requires { place < length self.now }
+        ensures { result ≡ slice_index_or self.now place no_dyn_plp }
+    {
+        self.rows[place]
     }
 
     pub(crate) fn set(&mut self, place: usize, plp: DynPlp)

@@ -1,12 +1,43 @@
 // Laws of the definitions. Their functions do nothing.
-ghost use Rattle.l1_signal.specs.Laws.{PreReadBack, PreReadSpelled};
+ghost use Rattle.l1_signal.specs.Laws.{PreReadBack, PreReadSpelled, PreWritten, PreLength, ConfReadBack, ConfReadSpelled, ConfWritten, ConfLength, DynReadBack, DynReadSpelled, DynWritten, DynLength, PostLength, EndsInItsCrc, TablesAreRows};
 
 use bit_slice::crc32_law;
 
-/// L1-pre: what spells it is read, whatever follows it, and what is read spells it.
+/// L1-pre: what spells it is read, whatever follows it, and what is read spells it. What is written spells it, 168 bits.
 pub fn pre_law()
     ensures back { PreReadBack }
     ensures spelled { PreReadSpelled }
+    ensures written { PreWritten }
+    ensures len { PreLength }
 {
     crc32_law();
 }
+
+/// The same of the configurable part, 102 bits and 89 for each PLP.
+pub fn conf_law()
+    ensures back { ConfReadBack }
+    ensures spelled { ConfReadSpelled }
+    ensures written { ConfWritten }
+    ensures len { ConfLength }
+{}
+
+/// The same of the dynamic part, 79 bits and 48 for each PLP.
+pub fn dyn_law()
+    ensures back { DynReadBack }
+    ensures spelled { DynReadSpelled }
+    ensures written { DynWritten }
+    ensures len { DynLength }
+{}
+
+/// L1-post of a frame has 213 bits and 137 for each PLP, and passes [`crate::check_post`].
+pub fn post_law()
+    ensures len { PostLength }
+    ensures crc { EndsInItsCrc }
+{
+    crc32_law();
+}
+
+/// The tables that the code reads and writes by are those of the definitions.
+pub fn table_law()
+    ensures { TablesAreRows }
+{}

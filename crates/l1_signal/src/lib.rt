@@ -13,6 +13,7 @@ mod fault;
 mod fields;
 mod laws;
 mod pre;
+mod values;
 
 pub use comparing::is_conf;
 pub use conf::{L1Conf, read_conf, write_conf};
@@ -23,5 +24,6 @@ pub use dyn_plp::DynPlp;
 pub use dyn_rows::DynRows;
 pub use dynamic::{L1Dyn, read_dyn, write_dyn};
 pub use fault::L1Fault;
-pub use laws::pre_law;
+pub use laws::{conf_law, dyn_law, post_law, pre_law, table_law};
+pub use values::{conf_of, dyn_of, pre_of, shape_of};
 pub use pre::{L1Pre, read_pre, write_pre};
