@@ -13,19 +13,25 @@ const TIMESTAMP: [u8; 21] = [
 const TIMESTAMP_LINE: &str =
     "offset=0 type=20 count=0 superframe=0 stream=0 bits=88 head=040029b927000000\n";
 
-// Thirteen bits, no payload, and the bits for future use set.
-const SHORT_PACKETS: [u8; 33] = [
+// Thirteen bits, no payload, and the bits for future use set, in a header and in a baseband frame of 12 bits.
+const SHORT_PACKETS: [u8; 48] = [
     0x33, 0x07, 0x50, 0x02, 0x00, 0x0D, 0xAB, 0xC8, 0x42, 0x84, 0xCD, 0x0F, 0x42, 0xFF, 0xF0, 0x07,
-    0x00, 0x00, 0x82, 0x4F, 0x12, 0xEC, 0x10, 0x01, 0x1F, 0xF9, 0x00, 0x08, 0xF0, 0x09, 0xF9, 0x6B,
-    0x10,
+    0x00, 0x00, 0x82, 0x4F, 0x12, 0xEC, 0x44, 0x01, 0x1F, 0xF9, 0x00, 0x08, 0xF0, 0x42, 0x9F, 0xD8,
+    0xC6, 0x00, 0x05, 0x20, 0x03, 0x00, 0x24, 0x01, 0x07, 0xFF, 0xAB, 0xC0, 0x7E, 0x0D, 0x08, 0x5C,
 ];
 
 const SHORT_LINES: &str = "\
 offset=0 type=33 count=7 superframe=5 stream=2 bits=13 head=abc8
 offset=12 type=42 count=255 superframe=15 stream=7 bits=0 head=
-offset=22 type=10 count=1 superframe=1 stream=1 bits=8 head=f0
-packets=3
+offset=22 type=44 count=1 superframe=1 stream=1 bits=8 head=f0
+offset=33 type=00 count=5 superframe=2 stream=3 bits=36 head=0107ffabc0
+packets=4
 ";
+
+// A baseband frame of 16 bits.
+const SHORT_FRAME: [u8; 12] = [
+    0x00, 0x00, 0x00, 0x00, 0x00, 0x10, 0x01, 0x07, 0xB8, 0xD0, 0xE2, 0xF0,
+];
 
 // A run over a file says this and ends so.
 fn shows(
@@ -83,6 +89,21 @@ fn a_wrong_packet_is_refused_where_it_begins(rt: HostRuntime) -> Result<(), Fail
         refused(21, PacketWhy::Short),
         text.as_str(),
     )
+}
+
+#[test]
+fn a_payload_of_the_wrong_length_is_refused(rt: HostRuntime) -> Result<(), Fail> {
+    let alloc = rt.alloc();
+    let mut file = TIMESTAMP.to_vec(alloc)?;
+    file.extend_from_slice(&SHORT_FRAME)?;
+    let text = format!(in alloc; "{TIMESTAMP_LINE}refused: packet at 21 why 4\n")?;
+    let shape = Outcome::PacketRefused {
+        at: 21,
+        why: PacketWhy::PayloadShape,
+    };
+    shows(&rt, file.as_slice(), shape, text.as_str())?;
+    assert_eq!(rt; shape.status(), 10);
+    Ok(())
 }
 
 #[test]
