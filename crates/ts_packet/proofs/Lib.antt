@@ -2,3 +2,4 @@ pub mod HeaderLemmas
 pub mod SpellingLemmas
 pub mod LawLemmas
 pub mod WritingLemmas
+pub mod ToldLemmas

@@ -1,7 +1,8 @@
 -- Laws of transport packets.
-use Rattle.std.specs.Prelude.{◌≡◌, ◌⊎◌, ◌==◌, ◌<◌, ◌≤◌, ◌^◌, ℕ, List, true, length, slice_index, replicate, Option, None}
+use Rattle.std.specs.Prelude.{◌≡◌, ◌⊎◌, ◌==◌, ◌+◌, ◌<◌, ◌≤◌, ◌^◌, ℕ, List, true, length, drop, slice_index, replicate, Option, Some, None}
 use Rattle.ts_packet.specs.declared.fault.TsFault.{TsFault}
 use Rattle.ts_packet.specs.TransportPacket.{Fields, Spells, Refuses}
+use Rattle.ts_packet.specs.Told.{fields_in}
 use Rattle.ts_packet.specs.Null.{is_null, null_packet}
 use Rattle.ts_packet.specs.Written.{area_of, written_fields, written_bytes}
 
@@ -34,3 +35,13 @@ NullByPid = (f : Fields) (bytes : List ℕ) → Spells f bytes → is_null bytes
 -- The canonical null packet is null, and is spelled with a payload of 184 bytes 0xFF.
 abbrev pub CanonicalNull : Type 0
 CanonicalNull = (is_null null_packet ≡ true) × Spells (written_fields 0x1FFF 0 None (replicate 184 0xFF)) null_packet
+
+-- The fields that bytes tell are those of the packet that they spell, and what is refused tells none.
+pub record FieldsTold : Type 0 where
+  pub spelled : (f : Fields) (bytes : List ℕ) → Spells f bytes → fields_in bytes ≡ Some f
+  pub refused : (bytes : List ℕ) (fault : TsFault) → Refuses bytes fault → fields_in bytes ≡ None
+  pub told : (f : Fields) (bytes : List ℕ) → length bytes ≡ 188 → ((k : ℕ) → slice_index bytes k < 256) → fields_in bytes ≡ Some f → Spells f bytes
+
+-- The payload is the end of the packet.
+abbrev pub PayloadLast : Type 0
+PayloadLast = (f : Fields) (bytes : List ℕ) (front : ℕ) → Spells f bytes → front + length f.payload ≡ 188 → (drop front bytes ≡ f.payload) × (4 ≤ front)

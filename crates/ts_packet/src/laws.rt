@@ -1,5 +1,5 @@
 // Laws of the definitions. Their functions do nothing.
-ghost use Rattle.ts_packet.specs.Laws.{OnePacket, NoRefusal, SpelledOrRefused, OneRefusal, WrittenSpells, NullByPid, CanonicalNull};
+ghost use Rattle.ts_packet.specs.Laws.{OnePacket, NoRefusal, SpelledOrRefused, OneRefusal, WrittenSpells, NullByPid, CanonicalNull, FieldsTold, PayloadLast};
 
 /// A string spells one packet at most.
 pub fn one_packet()
@@ -34,4 +34,14 @@ pub fn null_by_pid()
 /// The canonical null packet is null, and is spelled with a payload of 184 bytes 0xFF.
 pub fn canonical_null()
     ensures { CanonicalNull }
+{}
+
+/// The fields that bytes tell are those of the packet that they spell.
+pub fn fields_told()
+    ensures { FieldsTold }
+{}
+
+/// The payload is the end of the packet.
+pub fn payload_last()
+    ensures { PayloadLast }
 {}

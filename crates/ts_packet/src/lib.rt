@@ -10,8 +10,8 @@ mod writing;
 
 pub use fault::TsFault;
 pub use laws::{
-    canonical_null, no_refusal, null_by_pid, one_packet, one_refusal, spelled_or_refused,
-    written_spells,
+    canonical_null, fields_told, no_refusal, null_by_pid, one_packet, one_refusal, payload_last,
+    spelled_or_refused, written_spells,
 };
 pub use packet::TsPacket;
 pub use view::{TsView, read};
