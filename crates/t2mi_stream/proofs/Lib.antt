@@ -1,0 +1,13 @@
+pub mod FrontLemmas
+pub mod RunLemmas
+pub mod StartsLemmas
+pub mod StepLemmas
+pub mod UnitLemmas
+pub mod WaitLemmas
+pub mod CandidateLemmas
+pub mod StandsLemmas
+pub mod UnpiperLemmas
+pub mod PipeLemmas
+pub mod PiperLemmas
+pub mod PointerLemmas
+pub mod TallyLemmas

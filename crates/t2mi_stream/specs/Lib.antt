@@ -1,0 +1,15 @@
+pub mod Accepted
+pub mod Candidate
+pub mod Eaten
+pub mod Events
+pub mod Laws
+pub mod Machine
+pub mod Pipe
+pub mod Pipes
+pub mod PiperStandsFor
+pub mod Received
+pub mod SpellLaws
+pub mod Stands
+pub mod Stood
+pub mod Units
+pub mod UnpiperStandsFor

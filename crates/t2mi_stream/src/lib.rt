@@ -1,0 +1,17 @@
+//! T2-MI packets in transport packets, both ways (ETSI TS 102 773, clause 6).
+#![tactic(auto)]
+
+mod candidate;
+mod grammar;
+mod laws;
+mod piper;
+mod put;
+mod unit;
+mod unpiper;
+
+pub use laws::{accepted_front, any_cutting, starts_found, whole_packets};
+pub use piper::Piper;
+pub use unpiper::Unpiper;
+
+#[cfg(test)]
+mod tests;
