@@ -10,3 +10,4 @@ pub mod MapLemmas
 pub mod PassLemmas
 pub mod RunLemmas
 pub mod ReadingLemmas
+pub mod PlainLemmas

@@ -16,4 +16,6 @@ pub use places::{Cell, address, at};
 pub use reading::Cells;
 
 #[cfg(test)]
+mod plain;
+#[cfg(test)]
 mod tests;

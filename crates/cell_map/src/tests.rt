@@ -1,4 +1,4 @@
-ghost use Rattle.std.specs.Prelude.{◌≡◌, length};
+ghost use Rattle.std.specs.Prelude.{◌≡◌, ◌<◌, length};
 ghost use Rattle.cell_map.specs.CellMap.{Passes};
 
 use super::*;
@@ -199,135 +199,217 @@ fn mixed(rt: &(impl AllocGlobal + Abort)) -> Result<Plan, OutOfMemory> {
     Ok(plan(rt, network(rt.alloc(), &[SMALL, second, third], 20_000, 5)?))
 }
 
-const FITS: Option<MapFault> = None;
-
-const FIRST: Option<MapFault> = Some(MapFault::Beyond { plp: 0 });
-
-const SECOND: Option<MapFault> = Some(MapFault::Beyond { plp: 1 });
-
-const THIRD: Option<MapFault> = Some(MapFault::Beyond { plp: 2 });
-
-const O01: Option<MapFault> = Some(MapFault::Overlap {
-    first: 0,
-    second: 1,
-});
-
-const O02: Option<MapFault> = Some(MapFault::Overlap {
-    first: 0,
-    second: 2,
-});
-
-const O11: Option<MapFault> = Some(MapFault::Overlap {
-    first: 1,
-    second: 1,
-});
-
-const O12: Option<MapFault> = Some(MapFault::Overlap {
-    first: 1,
-    second: 2,
-});
-
-const O22: Option<MapFault> = Some(MapFault::Overlap {
-    first: 2,
-    second: 2,
-});
-
-// Blocks, starts and interval of shapes, and their faults; from a program that makes all pairs of cells.
+// Blocks, starts and interval of shapes: with a cell map, and with every kind of fault.
 #[rattlefmt::skip]
-const SHAPES: [([u16; 3], [u32; 3], u32, Option<MapFault>); 39] = [
-    ([2, 1, 1], [0, 4_050, 4_455], 1_215, FITS),
-    ([2, 1, 1], [0, 4_050, 4_454], 1_215, O12),
-    ([2, 1, 1], [0, 4_049, 4_455], 1_215, O01),
-    ([2, 1, 1], [0, 4_050, 4_455], 1_214, O12),
-    ([2, 1, 1], [0, 4_050, 4_455], 1_216, FITS),
-    ([1, 1, 0], [405, 0, 0], 2_430, FITS),
-    ([1, 1, 0], [404, 0, 0], 2_430, O01),
-    ([1, 1, 0], [405, 0, 0], 2_429, O01),
-    ([1, 1, 0], [17_975, 0, 0], 405, FITS),
-    ([1, 1, 0], [17_976, 0, 0], 405, FIRST),
-    ([0, 1, 0], [0, 17_975, 0], 405, FITS),
-    ([0, 1, 0], [0, 17_976, 0], 405, SECOND),
-    ([0, 1, 0], [0, 0, 0], 0, O11),
-    ([0, 1, 0], [0, 0, 0], 404, O11),
-    ([0, 1, 0], [0, 0, 0], 405, FITS),
-    ([0, 1, 0], [0, 0, 0], 4_898, FITS),
-    ([0, 1, 0], [0, 0, 0], 4_899, SECOND),
-    ([0, 1, 0], [0, 0, 0], 4_294_967_295, SECOND),
-    ([0, 2, 0], [0, 0, 0], 809, O11),
-    ([0, 2, 0], [0, 0, 0], 810, FITS),
-    ([0, 0, 1], [0, 0, 0], 0, O22),
-    ([1, 0, 0], [0, 9, 9], 0, FITS),
-    ([0, 0, 0], [4_294_967_295, 4_294_967_295, 4_294_967_295], 4_294_967_295, FITS),
-    ([1, 1, 1], [0, 0, 0], 0, O01),
-    ([0, 1, 1], [0, 0, 0], 0, O11),
-    ([0, 1, 1], [0, 3_000, 0], 1_215, O12),
-    ([0, 1, 1], [0, 1_215, 0], 1_620, FITS),
-    ([0, 1, 1], [0, 4_860, 0], 1_215, O12),
-    ([0, 1, 1], [0, 6_075, 0], 1_215, FITS),
-    ([1, 0, 1], [810, 0, 0], 2_835, FITS),
-    ([1, 0, 1], [809, 0, 0], 2_835, O02),
-    ([1, 0, 1], [3_645, 0, 0], 2_835, FITS),
-    ([1, 0, 1], [3_646, 0, 0], 2_835, O02),
-    ([3, 1, 1], [0, 0, 0], 0, FIRST),
-    ([2, 3, 1], [0, 0, 0], 0, SECOND),
-    ([65_535, 0, 0], [0, 0, 0], 0, FIRST),
-    ([1, 1, 1], [0, 0, 19_999], 0, THIRD),
-    ([1, 0, 0], [4_294_967_295, 0, 0], 0, FIRST),
-    ([0, 1, 1], [0, 2_147_483_648, 0], 1_215, SECOND),
+const SHAPES: [([u16; 3], [u32; 3], u32); 39] = [
+    ([2, 1, 1], [0, 4_050, 4_455], 1_215),
+    ([2, 1, 1], [0, 4_050, 4_454], 1_215),
+    ([2, 1, 1], [0, 4_049, 4_455], 1_215),
+    ([2, 1, 1], [0, 4_050, 4_455], 1_214),
+    ([2, 1, 1], [0, 4_050, 4_455], 1_216),
+    ([1, 1, 0], [405, 0, 0], 2_430),
+    ([1, 1, 0], [404, 0, 0], 2_430),
+    ([1, 1, 0], [405, 0, 0], 2_429),
+    ([1, 1, 0], [17_975, 0, 0], 405),
+    ([1, 1, 0], [17_976, 0, 0], 405),
+    ([0, 1, 0], [0, 17_975, 0], 405),
+    ([0, 1, 0], [0, 17_976, 0], 405),
+    ([0, 1, 0], [0, 0, 0], 0),
+    ([0, 1, 0], [0, 0, 0], 404),
+    ([0, 1, 0], [0, 0, 0], 405),
+    ([0, 1, 0], [0, 0, 0], 4_898),
+    ([0, 1, 0], [0, 0, 0], 4_899),
+    ([0, 1, 0], [0, 0, 0], 4_294_967_295),
+    ([0, 2, 0], [0, 0, 0], 809),
+    ([0, 2, 0], [0, 0, 0], 810),
+    ([0, 0, 1], [0, 0, 0], 0),
+    ([1, 0, 0], [0, 9, 9], 0),
+    ([0, 0, 0], [4_294_967_295, 4_294_967_295, 4_294_967_295], 4_294_967_295),
+    ([1, 1, 1], [0, 0, 0], 0),
+    ([0, 1, 1], [0, 0, 0], 0),
+    ([0, 1, 1], [0, 3_000, 0], 1_215),
+    ([0, 1, 1], [0, 1_215, 0], 1_620),
+    ([0, 1, 1], [0, 4_860, 0], 1_215),
+    ([0, 1, 1], [0, 6_075, 0], 1_215),
+    ([1, 0, 1], [810, 0, 0], 2_835),
+    ([1, 0, 1], [809, 0, 0], 2_835),
+    ([1, 0, 1], [3_645, 0, 0], 2_835),
+    ([1, 0, 1], [3_646, 0, 0], 2_835),
+    ([3, 1, 1], [0, 0, 0], 0),
+    ([2, 3, 1], [0, 0, 0], 0),
+    ([65_535, 0, 0], [0, 0, 0], 0),
+    ([1, 1, 1], [0, 0, 19_999], 0),
+    ([1, 0, 0], [4_294_967_295, 0, 0], 0),
+    ([0, 1, 1], [0, 2_147_483_648, 0], 1_215),
 ];
+
+// Whether a PLP has more blocks than it may, or a cell beyond the end of the frame.
+fn is_beyond(alloc: Global, plan: &Plan, shape: &Shape, plp: usize) -> Result<bool, OutOfMemory>
+    requires plps { length shape.now.counts ≡ length plan.now.plps }
+    requires plp { plp < length plan.now.plps }
+{
+    let config = plan.config();
+    if shape.count(plp) > config.plps.get(plp).unwrap().blocks {
+        return Ok(true);
+    }
+    for (address, _) in plain::plp_pairs(alloc, plan, shape, plp)? {
+        if address >= u64::from(config.cells) {
+            return Ok(true);
+        }
+    }
+    Ok(false)
+}
+
+// No PLP has an address.
+const NOBODY: u8 = 255;
+
+// Gives a PLP the addresses of its cells that none before it has. The least PLP that has one already.
+fn take_addresses(owners: &mut [u8], pairs: &[(u64, Cell)], plp: u8) -> u8 {
+    let mut least = NOBODY;
+    for (address, _) in pairs {
+        if let Some(owner) = owners.get_mut(*address as usize) {
+            least = least.min(*owner);
+            *owner = plp.min(*owner);
+        }
+    }
+    least
+}
+
+// The least two PLPs of which two cells share an address.
+fn least_overlap(alloc: Global, plan: &Plan, shape: &Shape) -> Result<Option<MapFault>, OutOfMemory>
+    requires plps { length shape.now.counts ≡ length plan.now.plps }
+{
+    let mut owners = vec![in alloc; NOBODY; plan.config().cells as usize]?;
+    let (mut least, mut fault) = (NOBODY, None);
+    for second in 0..plan.config().plps.len() as u8 {
+        let pairs = plain::plp_pairs(alloc, plan, shape, usize::from(second))?;
+        let first = take_addresses(&mut owners, &pairs, second);
+        if first < least {
+            least = first;
+            fault = Some(MapFault::Overlap { first, second });
+        }
+    }
+    Ok(fault)
+}
+
+// The fault of a shape, by all its cells.
+fn fault_by_cells(
+    alloc: Global,
+    plan: &Plan,
+    shape: &Shape,
+) -> Result<Option<MapFault>, OutOfMemory>
+    requires plps { length shape.now.counts ≡ length plan.now.plps }
+{
+    for plp in 0..plan.config().plps.len() as u8 {
+        if is_beyond(alloc, plan, shape, usize::from(plp))? {
+            return Ok(Some(MapFault::Beyond { plp }));
+        }
+    }
+    least_overlap(alloc, plan, shape)
+}
+
+// Each cell of a PLP has the address that it has by the definitions. So many blocks are before it.
+fn expect_addresses(
+    rt: &(impl AllocGlobal + Abort),
+    plan: &Plan,
+    shape: &Shape,
+    plp: usize,
+    before: u32,
+) -> Result<(), OutOfMemory>
+    requires plps { length shape.now.counts ≡ length plan.now.plps }
+    requires plp { plp < length plan.now.plps }
+{
+    for (expected, cell) in plain::plp_pairs(rt.alloc(), plan, shape, plp)? {
+        let block = cell.ordinal.wrapping_sub(before);
+        let address = address_of(rt, plan, shape, plp, block, cell.cell);
+        assert_eq!(rt; u64::from(address), expected);
+    }
+    Ok(())
+}
+
+// The cells of a frame by their addresses.
+fn cells_by_address(
+    alloc: Global,
+    plan: &Plan,
+    shape: &Shape,
+) -> Result<Vec<Option<Cell>>, OutOfMemory>
+    requires plps { length shape.now.counts ≡ length plan.now.plps }
+{
+    let mut cells = vec![in alloc; None; plan.config().cells as usize]?;
+    for (address, cell) in plain::pairs(alloc, plan, shape)? {
+        if let Some(place) = cells.get_mut(address as usize) {
+            *place = Some(cell);
+        }
+    }
+    Ok(cells)
+}
+
+// These cells are those at their addresses, and one after the other.
+fn expect_in_order(rt: &impl Abort, plan: &Plan, shape: &Shape, expected: &[Option<Cell>])
+    requires plps { length shape.now.counts ≡ length plan.now.plps }
+    requires passes { Passes plan.now shape.now }
+{
+    let mut cells = Cells::new(plan, shape);
+    for address in 0..plan.config().cells {
+        let cell = *expected.get(address as usize).unwrap_or(&None);
+        assert_eq!(rt; at(plan, shape, address), cell);
+        assert_eq!(rt; cells.next(), cell);
+    }
+}
+
+// The fault of a shape, or its cells and their addresses, are what the definitions say.
+fn expect_as_defined(
+    rt: &(impl AllocGlobal + Abort),
+    plan: &Plan,
+    shape: &Shape,
+) -> Result<(), OutOfMemory> {
+    if shape.len() != plan.config().plps.len() {
+        panic!(rt; "another number of PLPs");
+    }
+    let fault = fault_by_cells(rt.alloc(), plan, shape)?;
+    if let Err(found) = check(plan, shape) {
+        assert_eq!(rt; Some(found), fault);
+        return Ok(());
+    }
+    assert_eq!(rt; fault, None);
+    expect_in_order(rt, plan, shape, &cells_by_address(rt.alloc(), plan, shape)?);
+    let mut before = 0;
+    for plp in 0..plan.config().plps.len() {
+        expect_addresses(rt, plan, shape, plp, before)?;
+        before = before.wrapping_add(u32::from(shape.count(plp)));
+    }
+    Ok(())
+}
 
 #[test]
 fn every_kind_of_overlap(rt: HostRuntime) -> Result<(), Fail> {
     let plan = mixed(&rt)?;
-    for (counts, starts, interval, expected) in SHAPES {
+    for (counts, starts, interval) in SHAPES {
         let shape = shape_with(rt.alloc(), &plan, counts, starts, interval)?;
-        assert_eq!(rt; fault(&rt, &plan, &shape), expected);
+        expect_as_defined(&rt, &plan, &shape)?;
     }
     Ok(())
 }
 
 #[test]
-fn cells_by_address(rt: HostRuntime) -> Result<(), Fail> {
+fn where_cells_stand(rt: HostRuntime) -> Result<(), Fail> {
     let plan = mixed(&rt)?;
     let shape = shape_with(rt.alloc(), &plan, [2, 1, 1], [0, 4_050, 4_455], 1_215)?;
     let rows = [
-        (1, 0, 405),
-        (5, 1, 0),
-        (9, 1, 1_620),
-        (10, 0, 1),
-        (4_049, 1, 2_024),
-        (4_454, 2, 404),
-        (4_455, 3, 0),
-        (5_264, 3, 3_401),
-        (5_265, 2, 405),
-        (10_124, 3, 4_049),
+        (0, 0, 0, 405, 1),
+        (0, 1, 1, 0, 5),
+        (0, 1, 1, 2_024, 4_049),
+        (1, 0, 2, 405, 5_265),
+        (2, 0, 3, 0, 4_455),
+        (2, 0, 3, 3_401, 5_264),
+        (2, 0, 3, 4_049, 10_124),
     ];
-    for (address, ordinal, cell) in rows {
-        assert_eq!(rt;
-            cell_at(&rt, &plan, &shape, address),
-            Some(Cell { ordinal, cell })
-        );
+    for (plp, block, ordinal, cell, address) in rows {
+        assert_eq!(rt; address_of(&rt, &plan, &shape, plp, block, cell), address);
+        let found = cell_at(&rt, &plan, &shape, address);
+        assert_eq!(rt; found, Some(Cell { ordinal, cell }));
     }
     assert_eq!(rt; cell_at(&rt, &plan, &shape, 10_125), None);
-    assert_eq!(rt; cell_at(&rt, &plan, &shape, 19_999), None);
-    Ok(())
-}
-
-#[test]
-fn addresses_of_cells(rt: HostRuntime) -> Result<(), Fail> {
-    let plan = mixed(&rt)?;
-    let shape = shape_with(rt.alloc(), &plan, [2, 1, 1], [0, 4_050, 4_455], 1_215)?;
-    let rows = [
-        (0, 1, 0, 5),
-        (0, 0, 405, 1),
-        (0, 0, 1, 10),
-        (1, 0, 405, 5_265),
-        (2, 0, 3_401, 5_264),
-        (2, 0, 4_049, 10_124),
-    ];
-    for (plp, block, cell, expected) in rows {
-        assert_eq!(rt; address_of(&rt, &plan, &shape, plp, block, cell), expected);
-    }
     Ok(())
 }
 
@@ -367,30 +449,6 @@ fn groups_of_several_sizes(rt: HostRuntime) -> Result<(), Fail> {
     ] {
         assert_eq!(rt; address_of(&rt, &plan, &shape, 0, block, cell), expected);
     }
-    Ok(())
-}
-
-// One after the other the cells are those at their addresses.
-fn expect_in_order(rt: &impl Abort, plan: &Plan, shape: &Shape)
-    requires plps { length shape.now.counts ≡ length plan.now.plps }
-    requires passes { Passes plan.now shape.now }
-{
-    let mut cells = Cells::new(plan, shape);
-    for address in 0..plan.config().cells {
-        assert_eq!(rt; cells.next(), at(plan, shape, address));
-    }
-}
-
-#[test]
-fn cells_in_the_order_of_their_addresses(rt: HostRuntime) -> Result<(), Fail> {
-    let plan = mixed(&rt)?;
-    let shape = shape_with(rt.alloc(), &plan, [2, 1, 1], [0, 4_050, 4_455], 1_215)?;
-    if shape.len() != plan.config().plps.len() {
-        panic!(rt; "another number of PLPs");
-    }
-    match check(&plan, &shape) {
-        Ok(()) => expect_in_order(&rt, &plan, &shape),
-        Err(fault) => panic!(rt; "{fault}"),
-    }
+    expect_as_defined(&rt, &plan, &shape)?;
     Ok(())
 }

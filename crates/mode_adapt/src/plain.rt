@@ -1,15 +1,23 @@
 // What a PLP sends, by the definitions: slow, over the whole list of its packets.
-ghost use Rattle.std.specs.Prelude.{◌≡◌, ℕ, ◌<◌, ◌≤◌, ◌+◌, ◌-◌, ◌*◌, ◌^◌, ◌++◌, ◌∷◌, [], length, drop, map, IfOk, OnOk, slice_index, if◌then◌else◌};
+ghost use Rattle.std.specs.Prelude.{◌≡◌, ℕ, ◌<◌, ◌≤◌, ◌+◌, ◌-◌, ◌*◌, ◌^◌, ◌++◌, ◌∷◌, [], Some, None, length, take, drop, map, min, IfOk, OnOk, IfSome, slice_index, if◌then◌else◌};
 ghost use Rattle.std.specs.List.{range_with_len};
+ghost use Rattle.std.specs.Option.{option_or};
+ghost use Rattle.std.specs.Prelude.{Bool, List};
+ghost use Rattle.terms.specs.Bits.{bits_of};
+ghost use Rattle.bb_frame.specs.BasebandFrame.{Describes};
+ghost use Rattle.plp_config.specs.Capacity.{field_bytes};
 ghost use Rattle.null_delete.specs.Deletion.{run_before, nulls_of, packet_at, kept_slots};
 ghost use Rattle.mode_adapt.specs.UserPackets.{keeps_of, up_string};
-ghost use Rattle.mode_adapt.specs.Queue.{arrived, least_to};
-ghost use Rattle.mode_adapt.specs.Blocks.{rates_of, plp_keeps};
+ghost use Rattle.mode_adapt.specs.Queue.{arrived, least_to, sent, sent_before};
+ghost use Rattle.mode_adapt.specs.Blocks.{rates_of, plp_keeps, plp_string, first_up, with_place, header_at, block_bits, blocks_between, blocks_of};
 
-use crate::matype::deletes;
+use crate::block::write_block;
+use crate::frame::FrameBytes;
+use crate::matype::{deletes, matype1, matype2};
+use bb_frame::Header;
 use bit_slice::OutOfMemory;
 use null_delete::{dnp_fits, run_law};
-use plp_config::Plan;
+use plp_config::{Plan, block_law};
 use std::alloc::Global;
 use ts_packet::{TsPacket, canonical_null};
 
@@ -182,4 +190,176 @@ pub fn sent(arrivals: &[u64], capacity: u32, m: usize) -> u128
         least = least.min(term(arrivals, capacity, m, i + 1));
     }
     least
+}
+
+// A number, if it is small.
+fn small(number: u128) -> Result<usize, OutOfMemory>
+    ensures value { IfOk result (λ small. small ≡ number) }
+    ensures less { IfOk result (λ small. small < 2 ^ 40) }
+{
+    if number < 1 << 40 {
+        return Ok(number as usize);
+    }
+    Err(OutOfMemory)
+}
+
+// The bytes sent before a frame, and by its end.
+fn sent_in(
+    alloc: Global,
+    plan: &Plan,
+    plp: usize,
+    packets: &[TsPacket],
+    frame: u32,
+) -> Result<(usize, usize), OutOfMemory>
+    requires configured { plp < length plan.now.plps }
+    requires few { frame + 1 < 2 ^ 9 }
+    ensures before { IfOk result (λ bytes. bytes.0 ≡ sent_before (rates_of plan.now plp plan.now.ticks) (plp_keeps plan.now plp (packet_at packets.now)) frame) }
+    ensures now { IfOk result (λ bytes. bytes.1 ≡ sent (rates_of plan.now plp plan.now.ticks) (plp_keeps plan.now plp (packet_at packets.now)) frame) }
+    ensures less { IfOk result (λ bytes. (bytes.0 < 2 ^ 40) × (bytes.1 < 2 ^ 40)) }
+{
+    let arrivals = arrivals(alloc, plan, plp, packets, frame + 1)?;
+    let (capacity, frame) = (plan.capacity(plp), frame as usize);
+    let now = small(sent(&arrivals, capacity, frame))?;
+    if frame == 0 {
+        return Ok((0, now));
+    }
+    Ok((small(sent(&arrivals, capacity, frame - 1))?, now))
+}
+
+// The user packet that was found, or else this one, if it begins there.
+fn first_on(
+    found: Option<(u64, u64)>,
+    begins: bool,
+    place: u64,
+    slot: u64,
+) -> Option<(u64, u64)>
+    ensures { result ≡ option_or found (if begins then Some (place, slot) else None) }
+{
+    match found {
+        Some(up) => Some(up),
+        None if begins => Some((place, slot)),
+        None => None,
+    }
+}
+
+// The place and the slot of the first user packet that begins at place x or later, and before place y.
+fn first_up(
+    deletes: bool,
+    packets: &[TsPacket],
+    n: usize,
+    len: u32,
+    x: u64,
+    y: u64,
+) -> Option<(u64, u64)>
+    requires few { n < 2 ^ 32 }
+    requires short { len ≤ 188 }
+    ensures up { result ≡ with_place len (keeps_of deletes (packet_at packets.now)) (first_up len (keeps_of deletes (packet_at packets.now)) n x y) }
+    ensures inside { IfSome result (λ up. (x ≤ up.0) × (up.0 < y) × (up.1 < n)) }
+{
+    let (mut found, mut place) = (None, 0);
+    for slot in 0..n {
+        let keeps = is_kept(deletes, packets, slot);
+        found = first_on(found, keeps && x <= place && place < y, place, slot as u64);
+        if keeps {
+            place += u64::from(len);
+        }
+    }
+    found
+}
+
+// The header of a block of so many bytes from place x on, by the first user packet that begins in it.
+fn header(plan: &Plan, plp: usize, x: u64, len: usize, up: Option<(u64, u64)>) -> Header
+    requires configured { plp < length plan.now.plps }
+    requires short { len ≤ 6720 }
+    requires inside { IfSome up (λ up. (x ≤ up.0) × (up.0 < x + len) × (up.1 < 2 ^ 32)) }
+    ensures header { result ≡ header_at plan.now plp x len up }
+    ensures issy { result.issy < 2 ^ 24 }
+    ensures describes { (bits : List Bool) → length bits ≡ 8 * len → Describes result bits }
+{
+    let (issy, syncd) = match up {
+        None => (0x80_0000, 65_535),
+        Some((place, slot)) => {
+            let tick = plan.start_of(plp, slot);
+            (0x80_0000 + (tick % (1 << 22)) as u32, (8 * (place - x)) as u16)
+        }
+    };
+    Header {
+        matype1: matype1(plan.config(), plp),
+        matype2: matype2(plan.config(), plp),
+        issy,
+        dfl: (8 * len) as u16,
+        syncd,
+    }
+}
+
+// The block from place x on and up to place y of the string of the slots below n.
+fn block(
+    alloc: Global,
+    plan: &Plan,
+    plp: usize,
+    packets: &[TsPacket],
+    n: usize,
+    string: &[u8],
+    x: usize,
+    y: usize,
+) -> Result<Vec<u8>, OutOfMemory>
+    requires configured { plp < length plan.now.plps }
+    requires few { n < 2 ^ 32 }
+    requires string { string.now ≡ plp_string plan.now plp (packet_at packets.now) n }
+    requires short { y ≤ x + field_bytes plan.now plp }
+    ensures bits { IfOk result (λ block. bits_of block.items ≡ block_bits plan.now plp (packet_at packets.now) n x y) }
+    ensures short { IfOk result (λ block. length block.items ≤ 6730) }
+{
+    block_law();
+    let Some(field) = string.get(x..y) else {
+        return Err(OutOfMemory);
+    };
+    let deletes = deletes(plan.config(), plp);
+    let up = first_up(deletes, packets, n, plan.up_bytes(plp), x as u64, y as u64);
+    let header = header(plan, plp, x as u64, field.len(), up);
+    write_block(alloc, &header, field, plan.field_bytes(plp))
+}
+
+// The blocks that carry the bytes from place x up to place y of the string of the slots below n.
+fn blocks_between(
+    alloc: Global,
+    plan: &Plan,
+    plp: usize,
+    packets: &[TsPacket],
+    n: usize,
+    x: usize,
+    y: usize,
+) -> Result<FrameBytes, OutOfMemory>
+    requires configured { plp < length plan.now.plps }
+    requires few { n < 2 ^ 32 }
+    requires small { (x < 2 ^ 40) × (y < 2 ^ 40) }
+    ensures { IfOk result (λ blocks. map bits_of blocks ≡ blocks_between plan.now plp (packet_at packets.now) n x y) }
+{
+    let string = string(alloc, deletes(plan.config(), plp), packets, n)?;
+    let len = plan.field_bytes(plp) as usize;
+    let mut blocks = FrameBytes::new(alloc);
+    for i in 0..y.saturating_sub(x).div_ceil(len) {
+        let from = x + i * len;
+        let to = y.min(from + len);
+        blocks.push(block(alloc, plan, plp, packets, n, &string, from, to)?)?;
+    }
+    Ok(blocks)
+}
+
+/// The blocks of a frame. `OutOfMemory` also where 2^40 bytes or more are sent.
+pub fn blocks(
+    alloc: Global,
+    plan: &Plan,
+    plp: usize,
+    packets: &[TsPacket],
+    frame: u32,
+) -> Result<FrameBytes, OutOfMemory>
+    requires configured { plp < length plan.now.plps }
+    requires few { frame + 1 < 2 ^ 9 }
+    ensures { IfOk result (λ blocks. map bits_of blocks ≡ blocks_of plan.now plp plan.now.ticks (packet_at packets.now) frame) }
+{
+    let ticks = u64::from(plan.config().ticks);
+    let slots = plan.slots_by(plp, u64::from(frame) * ticks);
+    let (x, y) = sent_in(alloc, plan, plp, packets, frame)?;
+    blocks_between(alloc, plan, plp, packets, slots as usize, x, y)
 }
