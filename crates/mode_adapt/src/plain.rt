@@ -2,7 +2,7 @@
 ghost use Rattle.std.specs.Prelude.{◌≡◌, ℕ, ◌<◌, ◌≤◌, ◌+◌, ◌-◌, ◌*◌, ◌^◌, ◌++◌, ◌∷◌, [], Some, None, length, take, drop, map, min, IfOk, OnOk, IfSome, slice_index, if◌then◌else◌};
 ghost use Rattle.std.specs.List.{range_with_len};
 ghost use Rattle.std.specs.Option.{option_or};
-ghost use Rattle.std.specs.Prelude.{Bool, List};
+ghost use Rattle.std.specs.Prelude.{◌&&◌, Bool, true, List, nat_le, nat_lt};
 ghost use Rattle.terms.specs.Bits.{bits_of};
 ghost use Rattle.bb_frame.specs.BasebandFrame.{Describes};
 ghost use Rattle.plp_config.specs.Capacity.{field_bytes};
@@ -242,6 +242,22 @@ fn first_on(
     }
 }
 
+// Whether a slot is kept, and its user packet begins at place x or later, and before place y.
+fn begins(keeps: bool, x: u64, place: u64, y: u64) -> bool
+    ensures value { result ≡ (keeps && (nat_le x place && nat_lt place y)) }
+    ensures inside { result ≡ true → (x ≤ place) × (place < y) }
+{
+    keeps && x <= place && place < y
+}
+
+// The place of the next user packet, one slot on.
+fn place_on(keeps: bool, place: u64, len: u32) -> u64
+    requires { place < 2 ^ 63 }
+    ensures { result ≡ (if keeps then place + len else place) }
+{
+    if keeps { place + u64::from(len) } else { place }
+}
+
 // The place and the slot of the first user packet that begins at place x or later, and before place y.
 fn first_up(
     deletes: bool,
@@ -259,10 +275,9 @@ fn first_up(
     let (mut found, mut place) = (None, 0);
     for slot in 0..n {
         let keeps = is_kept(deletes, packets, slot);
-        found = first_on(found, keeps && x <= place && place < y, place, slot as u64);
-        if keeps {
-            place += u64::from(len);
-        }
+        let begins = begins(keeps, x, place, y);
+        found = first_on(found, begins, place, slot as u64);
+        place = place_on(keeps, place, len);
     }
     found
 }
@@ -292,6 +307,21 @@ fn header(plan: &Plan, plp: usize, x: u64, len: usize, up: Option<(u64, u64)>) -
     }
 }
 
+// The bytes from place x up to place y.
+fn cut(string: &[u8], x: usize, y: usize) -> Result<&[u8], OutOfMemory>
+    ensures bytes { IfOk result (λ field. field.now ≡ take (y - x) (drop x string.now)) }
+    ensures len { IfOk result (λ field. length field.now ≡ y - x) }
+    ensures order { IfOk result (λ field. x ≤ y) }
+{
+    if x > y {
+        return Err(OutOfMemory);
+    }
+    if y > string.len() {
+        return Err(OutOfMemory);
+    }
+    Ok(&string[x..y])
+}
+
 // The block from place x on and up to place y of the string of the slots below n.
 fn block(
     alloc: Global,
@@ -311,13 +341,12 @@ fn block(
     ensures short { IfOk result (λ block. length block.items ≤ 6730) }
 {
     block_law();
-    let Some(field) = string.get(x..y) else {
-        return Err(OutOfMemory);
-    };
+    let field = cut(string, x, y)?;
     let deletes = deletes(plan.config(), plp);
     let up = first_up(deletes, packets, n, plan.up_bytes(plp), x as u64, y as u64);
-    let header = header(plan, plp, x as u64, field.len(), up);
-    write_block(alloc, &header, field, plan.field_bytes(plp))
+    let header = header(plan, plp, x as u64, y - x, up);
+    let block = write_block(alloc, &header, field, plan.field_bytes(plp))?;
+    Ok(block)
 }
 
 // The blocks that carry the bytes from place x up to place y of the string of the slots below n.
@@ -340,7 +369,7 @@ fn blocks_between(
     let mut blocks = FrameBytes::new(alloc);
     for i in 0..y.saturating_sub(x).div_ceil(len) {
         let from = x + i * len;
-        let to = y.min(from + len);
+        let to = (from + len).min(y);
         blocks.push(block(alloc, plan, plp, packets, n, &string, from, to)?)?;
     }
     Ok(blocks)
@@ -361,5 +390,6 @@ pub fn blocks(
     let ticks = u64::from(plan.config().ticks);
     let slots = plan.slots_by(plp, u64::from(frame) * ticks);
     let (x, y) = sent_in(alloc, plan, plp, packets, frame)?;
-    blocks_between(alloc, plan, plp, packets, slots as usize, x, y)
+    let blocks = blocks_between(alloc, plan, plp, packets, slots as usize, x, y)?;
+    Ok(blocks)
 }
