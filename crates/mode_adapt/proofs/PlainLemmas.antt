@@ -27,6 +27,7 @@ use Rattle.mode_adapt.specs.UserPackets.{keeps_of, user_packet, up_string, up_pl
 use Rattle.mode_adapt.proofs.FirstLemmas.{placed_or, placed_one}
 use Rattle.mode_adapt.proofs.KeptLemmas.{kept_more}
 use Rattle.mode_adapt.proofs.PlaceLemmas.{string_more}
+use Rattle.mode_adapt.proofs.SendLemmas.{frame_same}
 
 counted : (b : Bool) (n : ℕ) (ks : List ℕ) → cond b (length ks + 1) (length ks) ≡ length (ks ++ cond b (n ∷ []) [])
 counted true n ks = sym (length-append ks (n ∷ []))
@@ -75,8 +76,8 @@ pub sent_is : (r : Rates) (keeps : ℕ → Bool) (arrivals : List ℕ) (n m capa
 sent_is r keeps arrivals n m capacity is inside same =
     least_same (λ i. slice_index arrivals i + (m - i) * capacity) (λ i. arrived r keeps i + (m - i) * r.capacity) m
     (λ i le.
-        let here : slice_index arrivals i ≡ arrived r keeps i = rw is (get_or-map-range_with_len (arrived r keeps) 0 n i i 0 (omega arith) (omega arith)) in
-        rw (here, same) refl)
+    let here : slice_index arrivals i ≡ arrived r keeps i = rw is (get_or-map-range_with_len (arrived r keeps) 0 n i i 0 (omega arith) (omega arith)) in
+    rw (here, same) refl)
 
 pub sent_earlier : (r : Rates) (keeps : ℕ → Bool) (m : ℕ) → 1 ≤ m → sent r keeps (m - 1) ≡ sent_before r keeps m
 sent_earlier r keeps zero some = absurd (omega (arith, some))
@@ -135,7 +136,10 @@ pub block_is : FieldRange → (c : Config) (plp : ℕ) (at : ℕ → List ℕ) (
     → frame_bits header (bits_of field) (8 * (part + 10)) ≡ block_bits c plp at n x y
 block_is fields c plp at n x y len part d string field header up all cut long deletes first is whole =
     let size : 8 * (part + 10) ≡ 8 * block_bytes c plp = omega (arith, whole, (fields c plp).2) in
-    rw (size, is, cut, all, first, long, deletes) refl
+    let up_is : up ≡ with_place (up_bytes c plp) (plp_keeps c plp at) (first_up (up_bytes c plp) (plp_keeps c plp at) n x y) =
+    first ∙ ap (λ (v : ℕ). with_place v (keeps_of d at) (first_up v (keeps_of d at) n x y)) long
+    ∙ ap (λ (b : Bool). with_place (up_bytes c plp) (keeps_of b at) (first_up (up_bytes c plp) (keeps_of b at) n x y)) deletes in
+    frame_same _ _ _ _ _ _ (is ∙ ap (header_at c plp x (y - x)) up_is) (ap bits_of (cut ∙ ap (λ (l : List ℕ). take (y - x) (drop x l)) all)) size
 
 -- all blocks
 pub blocks_are : (c : Config) (plp : ℕ) (at : ℕ → List ℕ) (n x y len count : ℕ) → len ≡ field_bytes c plp → count ≡ div_ceil (y - x) len

@@ -31,7 +31,7 @@ header_same s c plp x len None a = rw (a.matype1, a.matype2) refl
 header_same s c plp x len (Some up) a = rw (a.matype1, a.matype2, a.starts up.1) refl
 
 -- a frame by equal parts
-frame_same : (h g : Header) (a b : List Bool) (m n : ℕ) → h ≡ g → a ≡ b → m ≡ n → frame_bits h a m ≡ frame_bits g b n
+pub frame_same : (h g : Header) (a b : List Bool) (m n : ℕ) → h ≡ g → a ≡ b → m ≡ n → frame_bits h a m ≡ frame_bits g b n
 frame_same h g a b m n e f k = rw (e, f, k) refl
 
 -- the block of what waits is that of the string

@@ -54,7 +54,7 @@ abbrev pub EndLaw : Type 0
 EndLaw = (r : Rates) (keeps : ℕ → Bool) (m k : ℕ) → IsWithin r → r.up_len ≤ r.capacity → keeps k ≡ true → InRange r.num r.den r.epoch m k
     → up_place r.up_len keeps k + r.up_len ≤ sent r keeps (m + 1)
 
--- Where each packet has 188 bytes, the user packet of a kept slot stands at its place in the string.
+-- Where each user packet has so many bytes, that of a kept slot stands at its place in the string.
 abbrev pub PlaceLaw : Type 0
 PlaceLaw = (deletes : Bool) (at : ℕ → List ℕ) (len n k : ℕ) → ((j : ℕ) → length (user_packet deletes at j) ≡ len) → keeps_of deletes at k ≡ true → k < n
     → take len (drop (up_place len (keeps_of deletes at) k) (up_string deletes at n)) ≡ user_packet deletes at k

@@ -36,16 +36,6 @@ pub struct Chain {
     ghost small: { slot ≤ 2 ^ 54 },
 }
 
-// A packet without its sync byte, and its dnp.
-fn with_dnp(packet: &[u8], dnp: u8) -> [u8; 188]
-    requires { length packet.now ≡ 188 }
-    ensures { result ≡ drop 1 packet.now ++ dnp ∷ [] }
-{
-    let mut up = [dnp; 188];
-    up[..187].copy_from_slice(&packet[1..]);
-    up
-}
-
 impl Chain {
     ghost use Rattle.plp_config.specs.declared.config.Config.{Config};
     ghost use Rattle.mode_adapt.specs.Events.{Event, Offered, Cut, HasRoom, IsDue, offered, cuts};
@@ -110,9 +100,10 @@ impl Chain {
         requires place { vec_len self.old.slots + 1 ≤ vec_capacity self.old.slots }
         ensures { Keeps self.old self.new packet.now dnp }
     {
-        let up = with_dnp(packet, dnp);
-        let up_bytes = self.settings.up_bytes as usize;
-        self.pending.extend_from_slice(&up[..up_bytes]).unwrap();
+        self.pending.extend_from_slice(&packet[1..]).unwrap();
+        if self.settings.up_bytes == 188 {
+            self.pending.push(dnp).unwrap();
+        }
         self.slots.push(self.slot).unwrap();
         self.slot += 1;
     }

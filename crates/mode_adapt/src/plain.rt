@@ -1,8 +1,7 @@
 // What a PLP sends, by the definitions: slow, over the whole list of its packets.
-ghost use Rattle.std.specs.Prelude.{◌≡◌, ℕ, ◌<◌, ◌≤◌, ◌+◌, ◌-◌, ◌*◌, ◌^◌, ◌++◌, ◌∷◌, [], Some, None, length, take, drop, map, min, IfOk, OnOk, IfSome, slice_index, if◌then◌else◌};
+ghost use Rattle.std.specs.Prelude.{◌≡◌, ℕ, ◌<◌, ◌≤◌, ◌+◌, ◌-◌, ◌*◌, ◌^◌, ◌&&◌, nat_le, nat_lt, Bool, true, List, [], ◌∷◌, ◌++◌, Some, None, length, take, drop, map, IfOk, OnOk, IfSome, slice_index, if◌then◌else◌};
 ghost use Rattle.std.specs.List.{range_with_len};
 ghost use Rattle.std.specs.Option.{option_or};
-ghost use Rattle.std.specs.Prelude.{◌&&◌, Bool, true, List, nat_le, nat_lt};
 ghost use Rattle.terms.specs.Bits.{bits_of};
 ghost use Rattle.bb_frame.specs.BasebandFrame.{Describes};
 ghost use Rattle.plp_config.specs.Capacity.{field_bytes};
@@ -227,12 +226,7 @@ fn sent_in(
 }
 
 // The user packet that was found, or else this one, if it begins there.
-fn first_on(
-    found: Option<(u64, u64)>,
-    begins: bool,
-    place: u64,
-    slot: u64,
-) -> Option<(u64, u64)>
+fn first_on(found: Option<(u64, u64)>, begins: bool, place: u64, slot: u64) -> Option<(u64, u64)>
     ensures { result ≡ option_or found (if begins then Some (place, slot) else None) }
 {
     match found {
@@ -295,7 +289,10 @@ fn header(plan: &Plan, plp: usize, x: u64, len: usize, up: Option<(u64, u64)>) -
         None => (0x80_0000, 65_535),
         Some((place, slot)) => {
             let tick = plan.start_of(plp, slot);
-            (0x80_0000 + (tick % (1 << 22)) as u32, (8 * (place - x)) as u16)
+            (
+                0x80_0000 + (tick % (1 << 22)) as u32,
+                (8 * (place - x)) as u16,
+            )
         }
     };
     Header {
@@ -375,7 +372,7 @@ fn blocks_between(
     Ok(blocks)
 }
 
-/// The blocks of a frame. `OutOfMemory` also where 2^40 bytes or more are sent.
+/// The blocks of a frame. `OutOfMemory` also where 2^40 bytes or more are sent, or more than have arrived.
 pub fn blocks(
     alloc: Global,
     plan: &Plan,

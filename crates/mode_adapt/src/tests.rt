@@ -311,33 +311,36 @@ fn headers_of_several_plps(rt: HostRuntime) -> Result<(), Fail> {
     Ok(())
 }
 
-// The next frame of a run, beside what the definitions say: whether its bytes are those of the string from a place on, up to what
-// is sent, and whether as much waits. Its blocks are appended to those before.
+// Whether two frames have the same blocks.
+fn are_same(frame: &FrameBytes, other: &FrameBytes) -> bool {
+    let mut same = frame.len() == other.len();
+    for place in 0..frame.len() {
+        same &= frame.get(place) == other.get(place);
+    }
+    same
+}
+
+// The next frame of a run: whether its blocks are what the definitions say, and as much waits. They are appended to those before.
 fn compare(
     feed: &mut Feed,
     packets: &[TsPacket],
-    rest: &[u8],
-    sizes: (u128, u128),
+    waits: u128,
     blocks: &mut Vec<u8>,
 ) -> Result<bool, OutOfMemory> {
+    if feed.frame >= 1 << 8 {
+        return Err(OutOfMemory);
+    }
+    let expected = plain::blocks(feed.alloc, &feed.plan, 0, packets, feed.frame)?;
     let frame = feed.next_frame(packets)?;
     append_blocks(blocks, &frame)?;
-    let bytes = carried(feed.alloc, &frame)?;
-    let same = rest.starts_with(&bytes) && bytes.len() as u128 == sizes.0;
-    Ok(same && u128::from(feed.chain.backlog()) == sizes.1)
+    Ok(are_same(&frame, &expected) && u128::from(feed.chain.backlog()) == waits)
 }
 
-// What is sent in a frame and what waits after it, by the definitions.
-fn sizes(arrivals: &[u64], capacity: u32, frame: usize) -> (u128, u128)
+// What waits after a frame, by the definitions.
+fn waits(arrivals: &[u64], capacity: u32, frame: usize) -> u128
     requires { frame < length arrivals.now }
 {
-    let sent = plain::sent(arrivals, capacity, frame);
-    let before = match frame.checked_sub(1) {
-        Some(last) => plain::sent(arrivals, capacity, last),
-        None => 0,
-    };
-    let waits = u128::from(arrivals[frame]).wrapping_sub(sent);
-    (sent.wrapping_sub(before), waits)
+    u128::from(arrivals[frame]).wrapping_sub(plain::sent(arrivals, capacity, frame))
 }
 
 // Whether a run of so many frames is what the definitions say, and its blocks.
@@ -346,14 +349,11 @@ fn run(
     packets: &[TsPacket],
     arrivals: &[u64],
 ) -> Result<(bool, Vec<u8>), OutOfMemory> {
-    let string = plain::string(feed.alloc, true, packets, 2_000)?;
     let capacity = feed.plan.capacity(0);
-    let (mut all, mut at, mut blocks) = (true, 0, Vec::new(feed.alloc));
+    let (mut all, mut blocks) = (true, Vec::new(feed.alloc));
     for frame in 0..arrivals.len() {
-        let sizes = sizes(arrivals, capacity, frame);
-        let rest = string.get(at..).unwrap_or(&[]);
-        all &= compare(feed, packets, rest, sizes, &mut blocks)?;
-        at = at.wrapping_add(sizes.0.min(1 << 20) as usize);
+        let waits = waits(arrivals, capacity, frame);
+        all &= compare(feed, packets, waits, &mut blocks)?;
     }
     Ok((all, blocks))
 }
