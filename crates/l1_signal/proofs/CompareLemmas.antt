@@ -9,9 +9,9 @@ use Rattle.l1_signal.specs.declared.fault.L1Fault.{L1Fault}
 use Rattle.l1_signal.specs.declared.conf.L1Conf.{L1Conf}
 use Rattle.l1_signal.specs.declared.conf_plp.ConfPlp.{ConfPlp}
 use Rattle.l1_signal.specs.Comparing.{front_told, front_of, front_read, back_read}
-use Rattle.l1_signal.specs.Fields.{Reading, after, behind, values, values_of, each_read}
-use Rattle.l1_signal.specs.L1Configurable.{conf_first_rows, conf_more_rows, conf_plp_rows, conf_back_rows, conf_first, conf_more, conf_back, conf_at, info_size, conf_plp_read, ConfSpells}
-use Rattle.l1_signal.proofs.ReadLemmas.{Went, went, was_behind, next_read}
+use Rattle.l1_signal.specs.Fields.{Reading, after, behind, values_of, each_read}
+use Rattle.l1_signal.specs.L1Configurable.{conf_first_rows, conf_more_rows, conf_plp_rows, conf_back_rows, conf_first, conf_more, conf_back, info_size, conf_plp_read, ConfSpells}
+use Rattle.l1_signal.proofs.ReadLemmas.{went, was_behind, next_read}
 use Rattle.l1_signal.proofs.RowLemmas.{spelled_values, each_back, stopped_each}
 use Rattle.l1_signal.proofs.ConfLemmas.{plp_back, four_parts, Parts, spelled_at}
 
@@ -112,7 +112,13 @@ is_spelled conf bits b c rest front back count read is plps end same none =
     let behind : m.rest ≡ b = ap (λ (x : List ℕ × List Bool). x.1) t in
     let empty : k.rest ≡ [] = ap (λ (x : ℕ × List Bool). x.1) u ∙ nothing_left rest none in
     let parts : Parts (info_size (length conf.plps)) bits conf [] = record {
-      first = f.first; more = m.first; plps = conf.plps; back = k.first; b = f.rest; c = b; d = c;
+      first = f.first;
+      more = m.first;
+      plps = conf.plps;
+      back = k.first;
+      b = f.rest;
+      c = b;
+      d = c;
       first_read = f.read;
       size = ap info_size (sym (num ∙ count));
       more_read = m.read ∙ ap (λ (l : List Bool). Ok (m.first, l)) behind;

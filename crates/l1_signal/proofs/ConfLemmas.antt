@@ -1,18 +1,18 @@
 -- The configurable part: its reading step by step, and its laws.
-use Rattle.std.proofs.Common.{◌≡◌, ◌≢◌, ◌⊎◌, ℕ, suc, ◌+◌, ◌*◌, ◌==◌, Bool, true, false, List, [], ◌∷◌, ◌++◌, length, take, drop, get_or, replicate, Ok, Err, refl, ap, sym, subst, ◌∙◌, arith, append_assoc, length-append, inl, inr}
+use Rattle.std.proofs.Common.{◌≡◌, ◌≢◌, ℕ, ◌+◌, ◌*◌, ◌==◌, Bool, true, false, List, [], ◌∷◌, ◌++◌, length, get_or, replicate, Ok, Err, refl, ap, sym, subst, ◌∙◌, arith, append_assoc, length-append}
 use Rattle.std.specs.Prelude.{slice_index}
-use Rattle.std.specs.List.{All, flat_map}
+use Rattle.std.specs.List.{flat_map}
 use Rattle.std.proofs.lemmas.Bool.{eq-eqb, ne_eqb, eqb-true}
 use Rattle.std.proofs.lemmas.List.FromFn.{fill_by_all}
 use Rattle.l1_signal.specs.declared.fault.L1Fault.{L1Fault}
-use Rattle.l1_signal.specs.declared.fault.L1Fault.TheVariants.{Size, OutOfMemory}
+use Rattle.l1_signal.specs.declared.fault.L1Fault.TheVariants.{Size}
 use Rattle.l1_signal.specs.declared.conf.L1Conf.{L1Conf}
 use Rattle.l1_signal.specs.declared.conf_plp.ConfPlp.{ConfPlp}
-use Rattle.l1_signal.specs.Fields.{fields, values, Reading, after, made, values_of, each_read, spelling, Fits, Spells, row_bits, RowsFit, EachSpells}
-use Rattle.l1_signal.specs.L1Configurable.{conf_first_rows, conf_more_rows, conf_plp_rows, conf_back_rows, conf_first, conf_more, conf_plp, conf_back, conf_plp_at, conf_at, info_size, conf_plp_read, conf_end, conf_plps, conf_sized, conf_read, ConfSpells, conf_bits, ConfFits}
+use Rattle.l1_signal.specs.Fields.{values, Reading, after, values_of, each_read, Spells, row_bits, EachSpells}
+use Rattle.l1_signal.specs.L1Configurable.{conf_first_rows, conf_more_rows, conf_plp_rows, conf_back_rows, conf_first, conf_more, conf_back, conf_plp_at, conf_at, info_size, conf_plp_read, conf_end, conf_plps, conf_sized, conf_read, ConfSpells, conf_bits, ConfFits}
 use Rattle.l1_signal.specs.Laws.{ConfReadBack, ConfIsSpelled, ConfReadSpelled}
-use Rattle.l1_signal.proofs.ReadLemmas.{Went, went, was_read, fits_len}
-use Rattle.l1_signal.proofs.RowLemmas.{total, length-spells, length-each, Front, was_spelled, spelled_values, spelled_back, values_spelled, read_fits, spells_fits, each_back, each_spelled, EachFront, each_fits, written_spells, written_each}
+use Rattle.l1_signal.proofs.ReadLemmas.{went, fits_len}
+use Rattle.l1_signal.proofs.RowLemmas.{length-spells, length-each, Front, was_spelled, spelled_values, spelled_back, values_spelled, read_fits, spells_fits, each_back, each_spelled, each_fits, written_spells, written_each}
 
 -- ---- one PLP
 plp_listed : (vs : List ℕ) → length vs ≡ 21 → vs ≡ values conf_plp_rows (conf_plp_at vs) (slice_index vs 17 ∷ [])
@@ -123,7 +123,13 @@ parts_of told all conf rest e =
     let t : (conf_at f.first m.first p.first l.first, l.rest) ≡ (conf, rest) = cc in
     let end : l.rest ≡ rest = ap (λ (x : L1Conf × List Bool). x.1) t in
     record {
-      first = f.first; more = m.first; plps = p.first; back = l.first; b = f.rest; c = m.rest; d = p.rest;
+      first = f.first;
+      more = m.first;
+      plps = p.first;
+      back = l.first;
+      b = f.rest;
+      c = m.rest;
+      d = p.rest;
       first_read = f.read;
       size = s.0;
       more_read = m.read;
@@ -157,7 +163,10 @@ spelled_at told all conf rest r =
       size = r.size ∙ ap info_size (one_is ∙ count);
       front = f.bits ++ m.bits ++ p.bits ++ k.bits;
       spells = record {
-        first = f.bits; more = m.bits; plps = p.bits; back = k.bits;
+        first = f.bits;
+        more = m.bits;
+        plps = p.bits;
+        back = k.bits;
         first_spells = f.spells;
         more_spells = m.spells;
         plps_spell = subst (λ (l : List ConfPlp). EachSpells conf_plp_rows l p.bits) plps_is p.spell;
@@ -187,7 +196,10 @@ read_conf_fits told all conf rest e = let s = conf_was_spelled told all conf res
 pub conf_written : (conf : L1Conf) → ConfFits conf → ConfSpells conf (conf_bits conf)
 unfolding conf_bits
 conf_written conf h = record {
-  first = row_bits conf_first_rows conf; more = row_bits conf_more_rows conf; plps = flat_map (row_bits conf_plp_rows) conf.plps; back = row_bits conf_back_rows conf;
+  first = row_bits conf_first_rows conf;
+  more = row_bits conf_more_rows conf;
+  plps = flat_map (row_bits conf_plp_rows) conf.plps;
+  back = row_bits conf_back_rows conf;
   first_spells = written_spells conf_first_rows conf h.first;
   more_spells = written_spells conf_more_rows conf h.more;
   plps_spell = written_each conf_plp_rows conf.plps h.plps;

@@ -1,5 +1,5 @@
 -- CRC_32 behind what it is counted of.
-use Rattle.std.proofs.Common.{◌≡◌, ℕ, ◌<◌, ◌≤◌, ◌^◌, ◌+◌, ◌==◌, Bool, true, false, List, [], ◌++◌, length, take, drop, Ok, Err, refl, ap, sym, ◌∙◌, arith, length-append, subst}
+use Rattle.std.proofs.Common.{◌≡◌, ℕ, ◌<◌, ◌≤◌, ◌^◌, ◌==◌, Bool, true, false, List, [], ◌++◌, length, take, drop, Ok, Err, refl, ap, sym, ◌∙◌, arith, length-append, subst}
 use Rattle.std.specs.Prelude.{nat_lt, Result, OnOk, IfErr, ◌≢◌, Some, None}
 use Rattle.std.proofs.lemmas.Bool.{lt-ltb, le-ltb, ltb-false, eq-eqb, ne_eqb, eqb-true}
 use Rattle.std.proofs.lemmas.List.{take-append-drop, length-take-le}
@@ -11,7 +11,6 @@ use Rattle.bit_slice.specs.Sink.{State, Puts, Stops, wrapped}
 use Rattle.bit_slice.specs.Laws.{StopsRightly, IsCause}
 use Rattle.l1_signal.specs.declared.fault.L1Fault.TheVariants.{Short, Crc}
 use Rattle.l1_signal.specs.CrcField.{crc_read}
-use Rattle.l1_signal.specs.Fields.{Reading}
 
 pub crc_short : (counted : ℕ) (bits : List Bool) (left : ℕ) → left ≡ length bits → left < 32 → crc_read counted bits ≡ Err (Short left)
 unfolding crc_read

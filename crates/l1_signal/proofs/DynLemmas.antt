@@ -1,16 +1,16 @@
 -- The dynamic part: its reading step by step, and its laws.
-use Rattle.std.proofs.Common.{◌≡◌, ℕ, suc, ◌+◌, ◌*◌, Bool, List, [], ◌∷◌, ◌++◌, length, get_or, replicate, Ok, Err, refl, ap, sym, subst, ◌∙◌, arith, append_assoc, length-append}
+use Rattle.std.proofs.Common.{◌≡◌, ℕ, ◌+◌, ◌*◌, Bool, List, [], ◌∷◌, ◌++◌, length, get_or, replicate, Ok, Err, refl, ap, sym, subst, ◌∙◌, arith, append_assoc, length-append}
 use Rattle.std.specs.Prelude.{slice_index}
 use Rattle.std.specs.List.{flat_map}
 use Rattle.std.proofs.lemmas.List.FromFn.{fill_by_all}
 use Rattle.l1_signal.specs.declared.fault.L1Fault.{L1Fault}
 use Rattle.l1_signal.specs.declared.dyn_plp.DynPlp.{DynPlp}
 use Rattle.l1_signal.specs.declared.dynamic.L1Dyn.{L1Dyn}
-use Rattle.l1_signal.specs.Fields.{fields, values, Reading, after, made, values_of, each_read, Fits, Spells, row_bits, RowsFit, EachSpells}
-use Rattle.l1_signal.specs.L1Dynamic.{dyn_front_rows, dyn_plp_rows, dyn_back_rows, dyn_front, dyn_plp, dyn_back, dyn_plp_at, dyn_at, dyn_plp_read, dyn_end, dyn_plps, dyn_read, DynSpells, dyn_bits, DynFits}
+use Rattle.l1_signal.specs.Fields.{values, Reading, after, values_of, each_read, Fits, Spells, row_bits, RowsFit, EachSpells}
+use Rattle.l1_signal.specs.L1Dynamic.{dyn_front_rows, dyn_plp_rows, dyn_back_rows, dyn_front, dyn_back, dyn_plp_at, dyn_at, dyn_plp_read, dyn_end, dyn_plps, dyn_read, DynSpells, dyn_bits, DynFits}
 use Rattle.l1_signal.specs.Laws.{DynReadBack, DynIsSpelled, DynReadSpelled}
-use Rattle.l1_signal.proofs.ReadLemmas.{Went, went, fits_len, pow_pos}
-use Rattle.l1_signal.proofs.RowLemmas.{total, length-spells, length-each, Front, was_spelled, spelled_values, spelled_back, values_spelled, read_fits, spells_fits, each_back, each_spelled, EachFront, each_fits, written_spells, written_each}
+use Rattle.l1_signal.proofs.ReadLemmas.{went, fits_len, pow_pos}
+use Rattle.l1_signal.proofs.RowLemmas.{length-spells, length-each, Front, was_spelled, spelled_values, spelled_back, values_spelled, read_fits, spells_fits, each_back, each_spelled, each_fits, written_spells, written_each}
 
 pub back_fits : (dynamic : L1Dyn) → RowsFit dyn_back_rows dynamic
 unfolding RowsFit Fits
@@ -96,7 +96,11 @@ parts_of count all dynamic rest e =
     let t : (dyn_at f.first p.first, l.rest) ≡ (dynamic, rest) = cc in
     let end : l.rest ≡ rest = ap (λ (x : L1Dyn × List Bool). x.1) t in
     record {
-      front = f.first; plps = p.first; back = l.first; b = f.rest; c = p.rest;
+      front = f.first;
+      plps = p.first;
+      back = l.first;
+      b = f.rest;
+      c = p.rest;
       front_read = f.read;
       plps_read = p.read;
       back_read = l.read ∙ ap (λ (x : List Bool). Ok (l.first, x)) end;
@@ -116,7 +120,9 @@ spelled_at count all dynamic rest r =
       count = sym (ap length plps_is) ∙ p.count;
       front = f.bits ++ p.bits ++ k.bits;
       spells = record {
-        front = f.bits; plps = p.bits; back = k.bits;
+        front = f.bits;
+        plps = p.bits;
+        back = k.bits;
         front_spells = f.spells;
         plps_spell = subst (λ (l : List DynPlp). EachSpells dyn_plp_rows l p.bits) plps_is p.spell;
         back_spells = k.spells;
@@ -137,7 +143,9 @@ read_dyn_fits count all dynamic rest e =
 pub dyn_written : (dynamic : L1Dyn) → DynFits dynamic → DynSpells dynamic (dyn_bits dynamic)
 unfolding dyn_bits
 dyn_written dynamic h = record {
-  front = row_bits dyn_front_rows dynamic; plps = flat_map (row_bits dyn_plp_rows) dynamic.plps; back = row_bits dyn_back_rows dynamic;
+  front = row_bits dyn_front_rows dynamic;
+  plps = flat_map (row_bits dyn_plp_rows) dynamic.plps;
+  back = row_bits dyn_back_rows dynamic;
   front_spells = written_spells dyn_front_rows dynamic h.front;
   plps_spell = written_each dyn_plp_rows dynamic.plps h.plps;
   back_spells = written_spells dyn_back_rows dynamic (back_fits dynamic);

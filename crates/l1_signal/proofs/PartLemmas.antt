@@ -1,8 +1,8 @@
 -- Parts written one after another.
-use Rattle.std.proofs.Common.{◌≡◌, ℕ, ◌+◌, ◌<◌, ◌≤◌, Bool, List, [], ◌∷◌, ◌++◌, length, take, drop, get_or, refl, ap, sym, subst, ◌∙◌, arith, append_assoc, append-nil}
+use Rattle.std.proofs.Common.{◌≡◌, ℕ, ◌+◌, ◌<◌, ◌≤◌, Bool, List, [], ◌++◌, length, drop, get_or, refl, ap, sym, subst, ◌∙◌, append_assoc, append-nil}
 use Rattle.std.specs.Prelude.{Result, Ok, Err, OnOk, IfErr}
 use Rattle.std.specs.List.{flat_map}
-use Rattle.std.proofs.lemmas.List.{drop_more, drop_all, drop-drop}
+use Rattle.std.proofs.lemmas.List.{drop_more, drop_all}
 use Rattle.bit_slice.specs.declared.sink.SinkFault.{SinkFault}
 use Rattle.bit_slice.specs.Sink.{State, Puts, Stops}
 use Rattle.bit_slice.specs.Laws.{PutsJoin, StopsEarly, StopsLater}

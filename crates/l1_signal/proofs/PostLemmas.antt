@@ -1,6 +1,6 @@
 -- L1-post of a frame.
-use Rattle.std.proofs.Common.{◌≡◌, ℕ, ◌+◌, ◌-◌, ◌*◌, ◌<◌, ◌≤◌, ◌^◌, Bool, List, [], ◌∷◌, ◌++◌, length, take, drop, refl, ap, sym, ◌∙◌, arith, length-append, append-nil}
-use Rattle.std.specs.List.{flat_map, range_with_len}
+use Rattle.std.proofs.Common.{◌≡◌, ℕ, ◌+◌, ◌-◌, ◌*◌, List, [], ◌∷◌, ◌++◌, length, take, drop, refl, ap, sym, ◌∙◌, arith, length-append}
+use Rattle.std.specs.List.{flat_map}
 use Rattle.std.proofs.lemmas.List.{take_at, drop_at, take_all, length-map}
 use Rattle.std.proofs.lemmas.List.FromFn.{length-map-range_with_len}
 use Rattle.terms.specs.Bits.{field, number_of}
@@ -11,7 +11,6 @@ use Rattle.plp_config.specs.declared.config.Config.{Config}
 use Rattle.scheduler.specs.Shape.{FrameShape}
 use Rattle.l1_signal.specs.declared.conf.L1Conf.{L1Conf}
 use Rattle.l1_signal.specs.declared.dynamic.L1Dyn.{L1Dyn}
-use Rattle.l1_signal.specs.CrcField.{EndsInCrc}
 use Rattle.l1_signal.specs.Fields.{Row, fields, row_bits}
 use Rattle.l1_signal.specs.L1Configurable.{conf_first_rows, conf_more_rows, conf_plp_rows, conf_back_rows, conf_bits}
 use Rattle.l1_signal.specs.L1Dynamic.{dyn_front_rows, dyn_plp_rows, dyn_back_rows, dyn_bits}
@@ -31,16 +30,30 @@ length-conf_bits conf =
     let first = row_bits conf_first_rows conf in
     let more = row_bits conf_more_rows conf in
     let plps = flat_map (row_bits conf_plp_rows) conf.plps in
-    omega (arith, length-append (first ++ more ++ plps) (row_bits conf_back_rows conf), length-append (first ++ more) plps, length-append first more,
-    length-row_bits conf_first_rows conf, length-row_bits conf_more_rows conf, length-each_bits conf_plp_rows conf.plps, length-row_bits conf_back_rows conf)
+    omega (
+      arith,
+      length-append (first ++ more ++ plps) (row_bits conf_back_rows conf),
+      length-append (first ++ more) plps,
+      length-append first more,
+      length-row_bits conf_first_rows conf,
+      length-row_bits conf_more_rows conf,
+      length-each_bits conf_plp_rows conf.plps,
+      length-row_bits conf_back_rows conf,
+    )
 
 length-dyn_bits : (dynamic : L1Dyn) → length (dyn_bits dynamic) ≡ 79 + 48 * length dynamic.plps
 unfolding dyn_bits
 length-dyn_bits dynamic =
     let front = row_bits dyn_front_rows dynamic in
     let plps = flat_map (row_bits dyn_plp_rows) dynamic.plps in
-    omega (arith, length-append (front ++ plps) (row_bits dyn_back_rows dynamic), length-append front plps,
-    length-row_bits dyn_front_rows dynamic, length-each_bits dyn_plp_rows dynamic.plps, length-row_bits dyn_back_rows dynamic)
+    omega (
+      arith,
+      length-append (front ++ plps) (row_bits dyn_back_rows dynamic),
+      length-append front plps,
+      length-row_bits dyn_front_rows dynamic,
+      length-each_bits dyn_plp_rows dynamic.plps,
+      length-row_bits dyn_back_rows dynamic,
+    )
 
 conf_plps-len : (c : Config) → length (conf_of c).plps ≡ length c.plps
 unfolding conf_of
@@ -56,8 +69,16 @@ post_length c frame shape =
     let front = post_front_bits c frame shape in
     let conf = length-conf_bits (conf_of c) in
     let dynamic = length-dyn_bits (dyn_of c frame shape) in
-    omega (arith, length-append front (field 32 (crc32_of front)), length-field 32 (crc32_of front), length-append (conf_bits (conf_of c)) (dyn_bits (dyn_of c frame shape)),
-    conf, dynamic, conf_plps-len c, dyn_plps-len c frame shape)
+    omega (
+      arith,
+      length-append front (field 32 (crc32_of front)),
+      length-field 32 (crc32_of front),
+      length-append (conf_bits (conf_of c)) (dyn_bits (dyn_of c frame shape)),
+      conf,
+      dynamic,
+      conf_plps-len c,
+      dyn_plps-len c frame shape,
+    )
 
 pub ends_in_its_crc : CrcIsRemainder → EndsInItsCrc
 ends_in_its_crc law front =
@@ -65,6 +86,7 @@ ends_in_its_crc law front =
     let size = length-append front crc in
     let tail = length-field 32 (crc32_of front) in
     let cut : length (front ++ crc) - 32 ≡ length front = omega (arith, size, tail) in
-    let told : take 32 (drop (length front) (front ++ crc)) ≡ crc = ap (take 32) (drop_at front crc (length front) refl) ∙ take_all 32 crc (omega (arith, tail)) in
-    (omega (arith, size, tail),
-    rw cut (ap number_of told ∙ number_of-field 32 (crc32_of front) (law front).0 ∙ ap crc32_of (sym (take_at front crc (length front) refl))))
+    let told : take 32 (drop (length front) (front ++ crc)) ≡ crc = ap (take 32) (drop_at front crc (length front) refl) ∙ take_all 32 crc (omega (arith, tail)) in (
+      omega (arith, size, tail),
+      rw cut (ap number_of told ∙ number_of-field 32 (crc32_of front) (law front).0 ∙ ap crc32_of (sym (take_at front crc (length front) refl))),
+    )

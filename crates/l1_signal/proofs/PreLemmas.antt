@@ -1,5 +1,5 @@
 -- L1-pre: its reading step by step, and its laws.
-use Rattle.std.proofs.Common.{◌≡◌, ℕ, ◌+◌, ◌<◌, ◌^◌, Bool, true, false, List, [], ◌∷◌, ◌++◌, length, take, drop, get_or, Ok, Err, refl, ap, sym, subst, ◌∙◌, arith, append_assoc, length-append}
+use Rattle.std.proofs.Common.{◌≡◌, ℕ, Bool, true, false, List, [], ◌∷◌, ◌++◌, length, take, get_or, Ok, Err, refl, ap, sym, ◌∙◌, append_assoc}
 use Rattle.std.specs.Prelude.{slice_index}
 use Rattle.std.proofs.lemmas.List.{take_at}
 use Rattle.std.proofs.lemmas.List.FromFn.{fill_by_all}
@@ -9,12 +9,12 @@ use Rattle.bit_slice.specs.Laws.{CrcIsRemainder}
 use Rattle.l1_signal.specs.declared.fault.L1Fault.{L1Fault}
 use Rattle.l1_signal.specs.declared.pre.L1Pre.{L1Pre}
 use Rattle.l1_signal.specs.CrcField.{crc_read}
-use Rattle.l1_signal.specs.Fields.{fields, values, Reading, after, made, values_of, spelling, Fits, Spells}
-use Rattle.l1_signal.specs.L1Pre.{pre_rows, pre_table, pre_at, pre_read, pre_reading, PreSpells, PreFits}
+use Rattle.l1_signal.specs.Fields.{values, after, made, values_of, spelling}
+use Rattle.l1_signal.specs.L1Pre.{pre_rows, pre_table, pre_at, pre_read, pre_reading, PreFits}
 use Rattle.l1_signal.specs.Laws.{PreReadBack, PreReadSpelled}
 use Rattle.l1_signal.proofs.CrcLemmas.{crc_back, crc_spelled}
-use Rattle.l1_signal.proofs.ReadLemmas.{Went, went, was_read}
-use Rattle.l1_signal.proofs.RowLemmas.{total, length-fit, length-spells, Front, was_spelled, spelled_back, spells_fits}
+use Rattle.l1_signal.proofs.ReadLemmas.{went, was_read}
+use Rattle.l1_signal.proofs.RowLemmas.{length-fit, length-spells, Front, was_spelled, spelled_back, spells_fits}
 
 -- the values of L1-pre are those of what is made of them
 pre_listed : (vs : List ℕ) → length vs ≡ 27 → vs ≡ values pre_rows (pre_at vs) (slice_index vs 26 ∷ [])

@@ -1,15 +1,14 @@
 -- What is read is spelled so, and what is spelled so is read.
-use Rattle.std.proofs.Common.{◌≡◌, ℕ, suc, zero, ◌+◌, ◌-◌, ◌<◌, ◌≤◌, ◌^◌, Bool, true, false, List, [], ◌∷◌, ◌++◌, length, take, drop, map, get_or, replicate, set, Ok, Err, Result, refl, ap, sym, subst, ◌∙◌, arith, rules, append_assoc, append-nil, length-append}
-use Rattle.std.specs.Prelude.{nat_lt, nat_le, slice_index, slice_index_or}
-use Rattle.std.proofs.lemmas.List.{take_at, drop_at, take-append-drop, get_or-drop, drop-drop, drop_more, drop_all, take_all, take_more_set, length-take-le}
+use Rattle.std.proofs.Common.{◌≡◌, ℕ, suc, ◌+◌, ◌<◌, ◌≤◌, ◌^◌, Bool, true, false, List, [], ◌∷◌, ◌++◌, length, take, drop, map, get_or, set, Ok, Err, refl, ap, sym, subst, ◌∙◌, arith, rules, append_assoc, append-nil, length-append}
+use Rattle.std.specs.Prelude.{nat_lt}
+use Rattle.std.proofs.lemmas.List.{take-append-drop, get_or-drop, drop-drop, drop_more, drop_all, take_all, take_more_set, length-take-le}
 use Rattle.std.proofs.lemmas.Bool.{lt-ltb, le-ltb, ltb-false}
 use Rattle.terms.specs.Bits.{field, number_of}
 use Rattle.terms.proofs.BitLemmas.{length-field, number_of-field, field-number, number_of-lt, take-field, drop-field}
 use Rattle.l1_signal.specs.declared.fault.L1Fault.{L1Fault}
 use Rattle.l1_signal.specs.declared.fault.L1Fault.TheVariants.{Short, Unsupported}
-use Rattle.l1_signal.specs.declared.fields.Demand.TheVariants.{Any}
 use Rattle.l1_signal.specs.declared.fields.Field.{Field}
-use Rattle.l1_signal.specs.Fields.{Row, Told, Ignored, field_of, fields, values, meets, Reading, after, behind, made, each_read, field_read, values_of, spelling, Fits, HasGiven}
+use Rattle.l1_signal.specs.Fields.{Row, Told, Ignored, fields, values, meets, Reading, after, behind, each_read, field_read, values_of, spelling, Fits, HasGiven}
 use Rattle.l1_signal.specs.Places.{AreSmall}
 
 -- ---- one field

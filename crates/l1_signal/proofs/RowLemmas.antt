@@ -8,7 +8,7 @@ use Rattle.terms.proofs.BitLemmas.{length-field}
 use Rattle.l1_signal.specs.declared.fault.L1Fault.{L1Fault}
 use Rattle.l1_signal.specs.declared.fields.Field.{Field}
 use Rattle.l1_signal.specs.Fields.{Row, Told, Ignored, fields, values, Reading, after, behind, made, each_read, values_of, spelling, Fits, Spells, row_bits, RowsFit, EachSpells}
-use Rattle.l1_signal.proofs.ReadLemmas.{Went, went, was_behind, next_read, stopped_read, all_read, values_back, was_read, Spelled, fits_len, cleared}
+use Rattle.l1_signal.proofs.ReadLemmas.{went, was_behind, next_read, stopped_read, all_read, values_back, was_read, fits_len, cleared}
 
 -- the bits of a table
 abbrev pub total : List Field → ℕ

@@ -1,6 +1,5 @@
 -- The values of a frame, PLP by PLP.
-use Rattle.std.proofs.Common.{◌≡◌, ℕ, ◌+◌, ◌%◌, ◌^◌, ◌<◌, ◌≤◌, List, [], ◌∷◌, length, map, get_or, set, refl, ap, sym, ◌∙◌, arith}
-use Rattle.std.specs.List.{All, range_with_len}
+use Rattle.std.proofs.Common.{◌≡◌, ℕ, ◌+◌, ◌%◌, ◌^◌, ◌<◌, List, length, map, get_or, set, refl, sym, ◌∙◌, arith}
 use Rattle.std.proofs.lemmas.List.{ext_get_or, get_or-map, length-map}
 use Rattle.std.proofs.lemmas.List.Edits.{fill_by_more}
 use Rattle.std.proofs.lemmas.List.FromFn.{get_or-map-range_with_len, length-map-range_with_len}
@@ -11,7 +10,7 @@ use Rattle.scheduler.specs.Shape.{FrameShape}
 use Rattle.l1_signal.specs.declared.dyn_plp.DynPlp.{DynPlp}
 use Rattle.l1_signal.specs.declared.dynamic.L1Dyn.{L1Dyn}
 use Rattle.l1_signal.specs.Fields.{Fits, RowsFit}
-use Rattle.l1_signal.specs.L1Dynamic.{dyn_plp_rows, DynFits, no_dyn_plp}
+use Rattle.l1_signal.specs.L1Dynamic.{DynFits, no_dyn_plp}
 use Rattle.l1_signal.specs.L1Of.{dyn_plp_of, dyn_of, told_shape}
 use Rattle.l1_signal.proofs.ReadLemmas.{pow_pos}
 
@@ -36,7 +35,7 @@ dyn_numbers_fit c frame shape ids idx s = record {
       let inside : k < length c.plps = omega (arith, lt, size) in
       let here : 0 + k ≡ k = omega arith in
       rw (get_or-map-range_with_len (dyn_plp_of c shape) 0 (length c.plps) k k d inside here)
-          ((ids k inside, refl, (s.starts k, refl, (s.counts k, refl, (pow_pos 8, refl, tt)))));
+      ((ids k inside, refl, (s.starts k, refl, (s.counts k, refl, (pow_pos 8, refl, tt)))));
 }
 
 joined : (shape : FrameShape) (counts starts : List ℕ) (interval start : ℕ) → shape.counts ≡ counts → shape.starts ≡ starts → shape.interval ≡ interval → shape.type2_start ≡ start →

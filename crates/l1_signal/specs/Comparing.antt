@@ -1,8 +1,8 @@
 -- What a configurable part is compared by. No public clause cites this module.
-use Rattle.std.specs.Prelude.{◌≡◌, ℕ, Bool, List, [], ◌∷◌, length, replicate, slice_index, Ok}
+use Rattle.std.specs.Prelude.{ℕ, Bool, List, [], ◌∷◌, slice_index, Ok}
 use Rattle.l1_signal.specs.declared.conf.L1Conf.{L1Conf}
-use Rattle.l1_signal.specs.Fields.{Reading, after, values_of, each_read}
-use Rattle.l1_signal.specs.L1Configurable.{conf_first, conf_more, conf_back, conf_plp_read}
+use Rattle.l1_signal.specs.Fields.{Reading, after, values_of}
+use Rattle.l1_signal.specs.L1Configurable.{conf_first, conf_more, conf_back}
 
 -- what is told before the PLPs
 abbrev pub front_told : L1Conf → List ℕ

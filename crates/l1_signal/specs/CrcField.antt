@@ -1,5 +1,5 @@
 -- CRC_32 behind what it is counted of.
-use Rattle.std.specs.Prelude.{◌≡◌, ◌≢◌, ◌≤◌, ◌<◌, ℕ, ◌-◌, ◌==◌, Bool, nat_lt, List, length, take, drop, if◌then◌else◌, Result, Ok, Err}
+use Rattle.std.specs.Prelude.{◌≡◌, ◌≢◌, ◌≤◌, ◌<◌, ℕ, ◌-◌, ◌==◌, Bool, nat_lt, List, length, take, drop, if◌then◌else◌, Ok, Err}
 use Rattle.terms.specs.Bits.{number_of, number_at}
 use Rattle.bit_slice.specs.Crc.{crc32_of}
 use Rattle.l1_signal.specs.declared.fault.L1Fault.{L1Fault}

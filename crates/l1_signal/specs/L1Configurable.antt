@@ -18,7 +18,7 @@ conf_first_rows =
 abbrev pub conf_more_rows : List (Row L1Conf)
 conf_more_rows =
     Told 33 4 (Only 0) (λ x. x.num_aux)
-    ∷ Ignored 34 8 -- AUX_CONFIG_RFU
+    ∷ Ignored 34 8  -- AUX_CONFIG_RFU
     ∷ Told 35 3 Any (λ x. x.rf_idx)
     ∷ Told 36 32 Any (λ x. x.frequency)
     ∷ []
@@ -43,7 +43,7 @@ conf_plp_rows =
     ∷ Told 51 1 (Only 0) (λ x. x.time_il_type)
     ∷ Told 52 1 (Only 0) (λ x. x.in_band_a_flag)
     ∷ Told 53 1 (Only 0) (λ x. x.in_band_b_flag)
-    ∷ Ignored 54 11 -- RESERVED_1
+    ∷ Ignored 54 11  -- RESERVED_1
     ∷ Told 55 2 (Only 2) (λ x. x.plp_mode)
     ∷ Told 56 1 Any (λ x. x.static_flag)
     ∷ Told 57 1 Any (λ x. x.static_padding_flag)
@@ -53,7 +53,7 @@ conf_plp_rows =
 abbrev pub conf_back_rows : List (Row L1Conf)
 conf_back_rows =
     Told 58 2 (Only 0) (λ x. x.fef_length_msb)
-    ∷ Ignored 59 30 -- RESERVED_2
+    ∷ Ignored 59 30  -- RESERVED_2
     ∷ []
 
 abbrev pub conf_first : List Field

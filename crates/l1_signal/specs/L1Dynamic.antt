@@ -1,5 +1,5 @@
 -- The dynamic part of L1-post (EN 302 755, clause 7.2.3.2).
-use Rattle.std.specs.Prelude.{◌≡◌, ℕ, Bool, List, [], ◌∷◌, ◌++◌, length, replicate, slice_index, Ok}
+use Rattle.std.specs.Prelude.{◌≡◌, ℕ, Bool, List, [], ◌∷◌, ◌++◌, replicate, slice_index, Ok}
 use Rattle.std.specs.List.{All, flat_map}
 use Rattle.l1_signal.specs.declared.fields.Demand.TheVariants.{Any}
 use Rattle.l1_signal.specs.declared.fields.Field.{Field}
@@ -15,7 +15,7 @@ dyn_front_rows =
     ∷ Told 63 22 Any (λ x. x.type_2_start)
     ∷ Told 64 8 Any (λ x. x.l1_change_counter)
     ∷ Told 65 3 Any (λ x. x.start_rf_idx)
-    ∷ Ignored 66 8 -- RESERVED_1
+    ∷ Ignored 66 8  -- RESERVED_1
     ∷ []
 
 -- the rows of each PLP
@@ -24,13 +24,13 @@ dyn_plp_rows =
     Told 67 8 Any (λ x. x.plp_id)
     ∷ Told 68 22 Any (λ x. x.plp_start)
     ∷ Told 69 10 Any (λ x. x.plp_num_blocks)
-    ∷ Ignored 70 8 -- RESERVED_2
+    ∷ Ignored 70 8  -- RESERVED_2
     ∷ []
 
 -- the row behind them
 abbrev pub dyn_back_rows : List (Row L1Dyn)
 dyn_back_rows =
-    Ignored 71 8 -- RESERVED_3
+    Ignored 71 8  -- RESERVED_3
     ∷ []
 
 abbrev pub dyn_front : List Field

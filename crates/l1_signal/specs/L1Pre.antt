@@ -1,5 +1,5 @@
 -- L1-pre (EN 302 755, clause 7.2.2).
-use Rattle.std.specs.Prelude.{◌≡◌, ℕ, Bool, List, [], ◌∷◌, take, slice_index, if◌then◌else◌, Ok}
+use Rattle.std.specs.Prelude.{ℕ, Bool, List, [], ◌∷◌, take, slice_index, if◌then◌else◌, Ok}
 use Rattle.bit_slice.specs.Crc.{crc32_of}
 use Rattle.l1_signal.specs.declared.fields.Demand.TheVariants.{Any, Only, Even}
 use Rattle.l1_signal.specs.declared.fields.Field.{Field}
@@ -10,7 +10,7 @@ use Rattle.l1_signal.specs.CrcField.{crc_read}
 -- the rows: number, width in bits, which values are read, and what is told
 abbrev pub pre_rows : List (Row L1Pre)
 pre_rows =
-    Told 1 8 (Only 0) (λ x. x.stream_type) -- TYPE
+    Told 1 8 (Only 0) (λ x. x.stream_type)  -- TYPE
     ∷ Told 2 1 Any (λ x. x.bwt_ext)
     ∷ Told 3 3 (Only 0) (λ x. x.s1)
     ∷ Told 4 4 Even (λ x. x.s2)
@@ -36,7 +36,7 @@ pre_rows =
     ∷ Told 24 4 Any (λ x. x.t2_version)
     ∷ Told 25 1 (Only 0) (λ x. x.l1_post_scrambled)
     ∷ Told 26 1 (Only 0) (λ x. x.t2_base_lite)
-    ∷ Ignored 27 4 -- RESERVED
+    ∷ Ignored 27 4  -- RESERVED
     ∷ []
 
 abbrev pub pre_table : List Field

@@ -1,5 +1,5 @@
 -- What holds of the definitions. The functions without a body ensure it.
-use Rattle.std.specs.Prelude.{◌≡◌, ◌+◌, ◌*◌, ℕ, Bool, true, false, List, [], ◌++◌, length, Ok}
+use Rattle.std.specs.Prelude.{◌≡◌, ◌+◌, ◌*◌, ℕ, Bool, true, false, List, ◌++◌, length, Ok}
 use Rattle.terms.specs.Bits.{field}
 use Rattle.bit_slice.specs.Crc.{crc32_of}
 use Rattle.l1_signal.specs.declared.pre.L1Pre.{L1Pre}

@@ -13,13 +13,14 @@ use bit_slice::{BitReader, BitSlice, BitSource};
 fn is_front(front: &[u64; 5], conf: &L1Conf) -> bool
     ensures { IsTrue result ↔ (front.now ≡ front_told conf.now) }
 {
-    *front == [
-        u64::from(conf.sub_slices_per_frame),
-        u64::from(conf.num_plp),
-        u64::from(conf.num_aux),
-        u64::from(conf.rf_idx),
-        u64::from(conf.frequency),
-    ]
+    *front
+        == [
+            u64::from(conf.sub_slices_per_frame),
+            u64::from(conf.num_plp),
+            u64::from(conf.num_aux),
+            u64::from(conf.rf_idx),
+            u64::from(conf.frequency),
+        ]
 }
 
 fn read_front<'a, R: BitSource<'a>>(source: &mut R) -> Result<[u64; 5], L1Fault>

@@ -119,10 +119,7 @@ const NONE: ConfPlp = ConfPlp {
 };
 
 // Reads as many PLPs as there are rows.
-fn read_conf_plps<'a, R: BitSource<'a>>(
-    source: &mut R,
-    rows: &mut [ConfPlp],
-) -> Result<(), L1Fault>
+fn read_conf_plps<'a, R: BitSource<'a>>(source: &mut R, rows: &mut [ConfPlp]) -> Result<(), L1Fault>
     ensures ok { OnOk result (each_read (replicate (length rows.old) conf_plp_read) (R.left source.old) ≡ Ok (rows.new, R.left source.new)) }
     ensures fault { IfErr result (λ e. each_read (replicate (length rows.old) conf_plp_read) (R.left source.old) ≡ Err e) }
     ensures given { HasGiven (R.left source.old) (R.left source.new) }
@@ -134,10 +131,7 @@ fn read_conf_plps<'a, R: BitSource<'a>>(
 }
 
 // Puts the PLPs in order.
-pub(crate) fn write_conf_plps<S: BitSink>(
-    sink: &mut S,
-    rows: &[ConfPlp],
-) -> Result<(), SinkFault>
+pub(crate) fn write_conf_plps<S: BitSink>(sink: &mut S, rows: &[ConfPlp]) -> Result<(), SinkFault>
     requires { All (RowsFit conf_plp_rows) rows.now }
     ensures ok { OnOk result (Puts (S.state sink.old) (S.state sink.new) (flat_map (row_bits conf_plp_rows) rows.now)) }
     ensures fault { IfErr result (Stops (S.state sink.old) (S.state sink.new) (flat_map (row_bits conf_plp_rows) rows.now)) }

@@ -101,10 +101,7 @@ const NONE: DynPlp = DynPlp {
 };
 
 // Reads as many PLPs as there are rows.
-fn read_dyn_plps<'a, R: BitSource<'a>>(
-    source: &mut R,
-    rows: &mut [DynPlp],
-) -> Result<(), L1Fault>
+fn read_dyn_plps<'a, R: BitSource<'a>>(source: &mut R, rows: &mut [DynPlp]) -> Result<(), L1Fault>
     ensures ok { OnOk result (each_read (replicate (length rows.old) dyn_plp_read) (R.left source.old) ≡ Ok (rows.new, R.left source.new)) }
     ensures fault { IfErr result (λ e. each_read (replicate (length rows.old) dyn_plp_read) (R.left source.old) ≡ Err e) }
     ensures given { HasGiven (R.left source.old) (R.left source.new) }
@@ -116,10 +113,7 @@ fn read_dyn_plps<'a, R: BitSource<'a>>(
 }
 
 // Puts the PLPs in order.
-pub(crate) fn write_dyn_plps<S: BitSink>(
-    sink: &mut S,
-    rows: &[DynPlp],
-) -> Result<(), SinkFault>
+pub(crate) fn write_dyn_plps<S: BitSink>(sink: &mut S, rows: &[DynPlp]) -> Result<(), SinkFault>
     requires { All (RowsFit dyn_plp_rows) rows.now }
     ensures ok { OnOk result (Puts (S.state sink.old) (S.state sink.new) (flat_map (row_bits dyn_plp_rows) rows.now)) }
     ensures fault { IfErr result (Stops (S.state sink.old) (S.state sink.new) (flat_map (row_bits dyn_plp_rows) rows.now)) }

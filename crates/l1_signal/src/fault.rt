@@ -12,7 +12,10 @@ pub enum L1Fault {
     },
     /// CRC_32 is not that of the bits before it.
     #[error("CRC_32 is {read:08x}, and {counted:08x} was counted")]
-    Crc { read: u32, counted: u32 },
+    Crc {
+        read: u32,
+        counted: u32,
+    },
     /// A field has a value that this profile does not have.
     #[error("field {field} has a value that is not supported")]
     Unsupported {
@@ -21,7 +24,10 @@ pub enum L1Fault {
     },
     /// L1_POST_INFO_SIZE does not go with NUM_PLP.
     #[error("L1_POST_INFO_SIZE is {told}, and {counted} bits were counted")]
-    Size { told: u32, counted: u32 },
+    Size {
+        told: u32,
+        counted: u32,
+    },
     /// No memory was found.
     #[error("out of memory")]
     OutOfMemory,

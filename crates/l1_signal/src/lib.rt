@@ -25,5 +25,5 @@ pub use dyn_rows::DynRows;
 pub use dynamic::{L1Dyn, read_dyn, write_dyn};
 pub use fault::L1Fault;
 pub use laws::{conf_law, dyn_law, post_law, pre_law, table_law};
-pub use values::{conf_of, dyn_of, pre_of, shape_of};
 pub use pre::{L1Pre, read_pre, write_pre};
+pub use values::{conf_of, dyn_of, pre_of, shape_of};

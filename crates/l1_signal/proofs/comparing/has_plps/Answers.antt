@@ -1,4 +1,4 @@
-use Rattle.std.proofs.Common.{◌≡◌, ◌∙◌, arith}
+use Rattle.std.proofs.Common.{◌∙◌, arith}
 use Rattle.l1_signal.specs.L1Configurable.{conf_plp_read}
 use Rattle.l1_signal.proofs.RowLemmas.{all_each}
 use Rattle.l1_signal.proofs.CompareLemmas.{same_plp, cut_plp, other_plp, holds, fails}

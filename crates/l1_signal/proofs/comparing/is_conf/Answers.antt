@@ -1,7 +1,4 @@
-use Rattle.std.proofs.Common.{◌≡◌, ◌∙◌, ◌≢◌, ◌≤◌, List, Bool, length, replicate, Ok, ap, sym, subst, arith}
-use Rattle.l1_signal.specs.Comparing.{front_read}
-use Rattle.l1_signal.specs.Fields.{each_read}
-use Rattle.l1_signal.specs.L1Configurable.{conf_plp_read}
+use Rattle.std.proofs.Common.{◌∙◌, sym}
 use Rattle.l1_signal.proofs.CompareLemmas.{no_front, other_front, other_plps, no_back, other_back, more_left, is_spelled, holds, fails, refuted, ends}
 use Rattle.l1_signal.proofs.comparing.is_conf.Goals as goal
 

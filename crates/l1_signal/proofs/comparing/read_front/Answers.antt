@@ -1,4 +1,4 @@
-use Rattle.std.proofs.Common.{◌≡◌, refl}
+use Rattle.std.proofs.Common.{refl}
 use Rattle.std.proofs.lemmas.Result.{err_from_is_err_and}
 use Rattle.l1_signal.specs.Comparing.{front_read}
 use Rattle.l1_signal.proofs.comparing.read_front.Goals as goal

@@ -1,4 +1,4 @@
-use Rattle.std.proofs.Common.{◌≡◌, ◌∙◌, ◌+◌, ◌*◌, ap, arith, inl, inr}
+use Rattle.std.proofs.Common.{arith, inr}
 use Rattle.std.proofs.lemmas.Result.{err_from_is_err_and}
 use Rattle.l1_signal.specs.L1Configurable.{conf_first, conf_more, conf_back}
 use Rattle.l1_signal.proofs.ReadLemmas.{are_small, given_on}

@@ -1,7 +1,7 @@
-use Rattle.std.proofs.Common.{◌≡◌, ◌∙◌, sym, arith}
+use Rattle.std.proofs.Common.{◌∙◌, arith}
 use Rattle.std.proofs.lemmas.Result.{err_from_is_err_and}
 use Rattle.l1_signal.specs.L1Configurable.{conf_plp_read}
-use Rattle.l1_signal.proofs.ReadLemmas.{given_on, none_read}
+use Rattle.l1_signal.proofs.ReadLemmas.{given_on}
 use Rattle.l1_signal.proofs.RowLemmas.{next_each, stopped_each, all_each}
 use Rattle.l1_signal.proofs.conf_rows.read_conf_plps.Goals as goal
 

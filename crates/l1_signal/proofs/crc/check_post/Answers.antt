@@ -1,4 +1,4 @@
-use Rattle.std.proofs.Common.{◌≡◌, ap, sym, ◌∙◌, arith}
+use Rattle.std.proofs.Common.{ap, sym, ◌∙◌, arith}
 use Rattle.bit_slice.specs.Crc.{crc32_of}
 use Rattle.l1_signal.proofs.crc.check_post.Goals as goal
 

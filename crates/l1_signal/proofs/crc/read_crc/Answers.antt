@@ -1,4 +1,4 @@
-use Rattle.std.proofs.Common.{◌≡◌, Ok, ap, sym, ◌∙◌, take, List, Bool, arith}
+use Rattle.std.proofs.Common.{Ok, ap, sym, ◌∙◌, take, List, Bool}
 use Rattle.std.proofs.lemmas.List.{take-append-drop}
 use Rattle.l1_signal.proofs.CrcLemmas.{crc_short, crc_differs, crc_done}
 use Rattle.l1_signal.proofs.crc.read_crc.Goals as goal

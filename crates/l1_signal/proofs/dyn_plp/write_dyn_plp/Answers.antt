@@ -1,4 +1,4 @@
-use Rattle.std.proofs.Common.{◌≡◌, List, ℕ, sym, subst}
+use Rattle.std.proofs.Common.{sym, subst}
 use Rattle.l1_signal.specs.Fields.{Fits, row_bits, RowsFit}
 use Rattle.l1_signal.specs.L1Dynamic.{dyn_plp}
 use Rattle.l1_signal.proofs.dyn_plp.write_dyn_plp.Goals as goal

@@ -1,4 +1,3 @@
-use Rattle.std.proofs.Common.{◌≡◌, ◌∙◌}
 use Rattle.std.proofs.lemmas.Result.{err_from_is_err_and}
 use Rattle.l1_signal.specs.L1Dynamic.{dyn_front}
 use Rattle.l1_signal.proofs.ReadLemmas.{are_small, given_on}

@@ -1,6 +1,6 @@
 use Rattle.std.proofs.Common.{arith}
 use Rattle.std.proofs.lemmas.Result.{err_from_is_err_and}
-use Rattle.l1_signal.proofs.PutLemmas.{fits_at, narrow_at, put_more, put_all, put_stops}
+use Rattle.l1_signal.proofs.PutLemmas.{fits_at, put_more, put_all, put_stops}
 use Rattle.l1_signal.proofs.fields.put_fields.Goals as goal
 
 pub put-requires-clause-fits : goal.put-requires-clause-fits

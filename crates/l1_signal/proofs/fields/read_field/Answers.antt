@@ -1,4 +1,4 @@
-use Rattle.std.proofs.Common.{◌≡◌, Ok, ap, sym, ◌∙◌, take, drop, List, Bool}
+use Rattle.std.proofs.Common.{Ok, ap, sym, ◌∙◌, take, List, Bool}
 use Rattle.std.proofs.lemmas.List.{take-append-drop}
 use Rattle.l1_signal.proofs.ReadLemmas.{field_short, field_refused, field_done}
 use Rattle.l1_signal.proofs.fields.read_field.Goals as goal

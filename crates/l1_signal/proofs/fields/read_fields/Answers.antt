@@ -1,4 +1,4 @@
-use Rattle.std.proofs.Common.{◌≡◌, ◌∙◌, arith}
+use Rattle.std.proofs.Common.{◌∙◌, arith}
 use Rattle.std.proofs.lemmas.Result.{err_from_is_err_and}
 use Rattle.l1_signal.proofs.PutLemmas.{narrow_more}
 use Rattle.l1_signal.proofs.ReadLemmas.{next_field, stopped_field, all_fields, given_on}

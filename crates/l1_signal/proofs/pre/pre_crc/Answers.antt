@@ -1,4 +1,4 @@
-use Rattle.std.proofs.Common.{◌≡◌, ◌≤◌, ◌-◌, ◌^◌, length, [], ap, ◌∙◌, arith, refl}
+use Rattle.std.proofs.Common.{◌≤◌, ◌-◌, ◌^◌, length, ap, ◌∙◌, arith}
 use Rattle.bit_slice.specs.Crc.{crc32_of}
 use Rattle.l1_signal.specs.Fields.{spelling}
 use Rattle.l1_signal.specs.L1Pre.{pre_table}

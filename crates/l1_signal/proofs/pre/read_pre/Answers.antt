@@ -1,8 +1,5 @@
-use Rattle.std.proofs.Common.{◌≡◌, Ok, List, Bool, ap, sym, subst, ◌∙◌}
 use Rattle.std.proofs.lemmas.Result.{err_from_is_err_and}
-use Rattle.l1_signal.specs.declared.fault.L1Fault.{L1Fault}
-use Rattle.l1_signal.specs.declared.pre.L1Pre.{L1Pre}
-use Rattle.l1_signal.specs.L1Pre.{PreFits, pre_table}
+use Rattle.l1_signal.specs.L1Pre.{pre_table}
 use Rattle.l1_signal.proofs.ReadLemmas.{are_small, given_on}
 use Rattle.l1_signal.proofs.RowLemmas.{read_fits}
 use Rattle.l1_signal.proofs.PreLemmas.{pre_refused, pre_done, pre_crc_refused, pre_crc_done, pre_fits}

@@ -1,4 +1,4 @@
-use Rattle.std.proofs.Common.{◌≡◌, List, ℕ, ap, sym, subst}
+use Rattle.std.proofs.Common.{sym, subst}
 use Rattle.l1_signal.specs.Fields.{Fits, row_bits, RowsFit}
 use Rattle.l1_signal.specs.L1Pre.{pre_table}
 use Rattle.l1_signal.proofs.pre.write_pre.Goals as goal

@@ -1,5 +1,4 @@
-use Rattle.std.proofs.Common.{◌≡◌, sym, subst, ℕ, arith}
-use Rattle.l1_signal.specs.L1Configurable.{ConfFits}
+use Rattle.std.proofs.Common.{arith}
 use Rattle.l1_signal.proofs.FitLemmas.{conf_numbers_fit}
 use Rattle.l1_signal.proofs.values.conf_with.Goals as goal
 

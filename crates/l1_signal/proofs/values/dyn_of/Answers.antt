@@ -1,4 +1,4 @@
-use Rattle.std.proofs.Common.{◌≡◌, ℕ, ◌%◌, ◌<◌, ◌^◌, subst}
+use Rattle.std.proofs.Common.{ℕ, ◌%◌, ◌<◌, ◌^◌, subst}
 use Rattle.l1_signal.specs.L1Of.{dyn_of}
 use Rattle.l1_signal.proofs.ValueLemmas.{dyn_numbers_fit}
 use Rattle.l1_signal.proofs.values.dyn_of.Goals as goal

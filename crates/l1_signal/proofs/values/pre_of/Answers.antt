@@ -1,4 +1,4 @@
-use Rattle.std.proofs.Common.{◌≡◌, ◌≤◌, length, refl, arith}
+use Rattle.std.proofs.Common.{◌≤◌, length, refl, arith}
 use Rattle.plp_config.specs.Rules.{L1Fields}
 use Rattle.l1_signal.proofs.values.pre_of.Goals as goal
 

@@ -1,4 +1,4 @@
-use Rattle.std.proofs.Common.{◌≡◌, ◌≤◌, length, arith}
+use Rattle.std.proofs.Common.{◌≤◌, length, arith}
 use Rattle.l1_signal.proofs.ValueLemmas.{shape_is}
 use Rattle.l1_signal.proofs.values.shape_of.Goals as goal
 
