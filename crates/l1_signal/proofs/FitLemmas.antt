@@ -25,7 +25,7 @@ pub record PlpTypes (plp : ConfPlp) : Type 0 where
   pub time_il_length : plp.time_il_length < 2 ^ 8
 
 pub pre_numbers_fit : (pre : L1Pre) → PreTypes pre → HasPreNumbers pre → PreFits pre
-unfolding RowsFit Fits
+unfolding PreFits RowsFit Fits
 pre_numbers_fit pre r n = (
   omega (arith, n.stream_type),
   eq-eqb pre.stream_type 0 n.stream_type,

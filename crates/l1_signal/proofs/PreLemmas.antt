@@ -10,7 +10,7 @@ use Rattle.l1_signal.specs.declared.fault.L1Fault.{L1Fault}
 use Rattle.l1_signal.specs.declared.pre.L1Pre.{L1Pre}
 use Rattle.l1_signal.specs.CrcField.{crc_read}
 use Rattle.l1_signal.specs.Fields.{values, after, made, values_of, spelling}
-use Rattle.l1_signal.specs.L1Pre.{pre_rows, pre_table, pre_at, pre_read, pre_reading, PreFits}
+use Rattle.l1_signal.specs.L1Pre.{pre_rows, pre_table, pre_at, pre_read, pre_reading, PreFits, PreSpells}
 use Rattle.l1_signal.specs.Laws.{PreReadBack, PreReadSpelled}
 use Rattle.l1_signal.proofs.CrcLemmas.{crc_back, crc_spelled}
 use Rattle.l1_signal.proofs.ReadLemmas.{went, was_read}
@@ -54,11 +54,12 @@ pre_front bits pre rest e = was_spelled pre_rows pre_at (λ vs. slice_index vs 2
 
 -- what was read can be written
 pub pre_fits : (vs : List ℕ) (bits rest : List Bool) (pre : L1Pre) → values_of pre_table bits ≡ Ok (vs, rest) → pre ≡ pre_at vs → PreFits pre
+unfolding PreFits
 pre_fits vs bits rest pre e is = let f = pre_front bits pre rest (rw is (pre_at_done vs bits rest e)) in spells_fits pre_rows pre f.bits f.spells
 
 -- ---- the laws
 pub pre_read_back : CrcIsRemainder → PreReadBack
-unfolding pre_reading pre_read
+unfolding pre_reading pre_read PreSpells
 pre_read_back crc false pre front rest s = rw (spelled_back pre_rows pre_at (λ x ignored. refl) pre front rest s) refl
 pre_read_back crc true pre front rest s =
     let counted = crc32_of front in
@@ -70,7 +71,7 @@ joined : (all front more crc rest : List Bool) → all ≡ front ++ more → mor
 joined all front more crc rest p q = p ∙ ap (λ (l : List Bool). front ++ l) q ∙ sym (append_assoc front crc rest)
 
 pub pre_was_spelled : PreReadSpelled
-unfolding pre_reading
+unfolding pre_reading PreSpells
 pre_was_spelled false bits pre rest e =
     let w = went (pre_read bits) (λ x more. Ok (x, more)) (pre, rest) e in
     let t : (w.first, w.rest) ≡ (pre, rest) = cc in

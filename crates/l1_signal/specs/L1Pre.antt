@@ -83,11 +83,11 @@ pre_reading with_crc bits =
     after (pre_read bits) (λ pre rest. if with_crc then after (crc_read (crc32_of (take 168 bits)) rest) (λ crc more. Ok (pre, more)) else Ok (pre, rest))
 
 -- how it is spelled, and written; each field fits its width, and none is refused
-abbrev pub PreSpells : L1Pre → List Bool → Type 0
+unfoldable pub PreSpells : L1Pre → List Bool → Type 0
 PreSpells pre bits = Spells pre_rows pre bits
 
-abbrev pub pre_bits : L1Pre → List Bool
+unfoldable pub pre_bits : L1Pre → List Bool
 pre_bits pre = row_bits pre_rows pre
 
-abbrev pub PreFits : L1Pre → Type 0
+unfoldable pub PreFits : L1Pre → Type 0
 PreFits pre = RowsFit pre_rows pre
