@@ -27,3 +27,6 @@ pub use fault::L1Fault;
 pub use laws::{conf_law, dyn_law, post_law, pre_law, table_law};
 pub use pre::{L1Pre, read_pre, write_pre};
 pub use values::{conf_of, dyn_of, pre_of, shape_of};
+
+#[cfg(test)]
+mod tests;
