@@ -11,3 +11,6 @@ pub mod PipeLemmas
 pub mod PiperLemmas
 pub mod PointerLemmas
 pub mod TallyLemmas
+pub mod FitLemmas
+pub mod ReadsLemmas
+pub mod SurviveLemmas

@@ -1,8 +1,11 @@
 -- What the definitions say.
-use Rattle.std.specs.Prelude.{◌≡◌, ◌⊎◌, ℕ, ◌+◌, ◌<◌, true, List, [], ◌∷◌, ◌++◌, length, drop, Some, flat_map}
+use Rattle.std.specs.Prelude.{◌≡◌, ◌⊎◌, ℕ, suc, ◌+◌, ◌^◌, ◌<◌, ◌≤◌, true, List, [], ◌∷◌, ◌++◌, length, drop, Some, flat_map}
 use Rattle.t2mi_stream.specs.Accepted.{Byte, AcceptedPacket, accepted_len, front_packet, is_marked, starts, accepted}
 use Rattle.t2mi_stream.specs.Units.{accepted_of}
-use Rattle.t2mi_stream.specs.Pipe.{joined}
+use Rattle.t2mi_stream.specs.Pipe.{joined, pipe, carried_len, offset_in}
+use Rattle.t2mi_packet.specs.Spell.{spell}
+use Rattle.t2mi_stream.specs.Received.{Fate, received, place_of, AlteredWhole, fate_of}
+use Rattle.t2mi_stream.specs.Received.Fate.{Kept}
 use Rattle.t2mi_stream.specs.Events.{PiperEvent, tally}
 use Rattle.t2mi_stream.specs.Events.PiperEvent.{Begun, Piped}
 
@@ -45,3 +48,22 @@ WholePackets = (packets : List (List ℕ)) → (tally (flat_map (λ packet. Begu
 -- How the bytes of a packet are cut does not matter.
 abbrev pub AnyCutting : Type 0
 AnyCutting = (events : List PiperEvent) (a b : List ℕ) → tally (events ++ Piped a ∷ Piped b ∷ []) ≡ tally (events ++ Piped (a ++ b) ∷ [])
+
+-- Each of the byte strings is a packet.
+abbrev pub ArePackets : List (List ℕ) → Type 0
+ArePackets [] = Unit {0}
+ArePackets (packet ∷ packets) = (spell packet ≡ Some (length packet)) × ArePackets packets
+
+-- The units from one on and before another carry the packet behind others: the first of them has its first byte, and the last its last.
+pub record Carry (packets before : List (List ℕ)) (packet : List ℕ) (first last : ℕ) : Type 0 where
+  pub begins : carried_len first (joined packets) ≤ length (joined before)
+  pub within : length (joined before) < carried_len (suc first) (joined packets)
+  pub ends : length (joined before) + length packet ≤ carried_len last (joined packets)
+
+-- A sent packet is accepted at its place, if the units that carry it are kept, whatever becomes of the others.
+abbrev pub Survives : Type 0
+Survives = (pid : ℕ) (before after : List (List ℕ)) (packet : List ℕ) (from first last : ℕ) (fates : List Fate) → pid < 2 ^ 13
+    → ArePackets (before ++ packet ∷ after) → AlteredWhole fates → Carry (before ++ packet ∷ after) before packet (from + first) (from + last)
+    → ((n : ℕ) → first ≤ n → n < last → fate_of fates n ≡ Some Kept)
+    → (place : ℕ) × (place_of fates first (offset_in (from + first) (joined (before ++ packet ∷ after)) (length (joined before))) ≡ Some place)
+    × Among (record { place = place; bytes = packet }) (accepted_of pid (received (pipe pid (before ++ packet ∷ after)) from fates))

@@ -1,5 +1,5 @@
 -- Packets in transport packets: data piping (ETSI TS 102 773, clause 6).
-use Rattle.std.specs.Prelude.{ℕ, zero, suc, ◌+◌, ◌%◌, ◌==◌, Bool, true, false, List, [], ◌∷◌, length, take, drop, min, nat_le, Option, Some, None, if◌then◌else◌, option_map, flat_map}
+use Rattle.std.specs.Prelude.{ℕ, zero, suc, ◌+◌, ◌-◌, ◌%◌, ◌==◌, Bool, true, false, List, [], ◌∷◌, length, take, drop, min, nat_le, Option, Some, None, if◌then◌else◌, option_map, flat_map}
 use Rattle.ts_packet.specs.Written.{written_bytes}
 
 -- a byte of the joined packets, and whether it is the first of its packet
@@ -62,3 +62,12 @@ units_of pid xs = units_from pid 0 xs
 -- the units of packets on a PID
 abbrev pub pipe : ℕ → List (List ℕ) → List (List ℕ)
 pipe pid packets = units_of pid (joined packets)
+
+-- how many of the joined bytes the first units carry
+abbrev pub carried_len : ℕ → List Item → ℕ
+carried_len zero xs = 0
+carried_len (suc n) xs = (part xs).size + carried_len n (drop (part xs).size xs)
+
+-- the offset in its unit, the one with a number, of a byte at a place: what a unit carries is the end of it
+abbrev pub offset_in : ℕ → List Item → ℕ → ℕ
+offset_in n xs place = 188 - (carried_len (suc n) xs - carried_len n xs) + (place - carried_len n xs)

@@ -1,7 +1,8 @@
 // Laws of the definitions. Their functions do nothing.
-ghost use Rattle.t2mi_stream.specs.Laws.{AcceptedFront, StartsFound, WholePackets, AnyCutting};
+ghost use Rattle.t2mi_stream.specs.Laws.{AcceptedFront, StartsFound, WholePackets, AnyCutting, Survives};
 
 use crate::grammar::grammar;
+use ts_packet::{fields_told, payload_last, written_spells};
 
 /// What was accepted stays accepted, whatever bytes follow.
 pub fn accepted_front()
@@ -27,3 +28,14 @@ pub fn whole_packets()
 pub fn any_cutting()
     ensures { AnyCutting }
 {}
+
+/// A sent packet is accepted at its place, if the units that carry it are kept, whatever becomes of the others.
+pub fn survives()
+    ensures { Survives }
+{
+    grammar();
+    accepted_front();
+    written_spells();
+    fields_told();
+    payload_last();
+}
