@@ -14,3 +14,4 @@ pub mod TallyLemmas
 pub mod FitLemmas
 pub mod ReadsLemmas
 pub mod SurviveLemmas
+pub mod DisjointLemmas

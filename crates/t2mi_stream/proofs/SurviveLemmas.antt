@@ -10,7 +10,7 @@ use Rattle.ts_packet.specs.Told.{fields_in}
 use Rattle.t2mi_stream.specs.Accepted.{Byte, AcceptedPacket, is_marked, packet_of, accepted}
 use Rattle.t2mi_stream.specs.Candidate.{placed}
 use Rattle.t2mi_stream.specs.Units.{Carrier, carrier_of, unit_at, Cut, goes_on, with_carrier, cut_from, runs, accepted_of, bytes_from}
-use Rattle.t2mi_stream.specs.Pipe.{Item, values, items, joined, least_start, part, unit, units_in, units_of, carried_len, offset_in}
+use Rattle.t2mi_stream.specs.Pipe.{Item, values, items, joined, least_start, part, unit, units_in, units_of, carried_in, carried_len, offset_in}
 use Rattle.t2mi_stream.specs.Pipes.{is_first}
 use Rattle.t2mi_stream.specs.Received.{Fate, left_of, received, left_number, AlteredWhole, fate_of}
 use Rattle.t2mi_stream.specs.Received.Fate.{Kept, Lost, Altered}
@@ -20,7 +20,7 @@ use Rattle.t2mi_stream.proofs.UnitLemmas.{runs_unit}
 use Rattle.t2mi_stream.proofs.PipeLemmas.{length-values, part_size}
 use Rattle.t2mi_stream.proofs.StartsLemmas.{starts_law}
 use Rattle.t2mi_stream.proofs.FitLemmas.{Fits, fits_append, fits_drop, fits_len, length-items, chain, stands_there}
-use Rattle.t2mi_stream.proofs.ReadsLemmas.{UnitLaws, carried_in, unit_reads, carried_fits, carried_mark}
+use Rattle.t2mi_stream.proofs.ReadsLemmas.{UnitLaws, unit_reads, carried_fits, carried_mark}
 
 -- one more unit behind whole units
 one_unit : (w : UnitLaws) (pid counter number : ℕ) (bytes : List ℕ) (xs : List Item) → pid < 2 ^ 13 → counter < 16 → 0 < length xs → length bytes ≡ 188 * number →
@@ -58,6 +58,13 @@ none_along pid count bytes = record {
   fits = subst (Fits []) (sym (none_carried count)) tt;
 }
 
+-- one unit, and then others
+along : (pid : ℕ) (bytes u : List ℕ) (units : List (List ℕ)) (more carried : List Byte) → (runs pid ((bytes ++ u) ++ flat_map (λ u. u) units)).run ≡ (runs pid (bytes ++ u)).run ++ more →
+    (runs pid (bytes ++ u)).run ≡ (runs pid bytes).run ++ carried → (runs pid (bytes ++ flat_map (λ u. u) (u ∷ units))).run ≡ (runs pid bytes).run ++ (carried ++ more)
+along pid bytes u units more carried rest one =
+    ap (λ (l : List ℕ). (runs pid l).run) (sym (append_assoc bytes u (flat_map (λ u. u) units)))
+    ∙ rest ∙ ap (λ (l : List Byte). l ++ more) one ∙ append_assoc (runs pid bytes).run carried more
+
 goes_along : (w : UnitLaws) (pid count steps counter last number : ℕ) (bytes : List ℕ) (xs : List Item) → pid < 2 ^ 13 → length bytes ≡ 188 * number → (runs pid bytes).last ≡ Some last →
     counter ≡ (last + 1) % 16 → length xs ≤ steps → GoesOn pid bytes (take count (units_in pid steps counter xs)) xs (carried_len count xs)
 unfolding units_in
@@ -85,8 +92,7 @@ goes_along w pid (suc count) (suc steps) counter last number bytes (x ∷ xs) p 
     let h = goes_along w pid count steps next counter (number + 1) (bytes ++ u) rest p (length-append bytes u ∙ omega (arith, whole, r.whole)) (ap (λ (k : Cut). k.last) (cut ∙ goes)) refl left in
     record {
       more = c.bytes ++ h.more;
-      run_is = ap (λ (l : List ℕ). (runs pid l).run) (sym (append_assoc bytes u (flat_map (λ u. u) (take count (units_in pid steps next rest)))))
-          ∙ h.run_is ∙ ap (λ (k : Cut). k.run ++ h.more) (cut ∙ goes) ∙ append_assoc (runs pid bytes).run c.bytes h.more;
+      run_is = along pid bytes u (take count (units_in pid steps next rest)) h.more c.bytes h.run_is (ap (λ (k : Cut). k.run) (cut ∙ goes));
       fits = subst (Fits (c.bytes ++ h.more)) (sym (take-add (part all).size (carried_len count rest) all))
           (fits_append c.bytes h.more (take (part all).size all) (take (carried_len count rest) rest) (carried_fits (188 * number) all (omega arith)) h.fits);
     }
@@ -234,8 +240,8 @@ module _ (g : SpellLaws) (w : UnitLaws) (front : AcceptedFront) (pid : ℕ) (fit
     e : (front : List Byte) × ((with_carrier (runs pid bytes) c).run ≡ front ++ c.bytes) × ((with_carrier (runs pid bytes) c).last ≡ Some counter)
     e = entered (runs pid bytes) c
 
-    along : GoesOn pid (bytes ++ u) (take count (units_in pid steps next rest)) rest (carried_len count rest)
-    along =
+    further : GoesOn pid (bytes ++ u) (take count (units_in pid steps next rest)) rest (carried_len count rest)
+    further =
         let r = unit_reads w pid (188 * number) counter all fits_pid small (omega arith) in
         goes_along w pid count steps next counter (number + 1) (bytes ++ u) rest fits_pid (length-append bytes u ∙ omega (arith, units, r.whole)) (ap (λ (k : Cut). k.last) cut ∙ e.2) refl
         (let z = size in omega (arith, length-drop (part all).size all, z.0, enough))
@@ -244,13 +250,13 @@ module _ (g : SpellLaws) (w : UnitLaws) (front : AcceptedFront) (pid : ℕ) (fit
     came = bytes ++ u ++ flat_map (λ u. u) (take count (units_in pid steps next rest))
 
     abbrev mine : List Byte
-    mine = c.bytes ++ along.more
+    mine = c.bytes ++ further.more
 
     abbrev base : ℕ
     base = length e.0
 
     run_is : (runs pid came).run ≡ e.0 ++ mine
-    run_is = along.run_is ∙ ap (λ (l : List Byte). l ++ along.more) (ap (λ (k : Cut). k.run) cut ∙ e.1) ∙ append_assoc e.0 c.bytes along.more
+    run_is = further.run_is ∙ ap (λ (l : List Byte). l ++ further.more) (ap (λ (k : Cut). k.run) cut ∙ e.1) ∙ append_assoc e.0 c.bytes further.more
 
     abbrev z' : List Item
     z' = take (carried_len (suc count) all - s - length (items true p)) z
@@ -264,7 +270,7 @@ module _ (g : SpellLaws) (w : UnitLaws) (front : AcceptedFront) (pid : ℕ) (fit
 
     fits : Fits mine (pre ++ (items true p ++ z'))
     fits = subst (Fits mine) (sym (take-add (part all).size (carried_len count rest) all) ∙ taken)
-        (fits_append c.bytes along.more (take (part all).size all) (take (carried_len count rest) rest) (carried_fits (188 * number) all (omega arith)) along.fits)
+        (fits_append c.bytes further.more (take (part all).size all) (take (carried_len count rest) rest) (carried_fits (188 * number) all (omega arith)) further.fits)
 
     at_run : (t : ℕ) → drop (base + t) (e.0 ++ mine) ≡ drop t mine
     at_run t = sym (drop-drop t base (e.0 ++ mine)) ∙ ap (drop t) (drop_at e.0 mine base refl)
@@ -293,7 +299,7 @@ module _ (g : SpellLaws) (w : UnitLaws) (front : AcceptedFront) (pid : ℕ) (fit
         let o = length-append (items true p) z' in
         let q = length-items true p in
         let b = least.before in
-        let mark : is_marked (drop (base + f) (e.0 ++ mine)) ≡ true = ap is_marked (at_run f) ∙ carried_mark (188 * number) f all along.more (omega arith) least.least in
+        let mark : is_marked (drop (base + f) (e.0 ++ mine)) ≡ true = ap is_marked (at_run f) ∙ carried_mark (188 * number) f all further.more (omega arith) least.least in
         let start : IsStart (e.0 ++ mine) (base + f) = (starts_law g (e.0 ++ mine)).marked (base + f) (omega (arith, n, m, o, q, b, ten, length-append e.0 mine)) mark in
         let from_f : Fits (drop (base + f) (e.0 ++ mine)) (joined packets.0 ++ (items true p ++ z')) =
         subst (λ (l : List Byte). Fits l (joined packets.0 ++ (items true p ++ z'))) (sym (at_run f))
@@ -304,7 +310,7 @@ module _ (g : SpellLaws) (w : UnitLaws) (front : AcceptedFront) (pid : ℕ) (fit
         subst (λ (l : List Byte). Fits l (items true p ++ z')) (sym (at_run s)) (subst (Fits (drop s mine)) (drop_at pre (items true p ++ z') s refl) (fits_drop s mine (pre ++ (items true p ++ z')) fits)) in
         let place : (packet_of (drop (base + s) (e.0 ++ mine))).place ≡ 188 * number + (188 - (part all).size + s) =
         ap (λ (l : List Byte). (packet_of l).place) (at_run s)
-        ∙ place_at (188 * number) (188 - length (values (take (part all).size all))) _ s (values (take (part all).size all)) along.more (omega (arith, vals, here))
+        ∙ place_at (188 * number) (188 - length (values (take (part all).size all))) _ s (values (take (part all).size all)) further.more (omega (arith, vals, here))
         ∙ ap (λ (n : ℕ). 188 * number + (188 - n + s)) vals in
         stands_there g (e.0 ++ mine) (base + s) (188 * number + (188 - (part all).size + s)) p z' at_p spelled from_p place
 

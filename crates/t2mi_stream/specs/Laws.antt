@@ -1,8 +1,9 @@
 -- What the definitions say.
-use Rattle.std.specs.Prelude.{◌≡◌, ◌⊎◌, ℕ, suc, ◌+◌, ◌^◌, ◌<◌, ◌≤◌, true, List, [], ◌∷◌, ◌++◌, length, drop, Some, flat_map}
+use Rattle.std.specs.Prelude.{◌≡◌, ◌⊎◌, ℕ, suc, ◌+◌, ◌^◌, ◌<◌, ◌≤◌, true, List, [], ◌∷◌, ◌++◌, length, take, drop, Some, flat_map}
 use Rattle.t2mi_stream.specs.Accepted.{Byte, AcceptedPacket, accepted_len, front_packet, is_marked, starts, accepted}
-use Rattle.t2mi_stream.specs.Units.{accepted_of}
-use Rattle.t2mi_stream.specs.Pipe.{joined, pipe, carried_len, offset_in}
+use Rattle.t2mi_stream.specs.Units.{carrier_of, accepted_of}
+use Rattle.ts_packet.specs.Told.{fields_in}
+use Rattle.t2mi_stream.specs.Pipe.{Item, joined, part, unit, least_start, pipe, carried_in, carried_len, offset_in}
 use Rattle.t2mi_packet.specs.Spell.{spell}
 use Rattle.t2mi_stream.specs.Received.{Fate, received, place_of, AlteredWhole, fate_of}
 use Rattle.t2mi_stream.specs.Received.Fate.{Kept}
@@ -41,6 +42,10 @@ pub record StartsLaw (run : List Byte) : Type 0 where
 abbrev pub StartsFound : Type 0
 StartsFound = (run : List Byte) → StartsLaw run
 
+-- Accepted packets do not overlap: a start behind the first byte of one is behind all of it.
+abbrev pub Disjoint : Type 0
+Disjoint = (run : List Byte) (a n b : ℕ) → IsStart run a → accepted_len (drop a run) ≡ Some n → IsStart run b → a < b → a + n ≤ b
+
 -- What is fed packet by packet is the packets, joined.
 abbrev pub WholePackets : Type 0
 WholePackets = (packets : List (List ℕ)) → (tally (flat_map (λ packet. Begun ∷ Piped packet ∷ []) packets)).fed ≡ joined packets
@@ -48,6 +53,13 @@ WholePackets = (packets : List (List ℕ)) → (tally (flat_map (λ packet. Begu
 -- How the bytes of a packet are cut does not matter.
 abbrev pub AnyCutting : Type 0
 AnyCutting = (events : List PiperEvent) (a b : List ℕ) → tally (events ++ Piped a ∷ Piped b ∷ []) ≡ tally (events ++ Piped (a ++ b) ∷ [])
+
+-- A unit that was piped is 188 bytes, and reads back, wherever it stands, as a carrier with its counter, whose bytes are those that the
+-- unit takes; its pointer_field names the first of them that begins a packet.
+abbrev pub UnitReads : Type 0
+UnitReads = (pid place counter : ℕ) (xs : List Item) → pid < 2 ^ 13 → counter < 16 → 0 < length xs
+    → (carrier_of pid place (unit pid counter xs) (fields_in (unit pid counter xs)) ≡ Some (record { counter = counter; bytes = carried_in place xs }))
+    × (length (unit pid counter xs) ≡ 188) × ((part xs).pointer ≡ least_start (take (part xs).size xs))
 
 -- Each of the byte strings is a packet.
 abbrev pub ArePackets : List (List ℕ) → Type 0

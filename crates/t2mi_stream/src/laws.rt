@@ -1,5 +1,5 @@
 // Laws of the definitions. Their functions do nothing.
-ghost use Rattle.t2mi_stream.specs.Laws.{AcceptedFront, StartsFound, WholePackets, AnyCutting, Survives};
+ghost use Rattle.t2mi_stream.specs.Laws.{AcceptedFront, StartsFound, WholePackets, AnyCutting, Disjoint, UnitReads, Survives};
 
 use crate::grammar::grammar;
 use ts_packet::{fields_told, payload_last, written_spells};
@@ -17,6 +17,22 @@ pub fn starts_found()
     ensures { StartsFound }
 {
     grammar();
+}
+
+/// Accepted packets do not overlap.
+pub fn disjoint()
+    ensures { Disjoint }
+{
+    grammar();
+}
+
+/// A unit that was piped reads back as a carrier of the bytes that it takes.
+pub fn unit_reads()
+    ensures { UnitReads }
+{
+    written_spells();
+    fields_told();
+    payload_last();
 }
 
 /// What is fed to a piper packet by packet is the packets, joined.

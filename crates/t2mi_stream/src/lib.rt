@@ -9,7 +9,9 @@ mod put;
 mod unit;
 mod unpiper;
 
-pub use laws::{accepted_front, any_cutting, starts_found, survives, whole_packets};
+pub use laws::{
+    accepted_front, any_cutting, disjoint, starts_found, survives, unit_reads, whole_packets,
+};
 pub use piper::Piper;
 pub use unpiper::Unpiper;
 
