@@ -1,7 +1,7 @@
 -- What puts do to sinks, and one put after another.
 use Rattle.std.proofs.Common.{◌≡◌, ℕ, ◌+◌, ◌-◌, ◌<◌, ◌≤◌, Bool, true, false, List, [], ◌++◌, length, take, drop, Option, Some, None, refl, ap, sym, ◌∙◌, arith, append_assoc, append-nil, length-append}
 use Rattle.std.proofs.lemmas.List.{length-take, take_at, take-append-le, take-append-drop}
-use Rattle.std.specs.Prelude.{IfSome, min, slice_index_or, Result, Ok, Err, IfErr, OnErr}
+use Rattle.std.specs.Prelude.{IfSome, IsSomeAnd, min, slice_index_or, Result, Ok, Err, IfErr, OnErr}
 use Rattle.std.specs.Option.{option_map}
 use Rattle.std.proofs.Math.Seq.{take-append-add}
 use Rattle.bit_slice.specs.declared.sink.SinkFault.{SinkFault}
@@ -86,8 +86,8 @@ stops_later a b c front more fault puts stops =
     }
 
 less_room : (a b : Option ℕ) (put room need total : ℕ) → b ≡ option_map (λ r. r - put) a → IfSome a (λ r. put ≤ r) → b ≡ Some room → room < need → need ≤ total - put →
-    IfSome a (λ r. r < total)
-less_room None b put room need total is fits at less inside = tt
+    IsSomeAnd a (λ r. r < total)
+less_room None b put room need total is fits at less inside = let none : Some room ≡ None = sym at ∙ is in cc
 less_room (Some r) b put room need total is fits at less inside = let same : r - put ≡ room = cc in omega arith
 
 no_end : (a b : Option ℕ) (put : ℕ) → b ≡ option_map (λ r. r - put) a → b ≡ None → a ≡ None

@@ -1,5 +1,5 @@
 -- What holds of the definitions. The functions without a body ensure it.
-use Rattle.std.specs.Prelude.{◌≡◌, ◌+◌, ◌<◌, ◌≤◌, ℕ, List, Bool, ◌++◌, length, true, None, IfSome}
+use Rattle.std.specs.Prelude.{◌≡◌, ◌+◌, ◌<◌, ◌≤◌, ℕ, List, Bool, ◌++◌, length, true, None, IfSome, IsSomeAnd}
 use Rattle.bit_slice.specs.Crc.{HasDegree, IsRemainder, dividend, ones, crc32_generator, crc32_of, crc8_generator, crc8_of}
 use Rattle.bit_slice.specs.declared.sink.SinkFault.{SinkFault}
 use Rattle.bit_slice.specs.declared.sink.SinkFault.TheVariants.{Full, OutOfMemory}
@@ -44,7 +44,7 @@ StopsLater = (a b c : State) (front more : List Bool) (fault : SinkFault) → Pu
 
 -- A writer that finds the sink full had less room than bits, and one that finds no memory writes to a sink that has no end and grows.
 abbrev pub IsCause : State → ℕ → SinkFault → Type 0
-IsCause a count (Full need room) = IfSome a.room (λ r. r < count)
+IsCause a count (Full need room) = IsSomeAnd a.room (λ r. r < count)
 IsCause a count OutOfMemory = (a.room ≡ None) × (a.grows ≡ true)
 
 abbrev pub StopsRightly : Type 0

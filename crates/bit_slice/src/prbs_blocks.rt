@@ -41,7 +41,7 @@ impl PrbsBlocks {
     }
 }
 
-// A byte is the sum of those 120 and 112 before it: twice the recurrence at once, six times over.
+// A byte is the sum of those 120 and 112 before it: the recurrence doubled six times is x(i + 960) = x(i + 64) + x(i).
 fn next_block(bytes: &mut [u8; 120])
     ensures { (from : ℕ) → Runs bytes.old from → Runs bytes.new (from + 120) }
 {

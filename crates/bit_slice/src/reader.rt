@@ -33,7 +33,7 @@ impl<'a> BitSource<'a> for BitReader<'a> {
     fn take(&mut self, width: u32) -> Result<u64, Short> {
         let (left, count) = (self.bits.len(), width as usize);
         if count > left {
-            return Err(Short { left });
+            return Err(Short { left: left as u64 });
         }
         let value = self.bits.field(0, width);
         self.bits = self.bits.sub(count, left - count);
@@ -43,7 +43,7 @@ impl<'a> BitSource<'a> for BitReader<'a> {
     fn take_slice(&mut self, len: usize) -> Result<Joined<'a>, Short> {
         let left = self.bits.len();
         if len > left {
-            return Err(Short { left });
+            return Err(Short { left: left as u64 });
         }
         let taken = Joined::new(self.bits.sub(0, len), self.bits.sub(0, 0));
         self.bits = self.bits.sub(len, left - len);

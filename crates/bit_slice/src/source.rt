@@ -11,7 +11,7 @@ use thiserror::Error;
 #[error("only {left} bits are left")]
 pub struct Short {
     /// How many bits are left.
-    pub left: usize,
+    pub left: u64,
 }
 
 /// What bits are taken from the front of. Where it has too few, nothing is taken.

@@ -32,7 +32,7 @@ pub fn check_post(post: BitSlice<'_>) -> Result<(), L1Fault>
 {
     let len = post.len();
     if len < 32 {
-        return Err(L1Fault::Short { left: len });
+        return Err(L1Fault::Short { left: len as u64 });
     }
     let read = post.field(len - 32, 32) as u32;
     let counted = crc32(post.sub(0, len - 32));

@@ -8,7 +8,7 @@ pub enum L1Fault {
     #[error("a field is cut off: {left} bits are left")]
     Short {
         /// The bits left at the front of the field.
-        left: usize,
+        left: u64,
     },
     /// CRC_32 is not that of the bits before it.
     #[error("CRC_32 is {read:08x}, and {counted:08x} was counted")]

@@ -9,7 +9,7 @@ use crate::shape::{body, is_shaped};
 use crate::{Packet, PacketFault, PacketView, PacketWhy};
 use bit_slice::{BitSlice, crc32, crc32_law};
 
-/// The length of the longest packet, in bytes.
+/// No packet has more bytes.
 pub const LARGEST: usize = 8202;
 
 // The length of the header, in bytes.
