@@ -13,3 +13,7 @@ pub mod Stands
 pub mod Stood
 pub mod Units
 pub mod UnpiperStandsFor
+pub use Rattle.t2mi_packet.specs.Spell
+pub use Rattle.t2mi_packet.specs.T2miPacket
+pub use Rattle.ts_packet.specs.Told
+pub use Rattle.ts_packet.specs.Written
