@@ -1,4 +1,3 @@
-ghost use Rattle.std.specs.Prelude.{IfOk};
 ghost use Rattle.l1_signal.specs.L1Pre.{PreFits};
 ghost use Rattle.l1_signal.specs.L1Configurable.{ConfFits};
 ghost use Rattle.l1_signal.specs.L1Dynamic.{DynFits};
@@ -222,4 +221,173 @@ fn each_bit_of_l1_pre(rt: HostRuntime) {
         let came = rewritten_pre(rt.alloc(), &bytes);
         assert!(rt; is_told(&came, &want, refused(&PRE_REFUSED, place)));
     }
+}
+
+fn rewritten_conf(alloc: Global, bits: BitSlice<'_>, pre: &L1Pre) -> Result<Vec<u8>, L1Fault> {
+    let conf = read_conf(alloc, &mut BitReader::new(bits), pre)?;
+    conf_bytes(alloc, &conf).map_err(|_| L1Fault::OutOfMemory)
+}
+
+const CONF_REFUSED: [(usize, usize, u8); 13] = [
+    (22, 23, 32),
+    (23, 27, 33),
+    (78, 80, 38),
+    (81, 86, 39),
+    (86, 87, 40),
+    (109, 110, 45),
+    (113, 114, 47),
+    (125, 133, 49),
+    (141, 142, 51),
+    (142, 143, 52),
+    (143, 144, 53),
+    (155, 157, 55),
+    (159, 161, 58),
+];
+
+// Whether a bit of the configurable part decides nothing.
+fn is_ignored(place: usize) -> bool {
+    27 <= place && place < 35 || 144 <= place && place < 155 || 161 <= place
+}
+
+#[test]
+fn each_bit_of_the_configurable_part(rt: HostRuntime) -> Result<(), Fail> {
+    let pre = read_pre(&mut BitReader::new(BitSlice::whole(&PRE)), false)?;
+    for place in 0..191 {
+        let bytes = flipped(&CONF, place);
+        let want = if is_ignored(place) { CONF } else { bytes };
+        let bits = BitSlice::whole(&bytes).sub(0, 191);
+        let came = rewritten_conf(rt.alloc(), bits, &pre);
+        if 15 <= place && place < 22 {
+            // NUM_PLP is another one, and L1_POST_INFO_SIZE does not go with it.
+            assert!(rt; matches!(&came, Err(L1Fault::Size { told: 318, .. })));
+        } else {
+            assert!(rt; is_told(&came, &want, refused(&CONF_REFUSED, place)));
+        }
+    }
+    Ok(())
+}
+
+fn rewritten_dyn(
+    alloc: Global,
+    bits: BitSlice<'_>,
+    dynamic: &mut L1Dyn,
+) -> Result<Vec<u8>, L1Fault> {
+    read_dyn(&mut BitReader::new(bits), dynamic)?;
+    dyn_bytes(alloc, dynamic).map_err(|_| L1Fault::OutOfMemory)
+}
+
+#[test]
+fn each_bit_of_the_dynamic_part(rt: HostRuntime) -> Result<(), Fail> {
+    let mut dynamic = L1Dyn::open(rt.alloc(), 1)?;
+    for place in 0..127 {
+        let bytes = flipped(&DYN, place);
+        let ignored = 63 <= place && place < 71 || 111 <= place;
+        let want = if ignored { DYN } else { bytes };
+        let came = rewritten_dyn(rt.alloc(), BitSlice::whole(&bytes), &mut dynamic);
+        assert!(rt; is_told(&came, &want, None));
+    }
+    Ok(())
+}
+
+// The dynamic part of a second frame, in which the PLP has four blocks.
+fn second_frame(alloc: Global, plan: &Plan) -> Result<L1Dyn, OutOfMemory> {
+    let mut shape = Shape::open(alloc, plan)?;
+    let mut dynamic = L1Dyn::open(alloc, plan.config().plps.len() as u16)?;
+    if shape.len() > 0 {
+        shape.set(0, 4, 0);
+    }
+    dyn_of(plan, 1, &shape, &mut dynamic);
+    Ok(dynamic)
+}
+
+#[test]
+fn a_shape_there_and_back(rt: HostRuntime) -> Result<(), Fail> {
+    let plan = plan(&rt, network(listed(rt.alloc(), &[SMALL])?, 1));
+    let dynamic = second_frame(rt.alloc(), &plan)?;
+    assert_eq!(rt; dynamic.frame_idx, 1);
+    let mut shape = Shape::open(rt.alloc(), &plan)?;
+    if shape.len() == dynamic.plps.len() {
+        shape_of(&dynamic, &mut shape);
+    }
+    assert!(rt; shape.len() == 1 && shape.count(0) == 4 && shape.start(0) == 0);
+    Ok(())
+}
+
+#[test]
+fn too_little_room(rt: HostRuntime) -> Result<(), Fail> {
+    let mut dynamic = L1Dyn::open(rt.alloc(), 1)?;
+    read_dyn(&mut BitReader::new(BitSlice::whole(&DYN)), &mut dynamic)?;
+    match write_dyn(&mut FixedBits::<15>::new(), &dynamic) {
+        Err(SinkFault::Full { need, room }) => assert!(rt; room < need),
+        _ => assert!(rt; false),
+    }
+    assert!(rt; write_dyn(&mut FixedBits::<16>::new(), &dynamic).is_ok());
+    let mut count = BitCount::new();
+    assert!(rt; write_dyn(&mut count, &dynamic).is_ok());
+    assert_eq!(rt; count.bits(), 127);
+    Ok(())
+}
+
+fn many(alloc: Global, count: u8) -> Result<PlpList, OutOfMemory> {
+    let mut list = PlpList::new(alloc);
+    for id in 0..count {
+        list.push(Plp {
+            id,
+            blocks: 1,
+            ..SMALL
+        })?;
+    }
+    Ok(list)
+}
+
+#[test]
+fn as_many_plps_as_there_can_be(rt: HostRuntime) -> Result<(), Fail> {
+    for count in [1, 2, 255] {
+        let plan = plan(&rt, network(many(rt.alloc(), count)?, 1));
+        let bytes = conf_bytes(rt.alloc(), &conf_of(rt.alloc(), &plan)?)?;
+        let Some(front) = bytes.get(..bytes.len().min(4_000)) else {
+            panic!(rt; "no bytes");
+        };
+        let mut source = BitReader::new(BitSlice::whole(front));
+        let conf = read_conf(rt.alloc(), &mut source, &pre_of(&plan))?;
+        assert!(rt; !conf.plps.is_empty() && conf.plps.len() == usize::from(count));
+        assert!(rt; conf_bytes(rt.alloc(), &conf)? == bytes);
+    }
+    Ok(())
+}
+
+#[test]
+fn crcs_and_cut_parts(rt: HostRuntime) {
+    let mut bytes = [0; 25];
+    bytes[..21].copy_from_slice(&PRE);
+    bytes[21..].copy_from_slice(&[0xD2, 0x90, 0x4B, 0x05]);
+    assert!(rt; read_pre(&mut BitReader::new(BitSlice::whole(&bytes)), true).is_ok());
+    bytes[24] = 0x06;
+    let crc = L1Fault::Crc {
+        read: 0xD290_4B06,
+        counted: 0xD290_4B05,
+    };
+    let came = read_pre(&mut BitReader::new(BitSlice::whole(&bytes)), true);
+    assert_eq!(rt; came.err(), Some(crc));
+    let cut = BitSlice::whole(&bytes).sub(0, 10);
+    let came = read_pre(&mut BitReader::new(cut), true);
+    assert_eq!(rt; came.err(), Some(L1Fault::Short { left: 1 }));
+}
+
+// The 350 bits of L1-post of the frame of `DYN`.
+const POST: [u8; 44] = [
+    0x00, 0x02, 0x02, 0x00, 0x00, 0x71, 0x02, 0xAA, 0x00, 0x00, 0x8C, 0x00, 0x00, 0x40, 0x00, 0x20,
+    0x08, 0x08, 0x00, 0x10, 0x00, 0x00, 0x00, 0x00, 0x02, 0x00, 0x00, 0x00, 0x00, 0x00, 0x00, 0x00,
+    0x00, 0x00, 0x00, 0x00, 0x00, 0x10, 0x00, 0x01, 0xAB, 0x8F, 0x16, 0x98,
+];
+
+#[test]
+fn l1_post_ends_in_its_crc(rt: HostRuntime) {
+    let post = BitSlice::whole(&POST);
+    assert_eq!(rt; check_post(post.sub(0, 350)), Ok(()));
+    assert!(rt; matches!(check_post(post.sub(1, 349)), Err(L1Fault::Crc { .. })));
+    assert_eq!(rt;
+        check_post(post.sub(0, 31)),
+        Err(L1Fault::Short { left: 31 })
+    );
 }
