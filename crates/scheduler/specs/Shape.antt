@@ -1,4 +1,4 @@
--- The shape of a frame: where its PLPs stand (EN 302 755, clause 8.3.6). Cells have addresses from 0 on.
+-- The shape of a frame: where its PLPs stand (EN 302 755, clause 8). Cells have addresses from 0 on.
 use Rattle.std.specs.Prelude.{ℕ, ◌+◌, ◌*◌, ◌/◌, ◌==◌, Bool, not, List, length, map, filter, replicate, sum_by, slice_index, slice_set, if◌then◌else◌}
 use Rattle.std.specs.List.{range_with_len}
 use Rattle.plp_config.specs.Capacity.{block_cells}

@@ -1,4 +1,4 @@
-//! Where the PLPs of a frame stand (EN 302 755, clause 8.3.6).
+//! Where the PLPs of a frame stand (EN 302 755, clause 8).
 #![tactic(auto)]
 
 mod frame;
