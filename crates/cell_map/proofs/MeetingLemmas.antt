@@ -1,7 +1,7 @@
 -- Where slices meet.
 use Rattle.std.proofs.Common.{◌≡◌, ℕ, ◌+◌, ◌-◌, ◌*◌, ◌/◌, ◌%◌, ◌<◌, ◌≤◌, ◌↔◌, ◌≢◌, ◌⊎◌, ⊎_elim, inl, inr, min, Bool, true, false, ltb, IsTrue, ap, sym, ◌∙◌, subst, arith}
 use Rattle.std.proofs.lemmas.Bool.{lt-ltb, ltb-true, ltb-false}
-use Rattle.std.proofs.lemmas.Nat.{div-add-mod', mul-le, le-div, div-mul-add, mod-mul-add}
+use Rattle.std.proofs.lemmas.Nat.{div-add-mod', mod_below, mul-le, le-div, div-mul-add, mod-mul-add}
 use Rattle.cell_map.specs.declared.slices.Slices.{Slices}
 use Rattle.cell_map.specs.Slices.{SliceMeets, SlicesMeet}
 use Rattle.cell_map.proofs.GroupLemmas.{bool_cases}
@@ -69,6 +69,39 @@ no_place start len count interval address apart many low out k t hk ht e =
     let inner : t < interval = omega (arith, long) in
     let p = parts_of interval k t (address - start) inner rest in
     ⊎_elim (λ (x : count ≤ (address - start) / interval). (let never : ⊥ = omega (arith, x, p.0) in never)) (λ (x : len ≤ (address - start) % interval). (let never : ⊥ = omega (arith, x, p.1) in never)) out
+
+-- a place at or behind an address that is in no slice is in a later slice
+pub later : (len count interval rest k t : ℕ) → len ≤ interval → (count ≤ rest / interval) ⊎ (len ≤ rest % interval)
+    → k < count → t < len → rest ≤ k * interval + t → rest / interval < k
+later len count interval rest k t long out hk ht far =
+    let s : ℕ = rest / interval in
+    let all : s * interval + rest % interval ≡ rest = div-add-mod' rest interval in
+    bool_cases (ltb s k) (λ e. ltb-true s k e)
+    (λ e. let le : k ≤ s = ltb-false s k e in
+    bool_cases (ltb k s)
+    (λ f. let lt : k < s = ltb-true k s f in
+    let m : (k + 1) * interval ≤ s * interval = mul-le (k + 1) interval s interval (omega (arith, lt)) (omega arith) in
+    let never : ⊥ = omega (arith, all, m, far, ht, long) in absurd never)
+    (λ f. let ge : s ≤ k = ltb-false k s f in
+    let same : k ≡ s = omega (arith, le, ge) in
+    let product : k * interval ≡ s * interval = ap (λ (n : ℕ). n * interval) same in
+    let never : ⊥ = ⊎_elim
+    (λ (x : count ≤ rest / interval). (let none : ⊥ = omega (arith, x, same, hk) in none))
+    (λ (x : len ≤ rest % interval). (let none : ⊥ = omega (arith, all, x, product, far, ht) in none)) out in absurd never))
+
+-- and that is not before the next slice
+pub next_slice : (start len count interval address k t : ℕ) → (count ≡ 1) ⊎ (len ≤ interval) → count ≢ 1 → start ≤ address
+    → (count ≤ (address - start) / interval) ⊎ (len ≤ (address - start) % interval)
+    → k < count → t < len → address ≤ start + k * interval + t
+    → ((address - start) / interval < k) × (address + (interval - (address - start) % interval) ≤ start + k * interval + t)
+next_slice start len count interval address k t apart many low out hk ht far =
+    let rest : ℕ = address - start in
+    let long : len ≤ interval = ⊎_elim (λ (x : count ≡ 1). absurd (many x)) (λ (x : len ≤ interval). x) apart in
+    let lt : rest / interval < k = later len count interval rest k t long out hk ht (omega (arith, far, low)) in
+    let all : rest / interval * interval + rest % interval ≡ rest = div-add-mod' rest interval in
+    let inner : rest % interval < interval = mod_below rest interval (omega (arith, ht, long)) in
+    let m : (rest / interval + 1) * interval ≤ k * interval = mul-le (rest / interval + 1) interval k interval (omega (arith, lt)) (omega arith) in
+    (lt, omega (arith, all, inner, m, low))
 
 pub never_law : {P : Type 0} → ¬ P → IsTrue false ↔ P
 never_law n = (λ e. absurd (let never : false ≡ true = e in cc), λ p. absurd (n p))

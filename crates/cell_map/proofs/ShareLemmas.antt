@@ -12,6 +12,7 @@ use Rattle.cell_map.specs.Interleaver.{position}
 use Rattle.cell_map.specs.Address.{IsCell, address_of}
 use Rattle.cell_map.specs.CellMap.{IsBeyond, Shares, Passes}
 use Rattle.cell_map.specs.Slices.{SlicesMeet, slices_of, PlaceOf}
+use Rattle.cell_map.specs.Runs.{LeavesFree}
 use Rattle.cell_map.specs.declared.interleaving.Place.{Place}
 use Rattle.cell_map.proofs.PlanLemmas.{sub_slices-some}
 use Rattle.cell_map.proofs.GroupLemmas.{bool_cases}
@@ -239,6 +240,14 @@ nowhere c shape j a interval address wide is e f g none b q cell here =
     let (k, (t, x)) = at_of_cell c shape j b q is cell in
     let out = rw (e, f, g) at none in
     out k t x.slice x.inner (sym x.address ∙ here)
+
+pub leaves_free : (c : Config) (shape : FrameShape) (j : ℕ) (a : Slices) (interval address wide n : ℕ) → IsPlan c → a ≡ slices_of c shape j → interval ≡ shape.interval → wide ≡ address →
+    ((k t : ℕ) → k < a.count → t < a.len → wide ≤ a.start + k * interval + t → wide + n ≤ a.start + k * interval + t) → LeavesFree c shape j address n
+leaves_free c shape j a interval address wide n is e f g none b q cell far =
+    let (k, (t, x)) = at_of_cell c shape j b q is cell in
+    let out = rw (e, f, g) at none in
+    let end = out k t x.slice x.inner (omega (arith, far, x.address)) in
+    omega (arith, end, x.address)
 
 pub place_law : (c : Config) (shape : FrameShape) (j : ℕ) (a : Slices) (interval address wide k t : ℕ) (place : Place) (n : ℕ) → n ≡ slice_index shape.counts j → IsPlan c → j < length c.plps → a ≡ slices_of c shape j → interval ≡ shape.interval → wide ≡ address →
     k < a.count → t < a.len → a.start + k * interval + t ≡ wide →

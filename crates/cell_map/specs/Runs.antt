@@ -4,7 +4,7 @@ use Rattle.plp_config.specs.Capacity.{block_cells}
 use Rattle.plp_config.specs.Plps.{plp_at}
 use Rattle.plp_config.specs.declared.config.Config.{Config}
 use Rattle.scheduler.specs.Shape.{FrameShape}
-use Rattle.cell_map.specs.Address.{address_at}
+use Rattle.cell_map.specs.Address.{IsCell, address_at, address_of}
 use Rattle.cell_map.specs.CellMap.{Passes}
 use Rattle.cell_map.specs.Interleaver.{position}
 use Rattle.cell_map.specs.declared.runs.Run.{Run}
@@ -57,9 +57,21 @@ pub record Steps (run next : Run) : Type 0 where
   pub block : next.block < next.size
   pub column : next.column < next.columns
 
--- what is known between two calls
-pub record IsReading (c : Config) (shape : FrameShape) (address : ℕ) (run : Run) : Type 0 where
+-- a PLP has no cell at so many addresses from one on
+abbrev pub LeavesFree : Config → FrameShape → ℕ → ℕ → ℕ → Type 0
+LeavesFree c shape plp address n = (block cell : ℕ) → IsCell c shape plp block cell
+    → address ≤ address_of c shape plp block cell → address + n ≤ address_of c shape plp block cell
+
+-- no cell stands at so many addresses from one on
+abbrev pub AreDummy : Config → FrameShape → ℕ → ℕ → Type 0
+AreDummy c shape address n = (plp : ℕ) → LeavesFree c shape plp address n
+
+-- what is known between two calls: cells in hand, or so many dummy addresses
+pub record IsReading (c : Config) (shape : FrameShape) (address : ℕ) (run : Run) (dummy : ℕ) : Type 0 where
   pub plps : length shape.counts ≡ length c.plps
   pub passes : Passes c shape
   pub few : c.cells < 2 ^ 32
+  pub inside : address ≤ c.cells
   pub next : 0 < run.left → RunsAt c shape address run
+  pub free : AreDummy c shape address dummy
+  pub one : 0 < dummy → run.left ≡ 0

@@ -8,6 +8,7 @@ mod places;
 mod reading;
 mod rows;
 mod runs;
+mod search;
 mod slices;
 
 pub use faults::{MapFault, check};

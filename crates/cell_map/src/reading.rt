@@ -1,27 +1,28 @@
 // The cells of a frame in the order of their addresses.
-ghost use Rattle.std.specs.Prelude.{ℕ, ◌≡◌, ◌+◌, ◌*◌, ◌<◌, ◌≤◌, ◌^◌, IfNone, IfSome, length, sum, take};
+ghost use Rattle.std.specs.Prelude.{ℕ, ◌≡◌, ◌+◌, ◌*◌, ◌<◌, ◌≤◌, ◌^◌, IfNone, IfSome, length};
 ghost use Rattle.std.specs.FinMap.{get};
-ghost use Rattle.plp_config.specs.Capacity.{IsPlan};
 ghost use Rattle.cell_map.specs.Address.{IsCell, address_of};
 ghost use Rattle.cell_map.specs.CellMap.{Passes, cell_map};
-ghost use Rattle.cell_map.specs.Runs.{RunsAt, IsReading};
+ghost use Rattle.cell_map.specs.Runs.{RunsAt};
 
 use crate::places::Cell;
-use crate::rows::plp_in_frame;
-use crate::runs::{Run, run_at, step};
-use crate::slices::locate;
+use crate::runs::{Run, step};
+use crate::search::{dummies, find};
 use plp_config::Plan;
 use scheduler::Shape;
 use std::marker::Model;
 
-/// The cells of a frame by their addresses, from 0 on. A call costs no division where the cell
-/// follows from the one before.
+/// The cells of a frame by their addresses, from 0 on. The PLPs are gone over once a run of cells
+/// that follow from one another, and once a row of dummy cells.
 #[derive(Drop)]
 pub struct Cells<'a> {
     plan: &'a Plan,
     shape: &'a Shape,
     address: u32,
+    // Cells in hand, from the address on.
     run: Run,
+    // Addresses from this one on that are known to be dummy.
+    dummy: u32,
 }
 
 impl<'a> Model for Cells<'a> {
@@ -36,55 +37,14 @@ impl<'a> Model for Cells<'a> {
       address = r.address;
     } };
 
-    ghost invariant = { λ r. IsReading r.plan.now r.shape.now r.address r.run };
-}
-
-// The run of a PLP at an address.
-fn run_of(plan: &Plan, shape: &Shape, plp: usize, before: u32, address: u32) -> Option<Run>
-    requires plps { length shape.now.counts ≡ length plan.now.plps }
-    requires passes { Passes plan.now shape.now }
-    requires plp { plp < length plan.now.plps }
-    requires before { before ≡ sum (take plp shape.now.counts) }
-    requires small { before < 2 ^ 20 }
-    ensures none { IfNone result ((b q : ℕ) → IsCell plan.now shape.now plp b q → ¬ (address_of plan.now shape.now plp b q ≡ address)) }
-    ensures some { IfSome result (λ run. RunsAt plan.now shape.now address run) }
-    ensures plan { IsPlan plan.now }
-{
-    let it = plp_in_frame(plan, shape, plp);
-    match locate(it.slices, u64::from(shape.interval()), u64::from(address)) {
-        Some((slice, inner)) => Some(run_at(
-            it.row.cells,
-            it.row.interleave,
-            it.count,
-            before,
-            (slice * it.slices.len + inner) as u32,
-            (it.slices.len - inner) as u32,
-        )),
-        None => None,
-    }
-}
-
-// The same of all PLPs.
-fn find(plan: &Plan, shape: &Shape, address: u32) -> Option<Run>
-    requires plps { length shape.now.counts ≡ length plan.now.plps }
-    requires passes { Passes plan.now shape.now }
-    ensures none { IfNone result ((j b q : ℕ) → IsCell plan.now shape.now j b q → ¬ (address_of plan.now shape.now j b q ≡ address)) }
-    ensures some { IfSome result (λ run. RunsAt plan.now shape.now address run) }
-{
-    let mut before = 0;
-    for plp in 0..plan.config().plps.len() {
-        match run_of(plan, shape, plp, before, address) {
-            Some(run) => return Some(run),
-            None => {}
-        }
-        before += u32::from(shape.count(plp));
-    }
-    None
+    ghost invariant = { λ r. IsReading r.plan.now r.shape.now r.address r.run r.dummy };
 }
 
 // The run at an address: the one in hand, if cells of it are left.
 fn run_from(plan: &Plan, shape: &Shape, address: u32, run: Run) -> Option<Run>
-    requires { IsReading plan.now shape.now address run }
+    requires plps { length shape.now.counts ≡ length plan.now.plps }
+    requires passes { Passes plan.now shape.now }
+    requires next { 0 < run.left → RunsAt plan.now shape.now address run }
     ensures none { IfNone result ((j b q : ℕ) → IsCell plan.now shape.now j b q → ¬ (address_of plan.now shape.now j b q ≡ address)) }
     ensures end { IfNone result (run.left ≡ 0) }
     ensures some { IfSome result (λ next. RunsAt plan.now shape.now address next) }
@@ -135,15 +95,29 @@ impl<'a> Cells<'a> {
             shape,
             address: 0,
             run,
+            dummy: 0,
         }
     }
 
-    /// The cell at the next address, `None` where it is dummy.
-    pub fn next(&mut self) -> Option<Cell>
+    /// How many addresses are left.
+    pub fn left(&self) -> u32
+        ensures { result + self.now.address ≡ self.now.config.cells }
+    {
+        self.plan.config().cells - self.address
+    }
+
+    /// The cell at the next address, `None` where it is dummy. Not an iterator's `next`: the end
+    /// is where `left` answers 0.
+    pub fn next_cell(&mut self) -> Option<Cell>
         requires { self.old.address < self.old.config.cells }
         ensures cell { result ≡ get (cell_map self.old.config self.old.shape) self.old.address }
         ensures next { self.new ≡ next_address self.old }
     {
+        if self.dummy > 0 {
+            self.dummy -= 1;
+            self.address += 1;
+            return None;
+        }
         match run_from(self.plan, self.shape, self.address, self.run) {
             Some(run) => {
                 self.run = step(run);
@@ -152,6 +126,7 @@ impl<'a> Cells<'a> {
             }
             None => {
                 self.address += 1;
+                self.dummy = dummies(self.plan, self.shape, self.address);
                 None
             }
         }

@@ -68,3 +68,36 @@ pub fn locate(slices: Slices, interval: u64, address: u64) -> Option<(u64, u64)>
     }
     Some((slice, inner))
 }
+
+// How many addresses from one on, `limit` at most, are in none of the slices.
+pub fn free(slices: Slices, interval: u64, address: u64, limit: u64) -> u64
+    requires apart { (slices.count ≡ 1) ⊎ (slices.len ≤ interval) }
+    ensures most { result ≤ limit }
+    ensures none { (k t : ℕ) → k < slices.count → t < slices.len → address ≤ slices.start + k * interval + t → address + result ≤ slices.start + k * interval + t }
+{
+    if slices.len == 0 {
+        return limit;
+    }
+    if address < slices.start {
+        return limit.min(slices.start - address);
+    }
+    let rest = address - slices.start;
+    if slices.count == 1 {
+        if rest < slices.len {
+            return 0;
+        }
+        return limit;
+    }
+    let slice = rest / interval;
+    if slice >= slices.count {
+        return limit;
+    }
+    let inner = rest % interval;
+    if inner < slices.len {
+        return 0;
+    }
+    if slice + 1 == slices.count {
+        return limit;
+    }
+    limit.min(interval - inner)
+}

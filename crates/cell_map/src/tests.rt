@@ -353,7 +353,8 @@ fn expect_in_order(rt: &impl Abort, plan: &Plan, shape: &Shape, expected: &[Opti
     for address in 0..plan.config().cells {
         let cell = *expected.get(address as usize).unwrap_or(&None);
         assert_eq!(rt; at(plan, shape, address), cell);
-        assert_eq!(rt; cells.next(), cell);
+        assert_eq!(rt; cells.left(), plan.config().cells - address);
+        assert_eq!(rt; cells.next_cell(), cell);
     }
 }
 

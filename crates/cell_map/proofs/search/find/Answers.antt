@@ -3,7 +3,7 @@ use Rattle.plp_config.specs.Rules.{PlpCount}
 use Rattle.cell_map.specs.Address.{IsCell, address_of}
 use Rattle.cell_map.proofs.FrameLemmas.{counted, few_blocks}
 use Rattle.cell_map.proofs.MeetingLemmas.{more_below}
-use Rattle.cell_map.proofs.reading.find.Goals as goal
+use Rattle.cell_map.proofs.search.find.Goals as goal
 
 pub run_of-requires-clause-small : goal.run_of-requires-clause-small
 run_of-requires-clause-small c = omega (arith, c.loop-plp.invariant.small, rw c.config.ensures.value at c.len-plp-end.ensures, c.requires.plps, c.config.ensures.plan.rules PlpCount)

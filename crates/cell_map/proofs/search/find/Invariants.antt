@@ -1,6 +1,6 @@
 use Rattle.std.proofs.Common.{ℕ, ◌≡◌, ◌*◌, ◌<◌, ◌≤◌, take, sum}
 use Rattle.cell_map.specs.Address.{IsCell, address_of}
-use Rattle.cell_map.proofs.reading.find.Given as goal
+use Rattle.cell_map.proofs.search.find.Given as goal
 
 abbrev pub invariant-loop-plp : goal.invariant-loop-plp
 invariant-loop-plp l =

@@ -1,7 +1,7 @@
 use Rattle.std.proofs.Common.{refl, ◌∙◌, ◌+◌, ◌-◌, ◌*◌}
 use Rattle.cell_map.proofs.ShareLemmas.{alone_at, nowhere}
 use Rattle.cell_map.proofs.ReadingLemmas.{begins}
-use Rattle.cell_map.proofs.reading.run_of.Goals as goal
+use Rattle.cell_map.proofs.search.run_of.Goals as goal
 
 pub locate-requires-clause-apart : goal.locate-requires-clause-apart
 locate-requires-clause-apart c = alone_at c.args.plan.now c.args.shape.now c.args.plp c.plp_in_frame-it.result.slices c.from.result c.plp_in_frame-it.ensures.plan c.requires.passes c.requires.plp c.plp_in_frame-it.ensures.slices (c.from.ensures ∙ c.interval.ensures)

@@ -1,10 +1,7 @@
-use Rattle.std.proofs.Common.{sym}
-use Rattle.cell_map.proofs.ReadingLemmas.{read, reading_on}
+use Rattle.std.proofs.Common.{sym, arith, ◌<◌}
+use Rattle.cell_map.proofs.ReadingLemmas.{read, reading_on, dummy_here}
 use Rattle.cell_map.proofs.MapLemmas.{get-none}
-use Rattle.cell_map.proofs.reading.Cells.next.Goals as goal
-
-pub invariant_of-self : goal.invariant_of-self
-invariant_of-self c = reading_on c.self.inside.plan.now c.self.inside.shape.now c.self.inside.address c.self.inside.run c.in-Some.run' c.step-self-inside.result c.self.invariant c.in-Some.ensures.some c.step-self-inside.ensures
+use Rattle.cell_map.proofs.reading.Cells.next_cell.Goals as goal
 
 pub returns-in-Some-clause-cell : goal.returns-in-Some-clause-cell
 returns-in-Some-clause-cell c =
@@ -15,3 +12,13 @@ pub returns-in-None-clause-cell : goal.returns-in-None-clause-cell
 returns-in-None-clause-cell c =
     rw (← c.self.view_is)
     (sym (get-none c.self.inside.plan.now c.self.inside.shape.now c.self.inside.address c.in-None.ensures.none))
+
+pub returns-then-self-gt0-clause-cell : goal.returns-then-self-gt0-clause-cell
+returns-then-self-gt0-clause-cell c =
+    rw (← c.self.view_is)
+    (dummy_here c.self.inside.plan.now c.self.inside.shape.now c.self.inside.address c.self.inside.run c.self.inside.dummy c.self.invariant (omega arith))
+
+pub invariant_of-self-in-Some : goal.invariant_of-self-in-Some
+invariant_of-self-in-Some c =
+    let inside : c.self.inside.address < c.self.inside.plan.now.cells = rw (← c.self.view_is) at c.requires in
+    reading_on c.self.inside.plan.now c.self.inside.shape.now c.self.inside.address c.self.inside.run c.in-Some.run' c.step-self-inside.result c.self.inside.dummy c.self.invariant inside (omega arith) c.in-Some.ensures.some c.step-self-inside.ensures

@@ -1,0 +1,82 @@
+// What stands at an address, found from nothing but the shape.
+ghost use Rattle.std.specs.Prelude.{ℕ, ◌≡◌, ◌+◌, ◌*◌, ◌<◌, ◌≤◌, ◌^◌, IfNone, IfSome, length, sum, take};
+ghost use Rattle.plp_config.specs.Capacity.{IsPlan};
+ghost use Rattle.cell_map.specs.Address.{IsCell, address_of};
+ghost use Rattle.cell_map.specs.CellMap.{Passes};
+ghost use Rattle.cell_map.specs.Runs.{RunsAt, LeavesFree, AreDummy};
+
+use crate::rows::plp_in_frame;
+use crate::runs::{Run, run_at};
+use crate::slices::{free, locate};
+use plp_config::Plan;
+use scheduler::Shape;
+
+// The run of a PLP at an address.
+fn run_of(plan: &Plan, shape: &Shape, plp: usize, before: u32, address: u32) -> Option<Run>
+    requires plps { length shape.now.counts ≡ length plan.now.plps }
+    requires passes { Passes plan.now shape.now }
+    requires plp { plp < length plan.now.plps }
+    requires before { before ≡ sum (take plp shape.now.counts) }
+    requires small { before < 2 ^ 20 }
+    ensures none { IfNone result ((b q : ℕ) → IsCell plan.now shape.now plp b q → ¬ (address_of plan.now shape.now plp b q ≡ address)) }
+    ensures some { IfSome result (λ run. RunsAt plan.now shape.now address run) }
+    ensures plan { IsPlan plan.now }
+{
+    let it = plp_in_frame(plan, shape, plp);
+    match locate(it.slices, u64::from(shape.interval()), u64::from(address)) {
+        Some((slice, inner)) => Some(run_at(
+            it.row.cells,
+            it.row.interleave,
+            it.count,
+            before,
+            (slice * it.slices.len + inner) as u32,
+            (it.slices.len - inner) as u32,
+        )),
+        None => None,
+    }
+}
+
+// The same of all PLPs.
+pub fn find(plan: &Plan, shape: &Shape, address: u32) -> Option<Run>
+    requires plps { length shape.now.counts ≡ length plan.now.plps }
+    requires passes { Passes plan.now shape.now }
+    ensures none { IfNone result ((j b q : ℕ) → IsCell plan.now shape.now j b q → ¬ (address_of plan.now shape.now j b q ≡ address)) }
+    ensures some { IfSome result (λ run. RunsAt plan.now shape.now address run) }
+{
+    let mut before = 0;
+    for plp in 0..plan.config().plps.len() {
+        match run_of(plan, shape, plp, before, address) {
+            Some(run) => return Some(run),
+            None => {}
+        }
+        before += u32::from(shape.count(plp));
+    }
+    None
+}
+
+// How many addresses from one on, `limit` at most, have no cell of a PLP.
+fn free_of(plan: &Plan, shape: &Shape, plp: usize, address: u32, limit: u32) -> u32
+    requires plps { length shape.now.counts ≡ length plan.now.plps }
+    requires passes { Passes plan.now shape.now }
+    requires plp { plp < length plan.now.plps }
+    ensures most { result ≤ limit }
+    ensures free { LeavesFree plan.now shape.now plp address result }
+{
+    let it = plp_in_frame(plan, shape, plp);
+    let interval = u64::from(shape.interval());
+    free(it.slices, interval, u64::from(address), u64::from(limit)) as u32
+}
+
+// How many addresses from one on are dummy: up to the next cell, or to the end of the frame.
+pub fn dummies(plan: &Plan, shape: &Shape, address: u32) -> u32
+    requires plps { length shape.now.counts ≡ length plan.now.plps }
+    requires passes { Passes plan.now shape.now }
+    requires inside { address ≤ plan.now.cells }
+    ensures { AreDummy plan.now shape.now address result }
+{
+    let mut free = plan.config().cells - address;
+    for plp in 0..plan.config().plps.len() {
+        free = free_of(plan, shape, plp, address, free);
+    }
+    free
+}
