@@ -12,9 +12,10 @@ use Rattle.cell_map.specs.Address.{address_at, position_of}
 use Rattle.cell_map.specs.CellMap.{Passes, cell_map}
 use Rattle.cell_map.specs.Laws.{StandsAt}
 use Rattle.cell_map.specs.Slices.{slices_of}
-use Rattle.cell_map.specs.Runs.{RunsFrom, RunsAt, Steps, AreDummy, IsReading, place_in}
+use Rattle.cell_map.specs.Runs.{RunsFrom, RunsAt, Steps, IsMark, AreDummy, IsReading, place_in}
 use Rattle.cell_map.specs.declared.places.Cell.{Cell}
 use Rattle.cell_map.specs.declared.runs.Run.{Run}
+use Rattle.cell_map.specs.declared.search.Mark.{Mark}
 use Rattle.cell_map.specs.declared.slices.Slices.{Slices}
 use Rattle.cell_map.proofs.AtLemmas.{address_law}
 use Rattle.cell_map.proofs.MapLemmas.{get-found, get-none}
@@ -94,46 +95,49 @@ advance c shape address run next a s some =
           ap (λ (p : ℕ). address_at c shape a.plp p) e ∙ there;
     }
 
-pub reading_on : (c : Config) (shape : FrameShape) (address : ℕ) (before run next : Run) (dummy : ℕ) → IsReading c shape address before dummy → address < c.cells → dummy ≡ 0
-    → RunsAt c shape address run → Steps run next → IsReading c shape (address + 1) next dummy
-reading_on c shape address before run next dummy is inside none a s = record {
+pub reading_on : (c : Config) (shape : FrameShape) (address : ℕ) (before run next : Run) (old mark : Mark) (dummy : ℕ) → IsReading c shape address before old dummy → address < c.cells → dummy ≡ 0
+    → RunsAt c shape address run → IsMark c shape mark → Steps run next → IsReading c shape (address + 1) next mark dummy
+reading_on c shape address before run next old mark dummy is inside none a m s = record {
   plps = is.plps;
   passes = is.passes;
   few = is.few;
   inside = omega (arith, inside);
+  first = m;
   next = λ some. advance c shape address run next a s some;
   free = λ plp b q cell far. omega (arith, far, none);
   one = λ some. absurd (omega (arith, some, none));
 }
 
 -- where no cell stands, as many dummy addresses as were counted
-pub reading_none : (c : Config) (shape : FrameShape) (address : ℕ) (run : Run) (old dummy : ℕ) → IsReading c shape address run old → address < c.cells → run.left ≡ 0
-    → AreDummy c shape (address + 1) dummy → IsReading c shape (address + 1) run dummy
-reading_none c shape address run old dummy is inside end free = record {
+pub reading_none : (c : Config) (shape : FrameShape) (address : ℕ) (run : Run) (mark : Mark) (old dummy : ℕ) → IsReading c shape address run mark old → address < c.cells → run.left ≡ 0
+    → AreDummy c shape (address + 1) dummy → IsReading c shape (address + 1) run mark dummy
+reading_none c shape address run mark old dummy is inside end free = record {
   plps = is.plps;
   passes = is.passes;
   few = is.few;
   inside = omega (arith, inside);
+  first = is.first;
   next = λ some. absurd (omega (arith, some, end));
   free = free;
   one = λ some. end;
 }
 
 -- one of them less
-pub reading_less : (c : Config) (shape : FrameShape) (address : ℕ) (run : Run) (dummy : ℕ) → IsReading c shape address run dummy → address < c.cells → 0 < dummy
-    → IsReading c shape (address + 1) run (dummy - 1)
-reading_less c shape address run dummy is inside some = record {
+pub reading_less : (c : Config) (shape : FrameShape) (address : ℕ) (run : Run) (mark : Mark) (dummy : ℕ) → IsReading c shape address run mark dummy → address < c.cells → 0 < dummy
+    → IsReading c shape (address + 1) run mark (dummy - 1)
+reading_less c shape address run mark dummy is inside some = record {
   plps = is.plps;
   passes = is.passes;
   few = is.few;
   inside = omega (arith, inside);
+  first = is.first;
   next = λ left. absurd (omega (arith, left, is.one some));
   free = λ plp b q cell far. (let end = is.free plp b q cell (omega (arith, far)) in omega (arith, end, some));
   one = λ less. is.one some;
 }
 
-pub dummy_here : (c : Config) (shape : FrameShape) (address : ℕ) (run : Run) (dummy : ℕ) → IsReading c shape address run dummy → 0 < dummy → None ≡ get (cell_map c shape) address
-dummy_here c shape address run dummy is some =
+pub dummy_here : (c : Config) (shape : FrameShape) (address : ℕ) (run : Run) (mark : Mark) (dummy : ℕ) → IsReading c shape address run mark dummy → 0 < dummy → None ≡ get (cell_map c shape) address
+dummy_here c shape address run mark dummy is some =
     sym (get-none c shape address (λ plp b q cell here. (let end = is.free plp b q cell (omega (arith, here)) in let never : ⊥ = omega (arith, end, here, some) in never)))
 
 -- a run begins where a PLP has a place of a slice

@@ -8,6 +8,7 @@ use Rattle.cell_map.specs.Address.{IsCell, address_at, address_of}
 use Rattle.cell_map.specs.CellMap.{Passes}
 use Rattle.cell_map.specs.Interleaver.{position}
 use Rattle.cell_map.specs.declared.runs.Run.{Run}
+use Rattle.cell_map.specs.declared.search.Mark.{Mark}
 
 -- the place of a run in its group: rows of so many columns a block
 abbrev pub place_in : Run → ℕ
@@ -57,6 +58,12 @@ pub record Steps (run next : Run) : Type 0 where
   pub block : next.block < next.size
   pub column : next.column < next.columns
 
+-- a PLP, and the number of blocks before it
+pub record IsMark (c : Config) (shape : FrameShape) (mark : Mark) : Type 0 where
+  pub inside : mark.plp ≤ length c.plps
+  pub blocks : mark.before ≡ sum (take mark.plp shape.counts)
+  pub small : mark.before ≤ 1023 * mark.plp
+
 -- a PLP has no cell at so many addresses from one on
 abbrev pub LeavesFree : Config → FrameShape → ℕ → ℕ → ℕ → Type 0
 LeavesFree c shape plp address n = (block cell : ℕ) → IsCell c shape plp block cell
@@ -67,11 +74,12 @@ abbrev pub AreDummy : Config → FrameShape → ℕ → ℕ → Type 0
 AreDummy c shape address n = (plp : ℕ) → LeavesFree c shape plp address n
 
 -- what is known between two calls: cells in hand, or so many dummy addresses
-pub record IsReading (c : Config) (shape : FrameShape) (address : ℕ) (run : Run) (dummy : ℕ) : Type 0 where
+pub record IsReading (c : Config) (shape : FrameShape) (address : ℕ) (run : Run) (mark : Mark) (dummy : ℕ) : Type 0 where
   pub plps : length shape.counts ≡ length c.plps
   pub passes : Passes c shape
   pub few : c.cells < 2 ^ 32
   pub inside : address ≤ c.cells
+  pub first : IsMark c shape mark
   pub next : 0 < run.left → RunsAt c shape address run
   pub free : AreDummy c shape address dummy
   pub one : 0 < dummy → run.left ≡ 0

@@ -1,13 +1,13 @@
 // The cells of a frame in the order of their addresses.
-ghost use Rattle.std.specs.Prelude.{ℕ, ◌≡◌, ◌+◌, ◌*◌, ◌<◌, ◌≤◌, ◌^◌, IfNone, IfSome, length};
+ghost use Rattle.std.specs.Prelude.{ℕ, ◌≡◌, ◌+◌, ◌<◌, IfNone, IfSome, length};
 ghost use Rattle.std.specs.FinMap.{get};
 ghost use Rattle.cell_map.specs.Address.{IsCell, address_of};
 ghost use Rattle.cell_map.specs.CellMap.{Passes, cell_map};
-ghost use Rattle.cell_map.specs.Runs.{RunsAt};
+ghost use Rattle.cell_map.specs.Runs.{RunsAt, IsMark};
 
 use crate::places::Cell;
-use crate::runs::{Run, step};
-use crate::search::{dummies, find};
+use crate::runs::{Run, cell_of, step};
+use crate::search::{FIRST_PLP, Found, Mark, dummies, find};
 use plp_config::Plan;
 use scheduler::Shape;
 use std::marker::Model;
@@ -21,6 +21,8 @@ pub struct Cells<'a> {
     address: u32,
     // Cells in hand, from the address on.
     run: Run,
+    // The PLP of the last run: the search for the next one begins there.
+    mark: Mark,
     // Addresses from this one on that are known to be dummy.
     dummy: u32,
 }
@@ -37,37 +39,23 @@ impl<'a> Model for Cells<'a> {
       address = r.address;
     } };
 
-    ghost invariant = { λ r. IsReading r.plan.now r.shape.now r.address r.run r.dummy };
+    ghost invariant = { λ r. IsReading r.plan.now r.shape.now r.address r.run r.mark r.dummy };
 }
 
 // The run at an address: the one in hand, if cells of it are left.
-fn run_from(plan: &Plan, shape: &Shape, address: u32, run: Run) -> Option<Run>
+fn run_from(plan: &Plan, shape: &Shape, address: u32, run: Run, mark: Mark) -> Option<Found>
     requires plps { length shape.now.counts ≡ length plan.now.plps }
     requires passes { Passes plan.now shape.now }
+    requires mark { IsMark plan.now shape.now mark }
     requires next { 0 < run.left → RunsAt plan.now shape.now address run }
     ensures none { IfNone result ((j b q : ℕ) → IsCell plan.now shape.now j b q → ¬ (address_of plan.now shape.now j b q ≡ address)) }
     ensures end { IfNone result (run.left ≡ 0) }
-    ensures some { IfSome result (λ next. RunsAt plan.now shape.now address next) }
+    ensures some { IfSome result (λ found. RunsAt plan.now shape.now address found.run × IsMark plan.now shape.now found.mark) }
 {
     if run.left > 0 {
-        return Some(run);
+        return Some(Found { run, mark });
     }
-    find(plan, shape, address)
-}
-
-// The next cell of a run.
-fn cell_of(run: Run) -> Cell
-    requires few { (run.rows < 2 ^ 15) × (run.size < 2 ^ 10) × (run.columns ≤ 5) × (run.first < 2 ^ 21) }
-    requires row { run.row < run.rows }
-    requires block { run.block < run.size }
-    requires column { run.column < run.columns }
-    ensures ordinal { result.ordinal ≡ run.first + run.block }
-    ensures cell { result.cell ≡ run.column * run.rows + run.row }
-{
-    Cell {
-        ordinal: run.first + run.block,
-        cell: run.column * run.rows + run.row,
-    }
+    find(plan, shape, address, mark)
 }
 
 impl<'a> Cells<'a> {
@@ -95,6 +83,7 @@ impl<'a> Cells<'a> {
             shape,
             address: 0,
             run,
+            mark: FIRST_PLP,
             dummy: 0,
         }
     }
@@ -118,11 +107,12 @@ impl<'a> Cells<'a> {
             self.address += 1;
             return None;
         }
-        match run_from(self.plan, self.shape, self.address, self.run) {
-            Some(run) => {
-                self.run = step(run);
+        match run_from(self.plan, self.shape, self.address, self.run, self.mark) {
+            Some(found) => {
+                self.run = step(found.run);
+                self.mark = found.mark;
                 self.address += 1;
-                Some(cell_of(run))
+                Some(cell_of(found.run))
             }
             None => {
                 self.address += 1;

@@ -3,6 +3,7 @@ ghost use Rattle.std.specs.Prelude.{◌≡◌, ◌<◌, ◌≤◌, ◌*◌, ◌+
 ghost use Rattle.cell_map.specs.Runs.{RunsFrom, Steps};
 
 use crate::interleaving::group_of;
+use crate::places::Cell;
 
 // A run within a group of blocks. Each block is written in columns, and the group is read row by row.
 #[derive(Clone, Copy)]
@@ -120,5 +121,20 @@ pub fn step(run: Run) -> Run
         block: 0,
         row: run.row + 1,
         ..run
+    }
+}
+
+// The next cell of a run.
+pub fn cell_of(run: Run) -> Cell
+    requires few { (run.rows < 2 ^ 15) × (run.size < 2 ^ 10) × (run.columns ≤ 5) × (run.first < 2 ^ 21) }
+    requires row { run.row < run.rows }
+    requires block { run.block < run.size }
+    requires column { run.column < run.columns }
+    ensures ordinal { result.ordinal ≡ run.first + run.block }
+    ensures cell { result.cell ≡ run.column * run.rows + run.row }
+{
+    Cell {
+        ordinal: run.first + run.block,
+        cell: run.column * run.rows + run.row,
     }
 }

@@ -3,7 +3,7 @@ ghost use Rattle.std.specs.Prelude.{ℕ, ◌≡◌, ◌+◌, ◌*◌, ◌<◌, �
 ghost use Rattle.plp_config.specs.Capacity.{IsPlan};
 ghost use Rattle.cell_map.specs.Address.{IsCell, address_of};
 ghost use Rattle.cell_map.specs.CellMap.{Passes};
-ghost use Rattle.cell_map.specs.Runs.{RunsAt, LeavesFree, AreDummy};
+ghost use Rattle.cell_map.specs.Runs.{RunsAt, IsMark, LeavesFree, AreDummy};
 
 use crate::rows::plp_in_frame;
 use crate::runs::{Run, run_at};
@@ -36,22 +36,61 @@ fn run_of(plan: &Plan, shape: &Shape, plp: usize, before: u32, address: u32) -> 
     }
 }
 
-// The same of all PLPs.
-pub fn find(plan: &Plan, shape: &Shape, address: u32) -> Option<Run>
+// A PLP, and how many blocks those before it have: where a search begins.
+#[derive(Clone, Copy)]
+pub struct Mark {
+    pub plp: usize,
+    pub before: u32,
+}
+
+pub const FIRST_PLP: Mark = Mark { plp: 0, before: 0 };
+
+// A run, and its PLP.
+#[derive(Clone, Copy)]
+pub struct Found {
+    pub run: Run,
+    pub mark: Mark,
+}
+
+// The same of the PLPs from a mark on, up to another place.
+fn find_among(plan: &Plan, shape: &Shape, address: u32, first: Mark, end: usize) -> Option<Found>
     requires plps { length shape.now.counts ≡ length plan.now.plps }
     requires passes { Passes plan.now shape.now }
-    ensures none { IfNone result ((j b q : ℕ) → IsCell plan.now shape.now j b q → ¬ (address_of plan.now shape.now j b q ≡ address)) }
-    ensures some { IfSome result (λ run. RunsAt plan.now shape.now address run) }
+    requires first { IsMark plan.now shape.now first }
+    requires order { first.plp ≤ end }
+    requires end { end ≤ length plan.now.plps }
+    ensures none { IfNone result ((j b q : ℕ) → first.plp ≤ j → j < end → IsCell plan.now shape.now j b q → ¬ (address_of plan.now shape.now j b q ≡ address)) }
+    ensures some { IfSome result (λ found. RunsAt plan.now shape.now address found.run × IsMark plan.now shape.now found.mark) }
 {
-    let mut before = 0;
-    for plp in 0..plan.config().plps.len() {
+    let _config = plan.config();
+    let mut before = first.before;
+    for plp in first.plp..end {
         match run_of(plan, shape, plp, before, address) {
-            Some(run) => return Some(run),
+            Some(run) => {
+                return Some(Found {
+                    run,
+                    mark: Mark { plp, before },
+                });
+            }
             None => {}
         }
         before += u32::from(shape.count(plp));
     }
     None
+}
+
+// The same of all PLPs, those from a mark on first.
+pub fn find(plan: &Plan, shape: &Shape, address: u32, first: Mark) -> Option<Found>
+    requires plps { length shape.now.counts ≡ length plan.now.plps }
+    requires passes { Passes plan.now shape.now }
+    requires first { IsMark plan.now shape.now first }
+    ensures none { IfNone result ((j b q : ℕ) → IsCell plan.now shape.now j b q → ¬ (address_of plan.now shape.now j b q ≡ address)) }
+    ensures some { IfSome result (λ found. RunsAt plan.now shape.now address found.run × IsMark plan.now shape.now found.mark) }
+{
+    match find_among(plan, shape, address, first, plan.config().plps.len()) {
+        Some(found) => Some(found),
+        None => find_among(plan, shape, address, FIRST_PLP, first.plp),
+    }
 }
 
 // How many addresses from one on, `limit` at most, have no cell of a PLP.

@@ -1,5 +1,10 @@
-use Rattle.cell_map.proofs.MapLemmas.{get-is}
+use Rattle.std.proofs.Common.{sym}
+use Rattle.cell_map.proofs.ReadingLemmas.{read}
+use Rattle.cell_map.proofs.MapLemmas.{get-none}
 use Rattle.cell_map.proofs.places.at.Goals as goal
 
-pub returns : goal.returns
-returns c = get-is c.args.plan.now c.args.shape.now c.args.address c.found.result c.requires.passes c.found.ensures.none c.found.ensures.some
+pub returns-in-Some : goal.returns-in-Some
+returns-in-Some c = read c.args.plan.now c.args.shape.now c.args.address c.in-Some.found.run c.cell_of.result c.requires.passes c.in-Some.ensures.some.0 c.cell_of.ensures.ordinal c.cell_of.ensures.cell
+
+pub returns-in-None : goal.returns-in-None
+returns-in-None c = sym (get-none c.args.plan.now c.args.shape.now c.args.address c.in-None.ensures.none)
