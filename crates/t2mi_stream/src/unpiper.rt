@@ -132,8 +132,11 @@ impl Unpiper {
 
     /// Whether an accepted packet waits.
     pub fn is_ready(&self) -> bool
-        ensures { result ≡ is_ready self.now }
+        ensures is { result ≡ is_ready self.now }
+        ensures none { result ≡ false → (pid : ℕ) (events : List UnpiperEvent) → UnpiperStandsFor self.now pid events
+            → AllReleased pid events }
     {
+        grammar();
         self.candidate.ready
     }
 
