@@ -7,8 +7,9 @@ use Rattle.t2mi_stream.specs.Pipe.{Item, joined, part, unit, least_start, pipe, 
 use Rattle.t2mi_packet.specs.Spell.{spell}
 use Rattle.t2mi_stream.specs.Received.{Fate, received, place_of, AlteredWhole, fate_of}
 use Rattle.t2mi_stream.specs.Received.Fate.{Kept}
-use Rattle.t2mi_stream.specs.Events.{PiperEvent, tally}
+use Rattle.t2mi_stream.specs.Events.{PiperEvent, tally_with, tally, UnpiperEvent, fed, released}
 use Rattle.t2mi_stream.specs.Events.PiperEvent.{Begun, Piped}
+use Rattle.t2mi_stream.specs.Events.UnpiperEvent.{Fed, Released}
 
 -- What was accepted stays accepted, whatever bytes follow.
 abbrev pub AcceptedFront : Type 0
@@ -46,11 +47,28 @@ StartsFound = (run : List Byte) → StartsLaw run
 abbrev pub Disjoint : Type 0
 Disjoint = (run : List Byte) (a n b : ℕ) → IsStart run a → accepted_len (drop a run) ≡ Some n → IsStart run b → a < b → a + n ≤ b
 
--- What is fed packet by packet is the packets, joined.
+-- One event more changes what the others come to.
+abbrev pub TallyPush : Type 0
+TallyPush = (events : List PiperEvent) (e : PiperEvent) → tally (events ++ e ∷ []) ≡ tally_with (tally events) e
+
+-- One event more adds its bytes to those fed, or one to the packets given up.
+pub record FedPush (events : List UnpiperEvent) : Type 0 where
+  pub fed_more : (piece : List ℕ) → fed (events ++ Fed piece ∷ []) ≡ fed events ++ piece
+  pub released_same : (piece : List ℕ) → released (events ++ Fed piece ∷ []) ≡ released events
+  pub fed_same : fed (events ++ Released ∷ []) ≡ fed events
+  pub released_more : released (events ++ Released ∷ []) ≡ released events + 1
+
+-- The law for all events.
+abbrev pub EventsPush : Type 0
+EventsPush = (events : List UnpiperEvent) → FedPush events
+
+-- What is fed packet by packet is the packets, joined. It speaks of no units given between: by `TallyPush` they are counted, and
+-- change nothing of what was fed.
 abbrev pub WholePackets : Type 0
 WholePackets = (packets : List (List ℕ)) → (tally (flat_map (λ packet. Begun ∷ Piped packet ∷ []) packets)).fed ≡ joined packets
 
--- How the bytes of a packet are cut does not matter.
+-- How the bytes of a packet are cut in two does not matter, whatever came before. A unit given between the pieces may as well be
+-- given behind them, by `TallyPush`.
 abbrev pub AnyCutting : Type 0
 AnyCutting = (events : List PiperEvent) (a b : List ℕ) → tally (events ++ Piped a ∷ Piped b ∷ []) ≡ tally (events ++ Piped (a ++ b) ∷ [])
 

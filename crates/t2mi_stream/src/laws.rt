@@ -1,5 +1,5 @@
 // Laws of the definitions. Their functions do nothing.
-ghost use Rattle.t2mi_stream.specs.Laws.{AcceptedFront, StartsFound, WholePackets, AnyCutting, Disjoint, UnitReads, Survives};
+ghost use Rattle.t2mi_stream.specs.Laws.{AcceptedFront, StartsFound, TallyPush, EventsPush, WholePackets, AnyCutting, Disjoint, UnitReads, Survives};
 
 use crate::grammar::grammar;
 use ts_packet::{fields_told, payload_last, written_spells};
@@ -34,6 +34,16 @@ pub fn unit_reads()
     fields_told();
     payload_last();
 }
+
+/// What a piper's events come to, one event more.
+pub fn tally_push()
+    ensures { TallyPush }
+{}
+
+/// What an unpiper's events come to, one event more.
+pub fn events_push()
+    ensures { EventsPush }
+{}
 
 /// What is fed to a piper packet by packet is the packets, joined.
 pub fn whole_packets()
