@@ -33,7 +33,7 @@ pub values-items : (begun : Bool) (bytes : List ℕ) → values (items begun byt
 values-items begun [] = refl
 values-items begun (b ∷ bytes) = ap (λ (l : List ℕ). b ∷ l) (values-items false bytes)
 
--- the least_start start of more bytes
+-- the least start of more bytes
 unfoldable pub least_in : Option ℕ → ℕ → Option ℕ → Option ℕ
 least_in None n p = option_map (λ k. n + k) p
 least_in (Some f) n p = Some f
@@ -86,7 +86,7 @@ part_on xs ys h =
     ap (part_of (length (xs ++ ys))) (least_append xs ys)
     ∙ part_same (least_start xs) (least_start ys) (length xs) (length (xs ++ ys)) h (let n = length-append xs ys in omega arith) h
 
--- a unit takes a byte at least_start, and no more than there are
+-- a unit takes a byte at least, and no more than there are
 pub part_size : (xs : List Item) → 0 < length xs → (0 < (part xs).size) × ((part xs).size ≤ length xs) × ((part xs).size ≤ 184)
 part_size xs h = go (least_start xs) refl
   where

@@ -1,4 +1,5 @@
--- What the reader takes from its bytes, place by place. No public clause cites this module.
+-- What the reader takes from its bytes, place by place. `fields_in` (Told) rests on `fields_of` and `place_for`; no public clause
+-- cites `IsRead`.
 use Rattle.std.specs.Prelude.{◌≡◌, ℕ, ◌+◌, ◌==◌, List, Bool, drop, if◌then◌else◌}
 use Rattle.terms.specs.Bits.{bits_of, part, number_at}
 use Rattle.ts_packet.specs.TransportPacket.{Fields, HasSync, control_at, length_at, IsBadAdaptation}
