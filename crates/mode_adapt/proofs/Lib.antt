@@ -11,3 +11,4 @@ pub mod OfferLemmas
 pub mod SendLemmas
 pub mod EventLemmas
 pub mod PlainLemmas
+pub mod PastLemmas

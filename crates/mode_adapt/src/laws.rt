@@ -1,7 +1,8 @@
 // Laws of the definitions. Their functions do nothing.
-ghost use Rattle.mode_adapt.specs.Laws.{WithinLaw, BacklogLaw, SentLaw, SentWithin, BeginLaw, EndLaw, PlaceLaw, FirstLaw, JoinLaw, CountLaw};
+ghost use Rattle.mode_adapt.specs.Laws.{WithinLaw, BacklogLaw, SentLaw, SentWithin, BeginLaw, EndLaw, PlaceLaw, FirstLaw, JoinLaw, CountLaw, BlocksLaw};
 
-use plp_config::{block_law, length_law};
+use null_delete::decided_by_the_past;
+use plp_config::{block_law, length_law, slot_time_law};
 
 /// A frame carries what the stream brings in it, and at least one user packet.
 pub fn within_law()
@@ -55,3 +56,13 @@ pub fn join_law()
 pub fn count_law()
     ensures { CountLaw }
 {}
+
+/// The blocks of a frame follow from the packets of the slots that are over when it begins.
+pub fn blocks_law()
+    ensures { BlocksLaw }
+{
+    decided_by_the_past();
+    length_law();
+    block_law();
+    slot_time_law();
+}
