@@ -1,0 +1,200 @@
+-- Packets are built and fed, one by one.
+use Rattle.std.proofs.Common.{◌≡◌, ℕ, zero, suc, ◌+◌, ◌-◌, ◌%◌, ◌<◌, ◌≤◌, Bool, true, false, List, [], ◌∷◌, ◌++◌, length, map, take, drop, min, refl, ap, sym, subst, ◌∙◌, arith, append-nil, append_assoc, Some}
+use Rattle.std.specs.Prelude.{slice_get}
+use Rattle.std.proofs.lemmas.Grind.{flat_map-append}
+use Rattle.std.proofs.lemmas.List.{take-append-drop, drop-take, drop-drop, length_push}
+use Rattle.terms.specs.Bits.{bytes_of}
+use Rattle.plp_config.specs.declared.config.Config.{Config}
+use Rattle.t2mi_packet.specs.T2miPacket.{written_bits}
+use Rattle.t2mi_packet.specs.declared.packet.Body.{Body}
+use Rattle.t2mi_stream.specs.Events.{PiperEvent, PiperTally, Begun, Piped, Given, Finished, still_begun, tally_with, tally_from, tally}
+use Rattle.t2mi_stream.specs.Pipe.{Item, items, joined, units_of, pipe}
+use Rattle.t2mi_stream.specs.PiperStandsFor.{PiperStandsFor, is_finished}
+use Rattle.t2mi_stream.specs.declared.piper.Piper.{Piper}
+use Rattle.gateway_core.specs.Carried.{Carries, AllGone, of_frame, between}
+use Rattle.gateway_core.specs.Packets.{packet_with, packets_from}
+
+from_push : (t : PiperTally) (events : List PiperEvent) (e : PiperEvent) → tally_from t (events ++ e ∷ []) ≡ tally_with (tally_from t events) e
+from_push t [] e = refl
+from_push t (x ∷ events) e = from_push (tally_with t x) events e
+
+pub tally_push : (events : List PiperEvent) (e : PiperEvent) → tally (events ++ e ∷ []) ≡ tally_with (tally events) e
+unfolding tally
+tally_push events e = from_push _ events e
+
+none_begun : (bytes : List ℕ) → still_begun false bytes ≡ false
+none_begun [] = refl
+none_begun (b ∷ bytes) = refl
+
+items_split : (begun : Bool) (xs ys : List ℕ) → items begun (xs ++ ys) ≡ items begun xs ++ items (still_begun begun xs) ys
+items_split begun [] ys = refl
+items_split begun (x ∷ xs) ys =
+    ap (λ (l : List Item). record { value = x; first = begun } ∷ l)
+    (items_split false xs ys ∙ ap (λ (b : Bool). items false xs ++ items b ys) (none_begun xs))
+
+packets_push : (c : Config) (k : ℕ) (bodies : List (ℕ × Body)) (n : ℕ) (body : Body)
+    → packets_from c k (bodies ++ (n, body) ∷ []) ≡ packets_from c k bodies ++ bytes_of (written_bits (packet_with c (k + length bodies) n body)) ∷ []
+packets_push c k [] n body = ap (λ (m : ℕ). bytes_of (written_bits (packet_with c m n body)) ∷ []) (omega arith)
+packets_push c k (b ∷ bodies) n body =
+    ap (λ (l : List (List ℕ)). bytes_of (written_bits (packet_with c k b.0 b.1)) ∷ l)
+    (packets_push c (k + 1) bodies n body
+    ∙ ap (λ (m : ℕ). packets_from c (k + 1) bodies ++ bytes_of (written_bits (packet_with c m n body)) ∷ []) (omega arith))
+
+pub carries_new : (piper : Piper) (c : Config) (n pid : ℕ) → c.pid ≡ pid → PiperStandsFor piper pid [] → Carries piper [] 0 c n [] [] 0
+unfolding tally
+carries_new piper c n pid e stands = record {
+  events = [];
+  stands = subst (λ (p : ℕ). PiperStandsFor piper p []) (sym e) stands;
+  units = refl;
+  built = [];
+  number_is = refl;
+  fed = refl;
+  all_are = refl;
+}
+
+fed_on : (fed : List Item) (begun : Bool) (rest : List ℕ) (r : ℕ) → fed ++ items begun rest ≡ (fed ++ items begun (take r rest)) ++ items (still_begun begun (take r rest)) (drop r rest)
+fed_on fed begun rest r =
+    ap (λ (l : List ℕ). fed ++ items begun l) (sym (take-append-drop r rest))
+    ∙ ap (λ (l : List Item). fed ++ l) (items_split begun (take r rest) (drop r rest))
+    ∙ sym (append_assoc fed (items begun (take r rest)) (items (still_begun begun (take r rest)) (drop r rest)))
+
+between_on : (bytes : List ℕ) (at len r : ℕ) → at + r ≤ len → between bytes (at + r) len ≡ drop r (between bytes at len)
+between_on bytes at len r le =
+    let gap : len - at ≡ r + (len - (at + r)) = omega arith in
+    sym (ap (λ (k : ℕ). drop r (take k (drop at bytes))) gap ∙ drop-take r (len - (at + r)) (drop at bytes) ∙ ap (take (len - (at + r))) (drop-drop r at bytes))
+
+pub carries_feed : (old new : Piper) (bytes : List ℕ) (at len r number : ℕ) (c : Config) (n : ℕ) (left : List Body) (all : List (ℕ × Body)) (given : ℕ) → at + r ≤ len
+    → ((pid : ℕ) (events : List PiperEvent) → PiperStandsFor old pid events → PiperStandsFor new pid (events ++ Piped (take r (between bytes at len)) ∷ []))
+    → Carries old (between bytes at len) number c n left all given → Carries new (between bytes (at + r) len) number c n left all given
+carries_feed old new bytes at len r number c n left all given le stands h =
+    let piece = take r (between bytes at len) in
+    let t = tally_push h.events (Piped piece) in
+    record {
+      events = h.events ++ Piped piece ∷ [];
+      stands = stands c.pid h.events h.stands;
+      units = ap (λ (t : PiperTally). t.given) t ∙ h.units;
+      built = h.built;
+      number_is = h.number_is;
+      fed = h.fed ∙ fed_on (tally h.events).fed (tally h.events).begun (between bytes at len) r
+          ∙ ap (λ (l : List ℕ). ((tally h.events).fed ++ items (tally h.events).begun piece) ++ items (still_begun (tally h.events).begun piece) l) (sym (between_on bytes at len r le))
+          ∙ sym (ap (λ (t : PiperTally). t.fed ++ items t.begun (between bytes (at + r) len)) t);
+      all_are = h.all_are;
+    }
+
+same_packet : (c : Config) (number k n : ℕ) (body : Body) → number ≡ k % 256 → packet_with c number n body ≡ packet_with c k n body
+same_packet c number k n body e = let m : number % 256 ≡ k % 256 = omega arith in rw m refl
+
+pub carries_build : (old new : Piper) (rest bytes : List ℕ) (bits : List Bool) (number : ℕ) (c : Config) (n : ℕ) (body : Body) (left : List Body) (all : List (ℕ × Body)) (given : ℕ) → rest ≡ []
+    → ((pid : ℕ) (events : List PiperEvent) → PiperStandsFor old pid events → PiperStandsFor new pid (events ++ Begun ∷ []))
+    → bits ≡ written_bits (packet_with c number n body) → bytes ≡ bytes_of bits
+    → Carries old rest number c n (body ∷ left) all given → Carries new bytes ((number + 1) % 256) c n left all given
+carries_build old new rest bytes bits number c n body left all given none stands is bytes_are h =
+    let t = tally_push h.events Begun in
+    let whole : joined (packets_from c 0 h.built) ≡ (tally h.events).fed =
+        h.fed ∙ ap (λ (l : List ℕ). (tally h.events).fed ++ items (tally h.events).begun l) none ∙ append-nil (tally h.events).fed in
+    let same : bytes_of (written_bits (packet_with c (0 + length h.built) n body)) ≡ bytes =
+        let z : 0 + length h.built ≡ length h.built = omega arith in
+        ap (λ (m : ℕ). bytes_of (written_bits (packet_with c m n body))) z
+        ∙ sym (bytes_are ∙ ap bytes_of is ∙ ap (λ p. bytes_of (written_bits p)) (same_packet c number (length h.built) n body h.number_is)) in
+    let more : joined (packets_from c 0 (h.built ++ (n, body) ∷ [])) ≡ (tally h.events).fed ++ items true bytes =
+        ap joined (packets_push c 0 h.built n body) ∙ flat_map-append (items true) (packets_from c 0 h.built) _
+        ∙ ap (λ (l : List Item). joined (packets_from c 0 h.built) ++ l) (append-nil (items true (bytes_of (written_bits (packet_with c (0 + length h.built) n body)))) ∙ ap (items true) same)
+        ∙ ap (λ (l : List Item). l ++ items true bytes) whole in
+    record {
+      events = h.events ++ Begun ∷ [];
+      stands = stands c.pid h.events h.stands;
+      units = ap (λ (t : PiperTally). t.given) t ∙ h.units;
+      built = h.built ++ (n, body) ∷ [];
+      number_is = let l = length_push h.built (n, body) in let e = h.number_is in omega (arith, e, l);
+      fed = more ∙ sym (ap (λ (t : PiperTally). t.fed ++ items t.begun bytes) t);
+      all_are = h.all_are ∙ sym (append_assoc h.built ((n, body) ∷ []) (of_frame n left));
+    }
+
+packets_append : (c : Config) (k : ℕ) (xs ys : List (ℕ × Body)) → packets_from c k (xs ++ ys) ≡ packets_from c k xs ++ packets_from c (k + length xs) ys
+packets_append c k [] ys = ap (λ (m : ℕ). packets_from c m ys) (omega arith)
+packets_append c k (x ∷ xs) ys =
+    ap (λ (l : List (List ℕ)). bytes_of (written_bits (packet_with c k x.0 x.1)) ∷ l)
+    (packets_append c (k + 1) xs ys ∙ ap (λ (m : ℕ). packets_from c (k + 1) xs ++ packets_from c m ys) (omega arith))
+
+-- the bytes that are not yet fed
+abbrev behind : Bool → List ℕ → Config → ℕ → ℕ → List Body → List (List ℕ) → List Item
+behind begun rest c k n left more = items begun rest ++ (joined (packets_from c k (of_frame n left)) ++ joined more)
+
+all_items : (piper : Piper) (rest : List ℕ) (number : ℕ) (c : Config) (n : ℕ) (left : List Body) (all : List (ℕ × Body)) (given : ℕ) (h : Carries piper rest number c n left all given) (more : List (List ℕ))
+    → joined (packets_from c 0 all ++ more) ≡ (tally h.events).fed ++ behind (tally h.events).begun rest c (0 + length h.built) n left more
+all_items piper rest number c n left all given h more =
+    let first = packets_from c 0 h.built in
+    let second = packets_from c (0 + length h.built) (of_frame n left) in
+    let parts : packets_from c 0 all ≡ first ++ second = ap (packets_from c 0) h.all_are ∙ packets_append c 0 h.built (of_frame n left) in
+    flat_map-append (items true) (packets_from c 0 all) more
+    ∙ ap (λ (l : List (List ℕ)). joined l ++ joined more) parts
+    ∙ ap (λ (l : List Item). l ++ joined more) (flat_map-append (items true) first second)
+    ∙ ap (λ (l : List Item). (l ++ joined second) ++ joined more) h.fed
+    ∙ append_assoc ((tally h.events).fed ++ items (tally h.events).begun rest) (joined second) (joined more)
+    ∙ append_assoc (tally h.events).fed (items (tally h.events).begun rest) (joined second ++ joined more)
+
+gone_none : (begun : Bool) (rest : List ℕ) (c : Config) (k n : ℕ) (left : List Body) (more : List (List ℕ)) → AllGone rest left more → behind begun rest c k n left more ≡ []
+gone_none begun rest c k n left more g = rw (g.rest_is, g.left_is, g.more_is) refl
+
+pub carries_unit : (old : Piper) (out rest : List ℕ) (number : ℕ) (c : Config) (n : ℕ) (left : List Body) (all : List (ℕ × Body)) (given : ℕ)
+    → ((pid : ℕ) (events : List PiperEvent) → PiperStandsFor old pid events → (items : List Item) → (is_finished old ≡ true → items ≡ []) → slice_get (units_of pid ((tally events).fed ++ items)) (tally events).given ≡ Some out)
+    → Carries old rest number c n left all given → (more : List (List ℕ)) → (is_finished old ≡ true → AllGone rest left more) → slice_get (pipe c.pid (packets_from c 0 all ++ more)) given ≡ Some out
+carries_unit old out rest number c n left all given unit h more gone =
+    let k = 0 + length h.built in
+    let found = unit c.pid h.events h.stands (behind (tally h.events).begun rest c k n left more) (λ e. gone_none (tally h.events).begun rest c k n left more (gone e)) in
+    ap (λ (l : List Item). slice_get (units_of c.pid l) given) (all_items old rest number c n left all given h more)
+    ∙ ap (λ (g : ℕ). slice_get (units_of c.pid ((tally h.events).fed ++ behind (tally h.events).begun rest c k n left more)) g) (sym h.units) ∙ found
+
+pub carries_none : (old : Piper) (rest : List ℕ) (number : ℕ) (c : Config) (n : ℕ) (left : List Body) (all : List (ℕ × Body)) (given : ℕ)
+    → ((pid : ℕ) (events : List PiperEvent) → PiperStandsFor old pid events → length (units_of pid (tally events).fed) ≡ (tally events).given)
+    → Carries old rest number c n left all given → AllGone rest left [] → length (pipe c.pid (packets_from c 0 all)) ≡ given
+carries_none old rest number c n left all given none h gone =
+    let k = 0 + length h.built in
+    let nothing : packets_from c 0 all ++ [] ≡ packets_from c 0 all = append-nil (packets_from c 0 all) in
+    let whole : joined (packets_from c 0 all) ≡ (tally h.events).fed =
+        ap joined (sym nothing) ∙ all_items old rest number c n left all given h []
+        ∙ ap (λ (l : List Item). (tally h.events).fed ++ l) (gone_none (tally h.events).begun rest c k n left [] gone) ∙ append-nil (tally h.events).fed in
+    ap (λ (l : List Item). length (units_of c.pid l)) whole ∙ none c.pid h.events h.stands ∙ h.units
+
+pub carries_given : (old new : Piper) (rest : List ℕ) (number : ℕ) (c : Config) (n : ℕ) (left : List Body) (all : List (ℕ × Body)) (given : ℕ)
+    → ((pid : ℕ) (events : List PiperEvent) → PiperStandsFor old pid events → PiperStandsFor new pid (events ++ Given ∷ []))
+    → Carries old rest number c n left all given → Carries new rest number c n left all (given + 1)
+carries_given old new rest number c n left all given stands h =
+    let t = tally_push h.events Given in
+    record {
+      events = h.events ++ Given ∷ [];
+      stands = stands c.pid h.events h.stands;
+      units = ap (λ (t : PiperTally). t.given) t ∙ ap (λ (g : ℕ). g + 1) h.units;
+      built = h.built;
+      number_is = h.number_is;
+      fed = h.fed ∙ sym (ap (λ (t : PiperTally). t.fed ++ items t.begun rest) t);
+      all_are = h.all_are;
+    }
+
+pub carries_finish : (old new : Piper) (rest : List ℕ) (number : ℕ) (c : Config) (n : ℕ) (left : List Body) (all : List (ℕ × Body)) (given : ℕ)
+    → ((pid : ℕ) (events : List PiperEvent) → PiperStandsFor old pid events → PiperStandsFor new pid (events ++ Finished ∷ []))
+    → Carries old rest number c n left all given → Carries new rest number c n left all given
+carries_finish old new rest number c n left all given stands h =
+    let t = tally_push h.events Finished in
+    record {
+      events = h.events ++ Finished ∷ [];
+      stands = stands c.pid h.events h.stands;
+      units = ap (λ (t : PiperTally). t.given) t ∙ h.units;
+      built = h.built;
+      number_is = h.number_is;
+      fed = h.fed ∙ sym (ap (λ (t : PiperTally). t.fed ++ items t.begun rest) t);
+      all_are = h.all_are;
+    }
+
+-- one frame more
+pub carries_more : (piper : Piper) (rest : List ℕ) (number : ℕ) (c : Config) (n m : ℕ) (left next : List Body) (all : List (ℕ × Body)) (given : ℕ) → left ≡ []
+    → Carries piper rest number c n left all given → Carries piper rest number c m next (all ++ of_frame m next) given
+carries_more piper rest number c n m left next all given none h = record {
+  events = h.events;
+  stands = h.stands;
+  units = h.units;
+  built = h.built;
+  number_is = h.number_is;
+  fed = h.fed;
+  all_are = ap (λ (l : List (ℕ × Body)). l ++ of_frame m next) (h.all_are ∙ ap (λ (l : List Body). h.built ++ of_frame n l) none ∙ append-nil h.built);
+}

@@ -1,0 +1,262 @@
+-- A gateway after one event more.
+use Rattle.std.proofs.Common.{◌≡◌, ◌≢◌, ℕ, zero, suc, ◌+◌, ◌-◌, ◌*◌, ◌%◌, ◌<◌, ◌≤◌, Bool, true, false, cond, List, [], ◌∷◌, ◌++◌, Some, None, is_some, length, map, refl, ap, sym, subst, ◌∙◌, ◌⊎◌, inl, inr, arith, append-nil, append_assoc}
+use Rattle.std.specs.Prelude.{slice_get, slice_index_or, slice_index, ◌==◌, ◌||◌}
+use Rattle.std.specs.List.{flat_map, range_with_len}
+use Rattle.std.proofs.lemmas.Bool.{cases_eq, ne_eqb}
+use Rattle.std.proofs.lemmas.Grind.{flat_map-append}
+use Rattle.std.proofs.lemmas.List.{length-map, get_or-map, ext_get_or}
+use Rattle.std.proofs.lemmas.List.FromFn.{length-map-range_with_len, get_or-map-range_with_len}
+use Rattle.std.proofs.lemmas.List.Folds.{list_any-append}
+use Rattle.std.proofs.lemmas.List.Sums.{sum_by-append}
+use Rattle.terms.specs.Bits.{bits_of}
+use Rattle.plp_config.specs.Plps.{plp_at}
+use Rattle.plp_config.specs.declared.config.Config.{Config}
+use Rattle.t2mi_packet.specs.declared.packet.Body.{Body}
+use Rattle.gateway_core.specs.BlocksLeft.{bits_at, blocks_left}
+use Rattle.gateway_core.specs.Carried.{Carries, of_frame, between}
+use Rattle.gateway_core.specs.Events.{Event, Offered, Ended, Begun, Gave, Finished, offered, has_ended, begins, begun, gives, given, finishes, finished, packets_to, ends}
+use Rattle.gateway_core.specs.FirstStep.{first_step}
+use Rattle.gateway_core.specs.Flowing.{Flows, Streams}
+use Rattle.gateway_core.specs.InputsStandFor.{AllFed, AllContinue, AreBlocks}
+use Rattle.gateway_core.specs.IsFed.{IsFed, wanted}
+use Rattle.gateway_core.specs.Left.{from_step}
+use Rattle.t2mi_stream.specs.Pipe.{pipe}
+use Rattle.gateway_core.specs.Packets.{packets_from, front_packets, stamp_of, l1_body, block_bodies, plp_bodies, with_stamp, counts_of, frame_bodies, frame_blocks, bodies_before}
+use Rattle.gateway_core.specs.Signalling.{pre_part, conf_part, dyn_part}
+use Rattle.gateway_core.specs.StandsFor.{Holds}
+use Rattle.gateway_core.specs.Told.{Told, told, with_packet, at_end, in_next, Continues}
+use Rattle.gateway_core.specs.declared.flow.Flow.{Flow}
+use Rattle.gateway_core.specs.declared.input.Input.{Input}
+use Rattle.gateway_core.specs.declared.signalling.Signalling.{Signalling}
+use Rattle.gateway_core.specs.declared.step.Step.{Step}
+use Rattle.gateway_core.specs.declared.step.Step.TheVariants.{Stamp, Signal}
+use Rattle.gateway_core.proofs.CarriedLemmas.{carries_more}
+use Rattle.gateway_core.proofs.FedLemmas.{wants}
+use Rattle.gateway_core.proofs.InputsLemmas.{nothing_told, told_offered, told_ended, told_begun}
+use Rattle.gateway_core.proofs.LeftLemmas.{from_plp}
+
+-- what continues with an event continues without it
+cont_packet : (t : Told) (packet : List ℕ) (input : List (List ℕ)) → t.ended ≡ false → Continues (with_packet t packet) input → Continues t input
+cont_packet t packet input off h = record {
+  rest = packet ∷ h.rest;
+  front = h.front ∙ append_assoc t.packets (packet ∷ []) h.rest;
+  whole = λ on. absurd (let z : true ≡ false = sym on ∙ off in cc);
+}
+
+cont_end : (t : Told) (input : List (List ℕ)) → Continues (at_end t) input → Continues t input
+cont_end t input h = record { rest = h.rest; front = h.front; whole = λ on. h.whole refl }
+
+cont_next : (t : Told) (input : List (List ℕ)) → Continues (in_next t) input → Continues t input
+cont_next t input h = record { rest = h.rest; front = h.front; whole = h.whole }
+
+other_offered : (j plp : ℕ) (events : List Event) (packet : List ℕ) → j ≢ plp → told j (events ++ Offered plp packet ∷ []) ≡ told j events
+other_offered j plp events packet differ =
+    let no : (plp == j) ≡ false = ne_eqb plp j (λ e. differ (sym e)) in
+    nothing_told j events (Offered plp packet) (rw no refl) refl refl
+
+other_ended : (j plp : ℕ) (events : List Event) → j ≢ plp → told j (events ++ Ended plp ∷ []) ≡ told j events
+other_ended j plp events differ =
+    let no : (plp == j) ≡ false = ne_eqb plp j (λ e. differ (sym e)) in
+    nothing_told j events (Ended plp) refl no refl
+
+back_offered : (c : Config) (events : List Event) (plp : ℕ) (packet : List ℕ) (all : ℕ → List (List ℕ)) → has_ended plp events ≡ false
+    → AllContinue c (events ++ Offered plp packet ∷ []) all → AllContinue c events all
+back_offered c events plp packet all off h = λ j lt.
+    elim (cases_eq j plp) [
+      | inl same ↦ subst (λ (k : ℕ). Continues (told k (events ++ Offered plp packet ∷ [])) (all k) → Continues (told k events) (all k)) (sym same)
+          (λ w. cont_packet (told plp events) packet (all plp) off (subst (λ (t : Told). Continues t (all plp)) (told_offered plp events packet) w)) (h j lt)
+      | inr differ ↦ subst (λ (t : Told). Continues t (all j)) (other_offered j plp events packet differ) (h j lt)
+    ]
+
+back_ended : (c : Config) (events : List Event) (plp : ℕ) (all : ℕ → List (List ℕ)) → AllContinue c (events ++ Ended plp ∷ []) all → AllContinue c events all
+back_ended c events plp all h = λ j lt.
+    elim (cases_eq j plp) [
+      | inl same ↦ subst (λ (k : ℕ). Continues (told k (events ++ Ended plp ∷ [])) (all k) → Continues (told k events) (all k)) (sym same)
+          (λ w. cont_end (told plp events) (all plp) (subst (λ (t : Told). Continues t (all plp)) (told_ended plp events) w)) (h j lt)
+      | inr differ ↦ subst (λ (t : Told). Continues t (all j)) (other_ended j plp events differ) (h j lt)
+    ]
+
+back_begun : (c : Config) (events : List Event) (all : ℕ → List (List ℕ)) → AllContinue c (events ++ Begun ∷ []) all → AllContinue c events all
+back_begun c events all h = λ j lt. cont_next (told j events) (all j) (subst (λ (t : Told). Continues t (all j)) (told_begun j events) (h j lt))
+
+-- what is counted of one event more
+begun_with : (events : List Event) (e : Event) → begun (events ++ e ∷ []) ≡ begun events + cond (begins e) 1 0
+begun_with events e = let s = sum_by-append (λ (e : Event). cond (begins e) 1 0) events (e ∷ []) in omega (arith, s)
+
+given_with : (events : List Event) (e : Event) → given (events ++ e ∷ []) ≡ given events + cond (gives e) 1 0
+given_with events e = let s = sum_by-append (λ (e : Event). cond (gives e) 1 0) events (e ∷ []) in omega (arith, s)
+
+or_none : (b : Bool) → (b || false) ≡ b
+or_none true = refl
+or_none false = refl
+
+or_one : (b : Bool) → (b || true) ≡ true
+or_one true = refl
+or_one false = refl
+
+finished_same : (events : List Event) (e : Event) → finishes e ≡ false → finished (events ++ e ∷ []) ≡ finished events
+finished_same events e off = list_any-append finishes events (e ∷ []) ∙ rw off (or_none (finished events))
+
+pub finished_now : (events : List Event) → finished (events ++ Finished ∷ []) ≡ true
+finished_now events = list_any-append finishes events (Finished ∷ []) ∙ or_one (finished events)
+
+count_same : (n : ℕ) (b : Bool) (m : ℕ) → m ≡ n + cond b 1 0 → b ≡ false → m ≡ n
+count_same n true m e off = absurd (let z : true ≡ false = off in cc)
+count_same n false m e off = omega (arith, e)
+
+pub holds_with : (old new : List Input) (s : Signalling) (frames : ℕ) (flow : Flow) (n : ℕ) (left : List Body) (c : Config) (events : List Event) (e : Event)
+    → begins e ≡ false → gives e ≡ false → finishes e ≡ false → AllFed new c (events ++ e ∷ []) → ((all : ℕ → List (List ℕ)) → AllContinue c (events ++ e ∷ []) all → AllContinue c events all)
+    → Holds old s frames flow n left c events → Holds new s frames flow n left c (events ++ e ∷ [])
+holds_with old new s frames flow n left c events e b g f fed back h = record {
+  fed = fed;
+  pre = h.pre;
+  conf = h.conf;
+  frames_are = h.frames_are ∙ sym (count_same (begun events) (begins e) (begun (events ++ e ∷ [])) (begun_with events e) b);
+  last = h.last ∙ sym (finished_same events e f);
+  flows = λ all more.
+      subst (λ (k : ℕ). Flows flow c n left (bodies_before c all frames) k) (sym (count_same (given events) (gives e) (given (events ++ e ∷ [])) (given_with events e) g)) (h.flows all (back all more));
+}
+
+-- an input that wants packets has not ended
+open_input : (inputs : List Input) (plp : ℕ) (c : Config) (events : List Event) → plp < length inputs → 0 < slice_index (map wanted inputs) plp → AllFed inputs c events → has_ended plp events ≡ false
+open_input [] plp c events lt some h = absurd (omega arith)
+open_input (x ∷ xs) plp c events lt some h =
+    let at : slice_index (map wanted (x ∷ xs)) plp ≡ wanted (slice_index_or (x ∷ xs) plp x) = get_or-map wanted (x ∷ xs) plp x 0 lt in
+    let here : 0 < wanted (slice_index_or (x ∷ xs) plp x) = omega (arith, some, at) in
+    let w = wants _ (has_ended plp events) (length (offered plp events)) _ here (h plp x lt).total_is in w.still
+
+pub holds_offer : (old new : List Input) (s : Signalling) (frames : ℕ) (flow : Flow) (n : ℕ) (left : List Body) (c : Config) (events : List Event) (plp : ℕ) (packet : List ℕ)
+    → plp < length old → 0 < slice_index (map wanted old) plp → AllFed new c (events ++ Offered plp packet ∷ [])
+    → Holds old s frames flow n left c events → Holds new s frames flow n left c (events ++ Offered plp packet ∷ [])
+holds_offer old new s frames flow n left c events plp packet lt some fed h =
+    holds_with old new s frames flow n left c events (Offered plp packet) refl refl refl fed
+    (λ all more. back_offered c events plp packet all (open_input old plp c events lt some h.fed) more) h
+
+pub holds_end : (old new : List Input) (s : Signalling) (frames : ℕ) (flow : Flow) (n : ℕ) (left : List Body) (c : Config) (events : List Event) (plp : ℕ)
+    → AllFed new c (events ++ Ended plp ∷ []) → Holds old s frames flow n left c events → Holds new s frames flow n left c (events ++ Ended plp ∷ [])
+holds_end old new s frames flow n left c events plp fed h =
+    holds_with old new s frames flow n left c events (Ended plp) refl refl refl fed (λ all more. back_ended c events plp all more) h
+
+fed_same : (inputs : List Input) (c : Config) (events : List Event) (e : Event) → ((j : ℕ) → told j (events ++ e ∷ []) ≡ told j events) → AllFed inputs c events → AllFed inputs c (events ++ e ∷ [])
+fed_same inputs c events e same h = λ j d lt. subst (λ (t : Told). IsFed (slice_index_or inputs j d) c j t) (sym (same j)) (h j d lt)
+
+back_same : (c : Config) (events : List Event) (e : Event) (all : ℕ → List (List ℕ)) → ((j : ℕ) → told j (events ++ e ∷ []) ≡ told j events) → AllContinue c (events ++ e ∷ []) all → AllContinue c events all
+back_same c events e all same h = λ j lt. subst (λ (t : Told). Continues t (all j)) (same j) (h j lt)
+
+pub holds_gave : (inputs : List Input) (s : Signalling) (frames : ℕ) (old new : Flow) (n m : ℕ) (left next : List Body) (c : Config) (events : List Event) → new.finished ≡ old.finished
+    → ((all : List (ℕ × Body)) (given : ℕ) → Flows old c n left all given → Flows new c m next all (given + 1))
+    → Holds inputs s frames old n left c events → Holds inputs s frames new m next c (events ++ Gave ∷ [])
+holds_gave inputs s frames old new n m left next c events fin step h =
+    let same : (j : ℕ) → told j (events ++ Gave ∷ []) ≡ told j events = λ j. nothing_told j events Gave refl refl refl in
+    record {
+      fed = fed_same inputs c events Gave same h.fed;
+      pre = h.pre;
+      conf = h.conf;
+      frames_are = h.frames_are ∙ sym (count_same (begun events) false (begun (events ++ Gave ∷ [])) (begun_with events Gave) refl);
+      last = fin ∙ h.last ∙ sym (finished_same events Gave refl);
+      flows = λ all more. subst (λ (k : ℕ). Flows new c m next (bodies_before c all frames) k) (sym (given_with events Gave))
+          (step (bodies_before c all frames) (given events) (h.flows all (back_same c events Gave all same more)));
+    }
+
+pub holds_finish : (inputs : List Input) (s : Signalling) (frames : ℕ) (old new : Flow) (n : ℕ) (left : List Body) (c : Config) (events : List Event) → new.finished ≡ true
+    → ((all : List (ℕ × Body)) (given : ℕ) → Flows old c n left all given → Flows new c n left all given)
+    → Holds inputs s frames old n left c events → Holds inputs s frames new n left c (events ++ Finished ∷ [])
+holds_finish inputs s frames old new n left c events fin step h =
+    let same : (j : ℕ) → told j (events ++ Finished ∷ []) ≡ told j events = λ j. nothing_told j events Finished refl refl refl in
+    record {
+      fed = fed_same inputs c events Finished same h.fed;
+      pre = h.pre;
+      conf = h.conf;
+      frames_are = h.frames_are ∙ sym (count_same (begun events) false (begun (events ++ Finished ∷ [])) (begun_with events Finished) refl);
+      last = fin ∙ sym (finished_now events);
+      flows = λ all more. subst (λ (k : ℕ). Flows new c n left (bodies_before c all frames) k) (sym (count_same (given events) false (given (events ++ Finished ∷ [])) (given_with events Finished) refl))
+          (step (bodies_before c all frames) (given events) (h.flows all (back_same c events Finished all same more)));
+    }
+
+-- the packets of a new frame
+step_is : (c : Config) (n : ℕ) (signal : Body) (rest : List Body) (b : Bool) → from_step c n (cond b Stamp Signal) signal rest ≡ cond b (from_step c n Stamp signal rest) (signal ∷ rest)
+step_is c n signal rest true = refl
+step_is c n signal rest false = refl
+
+flat_same : (f g : ℕ → List Body) (a k : ℕ) → ((j : ℕ) → a ≤ j → j < a + k → f j ≡ g j) → flat_map f (range_with_len a k) ≡ flat_map g (range_with_len a k)
+flat_same f g a zero h = refl
+flat_same f g a (suc k) h = rw (h a (omega arith) (omega arith), flat_same f g (a + 1) k (λ j le lt. h j (omega arith) (omega arith))) refl
+
+counts_same : (c : Config) (blocks : List (List (List ℕ))) (f : ℕ → List (List Bool)) → length blocks ≡ length c.plps → ((j : ℕ) → j < length c.plps → bits_at blocks j ≡ f j) → map length blocks ≡ counts_of c f
+counts_same c blocks f len h =
+    let counts : length (counts_of c f) ≡ length c.plps = length-map-range_with_len (λ plp. length (f plp)) 0 (length c.plps) in
+    ext_get_or 0 (map length blocks) (counts_of c f) (length-map blocks length ∙ len ∙ sym counts) (λ i lt.
+    let inside : i < length blocks = rw (length-map blocks length) at lt in
+    let configured : i < length c.plps = omega arith in
+    get_or-map length blocks i [] 0 inside ∙ sym (length-map (slice_index_or blocks i []) bits_of) ∙ ap length (h i configured)
+    ∙ sym (get_or-map-range_with_len (λ plp. length (f plp)) 0 (length c.plps) i i 0 configured (omega arith)))
+
+pub new_bodies : (c : Config) (s : Signalling) (n : ℕ) (dynamic : List Bool) (blocks : List (List (List ℕ))) (f : ℕ → List (List Bool)) → s.pre ≡ pre_part c → s.conf ≡ conf_part c
+    → dynamic ≡ dyn_part c n (map length blocks) → length blocks ≡ length c.plps → ((j : ℕ) → j < length c.plps → bits_at blocks j ≡ f j)
+    → from_step c n (first_step c n) (l1_body c n s.pre s.conf dynamic) (blocks_left c n blocks 0 0) ≡ frame_bodies c n f
+new_bodies c s n dynamic blocks f p q d len h =
+    let counts : dynamic ≡ dyn_part c n (counts_of c f) = d ∙ ap (dyn_part c n) (counts_same c blocks f len h) in
+    let rest : blocks_left c n blocks 0 0 ≡ plp_bodies c n f 0 =
+        from_plp c n blocks 0 (omega arith) ∙ flat_same _ _ 0 (length c.plps - 0) (λ j le lt. ap (block_bodies (n % c.frames) (plp_at c.plps j).id true) (h j (omega arith))) in
+    step_is c n (l1_body c n s.pre s.conf dynamic) (blocks_left c n blocks 0 0) (n % c.frames == 0)
+    ∙ rw (p, q, counts, rest) refl
+
+range_more : (a n : ℕ) → range_with_len a (n + 1) ≡ range_with_len a n ++ (a + n) ∷ []
+range_more a zero = let z : a ≡ a + 0 = omega arith in ap (λ (m : ℕ). m ∷ []) z
+range_more a (suc n) =
+    let e : suc n + 1 ≡ suc (n + 1) = omega arith in
+    let z : (a + 1) + n ≡ a + suc n = omega arith in
+    rw e (ap (λ (l : List ℕ). a ∷ l) (range_more (a + 1) n ∙ ap (λ (m : ℕ). range_with_len (a + 1) n ++ m ∷ []) z))
+
+bodies_more : (c : Config) (all : ℕ → List (List ℕ)) (n : ℕ) → bodies_before c all (n + 1) ≡ bodies_before c all n ++ of_frame n (frame_bodies c n (frame_blocks c all n))
+bodies_more c all n =
+    let z : 0 + n ≡ n = omega arith in
+    let r : range_with_len 0 (n + 1) ≡ range_with_len 0 n ++ n ∷ [] = range_more 0 n ∙ ap (λ (m : ℕ). range_with_len 0 n ++ m ∷ []) z in
+    ap (flat_map (λ m. of_frame m (frame_bodies c m (frame_blocks c all m)))) r
+    ∙ flat_map-append (λ m. of_frame m (frame_bodies c m (frame_blocks c all m))) (range_with_len 0 n) (n ∷ [])
+    ∙ ap (λ (l : List (ℕ × Body)). bodies_before c all n ++ l) (append-nil (of_frame n (frame_bodies c n (frame_blocks c all n))))
+
+pub holds_begin : (old new : List Input) (s : Signalling) (frames : ℕ) (flow next : Flow) (n m : ℕ) (left begin rest : List Body) (dynamic : List Bool) (blocks : List (List (List ℕ))) (c : Config) (events : List Event)
+    → flow.dry ≡ true → next.finished ≡ flow.finished → AllFed new c (events ++ Begun ∷ [])
+    → dynamic ≡ dyn_part c frames (map length blocks) → length blocks ≡ length c.plps → ((all : ℕ → List (List ℕ)) → AllContinue c events all → AreBlocks blocks c events all)
+    → begin ≡ from_step c frames (first_step c frames) (l1_body c frames s.pre s.conf dynamic) (blocks_left c frames blocks 0 0)
+    → ((all : List (ℕ × Body)) (given : ℕ) → Carries flow.outlet.piper (between flow.outlet.bytes flow.outlet.at flow.outlet.len) flow.outlet.number c frames begin all given → Flows next c m rest all given)
+    → Holds old s frames flow n left c events → Holds new s (frames + 1) next m rest c (events ++ Begun ∷ [])
+holds_begin old new s frames flow next n m left begin rest dynamic blocks c events dry fin fed d len made is step h = record {
+  fed = fed;
+  pre = h.pre;
+  conf = h.conf;
+  frames_are = ap (λ (k : ℕ). k + 1) h.frames_are ∙ sym (begun_with events Begun);
+  last = fin ∙ h.last ∙ sym (finished_same events Begun refl);
+  flows = λ all more.
+      let cont = back_begun c events all more in
+      let was = h.flows all cont in
+      let gone = was.dried dry in
+      let bits : (j : ℕ) → j < length c.plps → bits_at blocks j ≡ frame_blocks c all frames j =
+          λ j lt. subst (λ (k : ℕ). bits_at blocks j ≡ frame_blocks c all k j) (sym h.frames_are) (made all cont j lt) in
+      let bodies : begin ≡ frame_bodies c frames (frame_blocks c all frames) = is ∙ new_bodies c s frames dynamic blocks (frame_blocks c all frames) h.pre h.conf d len bits in
+      let longer : bodies_before c all frames ++ of_frame frames begin ≡ bodies_before c all (frames + 1) =
+          ap (λ (l : List Body). bodies_before c all frames ++ of_frame frames l) bodies ∙ sym (bodies_more c all frames) in
+      subst (λ (k : ℕ). Flows next c m rest (bodies_before c all (frames + 1)) k) (sym (count_same (given events) false (given (events ++ Begun ∷ [])) (given_with events Begun) refl))
+      (subst (λ (l : List (ℕ × Body)). Flows next c m rest l (given events)) longer
+      (step _ (given events) (carries_more _ _ _ c n frames left begin (bodies_before c all frames) (given events) gone.1 was.carries)));
+}
+
+pub holds_unit : (p c : Config) (inputs : List Input) (s : Signalling) (frames : ℕ) (flow : Flow) (n : ℕ) (left : List Body) (events : List Event) (all : ℕ → List (List ℕ)) (more : List (List ℕ)) (out : List ℕ) → p ≡ c
+    → ((bodies : List (ℕ × Body)) (given : ℕ) → Flows flow p n left bodies given → (more : List (List ℕ)) → (flow.finished ≡ true → more ≡ []) → slice_get (pipe p.pid (packets_from p 0 bodies ++ more)) given ≡ Some out)
+    → Holds inputs s frames flow n left c events → AllContinue c events all → (finished events ≡ true → more ≡ []) → slice_get (pipe c.pid (front_packets c all (begun events) ++ more)) (given events) ≡ Some out
+unfolding front_packets
+holds_unit p c inputs s frames flow n left events all more out e unit h cont none =
+    let here = subst (λ (k : Config). (bodies : List (ℕ × Body)) (given : ℕ) → Flows flow k n left bodies given → (more : List (List ℕ)) → (flow.finished ≡ true → more ≡ [])
+        → slice_get (pipe k.pid (packets_from k 0 bodies ++ more)) given ≡ Some out) e unit in
+    subst (λ (m : ℕ). slice_get (pipe c.pid (packets_from c 0 (bodies_before c all m) ++ more)) (given events) ≡ Some out) h.frames_are
+    (here (bodies_before c all frames) (given events) (h.flows all cont) more (λ fin. none (sym h.last ∙ fin)))
+
+pub holds_none : (p c : Config) (inputs : List Input) (s : Signalling) (frames : ℕ) (flow : Flow) (n : ℕ) (left : List Body) (events : List Event) (all : ℕ → List (List ℕ)) → p ≡ c
+    → (flow.finished ≡ true → (bodies : List (ℕ × Body)) (given : ℕ) → Flows flow p n left bodies given → length (pipe p.pid (packets_from p 0 bodies)) ≡ given)
+    → Holds inputs s frames flow n left c events → finished events ≡ true → AllContinue c events all → length (pipe c.pid (front_packets c all (begun events))) ≡ given events
+unfolding front_packets
+holds_none p c inputs s frames flow n left events all e none h fin cont =
+    let here = subst (λ (k : Config). flow.finished ≡ true → (bodies : List (ℕ × Body)) (given : ℕ) → Flows flow k n left bodies given → length (pipe k.pid (packets_from k 0 bodies)) ≡ given) e none in
+    subst (λ (m : ℕ). length (pipe c.pid (packets_from c 0 (bodies_before c all m))) ≡ given events) h.frames_are
+    (here (h.last ∙ fin) (bodies_before c all frames) (given events) (h.flows all cont))

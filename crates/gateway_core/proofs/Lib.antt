@@ -1,0 +1,7 @@
+pub mod FedLemmas
+pub mod InputsLemmas
+pub mod LeftLemmas
+pub mod SignalLemmas
+pub mod CarriedLemmas
+pub mod FlowLemmas
+pub mod HoldsLemmas

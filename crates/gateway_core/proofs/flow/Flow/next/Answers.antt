@@ -1,0 +1,20 @@
+use Rattle.std.proofs.Common.{◌≡◌, ◌∙◌, true, false, refl, sym}
+use Rattle.gateway_core.proofs.FlowLemmas.{dry_when, finished_when}
+use Rattle.gateway_core.proofs.flow.Flow.next.Goals as goal
+
+pub returns-then-not-next-clause-none : goal.returns-then-not-next-clause-none
+returns-then-not-next-clause-none c = λ off end all given h.
+    let dry = dry_when c.args.self.now.dry _ _ c.args.self.now.full c.if-not-next.ensures.is in
+    let g = h.dried dry in
+    c.if-not-next.ensures.none refl (c.args.self.now.drained end dry) c.args.plan.now _ _ all given h.carries (record { rest_is = g.0; left_is = g.1; more_is = refl })
+
+pub returns-then-self-clause-unit : goal.returns-then-self-clause-unit
+returns-then-self-clause-unit c = λ on all given h more none.
+    let g = h.dried c.if-self.true in
+    c.if-not-next.ensures.unit refl c.args.plan.now _ _ all given h.carries more
+    (λ fin. record { rest_is = g.0; left_is = g.1; more_is = none (finished_when c.args.self.now.finished _ c.args.self.now.«open» fin) })
+
+pub returns-clause-unit : goal.returns-clause-unit
+returns-clause-unit c = λ on all given h more none.
+    c.if-not-next.ensures.unit refl c.args.plan.now _ _ all given h.carries more
+    (λ fin. absurd (let z : true ≡ false = sym fin ∙ c.args.self.now.wet c.if-self.false in cc))

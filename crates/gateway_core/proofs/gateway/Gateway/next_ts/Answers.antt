@@ -1,0 +1,40 @@
+use Rattle.std.proofs.Common.{◌≡◌, ◌∙◌, ◌+◌, ℕ, List, false, sym, subst}
+use Rattle.plp_config.specs.declared.config.Config.{Config}
+use Rattle.t2mi_packet.specs.declared.packet.Body.{Body}
+use Rattle.gateway_core.specs.Flowing.{Flows, gives_unit}
+use Rattle.gateway_core.specs.Left.{left}
+use Rattle.gateway_core.specs.StandsFor.{GatewayStandsFor, Holds}
+use Rattle.gateway_core.specs.declared.flow.Flow.{Flow}
+use Rattle.gateway_core.specs.declared.frame.Frame.{Frame}
+use Rattle.gateway_core.proofs.HoldsLemmas.{holds_unit, holds_none, holds_gave}
+use Rattle.gateway_core.proofs.gateway.Gateway.next_ts.Goals as goal
+
+pub returns-clause-unit : goal.returns-clause-unit
+unfolding GatewayStandsFor
+returns-clause-unit c = λ on config events h inputs cont more none.
+    holds_unit c.args.self.now.plan.now config _ _ _ c.args.self.now.flow _ _ events inputs more c.next.new.out h.0 (c.next.ensures.unit on) h.1 cont none
+
+pub returns-clause-none : goal.returns-clause-none
+unfolding GatewayStandsFor
+returns-clause-none c = λ off config events h fin inputs cont.
+    holds_none c.args.self.now.plan.now config _ _ _ c.args.self.now.flow _ _ events inputs h.0 (c.next.ensures.none off) h.1 fin cont
+
+pub returns-clause-stands : goal.returns-clause-stands
+unfolding GatewayStandsFor
+returns-clause-stands c = λ on config events h.
+    (h.0, holds_gave _ _ _ c.args.self.now.flow c.next.new.self _ _ _ _ config events c.next.ensures.finished
+        (subst (λ (k : Config). (all : List (ℕ × Body)) (given : ℕ) → Flows c.args.self.now.flow k c.args.self.now.frame.number (left c.args.self.now.plan.now c.args.self.now.signalling c.args.self.now.frame) all given
+            → Flows c.next.new.self k c.next.new.frame.number (left c.args.self.now.plan.now c.args.self.now.signalling c.next.new.frame) all (given + 1)) h.0 (c.next.ensures.flows on)) h.1)
+
+pub returns-clause-still : goal.returns-clause-still
+unfolding GatewayStandsFor
+returns-clause-still c = λ off config events h.
+    let same = c.next.ensures.stays off in
+    (h.0, subst (λ (f : Flow). Holds c.args.self.now.inputs.items c.args.self.now.signalling c.args.self.now.frames f c.next.new.frame.number (left c.args.self.now.plan.now c.args.self.now.signalling c.next.new.frame) config events) (sym same.0)
+        (subst (λ (r : Frame). Holds c.args.self.now.inputs.items c.args.self.now.signalling c.args.self.now.frames c.args.self.now.flow r.number (left c.args.self.now.plan.now c.args.self.now.signalling r) config events) (sym same.1) h.1))
+
+pub returns-clause-stays : goal.returns-clause-stays
+returns-clause-stays c = λ off.
+    let same = c.next.ensures.stays off in
+    let none : gives_unit c.args.self.now.flow ≡ false = sym c.next.ensures.is ∙ off in
+    (subst (λ (f : Flow). gives_unit f ≡ false) (sym same.0) none, same.2)

@@ -1,0 +1,9 @@
+use Rattle.std.proofs.Common.{◌≡◌, length}
+use Rattle.gateway_core.specs.InputsStandFor.{CutUntil, SameMost}
+use Rattle.gateway_core.proofs.inputs.cut.Given as goal
+
+abbrev pub invariant-loop-plp : goal.invariant-loop-plp
+invariant-loop-plp l = record {
+  cut : CutUntil l.plan l.frame l.initial.inputs l.inputs l.blocks.items l.plp;
+  most : SameMost l.initial.inputs l.inputs;
+}

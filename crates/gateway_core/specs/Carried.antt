@@ -1,0 +1,33 @@
+-- How far the packets of the frames begun have come. No public clause cites this module.
+use Rattle.std.specs.Prelude.{◌≡◌, ℕ, ◌-◌, ◌%◌, Bool, true, false, List, [], ◌∷◌, ◌++◌, length, map, take, drop}
+use Rattle.plp_config.specs.declared.config.Config.{Config}
+use Rattle.t2mi_packet.specs.declared.packet.Body.{Body}
+use Rattle.t2mi_stream.specs.Events.{PiperEvent, tally}
+use Rattle.t2mi_stream.specs.Pipe.{Item, items, joined}
+use Rattle.t2mi_stream.specs.PiperStandsFor.{PiperStandsFor}
+use Rattle.t2mi_stream.specs.declared.piper.Piper.{Piper}
+use Rattle.gateway_core.specs.Packets.{packets_from}
+
+-- bodies of a frame with its number
+abbrev pub of_frame : ℕ → List Body → List (ℕ × Body)
+of_frame n bodies = map (λ body. (n, body)) bodies
+
+-- Of all packets some were built, of which the piper has all bytes but some of the last one; so many bodies are left, of one frame.
+pub record Carries (piper : Piper) (rest : List ℕ) (number : ℕ) (c : Config) (n : ℕ) (left : List Body) (all : List (ℕ × Body)) (given : ℕ) : Type 0 where
+  pub events : List PiperEvent
+  pub stands : PiperStandsFor piper c.pid events
+  pub units : (tally events).given ≡ given
+  pub built : List (ℕ × Body)
+  pub number_is : number ≡ length built % 256
+  pub fed : joined (packets_from c 0 built) ≡ (tally events).fed ++ items (tally events).begun rest
+  pub all_are : all ≡ built ++ of_frame n left
+
+-- bytes of a buffer from one up to another
+abbrev pub between : List ℕ → ℕ → ℕ → List ℕ
+between bytes at len = take (len - at) (drop at bytes)
+
+-- Nothing is left to feed, and nothing follows.
+pub record AllGone (rest : List ℕ) (left : List Body) (more : List (List ℕ)) : Type 0 where
+  pub rest_is : rest ≡ []
+  pub left_is : left ≡ []
+  pub more_is : more ≡ []

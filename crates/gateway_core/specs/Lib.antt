@@ -1,0 +1,13 @@
+pub mod Events
+pub mod Told
+pub mod IsFed
+pub mod InputsStandFor
+pub mod Signalling
+pub mod Packets
+pub mod Whole
+pub mod BlocksLeft
+pub mod Left
+pub mod Carried
+pub mod FirstStep
+pub mod Flowing
+pub mod StandsFor

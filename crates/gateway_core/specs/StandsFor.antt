@@ -1,0 +1,49 @@
+-- What a gateway stands for.
+use Rattle.std.specs.Prelude.{◌≡◌, ℕ, Bool, List, length, map, slice_index}
+use Rattle.plp_config.specs.declared.config.Config.{Config}
+use Rattle.t2mi_packet.specs.declared.packet.Body.{Body}
+use Rattle.gateway_core.specs.Events.{Event, begun, given, finished}
+use Rattle.gateway_core.specs.Flowing.{Flows, gives_unit}
+use Rattle.gateway_core.specs.InputsStandFor.{AllFed, AllContinue}
+use Rattle.gateway_core.specs.IsFed.{wanted}
+use Rattle.gateway_core.specs.Left.{left}
+use Rattle.gateway_core.specs.Packets.{bodies_before}
+use Rattle.gateway_core.specs.Signalling.{pre_part, conf_part}
+use Rattle.gateway_core.specs.declared.flow.Flow.{Flow}
+use Rattle.gateway_core.specs.declared.gateway.Gateway.{Gateway}
+use Rattle.gateway_core.specs.declared.input.Input.{Input}
+use Rattle.gateway_core.specs.declared.signalling.Signalling.{Signalling}
+
+-- Its inputs were fed, so many frames were begun, and for all inputs that continue what was offered the packets of those frames have
+-- come so far.
+pub record Holds (inputs : List Input) (s : Signalling) (frames : ℕ) (flow : Flow) (n : ℕ) (left : List Body) (c : Config) (events : List Event) : Type 0 where
+  pub fed : AllFed inputs c events
+  pub pre : s.pre ≡ pre_part c
+  pub conf : s.conf ≡ conf_part c
+  pub frames_are : frames ≡ begun events
+  pub last : flow.finished ≡ finished events
+  pub flows : (all : ℕ → List (List ℕ)) → AllContinue c events all → Flows flow c n left (bodies_before c all frames) (given events)
+
+-- its configuration, and what was done to it, in turn
+unfoldable pub GatewayStandsFor : Gateway → Config → List Event → Type 0
+GatewayStandsFor g c events = (g.plan.now ≡ c) × Holds g.inputs.items g.signalling g.frames g.flow g.frame.number (left g.plan.now g.signalling g.frame) c events
+
+-- the number of PLPs
+abbrev pub plps_of : Gateway → ℕ
+plps_of g = length g.inputs.items
+
+-- how many packets the frame under way still wants from the input of a PLP
+abbrev pub wants_of : Gateway → ℕ → ℕ
+wants_of g plp = slice_index (map wanted g.inputs.items) plp
+
+-- the number of the frame under way
+abbrev pub frame_of : Gateway → ℕ
+frame_of g = g.frames
+
+-- A unit of the frames begun is complete, or no more frames come and a byte is left.
+abbrev pub has_unit : Gateway → Bool
+has_unit g = gives_unit g.flow
+
+-- No more frames come.
+abbrev pub has_finished : Gateway → Bool
+has_finished g = g.flow.finished

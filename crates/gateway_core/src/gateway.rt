@@ -1,0 +1,166 @@
+// The gateway.
+ghost use Rattle.std.specs.Prelude.{◌≡◌, ◌<◌, ◌≤◌, ◌^◌, vec_len, length};
+ghost use Rattle.gateway_core.specs.InputsStandFor.{AreFor};
+
+use crate::flow::Flow;
+use crate::frame::Frame;
+use crate::input::Input;
+use crate::inputs::{cut, end, offer, open_inputs, wanted};
+use crate::signalling::{Signalling, dynamic_bits};
+use crate::step::{Step, first_step};
+use bit_slice::{BitBuf, OutOfMemory};
+use plp_config::Plan;
+use std::alloc::Global;
+use ts_packet::TsPacket;
+
+/// Makes the T2-MI stream of a network from the packets of its inputs: offer the packets that a frame wants, begin the frame,
+/// take the units.
+#[derive(Drop)]
+pub struct Gateway<'p> {
+    alloc: Global,
+    plan: &'p Plan,
+    inputs: Vec<Input>,
+    signalling: Signalling,
+    // How many frames were begun, and the last of them.
+    frames: u64,
+    frame: Frame,
+    flow: Flow,
+    ghost whole: { vec_len inputs ≡ length plan.now.plps },
+    ghost most: { AreFor inputs.items plan.now },
+    ghost early: { frames ≤ 2 ^ 31 },
+    ghost blocks: { length frame.blocks.items ≤ length plan.now.plps },
+}
+
+// The PID of the T2-MI stream.
+fn pid_of(plan: &Plan) -> u16
+    ensures value { result ≡ plan.now.pid }
+    ensures small { result < 2 ^ 13 }
+{
+    plan.config().pid
+}
+
+impl<'p> Gateway<'p> {
+    ghost use Rattle.std.specs.Prelude.{◌≡◌, ◌<◌, ◌≤◌, ◌+◌, ◌^◌, ◌++◌, ◌∷◌, ◌↔◌, ℕ, List, [], true, false, length, Some, IfOk, OnOk, IsTrue, slice_get};
+    ghost use Rattle.plp_config.specs.declared.config.Config.{Config};
+    ghost use Rattle.t2mi_stream.specs.Pipe.{pipe};
+    ghost use Rattle.gateway_core.specs.Events.{Event, Offered, Ended, Begun, Gave, Finished, begun, given, finished};
+    ghost use Rattle.gateway_core.specs.InputsStandFor.{AllContinue};
+    ghost use Rattle.gateway_core.specs.Packets.{front_packets};
+    ghost use Rattle.gateway_core.specs.StandsFor.{GatewayStandsFor, plps_of, wants_of, frame_of, has_unit, has_finished};
+
+    /// A gateway to which nothing was offered, for a plan.
+    pub fn open(alloc: Global, plan: &'p Plan) -> Result<Gateway<'p>, OutOfMemory>
+        ensures stands { IfOk result (λ g. GatewayStandsFor g plan.now []) }
+        ensures plps { IfOk result (λ g. plps_of g ≡ length plan.now.plps) }
+        ensures frame { IfOk result (λ g. frame_of g ≡ 0) }
+        ensures unit { IfOk result (λ g. has_unit g ≡ false) }
+        ensures finished { IfOk result (λ g. has_finished g ≡ false) }
+    {
+        Ok(Gateway {
+            alloc,
+            plan,
+            inputs: open_inputs(alloc, plan)?,
+            signalling: Signalling::open(alloc, plan)?,
+            frames: 0,
+            frame: Frame {
+                number: 0,
+                dynamic: BitBuf::new(alloc),
+                blocks: Vec::new(alloc),
+                step: Step::Blocks,
+                plp: 0,
+                block: 0,
+            },
+            flow: Flow::new(pid_of(plan)),
+        })
+    }
+
+    /// How many packets the frame under way still wants from the input of a PLP: 0 from one that ended.
+    pub fn wants(&self, plp: usize) -> u64
+        requires { plp < plps_of self.now }
+        ensures { result ≡ wants_of self.now plp }
+    {
+        wanted(&self.inputs, plp)
+    }
+
+    /// Takes the next packet of the input of a PLP. After `OutOfMemory` the gateway is used no more.
+    pub fn offer(&mut self, plp: usize, packet: &TsPacket) -> Result<(), OutOfMemory>
+        requires place { plp < plps_of self.old }
+        requires wanted { 0 < wants_of self.old plp }
+        requires given { has_unit self.old ≡ false }
+        ensures stands { OnOk result ((c : Config) (events : List Event) → GatewayStandsFor self.old c events → GatewayStandsFor self.new c (events ++ Offered plp packet.now ∷ [])) }
+        ensures plps { plps_of self.new ≡ plps_of self.old }
+        ensures frame { frame_of self.new ≡ frame_of self.old }
+        ensures unit { has_unit self.new ≡ has_unit self.old }
+        ensures finished { has_finished self.new ≡ has_finished self.old }
+    {
+        offer(&mut self.inputs, plp, packet)?;
+        Ok(())
+    }
+
+    /// The input of a PLP has ended: null packets follow. A second time nothing changes.
+    pub fn end_input(&mut self, plp: usize)
+        requires { plp < plps_of self.old }
+        ensures stands { (c : Config) (events : List Event) → GatewayStandsFor self.old c events → GatewayStandsFor self.new c (events ++ Ended plp ∷ []) }
+        ensures plps { plps_of self.new ≡ plps_of self.old }
+        ensures frame { frame_of self.new ≡ frame_of self.old }
+        ensures unit { has_unit self.new ≡ has_unit self.old }
+        ensures finished { has_finished self.new ≡ has_finished self.old }
+    {
+        end(&mut self.inputs, plp);
+    }
+
+    /// Begins the frame under way, which wants no more packets. After `OutOfMemory` the gateway is used no more.
+    pub fn begin_frame(&mut self) -> Result<(), OutOfMemory>
+        requires wanted { (plp : ℕ) → plp < plps_of self.old → wants_of self.old plp ≡ 0 }
+        requires given { has_unit self.old ≡ false }
+        requires early { frame_of self.old < 2 ^ 31 }
+        requires open { has_finished self.old ≡ false }
+        ensures stands { OnOk result ((c : Config) (events : List Event) → GatewayStandsFor self.old c events → GatewayStandsFor self.new c (events ++ Begun ∷ [])) }
+        ensures plps { plps_of self.new ≡ plps_of self.old }
+        ensures frame { OnOk result (frame_of self.new ≡ frame_of self.old + 1) }
+        ensures finished { has_finished self.new ≡ has_finished self.old }
+    {
+        let blocks = cut(self.alloc, self.plan, &mut self.inputs, self.frames)?;
+        let dynamic = dynamic_bits(self.alloc, self.plan, self.frames, &blocks)?;
+        self.frame = Frame {
+            number: self.frames,
+            dynamic,
+            blocks,
+            step: first_step(self.plan, self.frames),
+            plp: 0,
+            block: 0,
+        };
+        self.frames += 1;
+        self.flow.begin(self.plan, &self.signalling, &mut self.frame);
+        Ok(())
+    }
+
+    /// Gives the next unit of the frames begun, if it is complete, and after [`Gateway::finish`] also the rest. Else `out` stays.
+    pub fn next_ts(&mut self, out: &mut [u8; 188]) -> bool
+        ensures is { result ≡ has_unit self.old }
+        // Whatever packets follow, the unit is the next one of all.
+        ensures unit { result ≡ true → (c : Config) (events : List Event) → GatewayStandsFor self.old c events → (inputs : ℕ → List (List ℕ)) → AllContinue c events inputs
+            → (more : List (List ℕ)) → (finished events ≡ true → more ≡ []) → slice_get (pipe c.pid (front_packets c inputs (begun events) ++ more)) (given events) ≡ Some out.new }
+        ensures stands { result ≡ true → (c : Config) (events : List Event) → GatewayStandsFor self.old c events → GatewayStandsFor self.new c (events ++ Gave ∷ []) }
+        ensures still { result ≡ false → (c : Config) (events : List Event) → GatewayStandsFor self.old c events → GatewayStandsFor self.new c events }
+        ensures stays { result ≡ false → (has_unit self.new ≡ false) × (out.new ≡ out.old) }
+        // After the end none is left out.
+        ensures none { result ≡ false → (c : Config) (events : List Event) → GatewayStandsFor self.old c events → finished events ≡ true → (inputs : ℕ → List (List ℕ)) → AllContinue c events inputs
+            → length (pipe c.pid (front_packets c inputs (begun events))) ≡ given events }
+        ensures plps { plps_of self.new ≡ plps_of self.old }
+        ensures frame { frame_of self.new ≡ frame_of self.old }
+        ensures finished { has_finished self.new ≡ has_finished self.old }
+    {
+        self.flow.next(self.plan, &self.signalling, &mut self.frame, out)
+    }
+
+    /// No more frames come: the rest of the units can be taken.
+    pub fn finish(&mut self)
+        ensures stands { (c : Config) (events : List Event) → GatewayStandsFor self.old c events → GatewayStandsFor self.new c (events ++ Finished ∷ []) }
+        ensures plps { plps_of self.new ≡ plps_of self.old }
+        ensures frame { frame_of self.new ≡ frame_of self.old }
+        ensures finished { has_finished self.new ≡ true }
+    {
+        self.flow.finish();
+    }
+}

@@ -1,0 +1,18 @@
+//! The gateway's core: packets of transport streams become units of transport packets that carry T2-MI.
+#![tactic(auto)]
+
+mod copy;
+mod feeding;
+mod flow;
+mod frame;
+mod gateway;
+mod going_on;
+mod input;
+mod inputs;
+mod outlet;
+mod packet;
+mod place;
+mod signalling;
+mod step;
+
+pub use gateway::Gateway;

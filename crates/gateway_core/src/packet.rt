@@ -1,0 +1,159 @@
+// T2-MI packets of a frame, each built whole.
+ghost use Rattle.std.specs.Prelude.{◌≡◌, ◌<◌, ◌≤◌, ◌^◌, ◌/◌, ◌%◌, length, []};
+ghost use Rattle.plp_config.specs.Plps.{plp_at};
+ghost use Rattle.terms.specs.Bits.{bits_of};
+ghost use Rattle.t2mi_packet.specs.T2miPacket.{Fits, written_bits};
+ghost use Rattle.gateway_core.specs.Whole.{IsWhole};
+ghost use Rattle.gateway_core.specs.Packets.{bw_of, stamp_of, l1_body, packet_with};
+
+use bit_slice::{BitSlice, FixedBits};
+use plp_config::{Band, Plan};
+use t2mi_packet::{Body, Packet, Stamp, write, written_law};
+
+// Builds a packet in place of the one before.
+fn put_packet(out: &mut FixedBits<8202>, packet: &Packet<'_>)
+    requires { Fits packet.now }
+    ensures { out.new ≡ written_bits packet.now }
+{
+    written_law();
+    *out = FixedBits::new();
+    // There is room for any packet.
+    let _ = write(out, packet);
+}
+
+// The same, and it is whole bytes.
+fn write_packet(out: &mut FixedBits<8202>, packet: &Packet<'_>)
+    requires { Fits packet.now }
+    ensures bits { out.new ≡ written_bits packet.now }
+    ensures whole { IsWhole out.new }
+{
+    written_law();
+    put_packet(out, packet);
+}
+
+// FRAME_IDX of a frame.
+fn frame_idx(plan: &Plan, frame: u64) -> u8
+    ensures { result ≡ frame % plan.now.frames }
+{
+    (frame % u64::from(plan.config().frames)) as u8
+}
+
+// superframe_idx of a frame.
+fn superframe_idx(plan: &Plan, frame: u64) -> u8
+    ensures value { result ≡ frame / plan.now.frames % 16 }
+    ensures small { result < 2 ^ 4 }
+{
+    (frame / u64::from(plan.config().frames) % 16) as u8
+}
+
+// bw of a timestamp.
+fn bw_of(band: Band) -> u8
+    ensures value { result ≡ bw_of band }
+    ensures small { result < 2 ^ 4 }
+{
+    band as u8
+}
+
+fn stamp_of(plan: &Plan, frame: u64) -> Stamp
+    requires { frame < 2 ^ 32 }
+    ensures value { result ≡ stamp_of plan.now frame }
+    ensures seconds { result.seconds < 2 ^ 40 }
+    ensures subseconds { result.subseconds < 2 ^ 27 }
+    ensures utco { result.utco < 2 ^ 13 }
+    ensures bw { result.bw < 2 ^ 4 }
+{
+    let emission = plan.emission(frame);
+    let config = plan.config();
+    Stamp {
+        bw: bw_of(config.band),
+        seconds: emission.seconds,
+        subseconds: emission.subseconds,
+        utco: config.utco,
+    }
+}
+
+/// The timestamp of the superframe that begins with a frame.
+pub fn write_stamp(out: &mut FixedBits<8202>, plan: &Plan, number: u8, frame: u64)
+    requires { frame < 2 ^ 32 }
+    ensures bits { out.new ≡ written_bits (packet_with plan.now number frame (Body.Timestamp (stamp_of plan.now frame))) }
+    ensures whole { IsWhole out.new }
+{
+    let packet = Packet {
+        count: number,
+        superframe: superframe_idx(plan, frame),
+        stream: 0,
+        body: Body::Timestamp(stamp_of(plan, frame)),
+    };
+    write_packet(out, &packet);
+}
+
+/// The L1-current of a frame.
+pub fn write_signal(
+    out: &mut FixedBits<8202>,
+    plan: &Plan,
+    number: u8,
+    frame: u64,
+    pre: BitSlice<'_>,
+    conf: BitSlice<'_>,
+    dynamic: BitSlice<'_>,
+)
+    requires pre { length pre ≡ 168 }
+    requires conf { length conf ≤ 22797 }
+    requires dynamic { length dynamic ≤ 12319 }
+    ensures bits { out.new ≡ written_bits (packet_with plan.now number frame (l1_body plan.now frame pre.entry conf.entry dynamic.entry)) }
+    ensures whole { IsWhole out.new }
+{
+    let packet = Packet {
+        count: number,
+        superframe: superframe_idx(plan, frame),
+        stream: 0,
+        body: Body::L1Current {
+            frame_idx: frame_idx(plan, frame),
+            pre,
+            conf,
+            dynamic,
+            extension: BitSlice::whole(&[]),
+        },
+    };
+    write_packet(out, &packet);
+}
+
+// PLP_ID.
+fn plp_id(plan: &Plan, plp: usize) -> u8
+    requires { plp < length plan.now.plps }
+    ensures { result ≡ (plp_at plan.now.plps plp).id }
+{
+    match plan.config().plps.get(plp) {
+        Some(plp) => plp.id,
+        None => 0,
+    }
+}
+
+/// A block of a PLP in a frame.
+pub fn write_block(
+    out: &mut FixedBits<8202>,
+    plan: &Plan,
+    number: u8,
+    frame: u64,
+    plp: usize,
+    first: bool,
+    block: &[u8],
+)
+    requires configured { plp < length plan.now.plps }
+    requires short { length block.now ≤ 6730 }
+    ensures bits { out.new ≡ written_bits (packet_with plan.now number frame (Body.Block (frame % plan.now.frames) (plp_at plan.now.plps plp).id first (bits_of block.now))) }
+    ensures whole { IsWhole out.new }
+{
+    let packet = Packet {
+        count: number,
+        superframe: superframe_idx(plan, frame),
+        stream: 0,
+        body: Body::Block {
+            frame_idx: frame_idx(plan, frame),
+            plp: plp_id(plan, plp),
+            first,
+            bits: BitSlice::whole(block),
+        },
+    };
+    write_packet(out, &packet);
+}
