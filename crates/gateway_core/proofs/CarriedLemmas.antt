@@ -91,15 +91,15 @@ pub carries_build : (old new : Piper) (rest bytes : List ℕ) (bits : List Bool)
 carries_build old new rest bytes bits number c n body left all given none stands is bytes_are h =
     let t = tally_push h.events Begun in
     let whole : joined (packets_from c 0 h.built) ≡ (tally h.events).fed =
-        h.fed ∙ ap (λ (l : List ℕ). (tally h.events).fed ++ items (tally h.events).begun l) none ∙ append-nil (tally h.events).fed in
+    h.fed ∙ ap (λ (l : List ℕ). (tally h.events).fed ++ items (tally h.events).begun l) none ∙ append-nil (tally h.events).fed in
     let same : bytes_of (written_bits (packet_with c (0 + length h.built) n body)) ≡ bytes =
-        let z : 0 + length h.built ≡ length h.built = omega arith in
-        ap (λ (m : ℕ). bytes_of (written_bits (packet_with c m n body))) z
-        ∙ sym (bytes_are ∙ ap bytes_of is ∙ ap (λ p. bytes_of (written_bits p)) (same_packet c number (length h.built) n body h.number_is)) in
+    let z : 0 + length h.built ≡ length h.built = omega arith in
+    ap (λ (m : ℕ). bytes_of (written_bits (packet_with c m n body))) z
+    ∙ sym (bytes_are ∙ ap bytes_of is ∙ ap (λ p. bytes_of (written_bits p)) (same_packet c number (length h.built) n body h.number_is)) in
     let more : joined (packets_from c 0 (h.built ++ (n, body) ∷ [])) ≡ (tally h.events).fed ++ items true bytes =
-        ap joined (packets_push c 0 h.built n body) ∙ flat_map-append (items true) (packets_from c 0 h.built) _
-        ∙ ap (λ (l : List Item). joined (packets_from c 0 h.built) ++ l) (append-nil (items true (bytes_of (written_bits (packet_with c (0 + length h.built) n body)))) ∙ ap (items true) same)
-        ∙ ap (λ (l : List Item). l ++ items true bytes) whole in
+    ap joined (packets_push c 0 h.built n body) ∙ flat_map-append (items true) (packets_from c 0 h.built) _
+    ∙ ap (λ (l : List Item). joined (packets_from c 0 h.built) ++ l) (append-nil (items true (bytes_of (written_bits (packet_with c (0 + length h.built) n body)))) ∙ ap (items true) same)
+    ∙ ap (λ (l : List Item). l ++ items true bytes) whole in
     record {
       events = h.events ++ Begun ∷ [];
       stands = stands c.pid h.events h.stands;
@@ -110,7 +110,7 @@ carries_build old new rest bytes bits number c n body left all given none stands
       all_are = h.all_are ∙ sym (append_assoc h.built ((n, body) ∷ []) (of_frame n left));
     }
 
-packets_append : (c : Config) (k : ℕ) (xs ys : List (ℕ × Body)) → packets_from c k (xs ++ ys) ≡ packets_from c k xs ++ packets_from c (k + length xs) ys
+pub packets_append : (c : Config) (k : ℕ) (xs ys : List (ℕ × Body)) → packets_from c k (xs ++ ys) ≡ packets_from c k xs ++ packets_from c (k + length xs) ys
 packets_append c k [] ys = ap (λ (m : ℕ). packets_from c m ys) (omega arith)
 packets_append c k (x ∷ xs) ys =
     ap (λ (l : List (List ℕ)). bytes_of (written_bits (packet_with c k x.0 x.1)) ∷ l)
@@ -152,8 +152,8 @@ carries_none old rest number c n left all given none h gone =
     let k = 0 + length h.built in
     let nothing : packets_from c 0 all ++ [] ≡ packets_from c 0 all = append-nil (packets_from c 0 all) in
     let whole : joined (packets_from c 0 all) ≡ (tally h.events).fed =
-        ap joined (sym nothing) ∙ all_items old rest number c n left all given h []
-        ∙ ap (λ (l : List Item). (tally h.events).fed ++ l) (gone_none (tally h.events).begun rest c k n left [] gone) ∙ append-nil (tally h.events).fed in
+    ap joined (sym nothing) ∙ all_items old rest number c n left all given h []
+    ∙ ap (λ (l : List Item). (tally h.events).fed ++ l) (gone_none (tally h.events).begun rest c k n left [] gone) ∙ append-nil (tally h.events).fed in
     ap (λ (l : List Item). length (units_of c.pid l)) whole ∙ none c.pid h.events h.stands ∙ h.units
 
 pub carries_given : (old new : Piper) (rest : List ℕ) (number : ℕ) (c : Config) (n : ℕ) (left : List Body) (all : List (ℕ × Body)) (given : ℕ)

@@ -1,5 +1,5 @@
 -- A gateway after one event more.
-use Rattle.std.proofs.Common.{◌≡◌, ◌≢◌, ℕ, zero, suc, ◌+◌, ◌-◌, ◌*◌, ◌%◌, ◌<◌, ◌≤◌, Bool, true, false, cond, List, [], ◌∷◌, ◌++◌, Some, None, is_some, length, map, refl, ap, sym, subst, ◌∙◌, ◌⊎◌, inl, inr, arith, append-nil, append_assoc}
+use Rattle.std.proofs.Common.{◌≡◌, ◌≢◌, ℕ, zero, suc, ◌+◌, ◌-◌, ◌*◌, ◌%◌, ◌<◌, ◌≤◌, Bool, true, false, cond, List, [], ◌∷◌, ◌++◌, Option, Some, None, is_some, length, map, refl, ap, sym, subst, ◌∙◌, ◌⊎◌, inl, inr, arith, append-nil, append_assoc}
 use Rattle.std.specs.Prelude.{slice_get, slice_index_or, slice_index, ◌==◌, ◌||◌}
 use Rattle.std.specs.List.{flat_map, range_with_len}
 use Rattle.std.proofs.lemmas.Bool.{cases_eq, ne_eqb}
@@ -10,6 +10,7 @@ use Rattle.std.proofs.lemmas.List.Folds.{list_any-append}
 use Rattle.std.proofs.lemmas.List.Sums.{sum_by-append}
 use Rattle.terms.specs.Bits.{bits_of}
 use Rattle.plp_config.specs.Plps.{plp_at}
+use Rattle.plp_config.specs.RunLength.{frame_count}
 use Rattle.plp_config.specs.declared.config.Config.{Config}
 use Rattle.t2mi_packet.specs.declared.packet.Body.{Body}
 use Rattle.gateway_core.specs.BlocksLeft.{bits_at, blocks_left}
@@ -17,13 +18,13 @@ use Rattle.gateway_core.specs.Carried.{Carries, of_frame, between}
 use Rattle.gateway_core.specs.Events.{Event, Offered, Ended, Begun, Gave, Finished, offered, has_ended, begins, begun, gives, given, finishes, finished, packets_to, ends}
 use Rattle.gateway_core.specs.FirstStep.{first_step}
 use Rattle.gateway_core.specs.Flowing.{Flows, Streams}
-use Rattle.gateway_core.specs.InputsStandFor.{AllFed, AllContinue, AreBlocks}
+use Rattle.gateway_core.specs.InputsStandFor.{AllFed, AllContinue, AreBlocks, AllEnded, HaveEnded}
 use Rattle.gateway_core.specs.IsFed.{IsFed, wanted}
 use Rattle.gateway_core.specs.Left.{from_step}
 use Rattle.t2mi_stream.specs.Pipe.{pipe}
 use Rattle.gateway_core.specs.Packets.{packets_from, front_packets, stamp_of, l1_body, block_bodies, plp_bodies, with_stamp, counts_of, frame_bodies, frame_blocks, bodies_before}
 use Rattle.gateway_core.specs.Signalling.{pre_part, conf_part, dyn_part}
-use Rattle.gateway_core.specs.StandsFor.{Holds}
+use Rattle.gateway_core.specs.StandsFor.{Holds, IsLast}
 use Rattle.gateway_core.specs.Told.{Told, told, with_packet, at_end, in_next, Continues}
 use Rattle.gateway_core.specs.declared.flow.Flow.{Flow}
 use Rattle.gateway_core.specs.declared.input.Input.{Input}
@@ -178,7 +179,7 @@ step_is : (c : Config) (n : ℕ) (signal : Body) (rest : List Body) (b : Bool) �
 step_is c n signal rest true = refl
 step_is c n signal rest false = refl
 
-flat_same : (f g : ℕ → List Body) (a k : ℕ) → ((j : ℕ) → a ≤ j → j < a + k → f j ≡ g j) → flat_map f (range_with_len a k) ≡ flat_map g (range_with_len a k)
+pub flat_same : (f g : ℕ → List Body) (a k : ℕ) → ((j : ℕ) → a ≤ j → j < a + k → f j ≡ g j) → flat_map f (range_with_len a k) ≡ flat_map g (range_with_len a k)
 flat_same f g a zero h = refl
 flat_same f g a (suc k) h = rw (h a (omega arith) (omega arith), flat_same f g (a + 1) k (λ j le lt. h j (omega arith) (omega arith))) refl
 
@@ -197,7 +198,7 @@ pub new_bodies : (c : Config) (s : Signalling) (n : ℕ) (dynamic : List Bool) (
 new_bodies c s n dynamic blocks f p q d len h =
     let counts : dynamic ≡ dyn_part c n (counts_of c f) = d ∙ ap (dyn_part c n) (counts_same c blocks f len h) in
     let rest : blocks_left c n blocks 0 0 ≡ plp_bodies c n f 0 =
-        from_plp c n blocks 0 (omega arith) ∙ flat_same _ _ 0 (length c.plps - 0) (λ j le lt. ap (block_bodies (n % c.frames) (plp_at c.plps j).id true) (h j (omega arith))) in
+    from_plp c n blocks 0 (omega arith) ∙ flat_same _ _ 0 (length c.plps - 0) (λ j le lt. ap (block_bodies (n % c.frames) (plp_at c.plps j).id true) (h j (omega arith))) in
     step_is c n (l1_body c n s.pre s.conf dynamic) (blocks_left c n blocks 0 0) (n % c.frames == 0)
     ∙ rw (p, q, counts, rest) refl
 
@@ -208,7 +209,7 @@ range_more a (suc n) =
     let z : (a + 1) + n ≡ a + suc n = omega arith in
     rw e (ap (λ (l : List ℕ). a ∷ l) (range_more (a + 1) n ∙ ap (λ (m : ℕ). range_with_len (a + 1) n ++ m ∷ []) z))
 
-bodies_more : (c : Config) (all : ℕ → List (List ℕ)) (n : ℕ) → bodies_before c all (n + 1) ≡ bodies_before c all n ++ of_frame n (frame_bodies c n (frame_blocks c all n))
+pub bodies_more : (c : Config) (all : ℕ → List (List ℕ)) (n : ℕ) → bodies_before c all (n + 1) ≡ bodies_before c all n ++ of_frame n (frame_bodies c n (frame_blocks c all n))
 bodies_more c all n =
     let z : 0 + n ≡ n = omega arith in
     let r : range_with_len 0 (n + 1) ≡ range_with_len 0 n ++ n ∷ [] = range_more 0 n ∙ ap (λ (m : ℕ). range_with_len 0 n ++ m ∷ []) z in
@@ -233,10 +234,10 @@ holds_begin old new s frames flow next n m left begin rest dynamic blocks c even
       let was = h.flows all cont in
       let gone = was.dried dry in
       let bits : (j : ℕ) → j < length c.plps → bits_at blocks j ≡ frame_blocks c all frames j =
-          λ j lt. subst (λ (k : ℕ). bits_at blocks j ≡ frame_blocks c all k j) (sym h.frames_are) (made all cont j lt) in
+      λ j lt. subst (λ (k : ℕ). bits_at blocks j ≡ frame_blocks c all k j) (sym h.frames_are) (made all cont j lt) in
       let bodies : begin ≡ frame_bodies c frames (frame_blocks c all frames) = is ∙ new_bodies c s frames dynamic blocks (frame_blocks c all frames) h.pre h.conf d len bits in
       let longer : bodies_before c all frames ++ of_frame frames begin ≡ bodies_before c all (frames + 1) =
-          ap (λ (l : List Body). bodies_before c all frames ++ of_frame frames l) bodies ∙ sym (bodies_more c all frames) in
+      ap (λ (l : List Body). bodies_before c all frames ++ of_frame frames l) bodies ∙ sym (bodies_more c all frames) in
       subst (λ (k : ℕ). Flows next c m rest (bodies_before c all (frames + 1)) k) (sym (count_same (given events) false (given (events ++ Begun ∷ [])) (given_with events Begun) refl))
       (subst (λ (l : List (ℕ × Body)). Flows next c m rest l (given events)) longer
       (step _ (given events) (carries_more _ _ _ c n frames left begin (bodies_before c all frames) (given events) gone.1 was.carries)));
@@ -248,7 +249,7 @@ pub holds_unit : (p c : Config) (inputs : List Input) (s : Signalling) (frames :
 unfolding front_packets
 holds_unit p c inputs s frames flow n left events all more out e unit h cont none =
     let here = subst (λ (k : Config). (bodies : List (ℕ × Body)) (given : ℕ) → Flows flow k n left bodies given → (more : List (List ℕ)) → (flow.finished ≡ true → more ≡ [])
-        → slice_get (pipe k.pid (packets_from k 0 bodies ++ more)) given ≡ Some out) e unit in
+    → slice_get (pipe k.pid (packets_from k 0 bodies ++ more)) given ≡ Some out) e unit in
     subst (λ (m : ℕ). slice_get (pipe c.pid (packets_from c 0 (bodies_before c all m) ++ more)) (given events) ≡ Some out) h.frames_are
     (here (bodies_before c all frames) (given events) (h.flows all cont) more (λ fin. none (sym h.last ∙ fin)))
 
@@ -260,3 +261,27 @@ holds_none p c inputs s frames flow n left events all e none h fin cont =
     let here = subst (λ (k : Config). flow.finished ≡ true → (bodies : List (ℕ × Body)) (given : ℕ) → Flows flow k n left bodies given → length (pipe k.pid (packets_from k 0 bodies)) ≡ given) e none in
     subst (λ (m : ℕ). length (pipe c.pid (packets_from c 0 (bodies_before c all m))) ≡ given events) h.frames_are
     (here (h.last ∙ fin) (bodies_before c all frames) (given events) (h.flows all cont))
+
+-- how many packets ended inputs had
+is_ended : (b : Bool) (n : ℕ) (total : Option ℕ) → total ≡ cond b (Some n) None → is_some total ≡ true → b ≡ true
+is_ended true n total e is = refl
+is_ended false n total e is = absurd (let z : false ≡ true = subst (λ (o : Option ℕ). is_some o ≡ true) e is in cc)
+
+totals_ended : (inputs : List Input) (c : Config) (events : List Event) → AllFed inputs c events → AllEnded inputs → (plp : ℕ) → plp < length inputs → has_ended plp events ≡ true
+totals_ended [] c events h ended plp lt = absurd (omega arith)
+totals_ended (x ∷ xs) c events h ended plp lt = is_ended (has_ended plp events) (length (offered plp events)) _ (h plp x lt).total_is (ended plp x lt)
+
+totals : (inputs : List Input) (c : Config) (events : List Event) → AllFed inputs c events → ((plp : ℕ) → plp < length inputs → has_ended plp events ≡ true) → HaveEnded inputs (λ plp. length (offered plp events))
+totals inputs c events h ended = λ j d lt.
+    (h j d lt).total_is ∙ ap (λ (b : Bool). cond {A = Option ℕ} b (Some (length (offered j events))) None) (ended j lt)
+
+pub last_none : (inputs : List Input) (c : Config) (events : List Event) → length inputs ≡ length c.plps → AllFed inputs c events → ¬ (AllEnded inputs) → ¬ (IsLast c events)
+last_none inputs c events len h off = λ last.
+    off (λ j d lt. ap is_some (totals inputs c events h (λ plp inside. last.ended plp (omega arith)) j d lt))
+
+pub last_some : (inputs : List Input) (c : Config) (events : List Event) (frames count : ℕ) → length inputs ≡ length c.plps → AllFed inputs c events → frames ≡ begun events → AllEnded inputs
+    → ((packets : ℕ → ℕ) → HaveEnded inputs packets → count ≡ frame_count c packets) → (count ≡ frames → IsLast c events) × (IsLast c events → count ≡ frames)
+last_some inputs c events frames count len h e ended is =
+    let all = totals_ended inputs c events h ended in
+    let counted : count ≡ frame_count c (λ plp. length (offered plp events)) = is _ (totals inputs c events h all) in
+    (λ same. record { ended = λ plp lt. all plp (omega arith); frames = sym e ∙ sym same ∙ counted }, λ last. counted ∙ sym last.frames ∙ sym e)

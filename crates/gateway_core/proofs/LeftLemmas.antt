@@ -69,10 +69,10 @@ block_left c n blocks plp block bytes is =
     elim (cases_lt block (length (slice_index_or blocks plp []))) [
       | inl lt ↦
           let one : slice_index_or (slice_index_or blocks plp []) block [] ≡ bytes =
-              let e : Some (slice_index_or (slice_index_or blocks plp []) block []) ≡ Some bytes = sym (slice_get-get_or (slice_index_or blocks plp []) block [] lt) ∙ is in cc in
+          let e : Some (slice_index_or (slice_index_or blocks plp []) block []) ≡ Some bytes = sym (slice_get-get_or (slice_index_or blocks plp []) block [] lt) ∙ is in cc in
           let at : slice_index_or (bits_at blocks plp) block [] ≡ bits_of bytes = get_or-map bits_of (slice_index_or blocks plp []) block [] [] lt ∙ ap bits_of one in
           let more : drop block (bits_at blocks plp) ≡ bits_of bytes ∷ drop (block + 1) (bits_at blocks plp) =
-              drop_more (bits_at blocks plp) block [] (rw (length-map (slice_index_or blocks plp []) bits_of) lt) ∙ ap (λ (b : List Bool). b ∷ drop (block + 1) (bits_at blocks plp)) at in
+          drop_more (bits_at blocks plp) block [] (rw (length-map (slice_index_or blocks plp []) bits_of) lt) ∙ ap (λ (b : List Bool). b ∷ drop (block + 1) (bits_at blocks plp)) at in
           let off : (block + 1 == 0) ≡ false = ne_eqb (block + 1) 0 (λ e. absurd (omega arith)) in
           rw (more, off) refl
       | inr ge ↦ absurd (let e : None ≡ Some bytes = sym (slice_get_past (slice_index_or blocks plp []) block ge) ∙ is in cc)
@@ -92,9 +92,9 @@ pub none_left : (c : Config) (n : ℕ) (step : Step) (signal : Body) (blocks : L
     → (from_step c n step signal (blocks_left c n blocks plp block) ≡ []) × (from_step c n step signal (blocks_left c n blocks next_plp next_block) ≡ [])
 none_left c n step signal blocks plp block next_plp next_block e len same inside none =
     let past : length blocks ≤ next_plp =
-        elim (cases_lt next_plp (length blocks)) [
-          | inl lt ↦ absurd (let s : None ≡ Some (slice_index_or (slice_index_or blocks next_plp []) next_block []) = sym none ∙ slice_get-get_or (slice_index_or blocks next_plp []) next_block [] (inside lt) in cc)
-          | inr ge ↦ ge
-        ] in
+    elim (cases_lt next_plp (length blocks)) [
+      | inl lt ↦ absurd (let s : None ≡ Some (slice_index_or (slice_index_or blocks next_plp []) next_block []) = sym none ∙ slice_get-get_or (slice_index_or blocks next_plp []) next_block [] (inside lt) in cc)
+      | inr ge ↦ ge
+    ] in
     let gone = past_left c n blocks next_plp next_block len past in
     (ap (λ (s : Step). from_step c n s signal (blocks_left c n blocks plp block)) e ∙ sym same ∙ gone, ap (λ (s : Step). from_step c n s signal (blocks_left c n blocks next_plp next_block)) e ∙ gone)

@@ -5,3 +5,4 @@ pub mod SignalLemmas
 pub mod CarriedLemmas
 pub mod FlowLemmas
 pub mod HoldsLemmas
+pub mod LawLemmas

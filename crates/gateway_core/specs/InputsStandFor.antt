@@ -1,5 +1,5 @@
 -- What the inputs of all PLPs stand for. No public clause cites this module.
-use Rattle.std.specs.Prelude.{◌≡◌, ◌≢◌, ◌<◌, ◌≤◌, ℕ, List, [], length, map, slice_index_or}
+use Rattle.std.specs.Prelude.{◌≡◌, ◌≢◌, ◌<◌, ◌≤◌, ℕ, true, is_some, Some, List, [], length, map, slice_index_or}
 use Rattle.terms.specs.Bits.{bits_of}
 use Rattle.plp_config.specs.Plps.{plp_at}
 use Rattle.plp_config.specs.declared.config.Config.{Config}
@@ -31,7 +31,7 @@ pub record CutsOne (c : Config) (frame : ℕ) (old new : List Input) (plp : ℕ)
   pub others : (j : ℕ) (d : Input) → j ≢ plp → slice_index_or new j d ≡ slice_index_or old j d
   pub fed : (d : Input) (t : Told) → t.frame ≡ frame → IsFed (slice_index_or old plp d) c plp t → IsFed (slice_index_or new plp d) c plp (in_next t)
   pub made : (d : Input) (t : Told) (input : List (List ℕ)) → t.frame ≡ frame → IsFed (slice_index_or old plp d) c plp t → Continues t input
-    → map bits_of blocks ≡ blocks_of c plp c.ticks (packet_at input) frame
+      → map bits_of blocks ≡ blocks_of c plp c.ticks (packet_at input) frame
   pub few : (d : Input) → length blocks ≤ most (slice_index_or old plp d)
 
 -- The inputs below a place did.
@@ -40,9 +40,16 @@ pub record CutUntil (c : Config) (frame : ℕ) (old new : List Input) (blocks : 
   pub rest : (j : ℕ) (d : Input) → place ≤ j → slice_index_or new j d ≡ slice_index_or old j d
   pub fed : (j : ℕ) (d : Input) (t : Told) → j < place → t.frame ≡ frame → IsFed (slice_index_or old j d) c j t → IsFed (slice_index_or new j d) c j (in_next t)
   pub made : (j : ℕ) (d : Input) (t : Told) (input : List (List ℕ)) → j < place → t.frame ≡ frame → IsFed (slice_index_or old j d) c j t → Continues t input
-    → map bits_of (slice_index_or blocks j []) ≡ blocks_of c j c.ticks (packet_at input) frame
+      → map bits_of (slice_index_or blocks j []) ≡ blocks_of c j c.ticks (packet_at input) frame
   pub few : (j : ℕ) (d : Input) → j < place → length (slice_index_or blocks j []) ≤ most (slice_index_or old j d)
 
 -- No input has another number of blocks at most.
 abbrev pub SameMost : List Input → List Input → Type 0
 SameMost old new = (j : ℕ) (d : Input) → most (slice_index_or new j d) ≡ most (slice_index_or old j d)
+
+-- All have ended; and after so many packets each.
+abbrev pub AllEnded : List Input → Type 0
+AllEnded inputs = (j : ℕ) (d : Input) → j < length inputs → is_some (slice_index_or inputs j d).total ≡ true
+
+abbrev pub HaveEnded : List Input → (ℕ → ℕ) → Type 0
+HaveEnded inputs packets = (j : ℕ) (d : Input) → j < length inputs → (slice_index_or inputs j d).total ≡ Some (packets j)

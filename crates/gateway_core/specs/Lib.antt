@@ -11,3 +11,11 @@ pub mod Carried
 pub mod FirstStep
 pub mod Flowing
 pub mod StandsFor
+pub mod Laws
+pub use Rattle.terms.specs.Bits
+pub use Rattle.plp_config.specs.RunLength
+pub use Rattle.plp_config.specs.SlotTime
+pub use Rattle.mode_adapt.specs.Blocks
+pub use Rattle.mode_adapt.specs.Deletion
+pub use Rattle.t2mi_packet.specs.T2miPacket
+pub use Rattle.t2mi_stream.specs.Pipe

@@ -1,8 +1,9 @@
 -- What a gateway stands for.
-use Rattle.std.specs.Prelude.{◌≡◌, ℕ, Bool, List, length, map, slice_index}
+use Rattle.std.specs.Prelude.{◌≡◌, ◌<◌, ℕ, Bool, true, List, length, map, slice_index}
+use Rattle.plp_config.specs.RunLength.{frame_count}
 use Rattle.plp_config.specs.declared.config.Config.{Config}
 use Rattle.t2mi_packet.specs.declared.packet.Body.{Body}
-use Rattle.gateway_core.specs.Events.{Event, begun, given, finished}
+use Rattle.gateway_core.specs.Events.{Event, offered, has_ended, begun, given, finished}
 use Rattle.gateway_core.specs.Flowing.{Flows, gives_unit}
 use Rattle.gateway_core.specs.InputsStandFor.{AllFed, AllContinue}
 use Rattle.gateway_core.specs.IsFed.{wanted}
@@ -47,3 +48,8 @@ has_unit g = gives_unit g.flow
 -- No more frames come.
 abbrev pub has_finished : Gateway → Bool
 has_finished g = g.flow.finished
+
+-- All inputs ended, and as many frames were begun as their packets need.
+pub record IsLast (c : Config) (events : List Event) : Type 0 where
+  pub ended : (plp : ℕ) → plp < length c.plps → has_ended plp events ≡ true
+  pub frames : begun events ≡ frame_count c (λ plp. length (offered plp events))

@@ -59,7 +59,13 @@ impl Flow {
     }
 
     /// Gives the next unit, if it is complete, and after [`Flow::finish`] also the rest. Else nothing changes.
-    pub fn next(&mut self, plan: &Plan, signalling: &Signalling, frame: &mut Frame, out: &mut [u8; 188]) -> bool
+    pub fn next(
+        &mut self,
+        plan: &Plan,
+        signalling: &Signalling,
+        frame: &mut Frame,
+        out: &mut [u8; 188],
+    ) -> bool
         requires whole { length frame.old.blocks.items ≤ length plan.now.plps }
         ensures is { result ≡ gives_unit self.old }
         ensures unit { result ≡ true → (all : List (ℕ × Body)) (given : ℕ) → Flows self.old plan.now frame.old.number (left plan.now signalling.now frame.old) all given

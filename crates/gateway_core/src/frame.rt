@@ -1,8 +1,8 @@
 // The packets of a frame, one by one.
 ghost use Rattle.std.specs.Prelude.{◌≡◌, ◌<◌, ◌≤◌, ◌^◌, length};
 
-use crate::place::{block_at, next_place};
 use crate::packet::{write_block, write_signal, write_stamp};
+use crate::place::{block_at, next_place};
 use crate::signalling::Signalling;
 use crate::step::Step;
 use bit_slice::{BitBuf, FixedBits};
@@ -29,7 +29,13 @@ impl Frame {
     ghost use Rattle.gateway_core.specs.Left.{left, Builds};
 
     // Builds the packet of the next block, if there is one.
-    fn build_block(&mut self, plan: &Plan, signalling: &Signalling, number: u8, out: &mut FixedBits<8202>) -> bool
+    fn build_block(
+        &mut self,
+        plan: &Plan,
+        signalling: &Signalling,
+        number: u8,
+        out: &mut FixedBits<8202>,
+    ) -> bool
         requires whole { length self.old.blocks.items ≤ length plan.now.plps }
         requires step { self.old.step ≡ Step.Blocks }
         ensures some { result ≡ true → Builds plan.now self.old.number number (left plan.now signalling.now self.old) (left plan.now signalling.now self.new) out.new }
@@ -51,7 +57,13 @@ impl Frame {
     }
 
     /// Builds the next packet, if there is one.
-    pub fn build(&mut self, plan: &Plan, signalling: &Signalling, number: u8, out: &mut FixedBits<8202>) -> bool
+    pub fn build(
+        &mut self,
+        plan: &Plan,
+        signalling: &Signalling,
+        number: u8,
+        out: &mut FixedBits<8202>,
+    ) -> bool
         requires whole { length self.old.blocks.items ≤ length plan.now.plps }
         ensures some { result ≡ true → Builds plan.now self.old.number number (left plan.now signalling.now self.old) (left plan.now signalling.now self.new) out.new }
         ensures none { result ≡ false → (left plan.now signalling.now self.old ≡ []) × (left plan.now signalling.now self.new ≡ []) }
@@ -66,7 +78,15 @@ impl Frame {
             }
             Step::Signal => {
                 let (pre, conf) = (signalling.pre.as_slice(), signalling.conf.as_slice());
-                write_signal(out, plan, number, self.number, pre, conf, self.dynamic.as_slice());
+                write_signal(
+                    out,
+                    plan,
+                    number,
+                    self.number,
+                    pre,
+                    conf,
+                    self.dynamic.as_slice(),
+                );
                 self.step = Step::Blocks;
                 true
             }

@@ -6,6 +6,7 @@ use crate::flow::Flow;
 use crate::frame::Frame;
 use crate::input::Input;
 use crate::inputs::{cut, end, offer, open_inputs, wanted};
+use crate::run_length::frame_count;
 use crate::signalling::{Signalling, dynamic_bits};
 use crate::step::{Step, first_step};
 use bit_slice::{BitBuf, OutOfMemory};
@@ -40,13 +41,13 @@ fn pid_of(plan: &Plan) -> u16
 }
 
 impl<'p> Gateway<'p> {
-    ghost use Rattle.std.specs.Prelude.{◌≡◌, ◌<◌, ◌≤◌, ◌+◌, ◌^◌, ◌++◌, ◌∷◌, ◌↔◌, ℕ, List, [], true, false, length, Some, IfOk, OnOk, IsTrue, slice_get};
+    ghost use Rattle.std.specs.Prelude.{◌≡◌, ◌<◌, ◌≤◌, ◌+◌, ◌^◌, ◌++◌, ◌∷◌, ◌↔◌, ℕ, List, [], true, false, length, Some, IfOk, OnOk, slice_get};
     ghost use Rattle.plp_config.specs.declared.config.Config.{Config};
     ghost use Rattle.t2mi_stream.specs.Pipe.{pipe};
     ghost use Rattle.gateway_core.specs.Events.{Event, Offered, Ended, Begun, Gave, Finished, begun, given, finished};
     ghost use Rattle.gateway_core.specs.InputsStandFor.{AllContinue};
     ghost use Rattle.gateway_core.specs.Packets.{front_packets};
-    ghost use Rattle.gateway_core.specs.StandsFor.{GatewayStandsFor, plps_of, wants_of, frame_of, has_unit, has_finished};
+    ghost use Rattle.gateway_core.specs.StandsFor.{GatewayStandsFor, plps_of, wants_of, frame_of, has_unit, has_finished, IsLast};
 
     /// A gateway to which nothing was offered, for a plan.
     pub fn open(alloc: Global, plan: &'p Plan) -> Result<Gateway<'p>, OutOfMemory>
@@ -131,7 +132,8 @@ impl<'p> Gateway<'p> {
             block: 0,
         };
         self.frames += 1;
-        self.flow.begin(self.plan, &self.signalling, &mut self.frame);
+        self.flow
+            .begin(self.plan, &self.signalling, &mut self.frame);
         Ok(())
     }
 
@@ -151,7 +153,18 @@ impl<'p> Gateway<'p> {
         ensures frame { frame_of self.new ≡ frame_of self.old }
         ensures finished { has_finished self.new ≡ has_finished self.old }
     {
-        self.flow.next(self.plan, &self.signalling, &mut self.frame, out)
+        self.flow
+            .next(self.plan, &self.signalling, &mut self.frame, out)
+    }
+
+    /// Whether all inputs ended and as many frames were begun as their packets need.
+    pub fn last(&self) -> bool
+        ensures { (c : Config) (events : List Event) → GatewayStandsFor self.now c events → (result ≡ true) ↔ IsLast c events }
+    {
+        match frame_count(self.plan, &self.inputs) {
+            None => false,
+            Some(frames) => frames == u128::from(self.frames),
+        }
     }
 
     /// No more frames come: the rest of the units can be taken.

@@ -12,7 +12,13 @@ use plp_config::Plan;
 
 /// Feeds the packets of a frame until 184 bytes wait or none is left, and answers whether none is. Behind the last frame that is
 /// the end.
-pub fn go_on(outlet: &mut Outlet, is_last: bool, plan: &Plan, signalling: &Signalling, frame: &mut Frame) -> bool
+pub fn go_on(
+    outlet: &mut Outlet,
+    is_last: bool,
+    plan: &Plan,
+    signalling: &Signalling,
+    frame: &mut Frame,
+) -> bool
     requires whole { length frame.old.blocks.items ≤ length plan.now.plps }
     requires open { is_finished outlet.old.piper ≡ false }
     ensures carries { (all : List (ℕ × Body)) (given : ℕ)

@@ -1,5 +1,5 @@
 // The input of one PLP.
-ghost use Rattle.std.specs.Prelude.{◌≡◌, ◌<◌, ◌≤◌, ◌^◌};
+ghost use Rattle.std.specs.Prelude.{◌≡◌, ◌<◌, ◌≤◌, ◌^◌, ℕ, Some};
 ghost use Rattle.mode_adapt.specs.StandsFor.{slot_of};
 
 use bit_slice::OutOfMemory;
@@ -21,10 +21,11 @@ pub struct Input {
     ghost next: { slot_of chain ≡ slot },
     ghost within: { slot ≤ due },
     ghost small: { due < 2 ^ 54 },
+    ghost behind: { (count : ℕ) → total ≡ Some count → count ≤ due },
 }
 
 impl Input {
-    ghost use Rattle.std.specs.Prelude.{◌≡◌, ◌<◌, ◌≤◌, ◌+◌, ◌*◌, ℕ, List, [], true, false, length, map, IfOk, OnOk};
+    ghost use Rattle.std.specs.Prelude.{◌≡◌, ◌<◌, ◌≤◌, ◌+◌, ◌*◌, ◌^◌, ℕ, List, [], true, false, length, map, IfOk, OnOk, IfSome};
     ghost use Rattle.terms.specs.Bits.{bits_of};
     ghost use Rattle.plp_config.specs.Plps.{plp_at};
     ghost use Rattle.plp_config.specs.Capacity.{IsPlan};
@@ -60,6 +61,15 @@ impl Input {
             Some(_) => 0,
             None => self.due - self.slot,
         }
+    }
+
+    /// How many packets there were, once the input ended.
+    pub fn total(&self) -> Option<u64>
+        ensures total { result ≡ self.now.total }
+        ensures small { IfSome result (λ total. total < 2 ^ 54) }
+    {
+        let _ = self.due;
+        self.total
     }
 
     /// Takes the packet of the next slot.

@@ -9,10 +9,13 @@ mod gateway;
 mod going_on;
 mod input;
 mod inputs;
+mod laws;
 mod outlet;
 mod packet;
 mod place;
+mod run_length;
 mod signalling;
 mod step;
 
 pub use gateway::Gateway;
+pub use laws::{front_law, not_yet_last};

@@ -8,7 +8,9 @@ ghost use Rattle.l1_signal.specs.L1Of.{dyn_of};
 ghost use Rattle.gateway_core.specs.Signalling.{pre_part, conf_part, dyn_part};
 
 use bit_slice::{BitBuf, FixedBits, OutOfMemory};
-use l1_signal::{L1Dyn, conf_law, conf_of, dyn_law, dyn_of, pre_law, pre_of, write_conf, write_dyn, write_pre};
+use l1_signal::{
+    L1Dyn, conf_law, conf_of, dyn_law, dyn_of, pre_law, pre_of, write_conf, write_dyn, write_pre,
+};
 use mode_adapt::FrameBytes;
 use plp_config::Plan;
 use scheduler::{Shape, field_law, order_law, shape};
@@ -114,7 +116,12 @@ fn counts_of(alloc: Global, blocks: &[FrameBytes]) -> Result<Vec<u16>, OutOfMemo
 
 /// The dynamic part of a frame of these blocks.
 #[tactic(auto, unfolding(crate::specs::Signalling::dyn_part))]
-pub fn dynamic_bits(alloc: Global, plan: &Plan, frame: u64, blocks: &[FrameBytes]) -> Result<BitBuf, OutOfMemory>
+pub fn dynamic_bits(
+    alloc: Global,
+    plan: &Plan,
+    frame: u64,
+    blocks: &[FrameBytes],
+) -> Result<BitBuf, OutOfMemory>
     requires whole { length blocks.now ≡ length plan.now.plps }
     requires few { (plp : ℕ) → plp < length plan.now.plps → length (slice_index_or blocks.now plp []) ≤ (plp_at plan.now.plps plp).blocks }
     ensures value { IfOk result (λ bits. bits ≡ dyn_part plan.now frame (map length blocks.now)) }

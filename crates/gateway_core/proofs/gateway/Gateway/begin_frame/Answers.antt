@@ -21,14 +21,14 @@ returns-clause-stands c = λ config events h.
     let g = c.args.self.now in
     let p = g.plan.now in
     let was : Holds g.inputs.items g.signalling g.frames g.flow g.frame.number (left p g.signalling g.frame) p events =
-        subst (λ (k : Config). Holds g.inputs.items g.signalling g.frames g.flow g.frame.number (left p g.signalling g.frame) k events) (sym h.0) h.1 in
+    subst (λ (k : Config). Holds g.inputs.items g.signalling g.frames g.flow g.frame.number (left p g.signalling g.frame) k events) (sym h.0) h.1 in
     let old : AllFed c.deref_mut.result.now p events = subst (λ (l : List Input). AllFed l p events) (sym c.deref_mut.ensures.value) was.fed in
     let items = with_items_is g.inputs c.cut.new.inputs (c.cut.auto.inputs ∙ c.deref_mut.ensures.len) in
     let fed = subst (λ (l : List Input). AllFed l p (events ++ Begun ∷ [])) (sym items) (c.in_ok-blocks.ensures.fed events was.frames_are old) in
     let dynamic = c.in_ok-dynamic.ensures.value ∙ ap (λ (b : List (List (List ℕ))). dyn_part p g.frames (map length b)) c.deref.ensures.value in
     let new = holds_begin _ _ _ _ _ c.begin.new.self _ c.begin.new.frame.number _ _ (left p g.signalling c.begin.new.frame) c.in_ok-dynamic.dynamic c.in_ok-blocks.blocks.items p events
-        (dry_when g.flow.dry _ _ g.flow.full (sym c.requires.given)) c.begin.ensures.finished fed dynamic c.in_ok-blocks.ensures.len
-        (λ all more. c.in_ok-blocks.ensures.blocks events was.frames_are old all more)
-        (ap (λ (s : Step). from_step p g.frames s (l1_body p g.frames g.signalling.pre g.signalling.conf c.in_ok-dynamic.dynamic) (blocks_left p g.frames c.in_ok-blocks.blocks.items 0 0)) c.first_step.ensures)
-        c.begin.ensures.flows was in
+    (dry_when g.flow.dry _ _ g.flow.full (sym c.requires.given)) c.begin.ensures.finished fed dynamic c.in_ok-blocks.ensures.len
+    (λ all more. c.in_ok-blocks.ensures.blocks events was.frames_are old all more)
+    (ap (λ (s : Step). from_step p g.frames s (l1_body p g.frames g.signalling.pre g.signalling.conf c.in_ok-dynamic.dynamic) (blocks_left p g.frames c.in_ok-blocks.blocks.items 0 0)) c.first_step.ensures)
+    c.begin.ensures.flows was in
     (h.0, subst (λ (k : Config). Holds (with_items g.inputs c.cut.new.inputs).items g.signalling (g.frames + 1) c.begin.new.self c.begin.new.frame.number (left p g.signalling c.begin.new.frame) k (events ++ Begun ∷ [])) h.0 new)

@@ -11,6 +11,8 @@ pub returns-clause-stands : goal.returns-clause-stands
 unfolding GatewayStandsFor
 returns-clause-stands c = λ config events h.
     let old : AllFed c.deref_mut.result.now config events = subst (λ (l : List Input). AllFed l config events) (sym c.deref_mut.ensures.value) h.1.fed in
-    let items = with_items_is c.args.self.now.inputs c.end.new.inputs (c.end.auto.inputs ∙ c.deref_mut.ensures.len) in
-    (h.0, holds_end _ _ _ _ _ _ _ config events c.args.plp
-        (subst (λ (l : List Input). AllFed l config (events ++ Ended c.args.plp ∷ [])) (sym items) (c.end.ensures.fed config events old)) h.1)
+    let items = with_items_is c.args.self.now.inputs c.end.new.inputs (c.end.auto.inputs ∙ c.deref_mut.ensures.len) in (
+      h.0,
+      holds_end _ _ _ _ _ _ _ config events c.args.plp
+          (subst (λ (l : List Input). AllFed l config (events ++ Ended c.args.plp ∷ [])) (sym items) (c.end.ensures.fed config events old)) h.1,
+    )

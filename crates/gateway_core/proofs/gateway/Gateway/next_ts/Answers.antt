@@ -21,17 +21,21 @@ returns-clause-none c = λ off config events h fin inputs cont.
 
 pub returns-clause-stands : goal.returns-clause-stands
 unfolding GatewayStandsFor
-returns-clause-stands c = λ on config events h.
-    (h.0, holds_gave _ _ _ c.args.self.now.flow c.next.new.self _ _ _ _ config events c.next.ensures.finished
-        (subst (λ (k : Config). (all : List (ℕ × Body)) (given : ℕ) → Flows c.args.self.now.flow k c.args.self.now.frame.number (left c.args.self.now.plan.now c.args.self.now.signalling c.args.self.now.frame) all given
-            → Flows c.next.new.self k c.next.new.frame.number (left c.args.self.now.plan.now c.args.self.now.signalling c.next.new.frame) all (given + 1)) h.0 (c.next.ensures.flows on)) h.1)
+returns-clause-stands c = λ on config events h. (
+  h.0,
+  holds_gave _ _ _ c.args.self.now.flow c.next.new.self _ _ _ _ config events c.next.ensures.finished
+      (subst (λ (k : Config). (all : List (ℕ × Body)) (given : ℕ) → Flows c.args.self.now.flow k c.args.self.now.frame.number (left c.args.self.now.plan.now c.args.self.now.signalling c.args.self.now.frame) all given
+      → Flows c.next.new.self k c.next.new.frame.number (left c.args.self.now.plan.now c.args.self.now.signalling c.next.new.frame) all (given + 1)) h.0 (c.next.ensures.flows on)) h.1,
+)
 
 pub returns-clause-still : goal.returns-clause-still
 unfolding GatewayStandsFor
 returns-clause-still c = λ off config events h.
-    let same = c.next.ensures.stays off in
-    (h.0, subst (λ (f : Flow). Holds c.args.self.now.inputs.items c.args.self.now.signalling c.args.self.now.frames f c.next.new.frame.number (left c.args.self.now.plan.now c.args.self.now.signalling c.next.new.frame) config events) (sym same.0)
-        (subst (λ (r : Frame). Holds c.args.self.now.inputs.items c.args.self.now.signalling c.args.self.now.frames c.args.self.now.flow r.number (left c.args.self.now.plan.now c.args.self.now.signalling r) config events) (sym same.1) h.1))
+    let same = c.next.ensures.stays off in (
+      h.0,
+      subst (λ (f : Flow). Holds c.args.self.now.inputs.items c.args.self.now.signalling c.args.self.now.frames f c.next.new.frame.number (left c.args.self.now.plan.now c.args.self.now.signalling c.next.new.frame) config events) (sym same.0)
+          (subst (λ (r : Frame). Holds c.args.self.now.inputs.items c.args.self.now.signalling c.args.self.now.frames c.args.self.now.flow r.number (left c.args.self.now.plan.now c.args.self.now.signalling r) config events) (sym same.1) h.1),
+    )
 
 pub returns-clause-stays : goal.returns-clause-stays
 returns-clause-stays c = λ off.

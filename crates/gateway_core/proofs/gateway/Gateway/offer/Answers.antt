@@ -11,6 +11,8 @@ pub returns-clause-stands : goal.returns-clause-stands
 unfolding GatewayStandsFor
 returns-clause-stands c = λ config events h.
     let old : AllFed c.deref_mut.result.now config events = subst (λ (l : List Input). AllFed l config events) (sym c.deref_mut.ensures.value) h.1.fed in
-    let items = with_items_is c.args.self.now.inputs c.offer.new.inputs (c.offer.auto.inputs ∙ c.deref_mut.ensures.len) in
-    (h.0, holds_offer _ _ _ _ _ _ _ config events c.args.plp c.args.packet.now c.requires.place c.requires.wanted
-        (subst (λ (l : List Input). AllFed l config (events ++ Offered c.args.plp c.args.packet.now ∷ [])) (sym items) (c.in_ok-offer.ensures.fed config events old)) h.1)
+    let items = with_items_is c.args.self.now.inputs c.offer.new.inputs (c.offer.auto.inputs ∙ c.deref_mut.ensures.len) in (
+      h.0,
+      holds_offer _ _ _ _ _ _ _ config events c.args.plp c.args.packet.now c.requires.place c.requires.wanted
+          (subst (λ (l : List Input). AllFed l config (events ++ Offered c.args.plp c.args.packet.now ∷ [])) (sym items) (c.in_ok-offer.ensures.fed config events old)) h.1,
+    )

@@ -9,12 +9,14 @@ pub returns-clause-stands : goal.returns-clause-stands
 unfolding GatewayStandsFor
 returns-clause-stands c =
     let none : length c.new-2.result.items ≡ 0 = ap length c.new-2.ensures.items in
-    let nothing = past_left c.args.plan.now 0 c.new-2.result.items 0 0 (omega arith) (omega arith) in
-    (refl, record {
-      fed = c.in_ok-open_inputs.ensures.fed;
-      pre = c.in_ok-open.ensures.pre;
-      conf = c.in_ok-open.ensures.conf;
-      frames_are = refl;
-      last = c.new-3.ensures.finished;
-      flows = λ all more. subst (λ (l : List Body). Flows c.new-3.result c.args.plan.now 0 l [] 0) (sym nothing) (c.new-3.ensures.flows c.args.plan.now 0 (sym c.pid_of.ensures.value));
-    })
+    let nothing = past_left c.args.plan.now 0 c.new-2.result.items 0 0 (omega arith) (omega arith) in (
+      refl,
+      record {
+        fed = c.in_ok-open_inputs.ensures.fed;
+        pre = c.in_ok-open.ensures.pre;
+        conf = c.in_ok-open.ensures.conf;
+        frames_are = refl;
+        last = c.new-3.ensures.finished;
+        flows = λ all more. subst (λ (l : List Body). Flows c.new-3.result c.args.plan.now 0 l [] 0) (sym nothing) (c.new-3.ensures.flows c.args.plan.now 0 (sym c.pid_of.ensures.value));
+      },
+    )

@@ -14,8 +14,8 @@ returns-clause-carries c = λ all given h.
     let whole : c.copy_packet-self.result - 0 ≡ c.copy_packet-self.result = omega arith in
     let bytes : between c.copy_packet-self.new.bytes 0 c.copy_packet-self.result ≡ bytes_of c.build.new.out = ap (λ (k : ℕ). take k c.copy_packet-self.new.bytes) whole ∙ c.copy_packet-self.ensures.bytes in
     let was : Carries c.args.self.now.piper (between c.args.self.now.bytes c.args.self.now.at c.args.self.now.len) c.args.self.now.number c.args.plan.now c.args.frame.now.number
-        (b.body ∷ left c.args.plan.now c.args.signalling.now c.build.new.self) all given =
-        subst (λ (l : List Body). Carries c.args.self.now.piper (between c.args.self.now.bytes c.args.self.now.at c.args.self.now.len) c.args.self.now.number c.args.plan.now c.args.frame.now.number l all given) b.was h in
+    (b.body ∷ left c.args.plan.now c.args.signalling.now c.build.new.self) all given =
+    subst (λ (l : List Body). Carries c.args.self.now.piper (between c.args.self.now.bytes c.args.self.now.at c.args.self.now.len) c.args.self.now.number c.args.plan.now c.args.frame.now.number l all given) b.was h in
     let built = carries_build c.args.self.now.piper c.begin.new.self _ _ c.build.new.out c.args.self.now.number c.args.plan.now c.args.frame.now.number b.body (left c.args.plan.now c.args.signalling.now c.build.new.self) all given
-        none c.begin.ensures.stands b.built bytes was in
+    none c.begin.ensures.stands b.built bytes was in
     subst (λ (n : ℕ). Carries c.begin.new.self (between c.copy_packet-self.new.bytes 0 c.copy_packet-self.result) ((c.args.self.now.number + 1) % 256) c.args.plan.now n (left c.args.plan.now c.args.signalling.now c.build.new.self) all given) (sym c.build.ensures.number) built

@@ -1,0 +1,22 @@
+-- Laws of the packets of a run.
+use Rattle.std.specs.Prelude.{◌≡◌, ◌<◌, ◌≤◌, ℕ, ◌+◌, ◌-◌, ◌*◌, List, ◌++◌, length}
+use Rattle.plp_config.specs.Capacity.{IsPlan}
+use Rattle.plp_config.specs.RunLength.{frame_count}
+use Rattle.plp_config.specs.SlotTime.{slots_by}
+use Rattle.plp_config.specs.declared.config.Config.{Config}
+use Rattle.mode_adapt.specs.Deletion.{packet_at}
+use Rattle.gateway_core.specs.Packets.{front_packets}
+
+-- A run is three frames longer at least than the frame under way when all packets that it wants of an input were there.
+abbrev pub NotYetLast : Type 0
+NotYetLast = (c : Config) (packets : ℕ → ℕ) (plp m : ℕ) → IsPlan c → plp < length c.plps → slots_by c plp (m * c.ticks) ≤ packets plp → m + 3 < frame_count c packets
+
+-- The packets of fewer frames are the first ones.
+abbrev pub FrontsGrow : Type 0
+FrontsGrow = (c : Config) (inputs : ℕ → List (List ℕ)) (n k : ℕ) → (more : List (List ℕ)) × (front_packets c inputs (n + k) ≡ front_packets c inputs n ++ more)
+
+-- The packets of the frames below n follow from the input packets in the slots that are over when the last of these frames begins.
+abbrev pub FrontsDecided : Type 0
+FrontsDecided = (c : Config) (inputs other : ℕ → List (List ℕ)) (n : ℕ) → IsPlan c
+    → ((plp k : ℕ) → plp < length c.plps → k < slots_by c plp ((n - 1) * c.ticks) → packet_at (inputs plp) k ≡ packet_at (other plp) k)
+    → front_packets c inputs n ≡ front_packets c other n

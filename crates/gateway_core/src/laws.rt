@@ -1,0 +1,26 @@
+// Laws of the definitions. Their functions do nothing.
+ghost use Rattle.gateway_core.specs.Laws.{NotYetLast, FrontsGrow, FrontsDecided};
+
+use mode_adapt::blocks_law;
+use plp_config::{length_law, run_length_law, slot_time_law};
+
+/// A run is three frames longer at least than the frame under way when all packets that it wants of an input were there. So a
+/// caller that ends each input where it ends, and begins no frame once the last was begun, begins no frame behind the run.
+pub fn not_yet_last()
+    ensures { NotYetLast }
+{
+    length_law();
+    run_length_law();
+    slot_time_law();
+}
+
+/// The packets of fewer frames are the first ones, and follow from the packets of the slots that are over when the last of
+/// these frames begins.
+pub fn front_law()
+    ensures grow { FrontsGrow }
+    ensures decided { FrontsDecided }
+{
+    blocks_law();
+    length_law();
+    slot_time_law();
+}
