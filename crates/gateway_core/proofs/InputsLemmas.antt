@@ -3,7 +3,7 @@ use Rattle.std.proofs.Common.{◌≡◌, ◌≢◌, ℕ, zero, suc, ◌+◌, ◌
 use Rattle.std.specs.Prelude.{slice_index_or, slice_index, slice_set, OnOk, IfOk, ◌==◌, ◌||◌}
 use Rattle.std.proofs.lemmas.Bool.{cases_eq, cases_lt, ne_eqb}
 use Rattle.std.proofs.lemmas.Grind.{flat_map-append}
-use Rattle.std.proofs.lemmas.List.{length-set, get_or-set_same, get_or-set_other, get_or-map, get_or_default, get_or_append_left, get_or_push, length_push}
+use Rattle.std.proofs.lemmas.List.{length-map, map-set, length-set, get_or-set_same, get_or-set_other, get_or-map, get_or_default, get_or_append_left, get_or_push, length_push}
 use Rattle.std.proofs.lemmas.List.Folds.{list_any-append}
 use Rattle.std.proofs.lemmas.List.Sums.{sum_by-append}
 use Rattle.terms.specs.Bits.{bits_of}
@@ -219,3 +219,17 @@ pub cut_few : (c : Config) (frame : ℕ) (old new : List Input) (blocks : List (
     → length old ≡ length c.plps → AreFor old c → plp < length c.plps → length (slice_index_or blocks plp []) ≤ (plp_at c.plps plp).blocks
 cut_few c frame [] new blocks n plp h all whole is lt = absurd (omega arith)
 cut_few c frame (x ∷ xs) new blocks n plp h all whole is lt = omega (arith, h.few plp x (omega arith), is plp x (omega arith))
+
+-- what the others want stays
+pub others_want : (items : List Input) (s : ℕ) (new : Input) (j : ℕ) → j ≢ s → slice_index (map wanted (slice_set items s new)) j ≡ slice_index (map wanted items) j
+others_want items s new j differ = ap (λ (l : List ℕ). slice_index l j) (map-set wanted items s new) ∙ get_or-set_other (map wanted items) s j (wanted new) 0 differ
+
+pub one_wants : (items : List Input) (s : ℕ) (new : Input) → s < length items → slice_index (map wanted (slice_set items s new)) s ≡ wanted new
+one_wants items s new lt =
+    let inside : s < length (map wanted items) = rw (length-map items wanted) lt in
+    ap (λ (l : List ℕ). slice_index l s) (map-set wanted items s new) ∙ get_or-set_same (map wanted items) s (wanted new) 0 inside
+
+pub fewer_ok : {E : Type 0} (r : Result (Unit {0}) E) (items : List Input) (s : ℕ) (d new : Input) → s < length items → OnOk r (wanted new + 1 ≡ wanted (slice_index_or items s d))
+    → OnOk r (slice_index (map wanted (slice_set items s new)) s + 1 ≡ slice_index (map wanted items) s)
+fewer_ok (Ok u) items s d new lt h = ap (λ (n : ℕ). n + 1) (one_wants items s new lt) ∙ h ∙ sym (get_or-map wanted items s d 0 lt)
+fewer_ok (Err e) items s d new lt h = tt

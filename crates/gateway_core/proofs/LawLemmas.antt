@@ -16,7 +16,8 @@ use Rattle.mode_adapt.specs.Blocks.{blocks_of}
 use Rattle.mode_adapt.specs.Deletion.{packet_at}
 use Rattle.mode_adapt.specs.Laws.{BlocksLaw}
 use Rattle.gateway_core.specs.Carried.{of_frame}
-use Rattle.gateway_core.specs.Laws.{NotYetLast, FrontsGrow, FrontsDecided}
+use Rattle.gateway_core.specs.Events.{offered}
+use Rattle.gateway_core.specs.Laws.{NotYetLast, FrontsGrow, FrontsDecided, LastIsAll}
 use Rattle.gateway_core.specs.Packets.{l1_body, block_bodies, plp_bodies, with_stamp, counts_of, frame_bodies, frame_blocks, bodies_before, packets_from, front_packets}
 use Rattle.gateway_core.specs.Signalling.{pre_part, conf_part, dyn_part}
 use Rattle.gateway_core.proofs.CarriedLemmas.{packets_append}
@@ -87,3 +88,20 @@ fronts_decided blocks slot rises c inputs other n plan h =
     let t : m * c.ticks ≤ (n - 1) * c.ticks = let d : m ≤ n - 1 = omega arith in mul-le-mul_right c.ticks d in
     let le = rises (num c) (den c j) (m * c.ticks) ((n - 1) * c.ticks) (omega (arith, s.0, s.2)) t in
     h j k configured (omega (arith, inside, le))))))
+
+tick_same : (c : Config) (f g : ℕ → ℕ) (n : ℕ) → ((j : ℕ) → j < n → f j ≡ g j) → last_tick c f n ≡ last_tick c g n
+tick_same c f g zero h = tick_none c f ∙ sym (tick_none c g)
+tick_same c f g (suc n) h =
+    subst (λ (k : ℕ). last_tick c f k ≡ last_tick c g k) (add-one n)
+    (tick_more c f n ∙ ap (λ (m : ℕ). max m (start c n (f n) + delay c n)) (tick_same c f g n (λ j lt. h j (omega arith)))
+    ∙ ap (λ (k : ℕ). max (last_tick c g n) (start c n k + delay c n)) (h n (omega arith)) ∙ sym (tick_more c g n))
+
+count_same : (c : Config) (f g : ℕ → ℕ) → ((j : ℕ) → j < length c.plps → f j ≡ g j) → frame_count c f ≡ frame_count c g
+unfolding frame_count
+count_same c f g h = ap (λ (tick : ℕ). div_ceil tick (c.frames * c.ticks) * c.frames) (tick_same c f g (length c.plps) h)
+
+pub last_all : LastIsAll
+last_all c events inputs last cont =
+    let same : (j : ℕ) → j < length c.plps → length (offered j events) ≡ length (inputs j) =
+        λ j lt. let h = cont j lt in sym (ap length (h.front ∙ ap (λ (l : List (List ℕ)). offered j events ++ l) (h.whole (last.ended j lt)) ∙ append-nil (offered j events))) in
+    ap (front_packets c inputs) (last.frames ∙ count_same c _ _ same)

@@ -5,7 +5,10 @@ use Rattle.plp_config.specs.RunLength.{frame_count}
 use Rattle.plp_config.specs.SlotTime.{slots_by}
 use Rattle.plp_config.specs.declared.config.Config.{Config}
 use Rattle.mode_adapt.specs.Deletion.{packet_at}
-use Rattle.gateway_core.specs.Packets.{front_packets}
+use Rattle.gateway_core.specs.Events.{Event, begun}
+use Rattle.gateway_core.specs.InputsStandFor.{AllContinue}
+use Rattle.gateway_core.specs.Packets.{front_packets, packets_of}
+use Rattle.gateway_core.specs.StandsFor.{IsLast}
 
 -- A run is three frames longer at least than the frame under way when all packets that it wants of an input were there.
 abbrev pub NotYetLast : Type 0
@@ -20,3 +23,7 @@ abbrev pub FrontsDecided : Type 0
 FrontsDecided = (c : Config) (inputs other : ℕ → List (List ℕ)) (n : ℕ) → IsPlan c
     → ((plp k : ℕ) → plp < length c.plps → k < slots_by c plp ((n - 1) * c.ticks) → packet_at (inputs plp) k ≡ packet_at (other plp) k)
     → front_packets c inputs n ≡ front_packets c other n
+
+-- When the last frame was begun, the packets of the frames begun are all packets.
+abbrev pub LastIsAll : Type 0
+LastIsAll = (c : Config) (events : List Event) (inputs : ℕ → List (List ℕ)) → IsLast c events → AllContinue c events inputs → front_packets c inputs (begun events) ≡ packets_of c inputs

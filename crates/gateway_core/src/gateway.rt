@@ -41,7 +41,7 @@ fn pid_of(plan: &Plan) -> u16
 }
 
 impl<'p> Gateway<'p> {
-    ghost use Rattle.std.specs.Prelude.{◌≡◌, ◌<◌, ◌≤◌, ◌+◌, ◌^◌, ◌++◌, ◌∷◌, ◌↔◌, ℕ, List, [], true, false, length, Some, IfOk, OnOk, slice_get};
+    ghost use Rattle.std.specs.Prelude.{◌≡◌, ◌≢◌, ◌<◌, ◌≤◌, ◌+◌, ◌^◌, ◌++◌, ◌∷◌, ◌↔◌, ℕ, List, [], true, false, length, Some, IfOk, OnOk, slice_get};
     ghost use Rattle.plp_config.specs.declared.config.Config.{Config};
     ghost use Rattle.t2mi_stream.specs.Pipe.{pipe};
     ghost use Rattle.gateway_core.specs.Events.{Event, Offered, Ended, Begun, Gave, Finished, begun, given, finished};
@@ -89,6 +89,8 @@ impl<'p> Gateway<'p> {
         requires wanted { 0 < wants_of self.old plp }
         requires given { has_unit self.old ≡ false }
         ensures stands { OnOk result ((c : Config) (events : List Event) → GatewayStandsFor self.old c events → GatewayStandsFor self.new c (events ++ Offered plp packet.now ∷ [])) }
+        ensures fewer { OnOk result (wants_of self.new plp + 1 ≡ wants_of self.old plp) }
+        ensures others { OnOk result ((other : ℕ) → other ≢ plp → wants_of self.new other ≡ wants_of self.old other) }
         ensures plps { plps_of self.new ≡ plps_of self.old }
         ensures frame { frame_of self.new ≡ frame_of self.old }
         ensures unit { has_unit self.new ≡ has_unit self.old }
@@ -102,6 +104,8 @@ impl<'p> Gateway<'p> {
     pub fn end_input(&mut self, plp: usize)
         requires { plp < plps_of self.old }
         ensures stands { (c : Config) (events : List Event) → GatewayStandsFor self.old c events → GatewayStandsFor self.new c (events ++ Ended plp ∷ []) }
+        ensures none { wants_of self.new plp ≡ 0 }
+        ensures others { (other : ℕ) → other ≢ plp → wants_of self.new other ≡ wants_of self.old other }
         ensures plps { plps_of self.new ≡ plps_of self.old }
         ensures frame { frame_of self.new ≡ frame_of self.old }
         ensures unit { has_unit self.new ≡ has_unit self.old }

@@ -76,6 +76,7 @@ impl Input {
     pub fn offer(&mut self, packet: &TsPacket) -> Result<(), OutOfMemory>
         requires { 0 < wanted self.old }
         ensures fed { OnOk result ((c : Config) (plp : ℕ) (t : Told) → IsFed self.old c plp t → IsFed self.new c plp (with_packet t packet.now)) }
+        ensures wanted { OnOk result (wanted self.new + 1 ≡ wanted self.old) }
         ensures most { most self.new ≡ most self.old }
     {
         self.chain.offer(packet)?;
@@ -86,6 +87,7 @@ impl Input {
     /// The input has ended.
     pub fn end(&mut self)
         ensures fed { (c : Config) (plp : ℕ) (t : Told) → IsFed self.old c plp t → IsFed self.new c plp (at_end t) }
+        ensures wanted { wanted self.new ≡ 0 }
         ensures most { most self.new ≡ most self.old }
     {
         if self.total.is_none() {

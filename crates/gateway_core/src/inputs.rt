@@ -44,6 +44,8 @@ pub fn offer(inputs: &mut [Input], plp: usize, packet: &TsPacket) -> Result<(), 
     requires place { plp < length inputs.old }
     requires wanted { 0 < slice_index (map wanted inputs.old) plp }
     ensures fed { OnOk result ((c : Config) (events : List Event) → AllFed inputs.old c events → AllFed inputs.new c (events ++ Offered plp packet.now ∷ [])) }
+    ensures fewer { OnOk result (slice_index (map wanted inputs.new) plp + 1 ≡ slice_index (map wanted inputs.old) plp) }
+    ensures others { (other : ℕ) → other ≢ plp → slice_index (map wanted inputs.new) other ≡ slice_index (map wanted inputs.old) other }
     ensures most { SameMost inputs.old inputs.new }
 {
     inputs[plp].offer(packet)
@@ -53,6 +55,8 @@ pub fn offer(inputs: &mut [Input], plp: usize, packet: &TsPacket) -> Result<(), 
 pub fn end(inputs: &mut [Input], plp: usize)
     requires { plp < length inputs.old }
     ensures fed { (c : Config) (events : List Event) → AllFed inputs.old c events → AllFed inputs.new c (events ++ Ended plp ∷ []) }
+    ensures none { slice_index (map wanted inputs.new) plp ≡ 0 }
+    ensures others { (other : ℕ) → other ≢ plp → slice_index (map wanted inputs.new) other ≡ slice_index (map wanted inputs.old) other }
     ensures most { SameMost inputs.old inputs.new }
 {
     inputs[plp].end();

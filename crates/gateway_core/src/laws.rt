@@ -1,5 +1,5 @@
 // Laws of the definitions. Their functions do nothing.
-ghost use Rattle.gateway_core.specs.Laws.{NotYetLast, FrontsGrow, FrontsDecided};
+ghost use Rattle.gateway_core.specs.Laws.{NotYetLast, FrontsGrow, FrontsDecided, LastIsAll};
 
 use mode_adapt::blocks_law;
 use plp_config::{length_law, run_length_law, slot_time_law};
@@ -24,3 +24,8 @@ pub fn front_law()
     length_law();
     slot_time_law();
 }
+
+/// When the last frame was begun, the packets of the frames begun are those of the run.
+pub fn last_law()
+    ensures { LastIsAll }
+{}

@@ -18,4 +18,4 @@ mod signalling;
 mod step;
 
 pub use gateway::Gateway;
-pub use laws::{front_law, not_yet_last};
+pub use laws::{front_law, last_law, not_yet_last};

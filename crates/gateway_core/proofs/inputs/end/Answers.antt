@@ -1,4 +1,5 @@
-use Rattle.gateway_core.proofs.InputsLemmas.{fed_ended, same_most}
+use Rattle.std.proofs.Common.{◌∙◌}
+use Rattle.gateway_core.proofs.InputsLemmas.{fed_ended, one_wants, others_want, same_most}
 use Rattle.gateway_core.proofs.inputs.end.Goals as goal
 
 pub returns-clause-fed : goal.returns-clause-fed
@@ -6,3 +7,9 @@ returns-clause-fed c = λ config events h. fed_ended c.args.inputs.now c.args.pl
 
 pub returns-clause-most : goal.returns-clause-most
 returns-clause-most c = same_most c.args.inputs.now c.args.plp c.index-inputs-plp.result c.end.new.self c.requires c.end.ensures.most
+
+pub returns-clause-none : goal.returns-clause-none
+returns-clause-none c = one_wants c.args.inputs.now c.args.plp c.end.new.self c.requires ∙ c.end.ensures.wanted
+
+pub returns-clause-others : goal.returns-clause-others
+returns-clause-others c = λ other differ. others_want c.args.inputs.now c.args.plp c.end.new.self other differ

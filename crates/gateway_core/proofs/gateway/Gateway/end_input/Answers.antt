@@ -1,9 +1,11 @@
-use Rattle.std.proofs.Common.{◌≡◌, ◌∙◌, ◌++◌, ◌∷◌, [], List, ℕ, length, sym, subst}
+use Rattle.std.proofs.Common.{◌≡◌, ◌≢◌, ◌∙◌, ◌++◌, ◌∷◌, [], List, ℕ, length, map, sym, subst}
+use Rattle.std.specs.Prelude.{slice_index}
 use Rattle.std.proofs.lemmas.List.{with_items_is}
 use Rattle.gateway_core.specs.Events.{Ended}
 use Rattle.gateway_core.specs.InputsStandFor.{AllFed}
 use Rattle.gateway_core.specs.StandsFor.{GatewayStandsFor}
 use Rattle.gateway_core.specs.declared.input.Input.{Input}
+use Rattle.gateway_core.specs.IsFed.{wanted}
 use Rattle.gateway_core.proofs.HoldsLemmas.{holds_end}
 use Rattle.gateway_core.proofs.gateway.Gateway.end_input.Goals as goal
 
@@ -16,3 +18,14 @@ returns-clause-stands c = λ config events h.
       holds_end _ _ _ _ _ _ _ config events c.args.plp
           (subst (λ (l : List Input). AllFed l config (events ++ Ended c.args.plp ∷ [])) (sym items) (c.end.ensures.fed config events old)) h.1,
     )
+
+pub returns-clause-none : goal.returns-clause-none
+returns-clause-none c =
+    let items = with_items_is c.args.self.now.inputs c.end.new.inputs (c.end.auto.inputs ∙ c.deref_mut.ensures.len) in
+    subst (λ (l : List Input). slice_index (map wanted l) c.args.plp ≡ 0) (sym items) c.end.ensures.none
+
+pub returns-clause-others : goal.returns-clause-others
+returns-clause-others c =
+    let items = with_items_is c.args.self.now.inputs c.end.new.inputs (c.end.auto.inputs ∙ c.deref_mut.ensures.len) in
+    subst (λ (l : List Input). (other : ℕ) → other ≢ c.args.plp → slice_index (map wanted l) other ≡ slice_index (map wanted c.args.self.now.inputs.items) other) (sym items)
+    (subst (λ (l : List Input). (other : ℕ) → other ≢ c.args.plp → slice_index (map wanted c.end.new.inputs) other ≡ slice_index (map wanted l) other) c.deref_mut.ensures.value c.end.ensures.others)
