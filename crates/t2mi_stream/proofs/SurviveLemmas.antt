@@ -481,9 +481,13 @@ survives g w front pid before after packet from first last fates small packets a
     (omega (arith, left, one, carry.begins)) (omega (arith, left, two, within, passed)) (omega (arith, left, three, carry.ends, passed)) h.enough kept altered in
     let off : ℕ = offset_in (from + first) all s in
     let same : 188 * (0 + found.left) + offset_in first y (length (drop c pre)) ≡ 188 * found.left + off =
-    omega (arith, left, one, two, passed, ap (λ (k : ℕ). carried_len k all) e) in (
-      188 * found.left + off,
-      ap (option_map (λ (k : ℕ). 188 * k + off)) found.number_is,
-      subst (λ (n : ℕ). Among (placed n packet) (accepted_of pid (received (units_of pid all) from fates))) same
-          (subst (λ (u : List (List ℕ)). Among (placed (188 * (0 + found.left) + offset_in first y (length (drop c pre))) packet) (accepted_of pid (left_of u fates))) (sym h.units_are) found.there),
-    )
+    omega (arith, left, one, two, passed, ap (λ (k : ℕ). carried_len k all) e) in
+    record {
+      number = first;
+      begins = carry.begins;
+      within = carry.within;
+      place = 188 * found.left + off;
+      place_is = ap (option_map (λ (k : ℕ). 188 * k + off)) found.number_is;
+      found = subst (λ (n : ℕ). Among (placed n packet) (accepted_of pid (received (units_of pid all) from fates))) same
+          (subst (λ (u : List (List ℕ)). Among (placed (188 * (0 + found.left) + offset_in first y (length (drop c pre))) packet) (accepted_of pid (left_of u fates))) (sym h.units_are) found.there);
+    }

@@ -55,7 +55,7 @@ pub fn any_cutting()
     ensures { AnyCutting }
 {}
 
-/// A sent packet is accepted at its place, if the units that carry it are kept, whatever becomes of the others.
+/// A sent packet survives, accepted at its place, if the units that carry it are kept, whatever becomes of the others.
 pub fn survives()
     ensures { Survives }
 {
