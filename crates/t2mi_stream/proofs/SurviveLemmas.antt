@@ -17,7 +17,7 @@ use Rattle.t2mi_stream.specs.Received.Fate.{Kept, Lost, Altered}
 use Rattle.t2mi_stream.specs.Laws.{AcceptedFront, Among, ArePackets, IsStart, Survives}
 use Rattle.t2mi_stream.specs.SpellLaws.{SpellLaws}
 use Rattle.t2mi_stream.proofs.UnitLemmas.{runs_unit}
-use Rattle.t2mi_stream.proofs.PipeLemmas.{length-values, part_size}
+use Rattle.t2mi_stream.proofs.PipeLemmas.{length-values, part_size, carried_add}
 use Rattle.t2mi_stream.proofs.StartsLemmas.{starts_law}
 use Rattle.t2mi_stream.proofs.FitLemmas.{Fits, fits_append, fits_drop, fits_len, length-items, chain, stands_there}
 use Rattle.t2mi_stream.proofs.ReadsLemmas.{UnitLaws, unit_reads, carried_fits, carried_mark}
@@ -442,17 +442,6 @@ later pid (suc from) (suc steps) counter (x ∷ xs) small enough =
       small = h.small;
       enough = let k = ap length e in omega (arith, k, h.enough);
     }
-
-carried_add : (from n : ℕ) (xs : List Item) → carried_len (from + n) xs ≡ carried_len from xs + carried_len n (drop (carried_len from xs) xs)
-carried_add zero n xs = let e : 0 + n ≡ n = omega arith in ap (λ (k : ℕ). carried_len k xs) e ∙ omega arith
-carried_add (suc from) n xs =
-    let size : ℕ = (part xs).size in
-    let e : suc from + n ≡ suc (from + n) = omega arith in
-    let rest : List Item = drop size xs in
-    let more = drop-drop (carried_len from rest) size xs in
-    ap (λ (k : ℕ). carried_len k xs) e
-    ∙ ap (λ (k : ℕ). size + k) (carried_add from n rest ∙ ap (λ (l : List Item). carried_len from rest + carried_len n l) more)
-    ∙ omega arith
 
 are_parts : (before : List (List ℕ)) (packet : List ℕ) (after : List (List ℕ)) → ArePackets (before ++ packet ∷ after) → ArePackets before × (spell packet ≡ Some (length packet))
 are_parts [] packet after h = (tt, h.0)

@@ -93,7 +93,7 @@ fn kept_first(tail: bool, kept: usize) -> Option<u8>
 
 impl Piper {
     ghost use Rattle.std.specs.Prelude.{◌≡◌, ◌<◌, ◌≤◌, ◌+◌, ◌-◌, ◌++◌, ◌∷◌, [], ◌&&◌, ◌||◌, ◌==◌, ◌^◌, nat_lt, ℕ, List, Some, length, take, min, slice_get, true, false, if◌then◌else◌};
-    ghost use Rattle.t2mi_stream.specs.Pipe.{Item, units_of};
+    ghost use Rattle.t2mi_stream.specs.Pipe.{Item, units_of, carried_len};
     ghost use Rattle.t2mi_stream.specs.Events.{PiperEvent, tally};
     ghost use Rattle.t2mi_stream.specs.Events.PiperEvent.{Begun, Piped, Given, Finished};
     ghost use Rattle.t2mi_stream.specs.PiperStandsFor.{PiperStandsFor, waiting_of, is_finished};
@@ -160,6 +160,9 @@ impl Piper {
             → PiperStandsFor self.new pid (events ++ Given ∷ []) }
         ensures left { result ≡ true → (waiting_of self.new ≤ 1) × (waiting_of self.new < waiting_of self.old) }
         ensures stays { result ≡ false → (self.new ≡ self.old) × (out.new ≡ out.old) }
+        // The units given carry all bytes but those that wait.
+        ensures waits { result ≡ false → (pid : ℕ) (events : List PiperEvent) → PiperStandsFor self.old pid events
+            → carried_len (tally events).given (tally events).fed + waiting_of self.old ≡ length (tally events).fed }
         // After the end none is left out.
         ensures none { result ≡ false → is_finished self.old ≡ true → (pid : ℕ) (events : List PiperEvent)
             → PiperStandsFor self.old pid events → length (units_of pid (tally events).fed) ≡ (tally events).given }

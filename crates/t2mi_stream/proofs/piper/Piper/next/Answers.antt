@@ -1,10 +1,10 @@
 use Rattle.std.proofs.Common.{rules, ◌≡◌, ◌+◌, ◌-◌, ◌%◌, ◌<◌, ◌≤◌, ◌⊎◌, ◌∷◌, ◌∙◌, ◌==◌, ◌&&◌, ◌||◌, nat_lt, true, false, ℕ, List, Some, length, take, drop, get_or, ap, sym, subst, arith, refl, length-take-le, take-take, ⊎_elim}
 use Rattle.ts_packet.specs.Written.{written_bytes}
-use Rattle.t2mi_stream.specs.Pipe.{Part, part_of}
+use Rattle.t2mi_stream.specs.Pipe.{Part, part_of, carried_len}
 use Rattle.t2mi_stream.specs.Events.{tally}
 use Rattle.t2mi_stream.specs.Events.PiperEvent.{Given}
 use Rattle.t2mi_stream.specs.PiperStandsFor.{PiperStandsFor}
-use Rattle.t2mi_stream.proofs.PiperLemmas.{can, can_not, next_some, next_none, stands_next, left_is, kept_bytes, same_stands}
+use Rattle.t2mi_stream.proofs.PiperLemmas.{can, can_not, next_some, next_none, carried_all, stands_next, left_is, kept_bytes, same_stands}
 use Rattle.t2mi_stream.proofs.TallyLemmas.{with_event}
 use Rattle.t2mi_stream.proofs.piper.Piper.next.Goals as goal
 
@@ -17,6 +17,16 @@ returns-then-not-has_unit-clause-none c = λ _ finished pid events h.
     let count : length had ≡ p.count = length-take-le p.count p.waiting (omega (arith, full, p.inside)) in
     let test : ((p.count == 184) || (p.finished && nat_lt 0 p.count)) ≡ false = search rules in
     next_none pid had p.first p.tail p.counter p.finished (tally events).fed (tally events).given h.pipes finished (count ∙ can_not p.count p.finished test finished)
+
+pub returns-then-not-has_unit-clause-waits : goal.returns-then-not-has_unit-clause-waits
+unfolding PiperStandsFor
+returns-then-not-has_unit-clause-waits c = λ _ pid events h.
+    let p = c.args.self.now in
+    let t = tally events in
+    let had : List ℕ = take p.count p.waiting in
+    let full : length p.waiting ≡ 184 = search rules in
+    let count : length had ≡ p.count = length-take-le p.count p.waiting (omega (arith, full, p.inside)) in
+    ap (λ (n : ℕ). carried_len t.given t.fed + n) (sym count) ∙ carried_all pid had p.first p.tail p.counter p.finished t.fed t.given h.pipes
 
 pub returns-clause-given : goal.returns-clause-given
 unfolding PiperStandsFor
