@@ -8,7 +8,8 @@ use Rattle.l1_signal.specs.declared.conf.L1Conf.{L1Conf}
 use Rattle.l1_signal.specs.declared.conf_plp.ConfPlp.{ConfPlp}
 use Rattle.l1_signal.specs.Fields.{Row, Told, Ignored, fields, Reading, after, made, values_of, each_read, Spells, row_bits, RowsFit, EachSpells}
 
--- the rows before those of the PLPs: number, width in bits, which values are read, and what is told
+-- the rows before those of the PLPs: number, width in bits, which values are read, and what is told. They are cut where
+-- L1_POST_INFO_SIZE is looked at
 abbrev pub conf_first_rows : List (Row L1Conf)
 conf_first_rows =
     Told 31 15 Any (λ x. x.sub_slices_per_frame)
@@ -108,10 +109,11 @@ conf_at first more plps back = record {
 abbrev pub info_size : ℕ → ℕ
 info_size plps = 181 + 137 * plps
 
--- what reading gives, where L1-pre tells this L1_POST_INFO_SIZE: it is looked at as soon as NUM_PLP is read
+-- reading the rows of one PLP
 unfoldable pub conf_plp_read : List Bool → Reading ConfPlp
 conf_plp_read bits = made conf_plp_at (values_of conf_plp bits)
 
+-- reading from behind the PLPs on, from the PLPs on, and from behind NUM_PLP on
 abbrev pub conf_end : List ℕ → List ℕ → List ConfPlp → List Bool → Reading L1Conf
 conf_end first more plps bits = after (values_of conf_back bits) (λ back rest. Ok (conf_at first more plps back, rest))
 
@@ -122,6 +124,7 @@ abbrev pub conf_sized : ℕ → List ℕ → List Bool → Reading L1Conf
 conf_sized told first bits =
     if told == info_size (slice_index first 1) then after (values_of conf_more bits) (conf_plps first) else Err (Size told (info_size (slice_index first 1)))
 
+-- what reading gives, where L1-pre tells this L1_POST_INFO_SIZE: it is looked at as soon as NUM_PLP is read
 unfoldable pub conf_read : ℕ → List Bool → Reading L1Conf
 conf_read told bits = after (values_of conf_first bits) (conf_sized told)
 

@@ -60,16 +60,18 @@ dyn_at front plps = record {
   plps = plps;
 }
 
--- what reading gives, for so many PLPs
+-- reading the rows of one PLP
 unfoldable pub dyn_plp_read : List Bool → Reading DynPlp
 dyn_plp_read bits = made dyn_plp_at (values_of dyn_plp bits)
 
+-- reading from behind the PLPs on, and from the PLPs on
 abbrev pub dyn_end : List ℕ → List DynPlp → List Bool → Reading L1Dyn
 dyn_end front plps bits = after (values_of dyn_back bits) (λ back rest. Ok (dyn_at front plps, rest))
 
 abbrev pub dyn_plps : ℕ → List ℕ → List Bool → Reading L1Dyn
 dyn_plps count front bits = after (each_read (replicate count dyn_plp_read) bits) (dyn_end front)
 
+-- what reading gives, for so many PLPs
 unfoldable pub dyn_read : ℕ → List Bool → Reading L1Dyn
 dyn_read count bits = after (values_of dyn_front bits) (dyn_plps count)
 

@@ -114,7 +114,7 @@ conf_with sub_slices frequency plps = record {
 unfoldable pub conf_of : Config → L1Conf
 conf_of c = conf_with c.sub_slices c.frequency (map conf_plp_of c.plps)
 
--- the dynamic part of a frame of this shape
+-- the rows of the PLP at a place, in a frame of this shape
 abbrev pub dyn_plp_of : Config → FrameShape → ℕ → DynPlp
 dyn_plp_of c shape plp = record {
   plp_id = (plp_at c.plps plp).id;
@@ -122,6 +122,7 @@ dyn_plp_of c shape plp = record {
   plp_num_blocks = slice_index shape.counts plp;
 }
 
+-- the dynamic part of a frame of this shape
 unfoldable pub dyn_of : Config → ℕ → FrameShape → L1Dyn
 dyn_of c frame shape = record {
   frame_idx = frame % c.frames;

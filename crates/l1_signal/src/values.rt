@@ -17,7 +17,7 @@ use plp_config::{FecSize, Modulation, Plan, Plp, PlpKind, Rate};
 use scheduler::Shape;
 use std::alloc::Global;
 
-// The fields whose types do not say so fit their widths, and none is refused.
+// Gives back what it is given; its contract says that this can be written.
 fn fitting_pre(pre: L1Pre) -> L1Pre
     requires { HasPreNumbers pre }
     ensures value { result ≡ pre }
@@ -26,7 +26,7 @@ fn fitting_pre(pre: L1Pre) -> L1Pre
     pre
 }
 
-// The same of a PLP.
+// The same of the rows of a PLP.
 fn fitting_plp(plp: ConfPlp) -> ConfPlp
     requires { HasPlpNumbers plp }
     ensures value { result ≡ plp }
