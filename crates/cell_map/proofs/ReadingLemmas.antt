@@ -108,6 +108,16 @@ reading_on c shape address before run next old mark dummy is inside none a m s =
   one = λ some. absurd (omega (arith, some, none));
 }
 
+-- the same of the run in hand
+pub reading_hand : (c : Config) (shape : FrameShape) (address : ℕ) (run next : Run) (mark : Mark) (dummy : ℕ) → IsReading c shape address run mark dummy → address < c.cells → 0 < run.left
+    → Steps run next → IsReading c shape (address + 1) next mark dummy
+reading_hand c shape address run next mark dummy is inside some s =
+    let none : dummy ≡ 0 = elim (cases_lt 0 dummy) [
+      | inl less ↦ (let end = is.one less in absurd (omega (arith, end, some)))
+      | inr more ↦ omega (arith, more)
+    ] in
+    reading_on c shape address run run next mark mark dummy is inside none (is.next some) is.first s
+
 -- where no cell stands, as many dummy addresses as were counted
 pub reading_none : (c : Config) (shape : FrameShape) (address : ℕ) (run : Run) (mark : Mark) (old dummy : ℕ) → IsReading c shape address run mark old → address < c.cells → run.left ≡ 0
     → AreDummy c shape (address + 1) dummy → IsReading c shape (address + 1) run mark dummy

@@ -7,7 +7,7 @@ ghost use Rattle.cell_map.specs.CellMap.{Passes, cell_map};
 use crate::interleaving::position;
 use crate::rows::plp_in_frame;
 use crate::runs::cell_of;
-use crate::search::{FIRST_PLP, find};
+use crate::search::{FIRST_PLP, find_among};
 use plp_config::Plan;
 use scheduler::Shape;
 
@@ -53,7 +53,7 @@ pub fn at(plan: &Plan, shape: &Shape, address: u32) -> Option<Cell>
     requires address { address < plan.now.cells }
     ensures { result ≡ get (cell_map plan.now shape.now) address }
 {
-    match find(plan, shape, address, FIRST_PLP) {
+    match find_among(plan, shape, address, FIRST_PLP, shape.len()) {
         Some(found) => Some(cell_of(found.run)),
         None => None,
     }

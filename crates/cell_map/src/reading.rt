@@ -1,5 +1,5 @@
 // The cells of a frame in the order of their addresses.
-ghost use Rattle.std.specs.Prelude.{ℕ, ◌≡◌, ◌+◌, ◌<◌, IfNone, IfSome, length};
+ghost use Rattle.std.specs.Prelude.{◌≡◌, ◌+◌, ◌<◌, length};
 ghost use Rattle.std.specs.FinMap.{get};
 ghost use Rattle.cell_map.specs.Address.{IsCell, address_of};
 ghost use Rattle.cell_map.specs.CellMap.{Passes, cell_map};
@@ -7,7 +7,7 @@ ghost use Rattle.cell_map.specs.Runs.{RunsAt, IsMark};
 
 use crate::places::Cell;
 use crate::runs::{Run, cell_of, step};
-use crate::search::{FIRST_PLP, Found, Mark, dummies, find};
+use crate::search::{FIRST_PLP, Mark, dummies, find};
 use plp_config::Plan;
 use scheduler::Shape;
 use std::marker::Model;
@@ -40,22 +40,6 @@ impl<'a> Model for Cells<'a> {
     } };
 
     ghost invariant = { λ r. IsReading r.plan.now r.shape.now r.address r.run r.mark r.dummy };
-}
-
-// The run at an address: the one in hand, if cells of it are left.
-fn run_from(plan: &Plan, shape: &Shape, address: u32, run: Run, mark: Mark) -> Option<Found>
-    requires plps { length shape.now.counts ≡ length plan.now.plps }
-    requires passes { Passes plan.now shape.now }
-    requires mark { IsMark plan.now shape.now mark }
-    requires next { 0 < run.left → RunsAt plan.now shape.now address run }
-    ensures none { IfNone result ((j b q : ℕ) → IsCell plan.now shape.now j b q → ¬ (address_of plan.now shape.now j b q ≡ address)) }
-    ensures end { IfNone result (run.left ≡ 0) }
-    ensures some { IfSome result (λ found. RunsAt plan.now shape.now address found.run × IsMark plan.now shape.now found.mark) }
-{
-    if run.left > 0 {
-        return Some(Found { run, mark });
-    }
-    find(plan, shape, address, mark)
 }
 
 impl<'a> Cells<'a> {
@@ -102,12 +86,18 @@ impl<'a> Cells<'a> {
         ensures cell { result ≡ get (cell_map self.old.config self.old.shape) self.old.address }
         ensures next { self.new ≡ next_address self.old }
     {
+        if self.run.left > 0 {
+            let cell = cell_of(self.run);
+            self.run = step(self.run);
+            self.address += 1;
+            return Some(cell);
+        }
         if self.dummy > 0 {
             self.dummy -= 1;
             self.address += 1;
             return None;
         }
-        match run_from(self.plan, self.shape, self.address, self.run, self.mark) {
+        match find(self.plan, self.shape, self.address, self.mark) {
             Some(found) => {
                 self.run = step(found.run);
                 self.mark = found.mark;

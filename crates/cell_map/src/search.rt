@@ -52,8 +52,14 @@ pub struct Found {
     pub mark: Mark,
 }
 
-// The same of the PLPs from a mark on, up to another place.
-fn find_among(plan: &Plan, shape: &Shape, address: u32, first: Mark, end: usize) -> Option<Found>
+// The run at an address, of the PLPs from a mark on, up to a place.
+pub fn find_among(
+    plan: &Plan,
+    shape: &Shape,
+    address: u32,
+    first: Mark,
+    end: usize,
+) -> Option<Found>
     requires plps { length shape.now.counts ≡ length plan.now.plps }
     requires passes { Passes plan.now shape.now }
     requires first { IsMark plan.now shape.now first }
