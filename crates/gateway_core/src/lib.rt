@@ -19,3 +19,6 @@ mod step;
 
 pub use gateway::Gateway;
 pub use laws::{front_law, last_law, not_yet_last};
+
+#[cfg(test)]
+mod tests;
