@@ -1,6 +1,6 @@
 -- What the finite map of the pairs has at an address.
-use Rattle.std.proofs.Common.{◌≡◌, ℕ, zero, suc, ◌+◌, ◌<◌, ◌≤◌, ◌⊎◌, ⊎_elim, inl, inr, Bool, true, false, cond, List, [], ◌∷◌, ◌++◌, Some, None, length, map, refl, ap, sym, ◌∙◌, subst, arith}
-use Rattle.std.specs.Prelude.{slice_index}
+use Rattle.std.proofs.Common.{◌≡◌, ℕ, zero, suc, ◌+◌, ◌<◌, ◌≤◌, ◌⊎◌, ⊎_elim, inl, inr, Bool, true, false, cond, List, [], ◌∷◌, ◌++◌, Option, Some, None, length, map, refl, ap, sym, ◌∙◌, subst, arith}
+use Rattle.std.specs.Prelude.{slice_index, IfNone, IfSome}
 use Rattle.std.specs.Cmp.{nat_cmp_total, nat_cmp_is}
 use Rattle.std.specs.FinMap.{find, get, get-from_entries}
 use Rattle.std.specs.List.{flat_map, range_with_len}
@@ -144,6 +144,13 @@ unfolding cell_map
 get-none c shape address none =
     get-from_entries nat_cmp_total (pairs c shape) address
     ∙ find-none address (pairs c shape) (each-pair c shape (λ e. ¬ (e.0 ≡ address)) none)
+
+-- what was found, or not, is what the map has
+pub get-is : (c : Config) (shape : FrameShape) (address : ℕ) (answer : Option Cell) → Passes c shape
+    → IfNone answer ((plp block cell : ℕ) → IsCell c shape plp block cell → ¬ (address_of c shape plp block cell ≡ address))
+    → IfSome answer (StandsAt c shape address) → answer ≡ get (cell_map c shape) address
+get-is c shape address None passes none some = sym (get-none c shape address none)
+get-is c shape address (Some v) passes none some = sym (get-found c shape address v passes some)
 
 -- what is found is one of the pairs
 find-each : (P : ℕ × Cell → Type 0) (key : ℕ) (v : Cell) (es : Entries) → Each P es → find nat_cmp key es ≡ Some v → P (key, v)

@@ -141,6 +141,16 @@ pub below_in : (cells groups n block cell : ℕ) (g : Group) → 0 < groups → 
 below_in cells zero n block cell g some e f b c = absurd (omega arith)
 below_in cells (suc groups) n block cell g some e f b c = rw e (position_below cells (suc groups) n block cell f b c)
 
+pub holds_at : (cells groups n at : ℕ) (g : Group) → 0 < groups → g ≡ group_of n groups (at / cells) → cells % 5 ≡ 0 → at < n * cells →
+    Holds cells groups n at (block_at (at - g.first * cells) g) (cell_at (cells / 5) (at - g.first * cells) g)
+holds_at cells zero n at g some e f h = absurd (omega arith)
+holds_at cells (suc groups) n at g some e f h = rw e (holds cells groups n at f h)
+
+pub only_at : (cells groups n at : ℕ) (g : Group) → 0 < groups → g ≡ group_of n groups (at / cells) → cells % 5 ≡ 0 → (b q : ℕ) → b < n → q < cells → position cells groups n b q ≡ at →
+    (b ≡ block_at (at - g.first * cells) g) × (q ≡ cell_at (cells / 5) (at - g.first * cells) g)
+only_at cells zero n at g some e f b q hb hq h = absurd (omega arith)
+only_at cells (suc groups) n at g some e f b q hb hq h = rw e (only cells groups n at b q f hb hq h)
+
 -- two cells at one position are one
 pub position_one : (cells groups n b q d r : ℕ) → cells % 5 ≡ 0 → b < n → q < cells → d < n → r < cells →
     position cells groups n b q ≡ position cells groups n d r → (b ≡ d) × (q ≡ r)

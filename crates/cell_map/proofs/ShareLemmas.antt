@@ -11,11 +11,12 @@ use Rattle.cell_map.specs.declared.slices.Slices.{Slices}
 use Rattle.cell_map.specs.Interleaver.{position}
 use Rattle.cell_map.specs.Address.{IsCell, address_of}
 use Rattle.cell_map.specs.CellMap.{IsBeyond, Shares, Passes}
-use Rattle.cell_map.specs.Slices.{SlicesMeet, slices_of}
+use Rattle.cell_map.specs.Slices.{SlicesMeet, slices_of, PlaceOf}
 use Rattle.cell_map.specs.Runs.{LeavesFree}
+use Rattle.cell_map.specs.declared.interleaving.Place.{Place}
 use Rattle.cell_map.proofs.PlanLemmas.{sub_slices-some}
 use Rattle.cell_map.proofs.GroupLemmas.{bool_cases}
-use Rattle.cell_map.proofs.AtLemmas.{At, at_of_cell, cell_of_at, one_cell, cut_of}
+use Rattle.cell_map.proofs.AtLemmas.{At, at_of_cell, cell_of_at, one_cell, at_place, cut_of}
 use Rattle.cell_map.proofs.MeetingLemmas.{more_below}
 
 -- two PLPs
@@ -247,6 +248,17 @@ leaves_free c shape j a interval address wide n is e f g none b q cell far =
     let out = rw (e, f, g) at none in
     let end = out k t x.slice x.inner (omega (arith, far, x.address)) in
     omega (arith, end, x.address)
+
+pub place_law : (c : Config) (shape : FrameShape) (j : ℕ) (a : Slices) (interval address wide k t : ℕ) (place : Place) (n : ℕ) → n ≡ slice_index shape.counts j → IsPlan c → j < length c.plps → a ≡ slices_of c shape j → interval ≡ shape.interval → wide ≡ address →
+    k < a.count → t < a.len → a.start + k * interval + t ≡ wide →
+    place.block < n → place.cell < (block_cells c j) →
+    position (block_cells c j) (plp_at c.plps j).interleave n place.block place.cell ≡ k * a.len + t → PlaceOf c shape j address place
+place_law c shape j a interval address wide k t place n same is h e f g hk ht here hb hq p =
+    let hk' : k < (slices_of c shape j).count = rw e at hk in
+    let ht' : t < (slices_of c shape j).len = rw e at ht in
+    let here' : (slices_of c shape j).start + k * shape.interval + t ≡ address = rw (e, f, g) at here in
+    let p' : position (block_cells c j) (plp_at c.plps j).interleave (slice_index shape.counts j) place.block place.cell ≡ k * (slices_of c shape j).len + t = rw (same, e) at p in
+    record { there = record { configured = h; sent = rw same at hb; within = hq }; value = (at_place c shape j place.block place.cell k t hk' ht' p').address ∙ here' }
 
 pub place_inside : (c : Config) (shape : FrameShape) (j : ℕ) (a : Slices) (k t : ℕ) → IsPlan c → j < length c.plps → a ≡ slices_of c shape j → k < a.count → t < a.len →
     k * a.len + t < slice_index shape.counts j * (block_cells c j)

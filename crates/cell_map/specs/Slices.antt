@@ -4,6 +4,8 @@ use Rattle.plp_config.specs.Capacity.{block_cells}
 use Rattle.plp_config.specs.Plps.{plp_at}
 use Rattle.plp_config.specs.declared.config.Config.{Config}
 use Rattle.scheduler.specs.Shape.{FrameShape, in_type2, cells_of}
+use Rattle.cell_map.specs.Address.{IsCell, address_of}
+use Rattle.cell_map.specs.declared.interleaving.Place.{Place}
 use Rattle.cell_map.specs.declared.rows.Row.{Row}
 use Rattle.cell_map.specs.declared.slices.Slices.{Slices}
 
@@ -42,3 +44,8 @@ SliceMeets start len slices interval = (k : ℕ) × (k < slices.count) × Meets 
 abbrev pub SlicesMeet : Slices → Slices → ℕ → Type 0
 SlicesMeet a b interval =
     (j : ℕ) × ((k : ℕ) × (j < a.count) × (k < b.count) × Meets (a.start + j * interval) a.len (b.start + k * interval) b.len)
+
+-- the cell of a PLP at an address
+pub record PlaceOf (c : Config) (shape : FrameShape) (plp address : ℕ) (place : Place) : Type 0 where
+  pub there : IsCell c shape plp place.block place.cell
+  pub value : address_of c shape plp place.block place.cell ≡ address

@@ -1,5 +1,5 @@
 // The time interleaver.
-ghost use Rattle.std.specs.Prelude.{◌≡◌, ◌<◌, ◌≤◌, ◌*◌, ◌+◌, ◌/◌, ◌%◌, ◌^◌};
+ghost use Rattle.std.specs.Prelude.{ℕ, ◌≡◌, ◌<◌, ◌≤◌, ◌*◌, ◌+◌, ◌/◌, ◌%◌, ◌^◌};
 ghost use Rattle.cell_map.specs.Interleaver.{group_of as group_is, position as position_is};
 
 // Blocks that are interleaved together.
@@ -7,6 +7,13 @@ ghost use Rattle.cell_map.specs.Interleaver.{group_of as group_is, position as p
 pub struct Group {
     pub first: u32,
     pub size: u32,
+}
+
+// A cell of a block of a PLP.
+#[derive(Clone, Copy)]
+pub struct Place {
+    pub block: u32,
+    pub cell: u32,
 }
 
 // The group of a block.
@@ -52,4 +59,33 @@ pub fn position(cells: u32, length: u32, blocks: u32, block: u32, cell: u32) -> 
     let group = group_of(blocks, length, block);
     let rows = cells / 5;
     group.first * cells + cell % rows * (5 * group.size) + 5 * (block - group.first) + cell / rows
+}
+
+// The cell at a position.
+pub fn place_at(cells: u32, length: u32, blocks: u32, at: u32) -> Place
+    requires fifth { cells % 5 ≡ 0 }
+    requires few { length < 2 ^ 16 }
+    requires inside { at < blocks * cells }
+    requires small { blocks < 2 ^ 10 }
+    requires short { cells < 2 ^ 15 }
+    ensures block { result.block < blocks }
+    ensures cell { result.cell < cells }
+    ensures value { position_is cells length blocks result.block result.cell ≡ at }
+    ensures only { (b q : ℕ) → b < blocks → q < cells → position_is cells length blocks b q ≡ at → (b ≡ result.block) × (q ≡ result.cell) }
+{
+    if length == 0 {
+        return Place {
+            block: at / cells,
+            cell: at % cells,
+        };
+    }
+    let group = group_of(blocks, length, at / cells);
+    let rows = cells / 5;
+    let rest = at - group.first * cells;
+    let row = rest / (5 * group.size);
+    let column = rest % (5 * group.size);
+    Place {
+        block: group.first + column / 5,
+        cell: column % 5 * rows + row,
+    }
 }

@@ -1,13 +1,15 @@
 // Where cells stand, and which cell stands where.
-ghost use Rattle.std.specs.Prelude.{◌≡◌, ◌<◌, ◌+◌, ◌*◌, ◌/◌, ◌%◌, ◌^◌, length};
+ghost use Rattle.std.specs.Prelude.{ℕ, ◌≡◌, ◌<◌, ◌+◌, ◌*◌, ◌/◌, ◌%◌, ◌^◌, IfNone, IfSome, length};
 ghost use Rattle.std.specs.FinMap.{get};
+ghost use Rattle.plp_config.specs.Capacity.{IsPlan};
 ghost use Rattle.cell_map.specs.Address.{IsCell, address_of};
 ghost use Rattle.cell_map.specs.CellMap.{Passes, cell_map};
+ghost use Rattle.cell_map.specs.Laws.{StandsAt};
+ghost use Rattle.cell_map.specs.Slices.{PlaceOf};
 
-use crate::interleaving::position;
+use crate::interleaving::{Place, place_at, position};
 use crate::rows::plp_in_frame;
-use crate::runs::cell_of;
-use crate::search::{FIRST_PLP, find_among};
+use crate::slices::locate;
 use plp_config::Plan;
 use scheduler::Shape;
 
@@ -46,6 +48,50 @@ pub fn address(plan: &Plan, shape: &Shape, plp: usize, block: u32, cell: u32) ->
     in_slices(start, position, shape.interval(), it.slices.len as u32)
 }
 
+// The cell of a PLP at an address.
+fn place_of(plan: &Plan, shape: &Shape, plp: usize, address: u32) -> Option<Place>
+    requires plps { length shape.now.counts ≡ length plan.now.plps }
+    requires passes { Passes plan.now shape.now }
+    requires plp { plp < length plan.now.plps }
+    ensures none { IfNone result ((b q : ℕ) → IsCell plan.now shape.now plp b q → ¬ (address_of plan.now shape.now plp b q ≡ address)) }
+    ensures some { IfSome result (λ place. PlaceOf plan.now shape.now plp address place) }
+    ensures plan { IsPlan plan.now }
+{
+    let it = plp_in_frame(plan, shape, plp);
+    match locate(it.slices, u64::from(shape.interval()), u64::from(address)) {
+        Some((slice, inner)) => Some(place_at(
+            it.row.cells,
+            it.row.interleave,
+            it.count,
+            (slice * it.slices.len + inner) as u32,
+        )),
+        None => None,
+    }
+}
+
+// The same of all PLPs.
+fn found(plan: &Plan, shape: &Shape, address: u32) -> Option<Cell>
+    requires plps { length shape.now.counts ≡ length plan.now.plps }
+    requires passes { Passes plan.now shape.now }
+    ensures none { IfNone result ((j b q : ℕ) → IsCell plan.now shape.now j b q → ¬ (address_of plan.now shape.now j b q ≡ address)) }
+    ensures some { IfSome result (λ cell. StandsAt plan.now shape.now address cell) }
+{
+    let mut before = 0;
+    for plp in 0..shape.len() {
+        match place_of(plan, shape, plp, address) {
+            Some(place) => {
+                return Some(Cell {
+                    ordinal: before + place.block,
+                    cell: place.cell,
+                });
+            }
+            None => {}
+        }
+        before += u32::from(shape.count(plp));
+    }
+    None
+}
+
 /// The cell at an address, `None` where it is dummy.
 pub fn at(plan: &Plan, shape: &Shape, address: u32) -> Option<Cell>
     requires plps { length shape.now.counts ≡ length plan.now.plps }
@@ -53,8 +99,5 @@ pub fn at(plan: &Plan, shape: &Shape, address: u32) -> Option<Cell>
     requires address { address < plan.now.cells }
     ensures { result ≡ get (cell_map plan.now shape.now) address }
 {
-    match find_among(plan, shape, address, FIRST_PLP, shape.len()) {
-        Some(found) => Some(cell_of(found.run)),
-        None => None,
-    }
+    found(plan, shape, address)
 }

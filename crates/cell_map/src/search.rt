@@ -53,13 +53,7 @@ pub struct Found {
 }
 
 // The run at an address, of the PLPs from a mark on, up to a place.
-pub fn find_among(
-    plan: &Plan,
-    shape: &Shape,
-    address: u32,
-    first: Mark,
-    end: usize,
-) -> Option<Found>
+fn find_among(plan: &Plan, shape: &Shape, address: u32, first: Mark, end: usize) -> Option<Found>
     requires plps { length shape.now.counts ≡ length plan.now.plps }
     requires passes { Passes plan.now shape.now }
     requires first { IsMark plan.now shape.now first }
