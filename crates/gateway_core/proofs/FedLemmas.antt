@@ -1,5 +1,5 @@
 -- An input takes packets, and its chain null packets behind them.
-use Rattle.std.proofs.Common.{◌≡◌, ℕ, zero, suc, ◌+◌, ◌-◌, ◌*◌, ◌<◌, ◌≤◌, Bool, true, false, cond, List, [], ◌∷◌, ◌++◌, Option, Some, None, length, map, replicate, is_some, refl, ap, sym, subst, ◌∙◌, ◌⊎◌, inl, inr, arith, append-nil, append_assoc, max}
+use Rattle.std.proofs.Common.{◌≡◌, ℕ, zero, suc, ◌+◌, ◌-◌, ◌*◌, ◌<◌, ◌≤◌, Bool, true, false, cond, List, [], ◌∷◌, ◌++◌, Option, Some, None, length, map, replicate, is_some, refl, ap, sym, subst, ◌∙◌, arith, append-nil, append_assoc, max}
 use Rattle.std.proofs.Math.Nat.{mul-le-mul_right}
 use Rattle.std.specs.Prelude.{slice_index_or}
 use Rattle.std.proofs.lemmas.Grind.{flat_map-append}
@@ -19,7 +19,7 @@ use Rattle.mode_adapt.specs.Events.{packet_of, is_cut, HasRoom, IsDue}
 use Rattle.mode_adapt.specs.Laws.{BlocksLaw}
 use Rattle.mode_adapt.specs.StandsFor.{ChainStandsFor}
 use Rattle.mode_adapt.specs.declared.chain.Chain.{Chain}
-use Rattle.gateway_core.specs.Told.{Told, with_packet, at_end, in_next, Continues}
+use Rattle.gateway_core.specs.Told.{Told, with_packet, in_next, Continues}
 use Rattle.gateway_core.specs.IsFed.{Fed}
 
 offered_push : (events : List queue.Event) (x : List ℕ) → queue.offered (events ++ queue.Offered x ∷ []) ≡ queue.offered events ++ x ∷ []

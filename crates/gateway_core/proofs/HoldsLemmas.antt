@@ -1,5 +1,5 @@
 -- A gateway after one event more.
-use Rattle.std.proofs.Common.{◌≡◌, ◌≢◌, ℕ, zero, suc, ◌+◌, ◌-◌, ◌*◌, ◌%◌, ◌<◌, ◌≤◌, Bool, true, false, cond, List, [], ◌∷◌, ◌++◌, Option, Some, None, is_some, length, map, refl, ap, sym, subst, ◌∙◌, ◌⊎◌, inl, inr, arith, append-nil, append_assoc}
+use Rattle.std.proofs.Common.{◌≡◌, ◌≢◌, ℕ, zero, suc, ◌+◌, ◌-◌, ◌%◌, ◌<◌, ◌≤◌, Bool, true, false, cond, List, [], ◌∷◌, ◌++◌, Option, Some, None, is_some, length, map, refl, ap, sym, subst, ◌∙◌, inl, inr, arith, append-nil, append_assoc}
 use Rattle.std.specs.Prelude.{slice_get, slice_index_or, slice_index, ◌==◌, ◌||◌}
 use Rattle.std.specs.List.{flat_map, range_with_len}
 use Rattle.std.proofs.lemmas.Bool.{cases_eq, ne_eqb}
@@ -15,21 +15,20 @@ use Rattle.plp_config.specs.declared.config.Config.{Config}
 use Rattle.t2mi_packet.specs.declared.packet.Body.{Body}
 use Rattle.gateway_core.specs.BlocksLeft.{bits_at, blocks_left}
 use Rattle.gateway_core.specs.Carried.{Carries, of_frame, between}
-use Rattle.gateway_core.specs.Events.{Event, Offered, Ended, Begun, Gave, Finished, offered, has_ended, begins, begun, gives, given, finishes, finished, packets_to, ends}
+use Rattle.gateway_core.specs.Events.{Event, Offered, Ended, Begun, Gave, Finished, offered, has_ended, begins, begun, gives, given, finishes, finished}
 use Rattle.gateway_core.specs.FirstStep.{first_step}
-use Rattle.gateway_core.specs.Flowing.{Flows, Streams}
+use Rattle.gateway_core.specs.Flowing.{Flows}
 use Rattle.gateway_core.specs.InputsStandFor.{AllFed, AllContinue, AreBlocks, AllEnded, HaveEnded}
 use Rattle.gateway_core.specs.IsFed.{IsFed, wanted}
 use Rattle.gateway_core.specs.Left.{from_step}
 use Rattle.t2mi_stream.specs.Pipe.{pipe}
-use Rattle.gateway_core.specs.Packets.{packets_from, front_packets, stamp_of, l1_body, block_bodies, plp_bodies, with_stamp, counts_of, frame_bodies, frame_blocks, bodies_before}
+use Rattle.gateway_core.specs.Packets.{packets_from, front_packets, l1_body, block_bodies, plp_bodies, counts_of, frame_bodies, frame_blocks, bodies_before}
 use Rattle.gateway_core.specs.Signalling.{pre_part, conf_part, dyn_part}
 use Rattle.gateway_core.specs.StandsFor.{Holds, IsLast}
 use Rattle.gateway_core.specs.Told.{Told, told, with_packet, at_end, in_next, Continues}
 use Rattle.gateway_core.specs.declared.flow.Flow.{Flow}
 use Rattle.gateway_core.specs.declared.input.Input.{Input}
 use Rattle.gateway_core.specs.declared.signalling.Signalling.{Signalling}
-use Rattle.gateway_core.specs.declared.step.Step.{Step}
 use Rattle.gateway_core.specs.declared.step.Step.TheVariants.{Stamp, Signal}
 use Rattle.gateway_core.proofs.CarriedLemmas.{carries_more}
 use Rattle.gateway_core.proofs.FedLemmas.{wants}

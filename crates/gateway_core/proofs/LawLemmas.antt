@@ -1,18 +1,15 @@
 -- How many frames a run has, and what decides their packets.
-use Rattle.std.proofs.Common.{◌≡◌, ℕ, zero, suc, ◌+◌, ◌-◌, ◌*◌, ◌%◌, ◌<◌, ◌≤◌, Bool, true, List, [], ◌∷◌, ◌++◌, length, map, max, refl, ap, sym, subst, ◌∙◌, ◌⊎◌, inl, inr, arith, append-nil, append_assoc, add-one}
+use Rattle.std.proofs.Common.{◌≡◌, ℕ, zero, suc, ◌+◌, ◌-◌, ◌*◌, ◌%◌, ◌<◌, ◌≤◌, Bool, true, List, [], ◌∷◌, ◌++◌, length, map, max, refl, ap, sym, subst, ◌∙◌, inl, inr, arith, append-nil, append_assoc, add-one}
 use Rattle.std.specs.Int.{div_ceil}
-use Rattle.std.specs.List.{flat_map, range_with_len}
+use Rattle.std.specs.List.{range_with_len}
 use Rattle.std.proofs.lemmas.Bool.{cases_lt}
-use Rattle.std.proofs.lemmas.Grind.{flat_map-append}
 use Rattle.std.proofs.Math.Nat.{mul-le-mul_right}
-use Rattle.plp_config.specs.Capacity.{IsPlan}
 use Rattle.plp_config.specs.Laws.{CountRises, EndsAfterStart, FrameCountLeast, NotOverBy, SlotLength}
 use Rattle.plp_config.specs.Plps.{plp_at}
 use Rattle.plp_config.specs.RunLength.{frame_count, last_tick}
-use Rattle.plp_config.specs.SlotTime.{num, den, start, delay, slots_by}
+use Rattle.plp_config.specs.SlotTime.{num, den, start, delay}
 use Rattle.plp_config.specs.declared.config.Config.{Config}
 use Rattle.t2mi_packet.specs.declared.packet.Body.{Body}
-use Rattle.mode_adapt.specs.Blocks.{blocks_of}
 use Rattle.mode_adapt.specs.Deletion.{packet_at}
 use Rattle.mode_adapt.specs.Laws.{BlocksLaw}
 use Rattle.gateway_core.specs.Carried.{of_frame}
@@ -103,5 +100,5 @@ count_same c f g h = ap (λ (tick : ℕ). div_ceil tick (c.frames * c.ticks) * c
 pub last_all : LastIsAll
 last_all c events inputs last cont =
     let same : (j : ℕ) → j < length c.plps → length (offered j events) ≡ length (inputs j) =
-        λ j lt. let h = cont j lt in sym (ap length (h.front ∙ ap (λ (l : List (List ℕ)). offered j events ++ l) (h.whole (last.ended j lt)) ∙ append-nil (offered j events))) in
+    λ j lt. let h = cont j lt in sym (ap length (h.front ∙ ap (λ (l : List (List ℕ)). offered j events ++ l) (h.whole (last.ended j lt)) ∙ append-nil (offered j events))) in
     ap (front_packets c inputs) (last.frames ∙ count_same c _ _ same)

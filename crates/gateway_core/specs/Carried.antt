@@ -1,9 +1,9 @@
 -- How far the packets of the frames begun have come. No public clause cites this module.
-use Rattle.std.specs.Prelude.{◌≡◌, ℕ, ◌-◌, ◌%◌, Bool, true, false, List, [], ◌∷◌, ◌++◌, length, map, take, drop}
+use Rattle.std.specs.Prelude.{◌≡◌, ℕ, ◌-◌, ◌%◌, List, [], ◌++◌, length, map, take, drop}
 use Rattle.plp_config.specs.declared.config.Config.{Config}
 use Rattle.t2mi_packet.specs.declared.packet.Body.{Body}
 use Rattle.t2mi_stream.specs.Events.{PiperEvent, tally}
-use Rattle.t2mi_stream.specs.Pipe.{Item, items, joined}
+use Rattle.t2mi_stream.specs.Pipe.{items, joined}
 use Rattle.t2mi_stream.specs.PiperStandsFor.{PiperStandsFor}
 use Rattle.t2mi_stream.specs.declared.piper.Piper.{Piper}
 use Rattle.gateway_core.specs.Packets.{packets_from}

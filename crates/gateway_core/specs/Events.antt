@@ -1,5 +1,5 @@
 -- What was done to a gateway.
-use Rattle.std.specs.Prelude.{ℕ, ◌==◌, Bool, true, false, List, [], ◌∷◌, length, count_by, if◌then◌else◌}
+use Rattle.std.specs.Prelude.{ℕ, ◌==◌, Bool, true, false, List, [], ◌∷◌, count_by, if◌then◌else◌}
 use Rattle.std.specs.List.{flat_map, list_any}
 
 -- A packet was offered to the input of a PLP, or that input ended; a frame was begun; a unit was given; no more frames come.

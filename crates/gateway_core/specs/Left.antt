@@ -1,7 +1,5 @@
 -- What a frame still has to give. No public clause cites this module.
-use Rattle.std.specs.Prelude.{◌≡◌, ℕ, Bool, List, [], ◌∷◌}
-use Rattle.terms.specs.Bits.{bits_of}
-use Rattle.plp_config.specs.Plps.{plp_at}
+use Rattle.std.specs.Prelude.{◌≡◌, ℕ, Bool, List, ◌∷◌}
 use Rattle.plp_config.specs.declared.config.Config.{Config}
 use Rattle.t2mi_packet.specs.T2miPacket.{written_bits}
 use Rattle.t2mi_packet.specs.declared.packet.Body.{Body}

@@ -94,11 +94,7 @@ fn packets(alloc: Global, count: u8) -> Result<Vec<TsPacket>, OutOfMemory> {
 }
 
 // Offers the packets from one on that the frame under way wants, and answers which comes next.
-fn feed(
-    gateway: &mut Gateway<'_>,
-    packets: &[TsPacket],
-    from: usize,
-) -> Result<usize, OutOfMemory>
+fn feed(gateway: &mut Gateway<'_>, packets: &[TsPacket], from: usize) -> Result<usize, OutOfMemory>
     requires plps { plps_of gateway.old ≡ 1 }
     requires given { has_unit gateway.old ≡ false }
     ensures none { OnOk result (wants_of gateway.new 0 ≡ 0) }

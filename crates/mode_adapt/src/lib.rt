@@ -12,8 +12,8 @@ mod settings;
 pub use chain::Chain;
 pub use frame::FrameBytes;
 pub use laws::{
-    backlog_law, begin_law, blocks_law, count_law, end_law, first_law, join_law, place_law, sent_law,
-    sent_within, within_law,
+    backlog_law, begin_law, blocks_law, count_law, end_law, first_law, join_law, place_law,
+    sent_law, sent_within, within_law,
 };
 
 #[cfg(test)]

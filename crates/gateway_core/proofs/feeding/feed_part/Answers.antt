@@ -1,4 +1,4 @@
-use Rattle.std.proofs.Common.{◌+◌, ◌-◌, ◌≤◌, ℕ, drop, arith}
+use Rattle.std.proofs.Common.{◌+◌, ◌-◌, ◌≤◌, drop, arith}
 use Rattle.std.proofs.lemmas.List.{length-take}
 use Rattle.gateway_core.proofs.CarriedLemmas.{carries_feed}
 use Rattle.gateway_core.proofs.feeding.feed_part.Goals as goal

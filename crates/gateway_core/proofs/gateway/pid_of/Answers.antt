@@ -1,4 +1,4 @@
-use Rattle.std.proofs.Common.{◌<◌, ◌≤◌, ℕ, arith, ap}
+use Rattle.std.proofs.Common.{arith, ap}
 use Rattle.plp_config.specs.Rules.{PidRange}
 use Rattle.plp_config.specs.declared.config.Config.{Config}
 use Rattle.gateway_core.proofs.gateway.pid_of.Goals as goal

@@ -1,5 +1,4 @@
-use Rattle.std.proofs.Common.{◌≡◌, ◌<◌, ◌≤◌, ◌+◌, ◌∙◌, ℕ, List, length, arith, subst, sym, refl}
-use Rattle.plp_config.specs.declared.config.Config.{Config}
+use Rattle.std.proofs.Common.{◌≡◌, ◌+◌, ◌∙◌, ℕ, List, length, arith, subst, sym, refl}
 use Rattle.gateway_core.specs.InputsStandFor.{CutUntil}
 use Rattle.gateway_core.proofs.InputsLemmas.{cut_step, cut_none, cut_fed, cut_blocks, cut_few, same_wanted}
 use Rattle.gateway_core.proofs.inputs.cut.Goals as goal

@@ -1,4 +1,3 @@
-use Rattle.std.proofs.Common.{◌≡◌, length}
 use Rattle.gateway_core.specs.InputsStandFor.{CutUntil, SameMost}
 use Rattle.gateway_core.proofs.inputs.cut.Given as goal
 

@@ -1,9 +1,8 @@
-use Rattle.std.proofs.Common.{◌≡◌, ◌<◌, ◌≤◌, ◌+◌, ℕ, List, [], false, length, arith, rules, subst, sym, ap, ◌∙◌}
+use Rattle.std.proofs.Common.{◌≡◌, [], false, length, arith, rules, ap, ◌∙◌}
 use Rattle.plp_config.specs.Plps.{plp_at}
 use Rattle.plp_config.specs.declared.config.Config.{Config}
 use Rattle.gateway_core.specs.IsFed.{IsFed, most}
-use Rattle.gateway_core.specs.declared.input.Input.{Input}
-use Rattle.gateway_core.proofs.InputsLemmas.{Below, pushed}
+use Rattle.gateway_core.proofs.InputsLemmas.{pushed}
 use Rattle.gateway_core.proofs.inputs.open_inputs.Goals as goal
 
 pub loop-plp-preserved : goal.loop-plp-preserved

@@ -1,4 +1,4 @@
-use Rattle.std.proofs.Common.{◌≡◌, ◌<◌, ℕ, [], false, length}
+use Rattle.std.proofs.Common.{◌≡◌, [], false, length}
 use Rattle.plp_config.specs.Plps.{plp_at}
 use Rattle.gateway_core.specs.IsFed.{IsFed, most}
 use Rattle.gateway_core.proofs.InputsLemmas.{Below}

@@ -1,4 +1,4 @@
-use Rattle.std.proofs.Common.{◌<◌, ℕ, subst, sym}
+use Rattle.std.proofs.Common.{◌<◌, subst, sym}
 use Rattle.plp_config.specs.Rules.{UtcOffset}
 use Rattle.plp_config.specs.declared.config.Config.{Config}
 use Rattle.gateway_core.proofs.packet.stamp_of.Goals as goal

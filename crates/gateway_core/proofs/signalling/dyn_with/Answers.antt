@@ -1,4 +1,4 @@
-use Rattle.std.proofs.Common.{◌≡◌, ◌≤◌, ◌+◌, ◌*◌, ◌++◌, ℕ, length, arith, ap, ◌∙◌, List, Bool}
+use Rattle.std.proofs.Common.{◌≡◌, ◌≤◌, ◌+◌, ◌*◌, ◌++◌, length, arith, ap, ◌∙◌, List, Bool}
 use Rattle.std.proofs.lemmas.List.FromFn.{length-map-range_with_len}
 use Rattle.plp_config.specs.declared.config.Config.{Config}
 use Rattle.l1_signal.specs.declared.dynamic.L1Dyn.{L1Dyn}

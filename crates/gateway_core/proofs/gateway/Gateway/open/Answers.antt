@@ -1,4 +1,4 @@
-use Rattle.std.proofs.Common.{◌≡◌, ◌≤◌, ℕ, List, [], length, refl, sym, subst, ap, arith}
+use Rattle.std.proofs.Common.{◌≡◌, List, [], length, refl, sym, subst, ap, arith}
 use Rattle.t2mi_packet.specs.declared.packet.Body.{Body}
 use Rattle.gateway_core.specs.Flowing.{Flows}
 use Rattle.gateway_core.specs.StandsFor.{GatewayStandsFor}

@@ -1,4 +1,4 @@
-use Rattle.std.proofs.Common.{◌∙◌, ℕ, max}
+use Rattle.std.proofs.Common.{◌∙◌}
 use Rattle.gateway_core.proofs.FedLemmas.{fed_blocks, fed_cut, next_due}
 use Rattle.gateway_core.proofs.input.Input.cut.Goals as goal
 

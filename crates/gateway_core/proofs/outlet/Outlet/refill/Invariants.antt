@@ -1,4 +1,4 @@
-use Rattle.std.proofs.Common.{◌≡◌, ◌<◌, ◌≤◌, ℕ, List, false, length}
+use Rattle.std.proofs.Common.{◌≡◌, ◌<◌, ℕ, List, false, length}
 use Rattle.t2mi_packet.specs.declared.packet.Body.{Body}
 use Rattle.t2mi_stream.specs.PiperStandsFor.{waiting_of, is_finished}
 use Rattle.gateway_core.specs.Carried.{Carries, between}
