@@ -1,5 +1,5 @@
 -- A gateway after one event more.
-use Rattle.std.proofs.Common.{◌≡◌, ◌≢◌, ℕ, zero, suc, ◌+◌, ◌-◌, ◌%◌, ◌<◌, ◌≤◌, Bool, true, false, cond, List, [], ◌∷◌, ◌++◌, Option, Some, None, is_some, length, map, refl, ap, sym, subst, ◌∙◌, inl, inr, arith, append-nil, append_assoc}
+use Rattle.std.proofs.Common.{◌≡◌, ◌≢◌, ℕ, zero, suc, ◌+◌, ◌-◌, ◌%◌, ◌<◌, ◌≤◌, Bool, true, false, cond, List, [], ◌∷◌, ◌++◌, Option, Some, None, is_some, length, map, replicate, refl, ap, sym, subst, ◌∙◌, inl, inr, arith, append-nil, append_assoc}
 use Rattle.std.specs.Prelude.{slice_get, slice_index_or, slice_index, ◌==◌, ◌||◌}
 use Rattle.std.specs.List.{flat_map, range_with_len}
 use Rattle.std.proofs.lemmas.Bool.{cases_eq, ne_eqb}
@@ -12,6 +12,7 @@ use Rattle.terms.specs.Bits.{bits_of}
 use Rattle.plp_config.specs.Plps.{plp_at}
 use Rattle.plp_config.specs.RunLength.{frame_count}
 use Rattle.plp_config.specs.declared.config.Config.{Config}
+use Rattle.ts_packet.specs.Null.{null_packet}
 use Rattle.t2mi_packet.specs.declared.packet.Body.{Body}
 use Rattle.gateway_core.specs.BlocksLeft.{bits_at, blocks_left}
 use Rattle.gateway_core.specs.Carried.{Carries, of_frame, between}
@@ -24,7 +25,7 @@ use Rattle.gateway_core.specs.Left.{from_step}
 use Rattle.t2mi_stream.specs.Pipe.{pipe}
 use Rattle.gateway_core.specs.Packets.{packets_from, front_packets, l1_body, block_bodies, plp_bodies, counts_of, frame_bodies, frame_blocks, bodies_before}
 use Rattle.gateway_core.specs.Signalling.{pre_part, conf_part, dyn_part}
-use Rattle.gateway_core.specs.StandsFor.{Holds, IsLast}
+use Rattle.gateway_core.specs.StandsFor.{Holds, IsLast, wants_by}
 use Rattle.gateway_core.specs.Told.{Told, told, with_packet, at_end, in_next, Continues}
 use Rattle.gateway_core.specs.declared.flow.Flow.{Flow}
 use Rattle.gateway_core.specs.declared.input.Input.{Input}
@@ -284,3 +285,16 @@ last_some inputs c events frames count len h e ended is =
     let all = totals_ended inputs c events h ended in
     let counted : count ≡ frame_count c (λ plp. length (offered plp events)) = is _ (totals inputs c events h all) in
     (λ same. record { ended = λ plp lt. all plp (omega arith); frames = sym e ∙ sym same ∙ counted }, λ last. counted ∙ sym last.frames ∙ sym e)
+
+-- what an input wants, by what was offered
+wants_as : (b : Bool) (n : ℕ) (total : Option ℕ) (due slot want len : ℕ) → total ≡ cond b (Some n) None → due ≡ want → (b ≡ false → slot ≡ len) → cond (is_some total) 0 (due - slot) ≡ cond b 0 (want - len)
+wants_as true n total due slot want len e d s = rw e refl
+wants_as false n total due slot want len e d s = rw (e, d, s refl) refl
+
+pub wants_are : (inputs : List Input) (plp : ℕ) (c : Config) (events : List Event) → plp < length inputs → AllFed inputs c events → slice_index (map wanted inputs) plp ≡ wants_by c events plp
+wants_are [] plp c events lt h = absurd (omega arith)
+wants_are (x ∷ xs) plp c events lt h =
+    let f = h plp x lt in
+    get_or-map wanted (x ∷ xs) plp x 0 lt
+    ∙ wants_as (has_ended plp events) (length (offered plp events)) _ _ _ _ _ f.total_is f.due_is
+    (λ off. f.slot_is ∙ ap length (f.given ∙ ap (λ (k : ℕ). offered plp events ++ replicate k null_packet) (f.still off) ∙ append-nil (offered plp events)))

@@ -1,6 +1,7 @@
 -- What a gateway stands for.
-use Rattle.std.specs.Prelude.{◌≡◌, ◌<◌, ℕ, Bool, true, List, length, map, slice_index}
+use Rattle.std.specs.Prelude.{◌≡◌, ◌<◌, ℕ, ◌-◌, ◌*◌, if◌then◌else◌, Bool, true, List, length, map, slice_index}
 use Rattle.plp_config.specs.RunLength.{frame_count}
+use Rattle.plp_config.specs.SlotTime.{slots_by}
 use Rattle.plp_config.specs.declared.config.Config.{Config}
 use Rattle.t2mi_packet.specs.declared.packet.Body.{Body}
 use Rattle.gateway_core.specs.Events.{Event, offered, has_ended, begun, given, finished}
@@ -53,3 +54,8 @@ has_finished g = g.flow.finished
 pub record IsLast (c : Config) (events : List Event) : Type 0 where
   pub ended : (plp : ℕ) → plp < length c.plps → has_ended plp events ≡ true
   pub frames : begun events ≡ frame_count c (λ plp. length (offered plp events))
+
+-- how many packets the frame under way wants from the input of a PLP: those of the slots that are over when it begins, without those
+-- offered; none from one that ended
+abbrev pub wants_by : Config → List Event → ℕ → ℕ
+wants_by c events plp = if has_ended plp events then 0 else slots_by c plp (begun events * c.ticks) - length (offered plp events)

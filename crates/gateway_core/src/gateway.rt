@@ -47,7 +47,7 @@ impl<'p> Gateway<'p> {
     ghost use Rattle.gateway_core.specs.Events.{Event, Offered, Ended, Begun, Gave, Finished, begun, given, finished};
     ghost use Rattle.gateway_core.specs.InputsStandFor.{AllContinue};
     ghost use Rattle.gateway_core.specs.Packets.{front_packets};
-    ghost use Rattle.gateway_core.specs.StandsFor.{GatewayStandsFor, plps_of, wants_of, frame_of, has_unit, has_finished, IsLast};
+    ghost use Rattle.gateway_core.specs.StandsFor.{GatewayStandsFor, plps_of, wants_of, frame_of, has_unit, has_finished, IsLast, wants_by};
 
     /// A gateway to which nothing was offered, for a plan.
     pub fn open(alloc: Global, plan: &'p Plan) -> Result<Gateway<'p>, OutOfMemory>
@@ -78,7 +78,8 @@ impl<'p> Gateway<'p> {
     /// How many packets the frame under way still wants from the input of a PLP: 0 from one that ended.
     pub fn wants(&self, plp: usize) -> u64
         requires { plp < plps_of self.now }
-        ensures { result ≡ wants_of self.now plp }
+        ensures value { result ≡ wants_of self.now plp }
+        ensures answer { (c : Config) (events : List Event) → GatewayStandsFor self.now c events → result ≡ wants_by c events plp }
     {
         wanted(&self.inputs, plp)
     }
