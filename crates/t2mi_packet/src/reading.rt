@@ -1,8 +1,9 @@
 // Reading a packet.
-ghost use Rattle.std.specs.Prelude.{◌≡◌, ℕ, ◌+◌, ◌<◌, ◌≤◌, ◌^◌, List, true, length, take, IfOk, IfErr, Ok, IfSome, IfNone};
+ghost use Rattle.std.specs.Prelude.{◌≡◌, ℕ, ◌+◌, ◌<◌, ◌≤◌, ◌^◌, List, true, length, take, IfOk, IfErr, Ok, Some, IfSome, IfNone};
 ghost use Rattle.terms.specs.Bits.{bits_of};
 ghost use Rattle.t2mi_packet.specs.declared.packet.Packet.{Packet};
-ghost use Rattle.t2mi_packet.specs.T2miPacket.{packet_len, payload_len as payload_len_of, told_len, view_of as view_at, is_shaped as is_shaped_by, IsPacket, BeginsWith, Refuses};
+ghost use Rattle.t2mi_packet.specs.T2miPacket.{packet_len, payload_len as payload_len_of, told_len, view_of as view_at, is_shaped as is_shaped_by, IsPacket, Spells, BeginsWith, Refuses};
+ghost use Rattle.t2mi_packet.specs.Spell.{spell};
 ghost use Rattle.t2mi_packet.specs.Reading.{IsRead, packet_at};
 
 use crate::shape::{body, is_shaped};
@@ -114,4 +115,16 @@ pub fn read(bytes: &[u8]) -> Result<(Packet<'_>, usize), PacketFault>
     crc32_law();
     let (view, len) = parse(bytes)?;
     Ok((packet_of(view), len))
+}
+
+/// The packet that the bytes are, where that is known of all of them: crc32 is not counted again. It is the one that [`read`]
+/// gives.
+#[tactic(auto, using(crate::proofs::SpellLemmas::known))]
+pub fn read_known(bytes: &[u8]) -> Packet<'_>
+    requires { spell bytes.now ≡ Some (length bytes.now) }
+    ensures { Spells result bytes.now }
+{
+    let bits = BitSlice::whole(bytes);
+    let payload_len = bits.field(32, 16) as usize;
+    packet_of(view_of(&bits, payload_len))
 }
