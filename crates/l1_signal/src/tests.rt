@@ -4,7 +4,9 @@ ghost use Rattle.l1_signal.specs.L1Dynamic.{DynFits};
 
 // Expected bits come from a Python program over the tables.
 use super::*;
-use bit_slice::{BitBuf, BitCount, BitReader, BitSlice, FixedBits, OutOfMemory, SinkFault};
+use bit_slice::{
+    BitBuf, BitCount, BitReader, BitSink, BitSlice, FixedBits, OutOfMemory, SinkFault,
+};
 use plp_config::{
     Band, Config, FecSize, L1Numbers, Modulation, Plan, Plp, PlpKind, PlpList, Rate, fits, validate,
 };
@@ -289,6 +291,20 @@ fn each_bit_of_the_dynamic_part(rt: HostRuntime) -> Result<(), Fail> {
     Ok(())
 }
 
+#[test]
+fn a_known_configurable_part_but_for_one_bit(rt: HostRuntime) -> Result<(), Fail> {
+    let plan = plan(&rt, network(listed(rt.alloc(), &[SMALL])?, 1));
+    let conf = conf_of(rt.alloc(), &plan)?;
+    for place in 0..191 {
+        let bytes = flipped(&CONF, place);
+        let bits = BitSlice::whole(&bytes).sub(0, 191);
+        assert_eq!(rt; is_conf(bits, &conf), is_ignored(place));
+    }
+    assert!(rt; !is_conf(BitSlice::whole(&CONF).sub(0, 190), &conf));
+    assert!(rt; !is_conf(BitSlice::whole(&CONF), &conf));
+    Ok(())
+}
+
 // The dynamic part of a second frame, in which the PLP has four blocks.
 fn second_frame(alloc: Global, plan: &Plan) -> Result<L1Dyn, OutOfMemory> {
     let mut shape = Shape::open(alloc, plan)?;
@@ -356,15 +372,81 @@ fn as_many_plps_as_there_can_be(rt: HostRuntime) -> Result<(), Fail> {
     Ok(())
 }
 
+// The 71 bits before the PLPs of a dynamic part.
+const DYN_FRONT: [u8; 9] = [0xA5, 0xAA, 0xAA, 0xAD, 0x55, 0x55, 0x35, 0xAA, 0x00];
+
+// The number of PLPs, and what the last one of `spelled_dyn` is.
+const DYN_LAST: [(u8, DynPlp); 3] = [
+    (
+        1,
+        DynPlp {
+            plp_id: 0,
+            plp_start: 16_320,
+            plp_num_blocks: 255,
+        },
+    ),
+    (
+        2,
+        DynPlp {
+            plp_id: 1,
+            plp_start: 32_640,
+            plp_num_blocks: 510,
+        },
+    ),
+    (
+        255,
+        DynPlp {
+            plp_id: 254,
+            plp_start: 4_161_663,
+            plp_num_blocks: 513,
+        },
+    ),
+];
+
+// A dynamic part, no two PLPs of which have the same rows.
+fn spelled_dyn(alloc: Global, count: u8) -> Result<Vec<u8>, SinkFault> {
+    let mut sink = BitBuf::new(alloc);
+    sink.put_slice(BitSlice::whole(&DYN_FRONT).sub(0, 71))?;
+    for id in 0..count {
+        sink.put_slice(BitSlice::whole(&[id, id, !id, id, !id, 0]))?;
+    }
+    sink.put_slice(BitSlice::whole(&[0]))?;
+    Ok(sink.into_bytes())
+}
+
+fn has_dyn_front(dynamic: &L1Dyn) -> bool {
+    dynamic.frame_idx == 0xA5
+        && dynamic.sub_slice_interval == 0x2A_AAAB
+        && dynamic.type_2_start == 0x15_5553
+        && dynamic.l1_change_counter == 0x5A
+        && dynamic.start_rf_idx == 5
+}
+
+#[test]
+fn dynamic_parts_of_as_many_plps(rt: HostRuntime) -> Result<(), Fail> {
+    for (count, last) in DYN_LAST {
+        let spelled = spelled_dyn(rt.alloc(), count)?;
+        let Some(front) = spelled.get(..spelled.len().min(4_000)) else {
+            panic!(rt; "no bytes");
+        };
+        let mut dynamic = L1Dyn::open(rt.alloc(), u16::from(count))?;
+        let came = rewritten_dyn(rt.alloc(), BitSlice::whole(front), &mut dynamic);
+        assert!(rt; is_told(&came, &spelled, None));
+        assert!(rt; has_dyn_front(&dynamic));
+        assert!(rt; dynamic.plps.get(usize::from(last.plp_id)) == Some(&last));
+    }
+    Ok(())
+}
+
 #[test]
 fn crcs_and_cut_parts(rt: HostRuntime) {
     let mut bytes = [0; 25];
     bytes[..21].copy_from_slice(&PRE);
     bytes[21..].copy_from_slice(&[0xD2, 0x90, 0x4B, 0x05]);
     assert!(rt; read_pre(&mut BitReader::new(BitSlice::whole(&bytes)), true).is_ok());
-    bytes[24] = 0x06;
+    bytes[24] = 0x04;
     let crc = L1Fault::Crc {
-        read: 0xD290_4B06,
+        read: 0xD290_4B04,
         counted: 0xD290_4B05,
     };
     let came = read_pre(&mut BitReader::new(BitSlice::whole(&bytes)), true);
