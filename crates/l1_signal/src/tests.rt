@@ -456,6 +456,23 @@ fn crcs_and_cut_parts(rt: HostRuntime) {
     assert_eq!(rt; came.err(), Some(L1Fault::Short { left: 1 }));
 }
 
+// `PRE`, and its CRC_32.
+const PRE_AND_CRC: [u8; 25] = [
+    0x00, 0x06, 0x10, 0x10, 0x00, 0xFA, 0x00, 0x13, 0xE6, 0x00, 0x00, 0x01, 0x00, 0x02, 0x00, 0x03,
+    0x02, 0x03, 0xB0, 0x20, 0x80, 0xD2, 0x90, 0x4B, 0x05,
+];
+
+#[test]
+fn reserved_bits_of_l1_pre_are_in_its_crc(rt: HostRuntime) {
+    let bytes = flipped(&PRE_AND_CRC, 167);
+    let crc = L1Fault::Crc {
+        read: 0xD290_4B05,
+        counted: 0xD651_56B2,
+    };
+    let came = read_pre(&mut BitReader::new(BitSlice::whole(&bytes)), true);
+    assert_eq!(rt; came.err(), Some(crc));
+}
+
 // The 350 bits of L1-post of the frame of `DYN`.
 const POST: [u8; 44] = [
     0x00, 0x02, 0x02, 0x00, 0x00, 0x71, 0x02, 0xAA, 0x00, 0x00, 0x8C, 0x00, 0x00, 0x40, 0x00, 0x20,
