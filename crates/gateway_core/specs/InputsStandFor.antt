@@ -1,4 +1,4 @@
--- What the inputs of all PLPs stand for. No public clause cites this module.
+-- What the inputs of all PLPs stand for, and which inputs continue what was offered.
 use Rattle.std.specs.Prelude.{◌≡◌, ◌≢◌, ◌<◌, ◌≤◌, ℕ, true, is_some, Some, List, [], length, map, slice_index_or}
 use Rattle.terms.specs.Bits.{bits_of}
 use Rattle.plp_config.specs.Plps.{plp_at}
