@@ -1,12 +1,14 @@
-//! The outside of a command as the trait `Desk`, and its two kinds: one in memory, and one over real files.
+//! The outside of a command as the trait `Desk`, and its two kinds: one in memory, and one over real files; and the words of a command line.
 #![tactic(auto)]
 
 mod desk;
 mod host;
 mod laws;
 mod memory;
+mod word;
 
 pub use desk::{Desk, DeskFault};
 pub use host::HostDesk;
 pub use laws::writes_law;
 pub use memory::MemoryDesk;
+pub use word::Word;

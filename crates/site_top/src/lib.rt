@@ -15,9 +15,8 @@ mod plan_lines;
 mod request;
 mod running;
 mod show;
-mod word;
 
 pub use laws::one_ending;
 pub use outcome::{ConfigCause, Outcome};
+pub use ports::Word;
 pub use running::run;
-pub use word::Word;

@@ -3,7 +3,7 @@ ghost use Rattle.std.specs.Prelude.{◌≡◌};
 ghost use Rattle.std.specs.Option.{option_map};
 ghost use Rattle.site_top.specs.Commands.{command_of, shown as shown_by, meant};
 
-use crate::word::Word;
+use ports::Word;
 
 /// A command, with the name of the file that it reads.
 #[derive(Clone, Copy, Debug, PartialEq, Eq)]

@@ -11,8 +11,7 @@ use crate::laws::one_ending;
 use crate::outcome::Outcome;
 use crate::request::{Request, request_of};
 use crate::show::show_packets;
-use crate::word::Word;
-use ports::Desk;
+use ports::{Desk, Word};
 use std::alloc::Global;
 
 // Does what the words say, but for the last line.
