@@ -4,6 +4,8 @@ use Rattle.plp_config.specs.RunLength.{frame_count}
 use Rattle.plp_config.specs.SlotTime.{slots_by}
 use Rattle.plp_config.specs.declared.config.Config.{Config}
 use Rattle.t2mi_packet.specs.declared.packet.Body.{Body}
+use Rattle.t2mi_stream.specs.PiperStandsFor.{waiting_of}
+use Rattle.gateway_core.specs.Carried.{bytes_bound}
 use Rattle.gateway_core.specs.Events.{Event, offered, has_ended, begun, given, finished}
 use Rattle.gateway_core.specs.Flowing.{Flows, gives_unit}
 use Rattle.gateway_core.specs.InputsStandFor.{AllFed, AllContinue}
@@ -45,6 +47,10 @@ frame_of g = g.frames
 -- A unit of the frames begun is complete, or no more frames come and a byte is left.
 abbrev pub has_unit : Gateway → Bool
 has_unit g = gives_unit g.flow
+
+-- no fewer than the bytes of the frames begun that were not yet given: each unit that is given makes it less
+abbrev pub bytes_left : Gateway → ℕ
+bytes_left g = bytes_bound (waiting_of g.flow.outlet.piper) g.flow.outlet.at g.flow.outlet.len (left g.plan.now g.signalling g.frame)
 
 -- No more frames come.
 abbrev pub has_finished : Gateway → Bool

@@ -17,6 +17,7 @@ pub fn feed_part(piper: &mut Piper, bytes: &[u8], at: usize, len: usize) -> usiz
         → Carries piper.old (between bytes.now at len) number c n left all given
         → Carries piper.new (between bytes.now (at + result) len) number c n left all given }
     ensures full { at + result < len → waiting_of piper.new ≡ 184 }
+    ensures waiting { waiting_of piper.new ≡ waiting_of piper.old + result }
     ensures finished { is_finished piper.new ≡ false }
 {
     piper.feed(&bytes[at..len])

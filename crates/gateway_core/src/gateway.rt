@@ -47,7 +47,7 @@ impl<'p> Gateway<'p> {
     ghost use Rattle.gateway_core.specs.Events.{Event, Offered, Ended, Begun, Gave, Finished, begun, given, finished};
     ghost use Rattle.gateway_core.specs.InputsStandFor.{AllContinue};
     ghost use Rattle.gateway_core.specs.Packets.{front_packets};
-    ghost use Rattle.gateway_core.specs.StandsFor.{GatewayStandsFor, plps_of, wants_of, frame_of, has_unit, has_finished, IsLast, wants_by};
+    ghost use Rattle.gateway_core.specs.StandsFor.{GatewayStandsFor, plps_of, wants_of, frame_of, has_unit, bytes_left, has_finished, IsLast, wants_by};
 
     /// A gateway to which nothing was offered, for a plan.
     pub fn open(alloc: Global, plan: &'p Plan) -> Result<Gateway<'p>, OutOfMemory>
@@ -151,6 +151,8 @@ impl<'p> Gateway<'p> {
         ensures stands { result ≡ true → (c : Config) (events : List Event) → GatewayStandsFor self.old c events → GatewayStandsFor self.new c (events ++ Gave ∷ []) }
         ensures still { result ≡ false → (c : Config) (events : List Event) → GatewayStandsFor self.old c events → GatewayStandsFor self.new c events }
         ensures stays { result ≡ false → (has_unit self.new ≡ false) × (out.new ≡ out.old) }
+        // So a loop that takes units ends.
+        ensures less { result ≡ true → bytes_left self.new < bytes_left self.old }
         // After the end none is left out.
         ensures none { result ≡ false → (c : Config) (events : List Event) → GatewayStandsFor self.old c events → finished events ≡ true → (inputs : ℕ → List (List ℕ)) → AllContinue c events inputs
             → length (pipe c.pid (front_packets c inputs (begun events))) ≡ given events }

@@ -2,7 +2,7 @@
 ghost use Rattle.std.specs.Prelude.{◌≡◌, ◌≤◌, ◌&&◌, ℕ, List, [], true, false, length};
 ghost use Rattle.t2mi_packet.specs.declared.packet.Body.{Body};
 ghost use Rattle.t2mi_stream.specs.PiperStandsFor.{waiting_of, is_finished};
-ghost use Rattle.gateway_core.specs.Carried.{Carries, between};
+ghost use Rattle.gateway_core.specs.Carried.{Carries, between, bytes_bound};
 ghost use Rattle.gateway_core.specs.Left.{left};
 
 use crate::frame::Frame;
@@ -26,6 +26,7 @@ pub fn go_on(
         → Carries outlet.new.piper (between outlet.new.bytes outlet.new.at outlet.new.len) outlet.new.number plan.now frame.new.number (left plan.now signalling.now frame.new) all given }
     ensures dry { result ≡ true → (between outlet.new.bytes outlet.new.at outlet.new.len ≡ []) × (left plan.now signalling.now frame.new ≡ []) }
     ensures full { result ≡ false → waiting_of outlet.new.piper ≡ 184 }
+    ensures bound { bytes_bound (waiting_of outlet.new.piper) outlet.new.at outlet.new.len (left plan.now signalling.now frame.new) ≤ bytes_bound (waiting_of outlet.old.piper) outlet.old.at outlet.old.len (left plan.now signalling.now frame.old) }
     ensures finished { is_finished outlet.new.piper ≡ (result && is_last) }
     ensures blocks { frame.new.blocks.items ≡ frame.old.blocks.items }
 {

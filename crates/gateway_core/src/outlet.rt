@@ -30,7 +30,7 @@ impl Outlet {
     ghost use Rattle.t2mi_packet.specs.declared.packet.Body.{Body};
     ghost use Rattle.t2mi_stream.specs.PiperStandsFor.{waiting_of, is_finished};
     ghost use Rattle.t2mi_stream.specs.Pipe.{pipe};
-    ghost use Rattle.gateway_core.specs.Carried.{Carries, AllGone, between};
+    ghost use Rattle.gateway_core.specs.Carried.{Carries, AllGone, between, bytes_bound};
     ghost use Rattle.gateway_core.specs.Packets.{packets_from};
     ghost use Rattle.gateway_core.specs.Left.{left};
 
@@ -67,6 +67,7 @@ impl Outlet {
             → Carries self.old.piper (between self.old.bytes self.old.at self.old.len) self.old.number c n left all given
             → AllGone (between self.old.bytes self.old.at self.old.len) left [] → length (pipe c.pid (packets_from c 0 all)) ≡ given }
         ensures rest { between self.new.bytes self.new.at self.new.len ≡ between self.old.bytes self.old.at self.old.len }
+        ensures less { result ≡ true → (left : List Body) → bytes_bound (waiting_of self.new.piper) self.new.at self.new.len left < bytes_bound (waiting_of self.old.piper) self.old.at self.old.len left }
         ensures finished { is_finished self.new.piper ≡ is_finished self.old.piper }
     {
         self.piper.next(out)
@@ -78,6 +79,7 @@ impl Outlet {
             → Carries self.old.piper (between self.old.bytes self.old.at self.old.len) self.old.number c n left all given
             → Carries self.new.piper (between self.new.bytes self.new.at self.new.len) self.new.number c n left all given }
         ensures rest { between self.new.bytes self.new.at self.new.len ≡ between self.old.bytes self.old.at self.old.len }
+        ensures bound { (left : List Body) → bytes_bound (waiting_of self.new.piper) self.new.at self.new.len left ≡ bytes_bound (waiting_of self.old.piper) self.old.at self.old.len left }
         ensures waiting { waiting_of self.new.piper ≡ waiting_of self.old.piper }
         ensures finished { is_finished self.new.piper ≡ true }
     {
@@ -91,6 +93,7 @@ impl Outlet {
             → Carries self.old.piper (between self.old.bytes self.old.at self.old.len) self.old.number c n left all given
             → Carries self.new.piper (between self.new.bytes self.new.at self.new.len) self.new.number c n left all given }
         ensures full { self.new.at < self.new.len → waiting_of self.new.piper ≡ 184 }
+        ensures bound { (left : List Body) → bytes_bound (waiting_of self.new.piper) self.new.at self.new.len left ≡ bytes_bound (waiting_of self.old.piper) self.old.at self.old.len left }
         ensures finished { is_finished self.new.piper ≡ false }
     {
         self.at += feed_part(&mut self.piper, &self.bytes, self.at, self.len);
@@ -107,6 +110,7 @@ impl Outlet {
         ensures fewer { result ≡ true → length (left plan.now signalling.now frame.new) < length (left plan.now signalling.now frame.old) }
         ensures none { result ≡ false → (self.new.at ≡ self.new.len) × (left plan.now signalling.now frame.new ≡ []) }
         ensures finished { is_finished self.new.piper ≡ false }
+        ensures bound { bytes_bound (waiting_of self.new.piper) self.new.at self.new.len (left plan.now signalling.now frame.new) ≤ bytes_bound (waiting_of self.old.piper) self.old.at self.old.len (left plan.now signalling.now frame.old) }
         ensures number { frame.new.number ≡ frame.old.number }
         ensures blocks { frame.new.blocks.items ≡ frame.old.blocks.items }
     {
@@ -129,6 +133,7 @@ impl Outlet {
             → Carries self.new.piper (between self.new.bytes self.new.at self.new.len) self.new.number plan.now frame.new.number (left plan.now signalling.now frame.new) all given }
         ensures dry { result ≡ true → (self.new.at ≡ self.new.len) × (left plan.now signalling.now frame.new ≡ []) }
         ensures full { result ≡ false → waiting_of self.new.piper ≡ 184 }
+        ensures bound { bytes_bound (waiting_of self.new.piper) self.new.at self.new.len (left plan.now signalling.now frame.new) ≤ bytes_bound (waiting_of self.old.piper) self.old.at self.old.len (left plan.now signalling.now frame.old) }
         ensures finished { is_finished self.new.piper ≡ false }
         ensures blocks { frame.new.blocks.items ≡ frame.old.blocks.items }
     {
