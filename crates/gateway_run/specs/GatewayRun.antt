@@ -1,0 +1,162 @@
+-- What a run of the gateway over files does, from the opening of its inputs on.
+use Rattle.std.specs.Prelude.{◌≡◌, ◌≢◌, ◌⊎◌, ℕ, ◌+◌, ◌-◌, ◌*◌, ◌^◌, ◌<◌, ◌≤◌, List, [], ◌++◌, length, map, slice_index, slice_index_or, Option, None, Some, IsSome, IfSome}
+use Rattle.std.specs.FinMap.{get}
+use Rattle.ports.specs.Desk.{State, Held, Rose, SameCounts, bytes_of}
+use Rattle.plp_config.specs.RunLength.{frame_count}
+use Rattle.plp_config.specs.SlotTime.{slots_by}
+use Rattle.plp_config.specs.declared.config.Config.{Config}
+use Rattle.t2mi_stream.specs.Pipe.{pipe}
+use Rattle.gateway_run.specs.Complete.{complete_units}
+use Rattle.gateway_core.specs.Packets.{front_packets, packets_of}
+use Rattle.ts_file.specs.TsFile.{packets_in, HasBad, joined}
+use Rattle.gateway_run.specs.declared.stop.RunStop.{RunStop}
+use Rattle.gateway_run.specs.declared.stop.RunStop.TheVariants.{Bad, TooLong, ReadFault, WriteFault, OutOfMemory}
+
+-- a file that gives as many bytes is too long, and no frame has this number
+abbrev pub most_bytes : ℕ
+most_bytes = 2 ^ 40
+
+abbrev pub most_frames : ℕ
+most_frames = 2 ^ 31
+
+-- the file of the input of a PLP, by the names of the inputs
+abbrev pub file_at : Held → List (List ℕ) → ℕ → List ℕ
+file_at h ins plp = bytes_of h.files (slice_index_or ins plp [])
+
+-- the packets of each file, up to its first bad one
+abbrev pub inputs_of : (ℕ → List ℕ) → ℕ → List (List ℕ)
+inputs_of files plp = packets_in (files plp)
+
+-- how many frames and which units a run has over files, each up to its first bad packet
+abbrev pub frames_of : Config → (ℕ → List ℕ) → ℕ
+frames_of c files = frame_count c (λ plp. length (inputs_of files plp))
+
+abbrev pub units_of : Config → (ℕ → List ℕ) → List (List ℕ)
+units_of c files = pipe c.pid (packets_of c (inputs_of files))
+
+-- A frame wants the packets of the slots that are over when it begins.
+abbrev pub Wants : Config → ℕ → ℕ → ℕ → Type 0
+Wants c frame plp packet = packet < slots_by c plp (frame * c.ticks)
+
+-- A frame wants the bad packet of an input, if there is one.
+abbrev pub WantsBad : Config → (ℕ → List ℕ) → ℕ → ℕ → Type 0
+WantsBad c files frame plp = HasBad (files plp) × Wants c frame plp (length (packets_in (files plp)))
+
+-- No frame up to this one wants a bad packet.
+abbrev pub MeetsNone : Config → (ℕ → List ℕ) → ℕ → Type 0
+MeetsNone c files frame = (plp : ℕ) → plp < length c.plps → ¬ (WantsBad c files frame plp)
+
+-- This is the bad packet that is met first: the first frame that wants one wants it, from the first input of which it wants one.
+pub record MeetsBad (c : Config) (files : ℕ → List ℕ) (frame plp packet : ℕ) : Type 0 where
+  pub place : plp < length c.plps
+  pub number : packet ≡ length (packets_in (files plp))
+  pub wants : WantsBad c files frame plp
+  pub before : MeetsNone c files (frame - 1)
+  pub below : (other : ℕ) → other < plp → ¬ (WantsBad c files frame other)
+
+-- No file has changed but that of a name.
+abbrev pub OtherFiles : List ℕ → Option Held → Option Held → Type 0
+OtherFiles name None new = new ≡ None
+OtherFiles name (Some h) new = IfSome new (λ k. (other : List ℕ) → other ≢ name → get k.files other ≡ get h.files other)
+
+-- No file has changed.
+abbrev pub SameFiles : Option Held → Option Held → Type 0
+SameFiles None new = new ≡ None
+SameFiles (Some h) new = IfSome new (λ k. k.files ≡ h.files)
+
+-- Some inputs were opened, in turn, and nothing was read.
+pub record Opens (old new : State) (ins : List (List ℕ)) : Type 0 where
+  pub places : List ℕ
+  pub opened : new.opened ≡ old.opened ++ places
+  pub few : length places ≤ length ins
+  pub files : SameFiles old.held new.held
+  pub created : new.created ≡ old.created
+  pub said : new.said ≡ old.said
+
+-- All inputs were opened, in turn, and then the output was not created. Nothing is known of it.
+pub record FailsToCreate (old new : State) (out : List ℕ) (ins : List (List ℕ)) : Type 0 where
+  pub places : List ℕ
+  pub opened : new.opened ≡ old.opened ++ places
+  pub all : length places ≡ length ins
+  pub files : OtherFiles out old.held new.held
+  pub created : new.created ≡ old.created
+  pub said : new.said ≡ old.said
+
+-- All inputs were opened, in turn, and read up to these places. Then the output was created, and the desk holds it so, where it tells.
+pub record Works (old new : State) (out : List ℕ) (ins : List (List ℕ)) (places : List ℕ) (HoldsOut : Held → List ℕ → Type 0) : Type 0 where
+  pub opened : new.opened ≡ old.opened ++ places
+  pub all : length places ≡ length ins
+  pub files : OtherFiles out old.held new.held
+  pub created : new.created ≡ old.created + 1
+  pub said : new.said ≡ old.said
+  pub holds : IfSome old.held (λ h. IfSome new.held (λ k. (bytes : List ℕ) × (get k.files out ≡ Some bytes) × HoldsOut h bytes))
+
+-- Each place is below the limit.
+abbrev pub AllShort : List ℕ → Type 0
+AllShort places = (plp : ℕ) → plp < length places → slice_index places plp < most_bytes
+
+-- The output is the first bytes of all units.
+abbrev pub BeginsUnits : Config → List (List ℕ) → Held → List ℕ → Type 0
+BeginsUnits c ins h bytes = (more : List ℕ) × (joined (units_of c (file_at h ins)) ≡ bytes ++ more)
+
+-- The output was created, and is a front of what it should be.
+pub record StopsWriting (c : Config) (old new : State) (out : List ℕ) (ins : List (List ℕ)) : Type 0 where
+  pub places : List ℕ
+  pub works : Works old new out ins places (BeginsUnits c ins)
+  pub short : AllShort places
+
+-- A run to its end: all inputs were read to their ends and have no bad packet, and the output is all units of all their packets.
+pub record RunsAll (c : Config) (old new : State) (out : List ℕ) (ins : List (List ℕ)) (frames units : ℕ) : Type 0 where
+  pub places : List ℕ
+  pub works : Works old new out ins places (λ h bytes. bytes ≡ joined (units_of c (file_at h ins)))
+  pub short : AllShort places
+  pub early : frames ≤ most_frames
+  pub counts : SameCounts old new
+  pub present : IfSome old.held (λ h. (plp : ℕ) → plp < length ins → IsSome (get h.files (slice_index_or ins plp [])))
+  pub ends : IfSome old.held (λ h. places ≡ map (λ name. length (bytes_of h.files name)) ins)
+  pub whole : IfSome old.held (λ h. (plp : ℕ) → plp < length ins → ¬ (HasBad (file_at h ins plp)))
+  pub frames_are : IfSome old.held (λ h. frames ≡ frames_of c (file_at h ins))
+  pub units_are : IfSome old.held (λ h. units ≡ length (units_of c (file_at h ins)))
+
+-- The output is the complete units of the frames before the one that met a bad packet.
+abbrev pub CompleteBefore : Config → List (List ℕ) → ℕ → Held → List ℕ → Type 0
+CompleteBefore c ins frame h bytes = bytes ≡ joined (complete_units c.pid (front_packets c (inputs_of (file_at h ins)) frame))
+
+-- A bad packet was met.
+pub record StopsAtBad (c : Config) (old new : State) (out : List ℕ) (ins : List (List ℕ)) (plp packet : ℕ) : Type 0 where
+  pub places : List ℕ
+  pub frame : ℕ
+  pub works : Works old new out ins places (CompleteBefore c ins frame)
+  pub short : AllShort places
+  pub early : frame ≤ most_frames
+  pub counts : SameCounts old new
+  pub meets : IfSome old.held (λ h. MeetsBad c (file_at h ins) frame plp packet)
+
+-- An input gave as many bytes as no file may have, or the run would begin a frame of which none may have the number.
+pub record StopsTooLong (c : Config) (old new : State) (out : List ℕ) (ins : List (List ℕ)) (count : ℕ) : Type 0 where
+  pub places : List ℕ
+  pub works : Works old new out ins places (BeginsUnits c ins)
+  pub counts : SameCounts old new
+  pub cause : ((count ≡ most_bytes) × ((plp : ℕ) × (plp < length ins) × (slice_index places plp ≡ most_bytes) × IfSome old.held (λ h. most_bytes ≤ length (file_at h ins plp))))
+      ⊎ ((count ≡ most_frames) × AllShort places × IfSome old.held (λ h. MeetsNone c (file_at h ins) most_frames × (most_frames < frames_of c (file_at h ins))))
+
+-- A count of faults rose, and the others did not change.
+pub record ReadsFail (old new : State) : Type 0 where
+  pub rose : Rose old.read_faults new.read_faults
+  pub later : old.read_faults ≤ new.read_faults
+  pub write_faults : new.write_faults ≡ old.write_faults
+  pub line_faults : new.line_faults ≡ old.line_faults
+
+pub record WritesFail (old new : State) : Type 0 where
+  pub rose : Rose old.write_faults new.write_faults
+  pub later : old.write_faults ≤ new.write_faults
+  pub read_faults : new.read_faults ≡ old.read_faults
+  pub line_faults : new.line_faults ≡ old.line_faults
+
+-- A run that did not come to its end, by its cause.
+abbrev pub Stops : Config → State → State → List ℕ → List (List ℕ) → RunStop → Type 0
+Stops c old new out ins (Bad input packet) = StopsAtBad c old new out ins input packet
+Stops c old new out ins (TooLong count) = StopsTooLong c old new out ins count
+Stops c old new out ins ReadFault = ReadsFail old new × (Opens old new ins ⊎ StopsWriting c old new out ins)
+Stops c old new out ins WriteFault = WritesFail old new × (FailsToCreate old new out ins ⊎ StopsWriting c old new out ins)
+Stops c old new out ins OutOfMemory = SameCounts old new × (Opens old new ins ⊎ StopsWriting c old new out ins)

@@ -1,0 +1,2 @@
+//! Files of transport packets, read and written through a desk, each by way of one buffer.
+#![tactic(auto)]
