@@ -57,12 +57,12 @@ pub record MeetsBad (c : Config) (files : ℕ → List ℕ) (frame plp packet : 
 -- No file has changed but that of a name.
 abbrev pub OtherFiles : List ℕ → Option Held → Option Held → Type 0
 OtherFiles name None new = new ≡ None
-OtherFiles name (Some h) new = IfSome new (λ k. (other : List ℕ) → other ≢ name → get k.files other ≡ get h.files other)
+OtherFiles name (Some h) new = (k : Held) × (new ≡ Some k) × ((other : List ℕ) → other ≢ name → get k.files other ≡ get h.files other)
 
 -- No file has changed.
 abbrev pub SameFiles : Option Held → Option Held → Type 0
 SameFiles None new = new ≡ None
-SameFiles (Some h) new = IfSome new (λ k. k.files ≡ h.files)
+SameFiles (Some h) new = (k : Held) × (new ≡ Some k) × (k.files ≡ h.files)
 
 -- Some inputs were opened, in turn, and nothing was read.
 pub record Opens (old new : State) (ins : List (List ℕ)) : Type 0 where
@@ -89,7 +89,7 @@ pub record Works (old new : State) (out : List ℕ) (ins : List (List ℕ)) (pla
   pub files : OtherFiles out old.held new.held
   pub created : new.created ≡ old.created + 1
   pub said : new.said ≡ old.said
-  pub holds : IfSome old.held (λ h. IfSome new.held (λ k. (bytes : List ℕ) × (get k.files out ≡ Some bytes) × HoldsOut h bytes))
+  pub holds : IfSome old.held (λ h. (k : Held) × (new.held ≡ Some k) × ((bytes : List ℕ) × (get k.files out ≡ Some bytes) × HoldsOut h bytes))
 
 -- Each place is below the limit.
 abbrev pub AllShort : List ℕ → Type 0

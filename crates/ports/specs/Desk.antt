@@ -124,7 +124,7 @@ pub record Creates (old new : State) (name : List ℕ) (out : ℕ) : Type 0 wher
 -- The files but for that of this name are as before, and so are the names of handles.
 abbrev pub SameButFor : List ℕ → Option Held → Option Held → Type 0
 SameButFor name None new = new ≡ None
-SameButFor name (Some h) new = IfSome new (λ k. (k.names ≡ h.names) × (k.outs ≡ h.outs) × ((other : List ℕ) → other ≢ name → get k.files other ≡ get h.files other))
+SameButFor name (Some h) new = (k : Held) × (new ≡ Some k) × (k.names ≡ h.names) × (k.outs ≡ h.outs) × ((other : List ℕ) → other ≢ name → get k.files other ≡ get h.files other)
 
 -- The named file could not be created. Nothing is said of it.
 pub record FailsToCreate (old new : State) (name : List ℕ) : Type 0 where

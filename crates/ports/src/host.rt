@@ -136,7 +136,7 @@ impl<R: Files + Print + Drop> HostDesk<R> {
 
 impl<R: Files + Print + Drop> Desk for HostDesk<R> {
     ghost use Rattle.std.specs.Prelude.{IsErr, OnOk, OnErr, take};
-    ghost use Rattle.ports.specs.Desk.{SameCounts, Opens, Creates, Reads, Writes, Says};
+    ghost use Rattle.ports.specs.Desk.{SameCounts, Opens, Creates, FailsToCreate, Reads, Writes, Says};
     ghost use Rattle.ports.specs.Faults.{with_read_fault, with_write_fault, with_line_fault};
 
     ghost state = { λ d. d };
@@ -169,11 +169,13 @@ impl<R: Files + Print + Drop> Desk for HostDesk<R> {
         }
     }
 
+    #[tactic(auto, using(crate::proofs::FaultLemmas::fails))]
     fn create(&mut self, name: &str) -> Result<u32, DeskFault>
         ensures ok { IfOk result (Creates self.old self.new name.now) }
         ensures counts { OnOk result (SameCounts self.old self.new) }
         ensures full { 2 ^ 32 ≤ self.old.created → IsErr result }
         ensures fault { OnErr result (self.new ≡ with_write_fault self.old) }
+        ensures err { OnErr result (FailsToCreate self.old self.new name.now) }
         ensures later { self.old.write_faults ≤ self.new.write_faults }
     {
         match self.add_out(name) {

@@ -258,7 +258,7 @@ impl MemoryDesk {
 
 impl Desk for MemoryDesk {
     ghost use Rattle.std.specs.Prelude.{IsNone, IsOk, IsErr, IfOk, OnOk, OnErr};
-    ghost use Rattle.ports.specs.Desk.{SameCounts, Opens, Creates, Reads, Writes, Says, file_of};
+    ghost use Rattle.ports.specs.Desk.{SameCounts, Opens, Creates, FailsToCreate, Reads, Writes, Says, file_of};
     ghost use Rattle.ports.specs.Faults.{with_read_fault, with_write_fault, with_line_fault};
 
     ghost state = { λ m. m };
@@ -292,11 +292,13 @@ impl Desk for MemoryDesk {
     }
 
     /// Beside want of memory, the handle after 2^32 - 1 others is a fault. After a fault the file is as it was.
+    #[tactic(auto, using(crate::proofs::FaultLemmas::fails))]
     fn create(&mut self, name: &str) -> Result<u32, DeskFault>
         ensures ok { IfOk result (Creates self.old self.new name.now) }
         ensures counts { OnOk result (SameCounts self.old self.new) }
         ensures full { 2 ^ 32 - 1 ≤ self.old.created → IsErr result }
         ensures fault { OnErr result (self.new ≡ with_write_fault self.old) }
+        ensures err { OnErr result (FailsToCreate self.old self.new name.now) }
         ensures later { self.old.write_faults ≤ self.new.write_faults }
     {
         match self.add_out(name) {

@@ -1,7 +1,9 @@
 -- How a file of transport packets is read on.
-use Rattle.std.specs.Prelude.{◌≡◌, ◌≢◌, ℕ, ◌+◌, ◌-◌, ◌*◌, ◌≤◌, List, [], ◌++◌, length, slice_index, slice_set, false, Option, IfSome, option_map}
-use Rattle.ports.specs.Desk.{State, left_of}
+use Rattle.std.specs.Prelude.{◌≡◌, ◌≢◌, ℕ, ◌+◌, ◌-◌, ◌*◌, ◌^◌, ◌<◌, ◌≤◌, List, [], ◌++◌, length, slice_index, slice_set, false, Option, IfSome, option_map}
+use Rattle.ports.specs.Desk.{State, Rose, left_of}
 use Rattle.ts_file.specs.TsFile.{begins_with_packet}
+use Rattle.ts_file.specs.declared.reader.ReadStop.{ReadStop}
+use Rattle.ts_file.specs.declared.reader.ReadStop.TheVariants.{Bad, TooLong, Fault}
 
 -- the handle of a file, how many packets were taken from it, and the bytes that were read behind them
 pub record Reading : Type 0 where
@@ -43,12 +45,29 @@ pub record TakesNone (old new : State) (was is : Reading) : Type 0 where
   pub taken : is.taken ≡ was.taken
   pub rest : rest_of new is ≡ rest_of old was
 
--- The file has ended.
+-- The file has ended, and nothing waits.
 pub record Ends (old new : State) (was is : Reading) : Type 0 where
   pub none : TakesNone old new was is
+  pub nothing : is.waiting ≡ []
   pub end : IfSome (rest_of old was) (λ rest. rest ≡ [])
 
 -- Bytes are left, and no packet stands at their front.
 pub record IsBad (old new : State) (was is : Reading) : Type 0 where
   pub none : TakesNone old new was is
   pub some : IfSome (rest_of old was) (λ rest. (rest ≢ []) × (begins_with_packet rest ≡ false))
+
+-- a file that gives as many bytes is too long
+abbrev pub most_bytes : ℕ
+most_bytes = 2 ^ 40
+
+-- Why no packet could be taken. Nothing but the read count can have risen, and that only at a fault.
+abbrev pub StopsReading : State → State → Reading → Reading → ReadStop → Type 0
+StopsReading old new was is (Bad packet) = IsBad old new was is × (packet ≡ was.taken) × (given_of is < most_bytes) × (new.read_faults ≡ old.read_faults)
+StopsReading old new was is TooLong = TakesNone old new was is × (given_of is ≡ most_bytes) × (new.read_faults ≡ old.read_faults)
+StopsReading old new was is Fault = TakesNone old new was is × (given_of is < most_bytes) × Rose old.read_faults new.read_faults
+
+-- It was not for the bytes of the file.
+abbrev pub IsOutside : ReadStop → Type 0
+IsOutside (Bad packet) = ⊥
+IsOutside TooLong = Unit {0}
+IsOutside Fault = Unit {0}

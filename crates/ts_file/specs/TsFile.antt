@@ -1,5 +1,5 @@
 -- Files of transport packets that stand back to back (ISO/IEC 13818-1, clause 2.4.3).
-use Rattle.std.specs.Prelude.{◌≡◌, ◌≢◌, ℕ, zero, suc, ◌*◌, ◌==◌, ◌&&◌, nat_le, Bool, List, [], ◌∷◌, length, take, drop, slice_index, flat_map, if◌then◌else◌}
+use Rattle.std.specs.Prelude.{◌≢◌, ℕ, zero, suc, ◌*◌, ◌==◌, ◌&&◌, nat_le, Bool, List, [], ◌∷◌, length, take, drop, slice_index, flat_map, if◌then◌else◌}
 
 -- A packet of 188 bytes stands at the front: it begins with the sync byte.
 abbrev pub begins_with_packet : List ℕ → Bool

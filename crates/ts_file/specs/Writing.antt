@@ -15,7 +15,7 @@ whole_of s w = option_map (λ written. written ++ w.waiting) (written_of s w.out
 -- No file but that of this handle is another, and no handle.
 abbrev pub OnlyOut : ℕ → Option Held → Option Held → Type 0
 OnlyOut out None new = new ≡ None
-OnlyOut out (Some h) new = IfSome new (λ k. (k.names ≡ h.names) × (k.outs ≡ h.outs) × ((other : List ℕ) → other ≢ out_name h out → get k.files other ≡ get h.files other))
+OnlyOut out (Some h) new = (k : Held) × (new ≡ Some k) × (k.names ≡ h.names) × (k.outs ≡ h.outs) × ((other : List ℕ) → other ≢ out_name h out → get k.files other ≡ get h.files other)
 
 -- Bytes, or none, were written behind those of a file, and nothing else was done.
 pub record Appends (old new : State) (out : ℕ) (bytes : List ℕ) : Type 0 where
@@ -33,3 +33,9 @@ pub record AppendsFront (old new : State) (out : ℕ) (bytes : List ℕ) : Type 
   pub more : List ℕ
   pub parts : bytes ≡ front ++ more
   pub appends : Appends old new out front
+
+-- A unit went behind what waited, of which a front may have been written.
+pub record Pushes (old new : State) (was is : Writing) (unit : List ℕ) : Type 0 where
+  pub front : List ℕ
+  pub parts : was.waiting ++ unit ≡ front ++ is.waiting
+  pub appends : Appends old new was.out front

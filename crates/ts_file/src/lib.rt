@@ -1,2 +1,12 @@
 //! Files of transport packets, read and written through a desk, each by way of one buffer.
 #![tactic(auto)]
+
+mod input;
+mod page;
+mod reader;
+mod writer;
+
+pub use input::{BUFFER, Input, LARGEST};
+pub use page::{PAGE, Page};
+pub use reader::{PacketReader, ReadStop};
+pub use writer::UnitWriter;
