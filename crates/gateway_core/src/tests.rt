@@ -123,14 +123,11 @@ fn drain(gateway: &mut Gateway<'_>, units: &mut Vec<[u8; 188]>) -> Result<(), Ou
     ensures frame { frame_of gateway.new ≡ frame_of gateway.old }
     ensures finished { has_finished gateway.new ≡ has_finished gateway.old }
 {
-    for _ in 0..u32::MAX {
-        let mut unit = [0; 188];
-        if !gateway.next_ts(&mut unit) {
-            return Ok(());
-        }
+    let mut unit = [0; 188];
+    while gateway.next_ts(&mut unit) {
         units.push(unit)?;
     }
-    Err(OutOfMemory)
+    Ok(())
 }
 
 // The units of a run.
