@@ -9,6 +9,7 @@ pub mod StandsLemmas
 pub mod UnpiperLemmas
 pub mod PipeLemmas
 pub mod PiperLemmas
+pub mod CompleteLemmas
 pub mod PointerLemmas
 pub mod TallyLemmas
 pub mod FitLemmas

@@ -1,5 +1,7 @@
 pub mod Accepted
 pub mod Candidate
+pub mod Complete
+pub mod CompleteLaws
 pub mod Eaten
 pub mod Events
 pub mod Laws

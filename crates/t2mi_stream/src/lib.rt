@@ -10,7 +10,7 @@ mod unit;
 mod unpiper;
 
 pub use laws::{
-    accepted_front, any_cutting, disjoint, events_push, starts_found, survives, tally_push,
+    accepted_front, any_cutting, complete_law, disjoint, events_push, starts_found, survives, tally_push,
     unit_reads, whole_packets,
 };
 pub use piper::Piper;
