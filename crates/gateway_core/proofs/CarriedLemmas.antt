@@ -1,12 +1,15 @@
 -- Packets are built and fed, one by one.
-use Rattle.std.proofs.Common.{◌≡◌, ℕ, ◌+◌, ◌-◌, ◌%◌, ◌≤◌, Bool, true, false, List, [], ◌∷◌, ◌++◌, length, take, drop, refl, ap, sym, subst, ◌∙◌, arith, append-nil, append_assoc, Some}
+use Rattle.std.proofs.Common.{◌≡◌, ℕ, ◌+◌, ◌-◌, ◌%◌, ◌<◌, ◌≤◌, Bool, true, false, List, [], ◌∷◌, ◌++◌, length, take, drop, refl, ap, sym, subst, ◌∙◌, arith, append-nil, append_assoc, Some, inl, inr}
 use Rattle.std.specs.Prelude.{slice_get}
+use Rattle.std.proofs.lemmas.Bool.{cases_lt}
 use Rattle.std.proofs.lemmas.Grind.{flat_map-append}
 use Rattle.std.proofs.lemmas.List.{take-append-drop, drop-take, drop-drop, length_push}
 use Rattle.terms.specs.Bits.{bytes_of}
 use Rattle.plp_config.specs.declared.config.Config.{Config}
 use Rattle.t2mi_packet.specs.T2miPacket.{written_bits}
 use Rattle.t2mi_packet.specs.declared.packet.Body.{Body}
+use Rattle.t2mi_stream.specs.Complete.{complete_of, complete_units}
+use Rattle.t2mi_stream.proofs.CompleteLemmas.{complete_grows}
 use Rattle.t2mi_stream.specs.Events.{PiperEvent, PiperTally, Begun, Piped, Given, Finished, still_begun, tally_with, tally_from, tally}
 use Rattle.t2mi_stream.specs.Pipe.{Item, items, joined, units_of, pipe}
 use Rattle.t2mi_stream.specs.PiperStandsFor.{PiperStandsFor, is_finished}
@@ -50,6 +53,7 @@ carries_new piper c n pid e stands = record {
   number_is = refl;
   fed = refl;
   all_are = refl;
+  were_complete = λ off. omega arith;
 }
 
 fed_on : (fed : List Item) (begun : Bool) (rest : List ℕ) (r : ℕ) → fed ++ items begun rest ≡ (fed ++ items begun (take r rest)) ++ items (still_begun begun (take r rest)) (drop r rest)
@@ -63,10 +67,10 @@ between_on bytes at len r le =
     let gap : len - at ≡ r + (len - (at + r)) = omega arith in
     sym (ap (λ (k : ℕ). drop r (take k (drop at bytes))) gap ∙ drop-take r (len - (at + r)) (drop at bytes) ∙ ap (take (len - (at + r))) (drop-drop r at bytes))
 
-pub carries_feed : (old new : Piper) (bytes : List ℕ) (at len r number : ℕ) (c : Config) (n : ℕ) (left : List Body) (all : List (ℕ × Body)) (given : ℕ) → at + r ≤ len
+pub carries_feed : (old new : Piper) (bytes : List ℕ) (at len r number : ℕ) (c : Config) (n : ℕ) (left : List Body) (all : List (ℕ × Body)) (given : ℕ) → is_finished old ≡ false → at + r ≤ len
     → ((pid : ℕ) (events : List PiperEvent) → PiperStandsFor old pid events → PiperStandsFor new pid (events ++ Piped (take r (between bytes at len)) ∷ []))
     → Carries old (between bytes at len) number c n left all given → Carries new (between bytes (at + r) len) number c n left all given
-carries_feed old new bytes at len r number c n left all given le stands h =
+carries_feed old new bytes at len r number c n left all given off le stands h =
     let piece = take r (between bytes at len) in
     let t = tally_push h.events (Piped piece) in
     record {
@@ -79,16 +83,22 @@ carries_feed old new bytes at len r number c n left all given le stands h =
           ∙ ap (λ (l : List ℕ). ((tally h.events).fed ++ items (tally h.events).begun piece) ++ items (still_begun (tally h.events).begun piece) l) (sym (between_on bytes at len r le))
           ∙ sym (ap (λ (t : PiperTally). t.fed ++ items t.begun (between bytes (at + r) len)) t);
       all_are = h.all_are;
+      were_complete = λ _.
+          let was = h.were_complete off in
+          let more = complete_grows c.pid (tally h.events).fed (items (tally h.events).begun piece) in
+          let now : length (complete_of c.pid (tally (h.events ++ Piped piece ∷ [])).fed) ≡ length (complete_of c.pid ((tally h.events).fed ++ items (tally h.events).begun piece)) =
+          ap (λ (t : PiperTally). length (complete_of c.pid t.fed)) t in
+          omega (arith, was, more, now);
     }
 
 same_packet : (c : Config) (number k n : ℕ) (body : Body) → number ≡ k % 256 → packet_with c number n body ≡ packet_with c k n body
 same_packet c number k n body e = let m : number % 256 ≡ k % 256 = omega arith in rw m refl
 
-pub carries_build : (old new : Piper) (rest bytes : List ℕ) (bits : List Bool) (number : ℕ) (c : Config) (n : ℕ) (body : Body) (left : List Body) (all : List (ℕ × Body)) (given : ℕ) → rest ≡ []
+pub carries_build : (old new : Piper) (rest bytes : List ℕ) (bits : List Bool) (number : ℕ) (c : Config) (n : ℕ) (body : Body) (left : List Body) (all : List (ℕ × Body)) (given : ℕ) → is_finished old ≡ false → rest ≡ []
     → ((pid : ℕ) (events : List PiperEvent) → PiperStandsFor old pid events → PiperStandsFor new pid (events ++ Begun ∷ []))
     → bits ≡ written_bits (packet_with c number n body) → bytes ≡ bytes_of bits
     → Carries old rest number c n (body ∷ left) all given → Carries new bytes ((number + 1) % 256) c n left all given
-carries_build old new rest bytes bits number c n body left all given none stands is bytes_are h =
+carries_build old new rest bytes bits number c n body left all given off none stands is bytes_are h =
     let t = tally_push h.events Begun in
     let whole : joined (packets_from c 0 h.built) ≡ (tally h.events).fed =
     h.fed ∙ ap (λ (l : List ℕ). (tally h.events).fed ++ items (tally h.events).begun l) none ∙ append-nil (tally h.events).fed in
@@ -108,6 +118,7 @@ carries_build old new rest bytes bits number c n body left all given none stands
       number_is = let l = length_push h.built (n, body) in let e = h.number_is in omega (arith, e, l);
       fed = more ∙ sym (ap (λ (t : PiperTally). t.fed ++ items t.begun bytes) t);
       all_are = h.all_are ∙ sym (append_assoc h.built ((n, body) ∷ []) (of_frame n left));
+      were_complete = λ _. let was = h.were_complete off in let now = ap (λ (t : PiperTally). length (complete_of c.pid t.fed)) t in omega (arith, was, now);
     }
 
 pub packets_append : (c : Config) (k : ℕ) (xs ys : List (ℕ × Body)) → packets_from c k (xs ++ ys) ≡ packets_from c k xs ++ packets_from c (k + length xs) ys
@@ -156,10 +167,44 @@ carries_none old rest number c n left all given none h gone =
     ∙ ap (λ (l : List Item). (tally h.events).fed ++ l) (gone_none (tally h.events).begun rest c k n left [] gone) ∙ append-nil (tally h.events).fed in
     ap (λ (l : List Item). length (units_of c.pid l)) whole ∙ none c.pid h.events h.stands ∙ h.units
 
+-- a complete unit of the bytes fed is one of all
+pub carries_complete : (old : Piper) (rest : List ℕ) (number : ℕ) (c : Config) (n : ℕ) (left : List Body) (all : List (ℕ × Body)) (given : ℕ)
+    → ((pid : ℕ) (events : List PiperEvent) → PiperStandsFor old pid events → (tally events).given < length (complete_of pid (tally events).fed))
+    → Carries old rest number c n left all given → given < length (complete_units c.pid (packets_from c 0 all))
+carries_complete old rest number c n left all given complete h =
+    let more = behind (tally h.events).begun rest c (0 + length h.built) n left [] in
+    let nothing : packets_from c 0 all ++ [] ≡ packets_from c 0 all = append-nil (packets_from c 0 all) in
+    let whole : joined (packets_from c 0 all) ≡ (tally h.events).fed ++ more = ap joined (sym nothing) ∙ all_items old rest number c n left all given h [] in
+    let same : length (complete_of c.pid (joined (packets_from c 0 all))) ≡ length (complete_of c.pid ((tally h.events).fed ++ more)) = ap (λ (l : List Item). length (complete_of c.pid l)) whole in
+    let grows = complete_grows c.pid (tally h.events).fed more in
+    let lt = complete c.pid h.events h.stands in
+    let units = h.units in
+    omega (arith, same, grows, lt, units)
+
+-- Where all bytes were fed and no unit is complete, all complete units were given.
+pub carries_caught_up : (old : Piper) (rest : List ℕ) (number : ℕ) (c : Config) (n : ℕ) (left : List Body) (all : List (ℕ × Body)) (given : ℕ) → is_finished old ≡ false
+    → ((pid : ℕ) (events : List PiperEvent) → PiperStandsFor old pid events → ¬ ((tally events).given < length (complete_of pid (tally events).fed)))
+    → Carries old rest number c n left all given → AllGone rest left [] → given ≡ length (complete_units c.pid (packets_from c 0 all))
+carries_caught_up old rest number c n left all given off none h gone =
+    let k = 0 + length h.built in
+    let nothing : packets_from c 0 all ++ [] ≡ packets_from c 0 all = append-nil (packets_from c 0 all) in
+    let whole : joined (packets_from c 0 all) ≡ (tally h.events).fed =
+    ap joined (sym nothing) ∙ all_items old rest number c n left all given h []
+    ∙ ap (λ (l : List Item). (tally h.events).fed ++ l) (gone_none (tally h.events).begun rest c k n left [] gone) ∙ append-nil (tally h.events).fed in
+    let same : length (complete_of c.pid (joined (packets_from c 0 all))) ≡ length (complete_of c.pid (tally h.events).fed) = ap (λ (l : List Item). length (complete_of c.pid l)) whole in
+    let few = h.were_complete off in
+    let units = h.units in
+    elim (cases_lt (tally h.events).given (length (complete_of c.pid (tally h.events).fed))) [
+      | inl lt ↦ absurd (none c.pid h.events h.stands lt)
+      | inr ge ↦ omega (arith, same, few, ge, units)
+    ]
+
 pub carries_given : (old new : Piper) (rest : List ℕ) (number : ℕ) (c : Config) (n : ℕ) (left : List Body) (all : List (ℕ × Body)) (given : ℕ)
+    → is_finished new ≡ is_finished old
+    → (is_finished old ≡ false → (pid : ℕ) (events : List PiperEvent) → PiperStandsFor old pid events → (tally events).given < length (complete_of pid (tally events).fed))
     → ((pid : ℕ) (events : List PiperEvent) → PiperStandsFor old pid events → PiperStandsFor new pid (events ++ Given ∷ []))
     → Carries old rest number c n left all given → Carries new rest number c n left all (given + 1)
-carries_given old new rest number c n left all given stands h =
+carries_given old new rest number c n left all given fin complete stands h =
     let t = tally_push h.events Given in
     record {
       events = h.events ++ Given ∷ [];
@@ -169,12 +214,17 @@ carries_given old new rest number c n left all given stands h =
       number_is = h.number_is;
       fed = h.fed ∙ sym (ap (λ (t : PiperTally). t.fed ++ items t.begun rest) t);
       all_are = h.all_are;
+      were_complete = λ off.
+          let was = complete (sym fin ∙ off) c.pid h.events h.stands in
+          let units = h.units in
+          let now = ap (λ (t : PiperTally). length (complete_of c.pid t.fed)) t in
+          omega (arith, was, units, now);
     }
 
-pub carries_finish : (old new : Piper) (rest : List ℕ) (number : ℕ) (c : Config) (n : ℕ) (left : List Body) (all : List (ℕ × Body)) (given : ℕ)
+pub carries_finish : (old new : Piper) (rest : List ℕ) (number : ℕ) (c : Config) (n : ℕ) (left : List Body) (all : List (ℕ × Body)) (given : ℕ) → is_finished new ≡ true
     → ((pid : ℕ) (events : List PiperEvent) → PiperStandsFor old pid events → PiperStandsFor new pid (events ++ Finished ∷ []))
     → Carries old rest number c n left all given → Carries new rest number c n left all given
-carries_finish old new rest number c n left all given stands h =
+carries_finish old new rest number c n left all given fin stands h =
     let t = tally_push h.events Finished in
     record {
       events = h.events ++ Finished ∷ [];
@@ -184,6 +234,7 @@ carries_finish old new rest number c n left all given stands h =
       number_is = h.number_is;
       fed = h.fed ∙ sym (ap (λ (t : PiperTally). t.fed ++ items t.begun rest) t);
       all_are = h.all_are;
+      were_complete = λ off. absurd (let z : true ≡ false = sym fin ∙ off in cc);
     }
 
 -- one frame more
@@ -197,4 +248,5 @@ carries_more piper rest number c n m left next all given none h = record {
   number_is = h.number_is;
   fed = h.fed;
   all_are = ap (λ (l : List (ℕ × Body)). l ++ of_frame m next) (h.all_are ∙ ap (λ (l : List Body). h.built ++ of_frame n l) none ∙ append-nil h.built);
+  were_complete = h.were_complete;
 }

@@ -1,6 +1,6 @@
 -- A gateway after one event more.
 use Rattle.std.proofs.Common.{◌≡◌, ◌≢◌, ℕ, zero, suc, ◌+◌, ◌-◌, ◌%◌, ◌<◌, ◌≤◌, Bool, true, false, cond, List, [], ◌∷◌, ◌++◌, Option, Some, None, is_some, length, map, replicate, refl, ap, sym, subst, ◌∙◌, inl, inr, arith, append-nil, append_assoc}
-use Rattle.std.specs.Prelude.{slice_get, slice_index_or, slice_index, ◌==◌, ◌||◌}
+use Rattle.std.specs.Prelude.{slice_get, slice_index_or, slice_index, ◌==◌, ◌||◌, ◌↔◌}
 use Rattle.std.specs.List.{flat_map, range_with_len}
 use Rattle.std.proofs.lemmas.Bool.{cases_eq, ne_eqb}
 use Rattle.std.proofs.lemmas.Grind.{flat_map-append}
@@ -22,6 +22,7 @@ use Rattle.gateway_core.specs.Flowing.{Flows}
 use Rattle.gateway_core.specs.InputsStandFor.{AllFed, AllContinue, AreBlocks, AllEnded, HaveEnded}
 use Rattle.gateway_core.specs.IsFed.{IsFed, wanted}
 use Rattle.gateway_core.specs.Left.{from_step}
+use Rattle.t2mi_stream.specs.Complete.{complete_units}
 use Rattle.t2mi_stream.specs.Pipe.{pipe}
 use Rattle.gateway_core.specs.Packets.{packets_from, front_packets, l1_body, block_bodies, plp_bodies, counts_of, frame_bodies, frame_blocks, bodies_before}
 use Rattle.gateway_core.specs.Signalling.{pre_part, conf_part, dyn_part}
@@ -261,6 +262,30 @@ holds_none p c inputs s frames flow n left events all e none h fin cont =
     let here = subst (λ (k : Config). flow.finished ≡ true → (bodies : List (ℕ × Body)) (given : ℕ) → Flows flow k n left bodies given → length (pipe k.pid (packets_from k 0 bodies)) ≡ given) e none in
     subst (λ (m : ℕ). length (pipe c.pid (packets_from c 0 (bodies_before c all m))) ≡ given events) h.frames_are
     (here (h.last ∙ fin) (bodies_before c all frames) (given events) (h.flows all cont))
+
+-- what a flow says of the complete units of its packets
+pub holds_complete : (p c : Config) (inputs : List Input) (s : Signalling) (frames : ℕ) (flow : Flow) (n : ℕ) (left : List Body) (events : List Event) (all : ℕ → List (List ℕ)) → p ≡ c
+    → (flow.finished ≡ false → (bodies : List (ℕ × Body)) (given : ℕ) → Flows flow p n left bodies given → given < length (complete_units p.pid (packets_from p 0 bodies)))
+    → Holds inputs s frames flow n left c events → finished events ≡ false → AllContinue c events all → given events < length (complete_units c.pid (front_packets c all (begun events)))
+unfolding front_packets
+holds_complete p c inputs s frames flow n left events all e complete h off cont =
+    let here = subst (λ (k : Config). flow.finished ≡ false → (bodies : List (ℕ × Body)) (given : ℕ) → Flows flow k n left bodies given → given < length (complete_units k.pid (packets_from k 0 bodies))) e complete in
+    subst (λ (m : ℕ). given events < length (complete_units c.pid (packets_from c 0 (bodies_before c all m)))) h.frames_are
+    (here (h.last ∙ off) (bodies_before c all frames) (given events) (h.flows all cont))
+
+pub holds_caught_up : (p c : Config) (inputs : List Input) (s : Signalling) (frames : ℕ) (flow : Flow) (n : ℕ) (left : List Body) (events : List Event) (all : ℕ → List (List ℕ)) → p ≡ c
+    → (flow.finished ≡ false → (bodies : List (ℕ × Body)) (given : ℕ) → Flows flow p n left bodies given → given ≡ length (complete_units p.pid (packets_from p 0 bodies)))
+    → Holds inputs s frames flow n left c events → finished events ≡ false → AllContinue c events all → given events ≡ length (complete_units c.pid (front_packets c all (begun events)))
+unfolding front_packets
+holds_caught_up p c inputs s frames flow n left events all e caught h off cont =
+    let here = subst (λ (k : Config). flow.finished ≡ false → (bodies : List (ℕ × Body)) (given : ℕ) → Flows flow k n left bodies given → given ≡ length (complete_units k.pid (packets_from k 0 bodies))) e caught in
+    subst (λ (m : ℕ). given events ≡ length (complete_units c.pid (packets_from c 0 (bodies_before c all m)))) h.frames_are
+    (here (h.last ∙ off) (bodies_before c all frames) (given events) (h.flows all cont))
+
+-- an answer tells whether a number is below a count, where one is told and the number is the count where it is not
+pub both : (result : Bool) (given count : ℕ) → (result ≡ true → given < count) → (result ≡ false → given ≡ count) → (result ≡ true) ↔ (given < count)
+both true given count some none = (some, λ _. refl)
+both false given count some none = (some, λ lt. absurd (let e = none refl in omega (arith, lt, e)))
 
 -- how many packets ended inputs had
 is_ended : (b : Bool) (n : ℕ) (total : Option ℕ) → total ≡ cond b (Some n) None → is_some total ≡ true → b ≡ true

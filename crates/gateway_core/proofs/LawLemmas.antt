@@ -12,9 +12,11 @@ use Rattle.plp_config.specs.declared.config.Config.{Config}
 use Rattle.t2mi_packet.specs.declared.packet.Body.{Body}
 use Rattle.mode_adapt.specs.Deletion.{packet_at}
 use Rattle.mode_adapt.specs.Laws.{BlocksLaw}
+use Rattle.t2mi_stream.specs.CompleteLaws.{CompleteLaw}
+use Rattle.t2mi_stream.specs.Pipe.{pipe}
 use Rattle.gateway_core.specs.Carried.{of_frame}
 use Rattle.gateway_core.specs.Events.{offered}
-use Rattle.gateway_core.specs.Laws.{NotYetLast, FrontsGrow, FrontsDecided, LastIsAll}
+use Rattle.gateway_core.specs.Laws.{NotYetLast, FrontsGrow, UnitsLaw, FrontsDecided, LastIsAll}
 use Rattle.gateway_core.specs.Packets.{l1_body, block_bodies, plp_bodies, with_stamp, counts_of, frame_bodies, frame_blocks, bodies_before, packets_from, front_packets}
 use Rattle.gateway_core.specs.Signalling.{pre_part, conf_part, dyn_part}
 use Rattle.gateway_core.proofs.CarriedLemmas.{packets_append}
@@ -75,6 +77,13 @@ bodies_same c all other (suc n) h =
     subst (λ (k : ℕ). bodies_before c all k ≡ bodies_before c other k) (add-one n)
     (bodies_more c all n ∙ ap (λ (l : List (ℕ × Body)). l ++ of_frame n (frame_bodies c n (frame_blocks c all n))) (bodies_same c all other n (λ m lt. h m (omega arith)))
     ∙ ap (λ (l : List Body). bodies_before c other n ++ of_frame n l) (h n (omega arith)) ∙ sym (bodies_more c other n))
+
+pub units_first : CompleteLaw → UnitsLaw
+units_first law c inputs k n le =
+    let gap : k + (n - k) ≡ n = omega arith in
+    let more = fronts_grow c inputs k (n - k) in
+    let stays = law c.pid (front_packets c inputs k) more.0 in
+    (stays.rest, ap (λ (m : ℕ). pipe c.pid (front_packets c inputs m)) (sym gap) ∙ ap (pipe c.pid) more.1 ∙ stays.units)
 
 pub fronts_decided : BlocksLaw → SlotLength → CountRises → FrontsDecided
 unfolding front_packets

@@ -1,10 +1,11 @@
 -- How far the packets of the frames begun have come. No public clause cites this module.
-use Rattle.std.specs.Prelude.{◌≡◌, ℕ, ◌+◌, ◌-◌, ◌*◌, ◌%◌, List, [], ◌++◌, length, map, take, drop}
+use Rattle.std.specs.Prelude.{◌≡◌, ℕ, ◌+◌, ◌-◌, ◌*◌, ◌%◌, ◌≤◌, false, List, [], ◌++◌, length, map, take, drop}
 use Rattle.plp_config.specs.declared.config.Config.{Config}
 use Rattle.t2mi_packet.specs.declared.packet.Body.{Body}
+use Rattle.t2mi_stream.specs.Complete.{complete_of}
 use Rattle.t2mi_stream.specs.Events.{PiperEvent, tally}
 use Rattle.t2mi_stream.specs.Pipe.{items, joined}
-use Rattle.t2mi_stream.specs.PiperStandsFor.{PiperStandsFor}
+use Rattle.t2mi_stream.specs.PiperStandsFor.{PiperStandsFor, is_finished}
 use Rattle.t2mi_stream.specs.declared.piper.Piper.{Piper}
 use Rattle.gateway_core.specs.Packets.{packets_from}
 
@@ -12,7 +13,8 @@ use Rattle.gateway_core.specs.Packets.{packets_from}
 abbrev pub of_frame : ℕ → List Body → List (ℕ × Body)
 of_frame n bodies = map (λ body. (n, body)) bodies
 
--- Of all packets some were built, of which the piper has all bytes but some of the last one; so many bodies are left, of one frame.
+-- Of all packets some were built, of which the piper has all bytes but some of the last one; so many bodies are left, of one frame. Before the end
+-- no unit was given that was not complete.
 pub record Carries (piper : Piper) (rest : List ℕ) (number : ℕ) (c : Config) (n : ℕ) (left : List Body) (all : List (ℕ × Body)) (given : ℕ) : Type 0 where
   pub events : List PiperEvent
   pub stands : PiperStandsFor piper c.pid events
@@ -21,6 +23,7 @@ pub record Carries (piper : Piper) (rest : List ℕ) (number : ℕ) (c : Config)
   pub number_is : number ≡ length built % 256
   pub fed : joined (packets_from c 0 built) ≡ (tally events).fed ++ items (tally events).begun rest
   pub all_are : all ≡ built ++ of_frame n left
+  pub were_complete : is_finished piper ≡ false → given ≤ length (complete_of c.pid (tally events).fed)
 
 -- bytes of a buffer from one up to another
 abbrev pub between : List ℕ → ℕ → ℕ → List ℕ

@@ -5,6 +5,8 @@ use Rattle.plp_config.specs.RunLength.{frame_count}
 use Rattle.plp_config.specs.SlotTime.{slots_by}
 use Rattle.plp_config.specs.declared.config.Config.{Config}
 use Rattle.mode_adapt.specs.Deletion.{packet_at}
+use Rattle.t2mi_stream.specs.Complete.{complete_units}
+use Rattle.t2mi_stream.specs.Pipe.{pipe}
 use Rattle.gateway_core.specs.Events.{Event, begun}
 use Rattle.gateway_core.specs.InputsStandFor.{AllContinue}
 use Rattle.gateway_core.specs.Packets.{front_packets, packets_of}
@@ -17,6 +19,11 @@ NotYetLast = (c : Config) (packets : ℕ → ℕ) (plp m : ℕ) → IsPlan c →
 -- The packets of fewer frames are the first ones.
 abbrev pub FrontsGrow : Type 0
 FrontsGrow = (c : Config) (inputs : ℕ → List (List ℕ)) (n k : ℕ) → (more : List (List ℕ)) × (front_packets c inputs (n + k) ≡ front_packets c inputs n ++ more)
+
+-- All units of the frames below n begin with the complete units of fewer frames.
+abbrev pub UnitsLaw : Type 0
+UnitsLaw = (c : Config) (inputs : ℕ → List (List ℕ)) (k n : ℕ) → k ≤ n
+    → (rest : List (List ℕ)) × (pipe c.pid (front_packets c inputs n) ≡ complete_units c.pid (front_packets c inputs k) ++ rest)
 
 -- The packets of the frames below n follow from the input packets in the slots that are over when the last of these frames begins.
 abbrev pub FrontsDecided : Type 0

@@ -18,4 +18,5 @@ pub use Rattle.plp_config.specs.SlotTime
 pub use Rattle.mode_adapt.specs.Blocks
 pub use Rattle.mode_adapt.specs.Deletion
 pub use Rattle.t2mi_packet.specs.T2miPacket
+pub use Rattle.t2mi_stream.specs.Complete
 pub use Rattle.t2mi_stream.specs.Pipe

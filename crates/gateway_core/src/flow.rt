@@ -26,6 +26,7 @@ impl Flow {
     ghost use Rattle.std.specs.Prelude.{◌≡◌, ◌<◌, ◌≤◌, ◌+◌, ◌^◌, ◌++◌, ◌==◌, ◌&&◌, ◌||◌, nat_lt, ℕ, List, [], true, false, length, slice_get, Some};
     ghost use Rattle.plp_config.specs.declared.config.Config.{Config};
     ghost use Rattle.t2mi_packet.specs.declared.packet.Body.{Body};
+    ghost use Rattle.t2mi_stream.specs.Complete.{complete_units};
     ghost use Rattle.t2mi_stream.specs.Pipe.{pipe};
     ghost use Rattle.gateway_core.specs.Carried.{Carries, between, bytes_bound};
     ghost use Rattle.gateway_core.specs.Flowing.{Flows, gives_unit};
@@ -75,6 +76,10 @@ impl Flow {
         ensures stays { result ≡ false → (self.new ≡ self.old) × (frame.new ≡ frame.old) × (out.new ≡ out.old) }
         ensures none { result ≡ false → self.old.finished ≡ true → (all : List (ℕ × Body)) (given : ℕ) → Flows self.old plan.now frame.old.number (left plan.now signalling.now frame.old) all given
             → length (pipe plan.now.pid (packets_from plan.now 0 all)) ≡ given }
+        ensures complete { result ≡ true → self.old.finished ≡ false → (all : List (ℕ × Body)) (given : ℕ) → Flows self.old plan.now frame.old.number (left plan.now signalling.now frame.old) all given
+            → given < length (complete_units plan.now.pid (packets_from plan.now 0 all)) }
+        ensures caught_up { result ≡ false → self.old.finished ≡ false → (all : List (ℕ × Body)) (given : ℕ) → Flows self.old plan.now frame.old.number (left plan.now signalling.now frame.old) all given
+            → given ≡ length (complete_units plan.now.pid (packets_from plan.now 0 all)) }
         ensures less { result ≡ true → bytes_bound (waiting_of self.new.outlet.piper) self.new.outlet.at self.new.outlet.len (left plan.now signalling.now frame.new) < bytes_bound (waiting_of self.old.outlet.piper) self.old.outlet.at self.old.outlet.len (left plan.now signalling.now frame.old) }
         ensures finished { self.new.finished ≡ self.old.finished }
         ensures blocks { frame.new.blocks.items ≡ frame.old.blocks.items }

@@ -43,6 +43,7 @@ fn pid_of(plan: &Plan) -> u16
 impl<'p> Gateway<'p> {
     ghost use Rattle.std.specs.Prelude.{◌≡◌, ◌≢◌, ◌<◌, ◌≤◌, ◌+◌, ◌^◌, ◌++◌, ◌∷◌, ◌↔◌, ℕ, List, [], true, false, length, Some, IfOk, OnOk, slice_get};
     ghost use Rattle.plp_config.specs.declared.config.Config.{Config};
+    ghost use Rattle.t2mi_stream.specs.Complete.{complete_units};
     ghost use Rattle.t2mi_stream.specs.Pipe.{pipe};
     ghost use Rattle.gateway_core.specs.Events.{Event, Offered, Ended, Begun, Gave, Finished, begun, given, finished};
     ghost use Rattle.gateway_core.specs.InputsStandFor.{AllContinue};
@@ -153,7 +154,14 @@ impl<'p> Gateway<'p> {
         ensures stays { result ≡ false → (has_unit self.new ≡ false) × (out.new ≡ out.old) }
         // So a loop that takes units ends.
         ensures less { result ≡ true → bytes_left self.new < bytes_left self.old }
+        // Before the end a unit of the frames begun is given as soon as it is complete, and no other.
+        ensures complete { (c : Config) (events : List Event) → GatewayStandsFor self.old c events → finished events ≡ false → (inputs : ℕ → List (List ℕ)) → AllContinue c events inputs
+            → (result ≡ true) ↔ (given events < length (complete_units c.pid (front_packets c inputs (begun events)))) }
+        ensures caught_up { result ≡ false → (c : Config) (events : List Event) → GatewayStandsFor self.old c events → finished events ≡ false → (inputs : ℕ → List (List ℕ)) → AllContinue c events inputs
+            → given events ≡ length (complete_units c.pid (front_packets c inputs (begun events))) }
         // After the end none is left out.
+        ensures rest { (c : Config) (events : List Event) → GatewayStandsFor self.old c events → finished events ≡ true → (inputs : ℕ → List (List ℕ)) → AllContinue c events inputs
+            → (result ≡ true) ↔ (given events < length (pipe c.pid (front_packets c inputs (begun events)))) }
         ensures none { result ≡ false → (c : Config) (events : List Event) → GatewayStandsFor self.old c events → finished events ≡ true → (inputs : ℕ → List (List ℕ)) → AllContinue c events inputs
             → length (pipe c.pid (front_packets c inputs (begun events))) ≡ given events }
         ensures plps { plps_of self.new ≡ plps_of self.old }

@@ -1,8 +1,9 @@
 // Laws of the definitions. Their functions do nothing.
-ghost use Rattle.gateway_core.specs.Laws.{NotYetLast, FrontsGrow, FrontsDecided, LastIsAll};
+ghost use Rattle.gateway_core.specs.Laws.{NotYetLast, FrontsGrow, UnitsLaw, FrontsDecided, LastIsAll};
 
 use mode_adapt::blocks_law;
 use plp_config::{length_law, run_length_law, slot_time_law};
+use t2mi_stream::complete_law;
 
 /// A run is three frames longer at least than the frame under way when all packets that it wants of an input were there. So a
 /// caller that ends each input where it ends, and begins no frame once the last was begun, begins no frame behind the run.
@@ -23,6 +24,13 @@ pub fn front_law()
     blocks_law();
     length_law();
     slot_time_law();
+}
+
+/// Whatever frames follow, the complete units of the frames begun are the first ones of all.
+pub fn units_law()
+    ensures { UnitsLaw }
+{
+    complete_law();
 }
 
 /// When the last frame was begun, the packets of the frames begun are those of the run.

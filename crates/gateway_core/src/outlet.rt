@@ -29,6 +29,7 @@ impl Outlet {
     ghost use Rattle.plp_config.specs.declared.config.Config.{Config};
     ghost use Rattle.t2mi_packet.specs.declared.packet.Body.{Body};
     ghost use Rattle.t2mi_stream.specs.PiperStandsFor.{waiting_of, is_finished};
+    ghost use Rattle.t2mi_stream.specs.Complete.{complete_units};
     ghost use Rattle.t2mi_stream.specs.Pipe.{pipe};
     ghost use Rattle.gateway_core.specs.Carried.{Carries, AllGone, between, bytes_bound};
     ghost use Rattle.gateway_core.specs.Packets.{packets_from};
@@ -66,6 +67,12 @@ impl Outlet {
         ensures none { result ≡ false → is_finished self.old.piper ≡ true → (c : Config) (n : ℕ) (left : List Body) (all : List (ℕ × Body)) (given : ℕ)
             → Carries self.old.piper (between self.old.bytes self.old.at self.old.len) self.old.number c n left all given
             → AllGone (between self.old.bytes self.old.at self.old.len) left [] → length (pipe c.pid (packets_from c 0 all)) ≡ given }
+        ensures complete { result ≡ true → is_finished self.old.piper ≡ false → (c : Config) (n : ℕ) (left : List Body) (all : List (ℕ × Body)) (given : ℕ)
+            → Carries self.old.piper (between self.old.bytes self.old.at self.old.len) self.old.number c n left all given
+            → given < length (complete_units c.pid (packets_from c 0 all)) }
+        ensures caught_up { result ≡ false → is_finished self.old.piper ≡ false → (c : Config) (n : ℕ) (left : List Body) (all : List (ℕ × Body)) (given : ℕ)
+            → Carries self.old.piper (between self.old.bytes self.old.at self.old.len) self.old.number c n left all given
+            → AllGone (between self.old.bytes self.old.at self.old.len) left [] → given ≡ length (complete_units c.pid (packets_from c 0 all)) }
         ensures rest { between self.new.bytes self.new.at self.new.len ≡ between self.old.bytes self.old.at self.old.len }
         ensures less { result ≡ true → (left : List Body) → bytes_bound (waiting_of self.new.piper) self.new.at self.new.len left < bytes_bound (waiting_of self.old.piper) self.old.at self.old.len left }
         ensures finished { is_finished self.new.piper ≡ is_finished self.old.piper }

@@ -18,3 +18,17 @@ pub returns-clause-unit : goal.returns-clause-unit
 returns-clause-unit c = λ on all given h more none.
     c.if-not-next.ensures.unit refl c.args.plan.now _ _ all given h.carries more
     (λ fin. absurd (let z : true ≡ false = sym fin ∙ c.args.self.now.wet c.if-self.false in cc))
+
+pub returns-then-not-next-clause-caught_up : goal.returns-then-not-next-clause-caught_up
+returns-then-not-next-clause-caught_up c = λ off begun all given h.
+    let dry = dry_when c.args.self.now.dry _ _ c.args.self.now.full c.if-not-next.ensures.is in
+    let g = h.dried dry in
+    c.if-not-next.ensures.caught_up refl (c.args.self.now.«open» begun) c.args.plan.now _ _ all given h.carries (record { rest_is = g.0; left_is = g.1; more_is = refl })
+
+pub returns-then-self-clause-complete : goal.returns-then-self-clause-complete
+returns-then-self-clause-complete c = λ on begun all given h.
+    c.if-not-next.ensures.complete refl (c.args.self.now.«open» begun) c.args.plan.now _ _ all given h.carries
+
+pub returns-clause-complete : goal.returns-clause-complete
+returns-clause-complete c = λ on begun all given h.
+    c.if-not-next.ensures.complete refl (c.args.self.now.«open» begun) c.args.plan.now _ _ all given h.carries

@@ -1,4 +1,8 @@
-use Rattle.std.proofs.Common.{◌≡◌, ◌∙◌, ◌+◌, ℕ, List, false, sym, subst}
+use Rattle.std.proofs.Common.{◌≡◌, ◌∙◌, ◌+◌, ◌++◌, ◌<◌, ℕ, List, [], false, length, refl, sym, subst, append-nil}
+use Rattle.std.proofs.lemmas.Option.{slice_get_within}
+use Rattle.t2mi_stream.specs.Pipe.{pipe}
+use Rattle.gateway_core.specs.Events.{begun, given}
+use Rattle.gateway_core.specs.Packets.{front_packets}
 use Rattle.plp_config.specs.declared.config.Config.{Config}
 use Rattle.t2mi_packet.specs.declared.packet.Body.{Body}
 use Rattle.gateway_core.specs.Flowing.{Flows, gives_unit}
@@ -6,7 +10,7 @@ use Rattle.gateway_core.specs.Left.{left}
 use Rattle.gateway_core.specs.StandsFor.{GatewayStandsFor, Holds}
 use Rattle.gateway_core.specs.declared.flow.Flow.{Flow}
 use Rattle.gateway_core.specs.declared.frame.Frame.{Frame}
-use Rattle.gateway_core.proofs.HoldsLemmas.{holds_unit, holds_none, holds_gave}
+use Rattle.gateway_core.proofs.HoldsLemmas.{holds_unit, holds_none, holds_gave, holds_complete, holds_caught_up, both}
 use Rattle.gateway_core.proofs.gateway.Gateway.next_ts.Goals as goal
 
 pub returns-clause-unit : goal.returns-clause-unit
@@ -42,3 +46,25 @@ returns-clause-stays c = λ off.
     let same = c.next.ensures.stays off in
     let none : gives_unit c.args.self.now.flow ≡ false = sym c.next.ensures.is ∙ off in
     (subst (λ (f : Flow). gives_unit f ≡ false) (sym same.0) none, same.2)
+
+pub returns-clause-complete : goal.returns-clause-complete
+unfolding GatewayStandsFor
+returns-clause-complete c = λ config events h off inputs cont.
+    both _ _ _
+    (λ on. holds_complete c.args.self.now.plan.now config _ _ _ c.args.self.now.flow _ _ events inputs h.0 (c.next.ensures.complete on) h.1 off cont)
+    (λ none. holds_caught_up c.args.self.now.plan.now config _ _ _ c.args.self.now.flow _ _ events inputs h.0 (c.next.ensures.caught_up none) h.1 off cont)
+
+pub returns-clause-caught_up : goal.returns-clause-caught_up
+unfolding GatewayStandsFor
+returns-clause-caught_up c = λ none config events h off inputs cont.
+    holds_caught_up c.args.self.now.plan.now config _ _ _ c.args.self.now.flow _ _ events inputs h.0 (c.next.ensures.caught_up none) h.1 off cont
+
+pub returns-clause-rest : goal.returns-clause-rest
+unfolding GatewayStandsFor
+returns-clause-rest c = λ config events h fin inputs cont.
+    let front = front_packets config inputs (begun events) in
+    both _ _ _
+    (λ on.
+    let at = holds_unit c.args.self.now.plan.now config _ _ _ c.args.self.now.flow _ _ events inputs [] c.next.new.out h.0 (c.next.ensures.unit on) h.1 cont (λ _. refl) in
+    subst (λ (l : List (List ℕ)). given events < length (pipe config.pid l)) (append-nil front) (slice_get_within (pipe config.pid (front ++ [])) (given events) _ at))
+    (λ off. sym (holds_none c.args.self.now.plan.now config _ _ _ c.args.self.now.flow _ _ events inputs h.0 (c.next.ensures.none off) h.1 fin cont))

@@ -17,5 +17,5 @@ returns-clause-carries c = λ all given h.
     (b.body ∷ left c.args.plan.now c.args.signalling.now c.build.new.self) all given =
     subst (λ (l : List Body). Carries c.args.self.now.piper (between c.args.self.now.bytes c.args.self.now.at c.args.self.now.len) c.args.self.now.number c.args.plan.now c.args.frame.now.number l all given) b.was h in
     let built = carries_build c.args.self.now.piper c.begin.new.self _ _ c.build.new.out c.args.self.now.number c.args.plan.now c.args.frame.now.number b.body (left c.args.plan.now c.args.signalling.now c.build.new.self) all given
-    none c.begin.ensures.stands b.built bytes was in
+    c.requires.«open» none c.begin.ensures.stands b.built bytes was in
     subst (λ (n : ℕ). Carries c.begin.new.self (between c.copy_packet-self.new.bytes 0 c.copy_packet-self.result) ((c.args.self.now.number + 1) % 256) c.args.plan.now n (left c.args.plan.now c.args.signalling.now c.build.new.self) all given) (sym c.build.ensures.number) built
