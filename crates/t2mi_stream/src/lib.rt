@@ -10,8 +10,8 @@ mod unit;
 mod unpiper;
 
 pub use laws::{
-    accepted_front, any_cutting, complete_law, disjoint, events_push, starts_found, survives, tally_push,
-    unit_reads, whole_packets,
+    accepted_front, any_cutting, complete_law, disjoint, events_push, starts_found, survives,
+    tally_push, unit_reads, whole_packets,
 };
 pub use piper::Piper;
 pub use unpiper::Unpiper;
