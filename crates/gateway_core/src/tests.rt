@@ -1,6 +1,7 @@
 // Expected values come from worked examples.
-ghost use Rattle.std.specs.Prelude.{◌≡◌, ◌<◌, ◌≤◌, false, OnOk};
+ghost use Rattle.std.specs.Prelude.{◌≡◌, ◌≢◌, ◌<◌, ◌≤◌, ℕ, false, length, OnOk};
 ghost use Rattle.gateway_core.specs.StandsFor.{plps_of, wants_of, frame_of, has_unit, has_finished};
+ghost use Rattle.t2mi_stream.specs.UnpiperStandsFor.{is_ready, fed_len};
 
 use crate::Gateway;
 use bit_slice::OutOfMemory;
@@ -10,6 +11,7 @@ use plp_config::{
 use std::alloc::Global;
 use std::process::Abort;
 use std::test::Fail;
+use t2mi_stream::Unpiper;
 use ts_packet::TsPacket;
 
 // A small network: 8 MHz, frames of 100,000 ticks and one PLP, whose slots last some 6,875 ticks.
@@ -34,6 +36,31 @@ const LOADED: Plp = Plp {
     ..PLP
 };
 
+// Three PLPs of both types, whose identifiers are not in order.
+const SEVERAL: [Plp; 3] = [
+    Plp { id: 9, ..LOADED },
+    Plp {
+        id: 2,
+        rate: Rate::R2_3,
+        modulation: Modulation::Qam16,
+        blocks: 2,
+        interleave: 2,
+        delete: false,
+        bits_per_second: 1_500_000,
+        ..PLP
+    },
+    Plp {
+        id: 5,
+        kind: PlpKind::Type2,
+        group: 2,
+        rate: Rate::R3_5,
+        modulation: Modulation::Qam64,
+        blocks: 2,
+        bits_per_second: 1_600_000,
+        ..PLP
+    },
+];
+
 const L1: L1Numbers = L1Numbers {
     bwt_ext: 0,
     s2: 6,
@@ -49,9 +76,11 @@ const L1: L1Numbers = L1Numbers {
     regen: 0,
 };
 
-fn network(alloc: Global, plp: Plp) -> Result<Config, OutOfMemory> {
+fn network(alloc: Global, rows: &[Plp], sub_slices: u16) -> Result<Config, OutOfMemory> {
     let mut plps = PlpList::new(alloc);
-    plps.push(plp)?;
+    for plp in rows {
+        plps.push(*plp)?;
+    }
     Ok(Config {
         band: Band::Mhz8,
         ticks: 100_000,
@@ -66,13 +95,17 @@ fn network(alloc: Global, plp: Plp) -> Result<Config, OutOfMemory> {
         system_id: 3,
         frequency: 474_000_000,
         l1: L1,
-        sub_slices: 1,
+        sub_slices,
         plps,
     })
 }
 
-fn plan(rt: &(impl Abort + AllocGlobal), plp: Plp) -> Result<Plan, OutOfMemory> {
-    let Ok(valid) = validate(network(rt.alloc(), plp)?) else {
+fn plan(
+    rt: &(impl Abort + AllocGlobal),
+    rows: &[Plp],
+    sub_slices: u16,
+) -> Result<Plan, OutOfMemory> {
+    let Ok(valid) = validate(network(rt.alloc(), rows, sub_slices)?) else {
         panic!(rt; "a rule fails");
     };
     let Ok(plan) = fits(valid) else {
@@ -82,38 +115,65 @@ fn plan(rt: &(impl Abort + AllocGlobal), plp: Plp) -> Result<Plan, OutOfMemory> 
 }
 
 // So many packets, none of them null.
-fn packets(alloc: Global, count: u8) -> Result<Vec<TsPacket>, OutOfMemory> {
+fn packets(alloc: Global, count: u16) -> Result<Vec<TsPacket>, OutOfMemory> {
     let mut packets = Vec::new(alloc);
     for number in 0..count {
         let mut bytes = *TsPacket::canonical().as_array();
         bytes[2] = 0xFE;
-        bytes[4] = number;
+        bytes[4] = (number % 256) as u8;
         packets.push(TsPacket::from_array(bytes))?;
     }
     Ok(packets)
 }
 
-// Offers the packets from one on that the frame under way wants, and answers which comes next.
-fn feed(gateway: &mut Gateway<'_>, packets: &[TsPacket], from: usize) -> Result<usize, OutOfMemory>
-    requires plps { plps_of gateway.old ≡ 1 }
+// Offers the packets from one on that the frame under way wants of a PLP, and answers which comes next.
+fn feed(
+    gateway: &mut Gateway<'_>,
+    plp: usize,
+    packets: &[TsPacket],
+    from: usize,
+) -> Result<usize, OutOfMemory>
+    requires place { plp < plps_of gateway.old }
     requires given { has_unit gateway.old ≡ false }
-    ensures none { OnOk result (wants_of gateway.new 0 ≡ 0) }
-    ensures plps { plps_of gateway.new ≡ 1 }
+    ensures none { OnOk result (wants_of gateway.new plp ≡ 0) }
+    ensures others { OnOk result ((other : ℕ) → other ≢ plp → wants_of gateway.new other ≡ wants_of gateway.old other) }
+    ensures plps { plps_of gateway.new ≡ plps_of gateway.old }
     ensures unit { has_unit gateway.new ≡ false }
     ensures frame { frame_of gateway.new ≡ frame_of gateway.old }
     ensures finished { has_finished gateway.new ≡ has_finished gateway.old }
 {
     for place in from..packets.len() {
-        if gateway.wants(0) == 0 {
+        if gateway.wants(plp) == 0 {
             return Ok(place);
         }
-        gateway.offer(0, &packets[place])?;
+        gateway.offer(plp, &packets[place])?;
     }
-    if gateway.wants(0) == 0 {
+    if gateway.wants(plp) == 0 {
         return Ok(packets.len());
     }
-    gateway.end_input(0);
+    gateway.end_input(plp);
     Ok(packets.len())
+}
+
+// Offers what the frame under way wants, PLP by PLP.
+fn feed_all(
+    gateway: &mut Gateway<'_>,
+    inputs: &[&[TsPacket]],
+    next: &mut [usize],
+) -> Result<(), OutOfMemory>
+    requires places { length inputs.now ≡ plps_of gateway.old }
+    requires next { length next.old ≡ length inputs.now }
+    requires given { has_unit gateway.old ≡ false }
+    ensures none { OnOk result ((plp : ℕ) → plp < plps_of gateway.new → wants_of gateway.new plp ≡ 0) }
+    ensures plps { plps_of gateway.new ≡ plps_of gateway.old }
+    ensures unit { has_unit gateway.new ≡ false }
+    ensures frame { frame_of gateway.new ≡ frame_of gateway.old }
+    ensures finished { has_finished gateway.new ≡ has_finished gateway.old }
+{
+    for plp in 0..inputs.len() {
+        next[plp] = feed(gateway, plp, inputs[plp], next[plp])?;
+    }
+    Ok(())
 }
 
 // Takes all units that there are.
@@ -134,14 +194,15 @@ fn drain(gateway: &mut Gateway<'_>, units: &mut Vec<[u8; 188]>) -> Result<(), Ou
 fn run(
     rt: &(impl Abort + AllocGlobal),
     plan: &Plan,
-    packets: &[TsPacket],
+    inputs: &[&[TsPacket]],
 ) -> Result<Vec<[u8; 188]>, OutOfMemory> {
-    assert!(rt; plan.config().plps.len() == 1);
+    assert!(rt; plan.config().plps.len() == inputs.len() && inputs.len() <= 3);
     let mut gateway = Gateway::open(rt.alloc(), plan)?;
     let mut units = Vec::new(rt.alloc());
-    let mut next = 0;
+    let mut places = [0; 3];
+    let next = &mut places[..inputs.len()];
     for _ in 0..100u64 {
-        next = feed(&mut gateway, packets, next)?;
+        feed_all(&mut gateway, inputs, next)?;
         if gateway.last() {
             break;
         }
@@ -151,6 +212,51 @@ fn run(
     gateway.finish();
     drain(&mut gateway, &mut units)?;
     Ok(units)
+}
+
+// The first 19 bytes of each packet, and how many bytes all packets have.
+#[derive(Drop)]
+struct Stream {
+    heads: Vec<[u8; 19]>,
+    size: usize,
+}
+
+// Adds the packets that wait.
+fn take_packets(unpiper: &mut Unpiper, stream: &mut Stream) -> Result<(), OutOfMemory>
+    ensures idle { OnOk result (is_ready unpiper.new ≡ false) }
+    ensures fed { fed_len unpiper.new ≡ fed_len unpiper.old }
+{
+    while unpiper.is_ready() {
+        let packet = unpiper.bytes();
+        let mut head = [0; 19];
+        if packet.len() >= 19 {
+            head.copy_from_slice(&packet[..19]);
+        }
+        stream.size = stream.size.wrapping_add(packet.len());
+        stream.heads.push(head)?;
+        unpiper.release();
+    }
+    Ok(())
+}
+
+// The packets of units.
+fn stream_of(alloc: Global, units: &[[u8; 188]]) -> Result<Stream, OutOfMemory> {
+    let mut bytes = Vec::new(alloc);
+    for unit in units {
+        bytes.extend_from_slice(unit)?;
+    }
+    let bytes = &bytes[..bytes.len().min(1_000_000)];
+    let mut unpiper = Unpiper::open(alloc, 256)?;
+    let mut stream = Stream {
+        heads: Vec::new(alloc),
+        size: 0,
+    };
+    let mut at = 0;
+    while at < bytes.len() {
+        at += unpiper.feed(&bytes[at..]);
+        take_packets(&mut unpiper, &mut stream)?;
+    }
+    Ok(stream)
 }
 
 // Whether a unit begins with these bytes.
@@ -174,20 +280,117 @@ const STAMP: [u8; 17] = [0x20, 0x03, 0x10, 0x00, 0x00, 0x58, 0x04, 0x00, 0x29, 0
 // The packets of four frames without blocks, 21, 79, 79, 21, 79 and 79 bytes.
 #[test]
 fn units_of_an_empty_input(rt: HostRuntime) -> Result<(), Fail> {
-    let units = run(&rt, &plan(&rt, PLP)?, &[])?;
+    let units = run(&rt, &plan(&rt, &[PLP], 1)?, &[&[]])?;
     assert_eq!(rt; units.len(), 2);
     assert!(rt; begins(&units, 0, &FIRST) && begins(&units, 1, &LAST));
     assert!(rt; units[0].as_slice().ends_with(&STAMP[..4]) && units[1][13..26] == STAMP[4..]);
     Ok(())
 }
 
+// The L1-current of frame 1, which has frame_idx 1, and its three blocks, from intl_frame_start on 1, 0 and 0, with BBHEADERs.
+#[rattlefmt::skip]
+const FRAME_1: [[u8; 19]; 4] = [
+    [0x10, 0x02, 0x00, 0x00, 0x02, 0x28, 0x01, 0x00, 0x00, 0x06, 0x10, 0x10, 0x00, 0xFA, 0x00, 0x13, 0xE6, 0x00, 0x00],
+    [0x00, 0x03, 0x00, 0x00, 0x1B, 0x90, 0x01, 0x00, 0x80, 0xFC, 0x00, 0x80, 0x00, 0x1B, 0x28, 0x00, 0x00, 0x00, 0xFA],
+    [0x00, 0x04, 0x00, 0x00, 0x1B, 0x90, 0x01, 0x00, 0x00, 0xFC, 0x00, 0x80, 0x8C, 0x1B, 0x28, 0xE8, 0x02, 0x38, 0x20],
+    [0x00, 0x05, 0x00, 0x00, 0x1B, 0x90, 0x01, 0x00, 0x00, 0xFC, 0x00, 0x81, 0x19, 0x16, 0x10, 0xD1, 0x04, 0x70, 0x3F],
+];
+
 // Unit 85 leaves the packet that begins at its last byte to unit 86.
 #[test]
 fn units_of_a_loaded_network(rt: HostRuntime) -> Result<(), Fail> {
     let packets = packets(rt.alloc(), 110)?;
-    let units = run(&rt, &plan(&rt, LOADED)?, &packets)?;
+    let units = run(&rt, &plan(&rt, &[LOADED], 1)?, &[packets.as_slice()])?;
     assert_eq!(rt; units.len(), 123);
     assert!(rt; begins(&units, 85, &[0x47, 0x01, 0x00, 0x35, 0x00]));
     assert!(rt; begins(&units, 86, &[0x47, 0x41, 0x00, 0x16, 0x00]));
+    let stream = stream_of(rt.alloc(), &units)?;
+    assert_eq!(rt; stream.size, 22_482);
+    assert_eq!(rt; stream.heads.len(), 42);
+    assert!(rt; stream.heads[2..6] == FRAME_1[..]);
+    Ok(())
+}
+
+// How many blocks each of the three PLPs has in a frame.
+fn blocks_in(frame: u8) -> [u8; 3] {
+    match frame {
+        0 => [0, 0, 0],
+        1..=29 => [3, 2, 2],
+        30 => [0, 2, 2],
+        31 => [0, 2, 1],
+        _ => [0, 2, 0],
+    }
+}
+
+// The PLP_ID of each, and payload_len.
+const BLOCKS: [(u8, [u8; 2]); 3] = [(9, [0x1B, 0x90]), (2, [0x29, 0xA0]), (5, [0x25, 0x68])];
+
+// Adds a packet of a frame: its type, packet_count, superframe_idx, payload_len, and three bytes of payload.
+fn add_packet(
+    heads: &mut Vec<[u8; 9]>,
+    frame: u8,
+    kind: u8,
+    len: [u8; 2],
+    payload: [u8; 3],
+) -> Result<(), OutOfMemory> {
+    let count = (heads.len() % 256) as u8;
+    let superframe = frame / 2 % 16 * 16;
+    heads.push([
+        kind, count, superframe, 0, len[0], len[1], payload[0], payload[1], payload[2],
+    ])?;
+    Ok(())
+}
+
+// Adds the blocks of a PLP in a frame.
+fn add_blocks(
+    heads: &mut Vec<[u8; 9]>,
+    frame: u8,
+    id: u8,
+    len: [u8; 2],
+    count: u8,
+) -> Result<(), OutOfMemory> {
+    for block in 0..count {
+        let first = if block == 0 { 0x80 } else { 0 };
+        add_packet(heads, frame, 0x00, len, [frame % 2, id, first])?;
+    }
+    Ok(())
+}
+
+// The heads of the packets of the three PLPs.
+fn heads_of_several(alloc: Global) -> Result<Vec<[u8; 9]>, OutOfMemory> {
+    let mut heads = Vec::new(alloc);
+    for frame in 0..34u8 {
+        if frame % 2 == 0 {
+            add_packet(&mut heads, frame, 0x20, [0x00, 0x58], [0x04, 0x00, 0x29])?;
+        }
+        add_packet(
+            &mut heads,
+            frame,
+            0x10,
+            [0x03, 0x40],
+            [frame % 2, 0x00, 0x00],
+        )?;
+        let counts = blocks_in(frame);
+        for ((id, len), count) in BLOCKS.iter().zip(counts.iter()) {
+            add_blocks(&mut heads, frame, *id, *len, *count)?;
+        }
+    }
+    Ok(heads)
+}
+
+#[test]
+fn packets_of_several_plps(rt: HostRuntime) -> Result<(), Fail> {
+    let first = packets(rt.alloc(), 400)?;
+    let second = packets(rt.alloc(), 300)?;
+    let third = packets(rt.alloc(), 350)?;
+    let inputs = [first.as_slice(), second.as_slice(), third.as_slice()];
+    let units = run(&rt, &plan(&rt, &SEVERAL, 5)?, &inputs)?;
+    let stream = stream_of(rt.alloc(), &units)?;
+    let heads = heads_of_several(rt.alloc())?;
+    assert_eq!(rt; heads.len(), 265);
+    assert_eq!(rt; stream.heads.len(), 265);
+    for (place, (head, want)) in stream.heads.iter().zip(heads.iter()).enumerate() {
+        assert!(rt; head[..9] == want[..], "packet {place}: {head:?}");
+    }
     Ok(())
 }
