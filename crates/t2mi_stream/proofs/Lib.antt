@@ -16,3 +16,4 @@ pub mod FitLemmas
 pub mod ReadsLemmas
 pub mod SurviveLemmas
 pub mod DisjointLemmas
+pub mod SkippingLemmas

@@ -10,6 +10,7 @@ pub mod Pipe
 pub mod Pipes
 pub mod PiperStandsFor
 pub mod Received
+pub mod Skipping
 pub mod SpellLaws
 pub mod Stands
 pub mod Stood

@@ -6,6 +6,7 @@ mod grammar;
 mod laws;
 mod piper;
 mod put;
+mod skipping;
 mod unit;
 mod unpiper;
 
@@ -14,6 +15,7 @@ pub use laws::{
     tally_push, unit_reads, whole_packets,
 };
 pub use piper::Piper;
+pub use skipping::{few_packets, skip_law};
 pub use unpiper::Unpiper;
 
 #[cfg(test)]
