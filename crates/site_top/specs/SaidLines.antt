@@ -10,17 +10,17 @@ use Rattle.t2mi_packet.specs.T2miPacket.{view_of}
 abbrev pub head_of : List Bool → List ℕ
 head_of bits = take 8 (bytes_of bits)
 
--- the line of what is seen of a packet that stands at a place of a file: its packet_type and the head of its payload in hexadecimal,
--- packet_count, superframe_idx, t2mi_stream_id and payload_len in decimal
-unfoldable pub view_line : ℕ → PacketView → List ℕ
-view_line at v =
-    codes "offset=" ++ decimal at ++ codes " type=" ++ encode_lower (v.kind ∷ []) ++ codes " count=" ++ decimal v.count
+-- the line of what is seen of a packet that stands at a place of a file, which a key names: its packet_type and the head of its payload
+-- in hexadecimal, packet_count, superframe_idx, t2mi_stream_id and payload_len in decimal
+unfoldable pub view_line : List ℕ → ℕ → PacketView → List ℕ
+view_line key at v =
+    key ++ decimal at ++ codes " type=" ++ encode_lower (v.kind ∷ []) ++ codes " count=" ++ decimal v.count
     ++ codes " superframe=" ++ decimal v.superframe ++ codes " stream=" ++ decimal v.stream
     ++ codes " bits=" ++ decimal (length v.payload) ++ codes " head=" ++ encode_lower (head_of v.payload) ++ codes "\n"
 
--- the line of a packet, by the fields of its bytes
+-- the line of a packet among others that stand back to back, by the fields of its bytes
 abbrev pub line_of : ℕ → List ℕ → List ℕ
-line_of at packet = view_line at (view_of packet)
+line_of at packet = view_line (codes "offset=") at (view_of packet)
 
 -- the lines of packets that stand back to back, the first of them at this place
 abbrev pub lines_of : ℕ → List (List ℕ) → List ℕ

@@ -1,4 +1,4 @@
-// The line that `show packets` says of a packet.
+// The line that is said of a packet.
 ghost use Rattle.std.specs.Prelude.{◌≡◌, ◌*◌, ◌<◌, ◌≤◌, take, length};
 ghost use Rattle.terms.specs.Bits.{byte_at};
 ghost use Rattle.site_top.specs.SaidLines.{head_of, view_line};
@@ -32,15 +32,16 @@ fn head(bits: &BitSlice<'_>, bytes: &mut [u8; 8]) -> usize
     count
 }
 
-/// The line of a packet that stands at a place of a file.
+/// The line of a packet that stands at a place of a file, with a key in front of the place.
 #[tactic(auto, unfolding(crate::specs::SaidLines::view_line))]
-pub fn packet_line(at: u64, packet: &PacketView<'_>) -> Line
-    ensures { result ≡ view_line at packet.now }
+pub fn packet_line(key: &[u8], at: u64, packet: &PacketView<'_>) -> Line
+    requires { length key.now ≤ 8 }
+    ensures { result ≡ view_line key.now at packet.now }
 {
     let mut bytes = [0; 8];
     let count = head(&packet.payload, &mut bytes);
     let mut line = Line::new();
-    line.push_field(b"offset=", at);
+    line.push_field(key, at);
     line.push(b" type=");
     line.push_hex(&[packet.kind]);
     line.push_field(b" count=", u64::from(packet.count));

@@ -104,7 +104,7 @@ fn take_packet(input: &mut Input, page: &mut Page, at: u64) -> Result<usize, Out
 {
     let len = match view(input.as_bytes()) {
         Ok((packet, len)) => {
-            page.push(packet_line(at, &packet).as_bytes());
+            page.push(packet_line(b"offset=", at, &packet).as_bytes());
             len
         }
         Err(fault) => {
