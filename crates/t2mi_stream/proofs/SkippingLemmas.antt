@@ -1,6 +1,7 @@
 -- Bytes further on are accepted alike, and no more packets are accepted than there are bytes.
-use Rattle.std.proofs.Common.{◌≡◌, ℕ, zero, suc, ◌+◌, ◌-◌, ◌*◌, ◌/◌, ◌==◌, ◌<◌, ◌≤◌, Bool, true, false, cond, List, [], ◌∷◌, ◌++◌, length, take, drop, map, Option, Some, None, refl, ap, ap₂, sym, ◌∙◌, arith, length-append, length-drop, length-take, ◌||◌}
-use Rattle.std.specs.Prelude.{option_map, option_to_list, flat_map, not, ◌&&◌}
+use Rattle.std.proofs.Common.{◌≡◌, ℕ, zero, suc, ◌+◌, ◌-◌, ◌*◌, ◌/◌, ◌==◌, ◌<◌, ◌≤◌, Bool, true, false, cond, List, [], ◌∷◌, ◌++◌, length, take, drop, map, Option, Some, None, refl, ap, ap₂, sym, subst, ◌∙◌, arith, length-append, length-drop, length-take, ◌||◌}
+use Rattle.std.specs.List.{AllByRecursion}
+use Rattle.std.specs.Prelude.{slice_get, option_map, option_to_list, flat_map, not, ◌&&◌}
 use Rattle.std.proofs.lemmas.List.{take-append-le, drop-append-le, drop-drop, drop_at, take-map, drop-map, map-append, length-map}
 use Rattle.t2mi_packet.specs.Spell.{spell}
 use Rattle.ts_packet.specs.TransportPacket.{Fields}
@@ -77,6 +78,13 @@ uncut_spells xs (Some m) n e = go (unmarked (take (m - 1) (drop 1 xs))) e
     go true h = h
     go false h = cc
 
+-- an accepted packet has bytes
+some_len : SpellLaws → (xs : List Byte) (n : ℕ) → accepted_len xs ≡ Some n → (0 < n) × (0 < length xs)
+some_len g xs n e =
+    let range = g.range (values xs) n (uncut_spells xs (spell (values xs)) n e) in
+    let size = length-values xs in
+    (omega (arith, range.0), omega (arith, range.0, range.1))
+
 fronts_moved : (by : ℕ) (xs : List Byte) (o : Option ℕ) → ((n : ℕ) → o ≡ Some n → (0 < n) × (0 < length xs)) →
     option_map (λ n. packet_of (take n (map (moved by) xs))) o ≡ option_map (further by) (option_map (λ n. packet_of (take n xs)) o)
 fronts_moved by xs None h = refl
@@ -85,10 +93,7 @@ fronts_moved by xs (Some n) h = let some = h n refl in ap Some (packet_moved by 
 front_moved : SpellLaws → (by : ℕ) (xs : List Byte) → front_packet (map (moved by) xs) ≡ option_map (further by) (front_packet xs)
 front_moved g by xs =
     ap (option_map (λ n. packet_of (take n (map (moved by) xs)))) (len_moved by xs)
-    ∙ fronts_moved by xs (accepted_len xs) (λ n e.
-    let range = g.range (values xs) n (uncut_spells xs (spell (values xs)) n e) in
-    let size = length-values xs in
-    (omega (arith, range.0), omega (arith, range.0, range.1)))
+    ∙ fronts_moved by xs (accepted_len xs) (some_len g xs)
 
 to_list : {X Y : Type 0} (f : X → Y) (o : Option X) → option_to_list (option_map f o) ≡ map f (option_to_list o)
 to_list f None = refl
@@ -295,3 +300,106 @@ few pid bytes =
     let size : bytes_of_cut cut ≡ bytes_of_cut no_cut + bytes_of_carriers (carriers pid bytes (length bytes / 188)) = cut_all no_cut (carriers pid bytes (length bytes / 188)) in
     let start : bytes_of_cut no_cut ≡ 0 = refl in
     omega (arith, length-append (flat_map accepted cut.ended) (accepted cut.run), few_runs cut.ended, few_accepted cut.run, size, start, few_carriers pid bytes (length bytes / 188))
+
+-- Each byte, packet, run or carrier of a list begins below a place.
+abbrev BytesBelow : ℕ → List Byte → Type 0
+BytesBelow end xs = AllByRecursion (λ x. x.place < end) xs
+
+abbrev RunsBelow : ℕ → List (List Byte) → Type 0
+RunsBelow end runs = AllByRecursion (BytesBelow end) runs
+
+abbrev CarriersBelow : ℕ → List Carrier → Type 0
+CarriersBelow end cs = AllByRecursion (λ c. BytesBelow end c.bytes) cs
+
+abbrev PacketsBelow : ℕ → List AcceptedPacket → Type 0
+PacketsBelow end ps = AllByRecursion (λ p. p.place < end) ps
+
+all_append : {X : Type 0} (P : X → Type 0) (xs ys : List X) → AllByRecursion P xs → AllByRecursion P ys → AllByRecursion P (xs ++ ys)
+all_append P [] ys h k = k
+all_append P (x ∷ xs) ys h k = (h.0, all_append P xs ys h.1 k)
+
+all_drop : {X : Type 0} (P : X → Type 0) (n : ℕ) (xs : List X) → AllByRecursion P xs → AllByRecursion P (drop n xs)
+all_drop P zero xs h = h
+all_drop P (suc n) [] h = h
+all_drop P (suc n) (x ∷ xs) h = all_drop P n xs h.1
+
+all_get : {X : Type 0} (P : X → Type 0) (xs : List X) (n : ℕ) (x : X) → AllByRecursion P xs → slice_get xs n ≡ Some x → P x
+all_get P [] n x h e = let no : None ≡ Some x = e in cc
+all_get P (y ∷ xs) zero x h e = let same : y ≡ x = cc in subst P same h.0
+all_get P (y ∷ xs) (suc n) x h e = all_get P xs n x h.1 e
+
+bytes_below : (place at named end : ℕ) (bytes : List ℕ) → (0 < length bytes → place + at + length bytes ≤ end) → BytesBelow end (bytes_from place at named bytes)
+bytes_below place at named end [] h = tt
+bytes_below place at named end (b ∷ bytes) h =
+    let here : place + at + length {A = ℕ} (b ∷ bytes) ≤ end = h (omega arith) in
+    (omega (arith, here), bytes_below place (at + 1) named end bytes (λ some. omega (arith, here)))
+
+carrier_below : (pid place end : ℕ) (unit : List ℕ) (f : Option Fields) → length unit ≤ 188 → place + 188 ≤ end → CarriersBelow end (option_to_list (carrier_of pid place unit f))
+carrier_below pid place end unit None h k = tt
+carrier_below pid place end unit (Some f) h k = go (carries pid f)
+  where
+    go : (b : Bool) → CarriersBelow end (option_to_list (cond b (Some (record { counter = f.counter; bytes = carried place unit f })) None))
+    go true = (
+      bytes_below place (first_carried f) (named_place f) end (drop (first_carried f) unit) (λ some. omega (arith, some, length-drop (first_carried f) unit)),
+      tt,
+    )
+    go false = tt
+
+carriers_below : (pid end : ℕ) (bytes : List ℕ) (n : ℕ) → 188 * n ≤ end → CarriersBelow end (carriers pid bytes n)
+unfolding carriers
+carriers_below pid end bytes zero h = tt
+carriers_below pid end bytes (suc n) h =
+    all_append (λ c. BytesBelow end c.bytes) (carriers pid bytes n) (option_to_list (carrier_at pid bytes n)) (carriers_below pid end bytes n (omega arith))
+    (carrier_below pid (188 * n) end (unit_at bytes n) (fields_in (unit_at bytes n)) (omega (arith, length-take 188 (drop (188 * n) bytes))) (omega arith))
+
+record CutBelow (end : ℕ) (cut : Cut) : Type 0 where
+  ended : RunsBelow end cut.ended
+  run : BytesBelow end cut.run
+
+with_below : (end : ℕ) (cut : Cut) (c : Carrier) → CutBelow end cut → BytesBelow end c.bytes → CutBelow end (with_carrier cut c)
+with_below end cut c h k = go (goes_on cut.last c.counter)
+  where
+    go : (b : Bool) →
+        CutBelow end (cond b (record { ended = cut.ended; run = cut.run ++ c.bytes; last = Some c.counter }) (record { ended = cut.ended ++ cut.run ∷ []; run = c.bytes; last = Some c.counter }))
+    go true = record { ended = h.ended; run = all_append (λ x. x.place < end) cut.run c.bytes h.run k }
+    go false = record { ended = all_append (BytesBelow end) cut.ended (cut.run ∷ []) h.ended (h.run, tt); run = k }
+
+cut_below : (end : ℕ) (cut : Cut) (cs : List Carrier) → CutBelow end cut → CarriersBelow end cs → CutBelow end (cut_from cut cs)
+cut_below end cut [] h k = h
+cut_below end cut (c ∷ cs) h k = cut_below end (with_carrier cut c) cs (with_below end cut c h k.0) k.1
+
+taken_below : (end n : ℕ) (xs : List Byte) → 0 < n → 0 < length xs → BytesBelow end xs → (packet_of (take n xs)).place < end
+taken_below end zero xs some any h = absurd (omega arith)
+taken_below end (suc n) [] some any h = absurd (omega arith)
+taken_below end (suc n) (x ∷ xs) some any h = h.0
+
+option_below : (end : ℕ) (xs : List Byte) (o : Option ℕ) → ((n : ℕ) → o ≡ Some n → (0 < n) × (0 < length xs)) → BytesBelow end xs →
+    PacketsBelow end (option_to_list (option_map (λ n. packet_of (take n xs)) o))
+option_below end xs None h k = tt
+option_below end xs (Some n) h k = let some = h n refl in (taken_below end n xs some.0 some.1 k, tt)
+
+packets_below : SpellLaws → (end : ℕ) (run : List Byte) (qs : List ℕ) → BytesBelow end run → PacketsBelow end (packets_at run qs)
+packets_below g end run [] h = tt
+packets_below g end run (q ∷ qs) h =
+    all_append (λ p. p.place < end) (option_to_list (front_packet (drop q run))) (packets_at run qs)
+    (option_below end (drop q run) (accepted_len (drop q run)) (λ n e. some_len g (drop q run) n e) (all_drop (λ x. x.place < end) q run h))
+    (packets_below g end run qs h)
+
+accepted_below : SpellLaws → (end : ℕ) (run : List Byte) → BytesBelow end run → PacketsBelow end (accepted run)
+unfolding accepted
+accepted_below g end run h = packets_below g end run (starts run (length run)) h
+
+ended_below : SpellLaws → (end : ℕ) (ended : List (List Byte)) → RunsBelow end ended → PacketsBelow end (flat_map accepted ended)
+ended_below g end [] h = tt
+ended_below g end (run ∷ ended) h = all_append (λ p. p.place < end) (accepted run) (flat_map accepted ended) (accepted_below g end run h.0) (ended_below g end ended h.1)
+
+below : SpellLaws → (pid : ℕ) (bytes : List ℕ) → PacketsBelow (length bytes) (accepted_of pid bytes)
+unfolding runs
+below g pid bytes =
+    let cut = cut_below (length bytes) no_cut (carriers pid bytes (length bytes / 188)) (record { ended = tt; run = tt }) (carriers_below pid (length bytes) bytes (length bytes / 188) (omega arith)) in
+    all_append (λ p. p.place < length bytes) (flat_map accepted (runs pid bytes).ended) (accepted (runs pid bytes).run)
+    (ended_below g (length bytes) (runs pid bytes).ended cut.ended) (accepted_below g (length bytes) (runs pid bytes).run cut.run)
+
+-- An accepted packet begins among the bytes.
+pub places : SpellLaws → (pid : ℕ) (bytes : List ℕ) (number : ℕ) (packet : AcceptedPacket) → slice_get (accepted_of pid bytes) number ≡ Some packet → packet.place < length bytes
+places g pid bytes number packet e = all_get (λ p. p.place < length bytes) (accepted_of pid bytes) number packet (below g pid bytes) e

@@ -15,7 +15,7 @@ pub use laws::{
     tally_push, unit_reads, whole_packets,
 };
 pub use piper::Piper;
-pub use skipping::{few_packets, skip_law};
+pub use skipping::{few_packets, packet_places, skip_law};
 pub use unpiper::Unpiper;
 
 #[cfg(test)]
