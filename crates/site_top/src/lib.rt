@@ -4,6 +4,7 @@
 mod config_commands;
 mod config_file;
 mod ending;
+mod filling;
 mod input;
 mod laws;
 mod line;

@@ -4,6 +4,7 @@ ghost use Rattle.ports.specs.Desk.{Rose, Keeps, Says};
 ghost use Rattle.site_top.specs.Reading.{ReadsOn, IsAtEnd};
 ghost use Rattle.site_top.specs.Progress.{StopsReading, Takes, TakesNone, GivesWay, Stops, Finishes};
 
+use crate::filling::read_until;
 use crate::input::Input;
 use crate::line::ROOM;
 use crate::outcome::Outcome;
@@ -11,36 +12,6 @@ use crate::packet_line::packet_line;
 use crate::page::{PAGE, Page};
 use ports::Desk;
 use t2mi_packet::{LARGEST, front_refusal, view};
-
-// A file that gives as many bytes is too long.
-const LIMIT: u64 = 1 << 40;
-
-// Reads the file on: how many bytes, and 0 only at its end.
-fn read_more<D: Desk>(
-    desk: &mut D,
-    handle: u32,
-    input: &mut Input,
-    at: u64,
-) -> Result<usize, Outcome>
-    requires opened { handle < length (D.state desk.old).opened }
-    requires few { length input.old < LARGEST }
-    requires within { at + length input.old < 2 ^ 40 }
-    ensures reads { ReadsOn (D.state desk.old) (D.state desk.new) handle input.old input.new }
-    ensures count { IfOk result (λ n. length input.new ≡ length input.old + n) }
-    ensures within { OnOk result (at + length input.new < 2 ^ 40) }
-    ensures end { IfOk result (λ n. n ≡ 0 → IsAtEnd (D.state desk.new) handle) }
-    ensures calm { OnOk result ((D.state desk.new).read_faults ≡ (D.state desk.old).read_faults) }
-    ensures err { IfErr result (StopsReading (D.state desk.old) (D.state desk.new) (at + length input.new)) }
-{
-    let given = at + input.len() as u64;
-    let Ok(count) = input.read(desk, handle, LIMIT - given) else {
-        return Err(Outcome::ReadFault);
-    };
-    if given + count as u64 == LIMIT {
-        return Err(Outcome::TooLong { count: LIMIT });
-    }
-    Ok(count)
-}
 
 // Reads the file on until a whole packet waits or the file ends: whether it has ended.
 fn fill<D: Desk>(
@@ -62,12 +33,7 @@ fn fill<D: Desk>(
     if ended {
         return Ok(true);
     }
-    while input.len() < LARGEST {
-        if read_more(desk, handle, input, at)? == 0 {
-            return Ok(true);
-        }
-    }
-    Ok(false)
+    read_until(desk, handle, input, at, LARGEST)
 }
 
 /// Says the lines on the page, and clears it.

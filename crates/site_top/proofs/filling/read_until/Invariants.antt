@@ -1,6 +1,6 @@
 use Rattle.std.proofs.Common.{◌≡◌, ◌<◌, ◌+◌, ◌-◌, ◌^◌, length}
 use Rattle.site_top.specs.Reading.{ReadsOn}
-use Rattle.site_top.proofs.packets.fill.Given as goal
+use Rattle.site_top.proofs.filling.read_until.Given as goal
 
 -- the file was read on so far
 abbrev pub invariant-loop-desk : goal.invariant-loop-desk
@@ -12,4 +12,4 @@ invariant-loop-desk g l = record {
 }
 
 abbrev pub decreases-loop-desk : goal.decreases-loop-desk
-decreases-loop-desk g l = 8202 - length l.input
+decreases-loop-desk g l = l.enough - length l.input

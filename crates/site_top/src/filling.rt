@@ -1,0 +1,65 @@
+// Reading a file on, up to the number of bytes with which it is too long.
+ghost use Rattle.std.specs.Prelude.{◌≡◌, ◌⊎◌, ◌<◌, ◌≤◌, ◌+◌, ◌^◌, length, IfOk, IfErr, IsTrue, OnOk};
+ghost use Rattle.site_top.specs.Reading.{ReadsOn, IsAtEnd};
+ghost use Rattle.site_top.specs.Progress.{StopsReading};
+
+use crate::input::Input;
+use crate::outcome::Outcome;
+use ports::Desk;
+use t2mi_packet::LARGEST;
+
+// A file that gives as many bytes is too long.
+const LIMIT: u64 = 1 << 40;
+
+// Reads the file on: how many bytes, and 0 only at its end.
+fn read_more<D: Desk>(
+    desk: &mut D,
+    handle: u32,
+    input: &mut Input,
+    at: u64,
+) -> Result<usize, Outcome>
+    requires opened { handle < length (D.state desk.old).opened }
+    requires few { length input.old < LARGEST }
+    requires within { at + length input.old < 2 ^ 40 }
+    ensures reads { ReadsOn (D.state desk.old) (D.state desk.new) handle input.old input.new }
+    ensures count { IfOk result (λ n. length input.new ≡ length input.old + n) }
+    ensures within { OnOk result (at + length input.new < 2 ^ 40) }
+    ensures end { IfOk result (λ n. n ≡ 0 → IsAtEnd (D.state desk.new) handle) }
+    ensures calm { OnOk result ((D.state desk.new).read_faults ≡ (D.state desk.old).read_faults) }
+    ensures err { IfErr result (StopsReading (D.state desk.old) (D.state desk.new) (at + length input.new)) }
+{
+    let given = at + input.len() as u64;
+    let Ok(count) = input.read(desk, handle, LIMIT - given) else {
+        return Err(Outcome::ReadFault);
+    };
+    if given + count as u64 == LIMIT {
+        return Err(Outcome::TooLong { count: LIMIT });
+    }
+    Ok(count)
+}
+
+/// Reads the file on until so many bytes wait, at most [`LARGEST`], or the file ends: whether it has ended.
+pub fn read_until<D: Desk>(
+    desk: &mut D,
+    handle: u32,
+    input: &mut Input,
+    at: u64,
+    enough: usize,
+) -> Result<bool, Outcome>
+    requires opened { handle < length (D.state desk.old).opened }
+    requires few { enough ≤ LARGEST }
+    requires within { at + length input.old < 2 ^ 40 }
+    ensures reads { ReadsOn (D.state desk.old) (D.state desk.new) handle input.old input.new }
+    ensures full { IfOk result (λ end. (enough ≤ length input.new) ⊎ IsTrue end) }
+    ensures within { OnOk result (at + length input.new < 2 ^ 40) }
+    ensures end { IfOk result (λ end. IsTrue end → IsAtEnd (D.state desk.new) handle) }
+    ensures calm { OnOk result ((D.state desk.new).read_faults ≡ (D.state desk.old).read_faults) }
+    ensures err { IfErr result (StopsReading (D.state desk.old) (D.state desk.new) (at + length input.new)) }
+{
+    while input.len() < enough {
+        if read_more(desk, handle, input, at)? == 0 {
+            return Ok(true);
+        }
+    }
+    Ok(false)
+}
