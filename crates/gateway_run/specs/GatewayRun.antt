@@ -6,7 +6,7 @@ use Rattle.plp_config.specs.RunLength.{frame_count}
 use Rattle.plp_config.specs.SlotTime.{slots_by}
 use Rattle.plp_config.specs.declared.config.Config.{Config}
 use Rattle.t2mi_stream.specs.Pipe.{pipe}
-use Rattle.gateway_run.specs.Complete.{complete_units}
+use Rattle.t2mi_stream.specs.Complete.{complete_units}
 use Rattle.gateway_core.specs.Packets.{front_packets, packets_of}
 use Rattle.ts_file.specs.TsFile.{packets_in, HasBad, joined}
 use Rattle.gateway_run.specs.declared.stop.RunStop.{RunStop}
