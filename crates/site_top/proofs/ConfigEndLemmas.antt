@@ -12,7 +12,7 @@ use Rattle.config_text.specs.declared.fault.TextWhy.{TextWhy}
 use Rattle.site_top.specs.declared.outcome.ConfigCause.{ConfigCause}
 use Rattle.site_top.specs.declared.outcome.ConfigCause.TheVariants.{Text, Rule}
 use Rattle.site_top.specs.declared.outcome.Outcome.{Outcome}
-use Rattle.site_top.specs.declared.outcome.Outcome.TheVariants.{Done, Usage, ConfigRefused, CapacityRefused, TooLong, PacketRefused, ReadFault, WriteFault, OutOfMemory}
+use Rattle.site_top.specs.declared.outcome.Outcome.TheVariants.{Done, Usage, ConfigRefused, CapacityRefused, InputRefused, TooLong, PacketRefused, ReadFault, WriteFault, OutOfMemory}
 use Rattle.site_top.specs.ConfigCommands.{ConfigEnds, PlanEnds}
 use Rattle.site_top.specs.ConfigFile.{IsCause}
 
@@ -26,7 +26,7 @@ pub record ConfigLaws : Type 0 where
   pub one_test : OneTestFails
   pub tests_fail : LackFails
 
-cause_once : ConfigLaws → (text : List ℕ) (cause other : ConfigCause) → IsCause text cause → IsCause text other → cause ≡ other
+pub cause_once : ConfigLaws → (text : List ℕ) (cause other : ConfigCause) → IsCause text cause → IsCause text other → cause ≡ other
 cause_once l text (Text line why) (Text place reason) a b = let same = l.refused text line place why reason a b in λ i. Text (same.0 i) (same.1 i)
 cause_once l text (Text line why) (Rule rule plp) a b = absurd (l.accepted text b.0 line why b.1 a)
 cause_once l text (Rule rule plp) (Text line why) a b = absurd (l.accepted text a.0 line why a.1 b)
@@ -37,7 +37,7 @@ cause_once l text (Rule rule plp) (Rule number place) a b =
     ap (λ (f : ConfigFault). Rule f.rule f.plp) same
 
 -- a text whose configuration satisfies the rules is not refused
-no_cause : ConfigLaws → (text : List ℕ) (c : Config) (cause : ConfigCause) → Spells text c → AllRules c → IsCause text cause → ⊥
+pub no_cause : ConfigLaws → (text : List ℕ) (c : Config) (cause : ConfigCause) → Spells text c → AllRules c → IsCause text cause → ⊥
 no_cause l text c (Text line why) s all b = l.accepted text c line why s b
 no_cause l text c (Rule rule plp) s all b = l.rules_fail b.0 (record { rule = rule; plp = plp }) b.2 (subst AllRules (l.spelled text c b.0 s b.1) all)
 
@@ -47,6 +47,7 @@ config_ends_once l text Done Usage a b = absurd b
 config_ends_once l text Done (ConfigRefused cause) a b = absurd (no_cause l text a.0 cause a.1 a.2 b)
 config_ends_once l text Done (CapacityRefused _ _ _ _) a b = absurd b
 config_ends_once l text Done (TooLong _) a b = absurd b
+config_ends_once l text Done (InputRefused _ _) a b = absurd b
 config_ends_once l text Done (PacketRefused _ _) a b = absurd b
 config_ends_once l text Done ReadFault a b = absurd b
 config_ends_once l text Done WriteFault a b = absurd b
@@ -57,12 +58,14 @@ config_ends_once l text (ConfigRefused _) Usage a b = absurd b
 config_ends_once l text (ConfigRefused cause) (ConfigRefused reason) a b = ap ConfigRefused (cause_once l text cause reason a b)
 config_ends_once l text (ConfigRefused _) (CapacityRefused _ _ _ _) a b = absurd b
 config_ends_once l text (ConfigRefused _) (TooLong _) a b = absurd b
+config_ends_once l text (ConfigRefused _) (InputRefused _ _) a b = absurd b
 config_ends_once l text (ConfigRefused _) (PacketRefused _ _) a b = absurd b
 config_ends_once l text (ConfigRefused _) ReadFault a b = absurd b
 config_ends_once l text (ConfigRefused _) WriteFault a b = absurd b
 config_ends_once l text (ConfigRefused _) OutOfMemory a b = absurd b
 config_ends_once l text (CapacityRefused _ _ _ _) other a b = absurd a
 config_ends_once l text (TooLong _) other a b = absurd a
+config_ends_once l text (InputRefused _ _) other a b = absurd a
 config_ends_once l text (PacketRefused _ _) other a b = absurd a
 config_ends_once l text ReadFault other a b = absurd a
 config_ends_once l text WriteFault other a b = absurd a
@@ -75,6 +78,7 @@ plan_ends_once l text Done (ConfigRefused cause) a b = absurd (no_cause l text a
 plan_ends_once l text Done (CapacityRefused test plp need have) a b =
     absurd (l.tests_fail b.0 (record { test = test; plp = plp; need = need; have = have }) b.3 (subst AllTests (l.spelled text a.0 b.0 a.1 b.1) a.2.tests))
 plan_ends_once l text Done (TooLong _) a b = absurd b
+plan_ends_once l text Done (InputRefused _ _) a b = absurd b
 plan_ends_once l text Done (PacketRefused _ _) a b = absurd b
 plan_ends_once l text Done ReadFault a b = absurd b
 plan_ends_once l text Done WriteFault a b = absurd b
@@ -85,6 +89,7 @@ plan_ends_once l text (ConfigRefused _) Usage a b = absurd b
 plan_ends_once l text (ConfigRefused cause) (ConfigRefused reason) a b = ap ConfigRefused (cause_once l text cause reason a b)
 plan_ends_once l text (ConfigRefused cause) (CapacityRefused _ _ _ _) a b = absurd (no_cause l text b.0 cause b.1 b.2 a)
 plan_ends_once l text (ConfigRefused _) (TooLong _) a b = absurd b
+plan_ends_once l text (ConfigRefused _) (InputRefused _ _) a b = absurd b
 plan_ends_once l text (ConfigRefused _) (PacketRefused _ _) a b = absurd b
 plan_ends_once l text (ConfigRefused _) ReadFault a b = absurd b
 plan_ends_once l text (ConfigRefused _) WriteFault a b = absurd b
@@ -99,11 +104,13 @@ plan_ends_once l text (CapacityRefused test plp need have) (CapacityRefused numb
     let same : fault ≡ other = l.one_test b.0 fault other (subst (λ (c : Config). Lacks c fault) (l.spelled text a.0 b.0 a.1 b.1) a.3) b.3 in
     ap (λ (f : CapacityFault). CapacityRefused f.test f.plp f.need f.have) same
 plan_ends_once l text (CapacityRefused _ _ _ _) (TooLong _) a b = absurd b
+plan_ends_once l text (CapacityRefused _ _ _ _) (InputRefused _ _) a b = absurd b
 plan_ends_once l text (CapacityRefused _ _ _ _) (PacketRefused _ _) a b = absurd b
 plan_ends_once l text (CapacityRefused _ _ _ _) ReadFault a b = absurd b
 plan_ends_once l text (CapacityRefused _ _ _ _) WriteFault a b = absurd b
 plan_ends_once l text (CapacityRefused _ _ _ _) OutOfMemory a b = absurd b
 plan_ends_once l text (TooLong _) other a b = absurd a
+plan_ends_once l text (InputRefused _ _) other a b = absurd a
 plan_ends_once l text (PacketRefused _ _) other a b = absurd a
 plan_ends_once l text ReadFault other a b = absurd a
 plan_ends_once l text WriteFault other a b = absurd a

@@ -11,7 +11,7 @@ use Rattle.config_text.specs.declared.fault.TextWhy.{TextWhy}
 use Rattle.site_top.specs.declared.outcome.ConfigCause.{ConfigCause}
 use Rattle.site_top.specs.declared.outcome.ConfigCause.TheVariants.{Text, Rule}
 use Rattle.site_top.specs.declared.outcome.Outcome.{Outcome}
-use Rattle.site_top.specs.declared.outcome.Outcome.TheVariants.{Done, Usage, ConfigRefused, CapacityRefused, TooLong, PacketRefused, ReadFault, WriteFault, OutOfMemory}
+use Rattle.site_top.specs.declared.outcome.Outcome.TheVariants.{Done, Usage, ConfigRefused, CapacityRefused, InputRefused, TooLong, PacketRefused, ReadFault, WriteFault, OutOfMemory}
 use Rattle.site_top.specs.ConfigFile.{ReadsText, FailsToRead, IsCause, Gives, GivesNone}
 use Rattle.site_top.specs.Files.{Opened}
 use Rattle.site_top.specs.Progress.{Only}
@@ -110,6 +110,7 @@ gives_none old new name text Done r f s = absurd s
 gives_none old new name text Usage r f s = absurd s
 gives_none old new name text (ConfigRefused cause) r f s = (r, if_some old.held _ _ (λ held x. cause_file (bytes_of held.files name) text cause x s) f)
 gives_none old new name text (CapacityRefused _ _ _ _) r f s = absurd s
+gives_none old new name text (InputRefused _ _) r f s = absurd s
 gives_none old new name text (TooLong _) r f s = absurd s
 gives_none old new name text (PacketRefused _ _) r f s = absurd s
 gives_none old new name text ReadFault r f s = absurd s

@@ -6,7 +6,7 @@ use Rattle.std.specs.FinMap.{get}
 use Rattle.std.proofs.lemmas.Bool.{cases_lt}
 use Rattle.ports.specs.Desk.{State, Held, SameCounts, Keeps, Says, Rose, Opens, left_of, bytes_of}
 use Rattle.site_top.specs.declared.outcome.Outcome.{Outcome}
-use Rattle.site_top.specs.declared.outcome.Outcome.TheVariants.{Done, Usage, ConfigRefused, CapacityRefused, TooLong, PacketRefused, ReadFault, WriteFault, OutOfMemory}
+use Rattle.site_top.specs.declared.outcome.Outcome.TheVariants.{Done, Usage, ConfigRefused, CapacityRefused, InputRefused, TooLong, PacketRefused, ReadFault, WriteFault, OutOfMemory}
 use Rattle.site_top.specs.PacketFile.{Packs, bytes_in}
 use Rattle.site_top.specs.SaidLines.{lines_of, count_line}
 use Rattle.site_top.specs.ShowPackets.{Said, SaidFirst, ReadsFile, Counts, Shows}
@@ -52,6 +52,7 @@ said_by file start now new page given Done cause x says = absurd cause
 said_by file start now new page given Usage cause x says = absurd cause
 said_by file start now new page given (ConfigRefused _) cause x says = absurd cause
 said_by file start now new page given (CapacityRefused _ _ _ _) cause x says = absurd cause
+said_by file start now new page given (InputRefused _ _) cause x says = absurd cause
 said_by file start now new page given OutOfMemory cause x says = absurd cause
 
 -- what a run that stopped has said where its page was lost
@@ -64,6 +65,7 @@ said_though file start now new page given Done cause x k = absurd cause
 said_though file start now new page given Usage cause x k = absurd cause
 said_though file start now new page given (ConfigRefused _) cause x k = absurd cause
 said_though file start now new page given (CapacityRefused _ _ _ _) cause x k = absurd cause
+said_though file start now new page given (InputRefused _ _) cause x k = absurd cause
 said_though file start now new page given OutOfMemory cause x k = absurd cause
 
 -- a count that rose stays so
@@ -85,6 +87,7 @@ cause_on start now new given Done r w rf wf c = absurd c
 cause_on start now new given Usage r w rf wf c = absurd c
 cause_on start now new given (ConfigRefused _) r w rf wf c = absurd c
 cause_on start now new given (CapacityRefused _ _ _ _) r w rf wf c = absurd c
+cause_on start now new given (InputRefused _ _) r w rf wf c = absurd c
 cause_on start now new given OutOfMemory r w rf wf c = absurd c
 
 given_most : (start now : State) (given : ℕ) (outcome : Outcome) → StopsAt start now given outcome → given ≤ 2 ^ 40
@@ -96,6 +99,7 @@ given_most start now given Done c = absurd c
 given_most start now given Usage c = absurd c
 given_most start now given (ConfigRefused _) c = absurd c
 given_most start now given (CapacityRefused _ _ _ _) c = absurd c
+given_most start now given (InputRefused _ _) c = absurd c
 given_most start now given OutOfMemory c = absurd c
 
 -- a run that stopped ends
@@ -181,6 +185,7 @@ reads_by old mid new name handle given OutOfMemory o m c all = absurd c
 reads_by old mid new name handle given Usage o m c all = absurd c
 reads_by old mid new name handle given (ConfigRefused _) o m c all = absurd c
 reads_by old mid new name handle given (CapacityRefused _ _ _ _) o m c all = absurd c
+reads_by old mid new name handle given (InputRefused _ _) o m c all = absurd c
 
 -- the lines that were said since the file was opened were said since before
 said_since : (file : List ℕ) (old mid new : State) (outcome : Outcome) → mid.said ≡ old.said → Said file mid new outcome → Said file old new outcome
@@ -192,6 +197,7 @@ said_since file old mid new WriteFault e x = (x.0, x.1, x.2, x.3 ∙ ap (option_
 said_since file old mid new Usage e x = (x.0, x.1, x.2, x.3 ∙ ap (option_map (λ t. t ++ lines_of 0 x.0)) e)
 said_since file old mid new (ConfigRefused _) e x = (x.0, x.1, x.2, x.3 ∙ ap (option_map (λ t. t ++ lines_of 0 x.0)) e)
 said_since file old mid new (CapacityRefused _ _ _ _) e x = (x.0, x.1, x.2, x.3 ∙ ap (option_map (λ t. t ++ lines_of 0 x.0)) e)
+said_since file old mid new (InputRefused _ _) e x = (x.0, x.1, x.2, x.3 ∙ ap (option_map (λ t. t ++ lines_of 0 x.0)) e)
 said_since file old mid new OutOfMemory e x = (x.0, x.1, x.2, x.3 ∙ ap (option_map (λ t. t ++ lines_of 0 x.0)) e)
 
 counts_by : (old mid new : State) (handle : ℕ) (outcome : Outcome) → SameCounts old mid → ShowsOpened mid new handle outcome → Counts old new outcome

@@ -2,9 +2,13 @@ pub mod ConfigEndLemmas
 pub mod ConfigLemmas
 pub mod EndLemmas
 pub mod EndingLemmas
+pub mod GatewayCompleteLemmas
+pub mod GatewayEndLemmas
+pub mod GatewayLemmas
 pub mod InputLemmas
 pub mod LineLemmas
 pub mod PacketFileLemmas
 pub mod ProgressLemmas
+pub mod RequestLemmas
 pub mod RunLemmas
 pub mod StopLemmas

@@ -6,7 +6,7 @@ use Rattle.t2mi_packet.specs.declared.fault.PacketWhy.{PacketWhy}
 use Rattle.t2mi_packet.specs.Laws.{FrontRefusal}
 use Rattle.t2mi_packet.specs.T2miPacket.{Refuses}
 use Rattle.site_top.specs.declared.outcome.Outcome.{Outcome}
-use Rattle.site_top.specs.declared.outcome.Outcome.TheVariants.{Done, Usage, ConfigRefused, CapacityRefused, TooLong, PacketRefused, ReadFault, WriteFault, OutOfMemory}
+use Rattle.site_top.specs.declared.outcome.Outcome.TheVariants.{Done, Usage, ConfigRefused, CapacityRefused, InputRefused, TooLong, PacketRefused, ReadFault, WriteFault, OutOfMemory}
 use Rattle.site_top.specs.PacketFile.{IsRefused}
 use Rattle.site_top.specs.Reading.{ReadsOn, IsAtEnd}
 use Rattle.site_top.specs.Progress.{Shown, Comes, StopsReading, Takes, TakesNone, Stops}
@@ -45,6 +45,7 @@ stopped_reading start old new handle at count waiting more page was Done came c 
 stopped_reading start old new handle at count waiting more page was Usage came c r s = absurd s
 stopped_reading start old new handle at count waiting more page was (ConfigRefused _) came c r s = absurd s
 stopped_reading start old new handle at count waiting more page was (CapacityRefused _ _ _ _) came c r s = absurd s
+stopped_reading start old new handle at count waiting more page was (InputRefused _ _) came c r s = absurd s
 stopped_reading start old new handle at count waiting more page was (PacketRefused place why) came c r s = absurd s
 stopped_reading start old new handle at count waiting more page was WriteFault came c r s = absurd s
 stopped_reading start old new handle at count waiting more page was OutOfMemory came c r s = absurd s
@@ -87,6 +88,7 @@ stopped_refused law start now handle at count waiting page ended Done c t few fu
 stopped_refused law start now handle at count waiting page ended Usage c t few full = absurd t
 stopped_refused law start now handle at count waiting page ended (ConfigRefused _) c t few full = absurd t
 stopped_refused law start now handle at count waiting page ended (CapacityRefused _ _ _ _) c t few full = absurd t
+stopped_refused law start now handle at count waiting page ended (InputRefused _ _) c t few full = absurd t
 stopped_refused law start now handle at count waiting page ended (TooLong n) c t few full = absurd t
 stopped_refused law start now handle at count waiting page ended ReadFault c t few full = absurd t
 stopped_refused law start now handle at count waiting page ended WriteFault c t few full = absurd t

@@ -5,17 +5,12 @@ use Rattle.std.specs.Str.{bytes_eq}
 use Rattle.site_top.specs.declared.request.Request.{Request}
 use Rattle.site_top.specs.declared.request.Request.TheVariants as asked
 
--- a command, with the name of the file that it reads
+-- a command, with the names of its files
 pub data Command : Type 0 where
   ShowPackets : List ℕ → Command
   ShowConfig : List ℕ → Command
   Plan : List ℕ → Command
-
--- the name of the file that a command reads
-abbrev pub file_of : Command → List ℕ
-file_of (ShowPackets file) = file
-file_of (ShowConfig file) = file
-file_of (Plan file) = file
+  Gateway : List ℕ → List ℕ → List (List ℕ) → Command
 
 abbrev pub is_empty : List ℕ → Bool
 is_empty [] = true
@@ -25,10 +20,31 @@ is_empty (c ∷ cs) = false
 abbrev pub shown : List ℕ → List ℕ → Option Command
 shown what file = if bytes_eq what (codes "packets") then Some (ShowPackets file) else (if bytes_eq what (codes "config") then Some (ShowConfig file) else None)
 
+-- The name of an input: not empty, and not that of the output.
+abbrev pub is_input : List ℕ → List ℕ → Bool
+is_input out file = not (is_empty file) && not (bytes_eq file out)
+
+abbrev pub are_inputs : List ℕ → List (List ℕ) → Bool
+are_inputs out [] = true
+are_inputs out (file ∷ files) = is_input out file && are_inputs out files
+
+-- the command of the words `gateway CONFIG OUT IN..`: the output is none of the files that are read
+abbrev pub gateway_of : List ℕ → List ℕ → List (List ℕ) → Option Command
+gateway_of config out ins = if not (is_empty out) && are_inputs out (config ∷ ins) then Some (Gateway config out ins) else None
+
+-- the command of three words
+abbrev pub show_of : List ℕ → List ℕ → List ℕ → Option Command
+show_of show what file = if bytes_eq show (codes "show") && not (is_empty file) then shown what file else None
+
+-- the command of three words or more
+abbrev pub longer : List ℕ → List ℕ → List ℕ → List (List ℕ) → Option Command
+longer first second third [] = if bytes_eq first (codes "gateway") then gateway_of second third [] else show_of first second third
+longer first second third (fourth ∷ more) = if bytes_eq first (codes "gateway") then gateway_of second third (fourth ∷ more) else None
+
 -- the command that words name; no word of a command is empty
 abbrev pub command_of : List (List ℕ) → Option Command
 command_of (plan ∷ config ∷ []) = if bytes_eq plan (codes "plan") && not (is_empty config) then Some (Plan config) else None
-command_of (show ∷ what ∷ file ∷ []) = if bytes_eq show (codes "show") && not (is_empty file) then shown what file else None
+command_of (first ∷ second ∷ third ∷ more) = longer first second third more
 command_of words = None
 
 -- the command that a request means
@@ -36,3 +52,4 @@ abbrev pub meant : Request → Command
 meant (asked.ShowPackets file) = ShowPackets file.now
 meant (asked.ShowConfig file) = ShowConfig file.now
 meant (asked.Plan config) = Plan config.now
+meant (asked.Gateway config out ins) = Gateway config.now out.now ins.now

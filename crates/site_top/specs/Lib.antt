@@ -3,6 +3,8 @@ pub mod ConfigCommands
 pub mod ConfigFile
 pub mod Endings
 pub mod Files
+pub mod GatewayCommand
+pub mod GatewaySteps
 pub mod Laws
 pub mod Outcomes
 pub mod PacketFile

@@ -8,7 +8,7 @@ use Rattle.config_text.specs.declared.fault.TextWhy.{TextWhy}
 use Rattle.config_text.specs.declared.fault.TextWhy.TheVariants.{NotAscii, WrongKey, WrongCount, BadWord, BadNumber, EndsEarly, TooLong as TextTooLong}
 use Rattle.site_top.specs.declared.outcome.ConfigCause.TheVariants.{Text, Rule}
 use Rattle.site_top.specs.declared.outcome.Outcome.{Outcome}
-use Rattle.site_top.specs.declared.outcome.Outcome.TheVariants.{Done, Usage, ConfigRefused, CapacityRefused, TooLong, PacketRefused, ReadFault, WriteFault, OutOfMemory}
+use Rattle.site_top.specs.declared.outcome.Outcome.TheVariants.{Done, Usage, ConfigRefused, CapacityRefused, InputRefused, TooLong, PacketRefused, ReadFault, WriteFault, OutOfMemory}
 
 -- the status that the program ends with
 abbrev pub status_of : Outcome → ℕ
@@ -16,6 +16,7 @@ status_of Done = 0
 status_of Usage = 2
 status_of (ConfigRefused cause) = 3
 status_of (CapacityRefused test plp need have) = 4
+status_of (InputRefused input packet) = 5
 status_of (TooLong count) = 9
 status_of (PacketRefused at why) = 10
 status_of ReadFault = 70
@@ -52,6 +53,7 @@ last_line (ConfigRefused (Text line why)) = codes "refused: config line " ++ dec
 last_line (ConfigRefused (Rule rule plp)) = codes "refused: config rule " ++ decimal rule ++ codes " plp " ++ place_word plp ++ codes "\n"
 last_line (CapacityRefused test plp need have) =
     codes "refused: capacity test " ++ decimal test ++ codes " plp " ++ place_word plp ++ codes " need " ++ decimal need ++ codes " have " ++ decimal have ++ codes "\n"
+last_line (InputRefused input packet) = codes "refused: input " ++ decimal input ++ codes " packet " ++ decimal packet ++ codes "\n"
 last_line (TooLong count) = codes "refused: too long " ++ decimal count ++ codes "\n"
 last_line (PacketRefused at why) = codes "refused: packet at " ++ decimal at ++ codes " why " ++ decimal (why_number why) ++ codes "\n"
 last_line ReadFault = codes "fault: read\n"

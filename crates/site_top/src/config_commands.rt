@@ -13,8 +13,8 @@ use plp_config::{Plan, Valid, fits};
 use ports::Desk;
 use std::alloc::Global;
 
-// Says a text, which is all that a command says.
-fn tell<D: Desk>(desk: &mut D, text: &[u8]) -> Outcome
+/// Says a text, which is all that a command says.
+pub fn tell<D: Desk>(desk: &mut D, text: &[u8]) -> Outcome
     ensures { Tells (D.state desk.old) (D.state desk.new) text.now result }
 {
     match desk.say(text) {
@@ -37,8 +37,8 @@ pub fn show_config<D: Desk>(alloc: Global, name: &str, desk: &mut D) -> Outcome
     }
 }
 
-// Tries the capacity tests.
-fn plan_of(valid: Valid) -> Result<Plan, Outcome>
+/// Tries the capacity tests.
+pub fn plan_of(valid: Valid) -> Result<Plan, Outcome>
     ensures ok { IfOk result (λ plan. (plan ≡ valid) × IsPlan plan) }
     ensures err { IfErr result (LacksCapacity valid) }
 {

@@ -26,6 +26,17 @@ fn too_long_line(count: u64) -> Line
 }
 
 #[tactic(auto, unfolding(crate::specs::Outcomes::last_line))]
+fn input_refused_line(input: u8, packet: u64) -> Line
+    ensures { result ≡ line_of_outcome (Outcome.InputRefused input packet) }
+{
+    let mut line = Line::new();
+    line.push_field(b"refused: input ", u64::from(input));
+    line.push_field(b" packet ", packet);
+    line.push(b"\n");
+    line
+}
+
+#[tactic(auto, unfolding(crate::specs::Outcomes::last_line))]
 fn packet_refused_line(at: u64, why: PacketWhy) -> Line
     ensures { result ≡ line_of_outcome (Outcome.PacketRefused at why) }
 {
@@ -122,6 +133,7 @@ pub fn last_line(outcome: Outcome) -> Line
             need,
             have,
         } => capacity_refused_line(test, plp, need, have),
+        Outcome::InputRefused { input, packet } => input_refused_line(input, packet),
         Outcome::TooLong { count } => too_long_line(count),
         Outcome::PacketRefused { at, why } => packet_refused_line(at, why),
         Outcome::ReadFault => line_with(b"fault: read\n"),

@@ -2,10 +2,11 @@
 ghost use Rattle.site_top.specs.Laws.{OneEnding};
 
 use config_text::{not_refused, refused_once, spelled_once};
+use gateway_run::one_run;
 use plp_config::refusal_law;
 use t2mi_packet::{no_refusal, one_packet, one_refusal, packet_length};
 
-/// The bytes of a file decide how a run over it must end.
+/// The files that a desk holds decide how a run over them must end.
 pub fn one_ending()
     ensures { OneEnding }
 {
@@ -17,4 +18,5 @@ pub fn one_ending()
     not_refused();
     refused_once();
     refusal_law();
+    one_run();
 }

@@ -5,6 +5,7 @@ mod config_commands;
 mod config_file;
 mod ending;
 mod filling;
+mod gateway;
 mod input;
 mod laws;
 mod line;

@@ -19,7 +19,7 @@ pub enum ConfigCause {
 pub enum Outcome {
     /// All input was read to its end, and all output was written.
     Done,
-    /// The words are no command.
+    /// The words are no command, or there is not one input for each PLP.
     Usage,
     /// A file gives no configuration that satisfies the rules.
     ConfigRefused {
@@ -33,7 +33,13 @@ pub enum Outcome {
         need: u64,
         have: u64,
     },
-    /// A file gave as many bytes as no file may have; `count` is their number.
+    /// This packet of this input, both counted from 0, does not begin with the sync byte, or the input ends inside it. No bad packet
+    /// is met in an earlier frame, or in the same frame in an earlier input.
+    InputRefused {
+        input: u8,
+        packet: u64,
+    },
+    /// A file gave as many bytes as no file may have, or a frame would begin of which none may have the number; `count` is that number.
     TooLong {
         count: u64,
     },
@@ -44,7 +50,7 @@ pub enum Outcome {
     },
     /// A file could not be opened or read.
     ReadFault,
-    /// Standard output did not take a text.
+    /// A file could not be created or written, or standard output did not take a text.
     WriteFault,
     /// No memory was found.
     OutOfMemory,
@@ -60,6 +66,7 @@ impl Outcome {
             Outcome::Usage => 2,
             Outcome::ConfigRefused { .. } => 3,
             Outcome::CapacityRefused { .. } => 4,
+            Outcome::InputRefused { .. } => 5,
             Outcome::TooLong { .. } => 9,
             Outcome::PacketRefused { .. } => 10,
             Outcome::ReadFault => 70,

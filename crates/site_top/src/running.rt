@@ -7,6 +7,7 @@ ghost use Rattle.site_top.specs.Runs.{Does, IsComplete};
 
 use crate::config_commands::{plan, show_config};
 use crate::ending::last_line;
+use crate::gateway::gateway;
 use crate::laws::one_ending;
 use crate::outcome::Outcome;
 use crate::request::{Request, request_of};
@@ -23,6 +24,7 @@ fn command<D: Desk>(alloc: Global, words: &[Word], desk: &mut D) -> Outcome
         Some(Request::ShowPackets { file }) => show_packets(alloc, file, desk),
         Some(Request::ShowConfig { file }) => show_config(alloc, file, desk),
         Some(Request::Plan { config }) => plan(alloc, config, desk),
+        Some(Request::Gateway { config, out, ins }) => gateway(alloc, config, out, ins, desk),
         None => Outcome::Usage,
     }
 }
@@ -40,11 +42,11 @@ fn finish<D: Desk>(desk: &mut D, outcome: Outcome)
 
 /// Runs the command that the words name, over a desk.
 pub fn run<D: Desk>(alloc: Global, words: &[Word], desk: &mut D) -> Outcome
-    // The words are no command, exactly where the outcome says so; then the last line is all that is done.
-    ensures usage { (result ≡ Outcome.Usage) ↔ IsNone (command_of words.now) }
+    // Where the words are no command, the last line is all that is done.
+    ensures usage { IfNone (command_of words.now) (result ≡ Outcome.Usage) }
     ensures refuses { IfNone (command_of words.now) (Ends (D.state desk.old) (D.state desk.new) Outcome.Usage) }
 
-    // Else the command is done, and a run that is not done says its last line.
+    // Else the command is done, and a run that is not done says its last line. Usage has its cause here too.
     ensures does { IfSome (command_of words.now) (λ command.
         (before : State) × Does command (D.state desk.old) before result × Ends before (D.state desk.new) result) }
 

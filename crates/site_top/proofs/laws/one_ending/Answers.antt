@@ -11,4 +11,4 @@ returns c = one_ending (packets_end_once c.one_packet.ensures c.no_refusal.ensur
   rules_fail = c.refusal_law.ensures.rules_fail;
   one_test = c.refusal_law.ensures.one_test;
   tests_fail = c.refusal_law.ensures.tests_fail;
-})
+}) c.one_run.ensures

@@ -1,0 +1,92 @@
+-- Files decide how a run over them ends.
+use Rattle.std.proofs.Common.{◌≡◌, ◌≢◌, ℕ, zero, suc, ◌+◌, ◌-◌, ◌*◌, ◌/◌, ◌<◌, ◌≤◌, List, length, Result, Ok, Err, refl, ap, sym, subst, ◌∙◌, inl, inr, arith}
+use Rattle.std.proofs.Math.Nat.{mul-le-mul_right, div-zero, div-mul-le_self}
+use Rattle.std.proofs.lemmas.Nat.{le-div}
+use Rattle.std.proofs.lemmas.Bool.{cases_eq, cases_lt}
+use Rattle.plp_config.specs.SlotTime.{slots_by, num, den}
+use Rattle.plp_config.specs.declared.config.Config.{Config}
+use Rattle.ts_file.specs.TsFile.{packets_in, HasBad}
+use Rattle.gateway_run.specs.GatewayRun.{frames_of, units_of, most_frames, WantsBad, MeetsBad, MeetsNone}
+use Rattle.gateway_run.specs.Laws.{MustRun, OneRun}
+use Rattle.gateway_run.specs.declared.stop.Ran.{Ran}
+use Rattle.gateway_run.specs.declared.stop.RunStop.{RunStop}
+use Rattle.gateway_run.specs.declared.stop.RunStop.TheVariants.{Bad, TooLong, ReadFault, WriteFault, OutOfMemory}
+
+quotient_rises : (k a b : ℕ) → a ≤ b → a / k ≤ b / k
+quotient_rises zero a b le = omega (arith, div-zero a, div-zero b)
+quotient_rises (suc k) a b le =
+    let part : a / suc k * suc k ≤ a = div-mul-le_self a (suc k) in
+    let all : a / suc k * suc k ≤ b = omega (arith, part, le) in
+    le-div (a / suc k) b (suc k) (omega arith) all
+
+-- a later frame wants what one wants
+still_wants : (c : Config) (files : ℕ → List ℕ) (frame later plp : ℕ) → frame ≤ later → WantsBad c files frame plp → WantsBad c files later plp
+still_wants c files frame later plp le w =
+    let rises : slots_by c plp (frame * c.ticks) ≤ slots_by c plp (later * c.ticks) = quotient_rises (num c) (frame * c.ticks * den c plp) (later * c.ticks * den c plp) (mul-le-mul_right (den c plp) (mul-le-mul_right c.ticks le)) in
+    (w.0, (let lt = w.1 in omega (arith, lt, rises)))
+
+-- the first frame is one
+not_sooner : (c : Config) (files : ℕ → List ℕ) (frame later plp other packet next : ℕ) → frame < later → MeetsBad c files frame plp packet → MeetsBad c files later other next → ⊥
+not_sooner c files frame later plp other packet next lt a b = b.before plp a.place (still_wants c files frame (later - 1) plp (omega (arith, lt)) a.wants)
+
+same_frame : (c : Config) (files : ℕ → List ℕ) (frame later plp other packet next : ℕ) → MeetsBad c files frame plp packet → MeetsBad c files later other next → frame ≡ later
+same_frame c files frame later plp other packet next a b =
+    elim (cases_lt frame later) [
+      | inl sooner ↦ absurd (not_sooner c files frame later plp other packet next sooner a b)
+      | inr le ↦ elim (cases_lt later frame) [
+          | inl sooner ↦ absurd (not_sooner c files later frame other plp next packet sooner b a)
+          | inr ge ↦ omega (arith, le, ge)
+        ]
+    ]
+
+same_plp : (c : Config) (files : ℕ → List ℕ) (frame plp other packet next : ℕ) → MeetsBad c files frame plp packet → MeetsBad c files frame other next → plp ≡ other
+same_plp c files frame plp other packet next a b =
+    elim (cases_lt plp other) [
+      | inl less ↦ absurd (b.below plp less a.wants)
+      | inr le ↦ elim (cases_lt other plp) [
+          | inl less ↦ absurd (a.below other less b.wants)
+          | inr ge ↦ omega (arith, le, ge)
+        ]
+    ]
+
+same_bad : (plp other packet next : ℕ) → plp ≡ other → packet ≡ next → (let r : Result Ran RunStop = Err (Bad plp packet) in r) ≡ Err (Bad other next)
+same_bad plp other packet next e f = rw (e, f) refl
+
+one_bad : (c : Config) (files : ℕ → List ℕ) (frame later plp other packet next : ℕ) → MeetsBad c files frame plp packet → MeetsBad c files later other next
+    → (let r : Result Ran RunStop = Err (Bad plp packet) in r) ≡ Err (Bad other next)
+one_bad c files frame later plp other packet next a b =
+    let f = same_frame c files frame later plp other packet next a b in
+    let p = same_plp c files frame plp other packet next a (subst (λ (n : ℕ). MeetsBad c files n other next) (sym f) b) in
+    same_bad plp other packet next p (a.number ∙ ap (λ (k : ℕ). length (packets_in (files k))) p ∙ sym b.number)
+
+ran_of : (f g u v : ℕ) → f ≡ g → u ≡ v → (let r : Result Ran RunStop = Ok (record { frames = f; units = u }) in r) ≡ Ok (record { frames = g; units = v })
+ran_of f g u v e h = rw (e, h) refl
+
+same_ran : (ran other : Ran) → ran.frames ≡ other.frames → ran.units ≡ other.units → (let r : Result Ran RunStop = Ok ran in r) ≡ Ok other
+same_ran ran other e f = ran_of ran.frames other.frames ran.units other.units e f
+
+never_bad : (c : Config) (files : ℕ → List ℕ) (frame plp packet : ℕ) → MeetsBad c files frame plp packet → frame ≤ most_frames → MeetsNone c files most_frames → ⊥
+never_bad c files frame plp packet a le none = none plp a.place (still_wants c files frame most_frames plp le a.wants)
+
+pub runs_once : OneRun
+runs_once c files (Ok ran) (Ok other) a b = same_ran ran other (a.1 ∙ sym b.1) (a.2 ∙ sym b.2)
+runs_once c files (Ok ran) (Err (Bad plp packet)) a b = absurd (a.0 plp b.1.place b.1.wants.0)
+runs_once c files (Ok ran) (Err (TooLong count)) a b = absurd (let f = a.3 in let t = b.2 in omega (arith, f, t))
+runs_once c files (Ok ran) (Err ReadFault) a b = absurd b
+runs_once c files (Ok ran) (Err WriteFault) a b = absurd b
+runs_once c files (Ok ran) (Err OutOfMemory) a b = absurd b
+runs_once c files (Err (Bad plp packet)) (Ok ran) a b = absurd (b.0 plp a.1.place a.1.wants.0)
+runs_once c files (Err (Bad plp packet)) (Err (Bad other next)) a b = one_bad c files a.0 b.0 plp other packet next a.1 b.1
+runs_once c files (Err (Bad plp packet)) (Err (TooLong count)) a b = absurd (never_bad c files a.0 plp packet a.1 a.2 b.1)
+runs_once c files (Err (Bad plp packet)) (Err ReadFault) a b = absurd b
+runs_once c files (Err (Bad plp packet)) (Err WriteFault) a b = absurd b
+runs_once c files (Err (Bad plp packet)) (Err OutOfMemory) a b = absurd b
+runs_once c files (Err (TooLong count)) (Ok ran) a b = absurd (let f = b.3 in let t = a.2 in omega (arith, f, t))
+runs_once c files (Err (TooLong count)) (Err (Bad plp packet)) a b = absurd (never_bad c files b.0 plp packet b.1 b.2 a.1)
+runs_once c files (Err (TooLong count)) (Err (TooLong other)) a b = ap (λ (k : ℕ). let r : Result Ran RunStop = Err (TooLong k) in r) (a.0 ∙ sym b.0)
+runs_once c files (Err (TooLong count)) (Err ReadFault) a b = absurd b
+runs_once c files (Err (TooLong count)) (Err WriteFault) a b = absurd b
+runs_once c files (Err (TooLong count)) (Err OutOfMemory) a b = absurd b
+runs_once c files (Err ReadFault) other a b = absurd a
+runs_once c files (Err WriteFault) other a b = absurd a
+runs_once c files (Err OutOfMemory) other a b = absurd a
