@@ -39,6 +39,7 @@ impl Flow {
         ensures flows { (c : Config) (n : ℕ) → c.pid ≡ pid → Flows result c n [] [] 0 }
         ensures unit { gives_unit result ≡ false }
         ensures finished { result.finished ≡ false }
+        ensures none { (waiting_of result.outlet.piper ≡ 0) × (result.outlet.at ≡ result.outlet.len) }
     {
         Flow {
             outlet: Outlet::new(pid),
@@ -98,6 +99,7 @@ impl Flow {
     pub fn finish(&mut self)
         ensures flows { (c : Config) (n : ℕ) (left : List Body) (all : List (ℕ × Body)) (given : ℕ) → Flows self.old c n left all given → Flows self.new c n left all given }
         ensures finished { self.new.finished ≡ true }
+        ensures same { (left : List Body) → bytes_bound (waiting_of self.new.outlet.piper) self.new.outlet.at self.new.outlet.len left ≡ bytes_bound (waiting_of self.old.outlet.piper) self.old.outlet.at self.old.outlet.len left }
     {
         self.finished = true;
         if self.dry {

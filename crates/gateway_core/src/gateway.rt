@@ -57,6 +57,7 @@ impl<'p> Gateway<'p> {
         ensures frame { IfOk result (λ g. frame_of g ≡ 0) }
         ensures unit { IfOk result (λ g. has_unit g ≡ false) }
         ensures finished { IfOk result (λ g. has_finished g ≡ false) }
+        ensures left { IfOk result (λ g. bytes_left g ≡ 0) }
     {
         Ok(Gateway {
             alloc,
@@ -97,6 +98,7 @@ impl<'p> Gateway<'p> {
         ensures frame { frame_of self.new ≡ frame_of self.old }
         ensures unit { has_unit self.new ≡ has_unit self.old }
         ensures finished { has_finished self.new ≡ has_finished self.old }
+        ensures left { bytes_left self.new ≡ bytes_left self.old }
     {
         offer(&mut self.inputs, plp, packet)?;
         Ok(())
@@ -112,6 +114,7 @@ impl<'p> Gateway<'p> {
         ensures frame { frame_of self.new ≡ frame_of self.old }
         ensures unit { has_unit self.new ≡ has_unit self.old }
         ensures finished { has_finished self.new ≡ has_finished self.old }
+        ensures left { bytes_left self.new ≡ bytes_left self.old }
     {
         end(&mut self.inputs, plp);
     }
@@ -188,6 +191,7 @@ impl<'p> Gateway<'p> {
         ensures plps { plps_of self.new ≡ plps_of self.old }
         ensures frame { frame_of self.new ≡ frame_of self.old }
         ensures finished { has_finished self.new ≡ true }
+        ensures left { bytes_left self.new ≡ bytes_left self.old }
     {
         self.flow.finish();
     }

@@ -41,6 +41,7 @@ impl Outlet {
         ensures carries { (c : Config) (n : ℕ) → c.pid ≡ pid → Carries result.piper (between result.bytes result.at result.len) result.number c n [] [] 0 }
         ensures rest { between result.bytes result.at result.len ≡ [] }
         ensures waiting { waiting_of result.piper ≡ 0 }
+        ensures none { result.at ≡ result.len }
         ensures finished { is_finished result.piper ≡ false }
     {
         Outlet {

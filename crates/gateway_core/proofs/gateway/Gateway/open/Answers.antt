@@ -20,3 +20,10 @@ returns-clause-stands c =
         flows = λ all more. subst (λ (l : List Body). Flows c.new-3.result c.args.plan.now 0 l [] 0) (sym nothing) (c.new-3.ensures.flows c.args.plan.now 0 (sym c.pid_of.ensures.value));
       },
     )
+
+pub returns-clause-left : goal.returns-clause-left
+returns-clause-left c =
+    let none : length c.new-2.result.items ≡ 0 = ap length c.new-2.ensures.items in
+    let nothing = ap length (past_left c.args.plan.now 0 c.new-2.result.items 0 0 (omega arith) (omega arith)) in
+    let given = c.new-3.ensures.none in
+    omega (arith, nothing, given.0, given.1)
