@@ -69,7 +69,7 @@ said_though file start now new page given (InputRefused _ _) cause x k = absurd 
 said_though file start now new page given OutOfMemory cause x k = absurd cause
 
 -- a count that rose stays so
-rose_on : (start now new : ℕ) → start ≤ now → now ≤ new → Rose start now → Rose start new
+pub rose_on : (start now new : ℕ) → start ≤ now → now ≤ new → Rose start now → Rose start new
 rose_on start now new from h r =
     ⊎_elim
     (λ (l : start < now). let up : start < new = omega arith in inl up)

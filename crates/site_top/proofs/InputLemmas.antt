@@ -31,7 +31,7 @@ grown old new start end n h e =
     ap (λ (k : ℕ). take k (drop start new)) split ∙ rw there at (part-add new start (end - start) n)
     ∙ ap (λ (front : List _). front ++ take n (drop end new)) (kept old new start end h e)
 
-joined : (left : Option (List ℕ)) (waiting piece : List ℕ) → option_map (λ l. (waiting ++ piece) ++ l) left ≡ option_map (λ l. waiting ++ l) (option_map (λ l. piece ++ l) left)
+pub joined : (left : Option (List ℕ)) (waiting piece : List ℕ) → option_map (λ l. (waiting ++ piece) ++ l) left ≡ option_map (λ l. waiting ++ l) (option_map (λ l. piece ++ l) left)
 joined None waiting piece = refl
 joined (Some l) waiting piece = ap Some (append_assoc waiting piece l)
 

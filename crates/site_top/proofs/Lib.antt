@@ -8,7 +8,10 @@ pub mod GatewayLemmas
 pub mod InputLemmas
 pub mod LineLemmas
 pub mod PacketFileLemmas
+pub mod PidLemmas
+pub mod PipedLemmas
 pub mod ProgressLemmas
 pub mod RequestLemmas
 pub mod RunLemmas
 pub mod StopLemmas
+pub mod T2miEndLemmas

@@ -29,7 +29,7 @@ here : (o : Option (List ℕ)) (F : List ℕ → List ℕ → Type 0) → ((x : 
 here None F f = tt
 here (Some x) F f = (x, refl, f x)
 
-said_same : (said : Option (List ℕ)) → said ≡ option_map (λ s. s ++ []) said
+pub said_same : (said : Option (List ℕ)) → said ≡ option_map (λ s. s ++ []) said
 said_same None = refl
 said_same (Some s) = ap Some (sym (append-nil s))
 
@@ -99,7 +99,7 @@ filled start old new handle at count waiting more page was ended came c r calm e
 }
 
 -- what a handle has left depends on what is held and opened alone
-left_same : (old new : State) (handle : ℕ) → new.held ≡ old.held → new.opened ≡ old.opened → left_of new handle ≡ left_of old handle
+pub left_same : (old new : State) (handle : ℕ) → new.held ≡ old.held → new.opened ≡ old.opened → left_of new handle ≡ left_of old handle
 left_same old new handle held opened =
     ap (λ (o : Option Held). option_map (λ h. drop (slice_index new.opened handle) (content h handle)) o) held
     ∙ ap (λ (xs : List ℕ). option_map (λ h. drop (slice_index xs handle) (content h handle)) old.held) opened
@@ -157,7 +157,7 @@ said_only start old new handle given o held opened created rf wf lf = record {
   line_faults = lf ∙ o.line_faults;
 }
 
-calm_on : (start old new : State) → SameCounts start old → new.read_faults ≡ old.read_faults → new.write_faults ≡ old.write_faults → new.line_faults ≡ old.line_faults → SameCounts start new
+pub calm_on : (start old new : State) → SameCounts start old → new.read_faults ≡ old.read_faults → new.write_faults ≡ old.write_faults → new.line_faults ≡ old.line_faults → SameCounts start new
 calm_on start old new c rf wf lf = record { read_faults = rf ∙ c.read_faults; write_faults = wf ∙ c.write_faults; line_faults = lf ∙ c.line_faults }
 
 -- the page was flushed, or had room

@@ -50,7 +50,7 @@ stopped_reading start old new handle at count waiting more page was (PacketRefus
 stopped_reading start old new handle at count waiting more page was WriteFault came c r s = absurd s
 stopped_reading start old new handle at count waiting more page was OutOfMemory came c r s = absurd s
 
-no_left : (o : Option (List ℕ)) (x : List ℕ) → o ≡ Some x → IfSome o (λ l. l ≡ []) → x ≡ []
+pub no_left : (o : Option (List ℕ)) (x : List ℕ) → o ≡ Some x → IfSome o (λ l. l ≡ []) → x ≡ []
 no_left None x e h = cc
 no_left (Some l) x e h = let same : l ≡ x = cc in sym same ∙ h
 

@@ -51,6 +51,7 @@ pub fn read_until<D: Desk>(
     requires within { at + length input.old < 2 ^ 40 }
     ensures reads { ReadsOn (D.state desk.old) (D.state desk.new) handle input.old input.new }
     ensures full { IfOk result (λ end. (enough ≤ length input.new) ⊎ IsTrue end) }
+    ensures short { IfOk result (λ end. IsTrue end → length input.new < enough) }
     ensures within { OnOk result (at + length input.new < 2 ^ 40) }
     ensures end { IfOk result (λ end. IsTrue end → IsAtEnd (D.state desk.new) handle) }
     ensures calm { OnOk result ((D.state desk.new).read_faults ≡ (D.state desk.old).read_faults) }

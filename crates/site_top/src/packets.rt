@@ -81,8 +81,8 @@ fn take_packet(input: &mut Input, page: &mut Page, at: u64) -> Result<usize, Out
     Ok(len)
 }
 
-// Says the lines on the page where there is no room for one more.
-fn make_way<D: Desk>(desk: &mut D, page: &mut Page) -> Result<(), Outcome>
+/// Says the lines on the page where there is no room for one more.
+pub fn make_way<D: Desk>(desk: &mut D, page: &mut Page) -> Result<(), Outcome>
     ensures ok { OnOk result (GivesWay (D.state desk.old) (D.state desk.new) page.old page.new) }
     ensures room { length page.new + ROOM ≤ PAGE }
     ensures err { OnErr result (Keeps (D.state desk.old) (D.state desk.new)) }

@@ -15,8 +15,8 @@ use crate::page::Page;
 use ports::Desk;
 use std::alloc::Global;
 
-// The line of the number of packets.
-fn count_line(count: u64) -> Line
+/// The line of the number of packets.
+pub fn count_line(count: u64) -> Line
     ensures text { result ≡ line_of_count count }
     ensures len { length result ≤ ROOM }
 {
@@ -26,8 +26,8 @@ fn count_line(count: u64) -> Line
     line
 }
 
-// Says what is left on the page, after which the run ends with this outcome.
-fn end<D: Desk>(desk: &mut D, page: &mut Page, outcome: Outcome) -> Outcome
+/// Says what is left on the page, after which the run ends with this outcome.
+pub fn end<D: Desk>(desk: &mut D, page: &mut Page, outcome: Outcome) -> Outcome
     ensures { SaysRest (D.state desk.old) (D.state desk.new) page.old outcome result }
 {
     match flush(desk, page) {
