@@ -12,6 +12,8 @@ usage: site_cli plan CONFIG
          shows a configuration as it is written
        site_cli show packets FILE
          shows the T2-MI packets that stand back to back in FILE, a line each
+       site_cli show t2mi FILE
+         shows the T2-MI packets in the transport packets of FILE, a line each
 ";
 
 fn say_usage(rt: &impl Eprint, words: &[Word]) -> io::Result<()> {

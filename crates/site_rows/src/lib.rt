@@ -7,3 +7,5 @@ mod configuration;
 mod runs;
 #[cfg(test)]
 mod show_packets;
+#[cfg(test)]
+mod show_t2mi;

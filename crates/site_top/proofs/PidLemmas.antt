@@ -1,16 +1,15 @@
 -- The PID that a file tells, and the packets that are accepted on it.
-use Rattle.std.proofs.Common.{◌≡◌, ℕ, zero, suc, ◌+◌, ◌*◌, ◌/◌, ◌==◌, ◌<◌, ◌≤◌, ⊎_elim, Bool, true, false, cond, List, [], ◌∷◌, ◌++◌, length, take, drop, map, Option, Some, None, refl, ap, sym, subst, ◌∙◌, arith, length-append, length-take}
+use Rattle.std.proofs.Common.{◌≡◌, ℕ, zero, suc, ◌+◌, ◌*◌, ◌/◌, ◌==◌, ◌<◌, ◌≤◌, ⊎_elim, Bool, true, false, cond, List, [], ◌++◌, length, take, Option, Some, None, refl, ap, sym, subst, ◌∙◌, arith, length-append, length-take}
 use Rattle.std.specs.Prelude.{slice_get, option_to_list, flat_map, nat_lt, not, ◌&&◌}
 use Rattle.std.specs.List.{range_with_len}
 use Rattle.std.proofs.lemmas.Bool.{cases_lt, both_ways, eqb-true}
 use Rattle.std.proofs.lemmas.List.{take_all}
 use Rattle.ts_packet.specs.TransportPacket.{Fields}
 use Rattle.ts_packet.specs.Told.{fields_in}
-use Rattle.t2mi_stream.specs.Accepted.{AcceptedPacket}
-use Rattle.t2mi_stream.specs.Skipping.{further, CarriesNothing, SkipLaw}
-use Rattle.t2mi_stream.specs.Units.{carries, points_inside, Carrier, carrier_of, carried, unit_at, carrier_at, accepted_of}
+use Rattle.t2mi_stream.specs.Skipping.{CarriesNothing, SkipLaw}
+use Rattle.t2mi_stream.specs.Units.{points_inside, Carrier, carrier_of, carried, unit_at}
 use Rattle.t2mi_stream.proofs.SkippingLemmas.{unit_before, unit_behind}
-use Rattle.site_top.specs.ShowT2mi.{pid_of, pid_at, units_of, pid_in, accepted_on, packets_in}
+use Rattle.site_top.specs.ShowT2mi.{pid_of, pid_at, pid_in, accepted_on, packets_in}
 use Rattle.site_top.specs.Piped.{TellsNone, packets_from}
 
 first_of : (o : Option ℕ) (rest : List ℕ) (pid : ℕ) → o ≡ Some pid → slice_get (option_to_list o ++ rest) 0 ≡ Some pid

@@ -1,11 +1,11 @@
 -- A run over the units of a file, step by step.
-use Rattle.std.proofs.Common.{◌≡◌, ◌≢◌, ◌⊎◌, ℕ, zero, suc, ◌+◌, ◌-◌, ◌*◌, ◌<◌, ◌≤◌, ◌^◌, inl, inr, ⊎_elim, Bool, true, false, cond, List, [], ◌∷◌, ◌++◌, length, take, drop, map, get_or, Option, Some, None, refl, ap, ap₂, sym, subst, ◌∙◌, arith, append_assoc, append-nil, length-append, length-drop, length-take}
-use Rattle.std.specs.Prelude.{IfSome, IsTrue, option_map, slice_get, slice_index, slice_set, codes, flat_map}
-use Rattle.std.proofs.lemmas.List.{take-append-drop, take-append-le, take_all, take_more, length-take-le, length-map, map-append, set-get_or, nil_from_length}
+use Rattle.std.proofs.Common.{◌≡◌, ◌⊎◌, ℕ, ◌+◌, ◌-◌, ◌*◌, ◌<◌, ◌≤◌, ⊎_elim, Bool, true, false, cond, List, [], ◌∷◌, ◌++◌, length, take, drop, map, Option, Some, None, refl, ap, ap₂, sym, subst, ◌∙◌, arith, append_assoc, append-nil, length-append, length-drop}
+use Rattle.std.specs.Prelude.{IsTrue, option_map, slice_get, slice_index, slice_set, codes}
+use Rattle.std.proofs.lemmas.List.{take-append-drop, take-append-le, take_more, length-take-le, length-map, map-append, set-get_or}
 use Rattle.std.proofs.lemmas.Bool.{both_ways}
 use Rattle.std.proofs.lemmas.List.Concat.{flat_map-append}
 use Rattle.std.proofs.lemmas.Option.{slice_get-map, slice_get_within, get_or_from_slice_get}
-use Rattle.ports.specs.Desk.{State, SameCounts, Keeps, Says, Rose, left_of}
+use Rattle.ports.specs.Desk.{State, Keeps, Says, left_of}
 use Rattle.t2mi_packet.specs.T2miPacket.{view_of}
 use Rattle.t2mi_stream.specs.Accepted.{AcceptedPacket}
 use Rattle.t2mi_stream.specs.Units.{accepted_of}
@@ -16,12 +16,11 @@ use Rattle.t2mi_stream.specs.Events.UnpiperEvent.{Fed, Released}
 use Rattle.t2mi_stream.specs.UnpiperStandsFor.{UnpiperStandsFor, next_packet, is_ready, unit_place, AllReleased}
 use Rattle.t2mi_stream.specs.declared.unpiper.Unpiper.{Unpiper}
 use Rattle.ts_packet.specs.Told.{fields_in}
-use Rattle.site_top.specs.Files.{Grew}
 use Rattle.site_top.specs.Progress.{Only, GivesWay}
-use Rattle.site_top.specs.Reading.{ReadsOn, IsAtEnd}
+use Rattle.site_top.specs.Reading.{ReadsOn}
 use Rattle.site_top.specs.SaidLines.{view_line}
 use Rattle.site_top.specs.ShowT2mi.{pid_of, place_line, place_lines}
-use Rattle.site_top.specs.Piped.{rest_of, Taken, TellsNone, Seeks, Unpipes, IsAt, Shows, Lines, packets_from, Pipes, steps_left, HasShown}
+use Rattle.site_top.specs.Piped.{rest_of, Taken, Seeks, Unpipes, IsAt, PutsLine, Lines, packets_from, Pipes, steps_left, HasShown}
 use Rattle.site_top.proofs.InputLemmas.{joined}
 use Rattle.site_top.proofs.PidLemmas.{tells_none}
 use Rattle.site_top.proofs.ProgressLemmas.{said_same, left_same, calm_on, read_only, said_only, said_more}
@@ -68,7 +67,7 @@ both_known (Some a) base at bytes e f = let here : base + a.place ≡ at = cc in
 -- its line went onto the page
 pub shows_packet : (unpiper : Unpiper) (pid : ℕ) (bytes : List ℕ) (base number at : ℕ) (page longer packet : List ℕ) → IsAt pid bytes base number at →
     ((p : ℕ) (events : List UnpiperEvent) → UnpiperStandsFor unpiper p events → option_map (λ a. a.bytes) (next_packet p events) ≡ Some packet) →
-    longer ≡ page ++ view_line (codes "place=") at (view_of packet) → Unpipes unpiper pid bytes number → Shows pid bytes base number page longer
+    longer ≡ page ++ view_line (codes "place=") at (view_of packet) → Unpipes unpiper pid bytes number → PutsLine pid bytes base number page longer
 shows_packet unpiper pid bytes base number at page longer packet place f is u =
     let known = both_known (slice_get (accepted_of pid bytes) number) base at packet place
     (ap (option_map (λ a. a.bytes)) (sym (waiting_packet pid bytes number u.events u.fed_are u.number)) ∙ f pid u.events u.stands) in
@@ -283,7 +282,7 @@ pipes_fed law start now handle pid base at count n from waiting rest page old ne
 
 -- a packet was shown and given up
 pub pipes_pushed : (start now : State) (handle pid base at count : ℕ) (from waiting page longer : List ℕ) (old new : Unpiper) → Pipes start now handle pid base at count from old waiting page →
-    ((p : ℕ) (bytes : List ℕ) (number : ℕ) → Unpipes old p bytes number → Shows p bytes base number page longer) →
+    ((p : ℕ) (bytes : List ℕ) (number : ℕ) → Unpipes old p bytes number → PutsLine p bytes base number page longer) →
     ((p : ℕ) (bytes : List ℕ) (number : ℕ) → Unpipes old p bytes number → Unpipes new p bytes (number + 1)) →
     Pipes start now handle pid base at (count + 1) from new waiting longer
 pipes_pushed start now handle pid base at count from waiting page longer old new p shows unpipes =

@@ -1,17 +1,18 @@
 -- Every command is complete: where nothing outside fails, it ends as its file says.
-use Rattle.std.proofs.Common.{◌≡◌, ◌⊎◌, ℕ, ◌≤◌, ◌^◌, inl, inr, List, length, Option, Some, None, refl, sym, subst, arith}
+use Rattle.std.proofs.Common.{◌≡◌, ◌⊎◌, ℕ, ◌≤◌, ◌^◌, inl, inr, List, length, Option, Some, None, refl, sym, subst, ◌∙◌, arith}
 use Rattle.std.specs.Prelude.{IfSome, IfNone}
 use Rattle.ports.specs.Desk.{State, Held, Rose, SaysLast, bytes_of}
 use Rattle.site_top.specs.declared.outcome.Outcome.{Outcome}
 use Rattle.site_top.specs.declared.outcome.Outcome.TheVariants.{Done, Usage, ConfigRefused, CapacityRefused, InputRefused, TooLong, PacketRefused, ReadFault, WriteFault, OutOfMemory}
 use Rattle.gateway_run.specs.Laws.{OneRun}
-use Rattle.site_top.specs.Commands.{Command, ShowPackets, ShowConfig, Plan, Gateway}
+use Rattle.site_top.specs.Commands.{Command, ShowPackets, ShowT2mi, ShowConfig, Plan, Gateway}
 use Rattle.site_top.specs.ConfigCommands.{ShowsConfig, Plans}
 use Rattle.site_top.specs.Endings.{EndsBy, Ends}
 use Rattle.site_top.specs.Laws.{OneEnding}
 use Rattle.site_top.specs.Outcomes.{last_line}
 use Rattle.site_top.specs.Runs.{Does, MustEnd, IsComplete}
 use Rattle.site_top.specs.ShowPackets.{Said, Counts, ReadsFile}
+use Rattle.site_top.specs.ShowT2mi.{ReadsUnits}
 use Rattle.site_top.proofs.ConfigEndLemmas.{ConfigLaws, config_ends_once, plan_ends_once}
 use Rattle.site_top.proofs.GatewayCompleteLemmas.{gateway_complete}
 use Rattle.site_top.proofs.GatewayEndLemmas.{gateway_ends_once}
@@ -21,6 +22,7 @@ use Rattle.site_top.proofs.StopLemmas.{rose_from}
 
 pub one_ending : PacketsEndOnce → ConfigLaws → OneRun → OneEnding
 one_ending once l run (ShowPackets file) held outcome other a b = once (bytes_of held.files file) outcome other a.1 b.1
+one_ending once l run (ShowT2mi file) held outcome other a b = a.1 ∙ sym b.1
 one_ending once l run (ShowConfig file) held outcome other a b = config_ends_once l (bytes_of held.files file) outcome other a b
 one_ending once l run (Plan config) held outcome other a b = plan_ends_once l (bytes_of held.files config) outcome other a b
 one_ending once l run (Gateway config out ins) held outcome other a b = gateway_ends_once l run held config ins outcome other a.1 b.1
@@ -43,6 +45,16 @@ ends_so law name held old new Usage reads said counts outcome must r w = absurd 
 ends_so law name held old new (ConfigRefused _) reads said counts outcome must r w = absurd reads
 ends_so law name held old new (CapacityRefused _ _ _ _) reads said counts outcome must r w = absurd reads
 ends_so law name held old new (InputRefused _ _) reads said counts outcome must r w = absurd reads
+
+-- how a run over a file of units ended is how it must end
+t2mi_ends : (name : List ℕ) (held : Held) (old new : State) (result : Outcome) → ReadsUnits old new name result → ((count : ℕ) → result ≡ TooLong count → 2 ^ 40 ≤ length (bytes_of held.files name)) → Counts old new result →
+    (outcome : Outcome) → MustEnd (ShowT2mi name) held outcome → ¬ (Rose old.read_faults new.read_faults) → ¬ (Rose old.write_faults new.write_faults) → (result ≡ outcome) ⊎ (result ≡ OutOfMemory)
+t2mi_ends name held old new Done reads long counts outcome must r w = inl (sym must.1)
+t2mi_ends name held old new (TooLong n) reads long counts outcome must r w = absurd (omega (arith, long n refl, must.0))
+t2mi_ends name held old new ReadFault reads long counts outcome must r w = absurd (r (counts.read_fault refl))
+t2mi_ends name held old new WriteFault reads long counts outcome must r w = absurd (w (counts.write_fault refl))
+t2mi_ends name held old new OutOfMemory reads long counts outcome must r w = inr refl
+t2mi_ends name held old new other reads long counts outcome must r w = absurd reads
 
 config_complete : OneEnding → (old new : State) (name : List ℕ) (result : Outcome) → ShowsConfig old new name result → IsComplete (ShowConfig name) old new result
 config_complete law old new name Done s =
@@ -77,6 +89,7 @@ plan_complete law old new name OutOfMemory s = if_any old.held _ (λ held. λ ou
 
 is_complete : OneEnding → (command : Command) (old new : State) (result : Outcome) → Does command old new result → IsComplete command old new result
 is_complete law (ShowPackets file) old new result s = if_some old.held _ _ (λ held x. ends_so law file held old new result s.reads x s.counts) s.said
+is_complete law (ShowT2mi file) old new result s = if_some old.held _ _ (λ held x. t2mi_ends file held old new result s.reads x s.counts) s.long
 is_complete law (ShowConfig file) old new result s = config_complete law old new file result s
 is_complete law (Plan config) old new result s = plan_complete law old new config result s
 is_complete law (Gateway config out ins) old new result s = gateway_complete law old new config out ins result s

@@ -1,5 +1,5 @@
 -- How a run over the units of a file stops and ends, up to its last line.
-use Rattle.std.proofs.Common.{◌≡◌, ◌≢◌, ◌⊎◌, ℕ, ◌+◌, ◌-◌, ◌<◌, ◌≤◌, ◌^◌, inl, inr, ⊎_elim, List, [], ◌∷◌, ◌++◌, length, take, drop, Option, Some, None, refl, ap, sym, subst, ◌∙◌, arith, append_assoc, append-nil, length-append}
+use Rattle.std.proofs.Common.{◌≡◌, ◌≢◌, ℕ, ◌+◌, ◌<◌, ◌≤◌, ◌^◌, inr, ⊎_elim, List, [], ◌++◌, length, take, drop, Option, Some, None, refl, ap, sym, subst, ◌∙◌, arith, append_assoc, append-nil, length-append}
 use Rattle.std.specs.Prelude.{IfSome, option_map, slice_index, slice_set}
 use Rattle.std.proofs.lemmas.List.{take-append-drop, take-append-le, take_all, set-get_or, set-set, nil_from_length}
 use Rattle.ports.specs.Desk.{State, SameCounts, Keeps, Says, Rose, Opens, left_of, bytes_of}
@@ -18,12 +18,12 @@ use Rattle.site_top.specs.Reading.{ReadsOn, IsAtEnd}
 use Rattle.site_top.specs.SaidLines.{count_line}
 use Rattle.site_top.specs.ShowPackets.{Counts}
 use Rattle.site_top.specs.ShowT2mi.{pid_of, packets_in, place_lines, AreFirstLines, AreLines, SaysLines, ReadsUnits, ShowsT2mi}
-use Rattle.site_top.specs.Piped.{rest_of, Taken, Seeks, Finds, Lines, packets_from, Pipes, UnitsStop, UnitsEnd, HasShown, UnitsStopped, UnitsFinished, UnitsShown}
+use Rattle.site_top.specs.Piped.{rest_of, Seeks, Finds, Lines, packets_from, Pipes, UnitsStop, UnitsEnd, HasShown, UnitsStopped, UnitsFinished, UnitsShown}
 use Rattle.site_top.proofs.EndLemmas.{rose_on, told, moved}
 use Rattle.site_top.proofs.InputLemmas.{joined}
 use Rattle.site_top.proofs.PidLemmas.{packets_behind, no_packets}
 use Rattle.site_top.proofs.PipedLemmas.{no_lines, lines_text, lines_lost, lines_kept, packets_on, length-packets, taken_read}
-use Rattle.site_top.proofs.ProgressLemmas.{if_some, said_same, said_more, left_same, read_only, said_only}
+use Rattle.site_top.proofs.ProgressLemmas.{if_some, said_same, said_more, read_only, said_only}
 use Rattle.site_top.proofs.StopLemmas.{rose_from, no_left}
 
 if_any : {A : Type 0} (o : Option A) (P : A → Type 0) → ((x : A) → P x) → IfSome o P

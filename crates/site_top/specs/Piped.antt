@@ -1,5 +1,5 @@
 -- How far `show t2mi` has come in a file. No public clause cites this module.
-use Rattle.std.specs.Prelude.{◌≡◌, ◌≢◌, ◌⊎◌, ℕ, ◌+◌, ◌*◌, ◌-◌, ◌<◌, ◌≤◌, ◌^◌, Bool, List, [], ◌∷◌, ◌++◌, length, map, take, slice_get, IfSome, Some, None, option_map, if◌then◌else◌}
+use Rattle.std.specs.Prelude.{◌≡◌, ◌≢◌, ℕ, ◌+◌, ◌*◌, ◌-◌, ◌<◌, ◌≤◌, ◌^◌, List, [], ◌++◌, length, map, take, slice_get, IfSome, Some, None, option_map, if◌then◌else◌}
 use Rattle.std.specs.declared.option.Option.{Option}
 use Rattle.ports.specs.Desk.{State, Rose, SameCounts, left_of}
 use Rattle.ts_packet.specs.Told.{fields_in}
@@ -67,7 +67,7 @@ abbrev pub IsAt : ℕ → List ℕ → ℕ → ℕ → ℕ → Type 0
 IsAt pid bytes base number at = option_map (λ packet. base + packet.place) (slice_get (accepted_of pid bytes) number) ≡ Some at
 
 -- The line of the packet with this number went onto the page.
-pub record Shows (pid : ℕ) (bytes : List ℕ) (base number : ℕ) (page longer : List ℕ) : Type 0 where
+pub record PutsLine (pid : ℕ) (bytes : List ℕ) (base number : ℕ) (page longer : List ℕ) : Type 0 where
   pub packet : AcceptedPacket
   pub is : slice_get (accepted_of pid bytes) number ≡ Some packet
   pub line : longer ≡ page ++ place_line (further base packet)

@@ -1,5 +1,5 @@
 -- What `show t2mi FILE` does, up to its last line.
-use Rattle.std.specs.Prelude.{◌≡◌, ◌⊎◌, ℕ, ◌<◌, ◌≤◌, ◌/◌, ◌==◌, ◌&&◌, nat_lt, not, List, [], ◌∷◌, ◌++◌, length, map, slice_get, option_to_list, flat_map, Some, None, if◌then◌else◌, codes, IfSome}
+use Rattle.std.specs.Prelude.{◌≡◌, ◌⊎◌, ℕ, ◌<◌, ◌≤◌, ◌/◌, ◌==◌, ◌&&◌, nat_lt, not, List, [], ◌++◌, length, slice_get, option_to_list, flat_map, Some, None, if◌then◌else◌, codes, IfSome}
 use Rattle.std.specs.List.{range_with_len}
 use Rattle.std.specs.declared.option.Option.{Option}
 use Rattle.ports.specs.Desk.{State, bytes_of}

@@ -19,7 +19,7 @@ mod plan_lines;
 mod request;
 mod running;
 mod show;
-mod show_t2mi;
+mod t2mi;
 
 pub use laws::one_ending;
 pub use outcome::{ConfigCause, Outcome};

@@ -4,7 +4,7 @@ ghost use Rattle.t2mi_packet.specs.Spell.{spell};
 ghost use Rattle.t2mi_packet.specs.T2miPacket.{view_of};
 ghost use Rattle.t2mi_stream.specs.UnpiperStandsFor.{is_ready, fed_len};
 ghost use Rattle.site_top.specs.SaidLines.{view_line};
-ghost use Rattle.site_top.specs.Piped.{Unpipes, IsWithin, IsAt, Shows, rest_of, packets_from, steps_left, UnitsStopped, UnitsFinished};
+ghost use Rattle.site_top.specs.Piped.{Unpipes, IsWithin, IsAt, PutsLine, rest_of, packets_from, steps_left, UnitsStopped, UnitsFinished};
 
 use crate::filling::read_until;
 use crate::first_pid::Found;
@@ -63,7 +63,7 @@ fn push_packet(unpiper: &mut Unpiper, base: u64, page: &mut Page)
     requires ready { is_ready unpiper.old ≡ true }
     requires within { IsWithin unpiper.old base }
     requires room { length page.old + ROOM ≤ PAGE }
-    ensures shows { (pid : ℕ) (bytes : List ℕ) (number : ℕ) → Unpipes unpiper.old pid bytes number → Shows pid bytes base number page.old page.new }
+    ensures shows { (pid : ℕ) (bytes : List ℕ) (number : ℕ) → Unpipes unpiper.old pid bytes number → PutsLine pid bytes base number page.old page.new }
     ensures unpipes { (pid : ℕ) (bytes : List ℕ) (number : ℕ) → Unpipes unpiper.old pid bytes number → Unpipes unpiper.new pid bytes (number + 1) }
     ensures fed { fed_len unpiper.new ≡ fed_len unpiper.old }
     ensures less { steps_left unpiper.new < steps_left unpiper.old }

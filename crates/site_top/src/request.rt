@@ -12,6 +12,10 @@ pub enum Request<'a> {
     ShowPackets {
         file: &'a str,
     },
+    /// Shows the T2-MI packets in the transport packets of a file.
+    ShowT2mi {
+        file: &'a str,
+    },
     /// Shows a configuration as it is written.
     ShowConfig {
         file: &'a str,
@@ -33,6 +37,8 @@ fn shown<'a>(what: &str, file: &'a str) -> Option<Request<'a>>
 {
     if what == "packets" {
         Some(Request::ShowPackets { file })
+    } else if what == "t2mi" {
+        Some(Request::ShowT2mi { file })
     } else if what == "config" {
         Some(Request::ShowConfig { file })
     } else {

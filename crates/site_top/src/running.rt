@@ -12,6 +12,7 @@ use crate::laws::one_ending;
 use crate::outcome::Outcome;
 use crate::request::{Request, request_of};
 use crate::show::show_packets;
+use crate::t2mi::show_t2mi;
 use ports::{Desk, Word};
 use std::alloc::Global;
 
@@ -22,6 +23,7 @@ fn command<D: Desk>(alloc: Global, words: &[Word], desk: &mut D) -> Outcome
 {
     match request_of(words) {
         Some(Request::ShowPackets { file }) => show_packets(alloc, file, desk),
+        Some(Request::ShowT2mi { file }) => show_t2mi(alloc, file, desk),
         Some(Request::ShowConfig { file }) => show_config(alloc, file, desk),
         Some(Request::Plan { config }) => plan(alloc, config, desk),
         Some(Request::Gateway { config, out, ins }) => gateway(alloc, config, out, ins, desk),

@@ -1,4 +1,4 @@
-use Rattle.std.proofs.Common.{ℕ, List, ◌+◌, ◌<◌, ◌≤◌, ◌^◌, length, take, refl, ap, sym, ◌∙◌, arith, length-drop}
+use Rattle.std.proofs.Common.{ℕ, List, length, take, refl, ap, sym, ◌∙◌, arith, length-drop}
 use Rattle.std.proofs.lemmas.Result.{err_from_is_err_and}
 use Rattle.ts_packet.specs.Told.{fields_in}
 use Rattle.site_top.specs.ShowT2mi.{pid_of}

@@ -1,7 +1,5 @@
 use Rattle.std.proofs.Common.{ℕ, List, take, ap, subst}
-use Rattle.t2mi_stream.specs.declared.unpiper.Unpiper.{Unpiper}
 use Rattle.std.proofs.Common.{◌++◌, ◌∷◌, []}
-use Rattle.t2mi_stream.specs.Events.{UnpiperEvent}
 use Rattle.t2mi_stream.specs.Events.UnpiperEvent.{Fed}
 use Rattle.t2mi_stream.specs.UnpiperStandsFor.{UnpiperStandsFor}
 use Rattle.site_top.proofs.PipedLemmas.{fed_on}

@@ -1,4 +1,4 @@
-use Rattle.std.proofs.Common.{◌+◌, ◌<◌, ◌≤◌, ◌^◌, length, refl, ap, sym, ◌∙◌, arith, length-drop}
+use Rattle.std.proofs.Common.{length, refl, ap, ◌∙◌, arith, length-drop}
 use Rattle.std.proofs.lemmas.Result.{err_from_is_err_and}
 use Rattle.site_top.proofs.InputLemmas.{length-read}
 use Rattle.site_top.proofs.PipedLemmas.{pipes_begun, pipes_read, pipes_fed, pipes_pushed, pipes_way, pipes_count, all_given}

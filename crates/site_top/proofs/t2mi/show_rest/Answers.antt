@@ -1,7 +1,7 @@
 use Rattle.std.proofs.Common.{◌++◌, ◌∙◌, ap, List, ℕ}
 use Rattle.site_top.proofs.PipedLemmas.{none_fed}
 use Rattle.site_top.proofs.T2miEndLemmas.{no_memory, units_stopped_end, units_finished_end}
-use Rattle.site_top.proofs.show_t2mi.show_rest.Goals as goal
+use Rattle.site_top.proofs.t2mi.show_rest.Goals as goal
 
 pub returns-in_default : goal.returns-in_default
 returns-in_default g c = no_memory _ _ _ _ _ c.requires.place c.requires.within

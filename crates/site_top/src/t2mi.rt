@@ -68,7 +68,7 @@ fn show_opened<D: Desk>(
 }
 
 /// Says the lines of the T2-MI packets in the transport packets of a named file, and their number.
-pub fn t2mi<D: Desk>(alloc: Global, name: &str, desk: &mut D) -> Outcome
+pub fn show_t2mi<D: Desk>(alloc: Global, name: &str, desk: &mut D) -> Outcome
     ensures { ShowsT2mi (D.state desk.old) (D.state desk.new) name.now result }
 {
     let Ok(mut input) = Input::open(alloc) else {

@@ -1,7 +1,7 @@
 use Rattle.std.proofs.Common.{◌++◌, ◌∙◌, ap, subst, List, ℕ}
 use Rattle.site_top.specs.Piped.{Finds}
 use Rattle.site_top.proofs.T2miEndLemmas.{units_since, units_finished_end, seeks_finished}
-use Rattle.site_top.proofs.show_t2mi.show_opened.Goals as goal
+use Rattle.site_top.proofs.t2mi.show_opened.Goals as goal
 
 pub returns-in-Ok-Some : goal.returns-in-Ok-Some
 returns-in-Ok-Some g c = units_since c.skip_law.ensures _ _ _ _ c.in-Ok-Some.found _ _ (subst (Finds _ _ _ _) c.in-Ok-Some.field-0-is c.in-Ok-Some.ensures.ok) c.show_rest.ensures
