@@ -54,6 +54,7 @@ const LINES: [(u64, &str); 6] = [
 
 // The first bytes of a null packet, and of a packet on PID 512 without payload.
 const NULL: [u8; 4] = [0x47, 0x1F, 0xFF, 0x10];
+
 const NO_PAYLOAD: [u8; 5] = [0x47, 0x02, 0x00, 0x20, 183];
 
 // A unit with these first bytes.
@@ -90,12 +91,7 @@ fn text_of(alloc: Global, numbers: &[usize], further: u64) -> Result<String, Fai
 }
 
 // A run over a file, of which a read gives at most so many bytes, says this and is done.
-fn shows(
-    rt: &(impl AllocGlobal + Abort),
-    file: &[u8],
-    most: usize,
-    text: &str,
-) -> Result<(), Fail>
+fn shows(rt: &(impl AllocGlobal + Abort), file: &[u8], most: usize, text: &str) -> Result<(), Fail>
     requires { 0 < most }
 {
     let run = said_by(rt.alloc(), &["show", "t2mi", "f"], file, most)?;
@@ -144,7 +140,12 @@ fn packets_in_the_other_units(rt: HostRuntime) -> Result<(), Fail> {
     shows(&rt, &FIRST, 1000, text_of(alloc, &[0, 1, 2], 0)?.as_str())?;
     let mut file = unit(alloc, &NULL)?;
     file.extend_from_slice(&SECOND)?;
-    shows(&rt, file.as_slice(), 1000, text_of(alloc, &[4, 5], 0)?.as_str())?;
+    shows(
+        &rt,
+        file.as_slice(),
+        1000,
+        text_of(alloc, &[4, 5], 0)?.as_str(),
+    )?;
     let mut second = SECOND;
     second[3] = 0x32;
     let mut file = FIRST.to_vec(alloc)?;
