@@ -4,6 +4,9 @@ use plp_config::{CapacityFault, ConfigFault};
 use site_top::{ConfigCause, Outcome, Word};
 use std::io::{self, Eprint};
 
+// No frame has this number.
+const LAST_FRAME: u64 = 1 << 31;
+
 // The commands and their words.
 const COMMANDS: &str = "\
 usage: site_cli plan CONFIG
@@ -14,11 +17,22 @@ usage: site_cli plan CONFIG
          shows the T2-MI packets that stand back to back in FILE, a line each
        site_cli show t2mi FILE
          shows the T2-MI packets in the transport packets of FILE, a line each
+       site_cli gateway CONFIG OUT IN..
+         writes to OUT the T2-MI stream of a network from one transport stream IN for each PLP, in the order of CONFIG
 ";
+
+// Whether the words are those of `gateway`, which has several files.
+fn is_gateway(words: &[Word]) -> bool {
+    words.len() >= 3 && words[0].as_str() == "gateway"
+}
 
 fn say_usage(rt: &impl Eprint, words: &[Word]) -> io::Result<()> {
     if words.iter().any(|word| word.as_str().is_empty()) {
         eprint!(rt; "a word is empty or not UTF-8\n{COMMANDS}")
+    } else if is_gateway(words) {
+        eprint!(rt;
+            "OUT must be neither CONFIG nor an IN, and CONFIG wants one IN for each PLP\n{COMMANDS}"
+        )
     } else {
         eprint!(rt; "these words are no command\n{COMMANDS}")
     }
@@ -48,8 +62,18 @@ fn say_cause(rt: &impl Eprint, file: &str, cause: ConfigCause) -> io::Result<()>
     }
 }
 
+// What `gateway` or another command writes to.
+fn written_by(words: &[Word]) -> &str {
+    if is_gateway(words) {
+        word_at(words, 2)
+    } else {
+        "standard output"
+    }
+}
+
 // Says it, as far as standard error takes it: nobody is left to tell of a failure there.
 fn say(rt: &impl Eprint, words: &[Word], file: &str, outcome: Outcome) -> io::Result<()> {
+    let written = written_by(words);
     match outcome {
         Outcome::Done => Ok(()),
         Outcome::Usage => say_usage(rt, words),
@@ -68,6 +92,13 @@ fn say(rt: &impl Eprint, words: &[Word], file: &str, outcome: Outcome) -> io::Re
                 have
             }
         ),
+        Outcome::InputRefused { input, packet } => eprintln!(rt;
+            "{}: packet {packet}, counted from 0, does not begin with the sync byte 0x47, or the file ends inside it; what was read before it is written",
+            word_at(words, 3 + usize::from(input))
+        ),
+        Outcome::TooLong { count: LAST_FRAME } => eprintln!(rt;
+            "the inputs go on for more than {LAST_FRAME} frames; what was written stays, give the rest to another run"
+        ),
         Outcome::TooLong { count } => eprintln!(rt;
             "{file}: it gave {count} bytes, which is more than a file may have; split it"
         ),
@@ -78,14 +109,27 @@ fn say(rt: &impl Eprint, words: &[Word], file: &str, outcome: Outcome) -> io::Re
             "{file}: it could not be opened or read; see that it is there, is a file and may be read"
         ),
         Outcome::WriteFault => eprintln!(rt;
-            "standard output took no more; see that there is room and that its reader is still there"
+            "{written} took no more; see that there is room, and that it may be written"
         ),
-        Outcome::OutOfMemory => eprintln!(rt; "out of memory; nothing was changed"),
+        Outcome::OutOfMemory => eprintln!(rt; "out of memory; the command was not done"),
+    }
+}
+
+// The word at a place.
+fn word_at(words: &[Word], place: usize) -> &str {
+    words.get(place).map_or("", |word| word.as_str())
+}
+
+// The file that an outcome speaks of.
+fn file_of(words: &[Word], outcome: Outcome) -> &str {
+    match outcome {
+        Outcome::ReadFault | Outcome::TooLong { .. } if is_gateway(words) => "a file that is read",
+        _ if is_gateway(words) => word_at(words, 1),
+        _ => words.last().map_or("", |word| word.as_str()),
     }
 }
 
 /// Says for people why a run over words is not done.
 pub fn advise(rt: &impl Eprint, words: &[Word], outcome: Outcome) {
-    let file = words.last().map_or("", |word| word.as_str());
-    let _ = say(rt, words, file, outcome);
+    let _ = say(rt, words, file_of(words, outcome), outcome);
 }

@@ -4,6 +4,8 @@
 #[cfg(test)]
 mod configuration;
 #[cfg(test)]
+mod gateway;
+#[cfg(test)]
 mod runs;
 #[cfg(test)]
 mod show_packets;

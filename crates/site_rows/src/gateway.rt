@@ -1,0 +1,228 @@
+// `gateway CONFIG OUT IN..`. Expected values come from worked examples.
+ghost use Rattle.std.specs.Prelude.{◌<◌};
+
+use crate::runs::words_of;
+use ports::MemoryDesk;
+use site_top::{Outcome, run};
+use std::alloc::Global;
+use std::process::Abort;
+use std::test::Fail;
+
+// A network of 8 MHz, by its PLPs.
+const NETWORK: &str =
+    "t2-gateway 1\nbandwidth 8\nframe 100000 2 40000\nstart 700000000 0 5\npid 256\nnetwork 1 2 3 474000000\nl1 0 6 1 0 1 0 0 1000 6 0 59 0\nsubslices 1\n";
+
+// One PLP, of which a frame wants 14 or 15 packets.
+const SMALL: &str = "plp 0 type1 1 1/2 qpsk short 0 4 1 delete 2000000\n";
+
+const KEPT: &str = "plp 0 type1 1 1/2 qpsk short 0 4 1 keep 2000000\n";
+
+// One that sends as much as a frame carries.
+const LOADED: &str = "plp 0 type1 1 1/2 qpsk short 0 3 1 delete 1906000\n";
+
+// Two of a quarter of the rate: the first frame that wants packets wants 3 of each.
+const TWO: &str =
+    "plp 7 type1 1 1/2 qpsk short 0 1 1 delete 500000\nplp 3 type1 1 1/2 qpsk short 0 1 1 delete 500000\n";
+
+const NULL: [u8; 4] = [0x47, 0x1F, 0xFF, 0x10];
+
+const DATA: [u8; 4] = [0x47, 0x01, 0x00, 0x10];
+
+// How a run ended, what it said, and what the file OUT holds if there is one.
+#[derive(Drop)]
+struct Ended {
+    outcome: Outcome,
+    said: Vec<u8>,
+    out: Option<Vec<u8>>,
+}
+
+// So many packets with this head, and another byte in all the rest.
+fn packets(alloc: Global, count: usize, head: [u8; 4], rest: u8) -> Result<Vec<u8>, Fail> {
+    let mut bytes = Vec::new(alloc);
+    for _ in 0..count {
+        bytes.extend_from_slice(&head)?;
+        bytes.extend_from_slice(&[rest; 184])?;
+    }
+    Ok(bytes)
+}
+
+// Takes the sync byte from a packet.
+fn spoil(bytes: &mut [u8], packet: u8) {
+    if let Some(sync) = bytes.get_mut(188 * usize::from(packet)) {
+        *sync = 0x46;
+    }
+}
+
+// A run over a network and the inputs `0`, `1` and so on, where a read or a write moves at most so many bytes.
+fn ends(
+    alloc: Global,
+    words: &[&str],
+    plps: &str,
+    inputs: &[&[u8]],
+    most: usize,
+) -> Result<Ended, Fail>
+    requires { 0 < most }
+{
+    let mut desk = MemoryDesk::new(alloc);
+    desk.put_file("c", format!(in alloc; "{NETWORK}{plps}")?.as_bytes())?;
+    for (place, input) in inputs.iter().enumerate() {
+        desk.put_file(format!(in alloc; "{place}")?.as_str(), input)?;
+    }
+    desk.cap(most);
+    let words = words_of(alloc, words)?;
+    let outcome = run(alloc, words.as_slice(), &mut desk);
+    let out = match desk.file("o") {
+        Some(bytes) => Some(bytes.to_vec(alloc)?),
+        None => None,
+    };
+    Ok(Ended {
+        outcome,
+        said: desk.said().to_vec(alloc)?,
+        out,
+    })
+}
+
+// The same of one input, in large reads and writes.
+fn ends_with(alloc: Global, plps: &str, input: &[u8]) -> Result<Ended, Fail> {
+    ends(alloc, &["gateway", "c", "o", "0"], plps, &[input], 1 << 20)
+}
+
+fn assert_said(rt: &impl Abort, ended: &Ended, line: &str) {
+    assert_eq!(rt; ended.said.as_slice(), line.as_bytes());
+}
+
+// Whether OUT has so many bytes.
+fn assert_size(rt: &impl Abort, ended: &Ended, size: usize) {
+    assert_eq!(rt; ended.out.as_ref().map(|bytes| bytes.len()), Some(size));
+}
+
+#[test]
+fn an_empty_input_makes_four_frames(rt: HostRuntime) -> Result<(), Fail> {
+    let ended = ends_with(rt.alloc(), SMALL, &[])?;
+    assert_eq!(rt; ended.outcome, Outcome::Done);
+    assert_eq!(rt; ended.outcome.status(), 0);
+    assert_said(&rt, &ended, "frames=4 units=2\n");
+    assert_size(&rt, &ended, 376);
+    Ok(())
+}
+
+#[test]
+fn a_loaded_network_makes_twelve_frames(rt: HostRuntime) -> Result<(), Fail> {
+    let input = packets(rt.alloc(), 110, DATA, 0xAB)?;
+    let ended = ends_with(rt.alloc(), LOADED, &input)?;
+    assert_eq!(rt; ended.outcome, Outcome::Done);
+    assert_said(&rt, &ended, "frames=12 units=123\n");
+    assert_size(&rt, &ended, 123 * 188);
+    Ok(())
+}
+
+// Whatever a read gives and a write takes, OUT is the same.
+#[test]
+fn reads_and_writes_may_be_short(rt: HostRuntime) -> Result<(), Fail> {
+    let input = packets(rt.alloc(), 110, DATA, 0xAB)?;
+    let whole = ends_with(rt.alloc(), LOADED, &input)?;
+    for most in [1, 187, 189] {
+        let words = ["gateway", "c", "o", "0"];
+        let ended = ends(rt.alloc(), &words, LOADED, &[&input], most)?;
+        assert_eq!(rt; ended.outcome, Outcome::Done);
+        assert!(rt; ended.out == whole.out);
+    }
+    Ok(())
+}
+
+#[test]
+fn null_packets_lengthen_a_run(rt: HostRuntime) -> Result<(), Fail> {
+    let nulls = packets(rt.alloc(), 300, NULL, 0xFF)?;
+    let deleted = ends_with(rt.alloc(), SMALL, &nulls)?;
+    assert!(rt; deleted.said.as_slice().starts_with(b"frames=24 units="));
+    let nulls = packets(rt.alloc(), 300, NULL, 0x00)?;
+    let kept = ends_with(rt.alloc(), KEPT, &nulls)?;
+    assert!(rt; kept.said.as_slice().starts_with(b"frames=24 units="));
+    Ok(())
+}
+
+// Frame 1 wants the packets 0 to 13; frame 0, which was begun before, has no complete unit.
+#[test]
+fn a_bad_packet_is_refused(rt: HostRuntime) -> Result<(), Fail> {
+    let mut input = packets(rt.alloc(), 20, DATA, 0xAB)?;
+    spoil(&mut input, 3);
+    let ended = ends_with(rt.alloc(), SMALL, &input)?;
+    let refused = Outcome::InputRefused {
+        input: 0,
+        packet: 3,
+    };
+    assert_eq!(rt; ended.outcome, refused);
+    assert_eq!(rt; ended.outcome.status(), 5);
+    assert_said(&rt, &ended, "refused: input 0 packet 3\n");
+    assert_size(&rt, &ended, 0);
+    Ok(())
+}
+
+#[test]
+fn an_input_that_ends_inside_a_packet_is_refused(rt: HostRuntime) -> Result<(), Fail> {
+    let mut input = packets(rt.alloc(), 1, DATA, 0xAB)?;
+    input.truncate(187);
+    let ended = ends_with(rt.alloc(), SMALL, &input)?;
+    let refused = Outcome::InputRefused {
+        input: 0,
+        packet: 0,
+    };
+    assert_eq!(rt; ended.outcome, refused);
+    Ok(())
+}
+
+// The first frame that wants a bad packet decides, and in it the first input.
+#[test]
+fn the_bad_packet_of_the_earlier_frame_is_refused(rt: HostRuntime) -> Result<(), Fail> {
+    let alloc = rt.alloc();
+    let words = ["gateway", "c", "o", "0", "1"];
+    let mut first = packets(alloc, 8, DATA, 0xAB)?;
+    let mut second = packets(alloc, 8, DATA, 0xCD)?;
+    spoil(&mut first, 5);
+    spoil(&mut second, 2);
+    let ended = ends(alloc, &words, TWO, &[&first, &second], 1 << 20)?;
+    let earlier = Outcome::InputRefused {
+        input: 1,
+        packet: 2,
+    };
+    assert_eq!(rt; ended.outcome, earlier);
+    spoil(&mut first, 2);
+    let ended = ends(alloc, &words, TWO, &[&first, &second], 1 << 20)?;
+    let lower = Outcome::InputRefused {
+        input: 0,
+        packet: 2,
+    };
+    assert_eq!(rt; ended.outcome, lower);
+    Ok(())
+}
+
+// There must be one input for each PLP, and OUT must be none of the files that are read.
+#[test]
+fn wrong_words_create_nothing(rt: HostRuntime) -> Result<(), Fail> {
+    let alloc = rt.alloc();
+    let input = packets(alloc, 20, DATA, 0xAB)?;
+    let wrong: [&[&str]; 4] = [
+        &["gateway", "c", "o"],
+        &["gateway", "c", "o", "0", "0"],
+        &["gateway", "c", "c", "0"],
+        &["gateway", "c", "0", "0"],
+    ];
+    for words in wrong {
+        let ended = ends(alloc, words, SMALL, &[&input], 1 << 20)?;
+        assert_eq!(rt; ended.outcome, Outcome::Usage);
+        assert_said(&rt, &ended, "refused: usage\n");
+        assert!(rt; ended.out.is_none());
+    }
+    Ok(())
+}
+
+// An input that is not there is found before OUT is created.
+#[test]
+fn an_absent_input_creates_nothing(rt: HostRuntime) -> Result<(), Fail> {
+    let words = ["gateway", "c", "o", "0"];
+    let ended = ends(rt.alloc(), &words, SMALL, &[], 1 << 20)?;
+    assert_eq!(rt; ended.outcome, Outcome::ReadFault);
+    assert_said(&rt, &ended, "fault: read\n");
+    assert!(rt; ended.out.is_none());
+    Ok(())
+}
