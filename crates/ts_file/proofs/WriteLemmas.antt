@@ -1,6 +1,6 @@
 -- Writes, one behind another.
 use Rattle.std.proofs.Common.{◌≡◌, ◌≢◌, ℕ, ◌+◌, Bool, true, false, cond, List, [], ◌++◌, take, drop, slice_index_or, Option, Some, None, refl, ap, sym, subst, ◌∙◌, append_assoc, append-nil, take-add}
-use Rattle.std.specs.Prelude.{IfSome, option_map}
+use Rattle.std.specs.Prelude.{IfSome, IsSome, option_map}
 use Rattle.std.specs.Ordering.{nat_cmp, eq_by_cmp}
 use Rattle.std.specs.Cmp.Lexicographic.{slice_cmp, nat_list_cmp_total}
 use Rattle.std.specs.FinMap.{get, insert, get-insert}
@@ -40,6 +40,20 @@ only_then out (Some h) b c p q =
     let named : out_name k out ≡ out_name h out = ap (λ (outs : List (List ℕ)). slice_index_or outs out []) p.3 in
     (l.0, l.1, l.2 ∙ p.2, l.3 ∙ p.3, λ other apart. l.4 other (λ e. apart (e ∙ named)) ∙ p.4 other apart)
 
+-- a file that is written is there
+found_there : (b : Bool) (x : List ℕ) (found : Option (List ℕ)) → b ≡ true → IsSome (cond b (Some x) found)
+found_there true x found e = refl
+found_there false x found e = absurd (let z : false ≡ true = e in cc)
+
+there_written : (out : ℕ) (bytes : List ℕ) (old new : Option Held) → new ≡ option_map (with_bytes out bytes) old → IfSome new (λ h. IsSome (get h.files (out_name h out)))
+there_written out bytes None new e = subst (λ (o : Option Held). IfSome o (λ h. IsSome (get h.files (out_name h out)))) (sym e) tt
+there_written out bytes (Some h) new e =
+    let all : List ℕ = bytes_of h.files (out_name h out) ++ bytes in
+    let found : IsSome (get (insert h.files (out_name h out) all) (out_name h out)) =
+    subst (λ (o : Option (List ℕ)). IsSome o) (sym (get-insert nat_list_cmp_total h.files (out_name h out) all (out_name h out)))
+    (found_there (eq_by_cmp (slice_cmp nat_cmp) (out_name h out) (out_name h out)) all (get h.files (out_name h out)) (is_eq-slice_cmp (out_name h out) (out_name h out) ∙ (bytes_eq-Decides (out_name h out) (out_name h out)).1 refl)) in
+    subst (λ (o : Option Held). IfSome o (λ h. IsSome (get h.files (out_name h out)))) (sym e) found
+
 behind_then : (a b c : Option (List ℕ)) (x y : List ℕ) → b ≡ option_map (λ w. w ++ x) a → c ≡ option_map (λ w. w ++ y) b → c ≡ option_map (λ w. w ++ (x ++ y)) a
 behind_then None b c x y p q = rw p at q
 behind_then (Some w) b c x y p q = (rw p at q) ∙ ap Some (append_assoc w x y)
@@ -64,6 +78,7 @@ appends_none s out = record {
   opened = refl;
   created = refl;
   behind = behind_none (written_of s out);
+  there = λ was. was;
   others = λ handle apart. refl;
 }
 
@@ -74,6 +89,7 @@ appends_written old new out bytes w = record {
   opened = w.opened;
   created = w.created;
   behind = w.behind;
+  there = λ _. there_written out bytes old.held new.held w.held;
   others = w.others;
 }
 
@@ -84,6 +100,7 @@ appends_then a b c out x y p q = record {
   opened = q.opened ∙ p.opened;
   created = q.created ∙ p.created;
   behind = behind_then (written_of a out) (written_of b out) (written_of c out) x y p.behind q.behind;
+  there = λ was. q.there (p.there was);
   others = λ handle apart. q.others handle (apart_then out handle a.held b.held p.held apart) ∙ p.others handle apart;
 }
 
@@ -100,6 +117,7 @@ appends_kept a b c out x p k =
       opened = k.opened ∙ p.opened;
       created = k.created ∙ p.created;
       behind = written ∙ p.behind;
+      there = λ was. subst (λ (o : Option Held). IfSome o (λ h. IsSome (get h.files (out_name h out)))) (sym k.held) (p.there was);
       others = λ handle apart. left_kept b c handle k ∙ p.others handle apart;
     }
 
