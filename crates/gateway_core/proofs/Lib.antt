@@ -6,3 +6,4 @@ pub mod CarriedLemmas
 pub mod FlowLemmas
 pub mod HoldsLemmas
 pub mod LawLemmas
+pub mod FewLemmas

@@ -54,6 +54,7 @@ impl Flow {
         requires open { self.old.finished ≡ false }
         ensures flows { (all : List (ℕ × Body)) (given : ℕ) → Carries self.old.outlet.piper (between self.old.outlet.bytes self.old.outlet.at self.old.outlet.len) self.old.outlet.number plan.now frame.old.number (left plan.now signalling.now frame.old) all given
             → Flows self.new plan.now frame.new.number (left plan.now signalling.now frame.new) all given }
+        ensures bound { bytes_bound (waiting_of self.new.outlet.piper) self.new.outlet.at self.new.outlet.len (left plan.now signalling.now frame.new) ≤ bytes_bound (waiting_of self.old.outlet.piper) self.old.outlet.at self.old.outlet.len (left plan.now signalling.now frame.old) }
         ensures finished { self.new.finished ≡ self.old.finished }
         ensures blocks { frame.new.blocks.items ≡ frame.old.blocks.items }
     {

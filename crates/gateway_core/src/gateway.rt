@@ -129,7 +129,9 @@ impl<'p> Gateway<'p> {
         ensures plps { plps_of self.new ≡ plps_of self.old }
         ensures frame { OnOk result (frame_of self.new ≡ frame_of self.old + 1) }
         ensures finished { has_finished self.new ≡ has_finished self.old }
+        ensures more { OnOk result (bytes_left self.new ≤ bytes_left self.old + 2 ^ 32) }
     {
+        let _ = self.plan.config();
         let blocks = cut(self.alloc, self.plan, &mut self.inputs, self.frames)?;
         let dynamic = dynamic_bits(self.alloc, self.plan, self.frames, &blocks)?;
         self.frame = Frame {
@@ -157,6 +159,7 @@ impl<'p> Gateway<'p> {
         ensures stays { result ≡ false → (has_unit self.new ≡ false) × (out.new ≡ out.old) }
         // So a loop that takes units ends.
         ensures less { result ≡ true → bytes_left self.new < bytes_left self.old }
+        ensures kept { result ≡ false → bytes_left self.new ≡ bytes_left self.old }
         // Before the end a unit of the frames begun is given as soon as it is complete, and no other.
         ensures complete { (c : Config) (events : List Event) → GatewayStandsFor self.old c events → finished events ≡ false → (inputs : ℕ → List (List ℕ)) → AllContinue c events inputs
             → (result ≡ true) ↔ (given events < length (complete_units c.pid (front_packets c inputs (begun events)))) }

@@ -1,16 +1,17 @@
-use Rattle.std.proofs.Common.{◌∙◌, ◌+◌, ◌++◌, ◌∷◌, [], List, ℕ, length, map, sym, subst, ap}
+use Rattle.std.proofs.Common.{◌∙◌, ◌+◌, arith, ◌++◌, ◌∷◌, [], List, ℕ, length, map, sym, subst, ap}
 use Rattle.std.specs.Vec.{with_items}
 use Rattle.std.proofs.lemmas.List.{with_items_is}
 use Rattle.plp_config.specs.declared.config.Config.{Config}
 use Rattle.gateway_core.specs.BlocksLeft.{blocks_left}
 use Rattle.gateway_core.specs.Events.{Begun}
-use Rattle.gateway_core.specs.InputsStandFor.{AllFed}
+use Rattle.gateway_core.specs.InputsStandFor.{AllFed, AreFor}
 use Rattle.gateway_core.specs.Left.{left, from_step}
 use Rattle.gateway_core.specs.Packets.{l1_body}
 use Rattle.gateway_core.specs.Signalling.{dyn_part}
 use Rattle.gateway_core.specs.StandsFor.{GatewayStandsFor, Holds}
 use Rattle.gateway_core.specs.declared.input.Input.{Input}
 use Rattle.gateway_core.specs.declared.step.Step.{Step}
+use Rattle.gateway_core.proofs.FewLemmas.{few_left}
 use Rattle.gateway_core.proofs.FlowLemmas.{dry_when}
 use Rattle.gateway_core.proofs.HoldsLemmas.{holds_begin}
 use Rattle.gateway_core.proofs.gateway.Gateway.begin_frame.Goals as goal
@@ -32,3 +33,11 @@ returns-clause-stands c = λ config events h.
     (ap (λ (s : Step). from_step p g.frames s (l1_body p g.frames g.signalling.pre g.signalling.conf c.in_ok-dynamic.dynamic) (blocks_left p g.frames c.in_ok-blocks.blocks.items 0 0)) c.first_step.ensures)
     c.begin.ensures.flows was in
     (h.0, subst (λ (k : Config). Holds (with_items g.inputs c.cut.new.inputs).items g.signalling (g.frames + 1) c.begin.new.self c.begin.new.frame.number (left p g.signalling c.begin.new.frame) k (events ++ Begun ∷ [])) h.0 new)
+
+pub returns-clause-more : goal.returns-clause-more
+returns-clause-more c =
+    let g = c.args.self.now in
+    let few = few_left g.plan.now g.frames c.first_step.result (l1_body g.plan.now g.frames g.signalling.pre g.signalling.conf c.in_ok-dynamic.dynamic) c.in_ok-blocks.blocks.items c.config.ensures.plan
+    (omega (arith, c.in_ok-blocks.ensures.len))
+    (c.in_ok-blocks.ensures.few (subst (λ (l : List Input). AreFor l g.plan.now) (sym c.deref_mut.ensures.value) g.most)) in
+    omega (arith, few, c.begin.ensures.bound)

@@ -1,10 +1,12 @@
-use Rattle.std.proofs.Common.{◌≡◌, ◌∙◌, ◌+◌, ◌++◌, ◌<◌, ℕ, List, [], false, length, refl, sym, subst, append-nil}
+use Rattle.std.proofs.Common.{◌≡◌, ◌∙◌, ◌+◌, ◌++◌, ◌<◌, ℕ, List, [], false, length, refl, ap, sym, subst, append-nil}
 use Rattle.std.proofs.lemmas.Option.{slice_get_within}
 use Rattle.t2mi_stream.specs.Pipe.{pipe}
 use Rattle.gateway_core.specs.Events.{begun, given}
 use Rattle.gateway_core.specs.Packets.{front_packets}
 use Rattle.plp_config.specs.declared.config.Config.{Config}
 use Rattle.t2mi_packet.specs.declared.packet.Body.{Body}
+use Rattle.t2mi_stream.specs.PiperStandsFor.{waiting_of}
+use Rattle.gateway_core.specs.Carried.{bytes_bound}
 use Rattle.gateway_core.specs.Flowing.{Flows, gives_unit}
 use Rattle.gateway_core.specs.Left.{left}
 use Rattle.gateway_core.specs.StandsFor.{GatewayStandsFor, Holds}
@@ -68,3 +70,9 @@ returns-clause-rest c = λ config events h fin inputs cont.
     let at = holds_unit c.args.self.now.plan.now config _ _ _ c.args.self.now.flow _ _ events inputs [] c.next.new.out h.0 (c.next.ensures.unit on) h.1 cont (λ _. refl) in
     subst (λ (l : List (List ℕ)). given events < length (pipe config.pid l)) (append-nil front) (slice_get_within (pipe config.pid (front ++ [])) (given events) _ at))
     (λ off. sym (holds_none c.args.self.now.plan.now config _ _ _ c.args.self.now.flow _ _ events inputs h.0 (c.next.ensures.none off) h.1 fin cont))
+
+pub returns-clause-kept : goal.returns-clause-kept
+returns-clause-kept c = λ off.
+    let same = c.next.ensures.stays off in
+    ap (λ (f : Flow). bytes_bound (waiting_of f.outlet.piper) f.outlet.at f.outlet.len (left c.args.self.now.plan.now c.args.self.now.signalling c.next.new.frame)) same.0
+    ∙ ap (λ (r : Frame). bytes_bound (waiting_of c.args.self.now.flow.outlet.piper) c.args.self.now.flow.outlet.at c.args.self.now.flow.outlet.len (left c.args.self.now.plan.now c.args.self.now.signalling r)) same.1
