@@ -1,13 +1,13 @@
 -- Files decide how a run over them ends.
-use Rattle.std.proofs.Common.{◌≡◌, ◌≢◌, ℕ, zero, suc, ◌+◌, ◌-◌, ◌*◌, ◌/◌, ◌<◌, ◌≤◌, List, length, Result, Ok, Err, refl, ap, sym, subst, ◌∙◌, inl, inr, arith}
+use Rattle.std.proofs.Common.{◌≡◌, ℕ, zero, suc, ◌-◌, ◌*◌, ◌/◌, ◌<◌, ◌≤◌, List, length, Result, Ok, Err, refl, ap, sym, subst, ◌∙◌, inl, inr, arith}
 use Rattle.std.proofs.Math.Nat.{mul-le-mul_right, div-zero, div-mul-le_self}
 use Rattle.std.proofs.lemmas.Nat.{le-div}
-use Rattle.std.proofs.lemmas.Bool.{cases_eq, cases_lt}
+use Rattle.std.proofs.lemmas.Bool.{cases_lt}
 use Rattle.plp_config.specs.SlotTime.{slots_by, num, den}
 use Rattle.plp_config.specs.declared.config.Config.{Config}
-use Rattle.ts_file.specs.TsFile.{packets_in, HasBad}
-use Rattle.gateway_run.specs.GatewayRun.{frames_of, units_of, most_frames, WantsBad, MeetsBad, MeetsNone}
-use Rattle.gateway_run.specs.Laws.{MustRun, OneRun}
+use Rattle.ts_file.specs.TsFile.{packets_in}
+use Rattle.gateway_run.specs.GatewayRun.{most_frames, WantsBad, MeetsBad, MeetsNone}
+use Rattle.gateway_run.specs.Laws.{OneRun}
 use Rattle.gateway_run.specs.declared.stop.Ran.{Ran}
 use Rattle.gateway_run.specs.declared.stop.RunStop.{RunStop}
 use Rattle.gateway_run.specs.declared.stop.RunStop.TheVariants.{Bad, TooLong, ReadFault, WriteFault, OutOfMemory}

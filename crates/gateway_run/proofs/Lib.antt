@@ -1,2 +1,11 @@
+pub mod FileLemmas
+pub mod DeskLemmas
+pub mod EventLemmas
+pub mod FrameLemmas
+pub mod RunLemmas
+pub mod StopLemmas
 pub mod LawLemmas
-pub mod StubLemmas
+pub mod StartLemmas
+pub mod ReadLemmas
+pub mod WriteLemmas
+pub mod ReadyLemmas

@@ -5,7 +5,7 @@ use Rattle.ts_file.specs.TsFile.{HasBad}
 use Rattle.gateway_run.specs.GatewayRun.{frames_of, units_of, most_frames, MeetsBad, MeetsNone}
 use Rattle.gateway_run.specs.declared.stop.Ran.{Ran}
 use Rattle.gateway_run.specs.declared.stop.RunStop.{RunStop}
-use Rattle.gateway_run.specs.declared.stop.RunStop.TheVariants.{Bad, TooLong, ReadFault, WriteFault, OutOfMemory}
+use Rattle.gateway_run.specs.declared.stop.RunStop.TheVariants.{Bad, TooLong}
 
 -- How a run over files must end of which none is too long, where nothing outside fails.
 abbrev pub MustRun : Config → (ℕ → List ℕ) → Result Ran RunStop → Type 0

@@ -2,8 +2,11 @@
 #![tactic(auto)]
 
 mod laws;
+mod opening;
+mod reading;
 mod running;
 mod stop;
+mod writing;
 
 pub use laws::one_run;
 pub use running::run;

@@ -1,4 +1,5 @@
 // How a run ends.
+use bit_slice::OutOfMemory;
 use thiserror::Error;
 
 /// A run to its end.
@@ -28,4 +29,15 @@ pub enum RunStop {
     /// No memory was found.
     #[error("out of memory")]
     OutOfMemory,
+}
+
+impl From<OutOfMemory> for RunStop {
+    ghost use Rattle.std.specs.Prelude.{◌≡◌};
+    ghost use Rattle.gateway_run.specs.declared.stop.RunStop.TheVariants.{OutOfMemory};
+
+    ghost from_gives = { λ _ e. e ≡ OutOfMemory };
+
+    fn from(_error: OutOfMemory) -> RunStop {
+        RunStop::OutOfMemory
+    }
 }
