@@ -4,6 +4,8 @@
 mod input;
 mod page;
 mod reader;
+#[cfg(test)]
+mod tests;
 mod writer;
 
 pub use input::{BUFFER, Input, LARGEST};
