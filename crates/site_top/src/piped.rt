@@ -15,7 +15,7 @@ use crate::packet_line::packet_line;
 use crate::packets::make_way;
 use crate::page::{PAGE, Page};
 use ports::Desk;
-use t2mi_packet::{packet_length, spell_law, view};
+use t2mi_packet::view_known;
 use t2mi_stream::{Unpiper, accepted_front, events_push, few_packets, packet_places};
 
 // Feeds the unpiper with bytes that wait, up to the end of a packet: how many.
@@ -50,12 +50,7 @@ fn place_line(at: u64, bytes: &[u8]) -> Line
     requires { spell bytes.now ≡ Some (length bytes.now) }
     ensures { result ≡ view_line (codes "place=") at (view_of bytes.now) }
 {
-    spell_law();
-    packet_length();
-    match view(bytes) {
-        Ok((packet, _)) => packet_line(b"place=", at, &packet),
-        Err(_) => Line::new(),
-    }
+    packet_line(b"place=", at, &view_known(bytes))
 }
 
 // Puts the line of the packet that waits onto the page, and gives the packet up.

@@ -21,5 +21,5 @@ pub use laws::{
 };
 pub use packet::{Body, Packet, Stamp};
 pub use packet_view::PacketView;
-pub use reading::{LARGEST, needed, read, read_known, view};
+pub use reading::{LARGEST, needed, read, read_known, view, view_known};
 pub use writing::write;
