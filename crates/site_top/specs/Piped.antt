@@ -54,7 +54,7 @@ pub record Unpipes (unpiper : Unpiper) (pid : ℕ) (bytes : List ℕ) (count : �
   pub number : released events ≡ count
   pub stands : UnpiperStandsFor unpiper pid events
 
--- The unpiper's bytes are a front of what it may take, so that no place runs over.
+-- The unpiper took so few bytes that the place of each packet in the file fits.
 pub record IsWithin (unpiper : Unpiper) (base : ℕ) : Type 0 where
   pub pid : ℕ
   pub bytes : List ℕ
