@@ -34,9 +34,9 @@ same_frame c files frame later plp other packet next a b =
     elim (cases_lt frame later) [
       | inl sooner ↦ absurd (not_sooner c files frame later plp other packet next sooner a b)
       | inr le ↦ elim (cases_lt later frame) [
-          | inl sooner ↦ absurd (not_sooner c files later frame other plp next packet sooner b a)
-          | inr ge ↦ omega (arith, le, ge)
-        ]
+        | inl sooner ↦ absurd (not_sooner c files later frame other plp next packet sooner b a)
+        | inr ge ↦ omega (arith, le, ge)
+      ]
     ]
 
 same_plp : (c : Config) (files : ℕ → List ℕ) (frame plp other packet next : ℕ) → MeetsBad c files frame plp packet → MeetsBad c files frame other next → plp ≡ other
@@ -44,9 +44,9 @@ same_plp c files frame plp other packet next a b =
     elim (cases_lt plp other) [
       | inl less ↦ absurd (b.below plp less a.wants)
       | inr le ↦ elim (cases_lt other plp) [
-          | inl less ↦ absurd (a.below other less b.wants)
-          | inr ge ↦ omega (arith, le, ge)
-        ]
+        | inl less ↦ absurd (a.below other less b.wants)
+        | inr ge ↦ omega (arith, le, ge)
+      ]
     ]
 
 same_bad : (plp other packet next : ℕ) → plp ≡ other → packet ≡ next → (let r : Result Ran RunStop = Err (Bad plp packet) in r) ≡ Err (Bad other next)

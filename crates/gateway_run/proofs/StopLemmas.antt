@@ -33,9 +33,9 @@ use Rattle.gateway_run.proofs.RunLemmas.{same_counts, read_counts, place_at, sho
 pub drained : UnitsLaw → LastIsAll → (b : Start) (old new : State) (readings : List Reading) (w v : Writing) (g next : Gateway) (count : ℕ)
     → ((c : Config) (events : List Event) → GatewayStandsFor g c events → GatewayStandsFor next c events)
     → ((c : Config) (events : List Event) → GatewayStandsFor g c events → finished events ≡ false → (inputs : ℕ → List (List ℕ)) → AllContinue c events inputs
-      → given events ≡ length (complete_units c.pid (front_packets c inputs (begun events))))
+    → given events ≡ length (complete_units c.pid (front_packets c inputs (begun events))))
     → ((c : Config) (events : List Event) → GatewayStandsFor g c events → finished events ≡ true → (inputs : ℕ → List (List ℕ)) → AllContinue c events inputs
-      → length (pipe c.pid (front_packets c inputs (begun events))) ≡ given events)
+    → length (pipe c.pid (front_packets c inputs (begun events))) ≡ given events)
     → plps_of next ≡ plps_of g → Appends old new w.out w.waiting → v.out ≡ w.out → v.waiting ≡ [] → SameCounts old new
     → Runs b old readings w g count → Waits b new readings v next count
 drained units_law last_law b old new readings w v g next count still caught none plps a out nothing calm was = record {
@@ -178,12 +178,15 @@ stops_too_long b old new readings plp is w g count lt r none many calm was =
       places = places_of (slice_set readings plp is);
       works = read_works b old new readings plp is w g count lt r was;
       counts = same_counts b.desk old new was.counts (read_counts old new (reading_at readings plp) is r calm);
-      cause = inl (refl, (
-        plp,
-        (omega (arith, lt, all)),
-        (place_at (slice_set readings plp is) plp (let n = length-set readings plp is in omega (arith, lt, n)) ∙ ap given_of (reading_same readings plp is lt) ∙ many),
-        some_is b.desk.held (λ h. most_bytes ≤ length (file_at h b.ins plp)) (λ h held. is_long b h old new readings plp is w g count was held lt none many),
-      ));
+      cause = inl (
+        refl,
+        (
+          plp,
+          (omega (arith, lt, all)),
+          (place_at (slice_set readings plp is) plp (let n = length-set readings plp is in omega (arith, lt, n)) ∙ ap given_of (reading_same readings plp is lt) ∙ many),
+          some_is b.desk.held (λ h. most_bytes ≤ length (file_at h b.ins plp)) (λ h held. is_long b h old new readings plp is w g count was held lt none many),
+        ),
+      );
     }
 
 rose_on : (a b c : ℕ) → b ≡ a → Rose b c → Rose a c
@@ -224,11 +227,15 @@ too_many_frames law b now readings w g count none many not_last r =
       places = places_of readings;
       works = begins_units b now readings w r.units r.goes (units_so_far b now readings w g count r);
       counts = r.counts;
-      cause = inr (refl, r.short, some_is b.desk.held (λ h. MeetsNone b.c (file_at h b.ins) most_frames × (most_frames < frames_of b.c (file_at h b.ins))) (λ h held.
-          let rel = r.relates h held in (
-            subst (λ (k : ℕ). MeetsNone b.c (file_at h b.ins) k) n (meets_none b h now readings r.events r.units r.from rel there),
-            subst (λ (k : ℕ). k < frames_of b.c (file_at h b.ins)) n (one_more_frame law b h now readings r.events r.units r.from rel there (not_last b.c r.events r.stands)),
-          )));
+      cause = inr (
+        refl,
+        r.short,
+        some_is b.desk.held (λ h. MeetsNone b.c (file_at h b.ins) most_frames × (most_frames < frames_of b.c (file_at h b.ins))) (λ h held.
+            let rel = r.relates h held in (
+              subst (λ (k : ℕ). MeetsNone b.c (file_at h b.ins) k) n (meets_none b h now readings r.events r.units r.from rel there),
+              subst (λ (k : ℕ). k < frames_of b.c (file_at h b.ins)) n (one_more_frame law b h now readings r.events r.units r.from rel there (not_last b.c r.events r.stands)),
+            )),
+      );
     }
 
 -- The output could not be written.
@@ -246,12 +253,14 @@ pub writing_refused : (b : Start) (old new : State) (readings : List Reading) (w
     → Stops b.c b.desk new b.out b.ins stop.WriteFault
 writing_refused b old new readings w g count a rose later reads lines was =
     let v : Writing = record { out = w.out; waiting = a.more } in
-    let goes : Goes b new readings v (joined was.units ++ []) = write_on b old new readings w v (joined was.units) [] a.front was.goes a.appends refl (append-nil w.waiting ∙ a.parts) in
-    (writes_fail b old new was.counts rose later reads lines, inr (record {
-      places = places_of readings;
-      works = begins_units b new readings v was.units (subst (λ (bytes : List ℕ). Goes b new readings v bytes) (append-nil (joined was.units)) goes) (units_so_far b old readings w g count was);
-      short = was.short;
-    }))
+    let goes : Goes b new readings v (joined was.units ++ []) = write_on b old new readings w v (joined was.units) [] a.front was.goes a.appends refl (append-nil w.waiting ∙ a.parts) in (
+      writes_fail b old new was.counts rose later reads lines,
+      inr (record {
+        places = places_of readings;
+        works = begins_units b new readings v was.units (subst (λ (bytes : List ℕ). Goes b new readings v bytes) (append-nil (joined was.units)) goes) (units_so_far b old readings w g count was);
+        short = was.short;
+      }),
+    )
 
 nothing_waits : (o : Option (List ℕ)) (waiting left : List ℕ) → option_map (λ l. waiting ++ l) o ≡ Some left → left ≡ [] → length waiting ≡ 0
 nothing_waits o waiting left e z = let n = waits_less o waiting left e in let m = ap length z in omega (arith, n, m)

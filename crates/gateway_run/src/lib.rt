@@ -6,6 +6,8 @@ mod opening;
 mod reading;
 mod running;
 mod stop;
+#[cfg(test)]
+mod tests;
 mod writing;
 
 pub use laws::one_run;

@@ -21,11 +21,7 @@ use ts_file::{PacketReader, UnitWriter};
 const MOST_FRAMES: u64 = 1 << 31;
 
 // Creates the output for a writer.
-fn create_output<D: Desk>(
-    writer: &mut UnitWriter,
-    out: &str,
-    desk: &mut D,
-) -> Result<(), RunStop>
+fn create_output<D: Desk>(writer: &mut UnitWriter, out: &str, desk: &mut D) -> Result<(), RunStop>
     ensures ok { OnOk result (IsCreated (D.state desk.old) (D.state desk.new) out.now writer.new) }
     ensures err { IfErr result (λ why. (c : Config) (start : State) (ins : List (List ℕ)) (readings : List Reading) → AreOpened start (D.state desk.old) ins readings → Stops c start (D.state desk.new) out.now ins why) }
 {
