@@ -109,7 +109,7 @@ fn say(rt: &impl Eprint, words: &[Word], file: &str, outcome: Outcome) -> io::Re
             "{file}: it could not be opened or read; see that it is there, is a file and may be read"
         ),
         Outcome::WriteFault => eprintln!(rt;
-            "{written} took no more; see that there is room, and that it may be written"
+            "{written} took no more; see that there is room, that it may be written, and that its reader is still there"
         ),
         Outcome::OutOfMemory => eprintln!(rt; "out of memory; the command was not done"),
     }

@@ -15,7 +15,7 @@ use Rattle.site_top.specs.declared.outcome.Outcome.TheVariants.{Done, Usage, Con
 use Rattle.site_top.specs.ConfigFile.{ReadsText, FailsToRead, IsCause, Gives, GivesNone}
 use Rattle.site_top.specs.Files.{Opened}
 use Rattle.site_top.specs.Progress.{Only}
-use Rattle.site_top.specs.Reading.{ReadsOn, IsAtEnd}
+use Rattle.ts_file.specs.Ahead.{ReadsAhead, IsAtEnd}
 use Rattle.site_top.specs.TextReading.{RefusesText, IsFront}
 use Rattle.site_top.proofs.EndLemmas.{told, moved}
 use Rattle.site_top.proofs.ProgressLemmas.{if_some, begun, read_only}
@@ -32,7 +32,7 @@ front_length file text f few =
     ⊎_elim (λ (none : f.left ≡ []). omega (arith, size, ap length none)) (λ (full : length text ≡ 65537). omega (arith, size, full)) f.end
 
 -- the file that was opened has moved alone
-moved_by : (old mid new : State) (name : List ℕ) (handle : ℕ) (text : List ℕ) → Opens old mid name handle → ReadsOn mid new handle [] text → Opened old new name (length text)
+moved_by : (old mid new : State) (name : List ℕ) (handle : ℕ) (text : List ℕ) → Opens old mid name handle → ReadsAhead mid new handle [] text → Opened old new name (length text)
 moved_by old mid new name handle text o r =
     let came : handle < length mid.opened = omega (arith, ap length o.opened, length-append old.opened (0 ∷ []), o.number) in
     let fresh : slice_index mid.opened handle ≡ 0 = rw (o.opened, o.number) (get_or-append_seam old.opened 0 [] 0) in
@@ -41,7 +41,7 @@ moved_by old mid new name handle text o r =
     moved old mid new name handle (length text) o (subst (Only mid new handle) sum only)
 
 -- a text was read to its end, or as far as it is read
-pub text_read : (old mid new : State) (name : List ℕ) (handle : ℕ) (text : List ℕ) → Opens old mid name handle → SameCounts old mid → ReadsOn mid new handle [] text → new.read_faults ≡ mid.read_faults →
+pub text_read : (old mid new : State) (name : List ℕ) (handle : ℕ) (text : List ℕ) → Opens old mid name handle → SameCounts old mid → ReadsAhead mid new handle [] text → new.read_faults ≡ mid.read_faults →
     length text ≤ 65537 → IsAtEnd new handle ⊎ (length text ≡ 65537) → ReadsText old new name × IfSome old.held (λ held. IsFront (bytes_of held.files name) text)
 text_read old mid new name handle text o counts r calm few end =
     let front = told old.held name (left_of mid handle) (λ file. IsFront file text) o.left o.present (front_of (left_of mid handle) (left_of new handle) text r.next end) in (
@@ -56,7 +56,7 @@ text_read old mid new name handle text o counts r calm few end =
       front,
     )
 
-pub text_not_read : (old mid new : State) (name : List ℕ) (handle : ℕ) (text : List ℕ) → Opens old mid name handle → SameCounts old mid → ReadsOn mid new handle [] text → length text < 65537 →
+pub text_not_read : (old mid new : State) (name : List ℕ) (handle : ℕ) (text : List ℕ) → Opens old mid name handle → SameCounts old mid → ReadsAhead mid new handle [] text → length text < 65537 →
     Rose mid.read_faults new.read_faults → FailsToRead old new name
 text_not_read old mid new name handle text o counts r few rose =
     let from : old.read_faults ≤ mid.read_faults = omega (arith, counts.read_faults) in
@@ -123,14 +123,14 @@ pub record ReadsFront (old new : State) (name bytes : List ℕ) : Type 0 where
   pub front : IfSome old.held (λ held. IsFront (bytes_of held.files name) bytes)
 
 pub front_read : (old mid new : State) (name : List ℕ) (handle : ℕ) (waiting text bytes : List ℕ) → waiting ≡ [] → bytes ≡ text → Opens old mid name handle → SameCounts old mid →
-    ReadsOn mid new handle waiting text → new.read_faults ≡ mid.read_faults → length text ≤ 65537 → IsAtEnd new handle ⊎ (length text ≡ 65537) → ReadsFront old new name bytes
+    ReadsAhead mid new handle waiting text → new.read_faults ≡ mid.read_faults → length text ≤ 65537 → IsAtEnd new handle ⊎ (length text ≡ 65537) → ReadsFront old new name bytes
 front_read old mid new name handle waiting text bytes none same o counts r calm few end =
-    let x = text_read old mid new name handle text o counts (subst (λ (w : List ℕ). ReadsOn mid new handle w text) none r) calm few end in
+    let x = text_read old mid new name handle text o counts (subst (λ (w : List ℕ). ReadsAhead mid new handle w text) none r) calm few end in
     record { reads = x.0; front = subst (λ (t : List ℕ). IfSome old.held (λ held. IsFront (bytes_of held.files name) t)) (sym same) x.1 }
 
-pub front_not_read : (old mid new : State) (name : List ℕ) (handle : ℕ) (waiting text : List ℕ) → waiting ≡ [] → Opens old mid name handle → SameCounts old mid → ReadsOn mid new handle waiting text →
+pub front_not_read : (old mid new : State) (name : List ℕ) (handle : ℕ) (waiting text : List ℕ) → waiting ≡ [] → Opens old mid name handle → SameCounts old mid → ReadsAhead mid new handle waiting text →
     length text < 65537 → Rose mid.read_faults new.read_faults → FailsToRead old new name
-front_not_read old mid new name handle waiting text none o counts r few rose = text_not_read old mid new name handle text o counts (subst (λ (w : List ℕ). ReadsOn mid new handle w text) none r) few rose
+front_not_read old mid new name handle waiting text none o counts r few rose = text_not_read old mid new name handle text o counts (subst (λ (w : List ℕ). ReadsAhead mid new handle w text) none r) few rose
 
 pub config_ok : (old new : State) (name bytes : List ℕ) (result : Result Config Outcome) → ReadsFront old new name bytes → IfOk result (λ c. Spells bytes c × AllRules c) → IfOk result (Gives old new name)
 config_ok old new name bytes result x ok = IfOk-weaker result (λ c. Spells bytes c × AllRules c) (Gives old new name) (λ c s. gives old new name bytes c x.reads x.front s) ok

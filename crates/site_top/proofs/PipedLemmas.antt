@@ -17,7 +17,7 @@ use Rattle.t2mi_stream.specs.UnpiperStandsFor.{UnpiperStandsFor, next_packet, is
 use Rattle.t2mi_stream.specs.declared.unpiper.Unpiper.{Unpiper}
 use Rattle.ts_packet.specs.Told.{fields_in}
 use Rattle.site_top.specs.Progress.{Only, GivesWay}
-use Rattle.site_top.specs.Reading.{ReadsOn}
+use Rattle.ts_file.specs.Ahead.{ReadsAhead}
 use Rattle.site_top.specs.SaidLines.{view_line}
 use Rattle.site_top.specs.ShowT2mi.{pid_of, place_line, place_lines}
 use Rattle.site_top.specs.Piped.{rest_of, Taken, Seeks, Unpipes, IsAt, PutsLine, Lines, packets_from, Pipes, steps_left, HasShown}
@@ -87,7 +87,7 @@ pub all_given : (unpiper : Unpiper) (pid : ℕ) (bytes : List ℕ) (number : ℕ
 all_given unpiper pid bytes number f u = ap (λ (l : List ℕ). length (accepted_of pid l)) (sym u.fed_are) ∙ f pid u.events u.stands ∙ u.number
 
 -- more of the file was read
-pub taken_read : (start old new : State) (handle at : ℕ) (from front waiting more : List ℕ) → handle < length start.opened → Taken start old handle at from front waiting → ReadsOn old new handle waiting more →
+pub taken_read : (start old new : State) (handle at : ℕ) (from front waiting more : List ℕ) → handle < length start.opened → Taken start old handle at from front waiting → ReadsAhead old new handle waiting more →
     new.read_faults ≡ old.read_faults → Taken start new handle at from front more
 taken_read start old new handle at from front waiting more came t r calm = record {
   only = read_only start old new handle (at + length front) waiting more came t.only r;
@@ -195,7 +195,7 @@ seeks_begun s handle waiting first empty =
       quiet = refl;
     }
 
-pub seeks_read : (start old new : State) (handle at : ℕ) (waiting more : List ℕ) → handle < length start.opened → Seeks start old handle at waiting → ReadsOn old new handle waiting more →
+pub seeks_read : (start old new : State) (handle at : ℕ) (waiting more : List ℕ) → handle < length start.opened → Seeks start old handle at waiting → ReadsAhead old new handle waiting more →
     new.read_faults ≡ old.read_faults → Seeks start new handle at more
 seeks_read start old new handle at waiting more came s r calm = record {
   front = s.front;
@@ -255,7 +255,7 @@ pipes_begun s handle pid base from page unpiper place empty u =
 
 -- more of the file was read
 pub pipes_read : (start old new : State) (handle pid base at count : ℕ) (from waiting more page : List ℕ) (unpiper : Unpiper) → handle < length start.opened →
-    Pipes start old handle pid base at count from unpiper waiting page → ReadsOn old new handle waiting more → new.read_faults ≡ old.read_faults → Pipes start new handle pid base at count from unpiper more page
+    Pipes start old handle pid base at count from unpiper waiting page → ReadsAhead old new handle waiting more → new.read_faults ≡ old.read_faults → Pipes start new handle pid base at count from unpiper more page
 pipes_read start old new handle pid base at count from waiting more page unpiper came p r calm = record {
   front = p.front;
   taken = taken_read start old new handle base from p.front waiting more came p.taken r calm;

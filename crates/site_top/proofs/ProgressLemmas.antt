@@ -5,7 +5,7 @@ use Rattle.std.proofs.lemmas.List.{get_or-set_same, set-set, set-get_or, drop-ap
 use Rattle.ports.specs.Desk.{State, Held, SameCounts, Keeps, Says, content, left_of}
 use Rattle.site_top.specs.PacketFile.{Begins, Packs, bytes_in}
 use Rattle.site_top.specs.SaidLines.{line_of, lines_of}
-use Rattle.site_top.specs.Reading.{ReadsOn, IsAtEnd}
+use Rattle.ts_file.specs.Ahead.{ReadsAhead, IsAtEnd}
 use Rattle.site_top.specs.Progress.{Shown, Only, Comes, Takes, GivesWay}
 use Rattle.site_top.proofs.PacketFileLemmas.{begins_inside, packs_more, packs_first, bytes_in-append, lines_of-append, lines_of-push, begins_on}
 
@@ -68,7 +68,7 @@ after_reading left (Some m) waiting more file start old new at count page e said
     let same : waiting ++ x.0 ≡ more ++ m = let some = rw x.1 at e in cc in
     (m, refl, shown_by file start old new at count (more ++ m) page said (subst (λ (rest : List ℕ). Shown file start old at count rest page) same x.2))
 
-pub read_only : (start old new : State) (handle at : ℕ) (waiting more : List ℕ) → handle < length start.opened → Only start old handle (at + length waiting) → ReadsOn old new handle waiting more →
+pub read_only : (start old new : State) (handle at : ℕ) (waiting more : List ℕ) → handle < length start.opened → Only start old handle (at + length waiting) → ReadsAhead old new handle waiting more →
     Only start new handle (at + length more)
 read_only start old new handle at waiting more came o r =
     let place : slice_index old.opened handle ≡ at + length waiting = ap (λ (xs : List ℕ). slice_index xs handle) o.opened ∙ get_or-set_same start.opened handle (at + length waiting) 0 came in
@@ -83,14 +83,14 @@ read_only start old new handle at waiting more came o r =
     }
 
 -- what was shown is so still
-pub filled_shown : (start old new : State) (handle at count : ℕ) (waiting more page : List ℕ) (was : Bool) → Comes start old handle at count waiting page was → ReadsOn old new handle waiting more →
+pub filled_shown : (start old new : State) (handle at count : ℕ) (waiting more page : List ℕ) (was : Bool) → Comes start old handle at count waiting page was → ReadsAhead old new handle waiting more →
     IfSome (left_of start handle) (λ file. (left : List ℕ) × (left_of new handle ≡ Some left) × Shown file start new at count (more ++ left) page)
 filled_shown start old new handle at count waiting more page was c r =
     if_some (left_of start handle) _ _ (λ file x. after_reading (left_of old handle) (left_of new handle) waiting more file start old new at count page r.next r.said x) c.shown
 
 -- more of the file was read
 pub filled : (start old new : State) (handle at count : ℕ) (waiting more page : List ℕ) (was ended : Bool) → handle < length start.opened →
-    Comes start old handle at count waiting page was → ReadsOn old new handle waiting more → new.read_faults ≡ old.read_faults → (IsTrue ended → IsAtEnd new handle) → Comes start new handle at count more page ended
+    Comes start old handle at count waiting page was → ReadsAhead old new handle waiting more → new.read_faults ≡ old.read_faults → (IsTrue ended → IsAtEnd new handle) → Comes start new handle at count more page ended
 filled start old new handle at count waiting more page was ended came c r calm e = record {
   only = read_only start old new handle at waiting more came c.only r;
   calm = record { read_faults = calm ∙ c.calm.read_faults; write_faults = r.write_faults ∙ c.calm.write_faults; line_faults = r.line_faults ∙ c.calm.line_faults };

@@ -8,7 +8,7 @@ use Rattle.t2mi_packet.specs.T2miPacket.{Refuses}
 use Rattle.site_top.specs.declared.outcome.Outcome.{Outcome}
 use Rattle.site_top.specs.declared.outcome.Outcome.TheVariants.{Done, Usage, ConfigRefused, CapacityRefused, InputRefused, TooLong, PacketRefused, ReadFault, WriteFault, OutOfMemory}
 use Rattle.site_top.specs.PacketFile.{IsRefused}
-use Rattle.site_top.specs.Reading.{ReadsOn, IsAtEnd}
+use Rattle.ts_file.specs.Ahead.{ReadsAhead, IsAtEnd}
 use Rattle.site_top.specs.Progress.{Shown, Comes, StopsReading, Takes, TakesNone, Stops}
 use Rattle.site_top.proofs.PacketFileLemmas.{file_len}
 use Rattle.site_top.proofs.ProgressLemmas.{if_some, read_only, filled, filled_shown, taken, shown_lost, said_only}
@@ -22,7 +22,7 @@ gave file left start now at count waiting page s = omega (arith, file_len file (
 
 -- reading on stopped
 pub stopped_reading : (start old new : State) (handle at count : ℕ) (waiting more page : List ℕ) (was : Bool) (outcome : Outcome) → handle < length start.opened →
-    Comes start old handle at count waiting page was → ReadsOn old new handle waiting more → StopsReading old new (at + length more) outcome → Stops start new handle page outcome
+    Comes start old handle at count waiting page was → ReadsAhead old new handle waiting more → StopsReading old new (at + length more) outcome → Stops start new handle page outcome
 stopped_reading start old new handle at count waiting more page was ReadFault came c r s = record {
   given = at + length more;
   only = read_only start old new handle at waiting more came c.only r;
@@ -110,14 +110,14 @@ stopped_saying start old new handle at count waiting page left ended outcome c k
 
 -- the file was read on, and then no packet began what waited
 pub refused_after : FrontRefusal → (start old now : State) (handle at count : ℕ) (waiting more page : List ℕ) (was ended : Bool) (outcome : Outcome) → handle < length start.opened →
-    Comes start old handle at count waiting page was → ReadsOn old now handle waiting more → now.read_faults ≡ old.read_faults → (IsTrue ended → IsAtEnd now handle) →
+    Comes start old handle at count waiting page was → ReadsAhead old now handle waiting more → now.read_faults ≡ old.read_faults → (IsTrue ended → IsAtEnd now handle) →
     TakesNone more at outcome → at + length more < 2 ^ 40 → (8202 ≤ length more) ⊎ (IsTrue ended) → Stops start now handle page outcome
 refused_after law start old now handle at count waiting more page was ended outcome came c r calm e t few full =
     stopped_refused law start now handle at count more page ended outcome (filled start old now handle at count waiting more page was ended came c r calm e) t few full
 
 -- the file was read on and a packet was taken, and then the lines on the page could not be said
 pub unsaid_after : (start old now new : State) (handle at count len : ℕ) (waiting more rest page longer left : List ℕ) (was ended : Bool) (outcome : Outcome) → handle < length start.opened →
-    Comes start old handle at count waiting page was → ReadsOn old now handle waiting more → now.read_faults ≡ old.read_faults → (IsTrue ended → IsAtEnd now handle) → Takes more rest at len page longer →
+    Comes start old handle at count waiting page was → ReadsAhead old now handle waiting more → now.read_faults ≡ old.read_faults → (IsTrue ended → IsAtEnd now handle) → Takes more rest at len page longer →
     Keeps now new → left ≡ [] → outcome ≡ WriteFault → Rose now.write_faults new.write_faults → at + len + length rest < 2 ^ 40 →
     new.read_faults ≡ now.read_faults → now.write_faults ≤ new.write_faults → new.line_faults ≡ now.line_faults → Stops start new handle left outcome
 unsaid_after start old now new handle at count len waiting more rest page longer left was ended outcome came c r calm e t k none is rose few rf wf lf =

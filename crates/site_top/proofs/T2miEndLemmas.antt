@@ -14,7 +14,7 @@ use Rattle.site_top.specs.declared.outcome.Outcome.{Outcome}
 use Rattle.site_top.specs.declared.outcome.Outcome.TheVariants.{Done, TooLong, ReadFault, WriteFault, OutOfMemory}
 use Rattle.site_top.specs.Files.{Opened, Grew}
 use Rattle.site_top.specs.Progress.{Only, StopsReading, SaysRest}
-use Rattle.site_top.specs.Reading.{ReadsOn, IsAtEnd}
+use Rattle.ts_file.specs.Ahead.{ReadsAhead, IsAtEnd}
 use Rattle.site_top.specs.SaidLines.{count_line}
 use Rattle.site_top.specs.ShowPackets.{Counts}
 use Rattle.site_top.specs.ShowT2mi.{pid_of, packets_in, place_lines, AreFirstLines, AreLines, SaysLines, ReadsUnits, ShowsT2mi}
@@ -71,13 +71,13 @@ shown_by law start now handle pid base count front waiting page o e lines =
       lines = lines;
     })
 
-file_read : (old new : State) (handle : ℕ) (front waiting more : List ℕ) (o : Option (List ℕ)) → ReadsOn old new handle waiting more → rest_of old handle (front ++ waiting) ≡ o → rest_of new handle (front ++ more) ≡ o
+file_read : (old new : State) (handle : ℕ) (front waiting more : List ℕ) (o : Option (List ℕ)) → ReadsAhead old new handle waiting more → rest_of old handle (front ++ waiting) ≡ o → rest_of new handle (front ++ more) ≡ o
 file_read old new handle front waiting more o r e =
     joined (left_of new handle) front more ∙ ap (option_map (λ l. front ++ l)) r.next ∙ sym (joined (left_of old handle) front waiting) ∙ e
 
 -- reading on stopped
 pub pipes_stopped : AcceptedFront → (start old new : State) (handle pid base at count : ℕ) (from waiting more page : List ℕ) (unpiper : Unpiper) (outcome : Outcome) → handle < length start.opened →
-    Pipes start old handle pid base at count from unpiper waiting page → ReadsOn old new handle waiting more → StopsReading old new (at + length more) outcome →
+    Pipes start old handle pid base at count from unpiper waiting page → ReadsAhead old new handle waiting more → StopsReading old new (at + length more) outcome →
     UnitsStopped start new handle base (rest_of start handle from) (packets_from pid base) page outcome
 pipes_stopped law start old new handle pid base at count from waiting more page unpiper outcome came p r s =
     let why = stop_cause start old new (at + length more) outcome p.taken.calm r.write_faults s in
@@ -114,7 +114,7 @@ pipes_unsaid law start old new handle pid base at count from waiting page left u
 
 -- the file ended, and all packets were given up
 pub pipes_finished : (start old new : State) (handle pid base at count : ℕ) (from waiting more page : List ℕ) (unpiper : Unpiper) → handle < length start.opened →
-    Pipes start old handle pid base at count from unpiper waiting page → ReadsOn old new handle waiting more → new.read_faults ≡ old.read_faults → IsAtEnd new handle → length more < 1 → at + length more < 2 ^ 40 →
+    Pipes start old handle pid base at count from unpiper waiting page → ReadsAhead old new handle waiting more → new.read_faults ≡ old.read_faults → IsAtEnd new handle → length more < 1 → at + length more < 2 ^ 40 →
     ((p : Pipes start old handle pid base at count from unpiper waiting page) → length (accepted_of pid p.front) ≡ count) →
     UnitsFinished start new handle base (rest_of start handle from) (packets_from pid base) count page
 pipes_finished start old new handle pid base at count from waiting more page unpiper came p r calm end short few all =
@@ -140,7 +140,7 @@ pipes_finished start old new handle pid base at count from waiting more page unp
     }
 
 -- reading on stopped before a PID was told
-pub seeks_stopped : (start old new : State) (handle at : ℕ) (waiting more : List ℕ) (outcome : Outcome) → handle < length start.opened → Seeks start old handle at waiting → ReadsOn old new handle waiting more →
+pub seeks_stopped : (start old new : State) (handle at : ℕ) (waiting more : List ℕ) (outcome : Outcome) → handle < length start.opened → Seeks start old handle at waiting → ReadsAhead old new handle waiting more →
     StopsReading old new (at + length more) outcome → UnitsStopped start new handle 0 (left_of start handle) packets_in [] outcome
 seeks_stopped start old new handle at waiting more outcome came k r s =
     let why = stop_cause start old new (at + length more) outcome k.taken.calm r.write_faults s in

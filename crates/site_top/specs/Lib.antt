@@ -11,10 +11,8 @@ pub mod PacketFile
 pub mod Piped
 pub mod PlanLines
 pub mod Progress
-pub mod Reading
 pub mod Runs
 pub mod SaidLines
 pub mod ShowPackets
 pub mod ShowT2mi
 pub mod TextReading
-pub mod Waiting

@@ -14,7 +14,7 @@ use Rattle.site_top.specs.declared.outcome.Outcome.{Outcome}
 use Rattle.site_top.specs.declared.outcome.Outcome.TheVariants.{Done, TooLong, ReadFault, WriteFault, OutOfMemory}
 use Rattle.site_top.specs.Files.{Grew}
 use Rattle.site_top.specs.Progress.{Only}
-use Rattle.site_top.specs.Reading.{IsAtEnd}
+use Rattle.ts_file.specs.Ahead.{IsAtEnd}
 use Rattle.site_top.specs.ShowT2mi.{pid_of, pid_at, place_line, place_lines, SaysLines}
 
 -- the bytes of a handle's file from those on that wait, where the desk tells

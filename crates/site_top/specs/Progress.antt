@@ -5,7 +5,7 @@ use Rattle.site_top.specs.declared.outcome.Outcome.{Outcome}
 use Rattle.site_top.specs.declared.outcome.Outcome.TheVariants.{Done, TooLong, PacketRefused, ReadFault, WriteFault}
 use Rattle.site_top.specs.PacketFile.{Begins, Packs, bytes_in, IsRefused}
 use Rattle.site_top.specs.SaidLines.{line_of, lines_of}
-use Rattle.site_top.specs.Reading.{IsAtEnd}
+use Rattle.ts_file.specs.Ahead.{IsAtEnd}
 use Rattle.site_top.specs.ShowPackets.{Said}
 
 -- Of the packets of a file the lines of the first were said, and those of the next are on the page; this is left behind them.

@@ -6,12 +6,12 @@ ghost use Rattle.site_top.specs.TextReading.{Tells, LacksCapacity};
 
 use crate::config_file::read_config;
 use crate::outcome::Outcome;
-use crate::page::Page;
 use crate::plan_lines::push_lines;
 use config_text::write;
 use plp_config::{Plan, Valid, fits};
 use ports::Desk;
 use std::alloc::Global;
+use ts_file::Page;
 
 /// Says a text, which is all that a command says.
 pub fn tell<D: Desk>(desk: &mut D, text: &[u8]) -> Outcome

@@ -4,15 +4,15 @@ ghost use Rattle.ports.specs.Desk.{HasCause};
 ghost use Rattle.plp_config.specs.Rules.{AllRules};
 ghost use Rattle.config_text.specs.ConfigText.{Spells, CausesFault};
 ghost use Rattle.site_top.specs.ConfigFile.{Gives, GivesNone};
-ghost use Rattle.site_top.specs.Reading.{ReadsOn, IsAtEnd};
+ghost use Rattle.ts_file.specs.Ahead.{ReadsAhead, IsAtEnd};
 ghost use Rattle.site_top.specs.TextReading.{RefusesText};
 
-use crate::input::Input;
 use crate::outcome::{ConfigCause, Outcome};
 use config_text::TextFault;
 use plp_config::{Valid, validate};
 use ports::{Desk, DeskFault};
 use std::alloc::Global;
+use ts_file::Input;
 
 // One byte more than a text may have.
 const LIMIT: usize = 65_537;
@@ -21,7 +21,7 @@ const LIMIT: usize = 65_537;
 fn read_text<D: Desk>(desk: &mut D, handle: u32, input: &mut Input) -> Result<(), DeskFault>
     requires opened { handle < length (D.state desk.old).opened }
     requires nothing { input.old ≡ [] }
-    ensures reads { ReadsOn (D.state desk.old) (D.state desk.new) handle input.old input.new }
+    ensures reads { ReadsAhead (D.state desk.old) (D.state desk.new) handle input.old input.new }
     ensures few { length input.new ≤ LIMIT }
     ensures end { OnOk result (IsAtEnd (D.state desk.new) handle ⊎ (length input.new ≡ LIMIT)) }
     ensures err { OnErr result (length input.new < LIMIT) }

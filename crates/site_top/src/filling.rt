@@ -1,12 +1,12 @@
 // Reading a file on, up to the number of bytes with which it is too long.
 ghost use Rattle.std.specs.Prelude.{◌≡◌, ◌⊎◌, ◌<◌, ◌≤◌, ◌+◌, ◌^◌, length, IfOk, IfErr, IsTrue, OnOk};
-ghost use Rattle.site_top.specs.Reading.{ReadsOn, IsAtEnd};
+ghost use Rattle.ts_file.specs.Ahead.{ReadsAhead, IsAtEnd};
 ghost use Rattle.site_top.specs.Progress.{StopsReading};
 
-use crate::input::Input;
 use crate::outcome::Outcome;
 use ports::Desk;
 use t2mi_packet::LARGEST;
+use ts_file::Input;
 
 // A file that gives as many bytes is too long.
 const LIMIT: u64 = 1 << 40;
@@ -21,7 +21,7 @@ fn read_more<D: Desk>(
     requires opened { handle < length (D.state desk.old).opened }
     requires few { length input.old < LARGEST }
     requires within { at + length input.old < 2 ^ 40 }
-    ensures reads { ReadsOn (D.state desk.old) (D.state desk.new) handle input.old input.new }
+    ensures reads { ReadsAhead (D.state desk.old) (D.state desk.new) handle input.old input.new }
     ensures count { IfOk result (λ n. length input.new ≡ length input.old + n) }
     ensures within { OnOk result (at + length input.new < 2 ^ 40) }
     ensures end { IfOk result (λ n. n ≡ 0 → IsAtEnd (D.state desk.new) handle) }
@@ -49,7 +49,7 @@ pub fn read_until<D: Desk>(
     requires opened { handle < length (D.state desk.old).opened }
     requires few { enough ≤ LARGEST }
     requires within { at + length input.old < 2 ^ 40 }
-    ensures reads { ReadsOn (D.state desk.old) (D.state desk.new) handle input.old input.new }
+    ensures reads { ReadsAhead (D.state desk.old) (D.state desk.new) handle input.old input.new }
     ensures full { IfOk result (λ end. (enough ≤ length input.new) ⊎ IsTrue end) }
     ensures short { IfOk result (λ end. IsTrue end → length input.new < enough) }
     ensures within { OnOk result (at + length input.new < 2 ^ 40) }

@@ -6,9 +6,9 @@ ghost use Rattle.site_top.specs.ShowT2mi.{pid_of, packets_in};
 ghost use Rattle.site_top.specs.Piped.{Finds, UnitsStopped};
 
 use crate::filling::read_until;
-use crate::input::Input;
 use crate::outcome::Outcome;
 use ports::Desk;
+use ts_file::Input;
 use ts_packet::{TsView, fields_told, read};
 
 // The PID of null packets.

@@ -1,17 +1,16 @@
 // The lines of the packets of a file.
 ghost use Rattle.std.specs.Prelude.{ℕ, ◌≡◌, ◌≢◌, ◌⊎◌, ◌<◌, ◌≤◌, ◌+◌, ◌^◌, [], length, slice_index, IfOk, IfErr, IsTrue, OnOk, OnErr};
 ghost use Rattle.ports.specs.Desk.{Rose, Keeps, Says};
-ghost use Rattle.site_top.specs.Reading.{ReadsOn, IsAtEnd};
+ghost use Rattle.ts_file.specs.Ahead.{ReadsAhead, IsAtEnd};
 ghost use Rattle.site_top.specs.Progress.{StopsReading, Takes, TakesNone, GivesWay, Stops, Finishes};
 
 use crate::filling::read_until;
-use crate::input::Input;
 use crate::line::ROOM;
 use crate::outcome::Outcome;
 use crate::packet_line::packet_line;
-use crate::page::{PAGE, Page};
 use ports::Desk;
 use t2mi_packet::{LARGEST, front_refusal, view};
+use ts_file::{Input, PAGE, Page};
 
 // Reads the file on until a whole packet waits or the file ends: whether it has ended.
 fn fill<D: Desk>(
@@ -23,7 +22,7 @@ fn fill<D: Desk>(
 ) -> Result<bool, Outcome>
     requires opened { handle < length (D.state desk.old).opened }
     requires within { at + length input.old < 2 ^ 40 }
-    ensures reads { ReadsOn (D.state desk.old) (D.state desk.new) handle input.old input.new }
+    ensures reads { ReadsAhead (D.state desk.old) (D.state desk.new) handle input.old input.new }
     ensures full { IfOk result (λ end. (LARGEST ≤ length input.new) ⊎ IsTrue end) }
     ensures within { OnOk result (at + length input.new < 2 ^ 40) }
     ensures end { (IsTrue ended → IsAtEnd (D.state desk.old) handle) → IfOk result (λ end. IsTrue end → IsAtEnd (D.state desk.new) handle) }

@@ -8,15 +8,14 @@ ghost use Rattle.site_top.specs.Piped.{Unpipes, IsWithin, IsAt, PutsLine, rest_o
 
 use crate::filling::read_until;
 use crate::first_pid::Found;
-use crate::input::Input;
 use crate::line::{Line, ROOM};
 use crate::outcome::Outcome;
 use crate::packet_line::packet_line;
 use crate::packets::make_way;
-use crate::page::{PAGE, Page};
 use ports::Desk;
 use t2mi_packet::view_known;
 use t2mi_stream::{Unpiper, accepted_front, events_push, few_packets, packet_places};
+use ts_file::{Input, PAGE, Page};
 
 // Feeds the unpiper with bytes that wait, up to the end of a packet: how many.
 fn feed(unpiper: &mut Unpiper, input: &mut Input) -> usize

@@ -5,9 +5,9 @@ ghost use Rattle.site_top.specs.PlanLines.{network_line as line_of_network, slot
 ghost use Rattle.site_top.specs.declared.line.TheConstants.{ROOM};
 
 use crate::line::Line;
-use crate::page::Page;
 use config_text::band_word;
 use plp_config::{Config, Plan};
+use ts_file::Page;
 
 #[tactic(auto, unfolding(crate::specs::PlanLines::network_line))]
 fn network_line(config: &Config) -> Line

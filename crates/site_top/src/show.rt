@@ -2,18 +2,17 @@
 ghost use Rattle.std.specs.Prelude.{◌≡◌, ◌⊎◌, ◌≤◌, ◌+◌, ◌<◌, [], length, slice_index};
 ghost use Rattle.ports.specs.Desk.{Rose, Keeps, Says};
 ghost use Rattle.site_top.specs.declared.line.TheConstants.{ROOM};
-ghost use Rattle.site_top.specs.declared.page.TheConstants.{PAGE};
+ghost use Rattle.ts_file.specs.declared.page.TheConstants.{PAGE};
 ghost use Rattle.site_top.specs.SaidLines.{count_line as line_of_count};
 ghost use Rattle.site_top.specs.ShowPackets.{Shows};
 ghost use Rattle.site_top.specs.Progress.{SaysRest, ShowsOpened};
 
-use crate::input::Input;
 use crate::line::Line;
 use crate::outcome::Outcome;
 use crate::packets::{flush, packets};
-use crate::page::Page;
 use ports::Desk;
 use std::alloc::Global;
+use ts_file::{Input, Page};
 
 /// The line of the number of packets.
 pub fn count_line(count: u64) -> Line

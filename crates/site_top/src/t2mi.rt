@@ -2,19 +2,18 @@
 ghost use Rattle.std.specs.Prelude.{◌≡◌, ◌<◌, ◌≤◌, ◌+◌, ◌^◌, [], length, take, slice_index};
 ghost use Rattle.ports.specs.Desk.{left_of};
 ghost use Rattle.site_top.specs.declared.line.TheConstants.{ROOM};
-ghost use Rattle.site_top.specs.declared.page.TheConstants.{PAGE};
+ghost use Rattle.ts_file.specs.declared.page.TheConstants.{PAGE};
 ghost use Rattle.site_top.specs.ShowT2mi.{packets_in, ShowsT2mi};
 ghost use Rattle.site_top.specs.Piped.{rest_of, packets_from, UnitsShown};
 
 use crate::first_pid::{Found, find_pid};
-use crate::input::Input;
 use crate::outcome::Outcome;
-use crate::page::Page;
 use crate::piped::piped_packets;
 use crate::show::{count_line, end};
 use ports::Desk;
 use std::alloc::Global;
 use t2mi_stream::{Unpiper, skip_law};
+use ts_file::{Input, Page};
 
 // Says the lines of the packets in the rest of a file on the PID that was found, and their number.
 fn show_rest<D: Desk>(
