@@ -14,8 +14,9 @@ use plp_config::Plan;
 use std::alloc::Global;
 use ts_packet::TsPacket;
 
-/// Makes the T2-MI stream of a network from the packets of its inputs: offer the packets that a frame wants, begin the frame,
-/// take the units.
+/// Makes the T2-MI stream of a network (TS 102 773) from the packets of its inputs: offer the packets that a frame wants, begin
+/// the frame, take the units; behind the last frame finish, and take the rest. A PLP is named by its place in the configuration,
+/// from 0 on. The frame under way is the next one to begin.
 #[derive(Drop)]
 pub struct Gateway<'p> {
     alloc: Global,
@@ -77,7 +78,8 @@ impl<'p> Gateway<'p> {
         })
     }
 
-    /// How many packets the frame under way still wants from the input of a PLP: 0 from one that ended.
+    /// How many packets the frame under way still wants from the input of a PLP: those of the slots that are over when it begins,
+    /// 0 from an input that ended.
     pub fn wants(&self, plp: usize) -> u64
         requires { plp < plps_of self.now }
         ensures value { result ≡ wants_of self.now plp }
@@ -86,7 +88,8 @@ impl<'p> Gateway<'p> {
         wanted(&self.inputs, plp)
     }
 
-    /// Takes the next packet of the input of a PLP. After `OutOfMemory` the gateway is used no more.
+    /// Takes the next packet of the input of a PLP, one that the frame under way wants, once all complete units were taken. After
+    /// `OutOfMemory` the gateway is used no more.
     pub fn offer(&mut self, plp: usize, packet: &TsPacket) -> Result<(), OutOfMemory>
         requires place { plp < plps_of self.old }
         requires wanted { 0 < wants_of self.old plp }
@@ -119,7 +122,8 @@ impl<'p> Gateway<'p> {
         end(&mut self.inputs, plp);
     }
 
-    /// Begins the frame under way, which wants no more packets. After `OutOfMemory` the gateway is used no more.
+    /// Begins the frame under way, which wants no more packets and has a number below 2^31, once all complete units were taken and
+    /// before [`Gateway::finish`]. After `OutOfMemory` the gateway is used no more.
     pub fn begin_frame(&mut self) -> Result<(), OutOfMemory>
         requires wanted { (plp : ℕ) → plp < plps_of self.old → wants_of self.old plp ≡ 0 }
         requires given { has_unit self.old ≡ false }
@@ -148,7 +152,8 @@ impl<'p> Gateway<'p> {
         Ok(())
     }
 
-    /// Gives the next unit of the frames begun, if it is complete, and after [`Gateway::finish`] also the rest. Else `out` stays.
+    /// Gives the next unit of the frames begun, a transport packet, if it is complete: 184 bytes wait. After [`Gateway::finish`] it
+    /// gives also the rest. Else `out` stays.
     pub fn next_ts(&mut self, out: &mut [u8; 188]) -> bool
         ensures is { result ≡ has_unit self.old }
         // Whatever packets follow, the unit is the next one of all.
