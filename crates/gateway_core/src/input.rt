@@ -44,6 +44,7 @@ impl Input {
     {
         slot_time_law();
         length_law();
+        // A call that tells that the rules hold.
         let _ = plan.config();
         Ok(Input {
             chain: Chain::open(alloc, plan, plp)?,
@@ -68,6 +69,7 @@ impl Input {
         ensures total { result ≡ self.now.total }
         ensures small { IfSome result (λ total. total < 2 ^ 54) }
     {
+        // A look at a field tells what holds of all.
         let _ = self.due;
         self.total
     }

@@ -45,6 +45,7 @@ fn conf_bits(alloc: Global, plan: &Plan) -> Result<BitBuf, OutOfMemory>
     ensures short { IfOk result (λ bits. length bits ≤ 22797) }
 {
     conf_law();
+    // A call that tells that the rules hold.
     let _ = plan.config();
     let conf = conf_of(alloc, plan)?;
     let mut bits = BitBuf::new(alloc);
@@ -77,6 +78,7 @@ fn shape_with(alloc: Global, plan: &Plan, counts: &[u16]) -> Result<Shape, OutOf
     ensures fits { IfOk result FitsL1 }
 {
     field_law();
+    // A call that tells that the rules hold.
     let _ = plan.config();
     let mut out = Shape::open(alloc, plan)?;
     shape(plan, counts, &mut out);
@@ -129,6 +131,7 @@ pub fn dynamic_bits(
 {
     field_law();
     order_law();
+    // A call that tells that the rules hold.
     let _ = plan.config();
     let counts = counts_of(alloc, blocks)?;
     let shape = shape_with(alloc, plan, &counts)?;
