@@ -175,6 +175,7 @@ impl<'p> Gateway<'p> {
             → (result ≡ true) ↔ (given events < length (pipe c.pid (front_packets c inputs (begun events)))) }
         ensures none { result ≡ false → (c : Config) (events : List Event) → GatewayStandsFor self.old c events → finished events ≡ true → (inputs : ℕ → List (List ℕ)) → AllContinue c events inputs
             → length (pipe c.pid (front_packets c inputs (begun events))) ≡ given events }
+        ensures wants { (plp : ℕ) → wants_of self.new plp ≡ wants_of self.old plp }
         ensures plps { plps_of self.new ≡ plps_of self.old }
         ensures frame { frame_of self.new ≡ frame_of self.old }
         ensures finished { has_finished self.new ≡ has_finished self.old }
@@ -196,6 +197,7 @@ impl<'p> Gateway<'p> {
     /// No more frames come: the rest of the units can be taken.
     pub fn finish(&mut self)
         ensures stands { (c : Config) (events : List Event) → GatewayStandsFor self.old c events → GatewayStandsFor self.new c (events ++ Finished ∷ []) }
+        ensures wants { (plp : ℕ) → wants_of self.new plp ≡ wants_of self.old plp }
         ensures plps { plps_of self.new ≡ plps_of self.old }
         ensures frame { frame_of self.new ≡ frame_of self.old }
         ensures finished { has_finished self.new ≡ true }
