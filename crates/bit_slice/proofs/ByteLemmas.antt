@@ -1,7 +1,7 @@
 -- What bytes make of the register, by what zero bits make of a byte at its top: the laws that tables rest on.
-use Rattle.std.proofs.Common.{◌≡◌, ℕ, ◌+◌, ◌-◌, ◌*◌, ◌/◌, ◌%◌, ◌^◌, ◌<◌, ◌≤◌, List, [], ◌∷◌, length, get_or, refl, ap, sym, ◌∙◌, arith}
+use Rattle.std.proofs.Common.{◌≡◌, ℕ, zero, suc, ◌+◌, ◌-◌, ◌*◌, ◌/◌, ◌%◌, ◌^◌, ◌<◌, ◌≤◌, List, [], ◌∷◌, length, get_or, refl, ap, sym, ◌∙◌, arith}
 use Rattle.std.specs.Prelude.{bit_xor}
-use lib.Bits.{xor_shifted, xor_zero_l, xor_zero_r}
+use lib.Bits.{xor_assoc, xor_shifted, xor_zero_l, xor_zero_r}
 use Rattle.std.proofs.lemmas.Nat.{xor_block, xor_comm, xor_lt, pow_pos, pow-add, shl_below, shr_below, shr_split, mod_below, mod_low}
 use Rattle.terms.specs.Bits.{field, bits_of, number_of}
 use Rattle.terms.proofs.BitLemmas.{length-field, length-bits_of, bits_of-append, number_of-field, four_bytes}
@@ -99,8 +99,8 @@ register-word low s bytes small fits size =
     let e : number_of (bits_of bytes) * 2 ^ (32 - 32) ≡ number_of (bits_of bytes) = omega arith in
     rw (wide, e) at (register_is_zeros 32 low small (bits_of bytes) s fits few)
 
--- Eight bytes are 32 zero bits of the last four and 64 of the sum of the register and the first four.
-pub register-eight : (low s : ℕ) (bytes : List ℕ) → low < 2 ^ 32 → s < 2 ^ 32 → length bytes ≡ 8 → ((i : ℕ) → get_or bytes i 0 < 256) →
+-- eight bytes are 32 zero bits of the last four and 64 of the sum of the register and the first four.
+register-eight : (low s : ℕ) (bytes : List ℕ) → low < 2 ^ 32 → s < 2 ^ 32 → length bytes ≡ 8 → ((i : ℕ) → get_or bytes i 0 < 256) →
     bit_xor (zeros 32 low 32 (get_or bytes 4 0 * 2 ^ 24 + get_or bytes 5 0 * 2 ^ 16 + get_or bytes 6 0 * 2 ^ 8 + get_or bytes 7 0))
     (zeros 32 low 64 (bit_xor s (get_or bytes 0 0 * 2 ^ 24 + get_or bytes 1 0 * 2 ^ 16 + get_or bytes 2 0 * 2 ^ 8 + get_or bytes 3 0)))
     ≡ register 32 low s (bits_of bytes)
@@ -125,3 +125,70 @@ register-eight low s (a ∷ b ∷ c ∷ d ∷ e ∷ f ∷ g ∷ h ∷ []) small 
     ∙ sym (ap (register 32 low s) (bits_of-append front back) ∙ register-append 32 low s (bits_of front) (bits_of back)
     ∙ ap (λ (n : ℕ). register 32 low n (bits_of back)) first ∙ second)
 register-eight low s bytes small fits size each = absurd (omega arith)
+
+-- four parts, of which the last two are read as one
+joined_turn : (a b c d : ℕ) → bit_xor (bit_xor (bit_xor a b) c) d ≡ bit_xor a (bit_xor (bit_xor c d) b)
+joined_turn a b c d = xor_assoc (bit_xor a b) c d ∙ xor_assoc a b (bit_xor c d) ∙ ap (bit_xor a) (xor_comm b (bit_xor c d))
+
+-- eight bytes more behind eight bytes
+eight_more : (low s m x y u v : ℕ) → low < 2 ^ 32 → s < 2 ^ 32 → x < 2 ^ 32 → y < 2 ^ 32 → u < 2 ^ 32 →
+    bit_xor (zeros 32 low 32 y) (zeros 32 low 64 (bit_xor s x)) ≡ m →
+    bit_xor (bit_xor (bit_xor (zeros 32 low 32 v) (zeros 32 low 64 u)) (zeros 32 low 96 y)) (zeros 32 low 128 (bit_xor s x))
+    ≡ bit_xor (zeros 32 low 32 v) (zeros 32 low 64 (bit_xor m u))
+eight_more low s m x y u v small fits fits_x fits_y fits_u is =
+    let f : ℕ = bit_xor s x in
+    let fits_f : f < 2 ^ 32 = xor_lt 32 s x fits fits_x in
+    let back : ℕ = zeros 32 low 32 y in
+    let front : ℕ = zeros 32 low 64 f in
+    let fits_back : back < 2 ^ 32 = zeros_lt 32 low small 32 y fits_y in
+    let fits_front : front < 2 ^ 32 = zeros_lt 32 low small 64 f fits_f in
+    let fits_m : bit_xor back front < 2 ^ 32 = xor_lt 32 back front fits_back fits_front in
+    let on : zeros 32 low 64 (bit_xor back front) ≡ bit_xor (zeros 32 low 96 y) (zeros 32 low 128 f) =
+    zeros_xor 32 low small 64 back front fits_back fits_front
+    ∙ ap (λ (n : ℕ). bit_xor n (zeros 32 low 64 front)) (sym (zeros-add 32 low 32 64 y))
+    ∙ ap (bit_xor (zeros 32 low 96 y)) (sym (zeros-add 32 low 64 64 f)) in
+    joined_turn (zeros 32 low 32 v) (zeros 32 low 64 u) (zeros 32 low 96 y) (zeros 32 low 128 f)
+    ∙ ap (λ (n : ℕ). bit_xor (zeros 32 low 32 v) (bit_xor n (zeros 32 low 64 u))) (sym on)
+    ∙ ap (bit_xor (zeros 32 low 32 v)) (sym (zeros_xor 32 low small 64 (bit_xor back front) u fits_m fits_u))
+    ∙ ap (λ (n : ℕ). bit_xor (zeros 32 low 32 v) (zeros 32 low 64 (bit_xor n u))) is
+
+each_front : (a b c d e f g h : ℕ) → a < 256 → b < 256 → c < 256 → d < 256 → e < 256 → f < 256 → g < 256 → h < 256 → (i : ℕ) → get_or (a ∷ b ∷ c ∷ d ∷ e ∷ f ∷ g ∷ h ∷ []) i 0 < 256
+each_front a b c d e f g h k0 k1 k2 k3 k4 k5 k6 k7 zero = k0
+each_front a b c d e f g h k0 k1 k2 k3 k4 k5 k6 k7 (suc zero) = k1
+each_front a b c d e f g h k0 k1 k2 k3 k4 k5 k6 k7 (suc (suc zero)) = k2
+each_front a b c d e f g h k0 k1 k2 k3 k4 k5 k6 k7 (suc (suc (suc zero))) = k3
+each_front a b c d e f g h k0 k1 k2 k3 k4 k5 k6 k7 (suc (suc (suc (suc zero)))) = k4
+each_front a b c d e f g h k0 k1 k2 k3 k4 k5 k6 k7 (suc (suc (suc (suc (suc zero))))) = k5
+each_front a b c d e f g h k0 k1 k2 k3 k4 k5 k6 k7 (suc (suc (suc (suc (suc (suc zero)))))) = k6
+each_front a b c d e f g h k0 k1 k2 k3 k4 k5 k6 k7 (suc (suc (suc (suc (suc (suc (suc zero))))))) = k7
+each_front a b c d e f g h k0 k1 k2 k3 k4 k5 k6 k7 (suc (suc (suc (suc (suc (suc (suc (suc i)))))))) = omega arith
+
+-- Sixteen bytes are 32, 64, 96 and 128 zero bits of their words, the last word first, and the first one with the register.
+pub register-sixteen : (low s : ℕ) (bytes : List ℕ) → low < 2 ^ 32 → s < 2 ^ 32 → length bytes ≡ 16 → ((i : ℕ) → get_or bytes i 0 < 256) →
+    bit_xor (bit_xor (bit_xor (zeros 32 low 32 (get_or bytes 12 0 * 2 ^ 24 + get_or bytes 13 0 * 2 ^ 16 + get_or bytes 14 0 * 2 ^ 8 + get_or bytes 15 0))
+    (zeros 32 low 64 (get_or bytes 8 0 * 2 ^ 24 + get_or bytes 9 0 * 2 ^ 16 + get_or bytes 10 0 * 2 ^ 8 + get_or bytes 11 0)))
+    (zeros 32 low 96 (get_or bytes 4 0 * 2 ^ 24 + get_or bytes 5 0 * 2 ^ 16 + get_or bytes 6 0 * 2 ^ 8 + get_or bytes 7 0)))
+    (zeros 32 low 128 (bit_xor s (get_or bytes 0 0 * 2 ^ 24 + get_or bytes 1 0 * 2 ^ 16 + get_or bytes 2 0 * 2 ^ 8 + get_or bytes 3 0)))
+    ≡ register 32 low s (bits_of bytes)
+register-sixteen low s (a ∷ b ∷ c ∷ d ∷ e ∷ f ∷ g ∷ h ∷ i ∷ j ∷ k ∷ l ∷ m ∷ n ∷ o ∷ p ∷ []) small fits size each =
+    let front : List ℕ = a ∷ b ∷ c ∷ d ∷ e ∷ f ∷ g ∷ h ∷ [] in
+    let back : List ℕ = i ∷ j ∷ k ∷ l ∷ m ∷ n ∷ o ∷ p ∷ [] in
+    let x : ℕ = a * 2 ^ 24 + b * 2 ^ 16 + c * 2 ^ 8 + d in
+    let y : ℕ = e * 2 ^ 24 + f * 2 ^ 16 + g * 2 ^ 8 + h in
+    let u : ℕ = i * 2 ^ 24 + j * 2 ^ 16 + k * 2 ^ 8 + l in
+    let v : ℕ = m * 2 ^ 24 + n * 2 ^ 16 + o * 2 ^ 8 + p in
+    let fits_x : x < 2 ^ 32 = let q = each 0 in let r = each 1 in let t = each 2 in let w = each 3 in omega arith in
+    let fits_y : y < 2 ^ 32 = let q = each 4 in let r = each 5 in let t = each 6 in let w = each 7 in omega arith in
+    let fits_u : u < 2 ^ 32 = let q = each 8 in let r = each 9 in let t = each 10 in let w = each 11 in omega arith in
+    let of_front : (q : ℕ) → get_or front q 0 < 256 = each_front a b c d e f g h (each 0) (each 1) (each 2) (each 3) (each 4) (each 5) (each 6) (each 7) in
+    let of_back : (q : ℕ) → get_or back q 0 < 256 = λ q. each (suc (suc (suc (suc (suc (suc (suc (suc q)))))))) in
+    let first = register-eight low s front small fits refl of_front in
+    let middle : ℕ = register 32 low s (bits_of front) in
+    let sum : ℕ = bit_xor (zeros 32 low 32 y) (zeros 32 low 64 (bit_xor s x)) in
+    let fits_sum : sum < 2 ^ 32 = xor_lt 32 (zeros 32 low 32 y) (zeros 32 low 64 (bit_xor s x)) (zeros_lt 32 low small 32 y fits_y) (zeros_lt 32 low small 64 (bit_xor s x) (xor_lt 32 s x fits fits_x)) in
+    let fits_middle : middle < 2 ^ 32 = rw (← first) fits_sum in
+    let second = register-eight low middle back small fits_middle refl of_back in
+    eight_more low s middle x y u v small fits fits_x fits_y fits_u first
+    ∙ second
+    ∙ sym (ap (register 32 low s) (bits_of-append front back) ∙ register-append 32 low s (bits_of front) (bits_of back))
+register-sixteen low s bytes small fits size each = absurd (omega arith)

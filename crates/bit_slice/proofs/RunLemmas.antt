@@ -41,8 +41,8 @@ bits_of-chunks n (suc k) bytes =
     ∙ sym (bits_of-append (take n bytes) (drop n bytes)) ∙ ap bits_of (take-append-drop n bytes)
 
 -- the chunks first, and then the bytes behind them
-pub chunks_first : (degree low s next : ℕ) (bytes rest : List ℕ) (chunks : List (List ℕ)) (k : ℕ) → chunks ≡ first_chunks 8 k bytes → rest ≡ drop (k * 8) bytes →
+pub chunks_first : (size degree low s next : ℕ) (bytes rest : List ℕ) (chunks : List (List ℕ)) (k : ℕ) → chunks ≡ first_chunks size k bytes → rest ≡ drop (k * size) bytes →
     next ≡ register degree low s (flat_map bits_of chunks) → register degree low next (bits_of rest) ≡ register degree low s (bits_of bytes)
-chunks_first degree low s next bytes rest chunks k is_chunks is_rest step =
-    rw (step, is_chunks, is_rest) (sym (register-append degree low s (flat_map bits_of (first_chunks 8 k bytes)) (bits_of (drop (k * 8) bytes)))
-    ∙ ap (register degree low s) (bits_of-chunks 8 k bytes))
+chunks_first size degree low s next bytes rest chunks k is_chunks is_rest step =
+    rw (step, is_chunks, is_rest) (sym (register-append degree low s (flat_map bits_of (first_chunks size k bytes)) (bits_of (drop (k * size) bytes)))
+    ∙ ap (register degree low s) (bits_of-chunks size k bytes))

@@ -54,7 +54,7 @@ all_right_at degree low (x ∷ ts) n (suc t) byte e h small =
     all_right_at degree low ts (n + 8) t byte ((both ((length x == 256) && right degree low n 0 x) (all_right degree low (n + 8) ts) e).1) (omega arith) small
     ∙ ap (λ (k : ℕ). entry_of degree low k byte) count
 
-pub entry_is : (t byte : ℕ) → t < 8 → byte < 256 → get_or (get_or TABLES t []) byte 0 ≡ zeros 32 0x04C1_1DB7 (8 * (t + 1)) (byte * 2 ^ 24)
+pub entry_is : (t byte : ℕ) → t < 16 → byte < 256 → get_or (get_or TABLES t []) byte 0 ≡ zeros 32 0x04C1_1DB7 (8 * (t + 1)) (byte * 2 ^ 24)
 entry_is t byte h small =
     let count : 8 + 8 * t ≡ 8 * (t + 1) = omega arith in
     all_right_at 32 0x04C1_1DB7 TABLES 8 t byte tables_right h small ∙ ap (λ (k : ℕ). entry_of 32 0x04C1_1DB7 k byte) count

@@ -72,7 +72,7 @@ fn after_bit(register: u32, bit: bool) -> u32
 fn after_bytes(register: u32, bytes: &[u8]) -> u32
     ensures { result ≡ register_of 32 LOW register (bits_of bytes.now) }
 {
-    let (chunks, rest) = bytes.as_chunks::<8>();
+    let (chunks, rest) = bytes.as_chunks::<16>();
     let mut register = after_chunks(register, chunks);
     for byte in rest {
         register = after_byte(register, *byte);
@@ -87,7 +87,7 @@ fn after_byte(register: u32, byte: u8) -> u32
     (register << 8) ^ entry(0, first ^ byte)
 }
 
-fn after_chunks(mut register: u32, chunks: &[[u8; 8]]) -> u32
+fn after_chunks(mut register: u32, chunks: &[[u8; 16]]) -> u32
     ensures { result ≡ register_of 32 LOW register (flat_map bits_of chunks.now) }
 {
     for chunk in chunks {
@@ -96,19 +96,21 @@ fn after_chunks(mut register: u32, chunks: &[[u8; 8]]) -> u32
     register
 }
 
-fn after_chunk(register: u32, chunk: &[u8; 8]) -> u32
+fn after_chunk(register: u32, chunk: &[u8; 16]) -> u32
     ensures { result ≡ register_of 32 LOW register (bits_of chunk.now) }
 {
-    let [a, b, c, d, e, f, g, h] = *chunk;
-    let front = register ^ u32::from_be_bytes([a, b, c, d]);
-    let back = u32::from_be_bytes([e, f, g, h]);
+    let [a, b, c, d, e, f, g, h, i, j, k, l, m, n, o, p] = *chunk;
+    let first = register ^ u32::from_be_bytes([a, b, c, d]);
+    let second = u32::from_be_bytes([e, f, g, h]);
+    let third = u32::from_be_bytes([i, j, k, l]);
+    let fourth = u32::from_be_bytes([m, n, o, p]);
     // The back comes first: its entries are read while the register is still under way.
-    after_zeros(back, 0) ^ after_zeros(front, 4)
+    after_zeros(fourth, 0) ^ after_zeros(third, 4) ^ after_zeros(second, 8) ^ after_zeros(first, 12)
 }
 
 // After the zero bits of four tables, from the first one on.
 fn after_zeros(register: u32, first: usize) -> u32
-    requires { first ≤ 4 }
+    requires { first ≤ 12 }
     ensures { result ≡ zeros 32 LOW (8 * (first + 4)) register }
 {
     let [a, b, c, d] = register.to_be_bytes();
@@ -117,7 +119,7 @@ fn after_zeros(register: u32, first: usize) -> u32
 
 // What the zero bits of a table make of a byte at the top of the register.
 fn entry(table: usize, byte: u8) -> u32
-    requires { table < 8 }
+    requires { table < 16 }
     ensures { result ≡ zeros 32 LOW (8 * (table + 1)) (byte * 2 ^ 24) }
 {
     TABLES[table][byte as usize]

@@ -5,8 +5,8 @@ use Rattle.bit_slice.proofs.crc.after_bytes.Goals as goal
 
 pub loop-byte-init : goal.loop-byte-init
 loop-byte-init c =
-    chunks_first 32 0x04C1_1DB7 c.args.register c.after_chunks-register.result c.args.bytes.now c.as_chunks.result.1.now c.as_chunks.result.0.now
-    (length c.args.bytes.now / 8) c.as_chunks.ensures.front c.as_chunks.ensures.back c.after_chunks-register.ensures
+    chunks_first 16 32 0x04C1_1DB7 c.args.register c.after_chunks-register.result c.args.bytes.now c.as_chunks.result.1.now c.as_chunks.result.0.now
+    (length c.args.bytes.now / 16) c.as_chunks.ensures.front c.as_chunks.ensures.back c.after_chunks-register.ensures
 
 pub loop-byte-preserved : goal.loop-byte-preserved
 loop-byte-preserved c =
