@@ -263,3 +263,13 @@ field_end width all value narrow =
     ap (λ (k : ℕ). part (field k value) front width) (sym sum)
     ∙ ap (λ (bits : List Bool). part bits front width) (field-add front width value)
     ∙ ap (take width) (drop-field front (value / 2 ^ width) (field width value)) ∙ take_all width (field width value) few
+
+-- zeros in place of bytes that have all the bits
+pub cleared : (old new : List ℕ) (bits : List Bool) (end : ℕ) → Holds old bits → new ≡ replicate end 0 ++ drop end old → length bits ≤ 8 * end → end ≤ length old → Holds new []
+cleared old new bits end held is few inside =
+    let all : ℕ = 8 * length old in
+    let behind : bits_of (drop end old) ≡ replicate (all - 8 * end) false = sym (drop-bits_of end old) ∙ ap (drop (8 * end)) held ∙ drop-padded bits (8 * end) all few in
+    let whole : length new ≡ length old = ap length is ∙ length-append (replicate end 0) (drop end old) ∙ omega (arith, length-replicate {A = ℕ} end 0, length-drop end old) in
+    let sum : 8 * end + (all - 8 * end) ≡ 8 * length new - 0 = omega arith in
+    ap bits_of is ∙ bits_of-append (replicate end 0) (drop end old)
+    ∙ rw (bits_of-zeros end, behind) (replicate-append-replicate (8 * end) (all - 8 * end) false ∙ ap (λ (k : ℕ). replicate k false) sum)

@@ -36,6 +36,15 @@ impl<const N: usize> FixedBits<N> {
         }
     }
 
+    /// Gives all bits up. Only the bytes that have some are written.
+    pub fn clear(&mut self)
+        ensures { self.new ≡ [] }
+    {
+        let end = self.used.div_ceil(8);
+        self.bytes[..end].fill(0);
+        self.used = 0;
+    }
+
     /// The bits written.
     pub fn as_slice(&self) -> BitSlice<'_>
         ensures { result ≡ self.now }
