@@ -16,7 +16,7 @@ fn put_packet(out: &mut FixedBits<8202>, packet: &Packet<'_>)
     ensures { out.new ≡ written_bits packet.now }
 {
     written_law();
-    *out = FixedBits::new();
+    out.clear();
     // There is room for any packet.
     let _ = write(out, packet);
 }
