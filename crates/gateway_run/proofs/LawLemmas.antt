@@ -19,11 +19,13 @@ quotient_rises (suc k) a b le =
     let all : a / suc k * suc k ≤ b = omega (arith, part, le) in
     le-div (a / suc k) b (suc k) (omega arith) all
 
+-- slots are over for good
+pub slots_rise : (c : Config) (plp frame later : ℕ) → frame ≤ later → slots_by c plp (frame * c.ticks) ≤ slots_by c plp (later * c.ticks)
+slots_rise c plp frame later le = quotient_rises (num c) (frame * c.ticks * den c plp) (later * c.ticks * den c plp) (mul-le-mul_right (den c plp) (mul-le-mul_right c.ticks le))
+
 -- a later frame wants what one wants
 still_wants : (c : Config) (files : ℕ → List ℕ) (frame later plp : ℕ) → frame ≤ later → WantsBad c files frame plp → WantsBad c files later plp
-still_wants c files frame later plp le w =
-    let rises : slots_by c plp (frame * c.ticks) ≤ slots_by c plp (later * c.ticks) = quotient_rises (num c) (frame * c.ticks * den c plp) (later * c.ticks * den c plp) (mul-le-mul_right (den c plp) (mul-le-mul_right c.ticks le)) in
-    (w.0, (let lt = w.1 in omega (arith, lt, rises)))
+still_wants c files frame later plp le w = (w.0, (let lt = w.1 in let rises = slots_rise c plp frame later le in omega (arith, lt, rises)))
 
 -- the first frame is one
 not_sooner : (c : Config) (files : ℕ → List ℕ) (frame later plp other packet next : ℕ) → frame < later → MeetsBad c files frame plp packet → MeetsBad c files later other next → ⊥

@@ -66,11 +66,11 @@ no_memory_on old new readings plp d is g lt reads calm small = λ b w count v.
 
 -- a packet could not be taken
 pub stopped_on : (old new : State) (readings : List Reading) (plp : ℕ) (d is : Reading) (g : Gateway) (why : ReadStop) → IsReading old readings g → plp < length readings → NoneWanted g plp → 0 < wants_of g plp
-    → ReadsOn old new (slice_index_or readings plp d) is → StopsReading old new (slice_index_or readings plp d) is why → StopsWaiting old new readings g (read_stop plp why)
-stopped_on old new readings plp d is g why r lt below wants reads stops = λ b w count v.
+    → ReadsOn old new (slice_index_or readings plp d) is → StopsReading old new (slice_index_or readings plp d) is why → length is.waiting ≤ 188 * wants_of g plp → StopsWaiting old new readings g (read_stop plp why)
+stopped_on old new readings plp d is g why r lt below wants reads stops few = λ b w count v.
     let e = sym (reader_is readings plp d lt) in
     reading_stopped b old new readings plp is w g count why lt (let n = plps_are old readings g r in omega (arith, n, lt)) r.waiting.is_open r.waiting.early below wants
-    (subst (λ (x : Reading). ReadsOn old new x is) e reads) (subst (λ (x : Reading). StopsReading old new x is why) e stops) v
+    (subst (λ (x : Reading). ReadsOn old new x is) e reads) (subst (λ (x : Reading). StopsReading old new x is why) e stops) r.waiting.few few v
 
 -- the run waits on
 pub reading_on : (old new : State) (readings : List Reading) (plp : ℕ) (is : Reading) (g next : Gateway) → IsReading old readings g → plp < length readings → WaitsOn old new readings (slice_set readings plp is) g next

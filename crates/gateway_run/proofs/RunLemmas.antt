@@ -1,5 +1,5 @@
 -- A run goes on by one step.
-use Rattle.std.proofs.Common.{◌≡◌, ◌≢◌, ℕ, ◌+◌, ◌-◌, ◌*◌, ◌<◌, Bool, true, false, List, [], ◌∷◌, ◌++◌, length, Option, Some, None, refl, ap, sym, subst, ◌∙◌, inl, inr, arith, append_assoc}
+use Rattle.std.proofs.Common.{◌≡◌, ◌≤◌, ◌≢◌, ℕ, ◌+◌, ◌-◌, ◌*◌, ◌<◌, Bool, true, false, List, [], ◌∷◌, ◌++◌, length, Option, Some, None, refl, ap, sym, subst, ◌∙◌, inl, inr, arith, append_assoc}
 use Rattle.std.specs.Prelude.{slice_get, slice_index, slice_set, option_map}
 use Rattle.std.proofs.lemmas.Bool.{cases_eq}
 use Rattle.std.proofs.lemmas.List.{length-set, length-map, get_or-map, length_push}
@@ -23,6 +23,7 @@ use Rattle.gateway_run.specs.GatewayRun.{file_at, inputs_of, units_of, MeetsNone
 use Rattle.gateway_run.specs.Running.{Start, no_reading, reading_at, places_of, Goes, IsRead, Relates, Runs, Waits}
 use Rattle.gateway_run.proofs.DeskLemmas.{read_on, reading_same, reading_other, other_left, write_on, none_left, of_some}
 use Rattle.gateway_run.proofs.EventLemmas.{finished_is, wants_is, some_wanted, none_wanted, begun_with, given_with, same_begun, same_given, same_finished, other_offered, other_ended, still_last}
+use Rattle.gateway_run.proofs.LawLemmas.{slots_rise}
 use Rattle.gateway_run.proofs.FileLemmas.{joined_push, read_next}
 use Rattle.gateway_run.proofs.FrameLemmas.{AllThere, continue, meets_none, one_more_frame, follow, next_unit}
 
@@ -74,13 +75,19 @@ pub record Tells (g new : Gateway) (b : Start) (events : List Event) (e : Event)
 told_read : (file : List ℕ) (rest next : Option (List ℕ)) (t u : Told) → t ≡ u → next ≡ rest → IsRead file rest t.packets t.ended → IsRead file next u.packets u.ended
 told_read file rest next t u e f r = subst (λ (v : Told). IsRead file next v.packets v.ended) e (subst (λ (o : Option (List ℕ)). IsRead file o t.packets t.ended) (sym f) r)
 
+same_within : (c : Config) (plp : ℕ) (events now : List Event) → offered plp events ≡ offered plp now → begun events ≡ begun now → length (offered plp events) ≤ slots_by c plp (begun events * c.ticks)
+    → length (offered plp now) ≤ slots_by c plp (begun now * c.ticks)
+same_within c plp events now e f le =
+    subst (λ (n : ℕ). length (offered plp now) ≤ slots_by c plp (n * c.ticks)) f (subst (λ (ps : List (List ℕ)). length ps ≤ slots_by c plp (begun events * c.ticks)) e le)
+
 -- A reader read on, and what it gave was told.
 read_step : (b : Start) (old new : State) (readings : List Reading) (plp : ℕ) (is : Reading) (w : Writing) (g next : Gateway) (count : ℕ) (e : Event) (v : Waits b old readings w g count)
     → plp < length readings → has_finished g ≡ false → ReadsOn old new (reading_at readings plp) is → new.read_faults ≡ old.read_faults → given_of is < most_bytes
     → Tells g next b v.runs.events e plp → is.taken ≡ length (offered plp (v.runs.events ++ e ∷ []))
+    → length (offered plp (v.runs.events ++ e ∷ [])) ≤ slots_by b.c plp (begun v.runs.events * b.c.ticks)
     → ((h : Held) → b.desk.held ≡ Some h → IsRead (file_at h b.ins plp) (rest_of new is) (offered plp (v.runs.events ++ e ∷ [])) (has_ended plp (v.runs.events ++ e ∷ [])))
     → Waits b new (slice_set readings plp is) w next count
-read_step b old new readings plp is w g next count e v lt on r calm small t taken read =
+read_step b old new readings plp is w g next count e v lt on r calm small t taken bound read =
     let was = v.runs in
     let now : List Event = was.events ++ e ∷ [] in
     let same_b : begun now ≡ begun was.events = same_begun was.events e t.begins_none in
@@ -99,6 +106,10 @@ read_step b old new readings plp is w g next count e v lt on r calm small t take
         taken = λ other inside. elim (cases_eq other plp) [
           | inl same ↦ subst (λ (k : ℕ). (reading_at (slice_set readings plp is) k).taken ≡ length (offered k now)) (sym same) (ap (λ (x : Reading). x.taken) (reading_same readings plp is lt) ∙ taken)
           | inr differ ↦ ap (λ (x : Reading). x.taken) (reading_other readings plp other is differ) ∙ was.taken other (omega (arith, inside, size)) ∙ ap (λ (x : Told). length x.packets) (sym (t.others other differ))
+        ];
+        within = λ other inside. elim (cases_eq other plp) [
+          | inl same ↦ subst (λ (k : ℕ). length (offered k now) ≤ slots_by b.c k (begun now * b.c.ticks)) (sym same) (subst (λ (n : ℕ). length (offered plp now) ≤ slots_by b.c plp (n * b.c.ticks)) (sym same_b) bound)
+          | inr differ ↦ same_within b.c other was.events now (sym (ap (λ (x : Told). x.packets) (t.others other differ))) (sym same_b) (was.within other inside)
         ];
         plps = t.plps ∙ was.plps;
         given_are = same_given was.events e t.gives_none ∙ was.given_are;
@@ -133,6 +144,11 @@ wanted_now : (b : Start) (now : State) (readings : List Reading) (w : Writing) (
 wanted_now b now readings w g count r plp lt some =
     (some_wanted (has_ended plp r.events) (slots_by b.c plp (begun r.events * b.c.ticks)) (length (offered plp r.events)) (wants_of g plp) (wants_is g b.c r.events plp r.stands lt) some).is_open
 
+wanted_less : (b : Start) (now : State) (readings : List Reading) (w : Writing) (g : Gateway) (count : ℕ) (r : Runs b now readings w g count) (plp : ℕ) → plp < plps_of g → 0 < wants_of g plp
+    → length (offered plp r.events) < slots_by b.c plp (begun r.events * b.c.ticks)
+wanted_less b now readings w g count r plp lt some =
+    (some_wanted (has_ended plp r.events) (slots_by b.c plp (begun r.events * b.c.ticks)) (length (offered plp r.events)) (wants_of g plp) (wants_is g b.c r.events plp r.stands lt) some).less
+
 opened_left : (rest : Option (List ℕ)) (packet left : List ℕ) (o : Option (List ℕ)) → o ≡ option_map (λ rest. packet ++ rest) rest → o ≡ Some left → (l : List ℕ) × (rest ≡ Some l) × (Some (packet ++ l) ≡ o)
 opened_left None packet left o e f = absurd (let z : Some left ≡ None = sym f ∙ e in cc)
 opened_left (Some l) packet left o e f = (l, refl, sym e)
@@ -152,6 +168,7 @@ packet_taken b old new readings plp is packet w g next count lt place on wants r
     read_step b old new readings plp is w g next count (Offered plp packet) v lt on r calm small
     (record { begins_none = refl; gives_none = refl; finishes_none = refl; stands = stands b.c was.events was.stands; others = λ other differ. other_offered other plp was.events packet differ; plps = plps })
     (let n = ap length more in let p = length_push (offered plp was.events) packet in let k = was.taken plp lt in let m = t.taken in omega (arith, n, p, k, m))
+    (let n = ap length more in let p = length_push (offered plp was.events) packet in let less = wanted_less b old readings w g count was plp place wants in omega (arith, n, p, less))
     (λ h held.
     let all = was.goes.all in
     let read : IsRead (file_at h b.ins plp) (rest_of old (reading_at readings plp)) (offered plp was.events) false =
@@ -175,6 +192,7 @@ input_ended b old new readings plp is w g next count lt on r t calm small stands
     read_step b old new readings plp is w g next count (Ended plp) v lt on r calm small
     (record { begins_none = refl; gives_none = refl; finishes_none = refl; stands = stands b.c was.events was.stands; others = λ other differ. other_ended other plp was.events differ; plps = plps })
     (t.none.taken ∙ was.taken plp lt ∙ ap length (sym same))
+    (let n = ap length same in let le = was.within plp (let c = was.from.count in let all = was.goes.all in omega (arith, lt, c, all)) in omega (arith, n, le))
     (λ h held.
     let all = was.goes.all in
     let read = (was.relates h held).reads plp (omega (arith, lt, all)) in
@@ -205,6 +223,11 @@ frame_begun law b now readings w g next count none on not_last stands plps was =
       counts = was.counts;
       short = was.short;
       taken = λ plp lt. was.taken plp lt ∙ ap (λ (t : Told). length t.packets) (sym (told_begun plp was.events));
+      within = λ plp lt.
+          let n : length (offered plp (was.events ++ Begun ∷ [])) ≡ length (offered plp was.events) = ap (λ (t : Told). length t.packets) (told_begun plp was.events) in
+          let rises = slots_rise b.c plp (begun was.events) (begun (was.events ++ Begun ∷ [])) (omega (arith, more)) in
+          let le = was.within plp lt in
+          omega (arith, n, rises, le);
       plps = plps ∙ was.plps;
       given_are = same_given was.events Begun refl ∙ was.given_are;
       count_is = was.count_is;
@@ -251,6 +274,7 @@ frames_ended b now readings w g next count last stands plps was =
       counts = was.counts;
       short = was.short;
       taken = λ plp lt. was.taken plp lt ∙ ap (λ (t : Told). length t.packets) (sym (same plp));
+      within = λ plp lt. same_within b.c plp was.events (was.events ++ Finished ∷ []) (ap (λ (t : Told). t.packets) (sym (same plp))) (ap (λ (t : Told). t.frame) (sym (same plp))) (was.within plp lt);
       plps = plps ∙ was.plps;
       given_are = same_given was.events Finished refl ∙ was.given_are;
       count_is = was.count_is;
@@ -289,6 +313,7 @@ unit_given grow law b old new readings w v g next count unit gives stands plps a
       counts = same_counts b.desk old new was.counts calm;
       short = was.short;
       taken = λ plp lt. was.taken plp lt ∙ ap (λ (t : Told). length t.packets) (sym (same plp));
+      within = λ plp lt. same_within b.c plp was.events (was.events ++ Gave ∷ []) (ap (λ (t : Told). t.packets) (sym (same plp))) (ap (λ (t : Told). t.frame) (sym (same plp))) (was.within plp lt);
       plps = plps ∙ was.plps;
       given_are = let n = given_with was.events Gave in let m = was.given_are in omega (arith, n, m, size);
       count_is = let m = was.count_is in omega (arith, m, size);

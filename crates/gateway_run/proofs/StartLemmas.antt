@@ -248,6 +248,7 @@ starts b mid new readings out w g s a c calm is none stands plps = record {
     counts = same_counts b.desk mid new a.counts calm;
     short = all_short readings (λ plp lt. let t = a.taken plp lt in let n = ap length (a.waiting plp lt) in omega (arith, t, n));
     taken = a.taken;
+    within = λ plp lt. omega arith;
     plps = plps;
     given_are = refl;
     count_is = refl;

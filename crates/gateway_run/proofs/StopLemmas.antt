@@ -1,7 +1,8 @@
 -- Where a run ends.
-use Rattle.std.proofs.Common.{◌≡◌, ◌≢◌, ℕ, ◌*◌, ◌^◌, ◌<◌, ◌≤◌, Bool, true, false, List, [], ◌++◌, length, map, Option, Some, None, refl, ap, sym, subst, ◌∙◌, inl, inr, arith, append_assoc, append-nil, length-append}
+use Rattle.std.proofs.Common.{◌≡◌, cond, slice_index, ◌+◌, ◌-◌, ◌≢◌, ℕ, ◌*◌, ◌^◌, ◌<◌, ◌≤◌, Bool, true, false, List, [], ◌++◌, length, map, Option, Some, None, refl, ap, sym, subst, ◌∙◌, inl, inr, arith, append_assoc, append-nil, length-append}
 use Rattle.std.specs.Prelude.{IsSome, slice_index_or, slice_set, option_map}
 use Rattle.std.specs.FinMap.{get}
+use Rattle.std.proofs.lemmas.Bool.{cases_eq}
 use Rattle.std.proofs.lemmas.Grind.{flat_map-append}
 use Rattle.std.proofs.lemmas.List.{length-map, length-set, get_or-map, ext_get_or}
 use Rattle.plp_config.specs.SlotTime.{slots_by}
@@ -20,10 +21,10 @@ use Rattle.ts_file.specs.TsFile.{joined, HasBad, begins_with_packet}
 use Rattle.ts_file.specs.Writing.{Writing, Appends, AppendsFront}
 use Rattle.ts_file.specs.declared.reader.ReadStop.{ReadStop}
 use Rattle.ts_file.specs.declared.reader.ReadStop.TheVariants.{Bad, TooLong, Fault}
-use Rattle.gateway_run.specs.GatewayRun.{file_at, inputs_of, frames_of, units_of, MeetsNone, MeetsBad, Works, BeginsUnits, CompleteBefore, StopsWriting, StopsAtBad, StopsTooLong, ReadsFail, WritesFail, RunsAll, Stops, most_bytes, most_frames}
+use Rattle.gateway_run.specs.GatewayRun.{file_at, inputs_of, frames_of, units_of, MeetsNone, MeetsBad, Works, BeginsUnits, CompleteBefore, ReadsNoFurther, StopsWriting, StopsAtBad, StopsTooLong, ReadsFail, WritesFail, RunsAll, Stops, most_bytes, most_frames}
 use Rattle.gateway_run.specs.Running.{Start, reading_at, places_of, Goes, IsRead, Runs, Waits, read_stop}
 use Rattle.gateway_run.specs.declared.stop.RunStop.TheVariants as stop
-use Rattle.gateway_run.proofs.DeskLemmas.{read_on, reading_same, write_on, none_left, works, some_is, of_some}
+use Rattle.gateway_run.proofs.DeskLemmas.{read_on, reading_same, reading_other, write_on, none_left, works, some_is, of_some}
 use Rattle.gateway_run.proofs.EventLemmas.{frame_is, finished_is, wants_is, some_wanted, none_wanted}
 use Rattle.gateway_run.proofs.FileLemmas.{joined_length, not_wanted, next_bad, none_bad, length_all}
 use Rattle.gateway_run.proofs.FrameLemmas.{continue, meets_none, one_more_frame, is_whole, complete_now, all_now}
@@ -49,6 +50,7 @@ drained units_law last_law b old new readings w v g next count still caught none
     counts = same_counts b.desk old new was.counts calm;
     short = was.short;
     taken = was.taken;
+    within = was.within;
     plps = plps ∙ was.plps;
     given_are = was.given_are;
     count_is = was.count_is;
@@ -142,10 +144,46 @@ meets b h old new readings plp packet is w g count r held lt place below wants b
           (none_wanted (has_ended other r.events) (slots_by b.c other (begun r.events * b.c.ticks)) (length (offered other r.events)) (wants_of g other) (wants_is g b.c r.events other r.stands (omega (arith, place, less))) (below other less));
     }
 
+-- nothing waits in a reader but what is wanted
+abbrev pub FewWait : List Reading → Gateway → Type 0
+FewWait readings g = (plp : ℕ) → plp < length readings → length (reading_at readings plp).waiting ≤ 188 * wants_of g plp
+
+-- what was taken and what waits is wanted by the frame
+wanted_all : (ended : Bool) (slots n wants waiting given : ℕ) → wants ≡ cond ended 0 (slots - n) → n ≤ slots → waiting ≤ 188 * wants → given ≡ 188 * n + waiting → given ≤ 188 * slots
+wanted_all true slots n wants waiting given e within few is = omega (arith, e, within, few, is)
+wanted_all false slots n wants waiting given e within few is = omega (arith, e, within, few, is)
+
+one_no_further : (b : Start) (now : State) (readings : List Reading) (w : Writing) (g : Gateway) (count : ℕ) (r : Runs b now readings w g count) (plp : ℕ) (is : Reading) → plp < length readings
+    → is.taken ≡ (reading_at readings plp).taken → length is.waiting ≤ 188 * wants_of g plp → given_of is ≤ 188 * slots_by b.c plp (begun r.events * b.c.ticks)
+one_no_further b now readings w g count r plp is lt same few =
+    let all = r.goes.all in
+    let c = r.from.count in
+    let p = r.plps in
+    let t = r.taken plp lt in
+    wanted_all (has_ended plp r.events) (slots_by b.c plp (begun r.events * b.c.ticks)) (length (offered plp r.events)) (wants_of g plp) (length is.waiting) (given_of is)
+    (wants_is g b.c r.events plp r.stands (omega (arith, lt, all, c, p))) (r.within plp (omega (arith, lt, all, c))) few (omega (arith, t, same))
+
+no_further : (b : Start) (now : State) (readings : List Reading) (plp : ℕ) (is : Reading) (w : Writing) (g : Gateway) (count : ℕ) (r : Runs b now readings w g count) → plp < length readings
+    → is.taken ≡ (reading_at readings plp).taken → FewWait readings g → length is.waiting ≤ 188 * wants_of g plp → ReadsNoFurther b.c (places_of (slice_set readings plp is)) (begun r.events)
+no_further b now readings plp is w g count r lt same few is_few = λ other inside.
+    let size : length (places_of (slice_set readings plp is)) ≡ length readings = length-map (slice_set readings plp is) given_of ∙ length-set readings plp is in
+    let place = place_at (slice_set readings plp is) other (let n = length-set readings plp is in omega (arith, inside, size, n)) in
+    elim (cases_eq other plp) [
+      | inl here ↦
+          let e : slice_index (places_of (slice_set readings plp is)) other ≡ given_of is = place ∙ ap (λ (k : ℕ). given_of (reading_at (slice_set readings plp is) k)) here ∙ ap given_of (reading_same readings plp is lt) in
+          let le = one_no_further b now readings w g count r plp is lt same is_few in
+          subst (λ (k : ℕ). slice_index (places_of (slice_set readings plp is)) other ≤ 188 * slots_by b.c k (begun r.events * b.c.ticks)) (sym here) (omega (arith, e, le))
+      | inr differ ↦
+          let e : slice_index (places_of (slice_set readings plp is)) other ≡ given_of (reading_at readings other) = place ∙ ap given_of (reading_other readings plp other is differ) in
+          let was : other < length readings = omega (arith, inside, size) in
+          let le = one_no_further b now readings w g count r other (reading_at readings other) was refl (few other was) in
+          omega (arith, e, le)
+    ]
+
 stops_at_bad : (b : Start) (old new : State) (readings : List Reading) (plp packet : ℕ) (is : Reading) (w : Writing) (g : Gateway) (count : ℕ) → plp < length readings → plp < plps_of g → has_finished g ≡ false
     → frame_of g ≤ 2 ^ 31 → ((other : ℕ) → other < plp → wants_of g other ≡ 0) → 0 < wants_of g plp → ReadsOn old new (reading_at readings plp) is → IsBad old new (reading_at readings plp) is
-    → packet ≡ (reading_at readings plp).taken → given_of is < most_bytes → new.read_faults ≡ old.read_faults → Waits b old readings w g count → StopsAtBad b.c b.desk new b.out b.ins plp packet
-stops_at_bad b old new readings plp packet is w g count lt place on early below wants r bad number small calm v =
+    → packet ≡ (reading_at readings plp).taken → given_of is < most_bytes → new.read_faults ≡ old.read_faults → FewWait readings g → length is.waiting ≤ 188 * wants_of g plp → Waits b old readings w g count → StopsAtBad b.c b.desk new b.out b.ins plp packet
+stops_at_bad b old new readings plp packet is w g count lt place on early below wants r bad number small calm few is_few v =
     let was = v.runs in
     let off : finished was.events ≡ false = sym (finished_is g b.c was.events was.stands) ∙ on in
     record {
@@ -154,6 +192,7 @@ stops_at_bad b old new readings plp packet is w g count lt place on early below 
       works = works b new (slice_set readings plp is) w (joined was.units) (CompleteBefore b.c b.ins (begun was.events)) (read_on b old new readings plp is w (joined was.units) lt was.goes r) (λ h held t.
           sym (append-nil t.written) ∙ ap (λ (l : List ℕ). t.written ++ l) (sym v.nothing) ∙ sym t.whole ∙ ap joined (v.complete off h held));
       short = short_on readings plp is lt small was.short;
+      no_further = no_further b old readings plp is w g count was lt bad.none.taken few is_few;
       early = let f = frame_is g b.c was.events was.stands in omega (arith, f, early);
       counts = same_counts b.desk old new was.counts (read_counts old new (reading_at readings plp) is r calm);
       meets = some_is b.desk.held (λ h. MeetsBad b.c (file_at h b.ins) (begun was.events) plp packet) (λ h held. meets b h old new readings plp packet is w g count was held lt place below wants bad number);
@@ -203,12 +242,12 @@ reads_fail b old new was is s r rose = record {
 -- A packet could not be taken.
 pub reading_stopped : (b : Start) (old new : State) (readings : List Reading) (plp : ℕ) (is : Reading) (w : Writing) (g : Gateway) (count : ℕ) (why : ReadStop) → plp < length readings → plp < plps_of g → has_finished g ≡ false
     → frame_of g ≤ 2 ^ 31 → ((other : ℕ) → other < plp → wants_of g other ≡ 0) → 0 < wants_of g plp → ReadsOn old new (reading_at readings plp) is → StopsReading old new (reading_at readings plp) is why
-    → Waits b old readings w g count → Stops b.c b.desk new b.out b.ins (read_stop plp why)
-reading_stopped b old new readings plp is w g count (Bad packet) lt place on early below wants r why v =
-    stops_at_bad b old new readings plp packet is w g count lt place on early below wants r why.0 why.1 why.2 why.3 v
-reading_stopped b old new readings plp is w g count TooLong lt place on early below wants r why v =
+    → FewWait readings g → length is.waiting ≤ 188 * wants_of g plp → Waits b old readings w g count → Stops b.c b.desk new b.out b.ins (read_stop plp why)
+reading_stopped b old new readings plp is w g count (Bad packet) lt place on early below wants r why few is_few v =
+    stops_at_bad b old new readings plp packet is w g count lt place on early below wants r why.0 why.1 why.2 why.3 few is_few v
+reading_stopped b old new readings plp is w g count TooLong lt place on early below wants r why few is_few v =
     stops_too_long b old new readings plp is w g count lt r why.0 why.1 why.2 v.runs
-reading_stopped b old new readings plp is w g count Fault lt place on early below wants r why v = (
+reading_stopped b old new readings plp is w g count Fault lt place on early below wants r why few is_few v = (
   reads_fail b old new (reading_at readings plp) is v.runs.counts r why.2,
   inr (record {
     places = places_of (slice_set readings plp is);

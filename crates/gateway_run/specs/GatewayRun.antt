@@ -95,6 +95,10 @@ pub record Works (old new : State) (out : List ℕ) (ins : List (List ℕ)) (pla
 abbrev pub AllShort : List ℕ → Type 0
 AllShort places = (plp : ℕ) → plp < length places → slice_index places plp < most_bytes
 
+-- No input was read further than a frame wants.
+abbrev pub ReadsNoFurther : Config → List ℕ → ℕ → Type 0
+ReadsNoFurther c places frame = (plp : ℕ) → plp < length places → slice_index places plp ≤ 188 * slots_by c plp (frame * c.ticks)
+
 -- The output is the first bytes of all units.
 abbrev pub BeginsUnits : Config → List (List ℕ) → Held → List ℕ → Type 0
 BeginsUnits c ins h bytes = (more : List ℕ) × (joined (units_of c (file_at h ins)) ≡ bytes ++ more)
@@ -128,6 +132,7 @@ pub record StopsAtBad (c : Config) (old new : State) (out : List ℕ) (ins : Lis
   pub frame : ℕ
   pub works : Works old new out ins places (CompleteBefore c ins frame)
   pub short : AllShort places
+  pub no_further : ReadsNoFurther c places frame
   pub early : frame ≤ most_frames
   pub counts : SameCounts old new
   pub meets : IfSome old.held (λ h. MeetsBad c (file_at h ins) frame plp packet)

@@ -4,6 +4,7 @@ use Rattle.std.specs.declared.option.Option.{Option}
 use Rattle.std.specs.FinMap.{get}
 use Rattle.ports.specs.Desk.{State, Held, SameCounts, Creates, left_of, out_name}
 use Rattle.plp_config.specs.Capacity.{IsPlan}
+use Rattle.plp_config.specs.SlotTime.{slots_by}
 use Rattle.plp_config.specs.declared.config.Config.{Config}
 use Rattle.t2mi_stream.specs.Complete.{complete_units}
 use Rattle.gateway_core.specs.Events.{Event, offered, has_ended, begun, given, finished}
@@ -96,6 +97,7 @@ pub record Runs (b : Start) (now : State) (readings : List Reading) (w : Writing
   pub counts : SameCounts b.desk now
   pub short : AllShort (places_of readings)
   pub taken : (plp : ℕ) → plp < length readings → (reading_at readings plp).taken ≡ length (offered plp events)
+  pub within : (plp : ℕ) → plp < length b.c.plps → length (offered plp events) ≤ slots_by b.c plp (begun events * b.c.ticks)
   pub plps : plps_of g ≡ length b.c.plps
   pub given_are : given events ≡ length units
   pub count_is : count ≡ length units

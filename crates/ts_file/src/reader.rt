@@ -150,6 +150,7 @@ impl PacketReader {
         ensures reads { ReadsOn (D.state desk.old) (D.state desk.new) self.old self.new }
         ensures some { IfOk result (λ next. IfSome next (Takes (D.state desk.old) (D.state desk.new) self.old self.new)) }
         ensures few { IfOk result (λ next. IfSome next (λ packet. length self.new.waiting + 188 ≤ 188 * most)) }
+        ensures no_more { length self.new.waiting ≤ 188 * most }
         ensures none { IfOk result (λ next. IfNone next (Ends (D.state desk.old) (D.state desk.new) self.old self.new)) }
         ensures calm { OnOk result ((D.state desk.new).read_faults ≡ (D.state desk.old).read_faults) }
         ensures short { OnOk result (given_of self.new < most_bytes) }

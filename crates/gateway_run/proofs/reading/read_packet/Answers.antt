@@ -35,7 +35,7 @@ returns-in-Ok-None-clause-reading g c =
 
 pub returns-in-Err-clause-err : goal.returns-in-Err-clause-err
 returns-in-Err-clause-err g c =
-    rw c.stop_of.ensures (stopped_on _ _ _ _ _ _ _ _ c.requires.reading c.requires.place c.requires.below c.requires.wanted c.next.ensures.reads c.in-Err.ensures.err)
+    rw c.stop_of.ensures (stopped_on _ _ _ _ _ _ _ _ c.requires.reading c.requires.place c.requires.below c.requires.wanted c.next.ensures.reads c.in-Err.ensures.err (let f = c.next.ensures.no_more in omega (arith, f, c.wants-most.ensures.value)))
 
 pub overflow_cast-plp : goal.overflow_cast-plp
 overflow_cast-plp g c = let small = place_small _ _ _ _ c.requires.reading c.requires.place in omega (arith, small)

@@ -30,3 +30,10 @@ returns-clause-short g c =
     let l = left_size c.fill.new.self c.self-2.inside.handle c.self-2.inside.taken c.self-2.inside.input c.skip.new.self c.self-2.view_is c.skip.ensures long in
     let short = c.in_ok-fill.ensures.short in
     omega (arith, l.1, short)
+
+pub returns-clause-no_more : goal.returns-clause-no_more
+returns-clause-no_more g c =
+    let long : 188 ≤ length c.fill.new.self.waiting = search rules in
+    let l = left_size c.fill.new.self c.self-2.inside.handle c.self-2.inside.taken c.self-2.inside.input c.skip.new.self c.self-2.view_is c.skip.ensures long in
+    let few = c.in_ok-fill.ensures.few in
+    omega (arith, l.0, few)
