@@ -148,6 +148,9 @@ pub works : (b : Start) (now : State) (readings : List Reading) (w : Writing) (b
 works b now readings w bytes Is g is = record {
   opened = g.opened;
   all = length-map readings given_of ∙ g.all;
+  names = some_is b.desk.held (λ h. (k : Held) × (now.held ≡ Some k)
+      × ((plp : ℕ) → plp < length (places_of readings) → slice_index_or k.names (length b.desk.opened + plp) [] ≡ slice_index_or b.ins plp [])) (λ h told.
+      let t = g.tells h told in (t.is, t.held, λ plp lt. t.names plp (let n = length-map readings given_of in let all = g.all in omega (arith, lt, n, all))));
   files = other_files b now readings w bytes b.desk.held refl g;
   created = g.created;
   said = g.said;

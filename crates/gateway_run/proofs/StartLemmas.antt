@@ -7,7 +7,7 @@ use Rattle.std.specs.Cmp.Lexicographic.{slice_cmp, nat_list_cmp_total}
 use Rattle.std.proofs.lemmas.Map.Text.{is_eq-slice_cmp}
 use Rattle.std.proofs.lemmas.Slice.Eq.{bytes_eq-Decides}
 use Rattle.std.proofs.lemmas.Bool.{cases_Bool, cases_eq}
-use Rattle.std.proofs.lemmas.List.{length-map, map-append, length_push, get_or_push, get_or_append_left, take_more, take_more_set}
+use Rattle.std.proofs.lemmas.List.{length-map, length-take-le, get_or-take, get_or-map, map-append, length_push, get_or_push, get_or_append_left, take_more, take_more_set}
 use Rattle.plp_config.specs.declared.config.Config.{Config}
 use Rattle.ports.specs.Desk.{State, Held, Files, Rose, SameCounts, Keeps, Opens, Creates, with_name, with_empty, file_of, left_of, out_name, bytes_of, SameButFor}
 use Rattle.ports.specs.Desk as desk
@@ -17,10 +17,10 @@ use Rattle.gateway_core.specs.StandsFor.{GatewayStandsFor, plps_of}
 use Rattle.gateway_core.specs.declared.gateway.Gateway.{Gateway}
 use Rattle.ts_file.specs.Reading.{Reading, given_of, rest_of}
 use Rattle.ts_file.specs.Writing.{Writing}
-use Rattle.gateway_run.specs.GatewayRun.{file_at, inputs_of, units_of, Opens as OpensSome, SameFiles, OtherFiles, Stops}
+use Rattle.gateway_run.specs.GatewayRun.{file_at, inputs_of, units_of, AreStarts, AreNamed, Opens as OpensSome, SameFiles, OtherFiles, Stops}
 use Rattle.gateway_run.specs.Running.{Start, IsStart, no_reading, reading_at, places_of, HoldsOut, Goes, IsRead, Waits, HoldsIns, AreOpened}
 use Rattle.gateway_run.specs.declared.stop.RunStop.TheVariants as stop
-use Rattle.gateway_run.proofs.DeskLemmas.{of_some, some_at}
+use Rattle.gateway_run.proofs.DeskLemmas.{of_some, some_at, some_is}
 use Rattle.gateway_run.proofs.FrameLemmas.{none_at_zero}
 use Rattle.gateway_run.proofs.RunLemmas.{same_counts, all_short}
 
@@ -128,34 +128,60 @@ same_files old mid new ins readings None e f a = f ∙ a.untold (sym e)
 same_files old mid new ins readings (Some h) e f a =
     let t = a.tells h (sym e) in (t.is, f ∙ t.held, t.files)
 
-opens_some : (old mid new : State) (ins some : List (List ℕ)) (readings : List Reading) → Keeps mid new → length some ≤ length ins → AreOpened old mid some readings → OpensSome old new ins
-opens_some old mid new ins some readings k few a = record {
+-- the places of readers that took and hold nothing
+all_starts : (readings : List Reading) → ((plp : ℕ) → plp < length readings → (reading_at readings plp).taken ≡ 0) → ((plp : ℕ) → plp < length readings → (reading_at readings plp).waiting ≡ []) → AreStarts (places_of readings)
+all_starts readings taken waiting plp lt =
+    let inside : plp < length readings = let n = length-map readings given_of in omega (arith, lt, n) in
+    let t = taken plp inside in
+    let w = ap length (waiting plp inside) in
+    get_or-map given_of readings plp no_reading 0 inside ∙ (let none : given_of (reading_at readings plp) ≡ 0 = omega (arith, t, w) in none)
+
+-- what handles are named that were opened in turn
+all_named : (old mid new : State) (ins some : List (List ℕ)) (readings : List Reading) → ((h k : Held) → old.held ≡ Some h → mid.held ≡ Some k → (l : Held) × (new.held ≡ Some l) × (l.names ≡ k.names))
+    → ((plp : ℕ) → plp < length some → slice_index_or some plp [] ≡ slice_index_or ins plp []) → AreOpened old mid some readings → AreNamed old new ins (places_of readings)
+all_named old mid new ins some readings held same a = some_is old.held (λ h. (k : Held) × (new.held ≡ Some k)
+    × ((plp : ℕ) → plp < length (places_of readings) → slice_index_or k.names (length old.opened + plp) [] ≡ slice_index_or ins plp [])) (λ h told.
+    let t = a.tells h told in
+    let l = held h t.is told t.held in (
+      l.0,
+      l.1,
+      λ plp lt.
+          let inside : plp < length some = let n = length-map readings given_of in let all = a.all in omega (arith, lt, n, all) in
+          ap (λ (names : List (List ℕ)). slice_index_or names (length old.opened + plp) []) l.2 ∙ t.names plp inside ∙ same plp inside,
+    ))
+
+opens_some : (old mid new : State) (ins some : List (List ℕ)) (readings : List Reading) → Keeps mid new → length some ≤ length ins → ((plp : ℕ) → plp < length some → slice_index_or some plp [] ≡ slice_index_or ins plp [])
+    → AreOpened old mid some readings → OpensSome old new ins
+opens_some old mid new ins some readings k few same a = record {
   places = places_of readings;
   opened = k.opened ∙ a.opened;
   few = let all = a.all in omega (arith, few, all, length-map readings given_of);
+  starts = all_starts readings a.taken a.waiting;
+  names = all_named old mid new ins some readings (λ h l told is. (l, k.held ∙ is, refl)) same a;
   files = same_files old mid new some readings old.held refl k.held a;
   created = k.created ∙ a.created;
   said = k.said ∙ a.said;
 }
 
 -- An input could not be opened.
-pub opening_failed : (c : Config) (old mid new : State) (out : List ℕ) (ins some : List (List ℕ)) (readings : List Reading) → Keeps mid new → Rose mid.read_faults new.read_faults → mid.read_faults ≤ new.read_faults
-    → new.write_faults ≡ mid.write_faults → new.line_faults ≡ mid.line_faults → length some ≤ length ins → AreOpened old mid some readings → Stops c old new out ins stop.ReadFault
-opening_failed c old mid new out ins some readings k rose later writes lines few a = (
+pub opening_failed : (c : Config) (old mid new : State) (out : List ℕ) (ins : List (List ℕ)) (count : ℕ) (readings : List Reading) → Keeps mid new → Rose mid.read_faults new.read_faults → mid.read_faults ≤ new.read_faults
+    → new.write_faults ≡ mid.write_faults → new.line_faults ≡ mid.line_faults → count ≤ length ins → AreOpened old mid (take count ins) readings → Stops c old new out ins stop.ReadFault
+opening_failed c old mid new out ins count readings k rose later writes lines within a = (
   record {
     rose = subst (λ (n : ℕ). Rose n new.read_faults) a.counts.read_faults rose;
     later = let e = a.counts.read_faults in omega (arith, e, later);
     write_faults = writes ∙ a.counts.write_faults;
     line_faults = lines ∙ a.counts.line_faults;
   },
-  inl (opens_some old mid new ins some readings k few a),
+  let size = length-take-le count ins within in
+      inl (opens_some old mid new ins (take count ins) readings k (omega (arith, size, within)) (λ plp lt. get_or-take count ins plp [] (omega (arith, lt, size))) a),
 )
 
 -- No memory was found before anything was opened.
 pub no_memory_at_first : (c : Config) (s : State) (out : List ℕ) (ins : List (List ℕ)) → Stops c s s out ins stop.OutOfMemory
 no_memory_at_first c s out ins = (
   record { read_faults = refl; write_faults = refl; line_faults = refl },
-  inl (opens_some s s s ins [] [] (record { held = refl; said = refl; opened = refl; created = refl }) (omega arith) (none_opened s)),
+  inl (opens_some s s s ins [] [] (record { held = refl; said = refl; opened = refl; created = refl }) (omega arith) (λ plp lt. absurd (omega (arith, lt))) (none_opened s)),
 )
 
 -- The output could not be created.
@@ -179,6 +205,9 @@ creating_failed c old mid new out ins readings f rose later reads lines a = (
     places = places_of readings;
     opened = f.opened ∙ a.opened;
     all = length-map readings given_of ∙ a.all;
+    starts = all_starts readings a.taken a.waiting;
+    names = all_named old mid new ins ins readings (λ h k told is.
+        let only : SameButFor out (Some k) new.held = subst (λ (m : Option Held). SameButFor out m new.held) is f.held in (only.0, only.1, only.2)) (λ plp lt. refl) a;
     files = other_files old mid new out ins readings old.held refl f.held a;
     created = f.created ∙ a.created;
     said = f.said ∙ a.said;

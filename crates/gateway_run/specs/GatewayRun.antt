@@ -64,20 +64,33 @@ abbrev pub SameFiles : Option Held → Option Held → Type 0
 SameFiles None new = new ≡ None
 SameFiles (Some h) new = (k : Held) × (new ≡ Some k) × (k.files ≡ h.files)
 
+-- The handle of each of these places is of the input of its number, where the desk tells.
+abbrev pub AreNamed : State → State → List (List ℕ) → List ℕ → Type 0
+AreNamed old new ins places = IfSome old.held (λ h. (k : Held) × (new.held ≡ Some k)
+    × ((plp : ℕ) → plp < length places → slice_index_or k.names (length old.opened + plp) [] ≡ slice_index_or ins plp []))
+
+-- Nothing was read.
+abbrev pub AreStarts : List ℕ → Type 0
+AreStarts places = (plp : ℕ) → plp < length places → slice_index places plp ≡ 0
+
 -- Some inputs were opened, in turn, and nothing was read.
 pub record Opens (old new : State) (ins : List (List ℕ)) : Type 0 where
   pub places : List ℕ
   pub opened : new.opened ≡ old.opened ++ places
   pub few : length places ≤ length ins
+  pub starts : AreStarts places
+  pub names : AreNamed old new ins places
   pub files : SameFiles old.held new.held
   pub created : new.created ≡ old.created
   pub said : new.said ≡ old.said
 
--- All inputs were opened, in turn, and then the output was not created. Nothing is known of it.
+-- All inputs were opened, in turn, nothing was read, and then the output was not created. Nothing is known of it.
 pub record FailsToCreate (old new : State) (out : List ℕ) (ins : List (List ℕ)) : Type 0 where
   pub places : List ℕ
   pub opened : new.opened ≡ old.opened ++ places
   pub all : length places ≡ length ins
+  pub starts : AreStarts places
+  pub names : AreNamed old new ins places
   pub files : OtherFiles out old.held new.held
   pub created : new.created ≡ old.created
   pub said : new.said ≡ old.said
@@ -86,6 +99,7 @@ pub record FailsToCreate (old new : State) (out : List ℕ) (ins : List (List �
 pub record Works (old new : State) (out : List ℕ) (ins : List (List ℕ)) (places : List ℕ) (HoldsOut : Held → List ℕ → Type 0) : Type 0 where
   pub opened : new.opened ≡ old.opened ++ places
   pub all : length places ≡ length ins
+  pub names : AreNamed old new ins places
   pub files : OtherFiles out old.held new.held
   pub created : new.created ≡ old.created + 1
   pub said : new.said ≡ old.said

@@ -1,5 +1,4 @@
 use Rattle.std.proofs.Common.{arith}
-use Rattle.std.proofs.lemmas.List.{length-take-le}
 use Rattle.gateway_run.proofs.StartLemmas.{none_opened, opened_next, opening_failed}
 use Rattle.gateway_run.proofs.opening.open_inputs.Goals as goal
 
@@ -8,8 +7,7 @@ loop-plp-init g c = none_opened _
 
 pub returns-in-Err-clause-err : goal.returns-in-Err-clause-err
 returns-in-Err-clause-err g c = λ config out.
-    opening_failed config _ _ _ out _ _ _ c.in-Err.ensures.err c.in-Err.ensures.cause.rose c.open.ensures.cause.later c.open.ensures.write_faults c.open.ensures.line_faults
-    (omega (arith, length-take-le c.loop-plp.plp c.args.ins.now c.loop-plp.auto.plp-end)) c.loop-plp.invariant
+    opening_failed config _ _ _ out _ c.loop-plp.plp _ c.in-Err.ensures.err c.in-Err.ensures.cause.rose c.open.ensures.cause.later c.open.ensures.write_faults c.open.ensures.line_faults c.loop-plp.auto.plp-end c.loop-plp.invariant
 
 pub loop-plp-preserved : goal.loop-plp-preserved
 loop-plp-preserved g c =
