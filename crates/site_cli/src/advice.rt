@@ -62,18 +62,18 @@ fn say_cause(rt: &impl Eprint, file: &str, cause: ConfigCause) -> io::Result<()>
     }
 }
 
-// What `gateway` or another command writes to.
-fn written_by(words: &[Word]) -> &str {
+// `gateway` writes to OUT, and at the end to standard output; any other command to the latter alone.
+fn say_write_fault(rt: &impl Eprint, words: &[Word]) -> io::Result<()> {
     if is_gateway(words) {
-        word_at(words, 2)
-    } else {
-        "standard output"
+        eprint!(rt; "{} could not be created, or it or ", word_at(words, 2))?;
     }
+    eprintln!(rt;
+        "standard output took no more; see that there is room, that it may be written, and that its reader is still there"
+    )
 }
 
 // Says it, as far as standard error takes it: nobody is left to tell of a failure there.
 fn say(rt: &impl Eprint, words: &[Word], file: &str, outcome: Outcome) -> io::Result<()> {
-    let written = written_by(words);
     match outcome {
         Outcome::Done => Ok(()),
         Outcome::Usage => say_usage(rt, words),
@@ -93,7 +93,7 @@ fn say(rt: &impl Eprint, words: &[Word], file: &str, outcome: Outcome) -> io::Re
             }
         ),
         Outcome::InputRefused { input, packet } => eprintln!(rt;
-            "{}: packet {packet}, counted from 0, does not begin with the sync byte 0x47, or the file ends inside it; what was read before it is written",
+            "{}: packet {packet}, counted from 0, does not begin with the sync byte 0x47, or the file ends inside it; OUT holds the units of the frames before; mend the file",
             word_at(words, 3 + usize::from(input))
         ),
         Outcome::TooLong { count: LAST_FRAME } => eprintln!(rt;
@@ -108,10 +108,8 @@ fn say(rt: &impl Eprint, words: &[Word], file: &str, outcome: Outcome) -> io::Re
         Outcome::ReadFault => eprintln!(rt;
             "{file}: it could not be opened or read; see that it is there, is a file and may be read"
         ),
-        Outcome::WriteFault => eprintln!(rt;
-            "{written} took no more; see that there is room, that it may be written, and that its reader is still there"
-        ),
-        Outcome::OutOfMemory => eprintln!(rt; "out of memory; the command was not done"),
+        Outcome::WriteFault => say_write_fault(rt, words),
+        Outcome::OutOfMemory => eprintln!(rt; "out of memory; the command did not come to its end"),
     }
 }
 
@@ -123,7 +121,8 @@ fn word_at(words: &[Word], place: usize) -> &str {
 // The file that an outcome speaks of.
 fn file_of(words: &[Word], outcome: Outcome) -> &str {
     match outcome {
-        Outcome::ReadFault | Outcome::TooLong { .. } if is_gateway(words) => "a file that is read",
+        Outcome::ReadFault if is_gateway(words) => "CONFIG or an IN",
+        Outcome::TooLong { .. } if is_gateway(words) => "an IN",
         _ if is_gateway(words) => word_at(words, 1),
         _ => words.last().map_or("", |word| word.as_str()),
     }
