@@ -21,7 +21,7 @@ use Rattle.ts_file.specs.TsFile.{joined, HasBad, begins_with_packet}
 use Rattle.ts_file.specs.Writing.{Writing, Appends, AppendsFront}
 use Rattle.ts_file.specs.declared.reader.ReadStop.{ReadStop}
 use Rattle.ts_file.specs.declared.reader.ReadStop.TheVariants.{Bad, TooLong, Fault}
-use Rattle.gateway_run.specs.GatewayRun.{file_at, inputs_of, frames_of, units_of, MeetsNone, MeetsBad, Works, BeginsUnits, CompleteBefore, ReadsNoFurther, StopsWriting, StopsAtBad, StopsTooLong, ReadsFail, WritesFail, RunsAll, Stops, most_bytes, most_frames}
+use Rattle.gateway_run.specs.GatewayRun.{file_at, inputs_of, frames_of, units_of, MeetsNone, MeetsBad, Works, BeginsUnits, CompleteBefore, ReadsNoFurther, StopsWriting, StopsAtBad, StopsTooLong, GivesTooMuch, WantsBad, ReadsFail, WritesFail, RunsAll, Stops, most_bytes, most_frames}
 use Rattle.gateway_run.specs.Running.{Start, reading_at, places_of, Goes, IsRead, Runs, Waits, read_stop}
 use Rattle.gateway_run.specs.declared.stop.RunStop.TheVariants as stop
 use Rattle.gateway_run.proofs.DeskLemmas.{read_on, reading_same, reading_other, write_on, none_left, works, some_is, of_some}
@@ -121,6 +121,14 @@ waits_less : (o : Option (List ℕ)) (waiting left : List ℕ) → option_map (�
 waits_less None waiting left e = absurd (let z : None ≡ Some left = e in cc)
 waits_less (Some l) waiting left e = let s : waiting ++ l ≡ left = cc in let n = ap length s in omega (arith, n, length-append waiting l)
 
+-- no bad packet is wanted of an input of which nothing is
+none_below : (b : Start) (h : Held) (old : State) (readings : List Reading) (w : Writing) (g : Gateway) (count : ℕ) (r : Runs b old readings w g count) → b.desk.held ≡ Some h
+    → (other : ℕ) → other < length readings → other < plps_of g → wants_of g other ≡ 0 → ¬ (WantsBad b.c (file_at h b.ins) (begun r.events) other)
+none_below b h old readings w g count r held other lt place none =
+    let all = r.goes.all in
+    not_wanted (file_at h b.ins other) (rest_of old (reading_at readings other)) (offered other r.events) (has_ended other r.events) (slots_by b.c other (begun r.events * b.c.ticks)) ((r.relates h held).reads other (omega (arith, lt, all)))
+    (none_wanted (has_ended other r.events) (slots_by b.c other (begun r.events * b.c.ticks)) (length (offered other r.events)) (wants_of g other) (wants_is g b.c r.events other r.stands place) none)
+
 -- what was met first
 meets : (b : Start) (h : Held) (old new : State) (readings : List Reading) (plp packet : ℕ) (is : Reading) (w : Writing) (g : Gateway) (count : ℕ) (r : Runs b old readings w g count) → b.desk.held ≡ Some h
     → plp < length readings → plp < plps_of g → ((other : ℕ) → other < plp → wants_of g other ≡ 0) → 0 < wants_of g plp → IsBad old new (reading_at readings plp) is → packet ≡ (reading_at readings plp).taken
@@ -139,9 +147,7 @@ meets b h old new readings plp packet is w g count r held lt place below wants b
       number = let n = next.number in omega (arith, n, t, number);
       wants = (next.bad, (let n = next.number in let l = wanted.less in omega (arith, n, l)));
       before = rel.before;
-      below = λ other less.
-          not_wanted (file_at h b.ins other) (rest_of old (reading_at readings other)) (offered other r.events) (has_ended other r.events) (slots_by b.c other (begun r.events * b.c.ticks)) (rel.reads other (omega (arith, inside, less)))
-          (none_wanted (has_ended other r.events) (slots_by b.c other (begun r.events * b.c.ticks)) (length (offered other r.events)) (wants_of g other) (wants_is g b.c r.events other r.stands (omega (arith, place, less))) (below other less));
+      below = λ other less. none_below b h old readings w g count r held other (omega (arith, lt, less)) (omega (arith, place, less)) (below other less);
     }
 
 -- nothing waits in a reader but what is wanted
@@ -209,23 +215,39 @@ is_long b h old new readings plp is w g count r held lt none many =
     let k = r.taken plp lt in
     omega (arith, e, less, t, k, many, joined_length (offered plp r.events) read.each, length-append (joined (offered plp r.events)) read.left)
 
-stops_too_long : (b : Start) (old new : State) (readings : List Reading) (plp : ℕ) (is : Reading) (w : Writing) (g : Gateway) (count : ℕ) → plp < length readings → ReadsOn old new (reading_at readings plp) is
-    → TakesNone old new (reading_at readings plp) is → given_of is ≡ most_bytes → new.read_faults ≡ old.read_faults → Runs b old readings w g count → StopsTooLong b.c b.desk new b.out b.ins most_bytes
-stops_too_long b old new readings plp is w g count lt r none many calm was =
+-- A frame wants all that was taken and waits.
+wants_all : (ended : Bool) (slots n wants given waiting : ℕ) → wants ≡ cond ended 0 (slots - n) → 0 < wants → given ≡ 188 * n + waiting → waiting ≤ 188 * wants → given ≤ 188 * slots
+wants_all true slots n wants given waiting e lt sum few = absurd (omega (arith, e, lt))
+wants_all false slots n wants given waiting e lt sum few = omega (arith, e, lt, sum, few)
+
+gives_too_much : (b : Start) (old new : State) (readings : List Reading) (plp : ℕ) (is : Reading) (w : Writing) (g : Gateway) (count : ℕ) → plp < length readings → plp < plps_of g → frame_of g ≤ 2 ^ 31
+    → ((other : ℕ) → other < plp → wants_of g other ≡ 0) → 0 < wants_of g plp → length is.waiting ≤ 188 * wants_of g plp → TakesNone old new (reading_at readings plp) is → given_of is ≡ most_bytes
+    → Runs b old readings w g count → GivesTooMuch b.c b.desk b.ins (places_of (slice_set readings plp is))
+gives_too_much b old new readings plp is w g count lt place early below wants few none many was =
     let all = was.goes.all in
+    record {
+      plp = plp;
+      place = omega (arith, lt, all);
+      gave = place_at (slice_set readings plp is) plp (let n = length-set readings plp is in omega (arith, lt, n)) ∙ ap given_of (reading_same readings plp is lt) ∙ many;
+      frame = begun was.events;
+      early = let f = frame_is g b.c was.events was.stands in omega (arith, f, early);
+      wants = subst (λ (given : ℕ). given ≤ 188 * slots_by b.c plp (begun was.events * b.c.ticks)) many
+          (wants_all (has_ended plp was.events) (slots_by b.c plp (begun was.events * b.c.ticks)) (length (offered plp was.events)) (wants_of g plp) (given_of is) (length is.waiting)
+          (wants_is g b.c was.events plp was.stands place) wants (let t = none.taken in let k = was.taken plp lt in omega (arith, t, k)) few);
+      long = some_is b.desk.held (λ h. most_bytes ≤ length (file_at h b.ins plp)) (λ h held. is_long b h old new readings plp is w g count was held lt none many);
+      before = some_is b.desk.held (λ h. MeetsNone b.c (file_at h b.ins) (begun was.events - 1) × ((other : ℕ) → other < plp → ¬ (WantsBad b.c (file_at h b.ins) (begun was.events) other))) (λ h held.
+          ((was.relates h held).before, λ other less. none_below b h old readings w g count was held other (omega (arith, lt, less)) (omega (arith, place, less)) (below other less)));
+    }
+
+stops_too_long : (b : Start) (old new : State) (readings : List Reading) (plp : ℕ) (is : Reading) (w : Writing) (g : Gateway) (count : ℕ) → plp < length readings → plp < plps_of g → frame_of g ≤ 2 ^ 31
+    → ((other : ℕ) → other < plp → wants_of g other ≡ 0) → 0 < wants_of g plp → length is.waiting ≤ 188 * wants_of g plp → ReadsOn old new (reading_at readings plp) is
+    → TakesNone old new (reading_at readings plp) is → given_of is ≡ most_bytes → new.read_faults ≡ old.read_faults → Runs b old readings w g count → StopsTooLong b.c b.desk new b.out b.ins most_bytes
+stops_too_long b old new readings plp is w g count lt place early below wants few r none many calm was =
     record {
       places = places_of (slice_set readings plp is);
       works = read_works b old new readings plp is w g count lt r was;
       counts = same_counts b.desk old new was.counts (read_counts old new (reading_at readings plp) is r calm);
-      cause = inl (
-        refl,
-        (
-          plp,
-          (omega (arith, lt, all)),
-          (place_at (slice_set readings plp is) plp (let n = length-set readings plp is in omega (arith, lt, n)) ∙ ap given_of (reading_same readings plp is lt) ∙ many),
-          some_is b.desk.held (λ h. most_bytes ≤ length (file_at h b.ins plp)) (λ h held. is_long b h old new readings plp is w g count was held lt none many),
-        ),
-      );
+      cause = inl (refl, gives_too_much b old new readings plp is w g count lt place early below wants few none many was);
     }
 
 rose_on : (a b c : ℕ) → b ≡ a → Rose b c → Rose a c
@@ -246,7 +268,7 @@ pub reading_stopped : (b : Start) (old new : State) (readings : List Reading) (p
 reading_stopped b old new readings plp is w g count (Bad packet) lt place on early below wants r why few is_few v =
     stops_at_bad b old new readings plp packet is w g count lt place on early below wants r why.0 why.1 why.2 why.3 few is_few v
 reading_stopped b old new readings plp is w g count TooLong lt place on early below wants r why few is_few v =
-    stops_too_long b old new readings plp is w g count lt r why.0 why.1 why.2 v.runs
+    stops_too_long b old new readings plp is w g count lt place early below wants is_few r why.0 why.1 why.2 v.runs
 reading_stopped b old new readings plp is w g count Fault lt place on early below wants r why few is_few v = (
   reads_fail b old new (reading_at readings plp) is v.runs.counts r why.2,
   inr (record {

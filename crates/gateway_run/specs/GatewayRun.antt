@@ -151,12 +151,24 @@ pub record StopsAtBad (c : Config) (old new : State) (out : List ℕ) (ins : Lis
   pub counts : SameCounts old new
   pub meets : IfSome old.held (λ h. MeetsBad c (file_at h ins) frame plp packet)
 
+-- An input gave as many bytes as no file may have. A frame wants so many of it, and no bad packet was met before: none in an earlier
+-- frame, and in this one none of an earlier input.
+pub record GivesTooMuch (c : Config) (old : State) (ins : List (List ℕ)) (places : List ℕ) : Type 0 where
+  pub plp : ℕ
+  pub place : plp < length ins
+  pub gave : slice_index places plp ≡ most_bytes
+  pub frame : ℕ
+  pub early : frame ≤ most_frames
+  pub wants : most_bytes ≤ 188 * slots_by c plp (frame * c.ticks)
+  pub long : IfSome old.held (λ h. most_bytes ≤ length (file_at h ins plp))
+  pub before : IfSome old.held (λ h. MeetsNone c (file_at h ins) (frame - 1) × ((other : ℕ) → other < plp → ¬ (WantsBad c (file_at h ins) frame other)))
+
 -- An input gave as many bytes as no file may have, or the run would begin a frame of which none may have the number.
 pub record StopsTooLong (c : Config) (old new : State) (out : List ℕ) (ins : List (List ℕ)) (count : ℕ) : Type 0 where
   pub places : List ℕ
   pub works : Works old new out ins places (BeginsUnits c ins)
   pub counts : SameCounts old new
-  pub cause : ((count ≡ most_bytes) × ((plp : ℕ) × (plp < length ins) × (slice_index places plp ≡ most_bytes) × IfSome old.held (λ h. most_bytes ≤ length (file_at h ins plp))))
+  pub cause : ((count ≡ most_bytes) × GivesTooMuch c old ins places)
       ⊎ ((count ≡ most_frames) × AllShort places × IfSome old.held (λ h. MeetsNone c (file_at h ins) most_frames × (most_frames < frames_of c (file_at h ins))))
 
 -- A count of faults rose, and the others did not change.

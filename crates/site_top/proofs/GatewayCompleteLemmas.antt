@@ -66,7 +66,7 @@ long_so : (old mid new : State) (config out : List ℕ) (ins : List (List ℕ)) 
     IfSome old.held (λ held. AreShort held ins → GatewayEnds held config ins (TooLong count))
 long_so old mid new config out ins c count s r =
     ⊎_elim
-    (λ b. if_some old.held _ _ (λ held most. λ short. let few = short b.1.0 b.1.1 in absurd (omega (arith, most, few))) (before_named config old.held mid.held _ s.gives.reads.opened.held b.1.3))
+    (λ b. if_some old.held _ _ (λ held most. λ short. let few = short b.1.plp b.1.place in absurd (omega (arith, most, few))) (before_named config old.held mid.held _ s.gives.reads.opened.held b.1.long))
     (λ f. if_both old.held _ _ _ (λ held x m. λ short. (c, x, s.plan, s.count, (f.0, m.0, m.1))) s.gives.spells (before_named config old.held mid.held _ s.gives.reads.opened.held f.2))
     r.cause
 
