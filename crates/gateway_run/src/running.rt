@@ -104,6 +104,7 @@ pub fn run<D: Desk>(
     ensures ok { IfOk result (λ ran. RunsAll plan.now (D.state desk.old) (D.state desk.new) out.now ins.now ran.frames ran.units) }
     ensures err { IfErr result (Stops plan.now (D.state desk.old) (D.state desk.new) out.now ins.now) }
 {
+    // It tells that the configuration satisfies every rule and test.
     let _ = plan.config();
     let mut readers = open_readers(alloc, ins.len())?;
     let mut writer = UnitWriter::open(alloc)?;
