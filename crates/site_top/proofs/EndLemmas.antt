@@ -13,7 +13,7 @@ use Rattle.site_top.specs.ShowPackets.{Said, SaidFirst, ReadsFile, Counts, Shows
 use Rattle.site_top.specs.Files.{Opened}
 use Rattle.site_top.specs.Progress.{Shown, Only, StopsIn, StopsAt, EndsAt, GivesAll, Stops, Finishes, SaysRest, ShowsOpened}
 use Rattle.site_top.proofs.PacketFileLemmas.{packs_first, lines_of-append, file_len}
-use Rattle.site_top.proofs.ProgressLemmas.{if_some, said_only, said_more}
+use Rattle.site_top.proofs.ProgressLemmas.{if_some, said_only, said_more, grew_kept, grew_said, grew_none, grew_on}
 use Rattle.site_top.proofs.StopLemmas.{rose_from}
 
 -- the lines on the page were said, and a text behind them
@@ -108,7 +108,7 @@ stopped_ends start now new handle page outcome end s r =
     ⊎_elim
     (λ (said : Says now new page × (end ≡ outcome) × (new.write_faults ≡ now.write_faults)). subst (ShowsOpened start new handle) (sym said.1) (record {
       given = s.given;
-      only = said_only start now new handle s.given s.only said.0.held said.0.opened said.0.created r.read_faults r.write_faults r.line_faults;
+      only = said_only start now new handle s.given s.only said.0.held said.0.opened said.0.created (grew_said _ _ _ said.0) r.read_faults r.write_faults r.line_faults;
       cause = cause_on start now new s.given outcome s.only.read_faults s.only.write_faults r.read_faults r.write_faults s.cause;
       reads = λ other another. r.read_faults ∙ s.reads other;
       says = λ other. said.2 ∙ s.says other;
@@ -116,7 +116,7 @@ stopped_ends start now new handle page outcome end s r =
     }))
     (λ (lost : Keeps now new × (end ≡ WriteFault) × Rose now.write_faults new.write_faults). subst (ShowsOpened start new handle) (sym lost.1) (record {
       given = s.given;
-      only = said_only start now new handle s.given s.only lost.0.held lost.0.opened lost.0.created r.read_faults r.write_faults r.line_faults;
+      only = said_only start now new handle s.given s.only lost.0.held lost.0.opened lost.0.created (grew_kept _ _ lost.0) r.read_faults r.write_faults r.line_faults;
       cause = (rose_from start.write_faults now.write_faults new.write_faults s.only.write_faults lost.2, given_most start now s.given outcome s.cause);
       reads = λ other another. absurd (another refl);
       says = λ other. absurd (other refl);
@@ -131,7 +131,7 @@ finished_ends start now new handle count page longer end s is r =
     ⊎_elim
     (λ (said : Says now new longer × (end ≡ Done) × (new.write_faults ≡ now.write_faults)). subst (ShowsOpened start new handle) (sym said.1) (record {
       given = s.given;
-      only = said_only start now new handle s.given s.only said.0.held said.0.opened said.0.created r.read_faults r.write_faults r.line_faults;
+      only = said_only start now new handle s.given s.only said.0.held said.0.opened said.0.created (grew_said _ _ _ said.0) r.read_faults r.write_faults r.line_faults;
       cause = s.few;
       reads = λ other another. r.read_faults ∙ s.calm.read_faults;
       says = λ other. said.2 ∙ s.calm.write_faults;
@@ -143,7 +143,7 @@ finished_ends start now new handle count page longer end s is r =
     }))
     (λ (lost : Keeps now new × (end ≡ WriteFault) × Rose now.write_faults new.write_faults). subst (ShowsOpened start new handle) (sym lost.1) (record {
       given = s.given;
-      only = said_only start now new handle s.given s.only lost.0.held lost.0.opened lost.0.created r.read_faults r.write_faults r.line_faults;
+      only = said_only start now new handle s.given s.only lost.0.held lost.0.opened lost.0.created (grew_kept _ _ lost.0) r.read_faults r.write_faults r.line_faults;
       cause = (rose_from start.write_faults now.write_faults new.write_faults s.only.write_faults lost.2, omega (arith, s.few));
       reads = λ other another. absurd (another refl);
       says = λ other. absurd (other refl);
@@ -226,6 +226,7 @@ shows old mid new name handle outcome o calm s =
     let both = told old.held name (left_of mid handle) (λ file. Said file mid new outcome × GivesAll file s.given outcome) o.left o.present s.said in
     record {
       reads = reads_by old mid new name handle s.given outcome o s.only s.cause (both_second old.held (λ h. Said (bytes_of h.files name) mid new outcome) (λ h. GivesAll (bytes_of h.files name) s.given outcome) both);
+      grew = grew_on old mid new (grew_none old mid o.said) s.only.grew;
       said = if_some old.held _ _ (λ h x. said_since (bytes_of h.files name) old mid new outcome o.said x)
           (both_first old.held (λ h. Said (bytes_of h.files name) mid new outcome) (λ h. GivesAll (bytes_of h.files name) s.given outcome) both);
       counts = counts_by old mid new handle outcome calm s;

@@ -23,7 +23,7 @@ use Rattle.site_top.specs.ShowT2mi.{pid_of, place_line, place_lines}
 use Rattle.site_top.specs.Piped.{rest_of, Taken, Seeks, Unpipes, IsAt, PutsLine, Lines, packets_from, Pipes, steps_left, HasShown}
 use Rattle.site_top.proofs.InputLemmas.{joined}
 use Rattle.site_top.proofs.PidLemmas.{tells_none}
-use Rattle.site_top.proofs.ProgressLemmas.{said_same, left_same, calm_on, read_only, said_only, said_more}
+use Rattle.site_top.proofs.ProgressLemmas.{said_same, left_same, calm_on, read_only, said_only, said_more, grew_kept, grew_said, grew_none}
 
 -- the bytes that an unpiper took, one event more
 pub fed_on : EventsPush → (old new : Unpiper) (pid : ℕ) (bytes piece : List ℕ) (number : ℕ) →
@@ -115,12 +115,12 @@ taken_way : (start old new : State) (handle at : ℕ) (from front waiting page l
 taken_way start old new handle at from front waiting page left t way rf wf lf =
     ⊎_elim
     (λ (kept : Keeps old new × (left ≡ page)). record {
-      only = said_only start old new handle (at + length front + length waiting) t.only kept.0.held kept.0.opened kept.0.created rf (omega (arith, wf)) lf;
+      only = said_only start old new handle (at + length front + length waiting) t.only kept.0.held kept.0.opened kept.0.created (grew_kept _ _ kept.0) rf (omega (arith, wf)) lf;
       calm = calm_on start old new t.calm rf wf lf;
       file = ap (option_map (λ l. (front ++ waiting) ++ l)) (left_same old new handle kept.0.held kept.0.opened) ∙ t.file;
     })
     (λ (said : Says old new page × (left ≡ [])). record {
-      only = said_only start old new handle (at + length front + length waiting) t.only said.0.held said.0.opened said.0.created rf (omega (arith, wf)) lf;
+      only = said_only start old new handle (at + length front + length waiting) t.only said.0.held said.0.opened said.0.created (grew_said _ _ _ said.0) rf (omega (arith, wf)) lf;
       calm = calm_on start old new t.calm rf wf lf;
       file = ap (option_map (λ l. (front ++ waiting) ++ l)) (left_same old new handle said.0.held said.0.opened) ∙ t.file;
     })
@@ -183,6 +183,7 @@ seeks_begun s handle waiting first empty =
           held = refl;
           opened = sym (ap (slice_set s.opened handle) start ∙ set-get_or s.opened handle 0);
           created = refl;
+          grew = grew_none s s refl;
           read_faults = omega arith;
           write_faults = omega arith;
           line_faults = refl;
@@ -240,6 +241,7 @@ pipes_begun s handle pid base from page unpiper place empty u =
           held = refl;
           opened = sym (ap (slice_set s.opened handle) start ∙ set-get_or s.opened handle 0);
           created = refl;
+          grew = grew_none s s refl;
           read_faults = omega arith;
           write_faults = omega arith;
           line_faults = refl;

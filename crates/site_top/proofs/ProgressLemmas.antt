@@ -3,6 +3,7 @@ use Rattle.std.proofs.Common.{◌≡◌, ℕ, ◌+◌, ◌-◌, ◌<◌, ◌≤�
 use Rattle.std.specs.Prelude.{IfSome, IsTrue, option_map, slice_index, slice_set}
 use Rattle.std.proofs.lemmas.List.{get_or-set_same, set-set, set-get_or, drop-append-le}
 use Rattle.ports.specs.Desk.{State, Held, SameCounts, Keeps, Says, content, left_of}
+use Rattle.site_top.specs.Files.{OnlyGrew}
 use Rattle.site_top.specs.PacketFile.{Begins, Packs, bytes_in}
 use Rattle.site_top.specs.SaidLines.{line_of, lines_of}
 use Rattle.ts_file.specs.Ahead.{ReadsAhead, IsAtEnd}
@@ -33,6 +34,22 @@ pub said_same : (said : Option (List ℕ)) → said ≡ option_map (λ s. s ++ [
 said_same None = refl
 said_same (Some s) = ap Some (sym (append-nil s))
 
+pub said_more : (said : Option (List ℕ)) (a b c : List ℕ) → a ++ b ≡ c → option_map (λ s. s ++ b) (option_map (λ s. s ++ a) said) ≡ option_map (λ s. s ++ c) said
+said_more None a b c e = refl
+said_more (Some s) a b c e = ap Some (append_assoc s a b ∙ ap (λ (text : List ℕ). s ++ text) e)
+
+pub grew_none : (old new : State) → new.said ≡ old.said → OnlyGrew old new
+grew_none old new quiet = ([], quiet ∙ said_same old.said)
+
+pub grew_kept : (old new : State) → Keeps old new → OnlyGrew old new
+grew_kept old new k = grew_none old new k.said
+
+pub grew_said : (old new : State) (page : List ℕ) → Says old new page → OnlyGrew old new
+grew_said old new page says = (page, says.said)
+
+pub grew_on : (start mid new : State) → OnlyGrew start mid → OnlyGrew mid new → OnlyGrew start new
+grew_on start mid new a b = (a.0 ++ b.0, b.1 ∙ ap (option_map (λ text. text ++ b.0)) a.1 ∙ said_more start.said a.0 b.0 (a.0 ++ b.0) refl)
+
 -- the start of a run
 pub begun : (s : State) (handle : ℕ) (waiting page : List ℕ) → handle < length s.opened → slice_index s.opened handle ≡ 0 → waiting ≡ [] → page ≡ [] → Comes s s handle 0 0 waiting page false
 begun s handle waiting page came first none empty =
@@ -42,6 +59,7 @@ begun s handle waiting page came first none empty =
         held = refl;
         opened = sym (ap (slice_set s.opened handle) start ∙ set-get_or s.opened handle 0);
         created = refl;
+        grew = grew_none s s refl;
         read_faults = omega arith;
         write_faults = omega arith;
         line_faults = refl;
@@ -77,6 +95,7 @@ read_only start old new handle at waiting more came o r =
       held = r.held ∙ o.held;
       opened = r.opened ∙ rw (sum, o.opened) (set-set start.opened handle (at + length waiting) (at + length more));
       created = r.created ∙ o.created;
+      grew = grew_on start old new o.grew (grew_none old new r.said);
       read_faults = omega (arith, o.read_faults, r.read_faults);
       write_faults = omega (arith, o.write_faults, r.write_faults);
       line_faults = r.line_faults ∙ o.line_faults;
@@ -103,10 +122,6 @@ pub left_same : (old new : State) (handle : ℕ) → new.held ≡ old.held → n
 left_same old new handle held opened =
     ap (λ (o : Option Held). option_map (λ h. drop (slice_index new.opened handle) (content h handle)) o) held
     ∙ ap (λ (xs : List ℕ). option_map (λ h. drop (slice_index xs handle) (content h handle)) old.held) opened
-
-pub said_more : (said : Option (List ℕ)) (a b c : List ℕ) → a ++ b ≡ c → option_map (λ s. s ++ b) (option_map (λ s. s ++ a) said) ≡ option_map (λ s. s ++ c) said
-said_more None a b c e = refl
-said_more (Some s) a b c e = ap Some (append_assoc s a b ∙ ap (λ (text : List ℕ). s ++ text) e)
 
 -- the lines on the page were said
 pub shown_said : (file : List ℕ) (start old new : State) (at count : ℕ) (rest page : List ℕ) → new.said ≡ option_map (λ s. s ++ page) old.said → Shown file start old at count rest page →
@@ -146,12 +161,13 @@ shown_lost file start old new at count rest page e s =
       },
     )
 
-pub said_only : (start old new : State) (handle given : ℕ) → Only start old handle given → new.held ≡ old.held → new.opened ≡ old.opened → new.created ≡ old.created →
+pub said_only : (start old new : State) (handle given : ℕ) → Only start old handle given → new.held ≡ old.held → new.opened ≡ old.opened → new.created ≡ old.created → OnlyGrew old new →
     new.read_faults ≡ old.read_faults → old.write_faults ≤ new.write_faults → new.line_faults ≡ old.line_faults → Only start new handle given
-said_only start old new handle given o held opened created rf wf lf = record {
+said_only start old new handle given o held opened created grew rf wf lf = record {
   held = held ∙ o.held;
   opened = opened ∙ o.opened;
   created = created ∙ o.created;
+  grew = grew_on start old new o.grew grew;
   read_faults = omega (arith, o.read_faults, rf);
   write_faults = omega (arith, o.write_faults, wf);
   line_faults = lf ∙ o.line_faults;
@@ -166,7 +182,7 @@ pub gave_way : (start old new : State) (handle at count : ℕ) (waiting page lef
 gave_way start old new handle at count waiting page left ended c way rf wf lf =
     ⊎_elim
     (λ (kept : Keeps old new × (left ≡ page)). record {
-      only = said_only start old new handle (at + length waiting) c.only kept.0.held kept.0.opened kept.0.created rf (omega (arith, wf)) lf;
+      only = said_only start old new handle (at + length waiting) c.only kept.0.held kept.0.opened kept.0.created (grew_kept _ _ kept.0) rf (omega (arith, wf)) lf;
       calm = calm_on start old new c.calm rf wf lf;
       end = λ e. rw (left_same old new handle kept.0.held kept.0.opened) (c.end e);
       shown = if_some (left_of start handle) _ _ (λ file x. (
@@ -176,7 +192,7 @@ gave_way start old new handle at count waiting page left ended c way rf wf lf =
       )) c.shown;
     })
     (λ (said : Says old new page × (left ≡ [])). record {
-      only = said_only start old new handle (at + length waiting) c.only said.0.held said.0.opened said.0.created rf (omega (arith, wf)) lf;
+      only = said_only start old new handle (at + length waiting) c.only said.0.held said.0.opened said.0.created (grew_said _ _ _ said.0) rf (omega (arith, wf)) lf;
       calm = calm_on start old new c.calm rf wf lf;
       end = λ e. rw (left_same old new handle said.0.held said.0.opened) (c.end e);
       shown = if_some (left_of start handle) _ _ (λ file x. (

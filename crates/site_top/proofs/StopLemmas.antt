@@ -11,7 +11,7 @@ use Rattle.site_top.specs.PacketFile.{IsRefused}
 use Rattle.ts_file.specs.Ahead.{ReadsAhead, IsAtEnd}
 use Rattle.site_top.specs.Progress.{Shown, Comes, StopsReading, Takes, TakesNone, Stops}
 use Rattle.site_top.proofs.PacketFileLemmas.{file_len}
-use Rattle.site_top.proofs.ProgressLemmas.{if_some, read_only, filled, filled_shown, taken, shown_lost, said_only}
+use Rattle.site_top.proofs.ProgressLemmas.{if_some, read_only, filled, filled_shown, taken, shown_lost, said_only, grew_kept}
 
 pub rose_from : (start old new : ℕ) → start ≤ old → Rose old new → Rose start new
 rose_from start old new h r = ⊎_elim (λ (l : old < new). let up : start < new = omega arith in inl up) (λ (e : new ≡ 2 ^ 64 - 1). inr e) r
@@ -101,7 +101,7 @@ pub stopped_saying : (start old new : State) (handle at count : ℕ) (waiting pa
 stopped_saying start old new handle at count waiting page left ended outcome c k none is rose few rf wf lf =
     subst (Stops start new handle left) (sym is) (subst (λ (text : List ℕ). Stops start new handle text WriteFault) (sym none) (record {
       given = at + length waiting;
-      only = said_only start old new handle (at + length waiting) c.only k.held k.opened k.created rf wf lf;
+      only = said_only start old new handle (at + length waiting) c.only k.held k.opened k.created (grew_kept _ _ k) rf wf lf;
       cause = (rose_from start.write_faults old.write_faults new.write_faults c.only.write_faults rose, few);
       reads = λ other. rf ∙ c.calm.read_faults;
       says = λ other. absurd (other refl);

@@ -1,5 +1,5 @@
 -- How a run over the units of a file stops and ends, up to its last line.
-use Rattle.std.proofs.Common.{◌≡◌, ◌≢◌, ℕ, ◌+◌, ◌<◌, ◌≤◌, ◌^◌, inr, ⊎_elim, List, [], ◌++◌, length, take, drop, Option, Some, None, refl, ap, sym, subst, ◌∙◌, arith, append_assoc, append-nil, length-append}
+use Rattle.std.proofs.Common.{◌≡◌, ◌≢◌, ℕ, ◌+◌, ◌<◌, ◌≤◌, ◌^◌, inl, inr, ⊎_elim, List, [], ◌++◌, length, take, drop, Option, Some, None, refl, ap, sym, subst, ◌∙◌, arith, append_assoc, append-nil, length-append}
 use Rattle.std.specs.Prelude.{IfSome, option_map, slice_index, slice_set}
 use Rattle.std.proofs.lemmas.List.{take-append-drop, take-append-le, take_all, set-get_or, set-set, nil_from_length}
 use Rattle.ports.specs.Desk.{State, SameCounts, Keeps, Says, Rose, Opens, left_of, bytes_of}
@@ -23,7 +23,7 @@ use Rattle.site_top.proofs.EndLemmas.{rose_on, told, moved}
 use Rattle.site_top.proofs.InputLemmas.{joined}
 use Rattle.site_top.proofs.PidLemmas.{packets_behind, no_packets}
 use Rattle.site_top.proofs.PipedLemmas.{no_lines, lines_text, lines_lost, lines_kept, packets_on, length-packets, taken_read}
-use Rattle.site_top.proofs.ProgressLemmas.{if_some, said_same, said_more, read_only, said_only}
+use Rattle.site_top.proofs.ProgressLemmas.{if_some, said_same, said_more, read_only, said_only, grew_kept, grew_said, grew_none, grew_on, says_nothing}
 use Rattle.site_top.proofs.StopLemmas.{rose_from, no_left}
 
 if_any : {A : Type 0} (o : Option A) (P : A → Type 0) → ((x : A) → P x) → IfSome o P
@@ -103,7 +103,7 @@ pipes_unsaid law start old new handle pid base at count from waiting page left u
     let same : base + length p.front + length waiting ≡ at + length waiting = omega (arith, p.place) in
     subst (UnitsStopped start new handle base (rest_of start handle from) (packets_from pid base) left) (sym is) (record {
       given = at + length waiting;
-      only = subst (Only start new handle) same (said_only start old new handle (base + length p.front + length waiting) p.taken.only k.held k.opened k.created rf wf lf);
+      only = subst (Only start new handle) same (said_only start old new handle (base + length p.front + length waiting) p.taken.only k.held k.opened k.created (grew_kept _ _ k) rf wf lf);
       cause = (rose_from start.write_faults old.write_faults new.write_faults p.taken.only.write_faults rose, few);
       reads = λ other. rf ∙ p.taken.calm.read_faults;
       says = λ other. absurd (other refl);
@@ -214,7 +214,7 @@ units_stopped_end start now new handle base rest packets page outcome end s r =
     ⊎_elim
     (λ (said : Says now new page × (end ≡ outcome) × (new.write_faults ≡ now.write_faults)). subst (UnitsShown start new handle base rest packets) (sym said.1) (record {
       given = s.given;
-      only = said_only start now new handle s.given s.only said.0.held said.0.opened said.0.created r.read_faults r.write_faults r.line_faults;
+      only = said_only start now new handle s.given s.only said.0.held said.0.opened said.0.created (grew_said _ _ _ said.0) r.read_faults r.write_faults r.line_faults;
       cause = end_cause start now new s.given outcome s.only.read_faults s.only.write_faults r.read_faults r.write_faults s.cause;
       reads = λ other another. r.read_faults ∙ s.reads other;
       says = λ other. said.2 ∙ s.says other;
@@ -228,7 +228,7 @@ units_stopped_end start now new handle base rest packets page outcome end s r =
     }))
     (λ (lost : Keeps now new × (end ≡ WriteFault) × Rose now.write_faults new.write_faults). subst (UnitsShown start new handle base rest packets) (sym lost.1) (record {
       given = s.given;
-      only = said_only start now new handle s.given s.only lost.0.held lost.0.opened lost.0.created r.read_faults r.write_faults r.line_faults;
+      only = said_only start now new handle s.given s.only lost.0.held lost.0.opened lost.0.created (grew_kept _ _ lost.0) r.read_faults r.write_faults r.line_faults;
       cause = (rose_from start.write_faults now.write_faults new.write_faults s.only.write_faults lost.2, given_most start now s.given outcome s.cause);
       reads = λ other another. absurd (another refl);
       says = λ other. absurd (other refl);
@@ -237,6 +237,13 @@ units_stopped_end start now new handle base rest packets page outcome end s r =
       said = if_some rest _ _ (λ f x. page_lost start now new (packets f) page x lost.0) s.shown;
     }))
     r.way
+
+-- a run that stopped with nothing on the page ends so
+pub units_stopped_quiet : (start now : State) (handle base : ℕ) (rest : Option (List ℕ)) (packets : List ℕ → List AcceptedPacket) (outcome : Outcome) →
+    UnitsStopped start now handle base rest packets [] outcome → UnitsShown start now handle base rest packets outcome
+units_stopped_quiet start now handle base rest packets outcome s =
+    units_stopped_end start now now handle base rest packets [] outcome outcome s
+    (record { way = inl (says_nothing now [] refl, refl, refl); read_faults = refl; write_faults = omega arith; line_faults = refl })
 
 all_shown : (packets : List AcceptedPacket) (start now : State) (page : List ℕ) → Lines start now packets page → HasShown packets start now page
 all_shown packets start now page l = record { shown = packets; others = []; all = sym (append-nil packets); lines = l }
@@ -249,7 +256,7 @@ units_finished_end start now new handle base count rest packets page longer end 
     ⊎_elim
     (λ (said : Says now new longer × (end ≡ Done) × (new.write_faults ≡ now.write_faults)). subst (UnitsShown start new handle base rest packets) (sym said.1) (record {
       given = s.given;
-      only = said_only start now new handle s.given s.only said.0.held said.0.opened said.0.created r.read_faults r.write_faults r.line_faults;
+      only = said_only start now new handle s.given s.only said.0.held said.0.opened said.0.created (grew_said _ _ _ said.0) r.read_faults r.write_faults r.line_faults;
       cause = s.few;
       reads = λ other another. r.read_faults ∙ s.calm.read_faults;
       says = λ other. said.2 ∙ s.calm.write_faults;
@@ -261,7 +268,7 @@ units_finished_end start now new handle base count rest packets page longer end 
     }))
     (λ (lost : Keeps now new × (end ≡ WriteFault) × Rose now.write_faults new.write_faults). subst (UnitsShown start new handle base rest packets) (sym lost.1) (record {
       given = s.given;
-      only = said_only start now new handle s.given s.only lost.0.held lost.0.opened lost.0.created r.read_faults r.write_faults r.line_faults;
+      only = said_only start now new handle s.given s.only lost.0.held lost.0.opened lost.0.created (grew_kept _ _ lost.0) r.read_faults r.write_faults r.line_faults;
       cause = (rose_from start.write_faults now.write_faults new.write_faults s.only.write_faults lost.2, most);
       reads = λ other another. absurd (another refl);
       says = λ other. absurd (other refl);
@@ -280,6 +287,7 @@ no_memory s handle base from packets place few = record {
     held = refl;
     opened = sym (ap (slice_set s.opened handle) (sym place) ∙ set-get_or s.opened handle 0);
     created = refl;
+    grew = grew_none s s refl;
     read_faults = omega arith;
     write_faults = omega arith;
     line_faults = refl;
@@ -308,6 +316,7 @@ only_since start mid new handle first given o m = record {
   held = m.held ∙ o.held;
   opened = m.opened ∙ rw o.opened (set-set start.opened handle first given);
   created = m.created ∙ o.created;
+  grew = grew_on start mid new o.grew m.grew;
   read_faults = omega (arith, o.read_faults, m.read_faults);
   write_faults = omega (arith, o.write_faults, m.write_faults);
   line_faults = m.line_faults ∙ o.line_faults;
@@ -380,6 +389,7 @@ shows_t2mi old mid new name handle outcome o calm s =
     let said = told old.held name (left_of mid handle) (λ file. SaysLines (packets_in file) mid new outcome) o.left o.present s.said in
     record {
       reads = reads_by old mid new name handle s.given outcome o s.only s.cause all;
+      grew = grew_on old mid new (grew_none old mid o.said) s.only.grew;
       said = if_some old.held _ _ (λ h x. says_since old mid new (packets_in (bytes_of h.files name)) outcome o.said x) said;
       long = if_some old.held _ _ (λ h x. λ count e. let gave = (subst (UnitsEnd mid new s.given) e s.cause).1 in omega (arith, x, gave)) few;
       counts = counts_by old mid new handle 0 (left_of mid handle) packets_in outcome calm s;

@@ -20,3 +20,7 @@ pub record Unopened (old new : State) : Type 0 where
 -- Standard output grew by a text.
 abbrev pub Grew : State → State → List ℕ → Type 0
 Grew old new text = new.said ≡ option_map (λ said. said ++ text) old.said
+
+-- Standard output grew by some text, or stayed, and nothing that was said before changed.
+abbrev pub OnlyGrew : State → State → Type 0
+OnlyGrew old new = (text : List ℕ) × Grew old new text

@@ -3,6 +3,7 @@ use Rattle.std.specs.Prelude.{◌≡◌, ◌≢◌, ◌⊎◌, ℕ, ◌+◌, ◌
 use Rattle.ports.specs.Desk.{State, Rose, SameCounts, Keeps, Says, left_of}
 use Rattle.site_top.specs.declared.outcome.Outcome.{Outcome}
 use Rattle.site_top.specs.declared.outcome.Outcome.TheVariants.{Done, TooLong, PacketRefused, ReadFault, WriteFault}
+use Rattle.site_top.specs.Files.{OnlyGrew}
 use Rattle.site_top.specs.PacketFile.{Begins, Packs, bytes_in, IsRefused}
 use Rattle.site_top.specs.SaidLines.{line_of, lines_of}
 use Rattle.ts_file.specs.Ahead.{IsAtEnd}
@@ -23,6 +24,7 @@ pub record Only (start now : State) (handle given : ℕ) : Type 0 where
   pub held : now.held ≡ start.held
   pub opened : now.opened ≡ slice_set start.opened handle given
   pub created : now.created ≡ start.created
+  pub grew : OnlyGrew start now
   pub read_faults : start.read_faults ≤ now.read_faults
   pub write_faults : start.write_faults ≤ now.write_faults
   pub line_faults : now.line_faults ≡ start.line_faults

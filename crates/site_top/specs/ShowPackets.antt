@@ -3,7 +3,7 @@ use Rattle.std.specs.Prelude.{◌≡◌, ◌≢◌, ◌⊎◌, ℕ, ◌<◌, ◌
 use Rattle.ports.specs.Desk.{State, Rose, bytes_of}
 use Rattle.site_top.specs.declared.outcome.Outcome.{Outcome}
 use Rattle.site_top.specs.declared.outcome.Outcome.TheVariants.{Done, TooLong, PacketRefused, ReadFault, WriteFault, OutOfMemory}
-use Rattle.site_top.specs.Files.{Opened, Unopened, Grew}
+use Rattle.site_top.specs.Files.{Opened, Unopened, Grew, OnlyGrew}
 use Rattle.site_top.specs.PacketFile.{Packs, bytes_in, IsRefused}
 use Rattle.site_top.specs.SaidLines.{lines_of, count_line}
 
@@ -44,9 +44,10 @@ pub record Counts (old new : State) (outcome : Outcome) : Type 0 where
   pub write_faults : old.write_faults ≤ new.write_faults
   pub line_faults : new.line_faults ≡ old.line_faults
 
--- A run over a named file, up to its last line.
+-- A run over a named file, up to its last line. Standard output only grew, whatever the desk tells, and by these lines where it tells its files.
 pub record Shows (old new : State) (name : List ℕ) (outcome : Outcome) : Type 0 where
   pub reads : ReadsFile old new name outcome
+  pub grew : OnlyGrew old new
   pub said : IfSome old.held (λ held. Said (bytes_of held.files name) old new outcome)
   pub counts : Counts old new outcome
 

@@ -10,7 +10,7 @@ use Rattle.t2mi_stream.specs.Accepted.{AcceptedPacket}
 use Rattle.t2mi_stream.specs.Units.{unit_at, accepted_of}
 use Rattle.site_top.specs.declared.outcome.Outcome.{Outcome}
 use Rattle.site_top.specs.declared.outcome.Outcome.TheVariants.{Done, TooLong, PacketRefused, OutOfMemory}
-use Rattle.site_top.specs.Files.{Opened, Grew}
+use Rattle.site_top.specs.Files.{Opened, Grew, OnlyGrew}
 use Rattle.site_top.specs.SaidLines.{view_line, count_line}
 use Rattle.site_top.specs.ShowPackets.{most_bytes, ReadsFile, Counts}
 
@@ -66,9 +66,10 @@ ReadsUnits old new name OutOfMemory = (new ≡ old) ⊎ ((given : ℕ) × Opened
 ReadsUnits old new name (PacketRefused at why) = ⊥
 ReadsUnits old new name outcome = ReadsFile old new name outcome
 
--- A run over a named file, up to its last line.
+-- A run over a named file, up to its last line. Standard output only grew, whatever the desk tells, and by these lines where it tells its files.
 pub record ShowsT2mi (old new : State) (name : List ℕ) (outcome : Outcome) : Type 0 where
   pub reads : ReadsUnits old new name outcome
+  pub grew : OnlyGrew old new
   pub said : IfSome old.held (λ held. SaysLines (packets_in (bytes_of held.files name)) old new outcome)
   pub long : IfSome old.held (λ held. (count : ℕ) → outcome ≡ TooLong count → most_bytes ≤ length (bytes_of held.files name))
   pub counts : Counts old new outcome
