@@ -17,7 +17,7 @@ use Rattle.gateway_core.specs.StandsFor.{GatewayStandsFor, plps_of}
 use Rattle.gateway_core.specs.declared.gateway.Gateway.{Gateway}
 use Rattle.ts_file.specs.Reading.{Reading, given_of, rest_of}
 use Rattle.ts_file.specs.Writing.{Writing}
-use Rattle.gateway_run.specs.GatewayRun.{file_at, inputs_of, units_of, AreStarts, AreNamed, Opens as OpensSome, SameFiles, OtherFiles, Stops}
+use Rattle.gateway_run.specs.GatewayRun.{file_at, inputs_of, units_of, AreStarts, AreNamed, OpensInputs, SameFiles, OtherFiles, Stops}
 use Rattle.gateway_run.specs.Running.{Start, IsStart, no_reading, reading_at, places_of, HoldsOut, Goes, IsRead, Waits, HoldsIns, AreOpened}
 use Rattle.gateway_run.specs.declared.stop.RunStop.TheVariants as stop
 use Rattle.gateway_run.proofs.DeskLemmas.{of_some, some_at, some_is}
@@ -151,7 +151,7 @@ all_named old mid new ins some readings held same a = some_is old.held (λ h. (k
     ))
 
 opens_some : (old mid new : State) (ins some : List (List ℕ)) (readings : List Reading) → Keeps mid new → length some ≤ length ins → ((plp : ℕ) → plp < length some → slice_index_or some plp [] ≡ slice_index_or ins plp [])
-    → AreOpened old mid some readings → OpensSome old new ins
+    → AreOpened old mid some readings → OpensInputs old new ins
 opens_some old mid new ins some readings k few same a = record {
   places = places_of readings;
   opened = k.opened ∙ a.opened;

@@ -74,7 +74,7 @@ abbrev pub AreStarts : List ℕ → Type 0
 AreStarts places = (plp : ℕ) → plp < length places → slice_index places plp ≡ 0
 
 -- Some inputs were opened, in turn, and nothing was read.
-pub record Opens (old new : State) (ins : List (List ℕ)) : Type 0 where
+pub record OpensInputs (old new : State) (ins : List (List ℕ)) : Type 0 where
   pub places : List ℕ
   pub opened : new.opened ≡ old.opened ++ places
   pub few : length places ≤ length ins
@@ -85,7 +85,7 @@ pub record Opens (old new : State) (ins : List (List ℕ)) : Type 0 where
   pub said : new.said ≡ old.said
 
 -- All inputs were opened, in turn, nothing was read, and then the output was not created. Nothing is known of it.
-pub record FailsToCreate (old new : State) (out : List ℕ) (ins : List (List ℕ)) : Type 0 where
+pub record FailsToCreateOutput (old new : State) (out : List ℕ) (ins : List (List ℕ)) : Type 0 where
   pub places : List ℕ
   pub opened : new.opened ≡ old.opened ++ places
   pub all : length places ≡ length ins
@@ -188,6 +188,6 @@ pub record WritesFail (old new : State) : Type 0 where
 abbrev pub Stops : Config → State → State → List ℕ → List (List ℕ) → RunStop → Type 0
 Stops c old new out ins (Bad input packet) = StopsAtBad c old new out ins input packet
 Stops c old new out ins (TooLong count) = StopsTooLong c old new out ins count
-Stops c old new out ins ReadFault = ReadsFail old new × (Opens old new ins ⊎ StopsWriting c old new out ins)
-Stops c old new out ins WriteFault = WritesFail old new × (FailsToCreate old new out ins ⊎ StopsWriting c old new out ins)
-Stops c old new out ins OutOfMemory = SameCounts old new × (Opens old new ins ⊎ StopsWriting c old new out ins)
+Stops c old new out ins ReadFault = ReadsFail old new × (OpensInputs old new ins ⊎ StopsWriting c old new out ins)
+Stops c old new out ins WriteFault = WritesFail old new × (FailsToCreateOutput old new out ins ⊎ StopsWriting c old new out ins)
+Stops c old new out ins OutOfMemory = SameCounts old new × (OpensInputs old new ins ⊎ StopsWriting c old new out ins)

@@ -9,7 +9,7 @@ use Rattle.ts_packet.specs.Told.{fields_in}
 use Rattle.t2mi_stream.specs.Skipping.{CarriesNothing, SkipLaw}
 use Rattle.t2mi_stream.specs.Units.{points_inside, Carrier, carrier_of, carried, unit_at}
 use Rattle.t2mi_stream.proofs.SkippingLemmas.{unit_before, unit_behind}
-use Rattle.site_top.specs.ShowT2mi.{pid_of, pid_at, pid_in, accepted_on, packets_in}
+use Rattle.site_top.specs.ShowT2mi.{pid_of, pid_at, pid_in, accepted_on, t2mi_packets_in}
 use Rattle.site_top.specs.Piped.{TellsNone, packets_from}
 
 first_of : (o : Option ℕ) (rest : List ℕ) (pid : ℕ) → o ≡ Some pid → slice_get (option_to_list o ++ rest) 0 ≡ Some pid
@@ -98,13 +98,13 @@ tells front rest pid t many some =
 
 -- The packets of a file whose first units tell no PID are those of the rest, further on.
 pub packets_behind : SkipLaw → (front rest : List ℕ) (pid : ℕ) → TellsNone front → 188 ≤ length rest → pid_of (fields_in (take 188 rest)) ≡ Some pid →
-    packets_in (front ++ rest) ≡ packets_from pid (length front) rest
+    t2mi_packets_in (front ++ rest) ≡ packets_from pid (length front) rest
 packets_behind law front rest pid t many some =
     ap (λ (o : Option ℕ). accepted_on o (front ++ rest)) (tells front rest pid t many some)
     ∙ law pid front rest (carries_nothing front pid (not_null (fields_in (take 188 rest)) pid some) t)
 
 -- A file whose units all tell no PID has no packets.
-pub no_packets : (front rest : List ℕ) → TellsNone front → length rest < 188 → packets_in (front ++ rest) ≡ []
+pub no_packets : (front rest : List ℕ) → TellsNone front → length rest < 188 → t2mi_packets_in (front ++ rest) ≡ []
 unfolding pid_in
 no_packets front rest t few =
     let whole : length front ≡ 188 * t.units = t.whole in

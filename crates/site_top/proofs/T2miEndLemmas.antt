@@ -17,7 +17,7 @@ use Rattle.site_top.specs.Progress.{Only, StopsReading, SaysRest}
 use Rattle.ts_file.specs.Ahead.{ReadsAhead, IsAtEnd}
 use Rattle.site_top.specs.SaidLines.{count_line}
 use Rattle.site_top.specs.ShowPackets.{Counts}
-use Rattle.site_top.specs.ShowT2mi.{pid_of, packets_in, place_lines, AreFirstLines, AreLines, SaysLines, ReadsUnits, ShowsT2mi}
+use Rattle.site_top.specs.ShowT2mi.{pid_of, t2mi_packets_in, place_lines, AreFirstLines, AreLines, SaysLines, ReadsUnits, ShowsT2mi}
 use Rattle.site_top.specs.Piped.{rest_of, Seeks, Finds, Lines, packets_from, Pipes, UnitsStop, UnitsEnd, HasShown, UnitsStopped, UnitsFinished, UnitsShown}
 use Rattle.site_top.proofs.EndLemmas.{rose_on, told, moved}
 use Rattle.site_top.proofs.InputLemmas.{joined}
@@ -141,7 +141,7 @@ pipes_finished start old new handle pid base at count from waiting more page unp
 
 -- reading on stopped before a PID was told
 pub seeks_stopped : (start old new : State) (handle at : ℕ) (waiting more : List ℕ) (outcome : Outcome) → handle < length start.opened → Seeks start old handle at waiting → ReadsAhead old new handle waiting more →
-    StopsReading old new (at + length more) outcome → UnitsStopped start new handle 0 (left_of start handle) packets_in [] outcome
+    StopsReading old new (at + length more) outcome → UnitsStopped start new handle 0 (left_of start handle) t2mi_packets_in [] outcome
 seeks_stopped start old new handle at waiting more outcome came k r s =
     let why = stop_cause start old new (at + length more) outcome k.taken.calm r.write_faults s in
     let same : 0 + length k.front + length more ≡ at + length more = omega (arith, k.place) in
@@ -153,11 +153,11 @@ seeks_stopped start old new handle at waiting more outcome came k r s =
       reads = why.1;
       says = why.2;
       few = few_by new handle 0 (at + length more) k.front more (left_of start handle) (sym same) file;
-      shown = if_any (left_of start handle) _ (λ x. record { shown = []; others = packets_in x; all = refl; lines = no_lines start new [] (r.said ∙ k.quiet) refl });
+      shown = if_any (left_of start handle) _ (λ x. record { shown = []; others = t2mi_packets_in x; all = refl; lines = no_lines start new [] (r.said ∙ k.quiet) refl });
     }
 
 -- the file ended before a PID was told
-pub seeks_finished : (start now : State) (handle : ℕ) (waiting page : List ℕ) → page ≡ [] → Finds start now handle waiting None → UnitsFinished start now handle 0 (left_of start handle) packets_in 0 page
+pub seeks_finished : (start now : State) (handle : ℕ) (waiting page : List ℕ) → page ≡ [] → Finds start now handle waiting None → UnitsFinished start now handle 0 (left_of start handle) t2mi_packets_in 0 page
 seeks_finished start now handle waiting page empty x =
     let k = x.1 in
     let same : 0 + length k.front + length waiting ≡ x.0 + length waiting = omega (arith, k.place) in
@@ -170,9 +170,9 @@ seeks_finished start now handle waiting page empty x =
       all = rest_is (left_of now handle) (k.front ++ waiting) (left_of start handle) (λ f. x.0 + length waiting ≡ 0 + length f) file (λ l some.
           let left = ap length (no_left (left_of now handle) l some x.3) in
           omega (arith, k.place, left, length-append (k.front ++ waiting) l, length-append k.front waiting));
-      shown = rest_is (left_of now handle) (k.front ++ waiting) (left_of start handle) (λ f. (0 ≡ length (packets_in f)) × Lines start now (packets_in f) page) file (λ l some.
+      shown = rest_is (left_of now handle) (k.front ++ waiting) (left_of start handle) (λ f. (0 ≡ length (t2mi_packets_in f)) × Lines start now (t2mi_packets_in f) page) file (λ l some.
           let whole : k.front ++ waiting ≡ (k.front ++ waiting) ++ l = sym (ap (λ (y : List ℕ). (k.front ++ waiting) ++ y) (no_left (left_of now handle) l some x.3) ∙ append-nil (k.front ++ waiting)) in
-          let none : packets_in ((k.front ++ waiting) ++ l) ≡ [] = ap packets_in (sym whole) ∙ no_packets k.front waiting k.none x.2 in
+          let none : t2mi_packets_in ((k.front ++ waiting) ++ l) ≡ [] = ap t2mi_packets_in (sym whole) ∙ no_packets k.front waiting k.none x.2 in
           (sym (ap (length {A = AcceptedPacket}) none), subst (λ (ps : List AcceptedPacket). Lines start now ps page) (sym none) (no_lines start now page k.quiet empty)));
     }
 
@@ -333,7 +333,7 @@ file_is left mid front waiting P Q e f h = subst (λ (o : Option (List ℕ)). If
 
 -- A run over the rest of a file behind units that tell no PID is one over the file.
 pub units_since : SkipLaw → (start mid new : State) (handle : ℕ) (found : Found) (waiting : List ℕ) (outcome : Outcome) → Finds start mid handle waiting (Some found) →
-    UnitsShown mid new handle found.at (rest_of mid handle waiting) (packets_from found.pid found.at) outcome → UnitsShown start new handle 0 (left_of start handle) packets_in outcome
+    UnitsShown mid new handle found.at (rest_of mid handle waiting) (packets_from found.pid found.at) outcome → UnitsShown start new handle 0 (left_of start handle) t2mi_packets_in outcome
 units_since law start mid new handle found waiting outcome x s =
     let k = x.0 in
     let file = k.taken.file ∙ rest_nil (left_of start handle) in
@@ -347,11 +347,11 @@ units_since law start mid new handle found waiting outcome x s =
           (λ l h. omega (arith, h, k.place, length-append k.front (waiting ++ l))) s.few;
       all = file_is (left_of start handle) (left_of mid handle) k.front waiting (λ r. outcome ≡ Done → s.given ≡ found.at + length r) (λ f. outcome ≡ Done → s.given ≡ 0 + length f) file
           (λ l h. λ done. omega (arith, h done, k.place, length-append k.front (waiting ++ l))) s.all;
-      said = file_is (left_of start handle) (left_of mid handle) k.front waiting (λ r. SaysLines (packets_from found.pid found.at r) mid new outcome) (λ f. SaysLines (packets_in f) start new outcome) file
+      said = file_is (left_of start handle) (left_of mid handle) k.front waiting (λ r. SaysLines (packets_from found.pid found.at r) mid new outcome) (λ f. SaysLines (t2mi_packets_in f) start new outcome) file
           (λ l h.
           let many : 188 ≤ length (waiting ++ l) = omega (arith, x.1, length-append waiting l) in
           let told : pid_of (fields_in (take 188 (waiting ++ l))) ≡ Some found.pid = ap (λ (u : List ℕ). pid_of (fields_in u)) (take-append-le 188 waiting l x.1) ∙ x.2 in
-          let same : packets_in (k.front ++ (waiting ++ l)) ≡ packets_from found.pid found.at (waiting ++ l) =
+          let same : t2mi_packets_in (k.front ++ (waiting ++ l)) ≡ packets_from found.pid found.at (waiting ++ l) =
           packets_behind law k.front (waiting ++ l) found.pid k.none many told ∙ ap (λ (n : ℕ). packets_from found.pid n (waiting ++ l)) (sym k.place) in
           subst (λ (ps : List AcceptedPacket). SaysLines ps start new outcome) (sym same) (says_since start mid new (packets_from found.pid found.at (waiting ++ l)) outcome k.quiet h)) s.said;
     }
@@ -381,16 +381,16 @@ counts_by old mid new handle base rest packets outcome calm s =
     }
 
 -- A run over a file that it opened.
-pub shows_t2mi : (old mid new : State) (name : List ℕ) (handle : ℕ) (outcome : Outcome) → Opens old mid name handle → SameCounts old mid → UnitsShown mid new handle 0 (left_of mid handle) packets_in outcome →
+pub shows_t2mi : (old mid new : State) (name : List ℕ) (handle : ℕ) (outcome : Outcome) → Opens old mid name handle → SameCounts old mid → UnitsShown mid new handle 0 (left_of mid handle) t2mi_packets_in outcome →
     ShowsT2mi old new name outcome
 shows_t2mi old mid new name handle outcome o calm s =
     let all = told old.held name (left_of mid handle) (λ file. outcome ≡ Done → s.given ≡ 0 + length file) o.left o.present s.all in
     let few = told old.held name (left_of mid handle) (λ file. s.given ≤ 0 + length file) o.left o.present s.few in
-    let said = told old.held name (left_of mid handle) (λ file. SaysLines (packets_in file) mid new outcome) o.left o.present s.said in
+    let said = told old.held name (left_of mid handle) (λ file. SaysLines (t2mi_packets_in file) mid new outcome) o.left o.present s.said in
     record {
       reads = reads_by old mid new name handle s.given outcome o s.only s.cause all;
       grew = grew_on old mid new (grew_none old mid o.said) s.only.grew;
-      said = if_some old.held _ _ (λ h x. says_since old mid new (packets_in (bytes_of h.files name)) outcome o.said x) said;
+      said = if_some old.held _ _ (λ h x. says_since old mid new (t2mi_packets_in (bytes_of h.files name)) outcome o.said x) said;
       long = if_some old.held _ _ (λ h x. λ count e. let gave = (subst (UnitsEnd mid new s.given) e s.cause).1 in omega (arith, x, gave)) few;
-      counts = counts_by old mid new handle 0 (left_of mid handle) packets_in outcome calm s;
+      counts = counts_by old mid new handle 0 (left_of mid handle) t2mi_packets_in outcome calm s;
     }

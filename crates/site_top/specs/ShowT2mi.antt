@@ -24,12 +24,12 @@ abbrev pub pid_at : List ℕ → ℕ → Option ℕ
 pid_at file number = pid_of (fields_in (unit_at file number))
 
 -- the numbers of the units of a file; bytes of an incomplete last one are in none
-abbrev pub units_of : List ℕ → List ℕ
-units_of file = range_with_len 0 (length file / 188)
+abbrev pub unit_numbers : List ℕ → List ℕ
+unit_numbers file = range_with_len 0 (length file / 188)
 
 -- the PID of the T2-MI in a file: the first one that a unit tells
 unfoldable pub pid_in : List ℕ → Option ℕ
-pid_in file = slice_get (flat_map (λ number. option_to_list (pid_at file number)) (units_of file)) 0
+pid_in file = slice_get (flat_map (λ number. option_to_list (pid_at file number)) (unit_numbers file)) 0
 
 -- the packets that are accepted on a PID
 abbrev pub accepted_on : Option ℕ → List ℕ → List AcceptedPacket
@@ -37,8 +37,8 @@ accepted_on None file = []
 accepted_on (Some pid) file = accepted_of pid file
 
 -- the T2-MI packets of a file, in order, with their places
-abbrev pub packets_in : List ℕ → List AcceptedPacket
-packets_in file = accepted_on (pid_in file) file
+abbrev pub t2mi_packets_in : List ℕ → List AcceptedPacket
+t2mi_packets_in file = accepted_on (pid_in file) file
 
 -- the line of a packet, by its place and the fields of its bytes
 abbrev pub place_line : AcceptedPacket → List ℕ
@@ -70,6 +70,6 @@ ReadsUnits old new name outcome = ReadsFile old new name outcome
 pub record ShowsT2mi (old new : State) (name : List ℕ) (outcome : Outcome) : Type 0 where
   pub reads : ReadsUnits old new name outcome
   pub grew : OnlyGrew old new
-  pub said : IfSome old.held (λ held. SaysLines (packets_in (bytes_of held.files name)) old new outcome)
+  pub said : IfSome old.held (λ held. SaysLines (t2mi_packets_in (bytes_of held.files name)) old new outcome)
   pub long : IfSome old.held (λ held. (count : ℕ) → outcome ≡ TooLong count → most_bytes ≤ length (bytes_of held.files name))
   pub counts : Counts old new outcome

@@ -2,7 +2,7 @@
 ghost use Rattle.std.specs.Prelude.{◌≡◌, ◌<◌, ◌≤◌, [], length, take, slice_index, Some, IfOk, IfErr};
 ghost use Rattle.ts_packet.specs.Told.{fields_in};
 ghost use Rattle.ports.specs.Desk.{left_of};
-ghost use Rattle.site_top.specs.ShowT2mi.{pid_of, packets_in};
+ghost use Rattle.site_top.specs.ShowT2mi.{pid_of, t2mi_packets_in};
 ghost use Rattle.site_top.specs.Piped.{Finds, UnitsStopped};
 
 use crate::filling::read_until;
@@ -68,7 +68,7 @@ pub fn find_pid<D: Desk>(
     requires fresh { slice_index (D.state desk.old).opened handle ≡ 0 }
     requires nothing { input.old ≡ [] }
     ensures ok { IfOk result (Finds (D.state desk.old) (D.state desk.new) handle input.new) }
-    ensures err { IfErr result (UnitsStopped (D.state desk.old) (D.state desk.new) handle 0 (left_of (D.state desk.old) handle) packets_in []) }
+    ensures err { IfErr result (UnitsStopped (D.state desk.old) (D.state desk.new) handle 0 (left_of (D.state desk.old) handle) t2mi_packets_in []) }
 {
     let mut at: u64 = 0;
     'each: loop {

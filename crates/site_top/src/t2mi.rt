@@ -3,7 +3,7 @@ ghost use Rattle.std.specs.Prelude.{◌≡◌, ◌<◌, ◌≤◌, ◌+◌, ◌^
 ghost use Rattle.ports.specs.Desk.{left_of};
 ghost use Rattle.site_top.specs.declared.line.TheConstants.{ROOM};
 ghost use Rattle.ts_file.specs.declared.page.TheConstants.{PAGE};
-ghost use Rattle.site_top.specs.ShowT2mi.{packets_in, ShowsT2mi};
+ghost use Rattle.site_top.specs.ShowT2mi.{t2mi_packets_in, ShowsT2mi};
 ghost use Rattle.site_top.specs.Piped.{rest_of, packets_from, UnitsShown};
 
 use crate::first_pid::{Found, find_pid};
@@ -53,7 +53,7 @@ fn show_opened<D: Desk>(
     requires opened { handle < length (D.state desk.old).opened }
     requires fresh { slice_index (D.state desk.old).opened handle ≡ 0 }
     requires nothing { (input.old ≡ []) × (page.old ≡ []) }
-    ensures { UnitsShown (D.state desk.old) (D.state desk.new) handle 0 (left_of (D.state desk.old) handle) packets_in result }
+    ensures { UnitsShown (D.state desk.old) (D.state desk.new) handle 0 (left_of (D.state desk.old) handle) t2mi_packets_in result }
 {
     skip_law();
     match find_pid(desk, handle, input) {
