@@ -9,9 +9,8 @@ use Rattle.ports.specs.Desk.{State}
 use Rattle.gateway_core.specs.Events.{Event, Offered, Ended}
 use Rattle.gateway_core.specs.StandsFor.{GatewayStandsFor, plps_of, wants_of}
 use Rattle.gateway_core.specs.declared.gateway.Gateway.{Gateway}
-use Rattle.ts_file.specs.Reading.{Reading, given_of, ReadsOn, Takes, Ends, StopsReading}
+use Rattle.ts_file.specs.Reading.{Reading, given_of, ReadsOn, Takes, Ends, StopsReading, most_bytes}
 use Rattle.ts_file.specs.declared.reader.ReadStop.{ReadStop}
-use Rattle.gateway_run.specs.GatewayRun.{most_bytes}
 use Rattle.gateway_run.specs.Running.{no_reading, reading_at, IsReading, WaitsOn, StopsWaiting, SameFrame, NoneWanted, read_stop}
 use Rattle.gateway_run.specs.declared.stop.RunStop.TheVariants.{OutOfMemory}
 use Rattle.gateway_run.proofs.RunLemmas.{one_short, packet_taken, input_ended}

@@ -16,10 +16,10 @@ use Rattle.gateway_core.specs.StandsFor.{GatewayStandsFor, IsLast, plps_of, want
 use Rattle.gateway_core.specs.Told.{Told, told}
 use Rattle.gateway_core.specs.declared.gateway.Gateway.{Gateway}
 use Rattle.gateway_core.proofs.InputsLemmas.{nothing_told, told_offered, told_ended, told_begun}
-use Rattle.ts_file.specs.Reading.{Reading, given_of, rest_of, ReadsOn, Takes, Ends}
+use Rattle.ts_file.specs.Reading.{Reading, given_of, rest_of, ReadsOn, Takes, Ends, most_bytes}
 use Rattle.ts_file.specs.TsFile.{joined}
 use Rattle.ts_file.specs.Writing.{Writing, Pushes}
-use Rattle.gateway_run.specs.GatewayRun.{file_at, inputs_of, units_of, MeetsNone, AllShort, most_bytes}
+use Rattle.gateway_run.specs.GatewayRun.{file_at, inputs_of, units_of, MeetsNone, AllShort}
 use Rattle.gateway_run.specs.Running.{Start, no_reading, reading_at, places_of, Goes, IsRead, Relates, Runs, Waits}
 use Rattle.gateway_run.proofs.DeskLemmas.{read_on, reading_same, reading_other, other_left, write_on, none_left, of_some}
 use Rattle.gateway_run.proofs.EventLemmas.{finished_is, wants_is, some_wanted, none_wanted, begun_with, given_with, same_begun, same_given, same_finished, other_offered, other_ended, still_last}

@@ -16,12 +16,12 @@ use Rattle.gateway_core.specs.Laws.{NotYetLast, LastIsAll, UnitsLaw}
 use Rattle.gateway_core.specs.Packets.{front_packets}
 use Rattle.gateway_core.specs.StandsFor.{GatewayStandsFor, IsLast, plps_of, wants_of, frame_of, has_finished}
 use Rattle.gateway_core.specs.declared.gateway.Gateway.{Gateway}
-use Rattle.ts_file.specs.Reading.{Reading, given_of, rest_of, ReadsOn, TakesNone, IsBad, StopsReading}
+use Rattle.ts_file.specs.Reading.{Reading, given_of, rest_of, ReadsOn, TakesNone, IsBad, StopsReading, most_bytes}
 use Rattle.ts_file.specs.TsFile.{joined, HasBad, begins_with_packet}
 use Rattle.ts_file.specs.Writing.{Writing, Appends, AppendsFront}
 use Rattle.ts_file.specs.declared.reader.ReadStop.{ReadStop}
 use Rattle.ts_file.specs.declared.reader.ReadStop.TheVariants.{Bad, TooLong, Fault}
-use Rattle.gateway_run.specs.GatewayRun.{file_at, inputs_of, frames_of, units_of, MeetsNone, MeetsBad, Works, BeginsUnits, CompleteBefore, ReadsNoFurther, StopsWriting, StopsAtBad, StopsTooLong, GivesTooMuch, WantsBad, ReadsFail, WritesFail, RunsAll, Stops, most_bytes, most_frames}
+use Rattle.gateway_run.specs.GatewayRun.{file_at, inputs_of, frames_of, units_of, MeetsNone, MeetsBad, Works, BeginsUnits, CompleteBefore, ReadsNoFurther, StopsWriting, StopsAtBad, StopsTooLong, GivesTooMuch, WantsBad, ReadsFail, WritesFail, RunsAll, Stops, most_frames}
 use Rattle.gateway_run.specs.Running.{Start, reading_at, places_of, Goes, IsRead, Runs, Waits, read_stop}
 use Rattle.gateway_run.specs.declared.stop.RunStop.TheVariants as stop
 use Rattle.gateway_run.proofs.DeskLemmas.{read_on, reading_same, reading_other, write_on, none_left, works, some_is, of_some}

@@ -8,14 +8,12 @@ use Rattle.plp_config.specs.declared.config.Config.{Config}
 use Rattle.t2mi_stream.specs.Pipe.{pipe}
 use Rattle.t2mi_stream.specs.Complete.{complete_units}
 use Rattle.gateway_core.specs.Packets.{front_packets, packets_of}
+use Rattle.ts_file.specs.Reading.{most_bytes}
 use Rattle.ts_file.specs.TsFile.{packets_in, HasBad, joined}
 use Rattle.gateway_run.specs.declared.stop.RunStop.{RunStop}
 use Rattle.gateway_run.specs.declared.stop.RunStop.TheVariants.{Bad, TooLong, ReadFault, WriteFault, OutOfMemory}
 
--- a file that gives as many bytes is too long, and no frame has this number
-abbrev pub most_bytes : ℕ
-most_bytes = 2 ^ 40
-
+-- no frame has this number
 abbrev pub most_frames : ℕ
 most_frames = 2 ^ 31
 

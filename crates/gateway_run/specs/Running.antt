@@ -11,12 +11,12 @@ use Rattle.gateway_core.specs.Events.{Event, offered, has_ended, begun, given, f
 use Rattle.gateway_core.specs.Packets.{front_packets}
 use Rattle.gateway_core.specs.StandsFor.{GatewayStandsFor, IsLast, plps_of, wants_of, frame_of, has_unit, bytes_left, has_finished}
 use Rattle.gateway_core.specs.declared.gateway.Gateway.{Gateway}
-use Rattle.ts_file.specs.Reading.{Reading, given_of, rest_of}
+use Rattle.ts_file.specs.Reading.{Reading, given_of, rest_of, most_bytes}
 use Rattle.ts_file.specs.TsFile.{joined}
 use Rattle.ts_file.specs.declared.reader.ReadStop.{ReadStop}
 use Rattle.ts_file.specs.declared.reader.ReadStop.TheVariants.{Bad, TooLong, Fault}
 use Rattle.ts_file.specs.Writing.{Writing}
-use Rattle.gateway_run.specs.GatewayRun.{file_at, inputs_of, frames_of, units_of, MeetsNone, AllShort, RunsAll, Stops, most_bytes, most_frames}
+use Rattle.gateway_run.specs.GatewayRun.{file_at, inputs_of, frames_of, units_of, MeetsNone, AllShort, RunsAll, Stops, most_frames}
 use Rattle.gateway_run.specs.declared.stop.Ran.{Ran}
 use Rattle.gateway_run.specs.declared.stop.RunStop.{RunStop}
 use Rattle.gateway_run.specs.declared.stop.RunStop.TheVariants as stop

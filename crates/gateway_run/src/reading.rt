@@ -6,10 +6,7 @@ ghost use Rattle.gateway_run.specs.Running.{IsReading, WaitsOn, StopsWaiting, Sa
 use crate::stop::RunStop;
 use gateway_core::Gateway;
 use ports::Desk;
-use ts_file::{PacketReader, ReadStop};
-
-// How many bytes no file may give.
-const MOST_BYTES: u64 = 1 << 40;
+use ts_file::{MOST_BYTES, PacketReader, ReadStop};
 
 // A run stops where a packet of an input could not be taken.
 fn stop_of(plp: u8, why: ReadStop) -> RunStop

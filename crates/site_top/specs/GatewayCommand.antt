@@ -10,10 +10,10 @@ use Rattle.gateway_run.specs.GatewayRun.{RunsAll, Stops, file_at}
 use Rattle.gateway_run.specs.Laws.{MustRun}
 use Rattle.gateway_run.specs.declared.stop.Ran.{Ran}
 use Rattle.gateway_run.specs.declared.stop.RunStop.TheVariants as stop
+use Rattle.ts_file.specs.Reading.{most_bytes}
 use Rattle.site_top.specs.declared.outcome.Outcome.{Outcome}
 use Rattle.site_top.specs.declared.outcome.Outcome.TheVariants.{Done, Usage, ConfigRefused, CapacityRefused, InputRefused, TooLong, ReadFault, WriteFault, OutOfMemory}
 use Rattle.site_top.specs.ConfigFile.{capacity_fault, IsCause, Gives, GivesNone, SaysText, FailsToSay}
-use Rattle.site_top.specs.ShowPackets.{most_bytes}
 
 -- the line of a run to its end
 abbrev pub gateway_line : ℕ → ℕ → List ℕ

@@ -1,5 +1,5 @@
 -- How far `show t2mi` has come in a file. No public clause cites this module.
-use Rattle.std.specs.Prelude.{◌≡◌, ◌≢◌, ℕ, ◌+◌, ◌*◌, ◌-◌, ◌<◌, ◌≤◌, ◌^◌, List, [], ◌++◌, length, map, take, slice_get, IfSome, Some, None, option_map, if◌then◌else◌}
+use Rattle.std.specs.Prelude.{◌≡◌, ◌≢◌, ℕ, ◌+◌, ◌*◌, ◌-◌, ◌<◌, ◌≤◌, List, [], ◌++◌, length, map, take, slice_get, IfSome, Some, None, option_map, if◌then◌else◌}
 use Rattle.std.specs.declared.option.Option.{Option}
 use Rattle.ports.specs.Desk.{State, Rose, SameCounts, left_of}
 use Rattle.ts_packet.specs.Told.{fields_in}
@@ -15,6 +15,7 @@ use Rattle.site_top.specs.declared.outcome.Outcome.TheVariants.{Done, TooLong, R
 use Rattle.site_top.specs.Files.{Grew}
 use Rattle.site_top.specs.Progress.{Only}
 use Rattle.ts_file.specs.Ahead.{IsAtEnd}
+use Rattle.ts_file.specs.Reading.{most_bytes}
 use Rattle.site_top.specs.ShowT2mi.{pid_of, pid_at, place_line, place_lines, SaysLines}
 
 -- the bytes of a handle's file from those on that wait, where the desk tells
@@ -43,9 +44,9 @@ pub record Seeks (start now : State) (handle at : ℕ) (waiting : List ℕ) : Ty
 
 -- The unit that waits is the first that tells a PID, or the file ended before one.
 abbrev pub Finds : State → State → ℕ → List ℕ → Option Found → Type 0
-Finds start now handle waiting None = (at : ℕ) × Seeks start now handle at waiting × (length waiting < 188) × IsAtEnd now handle × (at + length waiting < 2 ^ 40)
+Finds start now handle waiting None = (at : ℕ) × Seeks start now handle at waiting × (length waiting < 188) × IsAtEnd now handle × (at + length waiting < most_bytes)
 Finds start now handle waiting (Some found) =
-    Seeks start now handle found.at waiting × (188 ≤ length waiting) × (pid_of (fields_in (take 188 waiting)) ≡ Some found.pid) × (found.at + length waiting < 2 ^ 40)
+    Seeks start now handle found.at waiting × (188 ≤ length waiting) × (pid_of (fields_in (take 188 waiting)) ≡ Some found.pid) × (found.at + length waiting < most_bytes)
 
 -- The unpiper took these bytes, and so many packets were given up.
 pub record Unpipes (unpiper : Unpiper) (pid : ℕ) (bytes : List ℕ) (count : ℕ) : Type 0 where
@@ -60,7 +61,7 @@ pub record IsWithin (unpiper : Unpiper) (base : ℕ) : Type 0 where
   pub bytes : List ℕ
   pub count : ℕ
   pub unpipes : Unpipes unpiper pid bytes count
-  pub room : base + length bytes < 2 ^ 40
+  pub room : base + length bytes < most_bytes
 
 -- A place of the file is that of the packet with this number.
 abbrev pub IsAt : ℕ → List ℕ → ℕ → ℕ → ℕ → Type 0
@@ -99,16 +100,16 @@ steps_left u = 2 * (188 - unit_place u) + (if is_ready u then 1 else 0)
 
 -- Why a run stops, and how many bytes were given then.
 abbrev pub UnitsStop : State → State → ℕ → Outcome → Type 0
-UnitsStop start now given ReadFault = Rose start.read_faults now.read_faults × (given < 2 ^ 40)
-UnitsStop start now given WriteFault = Rose start.write_faults now.write_faults × (given < 2 ^ 40)
-UnitsStop start now given (TooLong count) = (count ≡ 2 ^ 40) × (given ≡ 2 ^ 40)
+UnitsStop start now given ReadFault = Rose start.read_faults now.read_faults × (given < most_bytes)
+UnitsStop start now given WriteFault = Rose start.write_faults now.write_faults × (given < most_bytes)
+UnitsStop start now given (TooLong count) = (count ≡ most_bytes) × (given ≡ most_bytes)
 UnitsStop start now given outcome = ⊥
 
 -- Why it ends.
 abbrev pub UnitsEnd : State → State → ℕ → Outcome → Type 0
-UnitsEnd start now given Done = given < 2 ^ 40
-UnitsEnd start now given WriteFault = Rose start.write_faults now.write_faults × (given ≤ 2 ^ 40)
-UnitsEnd start now given OutOfMemory = (given < 2 ^ 40) × (now.said ≡ start.said)
+UnitsEnd start now given Done = given < most_bytes
+UnitsEnd start now given WriteFault = Rose start.write_faults now.write_faults × (given ≤ most_bytes)
+UnitsEnd start now given OutOfMemory = (given < most_bytes) × (now.said ≡ start.said)
 UnitsEnd start now given outcome = UnitsStop start now given outcome
 
 -- The lines of the first packets were said, or are on the page.
@@ -133,7 +134,7 @@ pub record UnitsFinished (start now : State) (handle base : ℕ) (rest : Option 
   pub given : ℕ
   pub only : Only start now handle given
   pub calm : SameCounts start now
-  pub few : given < 2 ^ 40
+  pub few : given < most_bytes
   pub all : IfSome rest (λ r. given ≡ base + length r)
   pub shown : IfSome rest (λ r. (count ≡ length (packets r)) × Lines start now (packets r) page)
 

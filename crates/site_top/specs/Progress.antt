@@ -1,5 +1,5 @@
 -- How far `show packets` has come in a file. No public clause cites this module.
-use Rattle.std.specs.Prelude.{◌≡◌, ◌≢◌, ◌⊎◌, ℕ, ◌+◌, ◌≤◌, ◌<◌, ◌^◌, Bool, List, [], ◌++◌, length, drop, slice_set, IfSome, Some, option_map, IsTrue}
+use Rattle.std.specs.Prelude.{◌≡◌, ◌≢◌, ◌⊎◌, ℕ, ◌+◌, ◌≤◌, ◌<◌, Bool, List, [], ◌++◌, length, drop, slice_set, IfSome, Some, option_map, IsTrue}
 use Rattle.ports.specs.Desk.{State, Rose, SameCounts, Keeps, Says, left_of}
 use Rattle.site_top.specs.declared.outcome.Outcome.{Outcome}
 use Rattle.site_top.specs.declared.outcome.Outcome.TheVariants.{Done, TooLong, PacketRefused, ReadFault, WriteFault}
@@ -7,6 +7,7 @@ use Rattle.site_top.specs.Files.{OnlyGrew}
 use Rattle.site_top.specs.PacketFile.{Begins, Packs, bytes_in, IsRefused}
 use Rattle.site_top.specs.SaidLines.{line_of, lines_of}
 use Rattle.ts_file.specs.Ahead.{IsAtEnd}
+use Rattle.ts_file.specs.Reading.{most_bytes}
 use Rattle.site_top.specs.ShowPackets.{Said}
 
 -- Of the packets of a file the lines of the first were said, and those of the next are on the page; this is left behind them.
@@ -38,8 +39,8 @@ pub record Comes (start now : State) (handle at count : ℕ) (waiting page : Lis
 
 -- Why reading on stopped.
 abbrev pub StopsReading : State → State → ℕ → Outcome → Type 0
-StopsReading old new given ReadFault = Rose old.read_faults new.read_faults × (given < 2 ^ 40)
-StopsReading old new given (TooLong count) = (count ≡ 2 ^ 40) × (given ≡ 2 ^ 40) × (new.read_faults ≡ old.read_faults)
+StopsReading old new given ReadFault = Rose old.read_faults new.read_faults × (given < most_bytes)
+StopsReading old new given (TooLong count) = (count ≡ most_bytes) × (given ≡ most_bytes) × (new.read_faults ≡ old.read_faults)
 StopsReading old new given outcome = ⊥
 
 -- A packet began the bytes, and its line went onto the page.
@@ -62,21 +63,21 @@ TakesNone bytes at outcome = ⊥
 -- The run has stopped in a file for this outcome.
 abbrev pub StopsIn : List ℕ → State → State → List ℕ → Outcome → Type 0
 StopsIn file start now page (PacketRefused at why) = (count : ℕ) × (rest : List ℕ) × Shown file start now at count rest page × IsRefused rest why
-StopsIn file start now page (TooLong count) = (2 ^ 40 ≤ length file) × ((at : ℕ) × (number : ℕ) × (rest : List ℕ) × Shown file start now at number rest page)
+StopsIn file start now page (TooLong count) = (most_bytes ≤ length file) × ((at : ℕ) × (number : ℕ) × (rest : List ℕ) × Shown file start now at number rest page)
 StopsIn file start now page outcome = (at : ℕ) × (count : ℕ) × (rest : List ℕ) × Shown file start now at count rest page
 
 -- a fault comes only where its count rose, and how many bytes were given then
 abbrev pub StopsAt : State → State → ℕ → Outcome → Type 0
-StopsAt start now given ReadFault = Rose start.read_faults now.read_faults × (given < 2 ^ 40)
-StopsAt start now given WriteFault = Rose start.write_faults now.write_faults × (given < 2 ^ 40)
-StopsAt start now given (TooLong count) = (count ≡ 2 ^ 40) × (given ≡ 2 ^ 40)
-StopsAt start now given (PacketRefused at why) = given < 2 ^ 40
+StopsAt start now given ReadFault = Rose start.read_faults now.read_faults × (given < most_bytes)
+StopsAt start now given WriteFault = Rose start.write_faults now.write_faults × (given < most_bytes)
+StopsAt start now given (TooLong count) = (count ≡ most_bytes) × (given ≡ most_bytes)
+StopsAt start now given (PacketRefused at why) = given < most_bytes
 StopsAt start now given outcome = ⊥
 
 -- the same, where the run may have come to the end
 abbrev pub EndsAt : State → State → ℕ → Outcome → Type 0
-EndsAt start now given Done = given < 2 ^ 40
-EndsAt start now given WriteFault = Rose start.write_faults now.write_faults × (given ≤ 2 ^ 40)
+EndsAt start now given Done = given < most_bytes
+EndsAt start now given WriteFault = Rose start.write_faults now.write_faults × (given ≤ most_bytes)
 EndsAt start now given outcome = StopsAt start now given outcome
 
 -- All bytes were given where the run is done.
@@ -98,7 +99,7 @@ pub record Finishes (start now : State) (handle count : ℕ) (page : List ℕ) :
   pub given : ℕ
   pub only : Only start now handle given
   pub calm : SameCounts start now
-  pub few : given < 2 ^ 40
+  pub few : given < most_bytes
   pub end : IsAtEnd now handle
   pub shown : IfSome (left_of start handle) (λ file. Shown file start now given count [] page)
 

@@ -1,12 +1,13 @@
 -- What each command does up to its last line, and how it must end.
 use Rattle.std.specs.Prelude.{◌≡◌, ◌⊎◌, ◌<◌, length, IfSome}
 use Rattle.ports.specs.Desk.{State, Held, Rose, bytes_of}
+use Rattle.ts_file.specs.Reading.{most_bytes}
 use Rattle.site_top.specs.declared.outcome.Outcome.{Outcome}
 use Rattle.site_top.specs.declared.outcome.Outcome.TheVariants.{Done, OutOfMemory}
 use Rattle.site_top.specs.Commands.{Command, ShowPackets, ShowT2mi, ShowConfig, Plan, Gateway}
 use Rattle.site_top.specs.ConfigCommands.{ShowsConfig, Plans, ConfigEnds, PlanEnds}
 use Rattle.site_top.specs.GatewayCommand.{Gateways, GatewayEnds, AreShort}
-use Rattle.site_top.specs.ShowPackets.{Shows, PacketsEnd, most_bytes}
+use Rattle.site_top.specs.ShowPackets.{Shows, PacketsEnd}
 use Rattle.site_top.specs.ShowT2mi.{ShowsT2mi}
 
 abbrev pub Does : Command → State → State → Outcome → Type 0

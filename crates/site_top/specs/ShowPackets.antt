@@ -1,15 +1,12 @@
 -- What `show packets FILE` does, up to its last line.
-use Rattle.std.specs.Prelude.{◌≡◌, ◌≢◌, ◌⊎◌, ℕ, ◌<◌, ◌≤◌, ◌^◌, List, [], ◌++◌, length, IfSome}
+use Rattle.std.specs.Prelude.{◌≡◌, ◌≢◌, ◌⊎◌, ℕ, ◌<◌, ◌≤◌, List, [], ◌++◌, length, IfSome}
 use Rattle.ports.specs.Desk.{State, Rose, bytes_of}
+use Rattle.ts_file.specs.Reading.{most_bytes}
 use Rattle.site_top.specs.declared.outcome.Outcome.{Outcome}
 use Rattle.site_top.specs.declared.outcome.Outcome.TheVariants.{Done, TooLong, PacketRefused, ReadFault, WriteFault, OutOfMemory}
 use Rattle.site_top.specs.Files.{Opened, Unopened, Grew, OnlyGrew}
 use Rattle.site_top.specs.PacketFile.{Packs, bytes_in, IsRefused}
 use Rattle.site_top.specs.SaidLines.{lines_of, count_line}
-
--- a file that gives so many bytes is too long
-abbrev pub most_bytes : ℕ
-most_bytes = 2 ^ 40
 
 -- What was opened and read, by outcome: Done where the file was read to its end, and TooLong exactly where it gave the greatest number of bytes.
 abbrev pub ReadsFile : State → State → List ℕ → Outcome → Type 0

@@ -8,11 +8,12 @@ use Rattle.ts_packet.specs.Told.{fields_in}
 use Rattle.t2mi_packet.specs.T2miPacket.{view_of}
 use Rattle.t2mi_stream.specs.Accepted.{AcceptedPacket}
 use Rattle.t2mi_stream.specs.Units.{unit_at, accepted_of}
+use Rattle.ts_file.specs.Reading.{most_bytes}
 use Rattle.site_top.specs.declared.outcome.Outcome.{Outcome}
 use Rattle.site_top.specs.declared.outcome.Outcome.TheVariants.{Done, TooLong, PacketRefused, OutOfMemory}
 use Rattle.site_top.specs.Files.{Opened, Grew, OnlyGrew}
 use Rattle.site_top.specs.SaidLines.{view_line, count_line}
-use Rattle.site_top.specs.ShowPackets.{most_bytes, ReadsFile, Counts}
+use Rattle.site_top.specs.ShowPackets.{ReadsFile, Counts}
 
 -- the PID of a transport packet that has a payload and is not null, whatever its error indicator and scrambling
 abbrev pub pid_of : Option Fields → Option ℕ

@@ -1,6 +1,7 @@
 // The lines of the packets of a file.
 ghost use Rattle.std.specs.Prelude.{ℕ, ◌≡◌, ◌≢◌, ◌⊎◌, ◌<◌, ◌≤◌, ◌+◌, ◌^◌, [], length, slice_index, IfOk, IfErr, IsTrue, OnOk, OnErr};
 ghost use Rattle.ports.specs.Desk.{Rose, Keeps, Says};
+ghost use Rattle.ts_file.specs.Reading.{most_bytes};
 ghost use Rattle.ts_file.specs.Ahead.{ReadsAhead, IsAtEnd};
 ghost use Rattle.site_top.specs.Progress.{StopsReading, Takes, TakesNone, GivesWay, Stops, Finishes};
 
@@ -21,10 +22,10 @@ fn fill<D: Desk>(
     ended: bool,
 ) -> Result<bool, Outcome>
     requires opened { handle < length (D.state desk.old).opened }
-    requires within { at + length input.old < 2 ^ 40 }
+    requires within { at + length input.old < most_bytes }
     ensures reads { ReadsAhead (D.state desk.old) (D.state desk.new) handle input.old input.new }
     ensures full { IfOk result (λ end. (LARGEST ≤ length input.new) ⊎ IsTrue end) }
-    ensures within { OnOk result (at + length input.new < 2 ^ 40) }
+    ensures within { OnOk result (at + length input.new < most_bytes) }
     ensures end { (IsTrue ended → IsAtEnd (D.state desk.old) handle) → IfOk result (λ end. IsTrue end → IsAtEnd (D.state desk.new) handle) }
     ensures calm { OnOk result ((D.state desk.new).read_faults ≡ (D.state desk.old).read_faults) }
     ensures err { IfErr result (StopsReading (D.state desk.old) (D.state desk.new) (at + length input.new)) }

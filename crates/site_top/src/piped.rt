@@ -3,6 +3,7 @@ ghost use Rattle.std.specs.Prelude.{◌≡◌, ◌≢◌, ◌<◌, ◌≤◌, �
 ghost use Rattle.t2mi_packet.specs.Spell.{spell};
 ghost use Rattle.t2mi_packet.specs.T2miPacket.{view_of};
 ghost use Rattle.t2mi_stream.specs.UnpiperStandsFor.{is_ready, fed_len};
+ghost use Rattle.ts_file.specs.Reading.{most_bytes};
 ghost use Rattle.site_top.specs.SaidLines.{view_line};
 ghost use Rattle.site_top.specs.Piped.{Unpipes, IsWithin, IsAt, PutsLine, rest_of, packets_from, steps_left, UnitsStopped, UnitsFinished};
 
@@ -80,7 +81,7 @@ pub fn piped_packets<D: Desk>(
 ) -> Result<u64, Outcome>
     requires opened { handle < length (D.state desk.old).opened }
     requires place { slice_index (D.state desk.old).opened handle ≡ found.at + length input.old }
-    requires within { found.at + length input.old < 2 ^ 40 }
+    requires within { found.at + length input.old < most_bytes }
     requires nothing { page.old ≡ [] }
     requires stands { Unpipes unpiper.old found.pid [] 0 }
     requires idle { is_ready unpiper.old ≡ false }

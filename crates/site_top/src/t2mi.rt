@@ -1,6 +1,7 @@
 // `show t2mi FILE`.
-ghost use Rattle.std.specs.Prelude.{◌≡◌, ◌<◌, ◌≤◌, ◌+◌, ◌^◌, [], length, take, slice_index};
+ghost use Rattle.std.specs.Prelude.{◌≡◌, ◌<◌, ◌≤◌, ◌+◌, [], length, take, slice_index};
 ghost use Rattle.ports.specs.Desk.{left_of};
+ghost use Rattle.ts_file.specs.Reading.{most_bytes};
 ghost use Rattle.site_top.specs.declared.line.TheConstants.{ROOM};
 ghost use Rattle.ts_file.specs.declared.page.TheConstants.{PAGE};
 ghost use Rattle.site_top.specs.ShowT2mi.{t2mi_packets_in, ShowsT2mi};
@@ -26,7 +27,7 @@ fn show_rest<D: Desk>(
 ) -> Outcome
     requires opened { handle < length (D.state desk.old).opened }
     requires place { slice_index (D.state desk.old).opened handle ≡ found.at + length input.old }
-    requires within { found.at + length input.old < 2 ^ 40 }
+    requires within { found.at + length input.old < most_bytes }
     requires nothing { page.old ≡ [] }
     ensures { UnitsShown (D.state desk.old) (D.state desk.new) handle found.at (rest_of (D.state desk.old) handle input.old) (packets_from found.pid found.at) result }
 {

@@ -1,6 +1,7 @@
 -- How an `Input` holds the bytes that wait. No public clause cites this module.
 use Rattle.std.specs.Prelude.{◌≡◌, ℕ, ◌+◌, ◌-◌, ◌≤◌, List, length, take, drop}
 use Rattle.ts_file.specs.declared.input.Span.{Span}
+use Rattle.ts_file.specs.declared.input.TheConstants.{LARGEST}
 
 -- the part that a span names
 abbrev pub part_in : Span → List ℕ → List ℕ
@@ -11,4 +12,4 @@ pub record IsSettled (old : List ℕ) (was : Span) (new : List ℕ) (now : Span)
   pub same : part_in now new ≡ part_in was old
   pub order : now.start ≤ now.end
   pub count : now.end - now.start ≡ was.end - was.start
-  pub room : now.end + 8202 ≤ length new
+  pub room : now.end + LARGEST ≤ length new

@@ -10,5 +10,5 @@ mod writer;
 
 pub use input::{BUFFER, Input, LARGEST};
 pub use page::{PAGE, Page};
-pub use reader::{PacketReader, ReadStop};
+pub use reader::{MOST_BYTES, PacketReader, ReadStop};
 pub use writer::UnitWriter;

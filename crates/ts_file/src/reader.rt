@@ -12,8 +12,8 @@ use ts_packet::TsPacket;
 // No more packets than these are read ahead.
 const PACKETS: u64 = 1 << 30;
 
-// A file that gives as many bytes is too long.
-const LIMIT: u64 = 1 << 40;
+/// A file that gives as many bytes is too long.
+pub const MOST_BYTES: u64 = 1 << 40;
 
 const SYNC: u8 = 0x47;
 
@@ -43,7 +43,7 @@ pub struct PacketReader {
 impl Model for PacketReader {
     ghost use Rattle.std.specs.Prelude.{◌≤◌, ◌<◌, ◌+◌, ◌*◌, ◌^◌, length};
     ghost use Rattle.ts_file.specs.Codes.{reading_code};
-    ghost use Rattle.ts_file.specs.Reading.{Reading};
+    ghost use Rattle.ts_file.specs.Reading.{Reading, most_bytes};
 
     ghost Value = { Reading };
 
@@ -51,7 +51,7 @@ impl Model for PacketReader {
 
     ghost view = { λ r. record { handle = r.handle; taken = r.taken; waiting = r.input } };
 
-    ghost invariant = { λ r. (188 * r.taken + length r.input ≤ 2 ^ 40) };
+    ghost invariant = { λ r. (188 * r.taken + length r.input ≤ most_bytes) };
 }
 
 // The packet at the front of some bytes.
@@ -107,11 +107,11 @@ impl PacketReader {
     {
         let len = self.input.len() as u64;
         let given = 188 * self.taken + len;
-        let room = (188 * most.min(PACKETS) - len).min(LIMIT - given);
+        let room = (188 * most.min(PACKETS) - len).min(MOST_BYTES - given);
         let Ok(count) = self.input.read(desk, self.handle, room) else {
             return Err(ReadStop::Fault);
         };
-        if given + count as u64 == LIMIT {
+        if given + count as u64 == MOST_BYTES {
             return Err(ReadStop::TooLong);
         }
         Ok(count)
