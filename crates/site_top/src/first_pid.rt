@@ -9,10 +9,7 @@ use crate::filling::read_until;
 use crate::outcome::Outcome;
 use ports::Desk;
 use ts_file::Input;
-use ts_packet::{TsView, fields_told, read};
-
-// The PID of null packets.
-const NULL_PID: u16 = 0x1FFF;
+use ts_packet::{TsPacket, fields_told, null_by_pid, read};
 
 // The length of a unit, in bytes.
 const UNIT: usize = 188;
@@ -26,25 +23,19 @@ pub struct Found {
     pub at: u64,
 }
 
-// The PID of a packet that has a payload and is not null.
-fn pid_told(packet: &TsView<'_>) -> Option<u16>
-    ensures { result ≡ pid_of (Some packet.now) }
-{
-    if packet.payload().is_empty() || packet.pid() == NULL_PID {
-        return None;
-    }
-    Some(packet.pid())
-}
-
-// The PID that a unit tells.
-fn unit_pid(unit: &[u8; 188]) -> Option<u16>
+// The PID that a unit tells: it has a payload and is not null.
+fn unit_pid(unit: &TsPacket) -> Option<u16>
     ensures { result ≡ pid_of (fields_in unit.now) }
 {
     fields_told();
-    match read(unit) {
-        Ok(packet) => pid_told(&packet),
-        Err(_) => None,
+    null_by_pid();
+    let Ok(packet) = read(unit.as_array()) else {
+        return None;
+    };
+    if packet.payload().is_empty() || unit.is_null() {
+        return None;
     }
+    Some(packet.pid())
 }
 
 // The PID that the first unit of some bytes tells.
@@ -54,7 +45,7 @@ fn front_pid(bytes: &[u8]) -> Option<u16>
 {
     let mut unit = [0; UNIT];
     unit.copy_from_slice(&bytes[..UNIT]);
-    unit_pid(&unit)
+    unit_pid(&TsPacket::from_array(unit))
 }
 
 /// Takes the units of a file that was just opened up to the first that tells a PID: it waits then, and `None` where the file
