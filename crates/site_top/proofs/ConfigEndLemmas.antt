@@ -12,7 +12,7 @@ use Rattle.config_text.specs.declared.fault.TextWhy.{TextWhy}
 use Rattle.site_top.specs.declared.outcome.ConfigCause.{ConfigCause}
 use Rattle.site_top.specs.declared.outcome.ConfigCause.TheVariants.{Text, Rule}
 use Rattle.site_top.specs.declared.outcome.Outcome.{Outcome}
-use Rattle.site_top.specs.declared.outcome.Outcome.TheVariants.{Done, Usage, ConfigRefused, CapacityRefused, InputRefused, TooLong, PacketRefused, ReadFault, WriteFault, OutOfMemory}
+use Rattle.site_top.specs.declared.outcome.Outcome.TheVariants.{Done, ConfigRefused, CapacityRefused}
 use Rattle.site_top.specs.ConfigCommands.{ConfigEnds, PlanEnds}
 use Rattle.site_top.specs.ConfigFile.{IsCause}
 
@@ -43,75 +43,30 @@ no_cause l text c (Rule rule plp) s all b = l.rules_fail b.0 (record { rule = ru
 
 pub config_ends_once : ConfigLaws → (text : List ℕ) (outcome other : Outcome) → ConfigEnds text outcome → ConfigEnds text other → outcome ≡ other
 config_ends_once l text Done Done a b = refl
-config_ends_once l text Done Usage a b = absurd b
 config_ends_once l text Done (ConfigRefused cause) a b = absurd (no_cause l text a.0 cause a.1 a.2 b)
-config_ends_once l text Done (CapacityRefused _ _ _ _) a b = absurd b
-config_ends_once l text Done (TooLong _) a b = absurd b
-config_ends_once l text Done (InputRefused _ _) a b = absurd b
-config_ends_once l text Done (PacketRefused _ _) a b = absurd b
-config_ends_once l text Done ReadFault a b = absurd b
-config_ends_once l text Done WriteFault a b = absurd b
-config_ends_once l text Done OutOfMemory a b = absurd b
-config_ends_once l text Usage other a b = absurd a
 config_ends_once l text (ConfigRefused cause) Done a b = absurd (no_cause l text b.0 cause b.1 b.2 a)
-config_ends_once l text (ConfigRefused _) Usage a b = absurd b
 config_ends_once l text (ConfigRefused cause) (ConfigRefused reason) a b = ap ConfigRefused (cause_once l text cause reason a b)
-config_ends_once l text (ConfigRefused _) (CapacityRefused _ _ _ _) a b = absurd b
-config_ends_once l text (ConfigRefused _) (TooLong _) a b = absurd b
-config_ends_once l text (ConfigRefused _) (InputRefused _ _) a b = absurd b
-config_ends_once l text (ConfigRefused _) (PacketRefused _ _) a b = absurd b
-config_ends_once l text (ConfigRefused _) ReadFault a b = absurd b
-config_ends_once l text (ConfigRefused _) WriteFault a b = absurd b
-config_ends_once l text (ConfigRefused _) OutOfMemory a b = absurd b
-config_ends_once l text (CapacityRefused _ _ _ _) other a b = absurd a
-config_ends_once l text (TooLong _) other a b = absurd a
-config_ends_once l text (InputRefused _ _) other a b = absurd a
-config_ends_once l text (PacketRefused _ _) other a b = absurd a
-config_ends_once l text ReadFault other a b = absurd a
-config_ends_once l text WriteFault other a b = absurd a
-config_ends_once l text OutOfMemory other a b = absurd a
+config_ends_once l text Done other a b = absurd b
+config_ends_once l text (ConfigRefused _) other a b = absurd b
+config_ends_once l text outcome other a b = absurd a
 
 pub plan_ends_once : ConfigLaws → (text : List ℕ) (outcome other : Outcome) → PlanEnds text outcome → PlanEnds text other → outcome ≡ other
 plan_ends_once l text Done Done a b = refl
-plan_ends_once l text Done Usage a b = absurd b
 plan_ends_once l text Done (ConfigRefused cause) a b = absurd (no_cause l text a.0 cause a.1 a.2.rules b)
 plan_ends_once l text Done (CapacityRefused test plp need have) a b =
     absurd (l.tests_fail b.0 (record { test = test; plp = plp; need = need; have = have }) b.3 (subst AllTests (l.spelled text a.0 b.0 a.1 b.1) a.2.tests))
-plan_ends_once l text Done (TooLong _) a b = absurd b
-plan_ends_once l text Done (InputRefused _ _) a b = absurd b
-plan_ends_once l text Done (PacketRefused _ _) a b = absurd b
-plan_ends_once l text Done ReadFault a b = absurd b
-plan_ends_once l text Done WriteFault a b = absurd b
-plan_ends_once l text Done OutOfMemory a b = absurd b
-plan_ends_once l text Usage other a b = absurd a
 plan_ends_once l text (ConfigRefused cause) Done a b = absurd (no_cause l text b.0 cause b.1 b.2.rules a)
-plan_ends_once l text (ConfigRefused _) Usage a b = absurd b
 plan_ends_once l text (ConfigRefused cause) (ConfigRefused reason) a b = ap ConfigRefused (cause_once l text cause reason a b)
 plan_ends_once l text (ConfigRefused cause) (CapacityRefused _ _ _ _) a b = absurd (no_cause l text b.0 cause b.1 b.2 a)
-plan_ends_once l text (ConfigRefused _) (TooLong _) a b = absurd b
-plan_ends_once l text (ConfigRefused _) (InputRefused _ _) a b = absurd b
-plan_ends_once l text (ConfigRefused _) (PacketRefused _ _) a b = absurd b
-plan_ends_once l text (ConfigRefused _) ReadFault a b = absurd b
-plan_ends_once l text (ConfigRefused _) WriteFault a b = absurd b
-plan_ends_once l text (ConfigRefused _) OutOfMemory a b = absurd b
 plan_ends_once l text (CapacityRefused test plp need have) Done a b =
     absurd (l.tests_fail a.0 (record { test = test; plp = plp; need = need; have = have }) a.3 (subst AllTests (l.spelled text b.0 a.0 b.1 a.1) b.2.tests))
-plan_ends_once l text (CapacityRefused _ _ _ _) Usage a b = absurd b
 plan_ends_once l text (CapacityRefused _ _ _ _) (ConfigRefused cause) a b = absurd (no_cause l text a.0 cause a.1 a.2 b)
 plan_ends_once l text (CapacityRefused test plp need have) (CapacityRefused number place wants has) a b =
     let fault : CapacityFault = record { test = test; plp = plp; need = need; have = have } in
     let other : CapacityFault = record { test = number; plp = place; need = wants; have = has } in
     let same : fault ≡ other = l.one_test b.0 fault other (subst (λ (c : Config). Lacks c fault) (l.spelled text a.0 b.0 a.1 b.1) a.3) b.3 in
     ap (λ (f : CapacityFault). CapacityRefused f.test f.plp f.need f.have) same
-plan_ends_once l text (CapacityRefused _ _ _ _) (TooLong _) a b = absurd b
-plan_ends_once l text (CapacityRefused _ _ _ _) (InputRefused _ _) a b = absurd b
-plan_ends_once l text (CapacityRefused _ _ _ _) (PacketRefused _ _) a b = absurd b
-plan_ends_once l text (CapacityRefused _ _ _ _) ReadFault a b = absurd b
-plan_ends_once l text (CapacityRefused _ _ _ _) WriteFault a b = absurd b
-plan_ends_once l text (CapacityRefused _ _ _ _) OutOfMemory a b = absurd b
-plan_ends_once l text (TooLong _) other a b = absurd a
-plan_ends_once l text (InputRefused _ _) other a b = absurd a
-plan_ends_once l text (PacketRefused _ _) other a b = absurd a
-plan_ends_once l text ReadFault other a b = absurd a
-plan_ends_once l text WriteFault other a b = absurd a
-plan_ends_once l text OutOfMemory other a b = absurd a
+plan_ends_once l text Done other a b = absurd b
+plan_ends_once l text (ConfigRefused _) other a b = absurd b
+plan_ends_once l text (CapacityRefused _ _ _ _) other a b = absurd b
+plan_ends_once l text outcome other a b = absurd a

@@ -11,7 +11,7 @@ use Rattle.config_text.specs.declared.fault.TextWhy.{TextWhy}
 use Rattle.site_top.specs.declared.outcome.ConfigCause.{ConfigCause}
 use Rattle.site_top.specs.declared.outcome.ConfigCause.TheVariants.{Text, Rule}
 use Rattle.site_top.specs.declared.outcome.Outcome.{Outcome}
-use Rattle.site_top.specs.declared.outcome.Outcome.TheVariants.{Done, Usage, ConfigRefused, CapacityRefused, InputRefused, TooLong, PacketRefused, ReadFault, WriteFault, OutOfMemory}
+use Rattle.site_top.specs.declared.outcome.Outcome.TheVariants.{ConfigRefused, OutOfMemory}
 use Rattle.site_top.specs.ConfigFile.{ReadsText, FailsToRead, IsCause, Gives, GivesNone}
 use Rattle.site_top.specs.Files.{Opened}
 use Rattle.site_top.specs.Progress.{Only}
@@ -106,16 +106,9 @@ gives old new name text c r f s = record {
 
 -- or it gives none
 pub gives_none : (old new : State) (name text : List ℕ) (outcome : Outcome) → ReadsText old new name → IfSome old.held (λ held. IsFront (bytes_of held.files name) text) → RefusesText text outcome → GivesNone old new name outcome
-gives_none old new name text Done r f s = absurd s
-gives_none old new name text Usage r f s = absurd s
 gives_none old new name text (ConfigRefused cause) r f s = (r, if_some old.held _ _ (λ held x. cause_file (bytes_of held.files name) text cause x s) f)
-gives_none old new name text (CapacityRefused _ _ _ _) r f s = absurd s
-gives_none old new name text (InputRefused _ _) r f s = absurd s
-gives_none old new name text (TooLong _) r f s = absurd s
-gives_none old new name text (PacketRefused _ _) r f s = absurd s
-gives_none old new name text ReadFault r f s = absurd s
-gives_none old new name text WriteFault r f s = absurd s
 gives_none old new name text OutOfMemory r f s = inr r
+gives_none old new name text other r f s = absurd s
 
 -- The file of a name was opened, and its front was read. Then the configuration of the text is that of the file, or there is none.
 pub record ReadsFront (old new : State) (name bytes : List ℕ) : Type 0 where

@@ -6,7 +6,7 @@ use Rattle.std.specs.FinMap.{get}
 use Rattle.std.proofs.lemmas.Bool.{cases_lt}
 use Rattle.ports.specs.Desk.{State, Held, SameCounts, Keeps, Says, Rose, Opens, left_of, bytes_of}
 use Rattle.site_top.specs.declared.outcome.Outcome.{Outcome}
-use Rattle.site_top.specs.declared.outcome.Outcome.TheVariants.{Done, Usage, ConfigRefused, CapacityRefused, InputRefused, TooLong, PacketRefused, ReadFault, WriteFault, OutOfMemory}
+use Rattle.site_top.specs.declared.outcome.Outcome.TheVariants.{Done, TooLong, PacketRefused, ReadFault, WriteFault}
 use Rattle.site_top.specs.PacketFile.{Packs, bytes_in}
 use Rattle.site_top.specs.SaidLines.{lines_of, count_line}
 use Rattle.site_top.specs.ShowPackets.{Said, SaidFirst, ReadsFile, Counts, Shows}
@@ -48,12 +48,7 @@ said_by file start now new page given (PacketRefused at why) cause x says = let 
 said_by file start now new page given (TooLong n) cause x says = ((x.0, said_first file start now new x.1.0 x.1.1 x.1.2 page x.1.3 says), tt)
 said_by file start now new page given ReadFault cause x says = (said_first file start now new x.0 x.1 x.2 page x.3 says, tt)
 said_by file start now new page given WriteFault cause x says = (said_first file start now new x.0 x.1 x.2 page x.3 says, tt)
-said_by file start now new page given Done cause x says = absurd cause
-said_by file start now new page given Usage cause x says = absurd cause
-said_by file start now new page given (ConfigRefused _) cause x says = absurd cause
-said_by file start now new page given (CapacityRefused _ _ _ _) cause x says = absurd cause
-said_by file start now new page given (InputRefused _ _) cause x says = absurd cause
-said_by file start now new page given OutOfMemory cause x says = absurd cause
+said_by file start now new page given other cause x says = absurd cause
 
 -- what a run that stopped has said where its page was lost
 said_though : (file : List ℕ) (start now new : State) (page : List ℕ) (given : ℕ) (outcome : Outcome) → StopsAt start now given outcome → StopsIn file start now page outcome → Keeps now new → SaidFirst file start new
@@ -61,12 +56,7 @@ said_though file start now new page given (PacketRefused at why) cause x k = sai
 said_though file start now new page given (TooLong n) cause x k = said_before file start now new x.1.0 x.1.1 x.1.2 page x.1.3 k
 said_though file start now new page given ReadFault cause x k = said_before file start now new x.0 x.1 x.2 page x.3 k
 said_though file start now new page given WriteFault cause x k = said_before file start now new x.0 x.1 x.2 page x.3 k
-said_though file start now new page given Done cause x k = absurd cause
-said_though file start now new page given Usage cause x k = absurd cause
-said_though file start now new page given (ConfigRefused _) cause x k = absurd cause
-said_though file start now new page given (CapacityRefused _ _ _ _) cause x k = absurd cause
-said_though file start now new page given (InputRefused _ _) cause x k = absurd cause
-said_though file start now new page given OutOfMemory cause x k = absurd cause
+said_though file start now new page given other cause x k = absurd cause
 
 -- a count that rose stays so
 pub rose_on : (start now new : ℕ) → start ≤ now → now ≤ new → Rose start now → Rose start new
@@ -83,24 +73,14 @@ cause_on start now new given ReadFault r w rf wf c = (rose_on start.read_faults 
 cause_on start now new given WriteFault r w rf wf c = (rose_on start.write_faults now.write_faults new.write_faults w wf c.0, omega (arith, c.1))
 cause_on start now new given (TooLong n) r w rf wf c = c
 cause_on start now new given (PacketRefused at why) r w rf wf c = c
-cause_on start now new given Done r w rf wf c = absurd c
-cause_on start now new given Usage r w rf wf c = absurd c
-cause_on start now new given (ConfigRefused _) r w rf wf c = absurd c
-cause_on start now new given (CapacityRefused _ _ _ _) r w rf wf c = absurd c
-cause_on start now new given (InputRefused _ _) r w rf wf c = absurd c
-cause_on start now new given OutOfMemory r w rf wf c = absurd c
+cause_on start now new given other r w rf wf c = absurd c
 
 given_most : (start now : State) (given : ℕ) (outcome : Outcome) → StopsAt start now given outcome → given ≤ 2 ^ 40
 given_most start now given ReadFault c = omega (arith, c.1)
 given_most start now given WriteFault c = omega (arith, c.1)
 given_most start now given (TooLong n) c = omega (arith, c.1)
 given_most start now given (PacketRefused at why) c = omega (arith, c)
-given_most start now given Done c = absurd c
-given_most start now given Usage c = absurd c
-given_most start now given (ConfigRefused _) c = absurd c
-given_most start now given (CapacityRefused _ _ _ _) c = absurd c
-given_most start now given (InputRefused _ _) c = absurd c
-given_most start now given OutOfMemory c = absurd c
+given_most start now given other c = absurd c
 
 -- a run that stopped ends
 pub stopped_ends : (start now new : State) (handle : ℕ) (page : List ℕ) (outcome end : Outcome) → Stops start now handle page outcome → SaysRest now new page outcome end → ShowsOpened start new handle end
@@ -181,24 +161,14 @@ reads_by old mid new name handle given WriteFault o m c all = (given, moved old 
 reads_by old mid new name handle given (TooLong n) o m c all =
     let same : n ≡ given = omega (arith, c) in (subst (Opened old new name) (sym same) (moved old mid new name handle given o m), c.0)
 reads_by old mid new name handle given ReadFault o m c all = inr (given, moved old mid new name handle given o m, c.1)
-reads_by old mid new name handle given OutOfMemory o m c all = absurd c
-reads_by old mid new name handle given Usage o m c all = absurd c
-reads_by old mid new name handle given (ConfigRefused _) o m c all = absurd c
-reads_by old mid new name handle given (CapacityRefused _ _ _ _) o m c all = absurd c
-reads_by old mid new name handle given (InputRefused _ _) o m c all = absurd c
+reads_by old mid new name handle given other o m c all = absurd c
 
 -- the lines that were said since the file was opened were said since before
 said_since : (file : List ℕ) (old mid new : State) (outcome : Outcome) → mid.said ≡ old.said → Said file mid new outcome → Said file old new outcome
 said_since file old mid new Done e x = (x.0, x.1, x.2 ∙ ap (option_map (λ t. t ++ (lines_of 0 x.0 ++ count_line (length x.0)))) e)
 said_since file old mid new (PacketRefused at why) e x = (x.0, x.1, x.2, x.3, x.4, x.5 ∙ ap (option_map (λ t. t ++ lines_of 0 x.0)) e)
 said_since file old mid new (TooLong n) e x = (x.0, (x.1.0, x.1.1, x.1.2, x.1.3 ∙ ap (option_map (λ t. t ++ lines_of 0 x.1.0)) e))
-said_since file old mid new ReadFault e x = (x.0, x.1, x.2, x.3 ∙ ap (option_map (λ t. t ++ lines_of 0 x.0)) e)
-said_since file old mid new WriteFault e x = (x.0, x.1, x.2, x.3 ∙ ap (option_map (λ t. t ++ lines_of 0 x.0)) e)
-said_since file old mid new Usage e x = (x.0, x.1, x.2, x.3 ∙ ap (option_map (λ t. t ++ lines_of 0 x.0)) e)
-said_since file old mid new (ConfigRefused _) e x = (x.0, x.1, x.2, x.3 ∙ ap (option_map (λ t. t ++ lines_of 0 x.0)) e)
-said_since file old mid new (CapacityRefused _ _ _ _) e x = (x.0, x.1, x.2, x.3 ∙ ap (option_map (λ t. t ++ lines_of 0 x.0)) e)
-said_since file old mid new (InputRefused _ _) e x = (x.0, x.1, x.2, x.3 ∙ ap (option_map (λ t. t ++ lines_of 0 x.0)) e)
-said_since file old mid new OutOfMemory e x = (x.0, x.1, x.2, x.3 ∙ ap (option_map (λ t. t ++ lines_of 0 x.0)) e)
+said_since file old mid new other e x = (x.0, x.1, x.2, x.3 ∙ ap (option_map (λ t. t ++ lines_of 0 x.0)) e)
 
 counts_by : (old mid new : State) (handle : ℕ) (outcome : Outcome) → SameCounts old mid → ShowsOpened mid new handle outcome → Counts old new outcome
 counts_by old mid new handle outcome calm s =

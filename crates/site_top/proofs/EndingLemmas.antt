@@ -6,7 +6,7 @@ use Rattle.t2mi_packet.specs.declared.fault.PacketWhy.{PacketWhy}
 use Rattle.t2mi_packet.specs.T2miPacket.{Refuses}
 use Rattle.t2mi_packet.specs.Laws.{OnePacket, NoRefusal, OneRefusal, PacketLength}
 use Rattle.site_top.specs.declared.outcome.Outcome.{Outcome}
-use Rattle.site_top.specs.declared.outcome.Outcome.TheVariants.{Done, Usage, ConfigRefused, CapacityRefused, InputRefused, TooLong, PacketRefused, ReadFault, WriteFault, OutOfMemory}
+use Rattle.site_top.specs.declared.outcome.Outcome.TheVariants.{Done, PacketRefused}
 use Rattle.site_top.specs.PacketFile.{Begins, Packs, bytes_in, IsRefused}
 use Rattle.site_top.specs.ShowPackets.{PacketsEnd}
 use Rattle.site_top.proofs.PacketFileLemmas.{begins_inside}
@@ -55,27 +55,6 @@ packets_end_once one none sizes refusal file (PacketRefused at why) (PacketRefus
     let place_is : at ≡ place = a.4 ∙ ap bytes_in same.0 ∙ sym b.4 in
     let why_is : why ≡ other = sym a.3.1.2 ∙ ap (λ (f : PacketFault). f.why) faults ∙ b.3.1.2 in
     λ i. PacketRefused (place_is i) (why_is i)
-packets_end_once one none sizes refusal file Done Usage a b = absurd b
-packets_end_once one none sizes refusal file Done (ConfigRefused _) a b = absurd b
-packets_end_once one none sizes refusal file Done (CapacityRefused _ _ _ _) a b = absurd b
-packets_end_once one none sizes refusal file Done (TooLong n) a b = absurd b
-packets_end_once one none sizes refusal file Done (InputRefused _ _) a b = absurd b
-packets_end_once one none sizes refusal file Done ReadFault a b = absurd b
-packets_end_once one none sizes refusal file Done WriteFault a b = absurd b
-packets_end_once one none sizes refusal file Done OutOfMemory a b = absurd b
-packets_end_once one none sizes refusal file (PacketRefused at why) Usage a b = absurd b
-packets_end_once one none sizes refusal file (PacketRefused at why) (ConfigRefused _) a b = absurd b
-packets_end_once one none sizes refusal file (PacketRefused at why) (CapacityRefused _ _ _ _) a b = absurd b
-packets_end_once one none sizes refusal file (PacketRefused at why) (TooLong n) a b = absurd b
-packets_end_once one none sizes refusal file (PacketRefused at why) (InputRefused _ _) a b = absurd b
-packets_end_once one none sizes refusal file (PacketRefused at why) ReadFault a b = absurd b
-packets_end_once one none sizes refusal file (PacketRefused at why) WriteFault a b = absurd b
-packets_end_once one none sizes refusal file (PacketRefused at why) OutOfMemory a b = absurd b
-packets_end_once one none sizes refusal file Usage other a b = absurd a
-packets_end_once one none sizes refusal file (ConfigRefused _) other a b = absurd a
-packets_end_once one none sizes refusal file (CapacityRefused _ _ _ _) other a b = absurd a
-packets_end_once one none sizes refusal file (TooLong n) other a b = absurd a
-packets_end_once one none sizes refusal file (InputRefused _ _) other a b = absurd a
-packets_end_once one none sizes refusal file ReadFault other a b = absurd a
-packets_end_once one none sizes refusal file WriteFault other a b = absurd a
-packets_end_once one none sizes refusal file OutOfMemory other a b = absurd a
+packets_end_once one none sizes refusal file Done other a b = absurd b
+packets_end_once one none sizes refusal file (PacketRefused _ _) other a b = absurd b
+packets_end_once one none sizes refusal file outcome other a b = absurd a

@@ -8,7 +8,7 @@ use Rattle.config_text.specs.ConfigText.{Spells}
 use Rattle.ts_file.specs.TsFile.{HasBad}
 use Rattle.gateway_run.specs.GatewayRun.{RunsAll, StopsAtBad, StopsTooLong, file_at, frames_of, units_of}
 use Rattle.site_top.specs.declared.outcome.Outcome.{Outcome}
-use Rattle.site_top.specs.declared.outcome.Outcome.TheVariants.{Done, Usage, ConfigRefused, CapacityRefused, InputRefused, TooLong, PacketRefused, ReadFault, WriteFault, OutOfMemory}
+use Rattle.site_top.specs.declared.outcome.Outcome.TheVariants.{Done, Usage, ConfigRefused, CapacityRefused, InputRefused, TooLong, ReadFault, WriteFault, OutOfMemory}
 use Rattle.site_top.specs.Commands.{Gateway}
 use Rattle.site_top.specs.GatewayCommand.{Starts, Follows, FailsToStart, Gateways, GatewayEnds, AreShort}
 use Rattle.site_top.specs.Laws.{OneEnding}
@@ -79,11 +79,7 @@ not_started law old new config out ins (CapacityRefused test plp need have) f =
     if_some old.held _ _ (λ held x. λ outcome must r w. inl (law (Gateway config out ins) held (CapacityRefused test plp need have) outcome (must.0, (f.0, x, f.1.rules, f.2)) must)) f.1.spells
 not_started law old new config out ins ReadFault f = if_any old.held _ (λ held. λ outcome must r w. absurd (r f.read_faults))
 not_started law old new config out ins OutOfMemory f = if_any old.held _ (λ held. λ outcome must r w. inr refl)
-not_started law old new config out ins Done f = absurd f
-not_started law old new config out ins (InputRefused _ _) f = absurd f
-not_started law old new config out ins (TooLong _) f = absurd f
-not_started law old new config out ins (PacketRefused _ _) f = absurd f
-not_started law old new config out ins WriteFault f = absurd f
+not_started law old new config out ins other f = absurd f
 
 written_from : (old mid after new : State) (config out : List ℕ) (ins : List (List ℕ)) (c : Config) → Starts old mid config ins c → after.write_faults ≡ mid.write_faults → Rose after.write_faults new.write_faults → Rose old.write_faults new.write_faults
 written_from old mid after new config out ins c s same rose = rose_from old.write_faults after.write_faults new.write_faults (omega (arith, same, s.gives.reads.counts.write_faults)) rose
@@ -100,10 +96,7 @@ started law old mid new config out ins c WriteFault s f =
     (λ x. written_from old mid x.after new config out ins c s x.runs.counts.write_faults x.fails.write_faults)
     f)))
 started law old mid new config out ins c OutOfMemory s f = if_any old.held _ (λ held. λ outcome must r w. inr refl)
-started law old mid new config out ins c Usage s f = absurd f
-started law old mid new config out ins c (ConfigRefused _) s f = absurd f
-started law old mid new config out ins c (CapacityRefused _ _ _ _) s f = absurd f
-started law old mid new config out ins c (PacketRefused _ _) s f = absurd f
+started law old mid new config out ins c other s f = absurd f
 
 pub gateway_complete : OneEnding → (old new : State) (config out : List ℕ) (ins : List (List ℕ)) (result : Outcome) → Gateways old new config out ins result → IsComplete (Gateway config out ins) old new result
 gateway_complete law old new config out ins result g =

@@ -37,13 +37,7 @@ runs_to : (held : Held) (ins : List (List ℕ)) (c : Config) (outcome : Outcome)
 runs_to held ins c Done r = record { result = Ok r.0; must = r.1; is = refl }
 runs_to held ins c (InputRefused input packet) r = record { result = Err (stop.Bad input packet); must = r; is = refl }
 runs_to held ins c (TooLong count) r = record { result = Err (stop.TooLong count); must = r; is = refl }
-runs_to held ins c Usage r = absurd r
-runs_to held ins c (ConfigRefused _) r = absurd r
-runs_to held ins c (CapacityRefused _ _ _ _) r = absurd r
-runs_to held ins c (PacketRefused _ _) r = absurd r
-runs_to held ins c ReadFault r = absurd r
-runs_to held ins c WriteFault r = absurd r
-runs_to held ins c OutOfMemory r = absurd r
+runs_to held ins c other r = absurd r
 
 record Miscounts (text : List ℕ) (ins : List (List ℕ)) (outcome : Outcome) : Type 0 where
   pub c : Config

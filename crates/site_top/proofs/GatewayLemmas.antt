@@ -10,7 +10,7 @@ use Rattle.gateway_run.specs.GatewayRun.{RunsAll, Stops}
 use Rattle.gateway_run.specs.declared.stop.RunStop.{RunStop}
 use Rattle.gateway_run.specs.declared.stop.RunStop.TheVariants as stop
 use Rattle.site_top.specs.declared.outcome.Outcome.{Outcome}
-use Rattle.site_top.specs.declared.outcome.Outcome.TheVariants.{Done, Usage, ConfigRefused, CapacityRefused, InputRefused, TooLong, PacketRefused, ReadFault, WriteFault, OutOfMemory}
+use Rattle.site_top.specs.declared.outcome.Outcome.TheVariants.{Done, Usage, ConfigRefused, CapacityRefused, InputRefused, TooLong, ReadFault, WriteFault, OutOfMemory}
 use Rattle.site_top.specs.Commands.{is_empty, is_input, are_inputs}
 use Rattle.site_top.specs.ConfigFile.{Gives, GivesNone}
 use Rattle.site_top.specs.GatewayCommand.{gateway_line, Starts, Follows, Gateways}
@@ -39,29 +39,15 @@ apart out (file ∷ files) e (suc plp) inside = apart out files (both (is_input 
 
 -- the named file gives no configuration
 pub gives_none : (old new : State) (config out : List ℕ) (ins : List (List ℕ)) (outcome : Outcome) → GivesNone old new config outcome → Gateways old new config out ins outcome
-gives_none old new config out ins Done n = absurd n
-gives_none old new config out ins Usage n = absurd n
 gives_none old new config out ins (ConfigRefused cause) n = inl n
-gives_none old new config out ins (CapacityRefused _ _ _ _) n = absurd n
-gives_none old new config out ins (InputRefused _ _) n = absurd n
-gives_none old new config out ins (TooLong _) n = absurd n
-gives_none old new config out ins (PacketRefused _ _) n = absurd n
 gives_none old new config out ins ReadFault n = inl n
-gives_none old new config out ins WriteFault n = absurd n
 gives_none old new config out ins OutOfMemory n = inl n
+gives_none old new config out ins other n = absurd n
 
 -- a capacity test fails
 pub lacks : (old new : State) (config out : List ℕ) (ins : List (List ℕ)) (c : Config) (outcome : Outcome) → Gives old new config c → LacksCapacity c outcome → Gateways old new config out ins outcome
-lacks old new config out ins c Done g l = absurd l
-lacks old new config out ins c Usage g l = absurd l
-lacks old new config out ins c (ConfigRefused _) g l = absurd l
 lacks old new config out ins c (CapacityRefused test plp need have) g l = inl (c, g, l)
-lacks old new config out ins c (InputRefused _ _) g l = absurd l
-lacks old new config out ins c (TooLong _) g l = absurd l
-lacks old new config out ins c (PacketRefused _ _) g l = absurd l
-lacks old new config out ins c ReadFault g l = absurd l
-lacks old new config out ins c WriteFault g l = absurd l
-lacks old new config out ins c OutOfMemory g l = absurd l
+lacks old new config out ins c other g l = absurd l
 
 -- there is not one input for each PLP
 pub miscounted : (old new : State) (config out : List ℕ) (ins : List (List ℕ)) (c : Config) → Gives old new config c → IsPlan c → length ins ≢ length c.plps → Gateways old new config out ins Usage
@@ -72,14 +58,7 @@ pub ran : (old mid after new : State) (config out : List ℕ) (ins : List (List 
     Tells after new (gateway_line frames units) outcome → Gateways old new config out ins outcome
 ran old mid after new config out ins c frames units Done s r t = inr (c, mid, s, record { frames = frames; units = units; after = after; runs = r; says = t })
 ran old mid after new config out ins c frames units WriteFault s r t = inr (c, mid, s, inr (record { frames = frames; units = units; after = after; runs = r; fails = t }))
-ran old mid after new config out ins c frames units Usage s r t = absurd t
-ran old mid after new config out ins c frames units (ConfigRefused _) s r t = absurd t
-ran old mid after new config out ins c frames units (CapacityRefused _ _ _ _) s r t = absurd t
-ran old mid after new config out ins c frames units (InputRefused _ _) s r t = absurd t
-ran old mid after new config out ins c frames units (TooLong _) s r t = absurd t
-ran old mid after new config out ins c frames units (PacketRefused _ _) s r t = absurd t
-ran old mid after new config out ins c frames units ReadFault s r t = absurd t
-ran old mid after new config out ins c frames units OutOfMemory s r t = absurd t
+ran old mid after new config out ins c frames units other s r t = absurd t
 
 by_follows : (old mid new : State) (config out : List ℕ) (ins : List (List ℕ)) (c : Config) (outcome told : Outcome) → told ≡ outcome → Starts old mid config ins c → Follows mid new out ins c outcome → Gateways old new config out ins told
 by_follows old mid new config out ins c outcome told e s f = subst (Gateways old new config out ins) (sym e) (inr (c, mid, s, f))

@@ -3,7 +3,7 @@ use Rattle.std.proofs.Common.{◌≡◌, ◌⊎◌, ℕ, ◌≤◌, ◌^◌, inl
 use Rattle.std.specs.Prelude.{IfSome, IfNone}
 use Rattle.ports.specs.Desk.{State, Held, Rose, SaysLast, bytes_of}
 use Rattle.site_top.specs.declared.outcome.Outcome.{Outcome}
-use Rattle.site_top.specs.declared.outcome.Outcome.TheVariants.{Done, Usage, ConfigRefused, CapacityRefused, InputRefused, TooLong, PacketRefused, ReadFault, WriteFault, OutOfMemory}
+use Rattle.site_top.specs.declared.outcome.Outcome.TheVariants.{Done, Usage, ConfigRefused, CapacityRefused, TooLong, PacketRefused, ReadFault, WriteFault, OutOfMemory}
 use Rattle.gateway_run.specs.Laws.{OneRun}
 use Rattle.site_top.specs.Commands.{Command, ShowPackets, ShowT2mi, ShowConfig, Plan, Gateway}
 use Rattle.site_top.specs.ConfigCommands.{ShowsConfig, Plans}
@@ -41,10 +41,7 @@ ends_so law name held old new (TooLong n) reads said counts outcome must r w = l
 ends_so law name held old new ReadFault reads said counts outcome must r w = absurd (r (counts.read_fault refl))
 ends_so law name held old new WriteFault reads said counts outcome must r w = absurd (w (counts.write_fault refl))
 ends_so law name held old new OutOfMemory reads said counts outcome must r w = inr refl
-ends_so law name held old new Usage reads said counts outcome must r w = absurd reads
-ends_so law name held old new (ConfigRefused _) reads said counts outcome must r w = absurd reads
-ends_so law name held old new (CapacityRefused _ _ _ _) reads said counts outcome must r w = absurd reads
-ends_so law name held old new (InputRefused _ _) reads said counts outcome must r w = absurd reads
+ends_so law name held old new other reads said counts outcome must r w = absurd reads
 
 -- how a run over a file of units ended is how it must end
 t2mi_ends : (name : List ℕ) (held : Held) (old new : State) (result : Outcome) → ReadsUnits old new name result → ((count : ℕ) → result ≡ TooLong count → 2 ^ 40 ≤ length (bytes_of held.files name)) → Counts old new result →
@@ -59,33 +56,26 @@ t2mi_ends name held old new other reads long counts outcome must r w = absurd re
 config_complete : OneEnding → (old new : State) (name : List ℕ) (result : Outcome) → ShowsConfig old new name result → IsComplete (ShowConfig name) old new result
 config_complete law old new name Done s =
     if_some old.held _ _ (λ held x. λ outcome must r w. inl (law (ShowConfig name) held Done outcome (s.0, x, s.2.rules) must)) s.2.spells
-config_complete law old new name Usage s = absurd s
 config_complete law old new name (ConfigRefused cause) s = if_some old.held _ _ (λ held x. λ outcome must r w. inl (law (ShowConfig name) held (ConfigRefused cause) outcome x must)) s.1
-config_complete law old new name (CapacityRefused _ _ _ _) s = absurd s
-config_complete law old new name (InputRefused _ _) s = absurd s
-config_complete law old new name (TooLong _) s = absurd s
-config_complete law old new name (PacketRefused _ _) s = absurd s
 config_complete law old new name ReadFault s = if_any old.held _ (λ held. λ outcome must r w. absurd (r s.read_faults))
 config_complete law old new name WriteFault s =
     let from : old.write_faults ≤ s.1.write_faults = omega (arith, s.2.reads.counts.write_faults) in
     if_any old.held _ (λ held. λ outcome must r w. absurd (w (rose_from old.write_faults s.1.write_faults new.write_faults from s.3.write_faults)))
 config_complete law old new name OutOfMemory s = if_any old.held _ (λ held. λ outcome must r w. inr refl)
+config_complete law old new name other s = absurd s
 
 plan_complete : OneEnding → (old new : State) (name : List ℕ) (result : Outcome) → Plans old new name result → IsComplete (Plan name) old new result
 plan_complete law old new name Done s =
     if_some old.held _ _ (λ held x. λ outcome must r w. inl (law (Plan name) held Done outcome (s.0, x, s.4) must)) s.3.spells
-plan_complete law old new name Usage s = absurd s
 plan_complete law old new name (ConfigRefused cause) s = if_some old.held _ _ (λ held x. λ outcome must r w. inl (law (Plan name) held (ConfigRefused cause) outcome x must)) s.1
 plan_complete law old new name (CapacityRefused test plp need have) s =
     if_some old.held _ _ (λ held x. λ outcome must r w. inl (law (Plan name) held (CapacityRefused test plp need have) outcome (s.0, x, s.1.rules, s.2) must)) s.1.spells
-plan_complete law old new name (InputRefused _ _) s = absurd s
-plan_complete law old new name (TooLong _) s = absurd s
-plan_complete law old new name (PacketRefused _ _) s = absurd s
 plan_complete law old new name ReadFault s = if_any old.held _ (λ held. λ outcome must r w. absurd (r s.read_faults))
 plan_complete law old new name WriteFault s =
     let from : old.write_faults ≤ s.1.write_faults = omega (arith, s.2.reads.counts.write_faults) in
     if_any old.held _ (λ held. λ outcome must r w. absurd (w (rose_from old.write_faults s.1.write_faults new.write_faults from s.4.write_faults)))
 plan_complete law old new name OutOfMemory s = if_any old.held _ (λ held. λ outcome must r w. inr refl)
+plan_complete law old new name other s = absurd s
 
 is_complete : OneEnding → (command : Command) (old new : State) (result : Outcome) → Does command old new result → IsComplete command old new result
 is_complete law (ShowPackets file) old new result s = if_some old.held _ _ (λ held x. ends_so law file held old new result s.reads x s.counts) s.said
@@ -107,15 +97,7 @@ run_complete law command old mid new result r w s = if_some command _ _ (λ c x.
 
 ends_by : (before after : State) (outcome : Outcome) → (outcome ≡ Done → ⊥) → EndsBy before after (last_line outcome) → Ends before after outcome
 ends_by before after Done other e = absurd (other refl)
-ends_by before after Usage other e = e
-ends_by before after (ConfigRefused _) other e = e
-ends_by before after (CapacityRefused _ _ _ _) other e = e
-ends_by before after (InputRefused _ _) other e = e
-ends_by before after (TooLong _) other e = e
-ends_by before after (PacketRefused _ _) other e = e
-ends_by before after ReadFault other e = e
-ends_by before after WriteFault other e = e
-ends_by before after OutOfMemory other e = e
+ends_by before after outcome other e = e
 
 -- the last line of a run that is not done
 pub ends_other : (before after : State) (outcome : Outcome) (text : List ℕ) → (outcome ≡ Done → ⊥) → text ≡ last_line outcome → SaysLast before after text → before.line_faults ≤ after.line_faults →

@@ -6,7 +6,7 @@ use Rattle.t2mi_packet.specs.declared.fault.PacketWhy.{PacketWhy}
 use Rattle.t2mi_packet.specs.Laws.{FrontRefusal}
 use Rattle.t2mi_packet.specs.T2miPacket.{Refuses}
 use Rattle.site_top.specs.declared.outcome.Outcome.{Outcome}
-use Rattle.site_top.specs.declared.outcome.Outcome.TheVariants.{Done, Usage, ConfigRefused, CapacityRefused, InputRefused, TooLong, PacketRefused, ReadFault, WriteFault, OutOfMemory}
+use Rattle.site_top.specs.declared.outcome.Outcome.TheVariants.{TooLong, PacketRefused, ReadFault, WriteFault}
 use Rattle.site_top.specs.PacketFile.{IsRefused}
 use Rattle.ts_file.specs.Ahead.{ReadsAhead, IsAtEnd}
 use Rattle.site_top.specs.Progress.{Shown, Comes, StopsReading, Takes, TakesNone, Stops}
@@ -41,14 +41,7 @@ stopped_reading start old new handle at count waiting more page was (TooLong n) 
       let all : 2 ^ 40 ≤ length file = omega (arith, gave file x.0 start new at count more page x.2, s.1) in
       (all, (at, count, more ++ x.0, x.2))) (filled_shown start old new handle at count waiting more page was c r);
 }
-stopped_reading start old new handle at count waiting more page was Done came c r s = absurd s
-stopped_reading start old new handle at count waiting more page was Usage came c r s = absurd s
-stopped_reading start old new handle at count waiting more page was (ConfigRefused _) came c r s = absurd s
-stopped_reading start old new handle at count waiting more page was (CapacityRefused _ _ _ _) came c r s = absurd s
-stopped_reading start old new handle at count waiting more page was (InputRefused _ _) came c r s = absurd s
-stopped_reading start old new handle at count waiting more page was (PacketRefused place why) came c r s = absurd s
-stopped_reading start old new handle at count waiting more page was WriteFault came c r s = absurd s
-stopped_reading start old new handle at count waiting more page was OutOfMemory came c r s = absurd s
+stopped_reading start old new handle at count waiting more page was other came c r s = absurd s
 
 pub no_left : (o : Option (List ℕ)) (x : List ℕ) → o ≡ Some x → IfSome o (λ l. l ≡ []) → x ≡ []
 no_left None x e h = cc
@@ -84,15 +77,7 @@ stopped_refused law start now handle at count waiting page ended (PacketRefused 
       ⊎_elim (λ (long : 8202 ≤ length waiting). inl long) (λ (e : IsTrue ended). inr (no_left (left_of now handle) x.0 x.1 (c.end e))) full in
       (count, waiting ++ x.0, subst (λ (p : ℕ). Shown file start now p count (waiting ++ x.0) page) (sym t.0) x.2, refused_whole law waiting x.0 why t.1 end)) c.shown;
 }
-stopped_refused law start now handle at count waiting page ended Done c t few full = absurd t
-stopped_refused law start now handle at count waiting page ended Usage c t few full = absurd t
-stopped_refused law start now handle at count waiting page ended (ConfigRefused _) c t few full = absurd t
-stopped_refused law start now handle at count waiting page ended (CapacityRefused _ _ _ _) c t few full = absurd t
-stopped_refused law start now handle at count waiting page ended (InputRefused _ _) c t few full = absurd t
-stopped_refused law start now handle at count waiting page ended (TooLong n) c t few full = absurd t
-stopped_refused law start now handle at count waiting page ended ReadFault c t few full = absurd t
-stopped_refused law start now handle at count waiting page ended WriteFault c t few full = absurd t
-stopped_refused law start now handle at count waiting page ended OutOfMemory c t few full = absurd t
+stopped_refused law start now handle at count waiting page ended other c t few full = absurd t
 
 -- the lines on the page could not be said
 pub stopped_saying : (start old new : State) (handle at count : ℕ) (waiting page left : List ℕ) (ended : Bool) (outcome : Outcome) →
