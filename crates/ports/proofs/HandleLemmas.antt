@@ -2,6 +2,7 @@
 use Rattle.std.proofs.Common.{◌≡◌, ℕ, ◌+◌, ◌-◌, ◌<◌, ◌≤◌, List, [], ◌++◌, length, take, drop, map, set, get_or, Some, refl, ap, sym, ◌∙◌, arith, ◌↔◌, string_bytes}
 use Rattle.std.proofs.lemmas.List.{map-set, get_or-map, get_or-set_same, get_or-set_other, take_all, take-append-drop, drop-drop, length-map, length-drop, length-take-le}
 use Rattle.std.proofs.Math.Seq.{map-set_same, take-append_seam}
+use Rattle.ports.specs.declared.counts.Counts.{Counts}
 use Rattle.ports.specs.declared.memory.Handle.{Handle}
 use Rattle.ports.specs.Desk.{Files, State, bytes_of, Reads}
 
@@ -33,24 +34,22 @@ abbrev place_of : Handle → ℕ
 place_of handle = handle.place
 
 -- a desk with these files and handles
-abbrev desk : Files → List Handle → List (List ℕ) → List ℕ → ℕ → ℕ → ℕ → ℕ → State
-desk files handles outs said created read_faults write_faults line_faults = record {
+abbrev desk : Files → List Handle → List (List ℕ) → List ℕ → ℕ → Counts → State
+desk files handles outs said created counts = record {
   held = Some (record { files = files; names = map name_of handles; outs = outs });
   said = Some said;
   opened = map place_of handles;
   created = created;
-  read_faults = read_faults;
-  write_faults = write_faults;
-  line_faults = line_faults;
+  counts = counts;
 }
 
 -- a desk after the handle x at a place was read on to y
-pub reads_on : (files : Files) (xs : List Handle) (outs : List (List ℕ)) (said : List ℕ) (c r w l at n : ℕ) (x y : Handle) (buffer : List ℕ) →
+pub reads_on : (files : Files) (xs : List Handle) (outs : List (List ℕ)) (said : List ℕ) (created : ℕ) (counts : Counts) (at n : ℕ) (x y : Handle) (buffer : List ℕ) →
     at < length xs → x ≡ get_or xs at x → y.name ≡ x.name → y.place ≡ x.place + n →
     drop x.place (bytes_of files (name_of x)) ≡ take n buffer ++ drop y.place (bytes_of files (name_of x)) →
     ((n ≡ 0) ↔ (drop x.place (bytes_of files (name_of x)) ≡ [])) →
-    Reads (desk files xs outs said c r w l) (desk files (set xs at y) outs said c r w l) at n buffer
-reads_on files xs outs said c r w l at n x y buffer came is name moved next end =
+    Reads (desk files xs outs said created counts) (desk files (set xs at y) outs said created counts) at n buffer
+reads_on files xs outs said created counts at n x y buffer came is name moved next end =
     let names : map name_of (set xs at y) ≡ map name_of xs = map-set_stayed name_of xs at x y is (ap string_bytes name) in
     let places : map place_of (set xs at y) ≡ set (map place_of xs) at y.place = map-set place_of xs at y in
     let called : get_or (map name_of xs) at [] ≡ name_of x = get_or-map name_of xs at x [] came ∙ ap name_of (sym is) in

@@ -10,6 +10,7 @@ use Rattle.std.proofs.lemmas.Slice.Eq.{bytes_eq-Decides}
 use Rattle.std.specs.BTreeMap as tree
 use Rattle.std.specs.BTreeMap.{BTreeMap}
 use Rattle.std.specs.String.{string_cmp}
+use Rattle.ports.specs.declared.counts.Counts.{Counts}
 use Rattle.ports.specs.Stored.{files_of}
 use Rattle.ports.proofs.FileLemmas.{files_of-insert, get-files_of}
 use Rattle.ports.specs.Desk.{Files, Held, State, Creates, IsApart, Writes, bytes_of, out_name, with_bytes, written_of}
@@ -97,22 +98,20 @@ writes_join a b c out x y p q = record {
 }
 
 -- a desk in memory
-abbrev desk : Files → List (List ℕ) → List (List ℕ) → List ℕ → List ℕ → ℕ → ℕ → ℕ → ℕ → State
-desk files names outs said opened created read_faults write_faults line_faults = record {
+abbrev desk : Files → List (List ℕ) → List (List ℕ) → List ℕ → List ℕ → ℕ → Counts → State
+desk files names outs said opened created counts = record {
   held = Some (record { files = files; names = names; outs = outs });
   said = Some said;
   opened = opened;
   created = created;
-  read_faults = read_faults;
-  write_faults = write_faults;
-  line_faults = line_faults;
+  counts = counts;
 }
 
 -- a desk after bytes were put behind those of an out
-pub writes_on : (files new : Files) (names outs : List (List ℕ)) (said opened : List ℕ) (created r w l out : ℕ) (name bytes : List ℕ)
+pub writes_on : (files new : Files) (names outs : List (List ℕ)) (said opened : List ℕ) (created : ℕ) (counts : Counts) (out : ℕ) (name bytes : List ℕ)
     → name ≡ slice_index_or outs out [] → new ≡ insert files name (bytes_of files name ++ bytes)
-    → Writes (desk files names outs said opened created r w l) (desk new names outs said opened created r w l) out bytes
-writes_on files new names outs said opened created r w l out name bytes named set =
+    → Writes (desk files names outs said opened created counts) (desk new names outs said opened created counts) out bytes
+writes_on files new names outs said opened created counts out name bytes named set =
     let files_are : new ≡ insert files (slice_index_or outs out []) (bytes_of files (slice_index_or outs out []) ++ bytes) = rw (← named) set in
     record {
       held = ap (λ (f : Files). Some (record { files = f; names = names; outs = outs })) files_are;
@@ -130,10 +129,10 @@ last_of [] name = refl
 last_of (out ∷ outs) name = last_of outs name
 
 -- a desk after an empty file was made for one more out
-pub creates_on : (files new : Files) (names outs outs_new : List (List ℕ)) (said opened : List ℕ) (created created_new r w l out : ℕ) (name : List ℕ)
+pub creates_on : (files new : Files) (names outs outs_new : List (List ℕ)) (said opened : List ℕ) (created created_new : ℕ) (counts : Counts) (out : ℕ) (name : List ℕ)
     → out ≡ created → length outs ≡ created → outs_new ≡ outs ++ name ∷ [] → created_new ≡ created + 1 → new ≡ insert files name []
-    → Creates (desk files names outs said opened created r w l) (desk new names outs_new said opened created_new r w l) name out
-creates_on files new names outs outs_new said opened created created_new r w l out name is len more one set =
+    → Creates (desk files names outs said opened created counts) (desk new names outs_new said opened created_new counts) name out
+creates_on files new names outs outs_new said opened created created_new counts out name is len more one set =
     let last : slice_index_or (outs ++ name ∷ []) out [] ≡ name = rw (is, ← len) (last_of outs name) in
     record {
       number = is;

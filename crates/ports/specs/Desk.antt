@@ -1,9 +1,11 @@
 -- What a desk means, and what its calls do.
-use Rattle.std.specs.Prelude.{◌≡◌, ◌≢◌, ◌⊎◌, ◌↔◌, ℕ, ◌+◌, ◌-◌, ◌<◌, ◌≤◌, ◌^◌, List, [], ◌∷◌, ◌++◌, length, take, drop, slice_index, slice_index_or, slice_set, unwrap_or, None, Some, IsSome, IfSome, Result, OnErr, option_map, option_and_then}
+use Rattle.std.specs.Prelude.{◌≡◌, ◌≢◌, ◌⊎◌, ◌↔◌, ℕ, ◌+◌, ◌<◌, List, [], ◌∷◌, ◌++◌, length, take, drop, slice_index, slice_index_or, slice_set, unwrap_or, None, Some, IsSome, IfSome, option_map, option_and_then}
 use Rattle.std.specs.declared.option.Option.{Option}
 use Rattle.std.specs.Ordering.{nat_cmp}
 use Rattle.std.specs.Cmp.Lexicographic.{slice_cmp}
 use Rattle.std.specs.FinMap.{FinMap, get, insert}
+use Rattle.ports.specs.declared.counts.Counts.{Counts}
+use Rattle.ports.specs.Counts.{Rose}
 
 -- the bytes of each file, by its name
 abbrev pub Files : Type 0
@@ -16,16 +18,13 @@ pub record Held : Type 0 where
   pub outs : List (List ℕ)
 
 -- What a desk means: what it holds and what was said, where it tells; the place of each handle for reading in order of opening, and the
--- number of handles for writing; and how often opening and reading failed, how often creating, writing and saying did, and how often the
--- last line did.
+-- number of handles for writing; and how often its calls failed.
 pub record State : Type 0 where
   pub held : Option Held
   pub said : Option (List ℕ)
   pub opened : List ℕ
   pub created : ℕ
-  pub read_faults : ℕ
-  pub write_faults : ℕ
-  pub line_faults : ℕ
+  pub counts : Counts
 
 -- the bytes of a named file, none where there is none of that name
 abbrev pub bytes_of : Files → List ℕ → List ℕ
@@ -55,20 +54,9 @@ written_of s out = option_map (λ h. bytes_of h.files (out_name h out)) s.held
 abbrev pub IsApart : Option Held → ℕ → List ℕ → Type 0
 IsApart held handle name = IfSome held (λ h. slice_index_or h.names handle [] ≢ name)
 
--- A count rose if it is greater after than before, or stands at the last value of its counter.
-abbrev pub Rose : ℕ → ℕ → Type 0
-Rose before now = (before < now) ⊎ (now ≡ 2 ^ 64 - 1)
-
--- A count never falls, and a fault comes only where it rose.
-pub record HasCause {T E : Type 0} (before now : ℕ) (result : Result T E) : Type 0 where
-  pub later : before ≤ now
-  pub rose : OnErr result (Rose before now)
-
 -- No count changed.
-pub record SameCounts (old new : State) : Type 0 where
-  pub read_faults : new.read_faults ≡ old.read_faults
-  pub write_faults : new.write_faults ≡ old.write_faults
-  pub line_faults : new.line_faults ≡ old.line_faults
+abbrev pub SameCounts : State → State → Type 0
+SameCounts old new = new.counts ≡ old.counts
 
 -- Nothing but counts changed.
 pub record Keeps (old new : State) : Type 0 where
@@ -156,4 +144,4 @@ pub record Says (old new : State) (text : List ℕ) : Type 0 where
 
 -- The last text was said, or nothing was where the count rose.
 abbrev pub SaysLast : State → State → List ℕ → Type 0
-SaysLast old new text = (Says old new text × SameCounts old new) ⊎ (Keeps old new × Rose old.line_faults new.line_faults)
+SaysLast old new text = (Says old new text × SameCounts old new) ⊎ (Keeps old new × Rose old.counts.lines new.counts.lines)

@@ -1,3 +1,4 @@
+pub mod Counts
 pub mod Desk
 pub mod Faults
 pub mod HostDesk

@@ -3,17 +3,27 @@ use Rattle.std.specs.Prelude.{ℕ, List, refl}
 use Rattle.std.specs.declared.option.Option.{Option}
 use Rattle.std.specs.FinMap.{code}
 use Rattle.std.specs.Coded.{Coded, code_by, coded×, coded_ℕ, coded_list, coded_option}
+use Rattle.ports.specs.declared.counts.Counts.{Counts}
 use Rattle.ports.specs.Desk.{Files, Held, State}
+use Rattle.ports.specs.MemoryDesk.{Memory}
 
 abbrev held_code : Coded Held
 held_code = code_by (Files × (List (List ℕ) × List (List ℕ)))
     (coded× (code (coded_list coded_ℕ) (coded_list coded_ℕ)) (coded× (coded_list (coded_list coded_ℕ)) (coded_list (coded_list coded_ℕ))))
     (λ h. (h.files, (h.names, h.outs))) (λ p. record { files = p.0; names = p.1.0; outs = p.1.1 }) (λ _. refl)
 
+abbrev counts_code : Coded Counts
+counts_code = code_by (ℕ × (ℕ × ℕ)) (coded× coded_ℕ (coded× coded_ℕ coded_ℕ))
+    (λ c. (c.reads, (c.writes, c.lines))) (λ p. record { reads = p.0; writes = p.1.0; lines = p.1.1 }) (λ _. refl)
+
 -- a state is stored as the tuple of its fields
 abbrev pub state_code : Coded State
-state_code = code_by (Option Held × (Option (List ℕ) × (List ℕ × (ℕ × (ℕ × (ℕ × ℕ))))))
-    (coded× (coded_option held_code) (coded× (coded_option (coded_list coded_ℕ)) (coded× (coded_list coded_ℕ) (coded× coded_ℕ (coded× coded_ℕ (coded× coded_ℕ coded_ℕ))))))
-    (λ s. (s.held, (s.said, (s.opened, (s.created, (s.read_faults, (s.write_faults, s.line_faults)))))))
-    (λ p. record { held = p.0; said = p.1.0; opened = p.1.1.0; created = p.1.1.1.0; read_faults = p.1.1.1.1.0; write_faults = p.1.1.1.1.1.0; line_faults = p.1.1.1.1.1.1 })
+state_code = code_by (Option Held × (Option (List ℕ) × (List ℕ × (ℕ × Counts))))
+    (coded× (coded_option held_code) (coded× (coded_option (coded_list coded_ℕ)) (coded× (coded_list coded_ℕ) (coded× coded_ℕ counts_code))))
+    (λ s. (s.held, (s.said, (s.opened, (s.created, s.counts)))))
+    (λ p. record { held = p.0; said = p.1.0; opened = p.1.1.0; created = p.1.1.1.0; counts = p.1.1.1.1 })
     (λ _. refl)
+
+-- a desk in memory is stored as its state and its cap
+abbrev pub memory_code : Coded Memory
+memory_code = code_by (State × ℕ) (coded× state_code coded_ℕ) (λ m. (m.state, m.cap)) (λ p. record { state = p.0; cap = p.1 }) (λ _. refl)

@@ -1,8 +1,8 @@
 // A desk over real files and standard output.
 ghost use Rattle.std.specs.Prelude.{◌≡◌, ◌⊎◌, ◌<◌, ◌≤◌, ◌+◌, ◌^◌, length, IfOk, IfSome, IfNone, IsNone};
 
-use crate::desk::fault;
-use crate::{Desk, DeskFault};
+use crate::fault::fault;
+use crate::{Counts, Desk, DeskFault};
 use std::alloc::Global;
 use std::io::{ErrorKind, Read, Write};
 use std::marker::Model;
@@ -25,9 +25,7 @@ pub struct HostDesk<R: Files + Print + Drop> {
     rt: R,
     handles: Vec<Handle<R::File>>,
     outs: Vec<R::File>,
-    read_faults: u64,
-    write_faults: u64,
-    line_faults: u64,
+    counts: Counts,
 }
 
 impl<R: Files + Print + Drop> Model for HostDesk<R> {
@@ -44,9 +42,7 @@ impl<R: Files + Print + Drop> Model for HostDesk<R> {
       said = None;
       opened = map (λ handle. handle.place) d.handles.items;
       created = vec_len d.outs;
-      read_faults = d.read_faults;
-      write_faults = d.write_faults;
-      line_faults = d.line_faults;
+      counts = d.counts;
     } };
 }
 
@@ -101,9 +97,7 @@ impl<R: Files + Print + Drop> HostDesk<R> {
             rt,
             handles: Vec::new(alloc),
             outs: Vec::new(alloc),
-            read_faults: 0,
-            write_faults: 0,
-            line_faults: 0,
+            counts: Counts::default(),
         }
     }
 
@@ -136,6 +130,7 @@ impl<R: Files + Print + Drop> HostDesk<R> {
 
 impl<R: Files + Print + Drop> Desk for HostDesk<R> {
     ghost use Rattle.std.specs.Prelude.{IsErr, OnOk, OnErr, take};
+    ghost use Rattle.ports.specs.Counts.{MayFailReading, MayFailWriting, MayFailAtLast};
     ghost use Rattle.ports.specs.Desk.{SameCounts, Opens, Creates, FailsToCreate, Reads, Writes, Says};
     ghost use Rattle.ports.specs.Faults.{with_read_fault, with_write_fault, with_line_fault};
 
@@ -143,14 +138,13 @@ impl<R: Files + Print + Drop> Desk for HostDesk<R> {
 
     fn open(&mut self, name: &str) -> Result<u32, DeskFault>
         ensures ok { IfOk result (Opens self.old self.new name.now) }
-        ensures counts { OnOk result (SameCounts self.old self.new) }
         ensures full { 2 ^ 32 ≤ length self.old.opened → IsErr result }
         ensures fault { OnErr result (self.new ≡ with_read_fault self.old) }
-        ensures later { self.old.read_faults ≤ self.new.read_faults }
+        ensures counts { MayFailReading self.old.counts self.new.counts result }
     {
         match self.add_handle(name) {
             Some(handle) => Ok(handle),
-            None => Err(fault(&mut self.read_faults)),
+            None => Err(fault(&mut self.counts.reads)),
         }
     }
 
@@ -159,28 +153,26 @@ impl<R: Files + Print + Drop> Desk for HostDesk<R> {
         requires room { 0 < length buffer.old }
         ensures count { IfOk result (λ n. n ≤ length buffer.new) }
         ensures ok { IfOk result (λ n. Reads self.old self.new handle n buffer.new) }
-        ensures counts { OnOk result (SameCounts self.old self.new) }
         ensures fault { OnErr result (self.new ≡ with_read_fault self.old) }
-        ensures later { self.old.read_faults ≤ self.new.read_faults }
+        ensures counts { MayFailReading self.old.counts self.new.counts result }
     {
         match self.handles[handle as usize].read(buffer) {
             Some(count) => Ok(count),
-            None => Err(fault(&mut self.read_faults)),
+            None => Err(fault(&mut self.counts.reads)),
         }
     }
 
     #[tactic(auto, using(crate::proofs::FaultLemmas::fails))]
     fn create(&mut self, name: &str) -> Result<u32, DeskFault>
         ensures ok { IfOk result (Creates self.old self.new name.now) }
-        ensures counts { OnOk result (SameCounts self.old self.new) }
         ensures full { 2 ^ 32 ≤ self.old.created → IsErr result }
         ensures fault { OnErr result (self.new ≡ with_write_fault self.old) }
         ensures err { OnErr result (FailsToCreate self.old self.new name.now) }
-        ensures later { self.old.write_faults ≤ self.new.write_faults }
+        ensures counts { MayFailWriting self.old.counts self.new.counts result }
     {
         match self.add_out(name) {
             Some(out) => Ok(out),
-            None => Err(fault(&mut self.write_faults)),
+            None => Err(fault(&mut self.counts.writes)),
         }
     }
 
@@ -189,34 +181,32 @@ impl<R: Files + Print + Drop> Desk for HostDesk<R> {
         requires some { 0 < length piece.now }
         ensures count { IfOk result (λ n. (0 < n) × (n ≤ length piece.now)) }
         ensures ok { IfOk result (λ n. Writes self.old self.new out (take n piece.now)) }
-        ensures counts { OnOk result (SameCounts self.old self.new) }
         ensures fault { OnErr result (self.new ≡ with_write_fault self.old) }
-        ensures later { self.old.write_faults ≤ self.new.write_faults }
+        ensures counts { MayFailWriting self.old.counts self.new.counts result }
     {
         match write_again(&mut self.outs[out as usize], piece) {
             Ok(count) if count > 0 => Ok(count),
-            _ => Err(fault(&mut self.write_faults)),
+            _ => Err(fault(&mut self.counts.writes)),
         }
     }
 
     fn say(&mut self, text: &[u8]) -> Result<(), DeskFault>
         ensures ok { OnOk result (Says self.old self.new text.now) }
-        ensures counts { OnOk result (SameCounts self.old self.new) }
         ensures fault { OnErr result (self.new ≡ with_write_fault self.old) }
-        ensures later { self.old.write_faults ≤ self.new.write_faults }
+        ensures counts { MayFailWriting self.old.counts self.new.counts result }
     {
         match self.rt.write_all(text) {
             Ok(()) => Ok(()),
-            Err(_) => Err(fault(&mut self.write_faults)),
+            Err(_) => Err(fault(&mut self.counts.writes)),
         }
     }
 
     fn say_last(&mut self, text: &[u8])
         ensures said { (Says self.old self.new text.now × SameCounts self.old self.new) ⊎ (self.new ≡ with_line_fault self.old) }
-        ensures later { self.old.line_faults ≤ self.new.line_faults }
+        ensures counts { MayFailAtLast self.old.counts self.new.counts }
     {
         if self.rt.write_all(text).is_err() {
-            fault(&mut self.line_faults);
+            fault(&mut self.counts.lines);
         }
     }
 }

@@ -1,13 +1,17 @@
 //! The outside of a command as the trait `Desk`, and its two kinds: one in memory, and one over real files; and the words of a command line.
 #![tactic(auto)]
 
+mod counts;
 mod desk;
+mod fault;
 mod host;
 mod laws;
 mod memory;
 mod word;
 
-pub use desk::{Desk, DeskFault};
+pub use counts::Counts;
+pub use desk::Desk;
+pub use fault::DeskFault;
 pub use host::HostDesk;
 pub use laws::writes_law;
 pub use memory::MemoryDesk;

@@ -4,8 +4,8 @@ ghost use Rattle.std.specs.FinMap.{get, insert};
 ghost use Rattle.ports.specs.Desk.{bytes_of};
 ghost use Rattle.ports.specs.Stored.{files_of};
 
-use crate::desk::fault;
-use crate::{Desk, DeskFault};
+use crate::fault::fault;
+use crate::{Counts, Desk, DeskFault};
 use bit_slice::OutOfMemory;
 use std::alloc::Global;
 use std::collections::BTreeMap;
@@ -29,33 +29,32 @@ pub struct MemoryDesk {
     said: Vec<u8>,
     // How many bytes a read or a write moves at most.
     cap: usize,
-    read_faults: u64,
-    write_faults: u64,
-    line_faults: u64,
+    counts: Counts,
 }
 
 impl Model for MemoryDesk {
     ghost use Rattle.std.specs.Prelude.{◌<◌, Some, map, string_bytes, vec_len};
-    ghost use Rattle.ports.specs.Desk.{State};
-    ghost use Rattle.ports.specs.StateCode.{state_code};
+    ghost use Rattle.ports.specs.MemoryDesk.{Memory};
+    ghost use Rattle.ports.specs.StateCode.{memory_code};
     ghost use Rattle.ports.specs.Stored.{files_of};
 
-    ghost Value = { State };
+    ghost Value = { Memory };
 
-    ghost coded = { state_code };
+    ghost coded = { memory_code };
 
     ghost view = { λ m. record {
-      held = Some (record {
-        files = files_of m.files;
-        names = map (λ handle. string_bytes handle.name) m.handles.items;
-        outs = map (λ name. string_bytes name) m.outs.items;
-      });
-      said = Some m.said.items;
-      opened = map (λ handle. handle.place) m.handles.items;
-      created = vec_len m.outs;
-      read_faults = m.read_faults;
-      write_faults = m.write_faults;
-      line_faults = m.line_faults;
+      state = record {
+        held = Some (record {
+          files = files_of m.files;
+          names = map (λ handle. string_bytes handle.name) m.handles.items;
+          outs = map (λ name. string_bytes name) m.outs.items;
+        });
+        said = Some m.said.items;
+        opened = map (λ handle. handle.place) m.handles.items;
+        created = vec_len m.outs;
+        counts = m.counts;
+      };
+      cap = m.cap;
     } };
 
     ghost invariant = { λ m. 0 < m.cap };
@@ -66,6 +65,7 @@ fn copy_next(bytes: &[u8], place: u64, buffer: &mut [u8], most: usize) -> usize
     requires room { 0 < length buffer.old }
     requires most { 0 < most }
     ensures count { result ≤ length buffer.new }
+    ensures few { result ≤ most }
     ensures small { place + result < 2 ^ 64 }
     ensures next { drop place bytes.now ≡ take result buffer.new ++ drop (place + result) bytes.now }
     ensures end { (result ≡ 0) ↔ (drop place bytes.now ≡ []) }
@@ -151,6 +151,7 @@ impl Handle {
         ensures name { self.new.name ≡ self.old.name }
         ensures place { self.new.place ≡ self.old.place + result }
         ensures count { result ≤ length buffer.new }
+        ensures few { result ≤ most }
         ensures next { let file = bytes_of (files_of files.now) (string_bytes self.old.name) in
             drop self.old.place file ≡ take result buffer.new ++ drop self.new.place file }
         ensures end { let file = bytes_of (files_of files.now) (string_bytes self.old.name) in
@@ -166,11 +167,11 @@ impl Handle {
 impl MemoryDesk {
     ghost use Rattle.std.specs.Prelude.{Some, IsSome, IsNone, IfNone};
     ghost use Rattle.ports.specs.Desk.{SameCounts, Opens, Creates, file_of};
-    ghost use Rattle.ports.specs.MemoryDesk.{empty_state, with_file};
+    ghost use Rattle.ports.specs.MemoryDesk.{empty_memory, with_file};
 
     /// A desk with no file, on which nothing was done.
     pub fn new(alloc: Global) -> MemoryDesk
-        ensures { result ≡ empty_state }
+        ensures { result ≡ empty_memory }
     {
         MemoryDesk {
             alloc,
@@ -179,9 +180,7 @@ impl MemoryDesk {
             outs: Vec::new(alloc),
             said: Vec::new(alloc),
             cap: usize::MAX,
-            read_faults: 0,
-            write_faults: 0,
-            line_faults: 0,
+            counts: Counts::default(),
         }
     }
 
@@ -198,33 +197,34 @@ impl MemoryDesk {
     /// Makes each read and write from now on move at most so many bytes, as devices do.
     pub fn cap(&mut self, most: usize)
         requires { 0 < most }
-        ensures { self.new ≡ self.old }
+        ensures { self.new ≡ record self.old { cap = most } }
     {
         self.cap = most;
     }
 
     /// The bytes of a file, or None where there is none of that name.
     pub fn file(&self, name: &str) -> Option<&[u8]>
-        ensures file { option_copied result ≡ file_of self.now name.now }
-        ensures told { IsSome self.now.held }
+        ensures file { option_copied result ≡ file_of self.now.state name.now }
+        ensures told { IsSome self.now.state.held }
     {
         find(&self.files, name)
     }
 
     /// What was said.
     pub fn said(&self) -> &[u8]
-        ensures { self.now.said ≡ Some result.now }
+        ensures { self.now.state.said ≡ Some result.now }
     {
         &self.said
     }
 
     // Opens a file as the next handle, where it can.
     fn add_handle(&mut self, name: &str) -> Option<u32>
-        ensures some { IfSome result (Opens self.old self.new name.now) }
+        ensures some { IfSome result (Opens self.old.state self.new.state name.now) }
         ensures none { IfNone result (self.new ≡ self.old) }
-        ensures counts { SameCounts self.old self.new }
-        ensures absent { IsNone (file_of self.old name.now) → IsNone result }
-        ensures full { 2 ^ 32 - 1 ≤ length self.old.opened → IsNone result }
+        ensures counts { SameCounts self.old.state self.new.state }
+        ensures cap { self.new.cap ≡ self.old.cap }
+        ensures absent { IsNone (file_of self.old.state name.now) → IsNone result }
+        ensures full { 2 ^ 32 - 1 ≤ length self.old.state.opened → IsNone result }
     {
         let at = self.handles.len();
         if at >= u32::MAX as usize || find(&self.files, name).is_none() {
@@ -237,10 +237,11 @@ impl MemoryDesk {
 
     // Makes an empty file and gives the next handle for writing, where it can.
     fn add_out(&mut self, name: &str) -> Option<u32>
-        ensures some { IfSome result (Creates self.old self.new name.now) }
+        ensures some { IfSome result (Creates self.old.state self.new.state name.now) }
         ensures none { IfNone result (self.new ≡ self.old) }
-        ensures counts { SameCounts self.old self.new }
-        ensures full { 2 ^ 32 - 1 ≤ self.old.created → IsNone result }
+        ensures counts { SameCounts self.old.state self.new.state }
+        ensures cap { self.new.cap ≡ self.old.cap }
+        ensures full { 2 ^ 32 - 1 ≤ self.old.state.created → IsNone result }
     {
         let at = self.outs.len();
         if at >= u32::MAX as usize {
@@ -259,33 +260,36 @@ impl MemoryDesk {
 impl Desk for MemoryDesk {
     ghost use Rattle.std.specs.Prelude.{IsNone, IsOk, IsErr, IfOk, OnOk, OnErr};
     ghost use Rattle.ports.specs.Desk.{SameCounts, Opens, Creates, FailsToCreate, Reads, Writes, Says, file_of};
-    ghost use Rattle.ports.specs.Faults.{with_read_fault, with_write_fault, with_line_fault};
+    ghost use Rattle.ports.specs.Counts.{MayFailReading, MayFailWriting, MayFailAtLast};
+    ghost use Rattle.ports.specs.MemoryDesk.{fails_reading, fails_writing, fails_at_last};
 
-    ghost state = { λ m. m };
+    ghost state = { λ m. m.state };
 
     /// Beside want of memory, an absent name and the handle after 2^32 - 1 others are faults.
     fn open(&mut self, name: &str) -> Result<u32, DeskFault>
-        ensures ok { IfOk result (Opens self.old self.new name.now) }
-        ensures counts { OnOk result (SameCounts self.old self.new) }
-        ensures absent { IsNone (file_of self.old name.now) → IsErr result }
-        ensures full { 2 ^ 32 - 1 ≤ length self.old.opened → IsErr result }
-        ensures fault { OnErr result (self.new ≡ with_read_fault self.old) }
-        ensures later { self.old.read_faults ≤ self.new.read_faults }
+        ensures ok { IfOk result (Opens self.old.state self.new.state name.now) }
+        ensures absent { IsNone (file_of self.old.state name.now) → IsErr result }
+        ensures full { 2 ^ 32 - 1 ≤ length self.old.state.opened → IsErr result }
+        ensures fault { OnErr result (self.new ≡ fails_reading self.old) }
+        ensures counts { MayFailReading self.old.state.counts self.new.state.counts result }
+        ensures cap { self.new.cap ≡ self.old.cap }
     {
         match self.add_handle(name) {
             Some(handle) => Ok(handle),
-            None => Err(fault(&mut self.read_faults)),
+            None => Err(fault(&mut self.counts.reads)),
         }
     }
 
     /// Never a fault.
     fn read(&mut self, handle: u32, buffer: &mut [u8]) -> Result<usize, DeskFault>
-        requires opened { handle < length self.old.opened }
+        requires opened { handle < length self.old.state.opened }
         requires room { 0 < length buffer.old }
         ensures ok { IsOk result }
         ensures count { IfOk result (λ n. n ≤ length buffer.new) }
-        ensures reads { IfOk result (λ n. Reads self.old self.new handle n buffer.new) }
-        ensures counts { SameCounts self.old self.new }
+        ensures reads { IfOk result (λ n. Reads self.old.state self.new.state handle n buffer.new) }
+        ensures moved { IfOk result (λ n. n ≤ self.old.cap) }
+        ensures counts { SameCounts self.old.state self.new.state }
+        ensures cap { self.new.cap ≡ self.old.cap }
     {
         let most = self.cap;
         Ok(self.handles[handle as usize].read(&self.files, buffer, most))
@@ -294,57 +298,59 @@ impl Desk for MemoryDesk {
     /// Beside want of memory, the handle after 2^32 - 1 others is a fault. After a fault the file is as it was.
     #[tactic(auto, using(crate::proofs::FaultLemmas::fails))]
     fn create(&mut self, name: &str) -> Result<u32, DeskFault>
-        ensures ok { IfOk result (Creates self.old self.new name.now) }
-        ensures counts { OnOk result (SameCounts self.old self.new) }
-        ensures full { 2 ^ 32 - 1 ≤ self.old.created → IsErr result }
-        ensures fault { OnErr result (self.new ≡ with_write_fault self.old) }
-        ensures err { OnErr result (FailsToCreate self.old self.new name.now) }
-        ensures later { self.old.write_faults ≤ self.new.write_faults }
+        ensures ok { IfOk result (Creates self.old.state self.new.state name.now) }
+        ensures full { 2 ^ 32 - 1 ≤ self.old.state.created → IsErr result }
+        ensures fault { OnErr result (self.new ≡ fails_writing self.old) }
+        ensures err { OnErr result (FailsToCreate self.old.state self.new.state name.now) }
+        ensures counts { MayFailWriting self.old.state.counts self.new.state.counts result }
+        ensures cap { self.new.cap ≡ self.old.cap }
     {
         match self.add_out(name) {
             Some(out) => Ok(out),
-            None => Err(fault(&mut self.write_faults)),
+            None => Err(fault(&mut self.counts.writes)),
         }
     }
 
     /// Want of memory is a fault.
     fn write(&mut self, out: u32, piece: &[u8]) -> Result<usize, DeskFault>
-        requires created { out < self.old.created }
+        requires created { out < self.old.state.created }
         requires some { 0 < length piece.now }
         ensures count { IfOk result (λ n. (0 < n) × (n ≤ length piece.now)) }
-        ensures ok { IfOk result (λ n. Writes self.old self.new out (take n piece.now)) }
-        ensures counts { OnOk result (SameCounts self.old self.new) }
-        ensures fault { OnErr result (self.new ≡ with_write_fault self.old) }
-        ensures later { self.old.write_faults ≤ self.new.write_faults }
+        ensures moved { IfOk result (λ n. n ≤ self.old.cap) }
+        ensures ok { IfOk result (λ n. Writes self.old.state self.new.state out (take n piece.now)) }
+        ensures fault { OnErr result (self.new ≡ fails_writing self.old) }
+        ensures counts { MayFailWriting self.old.state.counts self.new.state.counts result }
+        ensures cap { self.new.cap ≡ self.old.cap }
     {
         let count = piece.len().min(self.cap);
         let name = self.outs[out as usize].as_str();
         if append(&mut self.files, name, &piece[..count]) {
             return Ok(count);
         }
-        Err(fault(&mut self.write_faults))
+        Err(fault(&mut self.counts.writes))
     }
 
     /// Want of memory is a fault.
     fn say(&mut self, text: &[u8]) -> Result<(), DeskFault>
-        ensures ok { OnOk result (Says self.old self.new text.now) }
-        ensures counts { OnOk result (SameCounts self.old self.new) }
-        ensures fault { OnErr result (self.new ≡ with_write_fault self.old) }
-        ensures later { self.old.write_faults ≤ self.new.write_faults }
+        ensures ok { OnOk result (Says self.old.state self.new.state text.now) }
+        ensures fault { OnErr result (self.new ≡ fails_writing self.old) }
+        ensures counts { MayFailWriting self.old.state.counts self.new.state.counts result }
+        ensures cap { self.new.cap ≡ self.old.cap }
     {
         match self.said.extend_from_slice(text) {
             Ok(()) => Ok(()),
-            Err(_) => Err(fault(&mut self.write_faults)),
+            Err(_) => Err(fault(&mut self.counts.writes)),
         }
     }
 
     /// Want of memory is a fault.
     fn say_last(&mut self, text: &[u8])
-        ensures said { (Says self.old self.new text.now × SameCounts self.old self.new) ⊎ (self.new ≡ with_line_fault self.old) }
-        ensures later { self.old.line_faults ≤ self.new.line_faults }
+        ensures said { (Says self.old.state self.new.state text.now × SameCounts self.old.state self.new.state) ⊎ (self.new ≡ fails_at_last self.old) }
+        ensures counts { MayFailAtLast self.old.state.counts self.new.state.counts }
+        ensures cap { self.new.cap ≡ self.old.cap }
     {
         if self.said.extend_from_slice(text).is_err() {
-            fault(&mut self.line_faults);
+            fault(&mut self.counts.lines);
         }
     }
 }
@@ -433,7 +439,7 @@ mod tests {
         desk.say(b"two\n")?;
         desk.say_last(b"last\n");
         assert_eq!(rt; desk.said(), b"one\ntwo\nlast\n".as_slice());
-        assert_eq!(rt; (desk.write_faults, desk.line_faults), (0, 0));
+        assert_eq!(rt; desk.counts, Counts::default());
         Ok(())
     }
 }

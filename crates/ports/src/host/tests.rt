@@ -126,8 +126,12 @@ fn counts_what_cannot_be_created_or_written(rt: HostRuntime) -> Result<(), Fail>
     let full = desk.create("/dev/full")?;
     assert_eq!(rt; desk.write(full, b"lost"), Err(DeskFault));
     assert_eq!(rt;
-        (desk.read_faults, desk.write_faults, desk.line_faults),
-        (0, 2, 0)
+        desk.counts,
+        Counts {
+            reads: 0,
+            writes: 2,
+            lines: 0
+        }
     );
     Ok(())
 }
@@ -139,8 +143,12 @@ fn counts_what_cannot_be_opened_or_read(rt: HostRuntime) -> Result<(), Fail> {
     let folder = desk.open(".")?;
     assert_eq!(rt; desk.read(folder, &mut [0u8; 8]), Err(DeskFault));
     assert_eq!(rt;
-        (desk.read_faults, desk.write_faults, desk.line_faults),
-        (2, 0, 0)
+        desk.counts,
+        Counts {
+            reads: 2,
+            writes: 0,
+            lines: 0
+        }
     );
     Ok(())
 }
@@ -150,7 +158,7 @@ fn says_to_standard_output(rt: HostRuntime) -> Result<(), Fail> {
     let mut desk = HostDesk::new(&rt, rt.alloc());
     desk.say(b"said\n")?;
     desk.say_last(b"last\n");
-    assert_eq!(rt; (desk.write_faults, desk.line_faults), (0, 0));
+    assert_eq!(rt; desk.counts, Counts::default());
     Ok(())
 }
 
@@ -159,7 +167,7 @@ fn says_each_text_whole(rt: HostRuntime) {
     let mut desk = HostDesk::new(Takes(b"whole\n"), rt.alloc());
     assert_eq!(rt; desk.say(b"whole\n"), Ok(()));
     desk.say_last(b"whole\n");
-    assert_eq!(rt; (desk.write_faults, desk.line_faults), (0, 0));
+    assert_eq!(rt; desk.counts, Counts::default());
 }
 
 #[test]
@@ -168,8 +176,12 @@ fn counts_what_standard_output_does_not_take(rt: HostRuntime) {
     assert_eq!(rt; desk.say(b"lost\n"), Err(DeskFault));
     desk.say_last(b"lost too\n");
     assert_eq!(rt;
-        (desk.read_faults, desk.write_faults, desk.line_faults),
-        (0, 1, 1)
+        desk.counts,
+        Counts {
+            reads: 0,
+            writes: 1,
+            lines: 1
+        }
     );
 }
 
