@@ -1,35 +1,52 @@
 // A desk over real files and standard output.
-ghost use Rattle.std.specs.Prelude.{◌≡◌, ◌⊎◌, ◌<◌, ◌≤◌, ◌+◌, ◌^◌, length, IfOk, IfSome, IfNone, IsNone};
+ghost use Rattle.std.specs.Prelude.{◌≡◌, ◌⊎◌, ◌<◌, ◌≤◌, ◌+◌, ◌^◌, length, IfOk, OnOk, OnErr, IsErr, IsSome};
+ghost use Rattle.ports.specs.Counts.{one_more};
 
 use crate::fault::fault;
+use crate::host_fault::{HostFault, Reason};
 use crate::{Counts, Desk, DeskFault};
 use std::alloc::Global;
+use std::fs::{Metadata, OpenFile};
 use std::io::{ErrorKind, Read, Write};
 use std::marker::Model;
+use std::os::unix::fs::MetadataExt;
 use std::rt::Files;
 use std::{fs, io};
 
-/// A file that was opened, and how many of its bytes were read.
+/// A file of the system, whatever its names: its device and its number there.
+#[derive(Clone, Copy, PartialEq, Eq)]
+struct Node {
+    device: u64,
+    number: u64,
+}
+
+/// A file that was opened or created, under a name if there was memory for it, and how many of its bytes were read.
 #[derive(Drop)]
 struct Handle<F> {
     file: F,
+    name: Option<String>,
+    node: Option<Node>,
     place: u64,
 }
 
 /// A desk over real files and standard output. It tells nothing of what they hold.
 ///
 /// That reads and writes of the runtime do what they say is trusted. A text is said by one write,
-/// with no buffer, so that a full device or a closed pipe is a fault of that very call.
+/// with no buffer, so that a full device or a closed pipe is a fault of that very call. A file that
+/// was opened is not created, under whatever name.
 #[derive(Drop)]
 pub struct HostDesk<R: Files + Print + Drop> {
     rt: R,
+    alloc: Global,
     handles: Vec<Handle<R::File>>,
-    outs: Vec<R::File>,
+    outs: Vec<Handle<R::File>>,
     counts: Counts,
+    first: Option<HostFault>,
 }
 
 impl<R: Files + Print + Drop> Model for HostDesk<R> {
-    ghost use Rattle.std.specs.Prelude.{None, map, vec_len};
+    ghost use Rattle.std.specs.Prelude.{◌≡◌, ◌↔◌, None, IsNone, map, vec_len};
+    ghost use Rattle.ports.specs.Counts.{no_faults};
     ghost use Rattle.ports.specs.Desk.{State};
     ghost use Rattle.ports.specs.StateCode.{state_code};
 
@@ -44,6 +61,29 @@ impl<R: Files + Print + Drop> Model for HostDesk<R> {
       created = vec_len d.outs;
       counts = d.counts;
     } };
+
+    ghost invariant = { λ d. IsNone d.first ↔ (d.counts ≡ no_faults) };
+}
+
+fn node_of(file: io::Result<Metadata>) -> Option<Node> {
+    let file = file.ok()?;
+    Some(Node {
+        device: file.dev(),
+        number: file.ino(),
+    })
+}
+
+// A fault that is counted, and kept if it is the first.
+fn fail(count: &mut u64, first: &mut Option<HostFault>, what: HostFault) -> DeskFault
+    ensures one { count.new ≡ one_more count.old }
+    ensures later { count.old ≤ count.new }
+    ensures rose { 0 < count.new }
+    ensures kept { IsSome first.new }
+{
+    if first.is_none() {
+        *first = Some(what);
+    }
+    fault(count)
 }
 
 // Reads once more where a signal cut the call short, which std leaves to the caller.
@@ -74,18 +114,26 @@ fn write_again<F: Write>(file: &mut F, piece: &[u8]) -> io::Result<usize>
 
 impl<F: Read> Handle<F> {
     // Reads on from its place.
-    fn read(&mut self, buffer: &mut [u8]) -> Option<usize>
-        ensures count { IfSome result (λ n. n ≤ length buffer.new) }
-        ensures some { IfSome result (λ n. self.new.place ≡ self.old.place + n) }
-        ensures none { IfNone result (self.new.place ≡ self.old.place) }
+    fn read(&mut self, buffer: &mut [u8]) -> Result<usize, Reason>
+        ensures count { IfOk result (λ n. n ≤ length buffer.new) }
+        ensures ok { IfOk result (λ n. self.new.place ≡ self.old.place + n) }
+        ensures err { OnErr result (self.new.place ≡ self.old.place) }
     {
-        let count = read_again(&mut self.file, buffer).ok()?;
-        self.place = self.place.checked_add(count as u64)?;
-        Some(count)
+        let count = match read_again(&mut self.file, buffer) {
+            Ok(count) => count,
+            Err(error) => return Err(Reason(error.kind())),
+        };
+        match self.place.checked_add(count as u64) {
+            Some(place) => self.place = place,
+            None => return Err(Reason(ErrorKind::FileTooLarge)),
+        }
+        Ok(count)
     }
 }
 
 impl<R: Files + Print + Drop> HostDesk<R> {
+    ghost use Rattle.std.specs.Prelude.{IsNone, ◌↔◌};
+    ghost use Rattle.ports.specs.Counts.{no_faults};
     ghost use Rattle.ports.specs.Desk.{SameCounts, Opens, Creates};
     ghost use Rattle.ports.specs.HostDesk.{untold_state};
 
@@ -95,41 +143,115 @@ impl<R: Files + Print + Drop> HostDesk<R> {
     {
         HostDesk {
             rt,
+            alloc,
             handles: Vec::new(alloc),
             outs: Vec::new(alloc),
             counts: Counts::default(),
+            first: None,
         }
     }
 
-    // Opens a file as the next handle, where it can.
-    fn add_handle(&mut self, name: &str) -> Option<u32>
-        ensures some { IfSome result (Opens self.old self.new name.now) }
-        ensures none { IfNone result (self.new ≡ self.old) }
-        ensures counts { SameCounts self.old self.new }
-        ensures full { 2 ^ 32 ≤ length self.old.opened → IsNone result }
+    /// What failed first, and why: `None` exactly if nothing did.
+    pub fn first_fault(&self) -> Option<&HostFault>
+        ensures { IsNone result ↔ (self.now.counts ≡ no_faults) }
     {
-        let handle = u32::try_from(self.handles.len()).ok()?;
-        let file = fs::open(&self.rt, name).ok()?;
-        self.handles.push(Handle { file, place: 0 }).ok()?;
-        Some(handle)
+        self.first.as_ref()
+    }
+
+    // A name to keep, if there is memory for it.
+    fn name(&self, name: &str) -> Option<String> {
+        String::from_str(self.alloc, name).ok()
+    }
+
+    // The name of a handle's file, if it was kept and there is memory for it.
+    fn name_of(&self, handle: &Handle<R::File>) -> Option<String> {
+        match &handle.name {
+            Some(name) => self.name(name.as_str()),
+            None => None,
+        }
+    }
+
+    // The handle of a file that was opened, if this name is one of its names.
+    fn opened_as(&self, name: &str) -> Option<&Handle<R::File>> {
+        let node = node_of(fs::metadata(&self.rt, name))?;
+        self.handles.iter().find(|handle| handle.node == Some(node))
+    }
+
+    // Opens a file as the next handle, where it can.
+    fn add_handle(&mut self, name: &str) -> Result<u32, Reason>
+        ensures ok { IfOk result (Opens self.old self.new name.now) }
+        ensures err { OnErr result (self.new ≡ self.old) }
+        ensures counts { SameCounts self.old self.new }
+        ensures full { 2 ^ 32 ≤ length self.old.opened → IsErr result }
+    {
+        let Ok(number) = u32::try_from(self.handles.len()) else {
+            return Err(Reason(ErrorKind::OutOfMemory));
+        };
+        let file = match fs::open(&self.rt, name) {
+            Ok(file) => file,
+            Err(error) => return Err(Reason(error.kind())),
+        };
+        let handle = Handle {
+            node: node_of(file.metadata()),
+            name: self.name(name),
+            file,
+            place: 0,
+        };
+        match self.handles.push(handle) {
+            Ok(()) => Ok(number),
+            Err(_) => Err(Reason(ErrorKind::OutOfMemory)),
+        }
     }
 
     // Makes a file empty and gives the next handle for writing, where it can.
-    fn add_out(&mut self, name: &str) -> Option<u32>
-        ensures some { IfSome result (Creates self.old self.new name.now) }
-        ensures none { IfNone result (self.new ≡ self.old) }
+    fn add_out(&mut self, name: &str) -> Result<u32, HostFault>
+        ensures ok { IfOk result (Creates self.old self.new name.now) }
+        ensures err { OnErr result (self.new ≡ self.old) }
         ensures counts { SameCounts self.old self.new }
-        ensures full { 2 ^ 32 ≤ self.old.created → IsNone result }
+        ensures full { 2 ^ 32 ≤ self.old.created → IsErr result }
     {
-        let out = u32::try_from(self.outs.len()).ok()?;
-        let file = fs::create(&self.rt, name).ok()?;
-        self.outs.push(file).ok()?;
-        Some(out)
+        if let Some(handle) = self.opened_as(name) {
+            let name = self.name_of(handle);
+            return Err(HostFault::IsRead { name });
+        }
+        match self.add_new(name) {
+            Ok(out) => Ok(out),
+            Err(why) => {
+                let name = self.name(name);
+                Err(HostFault::Write { name, why })
+            }
+        }
+    }
+
+    // Makes a file empty, whatever else it is.
+    fn add_new(&mut self, name: &str) -> Result<u32, Reason>
+        ensures ok { IfOk result (Creates self.old self.new name.now) }
+        ensures err { OnErr result (self.new ≡ self.old) }
+        ensures counts { SameCounts self.old self.new }
+        ensures full { 2 ^ 32 ≤ self.old.created → IsErr result }
+    {
+        let Ok(number) = u32::try_from(self.outs.len()) else {
+            return Err(Reason(ErrorKind::OutOfMemory));
+        };
+        let file = match fs::create(&self.rt, name) {
+            Ok(file) => file,
+            Err(error) => return Err(Reason(error.kind())),
+        };
+        let out = Handle {
+            node: None,
+            name: self.name(name),
+            file,
+            place: 0,
+        };
+        match self.outs.push(out) {
+            Ok(()) => Ok(number),
+            Err(_) => Err(Reason(ErrorKind::OutOfMemory)),
+        }
     }
 }
 
 impl<R: Files + Print + Drop> Desk for HostDesk<R> {
-    ghost use Rattle.std.specs.Prelude.{IsErr, OnOk, OnErr, take};
+    ghost use Rattle.std.specs.Prelude.{take};
     ghost use Rattle.ports.specs.Counts.{MayFailReading, MayFailWriting, MayFailAtLast};
     ghost use Rattle.ports.specs.Desk.{SameCounts, Opens, Creates, FailsToCreate, Reads, Writes, Says};
     ghost use Rattle.ports.specs.Faults.{with_read_fault, with_write_fault, with_line_fault};
@@ -143,8 +265,12 @@ impl<R: Files + Print + Drop> Desk for HostDesk<R> {
         ensures counts { MayFailReading self.old.counts self.new.counts result }
     {
         match self.add_handle(name) {
-            Some(handle) => Ok(handle),
-            None => Err(fault(&mut self.counts.reads)),
+            Ok(handle) => Ok(handle),
+            Err(why) => {
+                let name = self.name(name);
+                let what = HostFault::Read { name, why };
+                Err(fail(&mut self.counts.reads, &mut self.first, what))
+            }
         }
     }
 
@@ -157,8 +283,12 @@ impl<R: Files + Print + Drop> Desk for HostDesk<R> {
         ensures counts { MayFailReading self.old.counts self.new.counts result }
     {
         match self.handles[handle as usize].read(buffer) {
-            Some(count) => Ok(count),
-            None => Err(fault(&mut self.counts.reads)),
+            Ok(count) => Ok(count),
+            Err(why) => {
+                let name = self.name_of(&self.handles[handle as usize]);
+                let what = HostFault::Read { name, why };
+                Err(fail(&mut self.counts.reads, &mut self.first, what))
+            }
         }
     }
 
@@ -171,8 +301,8 @@ impl<R: Files + Print + Drop> Desk for HostDesk<R> {
         ensures counts { MayFailWriting self.old.counts self.new.counts result }
     {
         match self.add_out(name) {
-            Some(out) => Ok(out),
-            None => Err(fault(&mut self.counts.writes)),
+            Ok(out) => Ok(out),
+            Err(what) => Err(fail(&mut self.counts.writes, &mut self.first, what)),
         }
     }
 
@@ -184,10 +314,14 @@ impl<R: Files + Print + Drop> Desk for HostDesk<R> {
         ensures fault { OnErr result (self.new ≡ with_write_fault self.old) }
         ensures counts { MayFailWriting self.old.counts self.new.counts result }
     {
-        match write_again(&mut self.outs[out as usize], piece) {
-            Ok(count) if count > 0 => Ok(count),
-            _ => Err(fault(&mut self.counts.writes)),
-        }
+        let why = match write_again(&mut self.outs[out as usize].file, piece) {
+            Ok(count) if count > 0 => return Ok(count),
+            Ok(_) => Reason(ErrorKind::WriteZero),
+            Err(error) => Reason(error.kind()),
+        };
+        let name = self.name_of(&self.outs[out as usize]);
+        let what = HostFault::Write { name, why };
+        Err(fail(&mut self.counts.writes, &mut self.first, what))
     }
 
     fn say(&mut self, text: &[u8]) -> Result<(), DeskFault>
@@ -197,7 +331,11 @@ impl<R: Files + Print + Drop> Desk for HostDesk<R> {
     {
         match self.rt.write_all(text) {
             Ok(()) => Ok(()),
-            Err(_) => Err(fault(&mut self.counts.writes)),
+            Err(error) => {
+                let why = Reason(error.kind());
+                let what = HostFault::Said { why };
+                Err(fail(&mut self.counts.writes, &mut self.first, what))
+            }
         }
     }
 
@@ -205,8 +343,13 @@ impl<R: Files + Print + Drop> Desk for HostDesk<R> {
         ensures said { (Says self.old self.new text.now × SameCounts self.old self.new) ⊎ (self.new ≡ with_line_fault self.old) }
         ensures counts { MayFailAtLast self.old.counts self.new.counts }
     {
-        if self.rt.write_all(text).is_err() {
-            fault(&mut self.counts.lines);
+        if let Err(error) = self.rt.write_all(text) {
+            let why = Reason(error.kind());
+            fail(
+                &mut self.counts.lines,
+                &mut self.first,
+                HostFault::Said { why },
+            );
         }
     }
 }

@@ -396,8 +396,12 @@ mod tests {
         desk.put_file("note", b"hello")?;
         assert_eq!(rt; desk.open("other"), Err(DeskFault));
         assert_eq!(rt;
-            (desk.read_faults, desk.write_faults, desk.line_faults),
-            (1, 0, 0)
+            desk.counts,
+            Counts {
+                reads: 1,
+                writes: 0,
+                lines: 0
+            }
         );
         assert_eq!(rt; desk.open("note"), Ok(0));
         Ok(())

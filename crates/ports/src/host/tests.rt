@@ -120,6 +120,60 @@ fn writes_a_real_file_anew(rt: HostRuntime) -> Result<(), Fail> {
 }
 
 #[test]
+fn writes_two_real_files_in_turn(rt: HostRuntime) -> Result<(), Fail> {
+    let mut desk = HostDesk::new(&rt, rt.alloc());
+    let first = desk.create("host_desk_first")?;
+    let second = desk.create("host_desk_second")?;
+    assert_eq!(rt; desk.write(first, b"one"), Ok(3));
+    assert_eq!(rt; desk.write(second, b"other"), Ok(5));
+    assert_eq!(rt; desk.write(first, b" more"), Ok(5));
+    let text = fs::read_to_string(&rt, "host_desk_first")?;
+    assert_eq!(rt; text.as_str(), "one more");
+    let text = fs::read_to_string(&rt, "host_desk_second")?;
+    assert_eq!(rt; text.as_str(), "other");
+    fs::remove_file(&rt, "host_desk_first")?;
+    fs::remove_file(&rt, "host_desk_second")?;
+    Ok(())
+}
+
+#[test]
+fn does_not_empty_a_file_that_is_read_under_another_name(rt: HostRuntime) -> Result<(), Fail> {
+    fs::write(&rt, "host_desk_same", b"kept")?;
+    let mut desk = HostDesk::new(&rt, rt.alloc());
+    desk.open("host_desk_same")?;
+    assert!(rt; desk.first_fault().is_none());
+    assert_eq!(rt; desk.create("./host_desk_same"), Err(DeskFault));
+    let Some(HostFault::IsRead { name: Some(name) }) = desk.first_fault() else {
+        return Err(Fail::from("another fault"));
+    };
+    assert_eq!(rt; name.as_str(), "host_desk_same");
+    let text = fs::read_to_string(&rt, "host_desk_same")?;
+    assert_eq!(rt; text.as_str(), "kept");
+    fs::remove_file(&rt, "host_desk_same")?;
+    Ok(())
+}
+
+#[test]
+fn keeps_the_first_fault_and_its_reason(rt: HostRuntime) -> Result<(), Fail> {
+    let mut desk = HostDesk::new(&rt, rt.alloc());
+    assert_eq!(rt; desk.open("no_such_file"), Err(DeskFault));
+    assert_eq!(rt; desk.create("no_such_folder/file"), Err(DeskFault));
+    let Some(
+        HostFault::Read {
+            name: Some(name),
+            why,
+        },
+    ) = desk.first_fault()
+    else {
+        return Err(Fail::from("another fault"));
+    };
+    assert_eq!(rt; name.as_str(), "no_such_file");
+    let words = format!(in rt.alloc(); "{why}")?;
+    assert_eq!(rt; words.as_str(), "no such file or directory");
+    Ok(())
+}
+
+#[test]
 fn counts_what_cannot_be_created_or_written(rt: HostRuntime) -> Result<(), Fail> {
     let mut desk = HostDesk::new(&rt, rt.alloc());
     assert_eq!(rt; desk.create("no_such_folder/file"), Err(DeskFault));
@@ -189,10 +243,12 @@ fn counts_what_standard_output_does_not_take(rt: HostRuntime) {
 fn reads_on_after_a_signal(rt: HostRuntime) {
     let mut handle = Handle {
         file: Interrupted { now: false },
+        name: None,
+        node: None,
         place: 0,
     };
     let mut buffer = [0u8; 4];
-    assert_eq!(rt; handle.read(&mut buffer), Some(1));
-    assert_eq!(rt; handle.read(&mut buffer), Some(1));
+    assert_eq!(rt; handle.read(&mut buffer), Ok(1));
+    assert_eq!(rt; handle.read(&mut buffer), Ok(1));
     assert_eq!(rt; handle.place, 2);
 }
