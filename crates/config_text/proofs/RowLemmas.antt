@@ -20,7 +20,8 @@ use Rattle.plp_config.specs.declared.plp.Rate.{Rate}
 use Rattle.plp_config.specs.declared.plp.Rate.TheVariants.{R1_2, R3_5, R2_3, R3_4, R4_5, R5_6}
 use Rattle.plp_config.specs.declared.plp.Modulation.{Modulation}
 use Rattle.plp_config.specs.declared.plp.Modulation.TheVariants.{Qpsk, Qam16, Qam64, Qam256}
-use Rattle.config_text.specs.Rows.{rows_of, plp_row, band_place, kind_place, rate_place, modulation_place, size_place, bit_place, deletion_place}
+use Rattle.config_text.specs.Rows.{rows_of, plp_row, kind_place, bit_place, deletion_place}
+use Rattle.plp_config.specs.Tables.{bw, plp_cod, plp_mod, plp_fec_type}
 
 abbrev band_at : ℕ → Band
 band_at zero = Mhz1_7
@@ -30,7 +31,7 @@ band_at (suc (suc (suc zero))) = Mhz7
 band_at (suc (suc (suc (suc zero)))) = Mhz8
 band_at (suc (suc (suc (suc (suc n))))) = Mhz10
 
-band_told : (x : Band) → band_at (band_place x) ≡ x
+band_told : (x : Band) → band_at (bw x) ≡ x
 band_told Mhz1_7 = refl
 band_told Mhz5 = refl
 band_told Mhz6 = refl
@@ -38,7 +39,7 @@ band_told Mhz7 = refl
 band_told Mhz8 = refl
 band_told Mhz10 = refl
 
-band_once : (x y : Band) → band_place x ≡ band_place y → x ≡ y
+band_once : (x y : Band) → bw x ≡ bw y → x ≡ y
 band_once x y e = sym (band_told x) ∙ ap band_at e ∙ band_told y
 
 abbrev kind_at : ℕ → PlpKind
@@ -60,7 +61,7 @@ rate_at (suc (suc (suc zero))) = R3_4
 rate_at (suc (suc (suc (suc zero)))) = R4_5
 rate_at (suc (suc (suc (suc (suc n))))) = R5_6
 
-rate_told : (x : Rate) → rate_at (rate_place x) ≡ x
+rate_told : (x : Rate) → rate_at (plp_cod x) ≡ x
 rate_told R1_2 = refl
 rate_told R3_5 = refl
 rate_told R2_3 = refl
@@ -68,7 +69,7 @@ rate_told R3_4 = refl
 rate_told R4_5 = refl
 rate_told R5_6 = refl
 
-rate_once : (x y : Rate) → rate_place x ≡ rate_place y → x ≡ y
+rate_once : (x y : Rate) → plp_cod x ≡ plp_cod y → x ≡ y
 rate_once x y e = sym (rate_told x) ∙ ap rate_at e ∙ rate_told y
 
 abbrev modulation_at : ℕ → Modulation
@@ -77,24 +78,24 @@ modulation_at (suc zero) = Qam16
 modulation_at (suc (suc zero)) = Qam64
 modulation_at (suc (suc (suc n))) = Qam256
 
-modulation_told : (x : Modulation) → modulation_at (modulation_place x) ≡ x
+modulation_told : (x : Modulation) → modulation_at (plp_mod x) ≡ x
 modulation_told Qpsk = refl
 modulation_told Qam16 = refl
 modulation_told Qam64 = refl
 modulation_told Qam256 = refl
 
-modulation_once : (x y : Modulation) → modulation_place x ≡ modulation_place y → x ≡ y
+modulation_once : (x y : Modulation) → plp_mod x ≡ plp_mod y → x ≡ y
 modulation_once x y e = sym (modulation_told x) ∙ ap modulation_at e ∙ modulation_told y
 
 abbrev size_at : ℕ → FecSize
 size_at zero = Short
 size_at (suc n) = Normal
 
-size_told : (x : FecSize) → size_at (size_place x) ≡ x
+size_told : (x : FecSize) → size_at (plp_fec_type x) ≡ x
 size_told Short = refl
 size_told Normal = refl
 
-size_once : (x y : FecSize) → size_place x ≡ size_place y → x ≡ y
+size_once : (x y : FecSize) → plp_fec_type x ≡ plp_fec_type y → x ≡ y
 size_once x y e = sym (size_told x) ∙ ap size_at e ∙ size_told y
 
 abbrev bit_at : ℕ → Bool
@@ -178,7 +179,7 @@ config_once c d e =
 
 -- ---- rows that fit are those of a configuration
 
-band_put : (n : ℕ) → n < 6 → band_place (band_at n) ≡ n
+band_put : (n : ℕ) → n < 6 → bw (band_at n) ≡ n
 band_put zero inside = refl
 band_put (suc zero) inside = refl
 band_put (suc (suc zero)) inside = refl
@@ -192,7 +193,7 @@ kind_put zero inside = refl
 kind_put (suc zero) inside = refl
 kind_put (suc (suc n)) inside = absurd (omega arith)
 
-rate_put : (n : ℕ) → n < 6 → rate_place (rate_at n) ≡ n
+rate_put : (n : ℕ) → n < 6 → plp_cod (rate_at n) ≡ n
 rate_put zero inside = refl
 rate_put (suc zero) inside = refl
 rate_put (suc (suc zero)) inside = refl
@@ -201,14 +202,14 @@ rate_put (suc (suc (suc (suc zero)))) inside = refl
 rate_put (suc (suc (suc (suc (suc zero))))) inside = refl
 rate_put (suc (suc (suc (suc (suc (suc n)))))) inside = absurd (omega arith)
 
-modulation_put : (n : ℕ) → n < 4 → modulation_place (modulation_at n) ≡ n
+modulation_put : (n : ℕ) → n < 4 → plp_mod (modulation_at n) ≡ n
 modulation_put zero inside = refl
 modulation_put (suc zero) inside = refl
 modulation_put (suc (suc zero)) inside = refl
 modulation_put (suc (suc (suc zero))) inside = refl
 modulation_put (suc (suc (suc (suc n)))) inside = absurd (omega arith)
 
-size_put : (n : ℕ) → n < 2 → size_place (size_at n) ≡ n
+size_put : (n : ℕ) → n < 2 → plp_fec_type (size_at n) ≡ n
 size_put zero inside = refl
 size_put (suc zero) inside = refl
 size_put (suc (suc n)) inside = absurd (omega arith)
@@ -255,9 +256,9 @@ pub plp_put : (row : List ℕ) → FitFields plp_fields row → plp_row (plp_fro
 plp_put row fits =
     let at : FitFields plp_fields (first_values 11 row) = placed plp_fields row fits in
     let kind_is : kind_place (kind_at (get_or row 1 0)) ≡ get_or row 1 0 = kind_put (get_or row 1 0) at.1.0 in
-    let rate_is : rate_place (rate_at (get_or row 3 0)) ≡ get_or row 3 0 = rate_put (get_or row 3 0) at.1.1.1.0 in
-    let modulation_is : modulation_place (modulation_at (get_or row 4 0)) ≡ get_or row 4 0 = modulation_put (get_or row 4 0) at.1.1.1.1.0 in
-    let size_is : size_place (size_at (get_or row 5 0)) ≡ get_or row 5 0 = size_put (get_or row 5 0) at.1.1.1.1.1.0 in
+    let rate_is : plp_cod (rate_at (get_or row 3 0)) ≡ get_or row 3 0 = rate_put (get_or row 3 0) at.1.1.1.0 in
+    let modulation_is : plp_mod (modulation_at (get_or row 4 0)) ≡ get_or row 4 0 = modulation_put (get_or row 4 0) at.1.1.1.1.0 in
+    let size_is : plp_fec_type (size_at (get_or row 5 0)) ≡ get_or row 5 0 = size_put (get_or row 5 0) at.1.1.1.1.1.0 in
     let bit_is : bit_place (bit_at (get_or row 6 0)) ≡ get_or row 6 0 = bit_put (get_or row 6 0) at.1.1.1.1.1.1.0 in
     let deletion_is : deletion_place (deletion_at (get_or row 9 0)) ≡ get_or row 9 0 = deletion_put (get_or row 9 0) at.1.1.1.1.1.1.1.1.1.0 in
     let whole : first_values 11 row ≡ row = row_values plp_fields row fits in
@@ -319,7 +320,7 @@ config_rows (r0 ∷ r1 ∷ r2 ∷ r3 ∷ r4 ∷ r5 ∷ r6 ∷ r7 ∷ rest) fits 
     let version : 1 ≡ get_or r0 0 0 = omega (arith, one.0) in
     let version_is : 1 ∷ [] ≡ r0 = ap (λ (n : ℕ). n ∷ []) version ∙ row_values (Version ∷ []) r0 fits.0 in
     let place : FitFields (Bandwidth ∷ []) (first_values 1 r1) = placed (Bandwidth ∷ []) r1 fits.1.0 in
-    let band_is : band_place (band_at (get_or r1 0 0)) ∷ [] ≡ r1 = ap (λ (n : ℕ). n ∷ []) (band_put (get_or r1 0 0) place.0) ∙ row_values (Bandwidth ∷ []) r1 fits.1.0 in
+    let band_is : bw (band_at (get_or r1 0 0)) ∷ [] ≡ r1 = ap (λ (n : ℕ). n ∷ []) (band_put (get_or r1 0 0) place.0) ∙ row_values (Bandwidth ∷ []) r1 fits.1.0 in
     let frame_is : first_values 3 r2 ≡ r2 = row_values frame_fields r2 fits.1.1.0 in
     let start_is : first_values 3 r3 ≡ r3 = row_values start_fields r3 fits.1.1.1.0 in
     let pid_is : first_values 1 r4 ≡ r4 = row_values (Number16 ∷ []) r4 fits.1.1.1.1.0 in

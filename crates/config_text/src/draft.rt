@@ -2,7 +2,8 @@
 ghost use Rattle.std.specs.Prelude.{◌≡◌, ◌<◌, ◌-◌, length, OnOk};
 ghost use Rattle.config_text.specs.ConfigText.{first_lines};
 ghost use Rattle.config_text.specs.Fields.{fields_at, frame_fields, start_fields, network_fields, l1_fields, plp_fields};
-ghost use Rattle.config_text.specs.Rows.{band_place, kind_place, rate_place, modulation_place, size_place, plp_row};
+ghost use Rattle.config_text.specs.Rows.{kind_place, plp_row};
+ghost use Rattle.plp_config.specs.Tables.{bw, plp_cod, plp_mod, plp_fec_type};
 ghost use Rattle.config_text.specs.Drafts.{Puts};
 ghost use Rattle.config_text.specs.Words.{first_values, row_of, FitFields};
 
@@ -16,7 +17,7 @@ type Values = [u64; MOST_FIELDS];
 // The bandwidth at a place of its list.
 fn band_of(place: u64) -> Band
     requires { place < 6 }
-    ensures { band_place result ≡ place }
+    ensures { bw result ≡ place }
 {
     match place {
         0 => Band::Mhz1_7,
@@ -42,7 +43,7 @@ fn kind_of(place: u64) -> PlpKind
 // The code rate.
 fn rate_of(place: u64) -> Rate
     requires { place < 6 }
-    ensures { rate_place result ≡ place }
+    ensures { plp_cod result ≡ place }
 {
     match place {
         0 => Rate::R1_2,
@@ -57,7 +58,7 @@ fn rate_of(place: u64) -> Rate
 // The constellation.
 fn modulation_of(place: u64) -> Modulation
     requires { place < 4 }
-    ensures { modulation_place result ≡ place }
+    ensures { plp_mod result ≡ place }
 {
     match place {
         0 => Modulation::Qpsk,
@@ -70,7 +71,7 @@ fn modulation_of(place: u64) -> Modulation
 // The size of a block.
 fn size_of(place: u64) -> FecSize
     requires { place < 2 }
-    ensures { size_place result ≡ place }
+    ensures { plp_fec_type result ≡ place }
 {
     match place {
         0 => FecSize::Short,

@@ -2,7 +2,7 @@
 ghost use Rattle.std.specs.Prelude.{◌≡◌, ◌<◌, ◌≤◌, ◌++◌, ◌∷◌, [], length, slice_index_or, IfOk, IfSome, IfNone, OnOk};
 ghost use Rattle.config_text.specs.ConfigText.{canonical_line, canonical_text, Spells};
 ghost use Rattle.config_text.specs.Fields.{plp_fields, l1_fields, fields_at, words_after};
-ghost use Rattle.config_text.specs.Rows.{band_word as word_of_band, rows_of, plp_row, l1_row, band_place, kind_place, rate_place, modulation_place, size_place};
+ghost use Rattle.config_text.specs.Rows.{band_word as word_of_band, rows_of, plp_row, l1_row, kind_place};
 ghost use Rattle.config_text.specs.Words.{first_values, row_of, FitFields};
 
 use crate::field::{Field, fields_at, key_at};
@@ -15,26 +15,12 @@ use std::alloc::Global;
 
 type Values = [u64; MOST_FIELDS];
 
-fn band_place(value: Band) -> u64
-    ensures place { result ≡ band_place value }
-    ensures small { result < 6 }
-{
-    match value {
-        Band::Mhz1_7 => 0,
-        Band::Mhz5 => 1,
-        Band::Mhz6 => 2,
-        Band::Mhz7 => 3,
-        Band::Mhz8 => 4,
-        Band::Mhz10 => 5,
-    }
-}
-
 /// The word of a bandwidth.
 pub fn band_word(band: Band) -> &'static [u8]
     ensures word { result.now ≡ word_of_band band }
     ensures len { length result.now ≤ 3 }
 {
-    bandwidth_word(band_place(band))
+    bandwidth_word(u64::from(band.bw()))
 }
 
 fn kind_place(value: PlpKind) -> u64
@@ -47,42 +33,6 @@ fn kind_place(value: PlpKind) -> u64
     }
 }
 
-fn rate_place(value: Rate) -> u64
-    ensures place { result ≡ rate_place value }
-    ensures small { result < 6 }
-{
-    match value {
-        Rate::R1_2 => 0,
-        Rate::R3_5 => 1,
-        Rate::R2_3 => 2,
-        Rate::R3_4 => 3,
-        Rate::R4_5 => 4,
-        Rate::R5_6 => 5,
-    }
-}
-
-fn modulation_place(value: Modulation) -> u64
-    ensures place { result ≡ modulation_place value }
-    ensures small { result < 4 }
-{
-    match value {
-        Modulation::Qpsk => 0,
-        Modulation::Qam16 => 1,
-        Modulation::Qam64 => 2,
-        Modulation::Qam256 => 3,
-    }
-}
-
-fn size_place(value: FecSize) -> u64
-    ensures place { result ≡ size_place value }
-    ensures small { result < 2 }
-{
-    match value {
-        FecSize::Short => 0,
-        FecSize::Normal => 1,
-    }
-}
-
 fn plp_values(plp: &Plp) -> Values
     ensures row { first_values 11 result ≡ plp_row plp.now }
     ensures fits { FitFields plp_fields (first_values 11 result) }
@@ -91,9 +41,9 @@ fn plp_values(plp: &Plp) -> Values
         u64::from(plp.id),
         kind_place(plp.kind),
         u64::from(plp.group),
-        rate_place(plp.rate),
-        modulation_place(plp.modulation),
-        size_place(plp.fec),
+        u64::from(plp.rate.plp_cod()),
+        u64::from(plp.modulation.plp_mod()),
+        u64::from(plp.fec.plp_fec_type()),
         u64::from(plp.rotation),
         u64::from(plp.blocks),
         u64::from(plp.interleave),
@@ -162,7 +112,7 @@ fn values_at(config: &Config, due: usize) -> Option<Values>
 {
     match due {
         0 => Some([1, 0, 0, 0, 0, 0, 0, 0, 0, 0, 0, 0]),
-        1 => Some(few_values(band_place(config.band), 0, 0, 0)),
+        1 => Some(few_values(u64::from(config.band.bw()), 0, 0, 0)),
         2 => Some(few_values(
             u64::from(config.ticks),
             u64::from(config.frames),

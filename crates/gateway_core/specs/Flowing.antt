@@ -1,5 +1,6 @@
 -- What a flow stands for. No public clause cites this module.
 use Rattle.std.specs.Prelude.{◌≡◌, ℕ, ◌==◌, ◌&&◌, ◌||◌, nat_lt, Bool, true, List, []}
+use Rattle.ts_packet.specs.declared.sizes.TheConstants.{PAYLOAD}
 use Rattle.plp_config.specs.declared.config.Config.{Config}
 use Rattle.t2mi_packet.specs.declared.packet.Body.{Body}
 use Rattle.t2mi_stream.specs.PiperStandsFor.{waiting_of, is_finished}
@@ -17,4 +18,4 @@ Flows f c n left all given = Streams f.outlet.piper (between f.outlet.bytes f.ou
 
 -- A unit is complete, or no more frames come and a byte is left.
 abbrev pub gives_unit : Flow → Bool
-gives_unit f = (waiting_of f.outlet.piper == 184) || (is_finished f.outlet.piper && nat_lt 0 (waiting_of f.outlet.piper))
+gives_unit f = (waiting_of f.outlet.piper == PAYLOAD) || (is_finished f.outlet.piper && nat_lt 0 (waiting_of f.outlet.piper))

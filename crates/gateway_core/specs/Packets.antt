@@ -5,8 +5,7 @@ use Rattle.terms.specs.Bits.{bytes_of}
 use Rattle.plp_config.specs.Emission.{emission}
 use Rattle.plp_config.specs.Plps.{plp_at}
 use Rattle.plp_config.specs.RunLength.{frame_count}
-use Rattle.plp_config.specs.declared.band.Band.{Band}
-use Rattle.plp_config.specs.declared.band.Band.TheVariants.{Mhz1_7, Mhz5, Mhz6, Mhz7, Mhz8, Mhz10}
+use Rattle.plp_config.specs.Tables.{bw}
 use Rattle.plp_config.specs.declared.config.Config.{Config}
 use Rattle.mode_adapt.specs.Blocks.{blocks_of}
 use Rattle.mode_adapt.specs.Deletion.{packet_at}
@@ -17,18 +16,9 @@ use Rattle.t2mi_packet.specs.declared.packet.Packet.{Packet}
 use Rattle.t2mi_packet.specs.declared.packet.Stamp.{Stamp}
 use Rattle.gateway_core.specs.Signalling.{pre_part, conf_part, dyn_part}
 
--- bw of a timestamp (clause 5.2.7)
-abbrev pub bw_of : Band → ℕ
-bw_of Mhz1_7 = 0
-bw_of Mhz5 = 1
-bw_of Mhz6 = 2
-bw_of Mhz7 = 3
-bw_of Mhz8 = 4
-bw_of Mhz10 = 5
-
 -- the timestamp of the superframe that begins with frame n: its emission
 abbrev pub stamp_of : Config → ℕ → Stamp
-stamp_of c n = record { bw = bw_of c.band; seconds = (emission c n).seconds; subseconds = (emission c n).subseconds; utco = c.utco }
+stamp_of c n = record { bw = bw c.band; seconds = (emission c n).seconds; subseconds = (emission c n).subseconds; utco = c.utco }
 
 -- the L1-current of frame n
 abbrev pub l1_body : Config → ℕ → List Bool → List Bool → List Bool → Body

@@ -6,6 +6,7 @@ ghost use Rattle.t2mi_stream.specs.PiperStandsFor.{waiting_of, is_finished};
 ghost use Rattle.gateway_core.specs.Carried.{Carries, between};
 
 use t2mi_stream::Piper;
+use ts_packet::PAYLOAD;
 
 /// Feeds as many bytes from one up to another as a piper takes.
 pub fn feed_part(piper: &mut Piper, bytes: &[u8], at: usize, len: usize) -> usize
@@ -16,7 +17,7 @@ pub fn feed_part(piper: &mut Piper, bytes: &[u8], at: usize, len: usize) -> usiz
     ensures carries { (number : ℕ) (c : Config) (n : ℕ) (left : List Body) (all : List (ℕ × Body)) (given : ℕ)
         → Carries piper.old (between bytes.now at len) number c n left all given
         → Carries piper.new (between bytes.now (at + result) len) number c n left all given }
-    ensures full { at + result < len → waiting_of piper.new ≡ 184 }
+    ensures full { at + result < len → waiting_of piper.new ≡ PAYLOAD }
     ensures waiting { waiting_of piper.new ≡ waiting_of piper.old + result }
     ensures finished { is_finished piper.new ≡ false }
 {

@@ -1,12 +1,14 @@
 // Units out of the packets of frames.
 ghost use Rattle.std.specs.Prelude.{◌≡◌, true, false};
 ghost use Rattle.t2mi_stream.specs.PiperStandsFor.{waiting_of, is_finished};
+ghost use Rattle.ts_packet.specs.declared.sizes.TheConstants.{PAYLOAD};
 
 use crate::frame::Frame;
 use crate::going_on::go_on;
 use crate::outlet::Outlet;
 use crate::signalling::Signalling;
 use plp_config::Plan;
+use ts_packet::{PAYLOAD, SIZE};
 
 /// An outlet that is fed ahead: 184 bytes wait in it, or nothing is left of the frames begun.
 #[derive(Drop)]
@@ -16,7 +18,7 @@ pub struct Flow {
     pub dry: bool,
     // Whether no more frames come.
     pub finished: bool,
-    ghost full: { dry ≡ false → waiting_of outlet.piper ≡ 184 },
+    ghost full: { dry ≡ false → waiting_of outlet.piper ≡ PAYLOAD },
     ghost open: { finished ≡ false → is_finished outlet.piper ≡ false },
     ghost wet: { dry ≡ false → is_finished outlet.piper ≡ false },
     ghost drained: { finished ≡ true → dry ≡ true → is_finished outlet.piper ≡ true },
@@ -67,7 +69,7 @@ impl Flow {
         plan: &Plan,
         signalling: &Signalling,
         frame: &mut Frame,
-        out: &mut [u8; 188],
+        out: &mut [u8; SIZE],
     ) -> bool
         requires whole { length frame.old.blocks.items ≤ length plan.now.plps }
         ensures is { result ≡ gives_unit self.old }

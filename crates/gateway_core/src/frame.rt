@@ -8,6 +8,7 @@ use crate::step::Step;
 use bit_slice::{BitBuf, FixedBits};
 use mode_adapt::FrameBytes;
 use plp_config::Plan;
+use t2mi_packet::LARGEST;
 
 /// A frame, and which of its packets were given.
 #[derive(Drop)]
@@ -34,7 +35,7 @@ impl Frame {
         plan: &Plan,
         signalling: &Signalling,
         number: u8,
-        out: &mut FixedBits<8202>,
+        out: &mut FixedBits<LARGEST>,
     ) -> bool
         requires whole { length self.old.blocks.items ≤ length plan.now.plps }
         requires step { self.old.step ≡ Step.Blocks }
@@ -62,7 +63,7 @@ impl Frame {
         plan: &Plan,
         signalling: &Signalling,
         number: u8,
-        out: &mut FixedBits<8202>,
+        out: &mut FixedBits<LARGEST>,
     ) -> bool
         requires whole { length self.old.blocks.items ≤ length plan.now.plps }
         ensures some { result ≡ true → Builds plan.now self.old.number number (left plan.now signalling.now self.old) (left plan.now signalling.now self.new) out.new }

@@ -12,7 +12,7 @@ use crate::step::{Step, first_step};
 use bit_slice::{BitBuf, OutOfMemory};
 use plp_config::Plan;
 use std::alloc::Global;
-use ts_packet::TsPacket;
+use ts_packet::{SIZE, TsPacket};
 
 /// Makes the T2-MI stream of a network (TS 102 773) from the packets of its inputs: offer the packets that a frame wants, begin
 /// the frame, take the units; behind the last frame finish, and take the rest. A PLP is named by its place in the configuration,
@@ -154,7 +154,7 @@ impl<'p> Gateway<'p> {
 
     /// Gives the next unit of the frames begun, a transport packet, if it is complete: 184 bytes wait. After [`Gateway::finish`] it
     /// gives also the rest. Else `out` stays.
-    pub fn next_ts(&mut self, out: &mut [u8; 188]) -> bool
+    pub fn next_ts(&mut self, out: &mut [u8; SIZE]) -> bool
         ensures is { result ≡ has_unit self.old }
         // Whatever packets follow, the unit is the next one of all.
         ensures unit { result ≡ true → (c : Config) (events : List Event) → GatewayStandsFor self.old c events → (inputs : ℕ → List (List ℕ)) → AllContinue c events inputs

@@ -9,6 +9,7 @@ use crate::frame::Frame;
 use crate::outlet::Outlet;
 use crate::signalling::Signalling;
 use plp_config::Plan;
+use ts_packet::PAYLOAD;
 
 /// Feeds the packets of a frame until 184 bytes wait or none is left, and answers whether none is. Behind the last frame that is
 /// the end.
@@ -25,7 +26,7 @@ pub fn go_on(
         → Carries outlet.old.piper (between outlet.old.bytes outlet.old.at outlet.old.len) outlet.old.number plan.now frame.old.number (left plan.now signalling.now frame.old) all given
         → Carries outlet.new.piper (between outlet.new.bytes outlet.new.at outlet.new.len) outlet.new.number plan.now frame.new.number (left plan.now signalling.now frame.new) all given }
     ensures dry { result ≡ true → (between outlet.new.bytes outlet.new.at outlet.new.len ≡ []) × (left plan.now signalling.now frame.new ≡ []) }
-    ensures full { result ≡ false → waiting_of outlet.new.piper ≡ 184 }
+    ensures full { result ≡ false → waiting_of outlet.new.piper ≡ PAYLOAD }
     ensures bound { bytes_bound (waiting_of outlet.new.piper) outlet.new.at outlet.new.len (left plan.now signalling.now frame.new) ≤ bytes_bound (waiting_of outlet.old.piper) outlet.old.at outlet.old.len (left plan.now signalling.now frame.old) }
     ensures finished { is_finished outlet.new.piper ≡ (result && is_last) }
     ensures blocks { frame.new.blocks.items ≡ frame.old.blocks.items }

@@ -1,5 +1,6 @@
 // Packets on their way into units.
 ghost use Rattle.std.specs.Prelude.{◌≤◌};
+ghost use Rattle.t2mi_packet.specs.declared.reading.TheConstants.{LARGEST};
 
 use crate::copy::copy_packet;
 use crate::feeding::feed_part;
@@ -7,21 +8,23 @@ use crate::frame::Frame;
 use crate::signalling::Signalling;
 use bit_slice::FixedBits;
 use plp_config::Plan;
+use t2mi_packet::LARGEST;
 use t2mi_stream::Piper;
+use ts_packet::{PAYLOAD, SIZE};
 
 /// A piper, and the packet that it has not yet taken whole.
 #[derive(Drop)]
 pub struct Outlet {
     pub piper: Piper,
     // A packet as it is built, its bytes, how many they are, and how many of them the piper took.
-    bits: FixedBits<8202>,
-    bytes: [u8; 8202],
+    bits: FixedBits<LARGEST>,
+    bytes: [u8; LARGEST],
     len: usize,
     at: usize,
     // How many packets were built, modulo 256.
     number: u8,
     ghost within: { at ≤ len },
-    ghost room: { len ≤ 8202 },
+    ghost room: { len ≤ LARGEST },
 }
 
 impl Outlet {
@@ -47,7 +50,7 @@ impl Outlet {
         Outlet {
             piper: Piper::new(pid),
             bits: FixedBits::new(),
-            bytes: [0; 8202],
+            bytes: [0; LARGEST],
             len: 0,
             at: 0,
             number: 0,
@@ -55,8 +58,8 @@ impl Outlet {
     }
 
     /// Gives the next unit, if it is complete, and after [`Outlet::finish`] also the rest. Else nothing changes.
-    pub fn next(&mut self, out: &mut [u8; 188]) -> bool
-        ensures is { result ≡ (waiting_of self.old.piper == 184) || (is_finished self.old.piper && nat_lt 0 (waiting_of self.old.piper)) }
+    pub fn next(&mut self, out: &mut [u8; SIZE]) -> bool
+        ensures is { result ≡ (waiting_of self.old.piper == PAYLOAD) || (is_finished self.old.piper && nat_lt 0 (waiting_of self.old.piper)) }
         ensures unit { result ≡ true → (c : Config) (n : ℕ) (left : List Body) (all : List (ℕ × Body)) (given : ℕ)
             → Carries self.old.piper (between self.old.bytes self.old.at self.old.len) self.old.number c n left all given
             → (more : List (List ℕ)) → (is_finished self.old.piper ≡ true → AllGone (between self.old.bytes self.old.at self.old.len) left more)
@@ -100,7 +103,7 @@ impl Outlet {
         ensures carries { (c : Config) (n : ℕ) (left : List Body) (all : List (ℕ × Body)) (given : ℕ)
             → Carries self.old.piper (between self.old.bytes self.old.at self.old.len) self.old.number c n left all given
             → Carries self.new.piper (between self.new.bytes self.new.at self.new.len) self.new.number c n left all given }
-        ensures full { self.new.at < self.new.len → waiting_of self.new.piper ≡ 184 }
+        ensures full { self.new.at < self.new.len → waiting_of self.new.piper ≡ PAYLOAD }
         ensures bound { (left : List Body) → bytes_bound (waiting_of self.new.piper) self.new.at self.new.len left ≡ bytes_bound (waiting_of self.old.piper) self.old.at self.old.len left }
         ensures finished { is_finished self.new.piper ≡ false }
     {
@@ -140,7 +143,7 @@ impl Outlet {
             → Carries self.old.piper (between self.old.bytes self.old.at self.old.len) self.old.number plan.now frame.old.number (left plan.now signalling.now frame.old) all given
             → Carries self.new.piper (between self.new.bytes self.new.at self.new.len) self.new.number plan.now frame.new.number (left plan.now signalling.now frame.new) all given }
         ensures dry { result ≡ true → (self.new.at ≡ self.new.len) × (left plan.now signalling.now frame.new ≡ []) }
-        ensures full { result ≡ false → waiting_of self.new.piper ≡ 184 }
+        ensures full { result ≡ false → waiting_of self.new.piper ≡ PAYLOAD }
         ensures bound { bytes_bound (waiting_of self.new.piper) self.new.at self.new.len (left plan.now signalling.now frame.new) ≤ bytes_bound (waiting_of self.old.piper) self.old.at self.old.len (left plan.now signalling.now frame.old) }
         ensures finished { is_finished self.new.piper ≡ false }
         ensures blocks { frame.new.blocks.items ≡ frame.old.blocks.items }

@@ -4,14 +4,15 @@ ghost use Rattle.plp_config.specs.Plps.{plp_at};
 ghost use Rattle.terms.specs.Bits.{bits_of};
 ghost use Rattle.t2mi_packet.specs.T2miPacket.{Fits, written_bits};
 ghost use Rattle.gateway_core.specs.Whole.{IsWhole};
-ghost use Rattle.gateway_core.specs.Packets.{bw_of, stamp_of, l1_body, packet_with};
+ghost use Rattle.gateway_core.specs.Packets.{stamp_of, l1_body, packet_with};
 
 use bit_slice::{BitSlice, FixedBits};
-use plp_config::{Band, Plan};
-use t2mi_packet::{Body, Packet, Stamp, write, written_law};
+use l1_signal::MOST_CONF_BITS;
+use plp_config::{Band, MOST_BLOCK_BYTES, Plan};
+use t2mi_packet::{Body, LARGEST, Packet, Stamp, write, written_law};
 
 // Builds a packet in place of the one before.
-fn put_packet(out: &mut FixedBits<8202>, packet: &Packet<'_>)
+fn put_packet(out: &mut FixedBits<LARGEST>, packet: &Packet<'_>)
     requires { Fits packet.now }
     ensures { out.new ≡ written_bits packet.now }
 {
@@ -22,7 +23,7 @@ fn put_packet(out: &mut FixedBits<8202>, packet: &Packet<'_>)
 }
 
 // The same, and it is whole bytes.
-fn write_packet(out: &mut FixedBits<8202>, packet: &Packet<'_>)
+fn write_packet(out: &mut FixedBits<LARGEST>, packet: &Packet<'_>)
     requires { Fits packet.now }
     ensures bits { out.new ≡ written_bits packet.now }
     ensures whole { IsWhole out.new }
@@ -46,14 +47,6 @@ fn superframe_idx(plan: &Plan, frame: u64) -> u8
     (frame / u64::from(plan.config().frames) % 16) as u8
 }
 
-// bw of a timestamp.
-fn bw_of(band: Band) -> u8
-    ensures value { result ≡ bw_of band }
-    ensures small { result < 2 ^ 4 }
-{
-    band as u8
-}
-
 fn stamp_of(plan: &Plan, frame: u64) -> Stamp
     requires { frame < 2 ^ 32 }
     ensures value { result ≡ stamp_of plan.now frame }
@@ -65,7 +58,7 @@ fn stamp_of(plan: &Plan, frame: u64) -> Stamp
     let emission = plan.emission(frame);
     let config = plan.config();
     Stamp {
-        bw: bw_of(config.band),
+        bw: config.band.bw(),
         seconds: emission.seconds,
         subseconds: emission.subseconds,
         utco: config.utco,
@@ -73,7 +66,7 @@ fn stamp_of(plan: &Plan, frame: u64) -> Stamp
 }
 
 /// The timestamp of the superframe that begins with a frame.
-pub fn write_stamp(out: &mut FixedBits<8202>, plan: &Plan, number: u8, frame: u64)
+pub fn write_stamp(out: &mut FixedBits<LARGEST>, plan: &Plan, number: u8, frame: u64)
     requires { frame < 2 ^ 32 }
     ensures bits { out.new ≡ written_bits (packet_with plan.now number frame (Body.Timestamp (stamp_of plan.now frame))) }
     ensures whole { IsWhole out.new }
@@ -89,7 +82,7 @@ pub fn write_stamp(out: &mut FixedBits<8202>, plan: &Plan, number: u8, frame: u6
 
 /// The L1-current of a frame.
 pub fn write_signal(
-    out: &mut FixedBits<8202>,
+    out: &mut FixedBits<LARGEST>,
     plan: &Plan,
     number: u8,
     frame: u64,
@@ -98,7 +91,7 @@ pub fn write_signal(
     dynamic: BitSlice<'_>,
 )
     requires pre { length pre ≡ 168 }
-    requires conf { length conf ≤ 22797 }
+    requires conf { length conf ≤ MOST_CONF_BITS }
     requires dynamic { length dynamic ≤ 12319 }
     ensures bits { out.new ≡ written_bits (packet_with plan.now number frame (l1_body plan.now frame pre.entry conf.entry dynamic.entry)) }
     ensures whole { IsWhole out.new }
@@ -131,7 +124,7 @@ fn plp_id(plan: &Plan, plp: usize) -> u8
 
 /// A block of a PLP in a frame.
 pub fn write_block(
-    out: &mut FixedBits<8202>,
+    out: &mut FixedBits<LARGEST>,
     plan: &Plan,
     number: u8,
     frame: u64,
@@ -140,7 +133,7 @@ pub fn write_block(
     block: &[u8],
 )
     requires configured { plp < length plan.now.plps }
-    requires short { length block.now ≤ 6730 }
+    requires short { length block.now ≤ MOST_BLOCK_BYTES }
     ensures bits { out.new ≡ written_bits (packet_with plan.now number frame (Body.Block (frame % plan.now.frames) (plp_at plan.now.plps plp).id first (bits_of block.now))) }
     ensures whole { IsWhole out.new }
 {

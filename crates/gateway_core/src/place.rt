@@ -5,6 +5,7 @@ ghost use Rattle.plp_config.specs.declared.config.Config.{Config};
 ghost use Rattle.gateway_core.specs.BlocksLeft.{blocks_left};
 
 use mode_adapt::FrameBytes;
+use plp_config::MOST_BLOCK_BYTES;
 
 /// The place of the block at a place, or of the next one: a PLP and the block's place in it. Past the end there is none.
 pub fn next_place(blocks: &[FrameBytes], mut plp: usize, mut block: usize) -> (usize, usize)
@@ -25,7 +26,7 @@ pub fn next_place(blocks: &[FrameBytes], mut plp: usize, mut block: usize) -> (u
 /// The bytes of the block at such a place.
 pub fn block_at(blocks: &[FrameBytes], plp: usize, block: usize) -> Option<&[u8]>
     ensures block { option_copied result ≡ slice_get (slice_index_or blocks.now plp []) block }
-    ensures short { IfSome result (λ block. length block.now ≤ 6730) }
+    ensures short { IfSome result (λ block. length block.now ≤ MOST_BLOCK_BYTES) }
     ensures inside { IfSome result (λ _. plp < length blocks.now) }
 {
     match blocks.get(plp) {

@@ -6,10 +6,12 @@ ghost use Rattle.scheduler.specs.Shape.{shape_of};
 ghost use Rattle.l1_signal.specs.L1Dynamic.{dyn_bits};
 ghost use Rattle.l1_signal.specs.L1Of.{dyn_of};
 ghost use Rattle.gateway_core.specs.Signalling.{pre_part, conf_part, dyn_part};
+ghost use Rattle.l1_signal.specs.declared.conf.TheConstants.{MOST_CONF_BITS};
 
 use bit_slice::{BitBuf, FixedBits, OutOfMemory};
 use l1_signal::{
-    L1Dyn, conf_law, conf_of, dyn_law, dyn_of, pre_law, pre_of, write_conf, write_dyn, write_pre,
+    L1Dyn, MOST_CONF_BITS, conf_law, conf_of, dyn_law, dyn_of, pre_law, pre_of, write_conf,
+    write_dyn, write_pre,
 };
 use mode_adapt::FrameBytes;
 use plp_config::Plan;
@@ -22,7 +24,7 @@ pub struct Signalling {
     pub pre: FixedBits<21>,
     pub conf: BitBuf,
     ghost whole: { length pre ≡ 168 },
-    ghost short: { length conf ≤ 22797 },
+    ghost short: { length conf ≤ MOST_CONF_BITS },
 }
 
 // L1-pre.
@@ -42,7 +44,7 @@ fn pre_bits(plan: &Plan) -> FixedBits<21>
 #[tactic(auto, unfolding(crate::specs::Signalling::conf_part, l1_signal::specs::L1Of::conf_of))]
 fn conf_bits(alloc: Global, plan: &Plan) -> Result<BitBuf, OutOfMemory>
     ensures value { IfOk result (λ bits. bits ≡ conf_part plan.now) }
-    ensures short { IfOk result (λ bits. length bits ≤ 22797) }
+    ensures short { IfOk result (λ bits. length bits ≤ MOST_CONF_BITS) }
 {
     conf_law();
     // A call that tells that the rules hold.

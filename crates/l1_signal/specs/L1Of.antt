@@ -4,14 +4,9 @@ use Rattle.std.specs.List.{range_with_len}
 use Rattle.terms.specs.Bits.{field}
 use Rattle.bit_slice.specs.Crc.{crc32_of}
 use Rattle.plp_config.specs.Plps.{plp_at, plp_type}
+use Rattle.plp_config.specs.Tables.{plp_cod, plp_mod, plp_fec_type}
 use Rattle.plp_config.specs.declared.config.Config.{Config}
-use Rattle.plp_config.specs.declared.plp.FecSize.{FecSize}
-use Rattle.plp_config.specs.declared.plp.FecSize.TheVariants.{Short, Normal}
-use Rattle.plp_config.specs.declared.plp.Modulation.{Modulation}
-use Rattle.plp_config.specs.declared.plp.Modulation.TheVariants.{Qpsk, Qam16, Qam64, Qam256}
 use Rattle.plp_config.specs.declared.plp.Plp.{Plp}
-use Rattle.plp_config.specs.declared.plp.Rate.{Rate}
-use Rattle.plp_config.specs.declared.plp.Rate.TheVariants.{R1_2, R3_5, R2_3, R3_4, R4_5, R5_6}
 use Rattle.scheduler.specs.Shape.{FrameShape}
 use Rattle.l1_signal.specs.declared.pre.L1Pre.{L1Pre}
 use Rattle.l1_signal.specs.declared.conf.L1Conf.{L1Conf}
@@ -21,25 +16,7 @@ use Rattle.l1_signal.specs.declared.dyn_plp.DynPlp.{DynPlp}
 use Rattle.l1_signal.specs.L1Configurable.{info_size, conf_bits}
 use Rattle.l1_signal.specs.L1Dynamic.{dyn_bits}
 
--- PLP_COD, PLP_MOD, PLP_FEC_TYPE and flags (EN 302 755, clause 7.2.3.1)
-abbrev pub cod_of : Rate → ℕ
-cod_of R1_2 = 0
-cod_of R3_5 = 1
-cod_of R2_3 = 2
-cod_of R3_4 = 3
-cod_of R4_5 = 4
-cod_of R5_6 = 5
-
-abbrev pub mod_of : Modulation → ℕ
-mod_of Qpsk = 0
-mod_of Qam16 = 1
-mod_of Qam64 = 2
-mod_of Qam256 = 3
-
-abbrev pub fec_type_of : FecSize → ℕ
-fec_type_of Short = 0
-fec_type_of Normal = 1
-
+-- a flag
 abbrev pub flag_of : Bool → ℕ
 flag_of flag = if flag then 1 else 0
 
@@ -84,10 +61,10 @@ conf_plp_of plp = record {
   first_rf_idx = 0;
   first_frame_idx = 0;
   plp_group_id = plp.group;
-  plp_cod = cod_of plp.rate;
-  plp_mod = mod_of plp.modulation;
+  plp_cod = plp_cod plp.rate;
+  plp_mod = plp_mod plp.modulation;
   plp_rotation = flag_of plp.rotation;
-  plp_fec_type = fec_type_of plp.fec;
+  plp_fec_type = plp_fec_type plp.fec;
   plp_num_blocks_max = plp.blocks;
   frame_interval = 1;
   time_il_length = plp.interleave;

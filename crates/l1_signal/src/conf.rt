@@ -131,6 +131,9 @@ pub fn read_conf<'a, R: BitSource<'a>>(
     Ok(conf_at(&first, &more, plps, &back))
 }
 
+/// Bits of a configurable part at most: `102 + 89 * 255`, with as many PLPs as there can be.
+pub const MOST_CONF_BITS: usize = 22_797;
+
 /// Appends the configurable part, 102 + 89 NUM_PLP bits. After a fault a part of it, from its start, stands in the sink.
 pub fn write_conf<S: BitSink>(sink: &mut S, conf: &L1Conf) -> Result<(), SinkFault>
     requires { ConfFits conf.now }

@@ -16,7 +16,7 @@ mod pre;
 mod values;
 
 pub use comparing::is_conf;
-pub use conf::{L1Conf, read_conf, write_conf};
+pub use conf::{L1Conf, MOST_CONF_BITS, read_conf, write_conf};
 pub use conf_plp::ConfPlp;
 pub use conf_rows::ConfRows;
 pub use crc::check_post;

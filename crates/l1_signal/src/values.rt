@@ -5,7 +5,7 @@ ghost use Rattle.plp_config.specs.Capacity.{IsPlan};
 ghost use Rattle.plp_config.specs.Plps.{plp_at};
 ghost use Rattle.scheduler.specs.Laws.{FitsL1};
 ghost use Rattle.l1_signal.specs.Fields.{RowsFit};
-ghost use Rattle.l1_signal.specs.L1Of.{cod_of, mod_of, fec_type_of, pre_of, conf_plp_of, conf_with, conf_of, dyn_plp_of, dyn_of, told_shape};
+ghost use Rattle.l1_signal.specs.L1Of.{pre_of, conf_plp_of, conf_with, conf_of, dyn_plp_of, dyn_of, told_shape};
 ghost use Rattle.l1_signal.specs.L1Pre.{PreFits};
 ghost use Rattle.l1_signal.specs.Numbers.{HasPreNumbers, HasPlpNumbers};
 ghost use Rattle.l1_signal.specs.L1Configurable.{conf_plp_rows, ConfFits};
@@ -73,42 +73,6 @@ pub fn pre_of(plan: &Plan) -> L1Pre
     })
 }
 
-fn cod_of(rate: Rate) -> u8
-    ensures value { result ≡ cod_of rate }
-    ensures small { result ≤ 5 }
-{
-    match rate {
-        Rate::R1_2 => 0,
-        Rate::R3_5 => 1,
-        Rate::R2_3 => 2,
-        Rate::R3_4 => 3,
-        Rate::R4_5 => 4,
-        Rate::R5_6 => 5,
-    }
-}
-
-fn mod_of(modulation: Modulation) -> u8
-    ensures value { result ≡ mod_of modulation }
-    ensures small { result ≤ 3 }
-{
-    match modulation {
-        Modulation::Qpsk => 0,
-        Modulation::Qam16 => 1,
-        Modulation::Qam64 => 2,
-        Modulation::Qam256 => 3,
-    }
-}
-
-fn fec_type_of(fec: FecSize) -> u8
-    ensures value { result ≡ fec_type_of fec }
-    ensures small { result ≤ 1 }
-{
-    match fec {
-        FecSize::Short => 0,
-        FecSize::Normal => 1,
-    }
-}
-
 #[tactic(auto, unfolding(crate::specs::L1Of::conf_plp_of))]
 fn conf_plp_of(plp: Plp) -> ConfPlp
     requires blocks { plp.blocks ≤ 1023 }
@@ -118,16 +82,16 @@ fn conf_plp_of(plp: Plp) -> ConfPlp
 {
     fitting_plp(ConfPlp {
         plp_id: plp.id,
-        plp_type: plp.kind as u8,
+        plp_type: plp.kind.plp_type(),
         plp_payload_type: 3,
         ff_flag: 0,
         first_rf_idx: 0,
         first_frame_idx: 0,
         plp_group_id: plp.group,
-        plp_cod: cod_of(plp.rate),
-        plp_mod: mod_of(plp.modulation),
+        plp_cod: plp.rate.plp_cod(),
+        plp_mod: plp.modulation.plp_mod(),
         plp_rotation: u8::from(plp.rotation),
-        plp_fec_type: fec_type_of(plp.fec),
+        plp_fec_type: plp.fec.plp_fec_type(),
         plp_num_blocks_max: plp.blocks,
         frame_interval: 1,
         time_il_length: plp.interleave as u8,

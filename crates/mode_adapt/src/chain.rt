@@ -4,6 +4,7 @@ ghost use Rattle.terms.specs.Bits.{bits_of};
 ghost use Rattle.std.specs.Int.{div_ceil};
 ghost use Rattle.plp_config.specs.Capacity.{up_bytes};
 ghost use Rattle.plp_config.specs.Plps.{plp_at};
+ghost use Rattle.ts_packet.specs.declared.sizes.TheConstants.{SIZE};
 
 use crate::block::write_block;
 use crate::frame::FrameBytes;
@@ -13,9 +14,9 @@ use crate::matype::deletes;
 use crate::settings::Settings;
 use bit_slice::OutOfMemory;
 use null_delete::{Deleter, decided_by_the_past};
-use plp_config::{Plan, block_law, length_law};
+use plp_config::{MOST_BLOCK_BYTES, Plan, block_law, length_law};
 use std::alloc::Global;
-use ts_packet::TsPacket;
+use ts_packet::{SIZE, TsPacket};
 
 /// Makes the blocks of one PLP from its packets, frame by frame (EN 302 755, clause 5.1): offer the packet of each slot, in
 /// order, and cut where a frame begins.
@@ -32,7 +33,7 @@ pub struct Chain {
     pending: Vec<u8>,
     // The slots of the user packets that begin in them.
     slots: Vec<u64>,
-    ghost bound: { sent + vec_len pending ≤ 188 * slot },
+    ghost bound: { sent + vec_len pending ≤ SIZE * slot },
     ghost small: { slot ≤ 2 ^ 54 },
 }
 
@@ -62,7 +63,7 @@ impl Chain {
             slot: 0,
             sent: 0,
             // What a frame carries, and what may be left over.
-            pending: Vec::with_capacity(alloc, settings.capacity() as usize + 188)?,
+            pending: Vec::with_capacity(alloc, settings.capacity() as usize + SIZE)?,
             slots: Vec::new(alloc),
         })
     }
@@ -83,7 +84,7 @@ impl Chain {
         block_law();
         length_law();
         let bytes = packet.as_array();
-        self.pending.reserve(188)?;
+        self.pending.reserve(SIZE)?;
         self.slots.reserve(1)?;
         match self.deleter.push(packet) {
             None => self.slot += 1,
@@ -94,14 +95,14 @@ impl Chain {
 
     // Takes a packet that is kept. There is room for it.
     fn keep(&mut self, packet: &[u8], dnp: u8)
-        requires whole { length packet.now ≡ 188 }
+        requires whole { length packet.now ≡ SIZE }
         requires small { self.old.slot < 2 ^ 54 }
-        requires room { vec_len self.old.pending + 188 ≤ vec_capacity self.old.pending }
+        requires room { vec_len self.old.pending + SIZE ≤ vec_capacity self.old.pending }
         requires place { vec_len self.old.slots + 1 ≤ vec_capacity self.old.slots }
         ensures { Keeps self.old self.new packet.now dnp }
     {
         self.pending.extend_from_slice(&packet[1..]).unwrap();
-        if self.settings.up_bytes == 188 {
+        if self.settings.up_bytes == SIZE as u32 {
             self.pending.push(dnp).unwrap();
         }
         self.slots.push(self.slot).unwrap();
@@ -133,7 +134,7 @@ impl Chain {
         requires inside { y ≤ vec_len self.now.pending }
         requires short { y ≤ x + self.now.settings.field_bytes }
         ensures bits { IfOk result (λ block. bits_of block.items ≡ piece_of self.now x y) }
-        ensures short { IfOk result (λ block. length block.items ≤ 6730) }
+        ensures short { IfOk result (λ block. length block.items ≤ MOST_BLOCK_BYTES) }
     {
         let up = self.first_up(x, y);
         let header = self.settings.header(self.sent + x as u64, y - x, up);

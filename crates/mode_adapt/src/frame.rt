@@ -3,6 +3,7 @@ ghost use Rattle.std.specs.Prelude.{◌≡◌, ◌≤◌, ◌↔◌, ◌==◌, �
 ghost use Rattle.std.specs.Option.{option_copied};
 
 use bit_slice::OutOfMemory;
+use plp_config::MOST_BLOCK_BYTES;
 use std::alloc::Global;
 use std::marker::Model;
 
@@ -13,6 +14,7 @@ pub struct FrameBytes {
 }
 
 impl Model for FrameBytes {
+    ghost use Rattle.plp_config.specs.declared.plp.TheConstants.{MOST_BLOCK_BYTES};
     ghost use Rattle.std.specs.Prelude.{ℕ, ◌≤◌, List, map, length, All};
     ghost use Rattle.std.specs.Global.{Vec};
 
@@ -21,7 +23,7 @@ impl Model for FrameBytes {
     ghost view = { λ f. map (λ (b : Vec ℕ). b.items) f.blocks.items };
 
     // as many bytes as the longest block has
-    ghost invariant = { λ f. All (λ (b : Vec ℕ). length b.items ≤ 6730) f.blocks.items };
+    ghost invariant = { λ f. All (λ (b : Vec ℕ). length b.items ≤ MOST_BLOCK_BYTES) f.blocks.items };
 }
 
 impl FrameBytes {
@@ -34,7 +36,7 @@ impl FrameBytes {
     }
 
     pub(crate) fn push(&mut self, block: Vec<u8>) -> Result<(), OutOfMemory>
-        requires { length block.items ≤ 6730 }
+        requires { length block.items ≤ MOST_BLOCK_BYTES }
         ensures ok { OnOk result (self.new ≡ self.old ++ block.items ∷ []) }
     {
         self.blocks.push(block)?;
@@ -59,7 +61,7 @@ impl FrameBytes {
     pub fn get(&self, place: usize) -> Option<&[u8]>
         ensures block { option_copied result ≡ slice_get self.now place }
         ensures none { IsNone result ↔ (length self.now ≤ place) }
-        ensures short { IfSome result (λ block. length block.now ≤ 6730) }
+        ensures short { IfSome result (λ block. length block.now ≤ MOST_BLOCK_BYTES) }
     {
         match self.blocks.get(place) {
             Some(block) => Some(block),

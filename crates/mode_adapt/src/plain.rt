@@ -16,9 +16,9 @@ use crate::matype::{deletes, matype1, matype2};
 use bb_frame::Header;
 use bit_slice::OutOfMemory;
 use null_delete::{dnp_fits, run_law};
-use plp_config::{Plan, block_law};
+use plp_config::{MOST_BLOCK_BYTES, Plan, block_law};
 use std::alloc::Global;
-use ts_packet::{TsPacket, canonical_null};
+use ts_packet::{SIZE, TsPacket, canonical_null};
 
 // The run of slots that pass, one slot on.
 fn run_on(passes: bool, run: u64) -> u64
@@ -262,7 +262,7 @@ fn first_up(
     y: u64,
 ) -> Option<(u64, u64)>
     requires few { n < 2 ^ 32 }
-    requires short { len ≤ 188 }
+    requires short { len ≤ SIZE }
     ensures up { result ≡ with_place len (keeps_of deletes (packet_at packets.now)) (first_up len (keeps_of deletes (packet_at packets.now)) n x y) }
     ensures inside { IfSome result (λ up. (x ≤ up.0) × (up.0 < y) × (up.1 < n)) }
 {
@@ -335,7 +335,7 @@ fn block(
     requires string { string.now ≡ plp_string plan.now plp (packet_at packets.now) n }
     requires short { y ≤ x + field_bytes plan.now plp }
     ensures bits { IfOk result (λ block. bits_of block.items ≡ block_bits plan.now plp (packet_at packets.now) n x y) }
-    ensures short { IfOk result (λ block. length block.items ≤ 6730) }
+    ensures short { IfOk result (λ block. length block.items ≤ MOST_BLOCK_BYTES) }
 {
     block_law();
     let field = cut(string, x, y)?;

@@ -36,6 +36,36 @@ greatest_ticks Mhz7 = 2_000_000
 greatest_ticks Mhz8 = 2_285_714
 greatest_ticks Mhz10 = 2_857_142
 
+-- bw, the bandwidth in a timestamp (TS 102 773, clause 5.2.7)
+abbrev pub bw : Band → ℕ
+bw Mhz1_7 = 0
+bw Mhz5 = 1
+bw Mhz6 = 2
+bw Mhz7 = 3
+bw Mhz8 = 4
+bw Mhz10 = 5
+
+-- PLP_COD (EN 302 755, clause 7.2.3.1)
+abbrev pub plp_cod : Rate → ℕ
+plp_cod R1_2 = 0
+plp_cod R3_5 = 1
+plp_cod R2_3 = 2
+plp_cod R3_4 = 3
+plp_cod R4_5 = 4
+plp_cod R5_6 = 5
+
+-- PLP_MOD (EN 302 755, clause 7.2.3.1)
+abbrev pub plp_mod : Modulation → ℕ
+plp_mod Qpsk = 0
+plp_mod Qam16 = 1
+plp_mod Qam64 = 2
+plp_mod Qam256 = 3
+
+-- PLP_FEC_TYPE (EN 302 755, clause 7.2.3.1)
+abbrev pub plp_fec_type : FecSize → ℕ
+plp_fec_type Short = 0
+plp_fec_type Normal = 1
+
 -- bits of a baseband frame, Kbch (EN 302 755, clause 6.1)
 abbrev pub info_bits : FecSize → Rate → ℕ
 info_bits Normal R1_2 = 32208

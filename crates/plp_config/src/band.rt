@@ -1,8 +1,8 @@
 // Bandwidths, and the units of time that belong to each.
 ghost use Rattle.std.specs.Prelude.{◌≡◌, ◌<◌, ◌≤◌};
-ghost use Rattle.plp_config.specs.Tables.{subseconds_per_second, subseconds_per_tick, greatest_ticks};
+ghost use Rattle.plp_config.specs.Tables.{bw, subseconds_per_second, subseconds_per_tick, greatest_ticks};
 
-/// The bandwidth of the channel (EN 302 755, clause 9.5).
+/// The bandwidth of the channel (EN 302 755, clause 9.5), in the order of bw.
 #[derive(Clone, Copy, Debug, PartialEq, Eq)]
 pub enum Band {
     /// 1.7 MHz.
@@ -20,8 +20,16 @@ pub enum Band {
 }
 
 impl Band {
-    // Subseconds in a second.
-    pub(crate) fn subseconds_per_second(self) -> u32
+    /// bw of a timestamp (TS 102 773, clause 5.2.7).
+    pub fn bw(self) -> u8
+        ensures value { result ≡ bw self }
+        ensures small { result ≤ 5 }
+    {
+        self as u8
+    }
+
+    /// Subseconds in a second (TS 102 773, clause 5.2.7).
+    pub fn subseconds_per_second(self) -> u32
         ensures value { result ≡ subseconds_per_second self }
         ensures least { 40000000 ≤ result }
         ensures greatest { result ≤ 131000000 }
@@ -36,8 +44,8 @@ impl Band {
         }
     }
 
-    // Subseconds in an elementary period.
-    pub(crate) fn subseconds_per_tick(self) -> u32
+    /// Subseconds in an elementary period T (EN 302 755, clause 9.5).
+    pub fn subseconds_per_tick(self) -> u32
         ensures value { result ≡ subseconds_per_tick self }
         ensures least { 7 ≤ result }
         ensures greatest { result ≤ 71 }

@@ -23,10 +23,12 @@ pub use laws::{
     block_law, delay_law, emission_law, iscr_law, length_law, range_law, refusal_law, release_law,
     run_length_law, slot_time_law,
 };
-pub use list::PlpList;
+pub use list::{MOST_PLPS, PlpList};
 pub use moment::Moment;
 pub use plan::Plan;
-pub use plp::{FecSize, Modulation, Plp, PlpKind, Rate};
+pub use plp::{
+    FecSize, MOST_BLOCK_BYTES, MOST_BLOCKS, MOST_INFO_BITS, Modulation, Plp, PlpKind, Rate,
+};
 pub use rules::{ConfigFault, Valid, validate};
 
 #[cfg(test)]

@@ -9,6 +9,9 @@ use bit_slice::OutOfMemory;
 use std::alloc::Global;
 use std::marker::Model;
 
+/// PLPs of a network at most: NUM_PLP has eight bits (EN 302 755, clause 7.2.3.1).
+pub const MOST_PLPS: usize = 255;
+
 /// The PLPs of a network, in configuration order.
 #[derive(Debug, Drop)]
 pub struct PlpList {

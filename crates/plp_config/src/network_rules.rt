@@ -6,6 +6,7 @@ ghost use Rattle.plp_config.specs.Rules.{RuleHolds, FrameDuration, SuperframeLen
 ghost use Rattle.plp_config.specs.RuleTests.{TellsRules};
 
 use crate::config::Config;
+use crate::list::MOST_PLPS;
 use crate::plp::{Plp, PlpKind};
 
 // Whether each of the rules 1 to 9 holds.
@@ -108,5 +109,5 @@ fn has_type2(plps: &[Plp]) -> bool
 fn has_plp_count(config: &Config) -> bool
     ensures { IsTrue result ↔ RuleHolds PlpCount config.now }
 {
-    (1..=255).contains(&config.plps.len())
+    (1..=MOST_PLPS).contains(&config.plps.len())
 }

@@ -11,6 +11,7 @@ use crate::capacity::throughput_need;
 use crate::config::Config;
 use crate::gcd::gcd;
 use crate::moment::Moment;
+use crate::plp::MOST_BLOCK_BYTES;
 use crate::values;
 use std::marker::Model;
 
@@ -125,7 +126,7 @@ impl Plan {
         requires { plp < length self.now.plps }
         ensures value { result ≡ block_bytes self.now plp }
         ensures least { 879 ≤ result }
-        ensures greatest { result ≤ 6730 }
+        ensures greatest { result ≤ MOST_BLOCK_BYTES }
     {
         values::block_bytes(&self.config, plp)
     }

@@ -1,7 +1,16 @@
 // One physical layer pipe, and the tables of its blocks.
 ghost use Rattle.std.specs.Prelude.{◌≡◌, ◌<◌, ◌≤◌};
 ghost use Rattle.plp_config.specs.Plps.{plp_type};
-ghost use Rattle.plp_config.specs.Tables.{info_bits, cells_per_block};
+ghost use Rattle.plp_config.specs.Tables.{plp_cod, plp_mod, plp_fec_type, info_bits, cells_per_block};
+
+/// Bits of a baseband frame at most, those of a normal block at rate 5/6.
+pub const MOST_INFO_BITS: u32 = 53_840;
+
+/// Bytes of a baseband frame at most, `MOST_INFO_BITS / 8`.
+pub const MOST_BLOCK_BYTES: u32 = 6_730;
+
+/// Blocks of a PLP in a frame at most: PLP_NUM_BLOCKS_MAX has ten bits (EN 302 755, clause 7.2.3.1).
+pub const MOST_BLOCKS: u16 = 1_023;
 
 /// How a PLP lies in a frame. Its number is PLP_TYPE (EN 302 755, clause 7.2.3.1).
 #[derive(Clone, Copy, Debug, PartialEq, Eq)]
@@ -13,15 +22,15 @@ pub enum PlpKind {
 }
 
 impl PlpKind {
-    // PLP_TYPE.
-    pub(crate) fn plp_type(self) -> u8
+    /// PLP_TYPE.
+    pub fn plp_type(self) -> u8
         ensures { result ≡ plp_type self }
     {
         self as u8
     }
 }
 
-/// The code rate of the LDPC code (EN 302 755, clause 6.1).
+/// The code rate of the LDPC code (EN 302 755, clause 6.1), in the order of PLP_COD.
 #[derive(Clone, Copy, Debug, PartialEq, Eq)]
 pub enum Rate {
     /// 1/2.
@@ -38,7 +47,17 @@ pub enum Rate {
     R5_6,
 }
 
-/// The constellation of the cells (EN 302 755, clause 6.2).
+impl Rate {
+    /// PLP_COD (EN 302 755, clause 7.2.3.1).
+    pub fn plp_cod(self) -> u8
+        ensures value { result ≡ plp_cod self }
+        ensures small { result ≤ 5 }
+    {
+        self as u8
+    }
+}
+
+/// The constellation of the cells (EN 302 755, clause 6.2), in the order of PLP_MOD.
 #[derive(Clone, Copy, Debug, PartialEq, Eq)]
 pub enum Modulation {
     /// QPSK, 2 bits a cell.
@@ -51,13 +70,33 @@ pub enum Modulation {
     Qam256,
 }
 
-/// The size of a coded block (EN 302 755, clause 6.1).
+impl Modulation {
+    /// PLP_MOD (EN 302 755, clause 7.2.3.1).
+    pub fn plp_mod(self) -> u8
+        ensures value { result ≡ plp_mod self }
+        ensures small { result ≤ 3 }
+    {
+        self as u8
+    }
+}
+
+/// The size of a coded block (EN 302 755, clause 6.1), in the order of PLP_FEC_TYPE.
 #[derive(Clone, Copy, Debug, PartialEq, Eq)]
 pub enum FecSize {
     /// 16,200 bits.
     Short,
     /// 64,800 bits.
     Normal,
+}
+
+impl FecSize {
+    /// PLP_FEC_TYPE (EN 302 755, clause 7.2.3.1).
+    pub fn plp_fec_type(self) -> u8
+        ensures value { result ≡ plp_fec_type self }
+        ensures small { result ≤ 1 }
+    {
+        self as u8
+    }
 }
 
 /// One PLP of a network.
@@ -92,7 +131,7 @@ impl Plp {
     pub(crate) fn info_bits(&self) -> u32
         ensures value { result ≡ info_bits self.now.fec self.now.rate }
         ensures least { 7032 ≤ result }
-        ensures greatest { result ≤ 53840 }
+        ensures greatest { result ≤ MOST_INFO_BITS }
     {
         match (self.fec, self.rate) {
             (FecSize::Normal, Rate::R1_2) => 32_208,

@@ -4,6 +4,7 @@ ghost use Rattle.plp_config.specs.FirstFailure.{FindsFailure};
 ghost use Rattle.plp_config.specs.Rules.{PlaceHolds, DistinctIds, KindOrder, BlockLimit, InterleaverLength, BitRate};
 
 use crate::config::Config;
+use crate::plp::MOST_BLOCKS;
 
 // The first PLP with an identifier that an earlier one has.
 pub(crate) fn repeated_id(config: &Config) -> Option<usize>
@@ -42,7 +43,7 @@ pub(crate) fn wrong_block_limit(config: &Config) -> Option<usize>
         .plps
         .as_slice()
         .iter()
-        .position(|plp| !(1..=1_023).contains(&plp.blocks))
+        .position(|plp| !(1..=MOST_BLOCKS).contains(&plp.blocks))
 }
 
 pub(crate) fn wrong_interleaver_length(config: &Config) -> Option<usize>

@@ -8,7 +8,7 @@ ghost use Rattle.plp_config.specs.SlotTime.{num, den};
 ghost use Rattle.plp_config.specs.Tables.{subseconds_per_second, subseconds_per_tick};
 
 use crate::config::Config;
-use crate::plp::Plp;
+use crate::plp::{MOST_BLOCK_BYTES, MOST_BLOCKS, Plp};
 
 // The duration of a frame in ticks.
 pub(crate) fn ticks(config: &Config) -> u32
@@ -78,7 +78,7 @@ pub(crate) fn plp_at(config: &Config, plp: usize) -> &Plp
     requires rules { AllRules config.now }
     requires configured { plp < length config.now.plps }
     ensures value { result.now ≡ plp_at config.now.plps plp }
-    ensures blocks { (1 ≤ result.now.blocks) × (result.now.blocks ≤ 1023) }
+    ensures blocks { (1 ≤ result.now.blocks) × (result.now.blocks ≤ MOST_BLOCKS) }
     ensures rate { (1 ≤ result.now.bits_per_second) × (result.now.bits_per_second ≤ 72000000) }
 {
     &config.plps.as_slice()[plp]
@@ -90,7 +90,7 @@ pub(crate) fn block_bytes(config: &Config, plp: usize) -> u32
     requires configured { plp < length config.now.plps }
     ensures value { result ≡ block_bytes config.now plp }
     ensures least { 879 ≤ result }
-    ensures greatest { result ≤ 6730 }
+    ensures greatest { result ≤ MOST_BLOCK_BYTES }
 {
     plp_at(config, plp).info_bits() / 8
 }

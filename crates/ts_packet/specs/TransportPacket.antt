@@ -1,5 +1,6 @@
 -- Transport packets (ISO/IEC 13818-1, clause 2.4.3): how a packet is spelled, and why 188 bytes are none.
 use Rattle.std.specs.Prelude.{◌≡◌, ◌≢◌, ◌⊎◌, ℕ, ◌<◌, ◌^◌, Bool, List, [], ◌∷◌, ◌++◌, length, slice_index, Option, Some, None}
+use Rattle.ts_packet.specs.declared.sizes.TheConstants.{SIZE, SYNC}
 use Rattle.terms.specs.Bits.{field, bits_of, bytes_of, number_at}
 use Rattle.ts_packet.specs.declared.fault.TsFault.{TsFault}
 use Rattle.ts_packet.specs.declared.fault.TsFault.TheVariants.{NoSync, BadAdaptation}
@@ -22,7 +23,7 @@ flag b = b ∷ []
 -- transport_scrambling_control, adaptation_field_control, continuity_counter
 abbrev pub header_bits : Fields → Bool → ℕ → List Bool
 header_bits f priority control =
-    field 8 0x47 ++ flag f.error ++ flag f.starts ++ flag priority ++ field 13 f.pid ++ field 2 f.scrambling ++ field 2 control ++ field 4 f.counter
+    field 8 SYNC ++ flag f.error ++ flag f.starts ++ flag priority ++ field 13 f.pid ++ field 2 f.scrambling ++ field 2 control ++ field 4 f.counter
 
 -- adaptation_field_control (table 2-5): 1 where a payload alone follows, 2 where an adaptation field alone, 3 where both
 abbrev pub control_of : Option (List ℕ) → List ℕ → ℕ
@@ -50,12 +51,12 @@ pub record Spells (f : Fields) (bytes : List ℕ) : Type 0 where
   pub fits : Fits f
   pub priority : Bool
   pub adaptation : Option (List ℕ)
-  pub whole : length bytes ≡ 188
+  pub whole : length bytes ≡ SIZE
   pub spelled : bytes ≡ packet_bytes f priority adaptation
 
 -- The bytes begin with the sync byte.
 abbrev pub HasSync : List ℕ → Type 0
-HasSync bytes = slice_index bytes 0 ≡ 0x47
+HasSync bytes = slice_index bytes 0 ≡ SYNC
 
 -- adaptation_field_control
 abbrev pub control_at : List ℕ → ℕ

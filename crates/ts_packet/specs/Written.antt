@@ -1,5 +1,6 @@
 -- What `write_payload` writes (ISO/IEC 13818-1, clauses 2.4.3 and 2.4.4).
 use Rattle.std.specs.Prelude.{ℕ, zero, suc, ◌-◌, false, List, [], ◌∷◌, length, replicate, Option, Some, None, is_some}
+use Rattle.ts_packet.specs.declared.sizes.TheConstants.{PAYLOAD}
 use Rattle.ts_packet.specs.TransportPacket.{Fields, packet_bytes}
 
 -- the payload with its pointer_field in front, where there is one (clause 2.4.4)
@@ -27,4 +28,4 @@ written_fields pid counter pointer payload = record {
 -- its bytes
 unfoldable pub written_bytes : ℕ → ℕ → Option ℕ → List ℕ → List ℕ
 written_bytes pid counter pointer payload =
-    packet_bytes (written_fields pid counter pointer payload) false (stuffing (184 - length (area_of pointer payload)))
+    packet_bytes (written_fields pid counter pointer payload) false (stuffing (PAYLOAD - length (area_of pointer payload)))

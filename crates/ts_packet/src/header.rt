@@ -2,8 +2,10 @@
 ghost use Rattle.std.specs.Prelude.{◌≡◌, ℕ, ◌+◌, ◌<◌, ◌≤◌, ◌^◌};
 ghost use Rattle.terms.specs.Bits.{field, bits_of, part, number_at};
 
+use crate::sizes::SIZE;
+
 // The header at the front of a packet.
-pub(crate) fn header_of(bytes: &[u8; 188]) -> u32
+pub(crate) fn header_of(bytes: &[u8; SIZE]) -> u32
     ensures { field 32 result ≡ part (bits_of bytes.now) 0 32 }
 {
     u32::from_be_bytes([bytes[0], bytes[1], bytes[2], bytes[3]])

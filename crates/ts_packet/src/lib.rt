@@ -5,6 +5,7 @@ mod fault;
 mod header;
 mod laws;
 mod packet;
+mod sizes;
 mod view;
 mod writing;
 
@@ -14,6 +15,7 @@ pub use laws::{
     spelled_or_refused, written_spells,
 };
 pub use packet::TsPacket;
+pub use sizes::{PAYLOAD, SIZE, SYNC};
 pub use view::{TsView, read};
 pub use writing::write_payload;
 

@@ -3,6 +3,7 @@ ghost use Rattle.std.specs.Prelude.{◌≡◌, length};
 ghost use Rattle.ts_packet.specs.Null.{is_null, null_packet};
 
 use crate::header::{field_at, header_of};
+use crate::sizes::SIZE;
 use std::marker::Model;
 
 // The PID of null packets.
@@ -11,7 +12,7 @@ const NULL_PID: u32 = 0x1FFF;
 /// The 188 bytes of a transport packet. Nothing is asked of them.
 #[derive(Clone, Copy, Debug, PartialEq, Eq)]
 pub struct TsPacket {
-    bytes: [u8; 188],
+    bytes: [u8; SIZE],
 }
 
 impl Model for TsPacket {
@@ -26,16 +27,16 @@ impl Model for TsPacket {
 
 impl TsPacket {
     /// The packet of these bytes.
-    pub fn from_array(bytes: [u8; 188]) -> TsPacket
+    pub fn from_array(bytes: [u8; SIZE]) -> TsPacket
         ensures { result ≡ bytes }
     {
         TsPacket { bytes }
     }
 
     /// The bytes of the packet.
-    pub fn as_array(&self) -> &[u8; 188]
+    pub fn as_array(&self) -> &[u8; SIZE]
         ensures bytes { result.now ≡ self.now }
-        ensures whole { length self.now ≡ 188 }
+        ensures whole { length self.now ≡ SIZE }
     {
         &self.bytes
     }
@@ -51,7 +52,7 @@ impl TsPacket {
     pub fn canonical() -> TsPacket
         ensures { result ≡ null_packet }
     {
-        let mut bytes = [0xFF; 188];
+        let mut bytes = [0xFF; SIZE];
         bytes[..4].copy_from_slice(&[0x47, 0x1F, 0xFF, 0x10]);
         TsPacket { bytes }
     }

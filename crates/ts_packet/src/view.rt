@@ -5,6 +5,7 @@ ghost use Rattle.ts_packet.specs.Reading.{place_for, IsRead};
 
 use crate::TsFault;
 use crate::header::{field_at, header_of};
+use crate::sizes::{PAYLOAD, SIZE};
 use std::marker::Model;
 
 /// A transport packet that was read: its fields, and its payload. Nothing is copied.
@@ -15,6 +16,7 @@ pub struct TsView<'a> {
 }
 
 impl<'a> Model for TsView<'a> {
+    ghost use Rattle.ts_packet.specs.declared.sizes.TheConstants.{PAYLOAD};
     ghost use Rattle.std.specs.Prelude.{◌≤◌, length};
     ghost use Rattle.terms.specs.Bits.{field};
     ghost use Rattle.ts_packet.specs.TransportPacket.{Fields};
@@ -24,7 +26,7 @@ impl<'a> Model for TsView<'a> {
 
     ghost view = { λ v. fields_of (field 32 v.header) v.payload.now };
 
-    ghost invariant = { λ v. length v.payload.now ≤ 184 };
+    ghost invariant = { λ v. length v.payload.now ≤ PAYLOAD };
 }
 
 impl<'a> TsView<'a> {
@@ -69,7 +71,7 @@ impl<'a> TsView<'a> {
     /// The bytes of the payload: none where there is an adaptation field alone.
     pub fn payload(&self) -> &'a [u8]
         ensures payload { result.now ≡ self.now.payload }
-        ensures short { length result.now ≤ 184 }
+        ensures short { length result.now ≤ PAYLOAD }
     {
         self.payload
     }
@@ -80,18 +82,18 @@ fn payload_place(control: u32, len: u8) -> Option<usize>
     requires { control < 4 }
     ensures some { IfSome result (λ place. (¬ (IsBadAdaptation control len)) × (place ≡ place_for control len)) }
     ensures none { IfNone result (IsBadAdaptation control len) }
-    ensures inside { IfSome result (λ place. (4 ≤ place) × (place ≤ 188)) }
+    ensures inside { IfSome result (λ place. (4 ≤ place) × (place ≤ SIZE)) }
 {
     match control {
         1 => Some(4),
-        2 if len == 183 => Some(188),
+        2 if len == 183 => Some(SIZE),
         3 if len <= 182 => Some(5 + usize::from(len)),
         _ => None,
     }
 }
 
 // Reads a packet place by place.
-fn parse(bytes: &[u8; 188]) -> Result<TsView<'_>, TsFault>
+fn parse(bytes: &[u8; SIZE]) -> Result<TsView<'_>, TsFault>
     ensures ok { IfOk result (IsRead bytes.now) }
     ensures err { IfErr result (Refuses bytes.now) }
 {
@@ -109,7 +111,7 @@ fn parse(bytes: &[u8; 188]) -> Result<TsView<'_>, TsFault>
 }
 
 /// The transport packet that the bytes are, or the first refusal of [`TsFault`] that holds.
-pub fn read(bytes: &[u8; 188]) -> Result<TsView<'_>, TsFault>
+pub fn read(bytes: &[u8; SIZE]) -> Result<TsView<'_>, TsFault>
     ensures ok { IfOk result (λ f. Spells f bytes.now) }
     // Where the bytes are a packet, it is read.
     ensures every { (f : Fields) → Spells f bytes.now → result ≡ Ok f }

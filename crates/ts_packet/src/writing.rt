@@ -4,6 +4,8 @@ ghost use Rattle.terms.specs.Bits.{field, bytes_of};
 ghost use Rattle.ts_packet.specs.TransportPacket.{Spells, header_bits, adaptation_bytes};
 ghost use Rattle.ts_packet.specs.Written.{area_of, stuffing, written_fields, written_bytes};
 
+use crate::sizes::{PAYLOAD, SIZE, SYNC};
+
 // The header of a packet without error, priority and scrambling.
 fn header(pid: u16, counter: u8, pointer: Option<u8>, control: u32) -> u32
     requires pid { pid < 2 ^ 13 }
@@ -12,7 +14,7 @@ fn header(pid: u16, counter: u8, pointer: Option<u8>, control: u32) -> u32
     ensures { field 32 result ≡ header_bits (written_fields pid counter pointer []) false control }
 {
     let starts = u32::from(pointer.is_some());
-    0x47 << 24 | starts << 22 | u32::from(pid) << 8 | control << 4 | u32::from(counter)
+    u32::from(SYNC) << 24 | starts << 22 | u32::from(pid) << 8 | control << 4 | u32::from(counter)
 }
 
 // The bytes of that header.
@@ -71,18 +73,18 @@ fn write_parts(bytes: &mut [u8], at: usize, header: &[u8; 4], pointer: Option<u8
 /// The payload has 1 to 184 bytes, and at most 183 behind a `pointer`, which stands as pointer_field in front of it and
 /// sets payload_unit_start_indicator. Space that is left is an adaptation field between header and payload. Error
 /// indicator, priority and scrambling are 0.
-pub fn write_payload(pid: u16, counter: u8, pointer: Option<u8>, payload: &[u8]) -> [u8; 188]
+pub fn write_payload(pid: u16, counter: u8, pointer: Option<u8>, payload: &[u8]) -> [u8; SIZE]
     requires pid { pid < 2 ^ 13 }
     requires counter { counter < 2 ^ 4 }
     requires some { 1 ≤ length payload.now }
-    requires room { length (area_of pointer payload.now) ≤ 184 }
+    requires room { length (area_of pointer payload.now) ≤ PAYLOAD }
     ensures bytes { result ≡ written_bytes pid counter pointer payload.now }
     ensures spells { Spells (written_fields pid counter pointer payload.now) result }
 {
     let area = payload.len() + usize::from(pointer.is_some());
-    let control = if area < 184 { 3 } else { 1 };
+    let control = if area < PAYLOAD { 3 } else { 1 };
     let header = header_bytes(pid, counter, pointer, control);
-    let mut bytes = [0; 188];
-    write_parts(&mut bytes, 188 - area, &header, pointer, payload);
+    let mut bytes = [0; SIZE];
+    write_parts(&mut bytes, SIZE - area, &header, pointer, payload);
     bytes
 }
