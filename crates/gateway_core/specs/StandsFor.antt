@@ -1,5 +1,5 @@
 -- What a gateway stands for.
-use Rattle.std.specs.Prelude.{◌≡◌, ◌<◌, ℕ, ◌-◌, ◌*◌, if◌then◌else◌, Bool, true, List, length, map, slice_index}
+use Rattle.std.specs.Prelude.{◌≡◌, ◌<◌, ℕ, ◌-◌, ◌*◌, if◌then◌else◌, Bool, true, false, List, length, map, slice_index}
 use Rattle.plp_config.specs.RunLength.{frame_count}
 use Rattle.plp_config.specs.SlotTime.{slots_by}
 use Rattle.plp_config.specs.declared.config.Config.{Config}
@@ -55,6 +55,21 @@ bytes_left g = bytes_bound (waiting_of g.flow.outlet.piper) g.flow.outlet.at g.f
 -- No more frames come.
 abbrev pub has_finished : Gateway → Bool
 has_finished g = g.flow.finished
+
+-- what a caller sees of a gateway beside its wants
+pub record Status : Type 0 where
+  pub plps : ℕ
+  pub frame : ℕ
+  pub unit : Bool
+  pub finished : Bool
+  pub left : ℕ
+
+abbrev pub status_of : Gateway → Status
+status_of g = record { plps = plps_of g; frame = frame_of g; unit = has_unit g; finished = has_finished g; left = bytes_left g }
+
+-- that of one that was opened for so many PLPs
+abbrev pub new_status : ℕ → Status
+new_status plps = record { plps = plps; frame = 0; unit = false; finished = false; left = 0 }
 
 -- All inputs ended, and as many frames were begun as their packets need.
 pub record IsLast (c : Config) (events : List Event) : Type 0 where

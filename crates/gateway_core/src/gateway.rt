@@ -49,16 +49,12 @@ impl<'p> Gateway<'p> {
     ghost use Rattle.gateway_core.specs.Events.{Event, Offered, Ended, Begun, Gave, Finished, begun, given, finished};
     ghost use Rattle.gateway_core.specs.InputsStandFor.{AllContinue};
     ghost use Rattle.gateway_core.specs.Packets.{front_packets};
-    ghost use Rattle.gateway_core.specs.StandsFor.{GatewayStandsFor, plps_of, wants_of, frame_of, has_unit, bytes_left, has_finished, IsLast, wants_by};
+    ghost use Rattle.gateway_core.specs.StandsFor.{GatewayStandsFor, plps_of, wants_of, frame_of, has_unit, bytes_left, has_finished, status_of, new_status, IsLast, wants_by};
 
     /// A gateway to which nothing was offered, for a plan.
     pub fn open(alloc: Global, plan: &'p Plan) -> Result<Gateway<'p>, OutOfMemory>
         ensures stands { IfOk result (λ g. GatewayStandsFor g plan.now []) }
-        ensures plps { IfOk result (λ g. plps_of g ≡ length plan.now.plps) }
-        ensures frame { IfOk result (λ g. frame_of g ≡ 0) }
-        ensures unit { IfOk result (λ g. has_unit g ≡ false) }
-        ensures finished { IfOk result (λ g. has_finished g ≡ false) }
-        ensures left { IfOk result (λ g. bytes_left g ≡ 0) }
+        ensures status { IfOk result (λ g. status_of g ≡ new_status (length plan.now.plps)) }
     {
         Ok(Gateway {
             alloc,
@@ -97,11 +93,7 @@ impl<'p> Gateway<'p> {
         ensures stands { OnOk result ((c : Config) (events : List Event) → GatewayStandsFor self.old c events → GatewayStandsFor self.new c (events ++ Offered plp packet.now ∷ [])) }
         ensures fewer { OnOk result (wants_of self.new plp + 1 ≡ wants_of self.old plp) }
         ensures others { OnOk result ((other : ℕ) → other ≢ plp → wants_of self.new other ≡ wants_of self.old other) }
-        ensures plps { plps_of self.new ≡ plps_of self.old }
-        ensures frame { frame_of self.new ≡ frame_of self.old }
-        ensures unit { has_unit self.new ≡ has_unit self.old }
-        ensures finished { has_finished self.new ≡ has_finished self.old }
-        ensures left { bytes_left self.new ≡ bytes_left self.old }
+        ensures status { status_of self.new ≡ status_of self.old }
     {
         offer(&mut self.inputs, plp, packet)?;
         Ok(())
@@ -113,11 +105,7 @@ impl<'p> Gateway<'p> {
         ensures stands { (c : Config) (events : List Event) → GatewayStandsFor self.old c events → GatewayStandsFor self.new c (events ++ Ended plp ∷ []) }
         ensures none { wants_of self.new plp ≡ 0 }
         ensures others { (other : ℕ) → other ≢ plp → wants_of self.new other ≡ wants_of self.old other }
-        ensures plps { plps_of self.new ≡ plps_of self.old }
-        ensures frame { frame_of self.new ≡ frame_of self.old }
-        ensures unit { has_unit self.new ≡ has_unit self.old }
-        ensures finished { has_finished self.new ≡ has_finished self.old }
-        ensures left { bytes_left self.new ≡ bytes_left self.old }
+        ensures status { status_of self.new ≡ status_of self.old }
     {
         end(&mut self.inputs, plp);
     }
@@ -130,9 +118,8 @@ impl<'p> Gateway<'p> {
         requires early { frame_of self.old < 2 ^ 31 }
         requires open { has_finished self.old ≡ false }
         ensures stands { OnOk result ((c : Config) (events : List Event) → GatewayStandsFor self.old c events → GatewayStandsFor self.new c (events ++ Begun ∷ [])) }
-        ensures plps { plps_of self.new ≡ plps_of self.old }
         ensures frame { OnOk result (frame_of self.new ≡ frame_of self.old + 1) }
-        ensures finished { has_finished self.new ≡ has_finished self.old }
+        ensures status { status_of self.new ≡ record (status_of self.old) { frame = frame_of self.new; unit = has_unit self.new; left = bytes_left self.new } }
         ensures more { OnOk result (bytes_left self.new ≤ bytes_left self.old + 2 ^ 32) }
     {
         let _ = self.plan.config();
@@ -176,9 +163,7 @@ impl<'p> Gateway<'p> {
         ensures none { result ≡ false → (c : Config) (events : List Event) → GatewayStandsFor self.old c events → finished events ≡ true → (inputs : ℕ → List (List ℕ)) → AllContinue c events inputs
             → length (pipe c.pid (front_packets c inputs (begun events))) ≡ given events }
         ensures wants { (plp : ℕ) → wants_of self.new plp ≡ wants_of self.old plp }
-        ensures plps { plps_of self.new ≡ plps_of self.old }
-        ensures frame { frame_of self.new ≡ frame_of self.old }
-        ensures finished { has_finished self.new ≡ has_finished self.old }
+        ensures status { status_of self.new ≡ record (status_of self.old) { unit = has_unit self.new; left = bytes_left self.new } }
     {
         self.flow
             .next(self.plan, &self.signalling, &mut self.frame, out)
@@ -198,10 +183,7 @@ impl<'p> Gateway<'p> {
     pub fn finish(&mut self)
         ensures stands { (c : Config) (events : List Event) → GatewayStandsFor self.old c events → GatewayStandsFor self.new c (events ++ Finished ∷ []) }
         ensures wants { (plp : ℕ) → wants_of self.new plp ≡ wants_of self.old plp }
-        ensures plps { plps_of self.new ≡ plps_of self.old }
-        ensures frame { frame_of self.new ≡ frame_of self.old }
-        ensures finished { has_finished self.new ≡ true }
-        ensures left { bytes_left self.new ≡ bytes_left self.old }
+        ensures status { status_of self.new ≡ record (status_of self.old) { unit = has_unit self.new; finished = true } }
     {
         self.flow.finish();
     }
