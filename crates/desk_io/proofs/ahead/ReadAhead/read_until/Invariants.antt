@@ -1,0 +1,16 @@
+use Rattle.std.proofs.Common.{◌<◌, ◌≤◌, ◌-◌, ◌+◌, ℕ, length}
+use Rattle.ports.specs.Desk.{SameCounts}
+use Rattle.desk_io.specs.Reading.{given_of, most_bytes, ReadsOn, TakesNone}
+use Rattle.desk_io.proofs.ahead.ReadAhead.read_until.Given as goal
+
+abbrev pub invariant-loop-self : goal.invariant-loop-self
+invariant-loop-self g l = record {
+  reads : ReadsOn (g.D.Desk.state l.initial.desk) (g.D.Desk.state l.desk) l.initial.self l.self;
+  none : TakesNone (g.D.Desk.state l.initial.desk) (g.D.Desk.state l.desk) l.initial.self l.self;
+  limit : (limit : ℕ) → given_of l.initial.self ≤ limit → l.initial.self.taken + l.most ≤ limit → given_of l.self ≤ limit;
+  short : given_of l.self < most_bytes;
+  counts : SameCounts (g.D.Desk.state l.initial.desk) (g.D.Desk.state l.desk);
+}
+
+abbrev pub decreases-loop-self : goal.decreases-loop-self
+decreases-loop-self g l = l.least - length l.self.waiting

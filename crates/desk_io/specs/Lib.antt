@@ -1,0 +1,7 @@
+pub mod Ahead
+pub mod Codes
+pub mod Faults
+pub mod Laws
+pub mod Reading
+pub mod Waiting
+pub mod Writing
