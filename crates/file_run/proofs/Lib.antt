@@ -1,0 +1,9 @@
+pub mod CopyLemmas
+pub mod DrainLemmas
+pub mod EventLemmas
+pub mod FeedLemmas
+pub mod FedLemmas
+pub mod OpenLemmas
+pub mod RunLemmas
+pub mod RunningLemmas
+pub mod StandsLemmas

@@ -1,0 +1,6 @@
+pub mod Copy
+pub mod Events
+pub mod FileRun
+pub mod Laws
+pub mod Running
+pub mod Steps

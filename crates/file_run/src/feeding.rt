@@ -1,0 +1,48 @@
+// Reading what a machine wants.
+ghost use Rattle.std.specs.Prelude.{◌≡◌, ◌<◌, ◌≤◌, ◌+◌, ℕ, length, false, IfErr, OnOk, OnErr};
+ghost use Rattle.ports.specs.Desk.{SameCounts};
+ghost use Rattle.desk_io.specs.Reading.{given_of, spare, most_bytes, ReadsOn, TakesNone, StopsReading};
+ghost use Rattle.file_run.specs.Running.{Feeds, IsReader};
+
+use crate::machine::{Machine, Step};
+use desk_io::{ReadAhead, ReadStop};
+use ports::Desk;
+use t2mi_packet::LARGEST;
+
+/// Reads what a machine wants of an input, and feeds it, or ends the input where its file ends.
+pub fn feed<M: Machine, D: Desk>(
+    machine: &mut M,
+    reader: &mut ReadAhead,
+    input: usize,
+    least: usize,
+    most: u64,
+    desk: &mut D,
+) -> Result<(), ReadStop>
+    requires next { M.next machine.old ≡ Step.Read input least most }
+    requires within { (least ≤ most) × (least ≤ LARGEST) × (0 < least) }
+    requires opened { reader.old.handle < length (D.state desk.old).opened }
+    requires short { given_of reader.old < most_bytes }
+    requires reader { IsReader M.Becomes machine.old input reader.old }
+    requires is_open { reader.old.ended ≡ false }
+    ensures reads { ReadsOn (D.state desk.old) (D.state desk.new) reader.old reader.new }
+    ensures none { OnErr result (TakesNone (D.state desk.old) (D.state desk.new) reader.old reader.new) }
+    ensures machine { OnErr result (machine.new ≡ machine.old) }
+    ensures feeds { OnOk result (Feeds M.Becomes machine.old machine.new (D.state desk.old) (D.state desk.new) reader.old reader.new input) }
+    ensures limit { (limit : ℕ) → given_of reader.old ≤ limit → reader.old.taken + most ≤ limit → given_of reader.new ≤ limit }
+    ensures fewer { OnOk result (spare reader.new < spare reader.old) }
+    ensures reach { (other : ℕ) → M.reach machine.old other ≤ M.reach machine.new other }
+    ensures counts { OnOk result (SameCounts (D.state desk.old) (D.state desk.new)) }
+    ensures short { OnOk result (given_of reader.new < most_bytes) }
+    ensures err { IfErr result (StopsReading (D.state desk.old) (D.state desk.new) reader.new least) }
+{
+    if reader.read_until(desk, least, most)? {
+        let count = machine.feed(input, reader.as_bytes());
+        reader.skip(count);
+    } else {
+        let count = reader.as_bytes().len();
+        machine.end_input(input, reader.as_bytes());
+        reader.skip(count);
+        reader.finish();
+    }
+    Ok(())
+}

@@ -1,0 +1,7 @@
+// Laws of the definitions. Their functions do nothing.
+ghost use Rattle.file_run.specs.Laws.{EventsTell};
+
+/// What one event more tells of inputs and of the output.
+pub fn events_law()
+    ensures { EventsTell }
+{}

@@ -1,0 +1,73 @@
+// A machine between files.
+ghost use Rattle.std.specs.Prelude.{◌≡◌, ◌<◌, ◌≤◌, ◌++◌, ◌∷◌, ℕ, List, [], length, take};
+ghost use Rattle.file_run.specs.Events.{Event, Fed, Ended, Gave};
+ghost use Rattle.file_run.specs.Steps.{Suffices, FallsShort, HasRoom, IsWanted};
+ghost use Rattle.file_run.specs.declared.machine.Step.TheVariants.{Give};
+
+/// The most bytes that a machine gives at once.
+pub const PIECE: usize = 4_096;
+
+/// What a machine does next.
+#[derive(Clone, Copy, Debug, PartialEq, Eq)]
+pub enum Step {
+    /// It wants at least so many bytes of this input, counted from 0, or its end, and no more than `most` are to wait for it.
+    Read {
+        input: usize,
+        least: usize,
+        most: u64,
+    },
+    /// It gives bytes, or none and goes on.
+    Give,
+    /// It has come to its end.
+    End,
+}
+
+/// A machine that is fed with the bytes of some inputs, in any cutting, and gives the bytes of one output. It knows no desk. No call
+/// fails: a machine takes also what it cannot use, comes to its end, and its owner asks it then how it ended. So it takes no memory
+/// in its calls, or ends for want of it.
+pub trait Machine {
+    ghost use Rattle.file_run.specs.declared.machine.Step.{Step};
+
+    /// The first, to which this was done in turn, is the second.
+    ghost Becomes: { Self → List Event → Self → Type 0 };
+
+    /// The number of inputs.
+    ghost inputs: { Self → ℕ };
+
+    /// What it does next.
+    ghost next: { Self → Step };
+
+    /// It gives no more often before it wants bytes.
+    ghost left: { Self → ℕ };
+
+    /// How far an input may have been read, in bytes.
+    ghost reach: { Self → ℕ → ℕ };
+
+    /// What it does next.
+    fn step(&self) -> Step
+        ensures next { result ≡ next self.now }
+        ensures wanted { (start : Self) (events : List Event) → Becomes start events self.now → IsWanted (inputs start) events (reach self.now) result };
+
+    /// Takes bytes of the input that it wants from the front of these: how many.
+    fn feed(&mut self, input: usize, bytes: &[u8]) -> usize
+        requires wanted { Suffices (next self.old) input (length bytes.now) }
+        requires room { HasRoom Becomes self.old input (length bytes.now) }
+        ensures some { (0 < result) × (result ≤ length bytes.now) }
+        ensures becomes { (start : Self) (events : List Event) → Becomes start events self.old → Becomes start (events ++ Fed input (take result bytes.now) ∷ []) self.new }
+        ensures reach { (other : ℕ) → reach self.old other ≤ reach self.new other };
+
+    /// The input that it wants has ended behind these bytes, which are fewer than it wants.
+    fn end_input(&mut self, input: usize, bytes: &[u8])
+        requires wanted { FallsShort (next self.old) input (length bytes.now) }
+        requires room { HasRoom Becomes self.old input (length bytes.now) }
+        ensures becomes { (start : Self) (events : List Event) → Becomes start events self.old → Becomes start (events ++ Ended input bytes.now ∷ []) self.new }
+        ensures reach { (other : ℕ) → reach self.old other ≤ reach self.new other };
+
+    /// Gives the next bytes: how many.
+    fn give(&mut self, out: &mut [u8; PIECE]) -> usize
+        requires { next self.old ≡ Give }
+        ensures count { result ≤ PIECE }
+        ensures becomes { (start : Self) (events : List Event) → Becomes start events self.old → Becomes start (events ++ Gave (take result out.new) ∷ []) self.new }
+        ensures left { left self.new < left self.old }
+        ensures reach { (other : ℕ) → reach self.old other ≤ reach self.new other };
+}

@@ -1,0 +1,61 @@
+// The run.
+ghost use Rattle.std.specs.Prelude.{◌≡◌, [], length, IfErr, OnOk};
+ghost use Rattle.file_run.specs.FileRun.{AreApart, RunsAll, Stops};
+ghost use Rattle.file_run.specs.Running.{read_fault};
+
+use crate::draining::drain;
+use crate::feeding::feed;
+use crate::machine::{Machine, PIECE, Step};
+use crate::opening::{create_output, open_inputs};
+use crate::stop::RunFault;
+use desk_io::{ByteWriter, ReadAhead, ReadStop, creates_law};
+use ports::{Desk, Word};
+
+// A run stops where an input could not be read on.
+fn fault_of(input: usize, why: ReadStop) -> RunFault
+    ensures { result ≡ read_fault input why }
+{
+    match why {
+        ReadStop::TooLong => RunFault::TooLong { input },
+        ReadStop::Fault => RunFault::ReadFault { input },
+    }
+}
+
+/// Runs a machine between files: opens the inputs in turn, one for each reader; creates the output; and reads what the machine wants
+/// and writes what it gives until it has come to its end. What it gives is written before it is fed on. It takes no memory.
+pub fn run<M: Machine, D: Desk>(
+    machine: &mut M,
+    readers: &mut [ReadAhead],
+    writer: &mut ByteWriter,
+    out: &str,
+    ins: &[Word],
+    desk: &mut D,
+) -> Result<(), RunFault>
+    requires count { length readers.old ≡ length ins.now }
+    requires inputs { M.inputs machine.old ≡ length ins.now }
+    requires start { M.Becomes machine.old [] machine.old }
+    requires apart { AreApart out.now ins.now }
+    ensures ok { OnOk result (RunsAll (D.state desk.old) (D.state desk.new) out.now ins.now (M.reach machine.new) (λ events. M.Becomes machine.old events machine.new)) }
+    ensures end { OnOk result (M.next machine.new ≡ Step.End) }
+    ensures err { IfErr result (Stops (D.state desk.old) (D.state desk.new) out.now ins.now M.reach M.next (M.Becomes machine.old) machine.new) }
+{
+    creates_law();
+    open_inputs(ins, readers, desk)?;
+    create_output(writer, out, desk)?;
+    let mut piece = [0; PIECE];
+    match drain(machine, &mut piece, writer, desk) {
+        Ok(()) => {}
+        Err(_) => return Err(RunFault::WriteFault),
+    }
+    while let Step::Read { input, least, most } = machine.step() {
+        match feed(machine, &mut readers[input], input, least, most, desk) {
+            Ok(()) => {}
+            Err(why) => return Err(fault_of(input, why)),
+        }
+        match drain(machine, &mut piece, writer, desk) {
+            Ok(()) => {}
+            Err(_) => return Err(RunFault::WriteFault),
+        }
+    }
+    Ok(())
+}
