@@ -70,10 +70,10 @@ read_here (Ended to bytes) file input count o n events t r =
     (read_more file bytes (fed input events) _ o n (has_ended input events) _ t.2 (ended_more input bytes events).here (λ l is on. inr (of_some n l (λ rest. rest ≡ []) is t.3)) r)
 read_here (Gave bytes) file input count o n events t r = absurd t
 
-read_same : (file : List ℕ) (o p : Option (List ℕ)) (taken more : List ℕ) (ended now : Bool) → p ≡ o → more ≡ taken → now ≡ ended → IsRead file o taken ended → IsRead file p more now
+pub read_same : (file : List ℕ) (o p : Option (List ℕ)) (taken more : List ℕ) (ended now : Bool) → p ≡ o → more ≡ taken → now ≡ ended → IsRead file o taken ended → IsRead file p more now
 read_same file o p taken more ended now e f h r = record { left = r.left; rest_is = e ∙ r.rest_is; parts = r.parts ∙ ap (λ (l : List ℕ). l ++ r.left) (sym f); end = λ on. r.end (sym h ∙ on) }
 
-ended_here : (e : Event) (input count : ℕ) (o n : Option (List ℕ)) (was is : Bool) (events : List Event) → IsTaken e input o n count → IsMarked e was is → was ≡ has_ended input events → is ≡ has_ended input (events ++ e ∷ [])
+pub ended_here : (e : Event) (input count : ℕ) (o n : Option (List ℕ)) (was is : Bool) (events : List Event) → IsTaken e input o n count → IsMarked e was is → was ≡ has_ended input events → is ≡ has_ended input (events ++ e ∷ [])
 ended_here (Fed to bytes) input count o n was is events t m h = m ∙ h ∙ sym ((fed_more to bytes events).ended input)
 ended_here (Ended to bytes) input count o n was is events t m h = m ∙ sym (ap (λ (k : ℕ). has_ended input (events ++ Ended k bytes ∷ [])) t.0 ∙ (ended_more input bytes events).ended)
 ended_here (Gave bytes) input count o n was is events t m h = absurd t

@@ -7,3 +7,5 @@ pub mod OpenLemmas
 pub mod RunLemmas
 pub mod RunningLemmas
 pub mod StandsLemmas
+pub mod TellLemmas
+pub mod ToldLemmas

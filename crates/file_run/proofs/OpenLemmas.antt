@@ -70,7 +70,7 @@ pushed {X = X} P xs x d h last i lt =
           subst (λ (y : X). P i y) (sym (get_or_append_left xs (x ∷ []) d i inside)) (h i inside)
     ]
 
-is_there : (o : Option (List ℕ)) → IsSome o → o ≡ Some (unwrap_or o [])
+pub is_there : (o : Option (List ℕ)) → IsSome o → o ≡ Some (unwrap_or o [])
 is_there None some = absurd (let z : false ≡ true = some in cc)
 is_there (Some x) some = refl
 

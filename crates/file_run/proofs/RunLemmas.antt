@@ -16,7 +16,7 @@ use Rattle.file_run.proofs.EventLemmas.{gave_more}
 use Rattle.file_run.proofs.OpenLemmas.{some_is, of_some, some_at}
 
 -- the place of the reader that read on
-moved : (opened : List ℕ) (readings : List Reading) (input : ℕ) (is : Reading) (handle : ℕ) → handle ≡ length opened + input → input < length readings → given_of (reading_at readings input) ≤ given_of is
+pub moved : (opened : List ℕ) (readings : List Reading) (input : ℕ) (is : Reading) (handle : ℕ) → handle ≡ length opened + input → input < length readings → given_of (reading_at readings input) ≤ given_of is
     → slice_set (opened ++ places_of readings) handle (slice_index (opened ++ places_of readings) handle + (given_of is - given_of (reading_at readings input))) ≡ opened ++ places_of (slice_set readings input is)
 moved opened readings input is handle e lt le =
     let place : slice_index (opened ++ places_of readings) handle ≡ given_of (reading_at readings input) =

@@ -4,3 +4,5 @@ pub mod FileRun
 pub mod Laws
 pub mod Running
 pub mod Steps
+pub mod Telling
+pub mod TellingOn

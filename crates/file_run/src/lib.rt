@@ -1,4 +1,4 @@
-//! A machine between files: some are read, one is written.
+//! A machine between files: some are read, and one is written or standard output said.
 #![tactic(auto)]
 
 mod draining;
@@ -8,6 +8,7 @@ mod machine;
 mod opening;
 mod running;
 mod stop;
+mod telling;
 #[cfg(test)]
 mod tests;
 
@@ -15,3 +16,4 @@ pub use laws::events_law;
 pub use machine::{Machine, PIECE, Step};
 pub use running::run;
 pub use stop::RunFault;
+pub use telling::tell;

@@ -1,0 +1,231 @@
+-- Saying what a machine gives, step by step.
+use Rattle.std.proofs.Common.{◌≡◌, ℕ, ◌+◌, ◌-◌, ◌<◌, ◌≤◌, Bool, true, false, List, [], ◌∷◌, ◌++◌, length, Option, Some, None, refl, ap, sym, subst, ◌∙◌, inl, inr, append_assoc, append-nil, arith}
+use Rattle.std.specs.Prelude.{◌⊎◌, IfSome, IsSome, max, option_map, option_and_then, slice_set, slice_index}
+use Rattle.std.specs.FinMap.{get}
+use Rattle.ports.specs.Desk.{State, Held, Keeps, Says, Opens, left_of, bytes_of}
+use Rattle.desk_io.specs.Reading.{Reading, given_of, rest_of, ReadsOn, TakesNone, most_bytes}
+use Rattle.file_run.specs.Events.{Event, Gave, fed, has_ended, gave}
+use Rattle.file_run.specs.FileRun.{IsFed}
+use Rattle.file_run.specs.Running.{IsRead, IsTaken, Feeds, reading_from}
+use Rattle.file_run.specs.Telling.{StartsWith, Tells, Reaches}
+use Rattle.file_run.specs.Steps.{FallsShort}
+use Rattle.file_run.specs.declared.machine.Step.{Step}
+use Rattle.file_run.specs.declared.machine.Step.TheVariants.{Read}
+use Rattle.std.proofs.lemmas.List.{length_push}
+use Rattle.file_run.specs.TellingOn.{Telling, GivesWay}
+use Rattle.file_run.proofs.DrainLemmas.{Gives}
+use Rattle.file_run.proofs.EventLemmas.{gave_piece}
+use Rattle.file_run.proofs.FedLemmas.{read_same, read_here, fed_here, ended_here, gives_none}
+use Rattle.file_run.proofs.OpenLemmas.{some_is, of_some, is_there}
+use Rattle.file_run.proofs.RunLemmas.{moved, is_fed}
+
+-- where a reader comes to
+read_further : (start was is : State) (r s : Reading) → ReadsOn was is r s → r.handle ≡ length start.opened → was.opened ≡ start.opened ++ given_of r ∷ [] → is.opened ≡ start.opened ++ given_of s ∷ []
+read_further start was is r s on at opened =
+    on.opened ∙ ap (λ (l : List ℕ). slice_set l r.handle (slice_index l r.handle + (given_of s - given_of r))) opened ∙ moved start.opened (r ∷ []) 0 s r.handle (omega (arith, at)) (omega arith) on.later
+
+-- what a reader has left depends on what the desk holds and on the places of its handles
+pub rest_kept : (old new : State) (r : Reading) → new.held ≡ old.held → new.opened ≡ old.opened → rest_of new r ≡ rest_of old r
+rest_kept old new r held opened = rw (held, opened) refl
+
+pub twice : (o : Option (List ℕ)) (x y : List ℕ) → option_map (λ said. said ++ y) (option_map (λ said. said ++ x) o) ≡ option_map (λ said. said ++ (x ++ y)) o
+twice None x y = refl
+twice (Some said) x y = ap Some (append_assoc said x y)
+
+-- a piece went onto the page
+pub page_grown : {A : Type 0} (Becomes : A → List Event → A → Type 0) (begin old new : A) (start was is : State) (name : List ℕ) (r : Reading) (waiting piece : List ℕ) → Gives Becomes old new piece → Keeps was is
+    → Telling (Becomes begin) start was name old r waiting → Telling (Becomes begin) start is name new r (waiting ++ piece)
+page_grown Becomes begin old new start was is name r waiting piece gives keeps t =
+    let more = gave_piece piece t.events in
+    record {
+      events = t.events ++ Gave piece ∷ [];
+      came = gives begin t.events t.came;
+      early = t.early;
+      mid = t.mid;
+      met = t.met;
+      parts = more.gave ∙ ap (λ (l : List ℕ). l ++ piece) t.parts ∙ append_assoc (gave t.early) waiting piece;
+      said = keeps.said ∙ t.said;
+      handle = t.handle;
+      opened = keeps.opened ∙ t.opened;
+      created = keeps.created ∙ t.created;
+      held = keeps.held ∙ t.held;
+      present = t.present;
+      taken = t.taken ∙ ap length (sym (more.fed 0));
+      ended = t.ended ∙ sym (more.ended 0);
+      reads = λ h told. read_same _ _ _ _ _ _ _ (rest_kept was is r keeps.held keeps.opened) (more.fed 0) (more.ended 0) (t.reads h told);
+      first = t.first;
+    }
+
+-- All that waited was said.
+unfoldable pub all_said : {A : Type 0} (Came : List Event → A → Type 0) (machine : A) (start was is : State) (name : List ℕ) (r : Reading) (waiting : List ℕ) → Says was is waiting
+    → Telling Came start was name machine r waiting → Telling Came start is name machine r []
+all_said Came machine start was is name r waiting says t = record {
+  events = t.events;
+  came = t.came;
+  early = t.events;
+  mid = machine;
+  met = t.came;
+  parts = sym (append-nil (gave t.events));
+  said = says.said ∙ ap (option_map (λ said. said ++ waiting)) t.said ∙ twice start.said (gave t.early) waiting ∙ ap (λ (l : List ℕ). option_map (λ said. said ++ l) start.said) (sym t.parts);
+  handle = t.handle;
+  opened = says.opened ∙ t.opened;
+  created = says.created ∙ t.created;
+  held = says.held ∙ t.held;
+  present = t.present;
+  taken = t.taken;
+  ended = t.ended;
+  reads = λ h told. read_same _ _ _ _ _ _ _ (rest_kept was is r says.held says.opened) refl refl (t.reads h told);
+  first = λ h told. let rest = t.reads h told in (rest.left, rest.parts);
+}
+
+-- Nothing but counts changed.
+unfoldable pub telling_kept : {A : Type 0} (Came : List Event → A → Type 0) (machine : A) (start was is : State) (name : List ℕ) (r : Reading) (page : List ℕ) → Keeps was is
+    → Telling Came start was name machine r page → Telling Came start is name machine r page
+telling_kept Came machine start was is name r page keeps t = record {
+  events = t.events;
+  came = t.came;
+  early = t.early;
+  mid = t.mid;
+  met = t.met;
+  parts = t.parts;
+  handle = t.handle;
+  present = t.present;
+  taken = t.taken;
+  ended = t.ended;
+  first = t.first;
+  said = keeps.said ∙ t.said;
+  opened = keeps.opened ∙ t.opened;
+  created = keeps.created ∙ t.created;
+  held = keeps.held ∙ t.held;
+  reads = λ h told. read_same _ _ _ _ _ _ _ (rest_kept was is r keeps.held keeps.opened) refl refl (t.reads h told);
+}
+
+none_kept : (s : State) → Keeps s s
+none_kept s = record { held = refl; said = refl; opened = refl; created = refl }
+
+pub gathered : {A : Type 0} (Becomes : A → List Event → A → Type 0) (begin old new : A) (start was is : State) (name : List ℕ) (r : Reading) (waiting left piece : List ℕ) → Gives Becomes old new piece
+    → GivesWay was is waiting left piece → Telling (Becomes begin) start was name old r waiting → Telling (Becomes begin) start is name new r left
+gathered Becomes begin old new start was is name r waiting left piece gives (inl kept) t =
+    subst (λ (l : List ℕ). Telling (Becomes begin) start is name new r l) (sym kept.1) (page_grown Becomes begin old new start was is name r waiting piece gives kept.0 t)
+gathered Becomes begin old new start was is name r waiting left piece gives (inr said) t =
+    subst (λ (l : List ℕ). Telling (Becomes begin) start is name new r l) (sym said.1)
+    (page_grown Becomes begin old new start is is name r [] piece gives (none_kept is) (all_said (Becomes begin) old start was is name r waiting said.0 t))
+
+-- The machine was fed.
+pub telling_fed : {A : Type 0} (Becomes : A → List Event → A → Type 0) (begin old new : A) (start was is : State) (name : List ℕ) (r s : Reading) (input : ℕ) (page : List ℕ) → input ≡ 0 → ReadsOn was is r s → Feeds Becomes old new was is r s input
+    → Telling (Becomes begin) start was name old r page → Telling (Becomes begin) start is name new s page
+telling_fed Becomes begin old new start was is name r s input page zero on f t =
+    let taken = subst (λ (k : ℕ). IsTaken f.event k (rest_of was r) (rest_of is s) f.count) zero f.is_taken in
+    record {
+      events = t.events ++ f.event ∷ [];
+      came = f.becomes begin t.events t.came;
+      early = t.early;
+      mid = t.mid;
+      met = t.met;
+      parts = gives_none f.event 0 f.count _ _ t.events taken ∙ t.parts;
+      said = on.said ∙ t.said;
+      handle = on.handle ∙ t.handle;
+      opened = read_further start was is r s on t.handle t.opened;
+      created = on.created ∙ t.created;
+      held = on.held ∙ t.held;
+      present = t.present;
+      taken = f.taken ∙ ap (λ (k : ℕ). k + f.count) t.taken ∙ sym (fed_here f.event 0 f.count _ _ t.events taken);
+      ended = ended_here f.event 0 f.count _ _ _ _ t.events taken f.marked t.ended;
+      reads = λ h told. read_here f.event _ 0 f.count _ _ t.events taken (t.reads h told);
+      first = t.first;
+    }
+
+-- The file was read on, and the machine was not fed.
+pub telling_read : {A : Type 0} (Came : List Event → A → Type 0) (machine : A) (start was is : State) (name : List ℕ) (r s : Reading) (page : List ℕ) → ReadsOn was is r s → TakesNone was is r s
+    → Telling Came start was name machine r page → Telling Came start is name machine s page
+telling_read Came machine start was is name r s page on none t = record {
+  events = t.events;
+  came = t.came;
+  early = t.early;
+  mid = t.mid;
+  met = t.met;
+  parts = t.parts;
+  said = on.said ∙ t.said;
+  handle = on.handle ∙ t.handle;
+  opened = read_further start was is r s on t.handle t.opened;
+  created = on.created ∙ t.created;
+  held = on.held ∙ t.held;
+  present = t.present;
+  taken = none.taken ∙ t.taken;
+  ended = none.ended ∙ t.ended;
+  reads = λ h told. read_same _ _ _ _ _ _ _ none.rest refl refl (t.reads h told);
+  first = t.first;
+}
+
+same_text : (o : Option (List ℕ)) → o ≡ option_map (λ said. said ++ []) o
+same_text None = refl
+same_text (Some said) = ap Some (sym (append-nil said))
+
+same_left : (o : Option (List ℕ)) → option_map (λ left. [] ++ left) o ≡ o
+same_left None = refl
+same_left (Some left) = refl
+
+-- A file was opened for a reader.
+pub telling_first : {A : Type 0} (Came : List Event → A → Type 0) (machine : A) (old new : State) (name : List ℕ) (handle : ℕ) (r : Reading) (page : List ℕ) → Opens old new name handle → r ≡ reading_from handle → page ≡ [] → Came [] machine
+    → Telling Came old new name machine r page
+telling_first Came machine old new name handle r page o is none came = record {
+  events = [];
+  came = came;
+  early = [];
+  mid = machine;
+  met = came;
+  parts = sym none;
+  said = o.said ∙ same_text old.said;
+  handle = ap (λ (r : Reading). r.handle) is ∙ o.number;
+  opened = o.opened ∙ ap (λ (n : ℕ). old.opened ++ n ∷ []) (sym (ap given_of is));
+  created = o.created;
+  held = o.held;
+  present = o.present;
+  taken = ap (λ (r : Reading). r.taken) is;
+  ended = ap (λ (r : Reading). r.ended) is;
+  reads = λ h told.
+      let there : IsSome (get h.files name) = of_some old.held h (λ h. IsSome (get h.files name)) told o.present in
+      record {
+        left = bytes_of h.files name;
+        rest_is = ap (rest_of new) is ∙ same_left (left_of new handle) ∙ o.left ∙ ap (option_and_then (λ h. get h.files name)) told ∙ is_there (get h.files name) there;
+        parts = refl;
+        end = λ on. absurd (let z : false ≡ true = on in cc);
+      };
+  first = λ h told. (bytes_of h.files name, refl);
+}
+
+-- what a run has told
+unfoldable pub tells_of : {A : Type 0} (Came : List Event → A → Type 0) (machine : A) (old new : State) (name : List ℕ) (r : Reading) (unsaid : List ℕ) → Telling Came old new name machine r unsaid → Tells Came old new name machine (given_of r) unsaid
+tells_of Came machine old new name r unsaid t = record {
+  events = t.events;
+  came = t.came;
+  early = t.early;
+  mid = t.mid;
+  met = t.met;
+  parts = t.parts;
+  said = t.said;
+  opened = record { present = t.present; held = t.held; opened = t.opened; created = t.created };
+  inputs = some_is old.held (λ h. IsFed (bytes_of h.files name) (given_of r) (fed 0 t.events) (has_ended 0 t.events)) (λ h told.
+      is_fed (bytes_of h.files name) r.waiting (fed 0 t.events) (left_of new r.handle) (has_ended 0 t.events) (given_of r) (ap (λ (n : ℕ). n + length r.waiting) t.taken) (t.reads h told));
+  first = some_is old.held (λ h. StartsWith (bytes_of h.files name) (fed 0 t.early)) t.first;
+}
+
+-- the one input
+pub is_zero : (input inputs : ℕ) → input < inputs → inputs ≡ 1 → input ≡ 0
+is_zero input inputs lt one = omega (arith, lt, one)
+
+-- the reader's handle is there
+pub place_within : {A : Type 0} (Came : List Event → A → Type 0) (start now : State) (name : List ℕ) (machine : A) (r : Reading) (page : List ℕ) → Telling Came start now name machine r page → r.handle < length now.opened
+place_within Came start now name machine r page t =
+    let n = ap length t.opened ∙ length_push start.opened (given_of r) in let h = t.handle in omega (arith, n, h)
+
+-- how far a file that gave too many bytes was read
+pub reads_far : {A : Type 0} (next : A → Step) (new old : A) (r s : Reading) (input least most : ℕ) → new ≡ old → next old ≡ Read input least most → input ≡ 0 → s.taken ≡ r.taken → given_of s ≡ most_bytes → given_of r < most_bytes
+    → ((limit : ℕ) → given_of r ≤ limit → r.taken + most ≤ limit → given_of s ≤ limit) → Reaches (next new) 0 (length s.waiting)
+reads_far next new old r s input least most same wants zero taken long short limit =
+    let top = limit (max (given_of r) (r.taken + most)) (omega arith) (omega arith) in
+    let far : length s.waiting ≤ most = omega (arith, top, long, short, taken) in
+    subst (λ (x : Step). Reaches x 0 (length s.waiting)) (sym (ap next same ∙ wants)) (zero, far)
+
+pub falls_short : {A : Type 0} (next : A → Step) (new old : A) (s : Reading) (input least most : ℕ) → new ≡ old → next old ≡ Read input least most → input ≡ 0 → length s.waiting < least → FallsShort (next new) 0 (length s.waiting)
+falls_short next new old s input least most same wants zero few = subst (λ (x : Step). FallsShort x 0 (length s.waiting)) (sym (ap next same ∙ wants)) (zero, few)

@@ -1,0 +1,89 @@
+-- What a run does that reads one named file and says what its machine gives.
+use Rattle.std.specs.Prelude.{◌≡◌, ◌⊎◌, ℕ, ◌-◌, ◌<◌, ◌≤◌, List, [], ◌∷◌, ◌++◌, length, IsSome, IfSome, option_map}
+use Rattle.std.specs.FinMap.{get}
+use Rattle.ports.specs.Counts.{Rose}
+use Rattle.ports.specs.Desk.{State, SameCounts, bytes_of, with_name}
+use Rattle.desk_io.specs.Faults.{ReadsFail, WritesFail}
+use Rattle.desk_io.specs.Reading.{most_bytes}
+use Rattle.file_run.specs.Events.{Event, fed, has_ended, gave}
+use Rattle.file_run.specs.FileRun.{IsFed}
+use Rattle.file_run.specs.Steps.{FallsShort}
+use Rattle.file_run.specs.declared.machine.Step.{Step}
+use Rattle.file_run.specs.declared.machine.Step.TheVariants.{Read, Give, End}
+use Rattle.file_run.specs.declared.stop.RunFault.{RunFault}
+use Rattle.file_run.specs.declared.stop.RunFault.TheVariants.{TooLong, ReadFault, WriteFault}
+
+-- The file was opened once, and reads gave so many of its bytes. No file changed, and none was created.
+pub record Opened (old new : State) (name : List ℕ) (given : ℕ) : Type 0 where
+  pub present : IfSome old.held (λ h. IsSome (get h.files name))
+  pub held : new.held ≡ option_map (with_name name) old.held
+  pub opened : new.opened ≡ old.opened ++ given ∷ []
+  pub created : new.created ≡ old.created
+
+-- No file was opened, and none created or changed, and nothing was said.
+pub record Unopened (old new : State) : Type 0 where
+  pub held : new.held ≡ old.held
+  pub opened : new.opened ≡ old.opened
+  pub created : new.created ≡ old.created
+  pub said : new.said ≡ old.said
+
+-- Bytes begin with some.
+abbrev pub StartsWith : List ℕ → List ℕ → Type 0
+StartsWith bytes front = (more : List ℕ) × (bytes ≡ front ++ more)
+
+-- The named file was opened and read up to a place, and its bytes were fed to a machine. All that it had given at some moment was said,
+-- and of what it gave since this was not said.
+pub record Tells {A : Type 0} (Came : List Event → A → Type 0) (old new : State) (name : List ℕ) (now : A) (place : ℕ) (unsaid : List ℕ) : Type 0 where
+  pub events : List Event
+  pub came : Came events now
+  pub early : List Event
+  pub mid : A
+  pub met : Came early mid
+  pub parts : gave events ≡ gave early ++ unsaid
+  pub said : new.said ≡ option_map (λ said. said ++ gave early) old.said
+  pub opened : Opened old new name place
+  pub inputs : IfSome old.held (λ h. IsFed (bytes_of h.files name) place (fed 0 events) (has_ended 0 events))
+  pub first : IfSome old.held (λ h. StartsWith (bytes_of h.files name) (fed 0 early))
+
+-- A run to the end of its machine: all that it gave was said.
+pub record TellsAll {A : Type 0} (Came : List Event → A → Type 0) (next : A → Step) (old new : State) (name : List ℕ) (now : A) : Type 0 where
+  pub place : ℕ
+  pub tells : Tells Came old new name now place []
+  pub end : next now ≡ End
+  pub short : place < most_bytes
+  pub counts : SameCounts old new
+
+-- What is wanted of an input, and read ahead of what is wanted, reaches so far.
+abbrev pub Reaches : Step → ℕ → ℕ → Type 0
+Reaches (Read of least most) input count = (of ≡ input) × (count ≤ most)
+Reaches Give input count = ⊥
+Reaches End input count = ⊥
+
+-- The file gave as many bytes as none may have, and the machine wants more. All that it gave was said.
+pub record TellsTooMuch {A : Type 0} (Came : List Event → A → Type 0) (next : A → Step) (old new : State) (name : List ℕ) (now : A) : Type 0 where
+  pub tells : Tells Came old new name now most_bytes []
+  pub wants : Reaches (next now) 0 (most_bytes - length (fed 0 tells.events))
+  pub counts : SameCounts old new
+
+-- The file could not be read on, and the machine wants more than was read. What it gave was said then, unless that failed too.
+pub record TellsUntilFault {A : Type 0} (Came : List Event → A → Type 0) (next : A → Step) (old new : State) (name : List ℕ) (now : A) : Type 0 where
+  pub place : ℕ
+  pub unsaid : List ℕ
+  pub tells : Tells Came old new name now place unsaid
+  pub wants : FallsShort (next now) 0 (place - length (fed 0 tells.events))
+  pub short : place < most_bytes
+  pub all : ((unsaid ≡ []) × (new.counts.writes ≡ old.counts.writes)) ⊎ Rose old.counts.writes new.counts.writes
+
+-- The count of reading rose, before that of writing did, if it did; that of last lines stayed.
+pub record ReadsFailFirst (old new : State) : Type 0 where
+  pub rose : Rose old.counts.reads new.counts.reads
+  pub reads : old.counts.reads ≤ new.counts.reads
+  pub writes : old.counts.writes ≤ new.counts.writes
+  pub lines : new.counts.lines ≡ old.counts.lines
+
+-- A run that did not come to the end of its machine, or could not say all, by its cause.
+abbrev pub StopsTelling : {A : Type 0} → (List Event → A → Type 0) → (A → Step) → State → State → List ℕ → A → RunFault → Type 0
+StopsTelling Came next old new name now (TooLong input) = (input ≡ 0) × TellsTooMuch Came next old new name now
+StopsTelling Came next old new name now (ReadFault input) = (input ≡ 0)
+    × ((ReadsFail old new × Unopened old new) ⊎ (ReadsFailFirst old new × TellsUntilFault Came next old new name now))
+StopsTelling Came next old new name now WriteFault = WritesFail old new × ((place : ℕ) × (unsaid : List ℕ) × Tells Came old new name now place unsaid × (place ≤ most_bytes))
