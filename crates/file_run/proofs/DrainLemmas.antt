@@ -51,7 +51,7 @@ drained_all law Becomes old new was now is out place waiting d same a = record {
 }
 
 -- some bytes stay some where more follow
-still_some : (xs ys : List ℕ) → xs ≢ [] → xs ++ ys ≢ []
+pub still_some : (xs ys : List ℕ) → xs ≢ [] → xs ++ ys ≢ []
 still_some xs ys some e = some (nil_from_length xs (let n = ap length e in omega (arith, n, length-append xs ys)))
 
 -- A front of what waits was written, and then bytes were given, or none.

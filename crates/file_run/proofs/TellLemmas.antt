@@ -10,7 +10,7 @@ use Rattle.file_run.specs.Running.{IsRead, IsTaken, Feeds, reading_from}
 use Rattle.file_run.specs.Telling.{StartsWith, Tells, Reaches}
 use Rattle.file_run.specs.Steps.{FallsShort}
 use Rattle.file_run.specs.declared.machine.Step.{Step}
-use Rattle.file_run.specs.declared.machine.Step.TheVariants.{Read}
+use Rattle.file_run.specs.declared.machine.Step.TheVariants.{Read, Give}
 use Rattle.std.proofs.lemmas.List.{length_push}
 use Rattle.file_run.specs.TellingOn.{Telling, GivesWay}
 use Rattle.file_run.proofs.DrainLemmas.{Gives}
@@ -32,10 +32,10 @@ pub twice : (o : Option (List ℕ)) (x y : List ℕ) → option_map (λ said. sa
 twice None x y = refl
 twice (Some said) x y = ap Some (append_assoc said x y)
 
--- a piece went onto the page
-pub page_grown : {A : Type 0} (Becomes : A → List Event → A → Type 0) (begin old new : A) (start was is : State) (name : List ℕ) (r : Reading) (waiting piece : List ℕ) → Gives Becomes old new piece → Keeps was is
-    → Telling (Becomes begin) start was name old r waiting → Telling (Becomes begin) start is name new r (waiting ++ piece)
-page_grown Becomes begin old new start was is name r waiting piece gives keeps t =
+-- a piece went onto the page, and the machine gave then or nothing was said
+grown : {A : Type 0} (Becomes : A → List Event → A → Type 0) (next : A → Step) (begin old new : A) (start was is : State) (name : List ℕ) (r : Reading) (waiting piece : List ℕ) → Gives Becomes old new piece → Keeps was is
+    → (t : Telling (Becomes begin) next start was name old r waiting) → (t.early ≡ []) ⊎ (next t.mid ≡ Give) → Telling (Becomes begin) next start is name new r (waiting ++ piece)
+grown Becomes next begin old new start was is name r waiting piece gives keeps t going =
     let more = gave_piece piece t.events in
     record {
       events = t.events ++ Gave piece ∷ [];
@@ -44,6 +44,7 @@ page_grown Becomes begin old new start was is name r waiting piece gives keeps t
       mid = t.mid;
       met = t.met;
       parts = more.gave ∙ ap (λ (l : List ℕ). l ++ piece) t.parts ∙ append_assoc (gave t.early) waiting piece;
+      going = inr going;
       said = keeps.said ∙ t.said;
       handle = t.handle;
       opened = keeps.opened ∙ t.opened;
@@ -56,16 +57,51 @@ page_grown Becomes begin old new start was is name r waiting piece gives keeps t
       first = t.first;
     }
 
--- All that waited was said.
-unfoldable pub all_said : {A : Type 0} (Came : List Event → A → Type 0) (machine : A) (start was is : State) (name : List ℕ) (r : Reading) (waiting : List ℕ) → Says was is waiting
-    → Telling Came start was name machine r waiting → Telling Came start is name machine r []
-all_said Came machine start was is name r waiting says t = record {
+-- Where nothing waits, all that the machine gave so far is said.
+unfoldable caught_up : {A : Type 0} (Came : List Event → A → Type 0) (next : A → Step) (machine : A) (start now : State) (name : List ℕ) (r : Reading) → Telling Came next start now name machine r [] → Telling Came next start now name machine r []
+caught_up Came next machine start now name r t = record {
   events = t.events;
   came = t.came;
   early = t.events;
   mid = machine;
   met = t.came;
   parts = sym (append-nil (gave t.events));
+  going = inl refl;
+  said = t.said ∙ ap (λ (l : List ℕ). option_map (λ said. said ++ l) start.said) (sym (t.parts ∙ append-nil (gave t.early)));
+  handle = t.handle;
+  opened = t.opened;
+  created = t.created;
+  held = t.held;
+  present = t.present;
+  taken = t.taken;
+  ended = t.ended;
+  reads = t.reads;
+  first = λ h told. let rest = t.reads h told in (rest.left, rest.parts);
+}
+
+still_going : {A : Type 0} (next : A → Step) (mid : A) (early : List Event) (x : ℕ) (xs : List ℕ) → (x ∷ xs ≡ []) ⊎ ((early ≡ []) ⊎ (next mid ≡ Give)) → (early ≡ []) ⊎ (next mid ≡ Give)
+still_going next mid early x xs (inl none) = absurd (let e : x ∷ xs ≡ [] = none in cc)
+still_going next mid early x xs (inr going) = going
+
+pub page_grown : {A : Type 0} (Becomes : A → List Event → A → Type 0) (next : A → Step) (begin old new : A) (start was is : State) (name : List ℕ) (r : Reading) (waiting piece : List ℕ) → Gives Becomes old new piece → Keeps was is
+    → next old ≡ Give → Telling (Becomes begin) next start was name old r waiting → Telling (Becomes begin) next start is name new r (waiting ++ piece)
+unfolding caught_up
+page_grown Becomes next begin old new start was is name r [] piece gives keeps giving t =
+    grown Becomes next begin old new start was is name r [] piece gives keeps (caught_up (Becomes begin) next old start was name r t) (inr giving)
+page_grown Becomes next begin old new start was is name r (x ∷ xs) piece gives keeps giving t =
+    grown Becomes next begin old new start was is name r (x ∷ xs) piece gives keeps t (still_going next t.mid t.early x xs t.going)
+
+-- All that waited was said.
+unfoldable pub all_said : {A : Type 0} (Came : List Event → A → Type 0) (next : A → Step) (machine : A) (start was is : State) (name : List ℕ) (r : Reading) (waiting : List ℕ) → Says was is waiting
+    → Telling Came next start was name machine r waiting → Telling Came next start is name machine r []
+all_said Came next machine start was is name r waiting says t = record {
+  events = t.events;
+  came = t.came;
+  early = t.events;
+  mid = machine;
+  met = t.came;
+  parts = sym (append-nil (gave t.events));
+  going = inl refl;
   said = says.said ∙ ap (option_map (λ said. said ++ waiting)) t.said ∙ twice start.said (gave t.early) waiting ∙ ap (λ (l : List ℕ). option_map (λ said. said ++ l) start.said) (sym t.parts);
   handle = t.handle;
   opened = says.opened ∙ t.opened;
@@ -79,15 +115,16 @@ all_said Came machine start was is name r waiting says t = record {
 }
 
 -- Nothing but counts changed.
-unfoldable pub telling_kept : {A : Type 0} (Came : List Event → A → Type 0) (machine : A) (start was is : State) (name : List ℕ) (r : Reading) (page : List ℕ) → Keeps was is
-    → Telling Came start was name machine r page → Telling Came start is name machine r page
-telling_kept Came machine start was is name r page keeps t = record {
+unfoldable pub telling_kept : {A : Type 0} (Came : List Event → A → Type 0) (next : A → Step) (machine : A) (start was is : State) (name : List ℕ) (r : Reading) (page : List ℕ) → Keeps was is
+    → Telling Came next start was name machine r page → Telling Came next start is name machine r page
+telling_kept Came next machine start was is name r page keeps t = record {
   events = t.events;
   came = t.came;
   early = t.early;
   mid = t.mid;
   met = t.met;
   parts = t.parts;
+  going = t.going;
   handle = t.handle;
   present = t.present;
   taken = t.taken;
@@ -103,18 +140,18 @@ telling_kept Came machine start was is name r page keeps t = record {
 none_kept : (s : State) → Keeps s s
 none_kept s = record { held = refl; said = refl; opened = refl; created = refl }
 
-pub gathered : {A : Type 0} (Becomes : A → List Event → A → Type 0) (begin old new : A) (start was is : State) (name : List ℕ) (r : Reading) (waiting left piece : List ℕ) → Gives Becomes old new piece
-    → GivesWay was is waiting left piece → Telling (Becomes begin) start was name old r waiting → Telling (Becomes begin) start is name new r left
-gathered Becomes begin old new start was is name r waiting left piece gives (inl kept) t =
-    subst (λ (l : List ℕ). Telling (Becomes begin) start is name new r l) (sym kept.1) (page_grown Becomes begin old new start was is name r waiting piece gives kept.0 t)
-gathered Becomes begin old new start was is name r waiting left piece gives (inr said) t =
-    subst (λ (l : List ℕ). Telling (Becomes begin) start is name new r l) (sym said.1)
-    (page_grown Becomes begin old new start is is name r [] piece gives (none_kept is) (all_said (Becomes begin) old start was is name r waiting said.0 t))
+pub gathered : {A : Type 0} (Becomes : A → List Event → A → Type 0) (next : A → Step) (begin old new : A) (start was is : State) (name : List ℕ) (r : Reading) (waiting left piece : List ℕ) → Gives Becomes old new piece
+    → GivesWay was is waiting left piece → next old ≡ Give → Telling (Becomes begin) next start was name old r waiting → Telling (Becomes begin) next start is name new r left
+gathered Becomes next begin old new start was is name r waiting left piece gives (inl kept) giving t =
+    subst (λ (l : List ℕ). Telling (Becomes begin) next start is name new r l) (sym kept.1) (page_grown Becomes next begin old new start was is name r waiting piece gives kept.0 giving t)
+gathered Becomes next begin old new start was is name r waiting left piece gives (inr said) giving t =
+    subst (λ (l : List ℕ). Telling (Becomes begin) next start is name new r l) (sym said.1)
+    (page_grown Becomes next begin old new start is is name r [] piece gives (none_kept is) giving (all_said (Becomes begin) next old start was is name r waiting said.0 t))
 
 -- The machine was fed.
-pub telling_fed : {A : Type 0} (Becomes : A → List Event → A → Type 0) (begin old new : A) (start was is : State) (name : List ℕ) (r s : Reading) (input : ℕ) (page : List ℕ) → input ≡ 0 → ReadsOn was is r s → Feeds Becomes old new was is r s input
-    → Telling (Becomes begin) start was name old r page → Telling (Becomes begin) start is name new s page
-telling_fed Becomes begin old new start was is name r s input page zero on f t =
+pub telling_fed : {A : Type 0} (Becomes : A → List Event → A → Type 0) (next : A → Step) (begin old new : A) (start was is : State) (name : List ℕ) (r s : Reading) (input : ℕ) (page : List ℕ) → input ≡ 0 → ReadsOn was is r s → Feeds Becomes old new was is r s input
+    → Telling (Becomes begin) next start was name old r page → Telling (Becomes begin) next start is name new s page
+telling_fed Becomes next begin old new start was is name r s input page zero on f t =
     let taken = subst (λ (k : ℕ). IsTaken f.event k (rest_of was r) (rest_of is s) f.count) zero f.is_taken in
     record {
       events = t.events ++ f.event ∷ [];
@@ -122,6 +159,7 @@ telling_fed Becomes begin old new start was is name r s input page zero on f t =
       early = t.early;
       mid = t.mid;
       met = t.met;
+      going = t.going;
       parts = gives_none f.event 0 f.count _ _ t.events taken ∙ t.parts;
       said = on.said ∙ t.said;
       handle = on.handle ∙ t.handle;
@@ -136,15 +174,16 @@ telling_fed Becomes begin old new start was is name r s input page zero on f t =
     }
 
 -- The file was read on, and the machine was not fed.
-pub telling_read : {A : Type 0} (Came : List Event → A → Type 0) (machine : A) (start was is : State) (name : List ℕ) (r s : Reading) (page : List ℕ) → ReadsOn was is r s → TakesNone was is r s
-    → Telling Came start was name machine r page → Telling Came start is name machine s page
-telling_read Came machine start was is name r s page on none t = record {
+pub telling_read : {A : Type 0} (Came : List Event → A → Type 0) (next : A → Step) (machine : A) (start was is : State) (name : List ℕ) (r s : Reading) (page : List ℕ) → ReadsOn was is r s → TakesNone was is r s
+    → Telling Came next start was name machine r page → Telling Came next start is name machine s page
+telling_read Came next machine start was is name r s page on none t = record {
   events = t.events;
   came = t.came;
   early = t.early;
   mid = t.mid;
   met = t.met;
   parts = t.parts;
+  going = t.going;
   said = on.said ∙ t.said;
   handle = on.handle ∙ t.handle;
   opened = read_further start was is r s on t.handle t.opened;
@@ -166,15 +205,16 @@ same_left None = refl
 same_left (Some left) = refl
 
 -- A file was opened for a reader.
-pub telling_first : {A : Type 0} (Came : List Event → A → Type 0) (machine : A) (old new : State) (name : List ℕ) (handle : ℕ) (r : Reading) (page : List ℕ) → Opens old new name handle → r ≡ reading_from handle → page ≡ [] → Came [] machine
-    → Telling Came old new name machine r page
-telling_first Came machine old new name handle r page o is none came = record {
+pub telling_first : {A : Type 0} (Came : List Event → A → Type 0) (next : A → Step) (machine : A) (old new : State) (name : List ℕ) (handle : ℕ) (r : Reading) (page : List ℕ) → Opens old new name handle → r ≡ reading_from handle → page ≡ [] → Came [] machine
+    → Telling Came next old new name machine r page
+telling_first Came next machine old new name handle r page o is none came = record {
   events = [];
   came = came;
   early = [];
   mid = machine;
   met = came;
   parts = sym none;
+  going = inl none;
   said = o.said ∙ same_text old.said;
   handle = ap (λ (r : Reading). r.handle) is ∙ o.number;
   opened = o.opened ∙ ap (λ (n : ℕ). old.opened ++ n ∷ []) (sym (ap given_of is));
@@ -195,14 +235,15 @@ telling_first Came machine old new name handle r page o is none came = record {
 }
 
 -- what a run has told
-unfoldable pub tells_of : {A : Type 0} (Came : List Event → A → Type 0) (machine : A) (old new : State) (name : List ℕ) (r : Reading) (unsaid : List ℕ) → Telling Came old new name machine r unsaid → Tells Came old new name machine (given_of r) unsaid
-tells_of Came machine old new name r unsaid t = record {
+unfoldable pub tells_of : {A : Type 0} (Came : List Event → A → Type 0) (next : A → Step) (machine : A) (old new : State) (name : List ℕ) (r : Reading) (unsaid : List ℕ) → Telling Came next old new name machine r unsaid → Tells Came next old new name machine (given_of r) unsaid
+tells_of Came next machine old new name r unsaid t = record {
   events = t.events;
   came = t.came;
   early = t.early;
   mid = t.mid;
   met = t.met;
   parts = t.parts;
+  going = t.going;
   said = t.said;
   opened = record { present = t.present; held = t.held; opened = t.opened; created = t.created };
   inputs = some_is old.held (λ h. IsFed (bytes_of h.files name) (given_of r) (fed 0 t.events) (has_ended 0 t.events)) (λ h told.
@@ -215,8 +256,8 @@ pub is_zero : (input inputs : ℕ) → input < inputs → inputs ≡ 1 → input
 is_zero input inputs lt one = omega (arith, lt, one)
 
 -- the reader's handle is there
-pub place_within : {A : Type 0} (Came : List Event → A → Type 0) (start now : State) (name : List ℕ) (machine : A) (r : Reading) (page : List ℕ) → Telling Came start now name machine r page → r.handle < length now.opened
-place_within Came start now name machine r page t =
+pub place_within : {A : Type 0} (Came : List Event → A → Type 0) (next : A → Step) (start now : State) (name : List ℕ) (machine : A) (r : Reading) (page : List ℕ) → Telling Came next start now name machine r page → r.handle < length now.opened
+place_within Came next start now name machine r page t =
     let n = ap length t.opened ∙ length_push start.opened (given_of r) in let h = t.handle in omega (arith, n, h)
 
 -- how far a file that gave too many bytes was read

@@ -1,5 +1,5 @@
 -- What a run does that reads one named file and says what its machine gives.
-use Rattle.std.specs.Prelude.{◌≡◌, ◌⊎◌, ℕ, ◌-◌, ◌<◌, ◌≤◌, List, [], ◌∷◌, ◌++◌, length, IsSome, IfSome, option_map}
+use Rattle.std.specs.Prelude.{◌≡◌, ◌≢◌, ◌⊎◌, ℕ, ◌-◌, ◌<◌, ◌≤◌, List, [], ◌∷◌, ◌++◌, length, IsSome, IfSome, option_map}
 use Rattle.std.specs.FinMap.{get}
 use Rattle.ports.specs.Counts.{Rose}
 use Rattle.ports.specs.Desk.{State, SameCounts, bytes_of, with_name}
@@ -33,13 +33,14 @@ StartsWith bytes front = (more : List ℕ) × (bytes ≡ front ++ more)
 
 -- The named file was opened and read up to a place, and its bytes were fed to a machine. All that it had given at some moment was said,
 -- and of what it gave since this was not said.
-pub record Tells {A : Type 0} (Came : List Event → A → Type 0) (old new : State) (name : List ℕ) (now : A) (place : ℕ) (unsaid : List ℕ) : Type 0 where
+pub record Tells {A : Type 0} (Came : List Event → A → Type 0) (next : A → Step) (old new : State) (name : List ℕ) (now : A) (place : ℕ) (unsaid : List ℕ) : Type 0 where
   pub events : List Event
   pub came : Came events now
   pub early : List Event
   pub mid : A
   pub met : Came early mid
   pub parts : gave events ≡ gave early ++ unsaid
+  pub going : (unsaid ≡ []) ⊎ ((early ≡ []) ⊎ (next mid ≡ Give))
   pub said : new.said ≡ option_map (λ said. said ++ gave early) old.said
   pub opened : Opened old new name place
   pub inputs : IfSome old.held (λ h. IsFed (bytes_of h.files name) place (fed 0 events) (has_ended 0 events))
@@ -48,7 +49,7 @@ pub record Tells {A : Type 0} (Came : List Event → A → Type 0) (old new : St
 -- A run to the end of its machine: all that it gave was said.
 pub record TellsAll {A : Type 0} (Came : List Event → A → Type 0) (next : A → Step) (old new : State) (name : List ℕ) (now : A) : Type 0 where
   pub place : ℕ
-  pub tells : Tells Came old new name now place []
+  pub tells : Tells Came next old new name now place []
   pub end : next now ≡ End
   pub short : place < most_bytes
   pub counts : SameCounts old new
@@ -61,7 +62,7 @@ Reaches End input count = ⊥
 
 -- The file gave as many bytes as none may have, and the machine wants more. All that it gave was said.
 pub record TellsTooMuch {A : Type 0} (Came : List Event → A → Type 0) (next : A → Step) (old new : State) (name : List ℕ) (now : A) : Type 0 where
-  pub tells : Tells Came old new name now most_bytes []
+  pub tells : Tells Came next old new name now most_bytes []
   pub wants : Reaches (next now) 0 (most_bytes - length (fed 0 tells.events))
   pub counts : SameCounts old new
 
@@ -69,7 +70,7 @@ pub record TellsTooMuch {A : Type 0} (Came : List Event → A → Type 0) (next 
 pub record TellsUntilFault {A : Type 0} (Came : List Event → A → Type 0) (next : A → Step) (old new : State) (name : List ℕ) (now : A) : Type 0 where
   pub place : ℕ
   pub unsaid : List ℕ
-  pub tells : Tells Came old new name now place unsaid
+  pub tells : Tells Came next old new name now place unsaid
   pub wants : FallsShort (next now) 0 (place - length (fed 0 tells.events))
   pub short : place < most_bytes
   pub all : ((unsaid ≡ []) × (new.counts.writes ≡ old.counts.writes)) ⊎ Rose old.counts.writes new.counts.writes
@@ -81,9 +82,9 @@ pub record ReadsFailFirst (old new : State) : Type 0 where
   pub writes : old.counts.writes ≤ new.counts.writes
   pub lines : new.counts.lines ≡ old.counts.lines
 
--- A run that did not come to the end of its machine, or could not say all, by its cause.
+-- A run that did not come to the end of its machine, or could not say all, by its cause. After a fault of writing some bytes are not said.
 abbrev pub StopsTelling : {A : Type 0} → (List Event → A → Type 0) → (A → Step) → State → State → List ℕ → A → RunFault → Type 0
 StopsTelling Came next old new name now (TooLong input) = (input ≡ 0) × TellsTooMuch Came next old new name now
 StopsTelling Came next old new name now (ReadFault input) = (input ≡ 0)
     × ((ReadsFail old new × Unopened old new) ⊎ (ReadsFailFirst old new × TellsUntilFault Came next old new name now))
-StopsTelling Came next old new name now WriteFault = WritesFail old new × ((place : ℕ) × (unsaid : List ℕ) × Tells Came old new name now place unsaid × (place ≤ most_bytes))
+StopsTelling Came next old new name now WriteFault = WritesFail old new × ((place : ℕ) × (unsaid : List ℕ) × Tells Came next old new name now place unsaid × (unsaid ≢ []) × (place ≤ most_bytes))

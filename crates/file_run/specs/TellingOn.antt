@@ -1,5 +1,5 @@
 -- How far a run has come that says what its machine gives. No public clause cites this module.
-use Rattle.std.specs.Prelude.{◌≡◌, ◌⊎◌, ℕ, ◌<◌, List, [], ◌∷◌, ◌++◌, length, IsSome, IfSome, Some, option_map, Result, Ok, Err}
+use Rattle.std.specs.Prelude.{◌≡◌, ◌≢◌, ◌⊎◌, ℕ, ◌<◌, List, [], ◌∷◌, ◌++◌, length, IsSome, IfSome, Some, option_map, Result, Ok, Err}
 use Rattle.std.specs.FinMap.{get}
 use Rattle.ports.specs.Desk.{State, Held, SameCounts, Keeps, Says, bytes_of, with_name}
 use Rattle.desk_io.specs.Faults.{ReadsFail, WritesFail}
@@ -8,7 +8,7 @@ use Rattle.file_run.specs.Events.{Event, fed, has_ended, gave}
 use Rattle.file_run.specs.Running.{IsRead}
 use Rattle.file_run.specs.Telling.{StartsWith, Reaches}
 use Rattle.file_run.specs.declared.machine.Step.{Step}
-use Rattle.file_run.specs.declared.machine.Step.TheVariants.{End}
+use Rattle.file_run.specs.declared.machine.Step.TheVariants.{Give, End}
 use Rattle.file_run.specs.declared.stop.RunFault.{RunFault}
 use Rattle.file_run.specs.declared.stop.RunFault.TheVariants.{TooLong, ReadFault, WriteFault}
 use Rattle.file_run.specs.Steps.{FallsShort}
@@ -18,13 +18,14 @@ abbrev pub GivesWay : State → State → List ℕ → List ℕ → List ℕ →
 GivesWay old new waiting left piece = (Keeps old new × (left ≡ waiting ++ piece)) ⊎ (Says old new waiting × (left ≡ piece))
 
 -- A file was opened and read by a reader, its bytes were fed to a machine, and of what it gave these bytes were not said.
-pub record Telling {A : Type 0} (Came : List Event → A → Type 0) (start now : State) (name : List ℕ) (machine : A) (r : Reading) (unsaid : List ℕ) : Type 0 where
+pub record Telling {A : Type 0} (Came : List Event → A → Type 0) (next : A → Step) (start now : State) (name : List ℕ) (machine : A) (r : Reading) (unsaid : List ℕ) : Type 0 where
   pub events : List Event
   pub came : Came events machine
   pub early : List Event
   pub mid : A
   pub met : Came early mid
   pub parts : gave events ≡ gave early ++ unsaid
+  pub going : (unsaid ≡ []) ⊎ ((early ≡ []) ⊎ (next mid ≡ Give))
   pub said : now.said ≡ option_map (λ said. said ++ gave early) start.said
   pub handle : r.handle ≡ length start.opened
   pub opened : now.opened ≡ start.opened ++ given_of r ∷ []
@@ -37,11 +38,11 @@ pub record Telling {A : Type 0} (Came : List Event → A → Type 0) (start now 
   pub first : (h : Held) → start.held ≡ Some h → StartsWith (bytes_of h.files name) (fed 0 early)
 
 -- A run was begun in which no call failed.
-pub record HasBegun {A : Type 0} (Becomes : A → List Event → A → Type 0) (inputs : A → ℕ) (now : State) (machine : A) (r : Reading) (page : List ℕ) : Type 0 where
+pub record HasBegun {A : Type 0} (Becomes : A → List Event → A → Type 0) (next : A → Step) (inputs : A → ℕ) (now : State) (machine : A) (r : Reading) (page : List ℕ) : Type 0 where
   pub begin : A
   pub start : State
   pub name : List ℕ
-  pub telling : Telling (Becomes begin) start now name machine r page
+  pub telling : Telling (Becomes begin) next start now name machine r page
   pub one : inputs begin ≡ 1
   pub short : given_of r < most_bytes
 
@@ -61,11 +62,11 @@ Breaks next old new machine r WriteFault = (given_of r < most_bytes) × WritesFa
 abbrev pub SaysLeft : State → State → List ℕ → Type 0
 SaysLeft old new page = Says old new page × SameCounts old new
 
-abbrev pub LosesLeft : State → State → Type 0
-LosesLeft old new = Keeps old new × WritesFail old new
+abbrev pub LosesLeft : State → State → List ℕ → Type 0
+LosesLeft old new page = Keeps old new × WritesFail old new × (page ≢ [])
 
 -- The first fault is how the run ended.
 abbrev pub TellsLast : {T : Type 0} → State → State → List ℕ → Result T RunFault → Result T RunFault → Type 0
 TellsLast old new page (Err WriteFault) result = (result ≡ Err WriteFault) × (new ≡ old)
-TellsLast old new page (Err (ReadFault input)) result = (result ≡ Err (ReadFault input)) × (SaysLeft old new page ⊎ LosesLeft old new)
-TellsLast old new page told result = ((result ≡ told) × SaysLeft old new page) ⊎ ((result ≡ Err WriteFault) × LosesLeft old new)
+TellsLast old new page (Err (ReadFault input)) result = (result ≡ Err (ReadFault input)) × (SaysLeft old new page ⊎ LosesLeft old new page)
+TellsLast old new page told result = ((result ≡ told) × SaysLeft old new page) ⊎ ((result ≡ Err WriteFault) × LosesLeft old new page)

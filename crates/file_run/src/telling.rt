@@ -1,5 +1,5 @@
 // Saying what a machine gives.
-ghost use Rattle.std.specs.Prelude.{◌≡◌, ◌≢◌, ◌≤◌, ℕ, List, [], length, IfErr, OnOk, OnErr};
+ghost use Rattle.std.specs.Prelude.{◌≡◌, ◌≢◌, ◌≤◌, ◌++◌, ℕ, List, [], length, IfErr, OnOk, OnErr};
 ghost use Rattle.ports.specs.Counts.{MayFailWriting};
 ghost use Rattle.ports.specs.Desk.{State, Keeps, Says};
 ghost use Rattle.desk_io.specs.Reading.{Reading};
@@ -17,6 +17,7 @@ fn say_page<D: Desk>(desk: &mut D, page: &mut Page) -> Result<(), DeskFault>
     ensures ok { OnOk result (Says (D.state desk.old) (D.state desk.new) page.old) }
     ensures err { OnErr result (Keeps (D.state desk.old) (D.state desk.new)) }
     ensures page { page.new ≡ [] }
+    ensures some { OnErr result (page.old ≢ []) }
     ensures counts { MayFailWriting (D.state desk.old).counts (D.state desk.new).counts result }
 {
     if page.is_empty() {
@@ -32,6 +33,7 @@ fn push_piece<D: Desk>(desk: &mut D, page: &mut Page, piece: &[u8]) -> Result<()
     requires few { length piece.now ≤ PAGE }
     ensures ok { OnOk result (GivesWay (D.state desk.old) (D.state desk.new) page.old page.new piece.now) }
     ensures err { OnErr result (Keeps (D.state desk.old) (D.state desk.new)) }
+    ensures some { OnErr result (page.old ++ piece.now ≢ []) }
     ensures counts { MayFailWriting (D.state desk.old).counts (D.state desk.new).counts result }
 {
     if page.len() + piece.len() <= PAGE {
@@ -50,10 +52,10 @@ fn gather<M: Machine, D: Desk>(
     page: &mut Page,
     desk: &mut D,
 ) -> Result<(), DeskFault>
-    ensures ok { OnOk result ((begin : M) (start : State) (name : List ℕ) (r : Reading) → Telling (M.Becomes begin) start (D.state desk.old) name machine.old r page.old
-        → Telling (M.Becomes begin) start (D.state desk.new) name machine.new r page.new) }
-    ensures err { OnErr result ((begin : M) (start : State) (name : List ℕ) (r : Reading) → Telling (M.Becomes begin) start (D.state desk.old) name machine.old r page.old
-        → (unsaid : List ℕ) × Telling (M.Becomes begin) start (D.state desk.new) name machine.new r unsaid) }
+    ensures ok { OnOk result ((begin : M) (start : State) (name : List ℕ) (r : Reading) → Telling (M.Becomes begin) M.next start (D.state desk.old) name machine.old r page.old
+        → Telling (M.Becomes begin) M.next start (D.state desk.new) name machine.new r page.new) }
+    ensures err { OnErr result ((begin : M) (start : State) (name : List ℕ) (r : Reading) → Telling (M.Becomes begin) M.next start (D.state desk.old) name machine.old r page.old
+        → (unsaid : List ℕ) × Telling (M.Becomes begin) M.next start (D.state desk.new) name machine.new r unsaid × (unsaid ≢ [])) }
     ensures dry { OnOk result (M.next machine.new ≢ Step.Give) }
     ensures counts { MayFailWriting (D.state desk.old).counts (D.state desk.new).counts result }
 {
@@ -71,12 +73,12 @@ fn tell_on<M: Machine, D: Desk>(
     page: &mut Page,
     desk: &mut D,
 ) -> Result<(), RunFault>
-    requires begun { HasBegun M.Becomes M.inputs (D.state desk.old) machine.old reader.old page.old }
-    ensures ok { OnOk result ((begin : M) (start : State) (name : List ℕ) → Telling (M.Becomes begin) start (D.state desk.old) name machine.old reader.old page.old
-        → Telling (M.Becomes begin) start (D.state desk.new) name machine.new reader.new page.new) }
+    requires begun { HasBegun M.Becomes M.next M.inputs (D.state desk.old) machine.old reader.old page.old }
+    ensures ok { OnOk result ((begin : M) (start : State) (name : List ℕ) → Telling (M.Becomes begin) M.next start (D.state desk.old) name machine.old reader.old page.old
+        → Telling (M.Becomes begin) M.next start (D.state desk.new) name machine.new reader.new page.new) }
     ensures end { OnOk result (Finishes M.next (D.state desk.old) (D.state desk.new) machine.new reader.new) }
-    ensures err { IfErr result (λ why. (begin : M) (start : State) (name : List ℕ) → Telling (M.Becomes begin) start (D.state desk.old) name machine.old reader.old page.old
-        → (unsaid : List ℕ) × Telling (M.Becomes begin) start (D.state desk.new) name machine.new reader.new unsaid × (why ≢ RunFault.WriteFault → unsaid ≡ page.new)) }
+    ensures err { IfErr result (λ why. (begin : M) (start : State) (name : List ℕ) → Telling (M.Becomes begin) M.next start (D.state desk.old) name machine.old reader.old page.old
+        → (unsaid : List ℕ) × Telling (M.Becomes begin) M.next start (D.state desk.new) name machine.new reader.new unsaid × (why ≢ RunFault.WriteFault → unsaid ≡ page.new) × (why ≡ RunFault.WriteFault → unsaid ≢ [])) }
     ensures cause { IfErr result (Breaks M.next (D.state desk.old) (D.state desk.new) machine.new reader.new) }
 {
     let mut piece = [0; PIECE];

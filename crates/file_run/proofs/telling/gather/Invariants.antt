@@ -6,8 +6,8 @@ use Rattle.file_run.proofs.telling.gather.Given as goal
 
 abbrev pub invariant-loop-machine : goal.invariant-loop-machine
 invariant-loop-machine g l = record {
-  telling : (begin : g.row.M.Denot) (start : State) (name : List ℕ) (r : Reading) → Telling (g.M.Machine.Becomes begin) start (g.D.Desk.state l.initial.desk) name l.initial.machine r l.initial.page
-      → Telling (g.M.Machine.Becomes begin) start (g.D.Desk.state l.desk) name l.machine r l.page;
+  telling : (begin : g.row.M.Denot) (start : State) (name : List ℕ) (r : Reading) → Telling (g.M.Machine.Becomes begin) g.M.Machine.next start (g.D.Desk.state l.initial.desk) name l.initial.machine r l.initial.page
+      → Telling (g.M.Machine.Becomes begin) g.M.Machine.next start (g.D.Desk.state l.desk) name l.machine r l.page;
   counts : SameCounts (g.D.Desk.state l.initial.desk) (g.D.Desk.state l.desk);
 }
 

@@ -1,13 +1,14 @@
 use Rattle.std.proofs.Common.{◌≡◌, ◌<◌, ℕ, length, ap, sym, subst, refl, ◌∙◌, arith}
 use Rattle.file_run.specs.Events.{fed, has_ended}
 use Rattle.file_run.specs.TellingOn.{Telling}
+use Rattle.file_run.specs.declared.stop.RunFault.TheVariants.{TooLong, ReadFault, WriteFault}
 use Rattle.ports.specs.Desk.{State}
 use Rattle.file_run.proofs.OpenLemmas.{reads_fail}
 use Rattle.file_run.proofs.TellLemmas.{telling_fed, telling_read, place_within, is_zero, reads_far, falls_short}
 use Rattle.file_run.proofs.telling.tell_on.Goals as goal
 
 pub returns-in-Err-clause-err : goal.returns-in-Err-clause-err
-returns-in-Err-clause-err g c = λ begin start name t. let lost = c.in-Err.ensures.err begin start name c.args.reader.now t in (lost.0, lost.1, λ other. absurd (other refl))
+returns-in-Err-clause-err g c = λ begin start name t. let lost = c.in-Err.ensures.err begin start name c.args.reader.now t in (lost.0, lost.1, (λ other. absurd (other refl)), λ same. lost.2)
 
 pub feed-requires-clause-within : goal.feed-requires-clause-within
 feed-requires-clause-within g c =
@@ -19,7 +20,7 @@ feed-requires-clause-within g c =
 pub feed-requires-clause-opened : goal.feed-requires-clause-opened
 feed-requires-clause-opened g c =
     let b = c.requires.begun in
-    place_within _ _ _ _ _ _ _ (c.loop-input.invariant.telling b.begin b.start b.name b.telling)
+    place_within _ g.M.Machine.next _ _ _ _ _ _ (c.loop-input.invariant.telling b.begin b.start b.name b.telling)
 
 pub feed-requires-clause-reader : goal.feed-requires-clause-reader
 feed-requires-clause-reader g c =
@@ -39,9 +40,10 @@ pub returns-in-Err-TooLong-clause-err : goal.returns-in-Err-TooLong-clause-err
 returns-in-Err-TooLong-clause-err g c = λ begin start name t.
     let n = c.in-Err-TooLong.ensures in (
       _,
-      subst (λ (m : g.row.M.Denot). Telling (g.M.Machine.Becomes begin) start (g.D.Desk.state c.feed.new.desk) name m c.feed.new.reader c.loop-input.page) (sym n.machine)
-          (telling_read _ _ start _ _ name _ _ _ n.reads n.none (c.loop-input.invariant.telling begin start name t)),
-      λ other. refl,
+      subst (λ (m : g.row.M.Denot). Telling (g.M.Machine.Becomes begin) g.M.Machine.next start (g.D.Desk.state c.feed.new.desk) name m c.feed.new.reader c.loop-input.page) (sym n.machine)
+          (telling_read _ g.M.Machine.next _ start _ _ name _ _ _ n.reads n.none (c.loop-input.invariant.telling begin start name t)),
+      (λ other. refl),
+      λ same. absurd (let e : TooLong 0 ≡ WriteFault = same in cc),
     )
 
 pub returns-in-Err-TooLong-clause-cause : goal.returns-in-Err-TooLong-clause-cause
@@ -57,9 +59,10 @@ pub returns-in-Err-Fault-clause-err : goal.returns-in-Err-Fault-clause-err
 returns-in-Err-Fault-clause-err g c = λ begin start name t.
     let n = c.in-Err-Fault.ensures in (
       _,
-      subst (λ (m : g.row.M.Denot). Telling (g.M.Machine.Becomes begin) start (g.D.Desk.state c.feed.new.desk) name m c.feed.new.reader c.loop-input.page) (sym n.machine)
-          (telling_read _ _ start _ _ name _ _ _ n.reads n.none (c.loop-input.invariant.telling begin start name t)),
-      λ other. refl,
+      subst (λ (m : g.row.M.Denot). Telling (g.M.Machine.Becomes begin) g.M.Machine.next start (g.D.Desk.state c.feed.new.desk) name m c.feed.new.reader c.loop-input.page) (sym n.machine)
+          (telling_read _ g.M.Machine.next _ start _ _ name _ _ _ n.reads n.none (c.loop-input.invariant.telling begin start name t)),
+      (λ other. refl),
+      λ same. absurd (let e : ReadFault 0 ≡ WriteFault = same in cc),
     )
 
 pub returns-in-Err-Fault-clause-cause : goal.returns-in-Err-Fault-clause-cause
@@ -78,7 +81,7 @@ loop-input-preserved g c = record {
       let b = c.requires.begun in
       let u = c.loop-input.invariant.telling b.begin b.start b.name b.telling in
       let w = c.in-Read.ensures.wanted b.begin u.events u.came in
-      c.in-Ok-gather.ensures.ok begin start name _ (telling_fed g.M.Machine.Becomes begin _ _ start _ _ name _ _ _ _ (is_zero _ _ w.place b.one) c.feed.ensures.reads c.in-Ok-feed.ensures.feeds told);
+      c.in-Ok-gather.ensures.ok begin start name _ (telling_fed g.M.Machine.Becomes g.M.Machine.next begin _ _ start _ _ name _ _ _ _ (is_zero _ _ w.place b.one) c.feed.ensures.reads c.in-Ok-feed.ensures.feeds told);
   counts = c.in-Ok-gather.ensures.counts.ok ∙ c.in-Ok-feed.ensures.counts ∙ c.loop-input.invariant.counts;
   short = c.in-Ok-feed.ensures.short;
   dry = c.in-Ok-gather.ensures.dry;
@@ -90,5 +93,5 @@ returns-in-Err-gather-clause-err g c = λ begin start name t.
     let b = c.requires.begun in
     let u = c.loop-input.invariant.telling b.begin b.start b.name b.telling in
     let w = c.in-Read.ensures.wanted b.begin u.events u.came in
-    let lost = c.in-Err-gather.ensures.err begin start name _ (telling_fed g.M.Machine.Becomes begin _ _ start _ _ name _ _ _ _ (is_zero _ _ w.place b.one) c.feed.ensures.reads c.in-Ok-feed.ensures.feeds told) in
-    (lost.0, lost.1, λ other. absurd (other refl))
+    let lost = c.in-Err-gather.ensures.err begin start name _ (telling_fed g.M.Machine.Becomes g.M.Machine.next begin _ _ start _ _ name _ _ _ _ (is_zero _ _ w.place b.one) c.feed.ensures.reads c.in-Ok-feed.ensures.feeds told) in
+    (lost.0, lost.1, (λ other. absurd (other refl)), λ same. lost.2)
