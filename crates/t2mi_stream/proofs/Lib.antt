@@ -17,3 +17,4 @@ pub mod ReadsLemmas
 pub mod SurviveLemmas
 pub mod DisjointLemmas
 pub mod SkippingLemmas
+pub mod FirstPidLemmas

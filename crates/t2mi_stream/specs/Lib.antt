@@ -20,3 +20,4 @@ pub use Rattle.t2mi_packet.specs.Spell
 pub use Rattle.t2mi_packet.specs.T2miPacket
 pub use Rattle.ts_packet.specs.Told
 pub use Rattle.ts_packet.specs.Written
+pub mod FirstPid

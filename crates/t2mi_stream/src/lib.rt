@@ -2,6 +2,7 @@
 #![tactic(auto)]
 
 mod candidate;
+mod first_pid;
 mod grammar;
 mod laws;
 mod piper;
@@ -10,6 +11,7 @@ mod skipping;
 mod unit;
 mod unpiper;
 
+pub use first_pid::{first_pid_law, unit_pid};
 pub use laws::{
     accepted_front, any_cutting, complete_law, disjoint, events_push, starts_found, survives,
     tally_push, unit_reads, whole_packets,
