@@ -109,6 +109,14 @@ fn read_behind<D: Desk>(
     Ok(count)
 }
 
+// Puts bytes at the front of others.
+fn put_front(all: &mut [u8], bytes: &[u8])
+    requires { length bytes.now ≤ length all.old }
+    ensures { take (length bytes.now) all.new ≡ bytes.now }
+{
+    all[..bytes.len()].copy_from_slice(bytes);
+}
+
 impl Input {
     /// No bytes, and the memory for them. Its one refusal is want of memory.
     pub fn open(alloc: Global) -> Result<Input, OutOfMemory>
@@ -138,6 +146,18 @@ impl Input {
         ensures { result.now ≡ self.now }
     {
         &self.bytes[self.span.start..self.span.end]
+    }
+
+    /// Sets the bytes that wait.
+    pub fn set(&mut self, bytes: &[u8])
+        requires { length bytes.now ≤ BUFFER }
+        ensures { self.new ≡ bytes.now }
+    {
+        put_front(&mut self.bytes, bytes);
+        self.span = Span {
+            start: 0,
+            end: bytes.len(),
+        };
     }
 
     /// Takes bytes from the front.

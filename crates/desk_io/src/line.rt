@@ -1,12 +1,12 @@
 // A line that is put together without memory.
-ghost use Rattle.std.specs.Prelude.{◌≡◌, ◌+◌, ◌≤◌, ◌++◌, [], length};
+ghost use Rattle.std.specs.Prelude.{◌≡◌, ◌↔◌, ◌+◌, ◌≤◌, ◌++◌, [], length, IsTrue};
 ghost use Rattle.std.specs.Fmt.{decimal};
 ghost use Rattle.hex.specs.Hex.{encode_lower};
 
 use itoa::Buffer;
 use std::marker::Model;
 
-// Room for the longest line, in bytes.
+/// Room for the longest line, in bytes.
 pub const ROOM: usize = 384;
 
 /// A line of at most [`ROOM`] bytes, seen as its bytes.
@@ -18,7 +18,7 @@ pub struct Line {
 
 impl Model for Line {
     ghost use Rattle.std.specs.Prelude.{◌≤◌, List, ℕ, take};
-    ghost use Rattle.site_top.specs.declared.line.TheConstants.{ROOM};
+    ghost use Rattle.desk_io.specs.declared.line.TheConstants.{ROOM};
 
     ghost Value = { List ℕ };
 
@@ -36,6 +36,28 @@ impl Line {
             bytes: [0; ROOM],
             len: 0,
         }
+    }
+
+    /// The number of its bytes.
+    pub fn len(&self) -> usize
+        ensures len { result ≡ length self.now }
+        ensures room { result ≤ ROOM }
+    {
+        self.len
+    }
+
+    /// Whether nothing is in it.
+    pub fn is_empty(&self) -> bool
+        ensures { IsTrue result ↔ (self.now ≡ []) }
+    {
+        self.len == 0
+    }
+
+    /// Forgets them.
+    pub fn clear(&mut self)
+        ensures { self.new ≡ [] }
+    {
+        self.len = 0;
     }
 
     /// Adds a text at the end.

@@ -2,7 +2,7 @@ use Rattle.std.proofs.Common.{◌≡◌, ℕ, ◌+◌, ◌-◌, ◌*◌, ◌%◌
 use Rattle.std.proofs.lemmas.List.{take_all, length-drop}
 use Rattle.std.proofs.lemmas.Nat.{shl_below}
 use Rattle.terms.specs.Bits.{number_of}
-use Rattle.site_top.proofs.packet_line.byte.Goals as goal
+use Rattle.show_run.proofs.packet_line.byte.Goals as goal
 
 -- a value of w bits, moved up to 8
 moved : (v w : ℕ) → v < 2 ^ w → w ≤ 8 → v * 2 ^ (8 - w) < 2 ^ 8

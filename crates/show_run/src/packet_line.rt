@@ -1,10 +1,10 @@
 // The line that is said of a packet.
 ghost use Rattle.std.specs.Prelude.{◌≡◌, ◌*◌, ◌<◌, ◌≤◌, take, length};
 ghost use Rattle.terms.specs.Bits.{byte_at};
-ghost use Rattle.site_top.specs.SaidLines.{head_of, view_line};
+ghost use Rattle.show_run.specs.SaidLines.{head_of, view_line};
 
-use crate::line::Line;
 use bit_slice::BitSlice;
+use desk_io::Line;
 use t2mi_packet::PacketView;
 
 // Byte k of some bits, a last part of a byte filled with zero bits.

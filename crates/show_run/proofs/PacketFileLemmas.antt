@@ -1,8 +1,8 @@
 -- Packets back to back: one more, and their bytes and lines.
 use Rattle.std.proofs.Common.{◌≡◌, ℕ, ◌+◌, ◌≤◌, List, [], ◌∷◌, ◌++◌, length, drop, refl, ap, sym, subst, ◌∙◌, arith, append_assoc, append-nil, length-drop}
 use Rattle.std.proofs.lemmas.List.{take-append-le, length-take}
-use Rattle.site_top.specs.PacketFile.{Begins, Packs, bytes_in}
-use Rattle.site_top.specs.SaidLines.{line_of, lines_of}
+use Rattle.show_run.specs.PacketFile.{Begins, Packs, bytes_in}
+use Rattle.show_run.specs.SaidLines.{line_of, lines_of}
 
 -- a packet that begins bytes is no longer than they are
 pub begins_inside : (bytes p : List ℕ) → Begins bytes p → length p ≤ length bytes

@@ -5,7 +5,7 @@ use Rattle.std.proofs.lemmas.List.{take_all, take_more_set}
 use Rattle.std.proofs.lemmas.List.FromFn.{map-range_with_len_more, take-map-range_with_len, length-map-range_with_len}
 use Rattle.std.proofs.lemmas.Bool.{cases_lt}
 use Rattle.terms.specs.Bits.{byte_at, bytes_for, bytes_of}
-use Rattle.site_top.specs.SaidLines.{head_of}
+use Rattle.show_run.specs.SaidLines.{head_of}
 
 -- one more byte was put
 pub head_more : (bits : List Bool) (bytes : List ℕ) (k byte : ℕ) → k < length bytes → take k bytes ≡ map (byte_at bits) (range_with_len 0 k) → byte ≡ byte_at bits k →

@@ -1,7 +1,7 @@
 use Rattle.std.proofs.Common.{◌≡◌, ◌∙◌, ℕ, min, length, ap, take, arith, sym}
 use Rattle.terms.specs.Bits.{bytes_for}
-use Rattle.site_top.proofs.LineLemmas.{head_more, head_whole}
-use Rattle.site_top.proofs.packet_line.head.Goals as goal
+use Rattle.show_run.proofs.LineLemmas.{head_more, head_whole}
+use Rattle.show_run.proofs.packet_line.head.Goals as goal
 
 pub loop-k-preserved : goal.loop-k-preserved
 loop-k-preserved c = head_more c.args.bits.now c.loop-k.bytes c.loop-k.k c.byte.result (omega arith) c.loop-k.invariant c.byte.ensures

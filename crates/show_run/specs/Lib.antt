@@ -1,0 +1,4 @@
+pub mod Front
+pub mod PacketFile
+pub mod PacketLines
+pub mod SaidLines

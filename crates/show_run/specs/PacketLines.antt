@@ -1,0 +1,69 @@
+-- How far the lines of packets have come that stand back to back. No public clause cites this module.
+use Rattle.std.specs.Prelude.{◌≡◌, ◌⊎◌, ℕ, ◌+◌, ◌*◌, ◌≤◌, nat_lt, Bool, true, false, if◌then◌else◌, List, [], ◌∷◌, ◌++◌, length}
+use Rattle.t2mi_packet.specs.declared.reading.TheConstants.{LARGEST}
+use Rattle.file_run.specs.Events.{Event, fed, has_ended, gave}
+use Rattle.file_run.specs.declared.machine.Step.{Step}
+use Rattle.file_run.specs.declared.machine.Step.TheVariants.{Read, Give, End}
+use Rattle.show_run.specs.Front.{most_of}
+use Rattle.show_run.specs.PacketFile.{Packs, bytes_in, IsRefused}
+use Rattle.show_run.specs.SaidLines.{lines_of, count_line}
+use Rattle.show_run.specs.declared.packet_lines.PacketLines.{PacketLines}
+use Rattle.show_run.specs.declared.packet_lines.Phase.{Phase}
+use Rattle.show_run.specs.declared.packet_lines.Phase.TheVariants.{Reads, Ends, Refused, Finished}
+
+-- what is done next where no line waits
+abbrev pub step_of : Phase → ℕ → Step
+step_of Reads at = Read 0 LARGEST (most_of at)
+step_of Ends at = Give
+step_of (Refused why) at = End
+step_of Finished at = End
+
+abbrev pub next_from : List ℕ → Phase → ℕ → Step
+next_from [] phase at = step_of phase at
+next_from (c ∷ line) phase at = Give
+
+abbrev pub next_of : PacketLines → Step
+next_of m = next_from m.line m.phase m.at
+
+-- how often it gives before it wants bytes
+abbrev pub left_in : Phase → ℕ → ℕ
+left_in Ends rest = 2 * rest + 2
+left_in phase rest = 0
+
+abbrev pub left_of : PacketLines → ℕ
+left_of m = left_in m.phase (length m.rest) + (if nat_lt 0 (length m.line) then 1 else 0)
+
+-- behind the packets that were seen: nothing yet, the last bytes of the file, bytes that begin with no packet, or the end
+abbrev pub Behind : Phase → List ℕ → List ℕ → Bool → Type 0
+Behind Reads last rest ended = (rest ≡ []) × (ended ≡ false)
+Behind Ends last rest ended = (rest ≡ last) × (ended ≡ true)
+Behind (Refused why) last rest ended = IsRefused rest why × ((ended ≡ true) ⊎ (LARGEST ≤ length rest))
+Behind Finished last rest ended = (rest ≡ []) × (ended ≡ true)
+
+-- the lines that were given of packets: all but those of which the line waits, and last their number
+abbrev pub Given : Phase → List (List ℕ) → List (List ℕ) → List ℕ → List ℕ → Type 0
+Given Finished told next line text = (next ≡ []) × (((line ≡ count_line (length told)) × (text ≡ lines_of 0 told)) ⊎ ((line ≡ []) × (text ≡ lines_of 0 told ++ count_line (length told))))
+Given phase told next line text = (text ≡ lines_of 0 told) × (line ≡ lines_of (bytes_in told) next)
+
+-- what was done to the lines of packets, of which these were told, and these are next
+pub record Shown (m : PacketLines) (events : List Event) : Type 0 where
+  pub told : List (List ℕ)
+  pub next : List (List ℕ)
+  pub rest : List ℕ
+  pub packs : Packs (fed 0 events) (told ++ next) rest
+  pub place : m.at ≡ bytes_in (told ++ next)
+  pub number : m.count ≡ length (told ++ next)
+  pub behind : Behind m.phase m.rest rest (has_ended 0 events)
+  pub given : Given m.phase told next m.line (gave events)
+
+-- nothing was done yet
+pub record IsNew (m : PacketLines) : Type 0 where
+  pub at : m.at ≡ 0
+  pub count : m.count ≡ 0
+  pub phase : m.phase ≡ Reads
+  pub line : m.line ≡ []
+
+-- The first is new, and to it this was done.
+pub record Comes (start : PacketLines) (events : List Event) (m : PacketLines) : Type 0 where
+  pub fresh : IsNew start
+  pub shown : Shown m events

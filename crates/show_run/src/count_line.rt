@@ -1,0 +1,29 @@
+// The line of the number of packets, and lines that are given.
+ghost use Rattle.std.specs.Prelude.{◌≡◌, ◌≤◌, [], length, take};
+ghost use Rattle.show_run.specs.SaidLines.{count_line as line_of_count};
+
+use desk_io::{Line, ROOM};
+use file_run::PIECE;
+
+/// The line of the number of packets.
+pub fn count_line(count: u64) -> Line
+    ensures text { result ≡ line_of_count count }
+    ensures len { length result ≤ ROOM }
+{
+    let mut line = Line::new();
+    line.push_field(b"packets=", count);
+    line.push(b"\n");
+    line
+}
+
+/// Gives the line, which is empty then: how many bytes.
+pub fn give_line(line: &mut Line, out: &mut [u8; PIECE]) -> usize
+    ensures bytes { take result out.new ≡ line.old }
+    ensures count { result ≤ PIECE }
+    ensures given { line.new ≡ [] }
+{
+    let count = line.len();
+    out[..count].copy_from_slice(line.as_bytes());
+    line.clear();
+    count
+}

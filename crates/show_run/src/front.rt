@@ -1,0 +1,31 @@
+// The packet at the front of what was read, and how far is read for it.
+ghost use Rattle.std.specs.Prelude.{◌≡◌, ◌<◌, ◌≤◌, ◌^◌, length, IfOk, IfErr};
+ghost use Rattle.show_run.specs.Front.{IsFront, RefusesFront, most_of};
+
+use crate::packet_line::packet_line;
+use desk_io::{BUFFER, Line, MOST_BYTES};
+use t2mi_packet::{LARGEST, PacketWhy, view};
+
+/// The line of the packet at the front of the bytes, and its length.
+pub fn front_line(bytes: &[u8], at: u64) -> Result<(Line, usize), PacketWhy>
+    requires { length bytes.now < 2 ^ 60 }
+    ensures ok { IfOk result (λ x. IsFront bytes.now at x.0 x.1) }
+    ensures len { IfOk result (λ x. (10 ≤ x.1) × (x.1 ≤ length bytes.now)) }
+    ensures err { IfErr result (RefusesFront bytes.now) }
+{
+    match view(bytes) {
+        Ok((packet, len)) => Ok((packet_line(b"offset=", at, &packet), len)),
+        Err(fault) => Err(fault.why),
+    }
+}
+
+/// How far the file may be read from a place on.
+pub fn most_of(at: u64) -> u64
+    ensures { result ≡ most_of at }
+{
+    if at < MOST_BYTES - BUFFER as u64 {
+        BUFFER as u64
+    } else {
+        LARGEST as u64
+    }
+}

@@ -1,0 +1,10 @@
+//! What files of T2-MI packets are shown as: a line for each packet.
+#![tactic(auto)]
+
+mod count_line;
+mod front;
+mod packet_line;
+mod packet_lines;
+mod stop;
+
+pub use stop::ShowStop;

@@ -1,0 +1,23 @@
+// Why a file was not shown to its end.
+use t2mi_packet::PacketWhy;
+use thiserror::Error;
+
+/// Why a file was not shown to its end.
+#[derive(Clone, Copy, Debug, PartialEq, Eq, Error)]
+pub enum ShowStop {
+    /// No packet begins at this byte of the file, counted from 0.
+    #[error("no packet begins at byte {at}: {why}")]
+    PacketRefused { at: u64, why: PacketWhy },
+    /// The file gave 2^40 bytes.
+    #[error("the file is too long")]
+    TooLong,
+    /// The file could not be opened or read.
+    #[error("the file could not be read")]
+    ReadFault,
+    /// Standard output took no more.
+    #[error("standard output took no more")]
+    WriteFault,
+    /// Memory ran out before the file was opened.
+    #[error("no memory")]
+    OutOfMemory,
+}
