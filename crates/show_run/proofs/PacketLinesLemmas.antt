@@ -52,7 +52,7 @@ drop_on : (n : ℕ) (xs ys : List ℕ) → n ≤ length xs → drop n (xs ++ ys)
 drop_on n xs ys h = drop-append-le n xs ys h
 
 -- packets, and then more bytes
-packs_on : (file more rest : List ℕ) (ps : List (List ℕ)) → Packs file ps rest → Packs (file ++ more) ps (rest ++ more)
+pub packs_on : (file more rest : List ℕ) (ps : List (List ℕ)) → Packs file ps rest → Packs (file ++ more) ps (rest ++ more)
 packs_on file more rest [] e = ap (λ (l : List ℕ). l ++ more) e
 packs_on file more rest (p ∷ ps) h = (
   begins_on file more p h.0,
@@ -64,7 +64,7 @@ no_next : (at : ℕ) (next : List (List ℕ)) (line : List ℕ) → line ≡ [] 
 no_next at next line none is = sym is ∙ none
 
 -- all lines of packets that were told, where none waits
-told_all : (told next : List (List ℕ)) (line text : List ℕ) → line ≡ [] → text ≡ lines_of 0 told → line ≡ lines_of (bytes_in told) next → text ≡ lines_of 0 (told ++ next)
+pub told_all : (told next : List (List ℕ)) (line text : List ℕ) → line ≡ [] → text ≡ lines_of 0 told → line ≡ lines_of (bytes_in told) next → text ≡ lines_of 0 (told ++ next)
 told_all told next line text none is waits =
     let from : 0 + bytes_in told ≡ bytes_in told = omega arith in
     is ∙ sym (append-nil (lines_of 0 told)) ∙ ap (λ (l : List ℕ). lines_of 0 told ++ l) (sym (no_next (bytes_in told) next line none waits))
@@ -303,3 +303,19 @@ gave_line law start m n events bytes some is none phase rest at count c =
 pub is_some : {b : Bool} → IsTrue b → b ≡ false → ⊥
 is_some {b = true} t e = let f : true ≡ false = e in cc
 is_some {b = false} t e = search (rules, t)
+
+-- nothing was done yet
+pub comes_first : (m : PacketLines) → IsNew m → Comes m [] m
+comes_first m fresh = record {
+  fresh = fresh;
+  shown = record {
+    told = [];
+    next = [];
+    rest = [];
+    packs = refl;
+    place = fresh.at;
+    number = fresh.count;
+    behind = subst (λ (p : Phase). Behind p m.rest [] false) (sym fresh.phase) (refl, refl);
+    given = subst (λ (p : Phase). Given p [] [] m.line []) (sym fresh.phase) (refl, fresh.line);
+  };
+}

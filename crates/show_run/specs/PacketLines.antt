@@ -1,5 +1,5 @@
 -- How far the lines of packets have come that stand back to back. No public clause cites this module.
-use Rattle.std.specs.Prelude.{◌≡◌, ◌⊎◌, ℕ, ◌+◌, ◌*◌, ◌≤◌, nat_lt, Bool, true, false, if◌then◌else◌, List, [], ◌∷◌, ◌++◌, length}
+use Rattle.std.specs.Prelude.{◌≡◌, ◌⊎◌, ℕ, ◌+◌, ◌*◌, ◌≤◌, nat_lt, Bool, true, false, if◌then◌else◌, List, [], ◌∷◌, ◌++◌, length, Result, Ok, Err}
 use Rattle.t2mi_packet.specs.declared.reading.TheConstants.{LARGEST}
 use Rattle.file_run.specs.Events.{Event, fed, has_ended, gave}
 use Rattle.file_run.specs.declared.machine.Step.{Step}
@@ -7,6 +7,8 @@ use Rattle.file_run.specs.declared.machine.Step.TheVariants.{Read, Give, End}
 use Rattle.show_run.specs.Front.{most_of}
 use Rattle.show_run.specs.PacketFile.{Packs, bytes_in, IsRefused}
 use Rattle.show_run.specs.SaidLines.{lines_of, count_line}
+use Rattle.show_run.specs.declared.stop.ShowStop.{ShowStop}
+use Rattle.show_run.specs.declared.stop.ShowStop.TheVariants.{PacketRefused}
 use Rattle.show_run.specs.declared.packet_lines.PacketLines.{PacketLines}
 use Rattle.show_run.specs.declared.packet_lines.Phase.{Phase}
 use Rattle.show_run.specs.declared.packet_lines.Phase.TheVariants.{Reads, Ends, Refused, Finished}
@@ -67,3 +69,8 @@ pub record IsNew (m : PacketLines) : Type 0 where
 pub record Comes (start : PacketLines) (events : List Event) (m : PacketLines) : Type 0 where
   pub fresh : IsNew start
   pub shown : Shown m events
+
+-- how the packets of a file ended
+abbrev pub packets_end : Phase → ℕ → ℕ → Result ℕ ShowStop
+packets_end (Refused why) at count = Err (PacketRefused at why)
+packets_end phase at count = Ok count

@@ -5,6 +5,8 @@ mod count_line;
 mod front;
 mod packet_line;
 mod packet_lines;
+mod show;
 mod stop;
 
+pub use show::show_packets;
 pub use stop::ShowStop;

@@ -1,0 +1,33 @@
+-- What a command does that shows a file by lines, up to its last line.
+use Rattle.std.specs.Prelude.{◌≡◌, ◌⊎◌, ℕ, ◌<◌, ◌≤◌, List, ◌++◌, Result, Ok, Err, IfSome, option_map}
+use Rattle.ports.specs.Desk.{State, SameCounts, bytes_of}
+use Rattle.desk_io.specs.Faults.{WritesFail}
+use Rattle.desk_io.specs.Reading.{most_bytes}
+use Rattle.file_run.specs.Telling.{Opened, Unopened, ReadsFailFirst}
+use Rattle.show_run.specs.declared.stop.ShowStop.{ShowStop}
+use Rattle.show_run.specs.declared.stop.ShowStop.TheVariants.{PacketRefused, TooLong, ReadFault, WriteFault, OutOfMemory}
+
+-- What was opened and read, by outcome. Memory runs out before, if it does.
+abbrev pub ReadsFile : State → State → List ℕ → ℕ → Result ℕ ShowStop → Type 0
+ReadsFile old new name given (Ok count) = Opened old new name given × (given < most_bytes)
+ReadsFile old new name given (Err (PacketRefused at why)) = Opened old new name given × (given < most_bytes)
+ReadsFile old new name given (Err TooLong) = Opened old new name given × (given ≡ most_bytes)
+ReadsFile old new name given (Err ReadFault) = (Unopened old new × (given ≡ 0)) ⊎ (Opened old new name given × (given < most_bytes))
+ReadsFile old new name given (Err WriteFault) = Opened old new name given × (given ≤ most_bytes)
+ReadsFile old new name given (Err OutOfMemory) = new ≡ old
+
+-- The first fault is the outcome: no other one raises a count. After one of reading, what waits is said still, which may fail too.
+abbrev pub Counted : State → State → Result ℕ ShowStop → Type 0
+Counted old new (Err ReadFault) = ReadsFailFirst old new
+Counted old new (Err WriteFault) = WritesFail old new
+Counted old new result = SameCounts old new
+
+-- A run over a named file, of which so many bytes were read. Standard output grew by this text, whatever the desk tells, and by the text
+-- that a definition asks for, by the file's bytes, how many were read, and the outcome.
+pub record Shows (IsText : List ℕ → ℕ → Result ℕ ShowStop → List ℕ → Type 0) (old new : State) (name : List ℕ) (result : Result ℕ ShowStop) : Type 0 where
+  pub given : ℕ
+  pub text : List ℕ
+  pub reads : ReadsFile old new name given result
+  pub grew : new.said ≡ option_map (λ said. said ++ text) old.said
+  pub lines : IfSome old.held (λ held. IsText (bytes_of held.files name) given result text)
+  pub counts : Counted old new result

@@ -1,0 +1,18 @@
+-- How the lines of a machine are told of a file. No public clause cites this module.
+use Rattle.std.specs.Prelude.{◌≡◌, ◌⊎◌, ℕ, List}
+use Rattle.ports.specs.Desk.{State}
+use Rattle.desk_io.specs.Faults.{ReadsFail, WritesFail}
+use Rattle.file_run.specs.Events.{Event}
+use Rattle.file_run.specs.Telling.{StopsTelling}
+use Rattle.file_run.specs.declared.machine.Step.{Step}
+use Rattle.file_run.specs.declared.stop.RunFault.TheVariants as fault
+use Rattle.show_run.specs.declared.stop.ShowStop.{ShowStop}
+use Rattle.show_run.specs.declared.stop.ShowStop.TheVariants.{PacketRefused, TooLong, ReadFault, WriteFault, OutOfMemory}
+
+-- Why the lines were not told to the end.
+abbrev pub StopsLines : {A : Type 0} → (List Event → A → Type 0) → (A → Step) → State → State → List ℕ → A → ShowStop → Type 0
+StopsLines Came next old new name now (PacketRefused at why) = ⊥
+StopsLines Came next old new name now TooLong = StopsTelling Came next old new name now (fault.TooLong 0)
+StopsLines Came next old new name now ReadFault = StopsTelling Came next old new name now (fault.ReadFault 0)
+StopsLines Came next old new name now WriteFault = StopsTelling Came next old new name now fault.WriteFault
+StopsLines Came next old new name now OutOfMemory = new ≡ old

@@ -1,0 +1,63 @@
+// The commands that show a file by lines.
+ghost use Rattle.std.specs.Prelude.{◌≡◌, [], OnOk, IfErr};
+ghost use Rattle.file_run.specs.Telling.{TellsAll};
+ghost use Rattle.show_run.specs.PacketLines.{packets_end};
+ghost use Rattle.show_run.specs.PacketText.{IsPacketText};
+ghost use Rattle.show_run.specs.Shows.{Shows};
+ghost use Rattle.show_run.specs.Told.{StopsLines};
+
+use crate::packet_lines::{PacketLines, Phase};
+use crate::stop::ShowStop;
+use desk_io::{Page, ReadAhead};
+use file_run::{Machine, RunFault, tell};
+use ports::Desk;
+use std::alloc::Global;
+use t2mi_packet::front_refusal;
+
+// Tells the lines of a machine that is fed with a named file.
+fn tell_lines<M: Machine, D: Desk>(
+    alloc: Global,
+    machine: &mut M,
+    name: &str,
+    desk: &mut D,
+) -> Result<(), ShowStop>
+    requires inputs { M.inputs machine.old ≡ 1 }
+    requires start { M.Becomes machine.old [] machine.old }
+    ensures ok { OnOk result (TellsAll (M.Becomes machine.old) M.next (D.state desk.old) (D.state desk.new) name.now machine.new) }
+    ensures err { IfErr result (StopsLines (M.Becomes machine.old) M.next (D.state desk.old) (D.state desk.new) name.now machine.new) }
+{
+    let Ok(mut reader) = ReadAhead::open(alloc) else {
+        return Err(ShowStop::OutOfMemory);
+    };
+    let Ok(mut page) = Page::open(alloc) else {
+        return Err(ShowStop::OutOfMemory);
+    };
+    match tell(machine, &mut reader, &mut page, name, desk) {
+        Ok(()) => Ok(()),
+        Err(RunFault::TooLong { .. }) => Err(ShowStop::TooLong),
+        Err(RunFault::ReadFault { .. }) => Err(ShowStop::ReadFault),
+        Err(RunFault::WriteFault) => Err(ShowStop::WriteFault),
+    }
+}
+
+// How the packets of a file ended: their number, or where none begins.
+fn packets_end(lines: &PacketLines) -> Result<u64, ShowStop>
+    ensures { result ≡ packets_end lines.now.phase lines.now.at lines.now.count }
+{
+    match lines.phase {
+        Phase::Refused(why) => Err(ShowStop::PacketRefused { at: lines.at, why }),
+        Phase::Reads | Phase::Ends | Phase::Finished => Ok(lines.count),
+    }
+}
+
+/// Says a line for each T2-MI packet of a named file in which they stand back to back, and last their number: how many.
+pub fn show_packets<D: Desk>(alloc: Global, name: &str, desk: &mut D) -> Result<u64, ShowStop>
+    ensures { Shows IsPacketText (D.state desk.old) (D.state desk.new) name.now result }
+{
+    front_refusal();
+    let Ok(mut lines) = PacketLines::open(alloc) else {
+        return Err(ShowStop::OutOfMemory);
+    };
+    tell_lines(alloc, &mut lines, name, desk)?;
+    packets_end(&lines)
+}
