@@ -1,4 +1,4 @@
-// Chunks in chains by index. Every chunk is in at most one chain.
+// Chunks in chains, linked by index. Every chunk is in one chain.
 ghost use Rattle.std.specs.Prelude.{ℕ, List, [], ◌≡◌, ◌≢◌, ◌<◌, ◌≤◌, ◌*◌, ◌+◌, ◌-◌, ◌^◌, length, IfOk, replicate, slice_index, slice_index_or};
 ghost use Rattle.linked_pool.specs.Chains.{moved, last_on, rising, opened, IsSound, Moves};
 
@@ -6,10 +6,12 @@ use crate::tables::{filled, read};
 use std::alloc::{AllocError, Global};
 use std::marker::Model;
 
-/// Chunks in chains.
+/// Chunks in chains: a list of lists of chunk numbers.
 #[derive(Drop)]
 pub struct Chains {
+    // The chunk behind each chunk, which counts only inside a chain.
     next: Vec<u32>,
+    // The first and the last chunk of each chain, if it has any, and how many it has.
     heads: Vec<u32>,
     tails: Vec<u32>,
     sizes: Vec<u32>,
