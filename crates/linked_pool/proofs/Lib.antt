@@ -1,0 +1,10 @@
+pub mod WalkLemmas
+pub mod MoveLemmas
+pub mod ViewLemmas
+pub mod BlockLemmas
+pub mod AppendLemmas
+pub mod FillLemmas
+pub mod OpenLemmas
+pub mod EndsLemmas
+pub mod FitsLemmas
+pub mod PoolLemmas

@@ -1,0 +1,5 @@
+pub mod Pool
+pub mod Fits
+pub mod Laws
+pub mod Chains
+pub mod Blocks

@@ -1,0 +1,18 @@
+//! Blocks of bytes in lists, over chunks of memory that are taken once.
+#![tactic(auto)]
+
+mod block;
+mod chains;
+mod chunk;
+mod laws;
+mod pieces;
+mod pool;
+mod tables;
+#[cfg(test)]
+mod tests;
+
+pub use block::BlockRef;
+pub use chunk::CHUNK;
+pub use laws::plan_fits_law;
+pub use pieces::Pieces;
+pub use pool::{Pool, PoolFull};
