@@ -1,9 +1,10 @@
 -- What the output of a run is, by the files. Owners of machines cite these: they range over predicates, as no law can.
-use Rattle.std.proofs.Common.{◌≡◌, ℕ, ◌++◌, List, length, ap, sym, ◌∙◌, arith, Option, Some, None}
-use Rattle.std.specs.Prelude.{IfSome}
+use Rattle.std.proofs.Common.{◌≡◌, ℕ, ◌<◌, true, List, [], ◌++◌, length, map, ap, sym, ◌∙◌, arith, length-append, Option, Some, None}
+use Rattle.std.proofs.lemmas.List.{ext_get_or, length-map, get_or-map}
+use Rattle.std.specs.Prelude.{IfSome, slice_index}
 use Rattle.std.specs.FinMap.{get}
-use Rattle.ports.specs.Desk.{State, Held}
-use Rattle.file_run.specs.Events.{Event, OnlyGave}
+use Rattle.ports.specs.Desk.{State, Held, bytes_of}
+use Rattle.file_run.specs.Events.{Event, fed, has_ended, OnlyGave}
 use Rattle.file_run.specs.FileRun.{file_at, AreFed, Works, Stands}
 use Rattle.file_run.proofs.EventLemmas.{gave_more}
 
@@ -38,3 +39,18 @@ fed_since inputs files places events late only are input lt =
       within = f.within;
       end = λ on. f.end (sym (m.ended input) ∙ on);
     }
+
+-- Where all inputs ended, each was read to its end.
+pub all_read : (h : Held) (ins : List (List ℕ)) (places : List ℕ) (events : List Event) → length places ≡ length ins → ((input : ℕ) → input < length ins → has_ended input events ≡ true) → AreFed (length ins) (file_at h ins) places events
+    → places ≡ map (λ name. length (bytes_of h.files name)) ins
+all_read h ins places events all ended are =
+    ext_get_or 0 places (map (λ name. length (bytes_of h.files name)) ins) (all ∙ sym (length-map ins (λ name. length (bytes_of h.files name)))) (λ input lt.
+    let inside : input < length ins = omega (arith, lt, all) in
+    let f = are input inside in
+    let n = length-append (fed input events) f.more in
+    let m = ap length f.parts in
+    let z = ap length (f.end (ended input inside)) in
+    let a = f.ahead in
+    let w = f.within in
+    let size : slice_index places input ≡ length (file_at h ins input) = omega (arith, n, m, z, a, w) in
+    size ∙ sym (get_or-map (λ name. length (bytes_of h.files name)) ins input [] 0 inside))

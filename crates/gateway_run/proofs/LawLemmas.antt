@@ -5,7 +5,7 @@ use Rattle.std.proofs.lemmas.Nat.{le-div}
 use Rattle.std.proofs.lemmas.Bool.{cases_lt}
 use Rattle.plp_config.specs.SlotTime.{slots_by, num, den}
 use Rattle.plp_config.specs.declared.config.Config.{Config}
-use Rattle.ts_file.specs.TsFile.{packets_in}
+use Rattle.ts_packet.specs.TsFile.{packets_in}
 use Rattle.gateway_run.specs.GatewayRun.{most_frames, WantsBad, MeetsBad, MeetsNone}
 use Rattle.gateway_run.specs.Laws.{OneRun}
 use Rattle.gateway_run.specs.declared.stop.Ran.{Ran}

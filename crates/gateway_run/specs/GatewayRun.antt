@@ -1,25 +1,24 @@
 -- What a run of the gateway over files does, from the opening of its inputs on.
-use Rattle.std.specs.Prelude.{◌≡◌, ◌≢◌, ◌⊎◌, ℕ, ◌+◌, ◌-◌, ◌*◌, ◌^◌, ◌<◌, ◌≤◌, List, [], ◌++◌, length, map, slice_index, slice_index_or, Option, None, Some, IsSome, IfSome}
+use Rattle.std.specs.Prelude.{◌≡◌, ◌≢◌, ◌⊎◌, ℕ, ◌-◌, ◌*◌, ◌^◌, ◌<◌, ◌≤◌, List, [], ◌++◌, length, map, slice_index, slice_index_or, IsSome, IfSome}
 use Rattle.std.specs.FinMap.{get}
-use Rattle.ports.specs.Desk.{State, Held, Rose, SameCounts, bytes_of}
+use Rattle.ports.specs.Desk.{State, Held, SameCounts, bytes_of}
 use Rattle.plp_config.specs.RunLength.{frame_count}
 use Rattle.plp_config.specs.SlotTime.{slots_by}
 use Rattle.plp_config.specs.declared.config.Config.{Config}
+use Rattle.ts_packet.specs.TsFile.{packets_in, HasBad, joined}
+use Rattle.ts_packet.specs.declared.sizes.TheConstants.{SIZE}
 use Rattle.t2mi_stream.specs.Pipe.{pipe}
 use Rattle.t2mi_stream.specs.Complete.{complete_units}
 use Rattle.gateway_core.specs.Packets.{front_packets, packets_of}
-use Rattle.ts_file.specs.Reading.{most_bytes}
-use Rattle.ts_file.specs.TsFile.{packets_in, HasBad, joined}
+use Rattle.desk_io.specs.Faults.{ReadsFail, WritesFail}
+use Rattle.desk_io.specs.Reading.{most_bytes}
+use Rattle.file_run.specs.FileRun.{file_at, OpensInputs, FailsToCreateOutput, Works, AllShort}
 use Rattle.gateway_run.specs.declared.stop.RunStop.{RunStop}
 use Rattle.gateway_run.specs.declared.stop.RunStop.TheVariants.{Bad, TooLong, ReadFault, WriteFault, OutOfMemory}
 
 -- no frame has this number
 abbrev pub most_frames : ℕ
 most_frames = 2 ^ 31
-
--- the file of the input of a PLP, by the names of the inputs
-abbrev pub file_at : Held → List (List ℕ) → ℕ → List ℕ
-file_at h ins plp = bytes_of h.files (slice_index_or ins plp [])
 
 -- the packets of each file, up to its first bad one
 abbrev pub inputs_of : (ℕ → List ℕ) → ℕ → List (List ℕ)
@@ -52,74 +51,13 @@ pub record MeetsBad (c : Config) (files : ℕ → List ℕ) (frame plp packet : 
   pub before : MeetsNone c files (frame - 1)
   pub below : (other : ℕ) → other < plp → ¬ (WantsBad c files frame other)
 
--- No file has changed but that of a name.
-abbrev pub OtherFiles : List ℕ → Option Held → Option Held → Type 0
-OtherFiles name None new = new ≡ None
-OtherFiles name (Some h) new = (k : Held) × (new ≡ Some k) × ((other : List ℕ) → other ≢ name → get k.files other ≡ get h.files other)
-
--- No file has changed.
-abbrev pub SameFiles : Option Held → Option Held → Type 0
-SameFiles None new = new ≡ None
-SameFiles (Some h) new = (k : Held) × (new ≡ Some k) × (k.files ≡ h.files)
-
--- The handle of each of these places is of the input of its number, where the desk tells.
-abbrev pub AreNamed : State → State → List (List ℕ) → List ℕ → Type 0
-AreNamed old new ins places = IfSome old.held (λ h. (k : Held) × (new.held ≡ Some k)
-    × ((plp : ℕ) → plp < length places → slice_index_or k.names (length old.opened + plp) [] ≡ slice_index_or ins plp []))
-
--- Nothing was read.
-abbrev pub AreStarts : List ℕ → Type 0
-AreStarts places = (plp : ℕ) → plp < length places → slice_index places plp ≡ 0
-
--- Some inputs were opened, in turn, and nothing was read.
-pub record OpensInputs (old new : State) (ins : List (List ℕ)) : Type 0 where
-  pub places : List ℕ
-  pub opened : new.opened ≡ old.opened ++ places
-  pub few : length places ≤ length ins
-  pub starts : AreStarts places
-  pub names : AreNamed old new ins places
-  pub files : SameFiles old.held new.held
-  pub created : new.created ≡ old.created
-  pub said : new.said ≡ old.said
-
--- All inputs were opened, in turn, nothing was read, and then the output was not created. Nothing is known of it.
-pub record FailsToCreateOutput (old new : State) (out : List ℕ) (ins : List (List ℕ)) : Type 0 where
-  pub places : List ℕ
-  pub opened : new.opened ≡ old.opened ++ places
-  pub all : length places ≡ length ins
-  pub starts : AreStarts places
-  pub names : AreNamed old new ins places
-  pub files : OtherFiles out old.held new.held
-  pub created : new.created ≡ old.created
-  pub said : new.said ≡ old.said
-
--- All inputs were opened, in turn, and read up to these places. Then the output was created, and the desk holds it so, where it tells.
-pub record Works (old new : State) (out : List ℕ) (ins : List (List ℕ)) (places : List ℕ) (HoldsOut : Held → List ℕ → Type 0) : Type 0 where
-  pub opened : new.opened ≡ old.opened ++ places
-  pub all : length places ≡ length ins
-  pub names : AreNamed old new ins places
-  pub files : OtherFiles out old.held new.held
-  pub created : new.created ≡ old.created + 1
-  pub said : new.said ≡ old.said
-  pub holds : IfSome old.held (λ h. (k : Held) × (new.held ≡ Some k) × ((bytes : List ℕ) × (get k.files out ≡ Some bytes) × HoldsOut h bytes))
-
--- Each place is below the limit.
-abbrev pub AllShort : List ℕ → Type 0
-AllShort places = (plp : ℕ) → plp < length places → slice_index places plp < most_bytes
-
 -- No input was read further than a frame wants.
 abbrev pub ReadsNoFurther : Config → List ℕ → ℕ → Type 0
-ReadsNoFurther c places frame = (plp : ℕ) → plp < length places → slice_index places plp ≤ 188 * slots_by c plp (frame * c.ticks)
+ReadsNoFurther c places frame = (plp : ℕ) → plp < length places → slice_index places plp ≤ SIZE * slots_by c plp (frame * c.ticks)
 
 -- The output is the first bytes of all units.
 abbrev pub BeginsUnits : Config → List (List ℕ) → Held → List ℕ → Type 0
 BeginsUnits c ins h bytes = (more : List ℕ) × (joined (units_of c (file_at h ins)) ≡ bytes ++ more)
-
--- The output was created, and is a front of what it should be.
-pub record StopsWriting (c : Config) (old new : State) (out : List ℕ) (ins : List (List ℕ)) : Type 0 where
-  pub places : List ℕ
-  pub works : Works old new out ins places (BeginsUnits c ins)
-  pub short : AllShort places
 
 -- A run to its end: all inputs were read to their ends and have no bad packet, and the output is all units of all their packets.
 pub record RunsAll (c : Config) (old new : State) (out : List ℕ) (ins : List (List ℕ)) (frames units : ℕ) : Type 0 where
@@ -149,17 +87,21 @@ pub record StopsAtBad (c : Config) (old new : State) (out : List ℕ) (ins : Lis
   pub counts : SameCounts old new
   pub meets : IfSome old.held (λ h. MeetsBad c (file_at h ins) frame plp packet)
 
--- An input gave as many bytes as no file may have. A frame wants so many of it, and no bad packet was met before: none in an earlier
--- frame, and in this one none of an earlier input.
+-- Neither an earlier frame wants a bad packet, nor this one of an earlier input.
+abbrev pub MeetsNoneBefore : Config → (ℕ → List ℕ) → ℕ → ℕ → Type 0
+MeetsNoneBefore c files frame plp = MeetsNone c files (frame - 1) × ((other : ℕ) → other < plp → ¬ (WantsBad c files frame other))
+
+-- An input gave as many bytes as no file may have. A frame wants so many of it, and no bad packet was met before.
 pub record GivesTooMuch (c : Config) (old : State) (ins : List (List ℕ)) (places : List ℕ) : Type 0 where
   pub plp : ℕ
   pub place : plp < length ins
   pub gave : slice_index places plp ≡ most_bytes
   pub frame : ℕ
   pub early : frame ≤ most_frames
-  pub wants : most_bytes ≤ 188 * slots_by c plp (frame * c.ticks)
+  pub wants : most_bytes ≤ SIZE * slots_by c plp (frame * c.ticks)
+  pub no_further : ReadsNoFurther c places frame
   pub long : IfSome old.held (λ h. most_bytes ≤ length (file_at h ins plp))
-  pub before : IfSome old.held (λ h. MeetsNone c (file_at h ins) (frame - 1) × ((other : ℕ) → other < plp → ¬ (WantsBad c (file_at h ins) frame other)))
+  pub before : IfSome old.held (λ h. MeetsNoneBefore c (file_at h ins) frame plp)
 
 -- An input gave as many bytes as no file may have, or the run would begin a frame of which none may have the number.
 pub record StopsTooLong (c : Config) (old new : State) (out : List ℕ) (ins : List (List ℕ)) (count : ℕ) : Type 0 where
@@ -169,23 +111,47 @@ pub record StopsTooLong (c : Config) (old new : State) (out : List ℕ) (ins : L
   pub cause : ((count ≡ most_bytes) × GivesTooMuch c old ins places)
       ⊎ ((count ≡ most_frames) × AllShort places × IfSome old.held (λ h. MeetsNone c (file_at h ins) most_frames × (most_frames < frames_of c (file_at h ins))))
 
--- A count of faults rose, and the others did not change.
-pub record ReadsFail (old new : State) : Type 0 where
-  pub rose : Rose old.read_faults new.read_faults
-  pub later : old.read_faults ≤ new.read_faults
-  pub write_faults : new.write_faults ≡ old.write_faults
-  pub line_faults : new.line_faults ≡ old.line_faults
+-- An input of which a frame wants more than was read could not be read on, and no bad packet was met before. The output is the complete
+-- units of the frames before this one.
+pub record StopsReading (c : Config) (old new : State) (out : List ℕ) (ins : List (List ℕ)) (plp : ℕ) : Type 0 where
+  pub places : List ℕ
+  pub frame : ℕ
+  pub works : Works old new out ins places (λ h bytes. BeginsUnits c ins h bytes × CompleteBefore c ins frame h bytes)
+  pub place : plp < length ins
+  pub short : AllShort places
+  pub early : frame ≤ most_frames
+  pub wants : slice_index places plp < SIZE * slots_by c plp (frame * c.ticks)
+  pub no_further : ReadsNoFurther c places frame
+  pub before : IfSome old.held (λ h. MeetsNoneBefore c (file_at h ins) frame plp)
 
-pub record WritesFail (old new : State) : Type 0 where
-  pub rose : Rose old.write_faults new.write_faults
-  pub later : old.write_faults ≤ new.write_faults
-  pub read_faults : new.read_faults ≡ old.read_faults
-  pub line_faults : new.line_faults ≡ old.line_faults
+-- These bytes are the complete units of the frames before one, and then some more of all units, or none, but not all.
+pub record BeginsSome (c : Config) (files : ℕ → List ℕ) (frame : ℕ) (bytes : List ℕ) : Type 0 where
+  pub more : List ℕ
+  pub some : more ≢ []
+  pub begins : joined (units_of c files) ≡ bytes ++ more
+  pub since : List ℕ
+  pub complete : bytes ≡ joined (complete_units c.pid (front_packets c (inputs_of files) frame)) ++ since
+
+-- The output could not be written on, when all that a frame wants was read, and no bad packet was met.
+pub record StopsWriting (c : Config) (old new : State) (out : List ℕ) (ins : List (List ℕ)) : Type 0 where
+  pub places : List ℕ
+  pub frame : ℕ
+  pub works : Works old new out ins places (λ h bytes. BeginsSome c (file_at h ins) frame bytes)
+  pub short : AllShort places
+  pub early : frame ≤ most_frames
+  pub no_further : ReadsNoFurther c places frame
+  pub before : IfSome old.held (λ h. MeetsNone c (file_at h ins) frame)
+
+-- No memory was found for the gateway. The output is a front of what it should be.
+pub record LacksMemory (c : Config) (old new : State) (out : List ℕ) (ins : List (List ℕ)) : Type 0 where
+  pub places : List ℕ
+  pub works : Works old new out ins places (BeginsUnits c ins)
+  pub short : AllShort places
 
 -- A run that did not come to its end, by its cause.
 abbrev pub Stops : Config → State → State → List ℕ → List (List ℕ) → RunStop → Type 0
 Stops c old new out ins (Bad input packet) = StopsAtBad c old new out ins input packet
 Stops c old new out ins (TooLong count) = StopsTooLong c old new out ins count
-Stops c old new out ins ReadFault = ReadsFail old new × (OpensInputs old new ins ⊎ StopsWriting c old new out ins)
+Stops c old new out ins ReadFault = ReadsFail old new × ((input : ℕ) × (OpensInputs old new ins input ⊎ StopsReading c old new out ins input))
 Stops c old new out ins WriteFault = WritesFail old new × (FailsToCreateOutput old new out ins ⊎ StopsWriting c old new out ins)
-Stops c old new out ins OutOfMemory = SameCounts old new × (OpensInputs old new ins ⊎ StopsWriting c old new out ins)
+Stops c old new out ins OutOfMemory = SameCounts old new × ((new ≡ old) ⊎ LacksMemory c old new out ins)

@@ -1,7 +1,7 @@
 -- Laws of runs over files.
 use Rattle.std.specs.Prelude.{◌≡◌, ◌<◌, ◌≤◌, ℕ, List, length, Result, Ok, Err}
 use Rattle.plp_config.specs.declared.config.Config.{Config}
-use Rattle.ts_file.specs.TsFile.{HasBad}
+use Rattle.ts_packet.specs.TsFile.{HasBad}
 use Rattle.gateway_run.specs.GatewayRun.{frames_of, units_of, most_frames, MeetsBad, MeetsNone}
 use Rattle.gateway_run.specs.declared.stop.Ran.{Ran}
 use Rattle.gateway_run.specs.declared.stop.RunStop.{RunStop}

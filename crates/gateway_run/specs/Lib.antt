@@ -1,3 +1,5 @@
-pub mod Running
+pub mod AsMachine
 pub mod GatewayRun
+pub mod Holds
 pub mod Laws
+pub mod Ready

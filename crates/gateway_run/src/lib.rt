@@ -2,13 +2,13 @@
 #![tactic(auto)]
 
 mod laws;
-mod opening;
-mod reading;
+mod machine;
+mod place;
 mod running;
+mod steps;
 mod stop;
 #[cfg(test)]
 mod tests;
-mod writing;
 
 pub use laws::one_run;
 pub use running::run;

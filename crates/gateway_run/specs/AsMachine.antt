@@ -1,0 +1,57 @@
+-- A gateway as a machine between files. No public clause cites this module.
+use Rattle.std.specs.Prelude.{◌≡◌, ℕ, ◌-◌, ◌*◌, ◌^◌, min, List, Result, Ok, Err}
+use Rattle.plp_config.specs.SlotTime.{slots_by}
+use Rattle.ts_packet.specs.declared.sizes.TheConstants.{SIZE}
+use Rattle.desk_io.specs.Reading.{most_bytes}
+use Rattle.file_run.specs.Events.{Event}
+use Rattle.file_run.specs.declared.machine.Step.{Step}
+use Rattle.file_run.specs.declared.machine.Step.TheVariants.{Read, Give, End}
+use Rattle.file_run.specs.declared.stop.RunFault.{RunFault}
+use Rattle.file_run.specs.declared.stop.RunFault.TheVariants as fault
+use Rattle.gateway_core.specs.StandsFor.{wants_of}
+use Rattle.gateway_core.specs.declared.gateway.Gateway.{Gateway}
+use Rattle.gateway_run.specs.GatewayRun.{most_frames}
+use Rattle.gateway_run.specs.Holds.{Holds}
+use Rattle.gateway_run.specs.declared.machine.GatewayMachine.{GatewayMachine}
+use Rattle.gateway_run.specs.declared.place.GatewayStop.TheVariants.{Bad, TooManyFrames, OutOfMemory}
+use Rattle.gateway_run.specs.declared.place.Phase.{Phase}
+use Rattle.gateway_run.specs.declared.place.Phase.TheVariants.{Wants, Begins, Gives, Rests, Done, Stopped}
+use Rattle.gateway_run.specs.declared.stop.Ran.{Ran}
+use Rattle.gateway_run.specs.declared.stop.RunStop.{RunStop}
+use Rattle.gateway_run.specs.declared.stop.RunStop.TheVariants as stop
+
+abbrev pub becomes : GatewayMachine → List Event → GatewayMachine → Type 0
+becomes start events m = (m.plan.now ≡ start.plan.now) × Holds m.plan.now events m.gateway m.place m.ran
+
+abbrev pub step_of : Gateway → ℕ → Phase → Step
+step_of g plp Wants = Read plp SIZE (SIZE * min (wants_of g plp) (2 ^ 30))
+step_of g plp Begins = Give
+step_of g plp Gives = Give
+step_of g plp Rests = Give
+step_of g plp Done = End
+step_of g plp (Stopped why) = End
+
+abbrev pub next_of : GatewayMachine → Step
+next_of m = step_of m.gateway m.place.plp m.place.phase
+
+-- the frame whose packets are read, or were read last: behind the beginning of a frame the one that was begun
+abbrev pub frame_read : Phase → ℕ → ℕ
+frame_read Gives frames = frames - 1
+frame_read phase frames = frames
+
+-- no further than the frame wants that is read
+abbrev pub reach_of : GatewayMachine → ℕ → ℕ
+reach_of m plp = SIZE * slots_by m.plan.now plp (frame_read m.place.phase m.ran.frames * m.plan.now.ticks)
+
+-- how a run ends that came so far
+abbrev pub ending_of : Phase → Ran → Result Ran RunStop
+ending_of (Stopped (Bad input packet)) ran = Err (stop.Bad input packet)
+ending_of (Stopped TooManyFrames) ran = Err (stop.TooLong most_frames)
+ending_of (Stopped OutOfMemory) ran = Err stop.OutOfMemory
+ending_of phase ran = Ok ran
+
+-- how a run ends that its files stopped
+abbrev pub stop_by : RunFault → RunStop
+stop_by (fault.TooLong input) = stop.TooLong most_bytes
+stop_by (fault.ReadFault input) = stop.ReadFault
+stop_by fault.WriteFault = stop.WriteFault

@@ -1,0 +1,120 @@
+// The gateway as a machine between files.
+ghost use Rattle.gateway_run.specs.Ready.{IsReady};
+
+use crate::place::{GatewayStop, Phase, Place};
+use crate::steps::{MOST_FRAMES, begin, end_input, give, take_packet};
+use crate::stop::{Ran, RunStop};
+use bit_slice::OutOfMemory;
+use file_run::{Machine, PIECE, Step, events_law};
+use gateway_core::Gateway;
+use plp_config::Plan;
+use std::alloc::Global;
+use ts_packet::SIZE;
+
+/// A gateway that is fed with the bytes of its inputs and gives the bytes of its units.
+#[derive(Drop)]
+pub struct GatewayMachine<'p> {
+    plan: &'p Plan,
+    gateway: Gateway<'p>,
+    place: Place,
+    // How many frames were begun, and how many units given.
+    ran: Ran,
+    ghost ready: { IsReady gateway plan.now place ran },
+}
+
+// No more packets than these are to wait.
+const PACKETS: u64 = 1 << 30;
+
+impl<'p> Machine for GatewayMachine<'p> {
+    ghost use Rattle.std.specs.Prelude.{length};
+    ghost use Rattle.gateway_run.specs.AsMachine.{becomes, next_of, reach_of};
+    ghost use Rattle.gateway_run.specs.Ready.{left_of};
+
+    ghost Becomes = { becomes };
+
+    ghost inputs = { λ m. length m.plan.now.plps };
+
+    ghost next = { next_of };
+
+    ghost left = { λ m. left_of m.gateway m.place.phase m.ran.frames };
+
+    ghost reach = { reach_of };
+
+    fn step(&self) -> Step {
+        match self.place.phase {
+            Phase::Wants => Step::Read {
+                input: self.place.plp,
+                least: SIZE,
+                most: SIZE as u64 * self.gateway.wants(self.place.plp).min(PACKETS),
+            },
+            Phase::Begins | Phase::Gives | Phase::Rests => Step::Give,
+            Phase::Done | Phase::Stopped(_) => Step::End,
+        }
+    }
+
+    fn feed(&mut self, _input: usize, bytes: &[u8]) -> usize {
+        self.place = take_packet(&mut self.gateway, self.plan, self.place, self.ran, bytes);
+        SIZE
+    }
+
+    fn end_input(&mut self, _input: usize, bytes: &[u8]) {
+        self.place = end_input(&mut self.gateway, self.plan, self.place, self.ran, bytes);
+    }
+
+    fn give(&mut self, out: &mut [u8; PIECE]) -> usize {
+        if let Phase::Begins = self.place.phase {
+            events_law();
+            self.place = begin(&mut self.gateway, self.plan, self.place, &mut self.ran);
+            return 0;
+        }
+        give(
+            &mut self.gateway,
+            self.plan,
+            &mut self.place,
+            &mut self.ran,
+            out,
+        )
+    }
+}
+
+impl<'p> GatewayMachine<'p> {
+    ghost use Rattle.std.specs.Prelude.{◌≡◌, [], IfOk};
+    ghost use Rattle.gateway_run.specs.AsMachine.{becomes, next_of, ending_of};
+
+    /// A gateway to which nothing was fed, for a plan. Its one refusal is want of memory.
+    pub fn open(alloc: Global, plan: &'p Plan) -> Result<GatewayMachine<'p>, OutOfMemory>
+        ensures plan { IfOk result (λ m. m.plan.now ≡ plan.now) }
+        ensures becomes { IfOk result (λ m. becomes m [] m) }
+    {
+        // It tells that the configuration satisfies every rule and test.
+        let _ = plan.config();
+        Ok(GatewayMachine {
+            plan,
+            gateway: Gateway::open(alloc, plan)?,
+            place: Place {
+                plp: 0,
+                phase: Phase::Gives,
+            },
+            ran: Ran {
+                frames: 0,
+                units: 0,
+            },
+        })
+    }
+
+    /// How its run ended.
+    pub fn ending(&self) -> Result<Ran, RunStop>
+        ensures { result ≡ ending_of self.now.place.phase self.now.ran }
+    {
+        match self.place.phase {
+            Phase::Stopped(GatewayStop::Bad { input, packet }) => {
+                Err(RunStop::Bad { input, packet })
+            }
+            Phase::Stopped(GatewayStop::TooManyFrames) => {
+                Err(RunStop::TooLong { count: MOST_FRAMES })
+            }
+            Phase::Stopped(GatewayStop::OutOfMemory) => Err(RunStop::OutOfMemory),
+            _ => Ok(self.ran),
+        }
+    }
+}

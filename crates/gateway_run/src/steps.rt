@@ -1,0 +1,205 @@
+// The steps of a gateway between files.
+ghost use Rattle.std.specs.Prelude.{◌≡◌, ◌<◌, ◌≤◌, ◌++◌, ◌∷◌, ◌^◌, ℕ, List, [], length, take};
+ghost use Rattle.file_run.specs.Events.{Event, Fed, Ended, Gave};
+ghost use Rattle.gateway_core.specs.StandsFor.{plps_of, wants_of};
+ghost use Rattle.gateway_run.specs.Ready.{IsReady, IsLooked, IsBad, IsGiving, IsBehindAs, left_of};
+ghost use Rattle.gateway_run.specs.AsMachine.{frame_read};
+ghost use Rattle.gateway_run.specs.Holds.{Holds};
+ghost use Rattle.gateway_run.specs.declared.place.Place.{Place};
+ghost use Rattle.gateway_run.specs.declared.place.Phase.TheVariants.{Wants, Begins};
+
+use crate::place::{GatewayStop, Phase, Place};
+use crate::stop::Ran;
+use file_run::{PIECE, events_law};
+use gateway_core::{Gateway, front_law, not_yet_last};
+use plp_config::Plan;
+use ts_packet::{SIZE, SYNC, TsPacket};
+
+/// No frame has this number.
+pub const MOST_FRAMES: u64 = 1 << 31;
+
+// The packet at the front of some bytes.
+fn front_packet(bytes: &[u8]) -> TsPacket
+    requires { SIZE ≤ length bytes.now }
+    ensures { result ≡ take SIZE bytes.now }
+{
+    let mut packet = [0; SIZE];
+    packet.copy_from_slice(&bytes[..SIZE]);
+    TsPacket::from_array(packet)
+}
+
+// The first input from this one on of which packets are wanted.
+fn look(gateway: &Gateway<'_>, from: usize, count: usize) -> Place
+    requires count { count ≡ plps_of gateway.now }
+    requires within { from ≤ count }
+    ensures { IsLooked gateway.now from count result }
+{
+    let mut plp = from;
+    while plp < count {
+        if gateway.wants(plp) > 0 {
+            return Place {
+                plp,
+                phase: Phase::Wants,
+            };
+        }
+        plp += 1;
+    }
+    Place {
+        plp,
+        phase: Phase::Begins,
+    }
+}
+
+// Where it stops.
+fn stopped(why: GatewayStop) -> Place
+    ensures { result ≡ record { plp = 0; phase = Phase.Stopped why } }
+{
+    Place {
+        plp: 0,
+        phase: Phase::Stopped(why),
+    }
+}
+
+// The next packet of an input is bad.
+fn bad(gateway: &Gateway<'_>, plan: &Plan, plp: usize, frames: u64) -> Place
+    requires place { plp < length plan.now.plps }
+    requires plps { plps_of gateway.now ≡ length plan.now.plps }
+    requires early { frames ≤ 2 ^ 31 }
+    ensures { IsBad plan.now plp frames (wants_of gateway.now plp) result }
+{
+    let ticks = u64::from(plan.config().ticks);
+    let packet = plan
+        .slots_by(plp, frames * ticks)
+        .saturating_sub(gateway.wants(plp));
+    stopped(GatewayStop::Bad {
+        input: plp as u8,
+        packet,
+    })
+}
+
+/// Takes the packet at the front of the bytes of the input that is looked at, or stops at it.
+pub fn take_packet(
+    gateway: &mut Gateway<'_>,
+    plan: &Plan,
+    place: Place,
+    ran: Ran,
+    bytes: &[u8],
+) -> Place
+    requires ready { IsReady gateway.old plan.now place ran }
+    requires wants { place.phase ≡ Wants }
+    requires long { SIZE ≤ length bytes.now }
+    ensures ready { IsReady gateway.new plan.now result ran }
+    ensures read { frame_read result.phase ran.frames ≡ ran.frames }
+    ensures holds { (done : List Event) → Holds plan.now done gateway.old place ran → Holds plan.now (done ++ Fed place.plp (take SIZE bytes.now) ∷ []) gateway.new result ran }
+{
+    events_law();
+    let packet = front_packet(bytes);
+    if packet.as_array()[0] != SYNC {
+        return bad(gateway, plan, place.plp, ran.frames);
+    }
+    match gateway.offer(place.plp, &packet) {
+        Ok(()) => look(gateway, place.plp, plan.config().plps.len()),
+        Err(_) => stopped(GatewayStop::OutOfMemory),
+    }
+}
+
+/// The file of the input that is looked at has ended behind these bytes.
+pub fn end_input(
+    gateway: &mut Gateway<'_>,
+    plan: &Plan,
+    place: Place,
+    ran: Ran,
+    bytes: &[u8],
+) -> Place
+    requires ready { IsReady gateway.old plan.now place ran }
+    requires wants { place.phase ≡ Wants }
+    requires short { length bytes.now < SIZE }
+    ensures ready { IsReady gateway.new plan.now result ran }
+    ensures read { frame_read result.phase ran.frames ≡ ran.frames }
+    ensures holds { (done : List Event) → Holds plan.now done gateway.old place ran → Holds plan.now (done ++ Ended place.plp bytes.now ∷ []) gateway.new result ran }
+{
+    events_law();
+    let rest = bytes.len();
+    if rest > 0 {
+        return bad(gateway, plan, place.plp, ran.frames);
+    }
+    let count = plan.config().plps.len();
+    gateway.end_input(place.plp);
+    look(gateway, place.plp, count)
+}
+
+/// Begins the frame under way, or the rest where no frame comes.
+pub fn begin(gateway: &mut Gateway<'_>, plan: &Plan, place: Place, ran: &mut Ran) -> Place
+    requires ready { IsReady gateway.old plan.now place ran.old }
+    requires begins { place.phase ≡ Begins }
+    ensures ready { IsReady gateway.new plan.now result ran.new }
+    ensures left { left_of gateway.new result.phase ran.new.frames < left_of gateway.old place.phase ran.old.frames }
+    ensures read { frame_read result.phase ran.new.frames ≡ ran.old.frames }
+    ensures holds { (done : List Event) → Holds plan.now done gateway.old place ran.old → Holds plan.now done gateway.new result ran.new }
+{
+    not_yet_last();
+    front_law();
+    let _ = plan;
+    if gateway.last() {
+        gateway.finish();
+        return Place {
+            plp: 0,
+            phase: Phase::Rests,
+        };
+    }
+    if ran.frames == MOST_FRAMES {
+        return stopped(GatewayStop::TooManyFrames);
+    }
+    match gateway.begin_frame() {
+        Ok(()) => {
+            ran.frames += 1;
+            Place {
+                plp: 0,
+                phase: Phase::Gives,
+            }
+        }
+        Err(_) => stopped(GatewayStop::OutOfMemory),
+    }
+}
+
+// What comes behind the units.
+fn behind(gateway: &Gateway<'_>, plan: &Plan, place: Place) -> Place
+    requires { plps_of gateway.now ≡ length plan.now.plps }
+    ensures { IsBehindAs place.phase gateway.now (length plan.now.plps) result }
+{
+    match place.phase {
+        Phase::Rests => Place {
+            plp: 0,
+            phase: Phase::Done,
+        },
+        _ => look(gateway, 0, plan.config().plps.len()),
+    }
+}
+
+/// Gives the next unit, or goes on behind the units: how many bytes.
+pub fn give(
+    gateway: &mut Gateway<'_>,
+    plan: &Plan,
+    place: &mut Place,
+    ran: &mut Ran,
+    out: &mut [u8; PIECE],
+) -> usize
+    requires ready { IsReady gateway.old plan.now place.old ran.old }
+    requires gives { IsGiving place.old.phase }
+    ensures count { result ≤ PIECE }
+    ensures ready { IsReady gateway.new plan.now place.new ran.new }
+    ensures frames { ran.new.frames ≡ ran.old.frames }
+    ensures left { left_of gateway.new place.new.phase ran.new.frames < left_of gateway.old place.old.phase ran.old.frames }
+    ensures read { frame_read place.old.phase ran.old.frames ≤ frame_read place.new.phase ran.new.frames }
+    ensures holds { (done : List Event) → Holds plan.now done gateway.old place.old ran.old → Holds plan.now (done ++ Gave (take result out.new) ∷ []) gateway.new place.new ran.new }
+{
+    events_law();
+    let mut unit = [0; SIZE];
+    if gateway.next_ts(&mut unit) {
+        out[..SIZE].copy_from_slice(&unit);
+        ran.units += 1;
+        return SIZE;
+    }
+    *place = behind(gateway, plan, *place);
+    0
+}
