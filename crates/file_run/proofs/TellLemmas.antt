@@ -76,7 +76,7 @@ caught_up Came next machine start now name r t = record {
   taken = t.taken;
   ended = t.ended;
   reads = t.reads;
-  first = λ h told. let rest = t.reads h told in (rest.left, rest.parts);
+  first = λ h told. let rest = t.reads h told in (rest.left, rest.parts, rest.end);
 }
 
 still_going : {A : Type 0} (next : A → Step) (mid : A) (early : List Event) (x : ℕ) (xs : List ℕ) → (x ∷ xs ≡ []) ⊎ ((early ≡ []) ⊎ (next mid ≡ Give)) → (early ≡ []) ⊎ (next mid ≡ Give)
@@ -111,7 +111,7 @@ all_said Came next machine start was is name r waiting says t = record {
   taken = t.taken;
   ended = t.ended;
   reads = λ h told. read_same _ _ _ _ _ _ _ (rest_kept was is r says.held says.opened) refl refl (t.reads h told);
-  first = λ h told. let rest = t.reads h told in (rest.left, rest.parts);
+  first = λ h told. let rest = t.reads h told in (rest.left, rest.parts, rest.end);
 }
 
 -- Nothing but counts changed.
@@ -231,7 +231,7 @@ telling_first Came next machine old new name handle r page o is none came = reco
         parts = refl;
         end = λ on. absurd (let z : false ≡ true = on in cc);
       };
-  first = λ h told. (bytes_of h.files name, refl);
+  first = λ h told. (bytes_of h.files name, refl, λ on. absurd (let z : false ≡ true = on in cc));
 }
 
 -- what a run has told
@@ -248,7 +248,7 @@ tells_of Came next machine old new name r unsaid t = record {
   opened = record { present = t.present; held = t.held; opened = t.opened; created = t.created };
   inputs = some_is old.held (λ h. IsFed (bytes_of h.files name) (given_of r) (fed 0 t.events) (has_ended 0 t.events)) (λ h told.
       is_fed (bytes_of h.files name) r.waiting (fed 0 t.events) (left_of new r.handle) (has_ended 0 t.events) (given_of r) (ap (λ (n : ℕ). n + length r.waiting) t.taken) (t.reads h told));
-  first = some_is old.held (λ h. StartsWith (bytes_of h.files name) (fed 0 t.early)) t.first;
+  first = some_is old.held (λ h. StartsWith (bytes_of h.files name) (fed 0 t.early) (has_ended 0 t.early)) t.first;
 }
 
 -- the one input

@@ -1,5 +1,5 @@
 -- What a run does that reads one named file and says what its machine gives.
-use Rattle.std.specs.Prelude.{◌≡◌, ◌≢◌, ◌⊎◌, ℕ, ◌-◌, ◌<◌, ◌≤◌, List, [], ◌∷◌, ◌++◌, length, IsSome, IfSome, option_map}
+use Rattle.std.specs.Prelude.{◌≡◌, ◌≢◌, ◌⊎◌, ℕ, ◌-◌, ◌<◌, ◌≤◌, Bool, true, List, [], ◌∷◌, ◌++◌, length, IsSome, IfSome, option_map}
 use Rattle.std.specs.FinMap.{get}
 use Rattle.ports.specs.Counts.{Rose}
 use Rattle.ports.specs.Desk.{State, SameCounts, bytes_of, with_name}
@@ -27,9 +27,9 @@ pub record Unopened (old new : State) : Type 0 where
   pub created : new.created ≡ old.created
   pub said : new.said ≡ old.said
 
--- Bytes begin with some.
-abbrev pub StartsWith : List ℕ → List ℕ → Type 0
-StartsWith bytes front = (more : List ℕ) × (bytes ≡ front ++ more)
+-- Bytes begin with some, and are no more where these came to the end.
+abbrev pub StartsWith : List ℕ → List ℕ → Bool → Type 0
+StartsWith bytes front ended = (more : List ℕ) × (bytes ≡ front ++ more) × (ended ≡ true → more ≡ [])
 
 -- The named file was opened and read up to a place, and its bytes were fed to a machine. All that it had given at some moment was said,
 -- and of what it gave since this was not said.
@@ -44,7 +44,7 @@ pub record Tells {A : Type 0} (Came : List Event → A → Type 0) (next : A →
   pub said : new.said ≡ option_map (λ said. said ++ gave early) old.said
   pub opened : Opened old new name place
   pub inputs : IfSome old.held (λ h. IsFed (bytes_of h.files name) place (fed 0 events) (has_ended 0 events))
-  pub first : IfSome old.held (λ h. StartsWith (bytes_of h.files name) (fed 0 early))
+  pub first : IfSome old.held (λ h. StartsWith (bytes_of h.files name) (fed 0 early) (has_ended 0 early))
 
 -- A run to the end of its machine: all that it gave was said.
 pub record TellsAll {A : Type 0} (Came : List Event → A → Type 0) (next : A → Step) (old new : State) (name : List ℕ) (now : A) : Type 0 where

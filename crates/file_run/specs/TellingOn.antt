@@ -35,7 +35,7 @@ pub record Telling {A : Type 0} (Came : List Event → A → Type 0) (next : A �
   pub taken : r.taken ≡ length (fed 0 events)
   pub ended : r.ended ≡ has_ended 0 events
   pub reads : (h : Held) → start.held ≡ Some h → IsRead (bytes_of h.files name) (rest_of now r) (fed 0 events) (has_ended 0 events)
-  pub first : (h : Held) → start.held ≡ Some h → StartsWith (bytes_of h.files name) (fed 0 early)
+  pub first : (h : Held) → start.held ≡ Some h → StartsWith (bytes_of h.files name) (fed 0 early) (has_ended 0 early)
 
 -- A run was begun in which no call failed.
 pub record HasBegun {A : Type 0} (Becomes : A → List Event → A → Type 0) (next : A → Step) (inputs : A → ℕ) (now : State) (machine : A) (r : Reading) (page : List ℕ) : Type 0 where

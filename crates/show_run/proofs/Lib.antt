@@ -2,3 +2,4 @@ pub mod LineLemmas
 pub mod PacketFileLemmas
 pub mod PacketLinesLemmas
 pub mod ShowLemmas
+pub mod T2miLinesLemmas

@@ -54,7 +54,7 @@ first_lines Finished told next [] text at gives g = absurd (let e : End ≡ Give
 first_lines Finished told next (c ∷ line) text at gives (none, inl waits) = waits.1
 first_lines Finished told next (c ∷ line) text at gives (none, inr given) = absurd (let e : c ∷ line ≡ [] = given.0 in cc)
 
-first_of_file : (file : List ℕ) (m : PacketLines) (events : List Event) → StartsWith file (fed 0 events) → (s : Shown m events) → gave events ≡ lines_of 0 s.told → AreFirst file (gave events)
+first_of_file : (file : List ℕ) (m : PacketLines) (events : List Event) → StartsWith file (fed 0 events) (has_ended 0 events) → (s : Shown m events) → gave events ≡ lines_of 0 s.told → AreFirst file (gave events)
 first_of_file file m events starts s text =
     let mid = packs_first (fed 0 events) s.rest s.told s.next s.packs in
     (s.told, mid.0 ++ starts.0, packs_file file (fed 0 events) starts.0 mid.0 s.told starts.1 mid.1, text)
@@ -63,7 +63,7 @@ none_first : (file : List ℕ) → AreFirst file []
 none_first file = ([], file, refl, refl)
 
 -- what was said is the lines of the first packets
-said_first : (start : PacketLines) (file : List ℕ) (early : List Event) (mid : PacketLines) → StartsWith file (fed 0 early) → Comes start early mid → (early ≡ []) ⊎ (next_of mid ≡ Give) → AreFirst file (gave early)
+said_first : (start : PacketLines) (file : List ℕ) (early : List Event) (mid : PacketLines) → StartsWith file (fed 0 early) (has_ended 0 early) → Comes start early mid → (early ≡ []) ⊎ (next_of mid ≡ Give) → AreFirst file (gave early)
 said_first start file early mid starts came (inl none) = subst (λ (l : List Event). AreFirst file (gave l)) (sym none) (none_first file)
 said_first start file early mid starts came (inr gives) =
     first_of_file file mid early starts came.shown (first_lines mid.phase came.shown.told came.shown.next mid.line (gave early) mid.at gives came.shown.given)
@@ -100,15 +100,15 @@ short_reads [] Finished at count r = absurd r
 short_reads (c ∷ line) phase at count r = absurd r
 
 -- all packets that were seen of a file
-meets : (file : List ℕ) (m : PacketLines) (events : List Event) (place : ℕ) → m.phase ≡ Reads → (s : Shown m events) → StartsWith file (fed 0 events) → place ≤ length (fed 0 events) + LARGEST → MeetsPackets file place
+meets : (file : List ℕ) (m : PacketLines) (events : List Event) (place : ℕ) → m.phase ≡ Reads → (s : Shown m events) → StartsWith file (fed 0 events) (has_ended 0 events) → place ≤ length (fed 0 events) + LARGEST → MeetsPackets file place
 meets file m events place reads s starts near =
     let seen = all_seen m events reads s in
     let at = s.place in
     let all = seen.2 in
     (s.told ++ s.next, s.rest ++ starts.0, packs_file file (fed 0 events) starts.0 s.rest (s.told ++ s.next) starts.1 s.packs, omega (arith, near, at, all))
 
-starts_fed : (file : List ℕ) (place : ℕ) (front : List ℕ) (ended : Bool) → IsFed file place front ended → StartsWith file front
-starts_fed file place front ended f = (f.more, f.parts)
+starts_fed : (file : List ℕ) (place : ℕ) (front : List ℕ) (ended : Bool) → IsFed file place front ended → StartsWith file front ended
+starts_fed file place front ended f = (f.more, f.parts, f.end)
 
 -- where no line waits and all was said
 quiet : (m : PacketLines) (events : List Event) → m.line ≡ [] → m.phase ≡ Reads → (s : Shown m events) → gave events ≡ lines_of 0 (s.told ++ s.next)
@@ -116,7 +116,7 @@ quiet m events none reads s =
     let g = subst (λ (p : Phase). Given p s.told s.next m.line (gave events)) reads s.given in
     told_all s.told s.next m.line (gave events) none g.0 g.1
 
-all_first : (file : List ℕ) (m : PacketLines) (events : List Event) → m.line ≡ [] → m.phase ≡ Reads → (s : Shown m events) → StartsWith file (fed 0 events) → AreFirst file (gave events)
+all_first : (file : List ℕ) (m : PacketLines) (events : List Event) → m.line ≡ [] → m.phase ≡ Reads → (s : Shown m events) → StartsWith file (fed 0 events) (has_ended 0 events) → AreFirst file (gave events)
 all_first file m events none reads s starts =
     (s.told ++ s.next, s.rest ++ starts.0, packs_file file (fed 0 events) starts.0 s.rest (s.told ++ s.next) starts.1 s.packs, quiet m events none reads s)
 
@@ -217,7 +217,7 @@ some_said : (start now : PacketLines) (old new : State) (name : List ℕ) (place
 some_said start now old new name place unsaid x reads =
     if_both old.held _ _ _ (λ held f first. go held f first x.going) x.inputs x.first
   where
-    go : (held : Held) → IsFed (bytes_of held.files name) place (fed 0 x.events) (has_ended 0 x.events) → StartsWith (bytes_of held.files name) (fed 0 x.early) → (unsaid ≡ []) ⊎ ((x.early ≡ []) ⊎ (next_of x.mid ≡ Give))
+    go : (held : Held) → IsFed (bytes_of held.files name) place (fed 0 x.events) (has_ended 0 x.events) → StartsWith (bytes_of held.files name) (fed 0 x.early) (has_ended 0 x.early) → (unsaid ≡ []) ⊎ ((x.early ≡ []) ⊎ (next_of x.mid ≡ Give))
         → AreFirst (bytes_of held.files name) (gave x.early)
     go held f first (inl none) =
         let r = reads none in

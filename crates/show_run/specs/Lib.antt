@@ -5,3 +5,5 @@ pub mod PacketText
 pub mod SaidLines
 pub mod Shows
 pub mod Told
+pub mod T2miLines
+pub mod T2miText

@@ -7,6 +7,7 @@ mod packet_line;
 mod packet_lines;
 mod show;
 mod stop;
+mod t2mi_lines;
 
 pub use show::show_packets;
 pub use stop::ShowStop;
