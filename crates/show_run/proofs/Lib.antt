@@ -3,3 +3,4 @@ pub mod PacketFileLemmas
 pub mod PacketLinesLemmas
 pub mod ShowLemmas
 pub mod T2miLinesLemmas
+pub mod T2miShowLemmas

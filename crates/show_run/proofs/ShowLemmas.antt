@@ -107,7 +107,7 @@ meets file m events place reads s starts near =
     let all = seen.2 in
     (s.told ++ s.next, s.rest ++ starts.0, packs_file file (fed 0 events) starts.0 s.rest (s.told ++ s.next) starts.1 s.packs, omega (arith, near, at, all))
 
-starts_fed : (file : List ℕ) (place : ℕ) (front : List ℕ) (ended : Bool) → IsFed file place front ended → StartsWith file front ended
+pub starts_fed : (file : List ℕ) (place : ℕ) (front : List ℕ) (ended : Bool) → IsFed file place front ended → StartsWith file front ended
 starts_fed file place front ended f = (f.more, f.parts, f.end)
 
 -- where no line waits and all was said
@@ -132,7 +132,7 @@ ends_idle : (line : List ℕ) (phase : Phase) (at : ℕ) → next_from line phas
 ends_idle [] phase at e = refl
 ends_idle (c ∷ line) phase at e = absurd (let f : Give ≡ End = e in cc)
 
-count_some : (count : ℕ) → count_line count ≡ [] → ⊥
+pub count_some : (count : ℕ) → count_line count ≡ [] → ⊥
 count_some count e = let n = ap length e in let m = length-append (codes "packets=" ++ decimal count) (codes "\n") in absurd (omega (arith, n, m))
 
 -- the end of a file that is nothing but packets

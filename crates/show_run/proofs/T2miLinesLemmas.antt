@@ -294,7 +294,7 @@ ended_seeking law none start m n events bytes seeks few done at count line c =
     }
 
 -- the packets behind units that tell no PID
-behind_all : PacketsBehind → (m : T2miLines) (all text : List ℕ) (ended : Bool) (f : Unpiping m all text ended) (more : List ℕ) → t2mi_packets_in (all ++ more) ≡ map (further (length f.front)) (accepted_of f.pid ((f.bytes ++ drop m.from m.unit) ++ more))
+pub behind_all : PacketsBehind → (m : T2miLines) (all text : List ℕ) (ended : Bool) (f : Unpiping m all text ended) (more : List ℕ) → t2mi_packets_in (all ++ more) ≡ map (further (length f.front)) (accepted_of f.pid ((f.bytes ++ drop m.from m.unit) ++ more))
 behind_all law m all text ended f more =
     let rest = (f.bytes ++ drop m.from m.unit) ++ more in
     let whole : all ++ more ≡ f.front ++ rest = ap (λ (l : List ℕ). l ++ more) f.parts ∙ append_assoc f.front (f.bytes ++ drop m.from m.unit) more in

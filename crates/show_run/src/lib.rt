@@ -9,5 +9,5 @@ mod show;
 mod stop;
 mod t2mi_lines;
 
-pub use show::show_packets;
+pub use show::{show_packets, show_t2mi};
 pub use stop::ShowStop;

@@ -4,15 +4,18 @@ ghost use Rattle.file_run.specs.Telling.{TellsAll};
 ghost use Rattle.show_run.specs.PacketLines.{packets_end};
 ghost use Rattle.show_run.specs.PacketText.{IsPacketText};
 ghost use Rattle.show_run.specs.Shows.{Shows};
+ghost use Rattle.show_run.specs.T2miText.{IsT2miText};
 ghost use Rattle.show_run.specs.Told.{StopsLines};
 
 use crate::packet_lines::{PacketLines, Phase};
 use crate::stop::ShowStop;
+use crate::t2mi_lines::T2miLines;
 use desk_io::{Page, ReadAhead};
 use file_run::{Machine, RunFault, tell};
 use ports::Desk;
 use std::alloc::Global;
 use t2mi_packet::front_refusal;
+use t2mi_stream::{accepted_front, first_pid_law};
 
 // Tells the lines of a machine that is fed with a named file.
 fn tell_lines<M: Machine, D: Desk>(
@@ -60,4 +63,18 @@ pub fn show_packets<D: Desk>(alloc: Global, name: &str, desk: &mut D) -> Result<
     };
     tell_lines(alloc, &mut lines, name, desk)?;
     packets_end(&lines)
+}
+
+/// Says a line for each T2-MI packet in the transport packets of a named file, on the PID of the first that tells one, and last their
+/// number: how many.
+pub fn show_t2mi<D: Desk>(alloc: Global, name: &str, desk: &mut D) -> Result<u64, ShowStop>
+    ensures { Shows IsT2miText (D.state desk.old) (D.state desk.new) name.now result }
+{
+    accepted_front();
+    first_pid_law();
+    let Ok(mut lines) = T2miLines::open(alloc) else {
+        return Err(ShowStop::OutOfMemory);
+    };
+    tell_lines(alloc, &mut lines, name, desk)?;
+    Ok(lines.count)
 }
