@@ -26,7 +26,7 @@ fed_other (Gave bytes) input other count o n events differ t = absurd t
 
 pub ended_other : (e : Event) (input other count : ℕ) (o n : Option (List ℕ)) (events : List Event) → other ≢ input → IsTaken e input o n count → has_ended other (events ++ e ∷ []) ≡ has_ended other events
 ended_other (Fed to bytes) input other count o n events differ t = (fed_more to bytes events).ended other
-ended_other (Ended to bytes) input other count o n events differ t = (ended_more to bytes events).open_ other (λ e. differ (e ∙ t.0))
+ended_other (Ended to bytes) input other count o n events differ t = (ended_more to bytes events).others_ended other (λ e. differ (e ∙ t.0))
 ended_other (Gave bytes) input other count o n events differ t = absurd t
 
 pub gives_none : (e : Event) (input count : ℕ) (o n : Option (List ℕ)) (events : List Event) → IsTaken e input o n count → gave (events ++ e ∷ []) ≡ gave events
