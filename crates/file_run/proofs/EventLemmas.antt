@@ -57,7 +57,7 @@ ended_more input bytes events =
       here = fed_one input events (Ended input bytes) ∙ ap (λ (l : List ℕ). fed input events ++ l) (to_itself input bytes);
       others = λ other differ. fed_apart other events (Ended input bytes) (to_another input other bytes differ);
       ended = ended_one input events (Ended input bytes) ∙ ap (λ (b : Bool). has_ended input events || b) self ∙ or_on (has_ended input events);
-      open_ = λ other differ. still_open other events (Ended input bytes) (ne_eqb input other (λ e. differ (sym e)));
+      others_ended = λ other differ. still_open other events (Ended input bytes) (ne_eqb input other (λ e. differ (sym e)));
       gave = gives_none events (Ended input bytes) refl;
     }
 

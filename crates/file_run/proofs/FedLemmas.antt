@@ -16,7 +16,7 @@ use Rattle.file_run.specs.declared.machine.Step.{Step}
 use Rattle.file_run.specs.declared.machine.Step.TheVariants.{Read}
 use Rattle.file_run.proofs.EventLemmas.{fed_more, ended_more}
 use Rattle.file_run.proofs.OpenLemmas.{of_some, reads_fail}
-use Rattle.file_run.proofs.RunLemmas.{each_reader, read_on, other_left, stands_by, reading_same, place_at, all_short}
+use Rattle.file_run.proofs.RunLemmas.{each_reader, read_same, read_on, other_left, stands_by, reading_same, place_at, all_short}
 
 -- what one event tells of its input, of another one, and of the output
 pub fed_other : (e : Event) (input other count : ℕ) (o n : Option (List ℕ)) (events : List Event) → other ≢ input → IsTaken e input o n count → fed other (events ++ e ∷ []) ≡ fed other events
@@ -26,7 +26,7 @@ fed_other (Gave bytes) input other count o n events differ t = absurd t
 
 pub ended_other : (e : Event) (input other count : ℕ) (o n : Option (List ℕ)) (events : List Event) → other ≢ input → IsTaken e input o n count → has_ended other (events ++ e ∷ []) ≡ has_ended other events
 ended_other (Fed to bytes) input other count o n events differ t = (fed_more to bytes events).ended other
-ended_other (Ended to bytes) input other count o n events differ t = (ended_more to bytes events).open_ other (λ e. differ (e ∙ t.0))
+ended_other (Ended to bytes) input other count o n events differ t = (ended_more to bytes events).others_ended other (λ e. differ (e ∙ t.0))
 ended_other (Gave bytes) input other count o n events differ t = absurd t
 
 pub gives_none : (e : Event) (input count : ℕ) (o n : Option (List ℕ)) (events : List Event) → IsTaken e input o n count → gave (events ++ e ∷ []) ≡ gave events
@@ -69,9 +69,6 @@ read_here (Ended to bytes) file input count o n events t r =
     subst (λ (k : ℕ). IsRead file n (fed input (events ++ Ended k bytes ∷ [])) (has_ended input (events ++ Ended k bytes ∷ []))) (sym t.0)
     (read_more file bytes (fed input events) _ o n (has_ended input events) _ t.2 (ended_more input bytes events).here (λ l is on. inr (of_some n l (λ rest. rest ≡ []) is t.3)) r)
 read_here (Gave bytes) file input count o n events t r = absurd t
-
-pub read_same : (file : List ℕ) (o p : Option (List ℕ)) (taken more : List ℕ) (ended now : Bool) → p ≡ o → more ≡ taken → now ≡ ended → IsRead file o taken ended → IsRead file p more now
-read_same file o p taken more ended now e f h r = record { left = r.left; rest_is = e ∙ r.rest_is; parts = r.parts ∙ ap (λ (l : List ℕ). l ++ r.left) (sym f); end = λ on. r.end (sym h ∙ on) }
 
 pub ended_here : (e : Event) (input count : ℕ) (o n : Option (List ℕ)) (was is : Bool) (events : List Event) → IsTaken e input o n count → IsMarked e was is → was ≡ has_ended input events → is ≡ has_ended input (events ++ e ∷ [])
 ended_here (Fed to bytes) input count o n was is events t m h = m ∙ h ∙ sym ((fed_more to bytes events).ended input)

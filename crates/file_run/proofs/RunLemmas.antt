@@ -198,8 +198,8 @@ stands b now readings out reach events Came r came =
     stands_by b now readings out (gave events) reach events Came HoldsAll r.reached refl came (λ input lt. let s = r.short input lt in omega (arith, s)) r.taken r.within r.relates
 
 -- A machine was drained.
-drained_read : (file : List ℕ) (o p : Option (List ℕ)) (taken more : List ℕ) (ended now : Bool) → p ≡ o → more ≡ taken → now ≡ ended → IsRead file o taken ended → IsRead file p more now
-drained_read file o p taken more ended now e f h r = record { left = r.left; rest_is = e ∙ r.rest_is; parts = r.parts ∙ ap (λ (l : List ℕ). l ++ r.left) (sym f); end = λ on. r.end (sym h ∙ on) }
+pub read_same : (file : List ℕ) (o p : Option (List ℕ)) (taken more : List ℕ) (ended now : Bool) → p ≡ o → more ≡ taken → now ≡ ended → IsRead file o taken ended → IsRead file p more now
+read_same file o p taken more ended now e f h r = record { left = r.left; rest_is = e ∙ r.rest_is; parts = r.parts ∙ ap (λ (l : List ℕ). l ++ r.left) (sym f); end = λ on. r.end (sym h ∙ on) }
 
 -- the places of readers of which each is short
 pub all_short : (readings : List Reading) → ((input : ℕ) → input < length readings → given_of (reading_at readings input) < most_bytes) → AllShort (places_of readings)
@@ -216,7 +216,7 @@ relates_on b h old new readings out reach events late front r o a told =
       present = rel.present;
       reads = λ input lt.
           let inside : input < length readings = let all = r.reached.all in omega (arith, lt, all) in
-          drained_read _ _ _ _ _ _ _ (ap (option_map (λ l. (reading_at readings input).waiting ++ l)) (none_left b h old new readings out (gave events) front input r.apart told inside r.reached a))
+          read_same _ _ _ _ _ _ _ (ap (option_map (λ l. (reading_at readings input).waiting ++ l)) (none_left b h old new readings out (gave events) front input r.apart told inside r.reached a))
           (later.fed input) (later.ended input) (rel.reads input lt);
     }
 
@@ -256,7 +256,7 @@ stops_drained Becomes start m n reach next b old new readings out events r came 
         present = q.present;
         reads = λ input lt.
             let inside : input < length readings = let all = r.reached.all in omega (arith, lt, all) in
-            drained_read _ _ _ _ _ _ _ (ap (option_map (λ l. (reading_at readings input).waiting ++ l)) (none_left b h old new readings out (gave events) d.wrote.front input r.apart told inside r.reached d.wrote.appends))
+            read_same _ _ _ _ _ _ _ (ap (option_map (λ l. (reading_at readings input).waiting ++ l)) (none_left b h old new readings out (gave events) d.wrote.front input r.apart told inside r.reached d.wrote.appends))
             refl refl (q.reads input lt);
       });
   short = all_short readings r.short;

@@ -15,9 +15,9 @@ use Rattle.std.proofs.lemmas.List.{length_push}
 use Rattle.file_run.specs.TellingOn.{Telling, GivesWay}
 use Rattle.file_run.proofs.DrainLemmas.{Gives}
 use Rattle.file_run.proofs.EventLemmas.{gave_piece}
-use Rattle.file_run.proofs.FedLemmas.{read_same, read_here, fed_here, ended_here, gives_none}
+use Rattle.file_run.proofs.FedLemmas.{read_here, fed_here, ended_here, gives_none}
 use Rattle.file_run.proofs.OpenLemmas.{some_is, of_some, is_there}
-use Rattle.file_run.proofs.RunLemmas.{moved, is_fed}
+use Rattle.file_run.proofs.RunLemmas.{read_same, moved, is_fed}
 
 -- where a reader comes to
 read_further : (start was is : State) (r s : Reading) → ReadsOn was is r s → r.handle ≡ length start.opened → was.opened ≡ start.opened ++ given_of r ∷ [] → is.opened ≡ start.opened ++ given_of s ∷ []

@@ -1,13 +1,13 @@
 pub mod BeginLemmas
-pub mod EndLemmas
 pub mod EventLemmas
-pub mod FaultLemmas
 pub mod FileLemmas
 pub mod FirstLemmas
 pub mod FrameLemmas
 pub mod GiveLemmas
 pub mod LawLemmas
 pub mod MachineLemmas
+pub mod OutputLemmas
 pub mod ReadyLemmas
+pub mod RunLemmas
 pub mod StepLemmas
 pub mod TakeLemmas

@@ -205,7 +205,7 @@ input_ended tell c done g next place after ran count bytes r e look nothing stan
               each = subst (λ (t : Told). ArePackets t.packets) (sym t) o.each;
               end = λ _. f.ended ∙ ap (λ (t : Told). t.ended) (sym t);
             })
-            (λ k differ lt. offered_as _ _ _ _ (told k h.events) (told k (h.events ++ Ended place.plp ∷ [])) _ (f.others k differ) (f.open_ k differ) (other_ended k place.plp h.events differ) (h.inputs.each k lt));
+            (λ k differ lt. offered_as _ _ _ _ (told k h.events) (told k (h.events ++ Ended place.plp ∷ [])) _ (f.others k differ) (f.others_ended k differ) (other_ended k place.plp h.events differ) (h.inputs.each k lt));
         whole = λ k on. w.none k;
       };
       time = time_ended c h.events place.plp w.is_going h.time;
@@ -268,7 +268,7 @@ pub ended_stopped : EventsTell → (c : Config) (done : List run.Event) (g next 
     → (h : Holds c done g place ran) → StopsFor c h.events (one_tail place.plp bytes) why → Holds c (done ++ run.Ended place.plp bytes ∷ []) next after ran
 ended_stopped tell c done g next place after ran bytes why r e to some h stops =
     let f = tell.ended place.plp bytes done in
-    stopped_at c done (done ++ run.Ended place.plp bytes ∷ []) g next place after ran bytes why r e to some (λ p. inr f.ended) (record { here = f.here; others = f.others; ended = f.open_; gave = f.gave }) h stops
+    stopped_at c done (done ++ run.Ended place.plp bytes ∷ []) g next place after ran bytes why r e to some (λ p. inr f.ended) (record { here = f.here; others = f.others; ended = f.others_ended; gave = f.gave }) h stops
 
 -- The next packet of the input that is looked at is bad.
 pub record IsMet (c : Config) (events : List Event) (tails : ℕ → List ℕ) (plp : ℕ) (after : Place) : Type 0 where

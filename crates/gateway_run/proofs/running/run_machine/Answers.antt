@@ -1,5 +1,5 @@
 use Rattle.std.proofs.Common.{refl}
-use Rattle.gateway_run.proofs.FaultLemmas.{ends, stops}
+use Rattle.gateway_run.proofs.RunLemmas.{ends, stops}
 use Rattle.gateway_run.proofs.running.run_machine.Goals as goal
 
 pub returns-in-Ok-clause-ok : goal.returns-in-Ok-clause-ok

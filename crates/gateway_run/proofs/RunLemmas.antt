@@ -34,7 +34,7 @@ use Rattle.gateway_run.specs.declared.place.Place.{Place}
 use Rattle.gateway_run.specs.declared.stop.Ran.{Ran}
 use Rattle.gateway_run.specs.declared.place.Phase.TheVariants as phase
 use Rattle.gateway_run.proofs.BeginLemmas.{before_frame}
-use Rattle.gateway_run.proofs.EndLemmas.{continue_files, none_before, none_here, gave_all, ended_all, gave_complete, gave_since, gave_front, meets_bad}
+use Rattle.gateway_run.proofs.OutputLemmas.{continue_files, none_before, none_here, gave_all, ended_all, gave_complete, gave_since, gave_front, meets_bad}
 use Rattle.gateway_run.proofs.MachineLemmas.{offered_length}
 use Rattle.gateway_run.proofs.TakeLemmas.{waiting}
 

@@ -1,3 +1,0 @@
-pub mod InputLemmas
-pub mod ReadLemmas
-pub mod WriteLemmas
