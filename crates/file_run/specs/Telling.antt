@@ -1,9 +1,9 @@
 -- What a run does that reads one named file and says what its machine gives.
-use Rattle.std.specs.Prelude.{◌≡◌, ◌≢◌, ◌⊎◌, ℕ, ◌-◌, ◌<◌, ◌≤◌, Bool, true, List, [], ◌∷◌, ◌++◌, length, IsSome, IfSome, option_map}
-use Rattle.std.specs.FinMap.{get}
+use Rattle.std.specs.Prelude.{◌≡◌, ◌≢◌, ◌⊎◌, ℕ, ◌-◌, ◌<◌, ◌≤◌, Bool, true, List, [], ◌++◌, length, IfSome, option_map}
 use Rattle.ports.specs.Counts.{Rose}
-use Rattle.ports.specs.Desk.{State, SameCounts, bytes_of, with_name}
+use Rattle.ports.specs.Desk.{State, SameCounts, bytes_of}
 use Rattle.desk_io.specs.Faults.{ReadsFail, WritesFail}
+use Rattle.desk_io.specs.Opening.{Opened, Unopened}
 use Rattle.desk_io.specs.Reading.{most_bytes}
 use Rattle.file_run.specs.Events.{Event, fed, has_ended, gave}
 use Rattle.file_run.specs.FileRun.{IsFed}
@@ -12,20 +12,6 @@ use Rattle.file_run.specs.declared.machine.Step.{Step}
 use Rattle.file_run.specs.declared.machine.Step.TheVariants.{Read, Give, End}
 use Rattle.file_run.specs.declared.stop.RunFault.{RunFault}
 use Rattle.file_run.specs.declared.stop.RunFault.TheVariants.{TooLong, ReadFault, WriteFault}
-
--- The file was opened once, and reads gave so many of its bytes. No file changed, and none was created.
-pub record Opened (old new : State) (name : List ℕ) (given : ℕ) : Type 0 where
-  pub present : IfSome old.held (λ h. IsSome (get h.files name))
-  pub held : new.held ≡ option_map (with_name name) old.held
-  pub opened : new.opened ≡ old.opened ++ given ∷ []
-  pub created : new.created ≡ old.created
-
--- No file was opened, and none created or changed, and nothing was said.
-pub record Unopened (old new : State) : Type 0 where
-  pub held : new.held ≡ old.held
-  pub opened : new.opened ≡ old.opened
-  pub created : new.created ≡ old.created
-  pub said : new.said ≡ old.said
 
 -- Bytes begin with some, and are no more where these came to the end.
 abbrev pub StartsWith : List ℕ → List ℕ → Bool → Type 0

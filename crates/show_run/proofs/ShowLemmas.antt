@@ -15,7 +15,7 @@ use Rattle.t2mi_packet.specs.declared.fault.PacketWhy.{PacketWhy}
 use Rattle.file_run.specs.Events.{Event, fed, has_ended, gave}
 use Rattle.file_run.specs.FileRun.{IsFed}
 use Rattle.file_run.specs.Steps.{FallsShort}
-use Rattle.file_run.specs.Telling.{Opened, StartsWith, Reaches, Tells, TellsAll, TellsTooMuch, TellsUntilFault, ReadsFailFirst, StopsTelling}
+use Rattle.file_run.specs.Telling.{StartsWith, Reaches, Tells, TellsAll, TellsTooMuch, TellsUntilFault, ReadsFailFirst, StopsTelling}
 use Rattle.file_run.specs.declared.machine.Step.{Step}
 use Rattle.file_run.specs.declared.machine.Step.TheVariants.{Read, Give, End}
 use Rattle.show_run.specs.Front.{most_of}

@@ -3,7 +3,8 @@ use Rattle.std.specs.Prelude.{◌≡◌, ◌⊎◌, ℕ, ◌<◌, ◌≤◌, Lis
 use Rattle.ports.specs.Desk.{State, SameCounts, bytes_of}
 use Rattle.desk_io.specs.Faults.{WritesFail}
 use Rattle.desk_io.specs.Reading.{most_bytes}
-use Rattle.file_run.specs.Telling.{Opened, Unopened, ReadsFailFirst}
+use Rattle.file_run.specs.Telling.{ReadsFailFirst}
+use Rattle.desk_io.specs.Opening.{Opened, Unopened}
 use Rattle.show_run.specs.declared.stop.ShowStop.{ShowStop}
 use Rattle.show_run.specs.declared.stop.ShowStop.TheVariants.{PacketRefused, TooLong, ReadFault, WriteFault, OutOfMemory}
 

@@ -1,18 +1,19 @@
 // The configuration of a named file.
 ghost use Rattle.std.specs.Prelude.{◌≡◌, ◌⊎◌, ◌<◌, ◌≤◌, ◌+◌, List, ℕ, [], length, IfOk, IfErr, OnOk, OnErr};
-ghost use Rattle.ports.specs.Desk.{HasCause};
+ghost use Rattle.ports.specs.Counts.{MayFailReading};
+ghost use Rattle.plp_config.specs.Capacity.{IsPlan};
 ghost use Rattle.plp_config.specs.Rules.{AllRules};
 ghost use Rattle.config_text.specs.ConfigText.{Spells, CausesFault};
-ghost use Rattle.site_top.specs.ConfigFile.{Gives, GivesNone};
-ghost use Rattle.ts_file.specs.Ahead.{ReadsAhead, IsAtEnd};
-ghost use Rattle.site_top.specs.TextReading.{RefusesText};
+ghost use Rattle.config_file.specs.ConfigFile.{Gives, GivesNone, GivesNoPlan, LacksCapacity};
+ghost use Rattle.desk_io.specs.Ahead.{ReadsAhead, IsAtEnd};
+ghost use Rattle.config_file.specs.TextReading.{RefusesText};
 
-use crate::outcome::{ConfigCause, Outcome};
+use crate::stop::{ConfigCause, ConfigStop};
 use config_text::TextFault;
-use plp_config::{Valid, validate};
+use desk_io::Input;
+use plp_config::{Plan, Valid, fits, validate};
 use ports::{Desk, DeskFault};
 use std::alloc::Global;
-use ts_file::Input;
 
 // One byte more than a text may have.
 const LIMIT: usize = 65_537;
@@ -25,8 +26,7 @@ fn read_text<D: Desk>(desk: &mut D, handle: u32, input: &mut Input) -> Result<()
     ensures few { length input.new ≤ LIMIT }
     ensures end { OnOk result (IsAtEnd (D.state desk.new) handle ⊎ (length input.new ≡ LIMIT)) }
     ensures err { OnErr result (length input.new < LIMIT) }
-    ensures cause { HasCause (D.state desk.old).read_faults (D.state desk.new).read_faults result }
-    ensures calm { OnOk result ((D.state desk.new).read_faults ≡ (D.state desk.old).read_faults) }
+    ensures counts { MayFailReading (D.state desk.old).counts (D.state desk.new).counts result }
 {
     while input.len() < LIMIT {
         let most = (LIMIT - input.len()) as u64;
@@ -37,19 +37,17 @@ fn read_text<D: Desk>(desk: &mut D, handle: u32, input: &mut Input) -> Result<()
     Ok(())
 }
 
-fn refused_text(fault: TextFault) -> Outcome
+fn refused_text(fault: TextFault) -> ConfigStop
     ensures { (text : List ℕ) → CausesFault text fault → RefusesText text result }
 {
     match fault {
-        TextFault::Refused { line, why } => Outcome::ConfigRefused {
-            cause: ConfigCause::Text { line, why },
-        },
-        TextFault::OutOfMemory => Outcome::OutOfMemory,
+        TextFault::Refused { line, why } => ConfigStop::Refused(ConfigCause::Text { line, why }),
+        TextFault::OutOfMemory => ConfigStop::OutOfMemory,
     }
 }
 
 // The configuration that a text spells, if it satisfies the rules.
-fn valid_config(alloc: Global, text: &[u8]) -> Result<Valid, Outcome>
+fn valid_config(alloc: Global, text: &[u8]) -> Result<Valid, ConfigStop>
     ensures ok { IfOk result (λ c. Spells text.now c × AllRules c) }
     ensures err { IfErr result (RefusesText text.now) }
 {
@@ -59,28 +57,46 @@ fn valid_config(alloc: Global, text: &[u8]) -> Result<Valid, Outcome>
     };
     match validate(config) {
         Ok(valid) => Ok(valid),
-        Err((_, fault)) => Err(Outcome::ConfigRefused {
-            cause: ConfigCause::Rule {
-                rule: fault.rule,
-                plp: fault.plp,
-            },
-        }),
+        Err((_, fault)) => Err(ConfigStop::Refused(ConfigCause::Rule {
+            rule: fault.rule,
+            plp: fault.plp,
+        })),
     }
 }
 
+// Tries the capacity tests.
+fn plan_of(valid: Valid) -> Result<Plan, ConfigStop>
+    ensures ok { IfOk result (λ plan. (plan ≡ valid) × IsPlan plan) }
+    ensures err { IfErr result (LacksCapacity valid) }
+{
+    match fits(valid) {
+        Ok(plan) => Ok(plan),
+        Err((_, fault)) => Err(ConfigStop::Lacks(fault)),
+    }
+}
+
+/// Reads the configuration of a named file, tries its rules, and then the capacity tests. It answers as [`read_config`] does, and
+/// `Lacks` if a test fails.
+pub fn read_plan<D: Desk>(alloc: Global, name: &str, desk: &mut D) -> Result<Plan, ConfigStop>
+    ensures ok { IfOk result (λ plan. Gives (D.state desk.old) (D.state desk.new) name.now plan × IsPlan plan) }
+    ensures err { IfErr result (GivesNoPlan (D.state desk.old) (D.state desk.new) name.now) }
+{
+    plan_of(read_config(alloc, name, desk)?)
+}
+
 /// Reads the configuration of a named file, and tries its rules.
-pub fn read_config<D: Desk>(alloc: Global, name: &str, desk: &mut D) -> Result<Valid, Outcome>
+pub fn read_config<D: Desk>(alloc: Global, name: &str, desk: &mut D) -> Result<Valid, ConfigStop>
     ensures ok { IfOk result (Gives (D.state desk.old) (D.state desk.new) name.now) }
     ensures err { IfErr result (GivesNone (D.state desk.old) (D.state desk.new) name.now) }
 {
     let Ok(mut input) = Input::open(alloc) else {
-        return Err(Outcome::OutOfMemory);
+        return Err(ConfigStop::OutOfMemory);
     };
     let Ok(handle) = desk.open(name) else {
-        return Err(Outcome::ReadFault);
+        return Err(ConfigStop::ReadFault);
     };
     let Ok(()) = read_text(desk, handle, &mut input) else {
-        return Err(Outcome::ReadFault);
+        return Err(ConfigStop::ReadFault);
     };
     valid_config(alloc, input.as_bytes())
 }

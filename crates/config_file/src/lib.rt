@@ -1,0 +1,8 @@
+//! The configuration of a network and its plan, read from a file of a desk.
+#![tactic(auto)]
+
+mod reading;
+mod stop;
+
+pub use reading::{read_config, read_plan};
+pub use stop::{ConfigCause, ConfigStop};
