@@ -1,2 +1,3 @@
 pub mod ConfigFile
+pub mod Laws
 pub mod TextReading

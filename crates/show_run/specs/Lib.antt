@@ -1,4 +1,5 @@
 pub mod Front
+pub mod Laws
 pub mod PacketFile
 pub mod PacketLines
 pub mod PacketText

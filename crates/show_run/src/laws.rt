@@ -1,0 +1,16 @@
+// Laws of the definitions. Their function does nothing.
+ghost use Rattle.show_run.specs.Laws.{OneEnd, EachEnds};
+
+use t2mi_packet::{no_refusal, one_packet, one_refusal, packet_length, spelled_or_refused};
+
+/// The bytes of a file of packets decide how a run over it must end.
+pub fn packets_end_law()
+    ensures one { OneEnd }
+    ensures each { EachEnds }
+{
+    one_packet();
+    no_refusal();
+    one_refusal();
+    packet_length();
+    spelled_or_refused();
+}
