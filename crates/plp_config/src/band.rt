@@ -20,8 +20,8 @@ pub enum Band {
 }
 
 impl Band {
-    // Subseconds in a second.
-    pub(crate) fn subseconds_per_second(self) -> u32
+    /// Subseconds in a second (TS 102 773, clause 5.2.7).
+    pub fn subseconds_per_second(self) -> u32
         ensures value { result ≡ subseconds_per_second self }
         ensures least { 40000000 ≤ result }
         ensures greatest { result ≤ 131000000 }
@@ -36,8 +36,8 @@ impl Band {
         }
     }
 
-    // Subseconds in an elementary period.
-    pub(crate) fn subseconds_per_tick(self) -> u32
+    /// Subseconds in an elementary period.
+    pub fn subseconds_per_tick(self) -> u32
         ensures value { result ≡ subseconds_per_tick self }
         ensures least { 7 ≤ result }
         ensures greatest { result ≤ 71 }
