@@ -1,7 +1,7 @@
 -- Laws of records.
 use Rattle.std.proofs.Common.{◌≡◌, ◌≢◌, ◌⊎◌, ℕ, ◌+◌, ◌-◌, ◌*◌, ◌/◌, ◌%◌, ◌^◌, ◌<◌, ◌≤◌, Bool, false, List, [], ◌∷◌, ◌++◌, length, get_or, take, drop, replicate, Option, Some, None, Result, Ok, Err, refl, sym, ap, ap₂, subst, ◌∙◌, append-nil, arith, inl, inr}
 use Rattle.std.specs.Prelude.{slice_index, map, sum_by, IfOk, IfErr}
-use Rattle.std.specs.List.{flat_map, range_with_len}
+use Rattle.std.specs.List.{concat, flat_map, range_with_len}
 use Rattle.std.proofs.lemmas.Bool.{cases_lt}
 use Rattle.std.proofs.lemmas.List.{take_at, take_all, take-append-drop, length-append, length-drop, length-replicate, drop-append-le, take-append-le}
 use Rattle.std.proofs.lemmas.List.FromFn.{get_or-map-range_with_len, fill_by_all}
@@ -11,9 +11,9 @@ use Rattle.byteorder.specs.Numbers.{length-bytes_high_first}
 use Rattle.terms.specs.Bits.{number_of, byte_at, bytes_of, bytes_for}
 use Rattle.terms.proofs.BitLemmas.{length-bytes_of, number_of-append}
 use Rattle.terms.proofs.PartLemmas.{number_of-zeros}
-use Rattle.site_frame.specs.Record.{Block, head_bytes, block_bytes, blocks_bytes, cell_bytes}
-use Rattle.site_frame.specs.Rest.{joined, rest_bytes, FitsFrame, IsRest}
-use Rattle.site_frame.specs.Whole.{greatest_rest, kind_of, moment_of, HasRest, Spells, BeginsWith, Refuses, written_rest, head_len, block_size, record_len, FitsRest, HasHead, HasKind, told_moment, told_len, told_rest, view_in, IsRead, IsRefused}
+use Rattle.site_frame.specs.Record.{Block, head_len, head_bytes, block_bytes, blocks_bytes, cell_bytes}
+use Rattle.site_frame.specs.Rest.{rest_bytes, FitsFrame, IsRest}
+use Rattle.site_frame.specs.Whole.{greatest_rest, kind_of, moment_of, HasRest, Spells, BeginsWith, Refuses, written_rest, block_size, record_len, FitsRest, HasHead, HasKind, told_moment, told_len, told_rest, view_in, IsRead, IsRefused}
 use Rattle.site_frame.specs.Laws.{WrittenIsRead, OneRecord, NoRefusal, SpelledOrRefused, OneRefusal, SpelledLength, WrittenSpells, HeadLength, WrittenLength, BlocksInOrder}
 use Rattle.site_frame.specs.declared.fault.RecordWhy.{RecordWhy}
 use Rattle.site_frame.specs.declared.fault.RecordWhy.TheVariants.{Head, Kind, Length, Order, OffGrid}
@@ -270,18 +270,18 @@ written_is_rest p fits =
       ignored = [];
       short = omega (arith, zeros-len);
       whole = omega (arith, zeros-len);
-      spelled = ap (λ (xs : List ℕ). joined (bytes_of p.pre ∷ (big_bytes 4 (length p.post) ++ xs)
+      spelled = ap (λ (xs : List ℕ). concat (bytes_of p.pre ∷ (big_bytes 4 (length p.post) ++ xs)
           ∷ (big_bytes 2 (length p.blocks) ++ blocks_bytes p.blocks []) ∷ (big_bytes 4 (length p.cells) ++ flat_map cell_bytes p.cells) ∷ [])) same;
     }
 
-has_written : (view : RecordView) → FitsRest view → HasRest view (joined (written_rest view))
+has_written : (view : RecordView) → FitsRest view → HasRest view (concat (written_rest view))
 has_written (Frame moment pre post blocks cells) h = written_is_rest (record { pre = pre; post = post; blocks = blocks; cells = cells }) h
 has_written (Muted moment) h = refl
 
 pub written_spells : WrittenSpells
 written_spells view h = record {
   fits = h.moment;
-  rest = joined (written_rest view);
+  rest = concat (written_rest view);
   parts = has_written view h.rest;
   small = omega (arith, h.small, written_length view h.rest);
   spelled = refl;

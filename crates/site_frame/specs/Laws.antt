@@ -1,10 +1,9 @@
 -- Laws of records.
 use Rattle.std.specs.Prelude.{◌≡◌, ◌⊎◌, ℕ, ◌+◌, ◌<◌, List, [], ◌++◌, length, slice_index}
-use Rattle.std.specs.List.{flat_map}
+use Rattle.std.specs.List.{concat, flat_map}
 use Rattle.plp_config.specs.declared.moment.Moment.{Moment}
-use Rattle.site_frame.specs.Record.{Block, head_bytes, block_bytes, blocks_bytes}
-use Rattle.site_frame.specs.Rest.{joined}
-use Rattle.site_frame.specs.Whole.{Spells, BeginsWith, Refuses, written_rest, record_bytes, head_len, record_len, FitsRest, FitsRecord}
+use Rattle.site_frame.specs.Record.{Block, head_len, head_bytes, block_bytes, blocks_bytes}
+use Rattle.site_frame.specs.Whole.{Spells, BeginsWith, Refuses, written_rest, record_bytes, record_len, FitsRest, FitsRecord}
 use Rattle.site_frame.specs.declared.fault.RecordWhy.{RecordWhy}
 use Rattle.site_frame.specs.declared.reading.RecordView.{RecordView}
 
@@ -41,7 +40,7 @@ abbrev pub HeadLength : Type 0
 HeadLength = (kind : ℕ) (moment : Moment) (rest : ℕ) → length (head_bytes kind moment rest) ≡ head_len
 
 abbrev pub WrittenLength : Type 0
-WrittenLength = (view : RecordView) → FitsRest view → head_len + length (joined (written_rest view)) ≡ record_len view
+WrittenLength = (view : RecordView) → FitsRest view → head_len + length (concat (written_rest view)) ≡ record_len view
 
 -- Blocks are written one behind another.
 abbrev pub BlocksInOrder : Type 0

@@ -1,10 +1,10 @@
 -- The rest of a frame's record: how it is spelled, and how it is read from left to right.
 use Rattle.std.specs.Prelude.{◌≡◌, ℕ, ◌+◌, ◌*◌, ◌%◌, ◌<◌, ◌^◌, Bool, List, [], ◌∷◌, ◌++◌, length, take, Option, Some, None, ◌==◌, if◌then◌else◌}
-use Rattle.std.specs.List.{flat_map, AllByRecursion}
+use Rattle.std.specs.List.{concat, flat_map, AllByRecursion}
 use Rattle.byteorder.specs.Endian.{big_bytes}
 use Rattle.cell_map.specs.declared.places.Cell.{Cell}
 use Rattle.terms.specs.Bits.{bits_of, bytes_of, bytes_for}
-use Rattle.site_frame.specs.Record.{FitsBlock, FitsCell, blocks_bytes, cell_bytes}
+use Rattle.site_frame.specs.Record.{pre_len, FitsBlock, FitsCell, blocks_bytes, cell_bytes}
 use Rattle.site_frame.specs.Reading.{◌>>=◌, cut, number, skip_blocks, blocks_in, cells_in}
 use Rattle.site_frame.specs.declared.parts.FrameParts.{FrameParts}
 
@@ -18,16 +18,12 @@ rest_sections p pad ignored =
     ∷ (big_bytes 4 (length p.cells) ++ flat_map cell_bytes p.cells)
     ∷ []
 
--- sections, one behind another
-abbrev pub joined : List (List ℕ) → List ℕ
-joined sections = flat_map (λ section. section) sections
-
 abbrev pub rest_bytes : FrameParts → List Bool → List ℕ → List ℕ
-rest_bytes p pad ignored = joined (rest_sections p pad ignored)
+rest_bytes p pad ignored = concat (rest_sections p pad ignored)
 
 -- Each section fits its numbers.
 pub record FitsFrame (p : FrameParts) : Type 0 where
-  pub pre : length p.pre ≡ 200
+  pub pre : length p.pre ≡ 8 * pre_len
   pub post : length p.post < 2 ^ 32
   pub blocks : length p.blocks < 2 ^ 16
   pub block : AllByRecursion FitsBlock p.blocks
@@ -50,7 +46,7 @@ all_cells count bytes = if length bytes == 4 * count then Some (cells_in count b
 -- the parts that fill a rest
 unfoldable pub parts_in : List ℕ → Option FrameParts
 parts_in rest = do
-  pre ← cut 25 rest
+  pre ← cut pre_len rest
   bits ← number 4 pre.1
   post ← cut (bytes_for bits.0) bits.1
   count ← number 2 post.1

@@ -1,11 +1,12 @@
 -- Records: how one is spelled, and why bytes begin with none.
 use Rattle.std.specs.Prelude.{◌≡◌, ◌⊎◌, ℕ, ◌+◌, ◌*◌, ◌<◌, ◌≤◌, List, [], ◌∷◌, ◌++◌, length, take, drop, slice_index, sum_by, Option, Some, None, ◌==◌, if◌then◌else◌}
+use Rattle.std.specs.List.{concat}
 use Rattle.byteorder.specs.Endian.{big_number}
 use Rattle.terms.specs.Bits.{bytes_for}
 use Rattle.plp_config.specs.declared.moment.Moment.{Moment}
-use Rattle.site_frame.specs.Record.{Block, head_bytes, FitsMoment}
+use Rattle.site_frame.specs.Record.{Block, frame_kind, muted_kind, head_len, pre_len, head_bytes, FitsMoment}
 use Rattle.site_frame.specs.Reading.{◌>>=◌}
-use Rattle.site_frame.specs.Rest.{FitsFrame, IsRest, joined, rest_sections, parts_in}
+use Rattle.site_frame.specs.Rest.{FitsFrame, IsRest, rest_sections, parts_in}
 use Rattle.site_frame.specs.declared.parts.FrameParts.{FrameParts}
 use Rattle.site_frame.specs.declared.fault.RecordWhy.{RecordWhy}
 use Rattle.site_frame.specs.declared.fault.RecordWhy.TheVariants.{Head, Kind, Length, Order, OffGrid}
@@ -18,8 +19,8 @@ greatest_rest = 33554432
 
 -- the kind, the moment and the rest of a record
 abbrev pub kind_of : RecordView → ℕ
-kind_of (Frame moment pre post blocks cells) = 1
-kind_of (Muted moment) = 2
+kind_of (Frame moment pre post blocks cells) = frame_kind
+kind_of (Muted moment) = muted_kind
 
 abbrev pub moment_of : RecordView → Moment
 moment_of (Frame moment pre post blocks cells) = moment
@@ -51,21 +52,18 @@ written_rest (Muted moment) = []
 
 -- the sections of a record, in order: its head, which tells how many bytes the others have, and these
 abbrev pub sections : RecordView → List (List ℕ)
-sections view = head_bytes (kind_of view) (moment_of view) (length (joined (written_rest view))) ∷ written_rest view
+sections view = head_bytes (kind_of view) (moment_of view) (length (concat (written_rest view))) ∷ written_rest view
 
 abbrev pub record_bytes : RecordView → List ℕ
-record_bytes view = joined (sections view)
+record_bytes view = concat (sections view)
 
--- how many bytes a head, a block and a record have
-abbrev pub head_len : ℕ
-head_len = 24
-
+-- how many bytes a block and a record have
 abbrev pub block_size : Block → ℕ
 block_size b = 4 + length b.bytes
 
 abbrev pub record_len : RecordView → ℕ
 record_len (Frame moment pre post blocks cells) =
-    head_len + 25 + (4 + bytes_for (length post)) + (2 + sum_by block_size blocks) + (4 + 4 * length cells)
+    head_len + pre_len + (4 + bytes_for (length post)) + (2 + sum_by block_size blocks) + (4 + 4 * length cells)
 record_len (Muted moment) = head_len
 
 -- Each part of a record fits its numbers.
@@ -81,7 +79,7 @@ pub record FitsRecord (view : RecordView) : Type 0 where
 -- ---- refusals
 
 pub record HasHead (bytes : List ℕ) : Type 0 where
-  pub whole : 24 ≤ length bytes
+  pub whole : head_len ≤ length bytes
   pub first : slice_index bytes 0 ≡ 0x54
   pub second : slice_index bytes 1 ≡ 0x32
   pub third : slice_index bytes 2 ≡ 0x46
@@ -91,7 +89,7 @@ pub record HasHead (bytes : List ℕ) : Type 0 where
   pub zero2 : slice_index bytes 7 ≡ 0
 
 abbrev pub HasKind : List ℕ → Type 0
-HasKind bytes = (slice_index bytes 4 ≡ 1) ⊎ (slice_index bytes 4 ≡ 2)
+HasKind bytes = (slice_index bytes 4 ≡ frame_kind) ⊎ (slice_index bytes 4 ≡ muted_kind)
 
 -- what the head tells
 abbrev pub told_moment : List ℕ → Moment
@@ -101,12 +99,12 @@ abbrev pub told_len : List ℕ → ℕ
 told_len bytes = big_number 4 (drop 20 bytes)
 
 abbrev pub told_rest : List ℕ → List ℕ
-told_rest bytes = take (told_len bytes) (drop 24 bytes)
+told_rest bytes = take (told_len bytes) (drop head_len bytes)
 
 -- The rest has the length that the head tells, and the parts of a record of its kind fill it.
 pub record HasLength (bytes : List ℕ) : Type 0 where
   pub small : told_len bytes ≤ greatest_rest
-  pub inside : 24 + told_len bytes ≤ length bytes
+  pub inside : head_len + told_len bytes ≤ length bytes
   pub view : RecordView
   pub kind : kind_of view ≡ slice_index bytes 4
   pub parts : HasRest view (told_rest bytes)
@@ -129,18 +127,18 @@ muted_in moment [] = Some (Muted moment)
 muted_in moment (byte ∷ rest) = None
 
 abbrev pub view_in : ℕ → Moment → List ℕ → Option RecordView
-view_in kind moment rest = if kind == 2 then muted_in moment rest else (parts_in rest >>= framed moment)
+view_in kind moment rest = if kind == muted_kind then muted_in moment rest else (parts_in rest >>= framed moment)
 
 pub record IsRead (bytes : List ℕ) (view : RecordView) (len : ℕ) : Type 0 where
   pub head : HasHead bytes
   pub kind : HasKind bytes
   pub small : told_len bytes ≤ greatest_rest
-  pub inside : 24 + told_len bytes ≤ length bytes
+  pub inside : head_len + told_len bytes ≤ length bytes
   pub view-is : view_in (slice_index bytes 4) (told_moment bytes) (told_rest bytes) ≡ Some view
-  pub end : len ≡ 24 + told_len bytes
+  pub end : len ≡ head_len + told_len bytes
 
 abbrev pub IsBad : List ℕ → Type 0
-IsBad bytes = (greatest_rest < told_len bytes) ⊎ (length bytes < 24 + told_len bytes) ⊎ (view_in (slice_index bytes 4) (told_moment bytes) (told_rest bytes) ≡ None)
+IsBad bytes = (greatest_rest < told_len bytes) ⊎ (length bytes < head_len + told_len bytes) ⊎ (view_in (slice_index bytes 4) (told_moment bytes) (told_rest bytes) ≡ None)
 
 abbrev pub IsRefused : List ℕ → RecordWhy → Type 0
 IsRefused bytes Head = ¬ (HasHead bytes)

@@ -11,8 +11,8 @@ use std::marker::Model;
 // The word of a dummy cell.
 const DUMMY: u32 = 0xFFFF_FFFF;
 
-// A word counts in its low bits the cells of a block, and above them the blocks.
-const CELLS: u32 = 32_768;
+// The words of one block: its cells are fewer.
+const BLOCK_WORDS: u32 = 32_768;
 
 // What a word spells.
 fn cell(word: u32) -> Option<Cell>
@@ -22,8 +22,8 @@ fn cell(word: u32) -> Option<Cell>
         return None;
     }
     Some(Cell {
-        ordinal: word / CELLS,
-        cell: word % CELLS,
+        ordinal: word / BLOCK_WORDS,
+        cell: word % BLOCK_WORDS,
     })
 }
 

@@ -8,6 +8,9 @@ use crate::cells::Cells;
 use crate::cut::{cut_front, u16_front, u32_front};
 use bit_slice::BitSlice;
 
+// The bytes of L1-pre with its CRC_32.
+const PRE: usize = 25;
+
 /// The parts of a frame's record.
 #[derive(Drop)]
 pub struct FrameParts<'a> {
@@ -27,7 +30,7 @@ pub(crate) fn split_rest(rest: &[u8]) -> Option<FrameParts<'_>>
     requires { length rest.now < 2 ^ 60 }
     ensures { Gives (λ p. p) result (parts_in rest.now) }
 {
-    let (pre, rest) = cut_front(rest, 25)?;
+    let (pre, rest) = cut_front(rest, PRE)?;
     let (bits, rest) = u32_front(rest)?;
     let (post, rest) = cut_front(rest, (bits as usize).div_ceil(8))?;
     let (count, first) = u16_front(rest)?;

@@ -1,7 +1,7 @@
 // Writing the head of a record.
 ghost use Rattle.std.specs.Prelude.{◌≡◌, ◌++◌, ◌∷◌, [], length, drop};
 ghost use Rattle.byteorder.specs.Endian.{big_bytes};
-ghost use Rattle.site_frame.specs.Record.{head_bytes, head_numbers};
+ghost use Rattle.site_frame.specs.Record.{frame_kind, muted_kind, head_bytes, head_numbers};
 
 use crate::head::{FRAME, HEAD, MUTED};
 use byteorder::{BigEndian, ByteOrder};
@@ -25,14 +25,14 @@ fn write_kind(kind: u8, moment: &Moment, rest: u32, out: &mut [u8; HEAD])
 
 /// Writes the head of a frame's record, whose rest has so many bytes.
 pub fn write_head(moment: &Moment, rest: u32, out: &mut [u8; HEAD])
-    ensures { out.new ≡ head_bytes 1 moment.now rest }
+    ensures { out.new ≡ head_bytes frame_kind moment.now rest }
 {
     write_kind(FRAME, moment, rest, out);
 }
 
 /// Writes the record of a muted frame.
 pub fn write_muted(moment: &Moment, out: &mut [u8; HEAD])
-    ensures { out.new ≡ head_bytes 2 moment.now 0 }
+    ensures { out.new ≡ head_bytes muted_kind moment.now 0 }
 {
     write_kind(MUTED, moment, 0, out);
 }

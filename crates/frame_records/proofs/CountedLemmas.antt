@@ -1,0 +1,164 @@
+-- The numbers that were counted apart.
+use Rattle.std.proofs.Common.{◌≡◌, ℕ, zero, suc, ◌+◌, ◌-◌, ◌*◌, ◌<◌, ◌≤◌, Bool, true, false, List, [], ◌∷◌, length, refl, ap, ap₂, ◌∙◌, arith, lit<}
+use Rattle.std.specs.Prelude.{filter, not, cond, min, nat_le, nat_lt, ◌&&◌}
+use Rattle.std.specs.List.{range_with_len, list_any}
+use Rattle.std.specs.Int.{div_ceil}
+use Rattle.std.proofs.lemmas.List.{get_or-replicate, length-map}
+use Rattle.std.proofs.lemmas.List.FromFn.{length-map-range_with_len}
+use Rattle.terms.specs.Bits.{field}
+use Rattle.bit_slice.specs.Crc.{crc32_of}
+use Rattle.l1_signal.specs.Fields.{row_bits, spelling}
+use Rattle.l1_signal.specs.L1Of.{pre_of}
+use Rattle.l1_signal.specs.L1Pre.{pre_bits}
+use Rattle.plp_config.specs.RunLength.{frame_count, last_tick}
+use Rattle.plp_config.specs.Capacity.{block_bytes, field_bytes, up_bytes, capacity}
+use Rattle.plp_config.specs.SlotTime.{num, den, slot_count}
+use Rattle.plp_config.specs.declared.config.Config.{Config}
+use Rattle.ts_packet.specs.Null.{is_null, null_packet}
+use Rattle.null_delete.specs.Deletion.{packet_at, kept_slots}
+use Rattle.mode_adapt.specs.Queue.{Rates, arrived, least_to, sent, sent_before}
+use Rattle.mode_adapt.specs.UserPackets.{keeps_of}
+use Rattle.mode_adapt.specs.Blocks.{rates_of, blocks_between, block_places, block_bits}
+use Rattle.frame_records.specs.Recover.{is_touched}
+use Rattle.frame_records.specs.Networks.{small_network, narrow_network, data_packet, data_packets}
+use Rattle.frame_records.proofs.FitLemmas.{length-range}
+use Rattle.frame_records.specs.Laws.{CountedLengths, CountedBlocks, CountedRecords, CountedSlots, CountedLoss, CountedFrames, CountedPre, narrow_recovered}
+
+pub counted_lengths : CountedLengths
+unfolding block_bytes
+counted_lengths = record { small = refl; large = refl; full = refl; one = refl }
+
+pub counted_records : CountedRecords
+counted_records = record { late = refl; gap = refl; none = refl }
+
+pub counted_slots : CountedSlots
+unfolding num den
+counted_slots = record { four = refl; more = refl; large = refl; late = refl }
+
+pub counted_frames : CountedFrames
+unfolding frame_count last_tick num den
+counted_frames = record { empty = refl; narrow = refl }
+
+pub counted_pre : CountedPre
+unfolding pre_of pre_bits row_bits spelling crc32_of field
+counted_pre = refl
+
+-- a packet that is not null is kept
+data_is_no_null : is_null data_packet ≡ false
+unfolding is_null field
+data_is_no_null = refl
+
+data_at : (n k : ℕ) → k < n → packet_at (data_packets n) k ≡ data_packet
+data_at n k lt = get_or-replicate n k data_packet null_packet lt
+
+data_kept : (deletes : Bool) (n k : ℕ) → k < n → keeps_of deletes (packet_at (data_packets n)) k ≡ true
+data_kept true n k lt = rw (data_at n k lt, data_is_no_null) refl
+data_kept false n k lt = refl
+
+-- so the slots below are all kept
+kept_from : (keeps : ℕ → Bool) (n from count : ℕ) → ((k : ℕ) → k < n → keeps k ≡ true) → from + count ≤ n → filter keeps (range_with_len from count) ≡ range_with_len from count
+kept_from keeps n from zero all le = refl
+kept_from keeps n from (suc count) all le = rw (all from (omega (arith, le))) (ap (λ (ks : List ℕ). from ∷ ks) (kept_from keeps n (from + 1) count all (omega (arith, le))))
+
+kept_count : (deletes : Bool) (n m : ℕ) → m ≤ n → length (kept_slots (keeps_of deletes (packet_at (data_packets n))) m) ≡ m
+kept_count deletes n m le =
+    ap (λ (ks : List ℕ). length ks) (kept_from (keeps_of deletes (packet_at (data_packets n))) n 0 m (data_kept deletes n) (omega (arith, le))) ∙ length-range 0 m
+
+-- what has arrived and what is sent
+arrived_is : (r : Rates) (deletes : Bool) (n m : ℕ) → slot_count r.num r.den (m * r.epoch) ≤ n
+    → arrived r (keeps_of deletes (packet_at (data_packets n))) m ≡ r.up_len * slot_count r.num r.den (m * r.epoch)
+arrived_is r deletes n m le = ap (λ (k : ℕ). r.up_len * k) (kept_count deletes n (slot_count r.num r.den (m * r.epoch)) le)
+
+least_same : (f g : ℕ → ℕ) (n : ℕ) → ((i : ℕ) → i ≤ n → f i ≡ g i) → least_to f n ≡ least_to g n
+least_same f g zero same = same 0 (omega arith)
+least_same f g (suc n) same = ap₂ (λ (a b : ℕ). min a b) (least_same f g n (λ i le. same i (omega (arith, le)))) (same (suc n) (omega arith))
+
+-- the bytes sent by the end of a frame, if the packets are there
+abbrev sent_data : Rates → ℕ → ℕ
+sent_data r m = least_to (λ i. r.up_len * slot_count r.num r.den (i * r.epoch) + (m - i) * r.capacity) m
+
+sent_is : (r : Rates) (deletes : Bool) (n m : ℕ) → ((i : ℕ) → i ≤ m → slot_count r.num r.den (i * r.epoch) ≤ n) → sent r (keeps_of deletes (packet_at (data_packets n))) m ≡ sent_data r m
+sent_is r deletes n m few = least_same _ _ m (λ i le. ap (λ (a : ℕ). a + (m - i) * r.capacity) (arrived_is r deletes n i (few i le)))
+
+-- ---- frame 1 of the small network
+
+abbrev small_rates : Rates
+small_rates = rates_of small_network 0 100000
+
+small_slots : (i : ℕ) → i ≤ 1 → slot_count small_rates.num small_rates.den (i * 100000) ≤ 20
+unfolding num den
+small_slots i le = omega (arith, le)
+
+small_sent : sent small_rates (keeps_of true (packet_at (data_packets 20))) 1 ≡ 2632
+unfolding num den up_bytes capacity field_bytes block_bytes
+small_sent = sent_is small_rates true 20 1 small_slots
+
+small_before : sent_before small_rates (keeps_of true (packet_at (data_packets 20))) 1 ≡ 0
+unfolding num den up_bytes capacity field_bytes block_bytes
+small_before = sent_is small_rates true 20 0 (λ i le. small_slots i (omega (arith, le)))
+
+blocks_count : (c : Config) (plp : ℕ) (at : ℕ → List ℕ) (n x y : ℕ) → length (blocks_between c plp at n x y) ≡ div_ceil (y - x) (field_bytes c plp)
+blocks_count c plp at n x y =
+    length-map (block_places (field_bytes c plp) x y) (λ from. block_bits c plp at n from (min (from + field_bytes c plp) y))
+    ∙ length-map-range_with_len (λ i. x + i * field_bytes c plp) 0 (div_ceil (y - x) (field_bytes c plp))
+
+pub counted_blocks : CountedBlocks
+unfolding field_bytes block_bytes
+counted_blocks =
+    blocks_count small_network 0 (packet_at (data_packets 20)) _ _ _ ∙ ap₂ (λ (a b : ℕ). div_ceil (b - a) (field_bytes small_network 0)) small_before small_sent
+
+-- ---- the narrow network, where frames 3 and 4 are muted
+
+abbrev narrow_rates : Rates
+narrow_rates = rates_of narrow_network 0 100000
+
+abbrev narrow_keeps : ℕ → Bool
+narrow_keeps = keeps_of true (packet_at (data_packets 110))
+
+narrow_slots : (i : ℕ) → i ≤ 4 → slot_count narrow_rates.num narrow_rates.den (i * 100000) ≤ 110
+unfolding num den
+narrow_slots i le = omega (arith, le)
+
+narrow_sent2 : sent narrow_rates narrow_keeps 2 ≡ 5051
+unfolding num den up_bytes capacity field_bytes block_bytes
+narrow_sent2 = sent_is narrow_rates true 110 2 (λ i le. narrow_slots i (omega (arith, le)))
+
+narrow_sent3 : sent narrow_rates narrow_keeps 3 ≡ 7658
+unfolding num den up_bytes capacity field_bytes block_bytes
+narrow_sent3 = sent_is narrow_rates true 110 3 (λ i le. narrow_slots i (omega (arith, le)))
+
+narrow_sent4 : sent narrow_rates narrow_keeps 4 ≡ 10265
+unfolding num den up_bytes capacity field_bytes block_bytes
+narrow_sent4 = sent_is narrow_rates true 110 4 narrow_slots
+
+-- whether two frames that carry the bytes from a, b and c on touch a user packet
+abbrev touches : ℕ → ℕ → ℕ → ℕ → ℕ → Bool
+touches len a b c place = list_any (λ (x : ℕ × ℕ). list_any (λ i. nat_le x.0 i && nat_lt i x.1) (range_with_len place len)) ((a, b) ∷ (b, c) ∷ [])
+
+touched_by : (r : Rates) (keeps : ℕ → Bool) (k p a b c : ℕ) → length (kept_slots keeps k) ≡ p → sent r keeps 2 ≡ a → sent r keeps 3 ≡ b → sent r keeps 4 ≡ c
+    → is_touched r keeps (3 ∷ 4 ∷ []) k ≡ touches r.up_len a b c (r.up_len * p)
+touched_by r keeps k p a b c place first second third =
+    ap (λ (p : ℕ). touches r.up_len (sent r keeps 2) (sent r keeps 3) (sent r keeps 4) (r.up_len * p)) place
+    ∙ ap (λ (a : ℕ). touches r.up_len a (sent r keeps 3) (sent r keeps 4) (r.up_len * p)) first
+    ∙ ap (λ (b : ℕ). touches r.up_len a b (sent r keeps 4) (r.up_len * p)) second
+    ∙ ap (λ (c : ℕ). touches r.up_len a b c (r.up_len * p)) third
+
+narrow_touched : (k : ℕ) → k ≤ 110 → is_touched narrow_rates narrow_keeps (3 ∷ 4 ∷ []) k ≡ touches narrow_rates.up_len 5051 7658 10265 (narrow_rates.up_len * k)
+narrow_touched k le = touched_by narrow_rates narrow_keeps k k 5051 7658 10265 (kept_count true 110 k le) narrow_sent2 narrow_sent3 narrow_sent4
+
+abbrev given_back : Bool → Bool → List ℕ → List ℕ
+given_back kept touched packet = cond (kept && not touched) packet null_packet
+
+narrow_is : (k : ℕ) (touched : Bool) → k < 110 → touches narrow_rates.up_len 5051 7658 10265 (narrow_rates.up_len * k) ≡ touched → narrow_recovered k ≡ given_back true touched data_packet
+narrow_is k touched lt e =
+    ap (λ (t : Bool). given_back (narrow_keeps k) t (packet_at (data_packets 110) k)) (narrow_touched k (omega (arith, lt)) ∙ e)
+    ∙ ap₂ (λ (b : Bool) (p : List ℕ). given_back b touched p) (data_kept true 110 k lt) (data_at 110 k lt)
+
+pub counted_loss : CountedLoss
+unfolding up_bytes
+counted_loss = record {
+  before = narrow_is 25 false (lit< tt) refl;
+  first = narrow_is 26 true (lit< tt) refl;
+  last = narrow_is 54 true (lit< tt) refl;
+  after = narrow_is 55 false (lit< tt) refl;
+}

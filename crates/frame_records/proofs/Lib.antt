@@ -1,0 +1,5 @@
+mod FrameLemmas
+mod RecordLemmas
+mod RecoverLemmas
+mod CountedLemmas
+mod FitLemmas

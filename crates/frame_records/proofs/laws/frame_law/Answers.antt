@@ -1,0 +1,15 @@
+use Rattle.frame_records.proofs.CountedLemmas.{counted_lengths, counted_blocks, counted_pre}
+use Rattle.frame_records.proofs.FrameLemmas.{frame_length}
+use Rattle.frame_records.proofs.laws.frame_law.Goals as goal
+
+pub returns-clause-len : goal.returns-clause-len
+returns-clause-len c = frame_length c.block_law.ensures.field c.post_law.ensures.len
+
+pub returns-clause-counted : goal.returns-clause-counted
+returns-clause-counted c = counted_lengths
+
+pub returns-clause-blocks : goal.returns-clause-blocks
+returns-clause-blocks c = counted_blocks
+
+pub returns-clause-pre : goal.returns-clause-pre
+returns-clause-pre c = counted_pre
