@@ -19,7 +19,7 @@ found_none law c moment (Some n) rules h = tt
 found_none law c moment None rules h = λ n lt is. h n lt ((law c moment n rules).0 is)
 
 -- one frame at most leaves at a moment
-one_frame : EmissionsDiffer → (c : Config) (moment : Moment) (m n : ℕ) → AllRules c → IsFrameOf c moment m → IsFrameOf c moment n → m ≡ n
+pub one_frame : EmissionsDiffer → (c : Config) (moment : Moment) (m n : ℕ) → AllRules c → IsFrameOf c moment m → IsFrameOf c moment n → m ≡ n
 one_frame law c moment m n rules f g = law c m n rules (sym f.emission-is ∙ g.emission-is)
 
 abbrev told : ℕ → Result ℕ RecordWhy

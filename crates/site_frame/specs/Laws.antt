@@ -1,8 +1,11 @@
 -- Laws of records.
 use Rattle.std.specs.Prelude.{◌≡◌, ◌⊎◌, ℕ, ◌+◌, ◌<◌, List, [], ◌++◌, length, slice_index}
 use Rattle.std.specs.List.{concat, flat_map}
+use Rattle.plp_config.specs.Rules.{AllRules}
+use Rattle.plp_config.specs.declared.config.Config.{Config}
 use Rattle.plp_config.specs.declared.moment.Moment.{Moment}
 use Rattle.site_frame.specs.Record.{Block, head_len, head_bytes, block_bytes, blocks_bytes}
+use Rattle.site_frame.specs.Placing.{IsFrameOf}
 use Rattle.site_frame.specs.Whole.{Spells, BeginsWith, Refuses, written_rest, record_bytes, record_len, FitsRest, FitsRecord}
 use Rattle.site_frame.specs.declared.fault.RecordWhy.{RecordWhy}
 use Rattle.site_frame.specs.declared.reading.RecordView.{RecordView}
@@ -45,3 +48,7 @@ WrittenLength = (view : RecordView) → FitsRest view → head_len + length (con
 -- Blocks are written one behind another.
 abbrev pub BlocksInOrder : Type 0
 BlocksInOrder = (blocks : List Block) → blocks_bytes blocks [] ≡ flat_map (λ b. block_bytes b 0) blocks
+
+-- A moment is the emission of one frame at most.
+abbrev pub OneFrame : Type 0
+OneFrame = (c : Config) (moment : Moment) (frame other : ℕ) → AllRules c → IsFrameOf c moment frame → IsFrameOf c moment other → frame ≡ other

@@ -1,5 +1,7 @@
 // Laws of the definitions. Their functions do nothing.
-ghost use Rattle.site_frame.specs.Laws.{WrittenIsRead, OneRecord, NoRefusal, SpelledOrRefused, OneRefusal, SpelledLength, WrittenSpells, HeadLength, WrittenLength, BlocksInOrder};
+ghost use Rattle.site_frame.specs.Laws.{WrittenIsRead, OneRecord, NoRefusal, SpelledOrRefused, OneRefusal, SpelledLength, WrittenSpells, HeadLength, WrittenLength, BlocksInOrder, OneFrame};
+
+use plp_config::emission_law;
 
 /// What was written is read, whatever follows, and no record is a proper prefix of another.
 pub fn reading_law()
@@ -22,3 +24,10 @@ pub fn refusal_law()
     ensures either { SpelledOrRefused }
     ensures one { OneRefusal }
 {}
+
+/// No two frames leave at one moment.
+pub fn place_law()
+    ensures { OneFrame }
+{
+    emission_law();
+}

@@ -16,7 +16,7 @@ pub use blocks::{Blocks, BlocksIter};
 pub use cells::{Cells, CellsIter};
 pub use fault::RecordWhy;
 pub use head::{GREATEST_REST, HEAD};
-pub use laws::{reading_law, refusal_law, writing_law};
+pub use laws::{place_law, reading_law, refusal_law, writing_law};
 pub use parts::FrameParts;
 pub use placing::place_record;
 pub use reading::{RecordView, read_record};
