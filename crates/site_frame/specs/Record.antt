@@ -35,7 +35,7 @@ head_bytes kind moment rest = 0x54 ∷ 0x32 ∷ 0x46 ∷ 0x52 ∷ kind ∷ 0 ∷
 abbrev pub block_bytes : Block → ℕ → List ℕ
 block_bytes b second = b.plp ∷ second ∷ (big_bytes 2 (length b.bytes) ++ b.bytes)
 
--- blocks, each with its second byte: 0 where none is told
+-- blocks, each with its second byte: 0 if none is told
 abbrev pub blocks_bytes : List Block → List ℕ → List ℕ
 blocks_bytes [] ignored = []
 blocks_bytes (b ∷ bs) [] = block_bytes b 0 ++ blocks_bytes bs []

@@ -39,7 +39,7 @@ pub record IsRest (p : FrameParts) (rest : List ℕ) : Type 0 where
   pub whole : (length p.post + length pad) % 8 ≡ 0
   pub spelled : rest ≡ rest_bytes p pad ignored
 
--- the cells, where their words are all that is left
+-- the cells, if their words are all that is left
 abbrev pub all_cells : ℕ → List ℕ → Option (List (Option Cell))
 all_cells count bytes = if length bytes == 4 * count then Some (cells_in count bytes) else None
 

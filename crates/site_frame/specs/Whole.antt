@@ -43,7 +43,7 @@ pub record BeginsWith (bytes : List ℕ) (view : RecordView) (len : ℕ) : Type 
   pub inside : len ≤ length bytes
   pub spells : Spells view (take len bytes)
 
--- ---- as it is written: zeros where anything may stand
+-- ---- as it is written: zeros in what decides nothing
 
 -- the sections of its rest
 abbrev pub written_rest : RecordView → List (List ℕ)

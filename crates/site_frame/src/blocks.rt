@@ -6,7 +6,7 @@ ghost use Rattle.site_frame.specs.Reading.{Gives, block_len, skip_block, skip_bl
 use byteorder::{BigEndian, ByteOrder};
 use std::marker::Model;
 
-// Behind the first block, where one is there.
+// Behind the first block, if one is there.
 fn skip_one(bytes: &[u8]) -> Option<&[u8]>
     ensures { Gives (λ x. x.now) result (skip_block bytes.now) }
 {
@@ -20,7 +20,7 @@ fn skip_one(bytes: &[u8]) -> Option<&[u8]>
     Some(&bytes[len..])
 }
 
-// Behind so many blocks, where they are there.
+// Behind so many blocks, if they are there.
 pub(crate) fn skip(count: u16, bytes: &[u8]) -> Option<&[u8]>
     ensures { Gives (λ x. x.now) result (skip_blocks count bytes.now) }
 {

@@ -14,7 +14,7 @@ fn passed(seconds: u64, subseconds: u32, second: u32) -> u128
     u128::from(seconds) * u128::from(second) + u128::from(subseconds)
 }
 
-// The frame whose emission lies so many frames after the start, where that is a whole number.
+// The frame whose emission lies so many frames after the start, if that is a whole number.
 fn frame_at(plan: &Plan, moment: &Moment) -> Option<u64>
     ensures some { IfSome result (λ n. (n < 2 ^ 31) × FindsFrame plan.now moment.now n) }
     ensures none { IfNone result ((n : ℕ) → n < 2 ^ 31 → ¬ (FindsFrame plan.now moment.now n)) }
@@ -51,7 +51,7 @@ fn frame_of(plan: &Plan, moment: &Moment) -> Option<u64>
     frame_at(plan, moment)
 }
 
-// The frame that leaves at a moment, where it is the one that was expected, if any.
+// The frame that leaves at a moment, if it is the one that was expected.
 fn place(plan: &Plan, expected: Option<u64>, moment: &Moment) -> Result<u64, RecordWhy>
     ensures ok { IfOk result (IsPlaced plan.now expected moment.now) }
     ensures err { IfErr result (RefusesPlace plan.now expected moment.now) }
@@ -66,14 +66,14 @@ fn place(plan: &Plan, expected: Option<u64>, moment: &Moment) -> Result<u64, Rec
     }
 }
 
-/// The number of the frame that leaves at a moment, where it is the one that was expected, if any: else `OffGrid`
-/// where no frame of a run leaves then, and `Order` where another was expected.
+/// The number of the frame that leaves at a moment, if it is the expected one or none was expected: else `OffGrid`
+/// if no frame below 2^31 leaves then, and `Order` if another one was expected.
 pub fn place_record(plan: &Plan, expected: Option<u64>, moment: &Moment) -> Result<u64, RecordWhy>
     ensures ok { IfOk result (IsPlaced plan.now expected moment.now) }
-    // Where a frame is placed, it is told.
+    // If a frame is placed, it is told.
     ensures every { (frame : ℕ) → IsPlaced plan.now expected moment.now frame → result ≡ Ok frame }
     ensures err { IfErr result (RefusesPlace plan.now expected moment.now) }
-    // Where the moment is refused, the refusal is told.
+    // If the moment is refused, the refusal is told.
     ensures refused { (why : RecordWhy) → RefusesPlace plan.now expected moment.now why → result ≡ Err why }
 {
     emission_law();

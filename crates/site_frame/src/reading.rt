@@ -109,10 +109,10 @@ pub(crate) fn parse(bytes: &[u8]) -> Result<(RecordView<'_>, usize), RecordWhy>
 /// Bytes that begin with no record have one refusal: the first of `Head`, `Kind` and `Length` that holds.
 pub fn read_record(bytes: &[u8]) -> Result<(RecordView<'_>, usize), RecordWhy>
     ensures ok { IfOk result (λ x. BeginsWith bytes.now x.0 x.1) }
-    // Where the bytes begin with a record, it is read.
+    // If the bytes begin with a record, it is read.
     ensures every { (view : RecordView) (len : ℕ) → BeginsWith bytes.now view len → result ≡ Ok (view, len) }
     ensures err { IfErr result (Refuses bytes.now) }
-    // Where the bytes are refused, the refusal is told.
+    // If the bytes are refused, the refusal is told.
     ensures refused { (why : RecordWhy) → Refuses bytes.now why → result ≡ Err why }
 {
     parse(bytes)
