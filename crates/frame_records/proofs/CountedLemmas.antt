@@ -5,13 +5,16 @@ use Rattle.std.specs.List.{range_with_len, list_any}
 use Rattle.std.specs.Int.{div_ceil}
 use Rattle.std.proofs.lemmas.List.{get_or-replicate, length-map}
 use Rattle.std.proofs.lemmas.List.FromFn.{length-map-range_with_len}
-use Rattle.terms.specs.Bits.{field}
+use Rattle.terms.specs.Bits.{field, bytes_of}
 use Rattle.bit_slice.specs.Crc.{crc32_of}
 use Rattle.l1_signal.specs.Fields.{row_bits, spelling}
-use Rattle.l1_signal.specs.L1Of.{pre_of}
+use Rattle.l1_signal.specs.L1Of.{pre_of, conf_of, conf_plp_of, dyn_of, post_bits}
+use Rattle.l1_signal.specs.L1Configurable.{conf_bits}
+use Rattle.l1_signal.specs.L1Dynamic.{dyn_bits}
+use Rattle.scheduler.specs.Shape.{shape_of, start_of, interval_of, type2_start_of}
 use Rattle.l1_signal.specs.L1Pre.{pre_bits}
 use Rattle.plp_config.specs.RunLength.{frame_count, last_tick}
-use Rattle.plp_config.specs.Capacity.{block_bytes, field_bytes, up_bytes, capacity}
+use Rattle.plp_config.specs.Capacity.{block_bytes, block_cells, field_bytes, up_bytes, capacity}
 use Rattle.plp_config.specs.SlotTime.{num, den, slot_count}
 use Rattle.plp_config.specs.declared.config.Config.{Config}
 use Rattle.ts_packet.specs.Null.{is_null, null_packet}
@@ -20,9 +23,9 @@ use Rattle.mode_adapt.specs.Queue.{Rates, arrived, least_to, sent, sent_before}
 use Rattle.mode_adapt.specs.UserPackets.{keeps_of}
 use Rattle.mode_adapt.specs.Blocks.{rates_of, blocks_between, block_places, block_bits}
 use Rattle.frame_records.specs.Recover.{is_touched}
-use Rattle.frame_records.specs.Networks.{small_network, narrow_network, data_packet, data_packets}
+use Rattle.frame_records.specs.Networks.{small_network, small_post, narrow_network, data_packet, data_packets}
 use Rattle.frame_records.proofs.FitLemmas.{length-range}
-use Rattle.frame_records.specs.Laws.{CountedLengths, CountedBlocks, CountedRecords, CountedSlots, CountedLoss, CountedFrames, CountedPre, narrow_recovered}
+use Rattle.frame_records.specs.Laws.{CountedLengths, CountedBlocks, CountedRecords, CountedSlots, CountedLoss, CountedFrames, CountedPre, CountedPost, narrow_recovered}
 
 pub counted_lengths : CountedLengths
 unfolding block_bytes
@@ -106,6 +109,18 @@ pub counted_blocks : CountedBlocks
 unfolding field_bytes block_bytes
 counted_blocks =
     blocks_count small_network 0 (packet_at (data_packets 20)) _ _ _ ∙ ap₂ (λ (a b : ℕ). div_ceil (b - a) (field_bytes small_network 0)) small_before small_sent
+
+-- L1-post of a frame with so many blocks
+small_post_of : ℕ → List ℕ
+small_post_of count = bytes_of (post_bits small_network 1 (shape_of small_network (count ∷ [])))
+
+post_is : small_post_of 4 ≡ small_post
+unfolding small_post_of post_bits conf_of conf_plp_of conf_bits dyn_of dyn_bits row_bits spelling shape_of start_of interval_of type2_start_of block_cells crc32_of field
+post_is = refl
+
+pub counted_post : CountedPost
+unfolding small_post_of
+counted_post = ap small_post_of counted_blocks ∙ post_is
 
 -- ---- the narrow network, where frames 3 and 4 are muted
 

@@ -7,12 +7,13 @@ use Rattle.null_delete.specs.Deletion.{packet_at}
 use Rattle.plp_config.specs.Capacity.{IsPlan, block_bytes}
 use Rattle.plp_config.specs.RunLength.{frame_count}
 use Rattle.plp_config.specs.declared.config.Config.{Config}
+use Rattle.l1_signal.specs.L1Of.{post_bits}
 use Rattle.site_frame.specs.Whole.{FitsRecord, record_len}
 use Rattle.site_frame.specs.Record.{head_len, pre_len}
-use Rattle.frame_records.specs.Frames.{places, plp_blocks, frame_of, HasByteIds, l1_pre, run_frames}
+use Rattle.frame_records.specs.Frames.{places, plp_blocks, frame_shape, frame_of, HasByteIds, l1_pre, run_frames}
 use Rattle.frame_records.specs.Records.{record_numbers, records, IsOnGrid}
 use Rattle.frame_records.specs.Recover.{due_slots, recovered, recover}
-use Rattle.frame_records.specs.Networks.{small_network, narrow_network, large_network, small_pre, data_packet, data_packets}
+use Rattle.frame_records.specs.Networks.{small_network, narrow_network, large_network, small_pre, small_post, data_packet, data_packets}
 
 -- how many bytes the record of a frame has, whose PLPs have so many blocks
 abbrev pub frame_len : Config → (ℕ → ℕ) → ℕ
@@ -46,6 +47,10 @@ pub record StandsOnGrid (c : Config) (inputs : ℕ → List (List ℕ)) (whole :
 
 abbrev pub RecordsOnGrid : Type 0
 RecordsOnGrid = (c : Config) (inputs : ℕ → List (List ℕ)) (whole : ℕ → Bool) (end : ℕ) → end ≤ 2 ^ 31 → StandsOnGrid c inputs whole end
+
+-- L1-post of its frame 1, of 20 packets.
+abbrev pub CountedPost : Type 0
+CountedPost = bytes_of (post_bits small_network 1 (frame_shape small_network (λ plp. data_packets 20) 1)) ≡ small_post
 
 -- The records of a plan's frames fit too.
 abbrev pub RecordsFit : Type 0

@@ -1,5 +1,5 @@
 // Laws of the definitions. Their functions do nothing.
-ghost use Rattle.frame_records.specs.Laws.{FrameLength, FrameFits, CountedLengths, CountedBlocks, CountedPre, CountedFrames, RecordsOnGrid, RecordsFit, AllWhole, CountedRecords, NoneLost, CountedSlots, CountedLoss};
+ghost use Rattle.frame_records.specs.Laws.{FrameLength, FrameFits, CountedLengths, CountedBlocks, CountedPre, CountedPost, CountedFrames, RecordsOnGrid, RecordsFit, AllWhole, CountedRecords, NoneLost, CountedSlots, CountedLoss};
 
 use cell_map::map_law;
 use l1_signal::post_law;
@@ -13,6 +13,7 @@ pub fn frame_law()
     ensures counted { CountedLengths }
     ensures blocks { CountedBlocks }
     ensures pre { CountedPre }
+    ensures post { CountedPost }
 {
     block_law();
     post_law();

@@ -1,4 +1,4 @@
-use Rattle.frame_records.proofs.CountedLemmas.{counted_lengths, counted_blocks, counted_pre}
+use Rattle.frame_records.proofs.CountedLemmas.{counted_lengths, counted_blocks, counted_pre, counted_post}
 use Rattle.frame_records.proofs.FrameLemmas.{frame_length}
 use Rattle.frame_records.proofs.laws.frame_law.Goals as goal
 
@@ -13,3 +13,6 @@ returns-clause-blocks c = counted_blocks
 
 pub returns-clause-pre : goal.returns-clause-pre
 returns-clause-pre c = counted_pre
+
+pub returns-clause-post : goal.returns-clause-post
+returns-clause-post c = counted_post
