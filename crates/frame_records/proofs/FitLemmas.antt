@@ -58,7 +58,7 @@ length-range from (suc count) = ap suc (length-range (from + 1) count)
 -- ---- how many blocks a frame has
 
 -- so many has each PLP
-abbrev counts : Config → (ℕ → List (List ℕ)) → ℕ → ℕ → ℕ
+abbrev pub counts : Config → (ℕ → List (List ℕ)) → ℕ → ℕ → ℕ
 counts c inputs n plp = length (plp_blocks c inputs n plp)
 
 -- a sum over the places of PLPs is no greater than one over the PLPs
@@ -76,7 +76,7 @@ sum_times k f (x ∷ xs) =
     sum_by-cons (λ x. k * f x) x xs ∙ ap (λ (s : ℕ). k * f x + s) (sum_times k f xs) ∙ omega (arith, ap (λ (s : ℕ). k * s) (sum_by-cons f x xs), mul-add k (f x) (sum_by f xs))
 
 -- no PLP has more blocks than it may
-count_le : SlotLength → FieldRange → CountLaw → (c : Config) (inputs : ℕ → List (List ℕ)) (n plp : ℕ) → IsPlan c → plp < length c.plps → counts c inputs n plp ≤ (plp_at c.plps plp).blocks
+pub count_le : SlotLength → FieldRange → CountLaw → (c : Config) (inputs : ℕ → List (List ℕ)) (n plp : ℕ) → IsPlan c → plp < length c.plps → counts c inputs n plp ≤ (plp_at c.plps plp).blocks
 unfolding capacity
 count_le slot field law c inputs n plp is lt =
     let at : ℕ → List ℕ = packet_at (inputs plp) in
@@ -113,7 +113,7 @@ all_blocks c inputs n (plp ∷ plps) =
 
 -- ---- each block and each cell
 
-all_append : {X : Type 0} (P : X → Type 0) (xs ys : List X) → AllByRecursion P xs → AllByRecursion P ys → AllByRecursion P (xs ++ ys)
+pub all_append : {X : Type 0} (P : X → Type 0) (xs ys : List X) → AllByRecursion P xs → AllByRecursion P ys → AllByRecursion P (xs ++ ys)
 all_append P [] ys h k = k
 all_append P (x ∷ xs) ys h k = (h.0, all_append P xs ys h.1 k)
 
@@ -121,7 +121,7 @@ all_map : {X Y : Type 0} (P : Y → Type 0) (f : X → Y) (xs : List X) → ((x 
 all_map P f [] each = tt
 all_map P f (x ∷ xs) each = (each x, all_map P f xs each)
 
-all_map_twice : {X Y Z : Type 0} (P : Z → Type 0) (g : Y → Z) (f : X → Y) (xs : List X) → ((x : X) → P (g (f x))) → AllByRecursion P (map g (map f xs))
+pub all_map_twice : {X Y Z : Type 0} (P : Z → Type 0) (g : Y → Z) (f : X → Y) (xs : List X) → ((x : X) → P (g (f x))) → AllByRecursion P (map g (map f xs))
 all_map_twice P g f [] each = tt
 all_map_twice P g f (x ∷ xs) each = (each x, all_map_twice P g f xs each)
 

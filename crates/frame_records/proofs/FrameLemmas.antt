@@ -26,10 +26,10 @@ use Rattle.site_frame.specs.Record.{head_len, pre_len}
 use Rattle.frame_records.specs.Frames.{places, plp_blocks, sent_block, sent_blocks, frame_cells, frame_shape}
 use Rattle.frame_records.specs.Laws.{FrameLength}
 
-length-header : (h : Header) → length (header_bits h) ≡ 80
+pub length-header : (h : Header) → length (header_bits h) ≡ 80
 length-header h = simp (length-append, length-field) refl
 
-length-added : (i : ℕ) (bits : List Bool) → length (added i bits) ≡ length bits
+pub length-added : (i : ℕ) (bits : List Bool) → length (added i bits) ≡ length bits
 length-added i [] = refl
 length-added i (b ∷ bits) = ap suc (length-added (i + 1) bits)
 

@@ -3,3 +3,4 @@ mod RecordLemmas
 mod RecoverLemmas
 mod CountedLemmas
 mod FitLemmas
+mod StandLemmas

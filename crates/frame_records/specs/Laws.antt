@@ -1,5 +1,5 @@
 -- Laws of frames, of records and of what is given back; and numbers that were counted apart.
-use Rattle.std.specs.Prelude.{◌≡◌, ◌⊎◌, ◌<◌, ◌≤◌, ◌^◌, ◌*◌, ◌+◌, ◌%◌, ◌==◌, ◌&&◌, nat_le, not, ℕ, Bool, true, false, List, [], ◌∷◌, length, map, sum_by}
+use Rattle.std.specs.Prelude.{◌≡◌, ◌⊎◌, ◌<◌, ◌≤◌, ◌^◌, ◌*◌, ◌+◌, ◌%◌, ◌==◌, ◌&&◌, nat_le, not, ℕ, Bool, true, false, List, [], ◌∷◌, length, map, take, sum_by, slice_get, Some, option_map}
 use Rattle.std.specs.List.{range_with_len, AllByRecursion}
 use Rattle.terms.specs.Bits.{bytes_for, bytes_of}
 use Rattle.ts_packet.specs.Null.{is_null, null_packet}
@@ -7,10 +7,12 @@ use Rattle.null_delete.specs.Deletion.{packet_at}
 use Rattle.plp_config.specs.Capacity.{IsPlan, block_bytes}
 use Rattle.plp_config.specs.RunLength.{frame_count}
 use Rattle.plp_config.specs.declared.config.Config.{Config}
+use Rattle.cell_map.specs.Address.{IsCell, address_of}
+use Rattle.cell_map.specs.CellMap.{ordinal_of}
 use Rattle.l1_signal.specs.L1Of.{post_bits}
 use Rattle.site_frame.specs.Whole.{FitsRecord, record_len}
 use Rattle.site_frame.specs.Record.{head_len, pre_len}
-use Rattle.frame_records.specs.Frames.{places, plp_blocks, frame_shape, frame_of, HasByteIds, l1_pre, run_frames}
+use Rattle.frame_records.specs.Frames.{places, plp_blocks, sent_block, sent_blocks, frame_cells, frame_shape, frame_of, HasByteIds, l1_pre, run_frames}
 use Rattle.frame_records.specs.Records.{record_numbers, records, IsOnGrid}
 use Rattle.frame_records.specs.Recover.{due_slots, recovered, recover}
 use Rattle.frame_records.specs.Networks.{small_network, narrow_network, large_network, small_pre, small_post, data_packet, data_packets}
@@ -23,6 +25,17 @@ frame_len c count =
 -- So many has that of frame n.
 abbrev pub FrameLength : Type 0
 FrameLength = (c : Config) (inputs : ℕ → List (List ℕ)) (n : ℕ) → record_len (frame_of c inputs n) ≡ frame_len c (λ plp. length (plp_blocks c inputs n plp))
+
+-- The blocks of a frame are counted PLP by PLP: each stands at its ordinal.
+abbrev pub BlockStands : Type 0
+BlockStands = (c : Config) (inputs : ℕ → List (List ℕ)) (n plp block : ℕ) → plp < length c.plps → block < length (plp_blocks c inputs n plp)
+    → slice_get (sent_blocks c (plp_blocks c inputs n)) (ordinal_of (frame_shape c inputs n) plp block) ≡ option_map (sent_block c plp) (slice_get (plp_blocks c inputs n plp) block)
+
+-- Each cell of each block of a plan's frame stands at its address.
+abbrev pub CellStands : Type 0
+CellStands = (c : Config) (inputs : ℕ → List (List ℕ)) (n plp block cell : ℕ) → IsPlan c → IsCell c (frame_shape c inputs n) plp block cell
+    → slice_get (frame_cells c (frame_shape c inputs n)) (address_of c (frame_shape c inputs n) plp block cell)
+    ≡ Some (Some (record { ordinal = ordinal_of (frame_shape c inputs n) plp block; cell = cell }))
 
 -- A frame of a plan fits a record: so what is written of it spells it, and is read back.
 abbrev pub FrameFits : Type 0
@@ -65,6 +78,10 @@ AllWhole = (c : Config) (inputs : ℕ → List (List ℕ)) → records c inputs 
 pub record CountedFrames : Type 0 where
   pub empty : length (run_frames small_network (λ plp. [])) ≡ 4
   pub narrow : length (run_frames narrow_network (λ plp. data_packets 110)) ≡ 12
+
+-- Each block of the small network is sent as FF F6 and so on: that is FC 00, scrambled.
+abbrev pub CountedStart : Type 0
+CountedStart = (inputs : ℕ → List (List ℕ)) (n : ℕ) → AllByRecursion (λ b. (b.plp ≡ 0) × (take 2 b.bytes ≡ 0xFF ∷ 0xF6 ∷ [])) (sent_blocks small_network (plp_blocks small_network inputs n))
 
 -- L1-pre of the small network, with its CRC_32.
 abbrev pub CountedPre : Type 0

@@ -1,7 +1,7 @@
 // Laws of the definitions. Their functions do nothing.
-ghost use Rattle.frame_records.specs.Laws.{FrameLength, FrameFits, CountedLengths, CountedBlocks, CountedPre, CountedPost, CountedFrames, RecordsOnGrid, RecordsFit, AllWhole, CountedRecords, NoneLost, CountedSlots, CountedLoss};
+ghost use Rattle.frame_records.specs.Laws.{FrameLength, FrameFits, CountedLengths, CountedBlocks, CountedStart, BlockStands, CellStands, CountedPre, CountedPost, CountedFrames, RecordsOnGrid, RecordsFit, AllWhole, CountedRecords, NoneLost, CountedSlots, CountedLoss};
 
-use cell_map::map_law;
+use cell_map::{map_law, shape_law};
 use l1_signal::post_law;
 use mode_adapt::count_law;
 use plp_config::{block_law, emission_law, length_law};
@@ -14,9 +14,23 @@ pub fn frame_law()
     ensures blocks { CountedBlocks }
     ensures pre { CountedPre }
     ensures post { CountedPost }
+    ensures start { CountedStart }
 {
     block_law();
     post_law();
+}
+
+/// Each block of a frame stands at its ordinal, and each cell of it at its address.
+pub fn stand_law()
+    ensures block { BlockStands }
+    ensures cell { CellStands }
+{
+    length_law();
+    block_law();
+    count_law();
+    order_law();
+    shape_law();
+    map_law();
 }
 
 /// Every frame of a plan fits a record, and so do the records of a run.

@@ -4,5 +4,5 @@
 mod laws;
 mod plan;
 
-pub use laws::{fit_law, frame_law, record_law, recover_law};
+pub use laws::{fit_law, frame_law, record_law, recover_law, stand_law};
 pub use plan::id_law;

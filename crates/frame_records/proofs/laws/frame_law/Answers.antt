@@ -1,4 +1,4 @@
-use Rattle.frame_records.proofs.CountedLemmas.{counted_lengths, counted_blocks, counted_pre, counted_post}
+use Rattle.frame_records.proofs.CountedLemmas.{counted_lengths, counted_blocks, counted_pre, counted_post, counted_start}
 use Rattle.frame_records.proofs.FrameLemmas.{frame_length}
 use Rattle.frame_records.proofs.laws.frame_law.Goals as goal
 
@@ -16,3 +16,6 @@ returns-clause-pre c = counted_pre
 
 pub returns-clause-post : goal.returns-clause-post
 returns-clause-post c = counted_post
+
+pub returns-clause-start : goal.returns-clause-start
+returns-clause-start c = counted_start
