@@ -1,7 +1,7 @@
 -- The numbers that were counted apart.
-use Rattle.std.proofs.Common.{append_assoc, replicate, Option, Some, None, take, ◌++◌, ◌≡◌, ℕ, zero, suc, ◌+◌, ◌-◌, ◌*◌, ◌<◌, ◌≤◌, Bool, true, false, List, [], ◌∷◌, length, refl, ap, ap₂, ◌∙◌, arith, lit<}
-use Rattle.std.specs.Prelude.{filter, map, not, cond, min, nat_le, nat_lt, ◌&&◌}
-use Rattle.std.specs.List.{range_with_len, list_any}
+use Rattle.std.proofs.Common.{append_assoc, replicate, Option, Some, None, take, ◌++◌, ◌≡◌, ℕ, zero, suc, ◌+◌, ◌-◌, ◌*◌, ◌<◌, ◌≤◌, Bool, true, false, List, [], ◌∷◌, length, refl, ap, ap₂, ◌∙◌, arith}
+use Rattle.std.specs.Prelude.{filter, map, min}
+use Rattle.std.specs.List.{range_with_len}
 use Rattle.std.specs.Int.{div_ceil}
 use Rattle.std.proofs.lemmas.List.{get_or-replicate, length-map, length-append}
 use Rattle.std.proofs.lemmas.List.FromFn.{length-map-range_with_len, take-map-range_with_len}
@@ -31,10 +31,9 @@ use Rattle.null_delete.specs.Deletion.{packet_at, kept_slots}
 use Rattle.mode_adapt.specs.Queue.{Rates, arrived, least_to, sent, sent_before}
 use Rattle.mode_adapt.specs.UserPackets.{keeps_of}
 use Rattle.mode_adapt.specs.Blocks.{rates_of, plp_keeps, blocks_between, block_places, block_bits, data_field, header_at, with_place, first_up}
-use Rattle.frame_records.specs.Recover.{is_touched}
-use Rattle.frame_records.specs.Networks.{small_network, small_post, narrow_network, data_packet, data_packets}
+use Rattle.frame_records.specs.Networks.{small_network, small_post, data_packet, data_packets}
 use Rattle.frame_records.proofs.FitLemmas.{length-range, all_append, all_map_twice}
-use Rattle.frame_records.specs.Laws.{CountedLengths, CountedBlocks, CountedRecords, CountedSlots, CountedLoss, CountedFrames, CountedPre, CountedPost, CountedStart, narrow_recovered}
+use Rattle.frame_records.specs.Counted.{CountedLengths, CountedBlocks, CountedStart, CountedPre, CountedPost, CountedFrames, CountedRecords, CountedSlots}
 
 pub counted_lengths : CountedLengths
 unfolding block_bytes
@@ -60,10 +59,10 @@ data_is_no_null : is_null data_packet ≡ false
 unfolding is_null field
 data_is_no_null = refl
 
-data_at : (n k : ℕ) → k < n → packet_at (data_packets n) k ≡ data_packet
+pub data_at : (n k : ℕ) → k < n → packet_at (data_packets n) k ≡ data_packet
 data_at n k lt = get_or-replicate n k data_packet null_packet lt
 
-data_kept : (deletes : Bool) (n k : ℕ) → k < n → keeps_of deletes (packet_at (data_packets n)) k ≡ true
+pub data_kept : (deletes : Bool) (n k : ℕ) → k < n → keeps_of deletes (packet_at (data_packets n)) k ≡ true
 data_kept true n k lt = rw (data_at n k lt, data_is_no_null) refl
 data_kept false n k lt = refl
 
@@ -72,7 +71,7 @@ kept_from : (keeps : ℕ → Bool) (n from count : ℕ) → ((k : ℕ) → k < n
 kept_from keeps n from zero all le = refl
 kept_from keeps n from (suc count) all le = rw (all from (omega (arith, le))) (ap (λ (ks : List ℕ). from ∷ ks) (kept_from keeps n (from + 1) count all (omega (arith, le))))
 
-kept_count : (deletes : Bool) (n m : ℕ) → m ≤ n → length (kept_slots (keeps_of deletes (packet_at (data_packets n))) m) ≡ m
+pub kept_count : (deletes : Bool) (n m : ℕ) → m ≤ n → length (kept_slots (keeps_of deletes (packet_at (data_packets n))) m) ≡ m
 kept_count deletes n m le =
     ap (λ (ks : List ℕ). length ks) (kept_from (keeps_of deletes (packet_at (data_packets n))) n 0 m (data_kept deletes n) (omega (arith, le))) ∙ length-range 0 m
 
@@ -86,10 +85,10 @@ least_same f g zero same = same 0 (omega arith)
 least_same f g (suc n) same = ap₂ (λ (a b : ℕ). min a b) (least_same f g n (λ i le. same i (omega (arith, le)))) (same (suc n) (omega arith))
 
 -- the bytes sent by the end of a frame, if the packets are there
-abbrev sent_data : Rates → ℕ → ℕ
+abbrev pub sent_data : Rates → ℕ → ℕ
 sent_data r m = least_to (λ i. r.up_len * slot_count r.num r.den (i * r.epoch) + (m - i) * r.capacity) m
 
-sent_is : (r : Rates) (deletes : Bool) (n m : ℕ) → ((i : ℕ) → i ≤ m → slot_count r.num r.den (i * r.epoch) ≤ n) → sent r (keeps_of deletes (packet_at (data_packets n))) m ≡ sent_data r m
+pub sent_is : (r : Rates) (deletes : Bool) (n m : ℕ) → ((i : ℕ) → i ≤ m → slot_count r.num r.den (i * r.epoch) ≤ n) → sent r (keeps_of deletes (packet_at (data_packets n))) m ≡ sent_data r m
 sent_is r deletes n m few = least_same _ _ m (λ i le. ap (λ (a : ℕ). a + (m - i) * r.capacity) (arrived_is r deletes n i (few i le)))
 
 -- ---- frame 1 of the small network
@@ -172,59 +171,3 @@ counted_start inputs n =
     all_append Starts (map (sent_block small_network 0) (plp_blocks small_network inputs n 0)) []
     (all_map_twice Starts (sent_block small_network 0) (λ from. block_bits small_network 0 at slots from (min (from + len) end)) (block_places len begin end)
     (λ from. (refl, block_starts at slots from (min (from + len) end)))) tt
-
--- ---- the narrow network, where frames 3 and 4 are muted
-
-abbrev narrow_rates : Rates
-narrow_rates = rates_of narrow_network 0 100000
-
-abbrev narrow_keeps : ℕ → Bool
-narrow_keeps = keeps_of true (packet_at (data_packets 110))
-
-narrow_slots : (i : ℕ) → i ≤ 4 → slot_count narrow_rates.num narrow_rates.den (i * 100000) ≤ 110
-unfolding num den
-narrow_slots i le = omega (arith, le)
-
-narrow_sent2 : sent narrow_rates narrow_keeps 2 ≡ 5051
-unfolding num den up_bytes capacity field_bytes block_bytes
-narrow_sent2 = sent_is narrow_rates true 110 2 (λ i le. narrow_slots i (omega (arith, le)))
-
-narrow_sent3 : sent narrow_rates narrow_keeps 3 ≡ 7658
-unfolding num den up_bytes capacity field_bytes block_bytes
-narrow_sent3 = sent_is narrow_rates true 110 3 (λ i le. narrow_slots i (omega (arith, le)))
-
-narrow_sent4 : sent narrow_rates narrow_keeps 4 ≡ 10265
-unfolding num den up_bytes capacity field_bytes block_bytes
-narrow_sent4 = sent_is narrow_rates true 110 4 narrow_slots
-
--- whether two frames that carry the bytes from a, b and c on touch a user packet
-abbrev touches : ℕ → ℕ → ℕ → ℕ → ℕ → Bool
-touches len a b c place = list_any (λ (x : ℕ × ℕ). list_any (λ i. nat_le x.0 i && nat_lt i x.1) (range_with_len place len)) ((a, b) ∷ (b, c) ∷ [])
-
-touched_by : (r : Rates) (keeps : ℕ → Bool) (k p a b c : ℕ) → length (kept_slots keeps k) ≡ p → sent r keeps 2 ≡ a → sent r keeps 3 ≡ b → sent r keeps 4 ≡ c
-    → is_touched r keeps (3 ∷ 4 ∷ []) k ≡ touches r.up_len a b c (r.up_len * p)
-touched_by r keeps k p a b c place first second third =
-    ap (λ (p : ℕ). touches r.up_len (sent r keeps 2) (sent r keeps 3) (sent r keeps 4) (r.up_len * p)) place
-    ∙ ap (λ (a : ℕ). touches r.up_len a (sent r keeps 3) (sent r keeps 4) (r.up_len * p)) first
-    ∙ ap (λ (b : ℕ). touches r.up_len a b (sent r keeps 4) (r.up_len * p)) second
-    ∙ ap (λ (c : ℕ). touches r.up_len a b c (r.up_len * p)) third
-
-narrow_touched : (k : ℕ) → k ≤ 110 → is_touched narrow_rates narrow_keeps (3 ∷ 4 ∷ []) k ≡ touches narrow_rates.up_len 5051 7658 10265 (narrow_rates.up_len * k)
-narrow_touched k le = touched_by narrow_rates narrow_keeps k k 5051 7658 10265 (kept_count true 110 k le) narrow_sent2 narrow_sent3 narrow_sent4
-
-abbrev given_back : Bool → Bool → List ℕ → List ℕ
-given_back kept touched packet = cond (kept && not touched) packet null_packet
-
-narrow_is : (k : ℕ) (touched : Bool) → k < 110 → touches narrow_rates.up_len 5051 7658 10265 (narrow_rates.up_len * k) ≡ touched → narrow_recovered k ≡ given_back true touched data_packet
-narrow_is k touched lt e =
-    ap (λ (t : Bool). given_back (narrow_keeps k) t (packet_at (data_packets 110) k)) (narrow_touched k (omega (arith, lt)) ∙ e)
-    ∙ ap₂ (λ (b : Bool) (p : List ℕ). given_back b touched p) (data_kept true 110 k lt) (data_at 110 k lt)
-
-pub counted_loss : CountedLoss
-unfolding up_bytes
-counted_loss = record {
-  before = narrow_is 25 false (lit< tt) refl;
-  first = narrow_is 26 true (lit< tt) refl;
-  last = narrow_is 54 true (lit< tt) refl;
-  after = narrow_is 55 false (lit< tt) refl;
-}

@@ -4,3 +4,4 @@ mod RecoverLemmas
 mod CountedLemmas
 mod FitLemmas
 mod StandLemmas
+mod LossLemmas

@@ -1,21 +1,18 @@
--- Laws of frames, of records and of what is given back; and numbers that were counted apart.
-use Rattle.std.specs.Prelude.{◌≡◌, ◌⊎◌, ◌<◌, ◌≤◌, ◌^◌, ◌*◌, ◌+◌, ◌%◌, ◌==◌, ◌&&◌, nat_le, not, ℕ, Bool, true, false, List, [], ◌∷◌, length, map, take, sum_by, slice_get, Some, option_map}
-use Rattle.std.specs.List.{range_with_len, AllByRecursion}
-use Rattle.terms.specs.Bits.{bytes_for, bytes_of}
+-- Laws of frames, of records and of what is given back.
+use Rattle.std.specs.Prelude.{◌≡◌, ◌⊎◌, ◌<◌, ◌≤◌, ◌^◌, ◌*◌, ◌+◌, ◌%◌, ℕ, Bool, true, false, List, [], length, map, sum_by, slice_get, Some, option_map}
+use Rattle.std.specs.List.{AllByRecursion}
+use Rattle.terms.specs.Bits.{bytes_for}
 use Rattle.ts_packet.specs.Null.{is_null, null_packet}
-use Rattle.null_delete.specs.Deletion.{packet_at}
 use Rattle.plp_config.specs.Capacity.{IsPlan, block_bytes}
 use Rattle.plp_config.specs.RunLength.{frame_count}
 use Rattle.plp_config.specs.declared.config.Config.{Config}
 use Rattle.cell_map.specs.Address.{IsCell, address_of}
 use Rattle.cell_map.specs.CellMap.{ordinal_of}
-use Rattle.l1_signal.specs.L1Of.{post_bits}
 use Rattle.site_frame.specs.Whole.{FitsRecord, record_len}
 use Rattle.site_frame.specs.Record.{head_len, pre_len}
-use Rattle.frame_records.specs.Frames.{places, plp_blocks, sent_block, sent_blocks, frame_cells, frame_shape, frame_of, HasByteIds, l1_pre, run_frames}
-use Rattle.frame_records.specs.Records.{record_numbers, records, IsOnGrid}
-use Rattle.frame_records.specs.Recover.{due_slots, recovered, recover}
-use Rattle.frame_records.specs.Networks.{small_network, narrow_network, large_network, small_pre, small_post, data_packet, data_packets}
+use Rattle.frame_records.specs.Frames.{places, plp_blocks, sent_block, sent_blocks, frame_cells, frame_shape, frame_of, HasByteIds, run_frames}
+use Rattle.frame_records.specs.Records.{records, IsOnGrid}
+use Rattle.frame_records.specs.Recover.{due_slots, recover}
 
 -- how many bytes the record of a frame has, whose PLPs have so many blocks
 abbrev pub frame_len : Config → (ℕ → ℕ) → ℕ
@@ -41,17 +38,6 @@ CellStands = (c : Config) (inputs : ℕ → List (List ℕ)) (n plp block cell :
 abbrev pub FrameFits : Type 0
 FrameFits = (c : Config) (inputs : ℕ → List (List ℕ)) (n : ℕ) → IsPlan c → HasByteIds c → n < 2 ^ 31 → FitsRecord (frame_of c inputs n)
 
--- The records of the small network's frame without a block, and of the large one's with none, 209 and one.
-pub record CountedLengths : Type 0 where
-  pub small : frame_len small_network (λ plp. 0) ≡ 160103
-  pub large : frame_len large_network (λ plp. 0) ≡ 6800103
-  pub full : frame_len large_network (λ plp. 209) ≡ 7925359
-  pub one : frame_len large_network (λ plp. 1) ≡ 6805487
-
--- Frame 1 of the small network has four blocks of 20 packets.
-abbrev pub CountedBlocks : Type 0
-CountedBlocks = length (plp_blocks small_network (λ plp. data_packets 20) 1 0) ≡ 4
-
 -- Records are on the grid, and the first one begins a superframe.
 pub record StandsOnGrid (c : Config) (inputs : ℕ → List (List ℕ)) (whole : ℕ → Bool) (end : ℕ) : Type 0 where
   pub first : ℕ
@@ -60,10 +46,6 @@ pub record StandsOnGrid (c : Config) (inputs : ℕ → List (List ℕ)) (whole :
 
 abbrev pub RecordsOnGrid : Type 0
 RecordsOnGrid = (c : Config) (inputs : ℕ → List (List ℕ)) (whole : ℕ → Bool) (end : ℕ) → end ≤ 2 ^ 31 → StandsOnGrid c inputs whole end
-
--- L1-post of its frame 1, of 20 packets.
-abbrev pub CountedPost : Type 0
-CountedPost = bytes_of (post_bits small_network 1 (frame_shape small_network (λ plp. data_packets 20) 1)) ≡ small_post
 
 -- The records of a plan's frames fit too.
 abbrev pub RecordsFit : Type 0
@@ -74,44 +56,7 @@ RecordsFit = (c : Config) (inputs : ℕ → List (List ℕ)) (whole : ℕ → Bo
 abbrev pub AllWhole : Type 0
 AllWhole = (c : Config) (inputs : ℕ → List (List ℕ)) → records c inputs (λ n. true) (frame_count c (λ plp. length (inputs plp))) ≡ run_frames c inputs
 
--- How many frames a run has: the small network without a packet, the narrow one with 110 packets.
-pub record CountedFrames : Type 0 where
-  pub empty : length (run_frames small_network (λ plp. [])) ≡ 4
-  pub narrow : length (run_frames narrow_network (λ plp. data_packets 110)) ≡ 12
-
--- Each block of the small network is sent as FF F6 and so on: that is FC 00, scrambled.
-abbrev pub CountedStart : Type 0
-CountedStart = (inputs : ℕ → List (List ℕ)) (n : ℕ) → AllByRecursion (λ b. (b.plp ≡ 0) × (take 2 b.bytes ≡ 0xFF ∷ 0xF6 ∷ [])) (sent_blocks small_network (plp_blocks small_network inputs n))
-
--- L1-pre of the small network, with its CRC_32.
-abbrev pub CountedPre : Type 0
-CountedPre = bytes_of (l1_pre small_network) ≡ small_pre
-
--- Of twelve frames: those from frame 7 on are whole, or all but frames 3 and 4; of four, only those that begin no superframe.
-pub record CountedRecords : Type 0 where
-  pub late : record_numbers narrow_network (λ n. nat_le 7 n) 12 ≡ 8 ∷ 9 ∷ 10 ∷ 11 ∷ []
-  pub gap : record_numbers narrow_network (λ n. not (n == 3) && not (n == 4)) 12 ≡ range_with_len 0 12
-  pub none : record_numbers small_network (λ n. n % 2 == 1) 4 ≡ []
-
 -- If no frame is muted and null packets are canonical, the packets of the slots come back.
 abbrev pub NoneLost : Type 0
 NoneLost = (c : Config) (plp ticks : ℕ) (at : ℕ → List ℕ) (first count : ℕ) → ((k : ℕ) → is_null (at k) ≡ true → at k ≡ null_packet)
     → recover c plp ticks at (λ m. false) first count ≡ map at (due_slots c plp ticks first count)
-
--- Slots that are due: of the small network after 4 and 24 frames, of the large one after 8, of the narrow one after frames 8 to 11.
-pub record CountedSlots : Type 0 where
-  pub four : length (due_slots small_network 0 100000 0 4) ≡ 14
-  pub more : length (due_slots small_network 0 100000 0 24) ≡ 305
-  pub large : length (due_slots large_network 0 2049536 0 8) ≡ 29809
-  pub late : due_slots narrow_network 0 100000 8 4 ≡ range_with_len 97 27
-
--- the packet in a slot of the narrow network, which is sent 110 packets, none null, if frames 3 and 4 are muted
-abbrev pub narrow_recovered : ℕ → List ℕ
-narrow_recovered k = recovered narrow_network 0 100000 (packet_at (data_packets 110)) (3 ∷ 4 ∷ []) k
-
--- Then slots 26 to 54 are lost.
-pub record CountedLoss : Type 0 where
-  pub before : narrow_recovered 25 ≡ data_packet
-  pub first : narrow_recovered 26 ≡ null_packet
-  pub last : narrow_recovered 54 ≡ null_packet
-  pub after : narrow_recovered 55 ≡ data_packet

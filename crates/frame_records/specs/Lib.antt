@@ -3,6 +3,7 @@ pub mod Records
 pub mod Recover
 pub mod Networks
 pub mod Laws
+pub mod Counted
 pub use Rattle.terms.specs.Bits
 pub use Rattle.plp_config.specs.Capacity
 pub use Rattle.plp_config.specs.Emission

@@ -1,5 +1,6 @@
 // Laws of the definitions. Their functions do nothing.
-ghost use Rattle.frame_records.specs.Laws.{FrameLength, FrameFits, CountedLengths, CountedBlocks, CountedStart, BlockStands, CellStands, CountedPre, CountedPost, CountedFrames, RecordsOnGrid, RecordsFit, AllWhole, CountedRecords, NoneLost, CountedSlots, CountedLoss};
+ghost use Rattle.frame_records.specs.Laws.{FrameLength, BlockStands, CellStands, FrameFits, RecordsOnGrid, RecordsFit, AllWhole, NoneLost};
+ghost use Rattle.frame_records.specs.Counted.{CountedLengths, CountedBlocks, CountedStart, CountedPre, CountedPost, CountedFrames, CountedRecords, CountedSlots, CountedLoss};
 
 use cell_map::{map_law, shape_law};
 use l1_signal::post_law;

@@ -1,4 +1,5 @@
-use Rattle.frame_records.proofs.CountedLemmas.{counted_slots, counted_loss}
+use Rattle.frame_records.proofs.CountedLemmas.{counted_slots}
+use Rattle.frame_records.proofs.LossLemmas.{counted_loss}
 use Rattle.frame_records.proofs.RecoverLemmas.{none_lost}
 use Rattle.frame_records.proofs.laws.recover_law.Goals as goal
 
