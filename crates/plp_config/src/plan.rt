@@ -52,6 +52,14 @@ impl Plan {
         &self.config
     }
 
+    /// Every plan satisfies every rule and every capacity test. It does nothing.
+    pub fn obeys_rules(&self)
+        ensures plan { IsPlan self.now }
+        ensures ranges { HasRanges self.now }
+    {
+        let _ = self.config();
+    }
+
     /// The length of a slot of a PLP in ticks, a fraction in lowest terms: its numerator and its
     /// denominator.
     pub fn slot_length(&self, plp: usize) -> (u64, u64)

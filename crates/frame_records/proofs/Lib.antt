@@ -1,0 +1,7 @@
+mod FrameLemmas
+mod RecordLemmas
+mod RecoverLemmas
+mod CountedLemmas
+mod FitLemmas
+mod StandLemmas
+mod LossLemmas

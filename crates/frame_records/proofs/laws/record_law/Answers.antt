@@ -1,0 +1,15 @@
+use Rattle.frame_records.proofs.CountedLemmas.{counted_records, counted_frames}
+use Rattle.frame_records.proofs.RecordLemmas.{records_on_grid, all_whole}
+use Rattle.frame_records.proofs.laws.record_law.Goals as goal
+
+pub returns-clause-grid : goal.returns-clause-grid
+returns-clause-grid c = records_on_grid
+
+pub returns-clause-counted : goal.returns-clause-counted
+returns-clause-counted c = counted_records
+
+pub returns-clause-whole : goal.returns-clause-whole
+returns-clause-whole c = all_whole
+
+pub returns-clause-frames : goal.returns-clause-frames
+returns-clause-frames c = counted_frames

@@ -1,0 +1,13 @@
+use Rattle.frame_records.proofs.CountedLemmas.{counted_slots}
+use Rattle.frame_records.proofs.LossLemmas.{counted_loss}
+use Rattle.frame_records.proofs.RecoverLemmas.{none_lost}
+use Rattle.frame_records.proofs.laws.recover_law.Goals as goal
+
+pub returns-clause-none : goal.returns-clause-none
+returns-clause-none c = none_lost
+
+pub returns-clause-slots : goal.returns-clause-slots
+returns-clause-slots c = counted_slots
+
+pub returns-clause-loss : goal.returns-clause-loss
+returns-clause-loss c = counted_loss

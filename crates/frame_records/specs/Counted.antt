@@ -1,0 +1,62 @@
+-- Numbers of three networks that were counted apart, not by this program.
+use Rattle.std.specs.Prelude.{◌≡◌, ◌⊎◌, ◌<◌, ◌≤◌, ◌%◌, ◌==◌, ◌&&◌, nat_le, not, ℕ, List, [], ◌∷◌, length, take}
+use Rattle.std.specs.List.{range_with_len, AllByRecursion}
+use Rattle.terms.specs.Bits.{bytes_of}
+use Rattle.ts_packet.specs.Null.{null_packet}
+use Rattle.null_delete.specs.Deletion.{packet_at}
+use Rattle.l1_signal.specs.L1Of.{post_bits}
+use Rattle.frame_records.specs.Frames.{plp_blocks, sent_blocks, frame_shape, l1_pre, run_frames}
+use Rattle.frame_records.specs.Records.{record_numbers}
+use Rattle.frame_records.specs.Recover.{due_slots, recovered}
+use Rattle.frame_records.specs.Networks.{small_network, narrow_network, large_network, small_pre, small_post, data_packet, data_packets}
+use Rattle.frame_records.specs.Laws.{frame_len}
+
+-- The records of the small network's frame without a block, and of the large one's with none, 209 and one.
+pub record CountedLengths : Type 0 where
+  pub small : frame_len small_network (λ plp. 0) ≡ 160103
+  pub large : frame_len large_network (λ plp. 0) ≡ 6800103
+  pub full : frame_len large_network (λ plp. 209) ≡ 7925359
+  pub one : frame_len large_network (λ plp. 1) ≡ 6805487
+
+-- Frame 1 of the small network has four blocks of 20 packets.
+abbrev pub CountedBlocks : Type 0
+CountedBlocks = length (plp_blocks small_network (λ plp. data_packets 20) 1 0) ≡ 4
+
+-- Each block of the small network is sent as FF F6 and so on: that is FC 00, scrambled.
+abbrev pub CountedStart : Type 0
+CountedStart = (inputs : ℕ → List (List ℕ)) (n : ℕ)
+    → AllByRecursion (λ b. (b.plp ≡ 0) × (take 2 b.bytes ≡ 0xFF ∷ 0xF6 ∷ [])) (sent_blocks small_network (plp_blocks small_network inputs n))
+
+-- L1-pre of the small network, with its CRC_32, and L1-post of its frame 1, of 20 packets.
+abbrev pub CountedPre : Type 0
+CountedPre = bytes_of (l1_pre small_network) ≡ small_pre
+
+abbrev pub CountedPost : Type 0
+CountedPost = bytes_of (post_bits small_network 1 (frame_shape small_network (λ plp. data_packets 20) 1)) ≡ small_post
+
+-- How many frames a run has: the small network without a packet, the narrow one with 110 packets.
+pub record CountedFrames : Type 0 where
+  pub empty : length (run_frames small_network (λ plp. [])) ≡ 4
+  pub narrow : length (run_frames narrow_network (λ plp. data_packets 110)) ≡ 12
+
+-- Of twelve frames: those from frame 7 on are whole, or all but frames 3 and 4; of four, only those that begin no superframe.
+pub record CountedRecords : Type 0 where
+  pub late : record_numbers narrow_network (λ n. nat_le 7 n) 12 ≡ 8 ∷ 9 ∷ 10 ∷ 11 ∷ []
+  pub gap : record_numbers narrow_network (λ n. not (n == 3) && not (n == 4)) 12 ≡ range_with_len 0 12
+  pub none : record_numbers small_network (λ n. n % 2 == 1) 4 ≡ []
+
+-- Slots that are due: of the small network after 4 and 24 frames, of the large one after 8, of the narrow one after frames 8 to 11.
+pub record CountedSlots : Type 0 where
+  pub four : length (due_slots small_network 0 100000 0 4) ≡ 14
+  pub more : length (due_slots small_network 0 100000 0 24) ≡ 305
+  pub large : length (due_slots large_network 0 2049536 0 8) ≡ 29809
+  pub late : due_slots narrow_network 0 100000 8 4 ≡ range_with_len 97 27
+
+-- the packet in a slot of the narrow network, which is sent 110 packets, none null, if frames 3 and 4 are muted
+abbrev pub narrow_recovered : ℕ → List ℕ
+narrow_recovered k = recovered narrow_network 0 100000 (packet_at (data_packets 110)) (3 ∷ 4 ∷ []) k
+
+-- Then the packets of the slots 26 to 54 are lost, and no other.
+pub record CountedLoss : Type 0 where
+  pub kept : (k : ℕ) → k < 110 → (k < 26) ⊎ (54 < k) → narrow_recovered k ≡ data_packet
+  pub lost : (k : ℕ) → 26 ≤ k → k ≤ 54 → narrow_recovered k ≡ null_packet

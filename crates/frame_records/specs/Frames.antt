@@ -1,0 +1,62 @@
+-- The frames of a run (EN 302 755, clauses 5 to 8): what frame n is, if these are the packets of the inputs.
+use Rattle.std.specs.Prelude.{ℕ, ◌<◌, ◌^◌, Bool, true, Option, List, length, map}
+use Rattle.std.specs.FinMap.{get}
+use Rattle.std.specs.List.{flat_map, range_with_len}
+use Rattle.terms.specs.Bits.{bytes_of}
+use Rattle.bb_frame.specs.Scrambled.{scrambled}
+use Rattle.plp_config.specs.Emission.{emission}
+use Rattle.plp_config.specs.Plps.{plp_at}
+use Rattle.plp_config.specs.RunLength.{frame_count}
+use Rattle.plp_config.specs.declared.config.Config.{Config}
+use Rattle.null_delete.specs.Deletion.{packet_at}
+use Rattle.mode_adapt.specs.Blocks.{blocks_of}
+use Rattle.scheduler.specs.Shape.{FrameShape, shape_of}
+use Rattle.cell_map.specs.CellMap.{cell_map}
+use Rattle.cell_map.specs.declared.places.Cell.{Cell}
+use Rattle.l1_signal.specs.L1Of.{pre_of, post_bits}
+use Rattle.l1_signal.specs.L1Pre.{pre_bits}
+use Rattle.l1_signal.specs.Laws.{crc_behind}
+use Rattle.site_frame.specs.Record.{Block}
+use Rattle.site_frame.specs.declared.reading.RecordView.{RecordView}
+use Rattle.site_frame.specs.declared.reading.RecordView.TheVariants.{Frame}
+
+-- the PLPs by their places, in configuration order
+abbrev pub places : Config → List ℕ
+places c = range_with_len 0 (length c.plps)
+
+-- PLP_ID has 8 bits.
+abbrev pub HasByteIds : Config → Type 0
+HasByteIds c = (plp : ℕ) → plp < length c.plps → (plp_at c.plps plp).id < 2 ^ 8
+
+-- the blocks of a PLP in frame n, of the packets of its input, and null packets from their end on
+abbrev pub plp_blocks : Config → (ℕ → List (List ℕ)) → ℕ → ℕ → List (List Bool)
+plp_blocks c inputs n plp = blocks_of c plp c.ticks (packet_at (inputs plp)) n
+
+-- the shape of frame n, by the blocks that each PLP has
+abbrev pub frame_shape : Config → (ℕ → List (List ℕ)) → ℕ → FrameShape
+frame_shape c inputs n = shape_of c (map (λ plp. length (plp_blocks c inputs n plp)) (places c))
+
+-- a block as it is sent: PLP_ID, and its bytes, scrambled
+abbrev pub sent_block : Config → ℕ → List Bool → Block
+sent_block c plp bits = record { plp = (plp_at c.plps plp).id; bytes = bytes_of (scrambled bits) }
+
+-- the blocks of a frame, PLP by PLP
+abbrev pub sent_blocks : Config → (ℕ → List (List Bool)) → List Block
+sent_blocks c blocks = flat_map (λ plp. map (sent_block c plp) (blocks plp)) (places c)
+
+-- what stands at each address of a frame of this shape
+abbrev pub frame_cells : Config → FrameShape → List (Option Cell)
+frame_cells c shape = map (get (cell_map c shape)) (range_with_len 0 c.cells)
+
+-- L1-pre with its CRC_32
+abbrev pub l1_pre : Config → List Bool
+l1_pre c = crc_behind true (pre_bits (pre_of c))
+
+-- frame n: when it leaves, L1-pre and L1-post, the blocks, and the cells
+abbrev pub frame_of : Config → (ℕ → List (List ℕ)) → ℕ → RecordView
+frame_of c inputs n =
+    Frame (emission c n) (l1_pre c) (post_bits c n (frame_shape c inputs n)) (sent_blocks c (plp_blocks c inputs n)) (frame_cells c (frame_shape c inputs n))
+
+-- the frames of a run: whole superframes, until the delay has passed for all packets
+abbrev pub run_frames : Config → (ℕ → List (List ℕ)) → List RecordView
+run_frames c inputs = map (frame_of c inputs) (range_with_len 0 (frame_count c (λ plp. length (inputs plp))))

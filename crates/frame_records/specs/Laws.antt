@@ -1,0 +1,62 @@
+-- Laws of frames, of records and of what is given back.
+use Rattle.std.specs.Prelude.{◌≡◌, ◌⊎◌, ◌<◌, ◌≤◌, ◌^◌, ◌*◌, ◌+◌, ◌%◌, ℕ, Bool, true, false, List, [], length, map, sum_by, slice_get, Some, option_map}
+use Rattle.std.specs.List.{AllByRecursion}
+use Rattle.terms.specs.Bits.{bytes_for}
+use Rattle.ts_packet.specs.Null.{is_null, null_packet}
+use Rattle.plp_config.specs.Capacity.{IsPlan, block_bytes}
+use Rattle.plp_config.specs.RunLength.{frame_count}
+use Rattle.plp_config.specs.declared.config.Config.{Config}
+use Rattle.cell_map.specs.Address.{IsCell, address_of}
+use Rattle.cell_map.specs.CellMap.{ordinal_of}
+use Rattle.site_frame.specs.Whole.{FitsRecord, record_len}
+use Rattle.site_frame.specs.Record.{head_len, pre_len}
+use Rattle.frame_records.specs.Frames.{places, plp_blocks, sent_block, sent_blocks, frame_cells, frame_shape, frame_of, HasByteIds, run_frames}
+use Rattle.frame_records.specs.Records.{records, IsOnGrid}
+use Rattle.frame_records.specs.Recover.{due_slots, recover}
+
+-- how many bytes the record of a frame has, whose PLPs have so many blocks
+abbrev pub frame_len : Config → (ℕ → ℕ) → ℕ
+frame_len c count =
+    head_len + pre_len + (4 + bytes_for (213 + 137 * length c.plps)) + (2 + sum_by (λ plp. count plp * (4 + block_bytes c plp)) (places c)) + (4 + 4 * c.cells)
+
+-- So many has that of frame n.
+abbrev pub FrameLength : Type 0
+FrameLength = (c : Config) (inputs : ℕ → List (List ℕ)) (n : ℕ) → record_len (frame_of c inputs n) ≡ frame_len c (λ plp. length (plp_blocks c inputs n plp))
+
+-- The blocks of a frame are counted PLP by PLP: each stands at its ordinal.
+abbrev pub BlockStands : Type 0
+BlockStands = (c : Config) (inputs : ℕ → List (List ℕ)) (n plp block : ℕ) → plp < length c.plps → block < length (plp_blocks c inputs n plp)
+    → slice_get (sent_blocks c (plp_blocks c inputs n)) (ordinal_of (frame_shape c inputs n) plp block) ≡ option_map (sent_block c plp) (slice_get (plp_blocks c inputs n plp) block)
+
+-- Each cell of each block of a plan's frame stands at its address.
+abbrev pub CellStands : Type 0
+CellStands = (c : Config) (inputs : ℕ → List (List ℕ)) (n plp block cell : ℕ) → IsPlan c → IsCell c (frame_shape c inputs n) plp block cell
+    → slice_get (frame_cells c (frame_shape c inputs n)) (address_of c (frame_shape c inputs n) plp block cell)
+    ≡ Some (Some (record { ordinal = ordinal_of (frame_shape c inputs n) plp block; cell = cell }))
+
+-- A frame of a plan fits a record: so what is written of it spells it, and is read back.
+abbrev pub FrameFits : Type 0
+FrameFits = (c : Config) (inputs : ℕ → List (List ℕ)) (n : ℕ) → IsPlan c → HasByteIds c → n < 2 ^ 31 → FitsRecord (frame_of c inputs n)
+
+-- Records are on the grid, and the first one begins a superframe.
+pub record StandsOnGrid (c : Config) (inputs : ℕ → List (List ℕ)) (whole : ℕ → Bool) (end : ℕ) : Type 0 where
+  pub first : ℕ
+  pub grid : IsOnGrid c first (records c inputs whole end)
+  pub begins : (records c inputs whole end ≡ []) ⊎ ((first % c.frames ≡ 0) × (whole first ≡ true) × (first + length (records c inputs whole end) ≡ end))
+
+abbrev pub RecordsOnGrid : Type 0
+RecordsOnGrid = (c : Config) (inputs : ℕ → List (List ℕ)) (whole : ℕ → Bool) (end : ℕ) → end ≤ 2 ^ 31 → StandsOnGrid c inputs whole end
+
+-- The records of a plan's frames fit too.
+abbrev pub RecordsFit : Type 0
+RecordsFit = (c : Config) (inputs : ℕ → List (List ℕ)) (whole : ℕ → Bool) (end : ℕ) → IsPlan c → HasByteIds c → end ≤ 2 ^ 31
+    → AllByRecursion FitsRecord (records c inputs whole end)
+
+-- If every frame is whole, the records are the frames of the run.
+abbrev pub AllWhole : Type 0
+AllWhole = (c : Config) (inputs : ℕ → List (List ℕ)) → records c inputs (λ n. true) (frame_count c (λ plp. length (inputs plp))) ≡ run_frames c inputs
+
+-- If no frame is muted and null packets are canonical, the packets of the slots come back.
+abbrev pub NoneLost : Type 0
+NoneLost = (c : Config) (plp ticks : ℕ) (at : ℕ → List ℕ) (first count : ℕ) → ((k : ℕ) → is_null (at k) ≡ true → at k ≡ null_packet)
+    → recover c plp ticks at (λ m. false) first count ≡ map at (due_slots c plp ticks first count)

@@ -1,0 +1,65 @@
+// Laws of the definitions. Their functions do nothing.
+ghost use Rattle.frame_records.specs.Laws.{FrameLength, BlockStands, CellStands, FrameFits, RecordsOnGrid, RecordsFit, AllWhole, NoneLost};
+ghost use Rattle.frame_records.specs.Counted.{CountedLengths, CountedBlocks, CountedStart, CountedPre, CountedPost, CountedFrames, CountedRecords, CountedSlots, CountedLoss};
+
+use cell_map::{map_law, shape_law};
+use l1_signal::post_law;
+use mode_adapt::count_law;
+use plp_config::{block_law, emission_law, length_law};
+use scheduler::order_law;
+
+/// How many bytes the record of a frame has.
+pub fn frame_law()
+    ensures len { FrameLength }
+    ensures counted { CountedLengths }
+    ensures blocks { CountedBlocks }
+    ensures pre { CountedPre }
+    ensures post { CountedPost }
+    ensures start { CountedStart }
+{
+    block_law();
+    post_law();
+}
+
+/// Each block of a frame stands at its ordinal, and each cell of it at its address.
+pub fn stand_law()
+    ensures block { BlockStands }
+    ensures cell { CellStands }
+{
+    length_law();
+    block_law();
+    count_law();
+    order_law();
+    shape_law();
+    map_law();
+}
+
+/// Every frame of a plan fits a record, and so do the records of a run.
+pub fn fit_law()
+    ensures frame { FrameFits }
+    ensures records { RecordsFit }
+{
+    emission_law();
+    length_law();
+    block_law();
+    count_law();
+    post_law();
+    order_law();
+    map_law();
+    frame_law();
+}
+
+/// The records of a run are on the grid, and its frames if all are whole.
+pub fn record_law()
+    ensures grid { RecordsOnGrid }
+    ensures whole { AllWhole }
+    ensures frames { CountedFrames }
+    ensures counted { CountedRecords }
+{}
+
+/// What comes back if nothing is lost, and what does not.
+pub fn recover_law()
+    ensures none { NoneLost }
+    ensures slots { CountedSlots }
+    ensures loss { CountedLoss }
+{}

@@ -1,0 +1,8 @@
+//! What the frames and the records of a run are, and what a receiver gives back of them.
+#![tactic(auto)]
+
+mod laws;
+mod plan;
+
+pub use laws::{fit_law, frame_law, record_law, recover_law, stand_law};
+pub use plan::id_law;

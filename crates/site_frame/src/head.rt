@@ -1,0 +1,12 @@
+// The head of a record: what it may say.
+
+/// The bytes of a head.
+pub const HEAD: usize = 24;
+
+/// The most bytes that may follow a head.
+pub const GREATEST_REST: usize = 33_554_432;
+
+// The kinds of records.
+pub(crate) const FRAME: u8 = 1;
+
+pub(crate) const MUTED: u8 = 2;

@@ -1,0 +1,26 @@
+//! The records of frames, as they stand in a file: the boundary between head end, modulators and receivers.
+#![tactic(auto)]
+
+mod blocks;
+mod cells;
+mod cut;
+mod fault;
+mod head;
+mod laws;
+mod parts;
+mod placing;
+mod reading;
+mod writing;
+
+pub use blocks::{Blocks, BlocksIter};
+pub use cells::{Cells, CellsIter};
+pub use fault::RecordWhy;
+pub use head::{GREATEST_REST, HEAD};
+pub use laws::{place_law, reading_law, refusal_law, writing_law};
+pub use parts::FrameParts;
+pub use placing::place_record;
+pub use reading::{RecordView, read_record};
+pub use writing::{write_head, write_muted};
+
+#[cfg(test)]
+mod tests;
