@@ -1,19 +1,29 @@
 -- The outcomes of a run, by number and by line.
-use Rattle.std.specs.Prelude.{ℕ, List, [], ◌++◌, codes, Some, None}
+use Rattle.std.specs.Prelude.{◌≡◌, ◌≢◌, ℕ, List, [], ◌++◌, length, codes, Some, None, Result, Ok, Err}
 use Rattle.std.specs.declared.option.Option.{Option}
 use Rattle.std.specs.Fmt.{decimal}
+use Rattle.plp_config.specs.declared.config.Config.{Config}
 use Rattle.t2mi_packet.specs.declared.fault.PacketWhy.{PacketWhy}
 use Rattle.t2mi_packet.specs.declared.fault.PacketWhy.TheVariants.{Short, Crc, PadBits, PayloadShape}
 use Rattle.config_text.specs.declared.fault.TextWhy.{TextWhy}
 use Rattle.config_text.specs.declared.fault.TextWhy.TheVariants.{NotAscii, WrongKey, WrongCount, BadWord, BadNumber, EndsEarly, TooLong as TextTooLong}
-use Rattle.site_top.specs.declared.outcome.ConfigCause.TheVariants.{Text, Rule}
+use Rattle.config_file.specs.declared.stop.ConfigCause.TheVariants.{Text, Rule}
+use Rattle.config_file.specs.declared.stop.ConfigStop.{ConfigStop}
+use Rattle.config_file.specs.declared.stop.ConfigStop.TheVariants as config
+use Rattle.desk_io.specs.Reading.{most_bytes}
+use Rattle.gateway_run.specs.declared.stop.Ran.{Ran}
+use Rattle.gateway_run.specs.declared.stop.RunStop.{RunStop}
+use Rattle.gateway_run.specs.declared.stop.RunStop.TheVariants as run
+use Rattle.show_run.specs.declared.stop.ShowStop.{ShowStop}
+use Rattle.show_run.specs.declared.stop.ShowStop.TheVariants as show
 use Rattle.site_top.specs.declared.outcome.Outcome.{Outcome}
-use Rattle.site_top.specs.declared.outcome.Outcome.TheVariants.{Done, Usage, ConfigRefused, CapacityRefused, InputRefused, TooLong, PacketRefused, ReadFault, WriteFault, OutOfMemory}
+use Rattle.site_top.specs.declared.outcome.Outcome.TheVariants.{Done, Usage, WrongInputs, ConfigRefused, CapacityRefused, InputRefused, TooLong, PacketRefused, ReadFault, WriteFault, OutOfMemory}
 
 -- the status that the program ends with
 abbrev pub status_of : Outcome → ℕ
 status_of Done = 0
 status_of Usage = 2
+status_of (WrongInputs plps inputs) = 2
 status_of (ConfigRefused cause) = 3
 status_of (CapacityRefused test plp need have) = 4
 status_of (InputRefused input packet) = 5
@@ -49,6 +59,7 @@ place_word None = codes "-"
 unfoldable pub last_line : Outcome → List ℕ
 last_line Done = []
 last_line Usage = codes "refused: usage\n"
+last_line (WrongInputs plps inputs) = codes "refused: usage\n"
 last_line (ConfigRefused (Text line why)) = codes "refused: config line " ++ decimal line ++ codes " why " ++ decimal (text_why_number why) ++ codes "\n"
 last_line (ConfigRefused (Rule rule plp)) = codes "refused: config rule " ++ decimal rule ++ codes " plp " ++ place_word plp ++ codes "\n"
 last_line (CapacityRefused test plp need have) =
@@ -59,3 +70,39 @@ last_line (PacketRefused at why) = codes "refused: packet at " ++ decimal at ++ 
 last_line ReadFault = codes "fault: read\n"
 last_line WriteFault = codes "fault: write\n"
 last_line OutOfMemory = codes "fault: memory\n"
+
+-- the outcome of a command that shows a file
+abbrev pub shown_outcome : Result ℕ ShowStop → Outcome
+shown_outcome (Ok count) = Done
+shown_outcome (Err (show.PacketRefused at why)) = PacketRefused at why
+shown_outcome (Err show.TooLong) = TooLong most_bytes
+shown_outcome (Err show.ReadFault) = ReadFault
+shown_outcome (Err show.WriteFault) = WriteFault
+shown_outcome (Err show.OutOfMemory) = OutOfMemory
+
+-- of one whose file gives no configuration or no plan
+abbrev pub config_outcome : ConfigStop → Outcome
+config_outcome (config.Refused cause) = ConfigRefused cause
+config_outcome (config.Lacks fault) = CapacityRefused fault.test fault.plp fault.need fault.have
+config_outcome config.ReadFault = ReadFault
+config_outcome config.OutOfMemory = OutOfMemory
+
+abbrev pub given_outcome : Result Config ConfigStop → Outcome
+given_outcome (Ok c) = Done
+given_outcome (Err stop) = config_outcome stop
+
+-- of one that does not have one input for each PLP
+abbrev pub Miscounts : Config → List (List ℕ) → Outcome → Type 0
+Miscounts c ins outcome = (length ins ≢ length c.plps) × (outcome ≡ WrongInputs (length c.plps) (length ins))
+
+-- of one whose run did not come to its end
+abbrev pub stopped_outcome : RunStop → Outcome
+stopped_outcome (run.Bad input packet) = InputRefused input packet
+stopped_outcome (run.TooLong count) = TooLong count
+stopped_outcome run.ReadFault = ReadFault
+stopped_outcome run.WriteFault = WriteFault
+stopped_outcome run.OutOfMemory = OutOfMemory
+
+abbrev pub ran_outcome : Result Ran RunStop → Outcome
+ran_outcome (Ok ran) = Done
+ran_outcome (Err stop) = stopped_outcome stop

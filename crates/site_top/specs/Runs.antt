@@ -1,31 +1,60 @@
 -- What each command does up to its last line, and how it must end.
-use Rattle.std.specs.Prelude.{◌≡◌, ◌⊎◌, ◌<◌, length, IfSome}
-use Rattle.ports.specs.Desk.{State, Held, Rose, bytes_of}
-use Rattle.ts_file.specs.Reading.{most_bytes}
+use Rattle.std.specs.Prelude.{◌≡◌, ◌⊎◌, ℕ, ◌<◌, List, length, Result, Ok, Err, IfSome}
+use Rattle.ports.specs.Counts.{Rose}
+use Rattle.ports.specs.Desk.{State, Held, bytes_of}
+use Rattle.plp_config.specs.declared.config.Config.{Config}
+use Rattle.config_file.specs.Laws.{GivesConfig, GivesPlan}
+use Rattle.config_file.specs.declared.stop.ConfigStop.{ConfigStop}
+use Rattle.desk_io.specs.Reading.{most_bytes}
+use Rattle.file_run.specs.FileRun.{file_at}
+use Rattle.gateway_run.specs.Laws.{MustRun}
+use Rattle.gateway_run.specs.declared.stop.Ran.{Ran}
+use Rattle.gateway_run.specs.declared.stop.RunStop.{RunStop}
+use Rattle.show_run.specs.Laws.{PacketsEnd}
+use Rattle.show_run.specs.PacketText.{IsPacketText}
+use Rattle.show_run.specs.Shows as show
+use Rattle.show_run.specs.T2miText.{IsT2miText}
+use Rattle.show_run.specs.declared.stop.ShowStop.{ShowStop}
 use Rattle.site_top.specs.declared.outcome.Outcome.{Outcome}
 use Rattle.site_top.specs.declared.outcome.Outcome.TheVariants.{Done, OutOfMemory}
 use Rattle.site_top.specs.Commands.{Command, ShowPackets, ShowT2mi, ShowConfig, Plan, Gateway}
-use Rattle.site_top.specs.ConfigCommands.{ShowsConfig, Plans, ConfigEnds, PlanEnds}
-use Rattle.site_top.specs.GatewayCommand.{Gateways, GatewayEnds, AreShort}
-use Rattle.site_top.specs.ShowPackets.{Shows, PacketsEnd}
-use Rattle.site_top.specs.ShowT2mi.{ShowsT2mi}
+use Rattle.site_top.specs.ConfigCommands.{ShowsConfig, Plans}
+use Rattle.site_top.specs.GatewayCommand.{Gateways}
+use Rattle.site_top.specs.Outcomes.{shown_outcome, given_outcome, config_outcome, ran_outcome, Miscounts}
+
+-- A file is shown by the text that a definition asks for.
+abbrev pub Shows : (List ℕ → ℕ → Result ℕ ShowStop → List ℕ → Type 0) → State → State → List ℕ → Outcome → Type 0
+Shows IsText old new file outcome = (result : Result ℕ ShowStop) × show.Shows IsText old new file result × (outcome ≡ shown_outcome result)
 
 abbrev pub Does : Command → State → State → Outcome → Type 0
-Does (ShowPackets file) old new outcome = Shows old new file outcome
-Does (ShowT2mi file) old new outcome = ShowsT2mi old new file outcome
+Does (ShowPackets file) old new outcome = Shows IsPacketText old new file outcome
+Does (ShowT2mi file) old new outcome = Shows IsT2miText old new file outcome
 Does (ShowConfig file) old new outcome = ShowsConfig old new file outcome
 Does (Plan config) old new outcome = Plans old new config outcome
 Does (Gateway config out ins) old new outcome = Gateways old new config out ins outcome
 
--- How a command must end over what a desk holds, where nothing outside fails.
+-- No input is too long.
+abbrev pub AreShort : Held → List (List ℕ) → Type 0
+AreShort held ins = (plp : ℕ) → plp < length ins → length (file_at held ins plp) < most_bytes
+
+-- How `gateway` must end over a plan: with the numbers if there is not one input for each PLP, else as the run does over inputs that
+-- are not too long.
+abbrev pub PlanMustEnd : Held → List (List ℕ) → Config → Outcome → Type 0
+PlanMustEnd held ins c outcome = Miscounts c ins outcome
+    ⊎ ((length ins ≡ length c.plps) × AreShort held ins × ((result : Result Ran RunStop) × MustRun c (file_at held ins) result × (outcome ≡ ran_outcome result)))
+
+-- How a command must end over what a desk holds, where nothing outside fails. If CONFIG alone decides, nothing is asked of inputs.
 abbrev pub MustEnd : Command → Held → Outcome → Type 0
-MustEnd (ShowPackets file) held outcome = (length (bytes_of held.files file) < most_bytes) × PacketsEnd (bytes_of held.files file) outcome
+MustEnd (ShowPackets file) held outcome = (length (bytes_of held.files file) < most_bytes)
+    × ((result : Result ℕ ShowStop) × PacketsEnd (bytes_of held.files file) result × (outcome ≡ shown_outcome result))
 MustEnd (ShowT2mi file) held outcome = (length (bytes_of held.files file) < most_bytes) × (outcome ≡ Done)
-MustEnd (ShowConfig file) held outcome = ConfigEnds (bytes_of held.files file) outcome
-MustEnd (Plan config) held outcome = PlanEnds (bytes_of held.files config) outcome
-MustEnd (Gateway config out ins) held outcome = AreShort held ins × GatewayEnds held config ins outcome
+MustEnd (ShowConfig file) held outcome = (result : Result Config ConfigStop) × GivesConfig (bytes_of held.files file) result × (outcome ≡ given_outcome result)
+MustEnd (Plan config) held outcome = (result : Result Config ConfigStop) × GivesPlan (bytes_of held.files config) result × (outcome ≡ given_outcome result)
+MustEnd (Gateway config out ins) held outcome =
+    ((stop : ConfigStop) × GivesPlan (bytes_of held.files config) (Err stop) × (outcome ≡ config_outcome stop))
+    ⊎ ((c : Config) × GivesPlan (bytes_of held.files config) (Ok c) × PlanMustEnd held ins c outcome)
 
 -- Where nothing outside fails, the files decide the outcome, unless memory runs out.
 abbrev pub IsComplete : Command → State → State → Outcome → Type 0
 IsComplete command old new result = IfSome old.held (λ held. (outcome : Outcome) → MustEnd command held outcome
-    → ¬ (Rose old.read_faults new.read_faults) → ¬ (Rose old.write_faults new.write_faults) → (result ≡ outcome) ⊎ (result ≡ OutOfMemory))
+    → ¬ (Rose old.counts.reads new.counts.reads) → ¬ (Rose old.counts.writes new.counts.writes) → (result ≡ outcome) ⊎ (result ≡ OutOfMemory))

@@ -1,17 +1,33 @@
 // `show config FILE` and `plan CONFIG`.
-ghost use Rattle.std.specs.Prelude.{◌≡◌, IfOk, IfErr};
-ghost use Rattle.plp_config.specs.Capacity.{IsPlan};
+ghost use Rattle.std.specs.Prelude.{◌≡◌};
 ghost use Rattle.site_top.specs.ConfigCommands.{ShowsConfig, Plans};
-ghost use Rattle.site_top.specs.TextReading.{Tells, LacksCapacity};
+ghost use Rattle.site_top.specs.Outcomes.{config_outcome};
+ghost use Rattle.site_top.specs.Saying.{Tells};
 
-use crate::config_file::read_config;
 use crate::outcome::Outcome;
 use crate::plan_lines::push_lines;
+use config_file::{ConfigStop, read_config, read_plan};
 use config_text::write;
-use plp_config::{Plan, Valid, fits};
+use desk_io::Page;
 use ports::Desk;
 use std::alloc::Global;
-use ts_file::Page;
+
+/// How a command ends whose file gives no configuration or no plan.
+pub fn outcome_of(stop: ConfigStop) -> Outcome
+    ensures { result ≡ config_outcome stop }
+{
+    match stop {
+        ConfigStop::Refused(cause) => Outcome::ConfigRefused { cause },
+        ConfigStop::Lacks(fault) => Outcome::CapacityRefused {
+            test: fault.test,
+            plp: fault.plp,
+            need: fault.need,
+            have: fault.have,
+        },
+        ConfigStop::ReadFault => Outcome::ReadFault,
+        ConfigStop::OutOfMemory => Outcome::OutOfMemory,
+    }
+}
 
 /// Says a text, which is all that a command says.
 pub fn tell<D: Desk>(desk: &mut D, text: &[u8]) -> Outcome
@@ -29,27 +45,11 @@ pub fn show_config<D: Desk>(alloc: Global, name: &str, desk: &mut D) -> Outcome
 {
     let valid = match read_config(alloc, name, desk) {
         Ok(valid) => valid,
-        Err(outcome) => return outcome,
+        Err(stop) => return outcome_of(stop),
     };
     match write(alloc, valid.config()) {
         Ok(text) => tell(desk, &text),
         Err(_) => Outcome::OutOfMemory,
-    }
-}
-
-/// Tries the capacity tests.
-pub fn plan_of(valid: Valid) -> Result<Plan, Outcome>
-    ensures ok { IfOk result (λ plan. (plan ≡ valid) × IsPlan plan) }
-    ensures err { IfErr result (LacksCapacity valid) }
-{
-    match fits(valid) {
-        Ok(plan) => Ok(plan),
-        Err((_, fault)) => Err(Outcome::CapacityRefused {
-            test: fault.test,
-            plp: fault.plp,
-            need: fault.need,
-            have: fault.have,
-        }),
     }
 }
 
@@ -60,15 +60,11 @@ pub fn plan<D: Desk>(alloc: Global, name: &str, desk: &mut D) -> Outcome
     let Ok(mut page) = Page::open(alloc) else {
         return Outcome::OutOfMemory;
     };
-    let valid = match read_config(alloc, name, desk) {
-        Ok(valid) => valid,
-        Err(outcome) => return outcome,
-    };
-    match plan_of(valid) {
+    match read_plan(alloc, name, desk) {
         Ok(plan) => {
             push_lines(&mut page, &plan);
             tell(desk, page.as_bytes())
         }
-        Err(outcome) => outcome,
+        Err(stop) => outcome_of(stop),
     }
 }

@@ -1,12 +1,13 @@
 // The last line of a run that is not done.
 ghost use Rattle.std.specs.Prelude.{◌≡◌, ◌+◌, ◌++◌, ◌≤◌, codes, length};
-ghost use Rattle.site_top.specs.declared.line.TheConstants.{ROOM};
-ghost use Rattle.site_top.specs.declared.outcome.ConfigCause.TheVariants.{Text, Rule};
+ghost use Rattle.desk_io.specs.declared.line.TheConstants.{ROOM};
+ghost use Rattle.config_file.specs.declared.stop.ConfigCause.TheVariants.{Text, Rule};
 ghost use Rattle.site_top.specs.Outcomes.{last_line as line_of_outcome, why_number as number_of_why, text_why_number as number_of_text_why, place_word};
 
-use crate::line::Line;
-use crate::outcome::{ConfigCause, Outcome};
+use crate::outcome::Outcome;
+use config_file::ConfigCause;
 use config_text::TextWhy;
+use desk_io::Line;
 use t2mi_packet::PacketWhy;
 
 fn why_number(why: PacketWhy) -> u8
@@ -125,7 +126,7 @@ pub fn last_line(outcome: Outcome) -> Line
 {
     match outcome {
         Outcome::Done => Line::new(),
-        Outcome::Usage => line_with(b"refused: usage\n"),
+        Outcome::Usage | Outcome::WrongInputs { .. } => line_with(b"refused: usage\n"),
         Outcome::ConfigRefused { cause } => config_refused_line(cause),
         Outcome::CapacityRefused {
             test,

@@ -2,12 +2,12 @@
 ghost use Rattle.std.specs.Prelude.{◌≡◌, true};
 ghost use Rattle.site_top.specs.Commands.{are_inputs};
 ghost use Rattle.site_top.specs.GatewayCommand.{Gateways, gateway_line as line_of_run};
-ghost use Rattle.site_top.specs.GatewaySteps.{Means};
+ghost use Rattle.site_top.specs.Outcomes.{stopped_outcome};
 
-use crate::config_commands::{plan_of, tell};
-use crate::config_file::read_config;
-use crate::line::Line;
+use crate::config_commands::{outcome_of, tell};
 use crate::outcome::Outcome;
+use config_file::read_plan;
+use desk_io::Line;
 use gateway_run::{Ran, RunStop};
 use ports::{Desk, Word};
 use std::alloc::Global;
@@ -24,8 +24,8 @@ fn gateway_line(ran: Ran) -> Line
 }
 
 // How a command ends whose run did not come to its end.
-fn outcome_of(stop: RunStop) -> Outcome
-    ensures { Means stop result }
+fn stopped(stop: RunStop) -> Outcome
+    ensures { result ≡ stopped_outcome stop }
 {
     match stop {
         RunStop::Bad { input, packet } => Outcome::InputRefused { input, packet },
@@ -48,19 +48,19 @@ pub fn gateway<D: Desk>(
     requires { are_inputs out.now ins.now ≡ true }
     ensures { Gateways (D.state desk.old) (D.state desk.new) config.now out.now ins.now result }
 {
-    let valid = match read_config(alloc, config, desk) {
-        Ok(valid) => valid,
-        Err(outcome) => return outcome,
-    };
-    let plan = match plan_of(valid) {
+    let plan = match read_plan(alloc, config, desk) {
         Ok(plan) => plan,
-        Err(outcome) => return outcome,
+        Err(stop) => return outcome_of(stop),
     };
-    if ins.len() != plan.config().plps.len() {
-        return Outcome::Usage;
+    let plps = plan.config().plps.len();
+    if ins.len() != plps {
+        return Outcome::WrongInputs {
+            plps,
+            inputs: ins.len(),
+        };
     }
     match gateway_run::run(alloc, &plan, out, ins, desk) {
         Ok(ran) => tell(desk, gateway_line(ran).as_bytes()),
-        Err(stop) => outcome_of(stop),
+        Err(stop) => stopped(stop),
     }
 }

@@ -2,25 +2,21 @@
 ghost use Rattle.std.specs.Prelude.{◌≡◌};
 ghost use Rattle.site_top.specs.Outcomes.{status_of};
 
-use config_text::TextWhy;
+use config_file::ConfigCause;
 use t2mi_packet::PacketWhy;
-
-/// Why a file gives no configuration that satisfies the rules.
-#[derive(Clone, Copy, Debug, PartialEq, Eq)]
-pub enum ConfigCause {
-    /// The text is refused at a line, counted from 1 with skipped ones; at line 0 for its length.
-    Text { line: u32, why: TextWhy },
-    /// A rule fails, and this is the first place where it does, if it is one of the PLPs.
-    Rule { rule: u8, plp: Option<u8> },
-}
 
 /// How a run ended.
 #[derive(Clone, Copy, Debug, PartialEq, Eq)]
 pub enum Outcome {
     /// All input was read to its end, and all output was written.
     Done,
-    /// The words are no command, or there is not one input for each PLP.
+    /// The words are no command.
     Usage,
+    /// There is not one input for each PLP: so many of each.
+    WrongInputs {
+        plps: usize,
+        inputs: usize,
+    },
     /// A file gives no configuration that satisfies the rules.
     ConfigRefused {
         cause: ConfigCause,
@@ -63,7 +59,7 @@ impl Outcome {
     {
         match self {
             Outcome::Done => 0,
-            Outcome::Usage => 2,
+            Outcome::Usage | Outcome::WrongInputs { .. } => 2,
             Outcome::ConfigRefused { .. } => 3,
             Outcome::CapacityRefused { .. } => 4,
             Outcome::InputRefused { .. } => 5,

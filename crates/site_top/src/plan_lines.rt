@@ -2,12 +2,11 @@
 ghost use Rattle.std.specs.Prelude.{◌≡◌, ◌+◌, ◌++◌, ◌<◌, ◌≤◌, ℕ, [], length};
 ghost use Rattle.plp_config.specs.SlotTime.{IsSlotLength};
 ghost use Rattle.site_top.specs.PlanLines.{network_line as line_of_network, slot_part, size_part, count_part, plp_line as line_of_plp, IsPlanText};
-ghost use Rattle.site_top.specs.declared.line.TheConstants.{ROOM};
+ghost use Rattle.desk_io.specs.declared.line.TheConstants.{ROOM};
 
-use crate::line::Line;
 use config_text::band_word;
+use desk_io::{Line, Page};
 use plp_config::{Config, Plan};
-use ts_file::Page;
 
 #[tactic(auto, unfolding(crate::specs::PlanLines::network_line))]
 fn network_line(config: &Config) -> Line

@@ -8,12 +8,12 @@ ghost use Rattle.site_top.specs.Runs.{Does, IsComplete};
 use crate::config_commands::{plan, show_config};
 use crate::ending::last_line;
 use crate::gateway::gateway;
-use crate::laws::one_ending;
+use crate::laws::completeness;
 use crate::outcome::Outcome;
 use crate::request::{Request, request_of};
-use crate::show::show_packets;
-use crate::t2mi::show_t2mi;
+use crate::show::outcome_of;
 use ports::{Desk, Word};
+use show_run::{show_packets, show_t2mi};
 use std::alloc::Global;
 
 // Does what the words say, but for the last line.
@@ -22,8 +22,8 @@ fn command<D: Desk>(alloc: Global, words: &[Word], desk: &mut D) -> Outcome
     ensures refuses { IfNone (command_of words.now) ((result ≡ Outcome.Usage) × (D.state desk.new ≡ D.state desk.old)) }
 {
     match request_of(words) {
-        Some(Request::ShowPackets { file }) => show_packets(alloc, file, desk),
-        Some(Request::ShowT2mi { file }) => show_t2mi(alloc, file, desk),
+        Some(Request::ShowPackets { file }) => outcome_of(show_packets(alloc, file, desk)),
+        Some(Request::ShowT2mi { file }) => outcome_of(show_t2mi(alloc, file, desk)),
         Some(Request::ShowConfig { file }) => show_config(alloc, file, desk),
         Some(Request::Plan { config }) => plan(alloc, config, desk),
         Some(Request::Gateway { config, out, ins }) => gateway(alloc, config, out, ins, desk),
@@ -33,9 +33,7 @@ fn command<D: Desk>(alloc: Global, words: &[Word], desk: &mut D) -> Outcome
 
 // Says the last line of a run that is not done.
 fn finish<D: Desk>(desk: &mut D, outcome: Outcome)
-    ensures ends { Ends (D.state desk.old) (D.state desk.new) outcome }
-    ensures read_faults { (D.state desk.new).read_faults ≡ (D.state desk.old).read_faults }
-    ensures write_faults { (D.state desk.new).write_faults ≡ (D.state desk.old).write_faults }
+    ensures { Ends (D.state desk.old) (D.state desk.new) outcome }
 {
     if outcome != Outcome::Done {
         desk.say_last(last_line(outcome).as_bytes());
@@ -44,17 +42,17 @@ fn finish<D: Desk>(desk: &mut D, outcome: Outcome)
 
 /// Runs the command that the words name, over a desk.
 pub fn run<D: Desk>(alloc: Global, words: &[Word], desk: &mut D) -> Outcome
-    // Where the words are no command, the last line is all that is done.
+    // If the words are no command, the last line is all that is done.
     ensures usage { IfNone (command_of words.now) (result ≡ Outcome.Usage) }
     ensures refuses { IfNone (command_of words.now) (Ends (D.state desk.old) (D.state desk.new) Outcome.Usage) }
 
-    // Else the command is done, and a run that is not done says its last line. Usage has its cause here too.
+    // Else the command is done, and a run that is not done says its last line. Usage has its cause here.
     ensures does { IfSome (command_of words.now) (λ command.
         (before : State) × Does command (D.state desk.old) before result × Ends before (D.state desk.new) result) }
 
     ensures complete { IfSome (command_of words.now) (λ command. IsComplete command (D.state desk.old) (D.state desk.new) result) }
 {
-    one_ending();
+    completeness();
     let outcome = command(alloc, words, desk);
     finish(desk, outcome);
     outcome

@@ -3,15 +3,13 @@ use Rattle.site_top.proofs.RunLemmas.{run_does, run_complete, run_refuses, run_u
 use Rattle.site_top.proofs.running.run.Goals as goal
 
 pub returns-clause-does : goal.returns-clause-does
-returns-clause-does g c = run_does (command_of c.args.words.now) _ _ _ _ c.command-outcome.ensures.does c.finish.ensures.ends
+returns-clause-does g c = run_does (command_of c.args.words.now) _ _ _ _ c.command-outcome.ensures.does c.finish.ensures
 
 pub returns-clause-complete : goal.returns-clause-complete
-returns-clause-complete g c =
-    run_complete c.one_ending.ensures (command_of c.args.words.now) (g.D.Desk.state c.args.desk.now) (g.D.Desk.state c.command-outcome.new.desk) (g.D.Desk.state c.finish.new.desk) c.command-outcome.result
-    c.finish.ensures.read_faults c.finish.ensures.write_faults c.command-outcome.ensures.does
+returns-clause-complete g c = run_complete c.completeness.ensures (command_of c.args.words.now) _ _ _ _ c.command-outcome.ensures.does c.finish.ensures
 
 pub returns-clause-usage : goal.returns-clause-usage
 returns-clause-usage g c = run_usage (command_of c.args.words.now) _ _ _ c.command-outcome.ensures.refuses
 
 pub returns-clause-refuses : goal.returns-clause-refuses
-returns-clause-refuses g c = run_refuses (command_of c.args.words.now) _ _ _ _ c.command-outcome.ensures.refuses c.finish.ensures.ends
+returns-clause-refuses g c = run_refuses (command_of c.args.words.now) _ _ _ _ c.command-outcome.ensures.refuses c.finish.ensures
