@@ -1,6 +1,8 @@
 // What is said for people, on standard error: what was wrong, where, and what to do.
+use crate::shown::{Shown, Told};
 use config_text::{TextFault, TextWhy};
 use plp_config::{CapacityFault, ConfigFault};
+use ports::HostFault;
 use site_top::{ConfigCause, Outcome, Word};
 use std::io::{self, Eprint};
 
@@ -30,15 +32,13 @@ fn say_usage(rt: &impl Eprint, words: &[Word]) -> io::Result<()> {
     if words.iter().any(|word| word.as_str().is_empty()) {
         eprint!(rt; "a word is empty or not UTF-8\n{COMMANDS}")
     } else if is_gateway(words) {
-        eprint!(rt;
-            "OUT must be neither CONFIG nor an IN, and CONFIG wants one IN for each PLP\n{COMMANDS}"
-        )
+        eprint!(rt; "OUT must be neither CONFIG nor an IN\n{COMMANDS}")
     } else {
         eprint!(rt; "these words are no command\n{COMMANDS}")
     }
 }
 
-fn say_cause(rt: &impl Eprint, file: &str, cause: ConfigCause) -> io::Result<()> {
+fn say_cause(rt: &impl Eprint, file: Shown<'_>, cause: ConfigCause) -> io::Result<()> {
     match cause {
         ConfigCause::Text {
             why: TextWhy::TooLong,
@@ -62,21 +62,28 @@ fn say_cause(rt: &impl Eprint, file: &str, cause: ConfigCause) -> io::Result<()>
     }
 }
 
-// `gateway` writes to OUT, and at the end to standard output; any other command to the latter alone.
-fn say_write_fault(rt: &impl Eprint, words: &[Word]) -> io::Result<()> {
-    if is_gateway(words) {
-        eprint!(rt; "{} could not be created, or it or ", word_at(words, 2))?;
+// Says what failed first, as the system tells it.
+fn say_fault(rt: &impl Eprint, fault: Option<&HostFault>) -> io::Result<()> {
+    match fault {
+        Some(fault) => eprintln!(rt; "{}", Told(fault)),
+        None => Ok(()),
     }
-    eprintln!(rt;
-        "standard output took no more; see that there is room, that it may be written, and that its reader is still there"
-    )
 }
 
 // Says it, as far as standard error takes it: nobody is left to tell of a failure there.
-fn say(rt: &impl Eprint, words: &[Word], file: &str, outcome: Outcome) -> io::Result<()> {
+fn say(
+    rt: &impl Eprint,
+    words: &[Word],
+    outcome: Outcome,
+    fault: Option<&HostFault>,
+) -> io::Result<()> {
+    let file = Shown(file_of(words, outcome));
     match outcome {
         Outcome::Done => Ok(()),
         Outcome::Usage => say_usage(rt, words),
+        Outcome::WrongInputs { plps, inputs } => eprintln!(rt;
+            "{file} wants one IN for each PLP, in its order: {plps}, and {inputs} were given"
+        ),
         Outcome::ConfigRefused { cause } => say_cause(rt, file, cause),
         Outcome::CapacityRefused {
             test,
@@ -94,7 +101,7 @@ fn say(rt: &impl Eprint, words: &[Word], file: &str, outcome: Outcome) -> io::Re
         ),
         Outcome::InputRefused { input, packet } => eprintln!(rt;
             "{}: packet {packet}, counted from 0, does not begin with the sync byte 0x47, or the file ends inside it; OUT holds the units of the frames before; mend the file",
-            word_at(words, 3 + usize::from(input))
+            Shown(word_at(words, 3 + usize::from(input)))
         ),
         Outcome::TooLong { count: LAST_FRAME } => eprintln!(rt;
             "the inputs go on for more than {LAST_FRAME} frames; what was written stays, give the rest to another run"
@@ -105,10 +112,7 @@ fn say(rt: &impl Eprint, words: &[Word], file: &str, outcome: Outcome) -> io::Re
         Outcome::PacketRefused { at, why } => eprintln!(rt;
             "{file}: no T2-MI packet begins at byte {at}: {why}; the packets before it were shown; see that the file holds whole packets and nothing else"
         ),
-        Outcome::ReadFault => eprintln!(rt;
-            "{file}: it could not be opened or read; see that it is there, is a file and may be read"
-        ),
-        Outcome::WriteFault => say_write_fault(rt, words),
+        Outcome::ReadFault | Outcome::WriteFault => say_fault(rt, fault),
         Outcome::OutOfMemory => eprintln!(rt; "out of memory; the command did not come to its end"),
     }
 }
@@ -121,14 +125,13 @@ fn word_at(words: &[Word], place: usize) -> &str {
 // The file that an outcome speaks of.
 fn file_of(words: &[Word], outcome: Outcome) -> &str {
     match outcome {
-        Outcome::ReadFault if is_gateway(words) => "CONFIG or an IN",
         Outcome::TooLong { .. } if is_gateway(words) => "an IN",
         _ if is_gateway(words) => word_at(words, 1),
         _ => words.last().map_or("", |word| word.as_str()),
     }
 }
 
-/// Says for people why a run over words is not done.
-pub fn advise(rt: &impl Eprint, words: &[Word], outcome: Outcome) {
-    let _ = say(rt, words, file_of(words, outcome), outcome);
+/// Says for people why a run over words is not done, and what failed first, if something did.
+pub fn advise(rt: &impl Eprint, words: &[Word], outcome: Outcome, fault: Option<&HostFault>) {
+    let _ = say(rt, words, outcome, fault);
 }

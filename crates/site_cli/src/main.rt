@@ -2,6 +2,7 @@
 #![tactic(auto)]
 
 mod advice;
+mod shown;
 mod words;
 
 use advice::advise;
@@ -12,11 +13,12 @@ use words::words_of;
 
 fn main(rt: HostRuntime) -> ExitCode {
     let alloc = rt.alloc();
+    let mut desk = HostDesk::new(&rt, alloc);
     let Ok(words) = words_of(&rt) else {
-        advise(&rt, &[], Outcome::OutOfMemory);
+        advise(&rt, &[], Outcome::OutOfMemory, None);
         return ExitCode::from(Outcome::OutOfMemory.status());
     };
-    let outcome = run(alloc, words.as_slice(), &mut HostDesk::new(&rt, alloc));
-    advise(&rt, words.as_slice(), outcome);
+    let outcome = run(alloc, words.as_slice(), &mut desk);
+    advise(&rt, words.as_slice(), outcome, desk.first_fault());
     ExitCode::from(outcome.status())
 }
