@@ -1,15 +1,16 @@
 -- Bits that are a frame are read as that frame alone, and the others have one refusal.
-use Rattle.std.proofs.Common.{◌≡◌, ℕ, ◌-◌, ◌≤◌, Bool, false, List, ◌++◌, replicate, append_assoc, length, refl, ap, sym, ◌∙◌, arith}
+use Rattle.std.proofs.Common.{◌≡◌, ℕ, ◌+◌, ◌-◌, ◌*◌, ◌%◌, ◌^◌, ◌<◌, ◌≤◌, ◌⊎◌, ⊎_elim, inl, inr, Bool, false, List, ◌++◌, replicate, append_assoc, length, refl, ap, sym, ◌∙◌, arith}
 use Rattle.std.specs.Prelude.{Result, Ok, Err, IfOk, IfErr, bit_xor}
 use lib.Bits.{xor_assoc, xor_self, xor_zero_l}
-use Rattle.terms.specs.Bits.{part}
+use Rattle.std.proofs.lemmas.Bool.{cases_lt, cases_eq}
+use Rattle.terms.specs.Bits.{part, number_at}
 use Rattle.bb_frame.specs.declared.header.Header.{Header}
 use Rattle.bb_frame.specs.declared.reading.BbView.{BbView}
 use Rattle.bb_frame.specs.declared.fault.BbFault.{BbFault}
 use Rattle.bb_frame.specs.declared.fault.BbFault.TheVariants.{Crc, Mode, Length, Sync}
-use Rattle.bb_frame.specs.BasebandFrame.{mode, Spells, counted_crc, IsNormalMode, HasCrc, Refuses}
+use Rattle.bb_frame.specs.BasebandFrame.{mode, Spells, told_crc, counted_crc, told_dfl, told_syncd, IsPlace, IsNormalMode, HasCrc, HasLength, HasSync, Refuses}
 use Rattle.bb_frame.specs.Reading.{HasFields, IsRead}
-use Rattle.bb_frame.specs.Laws.{WrittenIsSpelled, NoRefusal, OneRefusal}
+use Rattle.bb_frame.specs.Laws.{WrittenIsSpelled, NoRefusal, SpelledOrRefused, OneRefusal}
 use Rattle.bb_frame.proofs.FrameLemmas.{Bounded, placed, spelled}
 
 -- adding MODE changes the CRC-8
@@ -86,3 +87,49 @@ refused_once bits Sync Mode h k = absurd (not_normal bits h.0 k)
 refused_once bits Sync Crc h k = absurd (k.1 h.0)
 refused_once bits Sync Length h k = absurd (k.1 h.1)
 refused_once bits Sync Sync h k = refl
+
+-- The header whose fields stand at the front of bits.
+abbrev told_header : List Bool → Header
+told_header bits = record {
+  matype1 = number_at bits 0 8;
+  matype2 = number_at bits 8 8;
+  issy = number_at bits 16 16 * 2 ^ 8 + number_at bits 48 8;
+  dfl = told_dfl bits;
+  syncd = told_syncd bits;
+}
+
+len_or : (bits : List Bool) → HasLength bits ⊎ (¬ (HasLength bits))
+len_or bits =
+    ⊎_elim (λ (whole : told_dfl bits % 8 ≡ 0).
+    ⊎_elim (λ (far : length bits < 80 + told_dfl bits). inr (λ (h : HasLength bits). let never : ⊥ = omega (arith, h.1, far) in never))
+    (λ (there : 80 + told_dfl bits ≤ length bits). inl (whole, there)) (cases_lt (length bits) (80 + told_dfl bits)))
+    (λ (cut : told_dfl bits % 8 ≡ 0 → ⊥). inr (λ (h : HasLength bits). cut h.0)) (cases_eq (told_dfl bits % 8) 0)
+
+place_or : (syncd dfl : ℕ) → IsPlace syncd dfl ⊎ (¬ (IsPlace syncd dfl))
+place_or syncd dfl =
+    ⊎_elim (λ (none : syncd ≡ 65535). inl (inl none)) (λ (some : syncd ≡ 65535 → ⊥).
+    ⊎_elim (λ (whole : syncd % 8 ≡ 0).
+    ⊎_elim (λ (inside : syncd < dfl). inl (inr (whole, inside)))
+    (λ (far : dfl ≤ syncd). inr (⊎_elim some (λ (h : (syncd % 8 ≡ 0) × (syncd < dfl)). let never : ⊥ = omega (arith, h.1, far) in never))) (cases_lt syncd dfl))
+    (λ (cut : syncd % 8 ≡ 0 → ⊥). inr (⊎_elim some (λ (h : (syncd % 8 ≡ 0) × (syncd < dfl)). cut h.0))) (cases_eq (syncd % 8) 0)) (cases_eq syncd 65535)
+
+fields_told : (bits : List Bool) → HasFields bits (told_header bits)
+fields_told bits = record { matype1 = refl; matype2 = refl; issy = refl; dfl = refl; syncd = refl }
+
+pub frame_or_refused : SpelledOrRefused
+frame_or_refused bits long =
+    ⊎_elim (λ (normal : IsNormalMode bits). inr (Mode, normal)) (λ (high : ¬ (IsNormalMode bits)).
+    ⊎_elim (λ (crc : HasCrc bits).
+    ⊎_elim (λ (len : HasLength bits).
+    ⊎_elim (λ (sync : HasSync bits).
+    inl (
+      told_header bits,
+      (
+        part bits 80 (told_dfl bits),
+        spelled bits (told_header bits) (part bits 80 (told_dfl bits)) long (record { crc = crc; len = len; sync = sync; fields = fields_told bits; taken = refl }),
+      ),
+    ))
+    (λ (none : ¬ (HasSync bits)). inr (Sync, (crc, len, none))) (place_or (told_syncd bits) (told_dfl bits)))
+    (λ (none : ¬ (HasLength bits)). inr (Length, (crc, none))) (len_or bits))
+    (λ (none : ¬ (HasCrc bits)). inr (Crc, (high, none))) (cases_eq (told_crc bits) (bit_xor (counted_crc bits) mode)))
+    (cases_eq (told_crc bits) (counted_crc bits))

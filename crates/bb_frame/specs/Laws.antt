@@ -1,5 +1,5 @@
 -- What holds of the definitions. The functions without a body ensure it.
-use Rattle.std.specs.Prelude.{◌≡◌, ℕ, List, ◌++◌, Bool}
+use Rattle.std.specs.Prelude.{◌≡◌, ◌⊎◌, ◌≤◌, ℕ, List, ◌++◌, Bool, length}
 use Rattle.bb_frame.specs.declared.header.Header.{Header}
 use Rattle.bb_frame.specs.declared.fault.BbFault.{BbFault}
 use Rattle.bb_frame.specs.BasebandFrame.{frame_bits, Fits, Describes, Spells, Refuses}
@@ -12,6 +12,10 @@ WrittenIsSpelled = (h : Header) (body : List Bool) (size : ℕ) (after : List Bo
 -- Bits that are a frame are not refused.
 abbrev pub NoRefusal : Type 0
 NoRefusal = (h : Header) (body bits : List Bool) (fault : BbFault) → Spells h body bits → ¬ (Refuses bits fault)
+
+-- As many bits as a header has, or more, are a frame or have a refusal.
+abbrev pub SpelledOrRefused : Type 0
+SpelledOrRefused = (bits : List Bool) → 80 ≤ length bits → ((h : Header) × ((body : List Bool) × Spells h body bits)) ⊎ ((fault : BbFault) × Refuses bits fault)
 
 -- Bits have one refusal at most.
 abbrev pub OneRefusal : Type 0

@@ -1,4 +1,4 @@
--- Scrambling (EN 302 755, clause 5.2.2): the sequence is added to the bits of a frame, header included, from its start.
+-- Scrambling (EN 302 755, clause 5.2.4): the sequence is added to the bits of a frame, header included, from its start.
 use Rattle.std.specs.Prelude.{ℕ, ◌+◌, List, Bool, [], ◌∷◌}
 use Rattle.bit_slice.specs.Prbs.{plus, prbs}
 

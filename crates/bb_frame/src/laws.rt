@@ -1,5 +1,5 @@
 // Laws of the definitions. Their functions do nothing.
-ghost use Rattle.bb_frame.specs.Laws.{WrittenIsSpelled, NoRefusal, OneRefusal, ScramblesBack};
+ghost use Rattle.bb_frame.specs.Laws.{WrittenIsSpelled, NoRefusal, SpelledOrRefused, OneRefusal, ScramblesBack};
 
 use bit_slice::crc8_law;
 
@@ -15,6 +15,11 @@ pub fn no_refusal()
 {
     crc8_law();
 }
+
+/// 80 bits or more are a frame or have a refusal.
+pub fn spelled_or_refused()
+    ensures { SpelledOrRefused }
+{}
 
 /// Bits have one refusal at most.
 pub fn one_refusal()

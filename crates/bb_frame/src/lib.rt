@@ -1,4 +1,4 @@
-//! Baseband frames in high-efficiency mode, and their scrambling (EN 302 755, clauses 5.1.7 and 5.2.2).
+//! Baseband frames in high-efficiency mode, and their scrambling (EN 302 755, clauses 5.1.7 and 5.2.4).
 #![tactic(auto)]
 
 mod fault;
@@ -10,7 +10,7 @@ mod writing;
 
 pub use fault::BbFault;
 pub use header::Header;
-pub use laws::{no_refusal, one_refusal, scramble_twice, written_is_spelled};
+pub use laws::{no_refusal, one_refusal, scramble_twice, spelled_or_refused, written_is_spelled};
 pub use reading::{BbView, read_frame};
 pub use scrambling::scramble;
 pub use writing::write_frame;

@@ -1,6 +1,6 @@
 //! The sequence that scrambles baseband frames.
 
-/// The scrambler's sequence, a byte at a time (EN 302 755, clause 5.2.2).
+/// The scrambler's sequence, a byte at a time (EN 302 755, clause 5.2.4).
 #[derive(Clone, Copy, Debug)]
 pub struct Prbs {
     // The last fifteen bits, the latest one lowest.

@@ -4,7 +4,7 @@ ghost use Rattle.bit_slice.specs.PrbsBlocks.{Runs};
 
 use crate::Prbs;
 
-/// The scrambler's sequence, 120 bytes at a time (EN 302 755, clause 5.2.2).
+/// The scrambler's sequence, 120 bytes at a time (EN 302 755, clause 5.2.4).
 #[derive(Clone, Copy, Debug)]
 pub struct PrbsBlocks {
     bytes: [u8; 120],

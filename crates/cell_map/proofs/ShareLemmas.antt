@@ -11,8 +11,8 @@ use Rattle.cell_map.specs.declared.slices.Slices.{Slices}
 use Rattle.cell_map.specs.Interleaver.{position}
 use Rattle.cell_map.specs.Address.{IsCell, address_of}
 use Rattle.cell_map.specs.CellMap.{IsBeyond, Shares, Passes}
-use Rattle.cell_map.specs.Slices.{SlicesMeet, slices_of, PlaceOf}
-use Rattle.cell_map.specs.Runs.{LeavesFree}
+use Rattle.cell_map.specs.Slices.{SlicesMeet, slices_of, PlaceOf, IsIn}
+use Rattle.cell_map.specs.Runs.{LeavesFree, HasCell}
 use Rattle.cell_map.specs.declared.interleaving.Place.{Place}
 use Rattle.cell_map.proofs.PlanLemmas.{sub_slices-some}
 use Rattle.cell_map.proofs.GroupLemmas.{bool_cases}
@@ -248,6 +248,16 @@ leaves_free c shape j a interval address wide n is e f g none b q cell far =
     let out = rw (e, f, g) at none in
     let end = out k t x.slice x.inner (omega (arith, far, x.address)) in
     omega (arith, end, x.address)
+
+-- an address in one of its slices has a cell
+pub has_cell : (c : Config) (shape : FrameShape) (j : ℕ) (a : Slices) (interval address wide n : ℕ) → IsPlan c → j < length c.plps → a ≡ slices_of c shape j → interval ≡ shape.interval → wide ≡ address →
+    IsIn a interval (wide + n) → HasCell c shape j (address + n)
+has_cell c shape j a interval address wide n is h e f g x =
+    let hk : x.slice < (slices_of c shape j).count = rw e at x.some in
+    let ht : x.inner < (slices_of c shape j).len = rw e at x.within in
+    let (b, (q, cell, at)) = cell_of_at c shape j x.slice x.inner is h hk ht in
+    let same : (slices_of c shape j).start + x.slice * shape.interval + x.inner ≡ wide + n = rw (e, f) at x.here in
+    record { block = b; cell = q; there = cell; here = at.address ∙ same ∙ ap (λ (k : ℕ). k + n) g }
 
 pub place_law : (c : Config) (shape : FrameShape) (j : ℕ) (a : Slices) (interval address wide k t : ℕ) (place : Place) (n : ℕ) → n ≡ slice_index shape.counts j → IsPlan c → j < length c.plps → a ≡ slices_of c shape j → interval ≡ shape.interval → wide ≡ address →
     k < a.count → t < a.len → a.start + k * interval + t ≡ wide →

@@ -69,6 +69,13 @@ abbrev pub LeavesFree : Config → FrameShape → ℕ → ℕ → ℕ → Type 0
 LeavesFree c shape plp address n = (block cell : ℕ) → IsCell c shape plp block cell
     → address ≤ address_of c shape plp block cell → address + n ≤ address_of c shape plp block cell
 
+-- a PLP has a cell at an address
+pub record HasCell (c : Config) (shape : FrameShape) (plp address : ℕ) : Type 0 where
+  pub block : ℕ
+  pub cell : ℕ
+  pub there : IsCell c shape plp block cell
+  pub here : address_of c shape plp block cell ≡ address
+
 -- no cell stands at so many addresses from one on
 abbrev pub AreDummy : Config → FrameShape → ℕ → ℕ → Type 0
 AreDummy c shape address n = (plp : ℕ) → LeavesFree c shape plp address n

@@ -45,6 +45,14 @@ abbrev pub SlicesMeet : Slices → Slices → ℕ → Type 0
 SlicesMeet a b interval =
     (j : ℕ) × ((k : ℕ) × (j < a.count) × (k < b.count) × Meets (a.start + j * interval) a.len (b.start + k * interval) b.len)
 
+-- an address is in one of the slices
+pub record IsIn (slices : Slices) (interval address : ℕ) : Type 0 where
+  pub slice : ℕ
+  pub inner : ℕ
+  pub some : slice < slices.count
+  pub within : inner < slices.len
+  pub here : slices.start + slice * interval + inner ≡ address
+
 -- the cell of a PLP at an address
 pub record PlaceOf (c : Config) (shape : FrameShape) (plp address : ℕ) (place : Place) : Type 0 where
   pub there : IsCell c shape plp place.block place.cell

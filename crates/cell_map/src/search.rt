@@ -3,7 +3,7 @@ ghost use Rattle.std.specs.Prelude.{ℕ, ◌≡◌, ◌+◌, ◌*◌, ◌<◌, �
 ghost use Rattle.plp_config.specs.Capacity.{IsPlan};
 ghost use Rattle.cell_map.specs.Address.{IsCell, address_of};
 ghost use Rattle.cell_map.specs.CellMap.{Passes};
-ghost use Rattle.cell_map.specs.Runs.{RunsAt, IsMark, LeavesFree, AreDummy};
+ghost use Rattle.cell_map.specs.Runs.{RunsAt, IsMark, LeavesFree, AreDummy, HasCell};
 
 use crate::rows::plp_in_frame;
 use crate::runs::{Run, run_at};
@@ -93,13 +93,14 @@ pub fn find(plan: &Plan, shape: &Shape, address: u32, first: Mark) -> Option<Fou
     }
 }
 
-// How many addresses from one on, `limit` at most, have no cell of a PLP.
+// How many addresses from one on, `limit` at most, have no cell of a PLP: the greatest such number.
 fn free_of(plan: &Plan, shape: &Shape, plp: usize, address: u32, limit: u32) -> u32
     requires plps { length shape.now.counts ≡ length plan.now.plps }
     requires passes { Passes plan.now shape.now }
     requires plp { plp < length plan.now.plps }
     ensures most { result ≤ limit }
     ensures free { LeavesFree plan.now shape.now plp address result }
+    ensures greatest { result < limit → HasCell plan.now shape.now plp (address + result) }
 {
     let it = plp_in_frame(plan, shape, plp);
     let interval = u64::from(shape.interval());
@@ -111,7 +112,8 @@ pub fn dummies(plan: &Plan, shape: &Shape, address: u32) -> u32
     requires plps { length shape.now.counts ≡ length plan.now.plps }
     requires passes { Passes plan.now shape.now }
     requires inside { address ≤ plan.now.cells }
-    ensures { AreDummy plan.now shape.now address result }
+    ensures dummy { AreDummy plan.now shape.now address result }
+    ensures greatest { address + result < plan.now.cells → (plp : ℕ) × HasCell plan.now shape.now plp (address + result) }
 {
     let mut free = plan.config().cells - address;
     for plp in 0..plan.config().plps.len() {

@@ -1,6 +1,6 @@
 // Slices that stand at equal distances.
 ghost use Rattle.std.specs.Prelude.{ℕ, ◌≡◌, ◌<◌, ◌≤◌, ◌*◌, ◌+◌, ◌/◌, ◌%◌, ◌^◌, ◌-◌, ◌↔◌, ◌⊎◌, IsTrue, IfNone, IfSome};
-ghost use Rattle.cell_map.specs.Slices.{SliceMeets, SlicesMeet};
+ghost use Rattle.cell_map.specs.Slices.{SliceMeets, SlicesMeet, IsIn};
 
 // Slices of one length, each an interval after the one before it.
 #[derive(Clone, Copy)]
@@ -69,11 +69,13 @@ pub fn locate(slices: Slices, interval: u64, address: u64) -> Option<(u64, u64)>
     Some((slice, inner))
 }
 
-// How many addresses from one on, `limit` at most, are in none of the slices.
+// How many addresses from one on, `limit` at most, are in none of the slices: the greatest such number.
 pub fn free(slices: Slices, interval: u64, address: u64, limit: u64) -> u64
     requires apart { (slices.count ≡ 1) ⊎ (slices.len ≤ interval) }
+    requires some { 0 < slices.count }
     ensures most { result ≤ limit }
     ensures none { (k t : ℕ) → k < slices.count → t < slices.len → address ≤ slices.start + k * interval + t → address + result ≤ slices.start + k * interval + t }
+    ensures greatest { result < limit → IsIn slices interval (address + result) }
 {
     if slices.len == 0 {
         return limit;
