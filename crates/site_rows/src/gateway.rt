@@ -24,6 +24,28 @@ const LOADED: &str = "plp 0 type1 1 1/2 qpsk short 0 3 1 delete 1906000\n";
 const TWO: &str =
     "plp 7 type1 1 1/2 qpsk short 0 1 1 delete 500000\nplp 3 type1 1 1/2 qpsk short 0 1 1 delete 500000\n";
 
+// The stream of the small network where the input is empty: two superframes, of which each has a timestamp and the L1 of two frames.
+const EMPTY_STREAM: &str = "\
+    4741001000200000000058040029b9270000000000059c0c76e410010000022800000006101000fa0013e600000100020003\
+    0203b0208000bf00020200007102aa00008c00004000200808001000000000007f0000000000000000000000000000000000\
+    00446a21db10020000022801000006101000fa0013e6000001000200030203b0208000bf00020200007102aa00008c000040\
+    00200808001000000000007f01000000000000000000000000000000000069633b3720031000474100310700ffffffffffff\
+    110058040029b9270002ab980005b576570310041000022800000006101000fa0013e6000001000200030203b0208000bf00\
+    020200007102aa00008c00004000200808001000000000007f00000000000000000000000000000000000006139a6f100510\
+    00022801000006101000fa0013e6000001000200030203b0208000bf00020200007102aa00008c0000400020080800100000\
+    0000007f010000000000000000000000000000000000ef335288";
+
+// What is shown of it.
+const EMPTY_LINES: &str = "\
+place=5 type=20 count=0 superframe=0 stream=0 bits=88 head=040029b927000000
+place=26 type=10 count=1 superframe=0 stream=0 bits=552 head=00000006101000fa
+place=105 type=10 count=2 superframe=0 stream=0 bits=552 head=01000006101000fa
+place=184 type=20 count=3 superframe=1 stream=0 bits=88 head=040029b9270002ab
+place=218 type=10 count=4 superframe=1 stream=0 bits=552 head=00000006101000fa
+place=297 type=10 count=5 superframe=1 stream=0 bits=552 head=01000006101000fa
+packets=6
+";
+
 const NULL: [u8; 4] = [0x47, 0x1F, 0xFF, 0x10];
 
 const DATA: [u8; 4] = [0x47, 0x01, 0x00, 0x10];
@@ -103,6 +125,24 @@ fn an_empty_input_makes_four_frames(rt: HostRuntime) -> Result<(), Fail> {
     assert_eq!(rt; ended.outcome.status(), 0);
     assert_said(&rt, &ended, "frames=4 units=2\n");
     assert_size(&rt, &ended, 376);
+    Ok(())
+}
+
+// What `gateway` wrote, `show t2mi` reads, on one desk.
+#[test]
+fn the_stream_of_an_empty_input_byte_for_byte(rt: HostRuntime) -> Result<(), Fail> {
+    let alloc = rt.alloc();
+    let mut desk = MemoryDesk::new(alloc);
+    desk.put_file("c", format!(in alloc; "{NETWORK}{SMALL}")?.as_bytes())?;
+    desk.put_file("0", &[])?;
+    let words = words_of(alloc, &["gateway", "c", "o", "0"])?;
+    assert_eq!(rt; run(alloc, words.as_slice(), &mut desk), Outcome::Done);
+    let stream = desk.file("o").map_or(&[][..], |bytes| bytes);
+    assert_eq!(rt; hex::encode(alloc, stream)?.as_str(), EMPTY_STREAM);
+    let said = desk.said().len();
+    let words = words_of(alloc, &["show", "t2mi", "o"])?;
+    assert_eq!(rt; run(alloc, words.as_slice(), &mut desk), Outcome::Done);
+    assert_eq!(rt; &desk.said()[said..], EMPTY_LINES.as_bytes());
     Ok(())
 }
 
@@ -201,15 +241,17 @@ fn the_bad_packet_of_the_earlier_frame_is_refused(rt: HostRuntime) -> Result<(),
 fn wrong_words_create_nothing(rt: HostRuntime) -> Result<(), Fail> {
     let alloc = rt.alloc();
     let input = packets(alloc, 20, DATA, 0xAB)?;
-    let wrong: [&[&str]; 4] = [
-        &["gateway", "c", "o"],
-        &["gateway", "c", "o", "0", "0"],
-        &["gateway", "c", "c", "0"],
-        &["gateway", "c", "0", "0"],
+    let wrong_inputs = |inputs: usize| Outcome::WrongInputs { plps: 1, inputs };
+    let wrong: [(&[&str], Outcome); 4] = [
+        (&["gateway", "c", "o"], wrong_inputs(0)),
+        (&["gateway", "c", "o", "0", "0"], wrong_inputs(2)),
+        (&["gateway", "c", "c", "0"], Outcome::Usage),
+        (&["gateway", "c", "0", "0"], Outcome::Usage),
     ];
-    for words in wrong {
+    for (words, outcome) in wrong {
         let ended = ends(alloc, words, SMALL, &[&input], 1 << 20)?;
-        assert_eq!(rt; ended.outcome, Outcome::Usage);
+        assert_eq!(rt; ended.outcome, outcome);
+        assert_eq!(rt; ended.outcome.status(), 2);
         assert_said(&rt, &ended, "refused: usage\n");
         assert!(rt; ended.out.is_none());
     }
