@@ -4,7 +4,7 @@ use Rattle.std.specs.Prelude.{bit_xor}
 use Rattle.std.proofs.lemmas.List.{take_at, take-append-drop}
 use Rattle.std.proofs.lemmas.Nat.{xor_lt}
 use Rattle.terms.specs.Bits.{field, number_of, part, number_at}
-use Rattle.terms.proofs.BitLemmas.{length-field, length-part, number_of-lt, field-number_at, field-high, number_of-field-mod}
+use Rattle.terms.proofs.BitLemmas.{length-field, length-part, field-number_at, field-high, number_of-field-mod, number_at-lt}
 use Rattle.terms.proofs.PartLemmas.{part-add, part-middle, number-middle}
 use Rattle.bit_slice.specs.Crc.{crc8_of}
 use Rattle.bb_frame.specs.declared.header.Header.{Header}
@@ -90,7 +90,7 @@ placed bounded h body bits s =
 -- ---- the other way
 -- a number that was read off is as narrow as its field
 narrow : (xs : List Bool) (at width n : ℕ) → n ≡ number_at xs at width → at + width ≤ length xs → n < 2 ^ width
-narrow xs at width n e h = rw e (rw (length-part xs at width h) at (number_of-lt (part xs at width)))
+narrow xs at width n e h = rw e (number_at-lt xs at width h)
 
 -- the field of a number that was read off is what stands there
 restored : (xs : List Bool) (at width n : ℕ) → n ≡ number_at xs at width → at + width ≤ length xs → part xs at width ≡ field width n

@@ -1,13 +1,10 @@
 -- Writing a frame: the bytes of its header, and its zeros.
-use Rattle.std.proofs.Common.{◌≡◌, ℕ, zero, suc, ◌+◌, ◌/◌, ◌^◌, ◌≤◌, ◌==◌, Bool, false, List, [], ◌∷◌, ◌++◌, length, refl, ap, sym, ◌∙◌, append_assoc, append-nil}
-use Rattle.std.specs.Prelude.{replicate, Result, Ok, Err, OnOk, OnErr, IfErr}
+use Rattle.std.proofs.Common.{◌≡◌, ℕ, zero, suc, ◌+◌, ◌/◌, ◌^◌, ◌≤◌, ◌==◌, Bool, false, List, [], ◌∷◌, ◌++◌, refl, ap, sym, ◌∙◌, append_assoc, append-nil}
+use Rattle.std.specs.Prelude.{replicate}
 use Rattle.std.specs.Int.{byte_at}
 use Rattle.std.proofs.lemmas.Nat.{shr-shr}
 use Rattle.std.proofs.lemmas.Nat.Bits.{bit_at-zero}
 use Rattle.std.proofs.lemmas.List.{replicate-append-replicate}
-use Rattle.bit_slice.specs.declared.sink.SinkFault.{SinkFault}
-use Rattle.bit_slice.specs.Sink.{State, Puts, Refuses, Stops}
-use Rattle.bit_slice.specs.Laws.{PutsJoin, StopsHere, StopsLater}
 use Rattle.terms.specs.Bits.{field}
 use Rattle.terms.proofs.BitLemmas.{field-add, field-low, field-byte}
 use Rattle.bb_frame.specs.declared.header.Header.{Header}
@@ -48,23 +45,3 @@ zeros_more put width all h = ap (λ (xs : List Bool). replicate put false ++ xs)
 
 pub zeros_left : (put left : ℕ) → replicate put false ++ replicate left false ≡ replicate (put + left) false
 zeros_left put left = replicate-append-replicate put left false
-
--- ---- one part behind others
-pub part_stops : StopsHere → StopsLater → (a b c : State) (front more bits : List Bool) (count : ℕ) (fault : SinkFault) → Puts a b front → Refuses b count fault → c ≡ b →
-    count ≤ length more → bits ≡ front ++ more → Stops a c bits fault
-part_stops here later a b c front more bits count fault puts refused same inside is = rw (is, same) (later a b b front more fault puts (here b more count fault refused inside))
-
-pub part_faults : {T : Type 0} → StopsHere → StopsLater → (a b c : State) (front more bits : List Bool) (count : ℕ) (r : Result T SinkFault) → Puts a b front → IfErr r (Refuses b count) →
-    OnErr r (c ≡ b) → count ≤ length more → bits ≡ front ++ more → IfErr r (Stops a c bits)
-part_faults here later a b c front more bits count (Ok x) puts refused same inside is = tt
-part_faults here later a b c front more bits count (Err e) puts refused same inside is = part_stops here later a b c front more bits count e puts refused same inside is
-
-pub rest_faults : {T : Type 0} → StopsLater → (a b c : State) (front more bits : List Bool) (r : Result T SinkFault) → Puts a b front → IfErr r (Stops b c more) → bits ≡ front ++ more →
-    IfErr r (Stops a c bits)
-rest_faults later a b c front more bits (Ok x) puts stops is = tt
-rest_faults later a b c front more bits (Err e) puts stops is = rw is (later a b c front more e puts stops)
-
-pub rest_puts : {T : Type 0} → PutsJoin → (a b c : State) (front more bits : List Bool) (r : Result T SinkFault) → Puts a b front → OnOk r (Puts b c more) → bits ≡ front ++ more →
-    OnOk r (Puts a c bits)
-rest_puts join a b c front more bits (Ok x) puts rest is = rw is (join a b c front more puts rest)
-rest_puts join a b c front more bits (Err e) puts rest is = tt

@@ -69,9 +69,6 @@ seam_read xs ys f l before x y h is less narrow inside is_x is_y =
     rw (mod-eq_of_lt below) (or_shifted x m y small_y
     ∙ sym (spelled ∙ ap (λ (k : ℕ). number_at xs f before * 2 ^ k + number_at ys 0 m) wide_y ∙ rw (← is_x, ← is_y) refl))
 
-pub number_at-lt : (bits : List Bool) (at width : ℕ) → at + width ≤ length bits → number_at bits at width < 2 ^ width
-number_at-lt bits at width h = rw (length-part bits at width h) at (number_of-lt (part bits at width))
-
 -- ---- the same bits, by their numbers
 same_part : (a b : List Bool) (at width : ℕ) → at + width ≤ length a → at + width ≤ length b → number_at a at width ≡ number_at b at width → part a at width ≡ part b at width
 same_part a b at width in_a in_b e = sym (field-number_at a at width in_a) ∙ ap (field width) e ∙ field-number_at b at width in_b

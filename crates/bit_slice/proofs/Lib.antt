@@ -11,3 +11,4 @@ pub mod FillingLemmas
 pub mod SinkLemmas
 pub mod Walks
 pub mod JoinLemmas
+pub mod WriterLemmas

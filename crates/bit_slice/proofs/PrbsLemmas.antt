@@ -12,16 +12,13 @@ use Rattle.terms.specs.Bits.{number_of, part}
 use Rattle.terms.proofs.BitLemmas.{number_of-lt, number_of-part, number_of-append, length-part}
 use Rattle.bit_slice.specs.Prbs.{plus, next_bit, fifteen_before, prbs, sequence, prbs_byte}
 use Rattle.bit_slice.specs.Laws.{PrbsRecurs}
+use Rattle.bit_slice.proofs.CrcLemmas.{number_is}
 
 -- the sum of bits, one by one
 abbrev sums : List Bool → List Bool → List Bool
 sums (a ∷ xs) (b ∷ ys) = plus a b ∷ sums xs ys
 sums [] ys = []
 sums (a ∷ xs) [] = []
-
-number_is : (b : Bool) (ys : List Bool) → number_of (b ∷ ys) ≡ cond b 1 0 * 2 ^ length ys + number_of ys
-number_is true ys = omega arith
-number_is false ys = omega arith
 
 plus_is : (a b : Bool) → cond (plus a b) 1 0 ≡ bit_xor (cond a 1 0) (cond b 1 0)
 plus_is true true = refl

@@ -1,5 +1,5 @@
 -- What puts do to sinks, and one put after another.
-use Rattle.std.proofs.Common.{◌≡◌, ℕ, ◌+◌, ◌-◌, ◌<◌, ◌≤◌, Bool, true, false, List, [], ◌++◌, length, take, drop, Option, Some, None, refl, ap, sym, ◌∙◌, arith, append_assoc, append-nil, length-append}
+use Rattle.std.proofs.Common.{◌≡◌, ℕ, ◌+◌, ◌-◌, ◌<◌, ◌≤◌, Bool, true, false, List, [], ◌++◌, length, take, drop, Option, Some, None, refl, ap, sym, ◌∙◌, arith, append_assoc, length-append}
 use Rattle.std.proofs.lemmas.List.{length-take, take_at, take-append-le, take-append-drop}
 use Rattle.std.specs.Prelude.{IfSome, IsSomeAnd, min, slice_index_or, Result, Ok, Err, IfErr, OnErr}
 use Rattle.std.specs.Option.{option_map}
@@ -8,6 +8,7 @@ use Rattle.bit_slice.specs.declared.sink.SinkFault.{SinkFault}
 use Rattle.bit_slice.specs.declared.sink.SinkFault.TheVariants.{Full, OutOfMemory}
 use Rattle.bit_slice.specs.Sink.{State, Puts, Refuses, StopsFor, Stops, unwrapped}
 use Rattle.bit_slice.specs.Laws.{StopsHere, StopsEarly, StopsLater, StopsRightly, PutsFit, PutsThrough, StopsThrough}
+use Rattle.bit_slice.proofs.WriterLemmas.{puts_none}
 
 -- a sink with so much room in all
 pub fixed_puts : (all : ℕ) (old new more : List Bool) → new ≡ old ++ more → length old + length more ≤ all →
@@ -54,17 +55,6 @@ pub through : (old new stood put more all : List Bool) → new ≡ old ++ more �
 through old new stood put more all is was joined = is ∙ ap (λ (t : List Bool). t ++ more) was ∙ append_assoc stood put more ∙ sym (ap (λ (t : List Bool). stood ++ t) joined)
 
 -- ---- writers that stop
-room_same : (a : Option ℕ) → a ≡ option_map (λ r. r - 0) a
-room_same None = refl
-room_same (Some r) = let e : r ≡ r - 0 = omega arith in ap Some e
-
-fits_none : (a : Option ℕ) → IfSome a (λ r. 0 ≤ r)
-fits_none None = tt
-fits_none (Some r) = omega arith
-
-puts_none : (a : State) → Puts a a []
-puts_none a = record { written = sym (append-nil a.written); fits = fits_none a.room; room = room_same a.room; grows = refl; below = refl }
-
 cause_here : (a : State) (count total : ℕ) (fault : SinkFault) → Refuses a count fault → count ≤ total → StopsFor a (total - 0) fault
 cause_here a count total (Full need room) h inside = let needed = h.0 in (h.1, h.2, omega arith)
 cause_here a count total OutOfMemory h inside = h

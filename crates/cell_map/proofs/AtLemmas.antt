@@ -11,16 +11,7 @@ use Rattle.cell_map.specs.Address.{IsCell, address_of}
 use Rattle.cell_map.specs.Slices.{slices_of}
 use Rattle.cell_map.proofs.PlanLemmas.{plan_row, sub_slices-some}
 use Rattle.cell_map.proofs.PositionLemmas.{position_below, position_one, placed}
-
--- slices that cut a block's cells cut those of all blocks
-pub cut_law : (n cells slices : ℕ) → 0 < slices → cells % slices ≡ 0 → slices * (n * cells / slices) ≡ n * cells
-cut_law n cells slices some h =
-    let m : ℕ = cells / slices in
-    let all = div-add-mod' cells slices in
-    let whole : m * slices ≡ cells = omega (arith, all, h) in
-    let product : n * cells ≡ n * m * slices + 0 = omega (arith, ap (λ (k : ℕ). n * k) whole) in
-    let quotient : n * cells / slices ≡ n * m = ap (λ (k : ℕ). k / slices) product ∙ div-mul-add (n * m) slices 0 some in
-    rw quotient (omega (arith, product))
+use Rattle.terms.proofs.NatLemmas.{cut_whole}
 
 -- slices where the kind is known
 abbrev pub count_by_kind : Bool → ℕ → ℕ
@@ -28,7 +19,7 @@ count_by_kind second slices = cond second slices 1
 
 pub cut_by_kind : (second : Bool) (n cells slices : ℕ) → 0 < slices → cells % count_by_kind second slices ≡ 0 →
     count_by_kind second slices * (n * cells / count_by_kind second slices) ≡ n * cells
-cut_by_kind true n cells slices some h = cut_law n cells slices some h
+cut_by_kind true n cells slices some h = cut_whole n cells slices some h
 cut_by_kind false n cells slices some h = omega arith
 
 abbrev pub address_by_kind : Bool → ℕ → ℕ → ℕ → ℕ → ℕ → ℕ

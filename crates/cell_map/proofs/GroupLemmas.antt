@@ -1,14 +1,11 @@
 -- The group of a block.
-use Rattle.std.proofs.Common.{◌≡◌, ℕ, zero, suc, ◌+◌, ◌-◌, ◌*◌, ◌/◌, ◌%◌, ◌<◌, ◌≤◌, Bool, true, false, ltb, List, [], ◌∷◌, ◌++◌, replicate, refl, ap, sym, ◌∙◌, arith}
+use Rattle.std.proofs.Common.{◌≡◌, ℕ, zero, suc, ◌+◌, ◌-◌, ◌*◌, ◌/◌, ◌%◌, ◌<◌, ◌≤◌, ltb, List, [], ◌∷◌, ◌++◌, replicate, refl, ap, sym, ◌∙◌, arith}
 use Rattle.std.proofs.lemmas.Bool.{lt-ltb, le-ltb, ltb-true, ltb-false}
 use Rattle.std.proofs.lemmas.Nat.{div-add-mod', mod_below, div_below, mul-le}
 use Rattle.std.proofs.lemmas.List.{append-nil}
 use Rattle.cell_map.specs.declared.interleaving.Group.{Group}
 use Rattle.cell_map.specs.Interleaver.{sizes_of, group_in, group_of}
-
-pub bool_cases : {P : Type 0} (b : Bool) → (b ≡ true → P) → (b ≡ false → P) → P
-bool_cases true yes_case no_case = yes_case refl
-bool_cases false yes_case no_case = no_case refl
+use Rattle.terms.proofs.CaseLemmas.{bool_cases}
 
 abbrev pub total : List ℕ → ℕ
 total [] = 0

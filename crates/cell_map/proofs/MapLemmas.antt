@@ -14,7 +14,7 @@ use Rattle.cell_map.specs.Address.{IsCell, address_of}
 use Rattle.cell_map.specs.CellMap.{Passes, ordinal_of, pair_of, block_pairs, plp_pairs, pairs, cell_map}
 use Rattle.cell_map.specs.Laws.{StandsAt, MapHasEachCell, MapHasOnlyCells, DummyHasNoCell}
 use Rattle.cell_map.specs.declared.places.Cell.{Cell}
-use Rattle.cell_map.proofs.GroupLemmas.{bool_cases}
+use Rattle.terms.proofs.CaseLemmas.{bool_cases}
 
 abbrev Entries : Type 0
 Entries = List (ℕ × Cell)

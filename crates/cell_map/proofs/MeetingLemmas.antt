@@ -4,7 +4,7 @@ use Rattle.std.proofs.lemmas.Bool.{lt-ltb, ltb-true, ltb-false}
 use Rattle.std.proofs.lemmas.Nat.{div-add-mod', mod_below, mul-le, le-div, div-mul-add, mod-mul-add}
 use Rattle.cell_map.specs.declared.slices.Slices.{Slices}
 use Rattle.cell_map.specs.Slices.{SliceMeets, SlicesMeet}
-use Rattle.cell_map.proofs.GroupLemmas.{bool_cases}
+use Rattle.terms.proofs.CaseLemmas.{bool_cases}
 
 pub last_below : (x interval last : ℕ) → last ≤ x / interval → last * interval ≤ x
 last_below x interval last h =

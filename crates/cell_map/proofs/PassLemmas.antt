@@ -11,8 +11,8 @@ use Rattle.scheduler.specs.Laws.{StandsInOrder}
 use Rattle.scheduler.specs.Shape.{FrameShape, in_type2, cells_of, slice_of}
 use Rattle.cell_map.specs.CellMap.{Shares, Passes}
 use Rattle.cell_map.specs.Slices.{slices_of}
-use Rattle.cell_map.proofs.GroupLemmas.{bool_cases}
 use Rattle.cell_map.proofs.ShareLemmas.{not_beyond, some_of_shares, meet_of_shares, self_apart, passes_from}
+use Rattle.terms.proofs.CaseLemmas.{bool_cases}
 
 -- a PLP with cells has blocks
 count_some : (n cells slices : ℕ) → 0 < n * cells / slices → 0 < n

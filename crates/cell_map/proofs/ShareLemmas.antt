@@ -15,9 +15,9 @@ use Rattle.cell_map.specs.Slices.{SlicesMeet, slices_of, PlaceOf, IsIn}
 use Rattle.cell_map.specs.Runs.{LeavesFree, HasCell}
 use Rattle.cell_map.specs.declared.interleaving.Place.{Place}
 use Rattle.cell_map.proofs.PlanLemmas.{sub_slices-some}
-use Rattle.cell_map.proofs.GroupLemmas.{bool_cases}
 use Rattle.cell_map.proofs.AtLemmas.{At, at_of_cell, cell_of_at, one_cell, at_place, cut_of}
 use Rattle.cell_map.proofs.MeetingLemmas.{more_below}
+use Rattle.terms.proofs.CaseLemmas.{bool_cases}
 
 -- two PLPs
 pub meet_of_shares : (c : Config) (shape : FrameShape) (i j : ℕ) → IsPlan c → Shares c shape i j → SlicesMeet (slices_of c shape i) (slices_of c shape j) shape.interval

@@ -3,27 +3,18 @@ ghost use Rattle.cell_map.specs.CellMap.{Passes};
 
 use super::*;
 use bit_slice::OutOfMemory;
-use plp_config::{
-    Band, Config, FecSize, L1Numbers, Modulation, Plan, Plp, PlpKind, PlpList, Rate, fits, validate,
-};
+use plp_config::{Modulation, Plan, Plp, PlpKind};
+use sample_networks::{NoPlan, SMALL_PLP, network_of, plan_of};
 use scheduler::Shape;
 use std::alloc::Global;
 use std::process::Abort;
 use std::test::Fail;
 
-// A PLP of type 1 whose blocks have 8,100 cells.
+// A PLP of type 1 with one block, which has 8,100 cells.
 const PLP: Plp = Plp {
-    id: 0,
-    kind: PlpKind::Type1,
-    group: 1,
-    rate: Rate::R1_2,
-    modulation: Modulation::Qpsk,
-    fec: FecSize::Short,
-    rotation: false,
     blocks: 1,
-    interleave: 1,
-    delete: true,
     bits_per_second: 500_000,
+    ..SMALL_PLP
 };
 
 // One of 2,025 cells a block, and one of 4,050.
@@ -38,60 +29,6 @@ const MIDDLE: Plp = Plp {
     id: 2,
     ..PLP
 };
-
-const L1: L1Numbers = L1Numbers {
-    bwt_ext: 0,
-    s2: 6,
-    guard: 1,
-    papr: 0,
-    l1_mod: 1,
-    l1_cod: 0,
-    l1_fec: 0,
-    post_size: 1_000,
-    pilot: 6,
-    tx_id: 0,
-    symbols: 59,
-    regen: 0,
-};
-
-fn network(
-    alloc: Global,
-    plps: &[Plp],
-    cells: u32,
-    sub_slices: u16,
-) -> Result<Config, OutOfMemory> {
-    let mut list = PlpList::new(alloc);
-    for plp in plps {
-        list.push(*plp)?;
-    }
-    Ok(Config {
-        band: Band::Mhz8,
-        ticks: 100_000,
-        frames: 2,
-        cells,
-        seconds: 700_000_000,
-        subseconds: 0,
-        utco: 5,
-        pid: 256,
-        cell_id: 1,
-        network_id: 2,
-        system_id: 3,
-        frequency: 474_000_000,
-        l1: L1,
-        sub_slices,
-        plps: list,
-    })
-}
-
-fn plan(rt: &impl Abort, config: Config) -> Plan {
-    match validate(config) {
-        Ok(valid) => match fits(valid) {
-            Ok(plan) => plan,
-            Err((_, fault)) => panic!(rt; "{fault}"),
-        },
-        Err((_, fault)) => panic!(rt; "{fault}"),
-    }
-}
 
 // A shape of three PLPs at most.
 fn shape_with(
@@ -157,10 +94,8 @@ fn address_of(
 
 #[test]
 fn two_plps_of_type_1(rt: HostRuntime) -> Result<(), Fail> {
-    let plan = plan(
-        &rt,
-        network(rt.alloc(), &[PLP, Plp { id: 1, ..PLP }], 40_000, 1)?,
-    );
+    let plps = [PLP, Plp { id: 1, ..PLP }];
+    let plan = plan_of(network_of(rt.alloc(), &plps, 40_000, 1)?)?;
     let rows = [
         ([1, 1, 0], 8_100, None),
         (
@@ -185,7 +120,7 @@ fn two_plps_of_type_1(rt: HostRuntime) -> Result<(), Fail> {
 }
 
 // One PLP of type 1 and two of type 2, in five sub-slices.
-fn mixed(rt: &(impl AllocGlobal + Abort)) -> Result<Plan, OutOfMemory> {
+fn mixed(alloc: Global) -> Result<Plan, NoPlan> {
     let second = Plp {
         kind: PlpKind::Type2,
         id: 1,
@@ -196,7 +131,7 @@ fn mixed(rt: &(impl AllocGlobal + Abort)) -> Result<Plan, OutOfMemory> {
         kind: PlpKind::Type2,
         ..MIDDLE
     };
-    Ok(plan(rt, network(rt.alloc(), &[SMALL, second, third], 20_000, 5)?))
+    plan_of(network_of(alloc, &[SMALL, second, third], 20_000, 5)?)
 }
 
 // Blocks, starts and interval of shapes: with a cell map, and with every kind of fault.
@@ -384,7 +319,7 @@ fn expect_as_defined(
 
 #[test]
 fn every_kind_of_overlap(rt: HostRuntime) -> Result<(), Fail> {
-    let plan = mixed(&rt)?;
+    let plan = mixed(rt.alloc())?;
     for (counts, starts, interval) in SHAPES {
         let shape = shape_with(rt.alloc(), &plan, counts, starts, interval)?;
         expect_as_defined(&rt, &plan, &shape)?;
@@ -394,9 +329,10 @@ fn every_kind_of_overlap(rt: HostRuntime) -> Result<(), Fail> {
 
 #[test]
 fn where_cells_stand(rt: HostRuntime) -> Result<(), Fail> {
-    let plan = mixed(&rt)?;
+    let plan = mixed(rt.alloc())?;
     let shape = shape_with(rt.alloc(), &plan, [2, 1, 1], [0, 4_050, 4_455], 1_215)?;
     let rows = [
+        (0, 0, 0, 1, 10),
         (0, 0, 0, 405, 1),
         (0, 1, 1, 0, 5),
         (0, 1, 1, 2_024, 4_049),
@@ -426,7 +362,7 @@ fn sub_slices_at_their_interval(rt: HostRuntime) -> Result<(), Fail> {
         interleave: 0,
         ..MIDDLE
     };
-    let plan = plan(&rt, network(rt.alloc(), &[first, second], 20_000, 5)?);
+    let plan = plan_of(network_of(rt.alloc(), &[first, second], 20_000, 5)?)?;
     let shape = shape_with(rt.alloc(), &plan, [1, 1, 0], [0, 405, 0], 1_215)?;
     assert_eq!(rt; address_of(&rt, &plan, &shape, 0, 0, 405), 1_215);
     assert_eq!(rt; address_of(&rt, &plan, &shape, 1, 0, 810), 1_620);
@@ -440,7 +376,7 @@ fn groups_of_several_sizes(rt: HostRuntime) -> Result<(), Fail> {
         interleave: 3,
         ..SMALL
     };
-    let plan = plan(&rt, network(rt.alloc(), &[plp], 20_000, 1)?);
+    let plan = plan_of(network_of(rt.alloc(), &[plp], 20_000, 1)?)?;
     let shape = shape_with(rt.alloc(), &plan, [5, 0, 0], [0, 0, 0], 0)?;
     for (block, cell, expected) in [
         (0, 405, 1),

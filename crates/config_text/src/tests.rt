@@ -1,47 +1,12 @@
 use super::*;
-use plp_config::{Band, Config, FecSize, L1Numbers, Modulation, Plp, PlpKind, Rate};
+use plp_config::{Band, Config, FecSize, Modulation, Plp, PlpKind, Rate};
+use sample_networks::{
+    REALISTIC_TEXT, SMALL_HEAD, SMALL_L1, SMALL_LINE, SMALL_PLP, SMALL_TEXT, realistic_network,
+    small_network,
+};
 use std::alloc::{AllocError, Global};
 use std::process::Abort;
 use std::test::Fail;
-
-// A small network of one PLP.
-const SMALL: &str =
-    "t2-gateway 1\nbandwidth 8\nframe 100000 2 40000\nstart 700000000 0 5\npid 256\nnetwork 1 2 3 474000000\nl1 0 6 1 0 1 0 0 1000 6 0 59 0\nsubslices 1\nplp 0 type1 1 1/2 qpsk short 0 4 1 delete 2000000\n";
-
-// The same with no PLP.
-const HEAD: &str =
-    "t2-gateway 1\nbandwidth 8\nframe 100000 2 40000\nstart 700000000 0 5\npid 256\nnetwork 1 2 3 474000000\nl1 0 6 1 0 1 0 0 1000 6 0 59 0\nsubslices 1\n";
-
-const PLP_LINE: &str = "plp 0 type1 1 1/2 qpsk short 0 4 1 delete 2000000\n";
-
-const PLP: Plp = Plp {
-    id: 0,
-    kind: PlpKind::Type1,
-    group: 1,
-    rate: Rate::R1_2,
-    modulation: Modulation::Qpsk,
-    fec: FecSize::Short,
-    rotation: false,
-    blocks: 4,
-    interleave: 1,
-    delete: true,
-    bits_per_second: 2_000_000,
-};
-
-const L1: L1Numbers = L1Numbers {
-    bwt_ext: 0,
-    s2: 6,
-    guard: 1,
-    papr: 0,
-    l1_mod: 1,
-    l1_cod: 0,
-    l1_fec: 0,
-    post_size: 1_000,
-    pilot: 6,
-    tx_id: 0,
-    symbols: 59,
-    regen: 0,
-};
 
 fn is_small(rt: &impl Abort, config: &Config) {
     assert_eq!(rt; config.band, Band::Mhz8);
@@ -63,7 +28,7 @@ fn is_small(rt: &impl Abort, config: &Config) {
         ),
         (1, 2, 3, 474_000_000)
     );
-    assert_eq!(rt; config.l1, L1);
+    assert_eq!(rt; config.l1, SMALL_L1);
     assert_eq!(rt; config.sub_slices, 1);
 }
 
@@ -80,9 +45,9 @@ fn at(line: u32, why: TextWhy) -> Option<TextFault> {
 
 // A text with so many PLPs, and as many bytes as are wanted, by a comment.
 fn long_text(alloc: Global, plps: usize, bytes: usize) -> Result<Vec<u8>, AllocError> {
-    let mut text = Vec::from_slice(alloc, HEAD.as_bytes())?;
+    let mut text = Vec::from_slice(alloc, SMALL_HEAD.as_bytes())?;
     for _ in 0..plps {
-        text.extend_from_slice(PLP_LINE.as_bytes())?;
+        text.extend_from_slice(SMALL_LINE.as_bytes())?;
     }
     for _ in text.len()..bytes {
         text.push(b'#')?;
@@ -92,10 +57,10 @@ fn long_text(alloc: Global, plps: usize, bytes: usize) -> Result<Vec<u8>, AllocE
 
 #[test]
 fn a_text_of_one_plp_is_read(rt: HostRuntime) -> Result<(), Fail> {
-    let config = read(rt.alloc(), SMALL.as_bytes())?;
+    let config = read(rt.alloc(), SMALL_TEXT.as_bytes())?;
     is_small(&rt, &config);
     assert_eq!(rt; config.plps.len(), 1);
-    assert_eq!(rt; config.plps.get(0), Some(&PLP));
+    assert_eq!(rt; config.plps.get(0), Some(&SMALL_PLP));
     Ok(())
 }
 
@@ -177,10 +142,10 @@ fn each_refusal_has_its_line(rt: HostRuntime) -> Result<(), Fail> {
 
 #[test]
 fn the_first_word_that_fails_is_told(rt: HostRuntime) -> Result<(), Fail> {
-    let mut text = String::from_str(rt.alloc(), HEAD)?;
+    let mut text = String::from_str(rt.alloc(), SMALL_HEAD)?;
     text.push_str("plp 0 type3 256 1/2 qpsk short 2 4 1 delete 2000000\n")?;
     assert_eq!(rt; fault_of(rt.alloc(), &text), at(9, TextWhy::BadWord));
-    let mut text = String::from_str(rt.alloc(), HEAD)?;
+    let mut text = String::from_str(rt.alloc(), SMALL_HEAD)?;
     text.push_str("plp 256 type3 1 1/2 qpsk short 0 4 1 delete 2000000\n")?;
     assert_eq!(rt; fault_of(rt.alloc(), &text), at(9, TextWhy::BadNumber));
     Ok(())
@@ -226,8 +191,25 @@ fn faults_are_told_in_words(rt: HostRuntime) -> Result<(), Fail> {
 }
 
 #[test]
+fn networks_are_written(rt: HostRuntime) -> Result<(), Fail> {
+    let small = small_network(rt.alloc())?;
+    assert_eq!(rt; small.plps.len(), 1);
+    assert_eq!(rt;
+        write(rt.alloc(), &small)?.as_slice(),
+        SMALL_TEXT.as_bytes()
+    );
+    let realistic = realistic_network(rt.alloc())?;
+    assert_eq!(rt; realistic.plps.len(), 1);
+    assert_eq!(rt;
+        write(rt.alloc(), &realistic)?.as_slice(),
+        REALISTIC_TEXT.as_bytes()
+    );
+    Ok(())
+}
+
+#[test]
 fn a_text_of_two_plps_is_read_and_written_back(rt: HostRuntime) -> Result<(), Fail> {
-    let mut text = String::from_str(rt.alloc(), SMALL)?;
+    let mut text = String::from_str(rt.alloc(), SMALL_TEXT)?;
     text.push_str("plp 3 type2 2 5/6 256qam normal 1 1023 255 keep 72000000\n")?;
     let config = read(rt.alloc(), text.as_bytes())?;
     assert_eq!(rt; config.plps.len(), 2);

@@ -10,30 +10,13 @@ use Rattle.t2mi_packet.specs.T2miPacket.{written_bits}
 use Rattle.t2mi_packet.specs.declared.packet.Body.{Body}
 use Rattle.t2mi_stream.specs.Complete.{complete_of, complete_units}
 use Rattle.t2mi_stream.proofs.CompleteLemmas.{complete_grows}
-use Rattle.t2mi_stream.specs.Events.{PiperEvent, PiperTally, Begun, Piped, Given, Finished, still_begun, tally_with, tally_from, tally}
+use Rattle.t2mi_stream.specs.Events.{PiperEvent, PiperTally, Begun, Piped, Given, Finished, still_begun, tally}
 use Rattle.t2mi_stream.specs.Pipe.{Item, items, joined, units_of, pipe}
 use Rattle.t2mi_stream.specs.PiperStandsFor.{PiperStandsFor, is_finished}
 use Rattle.t2mi_stream.specs.declared.piper.Piper.{Piper}
 use Rattle.gateway_core.specs.Carried.{Carries, AllGone, of_frame, between}
 use Rattle.gateway_core.specs.Packets.{packet_with, packets_from}
-
-from_push : (t : PiperTally) (events : List PiperEvent) (e : PiperEvent) → tally_from t (events ++ e ∷ []) ≡ tally_with (tally_from t events) e
-from_push t [] e = refl
-from_push t (x ∷ events) e = from_push (tally_with t x) events e
-
-pub tally_push : (events : List PiperEvent) (e : PiperEvent) → tally (events ++ e ∷ []) ≡ tally_with (tally events) e
-unfolding tally
-tally_push events e = from_push _ events e
-
-none_begun : (bytes : List ℕ) → still_begun false bytes ≡ false
-none_begun [] = refl
-none_begun (b ∷ bytes) = refl
-
-items_split : (begun : Bool) (xs ys : List ℕ) → items begun (xs ++ ys) ≡ items begun xs ++ items (still_begun begun xs) ys
-items_split begun [] ys = refl
-items_split begun (x ∷ xs) ys =
-    ap (λ (l : List Item). record { value = x; first = begun } ∷ l)
-    (items_split false xs ys ∙ ap (λ (b : Bool). items false xs ++ items b ys) (none_begun xs))
+use Rattle.t2mi_stream.proofs.TallyLemmas.{tally_push, items_append}
 
 packets_push : (c : Config) (k : ℕ) (bodies : List (ℕ × Body)) (n : ℕ) (body : Body)
     → packets_from c k (bodies ++ (n, body) ∷ []) ≡ packets_from c k bodies ++ bytes_of (written_bits (packet_with c (k + length bodies) n body)) ∷ []
@@ -59,7 +42,7 @@ carries_new piper c n pid e stands = record {
 fed_on : (fed : List Item) (begun : Bool) (rest : List ℕ) (r : ℕ) → fed ++ items begun rest ≡ (fed ++ items begun (take r rest)) ++ items (still_begun begun (take r rest)) (drop r rest)
 fed_on fed begun rest r =
     ap (λ (l : List ℕ). fed ++ items begun l) (sym (take-append-drop r rest))
-    ∙ ap (λ (l : List Item). fed ++ l) (items_split begun (take r rest) (drop r rest))
+    ∙ ap (λ (l : List Item). fed ++ l) (items_append begun (take r rest) (drop r rest))
     ∙ sym (append_assoc fed (items begun (take r rest)) (items (still_begun begun (take r rest)) (drop r rest)))
 
 between_on : (bytes : List ℕ) (at len r : ℕ) → at + r ≤ len → between bytes (at + r) len ≡ drop r (between bytes at len)

@@ -36,6 +36,7 @@ use Rattle.gateway_core.proofs.CarriedLemmas.{carries_more}
 use Rattle.gateway_core.proofs.FedLemmas.{wants}
 use Rattle.gateway_core.proofs.InputsLemmas.{nothing_told, told_offered, told_ended, told_begun}
 use Rattle.gateway_core.proofs.LeftLemmas.{from_plp}
+use Rattle.terms.proofs.RangeLemmas.{range_more}
 
 -- what continues with an event continues without it
 cont_packet : (t : Told) (packet : List ℕ) (input : List (List ℕ)) → t.ended ≡ false → Continues (with_packet t packet) input → Continues t input
@@ -202,13 +203,6 @@ new_bodies c s n dynamic blocks f p q d len h =
     from_plp c n blocks 0 (omega arith) ∙ flat_same _ _ 0 (length c.plps - 0) (λ j le lt. ap (block_bodies (n % c.frames) (plp_at c.plps j).id true) (h j (omega arith))) in
     step_is c n (l1_body c n s.pre s.conf dynamic) (blocks_left c n blocks 0 0) (n % c.frames == 0)
     ∙ rw (p, q, counts, rest) refl
-
-range_more : (a n : ℕ) → range_with_len a (n + 1) ≡ range_with_len a n ++ (a + n) ∷ []
-range_more a zero = let z : a ≡ a + 0 = omega arith in ap (λ (m : ℕ). m ∷ []) z
-range_more a (suc n) =
-    let e : suc n + 1 ≡ suc (n + 1) = omega arith in
-    let z : (a + 1) + n ≡ a + suc n = omega arith in
-    rw e (ap (λ (l : List ℕ). a ∷ l) (range_more (a + 1) n ∙ ap (λ (m : ℕ). range_with_len (a + 1) n ++ m ∷ []) z))
 
 pub bodies_more : (c : Config) (all : ℕ → List (List ℕ)) (n : ℕ) → bodies_before c all (n + 1) ≡ bodies_before c all n ++ of_frame n (frame_bodies c n (frame_blocks c all n))
 bodies_more c all n =

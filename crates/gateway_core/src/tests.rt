@@ -5,114 +5,13 @@ ghost use Rattle.t2mi_stream.specs.UnpiperStandsFor.{is_ready, fed_len};
 
 use crate::Gateway;
 use bit_slice::OutOfMemory;
-use plp_config::{
-    Band, Config, FecSize, L1Numbers, Modulation, Plan, Plp, PlpKind, PlpList, Rate, fits, validate,
-};
+use plp_config::Plan;
+use sample_networks::{loaded_plan, mixed_plan, small_plan};
 use std::alloc::Global;
 use std::process::Abort;
 use std::test::Fail;
 use t2mi_stream::Unpiper;
 use ts_packet::TsPacket;
-
-// A small network: 8 MHz, frames of 100,000 ticks and one PLP, whose slots last some 6,875 ticks.
-const PLP: Plp = Plp {
-    id: 0,
-    kind: PlpKind::Type1,
-    group: 1,
-    rate: Rate::R1_2,
-    modulation: Modulation::Qpsk,
-    fec: FecSize::Short,
-    rotation: false,
-    blocks: 4,
-    interleave: 1,
-    delete: true,
-    bits_per_second: 2_000_000,
-};
-
-// A PLP with as much to send as its frames carry.
-const LOADED: Plp = Plp {
-    blocks: 3,
-    bits_per_second: 1_906_000,
-    ..PLP
-};
-
-// Three PLPs of both types, whose identifiers are not in order.
-const SEVERAL: [Plp; 3] = [
-    Plp { id: 9, ..LOADED },
-    Plp {
-        id: 2,
-        rate: Rate::R2_3,
-        modulation: Modulation::Qam16,
-        blocks: 2,
-        interleave: 2,
-        delete: false,
-        bits_per_second: 1_500_000,
-        ..PLP
-    },
-    Plp {
-        id: 5,
-        kind: PlpKind::Type2,
-        group: 2,
-        rate: Rate::R3_5,
-        modulation: Modulation::Qam64,
-        blocks: 2,
-        bits_per_second: 1_600_000,
-        ..PLP
-    },
-];
-
-const L1: L1Numbers = L1Numbers {
-    bwt_ext: 0,
-    s2: 6,
-    guard: 1,
-    papr: 0,
-    l1_mod: 1,
-    l1_cod: 0,
-    l1_fec: 0,
-    post_size: 1_000,
-    pilot: 6,
-    tx_id: 0,
-    symbols: 59,
-    regen: 0,
-};
-
-fn network(alloc: Global, rows: &[Plp], sub_slices: u16) -> Result<Config, OutOfMemory> {
-    let mut plps = PlpList::new(alloc);
-    for plp in rows {
-        plps.push(*plp)?;
-    }
-    Ok(Config {
-        band: Band::Mhz8,
-        ticks: 100_000,
-        frames: 2,
-        cells: 40_000,
-        seconds: 700_000_000,
-        subseconds: 0,
-        utco: 5,
-        pid: 256,
-        cell_id: 1,
-        network_id: 2,
-        system_id: 3,
-        frequency: 474_000_000,
-        l1: L1,
-        sub_slices,
-        plps,
-    })
-}
-
-fn plan(
-    rt: &(impl Abort + AllocGlobal),
-    rows: &[Plp],
-    sub_slices: u16,
-) -> Result<Plan, OutOfMemory> {
-    let Ok(valid) = validate(network(rt.alloc(), rows, sub_slices)?) else {
-        panic!(rt; "a rule fails");
-    };
-    let Ok(plan) = fits(valid) else {
-        panic!(rt; "a test fails");
-    };
-    Ok(plan)
-}
 
 // So many packets, none of them null.
 fn packets(alloc: Global, count: u16) -> Result<Vec<TsPacket>, OutOfMemory> {
@@ -280,7 +179,7 @@ const STAMP: [u8; 17] = [0x20, 0x03, 0x10, 0x00, 0x00, 0x58, 0x04, 0x00, 0x29, 0
 // The packets of four frames without blocks, 21, 79, 79, 21, 79 and 79 bytes.
 #[test]
 fn units_of_an_empty_input(rt: HostRuntime) -> Result<(), Fail> {
-    let units = run(&rt, &plan(&rt, &[PLP], 1)?, &[&[]])?;
+    let units = run(&rt, &small_plan(rt.alloc())?, &[&[]])?;
     assert_eq!(rt; units.len(), 2);
     assert!(rt; begins(&units, 0, &FIRST) && begins(&units, 1, &LAST));
     assert!(rt; units[0].as_slice().ends_with(&STAMP[..4]) && units[1][13..26] == STAMP[4..]);
@@ -300,7 +199,7 @@ const FRAME_1: [[u8; 19]; 4] = [
 #[test]
 fn units_of_a_loaded_network(rt: HostRuntime) -> Result<(), Fail> {
     let packets = packets(rt.alloc(), 110)?;
-    let units = run(&rt, &plan(&rt, &[LOADED], 1)?, &[packets.as_slice()])?;
+    let units = run(&rt, &loaded_plan(rt.alloc())?, &[packets.as_slice()])?;
     assert_eq!(rt; units.len(), 123);
     assert!(rt; begins(&units, 85, &[0x47, 0x01, 0x00, 0x35, 0x00]));
     assert!(rt; begins(&units, 86, &[0x47, 0x41, 0x00, 0x16, 0x00]));
@@ -384,7 +283,7 @@ fn packets_of_several_plps(rt: HostRuntime) -> Result<(), Fail> {
     let second = packets(rt.alloc(), 300)?;
     let third = packets(rt.alloc(), 350)?;
     let inputs = [first.as_slice(), second.as_slice(), third.as_slice()];
-    let units = run(&rt, &plan(&rt, &SEVERAL, 5)?, &inputs)?;
+    let units = run(&rt, &mixed_plan(rt.alloc())?, &inputs)?;
     let stream = stream_of(rt.alloc(), &units)?;
     let heads = heads_of_several(rt.alloc())?;
     assert_eq!(rt; heads.len(), 265);

@@ -6,7 +6,7 @@ use Rattle.std.proofs.lemmas.List.{drop_more, drop_all}
 use Rattle.bit_slice.specs.declared.sink.SinkFault.{SinkFault}
 use Rattle.bit_slice.specs.Sink.{State, Puts, Stops}
 use Rattle.bit_slice.specs.Laws.{PutsJoin, StopsEarly, StopsLater}
-use Rattle.l1_signal.proofs.PutLemmas.{puts_none}
+use Rattle.bit_slice.proofs.WriterLemmas.{puts_none}
 
 -- The first i of several were put.
 pub record ArePut {A : Type 0} (spell : A → List Bool) (xs : List A) (i : ℕ) (old new : State) : Type 0 where

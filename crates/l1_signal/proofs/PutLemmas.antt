@@ -1,7 +1,5 @@
 -- Fields put one after another.
-use Rattle.std.proofs.Common.{◌≡◌, ℕ, ◌+◌, ◌-◌, ◌<◌, ◌≤◌, ◌^◌, Bool, List, [], ◌∷◌, ◌++◌, length, drop, get_or, Option, Some, None, refl, ap, sym, subst, ◌∙◌, arith, append_assoc, append-nil, length-append}
-use Rattle.std.specs.Prelude.{IfSome}
-use Rattle.std.specs.Option.{option_map}
+use Rattle.std.proofs.Common.{◌≡◌, ℕ, ◌+◌, ◌<◌, ◌≤◌, ◌^◌, Bool, List, [], ◌∷◌, ◌++◌, length, drop, get_or, refl, ap, sym, subst, ◌∙◌, arith, append_assoc, append-nil, length-append}
 use Rattle.std.proofs.lemmas.List.{drop_more, drop_all, drop-drop}
 use Rattle.terms.specs.Bits.{field}
 use Rattle.terms.proofs.BitLemmas.{length-field}
@@ -73,15 +71,3 @@ put_stops here later fs vs i d fault old mid new h a b refused same =
     let size = ap length (spelled_at fs vs i d a b) ∙ length-append (field (get_or fs i d).width (get_or vs i 0)) (spelling (drop (i + 1) fs) (drop (i + 1) vs)) in
     let few : (get_or fs i d).width ≤ length rest = omega (arith, size, length-field (get_or fs i d).width (get_or vs i 0)) in
     rw (same, h.whole) (later old mid mid h.front rest fault h.puts (here mid rest (get_or fs i d).width fault refused few))
-
-none_less : (o : Option ℕ) → o ≡ option_map (λ r. r - 0) o
-none_less None = refl
-none_less (Some r) = let e : r ≡ r - 0 = omega arith in ap Some e
-
-none_fits : (o : Option ℕ) → IfSome o (λ r. 0 ≤ r)
-none_fits None = tt
-none_fits (Some r) = omega arith
-
--- nothing was put
-pub puts_none : (s : State) → Puts s s []
-puts_none s = record { written = sym (append-nil s.written); fits = none_fits s.room; room = none_less s.room; grows = refl; below = refl }

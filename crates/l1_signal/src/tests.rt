@@ -7,26 +7,17 @@ use super::*;
 use bit_slice::{
     BitBuf, BitCount, BitReader, BitSink, BitSlice, FixedBits, OutOfMemory, SinkFault,
 };
-use plp_config::{
-    Band, Config, FecSize, L1Numbers, Modulation, Plan, Plp, PlpKind, PlpList, Rate, fits, validate,
-};
-use scheduler::Shape;
+use plp_config::{FecSize, Modulation, Plan, Plp, PlpKind, Rate};
+use sample_networks::{NoPlan, SMALL_PLP, network_of, plan_of};
+use scheduler::{Shape, field_law, shape};
 use std::alloc::Global;
 use std::process::Abort;
 use std::test::Fail;
 
+// A PLP with little to send, so that 255 of them fit.
 const SMALL: Plp = Plp {
-    id: 0,
-    kind: PlpKind::Type1,
-    group: 1,
-    rate: Rate::R1_2,
-    modulation: Modulation::Qpsk,
-    fec: FecSize::Short,
-    rotation: false,
-    blocks: 4,
-    interleave: 1,
-    delete: true,
     bits_per_second: 10_000,
+    ..SMALL_PLP
 };
 
 const THREE: [Plp; 3] = [
@@ -57,57 +48,8 @@ const THREE: [Plp; 3] = [
     },
 ];
 
-const L1: L1Numbers = L1Numbers {
-    bwt_ext: 0,
-    s2: 6,
-    guard: 1,
-    papr: 0,
-    l1_mod: 1,
-    l1_cod: 0,
-    l1_fec: 0,
-    post_size: 1_000,
-    pilot: 6,
-    tx_id: 0,
-    symbols: 59,
-    regen: 0,
-};
-
-fn network(plps: PlpList, sub_slices: u16) -> Config {
-    Config {
-        band: Band::Mhz8,
-        ticks: 100_000,
-        frames: 2,
-        cells: 4_000_000,
-        seconds: 700_000_000,
-        subseconds: 0,
-        utco: 5,
-        pid: 256,
-        cell_id: 1,
-        network_id: 2,
-        system_id: 3,
-        frequency: 474_000_000,
-        l1: L1,
-        sub_slices,
-        plps,
-    }
-}
-
-fn plan(rt: &impl Abort, config: Config) -> Plan {
-    match validate(config) {
-        Ok(valid) => match fits(valid) {
-            Ok(plan) => plan,
-            Err((_, fault)) => panic!(rt; "{fault}"),
-        },
-        Err((_, fault)) => panic!(rt; "{fault}"),
-    }
-}
-
-fn listed(alloc: Global, plps: &[Plp]) -> Result<PlpList, OutOfMemory> {
-    let mut list = PlpList::new(alloc);
-    for plp in plps {
-        list.push(*plp)?;
-    }
-    Ok(list)
+fn plan(alloc: Global, plps: &[Plp], sub_slices: u16) -> Result<Plan, NoPlan> {
+    plan_of(network_of(alloc, plps, 4_000_000, sub_slices)?)
 }
 
 const PRE: [u8; 21] = [
@@ -148,7 +90,7 @@ fn dyn_bytes(alloc: Global, dynamic: &L1Dyn) -> Result<Vec<u8>, SinkFault>
 
 #[test]
 fn one_plp(rt: HostRuntime) -> Result<(), Fail> {
-    let plan = plan(&rt, network(listed(rt.alloc(), &[SMALL])?, 1));
+    let plan = plan(rt.alloc(), &[SMALL], 1)?;
     assert!(rt; pre_bytes(rt.alloc(), &pre_of(&plan))?[..] == PRE[..]);
     let conf = conf_of(rt.alloc(), &plan)?;
     assert!(rt; is_conf(BitSlice::whole(&CONF).sub(0, 191), &conf));
@@ -164,7 +106,7 @@ const THREE_CONF: [u8; 47] = [
 
 #[test]
 fn three_plps(rt: HostRuntime) -> Result<(), Fail> {
-    let plan = plan(&rt, network(listed(rt.alloc(), &THREE)?, 5));
+    let plan = plan(rt.alloc(), &THREE, 5)?;
     let conf = conf_of(rt.alloc(), &plan)?;
     assert!(rt; conf_bytes(rt.alloc(), &conf)?[..] == THREE_CONF[..]);
     Ok(())
@@ -293,7 +235,7 @@ fn each_bit_of_the_dynamic_part(rt: HostRuntime) -> Result<(), Fail> {
 
 #[test]
 fn a_known_configurable_part_but_for_one_bit(rt: HostRuntime) -> Result<(), Fail> {
-    let plan = plan(&rt, network(listed(rt.alloc(), &[SMALL])?, 1));
+    let plan = plan(rt.alloc(), &[SMALL], 1)?;
     let conf = conf_of(rt.alloc(), &plan)?;
     for place in 0..191 {
         let bytes = flipped(&CONF, place);
@@ -305,22 +247,25 @@ fn a_known_configurable_part_but_for_one_bit(rt: HostRuntime) -> Result<(), Fail
     Ok(())
 }
 
-// The dynamic part of a second frame, in which the PLP has four blocks.
-fn second_frame(alloc: Global, plan: &Plan) -> Result<L1Dyn, OutOfMemory> {
-    let mut shape = Shape::open(alloc, plan)?;
-    let mut dynamic = L1Dyn::open(alloc, plan.config().plps.len() as u16)?;
-    if shape.len() > 0 {
-        shape.set(0, 4, 0);
+// The dynamic part of a second frame, in which the PLP has four blocks, and its bytes.
+fn second_frame(rt: &(impl AllocGlobal + Abort), plan: &Plan) -> Result<(L1Dyn, Vec<u8>), Fail> {
+    if plan.config().plps.len() != 1 || plan.config().plps.get(0).unwrap().blocks < 4 {
+        panic!(rt; "another network");
     }
-    dyn_of(plan, 1, &shape, &mut dynamic);
-    Ok(dynamic)
+    let mut computed = Shape::open(rt.alloc(), plan)?;
+    let mut dynamic = L1Dyn::open(rt.alloc(), 1)?;
+    shape(plan, &[4], &mut computed);
+    field_law();
+    dyn_of(plan, 1, &computed, &mut dynamic);
+    let bytes = dyn_bytes(rt.alloc(), &dynamic)?;
+    Ok((dynamic, bytes))
 }
 
 #[test]
 fn a_shape_there_and_back(rt: HostRuntime) -> Result<(), Fail> {
-    let plan = plan(&rt, network(listed(rt.alloc(), &[SMALL])?, 1));
-    let dynamic = second_frame(rt.alloc(), &plan)?;
-    assert_eq!(rt; dynamic.frame_idx, 1);
+    let plan = plan(rt.alloc(), &[SMALL], 1)?;
+    let (dynamic, bytes) = second_frame(&rt, &plan)?;
+    assert!(rt; bytes[..] == DYN[..]);
     let mut shape = Shape::open(rt.alloc(), &plan)?;
     if shape.len() == dynamic.plps.len() {
         shape_of(&dynamic, &mut shape);
@@ -344,8 +289,8 @@ fn too_little_room(rt: HostRuntime) -> Result<(), Fail> {
     Ok(())
 }
 
-fn many(alloc: Global, count: u8) -> Result<PlpList, OutOfMemory> {
-    let mut list = PlpList::new(alloc);
+fn many(alloc: Global, count: u8) -> Result<Vec<Plp>, OutOfMemory> {
+    let mut list = Vec::new(alloc);
     for id in 0..count {
         list.push(Plp {
             id,
@@ -359,7 +304,7 @@ fn many(alloc: Global, count: u8) -> Result<PlpList, OutOfMemory> {
 #[test]
 fn as_many_plps_as_there_can_be(rt: HostRuntime) -> Result<(), Fail> {
     for count in [1, 2, 255] {
-        let plan = plan(&rt, network(many(rt.alloc(), count)?, 1));
+        let plan = plan(rt.alloc(), &many(rt.alloc(), count)?, 1)?;
         let bytes = conf_bytes(rt.alloc(), &conf_of(rt.alloc(), &plan)?)?;
         let Some(front) = bytes.get(..bytes.len().min(4_000)) else {
             panic!(rt; "no bytes");

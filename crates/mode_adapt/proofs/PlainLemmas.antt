@@ -28,6 +28,7 @@ use Rattle.mode_adapt.proofs.FirstLemmas.{placed_or, placed_one}
 use Rattle.mode_adapt.proofs.KeptLemmas.{kept_more}
 use Rattle.mode_adapt.proofs.PlaceLemmas.{string_more}
 use Rattle.mode_adapt.proofs.SendLemmas.{frame_same}
+use Rattle.mode_adapt.proofs.SameLemmas.{least_same}
 
 counted : (b : Bool) (n : ℕ) (ks : List ℕ) → cond b (length ks + 1) (length ks) ≡ length (ks ++ cond b (n ∷ []) [])
 counted true n ks = sym (length-append ks (n ∷ []))
@@ -62,13 +63,6 @@ arrived_step c plp at frame up count slots tick deletes e0 e1 e2 e3 e4 =
     ∙ ap (λ (v : ℕ). up_bytes c plp * v) (e4
     ∙ ap (λ (d : Bool). length (kept_slots (keeps_of d at) slots)) e1
     ∙ ap (λ (v : ℕ). length (kept_slots (plp_keeps c plp at) v)) (e3 ∙ ap (slots_by c plp) e2))
-
-least_same : (f g : ℕ → ℕ) (m : ℕ) → ((i : ℕ) → i ≤ m → f i ≡ g i) → least_to f m ≡ least_to g m
-least_same f g zero each = each 0 (omega arith)
-least_same f g (suc m) each =
-    let before : least_to f m ≡ least_to g m = least_same f g m (λ i le. each i (omega arith)) in
-    let last : f (suc m) ≡ g (suc m) = each (suc m) (omega arith) in
-    rw (before, last) refl
 
 -- what is sent, by what had arrived by the end of each frame
 pub sent_is : (r : Rates) (keeps : ℕ → Bool) (arrivals : List ℕ) (n m capacity : ℕ) → arrivals ≡ map (arrived r keeps) (range_with_len 0 n) → m < n → capacity ≡ r.capacity

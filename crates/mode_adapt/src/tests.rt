@@ -4,76 +4,21 @@ ghost use Rattle.std.specs.Prelude.{◌≡◌, ◌<◌, ◌≤◌, length};
 use crate::{Chain, FrameBytes, plain};
 use bb_frame::scramble;
 use bit_slice::{BitSlice, OutOfMemory, crc32};
-use plp_config::{
-    Band, Config, FecSize, L1Numbers, Modulation, Plan, Plp, PlpKind, PlpList, Rate, fits, validate,
-};
+use plp_config::{Plan, Plp, Rate};
+use sample_networks::{LOADED_PLP, NoPlan, SMALL_PLP, network_of, plan_of};
 use std::alloc::Global;
 use std::process::Abort;
 use std::test::Fail;
 use ts_packet::TsPacket;
 
-// A small network: 8 MHz, frames of 100,000 ticks and one PLP, whose slots last some 6,875 ticks.
-const PLP: Plp = Plp {
-    id: 9,
-    kind: PlpKind::Type1,
-    group: 1,
-    rate: Rate::R1_2,
-    modulation: Modulation::Qpsk,
-    fec: FecSize::Short,
-    rotation: false,
-    blocks: 4,
-    interleave: 1,
-    delete: true,
-    bits_per_second: 2_000_000,
-};
+const PLP: Plp = Plp { id: 9, ..SMALL_PLP };
 
-// A PLP with as much to send as its frames carry.
 const LOADED: Plp = Plp {
-    blocks: 3,
-    bits_per_second: 1_906_000,
-    ..PLP
-};
-
-const L1: L1Numbers = L1Numbers {
-    bwt_ext: 0,
-    s2: 6,
-    guard: 1,
-    papr: 0,
-    l1_mod: 1,
-    l1_cod: 0,
-    l1_fec: 0,
-    post_size: 1_000,
-    pilot: 6,
-    tx_id: 0,
-    symbols: 59,
-    regen: 0,
+    id: 9,
+    ..LOADED_PLP
 };
 
 const TICKS: u32 = 100_000;
-
-fn network(alloc: Global, plps: &[Plp]) -> Result<Config, OutOfMemory> {
-    let mut list = PlpList::new(alloc);
-    for plp in plps {
-        list.push(*plp)?;
-    }
-    Ok(Config {
-        band: Band::Mhz8,
-        ticks: TICKS,
-        frames: 2,
-        cells: 80_000,
-        seconds: 700_000_000,
-        subseconds: 0,
-        utco: 5,
-        pid: 256,
-        cell_id: 1,
-        network_id: 2,
-        system_id: 3,
-        frequency: 474_000_000,
-        l1: L1,
-        sub_slices: 1,
-        plps: list,
-    })
-}
 
 // A chain with the slot of its next packet, for the first PLP of a plan.
 #[derive(Drop)]
@@ -120,13 +65,8 @@ fn mixed(alloc: Global, count: u64) -> Result<Vec<TsPacket>, OutOfMemory> {
 }
 
 impl Feed {
-    fn new(rt: &(impl Abort + AllocGlobal), plps: &[Plp]) -> Result<Feed, OutOfMemory> {
-        let Ok(valid) = validate(network(rt.alloc(), plps)?) else {
-            panic!(rt; "a rule fails");
-        };
-        let Ok(plan) = fits(valid) else {
-            panic!(rt; "a test fails");
-        };
+    fn new(rt: &(impl Abort + AllocGlobal), plps: &[Plp]) -> Result<Feed, NoPlan> {
+        let plan = plan_of(network_of(rt.alloc(), plps, 80_000, 1)?)?;
         assert!(rt; plan.config().plps.len() > 0);
         let chain = Chain::open(rt.alloc(), &plan, 0)?;
         Ok(Feed {
@@ -283,6 +223,26 @@ fn a_null_packet_behind_255_is_sent(rt: HostRuntime) -> Result<(), Fail> {
     assert!(rt; bytes.starts_with(&[0x1F, 0xFF, 0x10, 255 % 251, 0xFF]));
     assert_eq!(rt; &bytes[186..191], [0xFF, 255, 0x1F, 0xFE, 0x10].as_slice());
     assert_eq!(rt; bytes[375], 0);
+    Ok(())
+}
+
+// The one block of 300 null packets: its user packet is that of slot 255, which starts at tick 1,753,234.
+#[rattlefmt::skip]
+const ONLY: [u8; 13] = [0xFC, 0x00, 0x9A, 0xC0, 0x05, 0xE0, 0x92, 0x00, 0x00, 0x25, 0x1F, 0xFF, 0x10];
+
+#[test]
+fn of_300_null_packets_that_of_slot_255_is_sent(rt: HostRuntime) -> Result<(), Fail> {
+    let mut feed = Feed::new(&rt, &[PLP])?;
+    let packets = packets(rt.alloc(), 300, 300)?;
+    for number in 0..24u8 {
+        let frame = feed.next_frame(&packets)?;
+        if number == 18 {
+            assert!(rt; frame.len() == 1 && begins(&frame, 0, &ONLY));
+            assert_eq!(rt; carried(rt.alloc(), &frame)?.get(187), Some(&255));
+        } else {
+            assert!(rt; frame.is_empty());
+        }
+    }
     Ok(())
 }
 

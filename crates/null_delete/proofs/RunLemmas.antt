@@ -1,15 +1,11 @@
 -- Runs of slots that end directly before a slot.
-use Rattle.std.proofs.Common.{◌≡◌, ℕ, zero, suc, ◌+◌, ◌%◌, ◌<◌, ◌==◌, Bool, true, false, cond, List, [], ◌∷◌, ◌++◌, length, take, ⊎_elim, ◌≢◌, refl, ap, sym, subst, ◌∙◌, arith, add-one}
+use Rattle.std.proofs.Common.{◌≡◌, ℕ, zero, suc, ◌+◌, ◌%◌, ◌<◌, ◌==◌, Bool, true, false, cond, List, [], ◌∷◌, length, take, ⊎_elim, ◌≢◌, refl, ap, sym, subst, ◌∙◌, arith, add-one}
 use Rattle.std.specs.Prelude.{not, ◌||◌, take_while, reverse}
 use Rattle.std.specs.List.{range_with_len, prefix_len}
 use Rattle.std.proofs.lemmas.Bool.{eq-eqb, ne_eqb, cases_eq}
-use Rattle.std.proofs.lemmas.List.{map-id, reverse-append}
-use Rattle.std.proofs.lemmas.List.FromFn.{map-range_with_len_more}
+use Rattle.std.proofs.lemmas.List.{reverse-append}
 use Rattle.null_delete.specs.Deletion.{run_before, is_kept, dnp}
-
--- one slot more
-range_more : (n : ℕ) → range_with_len 0 (n + 1) ≡ range_with_len 0 n ++ n ∷ []
-range_more n = let e = map-range_with_len_more (λ (x : ℕ). x) 0 n n (omega arith) in simp map-id at e
+use Rattle.terms.proofs.RangeLemmas.{places_more}
 
 -- the first element stays where it passes
 take_while_more : (passes : ℕ → Bool) (x : ℕ) (xs : List ℕ) → take_while passes (x ∷ xs) ≡ cond (passes x) (x ∷ take_while passes xs) []
@@ -24,7 +20,7 @@ take_while_more passes x xs =
 run_more : (passes : ℕ → Bool) (k : ℕ) → run_before passes (k + 1) ≡ cond (passes k) (k ∷ run_before passes k) []
 unfolding run_before
 run_more passes k =
-    ap (λ (xs : List ℕ). take_while passes (reverse xs)) (range_more k) ∙ ap (take_while passes) (reverse-append (range_with_len 0 k) (k ∷ []))
+    ap (λ (xs : List ℕ). take_while passes (reverse xs)) (places_more k) ∙ ap (take_while passes) (reverse-append (range_with_len 0 k) (k ∷ []))
     ∙ take_while_more passes k (reverse (range_with_len 0 k))
 
 -- a run goes on where its last slot passes

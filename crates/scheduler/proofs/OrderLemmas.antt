@@ -1,11 +1,11 @@
 -- The PLPs of a shape stand one behind the other.
-use Rattle.std.proofs.Common.{◌≡◌, ℕ, zero, suc, ◌+◌, ◌-◌, ◌*◌, ◌/◌, ◌%◌, ◌<◌, ◌≤◌, ◌==◌, Bool, true, false, not, List, length, map, filter, sum_by, refl, ap, sym, ◌∙◌, subst, arith}
+use Rattle.std.proofs.Common.{◌≡◌, ℕ, zero, suc, ◌+◌, ◌-◌, ◌*◌, ◌<◌, ◌≤◌, ◌==◌, Bool, true, false, not, List, length, map, filter, sum_by, refl, ap, sym, ◌∙◌, subst, arith}
 use Rattle.std.specs.Prelude.{slice_index}
 use Rattle.std.specs.List.{range_with_len}
 use Rattle.std.proofs.lemmas.List.FromFn.{get_or-map-range_with_len}
 use Rattle.std.proofs.lemmas.Bool.{eqb-true}
 use Rattle.std.proofs.lemmas.List.Folds.{list_any_at}
-use Rattle.std.proofs.lemmas.Nat.{le-div, div-add-mod', div-mul-add}
+use Rattle.std.proofs.lemmas.Nat.{le-div}
 use Rattle.std.proofs.Math.Nat.{div-mul-le_self}
 use Rattle.plp_config.specs.Capacity.{IsPlan, block_cells, EvenSubSlices}
 use Rattle.plp_config.specs.Plps.{plp_at, is_type2, has_type2, no_plp}
@@ -16,7 +16,8 @@ use Rattle.plp_config.specs.declared.plp.PlpKind.TheVariants.{Type1, Type2}
 use Rattle.scheduler.specs.Laws.{ShapeStandsInOrder}
 use Rattle.scheduler.specs.Shape.{cells_of, slice_of, in_type2, type1_before, type2_before, type2_start_of, interval_of, start_of, shape_of}
 use Rattle.scheduler.proofs.SumLemmas.{sum-more, sum-rises, cells_fit}
-use Rattle.scheduler.proofs.ShapeLemmas.{bool_cases}
+use Rattle.terms.proofs.CaseLemmas.{bool_cases}
+use Rattle.terms.proofs.NatLemmas.{cut_whole}
 
 -- what stands before a later place has what stands at an earlier one
 rise : (f : ℕ → ℕ) (test : ℕ → Bool) (i j : ℕ) → i < j → test i ≡ true
@@ -49,16 +50,6 @@ type2_start_is c counts plp inside kind =
     let has : has_type2 c.plps ≡ true = list_any_at (λ plp. is_type2 plp.kind) c.plps plp no_plp inside kind in
     rw has refl
 
--- sub-slices that cut a block's cells cut those of all blocks
-cut : (n cells slices : ℕ) → 0 < slices → cells % slices ≡ 0 → slices * (n * cells / slices) ≡ n * cells
-cut n cells slices some h =
-    let m : ℕ = cells / slices in
-    let all = div-add-mod' cells slices in
-    let whole : m * slices ≡ cells = omega (arith, all, h) in
-    let product : n * cells ≡ n * m * slices + 0 = omega (arith, ap (λ (k : ℕ). n * k) whole) in
-    let quotient : n * cells / slices ≡ n * m = ap (λ (k : ℕ). k / slices) product ∙ div-mul-add (n * m) slices 0 some in
-    rw quotient (omega (arith, product))
-
 kind_is : (kind : PlpKind) → is_type2 kind ≡ true → kind ≡ Type2
 kind_is Type1 h = cc
 kind_is Type2 h = refl
@@ -81,7 +72,7 @@ slices_of_cells c counts (suc place) is inside =
     let next : c.sub_slices * sum_by (slice_of c counts) (type2_before c (place + 1)) ≡ sum_by (cells_of c counts) (type2_before c (place + 1)) =
     bool_cases (in_type2 c place)
     (λ t. let even = is.tests EvenSubSlices place here (kind_is (plp_at c.plps place).kind t) in
-    let one : c.sub_slices * slice_of c counts place ≡ cells_of c counts place = cut (slice_index counts place) (block_cells c place) c.sub_slices (sub_slices-some c is) even in
+    let one : c.sub_slices * slice_of c counts place ≡ cells_of c counts place = cut_whole (slice_index counts place) (block_cells c place) c.sub_slices (sub_slices-some c is) even in
     let a' = rw t at a in
     let b' = rw t at b in
     rw (a', b') (omega (arith, rest, one)))

@@ -15,10 +15,7 @@ use Rattle.scheduler.specs.declared.frame.Cells.{Cells}
 use Rattle.scheduler.specs.Laws.{CountsFit, ShapeFitsL1}
 use Rattle.scheduler.specs.Shape.{FrameShape, with_plp, cells_of, slice_of, in_type2, type1_before, type2_before, type2_start_of, interval_of, start_of, shape_of}
 use Rattle.scheduler.proofs.SumLemmas.{cells_fit, slices_fit, adds_type1, adds_type2}
-
-pub bool_cases : {P : Type 0} (b : Bool) → (b ≡ true → P) → (b ≡ false → P) → P
-bool_cases true yes_case no_case = yes_case refl
-bool_cases false yes_case no_case = no_case refl
+use Rattle.terms.proofs.CaseLemmas.{bool_cases}
 
 -- one place of a list is replaced behind those that were
 pub set-next : {A : Type 0} (front rest : List A) (n : ℕ) (x : A) → length front ≡ n → n < length rest

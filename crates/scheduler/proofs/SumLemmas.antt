@@ -1,5 +1,5 @@
 -- Sums over the PLPs before a place stay within the cells of a frame.
-use Rattle.std.proofs.Common.{◌≡◌, ℕ, zero, suc, ◌+◌, ◌-◌, ◌*◌, ◌<◌, ◌≤◌, Bool, true, false, cond, not, List, [], ◌∷◌, ◌++◌, length, take, filter, sum_by, refl, ap, sym, ◌∙◌, subst, arith}
+use Rattle.std.proofs.Common.{◌≡◌, ℕ, zero, suc, ◌+◌, ◌-◌, ◌*◌, ◌<◌, ◌≤◌, Bool, true, false, cond, not, List, [], ◌∷◌, length, take, filter, sum_by, refl, ap, sym, ◌∙◌, subst, arith}
 use Rattle.std.specs.Prelude.{slice_index}
 use Rattle.std.specs.List.{range_with_len}
 use Rattle.std.proofs.lemmas.List.Elements.{filter-append}
@@ -14,17 +14,7 @@ use Rattle.plp_config.specs.declared.config.Config.{Config}
 use Rattle.plp_config.specs.declared.plp.Plp.{Plp}
 use Rattle.scheduler.specs.Laws.{CountsFit}
 use Rattle.scheduler.specs.Shape.{cells_of, slice_of, in_type2, type1_before, type2_before}
-
--- one place more
-pub range_with_len-more : (a n : ℕ) → range_with_len a (n + 1) ≡ range_with_len a n ++ (a + n) ∷ []
-range_with_len-more a zero = let e : a ≡ a + 0 = omega arith in ap (λ (x : ℕ). x ∷ []) e
-range_with_len-more a (suc n) =
-    let e : a + 1 + n ≡ a + suc n = omega arith in
-    let step : suc n + 1 ≡ suc (n + 1) = omega arith in
-    rw step (ap (λ (xs : List ℕ). a ∷ xs) (range_with_len-more (a + 1) n ∙ ap (λ (x : ℕ). range_with_len (a + 1) n ++ x ∷ []) e))
-
-pub places-more : (n : ℕ) → range_with_len 0 (n + 1) ≡ range_with_len 0 n ++ n ∷ []
-places-more n = let e : 0 + n ≡ n = omega arith in range_with_len-more 0 n ∙ ap (λ (x : ℕ). range_with_len 0 n ++ x ∷ []) e
+use Rattle.terms.proofs.RangeLemmas.{places_more}
 
 last : (f : ℕ → ℕ) (n : ℕ) (passes : Bool) → sum_by f (cond passes (n ∷ []) []) ≡ cond passes (f n) 0
 last f n true = omega arith
@@ -34,7 +24,7 @@ last f n false = refl
 pub sum-more : (f : ℕ → ℕ) (test : ℕ → Bool) (n : ℕ)
     → sum_by f (filter test (range_with_len 0 (n + 1))) ≡ sum_by f (filter test (range_with_len 0 n)) + cond (test n) (f n) 0
 sum-more f test n =
-    ap (λ (xs : List ℕ). sum_by f (filter test xs)) (places-more n)
+    ap (λ (xs : List ℕ). sum_by f (filter test xs)) (places_more n)
     ∙ ap (sum_by f) (filter-append test (range_with_len 0 n) (n ∷ []))
     ∙ sum_by-append f (filter test (range_with_len 0 n)) (filter test (n ∷ []))
     ∙ ap (λ (k : ℕ). sum_by f (filter test (range_with_len 0 n)) + k) (last f n (test n))
@@ -73,7 +63,7 @@ cells_before-le c counts (suc place) fit inside =
     let room : Plp → ℕ = λ plp. plp.blocks * cells_per_block plp.fec plp.modulation in
     let e : suc place ≡ place + 1 = omega arith in
     let a : sum_by (cells_of c counts) (range_with_len 0 (place + 1)) ≡ sum_by (cells_of c counts) (range_with_len 0 place) + cells_of c counts place =
-    ap (sum_by (cells_of c counts)) (places-more place) ∙ sum_by_push (cells_of c counts) (range_with_len 0 place) place in
+    ap (sum_by (cells_of c counts)) (places_more place) ∙ sum_by_push (cells_of c counts) (range_with_len 0 place) place in
     let b : sum_by room (take (place + 1) c.plps) ≡ sum_by room (take place c.plps) + room (plp_at c.plps place) = sum_by_more room c.plps place no_plp here in
     let one : cells_of c counts place ≤ room (plp_at c.plps place) = cells-le c counts place fit here in
     let rest : sum_by (cells_of c counts) (range_with_len 0 place) ≤ sum_by room (take place c.plps) = cells_before-le c counts place fit (omega arith) in

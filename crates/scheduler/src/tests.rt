@@ -3,86 +3,32 @@ ghost use Rattle.scheduler.specs.Laws.{CountsFit};
 
 use super::*;
 use bit_slice::OutOfMemory;
-use plp_config::{
-    Band, Config, FecSize, L1Numbers, Modulation, Plan, Plp, PlpKind, PlpList, Rate, fits, validate,
-};
+use plp_config::{Config, Modulation, Plan, Plp, PlpKind};
+use sample_networks::{SMALL_PLP, network_of, plan_of};
 use std::alloc::Global;
 use std::process::Abort;
 use std::test::Fail;
 
-// A PLP of type 1 whose blocks have 8,100 cells.
-const PLP: Plp = Plp {
-    id: 0,
-    kind: PlpKind::Type1,
-    group: 1,
-    rate: Rate::R1_2,
-    modulation: Modulation::Qpsk,
-    fec: FecSize::Short,
-    rotation: false,
-    blocks: 4,
-    interleave: 0,
-    delete: true,
-    bits_per_second: 100_000,
-};
-
-const L1: L1Numbers = L1Numbers {
-    bwt_ext: 0,
-    s2: 6,
-    guard: 1,
-    papr: 0,
-    l1_mod: 1,
-    l1_cod: 0,
-    l1_fec: 0,
-    post_size: 1_000,
-    pilot: 6,
-    tx_id: 0,
-    symbols: 59,
-    regen: 0,
-};
-
+// The network of these PLPs, which have little to send.
 fn network(
     alloc: Global,
     plps: &[(PlpKind, Modulation)],
     sub_slices: u16,
 ) -> Result<Config, OutOfMemory> {
-    let mut list = PlpList::new(alloc);
+    let mut list = Vec::new(alloc);
     let mut id = 0;
     for (kind, modulation) in plps {
         list.push(Plp {
             id,
             kind: *kind,
             modulation: *modulation,
-            ..PLP
+            interleave: 0,
+            bits_per_second: 100_000,
+            ..SMALL_PLP
         })?;
         id = id.wrapping_add(1);
     }
-    Ok(Config {
-        band: Band::Mhz8,
-        ticks: 100_000,
-        frames: 2,
-        cells: 100_000,
-        seconds: 700_000_000,
-        subseconds: 0,
-        utco: 5,
-        pid: 256,
-        cell_id: 1,
-        network_id: 2,
-        system_id: 3,
-        frequency: 474_000_000,
-        l1: L1,
-        sub_slices,
-        plps: list,
-    })
-}
-
-fn plan(rt: &impl Abort, config: Config) -> Plan {
-    match validate(config) {
-        Ok(valid) => match fits(valid) {
-            Ok(plan) => plan,
-            Err((_, fault)) => panic!(rt; "{fault}"),
-        },
-        Err((_, fault)) => panic!(rt; "{fault}"),
-    }
+    network_of(alloc, &list, 100_000, sub_slices)
 }
 
 // Whether a frame can have so many blocks.
@@ -135,7 +81,7 @@ fn expect_shape(
 
 #[test]
 fn type1_stands_in_order(rt: HostRuntime) -> Result<(), Fail> {
-    let plan = plan(&rt, network(rt.alloc(), &[(T1, QPSK), (T1, QPSK)], 1)?);
+    let plan = plan_of(network(rt.alloc(), &[(T1, QPSK), (T1, QPSK)], 1)?)?;
     expect_shape(&rt, &plan, &[1, 1], (0, 0), &[0, 8_100])?;
     expect_shape(&rt, &plan, &[0, 3], (0, 0), &[0, 0])?;
     expect_shape(&rt, &plan, &[3, 0], (0, 0), &[0, 0])
@@ -143,10 +89,10 @@ fn type1_stands_in_order(rt: HostRuntime) -> Result<(), Fail> {
 
 #[test]
 fn type2_stands_behind_in_sub_slices(rt: HostRuntime) -> Result<(), Fail> {
-    let alone = plan(&rt, network(rt.alloc(), &[(T2, QAM256), (T2, QAM16)], 5)?);
+    let alone = plan_of(network(rt.alloc(), &[(T2, QAM256), (T2, QAM16)], 5)?)?;
     expect_shape(&rt, &alone, &[1, 1], (1_215, 0), &[0, 405])?;
     let plps = [(T1, QPSK), (T1, QAM16), (T2, QAM256), (T2, QAM16)];
-    let mixed = plan(&rt, network(rt.alloc(), &plps, 5)?);
+    let mixed = plan_of(network(rt.alloc(), &plps, 5)?)?;
     expect_shape(
         &rt,
         &mixed,
@@ -159,7 +105,7 @@ fn type2_stands_behind_in_sub_slices(rt: HostRuntime) -> Result<(), Fail> {
 
 #[test]
 fn numbers_are_set(rt: HostRuntime) -> Result<(), Fail> {
-    let plan = plan(&rt, network(rt.alloc(), &[(T2, QAM256), (T2, QAM16)], 5)?);
+    let plan = plan_of(network(rt.alloc(), &[(T2, QAM256), (T2, QAM16)], 5)?)?;
     let mut read = Shape::open(rt.alloc(), &plan)?;
     assert_eq!(rt; read.len(), 2);
     read.set(0, 7, 65_536);

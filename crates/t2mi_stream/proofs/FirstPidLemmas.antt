@@ -1,5 +1,5 @@
 -- The PID that a file tells, and the packets that are accepted on it.
-use Rattle.std.proofs.Common.{◌≡◌, ℕ, zero, suc, ◌+◌, ◌*◌, ◌/◌, ◌==◌, ◌<◌, ◌≤◌, ⊎_elim, Bool, true, false, cond, List, [], ◌++◌, length, take, Option, Some, None, refl, ap, sym, subst, ◌∙◌, arith, length-append}
+use Rattle.std.proofs.Common.{◌≡◌, ℕ, zero, suc, ◌+◌, ◌*◌, ◌/◌, ◌==◌, ◌<◌, ◌≤◌, ⊎_elim, Bool, true, false, cond, List, ◌++◌, length, take, Option, Some, None, refl, ap, sym, subst, ◌∙◌, arith, length-append}
 use Rattle.std.specs.Prelude.{slice_get, option_to_list, flat_map, nat_lt, not, ◌&&◌}
 use Rattle.std.specs.List.{range_with_len}
 use Rattle.std.proofs.lemmas.Bool.{cases_lt, both_ways, eqb-true}
@@ -9,7 +9,7 @@ use Rattle.ts_packet.specs.Told.{fields_in}
 use Rattle.t2mi_stream.specs.Skipping.{CarriesNothing, SkipLaw}
 use Rattle.t2mi_stream.specs.Units.{points_inside, Carrier, carrier_of, carried, unit_at}
 use Rattle.t2mi_stream.proofs.SkippingLemmas.{unit_before, unit_behind}
-use Rattle.t2mi_stream.specs.FirstPid.{pid_of, pid_at, pid_in, accepted_on, t2mi_packets_in, TellsNone, TellsNoneOn, PacketsBehind, NoPackets}
+use Rattle.t2mi_stream.specs.FirstPid.{pid_of, pid_at, pid_in, accepted_on, TellsNone, TellsNoneOn, PacketsBehind, NoPackets}
 
 first_of : (o : Option ℕ) (rest : List ℕ) (pid : ℕ) → o ≡ Some pid → slice_get (option_to_list o ++ rest) 0 ≡ Some pid
 first_of None rest pid e = cc

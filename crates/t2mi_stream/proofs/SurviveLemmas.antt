@@ -17,9 +17,9 @@ use Rattle.t2mi_stream.specs.Received.Fate.{Kept, Lost, Altered}
 use Rattle.t2mi_stream.specs.Laws.{AcceptedFront, Among, ArePackets, IsStart, Survives}
 use Rattle.t2mi_stream.specs.SpellLaws.{SpellLaws}
 use Rattle.t2mi_stream.proofs.UnitLemmas.{runs_unit}
-use Rattle.t2mi_stream.proofs.PipeLemmas.{length-values, part_size, carried_add}
+use Rattle.t2mi_stream.proofs.PipeLemmas.{length-values, part_size, carried_add, length-items}
 use Rattle.t2mi_stream.proofs.StartsLemmas.{starts_law}
-use Rattle.t2mi_stream.proofs.FitLemmas.{Fits, fits_append, fits_drop, fits_len, length-items, chain, stands_there}
+use Rattle.t2mi_stream.proofs.FitLemmas.{Fits, fits_append, fits_drop, fits_len, chain, stands_there}
 use Rattle.t2mi_stream.proofs.ReadsLemmas.{UnitLaws, unit_reads, carried_fits, carried_mark}
 
 -- one more unit behind whole units

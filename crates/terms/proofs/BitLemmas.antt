@@ -286,3 +286,7 @@ bits_of-high-first (suc k) n =
     let rest = bits_of-high-first k n in
     ap (λ (xs : List Bool). xs ++ bits_of (bytes_high_first k n)) (field-byte k n) ∙ ap (λ (xs : List Bool). field 8 (n / 2 ^ (8 * k)) ++ xs) rest
     ∙ sym (ap (λ (x : ℕ). field x n) e ∙ field-add 8 (8 * k) n)
+
+-- a number that was read off is as narrow as its field
+pub number_at-lt : (bits : List Bool) (at width : ℕ) → at + width ≤ length bits → number_at bits at width < 2 ^ width
+number_at-lt bits at width h = rw (length-part bits at width h) at (number_of-lt (part bits at width))

@@ -1,2 +1,5 @@
 pub mod BitLemmas
 pub mod PartLemmas
+pub mod RangeLemmas
+pub mod CaseLemmas
+pub mod NatLemmas

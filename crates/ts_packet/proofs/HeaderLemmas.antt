@@ -3,7 +3,7 @@ use Rattle.std.proofs.Common.{◌≡◌, ℕ, ◌+◌, ◌-◌, ◌*◌, ◌/◌
 use Rattle.std.specs.Prelude.{bit_and}
 use Rattle.std.proofs.lemmas.Nat.{and_mask, one_shl}
 use Rattle.terms.specs.Bits.{field, bits_of, number_of, part, number_at}
-use Rattle.terms.proofs.BitLemmas.{length-field, length-bits_of, length-part, part-part, number_of-field, number_of-part, number_of-bytes, field-number_of, part-bits_of}
+use Rattle.terms.proofs.BitLemmas.{length-field, length-bits_of, length-part, part-part, number_of-field, number_of-part, field-number_of, part-bits_of, four_bytes}
 
 -- how the code reads a field
 pub field_read : (header at width : ℕ) → header < 2 ^ 32 → width < 32 → at + width ≤ 32 →
@@ -12,11 +12,6 @@ field_read header at width small narrow inside =
     let behind : 32 - at - width ≡ 32 - (at + width) = omega arith in
     let spelled = number_of-part (field 32 header) at width (omega (arith, length-field 32 header)) in
     rw (one_shl width 32 narrow, and_mask, behind) (rw (length-field 32 header, number_of-field 32 header small) at (sym spelled))
-
--- the number of four bytes
-four_bytes : (a b c d : ℕ) → a < 256 → b < 256 → c < 256 → d < 256 → number_of (bits_of (a ∷ b ∷ c ∷ d ∷ [])) ≡ a * 2 ^ 24 + b * 2 ^ 16 + c * 2 ^ 8 + d
-four_bytes a b c d ha hb hc hd =
-    omega (arith, number_of-bytes a (b ∷ c ∷ d ∷ []) ha, number_of-bytes b (c ∷ d ∷ []) hb, number_of-bytes c (d ∷ []) hc, number_of-bytes d [] hd)
 
 -- the first four bytes
 front_four : (bytes : List ℕ) → 4 ≤ length bytes → take 4 bytes ≡ get_or bytes 0 0 ∷ get_or bytes 1 0 ∷ get_or bytes 2 0 ∷ get_or bytes 3 0 ∷ []

@@ -5,7 +5,7 @@ use Rattle.std.proofs.lemmas.Bool.{cases_lt, cases_eq}
 use Rattle.std.proofs.lemmas.List.{drop_at, get_or_at, take_at, get_or_append_left}
 use Rattle.std.proofs.lemmas.List.FromFn.{get_or-map-range_with_len}
 use Rattle.terms.specs.Bits.{field, bits_of, number_of, part, number_at, bytes_of, byte_at, bytes_for}
-use Rattle.terms.proofs.BitLemmas.{length-field, length-bits_of, bits_of-append, bits_of-bytes_of, length-bytes_of, byte_at-whole}
+use Rattle.terms.proofs.BitLemmas.{length-field, length-bits_of, bits_of-append, bits_of-bytes_of, length-bytes_of, byte_at-whole, number_at-lt}
 use Rattle.terms.proofs.PartLemmas.{part-middle, number-middle}
 use Rattle.ts_packet.specs.declared.fault.TsFault.{TsFault}
 use Rattle.ts_packet.specs.declared.fault.TsFault.TheVariants.{NoSync, BadAdaptation}
@@ -14,7 +14,7 @@ use Rattle.ts_packet.specs.Null.{is_null}
 use Rattle.ts_packet.specs.Reading.{fields_of, place_for, IsRead}
 use Rattle.ts_packet.specs.Laws.{OnePacket, NoRefusal, SpelledOrRefused, OneRefusal, NullByPid}
 use Rattle.ts_packet.proofs.HeaderLemmas.{front_number}
-use Rattle.ts_packet.proofs.SpellingLemmas.{narrow, spelled}
+use Rattle.ts_packet.proofs.SpellingLemmas.{spelled}
 
 -- a bit that stands behind a front
 flag-middle : (front more : List Bool) (at : ℕ) (b : Bool) → length front ≡ at → (number_at ((front ++ flag b) ++ more) at 1 == 1) ≡ b
@@ -173,7 +173,7 @@ spelled_if_good bytes long small sync (inr good) =
 
 -- the same without knowing the sync byte
 spelled_if_sync : (bytes : List ℕ) → length bytes ≡ 188 → ((k : ℕ) → get_or bytes k 0 < 256) → (HasSync bytes) ⊎ (¬ (HasSync bytes)) → ((f : Fields) × Spells f bytes) ⊎ ((fault : TsFault) × Refuses bytes fault)
-spelled_if_sync bytes long small (inl sync) = spelled_if_good bytes long small sync (bad_or_good (control_at bytes) (length_at bytes) (narrow (bits_of bytes) 26 2 (omega (arith, long, length-bits_of bytes))))
+spelled_if_sync bytes long small (inl sync) = spelled_if_good bytes long small sync (bad_or_good (control_at bytes) (length_at bytes) (number_at-lt (bits_of bytes) 26 2 (omega (arith, long, length-bits_of bytes))))
 spelled_if_sync bytes long small (inr none) = inr (NoSync, none)
 
 pub spelled_or_refused : SpelledOrRefused

@@ -4,7 +4,7 @@ use Rattle.std.specs.Prelude.{Result, Ok, Err, IfOk, Option, Some, None}
 use Rattle.std.proofs.lemmas.Bool.{cases_lt}
 use Rattle.std.proofs.lemmas.List.{take-append-drop, take_all, drop_all, drop_more, drop-drop, length-drop, length-take-le, append_assoc, get_or-take, get_or_past, length-take}
 use Rattle.terms.specs.Bits.{field, bits_of, number_of, part, number_at, bytes_of}
-use Rattle.terms.proofs.BitLemmas.{length-bits_of, length-part, part-bits_of, number_of-lt, field-number_at, bytes_of-bits_of, number_at-bits_of}
+use Rattle.terms.proofs.BitLemmas.{length-bits_of, length-part, part-bits_of, field-number_at, bytes_of-bits_of, number_at-bits_of, number_at-lt}
 use Rattle.terms.proofs.PartLemmas.{part-add}
 use Rattle.ts_packet.specs.TransportPacket.{Fields, flag, header_bits, control_of, adaptation_bytes, packet_bytes, Spells, HasSync, control_at, length_at, IsBadAdaptation}
 use Rattle.ts_packet.specs.Reading.{fields_of, place_for, IsRead}
@@ -108,10 +108,6 @@ behind bytes (suc (suc (suc zero))) long small good =
     }
 behind bytes (suc (suc (suc (suc n)))) long small good = absurd (omega arith)
 
--- a number that was read off is as narrow as its field
-pub narrow : (bits : List Bool) (at width : ℕ) → at + width ≤ length bits → number_at bits at width < 2 ^ width
-narrow bits at width h = rw (length-part bits at width h) at (number_of-lt (part bits at width))
-
 -- a front of bytes has bytes
 small_front : (n : ℕ) (bytes : List ℕ) → ((k : ℕ) → get_or bytes k 0 < 256) → (k : ℕ) → get_or (take n bytes) k 0 < 256
 small_front n bytes small k =
@@ -130,16 +126,16 @@ spelled bytes f long small r =
     let fields : Fields = fields_of header payload in
     let priority : Bool = number_at header 10 1 == 1 in
     let sync : number_at header 0 8 ≡ 0x47 = front_number bits 0 8 (omega arith) ∙ number_at-bits_of bytes 0 (omega (arith, long)) ∙ ap (λ (n : ℕ). n % 2 ^ 8) r.sync in
-    let rest : Behind bytes (control_at bytes) payload = behind bytes (control_at bytes) long (narrow bits 26 2 (omega (arith, size))) r.adaptation in
+    let rest : Behind bytes (control_at bytes) payload = behind bytes (control_at bytes) long (number_at-lt bits 26 2 (omega (arith, size))) r.adaptation in
     let whole : header ≡ header_bits fields priority (control_of rest.adaptation payload) =
     header_is header payload wide sync ∙ ap (header_bits fields priority) (front_number bits 26 2 (omega arith) ∙ rest.told) in
     let front : take 4 bytes ≡ bytes_of (header_bits fields priority (control_of rest.adaptation payload)) =
     sym (bytes_of-bits_of (take 4 bytes) (small_front 4 bytes small)) ∙ ap bytes_of (sym (part-bits_of bytes 0 4 (omega (arith, long))) ∙ whole) in
     subst (λ (g : Fields). Spells g bytes) (sym r.fields) (record {
       fits = record {
-        pid = narrow header 11 13 (omega (arith, wide));
-        scrambling = narrow header 24 2 (omega (arith, wide));
-        counter = narrow header 28 4 (omega (arith, wide));
+        pid = number_at-lt header 11 13 (omega (arith, wide));
+        scrambling = number_at-lt header 24 2 (omega (arith, wide));
+        counter = number_at-lt header 28 4 (omega (arith, wide));
       };
       priority = priority;
       adaptation = rest.adaptation;

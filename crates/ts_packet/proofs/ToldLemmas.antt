@@ -5,14 +5,13 @@ use Rattle.std.proofs.lemmas.Bool.{lt-leb, and_from, cases_eq, cases_lt, cond-tr
 use Rattle.std.proofs.lemmas.Option.{none-some, same_Some}
 use Rattle.std.proofs.lemmas.List.{drop_at}
 use Rattle.terms.specs.Bits.{bits_of, bytes_of}
-use Rattle.terms.proofs.BitLemmas.{length-bits_of, length-bytes_of}
+use Rattle.terms.proofs.BitLemmas.{length-bits_of, length-bytes_of, number_at-lt}
 use Rattle.ts_packet.specs.declared.fault.TsFault.{TsFault}
 use Rattle.ts_packet.specs.declared.fault.TsFault.TheVariants.{NoSync, BadAdaptation}
 use Rattle.ts_packet.specs.TransportPacket.{Fields, header_bits, control_of, adaptation_bytes, packet_bytes, Spells, control_at, length_at, IsBadAdaptation, Refuses}
 use Rattle.ts_packet.specs.Reading.{IsRead}
 use Rattle.ts_packet.specs.Told.{fits_adaptation, is_packet, fields_in}
 use Rattle.ts_packet.specs.Laws.{FieldsTold, PayloadLast}
-use Rattle.ts_packet.proofs.SpellingLemmas.{narrow}
 use Rattle.ts_packet.proofs.LawLemmas.{read_back, spelled_or_refused}
 use Rattle.ts_packet.proofs.WritingLemmas.{length-header_bits}
 
@@ -38,7 +37,7 @@ fits_bad control len (inr (inr (e, l))) = ap (λ (n : ℕ). fits_adaptation n le
 read_told : (bytes : List ℕ) (f : Fields) → length bytes ≡ 188 → IsRead bytes f → fields_in bytes ≡ Some f
 unfolding fields_in
 read_told bytes f long r =
-    let small : control_at bytes < 2 ^ 2 = narrow (bits_of bytes) 26 2 (omega (arith, long, length-bits_of bytes)) in
+    let small : control_at bytes < 2 ^ 2 = number_at-lt (bits_of bytes) 26 2 (omega (arith, long, length-bits_of bytes)) in
     let test : is_packet bytes ≡ true = and_from _ _ (eq-eqb (get_or bytes 0 0) 0x47 r.sync) (fits_good (control_at bytes) (length_at bytes) small r.adaptation) in
     cond-true _ _ _ test ∙ ap Some (sym r.fields)
 

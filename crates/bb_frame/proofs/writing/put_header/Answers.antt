@@ -4,8 +4,8 @@ use Rattle.terms.specs.Bits.{field}
 use Rattle.terms.proofs.BitLemmas.{length-field}
 use Rattle.bit_slice.specs.Crc.{crc8_of}
 use Rattle.bb_frame.specs.BasebandFrame.{fields_bits, mode, header_bits}
-use Rattle.bb_frame.proofs.WriteLemmas.{part_faults, rest_puts}
 use Rattle.bb_frame.proofs.writing.put_header.Goals as goal
+use Rattle.bit_slice.proofs.WriterLemmas.{part_faults, rest_puts}
 
 pub returns-clause-ok : goal.returns-clause-ok
 returns-clause-ok g c =

@@ -3,8 +3,9 @@ use Rattle.std.specs.Prelude.{replicate}
 use Rattle.std.proofs.lemmas.List.{length-replicate}
 use Rattle.std.proofs.lemmas.Result.{err_from_is_err_and}
 use Rattle.terms.specs.Bits.{field}
-use Rattle.bb_frame.proofs.WriteLemmas.{zeros_more, zeros_left, part_stops}
+use Rattle.bb_frame.proofs.WriteLemmas.{zeros_more, zeros_left}
 use Rattle.bb_frame.proofs.writing.put_zeros.Goals as goal
+use Rattle.bit_slice.proofs.WriterLemmas.{part_stops}
 
 pub returns-in_err-put-clause-fault : goal.returns-in_err-put-clause-fault
 returns-in_err-put-clause-fault g c =

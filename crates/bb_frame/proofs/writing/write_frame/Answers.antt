@@ -2,8 +2,8 @@ use Rattle.std.proofs.Common.{◌-◌, ◌++◌, false, length, refl, arith}
 use Rattle.std.specs.Prelude.{replicate}
 use Rattle.std.proofs.lemmas.Result.{err_from_is_err_and}
 use Rattle.bb_frame.specs.BasebandFrame.{header_bits, frame_bits}
-use Rattle.bb_frame.proofs.WriteLemmas.{part_stops, rest_faults, rest_puts}
 use Rattle.bb_frame.proofs.writing.write_frame.Goals as goal
+use Rattle.bit_slice.proofs.WriterLemmas.{part_stops, rest_faults, rest_puts}
 
 pub returns-in_err-put_header-clause-fault : goal.returns-in_err-put_header-clause-fault
 returns-in_err-put_header-clause-fault g c =

@@ -1,7 +1,8 @@
 use Rattle.std.proofs.Common.{◌≡◌, ◌-◌, ◌+◌, length, List, Bool, ap, sym, ◌∙◌, arith, length-append}
 use Rattle.terms.specs.Bits.{number_of, number_at}
-use Rattle.bit_slice.proofs.JoinLemmas.{behind_part, seam_read, number_at-lt}
+use Rattle.bit_slice.proofs.JoinLemmas.{behind_part, seam_read}
 use Rattle.bit_slice.proofs.joined.Joined.field.Goals as goal
+use Rattle.terms.proofs.BitLemmas.{number_at-lt}
 
 pub returns-then-at-seam-clause-value : goal.returns-then-at-seam-clause-value
 returns-then-at-seam-clause-value c =
