@@ -52,7 +52,7 @@ counted_frames = record { empty = refl; narrow = refl }
 
 pub counted_pre : CountedPre
 unfolding pre_of pre_bits row_bits spelling crc32_of field
-counted_pre = refl
+counted_pre inputs n = refl
 
 -- a packet that is not null is kept
 data_is_no_null : is_null data_packet ≡ false
