@@ -35,10 +35,6 @@ first_whole n bytes rest e =
     let w = one_whole bytes b.0 b.1 in
     (w.0, ap (skip_blocks n) w.1 ∙ b.2)
 
-pub first_of : (n : ℕ) (bytes : List ℕ) → 0 < n → blocks_in n bytes ≡ block_at bytes ∷ blocks_in (n - 1) (drop (block_len bytes) bytes)
-first_of zero bytes h = absurd (omega arith)
-first_of (suc n) bytes h = ap (λ (k : ℕ). block_at bytes ∷ blocks_in k (drop (block_len bytes) bytes)) (omega arith)
-
 pub length-blocks_in : (n : ℕ) (bytes : List ℕ) → length (blocks_in n bytes) ≡ n
 length-blocks_in zero bytes = refl
 length-blocks_in (suc n) bytes = ap suc (length-blocks_in n (drop (block_len bytes) bytes))
