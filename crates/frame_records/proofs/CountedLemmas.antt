@@ -4,7 +4,7 @@ use Rattle.std.specs.Prelude.{filter, map, min}
 use Rattle.std.specs.List.{range_with_len}
 use Rattle.std.specs.Int.{div_ceil}
 use Rattle.std.proofs.lemmas.List.{get_or-replicate, length-map, length-append}
-use Rattle.std.proofs.lemmas.List.FromFn.{length-map-range_with_len, take-map-range_with_len}
+use Rattle.std.proofs.lemmas.List.FromFn.{length-range_with_len, length-map-range_with_len, take-map-range_with_len}
 use Rattle.terms.specs.Bits.{field, bits_of, byte_at, bytes_of, bytes_for}
 use Rattle.terms.proofs.BitLemmas.{byte_at-whole}
 use Rattle.bb_frame.specs.BasebandFrame.{header_bits, frame_bits}
@@ -32,7 +32,7 @@ use Rattle.mode_adapt.specs.Queue.{Rates, arrived, least_to, sent, sent_before}
 use Rattle.mode_adapt.specs.UserPackets.{keeps_of}
 use Rattle.mode_adapt.specs.Blocks.{rates_of, plp_keeps, blocks_between, block_places, block_bits, data_field, header_at, with_place, first_up}
 use Rattle.frame_records.specs.Networks.{small_network, small_post, data_packet, data_packets}
-use Rattle.frame_records.proofs.FitLemmas.{length-range, all_append, all_map_twice}
+use Rattle.frame_records.proofs.FitLemmas.{all_append, all_map_twice}
 use Rattle.frame_records.specs.Counted.{CountedLengths, CountedBlocks, CountedStart, CountedPre, CountedPost, CountedFrames, CountedRecords, CountedSlots}
 
 pub counted_lengths : CountedLengths
@@ -52,7 +52,7 @@ counted_frames = record { empty = refl; narrow = refl }
 
 pub counted_pre : CountedPre
 unfolding pre_of pre_bits row_bits spelling crc32_of field
-counted_pre = refl
+counted_pre inputs n = refl
 
 -- a packet that is not null is kept
 data_is_no_null : is_null data_packet ≡ false
@@ -73,7 +73,7 @@ kept_from keeps n from (suc count) all le = rw (all from (omega (arith, le))) (a
 
 pub kept_count : (deletes : Bool) (n m : ℕ) → m ≤ n → length (kept_slots (keeps_of deletes (packet_at (data_packets n))) m) ≡ m
 kept_count deletes n m le =
-    ap (λ (ks : List ℕ). length ks) (kept_from (keeps_of deletes (packet_at (data_packets n))) n 0 m (data_kept deletes n) (omega (arith, le))) ∙ length-range 0 m
+    ap (λ (ks : List ℕ). length ks) (kept_from (keeps_of deletes (packet_at (data_packets n))) n 0 m (data_kept deletes n) (omega (arith, le))) ∙ length-range_with_len 0 m
 
 -- what has arrived and what is sent
 arrived_is : (r : Rates) (deletes : Bool) (n m : ℕ) → slot_count r.num r.den (m * r.epoch) ≤ n

@@ -5,7 +5,7 @@ use Rattle.std.specs.List.{flat_map, range_with_len, AllByRecursion}
 use Rattle.std.specs.FinMap.{get}
 use Rattle.std.proofs.Math.Nat.{mul-add, mul-le-mul, mul-le-mul_left}
 use Rattle.std.proofs.lemmas.List.{length-append, length-map, take-map}
-use Rattle.std.proofs.lemmas.List.FromFn.{get_or-map-range_with_len, get_or-range_with_len}
+use Rattle.std.proofs.lemmas.List.FromFn.{get_or-map-range_with_len, get_or-range_with_len, length-range_with_len}
 use Rattle.std.proofs.lemmas.List.Sums.{sum-map, sum_by-cons, sum_by-le-sum_by, sum_by_more_le}
 use Rattle.terms.proofs.BitLemmas.{length-field}
 use Rattle.plp_config.specs.Capacity.{IsPlan, CellCount, CellAddresses, block_bytes, block_cells, field_bytes, capacity, cell_need}
@@ -50,10 +50,6 @@ pre_length pre = simp (length-append, length-field) refl
 
 l1_pre_length : (c : Config) → length (l1_pre c) ≡ 200
 l1_pre_length c = length-append (pre_bits (pre_of c)) _ ∙ ap₂ (λ (a b : ℕ). a + b) (pre_length (pre_of c)) (length-field 32 _)
-
-pub length-range : (from count : ℕ) → length (range_with_len from count) ≡ count
-length-range from zero = refl
-length-range from (suc count) = ap suc (length-range (from + 1) count)
 
 -- ---- how many blocks a frame has
 
@@ -154,7 +150,7 @@ ordinal_lt c count plp block lt sent =
     let here : slice_index (map count (places c)) plp ≡ count plp = get_or-map-range_with_len count 0 (length c.plps) plp plp 0 lt (omega arith) in
     let before : sum (take plp (map count (places c))) ≡ sum_by count (take plp (places c)) = ap sum (take-map count plp (places c)) ∙ sum-map count (take plp (places c)) in
     let place : get_or (places c) plp 0 ≡ plp = get_or-range_with_len 0 (length c.plps) plp 0 lt ∙ omega arith in
-    let all : sum_by count (take plp (places c)) + count (get_or (places c) plp 0) ≤ sum_by count (places c) = sum_by_more_le count (places c) plp 0 (omega (arith, lt, length-range 0 (length c.plps))) in
+    let all : sum_by count (take plp (places c)) + count (get_or (places c) plp 0) ≤ sum_by count (places c) = sum_by_more_le count (places c) plp 0 (omega (arith, lt, length-range_with_len 0 (length c.plps))) in
     omega (arith, here, before, ap count place, all, sent)
 
 -- what stands at an address, if the frame has few blocks

@@ -4,7 +4,7 @@ use Rattle.std.specs.Prelude.{map, sum, sum_by, slice_index, slice_get}
 use Rattle.std.specs.List.{flat_map, range_with_len}
 use Rattle.std.specs.FinMap.{get}
 use Rattle.std.proofs.lemmas.List.{length-map, take-map}
-use Rattle.std.proofs.lemmas.List.FromFn.{get_or-map-range_with_len, get_or-range_with_len, length-map-range_with_len}
+use Rattle.std.proofs.lemmas.List.FromFn.{get_or-map-range_with_len, get_or-range_with_len, length-range_with_len, length-map-range_with_len}
 use Rattle.std.proofs.lemmas.List.Sums.{sum-map, sum_by-cons}
 use Rattle.std.proofs.lemmas.Option.{slice_get-map}
 use Rattle.cell_map.specs.Address.{address_of}
@@ -19,7 +19,7 @@ use Rattle.scheduler.specs.Laws.{CountsFit, ShapeHasCounts}
 use Rattle.site_frame.specs.Record.{Block}
 use Rattle.frame_records.specs.Frames.{places, plp_blocks, sent_block, sent_blocks, frame_shape}
 use Rattle.frame_records.specs.Laws.{BlockStands, CellStands}
-use Rattle.frame_records.proofs.FitLemmas.{counts, count_le, length-range}
+use Rattle.frame_records.proofs.FitLemmas.{counts, count_le}
 
 get_front : {X : Type 0} (xs ys : List X) (k : ℕ) → k < length xs → slice_get (xs ++ ys) k ≡ slice_get xs k
 get_front [] ys k lt = absurd (omega arith)
@@ -65,7 +65,7 @@ block_stands has c inputs n plp block lt sent =
     ordinal_is has c inputs n plp block ∙ ap (λ (s : ℕ). s + block) (sym (same_sums (λ plp. length (piece plp)) (counts c inputs n) (take plp (places c)) len)) in
     let inside : block < length (piece (get_or (places c) plp 0)) = subst (λ (k : ℕ). block < length (piece k)) (sym place) (omega (arith, len plp, sent)) in
     ap (slice_get (sent_blocks c (plp_blocks c inputs n))) at
-    ∙ get_piece piece (places c) plp block (omega (arith, lt, length-range 0 (length c.plps))) inside
+    ∙ get_piece piece (places c) plp block (omega (arith, lt, length-range_with_len 0 (length c.plps))) inside
     ∙ ap (λ (k : ℕ). slice_get (piece k) block) place ∙ slice_get-map (sent_block c plp) (plp_blocks c inputs n plp) block
 
 -- what stands at an address of the map

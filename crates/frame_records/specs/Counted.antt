@@ -4,8 +4,9 @@ use Rattle.std.specs.List.{range_with_len, AllByRecursion}
 use Rattle.terms.specs.Bits.{bytes_of}
 use Rattle.ts_packet.specs.Null.{null_packet}
 use Rattle.null_delete.specs.Deletion.{packet_at}
-use Rattle.l1_signal.specs.L1Of.{post_bits}
-use Rattle.frame_records.specs.Frames.{plp_blocks, sent_blocks, frame_shape, l1_pre, run_frames}
+use Rattle.site_frame.specs.declared.reading.RecordView.{RecordView}
+use Rattle.site_frame.specs.declared.reading.RecordView.TheVariants.{Frame, Muted}
+use Rattle.frame_records.specs.Frames.{plp_blocks, sent_blocks, frame_of, run_frames}
 use Rattle.frame_records.specs.Records.{record_numbers}
 use Rattle.frame_records.specs.Recover.{due_slots, recovered}
 use Rattle.frame_records.specs.Networks.{small_network, narrow_network, large_network, small_pre, small_post, data_packet, data_packets}
@@ -27,12 +28,21 @@ abbrev pub CountedStart : Type 0
 CountedStart = (inputs : ℕ → List (List ℕ)) (n : ℕ)
     → AllByRecursion (λ b. (b.plp ≡ 0) × (take 2 b.bytes ≡ 0xFF ∷ 0xF6 ∷ [])) (sent_blocks small_network (plp_blocks small_network inputs n))
 
--- L1-pre of the small network, with its CRC_32, and L1-post of its frame 1, of 20 packets.
+-- L1-pre and L1-post as they stand in a record; a muted one has none
+abbrev pub pre_bytes : RecordView → List ℕ
+pre_bytes (Frame moment pre post blocks cells) = bytes_of pre
+pre_bytes (Muted moment) = []
+
+abbrev pub post_bytes : RecordView → List ℕ
+post_bytes (Frame moment pre post blocks cells) = bytes_of post
+post_bytes (Muted moment) = []
+
+-- Each frame of the small network has this L1-pre, with its CRC_32, and its frame 1, of 20 packets, this L1-post.
 abbrev pub CountedPre : Type 0
-CountedPre = bytes_of (l1_pre small_network) ≡ small_pre
+CountedPre = (inputs : ℕ → List (List ℕ)) (n : ℕ) → pre_bytes (frame_of small_network inputs n) ≡ small_pre
 
 abbrev pub CountedPost : Type 0
-CountedPost = bytes_of (post_bits small_network 1 (frame_shape small_network (λ plp. data_packets 20) 1)) ≡ small_post
+CountedPost = post_bytes (frame_of small_network (λ plp. data_packets 20) 1) ≡ small_post
 
 -- How many frames a run has: the small network without a packet, the narrow one with 110 packets.
 pub record CountedFrames : Type 0 where

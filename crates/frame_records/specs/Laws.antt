@@ -1,10 +1,12 @@
 -- Laws of frames, of records and of what is given back.
-use Rattle.std.specs.Prelude.{◌≡◌, ◌⊎◌, ◌<◌, ◌≤◌, ◌^◌, ◌*◌, ◌+◌, ◌%◌, ℕ, Bool, true, false, List, [], length, map, sum_by, slice_get, Some, option_map}
-use Rattle.std.specs.List.{AllByRecursion}
+use Rattle.std.specs.Prelude.{◌≡◌, ◌⊎◌, ◌↔◌, ◌<◌, ◌≤◌, ◌^◌, ◌*◌, ◌+◌, ◌-◌, ◌%◌, ℕ, Bool, true, false, List, [], length, map, sum_by, slice_get, Some, option_map}
+use Rattle.std.specs.List.{AllByRecursion, Contains}
 use Rattle.terms.specs.Bits.{bytes_for}
 use Rattle.ts_packet.specs.Null.{is_null, null_packet}
 use Rattle.plp_config.specs.Capacity.{IsPlan, block_bytes}
+use Rattle.plp_config.specs.Rules.{AllRules}
 use Rattle.plp_config.specs.RunLength.{frame_count}
+use Rattle.plp_config.specs.SlotTime.{slots_by, IsReleased}
 use Rattle.plp_config.specs.declared.config.Config.{Config}
 use Rattle.cell_map.specs.Address.{IsCell, address_of}
 use Rattle.cell_map.specs.CellMap.{ordinal_of}
@@ -60,3 +62,8 @@ AllWhole = (c : Config) (inputs : ℕ → List (List ℕ)) → records c inputs 
 abbrev pub NoneLost : Type 0
 NoneLost = (c : Config) (plp ticks : ℕ) (at : ℕ → List ℕ) (first count : ℕ) → ((k : ℕ) → is_null (at k) ≡ true → at k ≡ null_packet)
     → recover c plp ticks at (λ m. false) first count ≡ map at (due_slots c plp ticks first count)
+
+-- A slot is due exactly if it was not over before the first frame, and its packet is given out once the last one has ended.
+abbrev pub DueReleased : Type 0
+DueReleased = (c : Config) (plp first count last slot : ℕ) → AllRules c → plp < length c.plps → first + count ≡ last + 1
+    → Contains (due_slots c plp c.ticks first count) slot ↔ ((slots_by c plp ((first - 1) * c.ticks) ≤ slot) × IsReleased c plp last slot)

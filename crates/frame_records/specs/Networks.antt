@@ -1,4 +1,4 @@
--- Two networks whose numbers were counted apart.
+-- Three networks whose numbers were counted apart.
 use Rattle.std.specs.Prelude.{ℕ, true, false, List, [], ◌∷◌, replicate}
 use Rattle.plp_config.specs.declared.band.Band.TheVariants.{Mhz8}
 use Rattle.plp_config.specs.declared.config.Config.{Config}

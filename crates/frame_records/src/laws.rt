@@ -1,11 +1,11 @@
 // Laws of the definitions. Their functions do nothing.
-ghost use Rattle.frame_records.specs.Laws.{FrameLength, BlockStands, CellStands, FrameFits, RecordsOnGrid, RecordsFit, AllWhole, NoneLost};
+ghost use Rattle.frame_records.specs.Laws.{FrameLength, BlockStands, CellStands, FrameFits, RecordsOnGrid, RecordsFit, AllWhole, NoneLost, DueReleased};
 ghost use Rattle.frame_records.specs.Counted.{CountedLengths, CountedBlocks, CountedStart, CountedPre, CountedPost, CountedFrames, CountedRecords, CountedSlots, CountedLoss};
 
 use cell_map::{map_law, shape_law};
 use l1_signal::post_law;
 use mode_adapt::count_law;
-use plp_config::{block_law, emission_law, length_law};
+use plp_config::{block_law, emission_law, length_law, release_law};
 use scheduler::order_law;
 
 /// How many bytes the record of a frame has.
@@ -57,9 +57,12 @@ pub fn record_law()
     ensures counted { CountedRecords }
 {}
 
-/// What comes back if nothing is lost, and what does not.
+/// Which slots are due, what comes back if nothing is lost, and what does not.
 pub fn recover_law()
+    ensures due { DueReleased }
     ensures none { NoneLost }
     ensures slots { CountedSlots }
     ensures loss { CountedLoss }
-{}
+{
+    release_law();
+}

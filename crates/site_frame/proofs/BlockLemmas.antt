@@ -1,5 +1,5 @@
 -- Blocks that stand one behind another.
-use Rattle.std.proofs.Common.{◌≡◌, ℕ, zero, suc, ◌*◌, ◌-◌, ◌<◌, ◌≤◌, Bool, true, false, cond, ltb, List, ◌∷◌, length, drop, take, Option, Some, None, refl, sym, ap, subst, ◌∙◌, arith}
+use Rattle.std.proofs.Common.{◌≡◌, ℕ, zero, suc, ◌*◌, ◌-◌, ◌<◌, ◌≤◌, Bool, true, false, cond, ltb, List, ◌∷◌, length, drop, take, Option, Some, None, refl, sym, ap, ◌∙◌, arith}
 use Rattle.std.specs.Prelude.{slice_get, IsSome}
 use Rattle.std.proofs.lemmas.Bool.{ltb-false}
 use Rattle.std.proofs.lemmas.List.{drop-drop, take_all, length-drop}
@@ -34,17 +34,6 @@ first_whole n bytes rest e =
     let b = bind_some (skip_block bytes) (skip_blocks n) rest e in
     let w = one_whole bytes b.0 b.1 in
     (w.0, ap (skip_blocks n) w.1 ∙ b.2)
-
-pub first_there : (n : ℕ) (bytes : List ℕ) → 0 < n → IsSome (skip_blocks n bytes) → (block_len bytes ≤ length bytes) × IsSome (skip_blocks (n - 1) (drop (block_len bytes) bytes))
-first_there zero bytes h s = absurd (omega arith)
-first_there (suc n) bytes h s =
-    let x = is_some_from (skip_blocks (suc n) bytes) s in
-    let w = first_whole n bytes x.0 x.1 in
-    (w.0, subst (λ (k : ℕ). IsSome (skip_blocks k (drop (block_len bytes) bytes))) (omega arith) (some_is _ x.0 w.1))
-
-pub first_of : (n : ℕ) (bytes : List ℕ) → 0 < n → blocks_in n bytes ≡ block_at bytes ∷ blocks_in (n - 1) (drop (block_len bytes) bytes)
-first_of zero bytes h = absurd (omega arith)
-first_of (suc n) bytes h = ap (λ (k : ℕ). block_at bytes ∷ blocks_in k (drop (block_len bytes) bytes)) (omega arith)
 
 pub length-blocks_in : (n : ℕ) (bytes : List ℕ) → length (blocks_in n bytes) ≡ n
 length-blocks_in zero bytes = refl
@@ -94,10 +83,6 @@ same_some None x y p q = absurd cc
 pub skip_step : (n : ℕ) (bytes rest : List ℕ) → 0 < n → skip_block bytes ≡ Some rest → skip_blocks n bytes ≡ skip_blocks (n - 1) rest
 skip_step zero bytes rest h e = absurd (omega arith)
 skip_step (suc n) bytes rest h e = ap (λ (r : Option (List ℕ)). r >>= skip_blocks n) e ∙ ap (λ (k : ℕ). skip_blocks k rest) (omega arith)
-
-pub cells_first : (n : ℕ) (bytes : List ℕ) → 0 < n → cells_in n bytes ≡ cell_of (big_number 4 bytes) ∷ cells_in (n - 1) (drop 4 bytes)
-cells_first zero bytes h = absurd (omega arith)
-cells_first (suc n) bytes h = ap (λ (k : ℕ). cell_of (big_number 4 bytes) ∷ cells_in k (drop 4 bytes)) (omega arith)
 
 pub rest_all : (n : ℕ) (bytes : List ℕ) → take (length bytes - n) (drop n bytes) ≡ drop n bytes
 rest_all n bytes = take_all (length bytes - n) (drop n bytes) (simp length-drop (omega arith))

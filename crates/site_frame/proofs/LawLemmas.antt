@@ -134,7 +134,7 @@ one_refusal bytes OffGrid other r s = absurd r
 abbrev refusal : RecordWhy → Result (RecordView × ℕ) RecordWhy
 refusal why = Err why
 
--- where bytes are refused, an answer tells the refusal
+-- if bytes are refused, an answer tells the refusal
 pub refusal_told : (bytes : List ℕ) (r : Result (RecordView × ℕ) RecordWhy) (why : RecordWhy) → IfOk r (λ x. BeginsWith bytes x.0 x.1) → IfErr r (Refuses bytes) → Refuses bytes why → r ≡ Err why
 refusal_told bytes (Ok x) why ok err h =
     let whole : take x.1 bytes ++ drop x.1 bytes ≡ bytes = take-append-drop x.1 bytes in

@@ -1,4 +1,4 @@
-// FrameParts at the front of bytes.
+// What stands at the front of bytes, and the bytes behind it.
 ghost use Rattle.std.specs.Prelude.{◌≡◌, length, IfSome};
 ghost use Rattle.site_frame.specs.Reading.{Gives, cut, number};
 

@@ -6,6 +6,9 @@ pub const HEAD: usize = 24;
 /// The most bytes that may follow a head.
 pub const GREATEST_REST: usize = 33_554_432;
 
+// What each head begins with: "T2FR".
+pub(crate) const MAGIC: [u8; 4] = [0x54, 0x32, 0x46, 0x52];
+
 // The kinds of records.
 pub(crate) const FRAME: u8 = 1;
 

@@ -7,6 +7,9 @@ ghost use Rattle.site_frame.specs.Placing.{IsFrameOf, IsOffGrid, IsPlaced, Refus
 use crate::fault::RecordWhy;
 use plp_config::{Moment, Plan, emission_law};
 
+// The frames of a run have numbers below this.
+const MOST_FRAMES: u128 = 1 << 31;
+
 // The subseconds that have passed by a moment.
 fn passed(seconds: u64, subseconds: u32, second: u32) -> u128
     ensures { result ≡ seconds * second + subseconds }
@@ -35,7 +38,7 @@ fn frame_at(plan: &Plan, moment: &Moment) -> Option<u64>
         return None;
     }
     let count = past / frame;
-    if count >= 1 << 31 {
+    if count >= MOST_FRAMES {
         return None;
     }
     Some(count as u64)

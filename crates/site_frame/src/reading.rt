@@ -1,5 +1,6 @@
 // Reading a record.
 ghost use Rattle.std.specs.Prelude.{◌≡◌, ◌↔◌, ℕ, ◌+◌, ◌<◌, ◌≤◌, ◌^◌, length, IsTrue, IfOk, IfErr, IfSome, Ok, Err};
+ghost use Rattle.site_frame.specs.Record.{head_len};
 ghost use Rattle.site_frame.specs.Reading.{Gives};
 ghost use Rattle.site_frame.specs.Whole.{HasHead, HasKind, view_in, told_moment, IsRead, IsRefused, BeginsWith, Refuses};
 ghost use Rattle.site_frame.specs.declared.fault.RecordWhy.{RecordWhy};
@@ -8,7 +9,7 @@ ghost use Rattle.site_frame.specs.declared.reading.RecordView.{RecordView};
 use crate::blocks::Blocks;
 use crate::cells::Cells;
 use crate::fault::RecordWhy;
-use crate::head::{FRAME, GREATEST_REST, HEAD, MUTED};
+use crate::head::{FRAME, GREATEST_REST, HEAD, MAGIC, MUTED};
 use crate::parts::split_rest;
 use bit_slice::BitSlice;
 use byteorder::{BigEndian, ByteOrder};
@@ -41,18 +42,18 @@ fn has_head(bytes: &[u8]) -> bool
     ensures { IsTrue result ↔ HasHead bytes.now }
 {
     bytes.len() >= HEAD
-        && bytes[0] == 0x54
-        && bytes[1] == 0x32
-        && bytes[2] == 0x46
-        && bytes[3] == 0x52
+        && bytes[0] == MAGIC[0]
+        && bytes[1] == MAGIC[1]
+        && bytes[2] == MAGIC[2]
+        && bytes[3] == MAGIC[3]
         && bytes[5] == 0
         && bytes[6] == 0
         && bytes[7] == 0
 }
 
-// What stands behind the magic.
+// When the frame leaves, as a head tells it.
 fn moment_at(bytes: &[u8]) -> Moment
-    requires { 24 ≤ length bytes.now }
+    requires { head_len ≤ length bytes.now }
     ensures { result ≡ told_moment bytes.now }
 {
     Moment {

@@ -3,7 +3,7 @@ ghost use Rattle.std.specs.Prelude.{◌≡◌, ◌++◌, ◌∷◌, [], length, 
 ghost use Rattle.byteorder.specs.Endian.{big_bytes};
 ghost use Rattle.site_frame.specs.Record.{frame_kind, muted_kind, head_bytes, head_numbers};
 
-use crate::head::{FRAME, HEAD, MUTED};
+use crate::head::{FRAME, HEAD, MAGIC, MUTED};
 use byteorder::{BigEndian, ByteOrder};
 use plp_config::Moment;
 
@@ -19,7 +19,7 @@ fn write_numbers(moment: &Moment, rest: u32, out: &mut [u8])
 fn write_kind(kind: u8, moment: &Moment, rest: u32, out: &mut [u8; HEAD])
     ensures { out.new ≡ head_bytes kind moment.now rest }
 {
-    out[..8].copy_from_slice(&[0x54, 0x32, 0x46, 0x52, kind, 0, 0, 0]);
+    out[..8].copy_from_slice(&[MAGIC[0], MAGIC[1], MAGIC[2], MAGIC[3], kind, 0, 0, 0]);
     write_numbers(moment, rest, &mut out[8..]);
 }
 
