@@ -8,6 +8,7 @@ use Rattle.linked_pool.specs.Blocks.{front_chunks, uses, IsPool, Ends, AreEnds}
 use Rattle.linked_pool.proofs.WalkLemmas.{bool_cases, count-append, occurs-at, occurs-two}
 use Rattle.linked_pool.proofs.AppendLemmas.{blocks_kept}
 use Rattle.linked_pool.proofs.FillLemmas.{in_chain}
+use Rattle.linked_pool.proofs.OpenLemmas.{zero_at}
 
 -- without the first block
 pub ends_rest : (lens lasts : List ℕ) (n : ℕ) (chain : List ℕ) → 0 < n → Ends lens lasts n chain → Ends lens lasts (n - 1) (drop (front_chunks lens chain) chain)
@@ -169,14 +170,9 @@ ends_appended chains chunks chains' lens lasts counts i k n first last len p all
           rw (x, y) (kept j lt));
     })
 
-zero_count : (n i : ℕ) → get_or {A = ℕ} (replicate n 0) i 0 ≡ 0
-zero_count zero i = refl
-zero_count (suc n) zero = refl
-zero_count (suc n) (suc i) = zero_count n i
-
 -- an empty pool
 pub ends_blank : (chains : List (List ℕ)) (lens lasts counts : List ℕ) (n lists : ℕ) → lens ≡ replicate n 0 → lasts ≡ replicate n 0 → counts ≡ replicate lists 0 → AreEnds chains lens lasts counts
-ends_blank chains lens lasts counts n lists a b c = rw (a, b, c) (record { lasts_too = refl; each = λ i lt. rw (zero_count lists i) tt })
+ends_blank chains lens lasts counts n lists a b c = rw (a, b, c) (record { lasts_too = refl; each = λ i lt. rw (zero_at lists i) tt })
 
 -- the chain that grew
 pub moved_place : (chains chains' : List (List ℕ)) (i k : ℕ) → chains' ≡ moved chains 0 (i + 1) k → i + 1 < length chains → 0 < k → k ≤ length (get_or chains 0 [])

@@ -285,6 +285,14 @@ lends chains chunks i offset chunk left count r some is =
       bytes = rw parts (split_first chunks chunk (drop (offset + 1) chain) left count size is);
     }
 
+-- so many bytes are left as it says
+pub length-rest : (chains chunks : List (List ℕ)) (i offset chunk left : ℕ) → IsRest chains chunks i offset chunk left → left ≡ length (rest_bytes chains chunks i offset left)
+length-rest chains chunks i offset chunk left r =
+    let chain : List ℕ = get_or chains i [] in
+    let all : Whole chunks chain = record { at = λ c s. r.whole c (r.there c (let m = occurs-at c chains i r.inside in omega (arith, m, s))) } in
+    let size = length-joined chunks (drop offset chain) (whole_drop chunks offset chain all) in
+    sym (length-take-le left (joined chunks (drop offset chain)) (omega (arith, size, r.enough)))
+
 pub front_chunks_is : (chains chunks : List (List ℕ)) (lens counts : List ℕ) (i p offset chunk : ℕ) → IsPool chains chunks lens counts → i < length counts → p < get_or counts i 0 →
     offset ≡ uses lens p (get_or chains (i + 1) []) → chunk ≡ get_or (get_or chains (i + 1) []) offset 0 → front_chunks lens (drop (uses lens p (get_or chains (i + 1) [])) (get_or chains (i + 1) [])) ≡ chunks_for (get_or lens chunk 0)
 front_chunks_is chains chunks lens counts i p offset chunk pool h lt o c =

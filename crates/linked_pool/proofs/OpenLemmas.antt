@@ -68,7 +68,7 @@ opened_chains n lists =
     let e : lists + 1 ≡ suc lists = omega arith in
     rw (e, walk-rising n n 0 (omega arith), chains-zeros (rising n 1) lists) refl
 
-zero_at : (n i : ℕ) → get_or {A = ℕ} (replicate n 0) i 0 ≡ 0
+pub zero_at : (n i : ℕ) → get_or {A = ℕ} (replicate n 0) i 0 ≡ 0
 zero_at zero i = refl
 zero_at (suc n) zero = refl
 zero_at (suc n) (suc i) = zero_at n i

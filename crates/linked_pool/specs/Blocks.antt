@@ -1,8 +1,7 @@
 -- How the blocks of a pool lie in its chunks. No public clause cites this module.
 use Rattle.std.specs.Prelude.{◌≡◌, ℕ, zero, suc, ◌+◌, ◌-◌, ◌*◌, ◌^◌, ◌<◌, ◌≤◌, List, [], ◌∷◌, ◌++◌, length, take, drop, get_or, set}
-use Rattle.linked_pool.specs.declared.chunk.TheConstants.{CHUNK}
 use Rattle.linked_pool.specs.Chains.{occurs, count}
-use Rattle.linked_pool.specs.Pool.{State, chunks_for, chunks_of, list_at}
+use Rattle.linked_pool.specs.Pool.{State, chunk_len, chunks_for, chunks_of, list_at}
 
 -- the bytes of chunks
 abbrev pub joined : List (List ℕ) → List ℕ → List ℕ
@@ -45,7 +44,7 @@ pub record IsPool (chains : List (List ℕ)) (chunks : List (List ℕ)) (lens co
   pub within : (x : ℕ) → length chunks ≤ x → occurs x chains ≡ 0
   pub all : all_of chains ≡ length chunks
   pub used : (i : ℕ) → i < length counts → uses lens (get_or counts i 0) (get_or chains (i + 1) []) ≡ length (get_or chains (i + 1) [])
-  pub size : (c : ℕ) → c < length chunks → length (get_or chunks c []) ≡ CHUNK
+  pub size : (c : ℕ) → c < length chunks → length (get_or chunks c []) ≡ chunk_len
 
 -- what callers see
 abbrev pub view_of : List (List ℕ) → List (List ℕ) → List ℕ → List ℕ → State
@@ -65,13 +64,13 @@ without pool list n = record {
 
 -- the piece of a block that stands in its i-th chunk
 abbrev pub piece_of : List ℕ → ℕ → List ℕ
-piece_of block i = take CHUNK (drop (CHUNK * i) block)
+piece_of block i = take chunk_len (drop (chunk_len * i) block)
 
 -- So many chunks of a chain have the first bytes of a block, and no other chunk changed.
 pub record Fills (chain : List ℕ) (block : List ℕ) (n : ℕ) (old new : List (List ℕ)) : Type 0 where
-  pub bytes : take (length (take (CHUNK * n) block)) (joined new (take n chain)) ≡ take (CHUNK * n) block
+  pub bytes : take (length (take (chunk_len * n) block)) (joined new (take n chain)) ≡ take (chunk_len * n) block
   pub kept : (c : ℕ) → count c (take n chain) ≡ 0 → get_or new c [] ≡ get_or old c []
-  pub whole : (c : ℕ) → c < length new → length (get_or new c []) ≡ CHUNK
+  pub whole : (c : ℕ) → c < length new → length (get_or new c []) ≡ chunk_len
 
 -- the bytes of a block that stands at an offset of a chain
 abbrev pub ref_bytes : List (List ℕ) → List (List ℕ) → ℕ → ℕ → ℕ → List ℕ
@@ -82,7 +81,7 @@ pub record IsRef (chains chunks : List (List ℕ)) (i offset first len : ℕ) : 
   pub enough : chunks_for len ≤ length (drop offset (get_or chains i []))
   pub at : first ≡ get_or (get_or chains i []) offset 0
   pub there : (c : ℕ) → 0 < occurs c chains → c < length chunks
-  pub whole : (c : ℕ) → c < length chunks → length (get_or chunks c []) ≡ CHUNK
+  pub whole : (c : ℕ) → c < length chunks → length (get_or chunks c []) ≡ chunk_len
   pub few : length (get_or chains i []) < 2 ^ 32
 
 -- so many bytes of a chain, from an offset on
@@ -91,10 +90,10 @@ rest_bytes chains chunks i offset left = take left (joined chunks (drop offset (
 
 pub record IsRest (chains chunks : List (List ℕ)) (i offset chunk left : ℕ) : Type 0 where
   pub inside : i < length chains
-  pub enough : left ≤ CHUNK * length (drop offset (get_or chains i []))
+  pub enough : left ≤ chunk_len * length (drop offset (get_or chains i []))
   pub at : 0 < left → chunk ≡ get_or (get_or chains i []) offset 0
   pub there : (c : ℕ) → 0 < occurs c chains → c < length chunks
-  pub whole : (c : ℕ) → c < length chunks → length (get_or chunks c []) ≡ CHUNK
+  pub whole : (c : ℕ) → c < length chunks → length (get_or chunks c []) ≡ chunk_len
   pub few : length (get_or chains i []) < 2 ^ 32
 
 -- The last chunk of each block stands in lasts at its first one.

@@ -2,7 +2,6 @@
 use Rattle.std.specs.Prelude.{◌≡◌, ◌≢◌, ℕ, ◌+◌, ◌-◌, max, List, [], ◌∷◌, ◌++◌, length, take, drop, replicate, sum_by, slice_set, slice_index_or, refl}
 use Rattle.std.specs.Int.{div_ceil}
 use Rattle.std.specs.Coded.{Coded, code_by, coded×, coded_ℕ, coded_list}
-use Rattle.linked_pool.specs.declared.chunk.TheConstants.{CHUNK}
 
 -- the blocks of each list, the chunks that are free, and how many chunks the pool was opened with
 pub record State : Type 0 where
@@ -14,9 +13,13 @@ abbrev pub state_code : Coded State
 state_code = code_by (List (List (List ℕ)) × (ℕ × ℕ)) (coded× (coded_list (coded_list (coded_list coded_ℕ))) (coded× coded_ℕ coded_ℕ))
     (λ s. (s.lists, (s.spare, s.opened))) (λ p. record { lists = p.0; spare = p.1.0; opened = p.1.1 }) (λ _. refl)
 
+-- the bytes of a chunk
+abbrev pub chunk_len : ℕ
+chunk_len = 256
+
 -- the chunks that a block of so many bytes fills: one at least
 abbrev pub chunks_for : ℕ → ℕ
-chunks_for len = max 1 (div_ceil len CHUNK)
+chunks_for len = max 1 (div_ceil len chunk_len)
 
 -- the chunks of the blocks of a list, and of all lists
 abbrev pub chunks_of : List (List ℕ) → ℕ

@@ -1,6 +1,6 @@
 // The bytes of a block, lent piece by piece.
-ghost use Rattle.std.specs.Prelude.{[], ◌≡◌, ◌++◌, ◌<◌, ◌≤◌, IfNone, IfSome, length};
-ghost use Rattle.linked_pool.specs.declared.chunk.TheConstants.{CHUNK};
+ghost use Rattle.std.specs.Prelude.{[], ◌≡◌, ◌++◌, ◌<◌, ◌≤◌, IfNone, IfSome, length, min};
+ghost use Rattle.linked_pool.specs.Pool.{chunk_len};
 
 use crate::chains::Chains;
 use crate::chunk::{CHUNK, front_of};
@@ -33,7 +33,7 @@ impl<'a> Pieces<'a> {
     /// Lends the next bytes, a whole chunk or what is left; None if nothing is.
     pub fn next(&mut self) -> Option<&'a [u8]>
         ensures none { IfNone result ((self.old ≡ []) × (self.new ≡ [])) }
-        ensures some { IfSome result (λ piece. (self.old ≡ piece.now ++ self.new) × (0 < length piece.now) × (length piece.now ≤ CHUNK)) }
+        ensures some { IfSome result (λ piece. (self.old ≡ piece.now ++ self.new) × (0 < length piece.now) × (length piece.now ≡ min (length self.old) chunk_len)) }
     {
         let left = self.left;
         if left == 0 {
