@@ -1,9 +1,11 @@
 // What is said for people, on standard error: what was wrong, where, and what to do.
+use crate::config_place::{front_of, is_data, plp_line};
 use crate::shown::{Shown, Told};
 use config_text::{TextFault, TextWhy};
 use plp_config::{CapacityFault, ConfigFault};
 use ports::HostFault;
 use site_top::{ConfigCause, Outcome, Word};
+use std::fs::Files;
 use std::io::{self, Eprint};
 
 // No frame has this number.
@@ -38,27 +40,60 @@ fn say_usage(rt: &impl Eprint, words: &[Word]) -> io::Result<()> {
     }
 }
 
-fn say_cause(rt: &impl Eprint, file: Shown<'_>, cause: ConfigCause) -> io::Result<()> {
-    match cause {
-        ConfigCause::Text {
-            why: TextWhy::TooLong,
-            ..
-        } => eprintln!(rt; "{file}: {}; shorten it", TextWhy::TooLong),
-        ConfigCause::Text {
-            why: TextWhy::EndsEarly,
-            ..
-        } => eprintln!(rt;
-            "{file}: {}; add the lines that are missing",
-            TextWhy::EndsEarly
-        ),
-        ConfigCause::Text { line, why } => eprintln!(rt;
+// Says which PLP of a configuration is refused, and where its line is.
+fn say_plp(
+    rt: &(impl Eprint + Files + AllocGlobal),
+    name: &str,
+    plp: Option<u8>,
+) -> io::Result<()> {
+    let Some(place) = plp else {
+        return Ok(());
+    };
+    let text = front_of(rt, name)?;
+    match plp_line(&text, place) {
+        Some((line, id)) => eprintln!(rt; "{}: PLP {id} is on line {line}", Shown(name)),
+        None => Ok(()),
+    }
+}
+
+// Says why a text is none of a configuration, and first whether it is no text at all.
+fn say_text(
+    rt: &(impl Eprint + Files + AllocGlobal),
+    name: &str,
+    line: u32,
+    why: TextWhy,
+) -> io::Result<()> {
+    let file = Shown(name);
+    if front_of(rt, name).map_or(false, |front| is_data(&front)) {
+        return eprintln!(rt;
+            "{file}: this is a transport stream or other data, and no text; name the text of a configuration"
+        );
+    }
+    match why {
+        TextWhy::TooLong => eprintln!(rt; "{file}: {why}; shorten it"),
+        TextWhy::EndsEarly => eprintln!(rt; "{file}: {why}; add the lines that are missing"),
+        why => eprintln!(rt;
             "{file}: {}; mend that line",
             TextFault::Refused { line, why }
         ),
-        ConfigCause::Rule { rule, plp } => eprintln!(rt;
-            "{file}: {}; mend the configuration",
-            ConfigFault { rule, plp }
-        ),
+    }
+}
+
+fn say_cause(
+    rt: &(impl Eprint + Files + AllocGlobal),
+    name: &str,
+    cause: ConfigCause,
+) -> io::Result<()> {
+    match cause {
+        ConfigCause::Text { line, why } => say_text(rt, name, line, why),
+        ConfigCause::Rule { rule, plp } => {
+            eprintln!(rt;
+                "{}: {}; mend the configuration",
+                Shown(name),
+                ConfigFault { rule, plp }
+            )?;
+            say_plp(rt, name, plp)
+        }
     }
 }
 
@@ -72,33 +107,35 @@ fn say_fault(rt: &impl Eprint, fault: Option<&HostFault>) -> io::Result<()> {
 
 // Says it, as far as standard error takes it: nobody is left to tell of a failure there.
 fn say(
-    rt: &impl Eprint,
+    rt: &(impl Eprint + Files + AllocGlobal),
     words: &[Word],
     outcome: Outcome,
     fault: Option<&HostFault>,
 ) -> io::Result<()> {
-    let file = Shown(file_of(words, outcome));
+    let name = file_of(words, outcome);
+    let file = Shown(name);
     match outcome {
         Outcome::Done => Ok(()),
         Outcome::Usage => say_usage(rt, words),
         Outcome::WrongInputs { plps, inputs } => eprintln!(rt;
             "{file} wants one IN for each PLP, in its order: {plps}, and {inputs} were given"
         ),
-        Outcome::ConfigRefused { cause } => say_cause(rt, file, cause),
+        Outcome::ConfigRefused { cause } => say_cause(rt, name, cause),
         Outcome::CapacityRefused {
             test,
             plp,
             need,
             have,
-        } => eprintln!(rt;
-            "{file}: {}; mend the configuration",
-            CapacityFault {
+        } => {
+            let fault = CapacityFault {
                 test,
                 plp,
                 need,
-                have
-            }
-        ),
+                have,
+            };
+            eprintln!(rt; "{file}: {fault}; mend the configuration")?;
+            say_plp(rt, name, plp)
+        }
         Outcome::InputRefused { input, packet } => eprintln!(rt;
             "{}: packet {packet}, counted from 0, does not begin with the sync byte 0x47, or the file ends inside it; OUT holds the units of the frames before; mend the file",
             Shown(word_at(words, 3 + usize::from(input)))
@@ -132,6 +169,11 @@ fn file_of(words: &[Word], outcome: Outcome) -> &str {
 }
 
 /// Says for people why a run over words is not done, and what failed first, if something did.
-pub fn advise(rt: &impl Eprint, words: &[Word], outcome: Outcome, fault: Option<&HostFault>) {
+pub fn advise(
+    rt: &(impl Eprint + Files + AllocGlobal),
+    words: &[Word],
+    outcome: Outcome,
+    fault: Option<&HostFault>,
+) {
     let _ = say(rt, words, outcome, fault);
 }

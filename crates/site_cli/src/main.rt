@@ -2,6 +2,7 @@
 #![tactic(auto)]
 
 mod advice;
+mod config_place;
 mod shown;
 mod words;
 
