@@ -13,6 +13,7 @@ use Rattle.bb_frame.specs.declared.header.Header.{Header}
 use Rattle.bit_slice.specs.Prbs.{fifteen_before}
 use Rattle.mode_adapt.specs.Matype.{matype1, matype2}
 use Rattle.site_frame.specs.Record.{Block}
+use Rattle.mode_adapt.proofs.SameLemmas.{least_same}
 use Rattle.frame_records.specs.Frames.{sent_block, plp_blocks}
 use Rattle.frame_records.proofs.FrameLemmas.{length-header, length-added}
 use Rattle.bit_slice.specs.Crc.{crc32_of}
@@ -79,10 +80,6 @@ kept_count deletes n m le =
 arrived_is : (r : Rates) (deletes : Bool) (n m : ℕ) → slot_count r.num r.den (m * r.epoch) ≤ n
     → arrived r (keeps_of deletes (packet_at (data_packets n))) m ≡ r.up_len * slot_count r.num r.den (m * r.epoch)
 arrived_is r deletes n m le = ap (λ (k : ℕ). r.up_len * k) (kept_count deletes n (slot_count r.num r.den (m * r.epoch)) le)
-
-least_same : (f g : ℕ → ℕ) (n : ℕ) → ((i : ℕ) → i ≤ n → f i ≡ g i) → least_to f n ≡ least_to g n
-least_same f g zero same = same 0 (omega arith)
-least_same f g (suc n) same = ap₂ (λ (a b : ℕ). min a b) (least_same f g n (λ i le. same i (omega (arith, le)))) (same (suc n) (omega arith))
 
 -- the bytes sent by the end of a frame, if the packets are there
 abbrev pub sent_data : Rates → ℕ → ℕ

@@ -23,6 +23,7 @@ use Rattle.scheduler.specs.Shape.{FrameShape}
 use Rattle.l1_signal.specs.Laws.{PostLength}
 use Rattle.site_frame.specs.Whole.{block_size}
 use Rattle.site_frame.specs.Record.{head_len, pre_len}
+use Rattle.mode_adapt.proofs.SettingsLemmas.{length-frame}
 use Rattle.frame_records.specs.Frames.{places, plp_blocks, sent_block, sent_blocks, frame_cells, frame_shape}
 use Rattle.frame_records.specs.Laws.{FrameLength}
 
@@ -32,18 +33,6 @@ length-header h = simp (length-append, length-field) refl
 pub length-added : (i : ℕ) (bits : List Bool) → length (added i bits) ≡ length bits
 length-added i [] = refl
 length-added i (b ∷ bits) = ap suc (length-added (i + 1) bits)
-
--- a frame that its data field does not overfill
-length-frame : (h : Header) (body : List Bool) (size : ℕ) → 80 + length body ≤ size → length (frame_bits h body size) ≡ size
-length-frame h body size fits =
-    omega (
-      arith,
-      fits,
-      length-header h,
-      length-append (header_bits h ++ body) (replicate (size - 80 - length body) false),
-      length-append (header_bits h) body,
-      length-replicate (size - 80 - length body) false,
-    )
 
 -- blocks of a PLP have as many bits as it says
 pub length-block : FieldRange → (c : Config) (plp : ℕ) (at : ℕ → List ℕ) (n x y : ℕ) → y - x ≤ field_bytes c plp → length (block_bits c plp at n x y) ≡ 8 * block_bytes c plp

@@ -5,7 +5,8 @@ use Rattle.std.proofs.lemmas.List.{get_or-set_same, get_or-set_other, take-appen
 use Rattle.linked_pool.specs.Chains.{count, moved}
 use Rattle.linked_pool.specs.Pool.{State, chunks_for, list_at, appended}
 use Rattle.linked_pool.specs.Blocks.{joined, front_chunks, blocks_of, uses, lists_of, IsPool, view_of}
-use Rattle.linked_pool.proofs.WalkLemmas.{bool_cases, count-append, count_one, occurs-at, occurs-two, occurs-moved}
+use Rattle.terms.proofs.CaseLemmas.{bool_cases}
+use Rattle.linked_pool.proofs.WalkLemmas.{count-append, count_one, occurs-at, occurs-two, occurs-moved}
 use Rattle.linked_pool.proofs.BlockLemmas.{first_in, all-moved, lists-set, rest_at, list_inside, list_is}
 
 pub joined_kept : (chunks chunks' : List (List ℕ)) (chain : List ℕ) → ((c : ℕ) → 0 < count c chain → get_or chunks' c [] ≡ get_or chunks c []) → joined chunks' chain ≡ joined chunks chain

@@ -6,7 +6,8 @@ use Rattle.std.proofs.lemmas.List.Sums.{sum_by-cons}
 use Rattle.linked_pool.specs.Chains.{count, moved}
 use Rattle.linked_pool.specs.Pool.{State, popped, cleared, chunks_for, chunks_of, list_at, used_chunks, IsWhole}
 use Rattle.linked_pool.specs.Blocks.{joined, front_chunks, blocks_of, uses, lists_of, IsPool, view_of, without, all_of}
-use Rattle.linked_pool.proofs.WalkLemmas.{bool_cases, count-append, count_one, occurs-at, occurs-moved}
+use Rattle.terms.proofs.CaseLemmas.{bool_cases}
+use Rattle.linked_pool.proofs.WalkLemmas.{count-append, count_one, occurs-at, occurs-moved}
 
 pub all-set : (cs : List (List ℕ)) (i : ℕ) (c : List ℕ) → i < length cs → all_of (set cs i c) + length (get_or cs i []) ≡ all_of cs + length c
 all-set [] i c h = absurd (omega arith)

@@ -5,7 +5,8 @@ use Rattle.std.proofs.lemmas.List.{get_or-set_same, get_or-set_other, take-appen
 use Rattle.linked_pool.specs.Chains.{count, moved}
 use Rattle.linked_pool.specs.Pool.{chunks_for}
 use Rattle.linked_pool.specs.Blocks.{front_chunks, uses, IsPool, Ends, AreEnds}
-use Rattle.linked_pool.proofs.WalkLemmas.{bool_cases, count-append, occurs-at, occurs-two}
+use Rattle.terms.proofs.CaseLemmas.{bool_cases}
+use Rattle.linked_pool.proofs.WalkLemmas.{count-append, occurs-at, occurs-two}
 use Rattle.linked_pool.proofs.AppendLemmas.{blocks_kept}
 use Rattle.linked_pool.proofs.FillLemmas.{in_chain}
 use Rattle.linked_pool.proofs.OpenLemmas.{zero_at}

@@ -6,7 +6,8 @@ use Rattle.linked_pool.specs.Pool.{State, chunks_for, appended, list_at}
 use Rattle.linked_pool.specs.Blocks.{joined, Fills, piece_of, IsPool, view_of, IsRef, ref_bytes, IsRest, rest_bytes, blocks_of, front_chunks, uses, all_of}
 use Rattle.std.proofs.Common.{eqb, ltb}
 use Rattle.std.proofs.lemmas.Bool.{eqb-true, eqb-false, ltb-true, ltb-false}
-use Rattle.linked_pool.proofs.WalkLemmas.{bool_cases, count-append, count_one, occurs-at}
+use Rattle.terms.proofs.CaseLemmas.{bool_cases}
+use Rattle.linked_pool.proofs.WalkLemmas.{count-append, count_one, occurs-at}
 use Rattle.linked_pool.proofs.BlockLemmas.{Whole, length-joined, whole_take, whole_drop, list_inside, list_is, all-at}
 use Rattle.linked_pool.proofs.AppendLemmas.{joined_kept, append_law}
 

@@ -3,7 +3,8 @@ use Rattle.std.proofs.Common.{◌≡◌, ◌≢◌, ℕ, suc, ◌+◌, ◌-◌, 
 use Rattle.std.proofs.lemmas.Bool.{eqb-true, eqb-false}
 use Rattle.std.proofs.lemmas.List.{get_or-set_same, get_or-set_other, take_at, drop_at}
 use Rattle.linked_pool.specs.Chains.{walk, last_on, chains_of, count, occurs, total, IsSound, moved, Moves}
-use Rattle.linked_pool.proofs.WalkLemmas.{bool_cases, length-walk, walk_split, last_on_more, last_on_split, count-append, count_one, walk-set, walk-set_all, last_on-set, passed, get_or-chains_of, length-chains_of, chains-set, occurs-at, occurs-two, total-set, occurs-moved, count_prefix, count_suffix, chains_kept}
+use Rattle.terms.proofs.CaseLemmas.{bool_cases}
+use Rattle.linked_pool.proofs.WalkLemmas.{length-walk, walk_split, last_on_more, last_on_split, count-append, count_one, walk-set, walk-set_all, last_on-set, passed, get_or-chains_of, length-chains_of, chains-set, occurs-at, occurs-two, total-set, occurs-moved, count_prefix, count_suffix, chains_kept}
 
 -- the chain of a list
 pub chain_at : (next heads tails sizes : List ℕ) (i : ℕ) → IsSound next heads tails sizes → i < length sizes →

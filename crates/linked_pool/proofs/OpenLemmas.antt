@@ -4,7 +4,7 @@ use Rattle.std.proofs.lemmas.List.{get_or-replicate, length-replicate}
 use Rattle.std.proofs.lemmas.Bool.{eqb-true, ne_eqb}
 use Rattle.linked_pool.specs.Chains.{walk, last_on, chains_of, count, occurs, total, rising, opened, IsSound}
 use Rattle.linked_pool.specs.Blocks.{lists_of, all_of, IsPool, view_of}
-use Rattle.linked_pool.proofs.WalkLemmas.{bool_cases}
+use Rattle.terms.proofs.CaseLemmas.{bool_cases}
 
 pub rising_more : (n s : ℕ) → rising (n + 1) s ≡ rising n s ++ (s + n) ∷ []
 rising_more zero s = let d : s ≡ s + 0 = omega arith in ap (λ (x : ℕ). x ∷ []) d

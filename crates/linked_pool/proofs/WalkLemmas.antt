@@ -2,11 +2,8 @@
 use Rattle.std.proofs.Common.{◌≡◌, ◌≢◌, ℕ, zero, suc, ◌+◌, ◌-◌, ◌<◌, ◌≤◌, Bool, true, false, cond, eqb, List, [], ◌∷◌, ◌++◌, length, take, drop, get_or, set, refl, ap, sym, ◌∙◌, arith, length-set}
 use Rattle.std.proofs.lemmas.List.{get_or-set_other, take-append-drop}
 use Rattle.std.proofs.lemmas.Bool.{eqb-false, eq-eqb}
+use Rattle.terms.proofs.CaseLemmas.{bool_cases}
 use Rattle.linked_pool.specs.Chains.{walk, last_on, chains_of, count, occurs, total, moved}
-
-pub bool_cases : {P : Type 0} (b : Bool) → (b ≡ true → P) → (b ≡ false → P) → P
-bool_cases true yes_case no_case = yes_case refl
-bool_cases false yes_case no_case = no_case refl
 
 pub length-walk : (next : List ℕ) (n first : ℕ) → length (walk next n first) ≡ n
 length-walk next zero first = refl
