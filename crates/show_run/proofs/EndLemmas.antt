@@ -17,7 +17,7 @@ packet_has : PacketLength → (bytes : List ℕ) (p : Packet) → Spells p bytes
 packet_has sizes bytes p s = let size = (sizes p bytes s).0 in omega (arith, size)
 
 -- No packet begins what is left.
-abbrev Stuck : List ℕ → Type 0
+abbrev pub Stuck : List ℕ → Type 0
 Stuck rest = (rest ≡ []) ⊎ ((why : PacketWhy) × IsRefused rest why)
 
 stuck_begins : NoRefusal → PacketLength → (rest p : List ℕ) → Stuck rest → Begins rest p → ⊥
@@ -36,7 +36,7 @@ same_front law bytes p q b d =
     (law b.is.0 d.is.0 p q (drop (length p) bytes) (drop (length q) bytes) b.is.1 d.is.1 (split p b ∙ sym (split q d))).1
 
 -- One list of packets comes before what no packet begins.
-same_packets : OnePacket → NoRefusal → PacketLength → (file rest more : List ℕ) (ps qs : List (List ℕ)) → Packs file ps rest → Packs file qs more → Stuck rest → Stuck more → (ps ≡ qs) × (rest ≡ more)
+pub same_packets : OnePacket → NoRefusal → PacketLength → (file rest more : List ℕ) (ps qs : List (List ℕ)) → Packs file ps rest → Packs file qs more → Stuck rest → Stuck more → (ps ≡ qs) × (rest ≡ more)
 same_packets one none sizes file rest more [] [] h k s t = (refl, sym h ∙ k)
 same_packets one none sizes file rest more [] (q ∷ qs) h k s t = absurd (stuck_begins none sizes rest q s (subst (λ (bytes : List ℕ). Begins bytes q) h k.0))
 same_packets one none sizes file rest more (p ∷ ps) [] h k s t = absurd (stuck_begins none sizes more p t (subst (λ (bytes : List ℕ). Begins bytes p) k h.0))
@@ -44,6 +44,15 @@ same_packets one none sizes file rest more (p ∷ ps) (q ∷ qs) h k s t =
     let same = same_front one file p q h.0 k.0 in
     let others = same_packets one none sizes (drop (length p) file) rest more ps qs h.1 (subst (λ (r : List ℕ). Packs (drop (length r) file) qs more) (sym same) k.1) s t in
     (ap (λ (r : List ℕ). r ∷ ps) same ∙ ap (λ (rs : List (List ℕ)). q ∷ rs) others.0, others.1)
+
+-- With packets behind which none begins, a file begins with no others: with the first of these.
+pub packs_within : OnePacket → NoRefusal → PacketLength → (file rest more : List ℕ) (ps qs : List (List ℕ)) → Packs file ps rest → Packs file qs more → Stuck rest → (others : List (List ℕ)) × (ps ≡ qs ++ others)
+packs_within one none sizes file rest more ps [] h k s = (ps, refl)
+packs_within one none sizes file rest more [] (q ∷ qs) h k s = absurd (stuck_begins none sizes rest q s (subst (λ (bytes : List ℕ). Begins bytes q) h k.0))
+packs_within one none sizes file rest more (p ∷ ps) (q ∷ qs) h k s =
+    let same = same_front one file p q h.0 k.0 in
+    let others = packs_within one none sizes (drop (length p) file) rest more ps qs h.1 (subst (λ (r : List ℕ). Packs (drop (length r) file) qs more) (sym same) k.1) s in
+    (others.0, ap (λ (r : List ℕ). r ∷ ps) same ∙ ap (λ (rs : List (List ℕ)). q ∷ rs) others.1)
 
 pub ends_once : OnePacket → NoRefusal → PacketLength → OneRefusal → OneEnd
 ends_once one none sizes refusal file (Ok count) (Ok number) a b =

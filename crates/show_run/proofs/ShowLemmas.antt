@@ -9,7 +9,7 @@ use Rattle.ports.specs.Desk.{State, Held, bytes_of}
 use Rattle.desk_io.specs.Faults.{ReadsFail}
 use Rattle.desk_io.specs.Reading.{most_bytes}
 use Rattle.desk_io.specs.declared.input.TheConstants.{BUFFER}
-use Rattle.t2mi_packet.specs.Laws.{FrontRefusal}
+use Rattle.t2mi_packet.specs.Laws.{FrontRefusal, OnePacket, NoRefusal, PacketLength}
 use Rattle.t2mi_packet.specs.declared.reading.TheConstants.{LARGEST}
 use Rattle.t2mi_packet.specs.declared.fault.PacketWhy.{PacketWhy}
 use Rattle.file_run.specs.Events.{Event, fed, has_ended, gave}
@@ -21,7 +21,7 @@ use Rattle.file_run.specs.declared.machine.Step.TheVariants.{Read, Give, End}
 use Rattle.show_run.specs.Front.{most_of}
 use Rattle.show_run.specs.PacketFile.{Packs, bytes_in, IsRefused}
 use Rattle.show_run.specs.PacketLines.{next_from, next_of, Behind, Given, Shown, Comes, packets_end}
-use Rattle.show_run.specs.PacketText.{AreFirst, MeetsPackets, IsPacketText}
+use Rattle.show_run.specs.PacketText.{AreFirst, MeetsPackets, SaysMet, LeavesSome, IsPacketText}
 use Rattle.show_run.specs.SaidLines.{lines_of, count_line}
 use Rattle.show_run.specs.Shows.{Shows}
 use Rattle.show_run.specs.Told.{StopsLines}
@@ -30,7 +30,8 @@ use Rattle.show_run.specs.declared.packet_lines.Phase.{Phase}
 use Rattle.show_run.specs.declared.packet_lines.Phase.TheVariants.{Reads, Ends, Refused, Finished}
 use Rattle.show_run.specs.declared.stop.ShowStop.{ShowStop}
 use Rattle.show_run.specs.declared.stop.ShowStop.TheVariants.{PacketRefused, TooLong, ReadFault, WriteFault, OutOfMemory}
-use Rattle.show_run.proofs.PacketFileLemmas.{packs_first}
+use Rattle.show_run.proofs.EndLemmas.{packs_within, same_packets}
+use Rattle.show_run.proofs.PacketFileLemmas.{packs_first, lines_of-append}
 use Rattle.show_run.proofs.PacketLinesLemmas.{packs_on, all_seen, told_all}
 
 pub if_weaker : {A : Type 0} (o : Option A) (P Q : A → Type 0) → ((x : A) → P x → Q x) → IfSome o P → IfSome o Q
@@ -99,14 +100,6 @@ short_reads [] (Refused why) at count r = absurd r
 short_reads [] Finished at count r = absurd r
 short_reads (c ∷ line) phase at count r = absurd r
 
--- all packets that were seen of a file
-meets : (file : List ℕ) (m : PacketLines) (events : List Event) (place : ℕ) → m.phase ≡ Reads → (s : Shown m events) → StartsWith file (fed 0 events) (has_ended 0 events) → place ≤ length (fed 0 events) + LARGEST → MeetsPackets file place
-meets file m events place reads s starts near =
-    let seen = all_seen m events reads s in
-    let at = s.place in
-    let all = seen.2 in
-    (s.told ++ s.next, s.rest ++ starts.0, packs_file file (fed 0 events) starts.0 s.rest (s.told ++ s.next) starts.1 s.packs, omega (arith, near, at, all))
-
 pub starts_fed : (file : List ℕ) (place : ℕ) (front : List ℕ) (ended : Bool) → IsFed file place front ended → StartsWith file front ended
 starts_fed file place front ended f = (f.more, f.parts, f.end)
 
@@ -115,6 +108,19 @@ quiet : (m : PacketLines) (events : List Event) → m.line ≡ [] → m.phase �
 quiet m events none reads s =
     let g = subst (λ (p : Phase). Given p s.told s.next m.line (gave events)) reads s.given in
     told_all s.told s.next m.line (gave events) none g.0 g.1
+
+-- all packets that were seen of a file were told
+all_met : (file : List ℕ) (m : PacketLines) (events : List Event) (place : ℕ) → m.line ≡ [] → m.phase ≡ Reads → (s : Shown m events) → StartsWith file (fed 0 events) (has_ended 0 events) → place ≤ length (fed 0 events) + LARGEST
+    → SaysMet file place (gave events)
+all_met file m events place none reads s starts near =
+    let seen = all_seen m events reads s in
+    let at = s.place in
+    let all = seen.2 in
+    (s.told ++ s.next, s.rest ++ starts.0, packs_file file (fed 0 events) starts.0 s.rest (s.told ++ s.next) starts.1 s.packs, omega (arith, near, at, all), quiet m events none reads s)
+
+-- so these packets were met
+met : (file : List ℕ) (given : ℕ) (text : List ℕ) → SaysMet file given text → MeetsPackets file given
+met file given text s = (s.0, s.1, s.2, s.3)
 
 all_first : (file : List ℕ) (m : PacketLines) (events : List Event) → m.line ≡ [] → m.phase ≡ Reads → (s : Shown m events) → StartsWith file (fed 0 events) (has_ended 0 events) → AreFirst file (gave events)
 all_first file m events none reads s starts =
@@ -225,6 +231,55 @@ some_said start now old new name place unsaid x reads =
         (all_first (bytes_of held.files name) now x.events r.0 r.1 x.came.shown (starts_fed (bytes_of held.files name) place (fed 0 x.events) (has_ended 0 x.events) f))
     go held f first (inr going) = said_first start (bytes_of held.files name) x.early x.mid first x.met going
 
+-- lines were told of packets, or the file was gone through
+told_lines : (phase : Phase) (told next : List (List ℕ)) (line text : List ℕ) → Given phase told next line text → (text ≡ lines_of 0 told) ⊎ (phase ≡ Finished)
+told_lines Reads told next line text g = inl g.0
+told_lines Ends told next line text g = inl g.0
+told_lines (Refused why) told next line text g = inl g.0
+told_lines Finished told next line text g = inr refl
+
+-- lines that were not said are of packets behind
+left_behind : (told others : List (List ℕ)) (packets : List (List ℕ)) (unsaid : List ℕ) → packets ≡ told ++ others → lines_of 0 told ≡ lines_of 0 packets ++ unsaid → unsaid ≡ []
+left_behind told others packets unsaid are is =
+    let lines = ap length (ap (λ (l : List (List ℕ)). lines_of 0 l) are ∙ lines_of-append 0 told others) in
+    let sum = length-append (lines_of 0 told) (lines_of (0 + bytes_in told) others) in
+    let all = ap length is in
+    let parts = length-append (lines_of 0 packets) unsaid in
+    nil_from_length unsaid (omega (arith, lines, sum, all, parts))
+
+-- a file that was gone through has no rest that is refused
+none_refused : OnePacket → NoRefusal → PacketLength → (file : List ℕ) (place : ℕ) (m : PacketLines) (events : List Event) (packets : List (List ℕ)) (rest : List ℕ) (why : PacketWhy) → m.phase ≡ Finished → IsFed file place (fed 0 events) (has_ended 0 events)
+    → Shown m events → Packs file packets rest → ¬ (IsRefused rest why)
+none_refused one none sizes file place m events packets rest why done f s packs refused =
+    let behind = subst (λ (p : Phase). Behind p m.rest s.rest (has_ended 0 events)) done s.behind in
+    let all = packs_file file (fed 0 events) f.more s.rest (s.told ++ s.next) f.parts s.packs in
+    let nothing : s.rest ++ f.more ≡ [] = ap (λ (l : List ℕ). l ++ f.more) behind.0 ∙ f.end behind.1 in
+    refused.0 ((same_packets one none sizes file rest (s.rest ++ f.more) packets (s.told ++ s.next) packs all (inr (why, refused)) (inl nothing)).1 ∙ nothing)
+
+-- where something was not said, what stands behind the packets that were is not refused
+not_refused : OnePacket → NoRefusal → PacketLength → (file : List ℕ) (place : ℕ) (m : PacketLines) (events : List Event) (packets : List (List ℕ)) (rest unsaid : List ℕ) (why : PacketWhy) → IsFed file place (fed 0 events) (has_ended 0 events)
+    → Shown m events → Packs file packets rest → gave events ≡ lines_of 0 packets ++ unsaid → unsaid ≢ [] → ¬ (IsRefused rest why)
+not_refused one none sizes file place m events packets rest unsaid why f s packs parts some refused =
+    elim (told_lines m.phase s.told s.next m.line (gave events) s.given) [
+      | inl told ↦
+          let first = packs_first (fed 0 events) s.rest s.told s.next s.packs in
+          let within = packs_within one none sizes file rest (first.0 ++ f.more) packets s.told packs (packs_file file (fed 0 events) f.more first.0 s.told f.parts first.1) (inr (why, refused)) in
+          some (left_behind s.told within.0 packets unsaid within.1 (sym told ∙ parts))
+      | inr done ↦ none_refused one none sizes file place m events packets rest why done f s packs refused
+    ]
+
+-- what was said where something was left to say
+some_left : OnePacket → NoRefusal → PacketLength → (start now : PacketLines) (old new : State) (name : List ℕ) (place : ℕ) (unsaid : List ℕ) (x : Tells (Comes start) next_of old new name now place unsaid) → unsaid ≢ []
+    → IfSome old.held (λ held. LeavesSome (bytes_of held.files name) (gave x.early))
+some_left one none sizes start now old new name place unsaid x some =
+    if_both old.held _ _ _ (λ held f first. (
+      first.0,
+      first.1,
+      first.2,
+      (λ why. not_refused one none sizes (bytes_of held.files name) place now x.events first.0 first.1 unsaid why f x.came.shown first.2 (x.parts ∙ ap (λ (l : List ℕ). l ++ unsaid) first.3) some),
+      first.3,
+    )) x.inputs (some_said start now old new name place unsaid x (λ all. absurd (some all)))
+
 -- nothing was done
 pub shows_none : (old new : State) (name : List ℕ) → new ≡ old → shows old new name (Err OutOfMemory)
 shows_none old new name s = record {
@@ -236,9 +291,9 @@ shows_none old new name s = record {
   counts = ap (λ (x : State). x.counts) s;
 }
 
-pub shows_stop : (start now : PacketLines) (old new : State) (name : List ℕ) (why : ShowStop) → StopsLines (Comes start) next_of old new name now why → shows old new name (Err why)
-shows_stop start now old new name (PacketRefused at why) s = absurd s
-shows_stop start now old new name TooLong s =
+pub shows_stop : OnePacket → NoRefusal → PacketLength → (start now : PacketLines) (old new : State) (name : List ℕ) (why : ShowStop) → StopsLines (Comes start) next_of old new name now why → shows old new name (Err why)
+shows_stop one none sizes start now old new name (PacketRefused at why) s = absurd s
+shows_stop one none sizes start now old new name TooLong s =
     let t = s.1 in
     let x = t.tells in
     let r = reaches_reads now.line now.phase now.at _ t.wants in
@@ -247,22 +302,21 @@ shows_stop start now old new name TooLong s =
       text = gave x.early;
       reads = (x.opened, refl);
       grew = x.said;
-      lines = if_both old.held _ _ _ (λ held f first. (
+      lines = if_weaker old.held _ _ (λ held f. (
         (let w = f.within in w),
-        meets (bytes_of held.files name) now x.events most_bytes r.1 x.came.shown (starts_fed _ _ _ _ f)
-            (let at = (all_seen now x.events r.1 x.came.shown).2 in let n = far now.at most_bytes refl (let d = r.2 in omega (arith, d, at)) in omega (arith, n, at)),
-        first,
-      )) x.inputs (some_said start now old new name most_bytes [] x (λ none. (r.0, r.1)));
+        subst (λ (l : List ℕ). SaysMet (bytes_of held.files name) most_bytes l) (x.parts ∙ append-nil (gave x.early)) (all_met (bytes_of held.files name) now x.events most_bytes r.0 r.1 x.came.shown (starts_fed _ _ _ _ f)
+            (let at = (all_seen now x.events r.1 x.came.shown).2 in let n = far now.at most_bytes refl (let d = r.2 in omega (arith, d, at)) in omega (arith, n, at))),
+      )) x.inputs;
       counts = t.counts;
     }
-shows_stop start now old new name ReadFault s = elim s.1 [
-  | inl none ↦ record {
+shows_stop one none sizes start now old new name ReadFault s = elim s.1 [
+  | inl closed ↦ record {
     given = 0;
     text = [];
-    reads = inl (none.1, refl);
-    grew = none.1.said ∙ same_text old.said;
+    reads = inl (closed.1, refl);
+    grew = closed.1.said ∙ same_text old.said;
     lines = if_any old.held _ (λ held. (([], bytes_of held.files name, refl, omega arith), none_first (bytes_of held.files name)));
-    counts = fails_only old new none.0;
+    counts = fails_only old new closed.0;
   }
   | inr some ↦
       let t = some.1 in
@@ -274,20 +328,20 @@ shows_stop start now old new name ReadFault s = elim s.1 [
         reads = inr (x.opened, t.short);
         grew = x.said;
         lines = if_both old.held _ _ _ (λ held f first. (
-          meets (bytes_of held.files name) now x.events t.place r.1 x.came.shown (starts_fed _ _ _ _ f) (let d = r.2 in omega (arith, d)),
+          met _ _ _ (all_met (bytes_of held.files name) now x.events t.place r.0 r.1 x.came.shown (starts_fed _ _ _ _ f) (let d = r.2 in omega (arith, d))),
           first,
         )) x.inputs (some_said start now old new name t.place t.unsaid x (λ none. (r.0, r.1)));
         counts = some.0;
       }
 ]
-shows_stop start now old new name WriteFault s =
+shows_stop one none sizes start now old new name WriteFault s =
     let x = s.1.2 in
     record {
       given = s.1.0;
       text = gave x.early;
       reads = (x.opened, s.1.4);
       grew = x.said;
-      lines = some_said start now old new name s.1.0 s.1.1 x (λ none. absurd (s.1.3 none));
+      lines = some_left one none sizes start now old new name s.1.0 s.1.1 x s.1.3;
       counts = s.0;
     }
-shows_stop start now old new name OutOfMemory s = shows_none old new name s
+shows_stop one none sizes start now old new name OutOfMemory s = shows_none old new name s

@@ -17,7 +17,7 @@ ReadsFile old new name given (Err ReadFault) = (Unopened old new × (given ≡ 0
 ReadsFile old new name given (Err WriteFault) = Opened old new name given × (given ≤ most_bytes)
 ReadsFile old new name given (Err OutOfMemory) = new ≡ old
 
--- The first fault is the outcome: no other one raises a count. After one of reading, what waits is said still, which may fail too.
+-- A fault is told if it came. One of writing came alone; after one of reading what waits is said still, which may fail too.
 abbrev pub Counted : State → State → Result ℕ ShowStop → Type 0
 Counted old new (Err ReadFault) = ReadsFailFirst old new
 Counted old new (Err WriteFault) = WritesFail old new

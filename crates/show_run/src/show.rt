@@ -14,7 +14,7 @@ use desk_io::{Page, ReadAhead};
 use file_run::{Machine, RunFault, tell};
 use ports::Desk;
 use std::alloc::Global;
-use t2mi_packet::front_refusal;
+use t2mi_packet::{front_refusal, no_refusal, one_packet, packet_length};
 use t2mi_stream::{accepted_front, first_pid_law};
 
 // Tells the lines of a machine that is fed with a named file.
@@ -58,6 +58,9 @@ pub fn show_packets<D: Desk>(alloc: Global, name: &str, desk: &mut D) -> Result<
     ensures { Shows IsPacketText (D.state desk.old) (D.state desk.new) name.now result }
 {
     front_refusal();
+    one_packet();
+    no_refusal();
+    packet_length();
     let Ok(mut lines) = PacketLines::open(alloc) else {
         return Err(ShowStop::OutOfMemory);
     };
