@@ -1,4 +1,7 @@
 // The words of the command line.
+ghost use Rattle.std.specs.Prelude.{◌≡◌, []};
+ghost use Rattle.std.specs.Str.{IsUtf8};
+
 use bit_slice::OutOfMemory;
 use site_top::Word;
 use std::env::{Env, FillError};
@@ -8,7 +11,10 @@ use std::str;
 const SHORT: usize = 256;
 
 // A word that is not UTF-8 is the empty word, which is a word of no command.
-fn text_of(bytes: &[u8]) -> &str {
+fn text_of(bytes: &[u8]) -> &str
+    ensures text { IsUtf8 bytes.now → result.now ≡ bytes.now }
+    ensures other { ¬ (IsUtf8 bytes.now) → result.now ≡ [] }
+{
     str::from_utf8(bytes).unwrap_or("")
 }
 
