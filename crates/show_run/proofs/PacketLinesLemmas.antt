@@ -1,6 +1,6 @@
 -- The lines of packets, step by step.
-use Rattle.std.proofs.Common.{rules, ◌≡◌, ◌≢◌, ℕ, ◌+◌, ◌-◌, ◌<◌, ◌≤◌, Bool, true, false, cond, List, [], ◌∷◌, ◌++◌, length, take, drop, refl, ap, sym, subst, ◌∙◌, inl, inr, arith, append_assoc, append-nil, length-append, length-drop}
-use Rattle.std.specs.Prelude.{◌⊎◌, nat_lt, IsTrue}
+use Rattle.std.proofs.Common.{rules, ◌≡◌, ◌≢◌, ℕ, ◌+◌, ◌<◌, ◌≤◌, Bool, true, false, cond, List, [], ◌∷◌, ◌++◌, length, take, drop, refl, ap, sym, subst, ◌∙◌, inl, inr, arith, append-nil, length-append}
+use Rattle.std.specs.Prelude.{nat_lt, IsTrue}
 use Rattle.std.proofs.lemmas.List.{drop-append-le}
 use Rattle.std.proofs.Math.Seq.{take-length, drop-length}
 use Rattle.t2mi_packet.specs.declared.reading.TheConstants.{LARGEST}
@@ -10,7 +10,7 @@ use Rattle.file_run.specs.Laws.{EventsTell}
 use Rattle.desk_io.specs.Reading.{most_bytes}
 use Rattle.desk_io.specs.declared.input.TheConstants.{BUFFER}
 use Rattle.file_run.specs.Steps.{Suffices, FallsShort, HasRoom, CanBeRead}
-use Rattle.show_run.specs.PacketFile.{Begins, Packs, bytes_in, IsRefused}
+use Rattle.show_run.specs.PacketFile.{Begins, Packs, bytes_in}
 use Rattle.show_run.specs.SaidLines.{line_of, lines_of, count_line}
 use Rattle.show_run.specs.Front.{IsFront, RefusesFront, most_of}
 use Rattle.show_run.specs.PacketLines.{next_from, next_of, Behind, Given, Shown, IsNew, Comes}

@@ -1,5 +1,5 @@
 -- What was told of the lines of packets is what a file of packets asks for.
-use Rattle.std.proofs.Common.{◌≡◌, ◌≢◌, ℕ, ◌+◌, ◌-◌, ◌<◌, ◌≤◌, Bool, true, false, cond, List, [], ◌∷◌, ◌++◌, length, Option, Some, None, refl, ap, sym, subst, ◌∙◌, inl, inr, arith, append_assoc, append-nil, length-append}
+use Rattle.std.proofs.Common.{◌≡◌, ◌≢◌, ℕ, ◌+◌, ◌-◌, ◌<◌, ◌≤◌, Bool, true, false, cond, List, [], ◌∷◌, ◌++◌, length, Option, Some, None, refl, ap, sym, subst, ◌∙◌, inl, inr, arith, append-nil, length-append}
 use Rattle.std.specs.Fmt.{decimal}
 use Rattle.std.specs.Prelude.{codes, ◌⊎◌, nat_lt, IfSome, Result, Ok, Err, option_map}
 use Rattle.std.proofs.lemmas.List.{nil_from_length}
@@ -15,8 +15,7 @@ use Rattle.t2mi_packet.specs.declared.fault.PacketWhy.{PacketWhy}
 use Rattle.file_run.specs.Events.{Event, fed, has_ended, gave}
 use Rattle.file_run.specs.FileRun.{IsFed}
 use Rattle.file_run.specs.Steps.{FallsShort}
-use Rattle.file_run.specs.Telling.{StartsWith, Reaches, Tells, TellsAll, TellsTooMuch, TellsUntilFault, ReadsFailFirst, StopsTelling}
-use Rattle.file_run.specs.declared.machine.Step.{Step}
+use Rattle.file_run.specs.Telling.{StartsWith, Reaches, Tells, TellsAll, ReadsFailFirst}
 use Rattle.file_run.specs.declared.machine.Step.TheVariants.{Read, Give, End}
 use Rattle.show_run.specs.Front.{most_of}
 use Rattle.show_run.specs.PacketFile.{Packs, bytes_in, IsRefused}

@@ -1,12 +1,12 @@
 -- The lines of packets in units, step by step.
-use Rattle.std.proofs.Common.{◌≡◌, ◌≢◌, ℕ, ◌+◌, ◌-◌, ◌*◌, ◌^◌, ◌<◌, ◌≤◌, Bool, true, false, cond, List, [], ◌∷◌, ◌++◌, length, take, drop, map, min, Option, Some, None, refl, ap, ap₂, sym, subst, ◌∙◌, inl, inr, arith, append_assoc, append-nil, length-append, length-drop}
-use Rattle.std.specs.Prelude.{◌⊎◌, nat_lt, IsTrue, option_map, slice_get, codes}
-use Rattle.std.proofs.lemmas.List.{take_all, take-append-drop, take-append-le, length-take-le, length-map, map-append, take_more, drop-drop, nil_from_length}
+use Rattle.std.proofs.Common.{◌≡◌, ◌≢◌, ℕ, ◌+◌, ◌-◌, ◌^◌, ◌<◌, ◌≤◌, Bool, true, false, cond, List, [], ◌∷◌, ◌++◌, length, take, drop, map, min, Option, Some, None, refl, ap, ap₂, sym, subst, ◌∙◌, inl, inr, arith, append_assoc, append-nil, length-append, length-drop}
+use Rattle.std.specs.Prelude.{◌⊎◌, nat_lt, option_map, slice_get, codes}
+use Rattle.std.proofs.lemmas.List.{take_all, take-append-drop, take-append-le, length-map, map-append, take_more, drop-drop, nil_from_length}
 use Rattle.std.proofs.lemmas.List.Concat.{flat_map-append}
 use Rattle.std.proofs.lemmas.Option.{slice_get-map, slice_get_within, get_or_from_slice_get}
 use Rattle.std.proofs.lemmas.Bool.{ltb-false}
 use Rattle.std.proofs.Math.ListN.{drop_of_length-le}
-use Rattle.std.proofs.Math.Seq.{take-length, drop-length, take-append_seam}
+use Rattle.std.proofs.Math.Seq.{take-length, take-append_seam}
 use Rattle.desk_io.specs.Reading.{most_bytes}
 use Rattle.desk_io.specs.declared.input.TheConstants.{BUFFER}
 use Rattle.ts_packet.specs.declared.sizes.TheConstants.{SIZE}
@@ -23,10 +23,10 @@ use Rattle.t2mi_stream.specs.UnpiperStandsFor.{UnpiperStandsFor, is_ready, next_
 use Rattle.t2mi_stream.specs.declared.unpiper.Unpiper.{Unpiper}
 use Rattle.file_run.specs.Events.{Event, Fed, Ended, Gave, fed, has_ended, gave}
 use Rattle.file_run.specs.Laws.{EventsTell}
-use Rattle.file_run.specs.Steps.{Suffices, FallsShort, HasRoom, CanBeRead}
+use Rattle.file_run.specs.Steps.{Suffices, FallsShort}
 use Rattle.file_run.specs.declared.machine.Step.TheVariants.{Read, Give}
 use Rattle.show_run.specs.SaidLines.{view_line, count_line}
-use Rattle.show_run.specs.T2miLines.{step_of, next_in, next_of, packets_from, Unpiped, Seeking, Unpiping, Ending, Found, Shown, IsNew, Comes}
+use Rattle.show_run.specs.T2miLines.{next_in, next_of, packets_from, Unpiped, Unpiping, Found, IsNew, Comes}
 use Rattle.show_run.specs.T2miText.{place_line, place_lines}
 use Rattle.show_run.specs.declared.t2mi_lines.T2miLines.{T2miLines}
 use Rattle.show_run.specs.declared.t2mi_lines.Search.{Search}

@@ -1,6 +1,6 @@
 -- What was told of the lines of packets in units is what a file of units asks for.
-use Rattle.std.proofs.Common.{◌≡◌, ◌≢◌, ℕ, ◌-◌, ◌<◌, ◌≤◌, Bool, true, false, cond, List, [], ◌∷◌, ◌++◌, length, take, drop, map, Some, None, refl, ap, sym, subst, ◌∙◌, inl, inr, arith, append_assoc, append-nil}
-use Rattle.std.specs.Prelude.{◌⊎◌, nat_lt, IfSome, Result, Ok, Err, option_map}
+use Rattle.std.proofs.Common.{◌≡◌, ◌≢◌, ℕ, ◌-◌, Bool, true, false, cond, List, [], ◌∷◌, ◌++◌, length, take, drop, map, refl, ap, sym, subst, ◌∙◌, inl, inr, arith, append_assoc, append-nil}
+use Rattle.std.specs.Prelude.{◌⊎◌, nat_lt, IfSome, Result, Ok, Err}
 use Rattle.std.proofs.lemmas.List.{take-append-drop, map-append}
 use Rattle.ports.specs.Desk.{State, Held, bytes_of}
 use Rattle.desk_io.specs.Reading.{most_bytes}
@@ -19,7 +19,7 @@ use Rattle.file_run.specs.Telling.{StartsWith, Reaches, Tells, TellsAll}
 use Rattle.file_run.specs.declared.machine.Step.TheVariants.{Read, Give, End}
 use Rattle.show_run.specs.SaidLines.{count_line}
 use Rattle.show_run.specs.Shows.{Shows}
-use Rattle.show_run.specs.T2miLines.{next_in, next_of, packets_from, Seeking, Unpiping, Ending, Found, Shown, Comes}
+use Rattle.show_run.specs.T2miLines.{next_in, next_of, packets_from, Unpiping, Found, Shown, Comes}
 use Rattle.show_run.specs.T2miText.{place_lines, AreFirstLines, IsT2miText}
 use Rattle.show_run.specs.Told.{StopsLines}
 use Rattle.show_run.specs.declared.stop.ShowStop.{ShowStop}

@@ -1,7 +1,6 @@
 -- How the lines of a machine are told of a file. No public clause cites this module.
-use Rattle.std.specs.Prelude.{◌≡◌, ◌⊎◌, ℕ, List}
+use Rattle.std.specs.Prelude.{◌≡◌, ℕ, List}
 use Rattle.ports.specs.Desk.{State}
-use Rattle.desk_io.specs.Faults.{ReadsFail, WritesFail}
 use Rattle.file_run.specs.Events.{Event}
 use Rattle.file_run.specs.Telling.{StopsTelling}
 use Rattle.file_run.specs.declared.machine.Step.{Step}

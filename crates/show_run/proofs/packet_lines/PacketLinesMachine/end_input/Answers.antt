@@ -1,6 +1,4 @@
-use Rattle.std.proofs.Common.{length, refl, sym, subst, ap, arith}
-use Rattle.file_run.specs.Events.{Event, Ended}
-use Rattle.show_run.specs.PacketLines.{Comes}
+use Rattle.std.proofs.Common.{length, refl, ap, arith}
 use Rattle.show_run.proofs.PacketLinesLemmas.{fed_last, falls_idle, end_fits}
 use Rattle.show_run.proofs.packet_lines.PacketLinesMachine.end_input.Goals as goal
 

@@ -1,5 +1,4 @@
-use Rattle.std.proofs.Common.{refl, sym, ap, arith}
-use Rattle.show_run.specs.declared.packet_lines.Phase.TheVariants.{Reads, Ends}
+use Rattle.std.proofs.Common.{refl}
 use Rattle.show_run.proofs.PacketLinesLemmas.{fed_packet, fed_refused, idle, not_ends, feed_fits}
 use Rattle.show_run.proofs.packet_lines.PacketLinesMachine.feed.Goals as goal
 

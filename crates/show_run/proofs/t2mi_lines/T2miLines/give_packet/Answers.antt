@@ -1,4 +1,4 @@
-use Rattle.std.proofs.Common.{rules, length, refl, sym, ap, ◌∙◌, arith, take, drop, []}
+use Rattle.std.proofs.Common.{refl, ap, ◌∙◌}
 use Rattle.std.specs.Prelude.{codes}
 use Rattle.show_run.specs.SaidLines.{view_line}
 use Rattle.show_run.proofs.T2miLinesLemmas.{gave_packet}

@@ -1,4 +1,4 @@
-use Rattle.std.proofs.Common.{rules, length, refl, sym, ap, ◌∙◌, arith, take, drop, [], ◌++◌, ◌∷◌, subst, List, ℕ}
+use Rattle.std.proofs.Common.{rules, refl, take, [], ◌++◌, ◌∷◌, subst, List, ℕ}
 use Rattle.t2mi_stream.specs.Events.UnpiperEvent.{Fed}
 use Rattle.t2mi_stream.specs.UnpiperStandsFor.{UnpiperStandsFor}
 use Rattle.show_run.proofs.T2miLinesLemmas.{went_on, held_all}

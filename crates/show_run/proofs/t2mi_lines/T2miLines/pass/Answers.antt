@@ -1,4 +1,4 @@
-use Rattle.std.proofs.Common.{rules, length, refl, sym, ap, ◌∙◌, arith, take, drop, []}
+use Rattle.std.proofs.Common.{rules, refl}
 use Rattle.show_run.proofs.T2miLinesLemmas.{passed}
 use Rattle.show_run.proofs.t2mi_lines.T2miLines.pass.Goals as goal
 

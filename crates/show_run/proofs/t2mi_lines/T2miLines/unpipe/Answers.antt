@@ -1,4 +1,4 @@
-use Rattle.std.proofs.Common.{rules, length, refl, sym, ap, ◌∙◌, arith, take, drop, []}
+use Rattle.std.proofs.Common.{rules, refl, arith, take}
 use Rattle.std.proofs.lemmas.List.{length-take-le}
 use Rattle.show_run.proofs.T2miLinesLemmas.{unpiped, held_none}
 use Rattle.show_run.proofs.t2mi_lines.T2miLines.unpipe.Goals as goal

@@ -1,4 +1,3 @@
-use Rattle.std.proofs.Common.{rules, length, refl, sym, ap, ◌∙◌, arith, take, drop, []}
 use Rattle.show_run.proofs.T2miLinesLemmas.{wanted, at_input}
 use Rattle.show_run.proofs.t2mi_lines.T2miLinesMachine.feed.Goals as goal
 
