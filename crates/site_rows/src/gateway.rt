@@ -142,7 +142,7 @@ fn the_stream_of_an_empty_input_byte_for_byte(rt: HostRuntime) -> Result<(), Fai
     let said = desk.said().len();
     let words = words_of(alloc, &["show", "t2mi", "o"])?;
     assert_eq!(rt; run(alloc, words.as_slice(), &mut desk), Outcome::Done);
-    assert_eq!(rt; &desk.said()[said..], EMPTY_LINES.as_bytes());
+    assert_eq!(rt; desk.said().get(said..), Some(EMPTY_LINES.as_bytes()));
     Ok(())
 }
 
