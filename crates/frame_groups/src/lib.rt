@@ -1,0 +1,12 @@
+//! T2-MI packets in groups, one for each T2 frame, and the records of the frames (ETSI TS 102 773, clause 5).
+#![tactic(auto)]
+
+mod cause;
+mod key;
+mod laws;
+mod number;
+
+pub use cause::MuteCause;
+pub use key::{Key, goes_on, is_counted, key_behind};
+pub use laws::{front_law, groups_law, next_law, numbers_law};
+pub use number::next_number;
