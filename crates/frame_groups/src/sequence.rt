@@ -16,6 +16,7 @@ use t2mi_packet::Packet;
 
 // The number of a group as the join.
 fn join_number<G: OpenGroup>(group: &G) -> Option<u64>
+    requires { G.is_intact group.now ≡ true }
     ensures value { (h : Group) → G.holds group.now (Some h) → result ≡ join_number (G.rules group.now) h }
     ensures passes { (h : Group) → G.holds group.now (Some h) → (n : ℕ) → result ≡ Some n → (G.rules group.now).fault h n ≡ None }
     ensures small { (n : ℕ) → result ≡ Some n → n < 2 ^ 31 }
@@ -39,6 +40,7 @@ fn join_number<G: OpenGroup>(group: &G) -> Option<u64>
 fn close_group<G: OpenGroup>(group: &G, progress: Progress) -> Progress
     requires open { progress.closing ≡ false }
     requires some { is_some (G.key_now group.now) ≡ true }
+    requires intact { G.is_intact group.now ≡ true }
     ensures follows { (ps : List Packet) (given : List FrameRecord) → Keeps (G.holds group.now) (G.rules group.now) progress ps given
         → Keeps (G.holds group.now) (G.rules group.now) result ps given }
     ensures closing { result.closing ≡ true }
@@ -90,6 +92,7 @@ pub struct Sequence<G: OpenGroup + Drop> {
     pub group: G,
     pub progress: Progress,
     ghost near: { IsWithin (2 ^ 32 + greatest_step) progress },
+    ghost intact: { progress.closing ≡ false → G.is_intact group ≡ true },
 }
 
 impl<G: OpenGroup + Drop> Sequence<G> {
@@ -101,9 +104,10 @@ impl<G: OpenGroup + Drop> Sequence<G> {
     ghost use Rattle.frame_groups.specs.Sequenced.{Keeps, record_now, Ends};
     ghost use Rattle.frame_groups.specs.Waits.{waits, IsWithin, greatest_step};
 
-    /// No packet came.
+    /// No packet came. The group is none.
     pub fn new(group: G) -> Sequence<G>
-        requires { G.holds group None }
+        requires none { G.holds group None }
+        requires intact { G.is_intact group ≡ true }
         ensures stands { Keeps (G.holds result.group) (G.rules result.group) result.progress [] [] }
         ensures next { result.progress.next ≡ 0 }
         ensures none { result.progress.number ≡ None }

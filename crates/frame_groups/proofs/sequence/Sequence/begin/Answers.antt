@@ -19,4 +19,4 @@ returns-clause-follows g c = λ ps given other k.
     }
 
 pub invariant_of-self : goal.invariant_of-self
-invariant_of-self g c = record { near = c.number_behind-number.ensures.near (2 ^ 32) c.requires.near }
+invariant_of-self g c = record { near = c.number_behind-number.ensures.near (2 ^ 32) c.requires.near; intact = λ _. c.begin.ensures.intact }
