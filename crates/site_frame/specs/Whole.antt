@@ -117,6 +117,18 @@ Refuses bytes Length = HasHead bytes × HasKind bytes × (¬ (HasLength bytes))
 Refuses bytes Order = ⊥
 Refuses bytes OffGrid = ⊥
 
+-- ---- what the head alone tells
+
+-- So many bytes follow the head: each record that begins with it has them, and if fewer follow, no record begins with it.
+pub record Follow (head : List ℕ) (rest : ℕ) : Type 0 where
+  pub small : rest ≤ greatest_rest
+  pub exact : (more : List ℕ) (view : RecordView) (len : ℕ) → BeginsWith (head ++ more) view len → len ≡ head_len + rest
+  pub fewer : (more : List ℕ) → length more < rest → Refuses (head ++ more) Length
+
+-- No record begins with the head, whatever follows it.
+abbrev pub RefusesHead : List ℕ → RecordWhy → Type 0
+RefusesHead head why = (more : List ℕ) → Refuses (head ++ more) why
+
 -- ---- what the reader takes
 
 abbrev pub framed : Moment → FrameParts → Option RecordView
@@ -146,3 +158,21 @@ IsRefused bytes Kind = HasHead bytes × (¬ (HasKind bytes))
 IsRefused bytes Length = HasHead bytes × HasKind bytes × IsBad bytes
 IsRefused bytes Order = ⊥
 IsRefused bytes OffGrid = ⊥
+
+-- the head at the front is right, as far as it alone tells
+pub record IsRight (bytes : List ℕ) (rest : ℕ) : Type 0 where
+  pub head : HasHead bytes
+  pub kind : HasKind bytes
+  pub told : rest ≡ told_len bytes
+  pub small : rest ≤ greatest_rest
+
+-- The length that it tells is too great, or a muted record has a rest.
+abbrev pub HasBadLength : List ℕ → Type 0
+HasBadLength bytes = (greatest_rest < told_len bytes) ⊎ ((slice_index bytes 4 ≡ muted_kind) × (0 < told_len bytes))
+
+abbrev pub IsWrong : List ℕ → RecordWhy → Type 0
+IsWrong bytes Head = ¬ (HasHead bytes)
+IsWrong bytes Kind = HasHead bytes × (¬ (HasKind bytes))
+IsWrong bytes Length = HasHead bytes × HasKind bytes × HasBadLength bytes
+IsWrong bytes Order = ⊥
+IsWrong bytes OffGrid = ⊥
