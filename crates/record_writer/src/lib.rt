@@ -2,6 +2,7 @@
 #![tactic(auto)]
 
 mod piece;
+mod signalling;
 mod step;
 mod words;
 mod writer;
