@@ -11,3 +11,4 @@ pub mod PassLemmas
 pub mod RunLemmas
 pub mod ReadingLemmas
 pub mod PlainLemmas
+pub mod NumberLemmas

@@ -15,10 +15,10 @@ use Rattle.scheduler.specs.Shape.{in_type2}
 use Rattle.cell_map.specs.Slices.{slice_count}
 
 -- the cells of a block are cut by five
-abbrev Five : ℕ → Type 0
+abbrev pub Five : ℕ → Type 0
 Five cells = (cells % 5 ≡ 0) × (2025 ≤ cells) × (cells ≤ 32400)
 
-five : (fec : FecSize) (modulation : Modulation) → Five (cells_per_block fec modulation)
+pub five : (fec : FecSize) (modulation : Modulation) → Five (cells_per_block fec modulation)
 five Normal Qpsk = (refl, lit≤ tt, lit≤ tt)
 five Normal Qam16 = (refl, lit≤ tt, lit≤ tt)
 five Normal Qam64 = (refl, lit≤ tt, lit≤ tt)

@@ -1,5 +1,5 @@
 -- Laws of the cell map.
-use Rattle.std.specs.Prelude.{◌≡◌, ℕ, ◌*◌, ◌%◌, ◌<◌, ◌↔◌, List, Some, None}
+use Rattle.std.specs.Prelude.{◌≡◌, ℕ, ◌*◌, ◌%◌, ◌^◌, ◌<◌, ◌↔◌, List, Some, None}
 use Rattle.std.specs.FinMap.{get}
 use Rattle.plp_config.specs.Capacity.{IsPlan}
 use Rattle.plp_config.specs.declared.config.Config.{Config}
@@ -45,3 +45,8 @@ MapHasOnlyCells = (c : Config) (shape : FrameShape) (address : ℕ) (found : Cel
 abbrev pub DummyHasNoCell : Type 0
 DummyHasNoCell = (c : Config) (shape : FrameShape) (address : ℕ) → Passes c shape
     → (get (cell_map c shape) address ≡ None) ↔ ((plp block cell : ℕ) → IsCell c shape plp block cell → ¬ (address_of c shape plp block cell ≡ address))
+
+-- the numbers of each cell are small, so that a word of 32 bits holds both: a frame has 2,071 blocks at most, of 32,400 cells at most
+abbrev pub CellsFit : Type 0
+CellsFit = (c : Config) (shape : FrameShape) (address : ℕ) (found : Cell) → IsPlan c → Passes c shape → get (cell_map c shape) address ≡ Some found
+    → (found.ordinal < 2 ^ 12) × (found.cell < 2 ^ 15)

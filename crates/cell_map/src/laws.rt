@@ -1,5 +1,5 @@
 // Laws of the cell map. Their functions do nothing.
-ghost use Rattle.cell_map.specs.Laws.{InterleaverFillsOnce, ShapePasses, MapHasEachCell, MapHasOnlyCells, DummyHasNoCell};
+ghost use Rattle.cell_map.specs.Laws.{InterleaverFillsOnce, ShapePasses, MapHasEachCell, MapHasOnlyCells, DummyHasNoCell, CellsFit};
 
 use scheduler::order_law;
 
@@ -15,9 +15,10 @@ pub fn shape_law()
     order_law();
 }
 
-/// The map has each cell at its address, and nothing else.
+/// The map has each cell at its address, and nothing else, and the numbers of its cells are small.
 pub fn map_law()
     ensures each { MapHasEachCell }
     ensures only { MapHasOnlyCells }
     ensures dummy { DummyHasNoCell }
+    ensures small { CellsFit }
 {}

@@ -1,5 +1,5 @@
 // The cells of a frame in the order of their addresses.
-ghost use Rattle.std.specs.Prelude.{◌≡◌, ◌+◌, ◌<◌, length};
+ghost use Rattle.std.specs.Prelude.{◌≡◌, ◌+◌, ◌<◌, ◌≤◌, length};
 ghost use Rattle.std.specs.FinMap.{get};
 ghost use Rattle.cell_map.specs.Address.{IsCell, address_of};
 ghost use Rattle.cell_map.specs.CellMap.{Passes, cell_map};
@@ -51,6 +51,16 @@ impl<'a> Cells<'a> {
         requires passes { Passes plan.now shape.now }
         ensures { result ≡ reading_at plan.now shape.now 0 }
     {
+        Cells::resume(plan, shape, 0)
+    }
+
+    /// The cells of a frame from an address on.
+    pub fn resume(plan: &'a Plan, shape: &'a Shape, address: u32) -> Cells<'a>
+        requires plps { length shape.now.counts ≡ length plan.now.plps }
+        requires passes { Passes plan.now shape.now }
+        requires inside { address ≤ plan.now.cells }
+        ensures { result ≡ reading_at plan.now shape.now address }
+    {
         let _config = plan.config();
         let run = Run {
             left: 0,
@@ -65,7 +75,7 @@ impl<'a> Cells<'a> {
         Cells {
             plan,
             shape,
-            address: 0,
+            address,
             run,
             mark: FIRST_PLP,
             dummy: 0,

@@ -3,7 +3,6 @@ use Rattle.std.specs.Prelude.{◌≡◌, ℕ, ◌+◌, ◌*◌, ◌<◌, false, 
 use Rattle.std.specs.List.{filter}
 use Rattle.t2mi_packet.specs.declared.packet.Packet.{Packet}
 use Rattle.frame_groups.specs.Groups.{is_same, is_counted, Group, groups}
-use Rattle.frame_groups.specs.Grouping.{grouped, with_packet, all_groups}
 use Rattle.frame_groups.specs.declared.key.Key.{Key}
 use Rattle.frame_groups.specs.Numbers.{superframe_period, frame_key, next_number, next_by, IsKey, IsNext}
 use Rattle.frame_groups.specs.Modulated.{Rules, FrameRecord, modulated}
@@ -31,14 +30,6 @@ pub record AreRuns (frames : ℕ) (ps : List Packet) : Type 0 where
 
 abbrev pub GroupsAreRuns : Type 0
 GroupsAreRuns = (frames : ℕ) (ps : List Packet) → AreRuns frames ps
-
--- One packet more goes on with the last group or begins one, and the earlier groups stay.
-abbrev pub GroupsGrow : Type 0
-GroupsGrow = (ps : List Packet) (p : Packet) → grouped (ps ++ p ∷ []) ≡ with_packet (grouped ps) p
-
--- Groups that grew packet by packet are the groups of the packets.
-abbrev pub GrownAreGroups : Type 0
-GrownAreGroups = (frames : ℕ) (ps : List Packet) → all_groups (grouped (filter (is_counted frames) ps)) ≡ groups frames ps
 
 -- The next number is the least above that has the key.
 abbrev pub NextIsLeast : Type 0

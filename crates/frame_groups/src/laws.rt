@@ -1,11 +1,10 @@
 // Laws of the definitions. Their functions do nothing.
-ghost use Rattle.frame_groups.specs.Laws.{GroupsAreRuns, GroupsGrow, GrownAreGroups, NextIsLeast, NextIsFound, NumbersFollow, ModulatedFront};
+ghost use Rattle.frame_groups.specs.Due.{RecordsAreDue};
+ghost use Rattle.frame_groups.specs.Laws.{GroupsAreRuns, NextIsLeast, NextIsFound, NumbersFollow, ModulatedFront};
 
-/// Groups are the longest runs of packets with one key, and grow packet by packet.
+/// Groups are the longest runs of packets with one key.
 pub fn groups_law()
-    ensures runs { GroupsAreRuns }
-    ensures grow { GroupsGrow }
-    ensures grown { GrownAreGroups }
+    ensures { GroupsAreRuns }
 {}
 
 /// The number of a group is the least that has its key.
@@ -22,4 +21,9 @@ pub fn numbers_law()
 /// What follows changes no record but the last.
 pub fn front_law()
     ensures { ModulatedFront }
+{}
+
+/// The record that waits is the next of those that are due, and if none waits all were given.
+pub fn due_law()
+    ensures { RecordsAreDue }
 {}

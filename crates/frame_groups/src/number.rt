@@ -11,7 +11,7 @@ const SUPERFRAME_PERIOD: u64 = 16;
 /// The least number above another whose frame has a key, if a superframe has so many frames.
 pub fn next_number(frames: u8, number: u64, key: Key) -> u64
     requires some { 0 < frames }
-    requires small { number < 2 ^ 32 }
+    requires small { number ≤ 2 ^ 32 }
     ensures value { IsKey frames key → result ≡ next_number frames number key }
     ensures near { result ≤ number + superframe_period * frames }
 {

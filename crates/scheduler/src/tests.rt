@@ -46,9 +46,9 @@ fn fits_counts(plan: &Plan, counts: &[u16]) -> bool
     true
 }
 
-const T1: PlpKind = PlpKind::Type1;
+const TYPE_1: PlpKind = PlpKind::Type1;
 
-const T2: PlpKind = PlpKind::Type2;
+const TYPE_2: PlpKind = PlpKind::Type2;
 
 const QPSK: Modulation = Modulation::Qpsk;
 
@@ -81,7 +81,7 @@ fn expect_shape(
 
 #[test]
 fn type1_stands_in_order(rt: HostRuntime) -> Result<(), Fail> {
-    let plan = plan_of(network(rt.alloc(), &[(T1, QPSK), (T1, QPSK)], 1)?)?;
+    let plan = plan_of(network(rt.alloc(), &[(TYPE_1, QPSK), (TYPE_1, QPSK)], 1)?)?;
     expect_shape(&rt, &plan, &[1, 1], (0, 0), &[0, 8_100])?;
     expect_shape(&rt, &plan, &[0, 3], (0, 0), &[0, 0])?;
     expect_shape(&rt, &plan, &[3, 0], (0, 0), &[0, 0])
@@ -89,9 +89,14 @@ fn type1_stands_in_order(rt: HostRuntime) -> Result<(), Fail> {
 
 #[test]
 fn type2_stands_behind_in_sub_slices(rt: HostRuntime) -> Result<(), Fail> {
-    let alone = plan_of(network(rt.alloc(), &[(T2, QAM256), (T2, QAM16)], 5)?)?;
+    let alone = plan_of(network(rt.alloc(), &[(TYPE_2, QAM256), (TYPE_2, QAM16)], 5)?)?;
     expect_shape(&rt, &alone, &[1, 1], (1_215, 0), &[0, 405])?;
-    let plps = [(T1, QPSK), (T1, QAM16), (T2, QAM256), (T2, QAM16)];
+    let plps = [
+        (TYPE_1, QPSK),
+        (TYPE_1, QAM16),
+        (TYPE_2, QAM256),
+        (TYPE_2, QAM16),
+    ];
     let mixed = plan_of(network(rt.alloc(), &plps, 5)?)?;
     expect_shape(
         &rt,
@@ -105,7 +110,7 @@ fn type2_stands_behind_in_sub_slices(rt: HostRuntime) -> Result<(), Fail> {
 
 #[test]
 fn numbers_are_set(rt: HostRuntime) -> Result<(), Fail> {
-    let plan = plan_of(network(rt.alloc(), &[(T2, QAM256), (T2, QAM16)], 5)?)?;
+    let plan = plan_of(network(rt.alloc(), &[(TYPE_2, QAM256), (TYPE_2, QAM16)], 5)?)?;
     let mut read = Shape::open(rt.alloc(), &plan)?;
     assert_eq!(rt; read.len(), 2);
     read.set(0, 7, 65_536);

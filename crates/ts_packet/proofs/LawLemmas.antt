@@ -7,6 +7,7 @@ use Rattle.std.proofs.lemmas.List.FromFn.{get_or-map-range_with_len}
 use Rattle.terms.specs.Bits.{field, bits_of, number_of, part, number_at, bytes_of, byte_at, bytes_for}
 use Rattle.terms.proofs.BitLemmas.{length-field, length-bits_of, bits_of-append, bits_of-bytes_of, length-bytes_of, byte_at-whole, number_at-lt}
 use Rattle.terms.proofs.PartLemmas.{part-middle, number-middle}
+use Rattle.ts_packet.specs.declared.sizes.TheConstants.{SYNC}
 use Rattle.ts_packet.specs.declared.fault.TsFault.{TsFault}
 use Rattle.ts_packet.specs.declared.fault.TsFault.TheVariants.{NoSync, BadAdaptation}
 use Rattle.ts_packet.specs.TransportPacket.{Fields, flag, header_bits, control_of, adaptation_bytes, packet_bytes, Fits, Spells, HasSync, control_at, length_at, IsBadAdaptation, Refuses}
@@ -24,14 +25,14 @@ flag-middle front more at false here = ap (λ (bits : List Bool). number_of bits
 -- What a header tells is what it was made of.
 record Tells (f : Fields) (header : List Bool) (control : ℕ) : Type 0 where
   pub long : length header ≡ 32
-  pub sync : number_at header 0 8 ≡ 0x47
+  pub sync : number_at header 0 8 ≡ SYNC
   pub asked : number_at header 26 2 ≡ control
   pub fields : f ≡ fields_of header f.payload
 
 -- the header that fields make
 header_tells : (f : Fields) (priority : Bool) (control : ℕ) → Fits f → control < 2 ^ 2 → Tells f (header_bits f priority control) control
 header_tells f priority control fit small =
-    let sync : List Bool = field 8 0x47 in
+    let sync : List Bool = field 8 SYNC in
     let error : List Bool = flag f.error in
     let starts : List Bool = flag f.starts in
     let third : List Bool = flag priority in
@@ -47,7 +48,7 @@ header_tells f priority control fit small =
     let at_scrambling : header ≡ ((sync ++ error ++ starts ++ third ++ pid) ++ scrambling) ++ (asked ++ counter) = simp append_assoc in
     let at_asked : header ≡ ((sync ++ error ++ starts ++ third ++ pid ++ scrambling) ++ asked) ++ counter = simp append_assoc in
     let at_counter : header ≡ ((sync ++ error ++ starts ++ third ++ pid ++ scrambling ++ asked) ++ counter) ++ [] = sym (append-nil header) in
-    let to_error : length sync ≡ 8 = length-field 8 0x47 in
+    let to_error : length sync ≡ 8 = length-field 8 SYNC in
     let to_starts : length (sync ++ error) ≡ 9 = simp (length-append, length-field) refl in
     let to_pid : length (sync ++ error ++ starts ++ third) ≡ 11 = simp (length-append, length-field) refl in
     let to_scrambling : length (sync ++ error ++ starts ++ third ++ pid) ≡ 24 = simp (length-append, length-field) refl in
@@ -60,7 +61,7 @@ header_tells f priority control fit small =
     let told_counter : number_at header 28 4 ≡ f.counter = ap (λ (bits : List Bool). number_at bits 28 4) at_counter ∙ number-middle (sync ++ error ++ starts ++ third ++ pid ++ scrambling ++ asked) _ 28 4 f.counter to_counter fit.counter in
     record {
       long = simp (length-append, length-field) refl;
-      sync = ap (λ (bits : List Bool). number_at bits 0 8) at_sync ∙ number-middle [] _ 0 8 0x47 refl (omega arith);
+      sync = ap (λ (bits : List Bool). number_at bits 0 8) at_sync ∙ number-middle [] _ 0 8 SYNC refl (omega arith);
       asked = ap (λ (bits : List Bool). number_at bits 26 2) at_asked ∙ number-middle (sync ++ error ++ starts ++ third ++ pid ++ scrambling) _ 26 2 control to_asked small;
       fields = sym (λ i. record { error = told_error i; starts = told_starts i; pid = told_pid i; scrambling = told_scrambling i; counter = told_counter i; payload = f.payload });
     }
@@ -177,7 +178,7 @@ spelled_if_sync bytes long small (inl sync) = spelled_if_good bytes long small s
 spelled_if_sync bytes long small (inr none) = inr (NoSync, none)
 
 pub spelled_or_refused : SpelledOrRefused
-spelled_or_refused bytes long small = spelled_if_sync bytes long small (cases_eq (get_or bytes 0 0) 0x47)
+spelled_or_refused bytes long small = spelled_if_sync bytes long small (cases_eq (get_or bytes 0 0) SYNC)
 
 -- A string is read as one packet.
 one_read : (bytes : List ℕ) (f g : Fields) → IsRead bytes f → IsRead bytes g → f ≡ g

@@ -6,6 +6,7 @@ use Rattle.std.proofs.lemmas.Option.{none-some, same_Some}
 use Rattle.std.proofs.lemmas.List.{drop_at}
 use Rattle.terms.specs.Bits.{bits_of, bytes_of}
 use Rattle.terms.proofs.BitLemmas.{length-bits_of, length-bytes_of, number_at-lt}
+use Rattle.ts_packet.specs.declared.sizes.TheConstants.{SYNC}
 use Rattle.ts_packet.specs.declared.fault.TsFault.{TsFault}
 use Rattle.ts_packet.specs.declared.fault.TsFault.TheVariants.{NoSync, BadAdaptation}
 use Rattle.ts_packet.specs.TransportPacket.{Fields, header_bits, control_of, adaptation_bytes, packet_bytes, Spells, control_at, length_at, IsBadAdaptation, Refuses}
@@ -38,15 +39,15 @@ read_told : (bytes : List ℕ) (f : Fields) → length bytes ≡ 188 → IsRead 
 unfolding fields_in
 read_told bytes f long r =
     let small : control_at bytes < 2 ^ 2 = number_at-lt (bits_of bytes) 26 2 (omega (arith, long, length-bits_of bytes)) in
-    let test : is_packet bytes ≡ true = and_from _ _ (eq-eqb (get_or bytes 0 0) 0x47 r.sync) (fits_good (control_at bytes) (length_at bytes) small r.adaptation) in
+    let test : is_packet bytes ≡ true = and_from _ _ (eq-eqb (get_or bytes 0 0) SYNC r.sync) (fits_good (control_at bytes) (length_at bytes) small r.adaptation) in
     cond-true _ _ _ test ∙ ap Some (sym r.fields)
 
 refused_none : (bytes : List ℕ) (fault : TsFault) → Refuses bytes fault → fields_in bytes ≡ None
 unfolding fields_in
 refused_none bytes NoSync none =
-    cond-false _ _ _ (ap (λ (b : Bool). b && fits_adaptation (control_at bytes) (length_at bytes)) (ne_eqb (get_or bytes 0 0) 0x47 none))
+    cond-false _ _ _ (ap (λ (b : Bool). b && fits_adaptation (control_at bytes) (length_at bytes)) (ne_eqb (get_or bytes 0 0) SYNC none))
 refused_none bytes BadAdaptation (sync, bad) =
-    cond-false _ _ _ (ap (λ (b : Bool). b && fits_adaptation (control_at bytes) (length_at bytes)) (eq-eqb (get_or bytes 0 0) 0x47 sync) ∙ fits_bad (control_at bytes) (length_at bytes) bad)
+    cond-false _ _ _ (ap (λ (b : Bool). b && fits_adaptation (control_at bytes) (length_at bytes)) (eq-eqb (get_or bytes 0 0) SYNC sync) ∙ fits_bad (control_at bytes) (length_at bytes) bad)
 
 spelled_told : (f : Fields) (bytes : List ℕ) → Spells f bytes → fields_in bytes ≡ Some f
 spelled_told f bytes s = read_told bytes f s.whole (read_back f bytes s)

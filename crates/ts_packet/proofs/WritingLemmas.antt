@@ -8,6 +8,7 @@ use mir.Val.{bool_byte}
 use borrow.Rule.Slice.PartMut.{put_mid}
 use Rattle.terms.specs.Bits.{field, number_of, number_at, bytes_of, bytes_for}
 use Rattle.terms.proofs.BitLemmas.{length-field, number_of-append, number_of-field, field-number_of, number_of-part, bytes_of_fields, length-bytes_of}
+use Rattle.ts_packet.specs.declared.sizes.TheConstants.{SYNC}
 use Rattle.ts_packet.specs.TransportPacket.{Fields, flag, header_bits, control_of, adaptation_bytes, packet_bytes, Spells}
 use Rattle.ts_packet.specs.Written.{area_of, stuffing, written_fields, written_bytes}
 use Rattle.ts_packet.specs.Null.{is_null, null_packet}
@@ -48,9 +49,9 @@ push_flag bits false = number_of-append bits (flag false)
 written_header : (pid counter control : ℕ) (pointer : Option ℕ) → pid < 2 ^ 13 → counter < 2 ^ 4 → control < 2 ^ 2 →
     number_of (header_bits (written_fields pid counter pointer []) false control) ≡ 1191182336 + bool_byte (is_some pointer) * 4194304 + pid * 256 + control * 16 + counter
 written_header pid counter control pointer a b c =
-    let sync : List Bool = field 8 0x47 in
+    let sync : List Bool = field 8 SYNC in
     let flags : List Bool = sync ++ flag false ++ flag (is_some pointer) ++ flag false in
-    let first : number_of sync ≡ 0x47 = number_of-field 8 0x47 (omega arith) in
+    let first : number_of sync ≡ SYNC = number_of-field 8 SYNC (omega arith) in
     let error : number_of (sync ++ flag false) ≡ number_of sync * 2 ^ 1 + 0 = push_flag sync false in
     let starts : number_of (sync ++ flag false ++ flag (is_some pointer)) ≡ number_of (sync ++ flag false) * 2 ^ 1 + bool_byte (is_some pointer) =
     push_flag (sync ++ flag false) (is_some pointer) in

@@ -3,7 +3,7 @@ ghost use Rattle.std.specs.Prelude.{◌≡◌, length};
 ghost use Rattle.ts_packet.specs.Null.{is_null, null_packet};
 
 use crate::header::{field_at, header_of};
-use crate::sizes::SIZE;
+use crate::sizes::{SIZE, SYNC};
 use std::marker::Model;
 
 // The PID of null packets.
@@ -53,7 +53,7 @@ impl TsPacket {
         ensures { result ≡ null_packet }
     {
         let mut bytes = [0xFF; SIZE];
-        bytes[..4].copy_from_slice(&[0x47, 0x1F, 0xFF, 0x10]);
+        bytes[..4].copy_from_slice(&[SYNC, 0x1F, 0xFF, 0x10]);
         TsPacket { bytes }
     }
 }

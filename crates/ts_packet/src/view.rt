@@ -5,7 +5,7 @@ ghost use Rattle.ts_packet.specs.Reading.{place_for, IsRead};
 
 use crate::TsFault;
 use crate::header::{field_at, header_of};
-use crate::sizes::{PAYLOAD, SIZE};
+use crate::sizes::{PAYLOAD, SIZE, SYNC};
 use std::marker::Model;
 
 /// A transport packet that was read: its fields, and its payload. Nothing is copied.
@@ -97,7 +97,7 @@ fn parse(bytes: &[u8; SIZE]) -> Result<TsView<'_>, TsFault>
     ensures ok { IfOk result (IsRead bytes.now) }
     ensures err { IfErr result (Refuses bytes.now) }
 {
-    if bytes[0] != 0x47 {
+    if bytes[0] != SYNC {
         return Err(TsFault::NoSync);
     }
     let header = header_of(bytes);

@@ -1,4 +1,5 @@
 use Rattle.cell_map.proofs.MapLemmas.{map_has_each, map_has_only, dummy_has_none}
+use Rattle.cell_map.proofs.NumberLemmas.{cells_fit}
 use Rattle.cell_map.proofs.laws.map_law.Goals as goal
 
 pub returns-clause-each : goal.returns-clause-each
@@ -9,3 +10,6 @@ returns-clause-only c = map_has_only
 
 pub returns-clause-dummy : goal.returns-clause-dummy
 returns-clause-dummy c = dummy_has_none
+
+pub returns-clause-small : goal.returns-clause-small
+returns-clause-small c = cells_fit

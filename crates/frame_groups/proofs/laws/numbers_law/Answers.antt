@@ -1,4 +1,4 @@
-use Rattle.frame_groups.proofs.FollowLemmas.{follow}
+use Rattle.frame_groups.proofs.ConsecutiveLemmas.{follow}
 use Rattle.frame_groups.proofs.laws.numbers_law.Goals as goal
 
 pub returns : goal.returns

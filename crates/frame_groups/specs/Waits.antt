@@ -1,0 +1,32 @@
+-- The record that waits.
+use Rattle.std.specs.Prelude.{◌≡◌, ℕ, ◌*◌, ◌≤◌, ◌==◌, ◌&&◌, nat_lt, Bool, Option, Some, None, is_some, if◌then◌else◌}
+use Rattle.frame_groups.specs.declared.cause.MuteCause.{MuteCause}
+use Rattle.frame_groups.specs.declared.cause.MuteCause.TheVariants.{Gap}
+use Rattle.frame_groups.specs.Numbers.{superframe_period}
+use Rattle.frame_groups.specs.declared.waiting.Progress.{Progress}
+use Rattle.frame_groups.specs.declared.waiting.Waiting.{Waiting}
+
+-- a frame before the group's number; else the group's own, once it is closed
+abbrev pub waiting_by : Option ℕ → ℕ → Bool → Option MuteCause → Option Waiting
+waiting_by None next closing fault = None
+waiting_by (Some n) next closing fault =
+    if nat_lt next n then Some (record { frame = next; mute = Some Gap })
+    else if closing && (next == n) then Some (record { frame = n; mute = fault })
+    else None
+
+abbrev pub waits_by : Option ℕ → ℕ → Bool → Option MuteCause → Bool
+waits_by number next closing fault = is_some (waiting_by number next closing fault)
+
+abbrev pub waiting_of : Progress → Option Waiting
+waiting_of p = waiting_by p.number p.next p.closing p.fault
+
+abbrev pub waits : Progress → Bool
+waits p = is_some (waiting_of p)
+
+-- A number is above the one before it by so much at most: a superframe has 255 frames at most.
+abbrev pub greatest_step : ℕ
+greatest_step = superframe_period * 255
+
+-- The group under way has no number above a bound.
+abbrev pub IsWithin : ℕ → Progress → Type 0
+IsWithin bound p = (n : ℕ) → p.number ≡ Some n → n ≤ bound

@@ -1,0 +1,60 @@
+// The packets of the frame under way.
+ghost use Rattle.std.specs.Prelude.{◌≡◌, ◌<◌, ◌^◌, Bool, Option, Some, IfSome, is_some, true};
+ghost use Rattle.frame_groups.specs.declared.key.Key.{Key};
+ghost use Rattle.frame_groups.specs.Groups.{Group};
+ghost use Rattle.frame_groups.specs.Grouping.{one_packet, one_more, key_of};
+ghost use Rattle.frame_groups.specs.Modulated.{Rules};
+
+use crate::cause::MuteCause;
+use crate::key::Key;
+use t2mi_packet::Packet;
+
+/// The group under way, and what decides of it.
+pub trait OpenGroup {
+    /// It stands for a group, or for none.
+    ghost holds: { Self → Option Group → Type 0 };
+
+    ghost key_now: { Self → Option Key };
+
+    ghost rules: { Self → Rules };
+
+    /// Its packets are all there. They need not be once it is closed.
+    ghost is_intact: { Self → Bool };
+
+    /// How many frames a superframe has.
+    fn frames(&self) -> u8
+        ensures value { result ≡ (rules self.now).frames }
+        ensures some { 0 < result };
+
+    /// The key of the group, if there is one.
+    fn key(&self) -> Option<Key>
+        ensures value { result ≡ key_now self.now }
+        ensures is { (g : Option Group) → holds self.now g → key_of g ≡ key_now self.now };
+
+    /// Begins a group in place of the one that there is.
+    fn begin(&mut self, key: Key, packet: &Packet<'_>)
+        ensures group { holds self.new (Some (one_packet key packet.now)) }
+        ensures intact { is_intact self.new ≡ true }
+        ensures key { key_now self.new ≡ Some key }
+        ensures rules { rules self.new ≡ rules self.old };
+
+    /// Adds a packet.
+    fn add(&mut self, packet: &Packet<'_>)
+        requires some { is_some (key_now self.old) ≡ true }
+        requires intact { is_intact self.old ≡ true }
+        ensures group { (h : Group) → holds self.old (Some h) → holds self.new (Some (one_more h packet.now)) }
+        ensures intact { is_intact self.new ≡ true }
+        ensures key { key_now self.new ≡ key_now self.old }
+        ensures rules { rules self.new ≡ rules self.old };
+
+    /// The frame that its timestamp names: below 2^31.
+    fn named(&self) -> Option<u64>
+        requires { is_intact self.now ≡ true }
+        ensures value { (h : Group) → holds self.now (Some h) → result ≡ (rules self.now).named h }
+        ensures small { IfSome result (λ n. n < 2 ^ 31) };
+
+    /// Why it is not the frame of a number.
+    fn fault(&self, number: u64) -> Option<MuteCause>
+        requires { is_intact self.now ≡ true }
+        ensures { (h : Group) → holds self.now (Some h) → result ≡ (rules self.now).fault h number };
+}
