@@ -18,7 +18,7 @@ use Rattle.l1_signal.specs.declared.dyn_plp.DynPlp.{DynPlp}
 use Rattle.l1_signal.specs.declared.dynamic.L1Dyn.{L1Dyn}
 use Rattle.l1_signal.specs.declared.pre.L1Pre.{L1Pre}
 use Rattle.frame_tests.specs.Carried.{L1Parts}
-use Rattle.frame_tests.specs.Laws.{IsOfFrame, PartsTold}
+use Rattle.frame_tests.specs.Laws.{IsOfFrame, PreTold, ConfTold, PartsTold}
 use Rattle.frame_tests.specs.Tests.{read_whole, same_told, pre_agrees, same_conf, conf_agrees, dyn_agrees, read_dynamic, parts_agree}
 
 -- what is read whole
@@ -153,5 +153,12 @@ module _ (pre_back : PreReadBack) (pre_spelled : PreReadSpelled) (conf_back : Co
         (λ is. and_from (pre && conf) dyn (and_from pre conf (pre_to l1.pre is.pre) (conf_to l1.conf is.conf)) (dyn_to n is.dynamic l1 is.spells is.frame is.ids)),
       )
 
-pub parts_told : PreReadBack → PreReadSpelled → ConfReadBack → ConfReadSpelled → DynReadBack → DynReadSpelled → PartsTold
-parts_told a b d e f g c n l1 = told_both a b d e f g c n l1
+module _ (pre_back : PreReadBack) (pre_spelled : PreReadSpelled) (conf_back : ConfReadBack) (conf_spelled : ConfReadSpelled) (dyn_back : DynReadBack) (dyn_spelled : DynReadSpelled) where
+  pub pre_is_told : PreTold
+  pre_is_told c bits = (pre_from pre_back pre_spelled conf_back conf_spelled dyn_back dyn_spelled c bits, pre_to pre_back pre_spelled conf_back conf_spelled dyn_back dyn_spelled c bits)
+
+  pub conf_is_told : ConfTold
+  conf_is_told c bits = (conf_from pre_back pre_spelled conf_back conf_spelled dyn_back dyn_spelled c bits, conf_to pre_back pre_spelled conf_back conf_spelled dyn_back dyn_spelled c bits)
+
+  pub parts_told : PartsTold
+  parts_told c n l1 = told_both pre_back pre_spelled conf_back conf_spelled dyn_back dyn_spelled c n l1
