@@ -1,0 +1,4 @@
+pub mod MapLemmas
+pub mod PartsLemmas
+pub mod TallyLemmas
+pub mod NamedLemmas

@@ -1,0 +1,64 @@
+-- Laws of the six tests.
+use Rattle.std.specs.Prelude.{◌≡◌, ◌↔◌, ℕ, ◌%◌, ◌<◌, true, false, Bool, List, [], ◌∷◌, ◌++◌, length, map, slice_get, Some}
+use Rattle.plp_config.specs.Emission.{emission}
+use Rattle.plp_config.specs.Rules.{AllRules}
+use Rattle.plp_config.specs.declared.config.Config.{Config}
+use Rattle.scheduler.specs.Shape.{FrameShape}
+use Rattle.cell_map.specs.CellMap.{Passes}
+use Rattle.l1_signal.specs.L1Configurable.{conf_read, info_size, ConfSpells}
+use Rattle.l1_signal.specs.L1Dynamic.{DynSpells}
+use Rattle.l1_signal.specs.L1Of.{pre_of, conf_of}
+use Rattle.l1_signal.specs.L1Pre.{pre_reading, PreSpells}
+use Rattle.l1_signal.specs.declared.dynamic.L1Dyn.{L1Dyn}
+use Rattle.t2mi_packet.specs.declared.packet.Packet.{Packet}
+use Rattle.t2mi_packet.specs.declared.packet.Stamp.{Stamp}
+use Rattle.frame_groups.specs.Groups.{Group}
+use Rattle.frame_groups.specs.Numbers.{frame_key}
+use Rattle.frame_tests.specs.Carried.{L1Parts, stamps_of}
+use Rattle.frame_tests.specs.MapTest.{map_passes}
+use Rattle.frame_tests.specs.Tally.{tally, tally_with, tally_fault}
+use Rattle.frame_tests.specs.Tests.{read_whole, pre_agrees, conf_agrees, parts_agree, packets_fault, moment_of, most_frames, named_frame}
+
+-- The test of a shape says whether it passes.
+abbrev pub MapPasses : Type 0
+MapPasses = (c : Config) (shape : FrameShape) → (map_passes c shape ≡ true) ↔ Passes c shape
+
+-- An L1-current is one of frame n: it spells the configuration's L1-pre and configurable part, and a dynamic part with FRAME_IDX of
+-- the frame and the identifiers in order.
+pub record IsOfFrame (c : Config) (n : ℕ) (l1 : L1Parts) : Type 0 where
+  pub pre : PreSpells (pre_of c) l1.pre
+  pub conf : ConfSpells (conf_of c) l1.conf
+  pub dynamic : L1Dyn
+  pub spells : DynSpells dynamic l1.dynamic
+  pub frame : dynamic.frame_idx ≡ n % c.frames
+  pub ids : map (λ plp. plp.plp_id) dynamic.plps ≡ map (λ plp. plp.id) c.plps
+
+-- The tests of the first two parts say whether they spell the configuration's values.
+abbrev pub PreTold : Type 0
+PreTold = (c : Config) (bits : List Bool) → (pre_agrees c (read_whole (pre_reading false bits)) ≡ true) ↔ PreSpells (pre_of c) bits
+
+abbrev pub ConfTold : Type 0
+ConfTold = (c : Config) (bits : List Bool) → (conf_agrees c (read_whole (conf_read (info_size (length c.plps)) bits)) ≡ true) ↔ ConfSpells (conf_of c) bits
+
+-- The test of an L1-current says whether it is one.
+abbrev pub PartsTold : Type 0
+PartsTold = (c : Config) (n : ℕ) (l1 : L1Parts) → (parts_agree c n l1 ≡ true) ↔ IsOfFrame c n l1
+
+-- The tests are those of the tally, which each packet changes by itself.
+abbrev pub TestsAreTallied : Type 0
+TestsAreTallied = (c : Config) (n : ℕ) (packets : List Packet) → packets_fault c n packets ≡ tally_fault c n (tally c packets)
+
+abbrev pub TallyGrows : Type 0
+TallyGrows = (c : Config) (packets : List Packet) (p : Packet) → tally c (packets ++ p ∷ []) ≡ tally_with c (tally c packets) p
+
+-- The group's first timestamp tells the emission of frame n, which has the group's key.
+pub record IsNamed (c : Config) (g : Group) (n : ℕ) : Type 0 where
+  pub stamp : Stamp
+  pub first : slice_get (stamps_of g.packets) 0 ≡ Some stamp
+  pub small : n < most_frames
+  pub emission-is : moment_of stamp ≡ emission c n
+  pub key : frame_key c.frames n ≡ g.key
+
+-- A frame is named exactly if it is that one.
+abbrev pub FrameNamed : Type 0
+FrameNamed = (c : Config) (g : Group) (n : ℕ) → AllRules c → (named_frame c g ≡ Some n) ↔ IsNamed c g n

@@ -1,0 +1,8 @@
+pub mod Carried
+pub mod MapTest
+pub mod Tests
+pub mod Tally
+pub mod Laws
+pub use Rattle.frame_groups.specs.Groups
+pub use Rattle.frame_groups.specs.Numbers
+pub use Rattle.frame_groups.specs.Modulated
