@@ -1,5 +1,5 @@
 pub mod RecordBytes
 pub mod Front
-pub mod Left
+pub mod Steps
 pub mod Writes
 pub mod Fitting

@@ -1,4 +1,4 @@
-//! The bytes of a frame's record behind its head and L1 signalling, given out piece by piece.
+//! The bytes of records, given out piece by piece.
 #![tactic(auto)]
 
 mod piece;
@@ -7,6 +7,5 @@ mod step;
 mod words;
 mod writer;
 
-pub use piece::{PIECE, Piece};
-pub use step::Step;
+pub use signalling::Signalling;
 pub use writer::Writer;

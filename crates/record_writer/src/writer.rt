@@ -6,16 +6,17 @@ ghost use Rattle.plp_config.specs.Plps.{plp_at};
 ghost use Rattle.plp_config.specs.declared.config.Config.{Config};
 ghost use Rattle.cell_map.specs.CellMap.{Passes};
 ghost use Rattle.scheduler.specs.Shape.{FrameShape};
-ghost use Rattle.record_writer.specs.Left.{step_bytes, IsStep};
+ghost use Rattle.record_writer.specs.Steps.{step_bytes, IsStep};
 ghost use Rattle.record_writer.specs.RecordBytes.{piece_len, list_at, front_of, AreShort, sent_bytes, lists_bytes, words};
 ghost use Rattle.record_writer.specs.declared.step.Step.TheVariants.{Blocks, Done};
 
 use crate::piece::Piece;
+use crate::signalling::{Signalling, put_front, put_muted};
 use crate::step::Step;
-use bit_slice::OutOfMemory;
+use bit_slice::{BitSlice, OutOfMemory};
 use byteorder::{BigEndian, ByteOrder};
 use linked_pool::Pool;
-use plp_config::Plan;
+use plp_config::{Moment, Plan};
 use scheduler::Shape;
 use std::alloc::Global;
 
@@ -177,9 +178,14 @@ impl Writer {
     ghost use Rattle.cell_map.specs.CellMap.{Passes};
     ghost use Rattle.plp_config.specs.declared.config.Config.{Config};
     ghost use Rattle.scheduler.specs.Shape.{FrameShape};
-    ghost use Rattle.record_writer.specs.Left.{IsStep, step_bytes};
-    ghost use Rattle.record_writer.specs.RecordBytes.{AreShort, piece_len};
-    ghost use Rattle.record_writer.specs.Writes.{bytes_left, step_of, is_done};
+    ghost use Rattle.l1_signal.specs.L1Configurable.{conf_bits};
+    ghost use Rattle.l1_signal.specs.L1Of.{conf_of};
+    ghost use Rattle.record_writer.specs.Front.{front_bytes, most_dynamic};
+    ghost use Rattle.record_writer.specs.declared.step.Step.TheVariants.{Blocks};
+    ghost use Rattle.site_frame.specs.Record.{head_bytes, muted_kind};
+    ghost use Rattle.record_writer.specs.RecordBytes.{AreShort};
+    ghost use Rattle.record_writer.specs.Steps.{step_bytes};
+    ghost use Rattle.record_writer.specs.Writes.{bytes_left, IsReady, is_done};
 
     /// Nothing to write. It takes all the memory that it needs.
     pub fn open(alloc: Global) -> Result<Writer, OutOfMemory>
@@ -192,18 +198,38 @@ impl Writer {
         })
     }
 
-    /// Begins a record by its first bytes, behind which a step stands.
-    pub fn begin(&mut self, front: &[u8], step: Step)
-        requires some { 0 < length front.now }
-        requires short { length front.now ≤ piece_len }
-        ensures left { (c : Config) (shape : FrameShape) (lists : List (List (List ℕ))) → bytes_left self.new c shape lists ≡ front.now ++ step_bytes c shape lists step }
-        ensures step { step_of self.new ≡ step }
+    /// Begins the record of a frame: its head tells `rest`, and it has so many blocks, which wait in the pool.
+    pub fn begin_frame(
+        &mut self,
+        plan: &Plan,
+        conf: &Signalling,
+        moment: &Moment,
+        dynamic: BitSlice<'_>,
+        blocks: u16,
+        rest: u32,
+    )
+        requires conf { conf.now ≡ conf_bits (conf_of plan.now) }
+        requires short { length dynamic ≤ most_dynamic }
+        ensures left { (shape : FrameShape) (lists : List (List (List ℕ))) → bytes_left self.new plan.now shape lists ≡ front_bytes plan.now moment.now dynamic.entry blocks rest ++ step_bytes plan.now shape lists (Blocks 0) }
+        ensures ready { (lists : List (List (List ℕ))) → IsReady self.new plan.now lists }
         ensures done { is_done self.new ≡ false }
     {
         self.piece.clear();
-        self.piece.put(front);
+        put_front(plan, conf, moment, dynamic, blocks, rest, &mut self.piece);
         self.at = 0;
-        self.step = step;
+        self.step = Step::Blocks(0);
+    }
+
+    /// Begins the record of a muted frame.
+    pub fn begin_muted(&mut self, moment: &Moment)
+        ensures left { (c : Config) (shape : FrameShape) (lists : List (List (List ℕ))) → bytes_left self.new c shape lists ≡ head_bytes muted_kind moment.now 0 }
+        ensures ready { (c : Config) (lists : List (List (List ℕ))) → IsReady self.new c lists }
+        ensures done { is_done self.new ≡ false }
+    {
+        self.piece.clear();
+        put_muted(moment, &mut self.piece);
+        self.at = 0;
+        self.step = Step::Done;
     }
 
     /// Gives the next bytes of the record, at most what is left of the piece in hand, and takes blocks from the pool as it goes.
@@ -212,14 +238,14 @@ impl Writer {
         requires passes { Passes plan.now shape.now }
         requires lists { length pool.old.lists ≡ length plan.now.plps }
         requires short { AreShort pool.old.lists }
-        requires step { IsStep plan.now pool.old.lists (step_of self.old) }
+        requires ready { IsReady self.old plan.now pool.old.lists }
         ensures most { result ≤ length out.old }
         ensures bytes { bytes_left self.old plan.now shape.now pool.old.lists ≡ take result out.new ++ bytes_left self.new plan.now shape.now pool.new.lists }
         ensures stays { (length out.new ≡ length out.old) × (drop result out.new ≡ drop result out.old) }
         ensures none { (result ≡ 0) ↔ ((length out.old ≡ 0) ⊎ (is_done self.old ≡ true)) }
         ensures lists { length pool.new.lists ≡ length pool.old.lists }
         ensures short { AreShort pool.new.lists }
-        ensures step { IsStep plan.now pool.new.lists (step_of self.new) }
+        ensures ready { IsReady self.new plan.now pool.new.lists }
     {
         let size = copy_from(&self.piece, self.at, out);
         if self.at + size < self.piece.len() {

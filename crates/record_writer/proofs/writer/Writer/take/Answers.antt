@@ -1,5 +1,5 @@
 use Rattle.std.proofs.Common.{◌+◌, ◌++◌, ◌∙◌, ℕ, List, drop, ap, sym}
-use Rattle.record_writer.specs.Left.{step_bytes}
+use Rattle.record_writer.specs.Steps.{step_bytes}
 use Rattle.record_writer.proofs.RecordLemmas.{taken}
 use Rattle.record_writer.proofs.writer.Writer.take.Goals as goal
 

@@ -1,4 +1,4 @@
--- What stands behind the piece in hand. No public clause cites this module.
+-- What stands behind the piece in hand of a writer.
 use Rattle.std.specs.Prelude.{ℕ, ◌-◌, ◌≤◌, List, [], ◌++◌, length, drop}
 use Rattle.byteorder.specs.Endian.{big_bytes}
 use Rattle.plp_config.specs.declared.config.Config.{Config}
