@@ -1,12 +1,12 @@
 -- What a head tells does not depend on what follows it.
-use Rattle.std.proofs.Common.{◌≡◌, ◌⊎◌, ℕ, ◌+◌, ◌-◌, ◌<◌, ◌≤◌, List, [], ◌∷◌, ◌++◌, length, get_or, take, drop, Result, Ok, Err, refl, sym, ap, subst, ◌∙◌, arith, inl, inr}
+use Rattle.std.proofs.Common.{◌≡◌, ◌⊎◌, ℕ, ◌-◌, ◌<◌, List, ◌++◌, length, take, drop, Result, Ok, Err, sym, ap, subst, ◌∙◌, arith, inl, inr}
 use Rattle.std.specs.Prelude.{slice_index, IfOk, IfErr}
 use Rattle.std.proofs.Math.ListN.{get_or-append}
 use Rattle.std.proofs.lemmas.List.{take_at, take-append-drop, drop-append-le, length-append, length-take, length-drop}
 use Rattle.byteorder.specs.Endian.{big_number}
 use Rattle.byteorder.specs.Numbers.{big_from-take}
 use Rattle.site_frame.specs.Record.{head_len, muted_kind}
-use Rattle.site_frame.specs.Whole.{greatest_rest, kind_of, HasRest, BeginsWith, HasHead, HasKind, told_len, told_rest, HasLength, Refuses, Follow, RefusesHead, IsRight, HasBadLength, IsWrong}
+use Rattle.site_frame.specs.Whole.{kind_of, HasRest, BeginsWith, HasHead, HasKind, told_len, told_rest, HasLength, Refuses, Follow, RefusesHead, IsRight, HasBadLength, IsWrong}
 use Rattle.site_frame.specs.declared.fault.RecordWhy.{RecordWhy}
 use Rattle.site_frame.specs.declared.fault.RecordWhy.TheVariants.{Head, Kind, Length, Order, OffGrid}
 use Rattle.site_frame.specs.declared.reading.RecordView.{RecordView}

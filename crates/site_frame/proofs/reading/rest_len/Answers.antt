@@ -1,4 +1,4 @@
-use Rattle.std.proofs.Common.{◌≡◌, ℕ, length, arith}
+use Rattle.std.proofs.Common.{◌≡◌, length, arith}
 use Rattle.std.specs.Prelude.{IfOk, IfErr}
 use Rattle.site_frame.specs.Whole.{Follow, RefusesHead}
 use Rattle.site_frame.proofs.HeadLemmas.{ok_follow, err_head, every_head}
