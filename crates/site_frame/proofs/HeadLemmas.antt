@@ -1,18 +1,21 @@
 -- What a head tells does not depend on what follows it.
-use Rattle.std.proofs.Common.{◌≡◌, ◌⊎◌, ℕ, ◌+◌, ◌-◌, ◌<◌, ◌≤◌, List, [], ◌∷◌, ◌++◌, length, get_or, take, drop, Result, Ok, Err, refl, sym, ap, subst, ◌∙◌, arith, inl, inr}
+use Rattle.std.proofs.Common.{◌≡◌, ◌⊎◌, ℕ, ◌+◌, ◌-◌, ◌*◌, ◌<◌, ◌≤◌, false, List, [], ◌++◌, length, take, drop, replicate, Result, Ok, Err, refl, sym, ap, subst, ◌∙◌, arith, inl, inr}
 use Rattle.std.specs.Prelude.{slice_index, IfOk, IfErr}
 use Rattle.std.proofs.Math.ListN.{get_or-append}
-use Rattle.std.proofs.lemmas.List.{take_at, take-append-drop, drop-append-le, length-append, length-take, length-drop}
+use Rattle.std.specs.List.{concat}
+use Rattle.std.proofs.lemmas.List.{take_at, take_all, take-append-drop, drop-append-le, length-append, length-take, length-drop, length-replicate}
 use Rattle.byteorder.specs.Endian.{big_number}
 use Rattle.byteorder.specs.Numbers.{big_from-take}
-use Rattle.site_frame.specs.Record.{head_len, muted_kind}
-use Rattle.site_frame.specs.Whole.{greatest_rest, kind_of, HasRest, BeginsWith, HasHead, HasKind, told_len, told_rest, HasLength, Refuses, Follow, RefusesHead, IsRight, HasBadLength, IsWrong}
+use Rattle.plp_config.specs.declared.moment.Moment.{Moment}
+use Rattle.site_frame.specs.Record.{frame_kind, muted_kind, head_len, head_bytes, FitsMoment}
+use Rattle.site_frame.specs.Whole.{greatest_rest, least_rest, kind_of, moment_of, HasRest, Spells, BeginsWith, written_rest, record_bytes, record_len, FitsRest, FitsRecord, HasHead, HasKind, told_moment, told_len, told_rest, HasLength, Refuses, CanFollow, Follow, RefusesHead, IsRight, IsRightAlone, HasBadLength, IsWrong}
 use Rattle.site_frame.specs.declared.fault.RecordWhy.{RecordWhy}
 use Rattle.site_frame.specs.declared.fault.RecordWhy.TheVariants.{Head, Kind, Length, Order, OffGrid}
 use Rattle.site_frame.specs.declared.reading.RecordView.{RecordView}
 use Rattle.site_frame.specs.declared.reading.RecordView.TheVariants.{Frame, Muted}
-use Rattle.site_frame.proofs.WholeLemmas.{read_begun}
-use Rattle.site_frame.proofs.LawLemmas.{no_refusal}
+use Rattle.site_frame.proofs.FieldLemmas.{IsBytes, IsBytes-drop, wide4, wide8}
+use Rattle.site_frame.proofs.WholeLemmas.{head_taken, read_begun}
+use Rattle.site_frame.proofs.LawLemmas.{no_refusal, has_len, written_length, written_spells}
 
 -- the bytes of the head stand where they stood
 same_at : (head more : List ℕ) → length head ≡ 24 → (i : ℕ) → i < 24 → slice_index (head ++ more) i ≡ slice_index head i
@@ -64,19 +67,30 @@ kind_on head more e h = subst IsKind (sym (same_at head more e 4 (omega arith)))
 kind_back : (head more : List ℕ) → length head ≡ 24 → HasKind (head ++ more) → HasKind head
 kind_back head more e h = subst IsKind (same_at head more e 4 (omega arith)) h
 
--- a muted record has no rest
+-- a muted record has no rest, and that of a frame has its numbers
 no_rest : (view : RecordView) (rest : List ℕ) → kind_of view ≡ muted_kind → HasRest view rest → length rest ≡ 0
 no_rest (Frame moment pre post blocks cells) rest muted parts = absurd (omega (arith, muted))
 no_rest (Muted moment) rest muted parts = ap (λ (xs : List ℕ). length xs) parts
 
+some_rest : (view : RecordView) (rest : List ℕ) → kind_of view ≡ frame_kind → HasRest view rest → least_rest ≤ length rest
+some_rest (Frame moment pre post blocks cells) rest frame parts = omega (arith, has_len (Frame moment pre post blocks cells) rest parts)
+some_rest (Muted moment) rest frame parts = absurd (omega (arith, frame))
+
+-- a rest has the length that the head tells
+rest_size : (bytes : List ℕ) → HasLength bytes → length (told_rest bytes) ≡ told_len bytes
+rest_size bytes h = omega (arith, h.inside, length-take (told_len bytes) (drop 24 bytes), length-drop {A = ℕ} 24 bytes)
+
 -- a length that is bad is so whatever follows
 bad_on : (head more : List ℕ) → length head ≡ 24 → HasBadLength head → ¬ (HasLength (head ++ more))
 bad_on head more e (inl great) h = absurd (omega (arith, great, h.small, same_len head more e))
-bad_on head more e (inr muted) h =
-    let bytes : List ℕ = head ++ more in
+bad_on head more e (inr (inl muted)) h =
     let kind : kind_of h.view ≡ muted_kind = h.kind ∙ same_at head more e 4 (omega arith) ∙ muted.0 in
-    let none : length (told_rest bytes) ≡ 0 = no_rest h.view (told_rest bytes) kind h.parts in
-    absurd (omega (arith, none, muted.1, same_len head more e, h.inside, length-take (told_len bytes) (drop 24 bytes), length-drop {A = ℕ} 24 bytes))
+    let none : length (told_rest (head ++ more)) ≡ 0 = no_rest h.view (told_rest (head ++ more)) kind h.parts in
+    absurd (omega (arith, none, muted.1, same_len head more e, rest_size (head ++ more) h))
+bad_on head more e (inr (inr short)) h =
+    let kind : kind_of h.view ≡ frame_kind = h.kind ∙ same_at head more e 4 (omega arith) ∙ short.0 in
+    let some : least_rest ≤ length (told_rest (head ++ more)) = some_rest h.view (told_rest (head ++ more)) kind h.parts in
+    absurd (omega (arith, some, short.1, same_len head more e, rest_size (head ++ more) h))
 
 -- the head is refused with anything behind it
 pub refuses_head : (head : List ℕ) (why : RecordWhy) → length head ≡ 24 → IsWrong head why → RefusesHead head why
@@ -86,19 +100,77 @@ refuses_head head Length e (is, kind, bad) more = (head_on head more e is, kind_
 refuses_head head Order e w more = w
 refuses_head head OffGrid e w more = w
 
--- so many bytes follow
-pub follow : (head : List ℕ) (rest : ℕ) → length head ≡ 24 → IsRight head rest → Follow head rest
-follow head rest e r = record {
-  small = r.small;
-  exact = λ more view len begins.
-      let read = read_begun (head ++ more) view len begins in
-      omega (arith, read.end, same_len head more e, r.told);
-  fewer = λ more few. (
-    head_on head more e r.head,
-    kind_on head more e r.kind,
-    λ h. let never : ⊥ = omega (arith, h.inside, same_len head more e, r.told, few, e, length-append head more) in never,
-  );
+-- ---- a record that begins with the head
+
+moment_fits : (head : List ℕ) → IsBytes head → length head ≡ 24 → FitsMoment (told_moment head)
+moment_fits head fits e =
+    let seconds = wide8 (drop 8 head) (IsBytes-drop 8 head fits) (omega (arith, e, length-drop {A = ℕ} 8 head)) in
+    let subseconds = wide4 (drop 16 head) (IsBytes-drop 16 head fits) (omega (arith, e, length-drop {A = ℕ} 16 head)) in
+    (seconds.1, subseconds.1)
+
+-- as it is written
+written_on : (head : List ℕ) (view : RecordView) (rest : ℕ) → IsBytes head → length head ≡ 24 → IsRight head rest → kind_of view ≡ slice_index head 4 → moment_of view ≡ told_moment head
+    → length (concat (written_rest view)) ≡ rest → FitsRecord view → CanFollow head rest
+written_on head view rest fits e right kind moment size record-fits =
+    let more : List ℕ = concat (written_rest view) in
+    let begin : take 24 head ≡ head_bytes (slice_index head 4) (told_moment head) (told_len head) = head_taken head fits right.head in
+    let told : told_len head ≡ length more = omega (arith, right.told, size) in
+    let front : head ≡ head_bytes (kind_of view) (moment_of view) (length more) = sym (take_all 24 head (omega (arith, e))) ∙ begin ∙ rw (kind, moment, told) refl in
+    let whole : record_bytes view ≡ head ++ more = ap (λ (xs : List ℕ). xs ++ more) (sym front) in
+    let both : length (head ++ more) ≡ 24 + rest = omega (arith, e, size, length-append head more) in
+    let all : take (24 + rest) (head ++ more) ≡ head ++ more = take_all (24 + rest) (head ++ more) (omega (arith, both)) in
+    record {
+      more = more;
+      view = view;
+      begins = record { inside = omega (arith, both); spells = subst (Spells view) (whole ∙ sym all) (written_spells view record-fits) };
+    }
+
+-- a frame of zeros without a block or a cell, whose rest has so many bytes
+abbrev zeros_frame : Moment → ℕ → RecordView
+zeros_frame moment rest = Frame moment (replicate 200 false) (replicate (8 * (rest - 35)) false) [] []
+
+zeros_fit : (moment : Moment) (rest : ℕ) → rest ≤ greatest_rest → FitsRest (zeros_frame moment rest)
+zeros_fit moment rest small = record {
+  pre = length-replicate 200 false;
+  post = omega (arith, length-replicate (8 * (rest - 35)) false, small);
+  blocks = omega arith;
+  block = tt;
+  cells = omega arith;
+  cell = tt;
 }
+
+zeros_len : (moment : Moment) (rest : ℕ) → least_rest ≤ rest → record_len (zeros_frame moment rest) ≡ 24 + rest
+zeros_len moment rest least = omega (arith, length-replicate (8 * (rest - 35)) false, least)
+
+can_follow : (head : List ℕ) (rest : ℕ) → IsBytes head → length head ≡ 24 → IsRightAlone head rest → (slice_index head 4 ≡ frame_kind) ⊎ (slice_index head 4 ≡ muted_kind) → CanFollow head rest
+can_follow head rest fits e r (inl frame) =
+    let moment : Moment = told_moment head in
+    let view : RecordView = zeros_frame moment rest in
+    let zeros : FitsRest view = zeros_fit moment rest r.right.small in
+    let size : record_len view ≡ 24 + rest = zeros_len moment rest (r.frame frame) in
+    let behind : 24 + length (concat (written_rest view)) ≡ record_len view = written_length view zeros in
+    written_on head view rest fits e r.right (sym frame) refl (omega (arith, behind, size))
+    (record { moment = moment_fits head fits e; rest = zeros; small = omega (arith, size, r.right.small) })
+can_follow head rest fits e r (inr muted) =
+    written_on head (Muted (told_moment head)) rest fits e r.right (sym muted) refl (sym (r.muted muted))
+    (record { moment = moment_fits head fits e; rest = tt; small = omega arith })
+
+-- so many bytes follow
+pub follow : (head : List ℕ) (rest : ℕ) → IsBytes head → length head ≡ 24 → IsRightAlone head rest → Follow head rest
+follow head rest fits e alone =
+    let r : IsRight head rest = alone.right in
+    record {
+      some = can_follow head rest fits e alone r.kind;
+      small = r.small;
+      exact = λ more view len begins.
+          let read = read_begun (head ++ more) view len begins in
+          omega (arith, read.end, same_len head more e, r.told);
+      fewer = λ more few. (
+        head_on head more e r.head,
+        kind_on head more e r.kind,
+        λ h. let never : ⊥ = omega (arith, h.inside, same_len head more e, r.told, few, e, length-append head more) in never,
+      );
+    }
 
 -- what begins with a record is not refused
 not_both : (bytes : List ℕ) (view : RecordView) (len : ℕ) (why : RecordWhy) → BeginsWith bytes view len → ¬ (Refuses bytes why)
@@ -108,9 +180,9 @@ not_both bytes view len why b refused =
 
 -- ---- of an answer
 
-pub ok_follow : (head : List ℕ) (r : Result ℕ RecordWhy) → length head ≡ 24 → IfOk r (IsRight head) → IfOk r (Follow head)
-ok_follow head (Ok rest) e h = follow head rest e h
-ok_follow head (Err why) e h = tt
+pub ok_follow : (head : List ℕ) (r : Result ℕ RecordWhy) → IsBytes head → length head ≡ 24 → IfOk r (IsRightAlone head) → IfOk r (Follow head)
+ok_follow head (Ok rest) fits e h = follow head rest fits e h
+ok_follow head (Err why) fits e h = tt
 
 pub err_head : (head : List ℕ) (r : Result ℕ RecordWhy) → length head ≡ 24 → IfErr r (IsWrong head) → IfErr r (RefusesHead head)
 err_head head (Ok rest) e h = tt

@@ -2,14 +2,14 @@
 ghost use Rattle.std.specs.Prelude.{◌≡◌, ◌↔◌, ℕ, ◌+◌, ◌-◌, ◌<◌, ◌≤◌, ◌^◌, List, ◌++◌, length, IsTrue, IfOk, IfErr, IfSome, Ok, Err};
 ghost use Rattle.site_frame.specs.Record.{head_len};
 ghost use Rattle.site_frame.specs.Reading.{Gives};
-ghost use Rattle.site_frame.specs.Whole.{HasHead, HasKind, view_in, told_moment, IsRead, IsRefused, BeginsWith, Refuses, Follow, RefusesHead, IsRight, IsWrong};
+ghost use Rattle.site_frame.specs.Whole.{HasHead, HasKind, view_in, told_moment, IsRead, IsRefused, BeginsWith, Refuses, Follow, RefusesHead, IsRight, IsRightAlone, IsWrong};
 ghost use Rattle.site_frame.specs.declared.fault.RecordWhy.{RecordWhy};
 ghost use Rattle.site_frame.specs.declared.reading.RecordView.{RecordView};
 
 use crate::blocks::Blocks;
 use crate::cells::Cells;
 use crate::fault::RecordWhy;
-use crate::head::{FRAME, GREATEST_REST, HEAD, MAGIC, MUTED};
+use crate::head::{FRAME, GREATEST_REST, HEAD, LEAST_REST, MAGIC, MUTED};
 use crate::parts::split_rest;
 use bit_slice::BitSlice;
 use byteorder::{BigEndian, ByteOrder};
@@ -103,13 +103,13 @@ fn told(bytes: &[u8]) -> Result<usize, RecordWhy>
     Ok(rest)
 }
 
-// The same of a head that stands alone: a muted one tells 0.
+// The same of a head that stands alone: a muted one tells 0, and that of a frame what its numbers fill at least.
 fn told_alone(head: &[u8]) -> Result<usize, RecordWhy>
-    ensures ok { IfOk result (IsRight head.now) }
+    ensures ok { IfOk result (IsRightAlone head.now) }
     ensures wrong { IfErr result (IsWrong head.now) }
 {
     let rest = told(head)?;
-    if head[4] == MUTED && rest > 0 {
+    if head[4] == MUTED && rest > 0 || head[4] == FRAME && rest < LEAST_REST {
         return Err(RecordWhy::Length);
     }
     Ok(rest)

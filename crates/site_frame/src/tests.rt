@@ -146,6 +146,11 @@ fn the_head_tells_what_follows(rt: HostRuntime) {
     let mut head = [0; 24];
     write_head(&MOMENT, 33_554_432, &mut head);
     assert!(rt; rest_len(&head) == Ok(33_554_432));
+    // L1-pre, and the numbers of the other parts.
+    write_head(&MOMENT, 35, &mut head);
+    assert!(rt; rest_len(&head) == Ok(35));
+    write_head(&MOMENT, 34, &mut head);
+    assert!(rt; rest_len(&head) == Err(RecordWhy::Length));
     write_muted(&MOMENT, &mut head);
     assert!(rt; rest_len(&head) == Ok(0));
     write_head(&MOMENT, 0x0100_0000, &mut head);
