@@ -179,6 +179,7 @@ impl<G: OpenGroup + Drop> Sequence<G> {
         ensures open { result ≡ true → self.new.progress.closing ≡ false }
         ensures rules { G.rules self.new.group ≡ G.rules self.old.group }
         ensures near { (bound : ℕ) → 2 ^ 31 ≤ bound → IsWithin bound self.old.progress → IsWithin (bound + greatest_step) self.new.progress }
+        ensures same { result ≡ false → (bound : ℕ) → 2 ^ 31 ≤ bound → IsWithin bound self.old.progress → IsWithin bound self.new.progress }
         ensures next { (self.new.progress.next ≡ self.old.progress.next) ⊎ (self.new.progress.next < 2 ^ 31) }
     {
         self.close();
@@ -203,6 +204,7 @@ impl<G: OpenGroup + Drop> Sequence<G> {
         ensures open { result ≡ true → self.new.progress.closing ≡ true → (self.old.progress.closing ≡ true) × (is_counted (G.rules self.old.group).frames packet.now ≡ false) }
         ensures rules { G.rules self.new.group ≡ G.rules self.old.group }
         ensures near { (bound : ℕ) → 2 ^ 31 ≤ bound → IsWithin bound self.old.progress → IsWithin (bound + greatest_step) self.new.progress }
+        ensures same { result ≡ false → (bound : ℕ) → 2 ^ 31 ≤ bound → IsWithin bound self.old.progress → IsWithin bound self.new.progress }
         ensures next { (self.new.progress.next ≡ self.old.progress.next) ⊎ (self.new.progress.next < 2 ^ 31) }
     {
         if !is_counted(self.group.frames(), packet) {
@@ -227,8 +229,8 @@ impl<G: OpenGroup + Drop> Sequence<G> {
     /// The record that waits was given.
     pub fn gave(&mut self)
         requires { waits self.old.progress ≡ true }
-        ensures follows { (ps : List Packet) (given : List FrameRecord) (x : FrameRecord) → Keeps (G.holds self.old.group) (G.rules self.old.group) self.old.progress ps given
-            → ((g : Option Group) → G.holds self.old.group g → record_now (G.rules self.old.group) g self.old.progress.number self.old.progress.next ≡ Some x)
+        ensures follows { (ps : List Packet) (given : List FrameRecord) (x : FrameRecord) → (k : Keeps (G.holds self.old.group) (G.rules self.old.group) self.old.progress ps given)
+            → record_now (G.rules self.old.group) k.group self.old.progress.number self.old.progress.next ≡ Some x
             → Keeps (G.holds self.new.group) (G.rules self.new.group) self.new.progress ps (given ++ x ∷ []) }
         ensures group { self.new.group ≡ self.old.group }
         ensures rest { self.new.progress ≡ record (self.old.progress) { next = self.old.progress.next + 1 } }
