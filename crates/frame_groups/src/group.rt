@@ -1,5 +1,5 @@
 // The packets of the frame under way.
-ghost use Rattle.std.specs.Prelude.{◌≡◌, ◌<◌, ◌^◌, Bool, Option, Some, IfSome, is_some, true};
+ghost use Rattle.std.specs.Prelude.{◌≡◌, ◌<◌, ◌^◌, Bool, Option, Some, IfSome, is_some, true, false};
 ghost use Rattle.t2mi_packet.specs.T2miPacket.{Fits};
 ghost use Rattle.frame_groups.specs.declared.key.Key.{Key};
 ghost use Rattle.frame_groups.specs.Groups.{Group};
@@ -21,6 +21,9 @@ pub trait OpenGroup {
 
     /// Its packets are all there. They need not be once it is closed.
     ghost is_intact: { Self → Bool };
+
+    /// What is held can be given as a frame.
+    ghost is_frame: { Self → Bool };
 
     /// How many frames a superframe has.
     fn frames(&self) -> u8
@@ -60,5 +63,6 @@ pub trait OpenGroup {
     fn fault(&self, number: u64) -> Option<MuteCause>
         requires intact { is_intact self.now ≡ true }
         requires small { number < 2 ^ 32 }
-        ensures { (h : Group) → holds self.now (Some h) → result ≡ (rules self.now).fault h number };
+        ensures value { (h : Group) → holds self.now (Some h) → result ≡ (rules self.now).fault h number }
+        ensures frame { is_some result ≡ false → is_frame self.now ≡ true };
 }

@@ -20,6 +20,7 @@ fn join_number<G: OpenGroup>(group: &G) -> Option<u64>
     ensures value { (h : Group) → G.holds group.now (Some h) → result ≡ join_number (G.rules group.now) h }
     ensures passes { (h : Group) → G.holds group.now (Some h) → (n : ℕ) → result ≡ Some n → (G.rules group.now).fault h n ≡ None }
     ensures small { (n : ℕ) → result ≡ Some n → n < 2 ^ 31 }
+    ensures frame { is_some result ≡ true → G.is_frame group.now ≡ true }
 {
     let Some(key) = group.key() else {
         return None;
@@ -47,6 +48,7 @@ fn close_group<G: OpenGroup>(group: &G, progress: Progress) -> Progress
     ensures closing { result.closing ≡ true }
     ensures near { (bound : ℕ) → 2 ^ 31 ≤ bound → IsWithin bound progress → IsWithin bound result }
     ensures next { (result.next ≡ progress.next) ⊎ (result.next < 2 ^ 31) }
+    ensures frame { is_some result.number ≡ true → is_some result.fault ≡ false → G.is_frame group.now ≡ true }
 {
     let _key = group.key();
     match progress.number {
@@ -94,6 +96,8 @@ pub struct Sequence<G: OpenGroup + Drop> {
     pub progress: Progress,
     ghost near: { IsWithin most_number progress },
     ghost intact: { progress.closing ≡ false → G.is_intact group ≡ true },
+    // A group that passes can be given.
+    ghost frame: { progress.closing ≡ true → is_some progress.number ≡ true → is_some progress.fault ≡ false → G.is_frame group ≡ true },
 }
 
 impl<G: OpenGroup + Drop> Sequence<G> {

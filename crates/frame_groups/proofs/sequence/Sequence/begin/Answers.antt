@@ -1,5 +1,6 @@
-use Rattle.std.proofs.Common.{◌-◌, ◌<◌, Some, refl, arith, ◌∙◌}
+use Rattle.std.proofs.Common.{sym, ◌-◌, ◌<◌, Some, refl, arith, ◌∙◌}
 use Rattle.frame_groups.specs.Grouping.{one_packet}
+use Rattle.std.proofs.lemmas.Bool.{true≢false}
 use Rattle.frame_groups.specs.Waits.{most_number, greatest_step}
 use Rattle.frame_groups.proofs.SequenceLemmas.{started, has_group, other_key}
 use Rattle.frame_groups.proofs.sequence.Sequence.begin.Goals as goal
@@ -20,4 +21,4 @@ returns-clause-follows g c = λ ps given other k.
     }
 
 pub invariant_of-self : goal.invariant_of-self
-invariant_of-self g c = record { near = c.number_behind-number.ensures.near (most_number - greatest_step) c.requires.near; intact = λ _. c.begin.ensures.intact }
+invariant_of-self g c = record { near = c.number_behind-number.ensures.near (most_number - greatest_step) c.requires.near; intact = λ _. c.begin.ensures.intact; frame = λ shut. absurd (true≢false (sym shut)) }
