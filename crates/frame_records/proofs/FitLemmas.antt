@@ -22,11 +22,9 @@ use Rattle.scheduler.specs.Laws.{CountsFit, ShapeHasCounts}
 use Rattle.cell_map.specs.CellMap.{Passes, cell_map}
 use Rattle.cell_map.specs.Laws.{CellsFit, ShapePasses}
 use Rattle.cell_map.specs.declared.places.Cell.{Cell}
-use Rattle.l1_signal.specs.Fields.{row_bits, spelling}
 use Rattle.l1_signal.specs.L1Of.{pre_of, post_bits}
 use Rattle.l1_signal.specs.L1Pre.{pre_bits}
-use Rattle.l1_signal.specs.Laws.{PostLength}
-use Rattle.l1_signal.specs.declared.pre.L1Pre.{L1Pre}
+use Rattle.l1_signal.specs.Laws.{PreBitsLength, PostLength}
 use Rattle.mode_adapt.specs.Blocks.{block_bits, block_places, plp_keeps, rates_of, plp_blocks}
 use Rattle.mode_adapt.specs.Laws.{CountLaw}
 use Rattle.mode_adapt.specs.Queue.{sent, sent_before}
@@ -45,12 +43,8 @@ use Rattle.bb_frame.specs.Laws.{BitCounts}
 
 -- ---- L1-pre
 
-pre_length : (pre : L1Pre) → length (pre_bits pre) ≡ 168
-unfolding pre_bits row_bits spelling
-pre_length pre = simp (length-append, length-field) refl
-
-l1_pre_length : (c : Config) → length (l1_pre c) ≡ 200
-l1_pre_length c = length-append (pre_bits (pre_of c)) _ ∙ ap₂ (λ (a b : ℕ). a + b) (pre_length (pre_of c)) (length-field 32 _)
+l1_pre_length : PreBitsLength → (c : Config) → length (l1_pre c) ≡ 200
+l1_pre_length law c = length-append (pre_bits (pre_of c)) _ ∙ ap₂ (λ (a b : ℕ). a + b) (law (pre_of c)) (length-field 32 _)
 
 -- ---- how many blocks a frame has
 
@@ -162,13 +156,13 @@ cell_fits (Some found) h = let s = h found refl in (omega (arith, s), omega (ari
 
 -- ---- all of it
 
-pub every_frame_fits : EmissionFits → CellsByFive → CellsFit → EveryFrameFits
-every_frame_fits emits five cells c n post blocks shape is small short len passes few sent =
+pub every_frame_fits : PreBitsLength → EmissionFits → CellsByFive → CellsFit → EveryFrameFits
+every_frame_fits bits emits five cells c n post blocks shape is small short len passes few sent =
     let moment = emits c n is.rules small in
     let most : c.cells ≤ 4194303 = is.tests CellAddresses in
     let count : sum shape.counts ≤ 2071 = few_blocks five c shape is len passes in
     let addresses : length (frame_cells c shape) ≡ c.cells = cells_count c shape in
-    let pre = l1_pre_length c in
+    let pre = l1_pre_length bits c in
     record {
       moment = (omega (arith, moment), omega (arith, moment));
       rest = record {

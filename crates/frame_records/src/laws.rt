@@ -4,7 +4,7 @@ ghost use Rattle.frame_records.specs.Counted.{CountedLengths, CountedBlocks, Cou
 
 use bb_frame::bit_counts;
 use cell_map::{map_law, shape_law};
-use l1_signal::post_law;
+use l1_signal::{post_law, pre_law};
 use mode_adapt::count_law;
 use plp_config::{block_law, emission_law, length_law, release_law};
 use scheduler::order_law;
@@ -48,6 +48,7 @@ pub fn fit_law()
     length_law();
     block_law();
     count_law();
+    pre_law();
     post_law();
     order_law();
     shape_law();

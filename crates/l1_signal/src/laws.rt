@@ -1,5 +1,5 @@
 // Laws of the definitions. Their functions do nothing.
-ghost use Rattle.l1_signal.specs.Laws.{PreReadBack, PreReadSpelled, PreWritten, PreLength, ConfReadBack, ConfReadSpelled, ConfWritten, ConfLength, DynReadBack, DynReadSpelled, DynWritten, DynLength, PostLength, ConfPartLength, EndsInItsCrc, TablesAreRows};
+ghost use Rattle.l1_signal.specs.Laws.{PreReadBack, PreReadSpelled, PreWritten, PreLength, PreBitsLength, ConfReadBack, ConfReadSpelled, ConfWritten, ConfLength, DynReadBack, DynReadSpelled, DynWritten, DynLength, PostLength, ConfPartLength, EndsInItsCrc, TablesAreRows};
 
 use bit_slice::crc32_law;
 
@@ -9,6 +9,7 @@ pub fn pre_law()
     ensures spelled { PreReadSpelled }
     ensures written { PreWritten }
     ensures len { PreLength }
+    ensures bits { PreBitsLength }
 {
     crc32_law();
 }

@@ -3,3 +3,4 @@ pub mod Front
 pub mod Steps
 pub mod Writes
 pub mod Fitting
+pub mod Laws
