@@ -32,7 +32,7 @@ use Rattle.null_delete.specs.Deletion.{packet_at}
 use Rattle.site_frame.specs.Record.{Block, FitsBlock, FitsCell}
 use Rattle.site_frame.specs.Whole.{FitsRecord, block_size}
 use Rattle.frame_records.specs.Frames.{places, frame_shape, sent_block, sent_blocks, frame_cells, l1_pre, frame_of, HasByteIds}
-use Rattle.frame_records.specs.Laws.{IsSentBlock, EveryFrameFits, MutedFits, FrameFits, RecordsFit}
+use Rattle.frame_records.specs.Laws.{IsSentBlock, FewBlocks, EveryFrameFits, MutedFits, FrameFits, RecordsFit}
 use Rattle.frame_records.specs.Records.{numbers_from, record_of}
 use Rattle.frame_records.proofs.RecordLemmas.{found}
 use Rattle.site_frame.specs.declared.reading.RecordView.{RecordView}
@@ -92,7 +92,7 @@ cells_le five c (n ∷ counts) (p ∷ plps) from len at each =
     omega (arith, both, more, sum_by-cons (λ x. x) n counts, sum_by-cons (λ plp. plp.blocks * cells_per_block plp.fec plp.modulation) p plps)
 
 -- a frame has 2071 blocks at most
-few_blocks : CellsByFive → (c : Config) (shape : FrameShape) → IsPlan c → length shape.counts ≡ length c.plps → Passes c shape → sum shape.counts ≤ 2071
+pub few_blocks : CellsByFive → FewBlocks
 unfolding cell_need
 few_blocks five c shape is len passes =
     let cells = cells_le five c shape.counts c.plps 0 len (λ i lt. let e : i ≡ 0 + i = omega arith in ap (plp_at c.plps) e) passes.counts in

@@ -49,11 +49,15 @@ CellStands = (c : Config) (inputs : ℕ → List (List ℕ)) (n plp block cell :
 abbrev pub most_post_bits : ℕ
 most_post_bits = 213 + 137 * 255
 
+-- A frame of a plan has 2,071 blocks at most, if its shape passes.
+abbrev pub FewBlocks : Type 0
+FewBlocks = (c : Config) (shape : FrameShape) → IsPlan c → length shape.counts ≡ length c.plps → Passes c shape → sum shape.counts ≤ 2071
+
 -- PLP_ID is a byte, and the block is no longer than the longest baseband frame.
 abbrev pub IsSentBlock : Block → Type 0
 IsSentBlock b = (b.plp < 2 ^ 8) × (length b.bytes ≤ MOST_BLOCK_BYTES)
 
--- A frame of a plan fits a record, whatever its L1-post and its blocks are, if its shape passes and it has no more blocks than that.
+-- Such a frame fits a record, whatever its L1-post and its blocks are, if it has no more blocks than its shape tells.
 abbrev pub EveryFrameFits : Type 0
 EveryFrameFits = (c : Config) (n : ℕ) (post : List Bool) (blocks : List Block) (shape : FrameShape) → IsPlan c → n < 2 ^ 32
     → length post ≤ most_post_bits → length shape.counts ≡ length c.plps → Passes c shape → length blocks ≤ sum shape.counts → AllByRecursion IsSentBlock blocks

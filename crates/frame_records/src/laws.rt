@@ -1,5 +1,5 @@
 // Laws of the definitions. Their functions do nothing.
-ghost use Rattle.frame_records.specs.Laws.{FrameLength, BlockStands, CellStands, EveryFrameFits, MutedFits, FrameFits, RecordsOnGrid, RecordsFit, AllWhole, NoneLost, DueReleased};
+ghost use Rattle.frame_records.specs.Laws.{FrameLength, BlockStands, CellStands, FewBlocks, EveryFrameFits, MutedFits, FrameFits, RecordsOnGrid, RecordsFit, AllWhole, NoneLost, DueReleased};
 ghost use Rattle.frame_records.specs.Counted.{CountedLengths, CountedBlocks, CountedStart, CountedPre, CountedPost, CountedFrames, CountedRecords, CountedSlots, CountedLoss};
 
 use bb_frame::bit_counts;
@@ -38,6 +38,7 @@ pub fn stand_law()
 
 /// Every frame of a plan fits a record, and so do the records of a run.
 pub fn fit_law()
+    ensures few { FewBlocks }
     ensures every { EveryFrameFits }
     ensures muted { MutedFits }
     ensures frame { FrameFits }

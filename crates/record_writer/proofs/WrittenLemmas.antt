@@ -18,18 +18,17 @@ use Rattle.plp_config.specs.declared.config.Config.{Config}
 use Rattle.scheduler.specs.Shape.{FrameShape}
 use Rattle.cell_map.specs.CellMap.{cell_map}
 use Rattle.l1_signal.specs.L1Configurable.{conf_bits}
-use Rattle.l1_signal.specs.L1Of.{pre_of, conf_of}
-use Rattle.l1_signal.specs.L1Pre.{pre_bits}
+use Rattle.l1_signal.specs.L1Of.{conf_of}
 use Rattle.l1_signal.specs.Laws.{PreBitsLength, ConfPartLength}
 use Rattle.site_frame.specs.Laws.{BlocksInOrder}
-use Rattle.site_frame.specs.Record.{Block, frame_kind, head_bytes, block_bytes as spelled_block, blocks_bytes, cell_bytes}
+use Rattle.site_frame.specs.Record.{Block, frame_kind, muted_kind, head_bytes, block_bytes as spelled_block, blocks_bytes, cell_bytes}
 use Rattle.site_frame.specs.Whole.{written_rest}
 use Rattle.frame_records.specs.Frames.{l1_pre, frame_cells, HasByteIds}
 use Rattle.frame_records.specs.Laws.{IsSentBlock, EveryFrameFits}
 use Rattle.record_writer.specs.Front.{post_with}
 use Rattle.record_writer.specs.RecordBytes.{list_at, plp_block, sent_bytes, list_blocks, lists_bytes, words}
-use Rattle.record_writer.specs.Laws.{written_frame, RecordWritten, BlockCount, post_size, RestLength, RecordFits}
-use Rattle.record_writer.proofs.FittingLemmas.{length-crc_behind}
+use Rattle.record_writer.specs.Laws.{written_frame, RecordWritten, MutedWritten, BlockCount, post_size, RestLength, RecordFits}
+use Rattle.record_writer.proofs.FittingLemmas.{length-crc_behind, length-l1_pre}
 use Rattle.record_writer.proofs.RecordLemmas.{length-words}
 
 -- ---- the sections one behind another
@@ -74,6 +73,9 @@ record_written order c moment dynamic shape lists =
     joined head pre (bits ++ bytes_of post) count (lists_bytes c 0 lists) (big_bytes 4 c.cells) (words c shape 0 c.cells)
     ∙ ap₂ (λ (p b : List ℕ). head ++ (pre ++ ((bits ++ p) ++ ((count ++ b) ++ ((big_bytes 4 c.cells ++ words c shape 0 c.cells) ++ []))))) (ap bytes_of (sym (append-nil post))) (sym spelled)
     ∙ ap₂ (λ (n : ℕ) (w : List ℕ). head ++ (pre ++ ((bits ++ bytes_of (post ++ [])) ++ ((count ++ blocks_bytes blocks []) ++ ((big_bytes 4 n ++ w) ++ []))))) (sym (cells_are c shape)) (sym all)
+
+pub muted_written : MutedWritten
+muted_written moment = sym (append-nil (head_bytes muted_kind moment 0))
 
 -- ---- how many bytes they have
 
@@ -124,10 +126,7 @@ length_at (blocks ∷ lists) (suc i) = length_at lists i
 four_sections : (a b c d : List ℕ) → length (concat (a ∷ b ∷ c ∷ d ∷ [])) ≡ length a + (length b + (length c + length d))
 four_sections a b c d = omega (arith, length-append a (b ++ (c ++ (d ++ []))), length-append b (c ++ (d ++ [])), length-append c (d ++ []), length-append d [])
 
--- the bits of L1
-length-l1_pre : PreBitsLength → (c : Config) → length (l1_pre c) ≡ 200
-length-l1_pre law c = length-crc_behind (pre_bits (pre_of c)) ∙ ap (λ (n : ℕ). n + 32) (law (pre_of c))
-
+-- the bits of L1-post
 length-post_with : ConfPartLength → (c : Config) (dynamic : List Bool) → length (post_with c dynamic) ≡ post_size c (length dynamic)
 length-post_with law c dynamic = omega (arith, length-crc_behind (conf_bits (conf_of c) ++ dynamic), length-append (conf_bits (conf_of c)) dynamic, law c)
 

@@ -1,6 +1,9 @@
 use Rattle.frame_records.specs.Laws.{EveryFrameFits, FrameFits}
-use Rattle.frame_records.proofs.FitLemmas.{every_frame_fits, muted_fits, frame_fits, records_fit}
+use Rattle.frame_records.proofs.FitLemmas.{few_blocks, every_frame_fits, muted_fits, frame_fits, records_fit}
 use Rattle.frame_records.proofs.laws.fit_law.Goals as goal
+
+pub returns-clause-few : goal.returns-clause-few
+returns-clause-few c = few_blocks c.block_law.ensures.cells
 
 pub returns-clause-every : goal.returns-clause-every
 returns-clause-every c = every_frame_fits c.pre_law.ensures.bits c.emission_law.ensures.fits c.block_law.ensures.cells c.map_law.ensures.small
