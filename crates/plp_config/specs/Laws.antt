@@ -120,7 +120,7 @@ EmissionFound = (c : Config) (moment : Moment) (frame : ℕ) → AllRules c → 
 
 -- the emissions of a run fit a timestamp, and are neither relative (0 seconds) nor null (all ones)
 abbrev pub EmissionFits : Type 0
-EmissionFits = (c : Config) (frame : ℕ) → AllRules c → frame < 2 ^ 31
+EmissionFits = (c : Config) (frame : ℕ) → AllRules c → frame < 2 ^ 32
     → (1 ≤ (emission c frame).seconds) × ((emission c frame).seconds < 2 ^ 40 - 1) × ((emission c frame).subseconds < 2 ^ 27)
 
 -- `frame_count` is the least number of whole superframes that is enough
