@@ -2,6 +2,8 @@ pub mod Networks
 pub mod HoldsStamps
 pub mod Parts
 pub mod HoldsL1
+pub mod Sent
+pub mod HoldsBlocks
 pub use Rattle.frame_tests.specs.Carried
 pub use Rattle.frame_tests.specs.Tests
 pub use Rattle.frame_tests.specs.Tally

@@ -1,6 +1,7 @@
 //! The group under way of a modulator, of fixed size, and the six tests of it (ETSI TS 102 773, clause 5).
 #![tactic(auto)]
 
+mod blocks;
 mod l1;
 mod network;
 mod parts;

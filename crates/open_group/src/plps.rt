@@ -36,6 +36,7 @@ fn first_with(plan: &Plan, id: u8) -> Option<usize>
 /// The place of the PLP with an identifier.
 pub fn place_of(plan: &Plan, id: u8) -> Option<usize>
     ensures some { IfSome result (IsPlace plan.now id) }
+    ensures small { IfSome result (λ place. place < 255) }
     ensures none { IfNone result (HasNoPlace plan.now id) }
 {
     plan.obeys_rules();
