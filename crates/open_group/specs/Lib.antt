@@ -4,6 +4,7 @@ pub mod Parts
 pub mod HoldsL1
 pub mod Sent
 pub mod HoldsBlocks
+pub mod Holds
 pub use Rattle.frame_tests.specs.Carried
 pub use Rattle.frame_tests.specs.Tests
 pub use Rattle.frame_tests.specs.Tally

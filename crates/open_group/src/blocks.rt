@@ -1,5 +1,6 @@
 // The blocks of a group.
-ghost use Rattle.std.specs.Prelude.{◌≡◌, ◌+◌, ◌*◌, ◌≤◌, length};
+ghost use Rattle.std.specs.Prelude.{◌≡◌, ◌+◌, ◌*◌, ◌<◌, ◌≤◌, ℕ, [], length};
+ghost use Rattle.linked_pool.specs.Pool.{list_at};
 ghost use Rattle.open_group.specs.Sent.{sent_bytes};
 ghost use Rattle.plp_config.specs.declared.plp.TheConstants.{MOST_BLOCK_BYTES};
 
@@ -8,6 +9,7 @@ use bb_frame::scramble;
 use bit_slice::{BitSlice, OutOfMemory};
 use linked_pool::Pool;
 use plp_config::{MOST_BLOCK_BYTES, Plan};
+use scheduler::Shape;
 use std::alloc::Global;
 use t2mi_packet::{Body, Packet};
 
@@ -27,6 +29,30 @@ pub struct HeldBlocks {
     ghost room: { need ≤ chunks → chunks ≤ pool.spare + need },
 }
 
+// Removes the blocks of all lists.
+fn clear_lists(pool: &mut Pool, lists: u32)
+    requires { length pool.old.lists ≡ lists }
+    ensures lists { length pool.new.lists ≡ lists }
+    ensures none { (list : ℕ) → list < lists → list_at pool.new list ≡ [] }
+    ensures opened { pool.new.opened ≡ pool.old.opened }
+{
+    for list in 0..lists {
+        pool.clear(list);
+    }
+}
+
+fn clear_pool(pool: &mut Pool, lists: u32)
+    requires { length pool.old.lists ≡ lists }
+    ensures lists { length pool.new.lists ≡ lists }
+    ensures none { (list : ℕ) → list < lists → list_at pool.new list ≡ [] }
+    ensures opened { pool.new.opened ≡ pool.old.opened }
+    ensures spare { pool.new.spare ≡ pool.new.opened }
+{
+    clear_lists(pool, lists);
+    // A call that tells that every chunk is free or has a part of a block.
+    let _ = pool.spare();
+}
+
 // The bytes of a block as it is sent.
 fn send(bits: &BitSlice<'_>, out: &mut [u8])
     requires { length bits.now ≡ 8 * length out.old }
@@ -38,12 +64,12 @@ fn send(bits: &BitSlice<'_>, out: &mut [u8])
 }
 
 impl HeldBlocks {
-    ghost use Rattle.std.specs.Prelude.{◌≡◌, ◌<◌, ◌≤◌, ◌+◌, ◌*◌, ◌++◌, ◌∷◌, [], true, false, min, length, replicate, map, vec_len, slice_set, slice_index, IfOk, List, Bool, ℕ};
+    ghost use Rattle.std.specs.Prelude.{◌≡◌, ◌<◌, ◌≤◌, ◌+◌, ◌*◌, ◌++◌, ◌∷◌, [], true, false, Some, min, length, replicate, map, vec_len, slice_set, slice_index, IfOk, List, Bool, ℕ};
     ghost use Rattle.linked_pool.specs.Pool.{State, list_at, chunks_for, appended};
     ghost use Rattle.plp_config.specs.Capacity.{block_bytes};
     ghost use Rattle.t2mi_packet.specs.declared.packet.Packet.{Packet};
     ghost use Rattle.t2mi_packet.specs.declared.packet.Body.TheVariants.{Block};
-    ghost use Rattle.frame_tests.specs.Tally.{Tally, tally, tally_with};
+    ghost use Rattle.frame_tests.specs.Tally.{Tally, tally_counts, tally_with};
     ghost use Rattle.frame_tests.specs.Tests.{pool_chunks};
     ghost use Rattle.open_group.specs.HoldsBlocks.{IsOpenFor, HoldsCounts, HoldsLists, capped};
     ghost use Rattle.open_group.specs.Sent.{sent_bytes};
@@ -132,5 +158,56 @@ impl HeldBlocks {
             Body::Timestamp(_) => {}
             Body::Other { .. } => {}
         }
+    }
+    /// Holds nothing.
+    pub fn clear(&mut self, plan: &Plan)
+        requires open { IsOpenFor self.old (length plan.now.plps) }
+        ensures counts { self.new.counts.items ≡ replicate (length self.old.counts.items) 0 }
+        ensures need { self.new.need ≡ 0 }
+        ensures known { self.new.known ≡ true }
+        ensures none { (list : ℕ) → list < length plan.now.plps → list_at self.new.pool list ≡ [] }
+        ensures open { IsOpenFor self.new (length plan.now.plps) }
+        ensures all { self.new.chunks ≡ self.old.chunks }
+    {
+        clear_pool(&mut self.pool, plan.config().plps.len() as u32);
+        self.counts.fill(0);
+        self.need = 0;
+        self.known = true;
+    }
+
+    /// How many chunks there are, and how many the blocks need that have the length of their PLP.
+    pub fn chunks(&self) -> (u64, u64)
+        ensures chunks { result.0 ≡ self.now.chunks }
+        ensures need { result.1 ≡ self.now.need }
+    {
+        (u64::from(self.chunks), self.need)
+    }
+
+    /// Whether each block was one of a PLP, with its length.
+    pub fn is_known(&self) -> bool
+        ensures { result ≡ self.now.known }
+    {
+        self.known
+    }
+
+    fn count_of(&self, plp: usize) -> u64
+        requires { plp < vec_len self.now.counts }
+        ensures { result ≡ slice_index self.now.counts.items plp }
+    {
+        self.counts[plp]
+    }
+
+    /// Whether each PLP has as many blocks as a shape tells.
+    pub fn has_counts(&self, plan: &Plan, shape: &Shape) -> bool
+        requires open { IsOpenFor self.now (length plan.now.plps) }
+        requires shape { length shape.now.counts ≡ length plan.now.plps }
+        ensures { (t : Tally) → HoldsCounts plan.now self.now t → result ≡ tally_counts plan.now t (Some shape.now) }
+    {
+        for plp in 0..shape.len() {
+            if self.count_of(plp) != u64::from(shape.count(plp)) {
+                return false;
+            }
+        }
+        true
     }
 }

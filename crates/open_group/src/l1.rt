@@ -1,13 +1,16 @@
 // The L1 signalling of a group.
-ghost use Rattle.std.specs.Prelude.{◌≡◌, false, Some, None, length, if◌then◌else◌};
+ghost use Rattle.std.specs.Prelude.{◌≡◌, ◌<◌, false, nat_eq, Some, None, length, map, slice_index_or, if◌then◌else◌};
+ghost use Rattle.std.specs.Cmp.Lexicographic.{pointwise};
+ghost use Rattle.l1_signal.specs.declared.dyn_plp.DynPlp.{DynPlp};
 ghost use Rattle.l1_signal.specs.L1Configurable.{conf_read, info_size};
 ghost use Rattle.l1_signal.specs.L1Dynamic.{dyn_read};
 ghost use Rattle.l1_signal.specs.L1Of.{told_shape};
 ghost use Rattle.l1_signal.specs.L1Pre.{pre_rows, pre_reading};
-ghost use Rattle.frame_tests.specs.Tests.{read_whole, same_told, pre_agrees, conf_agrees};
+ghost use Rattle.frame_tests.specs.Tests.{read_whole, same_told, pre_agrees, conf_agrees, dyn_agrees};
 
 use crate::network::Network;
 use crate::parts::HeldParts;
+use crate::plps::plp_id;
 use bit_slice::{BitReader, BitSlice, BitSource, OutOfMemory};
 use frame_tests::parts_law;
 use l1_signal::{L1Dyn, L1Pre, is_conf, pre_of, read_dyn, read_pre, shape_of};
@@ -94,8 +97,41 @@ fn tell_shape(dynamic: &L1Dyn, out: &mut Shape)
     shape_of(dynamic, out);
 }
 
+// Whether the PLPs of a dynamic part are those of the plan, in order.
+fn has_ids(plan: &Plan, dynamic: &L1Dyn) -> bool
+    requires { length dynamic.now.plps ≡ length plan.now.plps }
+    ensures { result ≡ pointwise nat_eq (map (λ plp. plp.plp_id) dynamic.now.plps) (map (λ plp. plp.id) plan.now.plps) }
+{
+    for plp in 0..dynamic.plps.len() {
+        if told_id(dynamic, plp) != plp_id(plan, plp) {
+            return false;
+        }
+    }
+    true
+}
+
+fn told_id(dynamic: &L1Dyn, plp: usize) -> u8
+    requires { plp < length dynamic.now.plps }
+    ensures { (d : DynPlp) → result ≡ (slice_index_or dynamic.now.plps plp d).plp_id }
+{
+    dynamic.plps.get(plp).unwrap().plp_id
+}
+
+// Whether a dynamic part is one of a frame.
+fn is_of_frame(plan: &Plan, number: u64, dynamic: &L1Dyn) -> bool
+    requires { length dynamic.now.plps ≡ length plan.now.plps }
+    ensures { result ≡ dyn_agrees plan.now number (Some dynamic.now) }
+{
+    u64::from(dynamic.frame_idx) == number % u64::from(plan.config().frames)
+        && has_ids(plan, dynamic)
+}
+
 impl HeldL1 {
-    ghost use Rattle.std.specs.Prelude.{◌≡◌, ◌+◌, ◌≤◌, ◌∷◌, [], true, false, Some, None, length, IfOk, if◌then◌else◌};
+    ghost use Rattle.std.specs.Prelude.{◌≡◌, ◌&&◌, ◌+◌, ◌≤◌, ◌∷◌, [], true, false, Bool, Option, Some, None, length, IfOk, IfSome, if◌then◌else◌};
+    ghost use Rattle.std.specs.Option.{option_and_then, option_copied, option_map_or};
+    ghost use Rattle.plp_config.specs.declared.config.Config.{Config};
+    ghost use Rattle.frame_tests.specs.Carried.{L1Parts};
+    ghost use Rattle.frame_tests.specs.Tests.{dyn_agrees, read_dynamic, parts_agree, l1_shape};
     ghost use Rattle.frame_tests.specs.Carried.{l1s_of};
     ghost use Rattle.t2mi_packet.specs.T2miPacket.{Fits};
     ghost use Rattle.open_group.specs.declared.parts.TheConstants.{MOST_BITS};
@@ -195,5 +231,57 @@ impl HeldL1 {
             Body::Timestamp(_) => {}
             Body::Other { .. } => {}
         }
+    }
+    /// Whether there is an L1-current.
+    pub fn is_held(&self) -> bool
+        ensures { result ≡ self.now.is_held }
+    {
+        self.is_held
+    }
+
+    /// The first one.
+    pub fn parts(&self) -> &HeldParts
+        ensures { result.now ≡ self.now.parts }
+    {
+        &self.parts
+    }
+
+    // Whether the dynamic part of the first one is of a frame.
+    fn is_dynamic(&self, plan: &Plan, number: u64) -> bool
+        requires rows { length self.now.dynamic.plps ≡ length plan.now.plps }
+        ensures { HasRead plan.now self.now → result ≡ dyn_agrees plan.now number (read_dynamic plan.now (parts_of self.now.parts)) }
+    {
+        self.told && is_of_frame(plan, number, &self.dynamic)
+    }
+
+    // Whether the first one is of the configuration and of a frame.
+    #[tactic(auto, unfolding(frame_tests::specs::Tests::parts_agree))]
+    fn is_first(&self, plan: &Plan, number: u64) -> bool
+        requires rows { length self.now.dynamic.plps ≡ length plan.now.plps }
+        ensures { HasRead plan.now self.now → result ≡ parts_agree plan.now number (parts_of self.now.parts) }
+    {
+        self.agrees && self.is_dynamic(plan, number)
+    }
+
+    /// Whether all are the same, and those of the configuration and of a frame.
+    pub fn agrees(&self, plan: &Plan, number: u64) -> bool
+        requires rows { length self.now.dynamic.plps ≡ length plan.now.plps }
+        ensures { (first : Option L1Parts) (alike : Bool) → HoldsL1 plan.now self.now first alike → result ≡ (alike && option_map_or (parts_agree plan.now number) first true) }
+    {
+        if !self.is_held {
+            return self.alike;
+        }
+        self.alike && self.is_first(plan, number)
+    }
+
+    /// The shape that the first one tells, if it reads.
+    pub fn shape(&self) -> Option<&Shape>
+        ensures shape { (c : Config) (first : Option L1Parts) (alike : Bool) → HoldsL1 c self.now first alike → option_copied result ≡ option_and_then (l1_shape c) first }
+        ensures len { IfSome result (λ shape. length shape.now.counts ≡ length self.now.dynamic.plps) }
+    {
+        if self.is_held && self.told {
+            return Some(&self.shape);
+        }
+        None
     }
 }

@@ -2,10 +2,12 @@
 #![tactic(auto)]
 
 mod blocks;
+mod faults;
+mod group;
 mod l1;
 mod network;
 mod parts;
 mod plps;
 mod stamps;
 
-pub use network::Network;
+pub use group::PooledGroup;

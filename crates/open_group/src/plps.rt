@@ -13,7 +13,8 @@ use plp_config::Plan;
 const CHUNKS_OF_CELLS: u32 = 7;
 const FEWEST_CELLS: u32 = 2_025;
 
-fn plp_id(plan: &Plan, plp: usize) -> u8
+/// PLP_ID of the PLP at a place.
+pub fn plp_id(plan: &Plan, plp: usize) -> u8
     requires { plp < length plan.now.plps }
     ensures { result ≡ (plp_at plan.now.plps plp).id }
 {

@@ -1,0 +1,120 @@
+// The group under way.
+ghost use Rattle.std.specs.Prelude.{◌≡◌, length};
+ghost use Rattle.frame_tests.specs.Tests.{pool_chunks};
+ghost use Rattle.open_group.specs.HoldsBlocks.{IsOpenFor};
+
+use crate::blocks::HeldBlocks;
+use crate::faults::{blocks_fault, l1_fault, map_fault, missing_fault, pool_fault, time_fault};
+use crate::l1::HeldL1;
+use crate::network::Network;
+use crate::stamps::HeldStamps;
+use bit_slice::{BitSlice, OutOfMemory};
+use frame_groups::{Key, MuteCause};
+use frame_tests::tally_law;
+use plp_config::Plan;
+use scheduler::Shape;
+use std::alloc::Global;
+use t2mi_packet::Packet;
+
+/// The group under way: its key, and what its packets come to. All its memory is taken in `open`. If its blocks need more chunks than
+/// the pool has, no more of them are kept, and only counted.
+#[derive(Drop)]
+pub struct PooledGroup<'p> {
+    network: Network<'p>,
+    key: Option<Key>,
+    // No block was given out.
+    intact: bool,
+    stamps: HeldStamps,
+    l1: HeldL1,
+    blocks: HeldBlocks,
+    ghost rows: { length l1.dynamic.plps ≡ length network.plps },
+    ghost open: { IsOpenFor blocks (length network.plps) },
+    ghost chunks: { blocks.chunks ≡ pool_chunks network },
+}
+
+impl<'p> PooledGroup<'p> {
+    ghost use Rattle.std.specs.Prelude.{◌≡◌, ◌<◌, ◌≤◌, ◌^◌, ◌++◌, ◌∷◌, [], List, Option, Some, None, true, IfOk, IfSome, is_some, length};
+    ghost use Rattle.t2mi_packet.specs.T2miPacket.{Fits};
+    ghost use Rattle.t2mi_packet.specs.declared.packet.Packet.{Packet};
+    ghost use Rattle.frame_groups.specs.Grouping.{one_packet, one_more, key_of};
+    ghost use Rattle.frame_groups.specs.Groups.{Group};
+    ghost use Rattle.frame_tests.specs.Tests.{named_frame, group_fault};
+    ghost use Rattle.open_group.specs.Holds.{HoldsPackets, Holds, most_packets};
+
+    /// A group in a network of this plan: none yet. It takes all the memory that a group needs.
+    pub fn open(alloc: Global, plan: &'p Plan) -> Result<PooledGroup<'p>, OutOfMemory>
+        ensures holds { IfOk result (λ group. Holds group None) }
+        ensures network { IfOk result (λ group. group.network ≡ plan.now) }
+        ensures intact { IfOk result (λ group. group.intact ≡ true) }
+    {
+        Ok(PooledGroup {
+            network: Network::open(alloc, plan)?,
+            key: None,
+            intact: true,
+            stamps: HeldStamps::NONE,
+            l1: HeldL1::open(alloc, plan)?,
+            blocks: HeldBlocks::open(alloc, plan)?,
+        })
+    }
+
+    // Holds no packets.
+    fn clear(&mut self)
+        ensures holds { HoldsPackets self.new [] }
+        ensures key { self.new.key ≡ self.old.key }
+        ensures network { self.new.network ≡ self.old.network }
+        ensures intact { self.new.intact ≡ self.old.intact }
+    {
+        self.stamps = HeldStamps::NONE;
+        self.l1.clear();
+        self.blocks.clear(self.network.plan());
+    }
+
+    // Holds one packet more.
+    fn hold(&mut self, packet: &Packet<'_>)
+        requires fits { Fits packet.now }
+        ensures holds { (packets : List Packet) → HoldsPackets self.old packets → HoldsPackets self.new (packets ++ packet.now ∷ []) }
+        ensures key { self.new.key ≡ self.old.key }
+        ensures network { self.new.network ≡ self.old.network }
+        ensures intact { self.new.intact ≡ self.old.intact }
+    {
+        tally_law();
+        self.stamps.add(packet);
+        self.l1.add(&self.network, packet);
+        self.blocks.add(self.network.plan(), packet);
+    }
+
+    /// The key of the group, if there is one.
+    pub fn key(&self) -> Option<Key>
+        ensures value { result ≡ self.now.key }
+        ensures is { (g : Option Group) → Holds self.now g → key_of g ≡ self.now.key }
+    {
+        self.key
+    }
+
+    /// Begins a group in place of the one that there is.
+    pub fn begin(&mut self, key: Key, packet: &Packet<'_>)
+        requires fits { Fits packet.now }
+        ensures group { Holds self.new (Some (one_packet key packet.now)) }
+        ensures intact { self.new.intact ≡ true }
+        ensures key { self.new.key ≡ Some key }
+        ensures network { self.new.network ≡ self.old.network }
+    {
+        self.key = Some(key);
+        self.intact = true;
+        self.clear();
+        self.hold(packet);
+    }
+
+    /// Adds a packet.
+    pub fn add(&mut self, packet: &Packet<'_>)
+        requires some { is_some self.old.key ≡ true }
+        requires intact { self.old.intact ≡ true }
+        requires fits { Fits packet.now }
+        ensures group { (h : Group) → Holds self.old (Some h) → Holds self.new (Some (one_more h packet.now)) }
+        ensures intact { self.new.intact ≡ true }
+        ensures key { self.new.key ≡ self.old.key }
+        ensures network { self.new.network ≡ self.old.network }
+    {
+        self.hold(packet);
+    }
+}
