@@ -2,7 +2,7 @@
 ghost use Rattle.std.specs.Prelude.{◌≡◌, ◌<◌, ◌≤◌, ◌^◌, length};
 ghost use Rattle.std.specs.Option.{option_and_then};
 ghost use Rattle.frame_tests.specs.MapTest.{map_passes};
-ghost use Rattle.frame_tests.specs.Tally.{Tally, tally_need, tally_pool, tally_missing, tally_l1, first_late, tally_time, tally_counts, tally_shape, tally_blocks, tally_map};
+ghost use Rattle.frame_tests.specs.Tally.{Tally, tally_need, tally_pool, tally_missing, tally_l1, first_late, tally_time, tally_counts, tally_shape, tally_blocks, tally_map, tally_fault};
 ghost use Rattle.frame_tests.specs.Tests.{begins_superframe, pool_chunks, stamp_agrees, disagrees, has_map};
 ghost use Rattle.open_group.specs.HoldsBlocks.{greatest, IsOpenFor, HoldsCounts};
 ghost use Rattle.open_group.specs.HoldsL1.{HoldsL1};
@@ -163,4 +163,37 @@ pub fn map_fault(plan: &Plan, l1: &HeldL1) -> Option<MuteCause>
         return None;
     }
     Some(MuteCause::MapRefused)
+}
+
+/// The cause of the first test that fails.
+#[tactic(auto, unfolding(frame_tests::specs::Tally::tally_fault))]
+pub fn first_fault(
+    plan: &Plan,
+    number: u64,
+    stamps: HeldStamps,
+    l1: &HeldL1,
+    blocks: &HeldBlocks,
+) -> Option<MuteCause>
+    requires small { number < 2 ^ 32 }
+    requires chunks { blocks.now.chunks ≡ pool_chunks plan.now }
+    requires rows { length l1.now.dynamic.plps ≡ length plan.now.plps }
+    requires open { IsOpenFor blocks.now (length plan.now.plps) }
+    ensures { (t : Tally) → HoldsStamps stamps t → HoldsL1 plan.now l1.now t.l1 t.alike → HoldsCounts plan.now blocks.now t → tally_need plan.now t ≤ greatest → result ≡ tally_fault plan.now number t }
+{
+    if let Some(cause) = pool_fault(plan, blocks) {
+        return Some(cause);
+    }
+    if let Some(cause) = missing_fault(plan, number, l1, stamps) {
+        return Some(cause);
+    }
+    if let Some(cause) = l1_fault(plan, number, l1) {
+        return Some(cause);
+    }
+    if let Some(cause) = time_fault(plan, number, stamps) {
+        return Some(cause);
+    }
+    if let Some(cause) = blocks_fault(plan, l1, blocks) {
+        return Some(cause);
+    }
+    map_fault(plan, l1)
 }

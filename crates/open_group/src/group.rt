@@ -4,15 +4,15 @@ ghost use Rattle.frame_tests.specs.Tests.{pool_chunks};
 ghost use Rattle.open_group.specs.HoldsBlocks.{IsOpenFor};
 
 use crate::blocks::HeldBlocks;
-use crate::faults::{blocks_fault, l1_fault, map_fault, missing_fault, pool_fault, time_fault};
+use crate::faults::first_fault;
 use crate::l1::HeldL1;
+use crate::named::named;
 use crate::network::Network;
 use crate::stamps::HeldStamps;
-use bit_slice::{BitSlice, OutOfMemory};
+use bit_slice::OutOfMemory;
 use frame_groups::{Key, MuteCause};
 use frame_tests::tally_law;
-use plp_config::Plan;
-use scheduler::Shape;
+use plp_config::{Plan, block_law};
 use std::alloc::Global;
 use t2mi_packet::Packet;
 
@@ -116,5 +116,36 @@ impl<'p> PooledGroup<'p> {
         ensures network { self.new.network ≡ self.old.network }
     {
         self.hold(packet);
+    }
+    /// How many frames a superframe has.
+    pub fn frames(&self) -> u8
+        ensures value { result ≡ self.now.network.frames }
+        ensures some { 0 < result }
+    {
+        self.network.plan().config().frames as u8
+    }
+
+    /// Why it is not the frame of a number: the cause of the first test that fails.
+    pub fn fault(&self, number: u64) -> Option<MuteCause>
+        requires intact { self.now.intact ≡ true }
+        requires small { number < 2 ^ 32 }
+        ensures { (h : Group) → length h.packets < most_packets → Holds self.now (Some h) → result ≡ group_fault self.now.network h number }
+    {
+        tally_law();
+        block_law();
+        let plan = self.network.plan();
+        plan.obeys_rules();
+        first_fault(plan, number, self.stamps, &self.l1, &self.blocks)
+    }
+    /// The frame that its first timestamp names: below 2^31.
+    pub fn named(&self) -> Option<u64>
+        requires { self.now.intact ≡ true }
+        ensures value { (h : Group) → Holds self.now (Some h) → result ≡ named_frame self.now.network h }
+        ensures small { IfSome result (λ n. n < 2 ^ 31) }
+    {
+        let Some(key) = self.key else {
+            return None;
+        };
+        named(self.network.plan(), key, self.stamps)
     }
 }

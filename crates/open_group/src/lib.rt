@@ -5,6 +5,7 @@ mod blocks;
 mod faults;
 mod group;
 mod l1;
+mod named;
 mod network;
 mod parts;
 mod plps;
