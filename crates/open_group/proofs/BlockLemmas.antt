@@ -1,7 +1,7 @@
 -- One block more.
-use Rattle.std.proofs.Common.{◌≡◌, ◌≢◌, ℕ, zero, suc, ◌+◌, ◌*◌, ◌<◌, ◌≤◌, ◌==◌, ◌&&◌, Bool, true, false, List, [], ◌∷◌, ◌++◌, map, length, get_or, set, min, sum_by, Option, Some, None, refl, ap, ap₂, sym, subst, ◌∙◌, ⊎_elim, arith, append-nil}
+use Rattle.std.proofs.Common.{◌≡◌, ◌≢◌, ℕ, zero, suc, ◌+◌, ◌*◌, ◌<◌, ◌≤◌, ◌==◌, ◌&&◌, Bool, true, false, List, [], ◌∷◌, ◌++◌, map, length, get_or, set, sum_by, Option, Some, None, refl, ap, sym, subst, ◌∙◌, ⊎_elim, arith, append-nil}
 use Rattle.std.specs.Prelude.{slice_index, slice_index_or, slice_set, if◌then◌else◌, cond}
-use Rattle.std.specs.List.{range_with_len, list_any, filter, filter_map, cons_option, All}
+use Rattle.std.specs.List.{range_with_len, list_any, filter, cons_option}
 use Rattle.std.proofs.lemmas.Bool.{cases_eq, eq-eqb, ne_eqb}
 use Rattle.std.proofs.lemmas.List.{get_or-set_same, get_or-set_other, map-append}
 use Rattle.std.proofs.lemmas.List.Elements.{filter_map-append, filter-append}
@@ -40,13 +40,13 @@ sum_more f g k more a (suc n) h own low high =
     let y = sum_by-cons g a (range_with_len (a + 1) n) in
     ⊎_elim
     (λ (e : a ≡ k).
-        let one : g a ≡ f a + more = subst (λ (j : ℕ). g j ≡ f j + more) (sym e) own in
-        let rest = sums_same f g (a + 1) n (λ j from to. h j (omega arith) (λ (s : j ≡ k). omega arith)) in
-        omega (arith, x, y, one, rest))
+    let one : g a ≡ f a + more = subst (λ (j : ℕ). g j ≡ f j + more) (sym e) own in
+    let rest = sums_same f g (a + 1) n (λ j from to. h j (omega arith) (λ (s : j ≡ k). omega arith)) in
+    omega (arith, x, y, one, rest))
     (λ (ne : a ≡ k → ⊥).
-        let one = h a (omega arith) ne in
-        let rest = sum_more f g k more (a + 1) n (λ j inside other. h j (omega arith) other) own (omega (arith, ne)) (omega arith) in
-        omega (arith, x, y, one, rest))
+    let one = h a (omega arith) ne in
+    let rest = sum_more f g k more (a + 1) n (λ j inside other. h j (omega arith) other) own (omega (arith, ne)) (omega arith) in
+    omega (arith, x, y, one, rest))
     (cases_eq a k)
 
 -- numbers as they are held
@@ -192,15 +192,15 @@ module _ (c : Config) (p : Packet) (frame_idx id : ℕ) (first : Bool) (bits : L
         let moved = ap (λ (l : List ℕ). slice_index l plp) set in
         ⊎_elim
         (λ (e : plp ≡ k).
-            let own = ap length (own_here plp (ap (λ (j : ℕ). (plp_at c.plps j).id) e ∙ at.own)) in
-            let same = get_or-set_same old.counts.items plp (capped (slice_index old.counts.items plp + 1)) 0 (omega (arith, inside, size)) in
-            let there : slice_index new.counts.items plp ≡ slice_index (slice_set old.counts.items plp (capped (slice_index old.counts.items plp + 1))) plp =
-            moved ∙ ap (λ (j : ℕ). slice_index (slice_set old.counts.items j (capped (slice_index old.counts.items j + 1))) plp) (sym e) in
-            omega (arith, own, same, there))
+        let own = ap length (own_here plp (ap (λ (j : ℕ). (plp_at c.plps j).id) e ∙ at.own)) in
+        let same = get_or-set_same old.counts.items plp (capped (slice_index old.counts.items plp + 1)) 0 (omega (arith, inside, size)) in
+        let there : slice_index new.counts.items plp ≡ slice_index (slice_set old.counts.items plp (capped (slice_index old.counts.items plp + 1))) plp =
+        moved ∙ ap (λ (j : ℕ). slice_index (slice_set old.counts.items j (capped (slice_index old.counts.items j + 1))) plp) (sym e) in
+        omega (arith, own, same, there))
         (λ (ne : plp ≡ k → ⊥).
-            let other = ap length (other_here plp (at.others plp inside ne)) in
-            let same = get_or-set_other old.counts.items k plp (capped (slice_index old.counts.items k + 1)) 0 ne in
-            omega (arith, other, same, moved, most))
+        let other = ap length (other_here plp (at.others plp inside ne)) in
+        let same = get_or-set_other old.counts.items k plp (capped (slice_index old.counts.items k + 1)) 0 ne in
+        omega (arith, other, same, moved, most))
         (cases_eq plp k)
 
     -- with another length
@@ -209,8 +209,8 @@ module _ (c : Config) (p : Packet) (frame_idx id : ℕ) (first : Bool) (bits : L
       wrong_right plp inside =
           ⊎_elim
           (λ (e : plp ≡ k).
-              ap (filter (has_length c plp)) (own_here plp (ap (λ (j : ℕ). (plp_at c.plps j).id) e ∙ at.own))
-              ∙ ap (λ (t : Bool). cond t (bits ∷ []) []) (ap (λ (j : ℕ). has_length c j bits) e ∙ ne_eqb (length bits) (8 * block_bytes c k) wrong))
+          ap (filter (has_length c plp)) (own_here plp (ap (λ (j : ℕ). (plp_at c.plps j).id) e ∙ at.own))
+          ∙ ap (λ (t : Bool). cond t (bits ∷ []) []) (ap (λ (j : ℕ). has_length c j bits) e ∙ ne_eqb (length bits) (8 * block_bytes c k) wrong))
           (λ (ne : plp ≡ k → ⊥). ap (filter (has_length c plp)) (other_here plp (at.others plp inside ne)))
           (cases_eq plp k)
 
@@ -265,15 +265,15 @@ module _ (c : Config) (p : Packet) (frame_idx id : ℕ) (first : Bool) (bits : L
           let now = ap (λ (s : State). list_at s plp) (pool (omega (arith, few, chunks))) in
           ⊎_elim
           (λ (e : plp ≡ k).
-              let front : list_at old.pool k ≡ map sent_bytes (right_blocks c plp packets) = ap (list_at old.pool) (sym e) ∙ before in
-              now
-              ∙ ap (λ (j : ℕ). slice_index_or (slice_set old.pool.lists k grown) j []) e
-              ∙ get_or-set_same old.pool.lists k grown [] (let l = at.inside in omega (arith, size, l))
-              ∙ ap (λ (l : List (List ℕ)). l ++ sent_bytes bits ∷ []) front
-              ∙ sym (map-append sent_bytes (right_blocks c plp packets) (bits ∷ []))
-              ∙ ap (λ (l : List (List Bool)). map sent_bytes (right_blocks c plp packets ++ l)) (sym own_right ∙ ap (λ (j : ℕ). right_blocks c j (p ∷ [])) (sym e))
-              ∙ ap (map sent_bytes) (sym (right_more c packets p plp)))
+          let front : list_at old.pool k ≡ map sent_bytes (right_blocks c plp packets) = ap (list_at old.pool) (sym e) ∙ before in
+          now
+          ∙ ap (λ (j : ℕ). slice_index_or (slice_set old.pool.lists k grown) j []) e
+          ∙ get_or-set_same old.pool.lists k grown [] (let l = at.inside in omega (arith, size, l))
+          ∙ ap (λ (l : List (List ℕ)). l ++ sent_bytes bits ∷ []) front
+          ∙ sym (map-append sent_bytes (right_blocks c plp packets) (bits ∷ []))
+          ∙ ap (λ (l : List (List Bool)). map sent_bytes (right_blocks c plp packets ++ l)) (sym own_right ∙ ap (λ (j : ℕ). right_blocks c j (p ∷ [])) (sym e))
+          ∙ ap (map sent_bytes) (sym (right_more c packets p plp)))
           (λ (ne : plp ≡ k → ⊥).
-              now ∙ get_or-set_other old.pool.lists k plp grown [] ne ∙ before
-              ∙ ap (map sent_bytes) (sym (append-nil (right_blocks c plp packets)) ∙ ap (λ (l : List (List Bool)). right_blocks c plp packets ++ l) (sym (other_right plp inside ne)) ∙ sym (right_more c packets p plp)))
+          now ∙ get_or-set_other old.pool.lists k plp grown [] ne ∙ before
+          ∙ ap (map sent_bytes) (sym (append-nil (right_blocks c plp packets)) ∙ ap (λ (l : List (List Bool)). right_blocks c plp packets ++ l) (sym (other_right plp inside ne)) ∙ sym (right_more c packets p plp)))
           (cases_eq plp k)

@@ -1,21 +1,21 @@
 -- No packets, and one packet more.
-use Rattle.std.proofs.Common.{◌≡◌, ℕ, zero, suc, ◌+◌, ◌*◌, ◌<◌, ◌≤◌, Bool, true, false, List, [], ◌∷◌, ◌++◌, map, length, get_or, replicate, sum_by, Option, Some, None, refl, ap, ap₂, sym, subst, ◌∙◌, arith}
+use Rattle.std.proofs.Common.{◌≡◌, ℕ, zero, suc, ◌+◌, ◌*◌, ◌<◌, ◌≤◌, Bool, true, false, List, [], ◌∷◌, ◌++◌, map, length, replicate, sum_by, Option, Some, None, refl, ap, ap₂, sym, subst, ◌∙◌, arith}
 use Rattle.std.specs.Prelude.{slice_index, slice_get, if◌then◌else◌}
 use Rattle.std.specs.List.{range_with_len}
 use Rattle.std.specs.Option.{option_or}
 use Rattle.std.proofs.lemmas.Bool.{false≢true}
 use Rattle.std.proofs.lemmas.List.FromFn.{get_or-map-range_with_len}
 use Rattle.std.proofs.lemmas.List.Sums.{sum_by-cons}
-use Rattle.linked_pool.specs.Pool.{list_at, chunks_for}
+use Rattle.linked_pool.specs.Pool.{chunks_for}
 use Rattle.plp_config.specs.Capacity.{block_bytes}
 use Rattle.plp_config.specs.declared.config.Config.{Config}
 use Rattle.t2mi_packet.specs.declared.packet.Packet.{Packet}
 use Rattle.t2mi_packet.specs.declared.packet.Stamp.{Stamp}
-use Rattle.frame_tests.specs.Carried.{places, blocks_of, right_blocks, L1Parts, l1s_of, stamps_of}
+use Rattle.frame_tests.specs.Carried.{places, l1s_of, stamps_of}
 use Rattle.frame_tests.specs.Laws.{TallyGrows}
-use Rattle.frame_tests.specs.Tally.{Tally, tally, tally_with, tally_need, unlike_behind}
-use Rattle.open_group.specs.HoldsBlocks.{capped, HoldsCounts, HoldsLists}
-use Rattle.open_group.specs.HoldsL1.{first_of, HoldsL1, AddsL1}
+use Rattle.frame_tests.specs.Tally.{Tally, tally, tally_with, unlike_behind}
+use Rattle.open_group.specs.HoldsBlocks.{capped, HoldsCounts}
+use Rattle.open_group.specs.HoldsL1.{HoldsL1, AddsL1}
 use Rattle.open_group.specs.HoldsStamps.{AddsStamps, HoldsStamps}
 use Rattle.open_group.specs.Parts.{parts_of}
 use Rattle.open_group.specs.declared.blocks.HeldBlocks.{HeldBlocks}

@@ -5,3 +5,4 @@ pub mod CountLemmas
 pub mod HoldLemmas
 pub mod NeedLemmas
 pub mod NamedLemmas
+pub mod RoomLemmas

@@ -1,5 +1,5 @@
 -- The frame that a group names.
-use Rattle.std.proofs.Common.{◌≡◌, ◌≢◌, ℕ, ◌<◌, Option, Some, None, refl, ap, sym, subst, ◌∙◌, arith}
+use Rattle.std.proofs.Common.{◌≡◌, ◌≢◌, ℕ, ◌<◌, Option, Some, None, refl, ap, sym, ◌∙◌}
 use Rattle.std.specs.Prelude.{slice_get}
 use Rattle.plp_config.specs.Emission.{emission}
 use Rattle.plp_config.specs.Laws.{EmissionsDiffer}
@@ -8,7 +8,6 @@ use Rattle.plp_config.specs.declared.config.Config.{Config}
 use Rattle.t2mi_packet.specs.declared.packet.Stamp.{Stamp}
 use Rattle.frame_groups.specs.Groups.{Group}
 use Rattle.frame_groups.specs.Numbers.{frame_key}
-use Rattle.frame_groups.specs.declared.key.Key.{Key}
 use Rattle.frame_tests.specs.Carried.{stamps_of}
 use Rattle.frame_tests.specs.Laws.{IsNamed, FrameNamed}
 use Rattle.frame_tests.specs.Tests.{moment_of, most_frames, named_frame}

@@ -2,6 +2,7 @@
 use Rattle.std.specs.Prelude.{◌≡◌, ◌&&◌, Bool, true, false, List, length, slice_get, Option, Some, None, if◌then◌else◌}
 use Rattle.std.specs.Option.{option_or}
 use Rattle.plp_config.specs.declared.config.Config.{Config}
+use Rattle.scheduler.specs.Shape.{FrameShape}
 use Rattle.l1_signal.specs.L1Configurable.{conf_read, info_size}
 use Rattle.l1_signal.specs.L1Of.{told_shape}
 use Rattle.l1_signal.specs.L1Pre.{pre_reading}
@@ -14,6 +15,10 @@ use Rattle.open_group.specs.declared.l1.HeldL1.{HeldL1}
 -- the first L1-current, if there is one
 abbrev pub first_of : HeldL1 → Option L1Parts
 first_of held = if held.is_held then Some (parts_of held.parts) else None
+
+-- the shape that it tells, if it reads
+abbrev pub shape_told : HeldL1 → Option FrameShape
+shape_told held = if held.is_held && held.told then Some held.shape else None
 
 -- whether L1-pre and the configurable part are the configuration's
 abbrev pub agrees_with : Config → L1Parts → Bool

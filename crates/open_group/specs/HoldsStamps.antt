@@ -1,5 +1,5 @@
 -- What is held of the timestamps of a group.
-use Rattle.std.specs.Prelude.{◌≡◌, List, slice_get, None}
+use Rattle.std.specs.Prelude.{◌≡◌, List, slice_get}
 use Rattle.std.specs.Option.{option_or}
 use Rattle.t2mi_packet.specs.declared.packet.Stamp.{Stamp}
 use Rattle.frame_tests.specs.Tally.{Tally, unlike_behind}

@@ -5,6 +5,7 @@ pub mod HoldsL1
 pub mod Sent
 pub mod HoldsBlocks
 pub mod Holds
+pub mod Given
 pub use Rattle.frame_tests.specs.Carried
 pub use Rattle.frame_tests.specs.Tests
 pub use Rattle.frame_tests.specs.Tally

@@ -7,7 +7,7 @@ ghost use Rattle.plp_config.specs.declared.plp.TheConstants.{MOST_BLOCK_BYTES};
 use crate::plps::{block_chunks, place_of, pool_chunks};
 use bb_frame::scramble;
 use bit_slice::{BitSlice, OutOfMemory};
-use linked_pool::Pool;
+use linked_pool::{BlockRef, Pool};
 use plp_config::{MOST_BLOCK_BYTES, Plan};
 use scheduler::Shape;
 use std::alloc::Global;
@@ -64,7 +64,7 @@ fn send(bits: &BitSlice<'_>, out: &mut [u8])
 }
 
 impl HeldBlocks {
-    ghost use Rattle.std.specs.Prelude.{◌≡◌, ◌<◌, ◌≤◌, ◌+◌, ◌*◌, ◌++◌, ◌∷◌, [], true, false, Some, min, length, replicate, map, vec_len, slice_set, slice_index, IfOk, List, Bool, ℕ};
+    ghost use Rattle.std.specs.Prelude.{◌≡◌, ◌≢◌, ◌↔◌, ◌<◌, ◌≤◌, ◌+◌, ◌*◌, ◌++◌, ◌∷◌, [], true, false, Some, min, length, drop, replicate, slice_index_or, IsNone, IfSome, map, vec_len, slice_set, slice_index, IfOk, List, Bool, ℕ};
     ghost use Rattle.linked_pool.specs.Pool.{State, list_at, chunks_for, appended};
     ghost use Rattle.plp_config.specs.Capacity.{block_bytes};
     ghost use Rattle.t2mi_packet.specs.declared.packet.Packet.{Packet};
@@ -124,6 +124,7 @@ impl HeldBlocks {
         send(bits, block);
         self.pool.append(plp, block).unwrap();
     }
+
     fn add_block(&mut self, plan: &Plan, id: u8, bits: &BitSlice<'_>)
         requires open { IsOpenFor self.old (length plan.now.plps) }
         ensures counts { (t : Tally) (p : Packet) (frame_idx : ℕ) (first : Bool) → p.body ≡ Block frame_idx id first bits.now → HoldsCounts plan.now self.old t → HoldsCounts plan.now self.new (tally_with plan.now t p) }
@@ -209,5 +210,25 @@ impl HeldBlocks {
             }
         }
         true
+    }
+    /// The first block of a PLP that was not given out; `None` if there is none.
+    pub fn front(&self, plp: u32) -> Option<BlockRef<'_>>
+        requires { plp < length self.now.pool.lists }
+        ensures none { IsNone result ↔ (length (list_at self.now.pool plp) ≡ 0) }
+        ensures some { IfSome result (λ block. block ≡ slice_index_or (list_at self.now.pool plp) 0 []) }
+    {
+        self.pool.front(plp)
+    }
+
+    /// Gives it out.
+    pub fn pop(&mut self, plp: u32)
+        requires { plp < length self.old.pool.lists }
+        ensures own { list_at self.new.pool plp ≡ drop 1 (list_at self.old.pool plp) }
+        ensures others { (other : ℕ) → other ≢ plp → list_at self.new.pool other ≡ list_at self.old.pool other }
+        ensures lists { length self.new.pool.lists ≡ length self.old.pool.lists }
+        ensures counts { self.new.counts ≡ self.old.counts }
+        ensures all { self.new.chunks ≡ self.old.chunks }
+    {
+        self.pool.pop(plp);
     }
 }

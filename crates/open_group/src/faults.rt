@@ -38,12 +38,7 @@ pub fn pool_fault(plan: &Plan, blocks: &HeldBlocks) -> Option<MuteCause>
 }
 
 /// b: there is an L1-current, and a timestamp if a superframe begins.
-pub fn missing_fault(
-    plan: &Plan,
-    number: u64,
-    l1: &HeldL1,
-    stamps: HeldStamps,
-) -> Option<MuteCause>
+pub fn missing_fault(plan: &Plan, number: u64, l1: &HeldL1, stamps: HeldStamps) -> Option<MuteCause>
     ensures { (t : Tally) → HoldsL1 plan.now l1.now t.l1 t.alike → HoldsStamps stamps t → result ≡ tally_missing plan.now number t }
 {
     if l1.is_held() && (!begins_superframe(plan, number) || stamps.first.is_some()) {

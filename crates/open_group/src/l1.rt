@@ -135,7 +135,7 @@ impl HeldL1 {
     ghost use Rattle.frame_tests.specs.Carried.{l1s_of};
     ghost use Rattle.t2mi_packet.specs.T2miPacket.{Fits};
     ghost use Rattle.open_group.specs.declared.parts.TheConstants.{MOST_BITS};
-    ghost use Rattle.open_group.specs.HoldsL1.{HasRead, HoldsL1, AddsL1};
+    ghost use Rattle.open_group.specs.HoldsL1.{HasRead, HoldsL1, AddsL1, shape_told};
     ghost use Rattle.open_group.specs.Parts.{parts_of};
 
     /// Takes the memory for the PLPs of a plan. Nothing is held yet.
@@ -276,6 +276,7 @@ impl HeldL1 {
 
     /// The shape that the first one tells, if it reads.
     pub fn shape(&self) -> Option<&Shape>
+        ensures value { option_copied result ≡ shape_told self.now }
         ensures shape { (c : Config) (first : Option L1Parts) (alike : Bool) → HoldsL1 c self.now first alike → option_copied result ≡ option_and_then (l1_shape c) first }
         ensures len { IfSome result (λ shape. length shape.now.counts ≡ length self.now.dynamic.plps) }
     {

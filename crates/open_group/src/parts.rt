@@ -89,9 +89,7 @@ impl HeldParts {
     pub fn dynamic(&self) -> BitSlice<'_>
         ensures { result ≡ (parts_of self.now).dynamic }
     {
-        self.bits
-            .as_slice()
-            .sub(self.pre + self.conf, self.dynamic)
+        self.bits.as_slice().sub(self.pre + self.conf, self.dynamic)
     }
 
     /// The extension.

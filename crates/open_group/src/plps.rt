@@ -11,6 +11,7 @@ use plp_config::Plan;
 
 // A block fills at most 7 chunks of the pool for each 2,025 of its cells.
 const CHUNKS_OF_CELLS: u32 = 7;
+
 const FEWEST_CELLS: u32 = 2_025;
 
 /// PLP_ID of the PLP at a place.

@@ -1,4 +1,4 @@
-use Rattle.std.proofs.Common.{◌≡◌, sym, ◌∙◌, arith}
+use Rattle.std.proofs.Common.{sym, ◌∙◌, arith}
 use Rattle.l1_signal.specs.L1Dynamic.{no_dyn_plp}
 use Rattle.open_group.proofs.IdLemmas.{ids_same, ids_differ}
 use Rattle.open_group.proofs.l1.has_ids.Goals as goal

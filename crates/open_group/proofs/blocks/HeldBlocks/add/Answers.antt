@@ -1,4 +1,4 @@
-use Rattle.std.proofs.Common.{refl, ap, ◌∙◌, arith}
+use Rattle.std.proofs.Common.{ap}
 use Rattle.frame_tests.specs.Carried.{body_block}
 use Rattle.frame_tests.specs.Tests.{body_known}
 use Rattle.open_group.proofs.BlockLemmas.{others_counted, others_listed}

@@ -1,4 +1,4 @@
-use Rattle.std.proofs.Common.{refl, arith}
+use Rattle.std.proofs.Common.{refl}
 use Rattle.open_group.proofs.HoldLemmas.{no_l1, no_blocks}
 use Rattle.open_group.proofs.group.PooledGroup.clear.Goals as goal
 

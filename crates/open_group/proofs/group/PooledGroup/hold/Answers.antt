@@ -1,4 +1,3 @@
-use Rattle.std.proofs.Common.{refl, arith}
 use Rattle.open_group.proofs.HoldLemmas.{stamps_more, l1_more, blocks_more}
 use Rattle.open_group.proofs.group.PooledGroup.hold.Goals as goal
 
