@@ -1,8 +1,8 @@
 -- What holds of the definitions. The functions without a body ensure it.
-use Rattle.std.specs.Prelude.{◌≡◌, ◌⊎◌, ◌≤◌, ℕ, List, ◌++◌, Bool, length}
+use Rattle.std.specs.Prelude.{◌≡◌, ◌⊎◌, ◌+◌, ◌≤◌, ℕ, List, ◌++◌, Bool, length}
 use Rattle.bb_frame.specs.declared.header.Header.{Header}
 use Rattle.bb_frame.specs.declared.fault.BbFault.{BbFault}
-use Rattle.bb_frame.specs.BasebandFrame.{frame_bits, Fits, Describes, Spells, Refuses}
+use Rattle.bb_frame.specs.BasebandFrame.{header_bits, frame_bits, Fits, Describes, Spells, Refuses}
 use Rattle.bb_frame.specs.Scrambled.{scrambled}
 
 -- What is written spells what was to be written, whatever follows it.
@@ -24,3 +24,9 @@ OneRefusal = (bits : List Bool) (fault other : BbFault) → Refuses bits fault �
 -- Scrambling twice is scrambling not at all.
 abbrev pub ScramblesBack : Type 0
 ScramblesBack = (bits : List Bool) → scrambled (scrambled bits) ≡ bits
+
+-- How many bits there are: 80 in a header; in a frame as many as it is given, if the data field fits; and scrambling changes no number.
+pub record BitCounts : Type 0 where
+  pub header : (h : Header) → length (header_bits h) ≡ 80
+  pub frame : (h : Header) (body : List Bool) (size : ℕ) → 80 + length body ≤ size → length (frame_bits h body size) ≡ size
+  pub scrambled : (bits : List Bool) → length (scrambled bits) ≡ length bits

@@ -1,5 +1,5 @@
 // Laws of the definitions. Their functions do nothing.
-ghost use Rattle.bb_frame.specs.Laws.{WrittenIsSpelled, NoRefusal, SpelledOrRefused, OneRefusal, ScramblesBack};
+ghost use Rattle.bb_frame.specs.Laws.{WrittenIsSpelled, NoRefusal, SpelledOrRefused, OneRefusal, ScramblesBack, BitCounts};
 
 use bit_slice::crc8_law;
 
@@ -29,4 +29,9 @@ pub fn one_refusal()
 /// Scrambling twice is scrambling not at all.
 pub fn scramble_twice()
     ensures { ScramblesBack }
+{}
+
+/// How many bits a header, a frame and a scrambled frame have.
+pub fn bit_counts()
+    ensures { BitCounts }
 {}

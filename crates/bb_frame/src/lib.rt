@@ -10,7 +10,9 @@ mod writing;
 
 pub use fault::BbFault;
 pub use header::Header;
-pub use laws::{no_refusal, one_refusal, scramble_twice, spelled_or_refused, written_is_spelled};
+pub use laws::{
+    bit_counts, no_refusal, one_refusal, scramble_twice, spelled_or_refused, written_is_spelled,
+};
 pub use reading::{BbView, read_frame};
 pub use scrambling::scramble;
 pub use writing::write_frame;

@@ -1,18 +1,13 @@
 -- The numbers of cells are small: the blocks of a frame have 2,025 cells each at least, and no more in all than a frame.
-use Rattle.std.proofs.Common.{◌≡◌, ℕ, zero, suc, ◌+◌, ◌*◌, ◌^◌, ◌<◌, ◌≤◌, List, [], ◌∷◌, Some, length, take, sum, sum_by, arith}
+use Rattle.std.proofs.Common.{◌≡◌, ℕ, zero, suc, ◌+◌, ◌*◌, ◌<◌, ◌≤◌, List, [], ◌∷◌, length, take, sum, sum_by, arith}
 use Rattle.std.specs.Prelude.{slice_index}
-use Rattle.std.specs.FinMap.{get}
 use Rattle.std.proofs.Math.Nat.{mul-le-mul}
 use Rattle.std.proofs.lemmas.List.Sums.{sum_by-cons}
-use Rattle.plp_config.specs.Capacity.{IsPlan, CellCount, CellAddresses, block_cells, cell_need}
+use Rattle.plp_config.specs.Capacity.{CellCount, CellAddresses, cell_need}
 use Rattle.plp_config.specs.Plps.{plp_at}
 use Rattle.plp_config.specs.Tables.{cells_per_block}
-use Rattle.plp_config.specs.declared.config.Config.{Config}
 use Rattle.plp_config.specs.declared.plp.Plp.{Plp}
-use Rattle.scheduler.specs.Shape.{FrameShape}
-use Rattle.cell_map.specs.CellMap.{Passes, cell_map}
 use Rattle.cell_map.specs.Laws.{CellsFit}
-use Rattle.cell_map.specs.declared.places.Cell.{Cell}
 use Rattle.cell_map.proofs.MapLemmas.{map_has_only}
 use Rattle.cell_map.proofs.PlanLemmas.{block_cells-five, five}
 

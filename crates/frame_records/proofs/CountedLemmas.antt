@@ -14,8 +14,7 @@ use Rattle.bit_slice.specs.Prbs.{fifteen_before}
 use Rattle.mode_adapt.specs.Matype.{matype1, matype2}
 use Rattle.site_frame.specs.Record.{Block}
 use Rattle.mode_adapt.proofs.SameLemmas.{least_same}
-use Rattle.frame_records.specs.Frames.{sent_block, plp_blocks}
-use Rattle.frame_records.proofs.FrameLemmas.{length-header, length-added}
+use Rattle.frame_records.specs.Frames.{sent_block}
 use Rattle.bit_slice.specs.Crc.{crc32_of}
 use Rattle.l1_signal.specs.Fields.{row_bits, spelling}
 use Rattle.l1_signal.specs.L1Of.{pre_of, conf_of, conf_plp_of, dyn_of, post_bits}
@@ -31,10 +30,12 @@ use Rattle.ts_packet.specs.Null.{is_null, null_packet}
 use Rattle.null_delete.specs.Deletion.{packet_at, kept_slots}
 use Rattle.mode_adapt.specs.Queue.{Rates, arrived, least_to, sent, sent_before}
 use Rattle.mode_adapt.specs.UserPackets.{keeps_of}
-use Rattle.mode_adapt.specs.Blocks.{rates_of, plp_keeps, blocks_between, block_places, block_bits, data_field, header_at, with_place, first_up}
+use Rattle.mode_adapt.specs.Blocks.{rates_of, plp_keeps, blocks_between, block_places, block_bits, data_field, header_at, with_place, first_up, plp_blocks}
 use Rattle.frame_records.specs.Networks.{small_network, small_post, data_packet, data_packets}
-use Rattle.frame_records.proofs.FitLemmas.{all_append, all_map_twice}
+use Rattle.frame_records.proofs.FitLemmas.{all_map_twice}
 use Rattle.frame_records.specs.Counted.{CountedLengths, CountedBlocks, CountedStart, CountedPre, CountedPost, CountedFrames, CountedRecords, CountedSlots}
+use Rattle.terms.proofs.AllLemmas.{all_append}
+use Rattle.bb_frame.specs.Laws.{BitCounts}
 
 pub counted_lengths : CountedLengths
 unfolding block_bytes
@@ -130,11 +131,11 @@ counted_post = ap small_post_of counted_blocks ∙ post_is
 -- ---- how the blocks of the small network begin
 
 -- the first byte and the second, whatever follows
-two_bytes : (h : Header) (rest : List Bool) → h.matype1 ≡ 0xFC → h.matype2 ≡ 0 → take 2 (bytes_of (scrambled (header_bits h ++ rest))) ≡ 0xFF ∷ 0xF6 ∷ []
+two_bytes : BitCounts → (h : Header) (rest : List Bool) → h.matype1 ≡ 0xFC → h.matype2 ≡ 0 → take 2 (bytes_of (scrambled (header_bits h ++ rest))) ≡ 0xFF ∷ 0xF6 ∷ []
 unfolding fifteen_before field
-two_bytes h rest first second =
+two_bytes numbers h rest first second =
     let sent : List Bool = scrambled (header_bits h ++ rest) in
-    let long : length sent ≡ 80 + length rest = length-added 0 (header_bits h ++ rest) ∙ length-append (header_bits h) rest ∙ ap (λ (n : ℕ). n + length rest) (length-header h) in
+    let long : length sent ≡ 80 + length rest = numbers.scrambled (header_bits h ++ rest) ∙ length-append (header_bits h) rest ∙ ap (λ (n : ℕ). n + length rest) (numbers.header h) in
     take-map-range_with_len (byte_at sent) 0 (bytes_for (length sent)) 2 (omega (arith, long))
     ∙ ap₂ (λ (a b : ℕ). a ∷ b ∷ []) (byte_at-whole sent 0 (omega (arith, long))) (byte_at-whole sent 1 (omega (arith, long)))
     ∙ rw (first, second) refl
@@ -145,21 +146,21 @@ unfolding matype1 matype2
 header_starts x len None = (refl, refl)
 header_starts x len (Some up) = (refl, refl)
 
-frame_starts : (h : Header) (body : List Bool) (size : ℕ) → (h.matype1 ≡ 0xFC) × (h.matype2 ≡ 0) → take 2 (bytes_of (scrambled (frame_bits h body size))) ≡ 0xFF ∷ 0xF6 ∷ []
-frame_starts h body size starts =
+frame_starts : BitCounts → (h : Header) (body : List Bool) (size : ℕ) → (h.matype1 ≡ 0xFC) × (h.matype2 ≡ 0) → take 2 (bytes_of (scrambled (frame_bits h body size))) ≡ 0xFF ∷ 0xF6 ∷ []
+frame_starts numbers h body size starts =
     ap (λ (bits : List Bool). take 2 (bytes_of (scrambled bits))) (append_assoc (header_bits h) body (replicate (size - 80 - length body) false))
-    ∙ two_bytes h (body ++ replicate (size - 80 - length body) false) starts.0 starts.1
+    ∙ two_bytes numbers h (body ++ replicate (size - 80 - length body) false) starts.0 starts.1
 
-block_starts : (at : ℕ → List ℕ) (n x y : ℕ) → take 2 (bytes_of (scrambled (block_bits small_network 0 at n x y))) ≡ 0xFF ∷ 0xF6 ∷ []
-block_starts at n x y =
+block_starts : BitCounts → (at : ℕ → List ℕ) (n x y : ℕ) → take 2 (bytes_of (scrambled (block_bits small_network 0 at n x y))) ≡ 0xFF ∷ 0xF6 ∷ []
+block_starts numbers at n x y =
     let up : Option (ℕ × ℕ) = with_place (up_bytes small_network 0) (plp_keeps small_network 0 at) (first_up (up_bytes small_network 0) (plp_keeps small_network 0 at) n x y) in
-    frame_starts (header_at small_network 0 x (y - x) up) (bits_of (data_field small_network 0 at n x y)) (8 * block_bytes small_network 0) (header_starts x (y - x) up)
+    frame_starts numbers (header_at small_network 0 x (y - x) up) (bits_of (data_field small_network 0 at n x y)) (8 * block_bytes small_network 0) (header_starts x (y - x) up)
 
 abbrev Starts : Block → Type 0
 Starts b = (b.plp ≡ 0) × (take 2 b.bytes ≡ 0xFF ∷ 0xF6 ∷ [])
 
-pub counted_start : CountedStart
-counted_start inputs n =
+pub counted_start : BitCounts → CountedStart
+counted_start numbers inputs n =
     let at : ℕ → List ℕ = packet_at (inputs 0) in
     let slots : ℕ = slots_by small_network 0 (n * 100000) in
     let begin : ℕ = sent_before (rates_of small_network 0 100000) (plp_keeps small_network 0 at) n in
@@ -167,4 +168,4 @@ counted_start inputs n =
     let len : ℕ = field_bytes small_network 0 in
     all_append Starts (map (sent_block small_network 0) (plp_blocks small_network inputs n 0)) []
     (all_map_twice Starts (sent_block small_network 0) (λ from. block_bits small_network 0 at slots from (min (from + len) end)) (block_places len begin end)
-    (λ from. (refl, block_starts at slots from (min (from + len) end)))) tt
+    (λ from. (refl, block_starts numbers at slots from (min (from + len) end)))) tt

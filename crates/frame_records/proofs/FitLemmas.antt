@@ -1,5 +1,5 @@
 -- The frames of a plan fit a record.
-use Rattle.std.proofs.Common.{◌≡◌, ℕ, zero, suc, ◌+◌, ◌-◌, ◌*◌, ◌^◌, ◌<◌, ◌≤◌, ◌%◌, ◌==◌, ◌&&◌, Bool, true, false, cond, Option, Some, None, List, [], ◌∷◌, ◌++◌, length, get_or, take, refl, sym, ap, ap₂, subst, ◌∙◌, arith, lit≤}
+use Rattle.std.proofs.Common.{◌≡◌, ℕ, zero, suc, ◌+◌, ◌-◌, ◌*◌, ◌^◌, ◌<◌, ◌≤◌, ◌%◌, ◌==◌, ◌&&◌, Bool, true, false, cond, Option, Some, None, List, [], ◌∷◌, length, get_or, take, refl, sym, ap, ap₂, subst, ◌∙◌, arith, lit≤}
 use Rattle.std.specs.Prelude.{map, find, min, sum, sum_by, slice_index}
 use Rattle.std.specs.List.{flat_map, range_with_len, AllByRecursion}
 use Rattle.std.specs.FinMap.{get}
@@ -27,20 +27,22 @@ use Rattle.l1_signal.specs.L1Of.{pre_of}
 use Rattle.l1_signal.specs.L1Pre.{pre_bits}
 use Rattle.l1_signal.specs.Laws.{PostLength}
 use Rattle.l1_signal.specs.declared.pre.L1Pre.{L1Pre}
-use Rattle.mode_adapt.specs.Blocks.{block_bits, block_places, plp_keeps, rates_of}
+use Rattle.mode_adapt.specs.Blocks.{block_bits, block_places, plp_keeps, rates_of, plp_blocks}
 use Rattle.mode_adapt.specs.Laws.{CountLaw}
 use Rattle.mode_adapt.specs.Queue.{sent, sent_before}
 use Rattle.null_delete.specs.Deletion.{packet_at}
 use Rattle.site_frame.specs.Record.{FitsBlock, FitsCell}
 use Rattle.site_frame.specs.Whole.{FitsRecord, greatest_rest}
 use Rattle.site_frame.specs.Record.{head_len}
-use Rattle.frame_records.specs.Frames.{places, plp_blocks, frame_shape, sent_block, sent_blocks, frame_cells, l1_pre, frame_of, HasByteIds}
+use Rattle.frame_records.specs.Frames.{places, frame_shape, sent_block, sent_blocks, frame_cells, l1_pre, frame_of, HasByteIds}
 use Rattle.frame_records.specs.Laws.{frame_len, FrameLength, FrameFits, RecordsFit}
 use Rattle.frame_records.specs.Records.{numbers_from, record_of}
 use Rattle.frame_records.proofs.RecordLemmas.{found}
 use Rattle.site_frame.specs.declared.reading.RecordView.{RecordView}
 use Rattle.site_frame.specs.declared.reading.RecordView.TheVariants.{Muted}
 use Rattle.frame_records.proofs.FrameLemmas.{length-block, block_len, cells_count}
+use Rattle.terms.proofs.AllLemmas.{all_append}
+use Rattle.bb_frame.specs.Laws.{BitCounts}
 
 -- ---- L1-pre
 
@@ -109,10 +111,6 @@ all_blocks c inputs n (plp ∷ plps) =
 
 -- ---- each block and each cell
 
-pub all_append : {X : Type 0} (P : X → Type 0) (xs ys : List X) → AllByRecursion P xs → AllByRecursion P ys → AllByRecursion P (xs ++ ys)
-all_append P [] ys h k = k
-all_append P (x ∷ xs) ys h k = (h.0, all_append P xs ys h.1 k)
-
 all_map : {X Y : Type 0} (P : Y → Type 0) (f : X → Y) (xs : List X) → ((x : X) → P (f x)) → AllByRecursion P (map f xs)
 all_map P f [] each = tt
 all_map P f (x ∷ xs) each = (each x, all_map P f xs each)
@@ -121,27 +119,27 @@ pub all_map_twice : {X Y Z : Type 0} (P : Z → Type 0) (g : Y → Z) (f : X →
 all_map_twice P g f [] each = tt
 all_map_twice P g f (x ∷ xs) each = (each x, all_map_twice P g f xs each)
 
-block_fits : FieldRange → (c : Config) (plp : ℕ) (bits : List Bool) → (plp_at c.plps plp).id < 2 ^ 8 → length bits ≡ 8 * block_bytes c plp → FitsBlock (sent_block c plp bits)
-block_fits law c plp bits id e = let f = law c plp in (omega (arith, id), omega (arith, block_len c plp bits e, f))
+block_fits : BitCounts → FieldRange → (c : Config) (plp : ℕ) (bits : List Bool) → (plp_at c.plps plp).id < 2 ^ 8 → length bits ≡ 8 * block_bytes c plp → FitsBlock (sent_block c plp bits)
+block_fits numbers law c plp bits id e = let f = law c plp in (omega (arith, id), omega (arith, block_len numbers c plp bits e, f))
 
-plp_blocks_fit : FieldRange → (c : Config) (inputs : ℕ → List (List ℕ)) (n plp : ℕ) → (plp_at c.plps plp).id < 2 ^ 8 → AllByRecursion FitsBlock (map (sent_block c plp) (plp_blocks c inputs n plp))
-plp_blocks_fit law c inputs n plp id =
+plp_blocks_fit : BitCounts → FieldRange → (c : Config) (inputs : ℕ → List (List ℕ)) (n plp : ℕ) → (plp_at c.plps plp).id < 2 ^ 8 → AllByRecursion FitsBlock (map (sent_block c plp) (plp_blocks c inputs n plp))
+plp_blocks_fit numbers law c inputs n plp id =
     let at : ℕ → List ℕ = packet_at (inputs plp) in
     let begin : ℕ = sent_before (rates_of c plp c.ticks) (plp_keeps c plp at) n in
     let end : ℕ = sent (rates_of c plp c.ticks) (plp_keeps c plp at) n in
     let slots : ℕ = slots_by c plp (n * c.ticks) in
     let block : ℕ → List Bool = λ from. block_bits c plp at slots from (min (from + field_bytes c plp) end) in
     all_map_twice FitsBlock (sent_block c plp) block (block_places (field_bytes c plp) begin end)
-    (λ from. block_fits law c plp (block from) id (length-block law c plp at slots from (min (from + field_bytes c plp) end) (omega arith)))
+    (λ from. block_fits numbers law c plp (block from) id (length-block numbers law c plp at slots from (min (from + field_bytes c plp) end) (omega arith)))
 
 -- the blocks of the PLPs from one on
-blocks_fit : FieldRange → (c : Config) (inputs : ℕ → List (List ℕ)) (n from count : ℕ) → HasByteIds c → from + count ≤ length c.plps
+blocks_fit : BitCounts → FieldRange → (c : Config) (inputs : ℕ → List (List ℕ)) (n from count : ℕ) → HasByteIds c → from + count ≤ length c.plps
     → AllByRecursion FitsBlock (flat_map (λ plp. map (sent_block c plp) (plp_blocks c inputs n plp)) (range_with_len from count))
-blocks_fit law c inputs n from zero ids le = tt
-blocks_fit law c inputs n from (suc count) ids le =
+blocks_fit numbers law c inputs n from zero ids le = tt
+blocks_fit numbers law c inputs n from (suc count) ids le =
     all_append FitsBlock (map (sent_block c from) (plp_blocks c inputs n from)) (flat_map (λ plp. map (sent_block c plp) (plp_blocks c inputs n plp)) (range_with_len (from + 1) count))
-    (plp_blocks_fit law c inputs n from (ids from (omega (arith, le))))
-    (blocks_fit law c inputs n (from + 1) count ids (omega (arith, le)))
+    (plp_blocks_fit numbers law c inputs n from (ids from (omega (arith, le))))
+    (blocks_fit numbers law c inputs n (from + 1) count ids (omega (arith, le)))
 
 -- the ordinal of a block is below the number of blocks
 ordinal_lt : (c : Config) (count : ℕ → ℕ) (plp block : ℕ) → plp < length c.plps → block < slice_index (map count (places c)) plp
@@ -179,8 +177,8 @@ len_le law c count plps cells few =
     let most : count plp * (4 + block_bytes c plp) ≤ count plp * 6734 = mul-le-mul_left (count plp) size in omega (arith, most)) in
     omega (arith, each, sum_times 6734 count (places c), plps, cells, few)
 
-pub frame_fits : EmissionFits → SlotLength → FieldRange → CellsByFive → CountLaw → PostLength → ShapeHasCounts → MapHasOnlyCells → FrameLength → FrameFits
-frame_fits emits slot field five law post has only len c inputs n is ids small =
+pub frame_fits : BitCounts → EmissionFits → SlotLength → FieldRange → CellsByFive → CountLaw → PostLength → ShapeHasCounts → MapHasOnlyCells → FrameLength → FrameFits
+frame_fits numbers emits slot field five law post has only len c inputs n is ids small =
     let count : ℕ → ℕ = counts c inputs n in
     let moment = emits c n is.rules small in
     let plps : length c.plps ≤ 255 = (is.rules PlpCount).1 in
@@ -195,7 +193,7 @@ frame_fits emits slot field five law post has only len c inputs n is ids small =
         pre = l1_pre_length c;
         post = omega (arith, bits, plps);
         blocks = omega (arith, blocks, few);
-        block = blocks_fit field c inputs n 0 (length c.plps) ids (omega arith);
+        block = blocks_fit numbers field c inputs n 0 (length c.plps) ids (omega arith);
         cells = omega (arith, addresses, cells);
         cell = all_map FitsCell (get (cell_map c (frame_shape c inputs n))) (range_with_len 0 c.cells)
             (λ address. each_fits (get (cell_map c (frame_shape c inputs n)) address) (λ found e. found_fits five only has c count address found few e));

@@ -1,20 +1,18 @@
 -- The record of a frame has as many bytes as its sections.
-use Rattle.std.proofs.Common.{◌≡◌, ℕ, suc, ◌+◌, ◌-◌, ◌*◌, ◌≤◌, min, Bool, false, List, [], ◌∷◌, ◌++◌, length, drop, replicate, refl, sym, ap, ap₂, ◌∙◌, arith}
+use Rattle.std.proofs.Common.{◌≡◌, ℕ, ◌+◌, ◌-◌, ◌*◌, ◌≤◌, min, Bool, List, [], ◌∷◌, length, drop, refl, sym, ap, ap₂, ◌∙◌, arith}
 use Rattle.std.specs.Prelude.{map, sum_by}
 use Rattle.std.specs.List.{flat_map}
-use Rattle.std.proofs.lemmas.List.{length-append, length-take, length-replicate}
+use Rattle.std.proofs.lemmas.List.{length-take}
 use Rattle.std.proofs.lemmas.List.FromFn.{length-map-range_with_len}
 use Rattle.std.proofs.lemmas.List.Sums.{sum_by-cons, sum_by-append}
 use Rattle.terms.specs.Bits.{bits_of, bytes_of, bytes_for}
-use Rattle.terms.proofs.BitLemmas.{length-field, length-bits_of, length-bytes_of}
-use Rattle.bb_frame.specs.BasebandFrame.{header_bits, frame_bits}
-use Rattle.bb_frame.specs.Scrambled.{added, scrambled}
-use Rattle.bb_frame.specs.declared.header.Header.{Header}
+use Rattle.terms.proofs.BitLemmas.{length-bits_of, length-bytes_of}
+use Rattle.bb_frame.specs.Scrambled.{scrambled}
 use Rattle.plp_config.specs.Capacity.{block_bytes, field_bytes}
 use Rattle.plp_config.specs.Laws.{FieldRange}
 use Rattle.plp_config.specs.declared.config.Config.{Config}
 use Rattle.null_delete.specs.Deletion.{packet_at}
-use Rattle.mode_adapt.specs.Blocks.{data_field, block_bits, block_places, plp_keeps, plp_string, rates_of}
+use Rattle.mode_adapt.specs.Blocks.{data_field, block_bits, block_places, plp_keeps, plp_string, rates_of, plp_blocks}
 use Rattle.mode_adapt.specs.Queue.{sent, sent_before}
 use Rattle.plp_config.specs.SlotTime.{slots_by}
 use Rattle.std.specs.FinMap.{get}
@@ -23,47 +21,40 @@ use Rattle.scheduler.specs.Shape.{FrameShape}
 use Rattle.l1_signal.specs.Laws.{PostLength}
 use Rattle.site_frame.specs.Whole.{block_size}
 use Rattle.site_frame.specs.Record.{head_len, pre_len}
-use Rattle.mode_adapt.proofs.SettingsLemmas.{length-frame}
-use Rattle.frame_records.specs.Frames.{places, plp_blocks, sent_block, sent_blocks, frame_cells, frame_shape}
+use Rattle.frame_records.specs.Frames.{places, sent_block, sent_blocks, frame_cells, frame_shape}
 use Rattle.frame_records.specs.Laws.{FrameLength}
-
-pub length-header : (h : Header) → length (header_bits h) ≡ 80
-length-header h = simp (length-append, length-field) refl
-
-pub length-added : (i : ℕ) (bits : List Bool) → length (added i bits) ≡ length bits
-length-added i [] = refl
-length-added i (b ∷ bits) = ap suc (length-added (i + 1) bits)
+use Rattle.bb_frame.specs.Laws.{BitCounts}
 
 -- blocks of a PLP have as many bits as it says
-pub length-block : FieldRange → (c : Config) (plp : ℕ) (at : ℕ → List ℕ) (n x y : ℕ) → y - x ≤ field_bytes c plp → length (block_bits c plp at n x y) ≡ 8 * block_bytes c plp
-length-block law c plp at n x y short =
+pub length-block : BitCounts → FieldRange → (c : Config) (plp : ℕ) (at : ℕ → List ℕ) (n x y : ℕ) → y - x ≤ field_bytes c plp → length (block_bits c plp at n x y) ≡ 8 * block_bytes c plp
+length-block counts law c plp at n x y short =
     let body : List ℕ = data_field c plp at n x y in
     let bits : length (bits_of body) ≡ 8 * length body = length-bits_of body in
     let few : length body ≤ y - x = omega (arith, length-take (y - x) (drop x (plp_string c plp at n))) in
     let more = law c plp in
-    length-frame _ (bits_of body) (8 * block_bytes c plp) (omega (arith, bits, few, short, more.2, more.0))
+    counts.frame _ (bits_of body) (8 * block_bytes c plp) (omega (arith, bits, few, short, more.2, more.0))
 
-pub block_len : (c : Config) (plp : ℕ) (bits : List Bool) → length bits ≡ 8 * block_bytes c plp → block_size (sent_block c plp bits) ≡ 4 + block_bytes c plp
-block_len c plp bits e =
-    let size : length (bytes_of (scrambled bits)) ≡ bytes_for (8 * block_bytes c plp) = length-bytes_of (scrambled bits) ∙ ap bytes_for (length-added 0 bits ∙ e) in
+pub block_len : BitCounts → (c : Config) (plp : ℕ) (bits : List Bool) → length bits ≡ 8 * block_bytes c plp → block_size (sent_block c plp bits) ≡ 4 + block_bytes c plp
+block_len counts c plp bits e =
+    let size : length (bytes_of (scrambled bits)) ≡ bytes_for (8 * block_bytes c plp) = length-bytes_of (scrambled bits) ∙ ap bytes_for (counts.scrambled bits ∙ e) in
     omega (arith, size)
 
 -- blocks of one length
-alike : (c : Config) (plp : ℕ) (f : ℕ → List Bool) → ((x : ℕ) → length (f x) ≡ 8 * block_bytes c plp) → (xs : List ℕ)
+alike : BitCounts → (c : Config) (plp : ℕ) (f : ℕ → List Bool) → ((x : ℕ) → length (f x) ≡ 8 * block_bytes c plp) → (xs : List ℕ)
     → sum_by block_size (map (sent_block c plp) (map f xs)) ≡ length (map f xs) * (4 + block_bytes c plp)
-alike c plp f each [] = omega arith
-alike c plp f each (x ∷ xs) =
+alike counts c plp f each [] = omega arith
+alike counts c plp f each (x ∷ xs) =
     sum_by-cons block_size (sent_block c plp (f x)) (map (sent_block c plp) (map f xs))
-    ∙ ap₂ (λ (a b : ℕ). a + b) (block_len c plp (f x) (each x)) (alike c plp f each xs) ∙ omega arith
+    ∙ ap₂ (λ (a b : ℕ). a + b) (block_len counts c plp (f x) (each x)) (alike counts c plp f each xs) ∙ omega arith
 
-plp_len : FieldRange → (c : Config) (inputs : ℕ → List (List ℕ)) (n plp : ℕ)
+plp_len : BitCounts → FieldRange → (c : Config) (inputs : ℕ → List (List ℕ)) (n plp : ℕ)
     → sum_by block_size (map (sent_block c plp) (plp_blocks c inputs n plp)) ≡ length (plp_blocks c inputs n plp) * (4 + block_bytes c plp)
-plp_len law c inputs n plp =
+plp_len counts law c inputs n plp =
     let at : ℕ → List ℕ = packet_at (inputs plp) in
     let end : ℕ = sent (rates_of c plp c.ticks) (plp_keeps c plp at) n in
     let begin : ℕ = sent_before (rates_of c plp c.ticks) (plp_keeps c plp at) n in
-    alike c plp (λ from. block_bits c plp at (slots_by c plp (n * c.ticks)) from (min (from + field_bytes c plp) end))
-    (λ x. length-block law c plp at (slots_by c plp (n * c.ticks)) x (min (x + field_bytes c plp) end) (omega arith))
+    alike counts c plp (λ from. block_bits c plp at (slots_by c plp (n * c.ticks)) from (min (from + field_bytes c plp) end))
+    (λ x. length-block counts law c plp at (slots_by c plp (n * c.ticks)) x (min (x + field_bytes c plp) end) (omega arith))
     (block_places (field_bytes c plp) begin end)
 
 -- all blocks of a frame
@@ -79,10 +70,10 @@ all_len c blocks each (plp ∷ plps) =
 pub cells_count : (c : Config) (shape : FrameShape) → length (frame_cells c shape) ≡ c.cells
 cells_count c shape = length-map-range_with_len (get (cell_map c shape)) 0 c.cells
 
-pub frame_length : FieldRange → PostLength → FrameLength
-frame_length law post c inputs n =
+pub frame_length : BitCounts → FieldRange → PostLength → FrameLength
+frame_length counts law post c inputs n =
     let size : sum_by block_size (sent_blocks c (plp_blocks c inputs n)) ≡ sum_by (λ plp. length (plp_blocks c inputs n plp) * (4 + block_bytes c plp)) (places c) =
-    all_len c (plp_blocks c inputs n) (plp_len law c inputs n) (places c) in
+    all_len c (plp_blocks c inputs n) (plp_len counts law c inputs n) (places c) in
     let bits = post c n (frame_shape c inputs n) in
     let cells = cells_count c (frame_shape c inputs n) in
     ap₂ (λ (b x : ℕ). head_len + pre_len + (4 + b) + (2 + x) + (4 + 4 * length (frame_cells c (frame_shape c inputs n)))) (ap bytes_for bits) size

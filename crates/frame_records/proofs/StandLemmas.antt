@@ -17,9 +17,10 @@ use Rattle.plp_config.specs.Laws.{FieldRange, SlotLength}
 use Rattle.plp_config.specs.declared.config.Config.{Config}
 use Rattle.scheduler.specs.Laws.{CountsFit, ShapeHasCounts}
 use Rattle.site_frame.specs.Record.{Block}
-use Rattle.frame_records.specs.Frames.{places, plp_blocks, sent_block, sent_blocks, frame_shape}
+use Rattle.frame_records.specs.Frames.{places, sent_block, sent_blocks, frame_shape}
 use Rattle.frame_records.specs.Laws.{BlockStands, CellStands}
 use Rattle.frame_records.proofs.FitLemmas.{counts, count_le}
+use Rattle.mode_adapt.specs.Blocks.{plp_blocks}
 
 get_front : {X : Type 0} (xs ys : List X) (k : ℕ) → k < length xs → slice_get (xs ++ ys) k ≡ slice_get xs k
 get_front [] ys k lt = absurd (omega arith)

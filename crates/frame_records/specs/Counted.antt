@@ -6,11 +6,12 @@ use Rattle.ts_packet.specs.Null.{null_packet}
 use Rattle.null_delete.specs.Deletion.{packet_at}
 use Rattle.site_frame.specs.declared.reading.RecordView.{RecordView}
 use Rattle.site_frame.specs.declared.reading.RecordView.TheVariants.{Frame, Muted}
-use Rattle.frame_records.specs.Frames.{plp_blocks, sent_blocks, frame_of, run_frames}
+use Rattle.frame_records.specs.Frames.{sent_blocks, frame_of, run_frames}
 use Rattle.frame_records.specs.Records.{record_numbers}
 use Rattle.frame_records.specs.Recover.{due_slots, recovered}
 use Rattle.frame_records.specs.Networks.{small_network, narrow_network, large_network, small_pre, small_post, data_packet, data_packets}
 use Rattle.frame_records.specs.Laws.{frame_len}
+use Rattle.mode_adapt.specs.Blocks.{plp_blocks}
 
 -- The records of the small network's frame without a block, and of the large one's with none, 209 and one.
 pub record CountedLengths : Type 0 where

@@ -8,8 +8,7 @@ use Rattle.plp_config.specs.Emission.{emission}
 use Rattle.plp_config.specs.Plps.{plp_at}
 use Rattle.plp_config.specs.RunLength.{frame_count}
 use Rattle.plp_config.specs.declared.config.Config.{Config}
-use Rattle.null_delete.specs.Deletion.{packet_at}
-use Rattle.mode_adapt.specs.Blocks.{blocks_of}
+use Rattle.mode_adapt.specs.Blocks.{plp_blocks}
 use Rattle.scheduler.specs.Shape.{FrameShape, shape_of}
 use Rattle.cell_map.specs.CellMap.{cell_map}
 use Rattle.cell_map.specs.declared.places.Cell.{Cell}
@@ -27,10 +26,6 @@ places c = range_with_len 0 (length c.plps)
 -- PLP_ID has 8 bits.
 abbrev pub HasByteIds : Config → Type 0
 HasByteIds c = (plp : ℕ) → plp < length c.plps → (plp_at c.plps plp).id < 2 ^ 8
-
--- the blocks of a PLP in frame n, of the packets of its input, and null packets from their end on
-abbrev pub plp_blocks : Config → (ℕ → List (List ℕ)) → ℕ → ℕ → List (List Bool)
-plp_blocks c inputs n plp = blocks_of c plp c.ticks (packet_at (inputs plp)) n
 
 -- the shape of frame n, by the blocks that each PLP has
 abbrev pub frame_shape : Config → (ℕ → List (List ℕ)) → ℕ → FrameShape

@@ -12,9 +12,10 @@ use Rattle.cell_map.specs.Address.{IsCell, address_of}
 use Rattle.cell_map.specs.CellMap.{ordinal_of}
 use Rattle.site_frame.specs.Whole.{FitsRecord, record_len}
 use Rattle.site_frame.specs.Record.{head_len, pre_len}
-use Rattle.frame_records.specs.Frames.{places, plp_blocks, sent_block, sent_blocks, frame_cells, frame_shape, frame_of, HasByteIds, run_frames}
+use Rattle.frame_records.specs.Frames.{places, sent_block, sent_blocks, frame_cells, frame_shape, frame_of, HasByteIds, run_frames}
 use Rattle.frame_records.specs.Records.{records, IsOnGrid}
 use Rattle.frame_records.specs.Recover.{due_slots, recover}
+use Rattle.mode_adapt.specs.Blocks.{plp_blocks}
 
 -- how many bytes the record of a frame has, whose PLPs have so many blocks
 abbrev pub frame_len : Config → (ℕ → ℕ) → ℕ

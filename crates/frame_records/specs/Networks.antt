@@ -8,6 +8,7 @@ use Rattle.plp_config.specs.declared.plp.Modulation.TheVariants.{Qpsk, Qam256}
 use Rattle.plp_config.specs.declared.plp.Plp.{Plp}
 use Rattle.plp_config.specs.declared.plp.PlpKind.TheVariants.{Type1}
 use Rattle.plp_config.specs.declared.plp.Rate.TheVariants.{R1_2, R2_3}
+use Rattle.ts_packet.specs.declared.sizes.TheConstants.{SYNC}
 
 abbrev pub l1_numbers : L1Numbers
 l1_numbers = record {
@@ -85,7 +86,7 @@ large_network = network 2049536 1700000 (record {
 
 -- a packet that is not null, of PID 0
 abbrev pub data_packet : List ℕ
-data_packet = 0x47 ∷ replicate 187 0
+data_packet = SYNC ∷ replicate 187 0
 
 -- so many of them
 abbrev pub data_packets : ℕ → List (List ℕ)

@@ -2,6 +2,7 @@
 ghost use Rattle.frame_records.specs.Laws.{FrameLength, BlockStands, CellStands, FrameFits, RecordsOnGrid, RecordsFit, AllWhole, NoneLost, DueReleased};
 ghost use Rattle.frame_records.specs.Counted.{CountedLengths, CountedBlocks, CountedStart, CountedPre, CountedPost, CountedFrames, CountedRecords, CountedSlots, CountedLoss};
 
+use bb_frame::bit_counts;
 use cell_map::{map_law, shape_law};
 use l1_signal::post_law;
 use mode_adapt::count_law;
@@ -17,6 +18,7 @@ pub fn frame_law()
     ensures post { CountedPost }
     ensures start { CountedStart }
 {
+    bit_counts();
     block_law();
     post_law();
 }
@@ -39,6 +41,7 @@ pub fn fit_law()
     ensures frame { FrameFits }
     ensures records { RecordsFit }
 {
+    bit_counts();
     emission_law();
     length_law();
     block_law();

@@ -3,7 +3,7 @@ ghost use Rattle.std.specs.Prelude.{◌≡◌, ◌<◌, ◌≤◌, ◌+◌, ◌*
 ghost use Rattle.terms.specs.Bits.{bits_of};
 ghost use Rattle.bb_frame.specs.BasebandFrame.{frame_bits, Describes};
 
-use bb_frame::{Header, write_frame};
+use bb_frame::{Header, bit_counts, write_frame};
 use bit_slice::{BitBuf, BitSlice, OutOfMemory};
 use std::alloc::Global;
 
@@ -21,6 +21,7 @@ pub fn write_block(
     ensures bits { IfOk result (λ block. bits_of block.items ≡ frame_bits header.now (bits_of field.now) (8 * (field_bytes + 10))) }
     ensures len { IfOk result (λ block. length block.items ≡ field_bytes + 10) }
 {
+    bit_counts();
     let mut sink = BitBuf::new(alloc);
     match write_frame(
         &mut sink,

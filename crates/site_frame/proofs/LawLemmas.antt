@@ -194,7 +194,7 @@ head_length kind moment rest =
 filled : (a b : ℕ) → b < 8 → (a + b) % 8 ≡ 0 → (a + b + 7) / 8 ≡ (a + 7) / 8
 filled a b short whole = omega arith
 
-has_len : (view : RecordView) (rest : List ℕ) → HasRest view rest → head_len + length rest ≡ record_len view
+pub has_len : (view : RecordView) (rest : List ℕ) → HasRest view rest → head_len + length rest ≡ record_len view
 has_len (Frame moment pre post blocks cells) rest h =
     let e : length rest ≡ 25 + (4 + bytes_for (length post)) + (2 + sum_by block_size blocks) + (4 + 4 * length cells) =
     ap (λ (xs : List ℕ). length xs) h.spelled ∙ rest_len _ h.pad h.ignored h.fits.pre (ap bytes_for (length-append post h.pad) ∙ filled (length post) (length h.pad) h.short h.whole) in

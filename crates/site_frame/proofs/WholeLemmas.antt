@@ -29,7 +29,7 @@ numbers_taken more fits long =
     let w2 = wide4 (drop 12 more) (IsBytes-drop 12 more fits) (omega (arith, long, length-drop {A = ℕ} 12 more)) in
     part-add more 0 8 8 ∙ ap₂ (λ (a b : List ℕ). a ++ b) (sym w0.0) (part-add more 8 4 4 ∙ ap₂ (λ (a b : List ℕ). a ++ b) (sym w1.0) (sym w2.0))
 
-head_taken : (bytes : List ℕ) → IsBytes bytes → HasHead bytes → take 24 bytes ≡ head_bytes (slice_index bytes 4) (told_moment bytes) (told_len bytes)
+pub head_taken : (bytes : List ℕ) → IsBytes bytes → HasHead bytes → take 24 bytes ≡ head_bytes (slice_index bytes 4) (told_moment bytes) (told_len bytes)
 head_taken [] fits h = absurd (omega (arith, h.whole))
 head_taken (a ∷ []) fits h = absurd (omega (arith, h.whole))
 head_taken (a ∷ b ∷ []) fits h = absurd (omega (arith, h.whole))

@@ -17,6 +17,10 @@ use Rattle.site_frame.specs.declared.reading.RecordView.TheVariants.{Frame, Mute
 abbrev pub greatest_rest : ℕ
 greatest_rest = 33554432
 
+-- that of a frame has L1-pre, and the numbers of the other parts
+abbrev pub least_rest : ℕ
+least_rest = pre_len + 4 + 2 + 4
+
 -- the kind, the moment and the rest of a record
 abbrev pub kind_of : RecordView → ℕ
 kind_of (Frame moment pre post blocks cells) = frame_kind
@@ -117,6 +121,25 @@ Refuses bytes Length = HasHead bytes × HasKind bytes × (¬ (HasLength bytes))
 Refuses bytes Order = ⊥
 Refuses bytes OffGrid = ⊥
 
+-- ---- what the head alone tells
+
+-- Some record begins with the head, and has so many bytes behind it.
+pub record CanFollow (head : List ℕ) (rest : ℕ) : Type 0 where
+  pub more : List ℕ
+  pub view : RecordView
+  pub begins : BeginsWith (head ++ more) view (head_len + rest)
+
+-- So many bytes follow the head: some record begins with it, each that does has them, and if fewer follow, none does.
+pub record Follow (head : List ℕ) (rest : ℕ) : Type 0 where
+  pub some : CanFollow head rest
+  pub small : rest ≤ greatest_rest
+  pub exact : (more : List ℕ) (view : RecordView) (len : ℕ) → BeginsWith (head ++ more) view len → len ≡ head_len + rest
+  pub fewer : (more : List ℕ) → length more < rest → Refuses (head ++ more) Length
+
+-- No record begins with the head, whatever follows it.
+abbrev pub RefusesHead : List ℕ → RecordWhy → Type 0
+RefusesHead head why = (more : List ℕ) → Refuses (head ++ more) why
+
 -- ---- what the reader takes
 
 abbrev pub framed : Moment → FrameParts → Option RecordView
@@ -146,3 +169,30 @@ IsRefused bytes Kind = HasHead bytes × (¬ (HasKind bytes))
 IsRefused bytes Length = HasHead bytes × HasKind bytes × IsBad bytes
 IsRefused bytes Order = ⊥
 IsRefused bytes OffGrid = ⊥
+
+-- the head at the front is right, as far as it alone tells
+pub record IsRight (bytes : List ℕ) (rest : ℕ) : Type 0 where
+  pub head : HasHead bytes
+  pub kind : HasKind bytes
+  pub told : rest ≡ told_len bytes
+  pub small : rest ≤ greatest_rest
+
+-- a rest of its kind can have so many bytes
+pub record IsRightAlone (bytes : List ℕ) (rest : ℕ) : Type 0 where
+  pub right : IsRight bytes rest
+  pub muted : slice_index bytes 4 ≡ muted_kind → rest ≡ 0
+  pub frame : slice_index bytes 4 ≡ frame_kind → least_rest ≤ rest
+
+-- The length that it tells is too great, a muted record has a rest, or a frame's is too short.
+abbrev pub HasBadLength : List ℕ → Type 0
+HasBadLength bytes =
+    (greatest_rest < told_len bytes)
+    ⊎ ((slice_index bytes 4 ≡ muted_kind) × (0 < told_len bytes))
+    ⊎ ((slice_index bytes 4 ≡ frame_kind) × (told_len bytes < least_rest))
+
+abbrev pub IsWrong : List ℕ → RecordWhy → Type 0
+IsWrong bytes Head = ¬ (HasHead bytes)
+IsWrong bytes Kind = HasHead bytes × (¬ (HasKind bytes))
+IsWrong bytes Length = HasHead bytes × HasKind bytes × HasBadLength bytes
+IsWrong bytes Order = ⊥
+IsWrong bytes OffGrid = ⊥

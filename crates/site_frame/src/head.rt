@@ -6,6 +6,9 @@ pub const HEAD: usize = 24;
 /// The most bytes that may follow a head.
 pub const GREATEST_REST: usize = 33_554_432;
 
+// The fewest bytes that follow the head of a frame: L1-pre, and the numbers of the other three parts.
+pub(crate) const LEAST_REST: usize = 35;
+
 // What each head begins with: "T2FR".
 pub(crate) const MAGIC: [u8; 4] = [0x54, 0x32, 0x46, 0x52];
 

@@ -1,15 +1,15 @@
 // Reading a record.
-ghost use Rattle.std.specs.Prelude.{◌≡◌, ◌↔◌, ℕ, ◌+◌, ◌<◌, ◌≤◌, ◌^◌, length, IsTrue, IfOk, IfErr, IfSome, Ok, Err};
+ghost use Rattle.std.specs.Prelude.{◌≡◌, ◌↔◌, ℕ, ◌+◌, ◌-◌, ◌<◌, ◌≤◌, ◌^◌, List, ◌++◌, length, IsTrue, IfOk, IfErr, IfSome, Ok, Err};
 ghost use Rattle.site_frame.specs.Record.{head_len};
 ghost use Rattle.site_frame.specs.Reading.{Gives};
-ghost use Rattle.site_frame.specs.Whole.{HasHead, HasKind, view_in, told_moment, IsRead, IsRefused, BeginsWith, Refuses};
+ghost use Rattle.site_frame.specs.Whole.{HasHead, HasKind, view_in, told_moment, IsRead, IsRefused, BeginsWith, Refuses, Follow, RefusesHead, IsRight, IsRightAlone, IsWrong};
 ghost use Rattle.site_frame.specs.declared.fault.RecordWhy.{RecordWhy};
 ghost use Rattle.site_frame.specs.declared.reading.RecordView.{RecordView};
 
 use crate::blocks::Blocks;
 use crate::cells::Cells;
 use crate::fault::RecordWhy;
-use crate::head::{FRAME, GREATEST_REST, HEAD, MAGIC, MUTED};
+use crate::head::{FRAME, GREATEST_REST, HEAD, LEAST_REST, MAGIC, MUTED};
 use crate::parts::split_rest;
 use bit_slice::BitSlice;
 use byteorder::{BigEndian, ByteOrder};
@@ -83,10 +83,11 @@ fn view(kind: u8, moment: Moment, rest: &[u8]) -> Option<RecordView<'_>>
     })
 }
 
-// Reads a record place by place.
-pub(crate) fn parse(bytes: &[u8]) -> Result<(RecordView<'_>, usize), RecordWhy>
-    ensures ok { IfOk result (λ x. IsRead bytes.now x.0 x.1) }
+// How many bytes the head at the front tells behind it.
+fn told(bytes: &[u8]) -> Result<usize, RecordWhy>
+    ensures ok { IfOk result (IsRight bytes.now) }
     ensures err { IfErr result (IsRefused bytes.now) }
+    ensures wrong { IfErr result (IsWrong bytes.now) }
 {
     if !has_head(bytes) {
         return Err(RecordWhy::Head);
@@ -95,12 +96,49 @@ pub(crate) fn parse(bytes: &[u8]) -> Result<(RecordView<'_>, usize), RecordWhy>
     if kind != FRAME && kind != MUTED {
         return Err(RecordWhy::Kind);
     }
-    let len = BigEndian::read_u32(&bytes[20..]) as usize;
-    if len > GREATEST_REST || bytes.len() < HEAD + len {
+    let rest = BigEndian::read_u32(&bytes[20..]) as usize;
+    if rest > GREATEST_REST {
         return Err(RecordWhy::Length);
     }
-    match view(kind, moment_at(bytes), &bytes[HEAD..HEAD + len]) {
-        Some(view) => Ok((view, HEAD + len)),
+    Ok(rest)
+}
+
+// The same of a head that stands alone: a muted one tells 0, and that of a frame what its numbers fill at least.
+fn told_alone(head: &[u8]) -> Result<usize, RecordWhy>
+    ensures ok { IfOk result (IsRightAlone head.now) }
+    ensures wrong { IfErr result (IsWrong head.now) }
+{
+    let rest = told(head)?;
+    if head[4] == MUTED && rest > 0 || head[4] == FRAME && rest < LEAST_REST {
+        return Err(RecordWhy::Length);
+    }
+    Ok(rest)
+}
+
+/// How many bytes follow the head of a record, `GREATEST_REST` at most, or why no record begins with this head, whatever follows.
+///
+/// If as many bytes follow, [`read_record`] reads them all or refuses them.
+pub fn rest_len(head: &[u8; HEAD]) -> Result<usize, RecordWhy>
+    ensures ok { IfOk result (Follow head.now) }
+    // If a record begins with the head, its length is told.
+    ensures every { (more : List ℕ) (view : RecordView) (len : ℕ) → BeginsWith (head.now ++ more) view len → result ≡ Ok (len - head_len) }
+    ensures err { IfErr result (RefusesHead head.now) }
+{
+    told_alone(head)
+}
+
+// Reads a record place by place.
+pub(crate) fn parse(bytes: &[u8]) -> Result<(RecordView<'_>, usize), RecordWhy>
+    ensures ok { IfOk result (λ x. IsRead bytes.now x.0 x.1) }
+    ensures err { IfErr result (IsRefused bytes.now) }
+{
+    let rest = told(bytes)?;
+    let len = HEAD + rest;
+    if bytes.len() < len {
+        return Err(RecordWhy::Length);
+    }
+    match view(bytes[4], moment_at(bytes), &bytes[HEAD..len]) {
+        Some(view) => Ok((view, len)),
         None => Err(RecordWhy::Length),
     }
 }

@@ -1,10 +1,8 @@
 // Expected values were spelled by hand, section by section.
-use crate::{RecordView, RecordWhy, place_record, read_record, write_head, write_muted};
+use crate::{RecordView, RecordWhy, place_record, read_record, rest_len, write_head, write_muted};
 use cell_map::Cell;
-use plp_config::{
-    Band, Config, FecSize, L1Numbers, Modulation, Moment, Plan, Plp, PlpKind, PlpList, Rate, fits,
-    validate,
-};
+use plp_config::Moment;
+use sample_networks::small_plan;
 use std::alloc::{AllocError, Global};
 use std::process::Abort;
 use std::test::Fail;
@@ -143,6 +141,36 @@ fn a_muted_record_is_its_head(rt: HostRuntime) {
     }
 }
 
+#[test]
+fn the_head_tells_what_follows(rt: HostRuntime) {
+    let mut head = [0; 24];
+    write_head(&MOMENT, 33_554_432, &mut head);
+    assert!(rt; rest_len(&head) == Ok(33_554_432));
+    // L1-pre, and the numbers of the other parts.
+    write_head(&MOMENT, 35, &mut head);
+    assert!(rt; rest_len(&head) == Ok(35));
+    write_head(&MOMENT, 34, &mut head);
+    assert!(rt; rest_len(&head) == Err(RecordWhy::Length));
+    write_muted(&MOMENT, &mut head);
+    assert!(rt; rest_len(&head) == Ok(0));
+    write_head(&MOMENT, 0x0100_0000, &mut head);
+    // The place of a byte, its value, and the refusal.
+    for (place, byte, wanted) in [
+        (1, 0x33, RecordWhy::Head),
+        (6, 1, RecordWhy::Head),
+        (4, 0x54, RecordWhy::Kind),
+        // One byte too many, and a muted head with a rest.
+        (20, 2, RecordWhy::Length),
+        (4, 2, RecordWhy::Length),
+    ] {
+        assert!(rt; place < 24);
+        let mut bytes = head;
+        bytes[place] = byte;
+        bytes[23] = 1;
+        assert!(rt; rest_len(&bytes) == Err(wanted));
+    }
+}
+
 // How many parts a record has, and its bytes.
 #[derive(Drop)]
 struct Sizes {
@@ -237,68 +265,10 @@ fn a_longer_rest_is_refused(rt: HostRuntime) -> Result<(), Fail> {
     Ok(())
 }
 
-const PLP: Plp = Plp {
-    id: 0,
-    kind: PlpKind::Type1,
-    group: 1,
-    rate: Rate::R1_2,
-    modulation: Modulation::Qpsk,
-    fec: FecSize::Short,
-    rotation: false,
-    blocks: 4,
-    interleave: 1,
-    delete: true,
-    bits_per_second: 2_000_000,
-};
-
-const L1: L1Numbers = L1Numbers {
-    bwt_ext: 0,
-    s2: 6,
-    guard: 1,
-    papr: 0,
-    l1_mod: 1,
-    l1_cod: 0,
-    l1_fec: 0,
-    post_size: 1_000,
-    pilot: 6,
-    tx_id: 0,
-    symbols: 59,
-    regen: 0,
-};
-
-// 8 MHz, frames of 100,000 ticks, so of 700,000 subseconds.
-fn plan_of(rt: &impl Abort, plps: PlpList) -> Plan {
-    let config = Config {
-        band: Band::Mhz8,
-        ticks: 100_000,
-        frames: 2,
-        cells: 40_000,
-        seconds: 700_000_000,
-        subseconds: 0,
-        utco: 5,
-        pid: 256,
-        cell_id: 1,
-        network_id: 2,
-        system_id: 3,
-        frequency: 474_000_000,
-        l1: L1,
-        sub_slices: 1,
-        plps,
-    };
-    match validate(config) {
-        Ok(valid) => match fits(valid) {
-            Ok(plan) => plan,
-            Err((_, fault)) => panic!(rt; "{fault}"),
-        },
-        Err((_, fault)) => panic!(rt; "{fault}"),
-    }
-}
-
 #[test]
 fn a_record_is_placed_by_its_moment(rt: HostRuntime) -> Result<(), Fail> {
-    let mut plps = PlpList::new(rt.alloc());
-    plps.push(PLP)?;
-    let plan = plan_of(&rt, plps);
+    // 8 MHz, frames of 100,000 ticks, so of 700,000 subseconds.
+    let plan = small_plan(rt.alloc())?;
     for (seconds, subseconds, expected, wanted) in [
         (700_000_000, 0, None, Ok(0)),
         (700_000_000, 1_400_000, Some(2), Ok(2)),

@@ -3,3 +3,4 @@ pub mod PartLemmas
 pub mod RangeLemmas
 pub mod CaseLemmas
 pub mod NatLemmas
+pub mod AllLemmas

@@ -3,7 +3,7 @@ use Rattle.frame_records.proofs.FrameLemmas.{frame_length}
 use Rattle.frame_records.proofs.laws.frame_law.Goals as goal
 
 pub returns-clause-len : goal.returns-clause-len
-returns-clause-len c = frame_length c.block_law.ensures.field c.post_law.ensures.len
+returns-clause-len c = frame_length c.bit_counts.ensures c.block_law.ensures.field c.post_law.ensures.len
 
 pub returns-clause-counted : goal.returns-clause-counted
 returns-clause-counted c = counted_lengths
@@ -18,4 +18,4 @@ pub returns-clause-post : goal.returns-clause-post
 returns-clause-post c = counted_post
 
 pub returns-clause-start : goal.returns-clause-start
-returns-clause-start c = counted_start
+returns-clause-start c = counted_start c.bit_counts.ensures

@@ -2,7 +2,6 @@ use Rattle.std.proofs.Common.{◌+◌, ◌*◌, ◌≤◌, ◌++◌, List, Bool,
 use Rattle.terms.specs.Bits.{bits_of, bytes_of}
 use Rattle.terms.proofs.BitLemmas.{bits_of-bytes_of, length-bits_of}
 use Rattle.bb_frame.specs.BasebandFrame.{frame_bits}
-use Rattle.mode_adapt.proofs.SettingsLemmas.{length-frame}
 use Rattle.mode_adapt.proofs.block.write_block.Goals as goal
 
 pub returns-in-Ok-clause-bits : goal.returns-in-Ok-clause-bits
@@ -14,10 +13,10 @@ returns-in-Ok-clause-bits c =
     ∙ ap (λ (b : List Bool). b ++ frame_bits c.args.header.now c.whole.result (8 * (c.args.field_bytes + 10))) c.new-sink.ensures
     ∙ ap (λ (b : List Bool). frame_bits c.args.header.now b (8 * (c.args.field_bytes + 10))) c.whole.ensures.bits)
     ∙ bits_of-bytes_of (frame_bits c.args.header.now (bits_of c.args.field.now) (8 * (c.args.field_bytes + 10))) (c.args.field_bytes + 10)
-    (length-frame c.args.header.now (bits_of c.args.field.now) (8 * (c.args.field_bytes + 10)) fits)
+    (c.bit_counts.ensures.frame c.args.header.now (bits_of c.args.field.now) (8 * (c.args.field_bytes + 10)) fits)
 
 pub returns-in-Ok-clause-len : goal.returns-in-Ok-clause-len
 returns-in-Ok-clause-len c =
     let fits : 80 + length (bits_of c.args.field.now) ≤ 8 * (c.args.field_bytes + 10) = omega (arith, length-bits_of c.args.field.now, c.requires.inside) in
     let bits = ap length (returns-in-Ok-clause-bits c) in
-    omega (arith, length-bits_of c.into_bytes.result.items, bits, length-frame c.args.header.now (bits_of c.args.field.now) (8 * (c.args.field_bytes + 10)) fits)
+    omega (arith, length-bits_of c.into_bytes.result.items, bits, c.bit_counts.ensures.frame c.args.header.now (bits_of c.args.field.now) (8 * (c.args.field_bytes + 10)) fits)

@@ -1,0 +1,103 @@
+-- The bytes of blocks and cells, piece by piece.
+use Rattle.std.proofs.Common.{◌≡◌, ℕ, zero, suc, ◌+◌, ◌-◌, ◌*◌, ◌<◌, ◌≤◌, List, [], ◌∷◌, ◌++◌, length, take, drop, refl, ap, ap₂, sym, subst, ◌∙◌, ⊎_elim, arith, append_assoc, append-nil, length-append, take-append-drop}
+use Rattle.std.specs.Prelude.{slice_set, slice_index_or}
+use Rattle.std.specs.FinMap.{get}
+use Rattle.std.specs.List.{flat_map}
+use Rattle.std.proofs.lemmas.Bool.{cases_eq}
+use Rattle.std.proofs.lemmas.List.{drop_more, drop-set, get_or-drop, get_or-set_same, get_or-set_other, drop-drop, drop_all}
+use Rattle.plp_config.specs.declared.config.Config.{Config}
+use Rattle.scheduler.specs.Shape.{FrameShape}
+use Rattle.record_writer.specs.RecordBytes.{list_at, front_of, AreShort, most_block, sent_bytes, lists_bytes, words}
+use Rattle.cell_map.specs.CellMap.{cell_map}
+use Rattle.site_frame.specs.Record.{cell_bytes}
+
+-- the word at an address
+abbrev pub word_at : Config → FrameShape → ℕ → List ℕ
+word_at c shape address = cell_bytes (get (cell_map c shape) address)
+
+-- the cells from an address on, in two parts
+pub words_split : (c : Config) (shape : FrameShape) (n m address : ℕ) → words c shape address (n + m) ≡ words c shape address n ++ words c shape (address + n) m
+words_split c shape zero m address =
+    let e : 0 + m ≡ m = omega arith in
+    let f : address ≡ address + 0 = omega arith in
+    ap₂ (λ (a n : ℕ). words c shape a n) f e
+words_split c shape (suc n) m address =
+    let e : suc n + m ≡ suc (n + m) = omega arith in
+    let f : address + 1 + n ≡ address + suc n = omega arith in
+    ap (words c shape address) e
+    ∙ ap (λ (l : List ℕ). word_at c shape address ++ l) (words_split c shape n m (address + 1))
+    ∙ sym (append_assoc (word_at c shape address) (words c shape (address + 1) n) (words c shape (address + 1 + n) m))
+    ∙ ap (λ (a : ℕ). (word_at c shape address ++ words c shape (address + 1) n) ++ words c shape a m) f
+
+-- one cell more
+pub words_more : (c : Config) (shape : FrameShape) (n address : ℕ) → words c shape address (n + 1) ≡ words c shape address n ++ word_at c shape (address + n)
+words_more c shape n address = words_split c shape n 1 address ∙ ap (λ (l : List ℕ). words c shape address n ++ l) (append-nil (word_at c shape (address + n)))
+
+-- what was put, and one cell more
+pub words_on : (c : Config) (shape : FrameShape) (n address : ℕ) (old out new : List ℕ) → out ≡ old ++ words c shape address n → new ≡ out ++ word_at c shape (address + n)
+    → new ≡ old ++ words c shape address (n + 1)
+words_on c shape n address old out new e f =
+    f ∙ ap (λ (l : List ℕ). l ++ word_at c shape (address + n)) e
+    ∙ append_assoc old (words c shape address n) (word_at c shape (address + n))
+    ∙ ap (λ (l : List ℕ). old ++ l) (sym (words_more c shape n address))
+
+-- a list without a block adds nothing
+pub blocks_skip : (c : Config) (plp : ℕ) (lists : List (List (List ℕ))) → plp < length lists → list_at lists plp ≡ [] → lists_bytes c plp (drop plp lists) ≡ lists_bytes c (plp + 1) (drop (plp + 1) lists)
+blocks_skip c plp lists h e =
+    ap (lists_bytes c plp) (drop_more lists plp [] h)
+    ∙ ap (λ (l : List (List ℕ)). flat_map (sent_bytes c plp) l ++ lists_bytes c (plp + 1) (drop (plp + 1) lists)) e
+
+-- the first block of a list, and the others
+first_block : (c : Config) (plp : ℕ) (l : List (List ℕ)) (rest : List ℕ) → 0 < length l → flat_map (sent_bytes c plp) l ++ rest ≡ sent_bytes c plp (slice_index_or l 0 []) ++ (flat_map (sent_bytes c plp) (drop 1 l) ++ rest)
+first_block c plp [] rest h = absurd (omega arith)
+first_block c plp (b ∷ l) rest h = append_assoc (sent_bytes c plp b) (flat_map (sent_bytes c plp) l) rest
+
+pub blocks_front : (c : Config) (plp : ℕ) (lists : List (List (List ℕ))) → plp < length lists → 0 < length (list_at lists plp)
+    → lists_bytes c plp (drop plp lists) ≡ sent_bytes c plp (front_of lists plp) ++ lists_bytes c plp (drop plp (slice_set lists plp (drop 1 (list_at lists plp))))
+blocks_front c plp lists h some =
+    ap (lists_bytes c plp) (drop_more lists plp [] h)
+    ∙ first_block c plp (list_at lists plp) (lists_bytes c (plp + 1) (drop (plp + 1) lists)) some
+    ∙ ap (λ (l : List (List (List ℕ))). sent_bytes c plp (front_of lists plp) ++ lists_bytes c plp l) (sym (drop-set lists plp (drop 1 (list_at lists plp)) h))
+
+-- a block less leaves short blocks
+pub short_less : (plp : ℕ) (lists new : List (List (List ℕ))) → new ≡ slice_set lists plp (drop 1 (list_at lists plp)) → plp < length lists → AreShort lists → AreShort new
+short_less plp lists new e h short = subst AreShort (sym e) (λ list place. ⊎_elim
+    (λ (same : list ≡ plp).
+    let a : list_at (slice_set lists plp (drop 1 (list_at lists plp))) list ≡ drop 1 (list_at lists plp) = ap (list_at _) same ∙ get_or-set_same lists plp (drop 1 (list_at lists plp)) [] h in
+    subst (λ (l : List (List ℕ)). length (slice_index_or l place []) ≤ most_block) (sym a)
+    (subst (λ (b : List ℕ). length b ≤ most_block) (sym (get_or-drop 1 (list_at lists plp) place [])) (short plp (1 + place))))
+    (λ (other : list ≡ plp → ⊥).
+    subst (λ (l : List (List ℕ)). length (slice_index_or l place []) ≤ most_block) (sym (get_or-set_other lists plp list (drop 1 (list_at lists plp)) [] other)) (short list place))
+    (cases_eq list plp))
+
+pub length-words : (c : Config) (shape : FrameShape) (n address : ℕ) → length (words c shape address n) ≡ 4 * n
+length-words c shape zero address = refl
+length-words c shape (suc n) address = length-append (word_at c shape address) (words c shape (address + 1) n) ∙ (let h = length-words c shape n (address + 1) in omega (arith, h))
+
+-- a block is given
+pub block_given : (c : Config) (first plp : ℕ) (old new : List (List (List ℕ))) (out tail : List ℕ) → lists_bytes c first (drop first old) ≡ lists_bytes c plp (drop plp old) → plp < length old → 0 < length (list_at old plp)
+    → out ≡ sent_bytes c plp (front_of old plp) → new ≡ slice_set old plp (drop 1 (list_at old plp))
+    → lists_bytes c first (drop first old) ++ tail ≡ out ++ (lists_bytes c plp (drop plp new) ++ tail)
+block_given c first plp old new out tail same inside some o n =
+    ap (λ (l : List ℕ). l ++ tail) (same ∙ blocks_front c plp old inside some ∙ ap₂ (λ (b : List ℕ) (l : List (List (List ℕ))). b ++ lists_bytes c plp (drop plp l)) (sym o) (sym n))
+    ∙ append_assoc out (lists_bytes c plp (drop plp new)) tail
+
+-- cells are given
+pub words_given : (c : Config) (shape : FrameShape) (address count : ℕ) (old out : List ℕ) → old ≡ [] → out ≡ old ++ words c shape address count → address + count ≤ c.cells
+    → words c shape address (c.cells - address) ≡ out ++ words c shape (address + count) (c.cells - (address + count))
+words_given c shape address count old out empty e inside =
+    let f : c.cells - address ≡ count + (c.cells - (address + count)) = omega arith in
+    ap (words c shape address) f ∙ words_split c shape count (c.cells - (address + count)) address
+    ∙ ap (λ (l : List ℕ). l ++ words c shape (address + count) (c.cells - (address + count))) (sym (e ∙ ap (λ (l : List ℕ). l ++ words c shape address count) empty))
+
+-- some bytes of a piece are taken, and then the next piece is in hand
+pub taken : (piece rest : List ℕ) (at size : ℕ) → drop at piece ++ rest ≡ take size (drop at piece) ++ (drop (at + size) piece ++ rest)
+taken piece rest at size =
+    ap (λ (l : List ℕ). l ++ rest) (sym (take-append-drop size (drop at piece)) ∙ ap (λ (l : List ℕ). take size (drop at piece) ++ l) (drop-drop size at piece))
+    ∙ append_assoc (take size (drop at piece)) (drop (at + size) piece) rest
+
+pub taken_all : (piece rest next more : List ℕ) (at size : ℕ) → length piece ≤ at + size → rest ≡ next ++ more → drop at piece ++ rest ≡ take size (drop at piece) ++ (drop 0 next ++ more)
+taken_all piece rest next more at size e f =
+    taken piece rest at size
+    ∙ ap (λ (l : List ℕ). take size (drop at piece) ++ (l ++ rest)) (drop_all (at + size) piece e)
+    ∙ ap (λ (l : List ℕ). take size (drop at piece) ++ l) f

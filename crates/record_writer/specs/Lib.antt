@@ -1,0 +1,5 @@
+pub mod RecordBytes
+pub mod Front
+pub mod Steps
+pub mod Writes
+pub mod Fitting

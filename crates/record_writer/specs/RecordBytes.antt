@@ -1,0 +1,41 @@
+-- The bytes of a frame's record behind its L1 signalling: blocks, and cells.
+use Rattle.std.specs.Prelude.{ℕ, ◌+◌, ◌≤◌, List, [], ◌∷◌, ◌++◌, length, slice_index_or}
+use Rattle.std.specs.FinMap.{get}
+use Rattle.std.specs.List.{flat_map, range_with_len}
+use Rattle.plp_config.specs.Plps.{plp_at}
+use Rattle.plp_config.specs.declared.config.Config.{Config}
+use Rattle.scheduler.specs.Shape.{FrameShape}
+use Rattle.cell_map.specs.CellMap.{cell_map}
+use Rattle.site_frame.specs.Record.{block_bytes, cell_bytes}
+
+-- the most bytes of a piece
+abbrev pub piece_len : ℕ
+piece_len = 8192
+
+-- a block of a PLP, as a record has it
+abbrev pub sent_bytes : Config → ℕ → List ℕ → List ℕ
+sent_bytes c plp block = block_bytes (record { plp = (plp_at c.plps plp).id; bytes = block }) 0
+
+-- the blocks of lists, one for each PLP from one on
+abbrev pub lists_bytes : Config → ℕ → List (List (List ℕ)) → List ℕ
+lists_bytes c plp [] = []
+lists_bytes c plp (blocks ∷ lists) = flat_map (sent_bytes c plp) blocks ++ lists_bytes c (plp + 1) lists
+
+-- the words of so many cells from an address on
+abbrev pub words : Config → FrameShape → ℕ → ℕ → List ℕ
+words c shape address count = flat_map (λ a. cell_bytes (get (cell_map c shape) a)) (range_with_len address count)
+
+-- the first block of a list
+abbrev pub list_at : List (List (List ℕ)) → ℕ → List (List ℕ)
+list_at lists list = slice_index_or lists list []
+
+abbrev pub front_of : List (List (List ℕ)) → ℕ → List ℕ
+front_of lists list = slice_index_or (list_at lists list) 0 []
+
+-- the most bytes of a block: with its head it fits a piece
+abbrev pub most_block : ℕ
+most_block = 8188
+
+-- No block is longer.
+abbrev pub AreShort : List (List (List ℕ)) → Type 0
+AreShort lists = (list place : ℕ) → length (slice_index_or (list_at lists list) place []) ≤ most_block

@@ -1,0 +1,268 @@
+// The bytes of a record, of which one piece is in hand.
+ghost use Rattle.std.specs.Prelude.{◌≡◌, ◌<◌, ◌≤◌, ◌+◌, ◌-◌, ◌*◌, ◌⊎◌, ◌++◌, ◌∷◌, [], ℕ, List, length, take, drop};
+ghost use Rattle.byteorder.specs.Endian.{big_bytes};
+ghost use Rattle.linked_pool.specs.Pool.{popped};
+ghost use Rattle.plp_config.specs.Plps.{plp_at};
+ghost use Rattle.plp_config.specs.declared.config.Config.{Config};
+ghost use Rattle.cell_map.specs.CellMap.{Passes};
+ghost use Rattle.scheduler.specs.Shape.{FrameShape};
+ghost use Rattle.record_writer.specs.Steps.{step_bytes, IsStep};
+ghost use Rattle.record_writer.specs.RecordBytes.{piece_len, list_at, front_of, AreShort, sent_bytes, lists_bytes, words};
+ghost use Rattle.record_writer.specs.declared.step.Step.TheVariants.{Blocks, Done};
+
+use crate::piece::Piece;
+use crate::signalling::{Signalling, put_front, put_muted};
+use crate::step::Step;
+use bit_slice::{BitSlice, OutOfMemory};
+use byteorder::{BigEndian, ByteOrder};
+use linked_pool::Pool;
+use plp_config::{Moment, Plan};
+use scheduler::Shape;
+use std::alloc::Global;
+
+// The cells of a piece: it has room for their words.
+const PIECE_CELLS: u32 = 2048;
+
+// How many cells of those left go into a piece.
+fn fitting(left: u32) -> u32
+    ensures most { result ≤ left }
+    ensures few { 4 * result ≤ piece_len }
+    ensures some { result ≡ 0 → left ≡ 0 }
+{
+    left.min(PIECE_CELLS)
+}
+
+// The first list from one on that has a block, or their number.
+fn next_list(pool: &Pool, first: usize, end: usize) -> usize
+    requires order { first ≤ end }
+    requires end { end ≡ length pool.now.lists }
+    requires few { end ≤ 255 }
+    ensures inside { result ≤ end }
+    ensures some { result < end → 0 < length (list_at pool.now.lists result) }
+    ensures same { (c : Config) → lists_bytes c first (drop first pool.now.lists) ≡ lists_bytes c result (drop result pool.now.lists) }
+{
+    for plp in first..end {
+        if pool.count(plp as u32) > 0 {
+            return plp;
+        }
+    }
+    end
+}
+
+// plp_id of a PLP.
+fn id_of(plan: &Plan, plp: usize) -> u8
+    requires { plp < length plan.now.plps }
+    ensures { result ≡ (plp_at plan.now.plps plp).id }
+{
+    plan.config().plps.get(plp).unwrap().id
+}
+
+// Puts the head of a block.
+fn put_head(id: u8, len: u16, out: &mut Piece)
+    requires empty { out.old ≡ [] }
+    ensures { out.new ≡ id ∷ 0 ∷ big_bytes 2 len }
+{
+    let mut head = [id, 0, 0, 0];
+    BigEndian::write_u16(&mut head[2..], len);
+    out.put(&head);
+}
+
+// Puts the first block of a list, and takes it from there.
+fn put_block(plan: &Plan, pool: &mut Pool, plp: usize, out: &mut Piece)
+    requires plp { plp < length plan.now.plps }
+    requires list { plp < length pool.old.lists }
+    requires few { plp < 255 }
+    requires some { 0 < length (list_at pool.old.lists plp) }
+    requires short { AreShort pool.old.lists }
+    requires empty { out.old ≡ [] }
+    ensures out { out.new ≡ sent_bytes plan.now plp (front_of pool.old.lists plp) }
+    ensures pool { pool.new ≡ popped pool.old plp }
+{
+    let list = plp as u32;
+    let block = pool.front(list).unwrap();
+    put_head(id_of(plan, plp), block.len() as u16, out);
+    out.put_block(&block);
+    pool.pop(list);
+}
+
+// Puts the next block, or behind the last one the number of cells.
+fn build_block(plan: &Plan, pool: &mut Pool, plp: usize, out: &mut Piece) -> Step
+    requires lists { length pool.old.lists ≡ length plan.now.plps }
+    requires short { AreShort pool.old.lists }
+    requires inside { plp ≤ length pool.old.lists }
+    requires empty { out.old ≡ [] }
+    ensures bytes { (shape : FrameShape) → step_bytes plan.now shape pool.old.lists (Blocks plp) ≡ out.new ++ step_bytes plan.now shape pool.new.lists result }
+    ensures some { 0 < length out.new }
+    ensures lists { length pool.new.lists ≡ length pool.old.lists }
+    ensures short { AreShort pool.new.lists }
+    ensures step { IsStep plan.now pool.new.lists result }
+{
+    let end = plan.config().plps.len();
+    let next = next_list(pool, plp, end);
+    if next < end {
+        put_block(plan, pool, next, out);
+        return Step::Blocks(next);
+    }
+    let mut cells = [0; 4];
+    BigEndian::write_u32(&mut cells, plan.config().cells);
+    out.put(&cells);
+    Step::Cells(0)
+}
+
+// Puts the words of the next cells, if there are any.
+fn build_cells(plan: &Plan, shape: &Shape, address: u32, out: &mut Piece) -> Step
+    requires plps { length shape.now.counts ≡ length plan.now.plps }
+    requires passes { Passes plan.now shape.now }
+    requires inside { address ≤ plan.now.cells }
+    requires empty { out.old ≡ [] }
+    ensures bytes { (lists : List (List (List ℕ))) → words plan.now shape.now address (plan.now.cells - address) ≡ out.new ++ step_bytes plan.now shape.now lists result }
+    ensures none { out.new ≡ [] → result ≡ Done }
+    ensures step { (lists : List (List (List ℕ))) → IsStep plan.now lists result }
+{
+    let count = fitting(plan.config().cells - address);
+    out.put_words(plan, shape, address, count);
+    if count == 0 {
+        return Step::Done;
+    }
+    Step::Cells(address + count)
+}
+
+// Puts the next bytes of a frame in place of those in hand, and answers what comes behind them.
+fn build(plan: &Plan, shape: &Shape, pool: &mut Pool, step: Step, out: &mut Piece) -> Step
+    requires plps { length shape.now.counts ≡ length plan.now.plps }
+    requires passes { Passes plan.now shape.now }
+    requires lists { length pool.old.lists ≡ length plan.now.plps }
+    requires short { AreShort pool.old.lists }
+    requires step { IsStep plan.now pool.old.lists step }
+    ensures bytes { step_bytes plan.now shape.now pool.old.lists step ≡ out.new ++ step_bytes plan.now shape.now pool.new.lists result }
+    ensures none { out.new ≡ [] → result ≡ Done }
+    ensures lists { length pool.new.lists ≡ length pool.old.lists }
+    ensures short { AreShort pool.new.lists }
+    ensures step { IsStep plan.now pool.new.lists result }
+{
+    out.clear();
+    match step {
+        Step::Blocks(plp) => build_block(plan, pool, plp, out),
+        Step::Cells(address) => build_cells(plan, shape, address, out),
+        Step::Done => Step::Done,
+    }
+}
+
+// Copies bytes from a place on.
+fn copy_from(piece: &Piece, at: usize, out: &mut [u8]) -> usize
+    requires { at ≤ length piece.now }
+    ensures most { (result ≤ length out.old) × (at + result ≤ length piece.now) }
+    ensures small { at + result ≤ piece_len }
+    ensures out { take result out.new ≡ take result (drop at piece.now) }
+    ensures stays { (length out.new ≡ length out.old) × (drop result out.new ≡ drop result out.old) }
+    ensures none { result ≡ 0 → (length out.old ≡ 0) ⊎ (at ≡ length piece.now) }
+{
+    let size = out.len().min(piece.len() - at);
+    out[..size].copy_from_slice(&piece.as_slice()[at..at + size]);
+    size
+}
+
+/// The bytes of a record, of which one piece is in hand.
+#[derive(Drop)]
+pub struct Writer {
+    piece: Piece,
+    at: usize,
+    step: Step,
+    ghost within: { at ≤ length piece },
+    // The next byte is in hand, if there is one.
+    ghost eager: { at ≡ length piece → step ≡ Done },
+}
+
+impl Writer {
+    ghost use Rattle.std.specs.Prelude.{◌≡◌, ◌<◌, ◌≤◌, ◌++◌, ◌⊎◌, ◌↔◌, ℕ, List, [], length, take, drop, IfOk, true, false};
+    ghost use Rattle.cell_map.specs.CellMap.{Passes};
+    ghost use Rattle.plp_config.specs.declared.config.Config.{Config};
+    ghost use Rattle.scheduler.specs.Shape.{FrameShape};
+    ghost use Rattle.l1_signal.specs.L1Configurable.{conf_bits};
+    ghost use Rattle.l1_signal.specs.L1Of.{conf_of};
+    ghost use Rattle.record_writer.specs.Front.{front_bytes, most_dynamic};
+    ghost use Rattle.record_writer.specs.declared.step.Step.TheVariants.{Blocks};
+    ghost use Rattle.site_frame.specs.Record.{head_bytes, muted_kind};
+    ghost use Rattle.record_writer.specs.RecordBytes.{AreShort};
+    ghost use Rattle.record_writer.specs.Steps.{step_bytes};
+    ghost use Rattle.record_writer.specs.Writes.{bytes_left, IsReady, is_done};
+
+    /// Nothing to write. It takes all the memory that it needs.
+    pub fn open(alloc: Global) -> Result<Writer, OutOfMemory>
+        ensures { IfOk result (λ w. is_done w ≡ true) }
+    {
+        Ok(Writer {
+            piece: Piece::open(alloc)?,
+            at: 0,
+            step: Step::Done,
+        })
+    }
+
+    /// Begins the record of a frame: its head tells `rest`, and it has so many blocks, which wait in the pool.
+    pub fn begin_frame(
+        &mut self,
+        plan: &Plan,
+        conf: &Signalling,
+        moment: &Moment,
+        dynamic: BitSlice<'_>,
+        blocks: u16,
+        rest: u32,
+    )
+        requires conf { conf.now ≡ conf_bits (conf_of plan.now) }
+        requires short { length dynamic ≤ most_dynamic }
+        ensures left { (shape : FrameShape) (lists : List (List (List ℕ))) → bytes_left self.new plan.now shape lists ≡ front_bytes plan.now moment.now dynamic.entry blocks rest ++ step_bytes plan.now shape lists (Blocks 0) }
+        ensures ready { (lists : List (List (List ℕ))) → IsReady self.new plan.now lists }
+        ensures done { is_done self.new ≡ false }
+    {
+        self.piece.clear();
+        put_front(plan, conf, moment, dynamic, blocks, rest, &mut self.piece);
+        self.at = 0;
+        self.step = Step::Blocks(0);
+    }
+
+    /// Begins the record of a muted frame.
+    pub fn begin_muted(&mut self, moment: &Moment)
+        ensures left { (c : Config) (shape : FrameShape) (lists : List (List (List ℕ))) → bytes_left self.new c shape lists ≡ head_bytes muted_kind moment.now 0 }
+        ensures ready { (c : Config) (lists : List (List (List ℕ))) → IsReady self.new c lists }
+        ensures done { is_done self.new ≡ false }
+    {
+        self.piece.clear();
+        put_muted(moment, &mut self.piece);
+        self.at = 0;
+        self.step = Step::Done;
+    }
+
+    /// Gives the next bytes of the record, at most what is left of the piece in hand, and takes blocks from the pool as it goes.
+    pub fn take(&mut self, plan: &Plan, shape: &Shape, pool: &mut Pool, out: &mut [u8]) -> usize
+        requires plps { length shape.now.counts ≡ length plan.now.plps }
+        requires passes { Passes plan.now shape.now }
+        requires lists { length pool.old.lists ≡ length plan.now.plps }
+        requires short { AreShort pool.old.lists }
+        requires ready { IsReady self.old plan.now pool.old.lists }
+        ensures most { result ≤ length out.old }
+        ensures bytes { bytes_left self.old plan.now shape.now pool.old.lists ≡ take result out.new ++ bytes_left self.new plan.now shape.now pool.new.lists }
+        ensures stays { (length out.new ≡ length out.old) × (drop result out.new ≡ drop result out.old) }
+        ensures none { (result ≡ 0) ↔ ((length out.old ≡ 0) ⊎ (is_done self.old ≡ true)) }
+        ensures lists { length pool.new.lists ≡ length pool.old.lists }
+        ensures short { AreShort pool.new.lists }
+        ensures ready { IsReady self.new plan.now pool.new.lists }
+    {
+        let size = copy_from(&self.piece, self.at, out);
+        if self.at + size < self.piece.len() {
+            self.at += size;
+            return size;
+        }
+        self.step = build(plan, shape, pool, self.step, &mut self.piece);
+        self.at = 0;
+        size
+    }
+
+    /// Whether all bytes were given.
+    pub fn is_done(&self) -> bool
+        ensures is { result ≡ is_done self.now }
+        ensures none { result ≡ true → (c : Config) (shape : FrameShape) (lists : List (List (List ℕ))) → bytes_left self.now c shape lists ≡ [] }
+        ensures some { result ≡ false → (c : Config) (shape : FrameShape) (lists : List (List (List ℕ))) → 0 < length (bytes_left self.now c shape lists) }
+    {
+        self.at == self.piece.len()
+    }
+}
