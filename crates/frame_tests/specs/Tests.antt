@@ -11,6 +11,7 @@ use Rattle.plp_config.specs.Tables.{bw, subseconds_per_second}
 use Rattle.plp_config.specs.declared.config.Config.{Config}
 use Rattle.plp_config.specs.declared.moment.Moment.{Moment}
 use Rattle.linked_pool.specs.Pool.{chunks_for}
+use Rattle.scheduler.specs.Shape.{FrameShape}
 use Rattle.l1_signal.specs.Fields.{Row, Reading, values}
 use Rattle.l1_signal.specs.L1Configurable.{conf_first_rows, conf_more_rows, conf_plp_rows, conf_back_rows, conf_read, info_size}
 use Rattle.l1_signal.specs.L1Dynamic.{dyn_read}
@@ -122,14 +123,18 @@ disagrees c n stamp = TimeDisagrees stamp (emission c n)
 unfoldable pub time_test : Config → ℕ → List Packet → Option MuteCause
 time_test c n packets = if begins_superframe c n then option_map (disagrees c n) (find (λ s. not (stamp_agrees c n s)) (stamps_of packets)) else None
 
--- what the dynamic part of the first L1-current tells
-abbrev pub told_dynamic : Config → List Packet → Option L1Dyn
-told_dynamic c packets = option_and_then (read_dynamic c) (slice_get (l1s_of packets) 0)
+-- the shape that the dynamic part of an L1-current tells, if it reads
+abbrev pub l1_shape : Config → L1Parts → Option FrameShape
+l1_shape c l1 = option_map told_shape (read_dynamic c l1)
 
--- each PLP has as many blocks as a dynamic part tells
-abbrev pub has_counts : Config → List Packet → Option L1Dyn → Bool
+-- that of the first L1-current
+abbrev pub first_shape : Config → List Packet → Option FrameShape
+first_shape c packets = option_and_then (l1_shape c) (slice_get (l1s_of packets) 0)
+
+-- each PLP has as many blocks as a shape tells
+abbrev pub has_counts : Config → List Packet → Option FrameShape → Bool
 has_counts c packets None = false
-has_counts c packets (Some dynamic) = list_all (λ plp. length (blocks_of c plp packets) == slice_index (told_shape dynamic).counts plp) (places c)
+has_counts c packets (Some shape) = list_all (λ plp. length (blocks_of c plp packets) == slice_index shape.counts plp) (places c)
 
 -- if a packet carries a block, it is one of a PLP, with its length
 abbrev pub body_known : Config → Body → Bool
@@ -141,17 +146,17 @@ body_known c (Other kind bits) = true
 abbrev pub is_known : Config → Packet → Bool
 is_known c p = body_known c p.body
 
--- e: the blocks are those that the dynamic part tells, and no others
+-- e: there are as many blocks as the first L1-current tells, and no others
 unfoldable pub blocks_test : Config → List Packet → Option MuteCause
-blocks_test c packets = unless (has_counts c packets (told_dynamic c packets) && list_all (is_known c) packets) PacketMissing
+blocks_test c packets = unless (has_counts c packets (first_shape c packets) && list_all (is_known c) packets) PacketMissing
 
 -- f: the cells of the blocks that it tells stand apart, in the frame
-abbrev pub has_map : Config → Option L1Dyn → Bool
+abbrev pub has_map : Config → Option FrameShape → Bool
 has_map c None = false
-has_map c (Some dynamic) = map_passes c (told_shape dynamic)
+has_map c (Some shape) = map_passes c shape
 
 unfoldable pub map_test : Config → List Packet → Option MuteCause
-map_test c packets = unless (has_map c (told_dynamic c packets)) MapRefused
+map_test c packets = unless (has_map c (first_shape c packets)) MapRefused
 
 -- why the packets are not those of frame n: the first test that fails, in their order
 unfoldable pub packets_fault : Config → ℕ → List Packet → Option MuteCause

@@ -1,0 +1,8 @@
+pub mod PlaceLemmas
+pub mod BlockLemmas
+pub mod IdLemmas
+pub mod CountLemmas
+pub mod HoldLemmas
+pub mod NeedLemmas
+pub mod NamedLemmas
+pub mod RoomLemmas
