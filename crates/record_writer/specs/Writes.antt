@@ -10,8 +10,8 @@ abbrev pub bytes_left : Writer → Config → FrameShape → List (List (List �
 bytes_left w c shape lists = drop w.at w.piece ++ step_bytes c shape lists w.step
 
 -- The step behind its piece can be taken.
-abbrev pub IsReady : Writer → Config → List (List (List ℕ)) → Type 0
-IsReady w c lists = IsStep c lists w.step
+abbrev pub IsReady : Writer → Config → FrameShape → List (List (List ℕ)) → Type 0
+IsReady w c shape lists = IsStep c shape lists w.step
 
 -- All bytes were given.
 abbrev pub is_done : Writer → Bool
