@@ -3,3 +3,5 @@ pub mod PartLemmas
 pub mod RangeLemmas
 pub mod CaseLemmas
 pub mod NatLemmas
+pub mod OptionLemmas
+pub mod DecisionLemmas
