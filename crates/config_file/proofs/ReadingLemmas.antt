@@ -1,10 +1,11 @@
 -- Runs that read a configuration, step by step.
-use Rattle.std.proofs.Common.{◌≡◌, ◌⊎◌, ℕ, ◌+◌, ◌-◌, ◌<◌, ◌≤◌, min, inl, inr, ⊎_elim, List, [], ◌++◌, length, Option, Some, None, refl, ap, sym, subst, ◌∙◌, arith, append-nil, length-append}
-use Rattle.std.specs.Prelude.{IfSome, IsSome, unwrap_or, IfOk, IfErr, Result, option_map, option_and_then}
+use Rattle.std.proofs.Common.{◌≡◌, ◌⊎◌, ℕ, ◌+◌, ◌-◌, ◌<◌, ◌≤◌, min, inl, inr, ⊎_elim, List, [], ◌++◌, length, Option, Some, None, ap, sym, subst, ◌∙◌, arith, append-nil, length-append}
+use Rattle.std.specs.Prelude.{IfSome, IsSome, IfOk, IfErr, Result, option_map, option_and_then}
 use Rattle.std.specs.FinMap.{get}
 use Rattle.std.proofs.lemmas.Option.{IfSome_then}
 use Rattle.std.proofs.lemmas.Result.{IfOk-weaker, IfErr-weaker}
 use Rattle.std.proofs.Math.Seq.{get_or-append_seam, set-append_seam}
+use Rattle.terms.proofs.OptionLemmas.{was_some}
 use Rattle.ports.specs.declared.counts.Counts.{Counts}
 use Rattle.ports.specs.Counts.{Rose, MayFailReading}
 use Rattle.ports.specs.Desk.{State, Held, SameCounts, Opens, bytes_of, left_of}
@@ -43,15 +44,11 @@ moved_by old mid new name handle text o r =
       created = r.created ∙ o.created;
     }
 
-was_some : (o : Option (List ℕ)) → IsSome o → o ≡ Some (unwrap_or o [])
-was_some None h = cc
-was_some (Some x) h = refl
-
 -- what is left of a file that is there
 told : (held : Option Held) (name : List ℕ) (left : Option (List ℕ)) (P : List ℕ → Type 0) → left ≡ option_and_then (λ h. get h.files name) held → IfSome held (λ h. IsSome (get h.files name)) → IfSome left P → IfSome held (λ h. P (bytes_of h.files name))
 told None name left P e present h = tt
 told (Some k) name left P e present h =
-    let there : left ≡ Some (bytes_of k.files name) = e ∙ was_some (get k.files name) present in
+    let there : left ≡ Some (bytes_of k.files name) = e ∙ was_some (get k.files name) [] present in
     rw there at h
 
 -- a text was read to its end, or as far as it is read

@@ -1,6 +1,6 @@
 -- Facts of a value that may be there, besides std's `IfSome_then`.
 use Rattle.std.proofs.Common.{◌≡◌, List, ◌++◌, [], Option, Some, None, refl, ap, sym, append-nil}
-use Rattle.std.specs.Prelude.{IfSome, option_map}
+use Rattle.std.specs.Prelude.{IfSome, IsSome, option_map, unwrap_or}
 
 -- what is so of every value
 pub if_any : {A : Type 0} (o : Option A) (P : A → Type 0) → ((x : A) → P x) → IfSome o P
@@ -16,3 +16,8 @@ if_both (Some x) P Q R f p q = f x p q
 pub append-none : {A : Type 0} (o : Option (List A)) → o ≡ option_map (λ text. text ++ []) o
 append-none None = refl
 append-none (Some text) = ap Some (sym (append-nil text))
+
+-- what is there is what `unwrap_or` gives
+pub was_some : {A : Type 0} (o : Option A) (other : A) → IsSome o → o ≡ Some (unwrap_or o other)
+was_some None other h = cc
+was_some (Some x) other h = refl
