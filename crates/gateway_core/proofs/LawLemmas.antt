@@ -102,12 +102,12 @@ tick_same c f g (suc n) h =
     (tick_more c f n ∙ ap (λ (m : ℕ). max m (start c n (f n) + delay c n)) (tick_same c f g n (λ j lt. h j (omega arith)))
     ∙ ap (λ (k : ℕ). max (last_tick c g n) (start c n k + delay c n)) (h n (omega arith)) ∙ sym (tick_more c g n))
 
-count_same : (c : Config) (f g : ℕ → ℕ) → ((j : ℕ) → j < length c.plps → f j ≡ g j) → frame_count c f ≡ frame_count c g
+pub frame_count_same : (c : Config) (f g : ℕ → ℕ) → ((j : ℕ) → j < length c.plps → f j ≡ g j) → frame_count c f ≡ frame_count c g
 unfolding frame_count
-count_same c f g h = ap (λ (tick : ℕ). div_ceil tick (c.frames * c.ticks) * c.frames) (tick_same c f g (length c.plps) h)
+frame_count_same c f g h = ap (λ (tick : ℕ). div_ceil tick (c.frames * c.ticks) * c.frames) (tick_same c f g (length c.plps) h)
 
 pub last_all : LastIsAll
 last_all c events inputs last cont =
     let same : (j : ℕ) → j < length c.plps → length (offered j events) ≡ length (inputs j) =
     λ j lt. let h = cont j lt in sym (ap length (h.front ∙ ap (λ (l : List (List ℕ)). offered j events ++ l) (h.whole (last.ended j lt)) ∙ append-nil (offered j events))) in
-    ap (front_packets c inputs) (last.frames ∙ count_same c _ _ same)
+    ap (front_packets c inputs) (last.frames ∙ frame_count_same c _ _ same)
