@@ -21,7 +21,7 @@ use Rattle.frame_groups.specs.declared.cause.MuteCause.TheVariants.{PacketMissin
 use Rattle.frame_tests.specs.Carried.{places, body_block, has_length, blocks_of, right_blocks, L1Parts, body_l1, l1s_of, body_stamp, stamps_of}
 use Rattle.frame_tests.specs.Laws.{TestsAreTallied, TallyGrows}
 use Rattle.frame_tests.specs.Tally.{Tally, all_alike, is_unlike, first_unlike, tally, alike_behind, unlike_behind, tally_need, tally_pool, tally_missing, tally_l1, first_late, tally_time, tally_counts, tally_blocks, tally_map, tally_fault}
-use Rattle.frame_tests.specs.Tests.{unless, begins_superframe, pool_chunks, pool_need, pool_test, missing_test, same_parts, parts_agree, l1s_agree, l1_test, stamp_agrees, disagrees, time_test, first_shape, has_counts, is_known, blocks_test, map_test, packets_fault}
+use Rattle.frame_tests.specs.Tests.{unless, begins_superframe, pool_chunks, capped, pool_need, pool_test, missing_test, same_parts, parts_agree, l1s_agree, l1_test, stamp_agrees, disagrees, time_test, first_shape, has_counts, is_known, blocks_test, map_test, packets_fault}
 
 -- one packet more
 blocks_more : (c : Config) (packets : List Packet) (p : Packet) (plp : ℕ) → blocks_of c plp (packets ++ p ∷ []) ≡ blocks_of c plp packets ++ blocks_of c plp (p ∷ [])
@@ -109,7 +109,7 @@ need_is c packets =
 
 pool_is : (c : Config) (packets : List Packet) → pool_test c packets ≡ tally_pool c (tally c packets)
 unfolding pool_test
-pool_is c packets = ap (λ (k : ℕ). unless (nat_le k (pool_chunks c)) (PoolFull k (pool_chunks c))) (need_is c packets)
+pool_is c packets = ap (λ (k : ℕ). unless (nat_le k (pool_chunks c)) (PoolFull (capped k) (pool_chunks c))) (need_is c packets)
 
 some_is : {X : Type 0} (xs : List X) → nat_lt 0 (length xs) ≡ is_some (slice_get xs 0)
 some_is [] = refl

@@ -11,7 +11,7 @@ use Rattle.t2mi_packet.specs.declared.packet.Stamp.{Stamp}
 use Rattle.frame_groups.specs.declared.cause.MuteCause.{MuteCause}
 use Rattle.frame_groups.specs.declared.cause.MuteCause.TheVariants.{PacketMissing, L1Refused, MapRefused, PoolFull}
 use Rattle.frame_tests.specs.Carried.{places, blocks_of, right_blocks, L1Parts, l1s_of, stamps_of}
-use Rattle.frame_tests.specs.Tests.{unless, begins_superframe, pool_chunks, same_parts, parts_agree, l1_shape, stamp_agrees, disagrees, is_known, has_map}
+use Rattle.frame_tests.specs.Tests.{unless, begins_superframe, pool_chunks, capped, same_parts, parts_agree, l1_shape, stamp_agrees, disagrees, is_known, has_map}
 
 pub record Tally : Type 0 where
   pub right : List ℕ  -- of each PLP, its blocks that have its length
@@ -74,7 +74,7 @@ tally_need c t = sum_by (λ plp. slice_index t.right plp * chunks_for (block_byt
 
 -- a
 abbrev pub tally_pool : Config → Tally → Option MuteCause
-tally_pool c t = unless (nat_le (tally_need c t) (pool_chunks c)) (PoolFull (tally_need c t) (pool_chunks c))
+tally_pool c t = unless (nat_le (tally_need c t) (pool_chunks c)) (PoolFull (capped (tally_need c t)) (pool_chunks c))
 
 -- b
 abbrev pub tally_missing : Config → ℕ → Tally → Option MuteCause

@@ -1,5 +1,5 @@
 -- Why the packets of a group are not those of a frame: the first of six tests that fails (ETSI TS 102 773, clause 5).
-use Rattle.std.specs.Prelude.{ℕ, ◌*◌, ◌/◌, ◌%◌, ◌-◌, ◌^◌, ◌==◌, ◌&&◌, ◌||◌, not, nat_eq, nat_lt, nat_le, Bool, true, false, List, [], ◌∷◌, length, map, sum_by, slice_get, slice_index, Option, Some, None, option_map, Ok, Err, if◌then◌else◌}
+use Rattle.std.specs.Prelude.{ℕ, ◌*◌, ◌/◌, ◌%◌, ◌-◌, ◌^◌, ◌==◌, ◌&&◌, ◌||◌, not, min, nat_eq, nat_lt, nat_le, Bool, true, false, List, [], ◌∷◌, length, map, sum_by, slice_get, slice_index, Option, Some, None, option_map, Ok, Err, if◌then◌else◌}
 use Rattle.std.specs.Bool.{beq}
 use Rattle.std.specs.Cmp.Lexicographic.{pointwise}
 use Rattle.std.specs.List.{find, list_any, list_all}
@@ -56,9 +56,16 @@ pool_chunks c = chunks_of_cells * c.cells / fewest_cells
 abbrev pub pool_need : Config → List Packet → ℕ
 pool_need c packets = sum_by (λ plp. length (right_blocks c plp packets) * chunks_for (block_bytes c plp)) (places c)
 
+-- a number as a cause tells it: it has 64 bits, and stands still at the greatest
+abbrev pub greatest : ℕ
+greatest = 2 ^ 64 - 1
+
+abbrev pub capped : ℕ → ℕ
+capped n = min n greatest
+
 -- a: these blocks have room
 unfoldable pub pool_test : Config → List Packet → Option MuteCause
-pool_test c packets = unless (nat_le (pool_need c packets) (pool_chunks c)) (PoolFull (pool_need c packets) (pool_chunks c))
+pool_test c packets = unless (nat_le (pool_need c packets) (pool_chunks c)) (PoolFull (capped (pool_need c packets)) (pool_chunks c))
 
 -- b: there is an L1-current, and a timestamp if a superframe begins (clauses 5.2.4 and 5.2.7)
 unfoldable pub missing_test : Config → ℕ → List Packet → Option MuteCause

@@ -17,8 +17,8 @@ use Rattle.t2mi_packet.specs.declared.packet.Body.TheVariants.{Block}
 use Rattle.t2mi_packet.specs.declared.packet.Packet.{Packet}
 use Rattle.frame_tests.specs.Carried.{places, body_block, has_length, blocks_of, right_blocks}
 use Rattle.frame_tests.specs.Tally.{Tally, tally_with, tally_need}
-use Rattle.frame_tests.specs.Tests.{body_known, is_known}
-use Rattle.open_group.specs.HoldsBlocks.{greatest, capped, HoldsCounts, HoldsLists}
+use Rattle.frame_tests.specs.Tests.{body_known, is_known, greatest, capped}
+use Rattle.open_group.specs.HoldsBlocks.{HoldsCounts, HoldsLists}
 use Rattle.open_group.specs.Networks.{IsPlace, HasNoPlace}
 use Rattle.open_group.specs.Sent.{sent_bytes}
 use Rattle.open_group.specs.declared.blocks.HeldBlocks.{HeldBlocks}

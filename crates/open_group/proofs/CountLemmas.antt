@@ -10,7 +10,8 @@ use Rattle.plp_config.specs.declared.config.Config.{Config}
 use Rattle.scheduler.specs.Shape.{FrameShape}
 use Rattle.frame_tests.specs.Carried.{places}
 use Rattle.frame_tests.specs.Tally.{Tally, tally_counts}
-use Rattle.open_group.specs.HoldsBlocks.{capped, HoldsCounts}
+use Rattle.frame_tests.specs.Tests.{capped}
+use Rattle.open_group.specs.HoldsBlocks.{HoldsCounts}
 use Rattle.open_group.specs.declared.blocks.HeldBlocks.{HeldBlocks}
 
 none_used : (lists : List (List (List ℕ))) → ((k : ℕ) → k < length lists → get_or lists k [] ≡ []) → used_chunks lists ≡ 0

@@ -14,7 +14,8 @@ use Rattle.t2mi_packet.specs.declared.packet.Stamp.{Stamp}
 use Rattle.frame_tests.specs.Carried.{places, l1s_of, stamps_of}
 use Rattle.frame_tests.specs.Laws.{TallyGrows}
 use Rattle.frame_tests.specs.Tally.{Tally, tally, tally_with, unlike_behind}
-use Rattle.open_group.specs.HoldsBlocks.{capped, HoldsCounts}
+use Rattle.frame_tests.specs.Tests.{capped}
+use Rattle.open_group.specs.HoldsBlocks.{HoldsCounts}
 use Rattle.open_group.specs.HoldsL1.{HoldsL1, AddsL1}
 use Rattle.open_group.specs.HoldsStamps.{AddsStamps, HoldsStamps}
 use Rattle.open_group.specs.Parts.{parts_of}

@@ -3,6 +3,5 @@ pub mod BlockLemmas
 pub mod IdLemmas
 pub mod CountLemmas
 pub mod HoldLemmas
-pub mod NeedLemmas
 pub mod NamedLemmas
 pub mod RoomLemmas

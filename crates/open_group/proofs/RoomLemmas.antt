@@ -10,7 +10,7 @@ use Rattle.frame_groups.specs.declared.cause.MuteCause.{MuteCause}
 use Rattle.frame_groups.specs.declared.cause.MuteCause.TheVariants.{PoolFull}
 use Rattle.frame_tests.specs.Carried.{right_blocks}
 use Rattle.frame_tests.specs.Tally.{Tally, tally_need, tally_missing, tally_l1, tally_time, tally_blocks, tally_map, tally_fault}
-use Rattle.frame_tests.specs.Tests.{unless, pool_chunks}
+use Rattle.frame_tests.specs.Tests.{unless, pool_chunks, capped}
 use Rattle.open_group.specs.HoldsBlocks.{HoldsCounts, HoldsLists}
 use Rattle.open_group.specs.Sent.{sent_bytes}
 use Rattle.open_group.specs.declared.blocks.HeldBlocks.{HeldBlocks}
@@ -23,7 +23,7 @@ has_room : (c : Config) (n : ℕ) (t : Tally) → tally_fault c n t ≡ None →
 unfolding tally_fault
 has_room c n t e =
     leb-true (tally_need c t) (pool_chunks c)
-    (room_by (nat_le (tally_need c t) (pool_chunks c)) (PoolFull (tally_need c t) (pool_chunks c))
+    (room_by (nat_le (tally_need c t) (pool_chunks c)) (PoolFull (capped (tally_need c t)) (pool_chunks c))
     (option_or (tally_missing c n t) (option_or (tally_l1 c n t) (option_or (tally_time c n t) (option_or (tally_blocks c t) (tally_map c t))))) e)
 
 pub holds_all : (c : Config) (held : HeldBlocks) (packets : List Packet) (n : ℕ) (t : Tally) → HoldsCounts c held t → HoldsLists c held packets → held.chunks ≡ pool_chunks c → tally_fault c n t ≡ None

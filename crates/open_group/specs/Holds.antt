@@ -1,5 +1,5 @@
 -- What a group under way stands for.
-use Rattle.std.specs.Prelude.{◌≡◌, ◌^◌, ℕ, true, List, Option, Some, None}
+use Rattle.std.specs.Prelude.{◌≡◌, true, List, Option, Some, None}
 use Rattle.t2mi_packet.specs.declared.packet.Packet.{Packet}
 use Rattle.frame_groups.specs.Groups.{Group}
 use Rattle.frame_tests.specs.Tally.{tally}
@@ -24,7 +24,3 @@ pub record HoldsGroup (held : PooledGroup) (g : Group) : Type 0 where
 abbrev pub Holds : PooledGroup → Option Group → Type 0
 Holds held None = held.key ≡ None
 Holds held (Some g) = HoldsGroup held g
-
--- Groups of fewer packets are told exactly, since what they need fits 64 bits.
-abbrev pub most_packets : ℕ
-most_packets = 2 ^ 50

@@ -1,19 +1,13 @@
 -- What is held of the blocks of a group.
-use Rattle.std.specs.Prelude.{◌≡◌, ◌<◌, ◌≤◌, ◌-◌, ◌^◌, ℕ, min, List, length, map, slice_index}
+use Rattle.std.specs.Prelude.{◌≡◌, ◌<◌, ◌≤◌, ℕ, List, length, map, slice_index}
 use Rattle.linked_pool.specs.Pool.{list_at}
 use Rattle.plp_config.specs.declared.config.Config.{Config}
 use Rattle.t2mi_packet.specs.declared.packet.Packet.{Packet}
 use Rattle.frame_tests.specs.Carried.{right_blocks}
 use Rattle.frame_tests.specs.Tally.{Tally, tally_need}
+use Rattle.frame_tests.specs.Tests.{capped}
 use Rattle.open_group.specs.Sent.{sent_bytes}
 use Rattle.open_group.specs.declared.blocks.HeldBlocks.{HeldBlocks}
-
--- a number as it is held: it stands still at the greatest of 64 bits
-abbrev pub greatest : ℕ
-greatest = 2 ^ 64 - 1
-
-abbrev pub capped : ℕ → ℕ
-capped n = min n greatest
 
 -- The numbers are those of a tally.
 pub record HoldsCounts (c : Config) (held : HeldBlocks) (t : Tally) : Type 0 where

@@ -64,14 +64,14 @@ fn send(bits: &BitSlice<'_>, out: &mut [u8])
 }
 
 impl HeldBlocks {
-    ghost use Rattle.std.specs.Prelude.{◌≡◌, ◌≢◌, ◌↔◌, ◌<◌, ◌≤◌, ◌+◌, ◌*◌, ◌++◌, ◌∷◌, [], true, false, Some, min, length, drop, replicate, slice_index_or, IsNone, IfSome, map, vec_len, slice_set, slice_index, IfOk, List, Bool, ℕ};
+    ghost use Rattle.std.specs.Prelude.{◌≡◌, ◌≢◌, ◌↔◌, ◌<◌, ◌≤◌, ◌+◌, ◌*◌, ◌^◌, ◌++◌, ◌∷◌, [], true, false, Some, min, length, drop, replicate, slice_index_or, IsNone, IfSome, map, vec_len, slice_set, slice_index, IfOk, List, Bool, ℕ};
     ghost use Rattle.linked_pool.specs.Pool.{State, list_at, chunks_for, appended};
     ghost use Rattle.plp_config.specs.Capacity.{block_bytes};
     ghost use Rattle.t2mi_packet.specs.declared.packet.Packet.{Packet};
     ghost use Rattle.t2mi_packet.specs.declared.packet.Body.TheVariants.{Block};
     ghost use Rattle.frame_tests.specs.Tally.{Tally, tally_counts, tally_with};
-    ghost use Rattle.frame_tests.specs.Tests.{pool_chunks};
-    ghost use Rattle.open_group.specs.HoldsBlocks.{IsOpenFor, HoldsCounts, HoldsLists, capped};
+    ghost use Rattle.frame_tests.specs.Tests.{pool_chunks, capped};
+    ghost use Rattle.open_group.specs.HoldsBlocks.{IsOpenFor, HoldsCounts, HoldsLists};
     ghost use Rattle.open_group.specs.Sent.{sent_bytes};
 
     /// Takes the memory for the PLPs of a plan. Nothing is held yet.
@@ -179,6 +179,7 @@ impl HeldBlocks {
     /// How many chunks there are, and how many the blocks need that have the length of their PLP.
     pub fn chunks(&self) -> (u64, u64)
         ensures chunks { result.0 ≡ self.now.chunks }
+        ensures small { result.0 < 2 ^ 32 }
         ensures need { result.1 ≡ self.now.need }
     {
         (u64::from(self.chunks), self.need)

@@ -1,11 +1,11 @@
 // The six tests of what is held of a group (ETSI TS 102 773, clause 5).
-ghost use Rattle.std.specs.Prelude.{◌≡◌, ◌<◌, ◌≤◌, ◌^◌, length};
+ghost use Rattle.std.specs.Prelude.{◌≡◌, ◌<◌, ◌≤◌, ◌^◌, true, IsNone, length};
 ghost use Rattle.std.specs.Option.{option_and_then};
 ghost use Rattle.frame_tests.specs.MapTest.{map_passes};
-ghost use Rattle.frame_tests.specs.Tally.{Tally, tally_need, tally_pool, tally_missing, tally_l1, first_late, tally_time, tally_counts, tally_shape, tally_blocks, tally_map, tally_fault};
+ghost use Rattle.frame_tests.specs.Tally.{Tally, tally_pool, tally_missing, tally_l1, first_late, tally_time, tally_counts, tally_shape, tally_blocks, tally_map, tally_fault};
 ghost use Rattle.frame_tests.specs.Tests.{begins_superframe, pool_chunks, stamp_agrees, disagrees, has_map};
-ghost use Rattle.open_group.specs.HoldsBlocks.{greatest, IsOpenFor, HoldsCounts};
-ghost use Rattle.open_group.specs.HoldsL1.{HoldsL1};
+ghost use Rattle.open_group.specs.HoldsBlocks.{IsOpenFor, HoldsCounts};
+ghost use Rattle.open_group.specs.HoldsL1.{HoldsL1, shape_told};
 ghost use Rattle.open_group.specs.HoldsStamps.{HoldsStamps};
 
 use crate::blocks::HeldBlocks;
@@ -28,7 +28,8 @@ fn begins_superframe(plan: &Plan, number: u64) -> bool
 /// a: the blocks that have the length of their PLP have room.
 pub fn pool_fault(plan: &Plan, blocks: &HeldBlocks) -> Option<MuteCause>
     requires { blocks.now.chunks ≡ pool_chunks plan.now }
-    ensures { (t : Tally) → HoldsCounts plan.now blocks.now t → tally_need plan.now t ≤ greatest → result ≡ tally_pool plan.now t }
+    ensures cause { (t : Tally) → HoldsCounts plan.now blocks.now t → result ≡ tally_pool plan.now t }
+    ensures room { IsNone result → blocks.now.need ≤ blocks.now.chunks }
 {
     let (spare, need) = blocks.chunks();
     if need <= spare {
@@ -141,7 +142,8 @@ fn map_passes(plan: &Plan, shape: &Shape) -> bool
 // Whether the shape that the first L1-current tells has one.
 fn has_map(plan: &Plan, l1: &HeldL1) -> bool
     requires rows { length l1.now.dynamic.plps ≡ length plan.now.plps }
-    ensures { (t : Tally) → HoldsL1 plan.now l1.now t.l1 t.alike → result ≡ has_map plan.now (tally_shape plan.now t) }
+    ensures told { (t : Tally) → HoldsL1 plan.now l1.now t.l1 t.alike → result ≡ has_map plan.now (tally_shape plan.now t) }
+    ensures shape { result ≡ has_map plan.now (shape_told l1.now) }
 {
     match l1.shape() {
         Some(shape) => map_passes(plan, shape),
@@ -152,7 +154,8 @@ fn has_map(plan: &Plan, l1: &HeldL1) -> bool
 /// f: their cells stand apart, in the frame.
 pub fn map_fault(plan: &Plan, l1: &HeldL1) -> Option<MuteCause>
     requires rows { length l1.now.dynamic.plps ≡ length plan.now.plps }
-    ensures { (t : Tally) → HoldsL1 plan.now l1.now t.l1 t.alike → result ≡ tally_map plan.now t }
+    ensures cause { (t : Tally) → HoldsL1 plan.now l1.now t.l1 t.alike → result ≡ tally_map plan.now t }
+    ensures map { IsNone result → has_map plan.now (shape_told l1.now) ≡ true }
 {
     if has_map(plan, l1) {
         return None;
@@ -173,7 +176,9 @@ pub fn first_fault(
     requires chunks { blocks.now.chunks ≡ pool_chunks plan.now }
     requires rows { length l1.now.dynamic.plps ≡ length plan.now.plps }
     requires open { IsOpenFor blocks.now (length plan.now.plps) }
-    ensures { (t : Tally) → HoldsStamps stamps t → HoldsL1 plan.now l1.now t.l1 t.alike → HoldsCounts plan.now blocks.now t → tally_need plan.now t ≤ greatest → result ≡ tally_fault plan.now number t }
+    ensures cause { (t : Tally) → HoldsStamps stamps t → HoldsL1 plan.now l1.now t.l1 t.alike → HoldsCounts plan.now blocks.now t → result ≡ tally_fault plan.now number t }
+    ensures room { IsNone result → blocks.now.need ≤ blocks.now.chunks }
+    ensures map { IsNone result → has_map plan.now (shape_told l1.now) ≡ true }
 {
     if let Some(cause) = pool_fault(plan, blocks) {
         return Some(cause);

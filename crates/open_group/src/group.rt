@@ -10,10 +10,10 @@ use crate::named::named;
 use crate::network::Network;
 use crate::stamps::HeldStamps;
 use bit_slice::{BitSlice, OutOfMemory};
-use frame_groups::{Key, MuteCause};
+use frame_groups::{Key, MuteCause, OpenGroup};
 use frame_tests::tally_law;
 use linked_pool::BlockRef;
-use plp_config::{Plan, block_law};
+use plp_config::Plan;
 use scheduler::Shape;
 use std::alloc::Global;
 use t2mi_packet::Packet;
@@ -44,7 +44,7 @@ impl<'p> PooledGroup<'p> {
     ghost use Rattle.frame_tests.specs.Carried.{L1Parts, right_blocks, l1s_of};
     ghost use Rattle.frame_tests.specs.Tests.{first_shape, named_frame, group_fault};
     ghost use Rattle.open_group.specs.Given.{dynamic_of, shape_of, blocks_left};
-    ghost use Rattle.open_group.specs.Holds.{HoldsPackets, Holds, most_packets};
+    ghost use Rattle.open_group.specs.Holds.{HoldsPackets, Holds};
     ghost use Rattle.open_group.specs.Sent.{sent_bytes};
 
     /// A group in a network of this plan: none yet. It takes all the memory that a group needs.
@@ -89,71 +89,6 @@ impl<'p> PooledGroup<'p> {
         self.blocks.add(self.network.plan(), packet);
     }
 
-    /// The key of the group, if there is one.
-    pub fn key(&self) -> Option<Key>
-        ensures value { result ≡ self.now.key }
-        ensures is { (g : Option Group) → Holds self.now g → key_of g ≡ self.now.key }
-    {
-        self.key
-    }
-
-    /// Begins a group in place of the one that there is.
-    pub fn begin(&mut self, key: Key, packet: &Packet<'_>)
-        requires fits { Fits packet.now }
-        ensures group { Holds self.new (Some (one_packet key packet.now)) }
-        ensures intact { self.new.intact ≡ true }
-        ensures key { self.new.key ≡ Some key }
-        ensures network { self.new.network ≡ self.old.network }
-    {
-        self.key = Some(key);
-        self.intact = true;
-        self.clear();
-        self.hold(packet);
-    }
-
-    /// Adds a packet.
-    pub fn add(&mut self, packet: &Packet<'_>)
-        requires some { is_some self.old.key ≡ true }
-        requires intact { self.old.intact ≡ true }
-        requires fits { Fits packet.now }
-        ensures group { (h : Group) → Holds self.old (Some h) → Holds self.new (Some (one_more h packet.now)) }
-        ensures intact { self.new.intact ≡ true }
-        ensures key { self.new.key ≡ self.old.key }
-        ensures network { self.new.network ≡ self.old.network }
-    {
-        self.hold(packet);
-    }
-    /// How many frames a superframe has.
-    pub fn frames(&self) -> u8
-        ensures value { result ≡ self.now.network.frames }
-        ensures some { 0 < result }
-    {
-        self.network.plan().config().frames as u8
-    }
-
-    /// Why it is not the frame of a number: the cause of the first test that fails.
-    pub fn fault(&self, number: u64) -> Option<MuteCause>
-        requires intact { self.now.intact ≡ true }
-        requires small { number < 2 ^ 32 }
-        ensures { (h : Group) → length h.packets < most_packets → Holds self.now (Some h) → result ≡ group_fault self.now.network h number }
-    {
-        tally_law();
-        block_law();
-        let plan = self.network.plan();
-        plan.obeys_rules();
-        first_fault(plan, number, self.stamps, &self.l1, &self.blocks)
-    }
-    /// The frame that its first timestamp names: below 2^31.
-    pub fn named(&self) -> Option<u64>
-        requires { self.now.intact ≡ true }
-        ensures value { (h : Group) → Holds self.now (Some h) → result ≡ named_frame self.now.network h }
-        ensures small { IfSome result (λ n. n < 2 ^ 31) }
-    {
-        let Some(key) = self.key else {
-            return None;
-        };
-        named(self.network.plan(), key, self.stamps)
-    }
     /// The shape that the dynamic part of the first L1-current tells, if it reads.
     pub fn shape(&self) -> Option<&Shape>
         ensures value { option_copied result ≡ shape_of self.now }
@@ -201,5 +136,53 @@ impl<'p> PooledGroup<'p> {
     {
         self.intact = false;
         self.blocks.pop(u32::from(plp));
+    }
+}
+
+impl<'p> OpenGroup for PooledGroup<'p> {
+    ghost use Rattle.frame_tests.specs.Tests.{rules};
+    ghost use Rattle.open_group.specs.Given.{is_frame};
+    ghost use Rattle.open_group.specs.Holds.{Holds};
+
+    ghost holds = { Holds };
+
+    ghost key_now = { λ g. g.key };
+
+    ghost rules = { λ g. rules g.network };
+
+    ghost is_intact = { λ g. g.intact };
+
+    ghost is_frame = { is_frame };
+
+    fn frames(&self) -> u8 {
+        self.network.plan().config().frames as u8
+    }
+
+    fn key(&self) -> Option<Key> {
+        self.key
+    }
+
+    fn begin(&mut self, key: Key, packet: &Packet<'_>) {
+        self.key = Some(key);
+        self.intact = true;
+        self.clear();
+        self.hold(packet);
+    }
+
+    fn add(&mut self, packet: &Packet<'_>) {
+        self.hold(packet);
+    }
+
+    fn named(&self) -> Option<u64> {
+        let Some(key) = self.key else {
+            return None;
+        };
+        named(self.network.plan(), key, self.stamps)
+    }
+
+    fn fault(&self, number: u64) -> Option<MuteCause> {
+        tally_law();
+        let plan = self.network.plan();
+        first_fault(plan, number, self.stamps, &self.l1, &self.blocks)
     }
 }
