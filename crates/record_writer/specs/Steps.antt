@@ -1,5 +1,6 @@
 -- What stands behind the piece in hand of a writer.
 use Rattle.std.specs.Prelude.{ℕ, ◌-◌, ◌≤◌, List, [], ◌++◌, length, drop}
+use denote.Struct.Props as logic
 use Rattle.byteorder.specs.Endian.{big_bytes}
 use Rattle.plp_config.specs.declared.config.Config.{Config}
 use Rattle.scheduler.specs.Shape.{FrameShape}
@@ -18,3 +19,9 @@ abbrev pub IsStep : Config → List (List (List ℕ)) → Step → Type 0
 IsStep c lists (Blocks plp) = plp ≤ length lists
 IsStep c lists (Cells address) = address ≤ c.cells
 IsStep c lists Done = Unit {0}
+
+-- that has one proof at most, so it may be a ghost field
+pub IsStep-prop : (c : Config) (lists : List (List (List ℕ))) (step : Step) → IsProp (IsStep c lists step)
+IsStep-prop c lists (Blocks plp) = Prim.hlevel logic.props
+IsStep-prop c lists (Cells address) = Prim.hlevel logic.props
+IsStep-prop c lists Done = Prim.hlevel logic.props
