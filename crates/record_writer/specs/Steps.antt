@@ -1,5 +1,6 @@
 -- What stands behind the piece in hand of a writer.
 use Rattle.std.specs.Prelude.{◌≡◌, ℕ, ◌-◌, ◌≤◌, List, [], ◌++◌, length, drop}
+use denote.Struct.Props as logic
 use Rattle.byteorder.specs.Endian.{big_bytes}
 use Rattle.plp_config.specs.declared.config.Config.{Config}
 use Rattle.scheduler.specs.Shape.{FrameShape}
@@ -29,3 +30,9 @@ abbrev pub IsStep : Config → FrameShape → List (List (List ℕ)) → Step �
 IsStep c shape lists (Blocks plp) = (plp ≤ length lists) × HasLists c lists × HasMap c shape
 IsStep c shape lists (Cells address) = (address ≤ c.cells) × HasMap c shape
 IsStep c shape lists Done = Unit {0}
+
+-- That has one proof at most, so it may be a ghost field.
+pub IsStep-prop : (c : Config) (shape : FrameShape) (lists : List (List (List ℕ))) (step : Step) → IsProp (IsStep c shape lists step)
+IsStep-prop c shape lists (Blocks plp) = Prim.hlevel logic.props
+IsStep-prop c shape lists (Cells address) = Prim.hlevel logic.props
+IsStep-prop c shape lists Done = Prim.hlevel logic.props
