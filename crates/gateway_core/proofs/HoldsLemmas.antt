@@ -24,7 +24,8 @@ use Rattle.gateway_core.specs.IsFed.{IsFed, wanted}
 use Rattle.gateway_core.specs.Left.{from_step}
 use Rattle.t2mi_stream.specs.Complete.{complete_units}
 use Rattle.t2mi_stream.specs.Pipe.{pipe}
-use Rattle.gateway_core.specs.Packets.{packets_from, front_packets, l1_body, block_bodies, plp_bodies, counts_of, frame_bodies, frame_blocks, bodies_before}
+use Rattle.mode_adapt.specs.Blocks.{plp_blocks}
+use Rattle.gateway_core.specs.Packets.{packets_from, front_packets, l1_body, block_bodies, plp_bodies, counts_of, frame_bodies, bodies_before}
 use Rattle.gateway_core.specs.Signalling.{pre_part, conf_part, dyn_part}
 use Rattle.gateway_core.specs.StandsFor.{Holds, IsLast, wants_by}
 use Rattle.gateway_core.specs.Told.{Told, told, with_packet, at_end, in_next, Continues}
@@ -210,13 +211,13 @@ new_bodies c s n dynamic blocks f p q d len h =
     step_is c n (l1_body c n s.pre s.conf dynamic) (blocks_left c n blocks 0 0) (n % c.frames == 0)
     ∙ rw (p, q, counts, rest) refl
 
-pub bodies_more : (c : Config) (all : ℕ → List (List ℕ)) (n : ℕ) → bodies_before c all (n + 1) ≡ bodies_before c all n ++ of_frame n (frame_bodies c n (frame_blocks c all n))
+pub bodies_more : (c : Config) (all : ℕ → List (List ℕ)) (n : ℕ) → bodies_before c all (n + 1) ≡ bodies_before c all n ++ of_frame n (frame_bodies c n (plp_blocks c all n))
 bodies_more c all n =
     let z : 0 + n ≡ n = omega arith in
     let r : range_with_len 0 (n + 1) ≡ range_with_len 0 n ++ n ∷ [] = range_more 0 n ∙ ap (λ (m : ℕ). range_with_len 0 n ++ m ∷ []) z in
-    ap (flat_map (λ m. of_frame m (frame_bodies c m (frame_blocks c all m)))) r
-    ∙ flat_map-append (λ m. of_frame m (frame_bodies c m (frame_blocks c all m))) (range_with_len 0 n) (n ∷ [])
-    ∙ ap (λ (l : List (ℕ × Body)). bodies_before c all n ++ l) (append-nil (of_frame n (frame_bodies c n (frame_blocks c all n))))
+    ap (flat_map (λ m. of_frame m (frame_bodies c m (plp_blocks c all m)))) r
+    ∙ flat_map-append (λ m. of_frame m (frame_bodies c m (plp_blocks c all m))) (range_with_len 0 n) (n ∷ [])
+    ∙ ap (λ (l : List (ℕ × Body)). bodies_before c all n ++ l) (append-nil (of_frame n (frame_bodies c n (plp_blocks c all n))))
 
 pub holds_begin : (old new : List Input) (s : Signalling) (frames : ℕ) (flow next : Flow) (n m : ℕ) (left begin rest : List Body) (dynamic : List Bool) (blocks : List (List (List ℕ))) (c : Config) (events : List Event)
     → flow.dry ≡ true → next.finished ≡ flow.finished → AllFed new c (events ++ Begun ∷ [])
@@ -234,9 +235,9 @@ holds_begin old new s frames flow next n m left begin rest dynamic blocks c even
       let cont = back_begun c events all more in
       let was = h.flows all cont in
       let gone = was.dried dry in
-      let bits : (j : ℕ) → j < length c.plps → bits_at blocks j ≡ frame_blocks c all frames j =
-      λ j lt. subst (λ (k : ℕ). bits_at blocks j ≡ frame_blocks c all k j) (sym h.frames_are) (made all cont j lt) in
-      let bodies : begin ≡ frame_bodies c frames (frame_blocks c all frames) = is ∙ new_bodies c s frames dynamic blocks (frame_blocks c all frames) h.pre h.conf d len bits in
+      let bits : (j : ℕ) → j < length c.plps → bits_at blocks j ≡ plp_blocks c all frames j =
+      λ j lt. subst (λ (k : ℕ). bits_at blocks j ≡ plp_blocks c all k j) (sym h.frames_are) (made all cont j lt) in
+      let bodies : begin ≡ frame_bodies c frames (plp_blocks c all frames) = is ∙ new_bodies c s frames dynamic blocks (plp_blocks c all frames) h.pre h.conf d len bits in
       let longer : bodies_before c all frames ++ of_frame frames begin ≡ bodies_before c all (frames + 1) =
       ap (λ (l : List Body). bodies_before c all frames ++ of_frame frames l) bodies ∙ sym (bodies_more c all frames) in
       subst (λ (k : ℕ). Flows next c m rest (bodies_before c all (frames + 1)) k) (sym (given_same events Begun refl))

@@ -10,7 +10,6 @@ use Rattle.plp_config.specs.Tables.{subseconds_per_second, info_bits}
 use Rattle.plp_config.specs.declared.capacity.CapacityFault.{CapacityFault}
 use Rattle.plp_config.specs.declared.config.Config.{Config}
 use Rattle.plp_config.specs.declared.moment.Moment.{Moment}
-use Rattle.plp_config.specs.declared.moment.TheConstants.{MOST_FRAMES}
 use Rattle.plp_config.specs.declared.plp.TheConstants.{MOST_FIELD_BYTES}
 use Rattle.plp_config.specs.declared.rules.ConfigFault.{ConfigFault}
 use Rattle.plp_config.specs.SlotTime.{num, den, slot_start, slot_count, InRange, iscr_slot, delay, delay_ticks, released_count, window_slots, IsReleased}
