@@ -12,3 +12,6 @@ mod plps;
 mod stamps;
 
 pub use group::PooledGroup;
+
+#[cfg(test)]
+mod tests;
