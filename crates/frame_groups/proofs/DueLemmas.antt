@@ -1,22 +1,21 @@
 -- The records that are due.
-use Rattle.std.proofs.Common.{◌≡◌, ℕ, ◌+◌, ◌≤◌, ◌<◌, ◌==◌, ◌&&◌, cond, ⊎_elim, Bool, true, false, List, [], ◌∷◌, ◌++◌, Option, Some, None, refl, ap, ap₂, sym, subst, ◌∙◌, arith, append_assoc, append-nil}
-use Rattle.std.specs.Prelude.{option_to_list, is_some, nat_lt}
+use Rattle.std.proofs.Common.{◌≡◌, ℕ, ◌+◌, ◌≤◌, ◌<◌, ◌==◌, ◌&&◌, cond, ⊎_elim, Bool, true, false, List, [], ◌∷◌, ◌++◌, Option, Some, None, refl, ap, sym, subst, ◌∙◌, arith, append_assoc, append-nil}
+use Rattle.std.specs.Prelude.{is_some, nat_lt}
 use Rattle.std.proofs.lemmas.Bool.{true≢false, cond-true, cond-false, lt-ltb, le-ltb, ltb-true, ltb-false, eqb-true, cases_lt}
 use Rattle.frame_groups.specs.declared.cause.MuteCause.{MuteCause}
-use Rattle.frame_groups.specs.declared.key.Key.{Key}
 use Rattle.t2mi_packet.specs.declared.packet.Packet.{Packet}
-use Rattle.frame_groups.specs.Groups.{Group, is_counted, is_same, key_behind}
-use Rattle.frame_groups.specs.Grouping.{Grouped, grouped, no_groups, all_groups, one_packet, key_of}
+use Rattle.frame_groups.specs.Groups.{Group, key_behind}
+use Rattle.frame_groups.specs.Grouping.{Grouped, no_groups, all_groups, one_packet}
 use Rattle.frame_groups.specs.Modulated.{Rules, FrameRecord, content_of, gap_record, group_record, number_behind, gaps_behind, own_record, records_with, records_from, number_after, modulated}
-use Rattle.frame_groups.specs.Laws.{without_last, IsPrefix}
-use Rattle.frame_groups.proofs.FrontLemmas.{records_append, none_before, without_last-append}
-use Rattle.frame_groups.specs.Sequenced.{gaps_from, Given, HasGiven, Follows, known_number, kept_groups, Sequenced, Ends, record_now}
+use Rattle.frame_groups.specs.Laws.{without_last}
+use Rattle.frame_groups.proofs.FrontLemmas.{none_before, without_last-append}
+use Rattle.frame_groups.specs.Sequenced.{gaps_from, Follows, known_number, kept_groups, Sequenced, Ends, record_now}
 use Rattle.frame_groups.specs.Due.{due, ComesNext, DueLaw}
 use Rattle.frame_groups.specs.Records.{record_of}
 use Rattle.frame_groups.specs.Waits.{waits_by, waiting_by}
 use Rattle.frame_groups.specs.declared.waiting.Waiting.{Waiting}
 use Rattle.frame_groups.specs.declared.cause.MuteCause.TheVariants.{Gap}
-use Rattle.frame_groups.proofs.FollowLemmas.{some_is, number_after_push, records_push, none_some, known_is, no_gaps, gaps_more}
+use Rattle.frame_groups.proofs.FollowLemmas.{some_is, records_push, none_some, no_gaps, gaps_more}
 use Rattle.frame_groups.proofs.RunLemmas.{grown}
 use Rattle.frame_groups.proofs.SequenceLemmas.{groups_new, own_was_given}
 

@@ -1,20 +1,16 @@
 -- A group after another.
-use Rattle.std.proofs.Common.{◌≡◌, ℕ, zero, suc, ◌+◌, ◌-◌, ◌<◌, ◌≤◌, ◌==◌, ◌&&◌, Bool, true, false, cond, List, [], ◌∷◌, ◌++◌, map, Option, Some, None, refl, ap, ap₂, sym, subst, ◌∙◌, ⊎_elim, arith, append_assoc, append-nil}
-use Rattle.std.specs.Prelude.{is_some, nat_lt}
-use Rattle.std.specs.List.{filter, range_with_len}
-use Rattle.std.proofs.lemmas.Bool.{true≢false, cond-true, cond-false, lt-ltb, le-ltb, eq-eqb, ltb-true, ltb-false, eqb-true, cases_lt}
-use Rattle.std.proofs.lemmas.List.Elements.{filter-append}
+use Rattle.std.proofs.Common.{◌≡◌, ℕ, suc, ◌+◌, ◌-◌, ◌<◌, ◌≤◌, Bool, true, false, List, [], ◌∷◌, ◌++◌, map, Option, Some, None, refl, ap, ap₂, sym, subst, ◌∙◌, arith, append_assoc, append-nil}
+use Rattle.std.specs.Prelude.{is_some}
+use Rattle.std.specs.List.{range_with_len}
+use Rattle.std.proofs.lemmas.Bool.{true≢false}
 use Rattle.frame_groups.specs.declared.cause.MuteCause.{MuteCause}
 use Rattle.frame_groups.specs.declared.key.Key.{Key}
-use Rattle.t2mi_packet.specs.declared.packet.Packet.{Packet}
-use Rattle.frame_groups.specs.Groups.{Group, is_counted, is_same, key_behind}
-use Rattle.frame_groups.specs.Grouping.{Grouped, grouped, no_groups, with_packet, one_packet, one_more}
+use Rattle.frame_groups.specs.Groups.{Group}
 use Rattle.frame_groups.specs.Numbers.{IsKey, next_number}
-use Rattle.frame_groups.specs.Modulated.{Rules, FrameRecord, gap_record, group_record, number_behind, join_number, gaps_between, gaps_behind, own_record, records_with, records_from, number_after, modulated}
+use Rattle.frame_groups.specs.Modulated.{Rules, FrameRecord, gap_record, group_record, number_behind, join_number, gaps_behind, own_record, records_with, records_from, number_after}
 use Rattle.frame_groups.proofs.FrontLemmas.{none_before, records_append}
-use Rattle.frame_groups.proofs.GroupLemmas.{grouped_more}
 use Rattle.frame_groups.proofs.NumberLemmas.{next_law}
-use Rattle.frame_groups.specs.Sequenced.{known_number, number_now, gaps_from, Given, HasGiven, Follows, kept_groups, Sequenced}
+use Rattle.frame_groups.specs.Sequenced.{known_number, gaps_from, HasGiven, Follows}
 
 pub some_is : {X : Type 0} (x y : X) → Some x ≡ Some y → x ≡ y
 some_is x y e = ap (λ (o : Option _). elim o as (λ o. _) [ None ↦ x | Some z ↦ z ]) e

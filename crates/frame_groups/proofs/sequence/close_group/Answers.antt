@@ -3,7 +3,6 @@ use Rattle.t2mi_packet.specs.declared.packet.Packet.{Packet}
 use Rattle.frame_groups.specs.Groups.{Group}
 use Rattle.frame_groups.specs.Modulated.{Rules, FrameRecord}
 use Rattle.frame_groups.specs.Sequenced.{Sequenced}
-use Rattle.frame_groups.specs.declared.cause.MuteCause.{MuteCause}
 use Rattle.frame_groups.specs.declared.waiting.Progress.{Progress}
 use Rattle.frame_groups.proofs.FollowLemmas.{some_is, none_some}
 use Rattle.frame_groups.proofs.SequenceLemmas.{closed_first, has_key}

@@ -1,4 +1,4 @@
-use Rattle.std.proofs.Common.{◌^◌, ◌<◌, Some, refl, arith, ap, sym, subst, ◌∙◌}
+use Rattle.std.proofs.Common.{◌^◌, ◌<◌, Some, refl, arith, ◌∙◌}
 use Rattle.frame_groups.specs.Grouping.{one_packet}
 use Rattle.frame_groups.proofs.SequenceLemmas.{started, has_group, other_key}
 use Rattle.frame_groups.proofs.sequence.Sequence.begin.Goals as goal

@@ -1,6 +1,6 @@
-use Rattle.std.proofs.Common.{◌≡◌, ◌<◌, true, false, Some, None, Option, refl, arith, ap, sym, subst, ◌∙◌, rules}
+use Rattle.std.proofs.Common.{◌≡◌, ◌<◌, true, false, Some, None, arith, ap, sym, subst, ◌∙◌, rules}
 use Rattle.frame_groups.specs.Groups.{is_counted, is_same, key_behind, Group}
-use Rattle.frame_groups.specs.Grouping.{key_of, one_packet, one_more}
+use Rattle.frame_groups.specs.Grouping.{one_packet, one_more}
 use Rattle.frame_groups.proofs.FollowLemmas.{some_is}
 use Rattle.frame_groups.proofs.SequenceLemmas.{begun, added_on, has_group}
 use Rattle.frame_groups.proofs.sequence.Sequence.work.Goals as goal
