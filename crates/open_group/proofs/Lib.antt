@@ -5,3 +5,5 @@ pub mod CountLemmas
 pub mod HoldLemmas
 pub mod NamedLemmas
 pub mod RoomLemmas
+pub mod ReadLemmas
+pub mod ShortLemmas

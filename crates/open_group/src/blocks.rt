@@ -2,6 +2,7 @@
 ghost use Rattle.std.specs.Prelude.{◌≡◌, ◌+◌, ◌*◌, ◌<◌, ◌≤◌, ℕ, [], length};
 ghost use Rattle.linked_pool.specs.Pool.{list_at};
 ghost use Rattle.open_group.specs.Sent.{sent_bytes};
+ghost use Rattle.record_writer.specs.RecordBytes.{AreShort};
 ghost use Rattle.plp_config.specs.declared.plp.TheConstants.{MOST_BLOCK_BYTES};
 
 use crate::plps::{block_chunks, place_of, pool_chunks};
@@ -9,6 +10,7 @@ use bb_frame::scramble;
 use bit_slice::{BitSlice, OutOfMemory};
 use linked_pool::{BlockRef, Pool};
 use plp_config::{MOST_BLOCK_BYTES, Plan};
+use record_writer::short_law;
 use scheduler::Shape;
 use std::alloc::Global;
 use t2mi_packet::{Body, Packet};
@@ -17,7 +19,7 @@ use t2mi_packet::{Body, Packet};
 #[derive(Drop)]
 pub struct HeldBlocks {
     // Of each PLP, its blocks that have its length, scrambled.
-    pool: Pool,
+    pub(crate) pool: Pool,
     // Of each PLP, how many blocks came.
     counts: Vec<u64>,
     // Its chunks, and those that these blocks need. Once these are more, no block is kept.
@@ -27,6 +29,7 @@ pub struct HeldBlocks {
     known: bool,
     ghost whole: { pool.opened ≡ chunks },
     ghost room: { need ≤ chunks → chunks ≤ pool.spare + need },
+    ghost short: { AreShort pool.lists },
 }
 
 // Removes the blocks of all lists.
@@ -47,6 +50,7 @@ fn clear_pool(pool: &mut Pool, lists: u32)
     ensures none { (list : ℕ) → list < lists → list_at pool.new list ≡ [] }
     ensures opened { pool.new.opened ≡ pool.old.opened }
     ensures spare { pool.new.spare ≡ pool.new.opened }
+    ensures short { AreShort pool.new.lists }
 {
     clear_lists(pool, lists);
     // A call that tells that every chunk is free or has a part of a block.
@@ -79,6 +83,7 @@ impl HeldBlocks {
         ensures open { IfOk result (λ held. IsOpenFor held (length plan.now.plps)) }
         ensures chunks { IfOk result (λ held. held.chunks ≡ pool_chunks plan.now) }
     {
+        short_law();
         let plps = plan.config().plps.len();
         let chunks = pool_chunks(plan);
         Ok(HeldBlocks {
@@ -122,6 +127,7 @@ impl HeldBlocks {
         let mut bytes = [0; MOST_BLOCK_BYTES as usize];
         let block = &mut bytes[..len];
         send(bits, block);
+        short_law();
         self.pool.append(plp, block).unwrap();
     }
 
@@ -211,25 +217,5 @@ impl HeldBlocks {
             }
         }
         true
-    }
-    /// The first block of a PLP that was not given out; `None` if there is none.
-    pub fn front(&self, plp: u32) -> Option<BlockRef<'_>>
-        requires { plp < length self.now.pool.lists }
-        ensures none { IsNone result ↔ (length (list_at self.now.pool plp) ≡ 0) }
-        ensures some { IfSome result (λ block. block ≡ slice_index_or (list_at self.now.pool plp) 0 []) }
-    {
-        self.pool.front(plp)
-    }
-
-    /// Gives it out.
-    pub fn pop(&mut self, plp: u32)
-        requires { plp < length self.old.pool.lists }
-        ensures own { list_at self.new.pool plp ≡ drop 1 (list_at self.old.pool plp) }
-        ensures others { (other : ℕ) → other ≢ plp → list_at self.new.pool other ≡ list_at self.old.pool other }
-        ensures lists { length self.new.pool.lists ≡ length self.old.pool.lists }
-        ensures counts { self.new.counts ≡ self.old.counts }
-        ensures all { self.new.chunks ≡ self.old.chunks }
-    {
-        self.pool.pop(plp);
     }
 }

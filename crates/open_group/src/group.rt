@@ -88,55 +88,6 @@ impl<'p> PooledGroup<'p> {
         self.l1.add(&self.network, packet);
         self.blocks.add(self.network.plan(), packet);
     }
-
-    /// The shape that the dynamic part of the first L1-current tells, if it reads.
-    pub fn shape(&self) -> Option<&Shape>
-        ensures value { option_copied result ≡ shape_of self.now }
-        ensures len { IfSome result (λ shape. length shape.now.counts ≡ length self.now.network.plps) }
-        ensures told { self.now.intact ≡ true → (h : Group) → Holds self.now (Some h) → shape_of self.now ≡ first_shape self.now.network h.packets }
-    {
-        self.l1.shape()
-    }
-
-    /// The dynamic part of the first L1-current, as it came.
-    pub fn dynamic(&self) -> BitSlice<'_>
-        ensures value { result ≡ dynamic_of self.now }
-        ensures told { self.now.intact ≡ true → (h : Group) (l1 : L1Parts) → Holds self.now (Some h) → slice_get (l1s_of h.packets) 0 ≡ Some l1 → dynamic_of self.now ≡ l1.dynamic }
-    {
-        self.l1.parts().dynamic()
-    }
-
-    /// If it is the frame of a number, it has the blocks of each PLP, as they are sent. It does nothing.
-    pub fn holds_blocks(&self)
-        requires { self.now.intact ≡ true }
-        ensures { (h : Group) (n : ℕ) → Holds self.now (Some h) → group_fault self.now.network h n ≡ None
-            → (plp : ℕ) → plp < length self.now.network.plps → blocks_left self.now plp ≡ map sent_bytes (right_blocks self.now.network plp h.packets) }
-    {
-        tally_law();
-    }
-
-    /// The first block of a PLP that was not given out, as it is sent; `None` if there is none.
-    pub fn block(&self, plp: u8) -> Option<BlockRef<'_>>
-        requires { plp < length self.now.network.plps }
-        ensures none { IsNone result ↔ (length (blocks_left self.now plp) ≡ 0) }
-        ensures some { IfSome result (λ block. block ≡ slice_index_or (blocks_left self.now plp) 0 []) }
-    {
-        self.blocks.front(u32::from(plp))
-    }
-
-    /// Gives it out. The group is not intact any more.
-    pub fn pop_block(&mut self, plp: u8)
-        requires { plp < length self.old.network.plps }
-        ensures own { blocks_left self.new plp ≡ drop 1 (blocks_left self.old plp) }
-        ensures others { (other : ℕ) → other ≢ plp → blocks_left self.new other ≡ blocks_left self.old other }
-        ensures group { (g : Option Group) → Holds self.old g → Holds self.new g }
-        ensures key { self.new.key ≡ self.old.key }
-        ensures network { self.new.network ≡ self.old.network }
-        ensures l1 { self.new.l1 ≡ self.old.l1 }
-    {
-        self.intact = false;
-        self.blocks.pop(u32::from(plp));
-    }
 }
 
 impl<'p> OpenGroup for PooledGroup<'p> {

@@ -1,11 +1,12 @@
 // The L1 signalling of a group.
-ghost use Rattle.std.specs.Prelude.{◌≡◌, ◌<◌, false, nat_eq, Some, None, length, map, slice_index_or, if◌then◌else◌};
+ghost use Rattle.std.specs.Prelude.{◌≡◌, ◌<◌, ◌≤◌, true, false, nat_eq, Some, None, length, map, slice_index_or, if◌then◌else◌};
 ghost use Rattle.std.specs.Cmp.Lexicographic.{pointwise};
 ghost use Rattle.l1_signal.specs.declared.dyn_plp.DynPlp.{DynPlp};
 ghost use Rattle.l1_signal.specs.L1Configurable.{conf_read, info_size};
 ghost use Rattle.l1_signal.specs.L1Dynamic.{dyn_read};
 ghost use Rattle.l1_signal.specs.L1Of.{told_shape};
 ghost use Rattle.l1_signal.specs.L1Pre.{pre_rows, pre_reading};
+ghost use Rattle.record_writer.specs.Front.{most_dynamic};
 ghost use Rattle.frame_tests.specs.Tests.{read_whole, same_told, pre_agrees, conf_agrees, dyn_agrees};
 
 use crate::network::Network;
@@ -13,7 +14,7 @@ use crate::parts::HeldParts;
 use crate::plps::plp_id;
 use bit_slice::{BitReader, BitSlice, BitSource, OutOfMemory};
 use frame_tests::parts_law;
-use l1_signal::{L1Dyn, L1Pre, is_conf, pre_of, read_dyn, read_pre, shape_of};
+use l1_signal::{L1Dyn, L1Pre, dyn_law, is_conf, pre_of, read_dyn, read_pre, shape_of};
 use plp_config::Plan;
 use scheduler::Shape;
 use std::alloc::Global;
@@ -32,8 +33,10 @@ pub struct HeldL1 {
     // Whether its dynamic part was read, this, and the shape that it tells.
     told: bool,
     dynamic: L1Dyn,
-    shape: Shape,
+    pub(crate) shape: Shape,
     ghost rows: { length shape.counts ≡ length dynamic.plps },
+    // What reads is no longer than a dynamic part can be.
+    ghost short: { told ≡ true → parts.dynamic ≤ most_dynamic },
 }
 
 // The L1-pre that bits are.
@@ -181,6 +184,8 @@ impl HeldL1 {
         ensures reads { HasRead network.now self.new }
         ensures rows { length self.new.dynamic.plps ≡ length self.old.dynamic.plps }
     {
+        dyn_law();
+        network.plan().obeys_rules();
         self.parts.hold(pre, conf, dynamic, extension);
         self.is_held = true;
         self.agrees = is_pre(network.plan(), pre) && is_network_conf(network, conf);

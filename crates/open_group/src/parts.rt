@@ -59,7 +59,8 @@ impl HeldParts {
         extension: &BitSlice<'_>,
     )
         requires { length pre.now + length conf.now + length dynamic.now + length extension.now ≤ MOST_BITS }
-        ensures { parts_of self.new ≡ record { pre = pre.now; conf = conf.now; dynamic = dynamic.now; extension = extension.now } }
+        ensures parts { parts_of self.new ≡ record { pre = pre.now; conf = conf.now; dynamic = dynamic.now; extension = extension.now } }
+        ensures dynamic { self.new.dynamic ≡ length dynamic.now }
     {
         self.bits.clear();
         put(&mut self.bits, pre);

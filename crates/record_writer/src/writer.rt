@@ -94,6 +94,8 @@ fn build_block(plan: &Plan, pool: &mut Pool, plp: usize, out: &mut Piece) -> Ste
     ensures some { 0 < length out.new }
     ensures step { (shape : FrameShape) → HasMap plan.now shape → IsStep plan.now shape pool.new.lists result }
     ensures lists { HasLists plan.now pool.new.lists }
+    ensures opened { pool.new.opened ≡ pool.old.opened }
+    ensures spare { pool.old.spare ≤ pool.new.spare }
 {
     let end = plan.config().plps.len();
     let next = next_list(pool, plp, end);
@@ -131,6 +133,8 @@ fn build(plan: &Plan, shape: &Shape, pool: &mut Pool, step: Step, out: &mut Piec
     ensures none { out.new ≡ [] → result ≡ Done }
     ensures step { IsStep plan.now shape.now pool.new.lists result }
     ensures lists { HasLists plan.now pool.old.lists → HasLists plan.now pool.new.lists }
+    ensures opened { pool.new.opened ≡ pool.old.opened }
+    ensures spare { pool.old.spare ≤ pool.new.spare }
 {
     out.clear();
     match step {
@@ -243,6 +247,8 @@ impl Writer {
         ensures stays { (length out.new ≡ length out.old) × (drop result out.new ≡ drop result out.old) }
         ensures none { (result ≡ 0) ↔ ((length out.old ≡ 0) ⊎ (is_done self.old ≡ true)) }
         ensures lists { HasLists plan.now pool.old.lists → HasLists plan.now pool.new.lists }
+        ensures opened { pool.new.opened ≡ pool.old.opened }
+        ensures spare { pool.old.spare ≤ pool.new.spare }
         ensures ready { IsReady self.new plan.now shape.now pool.new.lists }
     {
         let size = copy_from(&self.piece, self.at, out);
