@@ -5,7 +5,7 @@ ghost use Rattle.frame_groups.specs.Groups.{Group};
 ghost use Rattle.frame_groups.specs.Modulated.{FrameRecord, join_number};
 ghost use Rattle.frame_groups.specs.Numbers.{IsKey, next_number};
 ghost use Rattle.frame_groups.specs.Sequenced.{Keeps};
-ghost use Rattle.frame_groups.specs.Waits.{IsWithin, greatest_step, most_number};
+ghost use Rattle.frame_groups.specs.Waits.{wants_packets, IsWithin, greatest_step, most_number};
 
 use crate::cause::MuteCause;
 use crate::group::OpenGroup;
@@ -95,7 +95,7 @@ pub struct Sequence<G: OpenGroup + Drop> {
     pub group: G,
     pub progress: Progress,
     ghost near: { IsWithin most_number progress },
-    ghost intact: { progress.closing ≡ false → G.is_intact group ≡ true },
+    ghost intact: { wants_packets progress ≡ true → G.is_intact group ≡ true },
     // A group that passes can be given.
     ghost frame: { progress.closing ≡ true → is_some progress.number ≡ true → is_some progress.fault ≡ false → G.is_frame group ≡ true },
 }
@@ -137,6 +137,7 @@ impl<G: OpenGroup + Drop> Sequence<G> {
         ensures follows { (ps : List Packet) (given : List FrameRecord) → Keeps (G.holds self.old.group) (G.rules self.old.group) self.old.progress ps given
             → Keeps (G.holds self.old.group) (G.rules self.old.group) self.new.progress ps given }
         ensures group { self.new.group ≡ self.old.group }
+        ensures intact { G.is_intact self.new.group ≡ true }
         ensures closing { self.new.progress.closing ≡ true }
         ensures near { (bound : ℕ) → 2 ^ 31 ≤ bound → IsWithin bound self.old.progress → IsWithin bound self.new.progress }
         ensures next { (self.new.progress.next ≡ self.old.progress.next) ⊎ (self.new.progress.next < 2 ^ 31) }
@@ -159,6 +160,7 @@ impl<G: OpenGroup + Drop> Sequence<G> {
         ensures near { (bound : ℕ) → IsWithin bound self.old.progress → IsWithin (bound + greatest_step) self.new.progress }
         ensures next { self.new.progress.next ≡ self.old.progress.next }
         ensures open { self.new.progress.closing ≡ false }
+        ensures intact { G.is_intact self.new.group ≡ true }
     {
         let _key = self.group.key();
         let next_key = key_behind(Some(key), packet);
@@ -182,6 +184,7 @@ impl<G: OpenGroup + Drop> Sequence<G> {
             → Keeps (G.holds self.new.group) (G.rules self.new.group) self.new.progress ps given }
         ensures waits { result ≡ false → (self.new.progress.closing ≡ true) × (waits self.new.progress ≡ true) × (self.new.group ≡ self.old.group) }
         ensures open { result ≡ true → self.new.progress.closing ≡ false }
+        ensures intact { G.is_intact self.new.group ≡ true }
         ensures rules { G.rules self.new.group ≡ G.rules self.old.group }
         ensures near { (bound : ℕ) → 2 ^ 31 ≤ bound → IsWithin bound self.old.progress → IsWithin (bound + greatest_step) self.new.progress }
         ensures same { result ≡ false → (bound : ℕ) → 2 ^ 31 ≤ bound → IsWithin bound self.old.progress → IsWithin bound self.new.progress }
@@ -206,6 +209,8 @@ impl<G: OpenGroup + Drop> Sequence<G> {
         ensures kept { result ≡ false → (ps : List Packet) (given : List FrameRecord) → Keeps (G.holds self.old.group) (G.rules self.old.group) self.old.progress ps given
             → Keeps (G.holds self.new.group) (G.rules self.new.group) self.new.progress ps given }
         ensures waits { result ≡ false → (self.new.progress.closing ≡ true) × (waits self.new.progress ≡ true) × Ends (G.rules self.new.group) (G.key_now self.new.group) packet.now }
+        // The packets of the record that waits are there.
+        ensures intact { waits self.new.progress ≡ true → G.is_intact self.new.group ≡ true }
         ensures open { result ≡ true → self.new.progress.closing ≡ true → (self.old.progress.closing ≡ true) × (is_counted (G.rules self.old.group).frames packet.now ≡ false) }
         ensures rules { G.rules self.new.group ≡ G.rules self.old.group }
         ensures near { (bound : ℕ) → 2 ^ 31 ≤ bound → IsWithin bound self.old.progress → IsWithin (bound + greatest_step) self.new.progress }
@@ -238,6 +243,7 @@ impl<G: OpenGroup + Drop> Sequence<G> {
             → record_now (G.rules self.old.group) k.group self.old.progress.number self.old.progress.next ≡ Some x
             → Keeps (G.holds self.new.group) (G.rules self.new.group) self.new.progress ps (given ++ x ∷ []) }
         ensures group { self.new.group ≡ self.old.group }
+        ensures intact { waits self.new.progress ≡ true → G.is_intact self.new.group ≡ true }
         ensures rest { self.new.progress ≡ record (self.old.progress) { next = self.old.progress.next + 1 } }
     {
         self.progress.next += 1;

@@ -1,12 +1,12 @@
 -- The frames of a plan fit a record.
-use Rattle.std.proofs.Common.{◌≡◌, ℕ, zero, suc, ◌+◌, ◌-◌, ◌*◌, ◌^◌, ◌<◌, ◌≤◌, ◌%◌, ◌==◌, ◌&&◌, Bool, true, false, cond, Option, Some, None, List, [], ◌∷◌, length, get_or, take, refl, sym, ap, ap₂, subst, ◌∙◌, arith, lit≤}
+use Rattle.std.proofs.Common.{◌≡◌, ℕ, zero, suc, ◌+◌, ◌-◌, ◌*◌, ◌^◌, ◌<◌, ◌≤◌, ◌%◌, ◌==◌, ◌&&◌, Bool, true, false, cond, Option, Some, None, List, [], ◌∷◌, length, refl, sym, ap, ap₂, subst, ◌∙◌, arith, lit≤}
 use Rattle.std.specs.Prelude.{map, find, min, sum, sum_by, slice_index}
 use Rattle.std.specs.List.{flat_map, range_with_len, AllByRecursion}
 use Rattle.std.specs.FinMap.{get}
-use Rattle.std.proofs.Math.Nat.{mul-add, mul-le-mul, mul-le-mul_left}
-use Rattle.std.proofs.lemmas.List.{length-append, length-map, take-map}
-use Rattle.std.proofs.lemmas.List.FromFn.{get_or-map-range_with_len, get_or-range_with_len, length-range_with_len}
-use Rattle.std.proofs.lemmas.List.Sums.{sum-map, sum_by-cons, sum_by-le-sum_by, sum_by_more_le}
+use Rattle.std.proofs.Math.Nat.{mul-le-mul}
+use Rattle.std.proofs.lemmas.List.{length-append, length-map}
+use Rattle.std.proofs.lemmas.List.FromFn.{get_or-map-range_with_len, length-map-range_with_len}
+use Rattle.std.proofs.lemmas.List.Sums.{sum-map, sum_by-cons}
 use Rattle.terms.proofs.BitLemmas.{length-field}
 use Rattle.plp_config.specs.Capacity.{IsPlan, CellCount, CellAddresses, block_bytes, block_cells, field_bytes, capacity, cell_need}
 use Rattle.plp_config.specs.Emission.{emission}
@@ -17,25 +17,22 @@ use Rattle.plp_config.specs.SlotTime.{slots_by}
 use Rattle.plp_config.specs.Tables.{cells_per_block}
 use Rattle.plp_config.specs.declared.config.Config.{Config}
 use Rattle.plp_config.specs.declared.plp.Plp.{Plp}
-use Rattle.scheduler.specs.Shape.{FrameShape, shape_of}
-use Rattle.scheduler.specs.Laws.{ShapeHasCounts}
-use Rattle.cell_map.specs.CellMap.{cell_map}
-use Rattle.cell_map.specs.Laws.{MapHasOnlyCells}
+use Rattle.scheduler.specs.Shape.{FrameShape}
+use Rattle.scheduler.specs.Laws.{CountsFit, ShapeHasCounts}
+use Rattle.cell_map.specs.CellMap.{Passes, cell_map}
+use Rattle.cell_map.specs.Laws.{CellsFit, ShapePasses}
 use Rattle.cell_map.specs.declared.places.Cell.{Cell}
-use Rattle.l1_signal.specs.Fields.{row_bits, spelling}
-use Rattle.l1_signal.specs.L1Of.{pre_of}
+use Rattle.l1_signal.specs.L1Of.{pre_of, post_bits}
 use Rattle.l1_signal.specs.L1Pre.{pre_bits}
-use Rattle.l1_signal.specs.Laws.{PostLength}
-use Rattle.l1_signal.specs.declared.pre.L1Pre.{L1Pre}
+use Rattle.l1_signal.specs.Laws.{PreBitsLength, PostLength}
 use Rattle.mode_adapt.specs.Blocks.{block_bits, block_places, plp_keeps, rates_of, plp_blocks}
 use Rattle.mode_adapt.specs.Laws.{CountLaw}
 use Rattle.mode_adapt.specs.Queue.{sent, sent_before}
 use Rattle.null_delete.specs.Deletion.{packet_at}
-use Rattle.site_frame.specs.Record.{FitsBlock, FitsCell}
-use Rattle.site_frame.specs.Whole.{FitsRecord, greatest_rest}
-use Rattle.site_frame.specs.Record.{head_len}
+use Rattle.site_frame.specs.Record.{Block, FitsBlock, FitsCell}
+use Rattle.site_frame.specs.Whole.{FitsRecord, block_size}
 use Rattle.frame_records.specs.Frames.{places, frame_shape, sent_block, sent_blocks, frame_cells, l1_pre, frame_of, HasByteIds}
-use Rattle.frame_records.specs.Laws.{frame_len, FrameLength, FrameFits, RecordsFit}
+use Rattle.frame_records.specs.Laws.{IsSentBlock, FewBlocks, EveryFrameFits, MutedFits, FrameFits, RecordsFit}
 use Rattle.frame_records.specs.Records.{numbers_from, record_of}
 use Rattle.frame_records.proofs.RecordLemmas.{found}
 use Rattle.site_frame.specs.declared.reading.RecordView.{RecordView}
@@ -46,12 +43,8 @@ use Rattle.bb_frame.specs.Laws.{BitCounts}
 
 -- ---- L1-pre
 
-pre_length : (pre : L1Pre) → length (pre_bits pre) ≡ 168
-unfolding pre_bits row_bits spelling
-pre_length pre = simp (length-append, length-field) refl
-
-l1_pre_length : (c : Config) → length (l1_pre c) ≡ 200
-l1_pre_length c = length-append (pre_bits (pre_of c)) _ ∙ ap₂ (λ (a b : ℕ). a + b) (pre_length (pre_of c)) (length-field 32 _)
+l1_pre_length : PreBitsLength → (c : Config) → length (l1_pre c) ≡ 200
+l1_pre_length law c = length-append (pre_bits (pre_of c)) _ ∙ ap₂ (λ (a b : ℕ). a + b) (law (pre_of c)) (length-field 32 _)
 
 -- ---- how many blocks a frame has
 
@@ -59,22 +52,8 @@ l1_pre_length c = length-append (pre_bits (pre_of c)) _ ∙ ap₂ (λ (a b : ℕ
 abbrev pub counts : Config → (ℕ → List (List ℕ)) → ℕ → ℕ → ℕ
 counts c inputs n plp = length (plp_blocks c inputs n plp)
 
--- a sum over the places of PLPs is no greater than one over the PLPs
-sum_places : (f : ℕ → ℕ) (g : Plp → ℕ) (plps : List Plp) (from : ℕ) → ((i : ℕ) → i < length plps → f (from + i) ≤ g (plp_at plps i)) → sum_by f (range_with_len from (length plps)) ≤ sum_by g plps
-sum_places f g [] from each = omega arith
-sum_places f g (p ∷ plps) from each =
-    let first : f (from + 0) ≤ g p = each 0 (omega arith) in
-    let same : f from ≡ f (from + 0) = ap f (omega arith) in
-    let more = sum_places f g plps (from + 1) (λ i lt. let e : from + 1 + i ≡ from + suc i = omega arith in subst (λ (k : ℕ). f k ≤ g (plp_at plps i)) (sym e) (each (suc i) (omega (arith, lt)))) in
-    omega (arith, first, same, more, sum_by-cons f from (range_with_len (from + 1) (length plps)), sum_by-cons g p plps)
-
-sum_times : (k : ℕ) (f : ℕ → ℕ) (xs : List ℕ) → sum_by (λ x. k * f x) xs ≡ k * sum_by f xs
-sum_times k f [] = omega arith
-sum_times k f (x ∷ xs) =
-    sum_by-cons (λ x. k * f x) x xs ∙ ap (λ (s : ℕ). k * f x + s) (sum_times k f xs) ∙ omega (arith, ap (λ (s : ℕ). k * s) (sum_by-cons f x xs), mul-add k (f x) (sum_by f xs))
-
 -- no PLP has more blocks than it may
-pub count_le : SlotLength → FieldRange → CountLaw → (c : Config) (inputs : ℕ → List (List ℕ)) (n plp : ℕ) → IsPlan c → plp < length c.plps → counts c inputs n plp ≤ (plp_at c.plps plp).blocks
+count_le : SlotLength → FieldRange → CountLaw → (c : Config) (inputs : ℕ → List (List ℕ)) (n plp : ℕ) → IsPlan c → plp < length c.plps → counts c inputs n plp ≤ (plp_at c.plps plp).blocks
 unfolding capacity
 count_le slot field law c inputs n plp is lt =
     let at : ℕ → List ℕ = packet_at (inputs plp) in
@@ -84,22 +63,42 @@ count_le slot field law c inputs n plp is lt =
     let len : counts c inputs n plp ≡ length (block_places (field_bytes c plp) (sent_before (rates_of c plp c.ticks) (plp_keeps c plp at) n) (sent (rates_of c plp c.ticks) (plp_keeps c plp at) n)) = length-map _ _ in
     omega (arith, most, len)
 
+pub counts_fit : SlotLength → FieldRange → CountLaw → (c : Config) (inputs : ℕ → List (List ℕ)) (n : ℕ) → IsPlan c → CountsFit c (map (counts c inputs n) (places c))
+counts_fit slot field law c inputs n is = record {
+  whole = length-map-range_with_len (counts c inputs n) 0 (length c.plps);
+  within = λ plp lt.
+      let here : slice_index (map (counts c inputs n) (places c)) plp ≡ counts c inputs n plp = get_or-map-range_with_len (counts c inputs n) 0 (length c.plps) plp plp 0 lt (omega arith) in
+      omega (arith, here, count_le slot field law c inputs n plp is lt);
+}
+
+-- the cells of so many blocks are as many as those of a configuration at most
+cells_le : CellsByFive → (c : Config) (counts : List ℕ) (plps : List Plp) (from : ℕ) → length counts ≡ length plps
+    → ((i : ℕ) → i < length plps → plp_at plps i ≡ plp_at c.plps (from + i))
+    → ((i : ℕ) → i < length plps → slice_index counts i ≤ (plp_at plps i).blocks)
+    → 2025 * sum counts ≤ sum_by (λ plp. plp.blocks * cells_per_block plp.fec plp.modulation) plps
+unfolding block_cells
+cells_le five c [] [] from len at each = omega arith
+cells_le five c [] (p ∷ plps) from len at each = absurd (omega (arith, len))
+cells_le five c (n ∷ counts) [] from len at each = absurd (omega (arith, len))
+cells_le five c (n ∷ counts) (p ∷ plps) from len at each =
+    let first : n ≤ p.blocks = each 0 (omega arith) in
+    let same : from ≡ from + 0 = omega arith in
+    let is : p ≡ plp_at c.plps from = at 0 (omega arith) ∙ ap (plp_at c.plps) (sym same) in
+    let cells : 2025 ≤ cells_per_block p.fec p.modulation = subst (λ (q : Plp). 2025 ≤ cells_per_block q.fec q.modulation) (sym is) (five c from).1 in
+    let both : n * 2025 ≤ p.blocks * cells_per_block p.fec p.modulation = mul-le-mul first cells in
+    let more = cells_le five c counts plps (from + 1) (omega (arith, len))
+    (λ i lt. let e : from + suc i ≡ from + 1 + i = omega arith in at (suc i) (omega (arith, lt)) ∙ ap (plp_at c.plps) e)
+    (λ i lt. each (suc i) (omega (arith, lt))) in
+    omega (arith, both, more, sum_by-cons (λ x. x) n counts, sum_by-cons (λ plp. plp.blocks * cells_per_block plp.fec plp.modulation) p plps)
+
 -- a frame has 2071 blocks at most
-few_blocks : SlotLength → FieldRange → CellsByFive → CountLaw → (c : Config) (inputs : ℕ → List (List ℕ)) (n : ℕ) → IsPlan c → sum_by (counts c inputs n) (places c) ≤ 2071
-unfolding cell_need block_cells
-few_blocks slot field five law c inputs n is =
-    let room : Plp → ℕ = λ plp. plp.blocks * cells_per_block plp.fec plp.modulation in
-    let each : (i : ℕ) → i < length c.plps → 2025 * counts c inputs n (0 + i) ≤ room (plp_at c.plps i) = λ i lt.
-    let most : counts c inputs n i ≤ (plp_at c.plps i).blocks = count_le slot field law c inputs n i is lt in
-    let cells : 2025 ≤ cells_per_block (plp_at c.plps i).fec (plp_at c.plps i).modulation = (five c i).1 in
-    let both : counts c inputs n i * 2025 ≤ room (plp_at c.plps i) = mul-le-mul most cells in
-    let same : counts c inputs n (0 + i) ≡ counts c inputs n i = ap (counts c inputs n) (omega arith) in
-    omega (arith, both, same) in
-    let sum : sum_by (λ plp. 2025 * counts c inputs n plp) (places c) ≤ sum_by room c.plps = sum_places (λ plp. 2025 * counts c inputs n plp) room c.plps 0 each in
-    let times : sum_by (λ plp. 2025 * counts c inputs n plp) (places c) ≡ 2025 * sum_by (counts c inputs n) (places c) = sum_times 2025 (counts c inputs n) (places c) in
-    let need : sum_by room c.plps ≤ c.cells = is.tests CellCount in
-    let cells : c.cells ≤ 4194303 = is.tests CellAddresses in
-    omega (arith, sum, times, need, cells)
+pub few_blocks : CellsByFive → FewBlocks
+unfolding cell_need
+few_blocks five c shape is len passes =
+    let cells = cells_le five c shape.counts c.plps 0 len (λ i lt. let e : i ≡ 0 + i = omega arith in ap (plp_at c.plps) e) passes.counts in
+    let need : cell_need c ≤ c.cells = is.tests CellCount in
+    let most : c.cells ≤ 4194303 = is.tests CellAddresses in
+    omega (arith, cells, need, most)
 
 -- the blocks of all PLPs
 all_blocks : (c : Config) (inputs : ℕ → List (List ℕ)) (n : ℕ) (plps : List ℕ) → length (flat_map (λ plp. map (sent_block c plp) (plp_blocks c inputs n plp)) plps) ≡ sum_by (counts c inputs n) plps
@@ -119,91 +118,81 @@ pub all_map_twice : {X Y Z : Type 0} (P : Z → Type 0) (g : Y → Z) (f : X →
 all_map_twice P g f [] each = tt
 all_map_twice P g f (x ∷ xs) each = (each x, all_map_twice P g f xs each)
 
-block_fits : BitCounts → FieldRange → (c : Config) (plp : ℕ) (bits : List Bool) → (plp_at c.plps plp).id < 2 ^ 8 → length bits ≡ 8 * block_bytes c plp → FitsBlock (sent_block c plp bits)
-block_fits numbers law c plp bits id e = let f = law c plp in (omega (arith, id), omega (arith, block_len numbers c plp bits e, f))
+block_is_sent : BitCounts → FieldRange → (c : Config) (plp : ℕ) (bits : List Bool) → (plp_at c.plps plp).id < 2 ^ 8 → length bits ≡ 8 * block_bytes c plp → IsSentBlock (sent_block c plp bits)
+block_is_sent numbers law c plp bits id e = let f = law c plp in (id, omega (arith, block_len numbers c plp bits e, f))
 
-plp_blocks_fit : BitCounts → FieldRange → (c : Config) (inputs : ℕ → List (List ℕ)) (n plp : ℕ) → (plp_at c.plps plp).id < 2 ^ 8 → AllByRecursion FitsBlock (map (sent_block c plp) (plp_blocks c inputs n plp))
-plp_blocks_fit numbers law c inputs n plp id =
+plp_blocks_are_sent : BitCounts → FieldRange → (c : Config) (inputs : ℕ → List (List ℕ)) (n plp : ℕ) → (plp_at c.plps plp).id < 2 ^ 8 → AllByRecursion IsSentBlock (map (sent_block c plp) (plp_blocks c inputs n plp))
+plp_blocks_are_sent numbers law c inputs n plp id =
     let at : ℕ → List ℕ = packet_at (inputs plp) in
     let begin : ℕ = sent_before (rates_of c plp c.ticks) (plp_keeps c plp at) n in
     let end : ℕ = sent (rates_of c plp c.ticks) (plp_keeps c plp at) n in
     let slots : ℕ = slots_by c plp (n * c.ticks) in
     let block : ℕ → List Bool = λ from. block_bits c plp at slots from (min (from + field_bytes c plp) end) in
-    all_map_twice FitsBlock (sent_block c plp) block (block_places (field_bytes c plp) begin end)
-    (λ from. block_fits numbers law c plp (block from) id (length-block numbers law c plp at slots from (min (from + field_bytes c plp) end) (omega arith)))
+    all_map_twice IsSentBlock (sent_block c plp) block (block_places (field_bytes c plp) begin end)
+    (λ from. block_is_sent numbers law c plp (block from) id (length-block numbers law c plp at slots from (min (from + field_bytes c plp) end) (omega arith)))
 
 -- the blocks of the PLPs from one on
-blocks_fit : BitCounts → FieldRange → (c : Config) (inputs : ℕ → List (List ℕ)) (n from count : ℕ) → HasByteIds c → from + count ≤ length c.plps
-    → AllByRecursion FitsBlock (flat_map (λ plp. map (sent_block c plp) (plp_blocks c inputs n plp)) (range_with_len from count))
-blocks_fit numbers law c inputs n from zero ids le = tt
-blocks_fit numbers law c inputs n from (suc count) ids le =
-    all_append FitsBlock (map (sent_block c from) (plp_blocks c inputs n from)) (flat_map (λ plp. map (sent_block c plp) (plp_blocks c inputs n plp)) (range_with_len (from + 1) count))
-    (plp_blocks_fit numbers law c inputs n from (ids from (omega (arith, le))))
-    (blocks_fit numbers law c inputs n (from + 1) count ids (omega (arith, le)))
+blocks_are_sent : BitCounts → FieldRange → (c : Config) (inputs : ℕ → List (List ℕ)) (n from count : ℕ) → HasByteIds c → from + count ≤ length c.plps
+    → AllByRecursion IsSentBlock (flat_map (λ plp. map (sent_block c plp) (plp_blocks c inputs n plp)) (range_with_len from count))
+blocks_are_sent numbers law c inputs n from zero ids le = tt
+blocks_are_sent numbers law c inputs n from (suc count) ids le =
+    all_append IsSentBlock (map (sent_block c from) (plp_blocks c inputs n from)) (flat_map (λ plp. map (sent_block c plp) (plp_blocks c inputs n plp)) (range_with_len (from + 1) count))
+    (plp_blocks_are_sent numbers law c inputs n from (ids from (omega (arith, le))))
+    (blocks_are_sent numbers law c inputs n (from + 1) count ids (omega (arith, le)))
 
--- the ordinal of a block is below the number of blocks
-ordinal_lt : (c : Config) (count : ℕ → ℕ) (plp block : ℕ) → plp < length c.plps → block < slice_index (map count (places c)) plp
-    → sum (take plp (map count (places c))) + block < sum_by count (places c)
-ordinal_lt c count plp block lt sent =
-    let here : slice_index (map count (places c)) plp ≡ count plp = get_or-map-range_with_len count 0 (length c.plps) plp plp 0 lt (omega arith) in
-    let before : sum (take plp (map count (places c))) ≡ sum_by count (take plp (places c)) = ap sum (take-map count plp (places c)) ∙ sum-map count (take plp (places c)) in
-    let place : get_or (places c) plp 0 ≡ plp = get_or-range_with_len 0 (length c.plps) plp 0 lt ∙ omega arith in
-    let all : sum_by count (take plp (places c)) + count (get_or (places c) plp 0) ≤ sum_by count (places c) = sum_by_more_le count (places c) plp 0 (omega (arith, lt, length-range_with_len 0 (length c.plps))) in
-    omega (arith, here, before, ap count place, all, sent)
+-- blocks that are sent fit their numbers, and how many bytes they have
+all_fit : (blocks : List Block) → AllByRecursion IsSentBlock blocks → AllByRecursion FitsBlock blocks
+all_fit [] h = tt
+all_fit (b ∷ blocks) h = ((omega (arith, h.0), omega (arith, h.0)), all_fit blocks h.1)
 
--- what stands at an address, if the frame has few blocks
-found_fits : CellsByFive → MapHasOnlyCells → ShapeHasCounts → (c : Config) (count : ℕ → ℕ) (address : ℕ) (found : Cell) → sum_by count (places c) ≤ 2071
-    → get (cell_map c (shape_of c (map count (places c)))) address ≡ Some found → FitsCell (Some found)
-found_fits five only has c count address found few e =
-    let shape : FrameShape = shape_of c (map count (places c)) in
-    let s = only c shape address found e in
-    let cells = five c s.plp in
-    let sent : s.block < slice_index (map count (places c)) s.plp = subst (λ (l : List ℕ). s.block < slice_index l s.plp) (has c (map count (places c))) s.there.sent in
-    let ordinal : found.ordinal ≡ sum (take s.plp (map count (places c))) + s.block = s.ordinal ∙ ap (λ (l : List ℕ). sum (take s.plp l) + s.block) (has c (map count (places c))) in
-    let low = ordinal_lt c count s.plp s.block s.there.configured sent in
-    (omega (arith, s.there.within, cells), omega (arith, s.there.within, cells, ordinal, low, few))
+sizes_le : (blocks : List Block) → AllByRecursion IsSentBlock blocks → sum_by block_size blocks ≤ 6734 * length blocks
+sizes_le [] h = omega arith
+sizes_le (b ∷ blocks) h = omega (arith, h.0, sizes_le blocks h.1, sum_by-cons block_size b blocks)
 
-each_fits : (r : Option Cell) → ((found : Cell) → r ≡ Some found → FitsCell (Some found)) → FitsCell r
-each_fits None h = tt
-each_fits (Some found) h = h found refl
+-- what stands at an address
+cell_fits : (r : Option Cell) → ((found : Cell) → r ≡ Some found → (found.ordinal < 2 ^ 12) × (found.cell < 2 ^ 15)) → FitsCell r
+cell_fits None h = tt
+cell_fits (Some found) h = let s = h found refl in (omega (arith, s), omega (arith, s))
 
 -- ---- all of it
 
-len_le : FieldRange → (c : Config) (count : ℕ → ℕ) → length c.plps ≤ 255 → c.cells ≤ 4194303 → sum_by count (places c) ≤ 2071 → frame_len c count ≤ head_len + greatest_rest
-len_le law c count plps cells few =
-    let each : sum_by (λ plp. count plp * (4 + block_bytes c plp)) (places c) ≤ sum_by (λ plp. 6734 * count plp) (places c) =
-    sum_by-le-sum_by (λ plp. count plp * (4 + block_bytes c plp)) (λ plp. 6734 * count plp) (places c)
-    (λ plp. let f = law c plp in let size : 4 + block_bytes c plp ≤ 6734 = omega (arith, f) in
-    let most : count plp * (4 + block_bytes c plp) ≤ count plp * 6734 = mul-le-mul_left (count plp) size in omega (arith, most)) in
-    omega (arith, each, sum_times 6734 count (places c), plps, cells, few)
-
-pub frame_fits : BitCounts → EmissionFits → SlotLength → FieldRange → CellsByFive → CountLaw → PostLength → ShapeHasCounts → MapHasOnlyCells → FrameLength → FrameFits
-frame_fits numbers emits slot field five law post has only len c inputs n is ids small =
-    let count : ℕ → ℕ = counts c inputs n in
+pub every_frame_fits : PreBitsLength → EmissionFits → CellsByFive → CellsFit → EveryFrameFits
+every_frame_fits bits emits five cells c n post blocks shape is small short len passes few sent =
     let moment = emits c n is.rules small in
-    let plps : length c.plps ≤ 255 = (is.rules PlpCount).1 in
-    let cells : c.cells ≤ 4194303 = is.tests CellAddresses in
-    let few : sum_by count (places c) ≤ 2071 = few_blocks slot field five law c inputs n is in
-    let blocks : length (sent_blocks c (plp_blocks c inputs n)) ≡ sum_by count (places c) = all_blocks c inputs n (places c) in
-    let addresses : length (frame_cells c (frame_shape c inputs n)) ≡ c.cells = cells_count c (frame_shape c inputs n) in
-    let bits = post c n (frame_shape c inputs n) in
+    let most : c.cells ≤ 4194303 = is.tests CellAddresses in
+    let count : sum shape.counts ≤ 2071 = few_blocks five c shape is len passes in
+    let addresses : length (frame_cells c shape) ≡ c.cells = cells_count c shape in
+    let pre = l1_pre_length bits c in
     record {
       moment = (omega (arith, moment), omega (arith, moment));
       rest = record {
-        pre = l1_pre_length c;
-        post = omega (arith, bits, plps);
-        blocks = omega (arith, blocks, few);
-        block = blocks_fit numbers field c inputs n 0 (length c.plps) ids (omega arith);
-        cells = omega (arith, addresses, cells);
-        cell = all_map FitsCell (get (cell_map c (frame_shape c inputs n))) (range_with_len 0 c.cells)
-            (λ address. each_fits (get (cell_map c (frame_shape c inputs n)) address) (λ found e. found_fits five only has c count address found few e));
+        pre = pre;
+        post = omega (arith, short);
+        blocks = omega (arith, count, few);
+        block = all_fit blocks sent;
+        cells = omega (arith, addresses, most);
+        cell = all_map FitsCell (get (cell_map c shape)) (range_with_len 0 c.cells) (λ address. cell_fits (get (cell_map c shape) address) (λ found e. cells c shape address found is passes e));
       };
-      small = omega (arith, len c inputs n, len_le field c count plps cells few);
+      small = omega (arith, sizes_le blocks sent, short, addresses, most, count, few);
     }
+
+pub frame_fits : BitCounts → SlotLength → FieldRange → CountLaw → PostLength → ShapeHasCounts → ShapePasses → EveryFrameFits → FrameFits
+frame_fits numbers slot field law post has passes every c inputs n is ids small =
+    let all : List ℕ = map (counts c inputs n) (places c) in
+    let fit : CountsFit c all = counts_fit slot field law c inputs n is in
+    let same : (frame_shape c inputs n).counts ≡ all = has c all in
+    let blocks : length (sent_blocks c (plp_blocks c inputs n)) ≡ sum_by (counts c inputs n) (places c) = all_blocks c inputs n (places c) in
+    let plps : length c.plps ≤ 255 = (is.rules PlpCount).1 in
+    let bits = post c n (frame_shape c inputs n) in
+    every c n (post_bits c n (frame_shape c inputs n)) (sent_blocks c (plp_blocks c inputs n)) (frame_shape c inputs n) is (omega (arith, small)) (omega (arith, bits, plps))
+    (ap (λ (l : List ℕ). length l) same ∙ fit.whole)
+    (passes c all is fit)
+    (omega (arith, blocks, ap (λ (l : List ℕ). sum l) same, sum-map (counts c inputs n) (places c)))
+    (blocks_are_sent numbers field c inputs n 0 (length c.plps) ids (omega arith))
 
 -- ---- the records of a run
 
-muted_fits : EmissionFits → (c : Config) (n : ℕ) → IsPlan c → n < 2 ^ 31 → FitsRecord (Muted (emission c n))
+pub muted_fits : EmissionFits → MutedFits
 muted_fits emits c n is small = let moment = emits c n is.rules small in record { moment = (omega (arith, moment), omega (arith, moment)); rest = tt; small = lit≤ tt }
 
 either_fits : (b : Bool) (v w : RecordView) → FitsRecord v → FitsRecord w → FitsRecord (cond b v w)

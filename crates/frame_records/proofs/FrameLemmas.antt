@@ -78,3 +78,4 @@ frame_length counts law post c inputs n =
     let cells = cells_count c (frame_shape c inputs n) in
     ap₂ (λ (b x : ℕ). head_len + pre_len + (4 + b) + (2 + x) + (4 + 4 * length (frame_cells c (frame_shape c inputs n)))) (ap bytes_for bits) size
     ∙ ap (λ (k : ℕ). head_len + pre_len + (4 + bytes_for (213 + 137 * length c.plps)) + (2 + sum_by (λ plp. length (plp_blocks c inputs n plp) * (4 + block_bytes c plp)) (places c)) + (4 + 4 * k)) cells
+    ∙ omega arith

@@ -1,10 +1,10 @@
 -- Blocks stand at their ordinals, and cells at their addresses.
 use Rattle.std.proofs.Common.{◌≡◌, ℕ, zero, suc, ◌+◌, ◌<◌, Option, Some, List, [], ◌∷◌, ◌++◌, length, get_or, take, refl, sym, ap, ap₂, subst, ◌∙◌, arith}
-use Rattle.std.specs.Prelude.{map, sum, sum_by, slice_index, slice_get}
+use Rattle.std.specs.Prelude.{map, sum, sum_by, slice_get}
 use Rattle.std.specs.List.{flat_map, range_with_len}
 use Rattle.std.specs.FinMap.{get}
 use Rattle.std.proofs.lemmas.List.{length-map, take-map}
-use Rattle.std.proofs.lemmas.List.FromFn.{get_or-map-range_with_len, get_or-range_with_len, length-range_with_len, length-map-range_with_len}
+use Rattle.std.proofs.lemmas.List.FromFn.{get_or-range_with_len, length-range_with_len}
 use Rattle.std.proofs.lemmas.List.Sums.{sum-map, sum_by-cons}
 use Rattle.std.proofs.lemmas.Option.{slice_get-map}
 use Rattle.cell_map.specs.Address.{address_of}
@@ -12,14 +12,13 @@ use Rattle.cell_map.specs.CellMap.{ordinal_of, cell_map}
 use Rattle.cell_map.specs.Laws.{ShapePasses, MapHasEachCell}
 use Rattle.cell_map.specs.declared.places.Cell.{Cell}
 use Rattle.mode_adapt.specs.Laws.{CountLaw}
-use Rattle.plp_config.specs.Capacity.{IsPlan}
 use Rattle.plp_config.specs.Laws.{FieldRange, SlotLength}
 use Rattle.plp_config.specs.declared.config.Config.{Config}
-use Rattle.scheduler.specs.Laws.{CountsFit, ShapeHasCounts}
+use Rattle.scheduler.specs.Laws.{ShapeHasCounts}
 use Rattle.site_frame.specs.Record.{Block}
 use Rattle.frame_records.specs.Frames.{places, sent_block, sent_blocks, frame_shape}
 use Rattle.frame_records.specs.Laws.{BlockStands, CellStands}
-use Rattle.frame_records.proofs.FitLemmas.{counts, count_le}
+use Rattle.frame_records.proofs.FitLemmas.{counts, counts_fit}
 use Rattle.mode_adapt.specs.Blocks.{plp_blocks}
 
 get_front : {X : Type 0} (xs ys : List X) (k : ℕ) → k < length xs → slice_get (xs ++ ys) k ≡ slice_get xs k
@@ -74,14 +73,6 @@ get_in_range : {X : Type 0} (f : ℕ → X) (from count k : ℕ) → k < count �
 get_in_range f from zero k lt = absurd (omega arith)
 get_in_range f from (suc count) zero lt = let same : from ≡ from + 0 = omega arith in ap (λ (i : ℕ). Some (f i)) same
 get_in_range f from (suc count) (suc k) lt = let same : from + 1 + k ≡ from + suc k = omega arith in get_in_range f (from + 1) count k (omega (arith, lt)) ∙ ap (λ (i : ℕ). Some (f i)) same
-
-counts_fit : SlotLength → FieldRange → CountLaw → (c : Config) (inputs : ℕ → List (List ℕ)) (n : ℕ) → IsPlan c → CountsFit c (map (counts c inputs n) (places c))
-counts_fit slot field law c inputs n is = record {
-  whole = length-map-range_with_len (counts c inputs n) 0 (length c.plps);
-  within = λ plp lt.
-      let here : slice_index (map (counts c inputs n) (places c)) plp ≡ counts c inputs n plp = get_or-map-range_with_len (counts c inputs n) 0 (length c.plps) plp plp 0 lt (omega arith) in
-      omega (arith, here, count_le slot field law c inputs n plp is lt);
-}
 
 abbrev some_there : Option Cell → Option (Option Cell)
 some_there cell = Some cell

@@ -1,5 +1,5 @@
 -- Laws of frames, of records and of what is given back.
-use Rattle.std.specs.Prelude.{◌≡◌, ◌⊎◌, ◌↔◌, ◌<◌, ◌≤◌, ◌^◌, ◌*◌, ◌+◌, ◌-◌, ◌%◌, ℕ, Bool, true, false, List, [], length, map, sum_by, slice_get, Some, option_map}
+use Rattle.std.specs.Prelude.{◌≡◌, ◌⊎◌, ◌↔◌, ◌<◌, ◌≤◌, ◌^◌, ◌*◌, ◌+◌, ◌-◌, ◌%◌, ℕ, Bool, true, false, List, [], length, map, sum_by, slice_get, Some, option_map, sum}
 use Rattle.std.specs.List.{AllByRecursion, Contains}
 use Rattle.terms.specs.Bits.{bytes_for}
 use Rattle.ts_packet.specs.Null.{is_null, null_packet}
@@ -7,20 +7,28 @@ use Rattle.plp_config.specs.Capacity.{IsPlan, block_bytes}
 use Rattle.plp_config.specs.Rules.{AllRules}
 use Rattle.plp_config.specs.RunLength.{frame_count}
 use Rattle.plp_config.specs.SlotTime.{slots_by, IsReleased}
+use Rattle.plp_config.specs.Emission.{emission}
 use Rattle.plp_config.specs.declared.config.Config.{Config}
+use Rattle.plp_config.specs.declared.plp.TheConstants.{MOST_BLOCK_BYTES}
+use Rattle.scheduler.specs.Shape.{FrameShape}
 use Rattle.cell_map.specs.Address.{IsCell, address_of}
-use Rattle.cell_map.specs.CellMap.{ordinal_of}
+use Rattle.cell_map.specs.CellMap.{Passes, ordinal_of}
 use Rattle.site_frame.specs.Whole.{FitsRecord, record_len}
-use Rattle.site_frame.specs.Record.{head_len, pre_len}
-use Rattle.frame_records.specs.Frames.{places, sent_block, sent_blocks, frame_cells, frame_shape, frame_of, HasByteIds, run_frames}
+use Rattle.site_frame.specs.declared.reading.RecordView.TheVariants.{Muted}
+use Rattle.site_frame.specs.Record.{Block, head_len, pre_len}
+use Rattle.frame_records.specs.Frames.{places, sent_block, sent_blocks, frame_cells, frame_shape, frame_view, frame_of, HasByteIds, run_frames}
 use Rattle.frame_records.specs.Records.{records, IsOnGrid}
 use Rattle.frame_records.specs.Recover.{due_slots, recover}
 use Rattle.mode_adapt.specs.Blocks.{plp_blocks}
 
--- how many bytes the record of a frame has, whose PLPs have so many blocks
+-- how many bytes follow the head of a frame's record, whose L1-post has so many bits and whose PLPs have so many blocks
+abbrev pub rest_size : Config → ℕ → (ℕ → ℕ) → ℕ
+rest_size c bits count =
+    pre_len + (4 + bytes_for bits) + (2 + sum_by (λ plp. count plp * (4 + block_bytes c plp)) (places c)) + (4 + 4 * c.cells)
+
+-- how many bytes the record of a frame has, if its L1-post is as long as always
 abbrev pub frame_len : Config → (ℕ → ℕ) → ℕ
-frame_len c count =
-    head_len + pre_len + (4 + bytes_for (213 + 137 * length c.plps)) + (2 + sum_by (λ plp. count plp * (4 + block_bytes c plp)) (places c)) + (4 + 4 * c.cells)
+frame_len c count = head_len + rest_size c (213 + 137 * length c.plps) count
 
 -- So many has that of frame n.
 abbrev pub FrameLength : Type 0
@@ -37,7 +45,29 @@ CellStands = (c : Config) (inputs : ℕ → List (List ℕ)) (n plp block cell :
     → slice_get (frame_cells c (frame_shape c inputs n)) (address_of c (frame_shape c inputs n) plp block cell)
     ≡ Some (Some (record { ordinal = ordinal_of (frame_shape c inputs n) plp block; cell = cell }))
 
--- A frame of a plan fits a record: so what is written of it spells it, and is read back.
+-- the most bits of L1-post, with 255 PLPs (EN 302 755, clause 7.2.3)
+abbrev pub most_post_bits : ℕ
+most_post_bits = 213 + 137 * 255
+
+-- A frame of a plan has 2,071 blocks at most, if its shape passes.
+abbrev pub FewBlocks : Type 0
+FewBlocks = (c : Config) (shape : FrameShape) → IsPlan c → length shape.counts ≡ length c.plps → Passes c shape → sum shape.counts ≤ 2071
+
+-- PLP_ID is a byte, and the block is no longer than the longest baseband frame.
+abbrev pub IsSentBlock : Block → Type 0
+IsSentBlock b = (b.plp < 2 ^ 8) × (length b.bytes ≤ MOST_BLOCK_BYTES)
+
+-- Such a frame fits a record, whatever its L1-post and its blocks are, if it has no more blocks than its shape tells.
+abbrev pub EveryFrameFits : Type 0
+EveryFrameFits = (c : Config) (n : ℕ) (post : List Bool) (blocks : List Block) (shape : FrameShape) → IsPlan c → n < 2 ^ 32
+    → length post ≤ most_post_bits → length shape.counts ≡ length c.plps → Passes c shape → length blocks ≤ sum shape.counts → AllByRecursion IsSentBlock blocks
+    → FitsRecord (frame_view c (emission c n) post blocks shape)
+
+-- And so does a muted one.
+abbrev pub MutedFits : Type 0
+MutedFits = (c : Config) (n : ℕ) → IsPlan c → n < 2 ^ 32 → FitsRecord (Muted (emission c n))
+
+-- The frames of a run fit one: what is written of it spells it, and is read back.
 abbrev pub FrameFits : Type 0
 FrameFits = (c : Config) (inputs : ℕ → List (List ℕ)) (n : ℕ) → IsPlan c → HasByteIds c → n < 2 ^ 31 → FitsRecord (frame_of c inputs n)
 

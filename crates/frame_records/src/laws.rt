@@ -1,10 +1,10 @@
 // Laws of the definitions. Their functions do nothing.
-ghost use Rattle.frame_records.specs.Laws.{FrameLength, BlockStands, CellStands, FrameFits, RecordsOnGrid, RecordsFit, AllWhole, NoneLost, DueReleased};
+ghost use Rattle.frame_records.specs.Laws.{FrameLength, BlockStands, CellStands, FewBlocks, EveryFrameFits, MutedFits, FrameFits, RecordsOnGrid, RecordsFit, AllWhole, NoneLost, DueReleased};
 ghost use Rattle.frame_records.specs.Counted.{CountedLengths, CountedBlocks, CountedStart, CountedPre, CountedPost, CountedFrames, CountedRecords, CountedSlots, CountedLoss};
 
 use bb_frame::bit_counts;
 use cell_map::{map_law, shape_law};
-use l1_signal::post_law;
+use l1_signal::{post_law, pre_law};
 use mode_adapt::count_law;
 use plp_config::{block_law, emission_law, length_law, release_law};
 use scheduler::order_law;
@@ -38,6 +38,9 @@ pub fn stand_law()
 
 /// Every frame of a plan fits a record, and so do the records of a run.
 pub fn fit_law()
+    ensures few { FewBlocks }
+    ensures every { EveryFrameFits }
+    ensures muted { MutedFits }
     ensures frame { FrameFits }
     ensures records { RecordsFit }
 {
@@ -46,10 +49,11 @@ pub fn fit_law()
     length_law();
     block_law();
     count_law();
+    pre_law();
     post_law();
     order_law();
+    shape_law();
     map_law();
-    frame_law();
 }
 
 /// The records of a run are on the grid, and its frames if all are whole.

@@ -18,7 +18,8 @@ use Rattle.frame_groups.specs.Numbers.{frame_key}
 use Rattle.frame_tests.specs.Carried.{L1Parts, stamps_of}
 use Rattle.frame_tests.specs.MapTest.{map_passes}
 use Rattle.frame_tests.specs.Tally.{tally, tally_with, tally_fault}
-use Rattle.frame_tests.specs.Tests.{read_whole, same_told, conf_agrees, parts_agree, packets_fault, moment_of, most_frames, named_frame}
+use Rattle.plp_config.specs.declared.moment.TheConstants.{MOST_FRAMES}
+use Rattle.frame_tests.specs.Tests.{read_whole, same_told, conf_agrees, parts_agree, packets_fault, moment_of, named_frame}
 
 -- The test of a shape says whether it passes.
 abbrev pub MapPasses : Type 0
@@ -57,7 +58,7 @@ TallyGrows = (c : Config) (packets : List Packet) (p : Packet) → tally c (pack
 pub record IsNamed (c : Config) (g : Group) (n : ℕ) : Type 0 where
   pub stamp : Stamp
   pub first : slice_get (stamps_of g.packets) 0 ≡ Some stamp
-  pub small : n < most_frames
+  pub small : n < MOST_FRAMES
   pub emission-is : moment_of stamp ≡ emission c n
   pub key : frame_key c.frames n ≡ g.key
 

@@ -10,6 +10,7 @@ use Rattle.plp_config.specs.Plps.{plp_at}
 use Rattle.plp_config.specs.Tables.{bw, subseconds_per_second}
 use Rattle.plp_config.specs.declared.config.Config.{Config}
 use Rattle.plp_config.specs.declared.moment.Moment.{Moment}
+use Rattle.plp_config.specs.declared.moment.TheConstants.{MOST_FRAMES}
 use Rattle.linked_pool.specs.Pool.{chunks_for}
 use Rattle.scheduler.specs.Shape.{FrameShape}
 use Rattle.l1_signal.specs.Fields.{Row, Reading, values}
@@ -178,10 +179,6 @@ group_fault c g n = packets_fault c n g.packets
 abbrev pub moment_of : Stamp → Moment
 moment_of stamp = record { seconds = stamp.seconds; subseconds = stamp.subseconds }
 
--- the frames of a run have numbers below this
-abbrev pub most_frames : ℕ
-most_frames = 2 ^ 31
-
 -- whole frames have passed at a moment since frame 0 left, and how many
 abbrev pub passed : Config → Moment → ℕ
 passed c moment = subseconds_by c moment - origin c
@@ -195,7 +192,7 @@ frames_passed c moment = passed c moment / frame_subseconds c
 -- the frame of a run that leaves at a moment and has a key
 unfoldable pub frame_with : Config → Key → Moment → Option ℕ
 frame_with c key moment =
-    if is_on_grid c moment && nat_lt (frames_passed c moment) most_frames && is_same (frame_key c.frames (frames_passed c moment)) key then Some (frames_passed c moment) else None
+    if is_on_grid c moment && nat_lt (frames_passed c moment) MOST_FRAMES && is_same (frame_key c.frames (frames_passed c moment)) key then Some (frames_passed c moment) else None
 
 -- the frame that the first timestamp of a group names: it has the emission that this tells, and the group's key
 abbrev pub named_frame : Config → Group → Option ℕ

@@ -15,7 +15,7 @@ use Rattle.l1_signal.specs.Fields.{Row, fields, row_bits}
 use Rattle.l1_signal.specs.L1Configurable.{conf_first_rows, conf_more_rows, conf_plp_rows, conf_back_rows, conf_bits}
 use Rattle.l1_signal.specs.L1Dynamic.{dyn_front_rows, dyn_plp_rows, dyn_back_rows, dyn_bits}
 use Rattle.l1_signal.specs.L1Of.{conf_plp_of, conf_of, dyn_plp_of, dyn_of, post_front_bits, post_bits}
-use Rattle.l1_signal.specs.Laws.{PostLength, EndsInItsCrc}
+use Rattle.l1_signal.specs.Laws.{PostLength, ConfPartLength, EndsInItsCrc}
 use Rattle.l1_signal.proofs.RowLemmas.{total, length-row_bits}
 
 length-each_bits : {A : Type 0} (rows : List (Row A)) (xs : List A) → length (flat_map (row_bits rows) xs) ≡ total (fields rows) * length xs
@@ -62,6 +62,9 @@ conf_plps-len c = length-map c.plps conf_plp_of
 dyn_plps-len : (c : Config) (frame : ℕ) (shape : FrameShape) → length (dyn_of c frame shape).plps ≡ length c.plps
 unfolding dyn_of
 dyn_plps-len c frame shape = length-map-range_with_len (dyn_plp_of c shape) 0 (length c.plps)
+
+pub conf_part_length : ConfPartLength
+conf_part_length c = length-conf_bits (conf_of c) ∙ ap (λ (n : ℕ). 102 + 89 * n) (conf_plps-len c)
 
 pub post_length : PostLength
 unfolding post_bits

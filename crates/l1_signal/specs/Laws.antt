@@ -12,7 +12,7 @@ use Rattle.l1_signal.specs.declared.dyn_plp.TheConstants.{DYN_PLP}
 use Rattle.l1_signal.specs.declared.dynamic.TheConstants.{DYN_FRONT, DYN_BACK}
 use Rattle.l1_signal.specs.CrcField.{EndsInCrc}
 use Rattle.l1_signal.specs.Fields.{fields}
-use Rattle.l1_signal.specs.L1Of.{post_bits}
+use Rattle.l1_signal.specs.L1Of.{conf_of, post_bits}
 use Rattle.l1_signal.specs.declared.conf.L1Conf.{L1Conf}
 use Rattle.l1_signal.specs.L1Configurable.{conf_first_rows, conf_more_rows, conf_plp_rows, conf_back_rows, info_size, conf_read, conf_bits, ConfSpells, ConfFits}
 use Rattle.l1_signal.specs.declared.dynamic.L1Dyn.{L1Dyn}
@@ -43,6 +43,10 @@ PreWritten = (pre : L1Pre) → PreFits pre → PreSpells pre (pre_bits pre)
 
 abbrev pub PreLength : Type 0
 PreLength = (pre : L1Pre) (bits : List Bool) → PreSpells pre bits → length bits ≡ 168
+
+-- What is written has as many bits, whether its numbers fit or not.
+abbrev pub PreBitsLength : Type 0
+PreBitsLength = (pre : L1Pre) → length (pre_bits pre) ≡ 168
 
 -- The same of the configurable part, where L1-pre tells the right L1_POST_INFO_SIZE.
 abbrev pub ConfReadBack : Type 0
@@ -85,6 +89,10 @@ DynLength = (dynamic : L1Dyn) (bits : List Bool) → DynSpells dynamic bits → 
 -- L1-post of a frame
 abbrev pub PostLength : Type 0
 PostLength = (c : Config) (frame : ℕ) (shape : FrameShape) → length (post_bits c frame shape) ≡ 213 + 137 * length c.plps
+
+-- and the configurable part in it
+abbrev pub ConfPartLength : Type 0
+ConfPartLength = (c : Config) → length (conf_bits (conf_of c)) ≡ 102 + 89 * length c.plps
 
 -- Bits with their CRC_32 behind them pass the test of L1-post.
 abbrev pub EndsInItsCrc : Type 0

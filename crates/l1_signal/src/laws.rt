@@ -1,5 +1,5 @@
 // Laws of the definitions. Their functions do nothing.
-ghost use Rattle.l1_signal.specs.Laws.{PreReadBack, PreReadSpelled, PreWritten, PreLength, ConfReadBack, ConfReadSpelled, ConfWritten, ConfLength, DynReadBack, DynReadSpelled, DynWritten, DynLength, PostLength, EndsInItsCrc, TablesAreRows};
+ghost use Rattle.l1_signal.specs.Laws.{PreReadBack, PreReadSpelled, PreWritten, PreLength, PreBitsLength, ConfReadBack, ConfReadSpelled, ConfWritten, ConfLength, DynReadBack, DynReadSpelled, DynWritten, DynLength, PostLength, ConfPartLength, EndsInItsCrc, TablesAreRows};
 
 use bit_slice::crc32_law;
 
@@ -9,6 +9,7 @@ pub fn pre_law()
     ensures spelled { PreReadSpelled }
     ensures written { PreWritten }
     ensures len { PreLength }
+    ensures bits { PreBitsLength }
 {
     crc32_law();
 }
@@ -29,9 +30,11 @@ pub fn dyn_law()
     ensures len { DynLength }
 {}
 
-/// L1-post of a frame has 213 bits and 137 for each PLP, and passes [`crate::check_post`].
+/// L1-post of a frame has 213 bits and 137 for each PLP, of which the configurable part has 102 and 89, and passes
+/// [`crate::check_post`].
 pub fn post_law()
     ensures len { PostLength }
+    ensures conf { ConfPartLength }
     ensures crc { EndsInItsCrc }
 {
     crc32_law();

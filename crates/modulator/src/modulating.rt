@@ -49,6 +49,8 @@ impl<G: OpenGroup + Drop> Modulating<G> {
         // It stops before the piece ends only if a record waits.
         ensures stops { result < length piece.now → waits self.new.sequence.progress ≡ true }
         ensures next { (self.new.sequence.progress.next ≡ self.old.sequence.progress.next) ⊎ (self.new.sequence.progress.next < 2 ^ 31) }
+        // The packets of the record that waits are there.
+        ensures intact { waits self.old.sequence.progress ≡ false → waits self.new.sequence.progress ≡ true → G.is_intact self.new.sequence.group ≡ true }
         ensures fed { fed_len self.new.unpiper ≡ fed_len self.old.unpiper + result }
         ensures finished { self.new.finished ≡ false }
         ensures rules { G.rules self.new.sequence.group ≡ G.rules self.old.sequence.group }
@@ -85,6 +87,7 @@ impl<G: OpenGroup + Drop> Modulating<G> {
             → h.keeps.group ≡ Some group
             → Stands (G.holds self.new.sequence.group) (G.key_now self.new.sequence.group) (G.rules self.new.sequence.group) self.new.sequence.progress self.new.unpiper self.new.finished pid bytes (given ++ record_of group w ∷ []) }
         ensures next { (self.new.sequence.progress.next ≡ self.old.sequence.progress.next + 1) ⊎ (self.new.sequence.progress.next < 2 ^ 31) }
+        ensures intact { waits self.new.sequence.progress ≡ true → G.is_intact self.new.sequence.group ≡ true }
         ensures finished { self.new.finished ≡ self.old.finished }
         ensures fed { fed_len self.new.unpiper ≡ fed_len self.old.unpiper }
         ensures rules { G.rules self.new.sequence.group ≡ G.rules self.old.sequence.group }
@@ -105,6 +108,7 @@ impl<G: OpenGroup + Drop> Modulating<G> {
             → Stands (G.holds self.new.sequence.group) (G.key_now self.new.sequence.group) (G.rules self.new.sequence.group) self.new.sequence.progress self.new.unpiper self.new.finished pid bytes given }
         ensures still { waits self.old.sequence.progress ≡ true → self.new.sequence ≡ self.old.sequence }
         ensures next { (self.new.sequence.progress.next ≡ self.old.sequence.progress.next) ⊎ (self.new.sequence.progress.next < 2 ^ 31) }
+        ensures intact { waits self.old.sequence.progress ≡ false → waits self.new.sequence.progress ≡ true → G.is_intact self.new.sequence.group ≡ true }
         ensures finished { self.new.finished ≡ true }
         ensures fed { fed_len self.new.unpiper ≡ fed_len self.old.unpiper }
         ensures rules { G.rules self.new.sequence.group ≡ G.rules self.old.sequence.group }

@@ -33,6 +33,7 @@ fn step<G: OpenGroup + Drop>(unpiper: &mut Unpiper, sequence: &mut Sequence<G>) 
     ensures rules { G.rules sequence.new.group ≡ G.rules sequence.old.group }
     ensures fed { fed_len unpiper.new ≡ fed_len unpiper.old }
     ensures waits { result ≡ false → waits sequence.new.progress ≡ true }
+    ensures intact { waits sequence.new.progress ≡ true → G.is_intact sequence.new.group ≡ true }
     ensures less { result ≡ true → steps_left unpiper.new < steps_left unpiper.old }
 {
     events_push();
@@ -52,6 +53,7 @@ pub fn settle<G: OpenGroup + Drop>(unpiper: &mut Unpiper, sequence: &mut Sequenc
         → Stands (G.holds sequence.new.group) (G.key_now sequence.new.group) (G.rules sequence.new.group) sequence.new.progress unpiper.new finished pid bytes given }
     ensures near { IsWithin (2 ^ 31 + greatest_step * (most_steps + 1 - steps_left unpiper.new)) sequence.new.progress }
     ensures next { (sequence.new.progress.next ≡ sequence.old.progress.next) ⊎ (sequence.new.progress.next < 2 ^ 31) }
+    ensures intact { (waits sequence.old.progress ≡ true → G.is_intact sequence.old.group ≡ true) → waits sequence.new.progress ≡ true → G.is_intact sequence.new.group ≡ true }
     ensures rules { G.rules sequence.new.group ≡ G.rules sequence.old.group }
     ensures fed { fed_len unpiper.new ≡ fed_len unpiper.old }
     ensures done { waits sequence.new.progress ≡ false → is_ready unpiper.new ≡ false }
@@ -84,6 +86,7 @@ pub fn feed_some<G: OpenGroup + Drop>(
     ensures near { IsWithin (2 ^ 31 + greatest_step * (most_steps + 1 - steps_left unpiper.new)) sequence.new.progress }
     ensures next { (sequence.new.progress.next ≡ sequence.old.progress.next) ⊎ (sequence.new.progress.next < 2 ^ 31) }
     ensures rules { G.rules sequence.new.group ≡ G.rules sequence.old.group }
+    ensures intact { waits sequence.old.progress ≡ false → waits sequence.new.progress ≡ true → G.is_intact sequence.new.group ≡ true }
     ensures fed { fed_len unpiper.new ≡ fed_len unpiper.old + result }
     ensures done { waits sequence.new.progress ≡ false → is_ready unpiper.new ≡ false }
 {
@@ -104,6 +107,7 @@ pub fn end<G: OpenGroup + Drop>(unpiper: &Unpiper, sequence: &mut Sequence<G>)
         → Stands (G.holds sequence.new.group) (G.key_now sequence.new.group) (G.rules sequence.new.group) sequence.new.progress unpiper.now true pid bytes given }
     ensures still { waits sequence.old.progress ≡ true → sequence.new ≡ sequence.old }
     ensures near { (bound : ℕ) → 2 ^ 31 ≤ bound → IsWithin bound sequence.old.progress → IsWithin bound sequence.new.progress }
+    ensures intact { (waits sequence.old.progress ≡ true → G.is_intact sequence.old.group ≡ true) → waits sequence.new.progress ≡ true → G.is_intact sequence.new.group ≡ true }
     ensures next { (sequence.new.progress.next ≡ sequence.old.progress.next) ⊎ (sequence.new.progress.next < 2 ^ 31) }
     ensures rules { G.rules sequence.new.group ≡ G.rules sequence.old.group }
     ensures done { waits sequence.new.progress ≡ false → is_ready unpiper.now ≡ false }

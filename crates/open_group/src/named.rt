@@ -4,7 +4,8 @@ ghost use Rattle.plp_config.specs.Emission.{emission};
 ghost use Rattle.frame_groups.specs.Groups.{Group};
 ghost use Rattle.frame_groups.specs.Numbers.{frame_key};
 ghost use Rattle.frame_tests.specs.Carried.{stamps_of};
-ghost use Rattle.frame_tests.specs.Tests.{moment_of, most_frames, named_frame};
+ghost use Rattle.plp_config.specs.declared.moment.TheConstants.{MOST_FRAMES};
+ghost use Rattle.frame_tests.specs.Tests.{moment_of, named_frame};
 
 use crate::stamps::HeldStamps;
 use frame_groups::Key;
@@ -18,8 +19,8 @@ const SUPERFRAME_PERIOD: u64 = 16;
 
 // The frame of a run that leaves when a timestamp tells.
 fn frame_at(plan: &Plan, stamp: Stamp) -> Option<u64>
-    ensures some { IfSome result (λ n. (n < most_frames) × (moment_of stamp ≡ emission plan.now n)) }
-    ensures none { IfNone result ((n : ℕ) → n < most_frames → moment_of stamp ≢ emission plan.now n) }
+    ensures some { IfSome result (λ n. (n < MOST_FRAMES) × (moment_of stamp ≡ emission plan.now n)) }
+    ensures none { IfNone result ((n : ℕ) → n < MOST_FRAMES → moment_of stamp ≢ emission plan.now n) }
 {
     let moment = Moment {
         seconds: stamp.seconds,
@@ -43,7 +44,7 @@ fn has_key(plan: &Plan, number: u64, key: Key) -> bool
 /// The frame that the first timestamp of a group with a key names.
 pub fn named(plan: &Plan, key: Key, stamps: HeldStamps) -> Option<u64>
     ensures value { (g : Group) → g.key ≡ key → stamps.first ≡ slice_get (stamps_of g.packets) 0 → result ≡ named_frame plan.now g }
-    ensures small { IfSome result (λ n. n < most_frames) }
+    ensures small { IfSome result (λ n. n < MOST_FRAMES) }
 {
     named_law();
     emission_law();

@@ -66,7 +66,7 @@ emission_fits c frame rules lt =
     let begin : (1 ≤ c.seconds) × (c.seconds ≤ 2 ^ 39) × (c.subseconds < second) = rules StartTime in
     let least : 1 * second ≤ c.seconds * second = mul-le-mul_right second begin.0 in
     let most : c.seconds * second ≤ 2 ^ 39 * second = mul-le-mul_right second begin.1 in
-    let run : frame * (4 * frame_subseconds c) ≤ 2 ^ 31 * second = mul-le frame (4 * frame_subseconds c) (2 ^ 31) second (omega arith) (frame_quarter c rules).1 in
+    let run : frame * (4 * frame_subseconds c) ≤ 2 ^ 32 * second = mul-le frame (4 * frame_subseconds c) (2 ^ 32) second (omega arith) (frame_quarter c rules).1 in
     let run4 : frame * (4 * frame_subseconds c) ≡ 4 * (frame * frame_subseconds c) = omega arith in (
       (le-div_iff_mul-le some).1 (omega arith),
       (div-lt_iff_lt-mul some).1 (omega (arith, begin.2)),

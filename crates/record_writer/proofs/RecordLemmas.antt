@@ -1,5 +1,5 @@
 -- The bytes of blocks and cells, piece by piece.
-use Rattle.std.proofs.Common.{◌≡◌, ℕ, zero, suc, ◌+◌, ◌-◌, ◌*◌, ◌<◌, ◌≤◌, List, [], ◌∷◌, ◌++◌, length, take, drop, refl, ap, ap₂, sym, subst, ◌∙◌, ⊎_elim, arith, append_assoc, append-nil, length-append, take-append-drop}
+use Rattle.std.proofs.Common.{◌≡◌, ℕ, zero, suc, ◌+◌, ◌-◌, ◌*◌, ◌<◌, ◌≤◌, List, [], ◌∷◌, ◌++◌, length, take, drop, refl, ap, ap₂, sym, subst, ◌∙◌, ⊎_elim, arith, append_assoc, append-nil, length-append, take-append-drop, replicate, lit≤}
 use Rattle.std.specs.Prelude.{slice_set, slice_index_or}
 use Rattle.std.specs.FinMap.{get}
 use Rattle.std.specs.List.{flat_map}
@@ -7,6 +7,7 @@ use Rattle.std.proofs.lemmas.Bool.{cases_eq}
 use Rattle.std.proofs.lemmas.List.{drop_more, drop-set, get_or-drop, get_or-set_same, get_or-set_other, drop-drop, drop_all}
 use Rattle.plp_config.specs.declared.config.Config.{Config}
 use Rattle.scheduler.specs.Shape.{FrameShape}
+use Rattle.record_writer.specs.Laws.{EmptyIsShort, AppendedIsShort}
 use Rattle.record_writer.specs.RecordBytes.{list_at, front_of, AreShort, most_block, sent_bytes, lists_bytes, words}
 use Rattle.cell_map.specs.CellMap.{cell_map}
 use Rattle.site_frame.specs.Record.{cell_bytes}
@@ -69,6 +70,44 @@ short_less plp lists new e h short = subst AreShort (sym e) (λ list place. ⊎_
     (λ (other : list ≡ plp → ⊥).
     subst (λ (l : List (List ℕ)). length (slice_index_or l place []) ≤ most_block) (sym (get_or-set_other lists plp list (drop 1 (list_at lists plp)) [] other)) (short list place))
     (cases_eq list plp))
+
+-- lists without blocks are short
+none_at : (n i : ℕ) → list_at (replicate n []) i ≡ []
+none_at zero zero = refl
+none_at zero (suc i) = refl
+none_at (suc n) zero = refl
+none_at (suc n) (suc i) = none_at n i
+
+pub empty_is_short : EmptyIsShort
+empty_is_short chunks lists list place =
+    subst (λ (l : List (List ℕ)). length (slice_index_or l place []) ≤ most_block) (sym (none_at lists list)) (nothing place)
+  where
+    none : List (List ℕ)
+    none = []
+
+    nothing : (place : ℕ) → length (slice_index_or none place []) ≤ most_block
+    nothing zero = lit≤ tt
+    nothing (suc place) = lit≤ tt
+
+-- and stay so with a short block more
+push_short : (blocks : List (List ℕ)) (block : List ℕ) (place : ℕ) → ((p : ℕ) → length (slice_index_or blocks p []) ≤ most_block) → length block ≤ most_block
+    → length (slice_index_or (blocks ++ block ∷ []) place []) ≤ most_block
+push_short [] block zero each short = short
+push_short [] block (suc place) each short = each place
+push_short (b ∷ blocks) block zero each short = each 0
+push_short (b ∷ blocks) block (suc place) each short = push_short blocks block place (λ p. each (suc p)) short
+
+pub appended_is_short : AppendedIsShort
+appended_is_short pool plp block inside short few list place =
+    let lists : List (List (List ℕ)) = pool.lists in
+    let more : List (List ℕ) = list_at lists plp ++ block ∷ [] in
+    ⊎_elim
+    (λ (same : list ≡ plp).
+    let a : list_at (slice_set lists plp more) list ≡ more = ap (list_at (slice_set lists plp more)) same ∙ get_or-set_same lists plp more [] inside in
+    subst (λ (l : List (List ℕ)). length (slice_index_or l place []) ≤ most_block) (sym a) (push_short (list_at lists plp) block place (short plp) few))
+    (λ (other : list ≡ plp → ⊥).
+    subst (λ (l : List (List ℕ)). length (slice_index_or l place []) ≤ most_block) (sym (get_or-set_other lists plp list more [] other)) (short list place))
+    (cases_eq list plp)
 
 pub length-words : (c : Config) (shape : FrameShape) (n address : ℕ) → length (words c shape address n) ≡ 4 * n
 length-words c shape zero address = refl

@@ -3,3 +3,5 @@ pub mod Front
 pub mod Steps
 pub mod Writes
 pub mod Fitting
+pub mod Sizes
+pub mod Laws

@@ -1,22 +1,29 @@
 -- The bytes of a frame's record behind its L1 signalling: blocks, and cells.
-use Rattle.std.specs.Prelude.{ℕ, ◌+◌, ◌≤◌, List, [], ◌∷◌, ◌++◌, length, slice_index_or}
+use Rattle.std.specs.Prelude.{ℕ, ◌+◌, ◌≤◌, List, [], ◌∷◌, ◌++◌, length, map, slice_index_or}
 use Rattle.std.specs.FinMap.{get}
 use Rattle.std.specs.List.{flat_map, range_with_len}
 use Rattle.plp_config.specs.Plps.{plp_at}
 use Rattle.plp_config.specs.declared.config.Config.{Config}
 use Rattle.scheduler.specs.Shape.{FrameShape}
 use Rattle.cell_map.specs.CellMap.{cell_map}
-use Rattle.site_frame.specs.Record.{block_bytes, cell_bytes}
+use Rattle.site_frame.specs.Record.{Block, block_bytes, cell_bytes}
 
 -- the most bytes of a piece
 abbrev pub piece_len : ℕ
 piece_len = 8192
 
--- a block of a PLP, as a record has it
-abbrev pub sent_bytes : Config → ℕ → List ℕ → List ℕ
-sent_bytes c plp block = block_bytes (record { plp = (plp_at c.plps plp).id; bytes = block }) 0
+-- a block of a PLP, as a record has it, and its bytes
+abbrev pub plp_block : Config → ℕ → List ℕ → Block
+plp_block c plp bytes = record { plp = (plp_at c.plps plp).id; bytes = bytes }
 
--- the blocks of lists, one for each PLP from one on
+abbrev pub sent_bytes : Config → ℕ → List ℕ → List ℕ
+sent_bytes c plp bytes = block_bytes (plp_block c plp bytes) 0
+
+-- the blocks of lists, one for each PLP from one on, and their bytes
+abbrev pub list_blocks : Config → ℕ → List (List (List ℕ)) → List Block
+list_blocks c plp [] = []
+list_blocks c plp (blocks ∷ lists) = map (plp_block c plp) blocks ++ list_blocks c (plp + 1) lists
+
 abbrev pub lists_bytes : Config → ℕ → List (List (List ℕ)) → List ℕ
 lists_bytes c plp [] = []
 lists_bytes c plp (blocks ∷ lists) = flat_map (sent_bytes c plp) blocks ++ lists_bytes c (plp + 1) lists

@@ -2,7 +2,7 @@
 use Rattle.std.specs.Prelude.{ℕ, ◌==◌, Bool, List, ◌++◌, length, drop}
 use Rattle.plp_config.specs.declared.config.Config.{Config}
 use Rattle.scheduler.specs.Shape.{FrameShape}
-use Rattle.record_writer.specs.Steps.{step_bytes, IsStep}
+use Rattle.record_writer.specs.Steps.{step_bytes, IsStep, IsStep-prop}
 use Rattle.record_writer.specs.declared.writer.Writer.{Writer}
 
 -- the bytes that it still has to give, of a frame of this shape whose blocks wait in the lists
@@ -10,8 +10,12 @@ abbrev pub bytes_left : Writer → Config → FrameShape → List (List (List �
 bytes_left w c shape lists = drop w.at w.piece ++ step_bytes c shape lists w.step
 
 -- The step behind its piece can be taken.
-abbrev pub IsReady : Writer → Config → List (List (List ℕ)) → Type 0
-IsReady w c lists = IsStep c lists w.step
+abbrev pub IsReady : Writer → Config → FrameShape → List (List (List ℕ)) → Type 0
+IsReady w c shape lists = IsStep c shape lists w.step
+
+-- that has one proof at most, so it may be a ghost field
+pub IsReady-prop : (w : Writer) (c : Config) (shape : FrameShape) (lists : List (List (List ℕ))) → IsProp (IsReady w c shape lists)
+IsReady-prop w c shape lists = IsStep-prop c shape lists w.step
 
 -- All bytes were given.
 abbrev pub is_done : Writer → Bool

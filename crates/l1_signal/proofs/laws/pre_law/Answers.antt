@@ -1,3 +1,6 @@
+use Rattle.std.proofs.Common.{refl, length-append}
+use Rattle.terms.proofs.BitLemmas.{length-field}
+use Rattle.l1_signal.specs.Fields.{row_bits, spelling}
 use Rattle.l1_signal.specs.L1Pre.{pre_rows, pre_bits, PreFits, PreSpells}
 use Rattle.l1_signal.proofs.PreLemmas.{pre_read_back, pre_was_spelled}
 use Rattle.l1_signal.proofs.RowLemmas.{written_spells, length-spells}
@@ -16,3 +19,7 @@ returns-clause-written c = written_spells pre_rows
 pub returns-clause-len : goal.returns-clause-len
 unfolding PreSpells
 returns-clause-len c = length-spells pre_rows
+
+pub returns-clause-bits : goal.returns-clause-bits
+unfolding pre_bits row_bits spelling
+returns-clause-bits c pre = simp (length-append, length-field) refl

@@ -30,6 +30,7 @@ loop-count-preserved g c =
       fed = omega (arith, s.fed, i.fed);
       finished = i.finished;
       rules = s.rules ∙ i.rules;
+      intact = λ _. s.intact w;
       same = λ e. absurd (omega (arith, e, s.inside.0));
       first = λ e. absurd (true≢false (sym e ∙ sym (i.same (i.first e)) ∙ w));
     }

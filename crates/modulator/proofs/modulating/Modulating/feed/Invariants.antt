@@ -18,6 +18,7 @@ invariant-loop-count g l = record {
   fed : fed_len l.self.unpiper ≡ fed_len l.initial.self.unpiper + l.count;
   finished : l.self.finished ≡ false;
   rules : g.G.OpenGroup.rules l.self.sequence.group ≡ g.G.OpenGroup.rules l.initial.self.sequence.group;
+  intact : waits l.initial.self.sequence.progress ≡ false → waits l.self.sequence.progress ≡ true → g.G.OpenGroup.is_intact l.self.sequence.group ≡ true;
   same : l.count ≡ 0 → waits l.self.sequence.progress ≡ waits l.initial.self.sequence.progress;
   first : waits l.initial.self.sequence.progress ≡ true → l.count ≡ 0;
 }

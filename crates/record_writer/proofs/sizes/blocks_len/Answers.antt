@@ -1,0 +1,13 @@
+use Rattle.std.proofs.Common.{◌+◌, ◌*◌, arith}
+use Rattle.std.specs.Prelude.{slice_index}
+use Rattle.plp_config.specs.Capacity.{block_bytes}
+use Rattle.record_writer.proofs.SizeLemmas.{sum_more}
+use Rattle.record_writer.proofs.sizes.blocks_len.Goals as goal
+
+pub loop-plp-preserved : goal.loop-plp-preserved
+loop-plp-preserved c = record {
+  sum =
+      sum_more (λ plp. slice_index c.args.shape.now.counts plp * (4 + block_bytes c.args.plan.now plp)) c.loop-plp.plp c.loop-plp.len c.plp_len-len.result c.loop-plp.invariant.sum
+      c.plp_len-len.ensures.value;
+  most = omega (arith, c.loop-plp.invariant.most, c.plp_len-len.ensures.most);
+}

@@ -1,0 +1,84 @@
+// How many blocks and bytes the record of a frame has.
+ghost use Rattle.std.specs.Prelude.{◌≡◌, ◌<◌, ◌≤◌, ◌+◌, ◌*◌, length, slice_index, sum, sum_by};
+ghost use Rattle.plp_config.specs.Capacity.{block_bytes};
+ghost use Rattle.cell_map.specs.CellMap.{Passes};
+ghost use Rattle.frame_records.specs.Frames.{places};
+ghost use Rattle.frame_records.specs.Laws.{rest_size};
+ghost use Rattle.record_writer.specs.Front.{most_dynamic};
+ghost use Rattle.record_writer.specs.Laws.{post_size};
+ghost use Rattle.record_writer.specs.Sizes.{most_plp};
+
+use crate::signalling::PRE;
+use frame_records::fit_law;
+use plp_config::Plan;
+use scheduler::Shape;
+
+// The bits of a configurable part, those of each PLP in it, and those of a CRC_32 (EN 302 755, clause 7.2.3).
+const CONF_BITS: usize = 102;
+
+const CONF_PLP_BITS: usize = 89;
+
+const CRC_BITS: usize = 32;
+
+// The bytes of the numbers of a rest: of the bits of L1-post, of the blocks, and of the cells.
+const NUMBERS: u32 = 4 + 2 + 4;
+
+// The bytes of a block's head, and of a cell's word.
+const BLOCK_HEAD: u32 = 4;
+
+const WORD: u32 = 4;
+
+/// How many blocks a frame has.
+pub fn block_count(plan: &Plan, shape: &Shape) -> u16
+    requires plps { length shape.now.counts ≡ length plan.now.plps }
+    requires passes { Passes plan.now shape.now }
+    ensures { result ≡ sum shape.now.counts }
+{
+    fit_law();
+    plan.obeys_rules();
+    let mut count = 0;
+    for plp in 0..shape.len() {
+        count += shape.count(plp);
+    }
+    count
+}
+
+// The bytes of the blocks of a PLP.
+fn plp_len(plan: &Plan, shape: &Shape, plp: usize) -> u32
+    requires plp { plp < length plan.now.plps }
+    requires plps { length shape.now.counts ≡ length plan.now.plps }
+    requires passes { Passes plan.now shape.now }
+    ensures value { result ≡ slice_index shape.now.counts plp * (4 + block_bytes plan.now plp) }
+    ensures most { result ≤ most_plp }
+{
+    plan.obeys_rules();
+    u32::from(shape.count(plp)) * (BLOCK_HEAD + plan.block_bytes(plp))
+}
+
+// The bytes of all blocks.
+fn blocks_len(plan: &Plan, shape: &Shape) -> u32
+    requires plps { length shape.now.counts ≡ length plan.now.plps }
+    requires passes { Passes plan.now shape.now }
+    ensures value { result ≡ sum_by (λ plp. slice_index shape.now.counts plp * (4 + block_bytes plan.now plp)) (places plan.now) }
+    ensures most { result ≤ most_plp * length plan.now.plps }
+{
+    plan.obeys_rules();
+    let mut len = 0;
+    for plp in 0..shape.len() {
+        len += plp_len(plan, shape, plp);
+    }
+    len
+}
+
+/// How many bytes follow the head of a frame's record, if the dynamic part of L1-post has so many bits.
+pub fn rest_len(plan: &Plan, shape: &Shape, dynamic: usize) -> u32
+    requires plps { length shape.now.counts ≡ length plan.now.plps }
+    requires passes { Passes plan.now shape.now }
+    requires short { dynamic ≤ most_dynamic }
+    ensures { result ≡ rest_size plan.now (post_size plan.now dynamic) (slice_index shape.now.counts) }
+{
+    plan.obeys_rules();
+    let bits = CONF_BITS + CONF_PLP_BITS * plan.config().plps.len() + dynamic + CRC_BITS;
+    let l1 = (PRE + bits.div_ceil(8)) as u32;
+    l1 + NUMBERS + blocks_len(plan, shape) + WORD * plan.config().cells
+}
