@@ -6,4 +6,5 @@ pub mod Records
 pub mod Waits
 pub mod Sequenced
 pub mod Due
+pub mod Held
 pub mod Laws

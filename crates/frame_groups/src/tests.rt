@@ -1,0 +1,199 @@
+// Expected numbers were counted by hand.
+ghost use Rattle.std.specs.Prelude.{◌≡◌, true, false, None};
+ghost use Rattle.frame_groups.specs.Held.{IsHeld, held_rules};
+
+use crate::{
+    Key, MuteCause, OpenGroup, Sequence, Waiting, due_law, front_law, goes_on, groups_law,
+    is_counted, key_behind, next_law, next_number, numbers_law,
+};
+use bit_slice::BitSlice;
+use std::process::Abort;
+use t2mi_packet::{Body, Packet, Stamp};
+
+const fn key(superframe: u8, frame: u8) -> Key {
+    Key { superframe, frame }
+}
+
+fn block(superframe: u8, frame_idx: u8) -> Packet<'static> {
+    Packet {
+        count: 0,
+        superframe,
+        stream: 0,
+        body: Body::Block {
+            frame_idx,
+            plp: 0,
+            first: false,
+            bits: BitSlice::whole(&[]),
+        },
+    }
+}
+
+fn timestamp(superframe: u8) -> Packet<'static> {
+    Packet {
+        count: 0,
+        superframe,
+        stream: 0,
+        body: Body::Timestamp(Stamp {
+            bw: 4,
+            seconds: 700_000_000,
+            subseconds: 0,
+            utco: 5,
+        }),
+    }
+}
+
+fn other(superframe: u8) -> Packet<'static> {
+    Packet {
+        count: 0,
+        superframe,
+        stream: 0,
+        body: Body::Other {
+            kind: 0x21,
+            bits: BitSlice::whole(&[]),
+        },
+    }
+}
+
+#[test]
+fn a_timestamp_has_the_key_before_it(rt: HostRuntime) {
+    for (before, superframe, wanted) in [
+        (None, 3, key(3, 0)),
+        (Some(key(3, 1)), 3, key(3, 1)),
+        (Some(key(2, 1)), 3, key(3, 0)),
+    ] {
+        assert_eq!(rt; key_behind(before, &timestamp(superframe)), wanted);
+    }
+    assert_eq!(rt; key_behind(Some(key(3, 1)), &block(4, 0)), key(4, 0));
+    assert!(rt; goes_on(key(3, 1), &timestamp(3)) && goes_on(key(3, 1), &block(3, 1)));
+    assert!(rt; !goes_on(key(3, 1), &timestamp(4)) && !goes_on(key(3, 1), &block(3, 0)));
+    // frame_idx 1 is the last one of two frames.
+    assert!(rt; is_counted(2, &block(3, 1)) && is_counted(2, &timestamp(3)));
+    assert!(rt; !is_counted(2, &block(3, 2)) && !is_counted(2, &other(3)));
+}
+
+#[test]
+fn superframe_idx_comes_again(rt: HostRuntime) {
+    for (frames, number, after, wanted) in [
+        (2, 30, key(15, 1), 31),
+        (2, 31, key(0, 0), 32),
+        (2, 31, key(15, 0), 62),
+        // The same key: all 16 superframes later.
+        (2, 31, key(15, 1), 63),
+        (255, 4_079, key(0, 0), 4_080),
+        (255, 4_079, key(15, 254), 8_159),
+    ] {
+        assert_eq!(rt; next_number(frames, number, after), wanted);
+    }
+    next_law();
+}
+
+// A group that knows its key, and whether it has more than one packet.
+#[derive(Drop)]
+struct Held {
+    key: Option<Key>,
+    more: bool,
+}
+
+impl OpenGroup for Held {
+    ghost holds = { λ t g. IsHeld t.key t.more g };
+
+    ghost key_now = { λ t. t.key };
+
+    ghost rules = { λ t. held_rules };
+
+    ghost is_intact = { λ t. true };
+
+    fn frames(&self) -> u8 {
+        2
+    }
+
+    fn key(&self) -> Option<Key> {
+        self.key
+    }
+
+    fn begin(&mut self, key: Key, packet: &Packet<'_>) {
+        let _packet = packet;
+        self.key = Some(key);
+        self.more = false;
+    }
+
+    fn add(&mut self, packet: &Packet<'_>) {
+        let _packet = packet;
+        self.more = true;
+    }
+
+    fn named(&self) -> Option<u64> {
+        Some(30)
+    }
+
+    fn fault(&self, number: u64) -> Option<MuteCause> {
+        let _number = number;
+        if self.more {
+            None
+        } else {
+            Some(MuteCause::PacketMissing)
+        }
+    }
+}
+
+// Works off a packet, where no record waits.
+fn work(rt: &impl Abort, sequence: &mut Sequence<Held>, packet: &Packet<'_>) -> bool {
+    assert!(rt; sequence.progress.waiting().is_none());
+    if let Some(number) = sequence.progress.number {
+        assert!(rt; number < 100);
+    }
+    assert!(rt; packet.superframe < 16);
+    sequence.work(packet)
+}
+
+// The record that waits is given.
+fn give(sequence: &mut Sequence<Held>) -> Option<Waiting> {
+    let waiting = sequence.progress.waiting();
+    if waiting.is_some() {
+        sequence.gave();
+    }
+    waiting
+}
+
+fn record(frame: u64, mute: Option<MuteCause>) -> Option<Waiting> {
+    Some(Waiting { frame, mute })
+}
+
+#[test]
+fn a_gap_over_the_end_of_a_superframe(rt: HostRuntime) {
+    groups_law();
+    numbers_law();
+    front_law();
+    due_law();
+    let mut sequence = Sequence::new(Held {
+        key: None,
+        more: false,
+    });
+    // A group that begins no superframe is no join, and one of two packets that does is frame 30.
+    for packet in [
+        block(14, 1),
+        timestamp(14),
+        block(15, 0),
+        timestamp(15),
+        other(15),
+    ] {
+        assert!(rt; work(&rt, &mut sequence, &packet));
+        assert_eq!(rt; sequence.progress.waiting(), None);
+    }
+    // Frame 33 closes it, and its packet comes again.
+    assert!(rt; !work(&rt, &mut sequence, &block(0, 1)));
+    assert_eq!(rt; give(&mut sequence), record(30, None));
+    assert_eq!(rt; give(&mut sequence), None);
+    assert!(rt; work(&rt, &mut sequence, &block(0, 1)));
+    assert_eq!(rt; give(&mut sequence), record(31, Some(MuteCause::Gap)));
+    assert_eq!(rt; give(&mut sequence), record(32, Some(MuteCause::Gap)));
+    assert_eq!(rt; give(&mut sequence), None);
+    // No more comes: it has one packet.
+    assert!(rt; !sequence.progress.closing && sequence.group.key().is_some());
+    sequence.close();
+    assert_eq!(rt;
+        give(&mut sequence),
+        record(33, Some(MuteCause::PacketMissing))
+    );
+    assert_eq!(rt; give(&mut sequence), None);
+}
