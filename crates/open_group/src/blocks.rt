@@ -2,6 +2,7 @@
 ghost use Rattle.std.specs.Prelude.{◌≡◌, ◌+◌, ◌*◌, ◌<◌, ◌≤◌, ℕ, [], length};
 ghost use Rattle.linked_pool.specs.Pool.{list_at};
 ghost use Rattle.open_group.specs.Sent.{sent_bytes};
+ghost use Rattle.record_writer.specs.RecordBytes.{AreShort};
 ghost use Rattle.plp_config.specs.declared.plp.TheConstants.{MOST_BLOCK_BYTES};
 
 use crate::plps::{block_chunks, place_of, pool_chunks};
@@ -9,6 +10,7 @@ use bb_frame::scramble;
 use bit_slice::{BitSlice, OutOfMemory};
 use linked_pool::{BlockRef, Pool};
 use plp_config::{MOST_BLOCK_BYTES, Plan};
+use record_writer::short_law;
 use scheduler::Shape;
 use std::alloc::Global;
 use t2mi_packet::{Body, Packet};
@@ -27,6 +29,7 @@ pub struct HeldBlocks {
     known: bool,
     ghost whole: { pool.opened ≡ chunks },
     ghost room: { need ≤ chunks → chunks ≤ pool.spare + need },
+    ghost short: { AreShort pool.lists },
 }
 
 // Removes the blocks of all lists.
@@ -79,6 +82,7 @@ impl HeldBlocks {
         ensures open { IfOk result (λ held. IsOpenFor held (length plan.now.plps)) }
         ensures chunks { IfOk result (λ held. held.chunks ≡ pool_chunks plan.now) }
     {
+        short_law();
         let plps = plan.config().plps.len();
         let chunks = pool_chunks(plan);
         Ok(HeldBlocks {
@@ -115,6 +119,7 @@ impl HeldBlocks {
         ensures counts { self.new.counts ≡ self.old.counts }
         ensures known { self.new.known ≡ self.old.known }
     {
+        short_law();
         self.need = self.need.saturating_add(u64::from(chunks));
         if self.need > u64::from(self.chunks) {
             return;
