@@ -120,6 +120,7 @@ impl HeldBlocks {
         ensures counts { self.new.counts ≡ self.old.counts }
         ensures known { self.new.known ≡ self.old.known }
     {
+        short_law();
         self.need = self.need.saturating_add(u64::from(chunks));
         if self.need > u64::from(self.chunks) {
             return;

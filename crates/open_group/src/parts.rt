@@ -6,13 +6,15 @@ ghost use Rattle.open_group.specs.declared.parts.TheConstants.{MOST_BITS};
 
 use bit_slice::{BitSink, BitSlice, FixedBits, same_bits};
 
-// Bits of a payload: payload_len has 16 bits (TS 102 773, clause 5.1).
-const MOST_BITS: usize = 65_536;
+// What a payload has at most: payload_len has 16 bits (TS 102 773, clause 5.1).
+const MOST_BYTES: usize = 8_192;
+
+const MOST_BITS: usize = 8 * MOST_BYTES;
 
 /// The parts of an L1-current, one behind another.
 #[derive(Drop)]
 pub struct HeldParts {
-    bits: FixedBits<8192>,
+    bits: FixedBits<MOST_BYTES>,
     // How many bits the first three parts have.
     pre: usize,
     conf: usize,
@@ -22,7 +24,7 @@ pub struct HeldParts {
 }
 
 // Puts bits for which there is room.
-fn put(sink: &mut FixedBits<8192>, bits: &BitSlice<'_>)
+fn put(sink: &mut FixedBits<MOST_BYTES>, bits: &BitSlice<'_>)
     requires { length sink.old + length bits.now ≤ MOST_BITS }
     ensures { sink.new ≡ sink.old ++ bits.now }
 {
