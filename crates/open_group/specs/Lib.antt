@@ -10,3 +10,4 @@ pub use Rattle.frame_tests.specs.Carried
 pub use Rattle.frame_tests.specs.Tests
 pub use Rattle.frame_tests.specs.Tally
 pub use Rattle.frame_groups.specs.Groups
+pub mod Written
