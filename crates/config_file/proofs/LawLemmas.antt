@@ -1,6 +1,6 @@
 -- A text gives one thing.
-use Rattle.std.proofs.Common.{◌≡◌, ℕ, List, refl, ap, subst}
-use Rattle.std.specs.Prelude.{Result, Ok, Err}
+use Rattle.std.proofs.Common.{◌≡◌, ℕ, List, ap, subst}
+use Rattle.std.specs.Prelude.{Ok, Err}
 use Rattle.plp_config.specs.Capacity as capacity
 use Rattle.plp_config.specs.Capacity.{AllTests}
 use Rattle.plp_config.specs.Laws.{OneRuleFails, RefusalFails, OneTestFails, LackFails}
@@ -12,10 +12,9 @@ use Rattle.plp_config.specs.declared.rules.ConfigFault.{ConfigFault}
 use Rattle.config_text.specs.ConfigText.{Spells, Refuses}
 use Rattle.config_text.specs.declared.fault.TextWhy.{TextWhy}
 use Rattle.config_file.specs.ConfigFile.{IsCause}
-use Rattle.config_file.specs.Laws.{GivesConfig, GivesPlan, OneConfig, OnePlan}
+use Rattle.config_file.specs.Laws.{OneConfig, OnePlan}
 use Rattle.config_file.specs.declared.stop.ConfigCause.{ConfigCause}
 use Rattle.config_file.specs.declared.stop.ConfigCause.TheVariants.{Text, Rule}
-use Rattle.config_file.specs.declared.stop.ConfigStop.{ConfigStop}
 use Rattle.config_file.specs.declared.stop.ConfigStop.TheVariants.{Refused, Lacks}
 
 -- the laws of the crates below

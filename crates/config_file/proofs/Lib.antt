@@ -1,2 +1,3 @@
 pub mod LawLemmas
 pub mod ReadingLemmas
+pub mod EndLemmas

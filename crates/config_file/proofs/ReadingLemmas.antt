@@ -1,9 +1,11 @@
 -- Runs that read a configuration, step by step.
-use Rattle.std.proofs.Common.{◌≡◌, ◌⊎◌, ℕ, ◌+◌, ◌-◌, ◌<◌, ◌≤◌, min, inl, inr, ⊎_elim, List, [], ◌∷◌, ◌++◌, length, Option, Some, None, refl, ap, sym, subst, ◌∙◌, arith, append-nil, length-append}
-use Rattle.std.specs.Prelude.{IfSome, IsSome, unwrap_or, IfOk, IfErr, Result, option_map, option_and_then}
+use Rattle.std.proofs.Common.{◌≡◌, ◌⊎◌, ℕ, ◌+◌, ◌-◌, ◌<◌, ◌≤◌, min, inl, inr, ⊎_elim, List, [], ◌++◌, length, Option, Some, None, ap, sym, subst, ◌∙◌, arith, append-nil, length-append}
+use Rattle.std.specs.Prelude.{IfSome, IsSome, IfOk, IfErr, Result, option_map, option_and_then}
 use Rattle.std.specs.FinMap.{get}
+use Rattle.std.proofs.lemmas.Option.{IfSome_then}
 use Rattle.std.proofs.lemmas.Result.{IfOk-weaker, IfErr-weaker}
 use Rattle.std.proofs.Math.Seq.{get_or-append_seam, set-append_seam}
+use Rattle.terms.proofs.OptionLemmas.{was_some}
 use Rattle.ports.specs.declared.counts.Counts.{Counts}
 use Rattle.ports.specs.Counts.{Rose, MayFailReading}
 use Rattle.ports.specs.Desk.{State, Held, SameCounts, Opens, bytes_of, left_of}
@@ -42,19 +44,11 @@ moved_by old mid new name handle text o r =
       created = r.created ∙ o.created;
     }
 
-if_some : {A : Type 0} (o : Option A) (P Q : A → Type 0) → ((x : A) → P x → Q x) → IfSome o P → IfSome o Q
-if_some None P Q f h = tt
-if_some (Some x) P Q f h = f x h
-
-was_some : (o : Option (List ℕ)) → IsSome o → o ≡ Some (unwrap_or o [])
-was_some None h = cc
-was_some (Some x) h = refl
-
 -- what is left of a file that is there
 told : (held : Option Held) (name : List ℕ) (left : Option (List ℕ)) (P : List ℕ → Type 0) → left ≡ option_and_then (λ h. get h.files name) held → IfSome held (λ h. IsSome (get h.files name)) → IfSome left P → IfSome held (λ h. P (bytes_of h.files name))
 told None name left P e present h = tt
 told (Some k) name left P e present h =
-    let there : left ≡ Some (bytes_of k.files name) = e ∙ was_some (get k.files name) present in
+    let there : left ≡ Some (bytes_of k.files name) = e ∙ was_some (get k.files name) [] present in
     rw there at h
 
 -- a text was read to its end, or as far as it is read
@@ -66,7 +60,7 @@ text_read old mid new name handle text o counts r calm few end =
         given = length text;
         opened = moved_by old mid new name handle text o r;
         few = few;
-        all = if_some old.held _ _ (λ held f. front_length (bytes_of held.files name) text f few) front;
+        all = IfSome_then old.held front (λ held f. front_length (bytes_of held.files name) text f few);
         said = r.said ∙ o.said;
         counts = calm ∙ counts;
       },
@@ -112,13 +106,13 @@ cause_file file text (Rule rule plp) f r = (r.0, spelled_file file text r.0 f r.
 pub gives : (old new : State) (name text : List ℕ) (c : Config) → ReadsText old new name → IfSome old.held (λ held. IsFront (bytes_of held.files name) text) → Spells text c × AllRules c → Gives old new name c
 gives old new name text c r f s = record {
   reads = r;
-  spells = if_some old.held _ _ (λ held x. spelled_file (bytes_of held.files name) text c x s.0) f;
+  spells = IfSome_then old.held f (λ held x. spelled_file (bytes_of held.files name) text c x s.0);
   rules = s.1;
 }
 
 -- or it gives none
 pub gives_none : (old new : State) (name text : List ℕ) (outcome : ConfigStop) → ReadsText old new name → IfSome old.held (λ held. IsFront (bytes_of held.files name) text) → RefusesText text outcome → GivesNone old new name outcome
-gives_none old new name text (Refused cause) r f s = (r, if_some old.held _ _ (λ held x. cause_file (bytes_of held.files name) text cause x s) f)
+gives_none old new name text (Refused cause) r f s = (r, IfSome_then old.held f (λ held x. cause_file (bytes_of held.files name) text cause x s))
 gives_none old new name text OutOfMemory r f s = inr r
 gives_none old new name text other r f s = absurd s
 

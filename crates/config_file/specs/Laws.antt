@@ -28,3 +28,10 @@ OneConfig = (text : List ℕ) (result other : Result Config ConfigStop) → Give
 
 abbrev pub OnePlan : Type 0
 OnePlan = (text : List ℕ) (result other : Result Config ConfigStop) → GivesPlan text result → GivesPlan text other → result ≡ other
+
+-- Each text gives something.
+abbrev pub ConfigEnds : Type 0
+ConfigEnds = (text : List ℕ) → (result : Result Config ConfigStop) × GivesConfig text result
+
+abbrev pub PlanEnds : Type 0
+PlanEnds = (text : List ℕ) → (result : Result Config ConfigStop) × GivesPlan text result

@@ -1,7 +1,7 @@
-// Laws of the definitions. Their function does nothing.
-ghost use Rattle.config_file.specs.Laws.{OneConfig, OnePlan};
+// Laws of the definitions. Their functions do nothing.
+ghost use Rattle.config_file.specs.Laws.{OneConfig, OnePlan, ConfigEnds, PlanEnds};
 
-use config_text::{not_refused, refused_once, spelled_once};
+use config_text::{decided, not_refused, refused_once, spelled_once};
 use plp_config::refusal_law;
 
 /// A text gives one configuration or one cause, and one plan or one cause.
@@ -12,5 +12,14 @@ pub fn one_config()
     spelled_once();
     not_refused();
     refused_once();
+    refusal_law();
+}
+
+/// Each text gives a configuration or a cause, and a plan or a cause.
+pub fn config_ends()
+    ensures config { ConfigEnds }
+    ensures plan { PlanEnds }
+{
+    decided();
     refusal_law();
 }

@@ -16,8 +16,8 @@ use std::alloc::Global;
 // The lines that stand first, each once.
 const FIRST_LINES: usize = 8;
 
-// The most bytes of a text.
-const MOST_BYTES: usize = 65_536;
+/// Bytes of a text at most.
+pub const MOST_BYTES: usize = 65_536;
 
 fn is_skipped(line: &[u8]) -> bool
     ensures { result ≡ is_skipped line.now }

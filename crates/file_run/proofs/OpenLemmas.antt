@@ -1,9 +1,10 @@
 -- Opening the inputs of a run and creating its output.
 use Rattle.std.proofs.Common.{◌≡◌, ◌≢◌, ℕ, ◌+◌, ◌<◌, ◌≤◌, true, false, List, [], ◌∷◌, ◌++◌, length, take, Option, Some, None, refl, ap, sym, subst, ◌∙◌, inl, inr, arith, append_assoc, append-nil, length-append}
-use Rattle.std.specs.Prelude.{IfSome, IsSome, slice_index_or, slice_set, option_map, option_and_then, unwrap_or}
+use Rattle.std.specs.Prelude.{IfSome, IsSome, slice_index_or, slice_set, option_map, option_and_then}
 use Rattle.std.specs.FinMap.{get}
 use Rattle.std.proofs.lemmas.Bool.{cases_eq}
 use Rattle.std.proofs.lemmas.List.{length-map, length-take-le, get_or-take, get_or-map, map-append, length_push, get_or_push, get_or_append_left, take_more, take_more_set}
+use Rattle.terms.proofs.OptionLemmas.{was_some}
 use Rattle.ports.specs.declared.counts.Counts.{Counts}
 use Rattle.ports.specs.Counts.{Rose}
 use Rattle.ports.specs.Desk.{State, Held, Files, SameCounts, Keeps, Opens, Creates, FailsToCreate, with_name, with_empty, left_of, out_name, bytes_of, SameButFor}
@@ -70,10 +71,6 @@ pushed {X = X} P xs x d h last i lt =
           subst (λ (y : X). P i y) (sym (get_or_append_left xs (x ∷ []) d i inside)) (h i inside)
     ]
 
-pub is_there : (o : Option (List ℕ)) → IsSome o → o ≡ Some (unwrap_or o [])
-is_there None some = absurd (let z : false ≡ true = some in cc)
-is_there (Some x) some = refl
-
 -- one more input is opened
 ins_more : (old mid new : State) (h : Held) (ins : List (List ℕ)) (name : List ℕ) (handle : ℕ) → length mid.opened ≡ length old.opened + length ins → Opens mid new name handle → HoldsIns old mid h ins
     → HoldsIns old new h (ins ++ name ∷ [])
@@ -94,7 +91,7 @@ ins_more old mid new h ins name handle size o t =
       present = pushed (λ i x. IsSome (get h.files x)) ins name [] t.present there;
       left = pushed (λ i x. left_of new (length old.opened + i) ≡ Some (bytes_of h.files x)) ins name []
           (λ i lt. o.others (length old.opened + i) (omega (arith, lt, size)) ∙ t.left i lt)
-          (ap (left_of new) (let n = o.number in let e : length old.opened + length ins ≡ handle = omega (arith, n, size) in e) ∙ o.left ∙ ap (option_and_then (λ h. get h.files name)) t.held ∙ found ∙ is_there (get h.files name) there);
+          (ap (left_of new) (let n = o.number in let e : length old.opened + length ins ≡ handle = omega (arith, n, size) in e) ∙ o.left ∙ ap (option_and_then (λ h. get h.files name)) t.held ∙ found ∙ was_some (get h.files name) [] there);
     }
 
 pub one_opened : (old mid new : State) (ins : List (List ℕ)) (readings : List Reading) (name : List ℕ) (handle : ℕ) (reading : Reading) → Opens mid new name handle → SameCounts mid new → reading ≡ reading_from handle

@@ -1,16 +1,13 @@
 -- What the output of a run is, by the files. Owners of machines cite these: they range over predicates, as no law can.
-use Rattle.std.proofs.Common.{◌≡◌, ℕ, ◌<◌, true, List, [], ◌++◌, length, map, ap, sym, ◌∙◌, arith, length-append, Option, Some, None}
+use Rattle.std.proofs.Common.{◌≡◌, ℕ, ◌<◌, true, List, [], ◌++◌, length, map, ap, sym, ◌∙◌, arith, length-append, Some}
 use Rattle.std.proofs.lemmas.List.{ext_get_or, length-map, get_or-map}
-use Rattle.std.specs.Prelude.{IfSome, slice_index}
+use Rattle.std.specs.Prelude.{slice_index}
 use Rattle.std.specs.FinMap.{get}
+use Rattle.terms.proofs.OptionLemmas.{if_both}
 use Rattle.ports.specs.Desk.{State, Held, bytes_of}
 use Rattle.file_run.specs.Events.{Event, fed, has_ended, OnlyGave}
 use Rattle.file_run.specs.FileRun.{file_at, AreFed, Works, Stands}
 use Rattle.file_run.proofs.EventLemmas.{gave_more}
-
-some_both : {A : Type 0} (o : Option A) (P Q R : A → Type 0) → ((x : A) → P x → Q x → R x) → IfSome o P → IfSome o Q → IfSome o R
-some_both None P Q R f p q = tt
-some_both (Some x) P Q R f p q = f x p q
 
 -- The output is as follows from what was fed from the files.
 pub works_by : {old new : State} {out : List ℕ} {ins : List (List ℕ)} {reach : ℕ → ℕ} {Came : List Event → Type 0} {Holds : List Event → List ℕ → Type 0} (Is : (ℕ → List ℕ) → List ℕ → Type 0) (s : Stands old new out ins reach Came Holds)
@@ -23,7 +20,7 @@ works_by {old = old} {new = new} {out = out} {ins = ins} Is s f = record {
   files = s.works.files;
   created = s.works.created;
   said = s.works.said;
-  holds = some_both old.held _ _ (λ h. (k : Held) × (new.held ≡ Some k) × ((bytes : List ℕ) × (get k.files out ≡ Some bytes) × Is (file_at h ins) bytes))
+  holds = if_both old.held _ _ (λ h. (k : Held) × (new.held ≡ Some k) × ((bytes : List ℕ) × (get k.files out ≡ Some bytes) × Is (file_at h ins) bytes))
       (λ h fed w. (w.0, w.1, (w.2.0, w.2.1, f (file_at h ins) fed w.2.0 w.2.2))) s.inputs s.works.holds;
 }
 

@@ -1,12 +1,13 @@
 -- Saying what a machine gives, step by step.
-use Rattle.std.proofs.Common.{◌≡◌, ℕ, ◌+◌, ◌-◌, ◌<◌, ◌≤◌, Bool, true, false, List, [], ◌∷◌, ◌++◌, length, Option, Some, None, refl, ap, sym, subst, ◌∙◌, inl, inr, append_assoc, append-nil, arith}
-use Rattle.std.specs.Prelude.{◌⊎◌, IfSome, IsSome, max, option_map, option_and_then, slice_set, slice_index}
+use Rattle.std.proofs.Common.{◌≡◌, ℕ, ◌+◌, ◌-◌, ◌<◌, ◌≤◌, true, false, List, [], ◌∷◌, ◌++◌, length, Option, Some, None, refl, ap, sym, subst, ◌∙◌, inl, inr, append_assoc, append-nil, arith}
+use Rattle.std.specs.Prelude.{◌⊎◌, IsSome, max, option_map, option_and_then, slice_set, slice_index}
 use Rattle.std.specs.FinMap.{get}
-use Rattle.ports.specs.Desk.{State, Held, Keeps, Says, Opens, left_of, bytes_of}
+use Rattle.terms.proofs.OptionLemmas.{append-none, was_some}
+use Rattle.ports.specs.Desk.{State, Keeps, Says, Opens, left_of, bytes_of}
 use Rattle.desk_io.specs.Reading.{Reading, given_of, rest_of, ReadsOn, TakesNone, most_bytes}
 use Rattle.file_run.specs.Events.{Event, Gave, fed, has_ended, gave}
 use Rattle.file_run.specs.FileRun.{IsFed}
-use Rattle.file_run.specs.Running.{IsRead, IsTaken, Feeds, reading_from}
+use Rattle.file_run.specs.Running.{IsTaken, Feeds, reading_from}
 use Rattle.file_run.specs.Telling.{StartsWith, Tells, Reaches}
 use Rattle.file_run.specs.Steps.{FallsShort}
 use Rattle.file_run.specs.declared.machine.Step.{Step}
@@ -16,7 +17,7 @@ use Rattle.file_run.specs.TellingOn.{Telling, GivesWay}
 use Rattle.file_run.proofs.DrainLemmas.{Gives}
 use Rattle.file_run.proofs.EventLemmas.{gave_piece}
 use Rattle.file_run.proofs.FedLemmas.{read_here, fed_here, ended_here, gives_none}
-use Rattle.file_run.proofs.OpenLemmas.{some_is, of_some, is_there}
+use Rattle.file_run.proofs.OpenLemmas.{some_is, of_some}
 use Rattle.file_run.proofs.RunLemmas.{read_same, moved, is_fed}
 
 -- where a reader comes to
@@ -196,10 +197,6 @@ telling_read Came next machine start was is name r s page on none t = record {
   first = t.first;
 }
 
-same_text : (o : Option (List ℕ)) → o ≡ option_map (λ said. said ++ []) o
-same_text None = refl
-same_text (Some said) = ap Some (sym (append-nil said))
-
 same_left : (o : Option (List ℕ)) → option_map (λ left. [] ++ left) o ≡ o
 same_left None = refl
 same_left (Some left) = refl
@@ -215,7 +212,7 @@ telling_first Came next machine old new name handle r page o is none came = reco
   met = came;
   parts = sym none;
   going = inl none;
-  said = o.said ∙ same_text old.said;
+  said = o.said ∙ append-none old.said;
   handle = ap (λ (r : Reading). r.handle) is ∙ o.number;
   opened = o.opened ∙ ap (λ (n : ℕ). old.opened ++ n ∷ []) (sym (ap given_of is));
   created = o.created;
@@ -227,7 +224,7 @@ telling_first Came next machine old new name handle r page o is none came = reco
       let there : IsSome (get h.files name) = of_some old.held h (λ h. IsSome (get h.files name)) told o.present in
       record {
         left = bytes_of h.files name;
-        rest_is = ap (rest_of new) is ∙ same_left (left_of new handle) ∙ o.left ∙ ap (option_and_then (λ h. get h.files name)) told ∙ is_there (get h.files name) there;
+        rest_is = ap (rest_of new) is ∙ same_left (left_of new handle) ∙ o.left ∙ ap (option_and_then (λ h. get h.files name)) told ∙ was_some (get h.files name) [] there;
         parts = refl;
         end = λ on. absurd (let z : false ≡ true = on in cc);
       };

@@ -6,3 +6,4 @@ pub mod ConsecutiveLemmas
 pub mod FollowLemmas
 pub mod SequenceLemmas
 pub mod DueLemmas
+pub mod WantLemmas

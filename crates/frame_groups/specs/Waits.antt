@@ -1,5 +1,5 @@
 -- The record that waits.
-use Rattle.std.specs.Prelude.{◌≡◌, ℕ, ◌*◌, ◌≤◌, ◌==◌, ◌&&◌, nat_lt, Bool, Option, Some, None, is_some, if◌then◌else◌}
+use Rattle.std.specs.Prelude.{◌≡◌, ℕ, ◌-◌, ◌*◌, ◌^◌, ◌≤◌, ◌==◌, ◌&&◌, ◌||◌, not, nat_lt, Bool, Option, Some, None, is_some, if◌then◌else◌}
 use Rattle.frame_groups.specs.declared.cause.MuteCause.{MuteCause}
 use Rattle.frame_groups.specs.declared.cause.MuteCause.TheVariants.{Gap}
 use Rattle.frame_groups.specs.Numbers.{superframe_period}
@@ -23,9 +23,21 @@ waiting_of p = waiting_by p.number p.next p.closing p.fault
 abbrev pub waits : Progress → Bool
 waits p = is_some (waiting_of p)
 
+-- The packets of the group are still wanted: it is under way, or its own record does not wait yet.
+abbrev pub wants_by : Option ℕ → ℕ → Bool → Bool
+wants_by None next closing = not closing
+wants_by (Some n) next closing = not closing || nat_lt next n
+
+abbrev pub wants_packets : Progress → Bool
+wants_packets p = wants_by p.number p.next p.closing
+
 -- A number is above the one before it by so much at most: a superframe has 255 frames at most.
 abbrev pub greatest_step : ℕ
 greatest_step = superframe_period * 255
+
+-- the greatest number that a group can have
+abbrev pub most_number : ℕ
+most_number = 2 ^ 32 - 1
 
 -- The group under way has no number above a bound.
 abbrev pub IsWithin : ℕ → Progress → Type 0

@@ -1,5 +1,6 @@
 // The packets of the frame under way.
-ghost use Rattle.std.specs.Prelude.{◌≡◌, ◌<◌, ◌^◌, Bool, Option, Some, IfSome, is_some, true};
+ghost use Rattle.std.specs.Prelude.{◌≡◌, ◌<◌, ◌^◌, Bool, Option, Some, IfSome, is_some, true, false};
+ghost use Rattle.t2mi_packet.specs.T2miPacket.{Fits};
 ghost use Rattle.frame_groups.specs.declared.key.Key.{Key};
 ghost use Rattle.frame_groups.specs.Groups.{Group};
 ghost use Rattle.frame_groups.specs.Grouping.{one_packet, one_more, key_of};
@@ -21,6 +22,9 @@ pub trait OpenGroup {
     /// Its packets are all there. They need not be once it is closed.
     ghost is_intact: { Self → Bool };
 
+    /// What is held can be given as a frame.
+    ghost is_frame: { Self → Bool };
+
     /// How many frames a superframe has.
     fn frames(&self) -> u8
         ensures value { result ≡ (rules self.now).frames }
@@ -33,6 +37,7 @@ pub trait OpenGroup {
 
     /// Begins a group in place of the one that there is.
     fn begin(&mut self, key: Key, packet: &Packet<'_>)
+        requires { Fits packet.now }
         ensures group { holds self.new (Some (one_packet key packet.now)) }
         ensures intact { is_intact self.new ≡ true }
         ensures key { key_now self.new ≡ Some key }
@@ -40,6 +45,7 @@ pub trait OpenGroup {
 
     /// Adds a packet.
     fn add(&mut self, packet: &Packet<'_>)
+        requires fits { Fits packet.now }
         requires some { is_some (key_now self.old) ≡ true }
         requires intact { is_intact self.old ≡ true }
         ensures group { (h : Group) → holds self.old (Some h) → holds self.new (Some (one_more h packet.now)) }
@@ -55,6 +61,8 @@ pub trait OpenGroup {
 
     /// Why it is not the frame of a number.
     fn fault(&self, number: u64) -> Option<MuteCause>
-        requires { is_intact self.now ≡ true }
-        ensures { (h : Group) → holds self.now (Some h) → result ≡ (rules self.now).fault h number };
+        requires intact { is_intact self.now ≡ true }
+        requires small { number < 2 ^ 32 }
+        ensures value { (h : Group) → holds self.now (Some h) → result ≡ (rules self.now).fault h number }
+        ensures frame { is_some result ≡ false → is_frame self.now ≡ true };
 }

@@ -5,7 +5,7 @@ ghost use Rattle.frame_groups.specs.Groups.{Group};
 ghost use Rattle.frame_groups.specs.Modulated.{FrameRecord, join_number};
 ghost use Rattle.frame_groups.specs.Numbers.{IsKey, next_number};
 ghost use Rattle.frame_groups.specs.Sequenced.{Keeps};
-ghost use Rattle.frame_groups.specs.Waits.{IsWithin, greatest_step};
+ghost use Rattle.frame_groups.specs.Waits.{wants_packets, IsWithin, greatest_step, most_number};
 
 use crate::cause::MuteCause;
 use crate::group::OpenGroup;
@@ -20,6 +20,7 @@ fn join_number<G: OpenGroup>(group: &G) -> Option<u64>
     ensures value { (h : Group) → G.holds group.now (Some h) → result ≡ join_number (G.rules group.now) h }
     ensures passes { (h : Group) → G.holds group.now (Some h) → (n : ℕ) → result ≡ Some n → (G.rules group.now).fault h n ≡ None }
     ensures small { (n : ℕ) → result ≡ Some n → n < 2 ^ 31 }
+    ensures frame { is_some result ≡ true → G.is_frame group.now ≡ true }
 {
     let Some(key) = group.key() else {
         return None;
@@ -40,12 +41,14 @@ fn join_number<G: OpenGroup>(group: &G) -> Option<u64>
 fn close_group<G: OpenGroup>(group: &G, progress: Progress) -> Progress
     requires open { progress.closing ≡ false }
     requires some { is_some (G.key_now group.now) ≡ true }
+    requires near { IsWithin most_number progress }
     requires intact { G.is_intact group.now ≡ true }
     ensures follows { (ps : List Packet) (given : List FrameRecord) → Keeps (G.holds group.now) (G.rules group.now) progress ps given
         → Keeps (G.holds group.now) (G.rules group.now) result ps given }
     ensures closing { result.closing ≡ true }
     ensures near { (bound : ℕ) → 2 ^ 31 ≤ bound → IsWithin bound progress → IsWithin bound result }
     ensures next { (result.next ≡ progress.next) ⊎ (result.next < 2 ^ 31) }
+    ensures frame { is_some result.number ≡ true → is_some result.fault ≡ false → G.is_frame group.now ≡ true }
 {
     let _key = group.key();
     match progress.number {
@@ -75,7 +78,7 @@ fn close_group<G: OpenGroup>(group: &G, progress: Progress) -> Progress
 // The number of the next group.
 fn number_behind(frames: u8, number: Option<u64>, key: Key) -> Option<u64>
     requires some { 0 < frames }
-    requires small { (n : ℕ) → number ≡ Some n → n ≤ 2 ^ 32 }
+    requires small { (n : ℕ) → number ≡ Some n → n ≤ most_number }
     ensures none { number ≡ None → result ≡ None }
     ensures some { (n : ℕ) → number ≡ Some n → IsKey frames key → result ≡ Some (next_number frames n key) }
     ensures near { (bound : ℕ) → ((n : ℕ) → number ≡ Some n → n ≤ bound) → (n : ℕ) → result ≡ Some n → n ≤ bound + greatest_step }
@@ -91,18 +94,20 @@ fn number_behind(frames: u8, number: Option<u64>, key: Key) -> Option<u64>
 pub struct Sequence<G: OpenGroup + Drop> {
     pub group: G,
     pub progress: Progress,
-    ghost near: { IsWithin (2 ^ 32 + greatest_step) progress },
-    ghost intact: { progress.closing ≡ false → G.is_intact group ≡ true },
+    ghost near: { IsWithin most_number progress },
+    ghost intact: { wants_packets progress ≡ true → G.is_intact group ≡ true },
+    // A group that passes can be given.
+    ghost frame: { progress.closing ≡ true → is_some progress.number ≡ true → is_some progress.fault ≡ false → G.is_frame group ≡ true },
 }
 
 impl<G: OpenGroup + Drop> Sequence<G> {
-    ghost use Rattle.std.specs.Prelude.{◌≡◌, ◌<◌, ◌≤◌, ◌+◌, ◌++◌, ◌∷◌, ◌^◌, ℕ, List, [], Option, Some, None, is_some, true, false};
+    ghost use Rattle.std.specs.Prelude.{◌≡◌, ◌<◌, ◌≤◌, ◌+◌, ◌-◌, ◌++◌, ◌∷◌, ◌^◌, ℕ, List, [], Option, Some, None, is_some, true, false};
     ghost use Rattle.t2mi_packet.specs.declared.packet.Packet.{Packet};
     ghost use Rattle.frame_groups.specs.Groups.{Group, is_counted, is_same, key_behind};
     ghost use Rattle.frame_groups.specs.Modulated.{FrameRecord};
-    ghost use Rattle.frame_groups.specs.Numbers.{superframe_period};
+    ghost use Rattle.t2mi_packet.specs.T2miPacket.{Fits};
     ghost use Rattle.frame_groups.specs.Sequenced.{Keeps, record_now, Ends};
-    ghost use Rattle.frame_groups.specs.Waits.{waits, IsWithin, greatest_step};
+    ghost use Rattle.frame_groups.specs.Waits.{waits, IsWithin, greatest_step, most_number};
 
     /// No packet came. The group is none.
     pub fn new(group: G) -> Sequence<G>
@@ -132,6 +137,7 @@ impl<G: OpenGroup + Drop> Sequence<G> {
         ensures follows { (ps : List Packet) (given : List FrameRecord) → Keeps (G.holds self.old.group) (G.rules self.old.group) self.old.progress ps given
             → Keeps (G.holds self.old.group) (G.rules self.old.group) self.new.progress ps given }
         ensures group { self.new.group ≡ self.old.group }
+        ensures intact { G.is_intact self.new.group ≡ true }
         ensures closing { self.new.progress.closing ≡ true }
         ensures near { (bound : ℕ) → 2 ^ 31 ≤ bound → IsWithin bound self.old.progress → IsWithin bound self.new.progress }
         ensures next { (self.new.progress.next ≡ self.old.progress.next) ⊎ (self.new.progress.next < 2 ^ 31) }
@@ -144,9 +150,9 @@ impl<G: OpenGroup + Drop> Sequence<G> {
         requires closing { self.old.progress.closing ≡ true }
         requires key { G.key_now self.old.group ≡ Some key }
         requires idle { waits self.old.progress ≡ false }
-        requires near { IsWithin (2 ^ 32) self.old.progress }
+        requires near { IsWithin (most_number - greatest_step) self.old.progress }
         requires counted { is_counted (G.rules self.old.group).frames packet.now ≡ true }
-        requires superframe { packet.now.superframe < superframe_period }
+        requires fits { Fits packet.now }
         ensures follows { (ps : List Packet) (given : List FrameRecord) → is_same key (key_behind (Some key) packet.now) ≡ false
             → Keeps (G.holds self.old.group) (G.rules self.old.group) self.old.progress ps given
             → Keeps (G.holds self.new.group) (G.rules self.new.group) self.new.progress (ps ++ packet.now ∷ []) given }
@@ -154,6 +160,7 @@ impl<G: OpenGroup + Drop> Sequence<G> {
         ensures near { (bound : ℕ) → IsWithin bound self.old.progress → IsWithin (bound + greatest_step) self.new.progress }
         ensures next { self.new.progress.next ≡ self.old.progress.next }
         ensures open { self.new.progress.closing ≡ false }
+        ensures intact { G.is_intact self.new.group ≡ true }
     {
         let _key = self.group.key();
         let next_key = key_behind(Some(key), packet);
@@ -167,9 +174,9 @@ impl<G: OpenGroup + Drop> Sequence<G> {
     fn end_group(&mut self, key: Key, packet: &Packet<'_>) -> bool
         requires open { self.old.progress.closing ≡ false }
         requires key { G.key_now self.old.group ≡ Some key }
-        requires near { IsWithin (2 ^ 32) self.old.progress }
+        requires near { IsWithin (most_number - greatest_step) self.old.progress }
         requires counted { is_counted (G.rules self.old.group).frames packet.now ≡ true }
-        requires superframe { packet.now.superframe < superframe_period }
+        requires fits { Fits packet.now }
         ensures worked { result ≡ true → (ps : List Packet) (given : List FrameRecord) → is_same key (key_behind (Some key) packet.now) ≡ false
             → Keeps (G.holds self.old.group) (G.rules self.old.group) self.old.progress ps given
             → Keeps (G.holds self.new.group) (G.rules self.new.group) self.new.progress (ps ++ packet.now ∷ []) given }
@@ -177,8 +184,10 @@ impl<G: OpenGroup + Drop> Sequence<G> {
             → Keeps (G.holds self.new.group) (G.rules self.new.group) self.new.progress ps given }
         ensures waits { result ≡ false → (self.new.progress.closing ≡ true) × (waits self.new.progress ≡ true) × (self.new.group ≡ self.old.group) }
         ensures open { result ≡ true → self.new.progress.closing ≡ false }
+        ensures intact { G.is_intact self.new.group ≡ true }
         ensures rules { G.rules self.new.group ≡ G.rules self.old.group }
         ensures near { (bound : ℕ) → 2 ^ 31 ≤ bound → IsWithin bound self.old.progress → IsWithin (bound + greatest_step) self.new.progress }
+        ensures same { result ≡ false → (bound : ℕ) → 2 ^ 31 ≤ bound → IsWithin bound self.old.progress → IsWithin bound self.new.progress }
         ensures next { (self.new.progress.next ≡ self.old.progress.next) ⊎ (self.new.progress.next < 2 ^ 31) }
     {
         self.close();
@@ -192,17 +201,20 @@ impl<G: OpenGroup + Drop> Sequence<G> {
     /// Works off a packet, unless its group is closed by it and a record waits: then it has to come again, once the record was given.
     pub fn work(&mut self, packet: &Packet<'_>) -> bool
         requires idle { waits self.old.progress ≡ false }
-        requires near { IsWithin (2 ^ 32) self.old.progress }
-        requires superframe { packet.now.superframe < superframe_period }
+        requires near { IsWithin (most_number - greatest_step) self.old.progress }
+        requires fits { Fits packet.now }
         ensures worked { result ≡ true → (ps : List Packet) (given : List FrameRecord) → Keeps (G.holds self.old.group) (G.rules self.old.group) self.old.progress ps given
             → (self.old.progress.closing ≡ true → Ends (G.rules self.old.group) (G.key_now self.old.group) packet.now)
             → Keeps (G.holds self.new.group) (G.rules self.new.group) self.new.progress (ps ++ packet.now ∷ []) given }
         ensures kept { result ≡ false → (ps : List Packet) (given : List FrameRecord) → Keeps (G.holds self.old.group) (G.rules self.old.group) self.old.progress ps given
             → Keeps (G.holds self.new.group) (G.rules self.new.group) self.new.progress ps given }
         ensures waits { result ≡ false → (self.new.progress.closing ≡ true) × (waits self.new.progress ≡ true) × Ends (G.rules self.new.group) (G.key_now self.new.group) packet.now }
+        // The packets of the record that waits are there.
+        ensures intact { waits self.new.progress ≡ true → G.is_intact self.new.group ≡ true }
         ensures open { result ≡ true → self.new.progress.closing ≡ true → (self.old.progress.closing ≡ true) × (is_counted (G.rules self.old.group).frames packet.now ≡ false) }
         ensures rules { G.rules self.new.group ≡ G.rules self.old.group }
         ensures near { (bound : ℕ) → 2 ^ 31 ≤ bound → IsWithin bound self.old.progress → IsWithin (bound + greatest_step) self.new.progress }
+        ensures same { result ≡ false → (bound : ℕ) → 2 ^ 31 ≤ bound → IsWithin bound self.old.progress → IsWithin bound self.new.progress }
         ensures next { (self.new.progress.next ≡ self.old.progress.next) ⊎ (self.new.progress.next < 2 ^ 31) }
     {
         if !is_counted(self.group.frames(), packet) {
@@ -227,10 +239,11 @@ impl<G: OpenGroup + Drop> Sequence<G> {
     /// The record that waits was given.
     pub fn gave(&mut self)
         requires { waits self.old.progress ≡ true }
-        ensures follows { (ps : List Packet) (given : List FrameRecord) (x : FrameRecord) → Keeps (G.holds self.old.group) (G.rules self.old.group) self.old.progress ps given
-            → ((g : Option Group) → G.holds self.old.group g → record_now (G.rules self.old.group) g self.old.progress.number self.old.progress.next ≡ Some x)
+        ensures follows { (ps : List Packet) (given : List FrameRecord) (x : FrameRecord) → (k : Keeps (G.holds self.old.group) (G.rules self.old.group) self.old.progress ps given)
+            → record_now (G.rules self.old.group) k.group self.old.progress.number self.old.progress.next ≡ Some x
             → Keeps (G.holds self.new.group) (G.rules self.new.group) self.new.progress ps (given ++ x ∷ []) }
         ensures group { self.new.group ≡ self.old.group }
+        ensures intact { waits self.new.progress ≡ true → G.is_intact self.new.group ≡ true }
         ensures rest { self.new.progress ≡ record (self.old.progress) { next = self.old.progress.next + 1 } }
     {
         self.progress.next += 1;

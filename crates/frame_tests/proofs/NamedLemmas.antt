@@ -15,7 +15,8 @@ use Rattle.frame_groups.specs.Numbers.{frame_key}
 use Rattle.frame_groups.specs.declared.key.Key.{Key}
 use Rattle.frame_tests.specs.Carried.{stamps_of}
 use Rattle.frame_tests.specs.Laws.{IsNamed, FrameNamed}
-use Rattle.frame_tests.specs.Tests.{moment_of, most_frames, passed, is_on_grid, frames_passed, frame_with, named_frame}
+use Rattle.plp_config.specs.declared.moment.TheConstants.{MOST_FRAMES}
+use Rattle.frame_tests.specs.Tests.{moment_of, passed, is_on_grid, frames_passed, frame_with, named_frame}
 
 -- keys are the same
 key_same : (k l : Key) → is_same k l ≡ true → k ≡ l
@@ -52,26 +53,26 @@ module _ (found : EmissionFound) (c : Config) (all : AllRules c) where
       (and_from (nat_lt moment.subseconds (subseconds_per_second c.band)) (nat_le (origin c) (subseconds_by c moment)) (lt-ltb moment.subseconds (subseconds_per_second c.band) f.carried) (le-leb (origin c) (subseconds_by c moment) f.later))
       (eq-eqb (passed c moment % frame_subseconds c) 0 f.whole)
 
-  with_from : (key : Key) (moment : Moment) (n : ℕ) → frame_with c key moment ≡ Some n → (n < most_frames) × (moment ≡ emission c n) × (frame_key c.frames n ≡ key)
+  with_from : (key : Key) (moment : Moment) (n : ℕ) → frame_with c key moment ≡ Some n → (n < MOST_FRAMES) × (moment ≡ emission c n) × (frame_key c.frames n ≡ key)
   unfolding frame_with
   with_from key moment n e =
       let m : ℕ = frames_passed c moment in
-      let t = if_some (is_on_grid c moment && nat_lt m most_frames && is_same (frame_key c.frames m) key) m n e in
-      let p = and_parts (is_on_grid c moment && nat_lt m most_frames) (is_same (frame_key c.frames m) key) t.0 in
-      let q = and_parts (is_on_grid c moment) (nat_lt m most_frames) p.0 in
-      let at : (m < most_frames) × (moment ≡ emission c m) × (frame_key c.frames m ≡ key) =
-      (ltb-true m most_frames q.1, (found c moment m all).1 (grid_found moment q.0), key_same (frame_key c.frames m) key p.1) in
-      subst (λ (k : ℕ). (k < most_frames) × (moment ≡ emission c k) × (frame_key c.frames k ≡ key)) t.1 at
+      let t = if_some (is_on_grid c moment && nat_lt m MOST_FRAMES && is_same (frame_key c.frames m) key) m n e in
+      let p = and_parts (is_on_grid c moment && nat_lt m MOST_FRAMES) (is_same (frame_key c.frames m) key) t.0 in
+      let q = and_parts (is_on_grid c moment) (nat_lt m MOST_FRAMES) p.0 in
+      let at : (m < MOST_FRAMES) × (moment ≡ emission c m) × (frame_key c.frames m ≡ key) =
+      (ltb-true m MOST_FRAMES q.1, (found c moment m all).1 (grid_found moment q.0), key_same (frame_key c.frames m) key p.1) in
+      subst (λ (k : ℕ). (k < MOST_FRAMES) × (moment ≡ emission c k) × (frame_key c.frames k ≡ key)) t.1 at
 
-  with_to : (key : Key) (moment : Moment) (n : ℕ) → n < most_frames → moment ≡ emission c n → frame_key c.frames n ≡ key → frame_with c key moment ≡ Some n
+  with_to : (key : Key) (moment : Moment) (n : ℕ) → n < MOST_FRAMES → moment ≡ emission c n → frame_key c.frames n ≡ key → frame_with c key moment ≡ Some n
   unfolding frame_with
   with_to key moment n small is own =
       let f = (found c moment n all).0 is in
       let m : ℕ = frames_passed c moment in
       let e : m ≡ n = f.frames in
-      some_if (is_on_grid c moment && nat_lt m most_frames && is_same (frame_key c.frames m) key) m n
-      (and_from (is_on_grid c moment && nat_lt m most_frames) (is_same (frame_key c.frames m) key)
-      (and_from (is_on_grid c moment) (nat_lt m most_frames) (found_grid moment n f) (lt-ltb m most_frames (subst (λ (k : ℕ). k < most_frames) (sym e) small)))
+      some_if (is_on_grid c moment && nat_lt m MOST_FRAMES && is_same (frame_key c.frames m) key) m n
+      (and_from (is_on_grid c moment && nat_lt m MOST_FRAMES) (is_same (frame_key c.frames m) key)
+      (and_from (is_on_grid c moment) (nat_lt m MOST_FRAMES) (found_grid moment n f) (lt-ltb m MOST_FRAMES (subst (λ (k : ℕ). k < MOST_FRAMES) (sym e) small)))
       (same_key (frame_key c.frames m) key (ap (frame_key c.frames) e ∙ own))) e
 
   named_from : (g : Group) (n : ℕ) (o : Option Stamp) → slice_get (stamps_of g.packets) 0 ≡ o → option_and_then (λ s. frame_with c g.key (moment_of s)) o ≡ Some n → IsNamed c g n

@@ -18,7 +18,7 @@ use Rattle.l1_signal.specs.declared.dyn_plp.DynPlp.{DynPlp}
 use Rattle.l1_signal.specs.declared.dynamic.L1Dyn.{L1Dyn}
 use Rattle.l1_signal.specs.declared.pre.L1Pre.{L1Pre}
 use Rattle.frame_tests.specs.Carried.{L1Parts}
-use Rattle.frame_tests.specs.Laws.{IsOfFrame, PreTold, ConfTold, PartsTold}
+use Rattle.frame_tests.specs.Laws.{IsOfFrame, PreValues, ConfTold, PartsTold}
 use Rattle.frame_tests.specs.Tests.{read_whole, same_told, pre_agrees, same_conf, conf_agrees, dyn_agrees, read_dynamic, parts_agree}
 
 -- what is read whole
@@ -43,8 +43,11 @@ told_self : {A : Type 0} (rows : List (Row A)) (x : A) → same_told rows x x �
 told_self rows x = numbers_same (values rows x []) (values rows x []) refl
 
 -- the values of the rows tell all of an L1-pre, and of a configurable part
-same_pre : (x y : L1Pre) → same_told pre_rows x y ≡ true → x ≡ y
-same_pre x y e = ap pre_at (numbers_equal (values pre_rows x []) (values pre_rows y []) e)
+pub same_pre : PreValues
+same_pre x y = (
+  (λ e. ap pre_at (numbers_equal (values pre_rows x []) (values pre_rows y []) e)),
+  (λ e. subst (λ (z : L1Pre). same_told pre_rows x z ≡ true) e (told_self pre_rows x)),
+)
 
 same_plp : (x y : ConfPlp) → (same_told conf_plp_rows x y ≡ true → x ≡ y) × (x ≡ y → same_told conf_plp_rows x y ≡ true)
 same_plp x y = (
@@ -74,7 +77,7 @@ conf_self x =
 -- what the tests of the parts say of what is read
 pre_told : (c : Config) (o : Option L1Pre) → pre_agrees c o ≡ true → o ≡ Some (pre_of c)
 pre_told c None e = absurd (false≢true e)
-pre_told c (Some pre) e = ap (λ (p : L1Pre). Some p) (same_pre pre (pre_of c) e)
+pre_told c (Some pre) e = ap (λ (p : L1Pre). Some p) ((same_pre pre (pre_of c)).0 e)
 
 conf_told : (c : Config) (o : Option L1Conf) → conf_agrees c o ≡ true → o ≡ Some (conf_of c)
 conf_told c None e = absurd (false≢true e)
@@ -154,9 +157,6 @@ module _ (pre_back : PreReadBack) (pre_spelled : PreReadSpelled) (conf_back : Co
       )
 
 module _ (pre_back : PreReadBack) (pre_spelled : PreReadSpelled) (conf_back : ConfReadBack) (conf_spelled : ConfReadSpelled) (dyn_back : DynReadBack) (dyn_spelled : DynReadSpelled) where
-  pub pre_is_told : PreTold
-  pre_is_told c bits = (pre_from pre_back pre_spelled conf_back conf_spelled dyn_back dyn_spelled c bits, pre_to pre_back pre_spelled conf_back conf_spelled dyn_back dyn_spelled c bits)
-
   pub conf_is_told : ConfTold
   conf_is_told c bits = (conf_from pre_back pre_spelled conf_back conf_spelled dyn_back dyn_spelled c bits, conf_to pre_back pre_spelled conf_back conf_spelled dyn_back dyn_spelled c bits)
 

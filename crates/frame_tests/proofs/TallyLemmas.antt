@@ -14,15 +14,14 @@ use Rattle.plp_config.specs.Plps.{plp_at}
 use Rattle.plp_config.specs.Tables.{bw}
 use Rattle.plp_config.specs.declared.config.Config.{Config}
 use Rattle.linked_pool.specs.Pool.{chunks_for}
-use Rattle.l1_signal.specs.L1Of.{told_shape}
-use Rattle.l1_signal.specs.declared.dynamic.L1Dyn.{L1Dyn}
+use Rattle.scheduler.specs.Shape.{FrameShape}
 use Rattle.t2mi_packet.specs.declared.packet.Packet.{Packet}
 use Rattle.t2mi_packet.specs.declared.packet.Stamp.{Stamp}
 use Rattle.frame_groups.specs.declared.cause.MuteCause.TheVariants.{PacketMissing, L1Refused, PoolFull}
 use Rattle.frame_tests.specs.Carried.{places, body_block, has_length, blocks_of, right_blocks, L1Parts, body_l1, l1s_of, body_stamp, stamps_of}
 use Rattle.frame_tests.specs.Laws.{TestsAreTallied, TallyGrows}
 use Rattle.frame_tests.specs.Tally.{Tally, all_alike, is_unlike, first_unlike, tally, alike_behind, unlike_behind, tally_need, tally_pool, tally_missing, tally_l1, first_late, tally_time, tally_counts, tally_blocks, tally_map, tally_fault}
-use Rattle.frame_tests.specs.Tests.{unless, begins_superframe, pool_chunks, pool_need, pool_test, missing_test, same_parts, parts_agree, l1s_agree, l1_test, stamp_agrees, disagrees, time_test, told_dynamic, has_counts, is_known, blocks_test, map_test, packets_fault}
+use Rattle.frame_tests.specs.Tests.{unless, begins_superframe, pool_chunks, capped, pool_need, pool_test, missing_test, same_parts, parts_agree, l1s_agree, l1_test, stamp_agrees, disagrees, time_test, first_shape, has_counts, is_known, blocks_test, map_test, packets_fault}
 
 -- one packet more
 blocks_more : (c : Config) (packets : List Packet) (p : Packet) (plp : ℕ) → blocks_of c plp (packets ++ p ∷ []) ≡ blocks_of c plp packets ++ blocks_of c plp (p ∷ [])
@@ -110,7 +109,7 @@ need_is c packets =
 
 pool_is : (c : Config) (packets : List Packet) → pool_test c packets ≡ tally_pool c (tally c packets)
 unfolding pool_test
-pool_is c packets = ap (λ (k : ℕ). unless (nat_le k (pool_chunks c)) (PoolFull k (pool_chunks c))) (need_is c packets)
+pool_is c packets = ap (λ (k : ℕ). unless (nat_le k (pool_chunks c)) (PoolFull (capped k) (pool_chunks c))) (need_is c packets)
 
 some_is : {X : Type 0} (xs : List X) → nat_lt 0 (length xs) ≡ is_some (slice_get xs 0)
 some_is [] = refl
@@ -154,16 +153,16 @@ time_is : (c : Config) (n : ℕ) (packets : List Packet) → time_test c n packe
 unfolding time_test
 time_is c n packets = ap (λ (o : Option Stamp). if begins_superframe c n then option_map (disagrees c n) o else None) (late_is c n (tally c packets) (stamps_of packets) refl)
 
-counts_is : (c : Config) (packets : List Packet) (dynamic : Option L1Dyn) → has_counts c packets dynamic ≡ tally_counts c (tally c packets) dynamic
+counts_is : (c : Config) (packets : List Packet) (shape : Option FrameShape) → has_counts c packets shape ≡ tally_counts c (tally c packets) shape
 counts_is c packets None = refl
-counts_is c packets (Some dynamic) =
+counts_is c packets (Some shape) =
     let blocks : ℕ → ℕ = λ plp. length (blocks_of c plp packets) in
-    alls_same (λ plp. blocks plp == slice_index (told_shape dynamic).counts plp) (λ plp. slice_index (map blocks (places c)) plp == slice_index (told_shape dynamic).counts plp) (length c.plps)
-    (λ plp inside. ap (λ (k : ℕ). k == slice_index (told_shape dynamic).counts plp) (sym (at_place c blocks plp inside))) 0 (length c.plps) (omega arith)
+    alls_same (λ plp. blocks plp == slice_index shape.counts plp) (λ plp. slice_index (map blocks (places c)) plp == slice_index shape.counts plp) (length c.plps)
+    (λ plp inside. ap (λ (k : ℕ). k == slice_index shape.counts plp) (sym (at_place c blocks plp inside))) 0 (length c.plps) (omega arith)
 
 blocks_is : (c : Config) (packets : List Packet) → blocks_test c packets ≡ tally_blocks c (tally c packets)
 unfolding blocks_test
-blocks_is c packets = ap (λ (t : Bool). unless (t && list_all (is_known c) packets) PacketMissing) (counts_is c packets (told_dynamic c packets))
+blocks_is c packets = ap (λ (t : Bool). unless (t && list_all (is_known c) packets) PacketMissing) (counts_is c packets (first_shape c packets))
 
 map_is : (c : Config) (packets : List Packet) → map_test c packets ≡ tally_map c (tally c packets)
 unfolding map_test

@@ -1,5 +1,5 @@
 -- Laws of the six tests.
-use Rattle.std.specs.Prelude.{◌≡◌, ◌↔◌, ℕ, ◌%◌, ◌<◌, true, false, Bool, List, [], ◌∷◌, ◌++◌, length, map, slice_get, Some}
+use Rattle.std.specs.Prelude.{◌≡◌, ◌↔◌, ℕ, ◌%◌, ◌<◌, true, Bool, List, [], ◌∷◌, ◌++◌, length, map, slice_get, Some}
 use Rattle.plp_config.specs.Emission.{emission}
 use Rattle.plp_config.specs.Rules.{AllRules}
 use Rattle.plp_config.specs.declared.config.Config.{Config}
@@ -8,8 +8,9 @@ use Rattle.cell_map.specs.CellMap.{Passes}
 use Rattle.l1_signal.specs.L1Configurable.{conf_read, info_size, ConfSpells}
 use Rattle.l1_signal.specs.L1Dynamic.{DynSpells}
 use Rattle.l1_signal.specs.L1Of.{pre_of, conf_of}
-use Rattle.l1_signal.specs.L1Pre.{pre_reading, PreSpells}
+use Rattle.l1_signal.specs.L1Pre.{pre_rows, PreSpells}
 use Rattle.l1_signal.specs.declared.dynamic.L1Dyn.{L1Dyn}
+use Rattle.l1_signal.specs.declared.pre.L1Pre.{L1Pre}
 use Rattle.t2mi_packet.specs.declared.packet.Packet.{Packet}
 use Rattle.t2mi_packet.specs.declared.packet.Stamp.{Stamp}
 use Rattle.frame_groups.specs.Groups.{Group}
@@ -17,7 +18,8 @@ use Rattle.frame_groups.specs.Numbers.{frame_key}
 use Rattle.frame_tests.specs.Carried.{L1Parts, stamps_of}
 use Rattle.frame_tests.specs.MapTest.{map_passes}
 use Rattle.frame_tests.specs.Tally.{tally, tally_with, tally_fault}
-use Rattle.frame_tests.specs.Tests.{read_whole, pre_agrees, conf_agrees, parts_agree, packets_fault, moment_of, most_frames, named_frame}
+use Rattle.plp_config.specs.declared.moment.TheConstants.{MOST_FRAMES}
+use Rattle.frame_tests.specs.Tests.{read_whole, same_told, conf_agrees, parts_agree, packets_fault, moment_of, named_frame}
 
 -- The test of a shape says whether it passes.
 abbrev pub MapPasses : Type 0
@@ -33,10 +35,11 @@ pub record IsOfFrame (c : Config) (n : ℕ) (l1 : L1Parts) : Type 0 where
   pub frame : dynamic.frame_idx ≡ n % c.frames
   pub ids : map (λ plp. plp.plp_id) dynamic.plps ≡ map (λ plp. plp.id) c.plps
 
--- The tests of the first two parts say whether they spell the configuration's values.
-abbrev pub PreTold : Type 0
-PreTold = (c : Config) (bits : List Bool) → (pre_agrees c (read_whole (pre_reading false bits)) ≡ true) ↔ PreSpells (pre_of c) bits
+-- The rows of L1-pre tell all of it.
+abbrev pub PreValues : Type 0
+PreValues = (x y : L1Pre) → (same_told pre_rows x y ≡ true) ↔ (x ≡ y)
 
+-- The test of a configurable part says whether it spells the configuration's values.
 abbrev pub ConfTold : Type 0
 ConfTold = (c : Config) (bits : List Bool) → (conf_agrees c (read_whole (conf_read (info_size (length c.plps)) bits)) ≡ true) ↔ ConfSpells (conf_of c) bits
 
@@ -55,7 +58,7 @@ TallyGrows = (c : Config) (packets : List Packet) (p : Packet) → tally c (pack
 pub record IsNamed (c : Config) (g : Group) (n : ℕ) : Type 0 where
   pub stamp : Stamp
   pub first : slice_get (stamps_of g.packets) 0 ≡ Some stamp
-  pub small : n < most_frames
+  pub small : n < MOST_FRAMES
   pub emission-is : moment_of stamp ≡ emission c n
   pub key : frame_key c.frames n ≡ g.key
 

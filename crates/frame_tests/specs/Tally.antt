@@ -5,14 +5,13 @@ use Rattle.std.specs.Option.{option_or, option_and_then, option_map_or}
 use Rattle.plp_config.specs.Capacity.{block_bytes}
 use Rattle.plp_config.specs.declared.config.Config.{Config}
 use Rattle.linked_pool.specs.Pool.{chunks_for}
-use Rattle.l1_signal.specs.L1Of.{told_shape}
-use Rattle.l1_signal.specs.declared.dynamic.L1Dyn.{L1Dyn}
+use Rattle.scheduler.specs.Shape.{FrameShape}
 use Rattle.t2mi_packet.specs.declared.packet.Packet.{Packet}
 use Rattle.t2mi_packet.specs.declared.packet.Stamp.{Stamp}
 use Rattle.frame_groups.specs.declared.cause.MuteCause.{MuteCause}
 use Rattle.frame_groups.specs.declared.cause.MuteCause.TheVariants.{PacketMissing, L1Refused, MapRefused, PoolFull}
 use Rattle.frame_tests.specs.Carried.{places, blocks_of, right_blocks, L1Parts, l1s_of, stamps_of}
-use Rattle.frame_tests.specs.Tests.{unless, begins_superframe, pool_chunks, same_parts, parts_agree, read_dynamic, stamp_agrees, disagrees, is_known, has_map}
+use Rattle.frame_tests.specs.Tests.{unless, begins_superframe, pool_chunks, capped, same_parts, parts_agree, l1_shape, stamp_agrees, disagrees, is_known, has_map}
 
 pub record Tally : Type 0 where
   pub right : List ℕ  -- of each PLP, its blocks that have its length
@@ -75,7 +74,7 @@ tally_need c t = sum_by (λ plp. slice_index t.right plp * chunks_for (block_byt
 
 -- a
 abbrev pub tally_pool : Config → Tally → Option MuteCause
-tally_pool c t = unless (nat_le (tally_need c t) (pool_chunks c)) (PoolFull (tally_need c t) (pool_chunks c))
+tally_pool c t = unless (nat_le (tally_need c t) (pool_chunks c)) (PoolFull (capped (tally_need c t)) (pool_chunks c))
 
 -- b
 abbrev pub tally_missing : Config → ℕ → Tally → Option MuteCause
@@ -93,19 +92,19 @@ abbrev pub tally_time : Config → ℕ → Tally → Option MuteCause
 tally_time c n t = if begins_superframe c n then option_map (disagrees c n) (option_and_then (first_late c n t) t.stamp) else None
 
 -- e
-abbrev pub tally_counts : Config → Tally → Option L1Dyn → Bool
+abbrev pub tally_counts : Config → Tally → Option FrameShape → Bool
 tally_counts c t None = false
-tally_counts c t (Some dynamic) = list_all (λ plp. slice_index t.blocks plp == slice_index (told_shape dynamic).counts plp) (places c)
+tally_counts c t (Some shape) = list_all (λ plp. slice_index t.blocks plp == slice_index shape.counts plp) (places c)
 
-abbrev pub tally_dynamic : Config → Tally → Option L1Dyn
-tally_dynamic c t = option_and_then (read_dynamic c) t.l1
+abbrev pub tally_shape : Config → Tally → Option FrameShape
+tally_shape c t = option_and_then (l1_shape c) t.l1
 
 abbrev pub tally_blocks : Config → Tally → Option MuteCause
-tally_blocks c t = unless (tally_counts c t (tally_dynamic c t) && t.known) PacketMissing
+tally_blocks c t = unless (tally_counts c t (tally_shape c t) && t.known) PacketMissing
 
 -- f
 abbrev pub tally_map : Config → Tally → Option MuteCause
-tally_map c t = unless (has_map c (tally_dynamic c t)) MapRefused
+tally_map c t = unless (has_map c (tally_shape c t)) MapRefused
 
 unfoldable pub tally_fault : Config → ℕ → Tally → Option MuteCause
 tally_fault c n t =

@@ -1,5 +1,5 @@
 -- Why the packets of a group are not those of a frame: the first of six tests that fails (ETSI TS 102 773, clause 5).
-use Rattle.std.specs.Prelude.{ℕ, ◌*◌, ◌/◌, ◌%◌, ◌-◌, ◌^◌, ◌==◌, ◌&&◌, ◌||◌, not, nat_eq, nat_lt, nat_le, Bool, true, false, List, [], ◌∷◌, length, map, sum_by, slice_get, slice_index, Option, Some, None, option_map, Ok, Err, if◌then◌else◌}
+use Rattle.std.specs.Prelude.{ℕ, ◌*◌, ◌/◌, ◌%◌, ◌-◌, ◌^◌, ◌==◌, ◌&&◌, ◌||◌, not, min, nat_eq, nat_lt, nat_le, Bool, true, false, List, [], ◌∷◌, length, map, sum_by, slice_get, slice_index, Option, Some, None, option_map, Ok, Err, if◌then◌else◌}
 use Rattle.std.specs.Bool.{beq}
 use Rattle.std.specs.Cmp.Lexicographic.{pointwise}
 use Rattle.std.specs.List.{find, list_any, list_all}
@@ -10,7 +10,9 @@ use Rattle.plp_config.specs.Plps.{plp_at}
 use Rattle.plp_config.specs.Tables.{bw, subseconds_per_second}
 use Rattle.plp_config.specs.declared.config.Config.{Config}
 use Rattle.plp_config.specs.declared.moment.Moment.{Moment}
+use Rattle.plp_config.specs.declared.moment.TheConstants.{MOST_FRAMES}
 use Rattle.linked_pool.specs.Pool.{chunks_for}
+use Rattle.scheduler.specs.Shape.{FrameShape}
 use Rattle.l1_signal.specs.Fields.{Row, Reading, values}
 use Rattle.l1_signal.specs.L1Configurable.{conf_first_rows, conf_more_rows, conf_plp_rows, conf_back_rows, conf_read, info_size}
 use Rattle.l1_signal.specs.L1Dynamic.{dyn_read}
@@ -55,9 +57,16 @@ pool_chunks c = chunks_of_cells * c.cells / fewest_cells
 abbrev pub pool_need : Config → List Packet → ℕ
 pool_need c packets = sum_by (λ plp. length (right_blocks c plp packets) * chunks_for (block_bytes c plp)) (places c)
 
+-- a number as a cause tells it: it has 64 bits, and stands still at the greatest
+abbrev pub greatest : ℕ
+greatest = 2 ^ 64 - 1
+
+abbrev pub capped : ℕ → ℕ
+capped n = min n greatest
+
 -- a: these blocks have room
 unfoldable pub pool_test : Config → List Packet → Option MuteCause
-pool_test c packets = unless (nat_le (pool_need c packets) (pool_chunks c)) (PoolFull (pool_need c packets) (pool_chunks c))
+pool_test c packets = unless (nat_le (pool_need c packets) (pool_chunks c)) (PoolFull (capped (pool_need c packets)) (pool_chunks c))
 
 -- b: there is an L1-current, and a timestamp if a superframe begins (clauses 5.2.4 and 5.2.7)
 unfoldable pub missing_test : Config → ℕ → List Packet → Option MuteCause
@@ -122,14 +131,18 @@ disagrees c n stamp = TimeDisagrees stamp (emission c n)
 unfoldable pub time_test : Config → ℕ → List Packet → Option MuteCause
 time_test c n packets = if begins_superframe c n then option_map (disagrees c n) (find (λ s. not (stamp_agrees c n s)) (stamps_of packets)) else None
 
--- what the dynamic part of the first L1-current tells
-abbrev pub told_dynamic : Config → List Packet → Option L1Dyn
-told_dynamic c packets = option_and_then (read_dynamic c) (slice_get (l1s_of packets) 0)
+-- the shape that the dynamic part of an L1-current tells, if it reads
+abbrev pub l1_shape : Config → L1Parts → Option FrameShape
+l1_shape c l1 = option_map told_shape (read_dynamic c l1)
 
--- each PLP has as many blocks as a dynamic part tells
-abbrev pub has_counts : Config → List Packet → Option L1Dyn → Bool
+-- that of the first L1-current
+abbrev pub first_shape : Config → List Packet → Option FrameShape
+first_shape c packets = option_and_then (l1_shape c) (slice_get (l1s_of packets) 0)
+
+-- each PLP has as many blocks as a shape tells
+abbrev pub has_counts : Config → List Packet → Option FrameShape → Bool
 has_counts c packets None = false
-has_counts c packets (Some dynamic) = list_all (λ plp. length (blocks_of c plp packets) == slice_index (told_shape dynamic).counts plp) (places c)
+has_counts c packets (Some shape) = list_all (λ plp. length (blocks_of c plp packets) == slice_index shape.counts plp) (places c)
 
 -- if a packet carries a block, it is one of a PLP, with its length
 abbrev pub body_known : Config → Body → Bool
@@ -141,17 +154,17 @@ body_known c (Other kind bits) = true
 abbrev pub is_known : Config → Packet → Bool
 is_known c p = body_known c p.body
 
--- e: the blocks are those that the dynamic part tells, and no others
+-- e: there are as many blocks as the first L1-current tells, and no others
 unfoldable pub blocks_test : Config → List Packet → Option MuteCause
-blocks_test c packets = unless (has_counts c packets (told_dynamic c packets) && list_all (is_known c) packets) PacketMissing
+blocks_test c packets = unless (has_counts c packets (first_shape c packets) && list_all (is_known c) packets) PacketMissing
 
 -- f: the cells of the blocks that it tells stand apart, in the frame
-abbrev pub has_map : Config → Option L1Dyn → Bool
+abbrev pub has_map : Config → Option FrameShape → Bool
 has_map c None = false
-has_map c (Some dynamic) = map_passes c (told_shape dynamic)
+has_map c (Some shape) = map_passes c shape
 
 unfoldable pub map_test : Config → List Packet → Option MuteCause
-map_test c packets = unless (has_map c (told_dynamic c packets)) MapRefused
+map_test c packets = unless (has_map c (first_shape c packets)) MapRefused
 
 -- why the packets are not those of frame n: the first test that fails, in their order
 unfoldable pub packets_fault : Config → ℕ → List Packet → Option MuteCause
@@ -166,10 +179,6 @@ group_fault c g n = packets_fault c n g.packets
 abbrev pub moment_of : Stamp → Moment
 moment_of stamp = record { seconds = stamp.seconds; subseconds = stamp.subseconds }
 
--- the frames of a run have numbers below this
-abbrev pub most_frames : ℕ
-most_frames = 2 ^ 31
-
 -- whole frames have passed at a moment since frame 0 left, and how many
 abbrev pub passed : Config → Moment → ℕ
 passed c moment = subseconds_by c moment - origin c
@@ -183,7 +192,7 @@ frames_passed c moment = passed c moment / frame_subseconds c
 -- the frame of a run that leaves at a moment and has a key
 unfoldable pub frame_with : Config → Key → Moment → Option ℕ
 frame_with c key moment =
-    if is_on_grid c moment && nat_lt (frames_passed c moment) most_frames && is_same (frame_key c.frames (frames_passed c moment)) key then Some (frames_passed c moment) else None
+    if is_on_grid c moment && nat_lt (frames_passed c moment) MOST_FRAMES && is_same (frame_key c.frames (frames_passed c moment)) key then Some (frames_passed c moment) else None
 
 -- the frame that the first timestamp of a group names: it has the emission that this tells, and the group's key
 abbrev pub named_frame : Config → Group → Option ℕ

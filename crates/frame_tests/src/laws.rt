@@ -1,5 +1,5 @@
 // Laws of the definitions. Their functions do nothing.
-ghost use Rattle.frame_tests.specs.Laws.{MapPasses, PreTold, ConfTold, PartsTold, TestsAreTallied, TallyGrows, FrameNamed};
+ghost use Rattle.frame_tests.specs.Laws.{MapPasses, PreValues, ConfTold, PartsTold, TestsAreTallied, TallyGrows, FrameNamed};
 
 use l1_signal::{conf_law, dyn_law, pre_law};
 use plp_config::emission_law;
@@ -11,7 +11,7 @@ pub fn map_test_law()
 
 /// The test of an L1-current says whether its parts spell the configuration's values, and those of the frame.
 pub fn parts_law()
-    ensures pre { PreTold }
+    ensures pre { PreValues }
     ensures conf { ConfTold }
     ensures whole { PartsTold }
 {

@@ -24,7 +24,8 @@ use Rattle.gateway_core.specs.IsFed.{IsFed, wanted}
 use Rattle.gateway_core.specs.Left.{from_step}
 use Rattle.t2mi_stream.specs.Complete.{complete_units}
 use Rattle.t2mi_stream.specs.Pipe.{pipe}
-use Rattle.gateway_core.specs.Packets.{packets_from, front_packets, l1_body, block_bodies, plp_bodies, counts_of, frame_bodies, frame_blocks, bodies_before}
+use Rattle.mode_adapt.specs.Blocks.{plp_blocks}
+use Rattle.gateway_core.specs.Packets.{packets_from, front_packets, l1_body, block_bodies, plp_bodies, counts_of, frame_bodies, bodies_before}
 use Rattle.gateway_core.specs.Signalling.{pre_part, conf_part, dyn_part}
 use Rattle.gateway_core.specs.StandsFor.{Holds, IsLast, wants_by}
 use Rattle.gateway_core.specs.Told.{Told, told, with_packet, at_end, in_next, Continues}
@@ -52,17 +53,17 @@ cont_end t input h = record { rest = h.rest; front = h.front; whole = λ on. h.w
 cont_next : (t : Told) (input : List (List ℕ)) → Continues (in_next t) input → Continues t input
 cont_next t input h = record { rest = h.rest; front = h.front; whole = h.whole }
 
-other_offered : (j plp : ℕ) (events : List Event) (packet : List ℕ) → j ≢ plp → told j (events ++ Offered plp packet ∷ []) ≡ told j events
+pub other_offered : (j plp : ℕ) (events : List Event) (packet : List ℕ) → j ≢ plp → told j (events ++ Offered plp packet ∷ []) ≡ told j events
 other_offered j plp events packet differ =
     let no : (plp == j) ≡ false = ne_eqb plp j (λ e. differ (sym e)) in
     nothing_told j events (Offered plp packet) (rw no refl) refl refl
 
-other_ended : (j plp : ℕ) (events : List Event) → j ≢ plp → told j (events ++ Ended plp ∷ []) ≡ told j events
+pub other_ended : (j plp : ℕ) (events : List Event) → j ≢ plp → told j (events ++ Ended plp ∷ []) ≡ told j events
 other_ended j plp events differ =
     let no : (plp == j) ≡ false = ne_eqb plp j (λ e. differ (sym e)) in
     nothing_told j events (Ended plp) refl no refl
 
-back_offered : (c : Config) (events : List Event) (plp : ℕ) (packet : List ℕ) (all : ℕ → List (List ℕ)) → has_ended plp events ≡ false
+pub back_offered : (c : Config) (events : List Event) (plp : ℕ) (packet : List ℕ) (all : ℕ → List (List ℕ)) → has_ended plp events ≡ false
     → AllContinue c (events ++ Offered plp packet ∷ []) all → AllContinue c events all
 back_offered c events plp packet all off h = λ j lt.
     elim (cases_eq j plp) [
@@ -71,7 +72,7 @@ back_offered c events plp packet all off h = λ j lt.
       | inr differ ↦ subst (λ (t : Told). Continues t (all j)) (other_offered j plp events packet differ) (h j lt)
     ]
 
-back_ended : (c : Config) (events : List Event) (plp : ℕ) (all : ℕ → List (List ℕ)) → AllContinue c (events ++ Ended plp ∷ []) all → AllContinue c events all
+pub back_ended : (c : Config) (events : List Event) (plp : ℕ) (all : ℕ → List (List ℕ)) → AllContinue c (events ++ Ended plp ∷ []) all → AllContinue c events all
 back_ended c events plp all h = λ j lt.
     elim (cases_eq j plp) [
       | inl same ↦ subst (λ (k : ℕ). Continues (told k (events ++ Ended plp ∷ [])) (all k) → Continues (told k events) (all k)) (sym same)
@@ -79,14 +80,14 @@ back_ended c events plp all h = λ j lt.
       | inr differ ↦ subst (λ (t : Told). Continues t (all j)) (other_ended j plp events differ) (h j lt)
     ]
 
-back_begun : (c : Config) (events : List Event) (all : ℕ → List (List ℕ)) → AllContinue c (events ++ Begun ∷ []) all → AllContinue c events all
+pub back_begun : (c : Config) (events : List Event) (all : ℕ → List (List ℕ)) → AllContinue c (events ++ Begun ∷ []) all → AllContinue c events all
 back_begun c events all h = λ j lt. cont_next (told j events) (all j) (subst (λ (t : Told). Continues t (all j)) (told_begun j events) (h j lt))
 
 -- what is counted of one event more
-begun_with : (events : List Event) (e : Event) → begun (events ++ e ∷ []) ≡ begun events + cond (begins e) 1 0
+pub begun_with : (events : List Event) (e : Event) → begun (events ++ e ∷ []) ≡ begun events + cond (begins e) 1 0
 begun_with events e = let s = sum_by-append (λ (e : Event). cond (begins e) 1 0) events (e ∷ []) in omega (arith, s)
 
-given_with : (events : List Event) (e : Event) → given (events ++ e ∷ []) ≡ given events + cond (gives e) 1 0
+pub given_with : (events : List Event) (e : Event) → given (events ++ e ∷ []) ≡ given events + cond (gives e) 1 0
 given_with events e = let s = sum_by-append (λ (e : Event). cond (gives e) 1 0) events (e ∷ []) in omega (arith, s)
 
 or_none : (b : Bool) → (b || false) ≡ b
@@ -97,7 +98,7 @@ or_one : (b : Bool) → (b || true) ≡ true
 or_one true = refl
 or_one false = refl
 
-finished_same : (events : List Event) (e : Event) → finishes e ≡ false → finished (events ++ e ∷ []) ≡ finished events
+pub finished_same : (events : List Event) (e : Event) → finishes e ≡ false → finished (events ++ e ∷ []) ≡ finished events
 finished_same events e off = list_any-append finishes events (e ∷ []) ∙ rw off (or_none (finished events))
 
 pub finished_now : (events : List Event) → finished (events ++ Finished ∷ []) ≡ true
@@ -107,6 +108,12 @@ count_same : (n : ℕ) (b : Bool) (m : ℕ) → m ≡ n + cond b 1 0 → b ≡ f
 count_same n true m e off = absurd (let z : true ≡ false = off in cc)
 count_same n false m e off = omega (arith, e)
 
+pub begun_same : (events : List Event) (e : Event) → begins e ≡ false → begun (events ++ e ∷ []) ≡ begun events
+begun_same events e off = count_same (begun events) (begins e) (begun (events ++ e ∷ [])) (begun_with events e) off
+
+pub given_same : (events : List Event) (e : Event) → gives e ≡ false → given (events ++ e ∷ []) ≡ given events
+given_same events e off = count_same (given events) (gives e) (given (events ++ e ∷ [])) (given_with events e) off
+
 pub holds_with : (old new : List Input) (s : Signalling) (frames : ℕ) (flow : Flow) (n : ℕ) (left : List Body) (c : Config) (events : List Event) (e : Event)
     → begins e ≡ false → gives e ≡ false → finishes e ≡ false → AllFed new c (events ++ e ∷ []) → ((all : ℕ → List (List ℕ)) → AllContinue c (events ++ e ∷ []) all → AllContinue c events all)
     → Holds old s frames flow n left c events → Holds new s frames flow n left c (events ++ e ∷ [])
@@ -114,10 +121,10 @@ holds_with old new s frames flow n left c events e b g f fed back h = record {
   fed = fed;
   pre = h.pre;
   conf = h.conf;
-  frames_are = h.frames_are ∙ sym (count_same (begun events) (begins e) (begun (events ++ e ∷ [])) (begun_with events e) b);
+  frames_are = h.frames_are ∙ sym (begun_same events e b);
   last = h.last ∙ sym (finished_same events e f);
   flows = λ all more.
-      subst (λ (k : ℕ). Flows flow c n left (bodies_before c all frames) k) (sym (count_same (given events) (gives e) (given (events ++ e ∷ [])) (given_with events e) g)) (h.flows all (back all more));
+      subst (λ (k : ℕ). Flows flow c n left (bodies_before c all frames) k) (sym (given_same events e g)) (h.flows all (back all more));
 }
 
 -- an input that wants packets has not ended
@@ -143,7 +150,7 @@ holds_end old new s frames flow n left c events plp fed h =
 fed_same : (inputs : List Input) (c : Config) (events : List Event) (e : Event) → ((j : ℕ) → told j (events ++ e ∷ []) ≡ told j events) → AllFed inputs c events → AllFed inputs c (events ++ e ∷ [])
 fed_same inputs c events e same h = λ j d lt. subst (λ (t : Told). IsFed (slice_index_or inputs j d) c j t) (sym (same j)) (h j d lt)
 
-back_same : (c : Config) (events : List Event) (e : Event) (all : ℕ → List (List ℕ)) → ((j : ℕ) → told j (events ++ e ∷ []) ≡ told j events) → AllContinue c (events ++ e ∷ []) all → AllContinue c events all
+pub back_same : (c : Config) (events : List Event) (e : Event) (all : ℕ → List (List ℕ)) → ((j : ℕ) → told j (events ++ e ∷ []) ≡ told j events) → AllContinue c (events ++ e ∷ []) all → AllContinue c events all
 back_same c events e all same h = λ j lt. subst (λ (t : Told). Continues t (all j)) (same j) (h j lt)
 
 pub holds_gave : (inputs : List Input) (s : Signalling) (frames : ℕ) (old new : Flow) (n m : ℕ) (left next : List Body) (c : Config) (events : List Event) → new.finished ≡ old.finished
@@ -155,7 +162,7 @@ holds_gave inputs s frames old new n m left next c events fin step h =
       fed = fed_same inputs c events Gave same h.fed;
       pre = h.pre;
       conf = h.conf;
-      frames_are = h.frames_are ∙ sym (count_same (begun events) false (begun (events ++ Gave ∷ [])) (begun_with events Gave) refl);
+      frames_are = h.frames_are ∙ sym (begun_same events Gave refl);
       last = fin ∙ h.last ∙ sym (finished_same events Gave refl);
       flows = λ all more. subst (λ (k : ℕ). Flows new c m next (bodies_before c all frames) k) (sym (given_with events Gave))
           (step (bodies_before c all frames) (given events) (h.flows all (back_same c events Gave all same more)));
@@ -170,9 +177,9 @@ holds_finish inputs s frames old new n left c events fin step h =
       fed = fed_same inputs c events Finished same h.fed;
       pre = h.pre;
       conf = h.conf;
-      frames_are = h.frames_are ∙ sym (count_same (begun events) false (begun (events ++ Finished ∷ [])) (begun_with events Finished) refl);
+      frames_are = h.frames_are ∙ sym (begun_same events Finished refl);
       last = fin ∙ sym (finished_now events);
-      flows = λ all more. subst (λ (k : ℕ). Flows new c n left (bodies_before c all frames) k) (sym (count_same (given events) false (given (events ++ Finished ∷ [])) (given_with events Finished) refl))
+      flows = λ all more. subst (λ (k : ℕ). Flows new c n left (bodies_before c all frames) k) (sym (given_same events Finished refl))
           (step (bodies_before c all frames) (given events) (h.flows all (back_same c events Finished all same more)));
     }
 
@@ -204,13 +211,13 @@ new_bodies c s n dynamic blocks f p q d len h =
     step_is c n (l1_body c n s.pre s.conf dynamic) (blocks_left c n blocks 0 0) (n % c.frames == 0)
     ∙ rw (p, q, counts, rest) refl
 
-pub bodies_more : (c : Config) (all : ℕ → List (List ℕ)) (n : ℕ) → bodies_before c all (n + 1) ≡ bodies_before c all n ++ of_frame n (frame_bodies c n (frame_blocks c all n))
+pub bodies_more : (c : Config) (all : ℕ → List (List ℕ)) (n : ℕ) → bodies_before c all (n + 1) ≡ bodies_before c all n ++ of_frame n (frame_bodies c n (plp_blocks c all n))
 bodies_more c all n =
     let z : 0 + n ≡ n = omega arith in
     let r : range_with_len 0 (n + 1) ≡ range_with_len 0 n ++ n ∷ [] = range_more 0 n ∙ ap (λ (m : ℕ). range_with_len 0 n ++ m ∷ []) z in
-    ap (flat_map (λ m. of_frame m (frame_bodies c m (frame_blocks c all m)))) r
-    ∙ flat_map-append (λ m. of_frame m (frame_bodies c m (frame_blocks c all m))) (range_with_len 0 n) (n ∷ [])
-    ∙ ap (λ (l : List (ℕ × Body)). bodies_before c all n ++ l) (append-nil (of_frame n (frame_bodies c n (frame_blocks c all n))))
+    ap (flat_map (λ m. of_frame m (frame_bodies c m (plp_blocks c all m)))) r
+    ∙ flat_map-append (λ m. of_frame m (frame_bodies c m (plp_blocks c all m))) (range_with_len 0 n) (n ∷ [])
+    ∙ ap (λ (l : List (ℕ × Body)). bodies_before c all n ++ l) (append-nil (of_frame n (frame_bodies c n (plp_blocks c all n))))
 
 pub holds_begin : (old new : List Input) (s : Signalling) (frames : ℕ) (flow next : Flow) (n m : ℕ) (left begin rest : List Body) (dynamic : List Bool) (blocks : List (List (List ℕ))) (c : Config) (events : List Event)
     → flow.dry ≡ true → next.finished ≡ flow.finished → AllFed new c (events ++ Begun ∷ [])
@@ -228,12 +235,12 @@ holds_begin old new s frames flow next n m left begin rest dynamic blocks c even
       let cont = back_begun c events all more in
       let was = h.flows all cont in
       let gone = was.dried dry in
-      let bits : (j : ℕ) → j < length c.plps → bits_at blocks j ≡ frame_blocks c all frames j =
-      λ j lt. subst (λ (k : ℕ). bits_at blocks j ≡ frame_blocks c all k j) (sym h.frames_are) (made all cont j lt) in
-      let bodies : begin ≡ frame_bodies c frames (frame_blocks c all frames) = is ∙ new_bodies c s frames dynamic blocks (frame_blocks c all frames) h.pre h.conf d len bits in
+      let bits : (j : ℕ) → j < length c.plps → bits_at blocks j ≡ plp_blocks c all frames j =
+      λ j lt. subst (λ (k : ℕ). bits_at blocks j ≡ plp_blocks c all k j) (sym h.frames_are) (made all cont j lt) in
+      let bodies : begin ≡ frame_bodies c frames (plp_blocks c all frames) = is ∙ new_bodies c s frames dynamic blocks (plp_blocks c all frames) h.pre h.conf d len bits in
       let longer : bodies_before c all frames ++ of_frame frames begin ≡ bodies_before c all (frames + 1) =
       ap (λ (l : List Body). bodies_before c all frames ++ of_frame frames l) bodies ∙ sym (bodies_more c all frames) in
-      subst (λ (k : ℕ). Flows next c m rest (bodies_before c all (frames + 1)) k) (sym (count_same (given events) false (given (events ++ Begun ∷ [])) (given_with events Begun) refl))
+      subst (λ (k : ℕ). Flows next c m rest (bodies_before c all (frames + 1)) k) (sym (given_same events Begun refl))
       (subst (λ (l : List (ℕ × Body)). Flows next c m rest l (given events)) longer
       (step _ (given events) (carries_more _ _ _ c n frames left begin (bodies_before c all frames) (given events) gone.1 was.carries)));
 }

@@ -17,7 +17,8 @@ use Rattle.t2mi_stream.specs.Pipe.{pipe}
 use Rattle.gateway_core.specs.Carried.{of_frame}
 use Rattle.gateway_core.specs.Events.{offered}
 use Rattle.gateway_core.specs.Laws.{NotYetLast, FrontsGrow, UnitsLaw, FrontsDecided, LastIsAll}
-use Rattle.gateway_core.specs.Packets.{l1_body, block_bodies, plp_bodies, with_stamp, counts_of, frame_bodies, frame_blocks, bodies_before, packets_from, front_packets}
+use Rattle.mode_adapt.specs.Blocks.{plp_blocks}
+use Rattle.gateway_core.specs.Packets.{l1_body, block_bodies, plp_bodies, with_stamp, counts_of, frame_bodies, bodies_before, packets_from, front_packets}
 use Rattle.gateway_core.specs.Signalling.{pre_part, conf_part, dyn_part}
 use Rattle.gateway_core.proofs.CarriedLemmas.{packets_append}
 use Rattle.gateway_core.proofs.HoldsLemmas.{flat_same, bodies_more}
@@ -49,7 +50,7 @@ bodies_split c all n zero = let z : n + 0 ≡ n = omega arith in ([], rw z (sym 
 bodies_split c all n (suc k) =
     let was = bodies_split c all n k in
     let z : n + suc k ≡ (n + k) + 1 = omega arith in
-    let last = of_frame (n + k) (frame_bodies c (n + k) (frame_blocks c all (n + k))) in
+    let last = of_frame (n + k) (frame_bodies c (n + k) (plp_blocks c all (n + k))) in
     (was.0 ++ last, ap (bodies_before c all) z ∙ bodies_more c all (n + k) ∙ ap (λ (l : List (ℕ × Body)). l ++ last) was.1 ∙ append_assoc (bodies_before c all n) was.0 last)
 
 pub fronts_grow : FrontsGrow
@@ -71,11 +72,11 @@ frame_same c n f g h =
     ap (λ (l : List ℕ). with_stamp c n (l1_body c n (pre_part c) (conf_part c) (dyn_part c n l) ∷ plp_bodies c n f 0)) counts
     ∙ ap (λ (l : List Body). with_stamp c n (l1_body c n (pre_part c) (conf_part c) (dyn_part c n (counts_of c g)) ∷ l)) blocks
 
-bodies_same : (c : Config) (all other : ℕ → List (List ℕ)) (n : ℕ) → ((m : ℕ) → m < n → frame_bodies c m (frame_blocks c all m) ≡ frame_bodies c m (frame_blocks c other m)) → bodies_before c all n ≡ bodies_before c other n
+bodies_same : (c : Config) (all other : ℕ → List (List ℕ)) (n : ℕ) → ((m : ℕ) → m < n → frame_bodies c m (plp_blocks c all m) ≡ frame_bodies c m (plp_blocks c other m)) → bodies_before c all n ≡ bodies_before c other n
 bodies_same c all other zero h = refl
 bodies_same c all other (suc n) h =
     subst (λ (k : ℕ). bodies_before c all k ≡ bodies_before c other k) (add-one n)
-    (bodies_more c all n ∙ ap (λ (l : List (ℕ × Body)). l ++ of_frame n (frame_bodies c n (frame_blocks c all n))) (bodies_same c all other n (λ m lt. h m (omega arith)))
+    (bodies_more c all n ∙ ap (λ (l : List (ℕ × Body)). l ++ of_frame n (frame_bodies c n (plp_blocks c all n))) (bodies_same c all other n (λ m lt. h m (omega arith)))
     ∙ ap (λ (l : List Body). bodies_before c other n ++ of_frame n l) (h n (omega arith)) ∙ sym (bodies_more c other n))
 
 pub units_first : CompleteLaw → UnitsLaw
@@ -88,7 +89,7 @@ units_first law c inputs k n le =
 pub fronts_decided : BlocksLaw → SlotLength → CountRises → FrontsDecided
 unfolding front_packets
 fronts_decided blocks slot rises c inputs other n plan h =
-    ap (packets_from c 0) (bodies_same c inputs other n (λ m lt. frame_same c m (frame_blocks c inputs m) (frame_blocks c other m) (λ j configured.
+    ap (packets_from c 0) (bodies_same c inputs other n (λ m lt. frame_same c m (plp_blocks c inputs m) (plp_blocks c other m) (λ j configured.
     blocks c j (packet_at (inputs j)) (packet_at (other j)) m plan configured (λ k inside.
     let s = slot c j plan.rules configured in
     let t : m * c.ticks ≤ (n - 1) * c.ticks = let d : m ≤ n - 1 = omega arith in mul-le-mul_right c.ticks d in
@@ -102,12 +103,12 @@ tick_same c f g (suc n) h =
     (tick_more c f n ∙ ap (λ (m : ℕ). max m (start c n (f n) + delay c n)) (tick_same c f g n (λ j lt. h j (omega arith)))
     ∙ ap (λ (k : ℕ). max (last_tick c g n) (start c n k + delay c n)) (h n (omega arith)) ∙ sym (tick_more c g n))
 
-count_same : (c : Config) (f g : ℕ → ℕ) → ((j : ℕ) → j < length c.plps → f j ≡ g j) → frame_count c f ≡ frame_count c g
+pub frame_count_same : (c : Config) (f g : ℕ → ℕ) → ((j : ℕ) → j < length c.plps → f j ≡ g j) → frame_count c f ≡ frame_count c g
 unfolding frame_count
-count_same c f g h = ap (λ (tick : ℕ). div_ceil tick (c.frames * c.ticks) * c.frames) (tick_same c f g (length c.plps) h)
+frame_count_same c f g h = ap (λ (tick : ℕ). div_ceil tick (c.frames * c.ticks) * c.frames) (tick_same c f g (length c.plps) h)
 
 pub last_all : LastIsAll
 last_all c events inputs last cont =
     let same : (j : ℕ) → j < length c.plps → length (offered j events) ≡ length (inputs j) =
     λ j lt. let h = cont j lt in sym (ap length (h.front ∙ ap (λ (l : List (List ℕ)). offered j events ++ l) (h.whole (last.ended j lt)) ∙ append-nil (offered j events))) in
-    ap (front_packets c inputs) (last.frames ∙ count_same c _ _ same)
+    ap (front_packets c inputs) (last.frames ∙ frame_count_same c _ _ same)

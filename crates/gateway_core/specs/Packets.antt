@@ -7,8 +7,7 @@ use Rattle.plp_config.specs.Plps.{plp_at}
 use Rattle.plp_config.specs.RunLength.{frame_count}
 use Rattle.plp_config.specs.Tables.{bw}
 use Rattle.plp_config.specs.declared.config.Config.{Config}
-use Rattle.mode_adapt.specs.Blocks.{blocks_of}
-use Rattle.mode_adapt.specs.Deletion.{packet_at}
+use Rattle.mode_adapt.specs.Blocks.{plp_blocks}
 use Rattle.t2mi_packet.specs.T2miPacket.{written_bits}
 use Rattle.t2mi_packet.specs.declared.packet.Body.{Body}
 use Rattle.t2mi_packet.specs.declared.packet.Body.TheVariants.{Block, L1Current, Timestamp}
@@ -45,13 +44,9 @@ counts_of c blocks = map (λ plp. length (blocks plp)) (range_with_len 0 (length
 abbrev pub frame_bodies : Config → ℕ → (ℕ → List (List Bool)) → List Body
 frame_bodies c n blocks = with_stamp c n (l1_body c n (pre_part c) (conf_part c) (dyn_part c n (counts_of c blocks)) ∷ plp_bodies c n blocks 0)
 
--- the blocks of each PLP in frame n, where these are the packets of its input, and null packets from their end on
-abbrev pub frame_blocks : Config → (ℕ → List (List ℕ)) → ℕ → ℕ → List (List Bool)
-frame_blocks c inputs n plp = blocks_of c plp c.ticks (packet_at (inputs plp)) n
-
 -- what the packets of the frames below n carry, each with the number of its frame
 abbrev pub bodies_before : Config → (ℕ → List (List ℕ)) → ℕ → List (ℕ × Body)
-bodies_before c inputs n = flat_map (λ m. map (λ body. (m, body)) (frame_bodies c m (frame_blocks c inputs m))) (range_with_len 0 n)
+bodies_before c inputs n = flat_map (λ m. map (λ body. (m, body)) (frame_bodies c m (plp_blocks c inputs m))) (range_with_len 0 n)
 
 -- a packet of frame n, by its number among all packets: packet_count is modulo 256, superframe_idx modulo 16
 abbrev pub packet_with : Config → ℕ → ℕ → Body → Packet

@@ -1,5 +1,6 @@
 // The packets of a frame, one by one.
 ghost use Rattle.std.specs.Prelude.{◌≡◌, ◌<◌, ◌≤◌, ◌^◌, length};
+ghost use Rattle.plp_config.specs.declared.moment.TheConstants.{MOST_FRAMES};
 
 use crate::packet::{write_block, write_signal, write_stamp};
 use crate::place::{block_at, next_place};
@@ -21,7 +22,7 @@ pub struct Frame {
     // The next block.
     pub plp: usize,
     pub block: usize,
-    ghost early: { number < 2 ^ 31 },
+    ghost early: { number < MOST_FRAMES },
     ghost short: { length dynamic ≤ 12319 },
 }
 

@@ -1,5 +1,6 @@
 // The gateway.
 ghost use Rattle.std.specs.Prelude.{◌≡◌, ◌<◌, ◌≤◌, ◌^◌, vec_len, length};
+ghost use Rattle.plp_config.specs.declared.moment.TheConstants.{MOST_FRAMES};
 ghost use Rattle.gateway_core.specs.InputsStandFor.{AreFor};
 
 use crate::flow::Flow;
@@ -29,7 +30,7 @@ pub struct Gateway<'p> {
     flow: Flow,
     ghost whole: { vec_len inputs ≡ length plan.now.plps },
     ghost most: { AreFor inputs.items plan.now },
-    ghost early: { frames ≤ 2 ^ 31 },
+    ghost early: { frames ≤ MOST_FRAMES },
     ghost blocks: { length frame.blocks.items ≤ length plan.now.plps },
 }
 
@@ -110,12 +111,12 @@ impl<'p> Gateway<'p> {
         end(&mut self.inputs, plp);
     }
 
-    /// Begins the frame under way, which wants no more packets and has a number below 2^31, once all complete units were taken and
+    /// Begins the frame under way, which wants no more packets and has a number below `plp_config::MOST_FRAMES`, once all complete units were taken and
     /// before [`Gateway::finish`]. After `OutOfMemory` the gateway is used no more.
     pub fn begin_frame(&mut self) -> Result<(), OutOfMemory>
         requires wanted { (plp : ℕ) → plp < plps_of self.old → wants_of self.old plp ≡ 0 }
         requires given { has_unit self.old ≡ false }
-        requires early { frame_of self.old < 2 ^ 31 }
+        requires early { frame_of self.old < MOST_FRAMES }
         requires open { has_finished self.old ≡ false }
         ensures stands { OnOk result ((c : Config) (events : List Event) → GatewayStandsFor self.old c events → GatewayStandsFor self.new c (events ++ Begun ∷ [])) }
         ensures frame { OnOk result (frame_of self.new ≡ frame_of self.old + 1) }

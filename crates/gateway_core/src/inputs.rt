@@ -1,5 +1,6 @@
 // The inputs of all PLPs.
 ghost use Rattle.std.specs.Prelude.{◌≡◌, ◌≢◌, ◌<◌, ◌≤◌, ◌+◌, ◌^◌, ◌++◌, ◌∷◌, [], ℕ, List, length, map, vec_len, slice_index, slice_index_or, IfOk, OnOk};
+ghost use Rattle.plp_config.specs.declared.moment.TheConstants.{MOST_FRAMES};
 ghost use Rattle.terms.specs.Bits.{bits_of};
 ghost use Rattle.plp_config.specs.Plps.{plp_at};
 ghost use Rattle.plp_config.specs.declared.config.Config.{Config};
@@ -71,7 +72,7 @@ fn cut_one(
 ) -> Result<FrameBytes, OutOfMemory>
     requires whole { length inputs.old ≡ length plan.now.plps }
     requires place { plp < length inputs.old }
-    requires early { frame < 2 ^ 31 }
+    requires early { frame < MOST_FRAMES }
     requires ready { slice_index (map wanted inputs.old) plp ≡ 0 }
     ensures cuts { IfOk result (CutsOne plan.now frame inputs.old inputs.new plp) }
     ensures most { SameMost inputs.old inputs.new }
@@ -89,7 +90,7 @@ pub fn cut(
     frame: u64,
 ) -> Result<Vec<FrameBytes>, OutOfMemory>
     requires whole { length inputs.old ≡ length plan.now.plps }
-    requires early { frame < 2 ^ 31 }
+    requires early { frame < MOST_FRAMES }
     requires ready { (plp : ℕ) → plp < length inputs.old → slice_index (map wanted inputs.old) plp ≡ 0 }
     ensures len { IfOk result (λ blocks. length blocks.items ≡ length plan.now.plps) }
     ensures fed { OnOk result ((events : List Event) → frame ≡ begun events → AllFed inputs.old plan.now events → AllFed inputs.new plan.now (events ++ Begun ∷ [])) }

@@ -6,6 +6,7 @@ use Rattle.std.proofs.lemmas.Bool.{cases_eq}
 use Rattle.plp_config.specs.RunLength.{frame_count}
 use Rattle.plp_config.specs.SlotTime.{slots_by}
 use Rattle.plp_config.specs.declared.config.Config.{Config}
+use Rattle.plp_config.specs.declared.moment.TheConstants.{MOST_FRAMES}
 use Rattle.t2mi_stream.specs.Complete.{complete_units}
 use Rattle.file_run.specs.Events as run
 use Rattle.gateway_core.specs.Events.{Event, Begun, Finished, offered, has_ended, begun, given, finished}
@@ -15,9 +16,9 @@ use Rattle.gateway_core.specs.Packets.{front_packets}
 use Rattle.gateway_core.specs.StandsFor.{GatewayStandsFor, IsLast, plps_of, wants_of}
 use Rattle.gateway_core.specs.Told.{Told, told}
 use Rattle.gateway_core.specs.declared.gateway.Gateway.{Gateway}
-use Rattle.gateway_core.proofs.HoldsLemmas.{finished_now}
+use Rattle.gateway_core.proofs.HoldsLemmas.{finished_now, back_begun, back_same, begun_with, begun_same, given_same, finished_same}
 use Rattle.gateway_core.proofs.InputsLemmas.{nothing_told, told_begun}
-use Rattle.gateway_run.specs.GatewayRun.{most_frames}
+use Rattle.gateway_core.proofs.LawLemmas.{frame_count_same}
 use Rattle.gateway_run.specs.Holds.{ArePackets, AreOffered, IsInTime, AreComplete, HasAll, NoTails, IsIn, StandsIn, Holds}
 use Rattle.gateway_run.specs.Ready.{IsReady}
 use Rattle.gateway_run.specs.declared.place.GatewayStop.TheVariants.{TooManyFrames, OutOfMemory}
@@ -25,9 +26,9 @@ use Rattle.gateway_run.specs.declared.place.Phase.{Phase}
 use Rattle.gateway_run.specs.declared.place.Phase.TheVariants.{Begins, Gives, Rests, Stopped}
 use Rattle.gateway_run.specs.declared.place.Place.{Place}
 use Rattle.gateway_run.specs.declared.stop.Ran.{Ran}
-use Rattle.gateway_run.proofs.EventLemmas.{none_wanted, wants_is, finished_is, begun_with, same_begun, same_given, same_finished, still_last, count_same, ended_cases}
+use Rattle.gateway_run.proofs.EventLemmas.{none_wanted, wants_is, finished_is, still_last, ended_cases}
 use Rattle.gateway_run.proofs.LawLemmas.{slots_rise}
-use Rattle.gateway_run.proofs.StepLemmas.{back_begun, back_same, sends_begun, sends_finished, time_same}
+use Rattle.gateway_run.proofs.StepLemmas.{sends_begun, sends_finished, time_same}
 
 -- what is known before a frame begins
 pub record IsBeforeFrame (c : Config) (g : Gateway) (events : List Event) (tails : ℕ → List ℕ) : Type 0 where
@@ -78,7 +79,7 @@ more_frames law c done g place ran h b not_last inputs k =
           omega (arith, m)
       | inl all ↦
           let same : frame_count c (λ j. length (offered j h.events)) ≡ frame_count c (λ j. length (inputs j)) =
-          count_same c (λ j. length (offered j h.events)) (λ j. length (inputs j)) (λ j lt.
+          frame_count_same c (λ j. length (offered j h.events)) (λ j. length (inputs j)) (λ j lt.
           let w = k j lt in let size : length (inputs j) ≡ length (offered j h.events) + length w.rest = ap length w.front ∙ length-append (offered j h.events) w.rest in
           let z = ap length (w.whole (all j lt)) in omega (arith, size, z)) in
           elim (cases_eq (begun h.events) (frame_count c (λ j. length (inputs j)))) [
@@ -105,7 +106,7 @@ time_begun c events all more off h =
           let s = ap (λ (k : ℕ). slots_by c plp (k * c.ticks)) same in
           omega (arith, m, all, s);
       few = λ inputs k. let f = more inputs (back_begun c events inputs k) in omega (arith, f, n);
-      last = λ on. absurd (let z : true ≡ false = sym on ∙ same_finished events Begun refl ∙ off in cc);
+      last = λ on. absurd (let z : true ≡ false = sym on ∙ finished_same events Begun refl ∙ off in cc);
     }
 
 -- A frame was begun.
@@ -117,7 +118,7 @@ pub frame_begun : NotYetLast → FrontsGrow → (c : Config) (done : List run.Ev
 frame_begun law grow c done g next place after ran now r e to one same not_last stands h =
     let b = before_frame c done g place ran r e h in
     let n : begun (h.events ++ Begun ∷ []) ≡ begun h.events + 1 = begun_with h.events Begun in
-    let m : given (h.events ++ Begun ∷ []) ≡ given h.events = same_given h.events Begun refl in
+    let m : given (h.events ++ Begun ∷ []) ≡ given h.events = given_same h.events Begun refl in
     let before : begun (h.events ++ Begun ∷ []) - 1 ≡ begun h.events = omega (arith, n) in
     let f = h.frames in
     record {
@@ -148,8 +149,8 @@ pub frames_ended : (c : Config) (done : List run.Event) (g next : Gateway) (plac
 frames_ended c done g next place after ran r e to last stands h =
     let b = before_frame c done g place ran r e h in
     let same : (plp : ℕ) → told plp (h.events ++ Finished ∷ []) ≡ told plp h.events = λ plp. nothing_told plp h.events Finished refl refl refl in
-    let n = same_begun h.events Finished refl in
-    let m = same_given h.events Finished refl in
+    let n = begun_same h.events Finished refl in
+    let m = given_same h.events Finished refl in
     record {
       plan = h.plan;
       events = h.events ++ Finished ∷ [];
@@ -189,7 +190,7 @@ moved_to c done g next place after ran h stands at none = record {
 }
 
 -- Another frame would be one too many.
-pub too_many : NotYetLast → (c : Config) (done : List run.Event) (g : Gateway) (place after : Place) (ran : Ran) → IsReady g c place ran → place.phase ≡ Begins → after.phase ≡ Stopped TooManyFrames → ran.frames ≡ most_frames
+pub too_many : NotYetLast → (c : Config) (done : List run.Event) (g : Gateway) (place after : Place) (ran : Ran) → IsReady g c place ran → place.phase ≡ Begins → after.phase ≡ Stopped TooManyFrames → ran.frames ≡ MOST_FRAMES
     → ((c : Config) (events : List Event) → GatewayStandsFor g c events → IsLast c events → ⊥) → Holds c done g place ran → Holds c done g after ran
 too_many law c done g place after ran r e to most not_last h =
     let b = before_frame c done g place ran r e h in

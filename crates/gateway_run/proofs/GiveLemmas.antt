@@ -12,6 +12,7 @@ use Rattle.gateway_core.specs.StandsFor.{GatewayStandsFor}
 use Rattle.gateway_core.specs.Told.{told}
 use Rattle.gateway_core.specs.declared.gateway.Gateway.{Gateway}
 use Rattle.gateway_core.proofs.InputsLemmas.{nothing_told}
+use Rattle.gateway_core.proofs.HoldsLemmas.{back_same, given_with, begun_same, finished_same}
 use Rattle.gateway_run.specs.Holds.{AreComplete, AreAll, HasGiven, NoTails, IsIn, StandsIn, Holds}
 use Rattle.gateway_run.specs.Ready.{IsGiving, IsLooked, IsReady, IsBehindAs}
 use Rattle.gateway_run.specs.declared.place.GatewayStop.TheVariants.{OutOfMemory}
@@ -19,9 +20,9 @@ use Rattle.gateway_run.specs.declared.place.Phase.{Phase}
 use Rattle.gateway_run.specs.declared.place.Phase.TheVariants.{Rests, Done, Stopped}
 use Rattle.gateway_run.specs.declared.place.Place.{Place}
 use Rattle.gateway_run.specs.declared.stop.Ran.{Ran}
-use Rattle.gateway_run.proofs.EventLemmas.{same_begun, given_with, same_finished, still_last, finished_is}
+use Rattle.gateway_run.proofs.EventLemmas.{still_last, finished_is}
 use Rattle.gateway_run.proofs.ReadyLemmas.{giving_cases}
-use Rattle.gateway_run.proofs.StepLemmas.{IsNext, back_same, sends_gave, time_same}
+use Rattle.gateway_run.proofs.StepLemmas.{IsNext, sends_gave, time_same}
 use Rattle.gateway_run.proofs.TakeLemmas.{offered_as, looked_in, looked_stands}
 
 stands_giving : (phase : Phase) (g : Gateway) (c : Config) (events : List Event) → IsGiving phase → StandsIn phase g c events → GatewayStandsFor g c events
@@ -42,7 +43,7 @@ no_tails phase c events tails i s =
 -- one unit more was given
 given_more : (c : Config) (events : List Event) (frames now : ℕ) → ((plp : ℕ) → told plp (events ++ Gave ∷ []) ≡ told plp events) → now ≡ frames → HasGiven c events frames → HasGiven c (events ++ Gave ∷ []) now
 given_more c events frames now same e h = record {
-  begun_all = (let b = h.begun_all in let n = same_begun events Gave refl in omega (arith, b, n, e));
+  begun_all = (let b = h.begun_all in let n = begun_same events Gave refl in omega (arith, b, n, e));
   units = λ inputs k.
       let w = h.units inputs (back_same c events Gave inputs same k) in
       let m = given_with events Gave in
@@ -52,14 +53,14 @@ given_more c events frames now same e h = record {
 
 in_giving : (phase : Phase) (c : Config) (events : List Event) (tails : ℕ → List ℕ) → IsGiving phase → ((plp : ℕ) → told plp (events ++ Gave ∷ []) ≡ told plp events) → IsIn c events tails phase → IsIn c (events ++ Gave ∷ []) tails phase
 in_giving phase c events tails i same s =
-    let n = same_begun events Gave refl in
+    let n = begun_same events Gave refl in
     elim (giving_cases phase i) [
       | inl gives ↦
           let at : NoTails tails × HasGiven c events (begun events - 1) = subst (λ (p : Phase). IsIn c events tails p) gives s in
           subst (λ (p : Phase). IsIn c (events ++ Gave ∷ []) tails p) (sym gives) (at.0, given_more c events (begun events - 1) (begun (events ++ Gave ∷ []) - 1) same (ap (λ (k : ℕ). k - 1) n) at.1)
       | inr rests ↦
           let at : NoTails tails × HasGiven c events (begun events) × (finished events ≡ true) = subst (λ (p : Phase). IsIn c events tails p) rests s in
-          subst (λ (p : Phase). IsIn c (events ++ Gave ∷ []) tails p) (sym rests) (at.0, given_more c events (begun events) (begun (events ++ Gave ∷ [])) same n at.1, same_finished events Gave refl ∙ at.2)
+          subst (λ (p : Phase). IsIn c (events ++ Gave ∷ []) tails p) (sym rests) (at.0, given_more c events (begun events) (begun (events ++ Gave ∷ [])) same n at.1, finished_same events Gave refl ∙ at.2)
     ]
 
 -- A unit was given.
@@ -76,14 +77,14 @@ unit_gave tell c done g next place ran now unit bytes i is frames units gives st
       plan = h.plan;
       events = h.events ++ Gave ∷ [];
       stands = giving_stands place.phase next c (h.events ++ Gave ∷ []) i (stands c h.events s);
-      frames = frames ∙ h.frames ∙ sym (same_begun h.events Gave refl);
+      frames = frames ∙ h.frames ∙ sym (begun_same h.events Gave refl);
       units = (let u = h.units in let m = given_with h.events Gave in omega (arith, units, u, m));
       tails = h.tails;
       inputs = record {
         each = λ plp lt. offered_as _ _ _ _ (told plp h.events) (told plp (h.events ++ Gave ∷ [])) _ (f.fed plp) (f.ended plp) (same plp) (h.inputs.each plp lt);
         whole = λ plp on. none plp;
       };
-      time = time_same c h.events Gave same refl (λ on. still_last c h.events Gave same (h.time.last (sym (same_finished h.events Gave refl) ∙ on))) h.time;
+      time = time_same c h.events Gave same refl (λ on. still_last c h.events Gave same (h.time.last (sym (finished_same h.events Gave refl) ∙ on))) h.time;
       sends = sends_gave c done (done ++ run.Gave bytes ∷ []) h.events unit (f.gave ∙ ap (λ (l : List ℕ). run.gave done ++ l) is) (gives c h.events s) h.sends;
       is_in = in_giving place.phase c h.events h.tails i same h.is_in;
       cut = λ plp some p. absurd (some (none plp));

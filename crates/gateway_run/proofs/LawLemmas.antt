@@ -5,8 +5,9 @@ use Rattle.std.proofs.lemmas.Nat.{le-div}
 use Rattle.std.proofs.lemmas.Bool.{cases_lt}
 use Rattle.plp_config.specs.SlotTime.{slots_by, num, den}
 use Rattle.plp_config.specs.declared.config.Config.{Config}
+use Rattle.plp_config.specs.declared.moment.TheConstants.{MOST_FRAMES}
 use Rattle.ts_packet.specs.TsFile.{packets_in}
-use Rattle.gateway_run.specs.GatewayRun.{most_frames, WantsBad, MeetsBad, MeetsNone}
+use Rattle.gateway_run.specs.GatewayRun.{WantsBad, MeetsBad, MeetsNone}
 use Rattle.gateway_run.specs.Laws.{OneRun}
 use Rattle.gateway_run.specs.declared.stop.Ran.{Ran}
 use Rattle.gateway_run.specs.declared.stop.RunStop.{RunStop}
@@ -67,8 +68,8 @@ ran_of f g u v e h = rw (e, h) refl
 same_ran : (ran other : Ran) → ran.frames ≡ other.frames → ran.units ≡ other.units → (let r : Result Ran RunStop = Ok ran in r) ≡ Ok other
 same_ran ran other e f = ran_of ran.frames other.frames ran.units other.units e f
 
-never_bad : (c : Config) (files : ℕ → List ℕ) (frame plp packet : ℕ) → MeetsBad c files frame plp packet → frame ≤ most_frames → MeetsNone c files most_frames → ⊥
-never_bad c files frame plp packet a le none = none plp a.place (still_wants c files frame most_frames plp le a.wants)
+never_bad : (c : Config) (files : ℕ → List ℕ) (frame plp packet : ℕ) → MeetsBad c files frame plp packet → frame ≤ MOST_FRAMES → MeetsNone c files MOST_FRAMES → ⊥
+never_bad c files frame plp packet a le none = none plp a.place (still_wants c files frame MOST_FRAMES plp le a.wants)
 
 pub runs_once : OneRun
 runs_once c files (Ok ran) (Ok other) a b = same_ran ran other (a.1 ∙ sym b.1) (a.2 ∙ sym b.2)

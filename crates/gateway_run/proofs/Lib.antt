@@ -11,3 +11,4 @@ pub mod ReadyLemmas
 pub mod RunLemmas
 pub mod StepLemmas
 pub mod TakeLemmas
+pub mod EndLemmas

@@ -16,6 +16,7 @@ use Rattle.gateway_core.specs.Laws.{UnitsLaw, FrontsGrow, LastIsAll}
 use Rattle.gateway_core.specs.Packets.{front_packets, packets_of}
 use Rattle.gateway_core.specs.StandsFor.{IsLast}
 use Rattle.gateway_core.specs.declared.gateway.Gateway.{Gateway}
+use Rattle.gateway_core.proofs.LawLemmas.{frame_count_same}
 use Rattle.gateway_run.specs.GatewayRun.{inputs_of, frames_of, units_of, MeetsNone, MeetsBad}
 use Rattle.gateway_run.specs.Holds.{IsOffered, AreComplete, AreAll, HasGiven, HasAll, MetBad, NoTails, IsIn, Holds}
 use Rattle.gateway_run.specs.declared.place.Phase.{Phase}
@@ -23,7 +24,6 @@ use Rattle.gateway_run.specs.declared.place.Phase.TheVariants.{Done, Stopped}
 use Rattle.gateway_run.specs.declared.place.GatewayStop.TheVariants.{Bad, OutOfMemory}
 use Rattle.gateway_run.specs.declared.place.Place.{Place}
 use Rattle.gateway_run.specs.declared.stop.Ran.{Ran}
-use Rattle.gateway_run.proofs.EventLemmas.{count_same}
 use Rattle.gateway_run.proofs.FileLemmas.{IsRead, continues, taken_all, none_bad, next_bad, not_wanted, still_bad}
 use Rattle.gateway_run.proofs.FrameLemmas.{same_front, shorter_front}
 
@@ -74,7 +74,7 @@ gave_all c done g place ran e h files places are =
     let ended : (plp : ℕ) (lt : plp < length c.plps) → IsRead (files plp) (offered plp h.events) true (h.tails plp ++ (are plp lt).more) = λ plp lt.
     subst (λ (b : Bool). IsRead (files plp) (offered plp h.events) b (h.tails plp ++ (are plp lt).more)) (last.ended plp lt) (reads c done g place ran h files places are plp lt) in
     let frames : begun h.events ≡ frames_of c files =
-    last.frames ∙ count_same c (λ j. length (offered j h.events)) (λ j. length (inputs_of files j)) (λ j lt. ap length (sym (taken_all (files j) (offered j h.events) _ (ended j lt)))) in
+    last.frames ∙ frame_count_same c (λ j. length (offered j h.events)) (λ j. length (inputs_of files j)) (λ j lt. ap length (sym (taken_all (files j) (offered j h.events) _ (ended j lt)))) in
     let all = h.sends.front (inputs_of files) k [] (λ _. refl) in
     let whole : pipe c.pid (front_packets c (inputs_of files) (begun h.events)) ≡ h.sends.units ++ all.0 = ap (pipe c.pid) (sym (append-nil (front_packets c (inputs_of files) (begun h.events)))) ∙ all.1 in
     let size = i.2 (inputs_of files) k in

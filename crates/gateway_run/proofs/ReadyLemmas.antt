@@ -1,9 +1,9 @@
 -- What a gateway is ready for behind a step.
 use Rattle.std.proofs.Common.{◌≡◌, ℕ, ◌+◌, ◌*◌, ◌^◌, ◌<◌, ◌≤◌, false, length, refl, ap, sym, subst, ◌∙◌, arith, inl, inr, ◌⊎◌}
 use Rattle.plp_config.specs.declared.config.Config.{Config}
+use Rattle.plp_config.specs.declared.moment.TheConstants.{MOST_FRAMES}
 use Rattle.gateway_core.specs.StandsFor.{Status, status_of, plps_of, wants_of, frame_of, has_unit, bytes_left}
 use Rattle.gateway_core.specs.declared.gateway.Gateway.{Gateway}
-use Rattle.gateway_run.specs.GatewayRun.{most_frames}
 use Rattle.gateway_run.specs.Ready.{IsIdle, IsReady, IsGiving, IsUsed, IsLookedAs, IsLooked, IsBehindAs}
 use Rattle.gateway_run.specs.declared.place.Phase.{Phase}
 use Rattle.gateway_run.specs.declared.place.Phase.TheVariants.{Wants, Begins, Gives, Rests, Done, Stopped}
@@ -25,7 +25,7 @@ giving_used phase i = elim (giving_cases phase i) [ inl gives ↦ subst (λ (p :
 pub record IsCounted (g : Gateway) (c : Config) (ran : Ran) : Type 0 where
   pub plps : plps_of g ≡ length c.plps
   pub frames : ran.frames ≡ frame_of g
-  pub early : ran.frames ≤ most_frames
+  pub early : ran.frames ≤ MOST_FRAMES
   pub few : ran.units + bytes_left g ≤ ran.frames * 2 ^ 32
 
 pub looked_ready : (g : Gateway) (c : Config) (after : Place) (ran : Ran) → IsCounted g c ran → IsIdle g → IsLooked g 0 (length c.plps) after → IsReady g c after ran

@@ -6,6 +6,7 @@ use Rattle.std.proofs.lemmas.Option.{IfSome_then}
 use Rattle.ports.specs.Desk.{State}
 use Rattle.plp_config.specs.SlotTime.{slots_by}
 use Rattle.plp_config.specs.declared.config.Config.{Config}
+use Rattle.plp_config.specs.declared.moment.TheConstants.{MOST_FRAMES}
 use Rattle.ts_packet.specs.TsFile.{joined}
 use Rattle.ts_packet.specs.declared.sizes.TheConstants.{SIZE}
 use Rattle.t2mi_stream.specs.Complete.{complete_units}
@@ -13,7 +14,7 @@ use Rattle.desk_io.specs.Reading.{most_bytes}
 use Rattle.file_run.specs.Events as run
 use Rattle.file_run.specs.Laws.{EventsTell}
 use Rattle.file_run.specs.FileRun as driver
-use Rattle.file_run.specs.FileRun.{file_at, AreFed, Works, AllShort}
+use Rattle.file_run.specs.FileRun.{file_at, AreFed, Works}
 use Rattle.file_run.specs.Steps.{Wants, FallsShort}
 use Rattle.file_run.specs.declared.machine.Step.TheVariants.{Read, Give, End}
 use Rattle.file_run.specs.declared.stop.RunFault.{RunFault}
@@ -24,7 +25,7 @@ use Rattle.gateway_core.specs.Laws.{UnitsLaw, FrontsGrow, LastIsAll}
 use Rattle.gateway_core.specs.Packets.{front_packets}
 use Rattle.gateway_core.specs.declared.gateway.Gateway.{Gateway}
 use Rattle.gateway_run.specs.AsMachine.{becomes, step_of, next_of, frame_read, reach_of, ending_of, stop_by}
-use Rattle.gateway_run.specs.GatewayRun.{most_frames, inputs_of, frames_of, units_of, MeetsNone, MeetsNoneBefore, ReadsNoFurther, BeginsUnits, BeginsSome, RunsAll, StopsAtBad, StopsTooLong, StopsReading, StopsWriting, LacksMemory, Stops}
+use Rattle.gateway_run.specs.GatewayRun.{inputs_of, frames_of, units_of, MeetsNone, MeetsNoneBefore, ReadsNoFurther, BeginsUnits, BeginsSome, RunsAll, StopsAtBad, StopsTooLong, StopsReading, StopsWriting, LacksMemory, Stops}
 use Rattle.gateway_run.specs.Holds.{NoTails, HasGiven, IsOneTooMany, MetBad, IsIn, Holds}
 use Rattle.gateway_run.specs.Ready.{IsReady}
 use Rattle.gateway_run.specs.declared.machine.GatewayMachine.{GatewayMachine}
@@ -104,12 +105,12 @@ front_works grow law start now old new out ins count s = works_by (λ files byte
 
 -- A frame would begin of which none may have the number.
 pub too_many_frames : FrontsGrow → LastIsAll → (start now : GatewayMachine) (old new : State) (out : List ℕ) (ins : List (List ℕ)) → length ins ≡ length start.plan.now.plps → now.place.phase ≡ phase.Stopped TooManyFrames
-    → driver.RunsAll old new out ins (reach_of now) (λ events. becomes start events now) → StopsTooLong start.plan.now old new out ins most_frames
+    → driver.RunsAll old new out ins (reach_of now) (λ events. becomes start events now) → StopsTooLong start.plan.now old new out ins MOST_FRAMES
 too_many_frames grow law start now old new out ins count e r =
     let s = r.stands in
     let h = holds_of start now s.events s.came in
     let m : IsOneTooMany start.plan.now h.events h.tails = subst (λ (p : Phase). IsIn start.plan.now h.events h.tails p) e h.is_in in
-    let frame : now.ran.frames ≡ most_frames = h.frames ∙ m.frame in
+    let frame : now.ran.frames ≡ MOST_FRAMES = h.frames ∙ m.frame in
     record {
       places = s.places;
       works = front_works grow law start now old new out ins count s;
@@ -256,7 +257,7 @@ known_at c done g place ran phase.Rests e gives r h =
 known_at c done g place ran phase.Done e gives r h = absurd (let z : End ≡ Give = gives in cc)
 known_at c done g place ran (phase.Stopped why) e gives r h = absurd (let z : End ≡ Give = gives in cc)
 
-read_early : (p : Phase) (frames : ℕ) → frames ≤ most_frames → frame_read p frames ≤ most_frames
+read_early : (p : Phase) (frames : ℕ) → frames ≤ MOST_FRAMES → frame_read p frames ≤ MOST_FRAMES
 read_early phase.Wants frames le = le
 read_early phase.Begins frames le = le
 read_early phase.Gives frames le = omega (arith, le)

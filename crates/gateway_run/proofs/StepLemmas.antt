@@ -1,7 +1,6 @@
 -- What events more leave of what was.
-use Rattle.std.proofs.Common.{◌≡◌, ℕ, ◌+◌, ◌-◌, ◌*◌, ◌≤◌, true, false, List, [], ◌∷◌, ◌++◌, length, refl, ap, sym, subst, ◌∙◌, inl, inr, arith, append_assoc}
+use Rattle.std.proofs.Common.{◌≡◌, ℕ, ◌+◌, ◌-◌, ◌*◌, ◌≤◌, true, false, List, [], ◌∷◌, ◌++◌, length, refl, ap, sym, ◌∙◌, arith, append_assoc}
 use Rattle.std.specs.Prelude.{slice_get, Some}
-use Rattle.std.proofs.lemmas.Bool.{cases_eq}
 use Rattle.std.proofs.lemmas.List.{length_push}
 use Rattle.plp_config.specs.RunLength.{frame_count}
 use Rattle.plp_config.specs.SlotTime.{slots_by}
@@ -12,50 +11,14 @@ use Rattle.gateway_core.specs.Events.{Event, Offered, Ended, Begun, Gave, Finish
 use Rattle.gateway_core.specs.InputsStandFor.{AllContinue}
 use Rattle.gateway_core.specs.Laws.{FrontsGrow}
 use Rattle.gateway_core.specs.Packets.{front_packets}
-use Rattle.gateway_core.specs.Told.{Told, told, with_packet, at_end, in_next, Continues}
-use Rattle.gateway_core.proofs.InputsLemmas.{nothing_told, told_offered, told_ended, told_begun}
+use Rattle.gateway_core.specs.Told.{Told, told}
+use Rattle.gateway_core.proofs.InputsLemmas.{nothing_told}
 use Rattle.gateway_core.specs.StandsFor.{IsLast}
 use Rattle.file_run.specs.Events as run
+use Rattle.gateway_core.proofs.HoldsLemmas.{back_offered, back_ended, back_begun, back_same, begun_with, given_with, begun_same, given_same, finished_same}
 use Rattle.gateway_run.specs.Holds.{AreComplete, Sends, IsInTime}
 use Rattle.gateway_run.proofs.FileLemmas.{joined_push}
 use Rattle.gateway_run.proofs.FrameLemmas.{next_element}
-use Rattle.gateway_run.proofs.EventLemmas.{same_begun, same_given, same_finished, begun_with, given_with, other_offered, other_ended}
-
-cont_packet : (t : Told) (packet : List ℕ) (input : List (List ℕ)) → t.ended ≡ false → Continues (with_packet t packet) input → Continues t input
-cont_packet t packet input off h = record {
-  rest = packet ∷ h.rest;
-  front = h.front ∙ append_assoc t.packets (packet ∷ []) h.rest;
-  whole = λ on. absurd (let z : true ≡ false = sym on ∙ off in cc);
-}
-
-cont_end : (t : Told) (input : List (List ℕ)) → Continues (at_end t) input → Continues t input
-cont_end t input h = record { rest = h.rest; front = h.front; whole = λ on. h.whole refl }
-
-cont_next : (t : Told) (input : List (List ℕ)) → Continues (in_next t) input → Continues t input
-cont_next t input h = record { rest = h.rest; front = h.front; whole = h.whole }
-
-back_offered : (c : Config) (events : List Event) (plp : ℕ) (packet : List ℕ) (all : ℕ → List (List ℕ)) → has_ended plp events ≡ false
-    → AllContinue c (events ++ Offered plp packet ∷ []) all → AllContinue c events all
-back_offered c events plp packet all off h = λ j lt.
-    elim (cases_eq j plp) [
-      | inl same ↦ subst (λ (k : ℕ). Continues (told k (events ++ Offered plp packet ∷ [])) (all k) → Continues (told k events) (all k)) (sym same)
-          (λ w. cont_packet (told plp events) packet (all plp) off (subst (λ (t : Told). Continues t (all plp)) (told_offered plp events packet) w)) (h j lt)
-      | inr differ ↦ subst (λ (t : Told). Continues t (all j)) (other_offered j plp events packet differ) (h j lt)
-    ]
-
-back_ended : (c : Config) (events : List Event) (plp : ℕ) (all : ℕ → List (List ℕ)) → AllContinue c (events ++ Ended plp ∷ []) all → AllContinue c events all
-back_ended c events plp all h = λ j lt.
-    elim (cases_eq j plp) [
-      | inl same ↦ subst (λ (k : ℕ). Continues (told k (events ++ Ended plp ∷ [])) (all k) → Continues (told k events) (all k)) (sym same)
-          (λ w. cont_end (told plp events) (all plp) (subst (λ (t : Told). Continues t (all plp)) (told_ended plp events) w)) (h j lt)
-      | inr differ ↦ subst (λ (t : Told). Continues t (all j)) (other_ended j plp events differ) (h j lt)
-    ]
-
-pub back_begun : (c : Config) (events : List Event) (all : ℕ → List (List ℕ)) → AllContinue c (events ++ Begun ∷ []) all → AllContinue c events all
-back_begun c events all h = λ j lt. cont_next (told j events) (all j) (subst (λ (t : Told). Continues t (all j)) (told_begun j events) (h j lt))
-
-pub back_same : (c : Config) (events : List Event) (e : Event) (all : ℕ → List (List ℕ)) → ((j : ℕ) → told j (events ++ e ∷ []) ≡ told j events) → AllContinue c (events ++ e ∷ []) all → AllContinue c events all
-back_same c events e all same h = λ j lt. subst (λ (t : Told). Continues t (all j)) (same j) (h j lt)
 
 -- The units are the first ones whatever follows.
 abbrev pub IsFront : Config → List Event → List (List ℕ) → Type 0
@@ -76,17 +39,17 @@ pub record IsStep (c : Config) (old new : List Event) : Type 0 where
 pub step_offered : (c : Config) (events : List Event) (plp : ℕ) (packet : List ℕ) → has_ended plp events ≡ false → IsStep c events (events ++ Offered plp packet ∷ [])
 step_offered c events plp packet off = record {
   back = λ inputs h. back_offered c events plp packet inputs off h;
-  begun_is = same_begun events (Offered plp packet) refl;
-  given_is = same_given events (Offered plp packet) refl;
-  finished_is = same_finished events (Offered plp packet) refl;
+  begun_is = begun_same events (Offered plp packet) refl;
+  given_is = given_same events (Offered plp packet) refl;
+  finished_is = finished_same events (Offered plp packet) refl;
 }
 
 pub step_ended : (c : Config) (events : List Event) (plp : ℕ) → IsStep c events (events ++ Ended plp ∷ [])
 step_ended c events plp = record {
   back = λ inputs h. back_ended c events plp inputs h;
-  begun_is = same_begun events (Ended plp) refl;
-  given_is = same_given events (Ended plp) refl;
-  finished_is = same_finished events (Ended plp) refl;
+  begun_is = begun_same events (Ended plp) refl;
+  given_is = given_same events (Ended plp) refl;
+  finished_is = finished_same events (Ended plp) refl;
 }
 
 pub complete_kept : (c : Config) (old new : List Event) → IsStep c old new → AreComplete c old → AreComplete c new
@@ -110,7 +73,7 @@ pub sends_begun : FrontsGrow → (c : Config) (done : List run.Event) (events : 
 sends_begun law c done events off h = record {
   units = h.units;
   gave = h.gave;
-  count = same_given events Begun refl ∙ h.count;
+  count = given_same events Begun refl ∙ h.count;
   front = λ inputs k more none.
       let grown = law c inputs (begun events) 1 in
       let n : begun (events ++ Begun ∷ []) ≡ begun events + 1 = begun_with events Begun in
@@ -123,11 +86,11 @@ pub sends_finished : (c : Config) (done : List run.Event) (events : List Event) 
 sends_finished c done events off h = record {
   units = h.units;
   gave = h.gave;
-  count = same_given events Finished refl ∙ h.count;
+  count = given_same events Finished refl ∙ h.count;
   front = λ inputs k more none.
       let same : (plp : ℕ) → told plp (events ++ Finished ∷ []) ≡ told plp events = λ plp. nothing_told plp events Finished refl refl refl in
       let r = h.front inputs (back_same c events Finished inputs same k) more (λ on. absurd (let z : true ≡ false = sym on ∙ off in cc)) in
-      (r.0, ap (λ (n : ℕ). pipe c.pid (front_packets c inputs n ++ more)) (same_begun events Finished refl) ∙ r.1);
+      (r.0, ap (λ (n : ℕ). pipe c.pid (front_packets c inputs n ++ more)) (begun_same events Finished refl) ∙ r.1);
 }
 
 -- What is told of a unit that was given: whatever packets follow, it is the next one of all.
@@ -144,17 +107,17 @@ sends_gave c done is events unit gave gives h = record {
   front = λ inputs k more none.
       let same : (plp : ℕ) → told plp (events ++ Gave ∷ []) ≡ told plp events = λ plp. nothing_told plp events Gave refl refl refl in
       let was : AllContinue c events inputs = back_same c events Gave inputs same k in
-      let end : finished events ≡ true → more ≡ [] = λ on. none (same_finished events Gave refl ∙ on) in
+      let end : finished events ≡ true → more ≡ [] = λ on. none (finished_same events Gave refl ∙ on) in
       let r = h.front inputs was more end in
       let n = next_element h.units r.0 unit (sym (ap (λ (l : List (List ℕ)). slice_get l (length h.units)) r.1) ∙ ap (slice_get (pipe c.pid (front_packets c inputs (begun events) ++ more))) (sym h.count) ∙ gives inputs was more end) in
-      (n.0, ap (λ (m : ℕ). pipe c.pid (front_packets c inputs m ++ more)) (same_begun events Gave refl) ∙ r.1 ∙ ap (λ (l : List (List ℕ)). h.units ++ l) n.1 ∙ sym (append_assoc h.units (unit ∷ []) n.0));
+      (n.0, ap (λ (m : ℕ). pipe c.pid (front_packets c inputs m ++ more)) (begun_same events Gave refl) ∙ r.1 ∙ ap (λ (l : List (List ℕ)). h.units ++ l) n.1 ∙ sym (append_assoc h.units (unit ∷ []) n.0));
 }
 
 -- Nothing was told of inputs, and no frame was begun.
 pub time_same : (c : Config) (events : List Event) (e : Event) → ((plp : ℕ) → told plp (events ++ e ∷ []) ≡ told plp events) → begins e ≡ false → (finished (events ++ e ∷ []) ≡ true → IsLast c (events ++ e ∷ [])) → IsInTime c events
     → IsInTime c (events ++ e ∷ [])
 time_same c events e same off last h =
-    let n = same_begun events e off in
+    let n = begun_same events e off in
     record {
       within = λ plp lt. let m = ap (λ (t : Told). length t.packets) (same plp) in let le = h.within plp lt in let s = ap (λ (k : ℕ). slots_by c plp (k * c.ticks)) n in omega (arith, m, s, le);
       there = λ plp lt on. let m = ap (λ (t : Told). length t.packets) (same plp) in let le = h.there plp lt (sym (ap (λ (t : Told). t.ended) (same plp)) ∙ on) in let s = ap (λ (k : ℕ). slots_by c plp ((k - 1) * c.ticks)) n in omega (arith, m, s, le);

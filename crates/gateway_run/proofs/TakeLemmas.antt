@@ -14,6 +14,7 @@ use Rattle.gateway_core.specs.StandsFor.{GatewayStandsFor, IsLast, wants_of}
 use Rattle.gateway_core.specs.Told.{Told, told}
 use Rattle.gateway_core.specs.declared.gateway.Gateway.{Gateway}
 use Rattle.gateway_core.proofs.InputsLemmas.{told_offered, told_ended}
+use Rattle.gateway_core.proofs.HoldsLemmas.{other_offered, other_ended}
 use Rattle.gateway_run.specs.Holds.{ArePackets, IsOffered, IsInTime, AreComplete, HasAll, MetBad, StopsFor, NoTails, IsIn, StandsIn, Holds}
 use Rattle.gateway_run.specs.Ready.{IsReady, IsLookedAs, IsLooked, IsBad, IsBadAs}
 use Rattle.gateway_run.specs.declared.place.GatewayStop.{GatewayStop}
@@ -22,7 +23,7 @@ use Rattle.gateway_run.specs.declared.place.Phase.{Phase}
 use Rattle.gateway_run.specs.declared.place.Phase.TheVariants.{Wants, Begins, Gives, Rests, Done, Stopped}
 use Rattle.gateway_run.specs.declared.place.Place.{Place}
 use Rattle.gateway_run.specs.declared.stop.Ran.{Ran}
-use Rattle.gateway_run.proofs.EventLemmas.{IsWanted, some_wanted, none_wanted, wants_is, finished_is, other_offered, other_ended}
+use Rattle.gateway_run.proofs.EventLemmas.{IsWanted, some_wanted, none_wanted, wants_is, finished_is}
 use Rattle.gateway_run.proofs.FileLemmas.{packets_push, joined_push}
 use Rattle.gateway_run.proofs.StepLemmas.{IsStep, step_offered, step_ended, complete_kept, sends_kept, few_kept}
 

@@ -1,10 +1,11 @@
 -- What a run of the gateway over files does, from the opening of its inputs on.
-use Rattle.std.specs.Prelude.{◌≡◌, ◌≢◌, ◌⊎◌, ℕ, ◌-◌, ◌*◌, ◌^◌, ◌<◌, ◌≤◌, List, [], ◌++◌, length, map, slice_index, slice_index_or, IsSome, IfSome}
+use Rattle.std.specs.Prelude.{◌≡◌, ◌≢◌, ◌⊎◌, ℕ, ◌-◌, ◌*◌, ◌<◌, ◌≤◌, List, [], ◌++◌, length, map, slice_index, slice_index_or, IsSome, IfSome}
 use Rattle.std.specs.FinMap.{get}
 use Rattle.ports.specs.Desk.{State, Held, SameCounts, bytes_of}
 use Rattle.plp_config.specs.RunLength.{frame_count}
 use Rattle.plp_config.specs.SlotTime.{slots_by}
 use Rattle.plp_config.specs.declared.config.Config.{Config}
+use Rattle.plp_config.specs.declared.moment.TheConstants.{MOST_FRAMES}
 use Rattle.ts_packet.specs.TsFile.{packets_in, HasBad, joined}
 use Rattle.ts_packet.specs.declared.sizes.TheConstants.{SIZE}
 use Rattle.t2mi_stream.specs.Pipe.{pipe}
@@ -15,10 +16,6 @@ use Rattle.desk_io.specs.Reading.{most_bytes}
 use Rattle.file_run.specs.FileRun.{file_at, OpensInputs, FailsToCreateOutput, Works, AllShort}
 use Rattle.gateway_run.specs.declared.stop.RunStop.{RunStop}
 use Rattle.gateway_run.specs.declared.stop.RunStop.TheVariants.{Bad, TooLong, ReadFault, WriteFault, OutOfMemory}
-
--- no frame has this number
-abbrev pub most_frames : ℕ
-most_frames = 2 ^ 31
 
 -- the packets of each file, up to its first bad one
 abbrev pub inputs_of : (ℕ → List ℕ) → ℕ → List (List ℕ)
@@ -64,7 +61,7 @@ pub record RunsAll (c : Config) (old new : State) (out : List ℕ) (ins : List (
   pub places : List ℕ
   pub works : Works old new out ins places (λ h bytes. bytes ≡ joined (units_of c (file_at h ins)))
   pub short : AllShort places
-  pub early : frames ≤ most_frames
+  pub early : frames ≤ MOST_FRAMES
   pub counts : SameCounts old new
   pub present : IfSome old.held (λ h. (plp : ℕ) → plp < length ins → IsSome (get h.files (slice_index_or ins plp [])))
   pub ends : IfSome old.held (λ h. places ≡ map (λ name. length (bytes_of h.files name)) ins)
@@ -83,7 +80,7 @@ pub record StopsAtBad (c : Config) (old new : State) (out : List ℕ) (ins : Lis
   pub works : Works old new out ins places (CompleteBefore c ins frame)
   pub short : AllShort places
   pub no_further : ReadsNoFurther c places frame
-  pub early : frame ≤ most_frames
+  pub early : frame ≤ MOST_FRAMES
   pub counts : SameCounts old new
   pub meets : IfSome old.held (λ h. MeetsBad c (file_at h ins) frame plp packet)
 
@@ -97,7 +94,7 @@ pub record GivesTooMuch (c : Config) (old : State) (ins : List (List ℕ)) (plac
   pub place : plp < length ins
   pub gave : slice_index places plp ≡ most_bytes
   pub frame : ℕ
-  pub early : frame ≤ most_frames
+  pub early : frame ≤ MOST_FRAMES
   pub wants : most_bytes ≤ SIZE * slots_by c plp (frame * c.ticks)
   pub no_further : ReadsNoFurther c places frame
   pub long : IfSome old.held (λ h. most_bytes ≤ length (file_at h ins plp))
@@ -109,7 +106,7 @@ pub record StopsTooLong (c : Config) (old new : State) (out : List ℕ) (ins : L
   pub works : Works old new out ins places (BeginsUnits c ins)
   pub counts : SameCounts old new
   pub cause : ((count ≡ most_bytes) × GivesTooMuch c old ins places)
-      ⊎ ((count ≡ most_frames) × AllShort places × IfSome old.held (λ h. MeetsNone c (file_at h ins) most_frames × (most_frames < frames_of c (file_at h ins))))
+      ⊎ ((count ≡ MOST_FRAMES) × AllShort places × IfSome old.held (λ h. MeetsNone c (file_at h ins) MOST_FRAMES × (MOST_FRAMES < frames_of c (file_at h ins))))
 
 -- An input of which a frame wants more than was read could not be read on, and no bad packet was met before. The output is the complete
 -- units of the frames before this one.
@@ -119,7 +116,7 @@ pub record StopsReading (c : Config) (old new : State) (out : List ℕ) (ins : L
   pub works : Works old new out ins places (λ h bytes. BeginsUnits c ins h bytes × CompleteBefore c ins frame h bytes)
   pub place : plp < length ins
   pub short : AllShort places
-  pub early : frame ≤ most_frames
+  pub early : frame ≤ MOST_FRAMES
   pub wants : slice_index places plp < SIZE * slots_by c plp (frame * c.ticks)
   pub no_further : ReadsNoFurther c places frame
   pub before : IfSome old.held (λ h. MeetsNoneBefore c (file_at h ins) frame plp)
@@ -138,7 +135,7 @@ pub record StopsWriting (c : Config) (old new : State) (out : List ℕ) (ins : L
   pub frame : ℕ
   pub works : Works old new out ins places (λ h bytes. BeginsSome c (file_at h ins) frame bytes)
   pub short : AllShort places
-  pub early : frame ≤ most_frames
+  pub early : frame ≤ MOST_FRAMES
   pub no_further : ReadsNoFurther c places frame
   pub before : IfSome old.held (λ h. MeetsNone c (file_at h ins) frame)
 

@@ -4,6 +4,7 @@ use Rattle.plp_config.specs.Capacity.{IsPlan}
 use Rattle.plp_config.specs.RunLength.{frame_count}
 use Rattle.plp_config.specs.SlotTime.{slots_by}
 use Rattle.plp_config.specs.declared.config.Config.{Config}
+use Rattle.plp_config.specs.declared.moment.TheConstants.{MOST_FRAMES}
 use Rattle.ts_packet.specs.TsFile.{joined, begins_with_packet}
 use Rattle.ts_packet.specs.declared.sizes.TheConstants.{SIZE, SYNC}
 use Rattle.t2mi_stream.specs.Complete.{complete_units}
@@ -14,7 +15,6 @@ use Rattle.gateway_core.specs.InputsStandFor.{AllContinue}
 use Rattle.gateway_core.specs.Packets.{front_packets}
 use Rattle.gateway_core.specs.StandsFor.{GatewayStandsFor, IsLast}
 use Rattle.gateway_core.specs.declared.gateway.Gateway.{Gateway}
-use Rattle.gateway_run.specs.GatewayRun.{most_frames}
 use Rattle.gateway_run.specs.declared.place.GatewayStop.{GatewayStop}
 use Rattle.gateway_run.specs.declared.place.GatewayStop.TheVariants.{Bad, TooManyFrames, OutOfMemory}
 use Rattle.gateway_run.specs.declared.place.Phase.{Phase}
@@ -89,7 +89,7 @@ NoTails tails = (plp : ℕ) → tails plp ≡ []
 -- All that the frame under way wants was offered, one of which none may have the number, and the run has it.
 pub record IsOneTooMany (c : Config) (events : List Event) (tails : ℕ → List ℕ) : Type 0 where
   pub none : NoTails tails
-  pub frame : begun events ≡ most_frames
+  pub frame : begun events ≡ MOST_FRAMES
   pub all : (plp : ℕ) → plp < length c.plps → HasAll c events plp
   pub more : (inputs : ℕ → List (List ℕ)) → AllContinue c events inputs → begun events < frame_count c (λ plp. length (inputs plp))
 

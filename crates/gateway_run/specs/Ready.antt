@@ -2,9 +2,9 @@
 use Rattle.std.specs.Prelude.{◌≡◌, ℕ, ◌<◌, ◌≤◌, ◌^◌, ◌*◌, ◌-◌, ◌+◌, true, false, length}
 use Rattle.plp_config.specs.declared.config.Config.{Config}
 use Rattle.plp_config.specs.SlotTime.{slots_by}
+use Rattle.plp_config.specs.declared.moment.TheConstants.{MOST_FRAMES}
 use Rattle.gateway_core.specs.StandsFor.{plps_of, wants_of, frame_of, has_unit, has_finished, bytes_left}
 use Rattle.gateway_core.specs.declared.gateway.Gateway.{Gateway}
-use Rattle.gateway_run.specs.GatewayRun.{most_frames}
 use Rattle.gateway_run.specs.declared.place.GatewayStop.TheVariants.{Bad}
 use Rattle.gateway_run.specs.declared.place.Phase.{Phase}
 use Rattle.gateway_run.specs.declared.place.Phase.TheVariants.{Wants, Begins, Gives, Rests, Done, Stopped}
@@ -53,7 +53,7 @@ IsGiving (Stopped why) = ⊥
 pub record IsReady (g : Gateway) (c : Config) (place : Place) (ran : Ran) : Type 0 where
   pub plps : plps_of g ≡ length c.plps
   pub frames_are : IsUsed place.phase → ran.frames ≡ frame_of g
-  pub early : ran.frames ≤ most_frames
+  pub early : ran.frames ≤ MOST_FRAMES
   -- so the units can be counted
   pub few : IsUsed place.phase → ran.units + bytes_left g ≤ ran.frames * 2 ^ 32
   pub wanting : place.phase ≡ Wants → IsWanting g place.plp
@@ -80,7 +80,7 @@ IsBad c plp frames wants place = IsBadAs c plp frames wants place.phase
 
 -- how much may still be given, in frames to begin and in bytes
 abbrev pub to_give : ℕ → Gateway → ℕ
-to_give frames g = (most_frames - frames) * 2 ^ 35 + 4 * bytes_left g
+to_give frames g = (MOST_FRAMES - frames) * 2 ^ 35 + 4 * bytes_left g
 
 -- Each giving makes it less.
 abbrev pub left_of : Gateway → Phase → ℕ → ℕ

@@ -1,7 +1,16 @@
 // Laws of the definitions. Their functions do nothing.
-ghost use Rattle.gateway_run.specs.Laws.{OneRun};
+ghost use Rattle.gateway_run.specs.Laws.{OneRun, RunEnds};
+
+use gateway_core::not_yet_last;
 
 /// Files of which none is too long decide how a run over them ends, where nothing outside fails.
 pub fn one_run()
     ensures { OneRun }
 {}
+
+/// A run of a plan over files has an ending, if nothing outside fails and no file is too long.
+pub fn run_ends()
+    ensures { RunEnds }
+{
+    not_yet_last();
+}

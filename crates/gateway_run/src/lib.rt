@@ -10,6 +10,6 @@ mod stop;
 #[cfg(test)]
 mod tests;
 
-pub use laws::one_run;
+pub use laws::{one_run, run_ends};
 pub use running::run;
 pub use stop::{Ran, RunStop};

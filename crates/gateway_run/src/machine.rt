@@ -2,12 +2,12 @@
 ghost use Rattle.gateway_run.specs.Ready.{IsReady};
 
 use crate::place::{GatewayStop, Phase, Place};
-use crate::steps::{MOST_FRAMES, begin, end_input, give, take_packet};
+use crate::steps::{begin, end_input, give, take_packet};
 use crate::stop::{Ran, RunStop};
 use bit_slice::OutOfMemory;
 use file_run::{Machine, PIECE, Step, events_law};
 use gateway_core::Gateway;
-use plp_config::Plan;
+use plp_config::{MOST_FRAMES, Plan};
 use std::alloc::Global;
 use ts_packet::SIZE;
 

@@ -12,11 +12,8 @@ use crate::place::{GatewayStop, Phase, Place};
 use crate::stop::Ran;
 use file_run::{PIECE, events_law};
 use gateway_core::{Gateway, front_law, not_yet_last};
-use plp_config::Plan;
+use plp_config::{MOST_FRAMES, Plan};
 use ts_packet::{SIZE, SYNC, TsPacket};
-
-/// No frame has this number.
-pub const MOST_FRAMES: u64 = 1 << 31;
 
 // The packet at the front of some bytes.
 fn front_packet(bytes: &[u8]) -> TsPacket
@@ -64,7 +61,7 @@ fn stopped(why: GatewayStop) -> Place
 fn bad(gateway: &Gateway<'_>, plan: &Plan, plp: usize, frames: u64) -> Place
     requires place { plp < length plan.now.plps }
     requires plps { plps_of gateway.now ≡ length plan.now.plps }
-    requires early { frames ≤ 2 ^ 31 }
+    requires early { frames ≤ MOST_FRAMES }
     ensures { IsBad plan.now plp frames (wants_of gateway.now plp) result }
 {
     let ticks = u64::from(plan.config().ticks);

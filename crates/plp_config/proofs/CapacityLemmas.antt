@@ -8,26 +8,35 @@ use Rattle.plp_config.specs.declared.config.Config.{Config}
 use Rattle.plp_config.specs.declared.capacity.CapacityFault.{CapacityFault}
 
 -- the numbers go from 1 to 4
-test_number-range : (test : Test) → (1 ≤ test_number test) × (test_number test < 5)
+pub test_number-range : (test : Test) → (1 ≤ test_number test) × (test_number test < 5)
 test_number-range Throughput = (omega arith, omega arith)
 test_number-range CellCount = (omega arith, omega arith)
 test_number-range EvenSubSlices = (omega arith, omega arith)
 test_number-range CellAddresses = (omega arith, omega arith)
 
 -- the test with a number
-test_at : ℕ → Test
+pub test_at : ℕ → Test
 test_at zero = Throughput
 test_at (suc zero) = Throughput
 test_at (suc (suc zero)) = CellCount
 test_at (suc (suc (suc zero))) = EvenSubSlices
 test_at _ = CellAddresses
 
-test_at-test_number : (test : Test) → test_at (test_number test) ≡ test
+pub test_at-test_number : (test : Test) → test_at (test_number test) ≡ test
 unfolding test_at
 test_at-test_number Throughput = refl
 test_at-test_number CellCount = refl
 test_at-test_number EvenSubSlices = refl
 test_at-test_number CellAddresses = refl
+
+-- the tests have all numbers from 1 to 4
+pub test_number-test_at : (place : ℕ) → place < 4 → test_number (test_at (place + 1)) ≡ place + 1
+unfolding test_at
+test_number-test_at zero lt = refl
+test_number-test_at (suc zero) lt = refl
+test_number-test_at (suc (suc zero)) lt = refl
+test_number-test_at (suc (suc (suc zero))) lt = refl
+test_number-test_at (suc (suc (suc (suc n)))) lt = absurd (omega arith)
 
 -- two tests with one number are one
 pub same_test : (a b : Test) → test_number a ≡ test_number b → a ≡ b

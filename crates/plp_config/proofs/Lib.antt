@@ -8,3 +8,5 @@ pub mod CapacityLemmas
 pub mod TimeLemmas
 pub mod EmissionLemmas
 pub mod RunLemmas
+pub mod RuleDecideLemmas
+pub mod TestDecideLemmas

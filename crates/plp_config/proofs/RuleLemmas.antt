@@ -26,10 +26,10 @@ rule_number-range InterleaverLength = (omega arith, omega arith)
 rule_number-range BitRate = (omega arith, omega arith)
 
 -- the rule with a number
-rule_at : ℕ → Rule
+pub rule_at : ℕ → Rule
 rule_at number = get_or (FrameDuration ∷ SuperframeLength ∷ LeastCells ∷ StartTime ∷ UtcOffset ∷ PidRange ∷ L1Fields ∷ SubSlices ∷ PlpCount ∷ DistinctIds ∷ KindOrder ∷ BlockLimit ∷ InterleaverLength ∷ BitRate ∷ []) (number - 1) BitRate
 
-rule_at-rule_number : (rule : Rule) → rule_at (rule_number rule) ≡ rule
+pub rule_at-rule_number : (rule : Rule) → rule_at (rule_number rule) ≡ rule
 unfolding rule_at
 rule_at-rule_number FrameDuration = refl
 rule_at-rule_number SuperframeLength = refl
@@ -46,8 +46,8 @@ rule_at-rule_number BlockLimit = refl
 rule_at-rule_number InterleaverLength = refl
 rule_at-rule_number BitRate = refl
 
--- the rules 1 to 9 have all numbers from 1 to 9
-rule_number-rule_at : (place : ℕ) → place < 9 → rule_number (rule_at (place + 1)) ≡ place + 1
+-- the rules have all numbers from 1 to 14
+pub rule_number-rule_at : (place : ℕ) → place < 14 → rule_number (rule_at (place + 1)) ≡ place + 1
 unfolding rule_at
 rule_number-rule_at zero lt = refl
 rule_number-rule_at (suc zero) lt = refl
@@ -58,7 +58,12 @@ rule_number-rule_at (suc (suc (suc (suc (suc zero))))) lt = refl
 rule_number-rule_at (suc (suc (suc (suc (suc (suc zero)))))) lt = refl
 rule_number-rule_at (suc (suc (suc (suc (suc (suc (suc zero))))))) lt = refl
 rule_number-rule_at (suc (suc (suc (suc (suc (suc (suc (suc zero)))))))) lt = refl
-rule_number-rule_at (suc (suc (suc (suc (suc (suc (suc (suc (suc n))))))))) lt = absurd (omega arith)
+rule_number-rule_at (suc (suc (suc (suc (suc (suc (suc (suc (suc zero))))))))) lt = refl
+rule_number-rule_at (suc (suc (suc (suc (suc (suc (suc (suc (suc (suc zero)))))))))) lt = refl
+rule_number-rule_at (suc (suc (suc (suc (suc (suc (suc (suc (suc (suc (suc zero))))))))))) lt = refl
+rule_number-rule_at (suc (suc (suc (suc (suc (suc (suc (suc (suc (suc (suc (suc zero)))))))))))) lt = refl
+rule_number-rule_at (suc (suc (suc (suc (suc (suc (suc (suc (suc (suc (suc (suc (suc zero))))))))))))) lt = refl
+rule_number-rule_at (suc (suc (suc (suc (suc (suc (suc (suc (suc (suc (suc (suc (suc (suc n)))))))))))))) lt = absurd (omega arith)
 
 -- two rules with one number are one
 pub same_rule : (a b : Rule) → rule_number a ≡ rule_number b → a ≡ b
@@ -81,7 +86,7 @@ abbrev pub Tried : ℕ → Config → Option ConfigFault → Type 0
 Tried number c fault = MatchOption fault (RulesBelow number c) (Refuses c)
 
 -- a rule of the PLPs is refused at the first place where it fails
-refused_at : (c : Config) (rule : Rule) (place : ℕ)
+pub refused_at : (c : Config) (rule : Rule) (place : ℕ)
     → 10 ≤ rule_number rule
     → (RuleHolds rule c → HoldsBelow (PlaceHolds rule c) (length c.plps))
     → RulesBelow (rule_number rule) c

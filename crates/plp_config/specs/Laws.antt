@@ -1,5 +1,5 @@
 -- Laws of the times and the tables, for the crates above. A slot lasts num / den ticks, and an epoch is any number of ticks.
-use Rattle.std.specs.Prelude.{◌≡◌, ◌≢◌, ℕ, ◌+◌, ◌-◌, ◌*◌, ◌/◌, ◌%◌, ◌^◌, ◌<◌, ◌≤◌, ◌↔◌, length}
+use Rattle.std.specs.Prelude.{◌≡◌, ◌≢◌, ◌⊎◌, ℕ, ◌+◌, ◌-◌, ◌*◌, ◌/◌, ◌%◌, ◌^◌, ◌<◌, ◌≤◌, ◌↔◌, length}
 use Rattle.std.specs.Int.{div_ceil}
 use Rattle.plp_config.specs.Capacity.{block_bytes, field_bytes, block_cells, up_bytes, capacity, AllTests, Lacks}
 use Rattle.plp_config.specs.Emission.{subseconds_by, origin, frame_subseconds, emission, FindsFrame}
@@ -10,6 +10,7 @@ use Rattle.plp_config.specs.Tables.{subseconds_per_second, info_bits}
 use Rattle.plp_config.specs.declared.capacity.CapacityFault.{CapacityFault}
 use Rattle.plp_config.specs.declared.config.Config.{Config}
 use Rattle.plp_config.specs.declared.moment.Moment.{Moment}
+use Rattle.plp_config.specs.declared.plp.TheConstants.{MOST_FIELD_BYTES}
 use Rattle.plp_config.specs.declared.rules.ConfigFault.{ConfigFault}
 use Rattle.plp_config.specs.SlotTime.{num, den, slot_start, slot_count, InRange, iscr_slot, delay, delay_ticks, released_count, window_slots, IsReleased}
 
@@ -134,12 +135,19 @@ OneRuleFails = (c : Config) (fault other : ConfigFault) → Refuses c fault → 
 abbrev pub RefusalFails : Type 0
 RefusalFails = (c : Config) (fault : ConfigFault) → Refuses c fault → ¬ (AllRules c)
 
+-- A configuration satisfies every rule, or it has a refusal.
+abbrev pub RulesDecided : Type 0
+RulesDecided = (c : Config) → AllRules c ⊎ ((fault : ConfigFault) × Refuses c fault)
+
 -- The same for the capacity.
 abbrev pub OneTestFails : Type 0
 OneTestFails = (c : Config) (fault other : CapacityFault) → Lacks c fault → Lacks c other → fault ≡ other
 
 abbrev pub LackFails : Type 0
 LackFails = (c : Config) (fault : CapacityFault) → Lacks c fault → ¬ (AllTests c)
+
+abbrev pub TestsDecided : Type 0
+TestsDecided = (c : Config) → AllTests c ⊎ ((fault : CapacityFault) × Lacks c fault)
 
 -- Facts of the tables, for every configuration or for those that satisfy the rules.
 
@@ -157,7 +165,7 @@ FrameQuarter = (c : Config) → AllRules c → (1 ≤ frame_subseconds c) × (4 
 
 -- the sizes of blocks: a data field is longer than a user packet, and shorter than 65,535 bits
 abbrev pub FieldRange : Type 0
-FieldRange = (c : Config) (plp : ℕ) → (869 ≤ field_bytes c plp) × (field_bytes c plp ≤ 6720) × (block_bytes c plp ≡ field_bytes c plp + 10)
+FieldRange = (c : Config) (plp : ℕ) → (869 ≤ field_bytes c plp) × (field_bytes c plp ≤ MOST_FIELD_BYTES) × (block_bytes c plp ≡ field_bytes c plp + 10)
 
 -- a block is whole bytes
 abbrev pub BlockBits : Type 0

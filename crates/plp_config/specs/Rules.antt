@@ -5,6 +5,7 @@ use Rattle.plp_config.specs.Plps.{plp_at, plp_type, has_type2}
 use Rattle.plp_config.specs.Tables.{subseconds_per_second, greatest_ticks}
 use Rattle.plp_config.specs.declared.config.Config.{Config}
 use Rattle.plp_config.specs.declared.config.L1Numbers.{L1Numbers}
+use Rattle.plp_config.specs.declared.plp.TheConstants.{MOST_BLOCKS}
 use Rattle.plp_config.specs.declared.rules.ConfigFault.{ConfigFault}
 
 pub data Rule : Type 0 where
@@ -58,7 +59,7 @@ pub record FitsL1 (l1 : L1Numbers) : Type 0 where
 abbrev pub PlaceHolds : Rule → Config → ℕ → Type 0
 PlaceHolds DistinctIds c place = HoldsBelow (λ earlier. (plp_at c.plps earlier).id ≢ (plp_at c.plps place).id) place
 PlaceHolds KindOrder c place = HoldsBelow (λ earlier. plp_type (plp_at c.plps earlier).kind ≤ plp_type (plp_at c.plps place).kind) place
-PlaceHolds BlockLimit c place = (1 ≤ (plp_at c.plps place).blocks) × ((plp_at c.plps place).blocks ≤ 1023)
+PlaceHolds BlockLimit c place = (1 ≤ (plp_at c.plps place).blocks) × ((plp_at c.plps place).blocks ≤ MOST_BLOCKS)
 PlaceHolds InterleaverLength c place = (plp_at c.plps place).interleave ≤ min (plp_at c.plps place).blocks 255
 PlaceHolds BitRate c place = (1 ≤ (plp_at c.plps place).bits_per_second) × ((plp_at c.plps place).bits_per_second ≤ 72000000)
 PlaceHolds _ c place = Unit {0}

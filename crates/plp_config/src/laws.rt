@@ -1,5 +1,5 @@
 // Laws between the definitions, for the crates above. No function here does anything.
-ghost use Rattle.plp_config.specs.Laws.{StartsBefore, StartsFrom, StartsAt, OverBy, NotOverBy, CountReaches, StartRises, CountRises, NoneAtZero, EndsAfterStart, StartsApart, RangesPartition, RangeBounds, SpansEpoch, OneSlotPerIscr, IscrFindsSlot, DelayOutlasts, ReleasedFirst, ReleasedByFrame, ReleasedOld, WindowHolds, EmissionTotal, EmissionsDiffer, EmissionFound, EmissionFits, FrameCountLeast, OneRuleFails, RefusalFails, OneTestFails, LackFails, SlotLength, FrameTicks, FrameQuarter, FieldRange, BlockBits, UserPacketRange, CapacityHoldsUp, CellsByFive, BlockChunks};
+ghost use Rattle.plp_config.specs.Laws.{StartsBefore, StartsFrom, StartsAt, OverBy, NotOverBy, CountReaches, StartRises, CountRises, NoneAtZero, EndsAfterStart, StartsApart, RangesPartition, RangeBounds, SpansEpoch, OneSlotPerIscr, IscrFindsSlot, DelayOutlasts, ReleasedFirst, ReleasedByFrame, ReleasedOld, WindowHolds, EmissionTotal, EmissionsDiffer, EmissionFound, EmissionFits, FrameCountLeast, OneRuleFails, RefusalFails, RulesDecided, OneTestFails, LackFails, TestsDecided, SlotLength, FrameTicks, FrameQuarter, FieldRange, BlockBits, UserPacketRange, CapacityHoldsUp, CellsByFive, BlockChunks};
 
 /// When slots start and when they are over. A count reaches a number exactly where the end of the
 /// last slot below it is not after the tick.
@@ -57,12 +57,14 @@ pub fn run_length_law()
     ensures { FrameCountLeast }
 {}
 
-/// Which rule or test fails first: one, and then not all hold.
+/// Which rule or test fails first: exactly one, if not all hold.
 pub fn refusal_law()
     ensures one_rule { OneRuleFails }
     ensures rules_fail { RefusalFails }
+    ensures rules_decided { RulesDecided }
     ensures one_test { OneTestFails }
     ensures tests_fail { LackFails }
+    ensures tests_decided { TestsDecided }
 {}
 
 /// The lengths of slots and frames, as the tables and the rules give them.

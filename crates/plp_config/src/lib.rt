@@ -24,10 +24,11 @@ pub use laws::{
     run_length_law, slot_time_law,
 };
 pub use list::{MOST_PLPS, PlpList};
-pub use moment::Moment;
+pub use moment::{MOST_FRAMES, Moment};
 pub use plan::Plan;
 pub use plp::{
-    FecSize, MOST_BLOCK_BYTES, MOST_BLOCKS, MOST_INFO_BITS, Modulation, Plp, PlpKind, Rate,
+    FecSize, MOST_BLOCK_BYTES, MOST_BLOCKS, MOST_CAPACITY, MOST_FIELD_BYTES, MOST_INFO_BITS,
+    Modulation, Plp, PlpKind, Rate,
 };
 pub use rules::{ConfigFault, Valid, validate};
 

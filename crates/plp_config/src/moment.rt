@@ -1,5 +1,8 @@
 // A time of emission.
 
+/// Frames of a run at most: the emissions of these fit a timestamp (`emission_law`).
+pub const MOST_FRAMES: u64 = 1 << 31;
+
 /// When a frame leaves: whole seconds since 2000-01-01, and subseconds of the bandwidth besides.
 #[derive(Clone, Copy, Debug, PartialEq, Eq)]
 pub struct Moment {

@@ -11,7 +11,7 @@ use crate::capacity::throughput_need;
 use crate::config::Config;
 use crate::gcd::gcd;
 use crate::moment::Moment;
-use crate::plp::MOST_BLOCK_BYTES;
+use crate::plp::{MOST_BLOCK_BYTES, MOST_CAPACITY, MOST_FIELD_BYTES};
 use crate::values;
 use std::marker::Model;
 
@@ -124,7 +124,7 @@ impl Plan {
         requires { plp < length self.now.plps }
         ensures value { result ≡ field_bytes self.now plp }
         ensures least { 869 ≤ result }
-        ensures greatest { result ≤ 6720 }
+        ensures greatest { result ≤ MOST_FIELD_BYTES }
     {
         values::field_bytes(&self.config, plp)
     }
@@ -154,7 +154,7 @@ impl Plan {
         requires { plp < length self.now.plps }
         ensures value { result ≡ capacity self.now plp }
         ensures least { 869 ≤ result }
-        ensures greatest { result ≤ 6874560 }
+        ensures greatest { result ≤ MOST_CAPACITY }
     {
         values::capacity(&self.config, plp)
     }

@@ -9,8 +9,14 @@ pub const MOST_INFO_BITS: u32 = 53_840;
 /// Bytes of a baseband frame at most, `MOST_INFO_BITS / 8`.
 pub const MOST_BLOCK_BYTES: u32 = 6_730;
 
+/// Bytes of the data field of a baseband frame at most, behind a header of ten: `MOST_BLOCK_BYTES - 10`.
+pub const MOST_FIELD_BYTES: u32 = MOST_BLOCK_BYTES - 10;
+
 /// Blocks of a PLP in a frame at most: PLP_NUM_BLOCKS_MAX has ten bits (EN 302 755, clause 7.2.3.1).
 pub const MOST_BLOCKS: u16 = 1_023;
+
+/// Bytes of the data fields of a PLP in a frame at most, `MOST_BLOCKS * MOST_FIELD_BYTES`.
+pub const MOST_CAPACITY: u32 = MOST_BLOCKS as u32 * MOST_FIELD_BYTES;
 
 /// How a PLP lies in a frame. Its number is PLP_TYPE (EN 302 755, clause 7.2.3.1).
 #[derive(Clone, Copy, Debug, PartialEq, Eq)]

@@ -8,7 +8,7 @@ ghost use Rattle.plp_config.specs.SlotTime.{num, den};
 ghost use Rattle.plp_config.specs.Tables.{subseconds_per_second, subseconds_per_tick};
 
 use crate::config::Config;
-use crate::plp::{MOST_BLOCK_BYTES, MOST_BLOCKS, Plp};
+use crate::plp::{MOST_BLOCK_BYTES, MOST_BLOCKS, MOST_CAPACITY, MOST_FIELD_BYTES, Plp};
 
 // The duration of a frame in ticks.
 pub(crate) fn ticks(config: &Config) -> u32
@@ -101,7 +101,7 @@ pub(crate) fn field_bytes(config: &Config, plp: usize) -> u32
     requires configured { plp < length config.now.plps }
     ensures value { result ≡ field_bytes config.now plp }
     ensures least { 869 ≤ result }
-    ensures greatest { result ≤ 6720 }
+    ensures greatest { result ≤ MOST_FIELD_BYTES }
 {
     block_bytes(config, plp) - 10
 }
@@ -134,7 +134,7 @@ pub(crate) fn capacity(config: &Config, plp: usize) -> u32
     requires configured { plp < length config.now.plps }
     ensures value { result ≡ capacity config.now plp }
     ensures least { 869 ≤ result }
-    ensures greatest { result ≤ 6874560 }
+    ensures greatest { result ≤ MOST_CAPACITY }
 {
     u32::from(plp_at(config, plp).blocks) * field_bytes(config, plp)
 }

@@ -10,12 +10,12 @@ abbrev pub bytes_left : Writer → Config → FrameShape → List (List (List �
 bytes_left w c shape lists = drop w.at w.piece ++ step_bytes c shape lists w.step
 
 -- The step behind its piece can be taken.
-abbrev pub IsReady : Writer → Config → List (List (List ℕ)) → Type 0
-IsReady w c lists = IsStep c lists w.step
+abbrev pub IsReady : Writer → Config → FrameShape → List (List (List ℕ)) → Type 0
+IsReady w c shape lists = IsStep c shape lists w.step
 
 -- that has one proof at most, so it may be a ghost field
-pub IsReady-prop : (w : Writer) (c : Config) (lists : List (List (List ℕ))) → IsProp (IsReady w c lists)
-IsReady-prop w c lists = IsStep-prop c lists w.step
+pub IsReady-prop : (w : Writer) (c : Config) (shape : FrameShape) (lists : List (List (List ℕ))) → IsProp (IsReady w c shape lists)
+IsReady-prop w c shape lists = IsStep-prop c shape lists w.step
 
 -- All bytes were given.
 abbrev pub is_done : Writer → Bool

@@ -136,11 +136,7 @@ struct Frame {
     shape: Shape,
     pool: Pool,
     writer: Writer,
-    ghost plps: { length shape.counts ≡ length plan.plps },
-    ghost passes: { Passes plan shape },
-    ghost lists: { length pool.lists ≡ length plan.plps },
-    ghost short: { AreShort pool.lists },
-    ghost ready: { IsReady writer plan pool.lists } by { IsReady-prop writer plan pool.lists },
+    ghost ready: { IsReady writer plan shape pool.lists } by { IsReady-prop writer plan shape pool.lists },
 }
 
 impl Frame {

@@ -6,7 +6,7 @@ ghost use Rattle.plp_config.specs.Plps.{plp_at};
 ghost use Rattle.plp_config.specs.declared.config.Config.{Config};
 ghost use Rattle.cell_map.specs.CellMap.{Passes};
 ghost use Rattle.scheduler.specs.Shape.{FrameShape};
-ghost use Rattle.record_writer.specs.Steps.{step_bytes, IsStep};
+ghost use Rattle.record_writer.specs.Steps.{step_bytes, HasMap, HasLists, IsStep};
 ghost use Rattle.record_writer.specs.RecordBytes.{piece_len, list_at, front_of, AreShort, sent_bytes, lists_bytes, words};
 ghost use Rattle.record_writer.specs.declared.step.Step.TheVariants.{Blocks, Done};
 
@@ -87,15 +87,13 @@ fn put_block(plan: &Plan, pool: &mut Pool, plp: usize, out: &mut Piece)
 
 // Puts the next block, or behind the last one the number of cells.
 fn build_block(plan: &Plan, pool: &mut Pool, plp: usize, out: &mut Piece) -> Step
-    requires lists { length pool.old.lists ≡ length plan.now.plps }
-    requires short { AreShort pool.old.lists }
+    requires lists { HasLists plan.now pool.old.lists }
     requires inside { plp ≤ length pool.old.lists }
     requires empty { out.old ≡ [] }
     ensures bytes { (shape : FrameShape) → step_bytes plan.now shape pool.old.lists (Blocks plp) ≡ out.new ++ step_bytes plan.now shape pool.new.lists result }
     ensures some { 0 < length out.new }
-    ensures lists { length pool.new.lists ≡ length pool.old.lists }
-    ensures short { AreShort pool.new.lists }
-    ensures step { IsStep plan.now pool.new.lists result }
+    ensures step { (shape : FrameShape) → HasMap plan.now shape → IsStep plan.now shape pool.new.lists result }
+    ensures lists { HasLists plan.now pool.new.lists }
 {
     let end = plan.config().plps.len();
     let next = next_list(pool, plp, end);
@@ -111,13 +109,12 @@ fn build_block(plan: &Plan, pool: &mut Pool, plp: usize, out: &mut Piece) -> Ste
 
 // Puts the words of the next cells, if there are any.
 fn build_cells(plan: &Plan, shape: &Shape, address: u32, out: &mut Piece) -> Step
-    requires plps { length shape.now.counts ≡ length plan.now.plps }
-    requires passes { Passes plan.now shape.now }
+    requires map { HasMap plan.now shape.now }
     requires inside { address ≤ plan.now.cells }
     requires empty { out.old ≡ [] }
     ensures bytes { (lists : List (List (List ℕ))) → words plan.now shape.now address (plan.now.cells - address) ≡ out.new ++ step_bytes plan.now shape.now lists result }
     ensures none { out.new ≡ [] → result ≡ Done }
-    ensures step { (lists : List (List (List ℕ))) → IsStep plan.now lists result }
+    ensures step { (lists : List (List (List ℕ))) → IsStep plan.now shape.now lists result }
 {
     let count = fitting(plan.config().cells - address);
     out.put_words(plan, shape, address, count);
@@ -129,16 +126,11 @@ fn build_cells(plan: &Plan, shape: &Shape, address: u32, out: &mut Piece) -> Ste
 
 // Puts the next bytes of a frame in place of those in hand, and answers what comes behind them.
 fn build(plan: &Plan, shape: &Shape, pool: &mut Pool, step: Step, out: &mut Piece) -> Step
-    requires plps { length shape.now.counts ≡ length plan.now.plps }
-    requires passes { Passes plan.now shape.now }
-    requires lists { length pool.old.lists ≡ length plan.now.plps }
-    requires short { AreShort pool.old.lists }
-    requires step { IsStep plan.now pool.old.lists step }
+    requires { IsStep plan.now shape.now pool.old.lists step }
     ensures bytes { step_bytes plan.now shape.now pool.old.lists step ≡ out.new ++ step_bytes plan.now shape.now pool.new.lists result }
     ensures none { out.new ≡ [] → result ≡ Done }
-    ensures lists { length pool.new.lists ≡ length pool.old.lists }
-    ensures short { AreShort pool.new.lists }
-    ensures step { IsStep plan.now pool.new.lists result }
+    ensures step { IsStep plan.now shape.now pool.new.lists result }
+    ensures lists { HasLists plan.now pool.old.lists → HasLists plan.now pool.new.lists }
 {
     out.clear();
     match step {
@@ -184,18 +176,29 @@ impl Writer {
     ghost use Rattle.record_writer.specs.declared.step.Step.TheVariants.{Blocks};
     ghost use Rattle.site_frame.specs.Record.{head_bytes, muted_kind};
     ghost use Rattle.record_writer.specs.RecordBytes.{AreShort};
-    ghost use Rattle.record_writer.specs.Steps.{step_bytes};
+    ghost use Rattle.record_writer.specs.Steps.{step_bytes, HasMap, HasLists};
     ghost use Rattle.record_writer.specs.Writes.{bytes_left, IsReady, is_done};
 
     /// Nothing to write. It takes all the memory that it needs.
     pub fn open(alloc: Global) -> Result<Writer, OutOfMemory>
-        ensures { IfOk result (λ w. is_done w ≡ true) }
+        ensures done { IfOk result (λ w. is_done w ≡ true) }
+        ensures ready { IfOk result (λ w. (c : Config) (shape : FrameShape) (lists : List (List (List ℕ))) → IsReady w c shape lists) }
     {
         Ok(Writer {
             piece: Piece::open(alloc)?,
             at: 0,
             step: Step::Done,
         })
+    }
+
+    /// Nothing is left to give.
+    pub fn clear(&mut self)
+        ensures done { is_done self.new ≡ true }
+        ensures ready { (c : Config) (shape : FrameShape) (lists : List (List (List ℕ))) → IsReady self.new c shape lists }
+    {
+        self.piece.clear();
+        self.at = 0;
+        self.step = Step::Done;
     }
 
     /// Begins the record of a frame: its head tells `rest`, and it has so many blocks, which wait in the pool.
@@ -211,7 +214,7 @@ impl Writer {
         requires conf { conf.now ≡ conf_bits (conf_of plan.now) }
         requires short { length dynamic ≤ most_dynamic }
         ensures left { (shape : FrameShape) (lists : List (List (List ℕ))) → bytes_left self.new plan.now shape lists ≡ front_bytes plan.now moment.now dynamic.entry blocks rest ++ step_bytes plan.now shape lists (Blocks 0) }
-        ensures ready { (lists : List (List (List ℕ))) → IsReady self.new plan.now lists }
+        ensures ready { (shape : FrameShape) (lists : List (List (List ℕ))) → HasMap plan.now shape → HasLists plan.now lists → IsReady self.new plan.now shape lists }
         ensures done { is_done self.new ≡ false }
     {
         self.piece.clear();
@@ -223,7 +226,7 @@ impl Writer {
     /// Begins the record of a muted frame.
     pub fn begin_muted(&mut self, moment: &Moment)
         ensures left { (c : Config) (shape : FrameShape) (lists : List (List (List ℕ))) → bytes_left self.new c shape lists ≡ head_bytes muted_kind moment.now 0 }
-        ensures ready { (c : Config) (lists : List (List (List ℕ))) → IsReady self.new c lists }
+        ensures ready { (c : Config) (shape : FrameShape) (lists : List (List (List ℕ))) → IsReady self.new c shape lists }
         ensures done { is_done self.new ≡ false }
     {
         self.piece.clear();
@@ -234,18 +237,13 @@ impl Writer {
 
     /// Gives the next bytes of the record, at most what is left of the piece in hand, and takes blocks from the pool as it goes.
     pub fn take(&mut self, plan: &Plan, shape: &Shape, pool: &mut Pool, out: &mut [u8]) -> usize
-        requires plps { length shape.now.counts ≡ length plan.now.plps }
-        requires passes { Passes plan.now shape.now }
-        requires lists { length pool.old.lists ≡ length plan.now.plps }
-        requires short { AreShort pool.old.lists }
-        requires ready { IsReady self.old plan.now pool.old.lists }
+        requires { IsReady self.old plan.now shape.now pool.old.lists }
         ensures most { result ≤ length out.old }
         ensures bytes { bytes_left self.old plan.now shape.now pool.old.lists ≡ take result out.new ++ bytes_left self.new plan.now shape.now pool.new.lists }
         ensures stays { (length out.new ≡ length out.old) × (drop result out.new ≡ drop result out.old) }
         ensures none { (result ≡ 0) ↔ ((length out.old ≡ 0) ⊎ (is_done self.old ≡ true)) }
-        ensures lists { length pool.new.lists ≡ length pool.old.lists }
-        ensures short { AreShort pool.new.lists }
-        ensures ready { IsReady self.new plan.now pool.new.lists }
+        ensures lists { HasLists plan.now pool.old.lists → HasLists plan.now pool.new.lists }
+        ensures ready { IsReady self.new plan.now shape.now pool.new.lists }
     {
         let size = copy_from(&self.piece, self.at, out);
         if self.at + size < self.piece.len() {

@@ -1,9 +1,11 @@
 -- What was told of the lines of packets is what a file of packets asks for.
-use Rattle.std.proofs.Common.{◌≡◌, ◌≢◌, ℕ, ◌+◌, ◌-◌, ◌<◌, ◌≤◌, Bool, true, false, cond, List, [], ◌∷◌, ◌++◌, length, Option, Some, None, refl, ap, sym, subst, ◌∙◌, inl, inr, arith, append-nil, length-append}
+use Rattle.std.proofs.Common.{◌≡◌, ◌≢◌, ℕ, ◌+◌, ◌-◌, ◌<◌, ◌≤◌, Bool, true, false, cond, List, [], ◌∷◌, ◌++◌, length, refl, ap, sym, subst, ◌∙◌, inl, inr, arith, append-nil, length-append}
 use Rattle.std.specs.Fmt.{decimal}
-use Rattle.std.specs.Prelude.{codes, ◌⊎◌, nat_lt, IfSome, Result, Ok, Err, option_map}
+use Rattle.std.specs.Prelude.{codes, ◌⊎◌, nat_lt, IfSome, Result, Ok, Err}
 use Rattle.std.proofs.lemmas.List.{nil_from_length}
 use Rattle.std.proofs.lemmas.Bool.{ltb-true}
+use Rattle.std.proofs.lemmas.Option.{IfSome_then}
+use Rattle.terms.proofs.OptionLemmas.{if_any, if_both, append-none}
 use Rattle.ports.specs.declared.counts.Counts.{Counts}
 use Rattle.ports.specs.Desk.{State, Held, bytes_of}
 use Rattle.desk_io.specs.Faults.{ReadsFail}
@@ -33,14 +35,6 @@ use Rattle.show_run.proofs.EndLemmas.{packs_within, same_packets}
 use Rattle.show_run.proofs.PacketFileLemmas.{packs_first, lines_of-append}
 use Rattle.show_run.proofs.PacketLinesLemmas.{packs_on, all_seen, told_all}
 
-pub if_weaker : {A : Type 0} (o : Option A) (P Q : A → Type 0) → ((x : A) → P x → Q x) → IfSome o P → IfSome o Q
-if_weaker None P Q f h = tt
-if_weaker (Some x) P Q f h = f x h
-
-pub if_both : {A : Type 0} (o : Option A) (P Q R : A → Type 0) → ((x : A) → P x → Q x → R x) → IfSome o P → IfSome o Q → IfSome o R
-if_both None P Q R f h k = tt
-if_both (Some x) P Q R f h k = f x h k
-
 -- bytes that were fed are a front of the file
 packs_file : (file front more rest : List ℕ) (ps : List (List ℕ)) → file ≡ front ++ more → Packs front ps rest → Packs file ps (rest ++ more)
 packs_file file front more rest ps is h = subst (λ (l : List ℕ). Packs l ps (rest ++ more)) (sym is) (packs_on front more rest ps h)
@@ -67,14 +61,6 @@ said_first : (start : PacketLines) (file : List ℕ) (early : List Event) (mid :
 said_first start file early mid starts came (inl none) = subst (λ (l : List Event). AreFirst file (gave l)) (sym none) (none_first file)
 said_first start file early mid starts came (inr gives) =
     first_of_file file mid early starts came.shown (first_lines mid.phase came.shown.told came.shown.next mid.line (gave early) mid.at gives came.shown.given)
-
-pub if_any : {A : Type 0} (o : Option A) (P : A → Type 0) → ((x : A) → P x) → IfSome o P
-if_any None P f = tt
-if_any (Some x) P f = f x
-
-pub same_text : (o : Option (List ℕ)) → o ≡ option_map (λ said. said ++ []) o
-same_text None = refl
-same_text (Some said) = ap Some (sym (append-nil said))
 
 pub fails_only : (old new : State) → ReadsFail old new → ReadsFailFirst old new
 fails_only old new f = record {
@@ -204,7 +190,7 @@ shows_end law start now old new name t = go now.phase refl
       text = gave x.early;
       reads = (x.opened, t.short);
       grew = x.said;
-      lines = if_weaker old.held _ _ (λ held f. refused_text law (bytes_of held.files name) t.place now x.events (gave x.early) why idle is x.came.shown f text) x.inputs;
+      lines = IfSome_then old.held x.inputs (λ held f. refused_text law (bytes_of held.files name) t.place now x.events (gave x.early) why idle is x.came.shown f text);
       counts = t.counts;
     }
     go Finished is = record {
@@ -212,7 +198,7 @@ shows_end law start now old new name t = go now.phase refl
       text = gave x.early;
       reads = (x.opened, t.short);
       grew = x.said;
-      lines = if_weaker old.held _ _ (λ held f. finished_text (bytes_of held.files name) t.place now x.events (gave x.early) idle is x.came.shown f text) x.inputs;
+      lines = IfSome_then old.held x.inputs (λ held f. finished_text (bytes_of held.files name) t.place now x.events (gave x.early) idle is x.came.shown f text);
       counts = t.counts;
     }
 
@@ -285,7 +271,7 @@ shows_none old new name s = record {
   given = 0;
   text = [];
   reads = s;
-  grew = ap (λ (x : State). x.said) s ∙ same_text old.said;
+  grew = ap (λ (x : State). x.said) s ∙ append-none old.said;
   lines = if_any old.held _ (λ held. refl);
   counts = ap (λ (x : State). x.counts) s;
 }
@@ -301,11 +287,11 @@ shows_stop one none sizes start now old new name TooLong s =
       text = gave x.early;
       reads = (x.opened, refl);
       grew = x.said;
-      lines = if_weaker old.held _ _ (λ held f. (
+      lines = IfSome_then old.held x.inputs (λ held f. (
         (let w = f.within in w),
         subst (λ (l : List ℕ). SaysMet (bytes_of held.files name) most_bytes l) (x.parts ∙ append-nil (gave x.early)) (all_met (bytes_of held.files name) now x.events most_bytes r.0 r.1 x.came.shown (starts_fed _ _ _ _ f)
             (let at = (all_seen now x.events r.1 x.came.shown).2 in let n = far now.at most_bytes refl (let d = r.2 in omega (arith, d, at)) in omega (arith, n, at))),
-      )) x.inputs;
+      ));
       counts = t.counts;
     }
 shows_stop one none sizes start now old new name ReadFault s = elim s.1 [
@@ -313,7 +299,7 @@ shows_stop one none sizes start now old new name ReadFault s = elim s.1 [
     given = 0;
     text = [];
     reads = inl (closed.1, refl);
-    grew = closed.1.said ∙ same_text old.said;
+    grew = closed.1.said ∙ append-none old.said;
     lines = if_any old.held _ (λ held. (([], bytes_of held.files name, refl, omega arith), none_first (bytes_of held.files name)));
     counts = fails_only old new closed.0;
   }

@@ -2,6 +2,8 @@
 use Rattle.std.proofs.Common.{◌≡◌, ◌≢◌, ℕ, ◌-◌, Bool, true, false, cond, List, [], ◌∷◌, ◌++◌, length, take, drop, map, refl, ap, sym, subst, ◌∙◌, inl, inr, arith, append_assoc, append-nil}
 use Rattle.std.specs.Prelude.{◌⊎◌, nat_lt, IfSome, Result, Ok, Err}
 use Rattle.std.proofs.lemmas.List.{take-append-drop, map-append}
+use Rattle.std.proofs.lemmas.Option.{IfSome_then}
+use Rattle.terms.proofs.OptionLemmas.{if_any, if_both, append-none}
 use Rattle.ports.specs.Desk.{State, Held, bytes_of}
 use Rattle.desk_io.specs.Reading.{most_bytes}
 use Rattle.desk_io.specs.declared.input.TheConstants.{BUFFER}
@@ -27,7 +29,7 @@ use Rattle.show_run.specs.declared.stop.ShowStop.TheVariants.{PacketRefused, Too
 use Rattle.show_run.specs.declared.t2mi_lines.T2miLines.{T2miLines}
 use Rattle.show_run.specs.declared.t2mi_lines.Search.{Search}
 use Rattle.show_run.specs.declared.t2mi_lines.Search.TheVariants.{Seeks, Unpipes, Finished}
-use Rattle.show_run.proofs.ShowLemmas.{if_weaker, if_both, if_any, same_text, fails_only, starts_fed, count_some}
+use Rattle.show_run.proofs.ShowLemmas.{fails_only, starts_fed, count_some}
 use Rattle.show_run.proofs.T2miLinesLemmas.{behind_all}
 
 -- the lines of packets that were given are those of the first packets of the file
@@ -111,7 +113,7 @@ t2mi_end start now old new name t =
       text = gave x.early;
       reads = (x.opened, t.short);
       grew = x.said;
-      lines = if_weaker old.held _ _ (λ held f. all_text (bytes_of held.files name) t.place now x.events (gave x.early) end.0 end.1 x.came.shown f (x.parts ∙ append-nil (gave x.early))) x.inputs;
+      lines = IfSome_then old.held x.inputs (λ held f. all_text (bytes_of held.files name) t.place now x.events (gave x.early) end.0 end.1 x.came.shown f (x.parts ∙ append-nil (gave x.early)));
       counts = t.counts;
     }
 
@@ -133,7 +135,7 @@ t2mi_none old new name s = record {
   given = 0;
   text = [];
   reads = s;
-  grew = ap (λ (x : State). x.said) s ∙ same_text old.said;
+  grew = ap (λ (x : State). x.said) s ∙ append-none old.said;
   lines = if_any old.held _ (λ held. refl);
   counts = ap (λ (x : State). x.counts) s;
 }
@@ -157,7 +159,7 @@ t2mi_stop front behind start now old new name ReadFault s = elim s.1 [
     given = 0;
     text = [];
     reads = inl (none.1, refl);
-    grew = none.1.said ∙ same_text old.said;
+    grew = none.1.said ∙ append-none old.said;
     lines = if_any old.held _ (λ held. none_first (t2mi_packets_in (bytes_of held.files name)) [] refl);
     counts = fails_only old new none.0;
   }

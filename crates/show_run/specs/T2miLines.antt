@@ -37,8 +37,12 @@ next_of m = next_in m.search (is_ready m.unpiper) (SIZE - m.from) m.line
 abbrev pub steps_left : Unpiper → ℕ
 steps_left u = 2 * (SIZE - unit_place u) + (if is_ready u then 1 else 0)
 
+-- more than an unpiper and a line can have left, so each byte that is taken makes less of all
+abbrev pub most_steps : ℕ
+most_steps = 2 * SIZE + 3
+
 abbrev pub left_of : T2miLines → ℕ
-left_of m = 1000 * (SIZE - m.from) + steps_left m.unpiper + (if nat_lt 0 (length m.line) then 1 else 0)
+left_of m = most_steps * (SIZE - m.from) + steps_left m.unpiper + (if nat_lt 0 (length m.line) then 1 else 0)
 
 -- the packets so many bytes further on
 abbrev pub packets_from : ℕ → ℕ → List ℕ → List AcceptedPacket

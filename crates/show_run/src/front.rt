@@ -6,11 +6,14 @@ use crate::packet_line::packet_line;
 use desk_io::{BUFFER, Line, MOST_BYTES};
 use t2mi_packet::{LARGEST, PacketWhy, view};
 
+// Bytes of a packet without payload: a header of six, and CRC_32.
+const SHORTEST: usize = 6 + 4;
+
 /// The line of the packet at the front of the bytes, and its length.
 pub fn front_line(bytes: &[u8], at: u64) -> Result<(Line, usize), PacketWhy>
     requires { length bytes.now < 2 ^ 60 }
     ensures ok { IfOk result (λ x. IsFront bytes.now at x.0 x.1) }
-    ensures len { IfOk result (λ x. (10 ≤ x.1) × (x.1 ≤ length bytes.now)) }
+    ensures len { IfOk result (λ x. (SHORTEST ≤ x.1) × (x.1 ≤ length bytes.now)) }
     ensures err { IfErr result (RefusesFront bytes.now) }
 {
     match view(bytes) {

@@ -2,14 +2,11 @@
 use crate::config_place::{front_of, is_data, plp_line};
 use crate::shown::{Shown, Told};
 use config_text::{TextFault, TextWhy};
-use plp_config::{CapacityFault, ConfigFault};
+use plp_config::{CapacityFault, ConfigFault, MOST_FRAMES};
 use ports::HostFault;
 use site_top::{ConfigCause, Outcome, Word};
 use std::fs::Files;
 use std::io::{self, Eprint};
-
-// No frame has this number.
-const LAST_FRAME: u64 = 1 << 31;
 
 // The commands and their words.
 const COMMANDS: &str = "\
@@ -140,8 +137,8 @@ fn say(
             "{}: packet {packet}, counted from 0, does not begin with the sync byte 0x47, or the file ends inside it; OUT holds the units of the frames before; mend the file",
             Shown(word_at(words, 3 + usize::from(input)))
         ),
-        Outcome::TooLong { count: LAST_FRAME } => eprintln!(rt;
-            "the inputs go on for more than {LAST_FRAME} frames; what was written stays, give the rest to another run"
+        Outcome::TooLong { count: MOST_FRAMES } => eprintln!(rt;
+            "the inputs go on for more than {MOST_FRAMES} frames; what was written stays, give the rest to another run"
         ),
         Outcome::TooLong { count } => eprintln!(rt;
             "{file}: it gave {count} bytes, which is more than a file may have; split it"

@@ -1,16 +1,14 @@
 // Where in the text of CONFIG a refusal is, looked at again for people.
+use config_text::MOST_BYTES;
 use std::fs::{File, Files};
 use std::io::{self, Read};
 use std::str;
-
-// A configuration has at most so many bytes.
-const LARGEST_TEXT: u64 = 65_536;
 
 /// The front of a named file, as long as a configuration may be.
 pub fn front_of(rt: &(impl Files + AllocGlobal), name: &str) -> io::Result<Vec<u8>> {
     let mut text = Vec::new(rt.alloc());
     File::open(rt, name)?
-        .take(LARGEST_TEXT)
+        .take(MOST_BYTES as u64)
         .read_to_end(&mut text)?;
     Ok(text)
 }

@@ -5,10 +5,7 @@ ghost use Rattle.plp_config.specs.Emission.{FindsFrame};
 ghost use Rattle.site_frame.specs.Placing.{IsFrameOf, IsOffGrid, IsPlaced, RefusesPlace};
 
 use crate::fault::RecordWhy;
-use plp_config::{Moment, Plan, emission_law};
-
-// The frames of a run have numbers below this.
-const MOST_FRAMES: u128 = 1 << 31;
+use plp_config::{MOST_FRAMES, Moment, Plan, emission_law};
 
 // The subseconds that have passed by a moment.
 fn passed(seconds: u64, subseconds: u32, second: u32) -> u128
@@ -19,8 +16,8 @@ fn passed(seconds: u64, subseconds: u32, second: u32) -> u128
 
 // The frame whose emission lies so many frames after the start, if that is a whole number.
 fn frame_at(plan: &Plan, moment: &Moment) -> Option<u64>
-    ensures some { IfSome result (λ n. (n < 2 ^ 31) × FindsFrame plan.now moment.now n) }
-    ensures none { IfNone result ((n : ℕ) → n < 2 ^ 31 → ¬ (FindsFrame plan.now moment.now n)) }
+    ensures some { IfSome result (λ n. (n < MOST_FRAMES) × FindsFrame plan.now moment.now n) }
+    ensures none { IfNone result ((n : ℕ) → n < MOST_FRAMES → ¬ (FindsFrame plan.now moment.now n)) }
 {
     let config = plan.config();
     let second = config.band.subseconds_per_second();
@@ -38,7 +35,7 @@ fn frame_at(plan: &Plan, moment: &Moment) -> Option<u64>
         return None;
     }
     let count = past / frame;
-    if count >= MOST_FRAMES {
+    if count >= u128::from(MOST_FRAMES) {
         return None;
     }
     Some(count as u64)

@@ -1,22 +1,23 @@
 -- Every command is complete: where nothing outside fails, it ends as its files say.
-use Rattle.std.proofs.Common.{◌≡◌, ◌⊎◌, ℕ, ◌<◌, ◌≤◌, ◌^◌, inl, inr, ⊎_elim, List, length, Option, Some, None, refl, sym, ap, subst, ◌∙◌, arith}
+use Rattle.std.proofs.Common.{◌≡◌, ◌⊎◌, ℕ, ◌<◌, ◌≤◌, ◌^◌, inl, inr, ⊎_elim, List, length, Option, Some, None, refl, sym, subst, ◌∙◌, arith}
 use Rattle.std.specs.Prelude.{IfSome, option_map, Result, Ok, Err}
+use Rattle.std.proofs.lemmas.Option.{IfSome_then}
+use Rattle.terms.proofs.OptionLemmas.{if_any, if_both}
 use Rattle.ports.specs.Counts.{Rose}
 use Rattle.ports.specs.Desk.{State, Held, SameCounts, with_name, bytes_of}
 use Rattle.plp_config.specs.Capacity.{IsPlan}
 use Rattle.plp_config.specs.declared.config.Config.{Config}
-use Rattle.config_text.specs.ConfigText.{Spells}
+use Rattle.plp_config.specs.declared.moment.TheConstants.{MOST_FRAMES}
 use Rattle.config_file.specs.ConfigFile.{Gives, GivesNone, GivesNoPlan}
 use Rattle.config_file.specs.Laws.{GivesConfig, GivesPlan, OnePlan}
 use Rattle.config_file.specs.declared.stop.ConfigStop.{ConfigStop}
 use Rattle.config_file.specs.declared.stop.ConfigStop.TheVariants as config
 use Rattle.file_run.specs.FileRun.{file_at}
-use Rattle.gateway_run.specs.GatewayRun.{RunsAll, Stops, StopsAtBad, StopsTooLong, frames_of, units_of}
+use Rattle.gateway_run.specs.GatewayRun.{RunsAll, Stops, StopsTooLong, frames_of, units_of}
 use Rattle.gateway_run.specs.Laws.{MustRun, OneRun}
 use Rattle.gateway_run.specs.declared.stop.Ran.{Ran}
 use Rattle.gateway_run.specs.declared.stop.RunStop.{RunStop}
 use Rattle.gateway_run.specs.declared.stop.RunStop.TheVariants as run
-use Rattle.show_run.specs.Laws.{PacketsEnd}
 use Rattle.show_run.specs.PacketText.{IsPacketText}
 use Rattle.show_run.specs.Shows.{Counted}
 use Rattle.show_run.specs.T2miText.{IsT2miText}
@@ -29,22 +30,10 @@ use Rattle.site_top.specs.Commands.{Command, ShowPackets, ShowT2mi, ShowConfig, 
 use Rattle.site_top.specs.ConfigCommands.{ShowsConfig, Plans}
 use Rattle.site_top.specs.GatewayCommand.{gateway_line, RunsAndTells, Follows, Gateways}
 use Rattle.site_top.specs.Laws.{OneEnding, Completeness}
-use Rattle.site_top.specs.Outcomes.{shown_outcome, given_outcome, config_outcome, stopped_outcome, ran_outcome}
-use Rattle.site_top.specs.Runs.{Shows, Does, AreShort, MustEnd, IsComplete}
+use Rattle.site_top.specs.Outcomes.{shown_outcome, config_outcome, stopped_outcome, ran_outcome}
+use Rattle.site_top.specs.Runs.{AreShort, MustEnd, IsComplete}
 use Rattle.site_top.specs.Saying.{Tells}
-use Rattle.site_top.proofs.EndingLemmas.{RunIfShort, EndsIfShort, ended_so}
-
-pub if_some : {A : Type 0} (o : Option A) (P Q : A → Type 0) → ((x : A) → P x → Q x) → IfSome o P → IfSome o Q
-if_some None P Q f h = tt
-if_some (Some x) P Q f h = f x h
-
-if_any : {A : Type 0} (o : Option A) (P : A → Type 0) → ((x : A) → P x) → IfSome o P
-if_any None P f = tt
-if_any (Some x) P f = f x
-
-if_both : {A : Type 0} (o : Option A) (P Q R : A → Type 0) → ((x : A) → P x → Q x → R x) → IfSome o P → IfSome o Q → IfSome o R
-if_both None P Q R f p q = tt
-if_both (Some x) P Q R f p q = f x p q
+use Rattle.site_top.proofs.EndingLemmas.{EndsIfShort, ended_so}
 
 -- How a run came to its outcome: by its files, if something is so of what must be; or by a fault, or want of memory.
 abbrev By : (State → State → Outcome → Type 0)
@@ -55,18 +44,18 @@ failed command old new result by = if_any old.held _ (λ held. λ outcome must r
     ⊎_elim (λ x. absurd (r x)) (⊎_elim (λ x. absurd (w x)) (λ (x : result ≡ OutOfMemory). inr x)) by)
 
 decided : OneEnding → (command : Command) (old new : State) (result : Outcome) → IfSome old.held (λ held. (outcome : Outcome) → MustEnd command held outcome → MustEnd command held result) → IsComplete command old new result
-decided law command old new result s = if_some old.held _ _ (λ held f. λ outcome must r w. inl (law command held result outcome (f outcome must) must)) s
+decided law command old new result s = IfSome_then old.held s (λ held f. λ outcome must r w. inl (law command held result outcome (f outcome must) must))
 
 -- a file of packets
 packets_so : OneEnding → (file : List ℕ) (old new : State) (given : ℕ) (text : List ℕ) (shown : Result ℕ ShowStop) → IfSome old.held (λ held. IsPacketText (bytes_of held.files file) given shown text) → Counted old new shown →
     IsComplete (ShowPackets file) old new (shown_outcome shown)
 packets_so law file old new given text (Ok count) s counts =
-    decided law (ShowPackets file) old new Done (if_some old.held _ _ (λ held x. λ outcome must. (must.0, (Ok count, (x.0, x.1, x.2), refl))) s)
+    decided law (ShowPackets file) old new Done (IfSome_then old.held s (λ held x. λ outcome must. (must.0, (Ok count, (x.0, x.1, x.2), refl))))
 packets_so law file old new given text (Err (show.PacketRefused at why)) s counts =
     decided law (ShowPackets file) old new (shown_outcome (Err (show.PacketRefused at why)))
-    (if_some old.held _ _ (λ held x. λ outcome must. (must.0, (Err (show.PacketRefused at why), (x.0, x.1, x.2, x.3, x.4), refl))) s)
+    (IfSome_then old.held s (λ held x. λ outcome must. (must.0, (Err (show.PacketRefused at why), (x.0, x.1, x.2, x.3, x.4), refl))))
 packets_so law file old new given text (Err show.TooLong) s counts =
-    if_some old.held _ _ (λ held x. λ outcome must r w. let many : 2 ^ 40 ≤ length (bytes_of held.files file) = x.0 in absurd (omega (arith, many, must.0))) s
+    IfSome_then old.held s (λ held x. λ outcome must r w. let many : 2 ^ 40 ≤ length (bytes_of held.files file) = x.0 in absurd (omega (arith, many, must.0)))
 packets_so law file old new given text (Err show.ReadFault) s counts = failed (ShowPackets file) old new (shown_outcome (Err show.ReadFault)) (inl counts.rose)
 packets_so law file old new given text (Err show.WriteFault) s counts = failed (ShowPackets file) old new (shown_outcome (Err show.WriteFault)) (inr (inl counts.rose))
 packets_so law file old new given text (Err show.OutOfMemory) s counts = failed (ShowPackets file) old new OutOfMemory (inr (inr refl))
@@ -74,10 +63,10 @@ packets_so law file old new given text (Err show.OutOfMemory) s counts = failed 
 -- a file of units
 t2mi_so : (file : List ℕ) (old new : State) (given : ℕ) (text : List ℕ) (shown : Result ℕ ShowStop) → IfSome old.held (λ held. IsT2miText (bytes_of held.files file) given shown text) → Counted old new shown →
     IsComplete (ShowT2mi file) old new (shown_outcome shown)
-t2mi_so file old new given text (Ok count) s counts = if_some old.held _ _ (λ held x. λ outcome must r w. inl (sym must.1)) s
-t2mi_so file old new given text (Err (show.PacketRefused at why)) s counts = if_some old.held _ _ (λ held x. absurd x) s
+t2mi_so file old new given text (Ok count) s counts = IfSome_then old.held s (λ held x. λ outcome must r w. inl (sym must.1))
+t2mi_so file old new given text (Err (show.PacketRefused at why)) s counts = IfSome_then old.held s (λ held x. absurd x)
 t2mi_so file old new given text (Err show.TooLong) s counts =
-    if_some old.held _ _ (λ held x. λ outcome must r w. let many : 2 ^ 40 ≤ length (bytes_of held.files file) = x.0 in absurd (omega (arith, many, must.0))) s
+    IfSome_then old.held s (λ held x. λ outcome must r w. let many : 2 ^ 40 ≤ length (bytes_of held.files file) = x.0 in absurd (omega (arith, many, must.0)))
 t2mi_so file old new given text (Err show.ReadFault) s counts = failed (ShowT2mi file) old new (shown_outcome (Err show.ReadFault)) (inl counts.rose)
 t2mi_so file old new given text (Err show.WriteFault) s counts = failed (ShowT2mi file) old new (shown_outcome (Err show.WriteFault)) (inr (inl counts.rose))
 t2mi_so file old new given text (Err show.OutOfMemory) s counts = failed (ShowT2mi file) old new OutOfMemory (inr (inr refl))
@@ -91,7 +80,7 @@ no_config old new name (config.Lacks fault) n = absurd n
 
 no_plan : (old new : State) (name : List ℕ) (stop : ConfigStop) → GivesNoPlan old new name stop → IfSome old.held (λ held. GivesPlan (bytes_of held.files name) (Err stop)) ⊎ By old new (config_outcome stop)
 no_plan old new name (config.Refused cause) n = inl n.1
-no_plan old new name (config.Lacks fault) n = inl (if_some old.held _ _ (λ held x. (n.0, x, n.1.rules, n.2)) n.1.spells)
+no_plan old new name (config.Lacks fault) n = inl (IfSome_then old.held n.1.spells (λ held x. (n.0, x, n.1.rules, n.2)))
 no_plan old new name config.ReadFault n = inr (inl n.counts.rose)
 no_plan old new name config.OutOfMemory n = inr (inr (inr refl))
 
@@ -104,24 +93,24 @@ told old mid new text other same t = absurd t
 config_so : OneEnding → (old new : State) (name : List ℕ) (result : Outcome) → ShowsConfig old new name result → IsComplete (ShowConfig name) old new result
 config_so law old new name result (inl (stop, none, is)) =
     subst (IsComplete (ShowConfig name) old new) (sym is)
-    (⊎_elim (λ s. decided law (ShowConfig name) old new (config_outcome stop) (if_some old.held _ _ (λ held x. λ outcome must. (Err stop, x, refl)) s)) (failed (ShowConfig name) old new (config_outcome stop))
+    (⊎_elim (λ s. decided law (ShowConfig name) old new (config_outcome stop) (IfSome_then old.held s (λ held x. λ outcome must. (Err stop, x, refl)))) (failed (ShowConfig name) old new (config_outcome stop))
     (no_config old new name stop none))
 config_so law old new name result (inr (c, mid, gives, tells)) =
     ⊎_elim
     (λ (done : result ≡ Done). subst (IsComplete (ShowConfig name) old new) (sym done)
-    (decided law (ShowConfig name) old new Done (if_some old.held _ _ (λ held x. λ outcome must. (Ok c, (x, gives.rules), refl)) gives.spells)))
+    (decided law (ShowConfig name) old new Done (IfSome_then old.held gives.spells (λ held x. λ outcome must. (Ok c, (x, gives.rules), refl)))))
     (failed (ShowConfig name) old new result)
     (told old mid new _ result gives.reads.counts tells)
 
 plan_so : OneEnding → (old new : State) (name : List ℕ) (result : Outcome) → Plans old new name result → IsComplete (Plan name) old new result
 plan_so law old new name result (inl (stop, none, is)) =
     subst (IsComplete (Plan name) old new) (sym is)
-    (⊎_elim (λ s. decided law (Plan name) old new (config_outcome stop) (if_some old.held _ _ (λ held x. λ outcome must. (Err stop, x, refl)) s)) (failed (Plan name) old new (config_outcome stop))
+    (⊎_elim (λ s. decided law (Plan name) old new (config_outcome stop) (IfSome_then old.held s (λ held x. λ outcome must. (Err stop, x, refl)))) (failed (Plan name) old new (config_outcome stop))
     (no_plan old new name stop none))
 plan_so law old new name result (inr (c, text, mid, gives, plan, lines, tells)) =
     ⊎_elim
     (λ (done : result ≡ Done). subst (IsComplete (Plan name) old new) (sym done)
-    (decided law (Plan name) old new Done (if_some old.held _ _ (λ held x. λ outcome must. (Ok c, (x, plan), refl)) gives.spells)))
+    (decided law (Plan name) old new Done (IfSome_then old.held gives.spells (λ held x. λ outcome must. (Ok c, (x, plan), refl)))))
     (failed (Plan name) old new result)
     (told old mid new text result gives.reads.counts tells)
 
@@ -141,9 +130,9 @@ ended : (o : Option Held) (ins : List (List ℕ)) (c : Config) (frames units : �
 ended None ins c frames units w f u = tt
 ended (Some h) ins c frames units w f u = record { whole = w; frames_are = f; units_are = u }
 
-must_all : (c : Config) (files : ℕ → List ℕ) (count frames units : ℕ) → count ≡ length c.plps → frames ≤ 2 ^ 31 → Ended c files count frames units → MustRun c files (Ok (record { frames = frames; units = units }))
+must_all : (c : Config) (files : ℕ → List ℕ) (count frames units : ℕ) → count ≡ length c.plps → frames ≤ MOST_FRAMES → Ended c files count frames units → MustRun c files (Ok (record { frames = frames; units = units }))
 must_all c files count frames units same early e =
-    ((λ plp inside. e.whole plp (subst (λ (n : ℕ). plp < n) (sym same) inside)), e.frames_are, e.units_are, subst (λ (n : ℕ). n ≤ 2 ^ 31) e.frames_are early)
+    ((λ plp inside. e.whole plp (subst (λ (n : ℕ). plp < n) (sym same) inside)), e.frames_are, e.units_are, subst (λ (n : ℕ). n ≤ MOST_FRAMES) e.frames_are early)
 
 -- How a run ended over files that are not too long is how it must end.
 abbrev RunMust : State → List (List ℕ) → Config → Result Ran RunStop → Type 0
@@ -152,12 +141,12 @@ RunMust mid ins c result = IfSome mid.held (λ h. AreShort h ins → MustRun c (
 too_long : (c : Config) (mid new : State) (out : List ℕ) (ins : List (List ℕ)) (count : ℕ) → StopsTooLong c mid new out ins count → RunMust mid ins c (Err (run.TooLong count))
 too_long c mid new out ins count s =
     ⊎_elim
-    (λ b. if_some mid.held _ _ (λ h most. λ short. let few = short b.1.plp b.1.place in absurd (omega (arith, most, few))) b.1.long)
-    (λ f. if_some mid.held _ _ (λ h m. λ short. (f.0, m.0, m.1)) f.2)
+    (λ b. IfSome_then mid.held b.1.long (λ h most. λ short. let few = short b.1.plp b.1.place in absurd (omega (arith, most, few))))
+    (λ f. IfSome_then mid.held f.2 (λ h m. λ short. (f.0, m.0, m.1)))
     s.cause
 
 run_stops : (c : Config) (mid new : State) (out : List ℕ) (ins : List (List ℕ)) (stop : RunStop) → Stops c mid new out ins stop → RunMust mid ins c (Err stop) ⊎ By mid new (stopped_outcome stop)
-run_stops c mid new out ins (run.Bad input packet) s = inl (if_some mid.held _ _ (λ h m. λ short. (s.frame, m, s.early)) s.meets)
+run_stops c mid new out ins (run.Bad input packet) s = inl (IfSome_then mid.held s.meets (λ h m. λ short. (s.frame, m, s.early)))
 run_stops c mid new out ins (run.TooLong count) s = inl (too_long c mid new out ins count s)
 run_stops c mid new out ins run.ReadFault s = inr (inl s.0.rose)
 run_stops c mid new out ins run.WriteFault s = inr (inr (inl s.0.rose))
@@ -165,7 +154,7 @@ run_stops c mid new out ins run.OutOfMemory s = inr (inr (inr refl))
 
 run_ends : (c : Config) (mid after : State) (out : List ℕ) (ins : List (List ℕ)) (frames units : ℕ) → length ins ≡ length c.plps → RunsAll c mid after out ins frames units → RunMust mid ins c (Ok (record { frames = frames; units = units }))
 run_ends c mid after out ins frames units count r =
-    if_some mid.held _ _ (λ h e. λ short. must_all c (file_at h ins) (length ins) frames units count r.early e) (ended mid.held ins c frames units r.whole r.frames_are r.units_are)
+    IfSome_then mid.held (ended mid.held ins c frames units r.whole r.frames_are r.units_are) (λ h e. λ short. must_all c (file_at h ins) (length ins) frames units count r.early e)
 
 -- the same counts before
 by_before : (old mid new : State) (outcome : Outcome) → SameCounts old mid → By mid new outcome → By old new outcome
@@ -186,12 +175,12 @@ run_ways old mid new config out ins c outcome same count (inr (frames, units, af
     (told old after new (gateway_line frames units) outcome (runs.counts ∙ same) tells)
 
 gateway_decided : OnePlan → OneRun → (old new : State) (config out : List ℕ) (ins : List (List ℕ)) (result : Outcome) → IfSome old.held (λ held. EndsIfShort held config ins result) → IsComplete (Gateway config out ins) old new result
-gateway_decided one run old new config out ins result s = if_some old.held _ _ (λ held x. λ outcome must r w. inl (ended_so one run held config out ins result outcome x must)) s
+gateway_decided one run old new config out ins result s = IfSome_then old.held s (λ held x. λ outcome must r w. inl (ended_so one run held config out ins result outcome x must))
 
 follows_so : OnePlan → OneRun → (old mid new : State) (config out : List ℕ) (ins : List (List ℕ)) (c : Config) (result : Outcome) → Gives old mid config c → IsPlan c → Follows mid new out ins c result →
     IsComplete (Gateway config out ins) old new result
 follows_so one run old mid new config out ins c result gives plan (inl (same, other)) =
-    gateway_decided one run old new config out ins result (if_some old.held _ _ (λ held x. inr (c, (x, plan), inl other)) gives.spells)
+    gateway_decided one run old new config out ins result (IfSome_then old.held gives.spells (λ held x. inr (c, (x, plan), inl other)))
 follows_so one run old mid new config out ins c result gives plan (inr (count, runs)) =
     ⊎_elim
     (λ w. gateway_decided one run old new config out ins result
@@ -202,7 +191,7 @@ follows_so one run old mid new config out ins c result gives plan (inr (count, r
 gateway_so : OnePlan → OneRun → (old new : State) (config out : List ℕ) (ins : List (List ℕ)) (result : Outcome) → Gateways old new config out ins result → IsComplete (Gateway config out ins) old new result
 gateway_so one run old new config out ins result (inl (stop, none, is)) =
     ⊎_elim
-    (λ s. gateway_decided one run old new config out ins result (if_some old.held _ _ (λ held x. inl (stop, x, is)) s))
+    (λ s. gateway_decided one run old new config out ins result (IfSome_then old.held s (λ held x. inl (stop, x, is))))
     (λ by. failed (Gateway config out ins) old new result (subst (By old new) (sym is) by))
     (no_plan old new config stop none)
 gateway_so one run old new config out ins result (inr (c, mid, gives, plan, follows)) = follows_so one run old mid new config out ins c result gives plan follows

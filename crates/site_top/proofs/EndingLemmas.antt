@@ -1,5 +1,5 @@
 -- What a desk holds decides how a command must end.
-use Rattle.std.proofs.Common.{◌≡◌, ◌≢◌, ◌⊎◌, ℕ, inl, inr, List, length, refl, ap, sym, subst, ◌∙◌}
+use Rattle.std.proofs.Common.{◌≡◌, ◌⊎◌, ℕ, inl, inr, List, length, ap, sym, subst, ◌∙◌}
 use Rattle.std.specs.Prelude.{Result, Ok, Err}
 use Rattle.ports.specs.Desk.{Held, bytes_of}
 use Rattle.plp_config.specs.declared.config.Config.{Config}

@@ -3,3 +3,4 @@ pub mod EndingLemmas
 pub mod GatewayLemmas
 pub mod RequestLemmas
 pub mod RunLemmas
+pub mod HaveEndingLemmas

@@ -1,6 +1,7 @@
 -- A run: what its command does, and its last line.
 use Rattle.std.proofs.Common.{◌≡◌, ℕ, List, Option, Some, None, refl, sym, ap, subst}
 use Rattle.std.specs.Prelude.{IfSome, IfNone}
+use Rattle.std.proofs.lemmas.Option.{IfSome_then}
 use Rattle.ports.specs.Counts.{Rose, MayFailAtLast}
 use Rattle.ports.specs.Desk.{State, SaysLast}
 use Rattle.site_top.specs.declared.outcome.Outcome.{Outcome}
@@ -10,7 +11,6 @@ use Rattle.site_top.specs.Endings.{EndsBy, Ends}
 use Rattle.site_top.specs.Laws.{Completeness}
 use Rattle.site_top.specs.Outcomes.{last_line}
 use Rattle.site_top.specs.Runs.{Does, IsComplete}
-use Rattle.site_top.proofs.CompleteLemmas.{if_some}
 
 ends_by : (before after : State) (outcome : Outcome) → (outcome ≡ Done → ⊥) → EndsBy before after (last_line outcome) → Ends before after outcome
 ends_by before after Done other e = absurd (other refl)
@@ -36,13 +36,13 @@ ends_stay before after outcome e = record { reads = ap (λ counts. counts.reads)
 pub run_complete : Completeness → (command : Option Command) (old mid new : State) (result : Outcome) → IfSome command (λ c. Does c old mid result) → Ends mid new result → IfSome command (λ c. IsComplete c old new result)
 run_complete law command old mid new result does ends =
     let stay = ends_stay mid new result ends in
-    if_some command _ _ (λ c did. if_some old.held _ _ (λ held x. λ outcome must r w.
-    x outcome must (subst (λ (n : ℕ). ¬ (Rose old.counts.reads n)) stay.reads r) (subst (λ (n : ℕ). ¬ (Rose old.counts.writes n)) stay.writes w)) (law c old mid result did)) does
+    IfSome_then command does (λ c did. IfSome_then old.held (law c old mid result did) (λ held x. λ outcome must r w.
+    x outcome must (subst (λ (n : ℕ). ¬ (Rose old.counts.reads n)) stay.reads r) (subst (λ (n : ℕ). ¬ (Rose old.counts.writes n)) stay.writes w)))
 
 -- what a command did, and then its last line
 pub run_does : (command : Option Command) (old mid new : State) (result : Outcome) → IfSome command (λ c. Does c old mid result) → Ends mid new result →
     IfSome command (λ c. (before : State) × Does c old before result × Ends before new result)
-run_does command old mid new result does ends = if_some command _ _ (λ c x. (mid, x, ends)) does
+run_does command old mid new result does ends = IfSome_then command does (λ c x. (mid, x, ends))
 
 if_none : {A : Type 0} (o : Option A) (P Q : Type 0) → (P → Q) → IfNone o P → IfNone o Q
 if_none None P Q f h = f h

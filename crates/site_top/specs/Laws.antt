@@ -1,18 +1,17 @@
 -- Laws of what commands do.
-use Rattle.std.specs.Prelude.{◌≡◌, ◌<◌, ℕ, List, length}
-use Rattle.ports.specs.Desk.{State, Held, bytes_of}
-use Rattle.desk_io.specs.Reading.{most_bytes}
+use Rattle.std.specs.Prelude.{◌≡◌}
+use Rattle.ports.specs.Desk.{State, Held}
 use Rattle.site_top.specs.declared.outcome.Outcome.{Outcome}
-use Rattle.site_top.specs.Commands.{Command, ShowPackets}
-use Rattle.site_top.specs.Runs.{Does, MustEnd, IsComplete}
+use Rattle.site_top.specs.Commands.{Command}
+use Rattle.site_top.specs.Runs.{Does, AreShortFor, MustEnd, IsComplete}
 
 -- The files that a desk holds decide how a run over them must end.
 abbrev pub OneEnding : Type 0
 OneEnding = (command : Command) (held : Held) (outcome other : Outcome) → MustEnd command held outcome → MustEnd command held other → outcome ≡ other
 
--- Over each file that is not too long `show packets` has an ending.
-abbrev pub PacketsHaveEnding : Type 0
-PacketsHaveEnding = (file : List ℕ) (held : Held) → length (bytes_of held.files file) < most_bytes → (outcome : Outcome) × MustEnd (ShowPackets file) held outcome
+-- Over files that are not too long each command has an ending.
+abbrev pub CommandsHaveEnding : Type 0
+CommandsHaveEnding = (command : Command) (held : Held) → AreShortFor command held → (outcome : Outcome) × MustEnd command held outcome
 
 -- A command that did what it does is complete.
 abbrev pub Completeness : Type 0

@@ -37,6 +37,14 @@ Does (Gateway config out ins) old new outcome = Gateways old new config out ins 
 abbrev pub AreShort : Held → List (List ℕ) → Type 0
 AreShort held ins = (plp : ℕ) → plp < length ins → length (file_at held ins plp) < most_bytes
 
+-- No file is too long that a command reads, CONFIG aside.
+abbrev pub AreShortFor : Command → Held → Type 0
+AreShortFor (ShowPackets file) held = length (bytes_of held.files file) < most_bytes
+AreShortFor (ShowT2mi file) held = length (bytes_of held.files file) < most_bytes
+AreShortFor (ShowConfig file) held = Unit {0}
+AreShortFor (Plan config) held = Unit {0}
+AreShortFor (Gateway config out ins) held = AreShort held ins
+
 -- How `gateway` must end over a plan: with the numbers if there is not one input for each PLP, else as the run does over inputs that
 -- are not too long.
 abbrev pub PlanMustEnd : Held → List (List ℕ) → Config → Outcome → Type 0

@@ -10,6 +10,9 @@ use config_text::TextWhy;
 use desk_io::Line;
 use t2mi_packet::PacketWhy;
 
+// Bytes of the place of a PLP at most: five of its key, and twenty digits.
+const PLACE_ROOM: usize = 5 + 20;
+
 fn why_number(why: PacketWhy) -> u8
     ensures { result ≡ number_of_why why }
 {
@@ -67,9 +70,9 @@ fn text_refused_line(line: u32, why: TextWhy) -> Line
 
 // Adds the place of a PLP, or a dash where there is none.
 fn push_place(line: &mut Line, plp: Option<u8>)
-    requires { length line.old + 25 ≤ ROOM }
+    requires { length line.old + PLACE_ROOM ≤ ROOM }
     ensures text { line.new ≡ line.old ++ codes " plp " ++ place_word plp }
-    ensures len { length line.new ≤ length line.old + 25 }
+    ensures len { length line.new ≤ length line.old + PLACE_ROOM }
 {
     match plp {
         Some(place) => line.push_field(b" plp ", u64::from(place)),

@@ -1,8 +1,8 @@
 // Laws of the definitions. Their functions do nothing.
-ghost use Rattle.site_top.specs.Laws.{OneEnding, PacketsHaveEnding, Completeness};
+ghost use Rattle.site_top.specs.Laws.{OneEnding, CommandsHaveEnding, Completeness};
 
-use config_file::one_config;
-use gateway_run::one_run;
+use config_file::{config_ends, one_config};
+use gateway_run::{one_run, run_ends};
 use show_run::packets_end_law;
 
 /// The files that a desk holds decide how a run over them must end.
@@ -14,11 +14,13 @@ pub fn one_ending()
     one_run();
 }
 
-/// Over each file that is not too long `show packets` has an ending.
-pub fn packets_have_ending()
-    ensures { PacketsHaveEnding }
+/// Over files that are not too long each command has an ending.
+pub fn commands_have_ending()
+    ensures { CommandsHaveEnding }
 {
     packets_end_law();
+    config_ends();
+    run_ends();
 }
 
 /// A command that did what it does is complete.

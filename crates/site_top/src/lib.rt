@@ -12,7 +12,7 @@ mod running;
 mod show;
 
 pub use config_file::ConfigCause;
-pub use laws::{completeness, one_ending, packets_have_ending};
+pub use laws::{commands_have_ending, completeness, one_ending};
 pub use outcome::Outcome;
 pub use ports::Word;
 pub use running::run;

@@ -8,6 +8,16 @@ use config_text::band_word;
 use desk_io::{Line, Page};
 use plp_config::{Config, Plan};
 
+// Digits of a number at most: those of 2^64 - 1.
+const DIGITS: usize = 20;
+
+// Bytes of each part of a line at most: those of its keys, and the digits of its numbers.
+const SLOT_ROOM: usize = 18 + 4 * DIGITS;
+
+const SIZES_ROOM: usize = 30 + 4 * DIGITS;
+
+const COUNTS_ROOM: usize = 19 + 5 * DIGITS;
+
 #[tactic(auto, unfolding(crate::specs::PlanLines::network_line))]
 fn network_line(config: &Config) -> Line
     ensures text { result ≡ line_of_network config.now }
@@ -26,9 +36,9 @@ fn network_line(config: &Config) -> Line
 #[tactic(auto, unfolding(crate::specs::PlanLines::slot_part))]
 fn push_slot(line: &mut Line, plan: &Plan, plp: usize, num: u64, den: u64)
     requires configured { plp < length plan.now.plps }
-    requires room { length line.old + 98 ≤ ROOM }
+    requires room { length line.old + SLOT_ROOM ≤ ROOM }
     ensures text { line.new ≡ line.old ++ slot_part plan.now plp num den }
-    ensures len { length line.new ≤ length line.old + 98 }
+    ensures len { length line.new ≤ length line.old + SLOT_ROOM }
 {
     let id = plan.config().plps.get(plp).unwrap().id;
     line.push_field(b"plp=", u64::from(id));
@@ -40,9 +50,9 @@ fn push_slot(line: &mut Line, plan: &Plan, plp: usize, num: u64, den: u64)
 #[tactic(auto, unfolding(crate::specs::PlanLines::size_part))]
 fn push_sizes(line: &mut Line, plan: &Plan, plp: usize)
     requires configured { plp < length plan.now.plps }
-    requires room { length line.old + 110 ≤ ROOM }
+    requires room { length line.old + SIZES_ROOM ≤ ROOM }
     ensures text { line.new ≡ line.old ++ size_part plan.now plp }
-    ensures len { length line.new ≤ length line.old + 110 }
+    ensures len { length line.new ≤ length line.old + SIZES_ROOM }
 {
     let blocks = plan.config().plps.get(plp).unwrap().blocks;
     let cells = u64::from(blocks) * u64::from(plan.block_cells(plp));
@@ -55,9 +65,9 @@ fn push_sizes(line: &mut Line, plan: &Plan, plp: usize)
 #[tactic(auto, unfolding(crate::specs::PlanLines::count_part))]
 fn push_counts(line: &mut Line, plan: &Plan, plp: usize)
     requires configured { plp < length plan.now.plps }
-    requires room { length line.old + 119 ≤ ROOM }
+    requires room { length line.old + COUNTS_ROOM ≤ ROOM }
     ensures text { line.new ≡ line.old ++ count_part plan.now plp }
-    ensures len { length line.new ≤ length line.old + 119 }
+    ensures len { length line.new ≤ length line.old + COUNTS_ROOM }
 {
     let ticks = u64::from(plan.config().ticks);
     line.push_field(b" window=", plan.window(plp));

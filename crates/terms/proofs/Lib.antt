@@ -4,3 +4,5 @@ pub mod RangeLemmas
 pub mod CaseLemmas
 pub mod NatLemmas
 pub mod AllLemmas
+pub mod OptionLemmas
+pub mod DecisionLemmas

@@ -1,4 +1,5 @@
 use Rattle.std.proofs.Common.{◌+◌, ◌*◌, ◌≤◌, length}
+use Rattle.desk_io.specs.declared.line.TheConstants.{ROOM}
 use Rattle.site_top.specs.PlanLines.{PlanLines}
 use Rattle.site_top.proofs.plan_lines.push_lines.Given as goal
 
@@ -6,5 +7,5 @@ use Rattle.site_top.proofs.plan_lines.push_lines.Given as goal
 abbrev pub invariant-loop-plp : goal.invariant-loop-plp
 invariant-loop-plp l = record {
   lines : PlanLines l.plan l.plp l.page;
-  room : length l.page ≤ 384 * l.plp + 384;
+  room : length l.page ≤ ROOM * l.plp + ROOM;
 }

@@ -1,5 +1,7 @@
-use Rattle.std.proofs.Common.{◌^◌, ◌<◌, Some, refl, arith, ◌∙◌}
+use Rattle.std.proofs.Common.{sym, ◌-◌, ◌<◌, Some, refl, arith, ◌∙◌}
 use Rattle.frame_groups.specs.Grouping.{one_packet}
+use Rattle.std.proofs.lemmas.Bool.{true≢false}
+use Rattle.frame_groups.specs.Waits.{most_number, greatest_step}
 use Rattle.frame_groups.proofs.SequenceLemmas.{started, has_group, other_key}
 use Rattle.frame_groups.proofs.sequence.Sequence.begin.Goals as goal
 
@@ -14,9 +16,9 @@ returns-clause-follows g c = λ ps given other k.
       sequenced =
           started (g.G.OpenGroup.rules c.args.self.now.group) (g.G.OpenGroup.rules c.begin.new.self) k.group (Some (one_packet c.key_behind-next_key.result c.args.packet.now)) h.group
           c.args.self.now.progress.number c.number_behind-number.result c.args.self.now.progress.next c.args.self.now.progress.closing c.args.self.now.progress.fault ps given c.args.packet.now c.args.key c.key_behind-next_key.result
-          h.is c.requires.closing c.requires.idle c.requires.counted (other_key h.group c.args.key c.args.packet.now h.key_is other) some c.requires.superframe h.key_is c.key_behind-next_key.ensures refl c.begin.ensures.rules
+          h.is c.requires.closing c.requires.idle c.requires.counted (other_key h.group c.args.key c.args.packet.now h.key_is other) some c.requires.fits.superframe h.key_is c.key_behind-next_key.ensures refl c.begin.ensures.rules
           c.number_behind-number.ensures.none (rw (← e) c.number_behind-number.ensures.some) k.sequenced;
     }
 
 pub invariant_of-self : goal.invariant_of-self
-invariant_of-self g c = record { near = c.number_behind-number.ensures.near (2 ^ 32) c.requires.near; intact = λ _. c.begin.ensures.intact }
+invariant_of-self g c = record { near = c.number_behind-number.ensures.near (most_number - greatest_step) c.requires.near; intact = λ _. c.begin.ensures.intact; frame = λ shut. absurd (true≢false (sym shut)) }

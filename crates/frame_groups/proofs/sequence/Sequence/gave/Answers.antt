@@ -5,5 +5,5 @@ pub returns-clause-follows : goal.returns-clause-follows
 returns-clause-follows g c = λ ps given x k e. record {
   group = k.group;
   holds = k.holds;
-  sequenced = gave _ k.group c.args.self.now.progress.number c.args.self.now.progress.next c.args.self.now.progress.closing c.args.self.now.progress.fault ps given x c.requires (e k.group k.holds) k.sequenced;
+  sequenced = gave _ k.group c.args.self.now.progress.number c.args.self.now.progress.next c.args.self.now.progress.closing c.args.self.now.progress.fault ps given x c.requires e k.sequenced;
 }

@@ -16,7 +16,7 @@ returns-in_default-clause-worked g c = λ _ ps given k ends.
       holds = c.begin.ensures.group;
       sequenced =
           begun (g.G.OpenGroup.rules c.args.self.now.group) (g.G.OpenGroup.rules c.begin.new.self) k.group (Some (one_packet c.key_behind.result c.args.packet.now))
-          c.args.self.now.progress.number c.args.self.now.progress.next c.args.self.now.progress.closing c.args.self.now.progress.fault ps given c.args.packet.now (c.key.ensures.is k.group k.holds ∙ no) kept some c.requires.superframe
+          c.args.self.now.progress.number c.args.self.now.progress.next c.args.self.now.progress.closing c.args.self.now.progress.fault ps given c.args.packet.now (c.key.ensures.is k.group k.holds ∙ no) kept some c.requires.fits.superframe
           (ap (λ key. Some (one_packet key c.args.packet.now)) c.key_behind.ensures) c.begin.ensures.rules k.sequenced;
     }
 

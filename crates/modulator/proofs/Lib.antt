@@ -1,0 +1,3 @@
+pub mod StandsLemmas
+pub mod StepLemmas
+pub mod TookLemmas

@@ -1,0 +1,2 @@
+pub mod Modulating
+pub mod Gives

@@ -1,0 +1,5 @@
+//! A modulator: a T2-MI stream in, the records of T2 frames out.
+#![tactic(auto)]
+
+mod modulating;
+mod settle;

@@ -1,0 +1,7 @@
+pub mod PlaceLemmas
+pub mod BlockLemmas
+pub mod IdLemmas
+pub mod CountLemmas
+pub mod HoldLemmas
+pub mod NamedLemmas
+pub mod RoomLemmas

@@ -1,0 +1,235 @@
+// The blocks of a group.
+ghost use Rattle.std.specs.Prelude.{◌≡◌, ◌+◌, ◌*◌, ◌<◌, ◌≤◌, ℕ, [], length};
+ghost use Rattle.linked_pool.specs.Pool.{list_at};
+ghost use Rattle.open_group.specs.Sent.{sent_bytes};
+ghost use Rattle.plp_config.specs.declared.plp.TheConstants.{MOST_BLOCK_BYTES};
+
+use crate::plps::{block_chunks, place_of, pool_chunks};
+use bb_frame::scramble;
+use bit_slice::{BitSlice, OutOfMemory};
+use linked_pool::{BlockRef, Pool};
+use plp_config::{MOST_BLOCK_BYTES, Plan};
+use scheduler::Shape;
+use std::alloc::Global;
+use t2mi_packet::{Body, Packet};
+
+/// What is held of the blocks of a group. Its numbers stand still at the greatest that they can be.
+#[derive(Drop)]
+pub struct HeldBlocks {
+    // Of each PLP, its blocks that have its length, scrambled.
+    pool: Pool,
+    // Of each PLP, how many blocks came.
+    counts: Vec<u64>,
+    // Its chunks, and those that these blocks need. Once these are more, no block is kept.
+    chunks: u32,
+    need: u64,
+    // Each block was one of a PLP, with its length.
+    known: bool,
+    ghost whole: { pool.opened ≡ chunks },
+    ghost room: { need ≤ chunks → chunks ≤ pool.spare + need },
+}
+
+// Removes the blocks of all lists.
+fn clear_lists(pool: &mut Pool, lists: u32)
+    requires { length pool.old.lists ≡ lists }
+    ensures lists { length pool.new.lists ≡ lists }
+    ensures none { (list : ℕ) → list < lists → list_at pool.new list ≡ [] }
+    ensures opened { pool.new.opened ≡ pool.old.opened }
+{
+    for list in 0..lists {
+        pool.clear(list);
+    }
+}
+
+fn clear_pool(pool: &mut Pool, lists: u32)
+    requires { length pool.old.lists ≡ lists }
+    ensures lists { length pool.new.lists ≡ lists }
+    ensures none { (list : ℕ) → list < lists → list_at pool.new list ≡ [] }
+    ensures opened { pool.new.opened ≡ pool.old.opened }
+    ensures spare { pool.new.spare ≡ pool.new.opened }
+{
+    clear_lists(pool, lists);
+    // A call that tells that every chunk is free or has a part of a block.
+    let _ = pool.spare();
+}
+
+// The bytes of a block as it is sent.
+fn send(bits: &BitSlice<'_>, out: &mut [u8])
+    requires { length bits.now ≡ 8 * length out.old }
+    ensures bytes { out.new ≡ sent_bytes bits.now }
+    ensures len { length out.new ≡ length out.old }
+{
+    bits.copy_bytes(out);
+    scramble(out);
+}
+
+impl HeldBlocks {
+    ghost use Rattle.std.specs.Prelude.{◌≡◌, ◌≢◌, ◌↔◌, ◌<◌, ◌≤◌, ◌+◌, ◌*◌, ◌^◌, ◌++◌, ◌∷◌, [], true, false, Some, min, length, drop, replicate, slice_index_or, IsNone, IfSome, map, vec_len, slice_set, slice_index, IfOk, List, Bool, ℕ};
+    ghost use Rattle.linked_pool.specs.Pool.{State, list_at, chunks_for, appended};
+    ghost use Rattle.plp_config.specs.Capacity.{block_bytes};
+    ghost use Rattle.t2mi_packet.specs.declared.packet.Packet.{Packet};
+    ghost use Rattle.t2mi_packet.specs.declared.packet.Body.TheVariants.{Block};
+    ghost use Rattle.frame_tests.specs.Tally.{Tally, tally_counts, tally_with};
+    ghost use Rattle.frame_tests.specs.Tests.{pool_chunks, capped};
+    ghost use Rattle.open_group.specs.HoldsBlocks.{IsOpenFor, HoldsCounts, HoldsLists};
+    ghost use Rattle.open_group.specs.Sent.{sent_bytes};
+
+    /// Takes the memory for the PLPs of a plan. Nothing is held yet.
+    pub fn open(alloc: Global, plan: &Plan) -> Result<HeldBlocks, OutOfMemory>
+        ensures open { IfOk result (λ held. IsOpenFor held (length plan.now.plps)) }
+        ensures chunks { IfOk result (λ held. held.chunks ≡ pool_chunks plan.now) }
+    {
+        let plps = plan.config().plps.len();
+        let chunks = pool_chunks(plan);
+        Ok(HeldBlocks {
+            pool: Pool::open(alloc, chunks, plps as u32)?,
+            counts: vec![in alloc; 0; plps]?,
+            chunks,
+            need: 0,
+            known: true,
+        })
+    }
+
+    // Counts a block of a PLP.
+    fn count(&mut self, plp: usize)
+        requires { plp < vec_len self.old.counts }
+        ensures counts { self.new.counts.items ≡ slice_set self.old.counts.items plp (capped (slice_index self.old.counts.items plp + 1)) }
+        ensures pool { self.new.pool ≡ self.old.pool }
+        ensures all { self.new.chunks ≡ self.old.chunks }
+        ensures need { self.new.need ≡ self.old.need }
+        ensures known { self.new.known ≡ self.old.known }
+    {
+        self.counts[plp] = self.counts[plp].saturating_add(1);
+    }
+
+    // Keeps a block of a PLP, if there is room for all that came so far.
+    fn keep(&mut self, plp: u32, chunks: u32, bits: &BitSlice<'_>, len: usize)
+        requires list { plp < length self.old.pool.lists }
+        requires len { length bits.now ≡ 8 * len }
+        requires short { len ≤ MOST_BLOCK_BYTES }
+        requires chunks { chunks ≡ chunks_for len }
+        ensures need { self.new.need ≡ capped (self.old.need + chunks) }
+        ensures kept { self.new.need ≤ self.old.chunks → self.new.pool ≡ appended self.old.pool plp (sent_bytes bits.now) }
+        ensures all { self.new.chunks ≡ self.old.chunks }
+        ensures lists { length self.new.pool.lists ≡ length self.old.pool.lists }
+        ensures counts { self.new.counts ≡ self.old.counts }
+        ensures known { self.new.known ≡ self.old.known }
+    {
+        self.need = self.need.saturating_add(u64::from(chunks));
+        if self.need > u64::from(self.chunks) {
+            return;
+        }
+        let mut bytes = [0; MOST_BLOCK_BYTES as usize];
+        let block = &mut bytes[..len];
+        send(bits, block);
+        self.pool.append(plp, block).unwrap();
+    }
+
+    fn add_block(&mut self, plan: &Plan, id: u8, bits: &BitSlice<'_>)
+        requires open { IsOpenFor self.old (length plan.now.plps) }
+        ensures counts { (t : Tally) (p : Packet) (frame_idx : ℕ) (first : Bool) → p.body ≡ Block frame_idx id first bits.now → HoldsCounts plan.now self.old t → HoldsCounts plan.now self.new (tally_with plan.now t p) }
+        ensures lists { (packets : List Packet) (p : Packet) (frame_idx : ℕ) (first : Bool) → p.body ≡ Block frame_idx id first bits.now → HoldsLists plan.now self.old packets → HoldsLists plan.now self.new (packets ++ p ∷ []) }
+        ensures open { IsOpenFor self.new (length plan.now.plps) }
+        ensures all { self.new.chunks ≡ self.old.chunks }
+    {
+        let Some(place) = place_of(plan, id) else {
+            self.known = false;
+            return;
+        };
+        self.count(place);
+        let len = plan.block_bytes(place) as usize;
+        if bits.len() != 8 * len {
+            self.known = false;
+            return;
+        }
+        self.keep(place as u32, block_chunks(plan, place), bits, len);
+    }
+
+    /// Adds the block of a packet, if it carries one.
+    pub fn add(&mut self, plan: &Plan, packet: &Packet<'_>)
+        requires open { IsOpenFor self.old (length plan.now.plps) }
+        ensures counts { (t : Tally) → HoldsCounts plan.now self.old t → HoldsCounts plan.now self.new (tally_with plan.now t packet.now) }
+        ensures lists { (packets : List Packet) → HoldsLists plan.now self.old packets → HoldsLists plan.now self.new (packets ++ packet.now ∷ []) }
+        ensures open { IsOpenFor self.new (length plan.now.plps) }
+        ensures all { self.new.chunks ≡ self.old.chunks }
+    {
+        match &packet.body {
+            Body::Block { plp, bits, .. } => self.add_block(plan, *plp, bits),
+            Body::L1Current { .. } => {}
+            Body::Timestamp(_) => {}
+            Body::Other { .. } => {}
+        }
+    }
+    /// Holds nothing.
+    pub fn clear(&mut self, plan: &Plan)
+        requires open { IsOpenFor self.old (length plan.now.plps) }
+        ensures counts { self.new.counts.items ≡ replicate (length self.old.counts.items) 0 }
+        ensures need { self.new.need ≡ 0 }
+        ensures known { self.new.known ≡ true }
+        ensures none { (list : ℕ) → list < length plan.now.plps → list_at self.new.pool list ≡ [] }
+        ensures open { IsOpenFor self.new (length plan.now.plps) }
+        ensures all { self.new.chunks ≡ self.old.chunks }
+    {
+        clear_pool(&mut self.pool, plan.config().plps.len() as u32);
+        self.counts.fill(0);
+        self.need = 0;
+        self.known = true;
+    }
+
+    /// How many chunks there are, and how many the blocks need that have the length of their PLP.
+    pub fn chunks(&self) -> (u64, u64)
+        ensures chunks { result.0 ≡ self.now.chunks }
+        ensures small { result.0 < 2 ^ 32 }
+        ensures need { result.1 ≡ self.now.need }
+    {
+        (u64::from(self.chunks), self.need)
+    }
+
+    /// Whether each block was one of a PLP, with its length.
+    pub fn is_known(&self) -> bool
+        ensures { result ≡ self.now.known }
+    {
+        self.known
+    }
+
+    fn count_of(&self, plp: usize) -> u64
+        requires { plp < vec_len self.now.counts }
+        ensures { result ≡ slice_index self.now.counts.items plp }
+    {
+        self.counts[plp]
+    }
+
+    /// Whether each PLP has as many blocks as a shape tells.
+    pub fn has_counts(&self, plan: &Plan, shape: &Shape) -> bool
+        requires open { IsOpenFor self.now (length plan.now.plps) }
+        requires shape { length shape.now.counts ≡ length plan.now.plps }
+        ensures { (t : Tally) → HoldsCounts plan.now self.now t → result ≡ tally_counts plan.now t (Some shape.now) }
+    {
+        for plp in 0..shape.len() {
+            if self.count_of(plp) != u64::from(shape.count(plp)) {
+                return false;
+            }
+        }
+        true
+    }
+    /// The first block of a PLP that was not given out; `None` if there is none.
+    pub fn front(&self, plp: u32) -> Option<BlockRef<'_>>
+        requires { plp < length self.now.pool.lists }
+        ensures none { IsNone result ↔ (length (list_at self.now.pool plp) ≡ 0) }
+        ensures some { IfSome result (λ block. block ≡ slice_index_or (list_at self.now.pool plp) 0 []) }
+    {
+        self.pool.front(plp)
+    }
+
+    /// Gives it out.
+    pub fn pop(&mut self, plp: u32)
+        requires { plp < length self.old.pool.lists }
+        ensures own { list_at self.new.pool plp ≡ drop 1 (list_at self.old.pool plp) }
+        ensures others { (other : ℕ) → other ≢ plp → list_at self.new.pool other ≡ list_at self.old.pool other }
+        ensures lists { length self.new.pool.lists ≡ length self.old.pool.lists }
+        ensures counts { self.new.counts ≡ self.old.counts }
+        ensures all { self.new.chunks ≡ self.old.chunks }
+    {
+        self.pool.pop(plp);
+    }
+}

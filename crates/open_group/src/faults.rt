@@ -1,0 +1,199 @@
+// The six tests of what is held of a group (ETSI TS 102 773, clause 5).
+ghost use Rattle.std.specs.Prelude.{◌≡◌, ◌<◌, ◌≤◌, ◌^◌, true, IsNone, length};
+ghost use Rattle.std.specs.Option.{option_and_then};
+ghost use Rattle.frame_tests.specs.MapTest.{map_passes};
+ghost use Rattle.frame_tests.specs.Tally.{Tally, tally_pool, tally_missing, tally_l1, first_late, tally_time, tally_counts, tally_shape, tally_blocks, tally_map, tally_fault};
+ghost use Rattle.frame_tests.specs.Tests.{begins_superframe, pool_chunks, stamp_agrees, disagrees, has_map};
+ghost use Rattle.open_group.specs.HoldsBlocks.{IsOpenFor, HoldsCounts};
+ghost use Rattle.open_group.specs.HoldsL1.{HoldsL1, shape_told};
+ghost use Rattle.open_group.specs.HoldsStamps.{HoldsStamps};
+
+use crate::blocks::HeldBlocks;
+use crate::l1::HeldL1;
+use crate::stamps::HeldStamps;
+use cell_map::check;
+use frame_groups::MuteCause;
+use frame_tests::map_test_law;
+use plp_config::Plan;
+use scheduler::Shape;
+use t2mi_packet::Stamp;
+
+// Whether a frame begins a superframe.
+fn begins_superframe(plan: &Plan, number: u64) -> bool
+    ensures { result ≡ begins_superframe plan.now number }
+{
+    number % u64::from(plan.config().frames) == 0
+}
+
+/// a: the blocks that have the length of their PLP have room.
+pub fn pool_fault(plan: &Plan, blocks: &HeldBlocks) -> Option<MuteCause>
+    requires { blocks.now.chunks ≡ pool_chunks plan.now }
+    ensures cause { (t : Tally) → HoldsCounts plan.now blocks.now t → result ≡ tally_pool plan.now t }
+    ensures room { IsNone result → blocks.now.need ≤ blocks.now.chunks }
+{
+    let (spare, need) = blocks.chunks();
+    if need <= spare {
+        return None;
+    }
+    Some(MuteCause::PoolFull { need, spare })
+}
+
+/// b: there is an L1-current, and a timestamp if a superframe begins.
+pub fn missing_fault(plan: &Plan, number: u64, l1: &HeldL1, stamps: HeldStamps) -> Option<MuteCause>
+    ensures { (t : Tally) → HoldsL1 plan.now l1.now t.l1 t.alike → HoldsStamps stamps t → result ≡ tally_missing plan.now number t }
+{
+    if l1.is_held() && (!begins_superframe(plan, number) || stamps.first.is_some()) {
+        return None;
+    }
+    Some(MuteCause::PacketMissing)
+}
+
+/// c: all L1-current packets are the same, and those of the configuration and the frame.
+pub fn l1_fault(plan: &Plan, number: u64, l1: &HeldL1) -> Option<MuteCause>
+    requires rows { length l1.now.dynamic.plps ≡ length plan.now.plps }
+    ensures { (t : Tally) → HoldsL1 plan.now l1.now t.l1 t.alike → result ≡ tally_l1 plan.now number t }
+{
+    if l1.agrees(plan, number) {
+        return None;
+    }
+    Some(MuteCause::L1Refused)
+}
+
+// Whether a timestamp tells the bandwidth and the emission of a frame.
+fn stamp_agrees(plan: &Plan, number: u64, stamp: Stamp) -> bool
+    requires { number < 2 ^ 32 }
+    ensures { result ≡ stamp_agrees plan.now number stamp }
+{
+    let emission = plan.emission(number);
+    stamp.bw == plan.config().band.bw()
+        && stamp.seconds == emission.seconds
+        && stamp.subseconds == emission.subseconds
+}
+
+// The first timestamp that does not.
+fn late(plan: &Plan, number: u64, stamps: HeldStamps) -> Option<Stamp>
+    requires { number < 2 ^ 32 }
+    ensures { (t : Tally) → HoldsStamps stamps t → result ≡ option_and_then (first_late plan.now number t) t.stamp }
+{
+    let first = stamps.first?;
+    if stamp_agrees(plan, number, first) {
+        return stamps.unlike;
+    }
+    Some(first)
+}
+
+fn disagrees(plan: &Plan, number: u64, stamp: Stamp) -> MuteCause
+    requires { number < 2 ^ 32 }
+    ensures { result ≡ disagrees plan.now number stamp }
+{
+    MuteCause::TimeDisagrees {
+        stamp,
+        counted: plan.emission(number),
+    }
+}
+
+/// d: if a superframe begins, each timestamp tells the bandwidth and the emission of the frame.
+pub fn time_fault(plan: &Plan, number: u64, stamps: HeldStamps) -> Option<MuteCause>
+    requires { number < 2 ^ 32 }
+    ensures { (t : Tally) → HoldsStamps stamps t → result ≡ tally_time plan.now number t }
+{
+    if !begins_superframe(plan, number) {
+        return None;
+    }
+    match late(plan, number, stamps) {
+        Some(stamp) => Some(disagrees(plan, number, stamp)),
+        None => None,
+    }
+}
+
+// Whether the blocks are those that the first L1-current tells.
+fn has_blocks(plan: &Plan, l1: &HeldL1, blocks: &HeldBlocks) -> bool
+    requires rows { length l1.now.dynamic.plps ≡ length plan.now.plps }
+    requires open { IsOpenFor blocks.now (length plan.now.plps) }
+    ensures { (t : Tally) → HoldsL1 plan.now l1.now t.l1 t.alike → HoldsCounts plan.now blocks.now t → result ≡ tally_counts plan.now t (tally_shape plan.now t) }
+{
+    match l1.shape() {
+        Some(shape) => blocks.has_counts(plan, shape),
+        None => false,
+    }
+}
+
+/// e: there are as many blocks as the first L1-current tells, and no others.
+pub fn blocks_fault(plan: &Plan, l1: &HeldL1, blocks: &HeldBlocks) -> Option<MuteCause>
+    requires rows { length l1.now.dynamic.plps ≡ length plan.now.plps }
+    requires open { IsOpenFor blocks.now (length plan.now.plps) }
+    ensures { (t : Tally) → HoldsL1 plan.now l1.now t.l1 t.alike → HoldsCounts plan.now blocks.now t → result ≡ tally_blocks plan.now t }
+{
+    if has_blocks(plan, l1, blocks) && blocks.is_known() {
+        return None;
+    }
+    Some(MuteCause::PacketMissing)
+}
+
+// Whether a shape has a cell map.
+fn map_passes(plan: &Plan, shape: &Shape) -> bool
+    requires { length shape.now.counts ≡ length plan.now.plps }
+    ensures { result ≡ map_passes plan.now shape.now }
+{
+    map_test_law();
+    check(plan, shape).is_ok()
+}
+
+// Whether the shape that the first L1-current tells has one.
+fn has_map(plan: &Plan, l1: &HeldL1) -> bool
+    requires rows { length l1.now.dynamic.plps ≡ length plan.now.plps }
+    ensures told { (t : Tally) → HoldsL1 plan.now l1.now t.l1 t.alike → result ≡ has_map plan.now (tally_shape plan.now t) }
+    ensures shape { result ≡ has_map plan.now (shape_told l1.now) }
+{
+    match l1.shape() {
+        Some(shape) => map_passes(plan, shape),
+        None => false,
+    }
+}
+
+/// f: their cells stand apart, in the frame.
+pub fn map_fault(plan: &Plan, l1: &HeldL1) -> Option<MuteCause>
+    requires rows { length l1.now.dynamic.plps ≡ length plan.now.plps }
+    ensures cause { (t : Tally) → HoldsL1 plan.now l1.now t.l1 t.alike → result ≡ tally_map plan.now t }
+    ensures map { IsNone result → has_map plan.now (shape_told l1.now) ≡ true }
+{
+    if has_map(plan, l1) {
+        return None;
+    }
+    Some(MuteCause::MapRefused)
+}
+
+/// The cause of the first test that fails.
+#[tactic(auto, unfolding(frame_tests::specs::Tally::tally_fault))]
+pub fn first_fault(
+    plan: &Plan,
+    number: u64,
+    stamps: HeldStamps,
+    l1: &HeldL1,
+    blocks: &HeldBlocks,
+) -> Option<MuteCause>
+    requires small { number < 2 ^ 32 }
+    requires chunks { blocks.now.chunks ≡ pool_chunks plan.now }
+    requires rows { length l1.now.dynamic.plps ≡ length plan.now.plps }
+    requires open { IsOpenFor blocks.now (length plan.now.plps) }
+    ensures cause { (t : Tally) → HoldsStamps stamps t → HoldsL1 plan.now l1.now t.l1 t.alike → HoldsCounts plan.now blocks.now t → result ≡ tally_fault plan.now number t }
+    ensures room { IsNone result → blocks.now.need ≤ blocks.now.chunks }
+    ensures map { IsNone result → has_map plan.now (shape_told l1.now) ≡ true }
+{
+    if let Some(cause) = pool_fault(plan, blocks) {
+        return Some(cause);
+    }
+    if let Some(cause) = missing_fault(plan, number, l1, stamps) {
+        return Some(cause);
+    }
+    if let Some(cause) = l1_fault(plan, number, l1) {
+        return Some(cause);
+    }
+    if let Some(cause) = time_fault(plan, number, stamps) {
+        return Some(cause);
+    }
+    if let Some(cause) = blocks_fault(plan, l1, blocks) {
+        return Some(cause);
+    }
+    map_fault(plan, l1)
+}

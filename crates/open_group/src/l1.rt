@@ -1,0 +1,288 @@
+// The L1 signalling of a group.
+ghost use Rattle.std.specs.Prelude.{◌≡◌, ◌<◌, false, nat_eq, Some, None, length, map, slice_index_or, if◌then◌else◌};
+ghost use Rattle.std.specs.Cmp.Lexicographic.{pointwise};
+ghost use Rattle.l1_signal.specs.declared.dyn_plp.DynPlp.{DynPlp};
+ghost use Rattle.l1_signal.specs.L1Configurable.{conf_read, info_size};
+ghost use Rattle.l1_signal.specs.L1Dynamic.{dyn_read};
+ghost use Rattle.l1_signal.specs.L1Of.{told_shape};
+ghost use Rattle.l1_signal.specs.L1Pre.{pre_rows, pre_reading};
+ghost use Rattle.frame_tests.specs.Tests.{read_whole, same_told, pre_agrees, conf_agrees, dyn_agrees};
+
+use crate::network::Network;
+use crate::parts::HeldParts;
+use crate::plps::plp_id;
+use bit_slice::{BitReader, BitSlice, BitSource, OutOfMemory};
+use frame_tests::parts_law;
+use l1_signal::{L1Dyn, L1Pre, is_conf, pre_of, read_dyn, read_pre, shape_of};
+use plp_config::Plan;
+use scheduler::Shape;
+use std::alloc::Global;
+use t2mi_packet::{Body, Packet};
+
+/// What is held of the L1-current packets of a group.
+#[derive(Drop)]
+pub struct HeldL1 {
+    // The first one, if there is one.
+    is_held: bool,
+    parts: HeldParts,
+    // Whether the others are the same.
+    alike: bool,
+    // Of the first one, whether L1-pre and the configurable part are the configuration's.
+    agrees: bool,
+    // Whether its dynamic part was read, this, and the shape that it tells.
+    told: bool,
+    dynamic: L1Dyn,
+    shape: Shape,
+    ghost rows: { length shape.counts ≡ length dynamic.plps },
+}
+
+// The L1-pre that bits are.
+fn read_whole_pre(bits: &BitSlice<'_>) -> Option<L1Pre>
+    ensures { result ≡ read_whole (pre_reading false bits.now) }
+{
+    let mut source = BitReader::new(bits.sub(0, bits.len()));
+    let Ok(pre) = read_pre(&mut source, false) else {
+        return None;
+    };
+    if source.take(1).is_ok() {
+        return None;
+    }
+    Some(pre)
+}
+
+fn is_same_pre(one: &L1Pre, other: &L1Pre) -> bool
+    ensures { result ≡ same_told pre_rows one.now other.now }
+{
+    parts_law();
+    one == other
+}
+
+// Whether bits are the plan's L1-pre.
+fn is_pre(plan: &Plan, bits: &BitSlice<'_>) -> bool
+    ensures { result ≡ pre_agrees plan.now (read_whole (pre_reading false bits.now)) }
+{
+    match read_whole_pre(bits) {
+        Some(pre) => is_same_pre(&pre, &pre_of(plan)),
+        None => false,
+    }
+}
+
+// Whether bits are the network's configurable part.
+fn is_network_conf(network: &Network<'_>, bits: &BitSlice<'_>) -> bool
+    ensures { result ≡ conf_agrees network.now (read_whole (conf_read (info_size (length network.now.plps)) bits.now)) }
+{
+    parts_law();
+    is_conf(bits.sub(0, bits.len()), network.conf())
+}
+
+// Gives `out` the dynamic part that bits are. `false` if they are none.
+fn read_dynamic(bits: &BitSlice<'_>, out: &mut L1Dyn) -> bool
+    ensures value { read_whole (dyn_read (length out.old.plps) bits.now) ≡ (if result then Some out.new else None) }
+    ensures len { length out.new.plps ≡ length out.old.plps }
+{
+    let mut source = BitReader::new(bits.sub(0, bits.len()));
+    if read_dyn(&mut source, out).is_err() {
+        return false;
+    }
+    source.take(1).is_err()
+}
+
+// Gives `out` the shape that a dynamic part tells.
+#[tactic(auto, unfolding(l1_signal::specs::L1Of::told_shape))]
+fn tell_shape(dynamic: &L1Dyn, out: &mut Shape)
+    requires { length out.old.counts ≡ length dynamic.now.plps }
+    ensures shape { out.new ≡ told_shape dynamic.now }
+    ensures len { length out.new.counts ≡ length dynamic.now.plps }
+{
+    shape_of(dynamic, out);
+}
+
+// Whether the PLPs of a dynamic part are those of the plan, in order.
+fn has_ids(plan: &Plan, dynamic: &L1Dyn) -> bool
+    requires { length dynamic.now.plps ≡ length plan.now.plps }
+    ensures { result ≡ pointwise nat_eq (map (λ plp. plp.plp_id) dynamic.now.plps) (map (λ plp. plp.id) plan.now.plps) }
+{
+    for plp in 0..dynamic.plps.len() {
+        if told_id(dynamic, plp) != plp_id(plan, plp) {
+            return false;
+        }
+    }
+    true
+}
+
+fn told_id(dynamic: &L1Dyn, plp: usize) -> u8
+    requires { plp < length dynamic.now.plps }
+    ensures { (d : DynPlp) → result ≡ (slice_index_or dynamic.now.plps plp d).plp_id }
+{
+    dynamic.plps.get(plp).unwrap().plp_id
+}
+
+// Whether a dynamic part is one of a frame.
+fn is_of_frame(plan: &Plan, number: u64, dynamic: &L1Dyn) -> bool
+    requires { length dynamic.now.plps ≡ length plan.now.plps }
+    ensures { result ≡ dyn_agrees plan.now number (Some dynamic.now) }
+{
+    u64::from(dynamic.frame_idx) == number % u64::from(plan.config().frames)
+        && has_ids(plan, dynamic)
+}
+
+impl HeldL1 {
+    ghost use Rattle.std.specs.Prelude.{◌≡◌, ◌&&◌, ◌+◌, ◌≤◌, ◌∷◌, [], true, false, Bool, Option, Some, None, length, IfOk, IfSome, if◌then◌else◌};
+    ghost use Rattle.std.specs.Option.{option_and_then, option_copied, option_map_or};
+    ghost use Rattle.plp_config.specs.declared.config.Config.{Config};
+    ghost use Rattle.frame_tests.specs.Carried.{L1Parts};
+    ghost use Rattle.frame_tests.specs.Tests.{dyn_agrees, read_dynamic, parts_agree, l1_shape};
+    ghost use Rattle.frame_tests.specs.Carried.{l1s_of};
+    ghost use Rattle.t2mi_packet.specs.T2miPacket.{Fits};
+    ghost use Rattle.open_group.specs.declared.parts.TheConstants.{MOST_BITS};
+    ghost use Rattle.open_group.specs.HoldsL1.{HasRead, HoldsL1, AddsL1, shape_told};
+    ghost use Rattle.open_group.specs.Parts.{parts_of};
+
+    /// Takes the memory for the PLPs of a plan. Nothing is held yet.
+    pub fn open(alloc: Global, plan: &Plan) -> Result<HeldL1, OutOfMemory>
+        ensures { IfOk result (λ held. length held.dynamic.plps ≡ length plan.now.plps) }
+    {
+        let plps = plan.config().plps.len() as u16;
+        Ok(HeldL1 {
+            is_held: false,
+            parts: HeldParts::new(),
+            alike: true,
+            agrees: false,
+            told: false,
+            dynamic: L1Dyn::open(alloc, plps)?,
+            shape: Shape::open(alloc, plan)?,
+        })
+    }
+
+    /// Holds nothing.
+    pub fn clear(&mut self)
+        ensures held { self.new.is_held ≡ false }
+        ensures alike { self.new.alike ≡ true }
+        ensures rows { self.new.dynamic ≡ self.old.dynamic }
+    {
+        self.is_held = false;
+        self.alike = true;
+    }
+
+    // Holds an L1-current, and reads it.
+    fn add_first(
+        &mut self,
+        network: &Network<'_>,
+        pre: &BitSlice<'_>,
+        conf: &BitSlice<'_>,
+        dynamic: &BitSlice<'_>,
+        extension: &BitSlice<'_>,
+    )
+        requires room { length pre.now + length conf.now + length dynamic.now + length extension.now ≤ MOST_BITS }
+        requires rows { length self.old.dynamic.plps ≡ length network.now.plps }
+        ensures parts { parts_of self.new.parts ≡ record { pre = pre.now; conf = conf.now; dynamic = dynamic.now; extension = extension.now } }
+        ensures held { self.new.is_held ≡ true }
+        ensures alike { self.new.alike ≡ self.old.alike }
+        ensures reads { HasRead network.now self.new }
+        ensures rows { length self.new.dynamic.plps ≡ length self.old.dynamic.plps }
+    {
+        self.parts.hold(pre, conf, dynamic, extension);
+        self.is_held = true;
+        self.agrees = is_pre(network.plan(), pre) && is_network_conf(network, conf);
+        self.told = read_dynamic(dynamic, &mut self.dynamic);
+        if self.told {
+            tell_shape(&self.dynamic, &mut self.shape);
+        }
+    }
+
+    fn add_l1(
+        &mut self,
+        network: &Network<'_>,
+        pre: &BitSlice<'_>,
+        conf: &BitSlice<'_>,
+        dynamic: &BitSlice<'_>,
+        extension: &BitSlice<'_>,
+    )
+        requires room { length pre.now + length conf.now + length dynamic.now + length extension.now ≤ MOST_BITS }
+        requires rows { length self.old.dynamic.plps ≡ length network.now.plps }
+        ensures adds { AddsL1 network.now self.old self.new (record { pre = pre.now; conf = conf.now; dynamic = dynamic.now; extension = extension.now } ∷ []) }
+        ensures rows { length self.new.dynamic.plps ≡ length self.old.dynamic.plps }
+    {
+        if !self.is_held {
+            self.add_first(network, pre, conf, dynamic, extension);
+            return;
+        }
+        if !self.parts.is_same(pre, conf, dynamic, extension) {
+            self.alike = false;
+        }
+    }
+
+    /// Adds the L1 signalling of a packet, if it carries some.
+    pub fn add(&mut self, network: &Network<'_>, packet: &Packet<'_>)
+        requires fits { Fits packet.now }
+        requires rows { length self.old.dynamic.plps ≡ length network.now.plps }
+        ensures adds { AddsL1 network.now self.old self.new (l1s_of (packet.now ∷ [])) }
+        ensures rows { length self.new.dynamic.plps ≡ length self.old.dynamic.plps }
+    {
+        match &packet.body {
+            Body::L1Current {
+                pre,
+                conf,
+                dynamic,
+                extension,
+                ..
+            } => self.add_l1(network, pre, conf, dynamic, extension),
+            Body::Block { .. } => {}
+            Body::Timestamp(_) => {}
+            Body::Other { .. } => {}
+        }
+    }
+    /// Whether there is an L1-current.
+    pub fn is_held(&self) -> bool
+        ensures { result ≡ self.now.is_held }
+    {
+        self.is_held
+    }
+
+    /// The first one.
+    pub fn parts(&self) -> &HeldParts
+        ensures { result.now ≡ self.now.parts }
+    {
+        &self.parts
+    }
+
+    // Whether the dynamic part of the first one is of a frame.
+    fn is_dynamic(&self, plan: &Plan, number: u64) -> bool
+        requires rows { length self.now.dynamic.plps ≡ length plan.now.plps }
+        ensures { HasRead plan.now self.now → result ≡ dyn_agrees plan.now number (read_dynamic plan.now (parts_of self.now.parts)) }
+    {
+        self.told && is_of_frame(plan, number, &self.dynamic)
+    }
+
+    // Whether the first one is of the configuration and of a frame.
+    #[tactic(auto, unfolding(frame_tests::specs::Tests::parts_agree))]
+    fn is_first(&self, plan: &Plan, number: u64) -> bool
+        requires rows { length self.now.dynamic.plps ≡ length plan.now.plps }
+        ensures { HasRead plan.now self.now → result ≡ parts_agree plan.now number (parts_of self.now.parts) }
+    {
+        self.agrees && self.is_dynamic(plan, number)
+    }
+
+    /// Whether all are the same, and those of the configuration and of a frame.
+    pub fn agrees(&self, plan: &Plan, number: u64) -> bool
+        requires rows { length self.now.dynamic.plps ≡ length plan.now.plps }
+        ensures { (first : Option L1Parts) (alike : Bool) → HoldsL1 plan.now self.now first alike → result ≡ (alike && option_map_or (parts_agree plan.now number) first true) }
+    {
+        if !self.is_held {
+            return self.alike;
+        }
+        self.alike && self.is_first(plan, number)
+    }
+
+    /// The shape that the first one tells, if it reads.
+    pub fn shape(&self) -> Option<&Shape>
+        ensures value { option_copied result ≡ shape_told self.now }
+        ensures shape { (c : Config) (first : Option L1Parts) (alike : Bool) → HoldsL1 c self.now first alike → option_copied result ≡ option_and_then (l1_shape c) first }
+        ensures len { IfSome result (λ shape. length shape.now.counts ≡ length self.now.dynamic.plps) }
+    {
+        if self.is_held && self.told {
+            return Some(&self.shape);
+        }
+        None
+    }
+}

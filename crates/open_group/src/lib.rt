@@ -1,0 +1,17 @@
+//! The group under way of a modulator, of fixed size, and the six tests of it (ETSI TS 102 773, clause 5).
+#![tactic(auto)]
+
+mod blocks;
+mod faults;
+mod group;
+mod l1;
+mod named;
+mod network;
+mod parts;
+mod plps;
+mod stamps;
+
+pub use group::PooledGroup;
+
+#[cfg(test)]
+mod tests;

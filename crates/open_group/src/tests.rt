@@ -1,0 +1,239 @@
+// L1-pre, the configurable and the dynamic part come from a Python program over the tables; the numbers are counted by hand.
+ghost use Rattle.std.specs.Prelude.{◌≡◌, true, is_some};
+ghost use Rattle.t2mi_packet.specs.T2miPacket.{Fits, FitsBody};
+ghost use Rattle.t2mi_packet.specs.declared.packet.Body.TheVariants.{Timestamp};
+
+use super::*;
+use bit_slice::BitSlice;
+use frame_groups::{Key, MuteCause, OpenGroup};
+use plp_config::Moment;
+use sample_networks::small_plan;
+use std::process::Abort;
+use std::test::Fail;
+use t2mi_packet::{Body, Packet, Stamp};
+
+const PRE: [u8; 21] = [
+    0x00, 0x06, 0x10, 0x10, 0x00, 0xFA, 0x00, 0x13, 0xE6, 0x00, 0x00, 0x01, 0x00, 0x02, 0x00, 0x03,
+    0x02, 0x03, 0xB0, 0x20, 0x80,
+];
+
+const CONF: [u8; 24] = [
+    0x00, 0x02, 0x02, 0x00, 0x00, 0x71, 0x02, 0xAA, 0x00, 0x00, 0x8C, 0x00, 0x00, 0x40, 0x00, 0x20,
+    0x08, 0x08, 0x00, 0x10, 0x00, 0x00, 0x00, 0x00,
+];
+
+// FRAME_IDX 0 and four blocks.
+const DYN: [u8; 16] = [0, 0, 0, 0, 0, 0, 0, 0, 0, 0, 0, 0, 0, 8, 0, 0];
+
+// The PLP's blocks have 7,032 bits.
+const BLOCK: [u8; 879] = [0; 879];
+
+// Some packets of the group.
+#[derive(Clone, Copy)]
+enum Part {
+    // The timestamp of frame 0, so many subseconds late.
+    Stamp(u32),
+    // The L1-current of frame 0, one bit of the configurable part and one of the dynamic part the other way.
+    L1(usize, usize),
+    // So many blocks of a PLP.
+    Blocks(u8, usize),
+}
+
+// No bit of a part.
+const NONE: usize = 1000;
+
+// The bytes with one bit the other way.
+fn flipped<const N: usize>(bytes: &[u8; N], place: usize) -> [u8; N] {
+    let mut out = *bytes;
+    if place / 8 < N {
+        out[place / 8] ^= 0x80 >> (place % 8);
+    }
+    out
+}
+
+fn packet(body: Body<'_>) -> Packet<'_>
+    ensures { result ≡ record { count = 0; superframe = 0; stream = 0; body = body.entry } }
+{
+    Packet {
+        count: 0,
+        superframe: 0,
+        stream: 0,
+        body,
+    }
+}
+
+fn stamp(late: u32) -> Stamp
+    ensures { FitsBody (Timestamp result) }
+{
+    Stamp {
+        bw: 4,
+        seconds: 700_000_000,
+        subseconds: late % 1000,
+        utco: 5,
+    }
+}
+
+fn l1_packet<'a>(conf: &'a [u8; 24], dynamic: &'a [u8; 16]) -> Packet<'a>
+    ensures { Fits result }
+{
+    packet(Body::L1Current {
+        frame_idx: 0,
+        pre: BitSlice::whole(&PRE),
+        conf: BitSlice::whole(conf).sub(0, 191),
+        dynamic: BitSlice::whole(dynamic).sub(0, 127),
+        extension: BitSlice::whole(conf).sub(0, 0),
+    })
+}
+
+fn add_blocks(group: &mut PooledGroup<'_>, plp: u8, count: usize)
+    requires some { is_some group.old.key ≡ true }
+    requires intact { group.old.intact ≡ true }
+    ensures some { is_some group.new.key ≡ true }
+    ensures intact { group.new.intact ≡ true }
+{
+    for _ in 0..count {
+        group.add(&packet(Body::Block {
+            frame_idx: 0,
+            plp,
+            first: false,
+            bits: BitSlice::whole(&BLOCK),
+        }));
+    }
+}
+
+fn add(group: &mut PooledGroup<'_>, part: Part)
+    requires some { is_some group.old.key ≡ true }
+    requires intact { group.old.intact ≡ true }
+    ensures some { is_some group.new.key ≡ true }
+    ensures intact { group.new.intact ≡ true }
+{
+    match part {
+        Part::Stamp(late) => group.add(&packet(Body::Timestamp(stamp(late)))),
+        Part::L1(conf, dynamic) => {
+            let conf = flipped(&CONF, conf);
+            let dynamic = flipped(&DYN, dynamic);
+            group.add(&l1_packet(&conf, &dynamic));
+        }
+        Part::Blocks(plp, count) => add_blocks(group, plp, count),
+    }
+}
+
+// Why the parts are not frame `number`, and the frame that their first timestamp names.
+fn told(
+    group: &mut PooledGroup<'_>,
+    parts: &[Part],
+    number: u32,
+) -> (Option<MuteCause>, Option<u64>) {
+    let key = Key {
+        superframe: 0,
+        frame: 0,
+    };
+    let none = packet(Body::Other {
+        kind: 0x21,
+        bits: BitSlice::whole(&PRE),
+    });
+    group.begin(key, &none);
+    for part in parts {
+        add(group, *part);
+    }
+    (group.fault(u64::from(number)), group.named())
+}
+
+const ALL: [Part; 3] = [Part::Stamp(0), Part::L1(NONE, NONE), Part::Blocks(0, 4)];
+
+fn late(late: u32, subseconds: u32) -> Option<MuteCause> {
+    Some(MuteCause::TimeDisagrees {
+        stamp: stamp(late),
+        counted: Moment {
+            seconds: 700_000_000,
+            subseconds,
+        },
+    })
+}
+
+// A pool of 40,000 cells has floor(280,000 / 2,025) chunks, and 35 blocks need four each.
+const FULL: Option<MuteCause> = Some(MuteCause::PoolFull {
+    need: 140,
+    spare: 138,
+});
+
+const MISSING: Option<MuteCause> = Some(MuteCause::PacketMissing);
+
+const REFUSED: Option<MuteCause> = Some(MuteCause::L1Refused);
+
+#[test]
+fn causes_in_their_order(rt: HostRuntime) -> Result<(), Fail> {
+    use Part::{Blocks, L1, Stamp};
+    let plan = small_plan(rt.alloc())?;
+    let mut group = PooledGroup::open(rt.alloc(), &plan)?;
+    let l1 = L1(NONE, NONE);
+    let rows: [(&[Part], Option<MuteCause>, Option<u64>); 14] = [
+        (&ALL, None, Some(0)),
+        (&[Blocks(0, 4), l1, l1, Stamp(0)], None, Some(0)),
+        // The last bit of the configurable part is RESERVED: it decides nothing, but two L1-current packets differ by it.
+        (&[Stamp(0), L1(190, NONE), Blocks(0, 4)], None, Some(0)),
+        (
+            &[Stamp(0), l1, L1(190, NONE), Blocks(0, 4)],
+            REFUSED,
+            Some(0),
+        ),
+        (&[l1, Blocks(0, 4)], MISSING, None),
+        (&[Stamp(0), Blocks(0, 4)], MISSING, Some(0)),
+        // A bit of FREQUENCY, and one of FRAME_IDX.
+        (&[Stamp(0), L1(50, NONE), Blocks(0, 4)], REFUSED, Some(0)),
+        (&[Stamp(0), L1(NONE, 7), Blocks(0, 4)], REFUSED, Some(0)),
+        (&[Stamp(1), l1, Blocks(0, 4)], late(1, 0), None),
+        (&[Stamp(0), Stamp(1), l1, Blocks(0, 4)], late(1, 0), Some(0)),
+        (&[Stamp(0), l1, Blocks(0, 3)], MISSING, Some(0)),
+        (
+            &[Stamp(0), l1, Blocks(0, 4), Blocks(7, 1)],
+            MISSING,
+            Some(0),
+        ),
+        // PLP_START is 8,192: four blocks of 8,100 cells end behind the frame.
+        (
+            &[Stamp(0), L1(NONE, 87), Blocks(0, 4)],
+            Some(MuteCause::MapRefused),
+            Some(0),
+        ),
+        (&[Stamp(1), Blocks(0, 35)], FULL, None),
+    ];
+    for (row, (parts, cause, number)) in rows.iter().enumerate() {
+        assert!(rt;
+            told(&mut group, *parts, 0) == (*cause, *number),
+            "row {row}"
+        );
+    }
+    assert!(rt; told(&mut group, &ALL, 1).0 == REFUSED);
+    // Two frames of 100,000 ticks, of 7 subseconds each.
+    assert!(rt; told(&mut group, &ALL, 2).0 == late(0, 1_400_000));
+    Ok(())
+}
+
+// The blocks stand in the pool as they are sent: the scrambler's sequence begins with 03 F6.
+#[test]
+fn blocks_are_scrambled(rt: HostRuntime) -> Result<(), Fail> {
+    let plan = small_plan(rt.alloc())?;
+    plan.obeys_rules();
+    let mut blocks = blocks::HeldBlocks::open(rt.alloc(), &plan)?;
+    blocks.add(
+        &plan,
+        &packet(Body::Block {
+            frame_idx: 0,
+            plp: 0,
+            first: true,
+            bits: BitSlice::whole(&BLOCK),
+        }),
+    );
+    match blocks.front(0) {
+        Some(block) => {
+            let piece = block.pieces().next();
+            assert!(rt; block.len() == 879);
+            assert!(rt; matches!(piece, Some(bytes) if bytes.starts_with(&[0x03, 0xF6])));
+        }
+        None => panic!(rt; "no block"),
+    }
+    blocks.pop(0);
+    assert!(rt; blocks.front(0).is_none());
+    Ok(())
+}
