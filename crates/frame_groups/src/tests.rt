@@ -1,5 +1,6 @@
 // Expected numbers were counted by hand.
-ghost use Rattle.std.specs.Prelude.{◌≡◌, true, false, None};
+ghost use Rattle.std.specs.Prelude.{◌≡◌, ◌<◌, true, false, None};
+ghost use Rattle.t2mi_packet.specs.T2miPacket.{Fits};
 ghost use Rattle.frame_groups.specs.Held.{IsHeld, held_rules};
 
 use crate::{
@@ -14,7 +15,10 @@ const fn key(superframe: u8, frame: u8) -> Key {
     Key { superframe, frame }
 }
 
-fn block(superframe: u8, frame_idx: u8) -> Packet<'static> {
+fn block(superframe: u8, frame_idx: u8) -> Packet<'static>
+    requires { superframe < 16 }
+    ensures { Fits result }
+{
     Packet {
         count: 0,
         superframe,
@@ -28,7 +32,10 @@ fn block(superframe: u8, frame_idx: u8) -> Packet<'static> {
     }
 }
 
-fn timestamp(superframe: u8) -> Packet<'static> {
+fn timestamp(superframe: u8) -> Packet<'static>
+    requires { superframe < 16 }
+    ensures { Fits result }
+{
     Packet {
         count: 0,
         superframe,
@@ -42,7 +49,10 @@ fn timestamp(superframe: u8) -> Packet<'static> {
     }
 }
 
-fn other(superframe: u8) -> Packet<'static> {
+fn other(superframe: u8) -> Packet<'static>
+    requires { superframe < 16 }
+    ensures { Fits result }
+{
     Packet {
         count: 0,
         superframe,
@@ -61,6 +71,7 @@ fn a_timestamp_has_the_key_before_it(rt: HostRuntime) {
         (Some(key(3, 1)), 3, key(3, 1)),
         (Some(key(2, 1)), 3, key(3, 0)),
     ] {
+        assert!(rt; superframe < 16);
         assert_eq!(rt; key_behind(before, &timestamp(superframe)), wanted);
     }
     assert_eq!(rt; key_behind(Some(key(3, 1)), &block(4, 0)), key(4, 0));
@@ -103,6 +114,8 @@ impl OpenGroup for Held {
 
     ghost is_intact = { λ t. true };
 
+    ghost is_frame = { λ t. true };
+
     fn frames(&self) -> u8 {
         2
     }
@@ -137,13 +150,22 @@ impl OpenGroup for Held {
 }
 
 // Works off a packet, where no record waits.
-fn work(rt: &impl Abort, sequence: &mut Sequence<Held>, packet: &Packet<'_>) -> bool {
+fn work(rt: &impl Abort, sequence: &mut Sequence<Held>, packet: &Packet<'_>) -> bool
+    requires { Fits packet.now }
+{
     assert!(rt; sequence.progress.waiting().is_none());
     if let Some(number) = sequence.progress.number {
         assert!(rt; number < 100);
     }
-    assert!(rt; packet.superframe < 16);
     sequence.work(packet)
+}
+
+// And no record waits behind it.
+fn add(rt: &impl Abort, sequence: &mut Sequence<Held>, packet: &Packet<'_>)
+    requires { Fits packet.now }
+{
+    assert!(rt; work(rt, sequence, packet));
+    assert_eq!(rt; sequence.progress.waiting(), None);
 }
 
 // The record that waits is given.
@@ -170,16 +192,11 @@ fn a_gap_over_the_end_of_a_superframe(rt: HostRuntime) {
         more: false,
     });
     // A group that begins no superframe is no join, and one of two packets that does is frame 30.
-    for packet in [
-        block(14, 1),
-        timestamp(14),
-        block(15, 0),
-        timestamp(15),
-        other(15),
-    ] {
-        assert!(rt; work(&rt, &mut sequence, &packet));
-        assert_eq!(rt; sequence.progress.waiting(), None);
-    }
+    add(&rt, &mut sequence, &block(14, 1));
+    add(&rt, &mut sequence, &timestamp(14));
+    add(&rt, &mut sequence, &block(15, 0));
+    add(&rt, &mut sequence, &timestamp(15));
+    add(&rt, &mut sequence, &other(15));
     // Frame 33 closes it, and its packet comes again.
     assert!(rt; !work(&rt, &mut sequence, &block(0, 1)));
     assert_eq!(rt; give(&mut sequence), record(30, None));

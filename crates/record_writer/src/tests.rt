@@ -1,8 +1,8 @@
 // Expected bytes were spelled by hand, section by section, from the tables of records and from EN 302 755; L1-post is from a Python
 // program over its tables.
 ghost use Rattle.std.specs.Prelude.{◌≡◌, ◌≤◌, length, IfOk};
-ghost use Rattle.cell_map.specs.CellMap.{Passes};
 ghost use Rattle.record_writer.specs.RecordBytes.{AreShort};
+ghost use Rattle.record_writer.specs.Steps.{HasLists, HasMap};
 ghost use Rattle.record_writer.specs.Writes.{IsReady, IsReady-prop};
 
 use crate::{Signalling, Writer, block_count, rest_len, short_law, written_law};
@@ -104,10 +104,11 @@ fn append(rt: &impl Abort, pool: &mut Pool, block: &[u8; BLOCK])
 }
 
 // A pool with two blocks of the one PLP.
-fn two_blocks(rt: &impl Abort, alloc: Global) -> Result<Pool, Fail>
-    ensures one { IfOk result (λ pool. length pool.lists ≡ 1) }
-    ensures short { IfOk result (λ pool. AreShort pool.lists) }
+fn two_blocks(rt: &impl Abort, alloc: Global, plan: &Plan) -> Result<Pool, Fail>
+    requires { length plan.now.plps ≡ 1 }
+    ensures { IfOk result (λ pool. HasLists plan.now pool.lists) }
 {
+    let _plan = plan;
     short_law();
     let mut pool = Pool::open(alloc, 8, 1)?;
     append(rt, &mut pool, &block_of(0x55));
@@ -118,8 +119,7 @@ fn two_blocks(rt: &impl Abort, alloc: Global) -> Result<Pool, Fail>
 // The shape of a frame with two blocks of the one PLP.
 fn shape_of_two(rt: &impl Abort, alloc: Global, plan: &Plan) -> Result<Shape, Fail>
     requires { length plan.now.plps ≡ 1 }
-    ensures one { IfOk result (λ shape. length shape.counts ≡ 1) }
-    ensures passes { IfOk result (λ shape. Passes plan.now shape) }
+    ensures { IfOk result (λ shape. HasMap plan.now shape) }
 {
     let mut shape = Shape::open(alloc, plan)?;
     shape.set(0, 2, 0);
@@ -146,7 +146,7 @@ impl Frame {
         if plan.config().plps.len() != 1 {
             panic!(rt; "it has one PLP");
         }
-        let pool = two_blocks(rt, alloc)?;
+        let pool = two_blocks(rt, alloc, &plan)?;
         let shape = shape_of_two(rt, alloc, &plan)?;
         let conf = Signalling::open(alloc, &plan)?;
         let mut writer = Writer::open(alloc)?;
