@@ -1,6 +1,6 @@
 -- What a group under way gives of a frame.
 use Rattle.std.specs.Prelude.{ℕ, ◌&&◌, nat_le, Bool, List, Option}
-use Rattle.linked_pool.specs.Pool.{list_at}
+use Rattle.record_writer.specs.Writes as writer
 use Rattle.scheduler.specs.Shape.{FrameShape}
 use Rattle.frame_tests.specs.Tests.{has_map}
 use Rattle.open_group.specs.HoldsL1.{shape_told}
@@ -14,10 +14,10 @@ dynamic_of held = (parts_of held.l1.parts).dynamic
 abbrev pub shape_of : PooledGroup → Option FrameShape
 shape_of held = shape_told held.l1
 
--- the blocks of a PLP that were not given out, as they are sent
-abbrev pub blocks_left : PooledGroup → ℕ → List (List ℕ)
-blocks_left held plp = list_at held.blocks.pool plp
-
 -- what is held can be given as a frame: the right blocks have room, and the first L1-current tells a shape with a cell map
 abbrev pub is_frame : PooledGroup → Bool
 is_frame held = nat_le held.blocks.need held.blocks.chunks && has_map held.network (shape_of held)
+
+-- the bytes of the record under way that were not given yet
+abbrev pub bytes_left : PooledGroup → List ℕ
+bytes_left held = writer.bytes_left held.writer held.network held.l1.shape held.blocks.pool.lists

@@ -10,7 +10,7 @@ use bb_frame::scramble;
 use bit_slice::{BitSlice, OutOfMemory};
 use linked_pool::{BlockRef, Pool};
 use plp_config::{MOST_BLOCK_BYTES, Plan};
-use record_writer::short_law;
+use record_writer::{Writer, short_law};
 use scheduler::Shape;
 use std::alloc::Global;
 use t2mi_packet::{Body, Packet};
@@ -77,6 +77,8 @@ impl HeldBlocks {
     ghost use Rattle.frame_tests.specs.Tests.{pool_chunks, capped};
     ghost use Rattle.open_group.specs.HoldsBlocks.{IsOpenFor, HoldsCounts, HoldsLists};
     ghost use Rattle.open_group.specs.Sent.{sent_bytes};
+    ghost use Rattle.std.specs.Prelude.{◌↔◌, ◌⊎◌, take, drop};
+    ghost use Rattle.record_writer.specs.Writes.{bytes_left, IsLast, IsReady, is_done};
 
     /// Takes the memory for the PLPs of a plan. Nothing is held yet.
     pub fn open(alloc: Global, plan: &Plan) -> Result<HeldBlocks, OutOfMemory>
@@ -218,5 +220,21 @@ impl HeldBlocks {
             }
         }
         true
+    }
+
+    /// Gives the next bytes of a record, whose blocks are taken from the pool.
+    pub fn give(&mut self, plan: &Plan, shape: &Shape, writer: &mut Writer, out: &mut [u8]) -> usize
+        requires open { IsOpenFor self.old (length plan.now.plps) }
+        requires ready { IsReady writer.old plan.now shape.now self.old.pool.lists }
+        ensures most { result ≤ length out.old }
+        ensures bytes { bytes_left writer.old plan.now shape.now self.old.pool.lists ≡ take result out.new ++ bytes_left writer.new plan.now shape.now self.new.pool.lists }
+        ensures stays { (length out.new ≡ length out.old) × (drop result out.new ≡ drop result out.old) }
+        ensures none { (result ≡ 0) ↔ ((length out.old ≡ 0) ⊎ (is_done writer.old ≡ true)) }
+        ensures last { IsLast writer.old → IsLast writer.new }
+        ensures ready { IsReady writer.new plan.now shape.now self.new.pool.lists }
+        ensures open { IsOpenFor self.new (length plan.now.plps) }
+        ensures same { (self.new.counts ≡ self.old.counts) × (self.new.need ≡ self.old.need) × (self.new.known ≡ self.old.known) × (self.new.chunks ≡ self.old.chunks) }
+    {
+        writer.take(plan, shape, &mut self.pool, out)
     }
 }

@@ -1,6 +1,9 @@
 // The group under way.
 ghost use Rattle.std.specs.Prelude.{◌≡◌, length};
+ghost use Rattle.l1_signal.specs.L1Configurable.{conf_bits};
+ghost use Rattle.l1_signal.specs.L1Of.{conf_of};
 ghost use Rattle.frame_tests.specs.Tests.{pool_chunks};
+ghost use Rattle.open_group.specs.Giving.{CanGive, CanGive-prop};
 ghost use Rattle.open_group.specs.HoldsBlocks.{IsOpenFor};
 
 use crate::blocks::HeldBlocks;
@@ -14,24 +17,30 @@ use frame_groups::{Key, MuteCause, OpenGroup};
 use frame_tests::tally_law;
 use linked_pool::BlockRef;
 use plp_config::Plan;
+use record_writer::{Signalling, Writer};
 use scheduler::Shape;
 use std::alloc::Global;
 use t2mi_packet::Packet;
 
-/// The group under way: its key, and what its packets come to. All its memory is taken in `open`. If its blocks need more chunks than
-/// the pool has, no more of them are kept, and only counted.
+/// The group under way: its key, and what its packets come to; and the record that is given of it, or of a muted frame. All its memory
+/// is taken in `open`. If its blocks need more chunks than the pool has, no more of them are kept, and only counted.
 #[derive(Drop)]
 pub struct PooledGroup<'p> {
-    network: Network<'p>,
+    pub(crate) network: Network<'p>,
     key: Option<Key>,
-    // No block was given out.
-    intact: bool,
+    // Its own record was not begun.
+    pub(crate) intact: bool,
     stamps: HeldStamps,
-    l1: HeldL1,
-    blocks: HeldBlocks,
+    pub(crate) l1: HeldL1,
+    pub(crate) blocks: HeldBlocks,
+    pub(crate) conf: Signalling,
+    pub(crate) writer: Writer,
     ghost rows: { length l1.dynamic.plps ≡ length network.plps },
     ghost open: { IsOpenFor blocks (length network.plps) },
     ghost chunks: { blocks.chunks ≡ pool_chunks network },
+    ghost signalling: { conf ≡ conf_bits (conf_of network) },
+    // As long as it is intact, only muted records are given.
+    ghost gives: { CanGive intact writer network l1.shape blocks.pool.lists } by { CanGive-prop intact writer network l1.shape blocks.pool.lists },
 }
 
 impl<'p> PooledGroup<'p> {
@@ -43,7 +52,6 @@ impl<'p> PooledGroup<'p> {
     ghost use Rattle.frame_groups.specs.Groups.{Group};
     ghost use Rattle.frame_tests.specs.Carried.{L1Parts, right_blocks, l1s_of};
     ghost use Rattle.frame_tests.specs.Tests.{first_shape, named_frame, group_fault};
-    ghost use Rattle.open_group.specs.Given.{dynamic_of, shape_of, blocks_left};
     ghost use Rattle.open_group.specs.Holds.{HoldsPackets, Holds};
     ghost use Rattle.open_group.specs.Sent.{sent_bytes};
 
@@ -60,15 +68,19 @@ impl<'p> PooledGroup<'p> {
             stamps: HeldStamps::NONE,
             l1: HeldL1::open(alloc, plan)?,
             blocks: HeldBlocks::open(alloc, plan)?,
+            conf: Signalling::open(alloc, plan)?,
+            writer: Writer::open(alloc)?,
         })
     }
 
     // Holds no packets.
     fn clear(&mut self)
+        requires { self.old.intact ≡ true }
         ensures holds { HoldsPackets self.new [] }
         ensures key { self.new.key ≡ self.old.key }
         ensures network { self.new.network ≡ self.old.network }
         ensures intact { self.new.intact ≡ self.old.intact }
+        ensures others { (self.new.writer ≡ self.old.writer) × (self.new.conf ≡ self.old.conf) }
     {
         self.stamps = HeldStamps::NONE;
         self.l1.clear();
@@ -78,6 +90,7 @@ impl<'p> PooledGroup<'p> {
     // Holds one packet more.
     fn hold(&mut self, packet: &Packet<'_>)
         requires fits { Fits packet.now }
+        requires intact { self.old.intact ≡ true }
         ensures holds { (packets : List Packet) → HoldsPackets self.old packets → HoldsPackets self.new (packets ++ packet.now ∷ []) }
         ensures key { self.new.key ≡ self.old.key }
         ensures network { self.new.network ≡ self.old.network }
@@ -115,6 +128,7 @@ impl<'p> OpenGroup for PooledGroup<'p> {
 
     fn begin(&mut self, key: Key, packet: &Packet<'_>) {
         self.key = Some(key);
+        self.writer.clear();
         self.intact = true;
         self.clear();
         self.hold(packet);

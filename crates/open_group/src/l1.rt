@@ -13,9 +13,10 @@ use crate::network::Network;
 use crate::parts::HeldParts;
 use crate::plps::plp_id;
 use bit_slice::{BitReader, BitSlice, BitSource, OutOfMemory};
-use frame_tests::parts_law;
+use frame_tests::{map_test_law, parts_law};
 use l1_signal::{L1Dyn, L1Pre, dyn_law, is_conf, pre_of, read_dyn, read_pre, shape_of};
-use plp_config::Plan;
+use plp_config::{Moment, Plan};
+use record_writer::{Signalling, Writer, block_count, rest_len};
 use scheduler::Shape;
 use std::alloc::Global;
 use t2mi_packet::{Body, Packet};
@@ -140,6 +141,16 @@ impl HeldL1 {
     ghost use Rattle.open_group.specs.declared.parts.TheConstants.{MOST_BITS};
     ghost use Rattle.open_group.specs.HoldsL1.{HasRead, HoldsL1, AddsL1, shape_told};
     ghost use Rattle.open_group.specs.Parts.{parts_of};
+    ghost use Rattle.std.specs.Prelude.{List, ℕ, ◌++◌, sum, slice_index};
+    ghost use Rattle.l1_signal.specs.L1Configurable.{conf_bits};
+    ghost use Rattle.l1_signal.specs.L1Of.{conf_of};
+    ghost use Rattle.frame_tests.specs.Tests.{has_map};
+    ghost use Rattle.frame_records.specs.Laws.{rest_size};
+    ghost use Rattle.record_writer.specs.Front.{front_bytes};
+    ghost use Rattle.record_writer.specs.Laws.{post_size};
+    ghost use Rattle.record_writer.specs.Steps.{step_bytes, HasLists};
+    ghost use Rattle.record_writer.specs.Writes.{bytes_left, IsReady, is_done};
+    ghost use Rattle.record_writer.specs.declared.step.Step.TheVariants.{Blocks};
 
     /// Takes the memory for the PLPs of a plan. Nothing is held yet.
     pub fn open(alloc: Global, plan: &Plan) -> Result<HeldL1, OutOfMemory>
@@ -289,5 +300,30 @@ impl HeldL1 {
             return Some(&self.shape);
         }
         None
+    }
+
+    /// The last shape that was told.
+    pub fn last_shape(&self) -> &Shape
+        ensures { result.now ≡ self.now.shape }
+    {
+        &self.shape
+    }
+
+    /// Begins the record of the frame that it tells, which leaves at a moment.
+    pub fn begin_frame(&self, plan: &Plan, conf: &Signalling, moment: &Moment, writer: &mut Writer)
+        requires conf { conf.now ≡ conf_bits (conf_of plan.now) }
+        requires map { has_map plan.now (shape_told self.now) ≡ true }
+        requires rows { length self.now.dynamic.plps ≡ length plan.now.plps }
+        ensures left { (lists : List (List (List ℕ))) → bytes_left writer.new plan.now self.now.shape lists
+            ≡ front_bytes plan.now moment.now (parts_of self.now.parts).dynamic (sum self.now.shape.counts) (rest_size plan.now (post_size plan.now (length (parts_of self.now.parts).dynamic)) (slice_index self.now.shape.counts))
+            ++ step_bytes plan.now self.now.shape lists (Blocks 0) }
+        ensures ready { (lists : List (List (List ℕ))) → HasLists plan.now lists → IsReady writer.new plan.now self.now.shape lists }
+        ensures done { is_done writer.new ≡ false }
+    {
+        map_test_law();
+        let dynamic = self.parts.dynamic();
+        let blocks = block_count(plan, &self.shape);
+        let rest = rest_len(plan, &self.shape, dynamic.len());
+        writer.begin_frame(plan, conf, moment, dynamic, blocks, rest);
     }
 }

@@ -3,6 +3,7 @@
 
 mod blocks;
 mod faults;
+mod giving;
 mod group;
 mod l1;
 mod named;

@@ -90,7 +90,8 @@ impl HeldParts {
 
     /// The dynamic part.
     pub fn dynamic(&self) -> BitSlice<'_>
-        ensures { result ≡ (parts_of self.now).dynamic }
+        ensures value { result ≡ (parts_of self.now).dynamic }
+        ensures len { length result ≡ self.now.dynamic }
     {
         self.bits.as_slice().sub(self.pre + self.conf, self.dynamic)
     }

@@ -1,8 +1,9 @@
 -- What a writer stands for.
-use Rattle.std.specs.Prelude.{ℕ, ◌==◌, Bool, List, ◌++◌, length, drop}
+use Rattle.std.specs.Prelude.{◌≡◌, ℕ, ◌==◌, Bool, List, ◌++◌, length, drop}
 use Rattle.plp_config.specs.declared.config.Config.{Config}
 use Rattle.scheduler.specs.Shape.{FrameShape}
 use Rattle.record_writer.specs.Steps.{step_bytes, IsStep, IsStep-prop}
+use Rattle.record_writer.specs.declared.step.Step.TheVariants.{Done}
 use Rattle.record_writer.specs.declared.writer.Writer.{Writer}
 
 -- the bytes that it still has to give, of a frame of this shape whose blocks wait in the lists
@@ -16,6 +17,10 @@ IsReady w c shape lists = IsStep c shape lists w.step
 -- that has one proof at most, so it may be a ghost field
 pub IsReady-prop : (w : Writer) (c : Config) (shape : FrameShape) (lists : List (List (List ℕ))) → IsProp (IsReady w c shape lists)
 IsReady-prop w c shape lists = IsStep-prop c shape lists w.step
+
+-- Nothing stands behind its piece.
+abbrev pub IsLast : Writer → Type 0
+IsLast w = w.step ≡ Done
 
 -- All bytes were given.
 abbrev pub is_done : Writer → Bool

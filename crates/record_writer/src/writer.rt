@@ -132,6 +132,7 @@ fn build(plan: &Plan, shape: &Shape, pool: &mut Pool, step: Step, out: &mut Piec
     ensures bytes { step_bytes plan.now shape.now pool.old.lists step ≡ out.new ++ step_bytes plan.now shape.now pool.new.lists result }
     ensures none { out.new ≡ [] → result ≡ Done }
     ensures step { IsStep plan.now shape.now pool.new.lists result }
+    ensures last { step ≡ Done → result ≡ Done }
     ensures lists { HasLists plan.now pool.old.lists → HasLists plan.now pool.new.lists }
     ensures opened { pool.new.opened ≡ pool.old.opened }
     ensures spare { pool.old.spare ≤ pool.new.spare }
@@ -181,11 +182,12 @@ impl Writer {
     ghost use Rattle.site_frame.specs.Record.{head_bytes, muted_kind};
     ghost use Rattle.record_writer.specs.RecordBytes.{AreShort};
     ghost use Rattle.record_writer.specs.Steps.{step_bytes, HasMap, HasLists};
-    ghost use Rattle.record_writer.specs.Writes.{bytes_left, IsReady, is_done};
+    ghost use Rattle.record_writer.specs.Writes.{bytes_left, IsReady, IsLast, is_done};
 
     /// Nothing to write. It takes all the memory that it needs.
     pub fn open(alloc: Global) -> Result<Writer, OutOfMemory>
         ensures done { IfOk result (λ w. is_done w ≡ true) }
+        ensures last { IfOk result IsLast }
         ensures ready { IfOk result (λ w. (c : Config) (shape : FrameShape) (lists : List (List (List ℕ))) → IsReady w c shape lists) }
     {
         Ok(Writer {
@@ -198,6 +200,7 @@ impl Writer {
     /// Nothing is left to give.
     pub fn clear(&mut self)
         ensures done { is_done self.new ≡ true }
+        ensures last { IsLast self.new }
         ensures ready { (c : Config) (shape : FrameShape) (lists : List (List (List ℕ))) → IsReady self.new c shape lists }
     {
         self.piece.clear();
@@ -230,6 +233,7 @@ impl Writer {
     /// Begins the record of a muted frame.
     pub fn begin_muted(&mut self, moment: &Moment)
         ensures left { (c : Config) (shape : FrameShape) (lists : List (List (List ℕ))) → bytes_left self.new c shape lists ≡ head_bytes muted_kind moment.now 0 }
+        ensures last { IsLast self.new }
         ensures ready { (c : Config) (shape : FrameShape) (lists : List (List (List ℕ))) → IsReady self.new c shape lists }
         ensures done { is_done self.new ≡ false }
     {
@@ -242,6 +246,7 @@ impl Writer {
     /// Gives the next bytes of the record, at most what is left of the piece in hand, and takes blocks from the pool as it goes.
     pub fn take(&mut self, plan: &Plan, shape: &Shape, pool: &mut Pool, out: &mut [u8]) -> usize
         requires { IsReady self.old plan.now shape.now pool.old.lists }
+        ensures last { IsLast self.old → IsLast self.new }
         ensures most { result ≤ length out.old }
         ensures bytes { bytes_left self.old plan.now shape.now pool.old.lists ≡ take result out.new ++ bytes_left self.new plan.now shape.now pool.new.lists }
         ensures stays { (length out.new ≡ length out.old) × (drop result out.new ≡ drop result out.old) }

@@ -1,0 +1,85 @@
+// The record that is given: of the group's frame, or of a muted one.
+ghost use Rattle.std.specs.Prelude.{◌≡◌, ◌<◌, ◌≤◌, ◌⊎◌, ◌↔◌, ◌++◌, ◌^◌, [], true, false, Option, Some, None, length, take, drop, ℕ};
+ghost use Rattle.plp_config.specs.Emission.{emission};
+ghost use Rattle.site_frame.specs.Whole.{record_bytes};
+ghost use Rattle.frame_groups.specs.Groups.{Group};
+ghost use Rattle.frame_groups.specs.Modulated.{FrameRecord};
+ghost use Rattle.frame_groups.specs.Records.{record_of};
+ghost use Rattle.frame_tests.specs.Tests.{group_fault};
+ghost use Rattle.open_group.specs.Given.{is_frame, bytes_left};
+ghost use Rattle.open_group.specs.Holds.{Holds};
+ghost use Rattle.open_group.specs.Written.{spelled, packets_view};
+
+use crate::group::PooledGroup;
+use bb_frame::bit_counts;
+use frame_groups::Waiting;
+use frame_tests::tally_law;
+use plp_config::Moment;
+use record_writer::written_law;
+
+impl<'p> PooledGroup<'p> {
+    // Begins the record of its frame, which leaves at a moment.
+    fn begin_frame(&mut self, moment: &Moment)
+        requires intact { self.old.intact ≡ true }
+        requires frame { is_frame self.old ≡ true }
+        ensures left { (h : Group) (n : ℕ) → moment.now ≡ emission self.old.network n → Holds self.old (Some h) → group_fault self.old.network h n ≡ None
+            → bytes_left self.new ≡ record_bytes (packets_view self.old.network n h.packets) }
+        ensures some { 0 < length (bytes_left self.new) }
+        ensures group { (g : Option Group) → Holds self.old g → Holds self.new g }
+        ensures key { self.new.key ≡ self.old.key }
+        ensures network { self.new.network ≡ self.old.network }
+        ensures frame { is_frame self.new ≡ is_frame self.old }
+    {
+        tally_law();
+        bit_counts();
+        written_law();
+        self.l1
+            .begin_frame(self.network.plan(), &self.conf, moment, &mut self.writer);
+        self.intact = false;
+    }
+
+    /// Begins to give the bytes of the record that waits: of its frame, or of a muted one.
+    pub fn begin_record(&mut self, waiting: Waiting)
+        requires small { waiting.frame < 2 ^ 32 }
+        requires frame { waiting.mute ≡ None → (self.old.intact ≡ true) × (is_frame self.old ≡ true) }
+        ensures left { (h : Group) → Holds self.old (Some h) → (waiting.mute ≡ None → group_fault self.old.network h waiting.frame ≡ None)
+            → bytes_left self.new ≡ spelled self.old.network (record_of h waiting) }
+        ensures some { 0 < length (bytes_left self.new) }
+        ensures group { (g : Option Group) → Holds self.old g → Holds self.new g }
+        ensures key { self.new.key ≡ self.old.key }
+        ensures network { self.new.network ≡ self.old.network }
+        ensures frame { is_frame self.new ≡ is_frame self.old }
+        ensures intact { self.new.intact ≡ true → self.old.intact ≡ true }
+    {
+        let moment = self.network.plan().emission(waiting.frame);
+        match waiting.mute {
+            Some(_) => self.writer.begin_muted(&moment),
+            None => self.begin_frame(&moment),
+        }
+    }
+
+    /// Gives the next bytes of the record.
+    pub fn take(&mut self, out: &mut [u8]) -> usize
+        ensures most { result ≤ length out.old }
+        ensures bytes { bytes_left self.old ≡ take result out.new ++ bytes_left self.new }
+        ensures stays { (length out.new ≡ length out.old) × (drop result out.new ≡ drop result out.old) }
+        ensures none { (result ≡ 0) ↔ ((length out.old ≡ 0) ⊎ (bytes_left self.old ≡ [])) }
+        ensures group { (g : Option Group) → Holds self.old g → Holds self.new g }
+        ensures key { self.new.key ≡ self.old.key }
+        ensures network { self.new.network ≡ self.old.network }
+        ensures frame { is_frame self.new ≡ is_frame self.old }
+        ensures intact { self.new.intact ≡ self.old.intact }
+    {
+        let plan = self.network.plan();
+        self.blocks
+            .give(plan, self.l1.last_shape(), &mut self.writer, out)
+    }
+
+    /// Whether all bytes of the record were given.
+    pub fn is_taken(&self) -> bool
+        ensures yes { result ≡ true → bytes_left self.now ≡ [] }
+        ensures no { result ≡ false → 0 < length (bytes_left self.now) }
+    {
+        self.writer.is_done()
+    }
+}
