@@ -7,3 +7,4 @@ pub mod NamedLemmas
 pub mod RoomLemmas
 pub mod ReadLemmas
 pub mod ShortLemmas
+pub mod GivenLemmas
