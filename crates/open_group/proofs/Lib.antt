@@ -8,3 +8,5 @@ pub mod RoomLemmas
 pub mod ReadLemmas
 pub mod ShortLemmas
 pub mod GivenLemmas
+pub mod GiveLemmas
+pub mod TellLemmas

@@ -230,7 +230,7 @@ impl HeldBlocks {
         ensures bytes { bytes_left writer.old plan.now shape.now self.old.pool.lists ≡ take result out.new ++ bytes_left writer.new plan.now shape.now self.new.pool.lists }
         ensures stays { (length out.new ≡ length out.old) × (drop result out.new ≡ drop result out.old) }
         ensures none { (result ≡ 0) ↔ ((length out.old ≡ 0) ⊎ (is_done writer.old ≡ true)) }
-        ensures last { IsLast writer.old → IsLast writer.new }
+        ensures last { IsLast writer.old → IsLast writer.new × (self.new.pool ≡ self.old.pool) }
         ensures ready { IsReady writer.new plan.now shape.now self.new.pool.lists }
         ensures open { IsOpenFor self.new (length plan.now.plps) }
         ensures same { (self.new.counts ≡ self.old.counts) × (self.new.need ≡ self.old.need) × (self.new.known ≡ self.old.known) × (self.new.chunks ≡ self.old.chunks) }

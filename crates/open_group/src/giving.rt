@@ -33,6 +33,7 @@ impl<'p> PooledGroup<'p> {
         tally_law();
         bit_counts();
         written_law();
+        self.network.plan().obeys_rules();
         self.l1
             .begin_frame(self.network.plan(), &self.conf, moment, &mut self.writer);
         self.intact = false;
@@ -71,6 +72,7 @@ impl<'p> PooledGroup<'p> {
         ensures intact { self.new.intact ≡ self.old.intact }
     {
         let plan = self.network.plan();
+        let _done = self.writer.is_done();
         self.blocks
             .give(plan, self.l1.last_shape(), &mut self.writer, out)
     }

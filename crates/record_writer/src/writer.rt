@@ -132,7 +132,7 @@ fn build(plan: &Plan, shape: &Shape, pool: &mut Pool, step: Step, out: &mut Piec
     ensures bytes { step_bytes plan.now shape.now pool.old.lists step ≡ out.new ++ step_bytes plan.now shape.now pool.new.lists result }
     ensures none { out.new ≡ [] → result ≡ Done }
     ensures step { IsStep plan.now shape.now pool.new.lists result }
-    ensures last { step ≡ Done → result ≡ Done }
+    ensures last { step ≡ Done → (result ≡ Done) × (pool.new ≡ pool.old) }
     ensures lists { HasLists plan.now pool.old.lists → HasLists plan.now pool.new.lists }
     ensures opened { pool.new.opened ≡ pool.old.opened }
     ensures spare { pool.old.spare ≤ pool.new.spare }
@@ -246,7 +246,7 @@ impl Writer {
     /// Gives the next bytes of the record, at most what is left of the piece in hand, and takes blocks from the pool as it goes.
     pub fn take(&mut self, plan: &Plan, shape: &Shape, pool: &mut Pool, out: &mut [u8]) -> usize
         requires { IsReady self.old plan.now shape.now pool.old.lists }
-        ensures last { IsLast self.old → IsLast self.new }
+        ensures last { IsLast self.old → IsLast self.new × (pool.new ≡ pool.old) }
         ensures most { result ≤ length out.old }
         ensures bytes { bytes_left self.old plan.now shape.now pool.old.lists ≡ take result out.new ++ bytes_left self.new plan.now shape.now pool.new.lists }
         ensures stays { (length out.new ≡ length out.old) × (drop result out.new ≡ drop result out.old) }

@@ -1,0 +1,62 @@
+-- A group of which a record is given stands for what it stood for.
+use Rattle.std.proofs.Common.{◌≡◌, true, List, Option, Some, None, ap, sym, subst, ◌∙◌, arith}
+use Rattle.std.specs.Prelude.{slice_index}
+use Rattle.frame_groups.specs.Groups.{Group}
+use Rattle.linked_pool.specs.Pool.{State, list_at}
+use Rattle.plp_config.specs.declared.config.Config.{Config}
+use Rattle.t2mi_packet.specs.declared.packet.Packet.{Packet}
+use Rattle.frame_tests.specs.Tally.{Tally, tally}
+use Rattle.open_group.specs.Holds.{HoldsPackets, Holds}
+use Rattle.open_group.specs.HoldsBlocks.{HoldsCounts, HoldsLists}
+use Rattle.open_group.specs.HoldsL1.{HoldsL1}
+use Rattle.open_group.specs.HoldsStamps.{HoldsStamps}
+use Rattle.open_group.specs.declared.blocks.HeldBlocks.{HeldBlocks}
+use Rattle.open_group.specs.declared.group.PooledGroup.{PooledGroup}
+use Rattle.open_group.specs.declared.l1.HeldL1.{HeldL1}
+use Rattle.open_group.specs.declared.stamps.HeldStamps.{HeldStamps}
+
+-- Only the pool may differ.
+abbrev pub SameNumbers : HeldBlocks → HeldBlocks → Type 0
+SameNumbers old new = (new.counts ≡ old.counts) × (new.need ≡ old.need) × (new.known ≡ old.known) × (new.chunks ≡ old.chunks)
+
+counts_still : (c : Config) (old new : HeldBlocks) (t : Tally) → SameNumbers old new → HoldsCounts c old t → HoldsCounts c new t
+counts_still c old new t same h = record {
+  counts = λ plp inside. ap (λ v. slice_index v.items plp) same.0 ∙ h.counts plp inside;
+  need = same.1 ∙ h.need;
+  known = same.2 ∙ h.known;
+}
+
+lists_still : (c : Config) (old new : HeldBlocks) (packets : List Packet) → SameNumbers old new → new.pool ≡ old.pool → HoldsLists c old packets → HoldsLists c new packets
+lists_still c old new packets same pool h few plp inside =
+    let need = same.1 in
+    let chunks = same.3 in
+    ap (λ (s : State). list_at s plp) pool ∙ h (omega (arith, need, chunks, few)) plp inside
+
+-- the parts that stay
+pub record Stays (old new : PooledGroup) : Type 0 where
+  pub network : new.network ≡ old.network
+  pub key : new.key ≡ old.key
+  pub intact : new.intact ≡ true → old.intact ≡ true
+  pub stamps : new.stamps ≡ old.stamps
+  pub l1 : new.l1 ≡ old.l1
+  pub numbers : SameNumbers old.blocks new.blocks
+  pub pool : new.intact ≡ true → new.blocks.pool ≡ old.blocks.pool
+
+packets_still : (old new : PooledGroup) (packets : List Packet) → Stays old new → new.blocks.pool ≡ old.blocks.pool → HoldsPackets old packets → HoldsPackets new packets
+packets_still old new packets s pool h =
+    let tallied : tally old.network packets ≡ tally new.network packets = ap (λ (c : Config). tally c packets) (sym s.network) in
+    record {
+      stamps = subst (HoldsStamps new.stamps) tallied (subst (λ (st : HeldStamps). HoldsStamps st (tally old.network packets)) (sym s.stamps) h.stamps);
+      l1 =
+          subst (λ (c : Config). HoldsL1 c new.l1 (tally c packets).l1 (tally c packets).alike) (sym s.network)
+          (subst (λ (l : HeldL1). HoldsL1 old.network l (tally old.network packets).l1 (tally old.network packets).alike) (sym s.l1) h.l1);
+      blocks = subst (λ (c : Config). HoldsCounts c new.blocks (tally c packets)) (sym s.network) (counts_still old.network old.blocks new.blocks (tally old.network packets) s.numbers h.blocks);
+      lists = subst (λ (c : Config). HoldsLists c new.blocks packets) (sym s.network) (lists_still old.network old.blocks new.blocks packets s.numbers pool h.lists);
+    }
+
+pub holds_still : (old new : PooledGroup) → Stays old new → (g : Option Group) → Holds old g → Holds new g
+holds_still old new s None h = s.key ∙ h
+holds_still old new s (Some g) h = record {
+  key = s.key ∙ h.key;
+  packets = λ intact. packets_still old new g.packets s (s.pool intact) (h.packets (s.intact intact));
+}
