@@ -58,7 +58,7 @@ pub record IsRefused (old new : FrameLines) (why : RecordWhy) : Type 0 where
 abbrev pub Sees : FrameLines → FrameLines → Type 0
 Sees old new = IsSeen old new ⊎ ((why : RecordWhy) × IsRefused old new why)
 
--- With a head there is no memory for its record; or the record is it alone, and was looked at; or so many bytes are lacking.
+-- Behind a head: there is no memory for its record; or the head is all of it, and it was looked at; or its rest comes.
 pub record LacksRoom (old new : FrameLines) : Type 0 where
   pub coming : new.coming ≡ NoRoom
   pub line : new.line ≡ old.line
@@ -82,7 +82,7 @@ pub record HasBegun (old new : FrameLines) (head : List ℕ) (rest : ℕ) : Type
 abbrev pub Begins : FrameLines → FrameLines → List ℕ → ℕ → Type 0
 Begins old new head rest = LacksRoom old new ⊎ (SeesHead old new head rest ⊎ HasBegun old new head rest)
 
--- a record is under way of which so many bytes are lacking
+-- Of a record that is under way so many bytes are lacking.
 pub record IsBegun (bytes : List ℕ) (left : ℕ) : Type 0 where
   pub len : ℕ
   pub announces : Announces bytes len

@@ -14,7 +14,7 @@ AreRecords bytes (view ∷ views) rest = (len : ℕ) × BeginsWith bytes view le
 abbrev pub IsNoRecord : List ℕ → RecordWhy → Type 0
 IsNoRecord rest why = (rest ≢ []) × Refuses rest why
 
--- some record begins with the head at the front of bytes, and this many follow it there
+-- Some record begins with the head at the front of the bytes, and so many bytes follow it there.
 abbrev pub Announces : List ℕ → ℕ → Type 0
 Announces bytes len = (head_len ≤ length bytes) × Follow (take head_len bytes) len
 
