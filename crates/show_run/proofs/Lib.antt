@@ -1,7 +1,12 @@
 pub mod EndLemmas
+pub mod FrameLinesLemmas
+pub mod FrameShowLemmas
 pub mod LineLemmas
 pub mod PacketFileLemmas
 pub mod PacketLinesLemmas
+pub mod RecordFileLemmas
+pub mod RecordFrontLemmas
+pub mod RecordsEndLemmas
 pub mod ShowLemmas
 pub mod T2miLinesLemmas
 pub mod T2miShowLemmas

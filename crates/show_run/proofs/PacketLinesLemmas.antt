@@ -179,11 +179,11 @@ fed_last law start m n events input bytes zero idle reads ends quiet rest at cou
 pub not_ends : (phase : Phase) → phase ≡ Reads → phase ≡ Ends → ⊥
 not_ends phase reads ends = let e : Reads ≡ Ends = sym reads ∙ ends in cc
 
-most_between : (at : ℕ) → (LARGEST ≤ most_of at) × (most_of at ≤ BUFFER)
+most_between : (at : ℕ) → (LARGEST ≤ most_of at LARGEST) × (most_of at LARGEST ≤ BUFFER)
 most_between at = elim (nat_lt (at + BUFFER) most_bytes) as (λ (b : Bool). (LARGEST ≤ cond b BUFFER LARGEST) × (cond b BUFFER LARGEST ≤ BUFFER)) [ true ↦ (omega arith, omega arith) | false ↦ (omega arith, omega arith) ]
 
 -- what may be read
-pub can_be_read : (m : PacketLines) (events : List Event) → m.phase ≡ Reads → (most : ℕ) → most ≡ most_of m.at → Shown m events → CanBeRead 1 events (λ input. m.at + BUFFER) 0 LARGEST most
+pub can_be_read : (m : PacketLines) (events : List Event) → m.phase ≡ Reads → (most : ℕ) → most ≡ most_of m.at LARGEST → Shown m events → CanBeRead 1 events (λ input. m.at + BUFFER) 0 LARGEST most
 can_be_read m events reads most is s =
     let seen = all_seen m events reads s in
     let size = most_between m.at in

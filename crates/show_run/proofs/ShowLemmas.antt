@@ -30,7 +30,7 @@ use Rattle.show_run.specs.declared.packet_lines.PacketLines.{PacketLines}
 use Rattle.show_run.specs.declared.packet_lines.Phase.{Phase}
 use Rattle.show_run.specs.declared.packet_lines.Phase.TheVariants.{Reads, Ends, Refused, Finished}
 use Rattle.show_run.specs.declared.stop.ShowStop.{ShowStop}
-use Rattle.show_run.specs.declared.stop.ShowStop.TheVariants.{PacketRefused, TooLong, ReadFault, WriteFault, OutOfMemory}
+use Rattle.show_run.specs.declared.stop.ShowStop.TheVariants.{PacketRefused, RecordRefused, TooLong, ReadFault, WriteFault, OutOfMemory, NoRoom}
 use Rattle.show_run.proofs.EndLemmas.{packs_within, same_packets}
 use Rattle.show_run.proofs.PacketFileLemmas.{packs_first, lines_of-append}
 use Rattle.show_run.proofs.PacketLinesLemmas.{packs_on, all_seen, told_all}
@@ -71,7 +71,7 @@ fails_only old new f = record {
 }
 
 -- a machine that wants bytes reads packets, and no line waits
-reaches_reads : (line : List ℕ) (phase : Phase) (at count : ℕ) → Reaches (next_from line phase at) 0 count → (line ≡ []) × (phase ≡ Reads) × (count ≤ most_of at)
+reaches_reads : (line : List ℕ) (phase : Phase) (at count : ℕ) → Reaches (next_from line phase at) 0 count → (line ≡ []) × (phase ≡ Reads) × (count ≤ most_of at LARGEST)
 reaches_reads [] Reads at count r = (refl, refl, r.1)
 reaches_reads [] Ends at count r = absurd r
 reaches_reads [] (Refused why) at count r = absurd r
@@ -111,7 +111,7 @@ all_first : (file : List ℕ) (m : PacketLines) (events : List Event) → m.line
 all_first file m events none reads s starts =
     (s.told ++ s.next, s.rest ++ starts.0, packs_file file (fed 0 events) starts.0 s.rest (s.told ++ s.next) starts.1 s.packs, quiet m events none reads s)
 
-far : (at place : ℕ) → place ≡ most_bytes → place - at ≤ most_of at → place ≤ at + LARGEST
+far : (at place : ℕ) → place ≡ most_bytes → place - at ≤ most_of at LARGEST → place ≤ at + LARGEST
 far at place long reach = go (nat_lt (at + BUFFER) most_bytes) refl reach
   where
     go : (b : Bool) → nat_lt (at + BUFFER) most_bytes ≡ b → place - at ≤ cond b BUFFER LARGEST → place ≤ at + LARGEST
@@ -123,8 +123,12 @@ ends_idle : (line : List ℕ) (phase : Phase) (at : ℕ) → next_from line phas
 ends_idle [] phase at e = refl
 ends_idle (c ∷ line) phase at e = absurd (let f : Give ≡ End = e in cc)
 
+-- a line of a key and a number is not empty
+pub line_some : (key : List ℕ) (count : ℕ) → key ++ decimal count ++ codes "\n" ≡ [] → ⊥
+line_some key count e = let n = ap length e in let m = length-append (key ++ decimal count) (codes "\n") in absurd (omega (arith, n, m))
+
 pub count_some : (count : ℕ) → count_line count ≡ [] → ⊥
-count_some count e = let n = ap length e in let m = length-append (codes "packets=" ++ decimal count) (codes "\n") in absurd (omega (arith, n, m))
+count_some count e = line_some (codes "packets=") count e
 
 -- the end of a file that is nothing but packets
 ended_all : (told next : List (List ℕ)) (line text : List ℕ) → line ≡ [] → Given Finished told next line text → (next ≡ []) × (text ≡ lines_of 0 told ++ count_line (length told))
@@ -183,7 +187,7 @@ shows_end law start now old new name t = go now.phase refl
     text = x.parts ∙ append-nil (gave x.early)
 
     go : (p : Phase) → now.phase ≡ p → shows old new name (packets_end p now.at now.count)
-    go Reads is = absurd (let e : Read 0 LARGEST (most_of now.at) ≡ End = subst (λ (p : Phase). next_from [] p now.at ≡ End) is (subst (λ (l : List ℕ). next_from l now.phase now.at ≡ End) idle t.end) in cc)
+    go Reads is = absurd (let e : Read 0 LARGEST (most_of now.at LARGEST) ≡ End = subst (λ (p : Phase). next_from [] p now.at ≡ End) is (subst (λ (l : List ℕ). next_from l now.phase now.at ≡ End) idle t.end) in cc)
     go Ends is = absurd (let e : Give ≡ End = subst (λ (p : Phase). next_from [] p now.at ≡ End) is (subst (λ (l : List ℕ). next_from l now.phase now.at ≡ End) idle t.end) in cc)
     go (Refused why) is = record {
       given = t.place;
@@ -278,6 +282,7 @@ shows_none old new name s = record {
 
 pub shows_stop : OnePacket → NoRefusal → PacketLength → (start now : PacketLines) (old new : State) (name : List ℕ) (why : ShowStop) → StopsLines (Comes start) next_of old new name now why → shows old new name (Err why)
 shows_stop one none sizes start now old new name (PacketRefused at why) s = absurd s
+shows_stop one none sizes start now old new name (RecordRefused number why) s = absurd s
 shows_stop one none sizes start now old new name TooLong s =
     let t = s.1 in
     let x = t.tells in
@@ -330,3 +335,4 @@ shows_stop one none sizes start now old new name WriteFault s =
       counts = s.0;
     }
 shows_stop one none sizes start now old new name OutOfMemory s = shows_none old new name s
+shows_stop one none sizes start now old new name NoRoom s = absurd s

@@ -25,7 +25,7 @@ use Rattle.show_run.specs.T2miLines.{next_in, next_of, packets_from, Unpiping, F
 use Rattle.show_run.specs.T2miText.{place_lines, AreFirstLines, IsT2miText}
 use Rattle.show_run.specs.Told.{StopsLines}
 use Rattle.show_run.specs.declared.stop.ShowStop.{ShowStop}
-use Rattle.show_run.specs.declared.stop.ShowStop.TheVariants.{PacketRefused, TooLong, ReadFault, WriteFault, OutOfMemory}
+use Rattle.show_run.specs.declared.stop.ShowStop.TheVariants.{PacketRefused, RecordRefused, TooLong, ReadFault, WriteFault, OutOfMemory, NoRoom}
 use Rattle.show_run.specs.declared.t2mi_lines.T2miLines.{T2miLines}
 use Rattle.show_run.specs.declared.t2mi_lines.Search.{Search}
 use Rattle.show_run.specs.declared.t2mi_lines.Search.TheVariants.{Seeks, Unpipes, Finished}
@@ -142,6 +142,7 @@ t2mi_none old new name s = record {
 
 pub t2mi_stop : AcceptedFront → PacketsBehind → (start now : T2miLines) (old new : State) (name : List ℕ) (why : ShowStop) → StopsLines (Comes start) next_of old new name now why → shows old new name (Err why)
 t2mi_stop front behind start now old new name (PacketRefused at why) s = absurd s
+t2mi_stop front behind start now old new name (RecordRefused number why) s = absurd s
 t2mi_stop front behind start now old new name TooLong s =
     let t = s.1 in
     let x = t.tells in
@@ -186,3 +187,4 @@ t2mi_stop front behind start now old new name WriteFault s =
       counts = s.0;
     }
 t2mi_stop front behind start now old new name OutOfMemory s = t2mi_none old new name s
+t2mi_stop front behind start now old new name NoRoom s = absurd s

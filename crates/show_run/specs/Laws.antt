@@ -1,8 +1,10 @@
--- Laws of files of T2-MI packets.
-use Rattle.std.specs.Prelude.{◌≡◌, ℕ, List, [], length, Result, Ok, Err}
+-- Laws of files of T2-MI packets, and of records.
+use Rattle.std.specs.Prelude.{◌≡◌, ℕ, ◌<◌, List, [], length, slice_index, Result, Ok, Err}
+use Rattle.site_frame.specs.declared.reading.RecordView.{RecordView}
 use Rattle.show_run.specs.PacketFile.{Packs, bytes_in, IsRefused}
+use Rattle.show_run.specs.RecordFile.{AreRecords, IsNoRecord}
 use Rattle.show_run.specs.declared.stop.ShowStop.{ShowStop}
-use Rattle.show_run.specs.declared.stop.ShowStop.TheVariants.{PacketRefused}
+use Rattle.show_run.specs.declared.stop.ShowStop.TheVariants.{PacketRefused, RecordRefused}
 
 -- How a run over a file of packets must end that is not too long, where nothing outside fails: with their number, or where none begins.
 abbrev pub PacketsEnd : List ℕ → Result ℕ ShowStop → Type 0
@@ -17,3 +19,19 @@ OneEnd = (file : List ℕ) (result other : Result ℕ ShowStop) → PacketsEnd f
 -- and at least.
 abbrev pub EachEnds : Type 0
 EachEnds = (file : List ℕ) → (result : Result ℕ ShowStop) × PacketsEnd file result
+
+-- The same of a file of records.
+abbrev pub RecordsEnd : List ℕ → Result ℕ ShowStop → Type 0
+RecordsEnd file (Ok count) = (views : List RecordView) × AreRecords file views [] × (count ≡ length views)
+RecordsEnd file (Err (RecordRefused number why)) = (views : List RecordView) × (rest : List ℕ) × AreRecords file views rest × IsNoRecord rest why × (number ≡ length views)
+RecordsEnd file (Err stop) = ⊥
+
+abbrev pub OneRecordsEnd : Type 0
+OneRecordsEnd = (file : List ℕ) (result other : Result ℕ ShowStop) → RecordsEnd file result → RecordsEnd file other → result ≡ other
+
+-- Each number of the file is that of a byte.
+abbrev pub AreBytes : List ℕ → Type 0
+AreBytes file = (k : ℕ) → slice_index file k < 256
+
+abbrev pub EachRecordsEnd : Type 0
+EachRecordsEnd = (file : List ℕ) → AreBytes file → (result : Result ℕ ShowStop) × RecordsEnd file result

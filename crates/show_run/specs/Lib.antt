@@ -1,8 +1,11 @@
 pub mod Front
+pub mod FrameLines
 pub mod Laws
 pub mod PacketFile
 pub mod PacketLines
 pub mod PacketText
+pub mod RecordFile
+pub mod RecordText
 pub mod SaidLines
 pub mod Shows
 pub mod Told

@@ -15,7 +15,7 @@ use Rattle.show_run.specs.declared.packet_lines.Phase.TheVariants.{Reads, Ends, 
 
 -- what is done next where no line waits
 abbrev pub step_of : Phase → ℕ → Step
-step_of Reads at = Read 0 LARGEST (most_of at)
+step_of Reads at = Read 0 LARGEST (most_of at LARGEST)
 step_of Ends at = Give
 step_of (Refused why) at = End
 step_of Finished at = End

@@ -6,7 +6,7 @@ use Rattle.t2mi_packet.specs.declared.reading.TheConstants.{LARGEST}
 use Rattle.show_run.specs.PacketFile.{Packs, bytes_in, IsRefused}
 use Rattle.show_run.specs.SaidLines.{lines_of, count_line}
 use Rattle.show_run.specs.declared.stop.ShowStop.{ShowStop}
-use Rattle.show_run.specs.declared.stop.ShowStop.TheVariants.{PacketRefused, TooLong, ReadFault, WriteFault, OutOfMemory}
+use Rattle.show_run.specs.declared.stop.ShowStop.TheVariants.{PacketRefused, RecordRefused, TooLong, ReadFault, WriteFault, OutOfMemory, NoRoom}
 
 -- The text is the lines of some packets with which the file begins.
 abbrev pub AreFirst : List ℕ → List ℕ → Type 0
@@ -30,7 +30,9 @@ IsPacketText file given (Ok count) text =
     (packets : List (List ℕ)) × Packs file packets [] × (count ≡ length packets) × (text ≡ lines_of 0 packets ++ count_line count) × (given ≡ length file)
 IsPacketText file given (Err (PacketRefused at why)) text =
     (packets : List (List ℕ)) × (rest : List ℕ) × Packs file packets rest × IsRefused rest why × (at ≡ bytes_in packets) × (text ≡ lines_of 0 packets)
+IsPacketText file given (Err (RecordRefused number why)) text = ⊥
 IsPacketText file given (Err TooLong) text = (most_bytes ≤ length file) × SaysMet file given text
 IsPacketText file given (Err ReadFault) text = MeetsPackets file given × AreFirst file text
 IsPacketText file given (Err WriteFault) text = LeavesSome file text
 IsPacketText file given (Err OutOfMemory) text = text ≡ []
+IsPacketText file given (Err NoRoom) text = ⊥

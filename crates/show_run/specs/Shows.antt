@@ -6,16 +6,18 @@ use Rattle.desk_io.specs.Reading.{most_bytes}
 use Rattle.file_run.specs.Telling.{ReadsFailFirst}
 use Rattle.desk_io.specs.Opening.{Opened, Unopened}
 use Rattle.show_run.specs.declared.stop.ShowStop.{ShowStop}
-use Rattle.show_run.specs.declared.stop.ShowStop.TheVariants.{PacketRefused, TooLong, ReadFault, WriteFault, OutOfMemory}
+use Rattle.show_run.specs.declared.stop.ShowStop.TheVariants.{PacketRefused, RecordRefused, TooLong, ReadFault, WriteFault, OutOfMemory, NoRoom}
 
--- What was opened and read, by outcome. Memory runs out before, if it does.
+-- What was opened and read, by outcome. Memory runs out before, if it does; that for a record runs out behind its head.
 abbrev pub ReadsFile : State → State → List ℕ → ℕ → Result ℕ ShowStop → Type 0
 ReadsFile old new name given (Ok count) = Opened old new name given × (given < most_bytes)
 ReadsFile old new name given (Err (PacketRefused at why)) = Opened old new name given × (given < most_bytes)
+ReadsFile old new name given (Err (RecordRefused number why)) = Opened old new name given × (given < most_bytes)
 ReadsFile old new name given (Err TooLong) = Opened old new name given × (given ≡ most_bytes)
 ReadsFile old new name given (Err ReadFault) = (Unopened old new × (given ≡ 0)) ⊎ (Opened old new name given × (given < most_bytes))
 ReadsFile old new name given (Err WriteFault) = Opened old new name given × (given ≤ most_bytes)
 ReadsFile old new name given (Err OutOfMemory) = new ≡ old
+ReadsFile old new name given (Err NoRoom) = Opened old new name given × (given < most_bytes)
 
 -- A fault is told if it came. One of writing came alone; after one of reading what waits is said still, which may fail too.
 abbrev pub Counted : State → State → Result ℕ ShowStop → Type 0

@@ -6,7 +6,7 @@ use Rattle.t2mi_stream.specs.Accepted.{AcceptedPacket}
 use Rattle.t2mi_stream.specs.FirstPid.{t2mi_packets_in}
 use Rattle.show_run.specs.SaidLines.{view_line, count_line}
 use Rattle.show_run.specs.declared.stop.ShowStop.{ShowStop}
-use Rattle.show_run.specs.declared.stop.ShowStop.TheVariants.{PacketRefused, TooLong, ReadFault, WriteFault, OutOfMemory}
+use Rattle.show_run.specs.declared.stop.ShowStop.TheVariants.{PacketRefused, RecordRefused, TooLong, ReadFault, WriteFault, OutOfMemory, NoRoom}
 
 -- the line of a packet, by its place and the fields of its bytes
 abbrev pub place_line : AcceptedPacket → List ℕ
@@ -24,7 +24,9 @@ abbrev pub IsT2miText : List ℕ → ℕ → Result ℕ ShowStop → List ℕ �
 IsT2miText file given (Ok count) text =
     (count ≡ length (t2mi_packets_in file)) × (text ≡ place_lines (t2mi_packets_in file) ++ count_line count) × (given ≡ length file)
 IsT2miText file given (Err (PacketRefused at why)) text = ⊥
+IsT2miText file given (Err (RecordRefused number why)) text = ⊥
 IsT2miText file given (Err TooLong) text = (most_bytes ≤ length file) × AreFirstLines (t2mi_packets_in file) text
 IsT2miText file given (Err ReadFault) text = AreFirstLines (t2mi_packets_in file) text
 IsT2miText file given (Err WriteFault) text = AreFirstLines (t2mi_packets_in file) text
 IsT2miText file given (Err OutOfMemory) text = text ≡ []
+IsT2miText file given (Err NoRoom) text = ⊥

@@ -1,6 +1,6 @@
-// The line of the number of packets, and lines that are given.
+// The line of a number of packets or records, and lines that are given.
 ghost use Rattle.std.specs.Prelude.{◌≡◌, ◌≤◌, [], length, take};
-ghost use Rattle.show_run.specs.SaidLines.{count_line as line_of_count};
+ghost use Rattle.show_run.specs.SaidLines.{count_line as line_of_count, records_line as line_of_records};
 
 use desk_io::{Line, ROOM};
 use file_run::PIECE;
@@ -12,6 +12,17 @@ pub fn count_line(count: u64) -> Line
 {
     let mut line = Line::new();
     line.push_field(b"packets=", count);
+    line.push(b"\n");
+    line
+}
+
+/// The line of the number of records.
+pub fn records_line(count: u64) -> Line
+    ensures text { result ≡ line_of_records count }
+    ensures len { length result ≤ ROOM }
+{
+    let mut line = Line::new();
+    line.push_field(b"records=", count);
     line.push(b"\n");
     line
 }

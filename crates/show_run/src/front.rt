@@ -4,7 +4,7 @@ ghost use Rattle.show_run.specs.Front.{IsFront, RefusesFront, most_of};
 
 use crate::packet_line::packet_line;
 use desk_io::{BUFFER, Line, MOST_BYTES};
-use t2mi_packet::{LARGEST, PacketWhy, view};
+use t2mi_packet::{PacketWhy, view};
 
 // Bytes of a packet without payload: a header of six, and CRC_32.
 const SHORTEST: usize = 6 + 4;
@@ -22,13 +22,13 @@ pub fn front_line(bytes: &[u8], at: u64) -> Result<(Line, usize), PacketWhy>
     }
 }
 
-/// How far the file may be read from a place on.
-pub fn most_of(at: u64) -> u64
-    ensures { result ≡ most_of at }
+/// How far the file may be read from a place on, of which so much is wanted.
+pub fn most_of(at: u64, wanted: usize) -> u64
+    ensures { result ≡ most_of at wanted }
 {
     if at < MOST_BYTES - BUFFER as u64 {
         BUFFER as u64
     } else {
-        LARGEST as u64
+        wanted as u64
     }
 }

@@ -1,6 +1,7 @@
-// Laws of the definitions. Their function does nothing.
-ghost use Rattle.show_run.specs.Laws.{OneEnd, EachEnds};
+// Laws of the definitions. Their functions do nothing.
+ghost use Rattle.show_run.specs.Laws.{OneEnd, EachEnds, OneRecordsEnd, EachRecordsEnd};
 
+use site_frame::{reading_law, refusal_law};
 use t2mi_packet::{no_refusal, one_packet, one_refusal, packet_length, spelled_or_refused};
 
 /// The bytes of a file of packets decide how a run over it must end.
@@ -13,4 +14,13 @@ pub fn packets_end_law()
     one_refusal();
     packet_length();
     spelled_or_refused();
+}
+
+/// The bytes of a file of records decide how a run over it must end.
+pub fn records_end_law()
+    ensures one { OneRecordsEnd }
+    ensures each { EachRecordsEnd }
+{
+    reading_law();
+    refusal_law();
 }

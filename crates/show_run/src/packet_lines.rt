@@ -113,7 +113,7 @@ impl Machine for PacketLines {
             Phase::Reads => Step::Read {
                 input: 0,
                 least: LARGEST,
-                most: most_of(self.at),
+                most: most_of(self.at, LARGEST),
             },
             Phase::Ends => Step::Give,
             Phase::Refused(_) | Phase::Finished => Step::End,

@@ -1,18 +1,22 @@
 // The commands that show a file by lines.
 ghost use Rattle.std.specs.Prelude.{◌≡◌, [], OnOk, IfErr};
 ghost use Rattle.file_run.specs.Telling.{TellsAll};
+ghost use Rattle.show_run.specs.FrameLines.{records_end};
 ghost use Rattle.show_run.specs.PacketLines.{packets_end};
 ghost use Rattle.show_run.specs.PacketText.{IsPacketText};
+ghost use Rattle.show_run.specs.RecordText.{IsRecordText};
 ghost use Rattle.show_run.specs.Shows.{Shows};
 ghost use Rattle.show_run.specs.T2miText.{IsT2miText};
 ghost use Rattle.show_run.specs.Told.{StopsLines};
 
+use crate::frame_lines::{Coming, FrameLines};
 use crate::packet_lines::{PacketLines, Phase};
 use crate::stop::ShowStop;
 use crate::t2mi_lines::T2miLines;
 use desk_io::{Page, ReadAhead};
 use file_run::{Machine, RunFault, tell};
 use ports::Desk;
+use site_frame::{reading_law, refusal_law};
 use std::alloc::Global;
 use t2mi_packet::{front_refusal, no_refusal, one_packet, packet_length};
 use t2mi_stream::{accepted_front, first_pid_law};
@@ -80,4 +84,29 @@ pub fn show_t2mi<D: Desk>(alloc: Global, name: &str, desk: &mut D) -> Result<u64
     };
     tell_lines(alloc, &mut lines, name, desk)?;
     Ok(lines.count)
+}
+
+// How the records of a file ended: their number, or why one is none or has no memory.
+fn records_end(lines: &FrameLines) -> Result<u64, ShowStop>
+    ensures { result ≡ records_end lines.now.coming lines.now.count }
+{
+    match lines.coming {
+        Coming::Refused(why) => Err(ShowStop::RecordRefused {
+            number: lines.count,
+            why,
+        }),
+        Coming::NoRoom => Err(ShowStop::NoRoom),
+        Coming::Head | Coming::Rest | Coming::Finished => Ok(lines.count),
+    }
+}
+
+/// Says a line for each record of a named file, and last their number: how many.
+pub fn show_frames<D: Desk>(alloc: Global, name: &str, desk: &mut D) -> Result<u64, ShowStop>
+    ensures { Shows IsRecordText (D.state desk.old) (D.state desk.new) name.now result }
+{
+    reading_law();
+    refusal_law();
+    let mut lines = FrameLines::new(alloc);
+    tell_lines(alloc, &mut lines, name, desk)?;
+    records_end(&lines)
 }

@@ -1,4 +1,5 @@
 // Why a file was not shown to its end.
+use site_frame::RecordWhy;
 use t2mi_packet::PacketWhy;
 use thiserror::Error;
 
@@ -8,6 +9,9 @@ pub enum ShowStop {
     /// No packet begins at this byte of the file, counted from 0.
     #[error("no packet begins at byte {at}: {why}")]
     PacketRefused { at: u64, why: PacketWhy },
+    /// No record begins where this one must, counted from 0.
+    #[error("record {number}: {why}")]
+    RecordRefused { number: u64, why: RecordWhy },
     /// The file gave 2^40 bytes.
     #[error("the file is too long")]
     TooLong,
@@ -20,4 +24,7 @@ pub enum ShowStop {
     /// Memory ran out before the file was opened.
     #[error("no memory")]
     OutOfMemory,
+    /// Memory ran out for a record of which the head was read.
+    #[error("no memory for a record")]
+    NoRoom,
 }

@@ -18,6 +18,8 @@ usage: site_cli plan CONFIG
          shows the T2-MI packets that stand back to back in FILE, a line each
        site_cli show t2mi FILE
          shows the T2-MI packets in the transport packets of FILE, a line each
+       site_cli show frames FILE
+         shows the records of T2 frames in FILE, a line each
        site_cli gateway CONFIG OUT IN..
          writes to OUT the T2-MI stream of a network from one transport stream IN for each PLP, in the order of CONFIG
 ";
@@ -145,6 +147,9 @@ fn say(
         ),
         Outcome::PacketRefused { at, why } => eprintln!(rt;
             "{file}: no T2-MI packet begins at byte {at}: {why}; the packets before it were shown; see that the file holds whole packets and nothing else"
+        ),
+        Outcome::RecordRefused { number, why } => eprintln!(rt;
+            "{file}: record {number}, counted from 0: {why}; the records before it were shown; see that the file holds whole records and nothing else"
         ),
         Outcome::ReadFault | Outcome::WriteFault => say_fault(rt, fault),
         Outcome::OutOfMemory => eprintln!(rt; "out of memory; the command did not come to its end"),

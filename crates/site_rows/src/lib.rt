@@ -8,6 +8,8 @@ mod gateway;
 #[cfg(test)]
 mod runs;
 #[cfg(test)]
+mod show_frames;
+#[cfg(test)]
 mod show_packets;
 #[cfg(test)]
 mod show_t2mi;

@@ -19,6 +19,7 @@ use Rattle.gateway_run.specs.declared.stop.Ran.{Ran}
 use Rattle.gateway_run.specs.declared.stop.RunStop.{RunStop}
 use Rattle.gateway_run.specs.declared.stop.RunStop.TheVariants as run
 use Rattle.show_run.specs.PacketText.{IsPacketText}
+use Rattle.show_run.specs.RecordText.{IsRecordText}
 use Rattle.show_run.specs.Shows.{Counted}
 use Rattle.show_run.specs.T2miText.{IsT2miText}
 use Rattle.show_run.specs.declared.stop.ShowStop.{ShowStop}
@@ -26,7 +27,7 @@ use Rattle.show_run.specs.declared.stop.ShowStop.TheVariants as show
 use Rattle.ts_packet.specs.TsFile.{HasBad}
 use Rattle.site_top.specs.declared.outcome.Outcome.{Outcome}
 use Rattle.site_top.specs.declared.outcome.Outcome.TheVariants.{Done, WriteFault, OutOfMemory}
-use Rattle.site_top.specs.Commands.{Command, ShowPackets, ShowT2mi, ShowConfig, Plan, Gateway}
+use Rattle.site_top.specs.Commands.{Command, ShowPackets, ShowT2mi, ShowFrames, ShowConfig, Plan, Gateway}
 use Rattle.site_top.specs.ConfigCommands.{ShowsConfig, Plans}
 use Rattle.site_top.specs.GatewayCommand.{gateway_line, RunsAndTells, Follows, Gateways}
 use Rattle.site_top.specs.Laws.{OneEnding, Completeness}
@@ -54,22 +55,42 @@ packets_so law file old new given text (Ok count) s counts =
 packets_so law file old new given text (Err (show.PacketRefused at why)) s counts =
     decided law (ShowPackets file) old new (shown_outcome (Err (show.PacketRefused at why)))
     (IfSome_then old.held s (λ held x. λ outcome must. (must.0, (Err (show.PacketRefused at why), (x.0, x.1, x.2, x.3, x.4), refl))))
+packets_so law file old new given text (Err (show.RecordRefused number why)) s counts = IfSome_then old.held s (λ held x. absurd x)
 packets_so law file old new given text (Err show.TooLong) s counts =
     IfSome_then old.held s (λ held x. λ outcome must r w. let many : 2 ^ 40 ≤ length (bytes_of held.files file) = x.0 in absurd (omega (arith, many, must.0)))
 packets_so law file old new given text (Err show.ReadFault) s counts = failed (ShowPackets file) old new (shown_outcome (Err show.ReadFault)) (inl counts.rose)
 packets_so law file old new given text (Err show.WriteFault) s counts = failed (ShowPackets file) old new (shown_outcome (Err show.WriteFault)) (inr (inl counts.rose))
 packets_so law file old new given text (Err show.OutOfMemory) s counts = failed (ShowPackets file) old new OutOfMemory (inr (inr refl))
+packets_so law file old new given text (Err show.NoRoom) s counts = failed (ShowPackets file) old new OutOfMemory (inr (inr refl))
+
+-- a file of records
+records_so : OneEnding → (file : List ℕ) (old new : State) (given : ℕ) (text : List ℕ) (shown : Result ℕ ShowStop) → IfSome old.held (λ held. IsRecordText (bytes_of held.files file) given shown text) → Counted old new shown →
+    IsComplete (ShowFrames file) old new (shown_outcome shown)
+records_so law file old new given text (Ok count) s counts =
+    decided law (ShowFrames file) old new Done (IfSome_then old.held s (λ held x. λ outcome must. (must.0, (Ok count, (x.0, x.1, x.2), refl))))
+records_so law file old new given text (Err (show.PacketRefused at why)) s counts = IfSome_then old.held s (λ held x. absurd x)
+records_so law file old new given text (Err (show.RecordRefused number why)) s counts =
+    decided law (ShowFrames file) old new (shown_outcome (Err (show.RecordRefused number why)))
+    (IfSome_then old.held s (λ held x. λ outcome must. (must.0, (Err (show.RecordRefused number why), (x.0, x.1, x.2.0, x.3, x.4), refl))))
+records_so law file old new given text (Err show.TooLong) s counts =
+    IfSome_then old.held s (λ held x. λ outcome must r w. let many : 2 ^ 40 ≤ length (bytes_of held.files file) = x.0 in absurd (omega (arith, many, must.0)))
+records_so law file old new given text (Err show.ReadFault) s counts = failed (ShowFrames file) old new (shown_outcome (Err show.ReadFault)) (inl counts.rose)
+records_so law file old new given text (Err show.WriteFault) s counts = failed (ShowFrames file) old new (shown_outcome (Err show.WriteFault)) (inr (inl counts.rose))
+records_so law file old new given text (Err show.OutOfMemory) s counts = failed (ShowFrames file) old new OutOfMemory (inr (inr refl))
+records_so law file old new given text (Err show.NoRoom) s counts = failed (ShowFrames file) old new OutOfMemory (inr (inr refl))
 
 -- a file of units
 t2mi_so : (file : List ℕ) (old new : State) (given : ℕ) (text : List ℕ) (shown : Result ℕ ShowStop) → IfSome old.held (λ held. IsT2miText (bytes_of held.files file) given shown text) → Counted old new shown →
     IsComplete (ShowT2mi file) old new (shown_outcome shown)
 t2mi_so file old new given text (Ok count) s counts = IfSome_then old.held s (λ held x. λ outcome must r w. inl (sym must.1))
 t2mi_so file old new given text (Err (show.PacketRefused at why)) s counts = IfSome_then old.held s (λ held x. absurd x)
+t2mi_so file old new given text (Err (show.RecordRefused number why)) s counts = IfSome_then old.held s (λ held x. absurd x)
 t2mi_so file old new given text (Err show.TooLong) s counts =
     IfSome_then old.held s (λ held x. λ outcome must r w. let many : 2 ^ 40 ≤ length (bytes_of held.files file) = x.0 in absurd (omega (arith, many, must.0)))
 t2mi_so file old new given text (Err show.ReadFault) s counts = failed (ShowT2mi file) old new (shown_outcome (Err show.ReadFault)) (inl counts.rose)
 t2mi_so file old new given text (Err show.WriteFault) s counts = failed (ShowT2mi file) old new (shown_outcome (Err show.WriteFault)) (inr (inl counts.rose))
 t2mi_so file old new given text (Err show.OutOfMemory) s counts = failed (ShowT2mi file) old new OutOfMemory (inr (inr refl))
+t2mi_so file old new given text (Err show.NoRoom) s counts = failed (ShowT2mi file) old new OutOfMemory (inr (inr refl))
 
 -- a file gives no configuration, or reading it failed
 no_config : (old new : State) (name : List ℕ) (stop : ConfigStop) → GivesNone old new name stop → IfSome old.held (λ held. GivesConfig (bytes_of held.files name) (Err stop)) ⊎ By old new (config_outcome stop)
@@ -201,6 +222,8 @@ is_complete law one run (ShowPackets file) old new result s =
     subst (IsComplete (ShowPackets file) old new) (sym s.2) (packets_so law file old new s.1.given s.1.text s.0 s.1.lines s.1.counts)
 is_complete law one run (ShowT2mi file) old new result s =
     subst (IsComplete (ShowT2mi file) old new) (sym s.2) (t2mi_so file old new s.1.given s.1.text s.0 s.1.lines s.1.counts)
+is_complete law one run (ShowFrames file) old new result s =
+    subst (IsComplete (ShowFrames file) old new) (sym s.2) (records_so law file old new s.1.given s.1.text s.0 s.1.lines s.1.counts)
 is_complete law one run (ShowConfig file) old new result s = config_so law old new file result s
 is_complete law one run (Plan config) old new result s = plan_so law old new config result s
 is_complete law one run (Gateway config out ins) old new result s = gateway_so one run old new config out ins result s

@@ -9,9 +9,9 @@ use Rattle.file_run.specs.FileRun.{file_at}
 use Rattle.gateway_run.specs.Laws.{MustRun, OneRun}
 use Rattle.gateway_run.specs.declared.stop.Ran.{Ran}
 use Rattle.gateway_run.specs.declared.stop.RunStop.{RunStop}
-use Rattle.show_run.specs.Laws.{OneEnd}
+use Rattle.show_run.specs.Laws.{OneEnd, OneRecordsEnd}
 use Rattle.site_top.specs.declared.outcome.Outcome.{Outcome}
-use Rattle.site_top.specs.Commands.{ShowPackets, ShowT2mi, ShowConfig, Plan, Gateway}
+use Rattle.site_top.specs.Commands.{ShowPackets, ShowT2mi, ShowFrames, ShowConfig, Plan, Gateway}
 use Rattle.site_top.specs.Laws.{OneEnding}
 use Rattle.site_top.specs.Outcomes.{shown_outcome, given_outcome, config_outcome, ran_outcome, Miscounts}
 use Rattle.site_top.specs.Runs.{AreShort, PlanMustEnd, MustEnd}
@@ -63,9 +63,10 @@ ended_so one run held config out ins result outcome (inr (c, plan, ends)) (inr (
     let same : d ≡ c = ap (config_in d) (one (bytes_of held.files config) (Ok d) (Ok c) planned plan) in
     over_plan run held ins c result outcome ends (subst (λ (x : Config). PlanMustEnd held ins x outcome) same must)
 
-pub one_ending : OneEnd → OneConfig → OnePlan → OneRun → OneEnding
-one_ending packets config plan run (ShowPackets file) held outcome other a b = a.1.2 ∙ ap shown_outcome (packets (bytes_of held.files file) a.1.0 b.1.0 a.1.1 b.1.1) ∙ sym b.1.2
-one_ending packets config plan run (ShowT2mi file) held outcome other a b = a.1 ∙ sym b.1
-one_ending packets config plan run (ShowConfig file) held outcome other a b = a.2 ∙ ap given_outcome (config (bytes_of held.files file) a.0 b.0 a.1 b.1) ∙ sym b.2
-one_ending packets config plan run (Plan file) held outcome other a b = a.2 ∙ ap given_outcome (plan (bytes_of held.files file) a.0 b.0 a.1 b.1) ∙ sym b.2
-one_ending packets config plan run (Gateway file out ins) held outcome other a b = ended_so plan run held file out ins outcome other (if_short held file out ins outcome a) b
+pub one_ending : OneEnd → OneRecordsEnd → OneConfig → OnePlan → OneRun → OneEnding
+one_ending packets records config plan run (ShowPackets file) held outcome other a b = a.1.2 ∙ ap shown_outcome (packets (bytes_of held.files file) a.1.0 b.1.0 a.1.1 b.1.1) ∙ sym b.1.2
+one_ending packets records config plan run (ShowT2mi file) held outcome other a b = a.1 ∙ sym b.1
+one_ending packets records config plan run (ShowFrames file) held outcome other a b = a.1.2 ∙ ap shown_outcome (records (bytes_of held.files file) a.1.0 b.1.0 a.1.1 b.1.1) ∙ sym b.1.2
+one_ending packets records config plan run (ShowConfig file) held outcome other a b = a.2 ∙ ap given_outcome (config (bytes_of held.files file) a.0 b.0 a.1 b.1) ∙ sym b.2
+one_ending packets records config plan run (Plan file) held outcome other a b = a.2 ∙ ap given_outcome (plan (bytes_of held.files file) a.0 b.0 a.1 b.1) ∙ sym b.2
+one_ending packets records config plan run (Gateway file out ins) held outcome other a b = ended_so plan run held file out ins outcome other (if_short held file out ins outcome a) b

@@ -9,10 +9,10 @@ use Rattle.config_file.specs.Laws.{GivesPlan, ConfigEnds, PlanEnds}
 use Rattle.config_file.specs.declared.stop.ConfigStop.{ConfigStop}
 use Rattle.file_run.specs.FileRun.{file_at}
 use Rattle.gateway_run.specs.Laws.{RunEnds}
-use Rattle.show_run.specs.Laws.{EachEnds}
+use Rattle.show_run.specs.Laws.{EachEnds, EachRecordsEnd}
 use Rattle.site_top.specs.declared.outcome.Outcome.{Outcome}
 use Rattle.site_top.specs.declared.outcome.Outcome.TheVariants.{Done, WrongInputs}
-use Rattle.site_top.specs.Commands.{ShowPackets, ShowT2mi, ShowConfig, Plan, Gateway}
+use Rattle.site_top.specs.Commands.{ShowPackets, ShowT2mi, ShowFrames, ShowConfig, Plan, Gateway}
 use Rattle.site_top.specs.Laws.{CommandsHaveEnding}
 use Rattle.site_top.specs.Outcomes.{shown_outcome, given_outcome, config_outcome, ran_outcome}
 use Rattle.site_top.specs.Runs.{AreShort, PlanMustEnd, MustEnd}
@@ -31,9 +31,10 @@ gateway_ends : RunEnds → (held : Held) (config out : List ℕ) (ins : List (Li
 gateway_ends run held config out ins (Err stop) short gives = (config_outcome stop, inl (stop, gives, refl))
 gateway_ends run held config out ins (Ok c) short gives = let end = plan_ends run held ins c short gives.1 in (end.0, inr (c, gives, end.1))
 
-pub commands_end : EachEnds → ConfigEnds → PlanEnds → RunEnds → CommandsHaveEnding
-commands_end packets config plan run (ShowPackets file) held short = let end = packets (bytes_of held.files file) in (shown_outcome end.0, (short, (end.0, end.1, refl)))
-commands_end packets config plan run (ShowT2mi file) held short = (Done, (short, refl))
-commands_end packets config plan run (ShowConfig file) held short = let end = config (bytes_of held.files file) in (given_outcome end.0, (end.0, end.1, refl))
-commands_end packets config plan run (Plan file) held short = let end = plan (bytes_of held.files file) in (given_outcome end.0, (end.0, end.1, refl))
-commands_end packets config plan run (Gateway file out ins) held short = let end = plan (bytes_of held.files file) in gateway_ends run held file out ins end.0 short end.1
+pub commands_end : EachEnds → EachRecordsEnd → ConfigEnds → PlanEnds → RunEnds → CommandsHaveEnding
+commands_end packets records config plan run (ShowPackets file) held short = let end = packets (bytes_of held.files file) in (shown_outcome end.0, (short, (end.0, end.1, refl)))
+commands_end packets records config plan run (ShowT2mi file) held short = (Done, (short, refl))
+commands_end packets records config plan run (ShowFrames file) held short = let end = records (bytes_of held.files file) short.1 in (shown_outcome end.0, (short.0, (end.0, end.1, refl)))
+commands_end packets records config plan run (ShowConfig file) held short = let end = config (bytes_of held.files file) in (given_outcome end.0, (end.0, end.1, refl))
+commands_end packets records config plan run (Plan file) held short = let end = plan (bytes_of held.files file) in (given_outcome end.0, (end.0, end.1, refl))
+commands_end packets records config plan run (Gateway file out ins) held short = let end = plan (bytes_of held.files file) in gateway_ends run held file out ins end.0 short end.1

@@ -9,6 +9,7 @@ use Rattle.site_top.specs.declared.request.Request.TheVariants as asked
 pub data Command : Type 0 where
   ShowPackets : List ℕ → Command
   ShowT2mi : List ℕ → Command
+  ShowFrames : List ℕ → Command
   ShowConfig : List ℕ → Command
   Plan : List ℕ → Command
   Gateway : List ℕ → List ℕ → List (List ℕ) → Command
@@ -21,7 +22,8 @@ is_empty (c ∷ cs) = false
 abbrev pub shown : List ℕ → List ℕ → Option Command
 shown what file =
     if bytes_eq what (codes "packets") then Some (ShowPackets file)
-    else (if bytes_eq what (codes "t2mi") then Some (ShowT2mi file) else (if bytes_eq what (codes "config") then Some (ShowConfig file) else None))
+    else (if bytes_eq what (codes "t2mi") then Some (ShowT2mi file)
+    else (if bytes_eq what (codes "frames") then Some (ShowFrames file) else (if bytes_eq what (codes "config") then Some (ShowConfig file) else None)))
 
 -- The name of an input: not empty, and not that of the output.
 abbrev pub is_input : List ℕ → List ℕ → Bool
@@ -54,6 +56,7 @@ command_of words = None
 abbrev pub meant : Request → Command
 meant (asked.ShowPackets file) = ShowPackets file.now
 meant (asked.ShowT2mi file) = ShowT2mi file.now
+meant (asked.ShowFrames file) = ShowFrames file.now
 meant (asked.ShowConfig file) = ShowConfig file.now
 meant (asked.Plan config) = Plan config.now
 meant (asked.Gateway config out ins) = Gateway config.now out.now ins.now

@@ -5,6 +5,8 @@ use Rattle.std.specs.Fmt.{decimal}
 use Rattle.plp_config.specs.declared.config.Config.{Config}
 use Rattle.t2mi_packet.specs.declared.fault.PacketWhy.{PacketWhy}
 use Rattle.t2mi_packet.specs.declared.fault.PacketWhy.TheVariants.{Short, Crc, PadBits, PayloadShape}
+use Rattle.site_frame.specs.declared.fault.RecordWhy.{RecordWhy}
+use Rattle.site_frame.specs.declared.fault.RecordWhy.TheVariants.{Head, Kind, Length, Order, OffGrid}
 use Rattle.config_text.specs.declared.fault.TextWhy.{TextWhy}
 use Rattle.config_text.specs.declared.fault.TextWhy.TheVariants.{NotAscii, WrongKey, WrongCount, BadWord, BadNumber, EndsEarly, TooLong as TextTooLong}
 use Rattle.config_file.specs.declared.stop.ConfigCause.TheVariants.{Text, Rule}
@@ -17,7 +19,7 @@ use Rattle.gateway_run.specs.declared.stop.RunStop.TheVariants as run
 use Rattle.show_run.specs.declared.stop.ShowStop.{ShowStop}
 use Rattle.show_run.specs.declared.stop.ShowStop.TheVariants as show
 use Rattle.site_top.specs.declared.outcome.Outcome.{Outcome}
-use Rattle.site_top.specs.declared.outcome.Outcome.TheVariants.{Done, Usage, WrongInputs, ConfigRefused, CapacityRefused, InputRefused, TooLong, PacketRefused, ReadFault, WriteFault, OutOfMemory}
+use Rattle.site_top.specs.declared.outcome.Outcome.TheVariants.{Done, Usage, WrongInputs, ConfigRefused, CapacityRefused, InputRefused, RecordRefused, TooLong, PacketRefused, ReadFault, WriteFault, OutOfMemory}
 
 -- the status that the program ends with
 abbrev pub status_of : Outcome → ℕ
@@ -27,6 +29,7 @@ status_of (WrongInputs plps inputs) = 2
 status_of (ConfigRefused cause) = 3
 status_of (CapacityRefused test plp need have) = 4
 status_of (InputRefused input packet) = 5
+status_of (RecordRefused number why) = 7
 status_of (TooLong count) = 9
 status_of (PacketRefused at why) = 10
 status_of ReadFault = 70
@@ -39,6 +42,14 @@ why_number Short = 1
 why_number Crc = 2
 why_number PadBits = 3
 why_number PayloadShape = 4
+
+-- the number of a refusal of a record
+abbrev pub record_why_number : RecordWhy → ℕ
+record_why_number Head = 1
+record_why_number Kind = 2
+record_why_number Length = 3
+record_why_number Order = 4
+record_why_number OffGrid = 5
 
 -- the number of a refusal of a text
 abbrev pub text_why_number : TextWhy → ℕ
@@ -65,6 +76,7 @@ last_line (ConfigRefused (Rule rule plp)) = codes "refused: config rule " ++ dec
 last_line (CapacityRefused test plp need have) =
     codes "refused: capacity test " ++ decimal test ++ codes " plp " ++ place_word plp ++ codes " need " ++ decimal need ++ codes " have " ++ decimal have ++ codes "\n"
 last_line (InputRefused input packet) = codes "refused: input " ++ decimal input ++ codes " packet " ++ decimal packet ++ codes "\n"
+last_line (RecordRefused number why) = codes "refused: record " ++ decimal number ++ codes " why " ++ decimal (record_why_number why) ++ codes "\n"
 last_line (TooLong count) = codes "refused: too long " ++ decimal count ++ codes "\n"
 last_line (PacketRefused at why) = codes "refused: packet at " ++ decimal at ++ codes " why " ++ decimal (why_number why) ++ codes "\n"
 last_line ReadFault = codes "fault: read\n"
@@ -75,10 +87,12 @@ last_line OutOfMemory = codes "fault: memory\n"
 abbrev pub shown_outcome : Result ℕ ShowStop → Outcome
 shown_outcome (Ok count) = Done
 shown_outcome (Err (show.PacketRefused at why)) = PacketRefused at why
+shown_outcome (Err (show.RecordRefused number why)) = RecordRefused number why
 shown_outcome (Err show.TooLong) = TooLong most_bytes
 shown_outcome (Err show.ReadFault) = ReadFault
 shown_outcome (Err show.WriteFault) = WriteFault
 shown_outcome (Err show.OutOfMemory) = OutOfMemory
+shown_outcome (Err show.NoRoom) = OutOfMemory
 
 -- of one whose file gives no configuration or no plan
 abbrev pub config_outcome : ConfigStop → Outcome

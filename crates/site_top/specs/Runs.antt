@@ -10,14 +10,15 @@ use Rattle.file_run.specs.FileRun.{file_at}
 use Rattle.gateway_run.specs.Laws.{MustRun}
 use Rattle.gateway_run.specs.declared.stop.Ran.{Ran}
 use Rattle.gateway_run.specs.declared.stop.RunStop.{RunStop}
-use Rattle.show_run.specs.Laws.{PacketsEnd}
+use Rattle.show_run.specs.Laws.{PacketsEnd, RecordsEnd, AreBytes}
 use Rattle.show_run.specs.PacketText.{IsPacketText}
+use Rattle.show_run.specs.RecordText.{IsRecordText}
 use Rattle.show_run.specs.Shows as show
 use Rattle.show_run.specs.T2miText.{IsT2miText}
 use Rattle.show_run.specs.declared.stop.ShowStop.{ShowStop}
 use Rattle.site_top.specs.declared.outcome.Outcome.{Outcome}
 use Rattle.site_top.specs.declared.outcome.Outcome.TheVariants.{Done, OutOfMemory}
-use Rattle.site_top.specs.Commands.{Command, ShowPackets, ShowT2mi, ShowConfig, Plan, Gateway}
+use Rattle.site_top.specs.Commands.{Command, ShowPackets, ShowT2mi, ShowFrames, ShowConfig, Plan, Gateway}
 use Rattle.site_top.specs.ConfigCommands.{ShowsConfig, Plans}
 use Rattle.site_top.specs.GatewayCommand.{Gateways}
 use Rattle.site_top.specs.Outcomes.{shown_outcome, given_outcome, config_outcome, ran_outcome, Miscounts}
@@ -29,6 +30,7 @@ Shows IsText old new file outcome = (result : Result ℕ ShowStop) × show.Shows
 abbrev pub Does : Command → State → State → Outcome → Type 0
 Does (ShowPackets file) old new outcome = Shows IsPacketText old new file outcome
 Does (ShowT2mi file) old new outcome = Shows IsT2miText old new file outcome
+Does (ShowFrames file) old new outcome = Shows IsRecordText old new file outcome
 Does (ShowConfig file) old new outcome = ShowsConfig old new file outcome
 Does (Plan config) old new outcome = Plans old new config outcome
 Does (Gateway config out ins) old new outcome = Gateways old new config out ins outcome
@@ -37,10 +39,11 @@ Does (Gateway config out ins) old new outcome = Gateways old new config out ins 
 abbrev pub AreShort : Held → List (List ℕ) → Type 0
 AreShort held ins = (plp : ℕ) → plp < length ins → length (file_at held ins plp) < most_bytes
 
--- No file is too long that a command reads, CONFIG aside.
+-- No file is too long that a command reads, CONFIG aside; and a file of records is bytes.
 abbrev pub AreShortFor : Command → Held → Type 0
 AreShortFor (ShowPackets file) held = length (bytes_of held.files file) < most_bytes
 AreShortFor (ShowT2mi file) held = length (bytes_of held.files file) < most_bytes
+AreShortFor (ShowFrames file) held = (length (bytes_of held.files file) < most_bytes) × AreBytes (bytes_of held.files file)
 AreShortFor (ShowConfig file) held = Unit {0}
 AreShortFor (Plan config) held = Unit {0}
 AreShortFor (Gateway config out ins) held = AreShort held ins
@@ -56,6 +59,8 @@ abbrev pub MustEnd : Command → Held → Outcome → Type 0
 MustEnd (ShowPackets file) held outcome = (length (bytes_of held.files file) < most_bytes)
     × ((result : Result ℕ ShowStop) × PacketsEnd (bytes_of held.files file) result × (outcome ≡ shown_outcome result))
 MustEnd (ShowT2mi file) held outcome = (length (bytes_of held.files file) < most_bytes) × (outcome ≡ Done)
+MustEnd (ShowFrames file) held outcome = (length (bytes_of held.files file) < most_bytes)
+    × ((result : Result ℕ ShowStop) × RecordsEnd (bytes_of held.files file) result × (outcome ≡ shown_outcome result))
 MustEnd (ShowConfig file) held outcome = (result : Result Config ConfigStop) × GivesConfig (bytes_of held.files file) result × (outcome ≡ given_outcome result)
 MustEnd (Plan config) held outcome = (result : Result Config ConfigStop) × GivesPlan (bytes_of held.files config) result × (outcome ≡ given_outcome result)
 MustEnd (Gateway config out ins) held outcome =

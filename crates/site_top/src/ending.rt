@@ -2,12 +2,13 @@
 ghost use Rattle.std.specs.Prelude.{◌≡◌, ◌+◌, ◌++◌, ◌≤◌, codes, length};
 ghost use Rattle.desk_io.specs.declared.line.TheConstants.{ROOM};
 ghost use Rattle.config_file.specs.declared.stop.ConfigCause.TheVariants.{Text, Rule};
-ghost use Rattle.site_top.specs.Outcomes.{last_line as line_of_outcome, why_number as number_of_why, text_why_number as number_of_text_why, place_word};
+ghost use Rattle.site_top.specs.Outcomes.{last_line as line_of_outcome, why_number as number_of_why, record_why_number as number_of_record_why, text_why_number as number_of_text_why, place_word};
 
 use crate::outcome::Outcome;
 use config_file::ConfigCause;
 use config_text::TextWhy;
 use desk_io::Line;
+use site_frame::RecordWhy;
 use t2mi_packet::PacketWhy;
 
 // Bytes of the place of a PLP at most: five of its key, and twenty digits.
@@ -47,6 +48,23 @@ fn packet_refused_line(at: u64, why: PacketWhy) -> Line
     let mut line = Line::new();
     line.push_field(b"refused: packet at ", at);
     line.push_field(b" why ", u64::from(why_number(why)));
+    line.push(b"\n");
+    line
+}
+
+fn record_why_number(why: RecordWhy) -> u8
+    ensures { result ≡ number_of_record_why why }
+{
+    why as u8
+}
+
+#[tactic(auto, unfolding(crate::specs::Outcomes::last_line))]
+fn record_refused_line(number: u64, why: RecordWhy) -> Line
+    ensures { result ≡ line_of_outcome (Outcome.RecordRefused number why) }
+{
+    let mut line = Line::new();
+    line.push_field(b"refused: record ", number);
+    line.push_field(b" why ", u64::from(record_why_number(why)));
     line.push(b"\n");
     line
 }
@@ -138,6 +156,7 @@ pub fn last_line(outcome: Outcome) -> Line
             have,
         } => capacity_refused_line(test, plp, need, have),
         Outcome::InputRefused { input, packet } => input_refused_line(input, packet),
+        Outcome::RecordRefused { number, why } => record_refused_line(number, why),
         Outcome::TooLong { count } => too_long_line(count),
         Outcome::PacketRefused { at, why } => packet_refused_line(at, why),
         Outcome::ReadFault => line_with(b"fault: read\n"),

@@ -3,13 +3,14 @@ ghost use Rattle.site_top.specs.Laws.{OneEnding, CommandsHaveEnding, Completenes
 
 use config_file::{config_ends, one_config};
 use gateway_run::{one_run, run_ends};
-use show_run::packets_end_law;
+use show_run::{packets_end_law, records_end_law};
 
 /// The files that a desk holds decide how a run over them must end.
 pub fn one_ending()
     ensures { OneEnding }
 {
     packets_end_law();
+    records_end_law();
     one_config();
     one_run();
 }
@@ -19,6 +20,7 @@ pub fn commands_have_ending()
     ensures { CommandsHaveEnding }
 {
     packets_end_law();
+    records_end_law();
     config_ends();
     run_ends();
 }

@@ -3,6 +3,7 @@ ghost use Rattle.std.specs.Prelude.{◌≡◌};
 ghost use Rattle.site_top.specs.Outcomes.{status_of};
 
 use config_file::ConfigCause;
+use site_frame::RecordWhy;
 use t2mi_packet::PacketWhy;
 
 /// How a run ended.
@@ -35,6 +36,11 @@ pub enum Outcome {
         input: u8,
         packet: u64,
     },
+    /// No record begins where this one must, counted from 0.
+    RecordRefused {
+        number: u64,
+        why: RecordWhy,
+    },
     /// A file gave as many bytes as no file may have, or a frame would begin of which none may have the number; `count` is that number.
     TooLong {
         count: u64,
@@ -63,6 +69,7 @@ impl Outcome {
             Outcome::ConfigRefused { .. } => 3,
             Outcome::CapacityRefused { .. } => 4,
             Outcome::InputRefused { .. } => 5,
+            Outcome::RecordRefused { .. } => 7,
             Outcome::TooLong { .. } => 9,
             Outcome::PacketRefused { .. } => 10,
             Outcome::ReadFault => 70,

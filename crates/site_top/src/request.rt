@@ -16,6 +16,10 @@ pub enum Request<'a> {
     ShowT2mi {
         file: &'a str,
     },
+    /// Shows the records of a file.
+    ShowFrames {
+        file: &'a str,
+    },
     /// Shows a configuration as it is written.
     ShowConfig {
         file: &'a str,
@@ -39,6 +43,8 @@ fn shown<'a>(what: &str, file: &'a str) -> Option<Request<'a>>
         Some(Request::ShowPackets { file })
     } else if what == "t2mi" {
         Some(Request::ShowT2mi { file })
+    } else if what == "frames" {
+        Some(Request::ShowFrames { file })
     } else if what == "config" {
         Some(Request::ShowConfig { file })
     } else {

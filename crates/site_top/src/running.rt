@@ -13,7 +13,7 @@ use crate::outcome::Outcome;
 use crate::request::{Request, request_of};
 use crate::show::outcome_of;
 use ports::{Desk, Word};
-use show_run::{show_packets, show_t2mi};
+use show_run::{show_frames, show_packets, show_t2mi};
 use std::alloc::Global;
 
 // Does what the words say, but for the last line.
@@ -24,6 +24,7 @@ fn command<D: Desk>(alloc: Global, words: &[Word], desk: &mut D) -> Outcome
     match request_of(words) {
         Some(Request::ShowPackets { file }) => outcome_of(show_packets(alloc, file, desk)),
         Some(Request::ShowT2mi { file }) => outcome_of(show_t2mi(alloc, file, desk)),
+        Some(Request::ShowFrames { file }) => outcome_of(show_frames(alloc, file, desk)),
         Some(Request::ShowConfig { file }) => show_config(alloc, file, desk),
         Some(Request::Plan { config }) => plan(alloc, config, desk),
         Some(Request::Gateway { config, out, ins }) => gateway(alloc, config, out, ins, desk),

@@ -1,4 +1,4 @@
-// `show packets FILE` and `show t2mi FILE`.
+// `show packets FILE`, `show t2mi FILE` and `show frames FILE`.
 ghost use Rattle.std.specs.Prelude.{◌≡◌};
 ghost use Rattle.site_top.specs.Outcomes.{shown_outcome};
 
@@ -13,9 +13,10 @@ pub fn outcome_of(shown: Result<u64, ShowStop>) -> Outcome
     match shown {
         Ok(_) => Outcome::Done,
         Err(ShowStop::PacketRefused { at, why }) => Outcome::PacketRefused { at, why },
+        Err(ShowStop::RecordRefused { number, why }) => Outcome::RecordRefused { number, why },
         Err(ShowStop::TooLong) => Outcome::TooLong { count: MOST_BYTES },
         Err(ShowStop::ReadFault) => Outcome::ReadFault,
         Err(ShowStop::WriteFault) => Outcome::WriteFault,
-        Err(ShowStop::OutOfMemory) => Outcome::OutOfMemory,
+        Err(ShowStop::OutOfMemory | ShowStop::NoRoom) => Outcome::OutOfMemory,
     }
 }

@@ -1,0 +1,27 @@
+-- A file of records that stand one behind another.
+use Rattle.std.specs.Prelude.{◌≡◌, ◌≢◌, ◌⊎◌, ℕ, ◌+◌, ◌-◌, ◌≤◌, List, [], ◌∷◌, length, take, drop}
+use Rattle.site_frame.specs.Record.{head_len}
+use Rattle.site_frame.specs.Whole.{BeginsWith, Follow, Refuses}
+use Rattle.site_frame.specs.declared.fault.RecordWhy.{RecordWhy}
+use Rattle.site_frame.specs.declared.reading.RecordView.{RecordView}
+
+-- The bytes are these records, one behind the other, and then the rest.
+abbrev pub AreRecords : List ℕ → List RecordView → List ℕ → Type 0
+AreRecords bytes [] rest = bytes ≡ rest
+AreRecords bytes (view ∷ views) rest = (len : ℕ) × BeginsWith bytes view len × AreRecords (drop len bytes) views rest
+
+-- Bytes are left where a record must begin, and for this reason none does.
+abbrev pub IsNoRecord : List ℕ → RecordWhy → Type 0
+IsNoRecord rest why = (rest ≢ []) × Refuses rest why
+
+-- Some record begins with the head at the front of the bytes, and so many bytes follow it there.
+abbrev pub Announces : List ℕ → ℕ → Type 0
+Announces bytes len = (head_len ≤ length bytes) × Follow (take head_len bytes) len
+
+-- So many of the bytes are no more than a head, or no more than the record has of which the head stands there.
+abbrev pub EndsWithin : List ℕ → ℕ → Type 0
+EndsWithin bytes count = (count ≤ head_len) ⊎ ((len : ℕ) × Announces bytes len × (count ≤ head_len + len))
+
+-- how many bytes of a file stand before a rest of it
+abbrev pub bytes_before : List ℕ → List ℕ → ℕ
+bytes_before file rest = length file - length rest
