@@ -1,6 +1,7 @@
 -- The records of the frames whose packets came: each frame, or why it is muted.
 use Rattle.std.specs.Prelude.{ℕ, ◌+◌, ◌-◌, ◌==◌, List, [], ◌∷◌, ◌++◌, map, Option, Some, None, if◌then◌else◌}
 use Rattle.std.specs.List.{range_with_len}
+use Rattle.plp_config.specs.declared.config.Config.{Config}
 use Rattle.t2mi_packet.specs.declared.packet.Packet.{Packet}
 use Rattle.frame_groups.specs.Groups.{Group, groups}
 use Rattle.frame_groups.specs.Numbers.{next_number}
@@ -16,9 +17,10 @@ pub record FrameRecord : Type 0 where
   pub number : ℕ
   pub content : Content
 
--- what decides of a group: how many frames a superframe has, the frame that its timestamp names, and why it is not the frame of a
--- number
+-- what decides of a group: the network, how many frames a superframe has, the frame that a group's timestamp names, and why it is not
+-- the frame of a number
 pub record Rules : Type 0 where
+  pub network : Config
   pub frames : ℕ
   pub named : Group → Option ℕ
   pub fault : Group → ℕ → Option MuteCause

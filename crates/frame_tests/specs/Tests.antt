@@ -200,4 +200,4 @@ named_frame c g = option_and_then (λ s. frame_with c g.key (moment_of s)) (slic
 
 -- what decides of groups in a network
 abbrev pub rules : Config → Rules
-rules c = record { frames = c.frames; named = named_frame c; fault = group_fault c }
+rules c = record { network = c; frames = c.frames; named = named_frame c; fault = group_fault c }

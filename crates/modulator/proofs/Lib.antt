@@ -1,3 +1,5 @@
 pub mod StandsLemmas
 pub mod StepLemmas
 pub mod TookLemmas
+pub mod BeginLemmas
+pub mod MuteLemmas

@@ -342,3 +342,11 @@ front_on r s pid bytes piece given count more k same inside before here l = ⊎_
     ap (λ (l : List ℕ). (bytes ++ take count piece) ++ take (k - count) l) (take_rest piece count) ∙ piece_on bytes piece count (k - count) ∙ ap (λ (n : ℕ). bytes ++ take n piece) e in
     ap₂ (λ (r : Rules) (l : List ℕ). due_by r false pid l) (sym same) (sym o) ∙ j)
     (cases_lt k count)
+
+pub some_at : {X : Type 0} (o : Option X) (x : X) (P : X → Type 0) → IfSome o P → o ≡ Some x → P x
+some_at None x P h e = none_some x e
+some_at (Some y) x P h e = subst P (some_is y x e) h
+
+pub none_is : {X : Type 0} (o : Option X) (P : Type 0) → IfNone o P → o ≡ None → P
+none_is None P h e = h
+none_is (Some x) P h e = none_some x (sym e)

@@ -1,5 +1,5 @@
 -- Bytes of records that were taken.
-use Rattle.std.proofs.Common.{◌≡◌, ℕ, Bool, true, false, List, [], ◌∷◌, ◌++◌, Option, Some, None, refl, ap, sym, subst, ◌∙◌, arith, append_assoc, append-nil}
+use Rattle.std.proofs.Common.{◌≡◌, ⊎_elim, inl, inr, ℕ, Bool, true, false, List, [], ◌∷◌, ◌++◌, Option, Some, None, refl, ap, sym, subst, ◌∙◌, arith, append_assoc, append-nil}
 use Rattle.std.specs.Prelude.{is_some, flat_map, IfNone}
 use Rattle.std.proofs.lemmas.Bool.{true≢false}
 use Rattle.std.proofs.lemmas.List.Concat.{flat_map-append}
@@ -18,22 +18,8 @@ use Rattle.t2mi_stream.specs.Events.{UnpiperEvent, fed, released}
 use Rattle.t2mi_stream.specs.UnpiperStandsFor.{UnpiperStandsFor, is_ready, AllReleased}
 use Rattle.t2mi_stream.specs.declared.unpiper.Unpiper.{Unpiper}
 use Rattle.modulator.specs.Modulating.{Stands, due_by}
-use Rattle.modulator.specs.Gives.{Took, Gives, bytes_due}
+use Rattle.modulator.specs.Gives.{Gives, bytes_due}
 use Rattle.modulator.proofs.StandsLemmas.{HasKey, comes_next}
-
--- A record is begun: if it waits, its bytes are left.
-abbrev pub IsBegun : (Option Group → Type 0) → (FrameRecord → List ℕ) → Progress → List ℕ → Type 0
-IsBegun Holds spelled at left = (w : Waiting) (h : Group) → waiting_of at ≡ Some w → Holds (Some h) → left ≡ spelled (record_of h w)
-
--- a record is begun, or none waits
-pub took_begun : (Holds : Option Group → Type 0) (spelled : FrameRecord → List ℕ) (g : Option Group) (at : Progress) (left : List ℕ) (given : List FrameRecord) (taken : List ℕ)
-    → IsBegun Holds spelled at left → Holds g → taken ≡ flat_map spelled given → Took spelled g at left given taken
-took_begun Holds spelled g at left given taken begun holds e = record {
-  part = [];
-  taken_is = e ∙ sym (append-nil (flat_map spelled given));
-  rest = λ w i h k. sym (begun w h i (subst Holds k holds));
-  idle = λ _. refl;
-}
 
 -- the record that waits, and its group
 pub record IsNow (g : Option Group) (at : Progress) : Type 0 where
@@ -46,30 +32,38 @@ some_of : {X : Type 0} (o : Option X) → is_some o ≡ true → (x : X) × (o �
 some_of None e = absurd (true≢false (sym e))
 some_of (Some x) e = (x, refl)
 
-now_of : (r : Rules) (g : Option Group) (at : Progress) (ps : List Packet) (given : List FrameRecord) → Sequenced r g at.number at.next at.closing at.fault ps given → waits at ≡ true → IsNow g at
+pub now_of : (r : Rules) (g : Option Group) (at : Progress) (ps : List Packet) (given : List FrameRecord) → Sequenced r g at.number at.next at.closing at.fault ps given → waits at ≡ true → IsNow g at
 now_of r None at ps given (a, b, c, d) w = absurd (true≢false (sym w ∙ ap (λ (o : Option ℕ). waits_by o at.next at.closing at.fault) b))
 now_of r (Some h) at ps given q w =
     let s = some_of (waiting_of at) w in
     record { waiting = s.0; is = s.1; group = h; has = refl }
 
--- the group stands for what it stood for
-pub stands_on : (Old New : Option Group → Type 0) (key other : Option Key) (r s : Rules) (at : Progress) (u : Unpiper) (finished : Bool) (pid : ℕ) (bytes : List ℕ) (given : List FrameRecord)
-    → ((g : Option Group) → Old g → New g) → other ≡ key → s ≡ r → Stands Old key r at u finished pid bytes given → Stands New other s at u finished pid bytes given
-stands_on Old New key other r s at u finished pid bytes given on same rules h =
-    subst (λ (s : Rules). Stands New other s at u finished pid bytes given) (sym rules)
-    (subst (λ (o : Option Key). Stands New o r at u finished pid bytes given) (sym same)
+-- the group stands for what it stood for, and is the same
+pub record Moved (New : Option Group → Type 0) (other : Option Key) (s : Rules) (at : Progress) (u : Unpiper) (finished : Bool) (pid : ℕ) (bytes : List ℕ) (given : List FrameRecord) (group : Option Group) : Type 0 where
+  pub stands : Stands New other s at u finished pid bytes given
+  pub same : stands.keeps.group ≡ group
+
+pub moved : (Old New : Option Group → Type 0) (key other : Option Key) (r s : Rules) (at : Progress) (u : Unpiper) (finished : Bool) (pid : ℕ) (bytes : List ℕ) (given : List FrameRecord)
+    → ((g : Option Group) → Old g → New g) → other ≡ key → s ≡ r → (st : Stands Old key r at u finished pid bytes given) → Moved New other s at u finished pid bytes given st.keeps.group
+moved Old New key other r s at u finished pid bytes given on same rules st =
+    subst (λ (s : Rules). Moved New other s at u finished pid bytes given st.keeps.group) (sym rules)
+    (subst (λ (o : Option Key). Moved New o r at u finished pid bytes given st.keeps.group) (sym same)
     (record {
-      events = h.events;
-      stands = h.stands;
-      fed_is = h.fed_is;
-      few = h.few;
-      keeps = record { group = h.keeps.group; holds = on h.keeps.group h.keeps.holds; sequenced = h.keeps.sequenced };
-      ahead = h.ahead;
+      stands =
+          record {
+            events = st.events;
+            stands = st.stands;
+            fed_is = st.fed_is;
+            few = st.few;
+            keeps = record { group = st.keeps.group; holds = on st.keeps.group st.keeps.holds; sequenced = st.keeps.sequenced };
+            ahead = st.ahead;
+          };
+      same = refl;
     }))
 
 module _ (Holds : Option Group → Type 0) (key : Option Key) (r : Rules) (spelled : FrameRecord → List ℕ) (at : Progress) (left more rest : List ℕ) (u : Unpiper) (finished : Bool) (pid : ℕ) (bytes taken : List ℕ)
     (h : Gives Holds key r spelled at left u finished pid bytes taken) (w : waits at ≡ true) (cut : left ≡ more ++ rest) where
-  now : IsNow h.stands.keeps.group at
+  pub now : IsNow h.stands.keeps.group at
   now = now_of r h.stands.keeps.group at _ h.given h.stands.keeps.sequenced w
 
   record_bytes : spelled (record_of now.group now.waiting) ≡ h.took.part ++ (more ++ rest)
@@ -113,21 +107,12 @@ module _ (Holds : Option Group → Type 0) (key : Option Key) (r : Rules) (spell
       )
 
   -- the record was taken whole
-  pub took_last : (New : Option Group → Type 0) (other : Option Key) (s : Rules) (to : Progress) (begun : List ℕ) (v : Unpiper) (ended : Bool)
-      → rest ≡ []
-      → ((given : List FrameRecord) (w : Waiting) (group : Group) → waiting_of at ≡ Some w → (st : Stands Holds key r at u finished pid bytes given) → st.keeps.group ≡ Some group → Stands New other s to v ended pid bytes (given ++ record_of group w ∷ []))
-      → IsBegun New spelled to begun → Gives New other s spelled to begun v ended pid bytes (taken ++ more)
+  pub whole_given : rest ≡ [] → taken ++ more ≡ flat_map spelled (h.given ++ record_of now.group now.waiting ∷ [])
   unfolding record_bytes
-  took_last New other s to begun v ended none goes begins =
-      let st = goes h.given now.waiting now.group now.is h.stands now.has in
-      record {
-        given = h.given ++ record_of now.group now.waiting ∷ [];
-        stands = st;
-        took = took_begun New spelled st.keeps.group to begun (h.given ++ record_of now.group now.waiting ∷ []) (taken ++ more) begins st.keeps.holds
-            (ap (λ (l : List ℕ). l ++ more) h.took.taken_is ∙ append_assoc (flat_map spelled h.given) h.took.part more
-            ∙ ap (λ (l : List ℕ). flat_map spelled h.given ++ l) (ap (λ (l : List ℕ). h.took.part ++ l) (sym (append-nil more) ∙ ap (λ (l : List ℕ). more ++ l) (sym none)) ∙ sym record_bytes ∙ sym (append-nil (spelled (record_of now.group now.waiting))))
-            ∙ sym (flat_map-append spelled h.given (record_of now.group now.waiting ∷ [])));
-      }
+  whole_given none =
+      ap (λ (l : List ℕ). l ++ more) h.took.taken_is ∙ append_assoc (flat_map spelled h.given) h.took.part more
+      ∙ ap (λ (l : List ℕ). flat_map spelled h.given ++ l) (ap (λ (l : List ℕ). h.took.part ++ l) (sym (append-nil more) ∙ ap (λ (l : List ℕ). more ++ l) (sym none)) ∙ sym record_bytes ∙ sym (append-nil (spelled (record_of now.group now.waiting))))
+      ∙ sym (flat_map-append spelled h.given (record_of now.group now.waiting ∷ []))
 
 -- no record waits, so all that is due was taken
 pub all_taken : (Holds : Option Group → Type 0) (key : Option Key) (r : Rules) (spelled : FrameRecord → List ℕ) (at : Progress) (left : List ℕ) (u : Unpiper) (finished ended : Bool) (pid : ℕ) (bytes front taken : List ℕ)
@@ -157,24 +142,27 @@ opened Holds key r spelled at left u pid stands w shut k = record {
         keeps = k;
         ahead = λ c. absurd (true≢false (sym c ∙ shut));
       };
-  took = took_begun Holds spelled k.group at left [] [] (λ v h i held. absurd (true≢false (sym (ap is_some i) ∙ w))) k.holds refl;
+  took = record { part = []; taken_is = refl; rest = λ v i h g. absurd (true≢false (sym (ap is_some i) ∙ w)); idle = λ _. refl };
 }
+
+-- no record waits, so what was given was taken whole
+pub given_whole : (Holds : Option Group → Type 0) (key : Option Key) (r : Rules) (spelled : FrameRecord → List ℕ) (at : Progress) (left : List ℕ) (u : Unpiper) (finished : Bool) (pid : ℕ) (bytes taken : List ℕ)
+    → (h : Gives Holds key r spelled at left u finished pid bytes taken) → waits at ≡ false → taken ≡ flat_map spelled h.given
+given_whole Holds key r spelled at left u finished pid bytes taken h w = h.took.taken_is ∙ ap (λ (l : List ℕ). flat_map spelled h.given ++ l) (h.took.idle w) ∙ append-nil (flat_map spelled h.given)
 
 -- no more bytes come, and the record that waits still does
 pub took_still : (Holds : Option Group → Type 0) (key : Option Key) (r : Rules) (spelled : FrameRecord → List ℕ) (at : Progress) (left : List ℕ) (u : Unpiper) (pid : ℕ) (bytes taken : List ℕ)
-    → (h : Gives Holds key r spelled at left u false pid bytes taken) → (st : Stands Holds key r at u true pid bytes h.given) → st.keeps.group ≡ h.stands.keeps.group → Gives Holds key r spelled at left u true pid bytes taken
-took_still Holds key r spelled at left u pid bytes taken h st same = record {
+    → Gives Holds key r spelled at left u false pid bytes taken → Gives Holds key r spelled at left u true pid bytes taken
+took_still Holds key r spelled at left u pid bytes taken h = record {
   given = h.given;
-  stands = st;
-  took = subst (λ (g : Option Group). Took spelled g at left h.given taken) (sym same) h.took;
-}
-
--- nothing waited, and the next record is begun if one waits
-pub took_next : (Old New : Option Group → Type 0) (key other : Option Key) (r s : Rules) (spelled : FrameRecord → List ℕ) (at to : Progress) (left begun : List ℕ) (u v : Unpiper) (finished ended : Bool) (pid : ℕ) (bytes taken more : List ℕ)
-    → (h : Gives Old key r spelled at left u finished pid bytes taken) → waits at ≡ false → IsBegun New spelled to begun → Stands New other s to v ended pid more h.given → Gives New other s spelled to begun v ended pid more taken
-took_next Old New key other r s spelled at to left begun u v finished ended pid bytes taken more h w begins st = record {
-  given = h.given;
-  stands = st;
-  took = took_begun New spelled st.keeps.group to begun h.given taken begins st.keeps.holds
-      (h.took.taken_is ∙ ap (λ (l : List ℕ). flat_map spelled h.given ++ l) (h.took.idle w) ∙ append-nil (flat_map spelled h.given));
+  stands =
+      record {
+        events = h.stands.events;
+        stands = h.stands.stands;
+        fed_is = h.stands.fed_is;
+        few = h.stands.few;
+        keeps = h.stands.keeps;
+        ahead = λ c. ⊎_elim (λ x. inl x) (λ x. inr (refl, x.1)) (h.stands.ahead c);
+      };
+  took = h.took;
 }

@@ -1,2 +1,3 @@
 pub mod Modulating
 pub mod Gives
+pub mod StandsFor

@@ -1,5 +1,9 @@
 //! A modulator: a T2-MI stream in, the records of T2 frames out.
 #![tactic(auto)]
 
+mod begin;
 mod modulating;
+mod modulator;
 mod settle;
+
+pub use modulator::Modulator;

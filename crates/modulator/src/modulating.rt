@@ -110,7 +110,7 @@ impl<G: OpenGroup + Drop> Modulating<G> {
         ensures next { (self.new.sequence.progress.next ≡ self.old.sequence.progress.next) ⊎ (self.new.sequence.progress.next < 2 ^ 31) }
         ensures intact { waits self.old.sequence.progress ≡ false → waits self.new.sequence.progress ≡ true → G.is_intact self.new.sequence.group ≡ true }
         ensures finished { self.new.finished ≡ true }
-        ensures fed { fed_len self.new.unpiper ≡ fed_len self.old.unpiper }
+        ensures unpiper { self.new.unpiper ≡ self.old.unpiper }
         ensures rules { G.rules self.new.sequence.group ≡ G.rules self.old.sequence.group }
     {
         self.finished = true;

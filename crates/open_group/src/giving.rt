@@ -1,5 +1,5 @@
 // The record that is given: of the group's frame, or of a muted one.
-ghost use Rattle.std.specs.Prelude.{◌≡◌, ◌<◌, ◌≤◌, ◌⊎◌, ◌↔◌, ◌++◌, ◌^◌, [], true, false, Option, Some, None, length, take, drop, ℕ};
+ghost use Rattle.std.specs.Prelude.{◌≡◌, ◌<◌, ◌≤◌, ◌⊎◌, ◌↔◌, ◌++◌, ◌^◌, [], true, false, is_some, Option, Some, None, length, take, drop, ℕ};
 ghost use Rattle.plp_config.specs.Emission.{emission};
 ghost use Rattle.site_frame.specs.Whole.{record_bytes};
 ghost use Rattle.frame_groups.specs.Groups.{Group};
@@ -50,7 +50,7 @@ impl<'p> PooledGroup<'p> {
         ensures key { self.new.key ≡ self.old.key }
         ensures network { self.new.network ≡ self.old.network }
         ensures frame { is_frame self.new ≡ is_frame self.old }
-        ensures intact { self.new.intact ≡ true → self.old.intact ≡ true }
+        ensures intact { is_some waiting.mute ≡ true → self.new.intact ≡ self.old.intact }
     {
         let moment = self.network.plan().emission(waiting.frame);
         match waiting.mute {

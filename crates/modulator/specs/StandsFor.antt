@@ -1,0 +1,68 @@
+-- What a `Modulator` stands for.
+use Rattle.std.specs.Prelude.{◌≡◌, ℕ, ◌<◌, Bool, List, ◌++◌, ◌∷◌, length, Option, Some, None, flat_map}
+use Rattle.plp_config.specs.declared.config.Config.{Config}
+use Rattle.t2mi_stream.specs.Units.{accepted_of}
+use Rattle.t2mi_stream.specs.UnpiperStandsFor.{fed_len}
+use Rattle.frame_groups.specs.Due.{due}
+use Rattle.frame_groups.specs.Modulated.{Content, FrameRecord}
+use Rattle.frame_groups.specs.Modulated.Content.{Whole, Muted}
+use Rattle.frame_groups.specs.Waits.{waits}
+use Rattle.frame_groups.specs.declared.cause.MuteCause.{MuteCause}
+use Rattle.frame_groups.specs.declared.waiting.Waiting.{Waiting}
+use Rattle.frame_tests.specs.Tests.{rules}
+use Rattle.open_group.specs.Given.{bytes_left}
+use Rattle.open_group.specs.Holds.{Holds}
+use Rattle.open_group.specs.Written.{spelled}
+use Rattle.modulator.specs.Gives.{Gives}
+use Rattle.modulator.specs.Modulating.{packets_of}
+use Rattle.modulator.specs.declared.modulator.Modulator.{Modulator}
+
+-- the records that are due by the bytes of a stream: all but the last one, and at the end all
+abbrev pub records_due : Config → Bool → List ℕ → List FrameRecord
+records_due c finished bytes = due (rules c) finished (packets_of (accepted_of c.pid bytes))
+
+-- and their bytes
+abbrev pub bytes_due : Config → Bool → List ℕ → List ℕ
+bytes_due c finished bytes = flat_map (spelled c) (records_due c finished bytes)
+
+-- its network, whether the stream has ended, how many bytes were fed, and the number of the next record
+abbrev pub config_of : Modulator → Config
+config_of m = m.inner.sequence.group.network
+
+abbrev pub is_finished : Modulator → Bool
+is_finished m = m.inner.finished
+
+abbrev pub fed_of : Modulator → ℕ
+fed_of m = fed_len m.inner.unpiper
+
+abbrev pub next_of : Modulator → ℕ
+next_of m = m.inner.sequence.progress.next
+
+-- A record waits.
+abbrev pub is_waiting : Modulator → Bool
+is_waiting m = waits m.inner.sequence.progress
+
+-- These bytes were fed, and these bytes of the records were taken.
+unfoldable pub ModulatorStandsFor : Modulator → List ℕ → List ℕ → Type 0
+ModulatorStandsFor m bytes taken =
+    Gives (Holds m.inner.sequence.group) m.inner.sequence.group.key (rules m.inner.sequence.group.network) (spelled m.inner.sequence.group.network)
+    m.inner.sequence.progress (bytes_left m.inner.sequence.group) m.inner.unpiper m.inner.finished m.inner.sequence.group.network.pid bytes taken
+
+-- why a record is muted, if it is
+abbrev pub mute_of : Content → Option MuteCause
+mute_of (Whole g) = None
+mute_of (Muted cause) = Some cause
+
+-- A record waits: it is the next of those that are due behind those that were taken whole, and some of its bytes are left.
+pub record WaitsAs (c : Config) (finished : Bool) (bytes taken : List ℕ) (w : Waiting) : Type 0 where
+  pub before : List FrameRecord
+  pub next : FrameRecord
+  pub after : List FrameRecord
+  pub all : records_due c finished bytes ≡ before ++ next ∷ after
+  pub number : next.number ≡ w.frame
+  pub mute : mute_of next.content ≡ w.mute
+  pub part : List ℕ
+  pub rest : List ℕ
+  pub cut : spelled c next ≡ part ++ rest
+  pub some : 0 < length rest
+  pub taken_is : taken ≡ flat_map (spelled c) before ++ part
