@@ -3,3 +3,4 @@ pub mod StepLemmas
 pub mod TookLemmas
 pub mod BeginLemmas
 pub mod MuteLemmas
+pub mod JoinLemmas

@@ -79,6 +79,22 @@ impl<G: OpenGroup + Drop> Modulating<G> {
         self.sequence.progress.waiting()
     }
 
+    /// Whether a group that is closed was the join: then records are due.
+    pub fn joined(&self) -> bool
+        ensures yes { result ≡ true → (pid : ℕ) (bytes : List ℕ) (given : List FrameRecord)
+            → Stands (G.holds self.now.sequence.group) (G.key_now self.now.sequence.group) (G.rules self.now.sequence.group) self.now.sequence.progress self.now.unpiper self.now.finished pid bytes given
+            → 0 < length (due_by (G.rules self.now.sequence.group) self.now.finished pid bytes) }
+        ensures no { result ≡ false → (pid : ℕ) (bytes : List ℕ) (given : List FrameRecord)
+            → Stands (G.holds self.now.sequence.group) (G.key_now self.now.sequence.group) (G.rules self.now.sequence.group) self.now.sequence.progress self.now.unpiper self.now.finished pid bytes given
+            → due_by (G.rules self.now.sequence.group) self.now.finished pid bytes ≡ [] }
+    {
+        due_law();
+        front_law();
+        let _ready = self.unpiper.is_ready();
+        let _key = self.sequence.group.key();
+        self.sequence.progress.number.is_some()
+    }
+
     /// The record that waits was given. The next one may wait at once.
     pub fn gave(&mut self)
         requires { waits self.old.sequence.progress ≡ true }

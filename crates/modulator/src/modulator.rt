@@ -24,7 +24,7 @@ pub struct Modulator<'p> {
 impl<'p> Modulator<'p> {
     ghost use Rattle.std.specs.Prelude.{◌≡◌, ◌<◌, ◌≤◌, ◌+◌, ◌⊎◌, ◌↔◌, ◌^◌, ◌++◌, ℕ, List, [], IfOk, IfSome, IfNone, length, take, drop, true, false};
     ghost use Rattle.frame_groups.specs.Laws.{IsPrefix};
-    ghost use Rattle.modulator.specs.StandsFor.{ModulatorStandsFor, WaitsAs, bytes_due, config_of, is_finished, fed_of, next_of, is_waiting};
+    ghost use Rattle.modulator.specs.StandsFor.{ModulatorStandsFor, WaitsAs, records_due, bytes_due, config_of, is_finished, fed_of, next_of, is_waiting};
 
     /// A modulator of a network, to which nothing was fed.
     pub fn open(alloc: Global, plan: &'p Plan) -> Result<Modulator<'p>, OutOfMemory>
@@ -96,6 +96,15 @@ impl<'p> Modulator<'p> {
         ensures none { IfNone result ((is_waiting self.now ≡ false) × ((bytes taken : List ℕ) → ModulatorStandsFor self.now bytes taken → bytes_due (config_of self.now) (is_finished self.now) bytes ≡ taken)) }
     {
         self.inner.waiting()
+    }
+
+    /// Whether a group joined: one that is closed, with frame_idx 0, which passes as the frame that its timestamp names. From then on
+    /// records are due, and before none.
+    pub fn joined(&self) -> bool
+        ensures yes { result ≡ true → (bytes taken : List ℕ) → ModulatorStandsFor self.now bytes taken → 0 < length (records_due (config_of self.now) (is_finished self.now) bytes) }
+        ensures no { result ≡ false → (bytes taken : List ℕ) → ModulatorStandsFor self.now bytes taken → records_due (config_of self.now) (is_finished self.now) bytes ≡ [] }
+    {
+        self.inner.joined()
     }
 
     /// Gives the next bytes of the record that waits. The next one may wait at once.
