@@ -4,3 +4,4 @@ pub mod TookLemmas
 pub mod BeginLemmas
 pub mod MuteLemmas
 pub mod JoinLemmas
+pub mod DueLemmas

@@ -168,7 +168,7 @@ prefix_without (x ∷ []) = (x ∷ [], refl)
 prefix_without (x ∷ y ∷ xs) = let r = prefix_without (y ∷ xs) in (r.0, ap (λ l. x ∷ l) r.1)
 
 -- what is due by some packets is the front of what is due by more
-due_front : (front : ModulatedFront) (r : Rules) (finished : Bool) (ps qs : List Packet) → (more : List FrameRecord) × (due r finished (ps ++ qs) ≡ due r false ps ++ more)
+pub due_front : (front : ModulatedFront) (r : Rules) (finished : Bool) (ps qs : List Packet) → (more : List FrameRecord) × (due r finished (ps ++ qs) ≡ due r false ps ++ more)
 due_front front r false ps qs = front r ps qs
 due_front front r true ps qs =
     let a = front r ps qs in

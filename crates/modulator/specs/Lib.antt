@@ -1,3 +1,4 @@
 pub mod Modulating
 pub mod Gives
 pub mod StandsFor
+pub mod Laws

@@ -2,8 +2,10 @@
 #![tactic(auto)]
 
 mod begin;
+mod laws;
 mod modulating;
 mod modulator;
 mod settle;
 
+pub use laws::due_records_law;
 pub use modulator::Modulator;

@@ -50,19 +50,25 @@ none_behind : (a b : Option MuteCause) → option_or a b ≡ None → b ≡ None
 none_behind None b e = e
 none_behind (Some cause) b e = not_some cause e
 
-holds_by : (holds : Bool) (cause : MuteCause) → unless holds cause ≡ None → holds ≡ true
+pub holds_by : (holds : Bool) (cause : MuteCause) → unless holds cause ≡ None → holds ≡ true
 holds_by true cause e = refl
 holds_by false cause e = not_some cause e
 
-blocks_none : (c : Config) (n : ℕ) (packets : List Packet) → packets_fault c n packets ≡ None → blocks_test c packets ≡ None
+-- the last two tests
+both_none : (c : Config) (n : ℕ) (packets : List Packet) → packets_fault c n packets ≡ None → option_or (blocks_test c packets) (map_test c packets) ≡ None
 unfolding packets_fault
-blocks_none c n packets e =
+both_none c n packets e =
     let behind_d : Option MuteCause = option_or (blocks_test c packets) (map_test c packets) in
     let behind_c : Option MuteCause = option_or (time_test c n packets) behind_d in
     let behind_b : Option MuteCause = option_or (l1_test c n packets) behind_c in
     let behind_a : Option MuteCause = option_or (missing_test c n packets) behind_b in
-    none_first (blocks_test c packets) (map_test c packets)
-    (none_behind (time_test c n packets) behind_d (none_behind (l1_test c n packets) behind_c (none_behind (missing_test c n packets) behind_b (none_behind (pool_test c packets) behind_a e))))
+    none_behind (time_test c n packets) behind_d (none_behind (l1_test c n packets) behind_c (none_behind (missing_test c n packets) behind_b (none_behind (pool_test c packets) behind_a e)))
+
+blocks_none : (c : Config) (n : ℕ) (packets : List Packet) → packets_fault c n packets ≡ None → blocks_test c packets ≡ None
+blocks_none c n packets e = none_first (blocks_test c packets) (map_test c packets) (both_none c n packets e)
+
+pub map_none : (c : Config) (n : ℕ) (packets : List Packet) → packets_fault c n packets ≡ None → map_test c packets ≡ None
+map_none c n packets e = none_behind (blocks_test c packets) (map_test c packets) (both_none c n packets e)
 
 blocks_pass : (c : Config) (packets : List Packet) → blocks_test c packets ≡ None → (has_counts c packets (first_shape c packets) ≡ true) × (list_all (is_known c) packets ≡ true)
 unfolding blocks_test
@@ -160,7 +166,7 @@ module _ (sizes : BitCounts) (c : Config) (n : ℕ) (packets : List Packet) (sha
       ap length (get_or-map sent_bytes (right_blocks c plp packets) place [] [] there)
       ∙ sent_length sizes (get_or (right_blocks c plp packets) place []) (block_bytes c plp) (eqb-true (length (get_or (right_blocks c plp packets) place [])) (8 * block_bytes c plp) right)
 
-  has_blocks : HasBlocks c shape lists
+  pub has_blocks : HasBlocks c shape lists
   has_blocks = record {
     plps = long;
     counts = ext_get_or 0 shape.counts (map (λ blocks. length blocks) lists) (told ∙ sym long ∙ sym (length-map lists (λ blocks. length blocks)))
@@ -178,7 +184,7 @@ module _ (sizes : BitCounts) (c : Config) (n : ℕ) (packets : List Packet) (sha
         (cases_lt plp (length c.plps));
   }
 
-  same_view : (dynamic : List Bool) → dynamic ≡ dynamic_in packets → written_frame c (emission c n) dynamic shape lists ≡ packets_view c n packets
+  pub same_view : (dynamic : List Bool) → dynamic ≡ dynamic_in packets → written_frame c (emission c n) dynamic shape lists ≡ packets_view c n packets
   same_view dynamic is =
       ap (λ (d : List Bool). frame_view c (emission c n) (post_with c d) (list_blocks c 0 lists) shape) is
       ∙ ap (λ b. frame_view c (emission c n) (post_with c (dynamic_in packets)) b shape) lists_sent

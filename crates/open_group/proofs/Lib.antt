@@ -10,3 +10,4 @@ pub mod ShortLemmas
 pub mod GivenLemmas
 pub mod GiveLemmas
 pub mod TellLemmas
+pub mod SpelledLemmas

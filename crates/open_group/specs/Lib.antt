@@ -12,3 +12,4 @@ pub use Rattle.frame_tests.specs.Tally
 pub use Rattle.frame_groups.specs.Groups
 pub mod Written
 pub mod Giving
+pub mod Laws

@@ -6,6 +6,7 @@ mod faults;
 mod giving;
 mod group;
 mod l1;
+mod laws;
 mod named;
 mod network;
 mod parts;
@@ -13,6 +14,7 @@ mod plps;
 mod stamps;
 
 pub use group::PooledGroup;
+pub use laws::record_law;
 
 #[cfg(test)]
 mod tests;

@@ -1,4 +1,4 @@
-use Rattle.std.proofs.Common.{◌≡◌, arith}
+use Rattle.std.proofs.Common.{arith}
 use Rattle.open_group.proofs.tests.l1_packet.Goals as goal
 
 pub returns : goal.returns

@@ -1,0 +1,27 @@
+-- Laws of the records that are due.
+use Rattle.std.specs.Prelude.{ℕ, ◌<◌, ◌^◌, Bool, false, List, [], ◌∷◌, ◌++◌}
+use Rattle.plp_config.specs.Capacity.{IsPlan}
+use Rattle.plp_config.specs.declared.config.Config.{Config}
+use Rattle.frame_groups.specs.Laws.{AreFrom, IsPrefix}
+use Rattle.frame_groups.specs.Modulated.{FrameRecord}
+use Rattle.frame_records.specs.Frames.{HasByteIds}
+use Rattle.site_frame.specs.Whole.{Spells}
+use Rattle.open_group.specs.Written.{content_view, spelled}
+use Rattle.modulator.specs.StandsFor.{records_due}
+
+-- What is fed later changes no record that is due; the bytes fed first need not be whole units.
+abbrev pub DueFront : Type 0
+DueFront = (c : Config) (finished : Bool) (bytes more : List ℕ) → IsPrefix (records_due c false bytes) (records_due c finished (bytes ++ more))
+
+-- Records have one number after another.
+abbrev pub DueFollow : Type 0
+DueFollow = (c : Config) (finished : Bool) (bytes : List ℕ) → (n : ℕ) × AreFrom n (records_due c finished bytes)
+
+-- The bytes of each record below frame 2^32 spell it.
+abbrev pub AreSpelled : Config → List FrameRecord → Type 0
+AreSpelled c [] = Unit {0}
+AreSpelled c (x ∷ xs) = (x.number < 2 ^ 32 → Spells (content_view c x.number x.content) (spelled c x)) × AreSpelled c xs
+
+-- Of a plan, each record that is due is one, as its bytes are: so it is read back.
+abbrev pub DueSpelled : Type 0
+DueSpelled = (c : Config) (finished : Bool) (bytes : List ℕ) → IsPlan c → HasByteIds c → AreSpelled c (records_due c finished bytes)

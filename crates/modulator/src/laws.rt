@@ -1,0 +1,19 @@
+// Laws of the definitions. Their functions do nothing.
+ghost use Rattle.modulator.specs.Laws.{DueFront, DueFollow, DueSpelled};
+
+use frame_groups::{front_law, numbers_law};
+use open_group::record_law;
+use t2mi_stream::accepted_front;
+
+/// The records that are due are a front of those that are due by more bytes, have one number after another, and are spelled by their
+/// bytes.
+pub fn due_records_law()
+    ensures front { DueFront }
+    ensures follow { DueFollow }
+    ensures spelled { DueSpelled }
+{
+    accepted_front();
+    front_law();
+    numbers_law();
+    record_law();
+}

@@ -1,0 +1,21 @@
+// A law of the definitions. Its function does nothing.
+ghost use Rattle.open_group.specs.Laws.{RecordSpelled};
+
+use bb_frame::bit_counts;
+use frame_records::fit_law;
+use frame_tests::map_test_law;
+use l1_signal::dyn_law;
+use record_writer::written_law;
+use site_frame::writing_law;
+
+/// The bytes of a record spell it.
+pub fn record_law()
+    ensures { RecordSpelled }
+{
+    bit_counts();
+    fit_law();
+    map_test_law();
+    dyn_law();
+    written_law();
+    writing_law();
+}
