@@ -7,3 +7,6 @@ mod modulator;
 mod settle;
 
 pub use modulator::Modulator;
+
+#[cfg(test)]
+mod tests;
