@@ -9,3 +9,6 @@ mod settle;
 
 pub use laws::due_records_law;
 pub use modulator::Modulator;
+
+#[cfg(test)]
+mod tests;
