@@ -206,6 +206,7 @@ fn assert_records(
         run.step(rt, stream, sizes.0, &mut out)?;
     }
     assert!(rt; run.finished && run.modulator.waiting().is_none());
+    assert!(rt; run.modulator.joined() != wanted.is_empty());
     assert_eq!(rt; run.waited.as_slice(), wanted);
     let bytes = records(alloc, wanted)?;
     assert!(rt; run.taken[..] == bytes[..]);
