@@ -19,7 +19,7 @@ use Rattle.frame_groups.specs.declared.cause.MuteCause.TheVariants.{Gap}
 use Rattle.frame_records.specs.Frames.{HasByteIds}
 use Rattle.frame_tests.specs.Tests.{rules}
 use Rattle.open_group.specs.Laws.{RecordSpelled}
-use Rattle.modulator.specs.Laws.{DueFront, DueFollow, DueSpelled, AreSpelled}
+use Rattle.modulator.specs.Laws.{DueFront, DueFollow, DueSpelled, AreSpelled, DuePass, IsRight, AllRight}
 use Rattle.modulator.specs.Modulating.{packet_of, packets_of}
 use Rattle.modulator.specs.StandsFor.{records_due}
 use Rattle.modulator.proofs.StandsLemmas.{due_front}
@@ -45,18 +45,11 @@ due_follow numbers c false bytes =
 
 -- a record that is muted, or whose group passes
 module _ (c : Config) where
-  abbrev pub IsRight : FrameRecord → Type 0
-  IsRight x = (g : Group) → x.content ≡ Whole g → (rules c).fault g x.number ≡ None
-
-  abbrev pub AllRight : List FrameRecord → Type 0
-  AllRight [] = Unit {0}
-  AllRight (x ∷ xs) = IsRight x × AllRight xs
-
-  right_append : (xs ys : List FrameRecord) → AllRight xs → AllRight ys → AllRight (xs ++ ys)
+  right_append : (xs ys : List FrameRecord) → AllRight c xs → AllRight c ys → AllRight c (xs ++ ys)
   right_append [] ys a b = b
   right_append (x ∷ xs) ys a b = (a.0, right_append xs ys a.1 b)
 
-  muted_right : (n : ℕ) (cause : MuteCause) → IsRight (record { number = n; content = Muted cause })
+  muted_right : (n : ℕ) (cause : MuteCause) → IsRight c (record { number = n; content = Muted cause })
   muted_right n cause g e = absurd (apart e)
     where
       is_muted : Content → Bool
@@ -66,7 +59,7 @@ module _ (c : Config) where
       apart : Muted cause ≡ Whole g → ⊥
       apart e = absurd (true≢false (ap is_muted e))
 
-  own_right : (h : Group) (n : ℕ) → IsRight (group_record (rules c) h n)
+  own_right : (h : Group) (n : ℕ) → IsRight c (group_record (rules c) h n)
   own_right h n = go ((rules c).fault h n) refl
     where
       group_of : Content → Group
@@ -77,42 +70,45 @@ module _ (c : Config) where
       go None k g e = ap (λ (x : Group). (rules c).fault x n) (sym (ap group_of e)) ∙ k
       go (Some cause) k g e = muted_right n cause g e
 
-  gaps_right : (ns : List ℕ) → AllRight (map gap_record ns)
+  gaps_right : (ns : List ℕ) → AllRight c (map gap_record ns)
   gaps_right [] = tt
   gaps_right (n ∷ ns) = (muted_right n Gap, gaps_right ns)
 
-  behind_right : (before number : Option ℕ) → AllRight (gaps_behind before number)
+  behind_right : (before number : Option ℕ) → AllRight c (gaps_behind before number)
   behind_right None number = tt
   behind_right (Some m) None = tt
   behind_right (Some m) (Some n) = gaps_right (range_with_len (m + 1) (n - (m + 1)))
 
-  one_right : (h : Group) (number : Option ℕ) → AllRight (own_record (rules c) h number)
+  one_right : (h : Group) (number : Option ℕ) → AllRight c (own_record (rules c) h number)
   one_right h None = tt
   one_right h (Some n) = (own_right h n, tt)
 
-  all_right : (before : Option ℕ) (gs : List Group) → AllRight (records_from (rules c) before gs)
+  all_right : (before : Option ℕ) (gs : List Group) → AllRight c (records_from (rules c) before gs)
   all_right before [] = tt
   all_right before (g ∷ gs) =
       let number : Option ℕ = number_behind (rules c) before g in
       right_append (records_with (rules c) before g) (records_from (rules c) number gs)
       (right_append (gaps_behind before number) (own_record (rules c) g number) (behind_right before number) (one_right g number)) (all_right number gs)
 
-  without_right : (xs : List FrameRecord) → AllRight xs → AllRight (without_last xs)
+  without_right : (xs : List FrameRecord) → AllRight c xs → AllRight c (without_last xs)
   without_right [] h = tt
   without_right (x ∷ []) h = tt
   without_right (x ∷ y ∷ xs) h = (h.0, without_right (y ∷ xs) h.1)
 
-  modulated_right : (ps : List Packet) → AllRight (modulated (rules c) ps)
+  modulated_right : (ps : List Packet) → AllRight c (modulated (rules c) ps)
   unfolding modulated
   modulated_right ps = all_right None (groups (rules c).frames ps)
 
-  due_right : (finished : Bool) (ps : List Packet) → AllRight (due (rules c) finished ps)
+  due_right : (finished : Bool) (ps : List Packet) → AllRight c (due (rules c) finished ps)
   due_right true ps = modulated_right ps
   due_right false ps = without_right (modulated (rules c) ps) (modulated_right ps)
 
-  right_spelled : RecordSpelled → IsPlan c → HasByteIds c → (xs : List FrameRecord) → AllRight xs → AreSpelled c xs
+  right_spelled : RecordSpelled → IsPlan c → HasByteIds c → (xs : List FrameRecord) → AllRight c xs → AreSpelled c xs
   right_spelled law plan ids [] h = tt
   right_spelled law plan ids (x ∷ xs) h = (λ small. law c x plan ids small h.0, right_spelled law plan ids xs h.1)
 
 pub due_spelled : RecordSpelled → DueSpelled
 due_spelled law c finished bytes plan ids = right_spelled c law plan ids (records_due c finished bytes) (due_right c finished (packets_of (accepted_of c.pid bytes)))
+
+pub due_pass : DuePass
+due_pass c finished bytes = due_right c finished (packets_of (accepted_of c.pid bytes))

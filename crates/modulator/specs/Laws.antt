@@ -1,5 +1,5 @@
 -- Laws of the records that are due.
-use Rattle.std.specs.Prelude.{ℕ, ◌<◌, ◌^◌, Bool, false, List, [], ◌∷◌, ◌++◌}
+use Rattle.std.specs.Prelude.{◌≡◌, ℕ, ◌<◌, ◌^◌, Bool, false, List, [], ◌∷◌, ◌++◌, None}
 use Rattle.plp_config.specs.Capacity.{IsPlan}
 use Rattle.plp_config.specs.declared.config.Config.{Config}
 use Rattle.frame_groups.specs.Laws.{AreFrom, IsPrefix}
@@ -8,6 +8,9 @@ use Rattle.frame_records.specs.Frames.{HasByteIds}
 use Rattle.site_frame.specs.Whole.{Spells}
 use Rattle.open_group.specs.Written.{content_view, spelled}
 use Rattle.modulator.specs.StandsFor.{records_due}
+use Rattle.frame_groups.specs.Groups.{Group}
+use Rattle.frame_groups.specs.Modulated.Content.{Whole}
+use Rattle.frame_tests.specs.Tests.{group_fault}
 
 -- What is fed later changes no record that is due; the bytes fed first need not be whole units.
 abbrev pub DueFront : Type 0
@@ -16,6 +19,17 @@ DueFront = (c : Config) (finished : Bool) (bytes more : List ℕ) → IsPrefix (
 -- Records have one number after another.
 abbrev pub DueFollow : Type 0
 DueFollow = (c : Config) (finished : Bool) (bytes : List ℕ) → (n : ℕ) × AreFrom n (records_due c finished bytes)
+
+-- A record that is not muted has a group that passes the tests as the frame of its number.
+abbrev pub IsRight : Config → FrameRecord → Type 0
+IsRight c x = (g : Group) → x.content ≡ Whole g → group_fault c g x.number ≡ None
+
+abbrev pub AllRight : Config → List FrameRecord → Type 0
+AllRight c [] = Unit {0}
+AllRight c (x ∷ xs) = IsRight c x × AllRight c xs
+
+abbrev pub DuePass : Type 0
+DuePass = (c : Config) (finished : Bool) (bytes : List ℕ) → AllRight c (records_due c finished bytes)
 
 -- The bytes of each record below frame 2^32 spell it.
 abbrev pub AreSpelled : Config → List FrameRecord → Type 0

@@ -1,5 +1,5 @@
 -- What a `Modulator` stands for.
-use Rattle.std.specs.Prelude.{◌≡◌, ℕ, ◌<◌, Bool, List, ◌++◌, ◌∷◌, length, Option, Some, None, flat_map}
+use Rattle.std.specs.Prelude.{◌≡◌, ℕ, ◌<◌, ◌≤◌, Bool, List, ◌++◌, ◌∷◌, length, Option, Some, None, flat_map}
 use Rattle.plp_config.specs.declared.config.Config.{Config}
 use Rattle.t2mi_stream.specs.Units.{accepted_of}
 use Rattle.t2mi_stream.specs.UnpiperStandsFor.{fed_len}
@@ -66,3 +66,10 @@ pub record WaitsAs (c : Config) (finished : Bool) (bytes taken : List ℕ) (w : 
   pub cut : spelled c next ≡ part ++ rest
   pub some : 0 < length rest
   pub taken_is : taken ≡ flat_map (spelled c) before ++ part
+
+-- So many bytes are of the record that waits, which has this number: they do not go past its end.
+pub record TakesOf (c : Config) (finished : Bool) (bytes taken : List ℕ) (number count : ℕ) : Type 0 where
+  pub waiting : Waiting
+  pub waits : WaitsAs c finished bytes taken waiting
+  pub number_is : waiting.frame ≡ number
+  pub within : count ≤ length waits.rest

@@ -24,7 +24,7 @@ pub struct Modulator<'p> {
 impl<'p> Modulator<'p> {
     ghost use Rattle.std.specs.Prelude.{◌≡◌, ◌<◌, ◌≤◌, ◌+◌, ◌⊎◌, ◌↔◌, ◌^◌, ◌++◌, ℕ, List, [], IfOk, IfSome, IfNone, length, take, drop, true, false};
     ghost use Rattle.frame_groups.specs.Laws.{IsPrefix};
-    ghost use Rattle.modulator.specs.StandsFor.{ModulatorStandsFor, WaitsAs, records_due, bytes_due, config_of, is_finished, fed_of, next_of, is_waiting};
+    ghost use Rattle.modulator.specs.StandsFor.{ModulatorStandsFor, WaitsAs, TakesOf, records_due, bytes_due, config_of, is_finished, fed_of, next_of, is_waiting};
 
     /// A modulator of a network, to which nothing was fed.
     pub fn open(alloc: Global, plan: &'p Plan) -> Result<Modulator<'p>, OutOfMemory>
@@ -112,6 +112,8 @@ impl<'p> Modulator<'p> {
         ensures most { result ≤ length out.old }
         ensures front { (bytes taken : List ℕ) → ModulatorStandsFor self.old bytes taken → IsPrefix (taken ++ take result out.new) (bytes_due (config_of self.old) (is_finished self.old) bytes) }
         ensures stands { (bytes taken : List ℕ) → ModulatorStandsFor self.old bytes taken → ModulatorStandsFor self.new bytes (taken ++ take result out.new) }
+        // It does not go past the end of that record.
+        ensures within { is_waiting self.old ≡ true → (bytes taken : List ℕ) → ModulatorStandsFor self.old bytes taken → TakesOf (config_of self.old) (is_finished self.old) bytes taken (next_of self.old) result }
         ensures stays { (length out.new ≡ length out.old) × (drop result out.new ≡ drop result out.old) }
         ensures none { (result ≡ 0) ↔ ((is_waiting self.old ≡ false) ⊎ (length out.old ≡ 0)) }
         ensures next { (next_of self.new ≡ next_of self.old) ⊎ ((next_of self.new ≡ next_of self.old + 1) ⊎ (next_of self.new < 2 ^ 31)) }

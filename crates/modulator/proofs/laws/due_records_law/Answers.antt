@@ -1,4 +1,4 @@
-use Rattle.modulator.proofs.DueLemmas.{due_fronts, due_follow, due_spelled}
+use Rattle.modulator.proofs.DueLemmas.{due_fronts, due_follow, due_pass, due_spelled}
 use Rattle.modulator.proofs.laws.due_records_law.Goals as goal
 
 pub returns-clause-front : goal.returns-clause-front
@@ -9,3 +9,6 @@ returns-clause-follow e = due_follow e.numbers_law.ensures
 
 pub returns-clause-spelled : goal.returns-clause-spelled
 returns-clause-spelled e = due_spelled e.record_law.ensures
+
+pub returns-clause-pass : goal.returns-clause-pass
+returns-clause-pass e = due_pass

@@ -1,5 +1,7 @@
-use Rattle.std.proofs.Common.{◌≡◌, ◌∙◌, ◌++◌, ◌∷◌, [], true, false, Option, take, ap, sym, subst, rules as by_rules}
+use Rattle.std.proofs.Common.{◌≡◌, ◌∙◌, refl, length, arith, length-append, ◌++◌, ◌∷◌, [], true, false, Option, take, ap, sym, subst, rules as by_rules}
 use Rattle.std.specs.Prelude.{is_some, flat_map}
+use Rattle.std.proofs.lemmas.Bool.{true≢false}
+use Rattle.std.proofs.lemmas.List.{length-take-le}
 use Rattle.frame_tests.specs.Tests.{rules}
 use Rattle.frame_groups.specs.Modulated.{Rules}
 use Rattle.frame_groups.specs.Records.{record_of}
@@ -11,7 +13,10 @@ use Rattle.open_group.specs.Written.{spelled}
 use Rattle.plp_config.specs.declared.config.Config.{Config}
 use Rattle.modulator.specs.Gives.{Gives}
 use Rattle.modulator.specs.StandsFor.{ModulatorStandsFor}
-use Rattle.modulator.proofs.TookLemmas.{now, moved, took_more, took_front, whole_given, all_taken, none_at, nothing_more}
+use Rattle.modulator.proofs.BeginLemmas.{waits_for}
+use Rattle.modulator.proofs.MuteLemmas.{mute_told}
+use Rattle.modulator.proofs.StandsLemmas.{some_at}
+use Rattle.modulator.proofs.TookLemmas.{now, now_of, moved, took_more, took_front, whole_given, all_taken, none_at, nothing_more}
 use Rattle.modulator.proofs.modulator.Modulator.take.Goals as goal
 
 pub returns-then-is_none-clause-front : goal.returns-then-is_none-clause-front
@@ -81,3 +86,66 @@ returns-then-is_taken-clause-stands c = λ bytes taken h.
     subst
     (λ (k : Config). Gives (Holds new.sequence.group) new.sequence.group.key (rules new.sequence.group.network) (spelled new.sequence.group.network) new.sequence.progress (bytes_left new.sequence.group) new.unpiper new.finished k.pid bytes (taken ++ more)) (sym f)
     (c.begin_next.ensures.gives net.pid bytes given (taken ++ more) st (subst (λ (k : Config). taken ++ more ≡ flat_map (spelled k) given) (sym e) whole))
+
+pub returns-else-is_taken-clause-within : goal.returns-else-is_taken-clause-within
+unfolding ModulatorStandsFor
+returns-else-is_taken-clause-within c = λ on bytes taken h.
+    let old = c.args.self.now.inner in
+    let net = old.sequence.group.network in
+    let n = now_of (rules net) h.stands.keeps.group old.sequence.progress _ h.given h.stands.keeps.sequenced on in
+    let next = some_at c.waiting.result n.waiting _ c.waiting.ensures.some (c.waiting.ensures.is ∙ n.is) net.pid bytes h.given n.group h.stands n.has in
+    let size = ap length c.take-count.ensures.bytes ∙ length-append (take c.take-count.result c.take-count.new.out) (bytes_left c.take-count.new.self) in
+    let all = length-take-le c.take-count.result c.take-count.new.out (omega (arith, c.take-count.ensures.most, c.take-count.ensures.stays.0)) in
+    record {
+      waiting = n.waiting;
+      waits =
+          record {
+            before = h.given;
+            next = record_of n.group n.waiting;
+            after = next.0;
+            all = next.1;
+            number = refl;
+            mute = mute_told n.group n.waiting.mute;
+            part = h.took.part;
+            rest = bytes_left old.sequence.group;
+            cut = h.took.rest n.waiting n.is n.group n.has;
+            some = c.args.self.now.some on;
+            taken_is = h.took.taken_is;
+          };
+      number_is = (waits_for old.sequence.progress n.waiting n.is).frame;
+      within = omega (arith, size, all);
+    }
+
+pub returns-then-is_taken-clause-within : goal.returns-then-is_taken-clause-within
+unfolding ModulatorStandsFor
+returns-then-is_taken-clause-within c = λ on bytes taken h.
+    let old = c.args.self.now.inner in
+    let net = old.sequence.group.network in
+    let n = now_of (rules net) h.stands.keeps.group old.sequence.progress _ h.given h.stands.keeps.sequenced on in
+    let next = some_at c.waiting.result n.waiting _ c.waiting.ensures.some (c.waiting.ensures.is ∙ n.is) net.pid bytes h.given n.group h.stands n.has in
+    let size = ap length c.take-count.ensures.bytes ∙ length-append (take c.take-count.result c.take-count.new.out) (bytes_left c.take-count.new.self) in
+    let all = length-take-le c.take-count.result c.take-count.new.out (omega (arith, c.take-count.ensures.most, c.take-count.ensures.stays.0)) in
+    record {
+      waiting = n.waiting;
+      waits =
+          record {
+            before = h.given;
+            next = record_of n.group n.waiting;
+            after = next.0;
+            all = next.1;
+            number = refl;
+            mute = mute_told n.group n.waiting.mute;
+            part = h.took.part;
+            rest = bytes_left old.sequence.group;
+            cut = h.took.rest n.waiting n.is n.group n.has;
+            some = c.args.self.now.some on;
+            taken_is = h.took.taken_is;
+          };
+      number_is = (waits_for old.sequence.progress n.waiting n.is).frame;
+      within = omega (arith, size, all);
+    }
+
+pub returns-then-is_none-clause-within : goal.returns-then-is_none-clause-within
+returns-then-is_none-clause-within c = λ on.
+    let none : is_some c.waiting.result ≡ false = search by_rules in
+    absurd (true≢false (sym on ∙ ap is_some (sym c.waiting.ensures.is) ∙ none))
