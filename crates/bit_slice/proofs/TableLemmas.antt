@@ -1,6 +1,7 @@
 -- The tables have the right entries: the check computes each one, and an induction makes a law of it.
 use Rattle.std.proofs.Common.{◌≡◌, ℕ, zero, suc, ◌+◌, ◌-◌, ◌*◌, ◌^◌, ◌<◌, ◌==◌, Bool, true, false, ◌&&◌, List, [], ◌∷◌, length, get_or, refl, ap, ◌∙◌, arith}
 use Rattle.std.proofs.lemmas.Bool.Decides.{Decides-eqb}
+use Rattle.terms.proofs.CaseLemmas.{both}
 use Rattle.bit_slice.specs.declared.tables.TheConstants.{TABLES, BYTE_TABLE}
 use Rattle.bit_slice.specs.Register.{zeros}
 
@@ -21,10 +22,6 @@ all_right degree low n (t ∷ ts) = (length t == 256) && right degree low n 0 t 
 tables_right : all_right 32 0x04C1_1DB7 8 TABLES ≡ true
 unfolding zeros right all_right
 tables_right = refl
-
-both : (a b : Bool) → (a && b) ≡ true → (a ≡ true) × (b ≡ true)
-both true b e = (refl, e)
-both false b e = cc
 
 right_at : (degree low n : ℕ) (xs : List ℕ) (byte j : ℕ) → right degree low n byte xs ≡ true → j < length xs → get_or xs j 0 ≡ entry_of degree low n (byte + j)
 unfolding right

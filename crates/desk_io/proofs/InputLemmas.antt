@@ -51,7 +51,7 @@ reads_on old new handle n buffer waiting more r inside is =
       others = r.others;
     }
 
-left_kept : (old new : State) (handle : ℕ) → Keeps old new → left_of new handle ≡ left_of old handle
+pub left_kept : (old new : State) (handle : ℕ) → Keeps old new → left_of new handle ≡ left_of old handle
 left_kept old new handle k =
     ap (λ (o : Option Held). option_map (λ h. drop (slice_index new.opened handle) (content h handle)) o) k.held
     ∙ ap (λ (xs : List ℕ). option_map (λ h. drop (slice_index xs handle) (content h handle)) old.held) k.opened

@@ -7,22 +7,14 @@ use Rattle.std.specs.FinMap.{get, insert, get-insert}
 use Rattle.std.proofs.lemmas.List.{take-append-drop, length-drop}
 use Rattle.std.proofs.lemmas.Map.Text.{is_eq-slice_cmp}
 use Rattle.std.proofs.lemmas.Slice.Eq.{bytes_eq-Decides}
+use Rattle.desk_io.proofs.InputLemmas.{left_kept}
+use Rattle.ports.proofs.WriteLemmas.{get_set, get_other}
 use Rattle.ports.specs.Desk.{Files, Held, State, Keeps, Writes, IsApart, out_name, left_of, written_of, with_bytes, with_empty, bytes_of}
 use Rattle.desk_io.specs.Laws.{CreatesEmpty}
 use Rattle.desk_io.specs.Writing.{Writing, OnlyOut, Appends, AppendsFront, Pushes}
 
 same : List ℕ → List ℕ → Bool
 same a b = eq_by_cmp (slice_cmp nat_cmp) a b
-
-other_found : (b : Bool) (a name : List ℕ) (x found : Option (List ℕ)) → (b ≡ true → a ≡ name) → a ≢ name → cond b x found ≡ found
-other_found true a name x found is apart = absurd (apart (is refl))
-other_found false a name x found is apart = refl
-
--- what is found at another name than the one that was set
-pub get_other : (files : Files) (name bytes other : List ℕ) → other ≢ name → get (insert files name bytes) other ≡ get files other
-get_other files name bytes other apart =
-    get-insert nat_list_cmp_total files name bytes other
-    ∙ other_found (eq_by_cmp (slice_cmp nat_cmp) other name) other name (Some bytes) (get files other) (λ e. (bytes_eq-Decides other name).0 (sym (is_eq-slice_cmp other name) ∙ e)) apart
 
 only_same : (out : ℕ) (held : Option Held) → OnlyOut out held held
 only_same out None = refl
@@ -41,21 +33,11 @@ only_then out (Some h) b c p q =
     let named : out_name k out ≡ out_name h out = ap (λ (outs : List (List ℕ)). slice_index_or outs out []) p.3 in
     (l.0, l.1, l.2 ∙ p.2, l.3 ∙ p.3, λ other apart. l.4 other (λ e. apart (e ∙ named)) ∙ p.4 other apart)
 
-found_here : (b : Bool) (x : List ℕ) (found : Option (List ℕ)) → b ≡ true → cond b (Some x) found ≡ Some x
-found_here true x found e = refl
-found_here false x found e = absurd (let z : false ≡ true = e in cc)
-
--- what is found at the name that was set
-get_here : (files : Files) (name bytes : List ℕ) → get (insert files name bytes) name ≡ Some bytes
-get_here files name bytes =
-    get-insert nat_list_cmp_total files name bytes name
-    ∙ found_here (eq_by_cmp (slice_cmp nat_cmp) name name) bytes (get files name) (is_eq-slice_cmp name name ∙ (bytes_eq-Decides name name).1 refl)
-
 pub creates_empty : CreatesEmpty
 creates_empty old new name out h c told = (
   with_empty name h,
   c.held ∙ ap (option_map (with_empty name)) told,
-  record { names = refl; there = get_here h.files name []; others = λ other apart. get_other h.files name [] other apart },
+  record { names = refl; there = get_set h.files name []; others = λ other apart. get_other h.files name [] other apart },
 )
 
 -- a file that is written is there
@@ -63,7 +45,7 @@ there_written : (out : ℕ) (bytes : List ℕ) (old new : Option Held) → new �
 there_written out bytes None new e = subst (λ (o : Option Held). IfSome o (λ h. IsSome (get h.files (out_name h out)))) (sym e) tt
 there_written out bytes (Some h) new e =
     let all : List ℕ = bytes_of h.files (out_name h out) ++ bytes in
-    let found : IsSome (get (insert h.files (out_name h out) all) (out_name h out)) = subst (λ (o : Option (List ℕ)). IsSome o) (sym (get_here h.files (out_name h out) all)) refl in
+    let found : IsSome (get (insert h.files (out_name h out) all) (out_name h out)) = subst (λ (o : Option (List ℕ)). IsSome o) (sym (get_set h.files (out_name h out) all)) refl in
     subst (λ (o : Option Held). IfSome o (λ h. IsSome (get h.files (out_name h out)))) (sym e) found
 
 behind_then : (a b c : Option (List ℕ)) (x y : List ℕ) → b ≡ option_map (λ w. w ++ x) a → c ≡ option_map (λ w. w ++ y) b → c ≡ option_map (λ w. w ++ (x ++ y)) a
@@ -115,9 +97,6 @@ appends_then a b c out x y p q = record {
   there = λ was. q.there (p.there was);
   others = λ handle apart. q.others handle (apart_then out handle a.held b.held p.held apart) ∙ p.others handle apart;
 }
-
-left_kept : (old new : State) (handle : ℕ) → Keeps old new → left_of new handle ≡ left_of old handle
-left_kept old new handle k = rw (k.held, k.opened) refl
 
 -- after a fault the state is as it was
 pub appends_kept : (a b c : State) (out : ℕ) (x : List ℕ) → Appends a b out x → Keeps b c → Appends a c out x

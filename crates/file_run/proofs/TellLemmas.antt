@@ -13,6 +13,7 @@ use Rattle.file_run.specs.Steps.{FallsShort}
 use Rattle.file_run.specs.declared.machine.Step.{Step}
 use Rattle.file_run.specs.declared.machine.Step.TheVariants.{Read, Give}
 use Rattle.std.proofs.lemmas.List.{length_push}
+use Rattle.terms.proofs.OptionLemmas.{append_twice}
 use Rattle.file_run.specs.TellingOn.{Telling, GivesWay}
 use Rattle.file_run.proofs.DrainLemmas.{Gives}
 use Rattle.file_run.proofs.EventLemmas.{gave_piece}
@@ -28,10 +29,6 @@ read_further start was is r s on at opened =
 -- what a reader has left depends on what the desk holds and on the places of its handles
 pub rest_kept : (old new : State) (r : Reading) → new.held ≡ old.held → new.opened ≡ old.opened → rest_of new r ≡ rest_of old r
 rest_kept old new r held opened = rw (held, opened) refl
-
-pub twice : (o : Option (List ℕ)) (x y : List ℕ) → option_map (λ said. said ++ y) (option_map (λ said. said ++ x) o) ≡ option_map (λ said. said ++ (x ++ y)) o
-twice None x y = refl
-twice (Some said) x y = ap Some (append_assoc said x y)
 
 -- a piece went onto the page, and the machine gave then or nothing was said
 grown : {A : Type 0} (Becomes : A → List Event → A → Type 0) (next : A → Step) (begin old new : A) (start was is : State) (name : List ℕ) (r : Reading) (waiting piece : List ℕ) → Gives Becomes old new piece → Keeps was is
@@ -103,7 +100,7 @@ all_said Came next machine start was is name r waiting says t = record {
   met = t.came;
   parts = sym (append-nil (gave t.events));
   going = inl refl;
-  said = says.said ∙ ap (option_map (λ said. said ++ waiting)) t.said ∙ twice start.said (gave t.early) waiting ∙ ap (λ (l : List ℕ). option_map (λ said. said ++ l) start.said) (sym t.parts);
+  said = says.said ∙ ap (option_map (λ said. said ++ waiting)) t.said ∙ append_twice start.said (gave t.early) waiting ∙ ap (λ (l : List ℕ). option_map (λ said. said ++ l) start.said) (sym t.parts);
   handle = t.handle;
   opened = says.opened ∙ t.opened;
   created = says.created ∙ t.created;

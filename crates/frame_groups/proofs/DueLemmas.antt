@@ -2,6 +2,7 @@
 use Rattle.std.proofs.Common.{◌≡◌, ℕ, ◌+◌, ◌≤◌, ◌<◌, ◌==◌, ◌&&◌, cond, ⊎_elim, Bool, true, false, List, [], ◌∷◌, ◌++◌, Option, Some, None, refl, ap, sym, subst, ◌∙◌, arith, append_assoc, append-nil}
 use Rattle.std.specs.Prelude.{is_some, nat_lt}
 use Rattle.std.proofs.lemmas.Bool.{true≢false, cond-true, cond-false, lt-ltb, le-ltb, ltb-true, ltb-false, eqb-true, cases_lt}
+use Rattle.terms.proofs.OptionLemmas.{some_injective, none_some}
 use Rattle.frame_groups.specs.declared.cause.MuteCause.{MuteCause}
 use Rattle.t2mi_packet.specs.declared.packet.Packet.{Packet}
 use Rattle.frame_groups.specs.Groups.{Group, key_behind}
@@ -15,7 +16,7 @@ use Rattle.frame_groups.specs.Records.{record_of}
 use Rattle.frame_groups.specs.Waits.{waits_by, waiting_by}
 use Rattle.frame_groups.specs.declared.waiting.Waiting.{Waiting}
 use Rattle.frame_groups.specs.declared.cause.MuteCause.TheVariants.{Gap}
-use Rattle.frame_groups.proofs.FollowLemmas.{some_is, records_push, none_some, no_gaps, gaps_more}
+use Rattle.frame_groups.proofs.FollowLemmas.{records_push, no_gaps, gaps_more}
 use Rattle.frame_groups.proofs.RunLemmas.{grown}
 use Rattle.frame_groups.proofs.SequenceLemmas.{groups_new, own_was_given}
 
@@ -90,11 +91,11 @@ module _ (r : Rules) (closed : List Group) (h : Group) (next : ℕ) (fault : Opt
     where
       go : (c t u : Bool) → nat_lt next n ≡ t → (c ≡ true → (m : ℕ) → Some n ≡ Some m → fault ≡ r.fault h m)
           → cond t (Some (record { frame = next; mute = Some Gap })) (cond (c && u) (Some (record { frame = n; mute = fault })) None) ≡ Some w → record_now r (Some h) (Some n) next ≡ Some (record_of h w)
-      go c true u k a e = cond-true (nat_lt next n) (Some (gap_record next)) (Some (group_record r h n)) k ∙ ap (λ (w : Waiting). Some (record_of h w)) (some_is _ w e)
+      go c true u k a e = cond-true (nat_lt next n) (Some (gap_record next)) (Some (group_record r h n)) k ∙ ap (λ (w : Waiting). Some (record_of h w)) (some_injective _ w e)
       go true false true k a e =
           cond-false (nat_lt next n) (Some (gap_record next)) (Some (group_record r h n)) k
           ∙ ap (λ (o : Option MuteCause). Some (record { number = n; content = content_of h o })) (sym (a refl n refl))
-          ∙ ap (λ (w : Waiting). Some (record_of h w)) (some_is _ w e)
+          ∙ ap (λ (w : Waiting). Some (record_of h w)) (some_injective _ w e)
       go true false false k a e = none_some w e
       go false false u k a e = none_some w e
 
@@ -182,7 +183,7 @@ due_law r (Some h) number next true fault ps given (closed, a, f) = record {
   under_way = λ c. absurd (true≢false c);
   ended = λ _ w. waits_closed r closed h next fault ps given a number f w;
   closed = λ _ p e. closed_by r closed h next fault ps given a p e;
-  told = λ g e w k. subst (λ (g : Group). record_now r (Some h) number next ≡ Some (record_of g w)) (some_is h g e) (told_by r closed h next fault ps given a number true f w k);
+  told = λ g e w k. subst (λ (g : Group). record_now r (Some h) number next ≡ Some (record_of g w)) (some_injective h g e) (told_by r closed h next fault ps given a number true f w k);
   none = λ e. none_some h (sym e);
 }
 due_law r (Some h) number next false fault ps given (closed, a, f) = record {
@@ -190,6 +191,6 @@ due_law r (Some h) number next false fault ps given (closed, a, f) = record {
   under_way = λ _ w. waits_open r closed h next fault ps given a number f w;
   ended = λ c. absurd (true≢false (sym c));
   closed = λ c. absurd (true≢false (sym c));
-  told = λ g e w k. subst (λ (g : Group). record_now r (Some h) number next ≡ Some (record_of g w)) (some_is h g e) (told_by r closed h next fault ps given a number false f w k);
+  told = λ g e w k. subst (λ (g : Group). record_now r (Some h) number next ≡ Some (record_of g w)) (some_injective h g e) (told_by r closed h next fault ps given a number false f w k);
   none = λ e. none_some h (sym e);
 }

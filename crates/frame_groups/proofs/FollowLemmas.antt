@@ -1,8 +1,8 @@
 -- A group after another.
 use Rattle.std.proofs.Common.{◌≡◌, ℕ, suc, ◌+◌, ◌-◌, ◌<◌, ◌≤◌, Bool, true, false, List, [], ◌∷◌, ◌++◌, map, Option, Some, None, refl, ap, ap₂, sym, subst, ◌∙◌, arith, append_assoc, append-nil}
-use Rattle.std.specs.Prelude.{is_some}
 use Rattle.std.specs.List.{range_with_len}
 use Rattle.std.proofs.lemmas.Bool.{true≢false}
+use Rattle.terms.proofs.OptionLemmas.{some_injective, none_some}
 use Rattle.frame_groups.specs.declared.cause.MuteCause.{MuteCause}
 use Rattle.frame_groups.specs.declared.key.Key.{Key}
 use Rattle.frame_groups.specs.Groups.{Group}
@@ -11,12 +11,6 @@ use Rattle.frame_groups.specs.Modulated.{Rules, FrameRecord, gap_record, group_r
 use Rattle.frame_groups.proofs.FrontLemmas.{none_before, records_append}
 use Rattle.frame_groups.proofs.NumberLemmas.{next_law}
 use Rattle.frame_groups.specs.Sequenced.{known_number, gaps_from, HasGiven, Follows}
-
-pub some_is : {X : Type 0} (x y : X) → Some x ≡ Some y → x ≡ y
-some_is x y e = ap (λ (o : Option _). elim o as (λ o. _) [ None ↦ x | Some z ↦ z ]) e
-
-pub none_some : {X : Type 0} {P : Type 0} (x : X) → None ≡ Some x → P
-none_some x e = absurd (true≢false (sym (ap is_some e)))
 
 pub number_after_push : (r : Rules) (o : Option ℕ) (gs : List Group) (h : Group) → number_after r o (gs ++ h ∷ []) ≡ number_behind r (number_after r o gs) h
 number_after_push r o [] h = refl
@@ -36,7 +30,7 @@ close_joined r closed h n next old new given f e = record {
   key = f.key;
   number_is = known_is r (number_after r None closed) h n f.number_is;
   under_way = λ c. absurd (true≢false c);
-  fault_is = λ c m s. e ∙ ap (r.fault h) (some_is n m s);
+  fault_is = λ c m s. e ∙ ap (r.fault h) (some_injective n m s);
   records = f.records;
 }
 
@@ -76,7 +70,7 @@ pub start_joined : (r : Rules) (closed : List Group) (h g : Group) (n next : ℕ
 start_joined r closed h g n next old new given f e key = record {
   key = key;
   number_is = ap (λ (o : Option ℕ). known_number r o g) after;
-  under_way = λ _ m s. let a = some_is _ m s in let up = above in omega (arith, e, a, up);
+  under_way = λ _ m s. let a = some_injective _ m s in let up = above in omega (arith, e, a, up);
   fault_is = λ c. absurd (true≢false (sym c));
   records =
       record {
@@ -145,7 +139,7 @@ pub gap_given : (r : Rules) (closed : List Group) (h : Group) (n next : ℕ) (cl
 gap_given r closed h n next closing fault given f l = record {
   key = f.key;
   number_is = f.number_is;
-  under_way = λ c m s. let a = some_is n m s in omega (arith, a, l);
+  under_way = λ c m s. let a = some_injective n m s in omega (arith, a, l);
   fault_is = f.fault_is;
   records =
       record {

@@ -7,3 +7,4 @@ pub mod FollowLemmas
 pub mod SequenceLemmas
 pub mod DueLemmas
 pub mod WantLemmas
+pub mod LeftLemmas

@@ -4,6 +4,7 @@ use Rattle.std.specs.Prelude.{is_some, nat_lt}
 use Rattle.std.specs.List.{filter}
 use Rattle.std.proofs.lemmas.Bool.{true≢false, cond-true, cond-false, ltb-true, ltb-false, eqb-true, eqb-false}
 use Rattle.std.proofs.lemmas.List.Elements.{filter-append}
+use Rattle.terms.proofs.OptionLemmas.{some_injective, none_some, neither}
 use Rattle.frame_groups.specs.declared.cause.MuteCause.{MuteCause}
 use Rattle.t2mi_packet.specs.declared.packet.Body.{Body}
 use Rattle.t2mi_packet.specs.declared.packet.Body.TheVariants.{Block, L1Current, Timestamp, Other}
@@ -18,7 +19,7 @@ use Rattle.frame_groups.specs.declared.cause.MuteCause.TheVariants.{Gap}
 use Rattle.frame_groups.specs.Sequenced.{Follows, kept_groups, Sequenced, record_now}
 use Rattle.frame_groups.specs.Waits.{waits_by}
 use Rattle.frame_groups.specs.declared.waiting.Waiting.{Waiting}
-use Rattle.frame_groups.proofs.FollowLemmas.{close_joined, close_first, start_joined, start_first, goes_on, begins, some_is, none_some, gap_given, own_given}
+use Rattle.frame_groups.proofs.FollowLemmas.{close_joined, close_first, start_joined, start_first, goes_on, begins, gap_given, own_given}
 
 -- a packet that belongs to no frame
 pub kept_not : (r : Rules) (ps : List Packet) (p : Packet) → is_counted r.frames p ≡ false → kept_groups r (ps ++ p ∷ []) ≡ kept_groups r ps
@@ -93,14 +94,14 @@ pub started_joined : (r : Rules) (h : Group) (n next : ℕ) (old new : Option Mu
     → Sequenced r (Some (one_packet (key_behind (Some h.key) p) p)) (Some (next_number r.frames n (key_behind (Some h.key) p))) next false new (ps ++ p ∷ []) given
 started_joined r h n next old new ps given p e other up some s (closed, a, f) =
     let most = f.records.most in
-    let key = key_fits r.frames (Some h.key) p some s e (λ k same. subst (IsKey r.frames) (some_is h.key k same) f.key) in
+    let key = key_fits r.frames (Some h.key) p some s e (λ k same. subst (IsKey r.frames) (some_injective h.key k same) f.key) in
     (closed ++ h ∷ [], groups_new r ps p closed h e a other, start_joined r closed h (one_packet (key_behind (Some h.key) p) p) n next old new given f (omega (arith, up, most)) key)
 
 pub started_first : (r : Rules) (h : Group) (next : ℕ) (old new : Option MuteCause) (ps : List Packet) (given : List FrameRecord) (p : Packet)
     → is_counted r.frames p ≡ true → is_same h.key (key_behind (Some h.key) p) ≡ false → 0 < r.frames → p.superframe < 16 → Sequenced r (Some h) None next true old ps given
     → Sequenced r (Some (one_packet (key_behind (Some h.key) p) p)) None next false new (ps ++ p ∷ []) given
 started_first r h next old new ps given p e other some s (closed, a, f) =
-    let key = key_fits r.frames (Some h.key) p some s e (λ k same. subst (IsKey r.frames) (some_is h.key k same) f.key) in
+    let key = key_fits r.frames (Some h.key) p some s e (λ k same. subst (IsKey r.frames) (some_injective h.key k same) f.key) in
     (closed ++ h ∷ [], groups_new r ps p closed h e a other, start_first r closed h (one_packet (key_behind (Some h.key) p) p) next old new given f key)
 
 -- a group is closed
@@ -118,16 +119,11 @@ closed_first r (Some h) number old next fault new ps given some e at (closed, a,
 -- the key of a packet behind a group fits
 pub group_key_fits : (r : Rules) (h : Group) (number : Option ℕ) (next : ℕ) (closing : Bool) (fault : Option MuteCause) (ps : List Packet) (given : List FrameRecord) (p : Packet)
     → is_counted r.frames p ≡ true → 0 < r.frames → p.superframe < 16 → Sequenced r (Some h) number next closing fault ps given → IsKey r.frames (key_behind (Some h.key) p)
-group_key_fits r h number next closing fault ps given p e some s (closed, a, f) = key_fits r.frames (Some h.key) p some s e (λ k same. subst (IsKey r.frames) (some_is h.key k same) f.key)
+group_key_fits r h number next closing fault ps given p e some s (closed, a, f) = key_fits r.frames (Some h.key) p some s e (λ k same. subst (IsKey r.frames) (some_injective h.key k same) f.key)
 
 pub none_came : (r : Rules) → kept_groups r [] ≡ no_groups
 unfolding grouped
 none_came r = refl
-
-neither : {X : Type 0} (t u : Bool) (a b : X) → is_some (cond t (Some a) (cond u (Some b) None)) ≡ false → (t ≡ false) × (u ≡ false)
-neither true u a b e = absurd (true≢false e)
-neither false true a b e = absurd (true≢false e)
-neither false false a b e = (refl, refl)
 
 -- nothing waits_by, so the record of the closed group was given
 pub own_was_given : (n next : ℕ) (fault : Option MuteCause) → waits_by (Some n) next true fault ≡ false → n < next
@@ -172,9 +168,9 @@ gave r (Some h) (Some n) next closing fault ps given x w e (closed, a, f) = go (
     go : (t : Bool) → nat_lt next n ≡ t → is_some {T = Waiting} (cond t (Some (record { frame = next; mute = Some Gap })) (cond (closing && (next == n)) (Some (record { frame = n; mute = fault })) None)) ≡ true
         → cond t (Some (gap_record next)) (Some (group_record r h n)) ≡ Some x → Sequenced r (Some h) (Some n) (next + 1) closing fault ps (given ++ x ∷ [])
     go true t w e =
-        subst (λ (x : FrameRecord). Sequenced r (Some h) (Some n) (next + 1) closing fault ps (given ++ x ∷ [])) (some_is (gap_record next) x e)
+        subst (λ (x : FrameRecord). Sequenced r (Some h) (Some n) (next + 1) closing fault ps (given ++ x ∷ [])) (some_injective (gap_record next) x e)
         (closed, a, gap_given r closed h n next closing fault given f (ltb-true next n t))
-    go false t w e = own closing (next == n) refl w (some_is (group_record r h n) x e) f
+    go false t w e = own closing (next == n) refl w (some_injective (group_record r h n) x e) f
       where
         own : (c u : Bool) → (next == n) ≡ u → is_some {T = Waiting} (cond (c && u) (Some (record { frame = n; mute = fault })) None) ≡ true → group_record r h n ≡ x → Follows r closed h (Some n) next c fault given
             → Sequenced r (Some h) (Some n) (next + 1) c fault ps (given ++ x ∷ [])
@@ -204,7 +200,7 @@ added_on r s (Some h) new number next closing fault ps given p key is e same add
     subst (λ (s : Rules). Sequenced s new number next closing fault (ps ++ p ∷ []) given) (sym rules)
     (subst (λ (g : Option Group). Sequenced r g number next closing fault (ps ++ p ∷ []) given) (sym (add h refl))
     (subst (λ (t : Bool). Sequenced r (Some (one_more h p)) number next t fault (ps ++ p ∷ []) given) (sym shut)
-    (added r h number next fault fault ps given p e (subst (λ (k : Key). is_same k (key_behind (Some k) p) ≡ true) (sym (some_is h.key key is)) same)
+    (added r h number next fault fault ps given p e (subst (λ (k : Key). is_same k (key_behind (Some k) p) ≡ true) (sym (some_injective h.key key is)) same)
     (subst (λ (t : Bool). Sequenced r (Some h) number next t fault ps given) shut q))))
 
 pub has_key : (g : Option Group) (key : Option Key) → key_of g ≡ key → is_some key ≡ true → is_some g ≡ true
@@ -218,7 +214,7 @@ pub record HasGroup (g : Option Group) (key : Key) : Type 0 where
 
 pub has_group : (g : Option Group) (key : Key) → key_of g ≡ Some key → HasGroup g key
 has_group None key e = none_some key e
-has_group (Some h) key e = record { group = h; is = refl; key_is = sym (some_is h.key key e) }
+has_group (Some h) key e = record { group = h; is = refl; key_is = sym (some_injective h.key key e) }
 
 pub other_key : (h : Group) (key : Key) (p : Packet) → key ≡ h.key → is_same key (key_behind (Some key) p) ≡ false → is_same h.key (key_behind (Some h.key) p) ≡ false
 other_key h key p e o = subst (λ (k : Key). is_same k (key_behind (Some k) p) ≡ false) e o

@@ -1,4 +1,4 @@
--- How groups grow, packet by packet. Of public clauses only those of `OpenGroup` and `Sequence` cite this module.
+-- How groups grow, packet by packet.
 use Rattle.std.specs.Prelude.{List, [], ◌∷◌, ◌++◌, Option, Some, None, if◌then◌else◌, option_map, option_to_list}
 use Rattle.frame_groups.specs.declared.key.Key.{Key}
 use Rattle.frame_groups.specs.Groups.{is_same, key_behind, Group}

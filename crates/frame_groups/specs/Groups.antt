@@ -1,4 +1,4 @@
--- The packets of each T2 frame (ETSI TS 102 773, clause 5): the longest runs of packets with one key.
+-- The packets of each T2 frame: the longest runs of packets with one key (frame_idx and superframe_idx of ETSI TS 102 773, clause 5).
 use Rattle.std.specs.Prelude.{ℕ, ◌==◌, ◌&&◌, nat_lt, Bool, true, false, List, [], ◌∷◌, Option, Some, None, if◌then◌else◌}
 use Rattle.std.specs.List.{filter}
 use Rattle.frame_groups.specs.declared.key.Key.{Key}

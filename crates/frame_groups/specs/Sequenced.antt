@@ -1,4 +1,4 @@
--- How far the records of groups have come. Of public clauses only those of `Sequence` cite this module.
+-- How far the records of groups have come, as `Sequence` and the crates above it say it.
 use Rattle.std.specs.Prelude.{◌≡◌, ℕ, ◌+◌, ◌-◌, ◌≤◌, nat_lt, Bool, true, false, List, [], ◌++◌, map, Option, Some, None, if◌then◌else◌}
 use Rattle.std.specs.List.{filter, range_with_len}
 use Rattle.frame_groups.specs.declared.cause.MuteCause.{MuteCause}

@@ -1,5 +1,5 @@
 -- The record that waits.
-use Rattle.std.specs.Prelude.{◌≡◌, ℕ, ◌-◌, ◌*◌, ◌^◌, ◌≤◌, ◌==◌, ◌&&◌, ◌||◌, not, nat_lt, Bool, Option, Some, None, is_some, if◌then◌else◌}
+use Rattle.std.specs.Prelude.{◌≡◌, ℕ, ◌+◌, ◌-◌, ◌*◌, ◌^◌, ◌≤◌, ◌==◌, ◌&&◌, ◌||◌, not, nat_lt, Bool, Option, Some, None, is_some, if◌then◌else◌}
 use Rattle.frame_groups.specs.declared.cause.MuteCause.{MuteCause}
 use Rattle.frame_groups.specs.declared.cause.MuteCause.TheVariants.{Gap}
 use Rattle.frame_groups.specs.Numbers.{superframe_period}
@@ -38,6 +38,18 @@ greatest_step = superframe_period * 255
 -- the greatest number that a group can have
 abbrev pub most_number : ℕ
 most_number = 2 ^ 32 - 1
+
+-- the most records that a group can still bring: those up to its number, or of a group under way whose number is not known its own
+abbrev pub records_by : Option ℕ → ℕ → Bool → ℕ
+records_by None next closing = if closing then 0 else 1
+records_by (Some n) next closing = n + 1 - next
+
+abbrev pub records_left : Progress → ℕ
+records_left p = records_by p.number p.next p.closing
+
+-- They are no more than these.
+abbrev pub most_records : ℕ
+most_records = most_number + 1
 
 -- The group under way has no number above a bound.
 abbrev pub IsWithin : ℕ → Progress → Type 0

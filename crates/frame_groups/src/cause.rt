@@ -10,22 +10,26 @@ pub enum MuteCause {
     /// No packet of the frame came.
     #[error("no packet of the frame came")]
     Gap,
-    /// A baseband frame, the L1-current or the timestamp of the frame is missing, or there is a baseband frame that it has not.
+    /// A baseband frame, the L1-current or the timestamp of the frame is missing, or there is a baseband frame too many, one of a length
+    /// that its PLP does not have, or one of no PLP.
     #[error("a packet of the frame is missing")]
     PacketMissing,
     /// The L1-current is not that of the configuration and the frame, or two of them differ.
     #[error("the L1 signalling is not that of the configuration")]
     L1Refused,
-    /// The cells of the frame do not stand apart, by the dynamic part that came.
+    /// By the dynamic part that came there are more blocks than the configuration has, cells stand outside the frame, or two blocks stand
+    /// on one cell.
     #[error("the cells of the frame do not stand apart")]
     MapRefused,
-    /// The baseband frames of the group need more chunks of memory than there are.
+    /// The baseband frames of the group, as far as they have the right length, need more chunks of memory than the pool has.
     #[error("its baseband frames need {need} chunks, and there are {spare}")]
     PoolFull {
+        /// The chunks that they need.
         need: u64,
+        /// All chunks of the pool.
         spare: u64,
     },
-    /// A timestamp tells another moment than the frame's emission.
+    /// A timestamp tells another moment than the frame's emission, or another bandwidth than the configuration's.
     #[error("a timestamp tells another moment than the emission of the frame")]
     TimeDisagrees {
         /// The first timestamp that does.

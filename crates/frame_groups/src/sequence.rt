@@ -5,7 +5,7 @@ ghost use Rattle.frame_groups.specs.Groups.{Group};
 ghost use Rattle.frame_groups.specs.Modulated.{FrameRecord, join_number};
 ghost use Rattle.frame_groups.specs.Numbers.{IsKey, next_number};
 ghost use Rattle.frame_groups.specs.Sequenced.{Keeps};
-ghost use Rattle.frame_groups.specs.Waits.{wants_packets, IsWithin, greatest_step, most_number};
+ghost use Rattle.frame_groups.specs.Waits.{wants_packets, records_left, IsWithin, greatest_step, most_number};
 
 use crate::cause::MuteCause;
 use crate::group::OpenGroup;
@@ -48,6 +48,7 @@ fn close_group<G: OpenGroup>(group: &G, progress: Progress) -> Progress
     ensures closing { result.closing ≡ true }
     ensures near { (bound : ℕ) → 2 ^ 31 ≤ bound → IsWithin bound progress → IsWithin bound result }
     ensures next { (result.next ≡ progress.next) ⊎ (result.next < 2 ^ 31) }
+    ensures left { records_left result ≤ records_left progress }
     ensures frame { is_some result.number ≡ true → is_some result.fault ≡ false → G.is_frame group.now ≡ true }
 {
     let _key = group.key();
@@ -107,7 +108,7 @@ impl<G: OpenGroup + Drop> Sequence<G> {
     ghost use Rattle.frame_groups.specs.Modulated.{FrameRecord};
     ghost use Rattle.t2mi_packet.specs.T2miPacket.{Fits};
     ghost use Rattle.frame_groups.specs.Sequenced.{Keeps, record_now, Ends};
-    ghost use Rattle.frame_groups.specs.Waits.{waits, IsWithin, greatest_step, most_number};
+    ghost use Rattle.frame_groups.specs.Waits.{waits, records_left, IsWithin, greatest_step, most_number};
 
     /// No packet came. The group is none.
     pub fn new(group: G) -> Sequence<G>
@@ -141,6 +142,7 @@ impl<G: OpenGroup + Drop> Sequence<G> {
         ensures closing { self.new.progress.closing ≡ true }
         ensures near { (bound : ℕ) → 2 ^ 31 ≤ bound → IsWithin bound self.old.progress → IsWithin bound self.new.progress }
         ensures next { (self.new.progress.next ≡ self.old.progress.next) ⊎ (self.new.progress.next < 2 ^ 31) }
+        ensures left { records_left self.new.progress ≤ records_left self.old.progress }
     {
         self.progress = close_group(&self.group, self.progress);
     }
@@ -189,6 +191,7 @@ impl<G: OpenGroup + Drop> Sequence<G> {
         ensures near { (bound : ℕ) → 2 ^ 31 ≤ bound → IsWithin bound self.old.progress → IsWithin (bound + greatest_step) self.new.progress }
         ensures same { result ≡ false → (bound : ℕ) → 2 ^ 31 ≤ bound → IsWithin bound self.old.progress → IsWithin bound self.new.progress }
         ensures next { (self.new.progress.next ≡ self.old.progress.next) ⊎ (self.new.progress.next < 2 ^ 31) }
+        ensures left { result ≡ false → records_left self.new.progress ≤ records_left self.old.progress }
     {
         self.close();
         if self.progress.waiting().is_some() {
@@ -216,6 +219,7 @@ impl<G: OpenGroup + Drop> Sequence<G> {
         ensures near { (bound : ℕ) → 2 ^ 31 ≤ bound → IsWithin bound self.old.progress → IsWithin (bound + greatest_step) self.new.progress }
         ensures same { result ≡ false → (bound : ℕ) → 2 ^ 31 ≤ bound → IsWithin bound self.old.progress → IsWithin bound self.new.progress }
         ensures next { (self.new.progress.next ≡ self.old.progress.next) ⊎ (self.new.progress.next < 2 ^ 31) }
+        ensures left { result ≡ false → records_left self.new.progress ≤ records_left self.old.progress }
     {
         if !is_counted(self.group.frames(), packet) {
             return true;
@@ -245,6 +249,7 @@ impl<G: OpenGroup + Drop> Sequence<G> {
         ensures group { self.new.group ≡ self.old.group }
         ensures intact { waits self.new.progress ≡ true → G.is_intact self.new.group ≡ true }
         ensures rest { self.new.progress ≡ record (self.old.progress) { next = self.old.progress.next + 1 } }
+        ensures left { records_left self.new.progress < records_left self.old.progress }
     {
         self.progress.next += 1;
     }

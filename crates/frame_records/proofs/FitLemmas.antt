@@ -11,6 +11,7 @@ use Rattle.terms.proofs.BitLemmas.{length-field}
 use Rattle.plp_config.specs.Capacity.{IsPlan, CellCount, CellAddresses, block_bytes, block_cells, field_bytes, capacity, cell_need}
 use Rattle.plp_config.specs.Emission.{emission}
 use Rattle.plp_config.specs.Laws.{EmissionFits, FieldRange, CellsByFive, SlotLength}
+use Rattle.plp_config.specs.Places.{places}
 use Rattle.plp_config.specs.Plps.{plp_at}
 use Rattle.plp_config.specs.Rules.{PlpCount}
 use Rattle.plp_config.specs.SlotTime.{slots_by}
@@ -31,7 +32,7 @@ use Rattle.mode_adapt.specs.Queue.{sent, sent_before}
 use Rattle.null_delete.specs.Deletion.{packet_at}
 use Rattle.site_frame.specs.Record.{Block, FitsBlock, FitsCell}
 use Rattle.site_frame.specs.Whole.{FitsRecord, block_size}
-use Rattle.frame_records.specs.Frames.{places, frame_shape, sent_block, sent_blocks, frame_cells, l1_pre, frame_of, HasByteIds}
+use Rattle.frame_records.specs.Frames.{frame_shape, sent_block, sent_blocks, frame_cells, l1_pre, frame_of, HasByteIds}
 use Rattle.frame_records.specs.Laws.{IsSentBlock, FewBlocks, EveryFrameFits, MutedFits, FrameFits, RecordsFit}
 use Rattle.frame_records.specs.Records.{numbers_from, record_of}
 use Rattle.frame_records.proofs.RecordLemmas.{found}
@@ -43,8 +44,8 @@ use Rattle.bb_frame.specs.Laws.{BitCounts}
 
 -- ---- L1-pre
 
-l1_pre_length : PreBitsLength → (c : Config) → length (l1_pre c) ≡ 200
-l1_pre_length law c = length-append (pre_bits (pre_of c)) _ ∙ ap₂ (λ (a b : ℕ). a + b) (law (pre_of c)) (length-field 32 _)
+pub length-l1_pre : PreBitsLength → (c : Config) → length (l1_pre c) ≡ 200
+length-l1_pre law c = length-append (pre_bits (pre_of c)) _ ∙ ap₂ (λ (a b : ℕ). a + b) (law (pre_of c)) (length-field 32 _)
 
 -- ---- how many blocks a frame has
 
@@ -162,7 +163,7 @@ every_frame_fits bits emits five cells c n post blocks shape is small short len 
     let most : c.cells ≤ 4194303 = is.tests CellAddresses in
     let count : sum shape.counts ≤ 2071 = few_blocks five c shape is len passes in
     let addresses : length (frame_cells c shape) ≡ c.cells = cells_count c shape in
-    let pre = l1_pre_length bits c in
+    let pre = length-l1_pre bits c in
     record {
       moment = (omega (arith, moment), omega (arith, moment));
       rest = record {

@@ -16,12 +16,13 @@ use Rattle.mode_adapt.specs.Blocks.{data_field, block_bits, block_places, plp_ke
 use Rattle.mode_adapt.specs.Queue.{sent, sent_before}
 use Rattle.plp_config.specs.SlotTime.{slots_by}
 use Rattle.std.specs.FinMap.{get}
+use Rattle.plp_config.specs.Places.{places}
 use Rattle.cell_map.specs.CellMap.{cell_map}
 use Rattle.scheduler.specs.Shape.{FrameShape}
 use Rattle.l1_signal.specs.Laws.{PostLength}
 use Rattle.site_frame.specs.Whole.{block_size}
 use Rattle.site_frame.specs.Record.{head_len, pre_len}
-use Rattle.frame_records.specs.Frames.{places, sent_block, sent_blocks, frame_cells, frame_shape}
+use Rattle.frame_records.specs.Frames.{sent_block, sent_blocks, frame_cells, frame_shape}
 use Rattle.frame_records.specs.Laws.{FrameLength}
 use Rattle.bb_frame.specs.Laws.{BitCounts}
 

@@ -1,7 +1,7 @@
-mod FrameLemmas
+pub mod FrameLemmas
 mod RecordLemmas
 mod RecoverLemmas
 mod CountedLemmas
-mod FitLemmas
+pub mod FitLemmas
 mod StandLemmas
 mod LossLemmas

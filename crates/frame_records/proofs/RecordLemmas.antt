@@ -5,6 +5,7 @@ use Rattle.std.specs.List.{range_with_len}
 use Rattle.std.proofs.lemmas.Bool.{eqb-true, eq-eqb}
 use Rattle.std.proofs.Math.Nat.{zero-mod}
 use Rattle.std.proofs.lemmas.List.FromFn.{length-map-range_with_len}
+use Rattle.terms.proofs.CaseLemmas.{both}
 use Rattle.plp_config.specs.Emission.{emission}
 use Rattle.plp_config.specs.RunLength.{frame_count}
 use Rattle.plp_config.specs.declared.config.Config.{Config}
@@ -46,10 +47,6 @@ found test from (suc count) n e = here (test from) refl e (λ more. let f = foun
         → (find test (range_with_len (from + 1) count) ≡ Some n → Found test from (suc count) n) → Found test from (suc count) n
     here true t e next = let same : from ≡ n = cc in record { passes = subst (λ (k : ℕ). test k ≡ true) same t; below = omega (arith, same) }
     here false t e next = next e
-
-both : (a b : Bool) → (a && b) ≡ true → (a ≡ true) × (b ≡ true)
-both true b e = (refl, e)
-both false b e = absurd cc
 
 stands : (c : Config) (inputs : ℕ → List (List ℕ)) (whole : ℕ → Bool) (end : ℕ) (r : Option ℕ) → find (λ n. whole n && (n % c.frames == 0)) (range_with_len 0 end) ≡ r → end ≤ 2 ^ 31
     → StandsOnGrid c inputs whole end

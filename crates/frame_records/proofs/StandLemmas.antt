@@ -7,6 +7,7 @@ use Rattle.std.proofs.lemmas.List.{length-map, take-map}
 use Rattle.std.proofs.lemmas.List.FromFn.{get_or-range_with_len, length-range_with_len}
 use Rattle.std.proofs.lemmas.List.Sums.{sum-map, sum_by-cons}
 use Rattle.std.proofs.lemmas.Option.{slice_get-map}
+use Rattle.plp_config.specs.Places.{places}
 use Rattle.cell_map.specs.Address.{address_of}
 use Rattle.cell_map.specs.CellMap.{ordinal_of, cell_map}
 use Rattle.cell_map.specs.Laws.{ShapePasses, MapHasEachCell}
@@ -16,7 +17,7 @@ use Rattle.plp_config.specs.Laws.{FieldRange, SlotLength}
 use Rattle.plp_config.specs.declared.config.Config.{Config}
 use Rattle.scheduler.specs.Laws.{ShapeHasCounts}
 use Rattle.site_frame.specs.Record.{Block}
-use Rattle.frame_records.specs.Frames.{places, sent_block, sent_blocks, frame_shape}
+use Rattle.frame_records.specs.Frames.{sent_block, sent_blocks, frame_shape}
 use Rattle.frame_records.specs.Laws.{BlockStands, CellStands}
 use Rattle.frame_records.proofs.FitLemmas.{counts, counts_fit}
 use Rattle.mode_adapt.specs.Blocks.{plp_blocks}

@@ -5,6 +5,7 @@ use Rattle.std.specs.List.{flat_map, range_with_len}
 use Rattle.terms.specs.Bits.{bytes_of}
 use Rattle.bb_frame.specs.Scrambled.{scrambled}
 use Rattle.plp_config.specs.Emission.{emission}
+use Rattle.plp_config.specs.Places.{places}
 use Rattle.plp_config.specs.Plps.{plp_at}
 use Rattle.plp_config.specs.RunLength.{frame_count}
 use Rattle.plp_config.specs.declared.config.Config.{Config}
@@ -19,10 +20,6 @@ use Rattle.l1_signal.specs.Laws.{crc_behind}
 use Rattle.site_frame.specs.Record.{Block}
 use Rattle.site_frame.specs.declared.reading.RecordView.{RecordView}
 use Rattle.site_frame.specs.declared.reading.RecordView.TheVariants.{Frame}
-
--- the PLPs by their places, in configuration order
-abbrev pub places : Config → List ℕ
-places c = range_with_len 0 (length c.plps)
 
 -- PLP_ID has 8 bits.
 abbrev pub HasByteIds : Config → Type 0

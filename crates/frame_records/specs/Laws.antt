@@ -1,6 +1,7 @@
 -- Laws of frames, of records and of what is given back.
 use Rattle.std.specs.Prelude.{◌≡◌, ◌⊎◌, ◌↔◌, ◌<◌, ◌≤◌, ◌^◌, ◌*◌, ◌+◌, ◌-◌, ◌%◌, ℕ, Bool, true, false, List, [], length, map, sum_by, slice_get, Some, option_map, sum}
 use Rattle.std.specs.List.{AllByRecursion, Contains}
+use Rattle.plp_config.specs.Places.{places}
 use Rattle.terms.specs.Bits.{bytes_for}
 use Rattle.ts_packet.specs.Null.{is_null, null_packet}
 use Rattle.plp_config.specs.Capacity.{IsPlan, block_bytes}
@@ -16,7 +17,7 @@ use Rattle.cell_map.specs.CellMap.{Passes, ordinal_of}
 use Rattle.site_frame.specs.Whole.{FitsRecord, record_len}
 use Rattle.site_frame.specs.declared.reading.RecordView.TheVariants.{Muted}
 use Rattle.site_frame.specs.Record.{Block, head_len, pre_len}
-use Rattle.frame_records.specs.Frames.{places, sent_block, sent_blocks, frame_cells, frame_shape, frame_view, frame_of, HasByteIds, run_frames}
+use Rattle.frame_records.specs.Frames.{sent_block, sent_blocks, frame_cells, frame_shape, frame_view, frame_of, HasByteIds, run_frames}
 use Rattle.frame_records.specs.Records.{records, IsOnGrid}
 use Rattle.frame_records.specs.Recover.{due_slots, recover}
 use Rattle.mode_adapt.specs.Blocks.{plp_blocks}

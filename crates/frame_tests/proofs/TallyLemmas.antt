@@ -10,6 +10,7 @@ use Rattle.std.proofs.lemmas.List.FromFn.{get_or-map-range_with_len}
 use Rattle.std.proofs.lemmas.List.Sums.{sum_by-cons}
 use Rattle.plp_config.specs.Capacity.{block_bytes}
 use Rattle.plp_config.specs.Emission.{emission}
+use Rattle.plp_config.specs.Places.{places}
 use Rattle.plp_config.specs.Plps.{plp_at}
 use Rattle.plp_config.specs.Tables.{bw}
 use Rattle.plp_config.specs.declared.config.Config.{Config}
@@ -18,7 +19,7 @@ use Rattle.scheduler.specs.Shape.{FrameShape}
 use Rattle.t2mi_packet.specs.declared.packet.Packet.{Packet}
 use Rattle.t2mi_packet.specs.declared.packet.Stamp.{Stamp}
 use Rattle.frame_groups.specs.declared.cause.MuteCause.TheVariants.{PacketMissing, L1Refused, PoolFull}
-use Rattle.frame_tests.specs.Carried.{places, body_block, has_length, blocks_of, right_blocks, L1Parts, body_l1, l1s_of, body_stamp, stamps_of}
+use Rattle.frame_tests.specs.Carried.{body_block, has_length, blocks_of, right_blocks, L1Parts, body_l1, l1s_of, body_stamp, stamps_of}
 use Rattle.frame_tests.specs.Laws.{TestsAreTallied, TallyGrows}
 use Rattle.frame_tests.specs.Tally.{Tally, all_alike, is_unlike, first_unlike, tally, alike_behind, unlike_behind, tally_need, tally_pool, tally_missing, tally_l1, first_late, tally_time, tally_counts, tally_blocks, tally_map, tally_fault}
 use Rattle.frame_tests.specs.Tests.{unless, begins_superframe, pool_chunks, capped, pool_need, pool_test, missing_test, same_parts, parts_agree, l1s_agree, l1_test, stamp_agrees, disagrees, time_test, first_shape, has_counts, is_known, blocks_test, map_test, packets_fault}
@@ -57,7 +58,7 @@ and_one false u = refl
 known_more : (c : Config) (packets : List Packet) (p : Packet) → list_all (is_known c) (packets ++ p ∷ []) ≡ (list_all (is_known c) packets && is_known c p)
 known_more c packets p = list_all-append (is_known c) packets (p ∷ []) ∙ and_one (list_all (is_known c) packets) (is_known c p)
 
-at_place : (c : Config) (f : ℕ → ℕ) (plp : ℕ) → plp < length c.plps → slice_index (map f (places c)) plp ≡ f plp
+pub at_place : (c : Config) (f : ℕ → ℕ) (plp : ℕ) → plp < length c.plps → slice_index (map f (places c)) plp ≡ f plp
 at_place c f plp inside = get_or-map-range_with_len f 0 (length c.plps) plp plp 0 inside (omega arith)
 
 maps_same : (f g : ℕ → ℕ) (count : ℕ) → ((plp : ℕ) → plp < count → f plp ≡ g plp) → (a k : ℕ) → a + k ≤ count → map f (range_with_len a k) ≡ map g (range_with_len a k)

@@ -9,10 +9,6 @@ use Rattle.t2mi_packet.specs.declared.packet.Body.TheVariants.{Block, L1Current,
 use Rattle.t2mi_packet.specs.declared.packet.Packet.{Packet}
 use Rattle.t2mi_packet.specs.declared.packet.Stamp.{Stamp}
 
--- the places of the PLPs, in configuration order
-abbrev pub places : Config → List ℕ
-places c = range_with_len 0 (length c.plps)
-
 -- the baseband frame of the PLP with an identifier
 abbrev pub body_block : ℕ → Body → Option (List Bool)
 body_block id (Block frame_idx plp first bits) = if plp == id then Some bits else None

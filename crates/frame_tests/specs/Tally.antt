@@ -2,6 +2,7 @@
 use Rattle.std.specs.Prelude.{ℕ, ◌+◌, ◌*◌, ◌==◌, ◌&&◌, ◌||◌, not, nat_le, is_some, Bool, true, false, List, [], ◌∷◌, length, map, sum_by, slice_get, slice_index, Option, Some, None, option_map, if◌then◌else◌}
 use Rattle.std.specs.List.{find, list_all}
 use Rattle.std.specs.Option.{option_or, option_and_then, option_map_or}
+use Rattle.plp_config.specs.Places.{places}
 use Rattle.plp_config.specs.Capacity.{block_bytes}
 use Rattle.plp_config.specs.declared.config.Config.{Config}
 use Rattle.linked_pool.specs.Pool.{chunks_for}
@@ -10,7 +11,7 @@ use Rattle.t2mi_packet.specs.declared.packet.Packet.{Packet}
 use Rattle.t2mi_packet.specs.declared.packet.Stamp.{Stamp}
 use Rattle.frame_groups.specs.declared.cause.MuteCause.{MuteCause}
 use Rattle.frame_groups.specs.declared.cause.MuteCause.TheVariants.{PacketMissing, L1Refused, MapRefused, PoolFull}
-use Rattle.frame_tests.specs.Carried.{places, blocks_of, right_blocks, L1Parts, l1s_of, stamps_of}
+use Rattle.frame_tests.specs.Carried.{blocks_of, right_blocks, L1Parts, l1s_of, stamps_of}
 use Rattle.frame_tests.specs.Tests.{unless, begins_superframe, pool_chunks, capped, same_parts, parts_agree, l1_shape, stamp_agrees, disagrees, is_known, has_map}
 
 pub record Tally : Type 0 where

@@ -1,4 +1,4 @@
--- Why the packets of a group are not those of a frame: the first of six tests that fails (ETSI TS 102 773, clause 5).
+-- Why the packets of a group are not those of a frame: the first of our six tests that fails. The fields are those of ETSI TS 102 773, clause 5.
 use Rattle.std.specs.Prelude.{ℕ, ◌*◌, ◌/◌, ◌%◌, ◌-◌, ◌^◌, ◌==◌, ◌&&◌, ◌||◌, not, min, nat_eq, nat_lt, nat_le, Bool, true, false, List, [], ◌∷◌, length, map, sum_by, slice_get, slice_index, Option, Some, None, option_map, Ok, Err, if◌then◌else◌}
 use Rattle.std.specs.Bool.{beq}
 use Rattle.std.specs.Cmp.Lexicographic.{pointwise}
@@ -6,6 +6,7 @@ use Rattle.std.specs.List.{find, list_any, list_all}
 use Rattle.std.specs.Option.{option_or, option_and_then}
 use Rattle.plp_config.specs.Capacity.{block_bytes}
 use Rattle.plp_config.specs.Emission.{emission, subseconds_by, origin, frame_subseconds}
+use Rattle.plp_config.specs.Places.{places}
 use Rattle.plp_config.specs.Plps.{plp_at}
 use Rattle.plp_config.specs.Tables.{bw, subseconds_per_second}
 use Rattle.plp_config.specs.declared.config.Config.{Config}
@@ -31,7 +32,7 @@ use Rattle.frame_groups.specs.Numbers.{frame_key}
 use Rattle.frame_groups.specs.declared.cause.MuteCause.{MuteCause}
 use Rattle.frame_groups.specs.declared.cause.MuteCause.TheVariants.{PacketMissing, L1Refused, MapRefused, PoolFull, TimeDisagrees}
 use Rattle.frame_groups.specs.declared.key.Key.{Key}
-use Rattle.frame_tests.specs.Carried.{places, has_length, blocks_of, right_blocks, L1Parts, l1s_of, stamps_of}
+use Rattle.frame_tests.specs.Carried.{has_length, blocks_of, right_blocks, L1Parts, l1s_of, stamps_of}
 use Rattle.frame_tests.specs.MapTest.{map_passes}
 
 -- a test: nothing if it holds

@@ -2,6 +2,7 @@
 use Rattle.std.proofs.Common.{◌≡◌, ℕ, ◌≤◌, ◌==◌, ◌&&◌, Bool, true, false, cond, List, [], Option, Some, None, refl, ap, sym, subst, ◌∙◌, arith, append-nil}
 use Rattle.std.specs.Prelude.{is_some, nat_lt, flat_map}
 use Rattle.std.proofs.lemmas.Bool.{ltb-true, eqb-true}
+use Rattle.terms.proofs.OptionLemmas.{some_injective, none_some}
 use Rattle.t2mi_packet.specs.declared.packet.Packet.{Packet}
 use Rattle.t2mi_stream.specs.declared.unpiper.Unpiper.{Unpiper}
 use Rattle.frame_groups.specs.Groups.{Group}
@@ -16,10 +17,6 @@ use Rattle.frame_groups.specs.declared.waiting.Progress.{Progress}
 use Rattle.frame_groups.specs.declared.waiting.Waiting.{Waiting}
 use Rattle.modulator.specs.Modulating.{Stands}
 use Rattle.modulator.specs.Gives.{Gives}
-use Rattle.modulator.proofs.StandsLemmas.{none_some}
-
-pub some_same : {X : Type 0} (x y : X) → Some x ≡ Some y → x ≡ y
-some_same x y e = ap (λ (o : Option _). elim o as (λ o. _) [ None ↦ x | Some z ↦ z ]) e
 
 -- the own record of a closed group
 pub record IsOwn (at : Progress) (w : Waiting) : Type 0 where
@@ -43,19 +40,19 @@ own_by (Some n) next closing fault w e = go closing (nat_lt next n) (next == n) 
     go : (c t u : Bool) → nat_lt next n ≡ t → (next == n) ≡ u → cond t (Some (record { frame = next; mute = Some Gap })) (cond (c && u) (Some (record { frame = n; mute = fault })) None) ≡ Some w
         → WaitsFor (record { number = Some n; next = next; closing = c; fault = fault }) w
     go c true u k l e =
-        let same : record { frame = next; mute = Some Gap } ≡ w = some_same _ w e in
+        let same : record { frame = next; mute = Some Gap } ≡ w = some_injective _ w e in
         let less = ltb-true next n k in
         record {
-          below = λ m is. let f = ap (λ (w : Waiting). w.frame) same in let i = some_same n m is in omega (arith, less, f, i);
+          below = λ m is. let f = ap (λ (w : Waiting). w.frame) same in let i = some_injective n m is in omega (arith, less, f, i);
           some = refl;
           frame = sym (ap (λ (w : Waiting). w.frame) same);
           own = λ none. none_some Gap (sym none ∙ sym (ap (λ (w : Waiting). w.mute) same));
         }
     go true false true k l e =
-        let same : record { frame = n; mute = fault } ≡ w = some_same _ w e in
+        let same : record { frame = n; mute = fault } ≡ w = some_injective _ w e in
         let here = eqb-true next n l in
         record {
-          below = λ m is. let f = ap (λ (w : Waiting). w.frame) same in let i = some_same n m is in omega (arith, f, i);
+          below = λ m is. let f = ap (λ (w : Waiting). w.frame) same in let i = some_injective n m is in omega (arith, f, i);
           some = refl;
           frame = sym (here ∙ ap (λ (w : Waiting). w.frame) same);
           own = λ none. record { number = ap (λ (w : Waiting). Some w.frame) same; closing = refl; fault = ap (λ (w : Waiting). w.mute) same; next = here ∙ ap (λ (w : Waiting). w.frame) same };
@@ -71,7 +68,7 @@ passes : (r : Rules) (g : Option Group) (at : Progress) (ps : List Packet) (give
     → r.fault h w.frame ≡ None
 passes r None at ps given h w s e own none = none_some h e
 passes r (Some k) at ps given h w (closed, a, f) e own none =
-    subst (λ (k : Group). r.fault k w.frame ≡ None) (some_same k h e) (sym (f.fault_is own.closing w.frame own.number) ∙ own.fault ∙ none)
+    subst (λ (k : Group). r.fault k w.frame ≡ None) (some_injective k h e) (sym (f.fault_is own.closing w.frame own.number) ∙ own.fault ∙ none)
 
 -- what is begun of the record that waits
 pub begun_gives : (Old New : Option Group → Type 0) (key other : Option Key) (r s : Rules) (spelled : FrameRecord → List ℕ) (at : Progress) (left : List ℕ) (u : Unpiper) (finished : Bool) (pid : ℕ) (bytes : List ℕ) (given : List FrameRecord) (taken : List ℕ)

@@ -1,8 +1,9 @@
 -- Whether a group that is closed was the join: then records are due, and else none.
-use Rattle.std.proofs.Common.{◌≡◌, ℕ, ◌-◌, ◌≤◌, ◌<◌, ◌==◌, cond, Bool, true, false, List, [], ◌∷◌, ◌++◌, length, Option, Some, None, refl, ap, sym, subst, ◌∙◌, arith, append-nil, length-append}
+use Rattle.std.proofs.Common.{◌≡◌, ℕ, ◌-◌, ◌≤◌, ◌<◌, ◌==◌, Bool, true, false, List, [], ◌∷◌, ◌++◌, length, Option, Some, None, refl, ap, sym, subst, ◌∙◌, arith, append-nil, length-append}
 use Rattle.std.specs.Prelude.{is_some, nat_lt, map}
 use Rattle.std.specs.List.{range_with_len}
 use Rattle.std.proofs.lemmas.Bool.{true≢false, ltb-false, eqb-false}
+use Rattle.terms.proofs.OptionLemmas.{none_some, neither}
 use Rattle.t2mi_packet.specs.declared.packet.Packet.{Packet}
 use Rattle.t2mi_stream.specs.Events.{UnpiperEvent}
 use Rattle.t2mi_stream.specs.UnpiperStandsFor.{UnpiperStandsFor, is_ready, AllReleased}
@@ -18,17 +19,12 @@ use Rattle.frame_groups.specs.declared.cause.MuteCause.{MuteCause}
 use Rattle.frame_groups.specs.declared.key.Key.{Key}
 use Rattle.frame_groups.specs.declared.waiting.Progress.{Progress}
 use Rattle.modulator.specs.Modulating.{Stands, due_by}
-use Rattle.modulator.proofs.StandsLemmas.{HasKey, none_some, all_given, comes_next}
+use Rattle.modulator.proofs.StandsLemmas.{HasKey, all_given, comes_next}
 use Rattle.modulator.proofs.TookLemmas.{now_of}
 
 none_from : {X : Type 0} (o : Option X) → is_some o ≡ false → o ≡ None
 none_from None e = refl
 none_from (Some x) e = absurd (true≢false e)
-
-neither : {X : Type 0} (t u : Bool) (a b : X) → is_some (cond t (Some a) (cond u (Some b) None)) ≡ false → (t ≡ false) × (u ≡ false)
-neither true u a b e = absurd (true≢false e)
-neither false true a b e = absurd (true≢false e)
-neither false false a b e = (refl, refl)
 
 -- there are records behind the join
 some_behind : (r : Rules) (gs : List Group) (m : ℕ) → number_after r None gs ≡ Some m → 0 < length (records_from r None gs)

@@ -1,5 +1,6 @@
 pub mod StandsLemmas
 pub mod StepLemmas
+pub mod LeftLemmas
 pub mod TookLemmas
 pub mod BeginLemmas
 pub mod MuteLemmas

@@ -4,6 +4,7 @@ use Rattle.std.specs.Prelude.{is_some, option_map, slice_get, IfSome, IfNone}
 use Rattle.std.proofs.Math.Seq.{take-add}
 use Rattle.std.proofs.lemmas.Bool.{true≢false, false_from_ne_true, cases_lt}
 use Rattle.std.proofs.lemmas.List.{map-append, nil_from_length, take_rest, take_all, take-append-le, take-append-drop}
+use Rattle.terms.proofs.OptionLemmas.{some_injective, none_some}
 use Rattle.t2mi_packet.specs.declared.packet.Packet.{Packet}
 use Rattle.frame_groups.specs.Groups.{Group, is_counted}
 use Rattle.frame_groups.specs.Grouping.{key_of}
@@ -25,16 +26,10 @@ use Rattle.t2mi_stream.specs.UnpiperStandsFor.{UnpiperStandsFor, is_ready, next_
 use Rattle.t2mi_stream.specs.declared.unpiper.Unpiper.{Unpiper}
 use Rattle.modulator.specs.Modulating.{packet_of, packets_of, worked, IsAhead, Stands, due_by}
 
-pub none_some : {X : Type 0} {P : Type 0} (x : X) → None ≡ Some x → P
-none_some x e = absurd (true≢false (sym (ap is_some e)))
-
-some_is : {X : Type 0} (x y : X) → Some x ≡ Some y → x ≡ y
-some_is x y e = ap (λ (o : Option _). elim o as (λ o. _) [ None ↦ x | Some z ↦ z ]) e
-
 -- one element more
 take_next : {X : Type 0} (xs : List X) (i : ℕ) (a : X) → slice_get xs i ≡ Some a → (take (suc i) xs ≡ take i xs ++ a ∷ []) × (suc i ≤ length xs)
 take_next [] i a e = none_some a e
-take_next (x ∷ xs) zero a e = (ap (λ y. y ∷ []) (some_is x a e), omega arith)
+take_next (x ∷ xs) zero a e = (ap (λ y. y ∷ []) (some_injective x a e), omega arith)
 take_next (x ∷ xs) (suc i) a e = let r = take_next xs i a e in (ap (λ l. x ∷ l) r.0, omega (arith, r.1))
 
 -- the packet that waits, by its bytes
@@ -45,7 +40,7 @@ pub record HasBytes (o : Option AcceptedPacket) (seen : List ℕ) : Type 0 where
 
 has_bytes : (o : Option AcceptedPacket) (seen : List ℕ) → option_map (λ a. a.bytes) o ≡ Some seen → HasBytes o seen
 has_bytes None seen e = none_some seen e
-has_bytes (Some a) seen e = record { packet = a; is = refl; bytes = some_is a.bytes seen e }
+has_bytes (Some a) seen e = record { packet = a; is = refl; bytes = some_injective a.bytes seen e }
 
 ends_kept : (r : Rules) (key : Option Key) (p : Packet) → Ends r key p → is_counted r.frames p ≡ true
 ends_kept r None p e = absurd e
@@ -82,7 +77,7 @@ stepped push Old New key other r s at to u v finished pid bytes given seen ready
     let w = worked_more push pid h.events b.packet b.is in
     let ends : at.closing ≡ true → Ends r key (packet_of seen) = λ c. ⊎_elim
     (λ (x : (a : AcceptedPacket) × (next_packet pid h.events ≡ Some a) × Ends r key (packet_of a.bytes)).
-    subst (λ (l : List ℕ). Ends r key (packet_of l)) (ap (λ (a : AcceptedPacket). a.bytes) (some_is x.0 b.packet (sym x.1 ∙ b.is)) ∙ b.bytes) x.2)
+    subst (λ (l : List ℕ). Ends r key (packet_of l)) (ap (λ (a : AcceptedPacket). a.bytes) (some_injective x.0 b.packet (sym x.1 ∙ b.is)) ∙ b.bytes) x.2)
     (λ (x : (finished ≡ true) × (is_ready u ≡ false)). absurd (true≢false (sym ready ∙ x.1)))
     (h.ahead c) in
     record {
@@ -219,7 +214,7 @@ comes_next laws front Holds key r at u finished pid bytes given w group has none
     waits_now = ap is_some is
 
     it : (x : FrameRecord) → record_now r h.keeps.group at.number at.next ≡ Some x → x ≡ record_of group w
-    it x e = some_is x (record_of group w) (sym e ∙ law.told group gs w is)
+    it x e = some_injective x (record_of group w) (sym e ∙ law.told group gs w is)
 
     fed_packets_of : packets_of (accepted_of pid bytes) ≡ packets_of (accepted_of pid (fed h.events))
     fed_packets_of = ap (λ (l : List ℕ). packets_of (accepted_of pid l)) (sym h.fed_is)
@@ -345,7 +340,7 @@ front_on r s pid bytes piece given count more k same inside before here l = ⊎_
 
 pub some_at : {X : Type 0} (o : Option X) (x : X) (P : X → Type 0) → IfSome o P → o ≡ Some x → P x
 some_at None x P h e = none_some x e
-some_at (Some y) x P h e = subst P (some_is y x e) h
+some_at (Some y) x P h e = subst P (some_injective y x e) h
 
 pub none_is : {X : Type 0} (o : Option X) (P : Type 0) → IfNone o P → o ≡ None → P
 none_is None P h e = h

@@ -1,10 +1,10 @@
 -- How many steps are left in a unit.
 use Rattle.std.proofs.Common.{◌≡◌, ◌⊎◌, ℕ, ◌+◌, ◌-◌, ◌*◌, ◌≤◌, ◌<◌, ◌^◌, Bool, true, false, cond, ap, ⊎_elim, arith}
 use Rattle.ts_packet.specs.declared.sizes.TheConstants.{SIZE}
-use Rattle.t2mi_stream.specs.UnpiperStandsFor.{is_ready, unit_place}
+use Rattle.t2mi_stream.specs.UnpiperStandsFor.{is_ready, unit_place, steps_left}
 use Rattle.t2mi_stream.specs.declared.unpiper.Unpiper.{Unpiper}
 use Rattle.frame_groups.specs.Waits.{greatest_step}
-use Rattle.modulator.specs.Modulating.{steps_left, most_steps}
+use Rattle.modulator.specs.Modulating.{most_steps}
 
 few : (ready : Bool) → cond ready 1 0 ≤ 1
 few true = omega arith

@@ -18,7 +18,7 @@ use Rattle.t2mi_stream.specs.Events.{UnpiperEvent, fed, released}
 use Rattle.t2mi_stream.specs.UnpiperStandsFor.{UnpiperStandsFor, is_ready, AllReleased}
 use Rattle.t2mi_stream.specs.declared.unpiper.Unpiper.{Unpiper}
 use Rattle.modulator.specs.Modulating.{Stands, due_by}
-use Rattle.modulator.specs.Gives.{Gives, bytes_due}
+use Rattle.modulator.specs.Gives.{Gives, spelled_due}
 use Rattle.modulator.proofs.StandsLemmas.{HasKey, comes_next}
 
 -- the record that waits, and its group
@@ -93,7 +93,7 @@ module _ (Holds : Option Group → Type 0) (key : Option Key) (r : Rules) (spell
 
   -- what was taken is a front of what is due
   pub took_front : RecordsAreDue → ModulatedFront → HasKey Holds key → (is_ready u ≡ false → (pid : ℕ) (events : List UnpiperEvent) → UnpiperStandsFor u pid events → AllReleased pid events)
-      → IsPrefix (taken ++ more) (bytes_due r spelled finished pid bytes)
+      → IsPrefix (taken ++ more) (spelled_due r spelled finished pid bytes)
   unfolding record_bytes
   took_front laws front has none =
       let n = comes_next laws front Holds key r at u finished pid bytes h.given now.waiting now.group has none now.is h.stands now.has in (
@@ -116,7 +116,7 @@ module _ (Holds : Option Group → Type 0) (key : Option Key) (r : Rules) (spell
 
 -- no record waits, so all that is due was taken
 pub all_taken : (Holds : Option Group → Type 0) (key : Option Key) (r : Rules) (spelled : FrameRecord → List ℕ) (at : Progress) (left : List ℕ) (u : Unpiper) (finished ended : Bool) (pid : ℕ) (bytes front taken : List ℕ)
-    → (h : Gives Holds key r spelled at left u finished pid bytes taken) → waits at ≡ false → due_by r ended pid front ≡ h.given → bytes_due r spelled ended pid front ≡ taken
+    → (h : Gives Holds key r spelled at left u finished pid bytes taken) → waits at ≡ false → due_by r ended pid front ≡ h.given → spelled_due r spelled ended pid front ≡ taken
 all_taken Holds key r spelled at left u finished ended pid bytes front taken h w e =
     ap (flat_map spelled) e ∙ sym (h.took.taken_is ∙ ap (λ (l : List ℕ). flat_map spelled h.given ++ l) (h.took.idle w) ∙ append-nil (flat_map spelled h.given))
 

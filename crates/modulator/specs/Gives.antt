@@ -24,5 +24,5 @@ pub record Gives (Holds : Option Group → Type 0) (key : Option Key) (r : Rules
   pub took : Took spelled stands.keeps.group at left given taken
 
 -- the bytes of the records that are due
-abbrev pub bytes_due : Rules → (FrameRecord → List ℕ) → Bool → ℕ → List ℕ → List ℕ
-bytes_due r spelled finished pid bytes = flat_map spelled (due_by r finished pid bytes)
+abbrev pub spelled_due : Rules → (FrameRecord → List ℕ) → Bool → ℕ → List ℕ → List ℕ
+spelled_due r spelled finished pid bytes = flat_map spelled (due_by r finished pid bytes)

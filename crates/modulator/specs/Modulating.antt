@@ -1,18 +1,19 @@
 -- What bytes in, records out, stands for.
-use Rattle.std.specs.Prelude.{◌≡◌, ◌⊎◌, ℕ, ◌+◌, ◌-◌, ◌*◌, ◌≤◌, Bool, true, false, List, map, length, take, Option, Some, if◌then◌else◌}
+use Rattle.std.specs.Prelude.{◌≡◌, ◌⊎◌, ℕ, ◌+◌, ◌*◌, ◌≤◌, Bool, true, false, List, map, length, take, Option, Some}
 use Rattle.t2mi_packet.specs.Reading.{packet_at}
 use Rattle.t2mi_packet.specs.T2miPacket.{view_of}
 use Rattle.t2mi_packet.specs.declared.packet.Packet.{Packet}
 use Rattle.t2mi_stream.specs.Accepted.{AcceptedPacket}
 use Rattle.t2mi_stream.specs.Events.{UnpiperEvent, fed, released}
 use Rattle.t2mi_stream.specs.Units.{accepted_of}
-use Rattle.t2mi_stream.specs.UnpiperStandsFor.{UnpiperStandsFor, is_ready, unit_place, next_packet}
+use Rattle.t2mi_stream.specs.UnpiperStandsFor.{UnpiperStandsFor, is_ready, steps_left, next_packet}
 use Rattle.t2mi_stream.specs.declared.unpiper.Unpiper.{Unpiper}
 use Rattle.ts_packet.specs.declared.sizes.TheConstants.{SIZE}
 use Rattle.frame_groups.specs.Groups.{Group}
 use Rattle.frame_groups.specs.Modulated.{Rules, FrameRecord}
 use Rattle.frame_groups.specs.Due.{due}
 use Rattle.frame_groups.specs.Sequenced.{Keeps, Ends}
+use Rattle.frame_groups.specs.Waits.{records_left, most_records}
 use Rattle.frame_groups.specs.declared.key.Key.{Key}
 use Rattle.frame_groups.specs.declared.waiting.Progress.{Progress}
 
@@ -45,10 +46,11 @@ pub record Stands (Holds : Option Group → Type 0) (key : Option Key) (r : Rule
   pub keeps : Keeps Holds r at (worked pid events) given
   pub ahead : at.closing ≡ true → IsAhead r key u finished pid events
 
--- how many steps are left at most in the unit that is read: each goes on in it, or gives its last packet up
-abbrev pub steps_left : Unpiper → ℕ
-steps_left u = 2 * (SIZE - unit_place u) + (if is_ready u then 1 else 0)
-
--- and how many there can be
+-- how many steps can be left in a unit
 abbrev pub most_steps : ℕ
 most_steps = 2 * SIZE + 1
+
+-- the most records that can be given before more bytes come: those that are left of the group under way, and those of a group for each
+-- step that is left in the unit
+unfoldable pub records_ahead : Unpiper → Progress → ℕ
+records_ahead u at = steps_left u * most_records + records_left at

@@ -1,5 +1,5 @@
 -- What a `Modulator` stands for.
-use Rattle.std.specs.Prelude.{◌≡◌, ℕ, ◌<◌, ◌≤◌, Bool, List, ◌++◌, ◌∷◌, length, Option, Some, None, flat_map}
+use Rattle.std.specs.Prelude.{◌≡◌, ℕ, ◌+◌, ◌*◌, ◌<◌, ◌≤◌, Bool, List, ◌++◌, ◌∷◌, length, Option, Some, None, flat_map, if◌then◌else◌}
 use Rattle.plp_config.specs.declared.config.Config.{Config}
 use Rattle.t2mi_stream.specs.Units.{accepted_of}
 use Rattle.t2mi_stream.specs.UnpiperStandsFor.{fed_len}
@@ -10,11 +10,11 @@ use Rattle.frame_groups.specs.Waits.{waits}
 use Rattle.frame_groups.specs.declared.cause.MuteCause.{MuteCause}
 use Rattle.frame_groups.specs.declared.waiting.Waiting.{Waiting}
 use Rattle.frame_tests.specs.Tests.{rules}
-use Rattle.open_group.specs.Given.{bytes_left}
+use Rattle.open_group.specs.Given.{bytes_left, most_left}
 use Rattle.open_group.specs.Holds.{Holds}
 use Rattle.open_group.specs.Written.{spelled}
 use Rattle.modulator.specs.Gives.{Gives}
-use Rattle.modulator.specs.Modulating.{packets_of}
+use Rattle.modulator.specs.Modulating.{packets_of, records_ahead}
 use Rattle.modulator.specs.declared.modulator.Modulator.{Modulator}
 
 -- the records that are due by the bytes of a stream: all but the last one, and at the end all
@@ -41,6 +41,14 @@ next_of m = m.inner.sequence.progress.next
 -- A record waits.
 abbrev pub is_waiting : Modulator → Bool
 is_waiting m = waits m.inner.sequence.progress
+
+-- how many bytes are left of the record that waits
+abbrev pub waiting_len : Modulator → ℕ
+waiting_len m = if is_waiting m then length (bytes_left m.inner.sequence.group) else 0
+
+-- how often bytes can be taken from it at most before it wants bytes
+unfoldable pub left_of : Modulator → ℕ
+left_of m = records_ahead m.inner.unpiper m.inner.sequence.progress * most_left (config_of m) + waiting_len m
 
 -- These bytes were fed, and these bytes of the records were taken.
 unfoldable pub ModulatorStandsFor : Modulator → List ℕ → List ℕ → Type 0

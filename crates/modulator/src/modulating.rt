@@ -1,8 +1,8 @@
 // Bytes in, records out.
 ghost use Rattle.std.specs.Prelude.{◌≡◌, ◌≤◌, ◌+◌, ◌-◌, ◌*◌, ◌^◌, is_some, true, false};
 ghost use Rattle.frame_groups.specs.Waits.{waits, IsWithin, greatest_step};
-ghost use Rattle.t2mi_stream.specs.UnpiperStandsFor.{is_ready};
-ghost use Rattle.modulator.specs.Modulating.{steps_left, most_steps};
+ghost use Rattle.t2mi_stream.specs.UnpiperStandsFor.{is_ready, steps_left};
+ghost use Rattle.modulator.specs.Modulating.{most_steps};
 
 use crate::settle::{end, feed_some, settle};
 use frame_groups::{OpenGroup, Sequence, Waiting, due_law, front_law};
@@ -30,7 +30,7 @@ impl<G: OpenGroup + Drop> Modulating<G> {
     ghost use Rattle.frame_groups.specs.Waits.{waits, waiting_of};
     ghost use Rattle.frame_groups.specs.declared.waiting.Waiting.{Waiting};
     ghost use Rattle.t2mi_stream.specs.UnpiperStandsFor.{fed_len};
-    ghost use Rattle.modulator.specs.Modulating.{Stands, due_by};
+    ghost use Rattle.modulator.specs.Modulating.{Stands, due_by, records_ahead};
 
     /// Takes bytes until a record waits or the piece ends, and answers how many.
     pub fn feed(&mut self, piece: &[u8]) -> usize
@@ -103,6 +103,7 @@ impl<G: OpenGroup + Drop> Modulating<G> {
             → h.keeps.group ≡ Some group
             → Stands (G.holds self.new.sequence.group) (G.key_now self.new.sequence.group) (G.rules self.new.sequence.group) self.new.sequence.progress self.new.unpiper self.new.finished pid bytes (given ++ record_of group w ∷ []) }
         ensures next { (self.new.sequence.progress.next ≡ self.old.sequence.progress.next + 1) ⊎ (self.new.sequence.progress.next < 2 ^ 31) }
+        ensures left { records_ahead self.new.unpiper self.new.sequence.progress < records_ahead self.old.unpiper self.old.sequence.progress }
         ensures intact { waits self.new.sequence.progress ≡ true → G.is_intact self.new.sequence.group ≡ true }
         ensures finished { self.new.finished ≡ self.old.finished }
         ensures fed { fed_len self.new.unpiper ≡ fed_len self.old.unpiper }

@@ -24,7 +24,7 @@ pub struct Modulator<'p> {
 impl<'p> Modulator<'p> {
     ghost use Rattle.std.specs.Prelude.{◌≡◌, ◌<◌, ◌≤◌, ◌+◌, ◌⊎◌, ◌↔◌, ◌^◌, ◌++◌, ℕ, List, [], IfOk, IfSome, IfNone, length, take, drop, true, false};
     ghost use Rattle.frame_groups.specs.Laws.{IsPrefix};
-    ghost use Rattle.modulator.specs.StandsFor.{ModulatorStandsFor, WaitsAs, TakesOf, records_due, bytes_due, config_of, is_finished, fed_of, next_of, is_waiting};
+    ghost use Rattle.modulator.specs.StandsFor.{ModulatorStandsFor, WaitsAs, TakesOf, records_due, bytes_due, config_of, is_finished, fed_of, next_of, is_waiting, left_of};
 
     /// A modulator of a network, to which nothing was fed.
     pub fn open(alloc: Global, plan: &'p Plan) -> Result<Modulator<'p>, OutOfMemory>
@@ -116,6 +116,8 @@ impl<'p> Modulator<'p> {
         ensures within { is_waiting self.old ≡ true → (bytes taken : List ℕ) → ModulatorStandsFor self.old bytes taken → TakesOf (config_of self.old) (is_finished self.old) bytes taken (next_of self.old) result }
         ensures stays { (length out.new ≡ length out.old) × (drop result out.new ≡ drop result out.old) }
         ensures none { (result ≡ 0) ↔ ((is_waiting self.old ≡ false) ⊎ (length out.old ≡ 0)) }
+        // So a loop that takes until it gives none ends.
+        ensures left { 0 < result → left_of self.new < left_of self.old }
         ensures next { (next_of self.new ≡ next_of self.old) ⊎ ((next_of self.new ≡ next_of self.old + 1) ⊎ (next_of self.new < 2 ^ 31)) }
         ensures finished { is_finished self.new ≡ is_finished self.old }
         ensures fed { fed_of self.new ≡ fed_of self.old }

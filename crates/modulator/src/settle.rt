@@ -1,9 +1,9 @@
 // Packets from the unpiper into the sequence.
 ghost use Rattle.std.specs.Prelude.{◌≡◌, ◌<◌, ◌≤◌, ◌⊎◌, ◌+◌, ◌-◌, ◌*◌, ◌++◌, ◌^◌, length, take, ℕ, Bool, List, true, false, is_some};
 ghost use Rattle.frame_groups.specs.Modulated.{FrameRecord};
-ghost use Rattle.frame_groups.specs.Waits.{waits, IsWithin, greatest_step};
-ghost use Rattle.t2mi_stream.specs.UnpiperStandsFor.{is_ready, fed_len, unit_place};
-ghost use Rattle.modulator.specs.Modulating.{Stands, due_by, steps_left, most_steps};
+ghost use Rattle.frame_groups.specs.Waits.{waits, records_left, IsWithin, greatest_step};
+ghost use Rattle.t2mi_stream.specs.UnpiperStandsFor.{is_ready, fed_len, steps_left};
+ghost use Rattle.modulator.specs.Modulating.{Stands, due_by, most_steps, records_ahead};
 
 use frame_groups::{OpenGroup, Sequence, due_law};
 use t2mi_packet::read_known;
@@ -35,6 +35,7 @@ fn step<G: OpenGroup + Drop>(unpiper: &mut Unpiper, sequence: &mut Sequence<G>) 
     ensures waits { result ≡ false → waits sequence.new.progress ≡ true }
     ensures intact { waits sequence.new.progress ≡ true → G.is_intact sequence.new.group ≡ true }
     ensures less { result ≡ true → steps_left unpiper.new < steps_left unpiper.old }
+    ensures left { records_ahead unpiper.new sequence.new.progress ≤ records_ahead unpiper.old sequence.old.progress }
 {
     events_push();
     let packet = read_known(unpiper.bytes());
@@ -57,6 +58,7 @@ pub fn settle<G: OpenGroup + Drop>(unpiper: &mut Unpiper, sequence: &mut Sequenc
     ensures rules { G.rules sequence.new.group ≡ G.rules sequence.old.group }
     ensures fed { fed_len unpiper.new ≡ fed_len unpiper.old }
     ensures done { waits sequence.new.progress ≡ false → is_ready unpiper.new ≡ false }
+    ensures left { records_ahead unpiper.new sequence.new.progress ≤ records_ahead unpiper.old sequence.old.progress }
 {
     while is_next(unpiper, sequence) {
         if !step(unpiper, sequence) {
@@ -112,6 +114,7 @@ pub fn end<G: OpenGroup + Drop>(unpiper: &Unpiper, sequence: &mut Sequence<G>)
     ensures rules { G.rules sequence.new.group ≡ G.rules sequence.old.group }
     ensures done { waits sequence.new.progress ≡ false → is_ready unpiper.now ≡ false }
     ensures ended { waits sequence.new.progress ≡ false → sequence.new.progress.closing ≡ false → is_some (G.key_now sequence.new.group) ≡ false }
+    ensures left { records_left sequence.new.progress ≤ records_left sequence.old.progress }
 {
     if sequence.progress.waiting().is_some() {
         return;

@@ -6,16 +6,18 @@ use Rattle.std.proofs.lemmas.Bool.{cases_eq, eq-eqb, ne_eqb}
 use Rattle.std.proofs.lemmas.List.{get_or-set_same, get_or-set_other, map-append}
 use Rattle.std.proofs.lemmas.List.Elements.{filter_map-append, filter-append}
 use Rattle.std.proofs.lemmas.List.Folds.{list_any_at, list_any_none}
-use Rattle.std.proofs.lemmas.List.FromFn.{get_or-map-range_with_len, length-range_with_len, get_or-range_with_len}
+use Rattle.std.proofs.lemmas.List.FromFn.{length-range_with_len, get_or-range_with_len}
 use Rattle.std.proofs.lemmas.List.Sums.{sum_by-cons}
+use Rattle.frame_tests.proofs.TallyLemmas.{at_place}
 use Rattle.linked_pool.specs.Pool.{State, list_at, chunks_for, appended}
 use Rattle.plp_config.specs.Capacity.{block_bytes}
+use Rattle.plp_config.specs.Places.{places}
 use Rattle.plp_config.specs.Plps.{plp_at}
 use Rattle.plp_config.specs.declared.config.Config.{Config}
 use Rattle.t2mi_packet.specs.declared.packet.Body.{Body}
 use Rattle.t2mi_packet.specs.declared.packet.Body.TheVariants.{Block}
 use Rattle.t2mi_packet.specs.declared.packet.Packet.{Packet}
-use Rattle.frame_tests.specs.Carried.{places, body_block, has_length, blocks_of, right_blocks}
+use Rattle.frame_tests.specs.Carried.{body_block, has_length, blocks_of, right_blocks}
 use Rattle.frame_tests.specs.Tally.{Tally, tally_with, tally_need}
 use Rattle.frame_tests.specs.Tests.{body_known, is_known, greatest, capped}
 use Rattle.open_group.specs.HoldsBlocks.{HoldsCounts, HoldsLists}
@@ -52,9 +54,6 @@ sum_more f g k more a (suc n) h own low high =
 -- numbers as they are held
 capped_more : (held a b : ℕ) → held ≡ capped a → capped (held + b) ≡ capped (a + b)
 capped_more held a b e = omega arith
-
-at_place : (c : Config) (f : ℕ → ℕ) (plp : ℕ) → plp < length c.plps → slice_index (map f (places c)) plp ≡ f plp
-at_place c f plp inside = get_or-map-range_with_len f 0 (length c.plps) plp plp 0 inside (omega arith)
 
 right_more : (c : Config) (packets : List Packet) (p : Packet) (plp : ℕ) → right_blocks c plp (packets ++ p ∷ []) ≡ right_blocks c plp packets ++ right_blocks c plp (p ∷ [])
 right_more c packets p plp =

@@ -5,10 +5,10 @@ use Rattle.std.proofs.lemmas.Bool.{eq-eqb, ne_eqb}
 use Rattle.std.proofs.lemmas.List.Folds.{list_all_at}
 use Rattle.std.proofs.lemmas.List.FromFn.{length-range_with_len, get_or-range_with_len}
 use Rattle.std.proofs.lemmas.List.Sums.{sum_by-cons, list_all-from_AllPass}
+use Rattle.plp_config.specs.Places.{places}
 use Rattle.linked_pool.specs.Pool.{State, list_at, chunks_of, used_chunks, IsWhole}
 use Rattle.plp_config.specs.declared.config.Config.{Config}
 use Rattle.scheduler.specs.Shape.{FrameShape}
-use Rattle.frame_tests.specs.Carried.{places}
 use Rattle.frame_tests.specs.Tally.{Tally, tally_counts}
 use Rattle.frame_tests.specs.Tests.{capped}
 use Rattle.open_group.specs.HoldsBlocks.{HoldsCounts}

@@ -16,6 +16,7 @@ use Rattle.bb_frame.specs.Laws.{BitCounts}
 use Rattle.bb_frame.specs.Scrambled.{scrambled}
 use Rattle.plp_config.specs.Capacity.{IsPlan, block_bytes}
 use Rattle.plp_config.specs.Emission.{emission}
+use Rattle.plp_config.specs.Places.{places}
 use Rattle.plp_config.specs.Plps.{plp_at}
 use Rattle.plp_config.specs.declared.config.Config.{Config}
 use Rattle.scheduler.specs.Shape.{FrameShape, blank}
@@ -24,7 +25,7 @@ use Rattle.t2mi_packet.specs.declared.packet.Body.TheVariants.{Block, L1Current,
 use Rattle.t2mi_packet.specs.declared.packet.Packet.{Packet}
 use Rattle.frame_groups.specs.declared.cause.MuteCause.{MuteCause}
 use Rattle.frame_groups.specs.declared.cause.MuteCause.TheVariants.{PacketMissing}
-use Rattle.frame_tests.specs.Carried.{places, body_block, has_length, blocks_of, right_blocks}
+use Rattle.frame_tests.specs.Carried.{body_block, has_length, blocks_of, right_blocks}
 use Rattle.frame_tests.specs.Tests.{unless, pool_test, missing_test, l1_test, time_test, first_shape, has_counts, body_known, is_known, blocks_test, map_test, packets_fault}
 use Rattle.frame_records.specs.Frames.{sent_block, sent_blocks, frame_view}
 use Rattle.frame_records.specs.Laws.{rest_size}

@@ -6,12 +6,13 @@ use Rattle.std.specs.Option.{option_or}
 use Rattle.std.proofs.lemmas.Bool.{false≢true}
 use Rattle.std.proofs.lemmas.List.FromFn.{get_or-map-range_with_len}
 use Rattle.std.proofs.lemmas.List.Sums.{sum_by-cons}
+use Rattle.plp_config.specs.Places.{places}
 use Rattle.linked_pool.specs.Pool.{chunks_for}
 use Rattle.plp_config.specs.Capacity.{block_bytes}
 use Rattle.plp_config.specs.declared.config.Config.{Config}
 use Rattle.t2mi_packet.specs.declared.packet.Packet.{Packet}
 use Rattle.t2mi_packet.specs.declared.packet.Stamp.{Stamp}
-use Rattle.frame_tests.specs.Carried.{places, l1s_of, stamps_of}
+use Rattle.frame_tests.specs.Carried.{l1s_of, stamps_of}
 use Rattle.frame_tests.specs.Laws.{TallyGrows}
 use Rattle.frame_tests.specs.Tally.{Tally, tally, tally_with, unlike_behind}
 use Rattle.frame_tests.specs.Tests.{capped}

@@ -5,6 +5,7 @@ use Rattle.std.specs.Option.{option_map, option_map_or, option_and_then}
 use Rattle.std.proofs.lemmas.Bool.{false≢true}
 use Rattle.std.proofs.lemmas.List.{get_or-map, length-map}
 use Rattle.std.proofs.lemmas.List.FromFn.{length-range_with_len, get_or-range_with_len}
+use Rattle.plp_config.specs.Places.{places}
 use Rattle.bb_frame.specs.Laws.{BitCounts}
 use Rattle.cell_map.specs.CellMap.{Passes}
 use Rattle.frame_groups.specs.Groups.{Group}
@@ -13,7 +14,7 @@ use Rattle.frame_groups.specs.Modulated.Content.{Whole, Muted}
 use Rattle.frame_groups.specs.declared.cause.MuteCause.TheVariants.{MapRefused}
 use Rattle.frame_records.specs.Frames.{HasByteIds}
 use Rattle.frame_records.specs.Laws.{MutedFits}
-use Rattle.frame_tests.specs.Carried.{places, right_blocks, L1Parts, l1s_of}
+use Rattle.frame_tests.specs.Carried.{right_blocks, L1Parts, l1s_of}
 use Rattle.frame_tests.specs.Laws.{MapPasses}
 use Rattle.frame_tests.specs.Tests.{has_map, l1_shape, first_shape, read_dynamic, map_test, packets_fault, group_fault}
 use Rattle.l1_signal.specs.L1Of.{told_shape}

@@ -1,8 +1,9 @@
 -- What a group under way gives of a frame.
 use Rattle.std.specs.Prelude.{ℕ, ◌&&◌, nat_le, Bool, List, Option}
+use Rattle.plp_config.specs.declared.config.Config.{Config}
 use Rattle.record_writer.specs.Writes as writer
 use Rattle.scheduler.specs.Shape.{FrameShape}
-use Rattle.frame_tests.specs.Tests.{has_map}
+use Rattle.frame_tests.specs.Tests.{has_map, pool_chunks}
 use Rattle.open_group.specs.HoldsL1.{shape_told}
 use Rattle.open_group.specs.Parts.{parts_of}
 use Rattle.open_group.specs.declared.group.PooledGroup.{PooledGroup}
@@ -21,3 +22,7 @@ is_frame held = nat_le held.blocks.need held.blocks.chunks && has_map held.netwo
 -- the bytes of the record under way that were not given yet
 abbrev pub bytes_left : PooledGroup → List ℕ
 bytes_left held = writer.bytes_left held.writer held.network held.l1.shape held.blocks.pool.lists
+
+-- the most bytes of a record in a network: its blocks fill the chunks of the pool at most
+abbrev pub most_left : Config → ℕ
+most_left c = writer.most_record c (pool_chunks c)

@@ -15,7 +15,7 @@ pub record HoldsPackets (held : PooledGroup) (packets : List Packet) : Type 0 wh
   pub blocks : HoldsCounts held.network held.blocks (tally held.network packets)
   pub lists : HoldsLists held.network held.blocks packets
 
--- It has the key of a group and, until a block was given out, holds its packets.
+-- It has the key of a group and, until the record of its own frame is begun, holds its packets.
 pub record HoldsGroup (held : PooledGroup) (g : Group) : Type 0 where
   pub key : held.key ≡ Some g.key
   pub packets : held.intact ≡ true → HoldsPackets held g.packets

@@ -69,7 +69,7 @@ fn send(bits: &BitSlice<'_>, out: &mut [u8])
 
 impl HeldBlocks {
     ghost use Rattle.std.specs.Prelude.{◌≡◌, ◌≢◌, ◌↔◌, ◌<◌, ◌≤◌, ◌+◌, ◌*◌, ◌^◌, ◌++◌, ◌∷◌, [], true, false, Some, min, length, drop, replicate, slice_index_or, IsNone, IfSome, map, vec_len, slice_set, slice_index, IfOk, List, Bool, ℕ};
-    ghost use Rattle.linked_pool.specs.Pool.{State, list_at, chunks_for, appended};
+    ghost use Rattle.linked_pool.specs.Pool.{State, list_at, chunks_for, used_chunks, appended};
     ghost use Rattle.plp_config.specs.Capacity.{block_bytes};
     ghost use Rattle.t2mi_packet.specs.declared.packet.Packet.{Packet};
     ghost use Rattle.t2mi_packet.specs.declared.packet.Body.TheVariants.{Block};
@@ -169,6 +169,7 @@ impl HeldBlocks {
             Body::Other { .. } => {}
         }
     }
+
     /// Holds nothing.
     pub fn clear(&mut self, plan: &Plan)
         requires open { IsOpenFor self.old (length plan.now.plps) }
@@ -192,6 +193,13 @@ impl HeldBlocks {
         ensures need { result.1 ≡ self.now.need }
     {
         (u64::from(self.chunks), self.need)
+    }
+
+    /// Tells that its blocks fill no more chunks than there are.
+    pub fn fits_chunks(&self)
+        ensures { used_chunks self.now.pool.lists ≤ self.now.chunks }
+    {
+        let _ = self.pool.spare();
     }
 
     /// Whether each block was one of a PLP, with its length.

@@ -6,7 +6,7 @@ ghost use Rattle.frame_groups.specs.Groups.{Group};
 ghost use Rattle.frame_groups.specs.Modulated.{FrameRecord};
 ghost use Rattle.frame_groups.specs.Records.{record_of};
 ghost use Rattle.frame_tests.specs.Tests.{group_fault};
-ghost use Rattle.open_group.specs.Given.{is_frame, bytes_left};
+ghost use Rattle.open_group.specs.Given.{is_frame, bytes_left, most_left};
 ghost use Rattle.open_group.specs.Holds.{Holds};
 ghost use Rattle.open_group.specs.Written.{spelled, packets_view};
 
@@ -25,6 +25,7 @@ impl<'p> PooledGroup<'p> {
         ensures left { (h : Group) (n : ℕ) → moment.now ≡ emission self.old.network n → Holds self.old (Some h) → group_fault self.old.network h n ≡ None
             → bytes_left self.new ≡ record_bytes (packets_view self.old.network n h.packets) }
         ensures some { 0 < length (bytes_left self.new) }
+        ensures most { length (bytes_left self.new) ≤ most_left self.old.network }
         ensures group { (g : Option Group) → Holds self.old g → Holds self.new g }
         ensures key { self.new.key ≡ self.old.key }
         ensures network { self.new.network ≡ self.old.network }
@@ -34,6 +35,7 @@ impl<'p> PooledGroup<'p> {
         bit_counts();
         written_law();
         self.network.plan().obeys_rules();
+        self.blocks.fits_chunks();
         self.l1
             .begin_frame(self.network.plan(), &self.conf, moment, &mut self.writer);
         self.intact = false;
@@ -46,6 +48,7 @@ impl<'p> PooledGroup<'p> {
         ensures left { (h : Group) → Holds self.old (Some h) → (waiting.mute ≡ None → group_fault self.old.network h waiting.frame ≡ None)
             → bytes_left self.new ≡ spelled self.old.network (record_of h waiting) }
         ensures some { 0 < length (bytes_left self.new) }
+        ensures most { length (bytes_left self.new) ≤ most_left self.old.network }
         ensures group { (g : Option Group) → Holds self.old g → Holds self.new g }
         ensures key { self.new.key ≡ self.old.key }
         ensures network { self.new.network ≡ self.old.network }

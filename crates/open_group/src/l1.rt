@@ -149,7 +149,8 @@ impl HeldL1 {
     ghost use Rattle.record_writer.specs.Front.{front_bytes};
     ghost use Rattle.record_writer.specs.Laws.{post_size};
     ghost use Rattle.record_writer.specs.Steps.{step_bytes, HasLists};
-    ghost use Rattle.record_writer.specs.Writes.{bytes_left, IsReady, is_done};
+    ghost use Rattle.linked_pool.specs.Pool.{used_chunks};
+    ghost use Rattle.record_writer.specs.Writes.{bytes_left, most_record, IsReady, is_done};
     ghost use Rattle.record_writer.specs.declared.step.Step.TheVariants.{Blocks};
 
     /// Takes the memory for the PLPs of a plan. Nothing is held yet.
@@ -248,6 +249,7 @@ impl HeldL1 {
             Body::Other { .. } => {}
         }
     }
+
     /// Whether there is an L1-current.
     pub fn is_held(&self) -> bool
         ensures { result ≡ self.now.is_held }
@@ -317,6 +319,7 @@ impl HeldL1 {
         ensures left { (lists : List (List (List ℕ))) → bytes_left writer.new plan.now self.now.shape lists
             ≡ front_bytes plan.now moment.now (parts_of self.now.parts).dynamic (sum self.now.shape.counts) (rest_size plan.now (post_size plan.now (length (parts_of self.now.parts).dynamic)) (slice_index self.now.shape.counts))
             ++ step_bytes plan.now self.now.shape lists (Blocks 0) }
+        ensures most { (lists : List (List (List ℕ))) → length (bytes_left writer.new plan.now self.now.shape lists) ≤ most_record plan.now (used_chunks lists) }
         ensures ready { (lists : List (List (List ℕ))) → HasLists plan.now lists → IsReady writer.new plan.now self.now.shape lists }
         ensures done { is_done writer.new ≡ false }
     {

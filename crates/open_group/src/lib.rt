@@ -1,4 +1,4 @@
-//! The group under way of a modulator, of fixed size, and the six tests of it (ETSI TS 102 773, clause 5).
+//! The group under way of a modulator, of fixed size, and the six tests of it.
 #![tactic(auto)]
 
 mod blocks;

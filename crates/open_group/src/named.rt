@@ -8,14 +8,11 @@ ghost use Rattle.plp_config.specs.declared.moment.TheConstants.{MOST_FRAMES};
 ghost use Rattle.frame_tests.specs.Tests.{moment_of, named_frame};
 
 use crate::stamps::HeldStamps;
-use frame_groups::Key;
+use frame_groups::{Key, SUPERFRAME_PERIOD};
 use frame_tests::named_law;
 use plp_config::{Moment, Plan, emission_law};
 use site_frame::place_record;
 use t2mi_packet::Stamp;
-
-// superframe_idx counts modulo this (TS 102 773, clause 5.1).
-const SUPERFRAME_PERIOD: u64 = 16;
 
 // The frame of a run that leaves when a timestamp tells.
 fn frame_at(plan: &Plan, stamp: Stamp) -> Option<u64>

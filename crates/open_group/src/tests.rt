@@ -167,7 +167,7 @@ fn causes_in_their_order(rt: HostRuntime) -> Result<(), Fail> {
     let plan = small_plan(rt.alloc())?;
     let mut group = PooledGroup::open(rt.alloc(), &plan)?;
     let l1 = L1(NONE, NONE);
-    let rows: [(&[Part], Option<MuteCause>, Option<u64>); 14] = [
+    let rows: [(&[Part], Option<MuteCause>, Option<u64>); 17] = [
         (&ALL, None, Some(0)),
         (&[Blocks(0, 4), l1, l1, Stamp(0)], None, Some(0)),
         // The last bit of the configurable part is RESERVED: it decides nothing, but two L1-current packets differ by it.
@@ -197,6 +197,10 @@ fn causes_in_their_order(rt: HostRuntime) -> Result<(), Fail> {
             Some(0),
         ),
         (&[Stamp(1), Blocks(0, 35)], FULL, None),
+        // Two causes: the earlier test tells its own.
+        (&[Stamp(1), L1(50, NONE), Blocks(0, 4)], REFUSED, None),
+        (&[Stamp(1), l1, Blocks(0, 3)], late(1, 0), None),
+        (&[Stamp(0), L1(NONE, 87), Blocks(0, 3)], MISSING, Some(0)),
     ];
     for (row, (parts, cause, number)) in rows.iter().enumerate() {
         assert!(rt;

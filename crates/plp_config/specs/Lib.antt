@@ -1,4 +1,5 @@
 pub mod Tables
+pub mod Places
 pub mod Plps
 pub mod FirstFailure
 pub mod Rules

@@ -10,6 +10,7 @@ use Rattle.std.proofs.lemmas.Slice.Eq.{bytes_eq-Decides}
 use Rattle.std.specs.BTreeMap as tree
 use Rattle.std.specs.BTreeMap.{BTreeMap}
 use Rattle.std.specs.String.{string_cmp}
+use Rattle.terms.proofs.OptionLemmas.{append_twice}
 use Rattle.ports.specs.declared.counts.Counts.{Counts}
 use Rattle.ports.specs.Stored.{files_of}
 use Rattle.ports.proofs.FileLemmas.{files_of-insert, get-files_of}
@@ -38,11 +39,11 @@ insert_twice m name x y =
     ∙ sym (get-insert nat_list_cmp_total m name y q))
 
 -- what is found at the name that was set
-get_set : (m : Files) (name x : List ℕ) → get (insert m name x) name ≡ Some x
+pub get_set : (m : Files) (name x : List ℕ) → get (insert m name x) name ≡ Some x
 get_set m name x = get-insert nat_list_cmp_total m name x name ∙ ap (λ (b : Bool). cond b (Some x) (get m name)) (same_self name)
 
 -- another name has what it had
-get_other : (m : Files) (name x q : List ℕ) → q ≢ name → get (insert m name x) q ≡ get m q
+pub get_other : (m : Files) (name x q : List ℕ) → q ≢ name → get (insert m name x) q ≡ get m q
 get_other m name x q apart =
     elim (cases_Bool (same q name)) [
       | inl here ↦ absurd (apart (one_name q name here))
@@ -66,8 +67,8 @@ left_beside : (files : Files) (names : List (List ℕ)) (handle place : ℕ) (na
 left_beside files names handle place name x apart =
     ap (λ (o : Option (List ℕ)). drop place (unwrap_or o [])) (get_other files name x (slice_index_or names handle []) apart)
 
-append_twice : (h : Held) (out : ℕ) (x y : List ℕ) → with_bytes out y (with_bytes out x h) ≡ with_bytes out (x ++ y) h
-append_twice h out x y =
+bytes_twice : (h : Held) (out : ℕ) (x y : List ℕ) → with_bytes out y (with_bytes out x h) ≡ with_bytes out (x ++ y) h
+bytes_twice h out x y =
     ap (λ (b : List ℕ). record h { files = insert (insert h.files (out_name h out) (bytes_of h.files (out_name h out) ++ x)) (out_name h out) (b ++ y) })
     (ap (λ (o : Option (List ℕ)). unwrap_or o []) (get_set h.files (out_name h out) (bytes_of h.files (out_name h out) ++ x)))
     ∙ ap (λ (f : Files). record h { files = f }) (insert_twice h.files (out_name h out) (bytes_of h.files (out_name h out) ++ x) _)
@@ -75,7 +76,7 @@ append_twice h out x y =
 
 held_twice : (o : Option Held) (out : ℕ) (x y : List ℕ) → option_map (with_bytes out y) (option_map (with_bytes out x) o) ≡ option_map (with_bytes out (x ++ y)) o
 held_twice None out x y = refl
-held_twice (Some h) out x y = ap Some (append_twice h out x y)
+held_twice (Some h) out x y = ap Some (bytes_twice h out x y)
 
 -- a handle that is apart from an out is so after a write too
 apart_after : (o p : Option Held) (handle out : ℕ) (x : List ℕ) → p ≡ option_map (with_bytes out x) o → IfSome o (λ h. IsApart o handle (out_name h out))
@@ -83,17 +84,13 @@ apart_after : (o p : Option Held) (handle out : ℕ) (x : List ℕ) → p ≡ op
 apart_after None p handle out x is apart = rw is tt
 apart_after (Some h) p handle out x is apart = rw is apart
 
-joins : (o : Option (List ℕ)) (x y : List ℕ) → option_map (λ w. w ++ y) (option_map (λ w. w ++ x) o) ≡ option_map (λ w. w ++ (x ++ y)) o
-joins None x y = refl
-joins (Some w) x y = ap Some (append_assoc w x y)
-
 pub writes_join : (a b c : State) (out : ℕ) (x y : List ℕ) → Writes a b out x → Writes b c out y → Writes a c out (x ++ y)
 writes_join a b c out x y p q = record {
   held = q.held ∙ ap (option_map (with_bytes out y)) p.held ∙ held_twice a.held out x y;
   said = q.said ∙ p.said;
   opened = q.opened ∙ p.opened;
   created = q.created ∙ p.created;
-  behind = q.behind ∙ ap (option_map (λ w. w ++ y)) p.behind ∙ joins (written_of a out) x y;
+  behind = q.behind ∙ ap (option_map (λ w. w ++ y)) p.behind ∙ append_twice (written_of a out) x y;
   others = λ handle apart. q.others handle (apart_after a.held b.held handle out x p.held apart) ∙ p.others handle apart;
 }
 

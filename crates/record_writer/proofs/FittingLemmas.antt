@@ -3,11 +3,7 @@ use Rattle.std.proofs.Common.{◌≡◌, ℕ, ◌+◌, ◌-◌, ◌≤◌, Bool,
 use Rattle.terms.specs.Bits.{field}
 use Rattle.terms.proofs.BitLemmas.{length-field}
 use Rattle.bit_slice.specs.Crc.{crc32_of}
-use Rattle.plp_config.specs.declared.config.Config.{Config}
-use Rattle.l1_signal.specs.L1Of.{pre_of}
-use Rattle.l1_signal.specs.L1Pre.{pre_bits}
-use Rattle.l1_signal.specs.Laws.{PreBitsLength, crc_behind}
-use Rattle.frame_records.specs.Frames.{l1_pre}
+use Rattle.l1_signal.specs.Laws.{crc_behind}
 use Rattle.std.specs.Option.{option_map}
 use Rattle.bit_slice.specs.Sink.{State, Puts, wrapped}
 use Rattle.record_writer.specs.Fitting.{HasRoom}
@@ -33,7 +29,3 @@ room_behind old new bits count h p = record {
 -- a CRC_32 has 32 bits
 pub length-crc_behind : (front : List Bool) → length (crc_behind true front) ≡ length front + 32
 length-crc_behind front = length-append front (field 32 (crc32_of front)) ∙ ap (λ (n : ℕ). length front + n) (length-field 32 (crc32_of front))
-
--- and L1-pre has 200 with its own
-pub length-l1_pre : PreBitsLength → (c : Config) → length (l1_pre c) ≡ 200
-length-l1_pre law c = length-crc_behind (pre_bits (pre_of c)) ∙ ap (λ (n : ℕ). n + 32) (law (pre_of c))

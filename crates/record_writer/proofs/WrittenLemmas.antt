@@ -4,7 +4,6 @@ use Rattle.std.specs.Prelude.{map, sum, sum_by, slice_index, slice_index_or}
 use Rattle.std.specs.List.{concat, flat_map, range_with_len, AllByRecursion}
 use Rattle.std.specs.FinMap.{get}
 use Rattle.std.proofs.lemmas.List.{length-map}
-use Rattle.std.proofs.lemmas.List.FromFn.{length-map-range_with_len}
 use Rattle.std.proofs.lemmas.List.Sums.{sum_by-cons}
 use Rattle.terms.specs.Bits.{bytes_of, bytes_for}
 use Rattle.terms.proofs.AllLemmas.{all_append}
@@ -28,7 +27,9 @@ use Rattle.frame_records.specs.Laws.{IsSentBlock, EveryFrameFits}
 use Rattle.record_writer.specs.Front.{post_with}
 use Rattle.record_writer.specs.RecordBytes.{list_at, plp_block, sent_bytes, list_blocks, lists_bytes, words}
 use Rattle.record_writer.specs.Laws.{written_frame, RecordWritten, MutedWritten, BlockCount, post_size, RestLength, RecordFits}
-use Rattle.record_writer.proofs.FittingLemmas.{length-crc_behind, length-l1_pre}
+use Rattle.frame_records.proofs.FrameLemmas.{cells_count}
+use Rattle.frame_records.proofs.FitLemmas.{length-l1_pre}
+use Rattle.record_writer.proofs.FittingLemmas.{length-crc_behind}
 use Rattle.record_writer.proofs.RecordLemmas.{length-words}
 
 -- ---- the sections one behind another
@@ -52,9 +53,6 @@ words_are : (c : Config) (shape : FrameShape) (addresses : List ℕ)
 words_are c shape [] = refl
 words_are c shape (a ∷ addresses) = ap (λ (l : List ℕ). cell_bytes (get (cell_map c shape) a) ++ l) (words_are c shape addresses)
 
-cells_are : (c : Config) (shape : FrameShape) → length (frame_cells c shape) ≡ c.cells
-cells_are c shape = length-map-range_with_len (get (cell_map c shape)) 0 c.cells
-
 -- what is given in two parts, section by section
 joined : (head pre post count blocks cells words : List ℕ)
     → (head ++ (pre ++ (post ++ count))) ++ (blocks ++ (cells ++ words)) ≡ head ++ (pre ++ (post ++ ((count ++ blocks) ++ ((cells ++ words) ++ []))))
@@ -72,7 +70,7 @@ record_written order c moment dynamic shape lists =
     let all : flat_map cell_bytes (frame_cells c shape) ≡ words c shape 0 c.cells = words_are c shape (range_with_len 0 c.cells) in
     joined head pre (bits ++ bytes_of post) count (lists_bytes c 0 lists) (big_bytes 4 c.cells) (words c shape 0 c.cells)
     ∙ ap₂ (λ (p b : List ℕ). head ++ (pre ++ ((bits ++ p) ++ ((count ++ b) ++ ((big_bytes 4 c.cells ++ words c shape 0 c.cells) ++ []))))) (ap bytes_of (sym (append-nil post))) (sym spelled)
-    ∙ ap₂ (λ (n : ℕ) (w : List ℕ). head ++ (pre ++ ((bits ++ bytes_of (post ++ [])) ++ ((count ++ blocks_bytes blocks []) ++ ((big_bytes 4 n ++ w) ++ []))))) (sym (cells_are c shape)) (sym all)
+    ∙ ap₂ (λ (n : ℕ) (w : List ℕ). head ++ (pre ++ ((bits ++ bytes_of (post ++ [])) ++ ((count ++ blocks_bytes blocks []) ++ ((big_bytes 4 n ++ w) ++ []))))) (sym (cells_count c shape)) (sym all)
 
 pub muted_written : MutedWritten
 muted_written moment = sym (append-nil (head_bytes muted_kind moment 0))

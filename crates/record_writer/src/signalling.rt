@@ -165,7 +165,8 @@ fn put_head(moment: &Moment, rest: u32, out: &mut Piece)
 /// Appends the record of a muted frame.
 pub fn put_muted(moment: &Moment, out: &mut Piece)
     requires { length out.old + head_len ≤ piece_len }
-    ensures { out.new ≡ out.old ++ head_bytes muted_kind moment.now 0 }
+    ensures value { out.new ≡ out.old ++ head_bytes muted_kind moment.now 0 }
+    ensures short { length out.new ≤ piece_len }
 {
     let mut head = [0; HEAD];
     write_muted(moment, &mut head);
@@ -199,7 +200,8 @@ pub fn put_front(
     requires empty { out.old ≡ [] }
     requires conf { conf.now ≡ conf_bits (conf_of plan.now) }
     requires short { length dynamic ≤ most_dynamic }
-    ensures { out.new ≡ front_bytes plan.now moment.now dynamic.entry blocks rest }
+    ensures value { out.new ≡ front_bytes plan.now moment.now dynamic.entry blocks rest }
+    ensures short { length out.new ≤ piece_len }
 {
     put_head(moment, rest, out);
     put_bits(&pre_with_crc(plan).as_slice(), out);

@@ -2,7 +2,7 @@
 ghost use Rattle.std.specs.Prelude.{◌≡◌, ◌<◌, ◌≤◌, ◌+◌, ◌*◌, length, slice_index, sum, sum_by};
 ghost use Rattle.plp_config.specs.Capacity.{block_bytes};
 ghost use Rattle.cell_map.specs.CellMap.{Passes};
-ghost use Rattle.frame_records.specs.Frames.{places};
+ghost use Rattle.plp_config.specs.Places.{places};
 ghost use Rattle.frame_records.specs.Laws.{rest_size};
 ghost use Rattle.record_writer.specs.Front.{most_dynamic};
 ghost use Rattle.record_writer.specs.Laws.{post_size};

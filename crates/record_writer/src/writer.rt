@@ -180,9 +180,10 @@ impl Writer {
     ghost use Rattle.record_writer.specs.Front.{front_bytes, most_dynamic};
     ghost use Rattle.record_writer.specs.declared.step.Step.TheVariants.{Blocks};
     ghost use Rattle.site_frame.specs.Record.{head_bytes, muted_kind};
-    ghost use Rattle.record_writer.specs.RecordBytes.{AreShort};
+    ghost use Rattle.linked_pool.specs.Pool.{used_chunks};
+    ghost use Rattle.record_writer.specs.RecordBytes.{AreShort, piece_len};
     ghost use Rattle.record_writer.specs.Steps.{step_bytes, HasMap, HasLists};
-    ghost use Rattle.record_writer.specs.Writes.{bytes_left, IsReady, IsLast, is_done};
+    ghost use Rattle.record_writer.specs.Writes.{bytes_left, most_record, IsReady, IsLast, is_done};
 
     /// Nothing to write. It takes all the memory that it needs.
     pub fn open(alloc: Global) -> Result<Writer, OutOfMemory>
@@ -221,6 +222,7 @@ impl Writer {
         requires conf { conf.now ≡ conf_bits (conf_of plan.now) }
         requires short { length dynamic ≤ most_dynamic }
         ensures left { (shape : FrameShape) (lists : List (List (List ℕ))) → bytes_left self.new plan.now shape lists ≡ front_bytes plan.now moment.now dynamic.entry blocks rest ++ step_bytes plan.now shape lists (Blocks 0) }
+        ensures most { (shape : FrameShape) (lists : List (List (List ℕ))) → length (bytes_left self.new plan.now shape lists) ≤ most_record plan.now (used_chunks lists) }
         ensures ready { (shape : FrameShape) (lists : List (List (List ℕ))) → HasMap plan.now shape → HasLists plan.now lists → IsReady self.new plan.now shape lists }
         ensures done { is_done self.new ≡ false }
     {
@@ -233,6 +235,7 @@ impl Writer {
     /// Begins the record of a muted frame.
     pub fn begin_muted(&mut self, moment: &Moment)
         ensures left { (c : Config) (shape : FrameShape) (lists : List (List (List ℕ))) → bytes_left self.new c shape lists ≡ head_bytes muted_kind moment.now 0 }
+        ensures most { (c : Config) (shape : FrameShape) (lists : List (List (List ℕ))) → length (bytes_left self.new c shape lists) ≤ piece_len }
         ensures last { IsLast self.new }
         ensures ready { (c : Config) (shape : FrameShape) (lists : List (List (List ℕ))) → IsReady self.new c shape lists }
         ensures done { is_done self.new ≡ false }

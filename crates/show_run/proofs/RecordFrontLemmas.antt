@@ -5,59 +5,13 @@ use Rattle.std.proofs.Math.ListN.{get_or-append}
 use Rattle.std.proofs.lemmas.List.{take-append-le, take-append-drop, drop-append-le, drop_at, length-append, length-drop, length-take-le}
 use Rattle.byteorder.specs.Endian.{big_number, big_bytes}
 use Rattle.byteorder.specs.Numbers.{big_number-reads_back, big_from-append, length-bytes_high_first}
+use Rattle.site_frame.proofs.HeadLemmas.{same_at, told_on, head_on, head_back, kind_on, kind_back}
 use Rattle.plp_config.specs.declared.moment.Moment.{Moment}
 use Rattle.site_frame.specs.Record.{head_len, head_bytes}
 use Rattle.site_frame.specs.Whole.{kind_of, moment_of, HasRest, Spells, HasHead, HasKind, told_len, told_rest, HasLength, Refuses, Follow}
 use Rattle.site_frame.specs.declared.fault.RecordWhy.{RecordWhy}
 use Rattle.site_frame.specs.declared.fault.RecordWhy.TheVariants.{Head, Kind, Length, Order, OffGrid}
 use Rattle.show_run.specs.RecordFile.{Announces}
-
--- the bytes of a head stand where they stood
-same_at : (bytes more : List ℕ) → head_len ≤ length bytes → (i : ℕ) → i < head_len → slice_index (bytes ++ more) i ≡ slice_index bytes i
-same_at bytes more long i less = get_or-append bytes more 0 i (omega (arith, long, less))
-
--- and tell the same length
-told_on : (bytes more : List ℕ) → head_len ≤ length bytes → told_len (bytes ++ more) ≡ told_len bytes
-told_on bytes more long =
-    let n = length-drop {A = ℕ} 20 bytes in
-    ap (big_number 4) (drop-append-le 20 bytes more (omega (arith, long))) ∙ big_from-append 4 (drop 20 bytes) more (omega (arith, n, long))
-
-head_on : (bytes more : List ℕ) → head_len ≤ length bytes → HasHead bytes → HasHead (bytes ++ more)
-head_on bytes more long h =
-    let at = same_at bytes more long in
-    record {
-      whole = omega (arith, long, length-append bytes more);
-      first = at 0 (omega arith) ∙ h.first;
-      second = at 1 (omega arith) ∙ h.second;
-      third = at 2 (omega arith) ∙ h.third;
-      fourth = at 3 (omega arith) ∙ h.fourth;
-      zero0 = at 5 (omega arith) ∙ h.zero0;
-      zero1 = at 6 (omega arith) ∙ h.zero1;
-      zero2 = at 7 (omega arith) ∙ h.zero2;
-    }
-
-head_back : (bytes more : List ℕ) → head_len ≤ length bytes → HasHead (bytes ++ more) → HasHead bytes
-head_back bytes more long h =
-    let at = same_at bytes more long in
-    record {
-      whole = long;
-      first = sym (at 0 (omega arith)) ∙ h.first;
-      second = sym (at 1 (omega arith)) ∙ h.second;
-      third = sym (at 2 (omega arith)) ∙ h.third;
-      fourth = sym (at 3 (omega arith)) ∙ h.fourth;
-      zero0 = sym (at 5 (omega arith)) ∙ h.zero0;
-      zero1 = sym (at 6 (omega arith)) ∙ h.zero1;
-      zero2 = sym (at 7 (omega arith)) ∙ h.zero2;
-    }
-
-abbrev IsKind : ℕ → Type 0
-IsKind kind = (kind ≡ 1) ⊎ (kind ≡ 2)
-
-kind_on : (bytes more : List ℕ) → head_len ≤ length bytes → HasKind bytes → HasKind (bytes ++ more)
-kind_on bytes more long h = subst IsKind (sym (same_at bytes more long 4 (omega arith))) h
-
-kind_back : (bytes more : List ℕ) → head_len ≤ length bytes → HasKind (bytes ++ more) → HasKind bytes
-kind_back bytes more long h = subst IsKind (same_at bytes more long 4 (omega arith)) h
 
 -- what a head tells is the length of the rest
 told_in : (kind : ℕ) (moment : Moment) (len : ℕ) (rest : List ℕ) → len < 256 ^ 4 → told_len (head_bytes kind moment len ++ rest) ≡ len

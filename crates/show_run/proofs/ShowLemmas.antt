@@ -270,13 +270,13 @@ some_left one none sizes start now old new name place unsaid x some =
     )) x.inputs (some_said start now old new name place unsaid x (λ all. absurd (some all)))
 
 -- nothing was done
-pub shows_none : (old new : State) (name : List ℕ) → new ≡ old → shows old new name (Err OutOfMemory)
-shows_none old new name s = record {
+pub shows_none : (IsText : List ℕ → ℕ → Result ℕ ShowStop → List ℕ → Type 0) → ((file : List ℕ) → IsText file 0 (Err OutOfMemory) []) → (old new : State) (name : List ℕ) → new ≡ old → Shows IsText old new name (Err OutOfMemory)
+shows_none IsText nothing old new name s = record {
   given = 0;
   text = [];
   reads = s;
   grew = ap (λ (x : State). x.said) s ∙ append-none old.said;
-  lines = if_any old.held _ (λ held. refl);
+  lines = if_any old.held _ (λ held. nothing (bytes_of held.files name));
   counts = ap (λ (x : State). x.counts) s;
 }
 
@@ -334,5 +334,5 @@ shows_stop one none sizes start now old new name WriteFault s =
       lines = some_left one none sizes start now old new name s.1.0 s.1.1 x s.1.3;
       counts = s.0;
     }
-shows_stop one none sizes start now old new name OutOfMemory s = shows_none old new name s
+shows_stop one none sizes start now old new name OutOfMemory s = shows_none IsPacketText (λ file. refl) old new name s
 shows_stop one none sizes start now old new name NoRoom s = absurd s

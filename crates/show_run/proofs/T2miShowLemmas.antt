@@ -4,6 +4,7 @@ use Rattle.std.specs.Prelude.{◌⊎◌, nat_lt, IfSome, Result, Ok, Err}
 use Rattle.std.proofs.lemmas.List.{take-append-drop, map-append}
 use Rattle.std.proofs.lemmas.Option.{IfSome_then}
 use Rattle.terms.proofs.OptionLemmas.{if_any, if_both, append-none}
+use Rattle.show_run.proofs.ShowLemmas.{shows_none}
 use Rattle.ports.specs.Desk.{State, Held, bytes_of}
 use Rattle.desk_io.specs.Reading.{most_bytes}
 use Rattle.desk_io.specs.declared.input.TheConstants.{BUFFER}
@@ -130,16 +131,6 @@ some_said front behind start now old new name place unsaid x wants = if_both old
     go held f first (inr (inl none)) = none_first (t2mi_packets_in (bytes_of held.files name)) (gave x.early) (ap gave none)
     go held f first (inr (inr gives)) = first_shown front behind (bytes_of held.files name) x.mid x.early (gives_waits x.mid.search (is_ready x.mid.unpiper) (SIZE - x.mid.from) x.mid.line gives) first x.met.shown
 
-pub t2mi_none : (old new : State) (name : List ℕ) → new ≡ old → shows old new name (Err OutOfMemory)
-t2mi_none old new name s = record {
-  given = 0;
-  text = [];
-  reads = s;
-  grew = ap (λ (x : State). x.said) s ∙ append-none old.said;
-  lines = if_any old.held _ (λ held. refl);
-  counts = ap (λ (x : State). x.counts) s;
-}
-
 pub t2mi_stop : AcceptedFront → PacketsBehind → (start now : T2miLines) (old new : State) (name : List ℕ) (why : ShowStop) → StopsLines (Comes start) next_of old new name now why → shows old new name (Err why)
 t2mi_stop front behind start now old new name (PacketRefused at why) s = absurd s
 t2mi_stop front behind start now old new name (RecordRefused number why) s = absurd s
@@ -186,5 +177,5 @@ t2mi_stop front behind start now old new name WriteFault s =
       lines = some_said front behind start now old new name s.1.0 s.1.1 x (λ none. absurd (s.1.3 none));
       counts = s.0;
     }
-t2mi_stop front behind start now old new name OutOfMemory s = t2mi_none old new name s
+t2mi_stop front behind start now old new name OutOfMemory s = shows_none IsT2miText (λ file. refl) old new name s
 t2mi_stop front behind start now old new name NoRoom s = absurd s

@@ -8,7 +8,7 @@ use Rattle.t2mi_stream.specs.Events as stream
 use Rattle.t2mi_stream.specs.FirstPid.{pid_of, TellsNone, t2mi_packets_in}
 use Rattle.t2mi_stream.specs.Skipping.{further}
 use Rattle.t2mi_stream.specs.Units.{accepted_of}
-use Rattle.t2mi_stream.specs.UnpiperStandsFor.{UnpiperStandsFor, is_ready, unit_place}
+use Rattle.t2mi_stream.specs.UnpiperStandsFor.{UnpiperStandsFor, is_ready, steps_left}
 use Rattle.t2mi_stream.specs.declared.unpiper.Unpiper.{Unpiper}
 use Rattle.file_run.specs.Events.{Event, fed, has_ended, gave}
 use Rattle.file_run.specs.declared.machine.Step.{Step}
@@ -32,10 +32,6 @@ next_in Finished ready left (c ∷ line) = Give
 
 abbrev pub next_of : T2miLines → Step
 next_of m = next_in m.search (is_ready m.unpiper) (SIZE - m.from) m.line
-
--- how often packets can be given up before the unpiper takes bytes
-abbrev pub steps_left : Unpiper → ℕ
-steps_left u = 2 * (SIZE - unit_place u) + (if is_ready u then 1 else 0)
 
 -- more than an unpiper and a line can have left, so each byte that is taken makes less of all
 abbrev pub most_steps : ℕ

@@ -22,17 +22,23 @@ usage: site_cli plan CONFIG
          shows the records of T2 frames in FILE, a line each
        site_cli gateway CONFIG OUT IN..
          writes to OUT the T2-MI stream of a network from one transport stream IN for each PLP, in the order of CONFIG
+       site_cli modulate CONFIG IN OUT
+         writes to OUT the records of the T2 frames that a modulator makes from the T2-MI stream IN
 ";
 
-// Whether the words are those of `gateway`, which has several files.
+// Whether the words are those of `gateway`, which has several inputs.
 fn is_gateway(words: &[Word]) -> bool {
     words.len() >= 3 && words[0].as_str() == "gateway"
+}
+
+fn is_modulate(words: &[Word]) -> bool {
+    words.len() == 4 && words[0].as_str() == "modulate"
 }
 
 fn say_usage(rt: &impl Eprint, words: &[Word]) -> io::Result<()> {
     if words.iter().any(|word| word.as_str().is_empty()) {
         eprint!(rt; "a word is empty or not UTF-8\n{COMMANDS}")
-    } else if is_gateway(words) {
+    } else if is_gateway(words) || is_modulate(words) {
         eprint!(rt; "OUT must be neither CONFIG nor an IN\n{COMMANDS}")
     } else {
         eprint!(rt; "these words are no command\n{COMMANDS}")
@@ -139,6 +145,12 @@ fn say(
             "{}: packet {packet}, counted from 0, does not begin with the sync byte 0x47, or the file ends inside it; OUT holds the units of the frames before; mend the file",
             Shown(word_at(words, 3 + usize::from(input)))
         ),
+        Outcome::NoSuperframe => eprintln!(rt;
+            "{file}: no superframe begins in it with a frame that passes the tests; see that it is the T2-MI stream of the network of CONFIG, on its PID"
+        ),
+        Outcome::TooLong { count: MOST_FRAMES } if is_modulate(words) => eprintln!(rt;
+            "{file}: frame {MOST_FRAMES} of CONFIG comes in it; the records before it were written; what is behind it wants a CONFIG that starts later"
+        ),
         Outcome::TooLong { count: MOST_FRAMES } => eprintln!(rt;
             "the inputs go on for more than {MOST_FRAMES} frames; what was written stays, give the rest to another run"
         ),
@@ -165,7 +177,8 @@ fn word_at(words: &[Word], place: usize) -> &str {
 fn file_of(words: &[Word], outcome: Outcome) -> &str {
     match outcome {
         Outcome::TooLong { .. } if is_gateway(words) => "an IN",
-        _ if is_gateway(words) => word_at(words, 1),
+        Outcome::TooLong { .. } | Outcome::NoSuperframe if is_modulate(words) => word_at(words, 2),
+        _ if is_gateway(words) || is_modulate(words) => word_at(words, 1),
         _ => words.last().map_or("", |word| word.as_str()),
     }
 }

@@ -5,7 +5,7 @@ use Rattle.std.proofs.Math.ListN.{get_or-append}
 use Rattle.std.specs.List.{concat}
 use Rattle.std.proofs.lemmas.List.{take_at, take_all, take-append-drop, drop-append-le, length-append, length-take, length-drop, length-replicate}
 use Rattle.byteorder.specs.Endian.{big_number}
-use Rattle.byteorder.specs.Numbers.{big_from-take}
+use Rattle.byteorder.specs.Numbers.{big_from-append}
 use Rattle.plp_config.specs.declared.moment.Moment.{Moment}
 use Rattle.site_frame.specs.Record.{frame_kind, muted_kind, head_len, head_bytes, FitsMoment}
 use Rattle.site_frame.specs.Whole.{greatest_rest, least_rest, kind_of, moment_of, HasRest, Spells, BeginsWith, written_rest, record_bytes, record_len, FitsRest, FitsRecord, HasHead, HasKind, told_moment, told_len, told_rest, HasLength, Refuses, CanFollow, Follow, RefusesHead, IsRight, IsRightAlone, HasBadLength, IsWrong}
@@ -17,24 +17,21 @@ use Rattle.site_frame.proofs.FieldLemmas.{IsBytes, IsBytes-drop, wide4, wide8}
 use Rattle.site_frame.proofs.WholeLemmas.{head_taken, read_begun}
 use Rattle.site_frame.proofs.LawLemmas.{no_refusal, has_len, written_length, written_spells}
 
--- the bytes of the head stand where they stood
-same_at : (head more : List ℕ) → length head ≡ 24 → (i : ℕ) → i < 24 → slice_index (head ++ more) i ≡ slice_index head i
-same_at head more e i less = get_or-append head more 0 i (omega (arith, e, less))
-
-number_on : (bytes more : List ℕ) → length bytes ≡ 4 → big_number 4 (bytes ++ more) ≡ big_number 4 bytes
-number_on bytes more e = sym (big_from-take 0 4 4 (bytes ++ more) (omega arith)) ∙ ap (big_number 4) (take_at bytes more 4 e)
+-- the bytes of a head stand where they stood
+pub same_at : (bytes more : List ℕ) → head_len ≤ length bytes → (i : ℕ) → i < head_len → slice_index (bytes ++ more) i ≡ slice_index bytes i
+same_at bytes more long i less = get_or-append bytes more 0 i (omega (arith, long, less))
 
 -- and tell the same length
-same_len : (head more : List ℕ) → length head ≡ 24 → told_len (head ++ more) ≡ told_len head
-same_len head more e =
-    let four : length (drop 20 head) ≡ 4 = omega (arith, e, length-drop {A = ℕ} 20 head) in
-    ap (big_number 4) (drop-append-le 20 head more (omega (arith, e))) ∙ number_on (drop 20 head) more four
+pub told_on : (bytes more : List ℕ) → head_len ≤ length bytes → told_len (bytes ++ more) ≡ told_len bytes
+told_on bytes more long =
+    let n = length-drop {A = ℕ} 20 bytes in
+    ap (big_number 4) (drop-append-le 20 bytes more (omega (arith, long))) ∙ big_from-append 4 (drop 20 bytes) more (omega (arith, n, long))
 
-head_on : (head more : List ℕ) → length head ≡ 24 → HasHead head → HasHead (head ++ more)
-head_on head more e h =
-    let at = same_at head more e in
+pub head_on : (bytes more : List ℕ) → head_len ≤ length bytes → HasHead bytes → HasHead (bytes ++ more)
+head_on bytes more long h =
+    let at = same_at bytes more long in
     record {
-      whole = omega (arith, e, length-append head more);
+      whole = omega (arith, long, length-append bytes more);
       first = at 0 (omega arith) ∙ h.first;
       second = at 1 (omega arith) ∙ h.second;
       third = at 2 (omega arith) ∙ h.third;
@@ -44,11 +41,11 @@ head_on head more e h =
       zero2 = at 7 (omega arith) ∙ h.zero2;
     }
 
-head_back : (head more : List ℕ) → length head ≡ 24 → HasHead (head ++ more) → HasHead head
-head_back head more e h =
-    let at = same_at head more e in
+pub head_back : (bytes more : List ℕ) → head_len ≤ length bytes → HasHead (bytes ++ more) → HasHead bytes
+head_back bytes more long h =
+    let at = same_at bytes more long in
     record {
-      whole = omega (arith, e);
+      whole = long;
       first = sym (at 0 (omega arith)) ∙ h.first;
       second = sym (at 1 (omega arith)) ∙ h.second;
       third = sym (at 2 (omega arith)) ∙ h.third;
@@ -61,11 +58,11 @@ head_back head more e h =
 abbrev IsKind : ℕ → Type 0
 IsKind kind = (kind ≡ 1) ⊎ (kind ≡ 2)
 
-kind_on : (head more : List ℕ) → length head ≡ 24 → HasKind head → HasKind (head ++ more)
-kind_on head more e h = subst IsKind (sym (same_at head more e 4 (omega arith))) h
+pub kind_on : (bytes more : List ℕ) → head_len ≤ length bytes → HasKind bytes → HasKind (bytes ++ more)
+kind_on bytes more long h = subst IsKind (sym (same_at bytes more long 4 (omega arith))) h
 
-kind_back : (head more : List ℕ) → length head ≡ 24 → HasKind (head ++ more) → HasKind head
-kind_back head more e h = subst IsKind (same_at head more e 4 (omega arith)) h
+pub kind_back : (bytes more : List ℕ) → head_len ≤ length bytes → HasKind (bytes ++ more) → HasKind bytes
+kind_back bytes more long h = subst IsKind (same_at bytes more long 4 (omega arith)) h
 
 -- a muted record has no rest, and that of a frame has its numbers
 no_rest : (view : RecordView) (rest : List ℕ) → kind_of view ≡ muted_kind → HasRest view rest → length rest ≡ 0
@@ -82,21 +79,21 @@ rest_size bytes h = omega (arith, h.inside, length-take (told_len bytes) (drop 2
 
 -- a length that is bad is so whatever follows
 bad_on : (head more : List ℕ) → length head ≡ 24 → HasBadLength head → ¬ (HasLength (head ++ more))
-bad_on head more e (inl great) h = absurd (omega (arith, great, h.small, same_len head more e))
+bad_on head more e (inl great) h = absurd (omega (arith, great, h.small, told_on head more (omega (arith, e))))
 bad_on head more e (inr (inl muted)) h =
-    let kind : kind_of h.view ≡ muted_kind = h.kind ∙ same_at head more e 4 (omega arith) ∙ muted.0 in
+    let kind : kind_of h.view ≡ muted_kind = h.kind ∙ same_at head more (omega (arith, e)) 4 (omega arith) ∙ muted.0 in
     let none : length (told_rest (head ++ more)) ≡ 0 = no_rest h.view (told_rest (head ++ more)) kind h.parts in
-    absurd (omega (arith, none, muted.1, same_len head more e, rest_size (head ++ more) h))
+    absurd (omega (arith, none, muted.1, told_on head more (omega (arith, e)), rest_size (head ++ more) h))
 bad_on head more e (inr (inr short)) h =
-    let kind : kind_of h.view ≡ frame_kind = h.kind ∙ same_at head more e 4 (omega arith) ∙ short.0 in
+    let kind : kind_of h.view ≡ frame_kind = h.kind ∙ same_at head more (omega (arith, e)) 4 (omega arith) ∙ short.0 in
     let some : least_rest ≤ length (told_rest (head ++ more)) = some_rest h.view (told_rest (head ++ more)) kind h.parts in
-    absurd (omega (arith, some, short.1, same_len head more e, rest_size (head ++ more) h))
+    absurd (omega (arith, some, short.1, told_on head more (omega (arith, e)), rest_size (head ++ more) h))
 
 -- the head is refused with anything behind it
 pub refuses_head : (head : List ℕ) (why : RecordWhy) → length head ≡ 24 → IsWrong head why → RefusesHead head why
-refuses_head head Head e w more = λ h. w (head_back head more e h)
-refuses_head head Kind e w more = (head_on head more e w.0, λ h. w.1 (kind_back head more e h))
-refuses_head head Length e (is, kind, bad) more = (head_on head more e is, kind_on head more e kind, bad_on head more e bad)
+refuses_head head Head e w more = λ h. w (head_back head more (omega (arith, e)) h)
+refuses_head head Kind e w more = (head_on head more (omega (arith, e)) w.0, λ h. w.1 (kind_back head more (omega (arith, e)) h))
+refuses_head head Length e (is, kind, bad) more = (head_on head more (omega (arith, e)) is, kind_on head more (omega (arith, e)) kind, bad_on head more e bad)
 refuses_head head Order e w more = w
 refuses_head head OffGrid e w more = w
 
@@ -164,11 +161,11 @@ follow head rest fits e alone =
       small = r.small;
       exact = λ more view len begins.
           let read = read_begun (head ++ more) view len begins in
-          omega (arith, read.end, same_len head more e, r.told);
+          omega (arith, read.end, told_on head more (omega (arith, e)), r.told);
       fewer = λ more few. (
-        head_on head more e r.head,
-        kind_on head more e r.kind,
-        λ h. let never : ⊥ = omega (arith, h.inside, same_len head more e, r.told, few, e, length-append head more) in never,
+        head_on head more (omega (arith, e)) r.head,
+        kind_on head more (omega (arith, e)) r.kind,
+        λ h. let never : ⊥ = omega (arith, h.inside, told_on head more (omega (arith, e)), r.told, few, e, length-append head more) in never,
       );
     }
 

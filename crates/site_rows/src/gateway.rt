@@ -1,24 +1,14 @@
 // `gateway CONFIG OUT IN..`. Expected values come from worked examples.
 ghost use Rattle.std.specs.Prelude.{◌<◌};
 
-use crate::runs::words_of;
+use crate::runs::{DATA, LOADED, NETWORK, SMALL, packets, words_of};
 use ports::MemoryDesk;
 use site_top::{Outcome, run};
 use std::alloc::Global;
 use std::process::Abort;
 use std::test::Fail;
 
-// A network of 8 MHz, by its PLPs.
-const NETWORK: &str =
-    "t2-gateway 1\nbandwidth 8\nframe 100000 2 40000\nstart 700000000 0 5\npid 256\nnetwork 1 2 3 474000000\nl1 0 6 1 0 1 0 0 1000 6 0 59 0\nsubslices 1\n";
-
-// One PLP, of which a frame wants 14 or 15 packets.
-const SMALL: &str = "plp 0 type1 1 1/2 qpsk short 0 4 1 delete 2000000\n";
-
 const KEPT: &str = "plp 0 type1 1 1/2 qpsk short 0 4 1 keep 2000000\n";
-
-// One that sends as much as a frame carries.
-const LOADED: &str = "plp 0 type1 1 1/2 qpsk short 0 3 1 delete 1906000\n";
 
 // Two of a quarter of the rate: the first frame that wants packets wants 3 of each.
 const TWO: &str =
@@ -48,24 +38,12 @@ packets=6
 
 const NULL: [u8; 4] = [0x47, 0x1F, 0xFF, 0x10];
 
-const DATA: [u8; 4] = [0x47, 0x01, 0x00, 0x10];
-
 // How a run ended, what it said, and what the file OUT holds if there is one.
 #[derive(Drop)]
 struct Ended {
     outcome: Outcome,
     said: Vec<u8>,
     out: Option<Vec<u8>>,
-}
-
-// So many packets with this head, and another byte in all the rest.
-fn packets(alloc: Global, count: usize, head: [u8; 4], rest: u8) -> Result<Vec<u8>, Fail> {
-    let mut bytes = Vec::new(alloc);
-    for _ in 0..count {
-        bytes.extend_from_slice(&head)?;
-        bytes.extend_from_slice(&[rest; 184])?;
-    }
-    Ok(bytes)
 }
 
 // Takes the sync byte from a packet.

@@ -6,6 +6,8 @@ mod configuration;
 #[cfg(test)]
 mod gateway;
 #[cfg(test)]
+mod modulate;
+#[cfg(test)]
 mod runs;
 #[cfg(test)]
 mod show_frames;

@@ -1,8 +1,13 @@
 -- Every command is complete: where nothing outside fails, it ends as its files say.
-use Rattle.std.proofs.Common.{◌≡◌, ◌⊎◌, ℕ, ◌<◌, ◌≤◌, ◌^◌, inl, inr, ⊎_elim, List, length, Option, Some, None, refl, sym, subst, ◌∙◌, arith}
-use Rattle.std.specs.Prelude.{IfSome, option_map, Result, Ok, Err}
+use Rattle.std.proofs.Common.{◌≡◌, ◌≢◌, ◌⊎◌, ℕ, ◌<◌, ◌≤◌, ◌^◌, inl, inr, ⊎_elim, List, [], ◌∷◌, length, Option, Some, None, refl, ap, sym, subst, ◌∙◌, arith}
+use Rattle.std.specs.Prelude.{IfSome, option_map, nat_lt, Result, Ok, Err}
+use Rattle.std.specs.List.{list_all}
 use Rattle.std.proofs.lemmas.Option.{IfSome_then}
+use Rattle.std.proofs.lemmas.Bool.{ltb-true}
+use Rattle.std.proofs.lemmas.List.Folds.{list_all-append}
+use Rattle.terms.proofs.CaseLemmas.{both}
 use Rattle.terms.proofs.OptionLemmas.{if_any, if_both}
+use Rattle.frame_groups.specs.Modulated.{FrameRecord}
 use Rattle.ports.specs.Counts.{Rose}
 use Rattle.ports.specs.Desk.{State, Held, SameCounts, with_name, bytes_of}
 use Rattle.plp_config.specs.Capacity.{IsPlan}
@@ -18,6 +23,13 @@ use Rattle.gateway_run.specs.Laws.{MustRun, OneRun}
 use Rattle.gateway_run.specs.declared.stop.Ran.{Ran}
 use Rattle.gateway_run.specs.declared.stop.RunStop.{RunStop}
 use Rattle.gateway_run.specs.declared.stop.RunStop.TheVariants as run
+use Rattle.modulate_run.specs.Counted.{counted}
+use Rattle.modulate_run.specs.Laws.{MustRun as ModulateMust, OneRun as OneModulation}
+use Rattle.modulate_run.specs.ModulateRun as modulating
+use Rattle.modulate_run.specs.ModulateRun.{records_of, AreEarly, HasEarly}
+use Rattle.modulate_run.specs.declared.stop.Ran.{Ran as Modulated}
+use Rattle.modulate_run.specs.declared.stop.RunStop.{RunStop as ModulateStop}
+use Rattle.modulate_run.specs.declared.stop.RunStop.TheVariants as modulate
 use Rattle.show_run.specs.PacketText.{IsPacketText}
 use Rattle.show_run.specs.RecordText.{IsRecordText}
 use Rattle.show_run.specs.Shows.{Counted}
@@ -27,14 +39,15 @@ use Rattle.show_run.specs.declared.stop.ShowStop.TheVariants as show
 use Rattle.ts_packet.specs.TsFile.{HasBad}
 use Rattle.site_top.specs.declared.outcome.Outcome.{Outcome}
 use Rattle.site_top.specs.declared.outcome.Outcome.TheVariants.{Done, WriteFault, OutOfMemory}
-use Rattle.site_top.specs.Commands.{Command, ShowPackets, ShowT2mi, ShowFrames, ShowConfig, Plan, Gateway}
+use Rattle.site_top.specs.Commands.{Command, ShowPackets, ShowT2mi, ShowFrames, ShowConfig, Plan, Gateway, Modulate}
 use Rattle.site_top.specs.ConfigCommands.{ShowsConfig, Plans}
 use Rattle.site_top.specs.GatewayCommand.{gateway_line, RunsAndTells, Follows, Gateways}
 use Rattle.site_top.specs.Laws.{OneEnding, Completeness}
-use Rattle.site_top.specs.Outcomes.{shown_outcome, config_outcome, stopped_outcome, ran_outcome}
+use Rattle.site_top.specs.ModulateCommand.{modulate_line, RunsAndTells as ModulatesAndTells, Modulates}
+use Rattle.site_top.specs.Outcomes.{shown_outcome, config_outcome, stopped_outcome, ran_outcome, modulate_stopped, modulate_outcome}
 use Rattle.site_top.specs.Runs.{AreShort, MustEnd, IsComplete}
 use Rattle.site_top.specs.Saying.{Tells}
-use Rattle.site_top.proofs.EndingLemmas.{EndsIfShort, ended_so}
+use Rattle.site_top.proofs.EndingLemmas.{EndsIfShort, ended_so, ModulatesIfShort, modulated_so, unplanned_so}
 
 -- How a run came to its outcome: by its files, if something is so of what must be; or by a fault, or want of memory.
 abbrev By : (State → State → Outcome → Type 0)
@@ -217,13 +230,68 @@ gateway_so one run old new config out ins result (inl (stop, none, is)) =
     (no_plan old new config stop none)
 gateway_so one run old new config out ins result (inr (c, mid, gives, plan, follows)) = follows_so one run old mid new config out ins c result gives plan follows
 
-pub is_complete : OneEnding → OnePlan → OneRun → Completeness
-is_complete law one run (ShowPackets file) old new result s =
+-- ---- `modulate`
+
+-- How a run ended over an input that is not too long is how it must end.
+abbrev ModulationMust : State → List ℕ → Config → Outcome → Type 0
+ModulationMust mid file c outcome = IfSome mid.held (λ h. ModulatesIfShort (bytes_of h.files file) c outcome)
+
+not_early : (c : Config) (file bytes : List ℕ) → HasEarly c file bytes → ¬ (AreEarly (records_of c file))
+not_early c file bytes h all =
+    let front = list_all-append (λ (x : FrameRecord). nat_lt x.number MOST_FRAMES) h.before (h.next ∷ h.after) in
+    let whole = sym (ap (list_all (λ (x : FrameRecord). nat_lt x.number MOST_FRAMES)) h.all ∙ front) ∙ all in
+    let next = (both (list_all (λ (x : FrameRecord). nat_lt x.number MOST_FRAMES) h.before) _ whole).1 in
+    let less = ltb-true h.next.number MOST_FRAMES (both (nat_lt h.next.number MOST_FRAMES) _ next).0 in
+    let n = h.number in
+    absurd (omega (arith, less, n))
+
+modulate_stops : (c : Config) (mid new : State) (file out : List ℕ) (stop : ModulateStop) → modulating.Stops c mid new file out stop → ModulationMust mid file c (modulate_stopped stop) ⊎ By mid new (modulate_stopped stop)
+modulate_stops c mid new file out modulate.NoSuperframe s = inl (IfSome_then mid.held s.none (λ h none. λ short. (Err modulate.NoSuperframe, none, refl)))
+modulate_stops c mid new file out (modulate.TooLong count) (inl (is, s)) = inl (IfSome_then mid.held s.long (λ h long. λ short. let most = long.1 in absurd (omega (arith, most, short))))
+modulate_stops c mid new file out (modulate.TooLong count) (inr (is, s)) =
+    inl (IfSome_then mid.held s.works.holds (λ h w. λ short. (Err (modulate.TooLong count), (is, not_early c (bytes_of h.files file) w.2.0 w.2.2), refl)))
+modulate_stops c mid new file out modulate.ReadFault s = inr (inl s.0.rose)
+modulate_stops c mid new file out modulate.WriteFault s = inr (inr (inl s.0.rose))
+modulate_stops c mid new file out modulate.OutOfMemory s = inr (inr (inr refl))
+
+modulate_ends : (c : Config) (mid after : State) (file out : List ℕ) (ran : Modulated) → modulating.RunsAll c mid after file out ran → ModulationMust mid file c Done
+modulate_ends c mid after file out ran r =
+    if_both mid.held (λ h. AreEarly (records_of c (bytes_of h.files file)) × (ran ≡ counted (records_of c (bytes_of h.files file)))) (λ h. records_of c (bytes_of h.files file) ≢ [])
+    (λ h. ModulatesIfShort (bytes_of h.files file) c Done) (λ h more some. λ short. (Ok ran, (some, more.0, more.1), refl))
+    (if_both mid.held (λ h. AreEarly (records_of c (bytes_of h.files file))) (λ h. ran ≡ counted (records_of c (bytes_of h.files file)))
+    (λ h. AreEarly (records_of c (bytes_of h.files file)) × (ran ≡ counted (records_of c (bytes_of h.files file)))) (λ h early is. (early, is)) r.early r.ran_is)
+    r.some
+
+modulate_ways : (old mid new : State) (file out : List ℕ) (c : Config) (outcome : Outcome) → SameCounts old mid → ModulatesAndTells mid new file out c outcome → ModulationMust mid file c outcome ⊎ By old new outcome
+modulate_ways old mid new file out c outcome same (inl (stop, stops, is)) =
+    ⊎_elim (λ m. inl (subst (ModulationMust mid file c) (sym is) m)) (λ by. inr (by_before old mid new outcome same (subst (By mid new) (sym is) by))) (modulate_stops c mid new file out stop stops)
+modulate_ways old mid new file out c outcome same (inr (ran, after, runs, tells)) =
+    ⊎_elim
+    (λ (done : outcome ≡ Done). inl (subst (ModulationMust mid file c) (sym done) (modulate_ends c mid after file out ran runs)))
+    inr
+    (told old after new (modulate_line ran) outcome (runs.counts ∙ same) tells)
+
+modulate_so : OnePlan → OneModulation → (old new : State) (config file out : List ℕ) (result : Outcome) → Modulates old new config file out result → IsComplete (Modulate config file out) old new result
+modulate_so one run old new config file out result (inl (stop, none, is)) =
+    ⊎_elim
+    (λ s. IfSome_then old.held s (λ held x. λ outcome must r w. inl (unplanned_so one held config file out stop result outcome x is must)))
+    (λ by. failed (Modulate config file out) old new result (subst (By old new) (sym is) by))
+    (no_plan old new config stop none)
+modulate_so one run old new config file out result (inr (c, mid, gives, plan, runs)) =
+    ⊎_elim
+    (λ w. if_both old.held _ _ _ (λ held x m. λ outcome must r f. inl (modulated_so one run held config file out c result outcome (x, plan) m must))
+    gives.spells (before_named config old.held mid.held _ gives.reads.opened.held w))
+    (failed (Modulate config file out) old new result)
+    (modulate_ways old mid new file out c result gives.reads.counts runs)
+
+pub is_complete : OneEnding → OnePlan → OneRun → OneModulation → Completeness
+is_complete law one run modulation (ShowPackets file) old new result s =
     subst (IsComplete (ShowPackets file) old new) (sym s.2) (packets_so law file old new s.1.given s.1.text s.0 s.1.lines s.1.counts)
-is_complete law one run (ShowT2mi file) old new result s =
+is_complete law one run modulation (ShowT2mi file) old new result s =
     subst (IsComplete (ShowT2mi file) old new) (sym s.2) (t2mi_so file old new s.1.given s.1.text s.0 s.1.lines s.1.counts)
-is_complete law one run (ShowFrames file) old new result s =
+is_complete law one run modulation (ShowFrames file) old new result s =
     subst (IsComplete (ShowFrames file) old new) (sym s.2) (records_so law file old new s.1.given s.1.text s.0 s.1.lines s.1.counts)
-is_complete law one run (ShowConfig file) old new result s = config_so law old new file result s
-is_complete law one run (Plan config) old new result s = plan_so law old new config result s
-is_complete law one run (Gateway config out ins) old new result s = gateway_so one run old new config out ins result s
+is_complete law one run modulation (ShowConfig file) old new result s = config_so law old new file result s
+is_complete law one run modulation (Plan config) old new result s = plan_so law old new config result s
+is_complete law one run modulation (Gateway config out ins) old new result s = gateway_so one run old new config out ins result s
+is_complete law one run modulation (Modulate config file out) old new result s = modulate_so one modulation old new config file out result s

@@ -1,5 +1,5 @@
 -- What a desk holds decides how a command must end.
-use Rattle.std.proofs.Common.{◌≡◌, ◌⊎◌, ℕ, inl, inr, List, length, ap, sym, subst, ◌∙◌}
+use Rattle.std.proofs.Common.{◌≡◌, ◌⊎◌, ◌<◌, ℕ, inl, inr, List, length, ap, sym, subst, ◌∙◌}
 use Rattle.std.specs.Prelude.{Result, Ok, Err}
 use Rattle.ports.specs.Desk.{Held, bytes_of}
 use Rattle.plp_config.specs.declared.config.Config.{Config}
@@ -9,12 +9,16 @@ use Rattle.file_run.specs.FileRun.{file_at}
 use Rattle.gateway_run.specs.Laws.{MustRun, OneRun}
 use Rattle.gateway_run.specs.declared.stop.Ran.{Ran}
 use Rattle.gateway_run.specs.declared.stop.RunStop.{RunStop}
+use Rattle.modulate_run.specs.Laws.{MustRun as ModulateMust, OneRun as OneModulation}
+use Rattle.modulate_run.specs.declared.stop.Ran.{Ran as Modulated}
+use Rattle.modulate_run.specs.declared.stop.RunStop.{RunStop as ModulateStop}
 use Rattle.show_run.specs.Laws.{OneEnd, OneRecordsEnd}
 use Rattle.site_top.specs.declared.outcome.Outcome.{Outcome}
-use Rattle.site_top.specs.Commands.{ShowPackets, ShowT2mi, ShowFrames, ShowConfig, Plan, Gateway}
+use Rattle.site_top.specs.Commands.{ShowPackets, ShowT2mi, ShowFrames, ShowConfig, Plan, Gateway, Modulate}
 use Rattle.site_top.specs.Laws.{OneEnding}
-use Rattle.site_top.specs.Outcomes.{shown_outcome, given_outcome, config_outcome, ran_outcome, Miscounts}
-use Rattle.site_top.specs.Runs.{AreShort, PlanMustEnd, MustEnd}
+use Rattle.site_top.specs.Outcomes.{shown_outcome, given_outcome, config_outcome, ran_outcome, modulate_outcome, Miscounts}
+use Rattle.desk_io.specs.Reading.{most_bytes}
+use Rattle.site_top.specs.Runs.{AreShort, PlanMustEnd, ModulateMustEnd, MustEnd}
 
 -- How `gateway` must end, if its inputs are not too long.
 abbrev pub RunIfShort : Held → List (List ℕ) → Config → Outcome → Type 0
@@ -63,10 +67,36 @@ ended_so one run held config out ins result outcome (inr (c, plan, ends)) (inr (
     let same : d ≡ c = ap (config_in d) (one (bytes_of held.files config) (Ok d) (Ok c) planned plan) in
     over_plan run held ins c result outcome ends (subst (λ (x : Config). PlanMustEnd held ins x outcome) same must)
 
-pub one_ending : OneEnd → OneRecordsEnd → OneConfig → OnePlan → OneRun → OneEnding
-one_ending packets records config plan run (ShowPackets file) held outcome other a b = a.1.2 ∙ ap shown_outcome (packets (bytes_of held.files file) a.1.0 b.1.0 a.1.1 b.1.1) ∙ sym b.1.2
-one_ending packets records config plan run (ShowT2mi file) held outcome other a b = a.1 ∙ sym b.1
-one_ending packets records config plan run (ShowFrames file) held outcome other a b = a.1.2 ∙ ap shown_outcome (records (bytes_of held.files file) a.1.0 b.1.0 a.1.1 b.1.1) ∙ sym b.1.2
-one_ending packets records config plan run (ShowConfig file) held outcome other a b = a.2 ∙ ap given_outcome (config (bytes_of held.files file) a.0 b.0 a.1 b.1) ∙ sym b.2
-one_ending packets records config plan run (Plan file) held outcome other a b = a.2 ∙ ap given_outcome (plan (bytes_of held.files file) a.0 b.0 a.1 b.1) ∙ sym b.2
-one_ending packets records config plan run (Gateway file out ins) held outcome other a b = ended_so plan run held file out ins outcome other (if_short held file out ins outcome a) b
+-- How `modulate` must end over a plan, if its input is not too long.
+abbrev pub ModulatesIfShort : List ℕ → Config → Outcome → Type 0
+ModulatesIfShort bytes c outcome = (length bytes < most_bytes) → (result : Result Modulated ModulateStop) × ModulateMust c bytes result × (outcome ≡ modulate_outcome result)
+
+-- how it ended so is how it must end
+pub modulated_so : OnePlan → OneModulation → (held : Held) (config file out : List ℕ) (c : Config) (result outcome : Outcome) → GivesPlan (bytes_of held.files config) (Ok c) → ModulatesIfShort (bytes_of held.files file) c result
+    → MustEnd (Modulate config file out) held outcome → result ≡ outcome
+modulated_so one run held config file out c result outcome plan mine (inl (stop, none, is)) = absurd (not_both one (bytes_of held.files config) stop c none plan)
+modulated_so one run held config file out c result outcome plan mine (inr (d, planned, must)) =
+    let same : d ≡ c = ap (config_in d) (one (bytes_of held.files config) (Ok d) (Ok c) planned plan) in
+    let m = subst (λ (x : Config). ModulateMustEnd (bytes_of held.files file) x outcome) same must in
+    let r = mine m.0 in
+    r.2 ∙ ap modulate_outcome (run c (bytes_of held.files file) r.0 m.1.0 r.1 m.1.1) ∙ sym m.1.2
+
+-- one that gives no plan decides alone
+pub unplanned_so : OnePlan → (held : Held) (config file out : List ℕ) (stop : ConfigStop) (result outcome : Outcome) → GivesPlan (bytes_of held.files config) (Err stop) → result ≡ config_outcome stop
+    → MustEnd (Modulate config file out) held outcome → result ≡ outcome
+unplanned_so one held config file out stop result outcome gives is (inl (other, none, so)) =
+    is ∙ ap (λ (g : Given). config_outcome (stop_in stop g)) (one (bytes_of held.files config) (Err stop) (Err other) gives none) ∙ sym so
+unplanned_so one held config file out stop result outcome gives is (inr (c, plan, must)) = absurd (not_both one (bytes_of held.files config) stop c gives plan)
+
+one_modulating : OnePlan → OneModulation → (held : Held) (config file out : List ℕ) (outcome other : Outcome) → MustEnd (Modulate config file out) held outcome → MustEnd (Modulate config file out) held other → outcome ≡ other
+one_modulating one run held config file out outcome other (inl (stop, gives, is)) b = unplanned_so one held config file out stop outcome other gives is b
+one_modulating one run held config file out outcome other (inr (c, plan, must)) b = modulated_so one run held config file out c outcome other plan (λ short. must.1) b
+
+pub one_ending : OneEnd → OneRecordsEnd → OneConfig → OnePlan → OneRun → OneModulation → OneEnding
+one_ending packets records config plan run modulate (ShowPackets file) held outcome other a b = a.1.2 ∙ ap shown_outcome (packets (bytes_of held.files file) a.1.0 b.1.0 a.1.1 b.1.1) ∙ sym b.1.2
+one_ending packets records config plan run modulate (ShowT2mi file) held outcome other a b = a.1 ∙ sym b.1
+one_ending packets records config plan run modulate (ShowFrames file) held outcome other a b = a.1.2 ∙ ap shown_outcome (records (bytes_of held.files file) a.1.0 b.1.0 a.1.1 b.1.1) ∙ sym b.1.2
+one_ending packets records config plan run modulate (ShowConfig file) held outcome other a b = a.2 ∙ ap given_outcome (config (bytes_of held.files file) a.0 b.0 a.1 b.1) ∙ sym b.2
+one_ending packets records config plan run modulate (Plan file) held outcome other a b = a.2 ∙ ap given_outcome (plan (bytes_of held.files file) a.0 b.0 a.1 b.1) ∙ sym b.2
+one_ending packets records config plan run modulate (Gateway file out ins) held outcome other a b = ended_so plan run held file out ins outcome other (if_short held file out ins outcome a) b
+one_ending packets records config plan run modulate (Modulate config_file file out) held outcome other a b = one_modulating plan modulate held config_file file out outcome other a b

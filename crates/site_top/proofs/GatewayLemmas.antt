@@ -3,17 +3,14 @@ use Rattle.std.proofs.Common.{◌≡◌, ◌≢◌, ℕ, zero, suc, ◌<◌, Boo
 use Rattle.std.specs.Prelude.{not, slice_index_or}
 use Rattle.std.specs.Str.{bytes_eq}
 use Rattle.std.proofs.lemmas.Slice.Eq.{bytes_eq-Decides}
+use Rattle.terms.proofs.CaseLemmas.{both}
 use Rattle.site_top.specs.Commands.{is_empty, is_input, are_inputs}
-
-both : (a b : Bool) → a && b ≡ true → (a ≡ true) × (b ≡ true)
-both true b e = (refl, e)
-both false b e = cc
 
 not_true : (b : Bool) → not b ≡ true → b ≡ false
 not_true true e = cc
 not_true false e = refl
 
-other_name : (file out : List ℕ) → is_input out file ≡ true → file ≢ out
+pub other_name : (file out : List ℕ) → is_input out file ≡ true → file ≢ out
 other_name file out e same =
     let differs : bytes_eq file out ≡ false = not_true (bytes_eq file out) (both (not (is_empty file)) (not (bytes_eq file out)) e).1 in
     let equal : bytes_eq file out ≡ true = (bytes_eq-Decides file out).1 same in

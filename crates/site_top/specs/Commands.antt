@@ -1,5 +1,5 @@
 -- The commands, and the words that name them.
-use Rattle.std.specs.Prelude.{ℕ, Bool, true, false, not, ◌&&◌, List, [], ◌∷◌, codes, if◌then◌else◌, Some, None}
+use Rattle.std.specs.Prelude.{◌≡◌, ℕ, Bool, true, false, not, ◌&&◌, List, [], ◌∷◌, codes, if◌then◌else◌, Some, None}
 use Rattle.std.specs.declared.option.Option.{Option}
 use Rattle.std.specs.Str.{bytes_eq}
 use Rattle.site_top.specs.declared.request.Request.{Request}
@@ -13,6 +13,7 @@ pub data Command : Type 0 where
   ShowConfig : List ℕ → Command
   Plan : List ℕ → Command
   Gateway : List ℕ → List ℕ → List (List ℕ) → Command
+  Modulate : List ℕ → List ℕ → List ℕ → Command
 
 abbrev pub is_empty : List ℕ → Bool
 is_empty [] = true
@@ -37,6 +38,11 @@ are_inputs out (file ∷ files) = is_input out file && are_inputs out files
 abbrev pub gateway_of : List ℕ → List ℕ → List (List ℕ) → Option Command
 gateway_of config out ins = if not (is_empty out) && are_inputs out (config ∷ ins) then Some (Gateway config out ins) else None
 
+-- the command of the words `modulate CONFIG IN OUT`
+abbrev pub modulate_of : List ℕ → List ℕ → List ℕ → List ℕ → Option Command
+modulate_of modulate config file out =
+    if bytes_eq modulate (codes "modulate") && not (is_empty out) && is_input out config && is_input out file then Some (Modulate config file out) else None
+
 -- the command of three words
 abbrev pub show_of : List ℕ → List ℕ → List ℕ → Option Command
 show_of show what file = if bytes_eq show (codes "show") && not (is_empty file) then shown what file else None
@@ -44,6 +50,7 @@ show_of show what file = if bytes_eq show (codes "show") && not (is_empty file) 
 -- the command of three words or more
 abbrev pub longer : List ℕ → List ℕ → List ℕ → List (List ℕ) → Option Command
 longer first second third [] = if bytes_eq first (codes "gateway") then gateway_of second third [] else show_of first second third
+longer first second third (fourth ∷ []) = if bytes_eq first (codes "gateway") then gateway_of second third (fourth ∷ []) else modulate_of first second third fourth
 longer first second third (fourth ∷ more) = if bytes_eq first (codes "gateway") then gateway_of second third (fourth ∷ more) else None
 
 -- the command that words name; no word of a command is empty
@@ -60,3 +67,10 @@ meant (asked.ShowFrames file) = ShowFrames file.now
 meant (asked.ShowConfig file) = ShowConfig file.now
 meant (asked.Plan config) = Plan config.now
 meant (asked.Gateway config out ins) = Gateway config.now out.now ins.now
+meant (asked.Modulate config file out) = Modulate config.now file.now out.now
+
+-- The output of a request is none of its inputs.
+abbrev pub IsApart : Request → Type 0
+IsApart (asked.Gateway config out ins) = are_inputs out.now ins.now ≡ true
+IsApart (asked.Modulate config file out) = is_input out.now file.now ≡ true
+IsApart request = Unit {0}

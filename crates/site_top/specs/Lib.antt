@@ -3,6 +3,7 @@ pub mod ConfigCommands
 pub mod Endings
 pub mod GatewayCommand
 pub mod Laws
+pub mod ModulateCommand
 pub mod Outcomes
 pub mod PlanLines
 pub mod Runs

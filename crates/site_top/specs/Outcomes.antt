@@ -16,10 +16,13 @@ use Rattle.desk_io.specs.Reading.{most_bytes}
 use Rattle.gateway_run.specs.declared.stop.Ran.{Ran}
 use Rattle.gateway_run.specs.declared.stop.RunStop.{RunStop}
 use Rattle.gateway_run.specs.declared.stop.RunStop.TheVariants as run
+use Rattle.modulate_run.specs.declared.stop.Ran.{Ran as Modulated}
+use Rattle.modulate_run.specs.declared.stop.RunStop.{RunStop as ModulateStop}
+use Rattle.modulate_run.specs.declared.stop.RunStop.TheVariants as modulate
 use Rattle.show_run.specs.declared.stop.ShowStop.{ShowStop}
 use Rattle.show_run.specs.declared.stop.ShowStop.TheVariants as show
 use Rattle.site_top.specs.declared.outcome.Outcome.{Outcome}
-use Rattle.site_top.specs.declared.outcome.Outcome.TheVariants.{Done, Usage, WrongInputs, ConfigRefused, CapacityRefused, InputRefused, RecordRefused, TooLong, PacketRefused, ReadFault, WriteFault, OutOfMemory}
+use Rattle.site_top.specs.declared.outcome.Outcome.TheVariants.{Done, Usage, WrongInputs, ConfigRefused, CapacityRefused, InputRefused, NoSuperframe, RecordRefused, TooLong, PacketRefused, ReadFault, WriteFault, OutOfMemory}
 
 -- the status that the program ends with
 abbrev pub status_of : Outcome → ℕ
@@ -29,6 +32,7 @@ status_of (WrongInputs plps inputs) = 2
 status_of (ConfigRefused cause) = 3
 status_of (CapacityRefused test plp need have) = 4
 status_of (InputRefused input packet) = 5
+status_of NoSuperframe = 6
 status_of (RecordRefused number why) = 7
 status_of (TooLong count) = 9
 status_of (PacketRefused at why) = 10
@@ -76,6 +80,7 @@ last_line (ConfigRefused (Rule rule plp)) = codes "refused: config rule " ++ dec
 last_line (CapacityRefused test plp need have) =
     codes "refused: capacity test " ++ decimal test ++ codes " plp " ++ place_word plp ++ codes " need " ++ decimal need ++ codes " have " ++ decimal have ++ codes "\n"
 last_line (InputRefused input packet) = codes "refused: input " ++ decimal input ++ codes " packet " ++ decimal packet ++ codes "\n"
+last_line NoSuperframe = codes "refused: no superframe\n"
 last_line (RecordRefused number why) = codes "refused: record " ++ decimal number ++ codes " why " ++ decimal (record_why_number why) ++ codes "\n"
 last_line (TooLong count) = codes "refused: too long " ++ decimal count ++ codes "\n"
 last_line (PacketRefused at why) = codes "refused: packet at " ++ decimal at ++ codes " why " ++ decimal (why_number why) ++ codes "\n"
@@ -120,3 +125,15 @@ stopped_outcome run.OutOfMemory = OutOfMemory
 abbrev pub ran_outcome : Result Ran RunStop → Outcome
 ran_outcome (Ok ran) = Done
 ran_outcome (Err stop) = stopped_outcome stop
+
+-- of one that makes records, whose run did not come to its end
+abbrev pub modulate_stopped : ModulateStop → Outcome
+modulate_stopped modulate.NoSuperframe = NoSuperframe
+modulate_stopped (modulate.TooLong count) = TooLong count
+modulate_stopped modulate.ReadFault = ReadFault
+modulate_stopped modulate.WriteFault = WriteFault
+modulate_stopped modulate.OutOfMemory = OutOfMemory
+
+abbrev pub modulate_outcome : Result Modulated ModulateStop → Outcome
+modulate_outcome (Ok ran) = Done
+modulate_outcome (Err stop) = modulate_stopped stop

@@ -10,6 +10,9 @@ use Rattle.file_run.specs.FileRun.{file_at}
 use Rattle.gateway_run.specs.Laws.{MustRun}
 use Rattle.gateway_run.specs.declared.stop.Ran.{Ran}
 use Rattle.gateway_run.specs.declared.stop.RunStop.{RunStop}
+use Rattle.modulate_run.specs.Laws.{MustRun as ModulateMust}
+use Rattle.modulate_run.specs.declared.stop.Ran.{Ran as Modulated}
+use Rattle.modulate_run.specs.declared.stop.RunStop.{RunStop as ModulateStop}
 use Rattle.show_run.specs.Laws.{PacketsEnd, RecordsEnd, AreBytes}
 use Rattle.show_run.specs.PacketText.{IsPacketText}
 use Rattle.show_run.specs.RecordText.{IsRecordText}
@@ -18,10 +21,11 @@ use Rattle.show_run.specs.T2miText.{IsT2miText}
 use Rattle.show_run.specs.declared.stop.ShowStop.{ShowStop}
 use Rattle.site_top.specs.declared.outcome.Outcome.{Outcome}
 use Rattle.site_top.specs.declared.outcome.Outcome.TheVariants.{Done, OutOfMemory}
-use Rattle.site_top.specs.Commands.{Command, ShowPackets, ShowT2mi, ShowFrames, ShowConfig, Plan, Gateway}
+use Rattle.site_top.specs.Commands.{Command, ShowPackets, ShowT2mi, ShowFrames, ShowConfig, Plan, Gateway, Modulate}
 use Rattle.site_top.specs.ConfigCommands.{ShowsConfig, Plans}
 use Rattle.site_top.specs.GatewayCommand.{Gateways}
-use Rattle.site_top.specs.Outcomes.{shown_outcome, given_outcome, config_outcome, ran_outcome, Miscounts}
+use Rattle.site_top.specs.ModulateCommand.{Modulates}
+use Rattle.site_top.specs.Outcomes.{shown_outcome, given_outcome, config_outcome, ran_outcome, modulate_outcome, Miscounts}
 
 -- A file is shown by the text that a definition asks for.
 abbrev pub Shows : (List ℕ → ℕ → Result ℕ ShowStop → List ℕ → Type 0) → State → State → List ℕ → Outcome → Type 0
@@ -34,6 +38,7 @@ Does (ShowFrames file) old new outcome = Shows IsRecordText old new file outcome
 Does (ShowConfig file) old new outcome = ShowsConfig old new file outcome
 Does (Plan config) old new outcome = Plans old new config outcome
 Does (Gateway config out ins) old new outcome = Gateways old new config out ins outcome
+Does (Modulate config file out) old new outcome = Modulates old new config file out outcome
 
 -- No input is too long.
 abbrev pub AreShort : Held → List (List ℕ) → Type 0
@@ -47,12 +52,17 @@ AreShortFor (ShowFrames file) held = (length (bytes_of held.files file) < most_b
 AreShortFor (ShowConfig file) held = Unit {0}
 AreShortFor (Plan config) held = Unit {0}
 AreShortFor (Gateway config out ins) held = AreShort held ins
+AreShortFor (Modulate config file out) held = length (bytes_of held.files file) < most_bytes
 
 -- How `gateway` must end over a plan: with the numbers if there is not one input for each PLP, else as the run does over inputs that
 -- are not too long.
 abbrev pub PlanMustEnd : Held → List (List ℕ) → Config → Outcome → Type 0
 PlanMustEnd held ins c outcome = Miscounts c ins outcome
     ⊎ ((length ins ≡ length c.plps) × AreShort held ins × ((result : Result Ran RunStop) × MustRun c (file_at held ins) result × (outcome ≡ ran_outcome result)))
+
+-- How `modulate` must end over a plan: as the run does over an input that is not too long.
+abbrev pub ModulateMustEnd : List ℕ → Config → Outcome → Type 0
+ModulateMustEnd bytes c outcome = (length bytes < most_bytes) × ((result : Result Modulated ModulateStop) × ModulateMust c bytes result × (outcome ≡ modulate_outcome result))
 
 -- How a command must end over what a desk holds, where nothing outside fails. If CONFIG alone decides, nothing is asked of inputs.
 abbrev pub MustEnd : Command → Held → Outcome → Type 0
@@ -66,6 +76,9 @@ MustEnd (Plan config) held outcome = (result : Result Config ConfigStop) × Give
 MustEnd (Gateway config out ins) held outcome =
     ((stop : ConfigStop) × GivesPlan (bytes_of held.files config) (Err stop) × (outcome ≡ config_outcome stop))
     ⊎ ((c : Config) × GivesPlan (bytes_of held.files config) (Ok c) × PlanMustEnd held ins c outcome)
+MustEnd (Modulate config file out) held outcome =
+    ((stop : ConfigStop) × GivesPlan (bytes_of held.files config) (Err stop) × (outcome ≡ config_outcome stop))
+    ⊎ ((c : Config) × GivesPlan (bytes_of held.files config) (Ok c) × ModulateMustEnd (bytes_of held.files file) c outcome)
 
 -- Where nothing outside fails, the files decide the outcome, unless memory runs out.
 abbrev pub IsComplete : Command → State → State → Outcome → Type 0

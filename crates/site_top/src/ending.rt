@@ -156,6 +156,7 @@ pub fn last_line(outcome: Outcome) -> Line
             have,
         } => capacity_refused_line(test, plp, need, have),
         Outcome::InputRefused { input, packet } => input_refused_line(input, packet),
+        Outcome::NoSuperframe => line_with(b"refused: no superframe\n"),
         Outcome::RecordRefused { number, why } => record_refused_line(number, why),
         Outcome::TooLong { count } => too_long_line(count),
         Outcome::PacketRefused { at, why } => packet_refused_line(at, why),

@@ -3,6 +3,7 @@ ghost use Rattle.site_top.specs.Laws.{OneEnding, CommandsHaveEnding, Completenes
 
 use config_file::{config_ends, one_config};
 use gateway_run::{one_run, run_ends};
+use modulate_run::{one_run as one_modulation, run_ends as modulation_ends};
 use show_run::{packets_end_law, records_end_law};
 
 /// The files that a desk holds decide how a run over them must end.
@@ -13,6 +14,7 @@ pub fn one_ending()
     records_end_law();
     one_config();
     one_run();
+    one_modulation();
 }
 
 /// Over files that are not too long each command has an ending.
@@ -23,6 +25,7 @@ pub fn commands_have_ending()
     records_end_law();
     config_ends();
     run_ends();
+    modulation_ends();
 }
 
 /// A command that did what it does is complete.
@@ -32,4 +35,5 @@ pub fn completeness()
     one_ending();
     one_config();
     one_run();
+    one_modulation();
 }

@@ -5,6 +5,7 @@ mod config_commands;
 mod ending;
 mod gateway;
 mod laws;
+mod modulate;
 mod outcome;
 mod plan_lines;
 mod request;

@@ -36,12 +36,14 @@ pub enum Outcome {
         input: u8,
         packet: u64,
     },
+    /// The input was read to its end, and no superframe was found to begin with.
+    NoSuperframe,
     /// No record begins where this one must, counted from 0.
     RecordRefused {
         number: u64,
         why: RecordWhy,
     },
-    /// A file gave as many bytes as no file may have, or a frame would begin of which none may have the number; `count` is that number.
+    /// A file gave as many bytes as no file may have, or a frame comes of which none may have the number; `count` is that number.
     TooLong {
         count: u64,
     },
@@ -69,6 +71,7 @@ impl Outcome {
             Outcome::ConfigRefused { .. } => 3,
             Outcome::CapacityRefused { .. } => 4,
             Outcome::InputRefused { .. } => 5,
+            Outcome::NoSuperframe => 6,
             Outcome::RecordRefused { .. } => 7,
             Outcome::TooLong { .. } => 9,
             Outcome::PacketRefused { .. } => 10,

@@ -1,7 +1,7 @@
 // What the words of the command line ask for.
-ghost use Rattle.std.specs.Prelude.{◌≡◌};
+ghost use Rattle.std.specs.Prelude.{◌≡◌, IfSome};
 ghost use Rattle.std.specs.Option.{option_map};
-ghost use Rattle.site_top.specs.Commands.{command_of, shown as shown_by, show_of as show_by, are_inputs, gateway_of as gateway_by, meant};
+ghost use Rattle.site_top.specs.Commands.{command_of, shown as shown_by, show_of as show_by, is_input, are_inputs, gateway_of as gateway_by, modulate_of as modulate_by, meant, IsApart};
 
 use ports::Word;
 
@@ -34,10 +34,17 @@ pub enum Request<'a> {
         out: &'a str,
         ins: &'a [Word],
     },
+    /// Makes the records of the frames of a network: its configuration, its T2-MI stream, and the records.
+    Modulate {
+        config: &'a str,
+        input: &'a str,
+        out: &'a str,
+    },
 }
 
 fn shown<'a>(what: &str, file: &'a str) -> Option<Request<'a>>
-    ensures { option_map meant result ≡ shown_by what.now file.now }
+    ensures named { option_map meant result ≡ shown_by what.now file.now }
+    ensures apart { IfSome result IsApart }
 {
     if what == "packets" {
         Some(Request::ShowPackets { file })
@@ -67,7 +74,8 @@ fn are_inputs(out: &str, ins: &[Word]) -> bool
 
 // The command `gateway CONFIG OUT IN..`, where the output is none of the files that are read.
 fn gateway_of<'a>(config: &'a str, out: &'a str, ins: &'a [Word]) -> Option<Request<'a>>
-    ensures { option_map meant result ≡ gateway_by config.now out.now ins.now }
+    ensures named { option_map meant result ≡ gateway_by config.now out.now ins.now }
+    ensures apart { IfSome result IsApart }
 {
     if out.is_empty() || config.is_empty() || config == out || !are_inputs(out, ins) {
         return None;
@@ -75,9 +83,33 @@ fn gateway_of<'a>(config: &'a str, out: &'a str, ins: &'a [Word]) -> Option<Requ
     Some(Request::Gateway { config, out, ins })
 }
 
+// Whether this is the name of an input: not empty, and not that of the output.
+fn is_input(out: &str, file: &str) -> bool
+    ensures { result ≡ is_input out.now file.now }
+{
+    !file.is_empty() && file != out
+}
+
+// The command `modulate CONFIG IN OUT`, where the output is none of the files that are read.
+fn modulate_of<'a>(
+    modulate: &str,
+    config: &'a str,
+    input: &'a str,
+    out: &'a str,
+) -> Option<Request<'a>>
+    ensures named { option_map meant result ≡ modulate_by modulate.now config.now input.now out.now }
+    ensures apart { IfSome result IsApart }
+{
+    if modulate == "modulate" && !out.is_empty() && is_input(out, config) && is_input(out, input) {
+        return Some(Request::Modulate { config, input, out });
+    }
+    None
+}
+
 // The command of three words.
 fn show_of<'a>(show: &str, what: &str, file: &'a str) -> Option<Request<'a>>
-    ensures { option_map meant result ≡ show_by show.now what.now file.now }
+    ensures named { option_map meant result ≡ show_by show.now what.now file.now }
+    ensures apart { IfSome result IsApart }
 {
     if show == "show" && !file.is_empty() {
         shown(what, file)
@@ -88,7 +120,8 @@ fn show_of<'a>(show: &str, what: &str, file: &'a str) -> Option<Request<'a>>
 
 /// The command that words name, `None` where they name none.
 pub fn request_of<'a>(words: &'a [Word]) -> Option<Request<'a>>
-    ensures { option_map meant result ≡ command_of words.now }
+    ensures named { option_map meant result ≡ command_of words.now }
+    ensures apart { IfSome result IsApart }
 {
     match words {
         [plan, config] => {
@@ -103,6 +136,12 @@ pub fn request_of<'a>(words: &'a [Word]) -> Option<Request<'a>>
         [gateway, config, out, ins @ ..] if gateway.as_str() == "gateway" => {
             gateway_of(config.as_str(), out.as_str(), ins)
         }
+        [modulate, config, input, out] => modulate_of(
+            modulate.as_str(),
+            config.as_str(),
+            input.as_str(),
+            out.as_str(),
+        ),
         [show, what, file] => show_of(show.as_str(), what.as_str(), file.as_str()),
         _ => None,
     }

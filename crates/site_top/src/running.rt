@@ -9,6 +9,7 @@ use crate::config_commands::{plan, show_config};
 use crate::ending::last_line;
 use crate::gateway::gateway;
 use crate::laws::completeness;
+use crate::modulate::modulate;
 use crate::outcome::Outcome;
 use crate::request::{Request, request_of};
 use crate::show::outcome_of;
@@ -28,6 +29,7 @@ fn command<D: Desk>(alloc: Global, words: &[Word], desk: &mut D) -> Outcome
         Some(Request::ShowConfig { file }) => show_config(alloc, file, desk),
         Some(Request::Plan { config }) => plan(alloc, config, desk),
         Some(Request::Gateway { config, out, ins }) => gateway(alloc, config, out, ins, desk),
+        Some(Request::Modulate { config, input, out }) => modulate(alloc, config, input, out, desk),
         None => Outcome::Usage,
     }
 }

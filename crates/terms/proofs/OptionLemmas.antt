@@ -1,5 +1,5 @@
 -- Facts of a value that may be there, besides std's `IfSome_then`.
-use Rattle.std.proofs.Common.{◌≡◌, List, ◌++◌, [], Option, Some, None, refl, ap, sym, append-nil}
+use Rattle.std.proofs.Common.{◌≡◌, Bool, true, false, cond, List, ◌++◌, [], Option, Some, None, is_some, refl, ap, sym, append-nil, append_assoc, true≢false}
 use Rattle.std.specs.Prelude.{IfSome, IsSome, option_map, unwrap_or}
 
 -- what is so of every value
@@ -21,3 +21,20 @@ append-none (Some text) = ap Some (sym (append-nil text))
 pub was_some : {A : Type 0} (o : Option A) (other : A) → IsSome o → o ≡ Some (unwrap_or o other)
 was_some None other h = cc
 was_some (Some x) other h = refl
+
+pub some_injective : {A : Type 0} (x y : A) → Some x ≡ Some y → x ≡ y
+some_injective x y e = ap (λ o. unwrap_or o x) e
+
+pub none_some : {A : Type 0} {P : Type 0} (x : A) → None ≡ Some x → P
+none_some x e = absurd (true≢false (sym (ap is_some e)))
+
+-- what is there under one of two tests is not there if neither holds
+pub neither : {A : Type 0} (t u : Bool) (a b : A) → is_some (cond t (Some a) (cond u (Some b) None)) ≡ false → (t ≡ false) × (u ≡ false)
+neither true u a b e = absurd (true≢false e)
+neither false true a b e = absurd (true≢false e)
+neither false false a b e = (refl, refl)
+
+-- texts that come behind a text that may be told
+pub append_twice : {A : Type 0} (o : Option (List A)) (x y : List A) → option_map (λ text. text ++ y) (option_map (λ text. text ++ x) o) ≡ option_map (λ text. text ++ (x ++ y)) o
+append_twice None x y = refl
+append_twice (Some text) x y = ap Some (append_assoc text x y)

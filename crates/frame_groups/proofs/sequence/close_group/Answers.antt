@@ -1,10 +1,10 @@
 use Rattle.std.proofs.Common.{◌≡◌, ◌∙◌, ℕ, Bool, false, List, Option, Some, None, sym, subst}
+use Rattle.terms.proofs.OptionLemmas.{some_injective, none_some}
 use Rattle.t2mi_packet.specs.declared.packet.Packet.{Packet}
 use Rattle.frame_groups.specs.Groups.{Group}
 use Rattle.frame_groups.specs.Modulated.{Rules, FrameRecord}
 use Rattle.frame_groups.specs.Sequenced.{Sequenced}
 use Rattle.frame_groups.specs.declared.waiting.Progress.{Progress}
-use Rattle.frame_groups.proofs.FollowLemmas.{some_is, none_some}
 use Rattle.frame_groups.proofs.SequenceLemmas.{closed_first, has_key}
 use Rattle.frame_groups.proofs.sequence.close_group.Goals as goal
 
@@ -22,7 +22,7 @@ returns-in-Some-join_number-clause-follows g c = λ ps given k. record {
       closed_first (g.G.OpenGroup.rules c.args.group.now) k.group (Some c.in-Some-join_number.first) c.args.progress.next c.in-Some-join_number.first c.args.progress.fault None ps given
       (has_key k.group _ (c.key-key.ensures.is k.group k.holds) c.requires.some)
       (λ h e. c.in-Some-join_number.ensures.value h (subst (g.G.OpenGroup.holds c.args.group.now) e k.holds))
-      (λ h e n same. (some_is c.in-Some-join_number.first n same, sym (c.in-Some-join_number.ensures.passes h (subst (g.G.OpenGroup.holds c.args.group.now) e k.holds) n same)))
+      (λ h e n same. (some_injective c.in-Some-join_number.first n same, sym (c.in-Some-join_number.ensures.passes h (subst (g.G.OpenGroup.holds c.args.group.now) e k.holds) n same)))
       (under_way (g.G.OpenGroup.rules c.args.group.now) k.group c.args.progress ps given c.in-None.is c.requires.open k.sequenced);
 }
 

@@ -1,4 +1,5 @@
 use Rattle.std.proofs.Common.{◌≡◌, ◌∙◌, None, ap, sym, subst}
+use Rattle.terms.proofs.OptionLemmas.{some_injective}
 use Rattle.plp_config.specs.declared.config.Config.{Config}
 use Rattle.frame_groups.specs.Records.{record_of}
 use Rattle.frame_groups.specs.declared.waiting.Waiting.{Waiting}
@@ -7,7 +8,7 @@ use Rattle.open_group.specs.Given.{bytes_left}
 use Rattle.open_group.specs.Holds.{Holds}
 use Rattle.open_group.specs.Written.{spelled}
 use Rattle.modulator.specs.Gives.{Gives}
-use Rattle.modulator.proofs.BeginLemmas.{some_same, begun_gives}
+use Rattle.modulator.proofs.BeginLemmas.{begun_gives}
 use Rattle.modulator.proofs.begin.begin_next.Goals as goal
 
 pub returns-in-Some-clause-gives : goal.returns-in-Some-clause-gives
@@ -20,7 +21,10 @@ returns-in-Some-clause-gives c = λ pid bytes given taken st e.
     (begun_gives (Holds old) (Holds new) old.key new.key (rules old.network) (rules new.network) (spelled old.network) at (bytes_left new) inner.unpiper inner.finished pid bytes given taken
     c.begin_record.ensures.group c.begin_record.ensures.key (ap rules c.begin_record.ensures.network)
     (λ w h i held pass.
-    let same : w ≡ c.in-Some.waiting = some_same w c.in-Some.waiting (sym i ∙ sym c.waiting.ensures ∙ c.in-Some.is) in
+    let same : w ≡ c.in-Some.waiting = some_injective w c.in-Some.waiting (sym i ∙ sym c.waiting.ensures ∙ c.in-Some.is) in
     c.begin_record.ensures.left h held (subst (λ (v : Waiting). v.mute ≡ None → group_fault old.network h v.frame ≡ None) same pass)
     ∙ ap (λ (v : Waiting). spelled old.network (record_of h v)) (sym same))
     st e)
+
+pub returns-in-Some-clause-most : goal.returns-in-Some-clause-most
+returns-in-Some-clause-most c = λ _. c.begin_record.ensures.most

@@ -1,8 +1,8 @@
-use Rattle.std.proofs.Common.{◌≡◌, ◌⊎◌, ◌<◌, ◌+◌, ◌-◌, ◌*◌, ◌^◌, ℕ, Bool, true, List}
+use Rattle.std.proofs.Common.{◌≡◌, ◌⊎◌, ◌<◌, ◌≤◌, ◌+◌, ◌-◌, ◌*◌, ◌^◌, ℕ, Bool, true, List}
 use Rattle.frame_groups.specs.Modulated.{FrameRecord}
 use Rattle.frame_groups.specs.Waits.{waits, IsWithin, greatest_step}
-use Rattle.t2mi_stream.specs.UnpiperStandsFor.{fed_len}
-use Rattle.modulator.specs.Modulating.{Stands, steps_left, most_steps}
+use Rattle.t2mi_stream.specs.UnpiperStandsFor.{fed_len, steps_left}
+use Rattle.modulator.specs.Modulating.{Stands, most_steps, records_ahead}
 use Rattle.modulator.proofs.settle.settle.Given as goal
 
 abbrev pub invariant-loop-unpiper : goal.invariant-loop-unpiper
@@ -15,6 +15,7 @@ invariant-loop-unpiper g l = record {
   intact : (waits l.initial.sequence.progress ≡ true → g.G.OpenGroup.is_intact l.initial.sequence.group ≡ true) → waits l.sequence.progress ≡ true → g.G.OpenGroup.is_intact l.sequence.group ≡ true;
   rules : g.G.OpenGroup.rules l.sequence.group ≡ g.G.OpenGroup.rules l.initial.sequence.group;
   fed : fed_len l.unpiper ≡ fed_len l.initial.unpiper;
+  left : records_ahead l.unpiper l.sequence.progress ≤ records_ahead l.initial.unpiper l.initial.sequence.progress;
 }
 
 abbrev pub decreases-loop-unpiper : goal.decreases-loop-unpiper

@@ -4,8 +4,10 @@ use Rattle.frame_groups.specs.Groups.{is_counted}
 use Rattle.frame_groups.specs.Modulated.{FrameRecord}
 use Rattle.frame_groups.specs.Sequenced.{Keeps, Ends}
 use Rattle.frame_groups.specs.Waits.{greatest_step}
-use Rattle.modulator.specs.Modulating.{packet_of, steps_left, most_steps}
+use Rattle.t2mi_stream.specs.UnpiperStandsFor.{steps_left}
+use Rattle.modulator.specs.Modulating.{packet_of, most_steps}
 use Rattle.modulator.proofs.StandsLemmas.{stepped, held}
+use Rattle.modulator.proofs.LeftLemmas.{ahead_by_step, ahead_by_group}
 use Rattle.modulator.proofs.StepLemmas.{most, fewer, risen}
 use Rattle.modulator.proofs.settle.step.Goals as goal
 
@@ -36,3 +38,11 @@ returns-clause-near g c = λ n e.
     risen (steps_left c.args.unpiper.now) (steps_left c.release.new.self) n
     (fewer c.args.unpiper.now c.release.new.self c.requires.ready c.release.ensures.less c.release.ensures.inside) (most c.args.unpiper.now)
     (c.work.ensures.near (2 ^ 31 + greatest_step * (most_steps + 1 - steps_left c.args.unpiper.now)) (omega arith) c.requires.near n e)
+
+pub returns-then-not-work-clause-left : goal.returns-then-not-work-clause-left
+returns-then-not-work-clause-left g c = ahead_by_group c.args.unpiper.now c.args.sequence.now.progress c.work.new.self.progress (c.work.ensures.left c.if-not-work.true)
+
+pub returns-clause-left : goal.returns-clause-left
+returns-clause-left g c =
+    ahead_by_step c.args.unpiper.now c.release.new.self c.args.sequence.now.progress c.work.new.self.progress
+    (fewer c.args.unpiper.now c.release.new.self c.requires.ready c.release.ensures.less c.release.ensures.inside) c.work.new.self.near

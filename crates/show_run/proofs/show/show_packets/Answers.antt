@@ -1,11 +1,12 @@
 use Rattle.std.proofs.Common.{refl}
 use Rattle.std.proofs.lemmas.Result.{err_from_is_err_and}
+use Rattle.show_run.specs.PacketText.{IsPacketText}
 use Rattle.show_run.proofs.PacketLinesLemmas.{comes_first}
 use Rattle.show_run.proofs.ShowLemmas.{shows_none, shows_end, shows_stop}
 use Rattle.show_run.proofs.show.show_packets.Goals as goal
 
 pub returns-in_default : goal.returns-in_default
-returns-in_default g c = shows_none _ _ c.args.name.now refl
+returns-in_default g c = shows_none IsPacketText (λ file. refl) _ _ c.args.name.now refl
 
 pub tell_lines-requires-clause-start : goal.tell_lines-requires-clause-start
 tell_lines-requires-clause-start g c = comes_first _ c.in-Ok.ensures

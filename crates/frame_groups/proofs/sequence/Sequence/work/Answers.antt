@@ -1,7 +1,7 @@
 use Rattle.std.proofs.Common.{◌≡◌, ◌<◌, true, false, Some, None, arith, ap, sym, subst, ◌∙◌, rules}
+use Rattle.terms.proofs.OptionLemmas.{some_injective}
 use Rattle.frame_groups.specs.Groups.{is_counted, is_same, key_behind, Group}
 use Rattle.frame_groups.specs.Grouping.{one_packet, one_more}
-use Rattle.frame_groups.proofs.FollowLemmas.{some_is}
 use Rattle.frame_groups.proofs.SequenceLemmas.{begun, added_on, has_group}
 use Rattle.frame_groups.proofs.sequence.Sequence.work.Goals as goal
 
@@ -33,7 +33,7 @@ returns-then-goes_on-clause-worked g c = λ _ ps given k ends.
       sequenced =
           added_on (g.G.OpenGroup.rules c.args.self.now.group) (g.G.OpenGroup.rules c.add.new.self) k.group (Some (one_more h.group c.args.packet.now))
           c.args.self.now.progress.number c.args.self.now.progress.next c.args.self.now.progress.closing c.args.self.now.progress.fault ps given c.args.packet.now c.in-Some.key (c.key.ensures.is k.group k.holds ∙ key) kept same
-          (λ o e. ap (λ (h : Group). Some (one_more h c.args.packet.now)) (some_is h.group o (sym h.is ∙ e))) c.add.ensures.rules shut k.sequenced;
+          (λ o e. ap (λ (h : Group). Some (one_more h c.args.packet.now)) (some_injective h.group o (sym h.is ∙ e))) c.add.ensures.rules shut k.sequenced;
     }
 
 pub returns-then-self-clause-near : goal.returns-then-self-clause-near

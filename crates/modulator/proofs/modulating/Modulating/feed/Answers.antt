@@ -1,10 +1,17 @@
-use Rattle.std.proofs.Common.{◌≡◌, ◌<◌, ◌++◌, ◌∙◌, ◌^◌, ℕ, List, false, take, ap, sym, subst, inl, inr, ⊎_elim, arith, rules, length-drop}
+use Rattle.std.proofs.Common.{◌≡◌, ◌⊎◌, ◌<◌, ◌++◌, ◌∙◌, ◌^◌, ℕ, List, false, take, ap, sym, subst, inl, inr, ⊎_elim, arith, rules, length-drop}
 use Rattle.std.proofs.lemmas.List.{take_rest}
 use Rattle.std.proofs.lemmas.Bool.{true≢false}
 use Rattle.frame_groups.specs.Waits.{waits}
 use Rattle.modulator.specs.Modulating.{Stands}
 use Rattle.modulator.proofs.StandsLemmas.{piece_on, front_on}
 use Rattle.modulator.proofs.modulating.Modulating.feed.Goals as goal
+
+-- the number of the next record, over two steps
+next_on : (a b c : ℕ) → (c ≡ b) ⊎ (c < 2 ^ 31) → (b ≡ a) ⊎ (b < 2 ^ 31) → (c ≡ a) ⊎ (c < 2 ^ 31)
+next_on a b c second first = ⊎_elim
+    (λ (same : c ≡ b). ⊎_elim (λ (e : b ≡ a). inl (same ∙ e)) (λ (small : b < 2 ^ 31). inr (omega (arith, same, small))) first)
+    (λ (small : c < 2 ^ 31). inr small)
+    second
 
 pub loop-count-preserved : goal.loop-count-preserved
 loop-count-preserved g c =
@@ -26,7 +33,7 @@ loop-count-preserved g c =
           (λ k a. i.front k a pid bytes given h)
           (λ j a. s.first w j a pid (bytes ++ take c.loop-count.count c.args.piece.now) given (i.stands pid bytes given h)) l;
       inside = search rules;
-      next = ⊎_elim (λ (same : new.progress.next ≡ c.loop-count.self.sequence.progress.next). ⊎_elim (λ (first : c.loop-count.self.sequence.progress.next ≡ c.args.self.now.sequence.progress.next). inl (same ∙ first)) (λ (small : c.loop-count.self.sequence.progress.next < 2 ^ 31). inr (omega (arith, same, small))) i.next) (λ (small : new.progress.next < 2 ^ 31). inr small) s.next;
+      next = next_on c.args.self.now.sequence.progress.next c.loop-count.self.sequence.progress.next new.progress.next s.next i.next;
       fed = omega (arith, s.fed, i.fed);
       finished = i.finished;
       rules = s.rules ∙ i.rules;

@@ -2,7 +2,9 @@ use Rattle.std.proofs.Common.{◌+◌, ◌-◌, ◌*◌, ◌^◌, ◌++◌, ◌�
 use Rattle.frame_groups.specs.Records.{record_of}
 use Rattle.frame_groups.specs.Waits.{greatest_step}
 use Rattle.frame_groups.specs.declared.waiting.Progress.{Progress}
-use Rattle.modulator.specs.Modulating.{Stands, steps_left, most_steps}
+use Rattle.t2mi_stream.specs.UnpiperStandsFor.{steps_left}
+use Rattle.modulator.specs.Modulating.{Stands, most_steps}
+use Rattle.modulator.proofs.LeftLemmas.{ahead_by_group, ahead_gave}
 use Rattle.modulator.proofs.StandsLemmas.{record_gave}
 use Rattle.modulator.proofs.modulating.Modulating.gave.Goals as goal
 
@@ -38,3 +40,16 @@ returns-then-self-clause-stands g c = λ pid bytes given w group is h gs.
     subst (λ (f : Bool). Stands (o.holds e.group) (o.key_now e.group) (o.rules e.group) e.progress c.settle.new.unpiper f pid bytes more) (sym c.if-self.true)
     (c.end.ensures.stands pid bytes more
     (subst (λ (f : Bool). Stands (o.holds s.group) (o.key_now s.group) (o.rules s.group) s.progress c.settle.new.unpiper f pid bytes more) c.if-self.true settled))
+
+pub returns-else-self-clause-left : goal.returns-else-self-clause-left
+returns-else-self-clause-left g c =
+    let fewer = ahead_gave c.args.self.now.unpiper c.args.self.now.sequence.progress c.gave.new.self.progress c.gave.ensures.left in
+    let settled = c.settle.ensures.left in
+    omega (arith, fewer, settled)
+
+pub returns-then-self-clause-left : goal.returns-then-self-clause-left
+returns-then-self-clause-left g c =
+    let fewer = ahead_gave c.args.self.now.unpiper c.args.self.now.sequence.progress c.gave.new.self.progress c.gave.ensures.left in
+    let settled = c.settle.ensures.left in
+    let ended = ahead_by_group c.settle.new.unpiper c.settle.new.sequence.progress c.end.new.sequence.progress c.end.ensures.left in
+    omega (arith, fewer, settled, ended)

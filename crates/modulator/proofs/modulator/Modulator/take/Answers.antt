@@ -1,4 +1,4 @@
-use Rattle.std.proofs.Common.{◌≡◌, ◌∙◌, refl, length, arith, length-append, ◌++◌, ◌∷◌, [], true, false, Option, take, ap, sym, subst, rules as by_rules}
+use Rattle.std.proofs.Common.{◌≡◌, ◌≤◌, ◌<◌, ◌∙◌, refl, length, arith, length-append, ◌++◌, ◌∷◌, [], true, false, Option, take, ap, ap₂, sym, subst, rules as by_rules}
 use Rattle.std.specs.Prelude.{is_some, flat_map}
 use Rattle.std.proofs.lemmas.Bool.{true≢false}
 use Rattle.std.proofs.lemmas.List.{length-take-le}
@@ -7,13 +7,15 @@ use Rattle.frame_groups.specs.Modulated.{Rules}
 use Rattle.frame_groups.specs.Records.{record_of}
 use Rattle.frame_groups.specs.Waits.{waits}
 use Rattle.frame_groups.specs.declared.key.Key.{Key}
-use Rattle.open_group.specs.Given.{bytes_left}
+use Rattle.open_group.specs.Given.{bytes_left, most_left}
 use Rattle.open_group.specs.Holds.{Holds}
 use Rattle.open_group.specs.Written.{spelled}
 use Rattle.plp_config.specs.declared.config.Config.{Config}
 use Rattle.modulator.specs.Gives.{Gives}
-use Rattle.modulator.specs.StandsFor.{ModulatorStandsFor}
+use Rattle.modulator.specs.Modulating.{records_ahead}
+use Rattle.modulator.specs.StandsFor.{ModulatorStandsFor, left_of}
 use Rattle.modulator.proofs.BeginLemmas.{waits_for}
+use Rattle.modulator.proofs.LeftLemmas.{part_taken, whole_taken}
 use Rattle.modulator.proofs.MuteLemmas.{mute_told}
 use Rattle.modulator.proofs.StandsLemmas.{some_at}
 use Rattle.modulator.proofs.TookLemmas.{now, now_of, moved, took_more, took_front, whole_given, all_taken, none_at, nothing_more}
@@ -149,3 +151,33 @@ pub returns-then-is_none-clause-within : goal.returns-then-is_none-clause-within
 returns-then-is_none-clause-within c = λ on.
     let none : is_some c.waiting.result ≡ false = search by_rules in
     absurd (true≢false (sym on ∙ ap is_some (sym c.waiting.ensures.is) ∙ none))
+
+pub returns-else-is_taken-clause-left : goal.returns-else-is_taken-clause-left
+unfolding left_of
+returns-else-is_taken-clause-left c = λ some.
+    let old = c.args.self.now.inner in
+    let new = c.take-count.new.self in
+    let at = old.sequence.progress in
+    let w : waits at ≡ true = search by_rules in
+    let size = ap length c.take-count.ensures.bytes ∙ length-append (take c.take-count.result c.take-count.new.out) (bytes_left new) in
+    let all = length-take-le c.take-count.result c.take-count.new.out (omega (arith, c.take-count.ensures.most, c.take-count.ensures.stays.0)) in
+    let less : length (bytes_left new) < length (bytes_left old.sequence.group) = omega (arith, size, all, some) in
+    part_taken (waits at) (records_ahead old.unpiper at) (most_left new.network) (most_left old.sequence.group.network) (length (bytes_left new)) (length (bytes_left old.sequence.group))
+    w (ap most_left c.take-count.ensures.network) less
+
+pub returns-then-is_taken-clause-left : goal.returns-then-is_taken-clause-left
+unfolding left_of
+returns-then-is_taken-clause-left c = λ _.
+    let old = c.args.self.now.inner in
+    let next = c.gave.new.self in
+    let new = c.begin_next.new.inner in
+    let net = old.sequence.group.network in
+    let w : waits old.sequence.progress ≡ true = search by_rules in
+    let e : next.sequence.group.network ≡ net = ap (λ (r : Rules). r.network) c.gave.ensures.rules ∙ c.take-count.ensures.network in
+    let f : new.sequence.group.network ≡ net = c.begin_next.ensures.network ∙ e in
+    let same : records_ahead new.unpiper new.sequence.progress ≡ records_ahead next.unpiper next.sequence.progress = ap₂ records_ahead c.begin_next.ensures.unpiper c.begin_next.ensures.progress in
+    let fewer = c.gave.ensures.left in
+    let less : records_ahead new.unpiper new.sequence.progress < records_ahead old.unpiper old.sequence.progress = omega (arith, same, fewer) in
+    whole_taken (waits old.sequence.progress) (waits new.sequence.progress) (records_ahead new.unpiper new.sequence.progress) (records_ahead old.unpiper old.sequence.progress)
+    (most_left new.sequence.group.network) (most_left net) (length (bytes_left new.sequence.group)) (length (bytes_left old.sequence.group))
+    w (ap most_left f) less (λ on. subst (λ (k : Config). length (bytes_left new.sequence.group) ≤ most_left k) e (c.begin_next.ensures.most on)) (c.args.self.now.some w)

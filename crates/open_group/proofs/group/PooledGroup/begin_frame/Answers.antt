@@ -1,6 +1,7 @@
-use Rattle.std.proofs.Common.{◌≡◌, ◌++◌, ◌∙◌, length, sum, refl, ap, sym, subst}
+use Rattle.std.proofs.Common.{◌≡◌, ◌≤◌, ◌++◌, ◌∙◌, length, sum, refl, ap, sym, subst, arith}
 use Rattle.std.specs.Prelude.{nat_le, slice_index}
 use Rattle.std.proofs.lemmas.Bool.{and_parts}
+use Rattle.linked_pool.specs.Pool.{used_chunks}
 use Rattle.plp_config.specs.Capacity.{IsPlan}
 use Rattle.plp_config.specs.declared.config.Config.{Config}
 use Rattle.plp_config.specs.declared.moment.Moment.{Moment}
@@ -10,7 +11,7 @@ use Rattle.frame_tests.specs.Tests.{has_map}
 use Rattle.record_writer.specs.Front.{front_bytes}
 use Rattle.record_writer.specs.Laws.{post_size}
 use Rattle.record_writer.specs.Steps.{step_bytes}
-use Rattle.record_writer.specs.Writes.{bytes_left}
+use Rattle.record_writer.specs.Writes.{bytes_left, most_record}
 use Rattle.record_writer.specs.declared.step.Step.TheVariants.{Blocks}
 use Rattle.open_group.specs.HoldsL1.{shape_told}
 use Rattle.open_group.specs.Parts.{parts_of}
@@ -39,3 +40,12 @@ returns-clause-left c = λ h n leaves held none.
     is_plan none
     (first_dynamic network g.l1 h.packets (tally network h.packets).alike t packets.l1) (first_told network g.l1 h.packets (tally network h.packets).alike t packets.l1) (g.l1.rows ∙ g.rows) g.open.lists
     (holds_all network g.blocks h.packets n (tally network h.packets) packets.blocks packets.lists g.chunks (sym (c.tally_law.ensures.tests network n h.packets) ∙ none)) refl refl
+
+pub returns-clause-most : goal.returns-clause-most
+returns-clause-most c =
+    let g = c.args.self.now in
+    let lists = g.blocks.pool.lists in
+    let most = subst (λ (k : Config). length (bytes_left c.begin_frame.new.writer k g.l1.shape lists) ≤ most_record k (used_chunks lists)) c.plan-2.ensures (c.begin_frame.ensures.most lists) in
+    let fits = c.fits_chunks.ensures in
+    let chunks = g.chunks in
+    omega (arith, most, fits, chunks)

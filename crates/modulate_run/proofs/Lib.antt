@@ -1,0 +1,6 @@
+pub mod PlaceLemmas
+pub mod CountLemmas
+pub mod FrontLemmas
+pub mod LawLemmas
+pub mod MachineLemmas
+pub mod RunLemmas

@@ -1,0 +1,121 @@
+-- What a run of the modulator over a file does, from the opening of its input on.
+use Rattle.std.specs.Prelude.{◌≡◌, ◌≢◌, ◌⊎◌, ℕ, ◌+◌, ◌<◌, ◌≤◌, nat_lt, true, false, List, [], ◌∷◌, ◌++◌, length, take, flat_map, IsSome, IfSome}
+use Rattle.std.specs.List.{list_all}
+use Rattle.std.specs.FinMap.{get}
+use Rattle.ports.specs.Desk.{State, SameCounts, bytes_of}
+use Rattle.plp_config.specs.declared.config.Config.{Config}
+use Rattle.plp_config.specs.declared.moment.TheConstants.{MOST_FRAMES}
+use Rattle.frame_groups.specs.Laws.{IsPrefix}
+use Rattle.frame_groups.specs.Modulated.{FrameRecord}
+use Rattle.open_group.specs.Written.{spelled}
+use Rattle.modulator.specs.StandsFor.{records_due, bytes_due}
+use Rattle.desk_io.specs.Faults.{ReadsFail, WritesFail}
+use Rattle.desk_io.specs.Reading.{most_bytes}
+use Rattle.file_run.specs.FileRun.{OpensInputs, FailsToCreateOutput, Works}
+use Rattle.modulate_run.specs.Counted.{counted}
+use Rattle.modulate_run.specs.declared.stop.Ran.{Ran}
+use Rattle.modulate_run.specs.declared.stop.RunStop.{RunStop}
+use Rattle.modulate_run.specs.declared.stop.RunStop.TheVariants.{NoSuperframe, TooLong, ReadFault, WriteFault, OutOfMemory}
+
+-- how many bytes are read ahead at most
+abbrev pub read_ahead : ℕ
+read_ahead = 65536
+
+-- the records of a stream, and their bytes
+abbrev pub records_of : Config → List ℕ → List FrameRecord
+records_of c bytes = records_due c true bytes
+
+abbrev pub output_of : Config → List ℕ → List ℕ
+output_of c bytes = bytes_due c true bytes
+
+-- Each record is of a frame whose number one may have.
+abbrev pub AreEarly : List FrameRecord → Type 0
+AreEarly records = list_all (λ x. nat_lt x.number MOST_FRAMES) records ≡ true
+
+-- IN was opened and read up to a place, and then OUT created: by the bytes of IN, OUT has these bytes.
+abbrev pub Writes : State → State → List ℕ → List ℕ → ℕ → (List ℕ → List ℕ → Type 0) → Type 0
+Writes old new name out place Has = Works old new out (name ∷ []) (place ∷ []) (λ h bytes. Has (bytes_of h.files name) bytes)
+
+-- IN was read to its end.
+abbrev pub ReadsAll : State → List ℕ → ℕ → Type 0
+ReadsAll old name place = (place < most_bytes) × IfSome old.held (λ h. (IsSome (get h.files name)) × (place ≡ length (bytes_of h.files name)))
+
+-- A run to its end: there are records, OUT has their bytes, and these are their numbers.
+pub record RunsAll (c : Config) (old new : State) (name out : List ℕ) (ran : Ran) : Type 0 where
+  pub place : ℕ
+  pub works : Writes old new name out place (λ file bytes. bytes ≡ output_of c file)
+  pub ends : ReadsAll old name place
+  pub counts : SameCounts old new
+  pub some : IfSome old.held (λ h. records_of c (bytes_of h.files name) ≢ [])
+  pub early : IfSome old.held (λ h. AreEarly (records_of c (bytes_of h.files name)))
+  pub ran_is : IfSome old.held (λ h. ran ≡ counted (records_of c (bytes_of h.files name)))
+
+-- IN was read to its end, and there is no record: OUT is empty.
+pub record FindsNone (c : Config) (old new : State) (name out : List ℕ) : Type 0 where
+  pub place : ℕ
+  pub works : Writes old new name out place (λ file bytes. bytes ≡ [])
+  pub ends : ReadsAll old name place
+  pub counts : SameCounts old new
+  pub none : IfSome old.held (λ h. records_of c (bytes_of h.files name) ≡ [])
+
+-- By so many bytes of a file no record is due whose number none may have, and the bytes of those that are due were written.
+pub record HasWritten (c : Config) (taken : ℕ) (file bytes : List ℕ) : Type 0 where
+  pub early : AreEarly (records_due c false (take taken file))
+  pub is : bytes ≡ bytes_due c false (take taken file)
+
+-- IN gave as many bytes as no file may have. Of these all but as many as are read ahead were taken, at least.
+pub record GivesTooMuch (c : Config) (old new : State) (name out : List ℕ) : Type 0 where
+  pub taken : ℕ
+  pub near : most_bytes ≤ taken + read_ahead
+  pub works : Writes old new name out most_bytes (HasWritten c taken)
+  pub long : IfSome old.held (λ h. (taken ≤ most_bytes) × (most_bytes ≤ length (bytes_of h.files name)))
+  pub counts : SameCounts old new
+
+-- The records of a stream up to the first whose number none may have, and their bytes.
+pub record HasEarly (c : Config) (file bytes : List ℕ) : Type 0 where
+  pub before : List FrameRecord
+  pub next : FrameRecord
+  pub after : List FrameRecord
+  pub all : records_of c file ≡ before ++ next ∷ after
+  pub early : AreEarly before
+  pub number : next.number ≡ MOST_FRAMES
+  pub is : bytes ≡ flat_map (spelled c) before
+
+-- The record waits whose number none may have. Those before it were written.
+pub record MeetsLate (c : Config) (old new : State) (name out : List ℕ) : Type 0 where
+  pub place : ℕ
+  pub short : place < most_bytes
+  pub works : Writes old new name out place (HasEarly c)
+  pub counts : SameCounts old new
+
+-- IN could not be read on. The records that are due by what was read were written.
+pub record StopsReading (c : Config) (old new : State) (name out : List ℕ) : Type 0 where
+  pub place : ℕ
+  pub short : place < most_bytes
+  pub works : Writes old new name out place (HasWritten c place)
+
+-- Of some first records, each of a frame whose number one may have, some bytes were written, but not all; and all that is due by fewer
+-- bytes than were read by more than are read ahead.
+pub record HasSome (c : Config) (place : ℕ) (file bytes : List ℕ) : Type 0 where
+  pub given : List FrameRecord
+  pub later : List FrameRecord
+  pub all : records_of c file ≡ given ++ later
+  pub early : AreEarly given
+  pub more : List ℕ
+  pub some : more ≢ []
+  pub begins : flat_map (spelled c) given ≡ bytes ++ more
+  pub since : (taken : ℕ) → taken + read_ahead < place → IsPrefix (bytes_due c false (take taken file)) bytes
+
+-- OUT could not be written on.
+pub record StopsWriting (c : Config) (old new : State) (name out : List ℕ) : Type 0 where
+  pub place : ℕ
+  pub short : place < most_bytes
+  pub works : Writes old new name out place (HasSome c place)
+
+-- A run that did not come to its end, by its cause.
+abbrev pub Stops : Config → State → State → List ℕ → List ℕ → RunStop → Type 0
+Stops c old new name out NoSuperframe = FindsNone c old new name out
+Stops c old new name out (TooLong count) = ((count ≡ most_bytes) × GivesTooMuch c old new name out) ⊎ ((count ≡ MOST_FRAMES) × MeetsLate c old new name out)
+Stops c old new name out ReadFault = ReadsFail old new × (OpensInputs old new (name ∷ []) 0 ⊎ StopsReading c old new name out)
+Stops c old new name out WriteFault = WritesFail old new × (FailsToCreateOutput old new out (name ∷ []) ⊎ StopsWriting c old new name out)
+Stops c old new name out OutOfMemory = new ≡ old

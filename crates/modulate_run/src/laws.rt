@@ -1,0 +1,12 @@
+// Laws of the definitions. Their functions do nothing.
+ghost use Rattle.modulate_run.specs.Laws.{OneRun, RunEnds};
+
+/// A file that is not too long decides how a run over it ends, where nothing outside fails.
+pub fn one_run()
+    ensures { OneRun }
+{}
+
+/// A run over a file has an ending, if nothing outside fails and the file is not too long.
+pub fn run_ends()
+    ensures { RunEnds }
+{}

@@ -1,0 +1,64 @@
+// How a run ends.
+ghost use Rattle.std.specs.Prelude.{◌≡◌};
+ghost use Rattle.modulate_run.specs.Given.{added};
+
+use bit_slice::OutOfMemory;
+use frame_groups::Waiting;
+use thiserror::Error;
+
+/// The records of a run.
+#[derive(Clone, Copy, Debug, PartialEq, Eq)]
+pub struct Ran {
+    /// The number of the frame of the first one, 0 if there is none.
+    pub first: u64,
+    /// How many there are.
+    pub records: u64,
+    /// How many of them are muted.
+    pub muted: u64,
+}
+
+impl Ran {
+    // Counts one record more. There are 2^31 at most, so no number stands still at the greatest.
+    pub(crate) fn add(&mut self, given: Waiting)
+        ensures { self.new ≡ added self.old given }
+    {
+        if self.records == 0 {
+            self.first = given.frame;
+        }
+        self.records = self.records.saturating_add(1);
+        if given.mute.is_some() {
+            self.muted = self.muted.saturating_add(1);
+        }
+    }
+}
+
+/// Why a run did not come to its end.
+#[derive(Clone, Copy, Debug, PartialEq, Eq, Error)]
+pub enum RunStop {
+    /// The input was read to its end, and no frame that begins a superframe passes the tests.
+    #[error("no superframe begins in the input with a frame that passes the tests")]
+    NoSuperframe,
+    /// The input gave 2^40 bytes, or the record of frame 2^31 waits; this is that number.
+    #[error("too long: {count}")]
+    TooLong { count: u64 },
+    /// The input could not be opened or read.
+    #[error("the input could not be read")]
+    ReadFault,
+    /// The output could not be created or written.
+    #[error("the output could not be written")]
+    WriteFault,
+    /// No memory was found.
+    #[error("out of memory")]
+    OutOfMemory,
+}
+
+impl From<OutOfMemory> for RunStop {
+    ghost use Rattle.std.specs.Prelude.{◌≡◌};
+    ghost use Rattle.modulate_run.specs.declared.stop.RunStop.TheVariants.{OutOfMemory};
+
+    ghost from_gives = { λ _ e. e ≡ OutOfMemory };
+
+    fn from(_error: OutOfMemory) -> RunStop {
+        RunStop::OutOfMemory
+    }
+}

@@ -1,0 +1,247 @@
+// `modulate CONFIG IN OUT`, over what `gateway` wrote. Expected values come from worked examples.
+ghost use Rattle.std.specs.Prelude.{◌<◌};
+
+use crate::runs::{DATA, LOADED, NETWORK, SMALL, packets, words_of};
+use ports::MemoryDesk;
+use site_top::{Outcome, run};
+use std::alloc::Global;
+use std::process::Abort;
+use std::test::Fail;
+
+// What is shown of four records without blocks, one every 700,000 subseconds.
+const FOUR_LINES: &str = "\
+record=0 kind=frame seconds=700000000 subseconds=0 blocks=0 cells=40000
+record=1 kind=frame seconds=700000000 subseconds=700000 blocks=0 cells=40000
+record=2 kind=frame seconds=700000000 subseconds=1400000 blocks=0 cells=40000
+record=3 kind=frame seconds=700000000 subseconds=2100000 blocks=0 cells=40000
+records=4
+";
+
+// The bytes of a record without blocks, and those that three blocks of 879 bytes add.
+const EMPTY_RECORD: usize = 160_103;
+
+const THREE_BLOCKS: usize = 3 * (4 + 879);
+
+// Muted records of the frames 2 to 4.
+#[rattlefmt::skip]
+const MUTED: [[u8; 24]; 3] = [
+    [0x54, 0x32, 0x46, 0x52, 2, 0, 0, 0, 0, 0, 0, 0, 0x29, 0xB9, 0x27, 0x00, 0x00, 0x15, 0x5C, 0xC0, 0, 0, 0, 0],
+    [0x54, 0x32, 0x46, 0x52, 2, 0, 0, 0, 0, 0, 0, 0, 0x29, 0xB9, 0x27, 0x00, 0x00, 0x20, 0x0B, 0x20, 0, 0, 0, 0],
+    [0x54, 0x32, 0x46, 0x52, 2, 0, 0, 0, 0, 0, 0, 0, 0x29, 0xB9, 0x27, 0x00, 0x00, 0x2A, 0xB9, 0x80, 0, 0, 0, 0],
+];
+
+// How a run ended, what it said, and what OUT holds if it is there.
+#[derive(Drop)]
+struct Ended {
+    outcome: Outcome,
+    said: Vec<u8>,
+    out: Option<Vec<u8>>,
+}
+
+// Where the first record of three blocks begins that comes so many behind the first record.
+fn place_of(frame: usize) -> usize
+    requires some { 0 < frame }
+    requires few { frame < 12 }
+{
+    EMPTY_RECORD + (frame - 1) * (EMPTY_RECORD + THREE_BLOCKS)
+}
+
+// The stream of a network over packets that are not null.
+fn stream(alloc: Global, plps: &str, count: usize) -> Result<Vec<u8>, Fail> {
+    let mut desk = MemoryDesk::new(alloc);
+    desk.put_file("c", format!(in alloc; "{NETWORK}{plps}")?.as_bytes())?;
+    desk.put_file("0", packets(alloc, count, DATA, 0xAB)?.as_slice())?;
+    let words = words_of(alloc, &["gateway", "c", "t", "0"])?;
+    run(alloc, words.as_slice(), &mut desk);
+    let stream = desk.file("t").map_or(&[][..], |bytes| bytes);
+    Ok(stream.to_vec(alloc)?)
+}
+
+// A run over a network and its stream `t`, where a read or a write moves at most so many bytes.
+fn ends(
+    alloc: Global,
+    words: &[&str],
+    plps: &str,
+    stream: Option<&[u8]>,
+    most: usize,
+) -> Result<Ended, Fail>
+    requires { 0 < most }
+{
+    let mut desk = MemoryDesk::new(alloc);
+    desk.put_file("c", format!(in alloc; "{NETWORK}{plps}")?.as_bytes())?;
+    if let Some(bytes) = stream {
+        desk.put_file("t", bytes)?;
+    }
+    desk.cap(most);
+    let words = words_of(alloc, words)?;
+    let outcome = run(alloc, words.as_slice(), &mut desk);
+    let out = match desk.file("o") {
+        Some(bytes) => Some(bytes.to_vec(alloc)?),
+        None => None,
+    };
+    Ok(Ended {
+        outcome,
+        said: desk.said().to_vec(alloc)?,
+        out,
+    })
+}
+
+// The records that are made of a stream, after a run that is done and said this.
+fn records(
+    rt: &(impl AllocGlobal + Abort),
+    plps: &str,
+    stream: &[u8],
+    line: &str,
+) -> Result<Vec<u8>, Fail> {
+    let words = ["modulate", "c", "t", "o"];
+    let ended = ends(rt.alloc(), &words, plps, Some(stream), 1 << 20)?;
+    assert_eq!(rt; ended.outcome, Outcome::Done);
+    assert_eq!(rt; ended.said.as_slice(), line.as_bytes());
+    match &ended.out {
+        Some(out) => Ok(out.to_vec(rt.alloc())?),
+        None => Ok(Vec::new(rt.alloc())),
+    }
+}
+
+// What one command wrote, the next one reads, on one desk.
+#[test]
+fn an_empty_input_through_three_commands(rt: HostRuntime) -> Result<(), Fail> {
+    let alloc = rt.alloc();
+    let mut desk = MemoryDesk::new(alloc);
+    desk.put_file("c", format!(in alloc; "{NETWORK}{SMALL}")?.as_bytes())?;
+    desk.put_file("0", &[])?;
+    let lines: [&[&str]; 3] = [
+        &["gateway", "c", "t", "0"],
+        &["modulate", "c", "t", "o"],
+        &["show", "frames", "o"],
+    ];
+    for words in lines {
+        let words = words_of(alloc, words)?;
+        assert_eq!(rt; run(alloc, words.as_slice(), &mut desk), Outcome::Done);
+    }
+    assert_eq!(rt;
+        desk.file("o").map(|bytes| bytes.len()),
+        Some(4 * EMPTY_RECORD)
+    );
+    let said = format!(in alloc; "frames=4 units=2\nfirst=0 records=4 muted=0\n{FOUR_LINES}")?;
+    assert_eq!(rt; desk.said(), said.as_bytes());
+    Ok(())
+}
+
+#[test]
+fn records_are_the_same_however_few_bytes_move(rt: HostRuntime) -> Result<(), Fail> {
+    let alloc = rt.alloc();
+    let stream = stream(alloc, SMALL, 0)?;
+    let whole = records(&rt, SMALL, &stream, "first=0 records=4 muted=0\n")?;
+    for most in [1, 187, 189] {
+        let words = ["modulate", "c", "t", "o"];
+        let ended = ends(alloc, &words, SMALL, Some(&stream), most)?;
+        assert_eq!(rt; ended.outcome, Outcome::Done);
+        assert!(rt; ended.out.as_ref() == Some(&whole));
+    }
+    Ok(())
+}
+
+// Unit 90 has the first byte of frame 7, behind the end of frame 6.
+#[test]
+fn a_cut_stream_begins_with_its_first_whole_superframe(rt: HostRuntime) -> Result<(), Fail> {
+    let stream = stream(rt.alloc(), LOADED, 110)?;
+    let whole = records(&rt, LOADED, &stream, "first=0 records=12 muted=0\n")?;
+    assert!(rt; stream.len() > 90 * 188);
+    let rest = records(
+        &rt,
+        LOADED,
+        &stream[90 * 188..],
+        "first=8 records=4 muted=0\n",
+    )?;
+    assert!(rt; whole.ends_with(&rest) && rest.len() > 4 * EMPTY_RECORD);
+    Ok(())
+}
+
+// Unit 45 has the end of frame 3 and the beginning of frame 4.
+#[test]
+fn a_lost_unit_mutes_two_frames(rt: HostRuntime) -> Result<(), Fail> {
+    let alloc = rt.alloc();
+    let stream = stream(alloc, LOADED, 110)?;
+    let whole = records(&rt, LOADED, &stream, "first=0 records=12 muted=0\n")?;
+    let mut lossy = stream
+        .get(..45 * 188)
+        .map_or(&[][..], |front| front)
+        .to_vec(alloc)?;
+    lossy.extend_from_slice(stream.get(46 * 188..).map_or(&[][..], |rest| rest))?;
+    let muted = records(&rt, LOADED, &lossy, "first=0 records=12 muted=2\n")?;
+    let mut expected = whole
+        .get(..place_of(3))
+        .map_or(&[][..], |front| front)
+        .to_vec(alloc)?;
+    expected.extend_from_slice(&MUTED[1])?;
+    expected.extend_from_slice(&MUTED[2])?;
+    expected.extend_from_slice(whole.get(place_of(5)..).map_or(&[][..], |rest| rest))?;
+    assert!(rt; muted == expected);
+    Ok(())
+}
+
+// Byte 2,928 stands in the timestamp of superframe 1: it and the L1-current behind it are not accepted.
+#[test]
+fn a_damaged_timestamp_mutes_its_frame(rt: HostRuntime) -> Result<(), Fail> {
+    let alloc = rt.alloc();
+    let mut stream = stream(alloc, LOADED, 110)?;
+    let whole = records(&rt, LOADED, &stream, "first=0 records=12 muted=0\n")?;
+    if let Some(byte) = stream.get_mut(2_928) {
+        *byte = !*byte;
+    }
+    let muted = records(&rt, LOADED, &stream, "first=0 records=12 muted=1\n")?;
+    let mut expected = whole
+        .get(..place_of(2))
+        .map_or(&[][..], |front| front)
+        .to_vec(alloc)?;
+    expected.extend_from_slice(&MUTED[0])?;
+    expected.extend_from_slice(whole.get(place_of(3)..).map_or(&[][..], |rest| rest))?;
+    assert!(rt; muted == expected);
+    Ok(())
+}
+
+// The first of two units has the superframe's timestamp.
+#[test]
+fn without_a_superframe_there_is_no_record(rt: HostRuntime) -> Result<(), Fail> {
+    let alloc = rt.alloc();
+    let stream = stream(alloc, SMALL, 0)?;
+    let words = ["modulate", "c", "t", "o"];
+    assert!(rt; stream.len() == 376);
+    for bytes in [&stream[188..], &[][..]] {
+        let ended = ends(alloc, &words, SMALL, Some(bytes), 1 << 20)?;
+        assert_eq!(rt; ended.outcome, Outcome::NoSuperframe);
+        assert_eq!(rt; ended.outcome.status(), 6);
+        assert_eq!(rt;
+            ended.said.as_slice(),
+            "refused: no superframe\n".as_bytes()
+        );
+        assert_eq!(rt; ended.out.as_ref().map(|out| out.len()), Some(0));
+    }
+    let whole = records(&rt, SMALL, &stream, "first=0 records=4 muted=0\n")?;
+    let front = records(&rt, SMALL, &stream[..188], "first=0 records=2 muted=0\n")?;
+    assert!(rt; whole.starts_with(&front) && front.len() == 2 * EMPTY_RECORD);
+    Ok(())
+}
+
+// An input that is not there is found before OUT is created, and OUT must be none of the files that are read.
+#[test]
+fn nothing_is_created_for_wrong_words(rt: HostRuntime) -> Result<(), Fail> {
+    let alloc = rt.alloc();
+    let absent = ends(alloc, &["modulate", "c", "t", "o"], SMALL, None, 1 << 20)?;
+    assert_eq!(rt; absent.outcome, Outcome::ReadFault);
+    assert_eq!(rt; absent.said.as_slice(), "fault: read\n".as_bytes());
+    assert!(rt; absent.out.is_none());
+    let wrong: [&[&str]; 4] = [
+        &["modulate", "c", "t"],
+        &["modulate", "c", "t", "o", "o"],
+        &["modulate", "c", "t", "t"],
+        &["modulate", "c", "t", "c"],
+    ];
+    for words in wrong {
+        let ended = ends(alloc, words, SMALL, Some(&[]), 1 << 20)?;
+        assert_eq!(rt; ended.outcome, Outcome::Usage);
+        assert!(rt; ended.out.is_none());
+    }
+    Ok(())
+}
