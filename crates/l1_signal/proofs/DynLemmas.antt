@@ -3,6 +3,7 @@ use Rattle.std.proofs.Common.{◌≡◌, ℕ, ◌+◌, ◌*◌, Bool, List, [], 
 use Rattle.std.specs.Prelude.{slice_index}
 use Rattle.std.specs.List.{flat_map}
 use Rattle.std.proofs.lemmas.List.FromFn.{fill_by_all}
+use Rattle.terms.proofs.RangeLemmas.{one_listed}
 use Rattle.l1_signal.specs.declared.fault.L1Fault.{L1Fault}
 use Rattle.l1_signal.specs.declared.dyn_plp.DynPlp.{DynPlp}
 use Rattle.l1_signal.specs.declared.dynamic.L1Dyn.{L1Dyn}
@@ -66,9 +67,6 @@ dyn_read_back dynamic front rest s =
     (spelled_values dyn_back_rows dynamic s.back rest s.back_spells) refl
 
 -- ---- what is read is spelled so
-one_listed : (vs : List ℕ) → length vs ≡ 1 → vs ≡ slice_index vs 0 ∷ []
-one_listed vs e = fill_by_all (λ (k : ℕ). get_or vs k 0) vs 1 0 e (λ k lt. refl)
-
 front_listed : (vs : List ℕ) (plps : List DynPlp) → length vs ≡ 6 → vs ≡ values dyn_front_rows (dyn_at vs plps) (slice_index vs 5 ∷ [])
 front_listed vs plps e = fill_by_all (λ (k : ℕ). get_or vs k 0) vs 6 0 e (λ k lt. refl)
 

@@ -7,6 +7,7 @@ use Rattle.std.proofs.lemmas.List.Concat.{flat_map-append}
 use Rattle.std.proofs.lemmas.Option.{IfSome_then}
 use Rattle.terms.proofs.CaseLemmas.{bool_cases}
 use Rattle.terms.proofs.OptionLemmas.{if_both}
+use Rattle.terms.proofs.RangeLemmas.{one_listed}
 use Rattle.ports.specs.Desk.{State, bytes_of}
 use Rattle.plp_config.specs.declared.config.Config.{Config}
 use Rattle.plp_config.specs.declared.moment.TheConstants.{MOST_FRAMES}
@@ -37,17 +38,12 @@ use Rattle.modulate_run.proofs.MachineLemmas.{falls_short}
 
 -- ---- one input
 
-one_place : (places : List ℕ) → length places ≡ 1 → places ≡ slice_index places 0 ∷ []
-one_place [] e = absurd (omega (arith, e))
-one_place (p ∷ []) e = refl
-one_place (p ∷ q ∷ places) e = absurd (omega (arith, e))
-
 -- what a run did that stands at a place, where it follows of what was fed from the file what the output has
 writes_by : {old new : State} {out name : List ℕ} {reach : ℕ → ℕ} {Came : List Event → Type 0} {Holds : List Event → List ℕ → Type 0} (Has : List ℕ → List ℕ → Type 0) (s : driver.Stands old new out (name ∷ []) reach Came Holds)
     → ((file bytes : List ℕ) → IsFed file (slice_index s.places 0) (fed 0 s.events) (has_ended 0 s.events) → Holds s.events bytes → Has file bytes)
     → Writes old new name out (slice_index s.places 0) Has
 writes_by {old = old} {new = new} {out = out} {name = name} Has s f =
-    subst (λ (places : List ℕ). Works old new out (name ∷ []) places (λ h bytes. Has (bytes_of h.files name) bytes)) (one_place s.places s.works.all)
+    subst (λ (places : List ℕ). Works old new out (name ∷ []) places (λ h bytes. Has (bytes_of h.files name) bytes)) (one_listed s.places s.works.all)
     (works_by (λ files bytes. Has (files 0) bytes) s (λ files are bytes holds. f (files 0) bytes (are 0 (omega arith)) holds))
 
 -- ---- what is due
