@@ -14,6 +14,8 @@ pub mod Skipping
 pub mod SpellLaws
 pub mod Stands
 pub mod Stood
+pub mod SurvivorLaws
+pub mod Survivors
 pub mod Units
 pub mod UnpiperStandsFor
 pub use Rattle.t2mi_packet.specs.Spell

@@ -1,0 +1,9 @@
+pub mod SentPackets
+pub mod Survivors
+pub mod Streams
+pub mod Laws
+pub mod StreamLaws
+pub use Rattle.frame_groups.specs.Groups
+pub use Rattle.frame_groups.specs.Modulated
+pub use Rattle.frame_groups.specs.Numbers
+pub use Rattle.t2mi_stream.specs.Received

@@ -1,0 +1,24 @@
+// Laws of the definitions. Their functions do nothing.
+ghost use Rattle.damage.specs.Laws.{GroupsAreFrames, ModulatedIsRecords, WholeTold, WholeIsAll, NotWholeMisses, LaterNear};
+
+/// If survivors are near one another, the groups are the survivors of those frames that have one.
+pub fn group_law()
+    ensures { GroupsAreFrames }
+{}
+
+/// The records of survivors that are near one another are those that must come.
+pub fn record_law()
+    ensures { ModulatedIsRecords }
+{}
+
+/// What survives of a whole frame, and of one that is not.
+pub fn whole_law()
+    ensures told { WholeTold }
+    ensures all { WholeIsAll }
+    ensures misses { NotWholeMisses }
+{}
+
+/// If only packets at the front are lost, survivors are near one another.
+pub fn late_law()
+    ensures { LaterNear }
+{}

@@ -1,0 +1,28 @@
+// Laws of streams. Their functions do nothing.
+ghost use Rattle.damage.specs.StreamLaws.{ReadAreSurvivors, HonestGroups, HonestRecords, KeptHonest, KeptWhole};
+
+use crate::laws::{group_law, late_law, record_law, whole_law};
+use t2mi_stream::{survives, survivor_law, undamaged_law};
+
+/// What is written of an honest stream is what must come of it.
+pub fn honest_law()
+    ensures read { ReadAreSurvivors }
+    ensures groups { HonestGroups }
+    ensures records { HonestRecords }
+{
+    survivor_law();
+    group_law();
+    record_law();
+}
+
+/// A stream of which all units from one on are kept is honest, and a frame is whole whose units are kept.
+pub fn kept_law()
+    ensures honest { KeptHonest }
+    ensures whole { KeptWhole }
+{
+    survives();
+    survivor_law();
+    undamaged_law();
+    late_law();
+    whole_law();
+}

@@ -1,0 +1,53 @@
+-- Laws of a run as a stream of which units are lost or altered.
+use Rattle.std.specs.Prelude.{◌≡◌, ◌<◌, ◌≤◌, ◌^◌, ℕ, true, false, Bool, List, map, length, drop, Some}
+use Rattle.std.specs.List.{items_where_true}
+use Rattle.plp_config.specs.Capacity.{IsPlan}
+use Rattle.plp_config.specs.declared.config.Config.{Config}
+use Rattle.plp_config.specs.declared.moment.TheConstants.{MOST_FRAMES}
+use Rattle.t2mi_stream.specs.Pipe.{pipe}
+use Rattle.t2mi_stream.specs.Received.{Fate, AlteredWhole}
+use Rattle.t2mi_stream.specs.Survivors.{AreKept}
+use Rattle.mode_adapt.specs.Blocks.{plp_blocks}
+use Rattle.frame_tests.specs.Tests.{rules}
+use Rattle.frame_records.specs.Frames.{frame_of, HasByteIds}
+use Rattle.frame_records.specs.Records.{file_bytes}
+use Rattle.gateway_core.specs.Packets.{frame_bodies}
+use Rattle.open_group.specs.Written.{packets_view, content_view}
+use Rattle.modulator.specs.StandsFor.{records_due, bytes_due}
+use Rattle.damage.specs.SentPackets.{AreFrames, frame_packets}
+use Rattle.damage.specs.Laws.{RulesMeet}
+use Rattle.damage.specs.Streams.{IsStream, Honest}
+use Rattle.sent_frames.specs.SentFrames.{sent_frames, frames_stream, stream_bytes, left_records, run_frames, run_stream, run_records}
+use Rattle.sent_frames.specs.Types.{TypesFit}
+
+-- The packets of a run are sent frame by frame: each frame has one, and they tell their frames.
+abbrev pub SentAreFrames : Type 0
+SentAreFrames = (c : Config) (inputs : ℕ → List (List ℕ)) (n : ℕ) → 0 < c.frames → AreFrames c.frames n (sent_frames c inputs n)
+
+-- The packets of a frame carry what the frame has.
+abbrev pub FrameCarries : Type 0
+FrameCarries = (c : Config) (inputs : ℕ → List (List ℕ)) (n m : ℕ) → m < n
+    → map (λ p. p.body) (frame_packets m (sent_frames c inputs n)) ≡ frame_bodies c m (plp_blocks c inputs m)
+
+-- The packets of a plan's frames are a stream.
+abbrev pub FramesAreStream : Type 0
+FramesAreStream = (c : Config) (inputs : ℕ → List (List ℕ)) (n : ℕ) → IsPlan c → HasByteIds c → n ≤ MOST_FRAMES → IsStream (frames_stream c inputs n)
+
+-- The six tests make of it what they must, whatever survives.
+abbrev pub TestsMeet : Type 0
+TestsMeet = (c : Config) (inputs : ℕ → List (List ℕ)) (n : ℕ) (survival : List Bool) → IsPlan c → TypesFit c → n ≤ MOST_FRAMES → length survival ≡ length (sent_frames c inputs n)
+    → RulesMeet (rules c) n (sent_frames c inputs n) survival
+
+-- What is written of the packets of a frame is the frame.
+abbrev pub WrittenIsFrame : Type 0
+WrittenIsFrame = (c : Config) (inputs : ℕ → List (List ℕ)) (n m : ℕ) → IsPlan c → TypesFit c → m < n → packets_view c m (frame_packets m (sent_frames c inputs n)) ≡ frame_of c inputs m
+
+-- A run of which all units from one on are kept is honest.
+abbrev pub KeptIsHonest : Type 0
+KeptIsHonest = (c : Config) (inputs : ℕ → List (List ℕ)) (n from : ℕ) (fates : List Fate) → IsPlan c → HasByteIds c → n ≤ MOST_FRAMES → AlteredWhole fates
+    → AreKept (length (drop from (pipe c.pid (frames_stream c inputs n).packets))) fates → Honest (frames_stream c inputs n) from fates
+
+-- If damage is honest, what is written of what is received are the records that must come.
+abbrev pub WrittenMustCome : Config → Type 0
+WrittenMustCome c = (inputs : ℕ → List (List ℕ)) (n from : ℕ) (fates : List Fate) → n ≤ MOST_FRAMES → Honest (frames_stream c inputs n) from fates
+    → bytes_due c true (stream_bytes (frames_stream c inputs n) from fates) ≡ file_bytes (left_records c inputs n from fates)

@@ -1,0 +1,10 @@
+pub mod SentFrames
+pub mod Types
+pub mod Laws
+pub use Rattle.frame_records.specs.Frames
+pub use Rattle.frame_records.specs.Records
+pub use Rattle.gateway_core.specs.Packets
+pub use Rattle.damage.specs.Streams
+pub use Rattle.damage.specs.Survivors
+pub use Rattle.modulator.specs.StandsFor
+pub use Rattle.t2mi_stream.specs.Received
