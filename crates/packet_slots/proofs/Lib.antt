@@ -1,0 +1,17 @@
+mod OneLemmas
+mod SlotLemmas
+mod TurnLemmas
+mod PieceLemmas
+mod IscrLemmas
+mod HoldsLemmas
+mod OutLemmas
+mod BlockLemmas
+mod FillLemmas
+mod ListLemmas
+mod PlaceLemmas
+mod ReadbackLemmas
+mod WindowLemmas
+mod TimeLemmas
+mod BothLemmas
+mod FieldLemmas
+mod StandsLemmas

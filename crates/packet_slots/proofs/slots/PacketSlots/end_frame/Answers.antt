@@ -1,0 +1,10 @@
+use Rattle.std.proofs.Common.{sym, subst}
+use Rattle.packet_slots.specs.StandsFor.{StandsFor, StandsWithin}
+use Rattle.packet_slots.proofs.StandsLemmas.{ends_frame, stands_at}
+use Rattle.packet_slots.proofs.slots.PacketSlots.end_frame.Goals as goal
+
+pub returns-clause-stands : goal.returns-clause-stands
+unfolding StandsFor StandsWithin
+returns-clause-stands c = λ r first records blocks released h.
+    let p = c.args.self.now in
+    stands_at c.leave.ensures.assembler c.leave.ensures.frame (ends_frame r first p.frame records blocks released p.assembler p.window c.leave.new.self.window h c.leave.ensures.window)

@@ -1,0 +1,11 @@
+use Rattle.std.proofs.Common.{None, refl}
+use Rattle.packet_slots.specs.StandsFor.{StandsWithin}
+use Rattle.packet_slots.proofs.StandsLemmas.{takes}
+use Rattle.packet_slots.proofs.slots.PacketSlots.skip.Goals as goal
+
+pub returns-clause-stands : goal.returns-clause-stands
+unfolding StandsWithin
+returns-clause-stands c = λ r first records blocks released h.
+    let p = c.args.self.now in
+    takes r first p.frame records blocks None released p.assembler c.take_gap.new.assembler p.window p.window h (record { rule = refl; first = refl; end = refl; due = refl })
+    (c.take_gap.ensures.both r _ p.frame h.both)

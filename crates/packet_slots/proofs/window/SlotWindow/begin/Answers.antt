@@ -1,0 +1,14 @@
+use Rattle.std.proofs.Common.{ap, arith, length}
+use Rattle.packet_slots.proofs.TimeLemmas.{released_late}
+use Rattle.packet_slots.proofs.window.SlotWindow.begin.Goals as goal
+
+pub invariant_of-self : goal.invariant_of-self
+invariant_of-self c =
+    let w = c.args.self.now in
+    let late = released_late c.release_law.ensures.old c.slot_time_law.ensures.count_rises w.rule w.sound c.args.frame in
+    record {
+      sound = w.sound;
+      room = w.room;
+      span = omega (arith, ap length c.requires.empty);
+      known = let first = c.range_of-first.ensures.first in omega (arith, late, first, c.released_at-due_end.ensures);
+    }

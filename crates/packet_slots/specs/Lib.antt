@@ -1,0 +1,16 @@
+pub mod Sound
+pub mod Strings
+pub mod Packets
+pub mod Machine
+pub mod Pieces
+pub mod Base
+pub mod Stands
+pub mod Times
+pub mod Readback
+pub mod Records
+pub mod Filling
+pub mod Window
+pub mod Holds
+pub mod Both
+pub mod StandsFor
+pub mod Laws

@@ -1,0 +1,88 @@
+-- User packets of a string: which are complete, and which slot each has.
+use Rattle.std.specs.Prelude.{ℕ, zero, suc, ◌+◌, ◌-◌, ◌*◌, ◌%◌, ◌==◌, ◌&&◌, Bool, false, List, [], ◌∷◌, ◌++◌, length, take, drop, Option, Some, None, if◌then◌else◌, option_map}
+use Rattle.std.specs.List.{range_with_len, find, list_all}
+use Rattle.plp_config.specs.SlotTime.{slot_start, slot_count}
+use Rattle.packet_slots.specs.declared.rule.TheConstants.{ISCR_MODULUS}
+use Rattle.packet_slots.specs.declared.mark.Mark.{Mark}
+use Rattle.packet_slots.specs.declared.rule.SlotRule.{SlotRule}
+use Rattle.packet_slots.specs.Strings.{Item, is_start, is_inside}
+use Rattle.packet_slots.specs.declared.mark.Mark.TheVariants.{Gap, Inside, Next, Timed}
+
+abbrev pub all_inside : List Item → Bool
+all_inside xs = list_all (λ x. is_inside x.mark) xs
+
+-- A user packet begins at the first byte, and at no other.
+unfoldable pub is_one : List Item → Bool
+is_one [] = false
+is_one (x ∷ xs) = is_start x.mark && all_inside xs
+
+abbrev pub no_item : Item
+no_item = record { mark = Gap; value = 0; frame = 0; can_end = false }
+
+abbrev pub last_of : Item → List Item → Item
+last_of x [] = x
+last_of x (y ∷ ys) = last_of y ys
+
+abbrev pub first_item : List Item → Item
+first_item [] = no_item
+first_item (x ∷ xs) = x
+
+abbrev pub last_item : List Item → Item
+last_item xs = last_of no_item xs
+
+-- These bytes, as many as a user packet has, are a complete one: no other begins among them, and it can end where they end.
+abbrev pub is_complete : List Item → Bool
+is_complete w = is_one w && (last_item w).can_end
+
+-- the slot of the range of a frame whose start, modulo 2^22, is the ISCR (annex C.1)
+abbrev pub slot_of_iscr : SlotRule → ℕ → ℕ → Option ℕ
+slot_of_iscr r frame iscr =
+    find (λ k. slot_start r.num r.den k % ISCR_MODULUS == iscr)
+    (range_with_len (slot_count r.num r.den ((frame - 1) * r.ticks)) (slot_count r.num r.den (frame * r.ticks) - slot_count r.num r.den ((frame - 1) * r.ticks)))
+
+abbrev pub dnp_of : SlotRule → List Item → ℕ
+dnp_of r w = if r.deletes then (last_item w).value else 0
+
+-- the slot of a user packet, by that of the complete one that ends where it begins
+abbrev pub slot_by : SlotRule → Mark → ℕ → ℕ → Option ℕ → Option ℕ
+slot_by r Gap frame dnp before = None
+slot_by r Inside frame dnp before = None
+slot_by r Next frame dnp before = option_map (λ k. k + 1 + dnp) before
+slot_by r (Timed iscr) frame dnp before = slot_of_iscr r frame iscr
+
+unfoldable pub slot_of : SlotRule → List Item → Option ℕ → Option ℕ
+slot_of r w before = if is_complete w then slot_by r (first_item w).mark (first_item w).frame (dnp_of r w) before else None
+
+abbrev pub window : SlotRule → List Item → ℕ → List Item
+window r z x = take r.up_len (drop x z)
+
+abbrev pub latest : List (Option ℕ) → Option ℕ
+latest [] = None
+latest (s ∷ slots) = s
+
+-- the slot at up_len places before the next one
+abbrev pub slot_before : SlotRule → List (Option ℕ) → Option ℕ
+slot_before r slots = latest (drop (r.up_len - 1) slots)
+
+-- the slots of the complete user packets that begin at the places below n, the last place first
+unfoldable pub slots_at : SlotRule → List Item → ℕ → List (Option ℕ)
+slots_at r z zero = []
+slots_at r z (suc x) = slot_of r (window r z x) (slot_before r (slots_at r z x)) ∷ slots_at r z x
+
+-- a complete user packet that has a slot
+pub record UserPacket : Type 0 where
+  pub slot : ℕ
+  pub items : List Item
+
+abbrev pub with_slot : List Item → Option ℕ → List UserPacket
+with_slot w None = []
+with_slot w (Some k) = record { slot = k; items = w } ∷ []
+
+-- those that begin at the places below n, in order
+unfoldable pub packets_at : SlotRule → List Item → ℕ → List UserPacket
+packets_at r z zero = []
+packets_at r z (suc x) = packets_at r z x ++ with_slot (window r z x) (slot_of r (window r z x) (slot_before r (slots_at r z x)))
+
+-- those of the string
+abbrev pub user_packets : SlotRule → List Item → List UserPacket
+user_packets r z = packets_at r z (length z + 1 - r.up_len)

@@ -1,0 +1,33 @@
+-- The packets of the slots, by what was received.
+use Rattle.std.specs.Prelude.{ℕ, ◌+◌, ◌-◌, ◌*◌, ◌==◌, ◌&&◌, nat_le, nat_lt, Bool, List, Option, option_map, unwrap_or}
+use Rattle.std.specs.List.{find, filter}
+use Rattle.ts_packet.specs.Null.{null_packet}
+use Rattle.plp_config.specs.SlotTime.{slot_start}
+use Rattle.packet_slots.specs.declared.rule.SlotRule.{SlotRule}
+use Rattle.packet_slots.specs.Base.{packet_of}
+use Rattle.packet_slots.specs.Times.{delay_of, over_after}
+use Rattle.packet_slots.specs.Strings.{Item, values}
+use Rattle.packet_slots.specs.Packets.{UserPacket, user_packets, first_item, last_item}
+
+-- A slot is in the range of the frame in which its user packet begins, and is not given out when the frame begins in which it ends.
+abbrev pub counts_by : SlotRule → ℕ → ℕ → ℕ → ℕ → Bool
+counts_by r delay slot begun ended =
+    nat_le (over_after r (begun - 1)) slot && (nat_lt slot (over_after r begun)
+    && nat_lt (ended * r.ticks) (slot_start r.num r.den slot + delay))
+
+abbrev pub counts : SlotRule → UserPacket → Bool
+counts r up = counts_by r (delay_of r) up.slot (first_item up.items).frame (last_item up.items).frame
+
+-- the user packets of a string that count, in order
+unfoldable pub counted : SlotRule → List Item → List UserPacket
+counted r z = filter (counts r) (user_packets r z)
+
+-- the packet of a slot: of several that count the first
+abbrev pub found_for : SlotRule → List Item → ℕ → Option UserPacket
+found_for r z k = find (λ up. up.slot == k) (counted r z)
+
+abbrev pub slot_option : SlotRule → List Item → ℕ → Option (List ℕ)
+slot_option r z k = option_map (λ up. packet_of (values up.items)) (found_for r z k)
+
+abbrev pub slot_packet : SlotRule → List Item → ℕ → List ℕ
+slot_packet r z k = unwrap_or (slot_option r z k) null_packet

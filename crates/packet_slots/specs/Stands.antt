@@ -1,0 +1,72 @@
+-- What an `Assembler` stands for.
+use Rattle.std.specs.Prelude.{◌≡◌, ℕ, ◌-◌, ◌<◌, ◌++◌, ◌==◌, slice_index, min, option_map, true, false, List, [], ◌∷◌, take, Option, Some, None, if◌then◌else◌}
+use Rattle.plp_config.specs.declared.moment.TheConstants.{MOST_FRAMES}
+use Rattle.packet_slots.specs.declared.rule.TheConstants.{ISCR_MODULUS}
+use Rattle.packet_slots.specs.declared.rule.SlotRule.{SlotRule}
+use Rattle.packet_slots.specs.declared.assembler.Assembler.{Assembler}
+use Rattle.packet_slots.specs.declared.assembler.Base.{Base}
+use Rattle.packet_slots.specs.declared.assembler.Found.{Found}
+use Rattle.packet_slots.specs.declared.mark.Mark.{Mark}
+use Rattle.packet_slots.specs.declared.mark.Mark.TheVariants.{Gap, Inside, Next, Timed}
+use Rattle.packet_slots.specs.Strings.{Item, values}
+use Rattle.packet_slots.specs.Packets.{slot_of_iscr, UserPacket, user_packets, first_item, last_item}
+use Rattle.packet_slots.specs.Machine.{State, Follows}
+use Rattle.packet_slots.specs.Base.{Holds, slot_with, far}
+
+abbrev pub IsFrame : ℕ → Mark → Type 0
+IsFrame frame Gap = ⊥
+IsFrame frame Inside = frame < MOST_FRAMES
+IsFrame frame Next = frame < MOST_FRAMES
+IsFrame frame (Timed iscr) = (frame < MOST_FRAMES) × (iscr < ISCR_MODULUS)
+
+abbrev pub next_base : SlotRule → ℕ → Base → Mark → ℕ → Base
+next_base r len kept Gap frame = record { timed = false; slot = None; frame = frame }
+next_base r len kept Inside frame = kept
+next_base r len kept Next frame = record { timed = false; slot = if len == 0 then kept.slot else None; frame = frame }
+next_base r len kept (Timed iscr) frame = record { timed = true; slot = slot_of_iscr r frame iscr; frame = frame }
+
+pub record Stands (r : SlotRule) (len : ℕ) (held : List ℕ) (kept : Base) (z : List Item) : Type 0 where
+  pub state : State
+  pub follows : Follows r z state
+  pub holds : Holds r state len held kept
+
+-- the string of the data fields so far, joined
+unfoldable pub StandsFor : Assembler → SlotRule → List Item → Type 0
+StandsFor a r z = (a.rule ≡ r) × Stands r a.len a.held a.base z
+
+-- nothing is held, and no user packet ended
+pub record IsCleared (old new : Assembler) : Type 0 where
+  pub len : new.len ≡ 0
+  pub slot : new.base.slot ≡ None
+  pub rule : new.rule ≡ old.rule
+  pub held : new.held ≡ old.held
+
+abbrev pub found_of : Base → Option ℕ → Option Found
+found_of base slot = option_map (λ k. record { slot = k; frame = base.frame }) slot
+
+abbrev pub kept_dnp : SlotRule → List ℕ → ℕ
+kept_dnp r held = if r.deletes then slice_index held (r.up_len - 1) else 0
+
+pub record Ends (old new : Assembler) (base : Base) (result : Option Found) : Type 0 where
+  pub len : new.len ≡ 0
+  pub slot : new.base.slot ≡ slot_with base (kept_dnp old.rule old.held)
+  pub rule : new.rule ≡ old.rule
+  pub held : new.held ≡ old.held
+  pub answer : result ≡ found_of base (slot_with base (kept_dnp old.rule old.held))
+
+-- what was found is this user packet, which ended in this frame, and these are its bytes
+pub record IsFound (r : SlotRule) (frame : ℕ) (held : List ℕ) (found : Found) (up : UserPacket) : Type 0 where
+  pub slot : found.slot ≡ min up.slot far
+  pub begun : found.frame ≡ (first_item up.items).frame
+  pub ended : (last_item up.items).frame ≡ frame
+  pub bytes : take r.up_len held ≡ values up.items
+
+abbrev pub Gives : SlotRule → ℕ → List ℕ → Option Found → List UserPacket → Type 0
+Gives r frame held None given = given ≡ []
+Gives r frame held (Some found) given = (up : UserPacket) × IsFound r frame held found up × (given ≡ up ∷ [])
+
+-- the user packets that a string gains by some items are what was found
+pub record Gains (r : SlotRule) (z : List Item) (frame : ℕ) (more : List Item) (held : List ℕ) (result : Option Found) : Type 0 where
+  pub given : List UserPacket
+  pub packets : user_packets r (z ++ more) ≡ user_packets r z ++ given
+  pub gives : Gives r frame held result given

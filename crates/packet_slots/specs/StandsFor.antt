@@ -1,0 +1,57 @@
+-- What a `PacketSlots` stands for.
+use Rattle.std.specs.Prelude.{◌≡◌, ℕ, ◌+◌, ◌-◌, List, [], ◌++◌, length, Option, Bool, true, false}
+use Rattle.std.specs.List.{flat_map}
+use Rattle.packet_slots.specs.declared.rule.SlotRule.{SlotRule}
+use Rattle.packet_slots.specs.declared.assembler.Assembler.{Assembler}
+use Rattle.packet_slots.specs.declared.slots.PacketSlots.{PacketSlots}
+use Rattle.packet_slots.specs.declared.window.SlotWindow.{SlotWindow}
+use Rattle.packet_slots.specs.Strings.{Item, Block}
+use Rattle.packet_slots.specs.Records.{Record, string_of, first_slot, block_or_gap}
+use Rattle.packet_slots.specs.Times.{over_after, due_after}
+use Rattle.packet_slots.specs.Both.{Both}
+
+-- the items of blocks of a frame
+abbrev pub blocks_items : ℕ → ℕ → List (Option Block) → List Item
+blocks_items len frame blocks = flat_map (block_or_gap len frame) blocks
+
+pub record Stands (a : Assembler) (w : SlotWindow) (frame : ℕ) (r : SlotRule) (first : ℕ) (records : List Record) (released : ℕ) : Type 0 where
+  pub both : Both r (string_of r.up_len first records) a w
+  pub number : frame ≡ first + length records
+  pub begin : w.first ≡ first_slot r first + released
+  pub end : w.end ≡ over_after r (frame - 1)
+  pub due : w.due_end ≡ due_after r frame
+
+pub record Within (a : Assembler) (w : SlotWindow) (frame : ℕ) (r : SlotRule) (first : ℕ) (records : List Record) (blocks : List (Option Block)) (released : ℕ) : Type 0 where
+  pub both : Both r (string_of r.up_len first records ++ blocks_items r.up_len frame blocks) a w
+  pub number : frame ≡ first + length records
+  pub begin : w.first ≡ first_slot r first + released
+  pub end : w.end ≡ over_after r frame
+
+-- the frame that comes next, or that is under way, and how many slots are due
+abbrev pub frame_of : PacketSlots → ℕ
+frame_of p = p.frame
+
+abbrev pub is_within : PacketSlots → Bool
+is_within p = p.in_frame
+
+abbrev pub due_of : PacketSlots → ℕ
+due_of p = p.window.due_end - p.window.first
+
+abbrev pub rule_of : PacketSlots → SlotRule
+rule_of p = p.window.rule
+
+-- These records came, the first of them of this frame, and so many slots were given out.
+unfoldable pub StandsFor : PacketSlots → SlotRule → ℕ → List Record → ℕ → Type 0
+StandsFor p r first records released = Stands p.assembler p.window p.frame r first records released
+
+-- And of the next frame, which is under way, these blocks; nothing in place of one that is not taken.
+unfoldable pub StandsWithin : PacketSlots → SlotRule → ℕ → List Record → List (Option Block) → ℕ → Type 0
+StandsWithin p r first records blocks released = Within p.assembler p.window p.frame r first records blocks released
+
+-- no record came yet
+pub record Fresh (a : Assembler) (w : SlotWindow) (r : SlotRule) : Type 0 where
+  pub both : Both r [] a w
+  pub empty : w.slots.items ≡ []
+
+unfoldable pub IsFresh : PacketSlots → SlotRule → Type 0
+IsFresh p r = Fresh p.assembler p.window r

@@ -1,0 +1,43 @@
+-- What happens to a window.
+use Rattle.std.specs.Prelude.{ℕ, ◌+◌, ◌-◌, nat_lt, List, ◌++◌, replicate, drop, get_or, unwrap_or, None, if◌then◌else◌}
+use Rattle.std.specs.declared.option.Option.{Option}
+use Rattle.ts_packet.specs.Null.{null_packet}
+use Rattle.packet_slots.specs.declared.rule.SlotRule.{SlotRule}
+use Rattle.packet_slots.specs.Filling.{filled}
+use Rattle.packet_slots.specs.Times.{over_after, due_after}
+use Rattle.packet_slots.specs.declared.window.SlotWindow.{SlotWindow}
+
+-- the slots from one on and before another, each with its packet once that came; those before a third one are due
+pub record Status : Type 0 where
+  pub rule : SlotRule
+  pub slots : List (Option (List ℕ))
+  pub first : ℕ
+  pub end : ℕ
+  pub due_end : ℕ
+
+abbrev pub status_of : SlotWindow → Status
+status_of w = record { rule = w.rule; slots = w.slots.items; first = w.first; end = w.end; due_end = w.due_end }
+
+-- a window that begins with the slots of a frame
+abbrev pub begun : Status → ℕ → Status
+begun s frame = record s { first = over_after s.rule (frame - 1); end = over_after s.rule (frame - 1); due_end = due_after s.rule frame }
+
+-- the slots of a frame came into it
+abbrev pub entered : Status → ℕ → Status
+entered s frame = record s { slots = s.slots ++ replicate (over_after s.rule frame - s.end) None; end = over_after s.rule frame }
+
+-- the packet of a slot came, unless the slot was given out, or has one
+abbrev pub put_in : Status → ℕ → List ℕ → Status
+put_in s slot packet = record s { slots = if nat_lt slot s.first then s.slots else filled s.slots (slot - s.first) packet }
+
+-- a frame has ended
+abbrev pub left : Status → ℕ → Status
+left s frame = record s { due_end = due_after s.rule (frame + 1) }
+
+-- the slot at the front was given out
+abbrev pub given : Status → Status
+given s = record s { slots = drop 1 s.slots; first = s.first + 1 }
+
+-- its packet, or a null packet
+abbrev pub front_packet : Status → List ℕ
+front_packet s = unwrap_or (get_or s.slots 0 None) null_packet

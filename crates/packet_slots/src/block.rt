@@ -1,0 +1,168 @@
+// Taking the blocks of a frame.
+ghost use Rattle.std.specs.Prelude.{◌≡◌, ◌^◌, ◌+◌, ◌-◌, ◌%◌, ◌<◌, ◌≤◌, ◌++◌, ◌==◌, ◌∷◌, [], length, take, drop, min, List, ℕ, IfSome, Some, Option, if◌then◌else◌};
+ghost use Rattle.packet_slots.specs.declared.rule.SlotRule.{SlotRule};
+ghost use Rattle.plp_config.specs.declared.moment.TheConstants.{MOST_FRAMES};
+ghost use Rattle.packet_slots.specs.Strings.{Item, gap, items_from, first_mark, block_items};
+ghost use Rattle.packet_slots.specs.declared.mark.Mark.TheVariants.{Next};
+ghost use Rattle.packet_slots.specs.Pieces.{piece_items};
+ghost use Rattle.packet_slots.specs.Stands.{IsFrame};
+ghost use Rattle.packet_slots.specs.Both.{Both, KeepsTimes, block_of, front_of, IsBegun, IsStart, IsPlace};
+
+use crate::assembler::Assembler;
+use crate::mark::Mark;
+use crate::rule::ISCR_MODULUS;
+use crate::window::SlotWindow;
+
+/// A block that was taken.
+#[derive(Clone, Copy)]
+pub struct TakenBlock<'a> {
+    /// The place in the data field at which the first user packet begins, in bytes, if one does.
+    pub first: Option<usize>,
+    /// ISSY, 24 bits.
+    pub issy: u32,
+    /// The data field.
+    pub field: &'a [u8],
+}
+
+// Takes a piece of a data field.
+fn take_piece(
+    assembler: &mut Assembler,
+    window: &mut SlotWindow,
+    mark: Mark,
+    frame: u64,
+    bytes: &[u8],
+)
+    requires frame { IsFrame frame mark }
+    requires some { 1 ≤ length bytes.now }
+    ensures times { KeepsTimes window.old window.new }
+    ensures rule { assembler.new.rule ≡ assembler.old.rule }
+    ensures both { (r : SlotRule) (z : List Item) → Both r z assembler.old window.old → Both r (z ++ piece_items mark frame bytes.now) assembler.new window.new }
+{
+    let Some(found) = assembler.piece(mark, frame, bytes) else {
+        return;
+    };
+    if window.counts(&found, frame) {
+        window.put(found.slot, assembler.packet());
+    }
+}
+
+// A block is not taken, or a frame is muted.
+pub fn take_gap(assembler: &mut Assembler, window: &SlotWindow)
+    ensures rule { assembler.new.rule ≡ assembler.old.rule }
+    ensures both { (r : SlotRule) (z : List Item) (frame : ℕ) → Both r z assembler.old window.now → Both r (z ++ gap frame ∷ []) assembler.new window.now }
+{
+    let _ = window;
+    assembler.gap();
+}
+
+// What begins at the first place where a user packet begins: an ISSY that begins with 10 tells its ISCR.
+fn first_mark(issy: u32) -> Mark
+    ensures value { result ≡ first_mark issy }
+    ensures frame { (frame : ℕ) → frame < MOST_FRAMES → IsFrame frame result }
+{
+    if u64::from(issy) / ISCR_MODULUS == 2 {
+        return Mark::Timed((u64::from(issy) % ISCR_MODULUS) as u32);
+    }
+    Mark::Next
+}
+
+// The mark of a user packet in a block.
+fn mark_of(issy: u32, start: usize, at: usize) -> Mark
+    ensures value { result ≡ (if at == start then first_mark issy else Next) }
+    ensures frame { (frame : ℕ) → frame < MOST_FRAMES → IsFrame frame result }
+{
+    if at == start {
+        return first_mark(issy);
+    }
+    Mark::Next
+}
+
+// Takes the user packet that begins at a place of a data field, or what stands there of it.
+fn take_up(
+    assembler: &mut Assembler,
+    window: &mut SlotWindow,
+    block: &TakenBlock<'_>,
+    start: usize,
+    at: usize,
+    frame: u64,
+) -> usize
+    requires frame { frame < MOST_FRAMES }
+    requires inside { at < length block.now.field.now }
+    requires first { block.now.first ≡ Some start }
+    requires begins { IsBegun start at assembler.old.rule.up_len }
+    ensures next { result ≡ min (at + assembler.old.rule.up_len) (length block.now.field.now) }
+    ensures times { KeepsTimes window.old window.new }
+    ensures rule { assembler.new.rule ≡ assembler.old.rule }
+    ensures both { (r : SlotRule) (z : List Item) → Both r (z ++ front_of r.up_len frame (block_of block.now) at) assembler.old window.old
+        → Both r (z ++ front_of r.up_len frame (block_of block.now) result) assembler.new window.new }
+{
+    let end = (at + assembler.up_len()).min(block.field.len());
+    take_piece(
+        assembler,
+        window,
+        mark_of(block.issy, start, at),
+        frame,
+        &block.field[at..end],
+    );
+    end
+}
+
+// Takes the bytes before the first user packet that begins in a block.
+fn take_front(
+    assembler: &mut Assembler,
+    window: &mut SlotWindow,
+    block: &TakenBlock<'_>,
+    start: usize,
+    frame: u64,
+)
+    requires frame { frame < MOST_FRAMES }
+    requires start { IsStart block.now.first (length block.now.field.now) start }
+    ensures times { KeepsTimes window.old window.new }
+    ensures rule { assembler.new.rule ≡ assembler.old.rule }
+    ensures both { (r : SlotRule) (z : List Item) → Both r z assembler.old window.old
+        → Both r (z ++ front_of r.up_len frame (block_of block.now) start) assembler.new window.new }
+{
+    if start == 0 {
+        return;
+    }
+    take_piece(
+        assembler,
+        window,
+        Mark::Inside,
+        frame,
+        &block.field[..start],
+    );
+}
+
+// The place where the first user packet begins, or the end of the data field.
+fn start_of(block: &TakenBlock<'_>) -> usize
+    requires { IsPlace block.now.first (length block.now.field.now) }
+    ensures { IsStart block.now.first (length block.now.field.now) result }
+{
+    match block.first {
+        Some(start) => start,
+        None => block.field.len(),
+    }
+}
+
+// Takes a block.
+pub fn take_block(
+    assembler: &mut Assembler,
+    window: &mut SlotWindow,
+    block: &TakenBlock<'_>,
+    frame: u64,
+)
+    requires frame { frame < MOST_FRAMES }
+    requires place { IsPlace block.now.first (length block.now.field.now) }
+    ensures times { KeepsTimes window.old window.new }
+    ensures rule { assembler.new.rule ≡ assembler.old.rule }
+    ensures both { (r : SlotRule) (z : List Item) → Both r z assembler.old window.old
+        → Both r (z ++ block_items r.up_len frame (block_of block.now)) assembler.new window.new }
+{
+    let start = start_of(block);
+    take_front(assembler, window, block, start, frame);
+    let mut at = start;
+    while at < block.field.len() {
+        at = take_up(assembler, window, block, start, at, frame);
+    }
+}

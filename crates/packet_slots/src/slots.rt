@@ -1,0 +1,193 @@
+// The slots of a PLP.
+ghost use Rattle.std.specs.Prelude.{◌≡◌, ◌<◌, ◌≤◌, ◌+◌, ◌-◌, ◌++◌, ◌∷◌, [], length, List, ℕ, IfOk, true, false, slice_get, Some, None, Option, option_map, if◌then◌else◌};
+ghost use Rattle.plp_config.specs.SlotTime.{window_slots};
+ghost use Rattle.packet_slots.specs.Times.{over_after, due_after, delay_of};
+
+use crate::assembler::Assembler;
+use crate::block::{TakenBlock, take_block, take_gap};
+use crate::rule::SlotRule;
+use crate::window::SlotWindow;
+use plp_config::slot_time_law;
+use std::alloc::{AllocError, Global};
+use ts_packet::SIZE;
+
+/// Puts the user packets of successive frames into their slots, and gives each slot's packet out once it is due.
+///
+/// Of each frame, [`begin_frame`](Self::begin_frame), then each block of the PLP in order, then [`end_frame`](Self::end_frame); or
+/// [`mute`](Self::mute). Behind that, all slots that are due must be given out.
+#[derive(Drop)]
+pub struct PacketSlots {
+    assembler: Assembler,
+    window: SlotWindow,
+    // The frame that comes next, or that is under way.
+    frame: u64,
+    in_frame: bool,
+    ghost same: { assembler.rule ≡ window.rule },
+    ghost reached: { window.end ≡ over_after window.rule (if in_frame then frame else frame - 1) },
+    ghost known: { window.due_end ≡ due_after window.rule frame },
+}
+
+impl PacketSlots {
+    ghost use Rattle.plp_config.specs.declared.moment.TheConstants.{MOST_FRAMES};
+    ghost use Rattle.packet_slots.specs.declared.rule.SlotRule.{SlotRule};
+    ghost use Rattle.packet_slots.specs.Sound.{IsSound};
+    ghost use Rattle.packet_slots.specs.Strings.{Block};
+    ghost use Rattle.packet_slots.specs.Records.{Record, muted_record, framed_record, readback, held_slots};
+    ghost use Rattle.packet_slots.specs.Both.{block_of, IsPlace};
+    ghost use Rattle.std.specs.Prelude.{nat_lt};
+    ghost use Rattle.packet_slots.specs.Window.{status_of, left};
+    ghost use Rattle.packet_slots.specs.StandsFor.{StandsFor, StandsWithin, IsFresh, frame_of, is_within, due_of, rule_of};
+
+    /// Takes all the memory that is needed.
+    ///
+    /// # Errors
+    /// There is no memory for it. No later call wants any.
+    pub fn open(alloc: Global, rule: SlotRule) -> Result<PacketSlots, AllocError>
+        requires { IsSound rule }
+        ensures fresh { IfOk result (λ p. IsFresh p rule) }
+        ensures outside { IfOk result (λ p. is_within p ≡ false) }
+        ensures rule { IfOk result (λ p. rule_of p ≡ rule) }
+    {
+        Ok(PacketSlots {
+            assembler: Assembler::new(rule),
+            window: SlotWindow::open(alloc, rule)?,
+            frame: 0,
+            in_frame: false,
+        })
+    }
+
+    /// Names the frame of the first record.
+    pub fn begin_at(&mut self, first: u64)
+        requires small { first < MOST_FRAMES }
+        requires outside { is_within self.old ≡ false }
+        requires fresh { self.old.window.slots.items ≡ [] }
+        ensures stands { (r : SlotRule) → IsFresh self.old r → StandsFor self.new r first [] 0 }
+        ensures frame { frame_of self.new ≡ first }
+        ensures outside { is_within self.new ≡ false }
+        ensures rule { rule_of self.new ≡ rule_of self.old }
+    {
+        self.window.begin(first);
+        self.frame = first;
+    }
+
+    /// The next frame begins. All slots that are due were given out.
+    pub fn begin_frame(&mut self)
+        requires small { frame_of self.old < MOST_FRAMES }
+        requires outside { is_within self.old ≡ false }
+        requires given_out { due_of self.old ≡ 0 }
+        ensures stands { (r : SlotRule) (first : ℕ) (records : List Record) (released : ℕ) → StandsFor self.old r first records released
+            → StandsWithin self.new r first records [] released }
+        ensures frame { frame_of self.new ≡ frame_of self.old }
+        ensures within { is_within self.new ≡ true }
+        ensures rule { rule_of self.new ≡ rule_of self.old }
+    {
+        self.window.enter(self.frame);
+        slot_time_law();
+        self.in_frame = true;
+    }
+
+    /// Takes the next block of the frame.
+    pub fn take(&mut self, block: &TakenBlock<'_>)
+        requires small { frame_of self.old < MOST_FRAMES }
+        requires within { is_within self.old ≡ true }
+        requires place { IsPlace block.now.first (length block.now.field.now) }
+        ensures stands { (r : SlotRule) (first : ℕ) (records : List Record) (blocks : List (Option Block)) (released : ℕ) → StandsWithin self.old r first records blocks released
+            → StandsWithin self.new r first records (blocks ++ Some (block_of block.now) ∷ []) released }
+        ensures frame { frame_of self.new ≡ frame_of self.old }
+        ensures within { is_within self.new ≡ true }
+        ensures rule { rule_of self.new ≡ rule_of self.old }
+    {
+        take_block(&mut self.assembler, &mut self.window, block, self.frame);
+    }
+
+    /// The next block of the frame is not taken.
+    pub fn skip(&mut self)
+        requires within { is_within self.old ≡ true }
+        ensures stands { (r : SlotRule) (first : ℕ) (records : List Record) (blocks : List (Option Block)) (released : ℕ) → StandsWithin self.old r first records blocks released
+            → StandsWithin self.new r first records (blocks ++ None ∷ []) released }
+        ensures frame { frame_of self.new ≡ frame_of self.old }
+        ensures within { is_within self.new ≡ true }
+        ensures rule { rule_of self.new ≡ rule_of self.old }
+    {
+        take_gap(&mut self.assembler, &self.window);
+    }
+
+    // The frame has ended.
+    fn leave(&mut self)
+        requires small { frame_of self.old < MOST_FRAMES }
+        requires within { is_within self.old ≡ true }
+        ensures assembler { self.new.assembler ≡ self.old.assembler }
+        ensures window { status_of self.new.window ≡ left (status_of self.old.window) (frame_of self.old) }
+        ensures frame { frame_of self.new ≡ frame_of self.old + 1 }
+        ensures outside { is_within self.new ≡ false }
+    {
+        self.window.leave(self.frame);
+        self.frame += 1;
+        self.in_frame = false;
+    }
+
+    /// The frame has ended: its blocks were taken.
+    pub fn end_frame(&mut self)
+        requires small { frame_of self.old < MOST_FRAMES }
+        requires within { is_within self.old ≡ true }
+        ensures stands { (r : SlotRule) (first : ℕ) (records : List Record) (blocks : List (Option Block)) (released : ℕ) → StandsWithin self.old r first records blocks released
+            → StandsFor self.new r first (records ++ framed_record blocks ∷ []) released }
+        ensures frame { frame_of self.new ≡ frame_of self.old + 1 }
+        ensures outside { is_within self.new ≡ false }
+        ensures rule { rule_of self.new ≡ rule_of self.old }
+    {
+        self.leave();
+    }
+
+    /// The next frame is muted. All slots that are due were given out.
+    pub fn mute(&mut self)
+        requires small { frame_of self.old < MOST_FRAMES }
+        requires outside { is_within self.old ≡ false }
+        requires given_out { due_of self.old ≡ 0 }
+        ensures stands { (r : SlotRule) (first : ℕ) (records : List Record) (released : ℕ) → StandsFor self.old r first records released
+            → StandsFor self.new r first (records ++ muted_record ∷ []) released }
+        ensures frame { frame_of self.new ≡ frame_of self.old + 1 }
+        ensures outside { is_within self.new ≡ false }
+        ensures rule { rule_of self.new ≡ rule_of self.old }
+    {
+        self.begin_frame();
+        self.skip();
+        self.leave();
+    }
+
+    /// How many slots are due and not given out.
+    pub fn due(&self) -> u64
+        ensures value { result ≡ due_of self.now }
+        ensures answer { (r : SlotRule) (first : ℕ) (records : List Record) (released : ℕ) → StandsFor self.now r first records released
+            → result ≡ length (readback r first records) - released }
+    {
+        self.window.due()
+    }
+
+    /// How many slots are in the window: those that have come into range and were not given out.
+    pub fn held(&self) -> u64
+        ensures most { result ≤ window_slots (rule_of self.now).num (rule_of self.now).den (delay_of (rule_of self.now)) (rule_of self.now).ticks }
+        ensures answer { (r : SlotRule) (first : ℕ) (records : List Record) (released : ℕ) → StandsFor self.now r first records released
+            → result ≡ held_slots r first (length records) - released }
+    {
+        self.window.held()
+    }
+
+    /// The packet of the next slot, if one is due: `false` exactly if none is.
+    pub fn release(&mut self, out: &mut [u8; SIZE]) -> bool
+        ensures stands { (r : SlotRule) (first : ℕ) (records : List Record) (released : ℕ) → StandsFor self.old r first records released
+            → StandsFor self.new r first records (if result then released + 1 else released) }
+        ensures answer { result ≡ true → (r : SlotRule) (first : ℕ) (records : List Record) (released : ℕ) → StandsFor self.old r first records released
+            → slice_get (readback r first records) released ≡ Some out.new }
+        ensures none { result ≡ false → (r : SlotRule) (first : ℕ) (records : List Record) (released : ℕ) → StandsFor self.old r first records released
+            → length (readback r first records) ≤ released }
+        ensures exact { result ≡ nat_lt 0 (due_of self.old) }
+        ensures due { due_of self.new ≡ due_of self.old - 1 }
+        ensures kept { result ≡ false → out.new ≡ out.old }
+        ensures frame { frame_of self.new ≡ frame_of self.old }
+        ensures within { is_within self.new ≡ is_within self.old }
+        ensures rule { rule_of self.new ≡ rule_of self.old }
+    {
+        self.window.release(out)
+    }
+}

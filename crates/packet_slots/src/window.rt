@@ -1,0 +1,177 @@
+// The window.
+ghost use Rattle.std.specs.Prelude.{◌≡◌, ◌^◌, ◌<◌, ◌≤◌, ◌+◌, ◌-◌, ◌*◌, ◌++◌, length, replicate, None, IfOk, []};
+ghost use Rattle.std.specs.declared.option.Option.{Option};
+ghost use Rattle.plp_config.specs.SlotTime.{window_slots};
+ghost use Rattle.packet_slots.specs.Times.{delay_of};
+ghost use Rattle.packet_slots.specs.Sound.{IsSound};
+ghost use Rattle.packet_slots.specs.Filling.{filled};
+
+use crate::counting::counts;
+use crate::times::{frame_range, released_at, window_of};
+use circular_buffer::HeapCircularBuffer;
+use plp_config::{release_law, slot_time_law};
+use std::alloc::{AllocError, Global};
+use ts_packet::{SIZE, TsPacket};
+use crate::assembler::Found;
+use crate::rule::SlotRule;
+
+/// The slots that have come into range and are not given out, each with its packet once that came.
+#[derive(Drop)]
+pub struct SlotWindow {
+    rule: SlotRule,
+    slots: HeapCircularBuffer<Option<TsPacket>>,
+    // The slot at the front, and the one behind the last.
+    first: u64,
+    end: u64,
+    // The slots before this one are due.
+    due_end: u64,
+    ghost sound: { IsSound rule },
+    ghost room: { slots.capacity ≡ window_slots rule.num rule.den (delay_of rule) rule.ticks },
+    ghost span: { first + length slots.items ≡ end },
+    ghost known: { due_end ≤ end },
+}
+
+// Appends slots that have no packet yet.
+fn push_empty(slots: &mut HeapCircularBuffer<Option<TsPacket>>, count: u64)
+    requires { length slots.old.items + count ≤ slots.old.capacity }
+    ensures items { slots.new.items ≡ slots.old.items ++ replicate count None }
+    ensures capacity { slots.new.capacity ≡ slots.old.capacity }
+    ensures longer { length slots.new.items ≡ length slots.old.items + count }
+{
+    for _ in 0..count {
+        slots.push_back(None);
+    }
+}
+
+// Gives the place of a slot its packet, unless it has one.
+#[tactic(auto, using(crate::proofs::FillLemmas::fill_none, crate::proofs::FillLemmas::fill_some, crate::proofs::FillLemmas::fill_past))]
+fn fill(slots: &mut HeapCircularBuffer<Option<TsPacket>>, place: u64, packet: TsPacket)
+    ensures items { slots.new.items ≡ filled slots.old.items place packet }
+    ensures capacity { slots.new.capacity ≡ slots.old.capacity }
+    ensures same { length slots.new.items ≡ length slots.old.items }
+{
+    if let Some(slot) = slots.get_mut(place as usize) {
+        if slot.is_none() {
+            *slot = Some(packet);
+        }
+    }
+}
+
+impl SlotWindow {
+    ghost use Rattle.plp_config.specs.declared.moment.TheConstants.{MOST_FRAMES};
+    ghost use Rattle.packet_slots.specs.Readback.{counts_by};
+    ghost use Rattle.packet_slots.specs.Times.{delay_of, over_after, due_after};
+    ghost use Rattle.packet_slots.specs.Window.{status_of, begun, entered, put_in, left, given, front_packet};
+    ghost use Rattle.std.specs.Prelude.{true, false, nat_lt, if◌then◌else◌};
+
+    /// Takes the memory of the window.
+    ///
+    /// # Errors
+    /// There is no memory for it. No later call wants any.
+    pub fn open(alloc: Global, rule: SlotRule) -> Result<SlotWindow, AllocError>
+        requires { IsSound rule }
+        ensures { IfOk result (λ w. status_of w ≡ record { rule = rule; slots = []; first = 0; end = 0; due_end = 0 }) }
+    {
+        Ok(SlotWindow {
+            rule,
+            slots: HeapCircularBuffer::with_capacity(alloc, window_of(&rule) as usize)?,
+            first: 0,
+            end: 0,
+            due_end: 0,
+        })
+    }
+
+    /// The output begins at the first slot of a frame.
+    pub fn begin(&mut self, frame: u64)
+        requires small { frame < MOST_FRAMES }
+        requires empty { self.old.slots.items ≡ [] }
+        ensures { status_of self.new ≡ begun (status_of self.old) frame }
+    {
+        let (first, _) = self.rule.range_of(frame);
+        let due_end = released_at(&self.rule, frame);
+        release_law();
+        slot_time_law();
+        self.first = first;
+        self.end = first;
+        self.due_end = due_end;
+    }
+
+    /// The slots of a frame come into range. Those that were due were given out.
+    pub fn enter(&mut self, frame: u64)
+        requires small { frame < MOST_FRAMES }
+        requires next { self.old.end ≡ over_after self.old.rule (frame - 1) }
+        requires given_out { due_after self.old.rule frame ≤ self.old.first }
+        ensures status { status_of self.new ≡ entered (status_of self.old) frame }
+        ensures order { self.old.end ≤ self.new.end }
+    {
+        let (_, end) = frame_range(&self.rule, frame);
+        release_law();
+        push_empty(&mut self.slots, end - self.end);
+        self.end = end;
+    }
+
+    /// Whether a user packet that ends in a frame counts: its slot is one of the frame in which it begins, and was not given out
+    /// before the frame in which it ends.
+    pub fn counts(&self, found: &Found, frame: u64) -> bool
+        requires begun { found.now.frame < MOST_FRAMES }
+        requires ended { frame < MOST_FRAMES }
+        ensures value { result ≡ counts_by self.now.rule (delay_of self.now.rule) found.now.slot found.now.frame frame }
+        ensures near { over_after self.now.rule found.now.frame < 2 ^ 53 }
+    {
+        counts(&self.rule, found, frame)
+    }
+
+    /// A slot gets its packet, unless it has one, or was given out.
+    pub fn put(&mut self, slot: u64, packet: TsPacket)
+        ensures { status_of self.new ≡ put_in (status_of self.old) slot packet }
+    {
+        if slot < self.first {
+            return;
+        }
+        fill(&mut self.slots, slot - self.first, packet);
+    }
+
+    /// A frame has ended.
+    pub fn leave(&mut self, frame: u64)
+        requires small { frame < MOST_FRAMES }
+        requires came { self.old.end ≡ over_after self.old.rule frame }
+        ensures { status_of self.new ≡ left (status_of self.old) frame }
+    {
+        let due_end = released_at(&self.rule, frame + 1);
+        release_law();
+        slot_time_law();
+        self.due_end = due_end;
+    }
+
+    /// How many slots are due.
+    pub fn due(&self) -> u64
+        ensures { result ≡ self.now.due_end - self.now.first }
+    {
+        self.due_end.saturating_sub(self.first)
+    }
+
+    /// How many slots are held: as many as the window of the PLP has at most.
+    pub fn held(&self) -> u64
+        ensures value { result ≡ self.now.end - self.now.first }
+        ensures most { result ≤ window_slots self.now.rule.num self.now.rule.den (delay_of self.now.rule) self.now.rule.ticks }
+    {
+        self.slots.len() as u64
+    }
+
+    /// The packet of the next slot, if it is due: a null packet if none came.
+    pub fn release(&mut self, out: &mut [u8; SIZE]) -> bool
+        ensures due { result ≡ nat_lt self.old.first self.old.due_end }
+        ensures status { status_of self.new ≡ (if result then given (status_of self.old) else status_of self.old) }
+        ensures packet { out.new ≡ (if result then front_packet (status_of self.old) else out.old) }
+    {
+        if self.first >= self.due_end {
+            return false;
+        }
+        let Some(slot) = self.slots.pop_front() else {
+            return false;
+        };
+        *out = *slot.unwrap_or(TsPacket::canonical()).as_array();
+        self.first += 1;
+        true
+    }
+}
