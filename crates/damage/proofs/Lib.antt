@@ -1,0 +1,5 @@
+pub mod PacketLemmas
+pub mod GroupLemmas
+pub mod WholeLemmas
+pub mod NearLemmas
+pub mod RecordLemmas

@@ -1,8 +1,7 @@
 -- Laws of frames of which packets are lost.
-use Rattle.std.specs.Prelude.{◌≡◌, ◌≢◌, ◌%◌, ℕ, ◌<◌, ◌+◌, true, false, Bool, List, [], length, slice_get, Some, None, is_some, count_by}
+use Rattle.std.specs.Prelude.{◌≡◌, ◌≢◌, ◌%◌, ℕ, ◌<◌, true, false, Bool, List, [], length, slice_get, Some, None, is_some, count_by}
 use Rattle.std.specs.List.{items_where_true, Contains}
 use Rattle.t2mi_packet.specs.declared.packet.Packet.{Packet}
-use Rattle.plp_config.specs.declared.config.Config.{Config}
 use Rattle.frame_groups.specs.Groups.{Group, groups}
 use Rattle.frame_groups.specs.Modulated.{Rules, modulated}
 use Rattle.frame_groups.specs.Numbers.{frame_key}

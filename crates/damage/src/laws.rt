@@ -1,6 +1,8 @@
 // Laws of the definitions. Their functions do nothing.
 ghost use Rattle.damage.specs.Laws.{GroupsAreFrames, ModulatedIsRecords, WholeTold, WholeIsAll, NotWholeMisses, LaterNear};
 
+use frame_groups::next_law;
+
 /// If survivors are near one another, the groups are the survivors of those frames that have one.
 pub fn group_law()
     ensures { GroupsAreFrames }
@@ -9,7 +11,9 @@ pub fn group_law()
 /// The records of survivors that are near one another are those that must come.
 pub fn record_law()
     ensures { ModulatedIsRecords }
-{}
+{
+    next_law();
+}
 
 /// What survives of a whole frame, and of one that is not.
 pub fn whole_law()

@@ -1,0 +1,5 @@
+use Rattle.damage.proofs.WholeLemmas.{whole_told, whole_is_all, not_whole_misses}
+use Rattle.damage.proofs.laws.whole_law.Goals as goal
+
+pub returns : goal.returns
+returns c = record { told = whole_told; all = whole_is_all; misses = not_whole_misses }
