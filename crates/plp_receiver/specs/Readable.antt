@@ -1,0 +1,83 @@
+-- Which records of frames are readable, and what they tell (EN 302 755, clauses 5 to 8).
+use Rattle.std.specs.Prelude.{ℕ, ◌+◌, ◌-◌, ◌*◌, ◌==◌, ◌&&◌, nat_lt, Bool, true, false, List, [], ◌∷◌, length, take, drop, map, replicate, slice_get, slice_index, Option, Some, None, if◌then◌else◌, option_map}
+use Rattle.std.specs.Bool.{beq}
+use Rattle.std.specs.Cmp.Lexicographic.{pointwise}
+use Rattle.std.specs.List.{flat_map, list_all, range_with_len}
+use Rattle.terms.specs.Bits.{part}
+use Rattle.plp_config.specs.Capacity.{block_bytes, block_cells}
+use Rattle.plp_config.specs.Places.{places}
+use Rattle.plp_config.specs.Plps.{plp_at}
+use Rattle.plp_config.specs.declared.config.Config.{Config}
+use Rattle.scheduler.specs.Shape.{FrameShape}
+use Rattle.cell_map.specs.Address.{address_of}
+use Rattle.cell_map.specs.CellMap.{ordinal_of}
+use Rattle.cell_map.specs.declared.places.Cell.{Cell}
+use Rattle.l1_signal.specs.L1Configurable.{conf_read, info_size}
+use Rattle.l1_signal.specs.L1Dynamic.{dyn_read}
+use Rattle.l1_signal.specs.L1Of.{told_shape}
+use Rattle.l1_signal.specs.L1Pre.{pre_reading}
+use Rattle.l1_signal.specs.Laws.{crc_behind}
+use Rattle.l1_signal.specs.declared.dynamic.L1Dyn.{L1Dyn}
+use Rattle.frame_tests.specs.MapTest.{map_passes, each_below}
+use Rattle.frame_tests.specs.Tests.{read_whole, pre_agrees, conf_agrees, dyn_agrees}
+use Rattle.site_frame.specs.Record.{Block}
+
+-- the bits of the parts of L1-post: configurable, dynamic, CRC_32 (clause 7.2.3)
+abbrev pub conf_len : Config → ℕ
+conf_len c = 102 + 89 * length c.plps
+
+abbrev pub dyn_len : Config → ℕ
+dyn_len c = 79 + 48 * length c.plps
+
+abbrev pub crc_len : ℕ
+crc_len = 32
+
+abbrev pub post_len : Config → ℕ
+post_len c = conf_len c + dyn_len c + crc_len
+
+-- the dynamic part of L1-post, if it reads
+abbrev pub told_dynamic : Config → List Bool → Option L1Dyn
+told_dynamic c post = read_whole (dyn_read (length c.plps) (part post (conf_len c) (dyn_len c)))
+
+-- L1-post has its length and its CRC_32, the configuration's configurable part, and a dynamic part of frame n
+abbrev pub post_agrees : Config → ℕ → List Bool → Bool
+post_agrees c n post =
+    (length post == post_len c) && pointwise beq post (crc_behind true (take (length post - crc_len) post))
+    && conf_agrees c (read_whole (conf_read (info_size (length c.plps)) (take (conf_len c) post))) && dyn_agrees c n (told_dynamic c post)
+
+-- the PLP and the length of each block of a frame of this shape: PLP by PLP, in order
+pub record BlockSize : Type 0 where
+  pub plp : ℕ
+  pub len : ℕ
+
+abbrev pub block_sizes : Config → FrameShape → List BlockSize
+block_sizes c shape = flat_map (λ plp. replicate (slice_index shape.counts plp) (record { plp = (plp_at c.plps plp).id; len = block_bytes c plp })) (places c)
+
+abbrev pub has_size : Block → BlockSize → Bool
+has_size b size = (b.plp == size.plp) && (length b.bytes == size.len)
+
+-- blocks and cells are those of a frame of this shape, and its cells stand apart, in the frame
+abbrev pub shape_agrees : Config → List Block → List (Option Cell) → FrameShape → Bool
+shape_agrees c blocks cells shape = pointwise has_size blocks (block_sizes c shape) && (length cells == c.cells) && map_passes c shape
+
+abbrev pub fitting : Config → List Block → List (Option Cell) → Option FrameShape → Option FrameShape
+fitting c blocks cells None = None
+fitting c blocks cells (Some shape) = if shape_agrees c blocks cells shape then Some shape else None
+
+-- the shape of a record of frame n that is readable: its L1-pre is the configuration's, L1-post agrees, and what it tells
+unfoldable pub readable : Config → ℕ → List Bool → List Bool → List Block → List (Option Cell) → Option FrameShape
+readable c n pre post blocks cells =
+    if pre_agrees c (read_whole (pre_reading true pre)) && post_agrees c n post then fitting c blocks cells (option_map told_shape (told_dynamic c post)) else None
+
+-- a cell stands at its address
+abbrev pub is_cell : ℕ → ℕ → Option (Option Cell) → Bool
+is_cell ordinal cell None = false
+is_cell ordinal cell (Some None) = false
+is_cell ordinal cell (Some (Some x)) = (x.ordinal == ordinal) && (x.cell == cell)
+
+abbrev pub stands : Config → FrameShape → List (Option Cell) → ℕ → ℕ → ℕ → Bool
+stands c shape cells plp block cell = is_cell (ordinal_of shape plp block) cell (slice_get cells (address_of c shape plp block cell))
+
+-- and so does each cell of a block
+abbrev pub all_stand : Config → FrameShape → List (Option Cell) → ℕ → ℕ → Bool
+all_stand c shape cells plp block = each_below (block_cells c plp) (stands c shape cells plp block)
