@@ -1,5 +1,5 @@
 -- What a receiver stands for, call by call, over its parts.
-use Rattle.std.proofs.Common.{◌≡◌, ℕ, ◌+◌, ◌-◌, ◌*◌, ◌<◌, ◌≤◌, List, [], ◌∷◌, ◌++◌, length, map, drop, get_or, replicate, Bool, true, false, cond, Option, Some, None, refl, ap, ◌∙◌, sym, subst, arith, append-nil, append_assoc, length-append}
+use Rattle.std.proofs.Common.{◌≡◌, ℕ, ◌+◌, ◌-◌, ◌<◌, ◌≤◌, List, [], ◌∷◌, ◌++◌, length, map, drop, get_or, replicate, Bool, true, false, cond, Option, Some, None, refl, ap, ◌∙◌, sym, subst, arith, append-nil, append_assoc, length-append}
 use Rattle.std.specs.Prelude.{unwrap_or, slice_get, nat_lt, if◌then◌else◌}
 use Rattle.std.proofs.lemmas.Bool.{ltb-true}
 use Rattle.std.specs.List.{range_with_len}
@@ -7,12 +7,11 @@ use Rattle.std.proofs.lemmas.List.Concat.{flat_map-append}
 use Rattle.std.proofs.lemmas.List.FromFn.{length-map-range_with_len, get_or-map-range_with_len}
 use Rattle.std.proofs.lemmas.Option.{slice_get-get_or}
 use Rattle.ts_packet.specs.Null.{null_packet}
-use Rattle.plp_config.specs.SlotTime.{slot_count}
 use Rattle.plp_config.specs.Laws.{CountRises}
 use Rattle.packet_slots.specs.declared.rule.SlotRule.{SlotRule}
 use Rattle.packet_slots.specs.declared.assembler.Assembler.{Assembler}
 use Rattle.packet_slots.specs.Sound.{IsSound}
-use Rattle.packet_slots.specs.Strings.{Item, Block, gap}
+use Rattle.packet_slots.specs.Strings.{Item, Block}
 use Rattle.packet_slots.specs.Stands as assembling
 use Rattle.packet_slots.specs.declared.window.SlotWindow.{SlotWindow}
 use Rattle.packet_slots.specs.Holds.{Shows}

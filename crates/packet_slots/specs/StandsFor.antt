@@ -1,5 +1,5 @@
 -- What a `PacketSlots` stands for.
-use Rattle.std.specs.Prelude.{◌≡◌, ℕ, ◌+◌, ◌-◌, List, [], ◌++◌, length, Option, Bool, true, false}
+use Rattle.std.specs.Prelude.{◌≡◌, ℕ, ◌+◌, ◌-◌, List, [], ◌++◌, length, Option, Bool}
 use Rattle.std.specs.List.{flat_map}
 use Rattle.packet_slots.specs.declared.rule.SlotRule.{SlotRule}
 use Rattle.packet_slots.specs.declared.assembler.Assembler.{Assembler}
@@ -39,6 +39,10 @@ due_of p = p.window.due_end - p.window.first
 
 abbrev pub rule_of : PacketSlots → SlotRule
 rule_of p = p.window.rule
+
+-- No slot is in the window.
+abbrev pub IsEmpty : PacketSlots → Type 0
+IsEmpty p = p.window.slots.items ≡ []
 
 -- These records came, the first of them of this frame, and so many slots were given out.
 unfoldable pub StandsFor : PacketSlots → SlotRule → ℕ → List Record → ℕ → Type 0

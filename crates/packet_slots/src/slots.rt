@@ -36,7 +36,7 @@ impl PacketSlots {
     ghost use Rattle.packet_slots.specs.Both.{block_of, IsPlace};
     ghost use Rattle.std.specs.Prelude.{nat_lt};
     ghost use Rattle.packet_slots.specs.Window.{status_of, left};
-    ghost use Rattle.packet_slots.specs.StandsFor.{StandsFor, StandsWithin, IsFresh, frame_of, is_within, due_of, rule_of};
+    ghost use Rattle.packet_slots.specs.StandsFor.{StandsFor, StandsWithin, IsFresh, IsEmpty, frame_of, is_within, due_of, rule_of};
 
     /// Takes all the memory that is needed.
     ///
@@ -46,6 +46,7 @@ impl PacketSlots {
         requires { IsSound rule }
         ensures fresh { IfOk result (λ p. IsFresh p rule) }
         ensures outside { IfOk result (λ p. is_within p ≡ false) }
+        ensures empty { IfOk result IsEmpty }
         ensures rule { IfOk result (λ p. rule_of p ≡ rule) }
     {
         Ok(PacketSlots {
@@ -60,7 +61,7 @@ impl PacketSlots {
     pub fn begin_at(&mut self, first: u64)
         requires small { first < MOST_FRAMES }
         requires outside { is_within self.old ≡ false }
-        requires fresh { self.old.window.slots.items ≡ [] }
+        requires empty { IsEmpty self.old }
         ensures stands { (r : SlotRule) → IsFresh self.old r → StandsFor self.new r first [] 0 }
         ensures frame { frame_of self.new ≡ first }
         ensures outside { is_within self.new ≡ false }

@@ -1,6 +1,6 @@
 // Ten slots a frame of 1,000 ticks, whose user packets of 188 bytes make two blocks of 1,000 and 880 bytes. The packet of slot k has
 // the byte k, so what comes in a slot tells which packet it is; a null packet has 0x1F there. What must come was counted by hand.
-ghost use Rattle.std.specs.Prelude.{◌≡◌, ◌+◌, ◌<◌, false, IfOk};
+ghost use Rattle.std.specs.Prelude.{◌≡◌, ◌+◌, ◌<◌, true, false, IfOk};
 ghost use Rattle.plp_config.specs.declared.moment.TheConstants.{MOST_FRAMES};
 ghost use Rattle.packet_slots.specs.StandsFor.{frame_of, is_within, due_of};
 
@@ -21,6 +21,7 @@ const SLOTS: u64 = 10;
 
 // Where the second block begins, and the first user packet that begins in it.
 const CUT: usize = 1_000;
+
 const SECOND: usize = 128;
 
 // ISSY of a user packet whose slot starts at a tick: 10, and the ISCR.
@@ -40,17 +41,14 @@ fn string(alloc: Global, first: u8) -> Result<Vec<u8>, Fail> {
     Ok(string)
 }
 
-// Takes a frame, or its first block alone.
-fn take(slots: &mut PacketSlots, frame: u64, begin: u64, string: &[u8], whole: bool)
-    requires frame { frame_of slots.old ≡ frame }
-    requires small { frame < MOST_FRAMES }
-    requires outside { is_within slots.old ≡ false }
-    requires given_out { due_of slots.old ≡ 0 }
-    ensures frame { frame_of slots.new ≡ frame + 1 }
-    ensures outside { is_within slots.new ≡ false }
+// Takes the first block of a frame, if there is one.
+fn take_first(slots: &mut PacketSlots, begin: u64, string: &[u8])
+    requires small { frame_of slots.old < MOST_FRAMES }
+    requires within { is_within slots.old ≡ true }
+    ensures frame { frame_of slots.new ≡ frame_of slots.old }
+    ensures within { is_within slots.new ≡ true }
 {
     let cut = CUT.min(string.len());
-    slots.begin_frame();
     if cut > 0 {
         slots.take(&TakenBlock {
             first: Some(0),
@@ -58,15 +56,40 @@ fn take(slots: &mut PacketSlots, frame: u64, begin: u64, string: &[u8], whole: b
             field: &string[..cut],
         });
     }
-    if whole && string.len() > CUT + SECOND {
-        slots.take(&TakenBlock {
-            first: Some(SECOND),
-            issy: issy(begin.wrapping_add(600)),
-            field: &string[CUT..],
-        });
-    } else {
-        slots.skip();
+}
+
+// Takes the second block, or loses it.
+fn take_second(slots: &mut PacketSlots, begin: u64, string: &[u8], lost: bool)
+    requires small { frame_of slots.old < MOST_FRAMES }
+    requires within { is_within slots.old ≡ true }
+    ensures frame { frame_of slots.new ≡ frame_of slots.old }
+    ensures within { is_within slots.new ≡ true }
+{
+    if lost || string.len() <= CUT + SECOND {
+        return slots.skip();
     }
+    slots.take(&TakenBlock {
+        first: Some(SECOND),
+        issy: issy(begin.wrapping_add(600)),
+        field: &string[CUT..],
+    });
+}
+
+// Takes a frame whose slots start at a tick: frame 4 is muted, and of frame 6 the second block is lost.
+fn take(slots: &mut PacketSlots, frame: u64, begin: u64, string: &[u8])
+    requires frame { frame_of slots.old ≡ frame }
+    requires small { frame < MOST_FRAMES }
+    requires outside { is_within slots.old ≡ false }
+    requires given_out { due_of slots.old ≡ 0 }
+    ensures frame { frame_of slots.new ≡ frame + 1 }
+    ensures outside { is_within slots.new ≡ false }
+{
+    if frame == 4 {
+        return slots.mute();
+    }
+    slots.begin_frame();
+    take_first(slots, begin, string);
+    take_second(slots, begin, string, frame == 6);
     slots.end_frame();
 }
 
@@ -93,11 +116,7 @@ fn each_slot_gets_its_packet_or_a_null_packet(rt: HostRuntime) -> Result<(), Fai
     for frame in 1..12u64 {
         give(&mut slots, &mut given)?;
         let string = string(rt.alloc(), ((frame - 1) * SLOTS) as u8)?;
-        if frame == 4 {
-            slots.mute();
-        } else {
-            take(&mut slots, frame, (frame - 1) * 1_000, &string, frame != 6);
-        }
+        take(&mut slots, frame, (frame - 1) * 1_000, &string);
         // delay is 3,101 ticks, and the window has slots for it and a frame, and two.
         assert!(rt; slots.held() <= 43);
     }

@@ -1,4 +1,3 @@
-use Rattle.std.proofs.Common.{sym, subst}
 use Rattle.packet_slots.specs.StandsFor.{StandsFor, StandsWithin}
 use Rattle.packet_slots.proofs.StandsLemmas.{ends_frame, stands_at}
 use Rattle.packet_slots.proofs.slots.PacketSlots.end_frame.Goals as goal

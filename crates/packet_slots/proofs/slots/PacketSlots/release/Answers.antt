@@ -1,4 +1,4 @@
-use Rattle.std.proofs.Common.{◌∙◌, sym, arith}
+use Rattle.std.proofs.Common.{◌∙◌, sym}
 use Rattle.std.proofs.lemmas.Bool.{ltb-false}
 use Rattle.packet_slots.specs.StandsFor.{StandsFor}
 use Rattle.packet_slots.proofs.StandsLemmas.{released_or_not, release_answers, none_due}
