@@ -17,17 +17,10 @@ use Rattle.packet_slots.specs.Base.{far, capped, slot_with, IsBase, Holds, next_
 use Rattle.packet_slots.specs.Stands.{IsFrame, next_base, Stands, kept_dnp, found_of, Gives, Gains}
 use Rattle.packet_slots.proofs.OneLemmas.{one_parts, one_from}
 use Rattle.packet_slots.proofs.TurnLemmas.{reads}
+use Rattle.std.proofs.lemmas.List.{map-append}
 use Rattle.packet_slots.proofs.PieceLemmas.{piece_runs, lt_cond, ge_cond}
 
 -- Lists of items.
-
-values_append : (xs ys : List Item) → values (xs ++ ys) ≡ values xs ++ values ys
-values_append [] ys = refl
-values_append (x ∷ xs) ys = ap (λ (l : List ℕ). x.value ∷ l) (values_append xs ys)
-
-length-values : (xs : List Item) → length (values xs) ≡ length xs
-length-values [] = refl
-length-values (x ∷ xs) = ap suc (length-values xs)
 
 pub piece_values : (m : Mark) (frame : ℕ) (vs : List ℕ) → values (piece_items m frame vs) ≡ vs
 piece_values m frame [] = refl
@@ -119,7 +112,7 @@ module _ (r : SlotRule) (sound : IsSound r) (z : List Item) (frame v : ℕ) (vs 
         joined = record {
           turn = refl;
           size = ap suc (length-append ys p) ∙ omega (arith, h.count, piece_length Inside frame (v ∷ vs));
-          values_are = values_append (y ∷ ys) p ∙ ap₂ (λ (a b : List ℕ). a ++ b) (sym h.bytes) (piece_values Inside frame (v ∷ vs));
+          values_are = map-append (λ (x : Item). x.value) (y ∷ ys) p ∙ ap₂ (λ (a b : List ℕ). a ++ b) (sym h.bytes) (piece_values Inside frame (v ∷ vs));
           base = h.base;
           one = one_append (y ∷ ys) p f.begins (all_piece frame (v ∷ vs));
           last = subst (IsLast frame) (sym (last_append no_item (y ∷ ys) p no_item some)) (piece_last no_item Inside frame v vs);

@@ -20,7 +20,8 @@ use Rattle.packet_slots.specs.Records.{Record, block_or_gap, record_items, strin
 use Rattle.packet_slots.specs.Times.{delay_of, due_after}
 use Rattle.packet_slots.specs.Records.Record.{Muted, Framed}
 use Rattle.packet_slots.specs.Holds.{From, UpTo, Since}
-use Rattle.packet_slots.proofs.PlaceLemmas.{all_append, all_map, begins_up_to, longer, all_of}
+use Rattle.terms.proofs.AllLemmas.{all_append}
+use Rattle.packet_slots.proofs.PlaceLemmas.{all_map, begins_up_to, longer, all_of}
 use Rattle.packet_slots.proofs.ListLemmas.{range_append, map_same, filter_append, none_found}
 
 -- Frames of a string.
