@@ -28,7 +28,7 @@ pub record Carries (number : ℕ) (xs : List Item) (place : ℕ) : Type 0 where
   pub begins : carried_len number xs ≤ place
   pub within : place < carried_len (suc number) xs
 
-pub carries_one : (xs : List Item) (a b place : ℕ) → Carries a xs place → Carries b xs place → a ≡ b
+carries_one : (xs : List Item) (a b place : ℕ) → Carries a xs place → Carries b xs place → a ≡ b
 carries_one xs a b place h k = ⊎_elim
     (λ (l : a < b). let m = carried_mono (suc a) b xs (omega arith) in absurd (omega (arith, m, h.within, k.begins)))
     (λ (l : b ≤ a). ⊎_elim
@@ -112,24 +112,24 @@ place_rises xs from fates s t p q l m h k =
     (in_unit xs from fates s (unit_number xs s) p h) (in_unit xs from fates t (unit_number xs t) q k)
 
 -- The places of sent packets rise, from one on.
-abbrev pub SentRise : ℕ → List (Option AcceptedPacket) → Type 0
+abbrev SentRise : ℕ → List (Option AcceptedPacket) → Type 0
 SentRise low [] = Unit {0}
 SentRise low (None ∷ sent) = SentRise low sent
 SentRise low (Some p ∷ sent) = (low ≤ p.place) × SentRise (p.place + 1) sent
 
 -- The sent packets are these.
-abbrev pub Carry : List (Option AcceptedPacket) → List (List ℕ) → Type 0
-Carry [] [] = Unit {0}
-Carry [] (b ∷ packets) = ⊥
-Carry (s ∷ sent) [] = ⊥
-Carry (None ∷ sent) (b ∷ packets) = Carry sent packets
-Carry (Some p ∷ sent) (b ∷ packets) = (p.bytes ≡ b) × Carry sent packets
+abbrev AreThese : List (Option AcceptedPacket) → List (List ℕ) → Type 0
+AreThese [] [] = Unit {0}
+AreThese [] (b ∷ packets) = ⊥
+AreThese (s ∷ sent) [] = ⊥
+AreThese (None ∷ sent) (b ∷ packets) = AreThese sent packets
+AreThese (Some p ∷ sent) (b ∷ packets) = (p.bytes ≡ b) × AreThese sent packets
 
-carry : (place : ℕ → Option ℕ) (at : ℕ) (packets : List (List ℕ)) → Carry (placed_from place at packets) packets
-carry place at [] = tt
-carry place at (b ∷ packets) = go (place at) (carry place (at + length b) packets)
+are_these : (place : ℕ → Option ℕ) (at : ℕ) (packets : List (List ℕ)) → AreThese (placed_from place at packets) packets
+are_these place at [] = tt
+are_these place at (b ∷ packets) = go (place at) (are_these place (at + length b) packets)
   where
-    go : (o : Option ℕ) → Carry (placed_from place (at + length b) packets) packets → Carry (option_map (λ n. record { place = n; bytes = b }) o ∷ placed_from place (at + length b) packets) (b ∷ packets)
+    go : (o : Option ℕ) → AreThese (placed_from place (at + length b) packets) packets → AreThese (option_map (λ n. record { place = n; bytes = b }) o ∷ placed_from place (at + length b) packets) (b ∷ packets)
     go None h = h
     go (Some n) h = (refl, h)
 
@@ -209,7 +209,7 @@ kept_one all ps p b sent packets same e h = record {
   places = ap (λ (l : List (Option AcceptedPacket)). Some p ∷ l) h.places ∙ sym (one_there (list_any (is_same p) all) (map (is_accepted all) sent) (Some p) sent e);
 }
 
-kept : (low : ℕ) (all ps : List AcceptedPacket) (sent : List (Option AcceptedPacket)) (packets : List (List ℕ)) → RiseFrom low ps → SentRise low sent → Carry sent packets → FromOn low all ps → AreSent ps sent → Survive all ps sent packets
+kept : (low : ℕ) (all ps : List AcceptedPacket) (sent : List (Option AcceptedPacket)) (packets : List (List ℕ)) → RiseFrom low ps → SentRise low sent → AreThese sent packets → FromOn low all ps → AreSent ps sent → Survive all ps sent packets
 kept low all [] [] [] r s c f a = record { bytes = refl; places = refl }
 kept low all (p ∷ ps) [] [] r s c f a = elim (a p (inl refl)) [ ]
 kept low all ps [] (b ∷ packets) r s c f a = absurd c
@@ -259,11 +259,11 @@ accepted_survive g rise pid packets from fates all sent =
     let ps : List AcceptedPacket = received_packets pid packets from fates in
     let r = kept 0 ps ps (sent_packets packets from fates) packets (rise pid _)
     (sent_rise g place (length xs) (λ s t p q l m. place_rises xs from fates s t p q l m) packets 0 0 all (omega arith) (λ t q k m e. omega arith))
-    (carry place 0 packets) (λ p l. refl) sent in
+    (are_these place 0 packets) (λ p l. refl) sent in
     record { bytes = r.bytes; places = r.places }
 
 -- A survivor passes the test.
-pub at_number : (xs : List Item) (from : ℕ) (fates : List Fate) (s number : ℕ) → Carries number xs s → s < length xs → place_in xs from fates s number ≡ received_place xs from fates s
+at_number : (xs : List Item) (from : ℕ) (fates : List Fate) (s number : ℕ) → Carries number xs s → s < length xs → place_in xs from fates s number ≡ received_place xs from fates s
 unfolding received_place
 at_number xs from fates s number h l = ap (place_in xs from fates s) (carries_one xs number (unit_number xs s) s h (carries xs s l))
 
