@@ -1,5 +1,5 @@
 -- From the bytes of a stream to its packets.
-use Rattle.std.proofs.Common.{◌≡◌, ℕ, ◌+◌, ◌<◌, ◌≤◌, Bool, true, false, List, [], ◌∷◌, ◌++◌, map, length, slice_get, Option, Some, None, suc, refl, ap, sym, subst, ◌∙◌}
+use Rattle.std.proofs.Common.{◌≡◌, ℕ, suc, ◌+◌, ◌<◌, ◌≤◌, Bool, true, false, List, [], ◌∷◌, ◌++◌, map, length, slice_get, Option, Some, None, refl, ap, sym, subst, ◌∙◌}
 use Rattle.std.specs.List.{items_where_true}
 use Rattle.std.proofs.lemmas.List.{length-map}
 use Rattle.std.proofs.lemmas.Simd.{map-map}
@@ -11,7 +11,7 @@ use Rattle.t2mi_stream.specs.Received.Fate.{Kept}
 use Rattle.t2mi_stream.specs.Survivors.{placed_from, sent_packets, received_packets, survival}
 use Rattle.t2mi_stream.specs.SurvivorLaws.{AcceptedSurvive, SurvivalTold, KeptUndamaged}
 use Rattle.modulator.specs.Modulating.{packet_of}
-use Rattle.damage.specs.SentPackets.{Sent, packets_of, AreNear}
+use Rattle.damage.specs.SentPackets.{Sent, AreNear}
 use Rattle.damage.specs.Laws.{Survive, GroupsAreFrames, ModulatedIsRecords, WholeTold, LaterNear}
 use Rattle.damage.specs.Streams.{Stream, IsStream, stream_survival, Honest}
 use Rattle.damage.specs.StreamLaws.{ReadAreSurvivors, HonestGroups, HonestRecords, KeptHonest, KeptWhole}
