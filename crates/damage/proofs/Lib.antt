@@ -1,5 +1,6 @@
-pub mod PacketLemmas
-pub mod GroupLemmas
-pub mod WholeLemmas
-pub mod NearLemmas
-pub mod RecordLemmas
+mod PacketLemmas
+mod GroupLemmas
+mod WholeLemmas
+mod NearLemmas
+mod RecordLemmas
+mod StreamLemmas

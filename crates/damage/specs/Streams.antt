@@ -1,7 +1,6 @@
 -- A stream of packets that are sent frame by frame, and what has to be true of damage.
 use Rattle.std.specs.Prelude.{◌≡◌, ℕ, ◌^◌, ◌<◌, Bool, List, map, None}
 use Rattle.std.specs.List.{items_where_true}
-use Rattle.plp_config.specs.declared.config.Config.{Config}
 use Rattle.t2mi_stream.specs.Laws.{ArePackets}
 use Rattle.t2mi_stream.specs.Received.{Fate}
 use Rattle.t2mi_stream.specs.Survivors.{sent_packets, received_packets, survival, AreSent}

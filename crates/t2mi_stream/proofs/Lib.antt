@@ -18,3 +18,7 @@ pub mod SurviveLemmas
 pub mod DisjointLemmas
 pub mod SkippingLemmas
 pub mod FirstPidLemmas
+pub mod StandLemmas
+pub mod RiseLemmas
+pub mod SurvivorLemmas
+pub mod UndamagedLemmas

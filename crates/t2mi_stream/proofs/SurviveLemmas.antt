@@ -17,13 +17,13 @@ use Rattle.t2mi_stream.specs.Received.Fate.{Kept, Lost, Altered}
 use Rattle.t2mi_stream.specs.Laws.{AcceptedFront, Among, ArePackets, IsStart, Survives}
 use Rattle.t2mi_stream.specs.SpellLaws.{SpellLaws}
 use Rattle.t2mi_stream.proofs.UnitLemmas.{runs_unit}
-use Rattle.t2mi_stream.proofs.PipeLemmas.{length-values, part_size, carried_add, length-items}
+use Rattle.t2mi_stream.proofs.PipeLemmas.{length-values, part_size, carried_add, carried_mono, length-items}
 use Rattle.t2mi_stream.proofs.StartsLemmas.{starts_law}
 use Rattle.t2mi_stream.proofs.FitLemmas.{Fits, fits_append, fits_drop, fits_len, chain, stands_there}
 use Rattle.t2mi_stream.proofs.ReadsLemmas.{UnitLaws, unit_reads, carried_fits, carried_mark}
 
 -- one more unit behind whole units
-one_unit : (w : UnitLaws) (pid counter number : ℕ) (bytes : List ℕ) (xs : List Item) → pid < 2 ^ 13 → counter < 16 → 0 < length xs → length bytes ≡ 188 * number →
+pub one_unit : (w : UnitLaws) (pid counter number : ℕ) (bytes : List ℕ) (xs : List Item) → pid < 2 ^ 13 → counter < 16 → 0 < length xs → length bytes ≡ 188 * number →
     runs pid (bytes ++ unit pid counter xs) ≡ with_carrier (runs pid bytes) (record { counter = counter; bytes = carried_in (188 * number) xs })
 one_unit w pid counter number bytes xs p n some whole =
     let r = unit_reads w pid (188 * number) counter xs p n some in
@@ -109,12 +109,12 @@ kept_front (u ∷ units) (f ∷ fates) (suc count) kept =
     (h.0, ap (λ (f : Fate). left_of (u ∷ units) (f ∷ fates)) first ∙ ap (λ (l : List ℕ). u ++ l) h.1 ∙ sym (append_assoc u (flat_map (λ u. u) (take count units)) h.0))
 
 -- What is among the first is among all.
-among_left : {X : Type 0} (x : X) (xs ys : List X) → Among x xs → Among x (xs ++ ys)
+pub among_left : {X : Type 0} (x : X) (xs ys : List X) → Among x xs → Among x (xs ++ ys)
 among_left x [] ys h = elim h [ ]
 among_left x (y ∷ xs) ys (inl e) = inl e
 among_left x (y ∷ xs) ys (inr h) = inr (among_left x xs ys h)
 
-among_right : {X : Type 0} (x : X) (xs ys : List X) → Among x ys → Among x (xs ++ ys)
+pub among_right : {X : Type 0} (x : X) (xs ys : List X) → Among x ys → Among x (xs ++ ys)
 among_right x [] ys h = h
 among_right x (y ∷ xs) ys h = inr (among_right x xs ys h)
 
@@ -187,7 +187,7 @@ least_first (x ∷ xs) t h = go x.first refl t h (λ s k. least_first xs s k)
       first = r.first;
     }
 
-place_at : (place at named t : ℕ) (bytes : List ℕ) (more : List Byte) → t < length bytes → (packet_of (drop t (bytes_from place at named bytes ++ more))).place ≡ place + (at + t)
+pub place_at : (place at named t : ℕ) (bytes : List ℕ) (more : List Byte) → t < length bytes → (packet_of (drop t (bytes_from place at named bytes ++ more))).place ≡ place + (at + t)
 place_at place at named t [] more l = absurd (omega arith)
 place_at place at named zero (b ∷ bytes) more l = omega arith
 place_at place at named (suc t) (b ∷ bytes) more l = place_at place (at + 1) named t bytes more (omega arith) ∙ omega arith
@@ -367,11 +367,6 @@ module _ (g : SpellLaws) (w : UnitLaws) (front : AcceptedFront) (pid : ℕ) (fit
       go Lost a = let h = ih number bytes whole a in
           record { left = h.left; number_is = h.number_is; there = subst (λ (m : ℕ). Among (placed (188 * (number + h.left) + m) p) (accepted_of pid (bytes ++ left_of units fates))) same h.there }
 
-  carried_mono : (i j : ℕ) (xs : List Item) → i ≤ j → carried_len i xs ≤ carried_len j xs
-  carried_mono zero j xs l = omega arith
-  carried_mono (suc i) zero xs l = absurd (omega arith)
-  carried_mono (suc i) (suc j) xs l = let h = carried_mono i j (drop (part xs).size xs) (omega arith) in omega arith
-
   -- a unit that is kept
   first_kept : (number : ℕ) (bytes u : List ℕ) (xs : List Item) (place : ℕ) (units : List (List ℕ)) (f : Fate) (fates : List Fate) → f ≡ Kept →
       Among (placed (188 * (number + 0) + offset_in 0 xs place) p) (accepted_of pid (bytes ++ (u ++ left_of units fates))) → Found 0 number bytes xs place (u ∷ units) (f ∷ fates)
@@ -409,7 +404,7 @@ module _ (g : SpellLaws) (w : UnitLaws) (front : AcceptedFront) (pid : ℕ) (fit
       (λ m a b. kept (suc m) (omega arith) (omega arith)) altered'))
 
 -- later units of the same
-record Later (pid : ℕ) (units : List (List ℕ)) (xs : List Item) : Type 0 where
+pub record Later (pid : ℕ) (units : List (List ℕ)) (xs : List Item) : Type 0 where
   pub steps : ℕ
   pub counter : ℕ
   pub units_are : units ≡ units_in pid steps counter xs
@@ -423,7 +418,7 @@ nothing_later pid n counter small =
     let e = ap length (drop_all n none (omega arith)) in
     record { steps = 0; counter = counter; units_are = refl; small = small; enough = omega (arith, e) }
 
-later : (pid from steps counter : ℕ) (xs : List Item) → counter < 16 → length xs ≤ steps → Later pid (drop from (units_in pid steps counter xs)) (drop (carried_len from xs) xs)
+pub later : (pid from steps counter : ℕ) (xs : List Item) → counter < 16 → length xs ≤ steps → Later pid (drop from (units_in pid steps counter xs)) (drop (carried_len from xs) xs)
 unfolding units_in
 later pid zero steps counter xs small enough = record { steps = steps; counter = counter; units_are = refl; small = small; enough = enough }
 later pid (suc from) zero counter [] small enough = nothing_later pid (carried_len (suc from) []) counter small

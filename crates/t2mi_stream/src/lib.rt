@@ -8,6 +8,7 @@ mod laws;
 mod piper;
 mod put;
 mod skipping;
+mod survivor_laws;
 mod unit;
 mod unpiper;
 
@@ -18,6 +19,7 @@ pub use laws::{
 };
 pub use piper::Piper;
 pub use skipping::{few_packets, packet_places, skip_law};
+pub use survivor_laws::{rise_law, stand_law, survivor_law, undamaged_law};
 pub use unpiper::Unpiper;
 
 #[cfg(test)]

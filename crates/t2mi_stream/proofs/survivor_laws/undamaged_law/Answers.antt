@@ -1,0 +1,8 @@
+use Rattle.t2mi_stream.proofs.UndamagedLemmas.{kept_undamaged}
+use Rattle.t2mi_stream.proofs.survivor_laws.undamaged_law.Goals as goal
+
+pub returns : goal.returns
+returns c = kept_undamaged c.grammar.ensures
+    (record { written = c.written_spells.ensures; told = c.fields_told.ensures; last = c.payload_last.ensures })
+    c.survives.ensures
+    c.survivor_law.ensures.told
