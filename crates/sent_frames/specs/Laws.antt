@@ -17,7 +17,7 @@ use Rattle.modulator.specs.StandsFor.{records_due, bytes_due}
 use Rattle.damage.specs.SentPackets.{AreFrames, frame_packets}
 use Rattle.damage.specs.Laws.{RulesMeet}
 use Rattle.damage.specs.Streams.{IsStream, Honest}
-use Rattle.sent_frames.specs.SentFrames.{sent_frames, frames_stream, stream_bytes, left_records, run_frames, run_stream, run_records}
+use Rattle.sent_frames.specs.SentFrames.{sent_frames, frames_stream, stream_bytes, all_kept, left_records}
 use Rattle.sent_frames.specs.Types.{TypesFit}
 
 -- The packets of a run are sent frame by frame: each frame has one, and they tell their frames.
@@ -51,3 +51,8 @@ KeptIsHonest = (c : Config) (inputs : ℕ → List (List ℕ)) (n from : ℕ) (f
 abbrev pub WrittenMustCome : Config → Type 0
 WrittenMustCome c = (inputs : ℕ → List (List ℕ)) (n from : ℕ) (fates : List Fate) → n ≤ MOST_FRAMES → Honest (frames_stream c inputs n) from fates
     → bytes_due c true (stream_bytes (frames_stream c inputs n) from fates) ≡ file_bytes (left_records c inputs n from fates)
+
+-- So it is if all units from one on came as they were sent.
+abbrev pub UndamagedMustCome : Config → Type 0
+UndamagedMustCome c = (inputs : ℕ → List (List ℕ)) (n from : ℕ) → n ≤ MOST_FRAMES
+    → bytes_due c true (stream_bytes (frames_stream c inputs n) from (all_kept (frames_stream c inputs n) from)) ≡ file_bytes (left_records c inputs n from (all_kept (frames_stream c inputs n) from))

@@ -1,10 +1,11 @@
 -- The packets of a run as packets that are sent frame by frame, and the records that must come of what is received.
-use Rattle.std.specs.Prelude.{ℕ, ◌+◌, List, [], ◌∷◌, length}
+use Rattle.std.specs.Prelude.{ℕ, ◌+◌, List, [], ◌∷◌, length, drop, replicate}
 use Rattle.plp_config.specs.RunLength.{frame_count}
 use Rattle.plp_config.specs.declared.config.Config.{Config}
 use Rattle.t2mi_packet.specs.declared.packet.Body.{Body}
 use Rattle.t2mi_stream.specs.Pipe.{pipe}
 use Rattle.t2mi_stream.specs.Received.{Fate, received}
+use Rattle.t2mi_stream.specs.Received.Fate.{Kept}
 use Rattle.site_frame.specs.declared.reading.RecordView.{RecordView}
 use Rattle.frame_records.specs.Records.{records}
 use Rattle.gateway_core.specs.Packets.{bodies_before, front_packets, packet_with}
@@ -35,6 +36,10 @@ run_stream c inputs = frames_stream c inputs (run_frames c inputs)
 -- what is received of a stream's units, from one on, by their fates
 abbrev pub stream_bytes : Stream → ℕ → List Fate → List ℕ
 stream_bytes s from fates = received (pipe s.pid s.packets) from fates
+
+-- the fates of units that are all kept
+abbrev pub all_kept : Stream → ℕ → List Fate
+all_kept s from = replicate (length (drop from (pipe s.pid s.packets))) Kept
 
 -- the records that must come of the frames below n: from the first whole frame that begins a superframe to the last one of which a
 -- packet survives, each whole frame, and each other one muted

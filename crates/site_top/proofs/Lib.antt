@@ -4,3 +4,4 @@ pub mod GatewayLemmas
 pub mod RequestLemmas
 pub mod RunLemmas
 pub mod HaveEndingLemmas
+mod SurvivorLemmas

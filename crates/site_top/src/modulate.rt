@@ -10,6 +10,7 @@ use config_file::read_plan;
 use desk_io::Line;
 use modulate_run::{Ran, RunStop};
 use ports::Desk;
+use sent_frames::plan_law;
 use std::alloc::Global;
 
 // The line of a run to its end.
@@ -54,7 +55,10 @@ pub fn modulate<D: Desk>(
         Err(stop) => return outcome_of(stop),
     };
     match modulate_run::run(alloc, &plan, input, out, desk) {
-        Ok(ran) => tell(desk, modulate_line(ran).as_bytes()),
+        Ok(ran) => {
+            plan_law(&plan);
+            tell(desk, modulate_line(ran).as_bytes())
+        }
         Err(stop) => stopped(stop),
     }
 }

@@ -1,6 +1,7 @@
 use Rattle.std.proofs.Common.{ℕ, List, inr, subst, ◌∙◌}
 use Rattle.site_top.specs.Saying.{Tells}
 use Rattle.site_top.proofs.GatewayLemmas.{other_name}
+use Rattle.site_top.proofs.SurvivorLemmas.{holds_records}
 use Rattle.site_top.proofs.modulate.modulate.Goals as goal
 
 pub run-requires : goal.run-requires
@@ -17,6 +18,7 @@ returns-in-Ok-run g c =
         _,
         _,
         c.in-Ok-run.ensures.ok,
+        holds_records _ _ _ _ _ _ c.plan_law.ensures.honest c.plan_law.ensures.undamaged c.in-Ok-run.ensures.ok,
         subst (λ (text : List ℕ). Tells (g.D.Desk.state c.run.new.desk) (g.D.Desk.state c.tell.new.desk) text c.tell.result) (c.as_bytes.ensures ∙ c.modulate_line.ensures) c.tell.ensures,
       ),
     )
