@@ -4,6 +4,8 @@
 #[cfg(test)]
 mod configuration;
 #[cfg(test)]
+mod damage;
+#[cfg(test)]
 mod gateway;
 #[cfg(test)]
 mod modulate;

@@ -18,9 +18,9 @@ records=4
 ";
 
 // The bytes of a record without blocks, and those that three blocks of 879 bytes add.
-const EMPTY_RECORD: usize = 160_103;
+pub(crate) const EMPTY_RECORD: usize = 160_103;
 
-const THREE_BLOCKS: usize = 3 * (4 + 879);
+pub(crate) const THREE_BLOCKS: usize = 3 * (4 + 879);
 
 // Muted records of the frames 2 to 4.
 #[rattlefmt::skip]
@@ -47,7 +47,7 @@ fn place_of(frame: usize) -> usize
 }
 
 // The stream of a network over packets that are not null.
-fn stream(alloc: Global, plps: &str, count: usize) -> Result<Vec<u8>, Fail> {
+pub(crate) fn stream(alloc: Global, plps: &str, count: usize) -> Result<Vec<u8>, Fail> {
     let mut desk = MemoryDesk::new(alloc);
     desk.put_file("c", format!(in alloc; "{NETWORK}{plps}")?.as_bytes())?;
     desk.put_file("0", packets(alloc, count, DATA, 0xAB)?.as_slice())?;
@@ -87,7 +87,7 @@ fn ends(
 }
 
 // The records that are made of a stream, after a run that is done and said this.
-fn records(
+pub(crate) fn records(
     rt: &(impl AllocGlobal + Abort),
     plps: &str,
     stream: &[u8],
