@@ -1,1 +1,4 @@
+pub mod BlockLemmas
 pub mod SentLemmas
+pub mod FitLemmas
+pub mod ReadLemmas

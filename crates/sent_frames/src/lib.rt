@@ -3,4 +3,4 @@
 
 mod laws;
 
-pub use laws::sent_law;
+pub use laws::{sent_law, stream_law};
