@@ -2,3 +2,5 @@ pub mod BlockLemmas
 pub mod SentLemmas
 pub mod FitLemmas
 pub mod ReadLemmas
+pub mod SignalLemmas
+pub mod CarriedLemmas
