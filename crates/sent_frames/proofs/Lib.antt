@@ -4,3 +4,4 @@ pub mod FitLemmas
 pub mod ReadLemmas
 pub mod SignalLemmas
 pub mod CarriedLemmas
+pub mod PassLemmas
