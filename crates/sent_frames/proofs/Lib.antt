@@ -5,3 +5,4 @@ pub mod ReadLemmas
 pub mod SignalLemmas
 pub mod CarriedLemmas
 pub mod PassLemmas
+pub mod LossLemmas
