@@ -1,5 +1,5 @@
 -- What the packets of a frame carry, each kind in its order.
-use Rattle.std.proofs.Common.{◌≡◌, ℕ, zero, suc, ◌+◌, ◌-◌, ◌*◌, ◌%◌, ◌<◌, ◌≤◌, ◌==◌, ◌&&◌, Bool, true, false, List, [], ◌∷◌, ◌++◌, map, length, Option, Some, None, refl, ap, ap₂, sym, subst, ◌∙◌, ⊎_elim, arith, append-nil}
+use Rattle.std.proofs.Common.{◌≡◌, ℕ, zero, suc, ◌+◌, ◌-◌, ◌*◌, ◌%◌, ◌<◌, ◌≤◌, ◌==◌, ◌&&◌, Bool, true, false, List, [], ◌∷◌, ◌++◌, length, Option, Some, None, refl, ap, ap₂, sym, subst, ◌∙◌, ⊎_elim, arith, append-nil}
 use Rattle.std.specs.Prelude.{slice_index, if◌then◌else◌}
 use Rattle.std.specs.List.{filter, filter_map, cons_option, flat_map, range_with_len, list_all, AllByRecursion}
 use Rattle.std.proofs.lemmas.Bool.{cases_eq, cases_lt, and_from, cond_both, cond-true, cond-false, eq-eqb, ne_eqb}
@@ -20,13 +20,10 @@ use Rattle.t2mi_packet.specs.declared.packet.Stamp.{Stamp}
 use Rattle.mode_adapt.specs.Blocks.{plp_blocks}
 use Rattle.frame_tests.specs.Carried.{body_block, blocks_of, has_length, right_blocks, L1Parts, body_l1, l1s_of, body_stamp, stamps_of}
 use Rattle.frame_tests.specs.Tests.{begins_superframe, body_known, is_known}
-use Rattle.gateway_core.specs.Packets.{stamp_of, l1_body, block_bodies, plp_bodies, counts_of, frame_bodies}
-use Rattle.gateway_core.specs.Signalling.{pre_part, conf_part, dyn_part}
+use Rattle.gateway_core.specs.Packets.{stamp_of, block_bodies, plp_bodies, counts_of, frame_bodies}
+use Rattle.sent_frames.proofs.SentLemmas.{all_bodies, l1_of}
 use Rattle.sent_frames.proofs.BlockLemmas.{blocks_long}
-use Rattle.sent_frames.proofs.SignalLemmas.{l1_parts}
-
-abbrev pub all_bodies : List Packet → List Body
-all_bodies packets = map (λ (p : Packet). p.body) packets
+use Rattle.sent_frames.proofs.SignalLemmas.{l1_parts, frame_parts}
 
 -- what packets carry is what their bodies do
 pub carried_by : {Y : Type 0} (f : Body → Option Y) (packets : List Packet) → filter_map (λ (p : Packet). f p.body) packets ≡ filter_map f (all_bodies packets)
@@ -89,25 +86,22 @@ module _ (c : Config) (n : ℕ) (blocks : ℕ → List (List Bool)) where
   abbrev parts : L1Parts
   parts = l1_parts c n (counts_of c blocks)
 
-  abbrev l1 : Body
-  l1 = l1_body c n (pre_part c) (conf_part c) (dyn_part c n (counts_of c blocks))
-
   no_blocks : {Y : Type 0} (f : Body → Option Y) → ((id : ℕ) (first : Bool) (bits : List Bool) → f (Block (n % c.frames) id first bits) ≡ None) → filter_map f (plp_bodies c n blocks 0) ≡ []
   no_blocks f h = none_over f of_plp (λ plp. none_blocks f (n % c.frames) (plp_at c.plps plp).id (h (plp_at c.plps plp).id) true (blocks plp)) 0 (length c.plps - 0)
 
-  rest_l1 : filter_map body_l1 (l1 ∷ plp_bodies c n blocks 0) ≡ parts ∷ []
+  rest_l1 : filter_map body_l1 (l1_of c n blocks ∷ plp_bodies c n blocks 0) ≡ parts ∷ []
   rest_l1 = ap (λ (l : List L1Parts). parts ∷ l) (no_blocks body_l1 (λ id first bits. refl))
 
   frame_l1 : filter_map body_l1 (frame_bodies c n blocks) ≡ parts ∷ []
   frame_l1 = cond_both {A = List Body} (n % c.frames == 0) _ _ (λ l. filter_map body_l1 l ≡ parts ∷ []) (λ t. rest_l1) (λ t. rest_l1)
 
-  rest_stamps : filter_map body_stamp (l1 ∷ plp_bodies c n blocks 0) ≡ []
+  rest_stamps : filter_map body_stamp (l1_of c n blocks ∷ plp_bodies c n blocks 0) ≡ []
   rest_stamps = no_blocks body_stamp (λ id first bits. refl)
 
   frame_stamps : filter_map body_stamp (frame_bodies c n blocks) ≡ (if begins_superframe c n then stamp_of c n ∷ [] else [])
   frame_stamps = go (n % c.frames == 0)
     where
-      go : (t : Bool) → filter_map body_stamp (if t then Timestamp (stamp_of c n) ∷ l1 ∷ plp_bodies c n blocks 0 else l1 ∷ plp_bodies c n blocks 0) ≡ (if t then stamp_of c n ∷ [] else [])
+      go : (t : Bool) → filter_map body_stamp (if t then Timestamp (stamp_of c n) ∷ l1_of c n blocks ∷ plp_bodies c n blocks 0 else l1_of c n blocks ∷ plp_bodies c n blocks 0) ≡ (if t then stamp_of c n ∷ [] else [])
       go true = ap (λ (l : List Stamp). stamp_of c n ∷ l) rest_stamps
       go false = rest_stamps
 
@@ -157,10 +151,6 @@ all_right c plp [] h = refl
 all_right c plp (b ∷ blocks) h = cond-true (has_length c plp b) _ _ (eq-eqb (length b) (8 * block_bytes c plp) h.0) ∙ ap (λ (l : List (List Bool)). b ∷ l) (all_right c plp blocks h.1)
 
 -- ---- Packets carry what frame n has.
-
--- its L1 signalling
-abbrev pub frame_parts : Config → (ℕ → List (List ℕ)) → ℕ → L1Parts
-frame_parts c inputs n = l1_parts c n (counts_of c (plp_blocks c inputs n))
 
 pub record HasFrame (c : Config) (inputs : ℕ → List (List ℕ)) (n : ℕ) (packets : List Packet) : Type 0 where
   pub l1s : l1s_of packets ≡ frame_parts c inputs n ∷ []

@@ -6,3 +6,6 @@ pub mod SignalLemmas
 pub mod CarriedLemmas
 pub mod PassLemmas
 pub mod LossLemmas
+pub mod TestLemmas
+pub mod WrittenLemmas
+pub mod RecordLemmas

@@ -21,8 +21,7 @@ use Rattle.frame_groups.specs.declared.cause.MuteCause.{MuteCause}
 use Rattle.frame_groups.specs.declared.cause.MuteCause.TheVariants.{PacketMissing}
 use Rattle.frame_tests.specs.Carried.{body_block, has_length, blocks_of, right_blocks, L1Parts, body_l1, l1s_of, body_stamp, stamps_of}
 use Rattle.frame_tests.specs.Tests.{unless, begins_superframe, pool_test, missing_test, l1_test, time_test, l1_shape, first_shape, has_counts, is_known, blocks_test, map_test, packets_fault}
-use Rattle.gateway_core.specs.Packets.{stamp_of, l1_body, block_bodies, counts_of, frame_bodies}
-use Rattle.gateway_core.specs.Signalling.{pre_part, conf_part, dyn_part}
+use Rattle.gateway_core.specs.Packets.{stamp_of, block_bodies, counts_of, frame_bodies}
 use Rattle.damage.specs.SentPackets.{Sent, packets_of, frame_packets}
 use Rattle.damage.specs.Survivors.{is_whole}
 use Rattle.damage.specs.Laws.{NotWholeMisses}
@@ -30,8 +29,10 @@ use Rattle.sent_frames.specs.Laws.{FrameCarries}
 use Rattle.sent_frames.specs.SentFrames.{sent_frames}
 use Rattle.sent_frames.specs.Types.{TypesFit}
 use Rattle.sent_frames.proofs.BlockLemmas.{count_at}
-use Rattle.sent_frames.proofs.CarriedLemmas.{all_bodies, frame_parts, HasFrame}
-use Rattle.sent_frames.proofs.PassLemmas.{Given, pool_passes, l1_passes, time_passes, parts_tell}
+use Rattle.sent_frames.proofs.SignalLemmas.{frame_parts}
+use Rattle.sent_frames.proofs.SentLemmas.{all_bodies, l1_of}
+use Rattle.sent_frames.proofs.CarriedLemmas.{HasFrame}
+use Rattle.sent_frames.proofs.PassLemmas.{Given, pool_passes, l1_passes, time_passes, parts_tell, own_stamps}
 
 -- ---- what survives of a frame are some of its packets
 
@@ -147,9 +148,9 @@ module _ (c : Config) (inputs : ℕ → List (List ℕ)) (n : ℕ) (all left : L
       (flat_map (λ plp. block_bodies (n % c.frames) (plp_at c.plps plp).id true (plp_blocks c inputs n plp)) (range_with_len (a + 1) k))
       (tell_blocks a true (plp_blocks c inputs n a) (omega (arith, l))) (tell_plps (a + 1) k (omega (arith, l)))
 
-  tell_l1 : Tells (l1_body c n (pre_part c) (conf_part c) (dyn_part c n (counts_of c (plp_blocks c inputs n))))
+  tell_l1 : Tells (l1_of c n (plp_blocks c inputs n))
   tell_l1 fewer =
-      let l = fewer_by body_l1 (l1_body c n (pre_part c) (conf_part c) (dyn_part c n (counts_of c (plp_blocks c inputs n)))) refl fewer in
+      let l = fewer_by body_l1 (l1_of c n (plp_blocks c inputs n)) refl fewer in
       let e = ap length has.l1s in
       NoL1 (omega (arith, l, e))
 
@@ -252,10 +253,6 @@ module _ (given : Given) (c : Config) (inputs : ℕ → List (List ℕ)) (n : �
       (λ b e. not_both n refl lacks b (and_parts counted (list_all (is_known c) left) e).0)
 
 -- ---- what survives of a frame
-
-own_stamps : (c : Config) (n : ℕ) (t : Bool) → AllByRecursion (λ (s : Stamp). s ≡ stamp_of c n) (cond t (stamp_of c n ∷ []) [])
-own_stamps c n true = (refl, tt)
-own_stamps c n false = tt
 
 -- what survives of frame n carries nothing that the frame has not, and no more
 pub record IsLeft (c : Config) (inputs : ℕ → List (List ℕ)) (n : ℕ) (left : List Packet) : Type 0 where

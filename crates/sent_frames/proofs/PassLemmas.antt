@@ -36,8 +36,8 @@ use Rattle.frame_tests.specs.Tests.{unless, begins_superframe, pool_chunks, pool
 use Rattle.gateway_core.specs.Packets.{stamp_of, counts_of}
 use Rattle.sent_frames.specs.Types.{TypesFit}
 use Rattle.sent_frames.proofs.BlockLemmas.{count_at}
-use Rattle.sent_frames.proofs.SignalLemmas.{parts_pass, parts_shape}
-use Rattle.sent_frames.proofs.CarriedLemmas.{frame_parts, HasFrame}
+use Rattle.sent_frames.proofs.SignalLemmas.{frame_parts, parts_pass, frame_told}
+use Rattle.sent_frames.proofs.CarriedLemmas.{HasFrame}
 
 -- What the laws of the crates below say.
 pub record Given : Type 0 where
@@ -56,6 +56,25 @@ pub record Given : Type 0 where
   pub counts : ShapeHasCounts
   pub passes : ShapePasses
   pub map : MapPasses
+
+pub given_by : PartsTold → PreWritten → ConfWritten → DynReadBack → DynWritten → BitCounts → CountLaw → SlotLength → FieldRange → BlockChunks → CellsByFive → ShapeFitsL1 → ShapeHasCounts → ShapePasses → MapPasses → Given
+given_by a b d e f g h i j k l m n o p = record {
+  told = a;
+  pre_written = b;
+  conf_written = d;
+  dyn_back = e;
+  dyn_written = f;
+  numbers = g;
+  count = h;
+  slot = i;
+  field = j;
+  chunks = k;
+  cells = l;
+  fits = m;
+  counts = n;
+  passes = o;
+  map = p;
+}
 
 pub unless_true : (t : Bool) (cause : MuteCause) → t ≡ true → unless t cause ≡ None
 unless_true t cause e = ap (λ (t : Bool). unless t cause) e
@@ -114,6 +133,11 @@ pool_holds law cells c counts packets plan fit few =
 each_place : (test : ℕ → Bool) (count : ℕ) → ((plp : ℕ) → plp < count → test plp ≡ true) → (a k : ℕ) → a + k ≤ count → list_all test (range_with_len a k) ≡ true
 each_place test count h a zero l = refl
 each_place test count h a (suc k) l = and_from (test a) (list_all test (range_with_len (a + 1) k)) (h a (omega (arith, l))) (each_place test count h (a + 1) k (omega (arith, l)))
+
+-- a superframe has one timestamp
+pub own_stamps : (c : Config) (n : ℕ) (t : Bool) → AllByRecursion (λ (s : Stamp). s ≡ stamp_of c n) (if t then stamp_of c n ∷ [] else [])
+own_stamps c n true = (refl, tt)
+own_stamps c n false = tt
 
 -- ---- the tests of packets that carry nothing but what frame n has
 
@@ -177,12 +201,12 @@ module _ (given : Given) (c : Config) (inputs : ℕ → List (List ℕ)) (n : �
 
   -- the shape that the frame's L1-current tells
   pub parts_tell : l1_shape c (frame_parts c inputs n) ≡ Some (frame_shape c inputs n)
-  parts_tell = parts_shape c plan types n counts fit given.dyn_back given.dyn_written given.fits
+  parts_tell = frame_told given.slot given.field given.count given.dyn_back given.dyn_written given.fits c inputs n plan types
 
   -- ---- all packets of the frame
 
   module _ (packets : List Packet) (has : HasFrame c inputs n packets) where
-    pub first_is : first_shape c packets ≡ Some (frame_shape c inputs n)
+    first_is : first_shape c packets ≡ Some (frame_shape c inputs n)
     first_is = ap (λ (l : List L1Parts). option_and_then (l1_shape c) (slice_get l 0)) has.l1s ∙ parts_tell
 
     pool_none : pool_test c packets ≡ None
@@ -202,12 +226,8 @@ module _ (given : Given) (c : Config) (inputs : ℕ → List (List ℕ)) (n : �
     l1_none : l1_test c n packets ≡ None
     l1_none = l1_passes packets (subst (AllByRecursion (λ l1. l1 ≡ frame_parts c inputs n)) (sym has.l1s) (refl, tt))
 
-    own_stamps : (t : Bool) → AllByRecursion (λ (s : Stamp). s ≡ stamp_of c n) (if t then stamp_of c n ∷ [] else [])
-    own_stamps true = (refl, tt)
-    own_stamps false = tt
-
     time_none : time_test c n packets ≡ None
-    time_none = time_passes packets (subst (AllByRecursion (λ s. s ≡ stamp_of c n)) (sym has.stamps) (own_stamps (begins_superframe c n)))
+    time_none = time_passes packets (subst (AllByRecursion (λ s. s ≡ stamp_of c n)) (sym has.stamps) (own_stamps c n (begins_superframe c n)))
 
     has_each : has_counts c packets (Some (frame_shape c inputs n)) ≡ true
     has_each =

@@ -29,7 +29,7 @@ of_frames bodies from count = flat_map (λ n. of_frame n (bodies n)) (range_with
 abbrev own_bodies : ℕ → List (ℕ × Body) → List Body
 own_bodies m bodies = map (λ (b : ℕ × Body). b.1) (filter (λ (b : ℕ × Body). b.0 == m) bodies)
 
-abbrev all_bodies : List Packet → List Body
+abbrev pub all_bodies : List Packet → List Body
 all_bodies packets = map (λ (p : Packet). p.body) packets
 
 carried_own : (c : Config) (m number : ℕ) (bodies : List (ℕ × Body)) → all_bodies (frame_packets m (sent_from c number bodies)) ≡ own_bodies m bodies
@@ -127,7 +127,8 @@ order_rest c n before (b ∷ bodies) rest p l o q = λ number. (
   order_rest c n (Some n) bodies rest p.1 (omega arith) q q (number + 1),
 )
 
-abbrev l1_of : Config → ℕ → (ℕ → List (List Bool)) → Body
+-- the L1-current of frame n, by the blocks that each PLP has
+abbrev pub l1_of : Config → ℕ → (ℕ → List (List Bool)) → Body
 l1_of c n blocks = l1_body c n (pre_part c) (conf_part c) (dyn_part c n (counts_of c blocks))
 
 order_l1 : (c : Config) (n : ℕ) (before : Option ℕ) (blocks : ℕ → List (List Bool)) (rest : List (ℕ × Body)) → NotLater before n → AreOrdered c (Some n) rest

@@ -2,5 +2,7 @@
 #![tactic(auto)]
 
 mod laws;
+mod plan;
 
-pub use laws::{sent_law, stream_law};
+pub use laws::{frame_law, sent_law, stream_law, tests_law, undamaged_law};
+pub use plan::{plan_law, type_law};
