@@ -7,19 +7,20 @@ use Rattle.std.specs.Int.{div_ceil}
 use Rattle.std.specs.List.{find, list_all, range_with_len, AllByRecursion}
 use Rattle.std.specs.Option.{option_and_then}
 use Rattle.std.proofs.lemmas.Bool.{and_from, cond-false, eq-eqb, le-leb, not_from_true, false≢true, true≢false}
-use Rattle.std.proofs.lemmas.List.Filters.{sum_by-filter_both}
+use Rattle.std.proofs.lemmas.List.Folds.{fold-map}
+use Rattle.std.proofs.lemmas.List.FromFn.{fill_by_all}
 use Rattle.std.proofs.lemmas.List.Sums.{sum_by-cons}
 use Rattle.std.proofs.lemmas.Nat.{mul-le}
 use Rattle.bb_frame.specs.Laws.{BitCounts}
-use Rattle.plp_config.specs.Capacity.{IsPlan, block_bytes, block_cells}
+use Rattle.plp_config.specs.Capacity.{IsPlan, CellCount, block_bytes, block_cells, cell_need}
 use Rattle.plp_config.specs.Emission.{emission}
 use Rattle.plp_config.specs.Laws.{SlotLength, FieldRange, BlockChunks, CellsByFive}
-use Rattle.plp_config.specs.Tables.{bw}
+use Rattle.plp_config.specs.Plps.{plp_at, no_plp}
+use Rattle.plp_config.specs.Tables.{bw, cells_per_block}
 use Rattle.plp_config.specs.declared.config.Config.{Config}
+use Rattle.plp_config.specs.declared.plp.Plp.{Plp}
 use Rattle.linked_pool.specs.Pool.{chunks_for}
 use Rattle.scheduler.specs.Laws.{CountsFit, ShapeFitsL1, ShapeHasCounts}
-use Rattle.scheduler.specs.Shape.{cells_of, in_type2, type1_before, type2_before}
-use Rattle.scheduler.proofs.SumLemmas.{cells_fit}
 use Rattle.cell_map.specs.Laws.{ShapePasses}
 use Rattle.l1_signal.specs.Laws.{PreWritten, ConfWritten, DynReadBack, DynWritten}
 use Rattle.t2mi_packet.specs.declared.packet.Packet.{Packet}
@@ -115,18 +116,21 @@ sums_most f g count h a (suc k) l =
     let rest = sums_most f g count h (a + 1) k (omega (arith, l)) in
     omega (arith, x, y, one, rest)
 
-pool_holds : BlockChunks → CellsByFive → (c : Config) (counts : List ℕ) (packets : List Packet) → IsPlan c → CountsFit c counts
-    → ((plp : ℕ) → plp < length c.plps → length (right_blocks c plp packets) ≤ slice_index counts plp) → pool_need c packets ≤ pool_chunks c
-pool_holds law cells c counts packets plan fit few =
+-- a sum over the PLPs, by their places
+sum_places : (h : Plp → ℕ) (plps : List Plp) → sum_by h plps ≡ sum_by (λ k. h (plp_at plps k)) (range_with_len 0 (length plps))
+sum_places h plps = ap (sum_by h) (fill_by_all (plp_at plps) plps (length plps) no_plp refl (λ k l. refl)) ∙ fold-map (λ (sum : ℕ) (plp : Plp). sum + h plp) (plp_at plps) 0 (range_with_len 0 (length plps))
+
+pool_holds : BlockChunks → CellsByFive → (c : Config) (packets : List Packet) → IsPlan c → ((plp : ℕ) → plp < length c.plps → length (right_blocks c plp packets) ≤ (plp_at c.plps plp).blocks) → pool_need c packets ≤ pool_chunks c
+unfolding block_cells cell_need
+pool_holds law cells c packets plan few =
     let n : ℕ = length c.plps in
     let all =
-    sums_most (λ plp. length (right_blocks c plp packets) * chunks_for (block_bytes c plp)) (cells_of c counts) n
+    sums_most (λ plp. length (right_blocks c plp packets) * chunks_for (block_bytes c plp)) (λ plp. (plp_at c.plps plp).blocks * block_cells c plp) n
     (λ plp inside.
-    let m = mul-le (length (right_blocks c plp packets)) (2025 * chunks_for (block_bytes c plp)) (slice_index counts plp) (7 * block_cells c plp) (few plp inside) (chunks_most law cells c plp) in omega (arith, m)) 0 n (omega arith) in
-    let parts : sum_by (cells_of c counts) (type2_before c n) + sum_by (cells_of c counts) (type1_before c n) ≡ sum_by (cells_of c counts) (range_with_len 0 n) =
-    sum_by-filter_both (in_type2 c) (λ plp. not (in_type2 c plp)) (λ _. refl) (cells_of c counts) (range_with_len 0 n) in
-    let most = cells_fit c counts n plan fit (omega arith) in
-    omega (arith, all, parts, most)
+    let m = mul-le (length (right_blocks c plp packets)) (2025 * chunks_for (block_bytes c plp)) (plp_at c.plps plp).blocks (7 * block_cells c plp) (few plp inside) (chunks_most law cells c plp) in omega (arith, m)) 0 n (omega arith) in
+    let sum = sum_places (λ plp. plp.blocks * cells_per_block plp.fec plp.modulation) c.plps in
+    let need : cell_need c ≤ c.cells = plan.tests CellCount in
+    omega (arith, all, sum, need)
 
 -- ---- a test of each PLP
 
@@ -154,8 +158,8 @@ module _ (given : Given) (c : Config) (inputs : ℕ → List (List ℕ)) (n : �
   pool_passes packets few =
       unless_true (nat_le (pool_need c packets) (pool_chunks c)) (PoolFull (capped (pool_need c packets)) (pool_chunks c))
       (le-leb (pool_need c packets) (pool_chunks c)
-      (pool_holds given.chunks given.cells c counts packets plan fit
-      (λ plp inside. let a = few plp inside in let b = count_at c (plp_blocks c inputs n) plp inside in omega (arith, a, b))))
+      (pool_holds given.chunks given.cells c packets plan
+      (λ plp inside. let a = few plp inside in let b = count_at c (plp_blocks c inputs n) plp inside in let most = fit.within plp inside in omega (arith, a, b, most))))
 
   -- c, if all L1-current packets are the frame's
   agree : parts_agree c n (frame_parts c inputs n) ≡ true

@@ -1,8 +1,9 @@
 -- The bytes of a run read as its packets.
-use Rattle.std.proofs.Common.{◌≡◌, ℕ, ◌+◌, List, [], ◌∷◌, ◌++◌, map, length, Some, refl, ap, ap₂, subst, ◌∙◌, arith, append-nil}
+use Rattle.std.proofs.Common.{◌≡◌, ℕ, ◌+◌, ◌^◌, ◌<◌, Bool, List, [], ◌∷◌, ◌++◌, map, length, Some, refl, ap, ap₂, subst, ◌∙◌, arith, append-nil}
 use Rattle.std.specs.List.{AllByRecursion}
 use Rattle.terms.specs.Bits.{bits_of, bytes_of}
 use Rattle.terms.proofs.BitLemmas.{bits_of-bytes_of, length-bits_of}
+use Rattle.bit_slice.specs.Crc.{crc32_of}
 use Rattle.bb_frame.specs.Laws.{BitCounts}
 use Rattle.plp_config.specs.Laws.{EmissionFits, FieldRange}
 use Rattle.plp_config.specs.declared.config.Config.{Config}
@@ -12,7 +13,6 @@ use Rattle.t2mi_packet.specs.Spell.{spell}
 use Rattle.t2mi_packet.specs.T2miPacket.{written_bits, packet_len, Fits, BeginsWith}
 use Rattle.t2mi_packet.specs.declared.packet.Body.{Body}
 use Rattle.t2mi_packet.specs.declared.packet.Packet.{Packet}
-use Rattle.t2mi_packet.proofs.PacketLemmas.{Bounded}
 use Rattle.t2mi_packet.proofs.LawLemmas.{begun}
 use Rattle.t2mi_stream.specs.Laws.{ArePackets}
 use Rattle.modulator.specs.Modulating.{packet_of}
@@ -30,7 +30,7 @@ record Written (p : Packet) (bytes : List ℕ) : Type 0 where
 fits_with : (c : Config) (number : ℕ) (b : ℕ × Body) → PairFits b → Fits (packet_with c number b.0 b.1)
 fits_with c number b h = record { count = omega arith; superframe = omega arith; stream = omega arith; body = h.0; payload = h.1 }
 
-module _ (bounded : Bounded) (spell_is : SpellIs) (read : WrittenIsRead) (len : WrittenLength) where
+module _ (bounded : (w : List Bool) → crc32_of w < 2 ^ 32) (spell_is : SpellIs) (read : WrittenIsRead) (len : WrittenLength) where
   written : (p : Packet) → Fits p → Written p (bytes_of (written_bits p))
   written p fits =
       let front : List ℕ = bytes_of (written_bits p) in

@@ -25,7 +25,7 @@ fn groups_fit(plan: &Plan)
     }
 }
 
-// So are its other numbers that no rule speaks of, or have 16 or 32 bits.
+// Its other numbers of which no rule speaks fit their types too.
 fn numbers_fit(plan: &Plan)
     ensures tx_id { plan.now.l1.tx_id < 2 ^ 8 }
     ensures cell_id { plan.now.cell_id < 2 ^ 16 }
