@@ -1,6 +1,5 @@
 -- Laws of a run as a stream of which units are lost or altered.
-use Rattle.std.specs.Prelude.{◌≡◌, ◌<◌, ◌≤◌, ◌^◌, ℕ, true, false, Bool, List, map, length, drop, Some}
-use Rattle.std.specs.List.{items_where_true}
+use Rattle.std.specs.Prelude.{◌≡◌, ◌<◌, ◌≤◌, ℕ, true, Bool, List, map, length, drop}
 use Rattle.plp_config.specs.Capacity.{IsPlan}
 use Rattle.plp_config.specs.declared.config.Config.{Config}
 use Rattle.plp_config.specs.declared.moment.TheConstants.{MOST_FRAMES}
@@ -12,8 +11,8 @@ use Rattle.frame_tests.specs.Tests.{rules}
 use Rattle.frame_records.specs.Frames.{frame_of, HasByteIds}
 use Rattle.frame_records.specs.Records.{file_bytes}
 use Rattle.gateway_core.specs.Packets.{frame_bodies}
-use Rattle.open_group.specs.Written.{packets_view, content_view}
-use Rattle.modulator.specs.StandsFor.{records_due, bytes_due}
+use Rattle.open_group.specs.Written.{packets_view}
+use Rattle.modulator.specs.StandsFor.{bytes_due}
 use Rattle.damage.specs.SentPackets.{AreFrames, frame_packets}
 use Rattle.damage.specs.Laws.{RulesMeet}
 use Rattle.damage.specs.Streams.{IsStream, Honest}

@@ -1,0 +1,76 @@
+// Laws of the definitions. Their functions do nothing.
+ghost use Rattle.sent_frames.specs.Laws.{SentAreFrames, FrameCarries, FramesAreStream, TestsMeet, WrittenIsFrame, KeptIsHonest};
+
+use bb_frame::bit_counts;
+use bit_slice::crc32_law;
+use cell_map::shape_law;
+use damage::{kept_law, whole_law};
+use frame_tests::{map_test_law, named_law, parts_law};
+use l1_signal::{conf_law, dyn_law, post_law, pre_law};
+use mode_adapt::count_law;
+use plp_config::{block_law, emission_law, length_law};
+use scheduler::{field_law, order_law};
+use t2mi_packet::{spell_law, written_law};
+
+/// The packets of a run are sent frame by frame, and those of a frame carry what it has.
+pub fn sent_law()
+    ensures frames { SentAreFrames }
+    ensures carries { FrameCarries }
+{}
+
+/// The bytes of a plan's frames read as their packets.
+pub fn stream_law()
+    ensures { FramesAreStream }
+{
+    sent_law();
+    crc32_law();
+    spell_law();
+    written_law();
+    emission_law();
+    pre_law();
+    post_law();
+    bit_counts();
+    block_law();
+}
+
+/// A run of which all units from one on are kept is honest.
+pub fn undamaged_law()
+    ensures { KeptIsHonest }
+{
+    stream_law();
+    kept_law();
+}
+
+/// The six tests make of a run what they must, whatever survives.
+pub fn tests_law()
+    ensures { TestsMeet }
+{
+    sent_law();
+    whole_law();
+    named_law();
+    map_test_law();
+    parts_law();
+    shape_law();
+    pre_law();
+    conf_law();
+    dyn_law();
+    bit_counts();
+    count_law();
+    length_law();
+    block_law();
+    field_law();
+    order_law();
+}
+
+/// What is written of the packets of a frame is the frame.
+pub fn frame_law()
+    ensures { WrittenIsFrame }
+{
+    sent_law();
+    dyn_law();
+    bit_counts();
+    count_law();
+    length_law();
+    block_law();
+    field_law();
+}
