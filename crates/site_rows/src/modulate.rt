@@ -219,7 +219,8 @@ fn without_a_superframe_there_is_no_record(rt: HostRuntime) -> Result<(), Fail> 
         assert_eq!(rt; ended.out.as_ref().map(|out| out.len()), Some(0));
     }
     let whole = records(&rt, SMALL, &stream, "first=0 records=4 muted=0\n")?;
-    let front = records(&rt, SMALL, &stream[..188], "first=0 records=2 muted=0\n")?;
+    let unit = stream.get(..188).map_or(&[][..], |unit| unit);
+    let front = records(&rt, SMALL, unit, "first=0 records=2 muted=0\n")?;
     assert!(rt; whole.starts_with(&front) && front.len() == 2 * EMPTY_RECORD);
     Ok(())
 }
