@@ -25,7 +25,7 @@ mod_whole n len l e =
     let s : n + len ≡ (n / len + 1) * len + 0 = let d : (n / len + 1) * len ≡ n / len * len + len = omega arith in omega (arith, d, q) in
     ap (λ (m : ℕ). m % len) s ∙ mod-mul-add (n / len + 1) len 0 l
 
-is_first : (issy : ℕ) → is_start (first_mark issy) ≡ true
+pub is_first : (issy : ℕ) → is_start (first_mark issy) ≡ true
 is_first issy = go (issy / 2 ^ 22 == 2)
   where
     go : (b : Bool) → is_start (if b then Timed (issy % 2 ^ 22) else Next) ≡ true

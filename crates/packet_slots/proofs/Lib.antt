@@ -15,3 +15,4 @@ mod TimeLemmas
 mod BothLemmas
 mod FieldLemmas
 mod StandsLemmas
+mod LaterLemmas

@@ -14,3 +14,4 @@ pub mod Holds
 pub mod Both
 pub mod StandsFor
 pub mod Laws
+pub mod LaterBlocks

@@ -1,4 +1,5 @@
 // Laws of the definitions. Their functions do nothing.
+ghost use Rattle.packet_slots.specs.LaterBlocks.{CompleteByBlocks};
 ghost use Rattle.packet_slots.specs.Laws.{ReadbackFront};
 
 use plp_config::release_law;
@@ -9,3 +10,9 @@ pub fn readback_law()
 {
     release_law();
 }
+
+/// A user packet is complete exactly if each later block that begins before it ends has its first user packet where it ends, or has
+/// none and ends by there.
+pub fn complete_law()
+    ensures { CompleteByBlocks }
+{}

@@ -14,6 +14,6 @@ mod times;
 mod window;
 
 pub use block::TakenBlock;
-pub use laws::readback_law;
+pub use laws::{complete_law, readback_law};
 pub use rule::{ISCR_MODULUS, SlotRule};
 pub use slots::PacketSlots;
