@@ -4,8 +4,10 @@
 
 mod l1;
 mod laws;
+mod map;
 mod network;
 
 pub use l1::{is_network_conf, is_of_frame, is_pre, read_dynamic, tell_shape};
 pub use laws::{map_test_law, named_law, parts_law, tally_law};
+pub use map::map_passes;
 pub use network::{Network, plp_id};
