@@ -1,3 +1,4 @@
+pub mod IdLemmas
 pub mod MapLemmas
 pub mod PartsLemmas
 pub mod TallyLemmas

@@ -1,7 +1,6 @@
 // The six tests of what is held of a group (ETSI TS 102 773, clause 5).
 ghost use Rattle.std.specs.Prelude.{◌≡◌, ◌<◌, ◌≤◌, ◌^◌, true, IsNone, length};
 ghost use Rattle.std.specs.Option.{option_and_then};
-ghost use Rattle.frame_tests.specs.MapTest.{map_passes};
 ghost use Rattle.frame_tests.specs.Tally.{Tally, tally_pool, tally_missing, tally_l1, first_late, tally_time, tally_counts, tally_shape, tally_blocks, tally_map, tally_fault};
 ghost use Rattle.frame_tests.specs.Tests.{begins_superframe, pool_chunks, stamp_agrees, disagrees, has_map};
 ghost use Rattle.open_group.specs.HoldsBlocks.{IsOpenFor, HoldsCounts};
@@ -11,11 +10,9 @@ ghost use Rattle.open_group.specs.HoldsStamps.{HoldsStamps};
 use crate::blocks::HeldBlocks;
 use crate::l1::HeldL1;
 use crate::stamps::HeldStamps;
-use cell_map::check;
 use frame_groups::MuteCause;
-use frame_tests::map_test_law;
+use frame_tests::map_passes;
 use plp_config::Plan;
-use scheduler::Shape;
 use t2mi_packet::Stamp;
 
 // Whether a frame begins a superframe.
@@ -128,15 +125,6 @@ pub fn blocks_fault(plan: &Plan, l1: &HeldL1, blocks: &HeldBlocks) -> Option<Mut
         return None;
     }
     Some(MuteCause::PacketMissing)
-}
-
-// Whether a shape has a cell map.
-fn map_passes(plan: &Plan, shape: &Shape) -> bool
-    requires { length shape.now.counts ≡ length plan.now.plps }
-    ensures { result ≡ map_passes plan.now shape.now }
-{
-    map_test_law();
-    check(plan, shape).is_ok()
 }
 
 // Whether the shape that the first L1-current tells has one.

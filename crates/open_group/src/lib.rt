@@ -8,7 +8,6 @@ mod group;
 mod l1;
 mod laws;
 mod named;
-mod network;
 mod parts;
 mod plps;
 mod stamps;

@@ -6,6 +6,7 @@ ghost use Rattle.plp_config.specs.Plps.{plp_at};
 ghost use Rattle.frame_tests.specs.Tests.{pool_chunks};
 ghost use Rattle.open_group.specs.Networks.{IsPlace, HasNoPlace};
 
+use frame_tests::plp_id;
 use linked_pool::CHUNK;
 use plp_config::Plan;
 
@@ -13,14 +14,6 @@ use plp_config::Plan;
 const CHUNKS_OF_CELLS: u32 = 7;
 
 const FEWEST_CELLS: u32 = 2_025;
-
-/// PLP_ID of the PLP at a place.
-pub fn plp_id(plan: &Plan, plp: usize) -> u8
-    requires { plp < length plan.now.plps }
-    ensures { result ≡ (plp_at plan.now.plps plp).id }
-{
-    plan.config().plps.get(plp).unwrap().id
-}
 
 // The first PLP with an identifier.
 fn first_with(plan: &Plan, id: u8) -> Option<usize>

@@ -156,6 +156,13 @@ impl PacketSlots {
         self.leave();
     }
 
+    /// The number of the frame that comes next, or that is under way.
+    pub fn frame(&self) -> u64
+        ensures { result ≡ frame_of self.now }
+    {
+        self.frame
+    }
+
     /// How many slots are due and not given out.
     pub fn due(&self) -> u64
         ensures value { result ≡ due_of self.now }

@@ -1,7 +1,7 @@
 use Rattle.std.proofs.Common.{sym, ◌∙◌, arith}
 use Rattle.l1_signal.specs.L1Dynamic.{no_dyn_plp}
-use Rattle.open_group.proofs.IdLemmas.{ids_same, ids_differ}
-use Rattle.open_group.proofs.l1.has_ids.Goals as goal
+use Rattle.frame_tests.proofs.IdLemmas.{ids_same, ids_differ}
+use Rattle.frame_tests.proofs.l1.has_ids.Goals as goal
 
 pub returns-then-told_id-plp_id : goal.returns-then-told_id-plp_id
 returns-then-told_id-plp_id c =

@@ -1,5 +1,6 @@
 // What is fixed for a network.
-ghost use Rattle.std.specs.Prelude.{◌≡◌};
+ghost use Rattle.std.specs.Prelude.{◌≡◌, ◌<◌, length};
+ghost use Rattle.plp_config.specs.Plps.{plp_at};
 
 use bit_slice::OutOfMemory;
 use l1_signal::{L1Conf, conf_of};
@@ -51,4 +52,12 @@ impl<'p> Network<'p> {
     {
         &self.conf
     }
+}
+
+/// PLP_ID of the PLP at a place.
+pub fn plp_id(plan: &Plan, plp: usize) -> u8
+    requires { plp < length plan.now.plps }
+    ensures { result ≡ (plp_at plan.now.plps plp).id }
+{
+    plan.config().plps.get(plp).unwrap().id
 }
