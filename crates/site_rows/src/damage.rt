@@ -12,6 +12,7 @@ const FRAMES: usize = 12;
 
 // The first frame with a block, and the first one behind them.
 const FIRST_FULL: usize = 1;
+
 const BEHIND_FULL: usize = 9;
 
 // What is left if one of so many units is damaged: the records of the frames from `first` on and before `end`. Those from `muted` on
@@ -76,7 +77,9 @@ const ALTERED: [[usize; 5]; 10] = [
 // The record of a frame among those of all frames.
 fn record_of(whole: &[u8], frame: usize) -> &[u8] {
     let full = frame.clamp(FIRST_FULL, BEHIND_FULL) - FIRST_FULL;
-    let begin = frame.wrapping_mul(EMPTY_RECORD).wrapping_add(full.wrapping_mul(THREE_BLOCKS));
+    let begin = frame
+        .wrapping_mul(EMPTY_RECORD)
+        .wrapping_add(full.wrapping_mul(THREE_BLOCKS));
     let blocks = if frame >= FIRST_FULL && frame < BEHIND_FULL {
         THREE_BLOCKS
     } else {
@@ -129,8 +132,15 @@ fn each_lost_unit_mutes_the_frames_that_it_carries(rt: HostRuntime) -> Result<()
         let expected = left_of(alloc, &whole, left)?;
         for _ in 0..left.units {
             let begin = unit.wrapping_mul(SIZE);
-            let mut lossy = stream.get(..begin).map_or(&[][..], |front| front).to_vec(alloc)?;
-            lossy.extend_from_slice(stream.get(begin.wrapping_add(SIZE)..).map_or(&[][..], |rest| rest))?;
+            let mut lossy = stream
+                .get(..begin)
+                .map_or(&[][..], |front| front)
+                .to_vec(alloc)?;
+            lossy.extend_from_slice(
+                stream
+                    .get(begin.wrapping_add(SIZE)..)
+                    .map_or(&[][..], |rest| rest),
+            )?;
             assert!(rt; records(&rt, LOADED, &lossy, &line)? == expected, "{unit}");
             unit = unit.wrapping_add(1);
         }
