@@ -1,0 +1,7 @@
+mod TakingLemmas
+mod BitsLemmas
+mod ListLemmas
+mod CountLemmas
+mod SizeLemmas
+mod SeenLemmas
+mod RuleLemmas
