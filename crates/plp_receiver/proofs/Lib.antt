@@ -5,3 +5,4 @@ mod CountLemmas
 mod SizeLemmas
 mod SeenLemmas
 mod RuleLemmas
+mod TakeLemmas

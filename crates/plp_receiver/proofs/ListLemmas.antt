@@ -1,8 +1,8 @@
 -- Lists, from a place on.
-use Rattle.std.proofs.Common.{◌≡◌, ℕ, zero, suc, ◌+◌, ◌<◌, ◌≤◌, List, [], ◌∷◌, length, take, drop, Option, Some, None, refl, ap, sym, ◌∙◌, arith}
+use Rattle.std.proofs.Common.{◌≡◌, ℕ, zero, suc, ◌+◌, ◌<◌, ◌≤◌, List, [], ◌∷◌, ◌++◌, length, drop, Option, Some, None, refl, ap, sym, ◌∙◌, arith}
 use Rattle.std.specs.Prelude.{slice_get, MatchOption}
-use Rattle.std.proofs.lemmas.List.{drop-drop}
-use Rattle.terms.proofs.OptionLemmas.{some_injective, none_some}
+use Rattle.std.specs.List.{AllZip}
+use Rattle.std.proofs.lemmas.List.{length-drop}
 
 module _ {X : Type 0} where
   drop_suc : (xs : List X) (k : ℕ) → drop (suc k) xs ≡ drop 1 (drop k xs)
@@ -31,3 +31,14 @@ module _ {X : Type 0} where
       → MatchOption r ((old ≡ []) × (new ≡ [])) (λ x. old ≡ view x ∷ new) → new ≡ drop (k + 1) xs
   gone_past view xs old new k None e n = n.1 ∙ sym (drop_one xs k ∙ ap (drop 1) (sym e ∙ n.0))
   gone_past view xs old new k (Some a) e n = sym (drop_one xs k ∙ ap (drop 1) (sym e ∙ n))
+
+  -- one more is left
+  pub some_left : {P : Type 0} (xs rest : List X) (k : ℕ) → k < length xs → rest ≡ drop k xs → rest ≡ [] → P
+  some_left xs rest k l d e = let none = ap length (sym d ∙ e) in absurd (omega (arith, l, none, length-drop k xs))
+
+-- lists in step, one item more
+pub zip_more : {A B : Type 0} (R : A → B → Type 0) (xs : List A) (ys : List B) (x : A) (y : B) → AllZip R xs ys → R x y → AllZip R (xs ++ x ∷ []) (ys ++ y ∷ [])
+zip_more R [] [] x y z r = (r, tt)
+zip_more R [] (b ∷ ys) x y z r = absurd z
+zip_more R (a ∷ xs) [] x y z r = absurd z
+zip_more R (a ∷ xs) (b ∷ ys) x y z r = (z.0, zip_more R xs ys x y z.1 r)

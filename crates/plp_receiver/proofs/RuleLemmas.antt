@@ -2,7 +2,7 @@
 use Rattle.std.proofs.Common.{◌≡◌, ℕ, ◌+◌, ◌*◌, ◌/◌, ◌%◌, ◌-◌, ◌^◌, ◌<◌, ◌≤◌, min, length, refl, ap, ap₂, sym, ◌∙◌, arith, inl, inr}
 use Rattle.std.specs.Int.{div_ceil, ◌∣◌}
 use Rattle.std.proofs.lemmas.Bool.{cases_lt}
-use Rattle.std.proofs.Math.Nat.{div-mul_cancel, mul-div-mul_right, mod-eq-sub-div-mul, div-mul-le_self, div-le_self}
+use Rattle.std.proofs.Math.Nat.{mul-le-mul, div-mul_cancel, mul-div-mul_right, mod-eq-sub-div-mul, div-mul-le_self, div-le_self}
 use Rattle.std.proofs.lemmas.Nat.{le-div}
 use Rattle.plp_config.specs.Laws.{SlotLength}
 use Rattle.plp_config.specs.Rules.{AllRules}

@@ -55,7 +55,7 @@ pub fn take_blocks(
 )
     requires small { frame_of slots.old < MOST_FRAMES }
     requires within { is_within slots.old ≡ true }
-    requires blocks { HaveBytes (length buffer.old) (length stands.now) rest.old }
+    requires there { HaveBytes (length buffer.old) (length stands.now) rest.old }
     ensures takes { TakesBlocks deletes stands.now rest.old slots.old slots.new }
     ensures frame { frame_of slots.new ≡ frame_of slots.old }
     ensures within { is_within slots.new ≡ true }
