@@ -6,3 +6,5 @@ mod SizeLemmas
 mod SeenLemmas
 mod RuleLemmas
 mod TakeLemmas
+mod UniqueLemmas
+mod StandsLemmas

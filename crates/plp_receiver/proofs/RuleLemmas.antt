@@ -4,10 +4,13 @@ use Rattle.std.specs.Int.{div_ceil, ◌∣◌}
 use Rattle.std.proofs.lemmas.Bool.{cases_lt}
 use Rattle.std.proofs.Math.Nat.{mul-le-mul, div-mul_cancel, mul-div-mul_right, mod-eq-sub-div-mul, div-mul-le_self, div-le_self}
 use Rattle.std.proofs.lemmas.Nat.{le-div}
-use Rattle.plp_config.specs.Laws.{SlotLength}
+use Rattle.plp_config.specs.Laws.{SlotLength, FrameTicks, UserPacketRange}
 use Rattle.plp_config.specs.Rules.{AllRules}
 use Rattle.plp_config.specs.SlotTime.{num, den, IsSlotLength, window, window_slots, delay_ticks}
 use Rattle.plp_config.specs.declared.config.Config.{Config}
+use Rattle.packet_slots.specs.Sound.{IsSound}
+use Rattle.packet_slots.specs.declared.rule.SlotRule.{SlotRule}
+use Rattle.plp_receiver.specs.Taken.{IsRule}
 
 divisor_pos : (d g : ℕ) → 1 ≤ d → d / g * g ≡ d → 1 ≤ g
 divisor_pos d g pos e =
@@ -55,12 +58,12 @@ expands g a b l = ap₂ (λ (q r : ℕ). q + min 1 r) (mul-div-mul_right {m = g}
 
 -- ---- the rule of a PLP
 -- what is known of the length of a slot
-pub record Lengths (n d : ℕ) : Type 0 where
-  pub some : 1 ≤ d
-  pub long : d ≤ n
-  pub small : n < 2 ^ 38
+record Lengths (n d : ℕ) : Type 0 where
+  some : 1 ≤ d
+  long : d ≤ n
+  small : n < 2 ^ 38
 
-pub lengths : SlotLength → (c : Config) (plp n d : ℕ) → AllRules c → plp < length c.plps → IsSlotLength c plp n d → Lengths n d
+lengths : SlotLength → (c : Config) (plp n d : ℕ) → AllRules c → plp < length c.plps → IsSlotLength c plp n d → Lengths n d
 lengths law c plp n d rules l is =
     let g : ℕ = is.0 in
     let whole = div-mul_cancel g is.1.1 in
@@ -72,6 +75,22 @@ lengths law c plp n d rules l is =
     let long = le-div (den c plp / g) (num c) g (divisor_pos (den c plp) g pos whole) below in
     let less = div-le_self (num c) g in
     record { some = omega (arith, some, is.3); long = omega (arith, long, is.2, is.3); small = omega (arith, less, s, is.2) }
+
+-- the rule of a PLP is sound
+pub rule_sound : SlotLength → FrameTicks → UserPacketRange → (c : Config) (plp : ℕ) (r : SlotRule) → AllRules c → plp < length c.plps → IsRule c plp r → IsSound r
+rule_sound slot frame up c plp r rules l is =
+    let n = lengths slot c plp r.num r.den rules l is.slot in
+    let ticks = frame c rules in
+    let bytes = up c plp in
+    let t = is.ticks in
+    let u = is.up_len in
+    record {
+      den = n.some;
+      slot = n.long;
+      num = n.small;
+      frame = (omega (arith, t, ticks), omega (arith, t, ticks));
+      up = (omega (arith, u, bytes), omega (arith, u, bytes));
+    }
 
 pub same_window : SlotLength → (c : Config) (plp n d : ℕ) → AllRules c → plp < length c.plps → IsSlotLength c plp n d
     → window_slots n d (delay_ticks n d c.ticks) c.ticks ≡ window c plp

@@ -4,3 +4,4 @@ pub mod Sizes
 pub mod Seeing
 pub mod Taking
 pub mod StandsFor
+pub mod Laws

@@ -2,6 +2,7 @@
 #![tactic(auto)]
 
 mod blocks;
+mod laws;
 mod readable;
 mod receiver;
 mod rule;
@@ -10,4 +11,5 @@ mod taking;
 #[cfg(test)]
 mod tests;
 
+pub use laws::readback_law;
 pub use receiver::Receiver;

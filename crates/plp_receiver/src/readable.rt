@@ -129,6 +129,7 @@ pub fn is_readable(
     requires rows { length dynamic.old.plps ≡ length network.now.plps }
     requires plps { length shape.old.counts ≡ length network.now.plps }
     ensures value { readable network.now number pre.now post.now blocks.now cells.now ≡ (if result then Some shape.new else None) }
+    ensures agrees { result ≡ true → shape_agrees network.now blocks.now cells.now shape.new ≡ true }
     ensures rows { length dynamic.new.plps ≡ length dynamic.old.plps }
     ensures plps { length shape.new.counts ≡ length shape.old.counts }
 {

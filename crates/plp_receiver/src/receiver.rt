@@ -7,6 +7,7 @@ ghost use Rattle.packet_slots.specs.StandsFor.{is_within, rule_of};
 ghost use Rattle.packet_slots.specs.Times.{delay_of};
 
 use crate::blocks::{skip_blocks, take_blocks};
+use crate::laws::readback_law;
 use crate::readable::is_readable;
 use crate::rule::{deletes, rule_of};
 use crate::standing::{first_ordinal, tell_standing};
@@ -14,7 +15,7 @@ use bit_slice::{BitSlice, OutOfMemory};
 use frame_tests::{Network, map_test_law};
 use l1_signal::L1Dyn;
 use packet_slots::PacketSlots;
-use plp_config::{MOST_BLOCK_BYTES, Plan};
+use plp_config::{MOST_BLOCK_BYTES, Plan, block_law};
 use scheduler::Shape;
 use site_frame::{Blocks, Cells, RecordView};
 use std::alloc::Global;
@@ -154,6 +155,7 @@ impl<'p> Receiver<'p> {
         ensures plp { plp_of self.new ≡ plp_of self.old }
     {
         map_test_law();
+        block_law();
         let plan = self.network.plan();
         plan.obeys_rules();
         let count = usize::from(self.shape.count(self.plp));
@@ -178,6 +180,7 @@ impl<'p> Receiver<'p> {
         ensures answer { (first : ℕ) (views : List RecordView) (released : ℕ) (packets : List (List ℕ)) → StandsFor self.now first views released
             → Readback (network_of self.now) (plp_of self.now) first views packets → result ≡ length packets - released }
     {
+        readback_law();
         self.slots.due()
     }
 
@@ -201,6 +204,7 @@ impl<'p> Receiver<'p> {
         ensures network { network_of self.new ≡ network_of self.old }
         ensures plp { plp_of self.new ≡ plp_of self.old }
     {
+        readback_law();
         self.slots.release(out)
     }
 }

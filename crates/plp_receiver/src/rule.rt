@@ -7,7 +7,7 @@ ghost use Rattle.packet_slots.specs.Times.{delay_of};
 ghost use Rattle.plp_receiver.specs.Taken.{IsRule};
 
 use packet_slots::SlotRule;
-use plp_config::{Plan, length_law};
+use plp_config::{Plan, block_law, length_law};
 
 /// Whether the null packets of a PLP are deleted.
 pub fn deletes(plan: &Plan, plp: usize) -> bool
@@ -25,6 +25,7 @@ pub fn rule_of(plan: &Plan, plp: usize) -> SlotRule
     ensures window { window_slots result.num result.den (delay_of result) result.ticks ≡ window plan.now plp }
 {
     length_law();
+    block_law();
     plan.obeys_rules();
     let (num, den) = plan.slot_length(plp);
     SlotRule {
