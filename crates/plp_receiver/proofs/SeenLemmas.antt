@@ -100,16 +100,16 @@ module _ (has : MapHasEachCell) (only : MapHasOnlyCells) (c : Config) (shape : F
   right_here e at None g = refl
   right_here e at (Some x) g = bool_cases (x.ordinal == own)
       (λ same.
-          let s = only c shape at x g in
-          let is : x.ordinal ≡ own = eqb-true x.ordinal own same in
-          let one = ordinals_apart shape.counts s.plp s.block plp block s.there.sent sent (sym s.ordinal ∙ is) in
-          let within : x.cell < block_cells c plp = subst (λ (p : ℕ). x.cell < block_cells c p) one.0 s.there.within in
-          let standing : is_cell own x.cell (slice_get cells (address_of c shape plp block x.cell)) ≡ true = each_true (stands c shape cells plp block) (block_cells c plp) e x.cell within in
-          let place : address_of c shape plp block x.cell ≡ at =
-          ap (λ (b : ℕ). address_of c shape plp b x.cell) (sym one.1) ∙ ap (λ (p : ℕ). address_of c shape p s.block x.cell) (sym one.0) ∙ s.value in
-          let found : is_cell x.ordinal x.cell (slice_get cells at) ≡ true =
-          ap (λ (o : ℕ). is_cell o x.cell (slice_get cells at)) is ∙ ap (λ (a : ℕ). is_cell own x.cell (slice_get cells a)) (sym place) ∙ standing in
-          or_second (not (x.ordinal == own)) (is_cell x.ordinal x.cell (slice_get cells at)) found)
+      let s = only c shape at x g in
+      let is : x.ordinal ≡ own = eqb-true x.ordinal own same in
+      let one = ordinals_apart shape.counts s.plp s.block plp block s.there.sent sent (sym s.ordinal ∙ is) in
+      let within : x.cell < block_cells c plp = subst (λ (p : ℕ). x.cell < block_cells c p) one.0 s.there.within in
+      let standing : is_cell own x.cell (slice_get cells (address_of c shape plp block x.cell)) ≡ true = each_true (stands c shape cells plp block) (block_cells c plp) e x.cell within in
+      let place : address_of c shape plp block x.cell ≡ at =
+      ap (λ (b : ℕ). address_of c shape plp b x.cell) (sym one.1) ∙ ap (λ (p : ℕ). address_of c shape p s.block x.cell) (sym one.0) ∙ s.value in
+      let found : is_cell x.ordinal x.cell (slice_get cells at) ≡ true =
+      ap (λ (o : ℕ). is_cell o x.cell (slice_get cells at)) is ∙ ap (λ (a : ℕ). is_cell own x.cell (slice_get cells a)) (sym place) ∙ standing in
+      or_second (not (x.ordinal == own)) (is_cell x.ordinal x.cell (slice_get cells at)) found)
       (λ other. ap (λ (t : Bool). not t || is_cell x.ordinal x.cell (slice_get cells at)) other)
     where
       or_second : (a b : Bool) → b ≡ true → (a || b) ≡ true

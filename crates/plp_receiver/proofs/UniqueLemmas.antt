@@ -70,9 +70,9 @@ shape_once bounded c plp blocks cells None a b s t = s ∙ sym t
 shape_once bounded c plp blocks cells (Some shape) a b s t =
     s.2
     ∙ ap framed_record (zip_once
-        (λ block b. IsGiven (plp_at c.plps plp).delete (all_stand c shape cells plp block) (bytes_at blocks (ordinal_of shape plp block)) b)
-        (λ block x y p q. given_once bounded (plp_at c.plps plp).delete (all_stand c shape cells plp block) (bytes_at blocks (ordinal_of shape plp block)) x y p q)
-        (range_with_len 0 (slice_index shape.counts plp)) s.0 t.0 s.1 t.1)
+    (λ block b. IsGiven (plp_at c.plps plp).delete (all_stand c shape cells plp block) (bytes_at blocks (ordinal_of shape plp block)) b)
+    (λ block x y p q. given_once bounded (plp_at c.plps plp).delete (all_stand c shape cells plp block) (bytes_at blocks (ordinal_of shape plp block)) x y p q)
+    (range_with_len 0 (slice_index shape.counts plp)) s.0 t.0 s.1 t.1)
     ∙ sym t.2
 
 tells_once : Bounded → (c : Config) (plp n : ℕ) (view : RecordView) (a b : Record) → Tells c plp n view a → Tells c plp n view b → a ≡ b

@@ -6,16 +6,15 @@ ghost use Rattle.plp_config.specs.declared.plp.TheConstants.{MOST_BLOCK_BYTES};
 ghost use Rattle.packet_slots.specs.StandsFor.{is_within, rule_of};
 ghost use Rattle.packet_slots.specs.Times.{delay_of};
 
-use crate::blocks::{skip_blocks, take_blocks};
+use crate::blocks::take_frame;
 use crate::laws::readback_law;
 use crate::readable::is_readable;
-use crate::rule::{deletes, rule_of};
-use crate::standing::{first_ordinal, tell_standing};
+use crate::rule::rule_of;
 use bit_slice::{BitSlice, OutOfMemory};
 use frame_tests::{Network, map_test_law};
 use l1_signal::L1Dyn;
 use packet_slots::PacketSlots;
-use plp_config::{MOST_BLOCK_BYTES, Plan, block_law};
+use plp_config::{MOST_BLOCK_BYTES, Plan};
 use scheduler::Shape;
 use site_frame::{Blocks, Cells, RecordView};
 use std::alloc::Global;
@@ -155,23 +154,16 @@ impl<'p> Receiver<'p> {
         ensures plp { plp_of self.new ≡ plp_of self.old }
     {
         map_test_law();
-        block_law();
-        let plan = self.network.plan();
-        plan.obeys_rules();
-        let count = usize::from(self.shape.count(self.plp));
-        let stands = &mut self.stands[..count];
-        tell_standing(plan, &self.shape, self.plp, cells, stands);
-        let mut rest = blocks.iter();
-        skip_blocks(&mut rest, first_ordinal(&self.shape, self.plp));
-        self.slots.begin_frame();
-        take_blocks(
+        take_frame(
+            self.network.plan(),
+            &self.shape,
+            self.plp,
+            blocks,
+            cells,
             &mut self.slots,
-            &mut rest,
-            stands,
-            deletes(plan, self.plp),
+            &mut self.stands,
             &mut self.block,
         );
-        self.slots.end_frame();
     }
 
     /// How many slots are due and not given out.
