@@ -1,0 +1,10 @@
+mod TakingLemmas
+mod BitsLemmas
+mod ListLemmas
+mod CountLemmas
+mod SizeLemmas
+mod SeenLemmas
+mod RuleLemmas
+mod TakeLemmas
+mod UniqueLemmas
+mod StandsLemmas

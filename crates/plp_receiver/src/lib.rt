@@ -1,2 +1,15 @@
-//! The packets of a PLP, from the records of its frames (EN 302 755). It has no code yet.
+//! The packets of a PLP, from the records of its frames (EN 302 755).
 #![tactic(auto)]
+
+mod blocks;
+mod laws;
+mod readable;
+mod receiver;
+mod rule;
+mod standing;
+mod taking;
+#[cfg(test)]
+mod tests;
+
+pub use laws::readback_law;
+pub use receiver::Receiver;

@@ -1,0 +1,57 @@
+-- The CRC_32 behind L1-post, bit by bit.
+use Rattle.std.proofs.Common.{◌≡◌, ℕ, ◌+◌, ◌-◌, ◌≤◌, Bool, true, false, List, [], ◌∷◌, ◌++◌, length, take, drop, refl, ap, sym, subst, ◌∙◌, arith}
+use Rattle.std.specs.Prelude.{Result, Ok, Err, OnOk, IfErr, is_ok}
+use Rattle.std.specs.Bool.{beq}
+use Rattle.std.specs.Cmp.Lexicographic.{pointwise}
+use Rattle.std.proofs.lemmas.Bool.{true≢false}
+use Rattle.std.proofs.lemmas.List.{take-append-drop, take_all, length-drop}
+use Rattle.terms.specs.Bits.{field, number_of}
+use Rattle.terms.proofs.BitLemmas.{field-number_at}
+use Rattle.terms.proofs.CaseLemmas.{bool_cases}
+use Rattle.l1_signal.specs.CrcField.{post_front, EndsInCrc, RefusesPost}
+use Rattle.l1_signal.specs.Laws.{crc_behind, EndsInItsCrc}
+use Rattle.l1_signal.specs.declared.fault.L1Fault.{L1Fault}
+use Rattle.l1_signal.specs.declared.fault.L1Fault.TheVariants.{Short, Crc, Unsupported, Size, OutOfMemory}
+
+pub bits_same : (xs ys : List Bool) → pointwise beq xs ys ≡ true → xs ≡ ys
+bits_same [] [] e = refl
+bits_same [] (y ∷ ys) e = absurd (true≢false (sym e))
+bits_same (x ∷ xs) [] e = absurd (true≢false (sym e))
+bits_same (true ∷ xs) (true ∷ ys) e = ap (λ (l : List Bool). true ∷ l) (bits_same xs ys e)
+bits_same (true ∷ xs) (false ∷ ys) e = absurd (true≢false (sym e))
+bits_same (false ∷ xs) (true ∷ ys) e = absurd (true≢false (sym e))
+bits_same (false ∷ xs) (false ∷ ys) e = ap (λ (l : List Bool). false ∷ l) (bits_same xs ys e)
+
+pub bits_equal : (xs ys : List Bool) → xs ≡ ys → pointwise beq xs ys ≡ true
+bits_equal xs ys e = subst (λ (zs : List Bool). pointwise beq xs zs ≡ true) e (go xs)
+  where
+    go : (xs : List Bool) → pointwise beq xs xs ≡ true
+    go [] = refl
+    go (true ∷ xs) = go xs
+    go (false ∷ xs) = go xs
+
+abbrev pub crc_whole : List Bool → List Bool
+crc_whole post = crc_behind true (post_front post)
+
+-- L1-post that ends with its CRC_32 is what stands before it, and this
+ends_whole : (post : List Bool) → EndsInCrc post → post ≡ crc_whole post
+ends_whole post e =
+    let at : ℕ = length post - 32 in
+    let l = e.0 in
+    let back : List Bool = drop at post in
+    let size : length back ≤ 32 = omega (arith, length-drop at post, l) in
+    let inside : at + 32 ≤ length post = omega (arith, l) in
+    sym (take-append-drop at post)
+    ∙ ap (λ (b : List Bool). take at post ++ b) (sym (take_all 32 back size) ∙ sym (field-number_at post at 32 inside) ∙ ap (field 32) e.1)
+
+pub crc_told : EndsInItsCrc → (post : List Bool) (r : Result (Unit {0}) L1Fault) → OnOk r (EndsInCrc post) → IfErr r (RefusesPost post)
+    → is_ok r ≡ pointwise beq post (crc_whole post)
+crc_told own post (Ok u) ok err = sym (bits_equal post (crc_whole post) (ends_whole post ok))
+crc_told own post (Err fault) ok err = bool_cases (pointwise beq post (crc_whole post)) (λ e. absurd (no fault err (subst EndsInCrc (sym (bits_same post (crc_whole post) e)) (own (post_front post))))) sym
+  where
+    no : (fault : L1Fault) → RefusesPost post fault → ¬ (EndsInCrc post)
+    no (Short left) r e = let a = r.0 in let b = e.0 in omega (arith, a, b)
+    no (Crc read counted) r e = r.3 (r.1 ∙ e.1 ∙ sym r.2)
+    no (Unsupported n) r e = r
+    no (Size told needed) r e = r
+    no OutOfMemory r e = r

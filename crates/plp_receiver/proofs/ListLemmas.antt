@@ -1,0 +1,44 @@
+-- Lists, from a place on.
+use Rattle.std.proofs.Common.{◌≡◌, ℕ, zero, suc, ◌+◌, ◌<◌, ◌≤◌, List, [], ◌∷◌, ◌++◌, length, drop, Option, Some, None, refl, ap, sym, ◌∙◌, arith}
+use Rattle.std.specs.Prelude.{slice_get, MatchOption}
+use Rattle.std.specs.List.{AllZip}
+use Rattle.std.proofs.lemmas.List.{length-drop}
+
+module _ {X : Type 0} where
+  drop_suc : (xs : List X) (k : ℕ) → drop (suc k) xs ≡ drop 1 (drop k xs)
+  drop_suc xs zero = refl
+  drop_suc [] (suc k) = refl
+  drop_suc (x ∷ xs) (suc k) = drop_suc xs k
+
+  drop_one : (xs : List X) (k : ℕ) → drop (k + 1) xs ≡ drop 1 (drop k xs)
+  drop_one xs k = let next : k + 1 ≡ suc k = omega arith in ap (λ (n : ℕ). drop n xs) next ∙ drop_suc xs k
+
+  pub slice_get_drop : (xs : List X) (k i j : ℕ) → j ≡ k + i → slice_get (drop k xs) i ≡ slice_get xs j
+  slice_get_drop xs zero i j e = let same : i ≡ j = omega (arith, e) in ap (slice_get xs) same
+  slice_get_drop [] (suc k) i j e = refl
+  slice_get_drop (x ∷ xs) (suc k) i zero e = absurd (omega (arith, e))
+  slice_get_drop (x ∷ xs) (suc k) i (suc j) e = slice_get_drop xs k i j (omega (arith, e))
+
+  -- what the next one is
+  pub next_is : (xs rest : List X) (k : ℕ) (x : X) → drop k xs ≡ x ∷ rest → slice_get xs k ≡ Some x
+  next_is [] rest zero x e = ap (λ (l : List X). slice_get l 0) e
+  next_is [] rest (suc k) x e = ap (λ (l : List X). slice_get l 0) e
+  next_is (y ∷ xs) rest zero x e = ap (λ (l : List X). slice_get l 0) e
+  next_is (y ∷ xs) rest (suc k) x e = next_is xs rest k x e
+
+  -- one was gone past, if one was there
+  pub gone_past : {A : Type 0} (view : A → X) (xs old new : List X) (k : ℕ) (r : Option A) → old ≡ drop k xs
+      → MatchOption r ((old ≡ []) × (new ≡ [])) (λ x. old ≡ view x ∷ new) → new ≡ drop (k + 1) xs
+  gone_past view xs old new k None e n = n.1 ∙ sym (drop_one xs k ∙ ap (drop 1) (sym e ∙ n.0))
+  gone_past view xs old new k (Some a) e n = sym (drop_one xs k ∙ ap (drop 1) (sym e ∙ n))
+
+  -- one more is left
+  pub some_left : {P : Type 0} (xs rest : List X) (k : ℕ) → k < length xs → rest ≡ drop k xs → rest ≡ [] → P
+  some_left xs rest k l d e = let none = ap length (sym d ∙ e) in absurd (omega (arith, l, none, length-drop k xs))
+
+-- lists in step, one item more
+pub zip_more : {A B : Type 0} (R : A → B → Type 0) (xs : List A) (ys : List B) (x : A) (y : B) → AllZip R xs ys → R x y → AllZip R (xs ++ x ∷ []) (ys ++ y ∷ [])
+zip_more R [] [] x y z r = (r, tt)
+zip_more R [] (b ∷ ys) x y z r = absurd z
+zip_more R (a ∷ xs) [] x y z r = absurd z
+zip_more R (a ∷ xs) (b ∷ ys) x y z r = (z.0, zip_more R xs ys x y z.1 r)

@@ -1,0 +1,11 @@
+use Rattle.plp_receiver.specs.StandsFor.{StandsFor, IsFresh}
+use Rattle.plp_receiver.proofs.StandsLemmas.{begun, is_empty}
+use Rattle.plp_receiver.proofs.receiver.Receiver.begin_at.Goals as goal
+
+pub begin_at-requires-clause-fresh : goal.begin_at-requires-clause-fresh
+unfolding IsFresh
+begin_at-requires-clause-fresh c = is_empty c.args.self.now.network c.args.self.now.plp c.args.self.now.slots c.requires.fresh
+
+pub returns-clause-stands : goal.returns-clause-stands
+unfolding StandsFor IsFresh
+returns-clause-stands c = begun c.args.self.now.network c.args.self.now.plp c.args.self.now.slots c.begin_at.new.self c.args.first c.requires.fresh c.begin_at.ensures.stands

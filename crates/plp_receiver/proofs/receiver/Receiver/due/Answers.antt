@@ -1,0 +1,8 @@
+use Rattle.plp_receiver.specs.StandsFor.{StandsFor}
+use Rattle.plp_receiver.proofs.StandsLemmas.{due_is}
+use Rattle.plp_receiver.proofs.receiver.Receiver.due.Goals as goal
+
+pub returns-clause-answer : goal.returns-clause-answer
+unfolding StandsFor
+returns-clause-answer c = λ first views released packets s b.
+    due_is c.readback_law.ensures.once c.args.self.now.network c.args.self.now.plp c.args.self.now.slots first views released packets c.due.result s b c.due.ensures.answer
