@@ -1,11 +1,12 @@
 -- Packets of which only those at the front are lost.
-use Rattle.std.proofs.Common.{◌≡◌, ◌≢◌, ℕ, zero, suc, ◌+◌, ◌*◌, ◌/◌, ◌%◌, ◌<◌, ◌≤◌, true, List, [], ◌∷◌, replicate, Option, Some, None, ◌∙◌, ⊎_elim, arith, div-lt_iff_lt-mul, add-mul}
+use Rattle.std.proofs.Common.{◌≡◌, ◌≢◌, ℕ, zero, suc, ◌+◌, ◌*◌, ◌/◌, ◌%◌, ◌<◌, ◌≤◌, true, List, [], ◌∷◌, replicate, Option, Some, None, refl, ◌∙◌, ⊎_elim, arith, div-lt_iff_lt-mul, add-mul}
 use Rattle.std.specs.List.{items_where_true}
+use Rattle.std.specs.Prelude.{slice_get}
 use Rattle.std.proofs.lemmas.Bool.{cases_lt}
 use Rattle.std.proofs.lemmas.Nat.{div-add-mod', mod_below}
-use Rattle.damage.specs.SentPackets.{Sent, frame_packets, FollowsSome, InFrameOrder, IsNearSome, AreNear}
+use Rattle.damage.specs.SentPackets.{Sent, IsTimestamp, frame_packets, FollowsSome, InFrameOrder, IsNearSome, AreNear}
 use Rattle.damage.specs.Survivors.{later_only}
-use Rattle.damage.specs.Laws.{LaterNear}
+use Rattle.damage.specs.Laws.{LaterNear, NearTold}
 use Rattle.damage.proofs.PacketLemmas.{packets_other}
 use Rattle.damage.proofs.GroupLemmas.{AreBelow, all_from, no_packets}
 
@@ -65,3 +66,17 @@ near_later frames before (s ∷ ss) (suc lost) left some n = near_later frames (
 pub later_near : LaterNear
 later_near frames count sent lost left some all =
     near_later frames None sent lost left some (are_next frames count None sent all.order all.below all.some)
+
+-- Packets that are near one another two by two are so behind the first.
+near_behind : (frames : ℕ) (s : Sent) (ss : List Sent)
+    → ((i : ℕ) (t next : Sent) → slice_get (s ∷ ss) i ≡ Some t → slice_get (s ∷ ss) (i + 1) ≡ Some next
+    → (next.frame < t.frame + 16 * frames) × (IsTimestamp next.packet.body → next.frame / frames < t.frame / frames + 16))
+    → AreNear frames (Some s.frame) ss
+near_behind frames s [] h = tt
+near_behind frames s (t ∷ ss) h =
+    let p = h 0 s t refl refl in
+    (record { frame = p.0; stamp = p.1 }, near_behind frames t ss (λ i u next at behind. h (suc i) u next at behind))
+
+pub near_told : NearTold
+near_told frames [] h = tt
+near_told frames (s ∷ ss) h = (tt, near_behind frames s ss h)

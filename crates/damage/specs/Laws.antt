@@ -1,12 +1,12 @@
 -- Laws of frames of which packets are lost.
-use Rattle.std.specs.Prelude.{◌≡◌, ◌≢◌, ◌%◌, ℕ, ◌<◌, true, false, Bool, List, [], length, slice_get, Some, None, is_some, count_by}
+use Rattle.std.specs.Prelude.{◌≡◌, ◌≢◌, ◌%◌, ℕ, ◌<◌, true, false, Bool, List, [], length, slice_get, Some, None, is_some, count_by, ◌+◌, ◌*◌, ◌/◌}
 use Rattle.std.specs.List.{items_where_true, Contains}
 use Rattle.t2mi_packet.specs.declared.packet.Packet.{Packet}
 use Rattle.frame_groups.specs.Groups.{Group, groups}
 use Rattle.frame_groups.specs.Modulated.{Rules, modulated}
 use Rattle.frame_groups.specs.Numbers.{frame_key}
 use Rattle.frame_groups.specs.declared.cause.MuteCause.TheVariants.{PacketMissing}
-use Rattle.damage.specs.SentPackets.{Sent, packets_of, frame_packets, frame_group, AreFrames, AreNear}
+use Rattle.damage.specs.SentPackets.{Sent, packets_of, frame_packets, frame_group, IsTimestamp, AreFrames, AreNear}
 use Rattle.damage.specs.Survivors.{is_whole, groups_met, survivor_records, later_only}
 
 -- Packets are sent frame by frame, of each it is told whether it survives, and survivors are near one another.
@@ -65,3 +65,11 @@ NotWholeMisses = (sent : List Sent) (survival : List Bool) (n : ℕ) → is_whol
 -- If only packets at the front are lost, survivors are near one another.
 abbrev pub LaterNear : Type 0
 LaterNear = (frames count : ℕ) (sent : List Sent) (lost left : ℕ) → 0 < frames → AreFrames frames count sent → AreNear frames None (items_where_true (later_only lost left) sent)
+
+-- Packets are near one another if each next one is of a frame less than 16 superframes on, and a timestamp besides of a superframe less
+-- than 16 on.
+abbrev pub NearTold : Type 0
+NearTold = (frames : ℕ) (sent : List Sent)
+    → ((i : ℕ) (s next : Sent) → slice_get sent i ≡ Some s → slice_get sent (i + 1) ≡ Some next
+    → (next.frame < s.frame + 16 * frames) × (IsTimestamp next.packet.body → next.frame / frames < s.frame / frames + 16))
+    → AreNear frames None sent

@@ -1,7 +1,7 @@
 // Laws of streams. Their functions do nothing.
 ghost use Rattle.damage.specs.StreamLaws.{ReadAreSurvivors, HonestGroups, HonestRecords, KeptHonest, KeptWhole};
 
-use crate::laws::{group_law, late_law, record_law, whole_law};
+use crate::laws::{group_law, near_law, record_law, whole_law};
 use t2mi_stream::{survives, survivor_law, undamaged_law};
 
 /// What is written of an honest stream is what must come of it.
@@ -23,6 +23,6 @@ pub fn kept_law()
     survives();
     survivor_law();
     undamaged_law();
-    late_law();
+    near_law();
     whole_law();
 }

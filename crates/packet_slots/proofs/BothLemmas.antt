@@ -8,9 +8,9 @@ use Rattle.packet_slots.specs.declared.rule.SlotRule.{SlotRule}
 use Rattle.packet_slots.specs.declared.assembler.Found.{Found}
 use Rattle.packet_slots.specs.Sound.{IsSound}
 use Rattle.packet_slots.specs.Strings.{Item, values}
-use Rattle.packet_slots.specs.Base.{packet_of}
+use Rattle.packet_slots.specs.Packets.{packet_of}
 use Rattle.packet_slots.specs.Packets.{UserPacket, user_packets}
-use Rattle.packet_slots.specs.Stands.{Gains, IsFound}
+use Rattle.packet_slots.specs.Assembles.{Gains, IsFound}
 use Rattle.packet_slots.specs.Readback.{counts_by, counts}
 use Rattle.packet_slots.specs.Times.{over_after, delay_of}
 use Rattle.ts_packet.specs.declared.sizes.TheConstants.{SIZE, SYNC}

@@ -14,7 +14,7 @@ use Rattle.packet_slots.specs.Packets.{UserPacket, is_one, all_inside, last_item
 use Rattle.packet_slots.specs.Machine.{State, Turn, state_of, turn_of, before_next, ended, given, Follows}
 use Rattle.packet_slots.specs.Pieces.{item, piece_items, piece_grown, piece_inside, piece_turn}
 use Rattle.packet_slots.specs.Base.{far, capped, slot_with, IsBase, Holds, next_len, is_idle}
-use Rattle.packet_slots.specs.Stands.{IsFrame, next_base, Stands, kept_dnp, found_of, Gives, Gains}
+use Rattle.packet_slots.specs.Assembles.{IsFrame, next_base, AssemblerStands, kept_dnp, found_of, Gives, Gains}
 use Rattle.packet_slots.proofs.OneLemmas.{one_parts, one_from}
 use Rattle.packet_slots.proofs.TurnLemmas.{reads}
 use Rattle.std.proofs.lemmas.List.{map-append}
@@ -172,7 +172,7 @@ module _ (r : SlotRule) (sound : IsSound r) (z : List Item) (frame v : ℕ) (vs 
   idles Next s len held kept h e = absurd (both_ways _ refl e)
   idles (Timed iscr) s len held kept h e = absurd (both_ways _ refl e)
 
-module _ (r : SlotRule) (sound : IsSound r) (z : List Item) (frame v : ℕ) (vs : List ℕ) (mark : Mark) (len : ℕ) (held : List ℕ) (kept : Base) (st : Stands r len held kept z) (is : IsFrame frame mark) where
+module _ (r : SlotRule) (sound : IsSound r) (z : List Item) (frame v : ℕ) (vs : List ℕ) (mark : Mark) (len : ℕ) (held : List ℕ) (kept : Base) (st : AssemblerStands r len held kept z) (is : IsFrame frame mark) where
   abbrev piece : List Item
   piece = piece_items mark frame (v ∷ vs)
 
@@ -200,7 +200,7 @@ module _ (r : SlotRule) (sound : IsSound r) (z : List Item) (frame v : ℕ) (vs 
 
   emptied : (before : Option ℕ) (given : List UserPacket) (new_len : ℕ) (new_held : List ℕ) (new_kept : Base)
       → piece_turn r st.state mark piece ≡ turn_of (state_of [] before) given → new_len ≡ 0 → new_kept.slot ≡ capped before
-      → Stands r new_len new_held new_kept (z ++ piece)
+      → AssemblerStands r new_len new_held new_kept (z ++ piece)
   emptied before given new_len new_held new_kept e l b = record {
     state = state_of [] before;
     follows = (turned _ e).follows;
@@ -211,7 +211,7 @@ module _ (r : SlotRule) (sound : IsSound r) (z : List Item) (frame v : ℕ) (vs 
   nothing s e new_held = record { given = []; packets = (turned _ e).packets; gives = refl }
 
   -- a piece that goes on with nothing
-  pub idle_stands : is_idle len mark ≡ true → (new_len : ℕ) (new_held : List ℕ) (new_kept : Base) → new_len ≡ 0 → new_kept.slot ≡ None → Stands r new_len new_held new_kept (z ++ piece)
+  pub idle_stands : is_idle len mark ≡ true → (new_len : ℕ) (new_held : List ℕ) (new_kept : Base) → new_len ≡ 0 → new_kept.slot ≡ None → AssemblerStands r new_len new_held new_kept (z ++ piece)
   idle_stands i new_len new_held new_kept l b = emptied None [] new_len new_held new_kept (idles r sound z frame v vs mark st.state len held kept st.holds i) l b
 
   pub idle_gains : is_idle len mark ≡ true → (new_held : List ℕ) → Gains r z frame piece new_held None
@@ -228,7 +228,7 @@ module _ (r : SlotRule) (sound : IsSound r) (z : List Item) (frame v : ℕ) (vs 
         ∙ lt_cond r frame r.up_len (length j.w) _ _ (omega (arith, j.joined.size))
 
     -- too many bytes
-    pub over_stands : r.up_len < total → (new_len : ℕ) (new_held : List ℕ) (new_kept : Base) → new_len ≡ 0 → new_kept.slot ≡ None → Stands r new_len new_held new_kept (z ++ piece)
+    pub over_stands : r.up_len < total → (new_len : ℕ) (new_held : List ℕ) (new_kept : Base) → new_len ≡ 0 → new_kept.slot ≡ None → AssemblerStands r new_len new_held new_kept (z ++ piece)
     over_stands l new_len new_held new_kept e b = emptied None [] new_len new_held new_kept (passed l) e b
 
     pub over_gains : r.up_len < total → (new_held : List ℕ) → Gains r z frame piece new_held None
@@ -238,7 +238,7 @@ module _ (r : SlotRule) (sound : IsSound r) (z : List Item) (frame v : ℕ) (vs 
     waits l = j.joined.turn ∙ lt_cond r frame (length j.w) r.up_len _ _ (omega (arith, j.joined.size))
 
     -- too few bytes
-    pub short_stands : total < r.up_len → (new_held : List ℕ) → take total new_held ≡ take (next_len len mark) held ++ v ∷ vs → Stands r total new_held next (z ++ piece)
+    pub short_stands : total < r.up_len → (new_held : List ℕ) → take total new_held ≡ take (next_len len mark) held ++ v ∷ vs → AssemblerStands r total new_held next (z ++ piece)
     short_stands l new_held e = record {
       state = state_of j.w j.before;
       follows = (turned _ (waits l)).follows;
@@ -288,7 +288,7 @@ module _ (r : SlotRule) (sound : IsSound r) (z : List Item) (frame v : ℕ) (vs 
       pub end_slot : slot_with next (kept_dnp r new_held) ≡ capped slot_now
       end_slot = ap (slot_with next) dnp_is ∙ parts.1 (dnp_of r j.w) ∙ sym (ap capped slot_is)
 
-      pub end_stands : (new_len : ℕ) (any_held : List ℕ) (new_kept : Base) → new_len ≡ 0 → new_kept.slot ≡ slot_with next (kept_dnp r new_held) → Stands r new_len any_held new_kept (z ++ piece)
+      pub end_stands : (new_len : ℕ) (any_held : List ℕ) (new_kept : Base) → new_len ≡ 0 → new_kept.slot ≡ slot_with next (kept_dnp r new_held) → AssemblerStands r new_len any_held new_kept (z ++ piece)
       end_stands new_len any_held new_kept n b = emptied slot_now (with_slot j.w slot_now) new_len any_held new_kept (ends l) n (b ∙ end_slot)
 
       gives : (o : Option ℕ) → Gives r frame new_held (found_of next (capped o)) (with_slot j.w o)

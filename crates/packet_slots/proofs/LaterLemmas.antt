@@ -1,6 +1,5 @@
 -- A complete user packet, by the blocks of a run.
-use Rattle.std.proofs.Common.{◌≡◌, ℕ, zero, suc, ◌+◌, ◌-◌, ◌*◌, ◌/◌, ◌%◌, ◌^◌, ◌<◌, ◌≤◌, ◌==◌, ◌&&◌, ◌||◌, Bool, true, false, List, [], ◌∷◌, length, take, drop, get_or, Option, Some, None, refl, ap, ap₂, ◌∙◌, sym, subst, arith, inl, inr, length-append, length-take, length-drop}
-use Rattle.std.specs.Prelude.{if◌then◌else◌}
+use Rattle.std.proofs.Common.{◌≡◌, ℕ, zero, suc, ◌+◌, ◌-◌, ◌*◌, ◌/◌, ◌%◌, ◌<◌, ◌≤◌, ◌==◌, ◌&&◌, ◌||◌, Bool, true, false, List, [], ◌∷◌, length, take, drop, get_or, Option, Some, None, refl, ap, ap₂, ◌∙◌, sym, subst, arith, inl, inr, length-append, length-take, length-drop}
 use Rattle.std.proofs.lemmas.Bool.{cases_lt, cases_eq, both_ways, and_parts, false_from_ne_true, eqb-true}
 use Rattle.std.proofs.lemmas.List.{get_or-take, get_or-drop, drop_more, get_or_append_left, get_or-append_right}
 use Rattle.std.proofs.lemmas.Nat.{mod-mul-add, div-add-mod'}
@@ -8,7 +7,7 @@ use Rattle.packet_slots.specs.declared.rule.SlotRule.{SlotRule}
 use Rattle.packet_slots.specs.declared.mark.Mark.{Mark}
 use Rattle.packet_slots.specs.declared.mark.Mark.TheVariants.{Gap, Inside, Next, Timed}
 use Rattle.packet_slots.specs.Sound.{IsSound}
-use Rattle.packet_slots.specs.Strings.{Item, Block, is_start, is_inside, first_mark, mark_at, item_at, items_from, block_items}
+use Rattle.packet_slots.specs.Strings.{Item, Block, is_start, is_inside, mark_at, item_at, items_from, block_items}
 use Rattle.packet_slots.specs.Packets.{all_inside, is_one, is_complete, last_item, no_item, window}
 use Rattle.packet_slots.proofs.OneLemmas.{one_parts, one_from}
 use Rattle.packet_slots.proofs.BlockLemmas.{Ends, ends_field, ends_start, none_marks, mark_before, mark_first, mark_next, mark_inner}

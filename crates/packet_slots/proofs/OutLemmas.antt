@@ -12,14 +12,14 @@ use Rattle.packet_slots.specs.Machine.{state_of, turn}
 use Rattle.packet_slots.proofs.TurnLemmas.{reads, begins_idle}
 use Rattle.packet_slots.specs.Pieces.{piece_items}
 use Rattle.packet_slots.specs.Base.{slot_with, next_len, is_idle}
-use Rattle.packet_slots.specs.Stands.{IsFrame, next_base, Stands, kept_dnp, found_of, Gains}
+use Rattle.packet_slots.specs.Assembles.{IsFrame, next_base, AssemblerStands, kept_dnp, found_of, Gains}
 use Rattle.packet_slots.proofs.HoldsLemmas as H
 
 -- the assembler before the call, which stands for a string by the rule r
 pub record Before (rule r : SlotRule) (len : ℕ) (held : List ℕ) (kept : Base) (z : List Item) (mark : Mark) (frame : ℕ) (bytes : List ℕ) : Type 0 where
   pub same : rule ≡ r
   pub sound : IsSound rule
-  pub stands : Stands r len held kept z
+  pub stands : AssemblerStands r len held kept z
   pub at : IsFrame frame mark
   pub some : 1 ≤ length bytes
 
@@ -36,7 +36,7 @@ module _ (rule r : SlotRule) (len : ℕ) (held : List ℕ) (kept : Base) (z : Li
   len_is : rule ≡ r → rule.up_len ≡ r.up_len
   len_is e = ap (λ (q : SlotRule). q.up_len) e
 
-  pub idle_out : (bytes : List ℕ) → Before rule r len held kept z mark frame bytes → is_idle len mark ≡ true → (l : ℕ) (h : List ℕ) (k : Base) → l ≡ 0 → k.slot ≡ None → Stands r l h k (z ++ piece_items mark frame bytes)
+  pub idle_out : (bytes : List ℕ) → Before rule r len held kept z mark frame bytes → is_idle len mark ≡ true → (l : ℕ) (h : List ℕ) (k : Base) → l ≡ 0 → k.slot ≡ None → AssemblerStands r l h k (z ++ piece_items mark frame bytes)
   idle_out [] b i l h k e f = let s = b.some in absurd (omega (arith, s))
   idle_out (v ∷ vs) b i l h k e f = H.idle_stands r (sound_r (v ∷ vs) b) z frame v vs mark len held kept b.stands b.at i l h k e f
 
@@ -44,7 +44,7 @@ module _ (rule r : SlotRule) (len : ℕ) (held : List ℕ) (kept : Base) (z : Li
   idle_gains_out [] b i h = let s = b.some in absurd (omega (arith, s))
   idle_gains_out (v ∷ vs) b i h = H.idle_gains r (sound_r (v ∷ vs) b) z frame v vs mark len held kept b.stands b.at i h
 
-  pub over_out : (bytes : List ℕ) → Before rule r len held kept z mark frame bytes → (base : Base) → base ≡ next_base rule len kept mark frame → IfSome base.slot (λ k. k ≤ 2 ^ 53) → is_idle len mark ≡ false → rule.up_len < next_len len mark + length bytes → (l : ℕ) (h : List ℕ) (k : Base) → l ≡ 0 → k.slot ≡ None → Stands r l h k (z ++ piece_items mark frame bytes)
+  pub over_out : (bytes : List ℕ) → Before rule r len held kept z mark frame bytes → (base : Base) → base ≡ next_base rule len kept mark frame → IfSome base.slot (λ k. k ≤ 2 ^ 53) → is_idle len mark ≡ false → rule.up_len < next_len len mark + length bytes → (l : ℕ) (h : List ℕ) (k : Base) → l ≡ 0 → k.slot ≡ None → AssemblerStands r l h k (z ++ piece_items mark frame bytes)
   over_out [] b base n g i m l h k e f = let s = b.some in absurd (omega (arith, s))
   over_out (v ∷ vs) b base n g i m l h k e f = H.over_stands r (sound_r (v ∷ vs) b) z frame v vs mark len held kept b.stands b.at (near_is base (next_is base b.same n) g) i (let q = len_is b.same in omega (arith, q, m)) l h k e f
 
@@ -52,9 +52,9 @@ module _ (rule r : SlotRule) (len : ℕ) (held : List ℕ) (kept : Base) (z : Li
   over_gains_out [] b base n g i m h = let s = b.some in absurd (omega (arith, s))
   over_gains_out (v ∷ vs) b base n g i m h = H.over_gains r (sound_r (v ∷ vs) b) z frame v vs mark len held kept b.stands b.at (near_is base (next_is base b.same n) g) i (let q = len_is b.same in omega (arith, q, m)) h
 
-  pub short_out : (bytes : List ℕ) → Before rule r len held kept z mark frame bytes → (base : Base) → base ≡ next_base rule len kept mark frame → IfSome base.slot (λ k. k ≤ 2 ^ 53) → is_idle len mark ≡ false → next_len len mark + length bytes < rule.up_len → (h : List ℕ) → take (next_len len mark + length bytes) h ≡ take (next_len len mark) held ++ bytes → Stands r (next_len len mark + length bytes) h base (z ++ piece_items mark frame bytes)
+  pub short_out : (bytes : List ℕ) → Before rule r len held kept z mark frame bytes → (base : Base) → base ≡ next_base rule len kept mark frame → IfSome base.slot (λ k. k ≤ 2 ^ 53) → is_idle len mark ≡ false → next_len len mark + length bytes < rule.up_len → (h : List ℕ) → take (next_len len mark + length bytes) h ≡ take (next_len len mark) held ++ bytes → AssemblerStands r (next_len len mark + length bytes) h base (z ++ piece_items mark frame bytes)
   short_out [] b base n g i m h e = let s = b.some in absurd (omega (arith, s))
-  short_out (v ∷ vs) b base n g i m h e = subst (λ (k : Base). Stands r (next_len len mark + length (v ∷ vs)) h k (z ++ piece_items mark frame (v ∷ vs))) (sym (next_is base b.same n)) (H.short_stands r (sound_r (v ∷ vs) b) z frame v vs mark len held kept b.stands b.at (near_is base (next_is base b.same n) g) i (let q = len_is b.same in omega (arith, q, m)) h e)
+  short_out (v ∷ vs) b base n g i m h e = subst (λ (k : Base). AssemblerStands r (next_len len mark + length (v ∷ vs)) h k (z ++ piece_items mark frame (v ∷ vs))) (sym (next_is base b.same n)) (H.short_stands r (sound_r (v ∷ vs) b) z frame v vs mark len held kept b.stands b.at (near_is base (next_is base b.same n) g) i (let q = len_is b.same in omega (arith, q, m)) h e)
 
   pub short_gains_out : (bytes : List ℕ) → Before rule r len held kept z mark frame bytes → (base : Base) → base ≡ next_base rule len kept mark frame → IfSome base.slot (λ k. k ≤ 2 ^ 53) → is_idle len mark ≡ false → next_len len mark + length bytes < rule.up_len → (h : List ℕ) → Gains r z frame (piece_items mark frame bytes) h None
   short_gains_out [] b base n g i m h = let s = b.some in absurd (omega (arith, s))
@@ -63,7 +63,7 @@ module _ (rule r : SlotRule) (len : ℕ) (held : List ℕ) (kept : Base) (z : Li
   slot_is : (base : Base) (h : List ℕ) → base ≡ next_base r len kept mark frame → rule ≡ r → slot_with base (kept_dnp rule h) ≡ slot_with (next_base r len kept mark frame) (kept_dnp r h)
   slot_is base h e f = ap (λ (q : SlotRule). slot_with base (kept_dnp q h)) f ∙ ap (λ (p : Base). slot_with p (kept_dnp r h)) e
 
-  pub end_out : (bytes : List ℕ) → Before rule r len held kept z mark frame bytes → (base : Base) → base ≡ next_base rule len kept mark frame → IfSome base.slot (λ k. k ≤ 2 ^ 53) → is_idle len mark ≡ false → next_len len mark + length bytes ≡ rule.up_len → (h : List ℕ) → take (next_len len mark + length bytes) h ≡ take (next_len len mark) held ++ bytes → (l : ℕ) (any : List ℕ) (k : Base) → l ≡ 0 → k.slot ≡ slot_with base (kept_dnp rule h) → Stands r l any k (z ++ piece_items mark frame bytes)
+  pub end_out : (bytes : List ℕ) → Before rule r len held kept z mark frame bytes → (base : Base) → base ≡ next_base rule len kept mark frame → IfSome base.slot (λ k. k ≤ 2 ^ 53) → is_idle len mark ≡ false → next_len len mark + length bytes ≡ rule.up_len → (h : List ℕ) → take (next_len len mark + length bytes) h ≡ take (next_len len mark) held ++ bytes → (l : ℕ) (any : List ℕ) (k : Base) → l ≡ 0 → k.slot ≡ slot_with base (kept_dnp rule h) → AssemblerStands r l any k (z ++ piece_items mark frame bytes)
   end_out [] b base n g i m h e l any k f s = let s = b.some in absurd (omega (arith, s))
   end_out (v ∷ vs) b base n g i m h e l any k f s = H.end_stands r (sound_r (v ∷ vs) b) z frame v vs mark len held kept b.stands b.at (near_is base (next_is base b.same n) g) i (m ∙ len_is b.same) h e l any k f (s ∙ (slot_is base h (next_is base b.same n) b.same))
 
@@ -74,7 +74,7 @@ module _ (rule r : SlotRule) (len : ℕ) (held : List ℕ) (kept : Base) (z : Li
 pub front_is : (from len : ℕ) (bytes h old : List ℕ) → from ≡ len → take (from + length bytes) h ≡ take from old ++ bytes → take (len + length bytes) h ≡ take len old ++ bytes
 front_is from len bytes h old e f = subst (λ (n : ℕ). take (n + length bytes) h ≡ take n old ++ bytes) e f
 
-pub new_stands : (r : SlotRule) (held : List ℕ) (kept : Base) → IsSound r → kept.slot ≡ None → Stands r 0 held kept []
+pub new_stands : (r : SlotRule) (held : List ℕ) (kept : Base) → IsSound r → kept.slot ≡ None → AssemblerStands r 0 held kept []
 new_stands r held kept sound e = record {
   state = state_of [] None;
   follows = let u = sound.up in begins_idle r (omega (arith, u));
@@ -82,8 +82,8 @@ new_stands r held kept sound e = record {
 }
 
 -- a gap
-pub gap_stands : (frame : ℕ) (rule r : SlotRule) (len : ℕ) (held : List ℕ) (kept : Base) (z : List Item) → rule ≡ r → IsSound rule → Stands r len held kept z
-    → (l : ℕ) (h : List ℕ) (k : Base) → l ≡ 0 → k.slot ≡ None → Stands r l h k (z ++ gap frame ∷ [])
+pub gap_stands : (frame : ℕ) (rule r : SlotRule) (len : ℕ) (held : List ℕ) (kept : Base) (z : List Item) → rule ≡ r → IsSound rule → AssemblerStands r len held kept z
+    → (l : ℕ) (h : List ℕ) (k : Base) → l ≡ 0 → k.slot ≡ None → AssemblerStands r l h k (z ++ gap frame ∷ [])
 unfolding turn
 gap_stands frame rule r len held kept z e sound st l h k f g =
     let u : IsSound r = subst IsSound e sound in
@@ -95,7 +95,7 @@ gap_stands frame rule r len held kept z e sound st l h k f g =
       holds = record { bytes = ap (λ (n : ℕ). take n h) f; count = f; base = g };
     }
 
-pub gap_none : (frame : ℕ) (rule r : SlotRule) (len : ℕ) (held : List ℕ) (kept : Base) (z : List Item) → rule ≡ r → IsSound rule → Stands r len held kept z
+pub gap_none : (frame : ℕ) (rule r : SlotRule) (len : ℕ) (held : List ℕ) (kept : Base) (z : List Item) → rule ≡ r → IsSound rule → AssemblerStands r len held kept z
     → user_packets r (z ++ gap frame ∷ []) ≡ user_packets r z
 unfolding turn
 gap_none frame rule r len held kept z e sound st =

@@ -13,7 +13,7 @@ use Rattle.plp_config.specs.Laws.{CountRises, ReleasedFirst}
 use Rattle.packet_slots.specs.declared.rule.SlotRule.{SlotRule}
 use Rattle.packet_slots.specs.Sound.{IsSound}
 use Rattle.packet_slots.specs.Strings.{Item, Block, gap, items_from, block_items, values}
-use Rattle.packet_slots.specs.Base.{packet_of}
+use Rattle.packet_slots.specs.Packets.{packet_of}
 use Rattle.packet_slots.specs.Packets.{UserPacket, user_packets, first_item, last_item}
 use Rattle.packet_slots.specs.Readback.{counts, counted, found_for, slot_packet}
 use Rattle.packet_slots.specs.Records.{Record, block_or_gap, record_items, string_of, first_slot, readback}

@@ -12,7 +12,7 @@ use Rattle.packet_slots.specs.declared.rule.SlotRule.{SlotRule}
 use Rattle.packet_slots.specs.declared.assembler.Assembler.{Assembler}
 use Rattle.packet_slots.specs.Sound.{IsSound}
 use Rattle.packet_slots.specs.Strings.{Item, Block}
-use Rattle.packet_slots.specs.Stands as assembling
+use Rattle.packet_slots.specs.Assembles.{AssemblerStandsFor}
 use Rattle.packet_slots.specs.declared.window.SlotWindow.{SlotWindow}
 use Rattle.packet_slots.specs.Holds.{Shows}
 use Rattle.packet_slots.specs.Window.{Status, status_of, begun, entered, left, given, front_packet}
@@ -31,7 +31,7 @@ shows_none r z first end slots e f = record {
   slots_are = f ∙ sym (ap (λ (n : ℕ). map (slot_option r z) (range_with_len first n)) (let z : end - first ≡ 0 = omega (arith, e) in z));
 }
 
-pub fresh_from : (a : Assembler) (w : SlotWindow) (r : SlotRule) → assembling.StandsFor a r [] → status_of w ≡ record { rule = r; slots = []; first = 0; end = 0; due_end = 0 } → Fresh a w r
+pub fresh_from : (a : Assembler) (w : SlotWindow) (r : SlotRule) → AssemblerStandsFor a r [] → status_of w ≡ record { rule = r; slots = []; first = 0; end = 0; due_end = 0 } → Fresh a w r
 fresh_from a w r h e =
     let items = ap (λ (s : Status). s.slots) e in
     let first = ap (λ (s : Status). s.first) e in

@@ -12,8 +12,8 @@ use Rattle.plp_config.specs.Laws.{CountRises}
 use Rattle.packet_slots.specs.declared.rule.SlotRule.{SlotRule}
 use Rattle.packet_slots.specs.Sound.{IsSound}
 use Rattle.packet_slots.specs.Strings.{Item, values}
-use Rattle.packet_slots.specs.Base.{packet_of, far}
-use Rattle.packet_slots.specs.Packets.{UserPacket, user_packets}
+use Rattle.packet_slots.specs.Base.{far}
+use Rattle.packet_slots.specs.Packets.{UserPacket, user_packets, packet_of}
 use Rattle.packet_slots.specs.Readback.{counts_by, counts, counted, found_for, slot_option}
 use Rattle.packet_slots.specs.Filling.{filled}
 use Rattle.packet_slots.specs.Holds.{Shows, UpTo}

@@ -1,6 +1,5 @@
 -- What an `Assembler` keeps of the machine's state. No public clause cites this module.
-use Rattle.std.specs.Prelude.{◌≡◌, ℕ, ◌+◌, ◌-◌, ◌^◌, ◌==◌, Bool, false, List, [], ◌∷◌, length, take, Option, if◌then◌else◌, option_map, min}
-use Rattle.ts_packet.specs.declared.sizes.TheConstants.{SIZE, SYNC}
+use Rattle.std.specs.Prelude.{◌≡◌, ℕ, ◌+◌, ◌^◌, ◌==◌, Bool, false, List, [], ◌∷◌, length, take, Option, if◌then◌else◌, option_map, min}
 use Rattle.packet_slots.specs.declared.mark.Mark.{Mark}
 use Rattle.packet_slots.specs.declared.mark.Mark.TheVariants.{Gap, Inside, Next, Timed}
 use Rattle.packet_slots.specs.declared.rule.SlotRule.{SlotRule}
@@ -40,7 +39,3 @@ is_idle len Gap = false
 is_idle len Inside = len == 0
 is_idle len Next = false
 is_idle len (Timed iscr) = false
-
--- the transport packet of a user packet
-abbrev pub packet_of : List ℕ → List ℕ
-packet_of bytes = SYNC ∷ take (SIZE - 1) bytes

@@ -5,12 +5,12 @@ use Rattle.packet_slots.specs.declared.assembler.Assembler.{Assembler}
 use Rattle.packet_slots.specs.declared.block.TakenBlock.{TakenBlock}
 use Rattle.packet_slots.specs.declared.window.SlotWindow.{SlotWindow}
 use Rattle.packet_slots.specs.Strings.{Item, Block, items_from}
-use Rattle.packet_slots.specs.Stands as assembling
+use Rattle.packet_slots.specs.Assembles.{AssemblerStandsFor}
 use Rattle.packet_slots.specs.Holds.{Shows}
 
 -- the joined data fields so far
 pub record Both (r : SlotRule) (z : List Item) (a : Assembler) (w : SlotWindow) : Type 0 where
-  pub assembles : assembling.StandsFor a r z
+  pub assembles : AssemblerStandsFor a r z
   pub rule : w.rule ≡ r
   pub shows : Shows r z w.first w.end w.slots.items
 

@@ -4,7 +4,7 @@ pub mod Packets
 pub mod Machine
 pub mod Pieces
 pub mod Base
-pub mod Stands
+pub mod Assembles
 pub mod Times
 pub mod Readback
 pub mod Records

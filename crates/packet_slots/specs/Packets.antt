@@ -1,6 +1,7 @@
 -- User packets of a string: which are complete, and which slot each has.
 use Rattle.std.specs.Prelude.{ℕ, zero, suc, ◌+◌, ◌-◌, ◌*◌, ◌%◌, ◌==◌, ◌&&◌, Bool, false, List, [], ◌∷◌, ◌++◌, length, take, drop, Option, Some, None, if◌then◌else◌, option_map}
 use Rattle.std.specs.List.{range_with_len, find, list_all}
+use Rattle.ts_packet.specs.declared.sizes.TheConstants.{SIZE, SYNC}
 use Rattle.plp_config.specs.SlotTime.{slot_start, slot_count}
 use Rattle.packet_slots.specs.declared.rule.TheConstants.{ISCR_MODULUS}
 use Rattle.packet_slots.specs.declared.mark.Mark.{Mark}
@@ -86,3 +87,7 @@ packets_at r z (suc x) = packets_at r z x ++ with_slot (window r z x) (slot_of r
 -- those of the string
 abbrev pub user_packets : SlotRule → List Item → List UserPacket
 user_packets r z = packets_at r z (length z + 1 - r.up_len)
+
+-- the transport packet of a user packet
+abbrev pub packet_of : List ℕ → List ℕ
+packet_of bytes = SYNC ∷ take (SIZE - 1) bytes

@@ -99,15 +99,15 @@ impl Assembler {
     ghost use Rattle.packet_slots.specs.declared.rule.SlotRule.{SlotRule};
     ghost use Rattle.packet_slots.specs.Strings.{Item, gap};
     ghost use Rattle.packet_slots.specs.Packets.{user_packets};
-    ghost use Rattle.packet_slots.specs.Base.{packet_of};
+    ghost use Rattle.packet_slots.specs.Packets.{packet_of};
     ghost use Rattle.packet_slots.specs.Pieces.{piece_items};
-    ghost use Rattle.packet_slots.specs.Stands.{next_base, kept_dnp, IsFrame, IsCleared, Ends, Gains, StandsFor};
+    ghost use Rattle.packet_slots.specs.Assembles.{next_base, kept_dnp, IsFrame, IsCleared, Ends, Gains, AssemblerStandsFor};
 
     /// An assembler of no data fields yet.
-    #[tactic(auto, unfolding(crate::specs::Stands::StandsFor), using(crate::proofs::OutLemmas::new_stands))]
+    #[tactic(auto, unfolding(crate::specs::Assembles::AssemblerStandsFor), using(crate::proofs::OutLemmas::new_stands))]
     pub fn new(rule: SlotRule) -> Assembler
         requires sound { IsSound rule }
-        ensures stands { StandsFor result rule [] }
+        ensures stands { AssemblerStandsFor result rule [] }
         ensures rule { result.rule ≡ rule }
     {
         Assembler {
@@ -132,8 +132,8 @@ impl Assembler {
     /// A block is not taken, or a frame is muted.
     pub fn gap(&mut self)
         ensures rule { self.new.rule ≡ self.old.rule }
-        ensures stands { (r : SlotRule) (z : List Item) (frame : ℕ) → StandsFor self.old r z → StandsFor self.new r (z ++ gap frame ∷ []) }
-        ensures none { (r : SlotRule) (z : List Item) (frame : ℕ) → StandsFor self.old r z → user_packets r (z ++ gap frame ∷ []) ≡ user_packets r z }
+        ensures stands { (r : SlotRule) (z : List Item) (frame : ℕ) → AssemblerStandsFor self.old r z → AssemblerStandsFor self.new r (z ++ gap frame ∷ []) }
+        ensures none { (r : SlotRule) (z : List Item) (frame : ℕ) → AssemblerStandsFor self.old r z → user_packets r (z ++ gap frame ∷ []) ≡ user_packets r z }
     {
         self.clear();
     }
@@ -218,8 +218,8 @@ impl Assembler {
         requires some { 1 ≤ length bytes.now }
         ensures rule { self.new.rule ≡ self.old.rule }
         ensures recent { IfSome result (λ f. f.frame < MOST_FRAMES) }
-        ensures stands { (r : SlotRule) (z : List Item) → StandsFor self.old r z → StandsFor self.new r (z ++ piece_items mark frame bytes.now) }
-        ensures answer { (r : SlotRule) (z : List Item) → StandsFor self.old r z → Gains r z frame (piece_items mark frame bytes.now) self.new.held result }
+        ensures stands { (r : SlotRule) (z : List Item) → AssemblerStandsFor self.old r z → AssemblerStandsFor self.new r (z ++ piece_items mark frame bytes.now) }
+        ensures answer { (r : SlotRule) (z : List Item) → AssemblerStandsFor self.old r z → Gains r z frame (piece_items mark frame bytes.now) self.new.held result }
     {
         let base = self.base_of(mark, frame);
         let from = from_of(self.len, mark);

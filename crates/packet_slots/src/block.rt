@@ -5,7 +5,7 @@ ghost use Rattle.plp_config.specs.declared.moment.TheConstants.{MOST_FRAMES};
 ghost use Rattle.packet_slots.specs.Strings.{Item, gap, items_from, first_mark, block_items};
 ghost use Rattle.packet_slots.specs.declared.mark.Mark.TheVariants.{Next};
 ghost use Rattle.packet_slots.specs.Pieces.{piece_items};
-ghost use Rattle.packet_slots.specs.Stands.{IsFrame};
+ghost use Rattle.packet_slots.specs.Assembles.{IsFrame};
 ghost use Rattle.packet_slots.specs.Both.{Both, KeepsTimes, block_of, front_of, IsBegun, IsStart, IsPlace};
 
 use crate::assembler::Assembler;

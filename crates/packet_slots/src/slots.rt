@@ -166,6 +166,7 @@ impl PacketSlots {
     /// How many slots are due and not given out.
     pub fn due(&self) -> u64
         ensures value { result ≡ due_of self.now }
+        ensures none { IsEmpty self.now → result ≡ 0 }
         ensures answer { (r : SlotRule) (first : ℕ) (records : List Record) (released : ℕ) → StandsFor self.now r first records released
             → result ≡ length (readback r first records) - released }
     {
@@ -174,6 +175,7 @@ impl PacketSlots {
 
     /// How many slots are in the window: those that have come into range and were not given out.
     pub fn held(&self) -> u64
+        ensures none { IsEmpty self.now → result ≡ 0 }
         ensures most { result ≤ window_slots (rule_of self.now).num (rule_of self.now).den (delay_of (rule_of self.now)) (rule_of self.now).ticks }
         ensures answer { (r : SlotRule) (first : ℕ) (records : List Record) (released : ℕ) → StandsFor self.now r first records released
             → result ≡ held_slots r first (length records) - released }
@@ -191,6 +193,7 @@ impl PacketSlots {
             → length (readback r first records) ≤ released }
         ensures exact { result ≡ nat_lt 0 (due_of self.old) }
         ensures due { due_of self.new ≡ due_of self.old - 1 }
+        ensures same { result ≡ false → self.new ≡ self.old }
         ensures kept { result ≡ false → out.new ≡ out.old }
         ensures frame { frame_of self.new ≡ frame_of self.old }
         ensures within { is_within self.new ≡ is_within self.old }

@@ -162,6 +162,7 @@ impl SlotWindow {
     pub fn release(&mut self, out: &mut [u8; SIZE]) -> bool
         ensures due { result ≡ nat_lt self.old.first self.old.due_end }
         ensures status { status_of self.new ≡ (if result then given (status_of self.old) else status_of self.old) }
+        ensures same { result ≡ false → self.new ≡ self.old }
         ensures packet { out.new ≡ (if result then front_packet (status_of self.old) else out.old) }
     {
         if self.first >= self.due_end {

@@ -6,7 +6,7 @@ use Rattle.packet_slots.specs.Window.{Status}
 use Rattle.packet_slots.specs.declared.assembler.Found.{Found}
 use Rattle.packet_slots.specs.Sound.{IsSound}
 use Rattle.packet_slots.specs.Pieces.{piece_items}
-use Rattle.packet_slots.specs.Stands.{Gains}
+use Rattle.packet_slots.specs.Assembles.{Gains}
 use Rattle.packet_slots.proofs.BothLemmas.{gain_none, gain_not, gain_put, moved, near_by, counts_as}
 use Rattle.packet_slots.proofs.block.take_piece.Goals as goal
 

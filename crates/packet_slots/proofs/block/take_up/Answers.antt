@@ -1,13 +1,13 @@
 use Rattle.std.proofs.Common.{ℕ, List, ◌+◌, ◌++◌, ◌∙◌, ap, length, min, subst, take, drop, ◌-◌, refl}
 use Rattle.packet_slots.specs.Sound.{IsSound}
-use Rattle.packet_slots.specs.Stands.{StandsFor}
+use Rattle.packet_slots.specs.Assembles.{AssemblerStandsFor}
 use Rattle.packet_slots.specs.Strings.{Item}
 use Rattle.packet_slots.specs.Both.{Both, block_of, front_of}
 use Rattle.packet_slots.proofs.FieldLemmas.{up_joined}
 use Rattle.packet_slots.proofs.block.take_up.Goals as goal
 
 pub returns-clause-both : goal.returns-clause-both
-unfolding StandsFor
+unfolding AssemblerStandsFor
 returns-clause-both c = λ r z h.
     subst (λ (y : List Item). Both r y c.take_piece.new.assembler c.take_piece.new.window)
     (up_joined c.args.frame (block_of c.args.block.now) r c.args.assembler.now.rule (subst IsSound h.assembles.0 c.args.assembler.now.sound) h.assembles.0 z c.args.start c.args.at c.min-end.result

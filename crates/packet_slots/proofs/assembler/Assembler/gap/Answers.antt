@@ -1,13 +1,13 @@
 use Rattle.std.proofs.Common.{◌∙◌}
-use Rattle.packet_slots.specs.Stands.{StandsFor}
+use Rattle.packet_slots.specs.Assembles.{AssemblerStandsFor}
 use Rattle.packet_slots.proofs.OutLemmas.{gap_stands, gap_none}
 use Rattle.packet_slots.proofs.assembler.Assembler.gap.Goals as goal
 
 pub returns-clause-stands : goal.returns-clause-stands
-unfolding StandsFor
+unfolding AssemblerStandsFor
 returns-clause-stands c = λ r z frame h.
     (c.clear.ensures.rule ∙ h.0, gap_stands frame c.args.self.now.rule r _ _ _ z h.0 c.args.self.now.sound h.1 _ _ _ c.clear.ensures.len c.clear.ensures.slot)
 
 pub returns-clause-none : goal.returns-clause-none
-unfolding StandsFor
+unfolding AssemblerStandsFor
 returns-clause-none c = λ r z frame h. gap_none frame c.args.self.now.rule r _ _ _ z h.0 c.args.self.now.sound h.1

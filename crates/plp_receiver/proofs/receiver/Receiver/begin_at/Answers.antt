@@ -2,9 +2,9 @@ use Rattle.plp_receiver.specs.StandsFor.{StandsFor, IsFresh}
 use Rattle.plp_receiver.proofs.StandsLemmas.{begun, is_empty}
 use Rattle.plp_receiver.proofs.receiver.Receiver.begin_at.Goals as goal
 
-pub begin_at-requires-clause-fresh : goal.begin_at-requires-clause-fresh
+pub begin_at-requires-clause-empty : goal.begin_at-requires-clause-empty
 unfolding IsFresh
-begin_at-requires-clause-fresh c = is_empty c.args.self.now.network c.args.self.now.plp c.args.self.now.slots c.requires.fresh
+begin_at-requires-clause-empty c = is_empty c.args.self.now.network c.args.self.now.plp c.args.self.now.slots c.requires.fresh
 
 pub returns-clause-stands : goal.returns-clause-stands
 unfolding StandsFor IsFresh

@@ -25,14 +25,14 @@ next_base r len kept Inside frame = kept
 next_base r len kept Next frame = record { timed = false; slot = if len == 0 then kept.slot else None; frame = frame }
 next_base r len kept (Timed iscr) frame = record { timed = true; slot = slot_of_iscr r frame iscr; frame = frame }
 
-pub record Stands (r : SlotRule) (len : ℕ) (held : List ℕ) (kept : Base) (z : List Item) : Type 0 where
+pub record AssemblerStands (r : SlotRule) (len : ℕ) (held : List ℕ) (kept : Base) (z : List Item) : Type 0 where
   pub state : State
   pub follows : Follows r z state
   pub holds : Holds r state len held kept
 
 -- the string of the data fields so far, joined
-unfoldable pub StandsFor : Assembler → SlotRule → List Item → Type 0
-StandsFor a r z = (a.rule ≡ r) × Stands r a.len a.held a.base z
+unfoldable pub AssemblerStandsFor : Assembler → SlotRule → List Item → Type 0
+AssemblerStandsFor a r z = (a.rule ≡ r) × AssemblerStands r a.len a.held a.base z
 
 -- nothing is held, and no user packet ended
 pub record IsCleared (old new : Assembler) : Type 0 where
