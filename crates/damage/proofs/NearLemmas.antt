@@ -1,5 +1,5 @@
 -- Packets of which only those at the front are lost.
-use Rattle.std.proofs.Common.{◌≡◌, ◌≢◌, ℕ, zero, suc, ◌+◌, ◌*◌, ◌/◌, ◌%◌, ◌<◌, ◌≤◌, true, List, [], ◌∷◌, replicate, Option, Some, None, refl, ◌∙◌, ⊎_elim, arith, div-lt_iff_lt-mul, add-mul}
+use Rattle.std.proofs.Common.{◌≡◌, ◌≢◌, ℕ, zero, suc, ◌+◌, ◌*◌, ◌/◌, ◌%◌, ◌<◌, ◌≤◌, true, List, [], ◌∷◌, replicate, Option, Some, None, refl, ap, ◌∙◌, ⊎_elim, arith, div-lt_iff_lt-mul, add-mul}
 use Rattle.std.specs.List.{items_where_true}
 use Rattle.std.specs.Prelude.{slice_get}
 use Rattle.std.proofs.lemmas.Bool.{cases_lt}
@@ -75,7 +75,7 @@ near_behind : (frames : ℕ) (s : Sent) (ss : List Sent)
 near_behind frames s [] h = tt
 near_behind frames s (t ∷ ss) h =
     let p = h 0 s t refl refl in
-    (record { frame = p.0; stamp = p.1 }, near_behind frames t ss (λ i u next at behind. h (suc i) u next at behind))
+    (record { frame = p.0; stamp = p.1 }, near_behind frames t ss (λ i u next at behind. h (suc i) u next at (ap (slice_get (s ∷ t ∷ ss)) (let e : suc i + 1 ≡ suc (i + 1) = omega arith in e) ∙ behind)))
 
 pub near_told : NearTold
 near_told frames [] h = tt
