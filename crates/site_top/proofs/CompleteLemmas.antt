@@ -263,7 +263,7 @@ modulate_ends c mid after file out ran r =
     r.some
 
 modulate_ways : (old mid new : State) (file out : List ℕ) (c : Config) (outcome : Outcome) → SameCounts old mid → ModulatesAndTells mid new file out c outcome → ModulationMust mid file c outcome ⊎ By old new outcome
-modulate_ways old mid new file out c outcome same (inl (stop, stops, is)) =
+modulate_ways old mid new file out c outcome same (inl (stop, stops, with, is)) =
     ⊎_elim (λ m. inl (subst (ModulationMust mid file c) (sym is) m)) (λ by. inr (by_before old mid new outcome same (subst (By mid new) (sym is) by))) (modulate_stops c mid new file out stop stops)
 modulate_ways old mid new file out c outcome same (inr (ran, after, runs, holds, tells)) =
     ⊎_elim

@@ -54,11 +54,9 @@ pub fn modulate<D: Desk>(
         Ok(plan) => plan,
         Err(stop) => return outcome_of(stop),
     };
+    plan_law(&plan);
     match modulate_run::run(alloc, &plan, input, out, desk) {
-        Ok(ran) => {
-            plan_law(&plan);
-            tell(desk, modulate_line(ran).as_bytes())
-        }
+        Ok(ran) => tell(desk, modulate_line(ran).as_bytes()),
         Err(stop) => stopped(stop),
     }
 }

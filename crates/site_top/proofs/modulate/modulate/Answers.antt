@@ -1,7 +1,7 @@
-use Rattle.std.proofs.Common.{ℕ, List, inr, subst, ◌∙◌}
+use Rattle.std.proofs.Common.{ℕ, List, inl, inr, subst, ◌∙◌}
 use Rattle.site_top.specs.Saying.{Tells}
 use Rattle.site_top.proofs.GatewayLemmas.{other_name}
-use Rattle.site_top.proofs.SurvivorLemmas.{holds_records}
+use Rattle.site_top.proofs.SurvivorLemmas.{holds_records, stops_with}
 use Rattle.site_top.proofs.modulate.modulate.Goals as goal
 
 pub run-requires : goal.run-requires
@@ -21,4 +21,14 @@ returns-in-Ok-run g c =
         holds_records _ _ _ _ _ _ c.plan_law.ensures.honest c.plan_law.ensures.undamaged c.in-Ok-run.ensures.ok,
         subst (λ (text : List ℕ). Tells (g.D.Desk.state c.run.new.desk) (g.D.Desk.state c.tell.new.desk) text c.tell.result) (c.as_bytes.ensures ∙ c.modulate_line.ensures) c.tell.ensures,
       ),
+    )
+
+pub returns-in-Err-run : goal.returns-in-Err-run
+returns-in-Err-run g c =
+    inr (
+      _,
+      _,
+      c.in-Ok.ensures.ok.0,
+      c.in-Ok.ensures.ok.1,
+      inl (_, c.in-Err-run.ensures.err, stops_with _ _ _ _ _ _ c.plan_law.ensures.honest c.plan_law.ensures.undamaged c.in-Err-run.ensures.err, c.stopped.ensures),
     )
