@@ -48,7 +48,7 @@ survival_len s from fates is =
 
 -- ---- no survivor is of frame n or a later one
 
-last_below : (n : ℕ) (sent : List Sent) (survival : List Bool) (before : Option Sent) → option_map_or (λ s. s.frame + 1) before 0 ≤ n → AllByRecursion (λ s. s.frame < n) sent
+pub last_below : (n : ℕ) (sent : List Sent) (survival : List Bool) (before : Option Sent) → option_map_or (λ s. s.frame + 1) before 0 ≤ n → AllByRecursion (λ s. s.frame < n) sent
     → option_map_or (λ s. s.frame + 1) (last_or before (items_where_true survival sent)) 0 ≤ n
 last_below n sent [] before l h = l
 last_below n [] (b ∷ survival) before l h = l
@@ -97,11 +97,11 @@ written_must_come are stream meet written records c plan types inputs n from fat
     ∙ numbers_bytes written c inputs n plan types survival end (find (λ m. whole m && (m % c.frames == 0)) (range_with_len 0 end)) (last_below n s.sent survival None (omega arith) (are c inputs n is.some).below)
 
 -- Kept units are not altered.
-none_altered : (count : ℕ) → AlteredWhole (replicate count Kept)
+pub none_altered : (count : ℕ) → AlteredWhole (replicate count Kept)
 none_altered zero = tt
 none_altered (suc count) = none_altered count
 
-each_kept : (count : ℕ) → AreKept count (replicate count Kept)
+pub each_kept : (count : ℕ) → AreKept count (replicate count Kept)
 each_kept zero n l = absurd (omega (arith, l))
 each_kept (suc count) zero l = refl
 each_kept (suc count) (suc n) l = each_kept count n (omega (arith, l))

@@ -27,11 +27,11 @@ abbrev pub frames_stream : Config → (ℕ → List (List ℕ)) → ℕ → Stre
 frames_stream c inputs n = record { pid = c.pid; frames = c.frames; count = n; sent = sent_frames c inputs n; packets = front_packets c inputs n }
 
 -- how many frames a run has, and its stream
-abbrev pub run_frames : Config → (ℕ → List (List ℕ)) → ℕ
-run_frames c inputs = frame_count c (λ plp. length (inputs plp))
+abbrev pub run_length : Config → (ℕ → List (List ℕ)) → ℕ
+run_length c inputs = frame_count c (λ plp. length (inputs plp))
 
 abbrev pub run_stream : Config → (ℕ → List (List ℕ)) → Stream
-run_stream c inputs = frames_stream c inputs (run_frames c inputs)
+run_stream c inputs = frames_stream c inputs (run_length c inputs)
 
 -- what is received of a stream's units, from one on, by their fates
 abbrev pub stream_bytes : Stream → ℕ → List Fate → List ℕ
@@ -49,4 +49,4 @@ left_records c inputs n from fates =
 
 -- and of a run
 abbrev pub run_records : Config → (ℕ → List (List ℕ)) → ℕ → List Fate → List RecordView
-run_records c inputs from fates = left_records c inputs (run_frames c inputs) from fates
+run_records c inputs from fates = left_records c inputs (run_length c inputs) from fates

@@ -9,13 +9,13 @@ use Rattle.modulator.specs.StandsFor.{bytes_due}
 use Rattle.modulate_run.specs.ModulateRun.{RunsAll}
 use Rattle.modulate_run.specs.declared.stop.Ran.{Ran}
 use Rattle.sent_frames.specs.Laws.{WrittenMustCome, UndamagedMustCome}
-use Rattle.sent_frames.specs.SentFrames.{run_frames}
+use Rattle.sent_frames.specs.SentFrames.{run_length}
 use Rattle.site_top.specs.ModulateCommand.{AreRecords, HoldsRecords}
 
 are_records : (c : Config) (file bytes : List ℕ) → WrittenMustCome c → UndamagedMustCome c → bytes ≡ bytes_due c true file → AreRecords c file bytes
 are_records c file bytes honest undamaged e = record {
-  honest = λ inputs from fates short is came. e ∙ ap (bytes_due c true) came ∙ honest inputs (run_frames c inputs) from fates short is;
-  undamaged = λ inputs from short came. e ∙ ap (bytes_due c true) came ∙ undamaged inputs (run_frames c inputs) from short;
+  honest = λ inputs from fates short is came. e ∙ ap (bytes_due c true) came ∙ honest inputs (run_length c inputs) from fates short is;
+  undamaged = λ inputs from short came. e ∙ ap (bytes_due c true) came ∙ undamaged inputs (run_length c inputs) from short;
 }
 
 pub holds_records : (c : Config) (old new : State) (file out : List ℕ) (ran : Ran) → WrittenMustCome c → UndamagedMustCome c → RunsAll c old new file out ran → HoldsRecords c old new file out

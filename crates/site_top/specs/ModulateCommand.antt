@@ -8,7 +8,7 @@ use Rattle.plp_config.specs.declared.moment.TheConstants.{MOST_FRAMES}
 use Rattle.t2mi_stream.specs.Received.{Fate}
 use Rattle.frame_records.specs.Records.{file_bytes}
 use Rattle.damage.specs.Streams.{Honest}
-use Rattle.sent_frames.specs.SentFrames.{run_frames, run_stream, stream_bytes, all_kept, run_records}
+use Rattle.sent_frames.specs.SentFrames.{run_length, run_stream, stream_bytes, all_kept, run_records}
 use Rattle.config_file.specs.ConfigFile.{Gives, GivesNoPlan}
 use Rattle.config_file.specs.declared.stop.ConfigStop.{ConfigStop}
 use Rattle.modulate_run.specs.ModulateRun.{RunsAll, Stops}
@@ -27,10 +27,10 @@ modulate_line ran = codes "first=" ++ decimal ran.first ++ codes " records=" ++ 
 -- frame as all transmitters send it, and each frame that lacks a packet muted.
 pub record AreRecords (c : Config) (file bytes : List ℕ) : Type 0 where
   -- whatever becomes of the units from one on, if damage is honest
-  pub honest : (inputs : ℕ → List (List ℕ)) (from : ℕ) (fates : List Fate) → run_frames c inputs ≤ MOST_FRAMES → Honest (run_stream c inputs) from fates
+  pub honest : (inputs : ℕ → List (List ℕ)) (from : ℕ) (fates : List Fate) → run_length c inputs ≤ MOST_FRAMES → Honest (run_stream c inputs) from fates
       → file ≡ stream_bytes (run_stream c inputs) from fates → bytes ≡ file_bytes (run_records c inputs from fates)
   -- and if all units from one on came as they were sent, whatever they are
-  pub undamaged : (inputs : ℕ → List (List ℕ)) (from : ℕ) → run_frames c inputs ≤ MOST_FRAMES
+  pub undamaged : (inputs : ℕ → List (List ℕ)) (from : ℕ) → run_length c inputs ≤ MOST_FRAMES
       → file ≡ stream_bytes (run_stream c inputs) from (all_kept (run_stream c inputs) from) → bytes ≡ file_bytes (run_records c inputs from (all_kept (run_stream c inputs) from))
 
 -- So it is with the bytes of IN and OUT.

@@ -1,4 +1,3 @@
-use Rattle.sent_frames.specs.Laws.{WrittenMustCome}
 use Rattle.sent_frames.proofs.RecordLemmas.{written_must_come, undamaged_must_come}
 use Rattle.sent_frames.proofs.plan.plan_law.Goals as goal
 
