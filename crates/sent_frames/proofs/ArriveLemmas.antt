@@ -1,4 +1,4 @@
--- What comes of a run of which no unit is lost: the bytes that the gateway writes, and the frames of the run.
+-- What comes of a run of which all units are kept: the bytes that the gateway writes, and the frames of the run.
 use Rattle.std.proofs.Common.{◌≡◌, ◌≢◌, ◌⊎◌, inl, inr, ℕ, zero, suc, ◌+◌, ◌<◌, ◌≤◌, ◌==◌, Bool, true, List, [], ◌∷◌, ◌++◌, map, length, replicate, Some, None, refl, ap, ap₂, sym, subst, ◌∙◌, ⊎_elim, arith}
 use Rattle.std.proofs.Math.Path.{fun_ext}
 use Rattle.std.specs.List.{items_where_true, last_or, list_all}
