@@ -48,11 +48,11 @@ abbrev pub KeptIsHonest : Type 0
 KeptIsHonest = (c : Config) (inputs : ℕ → List (List ℕ)) (n from : ℕ) (fates : List Fate) → IsPlan c → HasByteIds c → n ≤ MOST_FRAMES → AlteredWhole fates
     → AreKept (length (drop from (pipe c.pid (frames_stream c inputs n).packets))) fates → Honest (frames_stream c inputs n) from fates
 
--- If no unit of a run is lost, the bytes that are received are all that the gateway writes.
+-- If all units of a run are kept, the bytes that are received are those that the gateway writes.
 abbrev pub WholeArrives : Type 0
 WholeArrives = (c : Config) (inputs : ℕ → List (List ℕ)) → joined (pipe c.pid (packets_of c inputs)) ≡ stream_bytes (run_stream c inputs) 0 (all_kept (run_stream c inputs) 0)
 
--- And the records that must come are the frames of the run.
+-- And the records that must come of a plan's run are its frames.
 abbrev pub WholeComes : Type 0
 WholeComes = (c : Config) (inputs : ℕ → List (List ℕ)) → IsPlan c → HasByteIds c → frame_count c (λ plp. length (inputs plp)) ≤ MOST_FRAMES
     → run_records c inputs 0 (all_kept (run_stream c inputs) 0) ≡ run_frames c inputs

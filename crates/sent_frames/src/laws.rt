@@ -42,7 +42,7 @@ pub fn undamaged_law()
     kept_law();
 }
 
-/// If no unit of a run is lost, what is received is all that the gateway writes, and the records that must come are the run's frames.
+/// If all units of a run are kept, what is received is what the gateway writes, and the records that must come are the run's frames.
 pub fn run_law()
     ensures arrives { WholeArrives }
     ensures records { WholeComes }
