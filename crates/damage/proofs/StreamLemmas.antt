@@ -14,7 +14,7 @@ use Rattle.modulator.specs.Modulating.{packet_of}
 use Rattle.damage.specs.SentPackets.{Sent, AreNear}
 use Rattle.damage.specs.Laws.{Survive, GroupsAreFrames, ModulatedIsRecords, WholeTold, LaterNear}
 use Rattle.damage.specs.Streams.{Stream, IsStream, stream_survival, Honest}
-use Rattle.damage.specs.StreamLaws.{ReadAreSurvivors, HonestGroups, HonestRecords, KeptHonest, KeptWhole}
+use Rattle.damage.specs.StreamLaws.{SurvivalLength, ReadAreSurvivors, HonestGroups, HonestRecords, KeptHonest, KeptWhole}
 
 map-items_where_true : {X Y : Type 0} (f : X → Y) (tests : List Bool) (xs : List X) → map f (items_where_true tests xs) ≡ items_where_true tests (map f xs)
 map-items_where_true f [] xs = refl
@@ -35,8 +35,7 @@ length-placed_from : (place : ℕ → Option ℕ) (at : ℕ) (packets : List (Li
 length-placed_from place at [] = refl
 length-placed_from place at (b ∷ packets) = ap suc (length-placed_from place (at + length b) packets)
 
--- Of each sent packet it is told whether it survives.
-length-survival : (s : Stream) (from : ℕ) (fates : List Fate) → IsStream s → length (stream_survival s from fates) ≡ length s.sent
+pub length-survival : SurvivalLength
 length-survival s from fates is =
     length-map (sent_packets s.packets from fates) _ ∙ length-placed_from _ 0 s.packets
     ∙ sym (length-map s.packets packet_of) ∙ ap length is.reads ∙ length-map s.sent (λ p. p.packet)

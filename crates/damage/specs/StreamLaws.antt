@@ -13,6 +13,10 @@ use Rattle.damage.specs.Survivors.{is_whole, groups_met, survivor_records}
 use Rattle.damage.specs.Laws.{RulesMeet}
 use Rattle.damage.specs.Streams.{Stream, IsStream, stream_survival, stream_survivors, Honest}
 
+-- Of each sent packet it is told whether it survives.
+abbrev pub SurvivalLength : Type 0
+SurvivalLength = (s : Stream) (from : ℕ) (fates : List Fate) → IsStream s → length (stream_survival s from fates) ≡ length s.sent
+
 -- The packets that are read are, in order, those that survive.
 abbrev pub ReadAreSurvivors : Type 0
 ReadAreSurvivors = (s : Stream) (from : ℕ) (fates : List Fate) → IsStream s → Honest s from fates

@@ -9,3 +9,4 @@ pub mod LossLemmas
 pub mod TestLemmas
 pub mod WrittenLemmas
 pub mod RecordLemmas
+pub mod ArriveLemmas

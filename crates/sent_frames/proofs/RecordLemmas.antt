@@ -4,14 +4,13 @@ use Rattle.std.specs.Prelude.{find, if◌then◌else◌}
 use Rattle.std.specs.List.{flat_map, range_with_len, items_where_true, last_or, AllByRecursion}
 use Rattle.std.specs.Option.{option_map_or}
 use Rattle.std.proofs.lemmas.Bool.{cases_lt}
-use Rattle.std.proofs.lemmas.List.{length-map}
 use Rattle.plp_config.specs.Capacity.{IsPlan}
 use Rattle.plp_config.specs.Emission.{emission}
 use Rattle.plp_config.specs.declared.config.Config.{Config}
-use Rattle.t2mi_stream.specs.Received.{Fate, AlteredWhole}
+use Rattle.t2mi_stream.specs.Received.{AlteredWhole}
 use Rattle.t2mi_stream.specs.Received.Fate.{Kept}
-use Rattle.t2mi_stream.specs.Survivors.{AreKept, placed_from, sent_packets, received_packets, received_place, is_accepted}
-use Rattle.t2mi_stream.specs.Pipe.{joined, pipe}
+use Rattle.t2mi_stream.specs.Survivors.{AreKept}
+use Rattle.t2mi_stream.specs.Pipe.{pipe}
 use Rattle.site_frame.specs.Whole.{record_bytes}
 use Rattle.site_frame.specs.declared.reading.RecordView.TheVariants.{Muted as MutedRecord}
 use Rattle.frame_records.specs.Frames.{frame_of, HasByteIds}
@@ -20,10 +19,9 @@ use Rattle.frame_records.specs.Records.{numbers_from, record_of, file_bytes}
 use Rattle.frame_groups.specs.Modulated.Content.{Whole, Muted}
 use Rattle.frame_tests.specs.Tests.{rules}
 use Rattle.open_group.specs.Written.{content_view, spelled}
-use Rattle.modulator.specs.Modulating.{packet_of}
 use Rattle.damage.specs.SentPackets.{Sent, frame_packets, frame_group}
 use Rattle.damage.specs.Survivors.{is_whole, loss_of, sent_content, sent_record, end_of}
-use Rattle.damage.specs.StreamLaws.{HonestRecords, KeptHonest}
+use Rattle.damage.specs.StreamLaws.{SurvivalLength, HonestRecords, KeptHonest}
 use Rattle.damage.specs.Streams.{Stream, IsStream, stream_survival}
 use Rattle.sent_frames.specs.Laws.{SentAreFrames, FramesAreStream, TestsMeet, WrittenIsFrame, KeptIsHonest, WrittenMustCome, UndamagedMustCome}
 use Rattle.sent_frames.specs.SentFrames.{sent_frames, frames_stream}
@@ -32,23 +30,9 @@ use Rattle.sent_frames.specs.Types.{TypesFit}
 pub kept_is_honest : FramesAreStream → KeptHonest → KeptIsHonest
 kept_is_honest stream kept c inputs n from fates plan ids l altered units = kept (frames_stream c inputs n) from fates (stream c inputs n plan ids l) altered units
 
--- ---- of each sent packet it is told whether it survives
-
-length-placed_from : (place : ℕ → Option ℕ) (at : ℕ) (packets : List (List ℕ)) → length (placed_from place at packets) ≡ length packets
-length-placed_from place at [] = refl
-length-placed_from place at (packet ∷ packets) = ap (λ (k : ℕ). suc k) (length-placed_from place (at + length packet) packets)
-
-pub survival_len : (s : Stream) (from : ℕ) (fates : List Fate) → IsStream s → length (stream_survival s from fates) ≡ length s.sent
-survival_len s from fates is =
-    let a = length-map (sent_packets s.packets from fates) (is_accepted (received_packets s.pid s.packets from fates)) in
-    let b = length-placed_from (received_place (joined s.packets) from fates) 0 s.packets in
-    let d = length-map s.packets packet_of in
-    let e = length-map s.sent (λ (x : Sent). x.packet) in
-    a ∙ b ∙ sym d ∙ ap length is.reads ∙ e
-
 -- ---- no survivor is of frame n or a later one
 
-last_below : (n : ℕ) (sent : List Sent) (survival : List Bool) (before : Option Sent) → option_map_or (λ s. s.frame + 1) before 0 ≤ n → AllByRecursion (λ s. s.frame < n) sent
+pub last_below : (n : ℕ) (sent : List Sent) (survival : List Bool) (before : Option Sent) → option_map_or (λ s. s.frame + 1) before 0 ≤ n → AllByRecursion (λ s. s.frame < n) sent
     → option_map_or (λ s. s.frame + 1) (last_or before (items_where_true survival sent)) 0 ≤ n
 last_below n sent [] before l h = l
 last_below n [] (b ∷ survival) before l h = l
@@ -86,22 +70,22 @@ module _ (written : WrittenIsFrame) (c : Config) (inputs : ℕ → List (List �
       ∙ sym (ap (λ (k : ℕ). file_bytes (map (record_of c inputs whole) (range_with_len first k))) none))
       (cases_lt first end)
 
-pub written_must_come : SentAreFrames → FramesAreStream → TestsMeet → WrittenIsFrame → HonestRecords → (c : Config) → IsPlan c → TypesFit c → WrittenMustCome c
-written_must_come are stream meet written records c plan types inputs n from fates l honest =
+pub written_must_come : SentAreFrames → FramesAreStream → TestsMeet → WrittenIsFrame → SurvivalLength → HonestRecords → (c : Config) → IsPlan c → TypesFit c → WrittenMustCome c
+written_must_come are stream meet written len records c plan types inputs n from fates l honest =
     let s : Stream = frames_stream c inputs n in
     let is : IsStream s = stream c inputs n plan types.ids l in
     let survival : List Bool = stream_survival s from fates in
     let whole : ℕ → Bool = is_whole s.sent survival in
     let end : ℕ = end_of (items_where_true survival s.sent) in
-    ap (flat_map (spelled c)) (records (rules c) s from fates refl is honest (meet c inputs n survival plan types l (survival_len s from fates is)))
+    ap (flat_map (spelled c)) (records (rules c) s from fates refl is honest (meet c inputs n survival plan types l (len s from fates is)))
     ∙ numbers_bytes written c inputs n plan types survival end (find (λ m. whole m && (m % c.frames == 0)) (range_with_len 0 end)) (last_below n s.sent survival None (omega arith) (are c inputs n is.some).below)
 
 -- Kept units are not altered.
-none_altered : (count : ℕ) → AlteredWhole (replicate count Kept)
+pub none_altered : (count : ℕ) → AlteredWhole (replicate count Kept)
 none_altered zero = tt
 none_altered (suc count) = none_altered count
 
-each_kept : (count : ℕ) → AreKept count (replicate count Kept)
+pub each_kept : (count : ℕ) → AreKept count (replicate count Kept)
 each_kept zero n l = absurd (omega (arith, l))
 each_kept (suc count) zero l = refl
 each_kept (suc count) (suc n) l = each_kept count n (omega (arith, l))

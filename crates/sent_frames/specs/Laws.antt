@@ -1,22 +1,24 @@
 -- Laws of a run as a stream of which units are lost or altered.
 use Rattle.std.specs.Prelude.{◌≡◌, ◌<◌, ◌≤◌, ℕ, true, Bool, List, map, length, drop}
 use Rattle.plp_config.specs.Capacity.{IsPlan}
+use Rattle.plp_config.specs.RunLength.{frame_count}
 use Rattle.plp_config.specs.declared.config.Config.{Config}
 use Rattle.plp_config.specs.declared.moment.TheConstants.{MOST_FRAMES}
+use Rattle.ts_packet.specs.TsFile.{joined}
 use Rattle.t2mi_stream.specs.Pipe.{pipe}
 use Rattle.t2mi_stream.specs.Received.{Fate, AlteredWhole}
 use Rattle.t2mi_stream.specs.Survivors.{AreKept}
 use Rattle.mode_adapt.specs.Blocks.{plp_blocks}
 use Rattle.frame_tests.specs.Tests.{rules}
-use Rattle.frame_records.specs.Frames.{frame_of, HasByteIds}
+use Rattle.frame_records.specs.Frames.{frame_of, HasByteIds, run_frames}
 use Rattle.frame_records.specs.Records.{file_bytes}
-use Rattle.gateway_core.specs.Packets.{frame_bodies}
+use Rattle.gateway_core.specs.Packets.{frame_bodies, packets_of}
 use Rattle.open_group.specs.Written.{packets_view}
 use Rattle.modulator.specs.StandsFor.{bytes_due}
 use Rattle.damage.specs.SentPackets.{AreFrames, frame_packets}
 use Rattle.damage.specs.Laws.{RulesMeet}
 use Rattle.damage.specs.Streams.{IsStream, Honest}
-use Rattle.sent_frames.specs.SentFrames.{sent_frames, frames_stream, stream_bytes, all_kept, left_records}
+use Rattle.sent_frames.specs.SentFrames.{sent_frames, frames_stream, run_stream, stream_bytes, all_kept, left_records, run_records}
 use Rattle.sent_frames.specs.Types.{TypesFit}
 
 -- The packets of a run are sent frame by frame: each frame has one, and they tell their frames.
@@ -45,6 +47,15 @@ WrittenIsFrame = (c : Config) (inputs : ℕ → List (List ℕ)) (n m : ℕ) →
 abbrev pub KeptIsHonest : Type 0
 KeptIsHonest = (c : Config) (inputs : ℕ → List (List ℕ)) (n from : ℕ) (fates : List Fate) → IsPlan c → HasByteIds c → n ≤ MOST_FRAMES → AlteredWhole fates
     → AreKept (length (drop from (pipe c.pid (frames_stream c inputs n).packets))) fates → Honest (frames_stream c inputs n) from fates
+
+-- If all units of a run are kept, the bytes that are received are those that the gateway writes.
+abbrev pub WholeArrives : Type 0
+WholeArrives = (c : Config) (inputs : ℕ → List (List ℕ)) → joined (pipe c.pid (packets_of c inputs)) ≡ stream_bytes (run_stream c inputs) 0 (all_kept (run_stream c inputs) 0)
+
+-- And the records that must come of a plan's run are its frames.
+abbrev pub WholeComes : Type 0
+WholeComes = (c : Config) (inputs : ℕ → List (List ℕ)) → IsPlan c → HasByteIds c → frame_count c (λ plp. length (inputs plp)) ≤ MOST_FRAMES
+    → run_records c inputs 0 (all_kept (run_stream c inputs) 0) ≡ run_frames c inputs
 
 -- If damage is honest, what is written of what is received are the records that must come.
 abbrev pub WrittenMustCome : Config → Type 0

@@ -1,10 +1,11 @@
 // Laws of the definitions. Their functions do nothing.
-ghost use Rattle.sent_frames.specs.Laws.{SentAreFrames, FrameCarries, FramesAreStream, TestsMeet, WrittenIsFrame, KeptIsHonest};
+ghost use Rattle.sent_frames.specs.Laws.{SentAreFrames, FrameCarries, FramesAreStream, TestsMeet, WrittenIsFrame, KeptIsHonest, WholeArrives, WholeComes};
 
 use bb_frame::bit_counts;
 use bit_slice::crc32_law;
 use cell_map::shape_law;
 use damage::{kept_law, whole_law};
+use frame_records::record_law;
 use frame_tests::{map_test_law, named_law, parts_law};
 use l1_signal::{conf_law, dyn_law, post_law, pre_law};
 use mode_adapt::count_law;
@@ -39,6 +40,16 @@ pub fn undamaged_law()
 {
     stream_law();
     kept_law();
+}
+
+/// If all units of a run are kept, what is received is what the gateway writes, and the records that must come are the run's frames.
+pub fn run_law()
+    ensures arrives { WholeArrives }
+    ensures records { WholeComes }
+{
+    stream_law();
+    t2mi_stream::undamaged_law();
+    record_law();
 }
 
 /// The six tests make of a run what they must, whatever survives.

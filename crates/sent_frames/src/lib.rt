@@ -4,5 +4,5 @@
 mod laws;
 mod plan;
 
-pub use laws::{frame_law, sent_law, stream_law, tests_law, undamaged_law};
+pub use laws::{frame_law, run_law, sent_law, stream_law, tests_law, undamaged_law};
 pub use plan::{plan_law, type_law};

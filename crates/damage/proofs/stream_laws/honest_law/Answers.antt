@@ -1,5 +1,8 @@
-use Rattle.damage.proofs.StreamLemmas.{read_are_survivors, honest_groups, honest_records}
+use Rattle.damage.proofs.StreamLemmas.{length-survival, read_are_survivors, honest_groups, honest_records}
 use Rattle.damage.proofs.stream_laws.honest_law.Goals as goal
+
+pub returns-clause-length : goal.returns-clause-length
+returns-clause-length c = length-survival
 
 pub returns-clause-read : goal.returns-clause-read
 returns-clause-read c = read_are_survivors c.survivor_law.ensures.survive
