@@ -1,9 +1,8 @@
 // The record is that of frame 1 of the small network with two blocks, spelled by hand from the tables of records and EN 302 755;
 // L1-pre, L1-post and CRC-8 are from a Python program over its tables. The packet of slot k has the byte k + 1; a null packet has
 // 0x1F there. What must come was counted by hand.
-ghost use Rattle.std.specs.Prelude.{◌≡◌, ◌<◌, IfOk, length};
-ghost use Rattle.plp_config.specs.declared.moment.TheConstants.{MOST_FRAMES};
-ghost use Rattle.plp_receiver.specs.StandsFor.{IsFresh, frame_of, due_of};
+ghost use Rattle.std.specs.Prelude.{◌≡◌, IfOk, length};
+ghost use Rattle.plp_receiver.specs.StandsFor.{frame_of, due_of};
 
 use crate::{Receiver, readback_law};
 use bb_frame::scramble;
@@ -81,7 +80,7 @@ const ROWS: [Row; 11] = [
     Row { why: "NPD is 0", turned: [(AT_FIRST, 0x04), (AT_FIRST + 9, 0xDC), NONE, NONE, NONE], from: 5, end: 9 },
     Row { why: "ISSY begins with 00, and tells no ISCR", turned: [(AT_FIRST + 2, 0x80), (AT_FIRST + 9, 0xCB), NONE, NONE, NONE], from: 5, end: 9 },
     Row { why: "the CRC_32 of L1-pre differs", turned: [(48, 0x01), NONE, NONE, NONE, NONE], from: 0, end: 0 },
-    Row { why: "L1-post tells FRAME_IDX 0", turned: [(77, 0x02), NONE, NONE, NONE, NONE], from: 0, end: 0 },
+    Row { why: "a bit of L1-post is turned over", turned: [(77, 0x02), NONE, NONE, NONE, NONE], from: 0, end: 0 },
 ];
 
 // The word of an address: 16,200 cells of the two blocks, five columns of each in a row.
@@ -94,7 +93,7 @@ fn word_at(address: u32) -> u32 {
 }
 
 // Appends a block, whose data field has the bytes from one on of user packets of 188 bytes, the last of them dnp.
-fn push_block(record: &mut Vec<u8>, header: &[u8; 10], first: usize) -> Result<(), Fail> {
+fn push_block(bytes: &mut Vec<u8>, header: &[u8; 10], first: usize) -> Result<(), Fail> {
     let mut block = [0; BLOCK];
     block[..10].copy_from_slice(header);
     for k in 0..869usize {
@@ -106,8 +105,8 @@ fn push_block(record: &mut Vec<u8>, header: &[u8; 10], first: usize) -> Result<(
         };
     }
     scramble(&mut block);
-    record.extend_from_slice(&BLOCK_HEAD)?;
-    record.extend_from_slice(&block)?;
+    bytes.extend_from_slice(&BLOCK_HEAD)?;
+    bytes.extend_from_slice(&block)?;
     Ok(())
 }
 
@@ -129,12 +128,12 @@ fn record_of(alloc: Global) -> Result<Vec<u8>, Fail> {
 }
 
 // Turns bits over.
-fn turn(record: &mut [u8], turned: &[(usize, u8); 5])
-    ensures { length record.new ≡ length record.old }
+fn turn(bytes: &mut [u8], turned: &[(usize, u8); 5])
+    ensures { length bytes.new ≡ length bytes.old }
 {
     for (place, bits) in turned {
-        if *place < record.len() {
-            record[*place] ^= *bits;
+        if *place < bytes.len() {
+            bytes[*place] ^= *bits;
         }
     }
 }
@@ -153,10 +152,11 @@ fn give(receiver: &mut Receiver<'_>, given: &mut Vec<u8>) -> Result<(), Fail>
 }
 
 // What is given out after the record, of frame 1, and two muted frames.
-fn given_back(alloc: Global, plan: &Plan, record: &[u8]) -> Result<Vec<u8>, Fail> {
+fn given_back(alloc: Global, plan: &Plan, bytes: &[u8]) -> Result<Vec<u8>, Fail> {
+    plan.obeys_rules();
     let mut receiver = Receiver::open(alloc, plan, 0)?;
     let mut given = Vec::new(alloc);
-    let (view, _) = read_record(record)?;
+    let (view, _) = read_record(bytes)?;
     receiver.begin_at(1);
     give(&mut receiver, &mut given)?;
     receiver.frame(&view);
@@ -166,10 +166,10 @@ fn given_back(alloc: Global, plan: &Plan, record: &[u8]) -> Result<Vec<u8>, Fail
             subseconds: 0,
         },
     };
-    for _ in 0..2u64 {
-        give(&mut receiver, &mut given)?;
-        receiver.frame(&muted);
-    }
+    give(&mut receiver, &mut given)?;
+    receiver.frame(&muted);
+    give(&mut receiver, &mut given)?;
+    receiver.frame(&muted);
     give(&mut receiver, &mut given)?;
     Ok(given)
 }
