@@ -1,5 +1,5 @@
 -- Where the fields of a baseband frame stand in the bits that spell it, so that bits spell one frame at most.
-use Rattle.std.proofs.Common.{◌≡◌, ℕ, ◌+◌, ◌*◌, ◌/◌, ◌%◌, ◌^◌, ◌<◌, ◌≤◌, Bool, List, ◌++◌, length, take, drop, refl, ap, sym, ◌∙◌, arith, append_assoc, length-append}
+use Rattle.std.proofs.Common.{◌≡◌, ◌+◌, ◌/◌, ◌%◌, ◌^◌, ◌<◌, ◌≤◌, Bool, List, ◌++◌, length, refl, ap, sym, ◌∙◌, arith, append_assoc, length-append}
 use Rattle.std.specs.Prelude.{bit_xor}
 use Rattle.bit_slice.specs.Crc.{crc8_of}
 use Rattle.terms.specs.Bits.{field, number_of, part, number_at}
