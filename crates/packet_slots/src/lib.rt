@@ -8,11 +8,10 @@ mod laws;
 mod mark;
 mod rule;
 mod slots;
-mod times;
-mod window;
-
 #[cfg(test)]
 mod tests;
+mod times;
+mod window;
 
 pub use block::TakenBlock;
 pub use laws::readback_law;

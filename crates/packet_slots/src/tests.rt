@@ -21,6 +21,7 @@ const SLOTS: u64 = 10;
 
 // Where the second block begins, and the first user packet that begins in it.
 const CUT: usize = 1_000;
+
 const SECOND: usize = 128;
 
 // ISSY of a user packet whose slot starts at a tick: 10, and the ISCR.

@@ -6,14 +6,14 @@ ghost use Rattle.packet_slots.specs.Times.{delay_of};
 ghost use Rattle.packet_slots.specs.Sound.{IsSound};
 ghost use Rattle.packet_slots.specs.Filling.{filled};
 
+use crate::assembler::Found;
 use crate::counting::counts;
+use crate::rule::SlotRule;
 use crate::times::{frame_range, released_at, window_of};
 use circular_buffer::HeapCircularBuffer;
 use plp_config::{release_law, slot_time_law};
 use std::alloc::{AllocError, Global};
 use ts_packet::{SIZE, TsPacket};
-use crate::assembler::Found;
-use crate::rule::SlotRule;
 
 /// The slots that have come into range and are not given out, each with its packet once that came.
 #[derive(Drop)]

@@ -83,6 +83,7 @@ impl<'p> Receiver<'p> {
         requires small { first < MOST_FRAMES }
         requires fresh { IsFresh self.old }
         ensures stands { StandsFor self.new first [] 0 }
+        ensures due { due_of self.new ≡ 0 }
         ensures frame { frame_of self.new ≡ first }
         ensures network { network_of self.new ≡ network_of self.old }
         ensures plp { plp_of self.new ≡ plp_of self.old }
@@ -169,6 +170,7 @@ impl<'p> Receiver<'p> {
     /// How many slots are due and not given out.
     pub fn due(&self) -> u64
         ensures value { result ≡ due_of self.now }
+        ensures fresh { IsFresh self.now → result ≡ 0 }
         ensures some { (first : ℕ) (views : List RecordView) (released : ℕ) → StandsFor self.now first views released
             → (packets : List (List ℕ)) × Readback (network_of self.now) (plp_of self.now) first views packets }
         ensures answer { (first : ℕ) (views : List RecordView) (released : ℕ) (packets : List (List ℕ)) → StandsFor self.now first views released
@@ -180,6 +182,7 @@ impl<'p> Receiver<'p> {
 
     /// How many slots are in the window: those that have come into range and were not given out.
     pub fn held(&self) -> u64
+        ensures fresh { IsFresh self.now → result ≡ 0 }
         ensures most { result ≤ window (network_of self.now) (plp_of self.now) }
         ensures answer { (first : ℕ) (views : List RecordView) (released : ℕ) → StandsFor self.now first views released
             → result ≡ slots_come (network_of self.now) (plp_of self.now) first (length views) - released }
