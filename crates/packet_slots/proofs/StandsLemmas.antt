@@ -221,3 +221,10 @@ release_answers a old next r first records count h b e t out before packet known
 pub stands_at : {a b : Assembler} {w : SlotWindow} {n m : ℕ} {r : SlotRule} {first : ℕ} {records : List Record} {released : ℕ} → b ≡ a → m ≡ n → Stands a w n r first records released → Stands b w m r first records released
 stands_at {a = a} {w = w} {m = m} {r = r} {first = first} {records = records} {released = released} e f h =
     subst (λ (x : Assembler). Stands x w m r first records released) (sym e) (subst (λ (k : ℕ). Stands a w k r first records released) (sym f) h)
+
+-- ---- of no record yet
+pub fresh_held : (a : Assembler) (w : SlotWindow) (r : SlotRule) → Fresh a w r → w.end - w.first ≡ 0
+fresh_held a w r f = let none = ap length f.empty in let span = w.span in omega (arith, none, span)
+
+pub fresh_due : (a : Assembler) (w : SlotWindow) (r : SlotRule) → Fresh a w r → w.due_end - w.first ≡ 0
+fresh_due a w r f = let none = ap length f.empty in let span = w.span in let known = w.known in omega (arith, none, span, known)

@@ -63,6 +63,7 @@ impl PacketSlots {
         requires outside { is_within self.old ≡ false }
         requires empty { IsEmpty self.old }
         ensures stands { (r : SlotRule) → IsFresh self.old r → StandsFor self.new r first [] 0 }
+        ensures due { due_of self.new ≡ 0 }
         ensures frame { frame_of self.new ≡ first }
         ensures outside { is_within self.new ≡ false }
         ensures rule { rule_of self.new ≡ rule_of self.old }
@@ -166,7 +167,7 @@ impl PacketSlots {
     /// How many slots are due and not given out.
     pub fn due(&self) -> u64
         ensures value { result ≡ due_of self.now }
-        ensures none { IsEmpty self.now → result ≡ 0 }
+        ensures fresh { (r : SlotRule) → IsFresh self.now r → result ≡ 0 }
         ensures answer { (r : SlotRule) (first : ℕ) (records : List Record) (released : ℕ) → StandsFor self.now r first records released
             → result ≡ length (readback r first records) - released }
     {
@@ -175,7 +176,7 @@ impl PacketSlots {
 
     /// How many slots are in the window: those that have come into range and were not given out.
     pub fn held(&self) -> u64
-        ensures none { IsEmpty self.now → result ≡ 0 }
+        ensures fresh { (r : SlotRule) → IsFresh self.now r → result ≡ 0 }
         ensures most { result ≤ window_slots (rule_of self.now).num (rule_of self.now).den (delay_of (rule_of self.now)) (rule_of self.now).ticks }
         ensures answer { (r : SlotRule) (first : ℕ) (records : List Record) (released : ℕ) → StandsFor self.now r first records released
             → result ≡ held_slots r first (length records) - released }

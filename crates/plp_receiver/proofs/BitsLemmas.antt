@@ -5,7 +5,7 @@ use Rattle.std.specs.Bool.{beq}
 use Rattle.std.specs.Cmp.Lexicographic.{pointwise}
 use Rattle.std.proofs.lemmas.Bool.{true≢false}
 use Rattle.std.proofs.lemmas.List.{take-append-drop, take_all, length-drop}
-use Rattle.terms.specs.Bits.{field, number_of}
+use Rattle.terms.specs.Bits.{field}
 use Rattle.terms.proofs.BitLemmas.{field-number_at}
 use Rattle.terms.proofs.CaseLemmas.{bool_cases}
 use Rattle.l1_signal.specs.CrcField.{post_front, EndsInCrc, RefusesPost}

@@ -1,3 +1,4 @@
+mod SpelledLemmas
 mod TakingLemmas
 mod BitsLemmas
 mod ListLemmas

@@ -1,6 +1,6 @@
 -- The slot rule of a PLP: the length of a slot in lowest terms tells the same times.
-use Rattle.std.proofs.Common.{◌≡◌, ℕ, ◌+◌, ◌*◌, ◌/◌, ◌%◌, ◌-◌, ◌^◌, ◌<◌, ◌≤◌, min, length, refl, ap, ap₂, sym, ◌∙◌, arith, inl, inr}
-use Rattle.std.specs.Int.{div_ceil, ◌∣◌}
+use Rattle.std.proofs.Common.{◌≡◌, ℕ, ◌+◌, ◌*◌, ◌/◌, ◌%◌, ◌^◌, ◌<◌, ◌≤◌, min, length, ap, ap₂, sym, ◌∙◌, arith, inl, inr}
+use Rattle.std.specs.Int.{div_ceil}
 use Rattle.std.proofs.lemmas.Bool.{cases_lt}
 use Rattle.std.proofs.Math.Nat.{mul-le-mul, div-mul_cancel, mul-div-mul_right, mod-eq-sub-div-mul, div-mul-le_self, div-le_self}
 use Rattle.std.proofs.lemmas.Nat.{le-div}
@@ -10,6 +10,8 @@ use Rattle.plp_config.specs.SlotTime.{num, den, IsSlotLength, window, window_slo
 use Rattle.plp_config.specs.declared.config.Config.{Config}
 use Rattle.packet_slots.specs.Sound.{IsSound}
 use Rattle.packet_slots.specs.declared.rule.SlotRule.{SlotRule}
+use Rattle.packet_slots.specs.Times.{over_after}
+use Rattle.plp_receiver.specs.StandsFor.{slots_over}
 use Rattle.plp_receiver.specs.Taken.{IsRule}
 
 divisor_pos : (d g : ℕ) → 1 ≤ d → d / g * g ≡ d → 1 ≤ g
@@ -105,3 +107,17 @@ same_window law c plp n d rules l is =
     let spread : k * d * g ≡ k * den c plp = (let e : k * d * g ≡ k * (d * g) = omega arith in e ∙ ap (λ (v : ℕ). k * v) whole_d) in
     ap (λ (v : ℕ). div_ceil ((v + c.ticks) * d) n + 2) same
     ∙ ap (λ (v : ℕ). v + 2) (sym (expands g (k * d) n pos) ∙ ap₂ div_ceil spread whole_n)
+
+-- slots are over by the same ticks
+pub same_slots : SlotLength → (c : Config) (plp : ℕ) (r : SlotRule) (frames : ℕ) → AllRules c → plp < length c.plps → IsRule c plp r → over_after r frames ≡ slots_over c plp frames
+same_slots law c plp r frames rules l is =
+    let s = is.slot in
+    let g : ℕ = s.0 in
+    let whole_d : r.den * g ≡ den c plp = ap (λ (v : ℕ). v * g) s.3 ∙ div-mul_cancel g s.1.1 in
+    let whole_n : r.num * g ≡ num c = ap (λ (v : ℕ). v * g) s.2 ∙ div-mul_cancel g s.1.0 in
+    let pos : 1 ≤ g = divisor_pos (den c plp) g (law c plp rules l).0 (div-mul_cancel g s.1.1) in
+    let tick : ℕ = frames * c.ticks in
+    let spread : tick * r.den * g ≡ tick * den c plp = (let e : tick * r.den * g ≡ tick * (r.den * g) = omega arith in e ∙ ap (λ (v : ℕ). tick * v) whole_d) in
+    ap (λ (t : ℕ). frames * t * r.den / r.num) is.ticks
+    ∙ sym (mul-div-mul_right {m = g} (tick * r.den) r.num pos)
+    ∙ ap₂ (λ (a b : ℕ). a / b) spread whole_n

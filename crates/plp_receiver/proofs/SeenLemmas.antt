@@ -1,9 +1,9 @@
 -- The cells of a block all stand exactly if none is missed where the record is gone over beside the map.
-use Rattle.std.proofs.Common.{◌≡◌, ℕ, zero, suc, ◌+◌, ◌<◌, ◌≤◌, ◌&&◌, ◌==◌, Bool, true, false, List, [], ◌∷◌, ◌++◌, length, take, get_or, Option, Some, None, refl, ap, sym, subst, ◌∙◌, arith}
-use Rattle.std.specs.Prelude.{slice_get, slice_index, sum, not, ◌||◌}
+use Rattle.std.proofs.Common.{◌≡◌, ℕ, zero, suc, ◌+◌, ◌<◌, ◌&&◌, ◌==◌, Bool, true, false, List, [], ◌∷◌, length, get_or, Option, Some, None, refl, ap, sym, subst, ◌∙◌, arith}
+use Rattle.std.specs.Prelude.{slice_get, not, ◌||◌}
 use Rattle.std.specs.FinMap.{get}
 use Rattle.std.specs.List.{list_all, range_with_len}
-use Rattle.std.proofs.lemmas.Bool.{true≢false, and_from, and_parts, both_ways, eqb-true, eq-eqb, true_from_ne_false}
+use Rattle.std.proofs.lemmas.Bool.{true≢false, and_from, and_parts, eqb-true, eq-eqb}
 use Rattle.std.proofs.lemmas.List.Folds.{list_all-append}
 use Rattle.terms.proofs.CaseLemmas.{bool_cases}
 use Rattle.terms.proofs.RangeLemmas.{places_more}
@@ -12,7 +12,7 @@ use Rattle.plp_config.specs.declared.config.Config.{Config}
 use Rattle.scheduler.specs.Shape.{FrameShape}
 use Rattle.cell_map.specs.Address.{IsCell, address_of}
 use Rattle.cell_map.specs.CellMap.{Passes, ordinal_of, cell_map}
-use Rattle.cell_map.specs.Laws.{MapHasEachCell, MapHasOnlyCells, StandsAt}
+use Rattle.cell_map.specs.Laws.{MapHasEachCell, MapHasOnlyCells}
 use Rattle.cell_map.specs.declared.places.Cell.{Cell}
 use Rattle.frame_tests.specs.MapTest.{each_below}
 use Rattle.plp_receiver.specs.Readable.{is_cell, stands, all_stand}

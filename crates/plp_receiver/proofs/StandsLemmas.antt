@@ -1,11 +1,11 @@
 -- What a receiver stands for, record by record.
-use Rattle.std.proofs.Common.{◌≡◌, ℕ, zero, suc, ◌+◌, ◌-◌, Bool, true, false, List, [], ◌∷◌, ◌++◌, length, Option, Some, None, refl, ap, sym, subst, ◌∙◌, arith}
+use Rattle.std.proofs.Common.{◌≡◌, ℕ, suc, ◌+◌, ◌-◌, ◌<◌, ◌≤◌, Bool, List, [], ◌∷◌, ◌++◌, length, Option, Some, refl, ap, sym, subst, ◌∙◌, arith}
 use Rattle.std.specs.Prelude.{slice_get, if◌then◌else◌}
 use Rattle.plp_config.specs.declared.config.Config.{Config}
 use Rattle.plp_config.specs.declared.moment.Moment.{Moment}
 use Rattle.site_frame.specs.declared.reading.RecordView.{RecordView}
 use Rattle.site_frame.specs.declared.reading.RecordView.TheVariants.{Frame, Muted}
-use Rattle.packet_slots.specs.Records.{Record, muted_record, framed_record, readback}
+use Rattle.packet_slots.specs.Records.{Record, muted_record, framed_record, readback, held_slots}
 use Rattle.site_frame.specs.Record as frame
 use Rattle.cell_map.specs.declared.places.Cell.{Cell}
 use Rattle.scheduler.specs.Shape.{FrameShape}
@@ -14,9 +14,13 @@ use Rattle.packet_slots.specs.declared.slots.PacketSlots.{PacketSlots}
 use Rattle.packet_slots.specs.declared.rule.SlotRule.{SlotRule}
 use Rattle.plp_receiver.specs.Readable.{readable}
 use Rattle.plp_receiver.specs.Laws.{ReadbackOnce}
-use Rattle.plp_receiver.specs.StandsFor.{Stands, Fresh}
+use Rattle.packet_slots.specs.Times.{over_after}
+use Rattle.plp_config.specs.Laws.{SlotLength}
+use Rattle.plp_config.specs.Rules.{AllRules}
+use Rattle.plp_receiver.specs.StandsFor.{Stands, Fresh, slots_over, slots_come}
 use Rattle.plp_receiver.specs.Taken.{TellsShape, Tells, TellAll, Readback}
 use Rattle.plp_receiver.specs.Taking.{Comes, TakesFrame, TakesRecord}
+use Rattle.plp_receiver.proofs.RuleLemmas.{same_slots}
 
 -- one record more
 tell_more : (c : Config) (plp n m : ℕ) (views : List RecordView) (told : List Record) (view : RecordView) (r : Record) → TellAll c plp n views told → m ≡ n + length views
@@ -70,7 +74,7 @@ is_empty c plp old f = f.fresh.empty
 
 -- ---- what is given out
 -- the packets that the slots show
-given_back : (c : Config) (plp : ℕ) (p : PacketSlots) (first : ℕ) (views : List RecordView) (released : ℕ) → (s : Stands c plp p first views released) → Readback c plp first views (readback s.rule first s.told)
+pub given_back : (c : Config) (plp : ℕ) (p : PacketSlots) (first : ℕ) (views : List RecordView) (released : ℕ) → (s : Stands c plp p first views released) → Readback c plp first views (readback s.rule first s.told)
 given_back c plp p first views released s = record { rule = s.rule; rule_is = s.rule_is; told = s.told; tells = s.tells; packets_are = refl }
 
 pub due_is : ReadbackOnce → (c : Config) (plp : ℕ) (p : PacketSlots) (first : ℕ) (views : List RecordView) (released : ℕ) (packets : List (List ℕ)) (due : ℕ)
@@ -80,6 +84,23 @@ pub due_is : ReadbackOnce → (c : Config) (plp : ℕ) (p : PacketSlots) (first 
 due_is once c plp p first views released packets due s b answer =
     answer s.rule first s.told released s.stands
     ∙ ap (λ (l : List (List ℕ)). length l - released) (once c plp first views (readback s.rule first s.told) packets (given_back c plp p first views released s) b)
+
+pub none_is : ReadbackOnce → (c : Config) (plp : ℕ) (p : PacketSlots) (first : ℕ) (views : List RecordView) (released : ℕ) (packets : List (List ℕ))
+    → Stands c plp p first views released → Readback c plp first views packets
+    → ((r : SlotRule) (first : ℕ) (records : List Record) (released : ℕ) → slots.StandsFor p r first records released → length (readback r first records) ≤ released)
+    → length packets ≤ released
+none_is once c plp p first views released packets s b answer =
+    subst (λ (l : List (List ℕ)). length l ≤ released) (once c plp first views (readback s.rule first s.told) packets (given_back c plp p first views released s) b)
+    (answer s.rule first s.told released s.stands)
+
+pub held_is : SlotLength → (c : Config) (plp : ℕ) (p : PacketSlots) (first : ℕ) (views : List RecordView) (released held : ℕ) → AllRules c → plp < length c.plps → Stands c plp p first views released
+    → ((r : SlotRule) (first : ℕ) (records : List Record) (released : ℕ) → slots.StandsFor p r first records released → held ≡ held_slots r first (length records) - released)
+    → held ≡ slots_come c plp first (length views) - released
+held_is law c plp p first views released held rules inside s answer =
+    answer s.rule first s.told released s.stands
+    ∙ ap (λ (n : ℕ). held_slots s.rule first n - released) (same_count c plp first views s.told s.tells)
+    ∙ ap (λ (n : ℕ). n - over_after s.rule (first - 1) - released) (same_slots law c plp s.rule (first + length views - 1) rules inside s.rule_is)
+    ∙ ap (λ (n : ℕ). slots_over c plp (first + length views - 1) - n - released) (same_slots law c plp s.rule (first - 1) rules inside s.rule_is)
 
 pub packet_is : ReadbackOnce → (c : Config) (plp : ℕ) (p : PacketSlots) (first : ℕ) (views : List RecordView) (released : ℕ) (packets : List (List ℕ)) (out : List ℕ)
     → Stands c plp p first views released → Readback c plp first views packets

@@ -1,16 +1,19 @@
 -- What is taken of bytes.
 use Rattle.std.proofs.Common.{◌≡◌, ◌⊎◌, ℕ, zero, suc, ◌+◌, ◌*◌, ◌/◌, ◌%◌, ◌==◌, ◌<◌, ◌≤◌, Bool, true, false, List, [], ◌∷◌, length, take, drop, get_or, Option, Some, None, refl, ap, ◌∙◌, sym, subst, arith, inl, inr, cond}
-use Rattle.std.specs.Prelude.{if◌then◌else◌}
+use Rattle.std.specs.Prelude.{if◌then◌else◌, Result, Ok, Err}
 use Rattle.std.proofs.lemmas.Bool.{both_ways, eq-eqb}
 use Rattle.std.proofs.lemmas.List.{get_or-drop, length-take, length-drop}
 use Rattle.terms.specs.Bits.{bits_of, bytes_of, part}
 use Rattle.terms.proofs.BitLemmas.{length-bits_of, bytes_of-bits_of, part-bits_of}
 use Rattle.bb_frame.specs.BasebandFrame.{Spells}
 use Rattle.bb_frame.specs.declared.header.Header.{Header}
-use Rattle.bb_frame.proofs.FrameLemmas.{Bounded, placed}
+use Rattle.bb_frame.specs.Laws.{BitCounts}
+use Rattle.bb_frame.specs.declared.fault.BbFault.{BbFault}
+use Rattle.bb_frame.specs.declared.reading.BbView.{BbView}
 use Rattle.packet_slots.specs.Strings.{Block}
 use Rattle.packet_slots.specs.Both.{IsPlace}
 use Rattle.plp_receiver.specs.Taken.{IsOfStream, IsTaken}
+use Rattle.plp_receiver.proofs.SpelledLemmas.{field_behind}
 
 abbrev pub block_with : Option ℕ → ℕ → List ℕ → Block
 block_with first issy field = record { first = first; issy = issy; field = field }
@@ -25,40 +28,44 @@ small_part : (bytes : List ℕ) → ((k : ℕ) → get_or bytes k 0 < 256) → (
 small_part bytes small at count k = small_take count (drop at bytes) (λ j. subst (λ (v : ℕ). v < 256) (sym (get_or-drop at bytes j 0)) (small (at + j))) k
 
 -- the data field's bytes
-pub field_is : Bounded → (bytes : List ℕ) → ((k : ℕ) → get_or bytes k 0 < 256) → (h : Header) (body : List Bool) → Spells h body (bits_of bytes)
+pub field_is : BitCounts → (bytes : List ℕ) → ((k : ℕ) → get_or bytes k 0 < 256) → (h : Header) (body : List Bool) → Spells h body (bits_of bytes)
     → (10 + h.dfl / 8 ≤ length bytes) × (bytes_of body ≡ take (h.dfl / 8) (drop 10 bytes))
-field_is bounded bytes small h body s =
-    let r = placed bounded h body (bits_of bytes) s in
+field_is counts bytes small h body s =
+    let r = field_behind counts h body (bits_of bytes) s in
     let e : h.dfl ≡ 8 * (h.dfl / 8) = let d = s.describes.bytes in omega (arith, d) in
-    let f = r.fields.dfl in
-    let l = r.len.1 in
-    let fits : 10 + h.dfl / 8 ≤ length bytes = omega (arith, l, f, length-bits_of bytes, e) in
+    let l = r.0 in
+    let fits : 10 + h.dfl / 8 ≤ length bytes = omega (arith, l, length-bits_of bytes, e) in
     let field : body ≡ bits_of (take (h.dfl / 8) (drop 10 bytes)) =
-    r.taken ∙ ap (λ (n : ℕ). part (bits_of bytes) 80 n) e ∙ part-bits_of bytes 10 (h.dfl / 8) fits in
+    r.1 ∙ ap (λ (n : ℕ). part (bits_of bytes) 80 n) e ∙ part-bits_of bytes 10 (h.dfl / 8) fits in
     (fits, ap bytes_of field ∙ bytes_of-bits_of (take (h.dfl / 8) (drop 10 bytes)) (λ k. small_part bytes small 10 (h.dfl / 8) k))
 
-pub taken_is : Bounded → (bytes : List ℕ) → ((k : ℕ) → get_or bytes k 0 < 256) → (h : Header) (body : List Bool) → Spells h body (bits_of bytes) → (deletes : Bool) → IsOfStream deletes h.matype1
+pub taken_is : BitCounts → (bytes : List ℕ) → ((k : ℕ) → get_or bytes k 0 < 256) → (h : Header) (body : List Bool) → Spells h body (bits_of bytes) → (deletes : Bool) → IsOfStream deletes h.matype1
     → IsTaken deletes (bits_of bytes) (block_with (if h.syncd == 65535 then None else Some (h.syncd / 8)) h.issy (take (h.dfl / 8) (drop 10 bytes)))
-taken_is bounded bytes small h body s deletes stream = record {
+taken_is counts bytes small h body s deletes stream = record {
   header = h;
   body = body;
   spelled = s;
   stream = stream;
-  block = ap (λ (f : List ℕ). block_with (if h.syncd == 65535 then None else Some (h.syncd / 8)) h.issy f) (sym (field_is bounded bytes small h body s).1);
+  block = ap (λ (f : List ℕ). block_with (if h.syncd == 65535 then None else Some (h.syncd / 8)) h.issy f) (sym (field_is counts bytes small h body s).1);
 }
 
 -- the first user packet begins in the data field
-pub place_is : Bounded → (bytes : List ℕ) → ((k : ℕ) → get_or bytes k 0 < 256) → (h : Header) (body : List Bool) → Spells h body (bits_of bytes)
+pub place_is : BitCounts → (bytes : List ℕ) → ((k : ℕ) → get_or bytes k 0 < 256) → (h : Header) (body : List Bool) → Spells h body (bits_of bytes)
     → IsPlace (if h.syncd == 65535 then None else Some (h.syncd / 8)) (h.dfl / 8)
-place_is bounded bytes small h body s = go (h.syncd == 65535) refl s.describes.sync
+place_is counts bytes small h body s = go (h.syncd == 65535) refl s.describes.sync
   where
     go : (b : Bool) → (h.syncd == 65535) ≡ b → (h.syncd ≡ 65535) ⊎ ((h.syncd % 8 ≡ 0) × (h.syncd < h.dfl)) → IsPlace (cond b None (Some (h.syncd / 8))) (h.dfl / 8)
     go true e p = tt
     go false e (inl p) = absurd (both_ways _ e (eq-eqb h.syncd 65535 p))
     go false e (inr p) = let d = s.describes.bytes in omega (arith, p.0, p.1, d)
 
-pub same_matype : Bounded → (bits : List Bool) (h k : Header) (body other : List Bool) → Spells h body bits → Spells k other bits → h.matype1 ≡ k.matype1
-same_matype bounded bits h k body other s t = (placed bounded h body bits s).fields.matype1 ∙ sym (placed bounded k other bits t).fields.matype1
+-- what was read is what the bits spell
+pub same_matype : (r : Result BbView BbFault) (view : BbView) (h : Header) (body : List Bool) → r ≡ Ok view → r ≡ Ok (record { header = h; field = body }) → h.matype1 ≡ view.header.matype1
+same_matype r view h body e f = ap matype (sym f ∙ e)
+  where
+    matype : Result BbView BbFault → ℕ
+    matype (Ok v) = v.header.matype1
+    matype (Err fault) = 0
 
 pub field_len : (bytes : List ℕ) (n : ℕ) → 10 + n ≤ length bytes → length (take n (drop 10 bytes)) ≡ n
 field_len bytes n l = omega (arith, length-take n (drop 10 bytes), length-drop 10 bytes, l)

@@ -1,8 +1,8 @@
 -- Which records of frames are readable, and what they tell (EN 302 755, clauses 5 to 8).
-use Rattle.std.specs.Prelude.{ℕ, ◌+◌, ◌-◌, ◌*◌, ◌==◌, ◌&&◌, nat_lt, Bool, true, false, List, [], ◌∷◌, length, take, drop, map, replicate, slice_get, slice_index, Option, Some, None, if◌then◌else◌, option_map}
+use Rattle.std.specs.Prelude.{ℕ, ◌+◌, ◌-◌, ◌*◌, ◌==◌, ◌&&◌, Bool, true, false, List, length, take, replicate, slice_get, slice_index, Option, Some, None, if◌then◌else◌, option_map}
 use Rattle.std.specs.Bool.{beq}
 use Rattle.std.specs.Cmp.Lexicographic.{pointwise}
-use Rattle.std.specs.List.{flat_map, list_all, range_with_len}
+use Rattle.std.specs.List.{flat_map}
 use Rattle.terms.specs.Bits.{part}
 use Rattle.plp_config.specs.Capacity.{block_bytes, block_cells}
 use Rattle.plp_config.specs.Places.{places}

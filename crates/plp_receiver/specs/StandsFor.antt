@@ -1,5 +1,6 @@
 -- What a `Receiver` stands for.
-use Rattle.std.specs.Prelude.{◌≡◌, ℕ, List, []}
+use Rattle.std.specs.Prelude.{ℕ, ◌+◌, ◌-◌, ◌*◌, List}
+use Rattle.plp_config.specs.SlotTime.{slots_by}
 use Rattle.plp_config.specs.declared.config.Config.{Config}
 use Rattle.site_frame.specs.declared.reading.RecordView.{RecordView}
 use Rattle.packet_slots.specs.Records.{Record}
@@ -35,6 +36,13 @@ frame_of v = slots.frame_of v.slots
 
 abbrev pub due_of : Receiver → ℕ
 due_of v = slots.due_of v.slots
+
+-- how many slots of a PLP are over when so many frames have come; and how many from the slot on at which the output begins
+abbrev pub slots_over : Config → ℕ → ℕ → ℕ
+slots_over c plp frames = slots_by c plp (frames * c.ticks)
+
+abbrev pub slots_come : Config → ℕ → ℕ → ℕ → ℕ
+slots_come c plp first count = slots_over c plp (first + count - 1) - slots_over c plp (first - 1)
 
 -- These records came, the first of them of this frame, and so many slots were given out.
 unfoldable pub StandsFor : Receiver → ℕ → List RecordView → ℕ → Type 0

@@ -1,7 +1,7 @@
 // Laws of the definitions. Their functions do nothing.
 ghost use Rattle.plp_receiver.specs.Laws.{ReadbackOnce, ReadbackFront};
 
-use bit_slice::crc8_law;
+use bb_frame::bit_counts;
 use packet_slots::readback_law as slots_law;
 use plp_config::{block_law, length_law};
 
@@ -10,7 +10,7 @@ pub fn readback_law()
     ensures once { ReadbackOnce }
     ensures front { ReadbackFront }
 {
-    crc8_law();
+    bit_counts();
     length_law();
     block_law();
     slots_law();

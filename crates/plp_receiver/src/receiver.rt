@@ -14,7 +14,7 @@ use bit_slice::{BitSlice, OutOfMemory};
 use frame_tests::{Network, map_test_law};
 use l1_signal::L1Dyn;
 use packet_slots::PacketSlots;
-use plp_config::{MOST_BLOCK_BYTES, Plan};
+use plp_config::{MOST_BLOCK_BYTES, Plan, length_law};
 use scheduler::Shape;
 use site_frame::{Blocks, Cells, RecordView};
 use std::alloc::Global;
@@ -53,7 +53,7 @@ impl<'p> Receiver<'p> {
     ghost use Rattle.site_frame.specs.declared.reading.RecordView.TheVariants.{Frame};
     ghost use Rattle.plp_receiver.specs.Readable.{shape_agrees};
     ghost use Rattle.plp_receiver.specs.Taking.{TakesRecord, TakesFrame};
-    ghost use Rattle.plp_receiver.specs.StandsFor.{StandsFor, IsFresh, network_of, plp_of, frame_of, due_of};
+    ghost use Rattle.plp_receiver.specs.StandsFor.{StandsFor, IsFresh, slots_come, network_of, plp_of, frame_of, due_of};
 
     /// Takes all the memory that is needed to receive the PLP at a place.
     ///
@@ -83,6 +83,7 @@ impl<'p> Receiver<'p> {
         requires small { first < MOST_FRAMES }
         requires fresh { IsFresh self.old }
         ensures stands { StandsFor self.new first [] 0 }
+        ensures due { due_of self.new ≡ 0 }
         ensures frame { frame_of self.new ≡ first }
         ensures network { network_of self.new ≡ network_of self.old }
         ensures plp { plp_of self.new ≡ plp_of self.old }
@@ -169,6 +170,9 @@ impl<'p> Receiver<'p> {
     /// How many slots are due and not given out.
     pub fn due(&self) -> u64
         ensures value { result ≡ due_of self.now }
+        ensures fresh { IsFresh self.now → result ≡ 0 }
+        ensures some { (first : ℕ) (views : List RecordView) (released : ℕ) → StandsFor self.now first views released
+            → (packets : List (List ℕ)) × Readback (network_of self.now) (plp_of self.now) first views packets }
         ensures answer { (first : ℕ) (views : List RecordView) (released : ℕ) (packets : List (List ℕ)) → StandsFor self.now first views released
             → Readback (network_of self.now) (plp_of self.now) first views packets → result ≡ length packets - released }
     {
@@ -178,8 +182,13 @@ impl<'p> Receiver<'p> {
 
     /// How many slots are in the window: those that have come into range and were not given out.
     pub fn held(&self) -> u64
+        ensures fresh { IsFresh self.now → result ≡ 0 }
         ensures most { result ≤ window (network_of self.now) (plp_of self.now) }
+        ensures answer { (first : ℕ) (views : List RecordView) (released : ℕ) → StandsFor self.now first views released
+            → result ≡ slots_come (network_of self.now) (plp_of self.now) first (length views) - released }
     {
+        length_law();
+        self.network.plan().obeys_rules();
         self.slots.held()
     }
 
@@ -189,6 +198,8 @@ impl<'p> Receiver<'p> {
             → StandsFor self.new first views (if result then released + 1 else released) }
         ensures answer { result ≡ true → (first : ℕ) (views : List RecordView) (released : ℕ) (packets : List (List ℕ)) → StandsFor self.old first views released
             → Readback (network_of self.old) (plp_of self.old) first views packets → slice_get packets released ≡ Some out.new }
+        ensures none { result ≡ false → (first : ℕ) (views : List RecordView) (released : ℕ) (packets : List (List ℕ)) → StandsFor self.old first views released
+            → Readback (network_of self.old) (plp_of self.old) first views packets → length packets ≤ released }
         ensures exact { result ≡ nat_lt 0 (due_of self.old) }
         ensures due { due_of self.new ≡ due_of self.old - 1 }
         ensures kept { result ≡ false → out.new ≡ out.old }

@@ -6,8 +6,8 @@ ghost use Rattle.packet_slots.specs.Strings.{Block};
 ghost use Rattle.packet_slots.specs.Both.{block_of, IsPlace};
 ghost use Rattle.plp_receiver.specs.Taken.{IsOfStream, IsTaken, no_start};
 
-use bb_frame::{read_frame, scramble};
-use bit_slice::{BitSlice, crc8_law};
+use bb_frame::{bit_counts, read_frame, scramble};
+use bit_slice::BitSlice;
 use packet_slots::TakenBlock;
 
 // The bytes of a header.
@@ -47,7 +47,7 @@ pub fn taken_block(block: &[u8], deletes: bool) -> Option<TakenBlock<'_>>
     ensures places { IfSome result (λ b. IsPlace b.first (length b.field.now)) }
     ensures none { result ≡ None → (b : Block) → ¬ (IsTaken deletes (bits_of block.now) b) }
 {
-    crc8_law();
+    bit_counts();
     let Ok(view) = read_frame(BitSlice::whole(block)) else {
         return None;
     };

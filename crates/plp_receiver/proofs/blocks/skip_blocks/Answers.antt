@@ -1,4 +1,3 @@
-use Rattle.std.proofs.Common.{List, ℕ}
 use Rattle.site_frame.specs.Reading.{block_of}
 use Rattle.plp_receiver.proofs.ListLemmas.{gone_past}
 use Rattle.plp_receiver.proofs.blocks.skip_blocks.Goals as goal

@@ -1,5 +1,4 @@
-use Rattle.std.proofs.Common.{◌≡◌, ◌∙◌, ◌≤◌, ◌<◌, ◌^◌, ℕ, List, [], false, length, get_or, Option, refl, ap, sym, subst, arith}
-use Rattle.std.specs.Prelude.{slice_get}
+use Rattle.std.proofs.Common.{◌≡◌, ◌∙◌, ℕ, [], false, length, get_or, Option, refl, ap, sym, subst, arith}
 use Rattle.std.specs.Option.{option_map_or}
 use Rattle.site_frame.specs.Record.{Block}
 use Rattle.site_frame.specs.Reading.{block_of}

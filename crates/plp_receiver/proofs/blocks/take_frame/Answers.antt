@@ -1,7 +1,6 @@
-use Rattle.std.proofs.Common.{◌≡◌, ◌∙◌, ℕ, List, length, take, drop, ap, subst, sym, arith}
+use Rattle.std.proofs.Common.{◌≡◌, ◌∙◌, ℕ, length, take, drop, ap, subst, sym, arith}
 use Rattle.std.specs.Prelude.{slice_index, sum}
 use Rattle.std.proofs.lemmas.List.{length-take-le}
-use Rattle.site_frame.specs.Record.{Block}
 use Rattle.plp_receiver.specs.Taking.{HaveBytes}
 use Rattle.plp_receiver.proofs.SizeLemmas.{have_bytes}
 use Rattle.plp_receiver.proofs.TakeLemmas.{agrees, frame_taken}

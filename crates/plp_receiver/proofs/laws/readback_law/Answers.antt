@@ -2,8 +2,8 @@ use Rattle.plp_receiver.proofs.UniqueLemmas.{readback_once, readback_front}
 use Rattle.plp_receiver.proofs.laws.readback_law.Goals as goal
 
 pub returns-clause-once : goal.returns-clause-once
-returns-clause-once c = readback_once (λ w. (c.crc8_law.ensures w).0)
+returns-clause-once c = readback_once c.bit_counts.ensures
 
 pub returns-clause-front : goal.returns-clause-front
 returns-clause-front c =
-    readback_front (λ w. (c.crc8_law.ensures w).0) c.length_law.ensures.slot c.length_law.ensures.frame c.block_law.ensures.user_packet c.readback_law.ensures
+    readback_front c.bit_counts.ensures c.length_law.ensures.slot c.length_law.ensures.frame c.block_law.ensures.user_packet c.readback_law.ensures

@@ -1,4 +1,4 @@
-use Rattle.std.proofs.Common.{◌≡◌, ◌∙◌, sym, subst, ap, Bool, List, take, length, ℕ, arith}
+use Rattle.std.proofs.Common.{◌≡◌, ◌∙◌, subst, Bool, List, arith}
 use Rattle.std.specs.Prelude.{OnOk, IfErr}
 use Rattle.std.proofs.lemmas.List.{take_all}
 use Rattle.l1_signal.specs.CrcField.{EndsInCrc, RefusesPost}

@@ -1,4 +1,4 @@
-use Rattle.std.proofs.Common.{◌≡◌, ◌∙◌, ap, ℕ, Bool, refl, arith}
+use Rattle.std.proofs.Common.{◌≡◌, ◌∙◌, ap, ℕ}
 use Rattle.plp_config.specs.SlotTime.{window_slots, delay_ticks}
 use Rattle.plp_config.specs.declared.config.Config.{Config}
 use Rattle.plp_receiver.proofs.RuleLemmas.{rule_sound, same_window}

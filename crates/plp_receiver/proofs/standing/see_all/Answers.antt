@@ -1,10 +1,8 @@
-use Rattle.std.proofs.Common.{◌≡◌, ◌∙◌, ◌<◌, ◌+◌, ℕ, false, get_or, length, Option, Some, refl, ap, sym, subst, arith}
-use Rattle.std.specs.Prelude.{slice_get}
+use Rattle.std.proofs.Common.{◌≡◌, ◌∙◌, ◌+◌, false, get_or, ap, sym, arith}
 use Rattle.std.specs.FinMap.{get}
 use Rattle.plp_config.specs.declared.config.Config.{Config}
 use Rattle.cell_map.specs.CellMap.{cell_map}
 use Rattle.cell_map.specs.Reading.{Reading, next_address}
-use Rattle.cell_map.specs.declared.places.Cell.{Cell}
 use Rattle.plp_receiver.proofs.ListLemmas.{gone_past, next_is, some_left}
 use Rattle.plp_receiver.proofs.SeenLemmas.{seen_more}
 use Rattle.plp_receiver.proofs.standing.see_all.Goals as goal

@@ -1,8 +1,12 @@
 use Rattle.std.proofs.Common.{◌∙◌}
-use Rattle.packet_slots.specs.StandsFor.{StandsFor}
-use Rattle.packet_slots.proofs.StandsLemmas.{held_is}
+use Rattle.packet_slots.specs.StandsFor.{StandsFor, IsFresh}
+use Rattle.packet_slots.proofs.StandsLemmas.{held_is, fresh_held}
 use Rattle.packet_slots.proofs.slots.PacketSlots.held.Goals as goal
 
 pub returns-clause-answer : goal.returns-clause-answer
 unfolding StandsFor
 returns-clause-answer c = λ r first records released h. c.held.ensures.value ∙ held_is c.args.self.now.assembler c.args.self.now.window c.args.self.now.frame r first records released h
+
+pub returns-clause-fresh : goal.returns-clause-fresh
+unfolding IsFresh
+returns-clause-fresh c = λ r h. c.held.ensures.value ∙ fresh_held c.args.self.now.assembler c.args.self.now.window r h

@@ -1,4 +1,4 @@
-use Rattle.std.proofs.Common.{ℕ, subst, sym}
+use Rattle.std.proofs.Common.{subst, sym}
 use Rattle.plp_config.specs.declared.config.Config.{Config}
 use Rattle.plp_receiver.specs.StandsFor.{IsFresh, Fresh}
 use Rattle.plp_receiver.proofs.receiver.Receiver.open.Goals as goal

@@ -1,5 +1,5 @@
 use Rattle.plp_receiver.specs.StandsFor.{StandsFor}
-use Rattle.plp_receiver.proofs.StandsLemmas.{released_or_not, packet_is}
+use Rattle.plp_receiver.proofs.StandsLemmas.{released_or_not, packet_is, none_is}
 use Rattle.plp_receiver.proofs.receiver.Receiver.release.Goals as goal
 
 pub returns-clause-stands : goal.returns-clause-stands
@@ -11,3 +11,8 @@ pub returns-clause-answer : goal.returns-clause-answer
 unfolding StandsFor
 returns-clause-answer c = λ e first views released packets s b.
     packet_is c.readback_law.ensures.once c.args.self.now.network c.args.self.now.plp c.args.self.now.slots first views released packets c.release.new.out s b (c.release.ensures.answer e)
+
+pub returns-clause-none : goal.returns-clause-none
+unfolding StandsFor
+returns-clause-none c = λ e first views released packets s b.
+    none_is c.readback_law.ensures.once c.args.self.now.network c.args.self.now.plp c.args.self.now.slots first views released packets s b (c.release.ensures.none e)

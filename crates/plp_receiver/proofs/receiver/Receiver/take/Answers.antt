@@ -1,4 +1,4 @@
-use Rattle.std.proofs.Common.{◌≡◌, ◌∙◌, ap, arith}
+use Rattle.std.proofs.Common.{◌∙◌, ap, arith}
 use Rattle.plp_config.specs.SlotTime.{window_slots}
 use Rattle.packet_slots.specs.Times.{delay_of}
 use Rattle.packet_slots.specs.declared.rule.SlotRule.{SlotRule}
