@@ -4,7 +4,7 @@
 #[cfg(test)]
 mod configuration;
 #[cfg(test)]
-mod damage;
+mod damaged_units;
 #[cfg(test)]
 mod gateway;
 #[cfg(test)]

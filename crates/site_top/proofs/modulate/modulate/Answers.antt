@@ -23,8 +23,8 @@ returns-in-Ok-run g c =
       ),
     )
 
-pub returns-in-Err-run : goal.returns-in-Err-run
-returns-in-Err-run g c =
+pub returns : goal.returns
+returns g c =
     inr (
       _,
       _,
