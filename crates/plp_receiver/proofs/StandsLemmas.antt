@@ -1,6 +1,6 @@
 -- What a receiver stands for, record by record.
-use Rattle.std.proofs.Common.{◌≡◌, ℕ, suc, ◌+◌, ◌-◌, ◌<◌, ◌≤◌, Bool, List, [], ◌∷◌, ◌++◌, length, Option, Some, refl, ap, sym, subst, ◌∙◌, arith}
-use Rattle.std.specs.Prelude.{slice_get, if◌then◌else◌}
+use Rattle.std.proofs.Common.{◌≡◌, ℕ, suc, ◌+◌, ◌-◌, ◌<◌, ◌≤◌, Bool, false, List, [], ◌∷◌, ◌++◌, length, Option, Some, refl, ap, sym, subst, ◌∙◌, arith}
+use Rattle.std.specs.Prelude.{slice_get, nat_lt, if◌then◌else◌}
 use Rattle.plp_config.specs.declared.config.Config.{Config}
 use Rattle.plp_config.specs.declared.moment.Moment.{Moment}
 use Rattle.site_frame.specs.declared.reading.RecordView.{RecordView}
@@ -73,6 +73,15 @@ unfolding slots.IsFresh
 is_empty c plp old f = f.fresh.empty
 
 -- ---- what is given out
+-- none is due before a record came
+none_due : (p : PacketSlots) (r : SlotRule) → slots.IsFresh p r → slots.due_of p ≡ 0
+unfolding slots.IsFresh
+none_due p r f = let none = ap length f.empty in let span = p.window.span in let known = p.window.known in omega (arith, none, span, known)
+
+pub still_fresh : (c : Config) (plp : ℕ) (old new : PacketSlots) → Fresh c plp old → (result : Bool) → result ≡ nat_lt 0 (slots.due_of old) → (result ≡ false → new ≡ old) → Fresh c plp new
+still_fresh c plp old new f result due same =
+    subst (Fresh c plp) (sym (same (due ∙ ap (nat_lt 0) (none_due old f.rule f.fresh)))) f
+
 -- the packets that the slots show
 pub given_back : (c : Config) (plp : ℕ) (p : PacketSlots) (first : ℕ) (views : List RecordView) (released : ℕ) → (s : Stands c plp p first views released) → Readback c plp first views (readback s.rule first s.told)
 given_back c plp p first views released s = record { rule = s.rule; rule_is = s.rule_is; told = s.told; tells = s.tells; packets_are = refl }

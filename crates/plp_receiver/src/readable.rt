@@ -54,19 +54,11 @@ fn is_post(network: &Network<'_>, number: u64, post: &BitSlice<'_>, dynamic: &mu
 {
     let conf = conf_len(network.plan());
     let len = dyn_len(network.plan());
-    if post.len() != conf + len + CRC {
-        return false;
-    }
-    if !has_crc(post) {
-        return false;
-    }
-    if !is_network_conf(network, &post.sub(0, conf)) {
-        return false;
-    }
-    if !read_dynamic(&post.sub(conf, len), dynamic) {
-        return false;
-    }
-    is_of_frame(network.plan(), number, dynamic)
+    post.len() == conf + len + CRC
+        && has_crc(post)
+        && is_network_conf(network, &post.sub(0, conf))
+        && read_dynamic(&post.sub(conf, len), dynamic)
+        && is_of_frame(network.plan(), number, dynamic)
 }
 
 fn is_block(id: u8, len: u32, plp: u8, block: &[u8]) -> bool
@@ -133,10 +125,7 @@ pub fn is_readable(
     ensures rows { length dynamic.new.plps ≡ length dynamic.old.plps }
     ensures plps { length shape.new.counts ≡ length shape.old.counts }
 {
-    if !is_pre(network.plan(), pre, true) {
-        return false;
-    }
-    if !is_post(network, number, post, dynamic) {
+    if !is_pre(network.plan(), pre, true) || !is_post(network, number, post, dynamic) {
         return false;
     }
     tell_shape(dynamic, shape);

@@ -29,7 +29,7 @@ pub struct Receiver<'p> {
     network: Network<'p>,
     plp: usize,
     slots: PacketSlots,
-    // Of the last frame that was read.
+    // Room for what a record tells.
     dynamic: L1Dyn,
     shape: Shape,
     // Of each block of the PLP, whether all its cells stand.
@@ -200,6 +200,7 @@ impl<'p> Receiver<'p> {
             → Readback (network_of self.old) (plp_of self.old) first views packets → slice_get packets released ≡ Some out.new }
         ensures none { result ≡ false → (first : ℕ) (views : List RecordView) (released : ℕ) (packets : List (List ℕ)) → StandsFor self.old first views released
             → Readback (network_of self.old) (plp_of self.old) first views packets → length packets ≤ released }
+        ensures fresh { IsFresh self.old → IsFresh self.new }
         ensures exact { result ≡ nat_lt 0 (due_of self.old) }
         ensures due { due_of self.new ≡ due_of self.old - 1 }
         ensures kept { result ≡ false → out.new ≡ out.old }

@@ -81,6 +81,9 @@ pub fn tell_standing(plan: &Plan, shape: &Shape, plp: usize, cells: &Words<'_>, 
 {
     map_law();
     plan.obeys_rules();
+    if stands.is_empty() {
+        return;
+    }
     let first = first_ordinal(shape, plp);
     stands.fill(true);
     see_all(plan, shape, cells, first, stands);

@@ -1,5 +1,5 @@
-use Rattle.plp_receiver.specs.StandsFor.{StandsFor}
-use Rattle.plp_receiver.proofs.StandsLemmas.{released_or_not, packet_is, none_is}
+use Rattle.plp_receiver.specs.StandsFor.{StandsFor, IsFresh}
+use Rattle.plp_receiver.proofs.StandsLemmas.{released_or_not, packet_is, none_is, still_fresh}
 use Rattle.plp_receiver.proofs.receiver.Receiver.release.Goals as goal
 
 pub returns-clause-stands : goal.returns-clause-stands
@@ -16,3 +16,7 @@ pub returns-clause-none : goal.returns-clause-none
 unfolding StandsFor
 returns-clause-none c = λ e first views released packets s b.
     none_is c.readback_law.ensures.once c.args.self.now.network c.args.self.now.plp c.args.self.now.slots first views released packets s b (c.release.ensures.none e)
+
+pub returns-clause-fresh : goal.returns-clause-fresh
+unfolding IsFresh
+returns-clause-fresh c = λ f. still_fresh c.args.self.now.network c.args.self.now.plp c.args.self.now.slots c.release.new.self f c.release.result c.release.ensures.exact c.release.ensures.same
