@@ -92,7 +92,9 @@ fn record_of(whole: &[u8], frame: usize) -> &[u8] {
 
 // The record of a muted frame: it would leave 700,000 subseconds behind the one before it.
 fn muted_record(frame: usize) -> [u8; 24] {
-    let subseconds = ((frame % FRAMES) as u32).wrapping_mul(700_000).to_be_bytes();
+    let subseconds = ((frame % FRAMES) as u32)
+        .wrapping_mul(700_000)
+        .to_be_bytes();
     let mut record = [0; 24];
     record[..5].copy_from_slice(&[0x54, 0x32, 0x46, 0x52, 2]);
     record[12..16].copy_from_slice(&[0x29, 0xB9, 0x27, 0x00]);
