@@ -18,7 +18,7 @@ capped slot = option_map (λ k. min k far) slot
 abbrev pub slot_with : Base → ℕ → Option ℕ
 slot_with base dnp = if base.timed then base.slot else option_map (λ k. min (k + 1 + dnp) far) base.slot
 
--- the slot of what is held, or where nothing is held of the user packet before
+-- the slot of what is held, or, if nothing is, of the user packet before
 abbrev pub IsBase : SlotRule → List Item → Option ℕ → Base → Type 0
 IsBase r [] before base = base.slot ≡ capped before
 IsBase r (x ∷ xs) before base = (base.frame ≡ x.frame) × ((dnp : ℕ) → slot_with base dnp ≡ capped (slot_by r x.mark x.frame dnp before))
