@@ -39,7 +39,7 @@ use Rattle.frame_records.proofs.RecordLemmas.{found}
 use Rattle.site_frame.specs.declared.reading.RecordView.{RecordView}
 use Rattle.site_frame.specs.declared.reading.RecordView.TheVariants.{Muted}
 use Rattle.frame_records.proofs.FrameLemmas.{length-block, block_len, cells_count}
-use Rattle.terms.proofs.AllLemmas.{all_append}
+use Rattle.terms.proofs.AllLemmas.{all_append, all_map}
 use Rattle.bb_frame.specs.Laws.{BitCounts}
 
 -- ---- L1-pre
@@ -110,10 +110,6 @@ all_blocks c inputs n (plp ∷ plps) =
     ∙ sym (sum_by-cons (counts c inputs n) plp plps)
 
 -- ---- each block and each cell
-
-all_map : {X Y : Type 0} (P : Y → Type 0) (f : X → Y) (xs : List X) → ((x : X) → P (f x)) → AllByRecursion P (map f xs)
-all_map P f [] each = tt
-all_map P f (x ∷ xs) each = (each x, all_map P f xs each)
 
 pub all_map_twice : {X Y Z : Type 0} (P : Z → Type 0) (g : Y → Z) (f : X → Y) (xs : List X) → ((x : X) → P (g (f x))) → AllByRecursion P (map g (map f xs))
 all_map_twice P g f [] each = tt

@@ -37,8 +37,7 @@ use Rattle.frame_tests.specs.MapTest.{map_passes}
 
 -- a test: nothing if it holds
 abbrev pub unless : Bool → MuteCause → Option MuteCause
-unless true cause = None
-unless false cause = Some cause
+unless holds cause = if holds then None else Some cause
 
 -- the frame begins a superframe
 abbrev pub begins_superframe : Config → ℕ → Bool

@@ -12,6 +12,7 @@ use Rattle.std.proofs.lemmas.List.Sums.{AllPass-from_list_all}
 use Rattle.std.proofs.lemmas.Simd.{map-map}
 use Rattle.terms.specs.Bits.{bytes_for}
 use Rattle.terms.proofs.BitLemmas.{length-bytes_of}
+use Rattle.terms.proofs.OptionLemmas.{none_if}
 use Rattle.bb_frame.specs.Laws.{BitCounts}
 use Rattle.bb_frame.specs.Scrambled.{scrambled}
 use Rattle.plp_config.specs.Capacity.{IsPlan, block_bytes}
@@ -51,10 +52,6 @@ none_behind : (a b : Option MuteCause) → option_or a b ≡ None → b ≡ None
 none_behind None b e = e
 none_behind (Some cause) b e = not_some cause e
 
-pub holds_by : (holds : Bool) (cause : MuteCause) → unless holds cause ≡ None → holds ≡ true
-holds_by true cause e = refl
-holds_by false cause e = not_some cause e
-
 -- the last two tests
 both_none : (c : Config) (n : ℕ) (packets : List Packet) → packets_fault c n packets ≡ None → option_or (blocks_test c packets) (map_test c packets) ≡ None
 unfolding packets_fault
@@ -75,7 +72,7 @@ blocks_pass : (c : Config) (packets : List Packet) → blocks_test c packets ≡
 unfolding blocks_test
 blocks_pass c packets e =
     and_parts (has_counts c packets (first_shape c packets)) (list_all (is_known c) packets)
-    (holds_by (has_counts c packets (first_shape c packets) && list_all (is_known c) packets) PacketMissing e)
+    (none_if (has_counts c packets (first_shape c packets) && list_all (is_known c) packets) PacketMissing e)
 
 -- there are as many blocks as a shape tells
 counts_are : (c : Config) (packets : List Packet) (shape : FrameShape) → has_counts c packets (Some shape) ≡ true

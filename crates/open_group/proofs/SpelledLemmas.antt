@@ -5,6 +5,7 @@ use Rattle.std.specs.Option.{option_map, option_map_or, option_and_then}
 use Rattle.std.proofs.lemmas.Bool.{false≢true}
 use Rattle.std.proofs.lemmas.List.{get_or-map, length-map}
 use Rattle.std.proofs.lemmas.List.FromFn.{length-range_with_len, get_or-range_with_len}
+use Rattle.terms.proofs.OptionLemmas.{none_if}
 use Rattle.plp_config.specs.Places.{places}
 use Rattle.bb_frame.specs.Laws.{BitCounts}
 use Rattle.cell_map.specs.CellMap.{Passes}
@@ -31,7 +32,7 @@ use Rattle.site_frame.specs.Whole.{FitsRecord}
 use Rattle.t2mi_packet.specs.declared.packet.Packet.{Packet}
 use Rattle.open_group.specs.Sent.{sent_bytes}
 use Rattle.open_group.specs.Written.{dynamic_in, packets_view, content_view}
-use Rattle.open_group.proofs.GivenLemmas.{holds_by, map_none, has_blocks, same_view}
+use Rattle.open_group.proofs.GivenLemmas.{map_none, has_blocks, same_view}
 use Rattle.open_group.proofs.ReadLemmas.{read_len, read_rows}
 
 shape_rows : (d : L1Dyn) → length (told_shape d).counts ≡ length d.plps
@@ -40,7 +41,7 @@ shape_rows d = length-map d.plps (λ plp. plp.plp_num_blocks)
 
 map_holds : (c : Config) (n : ℕ) (packets : List Packet) → packets_fault c n packets ≡ None → has_map c (first_shape c packets) ≡ true
 unfolding map_test
-map_holds c n packets e = holds_by (has_map c (first_shape c packets)) MapRefused (map_none c n packets e)
+map_holds c n packets e = none_if (has_map c (first_shape c packets)) MapRefused (map_none c n packets e)
 
 -- the blocks of packets, in lists
 abbrev lists_of : Config → List Packet → List (List (List ℕ))

@@ -4,6 +4,7 @@ use Rattle.std.specs.Int.{div_ceil}
 use Rattle.std.proofs.lemmas.Bool.{cases_lt}
 use Rattle.std.proofs.Math.Nat.{mul-le-mul, div-mul_cancel, mul-div-mul_right, mod-eq-sub-div-mul, div-mul-le_self, div-le_self}
 use Rattle.std.proofs.lemmas.Nat.{le-div}
+use Rattle.terms.proofs.NatLemmas.{divisor_pos}
 use Rattle.plp_config.specs.Laws.{SlotLength, FrameTicks, UserPacketRange}
 use Rattle.plp_config.specs.Rules.{AllRules}
 use Rattle.plp_config.specs.SlotTime.{num, den, IsSlotLength, window, window_slots, delay_ticks}
@@ -13,16 +14,6 @@ use Rattle.packet_slots.specs.declared.rule.SlotRule.{SlotRule}
 use Rattle.packet_slots.specs.Times.{over_after}
 use Rattle.plp_receiver.specs.StandsFor.{slots_over}
 use Rattle.plp_receiver.specs.Taken.{IsRule}
-
-divisor_pos : (d g : ℕ) → 1 ≤ d → d / g * g ≡ d → 1 ≤ g
-divisor_pos d g pos e =
-    elim (cases_lt 0 g) [
-      | inl lt ↦ lt
-      | inr le ↦
-          let none : g ≡ 0 = omega arith in
-          let z : d / g * g ≡ d / g * 0 = ap (λ (v : ℕ). d / g * v) none in
-          absurd (omega (arith, z))
-    ]
 
 quotient_pos : (d g : ℕ) → 1 ≤ d → d / g * g ≡ d → 1 ≤ d / g
 quotient_pos d g pos e =

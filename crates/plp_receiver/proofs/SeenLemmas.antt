@@ -5,7 +5,7 @@ use Rattle.std.specs.FinMap.{get}
 use Rattle.std.specs.List.{list_all, range_with_len}
 use Rattle.std.proofs.lemmas.Bool.{true≢false, and_from, and_parts, eqb-true, eq-eqb}
 use Rattle.std.proofs.lemmas.List.Folds.{list_all-append}
-use Rattle.terms.proofs.CaseLemmas.{bool_cases}
+use Rattle.terms.proofs.CaseLemmas.{bool_cases, same_test}
 use Rattle.terms.proofs.RangeLemmas.{places_more}
 use Rattle.plp_config.specs.Capacity.{block_cells}
 use Rattle.plp_config.specs.declared.config.Config.{Config}
@@ -72,11 +72,6 @@ none_seen true = refl
 none_seen false = refl
 
 -- ---- all of them
-same_tests : (a b : Bool) → (a ≡ true → b ≡ true) → (b ≡ true → a ≡ true) → a ≡ b
-same_tests true b f g = sym (f refl)
-same_tests false true f g = absurd (true≢false (sym (g refl)))
-same_tests false false f g = refl
-
 right_one : (ordinal cell : ℕ) (found : Option (Option Cell)) → is_right ordinal (Some (record { ordinal = ordinal; cell = cell })) found ≡ true → is_cell ordinal cell found ≡ true
 right_one ordinal cell found e =
     let yes : (ordinal == ordinal) ≡ true = eq-eqb ordinal ordinal refl in
@@ -117,5 +112,5 @@ module _ (has : MapHasEachCell) (only : MapHasOnlyCells) (c : Config) (shape : F
       or_second false b h = h
 
   pub seen_stand : all_seen c shape cells own ≡ all_stand c shape cells plp block
-  seen_stand = same_tests (all_seen c shape cells own) (all_stand c shape cells plp block) stands_by
+  seen_stand = same_test (all_seen c shape cells own) (all_stand c shape cells plp block) stands_by
       (λ e. true_each (right_at c shape cells own) c.cells (λ at l. right_here e at (get (cell_map c shape) at) refl))

@@ -4,7 +4,7 @@ use Rattle.std.specs.Prelude.{if◌then◌else◌, Result, Ok, Err}
 use Rattle.std.proofs.lemmas.Bool.{both_ways, eq-eqb}
 use Rattle.std.proofs.lemmas.List.{get_or-drop, length-take, length-drop}
 use Rattle.terms.specs.Bits.{bits_of, bytes_of, part}
-use Rattle.terms.proofs.BitLemmas.{length-bits_of, bytes_of-bits_of, part-bits_of}
+use Rattle.terms.proofs.BitLemmas.{length-bits_of, bytes_of-bits_of, part-bits_of, small_take}
 use Rattle.bb_frame.specs.BasebandFrame.{Spells}
 use Rattle.bb_frame.specs.declared.header.Header.{Header}
 use Rattle.bb_frame.specs.Laws.{BitCounts}
@@ -17,12 +17,6 @@ use Rattle.plp_receiver.proofs.SpelledLemmas.{field_behind}
 
 abbrev pub block_with : Option ℕ → ℕ → List ℕ → Block
 block_with first issy field = record { first = first; issy = issy; field = field }
-
-small_take : (n : ℕ) (xs : List ℕ) → ((k : ℕ) → get_or xs k 0 < 256) → (k : ℕ) → get_or (take n xs) k 0 < 256
-small_take zero xs f k = omega arith
-small_take (suc n) [] f k = omega arith
-small_take (suc n) (x ∷ xs) f zero = f 0
-small_take (suc n) (x ∷ xs) f (suc k) = small_take n xs (λ j. f (suc j)) k
 
 small_part : (bytes : List ℕ) → ((k : ℕ) → get_or bytes k 0 < 256) → (at count k : ℕ) → get_or (take count (drop at bytes)) k 0 < 256
 small_part bytes small at count k = small_take count (drop at bytes) (λ j. subst (λ (v : ℕ). v < 256) (sym (get_or-drop at bytes j 0)) (small (at + j))) k

@@ -11,12 +11,9 @@ use Rattle.plp_config.specs.declared.config.Config.{Config}
 use Rattle.null_delete.specs.Deletion.{packet_at}
 use Rattle.mode_adapt.specs.Blocks.{block_places, plp_keeps, rates_of, plp_blocks, block_bits}
 use Rattle.mode_adapt.specs.Queue.{sent, sent_before}
+use Rattle.terms.proofs.AllLemmas.{all_map}
 use Rattle.frame_records.proofs.FrameLemmas.{length-block}
 use Rattle.gateway_core.specs.Packets.{counts_of}
-
-all_map : {X Y : Type 0} (P : Y → Type 0) (f : X → Y) (xs : List X) → ((x : X) → P (f x)) → AllByRecursion P (map f xs)
-all_map P f [] h = tt
-all_map P f (x ∷ xs) h = (h x, all_map P f xs h)
 
 -- each block of a PLP has as many bits as the PLP says
 pub blocks_long : BitCounts → FieldRange → (c : Config) (inputs : ℕ → List (List ℕ)) (n plp : ℕ) → AllByRecursion (λ b. length b ≡ 8 * block_bytes c plp) (plp_blocks c inputs n plp)

@@ -8,6 +8,7 @@ use Rattle.std.proofs.lemmas.List.Elements.{All-from_recursion, All-contains}
 use Rattle.std.proofs.lemmas.List.FromFn.{length-range_with_len, get_or-range_with_len}
 use Rattle.std.proofs.lemmas.List.Sums.{sum_by-cons, length-filter, count_by-le-length, AllPass-from_list_all}
 use Rattle.terms.proofs.AllLemmas.{all_append}
+use Rattle.terms.proofs.OptionLemmas.{none_if}
 use Rattle.plp_config.specs.Capacity.{IsPlan}
 use Rattle.plp_config.specs.Plps.{plp_at}
 use Rattle.plp_config.specs.declared.config.Config.{Config}
@@ -180,10 +181,6 @@ or_right_of : (t u : Bool) → (not t || u) ≡ true → t ≡ true → u ≡ tr
 or_right_of true u h e = h
 or_right_of false u h e = absurd (false≢true e)
 
-unless_none : (t : Bool) (cause : MuteCause) → unless t cause ≡ None → t ≡ true
-unless_none true cause e = refl
-unless_none false cause e = absurd (true≢false (ap is_some e))
-
 none_parts : (a rest : Option MuteCause) → is_some (option_or a rest) ≡ false → (a ≡ None) × (is_some rest ≡ false)
 none_parts None rest h = (refl, h)
 none_parts (Some cause) rest h = absurd (true≢false h)
@@ -241,7 +238,7 @@ module _ (given : Given) (c : Config) (inputs : ℕ → List (List ℕ)) (n : �
       let third = none_parts (l1_test c k left) _ second.1 in
       let fourth = none_parts (time_test c k left) _ third.1 in
       let fifth = none_parts (blocks_test c left) _ fourth.1 in
-      not_both k same lacks (unless_none (currents && stamped k) PacketMissing second.0) (and_parts counted (list_all (is_known c) left) (unless_none (counted && list_all (is_known c) left) PacketMissing fifth.0)).0)
+      not_both k same lacks (none_if (currents && stamped k) PacketMissing second.0) (and_parts counted (list_all (is_known c) left) (none_if (counted && list_all (is_known c) left) PacketMissing fifth.0)).0)
 
   -- and as itself it lacks a packet, if it carries nothing else
   pub lacks_packet : ((plp : ℕ) → plp < length c.plps → length (right_blocks c plp left) ≤ length (plp_blocks c inputs n plp)) → AllByRecursion (λ s. s ≡ stamp_of c n) (stamps_of left) → Lacks c inputs n left

@@ -10,6 +10,7 @@ use Rattle.plp_config.specs.declared.config.Config.{Config}
 use Rattle.t2mi_packet.specs.declared.packet.Body.{Body}
 use Rattle.t2mi_packet.specs.declared.packet.Packet.{Packet}
 use Rattle.mode_adapt.specs.Blocks.{plp_blocks}
+use Rattle.gateway_core.specs.Carried.{of_frame}
 use Rattle.gateway_core.specs.Packets.{l1_body, block_bodies, plp_bodies, counts_of, frame_bodies, bodies_before, packet_with}
 use Rattle.gateway_core.specs.Signalling.{pre_part, conf_part, dyn_part}
 use Rattle.damage.specs.SentPackets.{Sent, packets_of, frame_packets, IsTimestamp, TellsFrame, FollowsSome, InFrameOrder}
@@ -18,10 +19,7 @@ use Rattle.sent_frames.specs.Laws.{SentAreFrames, FrameCarries}
 
 -- ---- what the packets of a frame carry
 
--- bodies of a frame with its number, and those of so many frames from one on
-abbrev of_frame : ℕ → List Body → List (ℕ × Body)
-of_frame n bodies = map (λ body. (n, body)) bodies
-
+-- bodies of so many frames from one on, each with its number
 abbrev of_frames : (ℕ → List Body) → ℕ → ℕ → List (ℕ × Body)
 of_frames bodies from count = flat_map (λ n. of_frame n (bodies n)) (range_with_len from count)
 

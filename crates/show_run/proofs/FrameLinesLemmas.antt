@@ -16,7 +16,7 @@ use Rattle.site_frame.specs.declared.fault.RecordWhy.TheVariants as why
 use Rattle.site_frame.specs.declared.reading.RecordView.{RecordView}
 use Rattle.show_run.specs.Front.{most_of}
 use Rattle.show_run.specs.FrameLines.{next_from, next_of, IsLineOf, IsSeen, IsRefused, Sees, LacksRoom, SeesHead, HasBegun, Begins, IsBegun, Behind, Given, Shown, IsNew, Comes}
-use Rattle.show_run.specs.RecordFile.{AreRecords, Announces}
+use Rattle.site_frame.specs.RecordFile.{AreRecords, Announces}
 use Rattle.show_run.specs.SaidLines.{record_line, record_lines, records_line}
 use Rattle.show_run.specs.declared.frame_lines.Coming.{Coming}
 use Rattle.show_run.specs.declared.frame_lines.Coming.TheVariants.{Head, Rest, Refused, NoRoom, Finished}

@@ -20,7 +20,7 @@ use Rattle.site_frame.specs.declared.fault.RecordWhy.{RecordWhy}
 use Rattle.site_frame.specs.declared.reading.RecordView.{RecordView}
 use Rattle.show_run.specs.Front.{most_of}
 use Rattle.show_run.specs.FrameLines.{next_from, next_of, IsBegun, Behind, Given, Shown, Comes, records_end}
-use Rattle.show_run.specs.RecordFile.{AreRecords, IsNoRecord, Announces, EndsWithin, bytes_before}
+use Rattle.site_frame.specs.RecordFile.{AreRecords, IsNoRecord, Announces, EndsWithin, bytes_before}
 use Rattle.show_run.specs.RecordText.{AreFirstRecords, MeetsRecords, SaysMetRecords, LeavesRecords, IsRecordText}
 use Rattle.show_run.specs.SaidLines.{record_lines, records_line}
 use Rattle.show_run.specs.Shows.{Shows}

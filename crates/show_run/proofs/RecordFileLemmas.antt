@@ -5,7 +5,7 @@ use Rattle.std.proofs.Math.ListN.{drop_of_length-le}
 use Rattle.site_frame.specs.Record.{head_len}
 use Rattle.site_frame.specs.Whole.{Spells, BeginsWith, Follow}
 use Rattle.site_frame.specs.declared.reading.RecordView.{RecordView}
-use Rattle.show_run.specs.RecordFile.{AreRecords, Announces}
+use Rattle.site_frame.specs.RecordFile.{AreRecords, Announces}
 use Rattle.show_run.specs.SaidLines.{record_line, record_lines}
 
 -- a record that begins a front begins the whole

@@ -11,7 +11,7 @@ use Rattle.site_frame.specs.Record.{head_len, head_bytes}
 use Rattle.site_frame.specs.Whole.{kind_of, moment_of, HasRest, Spells, HasHead, HasKind, told_len, told_rest, HasLength, Refuses, Follow}
 use Rattle.site_frame.specs.declared.fault.RecordWhy.{RecordWhy}
 use Rattle.site_frame.specs.declared.fault.RecordWhy.TheVariants.{Head, Kind, Length, Order, OffGrid}
-use Rattle.show_run.specs.RecordFile.{Announces}
+use Rattle.site_frame.specs.RecordFile.{Announces}
 
 -- what a head tells is the length of the rest
 told_in : (kind : ℕ) (moment : Moment) (len : ℕ) (rest : List ℕ) → len < 256 ^ 4 → told_len (head_bytes kind moment len ++ rest) ≡ len

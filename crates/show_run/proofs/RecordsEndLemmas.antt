@@ -8,7 +8,7 @@ use Rattle.site_frame.specs.declared.fault.RecordWhy.{RecordWhy}
 use Rattle.site_frame.specs.declared.fault.RecordWhy.TheVariants.{Head}
 use Rattle.site_frame.specs.declared.reading.RecordView.{RecordView}
 use Rattle.show_run.specs.Laws.{RecordsEnd, OneRecordsEnd, AreBytes, EachRecordsEnd}
-use Rattle.show_run.specs.RecordFile.{AreRecords, IsNoRecord}
+use Rattle.site_frame.specs.RecordFile.{AreRecords, IsNoRecord}
 use Rattle.show_run.specs.declared.stop.ShowStop.{ShowStop}
 use Rattle.show_run.specs.declared.stop.ShowStop.TheVariants.{RecordRefused}
 use Rattle.show_run.proofs.RecordFrontLemmas.{short_refused}

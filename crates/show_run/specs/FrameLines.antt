@@ -9,7 +9,7 @@ use Rattle.site_frame.specs.Whole.{BeginsWith, Refuses}
 use Rattle.site_frame.specs.declared.fault.RecordWhy.{RecordWhy}
 use Rattle.site_frame.specs.declared.reading.RecordView.{RecordView}
 use Rattle.show_run.specs.Front.{most_of}
-use Rattle.show_run.specs.RecordFile.{AreRecords, Announces}
+use Rattle.site_frame.specs.RecordFile.{AreRecords, Announces}
 use Rattle.show_run.specs.SaidLines.{record_line, record_lines, records_line}
 use Rattle.show_run.specs.declared.frame_lines.Coming.{Coming}
 use Rattle.show_run.specs.declared.frame_lines.Coming.TheVariants.{Head, Rest, Refused, NoRoom, Finished}

@@ -2,7 +2,7 @@
 use Rattle.std.specs.Prelude.{◌≡◌, ℕ, ◌<◌, List, [], length, slice_index, Result, Ok, Err}
 use Rattle.site_frame.specs.declared.reading.RecordView.{RecordView}
 use Rattle.show_run.specs.PacketFile.{Packs, bytes_in, IsRefused}
-use Rattle.show_run.specs.RecordFile.{AreRecords, IsNoRecord}
+use Rattle.site_frame.specs.RecordFile.{AreRecords, IsNoRecord}
 use Rattle.show_run.specs.declared.stop.ShowStop.{ShowStop}
 use Rattle.show_run.specs.declared.stop.ShowStop.TheVariants.{PacketRefused, RecordRefused}
 

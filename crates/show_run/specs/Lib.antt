@@ -4,7 +4,6 @@ pub mod Laws
 pub mod PacketFile
 pub mod PacketLines
 pub mod PacketText
-pub mod RecordFile
 pub mod RecordText
 pub mod SaidLines
 pub mod Shows

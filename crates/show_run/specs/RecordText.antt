@@ -3,7 +3,7 @@ use Rattle.std.specs.Prelude.{◌≡◌, ℕ, ◌-◌, ◌≤◌, List, [], ◌+
 use Rattle.desk_io.specs.Reading.{most_bytes}
 use Rattle.site_frame.specs.declared.fault.RecordWhy.{RecordWhy}
 use Rattle.site_frame.specs.declared.reading.RecordView.{RecordView}
-use Rattle.show_run.specs.RecordFile.{AreRecords, IsNoRecord, Announces, EndsWithin, bytes_before}
+use Rattle.site_frame.specs.RecordFile.{AreRecords, IsNoRecord, Announces, EndsWithin, bytes_before}
 use Rattle.show_run.specs.SaidLines.{record_lines, records_line}
 use Rattle.show_run.specs.declared.stop.ShowStop.{ShowStop}
 use Rattle.show_run.specs.declared.stop.ShowStop.TheVariants.{PacketRefused, RecordRefused, TooLong, ReadFault, WriteFault, OutOfMemory, NoRoom}

@@ -127,7 +127,7 @@ whole_drop n xs h t first =
     let e = drop-drop t n xs in
     let r = h (n + t) (ap is_first (sym e) ∙ first) in (r.0, e ∙ r.1, r.2)
 
-plain_first : (c : List ℕ) (t : ℕ) (more : List Item) → t < length c → is_first (drop t (items false c ++ more)) ≡ false
+pub plain_first : (c : List ℕ) (t : ℕ) (more : List Item) → t < length c → is_first (drop t (items false c ++ more)) ≡ false
 plain_first [] t more l = absurd (omega arith)
 plain_first (b ∷ c) zero more l = refl
 plain_first (b ∷ c) (suc t) more l = plain_first c t more (omega arith)

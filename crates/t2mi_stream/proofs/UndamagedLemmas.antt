@@ -23,7 +23,7 @@ use Rattle.t2mi_stream.proofs.FitLemmas.{Fits, fits_append, fits_drop, fits_len,
 use Rattle.t2mi_stream.proofs.ReadsLemmas.{UnitLaws, unit_reads, carried_fits}
 use Rattle.t2mi_stream.proofs.RunLemmas.{len_range}
 use Rattle.t2mi_stream.proofs.StartsLemmas.{starts_law}
-use Rattle.t2mi_stream.proofs.SurviveLemmas.{one_unit, place_at, Later, later}
+use Rattle.t2mi_stream.proofs.SurviveLemmas.{one_unit, place_at, Later, later, plain_first}
 use Rattle.t2mi_stream.proofs.StandLemmas.{at_start}
 use Rattle.t2mi_stream.proofs.SurvivorLemmas.{Carries, carries, flag_at}
 
@@ -136,11 +136,6 @@ record Begins (packets : List (List ℕ)) (t : ℕ) : Type 0 where
   pub parts : packets ≡ before ++ packet ∷ after
   pub at : length (joined before) ≡ t
   pub spelled : spell packet ≡ Some (length packet)
-
-plain_first : (c : List ℕ) (t : ℕ) (more : List Item) → t < length c → is_first (drop t (items false c ++ more)) ≡ false
-plain_first [] t more l = absurd (omega arith)
-plain_first (b ∷ c) zero more l = refl
-plain_first (b ∷ c) (suc t) more l = plain_first c t more (omega arith)
 
 begins : (packets : List (List ℕ)) (t : ℕ) → ArePackets packets → is_first (drop t (joined packets)) ≡ true → Begins packets t
 begins [] t all first = let none : List Item = [] in absurd (both_ways false refl (ap is_first (sym (drop_all t none (omega arith))) ∙ first))

@@ -290,3 +290,10 @@ bits_of-high-first (suc k) n =
 -- a number that was read off is as narrow as its field
 pub number_at-lt : (bits : List Bool) (at width : ℕ) → at + width ≤ length bits → number_at bits at width < 2 ^ width
 number_at-lt bits at width h = rw (length-part bits at width h) at (number_of-lt (part bits at width))
+
+-- a front of bytes has bytes
+pub small_take : (n : ℕ) (xs : List ℕ) → ((k : ℕ) → get_or xs k 0 < 256) → (k : ℕ) → get_or (take n xs) k 0 < 256
+small_take zero xs f k = omega arith
+small_take (suc n) [] f k = omega arith
+small_take (suc n) (x ∷ xs) f zero = f 0
+small_take (suc n) (x ∷ xs) f (suc k) = small_take n xs (λ j. f (suc j)) k

@@ -38,3 +38,8 @@ neither false false a b e = (refl, refl)
 pub append_twice : {A : Type 0} (o : Option (List A)) (x y : List A) → option_map (λ text. text ++ y) (option_map (λ text. text ++ x) o) ≡ option_map (λ text. text ++ (x ++ y)) o
 append_twice None x y = refl
 append_twice (Some text) x y = ap Some (append_assoc text x y)
+
+-- nothing is there only if the test that rules it out holds
+pub none_if : {A : Type 0} (t : Bool) (x : A) → ◌≡◌ {A = Option A} (cond t None (Some x)) None → t ≡ true
+none_if true x e = refl
+none_if false x e = none_some x (sym e)

@@ -4,7 +4,7 @@ use Rattle.std.specs.Prelude.{Result, Ok, Err, IfOk, Option, Some, None}
 use Rattle.std.proofs.lemmas.Bool.{cases_lt}
 use Rattle.std.proofs.lemmas.List.{take-append-drop, take_all, drop_all, drop_more, drop-drop, length-drop, length-take-le, append_assoc, get_or-take, get_or_past, length-take}
 use Rattle.terms.specs.Bits.{field, bits_of, number_of, part, number_at, bytes_of}
-use Rattle.terms.proofs.BitLemmas.{length-bits_of, length-part, part-bits_of, field-number_at, bytes_of-bits_of, number_at-bits_of, number_at-lt}
+use Rattle.terms.proofs.BitLemmas.{length-bits_of, length-part, part-bits_of, field-number_at, bytes_of-bits_of, number_at-bits_of, number_at-lt, small_take}
 use Rattle.terms.proofs.PartLemmas.{part-add}
 use Rattle.ts_packet.specs.TransportPacket.{Fields, flag, header_bits, control_of, adaptation_bytes, packet_bytes, Spells, HasSync, control_at, length_at, IsBadAdaptation}
 use Rattle.ts_packet.specs.Reading.{fields_of, place_for, IsRead}
@@ -108,12 +108,6 @@ behind bytes (suc (suc (suc zero))) long small good =
     }
 behind bytes (suc (suc (suc (suc n)))) long small good = absurd (omega arith)
 
--- a front of bytes has bytes
-small_front : (n : ℕ) (bytes : List ℕ) → ((k : ℕ) → get_or bytes k 0 < 256) → (k : ℕ) → get_or (take n bytes) k 0 < 256
-small_front n bytes small k =
-    ⊎_elim (λ (lt : k < n). rw (get_or-take n bytes k 0 lt) (small k))
-    (λ (le : n ≤ k). let e : get_or (take n bytes) k 0 ≡ 0 = get_or_past (take n bytes) k 0 (simp length-take (omega (arith, le))) in omega (arith, e)) (cases_lt k n)
-
 -- What was read off is spelled by the bytes.
 pub spelled : (bytes : List ℕ) (f : Fields) → length bytes ≡ 188 → ((k : ℕ) → get_or bytes k 0 < 256) → IsRead bytes f → Spells f bytes
 unfolding packet_bytes
@@ -130,7 +124,7 @@ spelled bytes f long small r =
     let whole : header ≡ header_bits fields priority (control_of rest.adaptation payload) =
     header_is header payload wide sync ∙ ap (header_bits fields priority) (front_number bits 26 2 (omega arith) ∙ rest.told) in
     let front : take 4 bytes ≡ bytes_of (header_bits fields priority (control_of rest.adaptation payload)) =
-    sym (bytes_of-bits_of (take 4 bytes) (small_front 4 bytes small)) ∙ ap bytes_of (sym (part-bits_of bytes 0 4 (omega (arith, long))) ∙ whole) in
+    sym (bytes_of-bits_of (take 4 bytes) (small_take 4 bytes small)) ∙ ap bytes_of (sym (part-bits_of bytes 0 4 (omega (arith, long))) ∙ whole) in
     subst (λ (g : Fields). Spells g bytes) (sym r.fields) (record {
       fits = record {
         pid = number_at-lt header 11 13 (omega (arith, wide));
