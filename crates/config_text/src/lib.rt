@@ -17,6 +17,7 @@ mod writing;
 
 pub use fault::{TextFault, TextWhy};
 pub use laws::{decided, not_refused, refused_once, spelled_once};
+pub use number::number;
 pub use reading::{MOST_BYTES, read};
 pub use writing::{band_word, write};
 
