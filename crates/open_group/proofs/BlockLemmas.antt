@@ -11,7 +11,7 @@ use Rattle.std.proofs.lemmas.List.Sums.{sum_by-cons}
 use Rattle.frame_tests.proofs.TallyLemmas.{at_place}
 use Rattle.linked_pool.specs.Pool.{State, list_at, chunks_for, appended}
 use Rattle.plp_config.specs.Capacity.{block_bytes}
-use Rattle.plp_config.specs.Places.{places}
+use Rattle.plp_config.specs.Places.{places, IsPlace, HasNoPlace}
 use Rattle.plp_config.specs.Plps.{plp_at}
 use Rattle.plp_config.specs.declared.config.Config.{Config}
 use Rattle.t2mi_packet.specs.declared.packet.Body.{Body}
@@ -21,7 +21,6 @@ use Rattle.frame_tests.specs.Carried.{body_block, has_length, blocks_of, right_b
 use Rattle.frame_tests.specs.Tally.{Tally, tally_with, tally_need}
 use Rattle.frame_tests.specs.Tests.{body_known, is_known, greatest, capped}
 use Rattle.open_group.specs.HoldsBlocks.{HoldsCounts, HoldsLists}
-use Rattle.open_group.specs.Networks.{IsPlace, HasNoPlace}
 use Rattle.open_group.specs.Sent.{sent_bytes}
 use Rattle.open_group.specs.declared.blocks.HeldBlocks.{HeldBlocks}
 

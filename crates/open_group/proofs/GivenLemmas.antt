@@ -38,7 +38,7 @@ use Rattle.record_writer.specs.Steps.{step_bytes}
 use Rattle.record_writer.specs.declared.step.Step.TheVariants.{Blocks}
 use Rattle.open_group.specs.Sent.{sent_bytes}
 use Rattle.open_group.specs.Written.{dynamic_in, packets_view}
-use Rattle.open_group.proofs.PlaceLemmas.{place_is}
+use Rattle.plp_config.proofs.PlaceLemmas.{place_is}
 
 -- tests of which none fails
 not_some : {X : Type 0} {P : Type 0} (x : X) → Some x ≡ None → P
@@ -102,7 +102,7 @@ module _ (c : Config) (plan : IsPlan c) (plp : ℕ) (inside : plp < length c.plp
       let both = and_parts (id == (plp_at c.plps k).id) (has_length c k bits) (subst (λ (j : ℕ). is_of id bits j ≡ true) there found.4) in
       let of_k : id ≡ (plp_at c.plps k).id = eqb-true id (plp_at c.plps k).id both.0 in
       ⊎_elim (λ (e : k ≡ plp). subst (λ (j : ℕ). has_length c j bits ≡ true) e both.1)
-      (λ (ne : k ≡ plp → ⊥). absurd ((place_is c plan own_id plp inside refl).others k within ne (sym of_k ∙ own)))
+      (λ (ne : k ≡ plp → ⊥). absurd ((place_is c plan.rules own_id plp inside refl).others k within ne (sym of_k ∙ own)))
       (cases_eq k plp)
 
   by_id : (id : ℕ) (bits own : List Bool) → list_any (is_of id bits) (places c) ≡ true → (t : Bool) → (id == own_id) ≡ t → cond t (Some bits) None ≡ Some own → has_length c plp own ≡ true

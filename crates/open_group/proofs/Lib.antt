@@ -1,4 +1,3 @@
-pub mod PlaceLemmas
 pub mod BlockLemmas
 pub mod CountLemmas
 pub mod HoldLemmas

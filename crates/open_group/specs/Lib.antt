@@ -1,4 +1,3 @@
-pub mod Networks
 pub mod HoldsStamps
 pub mod Parts
 pub mod HoldsL1

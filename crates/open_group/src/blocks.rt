@@ -5,7 +5,7 @@ ghost use Rattle.open_group.specs.Sent.{sent_bytes};
 ghost use Rattle.record_writer.specs.RecordBytes.{AreShort};
 ghost use Rattle.plp_config.specs.declared.plp.TheConstants.{MOST_BLOCK_BYTES};
 
-use crate::plps::{block_chunks, place_of, pool_chunks};
+use crate::plps::{block_chunks, pool_chunks};
 use bb_frame::scramble;
 use bit_slice::{BitSlice, OutOfMemory};
 use linked_pool::{BlockRef, Pool};
@@ -141,7 +141,7 @@ impl HeldBlocks {
         ensures open { IsOpenFor self.new (length plan.now.plps) }
         ensures all { self.new.chunks ≡ self.old.chunks }
     {
-        let Some(place) = place_of(plan, id) else {
+        let Some(place) = plan.place_of(id) else {
             self.known = false;
             return;
         };

@@ -10,3 +10,4 @@ pub mod EmissionLemmas
 pub mod RunLemmas
 pub mod RuleDecideLemmas
 pub mod TestDecideLemmas
+pub mod PlaceLemmas

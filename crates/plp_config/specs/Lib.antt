@@ -1,6 +1,6 @@
 pub mod Tables
-pub mod Places
 pub mod Plps
+pub mod Places
 pub mod FirstFailure
 pub mod Rules
 pub mod RuleTests

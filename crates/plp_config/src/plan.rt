@@ -1,7 +1,8 @@
 // A configuration that every layer above can rely on.
-ghost use Rattle.std.specs.Prelude.{◌≡◌, ◌-◌, ◌^◌, ◌<◌, ◌≤◌, length};
+ghost use Rattle.std.specs.Prelude.{◌≡◌, ◌-◌, ◌^◌, ◌<◌, ◌≤◌, length, IfSome, IfNone};
 ghost use Rattle.plp_config.specs.Capacity.{AllTests, Throughput, block_bytes, field_bytes, block_cells, up_bytes, capacity, need_of};
 ghost use Rattle.plp_config.specs.Emission.{emission};
+ghost use Rattle.plp_config.specs.Places.{IsPlace, HasNoPlace};
 ghost use Rattle.plp_config.specs.Ranges.{HasRanges};
 ghost use Rattle.plp_config.specs.Rules.{AllRules};
 ghost use Rattle.plp_config.specs.SlotTime.{IsSlotLength, start, slots_by, delay, window};
@@ -58,6 +59,15 @@ impl Plan {
         ensures ranges { HasRanges self.now }
     {
         let _ = self.config();
+    }
+
+    /// The place of the PLP with an identifier (PLP_ID), `None` if none has it.
+    pub fn place_of(&self, id: u8) -> Option<usize>
+        ensures some { IfSome result (IsPlace self.now id) }
+        ensures small { IfSome result (λ place. place < 255) }
+        ensures none { IfNone result (HasNoPlace self.now id) }
+    {
+        values::place_of(&self.config, id)
     }
 
     /// The length of a slot of a PLP in ticks, a fraction in lowest terms: its numerator and its

@@ -1,7 +1,8 @@
 // The values of a configuration that satisfies the rules, with the ranges that follow from these.
-ghost use Rattle.std.specs.Prelude.{◌≡◌, ◌<◌, ◌≤◌, ◌*◌, length};
+ghost use Rattle.std.specs.Prelude.{◌≡◌, ◌<◌, ◌≤◌, ◌*◌, length, IfSome, IfNone};
 ghost use Rattle.plp_config.specs.Capacity.{block_bytes, field_bytes, block_cells, up_bytes, capacity};
 ghost use Rattle.plp_config.specs.Emission.{frame_subseconds};
+ghost use Rattle.plp_config.specs.Places.{IsPlace, HasNoPlace};
 ghost use Rattle.plp_config.specs.Plps.{plp_at};
 ghost use Rattle.plp_config.specs.Rules.{AllRules};
 ghost use Rattle.plp_config.specs.SlotTime.{num, den};
@@ -38,6 +39,30 @@ pub(crate) fn plp_count(config: &Config) -> u8
     ensures least { 1 ≤ result }
 {
     config.plps.len() as u8
+}
+
+// The first PLP with an identifier.
+pub(crate) fn first_with(config: &Config, id: u8) -> Option<usize>
+    ensures some { IfSome result (λ place. (place < length config.now.plps) × ((plp_at config.now.plps place).id ≡ id)) }
+    ensures none { IfNone result (HasNoPlace config.now id) }
+{
+    for place in 0..config.plps.len() {
+        if config.plps.get(place).unwrap().id == id {
+            return Some(place);
+        }
+    }
+    None
+}
+
+// The place of the PLP with an identifier.
+pub(crate) fn place_of(config: &Config, id: u8) -> Option<usize>
+    requires { AllRules config.now }
+    ensures some { IfSome result (IsPlace config.now id) }
+    ensures small { IfSome result (λ place. place < 255) }
+    ensures none { IfNone result (HasNoPlace config.now id) }
+{
+    let _count = plp_count(config);
+    first_with(config, id)
 }
 
 // Sub-slices in a frame.

@@ -1,6 +1,0 @@
-use Rattle.std.proofs.lemmas.Option.{IfSome_then}
-use Rattle.open_group.proofs.PlaceLemmas.{place_is}
-use Rattle.open_group.proofs.plps.place_of.Goals as goal
-
-pub returns-clause-some : goal.returns-clause-some
-returns-clause-some c = IfSome_then c.first_with.result c.first_with.ensures.some (λ place h. place_is c.args.plan.now c.obeys_rules.ensures.plan c.args.id place h.0 h.1)
