@@ -4,7 +4,7 @@ ghost use Rattle.config_text.specs.Fields.{key_at, fields_at, spelling_of, why_o
 ghost use Rattle.config_text.specs.Words.{Fits};
 
 use crate::fault::TextWhy;
-use crate::number::number_within;
+use crate::decimal::number_within;
 use crate::places;
 use itoa::Buffer;
 

@@ -1,13 +1,13 @@
 //! The text that configures a network, read and written.
 #![tactic(auto)]
 
+mod decimal;
 mod draft;
 mod fault;
 mod field;
 mod laws;
 mod line;
 mod lines;
-mod number;
 mod parts;
 mod places;
 mod reading;
@@ -15,9 +15,9 @@ mod values;
 mod words;
 mod writing;
 
+pub use decimal::number;
 pub use fault::{TextFault, TextWhy};
 pub use laws::{decided, not_refused, refused_once, spelled_once};
-pub use number::number;
 pub use reading::{MOST_BYTES, read};
 pub use writing::{band_word, write};
 

@@ -1,6 +1,6 @@
 use Rattle.std.proofs.Common.{ap, Some, ℕ}
 use Rattle.config_text.proofs.NumberLemmas.{parsed_is, parsed_fails, decimal_is_utf8}
-use Rattle.config_text.proofs.number.parsed.Goals as goal
+use Rattle.config_text.proofs.decimal.parsed.Goals as goal
 
 pub returns-in-Ok-parse : goal.returns-in-Ok-parse
 returns-in-Ok-parse c = λ n fits spelled.

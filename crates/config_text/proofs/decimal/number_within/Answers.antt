@@ -1,6 +1,6 @@
 use Rattle.std.proofs.Common.{arith}
 use Rattle.config_text.proofs.NumberLemmas.{same_number}
-use Rattle.config_text.proofs.number.number_within.Goals as goal
+use Rattle.config_text.proofs.decimal.number_within.Goals as goal
 
 pub returns-then-number-least-clause-none : goal.returns-then-number-least-clause-none
 returns-then-number-least-clause-none c = λ n h.
