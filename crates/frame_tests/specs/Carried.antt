@@ -1,6 +1,6 @@
 -- What the packets of a group carry, each kind in its order (ETSI TS 102 773, clause 5.2).
 use Rattle.std.specs.Prelude.{ℕ, ◌*◌, ◌==◌, Bool, List, length, filter, Option, Some, None, if◌then◌else◌}
-use Rattle.std.specs.List.{filter_map, range_with_len}
+use Rattle.std.specs.List.{filter_map}
 use Rattle.plp_config.specs.Capacity.{block_bytes}
 use Rattle.plp_config.specs.Plps.{plp_at}
 use Rattle.plp_config.specs.declared.config.Config.{Config}

@@ -27,7 +27,7 @@ use Rattle.t2mi_packet.specs.declared.packet.Packet.{Packet}
 use Rattle.frame_groups.specs.declared.cause.MuteCause.{MuteCause}
 use Rattle.frame_groups.specs.declared.cause.MuteCause.TheVariants.{PacketMissing}
 use Rattle.frame_tests.specs.Carried.{body_block, has_length, blocks_of, right_blocks}
-use Rattle.frame_tests.specs.Tests.{unless, pool_test, missing_test, l1_test, time_test, first_shape, has_counts, body_known, is_known, blocks_test, map_test, packets_fault}
+use Rattle.frame_tests.specs.Tests.{pool_test, missing_test, l1_test, time_test, first_shape, has_counts, body_known, is_known, blocks_test, map_test, packets_fault}
 use Rattle.frame_records.specs.Frames.{sent_block, sent_blocks, frame_view}
 use Rattle.frame_records.specs.Laws.{rest_size}
 use Rattle.site_frame.specs.Whole.{written_rest, record_bytes}

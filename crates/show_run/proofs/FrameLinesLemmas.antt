@@ -21,8 +21,9 @@ use Rattle.show_run.specs.SaidLines.{record_line, record_lines, records_line}
 use Rattle.show_run.specs.declared.frame_lines.Coming.{Coming}
 use Rattle.show_run.specs.declared.frame_lines.Coming.TheVariants.{Head, Rest, Refused, NoRoom, Finished}
 use Rattle.show_run.specs.declared.frame_lines.FrameLines.{FrameLines}
-use Rattle.show_run.proofs.RecordFileLemmas.{records_on, records_more, record_lines-append, announces_on, none_left}
-use Rattle.show_run.proofs.RecordFrontLemmas.{refused_whole, short_refused, cut_refused}
+use Rattle.site_frame.proofs.RecordFileLemmas.{records_on, records_more, announces_on, none_left}
+use Rattle.show_run.proofs.RecordTextLemmas.{record_lines-append}
+use Rattle.site_frame.proofs.RecordFrontLemmas.{refused_whole, short_refused, cut_refused}
 
 -- more records may follow
 abbrev pub IsOpen : Coming → Type 0

@@ -31,8 +31,9 @@ use Rattle.show_run.specs.declared.frame_lines.FrameLines.{FrameLines}
 use Rattle.show_run.specs.declared.stop.ShowStop.{ShowStop}
 use Rattle.show_run.specs.declared.stop.ShowStop.TheVariants as stop
 use Rattle.show_run.proofs.FrameLinesLemmas.{told_all, IsWaited, short}
-use Rattle.show_run.proofs.RecordFileLemmas.{records_on, records_first, rest_inside, record_lines-append, announces_on}
-use Rattle.show_run.proofs.RecordsEndLemmas.{stuck_nil, same_records, records_within}
+use Rattle.site_frame.proofs.RecordFileLemmas.{records_on, records_first, rest_inside, announces_on}
+use Rattle.show_run.proofs.RecordTextLemmas.{record_lines-append}
+use Rattle.site_frame.proofs.RecordSplitLemmas.{stuck_nil, same_records, records_within}
 use Rattle.show_run.proofs.ShowLemmas.{fails_only, starts_fed, line_some}
 
 -- bytes that were fed are a front of the file

@@ -4,8 +4,7 @@ pub mod FrameShowLemmas
 pub mod LineLemmas
 pub mod PacketFileLemmas
 pub mod PacketLinesLemmas
-pub mod RecordFileLemmas
-pub mod RecordFrontLemmas
+pub mod RecordTextLemmas
 pub mod RecordsEndLemmas
 pub mod ShowLemmas
 pub mod T2miLinesLemmas

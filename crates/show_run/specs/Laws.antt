@@ -1,8 +1,8 @@
 -- Laws of files of T2-MI packets, and of records.
-use Rattle.std.specs.Prelude.{◌≡◌, ℕ, ◌<◌, List, [], length, slice_index, Result, Ok, Err}
+use Rattle.std.specs.Prelude.{◌≡◌, ℕ, List, [], length, Result, Ok, Err}
 use Rattle.site_frame.specs.declared.reading.RecordView.{RecordView}
 use Rattle.show_run.specs.PacketFile.{Packs, bytes_in, IsRefused}
-use Rattle.site_frame.specs.RecordFile.{AreRecords, IsNoRecord}
+use Rattle.site_frame.specs.RecordFile.{AreRecords, IsNoRecord, AreBytes}
 use Rattle.show_run.specs.declared.stop.ShowStop.{ShowStop}
 use Rattle.show_run.specs.declared.stop.ShowStop.TheVariants.{PacketRefused, RecordRefused}
 
@@ -28,10 +28,6 @@ RecordsEnd file (Err stop) = ⊥
 
 abbrev pub OneRecordsEnd : Type 0
 OneRecordsEnd = (file : List ℕ) (result other : Result ℕ ShowStop) → RecordsEnd file result → RecordsEnd file other → result ≡ other
-
--- Each number of the file is that of a byte.
-abbrev pub AreBytes : List ℕ → Type 0
-AreBytes file = (k : ℕ) → slice_index file k < 256
 
 abbrev pub EachRecordsEnd : Type 0
 EachRecordsEnd = (file : List ℕ) → AreBytes file → (result : Result ℕ ShowStop) × RecordsEnd file result

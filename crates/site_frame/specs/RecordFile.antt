@@ -1,5 +1,5 @@
 -- A file of records that stand one behind another.
-use Rattle.std.specs.Prelude.{◌≡◌, ◌≢◌, ◌⊎◌, ℕ, ◌+◌, ◌-◌, ◌≤◌, List, [], ◌∷◌, length, take, drop}
+use Rattle.std.specs.Prelude.{◌≡◌, ◌≢◌, ◌⊎◌, ℕ, ◌+◌, ◌-◌, ◌<◌, ◌≤◌, List, [], ◌∷◌, length, take, drop, slice_index}
 use Rattle.site_frame.specs.Record.{head_len}
 use Rattle.site_frame.specs.Whole.{BeginsWith, Follow, Refuses}
 use Rattle.site_frame.specs.declared.fault.RecordWhy.{RecordWhy}
@@ -25,3 +25,7 @@ EndsWithin bytes count = (count ≤ head_len) ⊎ ((len : ℕ) × Announces byte
 -- how many bytes of a file stand before a rest of it
 abbrev pub bytes_before : List ℕ → List ℕ → ℕ
 bytes_before file rest = length file - length rest
+
+-- Each number of the file is that of a byte.
+abbrev pub AreBytes : List ℕ → Type 0
+AreBytes file = (k : ℕ) → slice_index file k < 256

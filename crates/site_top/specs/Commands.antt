@@ -1,6 +1,9 @@
 -- The commands, and the words that name them.
 use Rattle.std.specs.Prelude.{◌≡◌, ℕ, Bool, true, false, not, ◌&&◌, List, [], ◌∷◌, codes, if◌then◌else◌, Some, None}
 use Rattle.std.specs.declared.option.Option.{Option}
+use Rattle.std.specs.Fmt.{decimal}
+use Rattle.std.specs.List.{find, range_with_len}
+use Rattle.std.specs.Option.{option_map}
 use Rattle.std.specs.Str.{bytes_eq}
 use Rattle.site_top.specs.declared.request.Request.{Request}
 use Rattle.site_top.specs.declared.request.Request.TheVariants as asked
@@ -14,6 +17,8 @@ pub data Command : Type 0 where
   Plan : List ℕ → Command
   Gateway : List ℕ → List ℕ → List (List ℕ) → Command
   Modulate : List ℕ → List ℕ → List ℕ → Command
+  -- its second part is the identifier of a PLP
+  Receive : List ℕ → ℕ → List ℕ → List ℕ → Command
 
 abbrev pub is_empty : List ℕ → Bool
 is_empty [] = true
@@ -43,6 +48,15 @@ abbrev pub modulate_of : List ℕ → List ℕ → List ℕ → List ℕ → Opt
 modulate_of modulate config file out =
     if bytes_eq modulate (codes "modulate") && not (is_empty out) && is_input out config && is_input out file then Some (Modulate config file out) else None
 
+-- the identifier of a PLP that a word names: the number of one byte whose decimal it is
+abbrev pub plp_named : List ℕ → Option ℕ
+plp_named word = find (λ id. bytes_eq word (decimal id)) (range_with_len 0 256)
+
+-- the command of the words `receive CONFIG PLP IN OUT`
+abbrev pub receive_of : List ℕ → List ℕ → List ℕ → List ℕ → List ℕ → Option Command
+receive_of receive config plp file out =
+    if bytes_eq receive (codes "receive") && not (is_empty out) && is_input out config && is_input out file then option_map (λ id. Receive config id file out) (plp_named plp) else None
+
 -- the command of three words
 abbrev pub show_of : List ℕ → List ℕ → List ℕ → Option Command
 show_of show what file = if bytes_eq show (codes "show") && not (is_empty file) then shown what file else None
@@ -51,7 +65,9 @@ show_of show what file = if bytes_eq show (codes "show") && not (is_empty file) 
 abbrev pub longer : List ℕ → List ℕ → List ℕ → List (List ℕ) → Option Command
 longer first second third [] = if bytes_eq first (codes "gateway") then gateway_of second third [] else show_of first second third
 longer first second third (fourth ∷ []) = if bytes_eq first (codes "gateway") then gateway_of second third (fourth ∷ []) else modulate_of first second third fourth
-longer first second third (fourth ∷ more) = if bytes_eq first (codes "gateway") then gateway_of second third (fourth ∷ more) else None
+longer first second third (fourth ∷ fifth ∷ []) =
+    if bytes_eq first (codes "gateway") then gateway_of second third (fourth ∷ fifth ∷ []) else receive_of first second third fourth fifth
+longer first second third (fourth ∷ fifth ∷ more) = if bytes_eq first (codes "gateway") then gateway_of second third (fourth ∷ fifth ∷ more) else None
 
 -- the command that words name; no word of a command is empty
 abbrev pub command_of : List (List ℕ) → Option Command
@@ -68,9 +84,11 @@ meant (asked.ShowConfig file) = ShowConfig file.now
 meant (asked.Plan config) = Plan config.now
 meant (asked.Gateway config out ins) = Gateway config.now out.now ins.now
 meant (asked.Modulate config file out) = Modulate config.now file.now out.now
+meant (asked.Receive config plp file out) = Receive config.now plp file.now out.now
 
 -- The output of a request is none of its inputs.
 abbrev pub IsApart : Request → Type 0
 IsApart (asked.Gateway config out ins) = are_inputs out.now ins.now ≡ true
 IsApart (asked.Modulate config file out) = is_input out.now file.now ≡ true
+IsApart (asked.Receive config plp file out) = is_input out.now file.now ≡ true
 IsApart request = Unit {0}

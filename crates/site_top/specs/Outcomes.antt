@@ -19,10 +19,13 @@ use Rattle.gateway_run.specs.declared.stop.RunStop.TheVariants as run
 use Rattle.modulate_run.specs.declared.stop.Ran.{Ran as Modulated}
 use Rattle.modulate_run.specs.declared.stop.RunStop.{RunStop as ModulateStop}
 use Rattle.modulate_run.specs.declared.stop.RunStop.TheVariants as modulate
+use Rattle.receive_run.specs.declared.stop.Ran.{Ran as Received}
+use Rattle.receive_run.specs.declared.stop.RunStop.{RunStop as ReceiveStop}
+use Rattle.receive_run.specs.declared.stop.RunStop.TheVariants as receive
 use Rattle.show_run.specs.declared.stop.ShowStop.{ShowStop}
 use Rattle.show_run.specs.declared.stop.ShowStop.TheVariants as show
 use Rattle.site_top.specs.declared.outcome.Outcome.{Outcome}
-use Rattle.site_top.specs.declared.outcome.Outcome.TheVariants.{Done, Usage, WrongInputs, ConfigRefused, CapacityRefused, InputRefused, NoSuperframe, RecordRefused, TooLong, PacketRefused, ReadFault, WriteFault, OutOfMemory}
+use Rattle.site_top.specs.declared.outcome.Outcome.TheVariants.{Done, Usage, WrongInputs, ConfigRefused, CapacityRefused, InputRefused, NoSuperframe, RecordRefused, UnknownPlp, TooLong, PacketRefused, ReadFault, WriteFault, OutOfMemory}
 
 -- the status that the program ends with
 abbrev pub status_of : Outcome → ℕ
@@ -34,6 +37,7 @@ status_of (CapacityRefused test plp need have) = 4
 status_of (InputRefused input packet) = 5
 status_of NoSuperframe = 6
 status_of (RecordRefused number why) = 7
+status_of (UnknownPlp plp) = 8
 status_of (TooLong count) = 9
 status_of (PacketRefused at why) = 10
 status_of ReadFault = 70
@@ -82,6 +86,7 @@ last_line (CapacityRefused test plp need have) =
 last_line (InputRefused input packet) = codes "refused: input " ++ decimal input ++ codes " packet " ++ decimal packet ++ codes "\n"
 last_line NoSuperframe = codes "refused: no superframe\n"
 last_line (RecordRefused number why) = codes "refused: record " ++ decimal number ++ codes " why " ++ decimal (record_why_number why) ++ codes "\n"
+last_line (UnknownPlp plp) = codes "refused: plp " ++ decimal plp ++ codes "\n"
 last_line (TooLong count) = codes "refused: too long " ++ decimal count ++ codes "\n"
 last_line (PacketRefused at why) = codes "refused: packet at " ++ decimal at ++ codes " why " ++ decimal (why_number why) ++ codes "\n"
 last_line ReadFault = codes "fault: read\n"
@@ -137,3 +142,15 @@ modulate_stopped modulate.OutOfMemory = OutOfMemory
 abbrev pub modulate_outcome : Result Modulated ModulateStop → Outcome
 modulate_outcome (Ok ran) = Done
 modulate_outcome (Err stop) = modulate_stopped stop
+
+-- of one that gives packets back, whose run did not come to its end
+abbrev pub receive_stopped : ReceiveStop → Outcome
+receive_stopped (receive.RecordRefused number why) = RecordRefused number why
+receive_stopped (receive.TooLong count) = TooLong count
+receive_stopped receive.ReadFault = ReadFault
+receive_stopped receive.WriteFault = WriteFault
+receive_stopped receive.OutOfMemory = OutOfMemory
+
+abbrev pub receive_outcome : Result Received ReceiveStop → Outcome
+receive_outcome (Ok ran) = Done
+receive_outcome (Err stop) = receive_stopped stop

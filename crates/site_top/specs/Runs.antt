@@ -13,12 +13,13 @@ use Rattle.gateway_run.specs.declared.stop.RunStop.{RunStop}
 use Rattle.modulate_run.specs.Laws.{MustRun as ModulateMust}
 use Rattle.modulate_run.specs.declared.stop.Ran.{Ran as Modulated}
 use Rattle.modulate_run.specs.declared.stop.RunStop.{RunStop as ModulateStop}
-use Rattle.show_run.specs.Laws.{PacketsEnd, RecordsEnd, AreBytes}
+use Rattle.show_run.specs.Laws.{PacketsEnd, RecordsEnd}
 use Rattle.show_run.specs.PacketText.{IsPacketText}
 use Rattle.show_run.specs.RecordText.{IsRecordText}
 use Rattle.show_run.specs.Shows as show
 use Rattle.show_run.specs.T2miText.{IsT2miText}
 use Rattle.show_run.specs.declared.stop.ShowStop.{ShowStop}
+use Rattle.site_frame.specs.RecordFile.{AreBytes}
 use Rattle.site_top.specs.declared.outcome.Outcome.{Outcome}
 use Rattle.site_top.specs.declared.outcome.Outcome.TheVariants.{Done, OutOfMemory}
 use Rattle.site_top.specs.Commands.{Command, ShowPackets, ShowT2mi, ShowFrames, ShowConfig, Plan, Gateway, Modulate}

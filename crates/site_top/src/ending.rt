@@ -69,6 +69,16 @@ fn record_refused_line(number: u64, why: RecordWhy) -> Line
     line
 }
 
+#[tactic(auto, unfolding(crate::specs::Outcomes::last_line))]
+fn unknown_plp_line(plp: u8) -> Line
+    ensures { result ≡ line_of_outcome (Outcome.UnknownPlp plp) }
+{
+    let mut line = Line::new();
+    line.push_field(b"refused: plp ", u64::from(plp));
+    line.push(b"\n");
+    line
+}
+
 fn text_why_number(why: TextWhy) -> u8
     ensures { result ≡ number_of_text_why why }
 {
@@ -158,6 +168,7 @@ pub fn last_line(outcome: Outcome) -> Line
         Outcome::InputRefused { input, packet } => input_refused_line(input, packet),
         Outcome::NoSuperframe => line_with(b"refused: no superframe\n"),
         Outcome::RecordRefused { number, why } => record_refused_line(number, why),
+        Outcome::UnknownPlp { plp } => unknown_plp_line(plp),
         Outcome::TooLong { count } => too_long_line(count),
         Outcome::PacketRefused { at, why } => packet_refused_line(at, why),
         Outcome::ReadFault => line_with(b"fault: read\n"),

@@ -8,6 +8,7 @@ mod laws;
 mod modulate;
 mod outcome;
 mod plan_lines;
+mod receive;
 mod request;
 mod running;
 mod show;

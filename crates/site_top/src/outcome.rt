@@ -43,6 +43,10 @@ pub enum Outcome {
         number: u64,
         why: RecordWhy,
     },
+    /// No PLP of the configuration has this identifier.
+    UnknownPlp {
+        plp: u8,
+    },
     /// A file gave as many bytes as no file may have, or a frame comes of which none may have the number; `count` is that number.
     TooLong {
         count: u64,
@@ -73,6 +77,7 @@ impl Outcome {
             Outcome::InputRefused { .. } => 5,
             Outcome::NoSuperframe => 6,
             Outcome::RecordRefused { .. } => 7,
+            Outcome::UnknownPlp { .. } => 8,
             Outcome::TooLong { .. } => 9,
             Outcome::PacketRefused { .. } => 10,
             Outcome::ReadFault => 70,

@@ -1,8 +1,9 @@
 // What the words of the command line ask for.
 ghost use Rattle.std.specs.Prelude.{◌≡◌, IfSome};
 ghost use Rattle.std.specs.Option.{option_map};
-ghost use Rattle.site_top.specs.Commands.{command_of, shown as shown_by, show_of as show_by, is_input, are_inputs, gateway_of as gateway_by, modulate_of as modulate_by, meant, IsApart};
+ghost use Rattle.site_top.specs.Commands.{command_of, shown as shown_by, show_of as show_by, is_input, are_inputs, gateway_of as gateway_by, modulate_of as modulate_by, plp_named as plp_by, receive_of as receive_by, meant, IsApart};
 
+use config_text::number;
 use ports::Word;
 
 /// A command, with the names of its files.
@@ -37,6 +38,14 @@ pub enum Request<'a> {
     /// Makes the records of the frames of a network: its configuration, its T2-MI stream, and the records.
     Modulate {
         config: &'a str,
+        input: &'a str,
+        out: &'a str,
+    },
+    /// Gives back the packets of the PLP with an identifier: the configuration of the network, the records of its frames, and the
+    /// transport stream.
+    Receive {
+        config: &'a str,
+        plp: u8,
         input: &'a str,
         out: &'a str,
     },
@@ -106,6 +115,38 @@ fn modulate_of<'a>(
     None
 }
 
+// The identifier of a PLP that a word names.
+#[tactic(auto, using(crate::proofs::RequestLemmas::names_plp, crate::proofs::RequestLemmas::names_none))]
+fn plp_named(word: &str) -> Option<u8>
+    ensures { result ≡ plp_by word.now }
+{
+    let id = number(word.as_bytes())?;
+    u8::try_from(id).ok()
+}
+
+// The command `receive CONFIG PLP IN OUT`, where the output is none of the files that are read.
+fn receive_of<'a>(
+    receive: &str,
+    config: &'a str,
+    plp: &str,
+    input: &'a str,
+    out: &'a str,
+) -> Option<Request<'a>>
+    ensures named { option_map meant result ≡ receive_by receive.now config.now plp.now input.now out.now }
+    ensures apart { IfSome result IsApart }
+{
+    if receive != "receive" || out.is_empty() || !is_input(out, config) || !is_input(out, input) {
+        return None;
+    }
+    let plp = plp_named(plp)?;
+    Some(Request::Receive {
+        config,
+        plp,
+        input,
+        out,
+    })
+}
+
 // The command of three words.
 fn show_of<'a>(show: &str, what: &str, file: &'a str) -> Option<Request<'a>>
     ensures named { option_map meant result ≡ show_by show.now what.now file.now }
@@ -139,6 +180,13 @@ pub fn request_of<'a>(words: &'a [Word]) -> Option<Request<'a>>
         [modulate, config, input, out] => modulate_of(
             modulate.as_str(),
             config.as_str(),
+            input.as_str(),
+            out.as_str(),
+        ),
+        [receive, config, plp, input, out] => receive_of(
+            receive.as_str(),
+            config.as_str(),
+            plp.as_str(),
             input.as_str(),
             out.as_str(),
         ),

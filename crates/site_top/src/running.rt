@@ -11,6 +11,7 @@ use crate::gateway::gateway;
 use crate::laws::completeness;
 use crate::modulate::modulate;
 use crate::outcome::Outcome;
+use crate::receive::receive;
 use crate::request::{Request, request_of};
 use crate::show::outcome_of;
 use ports::{Desk, Word};
@@ -30,6 +31,12 @@ fn command<D: Desk>(alloc: Global, words: &[Word], desk: &mut D) -> Outcome
         Some(Request::Plan { config }) => plan(alloc, config, desk),
         Some(Request::Gateway { config, out, ins }) => gateway(alloc, config, out, ins, desk),
         Some(Request::Modulate { config, input, out }) => modulate(alloc, config, input, out, desk),
+        Some(Request::Receive {
+            config,
+            plp,
+            input,
+            out,
+        }) => receive(alloc, config, plp, input, out, desk),
         None => Outcome::Usage,
     }
 }

@@ -1,4 +1,4 @@
--- Records one behind another: one more, the first of them, and their lines.
+-- Records one behind another: one more, and the first of them.
 use Rattle.std.proofs.Common.{◌≡◌, ℕ, suc, ◌+◌, ◌≤◌, List, [], ◌∷◌, ◌++◌, length, take, drop, refl, ap, sym, subst, ◌∙◌, arith, append_assoc, append-nil, length-append, length-drop}
 use Rattle.std.proofs.lemmas.List.{take-append-le, take-append-drop, drop-append-le, length-take-le}
 use Rattle.std.proofs.Math.ListN.{drop_of_length-le}
@@ -6,10 +6,9 @@ use Rattle.site_frame.specs.Record.{head_len}
 use Rattle.site_frame.specs.Whole.{Spells, BeginsWith, Follow}
 use Rattle.site_frame.specs.declared.reading.RecordView.{RecordView}
 use Rattle.site_frame.specs.RecordFile.{AreRecords, Announces}
-use Rattle.show_run.specs.SaidLines.{record_line, record_lines}
 
 -- a record that begins a front begins the whole
-begins_on : (front more : List ℕ) (view : RecordView) (len : ℕ) → BeginsWith front view len → BeginsWith (front ++ more) view len
+pub begins_on : (front more : List ℕ) (view : RecordView) (len : ℕ) → BeginsWith front view len → BeginsWith (front ++ more) view len
 begins_on front more view len b = record {
   inside = (let i = b.inside in omega (arith, i, length-append front more));
   spells = subst (Spells view) (sym (take-append-le len front more b.inside)) b.spells;
@@ -38,13 +37,6 @@ records_first file rest (v ∷ vs) ws (len, begins, others) = let more = records
 pub rest_inside : (file rest : List ℕ) (views : List RecordView) → AreRecords file views rest → length rest ≤ length file
 rest_inside file rest [] e = omega (arith, ap length e)
 rest_inside file rest (v ∷ vs) (len, begins, others) = omega (arith, rest_inside (drop len file) rest vs others, length-drop len file)
-
-pub record_lines-append : (number : ℕ) (vs ws : List RecordView) → record_lines number (vs ++ ws) ≡ record_lines number vs ++ record_lines (number + length vs) ws
-record_lines-append number [] ws = let e : number ≡ number + 0 = omega arith in ap (λ (k : ℕ). record_lines k ws) e
-record_lines-append number (v ∷ vs) ws =
-    let e : number + 1 + length vs ≡ number + suc (length vs) = omega arith in
-    ap (λ (text : List ℕ). record_line number v ++ text) (record_lines-append (number + 1) vs ws ∙ ap (λ (k : ℕ). record_lines (number + 1) vs ++ record_lines k ws) e)
-    ∙ sym (append_assoc (record_line number v) (record_lines (number + 1) vs) (record_lines (number + suc (length vs)) ws))
 
 -- what a head announces it does whatever follows
 pub announces_on : (bytes more : List ℕ) (len : ℕ) → Announces bytes len → Announces (bytes ++ more) len

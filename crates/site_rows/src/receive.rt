@@ -1,0 +1,308 @@
+// `receive CONFIG PLP IN OUT`, over what `modulate` wrote of what `gateway` wrote. Expected values come from worked examples.
+
+use crate::runs::{DATA, LOADED, NETWORK, SMALL, words_of};
+use ports::MemoryDesk;
+use sample_networks::REALISTIC_TEXT;
+use site_frame::RecordWhy;
+use site_top::{Outcome, run};
+use std::alloc::Global;
+use std::process::Abort;
+use std::test::Fail;
+
+const KEPT: &str = "plp 0 type1 1 1/2 qpsk short 0 4 1 keep 2000000\n";
+
+// Two PLPs of type 1 and one of type 2, whose blocks are sent in sub-slices.
+const MIXED: &str = "t2-gateway 1\nbandwidth 8\nframe 100000 2 60000\nstart 700000000 0 5\npid 256\nnetwork 1 2 3 474000000\nl1 0 6 1 0 1 0 0 1000 6 0 59 0\nsubslices 5\n\
+plp 1 type1 1 1/2 qpsk short 0 3 1 delete 1906000\nplp 2 type1 1 2/3 16qam short 0 2 2 keep 1500000\nplp 3 type2 2 3/5 64qam short 0 2 1 delete 1600000\n";
+
+// Muted records of the frames 0 and 2.
+#[rattlefmt::skip]
+const APART: [[u8; 24]; 2] = [
+    [0x54, 0x32, 0x46, 0x52, 2, 0, 0, 0, 0, 0, 0, 0, 0x29, 0xB9, 0x27, 0x00, 0x00, 0x00, 0x00, 0x00, 0, 0, 0, 0],
+    [0x54, 0x32, 0x46, 0x52, 2, 0, 0, 0, 0, 0, 0, 0, 0x29, 0xB9, 0x27, 0x00, 0x00, 0x15, 0x5C, 0xC0, 0, 0, 0, 0],
+];
+
+// Some slots of an output in a row.
+#[derive(Clone, Copy)]
+enum Slots {
+    // Those of the packets that were sent from the one number up to the other.
+    Sent(u16, u16),
+    // So many with the canonical null packet.
+    Null(u16),
+}
+
+fn null_packet() -> [u8; 188] {
+    let mut packet = [0xFF; 188];
+    packet[..4].copy_from_slice(&[0x47, 0x1F, 0xFF, 0x10]);
+    packet
+}
+
+fn add_nulls(bytes: &mut Vec<u8>, count: u16) -> Result<(), Fail> {
+    for _ in 0..count {
+        bytes.extend_from_slice(&null_packet())?;
+    }
+    Ok(())
+}
+
+// The packets of some slots, of which these were sent.
+fn packets_of(alloc: Global, sent: &[u8], slots: &[Slots]) -> Result<Vec<u8>, Fail> {
+    let mut bytes = Vec::new(alloc);
+    for part in slots {
+        match *part {
+            Slots::Sent(from, to) => bytes.extend_from_slice(
+                sent.get(188 * usize::from(from)..188 * usize::from(to))
+                    .map_or(&[][..], |packets| packets),
+            )?,
+            Slots::Null(count) => add_nulls(&mut bytes, count)?,
+        }
+    }
+    Ok(bytes)
+}
+
+// So many packets that are not null, each with its number.
+fn numbered(alloc: Global, count: u16) -> Result<Vec<u8>, Fail> {
+    let mut bytes = Vec::new(alloc);
+    for number in 0..count {
+        bytes.extend_from_slice(&DATA)?;
+        bytes.extend_from_slice(&number.to_be_bytes())?;
+        bytes.extend_from_slice(&[0xAB; 182])?;
+    }
+    Ok(bytes)
+}
+
+// Runs a command that is done.
+fn done(rt: &(impl AllocGlobal + Abort), desk: &mut MemoryDesk, words: &[&str]) -> Result<(), Fail> {
+    let words = words_of(rt.alloc(), words)?;
+    assert_eq!(rt; run(rt.alloc(), words.as_slice(), desk), Outcome::Done);
+    Ok(())
+}
+
+// A file of a desk.
+fn file_of(alloc: Global, desk: &MemoryDesk, name: &str) -> Result<Vec<u8>, Fail> {
+    Ok(desk.file(name).map_or(&[][..], |bytes| bytes).to_vec(alloc)?)
+}
+
+// The stream of a network with one PLP.
+fn stream_of(rt: &(impl AllocGlobal + Abort), config: &str, packets: &[u8]) -> Result<Vec<u8>, Fail> {
+    let mut desk = MemoryDesk::new(rt.alloc());
+    desk.put_file("c", config.as_bytes())?;
+    desk.put_file("0", packets)?;
+    done(rt, &mut desk, &["gateway", "c", "t", "0"])?;
+    file_of(rt.alloc(), &desk, "t")
+}
+
+// What is given back of a PLP from a stream of its network, after a run that said this.
+fn received(
+    rt: &(impl AllocGlobal + Abort),
+    config: &str,
+    plp: &str,
+    stream: &[u8],
+    line: &str,
+) -> Result<Vec<u8>, Fail> {
+    let mut desk = MemoryDesk::new(rt.alloc());
+    desk.put_file("c", config.as_bytes())?;
+    desk.put_file("t", stream)?;
+    done(rt, &mut desk, &["modulate", "c", "t", "r"])?;
+    done(rt, &mut desk, &["receive", "c", plp, "r", "o"])?;
+    assert!(rt; desk.said().ends_with(line.as_bytes()));
+    file_of(rt.alloc(), &desk, "o")
+}
+
+// From a stream without some of its units come these packets.
+fn gives_back(
+    rt: &(impl AllocGlobal + Abort),
+    config: &str,
+    sent: &[u8],
+    stream: &[u8],
+    line: &str,
+    slots: &[Slots],
+) -> Result<(), Fail> {
+    let given = received(rt, config, "0", stream, line)?;
+    assert!(rt; given == packets_of(rt.alloc(), sent, slots)?);
+    Ok(())
+}
+
+// A null packet is deleted, and comes back canonical; one that is kept comes back byte by byte.
+#[test]
+fn null_packets(rt: HostRuntime) -> Result<(), Fail> {
+    let alloc = rt.alloc();
+    let small = format!(in alloc; "{NETWORK}{SMALL}")?;
+    let none = stream_of(&rt, &small, &[])?;
+    gives_back(&rt, &small, &[], &none, "first=0 slots=14\n", &[Slots::Null(14)])?;
+    let mut nulls = Vec::new(alloc);
+    add_nulls(&mut nulls, 300)?;
+    let stream = stream_of(&rt, &small, &nulls)?;
+    gives_back(&rt, &small, &[], &stream, "first=0 slots=305\n", &[Slots::Null(305)])?;
+    let kept = format!(in alloc; "{NETWORK}{KEPT}")?;
+    for last in nulls.iter_mut().skip(187).step_by(188) {
+        *last = 0;
+    }
+    let stream = stream_of(&rt, &kept, &nulls)?;
+    let slots = [Slots::Sent(0, 300), Slots::Null(5)];
+    gives_back(&rt, &kept, &nulls, &stream, "first=0 slots=305\n", &slots)
+}
+
+// Unit 90 has the first byte of frame 7, behind the end of frame 6: the first whole superframe behind it begins with frame 8.
+#[test]
+fn from_a_later_superframe_on(rt: HostRuntime) -> Result<(), Fail> {
+    let config = format!(in rt.alloc(); "{NETWORK}{LOADED}")?;
+    let sent = numbered(rt.alloc(), 110)?;
+    let stream = stream_of(&rt, &config, &sent)?;
+    let rest = stream.get(90 * 188..).map_or(&[][..], |units| units);
+    let slots = [Slots::Sent(97, 110), Slots::Null(14)];
+    gives_back(&rt, &config, &sent, rest, "first=97 slots=27\n", &slots)
+}
+
+// Unit 45 has the end of frame 3 and the beginning of frame 4.
+#[test]
+fn a_lost_unit_costs_the_slots_of_its_frames(rt: HostRuntime) -> Result<(), Fail> {
+    let alloc = rt.alloc();
+    let config = format!(in alloc; "{NETWORK}{LOADED}")?;
+    let sent = numbered(alloc, 110)?;
+    let stream = stream_of(&rt, &config, &sent)?;
+    let mut lossy = stream
+        .get(..45 * 188)
+        .map_or(&[][..], |front| front)
+        .to_vec(alloc)?;
+    lossy.extend_from_slice(stream.get(46 * 188..).map_or(&[][..], |rest| rest))?;
+    let slots = [Slots::Sent(0, 26), Slots::Null(29), Slots::Sent(55, 110), Slots::Null(14)];
+    gives_back(&rt, &config, &sent, &lossy, "first=0 slots=124\n", &slots)
+}
+
+// Byte 2,928 stands in the timestamp of superframe 1, whose first frame is 2.
+#[test]
+fn a_damaged_timestamp_costs_the_slots_of_its_frame(rt: HostRuntime) -> Result<(), Fail> {
+    let config = format!(in rt.alloc(); "{NETWORK}{LOADED}")?;
+    let sent = numbered(rt.alloc(), 110)?;
+    let mut stream = stream_of(&rt, &config, &sent)?;
+    if let Some(byte) = stream.get_mut(2_928) {
+        *byte = !*byte;
+    }
+    let slots = [Slots::Sent(0, 13), Slots::Null(14), Slots::Sent(27, 110), Slots::Null(14)];
+    gives_back(&rt, &config, &sent, &stream, "first=0 slots=124\n", &slots)
+}
+
+// A network of 40 Mbit/s: all packets of four frames, and the null packets of the slots behind them.
+#[test]
+fn a_realistic_network(rt: HostRuntime) -> Result<(), Fail> {
+    let sent = numbered(rt.alloc(), 23_847)?;
+    let stream = stream_of(&rt, REALISTIC_TEXT, &sent)?;
+    let slots = [Slots::Sent(0, 23_847), Slots::Null(5_962)];
+    gives_back(&rt, REALISTIC_TEXT, &sent, &stream, "first=0 slots=29809\n", &slots)
+}
+
+// The stream of the network of three PLPs, over inputs of which each packet has its number.
+fn mixed_stream(rt: &(impl AllocGlobal + Abort), sent: &[u8]) -> Result<Vec<u8>, Fail> {
+    let mut desk = MemoryDesk::new(rt.alloc());
+    desk.put_file("c", MIXED.as_bytes())?;
+    for name in ["1", "2", "3"] {
+        desk.put_file(name, sent)?;
+    }
+    done(rt, &mut desk, &["gateway", "c", "t", "1", "2", "3"])?;
+    file_of(rt.alloc(), &desk, "t")
+}
+
+// Each packet of an output is the one that was given back of all units, or a null packet.
+fn is_part_of(rt: &impl Abort, given: &[u8], all: &[u8]) {
+    assert_eq!(rt; given.len(), all.len());
+    let null = null_packet();
+    for (packet, own) in given.chunks_exact(188).zip(all.chunks_exact(188)) {
+        assert!(rt; packet == own || packet == null.as_slice());
+    }
+}
+
+// What comes back of each PLP: every packet, and null packets behind; from the second superframe on the same; and without a unit each
+// packet in its slot, or a null packet.
+#[test]
+fn each_plp_of_a_network_of_both_types(rt: HostRuntime) -> Result<(), Fail> {
+    let sent = numbered(rt.alloc(), 80)?;
+    let stream = mixed_stream(&rt, &sent)?;
+    let later = stream.get(20 * 188..).map_or(&[][..], |units| units);
+    let mut lossy = stream.get(..60 * 188).map_or(&[][..], |front| front).to_vec(rt.alloc())?;
+    lossy.extend_from_slice(stream.get(61 * 188..).map_or(&[][..], |rest| rest))?;
+    for plp in ["1", "2", "3"] {
+        let all = received(&rt, MIXED, plp, &stream, "\n")?;
+        assert!(rt; all.starts_with(&sent));
+        let behind = all.get(sent.len()..).map_or(&[][..], |rest| rest);
+        for packet in behind.chunks_exact(188) {
+            assert!(rt; packet == null_packet().as_slice());
+        }
+        assert!(rt; all.ends_with(&received(&rt, MIXED, plp, later, "\n")?));
+        is_part_of(&rt, &received(&rt, MIXED, plp, &lossy, "\n")?, &all);
+    }
+    Ok(())
+}
+
+// How a run over the small network and its records `r` ended, what it said, and what OUT holds if it is there.
+fn ends(
+    alloc: Global,
+    words: &[&str],
+    records: &[u8],
+) -> Result<(Outcome, Vec<u8>, Option<usize>), Fail> {
+    let mut desk = MemoryDesk::new(alloc);
+    desk.put_file("c", format!(in alloc; "{NETWORK}{SMALL}")?.as_bytes())?;
+    desk.put_file("r", records)?;
+    let words = words_of(alloc, words)?;
+    let outcome = run(alloc, words.as_slice(), &mut desk);
+    let said = desk.said().to_vec(alloc)?;
+    Ok((outcome, said, desk.file("o").map(|out| out.len())))
+}
+
+#[test]
+fn a_file_without_records(rt: HostRuntime) -> Result<(), Fail> {
+    let ended = ends(rt.alloc(), &["receive", "c", "0", "r", "o"], &[])?;
+    assert_eq!(rt; ended.0, Outcome::Done);
+    assert_eq!(rt; ended.1.as_slice(), "first=0 slots=0\n".as_bytes());
+    assert_eq!(rt; ended.2, Some(0));
+    Ok(())
+}
+
+// The first byte is no head's; and a record of frame 2 stands behind that of frame 0.
+#[test]
+fn refused_records(rt: HostRuntime) -> Result<(), Fail> {
+    let words = ["receive", "c", "0", "r", "o"];
+    let mut apart = APART[0].to_vec(rt.alloc())?;
+    apart.extend_from_slice(&APART[1])?;
+    let rows: [(&[u8], u64, RecordWhy, &str); 2] = [
+        (&[0x55], 0, RecordWhy::Head, "refused: record 0 why 1\n"),
+        (&apart, 1, RecordWhy::Order, "refused: record 1 why 4\n"),
+    ];
+    for (records, number, why, line) in rows {
+        let ended = ends(rt.alloc(), &words, records)?;
+        assert_eq!(rt; ended.0, Outcome::RecordRefused { number, why });
+        assert_eq!(rt; ended.0.status(), 7);
+        assert_eq!(rt; ended.1.as_slice(), line.as_bytes());
+        assert_eq!(rt; ended.2, Some(0));
+    }
+    Ok(())
+}
+
+#[test]
+fn an_unknown_plp(rt: HostRuntime) -> Result<(), Fail> {
+    let ended = ends(rt.alloc(), &["receive", "c", "9", "r", "o"], &[])?;
+    assert_eq!(rt; ended.0, Outcome::UnknownPlp { plp: 9 });
+    assert_eq!(rt; ended.0.status(), 8);
+    assert_eq!(rt; ended.1.as_slice(), "refused: plp 9\n".as_bytes());
+    assert_eq!(rt; ended.2, None);
+    Ok(())
+}
+
+// The identifier is a decimal of one byte, and OUT is none of the files that are read.
+#[test]
+fn nothing_is_created_for_wrong_words(rt: HostRuntime) -> Result<(), Fail> {
+    let wrong: [&[&str]; 7] = [
+        &["receive", "c", "0", "r"],
+        &["receive", "c", "0", "r", "r"],
+        &["receive", "c", "0", "r", "c"],
+        &["receive", "c", "00", "r", "o"],
+        &["receive", "c", "+0", "r", "o"],
+        &["receive", "c", "256", "r", "o"],
+        &["receive", "c", "", "r", "o"],
+    ];
+    for words in wrong {
+        let ended = ends(rt.alloc(), words, &[])?;
+        assert_eq!(rt; ended.0, Outcome::Usage);
+        assert_eq!(rt; ended.2, None);
+    }
+    Ok(())
+}
