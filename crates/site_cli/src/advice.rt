@@ -24,6 +24,8 @@ usage: site_cli plan CONFIG
          writes to OUT the T2-MI stream of a network from one transport stream IN for each PLP, in the order of CONFIG
        site_cli modulate CONFIG IN OUT
          writes to OUT the records of the T2 frames that a modulator makes from the T2-MI stream IN
+       site_cli receive CONFIG PLP IN OUT
+         writes to OUT the transport stream that a receiver of the PLP with the identifier PLP makes from the records IN
 ";
 
 // Whether the words are those of `gateway`, which has several inputs.
@@ -35,11 +37,17 @@ fn is_modulate(words: &[Word]) -> bool {
     words.len() == 4 && words[0].as_str() == "modulate"
 }
 
+fn is_receive(words: &[Word]) -> bool {
+    words.len() == 5 && words[0].as_str() == "receive"
+}
+
 fn say_usage(rt: &impl Eprint, words: &[Word]) -> io::Result<()> {
     if words.iter().any(|word| word.as_str().is_empty()) {
         eprint!(rt; "a word is empty or not UTF-8\n{COMMANDS}")
     } else if is_gateway(words) || is_modulate(words) {
         eprint!(rt; "OUT must be neither CONFIG nor an IN\n{COMMANDS}")
+    } else if is_receive(words) {
+        eprint!(rt; "PLP must be a decimal number from 0 to 255, without sign and leading zeros, and OUT neither CONFIG nor IN\n{COMMANDS}")
     } else {
         eprint!(rt; "these words are no command\n{COMMANDS}")
     }
@@ -160,6 +168,12 @@ fn say(
         Outcome::PacketRefused { at, why } => eprintln!(rt;
             "{file}: no T2-MI packet begins at byte {at}: {why}; the packets before it were shown; see that the file holds whole packets and nothing else"
         ),
+        Outcome::UnknownPlp { plp } => eprintln!(rt;
+            "{file}: no PLP has the identifier {plp}; it is the first number behind the word plp"
+        ),
+        Outcome::RecordRefused { number, why } if is_receive(words) => eprintln!(rt;
+            "{file}: record {number}, counted from 0: {why}; OUT holds what the records before it give back; see that the file holds the records of successive frames of CONFIG and nothing else"
+        ),
         Outcome::RecordRefused { number, why } => eprintln!(rt;
             "{file}: record {number}, counted from 0: {why}; the records before it were shown; see that the file holds whole records and nothing else"
         ),
@@ -178,7 +192,10 @@ fn file_of(words: &[Word], outcome: Outcome) -> &str {
     match outcome {
         Outcome::TooLong { .. } if is_gateway(words) => "an IN",
         Outcome::TooLong { .. } | Outcome::NoSuperframe if is_modulate(words) => word_at(words, 2),
-        _ if is_gateway(words) || is_modulate(words) => word_at(words, 1),
+        Outcome::TooLong { .. } | Outcome::RecordRefused { .. } if is_receive(words) => {
+            word_at(words, 3)
+        }
+        _ if is_gateway(words) || is_modulate(words) || is_receive(words) => word_at(words, 1),
         _ => words.last().map_or("", |word| word.as_str()),
     }
 }

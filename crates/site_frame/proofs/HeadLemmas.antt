@@ -3,7 +3,7 @@ use Rattle.std.proofs.Common.{◌≡◌, ◌⊎◌, ℕ, ◌+◌, ◌-◌, ◌*�
 use Rattle.std.specs.Prelude.{slice_index, IfOk, IfErr}
 use Rattle.std.proofs.Math.ListN.{get_or-append}
 use Rattle.std.specs.List.{concat}
-use Rattle.std.proofs.lemmas.List.{take_at, take_all, take-append-drop, drop-append-le, length-append, length-take, length-drop, length-replicate}
+use Rattle.std.proofs.lemmas.List.{take_all, take-append-drop, drop-append-le, length-append, length-take, length-drop, length-replicate}
 use Rattle.byteorder.specs.Endian.{big_number}
 use Rattle.byteorder.specs.Numbers.{big_from-append}
 use Rattle.plp_config.specs.declared.moment.Moment.{Moment}

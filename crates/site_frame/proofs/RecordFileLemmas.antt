@@ -1,6 +1,6 @@
 -- Records one behind another: one more, and the first of them.
-use Rattle.std.proofs.Common.{◌≡◌, ℕ, suc, ◌+◌, ◌≤◌, List, [], ◌∷◌, ◌++◌, length, take, drop, refl, ap, sym, subst, ◌∙◌, arith, append_assoc, append-nil, length-append, length-drop}
-use Rattle.std.proofs.lemmas.List.{take-append-le, take-append-drop, drop-append-le, length-take-le}
+use Rattle.std.proofs.Common.{◌≡◌, ℕ, ◌+◌, ◌≤◌, List, [], ◌∷◌, ◌++◌, length, drop, refl, ap, sym, subst, arith, length-append, length-drop}
+use Rattle.std.proofs.lemmas.List.{take-append-le, take-append-drop, drop-append-le}
 use Rattle.std.proofs.Math.ListN.{drop_of_length-le}
 use Rattle.site_frame.specs.Record.{head_len}
 use Rattle.site_frame.specs.Whole.{Spells, BeginsWith, Follow}

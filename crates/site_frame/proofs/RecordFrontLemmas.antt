@@ -1,14 +1,12 @@
 -- What is refused of a record that has come whole is refused whatever follows.
-use Rattle.std.proofs.Common.{◌≡◌, ◌⊎◌, ℕ, ◌+◌, ◌^◌, ◌<◌, ◌≤◌, List, [], ◌∷◌, ◌++◌, length, take, drop, refl, sym, ap, subst, ◌∙◌, arith, append_assoc}
-use Rattle.std.specs.Prelude.{slice_index}
-use Rattle.std.proofs.Math.ListN.{get_or-append}
+use Rattle.std.proofs.Common.{◌≡◌, ℕ, ◌+◌, ◌^◌, ◌<◌, List, ◌++◌, length, take, drop, sym, ap, subst, ◌∙◌, arith, append_assoc}
 use Rattle.std.proofs.lemmas.List.{take-append-le, take-append-drop, drop-append-le, drop_at, length-append, length-drop, length-take-le}
 use Rattle.byteorder.specs.Endian.{big_number, big_bytes}
-use Rattle.byteorder.specs.Numbers.{big_number-reads_back, big_from-append, length-bytes_high_first}
+use Rattle.byteorder.specs.Numbers.{big_number-reads_back, length-bytes_high_first}
 use Rattle.site_frame.proofs.HeadLemmas.{same_at, told_on, head_on, head_back, kind_on, kind_back}
 use Rattle.plp_config.specs.declared.moment.Moment.{Moment}
 use Rattle.site_frame.specs.Record.{head_len, head_bytes}
-use Rattle.site_frame.specs.Whole.{kind_of, moment_of, HasRest, Spells, HasHead, HasKind, told_len, told_rest, HasLength, Refuses, Follow}
+use Rattle.site_frame.specs.Whole.{kind_of, moment_of, HasRest, told_len, told_rest, HasLength, Refuses, Follow}
 use Rattle.site_frame.specs.declared.fault.RecordWhy.{RecordWhy}
 use Rattle.site_frame.specs.declared.fault.RecordWhy.TheVariants.{Head, Kind, Length, Order, OffGrid}
 use Rattle.site_frame.specs.RecordFile.{Announces}

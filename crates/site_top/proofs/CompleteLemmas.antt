@@ -11,6 +11,7 @@ use Rattle.frame_groups.specs.Modulated.{FrameRecord}
 use Rattle.ports.specs.Counts.{Rose}
 use Rattle.ports.specs.Desk.{State, Held, SameCounts, with_name, bytes_of}
 use Rattle.plp_config.specs.Capacity.{IsPlan}
+use Rattle.plp_config.specs.Places.{IsPlace}
 use Rattle.plp_config.specs.declared.config.Config.{Config}
 use Rattle.plp_config.specs.declared.moment.TheConstants.{MOST_FRAMES}
 use Rattle.config_file.specs.ConfigFile.{Gives, GivesNone, GivesNoPlan}
@@ -30,6 +31,11 @@ use Rattle.modulate_run.specs.ModulateRun.{records_of, AreEarly, HasEarly}
 use Rattle.modulate_run.specs.declared.stop.Ran.{Ran as Modulated}
 use Rattle.modulate_run.specs.declared.stop.RunStop.{RunStop as ModulateStop}
 use Rattle.modulate_run.specs.declared.stop.RunStop.TheVariants as modulate
+use Rattle.receive_run.specs.Laws.{OneRun as OneReception}
+use Rattle.receive_run.specs.ReceiveRun as receiving
+use Rattle.receive_run.specs.declared.stop.Ran.{Ran as Received}
+use Rattle.receive_run.specs.declared.stop.RunStop.{RunStop as ReceiveStop}
+use Rattle.receive_run.specs.declared.stop.RunStop.TheVariants as receive
 use Rattle.show_run.specs.PacketText.{IsPacketText}
 use Rattle.show_run.specs.RecordText.{IsRecordText}
 use Rattle.show_run.specs.Shows.{Counted}
@@ -39,15 +45,16 @@ use Rattle.show_run.specs.declared.stop.ShowStop.TheVariants as show
 use Rattle.ts_packet.specs.TsFile.{HasBad}
 use Rattle.site_top.specs.declared.outcome.Outcome.{Outcome}
 use Rattle.site_top.specs.declared.outcome.Outcome.TheVariants.{Done, WriteFault, OutOfMemory}
-use Rattle.site_top.specs.Commands.{Command, ShowPackets, ShowT2mi, ShowFrames, ShowConfig, Plan, Gateway, Modulate}
+use Rattle.site_top.specs.Commands.{Command, ShowPackets, ShowT2mi, ShowFrames, ShowConfig, Plan, Gateway, Modulate, Receive}
 use Rattle.site_top.specs.ConfigCommands.{ShowsConfig, Plans}
 use Rattle.site_top.specs.GatewayCommand.{gateway_line, RunsAndTells, Follows, Gateways}
 use Rattle.site_top.specs.Laws.{OneEnding, Completeness}
 use Rattle.site_top.specs.ModulateCommand.{modulate_line, RunsAndTells as ModulatesAndTells, Modulates}
-use Rattle.site_top.specs.Outcomes.{shown_outcome, config_outcome, stopped_outcome, ran_outcome, modulate_stopped, modulate_outcome}
-use Rattle.site_top.specs.Runs.{AreShort, MustEnd, IsComplete}
+use Rattle.site_top.specs.ReceiveCommand.{receive_line, Follows as ReceiveFollows, Receives}
+use Rattle.site_top.specs.Outcomes.{shown_outcome, config_outcome, stopped_outcome, ran_outcome, modulate_stopped, modulate_outcome, receive_stopped}
+use Rattle.site_top.specs.Runs.{AreShort, ModulateMustEnd, ReceiveMustEnd, MustEnd, IsComplete}
 use Rattle.site_top.specs.Saying.{Tells}
-use Rattle.site_top.proofs.EndingLemmas.{EndsIfShort, ended_so, ModulatesIfShort, modulated_so, unplanned_so}
+use Rattle.site_top.proofs.EndingLemmas.{EndsIfShort, ended_so, ModulatesIfShort, modulated_so, ReceivesIfShort, received_so, unplanned_so}
 
 -- How a run came to its outcome: by its files, if something is so of what must be; or by a fault, or want of memory.
 abbrev By : (State → State → Outcome → Type 0)
@@ -274,7 +281,7 @@ modulate_ways old mid new file out c outcome same (inr (ran, after, runs, holds,
 modulate_so : OnePlan → OneModulation → (old new : State) (config file out : List ℕ) (result : Outcome) → Modulates old new config file out result → IsComplete (Modulate config file out) old new result
 modulate_so one run old new config file out result (inl (stop, none, is)) =
     ⊎_elim
-    (λ s. IfSome_then old.held s (λ held x. λ outcome must r w. inl (unplanned_so one held config file out stop result outcome x is must)))
+    (λ s. IfSome_then old.held s (λ held x. λ outcome must r w. inl (unplanned_so one (bytes_of held.files config) (ModulateMustEnd (bytes_of held.files file)) stop result outcome x is must)))
     (λ by. failed (Modulate config file out) old new result (subst (By old new) (sym is) by))
     (no_plan old new config stop none)
 modulate_so one run old new config file out result (inr (c, mid, gives, plan, runs)) =
@@ -284,14 +291,57 @@ modulate_so one run old new config file out result (inr (c, mid, gives, plan, ru
     (failed (Modulate config file out) old new result)
     (modulate_ways old mid new file out c result gives.reads.counts runs)
 
-pub is_complete : OneEnding → OnePlan → OneRun → OneModulation → Completeness
-is_complete law one run modulation (ShowPackets file) old new result s =
+-- ---- `receive`
+
+abbrev ReceptionMust : State → List ℕ → ℕ → Config → Outcome → Type 0
+ReceptionMust mid file id c outcome = IfSome mid.held (λ h. ReceivesIfShort (bytes_of h.files file) id c outcome)
+
+receive_stops : (c : Config) (id plp : ℕ) (mid new : State) (file out : List ℕ) (stop : ReceiveStop) → IsPlace c id plp → receiving.Stops c plp mid new file out stop →
+    ReceptionMust mid file id c (receive_stopped stop) ⊎ By mid new (receive_stopped stop)
+receive_stops c id plp mid new file out (receive.RecordRefused number why) at s =
+    inl (IfSome_then mid.held s.works.holds (λ h w. inr (plp, at, λ short. (Err (receive.RecordRefused number why), (w.2.0, w.2.2), refl))))
+receive_stops c id plp mid new file out (receive.TooLong count) at s =
+    inl (IfSome_then mid.held s.1.long (λ h long. inr (plp, at, λ short. absurd (omega (arith, long, short)))))
+receive_stops c id plp mid new file out receive.ReadFault at s = inr (inl s.0.rose)
+receive_stops c id plp mid new file out receive.WriteFault at s = inr (inr (inl s.0.rose))
+receive_stops c id plp mid new file out receive.OutOfMemory at s = inr (inr (inr refl))
+
+receive_ends : (c : Config) (id plp : ℕ) (mid after : State) (file out : List ℕ) (ran : Received) → IsPlace c id plp → receiving.RunsAll c plp mid after file out ran → ReceptionMust mid file id c Done
+receive_ends c id plp mid after file out ran at r = IfSome_then mid.held r.works.holds (λ h w. inr (plp, at, λ short. (Ok ran, (w.2.0, w.2.2), refl)))
+
+receive_ways : (old mid new : State) (id : ℕ) (file out : List ℕ) (c : Config) (outcome : Outcome) → SameCounts old mid → ReceiveFollows mid new id file out c outcome → ReceptionMust mid file id c outcome ⊎ By old new outcome
+receive_ways old mid new id file out c outcome same (inl (none, stay, is)) = inl (if_any mid.held _ (λ h. inl (none, is)))
+receive_ways old mid new id file out c outcome same (inr (plp, at, inl (stop, stops, is))) =
+    ⊎_elim (λ m. inl (subst (ReceptionMust mid file id c) (sym is) m)) (λ by. inr (by_before old mid new outcome same (subst (By mid new) (sym is) by)))
+    (receive_stops c id plp mid new file out stop at stops)
+receive_ways old mid new id file out c outcome same (inr (plp, at, inr (ran, after, runs, tells))) =
+    ⊎_elim
+    (λ (done : outcome ≡ Done). inl (subst (ReceptionMust mid file id c) (sym done) (receive_ends c id plp mid after file out ran at runs)))
+    inr
+    (told old after new (receive_line ran) outcome (runs.counts ∙ same) tells)
+
+receive_so : OnePlan → OneReception → (old new : State) (config : List ℕ) (id : ℕ) (file out : List ℕ) (result : Outcome) → Receives old new config id file out result → IsComplete (Receive config id file out) old new result
+receive_so one run old new config id file out result (inl (stop, none, is)) =
+    ⊎_elim
+    (λ s. IfSome_then old.held s (λ held x. λ outcome must r w. inl (unplanned_so one (bytes_of held.files config) (ReceiveMustEnd (bytes_of held.files file) id) stop result outcome x is must)))
+    (λ by. failed (Receive config id file out) old new result (subst (By old new) (sym is) by))
+    (no_plan old new config stop none)
+receive_so one run old new config id file out result (inr (c, mid, gives, plan, follows)) =
+    ⊎_elim
+    (λ w. if_both old.held _ _ _ (λ held x m. λ outcome must r f. inl (received_so one run held config file out id c result outcome (x, plan) m must))
+    gives.spells (before_named config old.held mid.held _ gives.reads.opened.held w))
+    (failed (Receive config id file out) old new result)
+    (receive_ways old mid new id file out c result gives.reads.counts follows)
+
+pub is_complete : OneEnding → OnePlan → OneRun → OneModulation → OneReception → Completeness
+is_complete law one run modulation reception (ShowPackets file) old new result s =
     subst (IsComplete (ShowPackets file) old new) (sym s.2) (packets_so law file old new s.1.given s.1.text s.0 s.1.lines s.1.counts)
-is_complete law one run modulation (ShowT2mi file) old new result s =
+is_complete law one run modulation reception (ShowT2mi file) old new result s =
     subst (IsComplete (ShowT2mi file) old new) (sym s.2) (t2mi_so file old new s.1.given s.1.text s.0 s.1.lines s.1.counts)
-is_complete law one run modulation (ShowFrames file) old new result s =
+is_complete law one run modulation reception (ShowFrames file) old new result s =
     subst (IsComplete (ShowFrames file) old new) (sym s.2) (records_so law file old new s.1.given s.1.text s.0 s.1.lines s.1.counts)
-is_complete law one run modulation (ShowConfig file) old new result s = config_so law old new file result s
-is_complete law one run modulation (Plan config) old new result s = plan_so law old new config result s
-is_complete law one run modulation (Gateway config out ins) old new result s = gateway_so one run old new config out ins result s
-is_complete law one run modulation (Modulate config file out) old new result s = modulate_so one modulation old new config file out result s
+is_complete law one run modulation reception (ShowConfig file) old new result s = config_so law old new file result s
+is_complete law one run modulation reception (Plan config) old new result s = plan_so law old new config result s
+is_complete law one run modulation reception (Gateway config out ins) old new result s = gateway_so one run old new config out ins result s
+is_complete law one run modulation reception (Modulate config file out) old new result s = modulate_so one modulation old new config file out result s
+is_complete law one run modulation reception (Receive config id file out) old new result s = receive_so one reception old new config id file out result s

@@ -5,3 +5,4 @@ pub mod RequestLemmas
 pub mod RunLemmas
 pub mod HaveEndingLemmas
 mod SurvivorLemmas
+pub mod PlaceLemmas

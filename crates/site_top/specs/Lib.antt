@@ -4,6 +4,7 @@ pub mod Endings
 pub mod GatewayCommand
 pub mod Laws
 pub mod ModulateCommand
+pub mod ReceiveCommand
 pub mod Outcomes
 pub mod PlanLines
 pub mod Runs

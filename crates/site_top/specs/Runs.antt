@@ -2,6 +2,7 @@
 use Rattle.std.specs.Prelude.{◌≡◌, ◌⊎◌, ℕ, ◌<◌, List, length, Result, Ok, Err, IfSome}
 use Rattle.ports.specs.Counts.{Rose}
 use Rattle.ports.specs.Desk.{State, Held, bytes_of}
+use Rattle.plp_config.specs.Places.{IsPlace, HasNoPlace}
 use Rattle.plp_config.specs.declared.config.Config.{Config}
 use Rattle.config_file.specs.Laws.{GivesConfig, GivesPlan}
 use Rattle.config_file.specs.declared.stop.ConfigStop.{ConfigStop}
@@ -13,6 +14,9 @@ use Rattle.gateway_run.specs.declared.stop.RunStop.{RunStop}
 use Rattle.modulate_run.specs.Laws.{MustRun as ModulateMust}
 use Rattle.modulate_run.specs.declared.stop.Ran.{Ran as Modulated}
 use Rattle.modulate_run.specs.declared.stop.RunStop.{RunStop as ModulateStop}
+use Rattle.receive_run.specs.Laws.{MustRun as ReceiveMust}
+use Rattle.receive_run.specs.declared.stop.Ran.{Ran as Received}
+use Rattle.receive_run.specs.declared.stop.RunStop.{RunStop as ReceiveStop}
 use Rattle.show_run.specs.Laws.{PacketsEnd, RecordsEnd}
 use Rattle.show_run.specs.PacketText.{IsPacketText}
 use Rattle.show_run.specs.RecordText.{IsRecordText}
@@ -21,12 +25,13 @@ use Rattle.show_run.specs.T2miText.{IsT2miText}
 use Rattle.show_run.specs.declared.stop.ShowStop.{ShowStop}
 use Rattle.site_frame.specs.RecordFile.{AreBytes}
 use Rattle.site_top.specs.declared.outcome.Outcome.{Outcome}
-use Rattle.site_top.specs.declared.outcome.Outcome.TheVariants.{Done, OutOfMemory}
-use Rattle.site_top.specs.Commands.{Command, ShowPackets, ShowT2mi, ShowFrames, ShowConfig, Plan, Gateway, Modulate}
+use Rattle.site_top.specs.declared.outcome.Outcome.TheVariants.{Done, UnknownPlp, OutOfMemory}
+use Rattle.site_top.specs.Commands.{Command, ShowPackets, ShowT2mi, ShowFrames, ShowConfig, Plan, Gateway, Modulate, Receive}
 use Rattle.site_top.specs.ConfigCommands.{ShowsConfig, Plans}
 use Rattle.site_top.specs.GatewayCommand.{Gateways}
 use Rattle.site_top.specs.ModulateCommand.{Modulates}
-use Rattle.site_top.specs.Outcomes.{shown_outcome, given_outcome, config_outcome, ran_outcome, modulate_outcome, Miscounts}
+use Rattle.site_top.specs.ReceiveCommand.{Receives}
+use Rattle.site_top.specs.Outcomes.{shown_outcome, given_outcome, config_outcome, ran_outcome, modulate_outcome, receive_outcome, Miscounts}
 
 -- A file is shown by the text that a definition asks for.
 abbrev pub Shows : (List ℕ → ℕ → Result ℕ ShowStop → List ℕ → Type 0) → State → State → List ℕ → Outcome → Type 0
@@ -40,6 +45,7 @@ Does (ShowConfig file) old new outcome = ShowsConfig old new file outcome
 Does (Plan config) old new outcome = Plans old new config outcome
 Does (Gateway config out ins) old new outcome = Gateways old new config out ins outcome
 Does (Modulate config file out) old new outcome = Modulates old new config file out outcome
+Does (Receive config id file out) old new outcome = Receives old new config id file out outcome
 
 -- No input is too long.
 abbrev pub AreShort : Held → List (List ℕ) → Type 0
@@ -54,6 +60,7 @@ AreShortFor (ShowConfig file) held = Unit {0}
 AreShortFor (Plan config) held = Unit {0}
 AreShortFor (Gateway config out ins) held = AreShort held ins
 AreShortFor (Modulate config file out) held = length (bytes_of held.files file) < most_bytes
+AreShortFor (Receive config id file out) held = (length (bytes_of held.files file) < most_bytes) × AreBytes (bytes_of held.files file)
 
 -- How `gateway` must end over a plan: with the numbers if there is not one input for each PLP, else as the run does over inputs that
 -- are not too long.
@@ -65,6 +72,16 @@ PlanMustEnd held ins c outcome = Miscounts c ins outcome
 abbrev pub ModulateMustEnd : List ℕ → Config → Outcome → Type 0
 ModulateMustEnd bytes c outcome = (length bytes < most_bytes) × ((result : Result Modulated ModulateStop) × ModulateMust c bytes result × (outcome ≡ modulate_outcome result))
 
+-- How `receive` must end over a plan: with the identifier if no PLP has it, else as the run does over records that are not too long.
+abbrev pub ReceiveMustEnd : List ℕ → ℕ → Config → Outcome → Type 0
+ReceiveMustEnd bytes id c outcome = (HasNoPlace c id × (outcome ≡ UnknownPlp id))
+    ⊎ ((plp : ℕ) × IsPlace c id plp × (length bytes < most_bytes) × ((result : Result Received ReceiveStop) × ReceiveMust c plp bytes result × (outcome ≡ receive_outcome result)))
+
+-- How a command must end whose CONFIG has this text: with its refusal, or as it must over the plan that it gives.
+abbrev pub OverPlan : List ℕ → (Config → Outcome → Type 0) → Outcome → Type 0
+OverPlan text Must outcome =
+    ((stop : ConfigStop) × GivesPlan text (Err stop) × (outcome ≡ config_outcome stop)) ⊎ ((c : Config) × GivesPlan text (Ok c) × Must c outcome)
+
 -- How a command must end over what a desk holds, where nothing outside fails. If CONFIG alone decides, nothing is asked of inputs.
 abbrev pub MustEnd : Command → Held → Outcome → Type 0
 MustEnd (ShowPackets file) held outcome = (length (bytes_of held.files file) < most_bytes)
@@ -74,12 +91,9 @@ MustEnd (ShowFrames file) held outcome = (length (bytes_of held.files file) < mo
     × ((result : Result ℕ ShowStop) × RecordsEnd (bytes_of held.files file) result × (outcome ≡ shown_outcome result))
 MustEnd (ShowConfig file) held outcome = (result : Result Config ConfigStop) × GivesConfig (bytes_of held.files file) result × (outcome ≡ given_outcome result)
 MustEnd (Plan config) held outcome = (result : Result Config ConfigStop) × GivesPlan (bytes_of held.files config) result × (outcome ≡ given_outcome result)
-MustEnd (Gateway config out ins) held outcome =
-    ((stop : ConfigStop) × GivesPlan (bytes_of held.files config) (Err stop) × (outcome ≡ config_outcome stop))
-    ⊎ ((c : Config) × GivesPlan (bytes_of held.files config) (Ok c) × PlanMustEnd held ins c outcome)
-MustEnd (Modulate config file out) held outcome =
-    ((stop : ConfigStop) × GivesPlan (bytes_of held.files config) (Err stop) × (outcome ≡ config_outcome stop))
-    ⊎ ((c : Config) × GivesPlan (bytes_of held.files config) (Ok c) × ModulateMustEnd (bytes_of held.files file) c outcome)
+MustEnd (Gateway config out ins) held outcome = OverPlan (bytes_of held.files config) (PlanMustEnd held ins) outcome
+MustEnd (Modulate config file out) held outcome = OverPlan (bytes_of held.files config) (ModulateMustEnd (bytes_of held.files file)) outcome
+MustEnd (Receive config id file out) held outcome = OverPlan (bytes_of held.files config) (ReceiveMustEnd (bytes_of held.files file) id) outcome
 
 -- Where nothing outside fails, the files decide the outcome, unless memory runs out.
 abbrev pub IsComplete : Command → State → State → Outcome → Type 0

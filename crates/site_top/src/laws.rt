@@ -4,6 +4,7 @@ ghost use Rattle.site_top.specs.Laws.{OneEnding, CommandsHaveEnding, Completenes
 use config_file::{config_ends, one_config};
 use gateway_run::{one_run, run_ends};
 use modulate_run::{one_run as one_modulation, run_ends as modulation_ends};
+use receive_run::{one_run as one_reception, run_ends as reception_ends};
 use show_run::{packets_end_law, records_end_law};
 
 /// The files that a desk holds decide how a run over them must end.
@@ -15,6 +16,7 @@ pub fn one_ending()
     one_config();
     one_run();
     one_modulation();
+    one_reception();
 }
 
 /// Over files that are not too long each command has an ending.
@@ -26,6 +28,7 @@ pub fn commands_have_ending()
     config_ends();
     run_ends();
     modulation_ends();
+    reception_ends();
 }
 
 /// A command that did what it does is complete.
@@ -36,4 +39,5 @@ pub fn completeness()
     one_config();
     one_run();
     one_modulation();
+    one_reception();
 }

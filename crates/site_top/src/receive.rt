@@ -10,7 +10,6 @@ use config_file::read_plan;
 use desk_io::Line;
 use ports::Desk;
 use receive_run::{Ran, RunStop};
-use recover::recover_law;
 use std::alloc::Global;
 
 // The line of a run to its end.
@@ -57,7 +56,6 @@ pub fn receive<D: Desk>(
     let Some(plp) = plan.place_of(id) else {
         return Outcome::UnknownPlp { plp: id };
     };
-    recover_law();
     match receive_run::run(alloc, &plan, plp, input, out, desk) {
         Ok(ran) => tell(desk, receive_line(ran).as_bytes()),
         Err(stop) => stopped(stop),
