@@ -10,5 +10,6 @@ pub mod MapLemmas
 pub mod PassLemmas
 pub mod RunLemmas
 pub mod ReadingLemmas
+pub mod StripLemmas
 pub mod PlainLemmas
 pub mod NumberLemmas

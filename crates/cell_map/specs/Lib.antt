@@ -4,6 +4,7 @@ pub mod CellMap
 pub mod Slices
 pub mod Runs
 pub mod Reading
+pub mod Stretches
 pub mod Laws
 pub use Rattle.plp_config.specs.Capacity
 pub use Rattle.plp_config.specs.Plps

@@ -9,6 +9,7 @@ use Rattle.cell_map.specs.CellMap.{Passes}
 use Rattle.cell_map.specs.Interleaver.{position}
 use Rattle.cell_map.specs.declared.runs.Run.{Run}
 use Rattle.cell_map.specs.declared.search.Mark.{Mark}
+use Rattle.cell_map.specs.declared.strips.Cut.{Cut}
 
 -- the place of a run in its group: rows of so many columns a block
 abbrev pub place_in : Run → ℕ
@@ -57,6 +58,57 @@ pub record Steps (run next : Run) : Type 0 where
   pub left : next.left + 1 ≡ run.left
   pub block : next.block < next.size
   pub column : next.column < next.columns
+
+-- a run with a next cell, all of which lies in its group
+pub record IsInside (run : Run) : Type 0 where
+  pub few : (run.rows < 2 ^ 15) × (run.size < 2 ^ 10) × (run.columns ≤ 5) × (run.first < 2 ^ 21)
+  pub row : run.row < run.rows
+  pub block : run.block < run.size
+  pub column : run.column < run.columns
+  pub some : 0 < run.left
+  pub within : place_in run + run.left ≤ run.rows * (run.columns * run.size)
+
+-- so many steps on
+pub record Skips (run next : Run) (n : ℕ) : Type 0 where
+  pub first : next.first ≡ run.first
+  pub rows : next.rows ≡ run.rows
+  pub columns : next.columns ≡ run.columns
+  pub size : next.size ≡ run.size
+  pub place : place_in next ≡ place_in run + n
+  pub left : next.left + n ≡ run.left
+  pub block : next.block < next.size
+  pub column : next.column < next.columns
+
+-- at the first column of a block of the run's row
+pub record IsAtBlock (run : Run) (at count : ℕ) (next : Run) : Type 0 where
+  pub first : next.first ≡ run.first
+  pub rows : next.rows ≡ run.rows
+  pub columns : next.columns ≡ run.columns
+  pub size : next.size ≡ run.size
+  pub place : place_in next ≡ run.row * (run.columns * run.size) + run.columns * at
+  pub left : next.left ≡ count
+  pub block : next.block < next.size
+  pub column : next.column ≡ 0
+
+-- a cell of the group stands so many steps on
+pub record IsNext (run : Run) (steps ordinal cell : ℕ) : Type 0 where
+  pub row : ℕ
+  pub block : ℕ
+  pub column : ℕ
+  pub in-rows : row < run.rows
+  pub in-group : block < run.size
+  pub in-block : column < run.columns
+  pub place : row * (run.columns * run.size) + (run.columns * block + column) ≡ place_in run + steps
+  pub ordinal-is : ordinal ≡ run.first + block
+  pub cell-is : cell ≡ column * run.rows + row
+
+-- the next cells of a run, so many at most, and the run behind them
+pub record IsCut (run : Run) (limit : ℕ) (cut : Cut) : Type 0 where
+  pub cells : (b z : ℕ) → b < cut.strip.blocks → z < cut.strip.columns
+      → IsNext run (cut.strip.columns * b + z) (cut.strip.first.ordinal + b) (cut.strip.first.cell + z * cut.strip.stride)
+  pub some : 0 < cut.strip.columns * cut.strip.blocks
+  pub most : cut.strip.columns * cut.strip.blocks ≤ limit
+  pub skips : Skips run cut.rest (cut.strip.columns * cut.strip.blocks)
 
 -- a PLP, and the number of blocks before it
 pub record IsMark (c : Config) (shape : FrameShape) (mark : Mark) : Type 0 where

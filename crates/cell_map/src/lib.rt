@@ -10,11 +10,13 @@ mod rows;
 mod runs;
 mod search;
 mod slices;
+mod strips;
 
 pub use faults::{MapFault, check};
 pub use laws::{interleaver_law, map_law, shape_law};
 pub use places::{Cell, address, at};
 pub use reading::Cells;
+pub use strips::{Stretch, Strip};
 
 #[cfg(test)]
 mod plain;

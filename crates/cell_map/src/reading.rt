@@ -4,10 +4,12 @@ ghost use Rattle.std.specs.FinMap.{get};
 ghost use Rattle.cell_map.specs.Address.{IsCell, address_of};
 ghost use Rattle.cell_map.specs.CellMap.{Passes, cell_map};
 ghost use Rattle.cell_map.specs.Runs.{RunsAt, IsMark};
+ghost use Rattle.cell_map.specs.Stretches.{stretch_len, HasStretch};
 
 use crate::places::Cell;
 use crate::runs::{Run, cell_of, step};
 use crate::search::{FIRST_PLP, Mark, dummies, find};
+use crate::strips::{Stretch, split};
 use plp_config::Plan;
 use scheduler::Shape;
 use std::marker::Model;
@@ -118,6 +120,43 @@ impl<'a> Cells<'a> {
                 self.address += 1;
                 self.dummy = dummies(self.plan, self.shape, self.address);
                 None
+            }
+        }
+    }
+
+    /// What stands at the next addresses, `most` at most, as far as it is told at once. Goes past them.
+    pub fn next_stretch(&mut self, most: u32) -> Stretch
+        requires some { 0 < most }
+        requires inside { self.old.address + most ≤ self.old.config.cells }
+        ensures some { 0 < stretch_len result }
+        ensures most { stretch_len result ≤ most }
+        ensures cells { HasStretch self.old.config self.old.shape self.old.address result }
+        ensures next { self.new ≡ reading_at self.old.config self.old.shape (self.old.address + stretch_len result) }
+    {
+        if self.run.left > 0 {
+            let next = split(self.run, most);
+            self.run = next.rest;
+            self.address += next.strip.columns * next.strip.blocks;
+            return Stretch::Blocks(next.strip);
+        }
+        if self.dummy > 0 {
+            let count = self.dummy.min(most);
+            self.dummy -= count;
+            self.address += count;
+            return Stretch::Dummy(count);
+        }
+        match find(self.plan, self.shape, self.address, self.mark) {
+            Some(found) => {
+                let next = split(found.run, most);
+                self.run = next.rest;
+                self.mark = found.mark;
+                self.address += next.strip.columns * next.strip.blocks;
+                Stretch::Blocks(next.strip)
+            }
+            None => {
+                self.address += 1;
+                self.dummy = dummies(self.plan, self.shape, self.address);
+                Stretch::Dummy(1)
             }
         }
     }

@@ -81,6 +81,14 @@ impl<'a> Cells<'a> {
         Some(cell(word))
     }
 
+    /// The bytes of their words, from address 0 on, four for each, and of what may follow them.
+    pub fn words(&self) -> &'a [u8]
+        ensures len { 4 * length self.now ≤ length result.now }
+        ensures cells { self.now ≡ cells_in (length self.now) result.now }
+    {
+        self.bytes
+    }
+
     /// All of them, from address 0 on.
     pub fn iter(&self) -> CellsIter<'a>
         ensures { result ≡ self.now }
