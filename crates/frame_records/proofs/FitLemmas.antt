@@ -196,7 +196,7 @@ either_fits : (b : Bool) (v w : RecordView) → FitsRecord v → FitsRecord w �
 either_fits true v w h k = h
 either_fits false v w h k = k
 
-range_fits : EmissionFits → FrameFits → (c : Config) (inputs : ℕ → List (List ℕ)) (whole : ℕ → Bool) (first count : ℕ) → IsPlan c → HasByteIds c → first + count ≤ 2 ^ 31
+pub range_fits : EmissionFits → FrameFits → (c : Config) (inputs : ℕ → List (List ℕ)) (whole : ℕ → Bool) (first count : ℕ) → IsPlan c → HasByteIds c → first + count ≤ 2 ^ 31
     → AllByRecursion FitsRecord (map (record_of c inputs whole) (range_with_len first count))
 range_fits emits fits c inputs whole first zero is ids small = tt
 range_fits emits fits c inputs whole first (suc count) is ids small = (

@@ -13,7 +13,8 @@ use Rattle.site_frame.specs.Whole.{moment_of}
 use Rattle.site_frame.specs.declared.reading.RecordView.{RecordView}
 use Rattle.site_frame.specs.declared.reading.RecordView.TheVariants.{Muted}
 use Rattle.frame_records.specs.Frames.{frame_of}
-use Rattle.frame_records.specs.Records.{numbers_from, record_numbers, record_of, records, IsOnGrid}
+use Rattle.site_frame.specs.RecordFile.{IsOnGrid}
+use Rattle.frame_records.specs.Records.{numbers_from, record_numbers, record_of, records}
 use Rattle.frame_records.specs.Laws.{StandsOnGrid, RecordsOnGrid, AllWhole}
 
 moment_either : (b : Bool) (frame : RecordView) (c : Config) (n : ℕ) → moment_of frame ≡ emission c n → moment_of (cond b frame (Muted (emission c n))) ≡ emission c n

@@ -1,6 +1,6 @@
 -- Laws of frames, of records and of what is given back.
 use Rattle.std.specs.Prelude.{◌≡◌, ◌⊎◌, ◌↔◌, ◌<◌, ◌≤◌, ◌^◌, ◌*◌, ◌+◌, ◌-◌, ◌%◌, ℕ, Bool, true, false, List, [], length, map, sum_by, slice_get, Some, option_map, sum}
-use Rattle.std.specs.List.{AllByRecursion, Contains}
+use Rattle.std.specs.List.{AllByRecursion, Contains, range_with_len}
 use Rattle.plp_config.specs.Places.{places}
 use Rattle.terms.specs.Bits.{bytes_for}
 use Rattle.ts_packet.specs.Null.{is_null, null_packet}
@@ -14,11 +14,12 @@ use Rattle.plp_config.specs.declared.plp.TheConstants.{MOST_BLOCK_BYTES}
 use Rattle.scheduler.specs.Shape.{FrameShape}
 use Rattle.cell_map.specs.Address.{IsCell, address_of}
 use Rattle.cell_map.specs.CellMap.{Passes, ordinal_of}
+use Rattle.site_frame.specs.RecordFile.{IsOnGrid}
 use Rattle.site_frame.specs.Whole.{FitsRecord, record_len}
 use Rattle.site_frame.specs.declared.reading.RecordView.TheVariants.{Muted}
 use Rattle.site_frame.specs.Record.{Block, head_len, pre_len}
 use Rattle.frame_records.specs.Frames.{sent_block, sent_blocks, frame_cells, frame_shape, frame_view, frame_of, HasByteIds, run_frames}
-use Rattle.frame_records.specs.Records.{records, IsOnGrid}
+use Rattle.frame_records.specs.Records.{record_of, records}
 use Rattle.frame_records.specs.Recover.{due_slots, recover}
 use Rattle.mode_adapt.specs.Blocks.{plp_blocks}
 
@@ -71,6 +72,11 @@ MutedFits = (c : Config) (n : ℕ) → IsPlan c → n < 2 ^ 32 → FitsRecord (M
 -- The frames of a run fit one: what is written of it spells it, and is read back.
 abbrev pub FrameFits : Type 0
 FrameFits = (c : Config) (inputs : ℕ → List (List ℕ)) (n : ℕ) → IsPlan c → HasByteIds c → n < 2 ^ 31 → FitsRecord (frame_of c inputs n)
+
+-- So do those of frames in a row, of which those that are not whole are muted.
+abbrev pub RangeFits : Type 0
+RangeFits = (c : Config) (inputs : ℕ → List (List ℕ)) (whole : ℕ → Bool) (first count : ℕ) → IsPlan c → HasByteIds c → first + count ≤ 2 ^ 31
+    → AllByRecursion FitsRecord (map (record_of c inputs whole) (range_with_len first count))
 
 -- Records are on the grid, and the first one begins a superframe.
 pub record StandsOnGrid (c : Config) (inputs : ℕ → List (List ℕ)) (whole : ℕ → Bool) (end : ℕ) : Type 0 where

@@ -1,9 +1,9 @@
 -- The records of a run, of which some frames are whole.
-use Rattle.std.specs.Prelude.{◌≡◌, ℕ, ◌+◌, ◌-◌, ◌%◌, ◌^◌, ◌≤◌, ◌==◌, ◌&&◌, Bool, Option, Some, None, List, [], length, map, find, if◌then◌else◌}
+use Rattle.std.specs.Prelude.{ℕ, ◌-◌, ◌%◌, ◌==◌, ◌&&◌, Bool, Option, Some, None, List, [], map, find, if◌then◌else◌}
 use Rattle.std.specs.List.{flat_map, range_with_len}
 use Rattle.plp_config.specs.Emission.{emission}
 use Rattle.plp_config.specs.declared.config.Config.{Config}
-use Rattle.site_frame.specs.Whole.{moment_of, record_bytes}
+use Rattle.site_frame.specs.Whole.{record_bytes}
 use Rattle.site_frame.specs.declared.reading.RecordView.{RecordView}
 use Rattle.site_frame.specs.declared.reading.RecordView.TheVariants.{Muted}
 use Rattle.frame_records.specs.Frames.{frame_of}
@@ -28,8 +28,3 @@ records c inputs whole end = map (record_of c inputs whole) (record_numbers c wh
 -- records as they stand in a file
 abbrev pub file_bytes : List RecordView → List ℕ
 file_bytes views = flat_map record_bytes views
-
--- Records are on the grid: the first one is of a frame, and each later one of the next frame; all are below 2^31.
-pub record IsOnGrid (c : Config) (first : ℕ) (views : List RecordView) : Type 0 where
-  pub moments : map moment_of views ≡ map (emission c) (range_with_len first (length views))
-  pub small : first + length views ≤ 2 ^ 31

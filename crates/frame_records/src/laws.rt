@@ -1,5 +1,5 @@
 // Laws of the definitions. Their functions do nothing.
-ghost use Rattle.frame_records.specs.Laws.{FrameLength, BlockStands, CellStands, FewBlocks, EveryFrameFits, MutedFits, FrameFits, RecordsOnGrid, RecordsFit, AllWhole, NoneLost, DueReleased};
+ghost use Rattle.frame_records.specs.Laws.{FrameLength, BlockStands, CellStands, FewBlocks, EveryFrameFits, MutedFits, FrameFits, RangeFits, RecordsOnGrid, RecordsFit, AllWhole, NoneLost, DueReleased};
 ghost use Rattle.frame_records.specs.Counted.{CountedLengths, CountedBlocks, CountedStart, CountedPre, CountedPost, CountedFrames, CountedRecords, CountedSlots, CountedLoss};
 
 use bb_frame::bit_counts;
@@ -42,6 +42,7 @@ pub fn fit_law()
     ensures every { EveryFrameFits }
     ensures muted { MutedFits }
     ensures frame { FrameFits }
+    ensures range { RangeFits }
     ensures records { RecordsFit }
 {
     bit_counts();

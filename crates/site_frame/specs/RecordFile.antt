@@ -1,7 +1,11 @@
 -- A file of records that stand one behind another.
-use Rattle.std.specs.Prelude.{◌≡◌, ◌≢◌, ◌⊎◌, ℕ, ◌+◌, ◌-◌, ◌<◌, ◌≤◌, List, [], ◌∷◌, length, take, drop, slice_index}
+use Rattle.std.specs.Prelude.{◌≡◌, ◌≢◌, ◌⊎◌, ℕ, ◌+◌, ◌-◌, ◌<◌, ◌≤◌, List, [], ◌∷◌, length, map, take, drop, slice_index}
+use Rattle.std.specs.List.{range_with_len}
+use Rattle.plp_config.specs.Emission.{emission}
+use Rattle.plp_config.specs.declared.config.Config.{Config}
+use Rattle.plp_config.specs.declared.moment.TheConstants.{MOST_FRAMES}
 use Rattle.site_frame.specs.Record.{head_len}
-use Rattle.site_frame.specs.Whole.{BeginsWith, Follow, Refuses}
+use Rattle.site_frame.specs.Whole.{BeginsWith, Follow, Refuses, moment_of}
 use Rattle.site_frame.specs.declared.fault.RecordWhy.{RecordWhy}
 use Rattle.site_frame.specs.declared.reading.RecordView.{RecordView}
 
@@ -29,3 +33,8 @@ bytes_before file rest = length file - length rest
 -- Each number of the file is that of a byte.
 abbrev pub AreBytes : List ℕ → Type 0
 AreBytes file = (k : ℕ) → slice_index file k < 256
+
+-- Records are on the grid: the first one is of a frame, and each later one of the next frame; all are below 2^31.
+pub record IsOnGrid (c : Config) (first : ℕ) (views : List RecordView) : Type 0 where
+  pub moments : map moment_of views ≡ map (emission c) (range_with_len first (length views))
+  pub small : first + length views ≤ MOST_FRAMES

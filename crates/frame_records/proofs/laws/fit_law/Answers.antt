@@ -1,5 +1,5 @@
 use Rattle.frame_records.specs.Laws.{EveryFrameFits, FrameFits}
-use Rattle.frame_records.proofs.FitLemmas.{few_blocks, every_frame_fits, muted_fits, frame_fits, records_fit}
+use Rattle.frame_records.proofs.FitLemmas.{few_blocks, every_frame_fits, muted_fits, frame_fits, records_fit, range_fits}
 use Rattle.frame_records.proofs.laws.fit_law.Goals as goal
 
 pub returns-clause-few : goal.returns-clause-few
@@ -15,6 +15,13 @@ pub returns-clause-frame : goal.returns-clause-frame
 returns-clause-frame c =
     let every : EveryFrameFits = every_frame_fits c.pre_law.ensures.bits c.emission_law.ensures.fits c.block_law.ensures.cells c.map_law.ensures.small in
     frame_fits c.bit_counts.ensures c.length_law.ensures.slot c.block_law.ensures.field c.count_law.ensures c.post_law.ensures.len c.order_law.ensures.counts c.shape_law.ensures every
+
+pub returns-clause-range : goal.returns-clause-range
+returns-clause-range c =
+    let every : EveryFrameFits = every_frame_fits c.pre_law.ensures.bits c.emission_law.ensures.fits c.block_law.ensures.cells c.map_law.ensures.small in
+    let frame : FrameFits =
+    frame_fits c.bit_counts.ensures c.length_law.ensures.slot c.block_law.ensures.field c.count_law.ensures c.post_law.ensures.len c.order_law.ensures.counts c.shape_law.ensures every in
+    range_fits c.emission_law.ensures.fits frame
 
 pub returns-clause-records : goal.returns-clause-records
 returns-clause-records c =
