@@ -1,5 +1,5 @@
 -- The bytes of a file of records decide how a run over it must end.
-use Rattle.std.proofs.Common.{◌≡◌, ℕ, ⊎_elim, List, [], length, ap, sym, subst, ◌∙◌, arith}
+use Rattle.std.proofs.Common.{◌≡◌, ℕ, ⊎_elim, List, [], length, refl, ap, sym, subst, ◌∙◌, arith}
 use Rattle.std.specs.Prelude.{Result, Ok, Err}
 use Rattle.site_frame.specs.Laws.{OneRecord, NoRefusal, SpelledOrRefused, OneRefusal}
 use Rattle.site_frame.specs.RecordFile.{AreRecords, IsNoRecord}
