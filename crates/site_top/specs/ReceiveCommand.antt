@@ -1,18 +1,26 @@
 -- What `receive CONFIG PLP IN OUT` does, up to its last line.
-use Rattle.std.specs.Prelude.{◌≡◌, ◌⊎◌, ◌+◌, ◌≤◌, ℕ, Bool, not, List, map, ◌++◌, codes, IfSome}
+use Rattle.std.specs.Prelude.{◌≡◌, ◌⊎◌, ◌+◌, ◌<◌, ◌≤◌, ℕ, Bool, not, List, [], ◌++◌, map, length, replicate, codes, IfSome}
 use Rattle.std.specs.Fmt.{decimal}
-use Rattle.std.specs.List.{concat, range_with_len}
+use Rattle.std.specs.List.{AllByRecursion, concat, range_with_len}
 use Rattle.ports.specs.Desk.{State, bytes_of}
 use Rattle.plp_config.specs.Capacity.{IsPlan}
 use Rattle.plp_config.specs.Places.{IsPlace, HasNoPlace}
 use Rattle.plp_config.specs.declared.config.Config.{Config}
 use Rattle.plp_config.specs.declared.moment.TheConstants.{MOST_FRAMES}
+use Rattle.ts_packet.specs.Null.{null_packet}
 use Rattle.null_delete.specs.Deletion.{packet_at}
+use Rattle.site_frame.specs.RecordFile.{AreRecords}
+use Rattle.site_frame.specs.declared.reading.RecordView.{RecordView}
+use Rattle.frame_records.specs.Frames.{run_frames}
 use Rattle.frame_records.specs.Records.{record_of, file_bytes}
 use Rattle.frame_records.specs.Recover.{recover}
+use Rattle.sent_frames.specs.SentFrames.{run_length}
+use Rattle.recover.specs.Laws.{IsCanonical}
+use Rattle.recover.specs.Told.{IsPacket}
 use Rattle.config_file.specs.ConfigFile.{Gives, GivesNoPlan}
 use Rattle.config_file.specs.declared.stop.ConfigStop.{ConfigStop}
 use Rattle.receive_run.specs.ReceiveRun.{RunsAll, Stops}
+use Rattle.receive_run.specs.Received.{Received}
 use Rattle.receive_run.specs.declared.stop.Ran.{Ran}
 use Rattle.receive_run.specs.declared.stop.RunStop.{RunStop}
 use Rattle.site_top.specs.declared.outcome.Outcome.{Outcome}
@@ -24,11 +32,29 @@ use Rattle.site_top.specs.Saying.{Tells}
 abbrev pub receive_line : Ran → List ℕ
 receive_line ran = codes "first=" ++ decimal ran.first ++ codes " slots=" ++ decimal ran.slots ++ codes "\n"
 
+-- If a file is records of the frames of a run, these bytes are what the frames give back of the PLP at a place: for each slot that is due
+-- the packet that was sent in it, and a null packet if it was not kept, if a frame that carries a part of it is muted, or if the input had ended.
+pub record GivesBack (c : Config) (plp : ℕ) (file bytes : List ℕ) : Type 0 where
+  -- the records of frames in a row, each as all transmitters send it, or muted; so are those that must come of what is received of a stream
+  pub frames : (inputs : ℕ → List (List ℕ)) (whole : ℕ → Bool) (first count : ℕ) → AllByRecursion IsPacket (inputs plp) → 1 ≤ count → first + count ≤ MOST_FRAMES
+      → file ≡ file_bytes (map (record_of c inputs whole) (range_with_len first count)) → bytes ≡ concat (recover c plp c.ticks (packet_at (inputs plp)) (λ m. not (whole m)) first count)
+  -- all frames of the run, none of them muted: the packets that were sent, if each null packet among them is the canonical one, and null packets behind
+  pub run : (inputs : ℕ → List (List ℕ)) → AllByRecursion IsPacket (inputs plp) → AllByRecursion IsCanonical (inputs plp) → run_length c inputs ≤ MOST_FRAMES
+      → file ≡ file_bytes (run_frames c inputs) → (nulls : ℕ) × (bytes ≡ concat (inputs plp ++ replicate nulls null_packet))
+
+-- So it is with the bytes of IN and OUT.
+abbrev pub HoldsWhatComesBack : Config → ℕ → State → State → List ℕ → List ℕ → Type 0
+HoldsWhatComesBack c plp old new file out = IfSome old.held (λ h. IfSome new.held (λ k. GivesBack c plp (bytes_of h.files file) (bytes_of k.files out)))
+
+-- So it is of every file of records of successive frames, and what they give back.
+abbrev pub ReceivedGivesBack : Config → Type 0
+ReceivedGivesBack c = (plp : ℕ) (file bytes : List ℕ) (views : List RecordView) → plp < length c.plps → AreRecords file views [] → Received c plp views bytes → GivesBack c plp file bytes
+
 -- The run does not come to its end, or it does, and then its line is told.
 abbrev pub RunsAndTells : State → State → List ℕ → List ℕ → Config → ℕ → Outcome → Type 0
 RunsAndTells mid new file out c plp outcome =
     ((stop : RunStop) × Stops c plp mid new file out stop × (outcome ≡ receive_stopped stop))
-    ⊎ ((ran : Ran) × (after : State) × RunsAll c plp mid after file out ran × Tells after new (receive_line ran) outcome)
+    ⊎ ((ran : Ran) × (after : State) × RunsAll c plp mid after file out ran × HoldsWhatComesBack c plp mid after file out × Tells after new (receive_line ran) outcome)
 
 -- No PLP has the identifier, and nothing else is done; or the run follows.
 abbrev pub Follows : State → State → ℕ → List ℕ → List ℕ → Config → Outcome → Type 0

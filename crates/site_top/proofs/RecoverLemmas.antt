@@ -1,0 +1,137 @@
+-- What comes back of a file of the records of a run's frames.
+use Rattle.std.proofs.Common.{◌≡◌, ℕ, zero, suc, ◌+◌, ◌*◌, ◌<◌, ◌≤◌, Bool, true, false, cond, not, List, [], ◌∷◌, ◌++◌, map, length, drop, Option, Some, None, refl, ap, sym, subst, ◌∙◌, arith}
+use Rattle.std.specs.Prelude.{IfSome, unwrap_or, replicate}
+use Rattle.std.specs.FinMap.{get}
+use Rattle.std.specs.List.{AllByRecursion, concat, range_with_len}
+use Rattle.std.proofs.Math.Seq.{drop-append_seam}
+use Rattle.std.proofs.lemmas.Option.{same_Some}
+use Rattle.ports.specs.Desk.{State, Held, bytes_of}
+use Rattle.plp_config.specs.Capacity.{IsPlan}
+use Rattle.plp_config.specs.Emission.{emission}
+use Rattle.plp_config.specs.Laws.{FrameCountLeast}
+use Rattle.plp_config.specs.Rules.Rule.{PlpCount}
+use Rattle.plp_config.specs.declared.config.Config.{Config}
+use Rattle.plp_config.specs.declared.moment.TheConstants.{MOST_FRAMES}
+use Rattle.ts_packet.specs.Null.{null_packet}
+use Rattle.null_delete.specs.Deletion.{packet_at}
+use Rattle.site_frame.specs.Laws.{WrittenIsRead, OneRecord, NoRefusal, WrittenSpells, OneFrame}
+use Rattle.site_frame.specs.RecordFile.{AreRecords, IsOnGrid}
+use Rattle.site_frame.specs.Whole.{moment_of, record_bytes, FitsRecord}
+use Rattle.site_frame.specs.declared.reading.RecordView.{RecordView}
+use Rattle.site_frame.specs.declared.reading.RecordView.TheVariants.{Muted}
+use Rattle.site_frame.proofs.RecordSplitLemmas.{stuck_nil, same_records}
+use Rattle.frame_records.specs.Frames.{frame_of, run_frames}
+use Rattle.frame_records.specs.Laws.{RangeFits}
+use Rattle.frame_records.specs.Records.{record_of, file_bytes}
+use Rattle.frame_records.specs.Recover.{recover}
+use Rattle.sent_frames.specs.SentFrames.{run_length}
+use Rattle.sent_frames.specs.Types.{TypesFit}
+use Rattle.plp_receiver.specs.Taken.{Readback}
+use Rattle.receive_run.specs.ReceiveRun.{HasAll, RunsAll}
+use Rattle.receive_run.specs.Received.{GivesBack as GivesPackets, Received}
+use Rattle.receive_run.specs.declared.stop.Ran.{Ran}
+use Rattle.recover.specs.Laws.{RunRecovers, RunComesBack, IsCanonical}
+use Rattle.recover.specs.Told.{IsPacket}
+use Rattle.site_top.specs.ReceiveCommand.{GivesBack, HoldsWhatComesBack, ReceivedGivesBack}
+
+-- what the laws say that are wanted
+pub record FileLaws : Type 0 where
+  pub read : WrittenIsRead
+  pub one : OneRecord
+  pub spells : WrittenSpells
+  pub never : NoRefusal
+  pub frame : OneFrame
+  pub fits : RangeFits
+  pub least : FrameCountLeast
+  pub recovers : RunRecovers
+  pub back : RunComesBack
+
+-- what was written of records is these records
+written_back : WrittenIsRead → WrittenSpells → (ws : List RecordView) → AllByRecursion FitsRecord ws → AreRecords (file_bytes ws) ws []
+written_back read spells [] all = refl
+written_back read spells (w ∷ ws) all = (
+  length (record_bytes w),
+  read w (record_bytes w) (file_bytes ws) (spells w all.0),
+  subst (λ (bytes : List ℕ). AreRecords bytes ws []) (sym (drop-append_seam (record_bytes w) (file_bytes ws))) (written_back read spells ws all.1),
+)
+
+-- each has the moment of its frame
+moment_either : (b : Bool) (frame : RecordView) (c : Config) (n : ℕ) → moment_of frame ≡ emission c n → moment_of (cond b frame (Muted (emission c n))) ≡ emission c n
+moment_either true frame c n e = e
+moment_either false frame c n e = refl
+
+first_of : (xs : List _) → _ → _
+first_of [] other = other
+first_of (x ∷ xs) other = x
+
+module _ (laws : FileLaws) (c : Config) (plan : IsPlan c) (types : TypesFit c) (plp : ℕ) (inside : plp < length c.plps) where
+  -- they are those that are read
+  same_views : (file : List ℕ) (views ws : List RecordView) → AreRecords file views [] → AllByRecursion FitsRecord ws → file ≡ file_bytes ws → views ≡ ws
+  same_views file views ws records all is =
+      (same_records laws.one laws.never file [] [] views ws records (subst (λ (bytes : List ℕ). AreRecords bytes ws []) (sym is) (written_back laws.read laws.spells ws all)) stuck_nil stuck_nil).0
+
+  -- and the first one is of the frame that it was written of
+  first_is : (inputs : ℕ → List (List ℕ)) (whole : ℕ → Bool) (first count n : ℕ) → first + suc count ≤ MOST_FRAMES → IsOnGrid c n (map (record_of c inputs whole) (range_with_len first (suc count))) → n ≡ first
+  first_is inputs whole first count n small grid =
+      let own : moment_of (record_of c inputs whole first) ≡ emission c first = moment_either (whole first) (frame_of c inputs first) c first refl in
+      let told : moment_of (record_of c inputs whole first) ≡ emission c n = ap (λ xs. first_of xs (emission c n)) grid.moments in
+      let few = grid.small in
+      laws.frame c (emission c n) n first plan.rules (record { small = omega (arith, few); emission-is = refl }) (record { small = omega (arith, small); emission-is = sym told ∙ own })
+
+  packets_back : (first : ℕ) (w : RecordView) (ws views : List RecordView) (packets : List (List ℕ)) → views ≡ w ∷ ws → GivesPackets c plp first views packets → Readback c plp first (w ∷ ws) packets
+  packets_back first w ws views packets is back = subst (λ (vs : List RecordView). GivesPackets c plp first vs packets) is back
+
+  -- of frames in a row
+  frames_back : (file bytes : List ℕ) (views : List RecordView) → AreRecords file views [] → Received c plp views bytes → (inputs : ℕ → List (List ℕ)) (whole : ℕ → Bool) (first count : ℕ) → AllByRecursion IsPacket (inputs plp)
+      → 1 ≤ count → first + count ≤ MOST_FRAMES → file ≡ file_bytes (map (record_of c inputs whole) (range_with_len first count))
+      → bytes ≡ concat (recover c plp c.ticks (packet_at (inputs plp)) (λ m. not (whole m)) first count)
+  frames_back file bytes views records r inputs whole first zero all some small is = absurd (omega (arith, some))
+  frames_back file bytes views records r inputs whole first (suc count) all some small is =
+      let ws : List RecordView = map (record_of c inputs whole) (range_with_len first (suc count)) in
+      let same : views ≡ ws = same_views file views ws records (laws.fits c inputs whole first (suc count) plan types.ids small) is in
+      let at : r.first ≡ first = first_is inputs whole first count r.first small (subst (IsOnGrid c r.first) same r.successive) in
+      let back : Readback c plp r.first ws r.packets = packets_back r.first _ _ views r.packets same r.back in
+      let own : Readback c plp first ws r.packets = subst (λ (n : ℕ). Readback c plp n ws r.packets) at back in
+      r.bytes_are ∙ ap concat (laws.recovers c plp inputs whole first (suc count) r.packets plan types inside all own)
+
+  -- a run has a frame
+  some_frames : (inputs : ℕ → List (List ℕ)) → 1 ≤ run_length c inputs
+  some_frames inputs =
+      let plps = plan.rules PlpCount in
+      let enough = (laws.least c (λ plp. length (inputs plp)) plan.rules).enough 0 (let p = plps.0 in omega (arith, p)) in
+      positive (run_length c inputs) enough
+    where
+      positive : (count : ℕ) → _ ≤ count * c.ticks → 1 ≤ count
+      positive zero enough = absurd (omega (arith, enough))
+      positive (suc count) enough = omega arith
+
+  -- of all frames
+  run_back : (file bytes : List ℕ) (views : List RecordView) → AreRecords file views [] → Received c plp views bytes → (inputs : ℕ → List (List ℕ)) → AllByRecursion IsPacket (inputs plp) → AllByRecursion IsCanonical (inputs plp)
+      → run_length c inputs ≤ MOST_FRAMES → file ≡ file_bytes (run_frames c inputs) → (nulls : ℕ) × (bytes ≡ concat (inputs plp ++ replicate nulls null_packet))
+  run_back file bytes views records r inputs all canonical small is =
+      let frames : List RecordView = run_frames c inputs in
+      let same : views ≡ frames = same_views file views frames records (laws.fits c inputs (λ n. true) 0 (run_length c inputs) plan types.ids small) is in
+      let back : Readback c plp 0 frames r.packets = own_back (run_length c inputs) refl (some_frames inputs) in
+      let b = laws.back c plp inputs r.packets plan types inside all canonical back in
+      (b.0, r.bytes_are ∙ ap concat b.1)
+    where
+      own_back : (count : ℕ) → run_length c inputs ≡ count → 1 ≤ count → Readback c plp 0 (run_frames c inputs) r.packets
+      own_back zero is some = absurd (omega (arith, some))
+      own_back (suc count) is some = _
+
+pub gives_back : FileLaws → (c : Config) → IsPlan c → TypesFit c → ReceivedGivesBack c
+gives_back laws c plan types plp file bytes views inside records r = record {
+  frames = frames_back laws c plan types plp inside file bytes views records r;
+  run = run_back laws c plan types plp inside file bytes views records r;
+}
+
+pub holds_back : (c : Config) (plp : ℕ) (old new : State) (file out : List ℕ) (ran : Ran) → ReceivedGivesBack c → plp < length c.plps → RunsAll c plp old new file out ran → HoldsWhatComesBack c plp old new file out
+holds_back c plp old new file out ran law inside r = go old.held new.held r.works.holds
+  where
+    go : (h k : Option Held) → IfSome h (λ x. (y : Held) × (k ≡ Some y) × ((bytes : List ℕ) × (get y.files out ≡ Some bytes) × HasAll c plp ran (bytes_of x.files file) bytes))
+        → IfSome h (λ x. IfSome k (λ y. GivesBack c plp (bytes_of x.files file) (bytes_of y.files out)))
+    go None k w = tt
+    go (Some x) None w = tt
+    go (Some x) (Some y) w =
+        let here : w.2.0 ≡ bytes_of y.files out = sym (ap (λ (z : Held). bytes_of z.files out) (same_Some y w.0 w.1) ∙ ap (λ (o : Option (List ℕ)). unwrap_or o []) w.2.1) in
+        subst (GivesBack c plp (bytes_of x.files file)) here (law plp (bytes_of x.files file) w.2.0 w.2.2.views inside w.2.2.records w.2.2.received)
