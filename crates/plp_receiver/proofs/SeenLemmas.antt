@@ -1,12 +1,12 @@
 -- The cells of a block all stand exactly if none is missed where the record is gone over beside the map.
-use Rattle.std.proofs.Common.{◌≡◌, ℕ, zero, suc, ◌+◌, ◌<◌, ◌&&◌, ◌==◌, Bool, true, false, List, [], ◌∷◌, length, get_or, Option, Some, None, refl, ap, sym, subst, ◌∙◌, arith}
+use Rattle.std.proofs.Common.{◌≡◌, ℕ, zero, suc, ◌+◌, ◌<◌, ◌&&◌, ◌==◌, Bool, true, false, List, [], ◌∷◌, length, get_or, Option, Some, None, refl, ap, ap₂, sym, subst, ◌∙◌, arith}
 use Rattle.std.specs.Prelude.{slice_get, not, ◌||◌}
 use Rattle.std.specs.FinMap.{get}
 use Rattle.std.specs.List.{list_all, range_with_len}
 use Rattle.std.proofs.lemmas.Bool.{true≢false, and_from, and_parts, eqb-true, eq-eqb}
 use Rattle.std.proofs.lemmas.List.Folds.{list_all-append}
 use Rattle.terms.proofs.CaseLemmas.{bool_cases, same_test}
-use Rattle.terms.proofs.RangeLemmas.{places_more}
+use Rattle.terms.proofs.RangeLemmas.{range_more}
 use Rattle.plp_config.specs.Capacity.{block_cells}
 use Rattle.plp_config.specs.declared.config.Config.{Config}
 use Rattle.scheduler.specs.Shape.{FrameShape}
@@ -16,7 +16,7 @@ use Rattle.cell_map.specs.Laws.{MapHasEachCell, MapHasOnlyCells}
 use Rattle.cell_map.specs.declared.places.Cell.{Cell}
 use Rattle.frame_tests.specs.MapTest.{each_below}
 use Rattle.plp_receiver.specs.Readable.{is_cell, stands, all_stand}
-use Rattle.plp_receiver.specs.Seeing.{is_right, is_seen, right_at, all_seen}
+use Rattle.plp_receiver.specs.Seeing.{is_right, is_seen, right_at, seen_from, all_seen}
 use Rattle.plp_receiver.proofs.CountLemmas.{ordinals_apart}
 
 -- ---- tests of the numbers below one
@@ -42,8 +42,8 @@ each_true t n e k l = let same : k ≡ 0 + k = omega arith in ap t same ∙ rang
 true_each : (t : ℕ → Bool) (n : ℕ) → ((k : ℕ) → k < n → t k ≡ true) → each_below n t ≡ true
 true_each t n f = true_range t 0 n (λ k l. let same : 0 + k ≡ k = omega arith in ap t same ∙ f k l)
 
-pub each_more : (t : ℕ → Bool) (n : ℕ) → each_below (n + 1) t ≡ (each_below n t && t n)
-each_more t n = ap (list_all t) (places_more n) ∙ list_all-append t (range_with_len 0 n) (n ∷ []) ∙ ap (λ (b : Bool). each_below n t && b) (whole (t n))
+from_more : (t : ℕ → Bool) (a n : ℕ) → list_all t (range_with_len a (n + 1)) ≡ (list_all t (range_with_len a n) && t (a + n))
+from_more t a n = ap (list_all t) (range_more a n) ∙ list_all-append t (range_with_len a n) ((a + n) ∷ []) ∙ ap (λ (b : Bool). list_all t (range_with_len a n) && b) (whole (t (a + n)))
   where
     whole : (b : Bool) → (b && true) ≡ b
     whole true = refl
@@ -54,18 +54,62 @@ and_assoc : (a b d : Bool) → ((a && b) && d) ≡ (a && (b && d))
 and_assoc true b d = refl
 and_assoc false b d = refl
 
-pub seen_more : (c : Config) (shape : FrameShape) (cells : List (Option Cell)) (ordinal n : ℕ) (was before now : Bool) (expected found : Option Cell)
-    → before ≡ (was && each_below n (right_at c shape cells ordinal)) → now ≡ (before && is_seen ordinal expected found)
-    → expected ≡ get (cell_map c shape) n → slice_get cells n ≡ Some found
-    → now ≡ (was && each_below (n + 1) (right_at c shape cells ordinal))
-seen_more c shape cells ordinal n was before now expected found b e x f =
+from_split : (t : ℕ → Bool) (a n m : ℕ) → list_all t (range_with_len a (n + m)) ≡ (list_all t (range_with_len a n) && list_all t (range_with_len (a + n) m))
+from_split t a zero m =
+    let e : 0 + m ≡ m = omega arith in
+    let f : a ≡ a + 0 = omega arith in
+    ap₂ (λ (x y : ℕ). list_all t (range_with_len x y)) f e
+from_split t a (suc n) m =
+    let e : suc n + m ≡ suc (n + m) = omega arith in
+    let f : a + 1 + n ≡ a + suc n = omega arith in
+    ap (λ (k : ℕ). list_all t (range_with_len a k)) e
+    ∙ ap (λ (b : Bool). t a && b) (from_split t (a + 1) n m)
+    ∙ sym (and_assoc (t a) (list_all t (range_with_len (a + 1) n)) (list_all t (range_with_len (a + 1 + n) m)))
+    ∙ ap (λ (k : ℕ). (t a && list_all t (range_with_len (a + 1) n)) && list_all t (range_with_len k m)) f
+
+pub seen_more : (c : Config) (shape : FrameShape) (cells : List (Option Cell)) (ordinal address n : ℕ) (was before now : Bool) (expected found : Option Cell)
+    → before ≡ (was && seen_from c shape cells ordinal address n) → now ≡ (before && is_seen ordinal expected found)
+    → expected ≡ get (cell_map c shape) (address + n) → slice_get cells (address + n) ≡ Some found
+    → now ≡ (was && seen_from c shape cells ordinal address (n + 1))
+seen_more c shape cells ordinal address n was before now expected found b e x f =
+    let seen : Bool = seen_from c shape cells ordinal address n in
     e
     ∙ ap (λ (t : Bool). t && is_seen ordinal expected found) b
-    ∙ and_assoc was (each_below n (right_at c shape cells ordinal)) (is_seen ordinal expected found)
+    ∙ and_assoc was seen (is_seen ordinal expected found)
     ∙ ap (λ (t : Bool). was && t)
-    (ap (λ (o : Option Cell). each_below n (right_at c shape cells ordinal) && is_right ordinal o (Some found)) x
-    ∙ ap (λ (o : Option (Option Cell)). each_below n (right_at c shape cells ordinal) && is_right ordinal (get (cell_map c shape) n) o) (sym f)
-    ∙ sym (each_more (right_at c shape cells ordinal) n))
+    (ap (λ (o : Option Cell). seen && is_right ordinal o (Some found)) x
+    ∙ ap (λ (o : Option (Option Cell)). seen && is_right ordinal (get (cell_map c shape) (address + n)) o) (sym f)
+    ∙ sym (from_more (right_at c shape cells ordinal) address n))
+
+-- ---- one piece more
+pub pieces_seen : (c : Config) (shape : FrameShape) (cells : List (Option Cell)) (ordinal address n : ℕ) (was before now : Bool)
+    → before ≡ (was && seen_from c shape cells ordinal 0 address) → now ≡ (before && seen_from c shape cells ordinal address n)
+    → now ≡ (was && seen_from c shape cells ordinal 0 (address + n))
+pieces_seen c shape cells ordinal address n was before now b e =
+    let zero_on : 0 + address ≡ address = omega arith in
+    e
+    ∙ ap (λ (t : Bool). t && seen_from c shape cells ordinal address n) b
+    ∙ and_assoc was (seen_from c shape cells ordinal 0 address) (seen_from c shape cells ordinal address n)
+    ∙ ap (λ (t : Bool). was && t)
+    (ap (λ (a : ℕ). seen_from c shape cells ordinal 0 address && seen_from c shape cells ordinal a n) (sym zero_on)
+    ∙ sym (from_split (right_at c shape cells ordinal) 0 address n))
+
+-- what stands there is right
+right_own : (ordinal : ℕ) (o : Option Cell) → is_right ordinal o (Some o) ≡ true
+right_own ordinal None = refl
+right_own ordinal (Some x) =
+    let one : (x.ordinal == x.ordinal) ≡ true = eq-eqb x.ordinal x.ordinal refl in
+    let other : (x.cell == x.cell) ≡ true = eq-eqb x.cell x.cell refl in
+    second (not (x.ordinal == ordinal)) (is_cell x.ordinal x.cell (Some (Some x))) (and_from (x.ordinal == x.ordinal) (x.cell == x.cell) one other)
+  where
+    second : (a b : Bool) → b ≡ true → (a || b) ≡ true
+    second true b h = refl
+    second false b h = h
+
+pub all_own : (c : Config) (shape : FrameShape) (cells : List (Option Cell)) (ordinal address n : ℕ)
+    → ((i : ℕ) → i < n → slice_get cells (address + i) ≡ Some (get (cell_map c shape) (address + i))) → seen_from c shape cells ordinal address n ≡ true
+all_own c shape cells ordinal address n h = true_range (right_at c shape cells ordinal) address n
+    (λ i l. ap (λ (f : Option (Option Cell)). is_right ordinal (get (cell_map c shape) (address + i)) f) (h i l) ∙ right_own ordinal (get (cell_map c shape) (address + i)))
 
 pub none_seen : (was : Bool) → was ≡ (was && true)
 none_seen true = refl

@@ -1,6 +1,7 @@
 -- Going over the cells of a record beside those of the map. No public clause cites this module.
 use Rattle.std.specs.Prelude.{ℕ, ◌==◌, ◌||◌, not, Bool, true, List, slice_get, Option, Some, None}
 use Rattle.std.specs.FinMap.{get}
+use Rattle.std.specs.List.{list_all, range_with_len}
 use Rattle.plp_config.specs.declared.config.Config.{Config}
 use Rattle.scheduler.specs.Shape.{FrameShape}
 use Rattle.cell_map.specs.CellMap.{cell_map}
@@ -19,6 +20,10 @@ is_seen ordinal expected found = is_right ordinal expected (Some found)
 abbrev pub right_at : Config → FrameShape → List (Option Cell) → ℕ → ℕ → Bool
 right_at c shape cells ordinal address = is_right ordinal (get (cell_map c shape) address) (slice_get cells address)
 
--- and so it is at each address
+-- and so it is at so many addresses from one on
+abbrev pub seen_from : Config → FrameShape → List (Option Cell) → ℕ → ℕ → ℕ → Bool
+seen_from c shape cells ordinal address n = list_all (right_at c shape cells ordinal) (range_with_len address n)
+
+-- and at each
 abbrev pub all_seen : Config → FrameShape → List (Option Cell) → ℕ → Bool
 all_seen c shape cells ordinal = each_below c.cells (right_at c shape cells ordinal)

@@ -1,10 +1,11 @@
 // Whether the cells of the blocks of a PLP stand at their addresses (EN 302 755, clause 8).
-ghost use Rattle.std.specs.Prelude.{◌≡◌, ◌<◌, ◌≤◌, ◌+◌, ◌^◌, ◌&&◌, ℕ, false, length, slice_index, slice_index_or, sum, take, Some};
+ghost use Rattle.std.specs.Prelude.{◌≡◌, ◌<◌, ◌≤◌, ◌+◌, ◌*◌, ◌^◌, ◌&&◌, ℕ, false, length, slice_index, slice_index_or, sum, take, Some};
 ghost use Rattle.cell_map.specs.CellMap.{Passes};
 ghost use Rattle.plp_receiver.specs.Readable.{is_cell, all_stand};
-ghost use Rattle.plp_receiver.specs.Seeing.{is_seen, all_seen};
+ghost use Rattle.plp_receiver.specs.Seeing.{is_seen, seen_from, all_seen};
 
 use cell_map::{Cell, Cells, map_law};
+use cell_words::agree;
 use plp_config::Plan;
 use scheduler::Shape;
 use site_frame::Cells as Words;
@@ -37,6 +38,64 @@ fn see(expected: Option<Cell>, found: Option<Cell>, first: u32, stands: &mut [bo
     }
 }
 
+// The same of so many cells of a record from an address on, one by one.
+fn see_each(
+    plan: &Plan,
+    shape: &Shape,
+    cells: &Words<'_>,
+    address: u32,
+    count: u32,
+    first: u32,
+    stands: &mut [bool],
+)
+    requires plps { length shape.now.counts ≡ length plan.now.plps }
+    requires passes { Passes plan.now shape.now }
+    requires all { length cells.now ≡ plan.now.cells }
+    requires inside { address + count ≤ plan.now.cells }
+    ensures len { length stands.new ≡ length stands.old }
+    ensures each { (k : ℕ) → k < length stands.old → slice_index_or stands.new k false ≡ (slice_index_or stands.old k false && seen_from plan.now shape.now cells.now (first + k) address count) }
+{
+    let mut expected = Cells::resume(plan, shape, address);
+    for i in 0..count {
+        let Some(found) = cells.get(address + i) else {
+            return;
+        };
+        see(expected.next_cell(), found, first, stands);
+    }
+}
+
+// The same: if their words are those of the map, nothing fails.
+fn see_piece(
+    plan: &Plan,
+    shape: &Shape,
+    cells: &Words<'_>,
+    address: u32,
+    count: u32,
+    first: u32,
+    stands: &mut [bool],
+    buffer: &mut [u8],
+)
+    requires plps { length shape.now.counts ≡ length plan.now.plps }
+    requires passes { Passes plan.now shape.now }
+    requires all { length cells.now ≡ plan.now.cells }
+    requires inside { address + count ≤ plan.now.cells }
+    requires room { 4 * count ≤ length buffer.old }
+    ensures len { length stands.new ≡ length stands.old }
+    ensures each { (k : ℕ) → k < length stands.old → slice_index_or stands.new k false ≡ (slice_index_or stands.old k false && seen_from plan.now shape.now cells.now (first + k) address count) }
+    ensures room { length buffer.new ≡ length buffer.old }
+{
+    let words = &mut buffer[..4 * count as usize];
+    if agree(plan, shape, cells, address, count, words) {
+        return;
+    }
+    see_each(plan, shape, cells, address, count, first, stands);
+}
+
+// Cells that are looked at at once, and the bytes of their words.
+const PIECE: u32 = 2_048;
+
+const PIECE_BYTES: usize = 8_192;
+
 // The same of all cells of a record.
 fn see_all(plan: &Plan, shape: &Shape, cells: &Words<'_>, first: u32, stands: &mut [bool])
     requires plps { length shape.now.counts ≡ length plan.now.plps }
@@ -45,13 +104,22 @@ fn see_all(plan: &Plan, shape: &Shape, cells: &Words<'_>, first: u32, stands: &m
     ensures len { length stands.new ≡ length stands.old }
     ensures each { (k : ℕ) → k < length stands.old → slice_index_or stands.new k false ≡ (slice_index_or stands.old k false && all_seen plan.now shape.now cells.now (first + k)) }
 {
-    let mut expected = Cells::new(plan, shape);
-    let mut rest = cells.iter();
-    for _ in 0..plan.config().cells {
-        let Some(found) = rest.next() else {
-            return;
-        };
-        see(expected.next_cell(), found, first, stands);
+    let end = plan.config().cells;
+    let mut buffer = [0; PIECE_BYTES];
+    let mut address = 0;
+    while address < end {
+        let count = (end - address).min(PIECE);
+        see_piece(
+            plan,
+            shape,
+            cells,
+            address,
+            count,
+            first,
+            stands,
+            &mut buffer,
+        );
+        address += count;
     }
 }
 

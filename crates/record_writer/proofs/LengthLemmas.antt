@@ -6,11 +6,12 @@ use Rattle.linked_pool.specs.Pool.{chunk_len, chunks_for, chunks_of, used_chunks
 use Rattle.linked_pool.proofs.BlockLemmas.{chunks_of-cons, used_chunks-cons}
 use Rattle.plp_config.specs.declared.config.Config.{Config}
 use Rattle.scheduler.specs.Shape.{FrameShape}
-use Rattle.record_writer.specs.RecordBytes.{piece_len, sent_bytes, lists_bytes, words}
+use Rattle.record_writer.specs.RecordBytes.{piece_len, sent_bytes, lists_bytes}
 use Rattle.record_writer.specs.Steps.{step_bytes}
 use Rattle.record_writer.specs.Writes.{most_record}
 use Rattle.record_writer.specs.declared.step.Step.TheVariants.{Blocks}
-use Rattle.record_writer.proofs.RecordLemmas.{length-words}
+use Rattle.cell_words.specs.Words.{words}
+use Rattle.cell_words.proofs.WordLemmas.{length-words}
 
 -- a block with its head has no more bytes than its chunks with a head each
 block_fits : (len : ℕ) → 4 + len ≤ (4 + chunk_len) * chunks_for len

@@ -1,46 +1,15 @@
 -- The bytes of blocks and cells, piece by piece.
 use Rattle.std.proofs.Common.{◌≡◌, ℕ, zero, suc, ◌+◌, ◌-◌, ◌*◌, ◌<◌, ◌≤◌, List, [], ◌∷◌, ◌++◌, length, take, drop, refl, ap, ap₂, sym, subst, ◌∙◌, ⊎_elim, arith, append_assoc, append-nil, length-append, take-append-drop, replicate, lit≤}
 use Rattle.std.specs.Prelude.{slice_set, slice_index_or}
-use Rattle.std.specs.FinMap.{get}
 use Rattle.std.specs.List.{flat_map}
 use Rattle.std.proofs.lemmas.Bool.{cases_eq}
 use Rattle.std.proofs.lemmas.List.{drop_more, drop-set, get_or-drop, get_or-set_same, get_or-set_other, drop-drop, drop_all}
 use Rattle.plp_config.specs.declared.config.Config.{Config}
 use Rattle.scheduler.specs.Shape.{FrameShape}
 use Rattle.record_writer.specs.Laws.{EmptyIsShort, AppendedIsShort}
-use Rattle.record_writer.specs.RecordBytes.{list_at, front_of, AreShort, most_block, sent_bytes, lists_bytes, words}
-use Rattle.cell_map.specs.CellMap.{cell_map}
-use Rattle.site_frame.specs.Record.{cell_bytes}
-
--- the word at an address
-abbrev pub word_at : Config → FrameShape → ℕ → List ℕ
-word_at c shape address = cell_bytes (get (cell_map c shape) address)
-
--- the cells from an address on, in two parts
-pub words_split : (c : Config) (shape : FrameShape) (n m address : ℕ) → words c shape address (n + m) ≡ words c shape address n ++ words c shape (address + n) m
-words_split c shape zero m address =
-    let e : 0 + m ≡ m = omega arith in
-    let f : address ≡ address + 0 = omega arith in
-    ap₂ (λ (a n : ℕ). words c shape a n) f e
-words_split c shape (suc n) m address =
-    let e : suc n + m ≡ suc (n + m) = omega arith in
-    let f : address + 1 + n ≡ address + suc n = omega arith in
-    ap (words c shape address) e
-    ∙ ap (λ (l : List ℕ). word_at c shape address ++ l) (words_split c shape n m (address + 1))
-    ∙ sym (append_assoc (word_at c shape address) (words c shape (address + 1) n) (words c shape (address + 1 + n) m))
-    ∙ ap (λ (a : ℕ). (word_at c shape address ++ words c shape (address + 1) n) ++ words c shape a m) f
-
--- one cell more
-pub words_more : (c : Config) (shape : FrameShape) (n address : ℕ) → words c shape address (n + 1) ≡ words c shape address n ++ word_at c shape (address + n)
-words_more c shape n address = words_split c shape n 1 address ∙ ap (λ (l : List ℕ). words c shape address n ++ l) (append-nil (word_at c shape (address + n)))
-
--- what was put, and one cell more
-pub words_on : (c : Config) (shape : FrameShape) (n address : ℕ) (old out new : List ℕ) → out ≡ old ++ words c shape address n → new ≡ out ++ word_at c shape (address + n)
-    → new ≡ old ++ words c shape address (n + 1)
-words_on c shape n address old out new e f =
-    f ∙ ap (λ (l : List ℕ). l ++ word_at c shape (address + n)) e
-    ∙ append_assoc old (words c shape address n) (word_at c shape (address + n))
-    ∙ ap (λ (l : List ℕ). old ++ l) (sym (words_more c shape n address))
+use Rattle.record_writer.specs.RecordBytes.{list_at, front_of, AreShort, most_block, sent_bytes, lists_bytes}
+use Rattle.cell_words.specs.Words.{words}
+use Rattle.cell_words.proofs.WordLemmas.{words_split}
 
 -- a list without a block adds nothing
 pub blocks_skip : (c : Config) (plp : ℕ) (lists : List (List (List ℕ))) → plp < length lists → list_at lists plp ≡ [] → lists_bytes c plp (drop plp lists) ≡ lists_bytes c (plp + 1) (drop (plp + 1) lists)
@@ -108,10 +77,6 @@ appended_is_short pool plp block inside short few list place =
     (λ (other : list ≡ plp → ⊥).
     subst (λ (l : List (List ℕ)). length (slice_index_or l place []) ≤ most_block) (sym (get_or-set_other lists plp list more [] other)) (short list place))
     (cases_eq list plp)
-
-pub length-words : (c : Config) (shape : FrameShape) (n address : ℕ) → length (words c shape address n) ≡ 4 * n
-length-words c shape zero address = refl
-length-words c shape (suc n) address = length-append (word_at c shape address) (words c shape (address + 1) n) ∙ (let h = length-words c shape n (address + 1) in omega (arith, h))
 
 -- a block is given
 pub block_given : (c : Config) (first plp : ℕ) (old new : List (List (List ℕ))) (out tail : List ℕ) → lists_bytes c first (drop first old) ≡ lists_bytes c plp (drop plp old) → plp < length old → 0 < length (list_at old plp)

@@ -24,13 +24,14 @@ use Rattle.site_frame.specs.Record.{Block, frame_kind, muted_kind, head_bytes, b
 use Rattle.site_frame.specs.Whole.{written_rest}
 use Rattle.frame_records.specs.Frames.{l1_pre, frame_cells, HasByteIds}
 use Rattle.frame_records.specs.Laws.{IsSentBlock, EveryFrameFits}
+use Rattle.cell_words.specs.Words.{words}
 use Rattle.record_writer.specs.Front.{post_with}
-use Rattle.record_writer.specs.RecordBytes.{list_at, plp_block, sent_bytes, list_blocks, lists_bytes, words}
+use Rattle.record_writer.specs.RecordBytes.{list_at, plp_block, sent_bytes, list_blocks, lists_bytes}
 use Rattle.record_writer.specs.Laws.{written_frame, RecordWritten, MutedWritten, BlockCount, post_size, RestLength, RecordFits}
 use Rattle.frame_records.proofs.FrameLemmas.{cells_count}
 use Rattle.frame_records.proofs.FitLemmas.{length-l1_pre}
 use Rattle.record_writer.proofs.FittingLemmas.{length-crc_behind}
-use Rattle.record_writer.proofs.RecordLemmas.{length-words}
+use Rattle.cell_words.proofs.WordLemmas.{length-words}
 
 -- ---- the sections one behind another
 

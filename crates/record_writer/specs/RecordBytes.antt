@@ -1,12 +1,9 @@
--- The bytes of a frame's record behind its L1 signalling: blocks, and cells.
+-- The bytes of the blocks of a frame's record.
 use Rattle.std.specs.Prelude.{ℕ, ◌+◌, ◌≤◌, List, [], ◌∷◌, ◌++◌, length, map, slice_index_or}
-use Rattle.std.specs.FinMap.{get}
-use Rattle.std.specs.List.{flat_map, range_with_len}
+use Rattle.std.specs.List.{flat_map}
 use Rattle.plp_config.specs.Plps.{plp_at}
 use Rattle.plp_config.specs.declared.config.Config.{Config}
-use Rattle.scheduler.specs.Shape.{FrameShape}
-use Rattle.cell_map.specs.CellMap.{cell_map}
-use Rattle.site_frame.specs.Record.{Block, block_bytes, cell_bytes}
+use Rattle.site_frame.specs.Record.{Block, block_bytes}
 
 -- the most bytes of a piece
 abbrev pub piece_len : ℕ
@@ -27,10 +24,6 @@ list_blocks c plp (blocks ∷ lists) = map (plp_block c plp) blocks ++ list_bloc
 abbrev pub lists_bytes : Config → ℕ → List (List (List ℕ)) → List ℕ
 lists_bytes c plp [] = []
 lists_bytes c plp (blocks ∷ lists) = flat_map (sent_bytes c plp) blocks ++ lists_bytes c (plp + 1) lists
-
--- the words of so many cells from an address on
-abbrev pub words : Config → FrameShape → ℕ → ℕ → List ℕ
-words c shape address count = flat_map (λ a. cell_bytes (get (cell_map c shape) a)) (range_with_len address count)
 
 -- the first block of a list
 abbrev pub list_at : List (List (List ℕ)) → ℕ → List (List ℕ)

@@ -5,7 +5,8 @@ use Rattle.byteorder.specs.Endian.{big_bytes}
 use Rattle.plp_config.specs.declared.config.Config.{Config}
 use Rattle.scheduler.specs.Shape.{FrameShape}
 use Rattle.cell_map.specs.CellMap.{Passes}
-use Rattle.record_writer.specs.RecordBytes.{AreShort, lists_bytes, words}
+use Rattle.cell_words.specs.Words.{words}
+use Rattle.record_writer.specs.RecordBytes.{AreShort, lists_bytes}
 use Rattle.record_writer.specs.declared.step.Step.{Step}
 use Rattle.record_writer.specs.declared.step.Step.TheVariants.{Blocks, Cells, Done}
 

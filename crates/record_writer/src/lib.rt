@@ -6,7 +6,6 @@ mod piece;
 mod signalling;
 mod sizes;
 mod step;
-mod words;
 mod writer;
 
 pub use laws::{short_law, written_law};

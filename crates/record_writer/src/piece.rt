@@ -1,7 +1,7 @@
 // A buffer that takes its memory first.
 
-use crate::words::fill_words;
 use bit_slice::OutOfMemory;
+use cell_words::fill_words;
 use linked_pool::BlockRef;
 use plp_config::Plan;
 use scheduler::Shape;
@@ -32,7 +32,8 @@ impl Model for Piece {
 impl Piece {
     ghost use Rattle.std.specs.Prelude.{◌≡◌, ◌≤◌, ◌<◌, ◌+◌, ◌*◌, ◌++◌, [], length, IfOk, true, false};
     ghost use Rattle.cell_map.specs.CellMap.{Passes};
-    ghost use Rattle.record_writer.specs.RecordBytes.{piece_len, words};
+    ghost use Rattle.cell_words.specs.Words.{words};
+    ghost use Rattle.record_writer.specs.RecordBytes.{piece_len};
 
     /// No bytes. It takes all the memory that it needs.
     pub fn open(alloc: Global) -> Result<Piece, OutOfMemory>

@@ -7,7 +7,8 @@ ghost use Rattle.plp_config.specs.declared.config.Config.{Config};
 ghost use Rattle.cell_map.specs.CellMap.{Passes};
 ghost use Rattle.scheduler.specs.Shape.{FrameShape};
 ghost use Rattle.record_writer.specs.Steps.{step_bytes, HasMap, HasLists, IsStep};
-ghost use Rattle.record_writer.specs.RecordBytes.{piece_len, list_at, front_of, AreShort, sent_bytes, lists_bytes, words};
+ghost use Rattle.cell_words.specs.Words.{words};
+ghost use Rattle.record_writer.specs.RecordBytes.{piece_len, list_at, front_of, AreShort, sent_bytes, lists_bytes};
 ghost use Rattle.record_writer.specs.declared.step.Step.TheVariants.{Blocks, Done};
 
 use crate::piece::Piece;

@@ -1,0 +1,15 @@
+use Rattle.std.proofs.Common.{◌≡◌, ◌≤◌, ◌+◌, ◌-◌, ◌*◌, length, take}
+use Rattle.cell_map.specs.Reading.{reading_at}
+use Rattle.cell_words.specs.Words.{words}
+use Rattle.cell_words.proofs.filling.fill_words.Given as goal
+
+abbrev pub invariant-loop-done : goal.invariant-loop-done
+invariant-loop-done l = record {
+  cells : l.cells ≡ reading_at l.plan l.shape (l.address + l.done);
+  most : l.done ≤ l.count;
+  len : length l.out ≡ 4 * l.count;
+  out : take (4 * l.done) l.out ≡ words l.plan l.shape l.address l.done;
+}
+
+abbrev pub decreases-loop-done : goal.decreases-loop-done
+decreases-loop-done l = l.count - l.done

@@ -1,0 +1,29 @@
+-- How words are written many at once. No public clause cites this module.
+use Rattle.std.specs.Prelude.{ℕ, ◌+◌, ◌*◌, ◌<◌, ◌≤◌, ◌^◌, List}
+use Rattle.std.specs.List.{flat_map, range_with_len}
+use Rattle.byteorder.specs.Endian.{big_bytes}
+use Rattle.cell_map.specs.declared.strips.Strip.{Strip}
+use Rattle.cell_map.specs.declared.strips.Stretch.{Stretch}
+use Rattle.cell_map.specs.declared.strips.Stretch.TheVariants.{Dummy, Blocks}
+use Rattle.site_frame.specs.Record.{block_words}
+
+-- so many words, each greater by a stride than the one before
+abbrev pub line_bytes : ℕ → ℕ → ℕ → List ℕ
+line_bytes word stride n = flat_map (λ z. big_bytes 4 (word + z * stride)) (range_with_len 0 n)
+
+-- the word of a strip's first cell of a block, and the words of its first blocks
+abbrev pub first_word : Strip → ℕ → ℕ
+first_word strip b = (strip.first.ordinal + b) * block_words + strip.first.cell
+
+abbrev pub strip_bytes : Strip → ℕ → List ℕ
+strip_bytes strip n = flat_map (λ b. line_bytes (first_word strip b) strip.stride strip.columns) (range_with_len 0 n)
+
+-- The numbers of a strip's cells are small.
+pub record FitsStrip (strip : Strip) : Type 0 where
+  pub blocks : strip.first.ordinal + strip.blocks ≤ 2 ^ 12
+  pub first : strip.first.cell < 2 ^ 15
+  pub cells : (z : ℕ) → z < strip.columns → strip.first.cell + z * strip.stride < 2 ^ 15
+
+abbrev pub FitsStretch : Stretch → Type 0
+FitsStretch (Dummy count) = Unit {0}
+FitsStretch (Blocks strip) = FitsStrip strip

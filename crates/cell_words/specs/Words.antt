@@ -1,0 +1,12 @@
+-- The words of cells, as a record has them.
+use Rattle.std.specs.Prelude.{ℕ, List}
+use Rattle.std.specs.FinMap.{get}
+use Rattle.std.specs.List.{flat_map, range_with_len}
+use Rattle.plp_config.specs.declared.config.Config.{Config}
+use Rattle.scheduler.specs.Shape.{FrameShape}
+use Rattle.cell_map.specs.CellMap.{cell_map}
+use Rattle.site_frame.specs.Record.{cell_bytes}
+
+-- the words of so many cells from an address on
+abbrev pub words : Config → FrameShape → ℕ → ℕ → List ℕ
+words c shape address count = flat_map (λ a. cell_bytes (get (cell_map c shape) a)) (range_with_len address count)

@@ -1,0 +1,27 @@
+// The words of cells from an address on.
+ghost use Rattle.std.specs.Prelude.{◌≡◌, ◌+◌, ◌*◌, ◌≤◌, length};
+ghost use Rattle.cell_map.specs.CellMap.{Passes};
+ghost use Rattle.cell_words.specs.Words.{words};
+
+use crate::line::put_stretch;
+use cell_map::{Cells, map_law};
+use plp_config::Plan;
+use scheduler::Shape;
+
+/// Writes the words of so many cells from an address on.
+pub fn fill_words(plan: &Plan, shape: &Shape, address: u32, count: u32, out: &mut [u8])
+    requires plps { length shape.now.counts ≡ length plan.now.plps }
+    requires passes { Passes plan.now shape.now }
+    requires inside { address + count ≤ plan.now.cells }
+    requires len { length out.old ≡ 4 * count }
+    ensures { out.new ≡ words plan.now shape.now address count }
+{
+    map_law();
+    let _config = plan.config();
+    let mut cells = Cells::resume(plan, shape, address);
+    let mut done = 0;
+    while done < count {
+        let stretch = cells.next_stretch(count - done);
+        done += put_stretch(stretch, 4 * done as usize, out);
+    }
+}

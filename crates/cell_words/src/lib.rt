@@ -1,0 +1,12 @@
+//! The words of cells, many at once: written, and compared with those of a record.
+#![tactic(auto)]
+
+mod agreeing;
+mod filling;
+mod line;
+
+pub use agreeing::agree;
+pub use filling::fill_words;
+
+#[cfg(test)]
+mod tests;
