@@ -6,3 +6,4 @@ pub mod RunLemmas
 pub mod HaveEndingLemmas
 mod SurvivorLemmas
 pub mod PlaceLemmas
+mod RecoverLemmas

@@ -11,6 +11,7 @@ use Rattle.plp_config.specs.Emission.{emission}
 use Rattle.plp_config.specs.Laws.{FrameCountLeast}
 use Rattle.plp_config.specs.Rules.Rule.{PlpCount}
 use Rattle.plp_config.specs.declared.config.Config.{Config}
+use Rattle.plp_config.specs.declared.moment.Moment.{Moment}
 use Rattle.plp_config.specs.declared.moment.TheConstants.{MOST_FRAMES}
 use Rattle.ts_packet.specs.Null.{null_packet}
 use Rattle.null_delete.specs.Deletion.{packet_at}
@@ -60,7 +61,7 @@ moment_either : (b : Bool) (frame : RecordView) (c : Config) (n : ℕ) → momen
 moment_either true frame c n e = e
 moment_either false frame c n e = refl
 
-first_of : (xs : List _) → _ → _
+first_of : List Moment → Moment → Moment
 first_of [] other = other
 first_of (x ∷ xs) other = x
 
@@ -78,46 +79,46 @@ module _ (laws : FileLaws) (c : Config) (plan : IsPlan c) (types : TypesFit c) (
       let few = grid.small in
       laws.frame c (emission c n) n first plan.rules (record { small = omega (arith, few); emission-is = refl }) (record { small = omega (arith, small); emission-is = sym told ∙ own })
 
-  packets_back : (first : ℕ) (w : RecordView) (ws views : List RecordView) (packets : List (List ℕ)) → views ≡ w ∷ ws → GivesPackets c plp first views packets → Readback c plp first (w ∷ ws) packets
-  packets_back first w ws views packets is back = subst (λ (vs : List RecordView). GivesPackets c plp first vs packets) is back
+  given_back : (first : ℕ) (w : RecordView) (ws views : List RecordView) (packets : List (List ℕ)) → views ≡ w ∷ ws → GivesPackets c plp first views packets → Readback c plp first (w ∷ ws) packets
+  given_back first w ws views packets is back = subst (λ (vs : List RecordView). GivesPackets c plp first vs packets) is back
+
+  -- so they are given back from that frame on
+  packets_back : (file bytes : List ℕ) (views : List RecordView) → AreRecords file views [] → (r : Received c plp views bytes) → (inputs : ℕ → List (List ℕ)) (whole : ℕ → Bool) (first count : ℕ)
+      → 1 ≤ count → first + count ≤ MOST_FRAMES → file ≡ file_bytes (map (record_of c inputs whole) (range_with_len first count))
+      → Readback c plp first (map (record_of c inputs whole) (range_with_len first count)) r.packets
+  packets_back file bytes views records r inputs whole first zero some small is = absurd (omega (arith, some))
+  packets_back file bytes views records r inputs whole first (suc count) some small is =
+      let ws : List RecordView = map (record_of c inputs whole) (range_with_len first (suc count)) in
+      let same : views ≡ ws = same_views file views ws records (laws.fits c inputs whole first (suc count) plan types.ids small) is in
+      let at : r.first ≡ first = first_is inputs whole first count r.first small (subst (IsOnGrid c r.first) same r.successive) in
+      let back : Readback c plp r.first ws r.packets =
+      given_back r.first (record_of c inputs whole first) (map (record_of c inputs whole) (range_with_len (first + 1) count)) views r.packets same r.back in
+      subst (λ (n : ℕ). Readback c plp n ws r.packets) at back
 
   -- of frames in a row
   frames_back : (file bytes : List ℕ) (views : List RecordView) → AreRecords file views [] → Received c plp views bytes → (inputs : ℕ → List (List ℕ)) (whole : ℕ → Bool) (first count : ℕ) → AllByRecursion IsPacket (inputs plp)
       → 1 ≤ count → first + count ≤ MOST_FRAMES → file ≡ file_bytes (map (record_of c inputs whole) (range_with_len first count))
       → bytes ≡ concat (recover c plp c.ticks (packet_at (inputs plp)) (λ m. not (whole m)) first count)
-  frames_back file bytes views records r inputs whole first zero all some small is = absurd (omega (arith, some))
-  frames_back file bytes views records r inputs whole first (suc count) all some small is =
-      let ws : List RecordView = map (record_of c inputs whole) (range_with_len first (suc count)) in
-      let same : views ≡ ws = same_views file views ws records (laws.fits c inputs whole first (suc count) plan types.ids small) is in
-      let at : r.first ≡ first = first_is inputs whole first count r.first small (subst (IsOnGrid c r.first) same r.successive) in
-      let back : Readback c plp r.first ws r.packets = packets_back r.first _ _ views r.packets same r.back in
-      let own : Readback c plp first ws r.packets = subst (λ (n : ℕ). Readback c plp n ws r.packets) at back in
-      r.bytes_are ∙ ap concat (laws.recovers c plp inputs whole first (suc count) r.packets plan types inside all own)
+  frames_back file bytes views records r inputs whole first count all some small is =
+      r.bytes_are ∙ ap concat (laws.recovers c plp inputs whole first count r.packets plan types inside all (packets_back file bytes views records r inputs whole first count some small is))
 
   -- a run has a frame
+  some_ticks : (count least : ℕ) → 1 ≤ least → least ≤ count * c.ticks → 1 ≤ count
+  some_ticks zero least some enough = absurd (omega (arith, some, enough))
+  some_ticks (suc count) least some enough = omega arith
+
   some_frames : (inputs : ℕ → List (List ℕ)) → 1 ≤ run_length c inputs
   some_frames inputs =
-      let plps = plan.rules PlpCount in
-      let enough = (laws.least c (λ plp. length (inputs plp)) plan.rules).enough 0 (let p = plps.0 in omega (arith, p)) in
-      positive (run_length c inputs) enough
-    where
-      positive : (count : ℕ) → _ ≤ count * c.ticks → 1 ≤ count
-      positive zero enough = absurd (omega (arith, enough))
-      positive (suc count) enough = omega arith
+      let plps = (plan.rules PlpCount).0 in
+      some_ticks (run_length c inputs) _ (omega arith) ((laws.least c (λ plp. length (inputs plp)) plan.rules).enough 0 (omega (arith, plps)))
 
   -- of all frames
   run_back : (file bytes : List ℕ) (views : List RecordView) → AreRecords file views [] → Received c plp views bytes → (inputs : ℕ → List (List ℕ)) → AllByRecursion IsPacket (inputs plp) → AllByRecursion IsCanonical (inputs plp)
       → run_length c inputs ≤ MOST_FRAMES → file ≡ file_bytes (run_frames c inputs) → (nulls : ℕ) × (bytes ≡ concat (inputs plp ++ replicate nulls null_packet))
   run_back file bytes views records r inputs all canonical small is =
-      let frames : List RecordView = run_frames c inputs in
-      let same : views ≡ frames = same_views file views frames records (laws.fits c inputs (λ n. true) 0 (run_length c inputs) plan types.ids small) is in
-      let back : Readback c plp 0 frames r.packets = own_back (run_length c inputs) refl (some_frames inputs) in
+      let back : Readback c plp 0 (run_frames c inputs) r.packets = packets_back file bytes views records r inputs (λ n. true) 0 (run_length c inputs) (some_frames inputs) small is in
       let b = laws.back c plp inputs r.packets plan types inside all canonical back in
       (b.0, r.bytes_are ∙ ap concat b.1)
-    where
-      own_back : (count : ℕ) → run_length c inputs ≡ count → 1 ≤ count → Readback c plp 0 (run_frames c inputs) r.packets
-      own_back zero is some = absurd (omega (arith, some))
-      own_back (suc count) is some = _
 
 pub gives_back : FileLaws → (c : Config) → IsPlan c → TypesFit c → ReceivedGivesBack c
 gives_back laws c plan types plp file bytes views inside records r = record {

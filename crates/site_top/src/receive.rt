@@ -2,15 +2,36 @@
 ghost use Rattle.std.specs.Prelude.{◌≡◌, true};
 ghost use Rattle.site_top.specs.Commands.{is_input};
 ghost use Rattle.site_top.specs.Outcomes.{receive_stopped};
-ghost use Rattle.site_top.specs.ReceiveCommand.{Receives, receive_line as line_of_run};
+ghost use Rattle.site_top.specs.ReceiveCommand.{ReceivedGivesBack, Receives, receive_line as line_of_run};
 
 use crate::config_commands::{outcome_of, tell};
 use crate::outcome::Outcome;
 use config_file::read_plan;
 use desk_io::Line;
+use frame_records::fit_law;
 use ports::Desk;
+use plp_config::{Plan, run_length_law};
 use receive_run::{Ran, RunStop};
+use recover::{recover_law, whole_law};
+use sent_frames::type_law;
+use site_frame::{place_law, reading_law, refusal_law, writing_law};
 use std::alloc::Global;
+
+// What records of a run's frames give back of a PLP of the plan. It does nothing.
+fn back_law(plan: &Plan)
+    ensures { ReceivedGivesBack plan.now }
+{
+    plan.obeys_rules();
+    type_law(plan);
+    reading_law();
+    writing_law();
+    refusal_law();
+    place_law();
+    fit_law();
+    run_length_law();
+    recover_law();
+    whole_law();
+}
 
 // The line of a run to its end.
 fn receive_line(ran: Ran) -> Line
@@ -56,6 +77,7 @@ pub fn receive<D: Desk>(
     let Some(plp) = plan.place_of(id) else {
         return Outcome::UnknownPlp { plp: id };
     };
+    back_law(&plan);
     match receive_run::run(alloc, &plan, plp, input, out, desk) {
         Ok(ran) => tell(desk, receive_line(ran).as_bytes()),
         Err(stop) => stopped(stop),
