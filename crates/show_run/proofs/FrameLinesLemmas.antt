@@ -1,21 +1,21 @@
 -- The lines of records, step by step.
-use Rattle.std.proofs.Common.{◌≡◌, ◌≢◌, ℕ, ◌+◌, ◌-◌, ◌<◌, ◌≤◌, min, Bool, true, false, cond, List, [], ◌∷◌, ◌++◌, length, take, drop, refl, ap, sym, subst, ◌∙◌, inl, inr, ⊎_elim, arith, append_assoc, append-nil, length-append}
-use Rattle.std.specs.Prelude.{◌⊎◌, nat_lt}
+use Rattle.std.proofs.Common.{◌≡◌, ◌≢◌, ℕ, ◌+◌, ◌<◌, ◌≤◌, min, true, false, List, [], ◌∷◌, ◌++◌, length, take, refl, ap, sym, subst, ◌∙◌, inl, inr, ⊎_elim, arith, append-nil, length-append}
+use Rattle.std.specs.Prelude.{◌⊎◌}
 use Rattle.std.proofs.Math.Seq.{take-length}
-use Rattle.std.proofs.lemmas.List.{take_at, take-append-le, nil_from_length}
+use Rattle.std.proofs.lemmas.List.{nil_from_length}
 use Rattle.desk_io.specs.Reading.{most_bytes}
 use Rattle.desk_io.specs.declared.input.TheConstants.{BUFFER}
 use Rattle.file_run.specs.Events.{Event, Fed, Ended, Gave, fed, has_ended, gave}
 use Rattle.file_run.specs.Laws.{EventsTell}
-use Rattle.file_run.specs.Steps.{Suffices, FallsShort, HasRoom, CanBeRead}
+use Rattle.file_run.specs.Steps.{Suffices, FallsShort, HasRoom}
 use Rattle.file_run.specs.declared.machine.Step.TheVariants.{Read, Give, End}
 use Rattle.site_frame.specs.Record.{head_len}
-use Rattle.site_frame.specs.Whole.{BeginsWith, Refuses, Follow, RefusesHead}
+use Rattle.site_frame.specs.Whole.{Refuses, Follow, RefusesHead}
 use Rattle.site_frame.specs.declared.fault.RecordWhy.{RecordWhy}
 use Rattle.site_frame.specs.declared.fault.RecordWhy.TheVariants as why
 use Rattle.site_frame.specs.declared.reading.RecordView.{RecordView}
 use Rattle.show_run.specs.Front.{most_of}
-use Rattle.show_run.specs.FrameLines.{next_from, next_of, IsLineOf, IsSeen, IsRefused, Sees, LacksRoom, SeesHead, HasBegun, Begins, IsBegun, Behind, Given, Shown, IsNew, Comes}
+use Rattle.show_run.specs.FrameLines.{next_from, next_of, IsLineOf, Sees, Begins, IsBegun, Behind, Given, Shown, IsNew, Comes}
 use Rattle.site_frame.specs.RecordFile.{AreRecords, Announces}
 use Rattle.show_run.specs.SaidLines.{record_line, record_lines, records_line}
 use Rattle.show_run.specs.declared.frame_lines.Coming.{Coming}

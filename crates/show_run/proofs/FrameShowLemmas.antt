@@ -1,7 +1,7 @@
 -- What was told of the lines of records is what a file of records asks for.
-use Rattle.std.proofs.Common.{◌≡◌, ◌≢◌, ℕ, ◌+◌, ◌-◌, ◌<◌, ◌≤◌, min, Bool, true, false, cond, List, [], ◌∷◌, ◌++◌, length, take, refl, ap, sym, subst, ◌∙◌, inl, inr, arith, append_assoc, append-nil, length-append}
+use Rattle.std.proofs.Common.{◌≡◌, ◌≢◌, ℕ, ◌+◌, ◌-◌, ◌<◌, ◌≤◌, min, Bool, true, false, cond, List, [], ◌∷◌, ◌++◌, length, refl, ap, sym, subst, ◌∙◌, inl, inr, arith, append-nil, length-append}
 use Rattle.std.specs.Prelude.{codes, ◌⊎◌, nat_lt, IfSome, Result, Ok, Err}
-use Rattle.std.proofs.lemmas.List.{nil_from_length, take-append-le}
+use Rattle.std.proofs.lemmas.List.{nil_from_length}
 use Rattle.std.proofs.lemmas.Bool.{ltb-true}
 use Rattle.std.proofs.lemmas.Option.{IfSome_then}
 use Rattle.terms.proofs.OptionLemmas.{if_any, if_both, append-none}
@@ -10,17 +10,15 @@ use Rattle.desk_io.specs.Reading.{most_bytes}
 use Rattle.desk_io.specs.declared.input.TheConstants.{BUFFER}
 use Rattle.file_run.specs.Events.{Event, fed, has_ended, gave}
 use Rattle.file_run.specs.FileRun.{IsFed}
-use Rattle.file_run.specs.Steps.{FallsShort}
 use Rattle.file_run.specs.Telling.{StartsWith, Reaches, Tells, TellsAll}
 use Rattle.file_run.specs.declared.machine.Step.TheVariants.{Read, Give, End}
 use Rattle.site_frame.specs.Laws.{OneRecord, NoRefusal}
 use Rattle.site_frame.specs.Record.{head_len}
-use Rattle.site_frame.specs.Whole.{Follow}
 use Rattle.site_frame.specs.declared.fault.RecordWhy.{RecordWhy}
 use Rattle.site_frame.specs.declared.reading.RecordView.{RecordView}
 use Rattle.show_run.specs.Front.{most_of}
 use Rattle.show_run.specs.FrameLines.{next_from, next_of, IsBegun, Behind, Given, Shown, Comes, records_end}
-use Rattle.site_frame.specs.RecordFile.{AreRecords, IsNoRecord, Announces, EndsWithin, bytes_before}
+use Rattle.site_frame.specs.RecordFile.{AreRecords, IsNoRecord, EndsWithin, bytes_before}
 use Rattle.show_run.specs.RecordText.{AreFirstRecords, MeetsRecords, SaysMetRecords, LeavesRecords, IsRecordText}
 use Rattle.show_run.specs.SaidLines.{record_lines, records_line}
 use Rattle.show_run.specs.Shows.{Shows}
