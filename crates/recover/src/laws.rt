@@ -1,0 +1,114 @@
+// Laws of the definitions. Their functions do nothing.
+ghost use Rattle.frame_records.specs.Laws.{NoneLost};
+ghost use Rattle.recover.specs.Laws.{FrameIsEpoch, SlotRecovers, ReadbackRecovers, BlocksTaken, RunRecovers, RecordsRecover, WholeComesBack, RunComesBack};
+
+use bb_frame::{bit_counts, scramble_twice, written_is_spelled};
+use cell_map::shape_law;
+use frame_records::{recover_law as loss_law, stand_law};
+use frame_tests::{map_test_law, parts_law};
+use l1_signal::{conf_law, dyn_law, post_law, pre_law};
+use mode_adapt::{begin_law, count_law, end_law, first_law, sent_within, within_law};
+use null_delete::{dnp_fits, next_kept, without_deletion};
+use plp_config::{
+    block_law, delay_law, emission_law, iscr_law, length_law, range_law, release_law,
+    run_length_law, slot_time_law,
+};
+use plp_receiver::readback_law as once_law;
+use scheduler::{field_law, order_law};
+
+/// The frames of every plan are epochs.
+pub fn frame_law()
+    ensures { FrameIsEpoch }
+{
+    within_law();
+    length_law();
+}
+
+/// Readback of the records of epochs, muted ones among them, is what they give back.
+pub fn epochs_law()
+    ensures slot { SlotRecovers }
+    ensures readback { ReadbackRecovers }
+{
+    sent_within();
+    begin_law();
+    end_law();
+    first_law();
+    iscr_law();
+    delay_law();
+    release_law();
+    range_law();
+    slot_time_law();
+    next_kept();
+    without_deletion();
+    length_law();
+    block_law();
+}
+
+/// Each block of an epoch is taken, as what was sent.
+pub fn taken_law()
+    ensures { BlocksTaken }
+{
+    sent_within();
+    begin_law();
+    end_law();
+    first_law();
+    iscr_law();
+    delay_law();
+    dnp_fits();
+    written_is_spelled();
+    length_law();
+    block_law();
+}
+
+/// What a PLP is given back of the records of a run's frames, muted ones among them, is what the frames give back.
+pub fn recover_law()
+    ensures { RunRecovers }
+{
+    frame_law();
+    epochs_law();
+    taken_law();
+    once_law();
+    stand_law();
+    scramble_twice();
+    bit_counts();
+    map_test_law();
+    parts_law();
+    shape_law();
+    pre_law();
+    conf_law();
+    dyn_law();
+    post_law();
+    count_law();
+    length_law();
+    block_law();
+    field_law();
+    order_law();
+}
+
+/// So it is of all records of a run.
+pub fn records_law()
+    ensures { RecordsRecover }
+{
+    recover_law();
+    emission_law();
+}
+
+// If nothing is muted, nothing is lost.
+fn none_law()
+    ensures { NoneLost }
+{
+    loss_law();
+}
+
+/// If nothing is muted, and null packets are canonical, the packets that were sent come back.
+pub fn whole_law()
+    ensures whole { WholeComesBack }
+    ensures run { RunComesBack }
+{
+    recover_law();
+    none_law();
+    length_law();
+    slot_time_law();
+    release_law();
+    run_length_law();
+}
