@@ -17,7 +17,8 @@ use Rattle.site_frame.specs.declared.reading.RecordView.{RecordView}
 use Rattle.site_frame.specs.declared.reading.RecordView.TheVariants.{Muted}
 use Rattle.frame_records.specs.Frames.{frame_of, run_frames}
 use Rattle.frame_records.specs.Laws.{NoneLost}
-use Rattle.frame_records.specs.Records.{record_of, numbers_from, records, IsOnGrid}
+use Rattle.site_frame.specs.RecordFile.{IsOnGrid}
+use Rattle.frame_records.specs.Records.{record_of, numbers_from, records}
 use Rattle.frame_records.specs.Recover.{due_slots, recovered, recover}
 use Rattle.packet_slots.specs.Records.{Record, readback}
 use Rattle.packet_slots.proofs.ListLemmas.{map_same}

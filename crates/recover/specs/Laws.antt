@@ -9,7 +9,8 @@ use Rattle.plp_config.specs.declared.config.Config.{Config}
 use Rattle.null_delete.specs.Deletion.{packet_at}
 use Rattle.mode_adapt.specs.Blocks.{blocks_of}
 use Rattle.frame_records.specs.Frames.{run_frames}
-use Rattle.frame_records.specs.Records.{record_of, records, IsOnGrid}
+use Rattle.site_frame.specs.RecordFile.{IsOnGrid}
+use Rattle.frame_records.specs.Records.{record_of, records}
 use Rattle.frame_records.specs.Recover.{due_slots, recovered, recover}
 use Rattle.packet_slots.specs.Readback.{slot_packet}
 use Rattle.packet_slots.specs.Records.{string_of, readback}
