@@ -1,14 +1,14 @@
-mod OneLemmas
-mod SlotLemmas
-mod TurnLemmas
+pub mod OneLemmas
+pub mod SlotLemmas
+pub mod TurnLemmas
 mod PieceLemmas
-mod IscrLemmas
+pub mod IscrLemmas
 mod HoldsLemmas
 mod OutLemmas
-mod BlockLemmas
+pub mod BlockLemmas
 mod FillLemmas
-mod ListLemmas
-mod PlaceLemmas
+pub mod ListLemmas
+pub mod PlaceLemmas
 mod ReadbackLemmas
 mod WindowLemmas
 mod TimeLemmas
