@@ -10,6 +10,8 @@ mod gateway;
 #[cfg(test)]
 mod modulate;
 #[cfg(test)]
+mod random_networks;
+#[cfg(test)]
 mod receive;
 #[cfg(test)]
 mod runs;
