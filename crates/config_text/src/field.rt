@@ -3,8 +3,8 @@ ghost use Rattle.std.specs.Prelude.{◌≡◌, ◌≤◌, length, IfSome, IfNone
 ghost use Rattle.config_text.specs.Fields.{key_at, fields_at, spelling_of, why_of, word_of, SpellsField};
 ghost use Rattle.config_text.specs.Words.{Fits};
 
-use crate::fault::TextWhy;
 use crate::decimal::number_within;
+use crate::fault::TextWhy;
 use crate::places;
 use itoa::Buffer;
 
