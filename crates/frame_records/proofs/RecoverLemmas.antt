@@ -1,9 +1,9 @@
 -- If nothing is lost, the packets come back; and which slots are due.
-use Rattle.std.proofs.Common.{◌≡◌, ◌↔◌, ℕ, ◌+◌, ◌-◌, ◌*◌, ◌<◌, ◌≤◌, ◌&&◌, not, Bool, true, false, cond, List, [], ◌∷◌, refl, sym, subst, ap₂, ap, ◌∙◌, arith}
-use Rattle.std.specs.Prelude.{map, filter, ◌||◌}
+use Rattle.std.proofs.Common.{◌≡◌, ◌↔◌, ℕ, ◌+◌, ◌-◌, ◌*◌, ◌<◌, ◌≤◌, ◌&&◌, Bool, true, false, cond, List, [], ◌∷◌, refl, sym, subst, ap₂, ap, ◌∙◌, arith}
+use Rattle.std.specs.Prelude.{map, filter}
 use Rattle.std.specs.List.{range_with_len, Contains}
 use Rattle.std.proofs.lemmas.List.FromFn.{get_or-range_with_len, length-range_with_len}
-use Rattle.ts_packet.specs.Null.{is_null, null_packet}
+use Rattle.ts_packet.specs.Null.{null_packet}
 use Rattle.plp_config.specs.Laws.{ReleasedByFrame}
 use Rattle.plp_config.specs.SlotTime.{num, den, delay, slots_by, released_count, IsReleased}
 use Rattle.plp_config.specs.declared.config.Config.{Config}
@@ -15,20 +15,14 @@ filter_none : (ns : List ℕ) → filter (λ m. false) ns ≡ []
 filter_none [] = refl
 filter_none (n ∷ ns) = filter_none ns
 
--- what is not kept is null
-not_kept : (deletes null longest : Bool) → cond deletes (not null || longest) true ≡ false → null ≡ true
-not_kept true true longest e = refl
-not_kept true false longest e = absurd cc
-not_kept false null longest e = absurd cc
-
 kept_or : (b : Bool) (p null : List ℕ) → (b ≡ false → p ≡ null) → cond (b && true) p null ≡ p
 kept_or true p null h = refl
 kept_or false p null h = let e = h refl in cc
 
-comes_back : (c : Config) (plp ticks : ℕ) (at : ℕ → List ℕ) → ((k : ℕ) → is_null (at k) ≡ true → at k ≡ null_packet) → (k : ℕ) → recovered c plp ticks at [] k ≡ at k
-comes_back c plp ticks at canonical k = kept_or (plp_keeps c plp at k) (at k) null_packet (λ e. canonical k (not_kept _ (is_null (at k)) _ e))
+comes_back : (c : Config) (plp ticks : ℕ) (at : ℕ → List ℕ) → ((k : ℕ) → plp_keeps c plp at k ≡ false → at k ≡ null_packet) → (k : ℕ) → recovered c plp ticks at [] k ≡ at k
+comes_back c plp ticks at canonical k = kept_or (plp_keeps c plp at k) (at k) null_packet (canonical k)
 
-all_come_back : (c : Config) (plp ticks : ℕ) (at : ℕ → List ℕ) → ((k : ℕ) → is_null (at k) ≡ true → at k ≡ null_packet) → (ks : List ℕ) → map (recovered c plp ticks at []) ks ≡ map at ks
+all_come_back : (c : Config) (plp ticks : ℕ) (at : ℕ → List ℕ) → ((k : ℕ) → plp_keeps c plp at k ≡ false → at k ≡ null_packet) → (ks : List ℕ) → map (recovered c plp ticks at []) ks ≡ map at ks
 all_come_back c plp ticks at canonical [] = refl
 all_come_back c plp ticks at canonical (k ∷ ks) = ap₂ (λ x xs. x ∷ xs) (comes_back c plp ticks at canonical k) (all_come_back c plp ticks at canonical ks)
 

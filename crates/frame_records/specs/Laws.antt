@@ -3,7 +3,7 @@ use Rattle.std.specs.Prelude.{◌≡◌, ◌⊎◌, ◌↔◌, ◌<◌, ◌≤�
 use Rattle.std.specs.List.{AllByRecursion, Contains, range_with_len}
 use Rattle.plp_config.specs.Places.{places}
 use Rattle.terms.specs.Bits.{bytes_for}
-use Rattle.ts_packet.specs.Null.{is_null, null_packet}
+use Rattle.ts_packet.specs.Null.{null_packet}
 use Rattle.plp_config.specs.Capacity.{IsPlan, block_bytes}
 use Rattle.plp_config.specs.Rules.{AllRules}
 use Rattle.plp_config.specs.RunLength.{frame_count}
@@ -21,7 +21,7 @@ use Rattle.site_frame.specs.Record.{Block, head_len, pre_len}
 use Rattle.frame_records.specs.Frames.{sent_block, sent_blocks, frame_cells, frame_shape, frame_view, frame_of, HasByteIds, run_frames}
 use Rattle.frame_records.specs.Records.{record_of, records}
 use Rattle.frame_records.specs.Recover.{due_slots, recover}
-use Rattle.mode_adapt.specs.Blocks.{plp_blocks}
+use Rattle.mode_adapt.specs.Blocks.{plp_blocks, plp_keeps}
 
 -- how many bytes follow the head of a frame's record, whose L1-post has so many bits and whose PLPs have so many blocks
 abbrev pub rest_size : Config → ℕ → (ℕ → ℕ) → ℕ
@@ -96,9 +96,9 @@ RecordsFit = (c : Config) (inputs : ℕ → List (List ℕ)) (whole : ℕ → Bo
 abbrev pub AllWhole : Type 0
 AllWhole = (c : Config) (inputs : ℕ → List (List ℕ)) → records c inputs (λ n. true) (frame_count c (λ plp. length (inputs plp))) ≡ run_frames c inputs
 
--- If no frame is muted and null packets are canonical, the packets of the slots come back.
+-- If no frame is muted and each packet that is not kept is the canonical null packet, the packets of the slots come back.
 abbrev pub NoneLost : Type 0
-NoneLost = (c : Config) (plp ticks : ℕ) (at : ℕ → List ℕ) (first count : ℕ) → ((k : ℕ) → is_null (at k) ≡ true → at k ≡ null_packet)
+NoneLost = (c : Config) (plp ticks : ℕ) (at : ℕ → List ℕ) (first count : ℕ) → ((k : ℕ) → plp_keeps c plp at k ≡ false → at k ≡ null_packet)
     → recover c plp ticks at (λ m. false) first count ≡ map at (due_slots c plp ticks first count)
 
 -- A slot is due exactly if it was not over before the first frame, and its packet is given out once the last one has ended.

@@ -1,14 +1,15 @@
 -- What a PLP is given back of the frames of a run.
 use Rattle.std.proofs.Common.{◌≡◌, ℕ, zero, suc, ◌+◌, ◌-◌, ◌*◌, ◌<◌, ◌≤◌, ◌%◌, ◌==◌, ◌&&◌, not, Bool, true, false, cond, List, [], ◌∷◌, ◌++◌, length, map, replicate, get_or, Option, Some, None, refl, ap, ap₂, ◌∙◌, sym, subst, arith}
-use Rattle.std.specs.Prelude.{find}
+use Rattle.std.specs.Prelude.{find, ◌||◌}
 use Rattle.std.specs.List.{AllByRecursion, range_with_len, filter}
 use Rattle.std.proofs.lemmas.List.FromFn.{length-map-range_with_len}
-use Rattle.ts_packet.specs.Null.{null_packet}
+use Rattle.ts_packet.specs.Null.{null_packet, is_null}
 use Rattle.plp_config.specs.Capacity.{IsPlan}
 use Rattle.plp_config.specs.Emission.{emission}
 use Rattle.plp_config.specs.Laws.{SlotLength, NoneAtZero, ReleasedFirst, EmissionsDiffer, FrameCountLeast}
 use Rattle.plp_config.specs.RunLength.{frame_count}
 use Rattle.plp_config.specs.SlotTime.{num, den, delay, slots_by, released_count}
+use Rattle.plp_config.specs.Plps.{plp_at}
 use Rattle.plp_config.specs.declared.config.Config.{Config}
 use Rattle.plp_config.specs.declared.moment.Moment.{Moment}
 use Rattle.null_delete.specs.Deletion.{packet_at}
@@ -123,13 +124,21 @@ none_muted muted (suc count) first h =
     ap (λ (b : Bool). cond {A = List ℕ} b (first ∷ filter muted (range_with_len (first + 1) count)) (filter muted (range_with_len (first + 1) count))) (h first (omega arith) (omega arith))
     ∙ none_muted muted count (first + 1) (λ m from below. h m (omega (arith, from)) (omega (arith, below)))
 
+-- what is not kept is null, and null packets are deleted
+not_kept : (deletes null longest : Bool) → cond deletes (not null || longest) true ≡ false → (deletes ≡ true) × (null ≡ true)
+not_kept true true longest e = (refl, refl)
+not_kept true false longest e = absurd cc
+not_kept false null longest e = absurd cc
+
 pub whole_comes_back : NoneLost → RunRecovers → WholeComesBack
 whole_comes_back none run c plp inputs whole first count packets plan types inside all canonical each back =
     let at : ℕ → List ℕ = packet_at (inputs plp) in
     let given : List ℕ → List (List ℕ) = λ muted. map (recovered c plp c.ticks at muted) (due_slots c plp c.ticks first count) in
     run c plp inputs whole first count packets plan types inside all back
     ∙ ap given (none_muted (λ m. not (whole m)) count first (λ m from below. ap not (each m from below)) ∙ sym (none_muted (λ m. false) count first (λ m from below. refl)))
-    ∙ none c plp c.ticks at first count (in_each_slot IsCanonical (λ e. refl) (inputs plp) canonical)
+    ∙ none c plp c.ticks at first count (λ k e.
+    let lost = not_kept (plp_at c.plps plp).delete (is_null (at k)) _ e in
+    in_each_slot (IsCanonical (plp_at c.plps plp).delete) (λ deletes null. refl) (inputs plp) canonical k lost.0 lost.1)
 
 -- ---- all frames of a run
 

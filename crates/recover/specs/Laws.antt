@@ -22,7 +22,7 @@ use Rattle.recover.specs.Told.{IsPacket, ArePackets, IsEpoch, slot_rule, told_bl
 abbrev pub FrameIsEpoch : Type 0
 FrameIsEpoch = (c : Config) (plp : ℕ) → IsPlan c → plp < length c.plps → IsEpoch c plp c.ticks
 
--- The packet of each slot whose user packet begins and ends in these epochs is what they give back of it.
+-- The packet of each slot of these epochs but the last one is what they give back of it.
 abbrev pub SlotRecovers : Type 0
 SlotRecovers = (c : Config) (plp ticks : ℕ) (at : ℕ → List ℕ) (muted : ℕ → Bool) (first count k : ℕ) → IsPlan c → plp < length c.plps → IsEpoch c plp ticks → ArePackets at
     → slots_by c plp ((first - 1) * ticks) ≤ k → k < slots_by c plp ((first + count - 2) * ticks)
@@ -50,18 +50,18 @@ RecordsRecover = (c : Config) (plp : ℕ) (inputs : ℕ → List (List ℕ)) (wh
     → AllByRecursion IsPacket (inputs plp) → IsOnGrid c first (records c inputs whole end) → Readback c plp first (records c inputs whole end) packets
     → packets ≡ recover c plp c.ticks (packet_at (inputs plp)) (λ m. not (whole m)) first (length (records c inputs whole end))
 
--- A null packet is the canonical one.
-abbrev pub IsCanonical : List ℕ → Type 0
-IsCanonical packet = is_null packet ≡ true → packet ≡ null_packet
+-- If null packets are deleted, a null packet is the canonical one.
+abbrev pub IsCanonical : Bool → List ℕ → Type 0
+IsCanonical deletes packet = deletes ≡ true → is_null packet ≡ true → packet ≡ null_packet
 
--- If all frames are whole and the null packets of the input are canonical, it is the packets of the slots that are due.
+-- If all frames are whole, and the null packets of the input are canonical if they are deleted, it is the packets of the slots that are due.
 abbrev pub WholeComesBack : Type 0
 WholeComesBack = (c : Config) (plp : ℕ) (inputs : ℕ → List (List ℕ)) (whole : ℕ → Bool) (first count : ℕ) (packets : List (List ℕ)) → IsPlan c → TypesFit c → plp < length c.plps
-    → AllByRecursion IsPacket (inputs plp) → AllByRecursion IsCanonical (inputs plp) → ((m : ℕ) → first ≤ m → m < first + count → whole m ≡ true)
+    → AllByRecursion IsPacket (inputs plp) → AllByRecursion (IsCanonical (plp_at c.plps plp).delete) (inputs plp) → ((m : ℕ) → first ≤ m → m < first + count → whole m ≡ true)
     → Readback c plp first (map (record_of c inputs whole) (range_with_len first count)) packets → packets ≡ map (packet_at (inputs plp)) (due_slots c plp c.ticks first count)
 
 -- And of all frames of a run it is the packets of the input, and null packets behind them.
 abbrev pub RunComesBack : Type 0
 RunComesBack = (c : Config) (plp : ℕ) (inputs : ℕ → List (List ℕ)) (packets : List (List ℕ)) → IsPlan c → TypesFit c → plp < length c.plps
-    → AllByRecursion IsPacket (inputs plp) → AllByRecursion IsCanonical (inputs plp) → Readback c plp 0 (run_frames c inputs) packets
+    → AllByRecursion IsPacket (inputs plp) → AllByRecursion (IsCanonical (plp_at c.plps plp).delete) (inputs plp) → Readback c plp 0 (run_frames c inputs) packets
     → (nulls : ℕ) × (packets ≡ inputs plp ++ replicate nulls null_packet)

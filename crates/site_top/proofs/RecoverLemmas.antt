@@ -9,6 +9,7 @@ use Rattle.ports.specs.Desk.{State, Held, bytes_of}
 use Rattle.plp_config.specs.Capacity.{IsPlan}
 use Rattle.plp_config.specs.Emission.{emission}
 use Rattle.plp_config.specs.Laws.{FrameCountLeast}
+use Rattle.plp_config.specs.Plps.{plp_at}
 use Rattle.plp_config.specs.Rules.Rule.{PlpCount}
 use Rattle.plp_config.specs.declared.config.Config.{Config}
 use Rattle.plp_config.specs.declared.moment.Moment.{Moment}
@@ -113,7 +114,7 @@ module _ (laws : FileLaws) (c : Config) (plan : IsPlan c) (types : TypesFit c) (
       some_ticks (run_length c inputs) _ (omega arith) ((laws.least c (λ plp. length (inputs plp)) plan.rules).enough 0 (omega (arith, plps)))
 
   -- of all frames
-  run_back : (file bytes : List ℕ) (views : List RecordView) → AreRecords file views [] → Received c plp views bytes → (inputs : ℕ → List (List ℕ)) → AllByRecursion IsPacket (inputs plp) → AllByRecursion IsCanonical (inputs plp)
+  run_back : (file bytes : List ℕ) (views : List RecordView) → AreRecords file views [] → Received c plp views bytes → (inputs : ℕ → List (List ℕ)) → AllByRecursion IsPacket (inputs plp) → AllByRecursion (IsCanonical (plp_at c.plps plp).delete) (inputs plp)
       → run_length c inputs ≤ MOST_FRAMES → file ≡ file_bytes (run_frames c inputs) → (nulls : ℕ) × (bytes ≡ concat (inputs plp ++ replicate nulls null_packet))
   run_back file bytes views records r inputs all canonical small is =
       let back : Readback c plp 0 (run_frames c inputs) r.packets = packets_back file bytes views records r inputs (λ n. true) 0 (run_length c inputs) (some_frames inputs) small is in

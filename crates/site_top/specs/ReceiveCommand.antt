@@ -5,6 +5,7 @@ use Rattle.std.specs.List.{AllByRecursion, concat, range_with_len}
 use Rattle.ports.specs.Desk.{State, bytes_of}
 use Rattle.plp_config.specs.Capacity.{IsPlan}
 use Rattle.plp_config.specs.Places.{IsPlace, HasNoPlace}
+use Rattle.plp_config.specs.Plps.{plp_at}
 use Rattle.plp_config.specs.declared.config.Config.{Config}
 use Rattle.plp_config.specs.declared.moment.TheConstants.{MOST_FRAMES}
 use Rattle.ts_packet.specs.Null.{null_packet}
@@ -38,8 +39,8 @@ pub record GivesBack (c : Config) (plp : ℕ) (file bytes : List ℕ) : Type 0 w
   -- the records of frames in a row, each as all transmitters send it, or muted; so are those that must come of what is received of a stream
   pub frames : (inputs : ℕ → List (List ℕ)) (whole : ℕ → Bool) (first count : ℕ) → AllByRecursion IsPacket (inputs plp) → 1 ≤ count → first + count ≤ MOST_FRAMES
       → file ≡ file_bytes (map (record_of c inputs whole) (range_with_len first count)) → bytes ≡ concat (recover c plp c.ticks (packet_at (inputs plp)) (λ m. not (whole m)) first count)
-  -- all frames of the run, none of them muted: the packets that were sent, if each null packet among them is the canonical one, and null packets behind
-  pub run : (inputs : ℕ → List (List ℕ)) → AllByRecursion IsPacket (inputs plp) → AllByRecursion IsCanonical (inputs plp) → run_length c inputs ≤ MOST_FRAMES
+  -- all frames of the run, none of them muted: the packets that were sent, if each null packet among them that is deleted is the canonical one, and null packets behind
+  pub run : (inputs : ℕ → List (List ℕ)) → AllByRecursion IsPacket (inputs plp) → AllByRecursion (IsCanonical (plp_at c.plps plp).delete) (inputs plp) → run_length c inputs ≤ MOST_FRAMES
       → file ≡ file_bytes (run_frames c inputs) → (nulls : ℕ) × (bytes ≡ concat (inputs plp ++ replicate nulls null_packet))
 
 -- So it is with the bytes of IN and OUT.
