@@ -1,0 +1,27 @@
+-- Laws of runs over a file.
+use Rattle.std.specs.Prelude.{◌≡◌, ℕ, ◌<◌, List, [], length, slice_index, Result, Ok, Err}
+use Rattle.plp_config.specs.Capacity.{IsPlan}
+use Rattle.plp_config.specs.declared.config.Config.{Config}
+use Rattle.site_frame.specs.RecordFile.{AreRecords}
+use Rattle.receive_run.specs.ReceiveRun.{HasAll, HasBefore}
+use Rattle.receive_run.specs.declared.stop.Ran.{Ran}
+use Rattle.receive_run.specs.declared.stop.RunStop.{RunStop}
+use Rattle.receive_run.specs.declared.stop.RunStop.TheVariants.{RecordRefused}
+
+-- How a run must end over a file that is not too long, if nothing outside fails.
+abbrev pub MustRun : Config → ℕ → List ℕ → Result Ran RunStop → Type 0
+MustRun c plp file (Ok ran) = (bytes : List ℕ) × HasAll c plp ran file bytes
+MustRun c plp file (Err (RecordRefused number why)) = (bytes : List ℕ) × HasBefore c plp number why file bytes
+MustRun c plp file (Err stop) = ⊥
+
+-- A file decides how a run of a PLP of a plan over it must end.
+abbrev pub OneRun : Type 0
+OneRun = (c : Config) (plp : ℕ) (file : List ℕ) (result other : Result Ran RunStop) → IsPlan c → MustRun c plp file result → MustRun c plp file other → result ≡ other
+
+-- Each number of the file is that of a byte.
+abbrev pub AreBytes : List ℕ → Type 0
+AreBytes file = (k : ℕ) → slice_index file k < 256
+
+-- A run over a file has an ending.
+abbrev pub RunEnds : Type 0
+RunEnds = (c : Config) (plp : ℕ) (file : List ℕ) → IsPlan c → plp < length c.plps → AreBytes file → (result : Result Ran RunStop) × MustRun c plp file result

@@ -1,0 +1,106 @@
+-- What a run of the receiver over a file of records does, from the opening of its input on.
+use Rattle.std.specs.Prelude.{◌≡◌, ◌≢◌, ◌⊎◌, ℕ, ◌-◌, ◌<◌, ◌≤◌, List, [], ◌∷◌, ◌++◌, length, IsSome, IfSome}
+use Rattle.std.specs.FinMap.{get}
+use Rattle.ports.specs.Desk.{State, SameCounts, bytes_of}
+use Rattle.plp_config.specs.declared.config.Config.{Config}
+use Rattle.site_frame.specs.RecordFile.{AreRecords, EndsWithin, bytes_before}
+use Rattle.site_frame.specs.declared.fault.RecordWhy.{RecordWhy}
+use Rattle.site_frame.specs.declared.reading.RecordView.{RecordView}
+use Rattle.desk_io.specs.Faults.{ReadsFail, WritesFail}
+use Rattle.desk_io.specs.Reading.{most_bytes}
+use Rattle.file_run.specs.FileRun.{OpensInputs, FailsToCreateOutput, Works}
+use Rattle.receive_run.specs.Received.{Received, ran_of, expected_after, RefusesNext}
+use Rattle.receive_run.specs.declared.stop.Ran.{Ran}
+use Rattle.receive_run.specs.declared.stop.RunStop.{RunStop}
+use Rattle.receive_run.specs.declared.stop.RunStop.TheVariants.{RecordRefused, TooLong, ReadFault, WriteFault, OutOfMemory}
+
+-- IN was opened and read up to a place, and then OUT created: by the bytes of IN, OUT has these bytes.
+abbrev pub Writes : State → State → List ℕ → List ℕ → ℕ → (List ℕ → List ℕ → Type 0) → Type 0
+Writes old new name out place Has = Works old new out (name ∷ []) (place ∷ []) (λ h bytes. Has (bytes_of h.files name) bytes)
+
+-- IN was read to its end.
+abbrev pub ReadsAll : State → List ℕ → ℕ → Type 0
+ReadsAll old name place = (place < most_bytes) × IfSome old.held (λ h. (IsSome (get h.files name)) × (place ≡ length (bytes_of h.files name)))
+
+-- The file is nothing but records, the bytes are what they give back, and these are their slots.
+pub record HasAll (c : Config) (plp : ℕ) (ran : Ran) (file bytes : List ℕ) : Type 0 where
+  pub views : List RecordView
+  pub records : AreRecords file views []
+  pub received : Received c plp views bytes
+  pub ran_is : ran ≡ ran_of c plp received.first views received.packets
+
+-- A run to the end of IN.
+pub record RunsAll (c : Config) (plp : ℕ) (old new : State) (name out : List ℕ) (ran : Ran) : Type 0 where
+  pub place : ℕ
+  pub works : Writes old new name out place (HasAll c plp ran)
+  pub ends : ReadsAll old name place
+  pub counts : SameCounts old new
+
+-- The file begins with so many records, the bytes are what they give back, and what stands behind them is refused.
+pub record HasBefore (c : Config) (plp number : ℕ) (why : RecordWhy) (file bytes : List ℕ) : Type 0 where
+  pub views : List RecordView
+  pub rest : List ℕ
+  pub records : AreRecords file views rest
+  pub received : Received c plp views bytes
+  pub number_is : number ≡ length views
+  pub refused : RefusesNext c (expected_after received.first views) rest why
+
+-- A record was refused. OUT has what those before it give back.
+pub record MeetsRefused (c : Config) (plp : ℕ) (old new : State) (name out : List ℕ) (number : ℕ) (why : RecordWhy) : Type 0 where
+  pub place : ℕ
+  pub short : place < most_bytes
+  pub works : Writes old new name out place (HasBefore c plp number why)
+  pub counts : SameCounts old new
+
+-- Of so many bytes that were read of the file, records were met, and what was read behind them ends within the next one: so no refused
+-- one was met. The bytes are what they give back.
+pub record HasMet (c : Config) (plp place : ℕ) (file bytes : List ℕ) : Type 0 where
+  pub views : List RecordView
+  pub rest : List ℕ
+  pub records : AreRecords file views rest
+  pub received : Received c plp views bytes
+  pub within : EndsWithin rest (place - bytes_before file rest)
+
+-- IN gave as many bytes as no file may have.
+pub record GivesTooMuch (c : Config) (plp : ℕ) (old new : State) (name out : List ℕ) : Type 0 where
+  pub works : Writes old new name out most_bytes (HasMet c plp most_bytes)
+  pub long : IfSome old.held (λ h. most_bytes ≤ length (bytes_of h.files name))
+  pub counts : SameCounts old new
+
+-- IN could not be read on.
+pub record StopsReading (c : Config) (plp : ℕ) (old new : State) (name out : List ℕ) : Type 0 where
+  pub place : ℕ
+  pub short : place < most_bytes
+  pub works : Writes old new name out place (HasMet c plp place)
+
+-- So many bytes were read of the file, which are records. Of what they give back the bytes are a front, but not all; and they begin with
+-- all that the records before the last one give back.
+pub record HasSome (c : Config) (plp place : ℕ) (file bytes : List ℕ) : Type 0 where
+  pub before : List RecordView
+  pub last : RecordView
+  pub rest : List ℕ
+  pub records : AreRecords file (before ++ last ∷ []) rest
+  pub read : place ≡ bytes_before file rest
+  pub all : List ℕ
+  pub received : Received c plp (before ++ last ∷ []) all
+  pub more : List ℕ
+  pub some : more ≢ []
+  pub begins : all ≡ bytes ++ more
+  pub early : List ℕ
+  pub received_early : Received c plp before early
+  pub late : List ℕ
+  pub since : bytes ≡ early ++ late
+
+-- OUT could not be written on.
+pub record StopsWriting (c : Config) (plp : ℕ) (old new : State) (name out : List ℕ) : Type 0 where
+  pub place : ℕ
+  pub short : place < most_bytes
+  pub works : Writes old new name out place (HasSome c plp place)
+
+-- A run that did not come to its end, by its cause.
+abbrev pub Stops : Config → ℕ → State → State → List ℕ → List ℕ → RunStop → Type 0
+Stops c plp old new name out (RecordRefused number why) = MeetsRefused c plp old new name out number why
+Stops c plp old new name out (TooLong count) = (count ≡ most_bytes) × GivesTooMuch c plp old new name out
+Stops c plp old new name out ReadFault = ReadsFail old new × (OpensInputs old new (name ∷ []) 0 ⊎ StopsReading c plp old new name out)
+Stops c plp old new name out WriteFault = WritesFail old new × (FailsToCreateOutput old new out (name ∷ []) ⊎ StopsWriting c plp old new name out)
+Stops c plp old new name out OutOfMemory = new ≡ old

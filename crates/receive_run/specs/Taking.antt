@@ -1,0 +1,58 @@
+-- A record that came, and packets that are given out behind it. No public clause cites this module.
+use Rattle.std.specs.Prelude.{◌≡◌, ◌⊎◌, ℕ, ◌+◌, ◌-◌, ◌≤◌, List, [], ◌∷◌, ◌++◌, length, take, Option, Some, None}
+use Rattle.std.specs.List.{concat}
+use Rattle.plp_config.specs.declared.config.Config.{Config}
+use Rattle.site_frame.specs.Placing.{IsPlaced}
+use Rattle.site_frame.specs.Whole.{BeginsWith, Refuses, moment_of}
+use Rattle.site_frame.specs.declared.fault.RecordWhy.{RecordWhy}
+use Rattle.site_frame.specs.declared.reading.RecordView.{RecordView}
+use Rattle.plp_receiver.specs.StandsFor.{StandsFor, IsFresh, network_of, plp_of, frame_of, due_of}
+use Rattle.plp_receiver.specs.Taken.{Readback}
+use Rattle.plp_receiver.specs.declared.receiver.Receiver.{Receiver}
+use Rattle.receive_run.specs.Received.{IsMisplaced}
+
+-- the frame that is expected, by the frame of the first record and their number
+abbrev pub expected_by : Option ℕ → ℕ → Option ℕ
+expected_by None count = None
+expected_by (Some first) count = Some (first + count)
+
+-- The receiver waits for the record of the frame that is expected.
+abbrev pub Awaits : Receiver → Option ℕ → Type 0
+Awaits v None = IsFresh v
+Awaits v (Some frame) = frame_of v ≡ frame
+
+-- The network and the PLP are the same.
+abbrev pub SamePlp : Receiver → Receiver → Type 0
+SamePlp old new = (network_of new ≡ network_of old) × (plp_of new ≡ plp_of old)
+
+-- The record of a frame came, of any if none was expected.
+abbrev pub Comes : Option ℕ → Receiver → Receiver → ℕ → RecordView → Type 0
+Comes None old new frame view = StandsFor new frame (view ∷ []) 0
+Comes (Some other) old new frame view = (first : ℕ) (views : List RecordView) (released : ℕ) → StandsFor old first views released → StandsFor new first (views ++ view ∷ []) released
+
+-- The bytes begin with a record of the frame that was expected, and the receiver took it.
+pub record TakesRecord (c : Config) (expected : Option ℕ) (bytes : List ℕ) (old new : Receiver) (frame : ℕ) : Type 0 where
+  pub view : RecordView
+  pub len : ℕ
+  pub begins : BeginsWith bytes view len
+  pub placed : IsPlaced c expected (moment_of view) frame
+  pub comes : Comes expected old new frame view
+
+-- They do not.
+abbrev pub RefusesRecord : Config → Option ℕ → List ℕ → RecordWhy → Type 0
+RefusesRecord c expected bytes why = Refuses bytes why ⊎ IsMisplaced c expected bytes why
+
+-- So many packets were given out, and these are their bytes.
+pub record GivesPackets (old new : Receiver) (count : ℕ) (bytes : List ℕ) : Type 0 where
+  pub same : SamePlp old new
+  pub frame : frame_of new ≡ frame_of old
+  pub due : due_of new + count ≡ due_of old
+  pub stands : (first : ℕ) (views : List RecordView) (released : ℕ) → StandsFor old first views released → StandsFor new first views (released + count)
+  pub packets : (first : ℕ) (views : List RecordView) (released : ℕ) (packets : List (List ℕ)) → StandsFor old first views released
+      → Readback (network_of old) (plp_of old) first views packets → released ≤ length packets
+      → (released + count ≤ length packets) × (concat (take (released + count) packets) ≡ concat (take released packets) ++ bytes)
+
+-- There is a list of packets that the records give back, and of these so many are due.
+abbrev pub TellsDue : Receiver → Type 0
+TellsDue v = (first : ℕ) (views : List RecordView) (released : ℕ) → StandsFor v first views released
+    → (packets : List (List ℕ)) × Readback (network_of v) (plp_of v) first views packets × (due_of v ≡ length packets - released)

@@ -1,0 +1,26 @@
+// Laws of the definitions. Their functions do nothing.
+ghost use Rattle.receive_run.specs.Laws.{OneRun, RunEnds};
+
+use bb_frame::{bit_counts, no_refusal, spelled_or_refused};
+use plp_receiver::readback_law;
+use site_frame::{place_law, reading_law, refusal_law};
+
+/// A file that is not too long decides how a run over it ends, if nothing outside fails.
+pub fn one_run()
+    ensures { OneRun }
+{
+    reading_law();
+    refusal_law();
+    place_law();
+    readback_law();
+}
+
+/// A run over a file has an ending, if nothing outside fails and the file is not too long.
+pub fn run_ends()
+    ensures { RunEnds }
+{
+    refusal_law();
+    bit_counts();
+    no_refusal();
+    spelled_or_refused();
+}
