@@ -1,4 +1,5 @@
 -- A record came that was taken, or one that was refused.
+use Rattle.site_frame.specs.RecordFile.{IsOnGrid}
 use Rattle.std.proofs.Common.{◌≡◌, ℕ, suc, ◌+◌, ◌-◌, ◌<◌, ◌≤◌, Bool, true, false, List, [], ◌∷◌, ◌++◌, length, map, take, Option, Some, None, refl, ap, ap₂, sym, subst, ◌∙◌, inl, inr, arith, append-nil, length-append}
 use Rattle.std.specs.Prelude.{◌⊎◌, nat_lt, unwrap_or}
 use Rattle.std.specs.List.{concat, range_with_len}
@@ -18,21 +19,21 @@ use Rattle.plp_receiver.specs.Laws.{ReadbackFront}
 use Rattle.plp_receiver.specs.StandsFor.{StandsFor, IsFresh, network_of, plp_of, frame_of, due_of}
 use Rattle.plp_receiver.specs.Taken.{Readback}
 use Rattle.plp_receiver.specs.declared.receiver.Receiver.{Receiver}
-use Rattle.receive_run.specs.Received.{AreSuccessive, GivesBack, expected_after}
+use Rattle.receive_run.specs.Received.{GivesBack, expected_after}
 use Rattle.receive_run.specs.AsMachine.{GaveEarly, GavePackets, Given, first_of}
 use Rattle.receive_run.specs.Taking.{expected_by, Comes, TellsDue}
 
 -- ---- successive frames
 
 -- the record of one frame
-successive_one : (c : Config) (first : ℕ) (view : RecordView) → IsFrameOf c (moment_of view) first → AreSuccessive c first (view ∷ [])
+successive_one : (c : Config) (first : ℕ) (view : RecordView) → IsFrameOf c (moment_of view) first → IsOnGrid c first (view ∷ [])
 successive_one c first view f = record {
   moments = ap (λ (m : Moment). m ∷ []) f.emission-is;
   small = (let s = f.small in omega (arith, s));
 }
 
 -- and of the next one
-successive_more : (c : Config) (first : ℕ) (views : List RecordView) (view : RecordView) → AreSuccessive c first views → IsFrameOf c (moment_of view) (first + length views) → AreSuccessive c first (views ++ view ∷ [])
+successive_more : (c : Config) (first : ℕ) (views : List RecordView) (view : RecordView) → IsOnGrid c first views → IsFrameOf c (moment_of view) (first + length views) → IsOnGrid c first (views ++ view ∷ [])
 successive_more c first views view a f =
     let count = length-append views (view ∷ []) in
     let one : length (views ++ view ∷ []) ≡ length views + 1 = omega (arith, count) in
@@ -48,7 +49,7 @@ successive_more c first views view a f =
 
 -- the receiver took a record, by what was expected: what it stands for and has given
 pub record CameGiven (c : Config) (plp : ℕ) (v : Receiver) (first : ℕ) (views : List RecordView) (view : RecordView) (released : ℕ) (text : List ℕ) (start : ℕ) : Type 0 where
-  pub successive : AreSuccessive c start (views ++ view ∷ [])
+  pub successive : IsOnGrid c start (views ++ view ∷ [])
   pub given : GavePackets c plp v start (views ++ view ∷ []) released text
 
 -- the first one
@@ -94,7 +95,7 @@ next_given front c plp old new first w ws view released text plan inside same_c 
 
 pub came_given : ReadbackFront → (c : Config) (plp : ℕ) (old new : Receiver) (first frame : ℕ) (views : List RecordView) (view : RecordView) (released : ℕ) (text : List ℕ) → IsPlan c → plp < length c.plps → network_of new ≡ c → plp_of new ≡ plp
     → due_of old ≡ 0 → frame_of new ≡ frame + 1 → IsPlaced c (expected_by (first_of first views) (length views)) (moment_of view) frame → Comes (expected_by (first_of first views) (length views)) old new frame view → TellsDue new
-    → AreSuccessive c first views → Given c plp old first views released text
+    → IsOnGrid c first views → Given c plp old first views released text
     → CameGiven c plp new first views view released text (unwrap_or (first_of first views) frame)
 came_given front c plp old new first frame [] view released text plan inside same_c same_p none number placed comes due a g = record {
   successive = successive_one c frame view placed.0;

@@ -30,7 +30,7 @@ use Rattle.scheduler.specs.Shape.{FrameShape}
 use Rattle.site_frame.specs.Laws.{SpelledOrRefused}
 use Rattle.site_frame.specs.Placing.{IsFrameOf, IsOffGrid, RefusesPlace}
 use Rattle.site_frame.specs.Record as frame
-use Rattle.site_frame.specs.RecordFile.{AreRecords}
+use Rattle.site_frame.specs.RecordFile.{AreRecords, IsOnGrid, AreBytes}
 use Rattle.site_frame.specs.Whole.{BeginsWith, Refuses, moment_of}
 use Rattle.site_frame.specs.declared.fault.RecordWhy.{RecordWhy}
 use Rattle.site_frame.specs.declared.fault.RecordWhy.TheVariants as why
@@ -41,12 +41,13 @@ use Rattle.packet_slots.specs.Strings.{Block}
 use Rattle.packet_slots.specs.declared.rule.SlotRule.{SlotRule}
 use Rattle.plp_receiver.specs.Readable.{readable, all_stand}
 use Rattle.plp_receiver.specs.Taken.{IsOfStream, block_read, IsTaken, IsTold, IsGiven, bytes_at, TellsShape, Tells, TellAll, IsRule, Readback}
-use Rattle.receive_run.specs.Laws.{MustRun, AreBytes, RunEnds}
-use Rattle.receive_run.specs.Received.{AreSuccessive, GivesBack, Received, ran_of, expected_after, RefusesNext}
+use Rattle.receive_run.specs.Laws.{MustRun, RunEnds}
+use Rattle.receive_run.specs.Received.{GivesBack, Received, ran_of, expected_after, RefusesNext}
 use Rattle.receive_run.specs.declared.stop.Ran.{Ran}
 use Rattle.receive_run.specs.declared.stop.RunStop.{RunStop}
 use Rattle.receive_run.specs.declared.stop.RunStop.TheVariants.{RecordRefused}
 use Rattle.receive_run.proofs.SameLemmas.{successive_join, successive_none}
+use Rattle.site_frame.proofs.RecordSplitLemmas.{some_bytes, bytes_behind}
 
 -- ---- decisions
 
@@ -182,14 +183,6 @@ frame_there c moment = go (first_other (λ n. moment ≢ emission c n) (λ n. mo
 
 -- ---- records until one is refused
 
--- a record has bytes
-some_bytes : (bytes : List ℕ) (view : RecordView) (len : ℕ) → BeginsWith bytes view len → 0 < len
-some_bytes bytes view zero b = let e = ap length b.spells.spelled in absurd (omega (arith, e))
-some_bytes bytes view (suc len) b = omega arith
-
-bytes_behind : (len : ℕ) (file : List ℕ) → AreBytes file → AreBytes (drop len file)
-bytes_behind len file h k = rw get_or-drop (h (len + k))
-
 some_left : (x : ℕ) (xs : List ℕ) → x ∷ xs ≢ []
 some_left x xs e = let n = ap length e in absurd (omega (arith, n))
 
@@ -198,7 +191,7 @@ record Tail (c : Config) (n : ℕ) (file : List ℕ) : Type 0 where
   views : List RecordView
   rest : List ℕ
   records : AreRecords file views rest
-  successive : AreSuccessive c n views
+  successive : IsOnGrid c n views
   stuck : (rest ≡ []) ⊎ ((why : RecordWhy) × RefusesNext c (Some (n + length views)) rest why)
 
 abbrev Reads : List ℕ → Type 0
@@ -243,17 +236,17 @@ tail decides c (suc fuel) n (x ∷ file) few bytes enough = go (tail decides c f
 abbrev Ends : Config → ℕ → List ℕ → Type 0
 Ends c plp file = (result : Result Ran RunStop) × MustRun c plp file result
 
-received_there : bb.SpelledOrRefused → bb.NoRefusal → bb.BitCounts → (c : Config) (plp first : ℕ) (views : List RecordView) → AreSuccessive c first views → (bytes : List ℕ) × (r : Received c plp views bytes) × (r.first ≡ first)
+received_there : bb.SpelledOrRefused → bb.NoRefusal → bb.BitCounts → (c : Config) (plp first : ℕ) (views : List RecordView) → IsOnGrid c first views → (bytes : List ℕ) × (r : Received c plp views bytes) × (r.first ≡ first)
 received_there decides never counts c plp first views a =
     let b = back_there decides never counts c plp first views in (concat b.0, record { first = first; successive = a; packets = b.0; back = b.1; bytes_are = refl }, refl)
 
 -- behind records there is nothing
-ends_well : bb.SpelledOrRefused → bb.NoRefusal → bb.BitCounts → (c : Config) (plp first : ℕ) (file : List ℕ) (views : List RecordView) → AreRecords file views [] → AreSuccessive c first views → Ends c plp file
+ends_well : bb.SpelledOrRefused → bb.NoRefusal → bb.BitCounts → (c : Config) (plp first : ℕ) (file : List ℕ) (views : List RecordView) → AreRecords file views [] → IsOnGrid c first views → Ends c plp file
 ends_well decides never counts c plp first file views records a =
     let r = received_there decides never counts c plp first views a in (Ok (ran_of c plp r.1.first views r.1.packets), (r.0, record { views = views; records = records; received = r.1; ran_is = refl }))
 
 -- or what is refused
-ends_refused : bb.SpelledOrRefused → bb.NoRefusal → bb.BitCounts → (c : Config) (plp first : ℕ) (file rest : List ℕ) (views : List RecordView) (why : RecordWhy) → AreRecords file views rest → AreSuccessive c first views
+ends_refused : bb.SpelledOrRefused → bb.NoRefusal → bb.BitCounts → (c : Config) (plp first : ℕ) (file rest : List ℕ) (views : List RecordView) (why : RecordWhy) → AreRecords file views rest → IsOnGrid c first views
     → RefusesNext c (expected_after first views) rest why → Ends c plp file
 ends_refused decides never counts c plp first file rest views why records a refused =
     let r = received_there decides never counts c plp first views a in (
@@ -265,7 +258,7 @@ pub run_ends : SpelledOrRefused → bb.SpelledOrRefused → bb.NoRefusal → bb.
 run_ends reads decides never counts c plp [] plan inside bytes = ends_well decides never counts c plp 0 [] [] refl (successive_none c 0 (omega arith))
 run_ends reads decides never counts c plp (x ∷ file) plan inside bytes = go (reads (x ∷ file) bytes)
   where
-    none : AreSuccessive c 0 []
+    none : IsOnGrid c 0 []
     none = successive_none c 0 (omega arith)
 
     first_whole : (first : ℕ) (view : RecordView) (len : ℕ) → BeginsWith (x ∷ file) view len → IsFrameOf c (moment_of view) first → (t : Tail c (first + 1) (drop len (x ∷ file))) → (t.rest ≡ []) ⊎ ((why : RecordWhy) × RefusesNext c (Some (first + 1 + length t.views)) t.rest why)

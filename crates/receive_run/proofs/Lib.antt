@@ -1,5 +1,3 @@
-pub mod RecordFileLemmas
-pub mod RecordFrontLemmas
 pub mod GiveLemmas
 pub mod CameLemmas
 pub mod MachineLemmas

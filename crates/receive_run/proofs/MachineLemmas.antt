@@ -11,7 +11,7 @@ use Rattle.plp_config.specs.declared.config.Config.{Config}
 use Rattle.plp_config.specs.declared.moment.TheConstants.{MOST_FRAMES}
 use Rattle.site_frame.specs.Placing.{IsPlaced}
 use Rattle.site_frame.specs.Record.{head_len}
-use Rattle.site_frame.specs.RecordFile.{AreRecords, Announces}
+use Rattle.site_frame.specs.RecordFile.{AreRecords, Announces, IsOnGrid}
 use Rattle.site_frame.specs.Whole.{BeginsWith, Refuses, Follow, RefusesHead, moment_of}
 use Rattle.site_frame.specs.declared.fault.RecordWhy.{RecordWhy}
 use Rattle.site_frame.specs.declared.fault.RecordWhy.TheVariants as why
@@ -25,7 +25,7 @@ use Rattle.file_run.specs.Events.{Event, Fed, Ended, Gave, fed, has_ended, gave}
 use Rattle.file_run.specs.Laws.{EventsTell}
 use Rattle.file_run.specs.Steps.{Suffices, FallsShort, HasRoom}
 use Rattle.file_run.specs.declared.machine.Step.TheVariants.{Read, Give, End}
-use Rattle.receive_run.specs.Received.{AreSuccessive, expected_after, RefusesNext}
+use Rattle.receive_run.specs.Received.{expected_after, RefusesNext}
 use Rattle.receive_run.specs.AsMachine.{next_of, IsReady, IsSeen, SameTaken, IsRefused, Sees, SeesHead, HasBegun, Begins, IsBegun, Behind, GaveEarly, GavePackets, Given, first_of, Shown, Becomes}
 use Rattle.receive_run.specs.NextStep.{step_of, gives, coming_by, left_by}
 use Rattle.receive_run.specs.Taking.{expected_by, Awaits, SamePlp, Comes, TakesRecord, RefusesRecord, GivesPackets}
@@ -33,8 +33,8 @@ use Rattle.receive_run.specs.declared.machine.Coming.{Coming}
 use Rattle.receive_run.specs.declared.machine.Coming.TheVariants.{Head, Rest, Packets, Refused, Finished}
 use Rattle.receive_run.specs.declared.machine.ReceiverMachine.{ReceiverMachine}
 use Rattle.receive_run.proofs.CameLemmas.{came_given, first_after, expected_is}
-use Rattle.receive_run.proofs.RecordFileLemmas.{records_on, records_more, announces_on, none_left, begins_on}
-use Rattle.receive_run.proofs.RecordFrontLemmas.{refused_whole, short_refused, cut_refused}
+use Rattle.site_frame.proofs.RecordFileLemmas.{records_on, records_more, announces_on, none_left, begins_on}
+use Rattle.site_frame.proofs.RecordFrontLemmas.{refused_whole, short_refused, cut_refused}
 
 -- ---- a step in which no record is taken
 
@@ -465,7 +465,7 @@ packets_come Finished left e = absurd (let f : End ≡ Give = e in cc)
 
 pub gave_event : EventsTell → (start m n : ReceiverMachine) (events : List Event) (count : ℕ) (bytes : List ℕ) → m.coming ≡ Packets → GivesPackets m.receiver n.receiver count bytes → n.slots ≡ min (m.slots + count) (2 ^ 64 - 1) → n.at ≡ m.at → n.first ≡ m.first → n.count ≡ m.count
     → n.coming ≡ coming_by (due_of n.receiver) → n.left ≡ left_by (due_of n.receiver)
-    → ((first : ℕ) (views : List RecordView) (packets : List (List ℕ)) → AreSuccessive (network_of m.receiver) first views → Readback (network_of m.receiver) (plp_of m.receiver) first views packets → length packets < 2 ^ 64)
+    → ((first : ℕ) (views : List RecordView) (packets : List (List ℕ)) → IsOnGrid (network_of m.receiver) first views → Readback (network_of m.receiver) (plp_of m.receiver) first views packets → length packets < 2 ^ 64)
     → Becomes start events m → Becomes start (events ++ Gave bytes ∷ []) n
 gave_event law start m n events count bytes packets gives slots at first number comes left few b =
     let c : Config = network_of start.receiver in
@@ -476,7 +476,7 @@ gave_event law start m n events count bytes packets gives slots at first number 
     let small : (packets : List (List ℕ)) → Readback c plp s.first s.views packets → length packets < 2 ^ 64 =
     subst (λ (e : Config). (packets : List (List ℕ)) → Readback e plp s.first s.views packets → length packets < 2 ^ 64) b.same.0
     (subst (λ (p : ℕ). (packets : List (List ℕ)) → Readback (network_of m.receiver) p s.first s.views packets → length packets < 2 ^ 64) b.same.1
-    (λ packets back. few s.first s.views packets (subst (λ (e : Config). AreSuccessive e s.first s.views) (sym b.same.0) s.successive) back)) in
+    (λ packets back. few s.first s.views packets (subst (λ (e : Config). IsOnGrid e s.first s.views) (sym b.same.0) s.successive) back)) in
     record {
       same = (gives.same.0 ∙ b.same.0, gives.same.1 ∙ b.same.1);
       shown = record {

@@ -7,7 +7,7 @@ use Rattle.plp_config.specs.declared.config.Config.{Config}
 use Rattle.plp_config.specs.declared.moment.Moment.{Moment}
 use Rattle.site_frame.specs.Laws.{OneRecord, NoRefusal, OneRefusal, OneFrame}
 use Rattle.site_frame.specs.Placing.{RefusesPlace}
-use Rattle.site_frame.specs.RecordFile.{AreRecords}
+use Rattle.site_frame.specs.RecordFile.{AreRecords, IsOnGrid}
 use Rattle.site_frame.specs.Whole.{Refuses, moment_of}
 use Rattle.site_frame.specs.declared.fault.RecordWhy.{RecordWhy}
 use Rattle.site_frame.specs.declared.fault.RecordWhy.TheVariants as why
@@ -16,11 +16,12 @@ use Rattle.plp_receiver.specs.Laws.{ReadbackOnce}
 use Rattle.plp_receiver.specs.Taken.{Readback}
 use Rattle.receive_run.specs.Laws.{MustRun, OneRun}
 use Rattle.receive_run.specs.ReceiveRun.{HasAll, HasBefore}
-use Rattle.receive_run.specs.Received.{AreSuccessive, Received, first_slot, ran_of, expected_after, RefusesNext}
+use Rattle.receive_run.specs.Received.{Received, first_slot, ran_of, expected_after, RefusesNext}
 use Rattle.receive_run.specs.declared.stop.Ran.{Ran}
 use Rattle.receive_run.specs.declared.stop.RunStop.{RunStop}
 use Rattle.receive_run.specs.declared.stop.RunStop.TheVariants.{RecordRefused}
-use Rattle.receive_run.proofs.SameLemmas.{GoesOn, begins_nothing, same_front, comparable, same_first, next_not_refused, nothing_not_refused}
+use Rattle.site_frame.proofs.RecordSplitLemmas.{same_front}
+use Rattle.receive_run.proofs.SameLemmas.{GoesOn, begins_nothing, comparable, same_first, next_not_refused, nothing_not_refused}
 
 -- ---- what records give back
 
@@ -42,7 +43,7 @@ same_rans once frame c plp rules views others bytes other e a =
 
 -- ---- why a record is refused
 
-same_expected : OneFrame → (c : Config) → AllRules c → (views : List RecordView) (first second : ℕ) → AreSuccessive c first views → AreSuccessive c second views → expected_after first views ≡ expected_after second views
+same_expected : OneFrame → (c : Config) → AllRules c → (views : List RecordView) (first second : ℕ) → IsOnGrid c first views → IsOnGrid c second views → expected_after first views ≡ expected_after second views
 same_expected frame c rules [] first second a b = refl
 same_expected frame c rules (w ∷ ws) first second a b = ap (λ (n : ℕ). Some (n + length (w ∷ ws))) (same_first frame c rules first second w ws ws a b)
 
@@ -94,7 +95,7 @@ all_not_refused one never frame c plp rules ran number why file bytes other a b 
     go (inl (o ∷ os, is, (len, begins, more))) = begins_nothing o len begins
     go (inr ([], is, more)) = nothing (sym more)
     go (inr (o ∷ os, is, (len, begins, more))) =
-        next_not_refused one never frame c rules b.received.first a.received.first b.views o os b.rest why len (subst (AreSuccessive c a.received.first) is a.received.successive) b.received.successive begins b.refused
+        next_not_refused one never frame c rules b.received.first a.received.first b.views o os b.rest why len (subst (IsOnGrid c a.received.first) is a.received.successive) b.received.successive begins b.refused
 
 abbrev refused_as : ℕ → RecordWhy → Result Ran RunStop
 refused_as number why = Err (RecordRefused number why)
@@ -105,7 +106,7 @@ same_refused : OneRecord → NoRefusal → OneRefusal → OneFrame → (c : Conf
 same_refused one never refusal frame c plp rules number count why other file bytes given a b views rest =
     let first : ℕ = a.received.first in
     let expected : expected_after first b.views ≡ expected_after b.received.first b.views =
-    same_expected frame c rules b.views first b.received.first (subst (AreSuccessive c first) views a.received.successive) b.received.successive in
+    same_expected frame c rules b.views first b.received.first (subst (IsOnGrid c first) views a.received.successive) b.received.successive in
     let refused : RefusesNext c (expected_after b.received.first b.views) b.rest why =
     subst (λ (o : Option ℕ). RefusesNext c o b.rest why) expected
     (subst (λ (l : List ℕ). RefusesNext c (expected_after first b.views) l why) rest (subst (λ (l : List RecordView). RefusesNext c (expected_after first l) a.rest why) views a.refused)) in
@@ -119,10 +120,10 @@ before_once one never refusal frame c plp rules number count why other file byte
     go : GoesOn a.views a.rest b.views b.rest ⊎ GoesOn b.views b.rest a.views a.rest → refused_as number why ≡ refused_as count other
     go (inl ([], is, more)) = same_refused one never refusal frame c plp rules number count why other file bytes given a b (sym (is ∙ append-nil a.views)) more
     go (inl (o ∷ os, is, (len, begins, more))) =
-        absurd (next_not_refused one never frame c rules a.received.first b.received.first a.views o os a.rest why len (subst (AreSuccessive c b.received.first) is b.received.successive) a.received.successive begins a.refused)
+        absurd (next_not_refused one never frame c rules a.received.first b.received.first a.views o os a.rest why len (subst (IsOnGrid c b.received.first) is b.received.successive) a.received.successive begins a.refused)
     go (inr ([], is, more)) = same_refused one never refusal frame c plp rules number count why other file bytes given a b (is ∙ append-nil b.views) (sym more)
     go (inr (o ∷ os, is, (len, begins, more))) =
-        absurd (next_not_refused one never frame c rules b.received.first a.received.first b.views o os b.rest other len (subst (AreSuccessive c a.received.first) is a.received.successive) b.received.successive begins b.refused)
+        absurd (next_not_refused one never frame c rules b.received.first a.received.first b.views o os b.rest other len (subst (IsOnGrid c a.received.first) is a.received.successive) b.received.successive begins b.refused)
 
 pub one_run : OneRecord → NoRefusal → OneRefusal → OneFrame → ReadbackOnce → OneRun
 one_run one never refusal frame once c plp file (Ok ran) (Ok other) plan (bytes, a) (given, b) =

@@ -14,7 +14,7 @@ use Rattle.plp_config.specs.declared.config.Config.{Config}
 use Rattle.plp_config.specs.declared.moment.TheConstants.{MOST_FRAMES}
 use Rattle.site_frame.specs.Laws.{OneRecord, NoRefusal, OneFrame}
 use Rattle.site_frame.specs.Record.{head_len}
-use Rattle.site_frame.specs.RecordFile.{AreRecords, EndsWithin, bytes_before}
+use Rattle.site_frame.specs.RecordFile.{AreRecords, EndsWithin, bytes_before, IsOnGrid}
 use Rattle.site_frame.specs.declared.fault.RecordWhy.{RecordWhy}
 use Rattle.site_frame.specs.declared.reading.RecordView.{RecordView}
 use Rattle.plp_receiver.specs.StandsFor.{network_of, plp_of, due_of}
@@ -33,14 +33,14 @@ use Rattle.file_run.proofs.StandsLemmas.{works_by}
 use Rattle.receive_run.specs.AsMachine.{next_of, Behind, IsBegun, GavePackets, Given, first_of, Shown, Becomes, ran_by, ending_of, stop_by}
 use Rattle.receive_run.specs.NextStep.{step_of, gives}
 use Rattle.receive_run.specs.ReceiveRun.{Writes, ReadsAll, HasAll, RunsAll, HasBefore, MeetsRefused, HasMet, GivesTooMuch, StopsReading, HasSome, StopsWriting, Stops}
-use Rattle.receive_run.specs.Received.{AreSuccessive, GivesBack, Received, first_slot, ran_of, expected_after, RefusesNext}
+use Rattle.receive_run.specs.Received.{GivesBack, Received, first_slot, ran_of, expected_after, RefusesNext}
 use Rattle.receive_run.specs.declared.machine.Coming.{Coming}
 use Rattle.receive_run.specs.declared.machine.Coming.TheVariants.{Head, Rest, Packets, Refused, Finished}
 use Rattle.receive_run.specs.declared.machine.ReceiverMachine.{ReceiverMachine}
 use Rattle.receive_run.specs.declared.stop.Ran.{Ran}
 use Rattle.receive_run.specs.declared.stop.RunStop.TheVariants.{TooLong, ReadFault, WriteFault}
 use Rattle.receive_run.proofs.MachineLemmas.{packets_come}
-use Rattle.receive_run.proofs.RecordFileLemmas.{records_on, rest_inside, announces_on}
+use Rattle.site_frame.proofs.RecordFileLemmas.{records_on, rest_inside, announces_on}
 use Rattle.receive_run.proofs.SameLemmas.{successive_front, same_views}
 
 -- ---- one input
@@ -299,7 +299,7 @@ has_some tell one never frame c plp rules mid now events late file bytes front m
       all = concat g.0.packets;
       received = record {
         first = k.first;
-        successive = subst (AreSuccessive c k.first) are k.successive;
+        successive = subst (IsOnGrid c k.first) are k.successive;
         packets = g.0.packets;
         back = g.1 g.0.packets g.0.back;
         bytes_are = refl;
@@ -310,7 +310,7 @@ has_some tell one never frame c plp rules mid now events late file bytes front m
       early = concat e.packets;
       received_early = record {
         first = h.first;
-        successive = successive_front c h.first e.before (e.last ∷ []) (subst (AreSuccessive c h.first) e.are h.successive);
+        successive = successive_front c h.first e.before (e.last ∷ []) (subst (IsOnGrid c h.first) e.are h.successive);
         packets = e.packets;
         back = e.back;
         bytes_are = refl;
@@ -379,6 +379,6 @@ stops_one tell one never frame start now old new (name ∷ other ∷ ins) out wh
 pub first_early : (start now : ReceiverMachine) (events : List Event) → Becomes start events now → (n : ℕ) → now.first ≡ Some n → n < MOST_FRAMES
 first_early start now events b n is = go b.shown.views b.shown.first_is b.shown.successive
   where
-    go : (views : List RecordView) → now.first ≡ first_of b.shown.first views → AreSuccessive (plan_of start) b.shown.first views → n < MOST_FRAMES
+    go : (views : List RecordView) → now.first ≡ first_of b.shown.first views → IsOnGrid (plan_of start) b.shown.first views → n < MOST_FRAMES
     go [] e a = none_some n (sym e ∙ is)
     go (v ∷ vs) e a = let f = some_injective b.shown.first n (sym e ∙ is) in let s = a.small in omega (arith, f, s)

@@ -11,16 +11,17 @@ use Rattle.plp_config.specs.declared.moment.TheConstants.{MOST_FRAMES}
 use Rattle.site_frame.specs.Laws.{OneRecord, NoRefusal, OneFrame}
 use Rattle.site_frame.specs.Placing.{IsFrameOf, RefusesPlace}
 use Rattle.site_frame.specs.Record.{head_len}
-use Rattle.site_frame.specs.RecordFile.{AreRecords}
+use Rattle.site_frame.specs.RecordFile.{AreRecords, IsOnGrid}
 use Rattle.site_frame.specs.Whole.{BeginsWith, Spells, Refuses, moment_of}
 use Rattle.site_frame.specs.declared.fault.RecordWhy.{RecordWhy}
 use Rattle.site_frame.specs.declared.fault.RecordWhy.TheVariants as why
 use Rattle.site_frame.specs.declared.reading.RecordView.{RecordView}
 use Rattle.receive_run.specs.AsMachine.{Behind}
-use Rattle.receive_run.specs.Received.{AreSuccessive, expected_after, RefusesNext}
+use Rattle.receive_run.specs.Received.{expected_after, RefusesNext}
 use Rattle.receive_run.specs.declared.machine.Coming.{Coming}
 use Rattle.receive_run.specs.declared.machine.Coming.TheVariants.{Head, Rest, Packets, Refused, Finished}
-use Rattle.receive_run.proofs.RecordFileLemmas.{whole_len}
+use Rattle.site_frame.proofs.RecordFileLemmas.{whole_len}
+use Rattle.site_frame.proofs.RecordSplitLemmas.{same_front}
 
 -- ---- records
 
@@ -32,11 +33,6 @@ begins_nothing view len b =
     let s : Spells view [] = subst (λ (n : ℕ). Spells view (take n [])) none b.spells in
     let e = ap length s.spelled in
     absurd (omega (arith, e))
-
-pub same_front : OneRecord → (bytes : List ℕ) (v w : RecordView) (n m : ℕ) → BeginsWith bytes v n → BeginsWith bytes w m → (v ≡ w) × (n ≡ m)
-same_front one bytes v w n m b d =
-    let same = one v w (take n bytes) (take m bytes) (drop n bytes) (drop m bytes) b.spells d.spells (take-append-drop n bytes ∙ sym (take-append-drop m bytes)) in
-    (same.0, sym (length-take-le n bytes b.inside) ∙ ap length same.1 ∙ length-take-le m bytes d.inside)
 
 -- what comes of a file behind some records, of more
 abbrev pub GoesOn : List RecordView → List ℕ → List RecordView → List ℕ → Type 0
@@ -54,7 +50,7 @@ comparable one file rest more (v ∷ vs) (w ∷ ws) (n, b, left) (m, d, right) =
 
 -- ---- successive frames
 
-pub successive_parts : (c : Config) (first : ℕ) (v : RecordView) (vs : List RecordView) → AreSuccessive c first (v ∷ vs) → IsFrameOf c (moment_of v) first × AreSuccessive c (first + 1) vs
+pub successive_parts : (c : Config) (first : ℕ) (v : RecordView) (vs : List RecordView) → IsOnGrid c first (v ∷ vs) → IsFrameOf c (moment_of v) first × IsOnGrid c (first + 1) vs
 successive_parts c first v vs a =
     let m : moment_of v ∷ map moment_of vs ≡ emission c first ∷ map (emission c) (range_with_len (first + 1) (length vs)) = a.moments in
     let here : moment_of v ≡ emission c first = cc in
@@ -62,31 +58,31 @@ successive_parts c first v vs a =
     let s = a.small in
     (record { small = omega (arith, s); emission-is = here }, record { moments = others; small = omega (arith, s) })
 
-pub successive_join : (c : Config) (first : ℕ) (v : RecordView) (vs : List RecordView) → IsFrameOf c (moment_of v) first → AreSuccessive c (first + 1) vs → AreSuccessive c first (v ∷ vs)
+pub successive_join : (c : Config) (first : ℕ) (v : RecordView) (vs : List RecordView) → IsFrameOf c (moment_of v) first → IsOnGrid c (first + 1) vs → IsOnGrid c first (v ∷ vs)
 successive_join c first v vs f a = record {
   moments = ap₂ (λ (m : Moment) (l : List Moment). m ∷ l) f.emission-is a.moments;
   small = (let s = a.small in omega (arith, s));
 }
 
-pub successive_none : (c : Config) (first : ℕ) → first ≤ MOST_FRAMES → AreSuccessive c first []
+pub successive_none : (c : Config) (first : ℕ) → first ≤ MOST_FRAMES → IsOnGrid c first []
 successive_none c first l = record { moments = refl; small = omega (arith, l) }
 
-pub successive_front : (c : Config) (first : ℕ) (vs ws : List RecordView) → AreSuccessive c first (vs ++ ws) → AreSuccessive c first vs
+pub successive_front : (c : Config) (first : ℕ) (vs ws : List RecordView) → IsOnGrid c first (vs ++ ws) → IsOnGrid c first vs
 successive_front c first [] ws a = successive_none c first (let s = a.small in omega (arith, s))
 successive_front c first (v ∷ vs) ws a = let p = successive_parts c first v (vs ++ ws) a in successive_join c first v vs p.0 (successive_front c (first + 1) vs ws p.1)
 
-pub frame_at : (c : Config) (first : ℕ) (vs : List RecordView) (o : RecordView) (os : List RecordView) → AreSuccessive c first (vs ++ o ∷ os) → IsFrameOf c (moment_of o) (first + length vs)
+pub frame_at : (c : Config) (first : ℕ) (vs : List RecordView) (o : RecordView) (os : List RecordView) → IsOnGrid c first (vs ++ o ∷ os) → IsFrameOf c (moment_of o) (first + length vs)
 frame_at c first [] o os a = subst (IsFrameOf c (moment_of o)) (let e : first ≡ first + 0 = omega arith in e) (successive_parts c first o os a).0
 frame_at c first (v ∷ vs) o os a =
     subst (IsFrameOf c (moment_of o)) (let e : first + 1 + length vs ≡ first + suc (length vs) = omega arith in e) (frame_at c (first + 1) vs o os (successive_parts c first v (vs ++ o ∷ os) a).1)
 
-pub same_first : OneFrame → (c : Config) → AllRules c → (first second : ℕ) (w : RecordView) (vs ws : List RecordView) → AreSuccessive c first (w ∷ vs) → AreSuccessive c second (w ∷ ws) → first ≡ second
+pub same_first : OneFrame → (c : Config) → AllRules c → (first second : ℕ) (w : RecordView) (vs ws : List RecordView) → IsOnGrid c first (w ∷ vs) → IsOnGrid c second (w ∷ ws) → first ≡ second
 same_first frame c rules first second w vs ws a b = frame c (moment_of w) first second rules (successive_parts c first w vs a).0 (successive_parts c second w ws b).0
 
 -- ---- the record of the next frame is not refused
 
 -- it is expected
-is_expected : OneFrame → (c : Config) → AllRules c → (first second : ℕ) (vs : List RecordView) (o : RecordView) (os : List RecordView) (why : RecordWhy) → AreSuccessive c second (vs ++ o ∷ os) → AreSuccessive c first vs → RefusesPlace c (expected_after first vs) (moment_of o) why → ⊥
+is_expected : OneFrame → (c : Config) → AllRules c → (first second : ℕ) (vs : List RecordView) (o : RecordView) (os : List RecordView) (why : RecordWhy) → IsOnGrid c second (vs ++ o ∷ os) → IsOnGrid c first vs → RefusesPlace c (expected_after first vs) (moment_of o) why → ⊥
 is_expected frame c rules first second vs o os why.Head b a p = absurd p
 is_expected frame c rules first second vs o os why.Kind b a p = absurd p
 is_expected frame c rules first second vs o os why.Length b a p = absurd p
@@ -99,7 +95,7 @@ is_expected frame c rules first second (w ∷ ws) o os why.Order b a p =
     p.order (omega (arith, same, number))
 
 pub next_not_refused : OneRecord → NoRefusal → OneFrame → (c : Config) → AllRules c → (first second : ℕ) (vs : List RecordView) (o : RecordView) (os : List RecordView) (bytes : List ℕ) (why : RecordWhy) (len : ℕ)
-    → AreSuccessive c second (vs ++ o ∷ os) → AreSuccessive c first vs → BeginsWith bytes o len → RefusesNext c (expected_after first vs) bytes why → ⊥
+    → IsOnGrid c second (vs ++ o ∷ os) → IsOnGrid c first vs → BeginsWith bytes o len → RefusesNext c (expected_after first vs) bytes why → ⊥
 next_not_refused one never frame c rules first second vs o os bytes why len b a begins (inl none) =
     never o (take len bytes) (drop len bytes) why begins.spells (subst (λ (l : List ℕ). Refuses l why) (sym (take-append-drop len bytes)) none.1)
 next_not_refused one never frame c rules first second vs o os bytes why len b a begins (inr p) =
@@ -115,7 +111,7 @@ nothing_not_refused c expected why (inr p) = begins_nothing p.0 p.1 p.2
 
 -- what a machine has before it does not begin with the record of the next frame
 nothing_comes : OneRecord → NoRefusal → OneFrame → (c : Config) → AllRules c → (first second : ℕ) (ws : List RecordView) (o : RecordView) (os : List RecordView) (coming : Coming) (bytes rest : List ℕ) (left : ℕ) (ended : Bool) (len : ℕ)
-    → AreSuccessive c second (ws ++ o ∷ os) → AreSuccessive c first ws → BeginsWith rest o len → (coming ≡ Rest → 0 < left) → Behind c (expected_after first ws) coming bytes left rest ended → ⊥
+    → IsOnGrid c second (ws ++ o ∷ os) → IsOnGrid c first ws → BeginsWith rest o len → (coming ≡ Rest → 0 < left) → Behind c (expected_after first ws) coming bytes left rest ended → ⊥
 nothing_comes one never frame c rules first second ws o os Head bytes rest left ended len b a begins some h = begins_nothing o len (subst (λ (l : List ℕ). BeginsWith l o len) h.0 begins)
 nothing_comes one never frame c rules first second ws o os Rest bytes rest left ended len b a begins some h =
     let begun = h.1 in
@@ -129,8 +125,8 @@ nothing_comes one never frame c rules first second ws o os (Refused why) bytes r
     next_not_refused one never frame c rules first second ws o os rest why len b a begins (subst (λ (l : List ℕ). RefusesNext c (expected_after first ws) l why) (append-nil rest) (h [] (λ e. refl)))
 nothing_comes one never frame c rules first second ws o os Finished bytes rest left ended len b a begins some h = begins_nothing o len (subst (λ (l : List ℕ). BeginsWith l o len) h.0 begins)
 
-pub same_views : OneRecord → NoRefusal → OneFrame → (c : Config) → AllRules c → (file : List ℕ) (first second : ℕ) (vs ws : List RecordView) (coming : Coming) (bytes rest : List ℕ) (left : ℕ) (ended : Bool) → AreRecords file vs [] → AreSuccessive c second vs
-    → AreRecords file ws rest → AreSuccessive c first ws → (coming ≡ Rest → 0 < left) → Behind c (expected_after first ws) coming bytes left rest ended → ws ≡ vs
+pub same_views : OneRecord → NoRefusal → OneFrame → (c : Config) → AllRules c → (file : List ℕ) (first second : ℕ) (vs ws : List RecordView) (coming : Coming) (bytes rest : List ℕ) (left : ℕ) (ended : Bool) → AreRecords file vs [] → IsOnGrid c second vs
+    → AreRecords file ws rest → IsOnGrid c first ws → (coming ≡ Rest → 0 < left) → Behind c (expected_after first ws) coming bytes left rest ended → ws ≡ vs
 same_views one never frame c rules file first second vs ws coming bytes rest left ended h b k a some behind = go (comparable one file [] rest vs ws h k)
   where
     go : GoesOn vs [] ws rest ⊎ GoesOn ws rest vs [] → ws ≡ vs
@@ -138,4 +134,4 @@ same_views one never frame c rules file first second vs ws coming bytes rest lef
     go (inl (o ∷ os, is, (len, begins, more))) = absurd (begins_nothing o len begins)
     go (inr ([], is, more)) = sym (is ∙ append-nil ws)
     go (inr (o ∷ os, is, (len, begins, more))) =
-        absurd (nothing_comes one never frame c rules first second ws o os coming bytes rest left ended len (subst (AreSuccessive c second) is b) a begins some behind)
+        absurd (nothing_comes one never frame c rules first second ws o os coming bytes rest left ended len (subst (IsOnGrid c second) is b) a begins some behind)

@@ -5,7 +5,7 @@ use Rattle.plp_config.specs.SlotTime.{slots_by}
 use Rattle.plp_config.specs.declared.config.Config.{Config}
 use Rattle.plp_config.specs.declared.moment.TheConstants.{MOST_FRAMES}
 use Rattle.site_frame.specs.Record.{head_len}
-use Rattle.site_frame.specs.RecordFile.{AreRecords, Announces}
+use Rattle.site_frame.specs.RecordFile.{AreRecords, Announces, IsOnGrid}
 use Rattle.site_frame.specs.declared.fault.RecordWhy.{RecordWhy}
 use Rattle.site_frame.specs.declared.reading.RecordView.{RecordView}
 use Rattle.plp_receiver.specs.StandsFor.{StandsFor, IsFresh, network_of, plp_of, frame_of, due_of}
@@ -17,7 +17,7 @@ use Rattle.file_run.specs.declared.machine.Step.{Step}
 use Rattle.file_run.specs.declared.stop.RunFault.{RunFault}
 use Rattle.file_run.specs.declared.stop.RunFault.TheVariants as fault
 use Rattle.receive_run.specs.NextStep.{step_of, gives, coming_by, left_by}
-use Rattle.receive_run.specs.Received.{AreSuccessive, GivesBack, expected_after, RefusesNext}
+use Rattle.receive_run.specs.Received.{GivesBack, expected_after, RefusesNext}
 use Rattle.receive_run.specs.Taking.{expected_by, Awaits, SamePlp, TakesRecord, RefusesRecord, TellsDue}
 use Rattle.receive_run.specs.declared.machine.Coming.{Coming}
 use Rattle.receive_run.specs.declared.machine.Coming.TheVariants.{Head, Rest, Packets, Refused, Finished}
@@ -136,7 +136,7 @@ pub record Shown (c : Config) (plp : ℕ) (m : ReceiverMachine) (events : List E
   pub views : List RecordView
   pub rest : List ℕ
   pub records : AreRecords (fed 0 events) views rest
-  pub successive : AreSuccessive c first views
+  pub successive : IsOnGrid c first views
   pub place : m.at ≡ length (fed 0 events)
   pub first_is : m.first ≡ first_of first views
   pub number : m.count ≡ length views

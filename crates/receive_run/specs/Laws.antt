@@ -2,7 +2,7 @@
 use Rattle.std.specs.Prelude.{◌≡◌, ℕ, ◌<◌, List, [], length, slice_index, Result, Ok, Err}
 use Rattle.plp_config.specs.Capacity.{IsPlan}
 use Rattle.plp_config.specs.declared.config.Config.{Config}
-use Rattle.site_frame.specs.RecordFile.{AreRecords}
+use Rattle.site_frame.specs.RecordFile.{AreRecords, AreBytes}
 use Rattle.receive_run.specs.ReceiveRun.{HasAll, HasBefore}
 use Rattle.receive_run.specs.declared.stop.Ran.{Ran}
 use Rattle.receive_run.specs.declared.stop.RunStop.{RunStop}
@@ -17,10 +17,6 @@ MustRun c plp file (Err stop) = ⊥
 -- A file decides how a run of a PLP of a plan over it must end.
 abbrev pub OneRun : Type 0
 OneRun = (c : Config) (plp : ℕ) (file : List ℕ) (result other : Result Ran RunStop) → IsPlan c → MustRun c plp file result → MustRun c plp file other → result ≡ other
-
--- Each number of the file is that of a byte.
-abbrev pub AreBytes : List ℕ → Type 0
-AreBytes file = (k : ℕ) → slice_index file k < 256
 
 -- A run over a file has an ending.
 abbrev pub RunEnds : Type 0

@@ -6,17 +6,12 @@ use Rattle.plp_config.specs.SlotTime.{slots_by}
 use Rattle.plp_config.specs.declared.config.Config.{Config}
 use Rattle.plp_config.specs.declared.moment.TheConstants.{MOST_FRAMES}
 use Rattle.site_frame.specs.Placing.{RefusesPlace}
-use Rattle.site_frame.specs.RecordFile.{IsNoRecord}
+use Rattle.site_frame.specs.RecordFile.{IsNoRecord, IsOnGrid}
 use Rattle.site_frame.specs.Whole.{BeginsWith, moment_of}
 use Rattle.site_frame.specs.declared.fault.RecordWhy.{RecordWhy}
 use Rattle.site_frame.specs.declared.reading.RecordView.{RecordView}
 use Rattle.plp_receiver.specs.Taken.{Readback}
 use Rattle.receive_run.specs.declared.stop.Ran.{Ran}
-
--- Records are of successive frames: the first one is of this frame, and each later one of the next.
-pub record AreSuccessive (c : Config) (first : ℕ) (views : List RecordView) : Type 0 where
-  pub moments : map moment_of views ≡ map (emission c) (range_with_len first (length views))
-  pub small : first + length views ≤ MOST_FRAMES
 
 -- What a PLP is given back of the records of the frames from one on: nothing if there are none.
 abbrev pub GivesBack : Config → ℕ → ℕ → List RecordView → List (List ℕ) → Type 0
@@ -27,7 +22,7 @@ GivesBack c plp first (view ∷ views) packets = Readback c plp first (view ∷ 
 -- one behind another.
 pub record Received (c : Config) (plp : ℕ) (views : List RecordView) (bytes : List ℕ) : Type 0 where
   pub first : ℕ
-  pub successive : AreSuccessive c first views
+  pub successive : IsOnGrid c first views
   pub packets : List (List ℕ)
   pub back : GivesBack c plp first views packets
   pub bytes_are : bytes ≡ concat packets

@@ -52,13 +52,13 @@ pub record Stops (file : List ℕ) : Type 0 where
   pub records : AreRecords file views rest
   pub stuck : (rest ≡ []) ⊎ ((why : RecordWhy) × IsNoRecord rest why)
 
-bytes_behind : (len : ℕ) (file : List ℕ) → AreBytes file → AreBytes (drop len file)
+pub bytes_behind : (len : ℕ) (file : List ℕ) → AreBytes file → AreBytes (drop len file)
 bytes_behind len file h k = rw get_or-drop (h (len + k))
 
 -- a record has bytes
-some_bytes : NoRefusal → (bytes : List ℕ) (view : RecordView) (len : ℕ) → BeginsWith bytes view len → 0 < len
-some_bytes never bytes view zero b = absurd (never view [] [] Head b.spells (short_refused [] (omega arith)))
-some_bytes never bytes view (suc len) b = omega arith
+pub some_bytes : (bytes : List ℕ) (view : RecordView) (len : ℕ) → BeginsWith bytes view len → 0 < len
+some_bytes bytes view zero b = let e = ap length b.spells.spelled in absurd (omega (arith, e))
+some_bytes bytes view (suc len) b = omega arith
 
 pub stops : NoRefusal → SpelledOrRefused → (fuel : ℕ) (file : List ℕ) → AreBytes file → length file ≤ fuel → Stops file
 stops never decides fuel [] bytes enough = record { views = []; rest = []; records = refl; stuck = inl refl }
@@ -66,7 +66,7 @@ stops never decides zero (x ∷ file) bytes enough = absurd (omega (arith, enoug
 stops never decides (suc fuel) (x ∷ file) bytes enough =
     ⊎_elim
     (λ (b : (view : RecordView) × ((len : ℕ) × BeginsWith (x ∷ file) view len)).
-    let some = some_bytes never (x ∷ file) b.0 b.1.0 b.1.1 in
+    let some = some_bytes (x ∷ file) b.0 b.1.0 b.1.1 in
     let inside = b.1.1.inside in
     let s = stops never decides fuel (drop b.1.0 (x ∷ file)) (bytes_behind b.1.0 (x ∷ file) bytes) (omega (arith, enough, some, inside, length-drop b.1.0 (x ∷ file))) in
     record { views = b.0 ∷ s.views; rest = s.rest; records = (b.1.0, b.1.1, s.records); stuck = s.stuck })
