@@ -17,7 +17,8 @@ use Rattle.site_frame.specs.RecordFile.{IsOnGrid}
 use Rattle.frame_records.specs.Records.{numbers_from, record_numbers, record_of, records}
 use Rattle.frame_records.specs.Laws.{StandsOnGrid, RecordsOnGrid, AllWhole}
 
-moment_either : (b : Bool) (frame : RecordView) (c : Config) (n : ℕ) → moment_of frame ≡ emission c n → moment_of (cond b frame (Muted (emission c n))) ≡ emission c n
+-- a record has the moment of its frame, whole or muted
+pub moment_either : (b : Bool) (frame : RecordView) (c : Config) (n : ℕ) → moment_of frame ≡ emission c n → moment_of (cond b frame (Muted (emission c n))) ≡ emission c n
 moment_either true frame c n e = e
 moment_either false frame c n e = refl
 

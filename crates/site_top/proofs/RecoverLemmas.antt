@@ -26,6 +26,7 @@ use Rattle.frame_records.specs.Frames.{frame_of, run_frames}
 use Rattle.frame_records.specs.Laws.{RangeFits}
 use Rattle.frame_records.specs.Records.{record_of, file_bytes}
 use Rattle.frame_records.specs.Recover.{recover}
+use Rattle.frame_records.proofs.RecordLemmas.{moment_either}
 use Rattle.sent_frames.specs.SentFrames.{run_length}
 use Rattle.sent_frames.specs.Types.{TypesFit}
 use Rattle.plp_receiver.specs.Taken.{Readback}
@@ -56,11 +57,6 @@ written_back read spells (w ∷ ws) all = (
   read w (record_bytes w) (file_bytes ws) (spells w all.0),
   subst (λ (bytes : List ℕ). AreRecords bytes ws []) (sym (drop-append_seam (record_bytes w) (file_bytes ws))) (written_back read spells ws all.1),
 )
-
--- each has the moment of its frame
-moment_either : (b : Bool) (frame : RecordView) (c : Config) (n : ℕ) → moment_of frame ≡ emission c n → moment_of (cond b frame (Muted (emission c n))) ≡ emission c n
-moment_either true frame c n e = e
-moment_either false frame c n e = refl
 
 first_of : List Moment → Moment → Moment
 first_of [] other = other
