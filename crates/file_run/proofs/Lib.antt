@@ -9,3 +9,4 @@ pub mod RunningLemmas
 pub mod StandsLemmas
 pub mod TellLemmas
 pub mod ToldLemmas
+pub mod OneInputLemmas

@@ -1,5 +1,5 @@
 -- What a run between files does, from the opening of its inputs on.
-use Rattle.std.specs.Prelude.{◌≡◌, ◌≢◌, ◌⊎◌, ℕ, ◌+◌, ◌-◌, ◌<◌, ◌≤◌, Bool, true, List, [], ◌++◌, length, slice_index, slice_index_or, Option, None, Some, IsSome, IfSome}
+use Rattle.std.specs.Prelude.{◌≡◌, ◌≢◌, ◌⊎◌, ℕ, ◌+◌, ◌-◌, ◌<◌, ◌≤◌, Bool, true, List, [], ◌∷◌, ◌++◌, length, slice_index, slice_index_or, Option, None, Some, IsSome, IfSome}
 use Rattle.std.specs.FinMap.{get}
 use Rattle.ports.specs.Desk.{State, Held, SameCounts, bytes_of}
 use Rattle.desk_io.specs.Faults.{ReadsFail, WritesFail}
@@ -144,3 +144,11 @@ Stops old new out ins reach next Came now (TooLong input) = GivesTooMuch old new
 Stops old new out ins reach next Came now (ReadFault input) = ReadsFail old new
     × (OpensInputs old new ins input ⊎ FailsToRead old new out ins (reach now) (next now) (λ events. Came events now) input)
 Stops old new out ins reach next Came now WriteFault = WritesFail old new × (FailsToCreateOutput old new out ins ⊎ StopsWriting old new out ins reach next Came now)
+
+-- One input was opened and read up to a place, and then the output was created: by the bytes of the input, the output has these bytes.
+abbrev pub Writes : State → State → List ℕ → List ℕ → ℕ → (List ℕ → List ℕ → Type 0) → Type 0
+Writes old new name out place Has = Works old new out (name ∷ []) (place ∷ []) (λ h bytes. Has (bytes_of h.files name) bytes)
+
+-- It was read to its end.
+abbrev pub ReadsAll : State → List ℕ → ℕ → Type 0
+ReadsAll old name place = (place < most_bytes) × IfSome old.held (λ h. (IsSome (get h.files name)) × (place ≡ length (bytes_of h.files name)))

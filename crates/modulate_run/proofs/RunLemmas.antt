@@ -20,7 +20,7 @@ use Rattle.modulator.specs.StandsFor.{records_due, bytes_due, config_of, fed_of,
 use Rattle.desk_io.specs.Reading.{most_bytes}
 use Rattle.file_run.specs.Events.{Event, fed, has_ended, gave}
 use Rattle.file_run.specs.FileRun as driver
-use Rattle.file_run.specs.FileRun.{file_at, AreFed, IsFed, Works, OpensInputs}
+use Rattle.file_run.specs.FileRun.{file_at, AreFed, IsFed, Works, OpensInputs, Writes, ReadsAll}
 use Rattle.file_run.specs.Laws.{EventsTell}
 use Rattle.file_run.specs.Steps.{Wants, FallsShort}
 use Rattle.file_run.specs.declared.machine.Step.TheVariants.{Read, Give, End}
@@ -29,22 +29,13 @@ use Rattle.file_run.specs.declared.stop.RunFault.TheVariants as fault
 use Rattle.file_run.proofs.StandsLemmas.{works_by}
 use Rattle.modulate_run.specs.AsMachine.{step_of, Behind, IsNext, IsAll, becomes, ending_of, stop_by}
 use Rattle.modulate_run.specs.Counted.{counted}
-use Rattle.modulate_run.specs.ModulateRun.{read_ahead, records_of, output_of, AreEarly, Writes, ReadsAll, RunsAll, FindsNone, HasWritten, GivesTooMuch, HasEarly, MeetsLate, StopsReading, HasSome, StopsWriting, Stops}
+use Rattle.modulate_run.specs.ModulateRun.{read_ahead, records_of, output_of, AreEarly, RunsAll, FindsNone, HasWritten, GivesTooMuch, HasEarly, MeetsLate, StopsReading, HasSome, StopsWriting, Stops}
 use Rattle.modulate_run.specs.declared.machine.ModulatorMachine.{ModulatorMachine}
 use Rattle.modulate_run.specs.declared.stop.Ran.{Ran}
 use Rattle.modulate_run.specs.declared.stop.RunStop.TheVariants.{TooLong, ReadFault, WriteFault}
 use Rattle.modulate_run.proofs.CountLemmas.{early_one}
 use Rattle.modulate_run.proofs.MachineLemmas.{falls_short}
-
--- ---- one input
-
--- what a run did that stands at a place, where it follows of what was fed from the file what the output has
-writes_by : {old new : State} {out name : List ℕ} {reach : ℕ → ℕ} {Came : List Event → Type 0} {Holds : List Event → List ℕ → Type 0} (Has : List ℕ → List ℕ → Type 0) (s : driver.Stands old new out (name ∷ []) reach Came Holds)
-    → ((file bytes : List ℕ) → IsFed file (slice_index s.places 0) (fed 0 s.events) (has_ended 0 s.events) → Holds s.events bytes → Has file bytes)
-    → Writes old new name out (slice_index s.places 0) Has
-writes_by {old = old} {new = new} {out = out} {name = name} Has s f =
-    subst (λ (places : List ℕ). Works old new out (name ∷ []) places (λ h bytes. Has (bytes_of h.files name) bytes)) (one_listed s.places s.works.all)
-    (works_by (λ files bytes. Has (files 0) bytes) s (λ files are bytes holds. f (files 0) bytes (are 0 (omega arith)) holds))
+use Rattle.file_run.proofs.OneInputLemmas.{writes_by, whole_file}
 
 -- ---- what is due
 
@@ -96,16 +87,6 @@ gives_early c ended bytes taken (Some w) ran n few =
     (λ late. let l = ltb-false w.frame MOST_FRAMES late in let f = few w refl in gives_late c ended bytes taken w ran n (omega (arith, l, f)))
 
 -- ---- how a machine ended that came to its end
-
--- the file was fed whole
-whole_file : (file : List ℕ) (place : ℕ) (bytes : List ℕ) (ended : Bool) → IsFed file place bytes ended → ended ≡ true → (bytes ≡ file) × (place ≡ length file)
-whole_file file place bytes ended f e =
-    let none = f.end e in
-    let is : file ≡ bytes = f.parts ∙ ap (λ (l : List ℕ). bytes ++ l) none ∙ append-nil bytes in
-    let size = ap length is in
-    let a = f.ahead in
-    let w = f.within in
-    (sym is, omega (arith, size, a, w))
 
 -- By the machine's own configuration.
 abbrev Runs : ModulatorMachine → ModulatorMachine → State → State → List ℕ → List ℕ → Type 0

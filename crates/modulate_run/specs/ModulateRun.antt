@@ -11,7 +11,7 @@ use Rattle.open_group.specs.Written.{spelled}
 use Rattle.modulator.specs.StandsFor.{records_due, bytes_due}
 use Rattle.desk_io.specs.Faults.{ReadsFail, WritesFail}
 use Rattle.desk_io.specs.Reading.{most_bytes}
-use Rattle.file_run.specs.FileRun.{OpensInputs, FailsToCreateOutput, Works}
+use Rattle.file_run.specs.FileRun.{OpensInputs, FailsToCreateOutput, Writes, ReadsAll}
 use Rattle.modulate_run.specs.Counted.{counted}
 use Rattle.modulate_run.specs.declared.stop.Ran.{Ran}
 use Rattle.modulate_run.specs.declared.stop.RunStop.{RunStop}
@@ -31,14 +31,6 @@ output_of c bytes = bytes_due c true bytes
 -- Each record is of a frame whose number one may have.
 abbrev pub AreEarly : List FrameRecord → Type 0
 AreEarly records = list_all (λ x. nat_lt x.number MOST_FRAMES) records ≡ true
-
--- IN was opened and read up to a place, and then OUT created: by the bytes of IN, OUT has these bytes.
-abbrev pub Writes : State → State → List ℕ → List ℕ → ℕ → (List ℕ → List ℕ → Type 0) → Type 0
-Writes old new name out place Has = Works old new out (name ∷ []) (place ∷ []) (λ h bytes. Has (bytes_of h.files name) bytes)
-
--- IN was read to its end.
-abbrev pub ReadsAll : State → List ℕ → ℕ → Type 0
-ReadsAll old name place = (place < most_bytes) × IfSome old.held (λ h. (IsSome (get h.files name)) × (place ≡ length (bytes_of h.files name)))
 
 -- A run to its end: there are records, OUT has their bytes, and these are their numbers.
 pub record RunsAll (c : Config) (old new : State) (name out : List ℕ) (ran : Ran) : Type 0 where

@@ -23,7 +23,7 @@ use Rattle.plp_receiver.specs.declared.receiver.Receiver.{Receiver}
 use Rattle.desk_io.specs.Reading.{most_bytes}
 use Rattle.file_run.specs.Events.{Event, fed, has_ended, gave}
 use Rattle.file_run.specs.FileRun as driver
-use Rattle.file_run.specs.FileRun.{IsFed, Works, OpensInputs}
+use Rattle.file_run.specs.FileRun.{IsFed, Works, OpensInputs, Writes, ReadsAll}
 use Rattle.file_run.specs.Laws.{EventsTell, GaveMore}
 use Rattle.file_run.specs.Steps.{Wants, FallsShort}
 use Rattle.file_run.specs.declared.machine.Step.TheVariants.{Read, Give, End}
@@ -32,7 +32,7 @@ use Rattle.file_run.specs.declared.stop.RunFault.TheVariants as fault
 use Rattle.file_run.proofs.StandsLemmas.{works_by}
 use Rattle.receive_run.specs.AsMachine.{next_of, Behind, IsBegun, GavePackets, Given, first_of, Shown, Becomes, ran_by, ending_of, stop_by}
 use Rattle.receive_run.specs.NextStep.{step_of, gives}
-use Rattle.receive_run.specs.ReceiveRun.{Writes, ReadsAll, HasAll, RunsAll, HasBefore, MeetsRefused, HasMet, GivesTooMuch, StopsReading, HasSome, StopsWriting, Stops}
+use Rattle.receive_run.specs.ReceiveRun.{HasAll, RunsAll, HasBefore, MeetsRefused, HasMet, GivesTooMuch, StopsReading, HasSome, StopsWriting, Stops}
 use Rattle.receive_run.specs.Received.{GivesBack, Received, first_slot, ran_of, expected_after, RefusesNext}
 use Rattle.receive_run.specs.declared.machine.Coming.{Coming}
 use Rattle.receive_run.specs.declared.machine.Coming.TheVariants.{Head, Rest, Packets, Refused, Finished}
@@ -42,26 +42,7 @@ use Rattle.receive_run.specs.declared.stop.RunStop.TheVariants.{TooLong, ReadFau
 use Rattle.receive_run.proofs.MachineLemmas.{packets_come}
 use Rattle.site_frame.proofs.RecordFileLemmas.{records_on, rest_inside, announces_on}
 use Rattle.receive_run.proofs.SameLemmas.{successive_front, same_views}
-
--- ---- one input
-
--- what a run did that stands at a place, where it follows of what was fed from the file what the output has
-writes_by : {old new : State} {out name : List ℕ} {reach : ℕ → ℕ} {Came : List Event → Type 0} {Holds : List Event → List ℕ → Type 0} (Has : List ℕ → List ℕ → Type 0) (s : driver.Stands old new out (name ∷ []) reach Came Holds)
-    → ((file bytes : List ℕ) → IsFed file (slice_index s.places 0) (fed 0 s.events) (has_ended 0 s.events) → Holds s.events bytes → Has file bytes)
-    → Writes old new name out (slice_index s.places 0) Has
-writes_by {old = old} {new = new} {out = out} {name = name} Has s f =
-    subst (λ (places : List ℕ). Works old new out (name ∷ []) places (λ h bytes. Has (bytes_of h.files name) bytes)) (one_listed s.places s.works.all)
-    (works_by (λ files bytes. Has (files 0) bytes) s (λ files are bytes holds. f (files 0) bytes (are 0 (omega arith)) holds))
-
--- the file was fed whole
-whole_file : (file : List ℕ) (place : ℕ) (bytes : List ℕ) (ended : Bool) → IsFed file place bytes ended → ended ≡ true → (bytes ≡ file) × (place ≡ length file)
-whole_file file place bytes ended f e =
-    let none = f.end e in
-    let is : file ≡ bytes = f.parts ∙ ap (λ (l : List ℕ). bytes ++ l) none ∙ append-nil bytes in
-    let size = ap length is in
-    let a = f.ahead in
-    let w = f.within in
-    (sym is, omega (arith, size, a, w))
+use Rattle.file_run.proofs.OneInputLemmas.{writes_by, whole_file}
 
 -- bytes that were fed are a front of the file
 records_file : (file front more rest : List ℕ) (views : List RecordView) → file ≡ front ++ more → AreRecords front views rest → AreRecords file views (rest ++ more)

@@ -8,19 +8,11 @@ use Rattle.site_frame.specs.declared.fault.RecordWhy.{RecordWhy}
 use Rattle.site_frame.specs.declared.reading.RecordView.{RecordView}
 use Rattle.desk_io.specs.Faults.{ReadsFail, WritesFail}
 use Rattle.desk_io.specs.Reading.{most_bytes}
-use Rattle.file_run.specs.FileRun.{OpensInputs, FailsToCreateOutput, Works}
+use Rattle.file_run.specs.FileRun.{OpensInputs, FailsToCreateOutput, Writes, ReadsAll}
 use Rattle.receive_run.specs.Received.{Received, ran_of, expected_after, RefusesNext}
 use Rattle.receive_run.specs.declared.stop.Ran.{Ran}
 use Rattle.receive_run.specs.declared.stop.RunStop.{RunStop}
 use Rattle.receive_run.specs.declared.stop.RunStop.TheVariants.{RecordRefused, TooLong, ReadFault, WriteFault, OutOfMemory}
-
--- IN was opened and read up to a place, and then OUT created: by the bytes of IN, OUT has these bytes.
-abbrev pub Writes : State → State → List ℕ → List ℕ → ℕ → (List ℕ → List ℕ → Type 0) → Type 0
-Writes old new name out place Has = Works old new out (name ∷ []) (place ∷ []) (λ h bytes. Has (bytes_of h.files name) bytes)
-
--- IN was read to its end.
-abbrev pub ReadsAll : State → List ℕ → ℕ → Type 0
-ReadsAll old name place = (place < most_bytes) × IfSome old.held (λ h. (IsSome (get h.files name)) × (place ≡ length (bytes_of h.files name)))
 
 -- The file is nothing but records, the bytes are what they give back, and these are their slots.
 pub record HasAll (c : Config) (plp : ℕ) (ran : Ran) (file bytes : List ℕ) : Type 0 where

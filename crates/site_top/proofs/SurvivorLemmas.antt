@@ -7,7 +7,8 @@ use Rattle.ports.specs.Desk.{State, Held, bytes_of}
 use Rattle.plp_config.specs.declared.config.Config.{Config}
 use Rattle.open_group.specs.Written.{spelled}
 use Rattle.modulator.specs.StandsFor.{bytes_due}
-use Rattle.modulate_run.specs.ModulateRun.{records_of, Writes, RunsAll, FindsNone, Stops}
+use Rattle.file_run.specs.FileRun.{Writes}
+use Rattle.modulate_run.specs.ModulateRun.{records_of, RunsAll, FindsNone, Stops}
 use Rattle.modulate_run.specs.declared.stop.Ran.{Ran}
 use Rattle.modulate_run.specs.declared.stop.RunStop.{RunStop}
 use Rattle.modulate_run.specs.declared.stop.RunStop.TheVariants.{NoSuperframe, TooLong, ReadFault, WriteFault, OutOfMemory}
