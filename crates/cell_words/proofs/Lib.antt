@@ -1,2 +1,3 @@
 pub mod WordLemmas
 mod LineLemmas
+mod AgainLemmas

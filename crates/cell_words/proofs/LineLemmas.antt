@@ -119,7 +119,7 @@ fits_at law c shape address plan passes (Some cell) e =
     let small = law c shape address cell plan passes e in
     (omega (arith, small), omega (arith, small))
 
-drop_at : (xs ys : List ℕ) (n : ℕ) → length xs ≡ n → drop n (xs ++ ys) ≡ ys
+pub drop_at : (xs ys : List ℕ) (n : ℕ) → length xs ≡ n → drop n (xs ++ ys) ≡ ys
 drop_at [] ys n e = let none : n ≡ 0 = sym e in ap (λ (k : ℕ). drop k ys) none
 drop_at (x ∷ xs) ys zero e = absurd (omega (arith, e))
 drop_at (x ∷ xs) ys (suc n) e = drop_at xs ys n (omega (arith, e))

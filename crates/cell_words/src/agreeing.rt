@@ -5,20 +5,12 @@ ghost use Rattle.byteorder.specs.Endian.{big_number};
 ghost use Rattle.cell_map.specs.CellMap.{Passes, cell_map};
 ghost use Rattle.site_frame.specs.Reading.{cells_in};
 
+use crate::again::word_at;
 use crate::filling::fill_words;
-use byteorder::{BigEndian, ByteOrder};
 use cell_map::map_law;
 use plp_config::Plan;
 use scheduler::Shape;
 use site_frame::Cells;
-
-// The word at a place.
-fn word_at(bytes: &[u8], at: usize) -> u32
-    requires { at + 4 ≤ length bytes.now }
-    ensures { result ≡ big_number 4 (drop at bytes.now) }
-{
-    BigEndian::read_u32(&bytes[at..])
-}
 
 // Whether the first words of the one are those of the other. All are read, so that many can be read at once.
 fn are_same(one: &[u8], other: &[u8], count: u32) -> bool

@@ -3,7 +3,7 @@ ghost use Rattle.std.specs.Prelude.{◌≡◌, ◌+◌, ◌*◌, ◌≤◌, leng
 ghost use Rattle.cell_map.specs.CellMap.{Passes};
 ghost use Rattle.cell_words.specs.Words.{words};
 
-use crate::line::put_stretch;
+use crate::again::{NO_STRIP, put_next, strip_of};
 use cell_map::{Cells, map_law};
 use plp_config::Plan;
 use scheduler::Shape;
@@ -19,9 +19,11 @@ pub fn fill_words(plan: &Plan, shape: &Shape, address: u32, count: u32, out: &mu
     map_law();
     let _config = plan.config();
     let mut cells = Cells::resume(plan, shape, address);
+    let mut last = NO_STRIP;
     let mut done = 0;
     while done < count {
         let stretch = cells.next_stretch(count - done);
-        done += put_stretch(stretch, 4 * done as usize, out);
+        done += put_next(plan, shape, address, done, last, stretch, out);
+        last = strip_of(stretch);
     }
 }

@@ -92,9 +92,9 @@ fn see_piece(
 }
 
 // Cells that are looked at at once, and the bytes of their words.
-const PIECE: u32 = 2_048;
+const PIECE: u32 = 4_096;
 
-const PIECE_BYTES: usize = 8_192;
+const PIECE_BYTES: usize = 16_384;
 
 // The same of all cells of a record.
 fn see_all(plan: &Plan, shape: &Shape, cells: &Words<'_>, first: u32, stands: &mut [bool])

@@ -1,5 +1,6 @@
-use Rattle.std.proofs.Common.{◌≡◌, ◌≤◌, ◌+◌, ◌-◌, ◌*◌, length, take}
+use Rattle.std.proofs.Common.{◌≡◌, ◌<◌, ◌≤◌, ◌+◌, ◌-◌, ◌*◌, length, take}
 use Rattle.cell_map.specs.Reading.{reading_at}
+use Rattle.cell_words.specs.Lines.{IsLast}
 use Rattle.cell_words.specs.Words.{words}
 use Rattle.cell_words.proofs.filling.fill_words.Given as goal
 
@@ -7,6 +8,7 @@ abbrev pub invariant-loop-done : goal.invariant-loop-done
 invariant-loop-done l = record {
   cells : l.cells ≡ reading_at l.plan l.shape (l.address + l.done);
   most : l.done ≤ l.count;
+  last : 0 < l.last.blocks → IsLast l.plan l.shape l.address l.done l.last;
   len : length l.out ≡ 4 * l.count;
   out : take (4 * l.done) l.out ≡ words l.plan l.shape l.address l.done;
 }
