@@ -28,8 +28,8 @@ fn are_same(one: &[u8], other: &[u8], count: u32) -> bool
     same
 }
 
-/// Whether so many cells of a record from an address on are those of the map, told by their words: if not, one of them may still be
-/// spelled by another word. `buffer` is as long as the words of the cells, and is written to.
+/// Whether so many cells of a record from an address on are those of the map, word by word. `false` tells nothing of any cell: its caller
+/// looks at them one by one. `buffer` is as long as the words of the cells, and is written to.
 pub fn agree(
     plan: &Plan,
     shape: &Shape,

@@ -94,7 +94,7 @@ fn see_piece(
 // Cells that are looked at at once, and the bytes of their words.
 const PIECE: u32 = 4_096;
 
-const PIECE_BYTES: usize = 16_384;
+const PIECE_BYTES: usize = 4 * PIECE as usize;
 
 // The same of all cells of a record.
 fn see_all(plan: &Plan, shape: &Shape, cells: &Words<'_>, first: u32, stands: &mut [bool])

@@ -134,7 +134,7 @@ shape_there : bb.SpelledOrRefused → bb.NoRefusal → bb.BitCounts → (c : Con
 shape_there decides never counts c plp blocks cells None = (muted_record, refl)
 shape_there decides never counts c plp blocks cells (Some shape) =
     let each = zip_there (λ block b. IsGiven (plp_at c.plps plp).delete (all_stand c shape cells plp block) (bytes_at blocks (ordinal_of shape plp block)) b)
-        (λ block. given_there decides never counts (plp_at c.plps plp).delete (all_stand c shape cells plp block) (bytes_at blocks (ordinal_of shape plp block))) (range_with_len 0 (slice_index shape.counts plp)) in
+    (λ block. given_there decides never counts (plp_at c.plps plp).delete (all_stand c shape cells plp block) (bytes_at blocks (ordinal_of shape plp block))) (range_with_len 0 (slice_index shape.counts plp)) in
     (framed_record each.0, (each.0, each.1, refl))
 
 tells_there : bb.SpelledOrRefused → bb.NoRefusal → bb.BitCounts → (c : Config) (plp n : ℕ) (view : RecordView) → (r : Record) × Tells c plp n view r

@@ -62,7 +62,7 @@ gives_one old mid new count bytes packet b g yes_is some same frame due stands a
       packets = λ first views released packets s back inside.
           let before = g.packets first views released packets s back inside in
           let here = answer yes_is first views (released + count) packets (g.stands first views released s)
-              (subst (λ (c : Config). Readback c (plp_of mid) first views packets) (sym g.same.0) (subst (λ (p : ℕ). Readback (network_of old) p first views packets) (sym g.same.1) back)) in
+          (subst (λ (c : Config). Readback c (plp_of mid) first views packets) (sym g.same.0) (subst (λ (p : ℕ). Readback (network_of old) p first views packets) (sym g.same.1) back)) in
           let within = slice_get_within packets (released + count) packet here in
           let sum : released + (count + 1) ≡ released + count + 1 = omega arith in (
             omega (arith, within),

@@ -224,7 +224,7 @@ refused_head law start m n events head why size heads receiver first count slots
       shown = same_shown (network_of start.receiver) (plp_of start.receiver) m n events (events ++ Fed 0 head ∷ []) head s (idle_at m Head heads refl) (fed_adds law events head) same (omega (arith, at, size))
           (subst (λ (p : Coming). Behind (network_of start.receiver) (expected_after s.first s.views) p n.bytes.items n.left (s.rest ++ head) (has_ended 0 (events ++ Fed 0 head ∷ []))) (sym comes)
           (λ more end.
-              inl ((λ e. let n = ap length e in let sum = length-append (s.rest ++ head) more in let l = ap length alone in absurd (omega (arith, n, sum, l, size))), subst (λ (l : List ℕ). Refuses (l ++ more) why) (sym alone) (refuses more))));
+          inl ((λ e. let n = ap length e in let sum = length-append (s.rest ++ head) more in let l = ap length alone in absurd (omega (arith, n, sum, l, size))), subst (λ (l : List ℕ). Refuses (l ++ more) why) (sym alone) (refuses more))));
     }
 
 -- ---- bytes of a rest were taken
@@ -356,9 +356,9 @@ ended_rest law start m n events input bytes wanted rests receiver first count sl
       shown = same_shown (network_of start.receiver) (plp_of start.receiver) m n events (events ++ Ended 0 bytes ∷ []) bytes s (idle_at m Rest rests refl) (ended_adds law events bytes) same at
           (subst (λ (p : Coming). Behind (network_of start.receiver) (expected_after s.first s.views) p n.bytes.items n.left (s.rest ++ bytes) (has_ended 0 (events ++ Ended 0 bytes ∷ []))) (sym comes)
           (λ more end.
-              let whole : (s.rest ++ bytes) ++ more ≡ s.rest = ap (λ (l : List ℕ). (s.rest ++ bytes) ++ l) (end (law.ended 0 bytes events).ended) ∙ append-nil (s.rest ++ bytes) ∙ alone in
-              subst (λ (l : List ℕ). RefusesNext (network_of start.receiver) (expected_after s.first s.views) l why.Length) (sym whole)
-              (inl ((λ e. let n = ap length e in absurd (omega (arith, n, long))), cut_refused s.rest begun.len begun.announces (omega (arith, lacks, some))))));
+          let whole : (s.rest ++ bytes) ++ more ≡ s.rest = ap (λ (l : List ℕ). (s.rest ++ bytes) ++ l) (end (law.ended 0 bytes events).ended) ∙ append-nil (s.rest ++ bytes) ∙ alone in
+          subst (λ (l : List ℕ). RefusesNext (network_of start.receiver) (expected_after s.first s.views) l why.Length) (sym whole)
+          (inl ((λ e. let n = ap length e in absurd (omega (arith, n, long))), cut_refused s.rest begun.len begun.announces (omega (arith, lacks, some))))));
     })
 
 -- bytes are left
@@ -385,9 +385,9 @@ ended_head law start m n events input bytes wanted other some receiver first cou
       shown = same_shown (network_of start.receiver) (plp_of start.receiver) m n events (events ++ Ended 0 bytes ∷ []) bytes s (idle_at m Head heads.0 refl) (ended_adds law events bytes) same at
           (subst (λ (p : Coming). Behind (network_of start.receiver) (expected_after s.first s.views) p n.bytes.items n.left (s.rest ++ bytes) (has_ended 0 (events ++ Ended 0 bytes ∷ []))) (sym comes)
           (λ more end.
-              let whole : (s.rest ++ bytes) ++ more ≡ bytes = ap (λ (l : List ℕ). (s.rest ++ bytes) ++ l) (end (law.ended 0 bytes events).ended) ∙ append-nil (s.rest ++ bytes) ∙ alone in
-              subst (λ (l : List ℕ). RefusesNext (network_of start.receiver) (expected_after s.first s.views) l why.Head) (sym whole)
-              (inl ((λ e. let n = ap length e in absurd (omega (arith, n, some))), short_refused bytes heads.1))));
+          let whole : (s.rest ++ bytes) ++ more ≡ bytes = ap (λ (l : List ℕ). (s.rest ++ bytes) ++ l) (end (law.ended 0 bytes events).ended) ∙ append-nil (s.rest ++ bytes) ∙ alone in
+          subst (λ (l : List ℕ). RefusesNext (network_of start.receiver) (expected_after s.first s.views) l why.Head) (sym whole)
+          (inl ((λ e. let n = ap length e in absurd (omega (arith, n, some))), short_refused bytes heads.1))));
     })
 
 -- behind the last record
@@ -427,7 +427,7 @@ gave_more : (c : Config) (plp : ℕ) (old new : Receiver) (first : ℕ) (views :
     → GavePackets c plp new first views (released + count) (text ++ bytes)
 gave_more c plp old new first views released count text bytes same_c same_p gives g =
     let p = gives.packets first views released g.packets g.stands
-        (subst (λ (e : Config). Readback e (plp_of old) first views g.packets) (sym same_c) (subst (λ (p : ℕ). Readback c p first views g.packets) (sym same_p) g.back)) g.inside in
+    (subst (λ (e : Config). Readback e (plp_of old) first views g.packets) (sym same_c) (subst (λ (p : ℕ). Readback c p first views g.packets) (sym same_p) g.back)) g.inside in
     let all = p.0 in
     let d = gives.due in
     let e = g.due in record {

@@ -108,11 +108,11 @@ runs_all start now old new name out done r =
     record {
       place = at;
       works = writes_by (HasAll c plp (ran_by c plp now.first now.slots)) s (λ file bytes f holds. record {
-            views = h.views;
-            records = subst (λ (l : List ℕ). AreRecords l h.views []) (whole_file file at (fed 0 s.events) (has_ended 0 s.events) f behind.1).0 (subst (λ (l : List ℕ). AreRecords (fed 0 s.events) h.views l) behind.0 h.records);
-            received = received c plp now s.events bytes h g holds;
-            ran_is = ran_same c plp h.first h.views now.first now.slots g.packets h.first_is g.count;
-          });
+        views = h.views;
+        records = subst (λ (l : List ℕ). AreRecords l h.views []) (whole_file file at (fed 0 s.events) (has_ended 0 s.events) f behind.1).0 (subst (λ (l : List ℕ). AreRecords (fed 0 s.events) h.views l) behind.0 h.records);
+        received = received c plp now s.events bytes h g holds;
+        ran_is = ran_same c plp h.first h.views now.first now.slots g.packets h.first_is g.count;
+      });
       ends = (
         (let n = s.works.all in r.short 0 (omega (arith, n))),
         if_both old.held _ _ _ (λ held present are. (present 0 (omega arith), (whole_file (bytes_of held.files name) at (fed 0 s.events) (has_ended 0 s.events) (are 0 (omega arith)) behind.1).1)) s.present s.inputs,
@@ -132,13 +132,13 @@ meets_refused start now old new name out why refused r =
       place = slice_index s.places 0;
       short = (let n = s.works.all in r.short 0 (omega (arith, n)));
       works = writes_by (HasBefore c plp now.count why) s (λ file bytes f holds. record {
-            views = h.views;
-            rest = h.rest ++ f.more;
-            records = records_file file (fed 0 s.events) f.more h.rest h.views f.parts h.records;
-            received = received c plp now s.events bytes h g holds;
-            number_is = h.number;
-            refused = behind f.more f.end;
-          });
+        views = h.views;
+        rest = h.rest ++ f.more;
+        records = records_file file (fed 0 s.events) f.more h.rest h.views f.parts h.records;
+        received = received c plp now s.events bytes h g holds;
+        number_is = h.number;
+        refused = behind f.more f.end;
+      });
       counts = r.counts;
     }
 
@@ -312,7 +312,7 @@ stops_writing tell one never frame start now old new name out rules g =
       short = (let n = s.works.all in g.short 0 (omega (arith, n)));
       works = writes_by (HasSome c plp at) s (λ file bytes f holds.
           has_some tell one never frame c plp rules g.mid now s.events g.late file bytes g.front g.more at (packets_come g.mid.coming g.mid.left g.gives) s.came.0.shown s.came.1.shown (tell.late s.events g.late g.only) f
-              (s.within 0 (omega arith)) g.parts g.some holds);
+          (s.within 0 (omega arith)) g.parts g.some holds);
     }
 
 -- ---- of a list of one input

@@ -140,12 +140,7 @@ impl<'p> ReceiverMachine<'p> {
         ensures sees { Sees self.old self.new }
         ensures at { self.new.at ≡ self.old.at }
     {
-        match take_record(
-            self.plan,
-            self.expected(),
-            &self.bytes,
-            &mut self.receiver,
-        ) {
+        match take_record(self.plan, self.expected(), &self.bytes, &mut self.receiver) {
             Ok(frame) => {
                 self.first = Some(self.first.unwrap_or(frame));
                 self.count += 1;
@@ -243,7 +238,8 @@ impl<'p> ReceiverMachine<'p> {
         match self.first {
             Some(first) => {
                 let ticks = u64::from(self.plan.config().ticks);
-                self.plan.slots_by(self.plp, first.saturating_sub(1) * ticks)
+                self.plan
+                    .slots_by(self.plp, first.saturating_sub(1) * ticks)
             }
             None => 0,
         }

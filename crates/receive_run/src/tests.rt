@@ -80,12 +80,37 @@ fn muted_records_give_null_packets(rt: HostRuntime) -> Result<(), Fail> {
     for (moments, wanted, packets) in [
         ([].as_slice(), Ok(Ran { first: 0, slots: 0 }), 0),
         ([0].as_slice(), Ok(Ran { first: 0, slots: 0 }), 0),
-        ([0, FRAME, 2 * FRAME, 3 * FRAME].as_slice(), Ok(Ran { first: 0, slots: 14 }), 14),
-        ([0, FRAME, 2 * FRAME, 3 * FRAME, 4 * FRAME].as_slice(), Ok(Ran { first: 0, slots: 29 }), 29),
-        ([8 * FRAME, 9 * FRAME, 10 * FRAME, 11 * FRAME].as_slice(), Ok(Ran { first: 101, slots: 29 }), 29),
+        (
+            [0, FRAME, 2 * FRAME, 3 * FRAME].as_slice(),
+            Ok(Ran {
+                first: 0,
+                slots: 14,
+            }),
+            14,
+        ),
+        (
+            [0, FRAME, 2 * FRAME, 3 * FRAME, 4 * FRAME].as_slice(),
+            Ok(Ran {
+                first: 0,
+                slots: 29,
+            }),
+            29,
+        ),
+        (
+            [8 * FRAME, 9 * FRAME, 10 * FRAME, 11 * FRAME].as_slice(),
+            Ok(Ran {
+                first: 101,
+                slots: 29,
+            }),
+            29,
+        ),
         // Frame 2 behind frame 0, and frame 5 behind frame 3.
         ([0, 2 * FRAME].as_slice(), refused(1, RecordWhy::Order), 0),
-        ([0, FRAME, 2 * FRAME, 3 * FRAME, 5 * FRAME].as_slice(), refused(4, RecordWhy::Order), 14),
+        (
+            [0, FRAME, 2 * FRAME, 3 * FRAME, 5 * FRAME].as_slice(),
+            refused(4, RecordWhy::Order),
+            14,
+        ),
         ([0, FRAME + 1].as_slice(), refused(1, RecordWhy::OffGrid), 0),
     ] {
         let file = file(rt.alloc(), moments)?;
