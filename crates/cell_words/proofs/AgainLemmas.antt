@@ -1,5 +1,5 @@
 -- A row that repeats the row before it.
-use Rattle.std.proofs.Common.{◌≡◌, ℕ, zero, suc, ◌+◌, ◌-◌, ◌*◌, ◌/◌, ◌%◌, ◌<◌, ◌≤◌, ◌^◌, List, ◌++◌, length, take, drop, Option, Some, refl, ap, ap₂, sym, subst, ◌∙◌, arith, append_assoc, take-append-drop}
+use Rattle.std.proofs.Common.{◌≡◌, ℕ, zero, suc, ◌+◌, ◌-◌, ◌*◌, ◌/◌, ◌%◌, ◌<◌, ◌≤◌, ◌^◌, List, ◌++◌, take, drop, Option, refl, ap, ap₂, sym, subst, ◌∙◌, arith, append_assoc, take-append-drop}
 use Rattle.std.specs.FinMap.{get}
 use Rattle.std.proofs.lemmas.Nat.{div_below, mod_below, div-add-mod'}
 use Rattle.byteorder.specs.Endian.{big_bytes, big_number}
@@ -12,7 +12,7 @@ use Rattle.cell_map.specs.declared.places.Cell.{Cell}
 use Rattle.cell_map.specs.declared.strips.Strip.{Strip}
 use Rattle.cell_map.specs.declared.strips.Stretch.{Stretch}
 use Rattle.cell_map.specs.declared.strips.Stretch.TheVariants.{Dummy, Blocks}
-use Rattle.site_frame.specs.Record.{cell_bytes, word_of, block_words}
+use Rattle.site_frame.specs.Record.{cell_bytes, word_of}
 use Rattle.cell_words.specs.Lines.{FitsStrip, FitsStretch, IsAgain, Follows, IsLast, IsStripOf}
 use Rattle.cell_words.specs.Words.{words}
 use Rattle.cell_words.proofs.LineLemmas.{drop_at}

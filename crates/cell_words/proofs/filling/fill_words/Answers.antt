@@ -1,4 +1,4 @@
-use Rattle.std.proofs.Common.{◌≡◌, ◌∙◌, ℕ, ◌+◌, ◌*◌, ◌<◌, take, ap, subst, arith}
+use Rattle.std.proofs.Common.{◌≡◌, ◌∙◌, ℕ, ◌+◌, ◌*◌, take, ap, subst, arith}
 use Rattle.cell_map.specs.Reading.{Reading, reading_at}
 use Rattle.cell_map.specs.Stretches.{HasStretch, stretch_len}
 use Rattle.cell_words.specs.Lines.{IsLast}

@@ -1,4 +1,4 @@
-use Rattle.std.proofs.Common.{◌≡◌, ◌∙◌, ℕ, ◌+◌, false, get_or, ap, sym, arith}
+use Rattle.std.proofs.Common.{◌≡◌, ◌∙◌, ◌+◌, false, get_or, ap, sym, arith}
 use Rattle.std.specs.FinMap.{get}
 use Rattle.cell_map.specs.CellMap.{cell_map}
 use Rattle.cell_map.specs.Reading.{Reading, reading_at, next_address}
