@@ -7,7 +7,6 @@ use Rattle.std.proofs.lemmas.List.Concat.{flat_map-append}
 use Rattle.std.proofs.lemmas.Option.{IfSome_then}
 use Rattle.terms.proofs.CaseLemmas.{bool_cases}
 use Rattle.terms.proofs.OptionLemmas.{if_both}
-use Rattle.terms.proofs.RangeLemmas.{one_listed}
 use Rattle.ports.specs.Desk.{State, bytes_of}
 use Rattle.plp_config.specs.declared.config.Config.{Config}
 use Rattle.plp_config.specs.declared.moment.TheConstants.{MOST_FRAMES}
@@ -22,11 +21,10 @@ use Rattle.file_run.specs.Events.{Event, fed, has_ended, gave}
 use Rattle.file_run.specs.FileRun as driver
 use Rattle.file_run.specs.FileRun.{file_at, AreFed, IsFed, Works, OpensInputs, Writes, ReadsAll}
 use Rattle.file_run.specs.Laws.{EventsTell}
-use Rattle.file_run.specs.Steps.{Wants, FallsShort}
+use Rattle.file_run.specs.Steps.{Wants}
 use Rattle.file_run.specs.declared.machine.Step.TheVariants.{Read, Give, End}
 use Rattle.file_run.specs.declared.stop.RunFault.{RunFault}
 use Rattle.file_run.specs.declared.stop.RunFault.TheVariants as fault
-use Rattle.file_run.proofs.StandsLemmas.{works_by}
 use Rattle.modulate_run.specs.AsMachine.{step_of, Behind, IsNext, IsAll, becomes, ending_of, stop_by}
 use Rattle.modulate_run.specs.Counted.{counted}
 use Rattle.modulate_run.specs.ModulateRun.{read_ahead, records_of, output_of, AreEarly, RunsAll, FindsNone, HasWritten, GivesTooMuch, HasEarly, MeetsLate, StopsReading, HasSome, StopsWriting, Stops}

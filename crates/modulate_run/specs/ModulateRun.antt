@@ -1,7 +1,6 @@
 -- What a run of the modulator over a file does, from the opening of its input on.
-use Rattle.std.specs.Prelude.{◌≡◌, ◌≢◌, ◌⊎◌, ℕ, ◌+◌, ◌<◌, ◌≤◌, nat_lt, true, false, List, [], ◌∷◌, ◌++◌, length, take, flat_map, IsSome, IfSome}
+use Rattle.std.specs.Prelude.{◌≡◌, ◌≢◌, ◌⊎◌, ℕ, ◌+◌, ◌<◌, ◌≤◌, nat_lt, true, false, List, [], ◌∷◌, ◌++◌, length, take, flat_map, IfSome}
 use Rattle.std.specs.List.{list_all}
-use Rattle.std.specs.FinMap.{get}
 use Rattle.ports.specs.Desk.{State, SameCounts, bytes_of}
 use Rattle.plp_config.specs.declared.config.Config.{Config}
 use Rattle.plp_config.specs.declared.moment.TheConstants.{MOST_FRAMES}
