@@ -197,10 +197,11 @@ fn recorded(rt: &(impl AllocGlobal + Abort), network: &Network) -> Result<Memory
 
 // The length of the rest of a record.
 fn rest_of(head: &[u8]) -> usize {
-    match head.get(20..24) {
-        Some(&[a, b, c, d]) => u32::from_be_bytes([a, b, c, d]) as usize,
-        _ => 0,
-    }
+    head.get(20..24).map_or(0, |len| {
+        len.iter().fold(0, |sum: usize, byte| {
+            sum.wrapping_mul(256).wrapping_add(usize::from(*byte))
+        })
+    })
 }
 
 // Adds a record, muted or as it is.
