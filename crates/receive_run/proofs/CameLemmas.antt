@@ -1,26 +1,24 @@
 -- A record came that was taken, or one that was refused.
 use Rattle.site_frame.specs.RecordFile.{IsOnGrid}
-use Rattle.std.proofs.Common.{◌≡◌, ℕ, suc, ◌+◌, ◌-◌, ◌<◌, ◌≤◌, Bool, true, false, List, [], ◌∷◌, ◌++◌, length, map, take, Option, Some, None, refl, ap, ap₂, sym, subst, ◌∙◌, inl, inr, arith, append-nil, length-append}
-use Rattle.std.specs.Prelude.{◌⊎◌, nat_lt, unwrap_or}
+use Rattle.std.proofs.Common.{◌≡◌, ℕ, ◌+◌, ◌<◌, List, [], ◌∷◌, ◌++◌, length, map, take, Some, refl, ap, ap₂, sym, subst, ◌∙◌, arith, append-nil, length-append}
+use Rattle.std.specs.Prelude.{unwrap_or}
 use Rattle.std.specs.List.{concat, range_with_len}
 use Rattle.std.proofs.Math.Seq.{take-length, take-append_seam}
-use Rattle.std.proofs.lemmas.Bool.{ltb-false}
 use Rattle.std.proofs.lemmas.List.{map-append}
 use Rattle.terms.proofs.RangeLemmas.{range_more}
 use Rattle.plp_config.specs.Capacity.{IsPlan}
 use Rattle.plp_config.specs.Emission.{emission}
 use Rattle.plp_config.specs.declared.config.Config.{Config}
 use Rattle.plp_config.specs.declared.moment.Moment.{Moment}
-use Rattle.plp_config.specs.declared.moment.TheConstants.{MOST_FRAMES}
 use Rattle.site_frame.specs.Placing.{IsFrameOf, IsPlaced}
 use Rattle.site_frame.specs.Whole.{moment_of}
 use Rattle.site_frame.specs.declared.reading.RecordView.{RecordView}
 use Rattle.plp_receiver.specs.Laws.{ReadbackFront}
-use Rattle.plp_receiver.specs.StandsFor.{StandsFor, IsFresh, network_of, plp_of, frame_of, due_of}
+use Rattle.plp_receiver.specs.StandsFor.{StandsFor, network_of, plp_of, frame_of, due_of}
 use Rattle.plp_receiver.specs.Taken.{Readback}
 use Rattle.plp_receiver.specs.declared.receiver.Receiver.{Receiver}
-use Rattle.receive_run.specs.Received.{GivesBack, expected_after}
-use Rattle.receive_run.specs.AsMachine.{GaveEarly, GavePackets, Given, first_of}
+use Rattle.receive_run.specs.Received.{expected_after}
+use Rattle.receive_run.specs.AsMachine.{GavePackets, Given, first_of}
 use Rattle.receive_run.specs.Taking.{expected_by, Comes, TellsDue}
 
 -- ---- successive frames

@@ -1,12 +1,12 @@
 -- A file has an ending.
-use Rattle.std.proofs.Common.{◌≡◌, ◌≢◌, ◌⊎◌, ℕ, zero, suc, ◌+◌, ◌*◌, ◌/◌, ◌%◌, ◌^◌, ◌<◌, ◌≤◌, ◌==◌, Bool, true, false, cond, inl, inr, ⊎_elim, List, [], ◌∷◌, ◌++◌, length, take, drop, Option, Some, None, refl, ap, ap₂, sym, subst, ◌∙◌, arith, append_assoc, length-append, length-drop, eqb-true}
+use Rattle.std.proofs.Common.{◌≡◌, ◌≢◌, ◌⊎◌, ℕ, zero, suc, ◌+◌, ◌/◌, ◌%◌, ◌^◌, ◌<◌, ◌≤◌, ◌==◌, Bool, true, false, inl, inr, List, [], ◌∷◌, ◌++◌, length, drop, Option, Some, None, refl, ap, sym, subst, ◌∙◌, arith, append_assoc, length-append, length-drop, eqb-true}
 use Rattle.std.specs.Prelude.{nat_lt, slice_index, bit_xor, Result, Ok, Err, if◌then◌else◌}
 use Rattle.std.specs.Int.{IsGcd}
 use Rattle.std.specs.List.{AllZip, range_with_len, concat}
 use Rattle.std.proofs.lemmas.Bool.{eqb-false, ltb-true, ltb-false}
 use Rattle.std.proofs.lemmas.List.{get_or-drop}
 use Rattle.std.proofs.lemmas.Nat.Gcd.{IsGcd-from_zero, IsGcd-from_mod}
-use Rattle.terms.specs.Bits.{field, part, number_at, bits_of, bytes_of}
+use Rattle.terms.specs.Bits.{field, number_at, bits_of, bytes_of}
 use Rattle.terms.proofs.CaseLemmas.{bool_cases}
 use Rattle.terms.proofs.DecisionLemmas.{decide_three, first_other}
 use Rattle.terms.proofs.PartLemmas.{number-middle}
@@ -28,7 +28,7 @@ use Rattle.plp_config.specs.declared.moment.Moment.{Moment}
 use Rattle.plp_config.specs.declared.moment.TheConstants.{MOST_FRAMES}
 use Rattle.scheduler.specs.Shape.{FrameShape}
 use Rattle.site_frame.specs.Laws.{SpelledOrRefused}
-use Rattle.site_frame.specs.Placing.{IsFrameOf, IsOffGrid, RefusesPlace}
+use Rattle.site_frame.specs.Placing.{IsFrameOf, IsOffGrid}
 use Rattle.site_frame.specs.Record as frame
 use Rattle.site_frame.specs.RecordFile.{AreRecords, IsOnGrid, AreBytes}
 use Rattle.site_frame.specs.Whole.{BeginsWith, Refuses, moment_of}
@@ -40,7 +40,7 @@ use Rattle.packet_slots.specs.Records.{Record, muted_record, framed_record, read
 use Rattle.packet_slots.specs.Strings.{Block}
 use Rattle.packet_slots.specs.declared.rule.SlotRule.{SlotRule}
 use Rattle.plp_receiver.specs.Readable.{readable, all_stand}
-use Rattle.plp_receiver.specs.Taken.{IsOfStream, block_read, IsTaken, IsTold, IsGiven, bytes_at, TellsShape, Tells, TellAll, IsRule, Readback}
+use Rattle.plp_receiver.specs.Taken.{IsOfStream, block_read, IsTaken, IsGiven, bytes_at, TellsShape, Tells, TellAll, IsRule}
 use Rattle.receive_run.specs.Laws.{MustRun, RunEnds}
 use Rattle.receive_run.specs.Received.{GivesBack, Received, ran_of, expected_after, RefusesNext}
 use Rattle.receive_run.specs.declared.stop.Ran.{Ran}

@@ -1,12 +1,12 @@
 -- A run gives out fewer packets than a number holds.
-use Rattle.std.proofs.Common.{◌≡◌, ℕ, zero, suc, ◌+◌, ◌-◌, ◌*◌, ◌/◌, ◌%◌, ◌^◌, ◌<◌, ◌≤◌, min, List, [], ◌∷◌, length, refl, ap, sym, ◌∙◌, arith}
+use Rattle.std.proofs.Common.{◌≡◌, ℕ, zero, suc, ◌+◌, ◌-◌, ◌*◌, ◌/◌, ◌^◌, ◌<◌, ◌≤◌, List, [], ◌∷◌, length, refl, ap, ◌∙◌, arith}
 use Rattle.std.specs.Int.{div_ceil}
 use Rattle.std.proofs.Math.Nat.{div-zero, div-le_of_le-mul, mul-le-mul, mul-le-mul_left, div-mul-le_self}
 use Rattle.std.proofs.lemmas.Nat.{le-div}
 use Rattle.std.proofs.lemmas.List.FromFn.{length-map-range_with_len}
 use Rattle.plp_config.specs.Laws.{SlotLength, FrameTicks}
 use Rattle.plp_config.specs.Rules.{AllRules}
-use Rattle.plp_config.specs.SlotTime.{num, den, IsSlotLength, released_count}
+use Rattle.plp_config.specs.SlotTime.{num, den, IsSlotLength}
 use Rattle.plp_config.specs.declared.config.Config.{Config}
 use Rattle.plp_config.specs.declared.moment.TheConstants.{MOST_FRAMES}
 use Rattle.site_frame.specs.declared.reading.RecordView.{RecordView}
@@ -14,7 +14,7 @@ use Rattle.packet_slots.specs.Readback.{slot_packet}
 use Rattle.packet_slots.specs.Records.{Record, string_of, first_slot, readback}
 use Rattle.packet_slots.specs.Times.{due_after, delay_of}
 use Rattle.packet_slots.specs.declared.rule.SlotRule.{SlotRule}
-use Rattle.plp_receiver.specs.Taken.{TellAll, IsRule, Readback}
+use Rattle.plp_receiver.specs.Taken.{TellAll, Readback}
 
 -- a part of what is less is less
 div_le_div : (a b g : ℕ) → a ≤ b → a / g ≤ b / g

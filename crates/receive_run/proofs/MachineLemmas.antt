@@ -1,9 +1,9 @@
 -- What each call of the machine makes of what was done to it.
-use Rattle.std.proofs.Common.{◌≡◌, ◌≢◌, ℕ, zero, suc, ◌==◌, ◌+◌, ◌-◌, ◌^◌, ◌<◌, ◌≤◌, min, Bool, true, false, cond, List, [], ◌∷◌, ◌++◌, length, take, drop, Option, Some, None, refl, ap, sym, subst, ◌∙◌, inl, inr, ⊎_elim, arith, append_assoc, append-nil, length-append}
+use Rattle.std.proofs.Common.{◌≡◌, ℕ, zero, suc, ◌==◌, ◌+◌, ◌-◌, ◌^◌, ◌<◌, ◌≤◌, min, Bool, true, false, cond, List, [], ◌∷◌, ◌++◌, length, take, Option, Some, None, refl, ap, sym, subst, ◌∙◌, inl, inr, ⊎_elim, arith, append_assoc, append-nil, length-append}
 use Rattle.std.specs.Prelude.{◌⊎◌, nat_lt, unwrap_or}
 use Rattle.std.specs.List.{concat}
 use Rattle.std.proofs.Math.Seq.{take-length}
-use Rattle.std.proofs.lemmas.Bool.{ltb-true, ltb-false, true≢false}
+use Rattle.std.proofs.lemmas.Bool.{ltb-false, true≢false}
 use Rattle.std.proofs.lemmas.List.{nil_from_length}
 use Rattle.terms.proofs.OptionLemmas.{some_injective, none_some}
 use Rattle.plp_config.specs.Capacity.{IsPlan}
@@ -26,9 +26,9 @@ use Rattle.file_run.specs.Laws.{EventsTell}
 use Rattle.file_run.specs.Steps.{Suffices, FallsShort, HasRoom}
 use Rattle.file_run.specs.declared.machine.Step.TheVariants.{Read, Give, End}
 use Rattle.receive_run.specs.Received.{expected_after, RefusesNext}
-use Rattle.receive_run.specs.AsMachine.{next_of, IsReady, IsSeen, SameTaken, IsRefused, Sees, SeesHead, HasBegun, Begins, IsBegun, Behind, GaveEarly, GavePackets, Given, first_of, Shown, Becomes}
+use Rattle.receive_run.specs.AsMachine.{next_of, IsReady, IsSeen, SameTaken, IsRefused, Sees, Begins, IsBegun, Behind, GaveEarly, GavePackets, Given, first_of, Shown, Becomes}
 use Rattle.receive_run.specs.NextStep.{step_of, gives, coming_by, left_by}
-use Rattle.receive_run.specs.Taking.{expected_by, Awaits, SamePlp, Comes, TakesRecord, RefusesRecord, GivesPackets}
+use Rattle.receive_run.specs.Taking.{expected_by, Awaits, SamePlp, Comes, RefusesRecord, GivesPackets}
 use Rattle.receive_run.specs.declared.machine.Coming.{Coming}
 use Rattle.receive_run.specs.declared.machine.Coming.TheVariants.{Head, Rest, Packets, Refused, Finished}
 use Rattle.receive_run.specs.declared.machine.ReceiverMachine.{ReceiverMachine}

@@ -1,5 +1,6 @@
 -- A file has one ending at most.
-use Rattle.std.proofs.Common.{◌≡◌, ◌≢◌, ℕ, ◌+◌, ◌<◌, List, [], ◌∷◌, ◌++◌, length, take, drop, Option, Some, None, refl, ap, ap₂, sym, subst, ◌∙◌, inl, inr, arith, append-nil}
+use Rattle.std.proofs.Common.{◌≡◌, ℕ, ◌+◌, List, [], ◌∷◌, length, take, drop, Option, Some, refl, ap, ap₂, sym, subst, ◌∙◌, inl, inr, append-nil}
+use Rattle.std.specs.List.{concat}
 use Rattle.std.specs.Prelude.{◌⊎◌, Result, Ok, Err}
 use Rattle.std.proofs.lemmas.List.{take-append-drop}
 use Rattle.plp_config.specs.Rules.{AllRules}
@@ -14,9 +15,9 @@ use Rattle.site_frame.specs.declared.fault.RecordWhy.TheVariants as why
 use Rattle.site_frame.specs.declared.reading.RecordView.{RecordView}
 use Rattle.plp_receiver.specs.Laws.{ReadbackOnce}
 use Rattle.plp_receiver.specs.Taken.{Readback}
-use Rattle.receive_run.specs.Laws.{MustRun, OneRun}
+use Rattle.receive_run.specs.Laws.{OneRun, OneOutput}
 use Rattle.receive_run.specs.ReceiveRun.{HasAll, HasBefore}
-use Rattle.receive_run.specs.Received.{Received, first_slot, ran_of, expected_after, RefusesNext}
+use Rattle.receive_run.specs.Received.{GivesBack, Received, first_slot, ran_of, expected_after, RefusesNext}
 use Rattle.receive_run.specs.declared.stop.Ran.{Ran}
 use Rattle.receive_run.specs.declared.stop.RunStop.{RunStop}
 use Rattle.receive_run.specs.declared.stop.RunStop.TheVariants.{RecordRefused}
@@ -134,3 +135,21 @@ one_run one never refusal frame once c plp file (Err (RecordRefused number why))
 one_run one never refusal frame once c plp file (Err (RecordRefused number why)) (Err (RecordRefused count other)) plan (bytes, a) (given, b) = before_once one never refusal frame c plp plan.rules number count why other file bytes given a b
 one_run one never refusal frame once c plp file (Err (RecordRefused number why)) (Err stop) plan a b = absurd b
 one_run one never refusal frame once c plp file (Err stop) other plan a b = absurd a
+
+-- ---- one output
+
+back_once : ReadbackOnce → OneFrame → (c : Config) (plp : ℕ) → AllRules c → (views : List RecordView) (first second : ℕ) (packets others : List (List ℕ)) → IsOnGrid c first views → IsOnGrid c second views → GivesBack c plp first views packets
+    → GivesBack c plp second views others → packets ≡ others
+back_once once frame c plp rules [] first second packets others a b g h = g ∙ sym h
+back_once once frame c plp rules (w ∷ ws) first second packets others a b g h =
+    let same = same_first frame c rules first second w ws ws a b in
+    once c plp first (w ∷ ws) packets others g (subst (λ (n : ℕ). Readback c plp n (w ∷ ws) others) (sym same) h)
+
+pub one_output : OneRecord → OneFrame → ReadbackOnce → OneOutput
+one_output one frame once c plp file first views packets ran bytes plan records successive back a =
+    let same = all_once one file a.views views a.records records in
+    let r : Received c plp views (concat packets) = record { first = first; successive = successive; packets = packets; back = back; bytes_are = refl } in
+    let b = a.received in (
+      b.bytes_are ∙ ap concat (back_once once frame c plp plan.rules views b.first first b.packets packets (subst (IsOnGrid c b.first) same b.successive) successive (subst (λ (l : List RecordView). GivesBack c plp b.first l b.packets) same b.back) back),
+      a.ran_is ∙ same_rans once frame c plp plan.rules a.views views bytes (concat packets) same b r,
+    )

@@ -1,6 +1,6 @@
 -- How the run of a receiver ended, by its machine.
-use Rattle.std.proofs.Common.{◌≡◌, ◌≢◌, ℕ, ◌+◌, ◌-◌, ◌<◌, ◌≤◌, Bool, true, false, List, [], ◌∷◌, ◌++◌, length, take, drop, Option, Some, None, refl, ap, sym, subst, ◌∙◌, inl, inr, arith, append_assoc, append-nil, length-append}
-use Rattle.std.specs.Prelude.{◌⊎◌, IfOk, IfErr, IfSome, slice_index, slice_index_or}
+use Rattle.std.proofs.Common.{◌≡◌, ◌≢◌, ℕ, ◌+◌, ◌-◌, ◌<◌, ◌≤◌, Bool, true, false, List, [], ◌∷◌, ◌++◌, length, take, drop, Option, Some, refl, ap, sym, subst, ◌∙◌, inl, inr, arith, append_assoc, append-nil, length-append}
+use Rattle.std.specs.Prelude.{◌⊎◌, IfOk, IfErr, slice_index, slice_index_or}
 use Rattle.std.specs.List.{concat}
 use Rattle.std.proofs.Math.Seq.{take-length}
 use Rattle.std.proofs.lemmas.List.{take-append-drop}
@@ -33,12 +33,10 @@ use Rattle.file_run.proofs.StandsLemmas.{works_by}
 use Rattle.receive_run.specs.AsMachine.{next_of, Behind, IsBegun, GavePackets, Given, first_of, Shown, Becomes, ran_by, ending_of, stop_by}
 use Rattle.receive_run.specs.NextStep.{step_of, gives}
 use Rattle.receive_run.specs.ReceiveRun.{HasAll, RunsAll, HasBefore, MeetsRefused, HasMet, GivesTooMuch, StopsReading, HasSome, StopsWriting, Stops}
-use Rattle.receive_run.specs.Received.{GivesBack, Received, first_slot, ran_of, expected_after, RefusesNext}
+use Rattle.receive_run.specs.Received.{GivesBack, Received, ran_of, expected_after}
 use Rattle.receive_run.specs.declared.machine.Coming.{Coming}
 use Rattle.receive_run.specs.declared.machine.Coming.TheVariants.{Head, Rest, Packets, Refused, Finished}
 use Rattle.receive_run.specs.declared.machine.ReceiverMachine.{ReceiverMachine}
-use Rattle.receive_run.specs.declared.stop.Ran.{Ran}
-use Rattle.receive_run.specs.declared.stop.RunStop.TheVariants.{TooLong, ReadFault, WriteFault}
 use Rattle.receive_run.proofs.MachineLemmas.{packets_come}
 use Rattle.site_frame.proofs.RecordFileLemmas.{records_on, rest_inside, announces_on}
 use Rattle.receive_run.proofs.SameLemmas.{successive_front, same_views}
@@ -266,6 +264,7 @@ has_some tell one never frame c plp rules mid now events late file bytes front m
     let g = given_some c plp now.receiver k.first e.before e.last now.slots text (subst (λ (l : List RecordView). Given c plp now.receiver k.first l now.slots text) are k.given) in
     let left : List ℕ = concat (drop now.slots g.0.packets) in
     let written : gave events ++ gave late ≡ bytes ++ more = ap (λ (l : List ℕ). gave events ++ l) parts ∙ sym (append_assoc (gave events) front more) ∙ ap (λ (l : List ℕ). l ++ more) (sym holds) in
+    let all_written : concat (take now.slots g.0.packets) ≡ bytes ++ more = sym g.0.text_is ∙ since.gave ∙ written in
     let size = ap length f.parts in
     let sum = length-append (fed 0 events) f.more in
     let ahead = f.ahead in
@@ -287,7 +286,7 @@ has_some tell one never frame c plp rules mid now events late file bytes front m
       };
       more = more ++ left;
       some = λ z. some (front_empty more left z);
-      begins = packets_cut g.0.packets now.slots ∙ ap (λ (l : List ℕ). l ++ left) (sym g.0.text_is ∙ since.gave ∙ written) ∙ append_assoc bytes more left;
+      begins = packets_cut g.0.packets now.slots ∙ ap (λ (l : List ℕ). l ++ left) all_written ∙ append_assoc bytes more left;
       early = concat e.packets;
       received_early = record {
         first = h.first;

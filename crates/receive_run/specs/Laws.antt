@@ -1,9 +1,12 @@
 -- Laws of runs over a file.
 use Rattle.std.specs.Prelude.{◌≡◌, ℕ, ◌<◌, List, [], length, slice_index, Result, Ok, Err}
+use Rattle.std.specs.List.{concat}
 use Rattle.plp_config.specs.Capacity.{IsPlan}
 use Rattle.plp_config.specs.declared.config.Config.{Config}
-use Rattle.site_frame.specs.RecordFile.{AreRecords, AreBytes}
+use Rattle.site_frame.specs.RecordFile.{AreRecords, IsOnGrid, AreBytes}
+use Rattle.site_frame.specs.declared.reading.RecordView.{RecordView}
 use Rattle.receive_run.specs.ReceiveRun.{HasAll, HasBefore}
+use Rattle.receive_run.specs.Received.{GivesBack, ran_of}
 use Rattle.receive_run.specs.declared.stop.Ran.{Ran}
 use Rattle.receive_run.specs.declared.stop.RunStop.{RunStop}
 use Rattle.receive_run.specs.declared.stop.RunStop.TheVariants.{RecordRefused}
@@ -21,3 +24,8 @@ OneRun = (c : Config) (plp : ℕ) (file : List ℕ) (result other : Result Ran R
 -- A run over a file has an ending.
 abbrev pub RunEnds : Type 0
 RunEnds = (c : Config) (plp : ℕ) (file : List ℕ) → IsPlan c → plp < length c.plps → AreBytes file → (result : Result Ran RunStop) × MustRun c plp file result
+
+-- Records of successive frames that are a whole file tell what a run over it writes, and its slots.
+abbrev pub OneOutput : Type 0
+OneOutput = (c : Config) (plp : ℕ) (file : List ℕ) (first : ℕ) (views : List RecordView) (packets : List (List ℕ)) (ran : Ran) (bytes : List ℕ) → IsPlan c
+    → AreRecords file views [] → IsOnGrid c first views → GivesBack c plp first views packets → HasAll c plp ran file bytes → (bytes ≡ concat packets) × (ran ≡ ran_of c plp first views packets)

@@ -1,5 +1,5 @@
 // Laws of the definitions. Their functions do nothing.
-ghost use Rattle.receive_run.specs.Laws.{OneRun, RunEnds};
+ghost use Rattle.receive_run.specs.Laws.{OneRun, RunEnds, OneOutput};
 
 use bb_frame::{bit_counts, no_refusal, spelled_or_refused};
 use plp_receiver::readback_law;
@@ -23,4 +23,14 @@ pub fn run_ends()
     bit_counts();
     no_refusal();
     spelled_or_refused();
+}
+
+/// A file that is nothing but records of successive frames decides the output, and the slots that are told.
+pub fn one_output()
+    ensures { OneOutput }
+{
+    reading_law();
+    refusal_law();
+    place_law();
+    readback_law();
 }

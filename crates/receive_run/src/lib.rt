@@ -9,6 +9,6 @@ mod stop;
 #[cfg(test)]
 mod tests;
 
-pub use laws::{one_run, run_ends};
+pub use laws::{one_output, one_run, run_ends};
 pub use running::run;
 pub use stop::{Ran, RunStop};

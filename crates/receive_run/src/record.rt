@@ -7,7 +7,7 @@ ghost use Rattle.receive_run.specs.Taking.{Awaits, SamePlp, Comes, TakesRecord, 
 
 use file_run::PIECE;
 use plp_config::{Moment, Plan};
-use plp_receiver::{Receiver, readback_law};
+use plp_receiver::Receiver;
 use site_frame::{RecordView, RecordWhy, place_record, read_record};
 use ts_packet::SIZE;
 

@@ -1,5 +1,7 @@
 // Records are muted: a head spelled by hand from the table of records. Which slots are due was counted by hand: a slot lasts 1,504 · 64 / 14
 // ticks, and is due 306,877 ticks after its start. Records of frames with blocks stand in tests of the commands.
+ghost use Rattle.std.specs.Prelude.{◌<◌};
+
 use crate::{Ran, RunStop, run};
 use plp_config::Plan;
 use ports::MemoryDesk;
@@ -34,17 +36,12 @@ fn file(alloc: Global, moments: &[u32]) -> Result<Vec<u8>, Fail> {
 
 // Tests that bytes are so many null packets.
 fn assert_null(rt: &impl Abort, bytes: &[u8], packets: usize) {
-    let mut count = 0;
-    for place in 0..bytes.len() {
+    for (place, byte) in bytes.iter().enumerate() {
         let at = place % PACKET;
         let wanted = if at < 4 { NULL_HEAD[at] } else { 0xFF };
-        assert_eq!(rt; bytes[place], wanted);
-        if at == PACKET - 1 {
-            count += 1;
-        }
+        assert_eq!(rt; *byte, wanted);
     }
-    assert_eq!(rt; count, packets);
-    assert_eq!(rt; bytes.len() % PACKET, 0);
+    assert!(rt; bytes.len() / PACKET == packets && bytes.len() % PACKET == 0);
 }
 
 // Tests how a run over a file ends, and that its output is so many null packets. Reads and writes move at most so many bytes.
@@ -58,6 +55,7 @@ fn assert_run(
 ) -> Result<(), Fail>
     requires { 0 < most }
 {
+    plan.obeys_rules();
     let mut desk = MemoryDesk::new(rt.alloc());
     desk.put_file("in", file)?;
     desk.cap(most);
@@ -70,6 +68,10 @@ fn assert_run(
     Ok(())
 }
 
+fn given(first: u64, slots: u64) -> Result<Ran, RunStop> {
+    Ok(Ran { first, slots })
+}
+
 fn refused(number: u64, why: RecordWhy) -> Result<Ran, RunStop> {
     Err(RunStop::RecordRefused { number, why })
 }
@@ -77,40 +79,20 @@ fn refused(number: u64, why: RecordWhy) -> Result<Ran, RunStop> {
 #[test]
 fn muted_records_give_null_packets(rt: HostRuntime) -> Result<(), Fail> {
     let plan = small_plan(rt.alloc())?;
+    let four = [0, FRAME, 2 * FRAME, 3 * FRAME];
+    let five = [0, FRAME, 2 * FRAME, 3 * FRAME, 4 * FRAME];
+    let later = [8 * FRAME, 9 * FRAME, 10 * FRAME, 11 * FRAME];
+    // Frame 2 behind frame 0, and frame 5 behind frame 3.
+    let second = [0, 2 * FRAME];
+    let fifth = [0, FRAME, 2 * FRAME, 3 * FRAME, 5 * FRAME];
     for (moments, wanted, packets) in [
-        ([].as_slice(), Ok(Ran { first: 0, slots: 0 }), 0),
-        ([0].as_slice(), Ok(Ran { first: 0, slots: 0 }), 0),
-        (
-            [0, FRAME, 2 * FRAME, 3 * FRAME].as_slice(),
-            Ok(Ran {
-                first: 0,
-                slots: 14,
-            }),
-            14,
-        ),
-        (
-            [0, FRAME, 2 * FRAME, 3 * FRAME, 4 * FRAME].as_slice(),
-            Ok(Ran {
-                first: 0,
-                slots: 29,
-            }),
-            29,
-        ),
-        (
-            [8 * FRAME, 9 * FRAME, 10 * FRAME, 11 * FRAME].as_slice(),
-            Ok(Ran {
-                first: 101,
-                slots: 29,
-            }),
-            29,
-        ),
-        // Frame 2 behind frame 0, and frame 5 behind frame 3.
-        ([0, 2 * FRAME].as_slice(), refused(1, RecordWhy::Order), 0),
-        (
-            [0, FRAME, 2 * FRAME, 3 * FRAME, 5 * FRAME].as_slice(),
-            refused(4, RecordWhy::Order),
-            14,
-        ),
+        ([].as_slice(), given(0, 0), 0),
+        ([0].as_slice(), given(0, 0), 0),
+        (four.as_slice(), given(0, 14), 14),
+        (five.as_slice(), given(0, 29), 29),
+        (later.as_slice(), given(101, 29), 29),
+        (second.as_slice(), refused(1, RecordWhy::Order), 0),
+        (fifth.as_slice(), refused(4, RecordWhy::Order), 14),
         ([0, FRAME + 1].as_slice(), refused(1, RecordWhy::OffGrid), 0),
     ] {
         let file = file(rt.alloc(), moments)?;
@@ -143,6 +125,7 @@ fn bytes_that_are_no_record_are_refused(rt: HostRuntime) -> Result<(), Fail> {
 #[test]
 fn an_absent_input(rt: HostRuntime) -> Result<(), Fail> {
     let plan = small_plan(rt.alloc())?;
+    plan.obeys_rules();
     let mut desk = MemoryDesk::new(rt.alloc());
     let result = run(rt.alloc(), &plan, 0, "in", "out", &mut desk);
     assert_eq!(rt; result, Err(RunStop::ReadFault));

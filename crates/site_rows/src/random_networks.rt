@@ -50,6 +50,7 @@ const KINDS: [Kind; 4] = [
 ];
 
 // Numbers from a seed.
+#[derive(Drop)]
 struct Draws {
     state: u64,
 }

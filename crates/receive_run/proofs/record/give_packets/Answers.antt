@@ -1,8 +1,7 @@
-use Rattle.std.proofs.Common.{◌≡◌, ◌*◌, ◌+◌, ◌-◌, ◌++◌, List, ℕ, true, false, take, ap, sym, subst, ◌∙◌, arith, rules}
+use Rattle.std.proofs.Common.{◌*◌, ◌+◌, ◌-◌, ◌++◌, List, ℕ, take, ap, sym, subst, ◌∙◌, arith}
 use Rattle.std.proofs.lemmas.Slice.{take-put_mid}
 use Rattle.receive_run.specs.Taking.{GivesPackets}
-use Rattle.plp_receiver.specs.StandsFor.{due_of}
-use Rattle.receive_run.proofs.GiveLemmas.{gives_one, some_given}
+use Rattle.receive_run.proofs.GiveLemmas.{gives_one}
 use Rattle.receive_run.proofs.record.give_packets.Goals as goal
 
 pub loop-count-preserved : goal.loop-count-preserved

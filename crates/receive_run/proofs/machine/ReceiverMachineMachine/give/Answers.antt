@@ -1,5 +1,5 @@
-use Rattle.std.proofs.Common.{refl, ap, ◌∙◌, rules, arith, take, ◌*◌}
-use Rattle.plp_receiver.specs.StandsFor.{network_of, plp_of, due_of}
+use Rattle.std.proofs.Common.{refl, ap, ◌∙◌, rules, arith}
+use Rattle.plp_receiver.specs.StandsFor.{network_of, plp_of}
 use Rattle.receive_run.specs.NextStep.{coming_by, left_by}
 use Rattle.receive_run.proofs.FewLemmas.{few_packets}
 use Rattle.receive_run.proofs.MachineLemmas.{known_of, packets_come, gave_event}
