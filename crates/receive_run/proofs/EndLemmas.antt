@@ -4,7 +4,6 @@ use Rattle.std.specs.Prelude.{nat_lt, slice_index, bit_xor, Result, Ok, Err, ifâ
 use Rattle.std.specs.Int.{IsGcd}
 use Rattle.std.specs.List.{AllZip, range_with_len, concat}
 use Rattle.std.proofs.lemmas.Bool.{eqb-false, ltb-true, ltb-false}
-use Rattle.std.proofs.lemmas.List.{get_or-drop}
 use Rattle.std.proofs.lemmas.Nat.Gcd.{IsGcd-from_zero, IsGcd-from_mod}
 use Rattle.terms.specs.Bits.{field, number_at, bits_of, bytes_of}
 use Rattle.terms.proofs.CaseLemmas.{bool_cases}

@@ -1,5 +1,5 @@
 -- How the run of a receiver ended, by its machine.
-use Rattle.std.proofs.Common.{◌≡◌, ◌≢◌, ℕ, ◌+◌, ◌-◌, ◌<◌, ◌≤◌, Bool, true, false, List, [], ◌∷◌, ◌++◌, length, take, drop, Option, Some, refl, ap, sym, subst, ◌∙◌, inl, inr, arith, append_assoc, append-nil, length-append}
+use Rattle.std.proofs.Common.{◌≡◌, ◌≢◌, ℕ, ◌+◌, ◌-◌, ◌<◌, ◌≤◌, false, List, [], ◌∷◌, ◌++◌, length, take, drop, Option, Some, refl, ap, sym, subst, ◌∙◌, inl, inr, arith, append_assoc, length-append}
 use Rattle.std.specs.Prelude.{◌⊎◌, IfOk, IfErr, slice_index, slice_index_or}
 use Rattle.std.specs.List.{concat}
 use Rattle.std.proofs.Math.Seq.{take-length}
@@ -7,7 +7,6 @@ use Rattle.std.proofs.lemmas.List.{take-append-drop}
 use Rattle.std.proofs.lemmas.List.Folds.{concat-append}
 use Rattle.std.proofs.lemmas.Option.{IfSome_then}
 use Rattle.terms.proofs.OptionLemmas.{if_both, some_injective, none_some}
-use Rattle.terms.proofs.RangeLemmas.{one_listed}
 use Rattle.ports.specs.Desk.{State, bytes_of}
 use Rattle.plp_config.specs.Rules.{AllRules}
 use Rattle.plp_config.specs.declared.config.Config.{Config}
@@ -29,7 +28,6 @@ use Rattle.file_run.specs.Steps.{Wants, FallsShort}
 use Rattle.file_run.specs.declared.machine.Step.TheVariants.{Read, Give, End}
 use Rattle.file_run.specs.declared.stop.RunFault.{RunFault}
 use Rattle.file_run.specs.declared.stop.RunFault.TheVariants as fault
-use Rattle.file_run.proofs.StandsLemmas.{works_by}
 use Rattle.receive_run.specs.AsMachine.{next_of, Behind, IsBegun, GavePackets, Given, first_of, Shown, Becomes, ran_by, ending_of, stop_by}
 use Rattle.receive_run.specs.NextStep.{step_of, gives}
 use Rattle.receive_run.specs.ReceiveRun.{HasAll, RunsAll, HasBefore, MeetsRefused, HasMet, GivesTooMuch, StopsReading, HasSome, StopsWriting, Stops}

@@ -2,7 +2,7 @@
 use Rattle.std.proofs.Common.{◌≡◌, ℕ, suc, ◌+◌, ◌<◌, ◌≤◌, Bool, List, [], ◌∷◌, ◌++◌, length, map, take, drop, Option, refl, ap, ap₂, sym, subst, ◌∙◌, inl, inr, ⊎_elim, arith, append-nil}
 use Rattle.std.specs.Prelude.{◌⊎◌}
 use Rattle.std.specs.List.{range_with_len}
-use Rattle.std.proofs.lemmas.List.{take-append-drop, length-take-le}
+use Rattle.std.proofs.lemmas.List.{take-append-drop}
 use Rattle.plp_config.specs.Emission.{emission}
 use Rattle.plp_config.specs.Rules.{AllRules}
 use Rattle.plp_config.specs.declared.config.Config.{Config}

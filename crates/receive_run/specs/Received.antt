@@ -1,10 +1,8 @@
 -- What stands in the output after the records of a file.
-use Rattle.std.specs.Prelude.{◌≡◌, ◌⊎◌, ℕ, ◌+◌, ◌-◌, ◌*◌, ◌≤◌, List, [], ◌∷◌, length, map, Option, Some, None}
-use Rattle.std.specs.List.{concat, range_with_len}
-use Rattle.plp_config.specs.Emission.{emission}
+use Rattle.std.specs.Prelude.{◌≡◌, ◌⊎◌, ℕ, ◌+◌, ◌-◌, ◌*◌, List, [], ◌∷◌, length, Option, Some, None}
+use Rattle.std.specs.List.{concat}
 use Rattle.plp_config.specs.SlotTime.{slots_by}
 use Rattle.plp_config.specs.declared.config.Config.{Config}
-use Rattle.plp_config.specs.declared.moment.TheConstants.{MOST_FRAMES}
 use Rattle.site_frame.specs.Placing.{RefusesPlace}
 use Rattle.site_frame.specs.RecordFile.{IsNoRecord, IsOnGrid}
 use Rattle.site_frame.specs.Whole.{BeginsWith, moment_of}
