@@ -20,8 +20,8 @@ fn parsed(word: &[u8]) -> Option<u64>
     }
 }
 
-/// The number that a word spells in decimal, without sign and leading zeros, if it is below 2^64.
-pub fn number(word: &[u8]) -> Option<u64>
+// The number that a word spells in decimal, without sign and leading zeros, if it is below 2^64.
+fn number(word: &[u8]) -> Option<u64>
     ensures some { IfSome result (λ n. word.now ≡ decimal n) }
     ensures none { IfNone result ((n : ℕ) → n < 2 ^ 64 → word.now ≢ decimal n) }
 {
@@ -33,7 +33,7 @@ pub fn number(word: &[u8]) -> Option<u64>
     }
 }
 
-/// The same, if it is from the least to the greatest.
+/// The number that a word spells in decimal, without sign and leading zeros, if it is from the least to the greatest.
 pub fn number_within(word: &[u8], least: u64, greatest: u64) -> Option<u64>
     ensures some { IfSome result (λ n. SpellsValue (Number least greatest) n word.now) }
     ensures none { IfNone result ((n : ℕ) → SpellsValue (Number least greatest) n word.now → ⊥) }

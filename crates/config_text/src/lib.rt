@@ -15,7 +15,7 @@ mod values;
 mod words;
 mod writing;
 
-pub use decimal::number;
+pub use decimal::number_within;
 pub use fault::{TextFault, TextWhy};
 pub use laws::{decided, not_refused, refused_once, spelled_once};
 pub use reading::{MOST_BYTES, read};

@@ -217,3 +217,13 @@ fn a_text_of_two_plps_is_read_and_written_back(rt: HostRuntime) -> Result<(), Fa
     assert_eq!(rt; written.as_slice(), text.as_bytes());
     Ok(())
 }
+
+#[test]
+fn a_number_is_one_word_without_sign_and_leading_zeros(rt: HostRuntime) -> Result<(), Fail> {
+    assert_eq!(rt; number_within(b"255", 0, 255), Some(255));
+    let wrong: [&[u8]; 5] = [b"256", b"01", b"+1", b"", b"1 "];
+    for word in wrong {
+        assert_eq!(rt; number_within(word, 0, 255), None);
+    }
+    Ok(())
+}

@@ -47,7 +47,9 @@ fn say_usage(rt: &impl Eprint, words: &[Word]) -> io::Result<()> {
     } else if is_gateway(words) || is_modulate(words) {
         eprint!(rt; "OUT must be neither CONFIG nor an IN\n{COMMANDS}")
     } else if is_receive(words) {
-        eprint!(rt; "PLP must be a decimal number from 0 to 255, without sign and leading zeros, and OUT neither CONFIG nor IN\n{COMMANDS}")
+        eprint!(rt;
+            "PLP must be a decimal number from 0 to 255, without sign and leading zeros, and OUT neither CONFIG nor IN\n{COMMANDS}"
+        )
     } else {
         eprint!(rt; "these words are no command\n{COMMANDS}")
     }

@@ -9,7 +9,8 @@ use std::process::Abort;
 use std::test::Fail;
 
 // Frames of 100,000 ticks of 7/64 microseconds.
-const HEAD: &str = "t2-gateway 1\nbandwidth 8\nframe 100000 2 60000\nstart 700000000 0 5\npid 256\nnetwork 1 2 3 474000000\nl1 0 6 1 0 1 0 0 1000 6 0 59 0\n";
+const HEAD: &str =
+    "t2-gateway 1\nbandwidth 8\nframe 100000 2 60000\nstart 700000000 0 5\npid 256\nnetwork 1 2 3 474000000\nl1 0 6 1 0 1 0 0 1000 6 0 59 0\n";
 
 const TICKS: u64 = 100_000;
 
@@ -99,9 +100,10 @@ impl Plp {
     fn line(&self, alloc: Global) -> Result<String, Fail> {
         let kind = if self.type2 { "type2" } else { "type1" };
         let deletion = if self.delete { "delete" } else { "keep" };
-        Ok(
-            format!(in alloc; "plp {} {kind} 1 {} 0 {} {} {deletion} {}\n", self.id, self.kind.code, self.blocks, self.interleave, self.bits_per_second)?,
-        )
+        Ok(format!(in alloc;
+            "plp {} {kind} 1 {} 0 {} {} {deletion} {}\n",
+            self.id, self.kind.code, self.blocks, self.interleave, self.bits_per_second
+        )?)
     }
 
     // The bytes of a user packet, and those that a frame carries at most.
@@ -145,7 +147,11 @@ fn input(alloc: Global, draws: &mut Draws, plp: Plp) -> Result<Vec<u8>, Fail> {
         } else {
             &[0x47, 0x01, 0x00, 0x10]
         })?;
-        let filler = if null && plp.delete { 0xFF } else { number as u8 };
+        let filler = if null && plp.delete {
+            0xFF
+        } else {
+            number as u8
+        };
         bytes.extend_from_slice(&[filler; 184])?;
     }
     Ok(bytes)
@@ -171,7 +177,11 @@ impl Network {
 }
 
 // Runs a command that is done.
-fn done(rt: &(impl AllocGlobal + Abort), desk: &mut MemoryDesk, words: &[&str]) -> Result<(), Fail> {
+fn done(
+    rt: &(impl AllocGlobal + Abort),
+    desk: &mut MemoryDesk,
+    words: &[&str],
+) -> Result<(), Fail> {
     let words = words_of(rt.alloc(), words)?;
     assert_eq!(rt; run(rt.alloc(), words.as_slice(), desk), Outcome::Done);
     Ok(())
@@ -269,7 +279,13 @@ fn add_null(out: &mut Vec<u8>) -> Result<(), Fail> {
 }
 
 // What must come back in so many slots.
-fn expected(alloc: Global, plp: Plp, sent: &[u8], muted: &[bool], slots: usize) -> Result<Vec<u8>, Fail> {
+fn expected(
+    alloc: Global,
+    plp: Plp,
+    sent: &[u8],
+    muted: &[bool],
+    slots: usize,
+) -> Result<Vec<u8>, Fail> {
     let losses = losses(alloc, plp, sent, muted)?;
     let len = plp.user_packet();
     let mut out = Vec::new(alloc);
@@ -293,7 +309,12 @@ fn expected(alloc: Global, plp: Plp, sent: &[u8], muted: &[bool], slots: usize) 
 }
 
 // What comes back of each PLP is what must, and as many slots at least as packets were sent.
-fn comes_back(rt: &(impl AllocGlobal + Abort), network: &Network, records: &[u8], muted: &[bool]) -> Result<(), Fail> {
+fn comes_back(
+    rt: &(impl AllocGlobal + Abort),
+    network: &Network,
+    records: &[u8],
+    muted: &[bool],
+) -> Result<(), Fail> {
     let alloc = rt.alloc();
     for (plp, sent) in network.plps.iter().zip(network.inputs.as_slice()) {
         let mut desk = MemoryDesk::new(alloc);

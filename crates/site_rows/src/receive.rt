@@ -12,7 +12,8 @@ use std::test::Fail;
 const KEPT: &str = "plp 0 type1 1 1/2 qpsk short 0 4 1 keep 2000000\n";
 
 // Two PLPs of type 1 and one of type 2, whose blocks are sent in sub-slices.
-const MIXED: &str = "t2-gateway 1\nbandwidth 8\nframe 100000 2 60000\nstart 700000000 0 5\npid 256\nnetwork 1 2 3 474000000\nl1 0 6 1 0 1 0 0 1000 6 0 59 0\nsubslices 5\n\
+const MIXED: &str =
+    "t2-gateway 1\nbandwidth 8\nframe 100000 2 60000\nstart 700000000 0 5\npid 256\nnetwork 1 2 3 474000000\nl1 0 6 1 0 1 0 0 1000 6 0 59 0\nsubslices 5\n\
 plp 1 type1 1 1/2 qpsk short 0 3 1 delete 1906000\nplp 2 type1 1 2/3 16qam short 0 2 2 keep 1500000\nplp 3 type2 2 3/5 64qam short 0 2 1 delete 1600000\n";
 
 // Muted records of the frames 0 and 2.
@@ -71,7 +72,11 @@ fn numbered(alloc: Global, count: u16) -> Result<Vec<u8>, Fail> {
 }
 
 // Runs a command that is done.
-fn done(rt: &(impl AllocGlobal + Abort), desk: &mut MemoryDesk, words: &[&str]) -> Result<(), Fail> {
+fn done(
+    rt: &(impl AllocGlobal + Abort),
+    desk: &mut MemoryDesk,
+    words: &[&str],
+) -> Result<(), Fail> {
     let words = words_of(rt.alloc(), words)?;
     assert_eq!(rt; run(rt.alloc(), words.as_slice(), desk), Outcome::Done);
     Ok(())
@@ -79,11 +84,19 @@ fn done(rt: &(impl AllocGlobal + Abort), desk: &mut MemoryDesk, words: &[&str]) 
 
 // A file of a desk.
 fn file_of(alloc: Global, desk: &MemoryDesk, name: &str) -> Result<Vec<u8>, Fail> {
-    Ok(desk.file(name).map_or(&[][..], |bytes| bytes).to_vec(alloc)?)
+    Ok(
+        desk.file(name)
+            .map_or(&[][..], |bytes| bytes)
+            .to_vec(alloc)?,
+    )
 }
 
 // The stream of a network with one PLP.
-fn stream_of(rt: &(impl AllocGlobal + Abort), config: &str, packets: &[u8]) -> Result<Vec<u8>, Fail> {
+fn stream_of(
+    rt: &(impl AllocGlobal + Abort),
+    config: &str,
+    packets: &[u8],
+) -> Result<Vec<u8>, Fail> {
     let mut desk = MemoryDesk::new(rt.alloc());
     desk.put_file("c", config.as_bytes())?;
     desk.put_file("0", packets)?;
@@ -128,11 +141,25 @@ fn null_packets(rt: HostRuntime) -> Result<(), Fail> {
     let alloc = rt.alloc();
     let small = format!(in alloc; "{NETWORK}{SMALL}")?;
     let none = stream_of(&rt, &small, &[])?;
-    gives_back(&rt, &small, &[], &none, "first=0 slots=14\n", &[Slots::Null(14)])?;
+    gives_back(
+        &rt,
+        &small,
+        &[],
+        &none,
+        "first=0 slots=14\n",
+        &[Slots::Null(14)],
+    )?;
     let mut nulls = Vec::new(alloc);
     add_nulls(&mut nulls, 300)?;
     let stream = stream_of(&rt, &small, &nulls)?;
-    gives_back(&rt, &small, &[], &stream, "first=0 slots=305\n", &[Slots::Null(305)])?;
+    gives_back(
+        &rt,
+        &small,
+        &[],
+        &stream,
+        "first=0 slots=305\n",
+        &[Slots::Null(305)],
+    )?;
     let kept = format!(in alloc; "{NETWORK}{KEPT}")?;
     for last in nulls.iter_mut().skip(187).step_by(188) {
         *last = 0;
@@ -165,7 +192,12 @@ fn a_lost_unit_costs_the_slots_of_its_frames(rt: HostRuntime) -> Result<(), Fail
         .map_or(&[][..], |front| front)
         .to_vec(alloc)?;
     lossy.extend_from_slice(stream.get(46 * 188..).map_or(&[][..], |rest| rest))?;
-    let slots = [Slots::Sent(0, 26), Slots::Null(29), Slots::Sent(55, 110), Slots::Null(14)];
+    let slots = [
+        Slots::Sent(0, 26),
+        Slots::Null(29),
+        Slots::Sent(55, 110),
+        Slots::Null(14),
+    ];
     gives_back(&rt, &config, &sent, &lossy, "first=0 slots=124\n", &slots)
 }
 
@@ -178,7 +210,12 @@ fn a_damaged_timestamp_costs_the_slots_of_its_frame(rt: HostRuntime) -> Result<(
     if let Some(byte) = stream.get_mut(2_928) {
         *byte = !*byte;
     }
-    let slots = [Slots::Sent(0, 13), Slots::Null(14), Slots::Sent(27, 110), Slots::Null(14)];
+    let slots = [
+        Slots::Sent(0, 13),
+        Slots::Null(14),
+        Slots::Sent(27, 110),
+        Slots::Null(14),
+    ];
     gives_back(&rt, &config, &sent, &stream, "first=0 slots=124\n", &slots)
 }
 
@@ -188,7 +225,14 @@ fn a_realistic_network(rt: HostRuntime) -> Result<(), Fail> {
     let sent = numbered(rt.alloc(), 23_847)?;
     let stream = stream_of(&rt, REALISTIC_TEXT, &sent)?;
     let slots = [Slots::Sent(0, 23_847), Slots::Null(5_962)];
-    gives_back(&rt, REALISTIC_TEXT, &sent, &stream, "first=0 slots=29809\n", &slots)
+    gives_back(
+        &rt,
+        REALISTIC_TEXT,
+        &sent,
+        &stream,
+        "first=0 slots=29809\n",
+        &slots,
+    )
 }
 
 // The stream of the network of three PLPs, over inputs of which each packet has its number.
@@ -218,7 +262,10 @@ fn each_plp_of_a_network_of_both_types(rt: HostRuntime) -> Result<(), Fail> {
     let sent = numbered(rt.alloc(), 80)?;
     let stream = mixed_stream(&rt, &sent)?;
     let later = stream.get(20 * 188..).map_or(&[][..], |units| units);
-    let mut lossy = stream.get(..60 * 188).map_or(&[][..], |front| front).to_vec(rt.alloc())?;
+    let mut lossy = stream
+        .get(..60 * 188)
+        .map_or(&[][..], |front| front)
+        .to_vec(rt.alloc())?;
     lossy.extend_from_slice(stream.get(61 * 188..).map_or(&[][..], |rest| rest))?;
     for plp in ["1", "2", "3"] {
         let all = received(&rt, MIXED, plp, &stream, "\n")?;

@@ -314,7 +314,7 @@ receive_ways old mid new id file out c outcome same (inl (none, stay, is)) = inl
 receive_ways old mid new id file out c outcome same (inr (plp, at, inl (stop, stops, is))) =
     ⊎_elim (λ m. inl (subst (ReceptionMust mid file id c) (sym is) m)) (λ by. inr (by_before old mid new outcome same (subst (By mid new) (sym is) by)))
     (receive_stops c id plp mid new file out stop at stops)
-receive_ways old mid new id file out c outcome same (inr (plp, at, inr (ran, after, runs, tells))) =
+receive_ways old mid new id file out c outcome same (inr (plp, at, inr (ran, after, runs, holds, tells))) =
     ⊎_elim
     (λ (done : outcome ≡ Done). inl (subst (ReceptionMust mid file id c) (sym done) (receive_ends c id plp mid after file out ran at runs)))
     inr

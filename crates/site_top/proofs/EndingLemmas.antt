@@ -111,13 +111,13 @@ one_place c id plp other at there = elim (cases_eq other plp) [ inl same ↦ sam
 
 over_place : OneReception → (bytes : List ℕ) (id : ℕ) (c : Config) (result outcome : Outcome) → IsPlan c → ReceivesIfShort bytes id c result → ReceiveMustEnd bytes id c outcome → result ≡ outcome
 over_place run bytes id c result outcome plan (inl a) (inl b) = a.1 ∙ sym b.1
-over_place run bytes id c result outcome plan (inl a) (inr (other, there, must)) = absurd (a.0 other there.inside there.own)
+over_place run bytes id c result outcome plan (inl a) (inr (other, there, short, must)) = absurd (a.0 other there.inside there.own)
 over_place run bytes id c result outcome plan (inr (plp, at, mine)) (inl b) = absurd (b.0 plp at.inside at.own)
-over_place run bytes id c result outcome plan (inr (plp, at, mine)) (inr (other, there, must)) =
-    let r = mine must.0 in
+over_place run bytes id c result outcome plan (inr (plp, at, mine)) (inr (other, there, short, must)) =
+    let r = mine short in
     let same : other ≡ plp = one_place c id plp other at there in
-    let m = subst (λ (k : ℕ). ReceiveMust c k bytes must.1.0) same must.1.1 in
-    r.2 ∙ ap receive_outcome (run c plp bytes r.0 must.1.0 plan r.1 m) ∙ sym must.1.2
+    let m = subst (λ (k : ℕ). ReceiveMust c k bytes must.0) same must.1 in
+    r.2 ∙ ap receive_outcome (run c plp bytes r.0 must.0 plan r.1 m) ∙ sym must.2
 
 pub received_so : OnePlan → OneReception → (held : Held) (config file out : List ℕ) (id : ℕ) (c : Config) (result outcome : Outcome) → GivesPlan (bytes_of held.files config) (Ok c) → ReceivesIfShort (bytes_of held.files file) id c result
     → MustEnd (Receive config id file out) held outcome → result ≡ outcome
@@ -126,7 +126,7 @@ received_so one run held config file out id c result outcome plan mine must =
 
 must_if_short : (bytes : List ℕ) (id : ℕ) (c : Config) (outcome : Outcome) → ReceiveMustEnd bytes id c outcome → ReceivesIfShort bytes id c outcome
 must_if_short bytes id c outcome (inl none) = inl none
-must_if_short bytes id c outcome (inr (plp, at, must)) = inr (plp, at, λ short. must.1)
+must_if_short bytes id c outcome (inr (plp, at, short, must)) = inr (plp, at, λ x. must)
 
 one_receiving : OnePlan → OneReception → (held : Held) (config file out : List ℕ) (id : ℕ) (outcome other : Outcome) → MustEnd (Receive config id file out) held outcome → MustEnd (Receive config id file out) held other → outcome ≡ other
 one_receiving one run held config file out id outcome other (inl (stop, gives, is)) b =

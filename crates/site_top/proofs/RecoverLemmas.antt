@@ -4,6 +4,7 @@ use Rattle.std.specs.Prelude.{IfSome, unwrap_or, replicate}
 use Rattle.std.specs.FinMap.{get}
 use Rattle.std.specs.List.{AllByRecursion, concat, range_with_len}
 use Rattle.std.proofs.Math.Seq.{drop-append_seam}
+use Rattle.std.proofs.lemmas.Bool.{cond_both}
 use Rattle.std.proofs.lemmas.Option.{same_Some}
 use Rattle.ports.specs.Desk.{State, Held, bytes_of}
 use Rattle.plp_config.specs.Capacity.{IsPlan}
@@ -26,7 +27,6 @@ use Rattle.frame_records.specs.Frames.{frame_of, run_frames}
 use Rattle.frame_records.specs.Laws.{RangeFits}
 use Rattle.frame_records.specs.Records.{record_of, file_bytes}
 use Rattle.frame_records.specs.Recover.{recover}
-use Rattle.frame_records.proofs.RecordLemmas.{moment_either}
 use Rattle.sent_frames.specs.SentFrames.{run_length}
 use Rattle.sent_frames.specs.Types.{TypesFit}
 use Rattle.plp_receiver.specs.Taken.{Readback}
@@ -58,7 +58,7 @@ written_back read spells (w ∷ ws) all = (
   subst (λ (bytes : List ℕ). AreRecords bytes ws []) (sym (drop-append_seam (record_bytes w) (file_bytes ws))) (written_back read spells ws all.1),
 )
 
-first_of : List Moment → Moment → Moment
+abbrev first_of : List Moment → Moment → Moment
 first_of [] other = other
 first_of (x ∷ xs) other = x
 
@@ -71,7 +71,7 @@ module _ (laws : FileLaws) (c : Config) (plan : IsPlan c) (types : TypesFit c) (
   -- and the first one is of the frame that it was written of
   first_is : (inputs : ℕ → List (List ℕ)) (whole : ℕ → Bool) (first count n : ℕ) → first + suc count ≤ MOST_FRAMES → IsOnGrid c n (map (record_of c inputs whole) (range_with_len first (suc count))) → n ≡ first
   first_is inputs whole first count n small grid =
-      let own : moment_of (record_of c inputs whole first) ≡ emission c first = moment_either (whole first) (frame_of c inputs first) c first refl in
+      let own : moment_of (record_of c inputs whole first) ≡ emission c first = cond_both {A = RecordView} (whole first) (frame_of c inputs first) (Muted (emission c first)) (λ (v : RecordView). moment_of v ≡ emission c first) (λ t. refl) (λ f. refl) in
       let told : moment_of (record_of c inputs whole first) ≡ emission c n = ap (λ xs. first_of xs (emission c n)) grid.moments in
       let few = grid.small in
       laws.frame c (emission c n) n first plan.rules (record { small = omega (arith, few); emission-is = refl }) (record { small = omega (arith, small); emission-is = sym told ∙ own })
@@ -113,7 +113,7 @@ module _ (laws : FileLaws) (c : Config) (plan : IsPlan c) (types : TypesFit c) (
   run_back : (file bytes : List ℕ) (views : List RecordView) → AreRecords file views [] → Received c plp views bytes → (inputs : ℕ → List (List ℕ)) → AllByRecursion IsPacket (inputs plp) → AllByRecursion (IsCanonical (plp_at c.plps plp).delete) (inputs plp)
       → run_length c inputs ≤ MOST_FRAMES → file ≡ file_bytes (run_frames c inputs) → (nulls : ℕ) × (bytes ≡ concat (inputs plp ++ replicate nulls null_packet))
   run_back file bytes views records r inputs all canonical small is =
-      let back : Readback c plp 0 (run_frames c inputs) r.packets = packets_back file bytes views records r inputs (λ n. true) 0 (run_length c inputs) (some_frames inputs) small is in
+      let back : Readback c plp 0 (run_frames c inputs) r.packets = packets_back file bytes views records r inputs (λ n. true) 0 (run_length c inputs) (some_frames inputs) (omega (arith, small)) is in
       let b = laws.back c plp inputs r.packets plan types inside all canonical back in
       (b.0, r.bytes_are ∙ ap concat b.1)
 

@@ -49,7 +49,7 @@ modulate_of modulate config file out =
     if bytes_eq modulate (codes "modulate") && not (is_empty out) && is_input out config && is_input out file then Some (Modulate config file out) else None
 
 -- the identifier of a PLP that a word names: the number of one byte whose decimal it is
-abbrev pub plp_named : List ℕ → Option ℕ
+unfoldable pub plp_named : List ℕ → Option ℕ
 plp_named word = find (λ id. bytes_eq word (decimal id)) (range_with_len 0 256)
 
 -- the command of the words `receive CONFIG PLP IN OUT`
@@ -61,18 +61,17 @@ receive_of receive config plp file out =
 abbrev pub show_of : List ℕ → List ℕ → List ℕ → Option Command
 show_of show what file = if bytes_eq show (codes "show") && not (is_empty file) then shown what file else None
 
--- the command of three words or more
-abbrev pub longer : List ℕ → List ℕ → List ℕ → List (List ℕ) → Option Command
-longer first second third [] = if bytes_eq first (codes "gateway") then gateway_of second third [] else show_of first second third
-longer first second third (fourth ∷ []) = if bytes_eq first (codes "gateway") then gateway_of second third (fourth ∷ []) else modulate_of first second third fourth
-longer first second third (fourth ∷ fifth ∷ []) =
-    if bytes_eq first (codes "gateway") then gateway_of second third (fourth ∷ fifth ∷ []) else receive_of first second third fourth fifth
-longer first second third (fourth ∷ fifth ∷ more) = if bytes_eq first (codes "gateway") then gateway_of second third (fourth ∷ fifth ∷ more) else None
+-- the command of three words or more that has a number of words
+abbrev pub counted_of : List ℕ → List ℕ → List ℕ → List (List ℕ) → Option Command
+counted_of first second third [] = show_of first second third
+counted_of first second third (fourth ∷ []) = modulate_of first second third fourth
+counted_of first second third (fourth ∷ fifth ∷ []) = receive_of first second third fourth fifth
+counted_of first second third (fourth ∷ fifth ∷ more) = None
 
 -- the command that words name; no word of a command is empty
 abbrev pub command_of : List (List ℕ) → Option Command
 command_of (plan ∷ config ∷ []) = if bytes_eq plan (codes "plan") && not (is_empty config) then Some (Plan config) else None
-command_of (first ∷ second ∷ third ∷ more) = longer first second third more
+command_of (first ∷ second ∷ third ∷ more) = if bytes_eq first (codes "gateway") then gateway_of second third more else counted_of first second third more
 command_of words = None
 
 -- the command that a request means

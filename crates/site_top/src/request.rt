@@ -3,7 +3,7 @@ ghost use Rattle.std.specs.Prelude.{◌≡◌, IfSome};
 ghost use Rattle.std.specs.Option.{option_map};
 ghost use Rattle.site_top.specs.Commands.{command_of, shown as shown_by, show_of as show_by, is_input, are_inputs, gateway_of as gateway_by, modulate_of as modulate_by, plp_named as plp_by, receive_of as receive_by, meant, IsApart};
 
-use config_text::number;
+use config_text::number_within;
 use ports::Word;
 
 /// A command, with the names of its files.
@@ -116,12 +116,11 @@ fn modulate_of<'a>(
 }
 
 // The identifier of a PLP that a word names.
-#[tactic(auto, using(crate::proofs::RequestLemmas::names_plp, crate::proofs::RequestLemmas::names_none))]
 fn plp_named(word: &str) -> Option<u8>
     ensures { result ≡ plp_by word.now }
 {
-    let id = number(word.as_bytes())?;
-    u8::try_from(id).ok()
+    let id = number_within(word.as_bytes(), 0, u64::from(u8::MAX))?;
+    Some(id as u8)
 }
 
 // The command `receive CONFIG PLP IN OUT`, where the output is none of the files that are read.

@@ -31,12 +31,14 @@ fn command<D: Desk>(alloc: Global, words: &[Word], desk: &mut D) -> Outcome
         Some(Request::Plan { config }) => plan(alloc, config, desk),
         Some(Request::Gateway { config, out, ins }) => gateway(alloc, config, out, ins, desk),
         Some(Request::Modulate { config, input, out }) => modulate(alloc, config, input, out, desk),
-        Some(Request::Receive {
-            config,
-            plp,
-            input,
-            out,
-        }) => receive(alloc, config, plp, input, out, desk),
+        Some(
+            Request::Receive {
+                config,
+                plp,
+                input,
+                out,
+            },
+        ) => receive(alloc, config, plp, input, out, desk),
         None => Outcome::Usage,
     }
 }
