@@ -183,7 +183,7 @@ whole_becomes front start m mid n was now piece len b known idle a going announc
 nothing_before : (c : Config) (plp : ℕ) (m : ReceiverMachine) (was : List Event) → m.coming ≡ Head → (s : Shown c plp m was) → (s.rest ≡ []) × (m.left ≡ head_len) × (has_ended 0 was ≡ false)
 nothing_before c plp m was heads s = subst (λ (p : Coming). Behind c (expected_after s.first s.views) p m.bytes.items m.left s.rest (has_ended 0 was)) heads s.behind
 
-idle_at : (m : ReceiverMachine) (p : Coming) → m.coming ≡ p → gives p ≡ false → gives m.coming ≡ false
+pub idle_at : (m : ReceiverMachine) (p : Coming) → m.coming ≡ p → gives p ≡ false → gives m.coming ≡ false
 idle_at m p is idle = ap gives is ∙ idle
 
 -- a head alone announces what follows it

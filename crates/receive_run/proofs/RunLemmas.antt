@@ -35,7 +35,7 @@ use Rattle.receive_run.specs.Received.{GivesBack, Received, ran_of, expected_aft
 use Rattle.receive_run.specs.declared.machine.Coming.{Coming}
 use Rattle.receive_run.specs.declared.machine.Coming.TheVariants.{Head, Rest, Packets, Refused, Finished}
 use Rattle.receive_run.specs.declared.machine.ReceiverMachine.{ReceiverMachine}
-use Rattle.receive_run.proofs.MachineLemmas.{packets_come}
+use Rattle.receive_run.proofs.MachineLemmas.{packets_come, idle_at}
 use Rattle.site_frame.proofs.RecordFileLemmas.{records_on, rest_inside, announces_on}
 use Rattle.receive_run.proofs.SameLemmas.{successive_front, same_views}
 use Rattle.file_run.proofs.OneInputLemmas.{writes_by, whole_file}
@@ -85,9 +85,6 @@ plan_of m = network_of m.receiver
 
 abbrev place_of : ReceiverMachine → ℕ
 place_of m = plp_of m.receiver
-
-idle_at : (m : ReceiverMachine) (p : Coming) → m.coming ≡ p → gives p ≡ false → gives m.coming ≡ false
-idle_at m p is idle = ap gives is ∙ idle
 
 behind_at : (c : Config) (plp : ℕ) (m : ReceiverMachine) (events : List Event) (p : Coming) → m.coming ≡ p → (s : Shown c plp m events) → Behind c (expected_after s.first s.views) p m.bytes.items m.left s.rest (has_ended 0 events)
 behind_at c plp m events p is s = subst (λ (q : Coming). Behind c (expected_after s.first s.views) q m.bytes.items m.left s.rest (has_ended 0 events)) is s.behind
