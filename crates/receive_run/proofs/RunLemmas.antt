@@ -30,7 +30,7 @@ use Rattle.file_run.specs.declared.stop.RunFault.{RunFault}
 use Rattle.file_run.specs.declared.stop.RunFault.TheVariants as fault
 use Rattle.receive_run.specs.AsMachine.{next_of, Behind, IsBegun, GavePackets, Given, first_of, Shown, Becomes, ran_by, ending_of, stop_by}
 use Rattle.receive_run.specs.NextStep.{step_of, gives}
-use Rattle.receive_run.specs.ReceiveRun.{HasAll, RunsAll, HasBefore, MeetsRefused, HasMet, GivesTooMuch, StopsReading, HasSome, StopsWriting, Stops}
+use Rattle.receive_run.specs.ReceiveRun.{HasAll, RunsAll, HasBefore, MeetsRefused, HasMet, HasMetPart, LacksSome, GivesTooMuch, StopsReading, HasSome, StopsWriting, Stops}
 use Rattle.receive_run.specs.Received.{GivesBack, Received, ran_of, expected_after}
 use Rattle.receive_run.specs.declared.machine.Coming.{Coming}
 use Rattle.receive_run.specs.declared.machine.Coming.TheVariants.{Head, Rest, Packets, Refused, Finished}
@@ -192,6 +192,40 @@ has_met c plp m events file bytes place waits s f near holds =
       within = subst (EndsWithin rest) counted (ends_within c plp m events f.more count waits s (omega (arith, near, at, ahead)));
     }
 
+-- of what is wanted some was not read
+lacks_some : (c : Config) (plp : ℕ) (m : ReceiverMachine) (events : List Event) (more : List ℕ) (input count : ℕ) → Waits m.coming → (s : Shown c plp m events) → FallsShort (step_of m.coming m.left) input count → LacksSome (s.rest ++ more) (length s.rest + count)
+lacks_some c plp m events more input count (inl heads) s f =
+    let b = behind_at c plp m events Head heads s in
+    let none = ap length b.0 in
+    let less : count < head_len = (subst (λ (p : Coming). FallsShort (step_of p m.left) input count) heads f).1 in
+    inl (omega (arith, none, less))
+lacks_some c plp m events more input count (inr rests) s f =
+    let begun : IsBegun s.rest m.left = (behind_at c plp m events Rest rests s).1 in
+    let lacks = begun.lacks in
+    let less : count < 1 = (subst (λ (p : Coming). FallsShort (step_of p m.left) input count) rests f).1 in
+    let some : 0 < m.left = (m.room rests).0 in
+    inr (begun.len, announces_on s.rest more begun.len begun.announces, omega (arith, lacks, less, some))
+
+has_met_part : (c : Config) (plp : ℕ) (m : ReceiverMachine) (events : List Event) (file bytes : List ℕ) (place input : ℕ) → Waits m.coming → (s : Shown c plp m events) → IsFed file place (fed 0 events) (has_ended 0 events) → FallsShort (step_of m.coming m.left) input (place - length (fed 0 events)) → bytes ≡ gave events
+    → HasMetPart c plp place file bytes
+has_met_part c plp m events file bytes place input waits s f wants holds =
+    let g = all_given c plp m events (waits_idle m.coming waits) s in
+    let rest : List ℕ = s.rest ++ f.more in
+    let count : ℕ = place - length (fed 0 events) in
+    let size = ap length f.parts in
+    let sum = length-append (fed 0 events) f.more in
+    let both = length-append s.rest f.more in
+    let inside = rest_inside (fed 0 events) s.rest s.views s.records in
+    let ahead = f.ahead in
+    let counted : length s.rest + count ≡ place - bytes_before file rest = omega (arith, size, sum, both, inside, ahead) in
+    record {
+      views = s.views;
+      rest = rest;
+      records = records_file file (fed 0 events) f.more s.rest s.views f.parts s.records;
+      received = received c plp m events bytes s g holds;
+      within = subst (LacksSome rest) counted (lacks_some c plp m events f.more input count waits s wants);
+    }
+
 abbrev reach_of : ReceiverMachine → ℕ → ℕ
 reach_of m input = m.at + m.left
 
@@ -218,10 +252,12 @@ stops_reading start now old new name out input g =
     let plp : ℕ = place_of start in
     let s = g.stands in
     let at : ℕ = slice_index s.places 0 in
+    let first : input ≡ 0 = let p = g.place in omega (arith, p) in
+    let wants = subst (λ (k : ℕ). FallsShort (next_of now) k (slice_index s.places k - length (fed k s.events))) first g.wants in
     record {
       place = at;
       short = (let n = s.works.all in g.short 0 (omega (arith, n)));
-      works = writes_by (HasMet c plp at) s (λ file bytes f holds. has_met c plp now s.events file bytes at (lacked now.coming now.left input _ g.wants) s.came.shown f (s.within 0 (omega arith)) holds);
+      works = writes_by (HasMetPart c plp at) s (λ file bytes f holds. has_met_part c plp now s.events file bytes at 0 (lacked now.coming now.left input _ g.wants) s.came.shown f wants holds);
     }
 
 -- ---- and where the output could not be written on

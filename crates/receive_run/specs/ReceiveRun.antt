@@ -1,8 +1,9 @@
 -- What a run of the receiver over a file of records does, from the opening of its input on.
-use Rattle.std.specs.Prelude.{◌≡◌, ◌≢◌, ◌⊎◌, ℕ, ◌-◌, ◌<◌, ◌≤◌, List, [], ◌∷◌, ◌++◌, length, IfSome}
+use Rattle.std.specs.Prelude.{◌≡◌, ◌≢◌, ◌⊎◌, ℕ, ◌+◌, ◌-◌, ◌<◌, ◌≤◌, List, [], ◌∷◌, ◌++◌, length, IfSome}
 use Rattle.ports.specs.Desk.{State, SameCounts, bytes_of}
 use Rattle.plp_config.specs.declared.config.Config.{Config}
-use Rattle.site_frame.specs.RecordFile.{AreRecords, EndsWithin, bytes_before}
+use Rattle.site_frame.specs.Record.{head_len}
+use Rattle.site_frame.specs.RecordFile.{AreRecords, Announces, EndsWithin, bytes_before}
 use Rattle.site_frame.specs.declared.fault.RecordWhy.{RecordWhy}
 use Rattle.site_frame.specs.declared.reading.RecordView.{RecordView}
 use Rattle.desk_io.specs.Faults.{ReadsFail, WritesFail}
@@ -43,14 +44,26 @@ pub record MeetsRefused (c : Config) (plp : ℕ) (old new : State) (name out : L
   pub works : Writes old new name out place (HasBefore c plp number why)
   pub counts : SameCounts old new
 
--- Of so many bytes that were read of the file, records were met, and what was read behind them ends within the next one: so no refused
--- one was met. The bytes are what they give back.
+-- Of so many bytes that were read of the file, records were met, and what was read behind them is no more than the next one, at which
+-- nobody looked. The bytes are what they give back.
 pub record HasMet (c : Config) (plp place : ℕ) (file bytes : List ℕ) : Type 0 where
   pub views : List RecordView
   pub rest : List ℕ
   pub records : AreRecords file views rest
   pub received : Received c plp views bytes
   pub within : EndsWithin rest (place - bytes_before file rest)
+
+-- So many bytes are less than a head, or less than the record has of which the head stands there.
+abbrev pub LacksSome : List ℕ → ℕ → Type 0
+LacksSome bytes count = (count < head_len) ⊎ ((len : ℕ) × Announces bytes len × (count < head_len + len))
+
+-- The same, and of the next record some bytes were not read: so no refused one was met.
+pub record HasMetPart (c : Config) (plp place : ℕ) (file bytes : List ℕ) : Type 0 where
+  pub views : List RecordView
+  pub rest : List ℕ
+  pub records : AreRecords file views rest
+  pub received : Received c plp views bytes
+  pub within : LacksSome rest (place - bytes_before file rest)
 
 -- IN gave as many bytes as no file may have.
 pub record GivesTooMuch (c : Config) (plp : ℕ) (old new : State) (name out : List ℕ) : Type 0 where
@@ -62,7 +75,7 @@ pub record GivesTooMuch (c : Config) (plp : ℕ) (old new : State) (name out : L
 pub record StopsReading (c : Config) (plp : ℕ) (old new : State) (name out : List ℕ) : Type 0 where
   pub place : ℕ
   pub short : place < most_bytes
-  pub works : Writes old new name out place (HasMet c plp place)
+  pub works : Writes old new name out place (HasMetPart c plp place)
 
 -- So many bytes were read of the file, which are records. Of what they give back the bytes are a front, but not all; and they begin with
 -- all that the records before the last one give back.

@@ -25,7 +25,7 @@ pub record Received (c : Config) (plp : ℕ) (views : List RecordView) (bytes : 
   pub back : GivesBack c plp first views packets
   pub bytes_are : bytes ≡ concat packets
 
--- the slot at which the output begins: those before it are over when the frame before the first one has come; 0 if there is no record
+-- the slot at which the output begins: those before it are over when the frame in front of the first one begins; 0 if there is no record
 abbrev pub first_slot : Config → ℕ → ℕ → List RecordView → ℕ
 first_slot c plp first [] = 0
 first_slot c plp first (view ∷ views) = slots_by c plp ((first - 1) * c.ticks)

@@ -36,7 +36,7 @@ const KINDS: [Kind; 4] = [
     Kind {
         code: "3/4 64qam short",
         field: 1_454,
-        blocks: 2,
+        blocks: 3,
     },
     Kind {
         code: "1/2 256qam normal",
@@ -79,13 +79,13 @@ struct Plp {
 }
 
 impl Plp {
-    // It fills at most six of seven parts of what a frame can carry.
+    // It fills from half to nearly all of what its blocks carry: 731 bits a second for each byte of a frame are too many.
     fn drawn(draws: &mut Draws, id: u8, type2: bool) -> Plp {
         let kind = KINDS
             .get(draws.below(4) as usize)
             .map_or(KINDS[0], |kind| *kind);
         let blocks = 1 + draws.below(kind.blocks);
-        let bits_per_byte = 400 + u64::from(draws.below(220));
+        let bits_per_byte = 400 + u64::from(draws.below(331));
         Plp {
             id,
             type2,

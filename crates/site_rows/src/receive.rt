@@ -310,8 +310,10 @@ fn refused_records(rt: HostRuntime) -> Result<(), Fail> {
     let words = ["receive", "c", "0", "r", "o"];
     let mut apart = APART[0].to_vec(rt.alloc())?;
     apart.extend_from_slice(&APART[1])?;
+    let mut other = APART[0];
+    other[0] = 0x55;
     let rows: [(&[u8], u64, RecordWhy, &str); 2] = [
-        (&[0x55], 0, RecordWhy::Head, "refused: record 0 why 1\n"),
+        (&other, 0, RecordWhy::Head, "refused: record 0 why 1\n"),
         (&apart, 1, RecordWhy::Order, "refused: record 1 why 4\n"),
     ];
     for (records, number, why, line) in rows {

@@ -31,11 +31,11 @@ use Rattle.sent_frames.specs.SentFrames.{run_length}
 use Rattle.sent_frames.specs.Types.{TypesFit}
 use Rattle.plp_receiver.specs.Taken.{Readback}
 use Rattle.receive_run.specs.ReceiveRun.{HasAll, RunsAll}
-use Rattle.receive_run.specs.Received.{GivesBack as GivesPackets, Received}
+use Rattle.receive_run.specs.Received.{GivesBack, Received}
 use Rattle.receive_run.specs.declared.stop.Ran.{Ran}
 use Rattle.recover.specs.Laws.{RunRecovers, RunComesBack, IsCanonical}
 use Rattle.recover.specs.Told.{IsPacket}
-use Rattle.site_top.specs.ReceiveCommand.{GivesBack, HoldsWhatComesBack, ReceivedGivesBack}
+use Rattle.site_top.specs.ReceiveCommand.{ComesBack, HoldsWhatComesBack, ReceivedComesBack}
 
 -- what the laws say that are wanted
 pub record FileLaws : Type 0 where
@@ -76,8 +76,8 @@ module _ (laws : FileLaws) (c : Config) (plan : IsPlan c) (types : TypesFit c) (
       let few = grid.small in
       laws.frame c (emission c n) n first plan.rules (record { small = omega (arith, few); emission-is = refl }) (record { small = omega (arith, small); emission-is = sym told ∙ own })
 
-  given_back : (first : ℕ) (w : RecordView) (ws views : List RecordView) (packets : List (List ℕ)) → views ≡ w ∷ ws → GivesPackets c plp first views packets → Readback c plp first (w ∷ ws) packets
-  given_back first w ws views packets is back = subst (λ (vs : List RecordView). GivesPackets c plp first vs packets) is back
+  given_back : (first : ℕ) (w : RecordView) (ws views : List RecordView) (packets : List (List ℕ)) → views ≡ w ∷ ws → GivesBack c plp first views packets → Readback c plp first (w ∷ ws) packets
+  given_back first w ws views packets is back = subst (λ (vs : List RecordView). GivesBack c plp first vs packets) is back
 
   -- so they are given back from that frame on
   packets_back : (file bytes : List ℕ) (views : List RecordView) → AreRecords file views [] → (r : Received c plp views bytes) → (inputs : ℕ → List (List ℕ)) (whole : ℕ → Bool) (first count : ℕ)
@@ -117,19 +117,19 @@ module _ (laws : FileLaws) (c : Config) (plan : IsPlan c) (types : TypesFit c) (
       let b = laws.back c plp inputs r.packets plan types inside all canonical back in
       (b.0, r.bytes_are ∙ ap concat b.1)
 
-pub gives_back : FileLaws → (c : Config) → IsPlan c → TypesFit c → ReceivedGivesBack c
-gives_back laws c plan types plp file bytes views inside records r = record {
+pub comes_back : FileLaws → (c : Config) → IsPlan c → TypesFit c → ReceivedComesBack c
+comes_back laws c plan types plp file bytes views inside records r = record {
   frames = frames_back laws c plan types plp inside file bytes views records r;
   run = run_back laws c plan types plp inside file bytes views records r;
 }
 
-pub holds_back : (c : Config) (plp : ℕ) (old new : State) (file out : List ℕ) (ran : Ran) → ReceivedGivesBack c → plp < length c.plps → RunsAll c plp old new file out ran → HoldsWhatComesBack c plp old new file out
+pub holds_back : (c : Config) (plp : ℕ) (old new : State) (file out : List ℕ) (ran : Ran) → ReceivedComesBack c → plp < length c.plps → RunsAll c plp old new file out ran → HoldsWhatComesBack c plp old new file out
 holds_back c plp old new file out ran law inside r = go old.held new.held r.works.holds
   where
     go : (h k : Option Held) → IfSome h (λ x. (y : Held) × (k ≡ Some y) × ((bytes : List ℕ) × (get y.files out ≡ Some bytes) × HasAll c plp ran (bytes_of x.files file) bytes))
-        → IfSome h (λ x. IfSome k (λ y. GivesBack c plp (bytes_of x.files file) (bytes_of y.files out)))
+        → IfSome h (λ x. IfSome k (λ y. ComesBack c plp (bytes_of x.files file) (bytes_of y.files out)))
     go None k w = tt
     go (Some x) None w = tt
     go (Some x) (Some y) w =
         let here : w.2.0 ≡ bytes_of y.files out = sym (ap (λ (z : Held). bytes_of z.files out) (same_Some y w.0 w.1) ∙ ap (λ (o : Option (List ℕ)). unwrap_or o []) w.2.1) in
-        subst (GivesBack c plp (bytes_of x.files file)) here (law plp (bytes_of x.files file) w.2.0 w.2.2.views inside w.2.2.records w.2.2.received)
+        subst (ComesBack c plp (bytes_of x.files file)) here (law plp (bytes_of x.files file) w.2.0 w.2.2.views inside w.2.2.records w.2.2.received)

@@ -38,7 +38,7 @@ pub enum Outcome {
     },
     /// The input was read to its end, and no superframe was found to begin with.
     NoSuperframe,
-    /// No record begins where this one must, counted from 0.
+    /// No record begins where this one must, counted from 0, or it is not of the frame that is expected there.
     RecordRefused {
         number: u64,
         why: RecordWhy,

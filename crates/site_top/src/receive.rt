@@ -2,7 +2,7 @@
 ghost use Rattle.std.specs.Prelude.{◌≡◌, true};
 ghost use Rattle.site_top.specs.Commands.{is_input};
 ghost use Rattle.site_top.specs.Outcomes.{receive_stopped};
-ghost use Rattle.site_top.specs.ReceiveCommand.{ReceivedGivesBack, Receives, receive_line as line_of_run};
+ghost use Rattle.site_top.specs.ReceiveCommand.{ReceivedComesBack, Receives, receive_line as line_of_run};
 
 use crate::config_commands::{outcome_of, tell};
 use crate::outcome::Outcome;
@@ -19,7 +19,7 @@ use std::alloc::Global;
 
 // What records of a run's frames give back of a PLP of the plan. It does nothing.
 fn back_law(plan: &Plan)
-    ensures { ReceivedGivesBack plan.now }
+    ensures { ReceivedComesBack plan.now }
 {
     plan.obeys_rules();
     type_law(plan);

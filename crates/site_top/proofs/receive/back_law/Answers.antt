@@ -1,4 +1,4 @@
-use Rattle.site_top.proofs.RecoverLemmas.{FileLaws, gives_back}
+use Rattle.site_top.proofs.RecoverLemmas.{FileLaws, comes_back}
 use Rattle.site_top.proofs.receive.back_law.Goals as goal
 
 pub returns : goal.returns
@@ -14,4 +14,4 @@ returns c =
       recovers = c.recover_law.ensures;
       back = c.whole_law.ensures.run;
     } in
-    gives_back laws c.args.plan.now c.obeys_rules.ensures.plan c.type_law.ensures
+    comes_back laws c.args.plan.now c.obeys_rules.ensures.plan c.type_law.ensures
