@@ -84,7 +84,7 @@ impl Plp {
         let kind = KINDS
             .get(draws.below(4) as usize)
             .map_or(KINDS[0], |kind| *kind);
-        let blocks = 1 + draws.below(kind.blocks);
+        let blocks = draws.below(kind.blocks).wrapping_add(1);
         let bits_per_byte = 400 + u64::from(draws.below(331));
         Plp {
             id,
@@ -93,7 +93,7 @@ impl Plp {
             blocks,
             interleave: draws.below(blocks.wrapping_add(1)),
             delete: draws.below(2) == 0,
-            bits_per_second: bits_per_byte.wrapping_mul(kind.field * u64::from(blocks)),
+            bits_per_second: bits_per_byte.wrapping_mul(kind.field.wrapping_mul(u64::from(blocks))),
         }
     }
 
@@ -140,7 +140,7 @@ struct Network {
 // Packets with their numbers; some are null packets, which are canonical if they are deleted.
 fn input(alloc: Global, draws: &mut Draws, plp: Plp) -> Result<Vec<u8>, Fail> {
     let mut bytes = Vec::new(alloc);
-    for number in 0..20 + draws.below(40) {
+    for number in 0..draws.below(40).wrapping_add(20) {
         let null = draws.below(4) == 0;
         bytes.extend_from_slice(if null {
             &[0x47, 0x1F, 0xFF, 0x10]
@@ -160,14 +160,18 @@ fn input(alloc: Global, draws: &mut Draws, plp: Plp) -> Result<Vec<u8>, Fail> {
 impl Network {
     // One to five PLPs, those of type 2 behind the others.
     fn drawn(alloc: Global, draws: &mut Draws) -> Result<Network, Fail> {
-        let count = 1 + draws.below(5);
+        let count = draws.below(5).wrapping_add(1);
         let first2 = draws.below(count.wrapping_add(1));
         let slices = if first2 < count { 5 } else { 1 };
         let mut text = format!(in alloc; "{HEAD}subslices {slices}\n")?;
         let mut plps = Vec::new(alloc);
         let mut inputs = Vec::new(alloc);
         for place in 0..count {
-            let plp = Plp::drawn(draws, 10 + place as u8, place >= first2);
+            let plp = Plp::drawn(
+                draws,
+                ((place % 256) as u8).wrapping_add(10),
+                place >= first2,
+            );
             text.push_str(&plp.line(alloc)?)?;
             inputs.push(input(alloc, draws, plp)?)?;
             plps.push(plp)?;
@@ -234,7 +238,10 @@ fn mute(alloc: Global, draws: &mut Draws, records: &[u8]) -> Result<(Vec<u8>, Ve
     let mut out = Vec::new(alloc);
     let mut muted = Vec::new(alloc);
     let mut left = records;
-    while left.len() >= 24 {
+    for _ in 0..records.len() {
+        if left.len() < 24 {
+            break;
+        }
         let (head, behind) = left.split_at(24);
         let (rest, next) = behind.split_at(rest_of(head).min(behind.len()));
         let is_muted = draws.below(5) == 0;
