@@ -150,7 +150,7 @@ fn input(alloc: Global, draws: &mut Draws, plp: Plp) -> Result<Vec<u8>, Fail> {
         let filler = if null && plp.delete {
             0xFF
         } else {
-            number as u8
+            (number % 256) as u8
         };
         bytes.extend_from_slice(&[filler; 184])?;
     }
