@@ -273,3 +273,10 @@ cleared old new bits end held is few inside =
     let sum : 8 * end + (all - 8 * end) ≡ 8 * length new - 0 = omega arith in
     ap bits_of is ∙ bits_of-append (replicate end 0) (drop end old)
     ∙ rw (bits_of-zeros end, behind) (replicate-append-replicate (8 * end) (all - 8 * end) false ∙ ap (λ (k : ℕ). replicate k false) sum)
+
+-- the bytes at the front that have all the bits hold them too
+pub holds_front : (bytes : List ℕ) (bits : List Bool) (n : ℕ) → Holds bytes bits → length bits ≤ 8 * n → n ≤ length bytes → Holds (take n bytes) bits
+holds_front bytes bits n held few inside =
+    let size : length (take n bytes) ≡ n = length-take-le n bytes inside in
+    sym (take-bits_of n bytes inside) ∙ ap (take (8 * n)) held ∙ take-padded bits (8 * n) (8 * length bytes) few (omega arith)
+    ∙ ap (λ (k : ℕ). padded bits (8 * k)) (sym size)

@@ -1,6 +1,6 @@
 //! Bits behind other bits in bytes. Behind the bits that are used there are zeros.
-ghost use Rattle.std.specs.Prelude.{◌≡◌, ◌+◌, ◌-◌, ◌*◌, ◌/◌, ◌%◌, ◌^◌, ◌<◌, ◌≤◌, ◌++◌, ℕ, List, Bool, length, drop};
-ghost use Rattle.terms.specs.Bits.{field, bits_of, number_of, part};
+ghost use Rattle.std.specs.Prelude.{◌≡◌, ◌+◌, ◌-◌, ◌*◌, ◌/◌, ◌%◌, ◌^◌, ◌<◌, ◌≤◌, ◌++◌, ℕ, List, Bool, length, take, drop};
+ghost use Rattle.terms.specs.Bits.{field, bits_of, bytes_of, number_of, part};
 ghost use Rattle.bit_slice.specs.Filling.{padded, Holds};
 
 use crate::BitSlice;
@@ -90,4 +90,14 @@ pub fn put_bits(bytes: &mut [u8], used: usize, bits: &BitSlice<'_>)
     put_part(bytes, used, bits, 0, head as u32);
     put_bytes(bytes, used + head, bits, head, count);
     put_part(bytes, used + last, bits, last, (len - last) as u32);
+}
+
+/// The bytes that bits fill at the front of some, of which the rest is zeros.
+pub fn filled(bytes: &[u8], used: usize) -> &[u8]
+    requires inside { used ≤ 8 * length bytes.now }
+    requires holds { Holds bytes.now (take used (bits_of bytes.now)) }
+    ensures { result.now ≡ bytes_of (take used (bits_of bytes.now)) }
+{
+    let end = used.div_ceil(8);
+    &bytes[..end]
 }

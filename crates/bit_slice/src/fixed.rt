@@ -1,5 +1,5 @@
 //! A sink of fixed size.
-use crate::filling::{put_bits, put_field};
+use crate::filling::{filled, put_bits, put_field};
 use crate::{BitSink, BitSlice, SinkFault};
 use std::marker::Model;
 
@@ -24,6 +24,7 @@ impl<const N: usize> Model for FixedBits<N> {
 
 impl<const N: usize> FixedBits<N> {
     ghost use Rattle.std.specs.Prelude.{◌≡◌, ◌<◌, ◌≤◌, ◌^◌, ◌+◌, ◌*◌, length, []};
+    ghost use Rattle.terms.specs.Bits.{bytes_of};
 
     /// A sink with nothing written.
     pub fn new() -> FixedBits<N>
@@ -50,6 +51,13 @@ impl<const N: usize> FixedBits<N> {
         ensures { result ≡ self.now }
     {
         BitSlice::whole(&self.bytes).sub(0, self.used)
+    }
+
+    /// The bytes that the bits written fill, the last one filled up with zero bits.
+    pub fn as_bytes(&self) -> &[u8]
+        ensures { result.now ≡ bytes_of self.now }
+    {
+        filled(&self.bytes, self.used)
     }
 
     // How many bits can still be put.

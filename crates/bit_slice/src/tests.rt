@@ -247,6 +247,7 @@ fn two_runs_of_bits(rt: HostRuntime) {
     let mut sink = FixedBits::<2>::new();
     assert!(rt; put_joined(&mut sink, joined.sub(0, 16)) == Ok(()));
     assert!(rt; same_bits(&sink.as_slice(), &BitSlice::whole(&[0xF1, 0x1A])));
+    assert_eq!(rt; sink.as_bytes(), [0xF1, 0x1A].as_slice());
     assert!(rt; !same_bits(&sink.as_slice(), &BitSlice::whole(&[0xF1, 0x1B])));
 }
 

@@ -101,7 +101,8 @@ abbrev pub NoneLost : Type 0
 NoneLost = (c : Config) (plp ticks : ℕ) (at : ℕ → List ℕ) (first count : ℕ) → ((k : ℕ) → plp_keeps c plp at k ≡ false → at k ≡ null_packet)
     → recover c plp ticks at (λ m. false) first count ≡ map at (due_slots c plp ticks first count)
 
--- A slot is due exactly if it was not over before the first frame, and its packet is given out once the last one has ended.
+-- A slot is due exactly if it was not over when the frame in front of the first one begins, and its packet is given out once the last
+-- one has ended.
 abbrev pub DueReleased : Type 0
 DueReleased = (c : Config) (plp first count last slot : ℕ) → AllRules c → plp < length c.plps → first + count ≡ last + 1
     → Contains (due_slots c plp c.ticks first count) slot ↔ ((slots_by c plp ((first - 1) * c.ticks) ≤ slot) × IsReleased c plp last slot)

@@ -10,8 +10,8 @@ use Rattle.mode_adapt.specs.Blocks.{rates_of, plp_keeps}
 
 -- Frames last so many ticks, as in the queue of a PLP. In each slot of the PLP is the packet that `at` tells.
 
--- the slots that are due after so many frames from one on: those that were not over before the first frame, and whose delay has
--- passed at the end of the last one
+-- the slots that are due after so many frames from one on: those that were not over when the frame in front of the first one begins,
+-- and whose delay has passed at the end of the last one
 abbrev pub due_slots : Config → ℕ → ℕ → ℕ → ℕ → List ℕ
 due_slots c plp ticks first count =
     range_with_len (slots_by c plp ((first - 1) * ticks))
