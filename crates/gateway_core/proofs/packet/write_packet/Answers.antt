@@ -5,6 +5,6 @@ use Rattle.gateway_core.proofs.packet.write_packet.Goals as goal
 pub returns-clause-whole : goal.returns-clause-whole
 returns-clause-whole c = record {
   bytes = packet_len c.args.packet.now;
-  len = ap length c.put_packet.ensures ∙ c.written_law.ensures.len c.args.packet.now c.requires;
+  len = ap length c.put_packet.ensures ∙ c.written_law.ensures.len c.args.packet.now;
   room = omega (arith, c.requires.payload);
 }
