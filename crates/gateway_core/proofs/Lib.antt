@@ -7,3 +7,4 @@ pub mod FlowLemmas
 pub mod HoldsLemmas
 pub mod LawLemmas
 pub mod FewLemmas
+mod AheadLemmas

@@ -6,7 +6,7 @@ use Rattle.plp_config.specs.SlotTime.{slots_by}
 use Rattle.plp_config.specs.declared.config.Config.{Config}
 use Rattle.mode_adapt.specs.Deletion.{packet_at}
 use Rattle.t2mi_stream.specs.Complete.{complete_units}
-use Rattle.t2mi_stream.specs.Pipe.{pipe}
+use Rattle.t2mi_stream.specs.Pipe.{joined, pipe, carried_len}
 use Rattle.gateway_core.specs.Events.{Event, begun}
 use Rattle.gateway_core.specs.InputsStandFor.{AllContinue}
 use Rattle.gateway_core.specs.Packets.{front_packets, packets_of}
@@ -34,3 +34,9 @@ FrontsDecided = (c : Config) (inputs other : ℕ → List (List ℕ)) (n : ℕ) 
 -- When the last frame was begun, the packets of the frames begun are all packets.
 abbrev pub LastIsAll : Type 0
 LastIsAll = (c : Config) (events : List Event) (inputs : ℕ → List (List ℕ)) → IsLast c events → AllContinue c events inputs → front_packets c inputs (begun events) ≡ packets_of c inputs
+
+-- Fewer bytes wait for a unit than three frames have: so the complete units of the frames below k carry the first byte of each frame that
+-- has three of them behind its beginning, whatever frames follow.
+abbrev pub WaitsThreeFrames : Type 0
+WaitsThreeFrames = (c : Config) (inputs : ℕ → List (List ℕ)) (n k all units : ℕ) → IsPlan c → n + 3 ≤ k → k ≤ all
+    → length (complete_units c.pid (front_packets c inputs k)) ≤ units → length (joined (front_packets c inputs n)) < carried_len units (joined (front_packets c inputs all))

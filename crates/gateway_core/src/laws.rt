@@ -1,8 +1,10 @@
 // Laws of the definitions. Their functions do nothing.
-ghost use Rattle.gateway_core.specs.Laws.{NotYetLast, FrontsGrow, UnitsLaw, FrontsDecided, LastIsAll};
+ghost use Rattle.gateway_core.specs.Laws.{NotYetLast, FrontsGrow, UnitsLaw, FrontsDecided, LastIsAll, WaitsThreeFrames};
 
+use l1_signal::{post_law, pre_law};
 use mode_adapt::blocks_law;
 use plp_config::{length_law, run_length_law, slot_time_law};
+use t2mi_packet::written_law;
 use t2mi_stream::complete_law;
 
 /// A run is three frames longer at least than the frame under way when all packets that it wants of an input were there. So a
@@ -37,3 +39,13 @@ pub fn units_law()
 pub fn last_law()
     ensures { LastIsAll }
 {}
+
+/// The units that are complete when a frame was begun carry the first byte of each frame but that one and the two before it.
+pub fn ahead_law()
+    ensures { WaitsThreeFrames }
+{
+    complete_law();
+    written_law();
+    pre_law();
+    post_law();
+}

@@ -18,7 +18,7 @@ mod signalling;
 mod step;
 
 pub use gateway::Gateway;
-pub use laws::{front_law, last_law, not_yet_last, units_law};
+pub use laws::{ahead_law, front_law, last_law, not_yet_last, units_law};
 
 #[cfg(test)]
 mod tests;

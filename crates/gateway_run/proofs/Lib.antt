@@ -1,3 +1,4 @@
+pub mod AheadLemmas
 pub mod BeginLemmas
 pub mod EventLemmas
 pub mod FileLemmas

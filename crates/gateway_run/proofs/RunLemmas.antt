@@ -4,6 +4,7 @@ use Rattle.std.specs.Prelude.{IfOk, IfErr, slice_index}
 use Rattle.std.proofs.lemmas.List.{nil_from_length}
 use Rattle.std.proofs.lemmas.Option.{IfSome_then}
 use Rattle.ports.specs.Desk.{State}
+use Rattle.plp_config.specs.Laws.{CountRises, SlotLength}
 use Rattle.plp_config.specs.SlotTime.{slots_by}
 use Rattle.plp_config.specs.declared.config.Config.{Config}
 use Rattle.plp_config.specs.declared.moment.TheConstants.{MOST_FRAMES}
@@ -21,11 +22,11 @@ use Rattle.file_run.specs.declared.stop.RunFault.{RunFault}
 use Rattle.file_run.specs.declared.stop.RunFault.TheVariants as fault
 use Rattle.file_run.proofs.StandsLemmas.{works_by, fed_since, all_read}
 use Rattle.gateway_core.specs.Events.{Event, begun, finished}
-use Rattle.gateway_core.specs.Laws.{UnitsLaw, FrontsGrow, LastIsAll}
+use Rattle.gateway_core.specs.Laws.{UnitsLaw, FrontsGrow, LastIsAll, WaitsThreeFrames}
 use Rattle.gateway_core.specs.Packets.{front_packets}
 use Rattle.gateway_core.specs.declared.gateway.Gateway.{Gateway}
 use Rattle.gateway_run.specs.AsMachine.{becomes, step_of, next_of, frame_read, reach_of, ending_of, stop_by}
-use Rattle.gateway_run.specs.GatewayRun.{inputs_of, frames_of, units_of, MeetsNone, MeetsNoneBefore, ReadsNoFurther, BeginsUnits, BeginsSome, RunsAll, StopsAtBad, StopsTooLong, StopsReading, StopsWriting, LacksMemory, Stops}
+use Rattle.gateway_run.specs.GatewayRun.{inputs_of, frames_of, units_of, MeetsNone, MeetsNoneBefore, ReadsNoFurther, BeginsUnits, BeginsSome, ReadsAhead, RunsAll, StopsAtBad, StopsTooLong, StopsReading, StopsWriting, LacksMemory, Stops}
 use Rattle.gateway_run.specs.Holds.{NoTails, HasGiven, IsOneTooMany, MetBad, IsIn, Holds}
 use Rattle.gateway_run.specs.Ready.{IsReady}
 use Rattle.gateway_run.specs.declared.machine.GatewayMachine.{GatewayMachine}
@@ -34,6 +35,7 @@ use Rattle.gateway_run.specs.declared.place.Phase.{Phase}
 use Rattle.gateway_run.specs.declared.place.Place.{Place}
 use Rattle.gateway_run.specs.declared.stop.Ran.{Ran}
 use Rattle.gateway_run.specs.declared.place.Phase.TheVariants as phase
+use Rattle.gateway_run.proofs.AheadLemmas.{reads_ahead}
 use Rattle.gateway_run.proofs.BeginLemmas.{before_frame}
 use Rattle.gateway_run.proofs.OutputLemmas.{continue_files, none_before, none_here, gave_all, ended_all, gave_complete, gave_since, gave_front, meets_bad}
 use Rattle.gateway_run.proofs.MachineLemmas.{offered_length}
@@ -265,10 +267,18 @@ read_early phase.Rests frames le = le
 read_early phase.Done frames le = le
 read_early (phase.Stopped why) frames le = le
 
+read_few : (p : Phase) (frames : ℕ) → frame_read p frames ≤ frames
+read_few phase.Wants frames = omega arith
+read_few phase.Begins frames = omega arith
+read_few phase.Gives frames = omega arith
+read_few phase.Rests frames = omega arith
+read_few phase.Done frames = omega arith
+read_few (phase.Stopped why) frames = omega arith
+
 -- What was given could not be written.
-pub stops_writing : EventsTell → UnitsLaw → FrontsGrow → LastIsAll → (start now : GatewayMachine) (old new : State) (out : List ℕ) (ins : List (List ℕ)) → length ins ≡ length start.plan.now.plps
+pub stops_writing : EventsTell → UnitsLaw → FrontsGrow → LastIsAll → WaitsThreeFrames → CountRises → SlotLength → (start now : GatewayMachine) (old new : State) (out : List ℕ) (ins : List (List ℕ)) → length ins ≡ length start.plan.now.plps
     → driver.StopsWriting old new out ins reach_of next_of (becomes start) now → StopsWriting start.plan.now old new out ins
-stops_writing tell units grow law start now old new out ins count w =
+stops_writing tell units grow law three rises slot start now old new out ins count w =
     let s = w.stands in
     let c : Config = start.plan.now in
     let mid = w.mid in
@@ -276,30 +286,38 @@ stops_writing tell units grow law start now old new out ins count w =
     let frame : ℕ = frame_read mid.place.phase mid.ran.frames in
     let k = known_at start.plan.now s.events mid.gateway mid.place mid.ran mid.place.phase refl w.gives (ready_of start mid s.came.0.0) h in
     let early = mid.ready.early in
+    let further = no_further start mid ins s.places frame s.came.0.0 refl s.works.all s.within in
     record {
       places = s.places;
       frame = frame;
-      works = works_by (λ files bytes. BeginsSome start.plan.now files frame bytes) s (λ files are bytes is.
+      works = works_by (λ files bytes. BeginsSome start.plan.now files frame bytes × ReadsAhead start.plan.now files s.places bytes) s (λ files are bytes is.
           let fed = for_plps start.plan.now ins files s.places s.events count are in
           let f = gave_front grow law start.plan.now (s.events ++ w.late) now.gateway now.place now.ran (holds_of start now (s.events ++ w.late) s.came.1) files s.places (fed_since (length start.plan.now.plps) files s.places s.events w.late w.only fed) in
           let g = gave_since units start.plan.now s.events mid.gateway mid.place mid.ran h files s.places frame fed k.given_all in
-          record {
-            more = w.more ++ f.0;
-            some = λ z. w.some (nil_from_length w.more (let n = ap length z in let l = length-append w.more f.0 in omega (arith, n, l)));
-            begins = f.1 ∙ ap (λ (l : List ℕ). l ++ f.0) ((tell.late s.events w.late w.only).gave ∙ ap (λ (l : List ℕ). run.gave s.events ++ l) w.parts ∙ sym (append_assoc (run.gave s.events) w.front w.more) ∙ ap (λ (l : List ℕ). l ++ w.more) (sym is))
-                ∙ append_assoc bytes w.more f.0;
-            since = g.0 ++ w.front;
-            complete = is ∙ ap (λ (l : List ℕ). l ++ w.front) g.1 ∙ append_assoc (joined (complete_units start.plan.now.pid (front_packets start.plan.now (inputs_of files) frame))) g.0 w.front;
-          });
+          let all : bytes ≡ joined (complete_units start.plan.now.pid (front_packets start.plan.now (inputs_of files) frame)) ++ (g.0 ++ w.front) =
+          is ∙ ap (λ (l : List ℕ). l ++ w.front) g.1 ∙ append_assoc (joined (complete_units start.plan.now.pid (front_packets start.plan.now (inputs_of files) frame))) g.0 w.front in
+          let begun_few = h.time.few (inputs_of files) (continue_files start.plan.now s.events mid.gateway mid.place mid.ran h files s.places fed) in
+          let frames = h.frames in
+          let within : frame ≤ frames_of start.plan.now files = omega (arith, begun_few, frames, read_few mid.place.phase mid.ran.frames) in (
+            record {
+              more = w.more ++ f.0;
+              some = λ z. w.some (nil_from_length w.more (let n = ap length z in let l = length-append w.more f.0 in omega (arith, n, l)));
+              begins = f.1 ∙ ap (λ (l : List ℕ). l ++ f.0) ((tell.late s.events w.late w.only).gave ∙ ap (λ (l : List ℕ). run.gave s.events ++ l) w.parts ∙ sym (append_assoc (run.gave s.events) w.front w.more) ∙ ap (λ (l : List ℕ). l ++ w.more) (sym is))
+                  ∙ append_assoc bytes w.more f.0;
+              since = g.0 ++ w.front;
+              complete = all;
+            },
+            reads_ahead units three rises slot start.plan.now files s.places bytes (g.0 ++ w.front) frame h.plan (omega (arith, s.works.all, count)) within all further,
+          ));
       short = w.short;
       early = read_early mid.place.phase mid.ran.frames early;
-      no_further = no_further start mid ins s.places frame s.came.0.0 refl s.works.all s.within;
+      no_further = further;
       before = IfSome_then old.held s.inputs (λ held are. k.none (file_at held ins) s.places (for_plps start.plan.now ins (file_at held ins) s.places s.events count are));
     }
 
 -- How a run ended that its files stopped.
-pub stops : EventsTell → UnitsLaw → FrontsGrow → LastIsAll → (start now : GatewayMachine) (old new : State) (out : List ℕ) (ins : List (List ℕ)) (why : RunFault) → length ins ≡ length start.plan.now.plps
+pub stops : EventsTell → UnitsLaw → FrontsGrow → LastIsAll → WaitsThreeFrames → CountRises → SlotLength → (start now : GatewayMachine) (old new : State) (out : List ℕ) (ins : List (List ℕ)) (why : RunFault) → length ins ≡ length start.plan.now.plps
     → driver.Stops old new out ins reach_of next_of (becomes start) now why → Stops start.plan.now old new out ins (stop_by why)
-stops tell units grow law start now old new out ins (fault.TooLong input) count s = gives_too_much grow law start now old new out ins input count s
-stops tell units grow law start now old new out ins (fault.ReadFault input) count s = (s.0, (input, elim s.1 [ inl opens ↦ inl opens | inr fails ↦ inr (stops_reading units grow law start now old new out ins input count fails) ]))
-stops tell units grow law start now old new out ins fault.WriteFault count s = (s.0, elim s.1 [ inl fails ↦ inl fails | inr w ↦ inr (stops_writing tell units grow law start now old new out ins count w) ])
+stops tell units grow law three rises slot start now old new out ins (fault.TooLong input) count s = gives_too_much grow law start now old new out ins input count s
+stops tell units grow law three rises slot start now old new out ins (fault.ReadFault input) count s = (s.0, (input, elim s.1 [ inl opens ↦ inl opens | inr fails ↦ inr (stops_reading units grow law start now old new out ins input count fails) ]))
+stops tell units grow law three rises slot start now old new out ins fault.WriteFault count s = (s.0, elim s.1 [ inl fails ↦ inl fails | inr w ↦ inr (stops_writing tell units grow law three rises slot start now old new out ins count w) ])

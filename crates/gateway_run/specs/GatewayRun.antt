@@ -1,5 +1,5 @@
 -- What a run of the gateway over files does, from the opening of its inputs on.
-use Rattle.std.specs.Prelude.{◌≡◌, ◌≢◌, ◌⊎◌, ℕ, ◌-◌, ◌*◌, ◌<◌, ◌≤◌, List, [], ◌++◌, length, map, slice_index, slice_index_or, IsSome, IfSome}
+use Rattle.std.specs.Prelude.{◌≡◌, ◌≢◌, ◌⊎◌, ℕ, ◌-◌, ◌*◌, ◌<◌, ◌≤◌, List, [], ◌++◌, length, map, take, slice_index, slice_index_or, IsSome, IfSome}
 use Rattle.std.specs.FinMap.{get}
 use Rattle.ports.specs.Desk.{State, Held, SameCounts, bytes_of}
 use Rattle.plp_config.specs.RunLength.{frame_count}
@@ -8,7 +8,8 @@ use Rattle.plp_config.specs.declared.config.Config.{Config}
 use Rattle.plp_config.specs.declared.moment.TheConstants.{MOST_FRAMES}
 use Rattle.ts_packet.specs.TsFile.{packets_in, HasBad, joined}
 use Rattle.ts_packet.specs.declared.sizes.TheConstants.{SIZE}
-use Rattle.t2mi_stream.specs.Pipe.{pipe}
+use Rattle.t2mi_stream.specs.Pipe as piping
+use Rattle.t2mi_stream.specs.Pipe.{pipe, carried_len}
 use Rattle.t2mi_stream.specs.Complete.{complete_units}
 use Rattle.gateway_core.specs.Packets.{front_packets, packets_of}
 use Rattle.desk_io.specs.Faults.{ReadsFail, WritesFail}
@@ -129,11 +130,22 @@ pub record BeginsSome (c : Config) (files : ℕ → List ℕ) (frame : ℕ) (byt
   pub since : List ℕ
   pub complete : bytes ≡ joined (complete_units c.pid (front_packets c (inputs_of files) frame)) ++ since
 
+-- These bytes hold the first byte of a frame: so many whole units of them carry more bytes than the packets of the frames before have.
+pub record HoldsFirst (c : Config) (files : ℕ → List ℕ) (bytes : List ℕ) (frame : ℕ) : Type 0 where
+  pub units : ℕ
+  pub rest : List ℕ
+  pub written : bytes ≡ joined (take units (units_of c files)) ++ rest
+  pub carried : length (piping.joined (front_packets c (inputs_of files) frame)) < carried_len units (piping.joined (packets_of c (inputs_of files)))
+
+-- Of no input was more read than the frame two behind one wants whose first byte these bytes lack.
+abbrev pub ReadsAhead : Config → (ℕ → List ℕ) → List ℕ → List ℕ → Type 0
+ReadsAhead c files places bytes = (frame : ℕ) → ¬ (HoldsFirst c files bytes frame) → ReadsNoFurther c places (frame + 2)
+
 -- The output could not be written on, when all that a frame wants was read, and no bad packet was met.
 pub record StopsWriting (c : Config) (old new : State) (out : List ℕ) (ins : List (List ℕ)) : Type 0 where
   pub places : List ℕ
   pub frame : ℕ
-  pub works : Works old new out ins places (λ h bytes. BeginsSome c (file_at h ins) frame bytes)
+  pub works : Works old new out ins places (λ h bytes. BeginsSome c (file_at h ins) frame bytes × ReadsAhead c (file_at h ins) places bytes)
   pub short : AllShort places
   pub early : frame ≤ MOST_FRAMES
   pub no_further : ReadsNoFurther c places frame

@@ -9,8 +9,8 @@ use crate::stop::{Ran, RunStop};
 use bit_slice::OutOfMemory;
 use desk_io::{ByteWriter, MOST_BYTES, ReadAhead};
 use file_run::{RunFault, events_law};
-use gateway_core::{front_law, last_law, units_law};
-use plp_config::Plan;
+use gateway_core::{ahead_law, front_law, last_law, units_law};
+use plp_config::{Plan, length_law, slot_time_law};
 use ports::{Desk, Word};
 use std::alloc::Global;
 
@@ -56,6 +56,9 @@ fn run_machine<D: Desk>(
     front_law();
     last_law();
     units_law();
+    ahead_law();
+    slot_time_law();
+    length_law();
     match file_run::run(machine, readers, writer, out, ins, desk) {
         Ok(()) => machine.ending(),
         Err(fault) => Err(stop_of(fault)),
