@@ -21,7 +21,7 @@ use Rattle.gateway_core.proofs.InputsLemmas.{nothing_told, told_begun}
 use Rattle.gateway_core.proofs.LawLemmas.{frame_count_same}
 use Rattle.gateway_run.specs.Holds.{ArePackets, AreOffered, IsInTime, AreComplete, HasAll, NoTails, IsIn, StandsIn, Holds}
 use Rattle.gateway_run.specs.Ready.{IsReady}
-use Rattle.gateway_run.specs.declared.place.GatewayStop.TheVariants.{TooManyFrames, OutOfMemory}
+use Rattle.gateway_run.specs.declared.place.GatewayStop.TheVariants.{TooManyFrames}
 use Rattle.gateway_run.specs.declared.place.Phase.{Phase}
 use Rattle.gateway_run.specs.declared.place.Phase.TheVariants.{Begins, Gives, Rests, Stopped}
 use Rattle.gateway_run.specs.declared.place.Place.{Place}
@@ -138,7 +138,7 @@ frame_begun law grow c done g next place after ran now r e to one same not_last 
           units = λ inputs k. let w = b.complete inputs (back_begun c h.events inputs k) in let q = ap (λ (j : ℕ). length (complete_units c.pid (front_packets c inputs j))) before in omega (arith, w, q, m);
         },
       );
-      cut = λ plp some p. absurd (some (b.none plp));
+      cut = λ plp some. absurd (some (b.none plp));
     }
 
 -- No more frames come.
@@ -169,12 +169,12 @@ frames_ended c done g next place after ran r e to last stands h =
         },
         finished_now h.events,
       );
-      cut = λ plp some p. absurd (some (b.none plp));
+      cut = λ plp some. absurd (some (b.none plp));
     }
 
 -- The same was done, and it goes on elsewhere.
 pub moved_to : (c : Config) (done : List run.Event) (g next : Gateway) (place after : Place) (ran : Ran) (h : Holds c done g place ran) → StandsIn after.phase next c h.events → IsIn c h.events h.tails after.phase
-    → NoTails h.tails ⊎ (after.phase ≡ Stopped OutOfMemory) → Holds c done next after ran
+    → NoTails h.tails → Holds c done next after ran
 moved_to c done g next place after ran h stands at none = record {
   plan = h.plan;
   events = h.events;
@@ -186,7 +186,7 @@ moved_to c done g next place after ran h stands at none = record {
   time = h.time;
   sends = h.sends;
   is_in = at;
-  cut = λ plp some p. elim none [ inl nothing ↦ absurd (some (nothing plp)) | inr lacks ↦ absurd (p lacks) ];
+  cut = λ plp some. absurd (some (none plp));
 }
 
 -- Another frame would be one too many.
@@ -195,11 +195,7 @@ pub too_many : NotYetLast → (c : Config) (done : List run.Event) (g : Gateway)
 too_many law c done g place after ran r e to most not_last h =
     let b = before_frame c done g place ran r e h in
     moved_to c done g g place after ran h (subst (λ (p : Phase). StandsIn p g c h.events) (sym to) tt)
-    (subst (λ (p : Phase). IsIn c h.events h.tails p) (sym to) (record { none = b.none; frame = sym h.frames ∙ most; all = b.all; more = more_frames law c done g place ran h b (not_last c h.events b.stands) })) (inl b.none)
-
-pub no_memory : (c : Config) (done : List run.Event) (g next : Gateway) (place after : Place) (ran : Ran) → after.phase ≡ Stopped OutOfMemory → Holds c done g place ran → Holds c done next after ran
-no_memory c done g next place after ran to h =
-    moved_to c done g next place after ran h (subst (λ (p : Phase). StandsIn p next c h.events) (sym to) tt) (subst (λ (p : Phase). IsIn c h.events h.tails p) (sym to) tt) (inr to)
+    (subst (λ (p : Phase). IsIn c h.events h.tails p) (sym to) (record { none = b.none; frame = sym h.frames ∙ most; all = b.all; more = more_frames law c done g place ran h b (not_last c h.events b.stands) })) b.none
 
 -- what an answer tells of the last frame
 pub is_last : (g : Gateway) (answer : Bool) → ((c : Config) (events : List Event) → GatewayStandsFor g c events → (answer ≡ true) ↔ IsLast c events) → answer ≡ true → (c : Config) (events : List Event) → GatewayStandsFor g c events → IsLast c events

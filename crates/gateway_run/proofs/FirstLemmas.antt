@@ -45,5 +45,5 @@ first c g plan stands = record {
   };
   sends = record { units = []; gave = refl; count = refl; front = λ inputs k more none. (pipe c.pid (front_packets c inputs 0 ++ more), refl) };
   is_in = (λ plp. refl, record { begun_all = omega arith; units = λ inputs k. let n = ap length (none_complete c inputs) in omega (arith, n) });
-  cut = λ plp some p. absurd (some refl);
+  cut = λ plp some. absurd (some refl);
 }

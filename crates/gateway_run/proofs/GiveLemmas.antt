@@ -15,7 +15,6 @@ use Rattle.gateway_core.proofs.InputsLemmas.{nothing_told}
 use Rattle.gateway_core.proofs.HoldsLemmas.{back_same, given_with, begun_same, finished_same}
 use Rattle.gateway_run.specs.Holds.{AreComplete, AreAll, HasGiven, NoTails, IsIn, StandsIn, Holds}
 use Rattle.gateway_run.specs.Ready.{IsGiving, IsLooked, IsReady, IsBehindAs}
-use Rattle.gateway_run.specs.declared.place.GatewayStop.TheVariants.{OutOfMemory}
 use Rattle.gateway_run.specs.declared.place.Phase.{Phase}
 use Rattle.gateway_run.specs.declared.place.Phase.TheVariants.{Rests, Done, Stopped}
 use Rattle.gateway_run.specs.declared.place.Place.{Place}
@@ -87,12 +86,12 @@ unit_gave tell c done g next place ran now unit bytes i is frames units gives st
       time = time_same c h.events Gave same refl (λ on. still_last c h.events Gave same (h.time.last (sym (finished_same h.events Gave refl) ∙ on))) h.time;
       sends = sends_gave c done (done ++ run.Gave bytes ∷ []) h.events unit (f.gave ∙ ap (λ (l : List ℕ). run.gave done ++ l) is) (gives c h.events s) h.sends;
       is_in = in_giving place.phase c h.events h.tails i same h.is_in;
-      cut = λ plp some p. absurd (some (none plp));
+      cut = λ plp some. absurd (some (none plp));
     }
 
 -- what holds of a gateway that stands for the same, where nothing was given
 moved : EventsTell → (c : Config) (done : List run.Event) (g next : Gateway) (place after : Place) (ran : Ran) (h : Holds c done g place ran) → StandsIn after.phase next c h.events → IsIn c h.events h.tails after.phase
-    → ((plp : ℕ) → h.tails plp ≢ [] → after.phase ≢ Stopped OutOfMemory → (slice_index (h.tails plp) 0 ≢ SYNC) ⊎ (run.has_ended plp done ≡ true)) → Holds c (done ++ run.Gave [] ∷ []) next after ran
+    → ((plp : ℕ) → h.tails plp ≢ [] → (slice_index (h.tails plp) 0 ≢ SYNC) ⊎ (run.has_ended plp done ≡ true)) → Holds c (done ++ run.Gave [] ∷ []) next after ran
 moved tell c done g next place after ran h stands at cut =
     let f = tell.given [] done in
     record {
@@ -106,7 +105,7 @@ moved tell c done g next place after ran h stands at cut =
       time = h.time;
       sends = record { units = h.sends.units; gave = f.gave ∙ append-nil (run.gave done) ∙ h.sends.gave; count = h.sends.count; front = h.sends.front };
       is_in = at;
-      cut = λ plp some p. elim (cut plp some p) [ inl sync ↦ inl sync | inr on ↦ inr (f.ended plp ∙ on) ];
+      cut = λ plp some. elim (cut plp some) [ inl sync ↦ inl sync | inr on ↦ inr (f.ended plp ∙ on) ];
     }
 
 pub nothing_gave : EventsTell → (c : Config) (done : List run.Event) (g : Gateway) (place : Place) (ran : Ran) → Holds c done g place ran → Holds c (done ++ run.Gave [] ∷ []) g place ran
@@ -119,7 +118,7 @@ units_over : EventsTell → (c : Config) (done : List run.Event) (g next : Gatew
 units_over tell c done g next place after ran e to none h =
     let s : GatewayStandsFor g c h.events = subst (λ (p : Phase). StandsIn p g c h.events) e h.stands in
     let i : NoTails h.tails × HasGiven c h.events (begun h.events) × (finished h.events ≡ true) = subst (λ (p : Phase). IsIn c h.events h.tails p) e h.is_in in
-    moved tell c done g next place after ran h (subst (λ (p : Phase). StandsIn p next c h.events) (sym to) tt) (subst (λ (p : Phase). IsIn c h.events h.tails p) (sym to) (i.0, i.2, none c h.events s i.2)) (λ plp some p. absurd (some (i.0 plp)))
+    moved tell c done g next place after ran h (subst (λ (p : Phase). StandsIn p next c h.events) (sym to) tt) (subst (λ (p : Phase). IsIn c h.events h.tails p) (sym to) (i.0, i.2, none c h.events s i.2)) (λ plp some. absurd (some (i.0 plp)))
 
 -- All complete units of the frames begun were given.
 units_out : EventsTell → (c : Config) (done : List run.Event) (g next : Gateway) (place after : Place) (ran : Ran) (from count : ℕ) → IsGiving place.phase → IsLooked next from count after
@@ -131,7 +130,7 @@ units_out tell c done g next place after ran from count i look still caught off 
     let s = stands_giving place.phase g c h.events i h.stands in
     let none = no_tails place.phase c h.events h.tails i h.is_in in
     moved tell c done g next place after ran h (looked_stands next from count after.plp c h.events after.phase look (still c h.events s))
-    (looked_in next from count after.plp c h.events h.tails after.phase look none (caught c h.events s (off h.events s))) (λ plp some p. absurd (some (none plp)))
+    (looked_in next from count after.plp c h.events h.tails after.phase look none (caught c h.events s (off h.events s))) (λ plp some. absurd (some (none plp)))
 
 -- No unit was given, and what comes behind them.
 pub gave_none : EventsTell → (c : Config) (done : List run.Event) (g next : Gateway) (place after : Place) (ran : Ran) → IsReady g c place ran → IsGiving place.phase → IsBehindAs place.phase next (length c.plps) after

@@ -11,7 +11,7 @@ use Rattle.gateway_core.specs.declared.gateway.Gateway.{Gateway}
 use Rattle.gateway_run.specs.AsMachine.{step_of, frame_read}
 use Rattle.gateway_run.specs.Holds.{IsOffered, Holds}
 use Rattle.gateway_run.specs.Ready.{IsReady, IsGiving, IsLookedAs, IsBadAs, IsBehindAs}
-use Rattle.gateway_run.specs.declared.place.GatewayStop.TheVariants.{Bad, TooManyFrames, OutOfMemory}
+use Rattle.gateway_run.specs.declared.place.GatewayStop.TheVariants.{Bad, TooManyFrames}
 use Rattle.gateway_run.specs.declared.place.Phase.{Phase}
 use Rattle.gateway_run.specs.declared.place.Phase.TheVariants.{Wants, Begins, Gives, Rests, Done, Stopped}
 use Rattle.gateway_run.specs.declared.place.Place.{Place}
@@ -72,7 +72,6 @@ looked_read g from count plp frames (Stopped why) l = absurd l
 pub bad_read : (c : Config) (plp frames wants : ℕ) (phase : Phase) → IsBadAs c plp frames wants phase → frame_read phase frames ≡ frames
 bad_read c plp frames wants (Stopped (Bad of packet)) b = refl
 bad_read c plp frames wants (Stopped TooManyFrames) b = refl
-bad_read c plp frames wants (Stopped OutOfMemory) b = refl
 bad_read c plp frames wants Wants b = absurd b
 bad_read c plp frames wants Begins b = absurd b
 bad_read c plp frames wants Gives b = absurd b

@@ -21,7 +21,7 @@ use Rattle.gateway_run.specs.GatewayRun.{inputs_of, frames_of, units_of, MeetsNo
 use Rattle.gateway_run.specs.Holds.{IsOffered, AreComplete, AreAll, HasGiven, HasAll, MetBad, NoTails, IsIn, Holds}
 use Rattle.gateway_run.specs.declared.place.Phase.{Phase}
 use Rattle.gateway_run.specs.declared.place.Phase.TheVariants.{Done, Stopped}
-use Rattle.gateway_run.specs.declared.place.GatewayStop.TheVariants.{Bad, OutOfMemory}
+use Rattle.gateway_run.specs.declared.place.GatewayStop.TheVariants.{Bad}
 use Rattle.gateway_run.specs.declared.place.Place.{Place}
 use Rattle.gateway_run.specs.declared.stop.Ran.{Ran}
 use Rattle.gateway_run.proofs.FileLemmas.{IsRead, continues, taken_all, none_bad, next_bad, not_wanted, still_bad}
@@ -141,10 +141,9 @@ pub meets_bad : (c : Config) (done : List run.Event) (g : Gateway) (place : Plac
     → AreFed (length c.plps) files places done → MeetsBad c files ran.frames plp packet
 meets_bad c done g place ran plp packet e h files places are =
     let m : MetBad c h.events h.tails plp packet = subst (λ (p : Phase). IsIn c h.events h.tails p) e h.is_in in
-    let some_memory : place.phase ≢ Stopped OutOfMemory = λ z. (let y : Stopped (Bad plp packet) ≡ Stopped OutOfMemory = sym e ∙ z in cc) in
     let f = are plp m.place in
     let some : h.tails plp ++ f.more ≢ [] = λ z. m.some (nil_from_length (h.tails plp) (let n = ap length z in let l = length-append (h.tails plp) f.more in omega (arith, n, l))) in
-    let bad = next_bad (files plp) (offered plp h.events) (has_ended plp h.events) _ (reads c done g place ran h files places are plp m.place) some (still_bad (h.tails plp) f.more (run.has_ended plp done) m.some m.bad (h.cut plp m.some some_memory) f.end) in
+    let bad = next_bad (files plp) (offered plp h.events) (has_ended plp h.events) _ (reads c done g place ran h files places are plp m.place) some (still_bad (h.tails plp) f.more (run.has_ended plp done) m.some m.bad (h.cut plp m.some) f.end) in
     let slots = ap (λ (n : ℕ). slots_by c plp (n * c.ticks)) h.frames in
     record {
       place = m.place;

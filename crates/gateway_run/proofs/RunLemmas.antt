@@ -4,7 +4,6 @@ use Rattle.std.specs.Prelude.{IfOk, IfErr, slice_index}
 use Rattle.std.proofs.lemmas.List.{nil_from_length}
 use Rattle.std.proofs.lemmas.Option.{IfSome_then}
 use Rattle.ports.specs.Desk.{State}
-use Rattle.plp_config.specs.Laws.{CountRises, SlotLength}
 use Rattle.plp_config.specs.SlotTime.{slots_by}
 use Rattle.plp_config.specs.declared.config.Config.{Config}
 use Rattle.plp_config.specs.declared.moment.TheConstants.{MOST_FRAMES}
@@ -26,11 +25,11 @@ use Rattle.gateway_core.specs.Laws.{UnitsLaw, FrontsGrow, LastIsAll, WaitsThreeF
 use Rattle.gateway_core.specs.Packets.{front_packets}
 use Rattle.gateway_core.specs.declared.gateway.Gateway.{Gateway}
 use Rattle.gateway_run.specs.AsMachine.{becomes, step_of, next_of, frame_read, reach_of, ending_of, stop_by}
-use Rattle.gateway_run.specs.GatewayRun.{inputs_of, frames_of, units_of, MeetsNone, MeetsNoneBefore, ReadsNoFurther, BeginsUnits, BeginsSome, ReadsAhead, RunsAll, StopsAtBad, StopsTooLong, StopsReading, StopsWriting, LacksMemory, Stops}
+use Rattle.gateway_run.specs.GatewayRun.{inputs_of, frames_of, units_of, MeetsNone, MeetsNoneBefore, ReadsNoFurther, BeginsUnits, BeginsSome, ReadsAhead, RunsAll, StopsAtBad, StopsTooLong, StopsReading, StopsWriting, Stops}
 use Rattle.gateway_run.specs.Holds.{NoTails, HasGiven, IsOneTooMany, MetBad, IsIn, Holds}
 use Rattle.gateway_run.specs.Ready.{IsReady}
 use Rattle.gateway_run.specs.declared.machine.GatewayMachine.{GatewayMachine}
-use Rattle.gateway_run.specs.declared.place.GatewayStop.TheVariants.{Bad, TooManyFrames, OutOfMemory}
+use Rattle.gateway_run.specs.declared.place.GatewayStop.TheVariants.{Bad, TooManyFrames}
 use Rattle.gateway_run.specs.declared.place.Phase.{Phase}
 use Rattle.gateway_run.specs.declared.place.Place.{Place}
 use Rattle.gateway_run.specs.declared.stop.Ran.{Ran}
@@ -128,11 +127,6 @@ too_many_frames grow law start now old new out ins count e r =
       );
     }
 
--- No memory was found.
-pub lacks_memory : FrontsGrow → LastIsAll → (start now : GatewayMachine) (old new : State) (out : List ℕ) (ins : List (List ℕ)) → length ins ≡ length start.plan.now.plps
-    → driver.RunsAll old new out ins (reach_of now) (λ events. becomes start events now) → LacksMemory start.plan.now old new out ins
-lacks_memory grow law start now old new out ins count r = record { places = r.stands.places; works = front_works grow law start now old new out ins count r.stands; short = r.short }
-
 -- how a machine ended that came to its end
 pub ends : UnitsLaw → FrontsGrow → LastIsAll → (start now : GatewayMachine) (old new : State) (out : List ℕ) (ins : List (List ℕ)) (p : Phase) → length ins ≡ length start.plan.now.plps → now.place.phase ≡ p → step_of now.gateway now.place.plp p ≡ End
     → driver.RunsAll old new out ins (reach_of now) (λ events. becomes start events now)
@@ -144,7 +138,6 @@ ends units grow law start now old new out ins phase.Rests count e end r = absurd
 ends units grow law start now old new out ins phase.Done count e end r = (runs_all start now old new out ins count e r, tt)
 ends units grow law start now old new out ins (phase.Stopped (Bad plp packet)) count e end r = (tt, stops_at_bad units start now old new out ins plp packet count e r)
 ends units grow law start now old new out ins (phase.Stopped TooManyFrames) count e end r = (tt, too_many_frames grow law start now old new out ins count e r)
-ends units grow law start now old new out ins (phase.Stopped OutOfMemory) count e end r = (tt, (r.counts, inr (lacks_memory grow law start now old new out ins count r)))
 
 -- where the machine wants more of an input
 wants_at : (g : Gateway) (at : ℕ) (p : Phase) (plp : ℕ) → Wants (step_of g at p) plp → (p ≡ phase.Wants) × (at ≡ plp)
@@ -276,9 +269,9 @@ read_few phase.Done frames = omega arith
 read_few (phase.Stopped why) frames = omega arith
 
 -- What was given could not be written.
-pub stops_writing : EventsTell → UnitsLaw → FrontsGrow → LastIsAll → WaitsThreeFrames → CountRises → SlotLength → (start now : GatewayMachine) (old new : State) (out : List ℕ) (ins : List (List ℕ)) → length ins ≡ length start.plan.now.plps
+pub stops_writing : EventsTell → UnitsLaw → FrontsGrow → LastIsAll → WaitsThreeFrames → (start now : GatewayMachine) (old new : State) (out : List ℕ) (ins : List (List ℕ)) → length ins ≡ length start.plan.now.plps
     → driver.StopsWriting old new out ins reach_of next_of (becomes start) now → StopsWriting start.plan.now old new out ins
-stops_writing tell units grow law three rises slot start now old new out ins count w =
+stops_writing tell units grow law three start now old new out ins count w =
     let s = w.stands in
     let c : Config = start.plan.now in
     let mid = w.mid in
@@ -307,7 +300,7 @@ stops_writing tell units grow law three rises slot start now old new out ins cou
               since = g.0 ++ w.front;
               complete = all;
             },
-            reads_ahead units three rises slot start.plan.now files s.places bytes (g.0 ++ w.front) frame h.plan (omega (arith, s.works.all, count)) within all further,
+            reads_ahead units three start.plan.now files s.places bytes (g.0 ++ w.front) frame h.plan (omega (arith, s.works.all, count)) within all further,
           ));
       short = w.short;
       early = read_early mid.place.phase mid.ran.frames early;
@@ -316,8 +309,8 @@ stops_writing tell units grow law three rises slot start now old new out ins cou
     }
 
 -- How a run ended that its files stopped.
-pub stops : EventsTell → UnitsLaw → FrontsGrow → LastIsAll → WaitsThreeFrames → CountRises → SlotLength → (start now : GatewayMachine) (old new : State) (out : List ℕ) (ins : List (List ℕ)) (why : RunFault) → length ins ≡ length start.plan.now.plps
+pub stops : EventsTell → UnitsLaw → FrontsGrow → LastIsAll → WaitsThreeFrames → (start now : GatewayMachine) (old new : State) (out : List ℕ) (ins : List (List ℕ)) (why : RunFault) → length ins ≡ length start.plan.now.plps
     → driver.Stops old new out ins reach_of next_of (becomes start) now why → Stops start.plan.now old new out ins (stop_by why)
-stops tell units grow law three rises slot start now old new out ins (fault.TooLong input) count s = gives_too_much grow law start now old new out ins input count s
-stops tell units grow law three rises slot start now old new out ins (fault.ReadFault input) count s = (s.0, (input, elim s.1 [ inl opens ↦ inl opens | inr fails ↦ inr (stops_reading units grow law start now old new out ins input count fails) ]))
-stops tell units grow law three rises slot start now old new out ins fault.WriteFault count s = (s.0, elim s.1 [ inl fails ↦ inl fails | inr w ↦ inr (stops_writing tell units grow law three rises slot start now old new out ins count w) ])
+stops tell units grow law three start now old new out ins (fault.TooLong input) count s = gives_too_much grow law start now old new out ins input count s
+stops tell units grow law three start now old new out ins (fault.ReadFault input) count s = (s.0, (input, elim s.1 [ inl opens ↦ inl opens | inr fails ↦ inr (stops_reading units grow law start now old new out ins input count fails) ]))
+stops tell units grow law three start now old new out ins fault.WriteFault count s = (s.0, elim s.1 [ inl fails ↦ inl fails | inr w ↦ inr (stops_writing tell units grow law three start now old new out ins count w) ])

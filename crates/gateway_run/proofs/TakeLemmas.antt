@@ -18,7 +18,7 @@ use Rattle.gateway_core.proofs.HoldsLemmas.{other_offered, other_ended}
 use Rattle.gateway_run.specs.Holds.{ArePackets, IsOffered, IsInTime, AreComplete, HasAll, MetBad, StopsFor, NoTails, IsIn, StandsIn, Holds}
 use Rattle.gateway_run.specs.Ready.{IsReady, IsLookedAs, IsLooked, IsBad, IsBadAs}
 use Rattle.gateway_run.specs.declared.place.GatewayStop.{GatewayStop}
-use Rattle.gateway_run.specs.declared.place.GatewayStop.TheVariants.{Bad, TooManyFrames, OutOfMemory}
+use Rattle.gateway_run.specs.declared.place.GatewayStop.TheVariants.{Bad, TooManyFrames}
 use Rattle.gateway_run.specs.declared.place.Phase.{Phase}
 use Rattle.gateway_run.specs.declared.place.Phase.TheVariants.{Wants, Begins, Gives, Rests, Done, Stopped}
 use Rattle.gateway_run.specs.declared.place.Place.{Place}
@@ -179,7 +179,7 @@ packet_offered tell c done g next place after ran count packet bytes r e look sa
       time = time_offered c h.events place.plp packet off w.wanted.less w.is_going h.time;
       sends = sends_kept c done (done ++ run.Fed place.plp bytes ∷ []) h.events (h.events ++ Offered place.plp packet ∷ []) s f.gave h.sends;
       is_in = looked_in next place.plp count after.plp c (h.events ++ Offered place.plp packet ∷ []) h.tails after.phase look w.none (complete_kept c h.events (h.events ++ Offered place.plp packet ∷ []) s w.complete);
-      cut = λ k some p. absurd (some (w.none k));
+      cut = λ k some. absurd (some (w.none k));
     }
 
 -- An input ended.
@@ -212,7 +212,7 @@ input_ended tell c done g next place after ran count bytes r e look nothing stan
       time = time_ended c h.events place.plp w.is_going h.time;
       sends = sends_kept c done (done ++ run.Ended place.plp bytes ∷ []) h.events (h.events ++ Ended place.plp ∷ []) s f.gave h.sends;
       is_in = looked_in next place.plp count after.plp c (h.events ++ Ended place.plp ∷ []) h.tails after.phase look w.none (complete_kept c h.events (h.events ++ Ended place.plp ∷ []) s w.complete);
-      cut = λ k some p. absurd (some (w.none k));
+      cut = λ k some. absurd (some (w.none k));
     }
 
 -- the tail of one input
@@ -232,9 +232,9 @@ record IsTold (done is : List run.Event) (plp : ℕ) (bytes : List ℕ) : Type 0
   ended : (other : ℕ) → other ≢ plp → run.has_ended other is ≡ run.has_ended other done
   gave : run.gave is ≡ run.gave done
 
--- These bytes are no packet, or no memory was found for it.
+-- These bytes are no packet.
 stopped_at : (c : Config) (done is : List run.Event) (g next : Gateway) (place after : Place) (ran : Ran) (bytes : List ℕ) (why : GatewayStop) → IsReady g c place ran → place.phase ≡ Wants → after.phase ≡ Stopped why → bytes ≢ []
-    → (after.phase ≢ Stopped OutOfMemory → (slice_index bytes 0 ≢ SYNC) ⊎ (run.has_ended place.plp is ≡ true)) → IsTold done is place.plp bytes
+    → (slice_index bytes 0 ≢ SYNC) ⊎ (run.has_ended place.plp is ≡ true) → IsTold done is place.plp bytes
     → (h : Holds c done g place ran) → StopsFor c h.events (one_tail place.plp bytes) why → Holds c is next after ran
 stopped_at c done is g next place after ran bytes why r e to some cut tells h stops =
     let w = waiting c done g place ran e r h in
@@ -254,22 +254,22 @@ stopped_at c done is g next place after ran bytes why r e to some cut tells h st
       time = h.time;
       sends = record { units = h.sends.units; gave = tells.gave ∙ h.sends.gave; count = h.sends.count; front = h.sends.front };
       is_in = subst (λ (p : Phase). IsIn c h.events (one_tail place.plp bytes) p) (sym to) stops;
-      cut = each_input (λ k. one_tail place.plp bytes k ≢ [] → after.phase ≢ Stopped OutOfMemory → (slice_index (one_tail place.plp bytes k) 0 ≢ SYNC) ⊎ (run.has_ended k is ≡ true)) place.plp
-          (λ there p. elim (cut p) [ inl sync ↦ inl (λ z. sync (sym (ap (λ (l : List ℕ). slice_index l 0) (tail_here place.plp bytes)) ∙ z)) | inr on ↦ inr on ])
-          (λ k differ there p. absurd (there (tail_other place.plp k bytes differ)));
+      cut = each_input (λ k. one_tail place.plp bytes k ≢ [] → (slice_index (one_tail place.plp bytes k) 0 ≢ SYNC) ⊎ (run.has_ended k is ≡ true)) place.plp
+          (λ there. elim cut [ inl sync ↦ inl (λ z. sync (sym (ap (λ (l : List ℕ). slice_index l 0) (tail_here place.plp bytes)) ∙ z)) | inr on ↦ inr on ])
+          (λ k differ there. absurd (there (tail_other place.plp k bytes differ)));
     }
 
 pub fed_stopped : EventsTell → (c : Config) (done : List run.Event) (g next : Gateway) (place after : Place) (ran : Ran) (bytes : List ℕ) (why : GatewayStop) → IsReady g c place ran → place.phase ≡ Wants → after.phase ≡ Stopped why → bytes ≢ []
-    → (after.phase ≢ Stopped OutOfMemory → slice_index bytes 0 ≢ SYNC) → (h : Holds c done g place ran) → StopsFor c h.events (one_tail place.plp bytes) why → Holds c (done ++ run.Fed place.plp bytes ∷ []) next after ran
+    → slice_index bytes 0 ≢ SYNC → (h : Holds c done g place ran) → StopsFor c h.events (one_tail place.plp bytes) why → Holds c (done ++ run.Fed place.plp bytes ∷ []) next after ran
 fed_stopped tell c done g next place after ran bytes why r e to some sync h stops =
     let f = tell.fed place.plp bytes done in
-    stopped_at c done (done ++ run.Fed place.plp bytes ∷ []) g next place after ran bytes why r e to some (λ p. inl (sync p)) (record { here = f.here; others = f.others; ended = λ k differ. f.ended k; gave = f.gave }) h stops
+    stopped_at c done (done ++ run.Fed place.plp bytes ∷ []) g next place after ran bytes why r e to some (inl sync) (record { here = f.here; others = f.others; ended = λ k differ. f.ended k; gave = f.gave }) h stops
 
 pub ended_stopped : EventsTell → (c : Config) (done : List run.Event) (g next : Gateway) (place after : Place) (ran : Ran) (bytes : List ℕ) (why : GatewayStop) → IsReady g c place ran → place.phase ≡ Wants → after.phase ≡ Stopped why → bytes ≢ []
     → (h : Holds c done g place ran) → StopsFor c h.events (one_tail place.plp bytes) why → Holds c (done ++ run.Ended place.plp bytes ∷ []) next after ran
 ended_stopped tell c done g next place after ran bytes why r e to some h stops =
     let f = tell.ended place.plp bytes done in
-    stopped_at c done (done ++ run.Ended place.plp bytes ∷ []) g next place after ran bytes why r e to some (λ p. inr f.ended) (record { here = f.here; others = f.others; ended = f.others_ended; gave = f.gave }) h stops
+    stopped_at c done (done ++ run.Ended place.plp bytes ∷ []) g next place after ran bytes why r e to some (inr f.ended) (record { here = f.here; others = f.others; ended = f.others_ended; gave = f.gave }) h stops
 
 -- The next packet of the input that is looked at is bad.
 pub record IsMet (c : Config) (events : List Event) (tails : ℕ → List ℕ) (plp : ℕ) (after : Place) : Type 0 where
@@ -280,7 +280,6 @@ pub record IsMet (c : Config) (events : List Event) (tails : ℕ → List ℕ) (
 bad_phase : (c : Config) (plp frames wants : ℕ) (phase : Phase) → IsBadAs c plp frames wants phase → (packet : ℕ) × (phase ≡ Stopped (Bad plp packet)) × (packet ≡ slots_by c plp (frames * c.ticks) - wants)
 bad_phase c plp frames wants (Stopped (Bad of packet)) b = (packet, ap (λ (k : ℕ). Stopped (Bad k packet)) b.0, b.1)
 bad_phase c plp frames wants (Stopped TooManyFrames) b = absurd b
-bad_phase c plp frames wants (Stopped OutOfMemory) b = absurd b
 bad_phase c plp frames wants Wants b = absurd b
 bad_phase c plp frames wants Begins b = absurd b
 bad_phase c plp frames wants Gives b = absurd b

@@ -13,7 +13,7 @@ use Rattle.gateway_core.specs.StandsFor.{wants_of}
 use Rattle.gateway_core.specs.declared.gateway.Gateway.{Gateway}
 use Rattle.gateway_run.specs.Holds.{Holds}
 use Rattle.gateway_run.specs.declared.machine.GatewayMachine.{GatewayMachine}
-use Rattle.gateway_run.specs.declared.place.GatewayStop.TheVariants.{Bad, TooManyFrames, OutOfMemory}
+use Rattle.gateway_run.specs.declared.place.GatewayStop.TheVariants.{Bad, TooManyFrames}
 use Rattle.gateway_run.specs.declared.place.Phase.{Phase}
 use Rattle.gateway_run.specs.declared.place.Phase.TheVariants.{Wants, Begins, Gives, Rests, Done, Stopped}
 use Rattle.gateway_run.specs.declared.stop.Ran.{Ran}
@@ -47,7 +47,6 @@ reach_of m plp = SIZE * slots_by m.plan.now plp (frame_read m.place.phase m.ran.
 abbrev pub ending_of : Phase → Ran → Result Ran RunStop
 ending_of (Stopped (Bad input packet)) ran = Err (stop.Bad input packet)
 ending_of (Stopped TooManyFrames) ran = Err (stop.TooLong MOST_FRAMES)
-ending_of (Stopped OutOfMemory) ran = Err stop.OutOfMemory
 ending_of phase ran = Ok ran
 
 -- how a run ends that its files stopped

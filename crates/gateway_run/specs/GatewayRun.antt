@@ -151,16 +151,10 @@ pub record StopsWriting (c : Config) (old new : State) (out : List ℕ) (ins : L
   pub no_further : ReadsNoFurther c places frame
   pub before : IfSome old.held (λ h. MeetsNone c (file_at h ins) frame)
 
--- No memory was found for the gateway. The output is a front of what it should be.
-pub record LacksMemory (c : Config) (old new : State) (out : List ℕ) (ins : List (List ℕ)) : Type 0 where
-  pub places : List ℕ
-  pub works : Works old new out ins places (BeginsUnits c ins)
-  pub short : AllShort places
-
 -- A run that did not come to its end, by its cause.
 abbrev pub Stops : Config → State → State → List ℕ → List (List ℕ) → RunStop → Type 0
 Stops c old new out ins (Bad input packet) = StopsAtBad c old new out ins input packet
 Stops c old new out ins (TooLong count) = StopsTooLong c old new out ins count
 Stops c old new out ins ReadFault = ReadsFail old new × ((input : ℕ) × (OpensInputs old new ins input ⊎ StopsReading c old new out ins input))
 Stops c old new out ins WriteFault = WritesFail old new × (FailsToCreateOutput old new out ins ⊎ StopsWriting c old new out ins)
-Stops c old new out ins OutOfMemory = SameCounts old new × ((new ≡ old) ⊎ LacksMemory c old new out ins)
+Stops c old new out ins OutOfMemory = new ≡ old

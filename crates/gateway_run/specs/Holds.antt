@@ -16,7 +16,7 @@ use Rattle.gateway_core.specs.Packets.{front_packets}
 use Rattle.gateway_core.specs.StandsFor.{GatewayStandsFor, IsLast}
 use Rattle.gateway_core.specs.declared.gateway.Gateway.{Gateway}
 use Rattle.gateway_run.specs.declared.place.GatewayStop.{GatewayStop}
-use Rattle.gateway_run.specs.declared.place.GatewayStop.TheVariants.{Bad, TooManyFrames, OutOfMemory}
+use Rattle.gateway_run.specs.declared.place.GatewayStop.TheVariants.{Bad, TooManyFrames}
 use Rattle.gateway_run.specs.declared.place.Phase.{Phase}
 use Rattle.gateway_run.specs.declared.place.Phase.TheVariants.{Wants, Begins, Gives, Rests, Done, Stopped}
 use Rattle.gateway_run.specs.declared.place.Place.{Place}
@@ -96,7 +96,6 @@ pub record IsOneTooMany (c : Config) (events : List Event) (tails : ℕ → List
 abbrev pub StopsFor : Config → List Event → (ℕ → List ℕ) → GatewayStop → Type 0
 StopsFor c events tails (Bad plp packet) = MetBad c events tails plp packet
 StopsFor c events tails TooManyFrames = IsOneTooMany c events tails
-StopsFor c events tails OutOfMemory = Unit {0}
 
 abbrev pub IsIn : Config → List Event → (ℕ → List ℕ) → Phase → Type 0
 IsIn c events tails Wants = NoTails tails × AreComplete c events
@@ -127,5 +126,5 @@ pub record Holds (c : Config) (done : List run.Event) (g : Gateway) (place : Pla
   pub time : IsInTime c events
   pub sends : Sends c done events
   pub is_in : IsIn c events tails place.phase
-  -- a tail is no packet for its first byte, or since nothing follows, unless no memory was found for it
-  pub cut : (plp : ℕ) → tails plp ≢ [] → place.phase ≢ Stopped OutOfMemory → (slice_index (tails plp) 0 ≢ SYNC) ⊎ (run.has_ended plp done ≡ true)
+  -- a tail is no packet for its first byte, or since nothing follows
+  pub cut : (plp : ℕ) → tails plp ≢ [] → (slice_index (tails plp) 0 ≢ SYNC) ⊎ (run.has_ended plp done ≡ true)

@@ -113,7 +113,6 @@ impl<'p> GatewayMachine<'p> {
             Phase::Stopped(GatewayStop::TooManyFrames) => {
                 Err(RunStop::TooLong { count: MOST_FRAMES })
             }
-            Phase::Stopped(GatewayStop::OutOfMemory) => Err(RunStop::OutOfMemory),
             _ => Ok(self.ran),
         }
     }

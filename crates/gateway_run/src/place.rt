@@ -7,8 +7,6 @@ pub enum GatewayStop {
     Bad { input: u8, packet: u64 },
     /// Frame 2^31 would begin.
     TooManyFrames,
-    /// No memory was found.
-    OutOfMemory,
 }
 
 /// What comes next.

@@ -10,7 +10,7 @@ use bit_slice::OutOfMemory;
 use desk_io::{ByteWriter, MOST_BYTES, ReadAhead};
 use file_run::{RunFault, events_law};
 use gateway_core::{ahead_law, front_law, last_law, units_law};
-use plp_config::{Plan, length_law, slot_time_law};
+use plp_config::Plan;
 use ports::{Desk, Word};
 use std::alloc::Global;
 
@@ -57,8 +57,6 @@ fn run_machine<D: Desk>(
     last_law();
     units_law();
     ahead_law();
-    slot_time_law();
-    length_law();
     match file_run::run(machine, readers, writer, out, ins, desk) {
         Ok(()) => machine.ending(),
         Err(fault) => Err(stop_of(fault)),

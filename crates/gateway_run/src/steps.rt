@@ -94,10 +94,8 @@ pub fn take_packet(
     if packet.as_array()[0] != SYNC {
         return bad(gateway, plan, place.plp, ran.frames);
     }
-    match gateway.offer(place.plp, &packet) {
-        Ok(()) => look(gateway, place.plp, plan.config().plps.len()),
-        Err(_) => stopped(GatewayStop::OutOfMemory),
-    }
+    gateway.offer(place.plp, &packet);
+    look(gateway, place.plp, plan.config().plps.len())
 }
 
 /// The file of the input that is looked at has ended behind these bytes.
@@ -147,15 +145,11 @@ pub fn begin(gateway: &mut Gateway<'_>, plan: &Plan, place: Place, ran: &mut Ran
     if ran.frames == MOST_FRAMES {
         return stopped(GatewayStop::TooManyFrames);
     }
-    match gateway.begin_frame() {
-        Ok(()) => {
-            ran.frames += 1;
-            Place {
-                plp: 0,
-                phase: Phase::Gives,
-            }
-        }
-        Err(_) => stopped(GatewayStop::OutOfMemory),
+    gateway.begin_frame();
+    ran.frames += 1;
+    Place {
+        plp: 0,
+        phase: Phase::Gives,
     }
 }
 

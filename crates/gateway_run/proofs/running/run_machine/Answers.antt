@@ -14,4 +14,4 @@ returns-in-Ok-clause-err g c =
 
 pub returns-in-Err-clause-err : goal.returns-in-Err-clause-err
 returns-in-Err-clause-err g c =
-    rw c.stop_of.ensures (stops c.events_law.ensures c.units_law.ensures c.front_law.ensures.grow c.last_law.ensures c.ahead_law.ensures c.slot_time_law.ensures.count_rises c.length_law.ensures.slot c.args.machine.now c.run.new.machine _ _ _ _ _ c.requires.inputs c.in-Err.ensures.err)
+    rw c.stop_of.ensures (stops c.events_law.ensures c.units_law.ensures c.front_law.ensures.grow c.last_law.ensures c.ahead_law.ensures c.args.machine.now c.run.new.machine _ _ _ _ _ c.requires.inputs c.in-Err.ensures.err)

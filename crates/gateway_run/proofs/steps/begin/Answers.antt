@@ -1,5 +1,5 @@
 use Rattle.std.proofs.Common.{refl, ap}
-use Rattle.gateway_run.proofs.BeginLemmas.{frame_begun, frames_ended, too_many, no_memory, is_last, not_last}
+use Rattle.gateway_run.proofs.BeginLemmas.{frame_begun, frames_ended, too_many, is_last, not_last}
 use Rattle.gateway_run.proofs.steps.begin.Goals as goal
 
 pub returns-then-last-clause-holds : goal.returns-then-last-clause-holds
@@ -9,9 +9,6 @@ pub returns-then-ran-eq-MOST_FRAMES-clause-holds : goal.returns-then-ran-eq-MOST
 returns-then-ran-eq-MOST_FRAMES-clause-holds c = λ done h.
     too_many c.not_yet_last.ensures _ done _ c.args.place _ _ c.requires.ready c.requires.begins (ap (λ p. p.phase) c.stopped.ensures) c.if-ran-eq-MOST_FRAMES.true (not_last _ _ c.last.ensures c.if-last.false) h
 
-pub returns-in-Ok-clause-holds : goal.returns-in-Ok-clause-holds
-returns-in-Ok-clause-holds c = λ done h.
-    frame_begun c.not_yet_last.ensures c.front_law.ensures.grow _ done _ _ c.args.place _ _ _ c.requires.ready c.requires.begins refl refl refl (not_last _ _ c.last.ensures c.if-last.false) c.in-Ok.ensures.stands h
-
-pub returns-in-Err-clause-holds : goal.returns-in-Err-clause-holds
-returns-in-Err-clause-holds c = λ done h. no_memory _ done _ _ _ _ _ (ap (λ p. p.phase) c.stopped-in-Err.ensures) h
+pub returns-clause-holds : goal.returns-clause-holds
+returns-clause-holds c = λ done h.
+    frame_begun c.not_yet_last.ensures c.front_law.ensures.grow _ done _ _ c.args.place _ _ _ c.requires.ready c.requires.begins refl refl refl (not_last _ _ c.last.ensures c.if-last.false) c.begin_frame.ensures.stands h

@@ -1,7 +1,6 @@
 use Rattle.std.proofs.Common.{ap, ◌∙◌, List, ℕ, take, length, slice_index_or}
 use Rattle.std.proofs.lemmas.List.{length-take-le}
 use Rattle.ts_packet.specs.declared.sizes.TheConstants.{SIZE}
-use Rattle.gateway_run.specs.declared.place.GatewayStop.TheVariants.{OutOfMemory}
 use Rattle.gateway_run.proofs.FileLemmas.{no_sync}
 use Rattle.gateway_run.proofs.TakeLemmas.{packet_offered, fed_stopped, met_bad, some_taken}
 use Rattle.gateway_run.proofs.MachineLemmas.{looked_read, bad_read}
@@ -12,18 +11,15 @@ returns-then-as_array-ne-SYNC-clause-holds c = λ done h.
     let first = ap (λ (l : List ℕ). slice_index_or l 0 0) (c.as_array.ensures.bytes ∙ c.front_packet-packet.ensures) in
     let some = some_taken _ c.requires.long in
     let m = met_bad _ done _ c.args.place c.bad.result c.args.ran (take SIZE c.args.bytes.now) c.requires.ready c.requires.wants c.bad.ensures some (no_sync (take SIZE c.args.bytes.now) (λ e. c.if-as_array-ne-SYNC.true (first ∙ e))) h in
-    fed_stopped c.events_law.ensures _ done _ _ _ _ c.args.ran _ _ c.requires.ready c.requires.wants m.phase some (λ p e. c.if-as_array-ne-SYNC.true (first ∙ e)) h m.met
+    fed_stopped c.events_law.ensures _ done _ _ _ _ c.args.ran _ _ c.requires.ready c.requires.wants m.phase some (λ e. c.if-as_array-ne-SYNC.true (first ∙ e)) h m.met
 
-pub returns-in-Ok-clause-holds : goal.returns-in-Ok-clause-holds
-returns-in-Ok-clause-holds c = λ done h.
+pub returns-clause-holds : goal.returns-clause-holds
+returns-clause-holds c = λ done h.
     packet_offered c.events_law.ensures _ done _ _ _ _ c.args.ran _ c.front_packet-packet.result (take SIZE c.args.bytes.now) c.requires.ready c.requires.wants c.look.ensures c.front_packet-packet.ensures
-    (ap length c.front_packet-packet.ensures ∙ length-take-le SIZE c.args.bytes.now c.requires.long) (let a = c.as_array.ensures.bytes in let f = c.if-as_array-ne-SYNC.false in cc) c.in-Ok.ensures.stands h
-
-pub returns-in-Err-clause-holds : goal.returns-in-Err-clause-holds
-returns-in-Err-clause-holds c = λ done h. fed_stopped c.events_law.ensures _ done _ _ _ _ c.args.ran _ OutOfMemory c.requires.ready c.requires.wants (ap (λ p. p.phase) c.stopped.ensures) (some_taken _ c.requires.long) (λ p. absurd (p (ap (λ p. p.phase) c.stopped.ensures))) h tt
+    (ap length c.front_packet-packet.ensures ∙ length-take-le SIZE c.args.bytes.now c.requires.long) (let a = c.as_array.ensures.bytes in let f = c.if-as_array-ne-SYNC.false in cc) c.offer.ensures.stands h
 
 pub returns-then-as_array-ne-SYNC-clause-read : goal.returns-then-as_array-ne-SYNC-clause-read
 returns-then-as_array-ne-SYNC-clause-read c = bad_read _ _ _ _ c.bad.result.phase c.bad.ensures
 
-pub returns-in-Ok-clause-read : goal.returns-in-Ok-clause-read
-returns-in-Ok-clause-read c = looked_read c.offer.new.self _ _ _ _ c.look.result.phase c.look.ensures
+pub returns-clause-read : goal.returns-clause-read
+returns-clause-read c = looked_read c.offer.new.self _ _ _ _ c.look.result.phase c.look.ensures
