@@ -27,10 +27,10 @@ copied bytes piece kept place n inside is =
     let whole : take n (piece ++ kept) ≡ piece = ap (λ (k : ℕ). take k (piece ++ kept)) (sym size) ∙ take-append_seam piece kept in
     sym (take-append-drop n (drop place bytes)) ∙ rw (whole, drop-drop n place bytes) (ap (λ (x : List ℕ). x ++ drop (place + n) bytes) (sym front))
 
-abbrev name_of : Handle → List ℕ
+abbrev pub name_of : Handle → List ℕ
 name_of handle = string_bytes handle.name
 
-abbrev place_of : Handle → ℕ
+abbrev pub place_of : Handle → ℕ
 place_of handle = handle.place
 
 -- a desk with these files and handles

@@ -1,4 +1,5 @@
 pub mod FaultLemmas
 pub mod FileLemmas
+pub mod GivenLemmas
 pub mod HandleLemmas
 pub mod WriteLemmas

@@ -1,8 +1,11 @@
+pub mod Calls
+pub mod CallsCode
 pub mod Counts
 pub mod Desk
 pub mod Faults
 pub mod HostDesk
 pub mod Laws
 pub mod MemoryDesk
+pub mod Script
 pub mod StateCode
 pub mod Stored

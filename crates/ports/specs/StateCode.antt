@@ -4,6 +4,9 @@ use Rattle.std.specs.declared.option.Option.{Option}
 use Rattle.std.specs.FinMap.{code}
 use Rattle.std.specs.Coded.{Coded, code_by, coded×, coded_ℕ, coded_list, coded_option}
 use Rattle.ports.specs.declared.counts.Counts.{Counts}
+use Rattle.ports.specs.declared.script.Script.{Script}
+use Rattle.ports.specs.Calls.{KindCalls}
+use Rattle.ports.specs.CallsCode.{calls_code}
 use Rattle.ports.specs.Desk.{Files, Held, State}
 use Rattle.ports.specs.MemoryDesk.{Memory}
 
@@ -24,6 +27,17 @@ state_code = code_by (Option Held × (Option (List ℕ) × (List ℕ × (ℕ × 
     (λ p. record { held = p.0; said = p.1.0; opened = p.1.1.0; created = p.1.1.1.0; counts = p.1.1.1.1 })
     (λ _. refl)
 
--- a desk in memory is stored as its state and its cap
+abbrev six_calls : Type 0
+six_calls = KindCalls × (KindCalls × (KindCalls × (KindCalls × (KindCalls × KindCalls))))
+
+abbrev script_code : Coded Script
+script_code = code_by six_calls
+    (coded× calls_code (coded× calls_code (coded× calls_code (coded× calls_code (coded× calls_code calls_code)))))
+    (λ s. (s.opens, (s.creates, (s.reads, (s.writes, (s.says, s.lasts))))))
+    (λ p. record { opens = p.0; creates = p.1.0; reads = p.1.1.0; writes = p.1.1.1.0; says = p.1.1.1.1.0; lasts = p.1.1.1.1.1 })
+    (λ _. refl)
+
+-- a desk in memory is stored as the tuple of its fields
 abbrev pub memory_code : Coded Memory
-memory_code = code_by (State × ℕ) (coded× state_code coded_ℕ) (λ m. (m.state, m.cap)) (λ p. record { state = p.0; cap = p.1 }) (λ _. refl)
+memory_code = code_by (State × (ℕ × Script)) (coded× state_code (coded× coded_ℕ script_code))
+    (λ m. (m.state, (m.cap, m.script))) (λ p. record { state = p.0; cap = p.1.0; script = p.1.1 }) (λ _. refl)

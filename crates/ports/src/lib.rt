@@ -8,6 +8,7 @@ mod host;
 mod host_fault;
 mod laws;
 mod memory;
+mod script;
 mod word;
 
 pub use counts::Counts;
@@ -17,4 +18,5 @@ pub use host::HostDesk;
 pub use host_fault::{HostFault, Reason};
 pub use laws::writes_law;
 pub use memory::MemoryDesk;
+pub use script::CallKind;
 pub use word::Word;

@@ -1,11 +1,13 @@
 // A desk in memory.
-ghost use Rattle.std.specs.Prelude.{◌≡◌, ◌⊎◌, ◌<◌, ◌≤◌, ◌+◌, ◌-◌, ◌^◌, ◌++◌, ◌∷◌, ◌↔◌, [], length, map, vec_len, vec_capacity, take, drop, true, false, option_copied, IfSome, OnOk, OnErr, string_bytes};
+ghost use Rattle.std.specs.Prelude.{◌≡◌, ◌⊎◌, min, option_map, ◌<◌, ◌≤◌, ◌+◌, ◌-◌, ◌^◌, ◌++◌, ◌∷◌, ◌↔◌, [], length, map, vec_len, vec_capacity, take, drop, true, false, option_copied, IfSome, OnOk, OnErr, string_bytes};
 ghost use Rattle.std.specs.FinMap.{get, insert};
 ghost use Rattle.ports.specs.Desk.{bytes_of};
+ghost use Rattle.ports.specs.MemoryDesk.{given_by};
 ghost use Rattle.ports.specs.Stored.{files_of};
 
 use crate::fault::fault;
-use crate::{Counts, Desk, DeskFault};
+use crate::script::Script;
+use crate::{CallKind, Counts, Desk, DeskFault};
 use bit_slice::OutOfMemory;
 use std::alloc::Global;
 use std::collections::BTreeMap;
@@ -29,6 +31,7 @@ pub struct MemoryDesk {
     said: Vec<u8>,
     // How many bytes a read or a write moves at most.
     cap: usize,
+    script: Script,
     counts: Counts,
 }
 
@@ -55,6 +58,7 @@ impl Model for MemoryDesk {
         counts = m.counts;
       };
       cap = m.cap;
+      script = m.script;
     } };
 
     ghost invariant = { λ m. 0 < m.cap };
@@ -164,10 +168,23 @@ impl Handle {
     }
 }
 
+// The places of the handles of a name together, at most 2^64 - 1.
+fn given_by(handles: &[Handle], name: &str) -> u64
+    ensures { result ≡ min (2 ^ 64 - 1) (given_by name.now (map (λ h. string_bytes h.name) handles.now) (map (λ h. h.place) handles.now)) }
+{
+    let mut given: u64 = 0;
+    for handle in handles {
+        if handle.name.as_str() == name {
+            given = given.saturating_add(handle.place);
+        }
+    }
+    given
+}
+
 impl MemoryDesk {
     ghost use Rattle.std.specs.Prelude.{Some, IsSome, IsNone, IfNone};
     ghost use Rattle.ports.specs.Desk.{SameCounts, Opens, Creates, file_of};
-    ghost use Rattle.ports.specs.MemoryDesk.{empty_memory, with_file};
+    ghost use Rattle.ports.specs.MemoryDesk.{empty_memory, given_of, with_failing, with_file};
 
     /// A desk with no file, on which nothing was done.
     pub fn new(alloc: Global) -> MemoryDesk
@@ -180,6 +197,7 @@ impl MemoryDesk {
             outs: Vec::new(alloc),
             said: Vec::new(alloc),
             cap: usize::MAX,
+            script: Script::new(alloc),
             counts: Counts::default(),
         }
     }
@@ -200,6 +218,21 @@ impl MemoryDesk {
         ensures { self.new ≡ record self.old { cap = most } }
     {
         self.cap = most;
+    }
+
+    /// Lists a call to fail: the nth of its kind, from 1 on. Each call after number 2^64 - 1 counts as that number.
+    pub fn fail(&mut self, kind: CallKind, nth: u64) -> Result<(), OutOfMemory>
+        ensures ok { OnOk result (self.new ≡ with_failing kind nth self.old) }
+        ensures err { OnErr result (self.new ≡ self.old) }
+    {
+        self.script.list(kind, nth)
+    }
+
+    /// How many bytes the reads of a file gave so far over all handles, at most 2^64 - 1.
+    pub fn given(&self, name: &str) -> u64
+        ensures { option_map (min (2 ^ 64 - 1)) (given_of self.now.state name.now) ≡ Some result }
+    {
+        given_by(&self.handles, name)
     }
 
     /// The bytes of a file, or None where there is none of that name.
@@ -223,6 +256,7 @@ impl MemoryDesk {
         ensures none { IfNone result (self.new ≡ self.old) }
         ensures counts { SameCounts self.old.state self.new.state }
         ensures cap { self.new.cap ≡ self.old.cap }
+        ensures script { self.new.script ≡ self.old.script }
         ensures absent { IsNone (file_of self.old.state name.now) → IsNone result }
         ensures full { 2 ^ 32 - 1 ≤ length self.old.state.opened → IsNone result }
     {
@@ -241,6 +275,7 @@ impl MemoryDesk {
         ensures none { IfNone result (self.new ≡ self.old) }
         ensures counts { SameCounts self.old.state self.new.state }
         ensures cap { self.new.cap ≡ self.old.cap }
+        ensures script { self.new.script ≡ self.old.script }
         ensures full { 2 ^ 32 - 1 ≤ self.old.state.created → IsNone result }
     {
         let at = self.outs.len();
@@ -257,193 +292,126 @@ impl MemoryDesk {
     }
 }
 
+/// A call that was listed to fail is a fault, which does nothing but count.
 impl Desk for MemoryDesk {
-    ghost use Rattle.std.specs.Prelude.{IsNone, IsOk, IsErr, IfOk, OnOk, OnErr};
+    ghost use Rattle.std.specs.Prelude.{IsNone, IsErr, IfOk, OnOk, OnErr};
     ghost use Rattle.ports.specs.Desk.{SameCounts, Opens, Creates, FailsToCreate, Reads, Writes, Says, file_of};
     ghost use Rattle.ports.specs.Counts.{MayFailReading, MayFailWriting, MayFailAtLast};
-    ghost use Rattle.ports.specs.MemoryDesk.{fails_reading, fails_writing, fails_at_last};
+    ghost use Rattle.ports.specs.MemoryDesk.{Gives, after_call, fails_reading, fails_writing, fails_at_last};
+    ghost use Rattle.ports.specs.Script.{Strikes, one_call_of};
 
     ghost state = { λ m. m.state };
 
-    /// Beside want of memory, an absent name and the handle after 2^32 - 1 others are faults.
+    /// Beside a listed call and want of memory, an absent name and the handle after 2^32 - 1 others are faults.
     fn open(&mut self, name: &str) -> Result<u32, DeskFault>
         ensures ok { IfOk result (Opens self.old.state self.new.state name.now) }
+        ensures listed { Strikes CallKind.Open self.old.script → IsErr result }
         ensures absent { IsNone (file_of self.old.state name.now) → IsErr result }
         ensures full { 2 ^ 32 - 1 ≤ length self.old.state.opened → IsErr result }
-        ensures fault { OnErr result (self.new ≡ fails_reading self.old) }
+        ensures fault { OnErr result (self.new ≡ fails_reading (after_call CallKind.Open self.old)) }
         ensures counts { MayFailReading self.old.state.counts self.new.state.counts result }
         ensures cap { self.new.cap ≡ self.old.cap }
+        ensures script { self.new.script ≡ one_call_of CallKind.Open self.old.script }
     {
-        match self.add_handle(name) {
-            Some(handle) => Ok(handle),
-            None => Err(fault(&mut self.counts.reads)),
+        if !self.script.strikes(CallKind::Open) {
+            if let Some(handle) = self.add_handle(name) {
+                return Ok(handle);
+            }
         }
+        Err(fault(&mut self.counts.reads))
     }
 
-    /// Never a fault.
+    /// A fault exactly if it was listed.
     fn read(&mut self, handle: u32, buffer: &mut [u8]) -> Result<usize, DeskFault>
         requires opened { handle < length self.old.state.opened }
         requires room { 0 < length buffer.old }
-        ensures ok { IsOk result }
         ensures count { IfOk result (λ n. n ≤ length buffer.new) }
-        ensures reads { IfOk result (λ n. Reads self.old.state self.new.state handle n buffer.new) }
         ensures moved { IfOk result (λ n. n ≤ self.old.cap) }
-        ensures counts { SameCounts self.old.state self.new.state }
+        ensures ok { IfOk result (λ n. Reads self.old.state self.new.state handle n buffer.new) }
+        ensures given { IfOk result (λ n. Gives self.old.state self.new.state handle n) }
+        ensures listed { IsErr result ↔ Strikes CallKind.Read self.old.script }
+        ensures fault { OnErr result (self.new ≡ fails_reading (after_call CallKind.Read self.old)) }
+        ensures counts { MayFailReading self.old.state.counts self.new.state.counts result }
         ensures cap { self.new.cap ≡ self.old.cap }
+        ensures script { self.new.script ≡ one_call_of CallKind.Read self.old.script }
     {
+        if self.script.strikes(CallKind::Read) {
+            return Err(fault(&mut self.counts.reads));
+        }
         let most = self.cap;
         Ok(self.handles[handle as usize].read(&self.files, buffer, most))
     }
 
-    /// Beside want of memory, the handle after 2^32 - 1 others is a fault. After a fault the file is as it was.
+    /// Beside a listed call and want of memory, the handle after 2^32 - 1 others is a fault. After a fault the file is as it was.
     #[tactic(auto, using(crate::proofs::FaultLemmas::fails))]
     fn create(&mut self, name: &str) -> Result<u32, DeskFault>
         ensures ok { IfOk result (Creates self.old.state self.new.state name.now) }
+        ensures listed { Strikes CallKind.Create self.old.script → IsErr result }
         ensures full { 2 ^ 32 - 1 ≤ self.old.state.created → IsErr result }
-        ensures fault { OnErr result (self.new ≡ fails_writing self.old) }
+        ensures fault { OnErr result (self.new ≡ fails_writing (after_call CallKind.Create self.old)) }
         ensures err { OnErr result (FailsToCreate self.old.state self.new.state name.now) }
         ensures counts { MayFailWriting self.old.state.counts self.new.state.counts result }
         ensures cap { self.new.cap ≡ self.old.cap }
+        ensures script { self.new.script ≡ one_call_of CallKind.Create self.old.script }
     {
-        match self.add_out(name) {
-            Some(out) => Ok(out),
-            None => Err(fault(&mut self.counts.writes)),
+        if !self.script.strikes(CallKind::Create) {
+            if let Some(out) = self.add_out(name) {
+                return Ok(out);
+            }
         }
+        Err(fault(&mut self.counts.writes))
     }
 
-    /// Want of memory is a fault.
+    /// A listed call and want of memory are faults.
     fn write(&mut self, out: u32, piece: &[u8]) -> Result<usize, DeskFault>
         requires created { out < self.old.state.created }
         requires some { 0 < length piece.now }
         ensures count { IfOk result (λ n. (0 < n) × (n ≤ length piece.now)) }
         ensures moved { IfOk result (λ n. n ≤ self.old.cap) }
         ensures ok { IfOk result (λ n. Writes self.old.state self.new.state out (take n piece.now)) }
-        ensures fault { OnErr result (self.new ≡ fails_writing self.old) }
+        ensures listed { Strikes CallKind.Write self.old.script → IsErr result }
+        ensures fault { OnErr result (self.new ≡ fails_writing (after_call CallKind.Write self.old)) }
         ensures counts { MayFailWriting self.old.state.counts self.new.state.counts result }
         ensures cap { self.new.cap ≡ self.old.cap }
+        ensures script { self.new.script ≡ one_call_of CallKind.Write self.old.script }
     {
+        let listed = self.script.strikes(CallKind::Write);
         let count = piece.len().min(self.cap);
         let name = self.outs[out as usize].as_str();
-        if append(&mut self.files, name, &piece[..count]) {
+        if !listed && append(&mut self.files, name, &piece[..count]) {
             return Ok(count);
         }
         Err(fault(&mut self.counts.writes))
     }
 
-    /// Want of memory is a fault.
+    /// A listed call and want of memory are faults.
     fn say(&mut self, text: &[u8]) -> Result<(), DeskFault>
         ensures ok { OnOk result (Says self.old.state self.new.state text.now) }
-        ensures fault { OnErr result (self.new ≡ fails_writing self.old) }
+        ensures listed { Strikes CallKind.Say self.old.script → IsErr result }
+        ensures fault { OnErr result (self.new ≡ fails_writing (after_call CallKind.Say self.old)) }
         ensures counts { MayFailWriting self.old.state.counts self.new.state.counts result }
         ensures cap { self.new.cap ≡ self.old.cap }
+        ensures script { self.new.script ≡ one_call_of CallKind.Say self.old.script }
     {
-        match self.said.extend_from_slice(text) {
-            Ok(()) => Ok(()),
-            Err(_) => Err(fault(&mut self.counts.writes)),
+        if self.script.strikes(CallKind::Say) || self.said.extend_from_slice(text).is_err() {
+            return Err(fault(&mut self.counts.writes));
         }
+        Ok(())
     }
 
-    /// Want of memory is a fault.
+    /// A listed call and want of memory are faults.
     fn say_last(&mut self, text: &[u8])
-        ensures said { (Says self.old.state self.new.state text.now × SameCounts self.old.state self.new.state) ⊎ (self.new ≡ fails_at_last self.old) }
+        ensures said { (Says self.old.state self.new.state text.now × SameCounts self.old.state self.new.state) ⊎ (self.new ≡ fails_at_last (after_call CallKind.Last self.old)) }
+        ensures listed { Strikes CallKind.Last self.old.script → self.new ≡ fails_at_last (after_call CallKind.Last self.old) }
         ensures counts { MayFailAtLast self.old.state.counts self.new.state.counts }
         ensures cap { self.new.cap ≡ self.old.cap }
+        ensures script { self.new.script ≡ one_call_of CallKind.Last self.old.script }
     {
-        if self.said.extend_from_slice(text).is_err() {
+        if self.script.strikes(CallKind::Last) || self.said.extend_from_slice(text).is_err() {
             fault(&mut self.counts.lines);
         }
     }
 }
 
 #[cfg(test)]
-mod tests {
-    use super::*;
-    use std::test::Fail;
-
-    #[test]
-    fn reads_a_file_in_pieces_to_its_end(rt: HostRuntime) -> Result<(), Fail> {
-        let mut desk = MemoryDesk::new(rt.alloc());
-        desk.put_file("note", b"hello")?;
-        let handle = desk.open("note")?;
-        let mut buffer = [0u8; 3];
-        let count = desk.read(handle, &mut buffer)?;
-        assert_eq!(rt; &buffer[..count], b"hel".as_slice());
-        let count = desk.read(handle, &mut buffer)?;
-        assert_eq!(rt; &buffer[..count], b"lo".as_slice());
-        let count = desk.read(handle, &mut buffer)?;
-        assert_eq!(rt; count, 0);
-        Ok(())
-    }
-
-    #[test]
-    fn reads_two_handles_apart(rt: HostRuntime) -> Result<(), Fail> {
-        let mut desk = MemoryDesk::new(rt.alloc());
-        desk.put_file("a", b"first")?;
-        desk.put_file("b", b"second")?;
-        let first = desk.open("a")?;
-        let second = desk.open("b")?;
-        let mut buffer = [0u8; 4];
-        let count = desk.read(second, &mut buffer)?;
-        assert_eq!(rt; &buffer[..count], b"seco".as_slice());
-        let count = desk.read(first, &mut buffer)?;
-        assert_eq!(rt; &buffer[..count], b"firs".as_slice());
-        Ok(())
-    }
-
-    #[test]
-    fn counts_an_absent_name_as_a_read_fault(rt: HostRuntime) -> Result<(), Fail> {
-        let mut desk = MemoryDesk::new(rt.alloc());
-        desk.put_file("note", b"hello")?;
-        assert_eq!(rt; desk.open("other"), Err(DeskFault));
-        assert_eq!(rt;
-            desk.counts,
-            Counts {
-                reads: 1,
-                writes: 0,
-                lines: 0
-            }
-        );
-        assert_eq!(rt; desk.open("note"), Ok(0));
-        Ok(())
-    }
-
-    #[test]
-    fn gives_the_file_of_a_name(rt: HostRuntime) -> Result<(), Fail> {
-        let mut desk = MemoryDesk::new(rt.alloc());
-        desk.put_file("a", b"old")?;
-        desk.put_file("b", b"other")?;
-        desk.put_file("a", b"new")?;
-        assert_eq!(rt; desk.file("a").ok_or("a is absent")?, b"new".as_slice());
-        assert_eq!(rt; desk.file("b").ok_or("b is absent")?, b"other".as_slice());
-        assert!(rt; desk.file("c").is_none());
-        Ok(())
-    }
-
-    #[test]
-    fn moves_as_many_bytes_as_the_cap_lets_it(rt: HostRuntime) -> Result<(), Fail> {
-        let mut desk = MemoryDesk::new(rt.alloc());
-        desk.put_file("out", b"old")?;
-        desk.put_file("in", b"hello")?;
-        let out = desk.create("out")?;
-        assert_eq!(rt; desk.file("out").ok_or("absent")?, b"".as_slice());
-        desk.cap(3);
-        assert_eq!(rt; desk.write(out, b"hello"), Ok(3));
-        assert_eq!(rt; desk.write(out, b"lo"), Ok(2));
-        assert_eq!(rt; desk.file("out").ok_or("absent")?, b"hello".as_slice());
-        let handle = desk.open("in")?;
-        assert_eq!(rt; desk.read(handle, &mut [0u8; 8]), Ok(3));
-        assert_eq!(rt; desk.read(handle, &mut [0u8; 8]), Ok(2));
-        Ok(())
-    }
-
-    #[test]
-    fn gives_what_was_said(rt: HostRuntime) -> Result<(), Fail> {
-        let mut desk = MemoryDesk::new(rt.alloc());
-        desk.say(b"one\n")?;
-        desk.say(b"two\n")?;
-        desk.say_last(b"last\n");
-        assert_eq!(rt; desk.said(), b"one\ntwo\nlast\n".as_slice());
-        assert_eq!(rt; desk.counts, Counts::default());
-        Ok(())
-    }
-}
+mod tests;
