@@ -1,5 +1,6 @@
 pub mod Events
 pub mod Told
+pub mod ChainSteps
 pub mod IsFed
 pub mod InputsStandFor
 pub mod Signalling
