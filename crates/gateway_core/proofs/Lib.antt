@@ -1,8 +1,8 @@
 pub mod FedLemmas
 pub mod InputsLemmas
 pub mod LeftLemmas
-pub mod SignalLemmas
 pub mod CarriedLemmas
+pub mod BoundLemmas
 pub mod FlowLemmas
 pub mod HoldsLemmas
 pub mod LawLemmas
