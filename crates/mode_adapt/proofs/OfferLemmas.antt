@@ -5,7 +5,7 @@ use Rattle.std.proofs.lemmas.Grind.{div_ceil_times}
 use Rattle.std.proofs.lemmas.List.{get_or_append_left, get_or_push, get_or_past, take_all, take_at, drop-append-le}
 use Rattle.std.proofs.lemmas.Bool.{cases_lt, cases_order}
 use Rattle.std.proofs.Math.Nat.{mul-le-mul_right}
-use Rattle.plp_config.specs.Capacity.{up_bytes}
+use Rattle.plp_config.specs.Capacity.{up_bytes, field_bytes}
 use Rattle.plp_config.specs.Plps.{plp_at}
 use Rattle.plp_config.specs.SlotTime.{num, slots_by}
 use Rattle.plp_config.specs.Laws.{SlotLength}
@@ -16,6 +16,7 @@ use Rattle.null_delete.specs.Laws.{DecidedByThePast}
 use Rattle.null_delete.specs.StandsFor.{DeleterStandsFor}
 use Rattle.mode_adapt.specs.declared.chain.Chain.{Chain}
 use Rattle.mode_adapt.specs.Blocks.{rates_of, plp_keeps, plp_string}
+use Rattle.mode_adapt.specs.Queue.{sent_before}
 use Rattle.mode_adapt.specs.StandsFor.{HoldsRest, Holds}
 use Rattle.mode_adapt.specs.Steps.{Keeps}
 use Rattle.mode_adapt.specs.UserPackets.{keeps_of, user_packet, up_string, up_place}
@@ -24,7 +25,7 @@ use Rattle.mode_adapt.proofs.PlaceLemmas.{string_more, length-string}
 use Rattle.mode_adapt.proofs.SameLemmas.{Same, keeps_same, slots_same, up_same, before_same}
 
 -- the packets with one more
-at_before : (ps : List (List ℕ)) (x : List ℕ) → Same (packet_at (ps ++ x ∷ [])) (packet_at ps) (length ps)
+pub at_before : (ps : List (List ℕ)) (x : List ℕ) → Same (packet_at (ps ++ x ∷ [])) (packet_at ps) (length ps)
 at_before ps x = λ k lt. get_or_append_left ps (x ∷ []) null_packet k lt
 
 at_last : (ps : List (List ℕ)) (x : List ℕ) → packet_at (ps ++ x ∷ []) (length ps) ≡ x
@@ -51,19 +52,19 @@ pub length-up : (c : Config) (plp : ℕ) (at : ℕ → List ℕ) (n : ℕ) → (
 length-up c plp at n whole = length-string (user_packet (plp_at c.plps plp).delete at) (up_bytes c plp) (plp_keeps c plp at) n (user_long c plp at whole)
 
 -- the strings after one packet more
-up_push : DecidedByThePast → (d : Bool) (at to : ℕ → List ℕ) (n : ℕ) (b : Bool) → Same to at n → keeps_of d to n ≡ b → up_string d to (n + 1) ≡ up_string d at n ++ cond b (user_packet d to n) []
+pub up_push : DecidedByThePast → (d : Bool) (at to : ℕ → List ℕ) (n : ℕ) (b : Bool) → Same to at n → keeps_of d to n ≡ b → up_string d to (n + 1) ≡ up_string d at n ++ cond b (user_packet d to n) []
 up_push past d at to n b h e =
     string_more (user_packet d to) (keeps_of d to) n ∙ ap (λ (l : List ℕ). l ++ cond (keeps_of d to n) (user_packet d to n) []) (up_same past d to at n h)
     ∙ ap (λ (c : Bool). up_string d at n ++ cond c (user_packet d to n) []) e
 
-slots_push : DecidedByThePast → (d : Bool) (at to : ℕ → List ℕ) (n : ℕ) (b : Bool) → Same to at n → keeps_of d to n ≡ b
+pub slots_push : DecidedByThePast → (d : Bool) (at to : ℕ → List ℕ) (n : ℕ) (b : Bool) → Same to at n → keeps_of d to n ≡ b
     → kept_slots (keeps_of d to) (n + 1) ≡ kept_slots (keeps_of d at) n ++ cond b (n ∷ []) []
 slots_push past d at to n b h e =
     kept_more (keeps_of d to) n ∙ ap (λ (l : List ℕ). l ++ cond (keeps_of d to n) (n ∷ []) []) (slots_same _ _ n (keeps_same past d to at n h))
     ∙ ap (λ (c : Bool). kept_slots (keeps_of d at) n ++ cond c (n ∷ []) []) e
 
 -- the user packets that begin before a place in the string are among all of them
-few : (len s count : ℕ) → 1 ≤ len → s ≤ len * count → div_ceil s len ≤ count
+pub few : (len s count : ℕ) → 1 ≤ len → s ≤ len * count → div_ceil s len ≤ count
 few len s count one le =
     let bound = div_ceil_times s len one in
     elim (cases_lt count (div_ceil s len)) [
@@ -77,6 +78,7 @@ pub record Adds (chain new : Chain) (c : Config) (plp : ℕ) (ps : List (List �
   pub slot : new.slot ≡ chain.slot + 1
   pub deleter : DeleterStandsFor new.deleter (plp_at c.plps plp).delete (ps ++ x ∷ [])
   pub sent : new.sent ≡ chain.sent
+  pub made : new.made ≡ chain.made
   pub pending : new.pending.items ≡ chain.pending.items ++ cond b (user_packet (plp_at c.plps plp).delete (packet_at (ps ++ x ∷ [])) (length ps)) []
   pub slots : new.slots.items ≡ chain.slots.items ++ cond b (length ps ∷ []) []
 
@@ -125,7 +127,9 @@ added past lengths chain new c plp ps m x b one h long room keeps a =
       slot = a.slot ∙ ap (λ (v : ℕ). v + 1) h.slot ∙ sym len;
       deleter = a.deleter;
       whole = whole_push ps x h.whole long;
-      sent = a.sent ∙ h.sent ∙ sym (before_same (rates_of c plp c.ticks) (plp_keeps c plp (packet_at (ps ++ x ∷ []))) (plp_keeps c plp (packet_at ps)) m (length ps) pos h.from (keeps_same past (plp_at c.plps plp).delete _ _ (length ps) same));
+      sent = a.sent ∙ h.sent ∙ ap (λ (v : ℕ). v + chain.made * field_bytes c plp) (sym (before_same (rates_of c plp c.ticks) (plp_keeps c plp (packet_at (ps ++ x ∷ []))) (plp_keeps c plp (packet_at ps)) m (length ps) pos h.from (keeps_same past (plp_at c.plps plp).delete _ _ (length ps) same)))
+          ∙ ap (λ (v : ℕ). sent_before (rates_of c plp c.ticks) (plp_keeps c plp (packet_at (ps ++ x ∷ []))) m + v * field_bytes c plp) (sym a.made);
+      few = rw (a.made, a.settings) h.few;
       rest = rest_added past chain new c plp ps x b one h.whole keeps h.rest a;
       from = omega (arith, h.from, len);
       to = omega (arith, room, len);
@@ -145,10 +149,10 @@ is_answer true d v e = record { kept = refl; dnp = cc }
 is_answer false d v e = cc
 
 pub skipped : (chain new : Chain) (c : Config) (plp : ℕ) (ps : List (List ℕ)) (x : List ℕ) → new.settings ≡ chain.settings → new.slot ≡ chain.slot + 1
-    → DeleterStandsFor new.deleter (plp_at c.plps plp).delete (ps ++ x ∷ []) → new.sent ≡ chain.sent
+    → DeleterStandsFor new.deleter (plp_at c.plps plp).delete (ps ++ x ∷ []) → new.sent ≡ chain.sent → new.made ≡ chain.made
     → new.pending.items ≡ chain.pending.items → new.slots.items ≡ chain.slots.items → Adds chain new c plp ps x false
-skipped chain new c plp ps x e0 e1 e2 e3 e4 e5 =
-    record { settings = e0; slot = e1; deleter = e2; sent = e3; pending = e4 ∙ sym (append-nil chain.pending.items); slots = e5 ∙ sym (append-nil chain.slots.items) }
+skipped chain new c plp ps x e0 e1 e2 e3 em e4 e5 =
+    record { settings = e0; slot = e1; deleter = e2; sent = e3; made = em; pending = e4 ∙ sym (append-nil chain.pending.items); slots = e5 ∙ sym (append-nil chain.slots.items) }
 
 -- the bytes of a user packet
 kept_bytes : (c : Config) (plp : ℕ) (x : List ℕ) (g : ℕ) → length x ≡ 188 → take (up_bytes c plp) (drop 1 x ++ g ∷ []) ≡ drop 1 x ++ cond (plp_at c.plps plp).delete (g ∷ []) []
@@ -161,10 +165,10 @@ kept_bytes c plp x g e =
 
 -- a packet that is kept: mid is the chain before, but for its deleter and its memory
 pub kept_on : (chain mid new : Chain) (c : Config) (plp : ℕ) (ps : List (List ℕ)) (m : ℕ) (x : List ℕ) (g : ℕ) → Holds chain c plp ps m → length x ≡ 188
-    → mid.settings ≡ chain.settings → mid.slot ≡ chain.slot → mid.sent ≡ chain.sent → mid.pending.items ≡ chain.pending.items → mid.slots.items ≡ chain.slots.items
+    → mid.settings ≡ chain.settings → mid.slot ≡ chain.slot → mid.sent ≡ chain.sent → mid.made ≡ chain.made → mid.pending.items ≡ chain.pending.items → mid.slots.items ≡ chain.slots.items
     → DeleterStandsFor mid.deleter (plp_at c.plps plp).delete (ps ++ x ∷ []) → g ≡ dnp (plp_keeps c plp (packet_at (ps ++ x ∷ []))) (length ps)
     → Keeps mid new x g → Adds chain new c plp ps x true
-kept_on chain mid new c plp ps m x g h long e0 e1 e2 e3 e4 stands is k =
+kept_on chain mid new c plp ps m x g h long e0 e1 e2 em e3 e4 stands is k =
     let d : Bool = (plp_at c.plps plp).delete in
     let up : mid.settings.up_bytes ≡ up_bytes c plp = ap (λ s. s.up_bytes) e0 ∙ h.settings.up in
     record {
@@ -172,6 +176,7 @@ kept_on chain mid new c plp ps m x g h long e0 e1 e2 e3 e4 stands is k =
       slot = k.slot ∙ ap (λ (v : ℕ). v + 1) e1;
       deleter = rw k.deleter stands;
       sent = k.sent ∙ e2;
+      made = k.made ∙ em;
       pending = k.pending ∙ ap (λ (l : List ℕ). l ++ take mid.settings.up_bytes (drop 1 x ++ g ∷ [])) e3
           ∙ ap (λ (l : List ℕ). chain.pending.items ++ l)
           (ap (λ (v : ℕ). take v (drop 1 x ++ g ∷ [])) up
@@ -180,24 +185,3 @@ kept_on chain mid new c plp ps m x g h long e0 e1 e2 e3 e4 stands is k =
           ∙ ap (λ (l : List ℕ). drop 1 l ++ cond d (dnp (plp_keeps c plp (packet_at (ps ++ x ∷ []))) (length ps) ∷ []) []) (sym (at_last ps x)));
       slots = k.slots ∙ ap (λ (l : List ℕ). l ++ mid.slot ∷ []) e4 ∙ ap (λ (v : ℕ). chain.slots.items ++ v ∷ []) (e1 ∙ h.slot);
     }
-
--- nothing but memory changed
-pub stayed : (chain new : Chain) (c : Config) (plp : ℕ) (ps : List (List ℕ)) (m : ℕ) → Holds chain c plp ps m
-    → new.settings ≡ chain.settings → new.deleter ≡ chain.deleter → new.slot ≡ chain.slot → new.sent ≡ chain.sent → new.pending.items ≡ chain.pending.items → new.slots.items ≡ chain.slots.items
-    → Holds new c plp ps m
-stayed chain new c plp ps m h e0 e1 e2 e3 e4 e5 = record {
-  plan = h.plan;
-  place = h.place;
-  settings = rw e0 h.settings;
-  slot = e2 ∙ h.slot;
-  deleter = rw e1 h.deleter;
-  whole = h.whole;
-  sent = e3 ∙ h.sent;
-  rest = record {
-    pending = e4 ∙ h.rest.pending ∙ ap (λ (v : ℕ). drop v (plp_string c plp (packet_at ps) (length ps))) (sym e3);
-    slots = e5 ∙ h.rest.slots ∙ ap (λ (v : ℕ). drop (div_ceil v (up_bytes c plp)) (kept_slots (plp_keeps c plp (packet_at ps)) (length ps))) (sym e3);
-    behind = rw e3 h.rest.behind;
-  };
-  from = h.from;
-  to = h.to;
-}

@@ -7,6 +7,7 @@ pub mod Settings
 pub mod StandsFor
 pub mod Pieces
 pub mod Steps
+pub mod Place
 pub mod Laws
 pub use Rattle.ts_packet.specs.Null
 pub use Rattle.terms.specs.Bits
@@ -15,3 +16,5 @@ pub use Rattle.plp_config.specs.Capacity
 pub use Rattle.plp_config.specs.Plps
 pub use Rattle.plp_config.specs.SlotTime
 pub use Rattle.null_delete.specs.Deletion
+pub use Rattle.linked_pool.specs.Pool
+pub use Rattle.linked_pool.specs.Fits

@@ -1,35 +1,36 @@
-// One block as bytes.
-ghost use Rattle.std.specs.Prelude.{◌≡◌, ◌<◌, ◌≤◌, ◌+◌, ◌*◌, ◌%◌, ◌^◌, length, IfOk};
+// One block as bits.
+ghost use Rattle.std.specs.Prelude.{◌≡◌, ◌<◌, ◌≤◌, ◌+◌, ◌*◌, ◌^◌, length};
 ghost use Rattle.terms.specs.Bits.{bits_of};
 ghost use Rattle.bb_frame.specs.BasebandFrame.{frame_bits, Describes};
+ghost use Rattle.plp_config.specs.declared.plp.TheConstants.{MOST_FIELD_BYTES};
 
 use bb_frame::{Header, bit_counts, write_frame};
-use bit_slice::{BitBuf, BitSlice, OutOfMemory};
-use std::alloc::Global;
+use bit_slice::{BitSlice, FixedBits};
+use plp_config::MOST_BLOCK_BYTES;
 
-/// The block with this header and data field, of so many bytes besides the header.
+/// Bytes of a block at most.
+pub const MOST_BYTES: usize = MOST_BLOCK_BYTES as usize;
+
+/// Writes the block with this header and data field, of so many bytes besides the header, in place of what was written.
 pub fn write_block(
-    alloc: Global,
     header: &Header,
     field: &[u8],
     field_bytes: u32,
-) -> Result<Vec<u8>, OutOfMemory>
+    block: &mut FixedBits<MOST_BYTES>,
+)
     requires issy { header.now.issy < 2 ^ 24 }
     requires describes { Describes header.now (bits_of field.now) }
     requires inside { length field.now ≤ field_bytes }
-    requires short { field_bytes ≤ 6720 }
-    ensures bits { IfOk result (λ block. bits_of block.items ≡ frame_bits header.now (bits_of field.now) (8 * (field_bytes + 10))) }
-    ensures len { IfOk result (λ block. length block.items ≡ field_bytes + 10) }
+    requires short { field_bytes ≤ MOST_FIELD_BYTES }
+    ensures { block.new ≡ frame_bits header.now (bits_of field.now) (8 * (field_bytes + 10)) }
 {
     bit_counts();
-    let mut sink = BitBuf::new(alloc);
-    match write_frame(
-        &mut sink,
+    block.clear();
+    // There is room for any block.
+    let _ = write_frame(
+        block,
         header,
         BitSlice::whole(field),
         8 * (field_bytes + 10),
-    ) {
-        Ok(()) => Ok(sink.into_bytes()),
-        Err(_) => Err(OutOfMemory),
-    }
+    );
 }

@@ -1,106 +1,159 @@
 // The chain of one PLP.
-ghost use Rattle.std.specs.Prelude.{◌≡◌, ◌<◌, ◌≤◌, ◌+◌, ◌-◌, ◌*◌, ◌^◌, ◌++◌, ◌∷◌, [], List, ℕ, map, length, take, drop, min, vec_len, vec_capacity, IfOk, OnOk, OnErr, IfSome};
-ghost use Rattle.terms.specs.Bits.{bits_of};
+ghost use Rattle.std.specs.Prelude.{◌≡◌, ◌<◌, ◌≤◌, ◌+◌, ◌-◌, ◌*◌, ◌^◌, ◌++◌, ◌∷◌, [], List, ℕ, map, length, take, drop, min, vec_len, vec_capacity, IfOk, IfErr, OnOk, OnErr, IfSome};
 ghost use Rattle.std.specs.Int.{div_ceil};
-ghost use Rattle.plp_config.specs.Capacity.{up_bytes};
+ghost use Rattle.terms.specs.Bits.{bits_of};
+ghost use Rattle.plp_config.specs.Capacity.{up_bytes, field_bytes, block_bytes};
 ghost use Rattle.plp_config.specs.Plps.{plp_at};
+ghost use Rattle.plp_config.specs.declared.plp.TheConstants.{MOST_FIELD_BYTES};
 ghost use Rattle.ts_packet.specs.declared.sizes.TheConstants.{SIZE};
+ghost use Rattle.mode_adapt.specs.declared.chain.TheConstants.{MOST_SLOTS};
 
-use crate::block::write_block;
-use crate::frame::FrameBytes;
+use crate::block::{MOST_BYTES, write_block};
 use crate::front::drop_front;
-use crate::laws::{backlog_law, within_law};
+use crate::laws::{backlog_law, early_fits_law, within_law};
 use crate::matype::deletes;
 use crate::settings::Settings;
-use bit_slice::OutOfMemory;
+use bb_frame::bit_counts;
+use bit_slice::{FixedBits, OutOfMemory};
+use linked_pool::{Pool, PoolFull, plan_fits_law};
 use null_delete::{Deleter, decided_by_the_past};
-use plp_config::{MOST_BLOCK_BYTES, Plan, block_law, length_law};
+use plp_config::{MOST_FIELD_BYTES, Plan, block_law, length_law};
 use std::alloc::Global;
 use ts_packet::{SIZE, TsPacket};
+
+// User packets that begin in a data field and a packet behind it, at most: each has all bytes of a packet but one, or more.
+const MOST_SLOTS: usize = (MOST_FIELD_BYTES as usize + SIZE) / (SIZE - 1);
 
 /// Makes the blocks of one PLP from its packets, frame by frame (EN 302 755, clause 5.1): offer the packet of each slot, in
 /// order, and cut where a frame begins.
 #[derive(Drop)]
 pub struct Chain {
-    alloc: Global,
     settings: Settings,
     deleter: Deleter,
     // The slot of the next packet.
     slot: u64,
-    // How many bytes of user packets were sent.
+    // How many bytes of user packets were put into blocks.
     sent: u64,
-    // Those that were not.
+    // How many blocks of the frame under way were put.
+    made: u32,
+    // The bytes that wait for a block.
     pending: Vec<u8>,
     // The slots of the user packets that begin in them.
     slots: Vec<u64>,
+    // The block that was put last.
+    block: FixedBits<MOST_BYTES>,
     ghost bound: { sent + vec_len pending ≤ SIZE * slot },
     ghost small: { slot ≤ 2 ^ 54 },
+    ghost few: { made ≤ settings.blocks },
+    ghost short: { vec_len pending ≤ settings.field_bytes + SIZE },
+    ghost starts: { sent + vec_len pending ≡ settings.up_bytes * (div_ceil sent settings.up_bytes + vec_len slots) },
+    ghost bytes: { settings.field_bytes + SIZE ≤ vec_capacity pending },
+    ghost places: { MOST_SLOTS ≤ vec_capacity slots },
 }
 
 impl Chain {
     ghost use Rattle.plp_config.specs.declared.config.Config.{Config};
+    ghost use Rattle.linked_pool.specs.Pool.{list_at, chunks_for, Others};
     ghost use Rattle.mode_adapt.specs.Events.{Event, Offered, Cut, HasRoom, IsDue, offered, cuts};
-    ghost use Rattle.mode_adapt.specs.StandsFor.{ChainStandsFor, slot_of, most_blocks, waiting};
-    ghost use Rattle.mode_adapt.specs.Steps.{Keeps, Sends};
-    ghost use Rattle.mode_adapt.specs.Pieces.{first_in, piece_of, pieces_of};
+    ghost use Rattle.mode_adapt.specs.StandsFor.{ChainStandsFor, slot_of, most_blocks, kept_of, waiting, early_blocks};
+    ghost use Rattle.mode_adapt.specs.Place.{HasPlace};
+    ghost use Rattle.mode_adapt.specs.Steps.{Keeps, Sends, HasSpace, Writes, Puts, Stays, IsFull, IsPartial, IsOver, IsLeft, Skips, Resets, Lacks};
+    ghost use Rattle.mode_adapt.specs.Pieces.{first_in, piece_of};
     ghost use Rattle.mode_adapt.specs.Blocks.{blocks_of, rates_of, plp_keeps};
     ghost use Rattle.mode_adapt.specs.Queue.{arrived, sent};
     ghost use Rattle.null_delete.specs.Deletion.{packet_at};
 
-    /// A chain of no packets yet, for the PLP at a place of the plan.
+    /// A chain of no packets yet, for the PLP at a place of the plan. No later call takes memory.
     #[tactic(auto, unfolding(crate::specs::StandsFor::ChainStandsFor))]
     pub fn open(alloc: Global, plan: &Plan, plp: usize) -> Result<Chain, OutOfMemory>
         requires { plp < length plan.now.plps }
         ensures stands { IfOk result (λ chain. ChainStandsFor chain plan.now plp []) }
+        ensures none_put { early_blocks plan.now plp [] ≡ [] }
         ensures slots { IfOk result (λ chain. slot_of chain ≡ 0) }
+        ensures kept { IfOk result (λ chain. kept_of chain ≡ 0) }
         ensures most { IfOk result (λ chain. most_blocks chain ≡ (plp_at plan.now.plps plp).blocks) }
     {
         let settings = Settings::new(plan, plp);
         Ok(Chain {
-            alloc,
             settings,
             deleter: Deleter::new(deletes(plan.config(), plp)),
             slot: 0,
             sent: 0,
-            // What a frame carries, and what may be left over.
-            pending: Vec::with_capacity(alloc, settings.capacity() as usize + SIZE)?,
-            slots: Vec::new(alloc),
+            made: 0,
+            // A data field, and a user packet more.
+            pending: Vec::with_capacity(alloc, settings.field_bytes as usize + SIZE)?,
+            slots: Vec::with_capacity(alloc, MOST_SLOTS)?,
+            block: FixedBits::new(),
         })
     }
 
-    /// Takes the packet of the next slot, one that is over by the tick at which the frame under way begins. After
-    /// `OutOfMemory` the chain stands for what it stood for.
-    pub fn offer(&mut self, packet: &TsPacket) -> Result<(), OutOfMemory>
+    /// Takes the packet of the next slot, one that is over by the tick at which the frame under way begins. A block whose data
+    /// field is full goes to the end of the list, which holds what the chain put there since its last cut. After `PoolFull` the
+    /// chain is used no more.
+    pub fn offer(&mut self, packet: &TsPacket, pool: &mut Pool, list: u32) -> Result<(), PoolFull>
         requires slot { slot_of self.old < 2 ^ 54 }
+        requires list { list < length pool.old.lists }
         ensures stands { OnOk result ((c : Config) (plp : ℕ) (events : List Event)
             → ChainStandsFor self.old c plp events → HasRoom c plp events → ChainStandsFor self.new c plp (events ++ Offered packet.now ∷ [])) }
-        ensures unchanged { OnErr result ((c : Config) (plp : ℕ) (events : List Event)
-            → ChainStandsFor self.old c plp events → ChainStandsFor self.new c plp events) }
-        ensures slots { OnOk result (slot_of self.new ≡ slot_of self.old + 1) }
-        ensures same { OnErr result (slot_of self.new ≡ slot_of self.old) }
+        ensures blocks { OnOk result ((c : Config) (plp : ℕ) (events : List Event)
+            → ChainStandsFor self.old c plp events → HasRoom c plp events → map bits_of (list_at pool.old list) ≡ early_blocks c plp events
+            → map bits_of (list_at pool.new list) ≡ early_blocks c plp (events ++ Offered packet.now ∷ [])) }
+        ensures others { Others pool.old pool.new list }
+
+        // There is room for the block if each list of the pool has no more than a frame.
+        ensures never { OnErr result ((c : Config) (plp : ℕ) (events : List Event)
+            → ChainStandsFor self.old c plp events → map bits_of (list_at pool.old list) ≡ early_blocks c plp events → ¬ (HasPlace c plp pool.old list)) }
+        ensures full { IfErr result (λ e. (e.spare ≡ pool.new.spare) × (e.spare < e.need)) }
+        ensures need { IfErr result (λ e. (c : Config) (plp : ℕ) (events : List Event) → ChainStandsFor self.old c plp events → e.need ≡ chunks_for (block_bytes c plp)) }
+
+        // Fewer bytes wait than a data field has.
+        ensures kept { OnOk result ((c : Config) (plp : ℕ) (events : List Event)
+            → ChainStandsFor self.old c plp events → HasRoom c plp events → kept_of self.new < field_bytes c plp) }
+        ensures bounded { kept_of self.new ≤ MOST_FIELD_BYTES + SIZE }
+        ensures slots { slot_of self.new ≡ slot_of self.old + 1 }
         ensures most { most_blocks self.new ≡ most_blocks self.old }
     {
         decided_by_the_past();
         block_law();
         length_law();
+        within_law();
+        backlog_law();
+        early_fits_law();
+        plan_fits_law();
         let bytes = packet.as_array();
-        self.pending.reserve(SIZE)?;
-        self.slots.reserve(1)?;
         match self.deleter.push(packet) {
-            None => self.slot += 1,
-            Some(dnp) => self.keep(bytes, dnp),
+            None => {
+                self.skip();
+                Ok(())
+            }
+            Some(dnp) => {
+                self.keep(bytes, dnp);
+                self.put_full(pool, list)
+            }
         }
-        Ok(())
     }
 
-    // Takes a packet that is kept. There is room for it.
+    // Goes on behind a packet that is deleted.
+    fn skip(&mut self)
+        requires { self.old.slot < 2 ^ 54 }
+        ensures { Skips self.old self.new }
+    {
+        self.slot += 1;
+    }
+
+    // Takes a packet that is kept, if there is room for it.
     fn keep(&mut self, packet: &[u8], dnp: u8)
         requires whole { length packet.now ≡ SIZE }
         requires small { self.old.slot < 2 ^ 54 }
-        requires room { vec_len self.old.pending + SIZE ≤ vec_capacity self.old.pending }
-        requires place { vec_len self.old.slots + 1 ≤ vec_capacity self.old.slots }
-        ensures { Keeps self.old self.new packet.now dnp }
+        ensures keeps { HasSpace self.old → Keeps self.old self.new packet.now dnp }
+        ensures stays { Stays self.old self.new }
+        ensures slot { self.new.slot ≡ self.old.slot + 1 }
     {
+        // There is room for every packet whose slot is over by the tick at which the frame under way begins.
+        if self.pending.len() > self.settings.field_bytes as usize {
+            self.slot += 1;
+            return;
+        }
         self.pending.extend_from_slice(&packet[1..]).unwrap();
         if self.settings.up_bytes == SIZE as u32 {
             self.pending.push(dnp).unwrap();
@@ -109,91 +162,161 @@ impl Chain {
         self.slot += 1;
     }
 
-    // The place and the slot of the first user packet that begins in the bytes from x up to y of those that wait.
-    fn first_up(&self, x: usize, y: usize) -> Option<(u64, u64)>
-        requires order { x ≤ y }
-        requires inside { y ≤ vec_len self.now.pending }
-        ensures up { result ≡ first_in self.now x y }
-        ensures within { IfSome result (λ u. (self.now.sent + x ≤ u.0) × (u.0 < self.now.sent + y)) }
+    // Puts a block if its data field is full.
+    fn put_full(&mut self, pool: &mut Pool, list: u32) -> Result<(), PoolFull>
+        requires list { list < length pool.old.lists }
+        ensures none { OnOk result (IsPartial self.old → (self.new ≡ self.old) × (pool.new ≡ pool.old)) }
+        ensures some { OnOk result (IsFull self.old → Puts self.old self.new self.old.settings.field_bytes (list_at pool.old list) (list_at pool.new list)) }
+        ensures others { Others pool.old pool.new list }
+        ensures full { IfErr result (λ e. Lacks self.old pool.old e.need e.spare) }
+        ensures refused { OnErr result (pool.new ≡ pool.old) }
+        ensures stays { self.new.settings ≡ self.old.settings }
+        ensures slot { self.new.slot ≡ self.old.slot }
+    {
+        let field_bytes = self.settings.field_bytes as usize;
+        if self.made >= u32::from(self.settings.blocks) {
+            return Ok(());
+        }
+        if self.pending.len() < field_bytes {
+            return Ok(());
+        }
+        self.put_block(field_bytes, pool, list)
+    }
+
+    // Puts the block of the first bytes of those that wait.
+    fn put_block(&mut self, count: usize, pool: &mut Pool, list: u32) -> Result<(), PoolFull>
+        requires inside { count ≤ vec_len self.old.pending }
+        requires short { count ≤ self.old.settings.field_bytes }
+        requires made { self.old.made < self.old.settings.blocks }
+        requires list { list < length pool.old.lists }
+        ensures puts { OnOk result (Puts self.old self.new count (list_at pool.old list) (list_at pool.new list)) }
+        ensures others { Others pool.old pool.new list }
+        ensures full { IfErr result (λ e. Lacks self.old pool.old e.need e.spare) }
+        ensures refused { OnErr result (pool.new ≡ pool.old) }
+        ensures stays { self.new.settings ≡ self.old.settings }
+        ensures slot { self.new.slot ≡ self.old.slot }
+    {
+        self.write(count);
+        match pool.append(list, self.block.as_bytes()) {
+            Ok(()) => {
+                self.send(count);
+                Ok(())
+            }
+            Err(full) => Err(full),
+        }
+    }
+
+    // Writes the block of the first bytes of those that wait.
+    fn write(&mut self, count: usize)
+        requires inside { count ≤ vec_len self.old.pending }
+        requires short { count ≤ self.old.settings.field_bytes }
+        ensures { Writes self.old self.new count }
+    {
+        bit_counts();
+        let up = self.first_up(count);
+        let header = self.settings.header(self.sent, count, up);
+        write_block(
+            &header,
+            &self.pending[..count],
+            self.settings.field_bytes,
+            &mut self.block,
+        );
+    }
+
+    // The place and the slot of the first user packet that begins in the first bytes of those that wait.
+    fn first_up(&self, count: usize) -> Option<(u64, u64)>
+        requires { count ≤ vec_len self.now.pending }
+        ensures up { result ≡ first_in self.now count }
+        ensures within { IfSome result (λ u. (self.now.sent ≤ u.0) × (u.0 < self.now.sent + count)) }
     {
         let up_bytes = u64::from(self.settings.up_bytes);
-        let number = (self.sent + x as u64).div_ceil(up_bytes);
-        let place = up_bytes * number;
-        if place >= self.sent + y as u64 {
+        let place = up_bytes * self.sent.div_ceil(up_bytes);
+        if place >= self.sent + count as u64 {
             return None;
         }
-        let slot = self
-            .slots
-            .get((number - self.sent.div_ceil(up_bytes)) as usize)?;
+        let slot = self.slots.first()?;
         Some((place, *slot))
     }
 
-    // The block of the bytes from x up to y of those that wait.
-    fn block(&self, x: usize, y: usize) -> Result<Vec<u8>, OutOfMemory>
-        requires order { x ≤ y }
-        requires inside { y ≤ vec_len self.now.pending }
-        requires short { y ≤ x + self.now.settings.field_bytes }
-        ensures bits { IfOk result (λ block. bits_of block.items ≡ piece_of self.now x y) }
-        ensures short { IfOk result (λ block. length block.items ≤ MOST_BLOCK_BYTES) }
-    {
-        let up = self.first_up(x, y);
-        let header = self.settings.header(self.sent + x as u64, y - x, up);
-        write_block(
-            self.alloc,
-            &header,
-            &self.pending[x..y],
-            self.settings.field_bytes,
-        )
-    }
-
-    // The blocks of the first bytes of those that wait.
-    fn blocks(&self, count: usize) -> Result<FrameBytes, OutOfMemory>
-        requires inside { count ≤ vec_len self.now.pending }
-        ensures blocks { IfOk result (λ frame. map bits_of frame ≡ pieces_of self.now count) }
-        ensures len { IfOk result (λ frame. length frame ≡ div_ceil count self.now.settings.field_bytes) }
-    {
-        let field_bytes = self.settings.field_bytes as usize;
-        let mut frame = FrameBytes::new(self.alloc);
-        for i in 0..count.div_ceil(field_bytes) {
-            let x = i * field_bytes;
-            frame.push(self.block(x, count.min(x + field_bytes))?)?;
-        }
-        Ok(frame)
-    }
-
-    /// Gives the blocks of the frame under way, at most `blocks` of the PLP, and goes on to the next one: the first cut gives
-    /// those of frame 0, which has none. All slots that are over by the tick at which the frame begins were offered. After
-    /// `OutOfMemory` the chain is unchanged.
-    pub fn cut(&mut self) -> Result<FrameBytes, OutOfMemory>
+    /// Ends the frame under way: the list then holds exactly its blocks, at most `blocks` of the PLP, and the answer is their
+    /// number. The first cut ends frame 0, which has none. All slots that are over by the tick at which the frame begins were
+    /// offered, and the list holds what the chain put there since its last cut. After `PoolFull` the chain is used no more.
+    pub fn cut(&mut self, pool: &mut Pool, list: u32) -> Result<u32, PoolFull>
+        requires { list < length pool.old.lists }
         ensures stands { OnOk result ((c : Config) (plp : ℕ) (events : List Event)
             → ChainStandsFor self.old c plp events → IsDue c plp events → ChainStandsFor self.new c plp (events ++ Cut ∷ [])) }
-        ensures answer { IfOk result (λ frame. (c : Config) (plp : ℕ) (events : List Event)
+        ensures blocks { OnOk result ((c : Config) (plp : ℕ) (events : List Event)
+            → ChainStandsFor self.old c plp events → IsDue c plp events → map bits_of (list_at pool.old list) ≡ early_blocks c plp events
+            → map bits_of (list_at pool.new list) ≡ blocks_of c plp c.ticks (packet_at (offered events)) (cuts events)) }
+        ensures answer { IfOk result (λ count. (c : Config) (plp : ℕ) (events : List Event)
             → ChainStandsFor self.old c plp events → IsDue c plp events
-            → map bits_of frame ≡ blocks_of c plp c.ticks (packet_at (offered events)) (cuts events)) }
-        ensures few { IfOk result (λ frame. length frame ≤ most_blocks self.old) }
-        ensures unchanged { OnErr result (self.new ≡ self.old) }
+            → count ≡ length (blocks_of c plp c.ticks (packet_at (offered events)) (cuts events))) }
+        ensures none_put { OnOk result ((c : Config) (plp : ℕ) (events : List Event)
+            → ChainStandsFor self.old c plp events → IsDue c plp events → early_blocks c plp (events ++ Cut ∷ []) ≡ []) }
+        ensures few { IfOk result (λ count. count ≤ most_blocks self.old) }
+        ensures others { Others pool.old pool.new list }
+
+        // There is room for the block if each list of the pool has no more than a frame.
+        ensures never { OnErr result ((c : Config) (plp : ℕ) (events : List Event)
+            → ChainStandsFor self.old c plp events → map bits_of (list_at pool.old list) ≡ early_blocks c plp events → ¬ (HasPlace c plp pool.old list)) }
+        ensures full { IfErr result (λ e. (e.spare ≡ pool.new.spare) × (e.spare < e.need)) }
+        ensures need { IfErr result (λ e. (c : Config) (plp : ℕ) (events : List Event) → ChainStandsFor self.old c plp events → e.need ≡ chunks_for (block_bytes c plp)) }
+
+        // Less than one user packet waits.
+        ensures kept { OnOk result ((c : Config) (plp : ℕ) (events : List Event)
+            → ChainStandsFor self.old c plp events → IsDue c plp events → kept_of self.new < up_bytes c plp) }
+        ensures bounded { kept_of self.new ≤ MOST_FIELD_BYTES + SIZE }
         ensures slots { slot_of self.new ≡ slot_of self.old }
         ensures most { most_blocks self.new ≡ most_blocks self.old }
     {
         block_law();
         length_law();
-        let count = self.sendable();
-        let frame = self.blocks(count)?;
-        self.send(count);
-        Ok(frame)
+        within_law();
+        backlog_law();
+        early_fits_law();
+        plan_fits_law();
+        match self.put_rest(pool, list) {
+            Ok(()) => Ok(self.end_frame()),
+            Err(full) => Err(full),
+        }
     }
 
-    // How many bytes a frame sends now.
-    fn sendable(&self) -> usize
-        ensures count { result ≡ min (self.now.settings.blocks * self.now.settings.field_bytes) (length self.now.pending.items) }
-        ensures inside { result ≤ vec_len self.now.pending }
+    // Goes on to the next frame; the answer is how many blocks this one has.
+    fn end_frame(&mut self) -> u32
+        ensures made { result ≡ self.old.made }
+        ensures resets { Resets self.old self.new }
+        ensures few { result ≤ self.old.settings.blocks }
     {
-        self.pending.len().min(self.settings.capacity() as usize)
+        let made = self.made;
+        self.made = 0;
+        made
     }
 
-    // Sends bytes from the front.
+    // Puts a last block, if the frame has room and bytes wait.
+    fn put_rest(&mut self, pool: &mut Pool, list: u32) -> Result<(), PoolFull>
+        requires { list < length pool.old.lists }
+        ensures none { OnOk result (IsOver self.old → (self.new ≡ self.old) × (pool.new ≡ pool.old)) }
+        ensures some { OnOk result (IsLeft self.old → Puts self.old self.new (min self.old.settings.field_bytes (length self.old.pending.items)) (list_at pool.old list) (list_at pool.new list)) }
+        ensures others { Others pool.old pool.new list }
+        ensures full { IfErr result (λ e. Lacks self.old pool.old e.need e.spare) }
+        ensures refused { OnErr result (pool.new ≡ pool.old) }
+        ensures stays { self.new.settings ≡ self.old.settings }
+        ensures slot { self.new.slot ≡ self.old.slot }
+    {
+        let count = self.pending.len();
+        if self.made >= u32::from(self.settings.blocks) {
+            return Ok(());
+        }
+        if count == 0 {
+            return Ok(());
+        }
+        self.put_block(count.min(self.settings.field_bytes as usize), pool, list)
+    }
+
+    // Sends bytes from the front, those of a block.
     fn send(&mut self, count: usize)
-        requires { count ≤ vec_len self.old.pending }
+        requires inside { count ≤ vec_len self.old.pending }
+        requires made { self.old.made < self.old.settings.blocks }
         ensures { Sends self.old self.new count }
     {
         let up_bytes = u64::from(self.settings.up_bytes);
@@ -202,12 +325,14 @@ impl Chain {
         drop_front(&mut self.pending, count);
         drop_front(&mut self.slots, begun as usize);
         self.sent = sent;
+        self.made += 1;
     }
 
-    /// How many bytes of user packets wait, or 2^32 - 1 where there are more. After each cut it is less than one user packet.
+    /// How many bytes of user packets wait for a block. After each cut it is less than one user packet.
     pub fn backlog(&self) -> u32
+        ensures kept { result ≡ kept_of self.now }
         ensures answer { (c : Config) (plp : ℕ) (events : List Event) → ChainStandsFor self.now c plp events
-            → result ≡ min (waiting c plp events) (2 ^ 32 - 1) }
+            → result ≡ waiting c plp events }
         // After the cut of frame n: what has arrived by then and is not sent, less than one user packet.
         ensures after_cut { (c : Config) (plp : ℕ) (events : List Event)
             → ChainStandsFor self.now c plp (events ++ Cut ∷ []) → IsDue c plp events
@@ -217,8 +342,9 @@ impl Chain {
             → ChainStandsFor self.now c plp (events ++ Cut ∷ []) → IsDue c plp events → result < up_bytes c plp }
     {
         block_law();
+        length_law();
         within_law();
         backlog_law();
-        self.pending.len().min(u32::MAX as usize) as u32
+        self.pending.len() as u32
     }
 }

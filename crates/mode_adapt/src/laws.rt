@@ -1,6 +1,7 @@
 // Laws of the definitions. Their functions do nothing.
-ghost use Rattle.mode_adapt.specs.Laws.{WithinLaw, BacklogLaw, SentLaw, SentWithin, BeginLaw, EndLaw, PlaceLaw, FirstLaw, JoinLaw, CountLaw, BlocksLaw};
+ghost use Rattle.mode_adapt.specs.Laws.{WithinLaw, BacklogLaw, SentLaw, SentWithin, BeginLaw, EndLaw, PlaceLaw, FirstLaw, JoinLaw, CountLaw, BlocksLaw, EarlyFits, BlocksFit};
 
+use bb_frame::bit_counts;
 use null_delete::decided_by_the_past;
 use plp_config::{block_law, length_law, slot_time_law};
 
@@ -65,4 +66,14 @@ pub fn blocks_law()
     length_law();
     block_law();
     slot_time_law();
+}
+
+/// A list that holds what a chain put, before a cut or after it, holds no more than a frame.
+pub fn early_fits_law()
+    ensures early { EarlyFits }
+    ensures blocks { BlocksFit }
+{
+    bit_counts();
+    block_law();
+    length_law();
 }

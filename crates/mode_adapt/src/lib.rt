@@ -3,20 +3,16 @@
 
 mod block;
 mod chain;
-mod frame;
 mod front;
 mod laws;
 mod matype;
 mod settings;
 
 pub use chain::Chain;
-pub use frame::FrameBytes;
 pub use laws::{
-    backlog_law, begin_law, blocks_law, count_law, end_law, first_law, join_law, place_law,
-    sent_law, sent_within, within_law,
+    backlog_law, begin_law, blocks_law, count_law, early_fits_law, end_law, first_law, join_law,
+    place_law, sent_law, sent_within, within_law,
 };
 
-#[cfg(test)]
-mod plain;
 #[cfg(test)]
 mod tests;

@@ -1,9 +1,10 @@
 // Expected values come from worked examples and from a Python program that applies the rules to the whole list of packets.
 ghost use Rattle.std.specs.Prelude.{◌≡◌, ◌<◌, ◌≤◌, length};
 
-use crate::{Chain, FrameBytes, plain};
+use crate::Chain;
 use bb_frame::scramble;
 use bit_slice::{BitSlice, OutOfMemory, crc32};
+use linked_pool::{Pool, PoolFull};
 use plp_config::{Plan, Plp, Rate};
 use sample_networks::{LOADED_PLP, NoPlan, SMALL_PLP, network_of, plan_of};
 use std::alloc::Global;
@@ -20,14 +21,40 @@ const LOADED: Plp = Plp {
 
 const TICKS: u32 = 100_000;
 
+const CELLS: u32 = 80_000;
+
+// The chunks of a frame of so many cells.
+const CHUNKS: u32 = 7 * (CELLS / 2_025);
+
+// Why there is no frame.
+#[derive(Clone, Copy, Debug)]
+enum NoFrame {
+    Full(PoolFull),
+    OutOfMemory,
+}
+
+impl From<OutOfMemory> for NoFrame {
+    fn from(_: OutOfMemory) -> NoFrame {
+        NoFrame::OutOfMemory
+    }
+}
+
+impl From<PoolFull> for NoFrame {
+    fn from(full: PoolFull) -> NoFrame {
+        NoFrame::Full(full)
+    }
+}
+
 // A chain with the slot of its next packet, for the first PLP of a plan.
 #[derive(Drop)]
 struct Feed {
     alloc: Global,
     plan: Plan,
     chain: Chain,
+    pool: Pool,
     slot: u64,
     frame: u32,
+    ghost list: { 1 ≤ length pool.lists },
     ghost same: { slot_of chain ≡ slot },
     ghost one: { 1 ≤ length plan.plps },
 }
@@ -65,30 +92,32 @@ fn mixed(alloc: Global, count: u64) -> Result<Vec<TsPacket>, OutOfMemory> {
 }
 
 impl Feed {
-    fn new(rt: &(impl Abort + AllocGlobal), plps: &[Plp]) -> Result<Feed, NoPlan> {
-        let plan = plan_of(network_of(rt.alloc(), plps, 80_000, 1)?)?;
+    fn new(rt: &(impl Abort + AllocGlobal), plps: &[Plp], chunks: u32) -> Result<Feed, NoPlan> {
+        let plan = plan_of(network_of(rt.alloc(), plps, CELLS, 1)?)?;
         assert!(rt; plan.config().plps.len() > 0);
         let chain = Chain::open(rt.alloc(), &plan, 0)?;
+        let pool = Pool::open(rt.alloc(), chunks, 1)?;
         Ok(Feed {
             alloc: rt.alloc(),
             plan,
             chain,
+            pool,
             slot: 0,
             frame: 0,
         })
     }
 
-    fn offer(&mut self, packet: &TsPacket) -> Result<(), OutOfMemory> {
-        if self.slot >= 1 << 54 {
-            return Err(OutOfMemory);
+    fn offer(&mut self, packet: &TsPacket) -> Result<(), PoolFull> {
+        if self.slot < 1 << 54 {
+            let put = self.chain.offer(packet, &mut self.pool, 0);
+            self.slot += 1;
+            put?;
         }
-        self.chain.offer(packet)?;
-        self.slot += 1;
         Ok(())
     }
 
-    // The blocks of the next frame, where these packets begin at slot 0, and null packets follow.
-    fn next_frame(&mut self, packets: &[TsPacket]) -> Result<FrameBytes, OutOfMemory> {
+    // Offers the packets of the frame under way, where these begin at slot 0, and null packets follow.
+    fn fill(&mut self, packets: &[TsPacket]) -> Result<(), PoolFull> {
         let end = self
             .plan
             .slots_by(0, u64::from(self.frame) * u64::from(TICKS));
@@ -98,8 +127,30 @@ impl Feed {
                 None => self.offer(&TsPacket::canonical())?,
             }
         }
+        Ok(())
+    }
+
+    // The blocks of the list, which is emptied.
+    fn take_list(&mut self) -> Result<Vec<Vec<u8>>, OutOfMemory> {
+        let mut frame = Vec::new(self.alloc);
+        for place in 0..self.pool.count(0) {
+            if let Some(block) = self.pool.block(0, place) {
+                let mut bytes = Vec::new(self.alloc);
+                bytes.resize(block.len(), 0xAA)?;
+                block.copy_to(bytes.as_mut_slice());
+                frame.push(bytes)?;
+            }
+        }
+        self.pool.clear(0);
+        Ok(frame)
+    }
+
+    // The blocks of the next frame.
+    fn next_frame(&mut self, packets: &[TsPacket]) -> Result<Vec<Vec<u8>>, NoFrame> {
+        self.fill(packets)?;
         self.frame = self.frame.wrapping_add(1);
-        self.chain.cut()
+        self.chain.cut(&mut self.pool, 0)?;
+        Ok(self.take_list()?)
     }
 }
 
@@ -113,7 +164,7 @@ fn append_field(bytes: &mut Vec<u8>, block: &[u8]) -> Result<(), OutOfMemory> {
 }
 
 // The bytes that the blocks of a frame carry.
-fn carried(alloc: Global, frame: &FrameBytes) -> Result<Vec<u8>, OutOfMemory> {
+fn carried(alloc: Global, frame: &[Vec<u8>]) -> Result<Vec<u8>, OutOfMemory> {
     let mut bytes = Vec::new(alloc);
     for place in 0..frame.len() {
         if let Some(block) = frame.get(place) {
@@ -124,7 +175,7 @@ fn carried(alloc: Global, frame: &FrameBytes) -> Result<Vec<u8>, OutOfMemory> {
 }
 
 // Appends the blocks of a frame.
-fn append_blocks(bytes: &mut Vec<u8>, frame: &FrameBytes) -> Result<(), OutOfMemory> {
+fn append_blocks(bytes: &mut Vec<u8>, frame: &[Vec<u8>]) -> Result<(), OutOfMemory> {
     for place in 0..frame.len() {
         if let Some(block) = frame.get(place) {
             bytes.extend_from_slice(block)?;
@@ -133,9 +184,34 @@ fn append_blocks(bytes: &mut Vec<u8>, frame: &FrameBytes) -> Result<(), OutOfMem
     Ok(())
 }
 
+// A data field has 869 bytes, and a user packet 188.
+#[test]
+fn a_block_is_put_when_its_data_field_is_full(rt: HostRuntime) -> Result<(), Fail> {
+    let mut feed = Feed::new(&rt, &[PLP], CHUNKS)?;
+    let packets = packets(rt.alloc(), 0, 20)?;
+    assert!(rt; feed.next_frame(&packets)?.is_empty());
+    for (blocks, backlog) in [(0, 188), (0, 376), (0, 564), (0, 752), (1, 71), (1, 259)] {
+        feed.offer(&packet(0, false))?;
+        assert_eq!(rt; feed.pool.count(0), blocks);
+        assert_eq!(rt; feed.chain.backlog(), backlog);
+    }
+    Ok(())
+}
+
+// A block of 879 bytes fills four chunks.
+#[test]
+fn a_block_is_refused_where_the_pool_is_too_small(rt: HostRuntime) -> Result<(), Fail> {
+    let mut feed = Feed::new(&rt, &[PLP], 3)?;
+    let packets = packets(rt.alloc(), 0, 20)?;
+    assert!(rt; feed.next_frame(&packets)?.is_empty());
+    feed.frame = 1;
+    assert_eq!(rt; feed.fill(&packets), Err(PoolFull { need: 4, spare: 3 }));
+    Ok(())
+}
+
 #[test]
 fn backlogs_of_a_loaded_network(rt: HostRuntime) -> Result<(), Fail> {
-    let mut feed = Feed::new(&rt, &[LOADED])?;
+    let mut feed = Feed::new(&rt, &[LOADED], CHUNKS)?;
     let packets = packets(rt.alloc(), 0, 110)?;
     for (bytes, backlog) in [
         (0, 0),
@@ -167,13 +243,16 @@ const NEXT: [u8; 10] = [0xFC, 0x00, 0x80, 0x86, 0x1B, 0x28, 0x49, 0x02, 0x38, 0x
 const LAST: [u8; 10] = [0xFC, 0x00, 0x80, 0x00, 0x00, 0xC8, 0x00, 0xFF, 0xFF, 0x19];
 
 // Whether a block of a frame begins with these bytes.
-fn begins(frame: &FrameBytes, place: usize, bytes: &[u8]) -> bool {
-    frame.get(place).unwrap_or(&[]).starts_with(bytes)
+fn begins(frame: &[Vec<u8>], place: usize, bytes: &[u8]) -> bool {
+    match frame.get(place) {
+        Some(block) => block.starts_with(bytes),
+        None => false,
+    }
 }
 
 #[test]
 fn blocks_of_the_first_frames(rt: HostRuntime) -> Result<(), Fail> {
-    let mut feed = Feed::new(&rt, &[PLP])?;
+    let mut feed = Feed::new(&rt, &[PLP], CHUNKS)?;
     let packets = packets(rt.alloc(), 0, 20)?;
     assert!(rt; feed.next_frame(&packets)?.is_empty());
     let frame = feed.next_frame(&packets)?;
@@ -184,7 +263,7 @@ fn blocks_of_the_first_frames(rt: HostRuntime) -> Result<(), Fail> {
 }
 
 // A block of 879 bytes.
-fn block(frame: &FrameBytes, place: usize) -> [u8; 879] {
+fn block(frame: &[Vec<u8>], place: usize) -> [u8; 879] {
     let mut bytes = [0xAA; 879];
     if let Some(block) = frame.get(place) {
         if block.len() == 879 {
@@ -197,7 +276,7 @@ fn block(frame: &FrameBytes, place: usize) -> [u8; 879] {
 // The last user packet ends with 0xFF and its dnp, 0; zeros follow.
 #[test]
 fn padding_and_scrambling(rt: HostRuntime) -> Result<(), Fail> {
-    let mut feed = Feed::new(&rt, &[PLP])?;
+    let mut feed = Feed::new(&rt, &[PLP], CHUNKS)?;
     let packets = packets(rt.alloc(), 0, 20)?;
     assert!(rt; feed.next_frame(&packets)?.is_empty());
     let frame = feed.next_frame(&packets)?;
@@ -211,7 +290,7 @@ fn padding_and_scrambling(rt: HostRuntime) -> Result<(), Fail> {
 
 #[test]
 fn a_null_packet_behind_255_is_sent(rt: HostRuntime) -> Result<(), Fail> {
-    let mut feed = Feed::new(&rt, &[PLP])?;
+    let mut feed = Feed::new(&rt, &[PLP], CHUNKS)?;
     let packets = packets(rt.alloc(), 256, 257)?;
     let mut bytes = Vec::new(rt.alloc());
     // 261 slots are over by the tick at which frame 18 begins.
@@ -232,7 +311,7 @@ const ONLY: [u8; 13] = [0xFC, 0x00, 0x9A, 0xC0, 0x05, 0xE0, 0x92, 0x00, 0x00, 0x
 
 #[test]
 fn of_300_null_packets_that_of_slot_255_is_sent(rt: HostRuntime) -> Result<(), Fail> {
-    let mut feed = Feed::new(&rt, &[PLP])?;
+    let mut feed = Feed::new(&rt, &[PLP], CHUNKS)?;
     let packets = packets(rt.alloc(), 300, 300)?;
     for number in 0..24u8 {
         let frame = feed.next_frame(&packets)?;
@@ -263,69 +342,24 @@ fn headers_of_several_plps(rt: HostRuntime) -> Result<(), Fail> {
         ([keeping, coded], [0xC8, 9]),
         ([PLP, coded], [0xCC, 9]),
     ] {
-        let mut feed = Feed::new(&rt, &plps)?;
+        let mut feed = Feed::new(&rt, &plps, CHUNKS)?;
         assert!(rt; feed.next_frame(&packets)?.is_empty());
         let frame = feed.next_frame(&packets)?;
-        assert!(rt; frame.get(0).unwrap_or(&[]).starts_with(&matype));
+        assert!(rt; begins(&frame, 0, matype.as_slice()));
     }
     Ok(())
 }
 
-// Whether two frames have the same blocks.
-fn are_same(frame: &FrameBytes, other: &FrameBytes) -> bool {
-    let mut same = frame.len() == other.len();
-    for place in 0..frame.len() {
-        same &= frame.get(place) == other.get(place);
-    }
-    same
-}
-
-// The next frame of a run: whether its blocks are what the definitions say, and as much waits. They are appended to those before.
-fn compare(
-    feed: &mut Feed,
-    packets: &[TsPacket],
-    waits: u128,
-    blocks: &mut Vec<u8>,
-) -> Result<bool, OutOfMemory> {
-    if feed.frame >= 1 << 8 {
-        return Err(OutOfMemory);
-    }
-    let expected = plain::blocks(feed.alloc, &feed.plan, 0, packets, feed.frame)?;
-    let frame = feed.next_frame(packets)?;
-    append_blocks(blocks, &frame)?;
-    Ok(are_same(&frame, &expected) && u128::from(feed.chain.backlog()) == waits)
-}
-
-// What waits after a frame, by the definitions.
-fn waits(arrivals: &[u64], capacity: u32, frame: usize) -> u128
-    requires { frame < length arrivals.now }
-{
-    u128::from(arrivals[frame]).wrapping_sub(plain::sent(arrivals, capacity, frame))
-}
-
-// Whether a run of so many frames is what the definitions say, and its blocks.
-fn run(
-    feed: &mut Feed,
-    packets: &[TsPacket],
-    arrivals: &[u64],
-) -> Result<(bool, Vec<u8>), OutOfMemory> {
-    let capacity = feed.plan.capacity(0);
-    let (mut all, mut blocks) = (true, Vec::new(feed.alloc));
-    for frame in 0..arrivals.len() {
-        let waits = waits(arrivals, capacity, frame);
-        all &= compare(feed, packets, waits, &mut blocks)?;
-    }
-    Ok((all, blocks))
-}
-
 // The CRC-32 comes from the Python program.
 #[test]
-fn a_long_run_is_what_the_definitions_say(rt: HostRuntime) -> Result<(), Fail> {
-    let mut feed = Feed::new(&rt, &[LOADED])?;
+fn the_blocks_of_a_long_run(rt: HostRuntime) -> Result<(), Fail> {
+    let mut feed = Feed::new(&rt, &[LOADED], CHUNKS)?;
     let packets = mixed(rt.alloc(), 2_000)?;
-    let arrivals = plain::arrivals(rt.alloc(), &feed.plan, 0, &packets, 147)?;
-    let (all, blocks) = run(&mut feed, &packets, &arrivals)?;
-    assert!(rt; all);
+    let mut blocks = Vec::new(rt.alloc());
+    for _ in 0..148 {
+        let frame = feed.next_frame(&packets)?;
+        append_blocks(&mut blocks, &frame)?;
+    }
     assert!(rt; blocks.len() == 185_469);
     assert!(rt; crc32(BitSlice::whole(&blocks)) == 0x84B2_2CF1);
     Ok(())

@@ -1,0 +1,13 @@
+-- When the blocks of a frame have their chunks in a pool.
+use Rattle.std.specs.Prelude.{◌≡◌, ◌≢◌, ◌<◌, ◌≤◌, ℕ, length}
+use Rattle.linked_pool.specs.Pool.{State, list_at}
+use Rattle.linked_pool.specs.Fits.{ListFits, frame_chunks}
+use Rattle.plp_config.specs.declared.config.Config.{Config}
+
+-- A pool of the chunks of a frame has a list for each PLP, that of one PLP at its place, and in each other list no more than a
+-- frame.
+pub record HasPlace (c : Config) (plp : ℕ) (pool : State) (list : ℕ) : Type 0 where
+  pub enough : frame_chunks c ≤ pool.opened
+  pub lists : length pool.lists ≡ length c.plps
+  pub place : list ≡ plp
+  pub others : (other : ℕ) → other < length c.plps → other ≢ plp → ListFits c other (list_at pool other)
