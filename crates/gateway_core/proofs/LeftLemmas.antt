@@ -1,7 +1,7 @@
 -- The blocks that are left, one by one.
 use Rattle.std.proofs.Common.{◌≡◌, ◌≢◌, ℕ, zero, suc, ◌+◌, ◌-◌, ◌%◌, ◌<◌, ◌≤◌, Bool, true, false, List, [], ◌∷◌, ◌++◌, length, map, drop, refl, ap, sym, subst, ◌∙◌, inl, inr, arith, eq-eqb, get_or-set_same, get_or-set_other}
 use Rattle.std.specs.Prelude.{◌==◌, ◌||◌, not, slice_index_or}
-use Rattle.std.specs.List.{All, flat_map, range_with_len}
+use Rattle.std.specs.List.{flat_map, range_with_len}
 use Rattle.std.proofs.lemmas.Bool.{cases_lt, cases_eq, ne_eqb}
 use Rattle.std.proofs.lemmas.List.Elements.{All-drop}
 use Rattle.terms.specs.Bits.{bits_of}
@@ -9,6 +9,7 @@ use Rattle.linked_pool.specs.Pool.{State, list_at, popped}
 use Rattle.plp_config.specs.Plps.{plp_at}
 use Rattle.plp_config.specs.declared.config.Config.{Config}
 use Rattle.plp_config.specs.declared.plp.TheConstants.{MOST_BLOCK_BYTES}
+use Rattle.mode_adapt.specs.Place.{AreShort}
 use Rattle.t2mi_packet.specs.declared.packet.Body.{Body}
 use Rattle.t2mi_packet.specs.declared.packet.Body.TheVariants.{Block}
 use Rattle.t2mi_packet.specs.T2miPacket.{written_bits}
@@ -17,7 +18,7 @@ use Rattle.gateway_core.specs.Left.{from_step, Builds}
 use Rattle.gateway_core.specs.Whole.{IsWhole}
 use Rattle.gateway_core.specs.declared.frame.Step.{Step}
 use Rattle.gateway_core.specs.declared.frame.Step.TheVariants.{Blocks}
-use Rattle.gateway_core.specs.BlocksLeft.{bits_in, AreShort, IsNext, blocks_left}
+use Rattle.gateway_core.specs.BlocksLeft.{bits_in, AllShort, IsNext, blocks_left}
 
 -- the PLPs from one on are that one and the others
 pub bodies_more : (c : Config) (n : ℕ) (blocks : ℕ → List (List Bool)) (from : ℕ) → from < length c.plps
@@ -131,15 +132,13 @@ pub nothing_left : (c : Config) (n : ℕ) (step : Step) (signal : Body) (pool : 
 nothing_left c n step signal pool plp first e none =
     ap (λ (s : Step). from_step c n s signal (blocks_left c n (bits_in pool) plp first)) e ∙ none_left c n (bits_in pool) plp first (λ j. ap (map bits_of) (none j))
 
-abbrev IsShort : List ℕ → Type 0
-IsShort block = length block ≤ MOST_BLOCK_BYTES
-
 -- The blocks stay short as a list gives its first one,
-pub pop_short : (pool : State) (list : ℕ) → list < length pool.lists → AreShort pool → AreShort (popped pool list)
+pub pop_short : (pool : State) (list : ℕ) → list < length pool.lists → AllShort pool → AllShort (popped pool list)
 pop_short pool list lt h = λ j.
     elim (cases_eq j list) [
-      | inl same ↦ subst (λ (k : ℕ). All IsShort (list_at (popped pool list) k)) (sym same) (subst (All IsShort) (sym (pop_same pool list lt)) (All-drop IsShort 1 (list_at pool list) (h list)))
-      | inr differ ↦ subst (All IsShort) (sym (pop_other pool list j differ)) (h j)
+      | inl same ↦ subst (λ (k : ℕ). AreShort (list_at (popped pool list) k)) (sym same)
+          (subst AreShort (sym (pop_same pool list lt)) (All-drop (λ (block : List ℕ). length block ≤ MOST_BLOCK_BYTES) 1 (list_at pool list) (h list)))
+      | inr differ ↦ subst AreShort (sym (pop_other pool list j differ)) (h j)
     ]
 
 -- and the lists before it empty.

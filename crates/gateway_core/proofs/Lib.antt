@@ -1,6 +1,7 @@
 pub mod FedLemmas
 pub mod InputsLemmas
 pub mod LeftLemmas
+pub mod SignalLemmas
 pub mod CarriedLemmas
 pub mod BoundLemmas
 pub mod FlowLemmas

@@ -1,11 +1,10 @@
 -- The blocks that a frame still has to give. No public clause cites this module.
 use Rattle.std.specs.Prelude.{◌≡◌, ◌<◌, ◌≤◌, ℕ, ◌+◌, ◌%◌, Bool, List, [], ◌++◌, length, map}
-use Rattle.std.specs.List.{All}
 use Rattle.terms.specs.Bits.{bits_of}
 use Rattle.linked_pool.specs.Pool.{State, list_at}
 use Rattle.plp_config.specs.Plps.{plp_at}
 use Rattle.plp_config.specs.declared.config.Config.{Config}
-use Rattle.plp_config.specs.declared.plp.TheConstants.{MOST_BLOCK_BYTES}
+use Rattle.mode_adapt.specs.Place.{AreShort}
 use Rattle.t2mi_packet.specs.declared.packet.Body.{Body}
 use Rattle.gateway_core.specs.Packets.{block_bodies, plp_bodies}
 
@@ -13,9 +12,9 @@ use Rattle.gateway_core.specs.Packets.{block_bodies, plp_bodies}
 abbrev pub bits_in : State → ℕ → List (List Bool)
 bits_in pool j = map bits_of (list_at pool j)
 
--- No block is longer than a block of a PLP can be.
-abbrev pub AreShort : State → Type 0
-AreShort pool = (j : ℕ) → All (λ (block : List ℕ). length block ≤ MOST_BLOCK_BYTES) (list_at pool j)
+-- No block of a list is longer than one of a PLP can be.
+abbrev pub AllShort : State → Type 0
+AllShort pool = (j : ℕ) → AreShort (list_at pool j)
 
 -- This is the first list from one on that has a block.
 pub record IsNext (pool : State) (from list : ℕ) : Type 0 where

@@ -3,7 +3,7 @@ ghost use Rattle.std.specs.Prelude.{◌≡◌, ◌≢◌, ◌<◌, ◌≤◌, �
 ghost use Rattle.linked_pool.specs.Fits.{frame_chunks};
 ghost use Rattle.linked_pool.specs.Pool.{list_at};
 ghost use Rattle.plp_config.specs.declared.moment.TheConstants.{MOST_FRAMES};
-ghost use Rattle.gateway_core.specs.BlocksLeft.{AreShort, IsNext};
+ghost use Rattle.gateway_core.specs.BlocksLeft.{AllShort, IsNext};
 ghost use Rattle.gateway_core.specs.FirstStep.{first_step};
 ghost use Rattle.gateway_core.specs.declared.frame.Step.TheVariants.{Over};
 
@@ -91,7 +91,7 @@ pub struct Frame {
     ghost early: { number < MOST_FRAMES },
     ghost lists: { length blocks.lists ≡ vec_len counts },
     ghost shape: { length dynamic.shape.counts ≡ vec_len counts },
-    ghost short: { AreShort blocks },
+    ghost short: { AllShort blocks },
     ghost below: { step ≢ Over → (j : ℕ) → j < plp → list_at blocks j ≡ [] },
 }
 

@@ -1,6 +1,6 @@
 use Rattle.std.proofs.Common.{◌≡◌, ◌≢◌, ◌∙◌, false, [], sym, subst}
 use Rattle.linked_pool.specs.Pool.{State, list_at}
-use Rattle.gateway_core.specs.BlocksLeft.{bits_in, AreShort, blocks_left}
+use Rattle.gateway_core.specs.BlocksLeft.{bits_in, AllShort, blocks_left}
 use Rattle.gateway_core.specs.Left.{Builds, from_step}
 use Rattle.gateway_core.specs.Packets.{l1_body}
 use Rattle.gateway_core.specs.declared.frame.Step.{Step}
@@ -18,7 +18,7 @@ returns-in_default-clause-none c = λ off s.
     (all_none f.blocks f.plp (f.below (differ f.step c.requires.step)) c.in_default.ensures.none)
 
 pub invariant_of-self-2-clause-short : goal.invariant_of-self-2-clause-short
-invariant_of-self-2-clause-short c = subst AreShort (sym c.pop.ensures.popped) (pop_short c.args.self.now.blocks c.in-Some.list c.in-Some.ensures.next.inside c.args.self.now.short)
+invariant_of-self-2-clause-short c = subst AllShort (sym c.pop.ensures.popped) (pop_short c.args.self.now.blocks c.in-Some.list c.in-Some.ensures.next.inside c.args.self.now.short)
 
 pub invariant_of-self-2-clause-below : goal.invariant_of-self-2-clause-below
 invariant_of-self-2-clause-below c = λ off j lt.
