@@ -29,7 +29,7 @@ abbrev pub gives_unit : Outlet → Bool
 gives_unit o = (waiting_of o.piper == PAYLOAD) || (is_finished o.piper && nat_lt 0 (waiting_of o.piper))
 
 -- An outlet took packets of a frame, and gave no unit.
-pub record Takes (c : Config) (s : Signalling) (old new : Outlet) (before now : Frame) : Type 0 where
+pub record Feeds (c : Config) (s : Signalling) (old new : Outlet) (before now : Frame) : Type 0 where
   pub flows : (all : List (ℕ × Body)) (given : ℕ) → Flows old c before.number (left c s before) all given → Flows new c now.number (left c s now) all given
   pub bound : bytes_bound new (left c s now) ≤ bytes_bound old (left c s before)
   pub early : (j : ℕ) → early_of now j ≡ early_of before j

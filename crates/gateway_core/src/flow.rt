@@ -33,7 +33,7 @@ impl Outlet {
     ghost use Rattle.t2mi_stream.specs.Complete.{complete_units};
     ghost use Rattle.t2mi_stream.specs.Pipe.{pipe};
     ghost use Rattle.gateway_core.specs.Carried.{AllGone};
-    ghost use Rattle.gateway_core.specs.Flowing.{Flows, Takes, rest_of, bytes_bound, gives_unit};
+    ghost use Rattle.gateway_core.specs.Flowing.{Flows, Feeds, rest_of, bytes_bound, gives_unit};
     ghost use Rattle.gateway_core.specs.Packets.{packets_from};
     ghost use Rattle.gateway_core.specs.Left.{left};
     ghost use Rattle.gateway_core.specs.declared.frame.Step.TheVariants.{Over};
@@ -108,7 +108,7 @@ impl Outlet {
         requires plps { length frame.old.blocks.lists ≡ length plan.now.plps }
         requires fed { rest_of self.old ≡ [] }
         requires open { is_finished self.old.piper ≡ false }
-        ensures takes { Takes plan.now signalling.now self.old self.new frame.old frame.new }
+        ensures feeds { Feeds plan.now signalling.now self.old self.new frame.old frame.new }
         ensures fewer { result ≡ true → length (left plan.now signalling.now frame.new) < length (left plan.now signalling.now frame.old) }
         ensures over { result ≡ false → (rest_of self.new ≡ []) × (frame.new.step ≡ Over) }
         ensures finished { is_finished self.new.piper ≡ false }
@@ -126,7 +126,7 @@ impl Outlet {
     fn refill(&mut self, plan: &Plan, signalling: &Signalling, frame: &mut Frame) -> bool
         requires plps { length frame.old.blocks.lists ≡ length plan.now.plps }
         requires open { is_finished self.old.piper ≡ false }
-        ensures takes { Takes plan.now signalling.now self.old self.new frame.old frame.new }
+        ensures feeds { Feeds plan.now signalling.now self.old self.new frame.old frame.new }
         ensures over { result ≡ true → (rest_of self.new ≡ []) × (frame.new.step ≡ Over) }
         ensures full { result ≡ false → waiting_of self.new.piper ≡ PAYLOAD }
         ensures finished { is_finished self.new.piper ≡ false }
@@ -152,7 +152,7 @@ impl Outlet {
     ) -> bool
         requires plps { length frame.old.blocks.lists ≡ length plan.now.plps }
         requires open { is_finished self.old.piper ≡ false }
-        ensures takes { Takes plan.now signalling.now self.old self.new frame.old frame.new }
+        ensures feeds { Feeds plan.now signalling.now self.old self.new frame.old frame.new }
         ensures over { result ≡ true → (rest_of self.new ≡ []) × (frame.new.step ≡ Over) }
         ensures full { result ≡ false → waiting_of self.new.piper ≡ PAYLOAD }
         ensures finished { is_finished self.new.piper ≡ (result && is_last) }
@@ -188,7 +188,7 @@ impl Flow {
     ghost use Rattle.t2mi_packet.specs.declared.packet.Body.{Body};
     ghost use Rattle.t2mi_stream.specs.Complete.{complete_units};
     ghost use Rattle.t2mi_stream.specs.Pipe.{pipe};
-    ghost use Rattle.gateway_core.specs.Flowing.{Flows, Takes, bytes_bound, gives_unit};
+    ghost use Rattle.gateway_core.specs.Flowing.{Flows, Feeds, bytes_bound, gives_unit};
     ghost use Rattle.gateway_core.specs.Left.{left, early_of, layout_of};
     ghost use Rattle.gateway_core.specs.Packets.{packets_from};
     ghost use Rattle.gateway_core.specs.declared.frame.Step.TheVariants.{Over};
@@ -212,7 +212,7 @@ impl Flow {
     pub fn begin(&mut self, plan: &Plan, signalling: &Signalling, frame: &mut Frame)
         requires plps { length frame.old.blocks.lists ≡ length plan.now.plps }
         requires open { self.old.finished ≡ false }
-        ensures takes { Takes plan.now signalling.now self.old.outlet self.new.outlet frame.old frame.new }
+        ensures feeds { Feeds plan.now signalling.now self.old.outlet self.new.outlet frame.old frame.new }
         ensures over { self.new.dry ≡ true → frame.new.step ≡ Over }
         ensures finished { self.new.finished ≡ self.old.finished }
     {

@@ -11,8 +11,8 @@ use Rattle.gateway_core.proofs.flow.Outlet.build.Goals as goal
 pub invariant_of-self-2-clause-room : goal.invariant_of-self-2-clause-room
 invariant_of-self-2-clause-room c = whole_room c.build.new.out (c.if-not-build.ensures.some refl).whole
 
-pub returns-clause-takes : goal.returns-clause-takes
-returns-clause-takes c =
+pub returns-clause-feeds : goal.returns-clause-feeds
+returns-clause-feeds c =
     let o = c.args.self.now in
     let p = c.args.plan.now in
     let old = c.args.frame.now in
