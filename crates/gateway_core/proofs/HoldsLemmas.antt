@@ -9,19 +9,21 @@ use Rattle.std.proofs.lemmas.List.FromFn.{length-map-range_with_len, get_or-map-
 use Rattle.std.proofs.lemmas.List.Folds.{list_any-append}
 use Rattle.std.proofs.lemmas.List.Sums.{sum_by-append}
 use Rattle.terms.specs.Bits.{bits_of}
+use Rattle.linked_pool.specs.Fits.{frame_chunks}
+use Rattle.linked_pool.specs.Pool.{State}
 use Rattle.plp_config.specs.Plps.{plp_at}
 use Rattle.plp_config.specs.RunLength.{frame_count}
 use Rattle.plp_config.specs.declared.config.Config.{Config}
 use Rattle.ts_packet.specs.Null.{null_packet}
 use Rattle.t2mi_packet.specs.declared.packet.Body.{Body}
-use Rattle.gateway_core.specs.BlocksLeft.{blocks_left}
+use Rattle.gateway_core.specs.BlocksLeft.{bits_in, blocks_left}
 use Rattle.gateway_core.specs.Carried.{of_frame}
 use Rattle.gateway_core.specs.Events.{Event, Offered, Ended, Begun, Gave, Finished, offered, has_ended, begins, begun, gives, given, finishes, finished}
 use Rattle.gateway_core.specs.FirstStep.{first_step}
 use Rattle.gateway_core.specs.Flowing.{Flows}
-use Rattle.gateway_core.specs.InputsStandFor.{AllFed, AllContinue, AllEnded, HaveEnded}
+use Rattle.gateway_core.specs.InputsStandFor.{HasFrame, AllFed, AllContinue, AllEnded, HaveEnded}
 use Rattle.gateway_core.specs.IsFed.{IsFed, wanted}
-use Rattle.gateway_core.specs.Left.{from_step, all_of}
+use Rattle.gateway_core.specs.Left.{from_step, all_of, early_at}
 use Rattle.t2mi_stream.specs.Complete.{complete_units}
 use Rattle.t2mi_stream.specs.Pipe.{pipe}
 use Rattle.mode_adapt.specs.Blocks.{plp_blocks}
@@ -32,7 +34,8 @@ use Rattle.gateway_core.specs.Told.{Told, told, with_packet, at_end, in_next, Co
 use Rattle.gateway_core.specs.declared.flow.Flow.{Flow}
 use Rattle.gateway_core.specs.declared.input.Input.{Input}
 use Rattle.gateway_core.specs.declared.signalling.Signalling.{Signalling}
-use Rattle.gateway_core.specs.declared.frame.Step.TheVariants.{Stamp, Signal}
+use Rattle.gateway_core.specs.declared.frame.Step.{Step}
+use Rattle.gateway_core.specs.declared.frame.Step.TheVariants.{Stamp, Signal, Over}
 use Rattle.gateway_core.proofs.CarriedLemmas.{carries_more}
 use Rattle.gateway_core.proofs.FedLemmas.{wants}
 use Rattle.gateway_core.proofs.InputsLemmas.{nothing_told, told_offered, told_ended, told_begun}
@@ -135,12 +138,29 @@ open_input (x ∷ xs) early plp c events lt some h =
     let here : 0 < wanted (slice_index_or (x ∷ xs) plp x) = omega (arith, some, at) in
     let w = wants _ (has_ended plp events) (length (offered plp events)) _ here (h plp x lt).total_is in w.still
 
-pub holds_offer : (old new : List Input) (before after : ℕ → List (List Bool)) (s : Signalling) (frames : ℕ) (flow : Flow) (n : ℕ) (left : List Body) (c : Config) (events : List Event) (plp : ℕ) (packet : List ℕ)
+holds_offer : (old new : List Input) (before after : ℕ → List (List Bool)) (s : Signalling) (frames : ℕ) (flow : Flow) (n : ℕ) (left : List Body) (c : Config) (events : List Event) (plp : ℕ) (packet : List ℕ)
     → plp < length old → 0 < slice_index (map wanted old) plp → AllFed new after c (events ++ Offered plp packet ∷ [])
     → Holds old before s frames flow n left c events → Holds new after s frames flow n left c (events ++ Offered plp packet ∷ [])
 holds_offer old new before after s frames flow n left c events plp packet lt some fed h =
     holds_with old new before after s frames flow n left c events (Offered plp packet) refl refl refl fed
     (λ all more. back_offered c events plp packet all (open_input old before plp c events lt some h.fed) more) h
+
+-- Once nothing is left of a frame, the lists of its pool hold what the chains put already.
+pub early_over : (inputs : List Input) (step : Step) (pool : State) (c : Config) (events : List Event) → step ≡ Over → AllFed inputs (early_at step pool) c events → AllFed inputs (bits_in pool) c events
+early_over inputs step pool c events e h = subst (λ (s : Step). AllFed inputs (early_at s pool) c events) e h
+
+-- They may get more: nothing is left of the frame yet.
+pub holds_over : (old new : List Input) (before : ℕ → List (List Bool)) (s : Signalling) (frames : ℕ) (flow : Flow) (p : Config) (n : ℕ) (step : Step) (signal : Body) (rest blocks : List Body) (pool : State) (c : Config) (events : List Event) (plp : ℕ) (packet : List ℕ)
+    → step ≡ Over → plp < length old → 0 < slice_index (map wanted old) plp → AllFed new (bits_in pool) c (events ++ Offered plp packet ∷ [])
+    → Holds old before s frames flow n (from_step p n step signal rest) c events → Holds new (early_at step pool) s frames flow n (from_step p n step signal blocks) c (events ++ Offered plp packet ∷ [])
+holds_over old new before s frames flow p n step signal rest blocks pool c events plp packet e lt some fed h =
+    let stays : from_step p n step signal rest ≡ from_step p n step signal blocks = ap (λ (s : Step). from_step p n s signal rest) e ∙ sym (ap (λ (s : Step). from_step p n s signal blocks) e) in
+    subst (λ (l : List Body). Holds new (early_at step pool) s frames flow n l c (events ++ Offered plp packet ∷ [])) stays
+    (holds_offer old new before (early_at step pool) s frames flow n (from_step p n step signal rest) c events plp packet lt some
+    (subst (λ (s : Step). AllFed new (early_at s pool) c (events ++ Offered plp packet ∷ [])) (sym e) fed) h)
+
+pub has_frame : (p c : Config) (pool : State) → p ≡ c → pool.opened ≡ frame_chunks p → length pool.lists ≡ length p.plps → HasFrame c pool
+has_frame p c pool e chunks lists = subst (λ (k : Config). HasFrame k pool) e (record { enough = omega (arith, chunks); lists = lists })
 
 pub holds_end : (old new : List Input) (early : ℕ → List (List Bool)) (s : Signalling) (frames : ℕ) (flow : Flow) (n : ℕ) (left : List Body) (c : Config) (events : List Event) (plp : ℕ)
     → AllFed new early c (events ++ Ended plp ∷ []) → Holds old early s frames flow n left c events → Holds new early s frames flow n left c (events ++ Ended plp ∷ [])

@@ -89,6 +89,7 @@ impl<'p> Gateway<'p> {
         ensures others { (other : ℕ) → other ≢ plp → wants_of self.new other ≡ wants_of self.old other }
         ensures status { status_of self.new ≡ status_of self.old }
     {
+        self.plan.obeys_rules();
         offer(&mut self.inputs, &mut self.frame.blocks, plp, packet);
     }
 
