@@ -9,7 +9,8 @@ use Rattle.linked_pool.proofs.BlockLemmas.{chunks_of-cons, used_chunks-cons}
 use Rattle.plp_config.specs.Plps.{plp_at}
 use Rattle.plp_config.specs.declared.config.Config.{Config}
 use Rattle.t2mi_packet.specs.declared.packet.Body.{Body}
-use Rattle.gateway_core.specs.BlocksLeft.{bits_in, blocks_left}
+use Rattle.gateway_core.specs.BlocksLeft.{blocks_left}
+use Rattle.gateway_core.specs.Lists.{bits_in}
 use Rattle.gateway_core.specs.Left.{from_step}
 use Rattle.gateway_core.specs.Packets.{block_bodies}
 use Rattle.gateway_core.specs.declared.frame.Step.{Step}

@@ -1,11 +1,13 @@
 -- An input takes packets, and its chain null packets behind them.
-use Rattle.std.proofs.Common.{◌≡◌, ℕ, zero, suc, ◌+◌, ◌-◌, ◌*◌, ◌<◌, ◌≤◌, Bool, true, false, cond, List, [], ◌∷◌, ◌++◌, Option, Some, None, length, map, replicate, is_some, refl, ap, sym, subst, ◌∙◌, arith, append-nil, append_assoc, max}
+use Rattle.std.proofs.Common.{◌≡◌, ℕ, zero, suc, ◌+◌, ◌-◌, ◌*◌, ◌<◌, ◌≤◌, Bool, true, false, cond, List, [], ◌∷◌, ◌++◌, Option, Some, None, length, map, replicate, is_some, refl, ap, sym, subst, ◌∙◌, arith, append-nil, append_assoc, max, inl, inr}
 use Rattle.std.proofs.Math.Nat.{mul-le-mul_right}
-use Rattle.std.specs.Prelude.{slice_index_or}
+use Rattle.std.specs.Prelude.{slice_index_or, Result, Ok, Err, OnOk, OnErr}
+use Rattle.std.proofs.lemmas.Bool.{cases_eq}
 use Rattle.std.proofs.lemmas.Grind.{flat_map-append}
 use Rattle.std.proofs.lemmas.List.{replicate_more, get_or_append_left, length_push}
 use Rattle.std.proofs.lemmas.List.Sums.{sum_by-append}
 use Rattle.terms.specs.Bits.{bits_of}
+use Rattle.linked_pool.specs.Pool.{State, list_at, Others}
 use Rattle.plp_config.specs.Capacity.{IsPlan}
 use Rattle.plp_config.specs.Laws.{CountRises, NoneAtZero, SlotLength}
 use Rattle.plp_config.specs.Rules.{AllRules}
@@ -17,10 +19,14 @@ use Rattle.mode_adapt.specs.Blocks.{blocks_of}
 use Rattle.mode_adapt.specs.Events as queue
 use Rattle.mode_adapt.specs.Events.{packet_of, is_cut, HasRoom, IsDue}
 use Rattle.mode_adapt.specs.Laws.{BlocksLaw}
-use Rattle.mode_adapt.specs.StandsFor.{ChainStandsFor}
+use Rattle.mode_adapt.specs.Place.{AreShort, HasPlace}
+use Rattle.mode_adapt.specs.StandsFor.{ChainStandsFor, early_blocks}
 use Rattle.mode_adapt.specs.declared.chain.Chain.{Chain}
-use Rattle.gateway_core.specs.Told.{Told, with_packet, in_next, Continues}
+use Rattle.gateway_core.specs.Told.{Told, with_packet, Continues}
 use Rattle.gateway_core.specs.IsFed.{Fed}
+use Rattle.gateway_core.specs.ChainSteps.{Takes, Ends}
+use Rattle.gateway_core.specs.InputsStandFor.{Cuts}
+use Rattle.gateway_core.specs.Lists.{bits_in, AllShort}
 
 offered_push : (events : List queue.Event) (x : List ℕ) → queue.offered (events ++ queue.Offered x ∷ []) ≡ queue.offered events ++ x ∷ []
 offered_push events x = flat_map-append packet_of events (queue.Offered x ∷ [])
@@ -34,17 +40,6 @@ offered_stay events = flat_map-append packet_of events (queue.Cut ∷ []) ∙ ap
 cuts_push : (events : List queue.Event) → queue.cuts (events ++ queue.Cut ∷ []) ≡ queue.cuts events + 1
 cuts_push events = let e = sum_by-append (λ (e : queue.Event). cond (is_cut e) 1 0) events (queue.Cut ∷ []) in omega (arith, e)
 
--- what a chain's `offer` and `cut` ensure
-abbrev pub Takes : Chain → Chain → List ℕ → Type 0
-Takes old new packet = (c : Config) (plp : ℕ) (events : List queue.Event) → ChainStandsFor old c plp events → HasRoom c plp events → ChainStandsFor new c plp (events ++ queue.Offered packet ∷ [])
-
-abbrev pub Cuts : Chain → Chain → Type 0
-Cuts old new = (c : Config) (plp : ℕ) (events : List queue.Event) → ChainStandsFor old c plp events → IsDue c plp events → ChainStandsFor new c plp (events ++ queue.Cut ∷ [])
-
-abbrev pub Answers : Chain → List (List ℕ) → Type 0
-Answers old frame = (c : Config) (plp : ℕ) (events : List queue.Event) → ChainStandsFor old c plp events → IsDue c plp events
-    → map bits_of frame ≡ blocks_of c plp c.ticks (packet_at (queue.offered events)) (queue.cuts events)
-
 -- an input that wants a packet has not ended
 pub record Wants (b : Bool) (gap : ℕ) : Type 0 where
   pub still : b ≡ false
@@ -54,26 +49,27 @@ pub wants : (total : Option ℕ) (b : Bool) (n gap : ℕ) → 0 < cond (is_some 
 wants total true n gap lt e = absurd (let z : 0 < 0 = subst (λ (o : Option ℕ). 0 < cond (is_some o) 0 gap) e lt in omega (arith, z))
 wants total false n gap lt e = record { still = refl; some = subst (λ (o : Option ℕ). 0 < cond (is_some o) 0 gap) e lt }
 
-room : (chain : Chain) (due slot : ℕ) (total : Option ℕ) (c : Config) (plp : ℕ) (t : Told) (h : Fed chain due slot total c plp t)
+room : (chain : Chain) (due slot : ℕ) (total : Option ℕ) (c : Config) (plp : ℕ) (t : Told) (early : List (List Bool)) (h : Fed chain due slot total c plp t early)
     → slot < due → HasRoom c plp h.events
-room chain due slot total c plp t h lt = rw (h.cuts, ← h.slot_is, ← h.due_is) lt
+room chain due slot total c plp t early h lt = rw (h.cuts, ← h.slot_is, ← h.due_is) lt
 
-is_due : (chain : Chain) (due slot : ℕ) (total : Option ℕ) (c : Config) (plp : ℕ) (t : Told) (h : Fed chain due slot total c plp t)
+is_due : (chain : Chain) (due slot : ℕ) (total : Option ℕ) (c : Config) (plp : ℕ) (t : Told) (early : List (List Bool)) (h : Fed chain due slot total c plp t early)
     → slot ≡ due → IsDue c plp h.events
-is_due chain due slot total c plp t h e = rw (h.cuts, ← h.slot_is, ← h.due_is) e
+is_due chain due slot total c plp t early h e = rw (h.cuts, ← h.slot_is, ← h.due_is) e
 
 one_more : (packets : List (List ℕ)) (x : List ℕ) (n : ℕ) → n ≡ 0 → (packets ++ replicate n null_packet) ++ x ∷ [] ≡ (packets ++ x ∷ []) ++ replicate n null_packet
 one_more packets x n e = rw (e, append-nil packets, append-nil (packets ++ x ∷ [])) refl
 
-pub fed_offer : (old new : Chain) (due slot : ℕ) (total : Option ℕ) (c : Config) (plp : ℕ) (t : Told) (packet : List ℕ) → Takes old new packet
-    → 0 < cond (is_some total) 0 (due - slot) → Fed old due slot total c plp t → Fed new due (slot + 1) total c plp (with_packet t packet)
-fed_offer old new due slot total c plp t packet takes lt h =
+pub fed_offer : (old new : Chain) (due slot : ℕ) (total : Option ℕ) (c : Config) (plp : ℕ) (t : Told) (packet : List ℕ) (was is : State) (list : ℕ) → Takes old new packet was is list → HasPlace c plp was list
+    → 0 < cond (is_some total) 0 (due - slot) → Fed old due slot total c plp t (bits_in was list) → Fed new due (slot + 1) total c plp (with_packet t packet) (bits_in is list)
+fed_offer old new due slot total c plp t packet was is list takes place lt h =
     let w = wants total t.ended (length t.packets) (due - slot) lt h.total_is in
     let before : slot < due = omega (arith, w.some) in
     let ended : t.ended ≡ false = w.still in
+    let took = takes c plp h.events place (room old due slot total c plp t (bits_in was list) h before) (record { stands = h.stands; early = h.early_is }) in
     record {
       events = h.events ++ queue.Offered packet ∷ [];
-      stands = takes c plp h.events h.stands (room old due slot total c plp t h before);
+      stands = took.stands;
       nulls = h.nulls;
       given = offered_push h.events packet ∙ ap (λ (l : List (List ℕ)). l ++ packet ∷ []) h.given ∙ one_more t.packets packet h.nulls (h.still w.still);
       cuts = cuts_stay h.events packet ∙ h.cuts;
@@ -81,17 +77,19 @@ fed_offer old new due slot total c plp t packet takes lt h =
       slot_is = ap (λ (n : ℕ). n + 1) h.slot_is ∙ sym (length_push (queue.offered h.events) packet) ∙ sym (ap length (offered_push h.events packet));
       total_is = h.total_is ∙ rw ended refl;
       still = h.still;
+      early_is = took.early;
     }
 
 null_more : (packets : List (List ℕ)) (n : ℕ) → (packets ++ replicate n null_packet) ++ null_packet ∷ [] ≡ packets ++ replicate (n + 1) null_packet
 null_more packets n = append_assoc packets (replicate n null_packet) (null_packet ∷ []) ∙ ap (λ (l : List (List ℕ)). packets ++ l) (replicate_more n null_packet)
 
-pub fed_null : (old new : Chain) (due slot : ℕ) (total : Option ℕ) (c : Config) (plp : ℕ) (t : Told) → Takes old new null_packet → t.ended ≡ true
-    → slot < due → Fed old due slot total c plp t → Fed new due (slot + 1) total c plp t
-fed_null old new due slot total c plp t takes ended before h =
+pub fed_null : (old new : Chain) (due slot : ℕ) (total : Option ℕ) (c : Config) (plp : ℕ) (t : Told) (was is : State) (list : ℕ) → Takes old new null_packet was is list → HasPlace c plp was list → t.ended ≡ true
+    → slot < due → Fed old due slot total c plp t (bits_in was list) → Fed new due (slot + 1) total c plp t (bits_in is list)
+fed_null old new due slot total c plp t was is list takes place ended before h =
+    let took = takes c plp h.events place (room old due slot total c plp t (bits_in was list) h before) (record { stands = h.stands; early = h.early_is }) in
     record {
       events = h.events ++ queue.Offered null_packet ∷ [];
-      stands = takes c plp h.events h.stands (room old due slot total c plp t h before);
+      stands = took.stands;
       nulls = h.nulls + 1;
       given = offered_push h.events null_packet ∙ ap (λ (l : List (List ℕ)). l ++ null_packet ∷ []) h.given ∙ null_more t.packets h.nulls;
       cuts = cuts_stay h.events null_packet ∙ h.cuts;
@@ -99,21 +97,7 @@ fed_null old new due slot total c plp t takes ended before h =
       slot_is = ap (λ (n : ℕ). n + 1) h.slot_is ∙ sym (length_push (queue.offered h.events) null_packet) ∙ sym (ap length (offered_push h.events null_packet));
       total_is = h.total_is;
       still = λ off. absurd (let z : true ≡ false = sym ended ∙ off in cc);
-    }
-
-pub fed_cut : (old new : Chain) (due slot next : ℕ) (total : Option ℕ) (c : Config) (plp : ℕ) (t : Told) → Cuts old new
-    → slot ≡ due → next ≡ slots_by c plp ((t.frame + 1) * c.ticks) → Fed old due slot total c plp t → Fed new next slot total c plp (in_next t)
-fed_cut old new due slot next total c plp t cuts e n h =
-    record {
-      events = h.events ++ queue.Cut ∷ [];
-      stands = cuts c plp h.events h.stands (is_due old due slot total c plp t h e);
-      nulls = h.nulls;
-      given = offered_stay h.events ∙ h.given;
-      cuts = cuts_push h.events ∙ ap (λ (n : ℕ). n + 1) h.cuts;
-      due_is = n;
-      slot_is = h.slot_is ∙ sym (ap length (offered_stay h.events));
-      total_is = h.total_is;
-      still = h.still;
+      early_is = took.early;
     }
 
 alike : (n k : ℕ) (x : List ℕ) → slice_index_or (replicate n x) k x ≡ x
@@ -135,14 +119,38 @@ same_slots packets rest false n k still whole lt =
     let inside : k < length packets = rw none at lt in
     rw none (sym (get_or_append_left packets rest null_packet k inside))
 
-pub fed_blocks : BlocksLaw → (old : Chain) (due slot : ℕ) (total : Option ℕ) (c : Config) (plp : ℕ) (t : Told) (frame input : List (List ℕ)) → Answers old frame → IsPlan c → plp < length c.plps
-    → slot ≡ due → Fed old due slot total c plp t → Continues t input → map bits_of frame ≡ blocks_of c plp c.ticks (packet_at input) t.frame
-fed_blocks law old due slot total c plp t frame input answers plan lt e h more =
-    let was = answers c plp h.events h.stands (is_due old due slot total c plp t h e) in
-    let here : map bits_of frame ≡ blocks_of c plp c.ticks (packet_at (queue.offered h.events)) t.frame = rw h.cuts at was in
-    here ∙ law c plp (packet_at (queue.offered h.events)) (packet_at input) t.frame plan lt (λ k inside.
+-- the packets of the slots that are over are those of any input that continues
+given_blocks : BlocksLaw → (old : Chain) (due slot : ℕ) (total : Option ℕ) (c : Config) (plp : ℕ) (t : Told) (early : List (List Bool)) (h : Fed old due slot total c plp t early) (input : List (List ℕ)) → IsPlan c
+    → plp < length c.plps → slot ≡ due → Continues t input → blocks_of c plp c.ticks (packet_at (queue.offered h.events)) t.frame ≡ blocks_of c plp c.ticks (packet_at input) t.frame
+given_blocks law old due slot total c plp t early h input plan lt e more =
+    law c plp (packet_at (queue.offered h.events)) (packet_at input) t.frame plan lt (λ k inside.
     let within : k < length (t.packets ++ replicate h.nulls null_packet) = rw (← h.given, ← h.slot_is, e, h.due_is) inside in
     rw (h.given, more.front) (same_slots t.packets more.rest t.ended h.nulls k h.still more.whole within))
+
+-- What the end of a frame leaves.
+pub fed_cut : BlocksLaw → (old new : Chain) (due slot next : ℕ) (total : Option ℕ) (c : Config) (plp : ℕ) (t : Told) (was is : State) (list count : ℕ) → Ends old new was is list count → IsPlan c → plp < length c.plps
+    → HasPlace c plp was list → slot ≡ due → next ≡ slots_by c plp ((t.frame + 1) * c.ticks) → Fed old due slot total c plp t (bits_in was list)
+    → Cuts new next slot total c plp t is count
+fed_cut law old new due slot next total c plp t was is list count ends plan lt place e n h =
+    let end = ends c plp h.events place (is_due old due slot total c plp t (bits_in was list) h e) (record { stands = h.stands; early = h.early_is }) in
+    let here : list_at is plp ≡ list_at is list = ap (list_at is) (sym place.place) in
+    record {
+      fed = record {
+        events = h.events ++ queue.Cut ∷ [];
+        stands = end.next.stands;
+        nulls = h.nulls;
+        given = offered_stay h.events ∙ h.given;
+        cuts = cuts_push h.events ∙ ap (λ (n : ℕ). n + 1) h.cuts;
+        due_is = n;
+        slot_is = h.slot_is ∙ sym (ap length (offered_stay h.events));
+        total_is = h.total_is;
+        still = h.still;
+        early_is = end.next.early;
+      };
+      blocks = λ input more. ap (map bits_of) here ∙ end.blocks_are ∙ ap (blocks_of c plp c.ticks (packet_at (queue.offered h.events))) h.cuts
+          ∙ given_blocks law old due slot total c plp t (bits_in was list) h input plan lt e more;
+      count_is = end.count_is ∙ ap length (sym here);
+    }
 
 -- at the next frame no fewer slots are over
 pub next_due : CountRises → SlotLength → (c : Config) (plp m due next : ℕ) → AllRules c → plp < length c.plps → due ≡ slots_by c plp (m * c.ticks)
@@ -160,6 +168,37 @@ none_due none slot c plp rules lt =
     let z : 0 * c.ticks ≡ 0 = omega arith in
     sym (rw z (none (num c) (den c plp) (omega (arith, s.0, s.2))))
 
-pub fed_open : (chain : Chain) (c : Config) (plp : ℕ) → ChainStandsFor chain c plp [] → 0 ≡ slots_by c plp (0 * c.ticks)
-    → Fed chain 0 0 None c plp (record { packets = []; ended = false; frame = 0 })
-fed_open chain c plp h e = record { events = []; stands = h; nulls = 0; given = refl; cuts = refl; due_is = e; slot_is = refl; total_is = refl; still = λ off. refl }
+pub fed_open : (chain : Chain) (c : Config) (plp : ℕ) → ChainStandsFor chain c plp [] → early_blocks c plp [] ≡ [] → 0 ≡ slots_by c plp (0 * c.ticks)
+    → Fed chain 0 0 None c plp (record { packets = []; ended = false; frame = 0 }) []
+fed_open chain c plp h none e =
+    record { events = []; stands = h; nulls = 0; given = refl; cuts = refl; due_is = e; slot_is = refl; total_is = refl; still = λ off. refl; early_is = sym none }
+
+-- what follows if a call did not fail
+pub took : {T E P Q : Type 0} (r : Result T E) → OnOk r P → OnErr r Q → (Q → ⊥) → P
+took (Ok x) p q never = p
+took (Err e) p q never = absurd (never q)
+
+-- A pool whose other lists stay has place as before.
+pub place_stays : (c : Config) (plp : ℕ) (was is : State) (list : ℕ) → Others was is list → HasPlace c plp was list → HasPlace c plp is list
+place_stays c plp was is list o h =
+    record {
+      enough = rw o.opened h.enough;
+      lists = o.count ∙ h.lists;
+      place = h.place;
+      others = λ other lt differ. rw (o.lists other (λ e. differ (e ∙ h.place))) (h.others other lt differ);
+    }
+
+pub others_on : (was mid is : State) (list : ℕ) → Others was mid list → Others mid is list → Others was is list
+others_on was mid is list a b = record {
+  lists = λ other differ. b.lists other differ ∙ a.lists other differ;
+  count = b.count ∙ a.count;
+  opened = b.opened ∙ a.opened;
+}
+
+-- All lists stay short if the one that changes does.
+pub all_short : (was is : State) (list : ℕ) → Others was is list → (AreShort (list_at was list) → AreShort (list_at is list)) → AllShort was → AllShort is
+all_short was is list others stays short = λ j.
+    elim (cases_eq j list) [
+      | inl same ↦ subst (λ (k : ℕ). AreShort (list_at is k)) (sym same) (stays (short list))
+      | inr differ ↦ subst AreShort (sym (others.lists j differ)) (short j)
+    ]

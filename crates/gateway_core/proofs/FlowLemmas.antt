@@ -6,7 +6,8 @@ use Rattle.std.proofs.lemmas.List.{drop_all, take_all}
 use Rattle.terms.specs.Bits.{bytes_of}
 use Rattle.terms.proofs.BitLemmas.{length-bytes_of}
 use Rattle.plp_config.specs.declared.config.Config.{Config}
-use Rattle.gateway_core.specs.BlocksLeft.{bits_in, blocks_left}
+use Rattle.gateway_core.specs.BlocksLeft.{blocks_left}
+use Rattle.gateway_core.specs.Lists.{bits_in}
 use Rattle.gateway_core.specs.Carried.{AllGone}
 use Rattle.gateway_core.specs.Left.{from_step, left}
 use Rattle.gateway_core.specs.Packets.{l1_body}

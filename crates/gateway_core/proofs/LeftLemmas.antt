@@ -18,7 +18,8 @@ use Rattle.gateway_core.specs.Left.{from_step, Builds}
 use Rattle.gateway_core.specs.Whole.{IsWhole}
 use Rattle.gateway_core.specs.declared.frame.Step.{Step}
 use Rattle.gateway_core.specs.declared.frame.Step.TheVariants.{Blocks}
-use Rattle.gateway_core.specs.BlocksLeft.{bits_in, AllShort, IsNext, blocks_left}
+use Rattle.gateway_core.specs.BlocksLeft.{blocks_left}
+use Rattle.gateway_core.specs.Lists.{bits_in, AllShort, IsNext}
 
 -- the PLPs from one on are that one and the others
 pub bodies_more : (c : Config) (n : ℕ) (blocks : ℕ → List (List Bool)) (from : ℕ) → from < length c.plps

@@ -7,4 +7,3 @@ pub mod BoundLemmas
 pub mod FlowLemmas
 pub mod HoldsLemmas
 pub mod LawLemmas
-pub mod FewLemmas

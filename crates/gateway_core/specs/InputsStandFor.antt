@@ -1,18 +1,28 @@
 -- What the inputs of all PLPs stand for, and which inputs continue what was offered.
-use Rattle.std.specs.Prelude.{◌≡◌, ◌≢◌, ◌<◌, ◌≤◌, ℕ, true, is_some, Some, List, [], length, map, slice_index_or}
-use Rattle.terms.specs.Bits.{bits_of}
+use Rattle.std.specs.Prelude.{◌≡◌, ◌≢◌, ◌<◌, ◌≤◌, ℕ, true, Bool, is_some, Some, List, [], length, slice_index, slice_index_or}
+use Rattle.std.specs.declared.option.Option.{Option}
+use Rattle.linked_pool.specs.Fits.{frame_chunks}
+use Rattle.linked_pool.specs.Pool.{State, list_at, Others}
 use Rattle.plp_config.specs.Plps.{plp_at}
 use Rattle.plp_config.specs.declared.config.Config.{Config}
 use Rattle.mode_adapt.specs.Blocks.{blocks_of}
 use Rattle.mode_adapt.specs.Deletion.{packet_at}
+use Rattle.mode_adapt.specs.Place.{HasPlace}
+use Rattle.mode_adapt.specs.declared.chain.Chain.{Chain}
 use Rattle.gateway_core.specs.Events.{Event, begun}
-use Rattle.gateway_core.specs.IsFed.{IsFed, most}
+use Rattle.gateway_core.specs.Lists.{bits_in}
+use Rattle.gateway_core.specs.IsFed.{Fed, IsFed, most}
 use Rattle.gateway_core.specs.Told.{Told, told, in_next, Continues}
 use Rattle.gateway_core.specs.declared.input.Input.{Input}
 
--- Each stands for what events tell of it.
-abbrev pub AllFed : List Input → Config → List Event → Type 0
-AllFed inputs c events = (j : ℕ) (d : Input) → j < length inputs → IsFed (slice_index_or inputs j d) c j (told j events)
+-- A pool has a list for each PLP, and the chunks of a frame.
+pub record HasFrame (c : Config) (pool : State) : Type 0 where
+  pub enough : frame_chunks c ≤ pool.opened
+  pub lists : length pool.lists ≡ length c.plps
+
+-- Each stands for what events tell of it, and has put these blocks of the frame under way.
+abbrev pub AllFed : List Input → (ℕ → List (List Bool)) → Config → List Event → Type 0
+AllFed inputs early c events = (j : ℕ) (d : Input) → j < length inputs → IsFed (slice_index_or inputs j d) c j (told j events) (early j)
 
 -- No PLP gives more blocks than the configuration allows.
 abbrev pub AreFor : List Input → Config → Type 0
@@ -22,26 +32,36 @@ AreFor inputs c = (j : ℕ) (d : Input) → j < length inputs → most (slice_in
 abbrev pub AllContinue : Config → List Event → (ℕ → List (List ℕ)) → Type 0
 AllContinue c events inputs = (j : ℕ) → j < length c.plps → Continues (told j events) (inputs j)
 
--- the blocks of the frame under way, for any inputs that continue
-abbrev pub AreBlocks : List (List (List ℕ)) → Config → List Event → (ℕ → List (List ℕ)) → Type 0
-AreBlocks blocks c events inputs = (j : ℕ) → j < length c.plps → map bits_of (slice_index_or blocks j []) ≡ blocks_of c j c.ticks (packet_at (inputs j)) (begun events)
+-- A pool has the blocks of the frame under way, for any inputs that continue.
+abbrev pub AreBlocks : State → Config → List Event → (ℕ → List (List ℕ)) → Type 0
+AreBlocks pool c events inputs = (j : ℕ) → j < length c.plps → bits_in pool j ≡ blocks_of c j c.ticks (packet_at (inputs j)) (begun events)
 
--- The input at a place gave the blocks of a frame.
-pub record CutsOne (c : Config) (frame : ℕ) (old new : List Input) (plp : ℕ) (blocks : List (List ℕ)) : Type 0 where
+-- An input put the blocks of a frame into the list of its place, and so many there are; the next frame is under way.
+pub record Cuts (chain : Chain) (due slot : ℕ) (total : Option ℕ) (c : Config) (plp : ℕ) (t : Told) (pool : State) (count : ℕ) : Type 0 where
+  pub fed : Fed chain due slot total c plp (in_next t) []
+  pub blocks : (input : List (List ℕ)) → Continues t input → bits_in pool plp ≡ blocks_of c plp c.ticks (packet_at input) t.frame
+  pub count_is : count ≡ length (list_at pool plp)
+
+abbrev pub HasCut : Input → Config → ℕ → Told → State → ℕ → Type 0
+HasCut i c plp t pool count = Cuts i.chain i.due i.slot i.total c plp t pool count
+
+-- The input at a place put the blocks of a frame, and so many there are.
+pub record CutsOne (c : Config) (frame : ℕ) (old new : List Input) (was is : State) (plp count : ℕ) : Type 0 where
   pub others : (j : ℕ) (d : Input) → j ≢ plp → slice_index_or new j d ≡ slice_index_or old j d
-  pub fed : (d : Input) (t : Told) → t.frame ≡ frame → IsFed (slice_index_or old plp d) c plp t → IsFed (slice_index_or new plp d) c plp (in_next t)
-  pub made : (d : Input) (t : Told) (input : List (List ℕ)) → t.frame ≡ frame → IsFed (slice_index_or old plp d) c plp t → Continues t input
-      → map bits_of blocks ≡ blocks_of c plp c.ticks (packet_at input) frame
-  pub few : (d : Input) → length blocks ≤ most (slice_index_or old plp d)
+  pub lists : Others was is plp
+  pub few : (d : Input) → count ≤ most (slice_index_or old plp d)
+  pub cut : (d : Input) (t : Told) → t.frame ≡ frame → HasPlace c plp was plp → IsFed (slice_index_or old plp d) c plp t (bits_in was plp)
+      → HasCut (slice_index_or new plp d) c plp t is count
 
 -- The inputs below a place did.
-pub record CutUntil (c : Config) (frame : ℕ) (old new : List Input) (blocks : List (List (List ℕ))) (place : ℕ) : Type 0 where
-  pub count : length blocks ≡ place
+pub record CutUntil (c : Config) (frame : ℕ) (old new : List Input) (was is : State) (counts : List ℕ) (place : ℕ) : Type 0 where
   pub rest : (j : ℕ) (d : Input) → place ≤ j → slice_index_or new j d ≡ slice_index_or old j d
-  pub fed : (j : ℕ) (d : Input) (t : Told) → j < place → t.frame ≡ frame → IsFed (slice_index_or old j d) c j t → IsFed (slice_index_or new j d) c j (in_next t)
-  pub made : (j : ℕ) (d : Input) (t : Told) (input : List (List ℕ)) → j < place → t.frame ≡ frame → IsFed (slice_index_or old j d) c j t → Continues t input
-      → map bits_of (slice_index_or blocks j []) ≡ blocks_of c j c.ticks (packet_at input) frame
-  pub few : (j : ℕ) (d : Input) → j < place → length (slice_index_or blocks j []) ≤ most (slice_index_or old j d)
+  pub lists : (j : ℕ) → place ≤ j → list_at is j ≡ list_at was j
+  pub lists_count : length is.lists ≡ length was.lists
+  pub opened : is.opened ≡ was.opened
+  pub few : (j : ℕ) (d : Input) → j < place → slice_index counts j ≤ most (slice_index_or old j d)
+  pub cut : (events : List Event) → frame ≡ begun events → HasFrame c was → AllFed old (bits_in was) c events
+      → (j : ℕ) (d : Input) → j < place → HasCut (slice_index_or new j d) c j (told j events) is (slice_index counts j)
 
 -- No input has another number of blocks at most.
 abbrev pub SameMost : List Input → List Input → Type 0

@@ -1,11 +1,11 @@
 -- What an input stands for. No public clause cites this module.
-use Rattle.std.specs.Prelude.{◌≡◌, ℕ, ◌-◌, ◌*◌, false, List, ◌++◌, length, replicate, Some, None, is_some, if◌then◌else◌}
+use Rattle.std.specs.Prelude.{◌≡◌, ℕ, ◌-◌, ◌*◌, Bool, false, List, ◌++◌, length, replicate, Some, None, is_some, if◌then◌else◌}
 use Rattle.std.specs.declared.option.Option.{Option}
 use Rattle.plp_config.specs.SlotTime.{slots_by}
 use Rattle.plp_config.specs.declared.config.Config.{Config}
 use Rattle.ts_packet.specs.Null.{null_packet}
 use Rattle.mode_adapt.specs.Events as queue
-use Rattle.mode_adapt.specs.StandsFor.{ChainStandsFor, most_blocks}
+use Rattle.mode_adapt.specs.StandsFor.{ChainStandsFor, most_blocks, early_blocks}
 use Rattle.mode_adapt.specs.declared.chain.Chain.{Chain}
 use Rattle.gateway_core.specs.Told.{Told}
 use Rattle.gateway_core.specs.declared.input.Input.{Input}
@@ -14,9 +14,9 @@ use Rattle.gateway_core.specs.declared.input.Input.{Input}
 abbrev pub wanted : Input → ℕ
 wanted i = if is_some i.total then 0 else i.due - i.slot
 
--- A chain was given what was offered, and null packets from the end on. So many slots are over when the frame under way begins, so
--- many have their packets, and so many packets there were at the end.
-pub record Fed (chain : Chain) (due slot : ℕ) (total : Option ℕ) (c : Config) (plp : ℕ) (t : Told) : Type 0 where
+-- A chain was given what was offered, and null packets from the end on; it has put these blocks of the frame under way. So many slots
+-- are over when that frame begins, so many have their packets, and so many packets there were at the end.
+pub record Fed (chain : Chain) (due slot : ℕ) (total : Option ℕ) (c : Config) (plp : ℕ) (t : Told) (early : List (List Bool)) : Type 0 where
   pub events : List queue.Event
   pub stands : ChainStandsFor chain c plp events
   pub nulls : ℕ
@@ -26,9 +26,10 @@ pub record Fed (chain : Chain) (due slot : ℕ) (total : Option ℕ) (c : Config
   pub slot_is : slot ≡ length (queue.offered events)
   pub total_is : total ≡ (if t.ended then Some (length t.packets) else None)
   pub still : t.ended ≡ false → nulls ≡ 0
+  pub early_is : early ≡ early_blocks c plp events
 
-abbrev pub IsFed : Input → Config → ℕ → Told → Type 0
-IsFed i c plp t = Fed i.chain i.due i.slot i.total c plp t
+abbrev pub IsFed : Input → Config → ℕ → Told → List (List Bool) → Type 0
+IsFed i c plp t early = Fed i.chain i.due i.slot i.total c plp t early
 
 -- the greatest number of blocks that an input gives for a frame
 abbrev pub most : Input → ℕ

@@ -3,7 +3,7 @@ ghost use Rattle.std.specs.Prelude.{◌≡◌, ◌≢◌, ◌<◌, ◌≤◌, �
 ghost use Rattle.linked_pool.specs.Fits.{frame_chunks};
 ghost use Rattle.linked_pool.specs.Pool.{list_at};
 ghost use Rattle.plp_config.specs.declared.moment.TheConstants.{MOST_FRAMES};
-ghost use Rattle.gateway_core.specs.BlocksLeft.{AllShort, IsNext};
+ghost use Rattle.gateway_core.specs.Lists.{AllShort, IsNext};
 ghost use Rattle.gateway_core.specs.FirstStep.{first_step};
 ghost use Rattle.gateway_core.specs.declared.frame.Step.TheVariants.{Over};
 
@@ -110,7 +110,7 @@ fn frame_chunks(plan: &Plan) -> u32
 impl Frame {
     ghost use Rattle.std.specs.Prelude.{◌≡◌, ◌<◌, ◌≤◌, ◌+◌, ◌*◌, ◌/◌, ℕ, true, false, [], length, replicate, IfOk};
     ghost use Rattle.scheduler.specs.Laws.{CountsFit};
-    ghost use Rattle.gateway_core.specs.BlocksLeft.{bits_in};
+    ghost use Rattle.gateway_core.specs.Lists.{bits_in};
     ghost use Rattle.gateway_core.specs.Left.{left, all_of, early_of, layout_of, Builds};
     ghost use Rattle.gateway_core.specs.declared.signalling.Signalling.{Signalling};
 

@@ -1,9 +1,13 @@
 // The input of one PLP.
-ghost use Rattle.std.specs.Prelude.{◌≡◌, ◌<◌, ◌≤◌, ◌^◌, ℕ, Some};
-ghost use Rattle.mode_adapt.specs.StandsFor.{slot_of};
+ghost use Rattle.std.specs.Prelude.{◌≡◌, ◌<◌, ◌≤◌, ◌+◌, ◌^◌, ℕ, Some, length};
+ghost use Rattle.linked_pool.specs.Pool.{Others, IsWhole};
+ghost use Rattle.mode_adapt.specs.StandsFor.{slot_of, most_blocks};
+ghost use Rattle.gateway_core.specs.ChainSteps.{Takes, Ends};
+ghost use Rattle.gateway_core.specs.Lists.{bits_in, AllShort};
 
 use bit_slice::OutOfMemory;
-use mode_adapt::{Chain, FrameBytes, blocks_law};
+use linked_pool::Pool;
+use mode_adapt::{Chain, blocks_law};
 use plp_config::{Plan, length_law, slot_time_law};
 use std::alloc::Global;
 use ts_packet::TsPacket;
@@ -24,22 +28,58 @@ pub struct Input {
     ghost behind: { (count : ℕ) → total ≡ Some count → count ≤ due },
 }
 
+// Gives a chain the packet of the next slot. A pool with place has room for every block of a frame.
+fn offer_to(chain: &mut Chain, packet: &TsPacket, pool: &mut Pool, list: u32)
+    requires slot { slot_of chain.old < 2 ^ 54 }
+    requires list { list < length pool.old.lists }
+    ensures takes { Takes chain.old chain.new packet.now pool.old pool.new list }
+    ensures slots { slot_of chain.new ≡ slot_of chain.old + 1 }
+    ensures most { most_blocks chain.new ≡ most_blocks chain.old }
+    ensures short { AllShort pool.old → AllShort pool.new }
+    ensures others { Others pool.old pool.new list }
+    ensures whole { IsWhole pool.new }
+{
+    let _ = chain.offer(packet, pool, list);
+    // A call that tells that each chunk is free or has a part of a block.
+    let _ = pool.spare();
+}
+
+// Ends the frame under way: how many blocks it has. A pool with place has room for every one.
+fn end_frame(chain: &mut Chain, pool: &mut Pool, list: u32) -> u16
+    requires { list < length pool.old.lists }
+    ensures ends { Ends chain.old chain.new pool.old pool.new list result }
+    ensures few { result ≤ most_blocks chain.old }
+    ensures slots { slot_of chain.new ≡ slot_of chain.old }
+    ensures most { most_blocks chain.new ≡ most_blocks chain.old }
+    ensures short { AllShort pool.old → AllShort pool.new }
+    ensures others { Others pool.old pool.new list }
+    ensures whole { IsWhole pool.new }
+{
+    let ended = chain.cut(pool, list);
+    // A call that tells that each chunk is free or has a part of a block.
+    let _ = pool.spare();
+    match ended {
+        Ok(count) => count as u16,
+        Err(_) => 0,
+    }
+}
+
 impl Input {
-    ghost use Rattle.std.specs.Prelude.{◌≡◌, ◌<◌, ◌≤◌, ◌+◌, ◌*◌, ◌^◌, ℕ, List, [], true, false, length, map, IfOk, OnOk, IfSome};
-    ghost use Rattle.terms.specs.Bits.{bits_of};
+    ghost use Rattle.std.specs.Prelude.{◌≡◌, ◌<◌, ◌≤◌, ◌+◌, ◌*◌, ◌^◌, ℕ, List, Bool, [], true, false, length, IfOk, IfSome};
+    ghost use Rattle.linked_pool.specs.Pool.{list_at, Others, IsWhole};
     ghost use Rattle.plp_config.specs.Plps.{plp_at};
     ghost use Rattle.plp_config.specs.Capacity.{IsPlan};
     ghost use Rattle.plp_config.specs.SlotTime.{slots_by};
     ghost use Rattle.plp_config.specs.declared.config.Config.{Config};
-    ghost use Rattle.mode_adapt.specs.Deletion.{packet_at};
-    ghost use Rattle.mode_adapt.specs.Blocks.{blocks_of};
-    ghost use Rattle.gateway_core.specs.Told.{Told, with_packet, at_end, in_next, Continues};
+    ghost use Rattle.mode_adapt.specs.Place.{HasPlace};
+    ghost use Rattle.gateway_core.specs.Told.{Told, with_packet, at_end};
     ghost use Rattle.gateway_core.specs.IsFed.{IsFed, wanted, most};
+    ghost use Rattle.gateway_core.specs.InputsStandFor.{HasCut};
 
-    /// An input of no packets yet, for the PLP at a place of the plan.
+    /// An input of no packets yet, for the PLP at a place of the plan. No later call takes memory.
     pub fn open(alloc: Global, plan: &Plan, plp: usize) -> Result<Input, OutOfMemory>
         requires { plp < length plan.now.plps }
-        ensures fed { IfOk result (λ i. IsFed i plan.now plp (record { packets = []; ended = false; frame = 0 })) }
+        ensures fed { IfOk result (λ i. IsFed i plan.now plp (record { packets = []; ended = false; frame = 0 }) []) }
         ensures most { IfOk result (λ i. most i ≡ (plp_at plan.now.plps plp).blocks) }
     {
         slot_time_law();
@@ -74,21 +114,25 @@ impl Input {
         self.total
     }
 
-    /// Takes the packet of the next slot.
-    pub fn offer(&mut self, packet: &TsPacket) -> Result<(), OutOfMemory>
-        requires { 0 < wanted self.old }
-        ensures fed { OnOk result ((c : Config) (plp : ℕ) (t : Told) → IsFed self.old c plp t → IsFed self.new c plp (with_packet t packet.now)) }
-        ensures wanted { OnOk result (wanted self.new + 1 ≡ wanted self.old) }
+    /// Takes the packet of the next slot. The list has the blocks that the chain put of the frame under way.
+    pub fn offer(&mut self, packet: &TsPacket, pool: &mut Pool, list: u32)
+        requires wanted { 0 < wanted self.old }
+        requires list { list < length pool.old.lists }
+        ensures fed { (c : Config) (plp : ℕ) (t : Told) → HasPlace c plp pool.old list → IsFed self.old c plp t (bits_in pool.old list)
+            → IsFed self.new c plp (with_packet t packet.now) (bits_in pool.new list) }
+        ensures wanted { wanted self.new + 1 ≡ wanted self.old }
         ensures most { most self.new ≡ most self.old }
+        ensures short { AllShort pool.old → AllShort pool.new }
+        ensures others { Others pool.old pool.new list }
+        ensures whole { IsWhole pool.new }
     {
-        self.chain.offer(packet)?;
+        offer_to(&mut self.chain, packet, pool, list);
         self.slot += 1;
-        Ok(())
     }
 
     /// The input has ended.
     pub fn end(&mut self)
-        ensures fed { (c : Config) (plp : ℕ) (t : Told) → IsFed self.old c plp t → IsFed self.new c plp (at_end t) }
+        ensures fed { (c : Config) (plp : ℕ) (t : Told) (early : List (List Bool)) → IsFed self.old c plp t early → IsFed self.new c plp (at_end t) early }
         ensures wanted { wanted self.new ≡ 0 }
         ensures most { most self.new ≡ most self.old }
     {
@@ -98,65 +142,77 @@ impl Input {
     }
 
     // Gives the chain a null packet, behind the end of the input.
-    fn offer_null(&mut self) -> Result<(), OutOfMemory>
-        requires { self.old.slot < self.old.due }
-        ensures fed { OnOk result ((c : Config) (plp : ℕ) (t : Told) → t.ended ≡ true → IsFed self.old c plp t → IsFed self.new c plp t) }
-        ensures slot { OnOk result (self.new.slot ≡ self.old.slot + 1) }
-        ensures due { OnOk result (self.new.due ≡ self.old.due) }
-        ensures total { OnOk result (self.new.total ≡ self.old.total) }
+    fn offer_null(&mut self, pool: &mut Pool, list: u32)
+        requires before { self.old.slot < self.old.due }
+        requires list { list < length pool.old.lists }
+        ensures fed { (c : Config) (plp : ℕ) (t : Told) → t.ended ≡ true → HasPlace c plp pool.old list → IsFed self.old c plp t (bits_in pool.old list)
+            → IsFed self.new c plp t (bits_in pool.new list) }
+        ensures slot { self.new.slot ≡ self.old.slot + 1 }
+        ensures due { self.new.due ≡ self.old.due }
+        ensures total { self.new.total ≡ self.old.total }
         ensures most { most self.new ≡ most self.old }
+        ensures short { AllShort pool.old → AllShort pool.new }
+        ensures others { Others pool.old pool.new list }
     {
-        self.chain.offer(&TsPacket::canonical())?;
+        offer_to(&mut self.chain, &TsPacket::canonical(), pool, list);
         self.slot += 1;
-        Ok(())
     }
 
     // Null packets up to the slots that are over.
-    fn fill(&mut self) -> Result<(), OutOfMemory>
-        ensures fed { OnOk result ((c : Config) (plp : ℕ) (t : Told) → t.ended ≡ true → IsFed self.old c plp t → IsFed self.new c plp t) }
-        ensures full { OnOk result (self.new.slot ≡ self.new.due) }
-        ensures due { OnOk result (self.new.due ≡ self.old.due) }
+    fn fill(&mut self, pool: &mut Pool, list: u32)
+        requires { list < length pool.old.lists }
+        ensures fed { (c : Config) (plp : ℕ) (t : Told) → t.ended ≡ true → HasPlace c plp pool.old list → IsFed self.old c plp t (bits_in pool.old list)
+            → IsFed self.new c plp t (bits_in pool.new list) }
+        ensures full { self.new.slot ≡ self.new.due }
+        ensures due { self.new.due ≡ self.old.due }
         ensures most { most self.new ≡ most self.old }
+        ensures short { AllShort pool.old → AllShort pool.new }
+        ensures others { Others pool.old pool.new list }
     {
         for _ in self.slot..self.due {
-            self.offer_null()?;
+            self.offer_null(pool, list);
         }
-        Ok(())
     }
 
     // Null packets, if the input ended.
-    fn complete(&mut self) -> Result<(), OutOfMemory>
-        requires { wanted self.old ≡ 0 }
-        ensures fed { OnOk result ((c : Config) (plp : ℕ) (t : Told) → IsFed self.old c plp t → IsFed self.new c plp t) }
-        ensures full { OnOk result (self.new.slot ≡ self.new.due) }
-        ensures due { OnOk result (self.new.due ≡ self.old.due) }
+    fn complete(&mut self, pool: &mut Pool, list: u32)
+        requires wanted { wanted self.old ≡ 0 }
+        requires list { list < length pool.old.lists }
+        ensures fed { (c : Config) (plp : ℕ) (t : Told) → HasPlace c plp pool.old list → IsFed self.old c plp t (bits_in pool.old list)
+            → IsFed self.new c plp t (bits_in pool.new list) }
+        ensures full { self.new.slot ≡ self.new.due }
+        ensures due { self.new.due ≡ self.old.due }
         ensures most { most self.new ≡ most self.old }
+        ensures short { AllShort pool.old → AllShort pool.new }
+        ensures others { Others pool.old pool.new list }
     {
-        if self.total.is_none() {
-            return Ok(());
+        if self.total.is_some() {
+            self.fill(pool, list);
         }
-        self.fill()
     }
 
-    /// Gives the blocks of the frame under way, and goes on to the next one, by whose begin so many slots are over. An input that
-    /// ended has null packets.
-    pub fn cut(&mut self, due: u64) -> Result<FrameBytes, OutOfMemory>
+    /// Puts what is left of the frame under way, and goes on to the next one, by whose begin so many slots are over; the answer is
+    /// how many blocks the frame has. An input that ended has null packets. The list has the blocks that the chain put of the
+    /// frame.
+    pub fn cut(&mut self, due: u64, pool: &mut Pool, list: u32) -> u16
         requires wanted { wanted self.old ≡ 0 }
         requires small { due < 2 ^ 54 }
-        ensures fed { OnOk result ((c : Config) (plp : ℕ) (t : Told) → IsPlan c → plp < length c.plps → due ≡ slots_by c plp ((t.frame + 1) * c.ticks)
-            → IsFed self.old c plp t → IsFed self.new c plp (in_next t)) }
-        ensures blocks { IfOk result (λ frame. (c : Config) (plp : ℕ) (t : Told) → IsPlan c → plp < length c.plps → IsFed self.old c plp t
-            → (input : List (List ℕ)) → Continues t input → map bits_of frame ≡ blocks_of c plp c.ticks (packet_at input) t.frame) }
-        ensures few { IfOk result (λ frame. length frame ≤ most self.old) }
+        requires list { list < length pool.old.lists }
+        ensures cut { (c : Config) (plp : ℕ) (t : Told) → IsPlan c → plp < length c.plps → HasPlace c plp pool.old list → due ≡ slots_by c plp ((t.frame + 1) * c.ticks)
+            → IsFed self.old c plp t (bits_in pool.old list) → HasCut self.new c plp t pool.new result }
+        ensures few { result ≤ most self.old }
         ensures most { most self.new ≡ most self.old }
+        ensures short { AllShort pool.old → AllShort pool.new }
+        ensures others { Others pool.old pool.new list }
+        ensures whole { IsWhole pool.new }
     {
         blocks_law();
         slot_time_law();
         length_law();
-        self.complete()?;
-        let frame = self.chain.cut()?;
+        self.complete(pool, list);
+        let count = end_frame(&mut self.chain, pool, list);
         // They never become fewer.
         self.due = self.due.max(due);
-        Ok(frame)
+        count
     }
 }

@@ -1,20 +1,20 @@
 // The inputs of all PLPs.
-ghost use Rattle.std.specs.Prelude.{◌≡◌, ◌≢◌, ◌<◌, ◌≤◌, ◌+◌, ◌^◌, ◌++◌, ◌∷◌, [], ℕ, List, length, map, vec_len, slice_index, slice_index_or, IfOk, OnOk};
+ghost use Rattle.std.specs.Prelude.{◌≡◌, ◌≢◌, ◌<◌, ◌≤◌, ◌+◌, ◌^◌, ◌++◌, ◌∷◌, [], ℕ, List, Bool, length, map, slice_index, IfOk};
+ghost use Rattle.linked_pool.specs.Pool.{IsWhole};
 ghost use Rattle.plp_config.specs.declared.moment.TheConstants.{MOST_FRAMES};
-ghost use Rattle.terms.specs.Bits.{bits_of};
+ghost use Rattle.plp_config.specs.Capacity.{IsPlan};
 ghost use Rattle.plp_config.specs.Plps.{plp_at};
 ghost use Rattle.plp_config.specs.declared.config.Config.{Config};
-ghost use Rattle.mode_adapt.specs.Blocks.{blocks_of};
-ghost use Rattle.mode_adapt.specs.Deletion.{packet_at};
 ghost use Rattle.gateway_core.specs.IsFed.{IsFed, wanted, most};
-ghost use Rattle.gateway_core.specs.Told.{Told, in_next, Continues};
 ghost use Rattle.gateway_core.specs.Events.{Event, Offered, Ended, Begun, begun};
-ghost use Rattle.gateway_core.specs.InputsStandFor.{AllFed, AreFor, AllContinue, AreBlocks, CutsOne, SameMost};
+ghost use Rattle.gateway_core.specs.InputsStandFor.{AllFed, AreFor, AllContinue, AreBlocks, CutsOne, SameMost, HasFrame};
+ghost use Rattle.gateway_core.specs.Lists.{bits_in, AllShort};
 ghost use Rattle.gateway_core.specs.declared.input.Input.{Input};
 
 use crate::input::Input;
 use bit_slice::OutOfMemory;
-use mode_adapt::FrameBytes;
+use linked_pool::Pool;
+use mode_adapt::early_fits_law;
 use plp_config::Plan;
 use std::alloc::Global;
 use ts_packet::TsPacket;
@@ -22,7 +22,7 @@ use ts_packet::TsPacket;
 /// The inputs of no packets yet, for the PLPs of a plan.
 pub fn open_inputs(alloc: Global, plan: &Plan) -> Result<Vec<Input>, OutOfMemory>
     ensures len { IfOk result (λ inputs. length inputs.items ≡ length plan.now.plps) }
-    ensures fed { IfOk result (λ inputs. AllFed inputs.items plan.now []) }
+    ensures fed { IfOk result (λ inputs. AllFed inputs.items (λ j. []) plan.now []) }
     ensures most { IfOk result (λ inputs. AreFor inputs.items plan.now) }
 {
     let mut inputs = Vec::new(alloc);
@@ -40,22 +40,30 @@ pub fn wanted(inputs: &[Input], plp: usize) -> u64
     inputs[plp].wanted()
 }
 
-/// Takes the next packet of an input.
-pub fn offer(inputs: &mut [Input], plp: usize, packet: &TsPacket) -> Result<(), OutOfMemory>
+/// Takes the next packet of an input. The pool has a list for each, at the same place.
+pub fn offer(inputs: &mut [Input], pool: &mut Pool, plp: usize, packet: &TsPacket)
     requires place { plp < length inputs.old }
+    requires few { plp < 2 ^ 32 }
+    requires lists { length pool.old.lists ≡ length inputs.old }
     requires wanted { 0 < slice_index (map wanted inputs.old) plp }
-    ensures fed { OnOk result ((c : Config) (events : List Event) → AllFed inputs.old c events → AllFed inputs.new c (events ++ Offered plp packet.now ∷ [])) }
-    ensures fewer { OnOk result (slice_index (map wanted inputs.new) plp + 1 ≡ slice_index (map wanted inputs.old) plp) }
+    ensures fed { (c : Config) (events : List Event) → length inputs.old ≡ length c.plps → HasFrame c pool.old → AllFed inputs.old (bits_in pool.old) c events
+        → AllFed inputs.new (bits_in pool.new) c (events ++ Offered plp packet.now ∷ []) }
+    ensures fewer { slice_index (map wanted inputs.new) plp + 1 ≡ slice_index (map wanted inputs.old) plp }
     ensures others { (other : ℕ) → other ≢ plp → slice_index (map wanted inputs.new) other ≡ slice_index (map wanted inputs.old) other }
     ensures most { SameMost inputs.old inputs.new }
+    ensures short { AllShort pool.old → AllShort pool.new }
+    ensures lists { length pool.new.lists ≡ length pool.old.lists }
+    ensures opened { pool.new.opened ≡ pool.old.opened }
+    ensures whole { IsWhole pool.new }
 {
-    inputs[plp].offer(packet)
+    early_fits_law();
+    inputs[plp].offer(packet, pool, plp as u32);
 }
 
 /// An input has ended.
 pub fn end(inputs: &mut [Input], plp: usize)
     requires { plp < length inputs.old }
-    ensures fed { (c : Config) (events : List Event) → AllFed inputs.old c events → AllFed inputs.new c (events ++ Ended plp ∷ []) }
+    ensures fed { (early : ℕ → List (List Bool)) (c : Config) (events : List Event) → AllFed inputs.old early c events → AllFed inputs.new early c (events ++ Ended plp ∷ []) }
     ensures none { slice_index (map wanted inputs.new) plp ≡ 0 }
     ensures others { (other : ℕ) → other ≢ plp → slice_index (map wanted inputs.new) other ≡ slice_index (map wanted inputs.old) other }
     ensures most { SameMost inputs.old inputs.new }
@@ -63,46 +71,50 @@ pub fn end(inputs: &mut [Input], plp: usize)
     inputs[plp].end();
 }
 
-// The blocks of one PLP in the frame under way.
-fn cut_one(
-    plan: &Plan,
-    inputs: &mut [Input],
-    plp: usize,
-    frame: u64,
-) -> Result<FrameBytes, OutOfMemory>
+// Ends the frame under way for one PLP: how many blocks of it the frame has.
+fn cut_one(plan: &Plan, inputs: &mut [Input], pool: &mut Pool, plp: usize, frame: u64) -> u16
     requires whole { length inputs.old ≡ length plan.now.plps }
     requires place { plp < length inputs.old }
     requires early { frame < MOST_FRAMES }
     requires ready { slice_index (map wanted inputs.old) plp ≡ 0 }
-    ensures cuts { IfOk result (CutsOne plan.now frame inputs.old inputs.new plp) }
+    requires lists { length pool.old.lists ≡ length inputs.old }
+    ensures cuts { CutsOne plan.now frame inputs.old inputs.new pool.old pool.new plp result }
     ensures most { SameMost inputs.old inputs.new }
+    ensures short { AllShort pool.old → AllShort pool.new }
 {
     let ticks = u64::from(plan.config().ticks);
     let due = plan.slots_by(plp, (frame + 1) * ticks);
-    inputs[plp].cut(due)
+    inputs[plp].cut(due, pool, plp as u32)
 }
 
-/// The blocks of each PLP in the frame under way. After it the next one is under way.
-pub fn cut(
-    alloc: Global,
-    plan: &Plan,
-    inputs: &mut [Input],
-    frame: u64,
-) -> Result<Vec<FrameBytes>, OutOfMemory>
+/// Ends the frame under way: each list of the pool has the blocks of its PLP, and at each place stands how many they are. After it
+/// the next frame is under way.
+pub fn cut(plan: &Plan, inputs: &mut [Input], pool: &mut Pool, frame: u64, counts: &mut [u16])
     requires whole { length inputs.old ≡ length plan.now.plps }
     requires early { frame < MOST_FRAMES }
     requires ready { (plp : ℕ) → plp < length inputs.old → slice_index (map wanted inputs.old) plp ≡ 0 }
-    ensures len { IfOk result (λ blocks. length blocks.items ≡ length plan.now.plps) }
-    ensures fed { OnOk result ((events : List Event) → frame ≡ begun events → AllFed inputs.old plan.now events → AllFed inputs.new plan.now (events ++ Begun ∷ [])) }
-    ensures blocks { IfOk result (λ blocks. (events : List Event) → frame ≡ begun events → AllFed inputs.old plan.now events
-        → (all : ℕ → List (List ℕ)) → AllContinue plan.now events all → AreBlocks blocks.items plan.now events all) }
-    ensures few { IfOk result (λ blocks. AreFor inputs.old plan.now → (plp : ℕ) → plp < length plan.now.plps
-        → length (slice_index_or blocks.items plp []) ≤ (plp_at plan.now.plps plp).blocks) }
+    requires lists { length pool.old.lists ≡ length inputs.old }
+    requires counts { length counts.old ≡ length plan.now.plps }
+    ensures fed { (events : List Event) → frame ≡ begun events → HasFrame plan.now pool.old → AllFed inputs.old (bits_in pool.old) plan.now events
+        → AllFed inputs.new (λ j. []) plan.now (events ++ Begun ∷ []) }
+    ensures blocks { (events : List Event) → frame ≡ begun events → HasFrame plan.now pool.old → AllFed inputs.old (bits_in pool.old) plan.now events
+        → (all : ℕ → List (List ℕ)) → AllContinue plan.now events all → AreBlocks pool.new plan.now events all }
+    ensures counts { (events : List Event) → frame ≡ begun events → HasFrame plan.now pool.old → AllFed inputs.old (bits_in pool.old) plan.now events
+        → counts.new ≡ map length pool.new.lists }
+    ensures few { AreFor inputs.old plan.now → (plp : ℕ) → plp < length plan.now.plps → slice_index counts.new plp ≤ (plp_at plan.now.plps plp).blocks }
+    ensures len { length counts.new ≡ length counts.old }
     ensures most { SameMost inputs.old inputs.new }
+    ensures short { AllShort pool.old → AllShort pool.new }
+    ensures lists { length pool.new.lists ≡ length pool.old.lists }
+    ensures opened { pool.new.opened ≡ pool.old.opened }
+    ensures whole { IsWhole pool.new }
 {
-    let mut blocks = Vec::new(alloc);
+    early_fits_law();
+    // A call that tells that the rules hold.
+    let _ = plan.config();
     for plp in 0..inputs.len() {
-        blocks.push(cut_one(plan, inputs, plp, frame)?)?;
+        counts[plp] = cut_one(plan, inputs, pool, plp, frame);
     }
-    Ok(blocks)
+    // A call that tells that each chunk is free or has a part of a block.
+    let _ = pool.spare();
 }

@@ -1,6 +1,5 @@
-use Rattle.std.proofs.Common.{◌≡◌, ◌+◌, ◌∙◌, ℕ, List, length, arith, subst, sym, refl}
-use Rattle.gateway_core.specs.InputsStandFor.{CutUntil}
-use Rattle.gateway_core.proofs.InputsLemmas.{cut_step, cut_none, cut_fed, cut_blocks, cut_few, same_wanted}
+use Rattle.std.proofs.Common.{◌≡◌, ◌∙◌, length, arith, refl}
+use Rattle.gateway_core.proofs.InputsLemmas.{cut_step, cut_none, cut_fed, cut_blocks, cut_counts, cut_few, same_wanted}
 use Rattle.gateway_core.proofs.inputs.cut.Goals as goal
 
 pub cut_one-requires-clause-ready : goal.cut_one-requires-clause-ready
@@ -9,25 +8,29 @@ cut_one-requires-clause-ready c =
     ∙ c.requires.ready c.loop-plp.plp c.loop-plp-test.true
 
 pub loop-plp-init : goal.loop-plp-init
-loop-plp-init c = record {
-  cut = subst (λ (b : List (List (List ℕ))). CutUntil c.args.plan.now c.args.frame c.args.inputs.now c.args.inputs.now b 0) (sym c.new-blocks.ensures.items) (cut_none _ _ _);
-  most = λ j d. refl;
-}
+loop-plp-init c = record { cut = cut_none _ _ _ _ _; most = λ j d. refl; short = λ short. short }
 
 pub loop-plp-preserved : goal.loop-plp-preserved
 loop-plp-preserved c = record {
-  cut = subst (λ (b : List (List (List ℕ))). CutUntil c.args.plan.now c.args.frame c.args.inputs.now c.cut_one.new.inputs b (c.loop-plp.plp + 1)) (sym c.in_ok-push.ensures.items)
-      (cut_step _ _ _ _ _ _ _ _ c.loop-plp.invariant.cut c.in_ok-cut_one.ensures.cuts);
-  most = λ j d. c.in_ok-cut_one.ensures.most j d ∙ c.loop-plp.invariant.most j d;
+  cut = cut_step c.early_fits_law.ensures.early c.early_fits_law.ensures.blocks _ _ _ _ _ _ _ _ _ c.loop-plp.plp _ c.config.ensures.plan c.requires.whole c.loop-plp-test.true (omega arith)
+      c.loop-plp.invariant.cut c.cut_one.ensures.cuts;
+  most = λ j d. c.cut_one.ensures.most j d ∙ c.loop-plp.invariant.most j d;
+  short = λ short. c.cut_one.ensures.short (c.loop-plp.invariant.short short);
 }
 
 pub returns : goal.returns
 returns c =
     let all : c.loop-plp.plp ≡ length c.args.inputs.now = omega arith in
+    let cut = c.loop-plp.invariant.cut in
     record {
-      len = c.loop-plp.invariant.cut.count ∙ all ∙ c.requires.whole;
-      fed = λ events e was. cut_fed _ _ _ _ _ _ events c.loop-plp.invariant.cut all c.loop-plp.auto.inputs e was;
-      blocks = λ events e was inputs more. cut_blocks _ _ _ _ _ _ events inputs c.loop-plp.invariant.cut all c.requires.whole e was more;
-      few = λ is plp lt. cut_few _ _ _ _ _ _ plp c.loop-plp.invariant.cut all c.requires.whole is lt;
+      fed = λ events e has was. cut_fed _ _ _ _ _ _ _ _ events cut all c.loop-plp.auto.inputs e has was;
+      blocks = λ events e has was inputs more. cut_blocks _ _ _ _ _ _ _ _ events inputs cut all c.requires.whole e has was more;
+      counts = λ events e has was. cut_counts _ _ _ _ _ _ _ _ events cut all c.requires.lists (c.loop-plp.auto.counts ∙ omega arith) e has was;
+      few = λ are plp lt. cut_few _ _ _ _ _ _ _ _ plp cut all c.requires.whole are lt;
+      len = c.loop-plp.auto.counts;
       most = c.loop-plp.invariant.most;
+      short = c.loop-plp.invariant.short;
+      lists = cut.lists_count;
+      opened = cut.opened;
+      whole = c.spare.ensures.whole;
     }

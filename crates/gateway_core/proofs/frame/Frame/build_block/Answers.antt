@@ -1,6 +1,7 @@
 use Rattle.std.proofs.Common.{◌≡◌, ◌≢◌, ◌∙◌, false, [], sym, subst}
 use Rattle.linked_pool.specs.Pool.{State, list_at}
-use Rattle.gateway_core.specs.BlocksLeft.{bits_in, AllShort, blocks_left}
+use Rattle.gateway_core.specs.BlocksLeft.{blocks_left}
+use Rattle.gateway_core.specs.Lists.{bits_in, AllShort}
 use Rattle.gateway_core.specs.Left.{Builds, from_step}
 use Rattle.gateway_core.specs.Packets.{l1_body}
 use Rattle.gateway_core.specs.declared.frame.Step.{Step}

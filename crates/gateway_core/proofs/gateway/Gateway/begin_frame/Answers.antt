@@ -1,12 +1,12 @@
-use Rattle.std.proofs.Common.{◌≡◌, ◌∙◌, ◌+◌, ◌++◌, ◌∷◌, [], List, Bool, ℕ, length, map, refl, ap, sym, subst}
+use Rattle.std.proofs.Common.{◌≡◌, ◌∙◌, ◌+◌, ◌++◌, ◌∷◌, [], List, ℕ, refl, ap, sym, subst}
 use Rattle.std.specs.Vec.{with_items}
 use Rattle.std.proofs.lemmas.List.{with_items_is}
 use Rattle.plp_config.specs.declared.config.Config.{Config}
-use Rattle.gateway_core.specs.BlocksLeft.{bits_in}
+use Rattle.gateway_core.specs.Lists.{bits_in}
 use Rattle.gateway_core.specs.Events.{Begun}
 use Rattle.gateway_core.specs.Flowing.{Flows}
 use Rattle.gateway_core.specs.InputsStandFor.{AllFed}
-use Rattle.gateway_core.specs.Left.{Layout, left, all_of, early_of}
+use Rattle.gateway_core.specs.Left.{Layout, left, early_of}
 use Rattle.gateway_core.specs.StandsFor.{GatewayStandsFor, Holds}
 use Rattle.gateway_core.specs.declared.input.Input.{Input}
 use Rattle.gateway_core.proofs.FlowLemmas.{dry_when, over_left}

@@ -2,7 +2,8 @@ use Rattle.std.proofs.Common.{◌≡◌, ◌≢◌, ◌+◌, ◌∙◌, ◌++◌
 use Rattle.std.specs.Prelude.{slice_index}
 use Rattle.std.proofs.lemmas.List.{with_items_is}
 use Rattle.plp_config.specs.declared.config.Config.{Config}
-use Rattle.gateway_core.specs.BlocksLeft.{bits_in, blocks_left}
+use Rattle.gateway_core.specs.BlocksLeft.{blocks_left}
+use Rattle.gateway_core.specs.Lists.{bits_in}
 use Rattle.gateway_core.specs.Events.{Offered}
 use Rattle.gateway_core.specs.InputsStandFor.{AllFed}
 use Rattle.gateway_core.specs.Left.{early_of}
