@@ -1,9 +1,9 @@
 -- Packets are built and fed, one by one.
-use Rattle.std.proofs.Common.{◌≡◌, ℕ, ◌+◌, ◌-◌, ◌%◌, ◌<◌, ◌≤◌, Bool, true, false, List, [], ◌∷◌, ◌++◌, length, take, drop, refl, ap, sym, subst, ◌∙◌, arith, append-nil, append_assoc, Some, inl, inr}
+use Rattle.std.proofs.Common.{◌≡◌, ℕ, ◌+◌, ◌%◌, ◌<◌, Bool, true, false, List, [], ◌∷◌, ◌++◌, length, take, drop, refl, ap, sym, subst, ◌∙◌, arith, append-nil, append_assoc, Some, inl, inr}
 use Rattle.std.specs.Prelude.{slice_get}
 use Rattle.std.proofs.lemmas.Bool.{cases_lt}
 use Rattle.std.proofs.lemmas.Grind.{flat_map-append}
-use Rattle.std.proofs.lemmas.List.{take-append-drop, drop-take, drop-drop, length_push}
+use Rattle.std.proofs.lemmas.List.{take-append-drop, length_push}
 use Rattle.terms.specs.Bits.{bytes_of}
 use Rattle.plp_config.specs.declared.config.Config.{Config}
 use Rattle.t2mi_packet.specs.T2miPacket.{written_bits}
@@ -14,7 +14,7 @@ use Rattle.t2mi_stream.specs.Events.{PiperEvent, PiperTally, Begun, Piped, Given
 use Rattle.t2mi_stream.specs.Pipe.{Item, items, joined, units_of, pipe}
 use Rattle.t2mi_stream.specs.PiperStandsFor.{PiperStandsFor, is_finished}
 use Rattle.t2mi_stream.specs.declared.piper.Piper.{Piper}
-use Rattle.gateway_core.specs.Carried.{Carries, AllGone, of_frame, between}
+use Rattle.gateway_core.specs.Carried.{Carries, AllGone, of_frame}
 use Rattle.gateway_core.specs.Packets.{packet_with, packets_from}
 use Rattle.t2mi_stream.proofs.TallyLemmas.{tally_push, items_append}
 
@@ -45,16 +45,11 @@ fed_on fed begun rest r =
     ∙ ap (λ (l : List Item). fed ++ l) (items_append begun (take r rest) (drop r rest))
     ∙ sym (append_assoc fed (items begun (take r rest)) (items (still_begun begun (take r rest)) (drop r rest)))
 
-between_on : (bytes : List ℕ) (at len r : ℕ) → at + r ≤ len → between bytes (at + r) len ≡ drop r (between bytes at len)
-between_on bytes at len r le =
-    let gap : len - at ≡ r + (len - (at + r)) = omega arith in
-    sym (ap (λ (k : ℕ). drop r (take k (drop at bytes))) gap ∙ drop-take r (len - (at + r)) (drop at bytes) ∙ ap (take (len - (at + r))) (drop-drop r at bytes))
-
-pub carries_feed : (old new : Piper) (bytes : List ℕ) (at len r number : ℕ) (c : Config) (n : ℕ) (left : List Body) (all : List (ℕ × Body)) (given : ℕ) → is_finished old ≡ false → at + r ≤ len
-    → ((pid : ℕ) (events : List PiperEvent) → PiperStandsFor old pid events → PiperStandsFor new pid (events ++ Piped (take r (between bytes at len)) ∷ []))
-    → Carries old (between bytes at len) number c n left all given → Carries new (between bytes (at + r) len) number c n left all given
-carries_feed old new bytes at len r number c n left all given off le stands h =
-    let piece = take r (between bytes at len) in
+pub carries_feed : (old new : Piper) (rest : List ℕ) (r number : ℕ) (c : Config) (n : ℕ) (left : List Body) (all : List (ℕ × Body)) (given : ℕ) → is_finished old ≡ false
+    → ((pid : ℕ) (events : List PiperEvent) → PiperStandsFor old pid events → PiperStandsFor new pid (events ++ Piped (take r rest) ∷ []))
+    → Carries old rest number c n left all given → Carries new (drop r rest) number c n left all given
+carries_feed old new rest r number c n left all given off stands h =
+    let piece = take r rest in
     let t = tally_push h.events (Piped piece) in
     record {
       events = h.events ++ Piped piece ∷ [];
@@ -62,9 +57,7 @@ carries_feed old new bytes at len r number c n left all given off le stands h =
       units = ap (λ (t : PiperTally). t.given) t ∙ h.units;
       built = h.built;
       number_is = h.number_is;
-      fed = h.fed ∙ fed_on (tally h.events).fed (tally h.events).begun (between bytes at len) r
-          ∙ ap (λ (l : List ℕ). ((tally h.events).fed ++ items (tally h.events).begun piece) ++ items (still_begun (tally h.events).begun piece) l) (sym (between_on bytes at len r le))
-          ∙ sym (ap (λ (t : PiperTally). t.fed ++ items t.begun (between bytes (at + r) len)) t);
+      fed = h.fed ∙ fed_on (tally h.events).fed (tally h.events).begun rest r ∙ sym (ap (λ (t : PiperTally). t.fed ++ items t.begun (drop r rest)) t);
       all_are = h.all_are;
       were_complete = λ _.
           let was = h.were_complete off in

@@ -1,7 +1,8 @@
 -- An input takes packets, and its chain null packets behind them.
-use Rattle.std.proofs.Common.{◌≡◌, ℕ, zero, suc, ◌+◌, ◌-◌, ◌*◌, ◌<◌, ◌≤◌, Bool, true, false, cond, List, [], ◌∷◌, ◌++◌, Option, Some, None, length, map, replicate, is_some, refl, ap, sym, subst, ◌∙◌, arith, append-nil, append_assoc, max}
+use Rattle.std.proofs.Common.{◌≡◌, ℕ, zero, suc, ◌+◌, ◌-◌, ◌*◌, ◌<◌, ◌≤◌, Bool, true, false, cond, List, [], ◌∷◌, ◌++◌, Option, Some, None, length, map, replicate, is_some, refl, ap, sym, subst, ◌∙◌, arith, append-nil, append_assoc, max, inl, inr}
 use Rattle.std.proofs.Math.Nat.{mul-le-mul_right}
 use Rattle.std.specs.Prelude.{slice_index_or, Result, Ok, Err, OnOk, OnErr}
+use Rattle.std.proofs.lemmas.Bool.{cases_eq}
 use Rattle.std.proofs.lemmas.Grind.{flat_map-append}
 use Rattle.std.proofs.lemmas.List.{replicate_more, get_or_append_left, length_push}
 use Rattle.std.proofs.lemmas.List.Sums.{sum_by-append}
@@ -18,13 +19,14 @@ use Rattle.mode_adapt.specs.Blocks.{blocks_of}
 use Rattle.mode_adapt.specs.Events as queue
 use Rattle.mode_adapt.specs.Events.{packet_of, is_cut, HasRoom, IsDue}
 use Rattle.mode_adapt.specs.Laws.{BlocksLaw}
-use Rattle.mode_adapt.specs.Place.{HasPlace}
+use Rattle.mode_adapt.specs.Place.{AreShort, HasPlace}
 use Rattle.mode_adapt.specs.StandsFor.{ChainStandsFor, early_blocks}
 use Rattle.mode_adapt.specs.declared.chain.Chain.{Chain}
 use Rattle.gateway_core.specs.Told.{Told, with_packet, Continues}
 use Rattle.gateway_core.specs.IsFed.{Fed}
 use Rattle.gateway_core.specs.ChainSteps.{Takes, Ends}
-use Rattle.gateway_core.specs.InputsStandFor.{bits_in, Cuts}
+use Rattle.gateway_core.specs.InputsStandFor.{Cuts}
+use Rattle.gateway_core.specs.Lists.{bits_in, AllShort}
 
 offered_push : (events : List queue.Event) (x : List ℕ) → queue.offered (events ++ queue.Offered x ∷ []) ≡ queue.offered events ++ x ∷ []
 offered_push events x = flat_map-append packet_of events (queue.Offered x ∷ [])
@@ -192,3 +194,11 @@ others_on was mid is list a b = record {
   count = b.count ∙ a.count;
   opened = b.opened ∙ a.opened;
 }
+
+-- All lists stay short if the one that changes does.
+pub all_short : (was is : State) (list : ℕ) → Others was is list → (AreShort (list_at was list) → AreShort (list_at is list)) → AllShort was → AllShort is
+all_short was is list others stays short = λ j.
+    elim (cases_eq j list) [
+      | inl same ↦ subst (λ (k : ℕ). AreShort (list_at is k)) (sym same) (stays (short list))
+      | inr differ ↦ subst AreShort (sym (others.lists j differ)) (short j)
+    ]

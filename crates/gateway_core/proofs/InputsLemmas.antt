@@ -18,7 +18,8 @@ use Rattle.mode_adapt.specs.Place.{HasPlace}
 use Rattle.mode_adapt.specs.Deletion.{packet_at}
 use Rattle.gateway_core.specs.Events.{Event, Offered, Ended, Begun, packets_to, offered, ends, has_ended, begins, begun}
 use Rattle.gateway_core.specs.IsFed.{IsFed, wanted, most}
-use Rattle.gateway_core.specs.InputsStandFor.{AllFed, AreFor, AllContinue, AreBlocks, HasCut, CutsOne, CutUntil, HasFrame, SameMost, bits_in}
+use Rattle.gateway_core.specs.InputsStandFor.{AllFed, AreFor, AllContinue, AreBlocks, HasCut, CutsOne, CutUntil, HasFrame, SameMost}
+use Rattle.gateway_core.specs.Lists.{bits_in}
 use Rattle.gateway_core.specs.Told.{Told, told, with_packet, at_end, in_next, Continues}
 use Rattle.gateway_core.specs.declared.input.Input.{Input}
 

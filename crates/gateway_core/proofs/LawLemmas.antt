@@ -21,7 +21,8 @@ use Rattle.mode_adapt.specs.Blocks.{plp_blocks}
 use Rattle.gateway_core.specs.Packets.{l1_body, block_bodies, plp_bodies, with_stamp, counts_of, frame_bodies, bodies_before, packets_from, front_packets}
 use Rattle.gateway_core.specs.Signalling.{pre_part, conf_part, dyn_part}
 use Rattle.gateway_core.proofs.CarriedLemmas.{packets_append}
-use Rattle.gateway_core.proofs.HoldsLemmas.{flat_same, bodies_more}
+use Rattle.gateway_core.proofs.HoldsLemmas.{bodies_more}
+use Rattle.gateway_core.proofs.LeftLemmas.{flat_same}
 
 pub tick_more : (c : Config) (packets : ℕ → ℕ) (plp : ℕ) → last_tick c packets (plp + 1) ≡ max (last_tick c packets plp) (start c plp (packets plp) + delay c plp)
 unfolding last_tick

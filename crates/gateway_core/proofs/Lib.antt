@@ -3,8 +3,8 @@ pub mod InputsLemmas
 pub mod LeftLemmas
 pub mod SignalLemmas
 pub mod CarriedLemmas
+pub mod BoundLemmas
 pub mod FlowLemmas
 pub mod HoldsLemmas
 pub mod LawLemmas
-pub mod FewLemmas
 mod AheadLemmas

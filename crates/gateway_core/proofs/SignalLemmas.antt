@@ -1,26 +1,21 @@
--- The numbers of blocks of a frame fit the plan.
-use Rattle.std.proofs.Common.{◌≡◌, ℕ, ◌<◌, ◌≤◌, List, [], length, map, sym, subst, ◌∙◌, arith}
-use Rattle.std.specs.Prelude.{slice_index_or, slice_index}
-use Rattle.std.proofs.lemmas.List.{length-map, get_or-map}
-use Rattle.plp_config.specs.Capacity.{IsPlan}
-use Rattle.plp_config.specs.Plps.{plp_at}
-use Rattle.plp_config.specs.declared.config.Config.{Config}
-use Rattle.scheduler.specs.Laws.{CountsFit, ShapeFitsL1, ShapeHasCounts}
+-- A sink with room for all bits takes them all.
+use Rattle.std.proofs.Common.{◌≡◌, ℕ, ◌-◌, ◌*◌, ◌≤◌, Bool, false, List, [], ◌++◌, length, take, Some, Result, Ok, Err, ap, ◌∙◌, arith, length-append}
+use Rattle.std.specs.Prelude.{OnOk, IfErr}
+use Rattle.std.proofs.lemmas.List.{length-take}
+use Rattle.bit_slice.specs.Sink.{State, Puts, Stops}
+use Rattle.bit_slice.specs.declared.sink.SinkFault.{SinkFault}
+use Rattle.bit_slice.specs.declared.sink.SinkFault.TheVariants.{Full, OutOfMemory}
 
-count_at : (blocks : List (List (List ℕ))) (plp : ℕ) → plp < length blocks → slice_index (map length blocks) plp ≡ length (slice_index_or blocks plp [])
-count_at blocks plp lt = get_or-map length blocks plp [] 0 lt
+-- a sink of so many bytes with these bits
+abbrev sink : ℕ → List Bool → State
+sink n bits = record { written = bits; room = Some (8 * n - length bits); grows = false; below = [] }
 
-pub counts_fit : (c : Config) (blocks : List (List (List ℕ))) → length blocks ≡ length c.plps
-    → ((plp : ℕ) → plp < length c.plps → length (slice_index_or blocks plp []) ≤ (plp_at c.plps plp).blocks) → CountsFit c (map length blocks)
-counts_fit c blocks len few = record {
-  whole = length-map blocks length ∙ len;
-  within = λ plp lt. subst (λ (n : ℕ). n ≤ (plp_at c.plps plp).blocks) (sym (count_at blocks plp (omega arith))) (few plp lt);
-}
-
-pub small_counts : ShapeFitsL1 → ShapeHasCounts → (c : Config) (blocks : List (List (List ℕ))) → IsPlan c → length blocks ≡ length c.plps
-    → ((plp : ℕ) → plp < length c.plps → length (slice_index_or blocks plp []) ≤ (plp_at c.plps plp).blocks) → (plp : ℕ) → plp < length blocks → length (slice_index_or blocks plp []) < 65536
-small_counts fits has c blocks plan len few plp lt =
-    let all = fits c (map length blocks) plan (counts_fit c blocks len few) in
-    let one = all.counts plp in
-    let at : slice_index (map length blocks) plp < 1024 = subst (λ (l : List ℕ). slice_index l plp < 1024) (has c (map length blocks)) one in
-    omega (arith, at, count_at blocks plp lt)
+pub written_whole : (r : Result (Unit {0}) SinkFault) (n : ℕ) (old new bits : List Bool) → old ≡ [] → length bits ≤ 8 * n → OnOk r (Puts (sink n old) (sink n new) bits) → IfErr r (Stops (sink n old) (sink n new) bits) → new ≡ bits
+written_whole (Ok u) n old new bits none few puts stops = puts.written ∙ ap (λ (l : List Bool). l ++ bits) none
+written_whole (Err OutOfMemory) n old new bits none few puts stops = absurd (let e = stops.cause.0 in cc)
+written_whole (Err (Full need room)) n old new bits none few puts stops =
+    let has : Some (8 * n - length new) ≡ Some room = stops.cause.0 in
+    let is : 8 * n - length new ≡ room = cc in
+    let count = ap length stops.front.written in
+    let z = ap length none in
+    absurd (omega (arith, is, stops.cause.1, stops.cause.2, count, z, length-append old (take stops.count bits), length-take stops.count bits))

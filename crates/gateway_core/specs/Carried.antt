@@ -1,5 +1,5 @@
 -- How far the packets of the frames begun have come. No public clause cites this module.
-use Rattle.std.specs.Prelude.{◌≡◌, ℕ, ◌+◌, ◌-◌, ◌*◌, ◌%◌, ◌≤◌, false, List, [], ◌++◌, length, map, take, drop}
+use Rattle.std.specs.Prelude.{◌≡◌, ℕ, ◌%◌, ◌≤◌, false, List, [], ◌++◌, length, map}
 use Rattle.plp_config.specs.declared.config.Config.{Config}
 use Rattle.t2mi_packet.specs.declared.packet.Body.{Body}
 use Rattle.t2mi_stream.specs.Complete.{complete_of}
@@ -24,15 +24,6 @@ pub record Carries (piper : Piper) (rest : List ℕ) (number : ℕ) (c : Config)
   pub fed : joined (packets_from c 0 built) ≡ (tally events).fed ++ items (tally events).begun rest
   pub all_are : all ≡ built ++ of_frame n left
   pub were_complete : is_finished piper ≡ false → given ≤ length (complete_of c.pid (tally events).fed)
-
--- bytes of a buffer from one up to another
-abbrev pub between : List ℕ → ℕ → ℕ → List ℕ
-between bytes at len = take (len - at) (drop at bytes)
-
--- a bound for the bytes that are not yet given: those that wait, those of a packet from one up to another, and for each body that is left
--- one more than the longest packet has
-abbrev pub bytes_bound : ℕ → ℕ → ℕ → List Body → ℕ
-bytes_bound waiting at len left = waiting + (len - at) + 8203 * length left
 
 -- Nothing is left to feed, and nothing follows.
 pub record AllGone (rest : List ℕ) (left : List Body) (more : List (List ℕ)) : Type 0 where

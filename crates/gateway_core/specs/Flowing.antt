@@ -1,21 +1,36 @@
--- What a flow stands for. No public clause cites this module.
-use Rattle.std.specs.Prelude.{◌≡◌, ℕ, ◌==◌, ◌&&◌, ◌||◌, nat_lt, Bool, true, List, []}
+-- What an outlet stands for. No public clause cites this module.
+use Rattle.std.specs.Prelude.{◌≡◌, ◌≤◌, ℕ, ◌+◌, ◌*◌, ◌==◌, ◌&&◌, ◌||◌, nat_lt, Bool, List, drop, length}
+use Rattle.terms.specs.Bits.{bytes_of}
 use Rattle.ts_packet.specs.declared.sizes.TheConstants.{PAYLOAD}
 use Rattle.plp_config.specs.declared.config.Config.{Config}
 use Rattle.t2mi_packet.specs.declared.packet.Body.{Body}
 use Rattle.t2mi_stream.specs.PiperStandsFor.{waiting_of, is_finished}
-use Rattle.t2mi_stream.specs.declared.piper.Piper.{Piper}
-use Rattle.gateway_core.specs.Carried.{Carries, between}
-use Rattle.gateway_core.specs.declared.flow.Flow.{Flow}
+use Rattle.gateway_core.specs.Carried.{Carries}
+use Rattle.gateway_core.specs.Left.{left, early_of, layout_of}
+use Rattle.gateway_core.specs.declared.flow.Outlet.{Outlet}
+use Rattle.gateway_core.specs.declared.frame.Frame.{Frame}
+use Rattle.gateway_core.specs.declared.signalling.Signalling.{Signalling}
 
--- Its packets have come so far, and none of them is left where it is dry.
-pub record Streams (piper : Piper) (rest : List ℕ) (number : ℕ) (dry : Bool) (c : Config) (n : ℕ) (left : List Body) (all : List (ℕ × Body)) (given : ℕ) : Type 0 where
-  pub carries : Carries piper rest number c n left all given
-  pub dried : dry ≡ true → (rest ≡ []) × (left ≡ [])
+-- the bytes of its packet that the piper did not take
+abbrev pub rest_of : Outlet → List ℕ
+rest_of o = drop o.at (bytes_of o.packet)
 
-abbrev pub Flows : Flow → Config → ℕ → List Body → List (ℕ × Body) → ℕ → Type 0
-Flows f c n left all given = Streams f.outlet.piper (between f.outlet.bytes f.outlet.at f.outlet.len) f.outlet.number f.dry c n left all given
+-- All packets have come so far, and so many units were given.
+abbrev pub Flows : Outlet → Config → ℕ → List Body → List (ℕ × Body) → ℕ → Type 0
+Flows o c n left all given = Carries o.piper (rest_of o) o.number c n left all given
+
+-- a bound for the bytes that are not yet given: those that wait, those of its packet that the piper did not take, and for each body that is
+-- left one more than the longest packet has
+abbrev pub bytes_bound : Outlet → List Body → ℕ
+bytes_bound o left = waiting_of o.piper + length (rest_of o) + 8203 * length left
 
 -- A unit is complete, or no more frames come and a byte is left.
-abbrev pub gives_unit : Flow → Bool
-gives_unit f = (waiting_of f.outlet.piper == PAYLOAD) || (is_finished f.outlet.piper && nat_lt 0 (waiting_of f.outlet.piper))
+abbrev pub gives_unit : Outlet → Bool
+gives_unit o = (waiting_of o.piper == PAYLOAD) || (is_finished o.piper && nat_lt 0 (waiting_of o.piper))
+
+-- An outlet took packets of a frame, and gave no unit.
+pub record Feeds (c : Config) (s : Signalling) (old new : Outlet) (before now : Frame) : Type 0 where
+  pub flows : (all : List (ℕ × Body)) (given : ℕ) → Flows old c before.number (left c s before) all given → Flows new c now.number (left c s now) all given
+  pub bound : bytes_bound new (left c s now) ≤ bytes_bound old (left c s before)
+  pub early : (j : ℕ) → early_of now j ≡ early_of before j
+  pub layout : layout_of now ≡ layout_of before

@@ -1,7 +1,6 @@
 -- What the inputs of all PLPs stand for, and which inputs continue what was offered.
-use Rattle.std.specs.Prelude.{◌≡◌, ◌≢◌, ◌<◌, ◌≤◌, ℕ, true, Bool, is_some, Some, List, [], length, map, slice_index, slice_index_or}
+use Rattle.std.specs.Prelude.{◌≡◌, ◌≢◌, ◌<◌, ◌≤◌, ℕ, true, Bool, is_some, Some, List, [], length, slice_index, slice_index_or}
 use Rattle.std.specs.declared.option.Option.{Option}
-use Rattle.terms.specs.Bits.{bits_of}
 use Rattle.linked_pool.specs.Fits.{frame_chunks}
 use Rattle.linked_pool.specs.Pool.{State, list_at, Others}
 use Rattle.plp_config.specs.Plps.{plp_at}
@@ -11,13 +10,10 @@ use Rattle.mode_adapt.specs.Deletion.{packet_at}
 use Rattle.mode_adapt.specs.Place.{HasPlace}
 use Rattle.mode_adapt.specs.declared.chain.Chain.{Chain}
 use Rattle.gateway_core.specs.Events.{Event, begun}
+use Rattle.gateway_core.specs.Lists.{bits_in}
 use Rattle.gateway_core.specs.IsFed.{Fed, IsFed, most}
 use Rattle.gateway_core.specs.Told.{Told, told, in_next, Continues}
 use Rattle.gateway_core.specs.declared.input.Input.{Input}
-
--- the blocks of each list of a pool, as bits
-abbrev pub bits_in : State → ℕ → List (List Bool)
-bits_in pool j = map bits_of (list_at pool j)
 
 -- A pool has a list for each PLP, and the chunks of a frame.
 pub record HasFrame (c : Config) (pool : State) : Type 0 where

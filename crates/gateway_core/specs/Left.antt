@@ -1,14 +1,18 @@
 -- What a frame still has to give. No public clause cites this module.
-use Rattle.std.specs.Prelude.{◌≡◌, ℕ, Bool, List, ◌∷◌}
+use Rattle.std.specs.Prelude.{◌≡◌, ℕ, Bool, true, List, [], ◌∷◌, length}
+use Rattle.linked_pool.specs.Pool.{State}
 use Rattle.plp_config.specs.declared.config.Config.{Config}
 use Rattle.t2mi_packet.specs.T2miPacket.{written_bits}
 use Rattle.t2mi_packet.specs.declared.packet.Body.{Body}
 use Rattle.t2mi_packet.specs.declared.packet.Body.TheVariants.{Timestamp}
 use Rattle.gateway_core.specs.BlocksLeft.{blocks_left}
+use Rattle.gateway_core.specs.Lists.{bits_in}
+use Rattle.gateway_core.specs.FirstStep.{first_step}
 use Rattle.gateway_core.specs.Whole.{IsWhole}
 use Rattle.gateway_core.specs.Packets.{stamp_of, l1_body, packet_with}
-use Rattle.gateway_core.specs.declared.step.Step.{Step}
-use Rattle.gateway_core.specs.declared.step.Step.TheVariants.{Stamp, Signal, Blocks}
+use Rattle.gateway_core.specs.Signalling.{dyn_part}
+use Rattle.gateway_core.specs.declared.frame.Step.{Step}
+use Rattle.gateway_core.specs.declared.frame.Step.TheVariants.{Stamp, Signal, Blocks, Over}
 use Rattle.gateway_core.specs.declared.frame.Frame.{Frame}
 use Rattle.gateway_core.specs.declared.signalling.Signalling.{Signalling}
 
@@ -17,9 +21,34 @@ abbrev pub from_step : Config → ℕ → Step → Body → List Body → List B
 from_step c n Stamp signal rest = Timestamp (stamp_of c n) ∷ signal ∷ rest
 from_step c n Signal signal rest = signal ∷ rest
 from_step c n Blocks signal rest = rest
+from_step c n Over signal rest = []
 
 abbrev pub left : Config → Signalling → Frame → List Body
-left c s f = from_step c f.number f.step (l1_body c f.number s.pre s.conf f.dynamic) (blocks_left c f.number f.blocks.items f.plp f.block)
+left c s f = from_step c f.number f.step (l1_body c f.number s.pre s.conf f.dynamic.bits) (blocks_left c f.number (bits_in f.blocks) f.plp f.first)
+
+-- what a frame has to give as it begins, by how many blocks each PLP has and by the blocks
+abbrev pub all_of : Config → Signalling → ℕ → List ℕ → (ℕ → List (List Bool)) → List Body
+all_of c s n counts blocks = from_step c n (first_step c n) (l1_body c n s.pre s.conf (dyn_part c n counts)) (blocks_left c n blocks 0 true)
+
+-- the blocks that the chains put already for the next frame: those of the lists once nothing is left, else none
+abbrev pub early_at : Step → State → ℕ → List (List Bool)
+early_at Stamp pool j = []
+early_at Signal pool j = []
+early_at Blocks pool j = []
+early_at Over pool j = bits_in pool j
+
+abbrev pub early_of : Frame → ℕ → List (List Bool)
+early_of f j = early_at f.step f.blocks j
+
+-- what stays as a frame gives its packets: its number, the lists and the chunks of its pool, and how many blocks each PLP has in it
+pub record Layout : Type 0 where
+  pub number : ℕ
+  pub lists : ℕ
+  pub chunks : ℕ
+  pub counts : List ℕ
+
+abbrev pub layout_of : Frame → Layout
+layout_of f = record { number = f.number; lists = length f.blocks.lists; chunks = f.blocks.opened; counts = f.counts.items }
 
 -- The next packet was built, with a number modulo 256.
 pub record Builds (c : Config) (n number : ℕ) (old new : List Body) (bits : List Bool) : Type 0 where

@@ -1,6 +1,7 @@
 pub mod Events
 pub mod Told
 pub mod ChainSteps
+pub mod Lists
 pub mod IsFed
 pub mod InputsStandFor
 pub mod Signalling

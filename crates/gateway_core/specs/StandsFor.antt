@@ -4,13 +4,11 @@ use Rattle.plp_config.specs.RunLength.{frame_count}
 use Rattle.plp_config.specs.SlotTime.{slots_by}
 use Rattle.plp_config.specs.declared.config.Config.{Config}
 use Rattle.t2mi_packet.specs.declared.packet.Body.{Body}
-use Rattle.t2mi_stream.specs.PiperStandsFor.{waiting_of}
-use Rattle.gateway_core.specs.Carried.{bytes_bound}
 use Rattle.gateway_core.specs.Events.{Event, offered, has_ended, begun, given, finished}
-use Rattle.gateway_core.specs.Flowing.{Flows, gives_unit}
+use Rattle.gateway_core.specs.Flowing.{Flows, bytes_bound, gives_unit}
 use Rattle.gateway_core.specs.InputsStandFor.{AllFed, AllContinue}
 use Rattle.gateway_core.specs.IsFed.{wanted}
-use Rattle.gateway_core.specs.Left.{left}
+use Rattle.gateway_core.specs.Left.{left, early_of}
 use Rattle.gateway_core.specs.Packets.{bodies_before}
 use Rattle.gateway_core.specs.Signalling.{pre_part, conf_part}
 use Rattle.gateway_core.specs.declared.flow.Flow.{Flow}
@@ -18,19 +16,19 @@ use Rattle.gateway_core.specs.declared.gateway.Gateway.{Gateway}
 use Rattle.gateway_core.specs.declared.input.Input.{Input}
 use Rattle.gateway_core.specs.declared.signalling.Signalling.{Signalling}
 
--- Its inputs were fed, so many frames were begun, and for all inputs that continue what was offered the packets of those frames have
--- come so far.
-pub record Holds (inputs : List Input) (s : Signalling) (frames : ℕ) (flow : Flow) (n : ℕ) (left : List Body) (c : Config) (events : List Event) : Type 0 where
-  pub fed : AllFed inputs c events
+-- Its inputs were fed, and their chains put these blocks already; so many frames were begun, and for all inputs that continue what was offered
+-- the packets of those frames have come so far.
+pub record Holds (inputs : List Input) (early : ℕ → List (List Bool)) (s : Signalling) (frames : ℕ) (flow : Flow) (n : ℕ) (left : List Body) (c : Config) (events : List Event) : Type 0 where
+  pub fed : AllFed inputs early c events
   pub pre : s.pre ≡ pre_part c
   pub conf : s.conf ≡ conf_part c
   pub frames_are : frames ≡ begun events
   pub last : flow.finished ≡ finished events
-  pub flows : (all : ℕ → List (List ℕ)) → AllContinue c events all → Flows flow c n left (bodies_before c all frames) (given events)
+  pub flows : (all : ℕ → List (List ℕ)) → AllContinue c events all → Flows flow.outlet c n left (bodies_before c all frames) (given events)
 
 -- its configuration, and what was done to it, in turn
 unfoldable pub GatewayStandsFor : Gateway → Config → List Event → Type 0
-GatewayStandsFor g c events = (g.plan.now ≡ c) × Holds g.inputs.items g.signalling g.frames g.flow g.frame.number (left g.plan.now g.signalling g.frame) c events
+GatewayStandsFor g c events = (g.plan.now ≡ c) × Holds g.inputs.items (early_of g.frame) g.signalling g.frames g.flow g.frame.number (left g.plan.now g.signalling g.frame) c events
 
 -- the number of PLPs
 abbrev pub plps_of : Gateway → ℕ
@@ -46,11 +44,11 @@ frame_of g = g.frames
 
 -- A unit of the frames begun is complete, or no more frames come and a byte is left.
 abbrev pub has_unit : Gateway → Bool
-has_unit g = gives_unit g.flow
+has_unit g = gives_unit g.flow.outlet
 
 -- no fewer than the bytes of the frames begun that were not yet given: each unit that is given makes it less
 abbrev pub bytes_left : Gateway → ℕ
-bytes_left g = bytes_bound (waiting_of g.flow.outlet.piper) g.flow.outlet.at g.flow.outlet.len (left g.plan.now g.signalling g.frame)
+bytes_left g = bytes_bound g.flow.outlet (left g.plan.now g.signalling g.frame)
 
 -- No more frames come.
 abbrev pub has_finished : Gateway → Bool

@@ -1,14 +1,171 @@
 // Units out of the packets of frames.
-ghost use Rattle.std.specs.Prelude.{◌≡◌, true, false};
+ghost use Rattle.std.specs.Prelude.{◌≡◌, ◌≤◌, ◌&&◌, true, false, [], drop, length};
+ghost use Rattle.terms.specs.Bits.{bytes_of};
+ghost use Rattle.t2mi_packet.specs.declared.reading.TheConstants.{LARGEST};
 ghost use Rattle.t2mi_stream.specs.PiperStandsFor.{waiting_of, is_finished};
 ghost use Rattle.ts_packet.specs.declared.sizes.TheConstants.{PAYLOAD};
 
 use crate::frame::Frame;
-use crate::going_on::go_on;
-use crate::outlet::Outlet;
 use crate::signalling::Signalling;
+use bit_slice::FixedBits;
 use plp_config::Plan;
+use t2mi_packet::LARGEST;
+use t2mi_stream::Piper;
 use ts_packet::{PAYLOAD, SIZE};
+
+/// A piper, and the packet that it has not yet taken whole.
+#[derive(Drop)]
+pub struct Outlet {
+    pub piper: Piper,
+    packet: FixedBits<LARGEST>,
+    // How many of the packet's bytes the piper took.
+    at: usize,
+    // How many packets were built, modulo 256.
+    number: u8,
+    ghost within: { at ≤ length (bytes_of packet) },
+    ghost room: { length (bytes_of packet) ≤ LARGEST },
+}
+
+impl Outlet {
+    ghost use Rattle.std.specs.Prelude.{◌≡◌, ◌<◌, ◌≤◌, ◌+◌, ◌^◌, ◌++◌, ◌↔◌, ℕ, List, [], true, false, length, slice_get, Some, IsTrue};
+    ghost use Rattle.plp_config.specs.declared.config.Config.{Config};
+    ghost use Rattle.t2mi_packet.specs.declared.packet.Body.{Body};
+    ghost use Rattle.t2mi_stream.specs.Complete.{complete_units};
+    ghost use Rattle.t2mi_stream.specs.Pipe.{pipe};
+    ghost use Rattle.gateway_core.specs.Carried.{AllGone};
+    ghost use Rattle.gateway_core.specs.Flowing.{Flows, Feeds, rest_of, bytes_bound, gives_unit};
+    ghost use Rattle.gateway_core.specs.Packets.{packets_from};
+    ghost use Rattle.gateway_core.specs.Left.{left};
+    ghost use Rattle.gateway_core.specs.declared.frame.Step.TheVariants.{Over};
+
+    /// An outlet for a PID, which has taken nothing.
+    pub fn new(pid: u16) -> Outlet
+        requires { pid < 2 ^ 13 }
+        ensures flows { (c : Config) (n : ℕ) → c.pid ≡ pid → Flows result c n [] [] 0 }
+        ensures rest { rest_of result ≡ [] }
+        ensures waiting { waiting_of result.piper ≡ 0 }
+        ensures finished { is_finished result.piper ≡ false }
+    {
+        Outlet {
+            piper: Piper::new(pid),
+            packet: FixedBits::new(),
+            at: 0,
+            number: 0,
+        }
+    }
+
+    /// Gives the next unit, if it is complete, and after [`Outlet::finish`] also the rest. Else nothing changes.
+    pub fn next(&mut self, out: &mut [u8; SIZE]) -> bool
+        ensures is { result ≡ gives_unit self.old }
+        ensures unit { result ≡ true → (c : Config) (n : ℕ) (left : List Body) (all : List (ℕ × Body)) (given : ℕ) → Flows self.old c n left all given
+            → (more : List (List ℕ)) → (is_finished self.old.piper ≡ true → AllGone (rest_of self.old) left more) → slice_get (pipe c.pid (packets_from c 0 all ++ more)) given ≡ Some out.new }
+        ensures flows { result ≡ true → (c : Config) (n : ℕ) (left : List Body) (all : List (ℕ × Body)) (given : ℕ) → Flows self.old c n left all given → Flows self.new c n left all (given + 1) }
+        ensures stays { result ≡ false → (self.new ≡ self.old) × (out.new ≡ out.old) }
+        ensures none { result ≡ false → is_finished self.old.piper ≡ true → (c : Config) (n : ℕ) (left : List Body) (all : List (ℕ × Body)) (given : ℕ) → Flows self.old c n left all given
+            → AllGone (rest_of self.old) left [] → length (pipe c.pid (packets_from c 0 all)) ≡ given }
+        ensures complete { result ≡ true → is_finished self.old.piper ≡ false → (c : Config) (n : ℕ) (left : List Body) (all : List (ℕ × Body)) (given : ℕ) → Flows self.old c n left all given
+            → given < length (complete_units c.pid (packets_from c 0 all)) }
+        ensures caught_up { result ≡ false → is_finished self.old.piper ≡ false → (c : Config) (n : ℕ) (left : List Body) (all : List (ℕ × Body)) (given : ℕ) → Flows self.old c n left all given
+            → AllGone (rest_of self.old) left [] → given ≡ length (complete_units c.pid (packets_from c 0 all)) }
+        ensures rest { rest_of self.new ≡ rest_of self.old }
+        ensures less { result ≡ true → (left : List Body) → bytes_bound self.new left < bytes_bound self.old left }
+        ensures finished { is_finished self.new.piper ≡ is_finished self.old.piper }
+    {
+        self.piper.next(out)
+    }
+
+    /// No more packets come.
+    pub fn finish(&mut self)
+        ensures flows { (c : Config) (n : ℕ) (left : List Body) (all : List (ℕ × Body)) (given : ℕ) → Flows self.old c n left all given → Flows self.new c n left all given }
+        ensures rest { rest_of self.new ≡ rest_of self.old }
+        ensures waiting { waiting_of self.new.piper ≡ waiting_of self.old.piper }
+        ensures finished { is_finished self.new.piper ≡ true }
+    {
+        self.piper.finish();
+    }
+
+    // Whether the piper took the packet whole.
+    fn is_fed(&self) -> bool
+        ensures fed { IsTrue result ↔ (rest_of self.now ≡ []) }
+    {
+        self.at == self.packet.as_bytes().len()
+    }
+
+    // Feeds as much of the packet as the piper takes.
+    fn feed(&mut self)
+        requires { is_finished self.old.piper ≡ false }
+        ensures flows { (c : Config) (n : ℕ) (left : List Body) (all : List (ℕ × Body)) (given : ℕ) → Flows self.old c n left all given → Flows self.new c n left all given }
+        ensures full { 0 < length (rest_of self.new) → waiting_of self.new.piper ≡ PAYLOAD }
+        ensures bound { (left : List Body) → bytes_bound self.new left ≡ bytes_bound self.old left }
+        ensures finished { is_finished self.new.piper ≡ false }
+    {
+        let rest = &self.packet.as_bytes()[self.at..];
+        self.at += self.piper.feed(rest);
+    }
+
+    // Builds the next packet of a frame, if there is one.
+    fn build(&mut self, plan: &Plan, signalling: &Signalling, frame: &mut Frame) -> bool
+        requires plps { length frame.old.blocks.lists ≡ length plan.now.plps }
+        requires fed { rest_of self.old ≡ [] }
+        requires open { is_finished self.old.piper ≡ false }
+        ensures feeds { Feeds plan.now signalling.now self.old self.new frame.old frame.new }
+        ensures fewer { result ≡ true → length (left plan.now signalling.now frame.new) < length (left plan.now signalling.now frame.old) }
+        ensures over { result ≡ false → (rest_of self.new ≡ []) × (frame.new.step ≡ Over) }
+        ensures finished { is_finished self.new.piper ≡ false }
+    {
+        if !frame.build(plan, signalling, self.number, &mut self.packet) {
+            return false;
+        }
+        self.at = 0;
+        self.number = self.number.wrapping_add(1);
+        self.piper.begin();
+        true
+    }
+
+    // Feeds the packets of a frame, until 184 bytes wait or none is left, and answers whether none is.
+    fn refill(&mut self, plan: &Plan, signalling: &Signalling, frame: &mut Frame) -> bool
+        requires plps { length frame.old.blocks.lists ≡ length plan.now.plps }
+        requires open { is_finished self.old.piper ≡ false }
+        ensures feeds { Feeds plan.now signalling.now self.old self.new frame.old frame.new }
+        ensures over { result ≡ true → (rest_of self.new ≡ []) × (frame.new.step ≡ Over) }
+        ensures full { result ≡ false → waiting_of self.new.piper ≡ PAYLOAD }
+        ensures finished { is_finished self.new.piper ≡ false }
+    {
+        self.feed();
+        while self.is_fed() {
+            if !self.build(plan, signalling, frame) {
+                return true;
+            }
+            self.feed();
+        }
+        false
+    }
+
+    /// Feeds the packets of a frame, until 184 bytes wait or none is left, and answers whether none is. Behind the last frame that
+    /// is the end.
+    pub fn go_on(
+        &mut self,
+        is_last: bool,
+        plan: &Plan,
+        signalling: &Signalling,
+        frame: &mut Frame,
+    ) -> bool
+        requires plps { length frame.old.blocks.lists ≡ length plan.now.plps }
+        requires open { is_finished self.old.piper ≡ false }
+        ensures feeds { Feeds plan.now signalling.now self.old self.new frame.old frame.new }
+        ensures over { result ≡ true → (rest_of self.new ≡ []) × (frame.new.step ≡ Over) }
+        ensures full { result ≡ false → waiting_of self.new.piper ≡ PAYLOAD }
+        ensures finished { is_finished self.new.piper ≡ (result && is_last) }
+    {
+        if !self.refill(plan, signalling, frame) {
+            return false;
+        }
+        if is_last {
+            self.finish();
+        }
+        true
+    }
+}
 
 /// An outlet that is fed ahead: 184 bytes wait in it, or nothing is left of the frames begun.
 #[derive(Drop)]
@@ -19,29 +176,30 @@ pub struct Flow {
     // Whether no more frames come.
     pub finished: bool,
     ghost full: { dry ≡ false → waiting_of outlet.piper ≡ PAYLOAD },
+    ghost fed: { dry ≡ true → drop outlet.at (bytes_of outlet.packet) ≡ [] },
     ghost open: { finished ≡ false → is_finished outlet.piper ≡ false },
     ghost wet: { dry ≡ false → is_finished outlet.piper ≡ false },
     ghost drained: { finished ≡ true → dry ≡ true → is_finished outlet.piper ≡ true },
 }
 
 impl Flow {
-    ghost use Rattle.std.specs.Prelude.{◌≡◌, ◌<◌, ◌≤◌, ◌+◌, ◌^◌, ◌++◌, ◌==◌, ◌&&◌, ◌||◌, nat_lt, ℕ, List, [], true, false, length, slice_get, Some};
+    ghost use Rattle.std.specs.Prelude.{◌≡◌, ◌<◌, ◌≤◌, ◌+◌, ◌^◌, ◌++◌, ℕ, List, [], true, false, length, slice_get, Some};
     ghost use Rattle.plp_config.specs.declared.config.Config.{Config};
     ghost use Rattle.t2mi_packet.specs.declared.packet.Body.{Body};
     ghost use Rattle.t2mi_stream.specs.Complete.{complete_units};
     ghost use Rattle.t2mi_stream.specs.Pipe.{pipe};
-    ghost use Rattle.gateway_core.specs.Carried.{Carries, between, bytes_bound};
-    ghost use Rattle.gateway_core.specs.Flowing.{Flows, gives_unit};
-    ghost use Rattle.gateway_core.specs.Left.{left};
+    ghost use Rattle.gateway_core.specs.Flowing.{Flows, Feeds, bytes_bound, gives_unit};
+    ghost use Rattle.gateway_core.specs.Left.{left, early_of, layout_of};
     ghost use Rattle.gateway_core.specs.Packets.{packets_from};
+    ghost use Rattle.gateway_core.specs.declared.frame.Step.TheVariants.{Over};
 
     /// A flow of nothing, on a PID.
     pub fn new(pid: u16) -> Flow
         requires { pid < 2 ^ 13 }
-        ensures flows { (c : Config) (n : ℕ) → c.pid ≡ pid → Flows result c n [] [] 0 }
-        ensures unit { gives_unit result ≡ false }
+        ensures flows { (c : Config) (n : ℕ) → c.pid ≡ pid → Flows result.outlet c n [] [] 0 }
+        ensures unit { gives_unit result.outlet ≡ false }
         ensures finished { result.finished ≡ false }
-        ensures none { (waiting_of result.outlet.piper ≡ 0) × (result.outlet.at ≡ result.outlet.len) }
+        ensures none { bytes_bound result.outlet [] ≡ 0 }
     {
         Flow {
             outlet: Outlet::new(pid),
@@ -52,15 +210,13 @@ impl Flow {
 
     /// Begins to feed the packets of a frame.
     pub fn begin(&mut self, plan: &Plan, signalling: &Signalling, frame: &mut Frame)
-        requires whole { length frame.old.blocks.items ≤ length plan.now.plps }
+        requires plps { length frame.old.blocks.lists ≡ length plan.now.plps }
         requires open { self.old.finished ≡ false }
-        ensures flows { (all : List (ℕ × Body)) (given : ℕ) → Carries self.old.outlet.piper (between self.old.outlet.bytes self.old.outlet.at self.old.outlet.len) self.old.outlet.number plan.now frame.old.number (left plan.now signalling.now frame.old) all given
-            → Flows self.new plan.now frame.new.number (left plan.now signalling.now frame.new) all given }
-        ensures bound { bytes_bound (waiting_of self.new.outlet.piper) self.new.outlet.at self.new.outlet.len (left plan.now signalling.now frame.new) ≤ bytes_bound (waiting_of self.old.outlet.piper) self.old.outlet.at self.old.outlet.len (left plan.now signalling.now frame.old) }
+        ensures feeds { Feeds plan.now signalling.now self.old.outlet self.new.outlet frame.old frame.new }
+        ensures over { self.new.dry ≡ true → frame.new.step ≡ Over }
         ensures finished { self.new.finished ≡ self.old.finished }
-        ensures blocks { frame.new.blocks.items ≡ frame.old.blocks.items }
     {
-        self.dry = go_on(&mut self.outlet, self.finished, plan, signalling, frame);
+        self.dry = self.outlet.go_on(self.finished, plan, signalling, frame);
     }
 
     /// Gives the next unit, if it is complete, and after [`Flow::finish`] also the rest. Else nothing changes.
@@ -71,22 +227,25 @@ impl Flow {
         frame: &mut Frame,
         out: &mut [u8; SIZE],
     ) -> bool
-        requires whole { length frame.old.blocks.items ≤ length plan.now.plps }
-        ensures is { result ≡ gives_unit self.old }
-        ensures unit { result ≡ true → (all : List (ℕ × Body)) (given : ℕ) → Flows self.old plan.now frame.old.number (left plan.now signalling.now frame.old) all given
+        requires plps { length frame.old.blocks.lists ≡ length plan.now.plps }
+        requires over { self.old.dry ≡ true → frame.old.step ≡ Over }
+        ensures is { result ≡ gives_unit self.old.outlet }
+        ensures unit { result ≡ true → (all : List (ℕ × Body)) (given : ℕ) → Flows self.old.outlet plan.now frame.old.number (left plan.now signalling.now frame.old) all given
             → (more : List (List ℕ)) → (self.old.finished ≡ true → more ≡ []) → slice_get (pipe plan.now.pid (packets_from plan.now 0 all ++ more)) given ≡ Some out.new }
-        ensures flows { result ≡ true → (all : List (ℕ × Body)) (given : ℕ) → Flows self.old plan.now frame.old.number (left plan.now signalling.now frame.old) all given
-            → Flows self.new plan.now frame.new.number (left plan.now signalling.now frame.new) all (given + 1) }
+        ensures flows { result ≡ true → (all : List (ℕ × Body)) (given : ℕ) → Flows self.old.outlet plan.now frame.old.number (left plan.now signalling.now frame.old) all given
+            → Flows self.new.outlet plan.now frame.new.number (left plan.now signalling.now frame.new) all (given + 1) }
         ensures stays { result ≡ false → (self.new ≡ self.old) × (frame.new ≡ frame.old) × (out.new ≡ out.old) }
-        ensures none { result ≡ false → self.old.finished ≡ true → (all : List (ℕ × Body)) (given : ℕ) → Flows self.old plan.now frame.old.number (left plan.now signalling.now frame.old) all given
+        ensures none { result ≡ false → self.old.finished ≡ true → (all : List (ℕ × Body)) (given : ℕ) → Flows self.old.outlet plan.now frame.old.number (left plan.now signalling.now frame.old) all given
             → length (pipe plan.now.pid (packets_from plan.now 0 all)) ≡ given }
-        ensures complete { result ≡ true → self.old.finished ≡ false → (all : List (ℕ × Body)) (given : ℕ) → Flows self.old plan.now frame.old.number (left plan.now signalling.now frame.old) all given
+        ensures complete { result ≡ true → self.old.finished ≡ false → (all : List (ℕ × Body)) (given : ℕ) → Flows self.old.outlet plan.now frame.old.number (left plan.now signalling.now frame.old) all given
             → given < length (complete_units plan.now.pid (packets_from plan.now 0 all)) }
-        ensures caught_up { result ≡ false → self.old.finished ≡ false → (all : List (ℕ × Body)) (given : ℕ) → Flows self.old plan.now frame.old.number (left plan.now signalling.now frame.old) all given
+        ensures caught_up { result ≡ false → self.old.finished ≡ false → (all : List (ℕ × Body)) (given : ℕ) → Flows self.old.outlet plan.now frame.old.number (left plan.now signalling.now frame.old) all given
             → given ≡ length (complete_units plan.now.pid (packets_from plan.now 0 all)) }
-        ensures less { result ≡ true → bytes_bound (waiting_of self.new.outlet.piper) self.new.outlet.at self.new.outlet.len (left plan.now signalling.now frame.new) < bytes_bound (waiting_of self.old.outlet.piper) self.old.outlet.at self.old.outlet.len (left plan.now signalling.now frame.old) }
+        ensures less { result ≡ true → bytes_bound self.new.outlet (left plan.now signalling.now frame.new) < bytes_bound self.old.outlet (left plan.now signalling.now frame.old) }
+        ensures over { self.new.dry ≡ true → frame.new.step ≡ Over }
+        ensures early { (j : ℕ) → early_of frame.new j ≡ early_of frame.old j }
+        ensures layout { layout_of frame.new ≡ layout_of frame.old }
         ensures finished { self.new.finished ≡ self.old.finished }
-        ensures blocks { frame.new.blocks.items ≡ frame.old.blocks.items }
     {
         if !self.outlet.next(out) {
             return false;
@@ -94,15 +253,16 @@ impl Flow {
         if self.dry {
             return true;
         }
-        self.dry = go_on(&mut self.outlet, self.finished, plan, signalling, frame);
+        self.dry = self.outlet.go_on(self.finished, plan, signalling, frame);
         true
     }
 
     /// No more frames come.
     pub fn finish(&mut self)
-        ensures flows { (c : Config) (n : ℕ) (left : List Body) (all : List (ℕ × Body)) (given : ℕ) → Flows self.old c n left all given → Flows self.new c n left all given }
+        ensures flows { (c : Config) (n : ℕ) (left : List Body) (all : List (ℕ × Body)) (given : ℕ) → Flows self.old.outlet c n left all given → Flows self.new.outlet c n left all given }
         ensures finished { self.new.finished ≡ true }
-        ensures same { (left : List Body) → bytes_bound (waiting_of self.new.outlet.piper) self.new.outlet.at self.new.outlet.len left ≡ bytes_bound (waiting_of self.old.outlet.piper) self.old.outlet.at self.old.outlet.len left }
+        ensures dry { self.new.dry ≡ self.old.dry }
+        ensures same { (left : List Body) → bytes_bound self.new.outlet left ≡ bytes_bound self.old.outlet left }
     {
         self.finished = true;
         if self.dry {

@@ -1,61 +1,181 @@
 // The packets of a frame, one by one.
-ghost use Rattle.std.specs.Prelude.{◌≡◌, ◌<◌, ◌≤◌, ◌^◌, length};
+ghost use Rattle.std.specs.Prelude.{◌≡◌, ◌≢◌, ◌<◌, ◌≤◌, ◌==◌, ◌||◌, not, ℕ, [], length, take, slice_index_or, vec_len, IfSome, IfNone};
+ghost use Rattle.linked_pool.specs.Fits.{frame_chunks};
+ghost use Rattle.linked_pool.specs.Pool.{list_at};
 ghost use Rattle.plp_config.specs.declared.moment.TheConstants.{MOST_FRAMES};
+ghost use Rattle.gateway_core.specs.Lists.{AllShort, IsNext};
+ghost use Rattle.gateway_core.specs.FirstStep.{first_step};
+ghost use Rattle.gateway_core.specs.declared.frame.Step.TheVariants.{Over};
 
 use crate::packet::{write_block, write_signal, write_stamp};
-use crate::place::{block_at, next_place};
-use crate::signalling::Signalling;
-use crate::step::Step;
-use bit_slice::{BitBuf, FixedBits};
-use mode_adapt::FrameBytes;
-use plp_config::Plan;
+use crate::signalling::{Dynamic, Signalling};
+use bit_slice::{FixedBits, OutOfMemory};
+use linked_pool::Pool;
+use plp_config::{MOST_BLOCK_BYTES, Plan};
+use std::alloc::Global;
 use t2mi_packet::LARGEST;
 
-/// A frame, and which of its packets were given.
+// Which packet of a frame comes next: the timestamp, the L1-current, a block if one is left, or none.
+#[derive(Clone, Copy)]
+enum Step {
+    Stamp,
+    Signal,
+    Blocks,
+    Over,
+}
+
+// A superframe begins with a timestamp.
+fn first_step(plan: &Plan, frame: u64) -> Step
+    ensures { result ≡ first_step plan.now frame }
+{
+    if frame % u64::from(plan.config().frames) == 0 {
+        Step::Stamp
+    } else {
+        Step::Signal
+    }
+}
+
+// The first list from one on that has a block.
+fn next_list(pool: &Pool, from: u32, lists: u32) -> Option<u32>
+    requires { lists ≡ length pool.now.lists }
+    ensures next { IfSome result (IsNext pool.now from) }
+    ensures none { IfNone result ((j : ℕ) → from ≤ j → list_at pool.now j ≡ []) }
+{
+    for list in from..lists {
+        if pool.count(list) > 0 {
+            return Some(list);
+        }
+    }
+    None
+}
+
+// Whether the next block is the first of its PLP, if the one that was to come of another PLP or of this one was or was not.
+fn is_first(first: bool, from: u32, plp: u32) -> bool
+    ensures { result ≡ first || not (plp == from) }
+{
+    first || plp != from
+}
+
+// Copies the first block of a list to the front of a buffer, and answers how many bytes it has.
+fn copy_front(pool: &Pool, list: u32, out: &mut [u8]) -> usize
+    requires list { list < length pool.now.lists }
+    requires some { 0 < length (list_at pool.now list) }
+    requires room { length (slice_index_or (list_at pool.now list) 0 []) ≤ length out.old }
+    ensures bytes { take result out.new ≡ slice_index_or (list_at pool.now list) 0 [] }
+    ensures len { result ≡ length (slice_index_or (list_at pool.now list) 0 []) }
+{
+    let block = pool.front(list).unwrap();
+    let len = block.len();
+    block.copy_to(&mut out[..len]);
+    len
+}
+
+// Bytes of a block at most.
+const MOST_BYTES: usize = MOST_BLOCK_BYTES as usize;
+
+/// The packets of a frame that were not given yet. The lists hold its blocks that were not; once none is left, they hold the blocks that
+/// the chains put already for the next frame.
 #[derive(Drop)]
 pub struct Frame {
-    pub number: u64,
-    // The dynamic part of L1-post.
-    pub dynamic: BitBuf,
-    pub blocks: Vec<FrameBytes>,
-    pub step: Step,
-    // The next block.
-    pub plp: usize,
-    pub block: usize,
+    number: u64,
+    dynamic: Dynamic,
+    // A list for each PLP, and how many blocks each PLP has in the frame.
+    pub blocks: Pool,
+    pub counts: Vec<u16>,
+    // The bytes of the last block that was given.
+    block: [u8; MOST_BYTES],
+    step: Step,
+    // The PLP of the next block, and whether that is the first of its PLP.
+    plp: u32,
+    first: bool,
     ghost early: { number < MOST_FRAMES },
-    ghost short: { length dynamic ≤ 12319 },
+    ghost lists: { length blocks.lists ≡ vec_len counts },
+    ghost shape: { length dynamic.shape.counts ≡ vec_len counts },
+    ghost short: { AllShort blocks },
+    ghost below: { step ≢ Over → (j : ℕ) → j < plp → list_at blocks j ≡ [] },
+}
+
+// A block fills at most 7 chunks for each 2,025 of its cells, the fewest that a block has.
+const CHUNKS_OF_CELLS: u32 = 7;
+
+const FEWEST_CELLS: u32 = 2_025;
+
+// The chunks that the blocks of a frame fill at most.
+fn frame_chunks(plan: &Plan) -> u32
+    ensures { result ≡ frame_chunks plan.now }
+{
+    CHUNKS_OF_CELLS * (plan.config().cells / FEWEST_CELLS)
 }
 
 impl Frame {
-    ghost use Rattle.std.specs.Prelude.{◌≡◌, true, false, [], length};
-    ghost use Rattle.gateway_core.specs.Left.{left, Builds};
+    ghost use Rattle.std.specs.Prelude.{◌≡◌, ◌<◌, ◌≤◌, ◌+◌, ◌*◌, ◌/◌, ℕ, true, false, [], length, replicate, IfOk};
+    ghost use Rattle.scheduler.specs.Laws.{CountsFit};
+    ghost use Rattle.gateway_core.specs.Lists.{bits_in};
+    ghost use Rattle.gateway_core.specs.Left.{left, all_of, early_of, layout_of, Builds};
+    ghost use Rattle.gateway_core.specs.declared.signalling.Signalling.{Signalling};
+
+    /// One of which nothing is left, with the memory of all frames of a plan.
+    pub fn open(alloc: Global, plan: &Plan) -> Result<Frame, OutOfMemory>
+        ensures over { IfOk result (λ f. f.step ≡ Step.Over) }
+        ensures early { IfOk result (λ f. (j : ℕ) → early_of f j ≡ []) }
+        ensures layout { IfOk result (λ f. layout_of f ≡ record { number = 0; lists = length plan.now.plps; chunks = frame_chunks plan.now; counts = replicate (length plan.now.plps) 0 }) }
+    {
+        let plps = plan.config().plps.len();
+        Ok(Frame {
+            number: 0,
+            dynamic: Dynamic::open(alloc, plan)?,
+            blocks: Pool::open(alloc, frame_chunks(plan), plps as u32)?,
+            counts: vec![in alloc; 0; plps]?,
+            block: [0; MOST_BYTES],
+            step: Step::Over,
+            plp: 0,
+            first: true,
+        })
+    }
+
+    /// Begins the frame whose blocks the lists hold, as many of each PLP as `counts` tells.
+    pub fn begin(&mut self, plan: &Plan, number: u64)
+        requires early { number < MOST_FRAMES }
+        requires plps { length self.old.blocks.lists ≡ length plan.now.plps }
+        requires fit { CountsFit plan.now self.old.counts.items }
+        ensures all { (s : Signalling) → left plan.now s self.new ≡ all_of plan.now s number self.old.counts.items (bits_in self.old.blocks) }
+        ensures few { (s : Signalling) → length (left plan.now s self.new) ≤ self.old.blocks.opened + 2 }
+        ensures early { (j : ℕ) → early_of self.new j ≡ [] }
+        ensures layout { layout_of self.new ≡ record (layout_of self.old) { number = number } }
+    {
+        // A call that tells that each chunk is free or has a part of a block.
+        let _ = self.blocks.spare();
+        self.dynamic.write(plan, number, &self.counts);
+        self.number = number;
+        self.step = first_step(plan, number);
+        self.plp = 0;
+        self.first = true;
+    }
 
     // Builds the packet of the next block, if there is one.
-    fn build_block(
-        &mut self,
-        plan: &Plan,
-        signalling: &Signalling,
-        number: u8,
-        out: &mut FixedBits<LARGEST>,
-    ) -> bool
-        requires whole { length self.old.blocks.items ≤ length plan.now.plps }
+    fn build_block(&mut self, plan: &Plan, number: u8, out: &mut FixedBits<LARGEST>) -> bool
+        requires plps { length self.old.blocks.lists ≡ length plan.now.plps }
         requires step { self.old.step ≡ Step.Blocks }
-        ensures some { result ≡ true → Builds plan.now self.old.number number (left plan.now signalling.now self.old) (left plan.now signalling.now self.new) out.new }
-        ensures none { result ≡ false → (left plan.now signalling.now self.old ≡ []) × (left plan.now signalling.now self.new ≡ []) }
-        ensures number { self.new.number ≡ self.old.number }
-        ensures blocks { self.new.blocks.items ≡ self.old.blocks.items }
+        ensures some { result ≡ true → (s : Signalling) → Builds plan.now self.old.number number (left plan.now s self.old) (left plan.now s self.new) out.new }
+        ensures none { result ≡ false → (s : Signalling) → left plan.now s self.old ≡ [] }
+        ensures over { result ≡ false → self.new.step ≡ Step.Over }
+        ensures stays { result ≡ false → out.new ≡ out.old }
+        ensures early { (j : ℕ) → early_of self.new j ≡ [] }
+        ensures layout { layout_of self.new ≡ layout_of self.old }
     {
-        let (plp, block) = next_place(&self.blocks, self.plp, self.block);
-        self.plp = plp;
-        self.block = block;
-        match block_at(&self.blocks, plp, block) {
-            None => false,
-            Some(bytes) => {
-                write_block(out, plan, number, self.number, plp, block == 0, bytes);
-                self.block = block + 1;
-                true
-            }
-        }
+        let lists = plan.config().plps.len() as u32;
+        let Some(list) = next_list(&self.blocks, self.plp, lists) else {
+            self.step = Step::Over;
+            return false;
+        };
+        let first = is_first(self.first, self.plp, list);
+        let len = copy_front(&self.blocks, list, &mut self.block);
+        let block = &self.block[..len];
+        write_block(out, plan, number, self.number, list as usize, first, block);
+        self.blocks.pop(list);
+        self.plp = list;
+        self.first = false;
+        true
     }
 
     /// Builds the next packet, if there is one.
@@ -66,11 +186,13 @@ impl Frame {
         number: u8,
         out: &mut FixedBits<LARGEST>,
     ) -> bool
-        requires whole { length self.old.blocks.items ≤ length plan.now.plps }
+        requires { length self.old.blocks.lists ≡ length plan.now.plps }
         ensures some { result ≡ true → Builds plan.now self.old.number number (left plan.now signalling.now self.old) (left plan.now signalling.now self.new) out.new }
         ensures none { result ≡ false → (left plan.now signalling.now self.old ≡ []) × (left plan.now signalling.now self.new ≡ []) }
-        ensures number { self.new.number ≡ self.old.number }
-        ensures blocks { self.new.blocks.items ≡ self.old.blocks.items }
+        ensures over { result ≡ false → self.new.step ≡ Step.Over }
+        ensures stays { result ≡ false → out.new ≡ out.old }
+        ensures early { (j : ℕ) → early_of self.new j ≡ early_of self.old j }
+        ensures layout { layout_of self.new ≡ layout_of self.old }
     {
         match self.step {
             Step::Stamp => {
@@ -87,12 +209,13 @@ impl Frame {
                     self.number,
                     pre,
                     conf,
-                    self.dynamic.as_slice(),
+                    self.dynamic.bits.as_slice(),
                 );
                 self.step = Step::Blocks;
                 true
             }
-            Step::Blocks => self.build_block(plan, signalling, number, out),
+            Step::Blocks => self.build_block(plan, number, out),
+            Step::Over => false,
         }
     }
 }

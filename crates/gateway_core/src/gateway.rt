@@ -1,16 +1,17 @@
 // The gateway.
-ghost use Rattle.std.specs.Prelude.{◌≡◌, ◌<◌, ◌≤◌, ◌^◌, vec_len, length};
+ghost use Rattle.std.specs.Prelude.{◌≡◌, ◌<◌, ◌≤◌, ◌^◌, true, vec_len, length};
+ghost use Rattle.linked_pool.specs.Fits.{frame_chunks};
 ghost use Rattle.plp_config.specs.declared.moment.TheConstants.{MOST_FRAMES};
 ghost use Rattle.gateway_core.specs.InputsStandFor.{AreFor};
+ghost use Rattle.gateway_core.specs.declared.frame.Step.TheVariants.{Over};
 
 use crate::flow::Flow;
 use crate::frame::Frame;
 use crate::input::Input;
 use crate::inputs::{cut, end, offer, open_inputs, wanted};
 use crate::run_length::frame_count;
-use crate::signalling::{Signalling, dynamic_bits};
-use crate::step::{Step, first_step};
-use bit_slice::{BitBuf, OutOfMemory};
+use crate::signalling::Signalling;
+use bit_slice::OutOfMemory;
 use plp_config::Plan;
 use std::alloc::Global;
 use ts_packet::{SIZE, TsPacket};
@@ -20,7 +21,6 @@ use ts_packet::{SIZE, TsPacket};
 /// from 0 on. The frame under way is the next one to begin.
 #[derive(Drop)]
 pub struct Gateway<'p> {
-    alloc: Global,
     plan: &'p Plan,
     inputs: Vec<Input>,
     signalling: Signalling,
@@ -31,7 +31,9 @@ pub struct Gateway<'p> {
     ghost whole: { vec_len inputs ≡ length plan.now.plps },
     ghost most: { AreFor inputs.items plan.now },
     ghost early: { frames ≤ MOST_FRAMES },
-    ghost blocks: { length frame.blocks.items ≤ length plan.now.plps },
+    ghost lists: { length frame.blocks.lists ≡ length plan.now.plps },
+    ghost chunks: { frame.blocks.opened ≡ frame_chunks plan.now },
+    ghost over: { flow.dry ≡ true → frame.step ≡ Over },
 }
 
 // The PID of the T2-MI stream.
@@ -43,7 +45,7 @@ fn pid_of(plan: &Plan) -> u16
 }
 
 impl<'p> Gateway<'p> {
-    ghost use Rattle.std.specs.Prelude.{◌≡◌, ◌≢◌, ◌<◌, ◌≤◌, ◌+◌, ◌^◌, ◌++◌, ◌∷◌, ◌↔◌, ℕ, List, [], true, false, length, Some, IfOk, OnOk, slice_get};
+    ghost use Rattle.std.specs.Prelude.{◌≡◌, ◌≢◌, ◌<◌, ◌≤◌, ◌+◌, ◌^◌, ◌++◌, ◌∷◌, ◌↔◌, ℕ, List, [], true, false, length, Some, IfOk, slice_get};
     ghost use Rattle.plp_config.specs.declared.config.Config.{Config};
     ghost use Rattle.t2mi_stream.specs.Complete.{complete_units};
     ghost use Rattle.t2mi_stream.specs.Pipe.{pipe};
@@ -52,25 +54,17 @@ impl<'p> Gateway<'p> {
     ghost use Rattle.gateway_core.specs.Packets.{front_packets};
     ghost use Rattle.gateway_core.specs.StandsFor.{GatewayStandsFor, plps_of, wants_of, frame_of, has_unit, bytes_left, has_finished, status_of, new_status, IsLast, wants_by};
 
-    /// A gateway to which nothing was offered, for a plan.
+    /// A gateway to which nothing was offered, for a plan. It takes all the memory that it needs.
     pub fn open(alloc: Global, plan: &'p Plan) -> Result<Gateway<'p>, OutOfMemory>
         ensures stands { IfOk result (λ g. GatewayStandsFor g plan.now []) }
         ensures status { IfOk result (λ g. status_of g ≡ new_status (length plan.now.plps)) }
     {
         Ok(Gateway {
-            alloc,
             plan,
             inputs: open_inputs(alloc, plan)?,
             signalling: Signalling::open(alloc, plan)?,
             frames: 0,
-            frame: Frame {
-                number: 0,
-                dynamic: BitBuf::new(alloc),
-                blocks: Vec::new(alloc),
-                step: Step::Blocks,
-                plp: 0,
-                block: 0,
-            },
+            frame: Frame::open(alloc, plan)?,
             flow: Flow::new(pid_of(plan)),
         })
     }
@@ -85,19 +79,18 @@ impl<'p> Gateway<'p> {
         wanted(&self.inputs, plp)
     }
 
-    /// Takes the next packet of the input of a PLP, one that the frame under way wants, once all complete units were taken. After
-    /// `OutOfMemory` the gateway is used no more.
-    pub fn offer(&mut self, plp: usize, packet: &TsPacket) -> Result<(), OutOfMemory>
+    /// Takes the next packet of the input of a PLP, one that the frame under way wants, once all complete units were taken.
+    pub fn offer(&mut self, plp: usize, packet: &TsPacket)
         requires place { plp < plps_of self.old }
         requires wanted { 0 < wants_of self.old plp }
         requires given { has_unit self.old ≡ false }
-        ensures stands { OnOk result ((c : Config) (events : List Event) → GatewayStandsFor self.old c events → GatewayStandsFor self.new c (events ++ Offered plp packet.now ∷ [])) }
-        ensures fewer { OnOk result (wants_of self.new plp + 1 ≡ wants_of self.old plp) }
-        ensures others { OnOk result ((other : ℕ) → other ≢ plp → wants_of self.new other ≡ wants_of self.old other) }
+        ensures stands { (c : Config) (events : List Event) → GatewayStandsFor self.old c events → GatewayStandsFor self.new c (events ++ Offered plp packet.now ∷ []) }
+        ensures fewer { wants_of self.new plp + 1 ≡ wants_of self.old plp }
+        ensures others { (other : ℕ) → other ≢ plp → wants_of self.new other ≡ wants_of self.old other }
         ensures status { status_of self.new ≡ status_of self.old }
     {
-        offer(&mut self.inputs, plp, packet)?;
-        Ok(())
+        self.plan.obeys_rules();
+        offer(&mut self.inputs, &mut self.frame.blocks, plp, packet);
     }
 
     /// The input of a PLP has ended: null packets follow. A second time nothing changes.
@@ -112,32 +105,29 @@ impl<'p> Gateway<'p> {
     }
 
     /// Begins the frame under way, which wants no more packets and has a number below `plp_config::MOST_FRAMES`, once all complete units were taken and
-    /// before [`Gateway::finish`]. After `OutOfMemory` the gateway is used no more.
-    pub fn begin_frame(&mut self) -> Result<(), OutOfMemory>
+    /// before [`Gateway::finish`].
+    pub fn begin_frame(&mut self)
         requires wanted { (plp : ℕ) → plp < plps_of self.old → wants_of self.old plp ≡ 0 }
         requires given { has_unit self.old ≡ false }
         requires early { frame_of self.old < MOST_FRAMES }
         requires open { has_finished self.old ≡ false }
-        ensures stands { OnOk result ((c : Config) (events : List Event) → GatewayStandsFor self.old c events → GatewayStandsFor self.new c (events ++ Begun ∷ [])) }
-        ensures frame { OnOk result (frame_of self.new ≡ frame_of self.old + 1) }
+        ensures stands { (c : Config) (events : List Event) → GatewayStandsFor self.old c events → GatewayStandsFor self.new c (events ++ Begun ∷ []) }
+        ensures frame { frame_of self.new ≡ frame_of self.old + 1 }
         ensures status { status_of self.new ≡ record (status_of self.old) { frame = frame_of self.new; unit = has_unit self.new; left = bytes_left self.new } }
-        ensures more { OnOk result (bytes_left self.new ≤ bytes_left self.old + 2 ^ 32) }
+        ensures more { bytes_left self.new ≤ bytes_left self.old + 2 ^ 32 }
     {
-        let _ = self.plan.config();
-        let blocks = cut(self.alloc, self.plan, &mut self.inputs, self.frames)?;
-        let dynamic = dynamic_bits(self.alloc, self.plan, self.frames, &blocks)?;
-        self.frame = Frame {
-            number: self.frames,
-            dynamic,
-            blocks,
-            step: first_step(self.plan, self.frames),
-            plp: 0,
-            block: 0,
-        };
+        self.plan.obeys_rules();
+        cut(
+            self.plan,
+            &mut self.inputs,
+            &mut self.frame.blocks,
+            self.frames,
+            &mut self.frame.counts,
+        );
+        self.frame.begin(self.plan, self.frames);
         self.frames += 1;
         self.flow
             .begin(self.plan, &self.signalling, &mut self.frame);
-        Ok(())
     }
 
     /// Gives the next unit of the frames begun, a transport packet, if it is complete: 184 bytes wait. After [`Gateway::finish`] it

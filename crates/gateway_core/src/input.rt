@@ -3,6 +3,7 @@ ghost use Rattle.std.specs.Prelude.{◌≡◌, ◌<◌, ◌≤◌, ◌+◌, ◌^
 ghost use Rattle.linked_pool.specs.Pool.{Others, IsWhole};
 ghost use Rattle.mode_adapt.specs.StandsFor.{slot_of, most_blocks};
 ghost use Rattle.gateway_core.specs.ChainSteps.{Takes, Ends};
+ghost use Rattle.gateway_core.specs.Lists.{bits_in, AllShort};
 
 use bit_slice::OutOfMemory;
 use linked_pool::Pool;
@@ -34,6 +35,7 @@ fn offer_to(chain: &mut Chain, packet: &TsPacket, pool: &mut Pool, list: u32)
     ensures takes { Takes chain.old chain.new packet.now pool.old pool.new list }
     ensures slots { slot_of chain.new ≡ slot_of chain.old + 1 }
     ensures most { most_blocks chain.new ≡ most_blocks chain.old }
+    ensures short { AllShort pool.old → AllShort pool.new }
     ensures others { Others pool.old pool.new list }
     ensures whole { IsWhole pool.new }
 {
@@ -49,6 +51,7 @@ fn end_frame(chain: &mut Chain, pool: &mut Pool, list: u32) -> u16
     ensures few { result ≤ most_blocks chain.old }
     ensures slots { slot_of chain.new ≡ slot_of chain.old }
     ensures most { most_blocks chain.new ≡ most_blocks chain.old }
+    ensures short { AllShort pool.old → AllShort pool.new }
     ensures others { Others pool.old pool.new list }
     ensures whole { IsWhole pool.new }
 {
@@ -71,7 +74,7 @@ impl Input {
     ghost use Rattle.mode_adapt.specs.Place.{HasPlace};
     ghost use Rattle.gateway_core.specs.Told.{Told, with_packet, at_end};
     ghost use Rattle.gateway_core.specs.IsFed.{IsFed, wanted, most};
-    ghost use Rattle.gateway_core.specs.InputsStandFor.{bits_in, HasCut};
+    ghost use Rattle.gateway_core.specs.InputsStandFor.{HasCut};
 
     /// An input of no packets yet, for the PLP at a place of the plan. No later call takes memory.
     pub fn open(alloc: Global, plan: &Plan, plp: usize) -> Result<Input, OutOfMemory>
@@ -119,6 +122,7 @@ impl Input {
             → IsFed self.new c plp (with_packet t packet.now) (bits_in pool.new list) }
         ensures wanted { wanted self.new + 1 ≡ wanted self.old }
         ensures most { most self.new ≡ most self.old }
+        ensures short { AllShort pool.old → AllShort pool.new }
         ensures others { Others pool.old pool.new list }
         ensures whole { IsWhole pool.new }
     {
@@ -147,6 +151,7 @@ impl Input {
         ensures due { self.new.due ≡ self.old.due }
         ensures total { self.new.total ≡ self.old.total }
         ensures most { most self.new ≡ most self.old }
+        ensures short { AllShort pool.old → AllShort pool.new }
         ensures others { Others pool.old pool.new list }
     {
         offer_to(&mut self.chain, &TsPacket::canonical(), pool, list);
@@ -161,6 +166,7 @@ impl Input {
         ensures full { self.new.slot ≡ self.new.due }
         ensures due { self.new.due ≡ self.old.due }
         ensures most { most self.new ≡ most self.old }
+        ensures short { AllShort pool.old → AllShort pool.new }
         ensures others { Others pool.old pool.new list }
     {
         for _ in self.slot..self.due {
@@ -177,6 +183,7 @@ impl Input {
         ensures full { self.new.slot ≡ self.new.due }
         ensures due { self.new.due ≡ self.old.due }
         ensures most { most self.new ≡ most self.old }
+        ensures short { AllShort pool.old → AllShort pool.new }
         ensures others { Others pool.old pool.new list }
     {
         if self.total.is_some() {
@@ -195,6 +202,7 @@ impl Input {
             → IsFed self.old c plp t (bits_in pool.old list) → HasCut self.new c plp t pool.new result }
         ensures few { result ≤ most self.old }
         ensures most { most self.new ≡ most self.old }
+        ensures short { AllShort pool.old → AllShort pool.new }
         ensures others { Others pool.old pool.new list }
         ensures whole { IsWhole pool.new }
     {

@@ -7,7 +7,8 @@ ghost use Rattle.plp_config.specs.Plps.{plp_at};
 ghost use Rattle.plp_config.specs.declared.config.Config.{Config};
 ghost use Rattle.gateway_core.specs.IsFed.{IsFed, wanted, most};
 ghost use Rattle.gateway_core.specs.Events.{Event, Offered, Ended, Begun, begun};
-ghost use Rattle.gateway_core.specs.InputsStandFor.{AllFed, AreFor, AllContinue, AreBlocks, CutsOne, SameMost, HasFrame, bits_in};
+ghost use Rattle.gateway_core.specs.InputsStandFor.{AllFed, AreFor, AllContinue, AreBlocks, CutsOne, SameMost, HasFrame};
+ghost use Rattle.gateway_core.specs.Lists.{bits_in, AllShort};
 ghost use Rattle.gateway_core.specs.declared.input.Input.{Input};
 
 use crate::input::Input;
@@ -50,6 +51,7 @@ pub fn offer(inputs: &mut [Input], pool: &mut Pool, plp: usize, packet: &TsPacke
     ensures fewer { slice_index (map wanted inputs.new) plp + 1 ≡ slice_index (map wanted inputs.old) plp }
     ensures others { (other : ℕ) → other ≢ plp → slice_index (map wanted inputs.new) other ≡ slice_index (map wanted inputs.old) other }
     ensures most { SameMost inputs.old inputs.new }
+    ensures short { AllShort pool.old → AllShort pool.new }
     ensures lists { length pool.new.lists ≡ length pool.old.lists }
     ensures opened { pool.new.opened ≡ pool.old.opened }
     ensures whole { IsWhole pool.new }
@@ -78,6 +80,7 @@ fn cut_one(plan: &Plan, inputs: &mut [Input], pool: &mut Pool, plp: usize, frame
     requires lists { length pool.old.lists ≡ length inputs.old }
     ensures cuts { CutsOne plan.now frame inputs.old inputs.new pool.old pool.new plp result }
     ensures most { SameMost inputs.old inputs.new }
+    ensures short { AllShort pool.old → AllShort pool.new }
 {
     let ticks = u64::from(plan.config().ticks);
     let due = plan.slots_by(plp, (frame + 1) * ticks);
@@ -101,6 +104,7 @@ pub fn cut(plan: &Plan, inputs: &mut [Input], pool: &mut Pool, frame: u64, count
     ensures few { AreFor inputs.old plan.now → (plp : ℕ) → plp < length plan.now.plps → slice_index counts.new plp ≤ (plp_at plan.now.plps plp).blocks }
     ensures len { length counts.new ≡ length counts.old }
     ensures most { SameMost inputs.old inputs.new }
+    ensures short { AllShort pool.old → AllShort pool.new }
     ensures lists { length pool.new.lists ≡ length pool.old.lists }
     ensures opened { pool.new.opened ≡ pool.old.opened }
     ensures whole { IsWhole pool.new }

@@ -6,6 +6,7 @@ ghost use Rattle.t2mi_packet.specs.T2miPacket.{Fits, written_bits};
 ghost use Rattle.gateway_core.specs.Whole.{IsWhole};
 ghost use Rattle.gateway_core.specs.Packets.{stamp_of, l1_body, packet_with};
 
+use crate::signalling::MOST_DYN_BITS;
 use bit_slice::{BitSlice, FixedBits};
 use l1_signal::MOST_CONF_BITS;
 use plp_config::{Band, MOST_BLOCK_BYTES, Plan};
@@ -92,7 +93,7 @@ pub fn write_signal(
 )
     requires pre { length pre ≡ 168 }
     requires conf { length conf ≤ MOST_CONF_BITS }
-    requires dynamic { length dynamic ≤ 12319 }
+    requires dynamic { length dynamic ≤ MOST_DYN_BITS }
     ensures bits { out.new ≡ written_bits (packet_with plan.now number frame (l1_body plan.now frame pre.entry conf.entry dynamic.entry)) }
     ensures whole { IsWhole out.new }
 {

@@ -1,21 +1,19 @@
 // The L1 signalling of a frame, as bits.
-ghost use Rattle.std.specs.Prelude.{◌≡◌, ◌<◌, ◌≤◌, ◌^◌, length, map, IfOk, slice_index_or, [], ℕ};
-ghost use Rattle.plp_config.specs.Plps.{plp_at};
+ghost use Rattle.std.specs.Prelude.{◌≡◌, ◌≤◌, length, IfOk};
 ghost use Rattle.scheduler.specs.Laws.{CountsFit, FitsL1};
-ghost use Rattle.scheduler.specs.Shape.{shape_of};
 ghost use Rattle.l1_signal.specs.L1Dynamic.{dyn_bits};
 ghost use Rattle.l1_signal.specs.L1Of.{dyn_of};
 ghost use Rattle.gateway_core.specs.Signalling.{pre_part, conf_part, dyn_part};
 ghost use Rattle.l1_signal.specs.declared.conf.TheConstants.{MOST_CONF_BITS};
+ghost use Rattle.gateway_core.specs.declared.signalling.TheConstants.{MOST_DYN_BITS};
 
 use bit_slice::{BitBuf, FixedBits, OutOfMemory};
 use l1_signal::{
     L1Dyn, MOST_CONF_BITS, conf_law, conf_of, dyn_law, dyn_of, pre_law, pre_of, write_conf,
     write_dyn, write_pre,
 };
-use mode_adapt::FrameBytes;
 use plp_config::Plan;
-use scheduler::{Shape, field_law, order_law, shape};
+use scheduler::{Shape, field_law, shape};
 use std::alloc::Global;
 
 /// What all frames share: L1-pre without CRC_32, and the configurable part of L1-post.
@@ -72,70 +70,73 @@ impl Signalling {
     }
 }
 
-// The shape of a frame of so many blocks.
-fn shape_with(alloc: Global, plan: &Plan, counts: &[u16]) -> Result<Shape, OutOfMemory>
-    requires { CountsFit plan.now counts.now }
-    ensures value { IfOk result (λ s. s ≡ shape_of plan.now counts.now) }
-    ensures counts { IfOk result (λ s. s.counts ≡ counts.now) }
-    ensures fits { IfOk result FitsL1 }
-{
-    field_law();
-    // A call that tells that the rules hold.
-    let _ = plan.config();
-    let mut out = Shape::open(alloc, plan)?;
-    shape(plan, counts, &mut out);
-    Ok(out)
-}
-
-// The dynamic part of a frame of a shape.
+// Writes the dynamic part of a frame of a shape.
 #[tactic(auto, unfolding(l1_signal::specs::L1Of::dyn_of))]
-fn dyn_with(alloc: Global, plan: &Plan, frame: u64, shape: &Shape) -> Result<BitBuf, OutOfMemory>
-    requires fits { FitsL1 shape.now }
-    requires shape { length shape.now.counts ≡ length plan.now.plps }
-    ensures value { IfOk result (λ bits. bits ≡ dyn_bits (dyn_of plan.now frame shape.now)) }
-    ensures short { IfOk result (λ bits. length bits ≤ 12319) }
-{
-    dyn_law();
-    let plps = plan.config().plps.len();
-    let mut dynamic = L1Dyn::open(alloc, plps as u16)?;
-    dyn_of(plan, frame, shape, &mut dynamic);
-    let mut bits = BitBuf::new(alloc);
-    match write_dyn(&mut bits, &dynamic) {
-        Ok(()) => Ok(bits),
-        Err(_) => Err(OutOfMemory),
-    }
-}
-
-// How many blocks each PLP has.
-fn counts_of(alloc: Global, blocks: &[FrameBytes]) -> Result<Vec<u16>, OutOfMemory>
-    requires { (plp : ℕ) → plp < length blocks.now → length (slice_index_or blocks.now plp []) < 2 ^ 16 }
-    ensures { IfOk result (λ counts. counts.items ≡ map length blocks.now) }
-{
-    let mut counts = Vec::new(alloc);
-    for blocks in blocks {
-        counts.push(blocks.len() as u16)?;
-    }
-    Ok(counts)
-}
-
-/// The dynamic part of a frame of these blocks.
-#[tactic(auto, unfolding(crate::specs::Signalling::dyn_part))]
-pub fn dynamic_bits(
-    alloc: Global,
+fn write_bits(
     plan: &Plan,
     frame: u64,
-    blocks: &[FrameBytes],
-) -> Result<BitBuf, OutOfMemory>
-    requires whole { length blocks.now ≡ length plan.now.plps }
-    requires few { (plp : ℕ) → plp < length plan.now.plps → length (slice_index_or blocks.now plp []) ≤ (plp_at plan.now.plps plp).blocks }
-    ensures value { IfOk result (λ bits. bits ≡ dyn_part plan.now frame (map length blocks.now)) }
-    ensures short { IfOk result (λ bits. length bits ≤ 12319) }
+    shape: &Shape,
+    rows: &mut L1Dyn,
+    bits: &mut FixedBits<MOST_DYN_BYTES>,
+)
+    requires fits { FitsL1 shape.now }
+    requires shape { length shape.now.counts ≡ length plan.now.plps }
+    requires rows { length rows.old.plps ≡ length plan.now.plps }
+    ensures value { bits.new ≡ dyn_bits (dyn_of plan.now frame shape.now) }
+    ensures short { length bits.new ≤ MOST_DYN_BITS }
+    ensures rows { length rows.new.plps ≡ length plan.now.plps }
 {
-    field_law();
-    order_law();
-    // A call that tells that the rules hold.
-    let _ = plan.config();
-    let counts = counts_of(alloc, blocks)?;
-    let shape = shape_with(alloc, plan, &counts)?;
-    dyn_with(alloc, plan, frame, &shape)
+    dyn_law();
+    plan.obeys_rules();
+    dyn_of(plan, frame, shape, rows);
+    bits.clear();
+    // There is room for it.
+    let _ = write_dyn(bits, rows);
+}
+
+/// Bits of a dynamic part at most: 79, and 48 for each of 255 PLPs.
+pub const MOST_DYN_BITS: usize = 79 + 48 * 255;
+
+/// Bytes of a dynamic part at most.
+pub const MOST_DYN_BYTES: usize = MOST_DYN_BITS / 8 + 1;
+
+/// The dynamic part of L1-post, written anew for each frame.
+#[derive(Drop)]
+pub struct Dynamic {
+    pub bits: FixedBits<MOST_DYN_BYTES>,
+    // The numbers from which it is written.
+    shape: Shape,
+    rows: L1Dyn,
+    ghost short: { length bits ≤ MOST_DYN_BITS },
+    ghost plps: { length rows.plps ≡ length shape.counts },
+}
+
+impl Dynamic {
+    ghost use Rattle.std.specs.Prelude.{◌≡◌, IfOk, length};
+
+    /// One without bits, with the memory of those of all frames of a plan.
+    pub fn open(alloc: Global, plan: &Plan) -> Result<Dynamic, OutOfMemory>
+        ensures { IfOk result (λ d. length d.shape.counts ≡ length plan.now.plps) }
+    {
+        let plps = plan.config().plps.len();
+        Ok(Dynamic {
+            bits: FixedBits::new(),
+            shape: Shape::open(alloc, plan)?,
+            rows: L1Dyn::open(alloc, plps as u16)?,
+        })
+    }
+
+    /// Writes that of a frame with so many blocks of each PLP.
+    #[tactic(auto, unfolding(crate::specs::Signalling::dyn_part))]
+    pub fn write(&mut self, plan: &Plan, frame: u64, counts: &[u16])
+        requires plps { length self.old.shape.counts ≡ length plan.now.plps }
+        requires fit { CountsFit plan.now counts.now }
+        ensures bits { self.new.bits ≡ dyn_part plan.now frame counts.now }
+        ensures plps { length self.new.shape.counts ≡ length plan.now.plps }
+    {
+        field_law();
+        plan.obeys_rules();
+        shape(plan, counts, &mut self.shape);
+        write_bits(plan, frame, &self.shape, &mut self.rows, &mut self.bits);
+    }
 }

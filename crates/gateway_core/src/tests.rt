@@ -31,11 +31,11 @@ fn feed(
     plp: usize,
     packets: &[TsPacket],
     from: usize,
-) -> Result<usize, OutOfMemory>
+) -> usize
     requires place { plp < plps_of gateway.old }
     requires given { has_unit gateway.old ≡ false }
-    ensures none { OnOk result (wants_of gateway.new plp ≡ 0) }
-    ensures others { OnOk result ((other : ℕ) → other ≢ plp → wants_of gateway.new other ≡ wants_of gateway.old other) }
+    ensures none { wants_of gateway.new plp ≡ 0 }
+    ensures others { (other : ℕ) → other ≢ plp → wants_of gateway.new other ≡ wants_of gateway.old other }
     ensures plps { plps_of gateway.new ≡ plps_of gateway.old }
     ensures unit { has_unit gateway.new ≡ false }
     ensures frame { frame_of gateway.new ≡ frame_of gateway.old }
@@ -43,36 +43,30 @@ fn feed(
 {
     for place in from..packets.len() {
         if gateway.wants(plp) == 0 {
-            return Ok(place);
+            return place;
         }
-        gateway.offer(plp, &packets[place])?;
+        gateway.offer(plp, &packets[place]);
     }
-    if gateway.wants(plp) == 0 {
-        return Ok(packets.len());
+    if gateway.wants(plp) > 0 {
+        gateway.end_input(plp);
     }
-    gateway.end_input(plp);
-    Ok(packets.len())
+    packets.len()
 }
 
 // Offers what the frame under way wants, PLP by PLP.
-fn feed_all(
-    gateway: &mut Gateway<'_>,
-    inputs: &[&[TsPacket]],
-    next: &mut [usize],
-) -> Result<(), OutOfMemory>
+fn feed_all(gateway: &mut Gateway<'_>, inputs: &[&[TsPacket]], next: &mut [usize])
     requires places { length inputs.now ≡ plps_of gateway.old }
     requires next { length next.old ≡ length inputs.now }
     requires given { has_unit gateway.old ≡ false }
-    ensures none { OnOk result ((plp : ℕ) → plp < plps_of gateway.new → wants_of gateway.new plp ≡ 0) }
+    ensures none { (plp : ℕ) → plp < plps_of gateway.new → wants_of gateway.new plp ≡ 0 }
     ensures plps { plps_of gateway.new ≡ plps_of gateway.old }
     ensures unit { has_unit gateway.new ≡ false }
     ensures frame { frame_of gateway.new ≡ frame_of gateway.old }
     ensures finished { has_finished gateway.new ≡ has_finished gateway.old }
 {
     for plp in 0..inputs.len() {
-        next[plp] = feed(gateway, plp, inputs[plp], next[plp])?;
+        next[plp] = feed(gateway, plp, inputs[plp], next[plp]);
     }
-    Ok(())
 }
 
 // Takes all units that there are.
@@ -101,11 +95,11 @@ fn run(
     let mut places = [0; 3];
     let next = &mut places[..inputs.len()];
     for _ in 0..100u64 {
-        feed_all(&mut gateway, inputs, next)?;
+        feed_all(&mut gateway, inputs, next);
         if gateway.last() {
             break;
         }
-        gateway.begin_frame()?;
+        gateway.begin_frame();
         drain(&mut gateway, &mut units)?;
     }
     gateway.finish();

@@ -1,7 +1,8 @@
 -- A block that is written and put.
-use Rattle.std.proofs.Common.{◌≡◌, ℕ, ◌+◌, ◌-◌, ◌*◌, ◌<◌, ◌≤◌, Bool, List, [], ◌∷◌, ◌++◌, Option, length, map, take, ap, ◌∙◌, arith}
+use Rattle.std.proofs.Common.{◌≡◌, ℕ, ◌+◌, ◌-◌, ◌*◌, ◌<◌, ◌≤◌, Bool, List, [], ◌∷◌, ◌++◌, Option, length, map, take, ap, sym, subst, ◌∙◌, arith}
 use Rattle.std.specs.Int.{div_ceil}
 use Rattle.std.proofs.lemmas.List.{get_or-set_same, map-append, length-take}
+use Rattle.std.proofs.lemmas.List.Elements.{All-push}
 use Rattle.terms.specs.Bits.{bits_of, bytes_of, bytes_for}
 use Rattle.terms.proofs.BitLemmas.{length-bits_of, bits_of-bytes_of, length-bytes_of}
 use Rattle.bb_frame.specs.BasebandFrame.{frame_bits}
@@ -10,6 +11,7 @@ use Rattle.bb_frame.specs.Laws.{BitCounts}
 use Rattle.linked_pool.specs.Pool.{State, list_at, chunks_for, appended, IsWhole}
 use Rattle.mode_adapt.specs.declared.chain.Chain.{Chain}
 use Rattle.mode_adapt.specs.Pieces.{header_by, first_in, piece_of}
+use Rattle.mode_adapt.specs.Place.{AreShort}
 use Rattle.mode_adapt.specs.Steps.{Sends, Writes, Puts, Lacks}
 use Rattle.mode_adapt.proofs.FirstLemmas.{number_le}
 use Rattle.mode_adapt.proofs.OfferLemmas.{few}
@@ -71,3 +73,11 @@ lacks chain mid count pool after bytes want have room w e wanted spare less same
       room = room;
       whole = rw same at whole;
     }
+
+-- Lists of short blocks stay such lists.
+pub puts_short : (chain mid : Chain) (count : ℕ) (pool after : State) (list : ℕ) (bytes : List ℕ) → list < length pool.lists → chain.settings.field_bytes ≤ 6720 → Writes chain mid count → bytes ≡ bytes_of mid.block
+    → after ≡ appended pool list bytes → AreShort (list_at pool list) → AreShort (list_at after list)
+puts_short chain mid count pool after list bytes inside few w e a short =
+    let same : list_at after list ≡ list_at pool list ++ bytes ∷ [] = ap (λ (p : State). list_at p list) a ∙ get_or-set_same pool.lists list (list_at pool list ++ bytes ∷ []) [] inside in
+    let size : length bytes ≤ 6730 = omega (arith, ap length e, length-bytes_of mid.block, bytes_whole (length mid.block) (chain.settings.field_bytes + 10) w.size, few) in
+    subst AreShort (sym same) (All-push (λ (block : List ℕ). length block ≤ 6730) (list_at pool list) bytes short size)

@@ -56,7 +56,7 @@ impl Chain {
     ghost use Rattle.linked_pool.specs.Pool.{list_at, chunks_for, Others};
     ghost use Rattle.mode_adapt.specs.Events.{Event, Offered, Cut, HasRoom, IsDue, offered, cuts};
     ghost use Rattle.mode_adapt.specs.StandsFor.{ChainStandsFor, slot_of, most_blocks, kept_of, waiting, early_blocks};
-    ghost use Rattle.mode_adapt.specs.Place.{HasPlace};
+    ghost use Rattle.mode_adapt.specs.Place.{AreShort, HasPlace};
     ghost use Rattle.mode_adapt.specs.Steps.{Keeps, Sends, HasSpace, Writes, Puts, Stays, IsFull, IsPartial, IsOver, IsLeft, Skips, Resets, Lacks};
     ghost use Rattle.mode_adapt.specs.Pieces.{first_in, piece_of};
     ghost use Rattle.mode_adapt.specs.Blocks.{blocks_of, rates_of, plp_keeps};
@@ -98,6 +98,7 @@ impl Chain {
         ensures blocks { OnOk result ((c : Config) (plp : ℕ) (events : List Event)
             → ChainStandsFor self.old c plp events → HasRoom c plp events → map bits_of (list_at pool.old list) ≡ early_blocks c plp events
             → map bits_of (list_at pool.new list) ≡ early_blocks c plp (events ++ Offered packet.now ∷ [])) }
+        ensures short { AreShort (list_at pool.old list) → AreShort (list_at pool.new list) }
         ensures others { Others pool.old pool.new list }
 
         // There is room for the block if each list of the pool has no more than a frame.
@@ -167,6 +168,7 @@ impl Chain {
         requires list { list < length pool.old.lists }
         ensures none { OnOk result (IsPartial self.old → (self.new ≡ self.old) × (pool.new ≡ pool.old)) }
         ensures some { OnOk result (IsFull self.old → Puts self.old self.new self.old.settings.field_bytes (list_at pool.old list) (list_at pool.new list)) }
+        ensures short { AreShort (list_at pool.old list) → AreShort (list_at pool.new list) }
         ensures others { Others pool.old pool.new list }
         ensures full { IfErr result (λ e. Lacks self.old pool.old e.need e.spare) }
         ensures refused { OnErr result (pool.new ≡ pool.old) }
@@ -190,6 +192,7 @@ impl Chain {
         requires made { self.old.made < self.old.settings.blocks }
         requires list { list < length pool.old.lists }
         ensures puts { OnOk result (Puts self.old self.new count (list_at pool.old list) (list_at pool.new list)) }
+        ensures short { AreShort (list_at pool.old list) → AreShort (list_at pool.new list) }
         ensures others { Others pool.old pool.new list }
         ensures full { IfErr result (λ e. Lacks self.old pool.old e.need e.spare) }
         ensures refused { OnErr result (pool.new ≡ pool.old) }
@@ -254,6 +257,7 @@ impl Chain {
         ensures none_put { OnOk result ((c : Config) (plp : ℕ) (events : List Event)
             → ChainStandsFor self.old c plp events → IsDue c plp events → early_blocks c plp (events ++ Cut ∷ []) ≡ []) }
         ensures few { IfOk result (λ count. count ≤ most_blocks self.old) }
+        ensures short { AreShort (list_at pool.old list) → AreShort (list_at pool.new list) }
         ensures others { Others pool.old pool.new list }
 
         // There is room for the block if each list of the pool has no more than a frame.
@@ -297,6 +301,7 @@ impl Chain {
         requires { list < length pool.old.lists }
         ensures none { OnOk result (IsOver self.old → (self.new ≡ self.old) × (pool.new ≡ pool.old)) }
         ensures some { OnOk result (IsLeft self.old → Puts self.old self.new (min self.old.settings.field_bytes (length self.old.pending.items)) (list_at pool.old list) (list_at pool.new list)) }
+        ensures short { AreShort (list_at pool.old list) → AreShort (list_at pool.new list) }
         ensures others { Others pool.old pool.new list }
         ensures full { IfErr result (λ e. Lacks self.old pool.old e.need e.spare) }
         ensures refused { OnErr result (pool.new ≡ pool.old) }

@@ -8,13 +8,14 @@ cut_one-requires-clause-ready c =
     ∙ c.requires.ready c.loop-plp.plp c.loop-plp-test.true
 
 pub loop-plp-init : goal.loop-plp-init
-loop-plp-init c = record { cut = cut_none _ _ _ _ _; most = λ j d. refl }
+loop-plp-init c = record { cut = cut_none _ _ _ _ _; most = λ j d. refl; short = λ short. short }
 
 pub loop-plp-preserved : goal.loop-plp-preserved
 loop-plp-preserved c = record {
   cut = cut_step c.early_fits_law.ensures.early c.early_fits_law.ensures.blocks _ _ _ _ _ _ _ _ _ c.loop-plp.plp _ c.config.ensures.plan c.requires.whole c.loop-plp-test.true (omega arith)
       c.loop-plp.invariant.cut c.cut_one.ensures.cuts;
   most = λ j d. c.cut_one.ensures.most j d ∙ c.loop-plp.invariant.most j d;
+  short = λ short. c.cut_one.ensures.short (c.loop-plp.invariant.short short);
 }
 
 pub returns : goal.returns
@@ -28,6 +29,7 @@ returns c =
       few = λ are plp lt. cut_few _ _ _ _ _ _ _ _ plp cut all c.requires.whole are lt;
       len = c.loop-plp.auto.counts;
       most = c.loop-plp.invariant.most;
+      short = c.loop-plp.invariant.short;
       lists = cut.lists_count;
       opened = cut.opened;
       whole = c.spare.ensures.whole;

@@ -1,29 +1,36 @@
-use Rattle.std.proofs.Common.{◌≡◌, ◌<◌, ◌≤◌, ℕ, List, [], length, sym, subst, Some, None}
-use Rattle.std.specs.Prelude.{slice_get, slice_index_or}
+use Rattle.std.proofs.Common.{◌≡◌, ◌≢◌, ◌∙◌, false, [], sym, subst}
+use Rattle.linked_pool.specs.Pool.{State, list_at}
 use Rattle.gateway_core.specs.BlocksLeft.{blocks_left}
-use Rattle.gateway_core.proofs.LeftLemmas.{built_block, none_left}
+use Rattle.gateway_core.specs.Lists.{bits_in, AllShort}
+use Rattle.gateway_core.specs.Left.{Builds, from_step}
+use Rattle.gateway_core.specs.Packets.{l1_body}
+use Rattle.gateway_core.specs.declared.frame.Step.{Step}
+use Rattle.gateway_core.specs.declared.frame.Step.TheVariants.{Blocks, Over}
+use Rattle.gateway_core.proofs.LeftLemmas.{built_block, nothing_left, all_none, pop_short, pop_below}
 use Rattle.gateway_core.proofs.frame.Frame.build_block.Goals as goal
 
-pub returns-in-Some-clause-some : goal.returns-in-Some-clause-some
-returns-in-Some-clause-some c = λ on.
-    let same = c.next_place-plp.ensures.same c.args.plan.now c.args.self.now.number (subst (λ (b : List (List (List ℕ))). length b ≤ length c.args.plan.now.plps) (sym c.deref.ensures.value) c.requires.whole) in
-    let here : blocks_left c.args.plan.now c.args.self.now.number c.args.self.now.blocks.items c.next_place-plp.result.0 c.next_place-plp.result.1
-    ≡ blocks_left c.args.plan.now c.args.self.now.number c.args.self.now.blocks.items c.args.self.now.plp c.args.self.now.block =
-    subst (λ (b : List (List (List ℕ))). blocks_left c.args.plan.now c.args.self.now.number b c.next_place-plp.result.0 c.next_place-plp.result.1
-    ≡ blocks_left c.args.plan.now c.args.self.now.number b c.args.self.now.plp c.args.self.now.block) c.deref.ensures.value same in
-    let at : slice_get (slice_index_or c.args.self.now.blocks.items c.next_place-plp.result.0 []) c.next_place-plp.result.1 ≡ Some c.in-Some.bytes.now =
-    subst (λ (b : List (List (List ℕ))). slice_get (slice_index_or b c.next_place-plp.result.0 []) c.next_place-plp.result.1 ≡ Some c.in-Some.bytes.now) c.deref-2.ensures.value (sym c.in-Some.ensures.block) in
-    built_block _ _ _ _ _ _ _ _ _ _ _ _ c.requires.step here at c.write_block.ensures.bits c.write_block.ensures.whole
+differ : (step : Step) → step ≡ Blocks → step ≢ Over
+differ step e f = let z : Blocks ≡ Over = sym e ∙ f in cc
 
-pub returns-in-None-clause-none : goal.returns-in-None-clause-none
-returns-in-None-clause-none c = λ off.
-    let same = c.next_place-plp.ensures.same c.args.plan.now c.args.self.now.number (subst (λ (b : List (List (List ℕ))). length b ≤ length c.args.plan.now.plps) (sym c.deref.ensures.value) c.requires.whole) in
-    let here : blocks_left c.args.plan.now c.args.self.now.number c.args.self.now.blocks.items c.next_place-plp.result.0 c.next_place-plp.result.1
-    ≡ blocks_left c.args.plan.now c.args.self.now.number c.args.self.now.blocks.items c.args.self.now.plp c.args.self.now.block =
-    subst (λ (b : List (List (List ℕ))). blocks_left c.args.plan.now c.args.self.now.number b c.next_place-plp.result.0 c.next_place-plp.result.1
-    ≡ blocks_left c.args.plan.now c.args.self.now.number b c.args.self.now.plp c.args.self.now.block) c.deref.ensures.value same in
-    let inside : c.next_place-plp.result.0 < length c.args.self.now.blocks.items → c.next_place-plp.result.1 < length (slice_index_or c.args.self.now.blocks.items c.next_place-plp.result.0 []) =
-    subst (λ (b : List (List (List ℕ))). c.next_place-plp.result.0 < length b → c.next_place-plp.result.1 < length (slice_index_or b c.next_place-plp.result.0 [])) c.deref.ensures.value c.next_place-plp.ensures.inside in
-    let at : slice_get (slice_index_or c.args.self.now.blocks.items c.next_place-plp.result.0 []) c.next_place-plp.result.1 ≡ None =
-    subst (λ (b : List (List (List ℕ))). slice_get (slice_index_or b c.next_place-plp.result.0 []) c.next_place-plp.result.1 ≡ None) c.deref-2.ensures.value (sym c.in-None.ensures.block) in
-    none_left _ _ _ _ _ _ _ _ _ c.requires.step c.requires.whole here inside at
+pub returns-in_default-clause-none : goal.returns-in_default-clause-none
+returns-in_default-clause-none c = λ off s.
+    let f = c.args.self.now in
+    nothing_left c.args.plan.now f.number f.step (l1_body c.args.plan.now f.number s.pre s.conf f.dynamic.bits) f.blocks f.plp f.first c.requires.step
+    (all_none f.blocks f.plp (f.below (differ f.step c.requires.step)) c.in_default.ensures.none)
+
+pub invariant_of-self-2-clause-short : goal.invariant_of-self-2-clause-short
+invariant_of-self-2-clause-short c = subst AllShort (sym c.pop.ensures.popped) (pop_short c.args.self.now.blocks c.in-Some.list c.in-Some.ensures.next.inside c.args.self.now.short)
+
+pub invariant_of-self-2-clause-below : goal.invariant_of-self-2-clause-below
+invariant_of-self-2-clause-below c = λ off j lt.
+    let f = c.args.self.now in
+    subst (λ (p : State). list_at p j ≡ []) (sym c.pop.ensures.popped) (pop_below f.blocks f.plp c.in-Some.list c.in-Some.ensures.next (f.below off) j lt)
+
+pub returns-clause-some : goal.returns-clause-some
+returns-clause-some c = λ on s.
+    let f = c.args.self.now in
+    let p = c.args.plan.now in
+    let built = built_block p f.number c.args.number f.step (l1_body p f.number s.pre s.conf f.dynamic.bits) f.blocks f.plp c.in-Some.list f.first c.is_first-first.result _ c.write_block.new.out c.requires.step c.requires.plps
+    c.in-Some.ensures.next c.is_first-first.ensures c.copy_front-len.ensures.bytes c.write_block.ensures.bits c.write_block.ensures.whole in
+    subst (λ (q : State). Builds p f.number c.args.number (from_step p f.number f.step (l1_body p f.number s.pre s.conf f.dynamic.bits) (blocks_left p f.number (bits_in f.blocks) f.plp f.first))
+    (from_step p f.number f.step (l1_body p f.number s.pre s.conf f.dynamic.bits) (blocks_left p f.number (bits_in q) c.in-Some.list false)) c.write_block.new.out) (sym c.pop.ensures.popped) built

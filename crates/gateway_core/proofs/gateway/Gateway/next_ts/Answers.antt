@@ -5,10 +5,8 @@ use Rattle.gateway_core.specs.Events.{begun, given}
 use Rattle.gateway_core.specs.Packets.{front_packets}
 use Rattle.plp_config.specs.declared.config.Config.{Config}
 use Rattle.t2mi_packet.specs.declared.packet.Body.{Body}
-use Rattle.t2mi_stream.specs.PiperStandsFor.{waiting_of}
-use Rattle.gateway_core.specs.Carried.{bytes_bound}
-use Rattle.gateway_core.specs.Flowing.{Flows, gives_unit}
-use Rattle.gateway_core.specs.Left.{left}
+use Rattle.gateway_core.specs.Flowing.{Flows, bytes_bound, gives_unit}
+use Rattle.gateway_core.specs.Left.{left, early_of}
 use Rattle.gateway_core.specs.StandsFor.{GatewayStandsFor, Holds}
 use Rattle.gateway_core.specs.declared.flow.Flow.{Flow}
 use Rattle.gateway_core.specs.declared.frame.Frame.{Frame}
@@ -18,48 +16,49 @@ use Rattle.gateway_core.proofs.gateway.Gateway.next_ts.Goals as goal
 pub returns-clause-unit : goal.returns-clause-unit
 unfolding GatewayStandsFor
 returns-clause-unit c = λ on config events h inputs cont more none.
-    holds_unit c.args.self.now.plan.now config _ _ _ c.args.self.now.flow _ _ events inputs more c.next.new.out h.0 (c.next.ensures.unit on) h.1 cont none
+    holds_unit c.args.self.now.plan.now config _ _ _ _ c.args.self.now.flow _ _ events inputs more c.next.new.out h.0 (c.next.ensures.unit on) h.1 cont none
 
 pub returns-clause-none : goal.returns-clause-none
 unfolding GatewayStandsFor
 returns-clause-none c = λ off config events h fin inputs cont.
-    holds_none c.args.self.now.plan.now config _ _ _ c.args.self.now.flow _ _ events inputs h.0 (c.next.ensures.none off) h.1 fin cont
+    holds_none c.args.self.now.plan.now config _ _ _ _ c.args.self.now.flow _ _ events inputs h.0 (c.next.ensures.none off) h.1 fin cont
 
 pub returns-clause-stands : goal.returns-clause-stands
 unfolding GatewayStandsFor
 returns-clause-stands c = λ on config events h. (
   h.0,
-  holds_gave _ _ _ c.args.self.now.flow c.next.new.self _ _ _ _ config events c.next.ensures.finished
-      (subst (λ (k : Config). (all : List (ℕ × Body)) (given : ℕ) → Flows c.args.self.now.flow k c.args.self.now.frame.number (left c.args.self.now.plan.now c.args.self.now.signalling c.args.self.now.frame) all given
-      → Flows c.next.new.self k c.next.new.frame.number (left c.args.self.now.plan.now c.args.self.now.signalling c.next.new.frame) all (given + 1)) h.0 (c.next.ensures.flows on)) h.1,
+  holds_gave _ _ _ _ _ c.args.self.now.flow c.next.new.self _ _ _ _ config events c.next.ensures.finished
+      (subst (λ (k : Config). (all : List (ℕ × Body)) (given : ℕ) → Flows c.args.self.now.flow.outlet k c.args.self.now.frame.number (left c.args.self.now.plan.now c.args.self.now.signalling c.args.self.now.frame) all given
+      → Flows c.next.new.self.outlet k c.next.new.frame.number (left c.args.self.now.plan.now c.args.self.now.signalling c.next.new.frame) all (given + 1)) h.0 (c.next.ensures.flows on)) c.next.ensures.early h.1,
 )
 
 pub returns-clause-still : goal.returns-clause-still
 unfolding GatewayStandsFor
 returns-clause-still c = λ off config events h.
+    let g = c.args.self.now in
     let same = c.next.ensures.stays off in (
       h.0,
-      subst (λ (f : Flow). Holds c.args.self.now.inputs.items c.args.self.now.signalling c.args.self.now.frames f c.next.new.frame.number (left c.args.self.now.plan.now c.args.self.now.signalling c.next.new.frame) config events) (sym same.0)
-          (subst (λ (r : Frame). Holds c.args.self.now.inputs.items c.args.self.now.signalling c.args.self.now.frames c.args.self.now.flow r.number (left c.args.self.now.plan.now c.args.self.now.signalling r) config events) (sym same.1) h.1),
+      subst (λ (f : Flow). Holds g.inputs.items (early_of c.next.new.frame) g.signalling g.frames f c.next.new.frame.number (left g.plan.now g.signalling c.next.new.frame) config events) (sym same.0)
+          (subst (λ (r : Frame). Holds g.inputs.items (early_of r) g.signalling g.frames g.flow r.number (left g.plan.now g.signalling r) config events) (sym same.1) h.1),
     )
 
 pub returns-clause-stays : goal.returns-clause-stays
 returns-clause-stays c = λ off.
     let same = c.next.ensures.stays off in
-    let none : gives_unit c.args.self.now.flow ≡ false = sym c.next.ensures.is ∙ off in
-    (subst (λ (f : Flow). gives_unit f ≡ false) (sym same.0) none, same.2)
+    let none : gives_unit c.args.self.now.flow.outlet ≡ false = sym c.next.ensures.is ∙ off in
+    (subst (λ (f : Flow). gives_unit f.outlet ≡ false) (sym same.0) none, same.2)
 
 pub returns-clause-complete : goal.returns-clause-complete
 unfolding GatewayStandsFor
 returns-clause-complete c = λ config events h off inputs cont.
     both _ _ _
-    (λ on. holds_complete c.args.self.now.plan.now config _ _ _ c.args.self.now.flow _ _ events inputs h.0 (c.next.ensures.complete on) h.1 off cont)
-    (λ none. holds_caught_up c.args.self.now.plan.now config _ _ _ c.args.self.now.flow _ _ events inputs h.0 (c.next.ensures.caught_up none) h.1 off cont)
+    (λ on. holds_complete c.args.self.now.plan.now config _ _ _ _ c.args.self.now.flow _ _ events inputs h.0 (c.next.ensures.complete on) h.1 off cont)
+    (λ none. holds_caught_up c.args.self.now.plan.now config _ _ _ _ c.args.self.now.flow _ _ events inputs h.0 (c.next.ensures.caught_up none) h.1 off cont)
 
 pub returns-clause-caught_up : goal.returns-clause-caught_up
 unfolding GatewayStandsFor
 returns-clause-caught_up c = λ none config events h off inputs cont.
-    holds_caught_up c.args.self.now.plan.now config _ _ _ c.args.self.now.flow _ _ events inputs h.0 (c.next.ensures.caught_up none) h.1 off cont
+    holds_caught_up c.args.self.now.plan.now config _ _ _ _ c.args.self.now.flow _ _ events inputs h.0 (c.next.ensures.caught_up none) h.1 off cont
 
 pub returns-clause-rest : goal.returns-clause-rest
 unfolding GatewayStandsFor
@@ -67,12 +66,13 @@ returns-clause-rest c = λ config events h fin inputs cont.
     let front = front_packets config inputs (begun events) in
     both _ _ _
     (λ on.
-    let at = holds_unit c.args.self.now.plan.now config _ _ _ c.args.self.now.flow _ _ events inputs [] c.next.new.out h.0 (c.next.ensures.unit on) h.1 cont (λ _. refl) in
+    let at = holds_unit c.args.self.now.plan.now config _ _ _ _ c.args.self.now.flow _ _ events inputs [] c.next.new.out h.0 (c.next.ensures.unit on) h.1 cont (λ _. refl) in
     subst (λ (l : List (List ℕ)). given events < length (pipe config.pid l)) (append-nil front) (slice_get_within (pipe config.pid (front ++ [])) (given events) _ at))
-    (λ off. sym (holds_none c.args.self.now.plan.now config _ _ _ c.args.self.now.flow _ _ events inputs h.0 (c.next.ensures.none off) h.1 fin cont))
+    (λ off. sym (holds_none c.args.self.now.plan.now config _ _ _ _ c.args.self.now.flow _ _ events inputs h.0 (c.next.ensures.none off) h.1 fin cont))
 
 pub returns-clause-kept : goal.returns-clause-kept
 returns-clause-kept c = λ off.
+    let g = c.args.self.now in
     let same = c.next.ensures.stays off in
-    ap (λ (f : Flow). bytes_bound (waiting_of f.outlet.piper) f.outlet.at f.outlet.len (left c.args.self.now.plan.now c.args.self.now.signalling c.next.new.frame)) same.0
-    ∙ ap (λ (r : Frame). bytes_bound (waiting_of c.args.self.now.flow.outlet.piper) c.args.self.now.flow.outlet.at c.args.self.now.flow.outlet.len (left c.args.self.now.plan.now c.args.self.now.signalling r)) same.1
+    ap (λ (f : Flow). bytes_bound f.outlet (left g.plan.now g.signalling c.next.new.frame)) same.0
+    ∙ ap (λ (r : Frame). bytes_bound g.flow.outlet (left g.plan.now g.signalling r)) same.1

@@ -1,23 +1,25 @@
-use Rattle.std.proofs.Common.{◌≡◌, ℕ, Bool, List, [], length, refl, sym, subst, ap, arith}
+use Rattle.std.proofs.Common.{◌≡◌, ℕ, Bool, List, [], refl, sym, subst}
 use Rattle.t2mi_packet.specs.declared.packet.Body.{Body}
-use Rattle.gateway_core.specs.Flowing.{Flows}
+use Rattle.gateway_core.specs.Flowing.{Flows, bytes_bound}
+use Rattle.gateway_core.specs.Left.{early_of}
 use Rattle.gateway_core.specs.StandsFor.{GatewayStandsFor, Status}
-use Rattle.gateway_core.proofs.LeftLemmas.{past_left}
+use Rattle.gateway_core.proofs.FlowLemmas.{over_left}
+use Rattle.gateway_core.proofs.HoldsLemmas.{fed_kept}
 use Rattle.gateway_core.proofs.gateway.Gateway.open.Goals as goal
 
 pub returns-clause-stands : goal.returns-clause-stands
 unfolding GatewayStandsFor
 returns-clause-stands c =
-    let none : length c.new-2.result.items ≡ 0 = ap length c.new-2.ensures.items in
-    let nothing = past_left c.args.plan.now 0 c.new-2.result.items 0 0 (omega arith) (omega arith) in (
+    let f = c.in_ok-open-2.field-0 in
+    let nothing = over_left c.args.plan.now c.in_ok-open.field-0 f c.in_ok-open-2.ensures.over in (
       refl,
       record {
-        fed = c.in_ok-open_inputs.ensures.fed;
+        fed = fed_kept _ (λ j. []) (early_of f) c.args.plan.now [] c.in_ok-open-2.ensures.early c.in_ok-open_inputs.ensures.fed;
         pre = c.in_ok-open.ensures.pre;
         conf = c.in_ok-open.ensures.conf;
         frames_are = refl;
-        last = c.new-3.ensures.finished;
-        flows = λ all more. subst (λ (l : List Body). Flows c.new-3.result c.args.plan.now 0 l [] 0) (sym nothing) (c.new-3.ensures.flows c.args.plan.now 0 (sym c.pid_of.ensures.value));
+        last = c.new.ensures.finished;
+        flows = λ all more. subst (λ (l : List Body). Flows c.new.result.outlet c.args.plan.now f.number l [] 0) (sym nothing) (c.new.ensures.flows c.args.plan.now f.number (sym c.pid_of.ensures.value));
       },
     )
 
@@ -30,7 +32,6 @@ status_is p q f g u v x y l m a b c d e = rw (a, b, c, d, e) refl
 
 pub returns-clause-status : goal.returns-clause-status
 returns-clause-status c =
-    let none : length c.new-2.result.items ≡ 0 = ap length c.new-2.ensures.items in
-    let nothing = ap length (past_left c.args.plan.now 0 c.new-2.result.items 0 0 (omega arith) (omega arith)) in
-    let given = c.new-3.ensures.none in
-    status_is _ _ _ _ _ _ _ _ _ _ c.in_ok-open_inputs.ensures.len refl c.new-3.ensures.unit c.new-3.ensures.finished (omega (arith, nothing, given.0, given.1))
+    let nothing = over_left c.args.plan.now c.in_ok-open.field-0 c.in_ok-open-2.field-0 c.in_ok-open-2.ensures.over in
+    status_is _ _ _ _ _ _ _ _ _ _ c.in_ok-open_inputs.ensures.len refl c.new.ensures.unit c.new.ensures.finished
+    (subst (λ (l : List Body). bytes_bound c.new.result.outlet l ≡ 0) (sym nothing) c.new.ensures.none)

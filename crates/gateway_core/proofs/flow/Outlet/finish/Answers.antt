@@ -1,0 +1,5 @@
+use Rattle.gateway_core.proofs.CarriedLemmas.{carries_finish}
+use Rattle.gateway_core.proofs.flow.Outlet.finish.Goals as goal
+
+pub returns-clause-flows : goal.returns-clause-flows
+returns-clause-flows c = λ config n left all given h. carries_finish c.args.self.now.piper c.finish.new.self _ _ config n left all given c.finish.ensures.finished c.finish.ensures.stands h
