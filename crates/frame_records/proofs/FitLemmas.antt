@@ -18,9 +18,8 @@ use Rattle.plp_config.specs.SlotTime.{slots_by}
 use Rattle.plp_config.specs.Tables.{cells_per_block}
 use Rattle.plp_config.specs.declared.config.Config.{Config}
 use Rattle.plp_config.specs.declared.plp.Plp.{Plp}
-use Rattle.scheduler.specs.Shape.{FrameShape}
 use Rattle.scheduler.specs.Laws.{CountsFit, ShapeHasCounts}
-use Rattle.cell_map.specs.CellMap.{Passes, cell_map}
+use Rattle.cell_map.specs.CellMap.{cell_map}
 use Rattle.cell_map.specs.Laws.{CellsFit, ShapePasses}
 use Rattle.cell_map.specs.declared.places.Cell.{Cell}
 use Rattle.l1_signal.specs.L1Of.{pre_of, post_bits}
@@ -38,7 +37,8 @@ use Rattle.frame_records.specs.Records.{numbers_from, record_of}
 use Rattle.frame_records.proofs.RecordLemmas.{found}
 use Rattle.site_frame.specs.declared.reading.RecordView.{RecordView}
 use Rattle.site_frame.specs.declared.reading.RecordView.TheVariants.{Muted}
-use Rattle.frame_records.proofs.FrameLemmas.{length-block, block_len, cells_count}
+use Rattle.mode_adapt.proofs.FitsLemmas.{length-block}
+use Rattle.frame_records.proofs.FrameLemmas.{block_len, cells_count}
 use Rattle.terms.proofs.AllLemmas.{all_append, all_map}
 use Rattle.bb_frame.specs.Laws.{BitCounts}
 

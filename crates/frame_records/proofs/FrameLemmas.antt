@@ -1,19 +1,19 @@
 -- The record of a frame has as many bytes as its sections.
-use Rattle.std.proofs.Common.{◌≡◌, ℕ, ◌+◌, ◌-◌, ◌*◌, ◌≤◌, min, Bool, List, [], ◌∷◌, length, drop, refl, sym, ap, ap₂, ◌∙◌, arith}
+use Rattle.std.proofs.Common.{◌≡◌, ℕ, ◌+◌, ◌*◌, min, Bool, List, [], ◌∷◌, length, refl, sym, ap, ap₂, ◌∙◌, arith}
 use Rattle.std.specs.Prelude.{map, sum_by}
 use Rattle.std.specs.List.{flat_map}
-use Rattle.std.proofs.lemmas.List.{length-take}
 use Rattle.std.proofs.lemmas.List.FromFn.{length-map-range_with_len}
 use Rattle.std.proofs.lemmas.List.Sums.{sum_by-cons, sum_by-append}
-use Rattle.terms.specs.Bits.{bits_of, bytes_of, bytes_for}
-use Rattle.terms.proofs.BitLemmas.{length-bits_of, length-bytes_of}
+use Rattle.terms.specs.Bits.{bytes_of, bytes_for}
+use Rattle.terms.proofs.BitLemmas.{length-bytes_of}
 use Rattle.bb_frame.specs.Scrambled.{scrambled}
 use Rattle.plp_config.specs.Capacity.{block_bytes, field_bytes}
 use Rattle.plp_config.specs.Laws.{FieldRange}
 use Rattle.plp_config.specs.declared.config.Config.{Config}
 use Rattle.null_delete.specs.Deletion.{packet_at}
-use Rattle.mode_adapt.specs.Blocks.{data_field, block_bits, block_places, plp_keeps, plp_string, rates_of, plp_blocks}
+use Rattle.mode_adapt.specs.Blocks.{block_bits, block_places, plp_keeps, rates_of, plp_blocks}
 use Rattle.mode_adapt.specs.Queue.{sent, sent_before}
+use Rattle.mode_adapt.proofs.FitsLemmas.{length-block}
 use Rattle.plp_config.specs.SlotTime.{slots_by}
 use Rattle.std.specs.FinMap.{get}
 use Rattle.plp_config.specs.Places.{places}
@@ -26,15 +26,7 @@ use Rattle.frame_records.specs.Frames.{sent_block, sent_blocks, frame_cells, fra
 use Rattle.frame_records.specs.Laws.{FrameLength}
 use Rattle.bb_frame.specs.Laws.{BitCounts}
 
--- blocks of a PLP have as many bits as it says
-pub length-block : BitCounts → FieldRange → (c : Config) (plp : ℕ) (at : ℕ → List ℕ) (n x y : ℕ) → y - x ≤ field_bytes c plp → length (block_bits c plp at n x y) ≡ 8 * block_bytes c plp
-length-block counts law c plp at n x y short =
-    let body : List ℕ = data_field c plp at n x y in
-    let bits : length (bits_of body) ≡ 8 * length body = length-bits_of body in
-    let few : length body ≤ y - x = omega (arith, length-take (y - x) (drop x (plp_string c plp at n))) in
-    let more = law c plp in
-    counts.frame _ (bits_of body) (8 * block_bytes c plp) (omega (arith, bits, few, short, more.2, more.0))
-
+-- blocks of a PLP have as many bytes as it says
 pub block_len : BitCounts → (c : Config) (plp : ℕ) (bits : List Bool) → length bits ≡ 8 * block_bytes c plp → block_size (sent_block c plp bits) ≡ 4 + block_bytes c plp
 block_len counts c plp bits e =
     let size : length (bytes_of (scrambled bits)) ≡ bytes_for (8 * block_bytes c plp) = length-bytes_of (scrambled bits) ∙ ap bytes_for (counts.scrambled bits ∙ e) in

@@ -12,7 +12,7 @@ use Rattle.null_delete.specs.Deletion.{packet_at}
 use Rattle.mode_adapt.specs.Blocks.{block_places, plp_keeps, rates_of, plp_blocks, block_bits}
 use Rattle.mode_adapt.specs.Queue.{sent, sent_before}
 use Rattle.terms.proofs.AllLemmas.{all_map}
-use Rattle.frame_records.proofs.FrameLemmas.{length-block}
+use Rattle.mode_adapt.proofs.FitsLemmas.{length-block}
 use Rattle.gateway_core.specs.Packets.{counts_of}
 
 -- each block of a PLP has as many bits as the PLP says
