@@ -116,7 +116,7 @@ impl Frame {
 
     /// One of which nothing is left, with the memory of all frames of a plan.
     pub fn open(alloc: Global, plan: &Plan) -> Result<Frame, OutOfMemory>
-        ensures over { IfOk result (λ f. f.step ≡ Step.Over) }
+        ensures over { IfOk result (λ f. f.step ≡ Over) }
         ensures early { IfOk result (λ f. (j : ℕ) → early_of f j ≡ []) }
         ensures layout { IfOk result (λ f. layout_of f ≡ record { number = 0; lists = length plan.now.plps; chunks = frame_chunks plan.now; counts = replicate (length plan.now.plps) 0 }) }
     {
@@ -158,7 +158,7 @@ impl Frame {
         requires step { self.old.step ≡ Step.Blocks }
         ensures some { result ≡ true → (s : Signalling) → Builds plan.now self.old.number number (left plan.now s self.old) (left plan.now s self.new) out.new }
         ensures none { result ≡ false → (s : Signalling) → left plan.now s self.old ≡ [] }
-        ensures over { result ≡ false → self.new.step ≡ Step.Over }
+        ensures over { result ≡ false → self.new.step ≡ Over }
         ensures stays { result ≡ false → out.new ≡ out.old }
         ensures early { (j : ℕ) → early_of self.new j ≡ [] }
         ensures layout { layout_of self.new ≡ layout_of self.old }
@@ -189,7 +189,7 @@ impl Frame {
         requires { length self.old.blocks.lists ≡ length plan.now.plps }
         ensures some { result ≡ true → Builds plan.now self.old.number number (left plan.now signalling.now self.old) (left plan.now signalling.now self.new) out.new }
         ensures none { result ≡ false → (left plan.now signalling.now self.old ≡ []) × (left plan.now signalling.now self.new ≡ []) }
-        ensures over { result ≡ false → self.new.step ≡ Step.Over }
+        ensures over { result ≡ false → self.new.step ≡ Over }
         ensures stays { result ≡ false → out.new ≡ out.old }
         ensures early { (j : ℕ) → early_of self.new j ≡ early_of self.old j }
         ensures layout { layout_of self.new ≡ layout_of self.old }

@@ -26,12 +26,7 @@ fn packets(alloc: Global, count: u16) -> Result<Vec<TsPacket>, OutOfMemory> {
 }
 
 // Offers the packets from one on that the frame under way wants of a PLP, and answers which comes next.
-fn feed(
-    gateway: &mut Gateway<'_>,
-    plp: usize,
-    packets: &[TsPacket],
-    from: usize,
-) -> usize
+fn feed(gateway: &mut Gateway<'_>, plp: usize, packets: &[TsPacket], from: usize) -> usize
     requires place { plp < plps_of gateway.old }
     requires given { has_unit gateway.old ≡ false }
     ensures none { wants_of gateway.new plp ≡ 0 }
