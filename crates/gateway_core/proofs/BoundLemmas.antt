@@ -3,9 +3,9 @@ use Rattle.std.proofs.Common.{◌≡◌, ℕ, zero, suc, ◌+◌, ◌-◌, ◌%�
 use Rattle.std.specs.Prelude.{slice_index_or}
 use Rattle.std.specs.List.{flat_map, range_with_len}
 use Rattle.std.proofs.lemmas.List.{length-map}
+use Rattle.std.proofs.lemmas.List.Sums.{sum_by-cons}
 use Rattle.terms.specs.Bits.{bits_of}
 use Rattle.linked_pool.specs.Pool.{State, chunks_for, chunks_of, used_chunks, IsWhole}
-use Rattle.linked_pool.proofs.BlockLemmas.{chunks_of-cons, used_chunks-cons}
 use Rattle.plp_config.specs.Plps.{plp_at}
 use Rattle.plp_config.specs.declared.config.Config.{Config}
 use Rattle.t2mi_packet.specs.declared.packet.Body.{Body}
@@ -25,7 +25,7 @@ count_within : (blocks : List (List ℕ)) → length blocks ≤ chunks_of blocks
 count_within [] = omega arith
 count_within (b ∷ blocks) =
     let one : 1 ≤ chunks_for (length b) = omega arith in
-    omega (arith, chunks_of-cons b blocks, count_within blocks, one)
+    omega (arith, sum_by-cons (λ (x : List ℕ). chunks_for (length x)) b blocks, count_within blocks, one)
 
 abbrev bodies_of : Config → ℕ → (ℕ → List (List Bool)) → ℕ → List Body
 bodies_of c n blocks plp = block_bodies (n % c.frames) (plp_at c.plps plp).id true (blocks plp)
@@ -43,7 +43,7 @@ bodies_within c n blocks (l ∷ lists) from (suc k) h =
     let z : from + 0 ≡ from = omega arith in
     let here : length (blocks from) ≡ length l = ap (λ (m : ℕ). length (blocks m)) (sym z) ∙ ap length (h 0) ∙ length-map l bits_of in
     let rest = bodies_within c n blocks lists (from + 1) k (λ j. let e : (from + 1) + j ≡ from + suc j = omega arith in ap blocks e ∙ h (suc j)) in
-    omega (arith, here, rest, count_within l, used_chunks-cons l lists, bodies_count (n % c.frames) (plp_at c.plps from).id true (blocks from), length-append (bodies_of c n blocks from) (flat_map (bodies_of c n blocks) (range_with_len (from + 1) k)))
+    omega (arith, here, rest, count_within l, sum_by-cons chunks_of l lists, bodies_count (n % c.frames) (plp_at c.plps from).id true (blocks from), length-append (bodies_of c n blocks from) (flat_map (bodies_of c n blocks) (range_with_len (from + 1) k)))
 
 few_steps : (c : Config) (n : ℕ) (step : Step) (signal : Body) (rest : List Body) → length (from_step c n step signal rest) ≤ length rest + 2
 few_steps c n Stamp signal rest = omega arith
