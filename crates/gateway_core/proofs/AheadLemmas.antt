@@ -6,6 +6,7 @@ use Rattle.std.proofs.lemmas.Grind.{flat_map-append}
 use Rattle.terms.specs.Bits.{bytes_of}
 use Rattle.terms.proofs.BitLemmas.{length-bytes_of}
 use Rattle.plp_config.specs.Capacity.{IsPlan}
+use Rattle.plp_config.specs.Rules.{PlpCount}
 use Rattle.plp_config.specs.declared.config.Config.{Config}
 use Rattle.l1_signal.specs.L1Of.{pre_of, conf_of}
 use Rattle.l1_signal.specs.Laws.{PreBitsLength, ConfPartLength}
@@ -96,7 +97,8 @@ front_rises c inputs n k le =
 pub waits_three : CompleteLaw → CountLaw → CarriedRises → JoinedLength → WrittenLength → PreBitsLength → ConfPartLength → WaitsThreeFrames
 waits_three stays count rises join written pre conf c inputs n k all units plan three within few =
     let p = pre_size pre c in
-    let q = conf_size conf c (omega (arith, plan.rules.ranges.plps)) in
+    let some : (1 ≤ length c.plps) × (length c.plps ≤ 255) = plan.rules PlpCount in
+    let q = conf_size conf c some.0 in
     let one = front_size join written c inputs n p q in
     let two = front_size join written c inputs (n + 1) p q in
     let last = front_size join written c inputs (n + 1 + 1) p q in

@@ -4,6 +4,8 @@
 mod laws;
 mod machine;
 mod place;
+#[cfg(test)]
+mod reading_tests;
 mod running;
 mod steps;
 mod stop;
