@@ -300,7 +300,7 @@ stops_writing tell units grow law three start now old new out ins count w =
               since = g.0 ++ w.front;
               complete = all;
             },
-            reads_ahead units three start.plan.now files s.places bytes (g.0 ++ w.front) frame h.plan (omega (arith, s.works.all, count)) within all further,
+            reads_ahead units three start.plan.now files s.places bytes (g.0 ++ w.front) frame h.plan within all further,
           ));
       short = w.short;
       early = read_early mid.place.phase mid.ran.frames early;
