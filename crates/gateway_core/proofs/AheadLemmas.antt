@@ -35,13 +35,10 @@ signal_size : (number superframe frame_idx : ℕ) (pre conf dynamic : List Bool)
     → 63 ≤ packet_len (record { count = number; superframe = superframe; stream = 0; body = L1Current frame_idx pre conf dynamic [] })
 signal_size number superframe frame_idx pre conf dynamic long some = omega (arith, long, some)
 
-pre_size : PreBitsLength → (c : Config) → length (pre_part c) ≡ 168
-unfolding pre_part
-pre_size pre c = pre (pre_of c)
-
-conf_size : ConfPartLength → (c : Config) → 1 ≤ length c.plps → 191 ≤ length (conf_part c)
-unfolding conf_part
-conf_size conf c some = let size = conf c in omega (arith, size, some)
+-- the parts of it that all frames share
+parts_size : PreBitsLength → ConfPartLength → (c : Config) → 1 ≤ length c.plps → (length (pre_part c) ≡ 168) × (191 ≤ length (conf_part c))
+unfolding pre_part conf_part
+parts_size pre conf c some = (pre (pre_of c), let size = conf c in omega (arith, size, some))
 
 -- so has what begins with one, and what begins with a timestamp and one
 begins_size : JoinedLength → WrittenLength → (c : Config) (number n : ℕ) (dynamic : List Bool) (rest : List Body) → length (pre_part c) ≡ 168 → 191 ≤ length (conf_part c)
@@ -96,12 +93,11 @@ front_rises c inputs n k le =
 
 pub waits_three : CompleteLaw → CountLaw → CarriedRises → JoinedLength → WrittenLength → PreBitsLength → ConfPartLength → WaitsThreeFrames
 waits_three stays count rises join written pre conf c inputs n k all units plan three within few =
-    let p = pre_size pre c in
     let some : (1 ≤ length c.plps) × (length c.plps ≤ 255) = plan.rules PlpCount in
-    let q = conf_size conf c some.0 in
-    let one = front_size join written c inputs n p q in
-    let two = front_size join written c inputs (n + 1) p q in
-    let last = front_size join written c inputs (n + 1 + 1) p q in
+    let parts = parts_size pre conf c some.0 in
+    let one = front_size join written c inputs n parts.0 parts.1 in
+    let two = front_size join written c inputs (n + 1) parts.0 parts.1 in
+    let last = front_size join written c inputs (n + 1 + 1) parts.0 parts.1 in
     let up = front_rises c inputs (n + 1 + 1 + 1) k (omega (arith, three)) in
     let complete : ℕ = length (complete_units c.pid (front_packets c inputs k)) in
     let wait : length (joined (front_packets c inputs k)) < carried_len complete (joined (front_packets c inputs k)) + 184 =

@@ -49,7 +49,7 @@ fn next_list(pool: &Pool, from: u32, lists: u32) -> Option<u32>
     None
 }
 
-// Whether the next block is the first of its PLP, if the one that was to come of another PLP or of this one was or was not.
+// Whether the next block, of one PLP, is the first of it: no block of the PLP looked at before was given, or it is of a later PLP.
 fn is_first(first: bool, from: u32, plp: u32) -> bool
     ensures { result ≡ first || not (plp == from) }
 {

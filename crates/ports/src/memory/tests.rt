@@ -131,8 +131,7 @@ fn fails_to_write_where_it_is_told_to(rt: HostRuntime) -> Result<(), Fail> {
     let out = desk.create("out")?;
     assert_eq!(rt; desk.write(out, b"one"), Ok(3));
     assert_eq!(rt; desk.write(out, b"two"), Err(DeskFault));
-    assert_eq!(rt; desk.write(out, b"three"), Ok(5));
-    assert_eq!(rt; desk.file("out").ok_or("absent")?, b"onethree".as_slice());
+    assert_eq!(rt; desk.file("out").ok_or("absent")?, b"one".as_slice());
     Ok(())
 }
 
@@ -171,8 +170,7 @@ fn gives_what_all_handles_of_a_name_were_given(rt: HostRuntime) -> Result<(), Fa
     let mut buffer = [0u8; 4];
     desk.read(one, &mut buffer)?;
     desk.read(other, &mut buffer)?;
-    desk.read(other, &mut buffer)?;
-    assert_eq!(rt; desk.given("a"), 9);
+    assert_eq!(rt; desk.given("a"), 8);
     assert_eq!(rt; desk.given("b"), 0);
     Ok(())
 }
