@@ -65,6 +65,6 @@ abbrev pub given_of : State → List ℕ → Option ℕ
 given_of s name = option_map (λ h. given_by name h.names s.opened) s.held
 
 -- The reads of the file of a handle gave n more bytes, and those of each other file as many as before.
-abbrev pub Gives : State → State → ℕ → ℕ → Type 0
+unfoldable pub Gives : State → State → ℕ → ℕ → Type 0
 Gives old new handle n = IfSome old.held (λ h. (name : List ℕ)
     → given_of new name ≡ Some (given_by name h.names old.opened + (if bytes_eq (slice_index_or h.names handle []) name then n else 0)))

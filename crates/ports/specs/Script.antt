@@ -6,7 +6,7 @@ use Rattle.ports.specs.declared.script.Script.{Script}
 use Rattle.ports.specs.Calls.{KindCalls, IsListed, no_calls, one_call, with_listed}
 
 -- no calls of any kind, of which none is to fail
-abbrev pub no_script : Script
+unfoldable pub no_script : Script
 no_script = record { opens = no_calls; creates = no_calls; reads = no_calls; writes = no_calls; says = no_calls; lasts = no_calls }
 
 -- the calls of a kind
@@ -28,13 +28,13 @@ with_calls Say c s = record s { says = c }
 with_calls Last c s = record s { lasts = c }
 
 -- The next call of a kind is one of those that fail.
-abbrev pub Strikes : CallKind → Script → Type 0
+unfoldable pub Strikes : CallKind → Script → Type 0
 Strikes kind s = IsListed (calls_of kind s)
 
 -- after one more call of a kind
-abbrev pub one_call_of : CallKind → Script → Script
+unfoldable pub one_call_of : CallKind → Script → Script
 one_call_of kind s = with_calls kind (one_call (calls_of kind s)) s
 
 -- with one more call of a kind that fails
-abbrev pub listed_at : CallKind → ℕ → Script → Script
+unfoldable pub listed_at : CallKind → ℕ → Script → Script
 listed_at kind nth s = with_calls kind (with_listed nth (calls_of kind s)) s

@@ -88,6 +88,7 @@ impl Script {
     ghost use Rattle.ports.specs.Script.{Strikes, listed_at, no_script, one_call_of};
 
     /// No calls of any kind, of which none is to fail.
+    #[tactic(auto, unfolding(crate::specs::Script::no_script))]
     pub(crate) fn new(alloc: Global) -> Script
         ensures { result ≡ no_script }
     {
@@ -102,6 +103,7 @@ impl Script {
     }
 
     /// Lists a call of a kind to fail.
+    #[tactic(auto, unfolding(crate::specs::Script::listed_at))]
     pub(crate) fn list(&mut self, kind: CallKind, nth: u64) -> Result<(), OutOfMemory>
         ensures ok { OnOk result (self.new ≡ listed_at kind nth self.old) }
         ensures err { OnErr result (self.new ≡ self.old) }
@@ -117,6 +119,7 @@ impl Script {
     }
 
     /// Counts one more call of a kind, and tells whether it is one of those that fail.
+    #[tactic(auto, unfolding(crate::specs::Script::Strikes, crate::specs::Script::one_call_of))]
     pub(crate) fn strikes(&mut self, kind: CallKind) -> bool
         ensures listed { IsTrue result ↔ Strikes kind self.old }
         ensures called { self.new ≡ one_call_of kind self.old }

@@ -1,6 +1,7 @@
 use Rattle.std.proofs.Common.{◌<◌, length, Some, ap, arith}
 use Rattle.std.proofs.lemmas.Grind.{common_steps}
 use Rattle.std.proofs.lemmas.List.{length-map}
+use Rattle.ports.specs.MemoryDesk.{Gives}
 use Rattle.ports.specs.Stored.{files_of}
 use Rattle.ports.proofs.GivenLemmas.{gives_on}
 use Rattle.ports.proofs.HandleLemmas.{reads_on}
@@ -14,6 +15,7 @@ returns-clause-ok c =
     came c.index_mut.ensures.value c.read.ensures.name c.read.ensures.place c.read.ensures.next c.read.ensures.end)
 
 pub returns-clause-given : goal.returns-clause-given
+unfolding Gives
 returns-clause-given c =
     let came : c.args.handle < length c.self.inside.handles.items = grind (arith, common_steps, length-map) in
     rw (← c.self.view_is)
