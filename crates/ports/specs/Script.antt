@@ -6,7 +6,7 @@ use Rattle.ports.specs.declared.script.Script.{Script}
 use Rattle.ports.specs.Calls.{KindCalls, IsListed, no_calls, one_call, with_listed}
 
 -- no calls of any kind, of which none is to fail
-abbrev pub no_script : Script
+unfoldable pub no_script : Script
 no_script = record { opens = no_calls; creates = no_calls; reads = no_calls; writes = no_calls; says = no_calls; lasts = no_calls }
 
 -- the calls of a kind

@@ -255,8 +255,7 @@ impl MemoryDesk {
         ensures some { IfSome result (Opens self.old.state self.new.state name.now) }
         ensures none { IfNone result (self.new ≡ self.old) }
         ensures counts { SameCounts self.old.state self.new.state }
-        ensures cap { self.new.cap ≡ self.old.cap }
-        ensures script { self.new.script ≡ self.old.script }
+        ensures rest { self.new ≡ record self.old { state = self.new.state } }
         ensures absent { IsNone (file_of self.old.state name.now) → IsNone result }
         ensures full { 2 ^ 32 - 1 ≤ length self.old.state.opened → IsNone result }
     {
@@ -274,8 +273,7 @@ impl MemoryDesk {
         ensures some { IfSome result (Creates self.old.state self.new.state name.now) }
         ensures none { IfNone result (self.new ≡ self.old) }
         ensures counts { SameCounts self.old.state self.new.state }
-        ensures cap { self.new.cap ≡ self.old.cap }
-        ensures script { self.new.script ≡ self.old.script }
+        ensures rest { self.new ≡ record self.old { state = self.new.state } }
         ensures full { 2 ^ 32 - 1 ≤ self.old.state.created → IsNone result }
     {
         let at = self.outs.len();
@@ -298,7 +296,7 @@ impl Desk for MemoryDesk {
     ghost use Rattle.ports.specs.Desk.{SameCounts, Opens, Creates, FailsToCreate, Reads, Writes, Says, file_of};
     ghost use Rattle.ports.specs.Counts.{MayFailReading, MayFailWriting, MayFailAtLast};
     ghost use Rattle.ports.specs.MemoryDesk.{Gives, after_call, fails_reading, fails_writing, fails_at_last};
-    ghost use Rattle.ports.specs.Script.{Strikes, one_call_of};
+    ghost use Rattle.ports.specs.Script.{Strikes};
 
     ghost state = { λ m. m.state };
 
@@ -310,8 +308,7 @@ impl Desk for MemoryDesk {
         ensures full { 2 ^ 32 - 1 ≤ length self.old.state.opened → IsErr result }
         ensures fault { OnErr result (self.new ≡ fails_reading (after_call CallKind.Open self.old)) }
         ensures counts { MayFailReading self.old.state.counts self.new.state.counts result }
-        ensures cap { self.new.cap ≡ self.old.cap }
-        ensures script { self.new.script ≡ one_call_of CallKind.Open self.old.script }
+        ensures rest { self.new ≡ record (after_call CallKind.Open self.old) { state = self.new.state } }
     {
         if !self.script.strikes(CallKind::Open) {
             if let Some(handle) = self.add_handle(name) {
@@ -332,8 +329,7 @@ impl Desk for MemoryDesk {
         ensures listed { IsErr result ↔ Strikes CallKind.Read self.old.script }
         ensures fault { OnErr result (self.new ≡ fails_reading (after_call CallKind.Read self.old)) }
         ensures counts { MayFailReading self.old.state.counts self.new.state.counts result }
-        ensures cap { self.new.cap ≡ self.old.cap }
-        ensures script { self.new.script ≡ one_call_of CallKind.Read self.old.script }
+        ensures rest { self.new ≡ record (after_call CallKind.Read self.old) { state = self.new.state } }
     {
         if self.script.strikes(CallKind::Read) {
             return Err(fault(&mut self.counts.reads));
@@ -351,8 +347,7 @@ impl Desk for MemoryDesk {
         ensures fault { OnErr result (self.new ≡ fails_writing (after_call CallKind.Create self.old)) }
         ensures err { OnErr result (FailsToCreate self.old.state self.new.state name.now) }
         ensures counts { MayFailWriting self.old.state.counts self.new.state.counts result }
-        ensures cap { self.new.cap ≡ self.old.cap }
-        ensures script { self.new.script ≡ one_call_of CallKind.Create self.old.script }
+        ensures rest { self.new ≡ record (after_call CallKind.Create self.old) { state = self.new.state } }
     {
         if !self.script.strikes(CallKind::Create) {
             if let Some(out) = self.add_out(name) {
@@ -372,8 +367,7 @@ impl Desk for MemoryDesk {
         ensures listed { Strikes CallKind.Write self.old.script → IsErr result }
         ensures fault { OnErr result (self.new ≡ fails_writing (after_call CallKind.Write self.old)) }
         ensures counts { MayFailWriting self.old.state.counts self.new.state.counts result }
-        ensures cap { self.new.cap ≡ self.old.cap }
-        ensures script { self.new.script ≡ one_call_of CallKind.Write self.old.script }
+        ensures rest { self.new ≡ record (after_call CallKind.Write self.old) { state = self.new.state } }
     {
         let listed = self.script.strikes(CallKind::Write);
         let count = piece.len().min(self.cap);
@@ -390,8 +384,7 @@ impl Desk for MemoryDesk {
         ensures listed { Strikes CallKind.Say self.old.script → IsErr result }
         ensures fault { OnErr result (self.new ≡ fails_writing (after_call CallKind.Say self.old)) }
         ensures counts { MayFailWriting self.old.state.counts self.new.state.counts result }
-        ensures cap { self.new.cap ≡ self.old.cap }
-        ensures script { self.new.script ≡ one_call_of CallKind.Say self.old.script }
+        ensures rest { self.new ≡ record (after_call CallKind.Say self.old) { state = self.new.state } }
     {
         if self.script.strikes(CallKind::Say) || self.said.extend_from_slice(text).is_err() {
             return Err(fault(&mut self.counts.writes));
@@ -404,8 +397,7 @@ impl Desk for MemoryDesk {
         ensures said { (Says self.old.state self.new.state text.now × SameCounts self.old.state self.new.state) ⊎ (self.new ≡ fails_at_last (after_call CallKind.Last self.old)) }
         ensures listed { Strikes CallKind.Last self.old.script → self.new ≡ fails_at_last (after_call CallKind.Last self.old) }
         ensures counts { MayFailAtLast self.old.state.counts self.new.state.counts }
-        ensures cap { self.new.cap ≡ self.old.cap }
-        ensures script { self.new.script ≡ one_call_of CallKind.Last self.old.script }
+        ensures rest { self.new ≡ record (after_call CallKind.Last self.old) { state = self.new.state } }
     {
         if self.script.strikes(CallKind::Last) || self.said.extend_from_slice(text).is_err() {
             fault(&mut self.counts.lines);

@@ -88,6 +88,7 @@ impl Script {
     ghost use Rattle.ports.specs.Script.{Strikes, listed_at, no_script, one_call_of};
 
     /// No calls of any kind, of which none is to fail.
+    #[tactic(auto, unfolding(crate::specs::Script::no_script))]
     pub(crate) fn new(alloc: Global) -> Script
         ensures { result ≡ no_script }
     {
