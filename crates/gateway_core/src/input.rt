@@ -40,8 +40,6 @@ fn offer_to(chain: &mut Chain, packet: &TsPacket, pool: &mut Pool, list: u32)
     ensures whole { IsWhole pool.new }
 {
     let _ = chain.offer(packet, pool, list);
-    // A call that tells that each chunk is free or has a part of a block.
-    let _ = pool.spare();
 }
 
 // Ends the frame under way: how many blocks it has. A pool with place has room for every one.
@@ -55,10 +53,7 @@ fn end_frame(chain: &mut Chain, pool: &mut Pool, list: u32) -> u16
     ensures others { Others pool.old pool.new list }
     ensures whole { IsWhole pool.new }
 {
-    let ended = chain.cut(pool, list);
-    // A call that tells that each chunk is free or has a part of a block.
-    let _ = pool.spare();
-    match ended {
+    match chain.cut(pool, list) {
         Ok(count) => count as u16,
         Err(_) => 0,
     }

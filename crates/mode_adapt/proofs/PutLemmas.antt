@@ -30,8 +30,8 @@ use Rattle.mode_adapt.specs.Place.{HasPlace}
 use Rattle.mode_adapt.specs.Laws.{WithinLaw, BacklogLaw, EarlyFits}
 use Rattle.mode_adapt.specs.Pieces.{piece_of}
 use Rattle.mode_adapt.specs.Queue.{arrived, sent, sent_before}
-use Rattle.mode_adapt.specs.StandsFor.{HoldsRest, Holds, ChainStandsFor, full_blocks, early_blocks}
-use Rattle.mode_adapt.specs.Steps.{Keeps, HasSpace, IsFull, IsPartial, IsLeft, IsOver, Puts, Resets, Lacks}
+use Rattle.mode_adapt.specs.StandsFor.{HoldsRest, Holds, ChainStandsFor, full_blocks, early_blocks, IsPartial}
+use Rattle.mode_adapt.specs.Steps.{Keeps, HasSpace, IsFull, IsLeft, IsOver, Puts, Resets, Lacks}
 use Rattle.mode_adapt.proofs.KeptLemmas.{kept_le}
 use Rattle.mode_adapt.proofs.SentLemmas.{sent_now, slots_mono}
 use Rattle.mode_adapt.proofs.PlaceLemmas.{in_front}

@@ -13,7 +13,6 @@ use Rattle.mode_adapt.specs.Blocks.{rates_of, plp_keeps, plp_string, block_bits}
 use Rattle.mode_adapt.specs.Queue.{sent_before}
 use Rattle.mode_adapt.specs.Settings.{AreSettings}
 use Rattle.mode_adapt.specs.Events.{Event, offered, cuts}
-use Rattle.mode_adapt.specs.Steps.{IsPartial}
 
 -- It has sent its bytes before place `sent` of the string of the packets, and holds the rest with the slots of the user packets
 -- that begin there.
@@ -35,6 +34,10 @@ pub record Holds (chain : Chain) (c : Config) (plp : ℕ) (packets : List (List 
   pub rest : HoldsRest chain c plp packets
   pub from : slots_by c plp ((m - 1) * c.ticks) ≤ length packets
   pub to : length packets ≤ slots_by c plp (m * c.ticks)
+
+-- No block is to be put yet.
+abbrev pub IsPartial : Chain → Type 0
+IsPartial chain = chain.made < chain.settings.blocks → length chain.pending.items < chain.settings.field_bytes
 
 -- its configuration and the place of its PLP, and what was done to it, in turn
 unfoldable pub ChainStandsFor : Chain → Config → ℕ → List Event → Type 0

@@ -39,10 +39,6 @@ pub record Stays (old new : Chain) : Type 0 where
 abbrev pub IsFull : Chain → Type 0
 IsFull chain = (chain.made < chain.settings.blocks) × (chain.settings.field_bytes ≤ length chain.pending.items)
 
--- No block is to be put yet.
-abbrev pub IsPartial : Chain → Type 0
-IsPartial chain = chain.made < chain.settings.blocks → length chain.pending.items < chain.settings.field_bytes
-
 -- Bytes are left for a last block.
 abbrev pub IsLeft : Chain → Type 0
 IsLeft chain = (chain.made < chain.settings.blocks) × (0 < length chain.pending.items)

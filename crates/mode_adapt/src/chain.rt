@@ -21,7 +21,7 @@ use plp_config::{MOST_FIELD_BYTES, Plan, block_law, length_law};
 use std::alloc::Global;
 use ts_packet::{SIZE, TsPacket};
 
-// User packets that begin in a data field and a packet behind it, at most: each has all bytes of a packet but one, or more.
+// User packets that stand whole in a data field and a packet behind it, at most: each has all bytes of a packet but one, or more.
 const MOST_SLOTS: usize = (MOST_FIELD_BYTES as usize + SIZE) / (SIZE - 1);
 
 /// Makes the blocks of one PLP from its packets, frame by frame (EN 302 755, clause 5.1): offer the packet of each slot, in
@@ -53,11 +53,11 @@ pub struct Chain {
 
 impl Chain {
     ghost use Rattle.plp_config.specs.declared.config.Config.{Config};
-    ghost use Rattle.linked_pool.specs.Pool.{list_at, chunks_for, Others};
+    ghost use Rattle.linked_pool.specs.Pool.{list_at, chunks_for, Others, IsWhole};
     ghost use Rattle.mode_adapt.specs.Events.{Event, Offered, Cut, HasRoom, IsDue, offered, cuts};
-    ghost use Rattle.mode_adapt.specs.StandsFor.{ChainStandsFor, slot_of, most_blocks, kept_of, waiting, early_blocks};
+    ghost use Rattle.mode_adapt.specs.StandsFor.{ChainStandsFor, IsPartial, slot_of, most_blocks, kept_of, waiting, early_blocks};
     ghost use Rattle.mode_adapt.specs.Place.{AreShort, HasPlace};
-    ghost use Rattle.mode_adapt.specs.Steps.{Keeps, Sends, HasSpace, Writes, Puts, Stays, IsFull, IsPartial, IsOver, IsLeft, Skips, Resets, Lacks};
+    ghost use Rattle.mode_adapt.specs.Steps.{Keeps, Sends, HasSpace, Writes, Puts, Stays, IsFull, IsOver, IsLeft, Skips, Resets, Lacks};
     ghost use Rattle.mode_adapt.specs.Pieces.{first_in, piece_of};
     ghost use Rattle.mode_adapt.specs.Blocks.{blocks_of, rates_of, plp_keeps};
     ghost use Rattle.mode_adapt.specs.Queue.{arrived, sent};
@@ -107,6 +107,11 @@ impl Chain {
         ensures full { IfErr result (λ e. (e.spare ≡ pool.new.spare) × (e.spare < e.need)) }
         ensures need { IfErr result (λ e. (c : Config) (plp : ℕ) (events : List Event) → ChainStandsFor self.old c plp events → e.need ≡ chunks_for (block_bytes c plp)) }
 
+        // A data field is full then, and the pool is as it was.
+        ensures due { OnErr result ((c : Config) (plp : ℕ) (events : List Event) → ChainStandsFor self.old c plp events → field_bytes c plp ≤ kept_of self.new) }
+        ensures refused { OnErr result (pool.new ≡ pool.old) }
+        ensures whole { IsWhole pool.new }
+
         // Fewer bytes wait than a data field has.
         ensures kept { OnOk result ((c : Config) (plp : ℕ) (events : List Event)
             → ChainStandsFor self.old c plp events → HasRoom c plp events → kept_of self.new < field_bytes c plp) }
@@ -124,6 +129,8 @@ impl Chain {
         let bytes = packet.as_array();
         match self.deleter.push(packet) {
             None => {
+                // A call that tells that each chunk is free or has a part of a block.
+                let _ = pool.spare();
                 self.skip();
                 Ok(())
             }
@@ -172,9 +179,13 @@ impl Chain {
         ensures others { Others pool.old pool.new list }
         ensures full { IfErr result (λ e. Lacks self.old pool.old e.need e.spare) }
         ensures refused { OnErr result (pool.new ≡ pool.old) }
+        ensures due { OnErr result (self.old.settings.field_bytes ≤ kept_of self.new) }
+        ensures whole { IsWhole pool.new }
         ensures stays { self.new.settings ≡ self.old.settings }
         ensures slot { self.new.slot ≡ self.old.slot }
     {
+        // A call that tells that each chunk is free or has a part of a block.
+        let _ = pool.spare();
         let field_bytes = self.settings.field_bytes as usize;
         if self.made >= u32::from(self.settings.blocks) {
             return Ok(());
@@ -196,6 +207,8 @@ impl Chain {
         ensures others { Others pool.old pool.new list }
         ensures full { IfErr result (λ e. Lacks self.old pool.old e.need e.spare) }
         ensures refused { OnErr result (pool.new ≡ pool.old) }
+        ensures kept { OnErr result (kept_of self.new ≡ kept_of self.old) }
+        ensures whole { IsWhole pool.new }
         ensures stays { self.new.settings ≡ self.old.settings }
         ensures slot { self.new.slot ≡ self.old.slot }
     {
@@ -266,6 +279,11 @@ impl Chain {
         ensures full { IfErr result (λ e. (e.spare ≡ pool.new.spare) × (e.spare < e.need)) }
         ensures need { IfErr result (λ e. (c : Config) (plp : ℕ) (events : List Event) → ChainStandsFor self.old c plp events → e.need ≡ chunks_for (block_bytes c plp)) }
 
+        // Bytes wait then, and the pool is as it was.
+        ensures due { OnErr result (0 < kept_of self.new) }
+        ensures refused { OnErr result (pool.new ≡ pool.old) }
+        ensures whole { IsWhole pool.new }
+
         // Less than one user packet waits.
         ensures kept { OnOk result ((c : Config) (plp : ℕ) (events : List Event)
             → ChainStandsFor self.old c plp events → IsDue c plp events → kept_of self.new < up_bytes c plp) }
@@ -305,9 +323,13 @@ impl Chain {
         ensures others { Others pool.old pool.new list }
         ensures full { IfErr result (λ e. Lacks self.old pool.old e.need e.spare) }
         ensures refused { OnErr result (pool.new ≡ pool.old) }
+        ensures due { OnErr result (0 < kept_of self.new) }
+        ensures whole { IsWhole pool.new }
         ensures stays { self.new.settings ≡ self.old.settings }
         ensures slot { self.new.slot ≡ self.old.slot }
     {
+        // A call that tells that each chunk is free or has a part of a block.
+        let _ = pool.spare();
         let count = self.pending.len();
         if self.made >= u32::from(self.settings.blocks) {
             return Ok(());

@@ -220,7 +220,8 @@ impl MemoryDesk {
         self.cap = most;
     }
 
-    /// Lists a call to fail: the nth of its kind, from 1 on. Each call after number 2^64 - 1 counts as that number.
+    /// Lists a call to fail: the nth of its kind since the desk was made, counted from 1. Each call after number 2^64 - 1 counts as that
+    /// number; a number of a call that has been lists nothing.
     pub fn fail(&mut self, kind: CallKind, nth: u64) -> Result<(), OutOfMemory>
         ensures ok { OnOk result (self.new ≡ with_failing kind nth self.old) }
         ensures err { OnErr result (self.new ≡ self.old) }

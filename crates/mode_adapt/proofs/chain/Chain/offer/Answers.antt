@@ -1,4 +1,4 @@
-use Rattle.std.proofs.Common.{◌+◌, ◌++◌, ◌∷◌, [], length, refl, ap, ◌∙◌}
+use Rattle.std.proofs.Common.{◌+◌, ◌++◌, ◌∷◌, [], length, refl, ap, ◌∙◌, arith}
 use Rattle.linked_pool.specs.Pool.{list_at, chunks_for}
 use Rattle.plp_config.specs.Plps.{plp_at}
 use Rattle.null_delete.specs.Deletion.{dnp, packet_at}
@@ -66,3 +66,9 @@ returns-in-None-clause-kept c = λ config plp events stands room.
 pub returns-in-Some-clause-kept : goal.returns-in-Some-clause-kept
 returns-in-Some-clause-kept c = on_ok c.put_full.result (returns-in-Some-clause-stands c) (λ new config plp events stands room.
     kept_short c.length_law.ensures.slot c.block_law.ensures.field c.block_law.ensures.user_packet c.within_law.ensures c.backlog_law.ensures c.put_full.new.self config plp _ (new config plp events stands room))
+
+pub returns-in-Some-clause-due : goal.returns-in-Some-clause-due
+returns-in-Some-clause-due c = told_err c.put_full.result c.put_full.ensures.due (λ e due config plp events stands.
+    let h = (opened c.args.self.now config plp events stands).0 in
+    let same = ap (λ s. s.field_bytes) c.keep.ensures.stays.settings in
+    omega (arith, due, same, h.settings.field))
