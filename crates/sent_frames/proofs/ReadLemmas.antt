@@ -34,7 +34,7 @@ module _ (bounded : (w : List Bool) → crc32_of w < 2 ^ 32) (spell_is : SpellIs
   written : (p : Packet) → Fits p → Written p (bytes_of (written_bits p))
   written p fits =
       let front : List ℕ = bytes_of (written_bits p) in
-      let whole = len p fits in
+      let whole = len p in
       let bits : bits_of front ≡ written_bits p = bits_of-bytes_of (written_bits p) (packet_len p) whole in
       let none : front ++ [] ≡ front = append-nil front in
       let begins : BeginsWith front p (packet_len p) = subst (λ (l : List ℕ). BeginsWith l p (packet_len p)) none (read p front [] fits bits) in
