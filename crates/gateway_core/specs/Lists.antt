@@ -12,7 +12,7 @@ bits_in pool j = map bits_of (list_at pool j)
 abbrev pub AllShort : State → Type 0
 AllShort pool = (j : ℕ) → AreShort (list_at pool j)
 
--- This is the first list from one on that has a block.
+-- This is the first list from a given one on that has a block.
 pub record IsNext (pool : State) (from list : ℕ) : Type 0 where
   pub order : from ≤ list
   pub inside : list < length pool.lists

@@ -35,7 +35,7 @@ fn first_step(plan: &Plan, frame: u64) -> Step
     }
 }
 
-// The first list from one on that has a block.
+// The first list from a given one on that has a block.
 fn next_list(pool: &Pool, from: u32, lists: u32) -> Option<u32>
     requires { lists ≡ length pool.now.lists }
     ensures next { IfSome result (IsNext pool.now from) }
@@ -73,7 +73,7 @@ fn copy_front(pool: &Pool, list: u32, out: &mut [u8]) -> usize
 // Bytes of a block at most.
 const MOST_BYTES: usize = MOST_BLOCK_BYTES as usize;
 
-/// The packets of a frame that were not given yet. The lists hold its blocks that were not; once none is left, they hold the blocks that
+/// The packets of a frame that were not built yet. The lists hold its blocks that were not; once none is left, they hold the blocks that
 /// the chains put already for the next frame.
 #[derive(Drop)]
 pub struct Frame {

@@ -40,7 +40,7 @@ pub fn last_law()
     ensures { LastIsAll }
 {}
 
-/// The units that are complete when a frame was begun carry the first byte of each frame but that one and the two before it.
+/// The units that are complete when a frame was begun carry the first byte of each frame but that one and the one before it.
 pub fn ahead_law()
     ensures { WaitsThreeFrames }
 {

@@ -141,7 +141,7 @@ pub record HoldsFirst (c : Config) (files : ℕ → List ℕ) (bytes : List ℕ)
 abbrev pub ReadsAhead : Config → (ℕ → List ℕ) → List ℕ → List ℕ → Type 0
 ReadsAhead c files places bytes = (frame : ℕ) → ¬ (HoldsFirst c files bytes frame) → ReadsNoFurther c places (frame + 2)
 
--- The output could not be written on, when all that a frame wants was read, and no bad packet was met.
+-- The output could not be written on, when inputs were read for a frame, and no bad packet was met.
 pub record StopsWriting (c : Config) (old new : State) (out : List ℕ) (ins : List (List ℕ)) : Type 0 where
   pub places : List ℕ
   pub frame : ℕ
