@@ -14,10 +14,6 @@ mod random_networks;
 #[cfg(test)]
 mod receive;
 #[cfg(test)]
-mod receiver;
-#[cfg(test)]
-mod records;
-#[cfg(test)]
 mod runs;
 #[cfg(test)]
 mod show_frames;
@@ -25,7 +21,3 @@ mod show_frames;
 mod show_packets;
 #[cfg(test)]
 mod show_t2mi;
-#[cfg(test)]
-mod slots;
-#[cfg(test)]
-mod units;
