@@ -9,6 +9,12 @@ use crate::chains::Chains;
 /// Bytes of a chunk.
 pub const CHUNK: usize = 256;
 
+/// A block fills at most so many chunks for each [`FEWEST_CELLS`] of its cells.
+pub const CHUNKS_OF_CELLS: u32 = 7;
+
+/// The fewest cells that a block has: those of a short FECFRAME in 256-QAM.
+pub const FEWEST_CELLS: u32 = 2_025;
+
 // The chunks that so many bytes fill: one at least.
 pub fn chunks_for(len: usize) -> usize
     ensures { result ≡ chunks_for_len len }

@@ -19,7 +19,7 @@ pub use laws::{
     complete_law, front_refusal, no_refusal, one_packet, one_refusal, packet_length, spell_law,
     spelled_or_refused, view_law, written_law,
 };
-pub use packet::{Body, Packet, Stamp};
+pub use packet::{BlockHead, Body, Packet, Stamp};
 pub use packet_view::PacketView;
 pub use reading::{LARGEST, needed, read, read_known, view, view_known};
-pub use writing::write;
+pub use writing::{MOST_BLOCK, begin_block, finish_packet, write};

@@ -1,8 +1,7 @@
 -- What was read place by place, put together: the bytes spell a packet.
-use Rattle.std.proofs.Common.{◌≡◌, ℕ, zero, suc, ◌+◌, ◌-◌, ◌*◌, ◌%◌, ◌^◌, ◌<◌, ◌≤◌, ◌==◌, inl, ⊎_elim, Bool, true, false, List, [], ◌∷◌, ◌++◌, length, take, drop, get_or, refl, ap, sym, subst, ◌∙◌, arith}
+use Rattle.std.proofs.Common.{◌≡◌, ℕ, zero, suc, ◌+◌, ◌-◌, ◌*◌, ◌%◌, ◌^◌, ◌<◌, ◌≤◌, ◌==◌, inl, Bool, true, false, List, [], ◌∷◌, ◌++◌, length, take, drop, get_or, refl, ap, sym, subst, ◌∙◌, arith}
 use Rattle.std.specs.Prelude.{Result, Ok, Err, IfOk, Option, Some, None}
-use Rattle.std.proofs.lemmas.Bool.{cases_lt}
-use Rattle.std.proofs.lemmas.List.{take-append-drop, take_all, drop_all, drop_more, drop-drop, length-drop, length-take-le, append_assoc, get_or-take, get_or_past, length-take}
+use Rattle.std.proofs.lemmas.List.{take-append-drop, take_all, drop_all, drop_more, drop-drop, length-drop, length-take-le, append_assoc}
 use Rattle.terms.specs.Bits.{field, bits_of, number_of, part, number_at, bytes_of}
 use Rattle.terms.proofs.BitLemmas.{length-bits_of, length-part, part-bits_of, field-number_at, bytes_of-bits_of, number_at-bits_of, number_at-lt, small_take}
 use Rattle.terms.proofs.PartLemmas.{part-add}

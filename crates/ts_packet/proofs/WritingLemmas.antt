@@ -2,7 +2,7 @@
 use Rattle.std.proofs.Common.{◌≡◌, ℕ, zero, suc, ◌+◌, ◌-◌, ◌*◌, ◌/◌, ◌%◌, ◌^◌, ◌<◌, ◌≤◌, Bool, true, false, List, [], ◌∷◌, ◌++◌, length, take, drop, set, get_or, refl, ap, sym, subst, ◌∙◌, arith, append_assoc, append-nil, length-append}
 use Rattle.std.specs.Prelude.{bit_or, Option, Some, None, is_some, replicate}
 use Rattle.std.proofs.lemmas.Nat.{or_shifted, div-add-mod'}
-use Rattle.std.proofs.lemmas.List.{drop_all, drop_at, drop-drop, take_at, length-drop, length-replicate}
+use Rattle.std.proofs.lemmas.List.{drop_all, drop_at, drop-drop, take_at, length-drop, length-take, length-replicate}
 use Rattle.std.specs.Int.{w32, to_be_bytes}
 use mir.Val.{bool_byte}
 use borrow.Rule.Slice.PartMut.{put_mid}
@@ -104,16 +104,14 @@ two_parts at size front back old long short =
     let none : drop size (drop at old) ≡ [] = drop_all size (drop at old) (simp length-drop (omega arith)) in
     rw (first, rest, none, append-nil) refl
 
--- header, space and payload area, written one behind another
-pub three_parts : (at size : ℕ) (header space area old : List ℕ) → length header ≡ 4 → length space ≡ at - 4 → 4 ≤ at → length old ≤ at + size →
-    put_mid at size (put_mid 4 (at - 4) (header ++ drop 4 old) space) area ≡ header ++ space ++ area
-three_parts at size header space area old four fills after short =
-    let first : take 4 (header ++ drop 4 old) ≡ header = take_at header (drop 4 old) 4 four in
-    let rest : drop (at - 4) (drop 4 (header ++ drop 4 old)) ≡ drop at old =
-    ap (drop (at - 4)) (drop_at header (drop 4 old) 4 four) ∙ drop-drop (at - 4) 4 old ∙ ap (λ (n : ℕ). drop n old) (omega arith) in
-    let filled : put_mid 4 (at - 4) (header ++ drop 4 old) space ≡ (header ++ space) ++ drop at old = rw (first, rest) (sym (append_assoc header space (drop at old))) in
-    let long : length (header ++ space) ≡ at = simp length-append (omega arith) in
-    ap (λ (xs : List ℕ). put_mid at size xs area) filled ∙ two_parts at size (header ++ space) area old long short
+-- the header stays as space and payload area are written behind it
+pub three_parts : (at size : ℕ) (space area old : List ℕ) → 4 ≤ length old → length space ≡ at - 4 → 4 ≤ at → length old ≤ at + size →
+    put_mid at size (put_mid 4 (at - 4) old space) area ≡ take 4 old ++ space ++ area
+three_parts at size space area old four fills after short =
+    let rest : drop (at - 4) (drop 4 old) ≡ drop at old = drop-drop (at - 4) 4 old ∙ ap (λ (n : ℕ). drop n old) (omega arith) in
+    let filled : put_mid 4 (at - 4) old space ≡ (take 4 old ++ space) ++ drop at old = rw rest (sym (append_assoc (take 4 old) space (drop at old))) in
+    let long : length (take 4 old ++ space) ≡ at = simp (length-append, length-take) (omega (arith, four, fills)) in
+    ap (λ (xs : List ℕ). put_mid at size xs area) filled ∙ two_parts at size (take 4 old ++ space) area old long short
 
 -- the pointer_field in front of the payload
 pub pointer_first : (area rest payload : List ℕ) (pointer : ℕ) → length area ≡ suc (length payload) → rest ≡ payload →

@@ -94,7 +94,8 @@ fn one_byte_is_written_behind_stuffing(rt: HostRuntime) {
     let mut want = [0xFF; 188];
     want[..6].copy_from_slice(&[0x47, 0x01, 0x00, 0x30, 0xB6, 0x00]);
     want[187] = 0xAB;
-    let written = write_payload(256, 0, None, &[0xAB]);
+    let mut written = [0; 188];
+    write_payload(&mut written, 256, 0, None, &[0xAB], &[]);
     assert!(rt; written == want);
     assert!(rt; parts_of(&written) == Ok((256, false, false, 0, 0, 187)));
 
@@ -114,7 +115,9 @@ fn writes_each_length_of_stuffing(rt: HostRuntime) {
     for ((pid, counter, pointer, len), want) in WRITTEN {
         let room = 184 - usize::from(pointer.is_some());
         assert!(rt; pid < 8192 && counter < 16 && 1 <= len && len <= room);
-        let written = write_payload(pid, counter, pointer, &data[..len]);
+        let mut written = [0; 188];
+        let (front, back) = data[..len].split_at(len / 2);
+        write_payload(&mut written, pid, counter, pointer, front, back);
         assert!(rt; written[..8] == want[..], "{len} bytes on {pid}");
         assert!(rt; written[188 - len..] == data[..len], "{len} bytes on {pid}");
     }

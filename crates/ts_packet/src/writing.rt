@@ -1,5 +1,5 @@
 // Writing a transport packet.
-ghost use Rattle.std.specs.Prelude.{◌≡◌, ◌+◌, ◌-◌, ◌<◌, ◌≤◌, ◌^◌, false, [], ◌++◌, length};
+ghost use Rattle.std.specs.Prelude.{◌≡◌, ◌+◌, ◌-◌, ◌<◌, ◌≤◌, ◌^◌, false, [], ◌++◌, length, take};
 ghost use Rattle.terms.specs.Bits.{field, bytes_of};
 ghost use Rattle.ts_packet.specs.TransportPacket.{Spells, header_bits, adaptation_bytes};
 ghost use Rattle.ts_packet.specs.Written.{area_of, stuffing, written_fields, written_bytes};
@@ -42,49 +42,63 @@ fn fill_space(space: &mut [u8])
     }
 }
 
+// Writes two parts of a payload one behind the other.
+fn write_both(bytes: &mut [u8], front: &[u8], back: &[u8])
+    requires { length bytes.old ≡ length (front.now ++ back.now) }
+    ensures { bytes.new ≡ front.now ++ back.now }
+{
+    bytes[..front.len()].copy_from_slice(front);
+    bytes[front.len()..].copy_from_slice(back);
+}
+
 // Writes the payload, behind its pointer_field where there is one.
-fn write_area(area: &mut [u8], pointer: Option<u8>, payload: &[u8])
-    requires { length area.old ≡ length (area_of pointer payload.now) }
-    ensures { area.new ≡ area_of pointer payload.now }
+fn write_area(area: &mut [u8], pointer: Option<u8>, front: &[u8], back: &[u8])
+    requires { length area.old ≡ length (area_of pointer (front.now ++ back.now)) }
+    ensures { area.new ≡ area_of pointer (front.now ++ back.now) }
 {
     match pointer {
-        None => area.copy_from_slice(payload),
+        None => write_both(area, front, back),
         Some(pointer) => {
             area[0] = pointer;
-            area[1..].copy_from_slice(payload);
+            write_both(&mut area[1..], front, back);
         }
     }
 }
 
-// Writes the parts of a packet one behind another: the payload area begins at a place.
-fn write_parts(bytes: &mut [u8], at: usize, header: &[u8; 4], pointer: Option<u8>, payload: &[u8])
+// Fills the space behind the header, up to the place where the payload area begins, and writes that.
+fn write_rest(bytes: &mut [u8], at: usize, pointer: Option<u8>, front: &[u8], back: &[u8])
     requires header { 4 ≤ at }
     requires space { at ≤ 187 }
-    requires whole { length bytes.old ≡ at + length (area_of pointer payload.now) }
-    ensures { bytes.new ≡ header.now ++ adaptation_bytes (stuffing (at - 4)) ++ area_of pointer payload.now }
+    requires whole { length bytes.old ≡ at + length (area_of pointer (front.now ++ back.now)) }
+    ensures { bytes.new ≡ take 4 bytes.old ++ adaptation_bytes (stuffing (at - 4)) ++ area_of pointer (front.now ++ back.now) }
 {
-    bytes[..4].copy_from_slice(header);
     fill_space(&mut bytes[4..at]);
-    write_area(&mut bytes[at..], pointer, payload);
+    write_area(&mut bytes[at..], pointer, front, back);
 }
 
-/// A packet of this PID, below 8,192, and continuity_counter, below 16, with the payload at its end.
+/// Writes a packet of this PID, below 8,192, and continuity_counter, below 16, with the payload at its end: `front` and `back`, one
+/// behind the other.
 ///
 /// The payload has 1 to 184 bytes, and at most 183 behind a `pointer`, which stands as pointer_field in front of it and
 /// sets payload_unit_start_indicator. Space that is left is an adaptation field between header and payload. Error
 /// indicator, priority and scrambling are 0.
-pub fn write_payload(pid: u16, counter: u8, pointer: Option<u8>, payload: &[u8]) -> [u8; SIZE]
+pub fn write_payload(
+    out: &mut [u8; SIZE],
+    pid: u16,
+    counter: u8,
+    pointer: Option<u8>,
+    front: &[u8],
+    back: &[u8],
+)
     requires pid { pid < 2 ^ 13 }
     requires counter { counter < 2 ^ 4 }
-    requires some { 1 ≤ length payload.now }
-    requires room { length (area_of pointer payload.now) ≤ PAYLOAD }
-    ensures bytes { result ≡ written_bytes pid counter pointer payload.now }
-    ensures spells { Spells (written_fields pid counter pointer payload.now) result }
+    requires some { 1 ≤ length (front.now ++ back.now) }
+    requires room { length (area_of pointer (front.now ++ back.now)) ≤ PAYLOAD }
+    ensures bytes { out.new ≡ written_bytes pid counter pointer (front.now ++ back.now) }
+    ensures spells { Spells (written_fields pid counter pointer (front.now ++ back.now)) out.new }
 {
-    let area = payload.len() + usize::from(pointer.is_some());
+    let area = front.len() + back.len() + usize::from(pointer.is_some());
     let control = if area < PAYLOAD { 3 } else { 1 };
-    let header = header_bytes(pid, counter, pointer, control);
-    let mut bytes = [0; SIZE];
-    write_parts(&mut bytes, SIZE - area, &header, pointer, payload);
-    bytes
+    out[..4].copy_from_slice(&header_bytes(pid, counter, pointer, control));
+    write_rest(out, SIZE - area, pointer, front, back);
 }
