@@ -1,14 +1,13 @@
 -- How many bytes of the frames begun wait for a unit at most.
-use Rattle.std.proofs.Common.{◌≡◌, ℕ, ◌+◌, ◌-◌, ◌*◌, ◌%◌, ◌<◌, ◌≤◌, Bool, true, false, cond, List, [], ◌∷◌, ◌++◌, length, refl, ap, sym, subst, ◌∙◌, inl, inr, arith, length-append}
+use Rattle.std.proofs.Common.{◌≡◌, ℕ, ◌+◌, ◌-◌, ◌%◌, ◌<◌, ◌≤◌, Bool, true, List, [], ◌∷◌, ◌++◌, length, ap, sym, ◌∙◌, inl, inr, arith, length-append}
 use Rattle.std.specs.Prelude.{◌==◌}
 use Rattle.std.proofs.lemmas.Bool.{cases_lt, cases_Bool}
 use Rattle.std.proofs.lemmas.Grind.{flat_map-append}
 use Rattle.terms.specs.Bits.{bytes_of}
 use Rattle.terms.proofs.BitLemmas.{length-bytes_of}
-use Rattle.plp_config.specs.Capacity.{IsPlan}
 use Rattle.plp_config.specs.Rules.{PlpCount}
 use Rattle.plp_config.specs.declared.config.Config.{Config}
-use Rattle.l1_signal.specs.L1Of.{pre_of, conf_of}
+use Rattle.l1_signal.specs.L1Of.{pre_of}
 use Rattle.l1_signal.specs.Laws.{PreBitsLength, ConfPartLength}
 use Rattle.mode_adapt.specs.Blocks.{plp_blocks}
 use Rattle.t2mi_packet.specs.Laws.{WrittenLength}
@@ -18,10 +17,10 @@ use Rattle.t2mi_packet.specs.declared.packet.Body.TheVariants.{L1Current}
 use Rattle.t2mi_packet.specs.declared.packet.Packet.{Packet}
 use Rattle.t2mi_stream.specs.Complete.{complete_units}
 use Rattle.t2mi_stream.specs.CompleteLaws.{CompleteLaw, CountLaw, CarriedRises, JoinedLength}
-use Rattle.t2mi_stream.specs.Pipe.{Item, items, joined, carried_len}
+use Rattle.t2mi_stream.specs.Pipe.{items, joined, carried_len}
 use Rattle.gateway_core.specs.Carried.{of_frame}
 use Rattle.gateway_core.specs.Laws.{WaitsThreeFrames}
-use Rattle.gateway_core.specs.Packets.{l1_body, plp_bodies, with_stamp, counts_of, frame_bodies, bodies_before, packet_with, packets_from, front_packets}
+use Rattle.gateway_core.specs.Packets.{l1_body, plp_bodies, counts_of, frame_bodies, bodies_before, packet_with, packets_from, front_packets}
 use Rattle.gateway_core.specs.Signalling.{pre_part, conf_part, dyn_part}
 use Rattle.gateway_core.proofs.CarriedLemmas.{packets_append}
 use Rattle.gateway_core.proofs.HoldsLemmas.{bodies_more}

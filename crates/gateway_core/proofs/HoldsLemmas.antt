@@ -268,7 +268,7 @@ holds_begin old new before after s frames flow next n m left begin rest counts l
       ap (λ (l : List Body). bodies_before c all frames ++ of_frame frames l) bodies ∙ sym (bodies_more c all frames) in
       subst (λ (k : ℕ). Flows next.outlet c m rest (bodies_before c all (frames + 1)) k) (sym (given_same events Begun refl))
       (subst (λ (l : List (ℕ × Body)). Flows next.outlet c m rest l (given events)) longer
-      (step _ (given events) (carries_more _ _ _ c n frames left begin (bodies_before c all frames) (given events) gone was)));
+      (step _ (given events) (carries_more _ _ _ _ c n frames left begin (bodies_before c all frames) (given events) gone was)));
 }
 
 pub holds_unit : (p c : Config) (inputs : List Input) (early : ℕ → List (List Bool)) (s : Signalling) (frames : ℕ) (flow : Flow) (n : ℕ) (left : List Body) (events : List Event) (all : ℕ → List (List ℕ)) (more : List (List ℕ)) (out : List ℕ) → p ≡ c

@@ -1,10 +1,10 @@
 -- What an outlet stands for. No public clause cites this module.
-use Rattle.std.specs.Prelude.{◌≡◌, ◌≤◌, ℕ, ◌+◌, ◌*◌, ◌==◌, ◌&&◌, ◌||◌, nat_lt, Bool, List, drop, length}
+use Rattle.std.specs.Prelude.{◌≡◌, ◌≤◌, ℕ, ◌+◌, ◌*◌, ◌&&◌, ◌||◌, nat_le, nat_lt, Bool, List, drop, length}
 use Rattle.terms.specs.Bits.{bytes_of}
 use Rattle.ts_packet.specs.declared.sizes.TheConstants.{PAYLOAD}
 use Rattle.plp_config.specs.declared.config.Config.{Config}
 use Rattle.t2mi_packet.specs.declared.packet.Body.{Body}
-use Rattle.t2mi_stream.specs.PiperStandsFor.{waiting_of, is_finished}
+use Rattle.t2mi_stream.specs.PiperStandsFor.{PiperStandsFor, waiting_of, is_finished}
 use Rattle.gateway_core.specs.Carried.{Carries}
 use Rattle.gateway_core.specs.Left.{left, early_of, layout_of}
 use Rattle.gateway_core.specs.declared.flow.Outlet.{Outlet}
@@ -17,16 +17,19 @@ rest_of o = drop o.at (bytes_of o.packet)
 
 -- All packets have come so far, and so many units were given.
 abbrev pub Flows : Outlet → Config → ℕ → List Body → List (ℕ × Body) → ℕ → Type 0
-Flows o c n left all given = Carries o.piper (rest_of o) o.number c n left all given
+Flows o c n left all given = Carries (PiperStandsFor o.piper) (is_finished o.piper) (rest_of o) o.number c n left all given
 
--- a bound for the bytes that are not yet given: those that wait, those of its packet that the piper did not take, and for each body that is
--- left one more than the longest packet has
+-- how many bytes are at hand: those that wait, and those of its packet that the piper did not take
+abbrev pub at_hand : Outlet → ℕ
+at_hand o = waiting_of o.piper + length (rest_of o)
+
+-- a bound for the bytes that are not yet given: those at hand, and for each body that is left one more than the longest packet has
 abbrev pub bytes_bound : Outlet → List Body → ℕ
-bytes_bound o left = waiting_of o.piper + length (rest_of o) + 8203 * length left
+bytes_bound o left = at_hand o + 8203 * length left
 
 -- A unit is complete, or no more frames come and a byte is left.
 abbrev pub gives_unit : Outlet → Bool
-gives_unit o = (waiting_of o.piper == PAYLOAD) || (is_finished o.piper && nat_lt 0 (waiting_of o.piper))
+gives_unit o = nat_le PAYLOAD (at_hand o) || (is_finished o.piper && nat_lt 0 (waiting_of o.piper))
 
 -- An outlet took packets of a frame, and gave no unit.
 pub record Feeds (c : Config) (s : Signalling) (old new : Outlet) (before now : Frame) : Type 0 where

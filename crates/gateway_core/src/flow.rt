@@ -1,5 +1,5 @@
 // Units out of the packets of frames.
-ghost use Rattle.std.specs.Prelude.{◌≡◌, ◌≤◌, ◌&&◌, true, false, [], drop, length};
+ghost use Rattle.std.specs.Prelude.{◌≡◌, ◌<◌, ◌≤◌, ◌+◌, ◌&&◌, true, false, [], drop, length};
 ghost use Rattle.terms.specs.Bits.{bytes_of};
 ghost use Rattle.t2mi_packet.specs.declared.reading.TheConstants.{LARGEST};
 ghost use Rattle.t2mi_stream.specs.PiperStandsFor.{waiting_of, is_finished};
@@ -13,7 +13,7 @@ use t2mi_packet::LARGEST;
 use t2mi_stream::Piper;
 use ts_packet::{PAYLOAD, SIZE};
 
-/// A piper, and the packet that it has not yet taken whole.
+/// A piper, and the packet that it has not yet taken whole. Fewer bytes wait in the piper than a unit takes.
 #[derive(Drop)]
 pub struct Outlet {
     pub piper: Piper,
@@ -24,16 +24,18 @@ pub struct Outlet {
     number: u8,
     ghost within: { at ≤ length (bytes_of packet) },
     ghost room: { length (bytes_of packet) ≤ LARGEST },
+    ghost few: { waiting_of piper < PAYLOAD },
+    ghost end: { is_finished piper ≡ true → drop at (bytes_of packet) ≡ [] },
 }
 
 impl Outlet {
-    ghost use Rattle.std.specs.Prelude.{◌≡◌, ◌<◌, ◌≤◌, ◌+◌, ◌^◌, ◌++◌, ◌↔◌, ℕ, List, [], true, false, length, slice_get, Some, IsTrue};
+    ghost use Rattle.std.specs.Prelude.{◌≡◌, ◌<◌, ◌≤◌, ◌+◌, ◌^◌, ◌++◌, ℕ, List, [], true, false, length, nat_le, slice_get, Some};
     ghost use Rattle.plp_config.specs.declared.config.Config.{Config};
     ghost use Rattle.t2mi_packet.specs.declared.packet.Body.{Body};
     ghost use Rattle.t2mi_stream.specs.Complete.{complete_units};
     ghost use Rattle.t2mi_stream.specs.Pipe.{pipe};
     ghost use Rattle.gateway_core.specs.Carried.{AllGone};
-    ghost use Rattle.gateway_core.specs.Flowing.{Flows, Feeds, rest_of, bytes_bound, gives_unit};
+    ghost use Rattle.gateway_core.specs.Flowing.{Flows, Feeds, rest_of, at_hand, bytes_bound, gives_unit};
     ghost use Rattle.gateway_core.specs.Packets.{packets_from};
     ghost use Rattle.gateway_core.specs.Left.{left};
     ghost use Rattle.gateway_core.specs.declared.frame.Step.TheVariants.{Over};
@@ -67,15 +69,20 @@ impl Outlet {
             → given < length (complete_units c.pid (packets_from c 0 all)) }
         ensures caught_up { result ≡ false → is_finished self.old.piper ≡ false → (c : Config) (n : ℕ) (left : List Body) (all : List (ℕ × Body)) (given : ℕ) → Flows self.old c n left all given
             → AllGone (rest_of self.old) left [] → given ≡ length (complete_units c.pid (packets_from c 0 all)) }
-        ensures rest { rest_of self.new ≡ rest_of self.old }
+        ensures rest { rest_of self.old ≡ [] → rest_of self.new ≡ [] }
         ensures less { result ≡ true → (left : List Body) → bytes_bound self.new left < bytes_bound self.old left }
         ensures finished { is_finished self.new.piper ≡ is_finished self.old.piper }
     {
-        self.piper.next(out)
+        if !self.has_unit() {
+            return self.piper.next(out);
+        }
+        self.at += self.piper.pipe(&self.packet.as_bytes()[self.at..], out);
+        true
     }
 
     /// No more packets come.
     pub fn finish(&mut self)
+        requires fed { rest_of self.old ≡ [] }
         ensures flows { (c : Config) (n : ℕ) (left : List Body) (all : List (ℕ × Body)) (given : ℕ) → Flows self.old c n left all given → Flows self.new c n left all given }
         ensures rest { rest_of self.new ≡ rest_of self.old }
         ensures waiting { waiting_of self.new.piper ≡ waiting_of self.old.piper }
@@ -84,23 +91,23 @@ impl Outlet {
         self.piper.finish();
     }
 
-    // Whether the piper took the packet whole.
-    fn is_fed(&self) -> bool
-        ensures fed { IsTrue result ↔ (rest_of self.now ≡ []) }
+    // Whether the bytes that wait, and the rest of the packet, have those of a unit.
+    fn has_unit(&self) -> bool
+        ensures { result ≡ nat_le PAYLOAD (at_hand self.now) }
     {
-        self.at == self.packet.as_bytes().len()
+        self.piper.waiting() + (self.packet.as_bytes().len() - self.at) >= PAYLOAD
     }
 
-    // Feeds as much of the packet as the piper takes.
+    // Feeds the rest of the packet, which does not complete a unit.
     fn feed(&mut self)
-        requires { is_finished self.old.piper ≡ false }
+        requires going { is_finished self.old.piper ≡ false }
+        requires few { at_hand self.old < PAYLOAD }
         ensures flows { (c : Config) (n : ℕ) (left : List Body) (all : List (ℕ × Body)) (given : ℕ) → Flows self.old c n left all given → Flows self.new c n left all given }
-        ensures full { 0 < length (rest_of self.new) → waiting_of self.new.piper ≡ PAYLOAD }
+        ensures fed { rest_of self.new ≡ [] }
         ensures bound { (left : List Body) → bytes_bound self.new left ≡ bytes_bound self.old left }
         ensures finished { is_finished self.new.piper ≡ false }
     {
-        let rest = &self.packet.as_bytes()[self.at..];
-        self.at += self.piper.feed(rest);
+        self.at += self.piper.feed(&self.packet.as_bytes()[self.at..]);
     }
 
     // Builds the next packet of a frame, if there is one.
@@ -122,26 +129,25 @@ impl Outlet {
         true
     }
 
-    // Feeds the packets of a frame, until 184 bytes wait or none is left, and answers whether none is.
+    // Builds the packets of a frame, until a unit is at hand or none is left, and answers whether none is.
     fn refill(&mut self, plan: &Plan, signalling: &Signalling, frame: &mut Frame) -> bool
         requires plps { length frame.old.blocks.lists ≡ length plan.now.plps }
         requires open { is_finished self.old.piper ≡ false }
         ensures feeds { Feeds plan.now signalling.now self.old self.new frame.old frame.new }
         ensures over { result ≡ true → (rest_of self.new ≡ []) × (frame.new.step ≡ Over) }
-        ensures full { result ≡ false → waiting_of self.new.piper ≡ PAYLOAD }
+        ensures full { result ≡ false → PAYLOAD ≤ at_hand self.new }
         ensures finished { is_finished self.new.piper ≡ false }
     {
-        self.feed();
-        while self.is_fed() {
+        while !self.has_unit() {
+            self.feed();
             if !self.build(plan, signalling, frame) {
                 return true;
             }
-            self.feed();
         }
         false
     }
 
-    /// Feeds the packets of a frame, until 184 bytes wait or none is left, and answers whether none is. Behind the last frame that
+    /// Builds the packets of a frame, until a unit is at hand or none is left, and answers whether none is. Behind the last frame that
     /// is the end.
     pub fn go_on(
         &mut self,
@@ -154,7 +160,7 @@ impl Outlet {
         requires open { is_finished self.old.piper ≡ false }
         ensures feeds { Feeds plan.now signalling.now self.old self.new frame.old frame.new }
         ensures over { result ≡ true → (rest_of self.new ≡ []) × (frame.new.step ≡ Over) }
-        ensures full { result ≡ false → waiting_of self.new.piper ≡ PAYLOAD }
+        ensures full { result ≡ false → PAYLOAD ≤ at_hand self.new }
         ensures finished { is_finished self.new.piper ≡ (result && is_last) }
     {
         if !self.refill(plan, signalling, frame) {
@@ -167,15 +173,15 @@ impl Outlet {
     }
 }
 
-/// An outlet that is fed ahead: 184 bytes wait in it, or nothing is left of the frames begun.
+/// An outlet with a unit at hand, unless nothing is left of the frames begun.
 #[derive(Drop)]
 pub struct Flow {
     pub outlet: Outlet,
-    // Whether all packets of the frames begun were fed.
+    // Whether all packets of the frames begun were fed to the piper.
     pub dry: bool,
     // Whether no more frames come.
     pub finished: bool,
-    ghost full: { dry ≡ false → waiting_of outlet.piper ≡ PAYLOAD },
+    ghost full: { dry ≡ false → PAYLOAD ≤ waiting_of outlet.piper + length (drop outlet.at (bytes_of outlet.packet)) },
     ghost fed: { dry ≡ true → drop outlet.at (bytes_of outlet.packet) ≡ [] },
     ghost open: { finished ≡ false → is_finished outlet.piper ≡ false },
     ghost wet: { dry ≡ false → is_finished outlet.piper ≡ false },

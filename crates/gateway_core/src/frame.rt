@@ -1,5 +1,5 @@
 // The packets of a frame, one by one.
-ghost use Rattle.std.specs.Prelude.{◌≡◌, ◌≢◌, ◌<◌, ◌≤◌, ◌==◌, ◌||◌, not, ℕ, [], length, take, slice_index_or, vec_len, IfSome, IfNone};
+ghost use Rattle.std.specs.Prelude.{◌≡◌, ◌≢◌, ◌<◌, ◌≤◌, ◌==◌, ◌||◌, not, ℕ, [], length, slice_index_or, vec_len, IfSome, IfNone};
 ghost use Rattle.linked_pool.specs.Fits.{frame_chunks};
 ghost use Rattle.linked_pool.specs.Pool.{list_at};
 ghost use Rattle.plp_config.specs.declared.moment.TheConstants.{MOST_FRAMES};
@@ -10,8 +10,8 @@ ghost use Rattle.gateway_core.specs.declared.frame.Step.TheVariants.{Over};
 use crate::packet::{write_block, write_signal, write_stamp};
 use crate::signalling::{Dynamic, Signalling};
 use bit_slice::{FixedBits, OutOfMemory};
-use linked_pool::Pool;
-use plp_config::{MOST_BLOCK_BYTES, Plan};
+use linked_pool::{BlockRef, CHUNKS_OF_CELLS, FEWEST_CELLS, Pool};
+use plp_config::Plan;
 use std::alloc::Global;
 use t2mi_packet::LARGEST;
 
@@ -56,22 +56,14 @@ fn is_first(first: bool, from: u32, plp: u32) -> bool
     first || plp != from
 }
 
-// Copies the first block of a list to the front of a buffer, and answers how many bytes it has.
-fn copy_front(pool: &Pool, list: u32, out: &mut [u8]) -> usize
+// The first block of a list.
+fn front_block(pool: &Pool, list: u32) -> BlockRef<'_>
     requires list { list < length pool.now.lists }
     requires some { 0 < length (list_at pool.now list) }
-    requires room { length (slice_index_or (list_at pool.now list) 0 []) ≤ length out.old }
-    ensures bytes { take result out.new ≡ slice_index_or (list_at pool.now list) 0 [] }
-    ensures len { result ≡ length (slice_index_or (list_at pool.now list) 0 []) }
+    ensures { result ≡ slice_index_or (list_at pool.now list) 0 [] }
 {
-    let block = pool.front(list).unwrap();
-    let len = block.len();
-    block.copy_to(&mut out[..len]);
-    len
+    pool.front(list).unwrap()
 }
-
-// Bytes of a block at most.
-const MOST_BYTES: usize = MOST_BLOCK_BYTES as usize;
 
 /// The packets of a frame that were not built yet. The lists hold its blocks that were not; once none is left, they hold the blocks that
 /// the chains put already for the next frame.
@@ -82,8 +74,6 @@ pub struct Frame {
     // A list for each PLP, and how many blocks each PLP has in the frame.
     pub blocks: Pool,
     pub counts: Vec<u16>,
-    // The bytes of the last block that was given.
-    block: [u8; MOST_BYTES],
     step: Step,
     // The PLP of the next block, and whether that is the first of its PLP.
     plp: u32,
@@ -94,11 +84,6 @@ pub struct Frame {
     ghost short: { AllShort blocks },
     ghost below: { step ≢ Over → (j : ℕ) → j < plp → list_at blocks j ≡ [] },
 }
-
-// A block fills at most 7 chunks for each 2,025 of its cells, the fewest that a block has.
-const CHUNKS_OF_CELLS: u32 = 7;
-
-const FEWEST_CELLS: u32 = 2_025;
 
 // The chunks that the blocks of a frame fill at most.
 fn frame_chunks(plan: &Plan) -> u32
@@ -126,7 +111,6 @@ impl Frame {
             dynamic: Dynamic::open(alloc, plan)?,
             blocks: Pool::open(alloc, frame_chunks(plan), plps as u32)?,
             counts: vec![in alloc; 0; plps]?,
-            block: [0; MOST_BYTES],
             step: Step::Over,
             plp: 0,
             first: true,
@@ -169,9 +153,8 @@ impl Frame {
             return false;
         };
         let first = is_first(self.first, self.plp, list);
-        let len = copy_front(&self.blocks, list, &mut self.block);
-        let block = &self.block[..len];
-        write_block(out, plan, number, self.number, list as usize, first, block);
+        let block = front_block(&self.blocks, list);
+        write_block(out, plan, number, self.number, list as usize, first, &block);
         self.blocks.pop(list);
         self.plp = list;
         self.first = false;

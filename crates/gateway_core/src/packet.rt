@@ -1,5 +1,5 @@
 // T2-MI packets of a frame, each built whole.
-ghost use Rattle.std.specs.Prelude.{◌≡◌, ◌<◌, ◌≤◌, ◌^◌, ◌/◌, ◌%◌, length, []};
+ghost use Rattle.std.specs.Prelude.{◌≡◌, ◌<◌, ◌≤◌, ◌+◌, ◌*◌, ◌^◌, ◌/◌, ◌%◌, ◌++◌, length, []};
 ghost use Rattle.plp_config.specs.Plps.{plp_at};
 ghost use Rattle.terms.specs.Bits.{bits_of};
 ghost use Rattle.t2mi_packet.specs.T2miPacket.{Fits, written_bits};
@@ -7,10 +7,13 @@ ghost use Rattle.gateway_core.specs.Whole.{IsWhole};
 ghost use Rattle.gateway_core.specs.Packets.{stamp_of, l1_body, packet_with};
 
 use crate::signalling::MOST_DYN_BITS;
-use bit_slice::{BitSlice, FixedBits};
+use bit_slice::{BitSink, BitSlice, FixedBits};
 use l1_signal::MOST_CONF_BITS;
+use linked_pool::BlockRef;
 use plp_config::{Band, MOST_BLOCK_BYTES, Plan};
-use t2mi_packet::{Body, LARGEST, Packet, Stamp, write, written_law};
+use t2mi_packet::{
+    BlockHead, Body, LARGEST, Packet, Stamp, begin_block, finish_packet, write, written_law,
+};
 
 // Builds a packet in place of the one before.
 fn put_packet(out: &mut FixedBits<LARGEST>, packet: &Packet<'_>)
@@ -123,7 +126,19 @@ fn plp_id(plan: &Plan, plp: usize) -> u8
     }
 }
 
-/// A block of a PLP in a frame.
+// Puts the bytes of a block behind what was written, chunk by chunk.
+fn put_pieces(out: &mut FixedBits<LARGEST>, block: &BlockRef<'_>)
+    requires { length out.old + 8 * length block.now ≤ 8 * LARGEST }
+    ensures { out.new ≡ out.old ++ bits_of block.now }
+{
+    let mut pieces = block.pieces();
+    while let Some(piece) = pieces.next() {
+        // There is room for it.
+        let _ = out.put_slice(BitSlice::whole(piece));
+    }
+}
+
+/// A block of a PLP in a frame. Its bytes are copied once.
 pub fn write_block(
     out: &mut FixedBits<LARGEST>,
     plan: &Plan,
@@ -131,23 +146,22 @@ pub fn write_block(
     frame: u64,
     plp: usize,
     first: bool,
-    block: &[u8],
+    block: &BlockRef<'_>,
 )
     requires configured { plp < length plan.now.plps }
     requires short { length block.now ≤ MOST_BLOCK_BYTES }
     ensures bits { out.new ≡ written_bits (packet_with plan.now number frame (Body.Block (frame % plan.now.frames) (plp_at plan.now.plps plp).id first (bits_of block.now))) }
     ensures whole { IsWhole out.new }
 {
-    let packet = Packet {
+    let head = BlockHead {
         count: number,
         superframe: superframe_idx(plan, frame),
         stream: 0,
-        body: Body::Block {
-            frame_idx: frame_idx(plan, frame),
-            plp: plp_id(plan, plp),
-            first,
-            bits: BitSlice::whole(block),
-        },
+        frame_idx: frame_idx(plan, frame),
+        plp: plp_id(plan, plp),
+        first,
     };
-    write_packet(out, &packet);
+    begin_block(out, &head, block.len());
+    put_pieces(out, block);
+    finish_packet(out);
 }

@@ -4,13 +4,8 @@ ghost use Rattle.linked_pool.specs.Pool.{chunks_for};
 ghost use Rattle.plp_config.specs.Capacity.{block_bytes};
 ghost use Rattle.frame_tests.specs.Tests.{pool_chunks};
 
-use linked_pool::CHUNK;
+use linked_pool::{CHUNK, CHUNKS_OF_CELLS, FEWEST_CELLS};
 use plp_config::Plan;
-
-// A block fills at most 7 chunks of the pool for each 2,025 of its cells.
-const CHUNKS_OF_CELLS: u32 = 7;
-
-const FEWEST_CELLS: u32 = 2_025;
 
 /// The chunks of the pool that a block of a PLP fills.
 pub fn block_chunks(plan: &Plan, plp: usize) -> u32

@@ -1,9 +1,12 @@
 -- The bytes of blocks and cells, piece by piece.
-use Rattle.std.proofs.Common.{◌≡◌, ℕ, zero, suc, ◌+◌, ◌-◌, ◌<◌, ◌≤◌, List, [], ◌∷◌, ◌++◌, length, take, drop, refl, ap, ap₂, sym, subst, ◌∙◌, ⊎_elim, arith, append_assoc, take-append-drop, replicate, lit≤}
+use Rattle.std.proofs.Common.{◌≡◌, ℕ, zero, suc, ◌+◌, ◌-◌, ◌<◌, ◌≤◌, List, [], ◌∷◌, ◌++◌, length, take, drop, refl, ap, ap₂, sym, subst, ◌∙◌, ⊎_elim, arith, append_assoc, length-append, take-append-drop, replicate, lit≤}
 use Rattle.std.specs.Prelude.{slice_set, slice_index_or}
 use Rattle.std.specs.List.{flat_map}
+use Rattle.std.proofs.Math.Seq.{take-add}
+use Rattle.std.proofs.lemmas.Slice.{between-put_mid}
+use borrow.Rule.Slice.PartMut.{put_mid}
 use Rattle.std.proofs.lemmas.Bool.{cases_eq}
-use Rattle.std.proofs.lemmas.List.{drop_more, drop-set, get_or-drop, get_or-set_same, get_or-set_other, drop-drop, drop_all}
+use Rattle.std.proofs.lemmas.List.{drop_more, drop-set, get_or-drop, get_or-set_same, get_or-set_other, drop-drop, drop_all, length-drop, length-take-le}
 use Rattle.plp_config.specs.declared.config.Config.{Config}
 use Rattle.scheduler.specs.Shape.{FrameShape}
 use Rattle.record_writer.specs.Laws.{EmptyIsShort, AppendedIsShort}
@@ -105,3 +108,37 @@ taken_all piece rest next more at size e f =
     taken piece rest at size
     ∙ ap (λ (l : List ℕ). take size (drop at piece) ++ (l ++ rest)) (drop_all (at + size) piece e)
     ∙ ap (λ (l : List ℕ). take size (drop at piece) ++ l) f
+
+-- the same, if words of the rest stand straight behind them in a place that has the bytes from then on
+pub taken_through : (piece rest mid next more before after : List ℕ) (at a b : ℕ) → length piece ≤ at + a → take a before ≡ take a (drop at piece) → take a after ≡ take a before
+    → rest ≡ take b (drop a after) ++ mid → mid ≡ next ++ more → drop at piece ++ rest ≡ take (a + b) after ++ (drop 0 next ++ more)
+taken_through piece rest mid next more before after at a b e front same filled built =
+    let first : take a (drop at piece) ≡ take a after = sym (same ∙ front) in
+    taken_all piece rest (take b (drop a after)) mid at a e filled
+    ∙ ap₂ (λ (l m : List ℕ). l ++ (take b (drop a after) ++ m)) first built
+    ∙ sym (append_assoc (take a after) (take b (drop a after)) (next ++ more))
+    ∙ ap (λ (l : List ℕ). l ++ (next ++ more)) (sym (take-add a b after))
+
+-- what a part of a place has after a write to it
+pub part_written : (from size : ℕ) (place bytes : List ℕ) → length bytes ≡ length (take size (drop from place)) → from + size ≤ length place → length bytes ≡ size
+part_written from size place bytes e inside =
+    let a : length (drop from place) ≡ length place - from = length-drop from place in
+    e ∙ length-take-le size (drop from place) (omega (arith, a, inside))
+
+pub length-put_mid : (from size : ℕ) (place bytes : List ℕ) → length bytes ≡ size → from + size ≤ length place → length (put_mid from size place bytes) ≡ length place
+length-put_mid from size place bytes e inside =
+    let front : length (take from place) ≡ from = length-take-le from place (omega (arith, inside)) in
+    let a : length (drop from place) ≡ length place - from = length-drop from place in
+    let b : length (drop size (drop from place)) ≡ length (drop from place) - size = length-drop size (drop from place) in
+    let c : length (take from place ++ (bytes ++ drop size (drop from place))) ≡ length (take from place) + length (bytes ++ drop size (drop from place)) = length-append (take from place) _ in
+    let d : length (bytes ++ drop size (drop from place)) ≡ length bytes + length (drop size (drop from place)) = length-append bytes _ in
+    omega (arith, front, a, b, c, d, e, inside)
+
+-- what stands behind both pieces that were given stays
+pub stays_behind : (old mid new : List ℕ) (a b : ℕ) → drop a mid ≡ drop a old → drop (a + b) new ≡ drop (a + b) mid → drop (a + b) new ≡ drop (a + b) old
+stays_behind old mid new a b first second = second ∙ sym (drop-drop b a mid) ∙ ap (drop b) first ∙ drop-drop b a old
+
+pub part_read : (from size k : ℕ) (place bytes : List ℕ) → k ≡ size → length bytes ≡ k → from + k ≤ length place → bytes ≡ take size (drop from (put_mid from k place bytes))
+part_read from size k place bytes same e inside =
+    let whole : from + size - from ≡ size = omega arith in
+    sym (ap (λ (n : ℕ). take n (drop from (put_mid from k place bytes))) (sym whole) ∙ between-put_mid from k place bytes (from + size) (omega (arith, inside)) (omega (arith, e, same)))

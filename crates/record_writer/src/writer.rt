@@ -9,20 +9,24 @@ ghost use Rattle.scheduler.specs.Shape.{FrameShape};
 ghost use Rattle.record_writer.specs.Steps.{step_bytes, HasMap, HasLists, IsStep};
 ghost use Rattle.cell_words.specs.Words.{words};
 ghost use Rattle.record_writer.specs.RecordBytes.{piece_len, list_at, front_of, AreShort, sent_bytes, lists_bytes};
-ghost use Rattle.record_writer.specs.declared.step.Step.TheVariants.{Blocks, Done};
+ghost use Rattle.record_writer.specs.declared.step.Step.TheVariants.{Blocks, Cells, Done};
 
 use crate::piece::Piece;
 use crate::signalling::{Signalling, put_front, put_muted};
 use crate::step::Step;
 use bit_slice::{BitSlice, OutOfMemory};
 use byteorder::{BigEndian, ByteOrder};
+use cell_words::fill_words;
 use linked_pool::Pool;
 use plp_config::{Moment, Plan};
 use scheduler::Shape;
 use std::alloc::Global;
 
-// The cells of a piece: it has room for their words.
-const PIECE_CELLS: u32 = 2048;
+// The cells of a piece. They are few, since words for which the caller has room go there at once.
+const PIECE_CELLS: u32 = 16;
+
+// The bytes of a cell's word.
+const WORD: usize = 4;
 
 // How many cells of those left go into a piece.
 fn fitting(left: u32) -> u32
@@ -146,6 +150,34 @@ fn build(plan: &Plan, shape: &Shape, pool: &mut Pool, step: Step, out: &mut Piec
     }
 }
 
+// Writes the words of the cells that come next straight to a place, as many as have room behind it, and answers how many bytes these are.
+fn fill_cells(plan: &Plan, shape: &Shape, step: &mut Step, out: &mut [u8], from: usize) -> usize
+    requires from { from ≤ length out.old }
+    requires cells { (address : ℕ) → step.old ≡ Cells address → (address ≤ plan.now.cells) × HasMap plan.now shape.now }
+    ensures most { from + result ≤ length out.old }
+    ensures bytes { (lists : List (List (List ℕ))) → step_bytes plan.now shape.now lists step.old ≡ take result (drop from out.new) ++ step_bytes plan.now shape.now lists step.new }
+    ensures stays { (length out.new ≡ length out.old) × (drop (from + result) out.new ≡ drop (from + result) out.old) }
+    ensures front { take from out.new ≡ take from out.old }
+    ensures step { (lists : List (List (List ℕ))) → IsStep plan.now shape.now lists step.old → IsStep plan.now shape.now lists step.new }
+    ensures last { step.old ≡ Done → (step.new ≡ Done) × (result ≡ 0) }
+{
+    let Step::Cells(address) = *step else {
+        return 0;
+    };
+    let left = plan.config().cells - address;
+    let count = ((out.len() - from) / WORD).min(left as usize);
+    let size = WORD * count;
+    fill_words(
+        plan,
+        shape,
+        address,
+        count as u32,
+        &mut out[from..from + size],
+    );
+    *step = Step::Cells(address + count as u32);
+    size
+}
+
 // Copies bytes from a place on.
 fn copy_from(piece: &Piece, at: usize, out: &mut [u8]) -> usize
     requires { at ≤ length piece.now }
@@ -247,7 +279,8 @@ impl Writer {
         self.step = Step::Done;
     }
 
-    /// Gives the next bytes of the record, at most what is left of the piece in hand, and takes blocks from the pool as it goes.
+    /// Gives the next bytes of the record: what is left of the piece in hand, and behind it as many words of cells as there is room for. It
+    /// takes blocks from the pool as it goes.
     pub fn take(&mut self, plan: &Plan, shape: &Shape, pool: &mut Pool, out: &mut [u8]) -> usize
         requires { IsReady self.old plan.now shape.now pool.old.lists }
         ensures last { IsLast self.old → IsLast self.new × (pool.new ≡ pool.old) }
@@ -265,9 +298,10 @@ impl Writer {
             self.at += size;
             return size;
         }
+        let filled = fill_cells(plan, shape, &mut self.step, out, size);
         self.step = build(plan, shape, pool, self.step, &mut self.piece);
         self.at = 0;
-        size
+        size + filled
     }
 
     /// Whether all bytes were given.

@@ -1,6 +1,7 @@
 use Rattle.std.proofs.Common.{◌≡◌, ◌+◌, ◌%◌, ◌∷◌, ℕ, List, length, refl, ap, sym, subst, arith}
 use Rattle.terms.specs.Bits.{bytes_of}
 use Rattle.t2mi_packet.specs.declared.packet.Body.{Body}
+use Rattle.t2mi_stream.specs.PiperStandsFor.{PiperStandsFor, is_finished}
 use Rattle.gateway_core.specs.Carried.{Carries}
 use Rattle.gateway_core.specs.Flowing.{rest_of}
 use Rattle.gateway_core.specs.Left.{left, Layout}
@@ -21,9 +22,9 @@ returns-clause-feeds c =
     let number : c.build.new.self.number ≡ old.number = ap (λ (l : Layout). l.number) c.if-not-build.ensures.layout in
     record {
       flows = λ all given h.
-          let was : Carries o.piper (rest_of o) o.number p old.number (b.body ∷ next) all given = subst (λ (l : List Body). Carries o.piper (rest_of o) o.number p old.number l all given) b.was h in
-          subst (λ (n : ℕ). Carries c.begin.new.self (bytes_of c.build.new.out) ((o.number + 1) % 256) p n next all given) (sym number)
-          (carries_build o.piper c.begin.new.self (rest_of o) (bytes_of c.build.new.out) c.build.new.out o.number p old.number b.body next all given c.requires.«open» c.requires.fed c.begin.ensures.stands b.built refl was);
+          let was : Carries (PiperStandsFor o.piper) (is_finished o.piper) (rest_of o) o.number p old.number (b.body ∷ next) all given = subst (λ (l : List Body). Carries (PiperStandsFor o.piper) (is_finished o.piper) (rest_of o) o.number p old.number l all given) b.was h in
+          subst (λ (n : ℕ). Carries (PiperStandsFor c.begin.new.self) (is_finished c.begin.new.self) (bytes_of c.build.new.out) ((o.number + 1) % 256) p n next all given) (sym number)
+          (carries_build (PiperStandsFor o.piper) (PiperStandsFor c.begin.new.self) _ _ (rest_of o) (bytes_of c.build.new.out) c.build.new.out o.number p old.number b.body next all given c.requires.«open» c.requires.fed c.begin.ensures.stands b.built refl was);
       bound = omega (arith, whole_room c.build.new.out b.whole, ap length b.was, c.begin.ensures.waiting);
       early = c.if-not-build.ensures.early;
       layout = c.if-not-build.ensures.layout;

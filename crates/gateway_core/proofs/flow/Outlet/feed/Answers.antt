@@ -2,7 +2,7 @@ use Rattle.std.proofs.Common.{◌≡◌, ◌-◌, ◌∙◌, ◌++◌, ◌∷◌
 use Rattle.std.proofs.lemmas.List.{drop-drop}
 use Rattle.terms.specs.Bits.{bytes_of}
 use Rattle.t2mi_stream.specs.Events.{PiperEvent, Piped}
-use Rattle.t2mi_stream.specs.PiperStandsFor.{PiperStandsFor}
+use Rattle.t2mi_stream.specs.PiperStandsFor.{PiperStandsFor, is_finished}
 use Rattle.gateway_core.specs.Carried.{Carries}
 use Rattle.gateway_core.proofs.CarriedLemmas.{carries_feed}
 use Rattle.gateway_core.proofs.FlowLemmas.{rest_from}
@@ -14,5 +14,5 @@ returns-clause-flows c = λ config n left all given h.
     let bytes = c.as_bytes.result.now in
     let rest : take (length bytes - o.at) (drop o.at bytes) ≡ drop o.at (bytes_of o.packet) = rest_from bytes o.at ∙ ap (drop o.at) c.as_bytes.ensures in
     let stands = subst (λ (l : List ℕ). (pid : ℕ) (events : List PiperEvent) → PiperStandsFor o.piper pid events → PiperStandsFor c.feed.new.self pid (events ++ Piped (take c.feed.result l) ∷ [])) rest c.feed.ensures.stands in
-    subst (λ (l : List ℕ). Carries c.feed.new.self l o.number config n left all given) (drop-drop c.feed.result o.at (bytes_of o.packet))
-    (carries_feed o.piper c.feed.new.self (drop o.at (bytes_of o.packet)) c.feed.result o.number config n left all given c.requires stands h)
+    subst (λ (l : List ℕ). Carries (PiperStandsFor c.feed.new.self) (is_finished c.feed.new.self) l o.number config n left all given) (drop-drop c.feed.result o.at (bytes_of o.packet))
+    (carries_feed (PiperStandsFor o.piper) (PiperStandsFor c.feed.new.self) _ _ (drop o.at (bytes_of o.packet)) c.feed.result o.number config n left all given c.requires.going stands h)

@@ -1,6 +1,6 @@
-use Rattle.std.proofs.Common.{◌≡◌, ◌<◌, false, length}
-use Rattle.t2mi_stream.specs.PiperStandsFor.{waiting_of, is_finished}
-use Rattle.gateway_core.specs.Flowing.{Feeds, rest_of}
+use Rattle.std.proofs.Common.{◌≡◌, false, length}
+use Rattle.t2mi_stream.specs.PiperStandsFor.{is_finished}
+use Rattle.gateway_core.specs.Flowing.{Feeds}
 use Rattle.gateway_core.specs.Left.{left}
 use Rattle.gateway_core.proofs.flow.Outlet.refill.Given as goal
 
@@ -8,7 +8,6 @@ abbrev pub invariant-loop-self : goal.invariant-loop-self
 invariant-loop-self l = record {
   is_open : is_finished l.self.piper ≡ false;
   feeds : Feeds l.plan l.signalling l.fn.self l.self l.fn.frame l.frame;
-  full : 0 < length (rest_of l.self) → waiting_of l.self.piper ≡ 184;
 }
 
 abbrev pub decreases-loop-self : goal.decreases-loop-self
