@@ -13,6 +13,7 @@ use Rattle.plp_config.specs.declared.config.Config.{Config}
 use Rattle.plp_config.specs.declared.moment.Moment.{Moment}
 use Rattle.plp_config.specs.declared.moment.TheConstants.{MOST_FRAMES}
 use Rattle.linked_pool.specs.Pool.{chunks_for}
+use Rattle.linked_pool.specs.declared.chunk.TheConstants.{CHUNKS_OF_CELLS, FEWEST_CELLS}
 use Rattle.scheduler.specs.Shape.{FrameShape}
 use Rattle.l1_signal.specs.Fields.{Row, Reading, values}
 use Rattle.l1_signal.specs.L1Configurable.{conf_first_rows, conf_more_rows, conf_plp_rows, conf_back_rows, conf_read, info_size}
@@ -43,16 +44,9 @@ unless holds cause = if holds then None else Some cause
 abbrev pub begins_superframe : Config → ℕ → Bool
 begins_superframe c n = n % c.frames == 0
 
--- a block fills at most so many chunks of the pool for each so many of its cells
-abbrev pub chunks_of_cells : ℕ
-chunks_of_cells = 7
-
-abbrev pub fewest_cells : ℕ
-fewest_cells = 2025
-
 -- the chunks of the pool, and those that the blocks fill that have the length of their PLP
 abbrev pub pool_chunks : Config → ℕ
-pool_chunks c = chunks_of_cells * c.cells / fewest_cells
+pool_chunks c = CHUNKS_OF_CELLS * c.cells / FEWEST_CELLS
 
 abbrev pub pool_need : Config → List Packet → ℕ
 pool_need c packets = sum_by (λ plp. length (right_blocks c plp packets) * chunks_for (block_bytes c plp)) (places c)

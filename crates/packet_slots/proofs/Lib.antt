@@ -14,5 +14,5 @@ mod WindowLemmas
 mod TimeLemmas
 mod BothLemmas
 mod FieldLemmas
-mod StandsLemmas
+pub mod StandsLemmas
 mod LaterLemmas

@@ -140,7 +140,7 @@ takes r first frame records blocks block released a b old new h t both = record 
   end = t.end ∙ h.end;
 }
 
-length_readback : (r : SlotRule) (first : ℕ) (records : List Record) → length (readback r first records) ≡ due_after r (first + length records) - first_slot r first
+pub length_readback : (r : SlotRule) (first : ℕ) (records : List Record) → length (readback r first records) ≡ due_after r (first + length records) - first_slot r first
 unfolding readback
 length_readback r first records = length-map-range_with_len _ (first_slot r first) (due_after r (first + length records) - first_slot r first)
 

@@ -8,4 +8,4 @@ mod SeenLemmas
 mod RuleLemmas
 mod TakeLemmas
 mod UniqueLemmas
-mod StandsLemmas
+pub mod StandsLemmas

@@ -30,7 +30,7 @@ tell_more c plp n m [] (x ∷ told) view r t e here = absurd t
 tell_more c plp n m (v ∷ views) [] view r t e here = absurd t
 tell_more c plp n m (v ∷ views) (x ∷ told) view r t e here = (t.0, tell_more c plp (n + 1) m views told view r t.1 (omega (arith, e)) here)
 
-same_count : (c : Config) (plp n : ℕ) (views : List RecordView) (told : List Record) → TellAll c plp n views told → length told ≡ length views
+pub same_count : (c : Config) (plp n : ℕ) (views : List RecordView) (told : List Record) → TellAll c plp n views told → length told ≡ length views
 same_count c plp n [] [] t = refl
 same_count c plp n [] (x ∷ told) t = absurd t
 same_count c plp n (v ∷ views) [] t = absurd t
