@@ -1,17 +1,15 @@
 -- Writes, one behind another.
-use Rattle.std.proofs.Common.{◌≡◌, ◌≢◌, ℕ, ◌+◌, Bool, true, false, cond, List, [], ◌++◌, take, drop, slice_index_or, Option, Some, None, refl, ap, sym, subst, ◌∙◌, append_assoc, append-nil, take-add, length, ◌<◌, arith}
+use Rattle.std.proofs.Common.{◌≡◌, ◌≢◌, ℕ, ◌+◌, Bool, List, [], ◌++◌, take, drop, slice_index_or, Option, Some, None, refl, ap, sym, subst, ◌∙◌, append_assoc, append-nil, take-add, length, ◌<◌, arith}
 use Rattle.std.specs.Prelude.{IfSome, IsSome, option_map}
 use Rattle.std.specs.Ordering.{nat_cmp, eq_by_cmp}
-use Rattle.std.specs.Cmp.Lexicographic.{slice_cmp, nat_list_cmp_total}
-use Rattle.std.specs.FinMap.{get, insert, get-insert}
+use Rattle.std.specs.Cmp.Lexicographic.{slice_cmp}
+use Rattle.std.specs.FinMap.{get, insert}
 use Rattle.std.proofs.lemmas.List.{take-append-drop, length-drop}
-use Rattle.std.proofs.lemmas.Map.Text.{is_eq-slice_cmp}
-use Rattle.std.proofs.lemmas.Slice.Eq.{bytes_eq-Decides}
 use Rattle.desk_io.proofs.InputLemmas.{left_kept}
 use Rattle.ports.proofs.WriteLemmas.{get_set, get_other}
-use Rattle.ports.specs.Desk.{Files, Held, State, Keeps, Writes, IsApart, out_name, left_of, written_of, with_bytes, with_empty, bytes_of}
+use Rattle.ports.specs.Desk.{Held, State, Keeps, Writes, IsApart, out_name, written_of, with_bytes, with_empty, bytes_of}
 use Rattle.desk_io.specs.Laws.{CreatesEmpty}
-use Rattle.desk_io.specs.Writing.{Writing, OnlyOut, Appends, AppendsFront, Pushes}
+use Rattle.desk_io.specs.Writing.{OnlyOut, Appends, AppendsFront}
 
 same : List ℕ → List ℕ → Bool
 same a b = eq_by_cmp (slice_cmp nat_cmp) a b
@@ -124,10 +122,3 @@ some_left piece m lt e = let n = ap length e in omega (arith, n, lt, length-drop
 pub front_written : (a b c : State) (out : ℕ) (piece : List ℕ) (m : ℕ) → m < length piece → Appends a b out (take m piece) → Keeps b c → AppendsFront a c out piece
 front_written a b c out piece m lt p k =
     record { front = take m piece; more = drop m piece; some = some_left piece m lt; parts = sym (take-append-drop m piece); appends = appends_kept a b c out (take m piece) p k }
-
--- a piece behind what waits, all of which stays, or was written
-pub pushed_on : (s : State) (was is : Writing) (piece : List ℕ) → is.waiting ≡ was.waiting ++ piece → Pushes s s was is piece
-pushed_on s was is piece e = record { front = []; parts = sym e; appends = appends_none s was.out }
-
-pub pushed_after : (old new : State) (was is : Writing) (piece : List ℕ) → Appends old new was.out was.waiting → is.waiting ≡ piece → Pushes old new was is piece
-pushed_after old new was is piece a e = record { front = was.waiting; parts = ap (λ (xs : List ℕ). was.waiting ++ xs) (sym e); appends = a }

@@ -3,11 +3,6 @@ use Rattle.std.specs.Prelude.{◌≡◌, ◌≢◌, ℕ, List, [], ◌++◌, IsS
 use Rattle.std.specs.FinMap.{get}
 use Rattle.ports.specs.Desk.{State, Held, IsApart, out_name, left_of, written_of}
 
--- the handle of a file, and the bytes that are still to be written
-pub record Writing : Type 0 where
-  pub out : ℕ
-  pub waiting : List ℕ
-
 -- No file but that of this handle is another, and no handle.
 abbrev pub OnlyOut : ℕ → Option Held → Option Held → Type 0
 OnlyOut out None new = new ≡ None
@@ -32,9 +27,3 @@ pub record AppendsFront (old new : State) (out : ℕ) (bytes : List ℕ) : Type 
   pub some : more ≢ []
   pub parts : bytes ≡ front ++ more
   pub appends : Appends old new out front
-
--- A piece went behind what waited, of which a front may have been written.
-pub record Pushes (old new : State) (was is : Writing) (piece : List ℕ) : Type 0 where
-  pub front : List ℕ
-  pub parts : was.waiting ++ piece ≡ front ++ is.waiting
-  pub appends : Appends old new was.out front

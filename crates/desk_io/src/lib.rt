@@ -1,4 +1,4 @@
-//! Files read and written through a desk, each by way of one buffer.
+//! Files read and written through a desk.
 #![tactic(auto)]
 
 mod ahead;
@@ -8,11 +8,11 @@ mod line;
 mod page;
 #[cfg(test)]
 mod tests;
-mod writer;
+mod writing;
 
 pub use ahead::{MOST_BYTES, ReadAhead, ReadStop};
 pub use input::{BUFFER, Input};
 pub use laws::{appends_law, creates_law};
 pub use line::{Line, ROOM};
 pub use page::{PAGE, Page};
-pub use writer::ByteWriter;
+pub use writing::write_all;

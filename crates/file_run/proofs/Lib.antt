@@ -1,3 +1,4 @@
+pub mod BufferLemmas
 pub mod CopyLemmas
 pub mod DrainLemmas
 pub mod EventLemmas

@@ -1,5 +1,5 @@
 -- Runs over one input.
-use Rattle.std.proofs.Common.{◌≡◌, ℕ, ◌<◌, Bool, true, List, [], ◌∷◌, ◌++◌, length, ap, sym, subst, ◌∙◌, arith, append-nil}
+use Rattle.std.proofs.Common.{◌≡◌, ℕ, Bool, true, List, [], ◌∷◌, ◌++◌, length, ap, sym, subst, ◌∙◌, arith, append-nil}
 use Rattle.std.specs.Prelude.{slice_index}
 use Rattle.terms.proofs.RangeLemmas.{one_listed}
 use Rattle.ports.specs.Desk.{State, bytes_of}

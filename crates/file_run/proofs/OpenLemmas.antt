@@ -11,7 +11,6 @@ use Rattle.ports.specs.Desk.{State, Held, Files, SameCounts, Keeps, Opens, Creat
 use Rattle.desk_io.specs.Faults.{ReadsFail, WritesFail}
 use Rattle.desk_io.specs.Laws.{CreatesEmpty}
 use Rattle.desk_io.specs.Reading.{Reading, given_of, rest_of}
-use Rattle.desk_io.specs.Writing.{Writing}
 use Rattle.file_run.specs.FileRun.{AreApart, file_at, AreStarts, AreNamed, OpensInputs, FailsToCreateOutput, SameFiles, OtherFiles}
 use Rattle.file_run.specs.Running.{Start, reading_from, no_reading, reading_at, places_of, HoldsOut, Reached, IsRead, Runs, HoldsIns, AreOpened}
 
@@ -188,28 +187,28 @@ creating_failed old mid new out ins readings f fault a = (
 )
 
 -- The output was created.
-created_out : CreatesEmpty → (b : Start) (mid new : State) (h : Held) (out : ℕ) (w : Writing) → Creates mid new b.out out → w.out ≡ out → HoldsIns b.desk mid h b.ins → HoldsOut b h new w.out []
-created_out law b mid new h out w c is t =
+created_out : CreatesEmpty → (b : Start) (mid new : State) (h : Held) (out : ℕ) → Creates mid new b.out out → HoldsIns b.desk mid h b.ins → HoldsOut b h new out []
+created_out law b mid new h out c t =
     let k = law mid new b.out out t.is c t.held in
     record {
       is = k.0;
       held = k.1;
       others = λ name differ. k.2.others name differ ∙ ap (λ (f : Files). get f name) t.files;
       names = λ input lt. ap (λ (l : List (List ℕ)). slice_index_or l (length b.desk.opened + input) []) k.2.names ∙ t.names input lt;
-      named = ap (λ (n : ℕ). out_name k.0 n) is ∙ of_some new.held k.0 (λ h. out_name h out ≡ b.out) k.1 c.named;
+      named = of_some new.held k.0 (λ h. out_name h out ≡ b.out) k.1 c.named;
       there = k.2.there;
     }
 
-begins : CreatesEmpty → (b : Start) (mid new : State) (readings : List Reading) (out : ℕ) (w : Writing) → Creates mid new b.out out → w.out ≡ out → AreOpened b.desk mid b.ins readings → Reached b new readings w.out []
-begins law b mid new readings out w c is a = record {
+begins : CreatesEmpty → (b : Start) (mid new : State) (readings : List Reading) (out : ℕ) → Creates mid new b.out out → AreOpened b.desk mid b.ins readings → Reached b new readings out []
+begins law b mid new readings out c a = record {
   opened = c.opened ∙ a.opened;
   all = a.all;
   handles = λ input lt. ap (λ (r : Reading). r.handle) (a.begin input lt);
   created = c.created ∙ ap (λ (n : ℕ). n + 1) a.created;
-  out_is = is ∙ c.number ∙ a.created;
+  out_is = c.number ∙ a.created;
   said = c.said ∙ a.said;
   untold = λ untold. c.held ∙ ap (option_map (with_empty b.out)) (a.untold untold);
-  tells = λ h held. created_out law b mid new h out w c is (a.tells h held);
+  tells = λ h held. created_out law b mid new h out c (a.tells h held);
 }
 
 -- each file is whole before it is read
@@ -233,11 +232,11 @@ first_read b mid new h readings out input apart c a held lt =
     }
 
 -- A run begins.
-pub runs_first : CreatesEmpty → (b : Start) (mid new : State) (readings : List Reading) (out : ℕ) (w : Writing) (reach : ℕ → ℕ) → AreApart b.out b.ins → AreOpened b.desk mid b.ins readings → Creates mid new b.out out → SameCounts mid new
-    → w.out ≡ out → Runs b new readings w.out reach []
-runs_first law b mid new readings out w reach apart a c calm is = record {
+pub runs_first : CreatesEmpty → (b : Start) (mid new : State) (readings : List Reading) (out : ℕ) (reach : ℕ → ℕ) → AreApart b.out b.ins → AreOpened b.desk mid b.ins readings → Creates mid new b.out out → SameCounts mid new
+    → Runs b new readings out reach []
+runs_first law b mid new readings out reach apart a c calm = record {
   apart = apart;
-  reached = begins law b mid new readings out w c is a;
+  reached = begins law b mid new readings out c a;
   counts = calm ∙ a.counts;
   short = λ input lt. let n = ap given_of (a.begin input lt) in omega (arith, n);
   taken = λ input lt. ap (λ (r : Reading). r.taken) (a.begin input lt);

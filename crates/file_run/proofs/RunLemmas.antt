@@ -220,14 +220,13 @@ relates_on b h old new readings out reach events late front r o a told =
           (later.fed input) (later.ended input) (rel.reads input lt);
     }
 
-pub runs_drained : {A : Type 0} (Becomes : A → List Event → A → Type 0) (m n : A) (b : Start) (old new : State) (readings : List Reading) (out place : ℕ) (reach later : ℕ → ℕ) (events : List Event)
-    → Runs b old readings out reach events → place ≡ out → SameCounts old new → ((input : ℕ) → reach input ≤ later input) → (d : Drains Becomes m n old new out) → Runs b new readings place later (events ++ d.late)
-runs_drained Becomes m n b old new readings out place reach later events r same calm rises d =
+pub runs_drained : {A : Type 0} (Becomes : A → List Event → A → Type 0) (m n : A) (b : Start) (old new : State) (readings : List Reading) (out : ℕ) (reach later : ℕ → ℕ) (events : List Event)
+    → Runs b old readings out reach events → SameCounts old new → ((input : ℕ) → reach input ≤ later input) → (d : Drains Becomes m n old new out) → Runs b new readings out later (events ++ d.late)
+runs_drained Becomes m n b old new readings out reach later events r calm rises d =
     let more = gave_more events d.late d.only in
     record {
       apart = r.apart;
-      reached = subst (λ (o : ℕ). Reached b new readings o (gave (events ++ d.late))) (sym same)
-          (subst (λ (l : List ℕ). Reached b new readings out l) (sym more.gave) (write_on b old new readings out (gave events) (gave d.late) r.reached d.wrote));
+      reached = subst (λ (l : List ℕ). Reached b new readings out l) (sym more.gave) (write_on b old new readings out (gave events) (gave d.late) r.reached d.wrote);
       counts = calm ∙ r.counts;
       short = r.short;
       taken = λ input lt. r.taken input lt ∙ ap length (sym (more.fed input));

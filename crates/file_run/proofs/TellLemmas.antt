@@ -7,7 +7,7 @@ use Rattle.ports.specs.Desk.{State, Keeps, Says, Opens, left_of, bytes_of}
 use Rattle.desk_io.specs.Reading.{Reading, given_of, rest_of, ReadsOn, TakesNone, most_bytes}
 use Rattle.file_run.specs.Events.{Event, Gave, fed, has_ended, gave}
 use Rattle.file_run.specs.FileRun.{IsFed}
-use Rattle.file_run.specs.Running.{IsTaken, Feeds, reading_from}
+use Rattle.file_run.specs.Running.{IsTaken, Feeds, Gathers, reading_from}
 use Rattle.file_run.specs.Telling.{StartsWith, Tells, Reaches}
 use Rattle.file_run.specs.Steps.{FallsShort}
 use Rattle.file_run.specs.declared.machine.Step.{Step}
@@ -15,7 +15,6 @@ use Rattle.file_run.specs.declared.machine.Step.TheVariants.{Read, Give}
 use Rattle.std.proofs.lemmas.List.{length_push}
 use Rattle.terms.proofs.OptionLemmas.{append_twice}
 use Rattle.file_run.specs.TellingOn.{Telling, GivesWay}
-use Rattle.file_run.proofs.DrainLemmas.{Gives}
 use Rattle.file_run.proofs.EventLemmas.{gave_piece}
 use Rattle.file_run.proofs.FedLemmas.{read_here, fed_here, ended_here, gives_none}
 use Rattle.file_run.proofs.OpenLemmas.{some_is, of_some}
@@ -31,27 +30,27 @@ pub rest_kept : (old new : State) (r : Reading) → new.held ≡ old.held → ne
 rest_kept old new r held opened = rw (held, opened) refl
 
 -- a piece went onto the page, and the machine gave then or nothing was said
-grown : {A : Type 0} (Becomes : A → List Event → A → Type 0) (next : A → Step) (begin old new : A) (start was is : State) (name : List ℕ) (r : Reading) (waiting piece : List ℕ) → Gives Becomes old new piece → Keeps was is
-    → (t : Telling (Becomes begin) next start was name old r waiting) → (t.early ≡ []) ⊎ (next t.mid ≡ Give) → Telling (Becomes begin) next start is name new r (waiting ++ piece)
-grown Becomes next begin old new start was is name r waiting piece gives keeps t going =
-    let more = gave_piece piece t.events in
+grown : {A : Type 0} (Becomes : A → List Event → A → Type 0) (next : A → Step) (begin old new : A) (start now : State) (name : List ℕ) (r : Reading) (waiting left : List ℕ) → Gathers Becomes old new waiting left
+    → (t : Telling (Becomes begin) next start now name old r waiting) → (t.early ≡ []) ⊎ (next t.mid ≡ Give) → Telling (Becomes begin) next start now name new r left
+grown Becomes next begin old new start now name r waiting left g t going =
+    let more = gave_piece g.piece t.events in
     record {
-      events = t.events ++ Gave piece ∷ [];
-      came = gives begin t.events t.came;
+      events = t.events ++ Gave g.piece ∷ [];
+      came = g.becomes begin t.events t.came;
       early = t.early;
       mid = t.mid;
       met = t.met;
-      parts = more.gave ∙ ap (λ (l : List ℕ). l ++ piece) t.parts ∙ append_assoc (gave t.early) waiting piece;
+      parts = more.gave ∙ ap (λ (l : List ℕ). l ++ g.piece) t.parts ∙ append_assoc (gave t.early) waiting g.piece ∙ ap (λ (l : List ℕ). gave t.early ++ l) (sym g.behind);
       going = inr going;
-      said = keeps.said ∙ t.said;
+      said = t.said;
       handle = t.handle;
-      opened = keeps.opened ∙ t.opened;
-      created = keeps.created ∙ t.created;
-      held = keeps.held ∙ t.held;
+      opened = t.opened;
+      created = t.created;
+      held = t.held;
       present = t.present;
       taken = t.taken ∙ ap length (sym (more.fed 0));
       ended = t.ended ∙ sym (more.ended 0);
-      reads = λ h told. read_same _ _ _ _ _ _ _ (rest_kept was is r keeps.held keeps.opened) (more.fed 0) (more.ended 0) (t.reads h told);
+      reads = λ h told. read_same _ _ _ _ _ _ _ refl (more.fed 0) (more.ended 0) (t.reads h told);
       first = t.first;
     }
 
@@ -81,13 +80,11 @@ still_going : {A : Type 0} (next : A → Step) (mid : A) (early : List Event) (x
 still_going next mid early x xs (inl none) = absurd (let e : x ∷ xs ≡ [] = none in cc)
 still_going next mid early x xs (inr going) = going
 
-pub page_grown : {A : Type 0} (Becomes : A → List Event → A → Type 0) (next : A → Step) (begin old new : A) (start was is : State) (name : List ℕ) (r : Reading) (waiting piece : List ℕ) → Gives Becomes old new piece → Keeps was is
-    → next old ≡ Give → Telling (Becomes begin) next start was name old r waiting → Telling (Becomes begin) next start is name new r (waiting ++ piece)
+pub page_grown : {A : Type 0} (Becomes : A → List Event → A → Type 0) (next : A → Step) (begin old new : A) (start now : State) (name : List ℕ) (r : Reading) (waiting left : List ℕ) → Gathers Becomes old new waiting left
+    → next old ≡ Give → Telling (Becomes begin) next start now name old r waiting → Telling (Becomes begin) next start now name new r left
 unfolding caught_up
-page_grown Becomes next begin old new start was is name r [] piece gives keeps giving t =
-    grown Becomes next begin old new start was is name r [] piece gives keeps (caught_up (Becomes begin) next old start was name r t) (inr giving)
-page_grown Becomes next begin old new start was is name r (x ∷ xs) piece gives keeps giving t =
-    grown Becomes next begin old new start was is name r (x ∷ xs) piece gives keeps t (still_going next t.mid t.early x xs t.going)
+page_grown Becomes next begin old new start now name r [] left g giving t = grown Becomes next begin old new start now name r [] left g (caught_up (Becomes begin) next old start now name r t) (inr giving)
+page_grown Becomes next begin old new start now name r (x ∷ xs) left g giving t = grown Becomes next begin old new start now name r (x ∷ xs) left g t (still_going next t.mid t.early x xs t.going)
 
 -- All that waited was said.
 unfoldable pub all_said : {A : Type 0} (Came : List Event → A → Type 0) (next : A → Step) (machine : A) (start was is : State) (name : List ℕ) (r : Reading) (waiting : List ℕ) → Says was is waiting
@@ -135,16 +132,14 @@ telling_kept Came next machine start was is name r page keeps t = record {
   reads = λ h told. read_same _ _ _ _ _ _ _ (rest_kept was is r keeps.held keeps.opened) refl refl (t.reads h told);
 }
 
-none_kept : (s : State) → Keeps s s
-none_kept s = record { held = refl; said = refl; opened = refl; created = refl }
-
-pub gathered : {A : Type 0} (Becomes : A → List Event → A → Type 0) (next : A → Step) (begin old new : A) (start was is : State) (name : List ℕ) (r : Reading) (waiting left piece : List ℕ) → Gives Becomes old new piece
-    → GivesWay was is waiting left piece → next old ≡ Give → Telling (Becomes begin) next start was name old r waiting → Telling (Becomes begin) next start is name new r left
-gathered Becomes next begin old new start was is name r waiting left piece gives (inl kept) giving t =
-    subst (λ (l : List ℕ). Telling (Becomes begin) next start is name new r l) (sym kept.1) (page_grown Becomes next begin old new start was is name r waiting piece gives kept.0 giving t)
-gathered Becomes next begin old new start was is name r waiting left piece gives (inr said) giving t =
-    subst (λ (l : List ℕ). Telling (Becomes begin) next start is name new r l) (sym said.1)
-    (page_grown Becomes next begin old new start is is name r [] piece gives (none_kept is) giving (all_said (Becomes begin) next old start was is name r waiting said.0 t))
+-- All that waited, or nothing, was said.
+pub room_made : {A : Type 0} (Came : List Event → A → Type 0) (next : A → Step) (machine : A) (start was is : State) (name : List ℕ) (r : Reading) (waiting left : List ℕ) → GivesWay was is waiting left
+    → Telling Came next start was name machine r waiting → Telling Came next start is name machine r left
+unfolding all_said telling_kept
+room_made Came next machine start was is name r waiting left (inl kept) t =
+    subst (λ (l : List ℕ). Telling Came next start is name machine r l) (sym kept.1) (telling_kept Came next machine start was is name r waiting kept.0 t)
+room_made Came next machine start was is name r waiting left (inr said) t =
+    subst (λ (l : List ℕ). Telling Came next start is name machine r l) (sym said.1) (all_said Came next machine start was is name r waiting said.0 t)
 
 -- The machine was fed.
 pub telling_fed : {A : Type 0} (Becomes : A → List Event → A → Type 0) (next : A → Step) (begin old new : A) (start was is : State) (name : List ℕ) (r s : Reading) (input : ℕ) (page : List ℕ) → input ≡ 0 → ReadsOn was is r s → Feeds Becomes old new was is r s input

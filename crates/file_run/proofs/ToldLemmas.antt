@@ -1,6 +1,6 @@
 -- How a run ends that says what its machine gives.
-use Rattle.std.proofs.Common.{◌≡◌, ◌≢◌, ℕ, ◌-◌, ◌<◌, ◌≤◌, List, [], length, refl, ap, sym, subst, ◌∙◌, inl, inr, arith, Some, None, Ok, Err}
-use Rattle.std.specs.Prelude.{◌⊎◌, Result, IfErr, OnOk}
+use Rattle.std.proofs.Common.{◌≡◌, ◌≢◌, ℕ, ◌-◌, ◌≤◌, List, [], length, refl, ap, sym, subst, ◌∙◌, inl, inr, arith, Ok, Err}
+use Rattle.std.specs.Prelude.{Result, IfErr, OnOk}
 use Rattle.ports.specs.declared.counts.Counts.{Counts}
 use Rattle.ports.specs.Counts.{Rose}
 use Rattle.ports.specs.Desk.{State, SameCounts, Keeps}
@@ -8,7 +8,7 @@ use Rattle.desk_io.specs.Faults.{ReadsFail, WritesFail}
 use Rattle.desk_io.specs.Reading.{Reading, given_of, most_bytes}
 use Rattle.file_run.specs.Events.{Event, fed}
 use Rattle.file_run.specs.Steps.{FallsShort}
-use Rattle.file_run.specs.Telling.{Reaches, Tells, TellsAll, TellsTooMuch, TellsUntilFault, ReadsFailFirst, StopsTelling}
+use Rattle.file_run.specs.Telling.{Reaches, Tells, TellsAll, TellsTooMuch, ReadsFailFirst, StopsTelling}
 use Rattle.file_run.specs.TellingOn.{Telling, Finishes, Breaks, TellsLast}
 use Rattle.file_run.specs.declared.machine.Step.{Step}
 use Rattle.file_run.specs.declared.stop.RunFault.{RunFault}

@@ -6,7 +6,7 @@ use Rattle.ports.specs.Desk.{State, Held, SameCounts, Creates, left_of, out_name
 use Rattle.desk_io.specs.Reading.{Reading, given_of, rest_of, most_bytes}
 use Rattle.desk_io.specs.declared.ahead.ReadStop.{ReadStop}
 use Rattle.desk_io.specs.declared.ahead.ReadStop.TheVariants as stop
-use Rattle.desk_io.specs.Writing.{Writing, Appends, AppendsFront}
+use Rattle.desk_io.specs.Writing.{Appends, AppendsFront}
 use Rattle.file_run.specs.Events.{Event, Fed, Ended, Gave, fed, has_ended, gave, OnlyGave}
 use Rattle.desk_io.specs.Faults.{ReadsFail, WritesFail}
 use Rattle.file_run.specs.FileRun.{AreApart, file_at, OpensInputs, FailsToCreateOutput}
@@ -79,6 +79,18 @@ pub record Runs (b : Start) (now : State) (readings : List Reading) (out : ℕ) 
   pub within : (input : ℕ) → input < length readings → given_of (reading_at readings input) ≤ reach input
   pub relates : (h : Held) → b.desk.held ≡ Some h → Relates b h now readings events
 
+-- A machine gave a piece, which went behind the bytes that waited.
+pub record Gathers {A : Type 0} (Becomes : A → List Event → A → Type 0) (old new : A) (was is : List ℕ) : Type 0 where
+  pub piece : List ℕ
+  pub becomes : (start : A) (events : List Event) → Becomes start events old → Becomes start (events ++ Gave piece ∷ []) new
+  pub behind : is ≡ was ++ piece
+
+-- Of the bytes that waited a front was written, and the others wait still.
+pub record AppendsSome (old new : State) (out : ℕ) (was is : List ℕ) : Type 0 where
+  pub front : List ℕ
+  pub parts : was ≡ front ++ is
+  pub appends : Appends old new out front
+
 -- Events went on, of which each gives, and all that was given is written.
 pub record Drains {A : Type 0} (Becomes : A → List Event → A → Type 0) (old new : A) (was is : State) (out : ℕ) : Type 0 where
   pub late : List Event
@@ -143,13 +155,10 @@ pub record AreOpened (old new : State) (ins : List (List ℕ)) (readings : List 
   pub untold : old.held ≡ None → new.held ≡ None
   pub tells : (h : Held) → old.held ≡ Some h → HoldsIns old new h ins
 
--- An output was created for a writer.
-pub record IsCreated (old new : State) (name : List ℕ) (w : Writing) : Type 0 where
-  pub out : ℕ
+-- The output was created.
+pub record IsCreated (old new : State) (name : List ℕ) (out : ℕ) : Type 0 where
   pub creates : Creates old new name out
   pub counts : SameCounts old new
-  pub out_is : w.out ≡ out
-  pub nothing : w.waiting ≡ []
 
 -- An input could not be opened.
 abbrev pub FailsToOpen : State → State → List (List ℕ) → RunFault → Type 0
@@ -164,11 +173,10 @@ FailsToCreateFor old new out (ReadFault input) = ⊥
 FailsToCreateFor old new out WriteFault = (start : State) (ins : List (List ℕ)) (readings : List Reading) → AreOpened start old ins readings → WritesFail start new × FailsToCreateOutput start new out ins
 
 -- There is a run so far, and the machine is where it came to.
-pub record IsRunning {A : Type 0} (Becomes : List Event → A → Type 0) (reach : A → ℕ → ℕ) (b : Start) (now : State) (machine : A) (readings : List Reading) (w : Writing) : Type 0 where
+pub record IsRunning {A : Type 0} (Becomes : List Event → A → Type 0) (reach : A → ℕ → ℕ) (b : Start) (now : State) (machine : A) (readings : List Reading) (out : ℕ) : Type 0 where
   pub events : List Event
   pub came : Becomes events machine
-  pub nothing : w.waiting ≡ []
-  pub runs : Runs b now readings w.out (reach machine) events
+  pub runs : Runs b now readings out (reach machine) events
 
 -- why a run stops where an input could not be read on
 abbrev pub read_fault : ℕ → ReadStop → RunFault

@@ -1,5 +1,5 @@
 -- How far a run has come that says what its machine gives. No public clause cites this module.
-use Rattle.std.specs.Prelude.{◌≡◌, ◌≢◌, ◌⊎◌, ℕ, ◌<◌, List, [], ◌∷◌, ◌++◌, length, IsSome, IfSome, Some, option_map, Result, Ok, Err}
+use Rattle.std.specs.Prelude.{◌≡◌, ◌≢◌, ◌⊎◌, ℕ, ◌<◌, List, [], ◌∷◌, ◌++◌, length, IsSome, IfSome, Some, option_map, Result, Err}
 use Rattle.std.specs.FinMap.{get}
 use Rattle.ports.specs.Desk.{State, Held, SameCounts, Keeps, Says, bytes_of, with_name}
 use Rattle.desk_io.specs.Faults.{ReadsFail, WritesFail}
@@ -13,9 +13,9 @@ use Rattle.file_run.specs.declared.stop.RunFault.{RunFault}
 use Rattle.file_run.specs.declared.stop.RunFault.TheVariants.{TooLong, ReadFault, WriteFault}
 use Rattle.file_run.specs.Steps.{FallsShort}
 
--- The piece went behind what waited, of which all or nothing was said.
-abbrev pub GivesWay : State → State → List ℕ → List ℕ → List ℕ → Type 0
-GivesWay old new waiting left piece = (Keeps old new × (left ≡ waiting ++ piece)) ⊎ (Says old new waiting × (left ≡ piece))
+-- All that waited, or nothing, was said.
+abbrev pub GivesWay : State → State → List ℕ → List ℕ → Type 0
+GivesWay old new waiting left = (Keeps old new × (left ≡ waiting)) ⊎ (Says old new waiting × (left ≡ []))
 
 -- A file was opened and read by a reader, its bytes were fed to a machine, and of what it gave these bytes were not said.
 pub record Telling {A : Type 0} (Came : List Event → A → Type 0) (next : A → Step) (start now : State) (name : List ℕ) (machine : A) (r : Reading) (unsaid : List ℕ) : Type 0 where

@@ -6,6 +6,7 @@ mod feeding;
 mod laws;
 mod machine;
 mod opening;
+mod out_buffer;
 mod running;
 mod stop;
 mod telling;
@@ -14,6 +15,7 @@ mod tests;
 
 pub use laws::events_law;
 pub use machine::{Machine, PIECE, Step};
+pub use out_buffer::OutBuffer;
 pub use running::run;
 pub use stop::RunFault;
 pub use telling::tell;

@@ -4,7 +4,7 @@ ghost use Rattle.file_run.specs.Events.{Event, Fed, Ended, Gave};
 ghost use Rattle.file_run.specs.Steps.{Suffices, FallsShort, HasRoom, IsWanted};
 ghost use Rattle.file_run.specs.declared.machine.Step.TheVariants.{Give};
 
-/// The most bytes that a machine gives at once.
+/// There is room for so many bytes whenever a machine gives.
 pub const PIECE: usize = 4_096;
 
 /// What a machine does next.
@@ -63,10 +63,11 @@ pub trait Machine {
         ensures becomes { (start : Self) (events : List Event) → Becomes start events self.old → Becomes start (events ++ Ended input bytes.now ∷ []) self.new }
         ensures reach { (other : ℕ) → reach self.old other ≤ reach self.new other };
 
-    /// Gives the next bytes: how many.
-    fn give(&mut self, out: &mut [u8; PIECE]) -> usize
-        requires { next self.old ≡ Give }
-        ensures count { result ≤ PIECE }
+    /// Gives the next bytes, to the front of these: how many.
+    fn give(&mut self, out: &mut [u8]) -> usize
+        requires gives { next self.old ≡ Give }
+        requires room { PIECE ≤ length out.old }
+        ensures count { result ≤ length out.old }
         ensures becomes { (start : Self) (events : List Event) → Becomes start events self.old → Becomes start (events ++ Gave (take result out.new) ∷ []) self.new }
         ensures left { left self.new < left self.old }
         ensures reach { (other : ℕ) → reach self.old other ≤ reach self.new other };

@@ -5,10 +5,11 @@ ghost use Rattle.file_run.specs.Running.{read_fault};
 
 use crate::draining::drain;
 use crate::feeding::feed;
-use crate::machine::{Machine, PIECE, Step};
+use crate::machine::{Machine, Step};
 use crate::opening::{create_output, open_inputs};
+use crate::out_buffer::OutBuffer;
 use crate::stop::RunFault;
-use desk_io::{ByteWriter, ReadAhead, ReadStop, creates_law};
+use desk_io::{ReadAhead, ReadStop, creates_law};
 use ports::{Desk, Word};
 
 // A run stops where an input could not be read on.
@@ -26,7 +27,7 @@ fn fault_of(input: usize, why: ReadStop) -> RunFault
 pub fn run<M: Machine, D: Desk>(
     machine: &mut M,
     readers: &mut [ReadAhead],
-    writer: &mut ByteWriter,
+    buffer: &mut OutBuffer,
     out: &str,
     ins: &[Word],
     desk: &mut D,
@@ -41,9 +42,9 @@ pub fn run<M: Machine, D: Desk>(
 {
     creates_law();
     open_inputs(ins, readers, desk)?;
-    create_output(writer, out, desk)?;
-    let mut piece = [0; PIECE];
-    match drain(machine, &mut piece, writer, desk) {
+    let handle = create_output(out, desk)?;
+    buffer.clear();
+    match drain(machine, buffer, handle, desk) {
         Ok(()) => {}
         Err(_) => return Err(RunFault::WriteFault),
     }
@@ -52,7 +53,7 @@ pub fn run<M: Machine, D: Desk>(
             Ok(()) => {}
             Err(why) => return Err(fault_of(input, why)),
         }
-        match drain(machine, &mut piece, writer, desk) {
+        match drain(machine, buffer, handle, desk) {
             Ok(()) => {}
             Err(_) => return Err(RunFault::WriteFault),
         }

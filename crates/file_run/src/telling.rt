@@ -1,19 +1,22 @@
 // Saying what a machine gives.
-ghost use Rattle.std.specs.Prelude.{◌≡◌, ◌≢◌, ◌≤◌, ◌++◌, ℕ, List, [], length, IfErr, OnOk, OnErr};
+ghost use Rattle.std.specs.Prelude.{◌≡◌, ◌≢◌, ◌≤◌, ◌+◌, ℕ, List, [], length, IfErr, OnOk, OnErr};
 ghost use Rattle.ports.specs.Counts.{MayFailWriting};
 ghost use Rattle.ports.specs.Desk.{State, Keeps, Says};
 ghost use Rattle.desk_io.specs.Reading.{Reading};
 ghost use Rattle.file_run.specs.Telling.{TellsAll, StopsTelling};
 ghost use Rattle.file_run.specs.TellingOn.{Telling, HasBegun, GivesWay, Finishes, Breaks, TellsLast};
+ghost use Rattle.file_run.specs.declared.machine.TheConstants.{PIECE};
+ghost use Rattle.file_run.specs.declared.out_buffer.TheConstants.{PAGE};
 
 use crate::feeding::feed;
-use crate::machine::{Machine, PIECE, Step};
+use crate::machine::{Machine, Step};
+use crate::out_buffer::OutBuffer;
 use crate::stop::RunFault;
-use desk_io::{PAGE, Page, ReadAhead, ReadStop};
+use desk_io::{ReadAhead, ReadStop};
 use ports::{Desk, DeskFault};
 
 // Says what waits on the page.
-fn say_page<D: Desk>(desk: &mut D, page: &mut Page) -> Result<(), DeskFault>
+fn say_page<D: Desk>(desk: &mut D, page: &mut OutBuffer) -> Result<(), DeskFault>
     ensures ok { OnOk result (Says (D.state desk.old) (D.state desk.new) page.old) }
     ensures err { OnErr result (Keeps (D.state desk.old) (D.state desk.new)) }
     ensures page { page.new ≡ [] }
@@ -28,28 +31,24 @@ fn say_page<D: Desk>(desk: &mut D, page: &mut Page) -> Result<(), DeskFault>
     said
 }
 
-// Puts a piece onto the page. If there is no room for it, what waits there is said first.
-fn push_piece<D: Desk>(desk: &mut D, page: &mut Page, piece: &[u8]) -> Result<(), DeskFault>
-    requires few { length piece.now ≤ PAGE }
-    ensures ok { OnOk result (GivesWay (D.state desk.old) (D.state desk.new) page.old page.new piece.now) }
+// Makes room for a piece: if there is none, all that waits is said.
+fn make_room<D: Desk>(desk: &mut D, page: &mut OutBuffer) -> Result<(), DeskFault>
+    ensures ok { OnOk result (GivesWay (D.state desk.old) (D.state desk.new) page.old page.new) }
+    ensures room { OnOk result (length page.new + PIECE ≤ PAGE) }
     ensures err { OnErr result (Keeps (D.state desk.old) (D.state desk.new)) }
-    ensures some { OnErr result (page.old ++ piece.now ≢ []) }
+    ensures some { OnErr result (page.old ≢ []) }
     ensures counts { MayFailWriting (D.state desk.old).counts (D.state desk.new).counts result }
 {
-    if page.len() + piece.len() <= PAGE {
-        page.push(piece);
+    if page.has_room() {
         return Ok(());
     }
-    say_page(desk, page)?;
-    page.push(piece);
-    Ok(())
+    say_page(desk, page)
 }
 
 // Gathers all that a machine gives before it wants bytes.
 fn gather<M: Machine, D: Desk>(
     machine: &mut M,
-    piece: &mut [u8; PIECE],
-    page: &mut Page,
+    page: &mut OutBuffer,
     desk: &mut D,
 ) -> Result<(), DeskFault>
     ensures ok { OnOk result ((begin : M) (start : State) (name : List ℕ) (r : Reading) → Telling (M.Becomes begin) M.next start (D.state desk.old) name machine.old r page.old
@@ -60,8 +59,8 @@ fn gather<M: Machine, D: Desk>(
     ensures counts { MayFailWriting (D.state desk.old).counts (D.state desk.new).counts result }
 {
     while let Step::Give = machine.step() {
-        let count = machine.give(piece);
-        push_piece(desk, page, &piece[..count])?;
+        make_room(desk, page)?;
+        page.take_from(machine);
     }
     Ok(())
 }
@@ -70,7 +69,7 @@ fn gather<M: Machine, D: Desk>(
 fn tell_on<M: Machine, D: Desk>(
     machine: &mut M,
     reader: &mut ReadAhead,
-    page: &mut Page,
+    page: &mut OutBuffer,
     desk: &mut D,
 ) -> Result<(), RunFault>
     requires begun { HasBegun M.Becomes M.next M.inputs (D.state desk.old) machine.old reader.old page.old }
@@ -81,8 +80,7 @@ fn tell_on<M: Machine, D: Desk>(
         → (unsaid : List ℕ) × Telling (M.Becomes begin) M.next start (D.state desk.new) name machine.new reader.new unsaid × (why ≢ RunFault.WriteFault → unsaid ≡ page.new) × (why ≡ RunFault.WriteFault → unsaid ≢ [])) }
     ensures cause { IfErr result (Breaks M.next (D.state desk.old) (D.state desk.new) machine.new reader.new) }
 {
-    let mut piece = [0; PIECE];
-    match gather(machine, &mut piece, page, desk) {
+    match gather(machine, page, desk) {
         Ok(()) => {}
         Err(_) => return Err(RunFault::WriteFault),
     }
@@ -92,7 +90,7 @@ fn tell_on<M: Machine, D: Desk>(
             Err(ReadStop::TooLong) => return Err(RunFault::TooLong { input: 0 }),
             Err(ReadStop::Fault) => return Err(RunFault::ReadFault { input: 0 }),
         }
-        match gather(machine, &mut piece, page, desk) {
+        match gather(machine, page, desk) {
             Ok(()) => {}
             Err(_) => return Err(RunFault::WriteFault),
         }
@@ -103,7 +101,7 @@ fn tell_on<M: Machine, D: Desk>(
 // Says what is left on the page. The first fault is the answer.
 fn tell_last<D: Desk>(
     desk: &mut D,
-    page: &mut Page,
+    page: &mut OutBuffer,
     told: Result<(), RunFault>,
 ) -> Result<(), RunFault>
     ensures { TellsLast (D.state desk.old) (D.state desk.new) page.old told result }
@@ -123,7 +121,7 @@ fn tell_last<D: Desk>(
 pub fn tell<M: Machine, D: Desk>(
     machine: &mut M,
     reader: &mut ReadAhead,
-    page: &mut Page,
+    page: &mut OutBuffer,
     name: &str,
     desk: &mut D,
 ) -> Result<(), RunFault>

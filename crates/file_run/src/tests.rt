@@ -3,8 +3,8 @@ ghost use Rattle.std.specs.Prelude.{◌≡◌, ◌<◌, ◌≤◌, [], length, O
 ghost use Rattle.file_run.specs.Copy.{IsCopied};
 ghost use Rattle.file_run.specs.FileRun.{AreApart};
 
-use crate::{Machine, PIECE, RunFault, Step, run};
-use desk_io::{ByteWriter, ReadAhead};
+use crate::{Machine, OutBuffer, PIECE, RunFault, Step, run};
+use desk_io::ReadAhead;
 use ports::{Desk, MemoryDesk, Word};
 use std::alloc::Global;
 use std::process::Abort;
@@ -62,7 +62,7 @@ impl Machine for CopyMachine {
         self.ended = true;
     }
 
-    fn give(&mut self, out: &mut [u8; PIECE]) -> usize {
+    fn give(&mut self, out: &mut [u8]) -> usize {
         let count = self.len;
         out[..count].copy_from_slice(&self.bytes[..count]);
         self.len = 0;
@@ -73,7 +73,7 @@ impl Machine for CopyMachine {
 // Copies a file.
 fn copy<D: Desk>(
     readers: &mut [ReadAhead],
-    writer: &mut ByteWriter,
+    buffer: &mut OutBuffer,
     out: &str,
     ins: &[Word],
     desk: &mut D,
@@ -89,7 +89,7 @@ fn copy<D: Desk>(
         taken: 0,
         ended: false,
     };
-    run(&mut machine, readers, writer, out, ins, desk)
+    run(&mut machine, readers, buffer, out, ins, desk)
 }
 
 // How a copy ends from a file that may be absent, and the output. Reads and writes move at most so many bytes.
@@ -106,9 +106,9 @@ fn copy_over(
     }
     desk.cap(most);
     let mut readers = [ReadAhead::open(rt.alloc())?];
-    let mut writer = ByteWriter::open(rt.alloc())?;
+    let mut buffer = OutBuffer::open(rt.alloc())?;
     let ins = [Word::new(rt.alloc(), "in")?];
-    let result = copy(&mut readers, &mut writer, "out", &ins, &mut desk);
+    let result = copy(&mut readers, &mut buffer, "out", &ins, &mut desk);
     let out = match desk.file("out") {
         Some(bytes) => Some(bytes.to_vec(rt.alloc())?),
         None => None,

@@ -1,6 +1,6 @@
 -- A frame begins, or none comes.
 use Rattle.std.proofs.Common.{◌≡◌, ℕ, ◌+◌, ◌-◌, ◌*◌, ◌<◌, Bool, true, false, List, [], ◌∷◌, ◌++◌, length, refl, ap, sym, subst, ◌∙◌, inl, inr, arith, length-append}
-use Rattle.std.specs.Prelude.{◌↔◌, ◌⊎◌}
+use Rattle.std.specs.Prelude.{◌↔◌}
 use Rattle.ts_packet.specs.TsFile.{joined}
 use Rattle.std.proofs.lemmas.Bool.{cases_eq}
 use Rattle.plp_config.specs.RunLength.{frame_count}

@@ -1,5 +1,5 @@
 -- Units are given.
-use Rattle.std.proofs.Common.{◌≡◌, ◌≢◌, ℕ, ◌+◌, ◌-◌, true, false, List, [], ◌∷◌, ◌++◌, length, refl, ap, sym, subst, ◌∙◌, inl, inr, arith, append-nil}
+use Rattle.std.proofs.Common.{◌≡◌, ◌≢◌, ℕ, ◌+◌, ◌-◌, ◌<◌, true, false, List, [], ◌∷◌, ◌++◌, length, refl, ap, sym, subst, ◌∙◌, inl, inr, arith, append-nil}
 use Rattle.std.specs.Prelude.{◌⊎◌, slice_index}
 use Rattle.plp_config.specs.declared.config.Config.{Config}
 use Rattle.ts_packet.specs.declared.sizes.TheConstants.{SYNC}
@@ -8,15 +8,15 @@ use Rattle.file_run.specs.Events as run
 use Rattle.file_run.specs.Laws.{EventsTell}
 use Rattle.gateway_core.specs.Events.{Event, Gave, begun, finished}
 use Rattle.gateway_core.specs.Packets.{front_packets}
-use Rattle.gateway_core.specs.StandsFor.{GatewayStandsFor}
+use Rattle.gateway_core.specs.StandsFor.{GatewayStandsFor, bytes_left}
 use Rattle.gateway_core.specs.Told.{told}
 use Rattle.gateway_core.specs.declared.gateway.Gateway.{Gateway}
 use Rattle.gateway_core.proofs.InputsLemmas.{nothing_told}
 use Rattle.gateway_core.proofs.HoldsLemmas.{back_same, given_with, begun_same, finished_same}
 use Rattle.gateway_run.specs.Holds.{AreComplete, AreAll, HasGiven, NoTails, IsIn, StandsIn, Holds}
-use Rattle.gateway_run.specs.Ready.{IsGiving, IsLooked, IsReady, IsBehindAs}
+use Rattle.gateway_run.specs.Ready.{IsGiving, IsLooked, IsLookedAs, IsReady, IsBehindAs, left_of}
 use Rattle.gateway_run.specs.declared.place.Phase.{Phase}
-use Rattle.gateway_run.specs.declared.place.Phase.TheVariants.{Rests, Done, Stopped}
+use Rattle.gateway_run.specs.declared.place.Phase.TheVariants.{Wants, Begins, Gives, Rests, Done, Stopped}
 use Rattle.gateway_run.specs.declared.place.Place.{Place}
 use Rattle.gateway_run.specs.declared.stop.Ran.{Ran}
 use Rattle.gateway_run.proofs.EventLemmas.{still_last, finished_is}
@@ -144,3 +144,29 @@ gave_none tell c done g next place after ran r i b still caught none h =
           (λ events s. sym (finished_is g c events s) ∙ r.giving gives) h
       | inr rests ↦ units_over tell c done g next place after ran rests (subst (λ (p : Phase). IsBehindAs p next (length c.plps) after) rests b) none h
     ]
+
+-- what is left to give is less behind a unit
+pub unit_left : (phase : Phase) (g next : Gateway) (frames : ℕ) → IsGiving phase → bytes_left next < bytes_left g → left_of next phase frames < left_of g phase frames
+unit_left Wants g next frames i less = absurd i
+unit_left Begins g next frames i less = absurd i
+unit_left Gives g next frames i less = omega (arith, less)
+unit_left Rests g next frames i less = omega (arith, less)
+unit_left Done g next frames i less = absurd i
+unit_left (Stopped why) g next frames i less = absurd i
+
+looked_left : (phase : Phase) (g next : Gateway) (frames from count plp : ℕ) → bytes_left next ≡ bytes_left g → IsLookedAs next from count plp phase → left_of next phase frames < left_of g Gives frames
+looked_left Wants g next frames from count plp kept l = omega (arith, kept)
+looked_left Begins g next frames from count plp kept l = omega (arith, kept)
+looked_left Gives g next frames from count plp kept l = absurd l
+looked_left Rests g next frames from count plp kept l = absurd l
+looked_left Done g next frames from count plp kept l = absurd l
+looked_left (Stopped why) g next frames from count plp kept l = absurd l
+
+-- and behind the last one
+pub behind_left : (phase : Phase) (g next : Gateway) (frames count : ℕ) (after : Place) → IsGiving phase → bytes_left next ≡ bytes_left g → IsBehindAs phase next count after → left_of next after.phase frames < left_of g phase frames
+behind_left Wants g next frames count after i kept b = absurd i
+behind_left Begins g next frames count after i kept b = absurd i
+behind_left Gives g next frames count after i kept b = looked_left after.phase g next frames 0 count after.plp kept b
+behind_left Rests g next frames count after i kept b = let less : left_of next Done frames < left_of g Rests frames = omega arith in subst (λ (p : Phase). left_of next p frames < left_of g Rests frames) (sym b) less
+behind_left Done g next frames count after i kept b = absurd i
+behind_left (Stopped why) g next frames count after i kept b = absurd i

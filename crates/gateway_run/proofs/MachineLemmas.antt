@@ -1,11 +1,12 @@
 -- A gateway as a machine between files.
-use Rattle.std.proofs.Common.{◌≡◌, ℕ, ◌*◌, ◌<◌, ◌≤◌, Bool, List, [], ◌++◌, length, refl, ap, sym, subst, ◌∙◌, inl, inr, arith, append-nil}
+use Rattle.std.proofs.Common.{◌≡◌, ◌≢◌, ℕ, ◌*◌, ◌<◌, ◌≤◌, Bool, List, [], ◌++◌, length, refl, ap, sym, subst, ◌∙◌, inl, inr, arith, append-nil}
 use Rattle.plp_config.specs.SlotTime.{slots_by}
 use Rattle.plp_config.specs.declared.config.Config.{Config}
 use Rattle.ts_packet.specs.TsFile.{joined}
 use Rattle.ts_packet.specs.declared.sizes.TheConstants.{SIZE}
 use Rattle.file_run.specs.Events as run
 use Rattle.file_run.specs.Steps.{Suffices, FallsShort, CanBeRead}
+use Rattle.file_run.specs.declared.machine.Step.TheVariants.{Give, End}
 use Rattle.gateway_core.specs.StandsFor.{wants_of}
 use Rattle.gateway_core.specs.declared.gateway.Gateway.{Gateway}
 use Rattle.gateway_run.specs.AsMachine.{step_of, frame_read}
@@ -102,3 +103,12 @@ pub wanted_as : (inputs : ℕ) (done : List run.Event) (c : Config) (phase : Pha
     → CanBeRead inputs done (λ plp. SIZE * slots_by c plp (frame_read phase frames * c.ticks)) plp least most
 wanted_as inputs done c phase frames plp least most e w =
     subst (λ (f : ℕ). CanBeRead inputs done (λ plp. SIZE * slots_by c plp (f * c.ticks)) plp least most) (sym (ap (λ (p : Phase). frame_read p frames) e)) w
+
+-- Where something is given and no frame begins, units are given.
+pub giving_at : (g : Gateway) (plp : ℕ) (phase : Phase) → step_of g plp phase ≡ Give → phase ≢ Begins → IsGiving phase
+giving_at g plp Wants gives apart = absurd (let e : step_of g plp Wants ≡ Give = gives in cc)
+giving_at g plp Begins gives apart = absurd (apart refl)
+giving_at g plp Gives gives apart = tt
+giving_at g plp Rests gives apart = tt
+giving_at g plp Done gives apart = absurd (let e : End ≡ Give = gives in cc)
+giving_at g plp (Stopped why) gives apart = absurd (let e : End ≡ Give = gives in cc)

@@ -5,7 +5,7 @@ use crate::place::{GatewayStop, Phase, Place};
 use crate::steps::{begin, end_input, give, take_packet};
 use crate::stop::{Ran, RunStop};
 use bit_slice::OutOfMemory;
-use file_run::{Machine, PIECE, Step, events_law};
+use file_run::{Machine, Step, events_law};
 use gateway_core::Gateway;
 use plp_config::{MOST_FRAMES, Plan};
 use std::alloc::Global;
@@ -61,7 +61,7 @@ impl<'p> Machine for GatewayMachine<'p> {
         self.place = end_input(&mut self.gateway, self.plan, self.place, self.ran, bytes);
     }
 
-    fn give(&mut self, out: &mut [u8; PIECE]) -> usize {
+    fn give(&mut self, out: &mut [u8]) -> usize {
         if let Phase::Begins = self.place.phase {
             events_law();
             self.place = begin(&mut self.gateway, self.plan, self.place, &mut self.ran);
@@ -72,7 +72,7 @@ impl<'p> Machine for GatewayMachine<'p> {
             self.plan,
             &mut self.place,
             &mut self.ran,
-            out,
+            out.first_chunk_mut().unwrap(),
         )
     }
 }

@@ -7,8 +7,8 @@ ghost use Rattle.gateway_run.specs.GatewayRun.{RunsAll, Stops};
 use crate::machine::GatewayMachine;
 use crate::stop::{Ran, RunStop};
 use bit_slice::OutOfMemory;
-use desk_io::{ByteWriter, MOST_BYTES, ReadAhead};
-use file_run::{RunFault, events_law};
+use desk_io::{MOST_BYTES, ReadAhead};
+use file_run::{OutBuffer, RunFault, events_law};
 use gateway_core::{ahead_law, front_law, last_law, units_law};
 use plp_config::Plan;
 use ports::{Desk, Word};
@@ -40,7 +40,7 @@ fn stop_of(fault: RunFault) -> RunStop
 fn run_machine<D: Desk>(
     machine: &mut GatewayMachine<'_>,
     readers: &mut [ReadAhead],
-    writer: &mut ByteWriter,
+    buffer: &mut OutBuffer,
     out: &str,
     ins: &[Word],
     desk: &mut D,
@@ -57,7 +57,7 @@ fn run_machine<D: Desk>(
     last_law();
     units_law();
     ahead_law();
-    match file_run::run(machine, readers, writer, out, ins, desk) {
+    match file_run::run(machine, readers, buffer, out, ins, desk) {
         Ok(()) => machine.ending(),
         Err(fault) => Err(stop_of(fault)),
     }
@@ -78,7 +78,7 @@ pub fn run<D: Desk>(
     ensures err { IfErr result (Stops plan.now (D.state desk.old) (D.state desk.new) out.now ins.now) }
 {
     let mut readers = open_readers(alloc, ins.len())?;
-    let mut writer = ByteWriter::open(alloc)?;
+    let mut buffer = OutBuffer::open(alloc)?;
     let mut machine = GatewayMachine::open(alloc, plan)?;
-    run_machine(&mut machine, &mut readers, &mut writer, out, ins, desk)
+    run_machine(&mut machine, &mut readers, &mut buffer, out, ins, desk)
 }

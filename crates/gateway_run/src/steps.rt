@@ -10,7 +10,7 @@ ghost use Rattle.gateway_run.specs.declared.place.Phase.TheVariants.{Wants, Begi
 
 use crate::place::{GatewayStop, Phase, Place};
 use crate::stop::Ran;
-use file_run::{PIECE, events_law};
+use file_run::events_law;
 use gateway_core::{Gateway, front_law, not_yet_last};
 use plp_config::{MOST_FRAMES, Plan};
 use ts_packet::{SIZE, SYNC, TsPacket};
@@ -173,21 +173,20 @@ pub fn give(
     plan: &Plan,
     place: &mut Place,
     ran: &mut Ran,
-    out: &mut [u8; PIECE],
+    unit: &mut [u8; SIZE],
 ) -> usize
     requires ready { IsReady gateway.old plan.now place.old ran.old }
     requires gives { IsGiving place.old.phase }
-    ensures count { result ≤ PIECE }
+    ensures count { result ≤ length unit.new }
+    ensures whole { length unit.new ≡ SIZE }
     ensures ready { IsReady gateway.new plan.now place.new ran.new }
     ensures frames { ran.new.frames ≡ ran.old.frames }
     ensures left { left_of gateway.new place.new.phase ran.new.frames < left_of gateway.old place.old.phase ran.old.frames }
     ensures read { frame_read place.old.phase ran.old.frames ≤ frame_read place.new.phase ran.new.frames }
-    ensures holds { (done : List Event) → Holds plan.now done gateway.old place.old ran.old → Holds plan.now (done ++ Gave (take result out.new) ∷ []) gateway.new place.new ran.new }
+    ensures holds { (done : List Event) → Holds plan.now done gateway.old place.old ran.old → Holds plan.now (done ++ Gave (take result unit.new) ∷ []) gateway.new place.new ran.new }
 {
     events_law();
-    let mut unit = [0; SIZE];
-    if gateway.next_ts(&mut unit) {
-        out[..SIZE].copy_from_slice(&unit);
+    if gateway.next_ts(unit) {
         ran.units += 1;
         return SIZE;
     }

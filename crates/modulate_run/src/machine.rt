@@ -7,7 +7,7 @@ ghost use Rattle.modulator.specs.StandsFor.{next_of, is_waiting, is_finished};
 use crate::stop::{Ran, RunStop};
 use crate::waiting::is_of;
 use bit_slice::OutOfMemory;
-use file_run::{Machine, PIECE, Step, events_law};
+use file_run::{Machine, Step, events_law};
 use frame_groups::Waiting;
 use modulator::{Modulator, due_records_law};
 use plp_config::{MOST_FRAMES, Plan};
@@ -76,7 +76,7 @@ impl<'p> Machine for ModulatorMachine<'p> {
         self.ended = true;
     }
 
-    fn give(&mut self, out: &mut [u8; PIECE]) -> usize {
+    fn give(&mut self, out: &mut [u8]) -> usize {
         events_law();
         due_records_law();
         let record = self.waiting.unwrap();

@@ -7,8 +7,8 @@ ghost use Rattle.modulate_run.specs.ModulateRun.{RunsAll, Stops};
 
 use crate::machine::ModulatorMachine;
 use crate::stop::{Ran, RunStop};
-use desk_io::{ByteWriter, MOST_BYTES, ReadAhead};
-use file_run::{RunFault, events_law};
+use desk_io::{MOST_BYTES, ReadAhead};
+use file_run::{OutBuffer, RunFault, events_law};
 use modulator::due_records_law;
 use plp_config::Plan;
 use ports::{Desk, Word};
@@ -29,7 +29,7 @@ fn stop_of(fault: RunFault) -> RunStop
 fn run_machine<D: Desk>(
     machine: &mut ModulatorMachine<'_>,
     readers: &mut [ReadAhead],
-    writer: &mut ByteWriter,
+    buffer: &mut OutBuffer,
     ins: &[Word],
     out: &str,
     desk: &mut D,
@@ -43,7 +43,7 @@ fn run_machine<D: Desk>(
 {
     events_law();
     due_records_law();
-    match file_run::run(machine, readers, writer, out, ins, desk) {
+    match file_run::run(machine, readers, buffer, out, ins, desk) {
         Ok(()) => machine.ending(),
         Err(fault) => Err(stop_of(fault)),
     }
@@ -64,7 +64,7 @@ pub fn run<D: Desk>(
 {
     let ins = [Word::new(alloc, input)?];
     let mut readers = [ReadAhead::open(alloc)?];
-    let mut writer = ByteWriter::open(alloc)?;
+    let mut buffer = OutBuffer::open(alloc)?;
     let mut machine = ModulatorMachine::open(alloc, plan)?;
-    run_machine(&mut machine, &mut readers, &mut writer, &ins, out, desk)
+    run_machine(&mut machine, &mut readers, &mut buffer, &ins, out, desk)
 }

@@ -1,20 +1,20 @@
 -- A run gives out fewer packets than a number holds.
-use Rattle.std.proofs.Common.{◌≡◌, ℕ, zero, suc, ◌+◌, ◌-◌, ◌*◌, ◌/◌, ◌^◌, ◌<◌, ◌≤◌, List, [], ◌∷◌, length, refl, ap, ◌∙◌, arith}
+use Rattle.std.proofs.Common.{◌≡◌, ℕ, zero, suc, ◌+◌, ◌-◌, ◌*◌, ◌/◌, ◌^◌, ◌<◌, ◌≤◌, List, [], ◌∷◌, length, ap, ◌∙◌, arith}
 use Rattle.std.specs.Int.{div_ceil}
 use Rattle.std.proofs.Math.Nat.{div-zero, div-le_of_le-mul, mul-le-mul, mul-le-mul_left, div-mul-le_self}
 use Rattle.std.proofs.lemmas.Nat.{le-div}
-use Rattle.std.proofs.lemmas.List.FromFn.{length-map-range_with_len}
 use Rattle.plp_config.specs.Laws.{SlotLength, FrameTicks}
 use Rattle.plp_config.specs.Rules.{AllRules}
 use Rattle.plp_config.specs.SlotTime.{num, den, IsSlotLength}
 use Rattle.plp_config.specs.declared.config.Config.{Config}
 use Rattle.plp_config.specs.declared.moment.TheConstants.{MOST_FRAMES}
 use Rattle.site_frame.specs.declared.reading.RecordView.{RecordView}
-use Rattle.packet_slots.specs.Readback.{slot_packet}
-use Rattle.packet_slots.specs.Records.{Record, string_of, first_slot, readback}
+use Rattle.packet_slots.specs.Records.{first_slot}
 use Rattle.packet_slots.specs.Times.{due_after, delay_of}
 use Rattle.packet_slots.specs.declared.rule.SlotRule.{SlotRule}
-use Rattle.plp_receiver.specs.Taken.{TellAll, Readback}
+use Rattle.packet_slots.proofs.StandsLemmas.{length_readback}
+use Rattle.plp_receiver.specs.Taken.{Readback}
+use Rattle.plp_receiver.proofs.StandsLemmas.{same_count}
 
 -- a part of what is less is less
 div_le_div : (a b g : ℕ) → a ≤ b → a / g ≤ b / g
@@ -36,24 +36,13 @@ slot_long law c plp n d rules l is =
     let below = div_le_div (den c plp) (num c) is.0 order in
     omega (arith, below, is.2, is.3)
 
-same_count : (c : Config) (plp n : ℕ) (views : List RecordView) (told : List Record) → TellAll c plp n views told → length told ≡ length views
-same_count c plp n [] [] t = refl
-same_count c plp n [] (x ∷ told) t = absurd t
-same_count c plp n (v ∷ views) [] t = absurd t
-same_count c plp n (v ∷ views) (x ∷ told) t = ap suc (same_count c plp (n + 1) views told t.1)
-
--- one packet for each slot that is due
-readback_count : (r : SlotRule) (first : ℕ) (records : List Record) → length (readback r first records) ≡ due_after r (first + length records) - first_slot r first
-unfolding readback
-readback_count r first records = length-map-range_with_len (slot_packet r (string_of r.up_len first records)) (first_slot r first) (due_after r (first + length records) - first_slot r first)
-
 pub few_packets : SlotLength → FrameTicks → (c : Config) (plp first : ℕ) (views : List RecordView) (packets : List (List ℕ)) → AllRules c → plp < length c.plps → first + length views ≤ MOST_FRAMES → Readback c plp first views packets
     → length packets < 2 ^ 64
 few_packets slot frame c plp first views packets rules inside small b =
     let r : SlotRule = b.rule in
     let frames : ℕ = first + length b.told in
     let told = same_count c plp first views b.told b.tells in
-    let count : length packets ≡ due_after r frames - first_slot r first = ap length b.packets_are ∙ readback_count r first b.told in
+    let count : length packets ≡ due_after r frames - first_slot r first = ap length b.packets_are ∙ length_readback r first b.told in
     let ticks = frame c rules in
     let t = b.rule_is.ticks in
     let short : r.ticks ≤ 2 ^ 22 = omega (arith, t, ticks) in

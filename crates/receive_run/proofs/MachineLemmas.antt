@@ -28,7 +28,7 @@ use Rattle.file_run.specs.declared.machine.Step.TheVariants.{Read, Give, End}
 use Rattle.receive_run.specs.Received.{expected_after, RefusesNext}
 use Rattle.receive_run.specs.AsMachine.{next_of, IsReady, IsSeen, SameTaken, IsRefused, Sees, Begins, IsBegun, Behind, GaveEarly, GavePackets, Given, first_of, Shown, Becomes}
 use Rattle.receive_run.specs.NextStep.{step_of, gives, coming_by, left_by}
-use Rattle.receive_run.specs.Taking.{expected_by, Awaits, SamePlp, Comes, RefusesRecord, GivesPackets}
+use Rattle.receive_run.specs.Taking.{expected_by, Awaits, SamePlp, Comes, RefusesRecord, GivesPacket}
 use Rattle.receive_run.specs.declared.machine.Coming.{Coming}
 use Rattle.receive_run.specs.declared.machine.Coming.TheVariants.{Head, Rest, Packets, Refused, Finished}
 use Rattle.receive_run.specs.declared.machine.ReceiverMachine.{ReceiverMachine}
@@ -423,9 +423,9 @@ early_more c plp first views text bytes e = record {
 }
 
 -- of the packets that wait some were
-gave_more : (c : Config) (plp : ℕ) (old new : Receiver) (first : ℕ) (views : List RecordView) (released count : ℕ) (text bytes : List ℕ) → network_of old ≡ c → plp_of old ≡ plp → GivesPackets old new count bytes → GavePackets c plp old first views released text
-    → GavePackets c plp new first views (released + count) (text ++ bytes)
-gave_more c plp old new first views released count text bytes same_c same_p gives g =
+gave_more : (c : Config) (plp : ℕ) (old new : Receiver) (first : ℕ) (views : List RecordView) (released : ℕ) (text bytes : List ℕ) → network_of old ≡ c → plp_of old ≡ plp → GivesPacket old new bytes → GavePackets c plp old first views released text
+    → GavePackets c plp new first views (released + 1) (text ++ bytes)
+gave_more c plp old new first views released text bytes same_c same_p gives g =
     let p = gives.packets first views released g.packets g.stands
     (subst (λ (e : Config). Readback e (plp_of old) first views g.packets) (sym same_c) (subst (λ (p : ℕ). Readback c p first views g.packets) (sym same_p) g.back)) g.inside in
     let all = p.0 in
@@ -442,14 +442,14 @@ gave_more c plp old new first views released count text bytes same_c same_p give
     }
 
 -- a record came, since something is due
-given_more : (c : Config) (plp : ℕ) (old new : Receiver) (first : ℕ) (views : List RecordView) (released count slots : ℕ) (text bytes : List ℕ) → network_of old ≡ c → plp_of old ≡ plp → 0 < due_of old → GivesPackets old new count bytes
-    → ((packets : List (List ℕ)) → Readback c plp first views packets → length packets < 2 ^ 64) → slots ≡ min (released + count) (2 ^ 64 - 1) → Given c plp old first views released text → Given c plp new first views slots (text ++ bytes)
-given_more c plp old new first [] released count slots text bytes same_c same_p some gives few is g = absurd (let z = g.1 in omega (arith, z, some))
-given_more c plp old new first (v ∷ vs) released count slots text bytes same_c same_p some gives few is g =
-    let more = gave_more c plp old new first (v ∷ vs) released count text bytes same_c same_p gives g in
+given_more : (c : Config) (plp : ℕ) (old new : Receiver) (first : ℕ) (views : List RecordView) (released slots : ℕ) (text bytes : List ℕ) → network_of old ≡ c → plp_of old ≡ plp → 0 < due_of old → GivesPacket old new bytes
+    → ((packets : List (List ℕ)) → Readback c plp first views packets → length packets < 2 ^ 64) → slots ≡ min (released + 1) (2 ^ 64 - 1) → Given c plp old first views released text → Given c plp new first views slots (text ++ bytes)
+given_more c plp old new first [] released slots text bytes same_c same_p some gives few is g = absurd (let z = g.1 in omega (arith, z, some))
+given_more c plp old new first (v ∷ vs) released slots text bytes same_c same_p some gives few is g =
+    let more = gave_more c plp old new first (v ∷ vs) released text bytes same_c same_p gives g in
     let small = few more.packets more.back in
     let within = more.inside in
-    let e : released + count ≡ slots = omega (arith, small, within, is) in
+    let e : released + 1 ≡ slots = omega (arith, small, within, is) in
     subst (λ (k : ℕ). GavePackets c plp new first (v ∷ vs) k (text ++ bytes)) e more
 
 packets_behind : (c : Config) (plp : ℕ) (m : ReceiverMachine) (was : List Event) → m.coming ≡ Packets → (s : Shown c plp m was) → (s.rest ≡ []) × (has_ended 0 was ≡ false)
@@ -463,11 +463,12 @@ packets_come Packets left e = refl
 packets_come (Refused why) left e = absurd (let f : End ≡ Give = e in cc)
 packets_come Finished left e = absurd (let f : End ≡ Give = e in cc)
 
-pub gave_event : EventsTell → (start m n : ReceiverMachine) (events : List Event) (count : ℕ) (bytes : List ℕ) → m.coming ≡ Packets → GivesPackets m.receiver n.receiver count bytes → n.slots ≡ min (m.slots + count) (2 ^ 64 - 1) → n.at ≡ m.at → n.first ≡ m.first → n.count ≡ m.count
+pub gave_event : EventsTell → (start m n : ReceiverMachine) (events : List Event) (bytes packet : List ℕ) → m.coming ≡ Packets → bytes ≡ packet → GivesPacket m.receiver n.receiver packet → n.slots ≡ min (m.slots + 1) (2 ^ 64 - 1) → n.at ≡ m.at → n.first ≡ m.first → n.count ≡ m.count
     → n.coming ≡ coming_by (due_of n.receiver) → n.left ≡ left_by (due_of n.receiver)
     → ((first : ℕ) (views : List RecordView) (packets : List (List ℕ)) → IsOnGrid (network_of m.receiver) first views → Readback (network_of m.receiver) (plp_of m.receiver) first views packets → length packets < 2 ^ 64)
     → Becomes start events m → Becomes start (events ++ Gave bytes ∷ []) n
-gave_event law start m n events count bytes packets gives slots at first number comes left few b =
+gave_event law start m n events bytes packet packets is given slots at first number comes left few b =
+    let gives : GivesPacket m.receiver n.receiver bytes = subst (GivesPacket m.receiver n.receiver) (sym is) given in
     let c : Config = network_of start.receiver in
     let plp : ℕ = plp_of start.receiver in
     let s = b.shown in
@@ -491,7 +492,7 @@ gave_event law start m n events count bytes packets gives slots at first number 
         behind = subst (λ (p : Coming). Behind c (expected_after s.first s.views) p n.bytes.items n.left [] (has_ended 0 (events ++ Gave bytes ∷ []))) (sym comes)
             (subst (λ (e : Bool). Behind c (expected_after s.first s.views) (coming_by (due_of n.receiver)) n.bytes.items n.left [] e) (sym (t.ended 0 ∙ was.1)) (behind_taken c (expected_after s.first s.views) (due_of n.receiver) n.bytes.items n.left left));
         given = subst (λ (l : List ℕ). Given c plp n.receiver s.first s.views n.slots l) (sym t.gave)
-            (given_more c plp m.receiver n.receiver s.first s.views m.slots count n.slots (gave events) bytes b.same.0 b.same.1 (m.some packets) gives small slots s.given);
+            (given_more c plp m.receiver n.receiver s.first s.views m.slots n.slots (gave events) bytes b.same.0 b.same.1 (m.some packets) gives small slots s.given);
         quiet = quiet_taken n.coming (due_of n.receiver) comes;
       };
     }

@@ -42,15 +42,15 @@ pub record TakesRecord (c : Config) (expected : Option ℕ) (bytes : List ℕ) (
 abbrev pub RefusesRecord : Config → Option ℕ → List ℕ → RecordWhy → Type 0
 RefusesRecord c expected bytes why = Refuses bytes why ⊎ IsMisplaced c expected bytes why
 
--- So many packets were given out, and these are their bytes.
-pub record GivesPackets (old new : Receiver) (count : ℕ) (bytes : List ℕ) : Type 0 where
+-- The next packet was given out, and these are its bytes.
+pub record GivesPacket (old new : Receiver) (packet : List ℕ) : Type 0 where
   pub same : SamePlp old new
   pub frame : frame_of new ≡ frame_of old
-  pub due : due_of new + count ≡ due_of old
-  pub stands : (first : ℕ) (views : List RecordView) (released : ℕ) → StandsFor old first views released → StandsFor new first views (released + count)
+  pub due : due_of new + 1 ≡ due_of old
+  pub stands : (first : ℕ) (views : List RecordView) (released : ℕ) → StandsFor old first views released → StandsFor new first views (released + 1)
   pub packets : (first : ℕ) (views : List RecordView) (released : ℕ) (packets : List (List ℕ)) → StandsFor old first views released
       → Readback (network_of old) (plp_of old) first views packets → released ≤ length packets
-      → (released + count ≤ length packets) × (concat (take (released + count) packets) ≡ concat (take released packets) ++ bytes)
+      → (released + 1 ≤ length packets) × (concat (take (released + 1) packets) ≡ concat (take released packets) ++ packet)
 
 -- There is a list of packets that the records give back, and of these so many are due.
 abbrev pub TellsDue : Receiver → Type 0

@@ -8,10 +8,10 @@ ghost use Rattle.receive_run.specs.declared.machine.TheConstants.{GREATEST};
 ghost use Rattle.receive_run.specs.declared.machine.Coming.TheVariants.{Head, Rest, Packets};
 ghost use Rattle.receive_run.specs.NextStep.{coming_by, left_by};
 
-use crate::record::{give_packets, take_record};
+use crate::record::{give_packet, take_record};
 use crate::stop::{Ran, RunStop};
 use bit_slice::OutOfMemory;
-use file_run::{Machine, PIECE, Step, events_law};
+use file_run::{Machine, Step, events_law};
 use plp_config::{Plan, length_law};
 use plp_receiver::{Receiver, readback_law};
 use site_frame::{GREATEST_REST, HEAD, RecordWhy, rest_len};
@@ -298,15 +298,15 @@ impl<'p> Machine for ReceiverMachine<'p> {
         }
     }
 
-    fn give(&mut self, out: &mut [u8; PIECE]) -> usize {
+    fn give(&mut self, out: &mut [u8]) -> usize {
         events_law();
         length_law();
         self.plan.obeys_rules();
-        let count = give_packets(&mut self.receiver, out);
-        self.slots = self.slots.saturating_add(count as u64);
+        give_packet(&mut self.receiver, out.first_chunk_mut().unwrap());
+        self.slots = self.slots.saturating_add(1);
         let (coming, left) = coming_by(self.receiver.due());
         self.coming = coming;
         self.left = left;
-        SIZE * count
+        SIZE
     }
 }

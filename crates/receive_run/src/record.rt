@@ -1,18 +1,14 @@
 // A record that has come whole, and the packets that are due behind it.
-ghost use Rattle.std.specs.Prelude.{◌≡◌, ◌<◌, ◌≤◌, ◌*◌, ◌+◌, length, take, IfOk, IfErr};
+ghost use Rattle.std.specs.Prelude.{◌≡◌, ◌<◌, ◌+◌, length, IfOk, IfErr};
 ghost use Rattle.site_frame.specs.Placing.{IsPlaced};
 ghost use Rattle.site_frame.specs.Whole.{moment_of as moment_in};
 ghost use Rattle.plp_receiver.specs.StandsFor.{frame_of, due_of, network_of};
-ghost use Rattle.receive_run.specs.Taking.{Awaits, SamePlp, Comes, TakesRecord, RefusesRecord, GivesPackets};
+ghost use Rattle.receive_run.specs.Taking.{Awaits, SamePlp, Comes, TakesRecord, RefusesRecord, GivesPacket};
 
-use file_run::PIECE;
 use plp_config::{Moment, Plan};
 use plp_receiver::Receiver;
 use site_frame::{RecordView, RecordWhy, place_record, read_record};
 use ts_packet::SIZE;
-
-// The most packets that a piece has room for.
-const MOST_PACKETS: usize = PIECE / SIZE;
 
 // When the frame of a record leaves.
 fn moment_of(view: &RecordView<'_>) -> Moment
@@ -61,18 +57,11 @@ pub fn take_record(
     Ok(frame)
 }
 
-/// Gives out as many packets that are due as a piece has room for: how many.
-pub fn give_packets(receiver: &mut Receiver<'_>, out: &mut [u8; PIECE]) -> usize
-    ensures count { SIZE * result ≤ PIECE }
-    ensures some { 0 < due_of receiver.old → 0 < result }
-    ensures gives { GivesPackets receiver.old receiver.new result (take (SIZE * result) out.new) }
+/// Gives out the next packet.
+pub fn give_packet(receiver: &mut Receiver<'_>, packet: &mut [u8; SIZE])
+    requires { 0 < due_of receiver.old }
+    ensures gives { GivesPacket receiver.old receiver.new packet.new }
+    ensures whole { length packet.new ≡ SIZE }
 {
-    let mut packet = [0; SIZE];
-    for count in 0..MOST_PACKETS {
-        if !receiver.release(&mut packet) {
-            return count;
-        }
-        out[SIZE * count..SIZE * (count + 1)].copy_from_slice(&packet);
-    }
-    MOST_PACKETS
+    receiver.release(packet);
 }

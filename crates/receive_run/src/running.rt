@@ -8,8 +8,8 @@ ghost use Rattle.receive_run.specs.ReceiveRun.{RunsAll, Stops};
 
 use crate::machine::ReceiverMachine;
 use crate::stop::{Ran, RunStop};
-use desk_io::{ByteWriter, MOST_BYTES, ReadAhead};
-use file_run::{RunFault, events_law};
+use desk_io::{MOST_BYTES, ReadAhead};
+use file_run::{OutBuffer, RunFault, events_law};
 use plp_config::Plan;
 use ports::{Desk, Word};
 use site_frame::{place_law, reading_law, refusal_law};
@@ -30,7 +30,7 @@ fn stop_of(fault: RunFault) -> RunStop
 fn run_machine<D: Desk>(
     machine: &mut ReceiverMachine<'_>,
     readers: &mut [ReadAhead],
-    writer: &mut ByteWriter,
+    buffer: &mut OutBuffer,
     ins: &[Word],
     out: &str,
     desk: &mut D,
@@ -47,7 +47,7 @@ fn run_machine<D: Desk>(
     reading_law();
     refusal_law();
     place_law();
-    match file_run::run(machine, readers, writer, out, ins, desk) {
+    match file_run::run(machine, readers, buffer, out, ins, desk) {
         Ok(()) => machine.ending(),
         Err(fault) => Err(stop_of(fault)),
     }
@@ -72,7 +72,7 @@ pub fn run<D: Desk>(
     plan.obeys_rules();
     let ins = [Word::new(alloc, input)?];
     let mut readers = [ReadAhead::open(alloc)?];
-    let mut writer = ByteWriter::open(alloc)?;
+    let mut buffer = OutBuffer::open(alloc)?;
     let mut machine = ReceiverMachine::open(alloc, plan, plp)?;
-    run_machine(&mut machine, &mut readers, &mut writer, &ins, out, desk)
+    run_machine(&mut machine, &mut readers, &mut buffer, &ins, out, desk)
 }

@@ -86,9 +86,13 @@ near_most : (m : FrameLines) (count : ℕ) → m.at + count ≡ most_bytes → (
 near_most m count long (inl h) = inl (h.0, within_most m.at head_len count long h.1)
 near_most m count long (inr r) = inr (r.0, (let w = within_most m.at (min m.left BUFFER) count long r.1 in omega (arith, w)))
 
-near_short : (m : FrameLines) (count : ℕ) → (m.coming ≡ Rest → 0 < m.left) → IsWaited m.coming count → Near m count
+near_short : (m : FrameLines) (count : ℕ) → (m.coming ≡ Rest → 0 < m.left) → IsWaited m.coming count → Near m (count + 1)
 near_short m count some (inl h) = inl (h.0, (let k = h.1 in omega (arith, k)))
-near_short m count some (inr r) = inr (r.0, (let k = r.1 in omega (arith, k)))
+near_short m count some (inr r) = inr (r.0, (let k = r.1 in let l = some r.0 in omega (arith, k, l)))
+
+near_less : (m : FrameLines) (count : ℕ) → Near m (count + 1) → Near m count
+near_less m count (inl h) = inl (h.0, (let k = h.1 in omega (arith, k)))
+near_less m count (inr r) = inr (r.0, (let k = r.1 in omega (arith, k)))
 
 -- what waits ends within the record that comes
 ends_within : (m : FrameLines) (events : List Event) (more : List ℕ) (count : ℕ) → Near m count → (s : Shown m events) → EndsWithin (s.rest ++ more) (length s.rest + count)
@@ -109,23 +113,35 @@ wants_more m count (inr r) events s = subst (λ (p : Coming). Given p s.told s.n
 quiet : (m : FrameLines) (events : List Event) (count : ℕ) → m.line ≡ [] → Near m count → (s : Shown m events) → gave events ≡ record_lines 0 (s.told ++ s.next)
 quiet m events count none near s = let g = wants_more m count near events s in told_all s.told s.next m.line (gave events) none g.0 g.1
 
--- all records that were seen of a file were told, and what waits ends within the next one
-all_met : (file : List ℕ) (m : FrameLines) (events : List Event) (place count : ℕ) → m.line ≡ [] → Near m count → (s : Shown m events) → StartsWith file (fed 0 events) (has_ended 0 events) → length (fed 0 events) + count ≡ place → SaysMetRecords file place (gave events)
-all_met file m events place count none near s starts is =
-    let rest = s.rest ++ starts.0 in
+-- how much was read behind the records that were seen
+read_behind : (file : List ℕ) (m : FrameLines) (events : List Event) (place count : ℕ) (s : Shown m events) (starts : StartsWith file (fed 0 events) (has_ended 0 events)) → length (fed 0 events) + count ≡ place
+    → place - bytes_before file (s.rest ++ starts.0) ≡ length s.rest + count
+read_behind file m events place count s starts is =
     let size = ap length starts.1 in
     let sum = length-append (fed 0 events) starts.0 in
     let both = length-append s.rest starts.0 in
     let inside = rest_inside (fed 0 events) s.rest (s.told ++ s.next) s.records in
-    let counted : place - bytes_before file rest ≡ length s.rest + count = omega (arith, size, sum, both, inside, is) in (
-      s.told ++ s.next,
-      rest,
-      (records_file file (fed 0 events) starts.0 s.rest (s.told ++ s.next) starts.1 s.records, quiet m events count none near s),
-      subst (λ (k : ℕ). EndsWithin rest k) (sym counted) (ends_within m events starts.0 count near s),
-    )
+    omega (arith, size, sum, both, inside, is)
 
-met : (file : List ℕ) (given : ℕ) (text : List ℕ) → SaysMetRecords file given text → MeetsRecords file given
-met file given text s = (s.0, s.1, s.2.0, s.3)
+-- all records that were seen of a file were told, and what waits ends within the next one
+all_met : (file : List ℕ) (m : FrameLines) (events : List Event) (place count : ℕ) → m.line ≡ [] → Near m count → (s : Shown m events) → StartsWith file (fed 0 events) (has_ended 0 events) → length (fed 0 events) + count ≡ place → SaysMetRecords file place (gave events)
+all_met file m events place count none near s starts is = (
+  s.told ++ s.next,
+  s.rest ++ starts.0,
+  (records_file file (fed 0 events) starts.0 s.rest (s.told ++ s.next) starts.1 s.records, quiet m events count none near s),
+  subst (λ (k : ℕ). EndsWithin (s.rest ++ starts.0) k) (sym (read_behind file m events place count s starts is)) (ends_within m events starts.0 count near s),
+)
+
+-- the next one lacks some bytes
+part_met : (file : List ℕ) (m : FrameLines) (events : List Event) (place count : ℕ) → Near m (count + 1) → (s : Shown m events) → StartsWith file (fed 0 events) (has_ended 0 events) → length (fed 0 events) + count ≡ place → MeetsRecords file place
+part_met file m events place count near s starts is =
+    let behind = read_behind file m events place count s starts is in
+    let more : place - bytes_before file (s.rest ++ starts.0) + 1 ≡ length s.rest + (count + 1) = omega (arith, behind) in (
+      s.told ++ s.next,
+      s.rest ++ starts.0,
+      records_file file (fed 0 events) starts.0 s.rest (s.told ++ s.next) starts.1 s.records,
+      subst (λ (k : ℕ). EndsWithin (s.rest ++ starts.0) k) (sym more) (ends_within m events starts.0 (count + 1) near s),
+    )
 
 all_first : (file : List ℕ) (m : FrameLines) (events : List Event) (count : ℕ) → m.line ≡ [] → Near m count → (s : Shown m events) → StartsWith file (fed 0 events) (has_ended 0 events) → AreFirstRecords file (gave events)
 all_first file m events count none near s starts =
@@ -341,9 +357,9 @@ frames_stop one never start now old new name stop.ReadFault some s = elim s.1 [
         reads = inr (x.opened, t.short);
         grew = x.said;
         lines = if_both old.held _ _ _ (λ held f first. (
-          met _ _ _ (all_met (bytes_of held.files name) now x.events t.place (t.place - length (fed 0 x.events)) r.0 (near_short now _ some r.2) x.came.shown (starts_fed _ _ _ _ f) (let ahead = f.ahead in omega (arith, ahead))),
+          part_met (bytes_of held.files name) now x.events t.place (t.place - length (fed 0 x.events)) (near_short now _ some r.2) x.came.shown (starts_fed _ _ _ _ f) (let ahead = f.ahead in omega (arith, ahead)),
           first,
-        )) x.inputs (some_said start now old new name t.place _ t.unsaid x (λ none. (r.0, near_short now _ some r.2)));
+        )) x.inputs (some_said start now old new name t.place _ t.unsaid x (λ none. (r.0, near_less now _ (near_short now _ some r.2))));
         counts = more.0;
       }
 ]

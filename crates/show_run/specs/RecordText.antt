@@ -1,5 +1,5 @@
 -- The text of a file of records.
-use Rattle.std.specs.Prelude.{◌≡◌, ℕ, ◌-◌, ◌≤◌, List, [], ◌++◌, length, Result, Ok, Err}
+use Rattle.std.specs.Prelude.{◌≡◌, ℕ, ◌+◌, ◌-◌, ◌≤◌, List, [], ◌++◌, length, Result, Ok, Err}
 use Rattle.desk_io.specs.Reading.{most_bytes}
 use Rattle.site_frame.specs.declared.fault.RecordWhy.{RecordWhy}
 use Rattle.site_frame.specs.declared.reading.RecordView.{RecordView}
@@ -15,11 +15,12 @@ SaysFirst file views rest text = AreRecords file views rest × (text ≡ record_
 abbrev pub AreFirstRecords : List ℕ → List ℕ → Type 0
 AreFirstRecords file text = (views : List RecordView) × (rest : List ℕ) × SaysFirst file views rest text
 
--- Of so many bytes that were read, records were met, and what was read behind them ends within the next one: so no refused one was met.
+-- Of so many bytes that were read, records were met, and of the next one some bytes were not read, since a byte more would end within it
+-- too: so no refused one was met.
 abbrev pub MeetsRecords : List ℕ → ℕ → Type 0
-MeetsRecords file given = (views : List RecordView) × (rest : List ℕ) × AreRecords file views rest × EndsWithin rest (given - bytes_before file rest)
+MeetsRecords file given = (views : List RecordView) × (rest : List ℕ) × AreRecords file views rest × EndsWithin rest (given - bytes_before file rest + 1)
 
--- The same, and the text is the lines of these records.
+-- Records were met, of which the text is the lines, and what was read behind them ends within the next one, at which nobody looked.
 abbrev pub SaysMetRecords : List ℕ → ℕ → List ℕ → Type 0
 SaysMetRecords file given text = (views : List RecordView) × (rest : List ℕ) × SaysFirst file views rest text × EndsWithin rest (given - bytes_before file rest)
 

@@ -1,9 +1,9 @@
 // The line of a number of packets or records, and lines that are given.
 ghost use Rattle.std.specs.Prelude.{◌≡◌, ◌≤◌, [], length, take};
+ghost use Rattle.file_run.specs.declared.machine.TheConstants.{PIECE};
 ghost use Rattle.show_run.specs.SaidLines.{count_line as line_of_count, records_line as line_of_records};
 
 use desk_io::{Line, ROOM};
-use file_run::PIECE;
 
 /// The line of the number of packets.
 pub fn count_line(count: u64) -> Line
@@ -28,9 +28,10 @@ pub fn records_line(count: u64) -> Line
 }
 
 /// Gives the line, which is empty then: how many bytes.
-pub fn give_line(line: &mut Line, out: &mut [u8; PIECE]) -> usize
+pub fn give_line(line: &mut Line, out: &mut [u8]) -> usize
+    requires room { PIECE ≤ length out.old }
     ensures bytes { take result out.new ≡ line.old }
-    ensures count { result ≤ PIECE }
+    ensures count { result ≤ length out.old }
     ensures given { line.new ≡ [] }
 {
     let count = line.len();

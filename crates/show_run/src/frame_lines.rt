@@ -7,7 +7,7 @@ use crate::count_line::{give_line, records_line};
 use crate::front::most_of;
 use crate::record_line::line_of;
 use desk_io::{BUFFER, Line};
-use file_run::{Machine, PIECE, Step, events_law};
+use file_run::{Machine, Step, events_law};
 use site_frame::{HEAD, RecordWhy, rest_len};
 use std::alloc::Global;
 
@@ -212,7 +212,7 @@ impl Machine for FrameLines {
         }
     }
 
-    fn give(&mut self, out: &mut [u8; PIECE]) -> usize {
+    fn give(&mut self, out: &mut [u8]) -> usize {
         events_law();
         give_line(&mut self.line, out)
     }

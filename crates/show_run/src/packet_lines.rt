@@ -7,7 +7,7 @@ use crate::count_line::{count_line, give_line};
 use crate::front::{front_line, most_of};
 use bit_slice::OutOfMemory;
 use desk_io::{Input, Line};
-use file_run::{Machine, PIECE, Step, events_law};
+use file_run::{Machine, Step, events_law};
 use std::alloc::Global;
 use t2mi_packet::{LARGEST, PacketWhy};
 
@@ -142,7 +142,7 @@ impl Machine for PacketLines {
         self.phase = Phase::Ends;
     }
 
-    fn give(&mut self, out: &mut [u8; PIECE]) -> usize {
+    fn give(&mut self, out: &mut [u8]) -> usize {
         events_law();
         if self.line.is_empty() {
             self.go_on();

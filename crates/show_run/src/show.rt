@@ -13,8 +13,8 @@ use crate::frame_lines::{Coming, FrameLines};
 use crate::packet_lines::{PacketLines, Phase};
 use crate::stop::ShowStop;
 use crate::t2mi_lines::T2miLines;
-use desk_io::{Page, ReadAhead};
-use file_run::{Machine, RunFault, tell};
+use desk_io::ReadAhead;
+use file_run::{Machine, OutBuffer, RunFault, tell};
 use ports::Desk;
 use site_frame::{reading_law, refusal_law};
 use std::alloc::Global;
@@ -36,7 +36,7 @@ fn tell_lines<M: Machine, D: Desk>(
     let Ok(mut reader) = ReadAhead::open(alloc) else {
         return Err(ShowStop::OutOfMemory);
     };
-    let Ok(mut page) = Page::open(alloc) else {
+    let Ok(mut page) = OutBuffer::open(alloc) else {
         return Err(ShowStop::OutOfMemory);
     };
     match tell(machine, &mut reader, &mut page, name, desk) {

@@ -8,7 +8,7 @@ use crate::count_line::{count_line, give_line};
 use crate::packet_line::packet_line;
 use bit_slice::OutOfMemory;
 use desk_io::{BUFFER, Line};
-use file_run::{Machine, PIECE, Step, events_law};
+use file_run::{Machine, Step, events_law};
 use std::alloc::Global;
 use t2mi_packet::view_known;
 use t2mi_stream::{
@@ -80,6 +80,7 @@ fn front_unit(bytes: &[u8]) -> [u8; SIZE]
 impl T2miLines {
     ghost use Rattle.std.specs.Prelude.{ℕ, List, [], ◌∷◌, ◌++◌, true, false, Some, None};
     ghost use Rattle.file_run.specs.Events.{Event, Fed, Gave};
+    ghost use Rattle.file_run.specs.declared.machine.TheConstants.{PIECE};
     ghost use Rattle.show_run.specs.declared.t2mi_lines.Search.TheVariants.{Seeks, Unpipes};
     ghost use Rattle.ts_packet.specs.Told.{fields_in};
     ghost use Rattle.t2mi_stream.specs.FirstPid.{pid_of};
@@ -130,11 +131,12 @@ impl T2miLines {
     }
 
     // Gives the line of the packet that waits, and gives the packet up. There are no more packets than bytes, and none behind the last.
-    fn give_packet(&mut self, out: &mut [u8; PIECE]) -> usize
+    fn give_packet(&mut self, out: &mut [u8]) -> usize
         requires unpipes { self.old.search ≡ Unpipes }
         requires ready { is_ready self.old.unpiper ≡ true }
+        requires room { PIECE ≤ length out.old }
         ensures becomes { (start : T2miLines) (events : List Event) → Comes start events self.old → Comes start (events ++ Gave (take result out.new) ∷ []) self.new }
-        ensures count { result ≤ PIECE }
+        ensures count { result ≤ length out.old }
         ensures left { left_of self.new < left_of self.old }
         ensures at { self.new.at ≡ self.old.at }
     {
@@ -239,7 +241,7 @@ impl Machine for T2miLines {
         self.line = count_line(self.count);
     }
 
-    fn give(&mut self, out: &mut [u8; PIECE]) -> usize {
+    fn give(&mut self, out: &mut [u8]) -> usize {
         events_law();
         if self.search == Search::Finished {
             return give_line(&mut self.line, out);

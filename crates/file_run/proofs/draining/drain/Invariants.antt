@@ -4,14 +4,13 @@ use Rattle.file_run.specs.Running.{DrainsPart}
 use Rattle.file_run.specs.declared.machine.Step.TheVariants.{Give}
 use Rattle.file_run.proofs.draining.drain.Given as goal
 
-abbrev pub invariant-loop-machine : goal.invariant-loop-machine
-invariant-loop-machine g l = record {
-  part : DrainsPart g.M.Machine.Becomes l.initial.machine l.machine (g.D.Desk.state l.initial.desk) (g.D.Desk.state l.desk) l.initial.writer.out l.writer.waiting;
-  out : l.writer.out ≡ l.initial.writer.out;
-  first : ((l.machine ≡ l.initial.machine) × (l.writer.waiting ≡ [])) ⊎ (g.M.Machine.next l.initial.machine ≡ Give);
+abbrev pub invariant-loop-desk : goal.invariant-loop-desk
+invariant-loop-desk g l = record {
+  part : DrainsPart g.M.Machine.Becomes l.initial.machine l.machine (g.D.Desk.state l.initial.desk) (g.D.Desk.state l.desk) l.out l.buffer;
+  first : ((l.machine ≡ l.initial.machine) × (l.buffer ≡ [])) ⊎ (g.M.Machine.next l.initial.machine ≡ Give);
   reach : (other : ℕ) → g.M.Machine.reach l.initial.machine other ≤ g.M.Machine.reach l.machine other;
   counts : SameCounts (g.D.Desk.state l.initial.desk) (g.D.Desk.state l.desk);
 }
 
-abbrev pub decreases-loop-machine : goal.decreases-loop-machine
-decreases-loop-machine g l = g.M.Machine.left l.machine
+abbrev pub decreases-loop-desk : goal.decreases-loop-desk
+decreases-loop-desk g l = g.M.Machine.left l.machine

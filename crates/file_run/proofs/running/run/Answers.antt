@@ -9,25 +9,27 @@ returns-in-Err-clause-err g c =
     let b = start_of (g.D.Desk.state c.args.desk.now) c.args.out.now c.args.ins.now in
     let f = c.drain.ensures.counts in
     stopped_drained g.M.Machine.Becomes c.args.machine.now _ _ g.M.Machine.reach g.M.Machine.next b _ _ _ _ (record { rose = c.in-Err.ensures.counts.err; later = f.later; others = f.others }) c.in-Err.ensures.gives c.in-Err.ensures.err
-    (running_first c.creates_law.ensures _ g.M.Machine.reach _ b _ _ c.open_inputs.new.readers _ c.requires.apart c.in_ok-open_inputs.ensures.ok c.in_ok-create_output.ensures.ok c.requires.start)
+    (running_first c.creates_law.ensures _ g.M.Machine.reach _ b _ _ c.open_inputs.new.readers _ c.requires.apart c.in_ok-open_inputs.ensures.ok c.in_ok-handle.ensures.ok c.requires.start)
 
 pub loop-input-init : goal.loop-input-init
 loop-input-init g c =
     let b = start_of (g.D.Desk.state c.args.desk.now) c.args.out.now c.args.ins.now in
     record {
-      running = running_drained g.M.Machine.Becomes c.args.machine.now _ _ g.M.Machine.reach b _ _ _ _ _ c.drain.ensures.out c.in-Ok.ensures.nothing c.in-Ok.ensures.counts.ok c.drain.ensures.reach c.in-Ok.ensures.ok
-          (running_first c.creates_law.ensures _ g.M.Machine.reach _ b _ _ c.open_inputs.new.readers _ c.requires.apart c.in_ok-open_inputs.ensures.ok c.in_ok-create_output.ensures.ok c.requires.start);
+      running = running_drained g.M.Machine.Becomes c.args.machine.now _ _ g.M.Machine.reach b _ _ _ _ c.in-Ok.ensures.counts.ok c.drain.ensures.reach c.in-Ok.ensures.ok
+          (running_first c.creates_law.ensures _ g.M.Machine.reach _ b _ _ c.open_inputs.new.readers _ c.requires.apart c.in_ok-open_inputs.ensures.ok c.in_ok-handle.ensures.ok c.requires.start);
       dry = c.in-Ok.ensures.dry;
+      nothing = c.in-Ok.ensures.nothing;
     }
 
 pub loop-input-preserved : goal.loop-input-preserved
 loop-input-preserved g c =
     let w = c.in-Read.ensures.wanted _ _ c.loop-input.invariant.running.came in
     record {
-      running = running_drained g.M.Machine.Becomes c.args.machine.now _ _ g.M.Machine.reach _ _ _ _ _ _ c.drain-in-Read.ensures.out c.in-Ok-drain.ensures.nothing c.in-Ok-drain.ensures.counts.ok c.drain-in-Read.ensures.reach c.in-Ok-drain.ensures.ok
+      running = running_drained g.M.Machine.Becomes c.args.machine.now _ _ g.M.Machine.reach _ _ _ _ _ c.in-Ok-drain.ensures.counts.ok c.drain-in-Read.ensures.reach c.in-Ok-drain.ensures.ok
           (running_fed g.M.Machine.Becomes c.args.machine.now _ _ g.M.Machine.reach _ _ _ _ _ _ c.in-Read.most _ _ c.index-readers-input.result (omega (arith, w.place, c.requires.inputs, c.loop-input.invariant.running.runs.reached.all)) refl
           (record { reads = c.feed.ensures.reads; limit = c.feed.ensures.limit }) c.in-Ok-feed.ensures.counts c.in-Ok-feed.ensures.short c.feed.ensures.reach c.in-Ok-feed.ensures.feeds c.loop-input.invariant.running w.near);
       dry = c.in-Ok-drain.ensures.dry;
+      nothing = c.in-Ok-drain.ensures.nothing;
     }
 
 pub returns-in-Err-feed-clause-err : goal.returns-in-Err-feed-clause-err

@@ -4,12 +4,12 @@ use Rattle.desk_io.specs.Reading.{Reading}
 use Rattle.file_run.specs.TellingOn.{Telling}
 use Rattle.file_run.proofs.telling.gather.Given as goal
 
-abbrev pub invariant-loop-machine : goal.invariant-loop-machine
-invariant-loop-machine g l = record {
+abbrev pub invariant-loop-desk : goal.invariant-loop-desk
+invariant-loop-desk g l = record {
   telling : (begin : g.row.M.Denot) (start : State) (name : List ℕ) (r : Reading) → Telling (g.M.Machine.Becomes begin) g.M.Machine.next start (g.D.Desk.state l.initial.desk) name l.initial.machine r l.initial.page
       → Telling (g.M.Machine.Becomes begin) g.M.Machine.next start (g.D.Desk.state l.desk) name l.machine r l.page;
   counts : SameCounts (g.D.Desk.state l.initial.desk) (g.D.Desk.state l.desk);
 }
 
-abbrev pub decreases-loop-machine : goal.decreases-loop-machine
-decreases-loop-machine g l = g.M.Machine.left l.machine
+abbrev pub decreases-loop-desk : goal.decreases-loop-desk
+decreases-loop-desk g l = g.M.Machine.left l.machine

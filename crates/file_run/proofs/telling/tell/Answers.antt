@@ -1,4 +1,3 @@
-use Rattle.std.proofs.Common.{refl, sym, ◌∙◌}
 use Rattle.std.proofs.lemmas.Result.{on_ok_weaker, IfErr-weaker}
 use Rattle.file_run.proofs.TellLemmas.{telling_first}
 use Rattle.file_run.proofs.ToldLemmas.{told_all, told_fault, finishes_since, breaks_since}

@@ -1,8 +1,7 @@
-use Rattle.std.proofs.Common.{◌≡◌, ◌<◌, ℕ, length, ap, sym, subst, refl, ◌∙◌, arith}
+use Rattle.std.proofs.Common.{◌≡◌, ℕ, length, ap, sym, subst, refl, ◌∙◌}
 use Rattle.file_run.specs.Events.{fed, has_ended}
 use Rattle.file_run.specs.TellingOn.{Telling}
 use Rattle.file_run.specs.declared.stop.RunFault.TheVariants.{TooLong, ReadFault, WriteFault}
-use Rattle.ports.specs.Desk.{State}
 use Rattle.file_run.proofs.OpenLemmas.{reads_fail}
 use Rattle.file_run.proofs.TellLemmas.{telling_fed, telling_read, place_within, is_zero, reads_far, falls_short}
 use Rattle.file_run.proofs.telling.tell_on.Goals as goal

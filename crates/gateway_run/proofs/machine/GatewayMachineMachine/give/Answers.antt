@@ -1,8 +1,12 @@
-use Rattle.std.proofs.Common.{ap, arith}
+use Rattle.std.proofs.Common.{ap, arith, ℕ, List, [], ◌∷◌, ◌++◌, drop, sym, subst}
+use Rattle.std.proofs.lemmas.List.{take-append-le}
+use Rattle.ts_packet.specs.declared.sizes.TheConstants.{SIZE}
+use Rattle.file_run.specs.Events.{Gave}
 use Rattle.gateway_run.specs.AsMachine.{frame_read}
+use Rattle.gateway_run.specs.Holds.{Holds}
 use Rattle.gateway_run.specs.declared.place.Phase.{Phase}
 use Rattle.gateway_run.proofs.GiveLemmas.{nothing_gave}
-use Rattle.gateway_run.proofs.MachineLemmas.{reach_more}
+use Rattle.gateway_run.proofs.MachineLemmas.{giving_at, reach_more}
 use Rattle.gateway_run.proofs.machine.GatewayMachineMachine.give.Goals as goal
 
 pub returns-in-Begins-clause-becomes : goal.returns-in-Begins-clause-becomes
@@ -15,9 +19,18 @@ returns-in-Begins-clause-reach c = λ other.
     reach_more c.args.self.now.plan.now other _ _ (omega (arith, was, is))
 
 pub returns : goal.returns
-returns c = record {
-  count = c.give.ensures.count;
-  becomes = λ start events h. (h.0, c.give.ensures.holds events h.1);
-  left = c.give.ensures.left;
-  reach = λ other. reach_more c.args.self.now.plan.now other _ _ c.give.ensures.read;
+returns c =
+    let g = c.give.ensures in
+    let front = take-append-le c.give.result c.give.new.unit (drop SIZE c.args.out.now) g.count in
+    record {
+      count = (let n = g.count in let w = g.whole in let r = c.requires.room in omega (arith, n, w, r));
+      becomes = λ start events h. (h.0, subst (λ (l : List ℕ). Holds c.args.self.now.plan.now (events ++ Gave l ∷ []) c.give.new.gateway c.give.new.place c.give.new.ran) (sym front) (g.holds events h.1));
+      left = g.left;
+      reach = λ other. reach_more c.args.self.now.plan.now other _ _ g.read;
+    }
+
+pub give-requires : goal.give-requires
+give-requires c = record {
+  ready = c.args.self.now.ready;
+  gives = giving_at c.args.self.now.gateway c.args.self.now.place.plp c.args.self.now.place.phase c.requires.gives c.in_default.not-Begins;
 }
