@@ -1,0 +1,17 @@
+//! Worked runs of gateway, modulator and receiver by calls of their crates, and the packets that runs send and give back.
+#![tactic(auto)]
+
+mod slots;
+
+pub use slots::{DATA, Slots, add_nulls, null_packet, numbered, packets_of};
+
+#[cfg(test)]
+mod hostile;
+#[cfg(test)]
+mod packets;
+#[cfg(test)]
+mod receiver;
+#[cfg(test)]
+mod records;
+#[cfg(test)]
+mod units;

@@ -1,0 +1,4 @@
+pub mod Draws
+pub mod Losses
+pub mod Network
+pub mod TrialInput
