@@ -25,7 +25,7 @@ use Rattle.gateway_run.specs.declared.stop.Ran.{Ran}
 use Rattle.gateway_run.specs.declared.stop.RunStop.{RunStop}
 use Rattle.gateway_run.specs.declared.stop.RunStop.TheVariants as run
 use Rattle.modulate_run.specs.Counted.{counted}
-use Rattle.modulate_run.specs.Laws.{MustRun as ModulateMust, OneRun as OneModulation}
+use Rattle.modulate_run.specs.Laws.{OneRun as OneModulation}
 use Rattle.modulate_run.specs.ModulateRun as modulating
 use Rattle.modulate_run.specs.ModulateRun.{records_of, AreEarly, HasEarly}
 use Rattle.modulate_run.specs.declared.stop.Ran.{Ran as Modulated}
@@ -51,7 +51,7 @@ use Rattle.site_top.specs.GatewayCommand.{gateway_line, RunsAndTells, Follows, G
 use Rattle.site_top.specs.Laws.{OneEnding, Completeness}
 use Rattle.site_top.specs.ModulateCommand.{modulate_line, RunsAndTells as ModulatesAndTells, Modulates}
 use Rattle.site_top.specs.ReceiveCommand.{receive_line, Follows as ReceiveFollows, Receives}
-use Rattle.site_top.specs.Outcomes.{shown_outcome, config_outcome, stopped_outcome, ran_outcome, modulate_stopped, modulate_outcome, receive_stopped}
+use Rattle.site_top.specs.Outcomes.{shown_outcome, config_outcome, stopped_outcome, ran_outcome, modulate_stopped, receive_stopped}
 use Rattle.site_top.specs.Runs.{AreShort, ModulateMustEnd, ReceiveMustEnd, MustEnd, IsComplete}
 use Rattle.site_top.specs.Saying.{Tells}
 use Rattle.site_top.proofs.EndingLemmas.{EndsIfShort, ended_so, ModulatesIfShort, modulated_so, ReceivesIfShort, received_so, unplanned_so}

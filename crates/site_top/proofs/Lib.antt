@@ -7,3 +7,4 @@ pub mod HaveEndingLemmas
 mod SurvivorLemmas
 pub mod PlaceLemmas
 mod RecoverLemmas
+pub mod TouchLemmas

@@ -1,5 +1,5 @@
 -- A PLP has an identifier, or none has it.
-use Rattle.std.proofs.Common.{◌≡◌, ◌⊎◌, ℕ, ◌<◌, inl, inr, length}
+use Rattle.std.proofs.Common.{◌≡◌, ◌⊎◌, ℕ, inl, inr, length}
 use Rattle.std.proofs.lemmas.Bool.{cases_eq}
 use Rattle.terms.proofs.DecisionLemmas.{first_other}
 use Rattle.plp_config.specs.Places.{IsPlace, HasNoPlace}

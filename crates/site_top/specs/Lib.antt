@@ -9,3 +9,4 @@ pub mod Outcomes
 pub mod PlanLines
 pub mod Runs
 pub mod Saying
+pub mod Touches

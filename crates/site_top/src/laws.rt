@@ -1,5 +1,5 @@
 // Laws of the definitions. Their functions do nothing.
-ghost use Rattle.site_top.specs.Laws.{OneEnding, CommandsHaveEnding, Completeness};
+ghost use Rattle.site_top.specs.Laws.{OneEnding, CommandsHaveEnding, Completeness, OnlyOutChanges};
 
 use config_file::{config_ends, one_config};
 use gateway_run::{one_run, run_ends};
@@ -41,3 +41,8 @@ pub fn completeness()
     one_modulation();
     one_reception();
 }
+
+/// However a command ends, it changes no file but the one that it writes, creates it once at most, and opens no more files than it reads.
+pub fn only_out_changes()
+    ensures { OnlyOutChanges }
+{}

@@ -14,7 +14,7 @@ mod running;
 mod show;
 
 pub use config_file::ConfigCause;
-pub use laws::{commands_have_ending, completeness, one_ending};
+pub use laws::{commands_have_ending, completeness, one_ending, only_out_changes};
 pub use outcome::Outcome;
 pub use ports::Word;
 pub use running::run;
