@@ -6,6 +6,8 @@ mod configuration;
 #[cfg(test)]
 mod damaged_units;
 #[cfg(test)]
+mod failing;
+#[cfg(test)]
 mod gateway;
 #[cfg(test)]
 mod modulate;

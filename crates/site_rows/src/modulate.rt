@@ -1,7 +1,8 @@
 // `modulate CONFIG IN OUT`, over what `gateway` wrote. Expected values come from worked examples.
 ghost use Rattle.std.specs.Prelude.{◌<◌};
 
-use crate::runs::{DATA, LOADED, NETWORK, SMALL, packets, words_of};
+use crate::runs::{LOADED, NETWORK, SMALL, packets, words_of};
+use network_rows::DATA;
 use ports::MemoryDesk;
 use site_top::{Outcome, run};
 use std::alloc::Global;

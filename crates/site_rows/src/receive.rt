@@ -1,6 +1,7 @@
 // `receive CONFIG PLP IN OUT`, over what `modulate` wrote of what `gateway` wrote. Expected values come from worked examples.
 
-use crate::runs::{DATA, LOADED, NETWORK, SMALL, words_of};
+use crate::runs::{LOADED, NETWORK, SMALL, words_of};
+use network_rows::{Slots, add_nulls, null_packet, numbered, packets_of};
 use ports::MemoryDesk;
 use sample_networks::REALISTIC_TEXT;
 use site_frame::RecordWhy;
@@ -22,54 +23,6 @@ const APART: [[u8; 24]; 2] = [
     [0x54, 0x32, 0x46, 0x52, 2, 0, 0, 0, 0, 0, 0, 0, 0x29, 0xB9, 0x27, 0x00, 0x00, 0x00, 0x00, 0x00, 0, 0, 0, 0],
     [0x54, 0x32, 0x46, 0x52, 2, 0, 0, 0, 0, 0, 0, 0, 0x29, 0xB9, 0x27, 0x00, 0x00, 0x15, 0x5C, 0xC0, 0, 0, 0, 0],
 ];
-
-// Some slots of an output in a row.
-#[derive(Clone, Copy)]
-enum Slots {
-    // Those of the packets that were sent from the one number up to the other.
-    Sent(u16, u16),
-    // So many with the canonical null packet.
-    Null(u16),
-}
-
-fn null_packet() -> [u8; 188] {
-    let mut packet = [0xFF; 188];
-    packet[..4].copy_from_slice(&[0x47, 0x1F, 0xFF, 0x10]);
-    packet
-}
-
-fn add_nulls(bytes: &mut Vec<u8>, count: u16) -> Result<(), Fail> {
-    for _ in 0..count {
-        bytes.extend_from_slice(&null_packet())?;
-    }
-    Ok(())
-}
-
-// The packets of some slots, of which these were sent.
-fn packets_of(alloc: Global, sent: &[u8], slots: &[Slots]) -> Result<Vec<u8>, Fail> {
-    let mut bytes = Vec::new(alloc);
-    for part in slots {
-        match *part {
-            Slots::Sent(from, to) => bytes.extend_from_slice(
-                sent.get(188 * usize::from(from)..188 * usize::from(to))
-                    .map_or(&[][..], |packets| packets),
-            )?,
-            Slots::Null(count) => add_nulls(&mut bytes, count)?,
-        }
-    }
-    Ok(bytes)
-}
-
-// So many packets that are not null, each with its number.
-fn numbered(alloc: Global, count: u16) -> Result<Vec<u8>, Fail> {
-    let mut bytes = Vec::new(alloc);
-    for number in 0..count {
-        bytes.extend_from_slice(&DATA)?;
-        bytes.extend_from_slice(&number.to_be_bytes())?;
-        bytes.extend_from_slice(&[0xAB; 182])?;
-    }
-    Ok(bytes)
-}
 
 // Runs a command that is done.
 fn done(

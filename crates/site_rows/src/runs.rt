@@ -16,9 +16,6 @@ pub(crate) const SMALL: &str = "plp 0 type1 1 1/2 qpsk short 0 4 1 delete 200000
 /// One that sends as much as a frame carries.
 pub(crate) const LOADED: &str = "plp 0 type1 1 1/2 qpsk short 0 3 1 delete 1906000\n";
 
-/// The head of a packet that is not null.
-pub(crate) const DATA: [u8; 4] = [0x47, 0x01, 0x00, 0x10];
-
 /// So many packets with this head, and another byte in all the rest.
 pub(crate) fn packets(
     alloc: Global,
