@@ -1,5 +1,6 @@
 // What is said for people, on standard error: what was wrong, where, and what to do.
 use crate::config_place::{front_of, is_data, plp_line};
+use crate::help::COMMANDS;
 use crate::shown::{Shown, Told};
 use config_text::{TextFault, TextWhy};
 use plp_config::{CapacityFault, ConfigFault, MOST_FRAMES};
@@ -8,25 +9,18 @@ use site_top::{ConfigCause, Outcome, Word};
 use std::fs::Files;
 use std::io::{self, Eprint};
 
-// The commands and their words.
-const COMMANDS: &str = "\
-usage: site_cli plan CONFIG
-         shows what follows from a configuration: slots, delays and sizes
-       site_cli show config FILE
-         shows a configuration as it is written
-       site_cli show packets FILE
-         shows the T2-MI packets that stand back to back in FILE, a line each
-       site_cli show t2mi FILE
-         shows the T2-MI packets in the transport packets of FILE, a line each
-       site_cli show frames FILE
-         shows the records of T2 frames in FILE, a line each
-       site_cli gateway CONFIG OUT IN..
-         writes to OUT the T2-MI stream of a network from one transport stream IN for each PLP, in the order of CONFIG
-       site_cli modulate CONFIG IN OUT
-         writes to OUT the records of the T2 frames that a modulator makes from the T2-MI stream IN
-       site_cli receive CONFIG PLP IN OUT
-         writes to OUT the transport stream that a receiver of the PLP with the identifier PLP makes from the records IN
-";
+// Says which words are commands.
+fn say_commands(rt: &impl Eprint, program: &str) -> io::Result<()> {
+    let mut before = "usage:";
+    for command in &COMMANDS {
+        eprintln!(rt;
+            "{before} {program} {}\n         {}",
+            command.words, command.what
+        )?;
+        before = "      ";
+    }
+    Ok(())
+}
 
 // Whether the words are those of `gateway`, which has several inputs.
 fn is_gateway(words: &[Word]) -> bool {
@@ -41,18 +35,22 @@ fn is_receive(words: &[Word]) -> bool {
     words.len() == 5 && words[0].as_str() == "receive"
 }
 
-fn say_usage(rt: &impl Eprint, words: &[Word]) -> io::Result<()> {
+// Why words are no command.
+fn why_no_command(words: &[Word]) -> &'static str {
     if words.iter().any(|word| word.as_str().is_empty()) {
-        eprint!(rt; "a word is empty or not UTF-8\n{COMMANDS}")
+        "a word is empty or not UTF-8"
     } else if is_gateway(words) || is_modulate(words) {
-        eprint!(rt; "OUT must be neither CONFIG nor an IN\n{COMMANDS}")
+        "OUT must be neither CONFIG nor an IN"
     } else if is_receive(words) {
-        eprint!(rt;
-            "PLP must be a decimal number from 0 to 255, without sign and leading zeros, and OUT neither CONFIG nor IN\n{COMMANDS}"
-        )
+        "PLP must be a decimal number from 0 to 255, without sign and leading zeros, and OUT neither CONFIG nor IN"
     } else {
-        eprint!(rt; "these words are no command\n{COMMANDS}")
+        "these words are no command"
     }
+}
+
+fn say_usage(rt: &impl Eprint, program: &str, words: &[Word]) -> io::Result<()> {
+    eprintln!(rt; "{}", why_no_command(words))?;
+    say_commands(rt, program)
 }
 
 // Says which PLP of a configuration is refused, and where its line is.
@@ -123,6 +121,7 @@ fn say_fault(rt: &impl Eprint, fault: Option<&HostFault>) -> io::Result<()> {
 // Says it, as far as standard error takes it: nobody is left to tell of a failure there.
 fn say(
     rt: &(impl Eprint + Files + AllocGlobal),
+    program: &str,
     words: &[Word],
     outcome: Outcome,
     fault: Option<&HostFault>,
@@ -131,7 +130,7 @@ fn say(
     let file = Shown(name);
     match outcome {
         Outcome::Done => Ok(()),
-        Outcome::Usage => say_usage(rt, words),
+        Outcome::Usage => say_usage(rt, program, words),
         Outcome::WrongInputs { plps, inputs } => eprintln!(rt;
             "{file} wants one IN for each PLP, in its order: {plps}, and {inputs} were given"
         ),
@@ -202,12 +201,13 @@ fn file_of(words: &[Word], outcome: Outcome) -> &str {
     }
 }
 
-/// Says for people why a run over words is not done, and what failed first, if something did.
+/// Says for people, who know the program by this name, why a run over words is not done, and what failed first, if something did.
 pub fn advise(
     rt: &(impl Eprint + Files + AllocGlobal),
+    program: &str,
     words: &[Word],
     outcome: Outcome,
     fault: Option<&HostFault>,
 ) {
-    let _ = say(rt, words, outcome, fault);
+    let _ = say(rt, program, words, outcome, fault);
 }

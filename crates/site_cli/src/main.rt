@@ -7,6 +7,7 @@ ghost use Rattle.site_top.specs.Outcomes.{status_of};
 
 mod advice;
 mod config_place;
+mod help;
 mod shown;
 mod words;
 
@@ -14,7 +15,7 @@ use advice::advise;
 use ports::HostDesk;
 use site_top::{Outcome, run};
 use std::process::ExitCode;
-use words::words_of;
+use words::{name_of, words_of};
 
 // The status of the program.
 fn exit_code(outcome: Outcome) -> ExitCode
@@ -26,11 +27,23 @@ fn exit_code(outcome: Outcome) -> ExitCode
 fn main(rt: HostRuntime) -> ExitCode {
     let alloc = rt.alloc();
     let mut desk = HostDesk::new(&rt, alloc);
-    let Ok(words) = words_of(&rt) else {
-        advise(&rt, &[], Outcome::OutOfMemory, None);
+    let (Ok(program), Ok(words)) = (name_of(&rt), words_of(&rt)) else {
+        advise(&rt, "", &[], Outcome::OutOfMemory, None);
         return exit_code(Outcome::OutOfMemory);
     };
+    if let Some(asked) = help::asked_of(words.as_slice()) {
+        return match help::say(&rt, program.as_str(), asked) {
+            Ok(()) => exit_code(Outcome::Done),
+            Err(_) => exit_code(Outcome::WriteFault),
+        };
+    }
     let outcome = run(alloc, words.as_slice(), &mut desk);
-    advise(&rt, words.as_slice(), outcome, desk.first_fault());
+    advise(
+        &rt,
+        program.as_str(),
+        words.as_slice(),
+        outcome,
+        desk.first_fault(),
+    );
     exit_code(outcome)
 }

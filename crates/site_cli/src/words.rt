@@ -32,6 +32,16 @@ fn word_at(rt: &(impl Env + AllocGlobal), place: usize) -> Result<Option<Word>, 
     Err(OutOfMemory)
 }
 
+/// The name by which the program was called, without its folder.
+pub fn name_of(rt: &(impl Env + AllocGlobal)) -> Result<Word, OutOfMemory> {
+    let name = match word_at(rt, 0)? {
+        Some(word) => word,
+        None => Word::new(rt.alloc(), "")?,
+    };
+    let short = name.as_str().rsplit('/').next().unwrap_or("");
+    Word::new(rt.alloc(), short)
+}
+
 /// The words behind the program's name.
 pub fn words_of(rt: &(impl Env + AllocGlobal)) -> Result<Vec<Word>, OutOfMemory> {
     let mut words = Vec::new(rt.alloc());

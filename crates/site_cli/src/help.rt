@@ -1,0 +1,131 @@
+// What `--help` and `--version` say, and the table of commands.
+use site_top::Word;
+use std::io::{self, Print};
+
+// The version of the program, and the toolchain that it is written for.
+const VERSION: &str = "0.2.0";
+
+const KIT: &str = "rattle-kit-13f";
+
+/// A command: its first word, all its words, what it does, and an example.
+pub struct Command {
+    name: &'static str,
+    pub words: &'static str,
+    pub what: &'static str,
+    example: &'static str,
+}
+
+/// The commands.
+pub const COMMANDS: [Command; 8] = [
+    Command {
+        name: "gateway",
+        words: "gateway CONFIG OUT IN..",
+        what: "writes to OUT the T2-MI stream of a network from one transport stream IN for each PLP, in the order of CONFIG",
+        example: "gateway small.txt stream.ts a.ts",
+    },
+    Command {
+        name: "modulate",
+        words: "modulate CONFIG IN OUT",
+        what: "writes to OUT the records of the T2 frames that a modulator makes from the T2-MI stream IN",
+        example: "modulate small.txt stream.ts records",
+    },
+    Command {
+        name: "receive",
+        words: "receive CONFIG PLP IN OUT",
+        what: "writes to OUT the transport stream that a receiver of the PLP with the identifier PLP makes from the records IN",
+        example: "receive small.txt 0 records b.ts",
+    },
+    Command {
+        name: "plan",
+        words: "plan CONFIG",
+        what: "shows what follows from a configuration: slots, delays and sizes",
+        example: "plan small.txt",
+    },
+    Command {
+        name: "show",
+        words: "show config FILE",
+        what: "shows a configuration as it is written",
+        example: "show config small.txt",
+    },
+    Command {
+        name: "show",
+        words: "show packets FILE",
+        what: "shows the T2-MI packets that stand back to back in FILE, a line each",
+        example: "show packets packets.t2mi",
+    },
+    Command {
+        name: "show",
+        words: "show t2mi FILE",
+        what: "shows the T2-MI packets in the transport packets of FILE, a line each",
+        example: "show t2mi stream.ts",
+    },
+    Command {
+        name: "show",
+        words: "show frames FILE",
+        what: "shows the records of T2 frames in FILE, a line each",
+        example: "show frames records",
+    },
+];
+
+/// What somebody asks who asks for no command.
+pub enum Asked<'a> {
+    /// The version.
+    Version,
+    /// Help, of one command if it is named.
+    Help(Option<&'a str>),
+}
+
+// Whether a word asks for help.
+fn asks_for_help(word: &str) -> bool {
+    word == "--help" || word == "-h"
+}
+
+fn is_command(name: &str) -> bool {
+    COMMANDS.iter().any(|command| command.name == name)
+}
+
+/// What is asked: the version or help by the first word, or help on a command by the word behind its name.
+pub fn asked_of(words: &[Word]) -> Option<Asked<'_>> {
+    let first = words.first()?.as_str();
+    let second = words.get(1).map(|word| word.as_str());
+    if first == "--version" || first == "-V" {
+        return Some(Asked::Version);
+    }
+    if asks_for_help(first) || first == "help" {
+        return Some(Asked::Help(second));
+    }
+    if is_command(first) && second.map_or(false, |word| asks_for_help(word)) {
+        return Some(Asked::Help(Some(first)));
+    }
+    None
+}
+
+// Says a command of the program, whose name is this.
+fn say_command(rt: &impl Print, program: &str, command: &Command) -> io::Result<()> {
+    println!(rt; "{program} {}\n    {}", command.words, command.what)?;
+    println!(rt; "    for example: {program} {}", command.example)
+}
+
+// Says all commands, or those with a name.
+fn say_commands(rt: &impl Print, program: &str, name: Option<&str>) -> io::Result<()> {
+    for command in &COMMANDS {
+        if name.map_or(true, |name| name == command.name) {
+            say_command(rt, program, command)?;
+        }
+    }
+    Ok(())
+}
+
+/// Says what is asked of the program, on standard output.
+pub fn say(rt: &impl Print, program: &str, asked: Asked<'_>) -> io::Result<()> {
+    match asked {
+        Asked::Version => println!(rt; "vicelotus {VERSION}, for {KIT}"),
+        Asked::Help(Some(name)) if is_command(name) => say_commands(rt, program, Some(name)),
+        Asked::Help(_) => {
+            say_commands(rt, program, None)?;
+            println!(rt;
+                "Formats, endings and examples: docs/FORMATS.md, README.md, docs/EXAMPLES.md"
+            )
+        }
+    }
+}
