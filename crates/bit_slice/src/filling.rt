@@ -55,6 +55,9 @@ fn put_part(bytes: &mut [u8], used: usize, bits: &BitSlice<'_>, at: usize, width
     ensures len { length bytes.new ≡ length bytes.old }
     ensures holds { (front : List Bool) → length front ≡ used → Holds bytes.old front → Holds bytes.new (front ++ part bits.now at width) }
 {
+    if width == 0 {
+        return;
+    }
     put_field(bytes, used, bits.field(at, width), width);
 }
 

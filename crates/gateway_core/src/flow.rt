@@ -173,7 +173,7 @@ impl Outlet {
     }
 }
 
-/// An outlet with a unit at hand, unless nothing is left of the frames begun.
+/// An outlet with a unit at hand, unless all packets of the frames begun were fed.
 #[derive(Drop)]
 pub struct Flow {
     pub outlet: Outlet,
@@ -214,7 +214,7 @@ impl Flow {
         }
     }
 
-    /// Begins to feed the packets of a frame.
+    /// Feeds packets of a frame until a unit is at hand, or all are fed.
     pub fn begin(&mut self, plan: &Plan, signalling: &Signalling, frame: &mut Frame)
         requires plps { length frame.old.blocks.lists ≡ length plan.now.plps }
         requires open { self.old.finished ≡ false }

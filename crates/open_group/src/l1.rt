@@ -58,7 +58,9 @@ impl HeldL1 {
 
     /// Takes the memory for the PLPs of a plan. Nothing is held yet.
     pub fn open(alloc: Global, plan: &Plan) -> Result<HeldL1, OutOfMemory>
-        ensures { IfOk result (λ held. length held.dynamic.plps ≡ length plan.now.plps) }
+        ensures rows { IfOk result (λ held. length held.dynamic.plps ≡ length plan.now.plps) }
+        ensures none { IfOk result (λ held. held.is_held ≡ false) }
+        ensures alike { IfOk result (λ held. held.alike ≡ true) }
     {
         let plps = plan.config().plps.len() as u16;
         Ok(HeldL1 {
