@@ -4,7 +4,7 @@ ghost use Rattle.ports.specs.Counts.{MayFailWriting};
 ghost use Rattle.desk_io.specs.Writing.{Appends, AppendsFront};
 ghost use Rattle.file_run.specs.Running.{Drains, DrainsFront, AppendsSome};
 ghost use Rattle.file_run.specs.declared.machine.TheConstants.{PIECE};
-ghost use Rattle.file_run.specs.declared.out_buffer.TheConstants.{PAGE};
+ghost use Rattle.desk_io.specs.declared.page.TheConstants.{PAGE};
 
 use crate::machine::{Machine, Step};
 use crate::out_buffer::OutBuffer;

@@ -1,17 +1,16 @@
 // Bytes that a machine gave and that are not written or said yet.
 ghost use Rattle.std.specs.Prelude.{◌≡◌, ◌↔◌, ◌<◌, ◌≤◌, ◌+◌, ℕ, [], length, take, IfOk, IsTrue};
+ghost use Rattle.desk_io.specs.declared.page.TheConstants.{PAGE};
 ghost use Rattle.file_run.specs.Running.{Gathers};
 ghost use Rattle.file_run.specs.declared.machine.Step.TheVariants.{Give};
 
 use crate::machine::{Machine, PIECE};
 use bit_slice::OutOfMemory;
+use desk_io::PAGE;
 use std::alloc::Global;
 use std::marker::Model;
 
-// How many bytes wait at most.
-const PAGE: usize = 131_072;
-
-/// Bytes that a machine gave and that are not written or said yet, seen as a list. A machine gives straight into its room. After
+/// Bytes that a machine gave and that are not written or said yet, at most [`PAGE`], seen as a list. A machine gives straight into its room. After
 /// `open` it takes no memory.
 #[derive(Drop)]
 pub struct OutBuffer {
@@ -22,7 +21,7 @@ pub struct OutBuffer {
 
 impl Model for OutBuffer {
     ghost use Rattle.std.specs.Prelude.{◌≡◌, ◌≤◌, List, ℕ, take, vec_len};
-    ghost use Rattle.file_run.specs.declared.out_buffer.TheConstants.{PAGE};
+    ghost use Rattle.desk_io.specs.declared.page.TheConstants.{PAGE};
 
     ghost Value = { List ℕ };
 

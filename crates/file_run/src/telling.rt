@@ -6,7 +6,7 @@ ghost use Rattle.desk_io.specs.Reading.{Reading};
 ghost use Rattle.file_run.specs.Telling.{TellsAll, StopsTelling};
 ghost use Rattle.file_run.specs.TellingOn.{Telling, HasBegun, GivesWay, Finishes, Breaks, TellsLast};
 ghost use Rattle.file_run.specs.declared.machine.TheConstants.{PIECE};
-ghost use Rattle.file_run.specs.declared.out_buffer.TheConstants.{PAGE};
+ghost use Rattle.desk_io.specs.declared.page.TheConstants.{PAGE};
 
 use crate::feeding::feed;
 use crate::machine::{Machine, Step};
