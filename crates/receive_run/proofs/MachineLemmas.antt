@@ -152,8 +152,8 @@ refused_next c expected bytes more len why announces whole (inl r) =
 refused_next c expected bytes more len why announces whole (inr p) = inr (p.0, p.1, begins_on bytes more p.0 p.1 p.2, p.3)
 
 refused_shown : (c : Config) (plp : ℕ) (m mid n : ReceiverMachine) (was now : List Event) (piece : List ℕ) (len : ℕ) (why : RecordWhy) (s : Shown c plp m was) → network_of m.receiver ≡ c → gives m.coming ≡ false → Adds was now piece → Announces (s.rest ++ piece) len
-    → length (s.rest ++ piece) ≡ head_len + len → mid.bytes.items ≡ s.rest ++ piece → SameTaken m mid → n.at ≡ m.at + length piece → IsRefused mid n why → Shown c plp n now
-refused_shown c plp m mid n was now piece len why s same_c idle a announces whole bytes same at r =
+    → length (s.rest ++ piece) ≡ head_len + len → mid.bytes.items ≡ s.rest ++ piece → mid.left ≡ 0 → SameTaken m mid → n.at ≡ m.at + length piece → IsRefused mid n why → Shown c plp n now
+refused_shown c plp m mid n was now piece len why s same_c idle a announces whole bytes none same at r =
     let c_mid : network_of mid.receiver ≡ c = ap network_of same.receiver ∙ same_c in
     let asked : expected_by mid.first mid.count ≡ expected_after s.first s.views =
     ap (λ (o : Option ℕ). expected_by o mid.count) same.first ∙ ap (expected_by m.first) same.count ∙ expects c plp m was s ∙ expected_is s.first s.views in
@@ -163,19 +163,23 @@ refused_shown c plp m mid n was now piece len why s same_c idle a announces whol
     (subst (λ (l : List ℕ). RefusesRecord (network_of mid.receiver) (expected_by mid.first mid.count) l why) bytes r.refuses)) in
     same_shown c plp m n was now piece s idle a (then_same m mid n same r.same) at
     (subst (λ (p : Coming). Behind c (expected_after s.first s.views) p n.bytes.items n.left (s.rest ++ piece) (has_ended 0 now)) (sym r.coming)
-    (λ more end. refused_next c (expected_after s.first s.views) (s.rest ++ piece) more len why announces whole refuses))
+    (record {
+      refuses = λ more end. refused_next c (expected_after s.first s.views) (s.rest ++ piece) more len why announces whole refuses;
+      within = inr (len, announces, omega (arith, whole));
+      none = inl (r.left ∙ none);
+    }))
 
 -- the record that has come whole was looked at
 whole_becomes : ReadbackFront → (start m mid n : ReceiverMachine) (was now : List Event) (piece : List ℕ) (len : ℕ) (b : Becomes start was m) → KnownPlan (network_of m.receiver) (plp_of m.receiver) → gives m.coming ≡ false → Adds was now piece
-    → has_ended 0 now ≡ false → Announces (b.shown.rest ++ piece) len → length (b.shown.rest ++ piece) ≡ head_len + len → mid.bytes.items ≡ b.shown.rest ++ piece → SameTaken m mid → n.at ≡ m.at + length piece → Sees mid n → Becomes start now n
-whole_becomes front start m mid n was now piece len b known idle a going announces whole bytes same at (inl i) = record {
+    → has_ended 0 now ≡ false → Announces (b.shown.rest ++ piece) len → length (b.shown.rest ++ piece) ≡ head_len + len → mid.bytes.items ≡ b.shown.rest ++ piece → mid.left ≡ 0 → SameTaken m mid → n.at ≡ m.at + length piece → Sees mid n → Becomes start now n
+whole_becomes front start m mid n was now piece len b known idle a going announces whole bytes none same at (inl i) = record {
   same = (i.same.0 ∙ ap network_of same.receiver ∙ b.same.0, i.same.1 ∙ ap plp_of same.receiver ∙ b.same.1);
   shown = taken_shown front (network_of start.receiver) (plp_of start.receiver) m mid n was now piece len b.shown
       (subst (λ (c : Config). KnownPlan c (plp_of start.receiver)) b.same.0 (subst (KnownPlan (network_of m.receiver)) b.same.1 known)) b.same.0 b.same.1 idle a going announces whole bytes same at i;
 }
-whole_becomes front start m mid n was now piece len b known idle a going announces whole bytes same at (inr r) = record {
+whole_becomes front start m mid n was now piece len b known idle a going announces whole bytes none same at (inr r) = record {
   same = same_plp start m n (then_same m mid n same r.1.same) b.same;
-  shown = refused_shown (network_of start.receiver) (plp_of start.receiver) m mid n was now piece len r.0 b.shown b.same.0 idle a announces whole bytes same at r.1;
+  shown = refused_shown (network_of start.receiver) (plp_of start.receiver) m mid n was now piece len r.0 b.shown b.same.0 idle a announces whole bytes none same at r.1;
 }
 
 -- ---- a head was taken
@@ -194,7 +198,7 @@ begun : ReadbackFront → (start m k n : ReceiverMachine) (was now : List Event)
     → length head ≡ head_len → Announces (b.shown.rest ++ head) rest → b.shown.rest ++ head ≡ head → SameTaken m k → n.at ≡ m.at + length head → Begins k n head rest → Becomes start now n
 begun front start m k n was now head rest b known heads a going size announces none same at (inl s) =
     let len = ap length none in
-    whole_becomes front start m s.mid n was now head rest b known (idle_at m Head heads refl) a going announces (let z = s.none in omega (arith, len, size, z)) (s.bytes ∙ sym none) (then_same m k s.mid same s.same) at s.sees
+    whole_becomes front start m s.mid n was now head rest b known (idle_at m Head heads refl) a going announces (let z = s.none in omega (arith, len, size, z)) (s.bytes ∙ sym none) (s.left ∙ s.none) (then_same m k s.mid same s.same) at s.sees
 begun front start m k n was now head rest b known heads a going size announces none same at (inr h) =
     let s = b.shown in
     let len = ap length none in record {
@@ -213,9 +217,9 @@ took_head law front start m k n events head rest known size heads receiver first
     begun front start m k n events (events ++ Fed 0 head ∷ []) head rest b known heads (fed_adds law events head) ((law.fed 0 head events).ended 0 ∙ none.2) size
     (subst (λ (l : List ℕ). Announces l rest) (sym alone) (announces_head head rest size f)) alone same (omega (arith, at, size)) begins
 
-pub refused_head : EventsTell → (start m n : ReceiverMachine) (events : List Event) (head : List ℕ) (why : RecordWhy) → length head ≡ head_len → m.coming ≡ Head → n.receiver ≡ m.receiver → n.first ≡ m.first → n.count ≡ m.count → n.slots ≡ m.slots → n.coming ≡ Refused why → n.at ≡ m.at + head_len → RefusesHead head why
+pub refused_head : EventsTell → (start m n : ReceiverMachine) (events : List Event) (head : List ℕ) (why : RecordWhy) → length head ≡ head_len → m.coming ≡ Head → n.receiver ≡ m.receiver → n.first ≡ m.first → n.count ≡ m.count → n.slots ≡ m.slots → n.coming ≡ Refused why → n.left ≡ 0 → n.at ≡ m.at + head_len → RefusesHead head why
     → Becomes start events m → Becomes start (events ++ Fed 0 head ∷ []) n
-refused_head law start m n events head why size heads receiver first count slots comes at refuses b =
+refused_head law start m n events head why size heads receiver first count slots comes left at refuses b =
     let same = taken_same m n receiver first count slots in
     let s = b.shown in
     let none = nothing_before (network_of start.receiver) (plp_of start.receiver) m events heads s in
@@ -223,8 +227,12 @@ refused_head law start m n events head why size heads receiver first count slots
       same = same_plp start m n same b.same;
       shown = same_shown (network_of start.receiver) (plp_of start.receiver) m n events (events ++ Fed 0 head ∷ []) head s (idle_at m Head heads refl) (fed_adds law events head) same (omega (arith, at, size))
           (subst (λ (p : Coming). Behind (network_of start.receiver) (expected_after s.first s.views) p n.bytes.items n.left (s.rest ++ head) (has_ended 0 (events ++ Fed 0 head ∷ []))) (sym comes)
-          (λ more end.
-          inl ((λ e. let n = ap length e in let sum = length-append (s.rest ++ head) more in let l = ap length alone in absurd (omega (arith, n, sum, l, size))), subst (λ (l : List ℕ). Refuses (l ++ more) why) (sym alone) (refuses more))));
+          (record {
+            refuses = λ more end.
+                inl ((λ e. let n = ap length e in let sum = length-append (s.rest ++ head) more in let l = ap length alone in absurd (omega (arith, n, sum, l, size))), subst (λ (l : List ℕ). Refuses (l ++ more) why) (sym alone) (refuses more));
+            within = inl (let l = ap length alone in omega (arith, l, size));
+            none = inl left;
+          }));
     }
 
 -- ---- bytes of a rest were taken
@@ -251,8 +259,8 @@ took_some law start m n events piece rests receiver first count slots comes at b
 
 -- the last of them
 pub took_last : EventsTell → ReadbackFront → (start m mid n : ReceiverMachine) (events : List Event) (piece : List ℕ) → KnownPlan (network_of m.receiver) (plp_of m.receiver) → m.coming ≡ Rest → mid.receiver ≡ m.receiver → mid.first ≡ m.first → mid.count ≡ m.count → mid.slots ≡ m.slots → mid.bytes.items ≡ m.bytes.items ++ piece
-    → length piece ≡ m.left → n.at ≡ m.at + length piece → Sees mid n → Becomes start events m → Becomes start (events ++ Fed 0 piece ∷ []) n
-took_last law front start m mid n events piece known rests receiver first count slots bytes all at sees b =
+    → mid.left ≡ 0 → length piece ≡ m.left → n.at ≡ m.at + length piece → Sees mid n → Becomes start events m → Becomes start (events ++ Fed 0 piece ∷ []) n
+took_last law front start m mid n events piece known rests receiver first count slots bytes none all at sees b =
     let same = taken_same m mid receiver first count slots in
     let s = b.shown in
     let r = rest_before (network_of start.receiver) (plp_of start.receiver) m events rests s in
@@ -260,7 +268,7 @@ took_last law front start m mid n events piece known rests receiver first count 
     let sum = length-append s.rest piece in
     let lacks = begun.lacks in
     whole_becomes front start m mid n events (events ++ Fed 0 piece ∷ []) piece begun.len b known (idle_at m Rest rests refl) (fed_adds law events piece) ((law.fed 0 piece events).ended 0 ∙ r.2) (announces_on s.rest piece begun.len begun.announces)
-    (omega (arith, sum, lacks, all)) (bytes ∙ ap (λ (l : List ℕ). l ++ piece) (sym r.0)) same at sees
+    (omega (arith, sum, lacks, all)) (bytes ∙ ap (λ (l : List ℕ). l ++ piece) (sym r.0)) none same at sees
 
 -- ---- what is wanted
 
@@ -355,10 +363,14 @@ ended_rest law start m n events input bytes wanted rests receiver first count sl
       same = same_plp start m n same b.same;
       shown = same_shown (network_of start.receiver) (plp_of start.receiver) m n events (events ++ Ended 0 bytes ∷ []) bytes s (idle_at m Rest rests refl) (ended_adds law events bytes) same at
           (subst (λ (p : Coming). Behind (network_of start.receiver) (expected_after s.first s.views) p n.bytes.items n.left (s.rest ++ bytes) (has_ended 0 (events ++ Ended 0 bytes ∷ []))) (sym comes)
-          (λ more end.
-          let whole : (s.rest ++ bytes) ++ more ≡ s.rest = ap (λ (l : List ℕ). (s.rest ++ bytes) ++ l) (end (law.ended 0 bytes events).ended) ∙ append-nil (s.rest ++ bytes) ∙ alone in
-          subst (λ (l : List ℕ). RefusesNext (network_of start.receiver) (expected_after s.first s.views) l why.Length) (sym whole)
-          (inl ((λ e. let n = ap length e in absurd (omega (arith, n, long))), cut_refused s.rest begun.len begun.announces (omega (arith, lacks, some))))));
+          (record {
+            refuses = λ more end.
+                let whole : (s.rest ++ bytes) ++ more ≡ s.rest = ap (λ (l : List ℕ). (s.rest ++ bytes) ++ l) (end (law.ended 0 bytes events).ended) ∙ append-nil (s.rest ++ bytes) ∙ alone in
+                subst (λ (l : List ℕ). RefusesNext (network_of start.receiver) (expected_after s.first s.views) l why.Length) (sym whole)
+                (inl ((λ e. let n = ap length e in absurd (omega (arith, n, long))), cut_refused s.rest begun.len begun.announces (omega (arith, lacks, some))));
+            within = inr (begun.len, announces_on s.rest bytes begun.len begun.announces, let l = ap length alone in omega (arith, l, lacks));
+            none = inr (law.ended 0 bytes events).ended;
+          }));
     })
 
 -- bytes are left
@@ -384,10 +396,14 @@ ended_head law start m n events input bytes wanted other some receiver first cou
       same = same_plp start m n same b.same;
       shown = same_shown (network_of start.receiver) (plp_of start.receiver) m n events (events ++ Ended 0 bytes ∷ []) bytes s (idle_at m Head heads.0 refl) (ended_adds law events bytes) same at
           (subst (λ (p : Coming). Behind (network_of start.receiver) (expected_after s.first s.views) p n.bytes.items n.left (s.rest ++ bytes) (has_ended 0 (events ++ Ended 0 bytes ∷ []))) (sym comes)
-          (λ more end.
-          let whole : (s.rest ++ bytes) ++ more ≡ bytes = ap (λ (l : List ℕ). (s.rest ++ bytes) ++ l) (end (law.ended 0 bytes events).ended) ∙ append-nil (s.rest ++ bytes) ∙ alone in
-          subst (λ (l : List ℕ). RefusesNext (network_of start.receiver) (expected_after s.first s.views) l why.Head) (sym whole)
-          (inl ((λ e. let n = ap length e in absurd (omega (arith, n, some))), short_refused bytes heads.1))));
+          (record {
+            refuses = λ more end.
+                let whole : (s.rest ++ bytes) ++ more ≡ bytes = ap (λ (l : List ℕ). (s.rest ++ bytes) ++ l) (end (law.ended 0 bytes events).ended) ∙ append-nil (s.rest ++ bytes) ∙ alone in
+                subst (λ (l : List ℕ). RefusesNext (network_of start.receiver) (expected_after s.first s.views) l why.Head) (sym whole)
+                (inl ((λ e. let n = ap length e in absurd (omega (arith, n, some))), short_refused bytes heads.1));
+            within = inl (let l = ap length alone in let few = heads.1 in omega (arith, l, few));
+            none = inr (law.ended 0 bytes events).ended;
+          }));
     })
 
 -- behind the last record

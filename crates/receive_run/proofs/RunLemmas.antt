@@ -1,5 +1,5 @@
 -- How the run of a receiver ended, by its machine.
-use Rattle.std.proofs.Common.{◌≡◌, ◌≢◌, ℕ, ◌+◌, ◌-◌, ◌<◌, ◌≤◌, false, List, [], ◌∷◌, ◌++◌, length, take, drop, Option, Some, refl, ap, sym, subst, ◌∙◌, inl, inr, arith, append_assoc, length-append}
+use Rattle.std.proofs.Common.{◌≡◌, ◌≢◌, ℕ, ◌+◌, ◌-◌, ◌<◌, ◌≤◌, Bool, true, false, List, [], ◌∷◌, ◌++◌, length, take, drop, Option, Some, refl, ap, sym, subst, ◌∙◌, inl, inr, arith, append_assoc, length-append}
 use Rattle.std.specs.Prelude.{◌⊎◌, IfOk, IfErr, slice_index, slice_index_or}
 use Rattle.std.specs.List.{concat}
 use Rattle.std.proofs.Math.Seq.{take-length}
@@ -30,7 +30,7 @@ use Rattle.file_run.specs.declared.stop.RunFault.{RunFault}
 use Rattle.file_run.specs.declared.stop.RunFault.TheVariants as fault
 use Rattle.receive_run.specs.AsMachine.{next_of, Behind, IsBegun, GavePackets, Given, first_of, Shown, Becomes, ran_by, ending_of, stop_by}
 use Rattle.receive_run.specs.NextStep.{step_of, gives}
-use Rattle.receive_run.specs.ReceiveRun.{HasAll, RunsAll, HasBefore, MeetsRefused, HasMet, HasMetPart, LacksSome, GivesTooMuch, StopsReading, HasSome, StopsWriting, Stops}
+use Rattle.receive_run.specs.ReceiveRun.{HasAll, RunsAll, HasMetRefused, MeetsRefused, HasMet, HasMetPart, LacksSome, GivesTooMuch, StopsReading, HasSome, StopsWriting, Stops}
 use Rattle.receive_run.specs.Received.{GivesBack, Received, ran_of, expected_after}
 use Rattle.receive_run.specs.declared.machine.Coming.{Coming}
 use Rattle.receive_run.specs.declared.machine.Coming.TheVariants.{Head, Rest, Packets, Refused, Finished}
@@ -113,6 +113,28 @@ runs_all start now old new name out done r =
       counts = r.counts;
     }
 
+-- a machine that wants no more, or whose file has ended, was fed all that was read
+all_fed : (file front : List ℕ) (place at left : ℕ) (ended : Bool) → IsFed file place front ended → at ≡ length front → place ≤ at + left → (left ≡ 0) ⊎ (ended ≡ true) → place ≤ length front
+all_fed file front place at left ended f is near (inl none) = omega (arith, is, near, none)
+all_fed file front place at left ended f is near (inr end) =
+    let size = ap length f.parts in
+    let sum = length-append front f.more in
+    let none = ap length (f.end end) in
+    let within = f.within in
+    omega (arith, size, sum, none, within)
+
+fewer_within : (rest more : List ℕ) (count : ℕ) → EndsWithin rest (length rest) → count ≤ length rest → EndsWithin (rest ++ more) count
+fewer_within rest more count (inl head) few = inl (omega (arith, head, few))
+fewer_within rest more count (inr (len, announces, whole)) few = inr (len, announces_on rest more len announces, omega (arith, whole, few))
+
+-- so what was read ends within the record that was refused
+refused_within : (file front more rest : List ℕ) (place : ℕ) → file ≡ front ++ more → length rest ≤ length front → place ≤ length front → EndsWithin rest (length rest) → EndsWithin (rest ++ more) (place - bytes_before file (rest ++ more))
+refused_within file front more rest place parts inside near within =
+    let size = ap length parts in
+    let sum = length-append front more in
+    let both = length-append rest more in
+    fewer_within rest more (place - bytes_before file (rest ++ more)) within (omega (arith, size, sum, both, inside, near))
+
 meets_refused : (start now : ReceiverMachine) (old new : State) (name out : List ℕ) (why : RecordWhy) → now.coming ≡ Refused why → Runs start now old new name out → MeetsRefused (plan_of start) (place_of start) old new name out now.count why
 meets_refused start now old new name out why refused r =
     let c : Config = plan_of start in
@@ -121,16 +143,21 @@ meets_refused start now old new name out why refused r =
     let h = s.came.shown in
     let behind = behind_at c plp now s.events (Refused why) refused h in
     let g = all_given c plp now s.events (idle_at now (Refused why) refused refl) h in
+    let at : ℕ = slice_index s.places 0 in
     record {
-      place = slice_index s.places 0;
+      place = at;
       short = (let n = s.works.all in r.short 0 (omega (arith, n)));
-      works = writes_by (HasBefore c plp now.count why) s (λ file bytes f holds. record {
-        views = h.views;
-        rest = h.rest ++ f.more;
-        records = records_file file (fed 0 s.events) f.more h.rest h.views f.parts h.records;
-        received = received c plp now s.events bytes h g holds;
-        number_is = h.number;
-        refused = behind f.more f.end;
+      works = writes_by (HasMetRefused c plp now.count why at) s (λ file bytes f holds. record {
+        before = record {
+          views = h.views;
+          rest = h.rest ++ f.more;
+          records = records_file file (fed 0 s.events) f.more h.rest h.views f.parts h.records;
+          received = received c plp now s.events bytes h g holds;
+          number_is = h.number;
+          refused = behind.refuses f.more f.end;
+        };
+        within = refused_within file (fed 0 s.events) f.more h.rest at f.parts (rest_inside (fed 0 s.events) h.rest h.views h.records)
+            (all_fed file (fed 0 s.events) at now.at now.left (has_ended 0 s.events) f h.place (s.within 0 (omega arith)) behind.none) behind.within;
       });
       counts = r.counts;
     }

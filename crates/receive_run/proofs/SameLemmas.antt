@@ -121,7 +121,7 @@ nothing_comes one never frame c rules first second ws o os Rest bytes rest left 
     absurd (omega (arith, whole, lacks, inside, more))
 nothing_comes one never frame c rules first second ws o os Packets bytes rest left ended len b a begins some h = begins_nothing o len (subst (λ (l : List ℕ). BeginsWith l o len) h.0 begins)
 nothing_comes one never frame c rules first second ws o os (Refused why) bytes rest left ended len b a begins some h =
-    next_not_refused one never frame c rules first second ws o os rest why len b a begins (subst (λ (l : List ℕ). RefusesNext c (expected_after first ws) l why) (append-nil rest) (h [] (λ e. refl)))
+    next_not_refused one never frame c rules first second ws o os rest why len b a begins (subst (λ (l : List ℕ). RefusesNext c (expected_after first ws) l why) (append-nil rest) (h.refuses [] (λ e. refl)))
 nothing_comes one never frame c rules first second ws o os Finished bytes rest left ended len b a begins some h = begins_nothing o len (subst (λ (l : List ℕ). BeginsWith l o len) h.0 begins)
 
 pub same_views : OneRecord → NoRefusal → OneFrame → (c : Config) → AllRules c → (file : List ℕ) (first second : ℕ) (vs ws : List RecordView) (coming : Coming) (bytes rest : List ℕ) (left : ℕ) (ended : Bool) → AreRecords file vs [] → IsOnGrid c second vs

@@ -5,7 +5,7 @@ use Rattle.plp_config.specs.SlotTime.{slots_by}
 use Rattle.plp_config.specs.declared.config.Config.{Config}
 use Rattle.plp_config.specs.declared.moment.TheConstants.{MOST_FRAMES}
 use Rattle.site_frame.specs.Record.{head_len}
-use Rattle.site_frame.specs.RecordFile.{AreRecords, Announces, IsOnGrid}
+use Rattle.site_frame.specs.RecordFile.{AreRecords, Announces, EndsWithin, IsOnGrid}
 use Rattle.site_frame.specs.declared.fault.RecordWhy.{RecordWhy}
 use Rattle.site_frame.specs.declared.reading.RecordView.{RecordView}
 use Rattle.plp_receiver.specs.StandsFor.{StandsFor, IsFresh, network_of, plp_of, frame_of, due_of}
@@ -62,6 +62,7 @@ pub record SameTaken (old new : ReceiverMachine) : Type 0 where
 pub record IsRefused (old new : ReceiverMachine) (why : RecordWhy) : Type 0 where
   pub refuses : RefusesRecord (network_of old.receiver) (expected_by old.first old.count) old.bytes.items why
   pub coming : new.coming ≡ Refused why
+  pub left : new.left ≡ old.left
   pub same : SameTaken old new
 
 abbrev pub Sees : ReceiverMachine → ReceiverMachine → Type 0
@@ -72,6 +73,7 @@ pub record SeesHead (old new : ReceiverMachine) (head : List ℕ) (rest : ℕ) :
   pub none : rest ≡ 0
   pub mid : ReceiverMachine
   pub bytes : mid.bytes.items ≡ head
+  pub left : mid.left ≡ rest
   pub same : SameTaken old mid
   pub sees : Sees mid new
 
@@ -92,12 +94,19 @@ pub record IsBegun (bytes : List ℕ) (left : ℕ) : Type 0 where
   pub announces : Announces bytes len
   pub lacks : length bytes + left ≡ head_len + len
 
+-- What stands behind the records is refused whatever follows. It is no more than a head, or than the record of which the head stands
+-- there; and no more is wanted, unless the file has ended.
+pub record StandsRefused (c : Config) (expected : Option ℕ) (why : RecordWhy) (left : ℕ) (rest : List ℕ) (ended : Bool) : Type 0 where
+  pub refuses : (more : List ℕ) → (ended ≡ true → more ≡ []) → RefusesNext c expected (rest ++ more) why
+  pub within : EndsWithin rest (length rest)
+  pub none : (left ≡ 0) ⊎ (ended ≡ true)
+
 -- behind the records that were taken: nothing, the part of a record that came, what is refused whatever follows, or the end
 abbrev pub Behind : Config → Option ℕ → Coming → List ℕ → ℕ → List ℕ → Bool → Type 0
 Behind c expected Head bytes left rest ended = (rest ≡ []) × (left ≡ head_len) × (ended ≡ false)
 Behind c expected Rest bytes left rest ended = (rest ≡ bytes) × IsBegun rest left × (ended ≡ false)
 Behind c expected Packets bytes left rest ended = (rest ≡ []) × (ended ≡ false)
-Behind c expected (Refused why) bytes left rest ended = (more : List ℕ) → (ended ≡ true → more ≡ []) → RefusesNext c expected (rest ++ more) why
+Behind c expected (Refused why) bytes left rest ended = StandsRefused c expected why left rest ended
 Behind c expected Finished bytes left rest ended = (rest ≡ []) × (ended ≡ true)
 
 -- All that the records before the last one give back was given.

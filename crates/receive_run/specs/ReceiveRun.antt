@@ -37,11 +37,17 @@ pub record HasBefore (c : Config) (plp number : ℕ) (why : RecordWhy) (file byt
   pub number_is : number ≡ length views
   pub refused : RefusesNext c (expected_after received.first views) rest why
 
+-- The same, and of the file so many bytes were read: behind those records no more than a head, or no more than the record has of which
+-- the head stands there. So if no record begins with the head, no byte behind it was read.
+pub record HasMetRefused (c : Config) (plp number : ℕ) (why : RecordWhy) (place : ℕ) (file bytes : List ℕ) : Type 0 where
+  pub before : HasBefore c plp number why file bytes
+  pub within : EndsWithin before.rest (place - bytes_before file before.rest)
+
 -- A record was refused. OUT has what those before it give back.
 pub record MeetsRefused (c : Config) (plp : ℕ) (old new : State) (name out : List ℕ) (number : ℕ) (why : RecordWhy) : Type 0 where
   pub place : ℕ
   pub short : place < most_bytes
-  pub works : Writes old new name out place (HasBefore c plp number why)
+  pub works : Writes old new name out place (HasMetRefused c plp number why place)
   pub counts : SameCounts old new
 
 -- Of so many bytes that were read of the file, records were met, and what was read behind them is no more than the next one, at which

@@ -182,6 +182,8 @@ impl<'p> ReceiverMachine<'p> {
         readback_law();
         self.plan.obeys_rules();
         self.at += HEAD as u64;
+        // A head that is refused is the last of what is read.
+        self.left = 0;
         match rest_len(&head) {
             Ok(rest) => self.begin(head, rest),
             Err(why) => self.coming = Coming::Refused(why),

@@ -54,8 +54,8 @@ fn run_machine<D: Desk>(
 }
 
 /// Runs the receiver of the PLP at a place of a plan: opens the input, creates the output, and writes the packets of all slots that are
-/// due behind a record before it reads the next one. It reads no further than the record under way. All memory is taken before the
-/// input is opened.
+/// due behind a record before it reads the next one. It reads no further than the record under way, and no further than a head with
+/// which no record begins. All memory is taken before the input is opened.
 pub fn run<D: Desk>(
     alloc: Global,
     plan: &Plan,

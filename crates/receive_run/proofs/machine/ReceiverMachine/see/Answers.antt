@@ -8,6 +8,7 @@ returns-in-Err-clause-sees c = inr (
   record {
     refuses = refuses_as _ _ _ _ _ _ c.in-Err.why c.args.self.now.network c.expected.ensures c.deref.ensures.value c.in-Err.ensures.err;
     coming = refl;
+    left = refl;
     same = record { receiver = c.in-Err.ensures.kept; first = refl; count = refl; slots = refl };
   },
 )

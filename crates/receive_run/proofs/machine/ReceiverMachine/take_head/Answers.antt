@@ -9,4 +9,4 @@ returns-in-Ok-clause-becomes c = λ start events came.
 
 pub returns-in-Err-clause-becomes : goal.returns-in-Err-clause-becomes
 returns-in-Err-clause-becomes c = λ start events came.
-    refused_head c.events_law.ensures start c.args.self.now _ events c.args.head c.in-Err.why (omega arith) c.requires.coming refl refl refl refl refl refl c.in-Err.ensures.err came
+    refused_head c.events_law.ensures start c.args.self.now _ events c.args.head c.in-Err.why (omega arith) c.requires.coming refl refl refl refl refl refl refl c.in-Err.ensures.err came

@@ -8,7 +8,7 @@ returns-then-self-eq0-clause-becomes c = λ start events came.
     let size = length-take-le c.min-count.result c.args.bytes.now (search (rules, arith)) in
     let at = c.see.ensures.at in
     took_last c.events_law.ensures c.readback_law.ensures.front start c.args.self.now _ c.see.new.self events (take c.min-count.result c.args.bytes.now) (known_of c.args.self.now c.obeys_rules.ensures.plan) c.requires.coming refl refl refl refl
-    (search rules) (search (rules, arith, size)) (omega (arith, at, size)) c.see.ensures.sees came
+    (search rules) (search (rules, arith)) (search (rules, arith, size)) (omega (arith, at, size)) c.see.ensures.sees came
 
 pub returns-else-self-eq0-clause-becomes : goal.returns-else-self-eq0-clause-becomes
 returns-else-self-eq0-clause-becomes c = λ start events came.
