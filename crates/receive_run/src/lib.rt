@@ -1,6 +1,8 @@
 //! The receiver of a PLP between files: the records of one in, the packets of its slots into the other.
 #![tactic(auto)]
 
+#[cfg(test)]
+mod hostile;
 mod laws;
 mod machine;
 mod record;

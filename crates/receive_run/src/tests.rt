@@ -1,5 +1,6 @@
 // Records are muted: a head spelled by hand from the table of records. Which slots are due was counted by hand: a slot lasts 1,504 · 64 / 14
-// ticks, and is due 306,877 ticks after its start. Records of frames with blocks stand in tests of the commands.
+// ticks, and is due 306,877 ticks after its start. Records of frames with blocks stand in hostile.rt and in tests
+// of the commands.
 ghost use Rattle.std.specs.Prelude.{◌<◌};
 
 use crate::{Ran, RunStop, run};
