@@ -1,6 +1,7 @@
 // What is said for people, on standard error: what was wrong, where, and what to do.
 use crate::config_place::{front_of, is_data, plp_line};
 use crate::help::COMMANDS;
+use crate::pids::say_pids;
 use crate::shown::{Shown, Told};
 use config_text::{TextFault, TextWhy};
 use plp_config::{CapacityFault, ConfigFault, MOST_FRAMES};
@@ -22,6 +23,15 @@ fn say_commands(rt: &impl Eprint, program: &str) -> io::Result<()> {
     Ok(())
 }
 
+/// Says of a word `-` that it is the name of a file, which it is not for other programs.
+pub fn warn(rt: &impl Eprint, words: &[Word]) {
+    if words.iter().any(|word| word.as_str() == "-") {
+        let _ = eprintln!(rt;
+            "- is taken as the name of a file; standard input is /dev/stdin, and standard output /dev/stdout"
+        );
+    }
+}
+
 // Whether the words are those of `gateway`, which has several inputs.
 fn is_gateway(words: &[Word]) -> bool {
     words.len() >= 3 && words[0].as_str() == "gateway"
@@ -35,6 +45,14 @@ fn is_receive(words: &[Word]) -> bool {
     words.len() == 5 && words[0].as_str() == "receive"
 }
 
+fn is_trial(words: &[Word]) -> bool {
+    words.len() == 3 && words[0].as_str() == "trial"
+}
+
+fn is_show_t2mi(words: &[Word]) -> bool {
+    words.len() == 3 && words[0].as_str() == "show" && words[1].as_str() == "t2mi"
+}
+
 // Why words are no command.
 fn why_no_command(words: &[Word]) -> &'static str {
     if words.iter().any(|word| word.as_str().is_empty()) {
@@ -43,6 +61,8 @@ fn why_no_command(words: &[Word]) -> &'static str {
         "OUT must be neither CONFIG nor an IN"
     } else if is_receive(words) {
         "PLP must be a decimal number from 0 to 255, without sign and leading zeros, and OUT neither CONFIG nor IN"
+    } else if is_trial(words) {
+        "SEED must be a decimal number below 2^64 and FRAMES one from 6 to 64, both without sign and leading zeros"
     } else {
         "these words are no command"
     }
@@ -125,10 +145,12 @@ fn say(
     words: &[Word],
     outcome: Outcome,
     fault: Option<&HostFault>,
+    none_came: bool,
 ) -> io::Result<()> {
     let name = file_of(words, outcome);
     let file = Shown(name);
     match outcome {
+        Outcome::Done if is_show_t2mi(words) => say_pids(rt, name, none_came),
         Outcome::Done => Ok(()),
         Outcome::Usage => say_usage(rt, program, words),
         Outcome::WrongInputs { plps, inputs } => eprintln!(rt;
@@ -201,13 +223,15 @@ fn file_of(words: &[Word], outcome: Outcome) -> &str {
     }
 }
 
-/// Says for people, who know the program by this name, why a run over words is not done, and what failed first, if something did.
+/// Says for people, who know the program by this name, why a run over words is not done, and what failed first, if something did; of a
+/// run of `show t2mi` that is done, on which PID it looked, and whether no packet came there.
 pub fn advise(
     rt: &(impl Eprint + Files + AllocGlobal),
     program: &str,
     words: &[Word],
     outcome: Outcome,
     fault: Option<&HostFault>,
+    none_came: bool,
 ) {
-    let _ = say(rt, program, words, outcome, fault);
+    let _ = say(rt, program, words, outcome, fault, none_came);
 }

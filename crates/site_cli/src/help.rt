@@ -16,7 +16,7 @@ pub struct Command {
 }
 
 /// The commands.
-pub const COMMANDS: [Command; 8] = [
+pub const COMMANDS: [Command; 9] = [
     Command {
         name: "gateway",
         words: "gateway CONFIG OUT IN..",
@@ -64,6 +64,12 @@ pub const COMMANDS: [Command; 8] = [
         words: "show frames FILE",
         what: "shows the records of T2 frames in FILE, a line each",
         example: "show frames records",
+    },
+    Command {
+        name: "trial",
+        words: "trial SEED FRAMES",
+        what: "tries a whole network on inputs drawn from SEED for 6 to 64 FRAMES, and needs no file",
+        example: "trial 1 6",
     },
 ];
 

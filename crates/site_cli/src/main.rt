@@ -8,12 +8,16 @@ ghost use Rattle.site_top.specs.Outcomes.{status_of};
 mod advice;
 mod config_place;
 mod help;
+mod pids;
+mod progress;
 mod shown;
 mod words;
 
-use advice::advise;
+use advice::{advise, warn};
 use ports::HostDesk;
+use progress::Watched;
 use site_top::{Outcome, run};
+use std::io::IsTerminal;
 use std::process::ExitCode;
 use words::{name_of, words_of};
 
@@ -26,9 +30,10 @@ fn exit_code(outcome: Outcome) -> ExitCode
 
 fn main(rt: HostRuntime) -> ExitCode {
     let alloc = rt.alloc();
-    let mut desk = HostDesk::new(&rt, alloc);
+    let told = rt.stderr().is_terminal();
+    let mut desk = Watched::new(HostDesk::new(&rt, alloc), &rt, told);
     let (Ok(program), Ok(words)) = (name_of(&rt), words_of(&rt)) else {
-        advise(&rt, "", &[], Outcome::OutOfMemory, None);
+        advise(&rt, "", &[], Outcome::OutOfMemory, None, false);
         return exit_code(Outcome::OutOfMemory);
     };
     if let Some(asked) = help::asked_of(words.as_slice()) {
@@ -37,13 +42,16 @@ fn main(rt: HostRuntime) -> ExitCode {
             Err(_) => exit_code(Outcome::WriteFault),
         };
     }
+    warn(&rt, words.as_slice());
     let outcome = run(alloc, words.as_slice(), &mut desk);
+    desk.wipe();
     advise(
         &rt,
         program.as_str(),
         words.as_slice(),
         outcome,
-        desk.first_fault(),
+        desk.desk.first_fault(),
+        desk.none_came,
     );
     exit_code(outcome)
 }

@@ -45,7 +45,7 @@ use Rattle.show_run.specs.declared.stop.ShowStop.TheVariants as show
 use Rattle.ts_packet.specs.TsFile.{HasBad}
 use Rattle.site_top.specs.declared.outcome.Outcome.{Outcome}
 use Rattle.site_top.specs.declared.outcome.Outcome.TheVariants.{Done, WriteFault, OutOfMemory}
-use Rattle.site_top.specs.Commands.{Command, ShowPackets, ShowT2mi, ShowFrames, ShowConfig, Plan, Gateway, Modulate, Receive}
+use Rattle.site_top.specs.Commands.{Command, ShowPackets, ShowT2mi, ShowFrames, ShowConfig, Plan, Gateway, Modulate, Receive, Trial}
 use Rattle.site_top.specs.ConfigCommands.{ShowsConfig, Plans}
 use Rattle.site_top.specs.GatewayCommand.{gateway_line, RunsAndTells, Follows, Gateways}
 use Rattle.site_top.specs.Laws.{OneEnding, Completeness}
@@ -54,6 +54,7 @@ use Rattle.site_top.specs.ReceiveCommand.{receive_line, Follows as ReceiveFollow
 use Rattle.site_top.specs.Outcomes.{shown_outcome, config_outcome, stopped_outcome, ran_outcome, modulate_stopped, receive_stopped}
 use Rattle.site_top.specs.Runs.{AreShort, ModulateMustEnd, ReceiveMustEnd, MustEnd, IsComplete}
 use Rattle.site_top.specs.Saying.{Tells}
+use Rattle.site_top.specs.TrialCommand.{Tries}
 use Rattle.site_top.proofs.EndingLemmas.{EndsIfShort, ended_so, ModulatesIfShort, modulated_so, ReceivesIfShort, received_so, unplanned_so}
 
 -- How a run came to its outcome: by its files, if something is so of what must be; or by a fault, or want of memory.
@@ -299,7 +300,7 @@ ReceptionMust mid file id c outcome = IfSome mid.held (λ h. ReceivesIfShort (by
 receive_stops : (c : Config) (id plp : ℕ) (mid new : State) (file out : List ℕ) (stop : ReceiveStop) → IsPlace c id plp → receiving.Stops c plp mid new file out stop →
     ReceptionMust mid file id c (receive_stopped stop) ⊎ By mid new (receive_stopped stop)
 receive_stops c id plp mid new file out (receive.RecordRefused number why) at s =
-    inl (IfSome_then mid.held s.works.holds (λ h w. inr (plp, at, λ short. (Err (receive.RecordRefused number why), (w.2.0, w.2.2), refl))))
+    inl (IfSome_then mid.held s.works.holds (λ h w. inr (plp, at, λ short. (Err (receive.RecordRefused number why), (w.2.0, w.2.2.before), refl))))
 receive_stops c id plp mid new file out (receive.TooLong count) at s =
     inl (IfSome_then mid.held s.1.long (λ h long. inr (plp, at, λ short. absurd (omega (arith, long, short)))))
 receive_stops c id plp mid new file out receive.ReadFault at s = inr (inl s.0.rose)
@@ -333,6 +334,14 @@ receive_so one run old new config id file out result (inr (c, mid, gives, plan, 
     (failed (Receive config id file out) old new result)
     (receive_ways old mid new id file out c result gives.reads.counts follows)
 
+trial_so : (old new : State) (seed frames : ℕ) (result : Outcome) → Tries old new seed frames result → IsComplete (Trial seed frames) old new result
+trial_so old new seed frames result (inl (same, is)) = subst (IsComplete (Trial seed frames) old new) (sym is) (failed (Trial seed frames) old new OutOfMemory (inr (inr refl)))
+trial_so old new seed frames result (inr (text, lines, tells)) =
+    ⊎_elim
+    (λ (done : result ≡ Done). subst (IsComplete (Trial seed frames) old new) (sym done) (if_any old.held _ (λ held. λ outcome must r w. inl (sym must))))
+    (failed (Trial seed frames) old new result)
+    (told old old new text result refl tells)
+
 pub is_complete : OneEnding → OnePlan → OneRun → OneModulation → OneReception → Completeness
 is_complete law one run modulation reception (ShowPackets file) old new result s =
     subst (IsComplete (ShowPackets file) old new) (sym s.2) (packets_so law file old new s.1.given s.1.text s.0 s.1.lines s.1.counts)
@@ -345,3 +354,4 @@ is_complete law one run modulation reception (Plan config) old new result s = pl
 is_complete law one run modulation reception (Gateway config out ins) old new result s = gateway_so one run old new config out ins result s
 is_complete law one run modulation reception (Modulate config file out) old new result s = modulate_so one modulation old new config file out result s
 is_complete law one run modulation reception (Receive config id file out) old new result s = receive_so one reception old new config id file out result s
+is_complete law one run modulation reception (Trial seed frames) old new result s = trial_so old new seed frames result s

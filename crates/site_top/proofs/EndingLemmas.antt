@@ -21,7 +21,7 @@ use Rattle.receive_run.specs.declared.stop.RunStop.{RunStop as ReceiveStop}
 use Rattle.show_run.specs.Laws.{OneEnd, OneRecordsEnd}
 use Rattle.site_top.specs.declared.outcome.Outcome.{Outcome}
 use Rattle.site_top.specs.declared.outcome.Outcome.TheVariants.{UnknownPlp}
-use Rattle.site_top.specs.Commands.{ShowPackets, ShowT2mi, ShowFrames, ShowConfig, Plan, Gateway, Modulate, Receive}
+use Rattle.site_top.specs.Commands.{ShowPackets, ShowT2mi, ShowFrames, ShowConfig, Plan, Gateway, Modulate, Receive, Trial}
 use Rattle.site_top.specs.Laws.{OneEnding}
 use Rattle.site_top.specs.Outcomes.{shown_outcome, given_outcome, config_outcome, ran_outcome, modulate_outcome, receive_outcome, Miscounts}
 use Rattle.desk_io.specs.Reading.{most_bytes}
@@ -146,3 +146,4 @@ one_ending packets records config plan run modulate receive (Gateway file out in
     ended_so plan run held file out ins outcome other (if_short held file out ins outcome a) b
 one_ending packets records config plan run modulate receive (Modulate config_file file out) held outcome other a b = one_modulating plan modulate held config_file file out outcome other a b
 one_ending packets records config plan run modulate receive (Receive config_file id file out) held outcome other a b = one_receiving plan receive held config_file file out id outcome other a b
+one_ending packets records config plan run modulate receive (Trial seed frames) held outcome other a b = a ∙ sym b

@@ -16,7 +16,7 @@ use Rattle.receive_run.specs.Laws.{RunEnds as ReceptionEnds}
 use Rattle.show_run.specs.Laws.{EachEnds, EachRecordsEnd}
 use Rattle.site_top.specs.declared.outcome.Outcome.{Outcome}
 use Rattle.site_top.specs.declared.outcome.Outcome.TheVariants.{Done, UnknownPlp, WrongInputs}
-use Rattle.site_top.specs.Commands.{ShowPackets, ShowT2mi, ShowFrames, ShowConfig, Plan, Gateway, Modulate, Receive}
+use Rattle.site_top.specs.Commands.{ShowPackets, ShowT2mi, ShowFrames, ShowConfig, Plan, Gateway, Modulate, Receive, Trial}
 use Rattle.site_top.specs.Laws.{CommandsHaveEnding}
 use Rattle.site_top.specs.Outcomes.{shown_outcome, given_outcome, config_outcome, ran_outcome, modulate_outcome, receive_outcome}
 use Rattle.site_top.specs.Runs.{AreShort, PlanMustEnd, ReceiveMustEnd, MustEnd}
@@ -64,3 +64,4 @@ commands_end packets records config plan run modulate receive (Gateway file out 
 commands_end packets records config plan run modulate receive (Modulate config_file file out) held short = let end = plan (bytes_of held.files config_file) in modulate_ends modulate held config_file file out end.0 short end.1
 commands_end packets records config plan run modulate receive (Receive config_file id file out) held short =
     let end = plan (bytes_of held.files config_file) in reception_ends receive held config_file file out id end.0 short end.1
+commands_end packets records config plan run modulate receive (Trial seed frames) held short = (Done, refl)

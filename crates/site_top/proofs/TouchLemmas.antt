@@ -26,7 +26,7 @@ use Rattle.show_run.specs.declared.stop.ShowStop.{ShowStop}
 use Rattle.show_run.specs.declared.stop.ShowStop.TheVariants as show
 use Rattle.site_top.specs.declared.outcome.Outcome.{Outcome}
 use Rattle.site_top.specs.declared.outcome.Outcome.TheVariants as outcome
-use Rattle.site_top.specs.Commands.{Command, ShowPackets, ShowT2mi, ShowFrames, ShowConfig, Plan, Gateway, Modulate, Receive}
+use Rattle.site_top.specs.Commands.{Command, ShowPackets, ShowT2mi, ShowFrames, ShowConfig, Plan, Gateway, Modulate, Receive, Trial}
 use Rattle.site_top.specs.ConfigCommands.{ShowsConfig, Plans}
 use Rattle.site_top.specs.GatewayCommand as gateways
 use Rattle.site_top.specs.ModulateCommand as modulates
@@ -35,6 +35,7 @@ use Rattle.site_top.specs.Endings.{Ends}
 use Rattle.site_top.specs.Laws.{OnlyOutChanges}
 use Rattle.site_top.specs.Runs.{Does}
 use Rattle.site_top.specs.Saying.{Tells}
+use Rattle.site_top.specs.TrialCommand.{Tries}
 use Rattle.site_top.specs.Touches.{OthersStay, Touches, outs, out_of, ins_of}
 
 -- files that are the same
@@ -276,6 +277,12 @@ plan_touches old new name result s = ⊎_elim
     (λ n. gives_no_plan None old new name n.0 n.1)
     (λ g. told None 1 old g.2 new _ result (text_read None old g.2 name g.3.reads) g.6) s
 
+-- a trial
+trial_touches : (old new : State) (seed frames : ℕ) (result : Outcome) → Tries old new seed frames result → Touches None 0 old new
+trial_touches old new seed frames result s = ⊎_elim
+    (λ n. untouched None 0 old new n.0)
+    (λ t. told None 0 old old new _ result (untouched None 0 old old refl) t.2) s
+
 pub only_out_changes : OnlyOutChanges
 only_out_changes (ShowPackets file) old new result does = shown_touches old new file does.0 does.1
 only_out_changes (ShowT2mi file) old new result does = shown_touches old new file does.0 does.1
@@ -287,6 +294,7 @@ only_out_changes (Gateway config out ins) old new result does =
     subst (λ (n : ℕ). Touches (Some out) n old new) more (gateway_touches old new config out ins result does)
 only_out_changes (Modulate config file out) old new result does = modulate_touches old new config file out result does
 only_out_changes (Receive config id file out) old new result does = receive_touches old new config id file out result does
+only_out_changes (Trial seed frames) old new result does = trial_touches old new seed frames result does
 
 -- its last line changes nothing of that
 touched_at_end : (out : Option (List ℕ)) (reads : ℕ) (old mid new : State) (result : Outcome) → Touches out reads old mid → Ends mid new result → Touches out reads old new

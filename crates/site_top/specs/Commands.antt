@@ -1,11 +1,12 @@
 -- The commands, and the words that name them.
-use Rattle.std.specs.Prelude.{◌≡◌, ℕ, Bool, true, false, not, ◌&&◌, List, [], ◌∷◌, codes, if◌then◌else◌, Some, None}
+use Rattle.std.specs.Prelude.{◌≡◌, ℕ, ◌+◌, ◌-◌, ◌^◌, Bool, true, false, not, ◌&&◌, List, [], ◌∷◌, codes, if◌then◌else◌, Some, None}
 use Rattle.std.specs.declared.option.Option.{Option}
 use Rattle.std.specs.Fmt.{decimal}
 use Rattle.std.specs.List.{find, range_with_len}
-use Rattle.std.specs.Option.{option_map}
+use Rattle.std.specs.Option.{option_map, option_and_then}
 use Rattle.std.specs.Str.{bytes_eq}
 use Rattle.site_top.specs.declared.request.Request.{Request}
+use Rattle.site_top.specs.declared.request.TheConstants.{FEWEST_TRIED, MOST_TRIED}
 use Rattle.site_top.specs.declared.request.Request.TheVariants as asked
 
 -- a command, with the names of its files
@@ -19,12 +20,14 @@ pub data Command : Type 0 where
   Modulate : List ℕ → List ℕ → List ℕ → Command
   -- its second part is the identifier of a PLP
   Receive : List ℕ → ℕ → List ℕ → List ℕ → Command
+  -- the number that is drawn from, and the number of frames
+  Trial : ℕ → ℕ → Command
 
 abbrev pub is_empty : List ℕ → Bool
 is_empty [] = true
 is_empty (c ∷ cs) = false
 
--- the command of the words `show WHAT FILE`
+-- what `show` shows of a file
 abbrev pub shown : List ℕ → List ℕ → Option Command
 shown what file =
     if bytes_eq what (codes "packets") then Some (ShowPackets file)
@@ -48,22 +51,26 @@ abbrev pub modulate_of : List ℕ → List ℕ → List ℕ → List ℕ → Opt
 modulate_of modulate config file out =
     if bytes_eq modulate (codes "modulate") && not (is_empty out) && is_input out config && is_input out file then Some (Modulate config file out) else None
 
--- the identifier of a PLP that a word names: the number of one byte whose decimal it is
-unfoldable pub plp_named : List ℕ → Option ℕ
-plp_named word = find (λ id. bytes_eq word (decimal id)) (range_with_len 0 256)
+-- the number from the least to the most whose decimal a word is
+unfoldable pub number_named : ℕ → ℕ → List ℕ → Option ℕ
+number_named least most word = find (λ n. bytes_eq word (decimal n)) (range_with_len least (most + 1 - least))
 
 -- the command of the words `receive CONFIG PLP IN OUT`
 abbrev pub receive_of : List ℕ → List ℕ → List ℕ → List ℕ → List ℕ → Option Command
 receive_of receive config plp file out =
-    if bytes_eq receive (codes "receive") && not (is_empty out) && is_input out config && is_input out file then option_map (λ id. Receive config id file out) (plp_named plp) else None
+    if bytes_eq receive (codes "receive") && not (is_empty out) && is_input out config && is_input out file then option_map (λ id. Receive config id file out) (number_named 0 255 plp) else None
 
--- the command of three words
+-- the command of the words `trial SEED FRAMES`
+abbrev pub trial_of : List ℕ → List ℕ → Option Command
+trial_of seed frames = option_and_then (λ s. option_map (λ n. Trial s n) (number_named FEWEST_TRIED MOST_TRIED frames)) (number_named 0 (2 ^ 64 - 1) seed)
+
+-- the command of the words `show WHAT FILE`
 abbrev pub show_of : List ℕ → List ℕ → List ℕ → Option Command
 show_of show what file = if bytes_eq show (codes "show") && not (is_empty file) then shown what file else None
 
 -- the command of three words or more that has a number of words
 abbrev pub counted_of : List ℕ → List ℕ → List ℕ → List (List ℕ) → Option Command
-counted_of first second third [] = show_of first second third
+counted_of first second third [] = if bytes_eq first (codes "trial") then trial_of second third else show_of first second third
 counted_of first second third (fourth ∷ []) = modulate_of first second third fourth
 counted_of first second third (fourth ∷ fifth ∷ []) = receive_of first second third fourth fifth
 counted_of first second third (fourth ∷ fifth ∷ more) = None
@@ -84,6 +91,7 @@ meant (asked.Plan config) = Plan config.now
 meant (asked.Gateway config out ins) = Gateway config.now out.now ins.now
 meant (asked.Modulate config file out) = Modulate config.now file.now out.now
 meant (asked.Receive config plp file out) = Receive config.now plp file.now out.now
+meant (asked.Trial seed frames) = Trial seed frames
 
 -- The output of a request is none of its inputs.
 abbrev pub IsApart : Request → Type 0

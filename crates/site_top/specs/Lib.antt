@@ -10,3 +10,4 @@ pub mod PlanLines
 pub mod Runs
 pub mod Saying
 pub mod Touches
+pub mod TrialCommand

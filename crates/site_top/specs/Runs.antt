@@ -26,11 +26,12 @@ use Rattle.show_run.specs.declared.stop.ShowStop.{ShowStop}
 use Rattle.site_frame.specs.RecordFile.{AreBytes}
 use Rattle.site_top.specs.declared.outcome.Outcome.{Outcome}
 use Rattle.site_top.specs.declared.outcome.Outcome.TheVariants.{Done, UnknownPlp, OutOfMemory}
-use Rattle.site_top.specs.Commands.{Command, ShowPackets, ShowT2mi, ShowFrames, ShowConfig, Plan, Gateway, Modulate, Receive}
+use Rattle.site_top.specs.Commands.{Command, ShowPackets, ShowT2mi, ShowFrames, ShowConfig, Plan, Gateway, Modulate, Receive, Trial}
 use Rattle.site_top.specs.ConfigCommands.{ShowsConfig, Plans}
 use Rattle.site_top.specs.GatewayCommand.{Gateways}
 use Rattle.site_top.specs.ModulateCommand.{Modulates}
 use Rattle.site_top.specs.ReceiveCommand.{Receives}
+use Rattle.site_top.specs.TrialCommand.{Tries}
 use Rattle.site_top.specs.Outcomes.{shown_outcome, given_outcome, config_outcome, ran_outcome, modulate_outcome, receive_outcome, Miscounts}
 
 -- A file is shown by the text that a definition asks for.
@@ -46,6 +47,7 @@ Does (Plan config) old new outcome = Plans old new config outcome
 Does (Gateway config out ins) old new outcome = Gateways old new config out ins outcome
 Does (Modulate config file out) old new outcome = Modulates old new config file out outcome
 Does (Receive config id file out) old new outcome = Receives old new config id file out outcome
+Does (Trial seed frames) old new outcome = Tries old new seed frames outcome
 
 -- No input is too long.
 abbrev pub AreShort : Held → List (List ℕ) → Type 0
@@ -61,6 +63,7 @@ AreShortFor (Plan config) held = Unit {0}
 AreShortFor (Gateway config out ins) held = AreShort held ins
 AreShortFor (Modulate config file out) held = length (bytes_of held.files file) < most_bytes
 AreShortFor (Receive config id file out) held = (length (bytes_of held.files file) < most_bytes) × AreBytes (bytes_of held.files file)
+AreShortFor (Trial seed frames) held = Unit {0}
 
 -- How `gateway` must end over a plan: with the numbers if there is not one input for each PLP, else as the run does over inputs that
 -- are not too long.
@@ -94,6 +97,7 @@ MustEnd (Plan config) held outcome = (result : Result Config ConfigStop) × Give
 MustEnd (Gateway config out ins) held outcome = OverPlan (bytes_of held.files config) (PlanMustEnd held ins) outcome
 MustEnd (Modulate config file out) held outcome = OverPlan (bytes_of held.files config) (ModulateMustEnd (bytes_of held.files file)) outcome
 MustEnd (Receive config id file out) held outcome = OverPlan (bytes_of held.files config) (ReceiveMustEnd (bytes_of held.files file) id) outcome
+MustEnd (Trial seed frames) held outcome = outcome ≡ Done
 
 -- Where nothing outside fails, the files decide the outcome, unless memory runs out.
 abbrev pub IsComplete : Command → State → State → Outcome → Type 0

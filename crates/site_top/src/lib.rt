@@ -12,6 +12,7 @@ mod receive;
 mod request;
 mod running;
 mod show;
+mod trial;
 
 pub use config_file::ConfigCause;
 pub use laws::{commands_have_ending, completeness, one_ending, only_out_changes};

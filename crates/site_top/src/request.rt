@@ -1,10 +1,15 @@
 // What the words of the command line ask for.
-ghost use Rattle.std.specs.Prelude.{◌≡◌, IfSome};
+ghost use Rattle.std.specs.Prelude.{◌≡◌, ◌≤◌, IfSome};
 ghost use Rattle.std.specs.Option.{option_map};
-ghost use Rattle.site_top.specs.Commands.{command_of, shown as shown_by, show_of as show_by, is_input, are_inputs, gateway_of as gateway_by, modulate_of as modulate_by, plp_named as plp_by, receive_of as receive_by, meant, IsApart};
+ghost use Rattle.site_top.specs.Commands.{command_of, shown as shown_by, show_of as show_by, is_input, are_inputs, gateway_of as gateway_by, modulate_of as modulate_by, number_named as number_by, receive_of as receive_by, trial_of as trial_by, meant, IsApart};
 
 use config_text::number_within;
 use ports::Word;
+
+// How many frames the inputs of a trial are for.
+const FEWEST_TRIED: u64 = 6;
+
+const MOST_TRIED: u64 = 64;
 
 /// A command, with the names of its files.
 #[derive(Clone, Copy)]
@@ -48,6 +53,11 @@ pub enum Request<'a> {
         plp: u8,
         input: &'a str,
         out: &'a str,
+    },
+    /// Tries a whole network, for so many frames, with inputs that are drawn from a number.
+    Trial {
+        seed: u64,
+        frames: u32,
     },
 }
 
@@ -115,12 +125,12 @@ fn modulate_of<'a>(
     None
 }
 
-// The identifier of a PLP that a word names.
-fn plp_named(word: &str) -> Option<u8>
-    ensures { result ≡ plp_by word.now }
+// The number from the least to the most whose decimal a word is.
+fn number_named(word: &str, least: u64, most: u64) -> Option<u64>
+    ensures named { result ≡ number_by least most word.now }
+    ensures few { IfSome result (λ n. n ≤ most) }
 {
-    let id = number_within(word.as_bytes(), 0, u64::from(u8::MAX))?;
-    Some(id as u8)
+    number_within(word.as_bytes(), least, most)
 }
 
 // The command `receive CONFIG PLP IN OUT`, where the output is none of the files that are read.
@@ -137,16 +147,29 @@ fn receive_of<'a>(
     if receive != "receive" || out.is_empty() || !is_input(out, config) || !is_input(out, input) {
         return None;
     }
-    let plp = plp_named(plp)?;
+    let plp = number_named(plp, 0, 255)?;
     Some(Request::Receive {
         config,
-        plp,
+        plp: plp as u8,
         input,
         out,
     })
 }
 
-// The command of three words.
+// The command `trial SEED FRAMES`.
+fn trial_of<'a>(seed: &str, frames: &str) -> Option<Request<'a>>
+    ensures named { option_map meant result ≡ trial_by seed.now frames.now }
+    ensures apart { IfSome result IsApart }
+{
+    let seed = number_named(seed, 0, u64::MAX)?;
+    let frames = number_named(frames, FEWEST_TRIED, MOST_TRIED)?;
+    Some(Request::Trial {
+        seed,
+        frames: frames as u32,
+    })
+}
+
+// The command `show WHAT FILE`.
 fn show_of<'a>(show: &str, what: &str, file: &'a str) -> Option<Request<'a>>
     ensures named { option_map meant result ≡ show_by show.now what.now file.now }
     ensures apart { IfSome result IsApart }
@@ -189,6 +212,9 @@ pub fn request_of<'a>(words: &'a [Word]) -> Option<Request<'a>>
             input.as_str(),
             out.as_str(),
         ),
+        [trial, seed, frames] if trial.as_str() == "trial" => {
+            trial_of(seed.as_str(), frames.as_str())
+        }
         [show, what, file] => show_of(show.as_str(), what.as_str(), file.as_str()),
         _ => None,
     }

@@ -15,6 +15,7 @@ use crate::outcome::Outcome;
 use crate::receive::receive;
 use crate::request::{Request, request_of};
 use crate::show::outcome_of;
+use crate::trial::trial;
 use ports::{Desk, Word};
 use show_run::{show_frames, show_packets, show_t2mi};
 use std::alloc::Global;
@@ -40,6 +41,7 @@ fn command<D: Desk>(alloc: Global, words: &[Word], desk: &mut D) -> Outcome
                 out,
             },
         ) => receive(alloc, config, plp, input, out, desk),
+        Some(Request::Trial { seed, frames }) => trial(alloc, seed, frames, desk),
         None => Outcome::Usage,
     }
 }

@@ -1,0 +1,76 @@
+// On which PID `show t2mi` looked, and which others the file has.
+use crate::shown::Shown;
+use std::fmt::{self, Display, Formatter, Write};
+use std::fs::{self, File, Files};
+use std::io::{self, Eprint, Read};
+use t2mi_stream::unit_pid;
+use ts_packet::SIZE;
+
+// How many units at the front of a file are looked at, and how many PIDs are told at most.
+const UNITS: usize = 5_000;
+
+const MOST_PIDS: usize = 32;
+
+// PIDs, one behind another.
+#[derive(Clone, Copy)]
+struct Pids<'a>(&'a [u16]);
+
+impl Display for Pids<'_> {
+    fn fmt<W: Write>(&self, f: &mut Formatter<W>) -> fmt::Result {
+        let mut before = "";
+        for pid in self.0 {
+            write!(f, "{before}{pid}")?;
+            before = ", ";
+        }
+        Ok(())
+    }
+}
+
+// The PID that a unit tells.
+fn pid_of(unit: &[u8]) -> Option<u16> {
+    unit_pid(unit.try_into().ok()?)
+}
+
+// The PIDs that units tell, each where it comes first.
+fn pids_in(rt: &impl AllocGlobal, bytes: &[u8]) -> io::Result<Vec<u16>> {
+    let mut pids = Vec::new(rt.alloc());
+    for unit in bytes.chunks_exact(SIZE) {
+        if let Some(pid) = pid_of(unit) {
+            if pids.len() < MOST_PIDS && !pids.contains(&pid) {
+                pids.push(pid)?;
+            }
+        }
+    }
+    Ok(pids)
+}
+
+// The front of a file. A pipe gives its bytes once, so it is not read again.
+fn front_of(rt: &(impl Files + AllocGlobal), name: &str) -> io::Result<Vec<u8>> {
+    let mut front = Vec::new(rt.alloc());
+    if fs::metadata(rt, name)?.is_file() {
+        File::open(rt, name)?
+            .take((UNITS * SIZE) as u64)
+            .read_to_end(&mut front)?;
+    }
+    Ok(front)
+}
+
+/// Says on which PID of a file T2-MI was looked for: the first one in it. If none came there, the others are told.
+pub fn say_pids(
+    rt: &(impl Eprint + Files + AllocGlobal),
+    name: &str,
+    none_came: bool,
+) -> io::Result<()> {
+    let pids = pids_in(rt, &front_of(rt, name)?)?;
+    let Some(first) = pids.first() else {
+        return Ok(());
+    };
+    let file = Shown(name);
+    if none_came {
+        return eprintln!(rt;
+            "{file}: no T2-MI packet came on PID {first}, the first one in it; its PIDs are {}; share/pid/pid.py cuts one out",
+            Pids(&pids)
+        );
+    }
+    eprintln!(rt; "{file}: T2-MI was looked for on PID {first}, the first one in it")
+}

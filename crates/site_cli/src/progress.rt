@@ -1,0 +1,138 @@
+// How far a run is, on a terminal.
+ghost use Rattle.std.specs.Prelude.{◌<◌, ◌≤◌, length, take, IfOk, OnOk, OnErr};
+ghost use Rattle.ports.specs.Counts.{MayFailReading, MayFailWriting, MayFailAtLast};
+ghost use Rattle.ports.specs.Desk.{State, Keeps, Opens, Creates, FailsToCreate, Reads, Writes, Says, SaysLast};
+
+use ports::{Desk, DeskFault};
+use std::fmt::{self, Display, Formatter, Write};
+use std::io::Eprint;
+use std::time::{Clock, Duration, Instant};
+
+// How long a run goes on before it is told of, and how long a line stands, in milliseconds.
+const FIRST_AFTER: u64 = 1000;
+
+const NEXT_AFTER: u64 = 500;
+
+// To the start of the line, and away with all that stands behind.
+const WIPE: &str = "\r\x1b[K";
+
+// All that is said if there is no packet.
+const NO_PACKET: &[u8] = b"packets=0\n";
+
+// Bytes, as megabytes with one decimal.
+#[derive(Clone, Copy)]
+struct Megabytes(u64);
+
+impl Display for Megabytes {
+    fn fmt<W: Write>(&self, f: &mut Formatter<W>) -> fmt::Result {
+        write!(f, "{}.{} MB", self.0 / 1_000_000, self.0 / 100_000 % 10)
+    }
+}
+
+// How many bytes a second that are.
+fn rate(bytes: u64, time: Duration) -> u64 {
+    let millis = (time.as_millis() as u64).max(1);
+    bytes.saturating_mul(1000) / millis
+}
+
+/// A desk whose moves are told on standard error, in one line that is renewed twice a second at most.
+#[derive(Drop)]
+pub struct Watched<'a, D, R> {
+    pub desk: D,
+    rt: &'a R,
+    // When the run began, if its moves are told.
+    start: Option<Instant>,
+    // When a line was told last, counted from the start, and whether it stands.
+    told: Option<Duration>,
+    stands: bool,
+    read: u64,
+    written: u64,
+    /// Whether it was said that no packet came.
+    pub none_came: bool,
+}
+
+impl<'a, D, R: Clock + Eprint> Watched<'a, D, R> {
+    /// A desk whose moves are told from now on if this is wanted.
+    pub fn new(desk: D, rt: &'a R, wanted: bool) -> Watched<'a, D, R> {
+        Watched {
+            desk,
+            rt,
+            start: if wanted { Instant::now(rt).ok() } else { None },
+            told: None,
+            stands: false,
+            read: 0,
+            written: 0,
+            none_came: false,
+        }
+    }
+
+    // Tells how far the run is, if it is time. Nobody is left to tell of a failure there.
+    fn tell(&mut self) {
+        let Some(start) = self.start else {
+            return;
+        };
+        let Ok(time) = start.elapsed(self.rt) else {
+            return;
+        };
+        let due = match self.told {
+            Some(told) => told.saturating_add(Duration::from_millis(NEXT_AFTER)),
+            None => Duration::from_millis(FIRST_AFTER),
+        };
+        if due <= time {
+            let _ = eprint!(self.rt;
+                "{WIPE}{} read, {} written, {}/s",
+                Megabytes(self.read),
+                Megabytes(self.written),
+                Megabytes(rate(self.read, time))
+            );
+            self.told = Some(time);
+            self.stands = true;
+        }
+    }
+
+    /// Wipes the line away.
+    pub fn wipe(&mut self) {
+        if self.stands {
+            let _ = eprint!(self.rt; "{WIPE}");
+            self.stands = false;
+        }
+    }
+}
+
+// All is done by the desk that is watched.
+impl<D: Desk, R: Clock + Eprint> Desk for Watched<'_, D, R> {
+    ghost state = { λ w. D.state w.desk };
+
+    fn open(&mut self, name: &str) -> Result<u32, DeskFault> {
+        self.desk.open(name)
+    }
+
+    fn read(&mut self, handle: u32, buffer: &mut [u8]) -> Result<usize, DeskFault> {
+        let count = self.desk.read(handle, buffer)?;
+        self.read = self.read.saturating_add(count as u64);
+        self.tell();
+        Ok(count)
+    }
+
+    fn create(&mut self, name: &str) -> Result<u32, DeskFault> {
+        self.desk.create(name)
+    }
+
+    fn write(&mut self, out: u32, piece: &[u8]) -> Result<usize, DeskFault> {
+        let count = self.desk.write(out, piece)?;
+        self.written = self.written.saturating_add(count as u64);
+        self.tell();
+        Ok(count)
+    }
+
+    fn say(&mut self, text: &[u8]) -> Result<(), DeskFault> {
+        self.wipe();
+        self.none_came = self.none_came || text == NO_PACKET;
+        self.desk.say(text)
+    }
+
+    fn say_last(&mut self, text: &[u8]) {
+        self.wipe();
+        self.desk.say_last(text);
+    }
+}

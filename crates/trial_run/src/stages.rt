@@ -1,0 +1,148 @@
+// The commands' own runs, each over a desk in memory. On such a desk want of memory alone stops them, and the modulator a stream in which
+// no superframe begins; the draws leave none such.
+ghost use Rattle.std.specs.Prelude.{◌≡◌, ◌≢◌, ◌<◌, ℕ, List, [], ◌∷◌, codes, length, unwrap_or, IfOk};
+ghost use Rattle.ports.specs.Desk.{file_of};
+ghost use Rattle.gateway_run.specs.GatewayRun.{RunsAll as GatewayRuns};
+ghost use Rattle.modulate_run.specs.Counted.{counted};
+ghost use Rattle.modulate_run.specs.ModulateRun.{RunsAll as ModulatorRuns, output_of, records_of};
+ghost use Rattle.receive_run.specs.ReceiveRun.{RunsAll as ReceiverRuns};
+ghost use Rattle.trial_run.specs.Stages.{HasFile, HasInputs, AreFiles, IsSent, input_names};
+ghost use Rattle.trial_run.specs.Trial.{ComesOf};
+
+use bit_slice::OutOfMemory;
+use gateway_core::front_law;
+use plp_config::Plan;
+use ports::{MemoryDesk, Word};
+use std::alloc::Global;
+
+// What a run reads, and what it writes.
+const IN: &str = "in";
+
+const OUT: &str = "out";
+
+/// What a run of the gateway writes, and its numbers.
+#[derive(Drop)]
+pub struct Sent {
+    pub stream: Vec<u8>,
+    pub ran: gateway_run::Ran,
+}
+
+/// What a run of a modulator writes, and its numbers.
+#[derive(Drop)]
+pub struct Modulated {
+    pub records: Vec<u8>,
+    pub ran: modulate_run::Ran,
+}
+
+// A desk with one file.
+fn desk_with(alloc: Global, name: &str, bytes: &[u8]) -> Result<MemoryDesk, OutOfMemory>
+    ensures { IfOk result (λ desk. HasFile desk.state name.now bytes.now) }
+{
+    let mut desk = MemoryDesk::new(alloc);
+    desk.put_file(name, bytes)?;
+    Ok(desk)
+}
+
+// The bytes of a file of a desk, none if there is no such file.
+fn copy_of(alloc: Global, desk: &MemoryDesk, name: &str) -> Result<Vec<u8>, OutOfMemory>
+    ensures { IfOk result (λ bytes. bytes.items ≡ unwrap_or (file_of desk.now.state name.now) []) }
+{
+    Ok(Vec::from_slice(alloc, desk.file(name).unwrap_or(&[]))?)
+}
+
+// A desk with the inputs of three PLPs.
+fn desk_of_inputs(alloc: Global, inputs: &[Vec<u8>]) -> Result<MemoryDesk, OutOfMemory>
+    requires { length inputs.now ≡ 3 }
+    ensures { (files : ℕ → List ℕ) → AreFiles files inputs.now → IfOk result (λ desk. HasInputs desk.state files) }
+{
+    let mut desk = MemoryDesk::new(alloc);
+    desk.put_file("0", &inputs[0])?;
+    desk.put_file("1", &inputs[1])?;
+    desk.put_file("2", &inputs[2])?;
+    Ok(desk)
+}
+
+// Their names.
+fn names_of_inputs(alloc: Global) -> Result<[Word; 3], OutOfMemory>
+    ensures { IfOk result (λ names. names ≡ input_names) }
+{
+    Ok([
+        Word::new(alloc, "0")?,
+        Word::new(alloc, "1")?,
+        Word::new(alloc, "2")?,
+    ])
+}
+
+fn run_gateway(
+    alloc: Global,
+    plan: &Plan,
+    desk: &mut MemoryDesk,
+) -> Result<gateway_run::Ran, OutOfMemory>
+    requires { length plan.now.plps ≡ 3 }
+    ensures { IfOk result (λ ran. GatewayRuns plan.now desk.old.state desk.new.state (codes "out") input_names ran.frames ran.units) }
+{
+    let names = names_of_inputs(alloc)?;
+    gateway_run::run(alloc, plan, OUT, &names, desk).map_err(|_| OutOfMemory)
+}
+
+/// Sends the inputs of three PLPs.
+pub fn send(alloc: Global, plan: &Plan, inputs: &[Vec<u8>]) -> Result<Sent, OutOfMemory>
+    requires plps { length plan.now.plps ≡ 3 }
+    requires inputs { length inputs.now ≡ 3 }
+    ensures { (files : ℕ → List ℕ) → AreFiles files inputs.now → IfOk result (λ sent. IsSent plan.now files sent) }
+{
+    front_law();
+    plan.obeys_rules();
+    let mut desk = desk_of_inputs(alloc, inputs)?;
+    let ran = run_gateway(alloc, plan, &mut desk)?;
+    let stream = copy_of(alloc, &desk, OUT)?;
+    Ok(Sent { stream, ran })
+}
+
+fn run_modulator(
+    alloc: Global,
+    plan: &Plan,
+    desk: &mut MemoryDesk,
+) -> Result<modulate_run::Ran, OutOfMemory>
+    ensures { IfOk result (λ ran. ModulatorRuns plan.now desk.old.state desk.new.state (codes "in") (codes "out") ran) }
+{
+    modulate_run::run(alloc, plan, IN, OUT, desk).map_err(|_| OutOfMemory)
+}
+
+/// Modulates a stream.
+pub fn modulate(alloc: Global, plan: &Plan, stream: &[u8]) -> Result<Modulated, OutOfMemory>
+    ensures records { IfOk result (λ x. x.records.items ≡ output_of plan.now stream.now) }
+    ensures ran { IfOk result (λ x. x.ran ≡ counted (records_of plan.now stream.now)) }
+{
+    let mut desk = desk_with(alloc, IN, stream)?;
+    let ran = run_modulator(alloc, plan, &mut desk)?;
+    let records = copy_of(alloc, &desk, OUT)?;
+    Ok(Modulated { records, ran })
+}
+
+fn run_receiver(
+    alloc: Global,
+    plan: &Plan,
+    plp: usize,
+    desk: &mut MemoryDesk,
+) -> Result<receive_run::Ran, OutOfMemory>
+    requires { plp < length plan.now.plps }
+    ensures { IfOk result (λ ran. ReceiverRuns plan.now plp desk.old.state desk.new.state (codes "in") (codes "out") ran) }
+{
+    receive_run::run(alloc, plan, plp, IN, OUT, desk).map_err(|_| OutOfMemory)
+}
+
+/// What the PLP at a place is given back of records.
+pub fn receive(
+    alloc: Global,
+    plan: &Plan,
+    plp: usize,
+    records: &[u8],
+) -> Result<Vec<u8>, OutOfMemory>
+    requires { plp < length plan.now.plps }
+    ensures { IfOk result (λ bytes. ComesOf plan.now plp records.now bytes.items) }
+{
+    let mut desk = desk_with(alloc, IN, records)?;
+    run_receiver(alloc, plan, plp, &mut desk)?;
+    copy_of(alloc, &desk, OUT)
+}
