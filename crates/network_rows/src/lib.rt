@@ -2,8 +2,10 @@
 #![tactic(auto)]
 
 mod slots;
+mod units;
 
 pub use slots::{DATA, Slots, add_nulls, null_packet, numbered, packets_of};
+pub use units::{gateway_units, ts_packets};
 
 #[cfg(test)]
 mod hostile;
@@ -13,5 +15,3 @@ mod packets;
 mod receiver;
 #[cfg(test)]
 mod records;
-#[cfg(test)]
-mod units;

@@ -6,15 +6,17 @@ use bit_slice::OutOfMemory;
 use gateway_core::Gateway;
 use plp_config::Plan;
 use std::alloc::Global;
+#[cfg(test)]
 use std::process::Abort;
+#[cfg(test)]
 use std::test::Fail;
 use ts_packet::{SIZE, TsPacket};
 
 // More frames than any stream here has.
 const MOST: u64 = 100;
 
-// The packets of some bytes.
-fn ts_packets(alloc: Global, bytes: &[u8]) -> Result<Vec<TsPacket>, OutOfMemory> {
+/// The packets of some bytes.
+pub fn ts_packets(alloc: Global, bytes: &[u8]) -> Result<Vec<TsPacket>, OutOfMemory> {
     let mut packets = Vec::new(alloc);
     for chunk in bytes.chunks_exact(SIZE) {
         let mut packet = [0; SIZE];
@@ -77,8 +79,8 @@ fn drain(gateway: &mut Gateway<'_>, units: &mut Vec<u8>) -> Result<(), OutOfMemo
     Ok(())
 }
 
-// The units of a network over the packets of each PLP.
-fn gateway_units(
+/// The units of a network over the packets of each PLP.
+pub fn gateway_units(
     alloc: Global,
     plan: &Plan,
     inputs: &[Vec<TsPacket>],
@@ -102,6 +104,7 @@ fn gateway_units(
 }
 
 /// The units of a network over inputs, one for each PLP.
+#[cfg(test)]
 pub(crate) fn units_of(
     rt: &(impl Abort + AllocGlobal),
     plan: &Plan,

@@ -31,14 +31,13 @@ impl Display for Megabytes {
 
 // How many bytes a second that are.
 fn rate(bytes: u64, time: Duration) -> u64 {
-    let millis = (time.as_millis() as u64).max(1);
+    let millis = u64::try_from(time.as_millis()).unwrap_or(u64::MAX).max(1);
     bytes.saturating_mul(1000) / millis
 }
 
-/// A desk whose moves are told on standard error, in one line that is renewed twice a second at most.
+// What was moved, and told of it.
 #[derive(Drop)]
-pub struct Watched<'a, D, R> {
-    pub desk: D,
+struct Progress<'a, R> {
     rt: &'a R,
     // When the run began, if its moves are told.
     start: Option<Instant>,
@@ -47,25 +46,9 @@ pub struct Watched<'a, D, R> {
     stands: bool,
     read: u64,
     written: u64,
-    /// Whether it was said that no packet came.
-    pub none_came: bool,
 }
 
-impl<'a, D, R: Clock + Eprint> Watched<'a, D, R> {
-    /// A desk whose moves are told from now on if this is wanted.
-    pub fn new(desk: D, rt: &'a R, wanted: bool) -> Watched<'a, D, R> {
-        Watched {
-            desk,
-            rt,
-            start: if wanted { Instant::now(rt).ok() } else { None },
-            told: None,
-            stands: false,
-            read: 0,
-            written: 0,
-            none_came: false,
-        }
-    }
-
+impl<R: Clock + Eprint> Progress<'_, R> {
     // Tells how far the run is, if it is time. Nobody is left to tell of a failure there.
     fn tell(&mut self) {
         let Some(start) = self.start else {
@@ -90,12 +73,44 @@ impl<'a, D, R: Clock + Eprint> Watched<'a, D, R> {
         }
     }
 
-    /// Wipes the line away.
-    pub fn wipe(&mut self) {
+    fn wipe(&mut self) {
         if self.stands {
             let _ = eprint!(self.rt; "{WIPE}");
             self.stands = false;
         }
+    }
+}
+
+/// A desk whose moves are told on standard error, in one line that is renewed twice a second at most.
+#[derive(Drop)]
+pub struct Watched<'a, D, R> {
+    pub desk: D,
+    progress: Progress<'a, R>,
+    /// Whether it was said that no packet came.
+    pub none_came: bool,
+}
+
+impl<'a, D, R: Clock + Eprint> Watched<'a, D, R> {
+    /// A desk whose moves are told from now on if this is wanted.
+    pub fn new(desk: D, rt: &'a R, wanted: bool) -> Watched<'a, D, R> {
+        let start = if wanted { Instant::now(rt).ok() } else { None };
+        Watched {
+            desk,
+            progress: Progress {
+                rt,
+                start,
+                told: None,
+                stands: false,
+                read: 0,
+                written: 0,
+            },
+            none_came: false,
+        }
+    }
+
+    /// Wipes the line away.
+    pub fn wipe(&mut self) {
+        self.progress.wipe();
     }
 }
 
@@ -109,8 +124,8 @@ impl<D: Desk, R: Clock + Eprint> Desk for Watched<'_, D, R> {
 
     fn read(&mut self, handle: u32, buffer: &mut [u8]) -> Result<usize, DeskFault> {
         let count = self.desk.read(handle, buffer)?;
-        self.read = self.read.saturating_add(count as u64);
-        self.tell();
+        self.progress.read = self.progress.read.saturating_add(count as u64);
+        self.progress.tell();
         Ok(count)
     }
 
@@ -120,19 +135,19 @@ impl<D: Desk, R: Clock + Eprint> Desk for Watched<'_, D, R> {
 
     fn write(&mut self, out: u32, piece: &[u8]) -> Result<usize, DeskFault> {
         let count = self.desk.write(out, piece)?;
-        self.written = self.written.saturating_add(count as u64);
-        self.tell();
+        self.progress.written = self.progress.written.saturating_add(count as u64);
+        self.progress.tell();
         Ok(count)
     }
 
     fn say(&mut self, text: &[u8]) -> Result<(), DeskFault> {
-        self.wipe();
+        self.progress.wipe();
         self.none_came = self.none_came || text == NO_PACKET;
         self.desk.say(text)
     }
 
     fn say_last(&mut self, text: &[u8]) {
-        self.wipe();
+        self.progress.wipe();
         self.desk.say_last(text);
     }
 }

@@ -1,5 +1,5 @@
 // `plan CONFIG` and `show config FILE`.
-use crate::runs::said;
+use crate::runs::{assert_outcome, assert_status, assert_text, said};
 use config_text::TextWhy;
 use site_top::{ConfigCause, Outcome};
 use std::alloc::{AllocError, Global};
@@ -27,9 +27,9 @@ fn ends(
     lines: &str,
 ) -> Result<(), Fail> {
     let run = said(rt.alloc(), words, text.as_bytes())?;
-    assert_eq!(rt; run.0, outcome);
-    assert_eq!(rt; run.0.status(), status);
-    assert_eq!(rt; run.1.as_slice(), lines.as_bytes());
+    assert_outcome(rt, run.outcome, outcome);
+    assert_status(rt, run.outcome, status);
+    assert_text(rt, &run.said, lines);
     Ok(())
 }
 

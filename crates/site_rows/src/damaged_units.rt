@@ -87,7 +87,7 @@ fn record_of(whole: &[u8], frame: usize) -> &[u8] {
     };
     whole
         .get(begin..begin.wrapping_add(EMPTY_RECORD + blocks))
-        .map_or(&[][..], |record| record)
+        .unwrap_or(&[])
 }
 
 // The record of a muted frame: it would leave 700,000 subseconds behind the one before it.
@@ -134,15 +134,8 @@ fn each_lost_unit_mutes_the_frames_that_it_carries(rt: HostRuntime) -> Result<()
         let expected = left_of(alloc, &whole, left)?;
         for _ in 0..left.units {
             let begin = unit.wrapping_mul(SIZE);
-            let mut lossy = stream
-                .get(..begin)
-                .map_or(&[][..], |front| front)
-                .to_vec(alloc)?;
-            lossy.extend_from_slice(
-                stream
-                    .get(begin.wrapping_add(SIZE)..)
-                    .map_or(&[][..], |rest| rest),
-            )?;
+            let mut lossy = stream.get(..begin).unwrap_or(&[]).to_vec(alloc)?;
+            lossy.extend_from_slice(stream.get(begin.wrapping_add(SIZE)..).unwrap_or(&[]))?;
             assert!(rt; records(&rt, LOADED, &lossy, &line)? == expected, "{unit}");
             unit = unit.wrapping_add(1);
         }

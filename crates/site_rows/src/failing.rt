@@ -1,10 +1,10 @@
 // Commands over devices that fail: each call of each kind in turn, until a run is done. What a run leaves is a front of what it leaves
 // without a fault.
 
-use crate::runs::{LOADED, NETWORK, SMALL, packets, words_of};
+use crate::runs::{Bench, Ended, LOADED, NETWORK, SMALL, assert_outcome, assert_status, packets};
 use network_rows::DATA;
-use ports::{CallKind, MemoryDesk};
-use site_top::{Outcome, run};
+use ports::CallKind;
+use site_top::Outcome;
 use std::alloc::Global;
 use std::process::Abort;
 use std::test::Fail;
@@ -74,51 +74,22 @@ impl Files {
         Files::of(alloc, LOADED, packets(alloc, 110, DATA, 0xAB)?)
     }
 
-    fn desk(&self, alloc: Global) -> Result<MemoryDesk, Fail> {
-        let mut desk = MemoryDesk::new(alloc);
+    fn bench(&self, alloc: Global) -> Result<Bench, Fail> {
+        let mut bench = Bench::new(alloc);
         for (name, bytes) in &self.named {
-            desk.put_file(name, bytes)?;
+            bench.put(name, bytes)?;
         }
-        Ok(desk)
+        Ok(bench)
     }
 }
 
 // A command, with the file that it writes, if it does.
 type Command = (&'static [&'static str], Option<&'static str>);
 
-// What a run left: what it said, and the file that it wrote, if it is there.
-#[derive(Drop)]
-struct Left {
-    outcome: Outcome,
-    said: Vec<u8>,
-    out: Option<Vec<u8>>,
-}
-
-// The bytes of a file of a desk, if it is there.
-fn copy_of(alloc: Global, desk: &MemoryDesk, name: Option<&str>) -> Result<Option<Vec<u8>>, Fail> {
-    let Some(name) = name else {
-        return Ok(None);
-    };
-    match desk.file(name) {
-        Some(bytes) => Ok(Some(bytes.to_vec(alloc)?)),
-        None => Ok(None),
-    }
-}
-
-fn left_on(alloc: Global, desk: &mut MemoryDesk, command: Command) -> Result<Left, Fail> {
-    let words = words_of(alloc, command.0)?;
-    let outcome = run(alloc, words.as_slice(), desk);
-    Ok(Left {
-        outcome,
-        said: desk.said().to_vec(alloc)?,
-        out: copy_of(alloc, desk, command.1)?,
-    })
-}
-
 // What a command leaves over files.
-fn left_by(alloc: Global, files: &Files, command: Command) -> Result<Left, Fail> {
-    let mut desk = files.desk(alloc)?;
-    left_on(alloc, &mut desk, command)
+fn left_by(alloc: Global, files: &Files, command: Command) -> Result<Ended, Fail> {
+    let mut bench = files.bench(alloc)?;
+    bench.ended(command.0, command.1)
 }
 
 // The same if one call of a kind fails.
@@ -128,14 +99,14 @@ fn left_failing(
     command: Command,
     kind: CallKind,
     nth: u64,
-) -> Result<Left, Fail> {
-    let mut desk = files.desk(alloc)?;
-    desk.fail(kind, nth)?;
-    left_on(alloc, &mut desk, command)
+) -> Result<Ended, Fail> {
+    let mut bench = files.bench(alloc)?;
+    bench.fail(kind, nth)?;
+    bench.ended(command.0, command.1)
 }
 
 // Whether a run said a front of what it says if nothing fails, and then its last line.
-fn says_front(left: &Left, usual: &Left, line: &str) -> bool {
+fn says_front(left: &Ended, usual: &Ended, line: &str) -> bool {
     match left.said.as_slice().strip_suffix(line.as_bytes()) {
         Some(front) => usual.said.as_slice().starts_with(front),
         None => false,
@@ -144,7 +115,7 @@ fn says_front(left: &Left, usual: &Left, line: &str) -> bool {
 
 // Whether the file that a run wrote has a front of what it has if nothing fails. It may be absent only if a call failed that can come before it is
 // created.
-fn writes_front(left: &Left, usual: &Left, kind: CallKind) -> bool {
+fn writes_front(left: &Ended, usual: &Ended, kind: CallKind) -> bool {
     match (&left.out, &usual.out) {
         (Some(some), Some(all)) => all.as_slice().starts_with(some.as_slice()),
         (None, Some(_)) => matches!(kind, CallKind::Open | CallKind::Read | CallKind::Create),
@@ -162,7 +133,7 @@ fn fails_in_turn(
     rt: &(impl AllocGlobal + Abort),
     files: &Files,
     command: Command,
-    usual: &Left,
+    usual: &Ended,
     kind: (CallKind, Outcome, &str),
 ) -> Result<u64, Fail> {
     for nth in 1..MOST {
@@ -170,7 +141,7 @@ fn fails_in_turn(
         if left.outcome == Outcome::Done {
             return Ok(nth - 1);
         }
-        assert_eq!(rt; left.outcome, kind.1);
+        assert_outcome(rt, left.outcome, kind.1);
         assert!(rt;
             says_front(&left, usual, kind.2),
             "{} {nth}",
@@ -204,9 +175,9 @@ fn fails_in_each_way(
     rt: &(impl AllocGlobal + Abort),
     files: &Files,
     command: Command,
-) -> Result<Left, Fail> {
+) -> Result<Ended, Fail> {
     let usual = left_by(rt.alloc(), files, command)?;
-    assert_eq!(rt; usual.outcome, Outcome::Done);
+    assert_outcome(rt, usual.outcome, Outcome::Done);
     for kind in KINDS {
         let calls = fails_in_turn(rt, files, command, &usual, kind)?;
         assert!(rt;
@@ -236,8 +207,8 @@ fn a_second_write_that_fails(rt: HostRuntime) -> Result<(), Fail> {
     let files = Files::usual(rt.alloc())?;
     let usual = left_by(rt.alloc(), &files, COMMANDS[0])?;
     let left = left_failing(rt.alloc(), &files, COMMANDS[0], CallKind::Write, 2)?;
-    assert_eq!(rt; left.outcome, Outcome::WriteFault);
-    assert_eq!(rt; left.outcome.status(), 71);
+    assert_outcome(&rt, left.outcome, Outcome::WriteFault);
+    assert_status(&rt, left.outcome, 71);
     assert!(rt; writes_front(&left, &usual, CallKind::Write));
     let some = left.out.as_ref().map_or(0, |bytes| bytes.len());
     let all = usual.out.as_ref().map_or(0, |bytes| bytes.len());
@@ -250,8 +221,8 @@ fn an_input_that_is_not_there(rt: HostRuntime) -> Result<(), Fail> {
     let files = Files::usual(rt.alloc())?;
     let command: Command = (&["gateway", CONFIG, STREAM, "absent"], Some(STREAM));
     let left = left_by(rt.alloc(), &files, command)?;
-    assert_eq!(rt; left.outcome, Outcome::ReadFault);
-    assert_eq!(rt; left.outcome.status(), 70);
+    assert_outcome(&rt, left.outcome, Outcome::ReadFault);
+    assert_status(&rt, left.outcome, 70);
     assert!(rt; left.out.is_none());
     Ok(())
 }
@@ -269,7 +240,7 @@ fn a_last_line_that_cannot_be_said(rt: HostRuntime) -> Result<(), Fail> {
         input: 0,
         packet: 3,
     };
-    assert_eq!(rt; left.outcome, refused);
+    assert_outcome(&rt, left.outcome, refused);
     assert!(rt; left.said.is_empty());
     Ok(())
 }

@@ -1,12 +1,12 @@
 // `gateway CONFIG OUT IN..`. Expected values come from worked examples.
 ghost use Rattle.std.specs.Prelude.{◌<◌};
 
-use crate::runs::{LOADED, NETWORK, SMALL, packets, words_of};
+use crate::runs::{
+    Bench, Ended, LOADED, SMALL, assert_outcome, assert_size, assert_status, assert_text, packets,
+};
 use network_rows::DATA;
-use ports::MemoryDesk;
-use site_top::{Outcome, run};
+use site_top::Outcome;
 use std::alloc::Global;
-use std::process::Abort;
 use std::test::Fail;
 
 const KEPT: &str = "plp 0 type1 1 1/2 qpsk short 0 4 1 keep 2000000\n";
@@ -39,14 +39,6 @@ packets=6
 
 const NULL: [u8; 4] = [0x47, 0x1F, 0xFF, 0x10];
 
-// How a run ended, what it said, and what the file OUT holds if there is one.
-#[derive(Drop)]
-struct Ended {
-    outcome: Outcome,
-    said: Vec<u8>,
-    out: Option<Vec<u8>>,
-}
-
 // Takes the sync byte from a packet.
 fn spoil(bytes: &mut [u8], packet: u8) {
     if let Some(sync) = bytes.get_mut(188 * usize::from(packet)) {
@@ -64,23 +56,12 @@ fn ends(
 ) -> Result<Ended, Fail>
     requires { 0 < most }
 {
-    let mut desk = MemoryDesk::new(alloc);
-    desk.put_file("c", format!(in alloc; "{NETWORK}{plps}")?.as_bytes())?;
+    let mut bench = Bench::with_network(alloc, plps)?;
     for (place, input) in inputs.iter().enumerate() {
-        desk.put_file(format!(in alloc; "{place}")?.as_str(), input)?;
+        bench.put(format!(in alloc; "{place}")?.as_str(), input)?;
     }
-    desk.cap(most);
-    let words = words_of(alloc, words)?;
-    let outcome = run(alloc, words.as_slice(), &mut desk);
-    let out = match desk.file("o") {
-        Some(bytes) => Some(bytes.to_vec(alloc)?),
-        None => None,
-    };
-    Ok(Ended {
-        outcome,
-        said: desk.said().to_vec(alloc)?,
-        out,
-    })
+    bench.cap(most);
+    bench.ended(words, Some("o"))
 }
 
 // The same of one input, in large reads and writes.
@@ -88,40 +69,29 @@ fn ends_with(alloc: Global, plps: &str, input: &[u8]) -> Result<Ended, Fail> {
     ends(alloc, &["gateway", "c", "o", "0"], plps, &[input], 1 << 20)
 }
 
-fn assert_said(rt: &impl Abort, ended: &Ended, line: &str) {
-    assert_eq!(rt; ended.said.as_slice(), line.as_bytes());
-}
-
-// Whether OUT has so many bytes.
-fn assert_size(rt: &impl Abort, ended: &Ended, size: usize) {
-    assert_eq!(rt; ended.out.as_ref().map(|bytes| bytes.len()), Some(size));
-}
-
 #[test]
 fn an_empty_input_makes_four_frames(rt: HostRuntime) -> Result<(), Fail> {
     let ended = ends_with(rt.alloc(), SMALL, &[])?;
-    assert_eq!(rt; ended.outcome, Outcome::Done);
-    assert_eq!(rt; ended.outcome.status(), 0);
-    assert_said(&rt, &ended, "frames=4 units=2\n");
+    assert_outcome(&rt, ended.outcome, Outcome::Done);
+    assert_status(&rt, ended.outcome, 0);
+    assert_text(&rt, &ended.said, "frames=4 units=2\n");
     assert_size(&rt, &ended, 376);
     Ok(())
 }
 
-// What `gateway` wrote, `show t2mi` reads, on one desk.
+// What `gateway` wrote, `show t2mi` reads, on one bench.
 #[test]
 fn the_stream_of_an_empty_input_byte_for_byte(rt: HostRuntime) -> Result<(), Fail> {
     let alloc = rt.alloc();
-    let mut desk = MemoryDesk::new(alloc);
-    desk.put_file("c", format!(in alloc; "{NETWORK}{SMALL}")?.as_bytes())?;
-    desk.put_file("0", &[])?;
-    let words = words_of(alloc, &["gateway", "c", "o", "0"])?;
-    assert_eq!(rt; run(alloc, words.as_slice(), &mut desk), Outcome::Done);
-    let stream = desk.file("o").map_or(&[][..], |bytes| bytes);
-    assert_eq!(rt; hex::encode(alloc, stream)?.as_str(), EMPTY_STREAM);
-    let said = desk.said().len();
-    let words = words_of(alloc, &["show", "t2mi", "o"])?;
-    assert_eq!(rt; run(alloc, words.as_slice(), &mut desk), Outcome::Done);
-    assert_eq!(rt; desk.said().get(said..), Some(EMPTY_LINES.as_bytes()));
+    let mut bench = Bench::with_network(alloc, SMALL)?;
+    bench.put("0", &[])?;
+    bench.done(&rt, &["gateway", "c", "o", "0"])?;
+    let stream = hex::encode(alloc, bench.bytes("o"))?;
+    assert_text(&rt, stream.as_bytes(), EMPTY_STREAM);
+    let said = bench.said().len();
+    bench.done(&rt, &["show", "t2mi", "o"])?;
+    let lines = bench.said().get(said..).unwrap_or(&[]);
+    assert_text(&rt, lines, EMPTY_LINES);
     Ok(())
 }
 
@@ -129,8 +99,8 @@ fn the_stream_of_an_empty_input_byte_for_byte(rt: HostRuntime) -> Result<(), Fai
 fn a_loaded_network_makes_twelve_frames(rt: HostRuntime) -> Result<(), Fail> {
     let input = packets(rt.alloc(), 110, DATA, 0xAB)?;
     let ended = ends_with(rt.alloc(), LOADED, &input)?;
-    assert_eq!(rt; ended.outcome, Outcome::Done);
-    assert_said(&rt, &ended, "frames=12 units=123\n");
+    assert_outcome(&rt, ended.outcome, Outcome::Done);
+    assert_text(&rt, &ended.said, "frames=12 units=123\n");
     assert_size(&rt, &ended, 123 * 188);
     Ok(())
 }
@@ -143,7 +113,7 @@ fn reads_and_writes_may_be_short(rt: HostRuntime) -> Result<(), Fail> {
     for most in [1, 187, 189] {
         let words = ["gateway", "c", "o", "0"];
         let ended = ends(rt.alloc(), &words, LOADED, &[&input], most)?;
-        assert_eq!(rt; ended.outcome, Outcome::Done);
+        assert_outcome(&rt, ended.outcome, Outcome::Done);
         assert!(rt; ended.out == whole.out);
     }
     Ok(())
@@ -170,9 +140,9 @@ fn a_bad_packet_is_refused(rt: HostRuntime) -> Result<(), Fail> {
         input: 0,
         packet: 3,
     };
-    assert_eq!(rt; ended.outcome, refused);
-    assert_eq!(rt; ended.outcome.status(), 5);
-    assert_said(&rt, &ended, "refused: input 0 packet 3\n");
+    assert_outcome(&rt, ended.outcome, refused);
+    assert_status(&rt, ended.outcome, 5);
+    assert_text(&rt, &ended.said, "refused: input 0 packet 3\n");
     assert_size(&rt, &ended, 0);
     Ok(())
 }
@@ -186,7 +156,7 @@ fn an_input_that_ends_inside_a_packet_is_refused(rt: HostRuntime) -> Result<(), 
         input: 0,
         packet: 0,
     };
-    assert_eq!(rt; ended.outcome, refused);
+    assert_outcome(&rt, ended.outcome, refused);
     Ok(())
 }
 
@@ -204,14 +174,14 @@ fn the_bad_packet_of_the_earlier_frame_is_refused(rt: HostRuntime) -> Result<(),
         input: 1,
         packet: 2,
     };
-    assert_eq!(rt; ended.outcome, earlier);
+    assert_outcome(&rt, ended.outcome, earlier);
     spoil(&mut first, 2);
     let ended = ends(alloc, &words, TWO, &[&first, &second], 1 << 20)?;
     let lower = Outcome::InputRefused {
         input: 0,
         packet: 2,
     };
-    assert_eq!(rt; ended.outcome, lower);
+    assert_outcome(&rt, ended.outcome, lower);
     Ok(())
 }
 
@@ -229,9 +199,9 @@ fn wrong_words_create_nothing(rt: HostRuntime) -> Result<(), Fail> {
     ];
     for (words, outcome) in wrong {
         let ended = ends(alloc, words, SMALL, &[&input], 1 << 20)?;
-        assert_eq!(rt; ended.outcome, outcome);
-        assert_eq!(rt; ended.outcome.status(), 2);
-        assert_said(&rt, &ended, "refused: usage\n");
+        assert_outcome(&rt, ended.outcome, outcome);
+        assert_status(&rt, ended.outcome, 2);
+        assert_text(&rt, &ended.said, "refused: usage\n");
         assert!(rt; ended.out.is_none());
     }
     Ok(())
@@ -242,8 +212,8 @@ fn wrong_words_create_nothing(rt: HostRuntime) -> Result<(), Fail> {
 fn an_absent_input_creates_nothing(rt: HostRuntime) -> Result<(), Fail> {
     let words = ["gateway", "c", "o", "0"];
     let ended = ends(rt.alloc(), &words, SMALL, &[], 1 << 20)?;
-    assert_eq!(rt; ended.outcome, Outcome::ReadFault);
-    assert_said(&rt, &ended, "fault: read\n");
+    assert_outcome(&rt, ended.outcome, Outcome::ReadFault);
+    assert_text(&rt, &ended.said, "fault: read\n");
     assert!(rt; ended.out.is_none());
     Ok(())
 }

@@ -23,3 +23,5 @@ mod show_frames;
 mod show_packets;
 #[cfg(test)]
 mod show_t2mi;
+#[cfg(test)]
+mod trial;

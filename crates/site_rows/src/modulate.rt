@@ -1,10 +1,11 @@
 // `modulate CONFIG IN OUT`, over what `gateway` wrote. Expected values come from worked examples.
 ghost use Rattle.std.specs.Prelude.{◌<◌};
 
-use crate::runs::{LOADED, NETWORK, SMALL, packets, words_of};
+use crate::runs::{
+    Bench, Ended, LOADED, SMALL, assert_outcome, assert_size, assert_status, assert_text, packets,
+};
 use network_rows::DATA;
-use ports::MemoryDesk;
-use site_top::{Outcome, run};
+use site_top::Outcome;
 use std::alloc::Global;
 use std::process::Abort;
 use std::test::Fail;
@@ -31,14 +32,6 @@ const MUTED: [[u8; 24]; 3] = [
     [0x54, 0x32, 0x46, 0x52, 2, 0, 0, 0, 0, 0, 0, 0, 0x29, 0xB9, 0x27, 0x00, 0x00, 0x2A, 0xB9, 0x80, 0, 0, 0, 0],
 ];
 
-// How a run ended, what it said, and what OUT holds if it is there.
-#[derive(Drop)]
-struct Ended {
-    outcome: Outcome,
-    said: Vec<u8>,
-    out: Option<Vec<u8>>,
-}
-
 // Where the first record of three blocks begins that comes so many behind the first record.
 fn place_of(frame: usize) -> usize
     requires some { 0 < frame }
@@ -49,13 +42,10 @@ fn place_of(frame: usize) -> usize
 
 // The stream of a network over packets that are not null.
 pub(crate) fn stream(alloc: Global, plps: &str, count: usize) -> Result<Vec<u8>, Fail> {
-    let mut desk = MemoryDesk::new(alloc);
-    desk.put_file("c", format!(in alloc; "{NETWORK}{plps}")?.as_bytes())?;
-    desk.put_file("0", packets(alloc, count, DATA, 0xAB)?.as_slice())?;
-    let words = words_of(alloc, &["gateway", "c", "t", "0"])?;
-    run(alloc, words.as_slice(), &mut desk);
-    let stream = desk.file("t").map_or(&[][..], |bytes| bytes);
-    Ok(stream.to_vec(alloc)?)
+    let mut bench = Bench::with_network(alloc, plps)?;
+    bench.put("0", packets(alloc, count, DATA, 0xAB)?.as_slice())?;
+    bench.run(&["gateway", "c", "t", "0"])?;
+    Ok(bench.bytes("t").to_vec(alloc)?)
 }
 
 // A run over a network and its stream `t`, where a read or a write moves at most so many bytes.
@@ -68,23 +58,12 @@ fn ends(
 ) -> Result<Ended, Fail>
     requires { 0 < most }
 {
-    let mut desk = MemoryDesk::new(alloc);
-    desk.put_file("c", format!(in alloc; "{NETWORK}{plps}")?.as_bytes())?;
+    let mut bench = Bench::with_network(alloc, plps)?;
     if let Some(bytes) = stream {
-        desk.put_file("t", bytes)?;
+        bench.put("t", bytes)?;
     }
-    desk.cap(most);
-    let words = words_of(alloc, words)?;
-    let outcome = run(alloc, words.as_slice(), &mut desk);
-    let out = match desk.file("o") {
-        Some(bytes) => Some(bytes.to_vec(alloc)?),
-        None => None,
-    };
-    Ok(Ended {
-        outcome,
-        said: desk.said().to_vec(alloc)?,
-        out,
-    })
+    bench.cap(most);
+    bench.ended(words, Some("o"))
 }
 
 // The records that are made of a stream, after a run that is done and said this.
@@ -96,36 +75,31 @@ pub(crate) fn records(
 ) -> Result<Vec<u8>, Fail> {
     let words = ["modulate", "c", "t", "o"];
     let ended = ends(rt.alloc(), &words, plps, Some(stream), 1 << 20)?;
-    assert_eq!(rt; ended.outcome, Outcome::Done);
-    assert_eq!(rt; ended.said.as_slice(), line.as_bytes());
+    assert_outcome(rt, ended.outcome, Outcome::Done);
+    assert_text(rt, &ended.said, line);
     match &ended.out {
         Some(out) => Ok(out.to_vec(rt.alloc())?),
         None => Ok(Vec::new(rt.alloc())),
     }
 }
 
-// What one command wrote, the next one reads, on one desk.
+// What one command wrote, the next one reads, on one bench.
 #[test]
 fn an_empty_input_through_three_commands(rt: HostRuntime) -> Result<(), Fail> {
     let alloc = rt.alloc();
-    let mut desk = MemoryDesk::new(alloc);
-    desk.put_file("c", format!(in alloc; "{NETWORK}{SMALL}")?.as_bytes())?;
-    desk.put_file("0", &[])?;
+    let mut bench = Bench::with_network(alloc, SMALL)?;
+    bench.put("0", &[])?;
     let lines: [&[&str]; 3] = [
         &["gateway", "c", "t", "0"],
         &["modulate", "c", "t", "o"],
         &["show", "frames", "o"],
     ];
     for words in lines {
-        let words = words_of(alloc, words)?;
-        assert_eq!(rt; run(alloc, words.as_slice(), &mut desk), Outcome::Done);
+        bench.done(&rt, words)?;
     }
-    assert_eq!(rt;
-        desk.file("o").map(|bytes| bytes.len()),
-        Some(4 * EMPTY_RECORD)
-    );
+    assert!(rt; bench.bytes("o").len() == 4 * EMPTY_RECORD);
     let said = format!(in alloc; "frames=4 units=2\nfirst=0 records=4 muted=0\n{FOUR_LINES}")?;
-    assert_eq!(rt; desk.said(), said.as_bytes());
+    assert_text(&rt, bench.said(), &said);
     Ok(())
 }
 
@@ -137,7 +111,7 @@ fn records_are_the_same_however_few_bytes_move(rt: HostRuntime) -> Result<(), Fa
     for most in [1, 187, 189] {
         let words = ["modulate", "c", "t", "o"];
         let ended = ends(alloc, &words, SMALL, Some(&stream), most)?;
-        assert_eq!(rt; ended.outcome, Outcome::Done);
+        assert_outcome(&rt, ended.outcome, Outcome::Done);
         assert!(rt; ended.out.as_ref() == Some(&whole));
     }
     Ok(())
@@ -165,19 +139,13 @@ fn a_lost_unit_mutes_two_frames(rt: HostRuntime) -> Result<(), Fail> {
     let alloc = rt.alloc();
     let stream = stream(alloc, LOADED, 110)?;
     let whole = records(&rt, LOADED, &stream, "first=0 records=12 muted=0\n")?;
-    let mut lossy = stream
-        .get(..45 * 188)
-        .map_or(&[][..], |front| front)
-        .to_vec(alloc)?;
-    lossy.extend_from_slice(stream.get(46 * 188..).map_or(&[][..], |rest| rest))?;
+    let mut lossy = stream.get(..45 * 188).unwrap_or(&[]).to_vec(alloc)?;
+    lossy.extend_from_slice(stream.get(46 * 188..).unwrap_or(&[]))?;
     let muted = records(&rt, LOADED, &lossy, "first=0 records=12 muted=2\n")?;
-    let mut expected = whole
-        .get(..place_of(3))
-        .map_or(&[][..], |front| front)
-        .to_vec(alloc)?;
+    let mut expected = whole.get(..place_of(3)).unwrap_or(&[]).to_vec(alloc)?;
     expected.extend_from_slice(&MUTED[1])?;
     expected.extend_from_slice(&MUTED[2])?;
-    expected.extend_from_slice(whole.get(place_of(5)..).map_or(&[][..], |rest| rest))?;
+    expected.extend_from_slice(whole.get(place_of(5)..).unwrap_or(&[]))?;
     assert!(rt; muted == expected);
     Ok(())
 }
@@ -192,12 +160,9 @@ fn a_damaged_timestamp_mutes_its_frame(rt: HostRuntime) -> Result<(), Fail> {
         *byte = !*byte;
     }
     let muted = records(&rt, LOADED, &stream, "first=0 records=12 muted=1\n")?;
-    let mut expected = whole
-        .get(..place_of(2))
-        .map_or(&[][..], |front| front)
-        .to_vec(alloc)?;
+    let mut expected = whole.get(..place_of(2)).unwrap_or(&[]).to_vec(alloc)?;
     expected.extend_from_slice(&MUTED[0])?;
-    expected.extend_from_slice(whole.get(place_of(3)..).map_or(&[][..], |rest| rest))?;
+    expected.extend_from_slice(whole.get(place_of(3)..).unwrap_or(&[]))?;
     assert!(rt; muted == expected);
     Ok(())
 }
@@ -211,16 +176,13 @@ fn without_a_superframe_there_is_no_record(rt: HostRuntime) -> Result<(), Fail> 
     assert!(rt; stream.len() == 376);
     for bytes in [&stream[188..], &[][..]] {
         let ended = ends(alloc, &words, SMALL, Some(bytes), 1 << 20)?;
-        assert_eq!(rt; ended.outcome, Outcome::NoSuperframe);
-        assert_eq!(rt; ended.outcome.status(), 6);
-        assert_eq!(rt;
-            ended.said.as_slice(),
-            "refused: no superframe\n".as_bytes()
-        );
-        assert_eq!(rt; ended.out.as_ref().map(|out| out.len()), Some(0));
+        assert_outcome(&rt, ended.outcome, Outcome::NoSuperframe);
+        assert_status(&rt, ended.outcome, 6);
+        assert_text(&rt, &ended.said, "refused: no superframe\n");
+        assert_size(&rt, &ended, 0);
     }
     let whole = records(&rt, SMALL, &stream, "first=0 records=4 muted=0\n")?;
-    let unit = stream.get(..188).map_or(&[][..], |unit| unit);
+    let unit = stream.get(..188).unwrap_or(&[]);
     let front = records(&rt, SMALL, unit, "first=0 records=2 muted=0\n")?;
     assert!(rt; whole.starts_with(&front) && front.len() == 2 * EMPTY_RECORD);
     Ok(())
@@ -231,8 +193,8 @@ fn without_a_superframe_there_is_no_record(rt: HostRuntime) -> Result<(), Fail> 
 fn nothing_is_created_for_wrong_words(rt: HostRuntime) -> Result<(), Fail> {
     let alloc = rt.alloc();
     let absent = ends(alloc, &["modulate", "c", "t", "o"], SMALL, None, 1 << 20)?;
-    assert_eq!(rt; absent.outcome, Outcome::ReadFault);
-    assert_eq!(rt; absent.said.as_slice(), "fault: read\n".as_bytes());
+    assert_outcome(&rt, absent.outcome, Outcome::ReadFault);
+    assert_text(&rt, &absent.said, "fault: read\n");
     assert!(rt; absent.out.is_none());
     let wrong: [&[&str]; 4] = [
         &["modulate", "c", "t"],
@@ -242,7 +204,7 @@ fn nothing_is_created_for_wrong_words(rt: HostRuntime) -> Result<(), Fail> {
     ];
     for words in wrong {
         let ended = ends(alloc, words, SMALL, Some(&[]), 1 << 20)?;
-        assert_eq!(rt; ended.outcome, Outcome::Usage);
+        assert_outcome(&rt, ended.outcome, Outcome::Usage);
         assert!(rt; ended.out.is_none());
     }
     Ok(())

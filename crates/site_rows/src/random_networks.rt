@@ -1,9 +1,7 @@
 // Forty networks, of which some frames are muted on the way. What must come back is counted here from the bit rate and the data field of
 // each PLP (EN 302 755, table 6 and annex C): a packet is lost if a muted frame carries a byte of it.
 
-use crate::runs::words_of;
-use ports::MemoryDesk;
-use site_top::{Outcome, run};
+use crate::runs::Bench;
 use std::alloc::Global;
 use std::process::Abort;
 use std::test::Fail;
@@ -180,34 +178,23 @@ impl Network {
     }
 }
 
-// Runs a command that is done.
-fn done(
-    rt: &(impl AllocGlobal + Abort),
-    desk: &mut MemoryDesk,
-    words: &[&str],
-) -> Result<(), Fail> {
-    let words = words_of(rt.alloc(), words)?;
-    assert_eq!(rt; run(rt.alloc(), words.as_slice(), desk), Outcome::Done);
-    Ok(())
-}
-
 const NAMES: [&str; 5] = ["0", "1", "2", "3", "4"];
 
-// The records of a network, on a desk with its configuration.
-fn recorded(rt: &(impl AllocGlobal + Abort), network: &Network) -> Result<MemoryDesk, Fail> {
-    let mut desk = MemoryDesk::new(rt.alloc());
-    desk.put_file("c", network.text.as_bytes())?;
+// The records of a network, on a bench with its configuration.
+fn recorded(rt: &(impl AllocGlobal + Abort), network: &Network) -> Result<Bench, Fail> {
+    let mut bench = Bench::new(rt.alloc());
+    bench.put("c", network.text.as_bytes())?;
     let mut words = Vec::new(rt.alloc());
     for word in ["gateway", "c", "t"] {
         words.push(word)?;
     }
     for (name, bytes) in NAMES.iter().zip(network.inputs.as_slice()) {
-        desk.put_file(name, bytes)?;
+        bench.put(name, bytes)?;
         words.push(*name)?;
     }
-    done(rt, &mut desk, &words)?;
-    done(rt, &mut desk, &["modulate", "c", "t", "r"])?;
-    Ok(desk)
+    bench.done(rt, &words)?;
+    bench.done(rt, &["modulate", "c", "t", "r"])?;
+    Ok(bench)
 }
 
 // The length of the rest of a record.
@@ -226,9 +213,9 @@ fn add_record(out: &mut Vec<u8>, head: &[u8], rest: &[u8], muted: bool) -> Resul
         out.extend_from_slice(rest)?;
         return Ok(());
     }
-    out.extend_from_slice(head.get(..4).map_or(&[][..], |front| front))?;
+    out.extend_from_slice(head.get(..4).unwrap_or(&[]))?;
     out.extend_from_slice(&[2, 0, 0, 0])?;
-    out.extend_from_slice(head.get(8..20).map_or(&[][..], |moment| moment))?;
+    out.extend_from_slice(head.get(8..20).unwrap_or(&[]))?;
     out.extend_from_slice(&[0; 4])?;
     Ok(())
 }
@@ -324,12 +311,12 @@ fn comes_back(
 ) -> Result<(), Fail> {
     let alloc = rt.alloc();
     for (plp, sent) in network.plps.iter().zip(network.inputs.as_slice()) {
-        let mut desk = MemoryDesk::new(alloc);
-        desk.put_file("c", network.text.as_bytes())?;
-        desk.put_file("r", records)?;
+        let mut bench = Bench::new(alloc);
+        bench.put("c", network.text.as_bytes())?;
+        bench.put("r", records)?;
         let id = format!(in alloc; "{}", plp.id)?;
-        done(rt, &mut desk, &["receive", "c", &id, "r", "o"])?;
-        let given = desk.file("o").map_or(&[][..], |bytes| bytes);
+        bench.done(rt, &["receive", "c", &id, "r", "o"])?;
+        let given = bench.bytes("o");
         assert!(rt; given.len() >= sent.len());
         let must = expected(alloc, *plp, sent, muted, given.len() / 188)?;
         assert!(rt; given == must.as_slice());
@@ -342,8 +329,8 @@ fn muted_frames_cost_their_packets_and_no_others(rt: HostRuntime) -> Result<(), 
     for seed in 1..41 {
         let mut draws = Draws { state: seed };
         let network = Network::drawn(rt.alloc(), &mut draws)?;
-        let desk = recorded(&rt, &network)?;
-        let records = desk.file("r").map_or(&[][..], |bytes| bytes);
+        let bench = recorded(&rt, &network)?;
+        let records = bench.bytes("r");
         let (lossy, muted) = mute(rt.alloc(), &mut draws, records)?;
         comes_back(&rt, &network, &lossy, &muted)?;
         let none = vec![in rt.alloc(); false; muted.len()]?;

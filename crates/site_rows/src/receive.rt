@@ -1,11 +1,12 @@
 // `receive CONFIG PLP IN OUT`, over what `modulate` wrote of what `gateway` wrote. Expected values come from worked examples.
 
-use crate::runs::{LOADED, NETWORK, SMALL, words_of};
+use crate::runs::{
+    Bench, Ended, LOADED, NETWORK, SMALL, assert_outcome, assert_size, assert_status, assert_text,
+};
 use network_rows::{Slots, add_nulls, null_packet, numbered, packets_of};
-use ports::MemoryDesk;
 use sample_networks::REALISTIC_TEXT;
 use site_frame::RecordWhy;
-use site_top::{Outcome, run};
+use site_top::Outcome;
 use std::alloc::Global;
 use std::process::Abort;
 use std::test::Fail;
@@ -24,37 +25,17 @@ const APART: [[u8; 24]; 2] = [
     [0x54, 0x32, 0x46, 0x52, 2, 0, 0, 0, 0, 0, 0, 0, 0x29, 0xB9, 0x27, 0x00, 0x00, 0x15, 0x5C, 0xC0, 0, 0, 0, 0],
 ];
 
-// Runs a command that is done.
-fn done(
-    rt: &(impl AllocGlobal + Abort),
-    desk: &mut MemoryDesk,
-    words: &[&str],
-) -> Result<(), Fail> {
-    let words = words_of(rt.alloc(), words)?;
-    assert_eq!(rt; run(rt.alloc(), words.as_slice(), desk), Outcome::Done);
-    Ok(())
-}
-
-// A file of a desk.
-fn file_of(alloc: Global, desk: &MemoryDesk, name: &str) -> Result<Vec<u8>, Fail> {
-    Ok(
-        desk.file(name)
-            .map_or(&[][..], |bytes| bytes)
-            .to_vec(alloc)?,
-    )
-}
-
 // The stream of a network with one PLP.
 fn stream_of(
     rt: &(impl AllocGlobal + Abort),
     config: &str,
     packets: &[u8],
 ) -> Result<Vec<u8>, Fail> {
-    let mut desk = MemoryDesk::new(rt.alloc());
-    desk.put_file("c", config.as_bytes())?;
-    desk.put_file("0", packets)?;
-    done(rt, &mut desk, &["gateway", "c", "t", "0"])?;
-    file_of(rt.alloc(), &desk, "t")
+    let mut bench = Bench::new(rt.alloc());
+    bench.put("c", config.as_bytes())?;
+    bench.put("0", packets)?;
+    bench.done(rt, &["gateway", "c", "t", "0"])?;
+    Ok(bench.bytes("t").to_vec(rt.alloc())?)
 }
 
 // What is given back of a PLP from a stream of its network, after a run that said this.
@@ -65,13 +46,13 @@ fn received(
     stream: &[u8],
     line: &str,
 ) -> Result<Vec<u8>, Fail> {
-    let mut desk = MemoryDesk::new(rt.alloc());
-    desk.put_file("c", config.as_bytes())?;
-    desk.put_file("t", stream)?;
-    done(rt, &mut desk, &["modulate", "c", "t", "r"])?;
-    done(rt, &mut desk, &["receive", "c", plp, "r", "o"])?;
-    assert!(rt; desk.said().ends_with(line.as_bytes()));
-    file_of(rt.alloc(), &desk, "o")
+    let mut bench = Bench::new(rt.alloc());
+    bench.put("c", config.as_bytes())?;
+    bench.put("t", stream)?;
+    bench.done(rt, &["modulate", "c", "t", "r"])?;
+    bench.done(rt, &["receive", "c", plp, "r", "o"])?;
+    assert!(rt; bench.said().ends_with(line.as_bytes()));
+    Ok(bench.bytes("o").to_vec(rt.alloc())?)
 }
 
 // From a stream without some of its units come these packets.
@@ -128,7 +109,7 @@ fn from_a_later_superframe_on(rt: HostRuntime) -> Result<(), Fail> {
     let config = format!(in rt.alloc(); "{NETWORK}{LOADED}")?;
     let sent = numbered(rt.alloc(), 110)?;
     let stream = stream_of(&rt, &config, &sent)?;
-    let rest = stream.get(90 * 188..).map_or(&[][..], |units| units);
+    let rest = stream.get(90 * 188..).unwrap_or(&[]);
     let slots = [Slots::Sent(97, 110), Slots::Null(14)];
     gives_back(&rt, &config, &sent, rest, "first=97 slots=27\n", &slots)
 }
@@ -140,11 +121,8 @@ fn a_lost_unit_costs_the_slots_of_its_frames(rt: HostRuntime) -> Result<(), Fail
     let config = format!(in alloc; "{NETWORK}{LOADED}")?;
     let sent = numbered(alloc, 110)?;
     let stream = stream_of(&rt, &config, &sent)?;
-    let mut lossy = stream
-        .get(..45 * 188)
-        .map_or(&[][..], |front| front)
-        .to_vec(alloc)?;
-    lossy.extend_from_slice(stream.get(46 * 188..).map_or(&[][..], |rest| rest))?;
+    let mut lossy = stream.get(..45 * 188).unwrap_or(&[]).to_vec(alloc)?;
+    lossy.extend_from_slice(stream.get(46 * 188..).unwrap_or(&[]))?;
     let slots = [
         Slots::Sent(0, 26),
         Slots::Null(29),
@@ -190,18 +168,18 @@ fn a_realistic_network(rt: HostRuntime) -> Result<(), Fail> {
 
 // The stream of the network of three PLPs, over inputs of which each packet has its number.
 fn mixed_stream(rt: &(impl AllocGlobal + Abort), sent: &[u8]) -> Result<Vec<u8>, Fail> {
-    let mut desk = MemoryDesk::new(rt.alloc());
-    desk.put_file("c", MIXED.as_bytes())?;
+    let mut bench = Bench::new(rt.alloc());
+    bench.put("c", MIXED.as_bytes())?;
     for name in ["1", "2", "3"] {
-        desk.put_file(name, sent)?;
+        bench.put(name, sent)?;
     }
-    done(rt, &mut desk, &["gateway", "c", "t", "1", "2", "3"])?;
-    file_of(rt.alloc(), &desk, "t")
+    bench.done(rt, &["gateway", "c", "t", "1", "2", "3"])?;
+    Ok(bench.bytes("t").to_vec(rt.alloc())?)
 }
 
 // Each packet of an output is the one that was given back of all units, or a null packet.
 fn is_part_of(rt: &impl Abort, given: &[u8], all: &[u8]) {
-    assert_eq!(rt; given.len(), all.len());
+    assert!(rt; given.len() == all.len());
     let null = null_packet();
     for (packet, own) in given.chunks_exact(188).zip(all.chunks_exact(188)) {
         assert!(rt; packet == own || packet == null.as_slice());
@@ -214,16 +192,13 @@ fn is_part_of(rt: &impl Abort, given: &[u8], all: &[u8]) {
 fn each_plp_of_a_network_of_both_types(rt: HostRuntime) -> Result<(), Fail> {
     let sent = numbered(rt.alloc(), 80)?;
     let stream = mixed_stream(&rt, &sent)?;
-    let later = stream.get(20 * 188..).map_or(&[][..], |units| units);
-    let mut lossy = stream
-        .get(..60 * 188)
-        .map_or(&[][..], |front| front)
-        .to_vec(rt.alloc())?;
-    lossy.extend_from_slice(stream.get(61 * 188..).map_or(&[][..], |rest| rest))?;
+    let later = stream.get(20 * 188..).unwrap_or(&[]);
+    let mut lossy = stream.get(..60 * 188).unwrap_or(&[]).to_vec(rt.alloc())?;
+    lossy.extend_from_slice(stream.get(61 * 188..).unwrap_or(&[]))?;
     for plp in ["1", "2", "3"] {
         let all = received(&rt, MIXED, plp, &stream, "\n")?;
         assert!(rt; all.starts_with(&sent));
-        let behind = all.get(sent.len()..).map_or(&[][..], |rest| rest);
+        let behind = all.get(sent.len()..).unwrap_or(&[]);
         for packet in behind.chunks_exact(188) {
             assert!(rt; packet == null_packet().as_slice());
         }
@@ -233,27 +208,19 @@ fn each_plp_of_a_network_of_both_types(rt: HostRuntime) -> Result<(), Fail> {
     Ok(())
 }
 
-// How a run over the small network and its records `r` ended, what it said, and what OUT holds if it is there.
-fn ends(
-    alloc: Global,
-    words: &[&str],
-    records: &[u8],
-) -> Result<(Outcome, Vec<u8>, Option<usize>), Fail> {
-    let mut desk = MemoryDesk::new(alloc);
-    desk.put_file("c", format!(in alloc; "{NETWORK}{SMALL}")?.as_bytes())?;
-    desk.put_file("r", records)?;
-    let words = words_of(alloc, words)?;
-    let outcome = run(alloc, words.as_slice(), &mut desk);
-    let said = desk.said().to_vec(alloc)?;
-    Ok((outcome, said, desk.file("o").map(|out| out.len())))
+// How a run over the small network and its records `r` ended.
+fn ends(alloc: Global, words: &[&str], records: &[u8]) -> Result<Ended, Fail> {
+    let mut bench = Bench::with_network(alloc, SMALL)?;
+    bench.put("r", records)?;
+    bench.ended(words, Some("o"))
 }
 
 #[test]
 fn a_file_without_records(rt: HostRuntime) -> Result<(), Fail> {
     let ended = ends(rt.alloc(), &["receive", "c", "0", "r", "o"], &[])?;
-    assert_eq!(rt; ended.0, Outcome::Done);
-    assert_eq!(rt; ended.1.as_slice(), "first=0 slots=0\n".as_bytes());
-    assert_eq!(rt; ended.2, Some(0));
+    assert_outcome(&rt, ended.outcome, Outcome::Done);
+    assert_text(&rt, &ended.said, "first=0 slots=0\n");
+    assert_size(&rt, &ended, 0);
     Ok(())
 }
 
@@ -271,10 +238,10 @@ fn refused_records(rt: HostRuntime) -> Result<(), Fail> {
     ];
     for (records, number, why, line) in rows {
         let ended = ends(rt.alloc(), &words, records)?;
-        assert_eq!(rt; ended.0, Outcome::RecordRefused { number, why });
-        assert_eq!(rt; ended.0.status(), 7);
-        assert_eq!(rt; ended.1.as_slice(), line.as_bytes());
-        assert_eq!(rt; ended.2, Some(0));
+        assert_outcome(&rt, ended.outcome, Outcome::RecordRefused { number, why });
+        assert_status(&rt, ended.outcome, 7);
+        assert_text(&rt, &ended.said, line);
+        assert_size(&rt, &ended, 0);
     }
     Ok(())
 }
@@ -282,10 +249,10 @@ fn refused_records(rt: HostRuntime) -> Result<(), Fail> {
 #[test]
 fn an_unknown_plp(rt: HostRuntime) -> Result<(), Fail> {
     let ended = ends(rt.alloc(), &["receive", "c", "9", "r", "o"], &[])?;
-    assert_eq!(rt; ended.0, Outcome::UnknownPlp { plp: 9 });
-    assert_eq!(rt; ended.0.status(), 8);
-    assert_eq!(rt; ended.1.as_slice(), "refused: plp 9\n".as_bytes());
-    assert_eq!(rt; ended.2, None);
+    assert_outcome(&rt, ended.outcome, Outcome::UnknownPlp { plp: 9 });
+    assert_status(&rt, ended.outcome, 8);
+    assert_text(&rt, &ended.said, "refused: plp 9\n");
+    assert!(rt; ended.out.is_none());
     Ok(())
 }
 
@@ -303,8 +270,8 @@ fn nothing_is_created_for_wrong_words(rt: HostRuntime) -> Result<(), Fail> {
     ];
     for words in wrong {
         let ended = ends(rt.alloc(), words, &[])?;
-        assert_eq!(rt; ended.0, Outcome::Usage);
-        assert_eq!(rt; ended.2, None);
+        assert_outcome(&rt, ended.outcome, Outcome::Usage);
+        assert!(rt; ended.out.is_none());
     }
     Ok(())
 }

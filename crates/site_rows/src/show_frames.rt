@@ -1,7 +1,7 @@
 // `show frames FILE`. Records were spelled by hand, section by section.
 ghost use Rattle.std.specs.Prelude.{◌<◌};
 
-use crate::runs::said_by;
+use crate::runs::{assert_outcome, assert_status, assert_text, said_by};
 use site_frame::RecordWhy;
 use site_top::Outcome;
 use std::alloc::Global;
@@ -47,8 +47,8 @@ fn shows(
     requires { 0 < most }
 {
     let run = said_by(rt.alloc(), &["show", "frames", "f"], file, most)?;
-    assert_eq!(rt; run.0, outcome);
-    assert_eq!(rt; run.1.as_slice(), text.as_bytes());
+    assert_outcome(rt, run.outcome, outcome);
+    assert_text(rt, &run.said, text);
     Ok(())
 }
 
@@ -106,7 +106,7 @@ fn the_second_record_is_refused(rt: HostRuntime) -> Result<(), Fail> {
         let text = format!(in alloc; "{MUTED_LINE}refused: record 1 why {number}\n")?;
         shows(&rt, file.as_slice(), 1000, refused(why), text.as_str())?;
     }
-    assert_eq!(rt; refused(RecordWhy::Kind).status(), 7);
+    assert_status(&rt, refused(RecordWhy::Kind), 7);
     Ok(())
 }
 

@@ -1,5 +1,5 @@
 // `show packets FILE`.
-use crate::runs::said;
+use crate::runs::{assert_outcome, assert_status, assert_text, said};
 use site_top::Outcome;
 use std::process::Abort;
 use std::test::Fail;
@@ -41,8 +41,8 @@ fn shows(
     text: &str,
 ) -> Result<(), Fail> {
     let run = said(rt.alloc(), &["show", "packets", "f"], file)?;
-    assert_eq!(rt; run.0, outcome);
-    assert_eq!(rt; run.1.as_slice(), text.as_bytes());
+    assert_outcome(rt, run.outcome, outcome);
+    assert_text(rt, &run.said, text);
     Ok(())
 }
 
@@ -50,7 +50,7 @@ fn shows(
 fn lines_of_one_timestamp_packet(rt: HostRuntime) -> Result<(), Fail> {
     let text = format!(in rt.alloc(); "{TIMESTAMP_LINE}packets=1\n")?;
     shows(&rt, &TIMESTAMP, Outcome::Done, text.as_str())?;
-    assert_eq!(rt; Outcome::Done.status(), 0);
+    assert_status(&rt, Outcome::Done, 0);
     Ok(())
 }
 
@@ -71,7 +71,7 @@ fn a_wrong_packet_is_refused_where_it_begins(rt: HostRuntime) -> Result<(), Fail
     wrong[20] = 0xE5;
     let crc = refused(0, PacketWhy::Crc);
     shows(&rt, &wrong, crc, "refused: packet at 0 why 2\n")?;
-    assert_eq!(rt; crc.status(), 10);
+    assert_status(&rt, crc, 10);
     shows(
         &rt,
         &TIMESTAMP[..20],
@@ -102,7 +102,7 @@ fn a_payload_of_the_wrong_length_is_refused(rt: HostRuntime) -> Result<(), Fail>
         why: PacketWhy::PayloadShape,
     };
     shows(&rt, file.as_slice(), shape, text.as_str())?;
-    assert_eq!(rt; shape.status(), 10);
+    assert_status(&rt, shape, 10);
     Ok(())
 }
 
@@ -118,18 +118,18 @@ fn other_words_are_no_command(rt: HostRuntime) -> Result<(), Fail> {
     ];
     for words in lists {
         let run = said(rt.alloc(), words, &TIMESTAMP)?;
-        assert_eq!(rt; run.0, Outcome::Usage);
-        assert_eq!(rt; run.1.as_slice(), b"refused: usage\n".as_slice());
+        assert_outcome(&rt, run.outcome, Outcome::Usage);
+        assert_text(&rt, &run.said, "refused: usage\n");
     }
-    assert_eq!(rt; Outcome::Usage.status(), 2);
+    assert_status(&rt, Outcome::Usage, 2);
     Ok(())
 }
 
 #[test]
 fn an_absent_file_is_a_read_fault(rt: HostRuntime) -> Result<(), Fail> {
     let run = said(rt.alloc(), &["show", "packets", "g"], &TIMESTAMP)?;
-    assert_eq!(rt; run.0, Outcome::ReadFault);
-    assert_eq!(rt; run.1.as_slice(), b"fault: read\n".as_slice());
+    assert_outcome(&rt, run.outcome, Outcome::ReadFault);
+    assert_text(&rt, &run.said, "fault: read\n");
     Ok(())
 }
 

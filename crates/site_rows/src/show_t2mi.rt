@@ -1,7 +1,7 @@
 // `show t2mi FILE`. The lines come from a Python program that reads the fields of the units' bytes.
 ghost use Rattle.std.specs.Prelude.{◌<◌};
 
-use crate::runs::said_by;
+use crate::runs::{assert_outcome, assert_text, said_by};
 use site_top::Outcome;
 use std::alloc::Global;
 use std::process::Abort;
@@ -95,8 +95,8 @@ fn shows(rt: &(impl AllocGlobal + Abort), file: &[u8], most: usize, text: &str) 
     requires { 0 < most }
 {
     let run = said_by(rt.alloc(), &["show", "t2mi", "f"], file, most)?;
-    assert_eq!(rt; run.0, Outcome::Done);
-    assert_eq!(rt; run.1.as_slice(), text.as_bytes());
+    assert_outcome(rt, run.outcome, Outcome::Done);
+    assert_text(rt, &run.said, text);
     Ok(())
 }
 

@@ -2,7 +2,7 @@ use super::*;
 use std::alloc::Allocator;
 use std::fmt::Display;
 use std::fs::{File, Metadata, OpenOptions};
-use std::test::Fail;
+use std::process::Abort;
 
 // A runtime with no files, whose standard output takes this text alone, and that at once.
 #[derive(Drop)]
@@ -92,150 +92,300 @@ impl Read for Interrupted {
     }
 }
 
-#[test]
-fn reads_a_real_file_to_its_end(rt: HostRuntime) -> Result<(), Fail> {
-    fs::write(&rt, "host_desk_test", b"hello")?;
-    let mut desk = HostDesk::new(&rt, rt.alloc());
-    let handle = desk.open("host_desk_test")?;
+const NO_FAULTS: Counts = Counts {
+    reads: 0,
+    writes: 0,
+    lines: 0,
+};
+
+// A call of a desk or of the system, with what it answers. A test is a table of them, since a function that makes the calls itself is proved with
+// all that each of them promises, which takes minutes.
+enum Call {
+    Open(&'static str, Result<u32, DeskFault>),
+    // Of a handle: the bytes that are read.
+    Read(u32, Result<&'static [u8], DeskFault>),
+    Create(&'static str, Result<u32, DeskFault>),
+    Write(u32, &'static [u8], Result<usize, DeskFault>),
+    Say(&'static [u8], Result<(), DeskFault>),
+    SayLast(&'static [u8]),
+    Counts(Counts),
+    NoFault,
+    // The first fault is that the file of this name is read.
+    IsRead(&'static str),
+    // The first fault is that the file of this name was not read, for this reason.
+    NotRead(&'static str, &'static str),
+    // A real file, without the desk: it is made of these bytes, has this text, or is removed.
+    MakeFile(&'static str, &'static [u8]),
+    HasText(&'static str, &'static str),
+    RemoveFile(&'static str),
+}
+
+// Whether these bytes are those of an answer.
+fn are(some: &[u8], bytes: Result<&[u8], DeskFault>) -> bool {
+    match bytes {
+        Ok(bytes) => some == bytes,
+        Err(DeskFault) => false,
+    }
+}
+
+// Whether a read gives these bytes. It is false if there is no such handle.
+fn reads<R: Files + Print + Drop>(
+    desk: &mut HostDesk<R>,
+    handle: u32,
+    bytes: Result<&[u8], DeskFault>,
+) -> bool {
     let mut buffer = [0u8; 8];
-    let count = desk.read(handle, &mut buffer)?;
-    assert_eq!(rt; &buffer[..count], b"hello".as_slice());
-    let count = desk.read(handle, &mut buffer)?;
-    assert_eq!(rt; count, 0);
-    fs::remove_file(&rt, "host_desk_test")?;
-    Ok(())
+    if handle as usize >= desk.handles.len() {
+        return false;
+    }
+    match desk.read(handle, &mut buffer) {
+        Ok(count) => are(&buffer[..count], bytes),
+        Err(DeskFault) => bytes.is_err(),
+    }
+}
+
+// Whether a write answers so. It is false if there is no such handle, or nothing to write.
+fn writes<R: Files + Print + Drop>(
+    desk: &mut HostDesk<R>,
+    out: u32,
+    piece: &[u8],
+    count: Result<usize, DeskFault>,
+) -> bool {
+    if out as usize >= desk.outs.len() || piece.is_empty() {
+        return false;
+    }
+    desk.write(out, piece) == count
+}
+
+fn says_last<R: Files + Print + Drop>(desk: &mut HostDesk<R>, text: &[u8]) -> bool {
+    desk.say_last(text);
+    true
+}
+
+fn is_read(fault: Option<&HostFault>, name: &str) -> bool {
+    match fault {
+        Some(HostFault::IsRead { name: Some(read) }) => read.as_str() == name,
+        _ => false,
+    }
+}
+
+fn is_not_read(alloc: Global, fault: Option<&HostFault>, name: &str, words: &str) -> bool {
+    match fault {
+        Some(
+            HostFault::Read {
+                name: Some(read),
+                why,
+            },
+        ) => read.as_str() == name && is_told(alloc, *why, words),
+        _ => false,
+    }
+}
+
+fn is_told(alloc: Global, why: Reason, words: &str) -> bool {
+    match format!(in alloc; "{why}") {
+        Ok(told) => told.as_str() == words,
+        Err(_) => false,
+    }
+}
+
+fn has_text(rt: &(impl AllocGlobal + Files), name: &str, text: &str) -> bool {
+    match fs::read_to_string(rt, name) {
+        Ok(found) => found.as_str() == text,
+        Err(_) => false,
+    }
+}
+
+// Makes a call. Whether it answers as it should.
+fn does<R: Files + Print + Drop>(
+    rt: &(impl AllocGlobal + Files),
+    desk: &mut HostDesk<R>,
+    call: &Call,
+) -> bool {
+    match call {
+        Call::Open(name, handle) => desk.open(name) == *handle,
+        Call::Read(handle, bytes) => reads(desk, *handle, *bytes),
+        Call::Create(name, out) => desk.create(name) == *out,
+        Call::Write(out, piece, count) => writes(desk, *out, piece, *count),
+        Call::Say(text, answer) => desk.say(text) == *answer,
+        Call::SayLast(text) => says_last(desk, text),
+        Call::Counts(counts) => desk.counts == *counts,
+        Call::NoFault => desk.first_fault().is_none(),
+        Call::IsRead(name) => is_read(desk.first_fault(), name),
+        Call::NotRead(name, why) => is_not_read(rt.alloc(), desk.first_fault(), name, why),
+        Call::MakeFile(name, bytes) => fs::write(rt, name, *bytes).is_ok(),
+        Call::HasText(name, text) => has_text(rt, name, text),
+        Call::RemoveFile(name) => fs::remove_file(rt, name).is_ok(),
+    }
+}
+
+// Makes these calls, of a new desk over this runtime, each of which answers as it should.
+fn follows<R: Files + Print + Drop>(
+    rt: &(impl AllocGlobal + Files + Abort),
+    below: R,
+    calls: &[Call],
+) {
+    let mut desk = HostDesk::new(below, rt.alloc());
+    for (at, call) in calls.iter().enumerate() {
+        assert!(rt; does(rt, &mut desk, call), "call {at}");
+    }
 }
 
 #[test]
-fn writes_a_real_file_anew(rt: HostRuntime) -> Result<(), Fail> {
-    fs::write(&rt, "host_desk_out", b"something older")?;
-    let mut desk = HostDesk::new(&rt, rt.alloc());
-    let out = desk.create("host_desk_out")?;
-    assert_eq!(rt; desk.write(out, b"hello"), Ok(5));
-    assert_eq!(rt; desk.write(out, b" all"), Ok(4));
-    let text = fs::read_to_string(&rt, "host_desk_out")?;
-    assert_eq!(rt; text.as_str(), "hello all");
-    fs::remove_file(&rt, "host_desk_out")?;
-    Ok(())
-}
-
-#[test]
-fn writes_two_real_files_in_turn(rt: HostRuntime) -> Result<(), Fail> {
-    let mut desk = HostDesk::new(&rt, rt.alloc());
-    let first = desk.create("host_desk_first")?;
-    let second = desk.create("host_desk_second")?;
-    assert_eq!(rt; desk.write(first, b"one"), Ok(3));
-    assert_eq!(rt; desk.write(second, b"other"), Ok(5));
-    assert_eq!(rt; desk.write(first, b" more"), Ok(5));
-    let text = fs::read_to_string(&rt, "host_desk_first")?;
-    assert_eq!(rt; text.as_str(), "one more");
-    let text = fs::read_to_string(&rt, "host_desk_second")?;
-    assert_eq!(rt; text.as_str(), "other");
-    fs::remove_file(&rt, "host_desk_first")?;
-    fs::remove_file(&rt, "host_desk_second")?;
-    Ok(())
-}
-
-#[test]
-fn does_not_empty_a_file_that_is_read_under_another_name(rt: HostRuntime) -> Result<(), Fail> {
-    fs::write(&rt, "host_desk_same", b"kept")?;
-    let mut desk = HostDesk::new(&rt, rt.alloc());
-    desk.open("host_desk_same")?;
-    assert!(rt; desk.first_fault().is_none());
-    assert_eq!(rt; desk.create("./host_desk_same"), Err(DeskFault));
-    let Some(HostFault::IsRead { name: Some(name) }) = desk.first_fault() else {
-        return Err(Fail::from("another fault"));
-    };
-    assert_eq!(rt; name.as_str(), "host_desk_same");
-    let text = fs::read_to_string(&rt, "host_desk_same")?;
-    assert_eq!(rt; text.as_str(), "kept");
-    fs::remove_file(&rt, "host_desk_same")?;
-    Ok(())
-}
-
-#[test]
-fn keeps_the_first_fault_and_its_reason(rt: HostRuntime) -> Result<(), Fail> {
-    let mut desk = HostDesk::new(&rt, rt.alloc());
-    assert_eq!(rt; desk.open("no_such_file"), Err(DeskFault));
-    assert_eq!(rt; desk.create("no_such_folder/file"), Err(DeskFault));
-    let Some(
-        HostFault::Read {
-            name: Some(name),
-            why,
-        },
-    ) = desk.first_fault()
-    else {
-        return Err(Fail::from("another fault"));
-    };
-    assert_eq!(rt; name.as_str(), "no_such_file");
-    let words = format!(in rt.alloc(); "{why}")?;
-    assert_eq!(rt; words.as_str(), "no such file or directory");
-    Ok(())
-}
-
-#[test]
-fn counts_what_cannot_be_created_or_written(rt: HostRuntime) -> Result<(), Fail> {
-    let mut desk = HostDesk::new(&rt, rt.alloc());
-    assert_eq!(rt; desk.create("no_such_folder/file"), Err(DeskFault));
-    let full = desk.create("/dev/full")?;
-    assert_eq!(rt; desk.write(full, b"lost"), Err(DeskFault));
-    assert_eq!(rt;
-        desk.counts,
-        Counts {
-            reads: 0,
-            writes: 2,
-            lines: 0
-        }
+fn reads_a_real_file_to_its_end(rt: HostRuntime) {
+    follows(
+        &rt,
+        &rt,
+        &[
+            Call::MakeFile("host_desk_test", b"hello"),
+            Call::Open("host_desk_test", Ok(0)),
+            Call::Read(0, Ok(b"hello")),
+            Call::Read(0, Ok(b"")),
+            Call::RemoveFile("host_desk_test"),
+        ],
     );
-    Ok(())
 }
 
 #[test]
-fn counts_what_cannot_be_opened_or_read(rt: HostRuntime) -> Result<(), Fail> {
-    let mut desk = HostDesk::new(&rt, rt.alloc());
-    assert_eq!(rt; desk.open("no_such_file"), Err(DeskFault));
-    let folder = desk.open(".")?;
-    assert_eq!(rt; desk.read(folder, &mut [0u8; 8]), Err(DeskFault));
-    assert_eq!(rt;
-        desk.counts,
-        Counts {
-            reads: 2,
-            writes: 0,
-            lines: 0
-        }
+fn writes_a_real_file_anew(rt: HostRuntime) {
+    follows(
+        &rt,
+        &rt,
+        &[
+            Call::MakeFile("host_desk_out", b"something older"),
+            Call::Create("host_desk_out", Ok(0)),
+            Call::Write(0, b"hello", Ok(5)),
+            Call::Write(0, b" all", Ok(4)),
+            Call::HasText("host_desk_out", "hello all"),
+            Call::RemoveFile("host_desk_out"),
+        ],
     );
-    Ok(())
 }
 
 #[test]
-fn says_to_standard_output(rt: HostRuntime) -> Result<(), Fail> {
-    let mut desk = HostDesk::new(&rt, rt.alloc());
-    desk.say(b"said\n")?;
-    desk.say_last(b"last\n");
-    assert_eq!(rt; desk.counts, Counts::default());
-    Ok(())
+fn writes_two_real_files_in_turn(rt: HostRuntime) {
+    follows(
+        &rt,
+        &rt,
+        &[
+            Call::Create("host_desk_first", Ok(0)),
+            Call::Create("host_desk_second", Ok(1)),
+            Call::Write(0, b"one", Ok(3)),
+            Call::Write(1, b"other", Ok(5)),
+            Call::Write(0, b" more", Ok(5)),
+            Call::HasText("host_desk_first", "one more"),
+            Call::HasText("host_desk_second", "other"),
+            Call::RemoveFile("host_desk_first"),
+            Call::RemoveFile("host_desk_second"),
+        ],
+    );
+}
+
+#[test]
+fn does_not_empty_a_file_that_is_read_under_another_name(rt: HostRuntime) {
+    follows(
+        &rt,
+        &rt,
+        &[
+            Call::MakeFile("host_desk_same", b"kept"),
+            Call::Open("host_desk_same", Ok(0)),
+            Call::NoFault,
+            Call::Create("./host_desk_same", Err(DeskFault)),
+            Call::IsRead("host_desk_same"),
+            Call::HasText("host_desk_same", "kept"),
+            Call::RemoveFile("host_desk_same"),
+        ],
+    );
+}
+
+#[test]
+fn keeps_the_first_fault_and_its_reason(rt: HostRuntime) {
+    follows(
+        &rt,
+        &rt,
+        &[
+            Call::Open("no_such_file", Err(DeskFault)),
+            Call::Create("no_such_folder/file", Err(DeskFault)),
+            Call::NotRead("no_such_file", "no such file or directory"),
+        ],
+    );
+}
+
+#[test]
+fn counts_what_cannot_be_created_or_written(rt: HostRuntime) {
+    follows(
+        &rt,
+        &rt,
+        &[
+            Call::Create("no_such_folder/file", Err(DeskFault)),
+            Call::Create("/dev/full", Ok(0)),
+            Call::Write(0, b"lost", Err(DeskFault)),
+            Call::Counts(Counts {
+                reads: 0,
+                writes: 2,
+                lines: 0,
+            }),
+        ],
+    );
+}
+
+#[test]
+fn counts_what_cannot_be_opened_or_read(rt: HostRuntime) {
+    follows(
+        &rt,
+        &rt,
+        &[
+            Call::Open("no_such_file", Err(DeskFault)),
+            Call::Open(".", Ok(0)),
+            Call::Read(0, Err(DeskFault)),
+            Call::Counts(Counts {
+                reads: 2,
+                writes: 0,
+                lines: 0,
+            }),
+        ],
+    );
+}
+
+#[test]
+fn says_to_standard_output(rt: HostRuntime) {
+    follows(
+        &rt,
+        &rt,
+        &[
+            Call::Say(b"said\n", Ok(())),
+            Call::SayLast(b"last\n"),
+            Call::Counts(NO_FAULTS),
+        ],
+    );
 }
 
 #[test]
 fn says_each_text_whole(rt: HostRuntime) {
-    let mut desk = HostDesk::new(Takes(b"whole\n"), rt.alloc());
-    assert_eq!(rt; desk.say(b"whole\n"), Ok(()));
-    desk.say_last(b"whole\n");
-    assert_eq!(rt; desk.counts, Counts::default());
+    follows(
+        &rt,
+        Takes(b"whole\n"),
+        &[
+            Call::Say(b"whole\n", Ok(())),
+            Call::SayLast(b"whole\n"),
+            Call::Counts(NO_FAULTS),
+        ],
+    );
 }
 
 #[test]
 fn counts_what_standard_output_does_not_take(rt: HostRuntime) {
-    let mut desk = HostDesk::new(Takes(b"other\n"), rt.alloc());
-    assert_eq!(rt; desk.say(b"lost\n"), Err(DeskFault));
-    desk.say_last(b"lost too\n");
-    assert_eq!(rt;
-        desk.counts,
-        Counts {
-            reads: 0,
-            writes: 1,
-            lines: 1
-        }
+    follows(
+        &rt,
+        Takes(b"other\n"),
+        &[
+            Call::Say(b"lost\n", Err(DeskFault)),
+            Call::SayLast(b"lost too\n"),
+            Call::Counts(Counts {
+                reads: 0,
+                writes: 1,
+                lines: 1,
+            }),
+        ],
     );
 }
 

@@ -1,176 +1,317 @@
 use super::*;
-use std::test::Fail;
+use std::process::Abort;
 
-#[test]
-fn reads_a_file_in_pieces_to_its_end(rt: HostRuntime) -> Result<(), Fail> {
+const NO_FAULTS: Counts = Counts {
+    reads: 0,
+    writes: 0,
+    lines: 0,
+};
+
+// A call of a desk, with what it answers. A test is a table of them, since a function that makes the calls itself is proved with all that each
+// of them promises of the desk, which takes minutes.
+enum Call {
+    PutFile(&'static str, &'static [u8]),
+    Cap(usize),
+    Fail(CallKind, u64),
+    Open(&'static str, Result<u32, DeskFault>),
+    // Of a handle, with so much room: the bytes that are read.
+    Read(u32, usize, Result<&'static [u8], DeskFault>),
+    Create(&'static str, Result<u32, DeskFault>),
+    Write(u32, &'static [u8], Result<usize, DeskFault>),
+    Say(&'static [u8], Result<(), DeskFault>),
+    SayLast(&'static [u8]),
+    File(&'static str, Option<&'static [u8]>),
+    Said(&'static [u8]),
+    Given(&'static str, u64),
+    Counts(Counts),
+}
+
+// Whether these bytes are those of an answer.
+fn are(some: &[u8], bytes: Result<&[u8], DeskFault>) -> bool {
+    match bytes {
+        Ok(bytes) => some == bytes,
+        Err(DeskFault) => false,
+    }
+}
+
+// Whether a read gives these bytes. It is false if there is no such handle or no room, or more than a test has.
+fn reads(desk: &mut MemoryDesk, handle: u32, room: usize, bytes: Result<&[u8], DeskFault>) -> bool {
+    let mut buffer = [0u8; 8];
+    if handle as usize >= desk.handles.len() || room == 0 || room > buffer.len() {
+        return false;
+    }
+    match desk.read(handle, &mut buffer[..room]) {
+        Ok(count) => are(&buffer[..count], bytes),
+        Err(DeskFault) => bytes.is_err(),
+    }
+}
+
+// Whether a write answers so. It is false if there is no such handle, or nothing to write.
+fn writes(desk: &mut MemoryDesk, out: u32, piece: &[u8], answer: Result<usize, DeskFault>) -> bool {
+    if out as usize >= desk.outs.len() || piece.is_empty() {
+        return false;
+    }
+    desk.write(out, piece) == answer
+}
+
+// Sets the cap. It is false if nothing would move.
+fn caps(desk: &mut MemoryDesk, most: usize) -> bool {
+    if most == 0 {
+        return false;
+    }
+    desk.cap(most);
+    true
+}
+
+// Whether a file has these bytes, or there is none.
+fn has(desk: &MemoryDesk, name: &str, bytes: Option<&[u8]>) -> bool {
+    match (desk.file(name), bytes) {
+        (Some(some), Some(bytes)) => some == bytes,
+        (None, None) => true,
+        _ => false,
+    }
+}
+
+fn has_said(desk: &MemoryDesk, text: &[u8]) -> bool {
+    desk.said() == text
+}
+
+fn says_last(desk: &mut MemoryDesk, text: &[u8]) -> bool {
+    desk.say_last(text);
+    true
+}
+
+// Makes a call. Whether it answers as it should.
+fn does(desk: &mut MemoryDesk, call: &Call) -> bool {
+    match call {
+        Call::PutFile(name, bytes) => desk.put_file(name, bytes).is_ok(),
+        Call::Cap(most) => caps(desk, *most),
+        Call::Fail(kind, nth) => desk.fail(*kind, *nth).is_ok(),
+        Call::Open(name, handle) => desk.open(name) == *handle,
+        Call::Read(handle, room, bytes) => reads(desk, *handle, *room, *bytes),
+        Call::Create(name, out) => desk.create(name) == *out,
+        Call::Write(out, piece, count) => writes(desk, *out, piece, *count),
+        Call::Say(text, answer) => desk.say(text) == *answer,
+        Call::SayLast(text) => says_last(desk, text),
+        Call::File(name, bytes) => has(desk, name, *bytes),
+        Call::Said(text) => has_said(desk, text),
+        Call::Given(name, count) => desk.given(name) == *count,
+        Call::Counts(counts) => desk.counts == *counts,
+    }
+}
+
+// Makes these calls of a new desk, each of which answers as it should.
+fn follows(rt: &(impl AllocGlobal + Abort), calls: &[Call]) {
     let mut desk = MemoryDesk::new(rt.alloc());
-    desk.put_file("note", b"hello")?;
-    let handle = desk.open("note")?;
-    let mut buffer = [0u8; 3];
-    let count = desk.read(handle, &mut buffer)?;
-    assert_eq!(rt; &buffer[..count], b"hel".as_slice());
-    let count = desk.read(handle, &mut buffer)?;
-    assert_eq!(rt; &buffer[..count], b"lo".as_slice());
-    let count = desk.read(handle, &mut buffer)?;
-    assert_eq!(rt; count, 0);
-    Ok(())
+    for (at, call) in calls.iter().enumerate() {
+        assert!(rt; does(&mut desk, call), "call {at}");
+    }
 }
 
 #[test]
-fn reads_two_handles_apart(rt: HostRuntime) -> Result<(), Fail> {
-    let mut desk = MemoryDesk::new(rt.alloc());
-    desk.put_file("a", b"first")?;
-    desk.put_file("b", b"second")?;
-    let first = desk.open("a")?;
-    let second = desk.open("b")?;
-    let mut buffer = [0u8; 4];
-    let count = desk.read(second, &mut buffer)?;
-    assert_eq!(rt; &buffer[..count], b"seco".as_slice());
-    let count = desk.read(first, &mut buffer)?;
-    assert_eq!(rt; &buffer[..count], b"firs".as_slice());
-    Ok(())
-}
-
-#[test]
-fn counts_an_absent_name_as_a_read_fault(rt: HostRuntime) -> Result<(), Fail> {
-    let mut desk = MemoryDesk::new(rt.alloc());
-    desk.put_file("note", b"hello")?;
-    assert_eq!(rt; desk.open("other"), Err(DeskFault));
-    assert_eq!(rt;
-        desk.counts,
-        Counts {
-            reads: 1,
-            writes: 0,
-            lines: 0
-        }
+fn reads_a_file_in_pieces_to_its_end(rt: HostRuntime) {
+    follows(
+        &rt,
+        &[
+            Call::PutFile("note", b"hello"),
+            Call::Open("note", Ok(0)),
+            Call::Read(0, 3, Ok(b"hel")),
+            Call::Read(0, 3, Ok(b"lo")),
+            Call::Read(0, 3, Ok(b"")),
+        ],
     );
-    assert_eq!(rt; desk.open("note"), Ok(0));
-    Ok(())
 }
 
 #[test]
-fn gives_the_file_of_a_name(rt: HostRuntime) -> Result<(), Fail> {
-    let mut desk = MemoryDesk::new(rt.alloc());
-    desk.put_file("a", b"old")?;
-    desk.put_file("b", b"other")?;
-    desk.put_file("a", b"new")?;
-    assert_eq!(rt; desk.file("a").ok_or("a is absent")?, b"new".as_slice());
-    assert_eq!(rt; desk.file("b").ok_or("b is absent")?, b"other".as_slice());
-    assert!(rt; desk.file("c").is_none());
-    Ok(())
+fn reads_two_handles_apart(rt: HostRuntime) {
+    follows(
+        &rt,
+        &[
+            Call::PutFile("a", b"first"),
+            Call::PutFile("b", b"second"),
+            Call::Open("a", Ok(0)),
+            Call::Open("b", Ok(1)),
+            Call::Read(1, 4, Ok(b"seco")),
+            Call::Read(0, 4, Ok(b"firs")),
+        ],
+    );
 }
 
 #[test]
-fn moves_as_many_bytes_as_the_cap_lets_it(rt: HostRuntime) -> Result<(), Fail> {
-    let mut desk = MemoryDesk::new(rt.alloc());
-    desk.put_file("out", b"old")?;
-    desk.put_file("in", b"hello")?;
-    let out = desk.create("out")?;
-    assert_eq!(rt; desk.file("out").ok_or("absent")?, b"".as_slice());
-    desk.cap(3);
-    assert_eq!(rt; desk.write(out, b"hello"), Ok(3));
-    assert_eq!(rt; desk.write(out, b"lo"), Ok(2));
-    assert_eq!(rt; desk.file("out").ok_or("absent")?, b"hello".as_slice());
-    let handle = desk.open("in")?;
-    assert_eq!(rt; desk.read(handle, &mut [0u8; 8]), Ok(3));
-    assert_eq!(rt; desk.read(handle, &mut [0u8; 8]), Ok(2));
-    Ok(())
+fn counts_an_absent_name_as_a_read_fault(rt: HostRuntime) {
+    follows(
+        &rt,
+        &[
+            Call::PutFile("note", b"hello"),
+            Call::Open("other", Err(DeskFault)),
+            Call::Counts(Counts {
+                reads: 1,
+                writes: 0,
+                lines: 0,
+            }),
+            Call::Open("note", Ok(0)),
+        ],
+    );
 }
 
 #[test]
-fn gives_what_was_said(rt: HostRuntime) -> Result<(), Fail> {
-    let mut desk = MemoryDesk::new(rt.alloc());
-    desk.say(b"one\n")?;
-    desk.say(b"two\n")?;
-    desk.say_last(b"last\n");
-    assert_eq!(rt; desk.said(), b"one\ntwo\nlast\n".as_slice());
-    assert_eq!(rt; desk.counts, Counts::default());
-    Ok(())
+fn gives_the_file_of_a_name(rt: HostRuntime) {
+    follows(
+        &rt,
+        &[
+            Call::PutFile("a", b"old"),
+            Call::PutFile("b", b"other"),
+            Call::PutFile("a", b"new"),
+            Call::File("a", Some(b"new")),
+            Call::File("b", Some(b"other")),
+            Call::File("c", None),
+        ],
+    );
 }
 
 #[test]
-fn fails_to_open_where_it_is_told_to(rt: HostRuntime) -> Result<(), Fail> {
-    let mut desk = MemoryDesk::new(rt.alloc());
-    desk.put_file("note", b"hello")?;
-    desk.fail(CallKind::Open, 2)?;
-    assert_eq!(rt; desk.open("note"), Ok(0));
-    assert_eq!(rt; desk.open("note"), Err(DeskFault));
-    assert_eq!(rt; desk.open("note"), Ok(1));
-    Ok(())
+fn moves_as_many_bytes_as_the_cap_lets_it(rt: HostRuntime) {
+    follows(
+        &rt,
+        &[
+            Call::PutFile("out", b"old"),
+            Call::PutFile("in", b"hello"),
+            Call::Create("out", Ok(0)),
+            Call::File("out", Some(b"")),
+            Call::Cap(3),
+            Call::Write(0, b"hello", Ok(3)),
+            Call::Write(0, b"lo", Ok(2)),
+            Call::File("out", Some(b"hello")),
+            Call::Open("in", Ok(0)),
+            Call::Read(0, 8, Ok(b"hel")),
+            Call::Read(0, 8, Ok(b"lo")),
+        ],
+    );
 }
 
 #[test]
-fn fails_to_create_where_it_is_told_to(rt: HostRuntime) -> Result<(), Fail> {
-    let mut desk = MemoryDesk::new(rt.alloc());
-    desk.fail(CallKind::Create, 2)?;
-    assert_eq!(rt; desk.create("out"), Ok(0));
-    assert_eq!(rt; desk.create("other"), Err(DeskFault));
-    assert!(rt; desk.file("other").is_none());
-    assert_eq!(rt; desk.create("other"), Ok(1));
-    Ok(())
+fn gives_what_was_said(rt: HostRuntime) {
+    follows(
+        &rt,
+        &[
+            Call::Say(b"one\n", Ok(())),
+            Call::Say(b"two\n", Ok(())),
+            Call::SayLast(b"last\n"),
+            Call::Said(b"one\ntwo\nlast\n"),
+            Call::Counts(NO_FAULTS),
+        ],
+    );
 }
 
 #[test]
-fn fails_to_read_where_it_is_told_to_and_stays_at_its_place(rt: HostRuntime) -> Result<(), Fail> {
-    let mut desk = MemoryDesk::new(rt.alloc());
-    desk.put_file("note", b"hello")?;
-    desk.fail(CallKind::Read, 2)?;
-    let handle = desk.open("note")?;
-    let mut buffer = [0u8; 3];
-    assert_eq!(rt; desk.read(handle, &mut buffer), Ok(3));
-    assert_eq!(rt; desk.read(handle, &mut buffer), Err(DeskFault));
-    assert_eq!(rt; desk.read(handle, &mut buffer), Ok(2));
-    assert_eq!(rt; &buffer[..2], b"lo".as_slice());
-    Ok(())
+fn fails_to_open_where_it_is_told_to(rt: HostRuntime) {
+    follows(
+        &rt,
+        &[
+            Call::PutFile("note", b"hello"),
+            Call::Fail(CallKind::Open, 2),
+            Call::Open("note", Ok(0)),
+            Call::Open("note", Err(DeskFault)),
+            Call::Open("note", Ok(1)),
+        ],
+    );
 }
 
 #[test]
-fn fails_to_write_where_it_is_told_to(rt: HostRuntime) -> Result<(), Fail> {
-    let mut desk = MemoryDesk::new(rt.alloc());
-    desk.fail(CallKind::Write, 2)?;
-    let out = desk.create("out")?;
-    assert_eq!(rt; desk.write(out, b"one"), Ok(3));
-    assert_eq!(rt; desk.write(out, b"two"), Err(DeskFault));
-    assert_eq!(rt; desk.file("out").ok_or("absent")?, b"one".as_slice());
-    Ok(())
+fn fails_to_create_where_it_is_told_to(rt: HostRuntime) {
+    follows(
+        &rt,
+        &[
+            Call::Fail(CallKind::Create, 2),
+            Call::Create("out", Ok(0)),
+            Call::Create("other", Err(DeskFault)),
+            Call::File("other", None),
+            Call::Create("other", Ok(1)),
+        ],
+    );
 }
 
 #[test]
-fn fails_to_say_where_it_is_told_to(rt: HostRuntime) -> Result<(), Fail> {
-    let mut desk = MemoryDesk::new(rt.alloc());
-    desk.fail(CallKind::Say, 2)?;
-    desk.fail(CallKind::Say, 3)?;
-    assert_eq!(rt; desk.say(b"one\n"), Ok(()));
-    assert_eq!(rt; desk.say(b"two\n"), Err(DeskFault));
-    assert_eq!(rt; desk.say(b"three\n"), Err(DeskFault));
-    assert_eq!(rt; desk.say(b"four\n"), Ok(()));
-    assert_eq!(rt; desk.said(), b"one\nfour\n".as_slice());
-    assert_eq!(rt; desk.counts.writes, 2);
-    Ok(())
+fn fails_to_read_where_it_is_told_to_and_stays_at_its_place(rt: HostRuntime) {
+    follows(
+        &rt,
+        &[
+            Call::PutFile("note", b"hello"),
+            Call::Fail(CallKind::Read, 2),
+            Call::Open("note", Ok(0)),
+            Call::Read(0, 3, Ok(b"hel")),
+            Call::Read(0, 3, Err(DeskFault)),
+            Call::Read(0, 3, Ok(b"lo")),
+        ],
+    );
 }
 
 #[test]
-fn says_no_last_text_where_it_is_told_to_fail(rt: HostRuntime) -> Result<(), Fail> {
-    let mut desk = MemoryDesk::new(rt.alloc());
-    desk.fail(CallKind::Last, 2)?;
-    desk.say_last(b"one\n");
-    desk.say_last(b"two\n");
-    desk.say_last(b"three\n");
-    assert_eq!(rt; desk.said(), b"one\nthree\n".as_slice());
-    assert_eq!(rt; desk.counts.lines, 1);
-    Ok(())
+fn fails_to_write_where_it_is_told_to(rt: HostRuntime) {
+    follows(
+        &rt,
+        &[
+            Call::Fail(CallKind::Write, 2),
+            Call::Create("out", Ok(0)),
+            Call::Write(0, b"one", Ok(3)),
+            Call::Write(0, b"two", Err(DeskFault)),
+            Call::File("out", Some(b"one")),
+        ],
+    );
 }
 
 #[test]
-fn gives_what_all_handles_of_a_name_were_given(rt: HostRuntime) -> Result<(), Fail> {
-    let mut desk = MemoryDesk::new(rt.alloc());
-    desk.put_file("a", b"first")?;
-    let one = desk.open("a")?;
-    let other = desk.open("a")?;
-    let mut buffer = [0u8; 4];
-    desk.read(one, &mut buffer)?;
-    desk.read(other, &mut buffer)?;
-    assert_eq!(rt; desk.given("a"), 8);
-    assert_eq!(rt; desk.given("b"), 0);
-    Ok(())
+fn fails_to_say_where_it_is_told_to(rt: HostRuntime) {
+    follows(
+        &rt,
+        &[
+            Call::Fail(CallKind::Say, 2),
+            Call::Fail(CallKind::Say, 3),
+            Call::Say(b"one\n", Ok(())),
+            Call::Say(b"two\n", Err(DeskFault)),
+            Call::Say(b"three\n", Err(DeskFault)),
+            Call::Say(b"four\n", Ok(())),
+            Call::Said(b"one\nfour\n"),
+            Call::Counts(Counts {
+                reads: 0,
+                writes: 2,
+                lines: 0,
+            }),
+        ],
+    );
+}
+
+#[test]
+fn says_no_last_text_where_it_is_told_to_fail(rt: HostRuntime) {
+    follows(
+        &rt,
+        &[
+            Call::Fail(CallKind::Last, 2),
+            Call::SayLast(b"one\n"),
+            Call::SayLast(b"two\n"),
+            Call::SayLast(b"three\n"),
+            Call::Said(b"one\nthree\n"),
+            Call::Counts(Counts {
+                reads: 0,
+                writes: 0,
+                lines: 1,
+            }),
+        ],
+    );
+}
+
+#[test]
+fn gives_what_all_handles_of_a_name_were_given(rt: HostRuntime) {
+    follows(
+        &rt,
+        &[
+            Call::PutFile("a", b"first"),
+            Call::Open("a", Ok(0)),
+            Call::Open("a", Ok(1)),
+            Call::Read(0, 4, Ok(b"firs")),
+            Call::Read(1, 4, Ok(b"firs")),
+            Call::Given("a", 8),
+            Call::Given("b", 0),
+        ],
+    );
 }
