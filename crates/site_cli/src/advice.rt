@@ -26,9 +26,7 @@ fn say_commands(rt: &impl Eprint, program: &str) -> io::Result<()> {
 /// Says of a word `-` that it is the name of a file, which it is not for other programs.
 pub fn warn(rt: &impl Eprint, words: &[Word]) {
     if words.iter().any(|word| word.as_str() == "-") {
-        let _ = eprintln!(rt;
-            "- is taken as the name of a file; standard input is /dev/stdin, and standard output /dev/stdout"
-        );
+        let _ = eprintln!(rt; "- is taken as the name of a file; standard input is /dev/stdin");
     }
 }
 

@@ -30,8 +30,8 @@ fn exit_code(outcome: Outcome) -> ExitCode
 
 fn main(rt: HostRuntime) -> ExitCode {
     let alloc = rt.alloc();
-    let told = rt.stderr().is_terminal();
-    let mut desk = Watched::new(HostDesk::new(&rt, alloc), &rt, told);
+    let wanted = rt.stderr().is_terminal();
+    let mut desk = Watched::new(HostDesk::new(&rt, alloc), &rt, wanted);
     let (Ok(program), Ok(words)) = (name_of(&rt), words_of(&rt)) else {
         advise(&rt, "", &[], Outcome::OutOfMemory, None, false);
         return exit_code(Outcome::OutOfMemory);

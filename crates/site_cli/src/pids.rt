@@ -62,15 +62,19 @@ pub fn say_pids(
     none_came: bool,
 ) -> io::Result<()> {
     let pids = pids_in(rt, &front_of(rt, name)?)?;
-    let Some(first) = pids.first() else {
+    let Some((first, others)) = pids.split_first() else {
         return Ok(());
     };
     let file = Shown(name);
-    if none_came {
-        return eprintln!(rt;
-            "{file}: no T2-MI packet came on PID {first}, the first one in it; its PIDs are {}; share/pid/pid.py cuts one out",
-            Pids(&pids)
-        );
+    if !none_came {
+        return eprintln!(rt; "{file}: T2-MI was looked for on PID {first}, the first one in it");
     }
-    eprintln!(rt; "{file}: T2-MI was looked for on PID {first}, the first one in it")
+    eprintln!(rt; "{file}: no T2-MI packet came on PID {first}, the first one in it")?;
+    if others.is_empty() {
+        return Ok(());
+    }
+    eprintln!(rt;
+        "{file}: others in its first {UNITS} units: {}; share/pid/pid.py cuts one out",
+        Pids(others)
+    )
 }

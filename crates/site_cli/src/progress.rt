@@ -29,7 +29,7 @@ impl Display for Megabytes {
     }
 }
 
-// How many bytes a second that are.
+// How many bytes a second that is.
 fn rate(bytes: u64, time: Duration) -> u64 {
     let millis = u64::try_from(time.as_millis()).unwrap_or(u64::MAX).max(1);
     bytes.saturating_mul(1000) / millis
