@@ -1,23 +1,30 @@
 -- The text that is written spells its configuration.
-use Rattle.std.proofs.Common.{ℕ, zero, suc, ◌≡◌, ◌<◌, ◌≤◌, ◌+◌, ◌-◌, ◌*◌, ◌^◌, ◌%◌, ◌==◌, ◌∷◌, ◌++◌, ◌∙◌, List, [], Bool, true, false, length, take, get_or, ap, sym, subst, arith, refl, lit≤, All, Some, codes, eq-eqb, ne_eqb, append_assoc, append-nil, length-append}
+use Rattle.std.proofs.Common.{ℕ, zero, suc, ◌≡◌, ◌<◌, ◌≤◌, ◌+◌, ◌-◌, ◌*◌, ◌^◌, ◌%◌, ◌==◌, ◌∷◌, ◌++◌, ◌∙◌, List, [], Bool, true}
+use Rattle.std.proofs.Common.{false, length, take, get_or, ap, sym, subst, arith, refl, lit≤, All, Some, None, map, eq-eqb}
+use Rattle.std.proofs.Common.{ne_eqb, append_assoc, append-nil, length-append}
 use Rattle.std.specs.Prelude.{slice_index_or}
 use Rattle.std.specs.Fmt.{decimal}
-use Rattle.std.specs.List.{slice_split, flat_map, list_all}
+use Rattle.std.specs.List.{slice_split, flat_map, list_all, range_with_len}
 use Rattle.std.specs.Str.Lines.{lines, strip_carriage_return}
 use Rattle.std.proofs.lemmas.Bool.{cond-false}
 use Rattle.std.proofs.lemmas.Bool.Decides.{nat_tests}
 use Rattle.std.proofs.lemmas.Fmt.{decimal_by_steps, length-decimal-le}
 use Rattle.std.proofs.lemmas.List.Elements.{All-nil, All-cons, All-append}
+use Rattle.std.proofs.lemmas.List.{get_or-map}
+use Rattle.std.proofs.lemmas.List.FromFn.{get_or-map-range_with_len}
 use Rattle.std.proofs.lemmas.List.Splits.{slice_split_none, slice_split_at}
 use Rattle.std.proofs.lemmas.List.Sums.{AllPass-from_list_all}
 use Rattle.plp_config.specs.declared.config.Config.{Config}
-use Rattle.config_text.specs.ConfigText.{is_skipped, kept, IsPrintable, canonical_line, canonical_lines, canonical_text, ReadsLine, ReadsLines, Spells}
-use Rattle.config_text.specs.Fields.{bands, kinds, rates, modulations, sizes, bits, deletions, Spelling, spelling_of, place_from, SpellsValue, SpellsFields, key_at, fields_at, word_of, words_after}
+use Rattle.config_text.specs.ConfigText.{is_skipped, kept, IsPrintable, canonical_line, canonical_lines, canonical_text}
+use Rattle.config_text.specs.ConfigText.{ReadsLine, ReadsLines, Spells}
+use Rattle.config_text.specs.Fields.{bands, plp_types, rates, modulations, sizes, bits, deletions, Spelling, spelling_of, place_from}
+use Rattle.config_text.specs.Fields.{SpellsValue, SpellsFields, key_at, fields_at, word_of, words_after}
 use Rattle.config_text.specs.Rows.{rows_of}
 use Rattle.config_text.specs.Fields.Spelling.{Number, Word}
 use Rattle.config_text.specs.Words.{Fits, FitFields, FitLines}
 use Rattle.config_text.specs.declared.field.Field.{Field}
-use Rattle.config_text.specs.declared.field.Field.TheVariants.{Version, Number8, Number16, Number32, Number64, Bandwidth, Kind, CodeRate, Constellation, BlockSize, Bit, Deletion}
+use Rattle.config_text.specs.declared.field.Field.TheVariants.{Version, Number8, Number16, Number32, Number64, Bandwidth, PlpType}
+use Rattle.config_text.specs.declared.field.Field.TheVariants.{CodeRate, Constellation, BlockSize, Bit, Deletion}
 use Rattle.config_text.proofs.DraftLemmas.{length-rows_of}
 use Rattle.config_text.proofs.PartLemmas.{lines_first}
 use Rattle.config_text.proofs.TextLemmas.{kept-cons}
@@ -38,6 +45,12 @@ all_graphic w e = λ k d inside. graphic_if (slice_index_or w k d) (AllPass-from
 graphic_prints : (w : List ℕ) → All IsGraphic w → All IsPrintable w
 graphic_prints w all = λ k d inside. (omega (arith, (all k d inside).0), (all k d inside).1)
 
+abbrev is_short : List ℕ → Bool
+is_short w = length w - 20 == 0
+
+short_if : (w : List ℕ) → is_short w ≡ true → length w ≤ 20
+short_if w e = let none : length w - 20 ≡ 0 = grind (arith, nat_tests) in omega arith
+
 -- a word that spells a value, with no space and few bytes
 record GoodWord (s : Spelling) (n : ℕ) (w : List ℕ) : Type 0 where
   spells : SpellsValue s n w
@@ -54,58 +67,26 @@ decimal_graphic n fits =
     n
     fits
 
-number_good : (least greatest n : ℕ) → greatest < 2 ^ 64 → Fits (Number least greatest) n → GoodWord (Number least greatest) n (decimal n)
+number_good : (least greatest n : ℕ) → greatest < 2 ^ 64 → Fits (Number least greatest) n
+    → GoodWord (Number least greatest) n (decimal n)
 number_good least greatest n narrow fits =
     let small : n < 2 ^ 64 = omega (arith, fits) in
-    record { spells = (refl, fits.0, fits.1); graphic = decimal_graphic n small; short = length-decimal-le 20 n (omega arith) (omega arith) small }
+    record {
+      spells = (refl, fits.0, fits.1);
+      graphic = decimal_graphic n small;
+      short = length-decimal-le 20 n (omega arith) (omega arith) small;
+    }
 
-literal : (ws : List (List ℕ)) (n : ℕ) (w : List ℕ) → place_from 0 w ws ≡ Some n → list_all is_graphic w ≡ true → length w ≤ 20 → GoodWord (Word ws) n w
-literal ws n w spells graphic short = record { spells = spells; graphic = all_graphic w graphic; short = short }
-
-bands_good : (n : ℕ) → n < 6 → GoodWord (Word bands) n (slice_index_or bands n [])
-bands_good zero inside = literal bands 0 (codes "1.7") refl refl (lit≤ tt)
-bands_good (suc zero) inside = literal bands 1 (codes "5") refl refl (lit≤ tt)
-bands_good (suc (suc zero)) inside = literal bands 2 (codes "6") refl refl (lit≤ tt)
-bands_good (suc (suc (suc zero))) inside = literal bands 3 (codes "7") refl refl (lit≤ tt)
-bands_good (suc (suc (suc (suc zero)))) inside = literal bands 4 (codes "8") refl refl (lit≤ tt)
-bands_good (suc (suc (suc (suc (suc zero))))) inside = literal bands 5 (codes "10") refl refl (lit≤ tt)
-bands_good (suc (suc (suc (suc (suc (suc n)))))) inside = absurd (omega arith)
-
-kinds_good : (n : ℕ) → n < 2 → GoodWord (Word kinds) n (slice_index_or kinds n [])
-kinds_good zero inside = literal kinds 0 (codes "type1") refl refl (lit≤ tt)
-kinds_good (suc zero) inside = literal kinds 1 (codes "type2") refl refl (lit≤ tt)
-kinds_good (suc (suc n)) inside = absurd (omega arith)
-
-rates_good : (n : ℕ) → n < 6 → GoodWord (Word rates) n (slice_index_or rates n [])
-rates_good zero inside = literal rates 0 (codes "1/2") refl refl (lit≤ tt)
-rates_good (suc zero) inside = literal rates 1 (codes "3/5") refl refl (lit≤ tt)
-rates_good (suc (suc zero)) inside = literal rates 2 (codes "2/3") refl refl (lit≤ tt)
-rates_good (suc (suc (suc zero))) inside = literal rates 3 (codes "3/4") refl refl (lit≤ tt)
-rates_good (suc (suc (suc (suc zero)))) inside = literal rates 4 (codes "4/5") refl refl (lit≤ tt)
-rates_good (suc (suc (suc (suc (suc zero))))) inside = literal rates 5 (codes "5/6") refl refl (lit≤ tt)
-rates_good (suc (suc (suc (suc (suc (suc n)))))) inside = absurd (omega arith)
-
-modulations_good : (n : ℕ) → n < 4 → GoodWord (Word modulations) n (slice_index_or modulations n [])
-modulations_good zero inside = literal modulations 0 (codes "qpsk") refl refl (lit≤ tt)
-modulations_good (suc zero) inside = literal modulations 1 (codes "16qam") refl refl (lit≤ tt)
-modulations_good (suc (suc zero)) inside = literal modulations 2 (codes "64qam") refl refl (lit≤ tt)
-modulations_good (suc (suc (suc zero))) inside = literal modulations 3 (codes "256qam") refl refl (lit≤ tt)
-modulations_good (suc (suc (suc (suc n)))) inside = absurd (omega arith)
-
-sizes_good : (n : ℕ) → n < 2 → GoodWord (Word sizes) n (slice_index_or sizes n [])
-sizes_good zero inside = literal sizes 0 (codes "short") refl refl (lit≤ tt)
-sizes_good (suc zero) inside = literal sizes 1 (codes "normal") refl refl (lit≤ tt)
-sizes_good (suc (suc n)) inside = absurd (omega arith)
-
-bits_good : (n : ℕ) → n < 2 → GoodWord (Word bits) n (slice_index_or bits n [])
-bits_good zero inside = literal bits 0 (codes "0") refl refl (lit≤ tt)
-bits_good (suc zero) inside = literal bits 1 (codes "1") refl refl (lit≤ tt)
-bits_good (suc (suc n)) inside = absurd (omega arith)
-
-deletions_good : (n : ℕ) → n < 2 → GoodWord (Word deletions) n (slice_index_or deletions n [])
-deletions_good zero inside = literal deletions 0 (codes "delete") refl refl (lit≤ tt)
-deletions_good (suc zero) inside = literal deletions 1 (codes "keep") refl refl (lit≤ tt)
-deletions_good (suc (suc n)) inside = absurd (omega arith)
+-- words with no space and few bytes, each found at its place
+words_good : (ws : List (List ℕ)) → map (λ w. place_from 0 w ws) ws ≡ map (λ n. Some n) (range_with_len 0 (length ws))
+    → list_all (list_all is_graphic) ws ≡ true → list_all is_short ws ≡ true
+    → (n : ℕ) → n < length ws → GoodWord (Word ws) n (get_or ws n [])
+words_good ws found graphic short n inside = record {
+  spells = sym (get_or-map (λ w. place_from 0 w ws) ws n [] None inside) ∙ ap (λ places. get_or places n None) found
+      ∙ get_or-map-range_with_len (λ n. Some n) 0 (length ws) n n None inside (omega arith);
+  graphic = all_graphic (get_or ws n []) (AllPass-from_list_all (list_all is_graphic) ws graphic n [] inside);
+  short = short_if (get_or ws n []) (AllPass-from_list_all is_short ws short n [] inside);
+}
 
 word_good : (f : Field) (n : ℕ) → Fits (spelling_of f) n → GoodWord (spelling_of f) n (word_of (spelling_of f) n)
 word_good Version n fits = number_good 1 1 n (lit≤ tt) fits
@@ -113,13 +94,13 @@ word_good Number8 n fits = number_good 0 (2 ^ 8 - 1) n (lit≤ tt) fits
 word_good Number16 n fits = number_good 0 (2 ^ 16 - 1) n (lit≤ tt) fits
 word_good Number32 n fits = number_good 0 (2 ^ 32 - 1) n (lit≤ tt) fits
 word_good Number64 n fits = number_good 0 (2 ^ 64 - 1) n (lit≤ tt) fits
-word_good Bandwidth n fits = bands_good n fits
-word_good Kind n fits = kinds_good n fits
-word_good CodeRate n fits = rates_good n fits
-word_good Constellation n fits = modulations_good n fits
-word_good BlockSize n fits = sizes_good n fits
-word_good Bit n fits = bits_good n fits
-word_good Deletion n fits = deletions_good n fits
+word_good Bandwidth n fits = words_good bands refl refl refl n fits
+word_good PlpType n fits = words_good plp_types refl refl refl n fits
+word_good CodeRate n fits = words_good rates refl refl refl n fits
+word_good Constellation n fits = words_good modulations refl refl refl n fits
+word_good BlockSize n fits = words_good sizes refl refl refl n fits
+word_good Bit n fits = words_good bits refl refl refl n fits
+word_good Deletion n fits = words_good deletions refl refl refl n fits
 
 -- ---- a line
 
@@ -129,10 +110,13 @@ words_list (f ∷ fs) [] = []
 words_list (f ∷ fs) (n ∷ ns) = word_of (spelling_of f) n ∷ words_list fs ns
 
 no_space : (w : List ℕ) → All IsGraphic w → All (λ b. (b == 32) ≡ false) w
-no_space w all = λ k d inside. ne_eqb (slice_index_or w k d) 32 (λ e. let low : 33 ≤ slice_index_or w k d = (all k d inside).0 in absurd (omega arith))
+no_space w all = λ k d inside. ne_eqb (slice_index_or w k d) 32 (λ e. let low : 33 ≤ slice_index_or w k d = (all k d inside).0 in
+    absurd (omega arith))
 
-split_words : (w : List ℕ) (fs : List Field) (ns : List ℕ) → All IsGraphic w → FitFields fs ns → slice_split (λ b. b == 32) (w ++ words_after fs ns) ≡ w ∷ words_list fs ns
-split_words w [] [] all fits = ap (λ (l : List ℕ). slice_split (λ b. b == 32) l) (append-nil w) ∙ slice_split_none (λ b. b == 32) w (no_space w all)
+split_words : (w : List ℕ) (fs : List Field) (ns : List ℕ) → All IsGraphic w → FitFields fs ns
+    → slice_split (λ b. b == 32) (w ++ words_after fs ns) ≡ w ∷ words_list fs ns
+split_words w [] [] all fits = ap (λ (l : List ℕ). slice_split (λ b. b == 32) l) (append-nil w)
+    ∙ slice_split_none (λ b. b == 32) w (no_space w all)
 split_words w [] (n ∷ ns) all fits = absurd fits
 split_words w (f ∷ fs) [] all fits = absurd fits
 split_words w (f ∷ fs) (n ∷ ns) all fits =
@@ -150,105 +134,128 @@ prints_words [] ns fits = All-nil IsPrintable
 prints_words (f ∷ fs) [] fits = absurd fits
 prints_words (f ∷ fs) (n ∷ ns) fits =
     All-cons IsPrintable 32 (word_of (spelling_of f) n ++ words_after fs ns) (lit≤ tt, lit≤ tt)
-    (All-append IsPrintable (word_of (spelling_of f) n) (words_after fs ns) (graphic_prints (word_of (spelling_of f) n) (word_good f n fits.0).graphic) (prints_words fs ns fits.1))
+    (All-append IsPrintable (word_of (spelling_of f) n) (words_after fs ns)
+    (graphic_prints (word_of (spelling_of f) n) (word_good f n fits.0).graphic) (prints_words fs ns fits.1))
 
 length-words : (fs : List Field) (ns : List ℕ) → FitFields fs ns → length (words_after fs ns) ≤ 21 * length fs
 length-words [] ns fits = omega arith
 length-words (f ∷ fs) [] fits = absurd fits
-length-words (f ∷ fs) (n ∷ ns) fits = omega (arith, length-append (word_of (spelling_of f) n) (words_after fs ns), (word_good f n fits.0).short, length-words fs ns fits.1)
+length-words (f ∷ fs) (n ∷ ns) fits =
+    omega (
+      arith,
+      length-append (word_of (spelling_of f) n) (words_after fs ns),
+      (word_good f n fits.0).short,
+      length-words fs ns fits.1,
+    )
 
-record GoodKey (key : List ℕ) : Type 0 where
-  graphic : All IsGraphic key
-  short : length key ≤ 10
-  stays : (rest : List ℕ) → is_skipped (key ++ rest) ≡ false
+-- the line that is due behind so many: its key has no space, few bytes and no # in front; its fields are twelve at most, and
+-- eleven of a PLP
+record GoodLine (due : ℕ) : Type 0 where
+  graphic : All IsGraphic (key_at due)
+  short : length (key_at due) ≤ 10
+  stays : (rest : List ℕ) → is_skipped (key_at due ++ rest) ≡ false
+  count : length (fields_at due) + (8 - suc due) ≤ 11 + (8 - due)
 
-key_from : (key : List ℕ) → list_all is_graphic key ≡ true → length key ≤ 10 → ((rest : List ℕ) → is_skipped (key ++ rest) ≡ false) → GoodKey key
-key_from key graphic short stays = record { graphic = all_graphic key graphic; short = short; stays = stays }
+line_from : (due : ℕ) → list_all is_graphic (key_at due) ≡ true → length (key_at due) ≤ 10
+    → ((rest : List ℕ) → is_skipped (key_at due ++ rest) ≡ false)
+    → length (fields_at due) + (8 - suc due) ≤ 11 + (8 - due) → GoodLine due
+line_from due graphic short stays count = record {
+  graphic = all_graphic (key_at due) graphic;
+  short = short;
+  stays = stays;
+  count = count;
+}
 
-key_good : (due : ℕ) → GoodKey (key_at due)
-key_good zero = key_from (codes "t2-gateway") refl (lit≤ tt) (λ rest. refl)
-key_good (suc zero) = key_from (codes "bandwidth") refl (lit≤ tt) (λ rest. refl)
-key_good (suc (suc zero)) = key_from (codes "frame") refl (lit≤ tt) (λ rest. refl)
-key_good (suc (suc (suc zero))) = key_from (codes "start") refl (lit≤ tt) (λ rest. refl)
-key_good (suc (suc (suc (suc zero)))) = key_from (codes "pid") refl (lit≤ tt) (λ rest. refl)
-key_good (suc (suc (suc (suc (suc zero))))) = key_from (codes "network") refl (lit≤ tt) (λ rest. refl)
-key_good (suc (suc (suc (suc (suc (suc zero)))))) = key_from (codes "l1") refl (lit≤ tt) (λ rest. refl)
-key_good (suc (suc (suc (suc (suc (suc (suc zero))))))) = key_from (codes "subslices") refl (lit≤ tt) (λ rest. refl)
-key_good (suc (suc (suc (suc (suc (suc (suc (suc due)))))))) = key_from (codes "plp") refl (lit≤ tt) (λ rest. refl)
+-- every line is
+line_good : (due : ℕ) → GoodLine due
+line_good zero = line_from _ refl (lit≤ tt) (λ rest. refl) (lit≤ tt)
+line_good (suc zero) = line_from _ refl (lit≤ tt) (λ rest. refl) (lit≤ tt)
+line_good (suc (suc zero)) = line_from _ refl (lit≤ tt) (λ rest. refl) (lit≤ tt)
+line_good (suc (suc (suc zero))) = line_from _ refl (lit≤ tt) (λ rest. refl) (lit≤ tt)
+line_good (suc (suc (suc (suc zero)))) = line_from _ refl (lit≤ tt) (λ rest. refl) (lit≤ tt)
+line_good (suc (suc (suc (suc (suc zero))))) = line_from _ refl (lit≤ tt) (λ rest. refl) (lit≤ tt)
+line_good (suc (suc (suc (suc (suc (suc zero)))))) = line_from _ refl (lit≤ tt) (λ rest. refl) (lit≤ tt)
+line_good (suc (suc (suc (suc (suc (suc (suc zero))))))) = line_from _ refl (lit≤ tt) (λ rest. refl) (lit≤ tt)
+line_good (suc (suc (suc (suc (suc (suc (suc (suc due)))))))) = line_from _ refl (lit≤ tt) (λ rest. refl) (omega arith)
 
 reads_line : (due : ℕ) (row : List ℕ) → FitFields (fields_at due) row → due < 263 → ReadsLine due (canonical_line due row) row
 reads_line due row fits room = record {
-  printable = All-append IsPrintable (key_at due) (words_after (fields_at due) row) (graphic_prints (key_at due) (key_good due).graphic) (prints_words (fields_at due) row fits);
+  printable = All-append IsPrintable (key_at due) (words_after (fields_at due) row)
+      (graphic_prints (key_at due) (line_good due).graphic) (prints_words (fields_at due) row fits);
   words = words_list (fields_at due) row;
-  is = split_words (key_at due) (fields_at due) row (key_good due).graphic fits;
+  is = split_words (key_at due) (fields_at due) row (line_good due).graphic fits;
   fields = spells_words (fields_at due) row fits;
   room = room;
 }
 
--- how the fields of a line are counted: twelve at most, and eleven of a PLP
-fields_count : (due : ℕ) → length (fields_at due) + (8 - suc due) ≤ 11 + (8 - due)
-fields_count zero = lit≤ tt
-fields_count (suc zero) = lit≤ tt
-fields_count (suc (suc zero)) = lit≤ tt
-fields_count (suc (suc (suc zero))) = lit≤ tt
-fields_count (suc (suc (suc (suc zero)))) = lit≤ tt
-fields_count (suc (suc (suc (suc (suc zero))))) = lit≤ tt
-fields_count (suc (suc (suc (suc (suc (suc zero)))))) = lit≤ tt
-fields_count (suc (suc (suc (suc (suc (suc (suc zero))))))) = lit≤ tt
-fields_count (suc (suc (suc (suc (suc (suc (suc (suc due)))))))) = omega arith
-
-length-line : (due : ℕ) (row : List ℕ) → FitFields (fields_at due) row → length (canonical_line due row ++ 10 ∷ []) ≤ 11 + 21 * length (fields_at due)
+length-line : (due : ℕ) (row : List ℕ) → FitFields (fields_at due) row → length (canonical_line due row ++ 10 ∷ [])
+    ≤ 11 + 21 * length (fields_at due)
 length-line due row fits =
-    omega (arith, length-append (canonical_line due row) (10 ∷ []), length-append (key_at due) (words_after (fields_at due) row), (key_good due).short, length-words (fields_at due) row fits)
+    omega (
+      arith,
+      length-append (canonical_line due row) (10 ∷ []),
+      length-append (key_at due) (words_after (fields_at due) row),
+      (line_good due).short,
+      length-words (fields_at due) row fits,
+    )
 
 -- ---- the lines
 
 abbrev with_end : List ℕ → List ℕ
 with_end line = line ++ 10 ∷ []
 
-reads_all : (due : ℕ) (rows : List (List ℕ)) → FitLines due rows → due + length rows ≤ 263 → ReadsLines due (canonical_lines due rows) rows
+reads_all : (due : ℕ) (rows : List (List ℕ)) → FitLines due rows → due + length rows ≤ 263
+    → ReadsLines due (canonical_lines due rows) rows
 reads_all due [] fits room = tt
 reads_all due (row ∷ rows) fits room = (reads_line due row fits.0 (omega arith), reads_all (suc due) rows fits.1 (omega arith))
 
 kept_all : (due : ℕ) (rows : List (List ℕ)) → kept (canonical_lines due rows) ≡ canonical_lines due rows
 kept_all due [] = refl
 kept_all due (row ∷ rows) =
-    kept-cons (canonical_line due row) (canonical_lines (suc due) rows) ((key_good due).stays (words_after (fields_at due) row))
+    kept-cons (canonical_line due row) (canonical_lines (suc due) rows) ((line_good due).stays (words_after (fields_at due) row))
     ∙ ap (λ (l : List (List ℕ)). canonical_line due row ∷ l) (kept_all (suc due) rows)
 
 no_end : (line : List ℕ) → All IsPrintable line → All (λ b. (b == 10) ≡ false) line
-no_end line all = λ k d inside. ne_eqb (slice_index_or line k d) 10 (λ e. let low : 32 ≤ slice_index_or line k d = (all k d inside).0 in absurd (omega arith))
+no_end line all =
+    λ k d inside. ne_eqb (slice_index_or line k d) 10 (λ e. let low : 32 ≤ slice_index_or line k d = (all k d inside).0 in
+    absurd (omega arith))
 
 strip_plain : (line : List ℕ) → All IsPrintable line → strip_carriage_return line ≡ line
 strip_plain [] all = refl
 strip_plain (x ∷ xs) all =
     let low : 32 ≤ get_or (x ∷ xs) (length (x ∷ xs) - 1) 0 = (all (length (x ∷ xs) - 1) 0 (omega arith)).0 in
-    cond-false (get_or (x ∷ xs) (length (x ∷ xs) - 1) 0 == 13) (take (length (x ∷ xs) - 1) (x ∷ xs)) (x ∷ xs) (ne_eqb (get_or (x ∷ xs) (length (x ∷ xs) - 1) 0) 13 (λ e. absurd (omega arith)))
+    cond-false (get_or (x ∷ xs) (length (x ∷ xs) - 1) 0 == 13) (take (length (x ∷ xs) - 1) (x ∷ xs)) (x ∷ xs)
+    (ne_eqb (get_or (x ∷ xs) (length (x ∷ xs) - 1) 0) 13 (λ e. absurd (omega arith)))
 
 lines_cons : (line rest : List ℕ) → All IsPrintable line → lines (with_end line ++ rest) ≡ line ∷ lines rest
 lines_cons line rest all =
     let parts : slice_split (λ b. b == 10) (with_end line ++ rest) ≡ line ∷ slice_split (λ b. b == 10) rest =
-    ap (λ (l : List ℕ). slice_split (λ b. b == 10) l) (append_assoc line (10 ∷ []) rest) ∙ slice_split_at (λ b. b == 10) line 10 rest (no_end line all) (eq-eqb 10 10 refl) in
+    ap (λ (l : List ℕ). slice_split (λ b. b == 10) l) (append_assoc line (10 ∷ []) rest)
+    ∙ slice_split_at (λ b. b == 10) line 10 rest (no_end line all) (eq-eqb 10 10 refl) in
     lines_first (with_end line ++ rest) line rest parts ∙ ap (λ (l : List ℕ). l ∷ lines rest) (strip_plain line all)
 
-lines_all : (due : ℕ) (rows : List (List ℕ)) → FitLines due rows → due + length rows ≤ 263 → lines (flat_map with_end (canonical_lines due rows)) ≡ canonical_lines due rows
+lines_all : (due : ℕ) (rows : List (List ℕ)) → FitLines due rows → due + length rows ≤ 263
+    → lines (flat_map with_end (canonical_lines due rows)) ≡ canonical_lines due rows
 lines_all due [] fits room = refl
 lines_all due (row ∷ rows) fits room =
-    lines_cons (canonical_line due row) (flat_map with_end (canonical_lines (suc due) rows)) (reads_line due row fits.0 (omega arith)).printable
+    lines_cons (canonical_line due row) (flat_map with_end (canonical_lines (suc due) rows))
+    (reads_line due row fits.0 (omega arith)).printable
     ∙ ap (λ (l : List (List ℕ)). canonical_line due row ∷ l) (lines_all (suc due) rows fits.1 (omega arith))
 
-length-all : (due : ℕ) (rows : List (List ℕ)) → FitLines due rows → length (flat_map with_end (canonical_lines due rows)) ≤ 242 * length rows + 21 * (8 - due)
+length-all : (due : ℕ) (rows : List (List ℕ)) → FitLines due rows → length (flat_map with_end (canonical_lines due rows))
+    ≤ 242 * length rows + 21 * (8 - due)
 length-all due [] fits = omega arith
 length-all due (row ∷ rows) fits =
     omega (
       arith,
       length-append (with_end (canonical_line due row)) (flat_map with_end (canonical_lines (suc due) rows)),
       length-line due row fits.0,
-      fields_count due,
+      (line_good due).count,
       length-all (suc due) rows fits.1,
     )
 
-pub canonical_spells : (c : Config) (text : List ℕ) → FitLines 0 (rows_of c) → length c.plps ≤ 255 → text ≡ canonical_text c → Spells text c
+pub canonical_spells : (c : Config) (text : List ℕ) → FitLines 0 (rows_of c) → length c.plps ≤ 255 → text ≡ canonical_text c
+    → Spells text c
 unfolding canonical_text
 canonical_spells c text fits few is =
     let rows : List (List ℕ) = rows_of c in
@@ -263,9 +270,11 @@ canonical_spells c text fits few is =
     }
 
 -- one line more fits
-pub fit_more : (due : ℕ) (rows : List (List ℕ)) (i : ℕ) → FitLines due (take i rows) → i < length rows → FitFields (fields_at (due + i)) (get_or rows i []) → FitLines due (take (i + 1) rows)
+pub fit_more : (due : ℕ) (rows : List (List ℕ)) (i : ℕ) → FitLines due (take i rows) → i < length rows
+    → FitFields (fields_at (due + i)) (get_or rows i []) → FitLines due (take (i + 1) rows)
 fit_more due [] i fits inside more = absurd (omega arith)
-fit_more due (row ∷ rows) zero fits inside more = (let e : due + 0 ≡ due = omega arith in subst (λ (d : ℕ). FitFields (fields_at d) row) e more, tt)
+fit_more due (row ∷ rows) zero fits inside more =
+    (let e : due + 0 ≡ due = omega arith in subst (λ (d : ℕ). FitFields (fields_at d) row) e more, tt)
 fit_more due (row ∷ rows) (suc i) fits inside more =
     let next : suc (i + 1) ≡ suc i + 1 = omega arith in
     let e : due + suc i ≡ suc due + i = omega arith in

@@ -1,13 +1,16 @@
 -- Each text spells a configuration or is refused.
-use Rattle.std.proofs.Common.{ℕ, zero, suc, ◌≡◌, ◌<◌, ◌≤◌, ◌+◌, ◌∷◌, ◌++◌, ◌∙◌, ◌⊎◌, List, [], Bool, true, false, length, drop, ap, sym, subst, arith, refl, inl, inr, All, Option, Some, None, append_assoc, append-nil}
+use Rattle.std.proofs.Common.{ℕ, zero, suc, ◌≡◌, ◌<◌, ◌≤◌, ◌+◌, ◌∷◌, ◌++◌, ◌∙◌, ◌⊎◌, List, [], Bool, true, false, length, drop}
+use Rattle.std.proofs.Common.{ap, sym, subst, arith, refl, inl, inr, All, Option, Some, None, append_assoc, append-nil}
 use Rattle.std.specs.Prelude.{slice_index_or}
 use Rattle.std.specs.Fmt.{decimal}
 use Rattle.std.specs.Str.Lines.{lines}
 use Rattle.std.proofs.lemmas.Bool.{cases_eq, cases_lt}
 use Rattle.std.proofs.lemmas.List.Elements.{All-nil, All-cons, All-head, All-tail}
 use Rattle.plp_config.specs.declared.config.Config.{Config}
-use Rattle.config_text.specs.ConfigText.{is_skipped, kept, words_of, IsPrintable, ReadsLine, ReadsLines, HasKey, HasCount, RefusesLine, RefusesAt, Refuses, Spells}
-use Rattle.config_text.specs.Fields.{Spelling, spelling_of, key_at, fields_at, place_from, SpellsValue, SpellsFields, FailsFirst, why_of}
+use Rattle.config_text.specs.ConfigText.{is_skipped, kept, words_of, IsPrintable, ReadsLine, ReadsLines, HasKey, HasCount}
+use Rattle.config_text.specs.ConfigText.{RefusesLine, RefusesAt, Refuses, Spells}
+use Rattle.config_text.specs.Fields.{Spelling, spelling_of, key_at, fields_at, place_from, SpellsValue, SpellsFields, FailsFirst}
+use Rattle.config_text.specs.Fields.{why_of}
 use Rattle.config_text.specs.Fields.Spelling.{Number, Word}
 use Rattle.config_text.specs.Words.{FitLines}
 use Rattle.config_text.specs.declared.fault.TextWhy.{TextWhy}
@@ -39,7 +42,8 @@ decide_printable (x ∷ xs) =
       | inl low ↦ inr (λ all. let first : IsPrintable x = All-head IsPrintable x xs all in absurd (omega (arith, first.0, low)))
       | inr least ↦
           elim (cases_lt 126 x) [
-            | inl high ↦ inr (λ all. let first : IsPrintable x = All-head IsPrintable x xs all in absurd (omega (arith, first.1, high)))
+            | inl high ↦ inr (λ all. let first : IsPrintable x = All-head IsPrintable x xs all in
+                absurd (omega (arith, first.1, high)))
             | inr most ↦
                 elim (decide_printable xs) [
                   | inl rest ↦ inl (All-cons IsPrintable x xs (least, most) rest)
@@ -66,7 +70,9 @@ decide_decimal : (least greatest : ℕ) (word : List ℕ) → Decimal least grea
 decide_decimal least zero word =
     elim (decide_here least 0 word) [
       | inl yes_here ↦ inl (0, (yes_here.0, yes_here.1, omega arith))
-      | inr differ ↦ inr (λ n h. let e : n ≡ 0 = omega (arith, h.2) in differ (subst (λ (k : ℕ). (word ≡ decimal k) × (least ≤ k)) e (h.0, h.1)))
+      | inr differ ↦
+          inr (λ n h. let e : n ≡ 0 = omega (arith, h.2) in
+          differ (subst (λ (k : ℕ). (word ≡ decimal k) × (least ≤ k)) e (h.0, h.1)))
     ]
 decide_decimal least (suc greatest) word =
     elim (decide_decimal least greatest word) [
@@ -78,7 +84,8 @@ decide_decimal least (suc greatest) word =
                 inr (λ n h.
                 elim (cases_lt n (suc greatest)) [
                   | inl lower ↦ before n (h.0, h.1, omega (arith, lower))
-                  | inr top ↦ let e : n ≡ suc greatest = omega (arith, h.2, top) in differ (subst (λ (k : ℕ). (word ≡ decimal k) × (least ≤ k)) e (h.0, h.1))
+                  | inr top ↦ let e : n ≡ suc greatest = omega (arith, h.2, top) in
+                      differ (subst (λ (k : ℕ). (word ≡ decimal k) × (least ≤ k)) e (h.0, h.1))
                 ])
           ]
     ]
@@ -91,7 +98,8 @@ decide_value : (s : Spelling) (word : List ℕ) → ((n : ℕ) × SpellsValue s 
 decide_value (Number least greatest) word = decide_decimal least greatest word
 decide_value (Word words) word = decide_option (place_from 0 word words)
 
-decide_fields : (fs : List Field) (ws : List (List ℕ)) → length ws ≡ length fs → ((ns : List ℕ) × SpellsFields fs ns ws) ⊎ ((why : TextWhy) × FailsFirst fs ws why)
+decide_fields : (fs : List Field) (ws : List (List ℕ)) → length ws ≡ length fs → ((ns : List ℕ) × SpellsFields fs ns ws)
+    ⊎ ((why : TextWhy) × FailsFirst fs ws why)
 decide_fields [] [] count = inl ([], tt)
 decide_fields [] (w ∷ ws) count = absurd (omega arith)
 decide_fields (f ∷ fs) [] count = absurd (omega arith)
@@ -116,13 +124,16 @@ length-drop_one (w ∷ ws) n e = omega arith
 decide_count : (due : ℕ) (line : List ℕ) → HasCount due line ⊎ (HasCount due line → ⊥)
 decide_count due line =
     elim (cases_eq (length (words_of line)) (length (fields_at due) + 1)) [
-      | inl same ↦ elim (cases_lt due 263) [ inl room ↦ inl (same, room) | inr full ↦ inr (λ h. absurd (omega (arith, h.1, full))) ]
+      | inl same ↦
+          elim (cases_lt due 263) [ inl room ↦ inl (same, room) | inr full ↦ inr (λ h. absurd (omega (arith, h.1, full))) ]
       | inr differ ↦ inr (λ h. differ h.0)
     ]
 
-decide_words : (due : ℕ) (line : List ℕ) → All IsPrintable line → HasKey due line → HasCount due line → ((row : List ℕ) × ReadsLine due line row) ⊎ ((why : TextWhy) × RefusesLine due line why)
+decide_words : (due : ℕ) (line : List ℕ) → All IsPrintable line → HasKey due line → HasCount due line
+    → ((row : List ℕ) × ReadsLine due line row) ⊎ ((why : TextWhy) × RefusesLine due line why)
 decide_words due line printable key count =
-    elim (decide_fields (fields_at due) (drop 1 (words_of line)) (length-drop_one (words_of line) (length (fields_at due)) count.0)) [
+    elim (decide_fields (fields_at due) (drop 1 (words_of line))
+    (length-drop_one (words_of line) (length (fields_at due)) count.0)) [
       | inl fields ↦
           inl (
             fields.0,
@@ -155,28 +166,39 @@ decide_line due line =
 -- ---- lines
 
 abbrev Decided : List ℕ → Type 0
-Decided text = ((rows : List (List ℕ)) × ReadsLines 0 (kept (lines text)) rows) ⊎ ((number : ℕ) × (why : TextWhy) × RefusesAt text number why)
+Decided text = ((rows : List (List ℕ)) × ReadsLines 0 (kept (lines text)) rows)
+    ⊎ ((number : ℕ) × (why : TextWhy) × RefusesAt text number why)
 
-decide_lines : (text : List ℕ) (before left rows : List (List ℕ)) → length text ≤ 65536 → lines text ≡ before ++ left → ReadsLines 0 (kept before) rows → Decided text
+decide_lines : (text : List ℕ) (before left rows : List (List ℕ)) → length text ≤ 65536 → lines text ≡ before ++ left
+    → ReadsLines 0 (kept before) rows → Decided text
 decide_lines text before [] rows fits are reads =
     let all : lines text ≡ before = are ∙ append-nil before in
     inl (rows, subst (λ (l : List (List ℕ)). ReadsLines 0 (kept l) rows) (sym all) reads)
 decide_lines text before (line ∷ left) rows fits are reads =
-    decide_next text before left rows line fits are reads (is_skipped line) refl (λ rows more. decide_lines text (before ++ line ∷ []) left rows fits (are ∙ sym (append_assoc before (line ∷ []) left)) more)
+    decide_next text before left rows line fits are reads (is_skipped line) refl
+    (λ rows more. decide_lines text (before ++ line ∷ []) left rows fits (are ∙ sym (append_assoc before (line ∷ []) left))
+    more)
   where
-    decide_next : (text : List ℕ) (before left rows : List (List ℕ)) (line : List ℕ) → length text ≤ 65536 → lines text ≡ before ++ line ∷ left → ReadsLines 0 (kept before) rows
-        → (skipped : Bool) → is_skipped line ≡ skipped → ((more : List (List ℕ)) → ReadsLines 0 (kept (before ++ line ∷ [])) more → Decided text) → Decided text
+    decide_next : (text : List ℕ) (before left rows : List (List ℕ)) (line : List ℕ) → length text ≤ 65536
+        → lines text ≡ before ++ line ∷ left → ReadsLines 0 (kept before) rows
+        → (skipped : Bool) → is_skipped line ≡ skipped → ((more : List (List ℕ)) → ReadsLines 0 (kept (before ++ line ∷ [])) more
+        → Decided text) → Decided text
     decide_next text before left rows line fits are reads true skips go =
         let same : kept (before ++ line ∷ []) ≡ kept before =
-        kept-append before (line ∷ []) ∙ ap (λ (l : List (List ℕ)). kept before ++ l) (kept-skip line [] skips) ∙ append-nil (kept before) in
+        kept-append before (line ∷ []) ∙ ap (λ (l : List (List ℕ)). kept before ++ l) (kept-skip line [] skips)
+        ∙ append-nil (kept before) in
         go rows (subst (λ (l : List (List ℕ)). ReadsLines 0 l rows) (sym same) reads)
     decide_next text before left rows line fits are reads false stays go =
         elim (decide_line (length (kept before)) line) [
           | inl row ↦
               let zero_plus : length (kept before) ≡ 0 + length (kept before) = omega arith in
-              let here : ReadsLine (0 + length (kept before)) line row.0 = subst (λ (d : ℕ). ReadsLine d line row.0) zero_plus row.1 in
-              let more : ReadsLines 0 (kept before ++ line ∷ []) (rows ++ row.0 ∷ []) = lines_more 0 (kept before) rows line row.0 reads here in
-              go (rows ++ row.0 ∷ []) (subst (λ (l : List (List ℕ)). ReadsLines 0 l (rows ++ row.0 ∷ [])) (sym (kept-parted before [] line stays)) more)
+              let here : ReadsLine (0 + length (kept before)) line row.0 =
+              subst (λ (d : ℕ). ReadsLine d line row.0) zero_plus row.1 in
+              let more : ReadsLines 0 (kept before ++ line ∷ []) (rows ++ row.0 ∷ []) =
+              lines_more 0 (kept before) rows line row.0 reads here in
+              go (rows ++ row.0 ∷ [])
+              (subst (λ (l : List (List ℕ)). ReadsLines 0 l (rows ++ row.0 ∷ [])) (sym (kept-parted before [] line stays))
+              more)
           | inr refuses ↦
               inr (
                 length before + 1,
@@ -229,7 +251,8 @@ text_decided text =
                         config_from reads.0,
                         record {
                           fits = fits;
-                          reads = subst (λ (rows : List (List ℕ)). ReadsLines 0 (kept (lines text)) rows) (sym (config_rows reads.0 (lines_fit 0 (kept (lines text)) reads.0 reads.1) enough)) reads.1;
+                          reads = subst (λ (rows : List (List ℕ)). ReadsLines 0 (kept (lines text)) rows)
+                              (sym (config_rows reads.0 (lines_fit 0 (kept (lines text)) reads.0 reads.1) enough)) reads.1;
                         },
                       )
                 ]

@@ -1,6 +1,7 @@
 -- A configuration is filled in: the lines of PLPs.
-use Rattle.std.proofs.Common.{ℕ, zero, suc, ◌≡◌, ◌≤◌, ◌+◌, ◌-◌, ◌∷◌, ◌++◌, ◌∙◌, List, [], length, take, ap, sym, arith, refl, map, length-append, append_assoc}
-use Rattle.std.proofs.lemmas.List.{take_all, map-append, length-map}
+use Rattle.std.proofs.Common.{ℕ, suc, ◌≡◌, ◌≤◌, ◌+◌, ◌-◌, ◌∷◌, ◌++◌, ◌∙◌, List, [], length, take, ap, sym, arith, map}
+use Rattle.std.proofs.Common.{length-append, append_assoc}
+use Rattle.std.proofs.lemmas.List.{get_or_past, take_all, map-append, length-map}
 use Rattle.plp_config.specs.declared.config.Config.{Config}
 use Rattle.plp_config.specs.declared.plp.Plp.{Plp}
 use Rattle.config_text.specs.Fields.{fields_at, plp_fields}
@@ -10,15 +11,7 @@ use Rattle.config_text.specs.Words.{first_values, row_of}
 
 -- behind the first eight lines a PLP is due
 pub fields_later : (due : ℕ) → 8 ≤ due → fields_at due ≡ plp_fields
-fields_later zero h = absurd (omega arith)
-fields_later (suc zero) h = absurd (omega arith)
-fields_later (suc (suc zero)) h = absurd (omega arith)
-fields_later (suc (suc (suc zero))) h = absurd (omega arith)
-fields_later (suc (suc (suc (suc zero)))) h = absurd (omega arith)
-fields_later (suc (suc (suc (suc (suc zero))))) h = absurd (omega arith)
-fields_later (suc (suc (suc (suc (suc (suc zero)))))) h = absurd (omega arith)
-fields_later (suc (suc (suc (suc (suc (suc (suc zero))))))) h = absurd (omega arith)
-fields_later (suc (suc (suc (suc (suc (suc (suc (suc due)))))))) h = refl
+fields_later due later = get_or_past (_ ∷ _ ∷ _ ∷ _ ∷ _ ∷ _ ∷ _ ∷ _ ∷ []) due plp_fields later
 
 pub row_later : (due : ℕ) (values : List ℕ) → 8 ≤ due → row_of due values ≡ first_values 11 values
 row_later due values later = ap (λ fs. first_values (length fs) values) (fields_later due later)
@@ -27,10 +20,13 @@ pub length-rows_of : (c : Config) → length (rows_of c) ≡ 8 + length c.plps
 length-rows_of c = length-append (first_rows c) (map plp_row c.plps) ∙ ap (λ (n : ℕ). 8 + n) (length-map c.plps plp_row)
 
 -- the rows of a configuration with one PLP more
-more_rows : (front : List (List ℕ)) (plps : List Plp) (p : Plp) → front ++ map plp_row (plps ++ p ∷ []) ≡ (front ++ map plp_row plps) ++ plp_row p ∷ []
-more_rows front plps p = ap (λ (l : List (List ℕ)). front ++ l) (map-append plp_row plps (p ∷ [])) ∙ sym (append_assoc front (map plp_row plps) (plp_row p ∷ []))
+more_rows : (front : List (List ℕ)) (plps : List Plp) (p : Plp) → front ++ map plp_row (plps ++ p ∷ [])
+    ≡ (front ++ map plp_row plps) ++ plp_row p ∷ []
+more_rows front plps p = ap (λ (l : List (List ℕ)). front ++ l) (map-append plp_row plps (p ∷ []))
+    ∙ sym (append_assoc front (map plp_row plps) (plp_row p ∷ []))
 
-pub puts_plp : (due : ℕ) (old : Config) (p : Plp) (more : List Plp) (row : List ℕ) → 8 ≤ due → length old.plps ≡ due - 8 → more ≡ old.plps ++ p ∷ [] → plp_row p ≡ row
+pub puts_plp : (due : ℕ) (old : Config) (p : Plp) (more : List Plp) (row : List ℕ) → 8 ≤ due → length old.plps ≡ due - 8
+    → more ≡ old.plps ++ p ∷ [] → plp_row p ≡ row
     → Puts due row old (record old { plps = more })
 puts_plp due old p more row later count are is =
     let size : length more ≡ length old.plps + 1 = ap length are ∙ length-append old.plps (p ∷ []) in
@@ -38,5 +34,6 @@ puts_plp due old p more row later count are is =
     take_all (suc due) (rows_of (record old { plps = more })) (omega (arith, length-rows_of (record old { plps = more }))) in
     let before : take due (rows_of old) ≡ rows_of old = take_all due (rows_of old) (omega (arith, length-rows_of old)) in
     let joined : rows_of (record old { plps = more }) ≡ rows_of old ++ row ∷ [] =
-    ap (λ (l : List Plp). first_rows old ++ map plp_row l) are ∙ more_rows (first_rows old) old.plps p ∙ ap (λ (r : List ℕ). rows_of old ++ r ∷ []) is in
+    ap (λ (l : List Plp). first_rows old ++ map plp_row l) are ∙ more_rows (first_rows old) old.plps p
+    ∙ ap (λ (r : List ℕ). rows_of old ++ r ∷ []) is in
     record { rows = whole ∙ joined ∙ ap (λ (l : List (List ℕ)). l ++ row ∷ []) (sym before); plps = omega arith }

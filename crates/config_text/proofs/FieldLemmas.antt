@@ -1,9 +1,12 @@
 -- The fields of a line, one after another.
-use Rattle.std.proofs.Common.{ℕ, zero, suc, ◌≡◌, ◌<◌, ◌≤◌, ◌+◌, ◌∷◌, ◌++◌, ◌∙◌, List, [], length, take, drop, get_or, set, ap, sym, subst, arith, refl, inl, inr, cond, Some, None, bytes_eq, Bool, true, false, append-nil, append_assoc, length-drop}
-use Rattle.std.proofs.lemmas.List.{drop_more, length-set}
+use Rattle.std.proofs.Common.{ℕ, zero, suc, ◌≡◌, ◌<◌, ◌≤◌, ◌+◌, ◌∷◌, ◌++◌, ◌∙◌, List, [], length, take, drop, get_or, set, ap}
+use Rattle.std.proofs.Common.{sym, subst, arith, refl, inl, inr, cond, Some, None, bytes_eq, Bool, true, false, append-nil}
+use Rattle.std.proofs.Common.{append_assoc, length-drop, map, Bor}
+use Rattle.std.proofs.lemmas.List.{at_drop_more, drop_more, length-set}
 use Rattle.std.proofs.lemmas.Grind.{take-set_at}
 use Rattle.config_text.specs.ConfigText.{ReadsLine}
-use Rattle.config_text.specs.Fields.{SpellsField, SpellsFields, SpellsValue, FailsFirst, why_of, Spelling, spelling_of, place_from, fields_at}
+use Rattle.config_text.specs.Fields.{SpellsField, SpellsFields, SpellsValue, FailsFirst, why_of, Spelling, spelling_of}
+use Rattle.config_text.specs.Fields.{place_from, fields_at}
 use Rattle.config_text.specs.Fields.Spelling.{Number, Word}
 use Rattle.config_text.specs.Words.{values_from, first_values, Fits, FitFields}
 use Rattle.config_text.specs.declared.field.Field.{Field}
@@ -16,26 +19,34 @@ pub record Goes (fields : List Field) (words : List (List ℕ)) (i : ℕ) (left 
   pub ok : (vs : List ℕ) → SpellsFields (drop i fields) vs left → SpellsFields fields (take i values ++ vs) words
   pub err : (why : TextWhy) → FailsFirst (drop i fields) left why → FailsFirst fields words why
 
-pub goes_first : (fields : List Field) (words : List (List ℕ)) (values : List ℕ) → length values ≡ 12 → length words ≡ length fields → Goes fields words 0 words values
+pub goes_first : (fields : List Field) (words : List (List ℕ)) (values : List ℕ) → length values ≡ 12
+    → length words ≡ length fields → Goes fields words 0 words values
 goes_first fields words values size count = record { size = size; count = omega arith; ok = λ vs h. h; err = λ why h. h }
 
-pub goes_on : (fields : List Field) (words : List (List ℕ)) (i : ℕ) (before left : List (List ℕ)) (word values : List ℕ) (n : ℕ) (d : Field)
-    → Goes fields words i before values → before ≡ word ∷ left → i < length fields → i < 12 → SpellsField (get_or fields i d) n word → Goes fields words (i + 1) left (set values i n)
+pub goes_on : (fields : List Field) (words : List (List ℕ)) (i : ℕ) (before left : List (List ℕ)) (word values : List ℕ) (n : ℕ)
+    (d : Field)
+    → Goes fields words i before values → before ≡ word ∷ left → i < length fields → i < 12
+    → SpellsField (get_or fields i d) n word → Goes fields words (i + 1) left (set values i n)
 goes_on fields words i before left word values n d goes are inside room spelled = record {
   size = length-set values i n ∙ goes.size;
   count = omega (arith, goes.count, ap length are);
   ok = λ vs h.
       let front : SpellsFields (drop i fields) (n ∷ vs) before = rw (drop_more fields i d inside, are) (spelled, h) in
       let all : SpellsFields fields (take i values ++ n ∷ vs) words = goes.ok (n ∷ vs) front in
-      let taken : take (i + 1) (set values i n) ≡ take i values ++ n ∷ [] = take-set_at values i (i + 1) n refl (omega (arith, goes.size)) in
-      subst (λ (row : List ℕ). SpellsFields fields row words) (sym (ap (λ (l : List ℕ). l ++ vs) taken ∙ append_assoc (take i values) (n ∷ []) vs)) all;
+      let taken : take (i + 1) (set values i n) ≡ take i values ++ n ∷ [] =
+      take-set_at values i (i + 1) n refl (omega (arith, goes.size)) in
+      subst (λ (row : List ℕ). SpellsFields fields row words)
+      (sym (ap (λ (l : List ℕ). l ++ vs) taken ∙ append_assoc (take i values) (n ∷ []) vs)) all;
   err = λ why h. goes.err why (rw (drop_more fields i d inside, are) (inr (n, spelled, h)));
 }
 
-pub goes_stops : (fields : List Field) (words : List (List ℕ)) (i : ℕ) (before left : List (List ℕ)) (word values : List ℕ) (d : Field)
-    → Goes fields words i before values → before ≡ word ∷ left → i < length fields → ((n : ℕ) → SpellsField (get_or fields i d) n word → ⊥)
+pub goes_stops : (fields : List Field) (words : List (List ℕ)) (i : ℕ) (before left : List (List ℕ)) (word values : List ℕ)
+    (d : Field)
+    → Goes fields words i before values → before ≡ word ∷ left → i < length fields
+    → ((n : ℕ) → SpellsField (get_or fields i d) n word → ⊥)
     → FailsFirst fields words (why_of (spelling_of (get_or fields i d)))
-goes_stops fields words i before left word values d goes are inside fails = goes.err _ (rw (drop_more fields i d inside, are) (inl (fails, refl)))
+goes_stops fields words i before left word values d goes are inside fails =
+    goes.err _ (rw (drop_more fields i d inside, are) (inl (fails, refl)))
 
 values_from-cons : (x : ℕ) (n place : ℕ) (values : List ℕ) → values_from (suc place) n (x ∷ values) ≡ values_from place n values
 values_from-cons x zero place values = refl
@@ -44,7 +55,8 @@ values_from-cons x (suc n) place values = ap (λ (l : List ℕ). get_or values p
 pub first_values-take : (n : ℕ) (values : List ℕ) → n ≤ length values → first_values n values ≡ take n values
 first_values-take zero values within = refl
 first_values-take (suc n) [] within = absurd (omega arith)
-first_values-take (suc n) (x ∷ values) within = ap (λ (l : List ℕ). x ∷ l) (values_from-cons x n 0 values ∙ first_values-take n values (omega arith))
+first_values-take (suc n) (x ∷ values) within =
+    ap (λ (l : List ℕ). x ∷ l) (values_from-cons x n 0 values ∙ first_values-take n values (omega arith))
 
 -- nothing is left
 spelled_none : (fields : List Field) (left : List (List ℕ)) → length fields ≡ 0 → length left ≡ 0 → SpellsFields fields [] left
@@ -53,19 +65,37 @@ spelled_none [] (w ∷ ws) a b = absurd (omega arith)
 spelled_none (f ∷ fs) left a b = absurd (omega arith)
 
 pub goes_ends : (fields : List Field) (words : List (List ℕ)) (i : ℕ) (left : List (List ℕ)) (values : List ℕ)
-    → Goes fields words i left values → i ≡ length fields → length fields ≤ 12 → SpellsFields fields (first_values (length fields) values) words
+    → Goes fields words i left values → i ≡ length fields → length fields ≤ 12
+    → SpellsFields fields (first_values (length fields) values) words
 goes_ends fields words i left values goes end few =
-    let none : SpellsFields (drop i fields) [] left = spelled_none (drop i fields) left (omega (arith, length-drop i fields)) (omega (arith, goes.count)) in
+    let none : SpellsFields (drop i fields) [] left = spelled_none (drop i fields) left (omega (arith, length-drop i fields))
+    (omega (arith, goes.count)) in
     let all : SpellsFields fields (take i values) words = rw append-nil at (goes.ok [] none) in
-    let same : first_values (length fields) values ≡ take i values = first_values-take (length fields) values (omega (arith, goes.size)) ∙ ap (λ (k : ℕ). take k values) (sym end) in
+    let same : first_values (length fields) values ≡ take i values =
+    first_values-take (length fields) values (omega (arith, goes.size)) ∙ ap (λ (k : ℕ). take k values) (sym end) in
     subst (λ (row : List ℕ). SpellsFields fields row words) (sym same) all
+
+-- words behind references
+abbrev words_now : List (Bor (List ℕ)) → List (List ℕ)
+words_now words = map (λ w. w.now) words
+
+-- a word is the next one, or has its place among those behind it
+pub place_next : (word : List ℕ) (words : List (Bor (List ℕ))) (at : ℕ) (other : Bor (List ℕ)) → at < length words
+    → other ≡ get_or words at other
+    → place_from at word (words_now (drop at words))
+    ≡ cond (bytes_eq word other.now) (Some at) (place_from (at + 1) word (words_now (drop (at + 1) words)))
+place_next word words at other inside is =
+    at_drop_more (λ (l : List (Bor (List ℕ))). place_from at word (words_now l)) words at other inside
+    ∙ ap (λ (x : Bor (List ℕ)). cond (bytes_eq word x.now) (Some at) (place_from (at + 1) word (words_now (drop (at + 1) words))))
+    (sym is)
 
 -- a place is one of the list
 place_lt : (k : ℕ) (word : List ℕ) (ws : List (List ℕ)) (n : ℕ) → place_from k word ws ≡ Some n → n < k + length ws
 place_lt k word [] n e = absurd (let none : None ≡ Some n = e in cc)
 place_lt k word (w ∷ ws) n e = step (bytes_eq word w) (λ later. place_lt (k + 1) word ws n later) e
   where
-    step : (same : Bool) → (place_from (k + 1) word ws ≡ Some n → n < k + 1 + length ws) → cond same (Some k) (place_from (k + 1) word ws) ≡ Some n → n < k + length (w ∷ ws)
+    step : (same : Bool) → (place_from (k + 1) word ws ≡ Some n → n < k + 1 + length ws)
+        → cond same (Some k) (place_from (k + 1) word ws) ≡ Some n → n < k + length (w ∷ ws)
     step true later e = (let here : Some k ≡ Some n = e in let same : k ≡ n = cc in omega arith)
     step false later e = omega (arith, later e)
 

@@ -7,13 +7,15 @@ use Rattle.std.specs.Str.Parse.{ParsesUnsigned}
 use Rattle.std.proofs.lemmas.Fmt.{parse-decimal, decimal_injective, IsAscii-decimal}
 use Rattle.std.proofs.lemmas.Str.{IsUtf8-from_ascii}
 
-pub parsed_is : {E : Type 0} (n number : ℕ) (word text : List ℕ) (r : Result ℕ E) → n < 2 ^ 64 → text ≡ word → word ≡ decimal n → ParsesUnsigned 64 10 text r → r ≡ Ok number
+pub parsed_is : {E : Type 0} (n number : ℕ) (word text : List ℕ) (r : Result ℕ E) → n < 2 ^ 64 → text ≡ word → word ≡ decimal n
+    → ParsesUnsigned 64 10 text r → r ≡ Ok number
     → number ≡ n
 parsed_is n number word text r fits same spelled parses is =
     let gives : r ≡ Ok n = parse-decimal 64 n text r fits fits (same ∙ spelled) parses in
     cc
 
-pub parsed_fails : {E : Type 0} (n : ℕ) (e : E) (word text : List ℕ) (r : Result ℕ E) → n < 2 ^ 64 → text ≡ word → word ≡ decimal n → ParsesUnsigned 64 10 text r → r ≡ Err e
+pub parsed_fails : {E : Type 0} (n : ℕ) (e : E) (word text : List ℕ) (r : Result ℕ E) → n < 2 ^ 64 → text ≡ word
+    → word ≡ decimal n → ParsesUnsigned 64 10 text r → r ≡ Err e
     → ⊥
 parsed_fails n e word text r fits same spelled parses is =
     let gives : r ≡ Ok n = parse-decimal 64 n text r fits fits (same ∙ spelled) parses in

@@ -1,5 +1,6 @@
 -- Texts that are read, and texts that are refused.
-use Rattle.std.proofs.Common.{ℕ, suc, ◌≡◌, ◌<◌, ◌≤◌, ◌+◌, ◌∷◌, ◌++◌, ◌∙◌, ◌⊎◌, List, [], Bool, true, false, length, take, ap, sym, subst, arith, refl, inl, inr, append_assoc, append-nil, length-append, cond, not, ◌==◌}
+use Rattle.std.proofs.Common.{ℕ, suc, ◌≡◌, ◌<◌, ◌≤◌, ◌+◌, ◌∷◌, ◌++◌, ◌∙◌, ◌⊎◌, List, [], Bool, true, false, length, take, ap, sym}
+use Rattle.std.proofs.Common.{subst, arith, refl, inl, inr, append_assoc, append-nil, length-append, cond, not, ◌==◌}
 use Rattle.std.specs.Prelude.{Result, Ok, Err, IfOk, IfErr}
 use Rattle.std.specs.List.{slice_split}
 use Rattle.std.specs.Str.Lines.{lines, lines_of_parts}
@@ -9,7 +10,8 @@ use Rattle.std.proofs.lemmas.List.Elements.{filter-append}
 use Rattle.std.proofs.lemmas.List.Splits.{length-slice_split}
 use Rattle.std.proofs.lemmas.List.Sums.{count_by-le-length}
 use Rattle.plp_config.specs.declared.config.Config.{Config}
-use Rattle.config_text.specs.ConfigText.{is_skipped, kept, ReadsLine, ReadsLines, RefusesLine, RefusesAt, Refuses, CausesFault, Spells}
+use Rattle.config_text.specs.ConfigText.{is_skipped, kept, ReadsLine, ReadsLines, RefusesLine, RefusesAt, Refuses, CausesFault}
+use Rattle.config_text.specs.ConfigText.{Spells}
 use Rattle.config_text.specs.Rows.{rows_of}
 use Rattle.config_text.specs.Drafts.{Takes, Stands, RefusesDue}
 use Rattle.config_text.specs.declared.fault.TextWhy.{TextWhy}
@@ -24,16 +26,28 @@ use Rattle.config_text.proofs.RowLemmas.{config_once}
 parted : (a b c d : List (List ℕ)) (l k : List ℕ) → a ++ l ∷ c ≡ b ++ k ∷ d
     → ((a ≡ b) × (l ≡ k)) ⊎ (((m : List (List ℕ)) × (b ≡ a ++ l ∷ m)) ⊎ ((m : List (List ℕ)) × (a ≡ b ++ k ∷ m)))
 parted [] [] c d l k e = inl (refl, let same : l ∷ c ≡ k ∷ d = e in cc)
-parted [] (x ∷ b) c d l k e = let same : l ∷ c ≡ x ∷ (b ++ k ∷ d) = e in inr (inl (b, let first : l ≡ x = cc in ap (λ (y : List ℕ). y ∷ b) (sym first)))
-parted (x ∷ a) [] c d l k e = let same : x ∷ (a ++ l ∷ c) ≡ k ∷ d = e in inr (inr (a, let first : x ≡ k = cc in ap (λ (y : List ℕ). y ∷ a) first))
+parted [] (x ∷ b) c d l k e = let same : l ∷ c ≡ x ∷ (b ++ k ∷ d) = e in
+    inr (inl (b, let first : l ≡ x = cc in ap (λ (y : List ℕ). y ∷ b) (sym first)))
+parted (x ∷ a) [] c d l k e = let same : x ∷ (a ++ l ∷ c) ≡ k ∷ d = e in
+    inr (inr (a, let first : x ≡ k = cc in ap (λ (y : List ℕ). y ∷ a) first))
 parted (x ∷ a) (y ∷ b) c d l k e =
     let same : x ∷ (a ++ l ∷ c) ≡ y ∷ (b ++ k ∷ d) = e in
     let first : x ≡ y = cc in
     let rest : a ++ l ∷ c ≡ b ++ k ∷ d = cc in
     elim (parted a b c d l k rest) [
       | inl both ↦ inl (let front : a ≡ b = both.0 in cc, both.1)
-      | inr (inl more) ↦ inr (inl (more.0, let are : b ≡ a ++ l ∷ more.0 = more.1 in ap (λ (z : List ℕ). z ∷ b) (sym first) ∙ ap (λ (z : List (List ℕ)). x ∷ z) are))
-      | inr (inr more) ↦ inr (inr (more.0, let are : a ≡ b ++ k ∷ more.0 = more.1 in ap (λ (z : List ℕ). z ∷ a) first ∙ ap (λ (z : List (List ℕ)). y ∷ z) are))
+      | inr (inl more) ↦
+          inr (inl (
+            more.0,
+            let are : b ≡ a ++ l ∷ more.0 = more.1 in ap (λ (z : List ℕ). z ∷ b) (sym first)
+                ∙ ap (λ (z : List (List ℕ)). x ∷ z) are,
+          ))
+      | inr (inr more) ↦
+          inr (inr (
+            more.0,
+            let are : a ≡ b ++ k ∷ more.0 = more.1 in ap (λ (z : List ℕ). z ∷ a) first
+                ∙ ap (λ (z : List (List ℕ)). y ∷ z) are,
+          ))
     ]
 
 -- a line that is kept or skipped
@@ -46,11 +60,14 @@ kept-skip line after skips = cond-false (not (is_skipped line)) (line ∷ kept a
 pub kept-append : (before after : List (List ℕ)) → kept (before ++ after) ≡ kept before ++ kept after
 kept-append before after = filter-append (λ line. not (is_skipped line)) before after
 
-pub kept-parted : (before after : List (List ℕ)) (line : List ℕ) → is_skipped line ≡ false → kept (before ++ line ∷ after) ≡ kept before ++ line ∷ kept after
-kept-parted before after line stays = kept-append before (line ∷ after) ∙ ap (λ (l : List (List ℕ)). kept before ++ l) (kept-cons line after stays)
+pub kept-parted : (before after : List (List ℕ)) (line : List ℕ) → is_skipped line ≡ false → kept (before ++ line ∷ after)
+    ≡ kept before ++ line ∷ kept after
+kept-parted before after line stays = kept-append before (line ∷ after) ∙ ap (λ (l : List (List ℕ)). kept before ++ l)
+    (kept-cons line after stays)
 
 -- a line that is kept among lines that are read is read where it is due
-reads_at : (all before after rows : List (List ℕ)) (line : List ℕ) → all ≡ before ++ line ∷ after → is_skipped line ≡ false → ReadsLines 0 (kept all) rows
+reads_at : (all before after rows : List (List ℕ)) (line : List ℕ) → all ≡ before ++ line ∷ after → is_skipped line ≡ false
+    → ReadsLines 0 (kept all) rows
     → (row : List ℕ) × ReadsLine (length (kept before)) line row
 reads_at all before after rows line are stays reads =
     let parts : kept all ≡ kept before ++ line ∷ kept after = ap kept are ∙ kept-parted before after line stays in
@@ -60,32 +77,38 @@ reads_at all before after rows line are stays reads =
     (found.0, subst (λ (d : ℕ). ReadsLine d line found.0) e found.1)
 
 -- lines that are all read have none that is refused
-reads_not : (text : List ℕ) (rows : List (List ℕ)) (number : ℕ) (why : TextWhy) → ReadsLines 0 (kept (lines text)) rows → RefusesAt text number why → ⊥
+reads_not : (text : List ℕ) (rows : List (List ℕ)) (number : ℕ) (why : TextWhy) → ReadsLines 0 (kept (lines text)) rows
+    → RefusesAt text number why → ⊥
 reads_not text rows number why reads at =
-    let found : (row : List ℕ) × ReadsLine (length (kept at.before)) at.line row = reads_at (lines text) at.before at.after rows at.line at.are at.stays reads in
+    let found : (row : List ℕ) × ReadsLine (length (kept at.before)) at.line row =
+    reads_at (lines text) at.before at.after rows at.line at.are at.stays reads in
     line_not (length (kept at.before)) at.line found.0 why found.1 at.refuses
 
 -- no line that is refused stands before another
-not_before : (before other m : List (List ℕ)) (line rest : List ℕ) (rows : List (List ℕ)) (why : TextWhy) → other ≡ before ++ line ∷ m → is_skipped line ≡ false
+not_before : (before other m : List (List ℕ)) (line rest : List ℕ) (rows : List (List ℕ)) (why : TextWhy)
+    → other ≡ before ++ line ∷ m → is_skipped line ≡ false
     → ReadsLines 0 (kept other) rows → RefusesLine (length (kept before)) line why → ⊥
 not_before before other m line rest rows why are stays reads refuses =
     let found : (row : List ℕ) × ReadsLine (length (kept before)) line row = reads_at other before m rows line are stays reads in
     line_not (length (kept before)) line found.0 why found.1 refuses
 
-at_once : (text : List ℕ) (m n : ℕ) (why other : TextWhy) → RefusesAt text m why → RefusesAt text n other → (m ≡ n) × (why ≡ other)
+at_once : (text : List ℕ) (m n : ℕ) (why other : TextWhy) → RefusesAt text m why → RefusesAt text n other
+    → (m ≡ n) × (why ≡ other)
 at_once text m n why other a b =
     elim (parted a.before b.before a.after b.after a.line b.line (sym a.are ∙ b.are)) [
       | inl same ↦
           let front : a.before ≡ b.before = same.0 in
           let here : RefusesLine (length (kept b.before)) b.line why =
-          subst (λ (l : List ℕ). RefusesLine (length (kept b.before)) l why) same.1 (subst (λ (l : List (List ℕ)). RefusesLine (length (kept l)) a.line why) front a.refuses) in
+          subst (λ (l : List ℕ). RefusesLine (length (kept b.before)) l why) same.1
+          (subst (λ (l : List (List ℕ)). RefusesLine (length (kept l)) a.line why) front a.refuses) in
           (omega (arith, a.at, b.at, ap length front), line_refused_once (length (kept b.before)) b.line why other here b.refuses)
       | inr (inl more) ↦ absurd (not_before a.before b.before more.0 a.line [] b.rows why more.1 a.stays b.reads a.refuses)
       | inr (inr more) ↦ absurd (not_before b.before a.before more.0 b.line [] a.rows other more.1 b.stays a.reads b.refuses)
     ]
 
 -- a text has one refusal
-pub text_refused_once : (text : List ℕ) (m n : ℕ) (why other : TextWhy) → Refuses text m why → Refuses text n other → (m ≡ n) × (why ≡ other)
+pub text_refused_once : (text : List ℕ) (m n : ℕ) (why other : TextWhy) → Refuses text m why → Refuses text n other
+    → (m ≡ n) × (why ≡ other)
 text_refused_once text m n why other (inl a) (inl b) = (a.at ∙ sym b.at, a.reason ∙ sym b.reason)
 text_refused_once text m n why other (inl a) (inr (inl b)) = absurd (omega (arith, a.long, b.fits))
 text_refused_once text m n why other (inl a) (inr (inr b)) = absurd (omega (arith, a.long, b.fits))
@@ -99,15 +122,18 @@ text_refused_once text m n why other (inr (inr a)) (inr (inr b)) = at_once text 
 -- a text that spells a configuration is not refused
 pub text_not_refused : (text : List ℕ) (c : Config) (number : ℕ) (why : TextWhy) → Spells text c → Refuses text number why → ⊥
 text_not_refused text c number why spells (inl a) = omega (arith, spells.fits, a.long)
-text_not_refused text c number why spells (inr (inl a)) = omega (arith, a.few, lines_count 0 (kept (lines text)) (rows_of c) spells.reads, length-rows_of c)
+text_not_refused text c number why spells (inr (inl a)) =
+    omega (arith, a.few, lines_count 0 (kept (lines text)) (rows_of c) spells.reads, length-rows_of c)
 text_not_refused text c number why spells (inr (inr a)) = reads_not text (rows_of c) number why spells.reads a
 
 -- a text spells one configuration
 pub text_spelled_once : (text : List ℕ) (c d : Config) → Spells text c → Spells text d → c ≡ d
-text_spelled_once text c d one two = config_once c d (lines_once 0 (kept (lines text)) (rows_of c) (rows_of d) one.reads two.reads)
+text_spelled_once text c d one two =
+    config_once c d (lines_once 0 (kept (lines text)) (rows_of c) (rows_of d) one.reads two.reads)
 
 -- what a reader answers that is right each time it answers
-pub read_every : (text : List ℕ) (c : Config) (result : Result Config TextFault) → IfOk result (Spells text) → IfErr result (CausesFault text) → Spells text c
+pub read_every : (text : List ℕ) (c : Config) (result : Result Config TextFault) → IfOk result (Spells text)
+    → IfErr result (CausesFault text) → Spells text c
     → (result ≡ Ok c) ⊎ (result ≡ Err OutOfMemory)
 read_every text c (Ok d) ok err spells =
     let same : d ≡ c = text_spelled_once text d c ok spells in
@@ -115,7 +141,8 @@ read_every text c (Ok d) ok err spells =
 read_every text c (Err (Refused line why)) ok err spells = absurd (text_not_refused text c line why spells err)
 read_every text c (Err OutOfMemory) ok err spells = inr refl
 
-pub read_refused : (text : List ℕ) (line : ℕ) (why : TextWhy) (result : Result Config TextFault) → IfOk result (Spells text) → IfErr result (CausesFault text) → Refuses text line why
+pub read_refused : (text : List ℕ) (line : ℕ) (why : TextWhy) (result : Result Config TextFault) → IfOk result (Spells text)
+    → IfErr result (CausesFault text) → Refuses text line why
     → (result ≡ Err (Refused line why)) ⊎ (result ≡ Err OutOfMemory)
 read_refused text line why (Ok d) ok err refuses = absurd (text_not_refused text d line why ok refuses)
 read_refused text line why (Err (Refused other reason)) ok err refuses =
@@ -138,9 +165,15 @@ length-lines_of_parts (x ∷ y ∷ more) = omega (arith, length-lines_of_parts (
 
 length-lines : (text : List ℕ) → length (lines text) ≤ length text + 1
 length-lines text =
-    omega (arith, length-lines_of_parts (slice_split (λ b. b == 10) text), length-slice_split (λ b. b == 10) text, count_by-le-length (λ b. b == 10) text)
+    omega (
+      arith,
+      length-lines_of_parts (slice_split (λ b. b == 10) text),
+      length-slice_split (λ b. b == 10) text,
+      count_by-le-length (λ b. b == 10) text,
+    )
 
-pub stands_first : (text : List ℕ) (left : List (List ℕ)) (config : Config) → length text ≤ 65536 → left ≡ lines text → length config.plps ≡ 0 → Stands text left 0 0 config
+pub stands_first : (text : List ℕ) (left : List (List ℕ)) (config : Config) → length text ≤ 65536 → left ≡ lines text
+    → length config.plps ≡ 0 → Stands text left 0 0 config
 stands_first text left config fits are plps = record {
   before = [];
   are = sym are;
@@ -156,7 +189,8 @@ pub stands_skipped : (text : List ℕ) (old left : List (List ℕ)) (line : List
     → Stands text old number due config → old ≡ line ∷ left → is_skipped line ≡ true → Stands text left (number + 1) due config
 stands_skipped text old left line number due config stands split skips =
     let same : kept (stands.before ++ line ∷ []) ≡ kept stands.before =
-    kept-append stands.before (line ∷ []) ∙ ap (λ (l : List (List ℕ)). kept stands.before ++ l) (kept-skip line [] skips) ∙ append-nil (kept stands.before) in
+    kept-append stands.before (line ∷ []) ∙ ap (λ (l : List (List ℕ)). kept stands.before ++ l) (kept-skip line [] skips)
+    ∙ append-nil (kept stands.before) in
     record {
       before = stands.before ++ line ∷ [];
       are = stands.are ∙ ap (λ (l : List (List ℕ)). stands.before ++ l) split ∙ sym (append_assoc stands.before (line ∷ []) left);
@@ -169,15 +203,18 @@ stands_skipped text old left line number due config stands split skips =
     }
 
 pub stands_taken : (text : List ℕ) (before left : List (List ℕ)) (line : List ℕ) (number due : ℕ) (old new : Config)
-    → Stands text before number due old → before ≡ line ∷ left → is_skipped line ≡ false → Takes due line old new → Stands text left (number + 1) (due + 1) new
+    → Stands text before number due old → before ≡ line ∷ left → is_skipped line ≡ false → Takes due line old new
+    → Stands text left (number + 1) (due + 1) new
 stands_taken text before left line number due old new stands split stays takes =
     let more : kept (stands.before ++ line ∷ []) ≡ kept stands.before ++ line ∷ [] = kept-parted stands.before [] line stays in
     let here : ReadsLine (0 + length (kept stands.before)) line takes.row =
-    (let e : due ≡ 0 + length (kept stands.before) = omega (arith, stands.kept_count) in subst (λ (d : ℕ). ReadsLine d line takes.row) e takes.reads) in
+    (let e : due ≡ 0 + length (kept stands.before) = omega (arith, stands.kept_count) in
+    subst (λ (d : ℕ). ReadsLine d line takes.row) e takes.reads) in
     let reads : ReadsLines 0 (kept stands.before ++ line ∷ []) (take due (rows_of old) ++ takes.row ∷ []) =
     lines_more 0 (kept stands.before) (take due (rows_of old)) line takes.row stands.reads here in
     let next : suc due ≡ due + 1 = omega arith in
-    let rows : take due (rows_of old) ++ takes.row ∷ [] ≡ take (due + 1) (rows_of new) = sym takes.puts.rows ∙ ap (λ (n : ℕ). take n (rows_of new)) next in
+    let rows : take due (rows_of old) ++ takes.row ∷ [] ≡ take (due + 1) (rows_of new) =
+    sym takes.puts.rows ∙ ap (λ (n : ℕ). take n (rows_of new)) next in
     record {
       before = stands.before ++ line ∷ [];
       are = stands.are ∙ ap (λ (l : List (List ℕ)). stands.before ++ l) split ∙ sym (append_assoc stands.before (line ∷ []) left);
@@ -191,7 +228,8 @@ stands_taken text before left line number due old new stands split stays takes =
     }
 
 pub stands_refused : (text : List ℕ) (old left : List (List ℕ)) (line : List ℕ) (number due : ℕ) (config : Config) (why : TextWhy)
-    → length text ≤ 65536 → Stands text old number due config → old ≡ line ∷ left → is_skipped line ≡ false → RefusesLine due line why → Refuses text (number + 1) why
+    → length text ≤ 65536 → Stands text old number due config → old ≡ line ∷ left → is_skipped line ≡ false
+    → RefusesLine due line why → Refuses text (number + 1) why
 stands_refused text old left line number due config why fits stands split stays refuses =
     inr (inr record {
       fits = fits;
@@ -206,10 +244,12 @@ stands_refused text old left line number due config why fits stands split stays 
       at = ap (λ (n : ℕ). n + 1) stands.counted;
     })
 
-all_before : (text : List ℕ) (number due : ℕ) (config : Config) (stands : Stands text [] number due config) → lines text ≡ stands.before
+all_before : (text : List ℕ) (number due : ℕ) (config : Config) (stands : Stands text [] number due config)
+    → lines text ≡ stands.before
 all_before text number due config stands = stands.are ∙ append-nil stands.before
 
-pub stands_short : (text : List ℕ) (number due : ℕ) (config : Config) → length text ≤ 65536 → Stands text [] number due config → due < 8 → Refuses text (number + 1) EndsEarly
+pub stands_short : (text : List ℕ) (number due : ℕ) (config : Config) → length text ≤ 65536 → Stands text [] number due config
+    → due < 8 → Refuses text (number + 1) EndsEarly
 stands_short text number due config fits stands few =
     let all : lines text ≡ stands.before = all_before text number due config stands in
     inr (inl record {
@@ -221,18 +261,24 @@ stands_short text number due config fits stands few =
       reason = refl;
     })
 
-pub stands_whole : (text : List ℕ) (number due : ℕ) (config : Config) → length text ≤ 65536 → Stands text [] number due config → 8 ≤ due → Spells text config
+pub stands_whole : (text : List ℕ) (number due : ℕ) (config : Config) → length text ≤ 65536 → Stands text [] number due config
+    → 8 ≤ due → Spells text config
 stands_whole text number due config fits stands enough =
     let all : lines text ≡ stands.before = all_before text number due config stands in
-    let rows : take due (rows_of config) ≡ rows_of config = take_all due (rows_of config) (omega (arith, length-rows_of config, stands.plps)) in
+    let rows : take due (rows_of config) ≡ rows_of config =
+    take_all due (rows_of config) (omega (arith, length-rows_of config, stands.plps)) in
     record {
       fits = fits;
-      reads = subst (λ (l : List (List ℕ)). ReadsLines 0 (kept l) (rows_of config)) (sym all) (subst (λ (r : List (List ℕ)). ReadsLines 0 (kept stands.before) r) rows stands.reads);
+      reads = subst (λ (l : List (List ℕ)). ReadsLines 0 (kept l) (rows_of config)) (sym all)
+          (subst (λ (r : List (List ℕ)). ReadsLines 0 (kept stands.before) r) rows stands.reads);
     }
 
 -- the fault of a line is the fault of its text
-pub stands_fault : (text : List ℕ) (old left : List (List ℕ)) (line : List ℕ) (number due : ℕ) (config : Config) (fault : TextFault)
-    → length text ≤ 65536 → Stands text old number due config → old ≡ line ∷ left → is_skipped line ≡ false → RefusesDue due line (number + 1) fault → CausesFault text fault
+pub stands_fault : (text : List ℕ) (old left : List (List ℕ)) (line : List ℕ) (number due : ℕ) (config : Config)
+    (fault : TextFault)
+    → length text ≤ 65536 → Stands text old number due config → old ≡ line ∷ left → is_skipped line ≡ false
+    → RefusesDue due line (number + 1) fault → CausesFault text fault
 stands_fault text old left line number due config (Refused told why) fits stands split stays refuses =
-    subst (λ (n : ℕ). Refuses text n why) (sym refuses.0) (stands_refused text old left line number due config why fits stands split stays refuses.1)
+    subst (λ (n : ℕ). Refuses text n why) (sym refuses.0)
+    (stands_refused text old left line number due config why fits stands split stays refuses.1)
 stands_fault text old left line number due config OutOfMemory fits stands split stays refuses = tt

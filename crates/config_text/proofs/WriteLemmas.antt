@@ -1,14 +1,15 @@
 -- Words are written one after another.
-use Rattle.std.proofs.Common.{ℕ, zero, suc, ◌≡◌, ◌<◌, ◌≤◌, ◌+◌, ◌-◌, ◌∷◌, ◌++◌, ◌∙◌, List, [], length, drop, get_or, ap, sym, subst, arith, refl, append_assoc, append-nil, length-drop, take}
+use Rattle.std.proofs.Common.{ℕ, zero, suc, ◌≡◌, ◌<◌, ◌≤◌, ◌+◌, ◌-◌, ◌∷◌, ◌++◌, ◌∙◌, List, [], length, drop, get_or, ap, sym}
+use Rattle.std.proofs.Common.{subst, arith, refl, append_assoc, append-nil, length-drop, take, map}
 use Rattle.std.specs.List.{flat_map}
 use Rattle.std.proofs.lemmas.Grind.{flat_map-append}
-use Rattle.std.proofs.lemmas.List.{drop_more, take_all, get_or-map}
+use Rattle.std.proofs.lemmas.List.{drop_more, take_all, get_or-map, get_or-append_right}
 use Rattle.plp_config.specs.Plps.{plp_at, no_plp}
 use Rattle.plp_config.specs.declared.config.Config.{Config}
 use Rattle.plp_config.specs.declared.plp.Plp.{Plp}
 use Rattle.config_text.specs.ConfigText.{canonical_line, canonical_lines, text_of}
 use Rattle.config_text.specs.Fields.{words_after, word_of, spelling_of}
-use Rattle.config_text.specs.Rows.{rows_of, plp_row}
+use Rattle.config_text.specs.Rows.{first_rows, rows_of, plp_row}
 use Rattle.config_text.specs.Words.{values_from, first_values, row_of, Fits, FitFields}
 use Rattle.config_text.specs.declared.field.Field.{Field}
 use Rattle.config_text.proofs.DraftLemmas.{row_later}
@@ -20,9 +21,11 @@ values_left fields i values = values_from i (length fields - i) values
 -- What is written, and the words of the fields that are left, are all.
 pub record Writes (fields : List Field) (values : List ℕ) (i : ℕ) (old text : List ℕ) : Type 0 where
   pub fits : FitFields (drop i fields) (values_left fields i values)
-  pub all : text ++ words_after (drop i fields) (values_left fields i values) ≡ old ++ words_after fields (first_values (length fields) values)
+  pub all : text ++ words_after (drop i fields) (values_left fields i values)
+      ≡ old ++ words_after fields (first_values (length fields) values)
 
-pub writes_first : (fields : List Field) (values old : List ℕ) → FitFields fields (first_values (length fields) values) → Writes fields values 0 old old
+pub writes_first : (fields : List Field) (values old : List ℕ) → FitFields fields (first_values (length fields) values)
+    → Writes fields values 0 old old
 writes_first fields values old fits =
     let e : length fields - 0 ≡ length fields = omega arith in
     record {
@@ -30,24 +33,29 @@ writes_first fields values old fits =
       all = ap (λ (n : ℕ). old ++ words_after fields (values_from 0 n values)) e;
     }
 
-left-cons : (fields : List Field) (i : ℕ) (values : List ℕ) → i < length fields → values_left fields i values ≡ get_or values i 0 ∷ values_left fields (i + 1) values
+left-cons : (fields : List Field) (i : ℕ) (values : List ℕ) → i < length fields → values_left fields i values ≡ get_or values i 0
+    ∷ values_left fields (i + 1) values
 left-cons fields i values inside =
     let e : length fields - i ≡ suc (length fields - (i + 1)) = omega arith in
     let next : suc i ≡ i + 1 = omega arith in
-    ap (λ (n : ℕ). values_from i n values) e ∙ ap (λ (k : ℕ). get_or values i 0 ∷ values_from k (length fields - (i + 1)) values) next
+    ap (λ (n : ℕ). values_from i n values) e ∙ ap (λ (k : ℕ). get_or values i 0 ∷ values_from k (length fields - (i + 1)) values)
+    next
 
 -- the next field fits its value, and so do those behind it
-fits_here : (fields : List Field) (values old text : List ℕ) (i : ℕ) (d : Field) → Writes fields values i old text → i < length fields
+fits_here : (fields : List Field) (values old text : List ℕ) (i : ℕ) (d : Field) → Writes fields values i old text
+    → i < length fields
     → FitFields (get_or fields i d ∷ drop (i + 1) fields) (get_or values i 0 ∷ values_left fields (i + 1) values)
 fits_here fields values old text i d writes inside =
     let front : FitFields (get_or fields i d ∷ drop (i + 1) fields) (values_left fields i values) =
     subst (λ (fs : List Field). FitFields fs (values_left fields i values)) (drop_more fields i d inside) writes.fits in
     subst (λ (ns : List ℕ). FitFields (get_or fields i d ∷ drop (i + 1) fields) ns) (left-cons fields i values inside) front
 
-pub writes_fits : (fields : List Field) (values old text : List ℕ) (i : ℕ) (d : Field) → Writes fields values i old text → i < length fields → Fits (spelling_of (get_or fields i d)) (get_or values i 0)
+pub writes_fits : (fields : List Field) (values old text : List ℕ) (i : ℕ) (d : Field) → Writes fields values i old text
+    → i < length fields → Fits (spelling_of (get_or fields i d)) (get_or values i 0)
 writes_fits fields values old text i d writes inside = (fits_here fields values old text i d writes inside).0
 
-pub writes_on : (fields : List Field) (values old text : List ℕ) (i : ℕ) (d : Field) → Writes fields values i old text → i < length fields
+pub writes_on : (fields : List Field) (values old text : List ℕ) (i : ℕ) (d : Field) → Writes fields values i old text
+    → i < length fields
     → Writes fields values (i + 1) old ((text ++ 32 ∷ []) ++ word_of (spelling_of (get_or fields i d)) (get_or values i 0))
 writes_on fields values old text i d writes inside =
     let word : List ℕ = word_of (spelling_of (get_or fields i d)) (get_or values i 0) in
@@ -67,31 +75,27 @@ none_after (f ∷ fs) values e = absurd (omega arith)
 pub writes_ends : (fields : List Field) (values old text : List ℕ) (i : ℕ) → Writes fields values i old text → i ≡ length fields
     → text ≡ old ++ words_after fields (first_values (length fields) values)
 writes_ends fields values old text i writes end =
-    sym (ap (λ (l : List ℕ). text ++ l) (none_after (drop i fields) (values_left fields i values) (omega (arith, length-drop i fields))) ∙ append-nil text) ∙ writes.all
+    sym (ap (λ (l : List ℕ). text ++ l)
+    (none_after (drop i fields) (values_left fields i values) (omega (arith, length-drop i fields))) ∙ append-nil text)
+    ∙ writes.all
 
 -- ---- the rows of a configuration
 
-row_at : (c : Config) (due : ℕ) → 8 ≤ due → due - 8 < length c.plps → get_or (rows_of c) due [] ≡ plp_row (plp_at c.plps (due - 8))
-row_at c zero later inside = absurd (omega arith)
-row_at c (suc zero) later inside = absurd (omega arith)
-row_at c (suc (suc zero)) later inside = absurd (omega arith)
-row_at c (suc (suc (suc zero))) later inside = absurd (omega arith)
-row_at c (suc (suc (suc (suc zero)))) later inside = absurd (omega arith)
-row_at c (suc (suc (suc (suc (suc zero))))) later inside = absurd (omega arith)
-row_at c (suc (suc (suc (suc (suc (suc zero)))))) later inside = absurd (omega arith)
-row_at c (suc (suc (suc (suc (suc (suc (suc zero))))))) later inside = absurd (omega arith)
-row_at c (suc (suc (suc (suc (suc (suc (suc (suc k)))))))) later inside =
-    let e : (suc (suc (suc (suc (suc (suc (suc (suc k)))))))) - 8 ≡ k = omega arith in
-    let short : k < length c.plps = omega arith in
-    get_or-map plp_row c.plps k no_plp [] short ∙ ap (λ (i : ℕ). plp_row (plp_at c.plps i)) (sym e)
+row_at : (c : Config) (due : ℕ) → 8 ≤ due → due - 8 < length c.plps → get_or (rows_of c) due []
+    ≡ plp_row (plp_at c.plps (due - 8))
+row_at c due later inside =
+    get_or-append_right (first_rows c) (map plp_row c.plps) 8 due [] refl later
+    ∙ get_or-map plp_row c.plps (due - 8) no_plp [] inside
 
-pub plp_row_at : (c : Config) (due : ℕ) (plp : Plp) (values : List ℕ) → 8 ≤ due → due - 8 < length c.plps → plp ≡ plp_at c.plps (due - 8) → first_values 11 values ≡ plp_row plp
+pub plp_row_at : (c : Config) (due : ℕ) (plp : Plp) (values : List ℕ) → 8 ≤ due → due - 8 < length c.plps
+    → plp ≡ plp_at c.plps (due - 8) → first_values 11 values ≡ plp_row plp
     → row_of due values ≡ get_or (rows_of c) due []
 plp_row_at c due plp values later inside is row =
     row_later due values later ∙ row ∙ ap plp_row is ∙ sym (row_at c due later inside)
 
 -- the lines so far, and the next
-lines_take : (due : ℕ) (rows : List (List ℕ)) (i : ℕ) → i < length rows → canonical_lines due (take (i + 1) rows) ≡ canonical_lines due (take i rows) ++ canonical_line (due + i) (get_or rows i []) ∷ []
+lines_take : (due : ℕ) (rows : List (List ℕ)) (i : ℕ) → i < length rows → canonical_lines due (take (i + 1) rows)
+    ≡ canonical_lines due (take i rows) ++ canonical_line (due + i) (get_or rows i []) ∷ []
 lines_take due [] i inside = absurd (omega arith)
 lines_take due (r ∷ rows) zero inside = (let e : due ≡ due + 0 = omega arith in ap (λ (d : ℕ). canonical_line d r ∷ []) e)
 lines_take due (r ∷ rows) (suc i) inside =
@@ -99,10 +103,12 @@ lines_take due (r ∷ rows) (suc i) inside =
     let e : suc due + i ≡ due + suc i = omega arith in
     ap (λ (k : ℕ). canonical_lines due (take k (r ∷ rows))) next
     ∙ ap (λ (l : List (List ℕ)). canonical_line due r ∷ l) (lines_take (suc due) rows i (omega arith))
-    ∙ ap (λ (d : ℕ). canonical_line due r ∷ (canonical_lines (suc due) (take i rows) ++ canonical_line d (get_or rows i []) ∷ [])) e
+    ∙ ap (λ (d : ℕ). canonical_line due r ∷ (canonical_lines (suc due) (take i rows) ++ canonical_line d (get_or rows i []) ∷ []))
+    e
 
 -- a text of the lines so far, and one line more
-pub text_more : (rows : List (List ℕ)) (i : ℕ) (old new row : List ℕ) → i < length rows → old ≡ text_of (take i rows) → row ≡ get_or rows i [] → new ≡ old ++ (canonical_line i row ++ 10 ∷ [])
+pub text_more : (rows : List (List ℕ)) (i : ℕ) (old new row : List ℕ) → i < length rows → old ≡ text_of (take i rows)
+    → row ≡ get_or rows i [] → new ≡ old ++ (canonical_line i row ++ 10 ∷ [])
     → new ≡ text_of (take (i + 1) rows)
 text_more rows i old new row inside so_far is more =
     let e : 0 + i ≡ i = omega arith in
@@ -116,5 +122,6 @@ text_more rows i old new row inside so_far is more =
     ∙ sym (flat_map-append (λ (line : List ℕ). line ++ 10 ∷ []) (canonical_lines 0 (take i rows)) (canonical_line i row ∷ []))
     ∙ ap (λ (l : List (List ℕ)). flat_map (λ (line : List ℕ). line ++ 10 ∷ []) l) (sym lines)
 
-pub text_whole : (rows : List (List ℕ)) (i : ℕ) (text : List ℕ) → length rows ≤ i → text ≡ text_of (take i rows) → text ≡ text_of rows
+pub text_whole : (rows : List (List ℕ)) (i : ℕ) (text : List ℕ) → length rows ≤ i → text ≡ text_of (take i rows)
+    → text ≡ text_of rows
 text_whole rows i text past is = is ∙ ap text_of (take_all i rows past)

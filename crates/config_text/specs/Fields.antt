@@ -1,16 +1,18 @@
 -- The lines of a configuration text: their keys and fields, and how words spell values.
-use Rattle.std.specs.Prelude.{◌≡◌, ◌⊎◌, ℕ, ◌+◌, ◌-◌, ◌≤◌, ◌^◌, List, [], ◌∷◌, ◌++◌, codes, slice_index_or, Option, Some, None, if◌then◌else◌, bytes_eq}
+use Rattle.std.specs.Prelude.{◌≡◌, ◌⊎◌, ℕ, ◌+◌, ◌-◌, ◌≤◌, ◌^◌, List, [], ◌∷◌, ◌++◌, codes, slice_index_or, Option, Some, None}
+use Rattle.std.specs.Prelude.{if◌then◌else◌, bytes_eq}
 use Rattle.std.specs.Fmt.{decimal}
 use Rattle.config_text.specs.declared.fault.TextWhy.{TextWhy}
 use Rattle.config_text.specs.declared.fault.TextWhy.TheVariants.{BadWord, BadNumber}
 use Rattle.config_text.specs.declared.field.Field.{Field}
-use Rattle.config_text.specs.declared.field.Field.TheVariants.{Version, Number8, Number16, Number32, Number64, Bandwidth, Kind, CodeRate, Constellation, BlockSize, Bit, Deletion}
+use Rattle.config_text.specs.declared.field.Field.TheVariants.{Version, Number8, Number16, Number32, Number64, Bandwidth, PlpType}
+use Rattle.config_text.specs.declared.field.Field.TheVariants.{CodeRate, Constellation, BlockSize, Bit, Deletion}
 
 abbrev pub bands : List (List ℕ)
 bands = codes "1.7" ∷ codes "5" ∷ codes "6" ∷ codes "7" ∷ codes "8" ∷ codes "10" ∷ []
 
-abbrev pub kinds : List (List ℕ)
-kinds = codes "type1" ∷ codes "type2" ∷ []
+abbrev pub plp_types : List (List ℕ)
+plp_types = codes "type1" ∷ codes "type2" ∷ []
 
 abbrev pub rates : List (List ℕ)
 rates = codes "1/2" ∷ codes "3/5" ∷ codes "2/3" ∷ codes "3/4" ∷ codes "4/5" ∷ codes "5/6" ∷ []
@@ -40,7 +42,7 @@ spelling_of Number16 = Number 0 (2 ^ 16 - 1)
 spelling_of Number32 = Number 0 (2 ^ 32 - 1)
 spelling_of Number64 = Number 0 (2 ^ 64 - 1)
 spelling_of Bandwidth = Word bands
-spelling_of Kind = Word kinds
+spelling_of PlpType = Word plp_types
 spelling_of CodeRate = Word rates
 spelling_of Constellation = Word modulations
 spelling_of BlockSize = Word sizes
@@ -50,7 +52,8 @@ spelling_of Deletion = Word deletions
 -- the key of the line that is due behind so many; behind the first eight a PLP is
 abbrev pub key_at : ℕ → List ℕ
 key_at due =
-    slice_index_or (codes "t2-gateway" ∷ codes "bandwidth" ∷ codes "frame" ∷ codes "start" ∷ codes "pid" ∷ codes "network" ∷ codes "l1" ∷ codes "subslices" ∷ []) due (codes "plp")
+    slice_index_or (codes "t2-gateway" ∷ codes "bandwidth" ∷ codes "frame" ∷ codes "start" ∷ codes "pid" ∷ codes "network"
+    ∷ codes "l1" ∷ codes "subslices" ∷ []) due (codes "plp")
 
 -- ticks of a frame, frames of a superframe, cells of a frame
 abbrev pub frame_fields : List Field
@@ -64,19 +67,23 @@ start_fields = Number64 ∷ Number32 ∷ Number16 ∷ []
 abbrev pub network_fields : List Field
 network_fields = Number16 ∷ Number16 ∷ Number16 ∷ Number32 ∷ []
 
--- BWT_EXT, S2, GUARD_INTERVAL, PAPR, L1_MOD, L1_COD, L1_FEC_TYPE, L1_POST_SIZE, PILOT_PATTERN, TX_ID_AVAILABILITY, NUM_DATA_SYMBOLS, REGEN_FLAG
+-- BWT_EXT, S2, GUARD_INTERVAL, PAPR, L1_MOD, L1_COD, L1_FEC_TYPE, L1_POST_SIZE, PILOT_PATTERN, TX_ID_AVAILABILITY,
+-- NUM_DATA_SYMBOLS, REGEN_FLAG
 abbrev pub l1_fields : List Field
-l1_fields = Number8 ∷ Number8 ∷ Number8 ∷ Number8 ∷ Number8 ∷ Number8 ∷ Number8 ∷ Number32 ∷ Number8 ∷ Number8 ∷ Number16 ∷ Number8 ∷ []
+l1_fields = Number8 ∷ Number8 ∷ Number8 ∷ Number8 ∷ Number8 ∷ Number8 ∷ Number8 ∷ Number32 ∷ Number8 ∷ Number8 ∷ Number16
+    ∷ Number8 ∷ []
 
 -- identifier, type, group, rate, modulation, block size, rotation, blocks, interleaver length, null packets, bit/s
 abbrev pub plp_fields : List Field
-plp_fields = Number8 ∷ Kind ∷ Number8 ∷ CodeRate ∷ Constellation ∷ BlockSize ∷ Bit ∷ Number16 ∷ Number16 ∷ Deletion ∷ Number32 ∷ []
+plp_fields = Number8 ∷ PlpType ∷ Number8 ∷ CodeRate ∷ Constellation ∷ BlockSize ∷ Bit ∷ Number16 ∷ Number16 ∷ Deletion ∷ Number32
+    ∷ []
 
 -- the fields of the line that is due behind so many: version, bandwidth, frame, start, PID, network, L1, sub-slices, and PLPs
 abbrev pub fields_at : ℕ → List Field
 fields_at due =
     slice_index_or
-    ((Version ∷ []) ∷ (Bandwidth ∷ []) ∷ frame_fields ∷ start_fields ∷ (Number16 ∷ []) ∷ network_fields ∷ l1_fields ∷ (Number16 ∷ []) ∷ [])
+    ((Version ∷ []) ∷ (Bandwidth ∷ []) ∷ frame_fields ∷ start_fields ∷ (Number16 ∷ []) ∷ network_fields ∷ l1_fields
+    ∷ (Number16 ∷ []) ∷ [])
     due
     plp_fields
 

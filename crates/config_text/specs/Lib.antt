@@ -1,5 +1,6 @@
 pub mod ConfigText
-pub mod Drafts
 pub mod Fields
 pub mod Rows
+-- inner: no public clause cites these
+pub mod Drafts
 pub mod Words

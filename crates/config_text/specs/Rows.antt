@@ -4,15 +4,16 @@ use Rattle.plp_config.specs.declared.band.Band.{Band}
 use Rattle.plp_config.specs.declared.config.Config.{Config}
 use Rattle.plp_config.specs.declared.config.L1Numbers.{L1Numbers}
 use Rattle.plp_config.specs.declared.plp.Plp.{Plp}
-use Rattle.plp_config.specs.declared.plp.PlpKind.{PlpKind}
-use Rattle.plp_config.specs.declared.plp.PlpKind.TheVariants.{Type1, Type2}
+use Rattle.plp_config.specs.declared.plp.PlpType.{PlpType}
+use Rattle.plp_config.specs.declared.plp.PlpType.TheVariants.{Type1, Type2}
 use Rattle.plp_config.specs.Tables.{bw, plp_cod, plp_mod, plp_fec_type}
 use Rattle.config_text.specs.Fields.{bands}
 
--- the places of the values in their lists of words; those of bandwidth, rate, constellation and size are bw, PLP_COD, PLP_MOD and PLP_FEC_TYPE
-abbrev pub kind_place : PlpKind → ℕ
-kind_place Type1 = 0
-kind_place Type2 = 1
+-- the places of the values in their lists of words; those of bandwidth, rate, constellation and size are bw, PLP_COD, PLP_MOD and
+-- PLP_FEC_TYPE
+abbrev pub type_place : PlpType → ℕ
+type_place Type1 = 0
+type_place Type2 = 1
 
 abbrev pub bit_place : Bool → ℕ
 bit_place false = 0
@@ -30,13 +31,15 @@ band_word band = slice_index_or bands (bw band) []
 -- the values of a PLP, in the order of its line
 abbrev pub plp_row : Plp → List ℕ
 plp_row p =
-    p.id ∷ kind_place p.kind ∷ p.group ∷ plp_cod p.rate ∷ plp_mod p.modulation ∷ plp_fec_type p.fec ∷ bit_place p.rotation ∷ p.blocks ∷ p.interleave
+    p.id ∷ type_place p.plp_type ∷ p.group ∷ plp_cod p.rate ∷ plp_mod p.modulation ∷ plp_fec_type p.fec ∷ bit_place p.rotation
+    ∷ p.blocks ∷ p.interleave
     ∷ deletion_place p.delete ∷ p.bits_per_second ∷ []
 
 -- the configured numbers of L1-pre, in the order of their line
 abbrev pub l1_row : L1Numbers → List ℕ
 l1_row l1 =
-    l1.bwt_ext ∷ l1.s2 ∷ l1.guard ∷ l1.papr ∷ l1.l1_mod ∷ l1.l1_cod ∷ l1.l1_fec ∷ l1.post_size ∷ l1.pilot ∷ l1.tx_id ∷ l1.symbols ∷ l1.regen ∷ []
+    l1.bwt_ext ∷ l1.s2 ∷ l1.guard ∷ l1.papr ∷ l1.l1_mod ∷ l1.l1_cod ∷ l1.l1_fec ∷ l1.post_size ∷ l1.pilot ∷ l1.tx_id ∷ l1.symbols
+    ∷ l1.regen ∷ []
 
 -- the values of a configuration, line by line
 abbrev pub first_rows : Config → List (List ℕ)

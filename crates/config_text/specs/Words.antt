@@ -1,9 +1,11 @@
 -- How the words of a line and its values are held. No public clause cites this module.
-use Rattle.std.specs.Prelude.{ℕ, zero, suc, ◌<◌, ◌≤◌, List, [], ◌∷◌, Option, Some, None, length, slice_index}
+use Rattle.std.specs.Prelude.{ℕ, zero, suc, ◌<◌, ◌≤◌, List, [], ◌∷◌, Option, Some, None, length, map, slice_index}
 use Rattle.config_text.specs.ConfigText.{words_of}
 use Rattle.config_text.specs.Fields.{fields_at, Spelling, spelling_of}
 use Rattle.config_text.specs.Fields.Spelling.{Number, Word}
 use Rattle.config_text.specs.declared.field.Field.{Field}
+use Rattle.config_text.specs.declared.spelling.Spelling.{Spelling as Held}
+use Rattle.config_text.specs.declared.spelling.Spelling.TheVariants.{Number as HeldNumber, Word as HeldWord}
 
 -- the words that are left of a line; there is none where the last one was taken
 abbrev pub words_in : Option (List ℕ) → List (List ℕ)
@@ -17,6 +19,11 @@ values_from place (suc n) values = slice_index values place ∷ values_from (suc
 
 abbrev pub first_values : ℕ → List ℕ → List ℕ
 first_values n values = values_from 0 n values
+
+-- the spelling that the code holds
+abbrev pub spelling_in : Held → Spelling
+spelling_in (HeldNumber least greatest) = Number least greatest
+spelling_in (HeldWord words) = Word (map (λ word. word.now) words.now)
 
 -- what a value is that some word spells
 abbrev pub Fits : Spelling → ℕ → Type 0

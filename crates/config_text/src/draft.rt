@@ -2,14 +2,14 @@
 ghost use Rattle.std.specs.Prelude.{◌≡◌, ◌<◌, ◌-◌, length, OnOk};
 ghost use Rattle.config_text.specs.ConfigText.{first_lines};
 ghost use Rattle.config_text.specs.Fields.{fields_at, frame_fields, start_fields, network_fields, l1_fields, plp_fields};
-ghost use Rattle.config_text.specs.Rows.{kind_place, plp_row};
+ghost use Rattle.config_text.specs.Rows.{type_place, plp_row};
 ghost use Rattle.plp_config.specs.Tables.{bw, plp_cod, plp_mod, plp_fec_type};
 ghost use Rattle.config_text.specs.Drafts.{Puts};
 ghost use Rattle.config_text.specs.Words.{first_values, row_of, FitFields};
 
 use crate::values::MOST_FIELDS;
 use bit_slice::OutOfMemory;
-use plp_config::{Band, Config, FecSize, L1Numbers, Modulation, Plp, PlpKind, PlpList, Rate};
+use plp_config::{Band, Config, FecSize, L1Numbers, Modulation, Plp, PlpList, PlpType, Rate};
 use std::alloc::Global;
 
 type Values = [u64; MOST_FIELDS];
@@ -30,13 +30,13 @@ fn band_of(place: u64) -> Band
 }
 
 // The type of a PLP.
-fn kind_of(place: u64) -> PlpKind
+fn type_of(place: u64) -> PlpType
     requires { place < 2 }
-    ensures { kind_place result ≡ place }
+    ensures { type_place result ≡ place }
 {
     match place {
-        0 => PlpKind::Type1,
-        _ => PlpKind::Type2,
+        0 => PlpType::Type1,
+        _ => PlpType::Type2,
     }
 }
 
@@ -173,7 +173,7 @@ fn plp_of(values: &Values) -> Plp
 {
     Plp {
         id: values[0] as u8,
-        kind: kind_of(values[1]),
+        plp_type: type_of(values[1]),
         group: values[2] as u8,
         rate: rate_of(values[3]),
         modulation: modulation_of(values[4]),

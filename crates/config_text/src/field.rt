@@ -1,11 +1,12 @@
 // The fields of each line.
 ghost use Rattle.std.specs.Prelude.{◌≡◌, ◌≤◌, length, IfSome, IfNone, ℕ};
 ghost use Rattle.config_text.specs.Fields.{key_at, fields_at, spelling_of, why_of, word_of, SpellsField};
-ghost use Rattle.config_text.specs.Words.{Fits};
+ghost use Rattle.config_text.specs.Words.{Fits, spelling_in};
 
 use crate::decimal::number_within;
 use crate::fault::TextWhy;
-use crate::places;
+use crate::spelling::Spelling::{self, Number, Word};
+use crate::spelling::{BANDS, place_of};
 use itoa::Buffer;
 
 /// What stands at a field.
@@ -24,7 +25,7 @@ pub enum Field {
     /// A bandwidth.
     Bandwidth,
     /// The type of a PLP.
-    Kind,
+    PlpType,
     /// A code rate.
     CodeRate,
     /// A constellation.
@@ -38,24 +39,34 @@ pub enum Field {
 }
 
 impl Field {
+    // How its values are spelled.
+    fn spelling(self) -> Spelling
+        ensures { spelling_in result ≡ spelling_of self }
+    {
+        match self {
+            Field::Version => Number(1, 1),
+            Field::Number8 => Number(0, 0xFF),
+            Field::Number16 => Number(0, 0xFFFF),
+            Field::Number32 => Number(0, 0xFFFF_FFFF),
+            Field::Number64 => Number(0, 0xFFFF_FFFF_FFFF_FFFF),
+            Field::Bandwidth => Word(BANDS),
+            Field::PlpType => Word(&[b"type1", b"type2"]),
+            Field::CodeRate => Word(&[b"1/2", b"3/5", b"2/3", b"3/4", b"4/5", b"5/6"]),
+            Field::Constellation => Word(&[b"qpsk", b"16qam", b"64qam", b"256qam"]),
+            Field::BlockSize => Word(&[b"short", b"normal"]),
+            Field::Bit => Word(&[b"0", b"1"]),
+            Field::Deletion => Word(&[b"delete", b"keep"]),
+        }
+    }
+
     /// The value that a word spells: a number, or the place of the word in its list.
     pub fn value_of(self, word: &[u8]) -> Option<u64>
         ensures some { IfSome result (λ n. SpellsField self n word.now) }
         ensures none { IfNone result ((n : ℕ) → SpellsField self n word.now → ⊥) }
     {
-        match self {
-            Field::Version => number_within(word, 1, 1),
-            Field::Number8 => number_within(word, 0, 0xFF),
-            Field::Number16 => number_within(word, 0, 0xFFFF),
-            Field::Number32 => number_within(word, 0, 0xFFFF_FFFF),
-            Field::Number64 => number_within(word, 0, 0xFFFF_FFFF_FFFF_FFFF),
-            Field::Bandwidth => places::bandwidth(word),
-            Field::Kind => places::kind(word),
-            Field::CodeRate => places::rate(word),
-            Field::Constellation => places::modulation(word),
-            Field::BlockSize => places::size(word),
-            Field::Bit => places::bit(word),
-            Field::Deletion => places::deletion(word),
+        match self.spelling() {
+            Number(least, greatest) => number_within(word, least, greatest),
+            Word(words) => place_of(words, word),
         }
     }
 
@@ -64,16 +75,9 @@ impl Field {
         requires { Fits (spelling_of self) value }
         ensures { result.now ≡ word_of (spelling_of self) value }
     {
-        match self {
-            Field::Bandwidth => places::bandwidth_word(value),
-            Field::Kind => places::kind_word(value),
-            Field::CodeRate => places::rate_word(value),
-            Field::Constellation => places::modulation_word(value),
-            Field::BlockSize => places::size_word(value),
-            Field::Bit => places::bit_word(value),
-            Field::Deletion => places::deletion_word(value),
-            Field::Version | Field::Number8 | Field::Number16 | Field::Number32 | Field::Number64 =>
-                buffer.format(value).as_bytes(),
+        match self.spelling() {
+            Number(..) => buffer.format(value).as_bytes(),
+            Word(words) => words[value as usize],
         }
     }
 
@@ -81,10 +85,9 @@ impl Field {
     pub fn why(self) -> TextWhy
         ensures { result ≡ why_of (spelling_of self) }
     {
-        match self {
-            Field::Version | Field::Number8 | Field::Number16 | Field::Number32 | Field::Number64 =>
-                TextWhy::BadNumber,
-            _ => TextWhy::BadWord,
+        match self.spelling() {
+            Number(..) => TextWhy::BadNumber,
+            Word(_) => TextWhy::BadWord,
         }
     }
 }
@@ -125,7 +128,7 @@ pub fn fields_at(due: usize) -> &'static [Field]
         ],
         _ => &[
             Number8,
-            Kind,
+            PlpType,
             Number8,
             CodeRate,
             Constellation,

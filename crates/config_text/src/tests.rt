@@ -1,5 +1,5 @@
 use super::*;
-use plp_config::{Band, Config, FecSize, Modulation, Plp, PlpKind, Rate};
+use plp_config::{Band, Config, FecSize, Modulation, Plp, PlpType, Rate};
 use sample_networks::{
     REALISTIC_TEXT, SMALL_HEAD, SMALL_L1, SMALL_LINE, SMALL_PLP, SMALL_TEXT, realistic_network,
     small_network,
@@ -76,7 +76,7 @@ fn each_word_has_its_value(rt: HostRuntime) -> Result<(), Fail> {
     assert_eq!(rt; config.plps.len(), 2);
     let first = Plp {
         id: 255,
-        kind: PlpKind::Type2,
+        plp_type: PlpType::Type2,
         group: 255,
         rate: Rate::R5_6,
         modulation: Modulation::Qam256,

@@ -51,7 +51,7 @@ impl<'a> Words<'a> {
         Some(word)
     }
 
-    /// The first of the words, and no byte where there is none.
+    /// The first of the words, and no byte if there is none.
     pub fn first(&mut self) -> &'a [u8]
         ensures word { result.now ≡ slice_index_or self.old 0 [] }
         ensures rest { self.new ≡ drop 1 self.old }

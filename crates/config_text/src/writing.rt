@@ -2,15 +2,15 @@
 ghost use Rattle.std.specs.Prelude.{◌≡◌, ◌<◌, ◌≤◌, ◌++◌, ◌∷◌, [], length, slice_index_or, IfOk, IfSome, IfNone, OnOk};
 ghost use Rattle.config_text.specs.ConfigText.{canonical_line, canonical_text, Spells};
 ghost use Rattle.config_text.specs.Fields.{plp_fields, l1_fields, fields_at, words_after};
-ghost use Rattle.config_text.specs.Rows.{band_word as word_of_band, rows_of, plp_row, l1_row, kind_place};
+ghost use Rattle.config_text.specs.Rows.{band_word as word_of_band, rows_of, plp_row, l1_row, type_place};
 ghost use Rattle.config_text.specs.Words.{first_values, row_of, FitFields};
 
 use crate::field::{Field, fields_at, key_at};
-use crate::places::bandwidth_word;
+use crate::spelling::BANDS;
 use crate::values::MOST_FIELDS;
 use bit_slice::OutOfMemory;
 use itoa::Buffer;
-use plp_config::{Band, Config, FecSize, L1Numbers, Modulation, Plp, PlpKind, Rate};
+use plp_config::{Band, Config, FecSize, L1Numbers, Modulation, Plp, PlpType, Rate};
 use std::alloc::Global;
 
 type Values = [u64; MOST_FIELDS];
@@ -20,16 +20,16 @@ pub fn band_word(band: Band) -> &'static [u8]
     ensures word { result.now ≡ word_of_band band }
     ensures len { length result.now ≤ 3 }
 {
-    bandwidth_word(u64::from(band.bw()))
+    BANDS[usize::from(band.bw())]
 }
 
-fn kind_place(value: PlpKind) -> u64
-    ensures place { result ≡ kind_place value }
+fn type_place(value: PlpType) -> u64
+    ensures place { result ≡ type_place value }
     ensures small { result < 2 }
 {
     match value {
-        PlpKind::Type1 => 0,
-        PlpKind::Type2 => 1,
+        PlpType::Type1 => 0,
+        PlpType::Type2 => 1,
     }
 }
 
@@ -39,7 +39,7 @@ fn plp_values(plp: &Plp) -> Values
 {
     [
         u64::from(plp.id),
-        kind_place(plp.kind),
+        type_place(plp.plp_type),
         u64::from(plp.group),
         u64::from(plp.rate.plp_cod()),
         u64::from(plp.modulation.plp_mod()),
@@ -84,7 +84,8 @@ fn few_values(first: u64, second: u64, third: u64, fourth: u64) -> Values
 fn push_words(text: &mut Vec<u8>, fields: &[Field], values: &Values) -> Result<(), OutOfMemory>
     requires few { length fields.now ≤ 12 }
     requires fits { FitFields fields.now (first_values (length fields.now) values.now) }
-    ensures ok { OnOk result (text.new.items ≡ text.old.items ++ words_after fields.now (first_values (length fields.now) values.now)) }
+    ensures ok { OnOk result (text.new.items
+        ≡ text.old.items ++ words_after fields.now (first_values (length fields.now) values.now)) }
 {
     for (place, field) in fields.iter().enumerate() {
         text.push(b' ')?;
