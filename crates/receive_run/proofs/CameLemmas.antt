@@ -1,6 +1,7 @@
 -- A record came that was taken, or one that was refused.
 use Rattle.site_frame.specs.RecordFile.{IsOnGrid}
-use Rattle.std.proofs.Common.{◌≡◌, ℕ, ◌+◌, ◌<◌, List, [], ◌∷◌, ◌++◌, length, map, take, Some, refl, ap, ap₂, sym, subst, ◌∙◌, arith, append-nil, length-append}
+use Rattle.std.proofs.Common.{◌≡◌, ℕ, ◌+◌, ◌<◌, List, [], ◌∷◌, ◌++◌, length, map, take, Some, refl, ap, ap₂, sym, subst, ◌∙◌}
+use Rattle.std.proofs.Common.{arith, append-nil, length-append}
 use Rattle.std.specs.Prelude.{unwrap_or}
 use Rattle.std.specs.List.{concat, range_with_len}
 use Rattle.std.proofs.Math.Seq.{take-length, take-append_seam}
@@ -31,7 +32,8 @@ successive_one c first view f = record {
 }
 
 -- and of the next one
-successive_more : (c : Config) (first : ℕ) (views : List RecordView) (view : RecordView) → IsOnGrid c first views → IsFrameOf c (moment_of view) (first + length views) → IsOnGrid c first (views ++ view ∷ [])
+successive_more : (c : Config) (first : ℕ) (views : List RecordView) (view : RecordView) → IsOnGrid c first views
+    → IsFrameOf c (moment_of view) (first + length views) → IsOnGrid c first (views ++ view ∷ [])
 successive_more c first views view a f =
     let count = length-append views (view ∷ []) in
     let one : length (views ++ view ∷ []) ≡ length views + 1 = omega (arith, count) in
@@ -46,19 +48,22 @@ successive_more c first views view a f =
 -- ---- what is given
 
 -- the receiver took a record, by what was expected: what it stands for and has given
-pub record CameGiven (c : Config) (plp : ℕ) (v : Receiver) (first : ℕ) (views : List RecordView) (view : RecordView) (released : ℕ) (text : List ℕ) (start : ℕ) : Type 0 where
+pub record CameGiven (c : Config) (plp : ℕ) (v : Receiver) (first : ℕ) (views : List RecordView) (view : RecordView)
+    (released : ℕ) (text : List ℕ) (start : ℕ) : Type 0 where
   pub successive : IsOnGrid c start (views ++ view ∷ [])
   pub given : GavePackets c plp v start (views ++ view ∷ []) released text
 
 -- the first one
-first_given : (c : Config) (plp : ℕ) (v : Receiver) (view : RecordView) (frame released : ℕ) (text : List ℕ) → network_of v ≡ c → plp_of v ≡ plp → frame_of v ≡ frame + 1 → StandsFor v frame (view ∷ []) 0 → TellsDue v → released ≡ 0 → text ≡ []
+first_given : (c : Config) (plp : ℕ) (v : Receiver) (view : RecordView) (frame released : ℕ) (text : List ℕ) → network_of v ≡ c
+    → plp_of v ≡ plp → frame_of v ≡ frame + 1 → StandsFor v frame (view ∷ []) 0 → TellsDue v → released ≡ 0 → text ≡ []
     → GavePackets c plp v frame (view ∷ []) released text
 first_given c plp v view frame released text same_c same_p number stands due none empty =
     let d = due frame (view ∷ []) 0 stands in record {
       stands = subst (StandsFor v frame (view ∷ [])) (sym none) stands;
       frame = number;
       packets = d.0;
-      back = subst (λ (e : Config). Readback e plp frame (view ∷ []) d.0) same_c (subst (λ (p : ℕ). Readback (network_of v) p frame (view ∷ []) d.0) same_p d.1);
+      back = subst (λ (e : Config). Readback e plp frame (view ∷ []) d.0) same_c
+          (subst (λ (p : ℕ). Readback (network_of v) p frame (view ∷ []) d.0) same_p d.1);
       inside = omega (arith, none);
       due = (let e = d.2 in omega (arith, e, none));
       text_is = empty ∙ ap (λ (n : ℕ). concat (take n d.0)) (sym none);
@@ -66,20 +71,26 @@ first_given c plp v view frame released text same_c same_p number stands due non
     }
 
 -- one more
-next_given : ReadbackFront → (c : Config) (plp : ℕ) (old new : Receiver) (first : ℕ) (w : RecordView) (ws : List RecordView) (view : RecordView) (released : ℕ) (text : List ℕ) → IsPlan c → plp < length c.plps → network_of new ≡ c → plp_of new ≡ plp
-    → due_of old ≡ 0 → frame_of new ≡ first + length (w ∷ ws) + 1 → StandsFor new first ((w ∷ ws) ++ view ∷ []) released → TellsDue new → GavePackets c plp old first (w ∷ ws) released text → GavePackets c plp new first ((w ∷ ws) ++ view ∷ []) released text
+next_given : ReadbackFront → (c : Config) (plp : ℕ) (old new : Receiver) (first : ℕ) (w : RecordView) (ws : List RecordView)
+    (view : RecordView) (released : ℕ) (text : List ℕ) → IsPlan c → plp < length c.plps → network_of new ≡ c → plp_of new ≡ plp
+    → due_of old ≡ 0 → frame_of new ≡ first + length (w ∷ ws) + 1 → StandsFor new first ((w ∷ ws) ++ view ∷ []) released
+    → TellsDue new → GavePackets c plp old first (w ∷ ws) released text
+    → GavePackets c plp new first ((w ∷ ws) ++ view ∷ []) released text
 next_given front c plp old new first w ws view released text plan inside same_c same_p none number stands due g =
     let d = due first ((w ∷ ws) ++ view ∷ []) released stands in
     let back : Readback c plp first ((w ∷ ws) ++ view ∷ []) d.0 =
-    subst (λ (e : Config). Readback e plp first ((w ∷ ws) ++ view ∷ []) d.0) same_c (subst (λ (p : ℕ). Readback (network_of new) p first ((w ∷ ws) ++ view ∷ []) d.0) same_p d.1) in
+    subst (λ (e : Config). Readback e plp first ((w ∷ ws) ++ view ∷ []) d.0) same_c
+    (subst (λ (p : ℕ). Readback (network_of new) p first ((w ∷ ws) ++ view ∷ []) d.0) same_p d.1) in
     let more = front c plp first (w ∷ ws) (view ∷ []) g.packets d.0 plan inside g.back back in
     let least = g.inside in
     let waits = g.due in
     let all : released ≡ length g.packets = omega (arith, least, waits, none) in
     let size = ap length more.1 in
     let sum = length-append g.packets more.0 in
-    let taken : take released d.0 ≡ g.packets = ap₂ (λ (n : ℕ) (l : List (List ℕ)). take n l) all more.1 ∙ take-append_seam g.packets more.0 in
-    let whole : text ≡ concat g.packets = g.text_is ∙ ap (λ (n : ℕ). concat (take n g.packets)) all ∙ ap concat (take-length g.packets) in
+    let taken : take released d.0 ≡ g.packets = ap₂ (λ (n : ℕ) (l : List (List ℕ)). take n l) all more.1
+    ∙ take-append_seam g.packets more.0 in
+    let whole : text ≡ concat g.packets = g.text_is ∙ ap (λ (n : ℕ). concat (take n g.packets)) all
+    ∙ ap concat (take-length g.packets) in
     record {
       stands = stands;
       frame = (let one = length-append (w ∷ ws) (view ∷ []) in omega (arith, number, one));
@@ -88,28 +99,44 @@ next_given front c plp old new first w ws view released text plan inside same_c 
       inside = omega (arith, all, size, sum);
       due = d.2;
       text_is = whole ∙ ap concat (sym taken);
-      early = record { before = w ∷ ws; last = view; are = refl; packets = g.packets; back = g.back; more = []; begins = whole ∙ sym (append-nil (concat g.packets)) };
+      early = record {
+        before = w ∷ ws;
+        last = view;
+        are = refl;
+        packets = g.packets;
+        back = g.back;
+        more = [];
+        begins = whole
+            ∙ sym (append-nil (concat g.packets));
+      };
     }
 
-pub came_given : ReadbackFront → (c : Config) (plp : ℕ) (old new : Receiver) (first frame : ℕ) (views : List RecordView) (view : RecordView) (released : ℕ) (text : List ℕ) → IsPlan c → plp < length c.plps → network_of new ≡ c → plp_of new ≡ plp
-    → due_of old ≡ 0 → frame_of new ≡ frame + 1 → IsPlaced c (expected_by (first_of first views) (length views)) (moment_of view) frame → Comes (expected_by (first_of first views) (length views)) old new frame view → TellsDue new
+pub came_given : ReadbackFront → (c : Config) (plp : ℕ) (old new : Receiver) (first frame : ℕ) (views : List RecordView)
+    (view : RecordView) (released : ℕ) (text : List ℕ) → IsPlan c → plp < length c.plps → network_of new ≡ c → plp_of new ≡ plp
+    → due_of old ≡ 0 → frame_of new ≡ frame + 1 → IsPlaced c (expected_by (first_of first views) (length views))
+    (moment_of view) frame → Comes (expected_by (first_of first views) (length views)) old new frame view → TellsDue new
     → IsOnGrid c first views → Given c plp old first views released text
     → CameGiven c plp new first views view released text (unwrap_or (first_of first views) frame)
-came_given front c plp old new first frame [] view released text plan inside same_c same_p none number placed comes due a g = record {
-  successive = successive_one c frame view placed.0;
-  given = first_given c plp new view frame released text same_c same_p number comes due g.2 g.3;
-}
-came_given front c plp old new first frame (w ∷ ws) view released text plan inside same_c same_p none number placed comes due a g = record {
-  successive = successive_more c first (w ∷ ws) view a (subst (IsFrameOf c (moment_of view)) (sym placed.1) placed.0);
-  given = next_given front c plp old new first w ws view released text plan inside same_c same_p none (let e = placed.1 in omega (arith, number, e)) (comes first (w ∷ ws) released g.stands) due g;
-}
+came_given front c plp old new first frame [] view released text plan inside same_c same_p none number placed comes due a g =
+    record {
+      successive = successive_one c frame view placed.0;
+      given = first_given c plp new view frame released text same_c same_p number comes due g.2 g.3;
+    }
+came_given front c plp old new first frame (w ∷ ws) view released text plan inside same_c same_p none number placed comes due a
+    g = record {
+      successive = successive_more c first (w ∷ ws) view a (subst (IsFrameOf c (moment_of view)) (sym placed.1) placed.0);
+      given = next_given front c plp old new first w ws view released text plan inside same_c same_p none (let e = placed.1 in
+          omega (arith, number, e)) (comes first (w ∷ ws) released g.stands) due g;
+    }
 
 -- the first one of more is the first one
-pub first_after : (first frame : ℕ) (views : List RecordView) (view : RecordView) → Some (unwrap_or (first_of first views) frame) ≡ first_of (unwrap_or (first_of first views) frame) (views ++ view ∷ [])
+pub first_after : (first frame : ℕ) (views : List RecordView) (view : RecordView) → Some (unwrap_or (first_of first views) frame)
+    ≡ first_of (unwrap_or (first_of first views) frame) (views ++ view ∷ [])
 first_after first frame [] view = refl
 first_after first frame (w ∷ ws) view = refl
 
 -- what is expected
-pub expected_is : (first : ℕ) (views : List RecordView) → expected_by (first_of first views) (length views) ≡ expected_after first views
+pub expected_is : (first : ℕ) (views : List RecordView) → expected_by (first_of first views) (length views)
+    ≡ expected_after first views
 expected_is first [] = refl
 expected_is first (w ∷ ws) = refl

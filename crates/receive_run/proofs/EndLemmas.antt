@@ -1,5 +1,7 @@
 -- A file has an ending.
-use Rattle.std.proofs.Common.{◌≡◌, ◌≢◌, ◌⊎◌, ℕ, zero, suc, ◌+◌, ◌/◌, ◌%◌, ◌^◌, ◌<◌, ◌≤◌, ◌==◌, Bool, true, false, inl, inr, List, [], ◌∷◌, ◌++◌, length, drop, Option, Some, None, refl, ap, sym, subst, ◌∙◌, arith, append_assoc, length-append, length-drop, eqb-true}
+use Rattle.std.proofs.Common.{◌≡◌, ◌≢◌, ◌⊎◌, ℕ, zero, suc, ◌+◌, ◌/◌, ◌%◌, ◌^◌, ◌<◌, ◌≤◌, ◌==◌, Bool, true, false, inl, inr, List}
+use Rattle.std.proofs.Common.{[], ◌∷◌, ◌++◌, length, drop, Option, Some, None, refl, ap, sym, subst, ◌∙◌, arith, append_assoc}
+use Rattle.std.proofs.Common.{length-append, length-drop, eqb-true}
 use Rattle.std.specs.Prelude.{nat_lt, slice_index, bit_xor, Result, Ok, Err, if◌then◌else◌}
 use Rattle.std.specs.Int.{IsGcd}
 use Rattle.std.specs.List.{AllZip, range_with_len, concat}
@@ -74,7 +76,13 @@ gcd_there (suc fuel) a b few = go (gcd_there fuel) (decide_equal b 0)
 rule_there : (c : Config) (plp : ℕ) → (r : SlotRule) × IsRule c plp r
 rule_there c plp =
     let g = gcd_there (den c plp) (num c) (den c plp) (omega arith) in (
-      record { num = num c / g.0; den = den c plp / g.0; ticks = c.ticks; up_len = up_bytes c plp; deletes = (plp_at c.plps plp).delete },
+      record {
+        num = num c / g.0;
+        den = den c plp / g.0;
+        ticks = c.ticks;
+        up_len = up_bytes c plp;
+        deletes = (plp_at c.plps plp).delete;
+      },
       record { slot = (g.0, g.1, refl, refl); ticks = refl; up_len = refl; deletes = refl },
     )
 
@@ -84,20 +92,28 @@ rule_there c plp =
 first_byte : (h : Header) (body bits : List Bool) → Spells h body bits → number_at bits 0 8 ≡ h.matype1
 first_byte h body bits s =
     let g : List Bool = field 8 (bit_xor (crc8_of (fields_bits h)) mode) in
-    let rest : List Bool = field 8 h.matype2 ++ (field 16 (h.issy / 2 ^ 8) ++ (field 16 h.dfl ++ (field 8 h.issy ++ (field 16 h.syncd ++ (g ++ (body ++ s.padding)))))) in
+    let rest : List Bool =
+    field 8 h.matype2
+    ++ (field 16 (h.issy / 2 ^ 8)
+    ++ (field 16 h.dfl ++ (field 8 h.issy ++ (field 16 h.syncd ++ (g ++ (body ++ s.padding)))))) in
     let is : bits ≡ field 8 h.matype1 ++ rest = s.spelled ∙ simp append_assoc in
     ap (λ (xs : List Bool). number_at xs 0 8) is ∙ number-middle [] rest 0 8 h.matype1 refl s.fits.matype1
 
 decide_stream : (deletes : Bool) (matype1 : ℕ) → Dec (IsOfStream deletes matype1)
-decide_stream deletes m = go (decide_three (decide_equal (m / 2 ^ 6) 3) (decide_equal (m / 2 ^ 3 % 2) 1) (decide_equal (m / 2 ^ 2 % 2) (if deletes then 1 else 0)))
+decide_stream deletes m =
+    go (decide_three (decide_equal (m / 2 ^ 6) 3) (decide_equal (m / 2 ^ 3 % 2) 1)
+    (decide_equal (m / 2 ^ 2 % 2) (if deletes then 1 else 0)))
   where
     go : Dec ((m / 2 ^ 6 ≡ 3) × (m / 2 ^ 3 % 2 ≡ 1) × (m / 2 ^ 2 % 2 ≡ (if deletes then 1 else 0))) → Dec (IsOfStream deletes m)
     go (yes h) = yes (record { stream = h.0; issyi = h.1; npd = h.2 })
     go (no f) = no (λ s. f (s.stream, s.issyi, s.npd))
 
 -- a block tells something or nothing
-taken_there : bb.SpelledOrRefused → bb.NoRefusal → bb.BitCounts → (deletes : Bool) (bits : List Bool) → ((b : Block) × IsTaken deletes bits b) ⊎ ((b : Block) → ¬ (IsTaken deletes bits b))
-taken_there decides never counts deletes bits = bool_cases (nat_lt (length bits) 80) (λ less. inr (λ b t. short (ltb-true (length bits) 80 less) t.header t.body t.spelled)) (λ not. long (decides bits (ltb-false (length bits) 80 not)))
+taken_there : bb.SpelledOrRefused → bb.NoRefusal → bb.BitCounts → (deletes : Bool) (bits : List Bool)
+    → ((b : Block) × IsTaken deletes bits b) ⊎ ((b : Block) → ¬ (IsTaken deletes bits b))
+taken_there decides never counts deletes bits =
+    bool_cases (nat_lt (length bits) 80) (λ less. inr (λ b t. short (ltb-true (length bits) 80 less) t.header t.body t.spelled))
+    (λ not. long (decides bits (ltb-false (length bits) 80 not)))
   where
     short : length bits < 80 → (h : Header) (body : List Bool) → Spells h body bits → ⊥
     short less h body s =
@@ -107,19 +123,26 @@ taken_there decides never counts deletes bits = bool_cases (nat_lt (length bits)
         let head = counts.header h in
         absurd (omega (arith, less, size, all, front, head))
 
-    spelled : (h : Header) (body : List Bool) → Spells h body bits → Dec (IsOfStream deletes h.matype1) → ((b : Block) × IsTaken deletes bits b) ⊎ ((b : Block) → ¬ (IsTaken deletes bits b))
-    spelled h body s (yes stream) = inl (block_read h (bytes_of body), record { header = h; body = body; spelled = s; stream = stream; block = refl })
-    spelled h body s (no f) = inr (λ b t. f (subst (IsOfStream deletes) (sym (first_byte t.header t.body bits t.spelled) ∙ first_byte h body bits s) t.stream))
+    spelled : (h : Header) (body : List Bool) → Spells h body bits → Dec (IsOfStream deletes h.matype1)
+        → ((b : Block) × IsTaken deletes bits b) ⊎ ((b : Block) → ¬ (IsTaken deletes bits b))
+    spelled h body s (yes stream) =
+        inl (block_read h (bytes_of body), record { header = h; body = body; spelled = s; stream = stream; block = refl })
+    spelled h body s (no f) =
+        inr (λ b t.
+        f (subst (IsOfStream deletes) (sym (first_byte t.header t.body bits t.spelled) ∙ first_byte h body bits s) t.stream))
 
-    long : ((h : Header) × ((body : List Bool) × Spells h body bits)) ⊎ ((fault : BbFault) × baseband.Refuses bits fault) → ((b : Block) × IsTaken deletes bits b) ⊎ ((b : Block) → ¬ (IsTaken deletes bits b))
+    long : ((h : Header) × ((body : List Bool) × Spells h body bits)) ⊎ ((fault : BbFault) × baseband.Refuses bits fault)
+        → ((b : Block) × IsTaken deletes bits b) ⊎ ((b : Block) → ¬ (IsTaken deletes bits b))
     long (inl (h, (body, s))) = spelled h body s (decide_stream deletes h.matype1)
     long (inr (fault, r)) = inr (λ b t. never t.header t.body bits fault t.spelled r)
 
-given_there : bb.SpelledOrRefused → bb.NoRefusal → bb.BitCounts → (deletes stands : Bool) (bytes : List ℕ) → (b : Option Block) × IsGiven deletes stands bytes b
+given_there : bb.SpelledOrRefused → bb.NoRefusal → bb.BitCounts → (deletes stands : Bool) (bytes : List ℕ) → (b : Option Block)
+    × IsGiven deletes stands bytes b
 given_there decides never counts deletes false bytes = (None, refl)
 given_there decides never counts deletes true bytes = go (taken_there decides never counts deletes (scrambled (bits_of bytes)))
   where
-    go : ((b : Block) × IsTaken deletes (scrambled (bits_of bytes)) b) ⊎ ((b : Block) → ¬ (IsTaken deletes (scrambled (bits_of bytes)) b)) → (b : Option Block) × IsGiven deletes true bytes b
+    go : ((b : Block) × IsTaken deletes (scrambled (bits_of bytes)) b)
+        ⊎ ((b : Block) → ¬ (IsTaken deletes (scrambled (bits_of bytes)) b)) → (b : Option Block) × IsGiven deletes true bytes b
     go (inl t) = (Some t.0, t.1)
     go (inr f) = (None, f)
 
@@ -129,24 +152,33 @@ zip_there R each (x ∷ xs) = let here = each x in let rest = zip_there R each x
 
 -- ---- what records tell
 
-shape_there : bb.SpelledOrRefused → bb.NoRefusal → bb.BitCounts → (c : Config) (plp : ℕ) (blocks : List frame.Block) (cells : List (Option Cell)) (o : Option FrameShape) → (r : Record) × TellsShape c plp blocks cells o r
+shape_there : bb.SpelledOrRefused → bb.NoRefusal → bb.BitCounts → (c : Config) (plp : ℕ) (blocks : List frame.Block)
+    (cells : List (Option Cell)) (o : Option FrameShape) → (r : Record) × TellsShape c plp blocks cells o r
 shape_there decides never counts c plp blocks cells None = (muted_record, refl)
 shape_there decides never counts c plp blocks cells (Some shape) =
-    let each = zip_there (λ block b. IsGiven (plp_at c.plps plp).delete (all_stand c shape cells plp block) (bytes_at blocks (ordinal_of shape plp block)) b)
-    (λ block. given_there decides never counts (plp_at c.plps plp).delete (all_stand c shape cells plp block) (bytes_at blocks (ordinal_of shape plp block))) (range_with_len 0 (slice_index shape.counts plp)) in
+    let each =
+    zip_there (λ block b. IsGiven (plp_at c.plps plp).delete (all_stand c shape cells plp block)
+    (bytes_at blocks (ordinal_of shape plp block)) b)
+    (λ block. given_there decides never counts (plp_at c.plps plp).delete (all_stand c shape cells plp block)
+    (bytes_at blocks (ordinal_of shape plp block))) (range_with_len 0 (slice_index shape.counts plp)) in
     (framed_record each.0, (each.0, each.1, refl))
 
-tells_there : bb.SpelledOrRefused → bb.NoRefusal → bb.BitCounts → (c : Config) (plp n : ℕ) (view : RecordView) → (r : Record) × Tells c plp n view r
+tells_there : bb.SpelledOrRefused → bb.NoRefusal → bb.BitCounts → (c : Config) (plp n : ℕ) (view : RecordView) → (r : Record)
+    × Tells c plp n view r
 tells_there decides never counts c plp n (Muted moment) = (muted_record, refl)
-tells_there decides never counts c plp n (Frame moment pre post blocks cells) = shape_there decides never counts c plp blocks cells (readable c n pre post blocks cells)
+tells_there decides never counts c plp n (Frame moment pre post blocks cells) =
+    shape_there decides never counts c plp blocks cells (readable c n pre post blocks cells)
 
-told_there : bb.SpelledOrRefused → bb.NoRefusal → bb.BitCounts → (c : Config) (plp n : ℕ) (views : List RecordView) → (told : List Record) × TellAll c plp n views told
+told_there : bb.SpelledOrRefused → bb.NoRefusal → bb.BitCounts → (c : Config) (plp n : ℕ) (views : List RecordView)
+    → (told : List Record) × TellAll c plp n views told
 told_there decides never counts c plp n [] = ([], tt)
-told_there decides never counts c plp n (v ∷ views) = let here = tells_there decides never counts c plp n v in let rest = told_there decides never counts c plp (n + 1) views in (here.0 ∷ rest.0, (here.1, rest.1))
+told_there decides never counts c plp n (v ∷ views) = let here = tells_there decides never counts c plp n v in let rest =
+    told_there decides never counts c plp (n + 1) views in (here.0 ∷ rest.0, (here.1, rest.1))
 
 -- ---- what they give back
 
-back_there : bb.SpelledOrRefused → bb.NoRefusal → bb.BitCounts → (c : Config) (plp first : ℕ) (views : List RecordView) → (packets : List (List ℕ)) × GivesBack c plp first views packets
+back_there : bb.SpelledOrRefused → bb.NoRefusal → bb.BitCounts → (c : Config) (plp first : ℕ) (views : List RecordView)
+    → (packets : List (List ℕ)) × GivesBack c plp first views packets
 back_there decides never counts c plp first [] = ([], refl)
 back_there decides never counts c plp first (v ∷ views) =
     let r = rule_there c plp in
@@ -176,7 +208,9 @@ frame_there c moment = go (first_other (λ n. moment ≢ emission c n) (λ n. mo
     each : (n : ℕ) → (moment ≢ emission c n) ⊎ (moment ≡ emission c n)
     each n = differs (decide_moment moment (emission c n))
 
-    go : ((n : ℕ) → n < MOST_FRAMES → moment ≢ emission c n) ⊎ ((n : ℕ) × (n < MOST_FRAMES) × (moment ≡ emission c n) × ((m : ℕ) → m < n → moment ≢ emission c m)) → ((n : ℕ) × IsFrameOf c moment n) ⊎ IsOffGrid c moment
+    go : ((n : ℕ) → n < MOST_FRAMES → moment ≢ emission c n)
+        ⊎ ((n : ℕ) × (n < MOST_FRAMES) × (moment ≡ emission c n) × ((m : ℕ) → m < n → moment ≢ emission c m))
+        → ((n : ℕ) × IsFrameOf c moment n) ⊎ IsOffGrid c moment
     go (inl none) = inr none
     go (inr found) = inl (found.0, record { small = found.1; emission-is = found.2 })
 
@@ -196,37 +230,52 @@ record Tail (c : Config) (n : ℕ) (file : List ℕ) : Type 0 where
 abbrev Reads : List ℕ → Type 0
 Reads bytes = ((view : RecordView) × ((len : ℕ) × BeginsWith bytes view len)) ⊎ ((why : RecordWhy) × Refuses bytes why)
 
-stops_here : (c : Config) (n : ℕ) (file : List ℕ) (why : RecordWhy) → n ≤ MOST_FRAMES → RefusesNext c (Some (n + 0)) file why → Tail c n file
-stops_here c n file why few r = record { views = []; rest = file; records = refl; successive = successive_none c n few; stuck = inr (why, r) }
+stops_here : (c : Config) (n : ℕ) (file : List ℕ) (why : RecordWhy) → n ≤ MOST_FRAMES → RefusesNext c (Some (n + 0)) file why
+    → Tail c n file
+stops_here c n file why few r =
+    record { views = []; rest = file; records = refl; successive = successive_none c n few; stuck = inr (why, r) }
 
-goes_on : (c : Config) (n : ℕ) (file : List ℕ) (view : RecordView) (len : ℕ) → IsFrameOf c (moment_of view) n → BeginsWith file view len → Tail c (n + 1) (drop len file) → Tail c n file
+goes_on : (c : Config) (n : ℕ) (file : List ℕ) (view : RecordView) (len : ℕ) → IsFrameOf c (moment_of view) n
+    → BeginsWith file view len → Tail c (n + 1) (drop len file) → Tail c n file
 goes_on c n file view len f begins t = record {
   views = view ∷ t.views;
   rest = t.rest;
   records = (len, begins, t.records);
   successive = successive_join c n view t.views f t.successive;
-  stuck = subst (λ (k : ℕ). (t.rest ≡ []) ⊎ ((why : RecordWhy) × RefusesNext c (Some k) t.rest why)) (let e : n + 1 + length t.views ≡ n + suc (length t.views) = omega arith in e) t.stuck;
+  stuck = subst (λ (k : ℕ). (t.rest ≡ []) ⊎ ((why : RecordWhy) × RefusesNext c (Some k) t.rest why))
+      (let e : n + 1 + length t.views ≡ n + suc (length t.views) = omega arith in e) t.stuck;
 }
 
-tail : SpelledOrRefused → (c : Config) (fuel n : ℕ) (file : List ℕ) → n ≤ MOST_FRAMES → AreBytes file → length file ≤ fuel → Tail c n file
-tail decides c fuel n [] few bytes enough = record { views = []; rest = []; records = refl; successive = successive_none c n few; stuck = inl refl }
+tail : SpelledOrRefused → (c : Config) (fuel n : ℕ) (file : List ℕ) → n ≤ MOST_FRAMES → AreBytes file → length file ≤ fuel
+    → Tail c n file
+tail decides c fuel n [] few bytes enough =
+    record { views = []; rest = []; records = refl; successive = successive_none c n few; stuck = inl refl }
 tail decides c zero n (x ∷ file) few bytes enough = absurd (omega (arith, enough))
 tail decides c (suc fuel) n (x ∷ file) few bytes enough = go (tail decides c fuel) (decides (x ∷ file) bytes)
   where
-    placed : ((n : ℕ) (file : List ℕ) → n ≤ MOST_FRAMES → AreBytes file → length file ≤ fuel → Tail c n file) → (view : RecordView) (len : ℕ) → BeginsWith (x ∷ file) view len → (frame : ℕ) → IsFrameOf c (moment_of view) frame → Dec (n ≡ frame) → Tail c n (x ∷ file)
+    placed : ((n : ℕ) (file : List ℕ) → n ≤ MOST_FRAMES → AreBytes file → length file ≤ fuel → Tail c n file)
+        → (view : RecordView) (len : ℕ) → BeginsWith (x ∷ file) view len → (frame : ℕ) → IsFrameOf c (moment_of view) frame
+        → Dec (n ≡ frame) → Tail c n (x ∷ file)
     placed before view len b frame f (yes same) =
         let here : IsFrameOf c (moment_of view) n = subst (IsFrameOf c (moment_of view)) (sym same) f in
         let some = some_bytes (x ∷ file) view len b in
         let inside = b.inside in
         let small = here.small in
-        goes_on c n (x ∷ file) view len here b (before (n + 1) (drop len (x ∷ file)) (omega (arith, small)) (bytes_behind len (x ∷ file) bytes) (omega (arith, enough, some, inside, length-drop len (x ∷ file))))
-    placed before view len b frame f (no other) = stops_here c n (x ∷ file) why.Order few (inr (view, len, b, record { frame = frame; of = f; order = λ e. other (omega (arith, e)) }))
+        goes_on c n (x ∷ file) view len here b
+        (before (n + 1) (drop len (x ∷ file)) (omega (arith, small)) (bytes_behind len (x ∷ file) bytes)
+        (omega (arith, enough, some, inside, length-drop len (x ∷ file))))
+    placed before view len b frame f (no other) =
+        stops_here c n (x ∷ file) why.Order few
+        (inr (view, len, b, record { frame = frame; of = f; order = λ e. other (omega (arith, e)) }))
 
-    found : ((n : ℕ) (file : List ℕ) → n ≤ MOST_FRAMES → AreBytes file → length file ≤ fuel → Tail c n file) → (view : RecordView) (len : ℕ) → BeginsWith (x ∷ file) view len → ((k : ℕ) × IsFrameOf c (moment_of view) k) ⊎ IsOffGrid c (moment_of view) → Tail c n (x ∷ file)
+    found : ((n : ℕ) (file : List ℕ) → n ≤ MOST_FRAMES → AreBytes file → length file ≤ fuel → Tail c n file)
+        → (view : RecordView) (len : ℕ) → BeginsWith (x ∷ file) view len → ((k : ℕ) × IsFrameOf c (moment_of view) k)
+        ⊎ IsOffGrid c (moment_of view) → Tail c n (x ∷ file)
     found before view len b (inl f) = placed before view len b f.0 f.1 (decide_equal n f.0)
     found before view len b (inr off) = stops_here c n (x ∷ file) why.OffGrid few (inr (view, len, b, off))
 
-    go : ((n : ℕ) (file : List ℕ) → n ≤ MOST_FRAMES → AreBytes file → length file ≤ fuel → Tail c n file) → Reads (x ∷ file) → Tail c n (x ∷ file)
+    go : ((n : ℕ) (file : List ℕ) → n ≤ MOST_FRAMES → AreBytes file → length file ≤ fuel → Tail c n file) → Reads (x ∷ file)
+        → Tail c n (x ∷ file)
     go before (inl (view, (len, b))) = found before view len b (frame_there c (moment_of view))
     go before (inr (w, r)) = stops_here c n (x ∷ file) w few (inl (some_left x file, r))
 
@@ -235,45 +284,73 @@ tail decides c (suc fuel) n (x ∷ file) few bytes enough = go (tail decides c f
 abbrev Ends : Config → ℕ → List ℕ → Type 0
 Ends c plp file = (result : Result Ran RunStop) × MustRun c plp file result
 
-received_there : bb.SpelledOrRefused → bb.NoRefusal → bb.BitCounts → (c : Config) (plp first : ℕ) (views : List RecordView) → IsOnGrid c first views → (bytes : List ℕ) × (r : Received c plp views bytes) × (r.first ≡ first)
+received_there : bb.SpelledOrRefused → bb.NoRefusal → bb.BitCounts → (c : Config) (plp first : ℕ) (views : List RecordView)
+    → IsOnGrid c first views → (bytes : List ℕ) × (r : Received c plp views bytes) × (r.first ≡ first)
 received_there decides never counts c plp first views a =
-    let b = back_there decides never counts c plp first views in (concat b.0, record { first = first; successive = a; packets = b.0; back = b.1; bytes_are = refl }, refl)
+    let b = back_there decides never counts c plp first views in
+    (concat b.0, record { first = first; successive = a; packets = b.0; back = b.1; bytes_are = refl }, refl)
 
 -- behind records there is nothing
-ends_well : bb.SpelledOrRefused → bb.NoRefusal → bb.BitCounts → (c : Config) (plp first : ℕ) (file : List ℕ) (views : List RecordView) → AreRecords file views [] → IsOnGrid c first views → Ends c plp file
+ends_well : bb.SpelledOrRefused → bb.NoRefusal → bb.BitCounts
+    → (c : Config) (plp first : ℕ) (file : List ℕ) (views : List RecordView) → AreRecords file views [] → IsOnGrid c first views
+    → Ends c plp file
 ends_well decides never counts c plp first file views records a =
-    let r = received_there decides never counts c plp first views a in (Ok (ran_of c plp r.1.first views r.1.packets), (r.0, record { views = views; records = records; received = r.1; ran_is = refl }))
+    let r = received_there decides never counts c plp first views a in (
+      Ok (ran_of c plp r.1.first views r.1.packets),
+      (r.0, record { views = views; records = records; received = r.1; ran_is = refl }),
+    )
 
 -- or what is refused
-ends_refused : bb.SpelledOrRefused → bb.NoRefusal → bb.BitCounts → (c : Config) (plp first : ℕ) (file rest : List ℕ) (views : List RecordView) (why : RecordWhy) → AreRecords file views rest → IsOnGrid c first views
+ends_refused : bb.SpelledOrRefused → bb.NoRefusal → bb.BitCounts → (c : Config) (plp first : ℕ) (file rest : List ℕ)
+    (views : List RecordView) (why : RecordWhy) → AreRecords file views rest → IsOnGrid c first views
     → RefusesNext c (expected_after first views) rest why → Ends c plp file
 ends_refused decides never counts c plp first file rest views why records a refused =
     let r = received_there decides never counts c plp first views a in (
       Err (RecordRefused (length views) why),
-      (r.0, record { views = views; rest = rest; records = records; received = r.1; number_is = refl; refused = subst (λ (n : ℕ). RefusesNext c (expected_after n views) rest why) (sym r.2) refused }),
+      (
+        r.0,
+        record {
+          views = views;
+          rest = rest;
+          records = records;
+          received = r.1;
+          number_is = refl;
+          refused = subst (λ (n : ℕ). RefusesNext c (expected_after n views) rest why) (sym r.2) refused;
+        },
+      ),
     )
 
 pub run_ends : SpelledOrRefused → bb.SpelledOrRefused → bb.NoRefusal → bb.BitCounts → RunEnds
-run_ends reads decides never counts c plp [] plan inside bytes = ends_well decides never counts c plp 0 [] [] refl (successive_none c 0 (omega arith))
+run_ends reads decides never counts c plp [] plan inside bytes =
+    ends_well decides never counts c plp 0 [] [] refl (successive_none c 0 (omega arith))
 run_ends reads decides never counts c plp (x ∷ file) plan inside bytes = go (reads (x ∷ file) bytes)
   where
     none : IsOnGrid c 0 []
     none = successive_none c 0 (omega arith)
 
-    first_whole : (first : ℕ) (view : RecordView) (len : ℕ) → BeginsWith (x ∷ file) view len → IsFrameOf c (moment_of view) first → (t : Tail c (first + 1) (drop len (x ∷ file))) → (t.rest ≡ []) ⊎ ((why : RecordWhy) × RefusesNext c (Some (first + 1 + length t.views)) t.rest why)
+    first_whole : (first : ℕ) (view : RecordView) (len : ℕ) → BeginsWith (x ∷ file) view len → IsFrameOf c (moment_of view) first
+        → (t : Tail c (first + 1) (drop len (x ∷ file))) → (t.rest ≡ [])
+        ⊎ ((why : RecordWhy) × RefusesNext c (Some (first + 1 + length t.views)) t.rest why)
         → Ends c plp (x ∷ file)
     first_whole first view len b f t (inl empty) =
-        ends_well decides never counts c plp first (x ∷ file) (view ∷ t.views) (len, b, subst (λ (l : List ℕ). AreRecords (drop len (x ∷ file)) t.views l) empty t.records) (successive_join c first view t.views f t.successive)
+        ends_well decides never counts c plp first (x ∷ file) (view ∷ t.views)
+        (len, b, subst (λ (l : List ℕ). AreRecords (drop len (x ∷ file)) t.views l) empty t.records)
+        (successive_join c first view t.views f t.successive)
     first_whole first view len b f t (inr (w, r)) =
-        ends_refused decides never counts c plp first (x ∷ file) t.rest (view ∷ t.views) w (len, b, t.records) (successive_join c first view t.views f t.successive)
-        (subst (λ (k : ℕ). RefusesNext c (Some k) t.rest w) (let e : first + 1 + length t.views ≡ first + suc (length t.views) = omega arith in e) r)
+        ends_refused decides never counts c plp first (x ∷ file) t.rest (view ∷ t.views) w (len, b, t.records)
+        (successive_join c first view t.views f t.successive)
+        (subst (λ (k : ℕ). RefusesNext c (Some k) t.rest w) (let e : first + 1 + length t.views ≡ first + suc (length t.views) =
+        omega arith in e) r)
 
-    found : (view : RecordView) (len : ℕ) → BeginsWith (x ∷ file) view len → ((k : ℕ) × IsFrameOf c (moment_of view) k) ⊎ IsOffGrid c (moment_of view) → Ends c plp (x ∷ file)
+    found : (view : RecordView) (len : ℕ) → BeginsWith (x ∷ file) view len → ((k : ℕ) × IsFrameOf c (moment_of view) k)
+        ⊎ IsOffGrid c (moment_of view) → Ends c plp (x ∷ file)
     found view len b (inl f) =
         let small = f.1.small in
-        let t = tail reads c (length (drop len (x ∷ file))) (f.0 + 1) (drop len (x ∷ file)) (omega (arith, small)) (bytes_behind len (x ∷ file) bytes) (omega arith) in
+        let t = tail reads c (length (drop len (x ∷ file))) (f.0 + 1) (drop len (x ∷ file)) (omega (arith, small))
+        (bytes_behind len (x ∷ file) bytes) (omega arith) in
         first_whole f.0 view len b f.1 t t.stuck
-    found view len b (inr off) = ends_refused decides never counts c plp 0 (x ∷ file) (x ∷ file) [] why.OffGrid refl none (inr (view, len, b, off))
+    found view len b (inr off) = ends_refused decides never counts c plp 0 (x ∷ file) (x ∷ file) [] why.OffGrid refl none
+        (inr (view, len, b, off))
 
     go : Reads (x ∷ file) → Ends c plp (x ∷ file)
     go (inl (view, (len, b))) = found view len b (frame_there c (moment_of view))

@@ -1,5 +1,6 @@
 -- Packets that a receiver gives out, one after the other.
-use Rattle.std.proofs.Common.{◌≡◌, ℕ, zero, suc, ◌+◌, ◌-◌, ◌<◌, Bool, true, List, [], ◌∷◌, ◌++◌, take, drop, Some, ap, subst, ◌∙◌, arith, append-nil}
+use Rattle.std.proofs.Common.{◌≡◌, ℕ, zero, suc, ◌+◌, ◌-◌, ◌<◌, Bool, true, List, [], ◌∷◌, ◌++◌, take, drop, Some, ap, subst, ◌∙◌}
+use Rattle.std.proofs.Common.{arith, append-nil}
 use Rattle.std.specs.Prelude.{slice_get, nat_lt, if◌then◌else◌}
 use Rattle.std.specs.List.{concat}
 use Rattle.std.proofs.Math.Seq.{take-add}
@@ -23,7 +24,8 @@ one_at (y ∷ xs) zero x e = ap (λ (z : _). z ∷ []) (some_injective y x e)
 one_at (y ∷ xs) (suc k) x e = one_at xs k x e
 
 -- the bytes of one packet more
-one_more : (packets : List (List ℕ)) (k : ℕ) (packet : List ℕ) → slice_get packets k ≡ Some packet → concat (take (k + 1) packets) ≡ concat (take k packets) ++ packet
+one_more : (packets : List (List ℕ)) (k : ℕ) (packet : List ℕ) → slice_get packets k ≡ Some packet → concat (take (k + 1) packets)
+    ≡ concat (take k packets) ++ packet
 one_more packets k packet e =
     ap concat (take-add k 1 packets ∙ ap (λ (l : List (List ℕ)). take k packets ++ l) (one_at packets k packet e))
     ∙ concat-append (take k packets) (packet ∷ [])
@@ -31,9 +33,13 @@ one_more packets k packet e =
 
 -- ---- a receiver
 
-pub gives_one : (old new : Receiver) (packet : List ℕ) (b : Bool) → 0 < due_of old → b ≡ nat_lt 0 (due_of old) → SamePlp old new → frame_of new ≡ frame_of old → due_of new ≡ due_of old - 1
-    → ((first : ℕ) (views : List RecordView) (released : ℕ) → StandsFor old first views released → StandsFor new first views (if b then released + 1 else released))
-    → (b ≡ true → (first : ℕ) (views : List RecordView) (released : ℕ) (packets : List (List ℕ)) → StandsFor old first views released → Readback (network_of old) (plp_of old) first views packets → slice_get packets released ≡ Some packet)
+pub gives_one : (old new : Receiver) (packet : List ℕ) (b : Bool) → 0 < due_of old → b ≡ nat_lt 0 (due_of old) → SamePlp old new
+    → frame_of new ≡ frame_of old → due_of new ≡ due_of old - 1
+    → ((first : ℕ) (views : List RecordView) (released : ℕ) → StandsFor old first views released
+    → StandsFor new first views (if b then released + 1 else released))
+    → (b ≡ true → (first : ℕ) (views : List RecordView) (released : ℕ) (packets : List (List ℕ))
+    → StandsFor old first views released → Readback (network_of old) (plp_of old) first views packets
+    → slice_get packets released ≡ Some packet)
     → GivesPacket old new packet
 gives_one old new packet b some exact same frame due stands answer =
     let yes : b ≡ true = exact ∙ lt-ltb 0 (due_of old) some in
@@ -41,7 +47,8 @@ gives_one old new packet b some exact same frame due stands answer =
       same = same;
       frame = frame;
       due = omega (arith, some, due);
-      stands = λ first views released s. subst (λ (t : Bool). StandsFor new first views (if t then released + 1 else released)) yes (stands first views released s);
+      stands = λ first views released s. subst (λ (t : Bool). StandsFor new first views (if t then released + 1 else released))
+          yes (stands first views released s);
       packets = λ first views released packets s back inside.
           let here = answer yes first views released packets s back in
           let within = slice_get_within packets released packet here in

@@ -1,8 +1,15 @@
 pub mod GiveLemmas
 pub mod CameLemmas
-pub mod MachineLemmas
+pub mod StepLemmas
+pub mod TakenLemmas
+pub mod FedLemmas
+pub mod WantedLemmas
+pub mod FileEndLemmas
+pub mod GivenLemmas
 pub mod FewLemmas
 pub mod SameLemmas
+pub mod MetLemmas
+pub mod UnwrittenLemmas
 pub mod RunLemmas
 pub mod OnceLemmas
 pub mod EndLemmas

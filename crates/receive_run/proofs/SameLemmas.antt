@@ -1,5 +1,7 @@
--- Records of one file: of two lists with which it begins one is a front of the other, and records of successive frames are not refused.
-use Rattle.std.proofs.Common.{◌≡◌, ℕ, suc, ◌+◌, ◌<◌, ◌≤◌, Bool, List, [], ◌∷◌, ◌++◌, length, map, take, drop, Option, refl, ap, ap₂, sym, subst, ◌∙◌, inl, inr, ⊎_elim, arith, append-nil}
+-- Records of one file: of two lists with which it begins one is a front of the other, and records of successive frames are not
+-- refused.
+use Rattle.std.proofs.Common.{◌≡◌, ℕ, suc, ◌+◌, ◌<◌, ◌≤◌, Bool, List, [], ◌∷◌, ◌++◌, length, map, take, drop, Option, refl, ap}
+use Rattle.std.proofs.Common.{ap₂, sym, subst, ◌∙◌, inl, inr, ⊎_elim, arith, append-nil}
 use Rattle.std.specs.Prelude.{◌⊎◌}
 use Rattle.std.specs.List.{range_with_len}
 use Rattle.std.proofs.lemmas.List.{take-append-drop}
@@ -37,7 +39,8 @@ begins_nothing view len b =
 abbrev pub GoesOn : List RecordView → List ℕ → List RecordView → List ℕ → Type 0
 GoesOn vs rest ws more = (others : List RecordView) × (ws ≡ vs ++ others) × AreRecords rest others more
 
-pub comparable : OneRecord → (file rest more : List ℕ) (vs ws : List RecordView) → AreRecords file vs rest → AreRecords file ws more → GoesOn vs rest ws more ⊎ GoesOn ws more vs rest
+pub comparable : OneRecord → (file rest more : List ℕ) (vs ws : List RecordView) → AreRecords file vs rest
+    → AreRecords file ws more → GoesOn vs rest ws more ⊎ GoesOn ws more vs rest
 comparable one file rest more [] ws h k = inl (ws, refl, subst (λ (l : List ℕ). AreRecords l ws more) h k)
 comparable one file rest more (v ∷ vs) [] h k = inr (v ∷ vs, refl, subst (λ (l : List ℕ). AreRecords l (v ∷ vs) rest) k h)
 comparable one file rest more (v ∷ vs) (w ∷ ws) (n, b, left) (m, d, right) =
@@ -49,15 +52,18 @@ comparable one file rest more (v ∷ vs) (w ∷ ws) (n, b, left) (m, d, right) =
 
 -- ---- successive frames
 
-pub successive_parts : (c : Config) (first : ℕ) (v : RecordView) (vs : List RecordView) → IsOnGrid c first (v ∷ vs) → IsFrameOf c (moment_of v) first × IsOnGrid c (first + 1) vs
+pub successive_parts : (c : Config) (first : ℕ) (v : RecordView) (vs : List RecordView) → IsOnGrid c first (v ∷ vs)
+    → IsFrameOf c (moment_of v) first × IsOnGrid c (first + 1) vs
 successive_parts c first v vs a =
-    let m : moment_of v ∷ map moment_of vs ≡ emission c first ∷ map (emission c) (range_with_len (first + 1) (length vs)) = a.moments in
+    let m : moment_of v ∷ map moment_of vs ≡ emission c first ∷ map (emission c) (range_with_len (first + 1) (length vs)) =
+    a.moments in
     let here : moment_of v ≡ emission c first = cc in
     let others : map moment_of vs ≡ map (emission c) (range_with_len (first + 1) (length vs)) = cc in
     let s = a.small in
     (record { small = omega (arith, s); emission-is = here }, record { moments = others; small = omega (arith, s) })
 
-pub successive_join : (c : Config) (first : ℕ) (v : RecordView) (vs : List RecordView) → IsFrameOf c (moment_of v) first → IsOnGrid c (first + 1) vs → IsOnGrid c first (v ∷ vs)
+pub successive_join : (c : Config) (first : ℕ) (v : RecordView) (vs : List RecordView) → IsFrameOf c (moment_of v) first
+    → IsOnGrid c (first + 1) vs → IsOnGrid c first (v ∷ vs)
 successive_join c first v vs f a = record {
   moments = ap₂ (λ (m : Moment) (l : List Moment). m ∷ l) f.emission-is a.moments;
   small = (let s = a.small in omega (arith, s));
@@ -68,24 +74,33 @@ successive_none c first l = record { moments = refl; small = omega (arith, l) }
 
 pub successive_front : (c : Config) (first : ℕ) (vs ws : List RecordView) → IsOnGrid c first (vs ++ ws) → IsOnGrid c first vs
 successive_front c first [] ws a = successive_none c first (let s = a.small in omega (arith, s))
-successive_front c first (v ∷ vs) ws a = let p = successive_parts c first v (vs ++ ws) a in successive_join c first v vs p.0 (successive_front c (first + 1) vs ws p.1)
+successive_front c first (v ∷ vs) ws a = let p = successive_parts c first v (vs ++ ws) a in
+    successive_join c first v vs p.0 (successive_front c (first + 1) vs ws p.1)
 
-pub frame_at : (c : Config) (first : ℕ) (vs : List RecordView) (o : RecordView) (os : List RecordView) → IsOnGrid c first (vs ++ o ∷ os) → IsFrameOf c (moment_of o) (first + length vs)
-frame_at c first [] o os a = subst (IsFrameOf c (moment_of o)) (let e : first ≡ first + 0 = omega arith in e) (successive_parts c first o os a).0
+pub frame_at : (c : Config) (first : ℕ) (vs : List RecordView) (o : RecordView) (os : List RecordView)
+    → IsOnGrid c first (vs ++ o ∷ os) → IsFrameOf c (moment_of o) (first + length vs)
+frame_at c first [] o os a = subst (IsFrameOf c (moment_of o)) (let e : first ≡ first + 0 = omega arith in e)
+    (successive_parts c first o os a).0
 frame_at c first (v ∷ vs) o os a =
-    subst (IsFrameOf c (moment_of o)) (let e : first + 1 + length vs ≡ first + suc (length vs) = omega arith in e) (frame_at c (first + 1) vs o os (successive_parts c first v (vs ++ o ∷ os) a).1)
+    subst (IsFrameOf c (moment_of o)) (let e : first + 1 + length vs ≡ first + suc (length vs) = omega arith in e)
+    (frame_at c (first + 1) vs o os (successive_parts c first v (vs ++ o ∷ os) a).1)
 
-pub same_first : OneFrame → (c : Config) → AllRules c → (first second : ℕ) (w : RecordView) (vs ws : List RecordView) → IsOnGrid c first (w ∷ vs) → IsOnGrid c second (w ∷ ws) → first ≡ second
-same_first frame c rules first second w vs ws a b = frame c (moment_of w) first second rules (successive_parts c first w vs a).0 (successive_parts c second w ws b).0
+pub same_first : OneFrame → (c : Config) → AllRules c → (first second : ℕ) (w : RecordView) (vs ws : List RecordView)
+    → IsOnGrid c first (w ∷ vs) → IsOnGrid c second (w ∷ ws) → first ≡ second
+same_first frame c rules first second w vs ws a b = frame c (moment_of w) first second rules (successive_parts c first w vs a).0
+    (successive_parts c second w ws b).0
 
 -- ---- the record of the next frame is not refused
 
 -- it is expected
-is_expected : OneFrame → (c : Config) → AllRules c → (first second : ℕ) (vs : List RecordView) (o : RecordView) (os : List RecordView) (why : RecordWhy) → IsOnGrid c second (vs ++ o ∷ os) → IsOnGrid c first vs → RefusesPlace c (expected_after first vs) (moment_of o) why → ⊥
+is_expected : OneFrame → (c : Config) → AllRules c → (first second : ℕ) (vs : List RecordView) (o : RecordView)
+    (os : List RecordView) (why : RecordWhy) → IsOnGrid c second (vs ++ o ∷ os) → IsOnGrid c first vs
+    → RefusesPlace c (expected_after first vs) (moment_of o) why → ⊥
 is_expected frame c rules first second vs o os why.Head b a p = absurd p
 is_expected frame c rules first second vs o os why.Kind b a p = absurd p
 is_expected frame c rules first second vs o os why.Length b a p = absurd p
-is_expected frame c rules first second vs o os why.OffGrid b a p = let f = frame_at c second vs o os b in p (second + length vs) f.small f.emission-is
+is_expected frame c rules first second vs o os why.OffGrid b a p = let f = frame_at c second vs o os b in
+    p (second + length vs) f.small f.emission-is
 is_expected frame c rules first second [] o os why.Order b a p = p.order tt
 is_expected frame c rules first second (w ∷ ws) o os why.Order b a p =
     let f = frame_at c second (w ∷ ws) o os b in
@@ -93,13 +108,18 @@ is_expected frame c rules first second (w ∷ ws) o os why.Order b a p =
     let number = frame c (moment_of o) p.frame (second + length (w ∷ ws)) rules p.of f in
     p.order (omega (arith, same, number))
 
-pub next_not_refused : OneRecord → NoRefusal → OneFrame → (c : Config) → AllRules c → (first second : ℕ) (vs : List RecordView) (o : RecordView) (os : List RecordView) (bytes : List ℕ) (why : RecordWhy) (len : ℕ)
-    → IsOnGrid c second (vs ++ o ∷ os) → IsOnGrid c first vs → BeginsWith bytes o len → RefusesNext c (expected_after first vs) bytes why → ⊥
+pub next_not_refused : OneRecord → NoRefusal → OneFrame → (c : Config) → AllRules c
+    → (first second : ℕ) (vs : List RecordView) (o : RecordView) (os : List RecordView) (bytes : List ℕ) (why : RecordWhy)
+    (len : ℕ)
+    → IsOnGrid c second (vs ++ o ∷ os) → IsOnGrid c first vs → BeginsWith bytes o len
+    → RefusesNext c (expected_after first vs) bytes why → ⊥
 next_not_refused one never frame c rules first second vs o os bytes why len b a begins (inl none) =
-    never o (take len bytes) (drop len bytes) why begins.spells (subst (λ (l : List ℕ). Refuses l why) (sym (take-append-drop len bytes)) none.1)
+    never o (take len bytes) (drop len bytes) why begins.spells
+    (subst (λ (l : List ℕ). Refuses l why) (sym (take-append-drop len bytes)) none.1)
 next_not_refused one never frame c rules first second vs o os bytes why len b a begins (inr p) =
     let same = same_front one bytes p.0 o p.1 len p.2 begins in
-    is_expected frame c rules first second vs o os why b a (subst (λ (v : RecordView). RefusesPlace c (expected_after first vs) (moment_of v) why) same.0 p.3)
+    is_expected frame c rules first second vs o os why b a
+    (subst (λ (v : RecordView). RefusesPlace c (expected_after first vs) (moment_of v) why) same.0 p.3)
 
 -- nor is nothing
 pub nothing_not_refused : (c : Config) (expected : Option ℕ) (why : RecordWhy) → RefusesNext c expected [] why → ⊥
@@ -109,9 +129,13 @@ nothing_not_refused c expected why (inr p) = begins_nothing p.0 p.1 p.2
 -- ---- two machines to which the same was fed took the same records
 
 -- what a machine has before it does not begin with the record of the next frame
-nothing_comes : OneRecord → NoRefusal → OneFrame → (c : Config) → AllRules c → (first second : ℕ) (ws : List RecordView) (o : RecordView) (os : List RecordView) (coming : Coming) (bytes rest : List ℕ) (left : ℕ) (ended : Bool) (len : ℕ)
-    → IsOnGrid c second (ws ++ o ∷ os) → IsOnGrid c first ws → BeginsWith rest o len → (coming ≡ Rest → 0 < left) → Behind c (expected_after first ws) coming bytes left rest ended → ⊥
-nothing_comes one never frame c rules first second ws o os Head bytes rest left ended len b a begins some h = begins_nothing o len (subst (λ (l : List ℕ). BeginsWith l o len) h.0 begins)
+nothing_comes : OneRecord → NoRefusal → OneFrame → (c : Config) → AllRules c
+    → (first second : ℕ) (ws : List RecordView) (o : RecordView) (os : List RecordView) (coming : Coming) (bytes rest : List ℕ)
+    (left : ℕ) (ended : Bool) (len : ℕ)
+    → IsOnGrid c second (ws ++ o ∷ os) → IsOnGrid c first ws → BeginsWith rest o len → (coming ≡ Rest → 0 < left)
+    → Behind c (expected_after first ws) coming bytes left rest ended → ⊥
+nothing_comes one never frame c rules first second ws o os Head bytes rest left ended len b a begins some h =
+    begins_nothing o len (subst (λ (l : List ℕ). BeginsWith l o len) h.0 begins)
 nothing_comes one never frame c rules first second ws o os Rest bytes rest left ended len b a begins some h =
     let begun = h.1 in
     let whole = whole_len rest o len begun.len begun.announces begins in
@@ -119,18 +143,26 @@ nothing_comes one never frame c rules first second ws o os Rest bytes rest left 
     let inside = begins.inside in
     let more = some refl in
     absurd (omega (arith, whole, lacks, inside, more))
-nothing_comes one never frame c rules first second ws o os Packets bytes rest left ended len b a begins some h = begins_nothing o len (subst (λ (l : List ℕ). BeginsWith l o len) h.0 begins)
+nothing_comes one never frame c rules first second ws o os Packets bytes rest left ended len b a begins some h =
+    begins_nothing o len (subst (λ (l : List ℕ). BeginsWith l o len) h.0 begins)
 nothing_comes one never frame c rules first second ws o os (Refused why) bytes rest left ended len b a begins some h =
-    next_not_refused one never frame c rules first second ws o os rest why len b a begins (subst (λ (l : List ℕ). RefusesNext c (expected_after first ws) l why) (append-nil rest) (h.refuses [] (λ e. refl)))
-nothing_comes one never frame c rules first second ws o os Finished bytes rest left ended len b a begins some h = begins_nothing o len (subst (λ (l : List ℕ). BeginsWith l o len) h.0 begins)
+    next_not_refused one never frame c rules first second ws o os rest why len b a begins
+    (subst (λ (l : List ℕ). RefusesNext c (expected_after first ws) l why) (append-nil rest) (h.refuses [] (λ e. refl)))
+nothing_comes one never frame c rules first second ws o os Finished bytes rest left ended len b a begins some h =
+    begins_nothing o len (subst (λ (l : List ℕ). BeginsWith l o len) h.0 begins)
 
-pub same_views : OneRecord → NoRefusal → OneFrame → (c : Config) → AllRules c → (file : List ℕ) (first second : ℕ) (vs ws : List RecordView) (coming : Coming) (bytes rest : List ℕ) (left : ℕ) (ended : Bool) → AreRecords file vs [] → IsOnGrid c second vs
-    → AreRecords file ws rest → IsOnGrid c first ws → (coming ≡ Rest → 0 < left) → Behind c (expected_after first ws) coming bytes left rest ended → ws ≡ vs
-same_views one never frame c rules file first second vs ws coming bytes rest left ended h b k a some behind = go (comparable one file [] rest vs ws h k)
+pub same_views : OneRecord → NoRefusal → OneFrame → (c : Config) → AllRules c
+    → (file : List ℕ) (first second : ℕ) (vs ws : List RecordView) (coming : Coming) (bytes rest : List ℕ) (left : ℕ)
+    (ended : Bool) → AreRecords file vs [] → IsOnGrid c second vs
+    → AreRecords file ws rest → IsOnGrid c first ws → (coming ≡ Rest → 0 < left)
+    → Behind c (expected_after first ws) coming bytes left rest ended → ws ≡ vs
+same_views one never frame c rules file first second vs ws coming bytes rest left ended h b k a some behind =
+    go (comparable one file [] rest vs ws h k)
   where
     go : GoesOn vs [] ws rest ⊎ GoesOn ws rest vs [] → ws ≡ vs
     go (inl ([], is, more)) = is ∙ append-nil vs
     go (inl (o ∷ os, is, (len, begins, more))) = absurd (begins_nothing o len begins)
     go (inr ([], is, more)) = sym (is ∙ append-nil ws)
     go (inr (o ∷ os, is, (len, begins, more))) =
-        absurd (nothing_comes one never frame c rules first second ws o os coming bytes rest left ended len (subst (IsOnGrid c second) is b) a begins some behind)
+        absurd (nothing_comes one never frame c rules first second ws o os coming bytes rest left ended len
+        (subst (IsOnGrid c second) is b) a begins some behind)

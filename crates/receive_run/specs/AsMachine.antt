@@ -1,11 +1,12 @@
 -- The receiver as a machine between files. No public clause cites this module.
-use Rattle.std.specs.Prelude.{◌≡◌, ◌⊎◌, ℕ, ◌+◌, ◌-◌, ◌*◌, ◌≤◌, Bool, true, false, List, [], ◌∷◌, ◌++◌, length, take, Option, Some, None, unwrap_or, Result, Ok, Err}
+use Rattle.std.specs.Prelude.{◌≡◌, ◌⊎◌, ℕ, ◌+◌, ◌-◌, ◌*◌, ◌≤◌, Bool, true, false, List, [], ◌∷◌, ◌++◌, length, take, Option, Some}
+use Rattle.std.specs.Prelude.{None, unwrap_or, Result, Ok, Err}
 use Rattle.std.specs.List.{concat}
 use Rattle.plp_config.specs.SlotTime.{slots_by}
 use Rattle.plp_config.specs.declared.config.Config.{Config}
 use Rattle.plp_config.specs.declared.moment.TheConstants.{MOST_FRAMES}
 use Rattle.site_frame.specs.Record.{head_len}
-use Rattle.site_frame.specs.RecordFile.{AreRecords, Announces, EndsWithin, IsOnGrid}
+use Rattle.site_frame.specs.RecordFile.{AreRecords, IsBegun, EndsWithin, IsOnGrid}
 use Rattle.site_frame.specs.declared.fault.RecordWhy.{RecordWhy}
 use Rattle.site_frame.specs.declared.reading.RecordView.{RecordView}
 use Rattle.plp_receiver.specs.StandsFor.{StandsFor, IsFresh, network_of, plp_of, frame_of, due_of}
@@ -42,7 +43,8 @@ pub record IsReady (m : ReceiverMachine) : Type 0 where
 -- The record that has come whole was taken, and what is due comes next, or the next head; or it was refused.
 pub record IsSeen (old new : ReceiverMachine) : Type 0 where
   pub frame : ℕ
-  pub takes : TakesRecord (network_of old.receiver) (expected_by old.first old.count) old.bytes.items old.receiver new.receiver frame
+  pub takes : TakesRecord (network_of old.receiver) (expected_by old.first old.count) old.bytes.items old.receiver new.receiver
+      frame
   pub same : SamePlp old.receiver new.receiver
   pub due : TellsDue new.receiver
   pub first : new.first ≡ Some (unwrap_or old.first frame)
@@ -88,15 +90,10 @@ Begins old new head rest = SeesHead old new head rest ⊎ HasBegun old new head 
 
 -- ---- what was done to a machine
 
--- Of a record that is under way so many bytes are lacking.
-pub record IsBegun (bytes : List ℕ) (left : ℕ) : Type 0 where
-  pub len : ℕ
-  pub announces : Announces bytes len
-  pub lacks : length bytes + left ≡ head_len + len
-
--- What stands behind the records is refused whatever follows. It is no more than a head, or than the record of which the head stands
--- there; and no more is wanted, unless the file has ended.
-pub record StandsRefused (c : Config) (expected : Option ℕ) (why : RecordWhy) (left : ℕ) (rest : List ℕ) (ended : Bool) : Type 0 where
+-- What stands behind the records is refused whatever follows. It is no more than a head, or than the record of which the head
+-- stands there; and no more is wanted, unless the file has ended.
+pub record StandsRefused (c : Config) (expected : Option ℕ) (why : RecordWhy) (left : ℕ) (rest : List ℕ)
+    (ended : Bool) : Type 0 where
   pub refuses : (more : List ℕ) → (ended ≡ true → more ≡ []) → RefusesNext c expected (rest ++ more) why
   pub within : EndsWithin rest (length rest)
   pub none : (left ≡ 0) ⊎ (ended ≡ true)
@@ -120,7 +117,8 @@ pub record GaveEarly (c : Config) (plp first : ℕ) (views : List RecordView) (t
   pub begins : text ≡ concat packets ++ more
 
 -- Of what the records give back so many packets were given, and no other is due but those behind them.
-pub record GavePackets (c : Config) (plp : ℕ) (v : Receiver) (first : ℕ) (views : List RecordView) (released : ℕ) (text : List ℕ) : Type 0 where
+pub record GavePackets (c : Config) (plp : ℕ) (v : Receiver) (first : ℕ) (views : List RecordView) (released : ℕ)
+    (text : List ℕ) : Type 0 where
   pub stands : StandsFor v first views released
   pub frame : frame_of v ≡ first + length views
   pub packets : List (List ℕ)

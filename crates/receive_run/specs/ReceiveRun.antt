@@ -37,8 +37,8 @@ pub record HasBefore (c : Config) (plp number : ℕ) (why : RecordWhy) (file byt
   pub number_is : number ≡ length views
   pub refused : RefusesNext c (expected_after received.first views) rest why
 
--- The same, and of the file so many bytes were read: behind those records no more than a head, or no more than the record has of which
--- the head stands there. So if no record begins with the head, no byte behind it was read.
+-- The same, and of the file so many bytes were read: behind those records no more than a head, or no more than the record has of
+-- which the head stands there. So if no record begins with the head, no byte behind it was read.
 pub record HasMetRefused (c : Config) (plp number : ℕ) (why : RecordWhy) (place : ℕ) (file bytes : List ℕ) : Type 0 where
   pub before : HasBefore c plp number why file bytes
   pub within : EndsWithin before.rest (place - bytes_before file before.rest)
@@ -50,8 +50,8 @@ pub record MeetsRefused (c : Config) (plp : ℕ) (old new : State) (name out : L
   pub works : Writes old new name out place (HasMetRefused c plp number why place)
   pub counts : SameCounts old new
 
--- Of so many bytes that were read of the file, records were met, and what was read behind them is no more than the next one, at which
--- nobody looked. The bytes are what they give back.
+-- Of so many bytes that were read of the file, records were met, and what was read behind them is no more than the next one, at
+-- which nobody looked. The bytes are what they give back.
 pub record HasMet (c : Config) (plp place : ℕ) (file bytes : List ℕ) : Type 0 where
   pub views : List RecordView
   pub rest : List ℕ
@@ -83,8 +83,8 @@ pub record StopsReading (c : Config) (plp : ℕ) (old new : State) (name out : L
   pub short : place < most_bytes
   pub works : Writes old new name out place (HasMetPart c plp place)
 
--- So many bytes were read of the file, which are records. Of what they give back the bytes are a front, but not all; and they begin with
--- all that the records before the last one give back.
+-- So many bytes were read of the file, which are records. Of what they give back the bytes are a front, but not all; and they
+-- begin with all that the records before the last one give back.
 pub record HasSome (c : Config) (plp place : ℕ) (file bytes : List ℕ) : Type 0 where
   pub before : List RecordView
   pub last : RecordView
@@ -111,6 +111,8 @@ pub record StopsWriting (c : Config) (plp : ℕ) (old new : State) (name out : L
 abbrev pub Stops : Config → ℕ → State → State → List ℕ → List ℕ → RunStop → Type 0
 Stops c plp old new name out (RecordRefused number why) = MeetsRefused c plp old new name out number why
 Stops c plp old new name out (TooLong count) = (count ≡ most_bytes) × GivesTooMuch c plp old new name out
-Stops c plp old new name out ReadFault = ReadsFail old new × (OpensInputs old new (name ∷ []) 0 ⊎ StopsReading c plp old new name out)
-Stops c plp old new name out WriteFault = WritesFail old new × (FailsToCreateOutput old new out (name ∷ []) ⊎ StopsWriting c plp old new name out)
+Stops c plp old new name out ReadFault =
+    ReadsFail old new × (OpensInputs old new (name ∷ []) 0 ⊎ StopsReading c plp old new name out)
+Stops c plp old new name out WriteFault =
+    WritesFail old new × (FailsToCreateOutput old new out (name ∷ []) ⊎ StopsWriting c plp old new name out)
 Stops c plp old new name out OutOfMemory = new ≡ old

@@ -16,8 +16,8 @@ abbrev pub GivesBack : Config → ℕ → ℕ → List RecordView → List (List
 GivesBack c plp first [] packets = packets ≡ []
 GivesBack c plp first (view ∷ views) packets = Readback c plp first (view ∷ views) packets
 
--- The bytes are what stands in the output after these records, which are of successive frames: the packets that the PLP is given back,
--- one behind another.
+-- The bytes are what stands in the output after these records, which are of successive frames: the packets that the PLP is given
+-- back, one behind another.
 pub record Received (c : Config) (plp : ℕ) (views : List RecordView) (bytes : List ℕ) : Type 0 where
   pub first : ℕ
   pub successive : IsOnGrid c first views
@@ -25,7 +25,8 @@ pub record Received (c : Config) (plp : ℕ) (views : List RecordView) (bytes : 
   pub back : GivesBack c plp first views packets
   pub bytes_are : bytes ≡ concat packets
 
--- the slot at which the output begins: those before it are over when the frame in front of the first one begins; 0 if there is no record
+-- the slot at which the output begins: those before it are over when the frame in front of the first one begins; 0 if there is no
+-- record
 abbrev pub first_slot : Config → ℕ → ℕ → List RecordView → ℕ
 first_slot c plp first [] = 0
 first_slot c plp first (view ∷ views) = slots_by c plp ((first - 1) * c.ticks)
@@ -41,7 +42,8 @@ expected_after first (view ∷ views) = Some (first + length (view ∷ views))
 
 -- The bytes begin with a record, and no frame leaves at its moment, or not the one that is expected.
 abbrev pub IsMisplaced : Config → Option ℕ → List ℕ → RecordWhy → Type 0
-IsMisplaced c expected bytes why = (view : RecordView) × (len : ℕ) × BeginsWith bytes view len × RefusesPlace c expected (moment_of view) why
+IsMisplaced c expected bytes why = (view : RecordView) × (len : ℕ) × BeginsWith bytes view len
+    × RefusesPlace c expected (moment_of view) why
 
 -- Bytes are left, and for this reason they do not begin with the record of the frame that is expected.
 abbrev pub RefusesNext : Config → Option ℕ → List ℕ → RecordWhy → Type 0

@@ -28,7 +28,8 @@ SamePlp old new = (network_of new ≡ network_of old) × (plp_of new ≡ plp_of 
 -- The record of a frame came, of any if none was expected.
 abbrev pub Comes : Option ℕ → Receiver → Receiver → ℕ → RecordView → Type 0
 Comes None old new frame view = StandsFor new frame (view ∷ []) 0
-Comes (Some other) old new frame view = (first : ℕ) (views : List RecordView) (released : ℕ) → StandsFor old first views released → StandsFor new first (views ++ view ∷ []) released
+Comes (Some other) old new frame view = (first : ℕ) (views : List RecordView) (released : ℕ) → StandsFor old first views released
+    → StandsFor new first (views ++ view ∷ []) released
 
 -- The bytes begin with a record of the frame that was expected, and the receiver took it.
 pub record TakesRecord (c : Config) (expected : Option ℕ) (bytes : List ℕ) (old new : Receiver) (frame : ℕ) : Type 0 where
@@ -47,8 +48,10 @@ pub record GivesPacket (old new : Receiver) (packet : List ℕ) : Type 0 where
   pub same : SamePlp old new
   pub frame : frame_of new ≡ frame_of old
   pub due : due_of new + 1 ≡ due_of old
-  pub stands : (first : ℕ) (views : List RecordView) (released : ℕ) → StandsFor old first views released → StandsFor new first views (released + 1)
-  pub packets : (first : ℕ) (views : List RecordView) (released : ℕ) (packets : List (List ℕ)) → StandsFor old first views released
+  pub stands : (first : ℕ) (views : List RecordView) (released : ℕ) → StandsFor old first views released
+      → StandsFor new first views (released + 1)
+  pub packets : (first : ℕ) (views : List RecordView) (released : ℕ) (packets : List (List ℕ))
+      → StandsFor old first views released
       → Readback (network_of old) (plp_of old) first views packets → released ≤ length packets
       → (released + 1 ≤ length packets) × (concat (take (released + 1) packets) ≡ concat (take released packets) ++ packet)
 

@@ -8,13 +8,15 @@ use Rattle.terms.specs.Bits.{byte_at, bytes_for, bytes_of}
 use Rattle.show_run.specs.SaidLines.{head_of}
 
 -- one more byte was put
-pub head_more : (bits : List Bool) (bytes : List ℕ) (k byte : ℕ) → k < length bytes → take k bytes ≡ map (byte_at bits) (range_with_len 0 k) → byte ≡ byte_at bits k →
+pub head_more : (bits : List Bool) (bytes : List ℕ) (k byte : ℕ) → k < length bytes
+    → take k bytes ≡ map (byte_at bits) (range_with_len 0 k) → byte ≡ byte_at bits k →
     take (k + 1) (set bytes k byte) ≡ map (byte_at bits) (range_with_len 0 (k + 1))
 head_more bits bytes k byte inside so_far is =
     take_more_set bytes k byte inside ∙ rw (so_far, is) (sym (map-range_with_len_more (byte_at bits) 0 k k (omega arith)))
 
 -- all bytes of the head were put
-pub head_whole : (bits : List Bool) (count : ℕ) → count ≡ min (bytes_for (length bits)) 8 → map (byte_at bits) (range_with_len 0 count) ≡ head_of bits
+pub head_whole : (bits : List Bool) (count : ℕ) → count ≡ min (bytes_for (length bits)) 8
+    → map (byte_at bits) (range_with_len 0 count) ≡ head_of bits
 head_whole bits count is =
     ⊎_elim
     (λ (few : bytes_for (length bits) < 8).
@@ -23,5 +25,6 @@ head_whole bits count is =
     ap (λ (k : ℕ). map (byte_at bits) (range_with_len 0 k)) all ∙ sym (take_all 8 (bytes_of bits) (omega (arith, size))))
     (λ (many : 8 ≤ bytes_for (length bits)).
     let eight : count ≡ 8 = omega arith in
-    ap (λ (k : ℕ). map (byte_at bits) (range_with_len 0 k)) eight ∙ sym (take-map-range_with_len (byte_at bits) 0 (bytes_for (length bits)) 8 many))
+    ap (λ (k : ℕ). map (byte_at bits) (range_with_len 0 k)) eight
+    ∙ sym (take-map-range_with_len (byte_at bits) 0 (bytes_for (length bits)) 8 many))
     (cases_lt (bytes_for (length bits)) 8)

@@ -1,5 +1,6 @@
 -- Packets back to back: one more, and their bytes and lines.
-use Rattle.std.proofs.Common.{◌≡◌, ℕ, ◌+◌, ◌≤◌, List, [], ◌∷◌, ◌++◌, length, drop, refl, ap, sym, subst, ◌∙◌, arith, append_assoc, append-nil, length-drop}
+use Rattle.std.proofs.Common.{◌≡◌, ℕ, ◌+◌, ◌≤◌, List, [], ◌∷◌, ◌++◌, length, drop, refl, ap, sym, subst, ◌∙◌, arith, append_assoc}
+use Rattle.std.proofs.Common.{append-nil, length-drop}
 use Rattle.std.proofs.lemmas.List.{take-append-le, length-take}
 use Rattle.show_run.specs.PacketFile.{Begins, Packs, bytes_in}
 use Rattle.show_run.specs.SaidLines.{line_of, lines_of}
@@ -9,7 +10,8 @@ pub begins_inside : (bytes p : List ℕ) → Begins bytes p → length p ≤ len
 begins_inside bytes p b = omega (arith, ap length b.there, length-take (length p) bytes)
 
 -- one more packet began what was left
-pub packs_more : (file rest : List ℕ) (ps : List (List ℕ)) (p : List ℕ) → Packs file ps rest → Begins rest p → Packs file (ps ++ p ∷ []) (drop (length p) rest)
+pub packs_more : (file rest : List ℕ) (ps : List (List ℕ)) (p : List ℕ) → Packs file ps rest → Begins rest p
+    → Packs file (ps ++ p ∷ []) (drop (length p) rest)
 packs_more file rest [] p e begins = (subst (λ (bytes : List ℕ). Begins bytes p) (sym e) begins, ap (drop (length p)) e)
 packs_more file rest (q ∷ ps) p h begins = (h.0, packs_more (drop (length q) file) rest ps p h.1 begins)
 
@@ -26,12 +28,15 @@ pub lines_of-append : (at : ℕ) (ps qs : List (List ℕ)) → lines_of at (ps +
 lines_of-append at [] qs = let e : at ≡ at + 0 = omega arith in ap (λ (k : ℕ). lines_of k qs) e
 lines_of-append at (p ∷ ps) qs =
     let e : at + length p + bytes_in ps ≡ at + (length p + bytes_in ps) = omega arith in
-    ap (λ (text : List ℕ). line_of at p ++ text) (lines_of-append (at + length p) ps qs ∙ ap (λ (k : ℕ). lines_of (at + length p) ps ++ lines_of k qs) e)
+    ap (λ (text : List ℕ). line_of at p ++ text) (lines_of-append (at + length p) ps qs
+    ∙ ap (λ (k : ℕ). lines_of (at + length p) ps ++ lines_of k qs) e)
     ∙ sym (append_assoc (line_of at p) (lines_of (at + length p) ps) (lines_of (at + (length p + bytes_in ps)) qs))
 
 -- the line of one more packet
-pub lines_of-push : (at : ℕ) (ps : List (List ℕ)) (p : List ℕ) → lines_of at (ps ++ p ∷ []) ≡ lines_of at ps ++ line_of (at + bytes_in ps) p
-lines_of-push at ps p = lines_of-append at ps (p ∷ []) ∙ ap (λ (text : List ℕ). lines_of at ps ++ text) (append-nil (line_of (at + bytes_in ps) p))
+pub lines_of-push : (at : ℕ) (ps : List (List ℕ)) (p : List ℕ) → lines_of at (ps ++ p ∷ []) ≡ lines_of at ps
+    ++ line_of (at + bytes_in ps) p
+lines_of-push at ps p = lines_of-append at ps (p ∷ []) ∙ ap (λ (text : List ℕ). lines_of at ps ++ text)
+    (append-nil (line_of (at + bytes_in ps) p))
 
 -- packets and what they leave are the file
 pub file_len : (file rest : List ℕ) (ps : List (List ℕ)) → Packs file ps rest → bytes_in ps + length rest ≡ length file

@@ -13,7 +13,8 @@ use Rattle.show_run.specs.declared.stop.ShowStop.TheVariants.{RecordRefused}
 
 pub ends_once : OneRecord → NoRefusal → OneRefusal → OneRecordsEnd
 ends_once one never refusal file (Ok count) (Ok number) a b =
-    let same = same_records one never file [] [] a.0 b.0 a.1 b.1 stuck_nil stuck_nil in ap Ok (a.2 ∙ ap (λ (vs : List RecordView). length vs) same.0 ∙ sym b.2)
+    let same = same_records one never file [] [] a.0 b.0 a.1 b.1 stuck_nil stuck_nil in
+    ap Ok (a.2 ∙ ap (λ (vs : List RecordView). length vs) same.0 ∙ sym b.2)
 ends_once one never refusal file (Ok count) (Err (RecordRefused number why)) a b =
     let same = same_records one never file [] b.1 a.0 b.0 a.1 b.2 stuck_nil (why, b.3.1) in absurd (b.3.0 (sym same.1))
 ends_once one never refusal file (Err (RecordRefused number why)) (Ok count) a b =
@@ -30,8 +31,10 @@ ends_once one never refusal file (Err stop) other a b = absurd a
 ending : (file : List ℕ) → Stops file → (result : Result ℕ ShowStop) × RecordsEnd file result
 ending file s =
     ⊎_elim
-    (λ (none : s.rest ≡ []). (Ok (length s.views), (s.views, subst (λ (bytes : List ℕ). AreRecords file s.views bytes) none s.records, refl)))
-    (λ (r : (why : RecordWhy) × IsNoRecord s.rest why). (Err (RecordRefused (length s.views) r.0), (s.views, s.rest, s.records, r.1, refl)))
+    (λ (none : s.rest ≡ []).
+    (Ok (length s.views), (s.views, subst (λ (bytes : List ℕ). AreRecords file s.views bytes) none s.records, refl)))
+    (λ (r : (why : RecordWhy) × IsNoRecord s.rest why).
+    (Err (RecordRefused (length s.views) r.0), (s.views, s.rest, s.records, r.1, refl)))
     s.stuck
 
 pub each_ends : NoRefusal → SpelledOrRefused → EachRecordsEnd

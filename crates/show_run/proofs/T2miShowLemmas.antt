@@ -1,5 +1,6 @@
 -- What was told of the lines of packets in units is what a file of units asks for.
-use Rattle.std.proofs.Common.{◌≡◌, ◌≢◌, ℕ, ◌-◌, Bool, true, false, cond, List, [], ◌∷◌, ◌++◌, length, take, drop, map, refl, ap, sym, subst, ◌∙◌, inl, inr, arith, append_assoc, append-nil}
+use Rattle.std.proofs.Common.{◌≡◌, ◌≢◌, ℕ, ◌-◌, Bool, true, false, cond, List, [], ◌∷◌, ◌++◌, length, take, drop, map, refl, ap}
+use Rattle.std.proofs.Common.{sym, subst, ◌∙◌, inl, inr, arith, append_assoc, append-nil}
 use Rattle.std.specs.Prelude.{◌⊎◌, nat_lt, IfSome, Result, Ok, Err}
 use Rattle.std.proofs.lemmas.List.{take-append-drop, map-append}
 use Rattle.std.proofs.lemmas.Option.{IfSome_then}
@@ -26,29 +27,40 @@ use Rattle.show_run.specs.T2miLines.{next_in, next_of, packets_from, Unpiping, F
 use Rattle.show_run.specs.T2miText.{place_lines, AreFirstLines, IsT2miText}
 use Rattle.show_run.specs.Told.{StopsLines}
 use Rattle.show_run.specs.declared.stop.ShowStop.{ShowStop}
-use Rattle.show_run.specs.declared.stop.ShowStop.TheVariants.{PacketRefused, RecordRefused, TooLong, ReadFault, WriteFault, OutOfMemory, NoRoom}
+use Rattle.show_run.specs.declared.stop.ShowStop.TheVariants.{PacketRefused, RecordRefused, TooLong, ReadFault, WriteFault}
+use Rattle.show_run.specs.declared.stop.ShowStop.TheVariants.{OutOfMemory, NoRoom}
 use Rattle.show_run.specs.declared.t2mi_lines.T2miLines.{T2miLines}
 use Rattle.show_run.specs.declared.t2mi_lines.Search.{Search}
 use Rattle.show_run.specs.declared.t2mi_lines.Search.TheVariants.{Seeks, Unpipes, Finished}
-use Rattle.show_run.proofs.ShowLemmas.{fails_only, starts_fed, count_some}
-use Rattle.show_run.proofs.T2miLinesLemmas.{behind_all}
+use Rattle.show_run.proofs.PacketMetLemmas.{fails_only, starts_fed, count_some}
+use Rattle.show_run.proofs.T2miEndLemmas.{behind_all}
 
 -- the lines of packets that were given are those of the first packets of the file
-first_unpiped : AcceptedFront → PacketsBehind → (file : List ℕ) (m : T2miLines) (all text : List ℕ) (ended : Bool) → StartsWith file all ended → Unpiping m all text ended → AreFirstLines (t2mi_packets_in file) text
+first_unpiped : AcceptedFront → PacketsBehind → (file : List ℕ) (m : T2miLines) (all text : List ℕ) (ended : Bool)
+    → StartsWith file all ended → Unpiping m all text ended → AreFirstLines (t2mi_packets_in file) text
 first_unpiped front behind file m all text ended starts f =
     let rest = drop m.from m.unit ++ starts.0 in
     let more = front f.pid f.bytes rest in
     let packets = packets_from f.pid (length f.front) f.bytes in
     let others = map (further (length f.front)) more.0 in
     let is : t2mi_packets_in file ≡ packets ++ others =
-    ap t2mi_packets_in starts.1 ∙ behind_all behind m all text ended f starts.0 ∙ ap (λ (l : List ℕ). map (further (length f.front)) (accepted_of f.pid l)) (append_assoc f.bytes (drop m.from m.unit) starts.0)
-    ∙ ap (map (further (length f.front))) more.1 ∙ map-append (further (length f.front)) (accepted_of f.pid f.bytes) more.0 in
-    (take m.count packets, drop m.count packets ++ others, is ∙ ap (λ (l : List AcceptedPacket). l ++ others) (sym (take-append-drop m.count packets)) ∙ append_assoc (take m.count packets) (drop m.count packets) others, f.lines)
+    ap t2mi_packets_in starts.1 ∙ behind_all behind m all text ended f starts.0
+    ∙ ap (λ (l : List ℕ). map (further (length f.front)) (accepted_of f.pid l))
+    (append_assoc f.bytes (drop m.from m.unit) starts.0)
+    ∙ ap (map (further (length f.front))) more.1 ∙ map-append (further (length f.front)) (accepted_of f.pid f.bytes) more.0 in (
+      take m.count packets,
+      drop m.count packets ++ others,
+      is ∙ ap (λ (l : List AcceptedPacket). l ++ others)
+          (sym (take-append-drop m.count packets)) ∙ append_assoc (take m.count packets) (drop m.count packets) others,
+      f.lines,
+    )
 
 none_first : (packets : List AcceptedPacket) (text : List ℕ) → text ≡ [] → AreFirstLines packets text
 none_first packets text none = ([], packets, refl, none)
 
-first_found : AcceptedFront → PacketsBehind → (file : List ℕ) (m : T2miLines) (search : Search) (all text : List ℕ) (ended : Bool) → (search ≡ Finished → m.line ≢ []) → StartsWith file all ended → Found search m all text ended → AreFirstLines (t2mi_packets_in file) text
+first_found : AcceptedFront → PacketsBehind → (file : List ℕ) (m : T2miLines) (search : Search) (all text : List ℕ) (ended : Bool)
+    → (search ≡ Finished → m.line ≢ []) → StartsWith file all ended → Found search m all text ended
+    → AreFirstLines (t2mi_packets_in file) text
 first_found front behind file m Seeks all text ended waits starts f = none_first (t2mi_packets_in file) text f.silent
 first_found front behind file m Unpipes all text ended waits starts f = first_unpiped front behind file m all text ended starts f
 first_found front behind file m Finished all text ended waits starts f =
@@ -58,30 +70,37 @@ first_found front behind file m Finished all text ended waits starts f =
       | inr done ↦ absurd (waits refl done.0)
     ]
 
-first_shown : AcceptedFront → PacketsBehind → (file : List ℕ) (m : T2miLines) (events : List Event) → (m.search ≡ Finished → m.line ≢ []) → StartsWith file (fed 0 events) (has_ended 0 events) → Shown m events → AreFirstLines (t2mi_packets_in file) (gave events)
-first_shown front behind file m events waits starts s = first_found front behind file m m.search (fed 0 events) (gave events) (has_ended 0 events) waits starts s.found
+first_shown : AcceptedFront → PacketsBehind → (file : List ℕ) (m : T2miLines) (events : List Event)
+    → (m.search ≡ Finished → m.line ≢ []) → StartsWith file (fed 0 events) (has_ended 0 events) → Shown m events
+    → AreFirstLines (t2mi_packets_in file) (gave events)
+first_shown front behind file m events waits starts s = first_found front behind file m m.search (fed 0 events) (gave events)
+    (has_ended 0 events) waits starts s.found
 
 -- a machine that gives or wants bytes has lines still to give, if it has found the end
-gives_waits : (search : Search) (ready : Bool) (left : ℕ) (line : List ℕ) → next_in search ready left line ≡ Give → search ≡ Finished → line ≢ []
+gives_waits : (search : Search) (ready : Bool) (left : ℕ) (line : List ℕ) → next_in search ready left line ≡ Give
+    → search ≡ Finished → line ≢ []
 gives_waits Seeks ready left line gives done none = let e : Seeks ≡ Finished = done in cc
 gives_waits Unpipes ready left line gives done none = let e : Unpipes ≡ Finished = done in cc
 gives_waits Finished ready left [] gives done none = let e : End ≡ Give = gives in cc
 gives_waits Finished ready left (c ∷ line) gives done none = let e : c ∷ line ≡ [] = none in cc
 
-reaches_waits : (search : Search) (ready : Bool) (left : ℕ) (line : List ℕ) (count : ℕ) → Reaches (next_in search ready left line) 0 count → search ≡ Finished → ⊥
+reaches_waits : (search : Search) (ready : Bool) (left : ℕ) (line : List ℕ) (count : ℕ)
+    → Reaches (next_in search ready left line) 0 count → search ≡ Finished → ⊥
 reaches_waits Seeks ready left line count r done = let e : Seeks ≡ Finished = done in cc
 reaches_waits Unpipes ready left line count r done = let e : Unpipes ≡ Finished = done in cc
 reaches_waits Finished ready left [] count r done = r
 reaches_waits Finished ready left (c ∷ line) count r done = r
 
-short_waits : (search : Search) (ready : Bool) (left : ℕ) (line : List ℕ) (count : ℕ) → FallsShort (next_in search ready left line) 0 count → search ≡ Finished → ⊥
+short_waits : (search : Search) (ready : Bool) (left : ℕ) (line : List ℕ) (count : ℕ)
+    → FallsShort (next_in search ready left line) 0 count → search ≡ Finished → ⊥
 short_waits Seeks ready left line count r done = let e : Seeks ≡ Finished = done in cc
 short_waits Unpipes ready left line count r done = let e : Unpipes ≡ Finished = done in cc
 short_waits Finished ready left [] count r done = r
 short_waits Finished ready left (c ∷ line) count r done = r
 
 -- at the end all was given
-at_end : (search : Search) (ready : Bool) (left : ℕ) (line : List ℕ) → next_in search ready left line ≡ End → (search ≡ Finished) × (line ≡ [])
+at_end : (search : Search) (ready : Bool) (left : ℕ) (line : List ℕ) → next_in search ready left line ≡ End → (search ≡ Finished)
+    × (line ≡ [])
 at_end Seeks ready left line e = absurd (let f : Read 0 SIZE BUFFER ≡ End = e in cc)
 at_end Unpipes true left line e = absurd (let f : Give ≡ End = e in cc)
 at_end Unpipes false left line e = absurd (go (nat_lt 0 left) e)
@@ -95,17 +114,22 @@ at_end Finished ready left (c ∷ line) e = absurd (let f : Give ≡ End = e in 
 abbrev shows : State → State → List ℕ → Result ℕ ShowStop → Type 0
 shows old new name result = Shows IsT2miText old new name result
 
-all_text : (file : List ℕ) (place : ℕ) (m : T2miLines) (events : List Event) (early : List ℕ) → m.search ≡ Finished → m.line ≡ [] → Shown m events → IsFed file place (fed 0 events) (has_ended 0 events) → gave events ≡ early → IsT2miText file place (Ok m.count) early
+all_text : (file : List ℕ) (place : ℕ) (m : T2miLines) (events : List Event) (early : List ℕ) → m.search ≡ Finished → m.line ≡ []
+    → Shown m events → IsFed file place (fed 0 events) (has_ended 0 events) → gave events ≡ early
+    → IsT2miText file place (Ok m.count) early
 all_text file place m events early done none s f text =
     let e = subst (λ (x : Search). Found x m (fed 0 events) (gave events) (has_ended 0 events)) done s.found in
-    let same : file ≡ fed 0 events = f.parts ∙ ap (λ (l : List ℕ). fed 0 events ++ l) (f.end e.over) ∙ append-nil (fed 0 events) in
+    let same : file ≡ fed 0 events = f.parts ∙ ap (λ (l : List ℕ). fed 0 events ++ l) (f.end e.over)
+    ∙ append-nil (fed 0 events) in
     let a = f.ahead in let w = f.within in let n = ap length same in (
       e.number ∙ ap (λ (l : List ℕ). length (t2mi_packets_in l)) (sym same),
-      sym text ∙ elim e.lines [ inl waits ↦ absurd (count_some m.count (sym waits.0 ∙ none)) | inr given ↦ given.1 ] ∙ ap (λ (l : List ℕ). place_lines (t2mi_packets_in l) ++ count_line m.count) (sym same),
+      sym text ∙ elim e.lines [ inl waits ↦ absurd (count_some m.count (sym waits.0 ∙ none)) | inr given ↦ given.1 ]
+          ∙ ap (λ (l : List ℕ). place_lines (t2mi_packets_in l) ++ count_line m.count) (sym same),
       omega (arith, a, w, n),
     )
 
-pub t2mi_end : (start now : T2miLines) (old new : State) (name : List ℕ) → TellsAll (Comes start) next_of old new name now → shows old new name (Ok now.count)
+pub t2mi_end : (start now : T2miLines) (old new : State) (name : List ℕ) → TellsAll (Comes start) next_of old new name now
+    → shows old new name (Ok now.count)
 t2mi_end start now old new name t =
     let x = t.tells in
     let end = at_end now.search (is_ready now.unpiper) (SIZE - now.from) now.line t.end in
@@ -114,24 +138,34 @@ t2mi_end start now old new name t =
       text = gave x.early;
       reads = (x.opened, t.short);
       grew = x.said;
-      lines = IfSome_then old.held x.inputs (λ held f. all_text (bytes_of held.files name) t.place now x.events (gave x.early) end.0 end.1 x.came.shown f (x.parts ∙ append-nil (gave x.early)));
+      lines = IfSome_then old.held x.inputs
+          (λ held f. all_text (bytes_of held.files name) t.place now x.events (gave x.early) end.0 end.1 x.came.shown f
+          (x.parts ∙ append-nil (gave x.early)));
       counts = t.counts;
     }
 
--- what was said where not all was
-some_said : AcceptedFront → PacketsBehind → (start now : T2miLines) (old new : State) (name : List ℕ) (place : ℕ) (unsaid : List ℕ) (x : Tells (Comes start) next_of old new name now place unsaid) → (unsaid ≡ [] → now.search ≡ Finished → ⊥)
+-- what was said if not all was
+some_said : AcceptedFront → PacketsBehind → (start now : T2miLines) (old new : State) (name : List ℕ) (place : ℕ)
+    (unsaid : List ℕ) (x : Tells (Comes start) next_of old new name now place unsaid) → (unsaid ≡ [] → now.search ≡ Finished → ⊥)
     → IfSome old.held (λ held. AreFirstLines (t2mi_packets_in (bytes_of held.files name)) (gave x.early))
-some_said front behind start now old new name place unsaid x wants = if_both old.held _ _ _ (λ held f first. go held f first x.going) x.inputs x.first
+some_said front behind start now old new name place unsaid x wants =
+    if_both old.held _ _ _ (λ held f first. go held f first x.going) x.inputs x.first
   where
-    go : (held : Held) → IsFed (bytes_of held.files name) place (fed 0 x.events) (has_ended 0 x.events) → StartsWith (bytes_of held.files name) (fed 0 x.early) (has_ended 0 x.early) → (unsaid ≡ []) ⊎ ((x.early ≡ []) ⊎ (next_of x.mid ≡ Give))
+    go : (held : Held) → IsFed (bytes_of held.files name) place (fed 0 x.events) (has_ended 0 x.events)
+        → StartsWith (bytes_of held.files name) (fed 0 x.early) (has_ended 0 x.early) → (unsaid ≡ [])
+        ⊎ ((x.early ≡ []) ⊎ (next_of x.mid ≡ Give))
         → AreFirstLines (t2mi_packets_in (bytes_of held.files name)) (gave x.early)
     go held f first (inl none) =
-        subst (λ (l : List ℕ). AreFirstLines (t2mi_packets_in (bytes_of held.files name)) l) (x.parts ∙ ap (λ (l : List ℕ). gave x.early ++ l) none ∙ append-nil (gave x.early))
-        (first_shown front behind (bytes_of held.files name) now x.events (λ done idle. absurd (wants none done)) (starts_fed (bytes_of held.files name) place (fed 0 x.events) (has_ended 0 x.events) f) x.came.shown)
+        subst (λ (l : List ℕ). AreFirstLines (t2mi_packets_in (bytes_of held.files name)) l)
+        (x.parts ∙ ap (λ (l : List ℕ). gave x.early ++ l) none ∙ append-nil (gave x.early))
+        (first_shown front behind (bytes_of held.files name) now x.events (λ done idle. absurd (wants none done))
+        (starts_fed (bytes_of held.files name) place (fed 0 x.events) (has_ended 0 x.events) f) x.came.shown)
     go held f first (inr (inl none)) = none_first (t2mi_packets_in (bytes_of held.files name)) (gave x.early) (ap gave none)
-    go held f first (inr (inr gives)) = first_shown front behind (bytes_of held.files name) x.mid x.early (gives_waits x.mid.search (is_ready x.mid.unpiper) (SIZE - x.mid.from) x.mid.line gives) first x.met.shown
+    go held f first (inr (inr gives)) = first_shown front behind (bytes_of held.files name) x.mid x.early
+        (gives_waits x.mid.search (is_ready x.mid.unpiper) (SIZE - x.mid.from) x.mid.line gives) first x.met.shown
 
-pub t2mi_stop : AcceptedFront → PacketsBehind → (start now : T2miLines) (old new : State) (name : List ℕ) (why : ShowStop) → StopsLines (Comes start) next_of old new name now why → shows old new name (Err why)
+pub t2mi_stop : AcceptedFront → PacketsBehind → (start now : T2miLines) (old new : State) (name : List ℕ) (why : ShowStop)
+    → StopsLines (Comes start) next_of old new name now why → shows old new name (Err why)
 t2mi_stop front behind start now old new name (PacketRefused at why) s = absurd s
 t2mi_stop front behind start now old new name (RecordRefused number why) s = absurd s
 t2mi_stop front behind start now old new name TooLong s =
@@ -143,7 +177,8 @@ t2mi_stop front behind start now old new name TooLong s =
       reads = (x.opened, refl);
       grew = x.said;
       lines = if_both old.held _ _ _ (λ held f first. ((let w = f.within in w), first)) x.inputs
-          (some_said front behind start now old new name most_bytes [] x (λ none. reaches_waits now.search (is_ready now.unpiper) (SIZE - now.from) now.line _ t.wants));
+          (some_said front behind start now old new name most_bytes [] x
+          (λ none. reaches_waits now.search (is_ready now.unpiper) (SIZE - now.from) now.line _ t.wants));
       counts = t.counts;
     }
 t2mi_stop front behind start now old new name ReadFault s = elim s.1 [
@@ -163,7 +198,8 @@ t2mi_stop front behind start now old new name ReadFault s = elim s.1 [
         text = gave x.early;
         reads = inr (x.opened, t.short);
         grew = x.said;
-        lines = some_said front behind start now old new name t.place t.unsaid x (λ none. short_waits now.search (is_ready now.unpiper) (SIZE - now.from) now.line _ t.wants);
+        lines = some_said front behind start now old new name t.place t.unsaid x
+            (λ none. short_waits now.search (is_ready now.unpiper) (SIZE - now.from) now.line _ t.wants);
         counts = some.0;
       }
 ]

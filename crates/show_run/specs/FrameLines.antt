@@ -1,5 +1,6 @@
 -- How far the lines of records have come. No public clause cites this module.
-use Rattle.std.specs.Prelude.{◌≡◌, ◌≢◌, ◌⊎◌, ℕ, ◌+◌, nat_lt, Bool, true, false, if◌then◌else◌, List, [], ◌∷◌, ◌++◌, length, min, Result, Ok, Err}
+use Rattle.std.specs.Prelude.{◌≡◌, ◌≢◌, ◌⊎◌, ℕ, ◌+◌, nat_lt, Bool, true, false, if◌then◌else◌, List, [], ◌∷◌, ◌++◌, length, min}
+use Rattle.std.specs.Prelude.{Result, Ok, Err}
 use Rattle.desk_io.specs.declared.input.TheConstants.{BUFFER}
 use Rattle.file_run.specs.Events.{Event, fed, has_ended, gave}
 use Rattle.file_run.specs.declared.machine.Step.{Step}
@@ -9,7 +10,7 @@ use Rattle.site_frame.specs.Whole.{BeginsWith, Refuses}
 use Rattle.site_frame.specs.declared.fault.RecordWhy.{RecordWhy}
 use Rattle.site_frame.specs.declared.reading.RecordView.{RecordView}
 use Rattle.show_run.specs.Front.{most_of}
-use Rattle.site_frame.specs.RecordFile.{AreRecords, Announces}
+use Rattle.site_frame.specs.RecordFile.{AreRecords, Announces, IsBegun}
 use Rattle.show_run.specs.SaidLines.{record_line, record_lines, records_line}
 use Rattle.show_run.specs.declared.frame_lines.Coming.{Coming}
 use Rattle.show_run.specs.declared.frame_lines.Coming.TheVariants.{Head, Rest, Refused, NoRoom, Finished}
@@ -17,7 +18,7 @@ use Rattle.show_run.specs.declared.frame_lines.FrameLines.{FrameLines}
 use Rattle.show_run.specs.declared.stop.ShowStop.{ShowStop}
 use Rattle.show_run.specs.declared.stop.ShowStop.TheVariants as stop
 
--- what is done next where no line waits
+-- what is done next if no line waits
 abbrev pub step_of : Coming → ℕ → ℕ → Step
 step_of Head at left = Read 0 head_len (most_of at head_len)
 step_of Rest at left = Read 0 1 (most_of at (min left BUFFER))
@@ -82,23 +83,21 @@ pub record HasBegun (old new : FrameLines) (head : List ℕ) (rest : ℕ) : Type
 abbrev pub Begins : FrameLines → FrameLines → List ℕ → ℕ → Type 0
 Begins old new head rest = LacksRoom old new ⊎ (SeesHead old new head rest ⊎ HasBegun old new head rest)
 
--- Of a record that is under way so many bytes are lacking.
-pub record IsBegun (bytes : List ℕ) (left : ℕ) : Type 0 where
-  pub len : ℕ
-  pub announces : Announces bytes len
-  pub lacks : length bytes + left ≡ head_len + len
-
--- behind the records that were seen: nothing, the part of a record that came, what is refused whatever follows, a head, or the end
+-- behind the records that were seen: nothing, the part of a record that came, what is refused whatever follows, a head, or the
+-- end
 abbrev pub Behind : Coming → List ℕ → ℕ → List ℕ → Bool → Type 0
 Behind Head bytes left rest ended = (rest ≡ []) × (ended ≡ false)
 Behind Rest bytes left rest ended = (rest ≡ bytes) × IsBegun rest left × (ended ≡ false)
-Behind (Refused why) bytes left rest ended = (rest ≢ []) × ((more : List ℕ) → (ended ≡ true → more ≡ []) → Refuses (rest ++ more) why)
+Behind (Refused why) bytes left rest ended =
+    (rest ≢ []) × ((more : List ℕ) → (ended ≡ true → more ≡ []) → Refuses (rest ++ more) why)
 Behind NoRoom bytes left rest ended = (len : ℕ) × Announces rest len
 Behind Finished bytes left rest ended = (rest ≡ []) × (ended ≡ true)
 
 -- the lines that were given of records: all but those of which the line waits, and last their number
 abbrev pub Given : Coming → List RecordView → List RecordView → List ℕ → List ℕ → Type 0
-Given Finished told next line text = (next ≡ []) × (((line ≡ records_line (length told)) × (text ≡ record_lines 0 told)) ⊎ ((line ≡ []) × (text ≡ record_lines 0 told ++ records_line (length told))))
+Given Finished told next line text =
+    (next ≡ []) × (((line ≡ records_line (length told)) × (text ≡ record_lines 0 told))
+    ⊎ ((line ≡ []) × (text ≡ record_lines 0 told ++ records_line (length told))))
 Given coming told next line text = (text ≡ record_lines 0 told) × (line ≡ record_lines (length told) next)
 
 -- what was done to the lines of records, of which these were told, and these are next

@@ -8,7 +8,8 @@ use Rattle.t2mi_packet.specs.T2miPacket.{Refuses}
 use Rattle.show_run.specs.PacketFile.{Begins}
 use Rattle.show_run.specs.SaidLines.{line_of}
 
--- how far a file may be read from a place on: as far as there is room for, and no further than is wanted if the file is nearly too long
+-- how far a file may be read from a place on: as far as there is room for, and no further than is wanted if the file is nearly
+-- too long
 abbrev pub most_of : ℕ → ℕ → ℕ
 most_of at wanted = if nat_lt (at + BUFFER) most_bytes then BUFFER else wanted
 

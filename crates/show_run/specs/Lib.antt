@@ -1,12 +1,13 @@
 pub mod Front
-pub mod FrameLines
 pub mod Laws
 pub mod PacketFile
-pub mod PacketLines
 pub mod PacketText
 pub mod RecordText
 pub mod SaidLines
 pub mod Shows
+pub mod T2miText
+-- inner: no public clause cites these
+pub mod FrameLines
+pub mod PacketLines
 pub mod Told
 pub mod T2miLines
-pub mod T2miText

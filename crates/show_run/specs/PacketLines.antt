@@ -1,5 +1,6 @@
 -- How far the lines of packets have come that stand back to back. No public clause cites this module.
-use Rattle.std.specs.Prelude.{◌≡◌, ◌⊎◌, ℕ, ◌+◌, ◌*◌, ◌≤◌, nat_lt, Bool, true, false, if◌then◌else◌, List, [], ◌∷◌, ◌++◌, length, Result, Ok, Err}
+use Rattle.std.specs.Prelude.{◌≡◌, ◌⊎◌, ℕ, ◌+◌, ◌*◌, ◌≤◌, nat_lt, Bool, true, false, if◌then◌else◌, List, [], ◌∷◌, ◌++◌, length}
+use Rattle.std.specs.Prelude.{Result, Ok, Err}
 use Rattle.t2mi_packet.specs.declared.reading.TheConstants.{LARGEST}
 use Rattle.file_run.specs.Events.{Event, fed, has_ended, gave}
 use Rattle.file_run.specs.declared.machine.Step.{Step}
@@ -13,7 +14,7 @@ use Rattle.show_run.specs.declared.packet_lines.PacketLines.{PacketLines}
 use Rattle.show_run.specs.declared.packet_lines.Phase.{Phase}
 use Rattle.show_run.specs.declared.packet_lines.Phase.TheVariants.{Reads, Ends, Refused, Finished}
 
--- what is done next where no line waits
+-- what is done next if no line waits
 abbrev pub step_of : Phase → ℕ → Step
 step_of Reads at = Read 0 LARGEST (most_of at LARGEST)
 step_of Ends at = Give
@@ -44,7 +45,10 @@ Behind Finished last rest ended = (rest ≡ []) × (ended ≡ true)
 
 -- the lines that were given of packets: all but those of which the line waits, and last their number
 abbrev pub Given : Phase → List (List ℕ) → List (List ℕ) → List ℕ → List ℕ → Type 0
-Given Finished told next line text = (next ≡ []) × (((line ≡ count_line (length told)) × (text ≡ lines_of 0 told)) ⊎ ((line ≡ []) × (text ≡ lines_of 0 told ++ count_line (length told))))
+Given Finished told next line text =
+    (next ≡ [])
+    × (((line ≡ count_line (length told)) × (text ≡ lines_of 0 told))
+    ⊎ ((line ≡ []) × (text ≡ lines_of 0 told ++ count_line (length told))))
 Given phase told next line text = (text ≡ lines_of 0 told) × (line ≡ lines_of (bytes_in told) next)
 
 -- what was done to the lines of packets, of which these were told, and these are next

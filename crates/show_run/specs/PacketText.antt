@@ -6,7 +6,8 @@ use Rattle.t2mi_packet.specs.declared.reading.TheConstants.{LARGEST}
 use Rattle.show_run.specs.PacketFile.{Packs, bytes_in, IsRefused}
 use Rattle.show_run.specs.SaidLines.{lines_of, count_line}
 use Rattle.show_run.specs.declared.stop.ShowStop.{ShowStop}
-use Rattle.show_run.specs.declared.stop.ShowStop.TheVariants.{PacketRefused, RecordRefused, TooLong, ReadFault, WriteFault, OutOfMemory, NoRoom}
+use Rattle.show_run.specs.declared.stop.ShowStop.TheVariants.{PacketRefused, RecordRefused, TooLong, ReadFault, WriteFault}
+use Rattle.show_run.specs.declared.stop.ShowStop.TheVariants.{OutOfMemory, NoRoom}
 
 -- The text is the lines of some packets with which the file begins.
 abbrev pub AreFirst : List ℕ → List ℕ → Type 0
@@ -14,22 +15,29 @@ AreFirst file text = (packets : List (List ℕ)) × (rest : List ℕ) × Packs f
 
 -- Of so many bytes that were read, packets were met that end within the length of a packet: so no refused one was met.
 abbrev pub MeetsPackets : List ℕ → ℕ → Type 0
-MeetsPackets file given = (packets : List (List ℕ)) × (rest : List ℕ) × Packs file packets rest × (given ≤ bytes_in packets + LARGEST)
+MeetsPackets file given = (packets : List (List ℕ)) × (rest : List ℕ) × Packs file packets rest
+    × (given ≤ bytes_in packets + LARGEST)
 
 -- The same, and the text is the lines of these packets.
 abbrev pub SaysMet : List ℕ → ℕ → List ℕ → Type 0
-SaysMet file given text = (packets : List (List ℕ)) × (rest : List ℕ) × Packs file packets rest × (given ≤ bytes_in packets + LARGEST) × (text ≡ lines_of 0 packets)
+SaysMet file given text = (packets : List (List ℕ)) × (rest : List ℕ) × Packs file packets rest
+    × (given ≤ bytes_in packets + LARGEST) × (text ≡ lines_of 0 packets)
 
--- The text is the lines of some packets, and not all that is due: behind them stands another packet, or the file ends and lacks its number.
+-- The text is the lines of some packets, and not all that is due: behind them stands another packet, or the file ends and lacks
+-- its number.
 abbrev pub LeavesSome : List ℕ → List ℕ → Type 0
-LeavesSome file text = (packets : List (List ℕ)) × (rest : List ℕ) × Packs file packets rest × ((why : PacketWhy) → ¬ (IsRefused rest why)) × (text ≡ lines_of 0 packets)
+LeavesSome file text = (packets : List (List ℕ)) × (rest : List ℕ) × Packs file packets rest
+    × ((why : PacketWhy) → ¬ (IsRefused rest why)) × (text ≡ lines_of 0 packets)
 
--- The text by outcome: the lines of all packets and their number; the lines of those before what is no packet; or those of the first.
+-- The text by outcome: the lines of all packets and their number; the lines of those before what is no packet; or those of the
+-- first.
 abbrev pub IsPacketText : List ℕ → ℕ → Result ℕ ShowStop → List ℕ → Type 0
 IsPacketText file given (Ok count) text =
-    (packets : List (List ℕ)) × Packs file packets [] × (count ≡ length packets) × (text ≡ lines_of 0 packets ++ count_line count) × (given ≡ length file)
+    (packets : List (List ℕ)) × Packs file packets [] × (count ≡ length packets) × (text ≡ lines_of 0 packets ++ count_line count)
+    × (given ≡ length file)
 IsPacketText file given (Err (PacketRefused at why)) text =
-    (packets : List (List ℕ)) × (rest : List ℕ) × Packs file packets rest × IsRefused rest why × (at ≡ bytes_in packets) × (text ≡ lines_of 0 packets)
+    (packets : List (List ℕ)) × (rest : List ℕ) × Packs file packets rest × IsRefused rest why × (at ≡ bytes_in packets)
+    × (text ≡ lines_of 0 packets)
 IsPacketText file given (Err (RecordRefused number why)) text = ⊥
 IsPacketText file given (Err TooLong) text = (most_bytes ≤ length file) × SaysMet file given text
 IsPacketText file given (Err ReadFault) text = MeetsPackets file given × AreFirst file text

@@ -6,7 +6,8 @@ use Rattle.site_frame.specs.declared.reading.RecordView.{RecordView}
 use Rattle.site_frame.specs.RecordFile.{AreRecords, IsNoRecord, Announces, EndsWithin, bytes_before}
 use Rattle.show_run.specs.SaidLines.{record_lines, records_line}
 use Rattle.show_run.specs.declared.stop.ShowStop.{ShowStop}
-use Rattle.show_run.specs.declared.stop.ShowStop.TheVariants.{PacketRefused, RecordRefused, TooLong, ReadFault, WriteFault, OutOfMemory, NoRoom}
+use Rattle.show_run.specs.declared.stop.ShowStop.TheVariants.{PacketRefused, RecordRefused, TooLong, ReadFault, WriteFault}
+use Rattle.show_run.specs.declared.stop.ShowStop.TheVariants.{OutOfMemory, NoRoom}
 
 -- The text is the lines of some records with which the file begins, and then comes a rest.
 abbrev pub SaysFirst : List ℕ → List RecordView → List ℕ → List ℕ → Type 0
@@ -15,24 +16,30 @@ SaysFirst file views rest text = AreRecords file views rest × (text ≡ record_
 abbrev pub AreFirstRecords : List ℕ → List ℕ → Type 0
 AreFirstRecords file text = (views : List RecordView) × (rest : List ℕ) × SaysFirst file views rest text
 
--- Of so many bytes that were read, records were met, and of the next one some bytes were not read, since a byte more would end within it
--- too: so no refused one was met.
+-- Of so many bytes that were read, records were met, and of the next one some bytes were not read, since a byte more would end
+-- within it too: so no refused one was met.
 abbrev pub MeetsRecords : List ℕ → ℕ → Type 0
-MeetsRecords file given = (views : List RecordView) × (rest : List ℕ) × AreRecords file views rest × EndsWithin rest (given - bytes_before file rest + 1)
+MeetsRecords file given = (views : List RecordView) × (rest : List ℕ) × AreRecords file views rest
+    × EndsWithin rest (given - bytes_before file rest + 1)
 
--- Records were met, of which the text is the lines, and what was read behind them ends within the next one, at which nobody looked.
+-- Records were met, of which the text is the lines, and what was read behind them ends within the next one, at which nobody
+-- looked.
 abbrev pub SaysMetRecords : List ℕ → ℕ → List ℕ → Type 0
-SaysMetRecords file given text = (views : List RecordView) × (rest : List ℕ) × SaysFirst file views rest text × EndsWithin rest (given - bytes_before file rest)
+SaysMetRecords file given text = (views : List RecordView) × (rest : List ℕ) × SaysFirst file views rest text
+    × EndsWithin rest (given - bytes_before file rest)
 
--- The text is the lines of some records, and not all that is due: behind them stands another record, or the file ends and lacks its number.
+-- The text is the lines of some records, and not all that is due: behind them stands another record, or the file ends and lacks
+-- its number.
 abbrev pub LeavesRecords : List ℕ → List ℕ → Type 0
-LeavesRecords file text = (views : List RecordView) × (rest : List ℕ) × SaysFirst file views rest text × ((why : RecordWhy) → ¬ (IsNoRecord rest why))
+LeavesRecords file text = (views : List RecordView) × (rest : List ℕ) × SaysFirst file views rest text
+    × ((why : RecordWhy) → ¬ (IsNoRecord rest why))
 
--- The text by outcome: the lines of all records and their number; the lines of those before what is no record, or before one for which there
--- was no memory; or those of the first.
+-- The text by outcome: the lines of all records and their number; the lines of those before what is no record, or before one for
+-- which there was no memory; or those of the first.
 abbrev pub IsRecordText : List ℕ → ℕ → Result ℕ ShowStop → List ℕ → Type 0
 IsRecordText file given (Ok count) text =
-    (views : List RecordView) × AreRecords file views [] × (count ≡ length views) × (text ≡ record_lines 0 views ++ records_line count) × (given ≡ length file)
+    (views : List RecordView) × AreRecords file views [] × (count ≡ length views)
+    × (text ≡ record_lines 0 views ++ records_line count) × (given ≡ length file)
 IsRecordText file given (Err (PacketRefused at why)) text = ⊥
 IsRecordText file given (Err (RecordRefused number why)) text =
     (views : List RecordView) × (rest : List ℕ) × SaysFirst file views rest text × IsNoRecord rest why × (number ≡ length views)
@@ -40,4 +47,5 @@ IsRecordText file given (Err TooLong) text = (most_bytes ≤ length file) × Say
 IsRecordText file given (Err ReadFault) text = MeetsRecords file given × AreFirstRecords file text
 IsRecordText file given (Err WriteFault) text = LeavesRecords file text
 IsRecordText file given (Err OutOfMemory) text = text ≡ []
-IsRecordText file given (Err NoRoom) text = (views : List RecordView) × (rest : List ℕ) × SaysFirst file views rest text × ((len : ℕ) × Announces rest len)
+IsRecordText file given (Err NoRoom) text = (views : List RecordView) × (rest : List ℕ) × SaysFirst file views rest text
+    × ((len : ℕ) × Announces rest len)

@@ -6,7 +6,8 @@ use Rattle.desk_io.specs.Reading.{most_bytes}
 use Rattle.file_run.specs.Telling.{ReadsFailFirst}
 use Rattle.desk_io.specs.Opening.{Opened, Unopened}
 use Rattle.show_run.specs.declared.stop.ShowStop.{ShowStop}
-use Rattle.show_run.specs.declared.stop.ShowStop.TheVariants.{PacketRefused, RecordRefused, TooLong, ReadFault, WriteFault, OutOfMemory, NoRoom}
+use Rattle.show_run.specs.declared.stop.ShowStop.TheVariants.{PacketRefused, RecordRefused, TooLong, ReadFault, WriteFault}
+use Rattle.show_run.specs.declared.stop.ShowStop.TheVariants.{OutOfMemory, NoRoom}
 
 -- What was opened and read, by outcome. Memory runs out before, if it does; that for a record runs out behind its head.
 abbrev pub ReadsFile : State → State → List ℕ → ℕ → Result ℕ ShowStop → Type 0
@@ -14,7 +15,8 @@ ReadsFile old new name given (Ok count) = Opened old new name given × (given < 
 ReadsFile old new name given (Err (PacketRefused at why)) = Opened old new name given × (given < most_bytes)
 ReadsFile old new name given (Err (RecordRefused number why)) = Opened old new name given × (given < most_bytes)
 ReadsFile old new name given (Err TooLong) = Opened old new name given × (given ≡ most_bytes)
-ReadsFile old new name given (Err ReadFault) = (Unopened old new × (given ≡ 0)) ⊎ (Opened old new name given × (given < most_bytes))
+ReadsFile old new name given (Err ReadFault) = (Unopened old new × (given ≡ 0))
+    ⊎ (Opened old new name given × (given < most_bytes))
 ReadsFile old new name given (Err WriteFault) = Opened old new name given × (given ≤ most_bytes)
 ReadsFile old new name given (Err OutOfMemory) = new ≡ old
 ReadsFile old new name given (Err NoRoom) = Opened old new name given × (given < most_bytes)
@@ -25,9 +27,10 @@ Counted old new (Err ReadFault) = ReadsFailFirst old new
 Counted old new (Err WriteFault) = WritesFail old new
 Counted old new result = SameCounts old new
 
--- A run over a named file, of which so many bytes were read. Standard output grew by this text, whatever the desk tells, and by the text
--- that a definition asks for, by the file's bytes, how many were read, and the outcome.
-pub record Shows (IsText : List ℕ → ℕ → Result ℕ ShowStop → List ℕ → Type 0) (old new : State) (name : List ℕ) (result : Result ℕ ShowStop) : Type 0 where
+-- A run over a named file, of which so many bytes were read. Standard output grew by this text, whatever the desk tells, and by
+-- the text that a definition asks for, by the file's bytes, how many were read, and the outcome.
+pub record Shows (IsText : List ℕ → ℕ → Result ℕ ShowStop → List ℕ → Type 0) (old new : State) (name : List ℕ)
+    (result : Result ℕ ShowStop) : Type 0 where
   pub given : ℕ
   pub text : List ℕ
   pub reads : ReadsFile old new name given result

@@ -1,5 +1,6 @@
 -- How far the lines of packets have come that stand in units. No public clause cites this module.
-use Rattle.std.specs.Prelude.{◌≡◌, ◌⊎◌, ℕ, ◌+◌, ◌-◌, ◌*◌, ◌≤◌, nat_lt, Bool, true, false, if◌then◌else◌, List, [], ◌∷◌, ◌++◌, length, map, take, drop, Some}
+use Rattle.std.specs.Prelude.{◌≡◌, ◌⊎◌, ℕ, ◌+◌, ◌-◌, ◌*◌, ◌≤◌, nat_lt, Bool, true, false, if◌then◌else◌, List, [], ◌∷◌, ◌++◌}
+use Rattle.std.specs.Prelude.{length, map, take, drop, Some}
 use Rattle.desk_io.specs.declared.input.TheConstants.{BUFFER}
 use Rattle.ts_packet.specs.declared.sizes.TheConstants.{SIZE}
 use Rattle.ts_packet.specs.Told.{fields_in}
@@ -19,7 +20,7 @@ use Rattle.show_run.specs.declared.t2mi_lines.T2miLines.{T2miLines}
 use Rattle.show_run.specs.declared.t2mi_lines.Search.{Search}
 use Rattle.show_run.specs.declared.t2mi_lines.Search.TheVariants.{Seeks, Unpipes, Finished}
 
--- what is done next where the packets are looked for
+-- what is done next if the packets are looked for
 abbrev pub step_of : Bool → ℕ → Step
 step_of true left = Give
 step_of false left = if nat_lt 0 left then Give else Read 0 1 BUFFER
@@ -60,8 +61,8 @@ pub record Seeking (m : T2miLines) (front text : List ℕ) (ended : Bool) : Type
   pub number : m.count ≡ 0
   pub idle : m.line ≡ []
 
--- Behind units that tell no PID stands one that tells it, and the unpiper took the bytes from there on but for the last of that unit; the
--- lines of so many packets were given.
+-- Behind units that tell no PID stands one that tells it, and the unpiper took the bytes from there on but for the last of that
+-- unit; the lines of so many packets were given.
 pub record Unpiping (m : T2miLines) (all text : List ℕ) (ended : Bool) : Type 0 where
   pub front : List ℕ
   pub bytes : List ℕ
@@ -84,7 +85,8 @@ pub record Unpiping (m : T2miLines) (all text : List ℕ) (ended : Bool) : Type 
 pub record Ending (m : T2miLines) (all text : List ℕ) (ended : Bool) : Type 0 where
   pub over : ended ≡ true
   pub number : m.count ≡ length (t2mi_packets_in all)
-  pub lines : ((m.line ≡ count_line m.count) × (text ≡ place_lines (t2mi_packets_in all))) ⊎ ((m.line ≡ []) × (text ≡ place_lines (t2mi_packets_in all) ++ count_line m.count))
+  pub lines : ((m.line ≡ count_line m.count) × (text ≡ place_lines (t2mi_packets_in all)))
+      ⊎ ((m.line ≡ []) × (text ≡ place_lines (t2mi_packets_in all) ++ count_line m.count))
 
 abbrev pub Found : Search → T2miLines → List ℕ → List ℕ → Bool → Type 0
 Found Seeks m all text ended = Seeking m all text ended

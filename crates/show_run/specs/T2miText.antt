@@ -6,7 +6,8 @@ use Rattle.t2mi_stream.specs.Accepted.{AcceptedPacket}
 use Rattle.t2mi_stream.specs.FirstPid.{t2mi_packets_in}
 use Rattle.show_run.specs.SaidLines.{view_line, count_line}
 use Rattle.show_run.specs.declared.stop.ShowStop.{ShowStop}
-use Rattle.show_run.specs.declared.stop.ShowStop.TheVariants.{PacketRefused, RecordRefused, TooLong, ReadFault, WriteFault, OutOfMemory, NoRoom}
+use Rattle.show_run.specs.declared.stop.ShowStop.TheVariants.{PacketRefused, RecordRefused, TooLong, ReadFault, WriteFault}
+use Rattle.show_run.specs.declared.stop.ShowStop.TheVariants.{OutOfMemory, NoRoom}
 
 -- the line of a packet, by its place and the fields of its bytes
 abbrev pub place_line : AcceptedPacket → List ℕ
@@ -17,12 +18,14 @@ place_lines packets = flat_map place_line packets
 
 -- The packets begin with some, and the text is their lines.
 abbrev pub AreFirstLines : List AcceptedPacket → List ℕ → Type 0
-AreFirstLines packets text = (first : List AcceptedPacket) × (others : List AcceptedPacket) × (packets ≡ first ++ others) × (text ≡ place_lines first)
+AreFirstLines packets text = (first : List AcceptedPacket) × (others : List AcceptedPacket) × (packets ≡ first ++ others)
+    × (text ≡ place_lines first)
 
 -- The text by outcome: the lines of all packets and their number, or the lines of the first.
 abbrev pub IsT2miText : List ℕ → ℕ → Result ℕ ShowStop → List ℕ → Type 0
 IsT2miText file given (Ok count) text =
-    (count ≡ length (t2mi_packets_in file)) × (text ≡ place_lines (t2mi_packets_in file) ++ count_line count) × (given ≡ length file)
+    (count ≡ length (t2mi_packets_in file)) × (text ≡ place_lines (t2mi_packets_in file) ++ count_line count)
+    × (given ≡ length file)
 IsT2miText file given (Err (PacketRefused at why)) text = ⊥
 IsT2miText file given (Err (RecordRefused number why)) text = ⊥
 IsT2miText file given (Err TooLong) text = (most_bytes ≤ length file) × AreFirstLines (t2mi_packets_in file) text

@@ -6,7 +6,8 @@ use Rattle.file_run.specs.Telling.{StopsTelling}
 use Rattle.file_run.specs.declared.machine.Step.{Step}
 use Rattle.file_run.specs.declared.stop.RunFault.TheVariants as fault
 use Rattle.show_run.specs.declared.stop.ShowStop.{ShowStop}
-use Rattle.show_run.specs.declared.stop.ShowStop.TheVariants.{PacketRefused, RecordRefused, TooLong, ReadFault, WriteFault, OutOfMemory, NoRoom}
+use Rattle.show_run.specs.declared.stop.ShowStop.TheVariants.{PacketRefused, RecordRefused, TooLong, ReadFault, WriteFault}
+use Rattle.show_run.specs.declared.stop.ShowStop.TheVariants.{OutOfMemory, NoRoom}
 
 -- Why the lines were not told to the end.
 abbrev pub StopsLines : {A : Type 0} → (List Event → A → Type 0) → (A → Step) → State → State → List ℕ → A → ShowStop → Type 0

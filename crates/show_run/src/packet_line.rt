@@ -43,7 +43,7 @@ pub fn packet_line(key: &[u8], at: u64, packet: &PacketView<'_>) -> Line
     let mut line = Line::new();
     line.push_field(key, at);
     line.push(b" type=");
-    line.push_hex(&[packet.kind]);
+    line.push_hex(&[packet.packet_type]);
     line.push_field(b" count=", u64::from(packet.count));
     line.push_field(b" superframe=", u64::from(packet.superframe));
     line.push_field(b" stream=", u64::from(packet.stream));

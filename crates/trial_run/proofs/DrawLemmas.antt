@@ -21,7 +21,8 @@ after_more n x = let e : n + 1 ≡ suc n = omega arith in ap (λ (m : ℕ). afte
 pub after_first : (n x : ℕ) → after (n + 1) x ≡ after n (after_one x)
 unfolding after
 after_first zero x = let e : 0 + 1 ≡ suc 0 = omega arith in ap (λ (m : ℕ). after m x) e
-after_first (suc n) x = after_more (suc n) x ∙ ap after_one (let e : n + 1 ≡ suc n = omega arith in sym (ap (λ (m : ℕ). after m x) e) ∙ after_first n x)
+after_first (suc n) x = after_more (suc n) x ∙ ap after_one (let e : n + 1 ≡ suc n = omega arith in
+    sym (ap (λ (m : ℕ). after m x) e) ∙ after_first n x)
 
 pub bytes_more : (n x : ℕ) → bytes_from (n + 1) x ≡ bytes_from n x ++ (drawn (after n x) % BYTE_VALUES) ∷ []
 unfolding bytes_from draws_from
@@ -31,10 +32,12 @@ bytes_more n x =
     ap (map g) (map-range_with_len_more f 0 n n (omega arith)) ∙ map-append g (map f (range_with_len 0 n)) (f n ∷ [])
 
 -- one byte more behind others
-pub byte_pushed : (old was now : List ℕ) (n x before later draw : ℕ) → was ≡ old ++ bytes_from n x → before ≡ after n x → draw ≡ drawn before → now ≡ was ++ (draw % BYTE_VALUES) ∷ [] → later ≡ after_one before
+pub byte_pushed : (old was now : List ℕ) (n x before later draw : ℕ) → was ≡ old ++ bytes_from n x → before ≡ after n x
+    → draw ≡ drawn before → now ≡ was ++ (draw % BYTE_VALUES) ∷ [] → later ≡ after_one before
     → (now ≡ old ++ bytes_from (n + 1) x) × (later ≡ after (n + 1) x)
 byte_pushed old was now n x before later draw was_is before_is draw_is now_is later_is = (
-  now_is ∙ rw (was_is, draw_is, before_is) (append_assoc old (bytes_from n x) ((drawn (after n x) % BYTE_VALUES) ∷ [])) ∙ ap (λ (l : List ℕ). old ++ l) (sym (bytes_more n x)),
+  now_is ∙ rw (was_is, draw_is, before_is) (append_assoc old (bytes_from n x) ((drawn (after n x) % BYTE_VALUES) ∷ []))
+      ∙ ap (λ (l : List ℕ). old ++ l) (sym (bytes_more n x)),
   later_is ∙ ap after_one before_is ∙ sym (after_more n x),
 )
 
@@ -46,4 +49,5 @@ pub packets_more : (plp n x : ℕ) → packets_from plp (n + 1) x ≡ packets_fr
 unfolding packets_from
 packets_more plp n x =
     let f : ℕ → List ℕ = λ number. packet_from plp number (behind number x) in
-    ap (flat_map f) (places_more n) ∙ flat_map-append f (range_with_len 0 n) (n ∷ []) ∙ ap (λ (l : List ℕ). flat_map f (range_with_len 0 n) ++ l) (append-nil (f n))
+    ap (flat_map f) (places_more n) ∙ flat_map-append f (range_with_len 0 n) (n ∷ [])
+    ∙ ap (λ (l : List ℕ). flat_map f (range_with_len 0 n) ++ l) (append-nil (f n))

@@ -1,16 +1,15 @@
 -- Runs over desks in memory: what such a desk holds at first, and what a run leaves on it.
-use Rattle.std.proofs.Common.{◌≡◌, ℕ, zero, suc, ◌+◌, ◌*◌, ◌<◌, List, [], ◌∷◌, codes, length, Option, Some, None, refl, ap, sym, subst, ◌∙◌, arith, ◌≢◌, map, get_or, Vec, Global}
-use Rattle.std.specs.Prelude.{IfSome, unwrap_or, option_and_then, slice_index_or}
+use Rattle.std.proofs.Common.{◌≡◌, ℕ, zero, suc, ◌<◌, List, [], ◌∷◌, codes, length, Option, Some, refl, ap, sym, subst, ◌∙◌}
+use Rattle.std.proofs.Common.{arith, ◌≢◌, map, get_or, Vec, Global}
+use Rattle.std.specs.Prelude.{unwrap_or, option_and_then, slice_index_or}
 use Rattle.std.specs.List.{range_with_len}
 use Rattle.std.proofs.lemmas.List.{get_or-map, length-map}
 use Rattle.std.proofs.lemmas.List.FromFn.{length-map-range_with_len, get_or-map-range_with_len}
 use Rattle.std.specs.FinMap.{empty, insert, get}
 use Rattle.ports.proofs.WriteLemmas.{get_set, get_other}
-use Rattle.ports.specs.Desk.{State, Held, Files, bytes_of, file_of}
+use Rattle.ports.specs.Desk.{State, Held, Files, file_of}
 use Rattle.ports.specs.MemoryDesk.{Memory, empty_memory, with_file}
 use Rattle.plp_config.specs.Capacity.{IsPlan}
-use Rattle.plp_config.specs.RunLength.{last_tick, frame_count}
-use Rattle.plp_config.specs.SlotTime.{start, delay}
 use Rattle.plp_config.specs.declared.config.Config.{Config}
 use Rattle.mode_adapt.specs.Deletion.{packet_at}
 use Rattle.ts_packet.specs.TsFile.{packets_in, joined}
@@ -24,14 +23,19 @@ use Rattle.modulate_run.specs.ModulateRun.{RunsAll as ModulatorRuns, output_of, 
 use Rattle.modulate_run.specs.declared.stop.Ran.{Ran}
 use Rattle.receive_run.specs.ReceiveRun.{RunsAll as ReceiverRuns, HasAll}
 use Rattle.receive_run.specs.declared.stop.Ran.{Ran as Received}
-use Rattle.trial_run.specs.Stages.{HasFile, HasInputs, AreFiles, IsSent, input_names}
+use Rattle.trial_run.specs.Stages.{HasFile, HasInputs, IsSent, input_names}
 use Rattle.trial_run.specs.Trial.{ComesOf}
 use Rattle.trial_run.specs.declared.stages.Sent.{Sent}
+use Rattle.gateway_core.proofs.LawLemmas.{frame_count_same}
 
 pub has_file : (name bytes : List ℕ) (m : Memory) → m ≡ with_file name bytes empty_memory → HasFile m.state name bytes
 has_file name bytes m is =
     subst (λ (m : Memory). HasFile m.state name bytes) (sym is)
-    (record { held = record { files = insert empty name bytes; names = []; outs = [] }; holds = refl; is = ap (λ (o : Option (List ℕ)). unwrap_or o []) (get_set empty name bytes) })
+    (record {
+      held = record { files = insert empty name bytes; names = []; outs = [] };
+      holds = refl;
+      is = ap (λ (o : Option (List ℕ)). unwrap_or o []) (get_set empty name bytes);
+    })
 
 -- the digits that name the inputs differ
 apart : (a b : ℕ) → a ≢ b → a ∷ [] ≢ b ∷ []
@@ -44,13 +48,15 @@ module _ (one two three : List ℕ) where
 
   first : get files (codes "0") ≡ Some one
   first =
-      get_other (insert (insert empty (codes "0") one) (codes "1") two) (codes "2") three (codes "0") (apart 48 50 (λ e. omega (arith, e)))
+      get_other (insert (insert empty (codes "0") one) (codes "1") two) (codes "2") three (codes "0")
+      (apart 48 50 (λ e. omega (arith, e)))
       ∙ get_other (insert empty (codes "0") one) (codes "1") two (codes "0") (apart 48 49 (λ e. omega (arith, e)))
       ∙ get_set empty (codes "0") one
 
   second : get files (codes "1") ≡ Some two
   second =
-      get_other (insert (insert empty (codes "0") one) (codes "1") two) (codes "2") three (codes "1") (apart 49 50 (λ e. omega (arith, e)))
+      get_other (insert (insert empty (codes "0") one) (codes "1") two) (codes "2") three (codes "1")
+      (apart 49 50 (λ e. omega (arith, e)))
       ∙ get_set (insert empty (codes "0") one) (codes "1") two
 
   third : get files (codes "2") ≡ Some three
@@ -59,24 +65,31 @@ module _ (one two three : List ℕ) where
   abbrev desk : Held
   desk = record { files = files; names = []; outs = [] }
 
-  stand : (given : ℕ → List ℕ) → one ≡ given 0 → two ≡ given 1 → three ≡ given 2 → (plp : ℕ) → plp < 3 → file_at desk input_names plp ≡ given plp
+  stand : (given : ℕ → List ℕ) → one ≡ given 0 → two ≡ given 1 → three ≡ given 2 → (plp : ℕ) → plp < 3
+      → file_at desk input_names plp ≡ given plp
   stand given a b c zero small = ap (λ (o : Option (List ℕ)). unwrap_or o []) first ∙ a
   stand given a b c (suc zero) small = ap (λ (o : Option (List ℕ)). unwrap_or o []) second ∙ b
   stand given a b c (suc (suc zero)) small = ap (λ (o : Option (List ℕ)). unwrap_or o []) third ∙ c
   stand given a b c (suc (suc (suc plp))) small = absurd (omega (arith, small))
 
-pub has_inputs : (given : ℕ → List ℕ) (m : Memory) (one two three : List ℕ) → m ≡ with_file (codes "2") three (with_file (codes "1") two (with_file (codes "0") one empty_memory))
+pub has_inputs : (given : ℕ → List ℕ) (m : Memory) (one two three : List ℕ)
+    → m ≡ with_file (codes "2") three (with_file (codes "1") two (with_file (codes "0") one empty_memory))
     → one ≡ given 0 → two ≡ given 1 → three ≡ given 2 → HasInputs m.state given
 has_inputs given m one two three is a b c =
-    subst (λ (m : Memory). HasInputs m.state given) (sym is) (record { held = desk one two three; holds = refl; are = stand one two three given a b c })
+    subst (λ (m : Memory). HasInputs m.state given) (sym is)
+    (record { held = desk one two three; holds = refl; are = stand one two three given a b c })
 
 -- the bytes of one of three inputs
-pub given_at : (given : ℕ → List ℕ) (inputs : List (Vec ℕ Global)) (n plp : ℕ) (input : Vec ℕ Global) → map (λ input. input.items) inputs ≡ map given (range_with_len 0 n) → plp < n → input ≡ slice_index_or inputs plp input
+pub given_at : (given : ℕ → List ℕ) (inputs : List (Vec ℕ Global)) (n plp : ℕ) (input : Vec ℕ Global)
+    → map (λ input. input.items) inputs ≡ map given (range_with_len 0 n) → plp < n → input ≡ slice_index_or inputs plp input
     → input.items ≡ given plp
 given_at given inputs n plp input are small is =
     let f : Vec ℕ Global → List ℕ = λ v. v.items in
-    let long : length inputs ≡ n = sym (length-map inputs f) ∙ ap (λ (l : List (List ℕ)). length l) are ∙ length-map-range_with_len given 0 n in
-    ap f is ∙ sym (get_or-map f inputs plp input [] (omega (arith, small, long))) ∙ ap (λ (l : List (List ℕ)). slice_index_or l plp []) are ∙ get_or-map-range_with_len given 0 n plp plp [] small (omega arith)
+    let long : length inputs ≡ n = sym (length-map inputs f) ∙ ap (λ (l : List (List ℕ)). length l) are
+    ∙ length-map-range_with_len given 0 n in
+    ap f is ∙ sym (get_or-map f inputs plp input [] (omega (arith, small, long)))
+    ∙ ap (λ (l : List (List ℕ)). slice_index_or l plp []) are ∙ get_or-map-range_with_len given 0 n plp plp [] small
+    (omega arith)
 
 -- What a run wrote, by what the desk held.
 pub record Written (new : State) (out : List ℕ) (Has : List ℕ → Type 0) : Type 0 where
@@ -84,52 +97,58 @@ pub record Written (new : State) (out : List ℕ) (Has : List ℕ → Type 0) : 
   pub is : unwrap_or (file_of new out) [] ≡ bytes
   pub has : Has bytes
 
-pub written : (old new : State) (out : List ℕ) (ins : List (List ℕ)) (places : List ℕ) (Has : Held → List ℕ → Type 0) (h : Held) → old.held ≡ Some h → Works old new out ins places Has → Written new out (Has h)
+pub written : (old new : State) (out : List ℕ) (ins : List (List ℕ)) (places : List ℕ) (Has : Held → List ℕ → Type 0) (h : Held)
+    → old.held ≡ Some h → Works old new out ins places Has → Written new out (Has h)
 written old new out ins places Has h holds works =
     let left = rw holds at works.holds in
-    record { bytes = left.2.0; is = ap (λ (held : Option Held). unwrap_or (option_and_then (λ h. get h.files out) held) []) left.1 ∙ ap (λ (o : Option (List ℕ)). unwrap_or o []) left.2.1; has = left.2.2 }
+    record {
+      bytes = left.2.0;
+      is = ap (λ (held : Option Held). unwrap_or (option_and_then (λ h. get h.files out) held) []) left.1
+          ∙ ap (λ (o : Option (List ℕ)). unwrap_or o []) left.2.1;
+      has = left.2.2;
+    }
 
-pub modulated : (c : Config) (old new : State) (name out stream records : List ℕ) (ran : Ran) → HasFile old name stream → ModulatorRuns c old new name out ran → records ≡ unwrap_or (file_of new out) []
+pub modulated : (c : Config) (old new : State) (name out stream records : List ℕ) (ran : Ran) → HasFile old name stream
+    → ModulatorRuns c old new name out ran → records ≡ unwrap_or (file_of new out) []
     → (records ≡ output_of c stream) × (ran ≡ counted (records_of c stream))
 modulated c old new name out stream records ran has runs is =
     let left = written old new out (name ∷ []) _ _ has.held has.holds runs.works in
     let counts = rw has.holds at runs.ran_is in
     (is ∙ left.is ∙ left.has ∙ ap (output_of c) has.is, counts ∙ ap (λ (s : List ℕ). counted (records_of c s)) has.is)
 
-pub received : (c : Config) (plp : ℕ) (old new : State) (name out records bytes : List ℕ) (ran : Received) → HasFile old name records → ReceiverRuns c plp old new name out ran → bytes ≡ unwrap_or (file_of new out) []
+pub received : (c : Config) (plp : ℕ) (old new : State) (name out records bytes : List ℕ) (ran : Received)
+    → HasFile old name records → ReceiverRuns c plp old new name out ran → bytes ≡ unwrap_or (file_of new out) []
     → ComesOf c plp records bytes
 received c plp old new name out records bytes ran has runs is =
-    let left = written old new out (name ∷ []) _ _ has.held has.holds runs.works in
-    (ran, subst (λ (b : List ℕ). HasAll c plp ran records b) (sym (is ∙ left.is)) (subst (λ (file : List ℕ). HasAll c plp ran file left.bytes) has.is left.has))
+    let left = written old new out (name ∷ []) _ _ has.held has.holds runs.works in (
+      ran,
+      subst (λ (b : List ℕ). HasAll c plp ran records b) (sym (is ∙ left.is))
+          (subst (λ (file : List ℕ). HasAll c plp ran file left.bytes) has.is left.has),
+    )
 
 -- ---- the same inputs, the same stream
 
-last_same : (c : Config) (f g : ℕ → ℕ) (n : ℕ) → ((plp : ℕ) → plp < n → f plp ≡ g plp) → last_tick c f n ≡ last_tick c g n
-unfolding last_tick
-last_same c f g zero same = refl
-last_same c f g (suc n) same = rw (same n (omega arith), last_same c f g n (λ plp lt. same plp (omega arith))) refl
-
-same_count : (c : Config) (f g : ℕ → ℕ) → ((plp : ℕ) → plp < length c.plps → f plp ≡ g plp) → frame_count c f ≡ frame_count c g
-unfolding frame_count
-same_count c f g same = rw (last_same c f g (length c.plps) same) refl
-
 module _ (c : Config) (f g : ℕ → List ℕ) (same : (plp : ℕ) → plp < length c.plps → f plp ≡ g plp) where
   same_frames : frames_of c f ≡ frames_of c g
-  same_frames = same_count c _ _ (λ plp lt. ap (λ (file : List ℕ). length (packets_in file)) (same plp lt))
+  same_frames = frame_count_same c _ _ (λ plp lt. ap (λ (file : List ℕ). length (packets_in file)) (same plp lt))
 
   same_units : FrontsDecided → IsPlan c → units_of c f ≡ units_of c g
   same_units decided plan =
       ap (pipe c.pid)
       (ap (front_packets c (inputs_of f)) same_frames
-      ∙ decided c (inputs_of f) (inputs_of g) (frames_of c g) plan (λ plp k lt over. ap (λ (file : List ℕ). packet_at (packets_in file) k) (same plp lt)))
+      ∙ decided c (inputs_of f) (inputs_of g) (frames_of c g) plan
+      (λ plp k lt over. ap (λ (file : List ℕ). packet_at (packets_in file) k) (same plp lt)))
 
-pub was_sent : FrontsDecided → (c : Config) (old new : State) (out : List ℕ) (files : ℕ → List ℕ) (sent : Sent) → IsPlan c → length c.plps ≡ 3 → HasInputs old files
-    → GatewayRuns c old new out input_names sent.ran.frames sent.ran.units → sent.stream.items ≡ unwrap_or (file_of new out) [] → IsSent c files sent
+pub was_sent : FrontsDecided → (c : Config) (old new : State) (out : List ℕ) (files : ℕ → List ℕ) (sent : Sent) → IsPlan c
+    → length c.plps ≡ 3 → HasInputs old files
+    → GatewayRuns c old new out input_names sent.ran.frames sent.ran.units → sent.stream.items ≡ unwrap_or (file_of new out) []
+    → IsSent c files sent
 was_sent decided c old new out files sent plan three has runs is =
     let left = written old new out input_names _ _ has.held has.holds runs.works in
     let frames = rw has.holds at runs.frames_are in
     let units = rw has.holds at runs.units_are in
-    let same : (plp : ℕ) → plp < length c.plps → file_at has.held input_names plp ≡ files plp = λ plp lt. has.are plp (omega (arith, lt, three)) in
+    let same : (plp : ℕ) → plp < length c.plps → file_at has.held input_names plp ≡ files plp =
+    λ plp lt. has.are plp (omega (arith, lt, three)) in
     let all = same_units c (file_at has.held input_names) files same decided plan in
     record {
       stream = is ∙ left.is ∙ left.has ∙ ap joined all;

@@ -1,8 +1,9 @@
 pub mod Counts
 pub mod Draws
 pub mod Losses
-pub mod Made
 pub mod Network
-pub mod Stages
 pub mod Trial
 pub mod TrialInput
+-- inner: no public clause cites these
+pub mod Made
+pub mod Stages

@@ -4,7 +4,7 @@ use Rattle.plp_config.specs.declared.band.Band.TheVariants.{Mhz8}
 use Rattle.plp_config.specs.declared.config.Config.{Config}
 use Rattle.plp_config.specs.declared.config.L1Numbers.{L1Numbers}
 use Rattle.plp_config.specs.declared.plp.Plp.{Plp}
-use Rattle.plp_config.specs.declared.plp.PlpKind.TheVariants.{Type1, Type2}
+use Rattle.plp_config.specs.declared.plp.PlpType.TheVariants.{Type1, Type2}
 use Rattle.plp_config.specs.declared.plp.FecSize.TheVariants.{Short}
 use Rattle.plp_config.specs.declared.plp.Rate.TheVariants.{R1_2, R2_3, R3_5}
 use Rattle.plp_config.specs.declared.plp.Modulation.TheVariants.{Qpsk, Qam16, Qam64}
@@ -12,14 +12,46 @@ use Rattle.plp_config.specs.declared.plp.Modulation.TheVariants.{Qpsk, Qam16, Qa
 -- three PLPs in short blocks: one of type 1 that is full, one that keeps its null packets, and one of type 2
 abbrev pub trial_plps : List Plp
 trial_plps =
-    record { id = 1; kind = Type1; group = 1; rate = R1_2; modulation = Qpsk; fec = Short; rotation = false; blocks = 3; interleave = 1; delete = true; bits_per_second = 1906000 }
-    ∷ record { id = 2; kind = Type1; group = 1; rate = R2_3; modulation = Qam16; fec = Short; rotation = false; blocks = 2; interleave = 2; delete = false; bits_per_second = 1500000 }
-    ∷ record { id = 3; kind = Type2; group = 2; rate = R3_5; modulation = Qam64; fec = Short; rotation = false; blocks = 2; interleave = 1; delete = true; bits_per_second = 1600000 }
+    record {
+      id = 1;
+      plp_type = Type1;
+      group = 1;
+      rate = R1_2;
+      modulation = Qpsk;
+      fec = Short;
+      rotation = false;
+      blocks = 3;
+      interleave = 1;
+      delete = true;
+      bits_per_second = 1906000;
+    }
+    ∷ record {
+      id = 2;
+      plp_type = Type1;
+      group = 1;
+      rate = R2_3;
+      modulation = Qam16;
+      fec = Short;
+      rotation = false;
+      blocks = 2;
+      interleave = 2;
+      delete = false;
+      bits_per_second = 1500000;
+    }
+    ∷ record {
+      id = 3;
+      plp_type = Type2;
+      group = 2;
+      rate = R3_5;
+      modulation = Qam64;
+      fec = Short;
+      rotation = false;
+      blocks = 2;
+      interleave = 1;
+      delete = true;
+      bits_per_second = 1600000;
+    }
     ∷ []
-
--- L1-pre: S2 6, GUARD_INTERVAL 1, L1_MOD 1, L1_POST_SIZE 1,000, PILOT_PATTERN 6, 59 data symbols
-abbrev pub trial_l1 : L1Numbers
-trial_l1 = record { bwt_ext = 0; s2 = 6; guard = 1; papr = 0; l1_mod = 1; l1_cod = 0; l1_fec = 0; post_size = 1000; pilot = 6; tx_id = 0; symbols = 59; regen = 0 }
 
 -- 8 MHz, frames of 100,000 ticks, two of them a superframe, 60,000 cells in five sub-slices
 abbrev pub trial_config : Config
@@ -36,7 +68,20 @@ trial_config = record {
   network_id = 2;
   system_id = 3;
   frequency = 474000000;
-  l1 = trial_l1;
+  l1 = record {
+    bwt_ext = 0;
+    s2 = 6;
+    guard = 1;
+    papr = 0;
+    l1_mod = 1;
+    l1_cod = 0;
+    l1_fec = 0;
+    post_size = 1000;
+    pilot = 6;
+    tx_id = 0;
+    symbols = 59;
+    regen = 0;
+  };
   sub_slices = 5;
   plps = trial_plps;
 }

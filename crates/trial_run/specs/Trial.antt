@@ -1,4 +1,5 @@
--- A trial of a whole network: one gateway, a modulator that reads all of its stream, one that loses units, and all receivers of both.
+-- A trial of a whole network: one gateway, a modulator that reads all of its stream, one that loses units, and the receivers of
+-- what both make.
 use Rattle.std.specs.Prelude.{◌≡◌, ℕ, ◌<◌, List, [], ◌++◌, length, codes, slice_index_or}
 use Rattle.std.specs.List.{concat}
 use Rattle.std.specs.Fmt.{decimal}
@@ -18,6 +19,7 @@ use Rattle.receive_run.specs.declared.stop.Ran.{Ran as Received}
 use Rattle.trial_run.specs.Counts.{AreCut, filled_packets, same_count}
 use Rattle.trial_run.specs.Losses.{kept_from}
 use Rattle.trial_run.specs.TrialInput.{input_of, start_of}
+use Rattle.trial_run.specs.declared.counts.Piece.{Piece}
 
 -- the stream of the gateway over the inputs that are drawn
 unfoldable pub stream_of : Config → ℕ → ℕ → List ℕ
@@ -33,24 +35,28 @@ crc_word bytes = encode_lower (to_be_bytes w32 (crc32_of (bits_of bytes)))
 
 -- the first line: how many frames the gateway sent in how many units, and the CRC-32 of all of these
 abbrev pub stream_line : ℕ → ℕ → List ℕ → List ℕ
-stream_line frames units stream = codes "frames=" ++ decimal frames ++ codes " units=" ++ decimal units ++ codes " crc=" ++ crc_word stream ++ codes "\n"
+stream_line frames units stream = codes "frames=" ++ decimal frames ++ codes " units=" ++ decimal units ++ codes " crc="
+    ++ crc_word stream ++ codes "\n"
 
 -- of a modulator: the number of its first record, how many there are, and how many of them are muted
 abbrev pub records_part : Ran → List ℕ
-records_part ran = codes " first=" ++ decimal ran.first ++ codes " records=" ++ decimal ran.records ++ codes " muted=" ++ decimal ran.muted
+records_part ran = codes " first=" ++ decimal ran.first ++ codes " records=" ++ decimal ran.records ++ codes " muted="
+    ++ decimal ran.muted
 
 -- the line of the one that reads all, with the CRC-32 of its records
 abbrev pub whole_line : Ran → List ℕ → List ℕ
 whole_line ran records = codes "a" ++ records_part ran ++ codes " crc=" ++ crc_word records ++ codes "\n"
 
--- the line of the one that loses units: how many of its records of frames are those of the other one besides
+-- the line of the one that loses units, which tells how many of its records of frames are also among those of the other one
 abbrev pub lossy_line : Ran → ℕ → List ℕ → List ℕ
-lossy_line ran same records = codes "b" ++ records_part ran ++ codes " same=" ++ decimal same ++ codes " crc=" ++ crc_word records ++ codes "\n"
+lossy_line ran same records = codes "b" ++ records_part ran ++ codes " same=" ++ decimal same ++ codes " crc=" ++ crc_word records
+    ++ codes "\n"
 
--- the line of a PLP: how many packets that are not null its input has, and what its receivers give back, and the CRC-32 of what it gives
--- back of the records with losses
+-- the line of a PLP: how many packets that are not null its input has, how many it is given back of either file of records, and
+-- the CRC-32 of all that it is given back of the one with losses
 abbrev pub plp_line : ℕ → List ℕ → List ℕ → List ℕ → List ℕ
-plp_line id input whole lossy = codes "plp=" ++ decimal id ++ codes " packets=" ++ decimal (filled_packets input) ++ codes " a=" ++ decimal (filled_packets whole)
+plp_line id input whole lossy = codes "plp=" ++ decimal id ++ codes " packets=" ++ decimal (filled_packets input) ++ codes " a="
+    ++ decimal (filled_packets whole)
     ++ codes " b=" ++ decimal (filled_packets lossy) ++ codes " crc=" ++ crc_word lossy ++ codes "\n"
 
 -- These bytes are what a PLP is given back of a file of records.
@@ -65,10 +71,10 @@ pub record IsPlpLine (c : Config) (frames seed plp : ℕ) (line : List ℕ) : Ty
   pub comes_lossy : ComesOf c plp (output_of c (lossy_of c frames seed)) lossy
   pub line_is : line ≡ plp_line (plp_at c.plps plp).id (input_of c frames seed plp) whole lossy
 
--- So many records of frames in a file stand in another one.
+-- Of the records of frames in the file with losses so many stand in the whole one.
 pub record IsSameCount (whole lossy : List ℕ) (same : ℕ) : Type 0 where
-  pub records : List (List ℕ)
-  pub lossy_records : List (List ℕ)
+  pub records : List Piece
+  pub lossy_records : List Piece
   pub are : AreCut whole records []
   pub are_lossy : AreCut lossy lossy_records []
   pub count : same ≡ same_count records lossy_records
@@ -84,7 +90,8 @@ pub record ArePlpLines (c : Config) (frames seed plps : ℕ) (text : List ℕ) :
 pub record IsNetworkText (c : Config) (frames seed : ℕ) (text : List ℕ) : Type 0 where
   pub same : ℕ
   pub is_same : IsSameCount (output_of c (stream_of c frames seed)) (output_of c (lossy_of c frames seed)) same
-  pub text_is : text ≡ stream_line (frames_of c (input_of c frames seed)) (length (units_of c (input_of c frames seed))) (stream_of c frames seed)
+  pub text_is : text ≡ stream_line (frames_of c (input_of c frames seed)) (length (units_of c (input_of c frames seed)))
+      (stream_of c frames seed)
       ++ whole_line (counted (records_of c (stream_of c frames seed))) (output_of c (stream_of c frames seed))
       ++ lossy_line (counted (records_of c (lossy_of c frames seed))) same (output_of c (lossy_of c frames seed))
 

@@ -10,7 +10,8 @@ use Rattle.trial_run.specs.declared.input.TheConstants.{NULL_ONE_OF, FIRST_PID, 
 
 -- the bytes in front of the payload of a packet: its PID with all flags 0, and its continuity_counter
 abbrev pub header : ℕ → ℕ → List ℕ
-header plp number = SYNC ∷ ((FIRST_PID + plp) / BYTE_VALUES) ∷ ((FIRST_PID + plp) % BYTE_VALUES) ∷ (PAYLOAD_ALONE + number % COUNTER_VALUES) ∷ []
+header plp number = SYNC ∷ ((FIRST_PID + plp) / BYTE_VALUES) ∷ ((FIRST_PID + plp) % BYTE_VALUES)
+    ∷ (PAYLOAD_ALONE + number % COUNTER_VALUES) ∷ []
 
 -- so many bytes, each a draw modulo 256
 unfoldable pub bytes_from : ℕ → ℕ → List ℕ

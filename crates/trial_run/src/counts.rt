@@ -1,20 +1,24 @@
 // What a trial counts.
-ghost use Rattle.std.specs.Prelude.{◌≡◌, ◌<◌, ◌*◌, [], length, map, IfOk};
-ghost use Rattle.std.specs.List.{list_any};
-ghost use Rattle.std.specs.Str.{bytes_eq};
+ghost use Rattle.std.specs.Prelude.{◌≡◌, ◌<◌, ◌*◌, [], length, IfOk};
 ghost use Rattle.t2mi_stream.specs.Units.{unit_at};
-ghost use Rattle.trial_run.specs.Counts.{filled_packets as count_of_filled, filled_of_first, AreCut, is_frame as tells_frame, is_among as stands_among, same_count as count_of_same};
+ghost use Rattle.trial_run.specs.Counts.{filled_packets as count_of_filled, filled_of_first, AreCut};
+ghost use Rattle.trial_run.specs.Counts.{is_frame as tells_frame, stand_in, is_among as stands_among};
+ghost use Rattle.trial_run.specs.Counts.{same_count as count_of_same};
 ghost use Rattle.trial_run.specs.Losses.{unit_count};
 
 use bit_slice::OutOfMemory;
-use site_frame::read_record;
+use site_frame::{RecordView, read_record};
 use std::alloc::Global;
 use ts_packet::{SIZE, TsPacket};
 
-// The place of the kind in the head of a record, and the kind of one that is not muted.
-const KIND_PLACE: usize = 4;
-
-const FRAME_KIND: u8 = 1;
+/// A record of a file.
+#[derive(Clone, Copy)]
+pub struct Piece<'a> {
+    /// Whether it is of a frame, and not muted.
+    pub is_frame: bool,
+    /// Its bytes.
+    pub bytes: &'a [u8],
+}
 
 // A packet, by its number.
 fn packet_at(bytes: &[u8], number: usize) -> TsPacket
@@ -40,57 +44,62 @@ pub fn filled_packets(bytes: &[u8]) -> u64
     count
 }
 
-/// Cuts a file of records into them.
-pub fn cut(alloc: Global, file: &[u8]) -> Result<Vec<&[u8]>, OutOfMemory>
-    ensures { IfOk result (λ records. AreCut file.now (map (λ bytes. bytes.now) records.items) []) }
+fn is_frame(view: &RecordView<'_>) -> bool
+    ensures { result ≡ tells_frame view.now }
 {
-    let mut records = Vec::new(alloc);
+    match view {
+        RecordView::Frame { .. } => true,
+        RecordView::Muted { .. } => false,
+    }
+}
+
+/// Cuts a file of records into them.
+pub fn cut(alloc: Global, file: &[u8]) -> Result<Vec<Piece<'_>>, OutOfMemory>
+    ensures { IfOk result (λ pieces. AreCut file.now pieces.items []) }
+{
+    let mut pieces = Vec::new(alloc);
     let mut rest = file;
     while !rest.is_empty() {
-        let Ok((_, len)) = read_record(rest) else {
-            // This does not come: the receivers have read the file to its end.
+        let Ok((view, len)) = read_record(rest) else {
+            // The file is what a modulator wrote. That it writes nothing but records is not proved; in no trial that was tried
+            // does this come.
             return Err(OutOfMemory);
         };
-        let (record, behind) = rest.split_at(len);
-        records.push(record)?;
+        let (bytes, behind) = rest.split_at(len);
+        let is_frame = is_frame(&view);
+        pieces.push(Piece { is_frame, bytes })?;
         rest = behind;
     }
-    Ok(records)
+    Ok(pieces)
 }
 
-fn is_frame(record: &[u8]) -> bool
-    ensures { result ≡ tells_frame record.now }
-{
-    record.get(KIND_PLACE) == Some(&FRAME_KIND)
-}
-
-// Whether a record stands among others.
+// Whether bytes are those of one of some records.
 #[tactic(auto, using(crate::proofs::CutLemmas::next_other))]
-fn stands_in(others: &[&[u8]], record: &[u8]) -> bool
-    ensures { result ≡ list_any (bytes_eq record.now) (map (λ bytes. bytes.now) others.now) }
+fn stands_in(others: &[Piece<'_>], bytes: &[u8]) -> bool
+    ensures { result ≡ stand_in others.now bytes.now }
 {
     for other in others {
-        if record == *other {
+        if bytes == other.bytes {
             return true;
         }
     }
     false
 }
 
-fn is_among(others: &[&[u8]], record: &[u8]) -> bool
-    ensures { result ≡ stands_among (map (λ bytes. bytes.now) others.now) record.now }
+fn is_among(others: &[Piece<'_>], piece: &Piece<'_>) -> bool
+    ensures { result ≡ stands_among others.now piece.now }
 {
-    is_frame(record) && stands_in(others, record)
+    piece.is_frame && stands_in(others, piece.bytes)
 }
 
 /// How many records are of frames and stand among others.
 #[tactic(auto, unfolding(crate::specs::Counts::same_count))]
-pub fn same_count(others: &[&[u8]], records: &[&[u8]]) -> u64
-    ensures { result ≡ count_of_same (map (λ bytes. bytes.now) others.now) (map (λ bytes. bytes.now) records.now) }
+pub fn same_count(others: &[Piece<'_>], pieces: &[Piece<'_>]) -> u64
+    ensures { result ≡ count_of_same others.now pieces.now }
 {
     let mut count = 0;
-    for record in records {
-        if is_among(others, record) {
+    for piece in pieces {
+        if is_among(others, piece) {
             count += 1;
         }
     }

@@ -4,14 +4,14 @@ ghost use Rattle.trial_run.specs.Network.{trial_config, trial_plps};
 
 use bit_slice::OutOfMemory;
 use plp_config::{
-    Band, Config, FecSize, L1Numbers, Modulation, Plan, Plp, PlpKind, PlpList, Rate, fits, validate,
+    Band, Config, FecSize, L1Numbers, Modulation, Plan, Plp, PlpList, PlpType, Rate, fits, validate,
 };
 use std::alloc::Global;
 
 // A full PLP, 2,607 bytes a frame, and what the others share with it.
 const FIRST_PLP: Plp = Plp {
     id: 1,
-    kind: PlpKind::Type1,
+    plp_type: PlpType::Type1,
     group: 1,
     rate: Rate::R1_2,
     modulation: Modulation::Qpsk,
@@ -37,7 +37,7 @@ const TRIAL_PLPS: [Plp; 3] = [
     },
     Plp {
         id: 3,
-        kind: PlpKind::Type2,
+        plp_type: PlpType::Type2,
         group: 2,
         rate: Rate::R3_5,
         modulation: Modulation::Qam64,

@@ -1,5 +1,6 @@
-// The commands' own runs, each over a desk in memory. On such a desk want of memory alone stops them, and the modulator a stream in which
-// no superframe begins; the draws leave none such.
+// The commands' own runs, each over a desk in memory. Whatever stops one is told as want of memory. On such a desk that could
+// also be a file that is too long, a record that is refused, or a stream in which no superframe begins. None of these is
+// likely, since of the first half of the stream the second modulator loses unit 0 alone, but that none comes is not proved.
 ghost use Rattle.std.specs.Prelude.{◌≡◌, ◌≢◌, ◌<◌, ℕ, List, [], ◌∷◌, codes, length, unwrap_or, IfOk};
 ghost use Rattle.ports.specs.Desk.{file_of};
 ghost use Rattle.gateway_run.specs.GatewayRun.{RunsAll as GatewayRuns};
@@ -79,7 +80,8 @@ fn run_gateway(
     desk: &mut MemoryDesk,
 ) -> Result<gateway_run::Ran, OutOfMemory>
     requires { length plan.now.plps ≡ 3 }
-    ensures { IfOk result (λ ran. GatewayRuns plan.now desk.old.state desk.new.state (codes "out") input_names ran.frames ran.units) }
+    ensures { IfOk result (λ ran.
+        GatewayRuns plan.now desk.old.state desk.new.state (codes "out") input_names ran.frames ran.units) }
 {
     let names = names_of_inputs(alloc)?;
     gateway_run::run(alloc, plan, OUT, &names, desk).map_err(|_| OutOfMemory)

@@ -25,8 +25,13 @@ returns-else-left-ge8 c =
     let left : ℕ = c.len.result - 8 * c.args.k in
     let h = moved c.field-else-left-ge8.result (c.len.result - 8 * c.args.k) c.field-else-left-ge8.ensures.small (omega arith) in
     let size : length (drop (8 * c.args.k) c.args.bits.now) ≡ left = simp length-drop (omega arith) in
-    let all : take left (drop (8 * c.args.k) c.args.bits.now) ≡ drop (8 * c.args.k) c.args.bits.now = take_all left (drop (8 * c.args.k) c.args.bits.now) (omega arith) in
-    let eight : take 8 (drop (8 * c.args.k) c.args.bits.now) ≡ drop (8 * c.args.k) c.args.bits.now = take_all 8 (drop (8 * c.args.k) c.args.bits.now) (omega arith) in
-    let value : c.field-else-left-ge8.result ≡ number_of (take 8 (drop (8 * c.args.k) c.args.bits.now)) = c.field-else-left-ge8.ensures.value ∙ ap number_of (all ∙ sym eight) in
-    let fits : c.field-else-left-ge8.result * 2 ^ (8 - left) % 2 ^ 64 ≡ c.field-else-left-ge8.result * 2 ^ (8 - left) = omega (arith, h) in
-    fits ∙ ap (λ (x : ℕ). x * 2 ^ (8 - left)) value ∙ ap (λ (x : ℕ). number_of (take 8 (drop (8 * c.args.k) c.args.bits.now)) * 2 ^ (8 - x)) (sym size)
+    let all : take left (drop (8 * c.args.k) c.args.bits.now) ≡ drop (8 * c.args.k) c.args.bits.now =
+    take_all left (drop (8 * c.args.k) c.args.bits.now) (omega arith) in
+    let eight : take 8 (drop (8 * c.args.k) c.args.bits.now) ≡ drop (8 * c.args.k) c.args.bits.now =
+    take_all 8 (drop (8 * c.args.k) c.args.bits.now) (omega arith) in
+    let value : c.field-else-left-ge8.result ≡ number_of (take 8 (drop (8 * c.args.k) c.args.bits.now)) =
+    c.field-else-left-ge8.ensures.value ∙ ap number_of (all ∙ sym eight) in
+    let fits : c.field-else-left-ge8.result * 2 ^ (8 - left) % 2 ^ 64 ≡ c.field-else-left-ge8.result * 2 ^ (8 - left) =
+    omega (arith, h) in
+    fits ∙ ap (λ (x : ℕ). x * 2 ^ (8 - left)) value
+    ∙ ap (λ (x : ℕ). number_of (take 8 (drop (8 * c.args.k) c.args.bits.now)) * 2 ^ (8 - x)) (sym size)

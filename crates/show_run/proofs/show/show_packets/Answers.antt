@@ -14,7 +14,11 @@ tell_lines-requires-clause-start g c = comes_first _ c.in-Ok.ensures
 pub returns-in_err-tell_lines : goal.returns-in_err-tell_lines
 returns-in_err-tell_lines g c =
     let p = err_from_is_err_and c.from_residual.result c.from_residual.ensures.1 in
-    rw (p.1, p.2) (shows_stop c.one_packet.ensures c.no_refusal.ensures c.packet_length.ensures _ c.tell_lines.new.machine _ _ c.args.name.now _ c.in_err-tell_lines.ensures.err)
+    rw (p.1, p.2)
+    (shows_stop c.one_packet.ensures c.no_refusal.ensures c.packet_length.ensures _ c.tell_lines.new.machine _ _
+    c.args.name.now _ c.in_err-tell_lines.ensures.err)
 
 pub returns : goal.returns
-returns g c = rw c.packets_end.ensures (shows_end c.front_refusal.ensures _ c.tell_lines.new.machine _ _ c.args.name.now c.in_ok-tell_lines.ensures.ok)
+returns g c =
+    rw c.packets_end.ensures
+    (shows_end c.front_refusal.ensures _ c.tell_lines.new.machine _ _ c.args.name.now c.in_ok-tell_lines.ensures.ok)

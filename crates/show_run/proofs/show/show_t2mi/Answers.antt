@@ -15,7 +15,9 @@ tell_lines-requires-clause-start g c = comes_first _ c.in-Ok.ensures
 pub returns-in_err-tell_lines : goal.returns-in_err-tell_lines
 returns-in_err-tell_lines g c =
     let p = err_from_is_err_and c.from_residual.result c.from_residual.ensures.1 in
-    rw (p.1, p.2) (t2mi_stop c.accepted_front.ensures c.first_pid_law.ensures.behind _ c.tell_lines.new.machine _ _ c.args.name.now _ c.in_err-tell_lines.ensures.err)
+    rw (p.1, p.2)
+    (t2mi_stop c.accepted_front.ensures c.first_pid_law.ensures.behind _ c.tell_lines.new.machine _ _ c.args.name.now _
+    c.in_err-tell_lines.ensures.err)
 
 pub returns : goal.returns
 returns g c = t2mi_end _ c.tell_lines.new.machine _ _ c.args.name.now c.in_ok-tell_lines.ensures.ok

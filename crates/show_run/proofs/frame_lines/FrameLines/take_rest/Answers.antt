@@ -7,9 +7,12 @@ pub returns-then-self-eq0-clause-becomes : goal.returns-then-self-eq0-clause-bec
 returns-then-self-eq0-clause-becomes c = λ start events came.
     let size = length-take-le c.min-count.result c.args.bytes.now (search (rules, arith)) in
     let at = c.see.ensures.at in
-    took_last c.events_law.ensures start c.args.self.now _ c.see.new.self events (take c.min-count.result c.args.bytes.now) c.requires.coming c.requires.idle refl refl (search rules) (search (rules, arith, size)) (omega (arith, at, size)) c.see.ensures.sees came
+    took_last c.events_law.ensures start c.args.self.now _ c.see.new.self events (take c.min-count.result c.args.bytes.now)
+    c.requires.coming c.requires.idle refl refl (search rules) (search (rules, arith, size))
+    (omega (arith, at, size)) c.see.ensures.sees came
 
 pub returns-else-self-eq0-clause-becomes : goal.returns-else-self-eq0-clause-becomes
 returns-else-self-eq0-clause-becomes c = λ start events came.
     let size = length-take-le c.min-count.result c.args.bytes.now (search (rules, arith)) in
-    took_some c.events_law.ensures start c.args.self.now _ events (take c.min-count.result c.args.bytes.now) c.requires.coming c.requires.idle refl refl refl (omega (arith, size)) (search rules) (search (rules, arith, size)) came
+    took_some c.events_law.ensures start c.args.self.now _ events (take c.min-count.result c.args.bytes.now) c.requires.coming
+    c.requires.idle refl refl refl (omega (arith, size)) (search rules) (search (rules, arith, size)) came

@@ -1,0 +1,204 @@
+-- What the lines of packets tell of the file: the packets that were met, and what stands behind them.
+use Rattle.std.proofs.Common.{◌≡◌, ℕ, ◌+◌, ◌-◌, ◌<◌, ◌≤◌, Bool, true, false, cond, List, [], ◌∷◌, ◌++◌, length, refl, ap, sym}
+use Rattle.std.proofs.Common.{subst, ◌∙◌, inl, inr, arith, append-nil, length-append}
+use Rattle.std.specs.Fmt.{decimal}
+use Rattle.std.specs.Prelude.{codes, ◌⊎◌, nat_lt, Ok, Err}
+use Rattle.std.proofs.lemmas.List.{nil_from_length}
+use Rattle.std.proofs.lemmas.Bool.{ltb-true}
+use Rattle.ports.specs.declared.counts.Counts.{Counts}
+use Rattle.ports.specs.Desk.{State}
+use Rattle.desk_io.specs.Faults.{ReadsFail}
+use Rattle.desk_io.specs.Reading.{most_bytes}
+use Rattle.desk_io.specs.declared.input.TheConstants.{BUFFER}
+use Rattle.t2mi_packet.specs.Laws.{FrontRefusal}
+use Rattle.t2mi_packet.specs.declared.reading.TheConstants.{LARGEST}
+use Rattle.t2mi_packet.specs.declared.fault.PacketWhy.{PacketWhy}
+use Rattle.file_run.specs.Events.{Event, fed, has_ended, gave}
+use Rattle.file_run.specs.FileRun.{IsFed}
+use Rattle.file_run.specs.Steps.{FallsShort}
+use Rattle.file_run.specs.Telling.{StartsWith, Reaches, ReadsFailFirst}
+use Rattle.file_run.specs.declared.machine.Step.TheVariants.{Give, End}
+use Rattle.show_run.specs.Front.{most_of}
+use Rattle.show_run.specs.PacketFile.{Packs, IsRefused}
+use Rattle.show_run.specs.PacketLines.{next_from, next_of, Behind, Given, Shown, Comes}
+use Rattle.show_run.specs.PacketText.{AreFirst, MeetsPackets, SaysMet, IsPacketText}
+use Rattle.show_run.specs.SaidLines.{lines_of, count_line}
+use Rattle.show_run.specs.declared.packet_lines.PacketLines.{PacketLines}
+use Rattle.show_run.specs.declared.packet_lines.Phase.{Phase}
+use Rattle.show_run.specs.declared.packet_lines.Phase.TheVariants.{Reads, Ends, Refused, Finished}
+use Rattle.show_run.specs.declared.stop.ShowStop.TheVariants.{PacketRefused}
+use Rattle.show_run.proofs.PacketFileLemmas.{packs_first}
+use Rattle.show_run.proofs.PacketLinesLemmas.{packs_on, all_seen, told_all}
+
+-- bytes that were fed are a front of the file
+pub packs_file : (file front more rest : List ℕ) (ps : List (List ℕ)) → file ≡ front ++ more → Packs front ps rest
+    → Packs file ps (rest ++ more)
+packs_file file front more rest ps is h =
+    subst (λ (l : List ℕ). Packs l ps (rest ++ more)) (sym is) (packs_on front more rest ps h)
+
+-- the lines of the first packets, if a machine has lines still to give
+first_lines : (phase : Phase) (told next : List (List ℕ)) (line text : List ℕ) (at : ℕ) → next_from line phase at ≡ Give
+    → Given phase told next line text → text ≡ lines_of 0 told
+first_lines Reads told next line text at gives g = g.0
+first_lines Ends told next line text at gives g = g.0
+first_lines (Refused why) told next line text at gives g = g.0
+first_lines Finished told next [] text at gives g = absurd (let e : End ≡ Give = gives in cc)
+first_lines Finished told next (c ∷ line) text at gives (none, inl waits) = waits.1
+first_lines Finished told next (c ∷ line) text at gives (none, inr given) = absurd (let e : c ∷ line ≡ [] = given.0 in cc)
+
+first_of_file : (file : List ℕ) (m : PacketLines) (events : List Event) → StartsWith file (fed 0 events) (has_ended 0 events)
+    → (s : Shown m events) → gave events ≡ lines_of 0 s.told → AreFirst file (gave events)
+first_of_file file m events starts s text =
+    let mid = packs_first (fed 0 events) s.rest s.told s.next s.packs in
+    (s.told, mid.0 ++ starts.0, packs_file file (fed 0 events) starts.0 mid.0 s.told starts.1 mid.1, text)
+
+pub none_first : (file : List ℕ) → AreFirst file []
+none_first file = ([], file, refl, refl)
+
+-- what was said is the lines of the first packets
+pub said_first : (start : PacketLines) (file : List ℕ) (early : List Event) (mid : PacketLines)
+    → StartsWith file (fed 0 early) (has_ended 0 early) → Comes start early mid → (early ≡ []) ⊎ (next_of mid ≡ Give)
+    → AreFirst file (gave early)
+said_first start file early mid starts came (inl none) = subst (λ (l : List Event). AreFirst file (gave l)) (sym none)
+    (none_first file)
+said_first start file early mid starts came (inr gives) =
+    first_of_file file mid early starts came.shown
+    (first_lines mid.phase came.shown.told came.shown.next mid.line (gave early) mid.at gives came.shown.given)
+
+pub fails_only : (old new : State) → ReadsFail old new → ReadsFailFirst old new
+fails_only old new f = record {
+  rose = f.rose;
+  reads = f.later;
+  writes = (let e = ap (λ (k : Counts). k.writes) f.others in omega (arith, e));
+  lines = ap (λ (k : Counts). k.lines) f.others;
+}
+
+-- a machine that wants bytes reads packets, and no line waits
+pub reaches_reads : (line : List ℕ) (phase : Phase) (at count : ℕ) → Reaches (next_from line phase at) 0 count → (line ≡ [])
+    × (phase ≡ Reads) × (count ≤ most_of at LARGEST)
+reaches_reads [] Reads at count r = (refl, refl, r.1)
+reaches_reads [] Ends at count r = absurd r
+reaches_reads [] (Refused why) at count r = absurd r
+reaches_reads [] Finished at count r = absurd r
+reaches_reads (c ∷ line) phase at count r = absurd r
+
+pub short_reads : (line : List ℕ) (phase : Phase) (at count : ℕ) → FallsShort (next_from line phase at) 0 count → (line ≡ [])
+    × (phase ≡ Reads) × (count < LARGEST)
+short_reads [] Reads at count r = (refl, refl, r.1)
+short_reads [] Ends at count r = absurd r
+short_reads [] (Refused why) at count r = absurd r
+short_reads [] Finished at count r = absurd r
+short_reads (c ∷ line) phase at count r = absurd r
+
+pub starts_fed : (file : List ℕ) (place : ℕ) (front : List ℕ) (ended : Bool) → IsFed file place front ended
+    → StartsWith file front ended
+starts_fed file place front ended f = (f.more, f.parts, f.end)
+
+-- if no line waits and all was said
+quiet : (m : PacketLines) (events : List Event) → m.line ≡ [] → m.phase ≡ Reads → (s : Shown m events)
+    → gave events ≡ lines_of 0 (s.told ++ s.next)
+quiet m events none reads s =
+    let g = subst (λ (p : Phase). Given p s.told s.next m.line (gave events)) reads s.given in
+    told_all s.told s.next m.line (gave events) none g.0 g.1
+
+-- all packets that were seen of a file were told
+pub all_met : (file : List ℕ) (m : PacketLines) (events : List Event) (place : ℕ) → m.line ≡ [] → m.phase ≡ Reads
+    → (s : Shown m events) → StartsWith file (fed 0 events) (has_ended 0 events) → place ≤ length (fed 0 events) + LARGEST
+    → SaysMet file place (gave events)
+all_met file m events place none reads s starts near =
+    let seen = all_seen m events reads s in
+    let at = s.place in
+    let all = seen.2 in (
+      s.told ++ s.next,
+      s.rest ++ starts.0,
+      packs_file file (fed 0 events) starts.0 s.rest (s.told ++ s.next) starts.1 s.packs,
+      omega (arith, near, at, all),
+      quiet m events none reads s,
+    )
+
+-- so these packets were met
+pub met : (file : List ℕ) (given : ℕ) (text : List ℕ) → SaysMet file given text → MeetsPackets file given
+met file given text s = (s.0, s.1, s.2, s.3)
+
+pub all_first : (file : List ℕ) (m : PacketLines) (events : List Event) → m.line ≡ [] → m.phase ≡ Reads → (s : Shown m events)
+    → StartsWith file (fed 0 events) (has_ended 0 events) → AreFirst file (gave events)
+all_first file m events none reads s starts = (
+  s.told ++ s.next,
+  s.rest ++ starts.0,
+  packs_file file (fed 0 events) starts.0 s.rest (s.told ++ s.next) starts.1 s.packs,
+  quiet m events none reads s,
+)
+
+pub far : (at place : ℕ) → place ≡ most_bytes → place - at ≤ most_of at LARGEST → place ≤ at + LARGEST
+far at place long reach = go (nat_lt (at + BUFFER) most_bytes) refl reach
+  where
+    go : (b : Bool) → nat_lt (at + BUFFER) most_bytes ≡ b → place - at ≤ cond b BUFFER LARGEST → place ≤ at + LARGEST
+    go true is near = let small : at + BUFFER < most_bytes = ltb-true (at + BUFFER) most_bytes is in
+        absurd (omega (arith, small, long, near))
+    go false is near = omega (arith, near)
+
+-- at the end no line waits
+pub ends_idle : (line : List ℕ) (phase : Phase) (at : ℕ) → next_from line phase at ≡ End → line ≡ []
+ends_idle [] phase at e = refl
+ends_idle (c ∷ line) phase at e = absurd (let f : Give ≡ End = e in cc)
+
+-- a line of a key and a number is not empty
+pub line_some : (key : List ℕ) (count : ℕ) → key ++ decimal count ++ codes "\n" ≡ [] → ⊥
+line_some key count e = let n = ap length e in let m = length-append (key ++ decimal count) (codes "\n") in
+    absurd (omega (arith, n, m))
+
+pub count_some : (count : ℕ) → count_line count ≡ [] → ⊥
+count_some count e = line_some (codes "packets=") count e
+
+-- the end of a file that is nothing but packets
+ended_all : (told next : List (List ℕ)) (line text : List ℕ) → line ≡ [] → Given Finished told next line text → (next ≡ [])
+    × (text ≡ lines_of 0 told ++ count_line (length told))
+ended_all told next line text none (some, inl waits) = absurd (count_some (length told) (sym waits.0 ∙ none))
+ended_all told next line text none (some, inr given) = (some, given.1)
+
+pub finished_text : (file : List ℕ) (place : ℕ) (m : PacketLines) (events : List Event) (early : List ℕ) → m.line ≡ []
+    → m.phase ≡ Finished → (s : Shown m events) → IsFed file place (fed 0 events) (has_ended 0 events) → gave events ≡ early
+    → IsPacketText file place (Ok m.count) early
+finished_text file place m events early none done s f text =
+    let behind = subst (λ (p : Phase). Behind p m.rest s.rest (has_ended 0 events)) done s.behind in
+    let all =
+    ended_all s.told s.next m.line (gave events) none
+    (subst (λ (p : Phase). Given p s.told s.next m.line (gave events)) done s.given) in
+    let whole : s.told ++ s.next ≡ s.told = ap (λ (l : List (List ℕ)). s.told ++ l) all.0 ∙ append-nil s.told in
+    let count : m.count ≡ length s.told = s.number ∙ ap length whole in
+    let same : file ≡ fed 0 events = f.parts ∙ ap (λ (l : List ℕ). fed 0 events ++ l) (f.end behind.1)
+    ∙ append-nil (fed 0 events) in
+    let a = f.ahead in let w = f.within in let n = ap length same in (
+      s.told,
+      subst (λ (l : List ℕ). Packs l s.told []) (sym same)
+          (subst (λ (l : List (List ℕ)). Packs (fed 0 events) l []) whole
+          (subst (λ (l : List ℕ). Packs (fed 0 events) (s.told ++ s.next) l) behind.0 s.packs)),
+      count,
+      sym text ∙ all.1 ∙ ap (λ (k : ℕ). lines_of 0 s.told ++ count_line k) (sym count),
+      omega (arith, a, w, n),
+    )
+
+-- what is no packet is none in the whole file
+refused_on : FrontRefusal → (front more : List ℕ) (why : PacketWhy) (ended : Bool) → (ended ≡ true) ⊎ (LARGEST ≤ length front)
+    → (ended ≡ true → more ≡ []) → IsRefused front why → IsRefused (front ++ more) why
+refused_on law front more why ended (inl on) end r =
+    subst (λ (l : List ℕ). IsRefused l why) (sym (ap (λ (l : List ℕ). front ++ l) (end on) ∙ append-nil front)) r
+refused_on law front more why ended (inr many) end r = (
+  (λ e. r.0 (nil_from_length front (let n = ap length e in let m = length-append front more in omega (arith, n, m)))),
+  (r.1.0, law front more r.1.0 many r.1.1, r.1.2),
+)
+
+pub refused_text : FrontRefusal → (file : List ℕ) (place : ℕ) (m : PacketLines) (events : List Event) (early : List ℕ)
+    (why : PacketWhy) → m.line ≡ [] → m.phase ≡ Refused why → (s : Shown m events)
+    → IsFed file place (fed 0 events) (has_ended 0 events)
+    → gave events ≡ early → IsPacketText file place (Err (PacketRefused m.at why)) early
+refused_text law file place m events early why none refused s f text =
+    let behind = subst (λ (p : Phase). Behind p m.rest s.rest (has_ended 0 events)) refused s.behind in
+    let g = subst (λ (p : Phase). Given p s.told s.next m.line (gave events)) refused s.given in (
+      s.told ++ s.next,
+      s.rest ++ f.more,
+      packs_file file (fed 0 events) f.more s.rest (s.told ++ s.next) f.parts s.packs,
+      refused_on law s.rest f.more why (has_ended 0 events) behind.1 f.end behind.0,
+      s.place,
+      sym text ∙ told_all s.told s.next m.line (gave events) none g.0 g.1,
+    )

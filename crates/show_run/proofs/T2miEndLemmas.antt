@@ -1,0 +1,155 @@
+-- What of a stream is wanted, and what is known once it has ended.
+use Rattle.std.proofs.Common.{◌≡◌, ℕ, ◌+◌, ◌-◌, ◌<◌, Bool, true, false, cond, List, [], ◌∷◌, ◌++◌, length, take, drop, map, refl}
+use Rattle.std.proofs.Common.{ap, sym, subst, ◌∙◌, inl, inr, arith, append_assoc, append-nil, length-append}
+use Rattle.std.specs.Prelude.{◌⊎◌, nat_lt}
+use Rattle.std.proofs.lemmas.List.{length-map, nil_from_length}
+use Rattle.std.proofs.lemmas.Bool.{ltb-false}
+use Rattle.std.proofs.Math.ListN.{drop_of_length-le}
+use Rattle.std.proofs.Math.Seq.{take-length, take-append_seam}
+use Rattle.desk_io.specs.declared.input.TheConstants.{BUFFER}
+use Rattle.ts_packet.specs.declared.sizes.TheConstants.{SIZE}
+use Rattle.ts_packet.specs.Told.{fields_in}
+use Rattle.t2mi_stream.specs.Events as stream
+use Rattle.t2mi_stream.specs.FirstPid.{pid_of, PacketsBehind, NoPackets, t2mi_packets_in}
+use Rattle.t2mi_stream.specs.Skipping.{further}
+use Rattle.t2mi_stream.specs.Units.{accepted_of}
+use Rattle.t2mi_stream.specs.UnpiperStandsFor.{UnpiperStandsFor, is_ready, AllReleased}
+use Rattle.file_run.specs.Events.{Event, Fed, Ended, fed, has_ended, gave}
+use Rattle.file_run.specs.Laws.{EventsTell}
+use Rattle.file_run.specs.Steps.{Suffices, FallsShort}
+use Rattle.file_run.specs.declared.machine.Step.TheVariants.{Read, Give}
+use Rattle.show_run.specs.SaidLines.{count_line}
+use Rattle.show_run.specs.T2miLines.{next_in, next_of, packets_from, Unpiping, Comes}
+use Rattle.show_run.specs.T2miText.{place_lines}
+use Rattle.show_run.specs.declared.t2mi_lines.T2miLines.{T2miLines}
+use Rattle.show_run.specs.declared.t2mi_lines.Search.{Search}
+use Rattle.show_run.specs.declared.t2mi_lines.Search.TheVariants.{Seeks, Unpipes, Finished}
+use Rattle.show_run.proofs.T2miLinesLemmas.{found_as, found_in}
+
+-- the file has ended behind units that tell no PID
+ended_seeking : EventsTell → NoPackets → (start m n : T2miLines) (events : List Event) (bytes : List ℕ) → m.search ≡ Seeks
+    → length bytes < SIZE → n.search ≡ Finished → n.at ≡ m.at + length bytes → n.count ≡ m.count → n.line ≡ count_line m.count
+    → Comes start events m
+    → Comes start (events ++ Ended 0 bytes ∷ []) n
+ended_seeking law none start m n events bytes seeks few done at count line c =
+    let f = found_in m _ _ _ Seeks seeks c.shown.found in
+    let more = law.ended 0 bytes events in
+    let empty : t2mi_packets_in (fed 0 (events ++ Ended 0 bytes ∷ [])) ≡ [] = ap t2mi_packets_in more.here
+    ∙ none (fed 0 events) bytes f.none few in
+    record {
+      fresh = c.fresh;
+      shown = record {
+        place = (let p = c.shown.place in let l = ap length more.here in let k = length-append (fed 0 events) bytes in
+            omega (arith, at, p, l, k));
+        found = found_as n _ _ _ Finished done (record {
+          over = more.ended;
+          number = count ∙ f.number ∙ ap length (sym empty);
+          lines = inl (line ∙ ap count_line (sym count), more.gave ∙ f.silent ∙ ap place_lines (sym empty));
+        });
+      };
+    }
+
+-- the packets behind units that tell no PID
+pub behind_all : PacketsBehind → (m : T2miLines) (all text : List ℕ) (ended : Bool) (f : Unpiping m all text ended)
+    (more : List ℕ) → t2mi_packets_in (all ++ more) ≡ map (further (length f.front))
+    (accepted_of f.pid ((f.bytes ++ drop m.from m.unit) ++ more))
+behind_all law m all text ended f more =
+    let rest = (f.bytes ++ drop m.from m.unit) ++ more in
+    let whole : all ++ more ≡ f.front ++ rest = ap (λ (l : List ℕ). l ++ more) f.parts
+    ∙ append_assoc f.front (f.bytes ++ drop m.from m.unit) more in
+    let starts : rest ≡ f.first ++ (f.more ++ more) = ap (λ (l : List ℕ). l ++ more) f.begins
+    ∙ append_assoc f.first f.more more in
+    let n = ap length starts in
+    let k = length-append f.first (f.more ++ more) in
+    let w = f.whole in
+    let unit : take SIZE rest ≡ f.first = ap (take SIZE) starts ∙ ap (λ (j : ℕ). take j (f.first ++ (f.more ++ more)))
+    (sym f.whole) ∙ take-append_seam f.first (f.more ++ more) in
+    ap t2mi_packets_in whole ∙ law f.front rest f.pid f.none (omega (arith, n, k, w))
+    (ap (λ (l : List ℕ). pid_of (fields_in l)) unit ∙ f.tells)
+
+-- the file has ended behind the unit that told the PID
+ended_unpiping : EventsTell → PacketsBehind → (start m n : T2miLines) (events : List Event) (bytes : List ℕ) → m.search ≡ Unpipes
+    → bytes ≡ [] → drop m.from m.unit ≡ [] → ((p : ℕ) (events : List stream.UnpiperEvent) → UnpiperStandsFor m.unpiper p events
+    → AllReleased p events)
+    → n.search ≡ Finished → n.at ≡ m.at + length bytes → n.count ≡ m.count → n.line ≡ count_line m.count → Comes start events m
+    → Comes start (events ++ Ended 0 bytes ∷ []) n
+ended_unpiping law behind start m n events bytes unpipes none held released done at count line c =
+    let f = found_in m _ _ _ Unpipes unpipes c.shown.found in
+    let more = law.ended 0 bytes events in
+    let u = f.unpiped in
+    let given : length (accepted_of f.pid f.bytes) ≡ m.count = ap (λ (l : List ℕ). length (accepted_of f.pid l)) (sym u.fed_are)
+    ∙ released f.pid u.events u.stands ∙ u.number in
+    let rest : (f.bytes ++ drop m.from m.unit) ++ [] ≡ f.bytes = append-nil (f.bytes ++ drop m.from m.unit)
+    ∙ ap (λ (l : List ℕ). f.bytes ++ l) held ∙ append-nil f.bytes in
+    let all : t2mi_packets_in (fed 0 (events ++ Ended 0 bytes ∷ [])) ≡ packets_from f.pid (length f.front) f.bytes =
+    ap t2mi_packets_in (more.here ∙ ap (λ (l : List ℕ). fed 0 events ++ l) none)
+    ∙ behind_all behind m (fed 0 events) (gave events) (has_ended 0 events) f []
+    ∙ ap (λ (l : List ℕ). map (further (length f.front)) (accepted_of f.pid l)) rest in
+    let many : length (packets_from f.pid (length f.front) f.bytes) ≡ m.count =
+    length-map (accepted_of f.pid f.bytes) (further (length f.front)) ∙ given in
+    let whole : take m.count (packets_from f.pid (length f.front) f.bytes) ≡ packets_from f.pid (length f.front) f.bytes =
+    ap (λ (j : ℕ). take j (packets_from f.pid (length f.front) f.bytes)) (sym many)
+    ∙ take-length (packets_from f.pid (length f.front) f.bytes) in
+    record {
+      fresh = c.fresh;
+      shown = record {
+        place = (let p = c.shown.place in let l = ap length more.here in let k = length-append (fed 0 events) bytes in
+            omega (arith, at, p, l, k));
+        found = found_as n _ _ _ Finished done (record {
+          over = more.ended;
+          number = count ∙ sym many ∙ ap length (sym all);
+          lines = inl (line ∙ ap count_line (sym count), more.gave ∙ f.lines ∙ ap place_lines (whole ∙ sym all));
+        });
+      };
+    }
+
+-- what is wanted
+wanted_in : (search : Search) (ready : Bool) (left : ℕ) (line : List ℕ) (input count : ℕ)
+    → Suffices (next_in search ready left line) input count → input ≡ 0
+wanted_in Seeks ready left line input count s = sym s.0
+wanted_in Unpipes true left line input count s = absurd s
+wanted_in Unpipes false left line input count s = go (nat_lt 0 left) s
+  where
+    go : (b : Bool) → Suffices (cond b Give (Read 0 1 BUFFER)) input count → input ≡ 0
+    go true s = absurd s
+    go false s = sym s.0
+wanted_in Finished ready left [] input count s = absurd s
+wanted_in Finished ready left (c ∷ line) input count s = absurd s
+
+pub wanted : (m : T2miLines) (input count : ℕ) → Suffices (next_of m) input count → input ≡ 0
+wanted m input count s = wanted_in m.search (is_ready m.unpiper) (SIZE - m.from) m.line input count s
+
+pub at_input : (start n : T2miLines) (events : List Event) (input : ℕ) (bytes : List ℕ) → input ≡ 0
+    → Comes start (events ++ Fed 0 bytes ∷ []) n → Comes start (events ++ Fed input bytes ∷ []) n
+at_input start n events input bytes zero c = subst (λ (k : ℕ). Comes start (events ++ Fed k bytes ∷ []) n) (sym zero) c
+
+-- what is too little
+short_in : (search : Search) (ready : Bool) (left : ℕ) (line : List ℕ) (input count : ℕ)
+    → FallsShort (next_in search ready left line) input count → (input ≡ 0)
+    × (((search ≡ Seeks) × (count < SIZE)) ⊎ ((search ≡ Unpipes) × (ready ≡ false) × (left ≡ 0) × (count ≡ 0)))
+short_in Seeks ready left line input count s = (sym s.0, inl (refl, s.1))
+short_in Unpipes true left line input count s = absurd s
+short_in Unpipes false left line input count s = go (nat_lt 0 left) refl s
+  where
+    go : (b : Bool) → nat_lt 0 left ≡ b → FallsShort (cond b Give (Read 0 1 BUFFER)) input count → (input ≡ 0)
+        × (((Unpipes ≡ Seeks) × (count < SIZE)) ⊎ ((Unpipes ≡ Unpipes) × (false ≡ false) × (left ≡ 0) × (count ≡ 0)))
+    go true is s = absurd s
+    go false is s =
+        (sym s.0, inr (refl, refl, (let n = ltb-false 0 left is in omega (arith, n)), (let k = s.1 in omega (arith, k))))
+short_in Finished ready left [] input count s = absurd s
+short_in Finished ready left (c ∷ line) input count s = absurd s
+
+-- the file has ended
+pub ended : EventsTell → NoPackets → PacketsBehind → (start m n : T2miLines) (events : List Event) (input : ℕ) (bytes : List ℕ)
+    → FallsShort (next_of m) input (length bytes) → length m.unit ≡ SIZE
+    → (is_ready m.unpiper ≡ false → (p : ℕ) (events : List stream.UnpiperEvent) → UnpiperStandsFor m.unpiper p events
+    → AllReleased p events)
+    → n.search ≡ Finished → n.at ≡ m.at + length bytes → n.count ≡ m.count → n.line ≡ count_line m.count → Comes start events m
+    → Comes start (events ++ Ended input bytes ∷ []) n
+ended law none behind start m n events input bytes s size released done at count line c =
+    let w = short_in m.search (is_ready m.unpiper) (SIZE - m.from) m.line input (length bytes) s in
+    subst (λ (k : ℕ). Comes start (events ++ Ended k bytes ∷ []) n) (sym w.0) (elim w.1 [
+      | inl seeks ↦ ended_seeking law none start m n events bytes seeks.0 seeks.1 done at count line c
+      | inr unpipes ↦ ended_unpiping law behind start m n events bytes unpipes.0 (nil_from_length bytes unpipes.3)
+          (drop_of_length-le m.unit (let l = unpipes.2 in omega (arith, l, size))) (released unpipes.1) done at count line c
+    ])

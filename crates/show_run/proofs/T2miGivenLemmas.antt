@@ -1,0 +1,156 @@
+-- Lines of packets in units are given.
+use Rattle.std.proofs.Common.{◌≡◌, ◌≢◌, ℕ, ◌+◌, ◌-◌, ◌^◌, ◌<◌, ◌≤◌, List, [], ◌∷◌, ◌++◌, length, take, drop, map, min, Option}
+use Rattle.std.proofs.Common.{Some, None, refl, ap, ap₂, sym, subst, ◌∙◌, inl, inr, arith, append-nil, length-append}
+use Rattle.std.specs.Prelude.{option_map, slice_get, codes}
+use Rattle.std.proofs.lemmas.List.{length-map, take_more}
+use Rattle.std.proofs.lemmas.List.Concat.{flat_map-append}
+use Rattle.std.proofs.lemmas.Option.{slice_get-map, slice_get_within, get_or_from_slice_get}
+use Rattle.desk_io.specs.Reading.{most_bytes}
+use Rattle.t2mi_packet.specs.T2miPacket.{view_of}
+use Rattle.t2mi_stream.specs.Accepted.{AcceptedPacket}
+use Rattle.t2mi_stream.specs.Events as stream
+use Rattle.t2mi_stream.specs.Events.UnpiperEvent.{Released}
+use Rattle.t2mi_stream.specs.FirstPid.{t2mi_packets_in}
+use Rattle.t2mi_stream.specs.Laws.{EventsPush}
+use Rattle.t2mi_stream.specs.Skipping.{further, PacketPlaces, FewPackets}
+use Rattle.t2mi_stream.specs.Units.{accepted_of}
+use Rattle.t2mi_stream.specs.UnpiperStandsFor.{UnpiperStandsFor, next_packet}
+use Rattle.t2mi_stream.specs.declared.unpiper.Unpiper.{Unpiper}
+use Rattle.file_run.specs.Events.{Event, Gave}
+use Rattle.file_run.specs.Laws.{EventsTell}
+use Rattle.show_run.specs.SaidLines.{view_line, count_line}
+use Rattle.show_run.specs.T2miLines.{packets_from, Unpiped, Comes}
+use Rattle.show_run.specs.T2miText.{place_line, place_lines}
+use Rattle.show_run.specs.declared.t2mi_lines.T2miLines.{T2miLines}
+use Rattle.show_run.specs.declared.t2mi_lines.Search.TheVariants.{Unpipes, Finished}
+use Rattle.show_run.proofs.T2miLinesLemmas.{found_as, found_in}
+
+given_up : EventsPush → (old new : Unpiper) (pid : ℕ) (bytes : List ℕ) (number : ℕ) →
+    ((p : ℕ) (events : List stream.UnpiperEvent) → UnpiperStandsFor old p events
+    → UnpiperStandsFor new p (events ++ Released ∷ [])) → Unpiped old pid bytes number → Unpiped new pid bytes (number + 1)
+given_up law old new pid bytes number f u = record {
+  events = u.events ++ Released ∷ [];
+  fed_are = (law u.events).fed_same ∙ u.fed_are;
+  number = (law u.events).released_more ∙ ap (λ (n : ℕ). n + 1) u.number;
+  stands = f pid u.events u.stands;
+}
+
+-- the packet that waits, by its number
+waiting_packet : (unpiper : Unpiper) (pid : ℕ) (bytes : List ℕ) (number : ℕ) (u : Unpiped unpiper pid bytes number)
+    → next_packet pid u.events ≡ slice_get (accepted_of pid bytes) number
+waiting_packet unpiper pid bytes number u = ap₂ (λ (l : List ℕ) (n : ℕ). slice_get (accepted_of pid l) n) u.fed_are u.number
+
+known : (o : Option AcceptedPacket) (place : ℕ) (bytes : List ℕ) → option_map (λ a. a.place) o ≡ Some place
+    → option_map (λ a. a.bytes) o ≡ Some bytes → (packet : AcceptedPacket) × (o ≡ Some packet) × (packet.place ≡ place)
+    × (packet.bytes ≡ bytes)
+known None place bytes e f = let no : None ≡ Some place = e in cc
+known (Some a) place bytes e f = let here : a.place ≡ place = cc in let same : a.bytes ≡ bytes = cc in (a, refl, here, same)
+
+-- one packet more was given
+one_more : (packets : List AcceptedPacket) (base count : ℕ) (packet : AcceptedPacket) → slice_get packets count ≡ Some packet
+    → (count < length packets) × (take (count + 1) (map (further base) packets) ≡ take count (map (further base) packets)
+    ++ further base packet ∷ [])
+one_more packets base count packet is =
+    let inside : count < length packets = slice_get_within packets count packet is in
+    let n = length-map packets (further base) in
+    let at : slice_get (map (further base) packets) count ≡ Some (further base packet) =
+    slice_get-map (further base) packets count ∙ ap (option_map (further base)) is in (
+      inside,
+      take_more (map (further base) packets) count (further base packet) (omega (arith, n, inside))
+          ∙ ap (λ (p : AcceptedPacket). take count (map (further base) packets) ++ p ∷ [])
+          (get_or_from_slice_get (map (further base) packets) count (further base packet) (further base packet) at),
+    )
+
+pub gave_packet : EventsTell → EventsPush → PacketPlaces → FewPackets
+    → (start m n : T2miLines) (events : List Event) (place at : ℕ) (bytes line : List ℕ) → m.search ≡ Unpipes
+    → n.search ≡ m.search → n.at ≡ m.at → m.at ≤ most_bytes → n.base ≡ m.base → n.unit ≡ m.unit → n.from ≡ m.from
+    → n.count ≡ min (m.count + 1) (2 ^ 64 - 1) → n.line ≡ m.line → at ≡ min (m.base + place) (2 ^ 64 - 1)
+    → line ≡ view_line (codes "place=") at (view_of bytes)
+    → ((p : ℕ) (events : List stream.UnpiperEvent) → UnpiperStandsFor m.unpiper p events
+    → option_map (λ a. a.place) (next_packet p events) ≡ Some place)
+    → ((p : ℕ) (events : List stream.UnpiperEvent) → UnpiperStandsFor m.unpiper p events
+    → option_map (λ a. a.bytes) (next_packet p events) ≡ Some bytes)
+    → ((p : ℕ) (events : List stream.UnpiperEvent) → UnpiperStandsFor m.unpiper p events
+    → UnpiperStandsFor n.unpiper p (events ++ Released ∷ [])) → Comes start events m
+    → Comes start (events ++ Gave line ∷ []) n
+gave_packet law push places few start m n events place at bytes line unpipes same where_ small base unit from count idle there
+    text first packet released c =
+    let f = found_in m _ _ _ Unpipes unpipes c.shown.found in
+    let more = law.given line events in
+    let u = f.unpiped in
+    let w = waiting_packet m.unpiper f.pid f.bytes m.count u in
+    let k = known (slice_get (accepted_of f.pid f.bytes) m.count) place bytes (ap (option_map (λ a. a.place)) (sym w)
+    ∙ first f.pid u.events u.stands) (ap (option_map (λ a. a.bytes)) (sym w) ∙ packet f.pid u.events u.stands) in
+    let one = one_more (accepted_of f.pid f.bytes) (length f.front) m.count k.0 k.1 in
+    let inside = places f.pid f.bytes m.count k.0 k.1 in
+    let all = few f.pid f.bytes in
+    let size = ap length f.parts in
+    let parts = length-append f.front (f.bytes ++ drop m.from m.unit) in
+    let held = length-append f.bytes (drop m.from m.unit) in
+    let p = c.shown.place in
+    let b = f.base in
+    let kp = k.2 in
+    let io = one.0 in
+    let count_is : n.count ≡ m.count + 1 = omega (arith, count, io, all, size, parts, held, p, small) in
+    let at_is : length f.front + k.0.place ≡ at = omega (arith, there, inside, size, parts, held, p, small, b, kp) in
+    let line_is : line ≡ place_line (further (length f.front) k.0) =
+    text ∙ ap₂ (λ (j : ℕ) (l : List ℕ). view_line (codes "place=") j (view_of l)) (sym at_is) (sym k.3) in
+    record {
+      fresh = c.fresh;
+      shown = record {
+        place = where_ ∙ c.shown.place ∙ ap length (sym (more.fed 0));
+        found = found_as n _ _ _ Unpipes (same ∙ unpipes) (record {
+          front = f.front;
+          bytes = f.bytes;
+          pid = f.pid;
+          first = f.first;
+          more = f.more;
+          none = f.none;
+          base = base ∙ f.base;
+          parts = more.fed 0 ∙ f.parts ∙ ap₂ (λ (j : ℕ) (l : List ℕ). f.front ++ (f.bytes ++ drop j l)) (sym from) (sym unit);
+          begins = ap₂ (λ (j : ℕ) (l : List ℕ). f.bytes ++ drop j l) from unit ∙ f.begins;
+          whole = f.whole;
+          tells = f.tells;
+          unpiped = subst (λ (j : ℕ). Unpiped n.unpiper f.pid f.bytes j) (sym count_is)
+              (given_up push m.unpiper n.unpiper f.pid f.bytes m.count released u);
+          few = omega (arith, count_is, io);
+          lines = more.gave ∙ ap₂ (λ (x : List ℕ) (y : List ℕ). x ++ y) f.lines line_is
+              ∙ sym (ap (λ (j : ℕ). place_lines (take j (packets_from f.pid (length f.front) f.bytes))) count_is
+              ∙ ap place_lines one.1
+              ∙ flat_map-append place_line (take m.count (packets_from f.pid (length f.front) f.bytes))
+              (further (length f.front) k.0 ∷ [])
+              ∙ ap (λ (l : List ℕ). place_lines (take m.count (packets_from f.pid (length f.front) f.bytes)) ++ l)
+              (append-nil (place_line (further (length f.front) k.0))));
+          is_open = more.ended 0 ∙ f.is_open;
+          idle = idle ∙ f.idle;
+        });
+      };
+    }
+
+-- the line of the number was given
+pub gave_count : EventsTell → (start m n : T2miLines) (events : List Event) (line : List ℕ) → m.search ≡ Finished → m.line ≢ []
+    → line ≡ m.line → n.search ≡ m.search → n.at ≡ m.at → n.count ≡ m.count → n.line ≡ [] → Comes start events m
+    → Comes start (events ++ Gave line ∷ []) n
+gave_count law start m n events line done some is same at count none c =
+    let f = found_in m _ _ _ Finished done c.shown.found in
+    let more = law.given line events in
+    record {
+      fresh = c.fresh;
+      shown = record {
+        place = at ∙ c.shown.place ∙ ap length (sym (more.fed 0));
+        found = found_as n _ _ _ Finished (same ∙ done) (record {
+          over = more.ended 0 ∙ f.over;
+          number = count ∙ f.number ∙ ap (λ (l : List ℕ). length (t2mi_packets_in l)) (sym (more.fed 0));
+          lines = elim f.lines [
+            | inl waits ↦
+                inr (
+                  none,
+                  more.gave ∙ ap₂ (λ (x : List ℕ) (y : List ℕ). x ++ y) waits.1
+                      (is ∙ waits.0 ∙ ap count_line (sym count))
+                      ∙ ap (λ (l : List ℕ). place_lines (t2mi_packets_in l) ++ count_line n.count) (sym (more.fed 0)),
+                )
+            | inr given ↦ absurd (some given.0)
+          ];
+        });
+      };
+    }
