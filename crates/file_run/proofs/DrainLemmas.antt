@@ -1,5 +1,6 @@
 -- Writing what a machine gives, step by step.
-use Rattle.std.proofs.Common.{◌≡◌, ◌≢◌, ℕ, List, [], ◌∷◌, ◌++◌, ap, sym, subst, ◌∙◌, inl, inr, append_assoc, append-nil, length, length-append, arith}
+use Rattle.std.proofs.Common.{◌≡◌, ◌≢◌, ℕ, List, [], ◌∷◌, ◌++◌, ap, sym, subst, ◌∙◌, inl, inr, append_assoc, append-nil, length}
+use Rattle.std.proofs.Common.{length-append, arith}
 use Rattle.std.specs.Prelude.{◌⊎◌}
 use Rattle.std.proofs.lemmas.List.{nil_from_length}
 use Rattle.ports.specs.Desk.{State}
@@ -11,7 +12,8 @@ use Rattle.file_run.specs.declared.machine.Step.{Step}
 use Rattle.file_run.specs.declared.machine.Step.TheVariants.{Give}
 use Rattle.file_run.proofs.EventLemmas.{only_none, only_more, gave_piece}
 
-pub drained_none : AppendsNone → {A : Type 0} (Becomes : A → List Event → A → Type 0) (m : A) (s : State) (out : ℕ) (waiting : List ℕ) → waiting ≡ [] → DrainsPart Becomes m m s s out waiting
+pub drained_none : AppendsNone → {A : Type 0} (Becomes : A → List Event → A → Type 0) (m : A) (s : State) (out : ℕ)
+    (waiting : List ℕ) → waiting ≡ [] → DrainsPart Becomes m m s s out waiting
 drained_none law {A = A} Becomes m s out waiting none = record {
   late = [];
   only = only_none;
@@ -22,7 +24,8 @@ drained_none law {A = A} Becomes m s out waiting none = record {
 }
 
 -- A front of what waits was written.
-pub drained_some : AppendsThen → {A : Type 0} (Becomes : A → List Event → A → Type 0) (old new : A) (was now is : State) (out : ℕ) (waiting left : List ℕ) → DrainsPart Becomes old new was now out waiting
+pub drained_some : AppendsThen → {A : Type 0} (Becomes : A → List Event → A → Type 0) (old new : A) (was now is : State) (out : ℕ)
+    (waiting left : List ℕ) → DrainsPart Becomes old new was now out waiting
     → AppendsSome now is out waiting left → DrainsPart Becomes old new was is out left
 drained_some law Becomes old new was now is out waiting left d p = record {
   late = d.late;
@@ -34,18 +37,22 @@ drained_some law Becomes old new was now is out waiting left d p = record {
 }
 
 -- A machine gave a piece.
-pub drained_more : {A : Type 0} (Becomes : A → List Event → A → Type 0) (old mid new : A) (was is : State) (out : ℕ) (waiting left : List ℕ) → DrainsPart Becomes old mid was is out waiting → Gathers Becomes mid new waiting left
+pub drained_more : {A : Type 0} (Becomes : A → List Event → A → Type 0) (old mid new : A) (was is : State) (out : ℕ)
+    (waiting left : List ℕ) → DrainsPart Becomes old mid was is out waiting → Gathers Becomes mid new waiting left
     → DrainsPart Becomes old new was is out left
 drained_more Becomes old mid new was is out waiting left d g = record {
   late = d.late ++ Gave g.piece ∷ [];
   only = only_more d.late g.piece d.only;
-  becomes = λ start events h. subst (λ (l : List Event). Becomes start l new) (append_assoc events d.late (Gave g.piece ∷ [])) (g.becomes start (events ++ d.late) (d.becomes start events h));
+  becomes = λ start events h. subst (λ (l : List Event). Becomes start l new) (append_assoc events d.late (Gave g.piece ∷ []))
+      (g.becomes start (events ++ d.late) (d.becomes start events h));
   front = d.front;
-  parts = (gave_piece g.piece d.late).gave ∙ ap (λ (l : List ℕ). l ++ g.piece) d.parts ∙ append_assoc d.front waiting g.piece ∙ ap (λ (l : List ℕ). d.front ++ l) (sym g.behind);
+  parts = (gave_piece g.piece d.late).gave ∙ ap (λ (l : List ℕ). l ++ g.piece) d.parts ∙ append_assoc d.front waiting g.piece
+      ∙ ap (λ (l : List ℕ). d.front ++ l) (sym g.behind);
   wrote = d.wrote;
 }
 
-pub drained_all : AppendsThen → {A : Type 0} (Becomes : A → List Event → A → Type 0) (old new : A) (was now is : State) (out : ℕ) (waiting : List ℕ) → DrainsPart Becomes old new was now out waiting
+pub drained_all : AppendsThen → {A : Type 0} (Becomes : A → List Event → A → Type 0) (old new : A) (was now is : State) (out : ℕ)
+    (waiting : List ℕ) → DrainsPart Becomes old new was now out waiting
     → Appends now is out waiting → Drains Becomes old new was is out
 drained_all law Becomes old new was now is out waiting d a = record {
   late = d.late;
@@ -55,7 +62,8 @@ drained_all law Becomes old new was now is out waiting d a = record {
 }
 
 -- what waits was not all written
-pub drained_short : AppendsThen → {A : Type 0} (Becomes : A → List Event → A → Type 0) (old new : A) (was now is : State) (out : ℕ) (waiting : List ℕ) → DrainsPart Becomes old new was now out waiting
+pub drained_short : AppendsThen → {A : Type 0} (Becomes : A → List Event → A → Type 0) (old new : A) (was now is : State)
+    (out : ℕ) (waiting : List ℕ) → DrainsPart Becomes old new was now out waiting
     → AppendsFront now is out waiting → DrainsFront Becomes old new was is out
 drained_short law Becomes old new was now is out waiting d a = record {
   late = d.late;
@@ -71,11 +79,13 @@ drained_short law Becomes old new was now is out waiting d a = record {
 }
 
 -- A machine that is not as it was gave first.
-pub gave_first : {A : Type 0} (old mid : A) (waiting : List ℕ) (next : A → Step) → ((mid ≡ old) × (waiting ≡ [])) ⊎ (next old ≡ Give) → next mid ≡ Give → next old ≡ Give
+pub gave_first : {A : Type 0} (old mid : A) (waiting : List ℕ) (next : A → Step) → ((mid ≡ old) × (waiting ≡ []))
+    ⊎ (next old ≡ Give) → next mid ≡ Give → next old ≡ Give
 gave_first old mid waiting next (inl same) gives = ap next (sym same.0) ∙ gives
 gave_first old mid waiting next (inr first) gives = first
 
-pub waits_first : {A : Type 0} (old mid : A) (waiting front more : List ℕ) (next : A → Step) → ((mid ≡ old) × (waiting ≡ [])) ⊎ (next old ≡ Give) → waiting ≡ front ++ more → more ≢ [] → next old ≡ Give
+pub waits_first : {A : Type 0} (old mid : A) (waiting front more : List ℕ) (next : A → Step) → ((mid ≡ old) × (waiting ≡ []))
+    ⊎ (next old ≡ Give) → waiting ≡ front ++ more → more ≢ [] → next old ≡ Give
 waits_first old mid waiting front more next (inl same) parts some =
     absurd (some (nil_from_length more (let n = ap length (sym same.1 ∙ parts) in omega (arith, n, length-append front more))))
 waits_first old mid waiting front more next (inr first) parts some = first

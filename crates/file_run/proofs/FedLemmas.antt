@@ -1,5 +1,6 @@
 -- A machine was fed in a run.
-use Rattle.std.proofs.Common.{◌≡◌, ◌≢◌, ℕ, ◌+◌, ◌-◌, ◌<◌, ◌≤◌, Bool, true, List, [], ◌∷◌, ◌++◌, length, Option, Some, None, refl, ap, sym, subst, ◌∙◌, inl, inr, arith, append_assoc, length-append}
+use Rattle.std.proofs.Common.{◌≡◌, ◌≢◌, ℕ, ◌+◌, ◌-◌, ◌<◌, ◌≤◌, Bool, true, List, [], ◌∷◌, ◌++◌, length, Option, Some, None, refl}
+use Rattle.std.proofs.Common.{ap, sym, subst, ◌∙◌, inl, inr, arith, append_assoc, length-append}
 use Rattle.std.specs.Prelude.{slice_index, slice_index_or, slice_set, option_map, ◌⊎◌}
 use Rattle.std.specs.List.{sum_by}
 use Rattle.std.proofs.lemmas.List.{nil_from_length, length-set}
@@ -19,17 +20,22 @@ use Rattle.file_run.proofs.OpenLemmas.{of_some, reads_fail}
 use Rattle.file_run.proofs.RunLemmas.{each_reader, read_same, read_on, other_left, stands_by, reading_same, place_at, all_short}
 
 -- what one event tells of its input, of another one, and of the output
-pub fed_other : (e : Event) (input other count : ℕ) (o n : Option (List ℕ)) (events : List Event) → other ≢ input → IsTaken e input o n count → fed other (events ++ e ∷ []) ≡ fed other events
+pub fed_other : (e : Event) (input other count : ℕ) (o n : Option (List ℕ)) (events : List Event) → other ≢ input
+    → IsTaken e input o n count → fed other (events ++ e ∷ []) ≡ fed other events
 fed_other (Fed to bytes) input other count o n events differ t = (fed_more to bytes events).others other (λ e. differ (e ∙ t.0))
-fed_other (Ended to bytes) input other count o n events differ t = (ended_more to bytes events).others other (λ e. differ (e ∙ t.0))
+fed_other (Ended to bytes) input other count o n events differ t =
+    (ended_more to bytes events).others other (λ e. differ (e ∙ t.0))
 fed_other (Gave bytes) input other count o n events differ t = absurd t
 
-pub ended_other : (e : Event) (input other count : ℕ) (o n : Option (List ℕ)) (events : List Event) → other ≢ input → IsTaken e input o n count → has_ended other (events ++ e ∷ []) ≡ has_ended other events
+pub ended_other : (e : Event) (input other count : ℕ) (o n : Option (List ℕ)) (events : List Event) → other ≢ input
+    → IsTaken e input o n count → has_ended other (events ++ e ∷ []) ≡ has_ended other events
 ended_other (Fed to bytes) input other count o n events differ t = (fed_more to bytes events).ended other
-ended_other (Ended to bytes) input other count o n events differ t = (ended_more to bytes events).others_ended other (λ e. differ (e ∙ t.0))
+ended_other (Ended to bytes) input other count o n events differ t =
+    (ended_more to bytes events).others_ended other (λ e. differ (e ∙ t.0))
 ended_other (Gave bytes) input other count o n events differ t = absurd t
 
-pub gives_none : (e : Event) (input count : ℕ) (o n : Option (List ℕ)) (events : List Event) → IsTaken e input o n count → gave (events ++ e ∷ []) ≡ gave events
+pub gives_none : (e : Event) (input count : ℕ) (o n : Option (List ℕ)) (events : List Event) → IsTaken e input o n count
+    → gave (events ++ e ∷ []) ≡ gave events
 gives_none (Fed to bytes) input count o n events t = (fed_more to bytes events).gave
 gives_none (Ended to bytes) input count o n events t = (ended_more to bytes events).gave
 gives_none (Gave bytes) input count o n events t = absurd t
@@ -37,125 +43,177 @@ gives_none (Gave bytes) input count o n events t = absurd t
 longer : (now was more : List ℕ) (count : ℕ) → now ≡ was ++ more → count ≡ length more → length now ≡ length was + count
 longer now was more count e f = ap length e ∙ length-append was more ∙ ap (λ (k : ℕ). length was + k) (sym f)
 
-pub fed_here : (e : Event) (input count : ℕ) (o n : Option (List ℕ)) (events : List Event) → IsTaken e input o n count → length (fed input (events ++ e ∷ [])) ≡ length (fed input events) + count
-fed_here (Fed to bytes) input count o n events t = ap (λ (k : ℕ). length (fed input (events ++ Fed k bytes ∷ []))) t.0 ∙ longer _ (fed input events) bytes count (fed_more input bytes events).here t.1
-fed_here (Ended to bytes) input count o n events t = ap (λ (k : ℕ). length (fed input (events ++ Ended k bytes ∷ []))) t.0 ∙ longer _ (fed input events) bytes count (ended_more input bytes events).here t.1
+pub fed_here : (e : Event) (input count : ℕ) (o n : Option (List ℕ)) (events : List Event) → IsTaken e input o n count
+    → length (fed input (events ++ e ∷ [])) ≡ length (fed input events) + count
+fed_here (Fed to bytes) input count o n events t = ap (λ (k : ℕ). length (fed input (events ++ Fed k bytes ∷ []))) t.0
+    ∙ longer _ (fed input events) bytes count (fed_more input bytes events).here t.1
+fed_here (Ended to bytes) input count o n events t = ap (λ (k : ℕ). length (fed input (events ++ Ended k bytes ∷ []))) t.0
+    ∙ longer _ (fed input events) bytes count (ended_more input bytes events).here t.1
 fed_here (Gave bytes) input count o n events t = absurd t
 
-opened_left : (rest : Option (List ℕ)) (front left : List ℕ) (o : Option (List ℕ)) → o ≡ option_map (λ rest. front ++ rest) rest → o ≡ Some left → (l : List ℕ) × (rest ≡ Some l) × (left ≡ front ++ l)
+opened_left : (rest : Option (List ℕ)) (front left : List ℕ) (o : Option (List ℕ)) → o ≡ option_map (λ rest. front ++ rest) rest
+    → o ≡ Some left → (l : List ℕ) × (rest ≡ Some l) × (left ≡ front ++ l)
 opened_left None front left o e f = absurd (let z : Some left ≡ None = sym f ∙ e in cc)
 opened_left (Some l) front left o e f = (l, refl, (let z : Some left ≡ Some (front ++ l) = sym f ∙ e in cc))
 
 none_behind : (front l : List ℕ) → front ++ l ≡ [] → l ≡ []
 none_behind front l e = nil_from_length l (let n = ap length e in let m = length-append front l in omega (arith, n, m))
 
-read_more : (file front taken now : List ℕ) (o n : Option (List ℕ)) (was is : Bool) → o ≡ option_map (λ rest. front ++ rest) n → now ≡ taken ++ front → ((l : List ℕ) → n ≡ Some l → is ≡ true → (was ≡ true) ⊎ (l ≡ []))
+read_more : (file front taken now : List ℕ) (o n : Option (List ℕ)) (was is : Bool) → o ≡ option_map (λ rest. front ++ rest) n
+    → now ≡ taken ++ front → ((l : List ℕ) → n ≡ Some l → is ≡ true → (was ≡ true) ⊎ (l ≡ []))
     → IsRead file o taken was → IsRead file n now is
 read_more file front taken now o n was is e f end r =
     let l = opened_left n front r.left o e r.rest_is in
     record {
       left = l.0;
       rest_is = l.1;
-      parts = r.parts ∙ ap (λ (x : List ℕ). taken ++ x) l.2 ∙ sym (append_assoc taken front l.0) ∙ ap (λ (x : List ℕ). x ++ l.0) (sym f);
+      parts = r.parts ∙ ap (λ (x : List ℕ). taken ++ x) l.2 ∙ sym (append_assoc taken front l.0)
+          ∙ ap (λ (x : List ℕ). x ++ l.0) (sym f);
       end = λ on. elim (end l.0 l.1 on) [ inl before ↦ none_behind front l.0 (sym l.2 ∙ r.end before) | inr none ↦ none ];
     }
 
-pub read_here : (e : Event) (file : List ℕ) (input count : ℕ) (o n : Option (List ℕ)) (events : List Event) → IsTaken e input o n count → IsRead file o (fed input events) (has_ended input events)
+pub read_here : (e : Event) (file : List ℕ) (input count : ℕ) (o n : Option (List ℕ)) (events : List Event)
+    → IsTaken e input o n count → IsRead file o (fed input events) (has_ended input events)
     → IsRead file n (fed input (events ++ e ∷ [])) (has_ended input (events ++ e ∷ []))
 read_here (Fed to bytes) file input count o n events t r =
-    subst (λ (k : ℕ). IsRead file n (fed input (events ++ Fed k bytes ∷ [])) (has_ended input (events ++ Fed k bytes ∷ []))) (sym t.0)
-    (read_more file bytes (fed input events) _ o n (has_ended input events) _ t.2 (fed_more input bytes events).here (λ l is on. inl (sym ((fed_more input bytes events).ended input) ∙ on)) r)
+    subst (λ (k : ℕ). IsRead file n (fed input (events ++ Fed k bytes ∷ [])) (has_ended input (events ++ Fed k bytes ∷ [])))
+    (sym t.0)
+    (read_more file bytes (fed input events) _ o n (has_ended input events) _ t.2 (fed_more input bytes events).here
+    (λ l is on. inl (sym ((fed_more input bytes events).ended input) ∙ on)) r)
 read_here (Ended to bytes) file input count o n events t r =
-    subst (λ (k : ℕ). IsRead file n (fed input (events ++ Ended k bytes ∷ [])) (has_ended input (events ++ Ended k bytes ∷ []))) (sym t.0)
-    (read_more file bytes (fed input events) _ o n (has_ended input events) _ t.2 (ended_more input bytes events).here (λ l is on. inr (of_some n l (λ rest. rest ≡ []) is t.3)) r)
+    subst (λ (k : ℕ). IsRead file n (fed input (events ++ Ended k bytes ∷ [])) (has_ended input (events ++ Ended k bytes ∷ [])))
+    (sym t.0)
+    (read_more file bytes (fed input events) _ o n (has_ended input events) _ t.2 (ended_more input bytes events).here
+    (λ l is on. inr (of_some n l (λ rest. rest ≡ []) is t.3)) r)
 read_here (Gave bytes) file input count o n events t r = absurd t
 
-pub ended_here : (e : Event) (input count : ℕ) (o n : Option (List ℕ)) (was is : Bool) (events : List Event) → IsTaken e input o n count → IsMarked e was is → was ≡ has_ended input events → is ≡ has_ended input (events ++ e ∷ [])
+pub ended_here : (e : Event) (input count : ℕ) (o n : Option (List ℕ)) (was is : Bool) (events : List Event)
+    → IsTaken e input o n count → IsMarked e was is → was ≡ has_ended input events → is ≡ has_ended input (events ++ e ∷ [])
 ended_here (Fed to bytes) input count o n was is events t m h = m ∙ h ∙ sym ((fed_more to bytes events).ended input)
-ended_here (Ended to bytes) input count o n was is events t m h = m ∙ sym (ap (λ (k : ℕ). has_ended input (events ++ Ended k bytes ∷ [])) t.0 ∙ (ended_more input bytes events).ended)
+ended_here (Ended to bytes) input count o n was is events t m h =
+    m ∙ sym (ap (λ (k : ℕ). has_ended input (events ++ Ended k bytes ∷ [])) t.0 ∙ (ended_more input bytes events).ended)
 ended_here (Gave bytes) input count o n was is events t m h = absurd t
 
 -- A machine was fed.
-pub runs_fed : {A : Type 0} (Becomes : A → List Event → A → Type 0) (m n : A) (b : Start) (old new : State) (readings : List Reading) (input : ℕ) (is : Reading) (out : ℕ) (reach later : ℕ → ℕ) (events : List Event)
-    → input < length readings → Runs b old readings out reach events → ReadsOn old new (reading_at readings input) is → SameCounts old new → given_of is < most_bytes → given_of is ≤ later input
-    → ((other : ℕ) → reach other ≤ later other) → (f : Feeds Becomes m n old new (reading_at readings input) is input) → Runs b new (slice_set readings input is) out later (events ++ f.event ∷ [])
+pub runs_fed : {A : Type 0} (Becomes : A → List Event → A → Type 0) (m n : A) (b : Start) (old new : State)
+    (readings : List Reading) (input : ℕ) (is : Reading) (out : ℕ) (reach later : ℕ → ℕ) (events : List Event)
+    → input < length readings → Runs b old readings out reach events → ReadsOn old new (reading_at readings input) is
+    → SameCounts old new → given_of is < most_bytes → given_of is ≤ later input
+    → ((other : ℕ) → reach other ≤ later other) → (f : Feeds Becomes m n old new (reading_at readings input) is input)
+    → Runs b new (slice_set readings input is) out later (events ++ f.event ∷ [])
 runs_fed Becomes m n b old new readings input is out reach later events lt r on calm small near rises f = record {
   apart = r.apart;
-  reached = subst (λ (l : List ℕ). Reached b new (slice_set readings input is) out l) (sym (gives_none f.event input f.count _ _ events f.is_taken))
+  reached = subst (λ (l : List ℕ). Reached b new (slice_set readings input is) out l)
+      (sym (gives_none f.event input f.count _ _ events f.is_taken))
       (read_on b old new readings input is out (gave events) lt r.reached on);
   counts = calm ∙ r.counts;
   short = each_reader (λ k x. given_of x < most_bytes) readings input is lt small (λ other inside differ. r.short other inside);
   taken = each_reader (λ k x. x.taken ≡ length (fed k (events ++ f.event ∷ []))) readings input is lt
       (f.taken ∙ ap (λ (k : ℕ). k + f.count) (r.taken input lt) ∙ sym (fed_here f.event input f.count _ _ events f.is_taken))
-      (λ other inside differ. r.taken other inside ∙ ap length (sym (fed_other f.event input other f.count _ _ events differ f.is_taken)));
+      (λ other inside differ. r.taken other inside
+      ∙ ap length (sym (fed_other f.event input other f.count _ _ events differ f.is_taken)));
   ended = each_reader (λ k x. x.ended ≡ has_ended k (events ++ f.event ∷ [])) readings input is lt
       (ended_here f.event input f.count _ _ _ _ events f.is_taken f.marked (r.ended input lt))
       (λ other inside differ. r.ended other inside ∙ sym (ended_other f.event input other f.count _ _ events differ f.is_taken));
-  within = each_reader (λ k x. given_of x ≤ later k) readings input is lt near (λ other inside differ. let w = r.within other inside in let u = rises other in omega (arith, w, u));
+  within = each_reader (λ k x. given_of x ≤ later k) readings input is lt near
+      (λ other inside differ. let w = r.within other inside in let u = rises other in omega (arith, w, u));
   relates = λ h told.
       let rel = r.relates h told in
       let all = r.reached.all in
       record {
         present = rel.present;
-        reads = λ other inside. each_reader (λ k x. IsRead (file_at h b.ins k) (rest_of new x) (fed k (events ++ f.event ∷ [])) (has_ended k (events ++ f.event ∷ []))) readings input is lt
-            (read_here f.event (file_at h b.ins input) input f.count _ _ events f.is_taken (rel.reads input (omega (arith, lt, all))))
+        reads = λ other inside.
+            each_reader (λ k x. IsRead (file_at h b.ins k) (rest_of new x) (fed k (events ++ f.event ∷ []))
+            (has_ended k (events ++ f.event ∷ []))) readings input is lt
+            (read_here f.event (file_at h b.ins input) input f.count _ _ events f.is_taken
+            (rel.reads input (omega (arith, lt, all))))
             (λ k there differ. read_same _ _ _ _ _ _ _
-            (ap (option_map (λ l. (reading_at readings k).waiting ++ l)) (other_left b old new readings input k is out (gave events) lt there differ r.reached on))
-            (fed_other f.event input k f.count _ _ events differ f.is_taken) (ended_other f.event input k f.count _ _ events differ f.is_taken) (rel.reads k (omega (arith, there, all))))
+            (ap (option_map (λ l. (reading_at readings k).waiting ++ l))
+            (other_left b old new readings input k is out (gave events) lt there differ r.reached on))
+            (fed_other f.event input k f.count _ _ events differ f.is_taken)
+            (ended_other f.event input k f.count _ _ events differ f.is_taken) (rel.reads k (omega (arith, there, all))))
             other (let e = length-set readings input is in omega (arith, e, all, inside));
       };
 }
 
 -- An input was not read on.
-stands_unfed : {A : Type 0} (Becomes : List Event → A → Type 0) (m : A) (reach : A → ℕ → ℕ) (b : Start) (old new : State) (readings : List Reading) (input : ℕ) (is : Reading) (out : ℕ) (events : List Event)
-    → input < length readings → Runs b old readings out (reach m) events → Becomes events m → ReadsOn old new (reading_at readings input) is → TakesNone old new (reading_at readings input) is
-    → given_of is ≤ most_bytes → given_of is ≤ reach m input → Stands b.desk new b.out b.ins (reach m) (λ events. Becomes events m) HoldsAll
+stands_unfed : {A : Type 0} (Becomes : List Event → A → Type 0) (m : A) (reach : A → ℕ → ℕ) (b : Start) (old new : State)
+    (readings : List Reading) (input : ℕ) (is : Reading) (out : ℕ) (events : List Event)
+    → input < length readings → Runs b old readings out (reach m) events → Becomes events m
+    → ReadsOn old new (reading_at readings input) is → TakesNone old new (reading_at readings input) is
+    → given_of is ≤ most_bytes → given_of is ≤ reach m input
+    → Stands b.desk new b.out b.ins (reach m) (λ events. Becomes events m) HoldsAll
 stands_unfed Becomes m reach b old new readings input is out events lt r came on none small near =
-    stands_by b new (slice_set readings input is) out (gave events) (reach m) events (λ events. Becomes events m) HoldsAll (read_on b old new readings input is out (gave events) lt r.reached on) refl came
-    (each_reader (λ k x. given_of x ≤ most_bytes) readings input is lt small (λ other inside differ. let s = r.short other inside in omega (arith, s)))
-    (each_reader (λ k x. x.taken ≡ length (fed k events)) readings input is lt (none.taken ∙ r.taken input lt) (λ other inside differ. r.taken other inside))
+    stands_by b new (slice_set readings input is) out (gave events) (reach m) events (λ events. Becomes events m) HoldsAll
+    (read_on b old new readings input is out (gave events) lt r.reached on) refl came
+    (each_reader (λ k x. given_of x ≤ most_bytes) readings input is lt small
+    (λ other inside differ. let s = r.short other inside in omega (arith, s)))
+    (each_reader (λ k x. x.taken ≡ length (fed k events)) readings input is lt (none.taken ∙ r.taken input lt)
+    (λ other inside differ. r.taken other inside))
     (each_reader (λ k x. given_of x ≤ reach m k) readings input is lt near (λ other inside differ. r.within other inside))
     (λ h told.
     let rel = r.relates h told in
     let all = r.reached.all in
     record {
       present = rel.present;
-      reads = λ other inside. each_reader (λ k x. IsRead (file_at h b.ins k) (rest_of new x) (fed k events) (has_ended k events)) readings input is lt
+      reads = λ other inside. each_reader (λ k x. IsRead (file_at h b.ins k) (rest_of new x) (fed k events) (has_ended k events))
+          readings input is lt
           (read_same _ _ _ _ _ _ _ none.rest refl refl (rel.reads input (omega (arith, lt, all))))
           (λ k there differ. read_same _ _ _ _ _ _ _
-          (ap (option_map (λ l. (reading_at readings k).waiting ++ l)) (other_left b old new readings input k is out (gave events) lt there differ r.reached on)) refl refl (rel.reads k (omega (arith, there, all))))
+          (ap (option_map (λ l. (reading_at readings k).waiting ++ l))
+          (other_left b old new readings input k is out (gave events) lt there differ r.reached on)) refl refl
+          (rel.reads k (omega (arith, there, all))))
           other (let e = length-set readings input is in omega (arith, e, all, inside));
     })
 
 -- how much was read and not taken
-untaken : (readings : List Reading) (input fed : ℕ) (is : Reading) → input < length readings → is.taken ≡ fed → slice_index (places_of (slice_set readings input is)) input - fed ≡ length is.waiting
+untaken : (readings : List Reading) (input fed : ℕ) (is : Reading) → input < length readings → is.taken ≡ fed
+    → slice_index (places_of (slice_set readings input is)) input - fed ≡ length is.waiting
 untaken readings input fed is lt t =
     let n = length-set readings input is in
-    let p = place_at (slice_set readings input is) input (omega (arith, n, lt)) ∙ ap given_of (reading_same readings input is lt) in
+    let p = place_at (slice_set readings input is) input (omega (arith, n, lt))
+    ∙ ap given_of (reading_same readings input is lt) in
     omega (arith, p, t)
 
-pub stops_unfed : {A : Type 0} (Becomes : List Event → A → Type 0) (m : A) (reach : A → ℕ → ℕ) (next : A → Step) (b : Start) (old new : State) (readings : List Reading) (input least most : ℕ) (is : Reading) (out : ℕ) (events : List Event) (why : ReadStop)
-    → input < length readings → next m ≡ Read input least most → Runs b old readings out (reach m) events → Becomes events m → ReadsOn old new (reading_at readings input) is → TakesNone old new (reading_at readings input) is
-    → given_of is ≤ reach m input → StopsReading old new is least why → Stops b.desk new b.out b.ins reach next Becomes m (read_fault input why)
+pub stops_unfed : {A : Type 0} (Becomes : List Event → A → Type 0) (m : A) (reach : A → ℕ → ℕ) (next : A → Step) (b : Start)
+    (old new : State) (readings : List Reading) (input least most : ℕ) (is : Reading) (out : ℕ) (events : List Event)
+    (why : ReadStop)
+    → input < length readings → next m ≡ Read input least most → Runs b old readings out (reach m) events → Becomes events m
+    → ReadsOn old new (reading_at readings input) is → TakesNone old new (reading_at readings input) is
+    → given_of is ≤ reach m input → StopsReading old new is least why → Stops b.desk new b.out b.ins reach next Becomes m
+    (read_fault input why)
 unfolding stands_by stands_unfed
-stops_unfed Becomes m reach next b old new readings input least most is out events stop.TooLong lt wants r came on none near s = record {
-  stands = stands_unfed Becomes m reach b old new readings input is out events lt r came on none (let e = s.0 in omega (arith, e)) near;
-  place = let all = r.reached.all in omega (arith, lt, all);
-  wants = subst (λ (x : Step). Wants x input) (sym wants) refl;
-  gave = place_at (slice_set readings input is) input (let e = length-set readings input is in omega (arith, e, lt)) ∙ ap given_of (reading_same readings input is lt) ∙ s.0;
-  counts = s.1 ∙ r.counts;
-}
+stops_unfed Becomes m reach next b old new readings input least most is out events stop.TooLong lt wants r came on none near s =
+    record {
+      stands = stands_unfed Becomes m reach b old new readings input is out events lt r came on none (let e = s.0 in
+          omega (arith, e)) near;
+      place = let all = r.reached.all in omega (arith, lt, all);
+      wants = subst (λ (x : Step). Wants x input) (sym wants) refl;
+      gave = place_at (slice_set readings input is) input (let e = length-set readings input is in omega (arith, e, lt))
+          ∙ ap given_of (reading_same readings input is lt) ∙ s.0;
+      counts = s.1 ∙ r.counts;
+    }
 stops_unfed Becomes m reach next b old new readings input least most is out events stop.Fault lt wants r came on none near s = (
   reads_fail b.desk old new r.counts s.2,
   inr (record {
-    stands = stands_unfed Becomes m reach b old new readings input is out events lt r came on none (let e = s.0 in omega (arith, e)) near;
+    stands = stands_unfed Becomes m reach b old new readings input is out events lt r came on none (let e = s.0 in
+        omega (arith, e)) near;
     place = let all = r.reached.all in omega (arith, lt, all);
-    wants = subst (λ (x : Step). FallsShort x input (slice_index (places_of (slice_set readings input is)) input - length (fed input events))) (sym wants)
-        (refl, (let u = untaken readings input (length (fed input events)) is lt (none.taken ∙ r.taken input lt) in let w = s.1 in omega (arith, u, w)));
-    short = all_short (slice_set readings input is) (each_reader (λ k x. given_of x < most_bytes) readings input is lt s.0 (λ other inside differ. r.short other inside));
+    wants = subst
+        (λ (x : Step).
+        FallsShort x input (slice_index (places_of (slice_set readings input is)) input - length (fed input events))) (sym wants) (
+          refl,
+          (let u = untaken readings input (length (fed input events)) is lt (none.taken ∙ r.taken input lt) in let w = s.1 in
+              omega (arith, u, w)),
+        );
+    short = all_short (slice_set readings input is) (each_reader (λ k x. given_of x < most_bytes) readings input is lt s.0
+        (λ other inside differ. r.short other inside));
   }),
 )
 
 -- Each feeding makes less of what may still be read.
-pub less_left : (readings : List Reading) (input : ℕ) (was is d : Reading) → input < length readings → was ≡ slice_index_or readings input d → spare is < spare was → sum_by spare (slice_set readings input is) < sum_by spare readings
-less_left readings input was is d lt at fewer = let e = sum_by-set spare readings input is d lt in let f = ap spare at in omega (arith, e, f, fewer)
+pub less_left : (readings : List Reading) (input : ℕ) (was is d : Reading) → input < length readings
+    → was ≡ slice_index_or readings input d → spare is < spare was → sum_by spare (slice_set readings input is)
+    < sum_by spare readings
+less_left readings input was is d lt at fewer = let e = sum_by-set spare readings input is d lt in let f = ap spare at in
+    omega (arith, e, f, fewer)

@@ -1,5 +1,6 @@
 -- Feeding a machine with what was read.
-use Rattle.std.proofs.Common.{◌≡◌, ℕ, ◌+◌, ◌<◌, ◌≤◌, List, [], ◌∷◌, ◌++◌, length, take, drop, Option, Some, None, refl, ap, sym, subst, ◌∙◌, arith, append_assoc}
+use Rattle.std.proofs.Common.{◌≡◌, ℕ, ◌+◌, ◌<◌, ◌≤◌, List, [], ◌∷◌, ◌++◌, length, take, drop, Option, Some, None, refl, ap, sym}
+use Rattle.std.proofs.Common.{subst, ◌∙◌, arith, append_assoc}
 use Rattle.std.specs.Prelude.{IfSome, option_map, true, false}
 use Rattle.std.proofs.lemmas.List.{take-append-drop, length-take-le}
 use Rattle.std.proofs.Math.Seq.{take-length, drop-length}
@@ -17,17 +18,22 @@ skipped count r = record r { taken = r.taken + count; waiting = drop count r.wai
 abbrev pub finished : Reading → Reading
 finished r = record r { ended = true }
 
-split_rest : (o : Option (List ℕ)) (n : ℕ) (xs : List ℕ) → option_map (λ l. xs ++ l) o ≡ option_map (λ rest. take n xs ++ rest) (option_map (λ l. drop n xs ++ l) o)
+split_rest : (o : Option (List ℕ)) (n : ℕ) (xs : List ℕ) → option_map (λ l. xs ++ l) o ≡ option_map (λ rest. take n xs ++ rest)
+    (option_map (λ l. drop n xs ++ l) o)
 split_rest None n xs = refl
-split_rest (Some l) n xs = ap Some (ap (λ (ys : List ℕ). ys ++ l) (sym (take-append-drop n xs)) ∙ append_assoc (take n xs) (drop n xs) l)
+split_rest (Some l) n xs =
+    ap Some (ap (λ (ys : List ℕ). ys ++ l) (sym (take-append-drop n xs)) ∙ append_assoc (take n xs) (drop n xs) l)
 
 -- what is left of a file when some of its bytes were taken
-rest_skip : (s : State) (r : Reading) (n : ℕ) → rest_of s r ≡ option_map (λ rest. take n r.waiting ++ rest) (rest_of s (skipped n r))
+rest_skip : (s : State) (r : Reading) (n : ℕ) → rest_of s r ≡ option_map (λ rest. take n r.waiting ++ rest)
+    (rest_of s (skipped n r))
 rest_skip s r n = split_rest (left_of s r.handle) n r.waiting
 
-pub fed_by : {A : Type 0} (Becomes : A → List Event → A → Type 0) (old new : A) (before after : State) (was mid is : Reading) (input count : ℕ) (bytes : List ℕ) → bytes ≡ mid.waiting → count ≤ length bytes
+pub fed_by : {A : Type 0} (Becomes : A → List Event → A → Type 0) (old new : A) (before after : State) (was mid is : Reading)
+    (input count : ℕ) (bytes : List ℕ) → bytes ≡ mid.waiting → count ≤ length bytes
     → TakesNone before after was mid → is ≡ skipped count mid
-    → ((start : A) (events : List Event) → Becomes start events old → Becomes start (events ++ Fed input (take count bytes) ∷ []) new) → Feeds Becomes old new before after was is input
+    → ((start : A) (events : List Event) → Becomes start events old
+    → Becomes start (events ++ Fed input (take count bytes) ∷ []) new) → Feeds Becomes old new before after was is input
 fed_by Becomes old new before after was mid is input count bytes same few none skip becomes = record {
   event = Fed input (take count bytes);
   becomes = becomes;
@@ -37,18 +43,22 @@ fed_by Becomes old new before after was mid is input count bytes same few none s
   is_taken = (
     refl,
     sym (length-take-le count bytes few),
-    sym none.rest ∙ rest_skip after mid count ∙ ap (λ (r : Reading). option_map (λ rest. take count mid.waiting ++ rest) (rest_of after r)) (sym skip)
+    sym none.rest ∙ rest_skip after mid count
+        ∙ ap (λ (r : Reading). option_map (λ rest. take count mid.waiting ++ rest) (rest_of after r)) (sym skip)
         ∙ ap (λ (xs : List ℕ). option_map (λ rest. take count xs ++ rest) (rest_of after is)) (sym same),
   );
 }
 
-at_end : (o : Option (List ℕ)) (xs : List ℕ) → xs ≡ [] → IfSome o (λ left. left ≡ []) → IfSome (option_map (λ l. xs ++ l) o) (λ rest. rest ≡ [])
+at_end : (o : Option (List ℕ)) (xs : List ℕ) → xs ≡ [] → IfSome o (λ left. left ≡ [])
+    → IfSome (option_map (λ l. xs ++ l) o) (λ rest. rest ≡ [])
 at_end None xs e h = tt
 at_end (Some l) xs e h = ap (λ (ys : List ℕ). ys ++ l) e ∙ h
 
-pub ended_by : {A : Type 0} (Becomes : A → List Event → A → Type 0) (old new : A) (before after : State) (was mid is : Reading) (input count : ℕ) (bytes : List ℕ) → bytes ≡ mid.waiting → count ≡ length mid.waiting
+pub ended_by : {A : Type 0} (Becomes : A → List Event → A → Type 0) (old new : A) (before after : State) (was mid is : Reading)
+    (input count : ℕ) (bytes : List ℕ) → bytes ≡ mid.waiting → count ≡ length mid.waiting
     → TakesNone before after was mid → mid.handle ≡ was.handle → IsAtEnd after was.handle → is ≡ finished (skipped count mid)
-    → ((start : A) (events : List Event) → Becomes start events old → Becomes start (events ++ Ended input bytes ∷ []) new) → Feeds Becomes old new before after was is input
+    → ((start : A) (events : List Event) → Becomes start events old → Becomes start (events ++ Ended input bytes ∷ []) new)
+    → Feeds Becomes old new before after was is input
 ended_by Becomes old new before after was mid is input count bytes same all none reader end skip becomes =
     let whole : take count mid.waiting ≡ bytes = ap (λ (n : ℕ). take n mid.waiting) all ∙ take-length mid.waiting ∙ sym same in
     let nothing : drop count mid.waiting ≡ [] = ap (λ (n : ℕ). drop n mid.waiting) all ∙ drop-length mid.waiting in
@@ -61,10 +71,12 @@ ended_by Becomes old new before after was mid is input count bytes same all none
       is_taken = (
         refl,
         all ∙ ap length (sym same),
-        sym none.rest ∙ rest_skip after mid count ∙ ap (λ (r : Reading). option_map (λ rest. take count mid.waiting ++ rest) (rest_of after r)) (sym skip)
+        sym none.rest ∙ rest_skip after mid count
+            ∙ ap (λ (r : Reading). option_map (λ rest. take count mid.waiting ++ rest) (rest_of after r)) (sym skip)
             ∙ ap (λ (xs : List ℕ). option_map (λ rest. xs ++ rest) (rest_of after is)) whole,
         subst (λ (r : Reading). IfSome (rest_of after r) (λ rest. rest ≡ [])) (sym skip)
-            (at_end (left_of after mid.handle) (drop count mid.waiting) nothing (subst (λ (k : ℕ). IsAtEnd after k) (sym reader) end)),
+            (at_end (left_of after mid.handle) (drop count mid.waiting) nothing
+            (subst (λ (k : ℕ). IsAtEnd after k) (sym reader) end)),
       );
     }
 
@@ -75,7 +87,8 @@ spare_fed was is same more few = rw same (omega (arith, more, few))
 pub spare_ended : (was is : Reading) → was.ended ≡ false → is.ended ≡ true → was.taken ≤ is.taken → spare is < spare was
 spare_ended was is off on more = rw (off, on) (omega (arith, more))
 
-pub room_for : {A : Type 0} (Becomes : A → List Event → A → Type 0) (m : A) (input : ℕ) (before after : State) (was mid : Reading) (bytes : List ℕ) → bytes ≡ mid.waiting → TakesNone before after was mid → given_of mid < most_bytes
+pub room_for : {A : Type 0} (Becomes : A → List Event → A → Type 0) (m : A) (input : ℕ) (before after : State) (was mid : Reading)
+    (bytes : List ℕ) → bytes ≡ mid.waiting → TakesNone before after was mid → given_of mid < most_bytes
     → IsReader Becomes m input was → HasRoom Becomes m input (length bytes)
 room_for Becomes m input before after was mid bytes same none small r = record {
   start = r.start;

@@ -1,18 +1,23 @@
 -- Opening the inputs of a run and creating its output.
-use Rattle.std.proofs.Common.{◌≡◌, ◌≢◌, ℕ, ◌+◌, ◌<◌, ◌≤◌, true, false, List, [], ◌∷◌, ◌++◌, length, take, Option, Some, None, refl, ap, sym, subst, ◌∙◌, inl, inr, arith, append_assoc, append-nil, length-append}
+use Rattle.std.proofs.Common.{◌≡◌, ◌≢◌, ℕ, ◌+◌, ◌<◌, ◌≤◌, true, false, List, [], ◌∷◌, ◌++◌, length, take, Option, Some, None}
+use Rattle.std.proofs.Common.{refl, ap, sym, subst, ◌∙◌, inl, inr, arith, append_assoc, append-nil, length-append}
 use Rattle.std.specs.Prelude.{IfSome, IsSome, slice_index_or, slice_set, option_map, option_and_then}
 use Rattle.std.specs.FinMap.{get}
 use Rattle.std.proofs.lemmas.Bool.{cases_eq}
-use Rattle.std.proofs.lemmas.List.{length-map, length-take-le, get_or-take, get_or-map, map-append, length_push, get_or_push, get_or_append_left, take_more, take_more_set}
+use Rattle.std.proofs.lemmas.List.{length-map, length-take-le, get_or-take, get_or-map, map-append, length_push, get_or_push}
+use Rattle.std.proofs.lemmas.List.{get_or_append_left, take_more, take_more_set}
 use Rattle.terms.proofs.OptionLemmas.{was_some}
 use Rattle.ports.specs.declared.counts.Counts.{Counts}
 use Rattle.ports.specs.Counts.{Rose}
-use Rattle.ports.specs.Desk.{State, Held, Files, SameCounts, Keeps, Opens, Creates, FailsToCreate, with_name, with_empty, left_of, out_name, bytes_of, SameButFor}
+use Rattle.ports.specs.Desk.{State, Held, Files, SameCounts, Keeps, Opens, Creates, FailsToCreate, with_name, with_empty, left_of}
+use Rattle.ports.specs.Desk.{out_name, bytes_of, SameButFor}
 use Rattle.desk_io.specs.Faults.{ReadsFail, WritesFail}
 use Rattle.desk_io.specs.Laws.{CreatesEmpty}
 use Rattle.desk_io.specs.Reading.{Reading, given_of, rest_of}
-use Rattle.file_run.specs.FileRun.{AreApart, file_at, AreStarts, AreNamed, OpensInputs, FailsToCreateOutput, SameFiles, OtherFiles}
-use Rattle.file_run.specs.Running.{Start, reading_from, no_reading, reading_at, places_of, HoldsOut, Reached, IsRead, Runs, HoldsIns, AreOpened}
+use Rattle.file_run.specs.FileRun.{AreApart, file_at, AreStarts, AreNamed, OpensInputs, FailsToCreateOutput, SameFiles}
+use Rattle.file_run.specs.FileRun.{OtherFiles}
+use Rattle.file_run.specs.Running.{Start, reading_from, no_reading, reading_at, places_of, HoldsOut, Reached, IsRead, Runs}
+use Rattle.file_run.specs.Running.{HoldsIns, AreOpened}
 
 -- options
 pub some_is : {A : Type 0} (o : Option A) (P : A → Type 0) → ((x : A) → o ≡ Some x → P x) → IfSome o P
@@ -61,25 +66,32 @@ none_opened s = record {
 }
 
 -- below a list with one more, or at its end
-pushed : {X : Type 0} (P : ℕ → X → Type 0) (xs : List X) (x d : X) → ((i : ℕ) → i < length xs → P i (slice_index_or xs i d)) → P (length xs) x → (i : ℕ) → i < length (xs ++ x ∷ []) → P i (slice_index_or (xs ++ x ∷ []) i d)
+pushed : {X : Type 0} (P : ℕ → X → Type 0) (xs : List X) (x d : X) → ((i : ℕ) → i < length xs → P i (slice_index_or xs i d))
+    → P (length xs) x → (i : ℕ) → i < length (xs ++ x ∷ []) → P i (slice_index_or (xs ++ x ∷ []) i d)
 pushed {X = X} P xs x d h last i lt =
     elim (cases_eq i (length xs)) [
-      | inl same ↦ subst (λ (k : ℕ). P k (slice_index_or (xs ++ x ∷ []) k d)) (sym same) (subst (λ (y : X). P (length xs) y) (sym (get_or_push xs x d (length xs) refl)) last)
+      | inl same ↦ subst (λ (k : ℕ). P k (slice_index_or (xs ++ x ∷ []) k d)) (sym same)
+          (subst (λ (y : X). P (length xs) y) (sym (get_or_push xs x d (length xs) refl)) last)
       | inr differ ↦
           let inside : i < length xs = let n = length_push xs x in omega (arith, n, lt, differ) in
           subst (λ (y : X). P i y) (sym (get_or_append_left xs (x ∷ []) d i inside)) (h i inside)
     ]
 
 -- one more input is opened
-ins_more : (old mid new : State) (h : Held) (ins : List (List ℕ)) (name : List ℕ) (handle : ℕ) → length mid.opened ≡ length old.opened + length ins → Opens mid new name handle → HoldsIns old mid h ins
+ins_more : (old mid new : State) (h : Held) (ins : List (List ℕ)) (name : List ℕ) (handle : ℕ)
+    → length mid.opened ≡ length old.opened + length ins → Opens mid new name handle → HoldsIns old mid h ins
     → HoldsIns old new h (ins ++ name ∷ [])
 ins_more old mid new h ins name handle size o t =
     let held : new.held ≡ Some (with_name name t.is) = o.held ∙ ap (option_map (with_name name)) t.held in
-    let sized : length (t.is.names ++ name ∷ []) ≡ length new.opened = of_some new.held (with_name name t.is) (λ h. length h.names ≡ length new.opened) held o.names in
+    let sized : length (t.is.names ++ name ∷ []) ≡ length new.opened =
+    of_some new.held (with_name name t.is) (λ h. length h.names ≡ length new.opened) held o.names in
     let count : length t.is.names ≡ length old.opened + length ins =
-    let n = length_push t.is.names name in let m = ap length o.opened in let k = length_push mid.opened 0 in omega (arith, n, m, k, sized, size) in
+    let n = length_push t.is.names name in let m = ap length o.opened in let k = length_push mid.opened 0 in
+    omega (arith, n, m, k, sized, size) in
     let found : get t.is.files name ≡ get h.files name = ap (λ (f : Files). get f name) t.files in
-    let there : IsSome (get h.files name) = subst (λ (x : Option (List ℕ)). IsSome x) found (of_some mid.held t.is (λ h. IsSome (get h.files name)) t.held o.present) in
+    let there : IsSome (get h.files name) =
+    subst (λ (x : Option (List ℕ)). IsSome x) found
+    (of_some mid.held t.is (λ h. IsSome (get h.files name)) t.held o.present) in
     record {
       is = with_name name t.is;
       held = held;
@@ -90,21 +102,26 @@ ins_more old mid new h ins name handle size o t =
       present = pushed (λ i x. IsSome (get h.files x)) ins name [] t.present there;
       left = pushed (λ i x. left_of new (length old.opened + i) ≡ Some (bytes_of h.files x)) ins name []
           (λ i lt. o.others (length old.opened + i) (omega (arith, lt, size)) ∙ t.left i lt)
-          (ap (left_of new) (let n = o.number in let e : length old.opened + length ins ≡ handle = omega (arith, n, size) in e) ∙ o.left ∙ ap (option_and_then (λ h. get h.files name)) t.held ∙ found ∙ was_some (get h.files name) [] there);
+          (ap (left_of new) (let n = o.number in let e : length old.opened + length ins ≡ handle = omega (arith, n, size) in e)
+          ∙ o.left ∙ ap (option_and_then (λ h. get h.files name)) t.held ∙ found ∙ was_some (get h.files name) [] there);
     }
 
-pub one_opened : (old mid new : State) (ins : List (List ℕ)) (readings : List Reading) (name : List ℕ) (handle : ℕ) (reading : Reading) → Opens mid new name handle → SameCounts mid new → reading ≡ reading_from handle
+pub one_opened : (old mid new : State) (ins : List (List ℕ)) (readings : List Reading) (name : List ℕ) (handle : ℕ)
+    (reading : Reading) → Opens mid new name handle → SameCounts mid new → reading ≡ reading_from handle
     → AreOpened old mid ins readings → AreOpened old new (ins ++ name ∷ []) (readings ++ reading ∷ [])
 one_opened old mid new ins readings name handle reading o calm is was =
     let all = was.all in
-    let size : length mid.opened ≡ length old.opened + length ins = let e = ap length was.opened in omega (arith, e, all, length-append old.opened (places_of readings), length-map readings given_of) in
+    let size : length mid.opened ≡ length old.opened + length ins = let e = ap length was.opened in
+    omega (arith, e, all, length-append old.opened (places_of readings), length-map readings given_of) in
     let given : given_of reading ≡ 0 = ap given_of is in
     let at : handle ≡ length old.opened + length readings = let n = o.number in omega (arith, n, size, all) in
     record {
       opened = o.opened ∙ ap (λ (l : List ℕ). l ++ 0 ∷ []) was.opened ∙ append_assoc old.opened (places_of readings) (0 ∷ [])
-          ∙ ap (λ (n : ℕ). old.opened ++ (places_of readings ++ n ∷ [])) (sym given) ∙ ap (λ (l : List ℕ). old.opened ++ l) (sym (map-append given_of readings (reading ∷ [])));
+          ∙ ap (λ (n : ℕ). old.opened ++ (places_of readings ++ n ∷ [])) (sym given)
+          ∙ ap (λ (l : List ℕ). old.opened ++ l) (sym (map-append given_of readings (reading ∷ [])));
       all = length_push readings reading ∙ ap (λ (n : ℕ). n + 1) all ∙ sym (length_push ins name);
-      begin = pushed (λ i r. r ≡ reading_from (length old.opened + i)) readings reading no_reading was.begin (is ∙ ap reading_from at);
+      begin = pushed (λ i r. r ≡ reading_from (length old.opened + i)) readings reading no_reading was.begin
+          (is ∙ ap reading_from at);
       created = o.created ∙ was.created;
       said = o.said ∙ was.said;
       counts = calm ∙ was.counts;
@@ -113,32 +130,41 @@ one_opened old mid new ins readings name handle reading o calm is was =
     }
 
 -- no file is another after inputs were opened
-same_files : (old mid new : State) (ins : List (List ℕ)) (readings : List Reading) (o : Option Held) → o ≡ old.held → new.held ≡ mid.held → AreOpened old mid ins readings → SameFiles o new.held
+same_files : (old mid new : State) (ins : List (List ℕ)) (readings : List Reading) (o : Option Held) → o ≡ old.held
+    → new.held ≡ mid.held → AreOpened old mid ins readings → SameFiles o new.held
 same_files old mid new ins readings None e f a = f ∙ a.untold (sym e)
 same_files old mid new ins readings (Some h) e f a =
     let t = a.tells h (sym e) in (t.is, f ∙ t.held, t.files)
 
 -- the places of readers that begin
-all_starts : (old mid : State) (ins : List (List ℕ)) (readings : List Reading) → AreOpened old mid ins readings → AreStarts (places_of readings)
+all_starts : (old mid : State) (ins : List (List ℕ)) (readings : List Reading) → AreOpened old mid ins readings
+    → AreStarts (places_of readings)
 all_starts old mid ins readings a input lt =
     let inside : input < length readings = let n = length-map readings given_of in omega (arith, lt, n) in
     get_or-map given_of readings input no_reading 0 inside ∙ ap given_of (a.begin input inside)
 
 -- what handles are named that were opened in turn
-all_named : (old mid new : State) (ins some : List (List ℕ)) (readings : List Reading) → ((h k : Held) → old.held ≡ Some h → mid.held ≡ Some k → (l : Held) × (new.held ≡ Some l) × (l.names ≡ k.names))
-    → ((input : ℕ) → input < length some → slice_index_or some input [] ≡ slice_index_or ins input []) → AreOpened old mid some readings → AreNamed old new ins (places_of readings)
+all_named : (old mid new : State) (ins some : List (List ℕ)) (readings : List Reading)
+    → ((h k : Held) → old.held ≡ Some h → mid.held ≡ Some k → (l : Held) × (new.held ≡ Some l) × (l.names ≡ k.names))
+    → ((input : ℕ) → input < length some → slice_index_or some input [] ≡ slice_index_or ins input [])
+    → AreOpened old mid some readings → AreNamed old new ins (places_of readings)
 all_named old mid new ins some readings held same a = some_is old.held (λ h. (k : Held) × (new.held ≡ Some k)
-    × ((input : ℕ) → input < length (places_of readings) → slice_index_or k.names (length old.opened + input) [] ≡ slice_index_or ins input [])) (λ h told.
+    × ((input : ℕ) → input < length (places_of readings) → slice_index_or k.names (length old.opened + input) []
+    ≡ slice_index_or ins input [])) (λ h told.
     let t = a.tells h told in
     let l = held h t.is told t.held in (
       l.0,
       l.1,
       λ input lt.
-          let inside : input < length some = let n = length-map readings given_of in let all = a.all in omega (arith, lt, n, all) in
-          ap (λ (names : List (List ℕ)). slice_index_or names (length old.opened + input) []) l.2 ∙ t.names input inside ∙ same input inside,
+          let inside : input < length some = let n = length-map readings given_of in let all = a.all in
+          omega (arith, lt, n, all) in
+          ap (λ (names : List (List ℕ)). slice_index_or names (length old.opened + input) []) l.2 ∙ t.names input inside
+          ∙ same input inside,
     ))
 
-opens_some : (old mid new : State) (ins some : List (List ℕ)) (readings : List Reading) (count : ℕ) → Keeps mid new → length some ≡ count → count < length ins → ((input : ℕ) → input < length some → slice_index_or some input [] ≡ slice_index_or ins input [])
+opens_some : (old mid new : State) (ins some : List (List ℕ)) (readings : List Reading) (count : ℕ) → Keeps mid new
+    → length some ≡ count → count < length ins
+    → ((input : ℕ) → input < length some → slice_index_or some input [] ≡ slice_index_or ins input [])
     → AreOpened old mid some readings → OpensInputs old new ins count
 opens_some old mid new ins some readings count k size few same a = record {
   places = places_of readings;
@@ -153,23 +179,27 @@ opens_some old mid new ins some readings count k size few same a = record {
 }
 
 -- An input could not be opened.
-pub opening_failed : (old mid new : State) (ins : List (List ℕ)) (count : ℕ) (readings : List Reading) → Keeps mid new → ReadsFail mid new → count < length ins → AreOpened old mid (take count ins) readings
+pub opening_failed : (old mid new : State) (ins : List (List ℕ)) (count : ℕ) (readings : List Reading) → Keeps mid new
+    → ReadsFail mid new → count < length ins → AreOpened old mid (take count ins) readings
     → ReadsFail old new × OpensInputs old new ins count
 opening_failed old mid new ins count readings k f within a = (
   reads_fail old mid new a.counts f,
   let size = length-take-le count ins (omega (arith, within)) in
-      opens_some old mid new ins (take count ins) readings count k size within (λ input lt. get_or-take count ins input [] (omega (arith, lt, size))) a,
+      opens_some old mid new ins (take count ins) readings count k size within
+      (λ input lt. get_or-take count ins input [] (omega (arith, lt, size))) a,
 )
 
 -- The output could not be created.
-other_files : (old mid new : State) (out : List ℕ) (ins : List (List ℕ)) (readings : List Reading) (o : Option Held) → o ≡ old.held → SameButFor out mid.held new.held → AreOpened old mid ins readings → OtherFiles out o new.held
+other_files : (old mid new : State) (out : List ℕ) (ins : List (List ℕ)) (readings : List Reading) (o : Option Held)
+    → o ≡ old.held → SameButFor out mid.held new.held → AreOpened old mid ins readings → OtherFiles out o new.held
 other_files old mid new out ins readings None e s a = subst (λ (m : Option Held). SameButFor out m new.held) (a.untold (sym e)) s
 other_files old mid new out ins readings (Some h) e s a =
     let t = a.tells h (sym e) in
     let only : SameButFor out (Some t.is) new.held = subst (λ (m : Option Held). SameButFor out m new.held) t.held s in
     (only.0, only.1, λ other differ. only.4 other differ ∙ ap (λ (f : Files). get f other) t.files)
 
-pub creating_failed : (old mid new : State) (out : List ℕ) (ins : List (List ℕ)) (readings : List Reading) → FailsToCreate mid new out → WritesFail mid new → AreOpened old mid ins readings
+pub creating_failed : (old mid new : State) (out : List ℕ) (ins : List (List ℕ)) (readings : List Reading)
+    → FailsToCreate mid new out → WritesFail mid new → AreOpened old mid ins readings
     → WritesFail old new × FailsToCreateOutput old new out ins
 creating_failed old mid new out ins readings f fault a = (
   writes_fail old mid new a.counts fault,
@@ -179,7 +209,8 @@ creating_failed old mid new out ins readings f fault a = (
     all = length-map readings given_of ∙ a.all;
     starts = all_starts old mid _ readings a;
     names = all_named old mid new ins ins readings (λ h k told is.
-        let only : SameButFor out (Some k) new.held = subst (λ (m : Option Held). SameButFor out m new.held) is f.held in (only.0, only.1, only.2)) (λ input lt. refl) a;
+        let only : SameButFor out (Some k) new.held = subst (λ (m : Option Held). SameButFor out m new.held) is f.held in
+        (only.0, only.1, only.2)) (λ input lt. refl) a;
     files = other_files old mid new out ins readings old.held refl f.held a;
     created = f.created ∙ a.created;
     said = f.said ∙ a.said;
@@ -187,19 +218,22 @@ creating_failed old mid new out ins readings f fault a = (
 )
 
 -- The output was created.
-created_out : CreatesEmpty → (b : Start) (mid new : State) (h : Held) (out : ℕ) → Creates mid new b.out out → HoldsIns b.desk mid h b.ins → HoldsOut b h new out []
+created_out : CreatesEmpty → (b : Start) (mid new : State) (h : Held) (out : ℕ) → Creates mid new b.out out
+    → HoldsIns b.desk mid h b.ins → HoldsOut b h new out []
 created_out law b mid new h out c t =
     let k = law mid new b.out out t.is c t.held in
     record {
       is = k.0;
       held = k.1;
       others = λ name differ. k.2.others name differ ∙ ap (λ (f : Files). get f name) t.files;
-      names = λ input lt. ap (λ (l : List (List ℕ)). slice_index_or l (length b.desk.opened + input) []) k.2.names ∙ t.names input lt;
+      names = λ input lt. ap (λ (l : List (List ℕ)). slice_index_or l (length b.desk.opened + input) []) k.2.names
+          ∙ t.names input lt;
       named = of_some new.held k.0 (λ h. out_name h out ≡ b.out) k.1 c.named;
       there = k.2.there;
     }
 
-begins : CreatesEmpty → (b : Start) (mid new : State) (readings : List Reading) (out : ℕ) → Creates mid new b.out out → AreOpened b.desk mid b.ins readings → Reached b new readings out []
+begins : CreatesEmpty → (b : Start) (mid new : State) (readings : List Reading) (out : ℕ) → Creates mid new b.out out
+    → AreOpened b.desk mid b.ins readings → Reached b new readings out []
 begins law b mid new readings out c a = record {
   opened = c.opened ∙ a.opened;
   all = a.all;
@@ -212,7 +246,8 @@ begins law b mid new readings out c a = record {
 }
 
 -- each file is whole before it is read
-first_read : (b : Start) (mid new : State) (h : Held) (readings : List Reading) (out input : ℕ) → AreApart b.out b.ins → Creates mid new b.out out → AreOpened b.desk mid b.ins readings → b.desk.held ≡ Some h → input < length b.ins
+first_read : (b : Start) (mid new : State) (h : Held) (readings : List Reading) (out input : ℕ) → AreApart b.out b.ins
+    → Creates mid new b.out out → AreOpened b.desk mid b.ins readings → b.desk.held ≡ Some h → input < length b.ins
     → IsRead (file_at h b.ins input) (rest_of new (reading_at readings input)) [] false
 first_read b mid new h readings out input apart c a held lt =
     let t = a.tells h held in
@@ -220,19 +255,24 @@ first_read b mid new h readings out input apart c a held lt =
     let inside : input < length readings = omega (arith, lt, all) in
     let begin = a.begin input inside in
     let handle : (reading_at readings input).handle ≡ length b.desk.opened + input = ap (λ (r : Reading). r.handle) begin in
-    let name : slice_index_or t.is.names (reading_at readings input).handle [] ≡ slice_index_or b.ins input [] = ap (λ (k : ℕ). slice_index_or t.is.names k []) handle ∙ t.names input lt in
+    let name : slice_index_or t.is.names (reading_at readings input).handle [] ≡ slice_index_or b.ins input [] =
+    ap (λ (k : ℕ). slice_index_or t.is.names k []) handle ∙ t.names input lt in
     let differ : slice_index_or t.is.names (reading_at readings input).handle [] ≢ b.out = λ e. apart input lt (sym name ∙ e) in
     let left : left_of new (reading_at readings input).handle ≡ Some (file_at h b.ins input) =
-    c.others (reading_at readings input).handle (some_at mid.held t.is (λ h. slice_index_or h.names (reading_at readings input).handle [] ≢ b.out) t.held differ) ∙ ap (left_of mid) handle ∙ t.left input lt in
+    c.others (reading_at readings input).handle
+    (some_at mid.held t.is (λ h. slice_index_or h.names (reading_at readings input).handle [] ≢ b.out) t.held differ)
+    ∙ ap (left_of mid) handle ∙ t.left input lt in
     record {
       left = file_at h b.ins input;
-      rest_is = ap (option_map (λ l. (reading_at readings input).waiting ++ l)) left ∙ ap (λ (r : Reading). Some (r.waiting ++ file_at h b.ins input)) begin;
+      rest_is = ap (option_map (λ l. (reading_at readings input).waiting ++ l)) left
+          ∙ ap (λ (r : Reading). Some (r.waiting ++ file_at h b.ins input)) begin;
       parts = refl;
       end = λ on. absurd (let z : false ≡ true = on in cc);
     }
 
 -- A run begins.
-pub runs_first : CreatesEmpty → (b : Start) (mid new : State) (readings : List Reading) (out : ℕ) (reach : ℕ → ℕ) → AreApart b.out b.ins → AreOpened b.desk mid b.ins readings → Creates mid new b.out out → SameCounts mid new
+pub runs_first : CreatesEmpty → (b : Start) (mid new : State) (readings : List Reading) (out : ℕ) (reach : ℕ → ℕ)
+    → AreApart b.out b.ins → AreOpened b.desk mid b.ins readings → Creates mid new b.out out → SameCounts mid new
     → Runs b new readings out reach []
 runs_first law b mid new readings out reach apart a c calm = record {
   apart = apart;
@@ -249,11 +289,17 @@ runs_first law b mid new readings out reach apart a c calm = record {
 }
 
 -- the next input is opened
-pub opened_next : (old mid new : State) (ins : List (List ℕ)) (readings : List Reading) (input : ℕ) (name item : List ℕ) (handle : ℕ) (reading : Reading) → input < length ins → input < length readings → name ≡ item → item ≡ slice_index_or ins input item
-    → Opens mid new name handle → SameCounts mid new → reading ≡ reading_from handle → AreOpened old mid (take input ins) (take input readings)
+pub opened_next : (old mid new : State) (ins : List (List ℕ)) (readings : List Reading) (input : ℕ) (name item : List ℕ)
+    (handle : ℕ) (reading : Reading) → input < length ins → input < length readings → name ≡ item
+    → item ≡ slice_index_or ins input item
+    → Opens mid new name handle → SameCounts mid new → reading ≡ reading_from handle
+    → AreOpened old mid (take input ins) (take input readings)
     → AreOpened old new (take (input + 1) ins) (take (input + 1) (slice_set readings input reading))
 opened_next old mid new ins readings input name item handle reading lt inside is at o calm r a =
-    let named : take (input + 1) ins ≡ take input ins ++ name ∷ [] = take_more ins input item lt ∙ ap (λ (x : List ℕ). take input ins ++ x ∷ []) (sym at ∙ sym is) in
-    let more : take (input + 1) (slice_set readings input reading) ≡ take input readings ++ reading ∷ [] = take_more_set readings input reading inside in
+    let named : take (input + 1) ins ≡ take input ins ++ name ∷ [] = take_more ins input item lt
+    ∙ ap (λ (x : List ℕ). take input ins ++ x ∷ []) (sym at ∙ sym is) in
+    let more : take (input + 1) (slice_set readings input reading) ≡ take input readings ++ reading ∷ [] =
+    take_more_set readings input reading inside in
     subst (λ (l : List (List ℕ)). AreOpened old new l (take (input + 1) (slice_set readings input reading))) (sym named)
-    (subst (λ (l : List Reading). AreOpened old new (take input ins ++ name ∷ []) l) (sym more) (one_opened old mid new (take input ins) (take input readings) name handle reading o calm r a))
+    (subst (λ (l : List Reading). AreOpened old new (take input ins ++ name ∷ []) l) (sym more)
+    (one_opened old mid new (take input ins) (take input readings) name handle reading o calm r a))

@@ -1,5 +1,6 @@
 -- The machine of a run is where it came to.
-use Rattle.std.proofs.Common.{◌≡◌, ◌≢◌, ℕ, ◌+◌, ◌<◌, ◌≤◌, false, List, [], ◌++◌, ◌∷◌, length, refl, ap, sym, subst, ◌∙◌, inr, arith}
+use Rattle.std.proofs.Common.{◌≡◌, ◌≢◌, ℕ, ◌+◌, ◌<◌, ◌≤◌, false, List, [], ◌++◌, ◌∷◌, length, refl, ap, sym, subst, ◌∙◌, inr}
+use Rattle.std.proofs.Common.{arith}
 use Rattle.std.specs.Prelude.{◌⊎◌, slice_index_or, slice_set}
 use Rattle.std.proofs.lemmas.List.{get_or_default}
 use Rattle.ports.specs.Desk.{State, SameCounts}
@@ -9,14 +10,16 @@ use Rattle.desk_io.specs.Reading.{Reading, given_of, most_bytes, ReadsOn, TakesN
 use Rattle.desk_io.specs.declared.ahead.ReadStop.{ReadStop}
 use Rattle.file_run.specs.Events.{Event, fed, has_ended}
 use Rattle.file_run.specs.FileRun.{AreApart, FailsToCreateOutput, StopsWriting, RunsAll, Stops}
-use Rattle.file_run.specs.Running.{Start, no_reading, reading_at, AreOpened, IsCreated, Drains, DrainsFront, Feeds, IsRunning, IsReader, read_fault}
+use Rattle.file_run.specs.Running.{Start, no_reading, reading_at, AreOpened, IsCreated, Drains, DrainsFront, Feeds, IsRunning}
+use Rattle.file_run.specs.Running.{IsReader, read_fault}
 use Rattle.file_run.specs.declared.machine.Step.{Step}
 use Rattle.file_run.specs.declared.machine.Step.TheVariants.{Read, Give, End}
 use Rattle.file_run.proofs.FedLemmas.{runs_fed, stops_unfed}
 use Rattle.file_run.proofs.OpenLemmas.{runs_first, writes_fail}
 use Rattle.file_run.proofs.RunLemmas.{stands, stands_by, all_short, runs_drained, stops_drained}
 
-pub running_first : CreatesEmpty → {A : Type 0} (Becomes : List Event → A → Type 0) (reach : A → ℕ → ℕ) (m : A) (b : Start) (mid new : State) (readings : List Reading) (out : ℕ) → AreApart b.out b.ins → AreOpened b.desk mid b.ins readings
+pub running_first : CreatesEmpty → {A : Type 0} (Becomes : List Event → A → Type 0) (reach : A → ℕ → ℕ) (m : A) (b : Start)
+    (mid new : State) (readings : List Reading) (out : ℕ) → AreApart b.out b.ins → AreOpened b.desk mid b.ins readings
     → IsCreated mid new b.out out → Becomes [] m → IsRunning Becomes reach b new m readings out
 running_first law Becomes reach m b mid new readings out apart a c came = record {
   events = [];
@@ -24,27 +27,37 @@ running_first law Becomes reach m b mid new readings out apart a c came = record
   runs = runs_first law b mid new readings out (reach m) apart a c.creates c.counts;
 }
 
-pub running_drained : {A : Type 0} (Becomes : A → List Event → A → Type 0) (start m n : A) (reach : A → ℕ → ℕ) (b : Start) (old new : State) (readings : List Reading) (out : ℕ)
-    → SameCounts old new → ((input : ℕ) → reach m input ≤ reach n input) → Drains Becomes m n old new out → IsRunning (Becomes start) reach b old m readings out → IsRunning (Becomes start) reach b new n readings out
+pub running_drained : {A : Type 0} (Becomes : A → List Event → A → Type 0) (start m n : A) (reach : A → ℕ → ℕ) (b : Start)
+    (old new : State) (readings : List Reading) (out : ℕ)
+    → SameCounts old new → ((input : ℕ) → reach m input ≤ reach n input) → Drains Becomes m n old new out
+    → IsRunning (Becomes start) reach b old m readings out → IsRunning (Becomes start) reach b new n readings out
 running_drained Becomes start m n reach b old new readings out calm rises d r = record {
   events = r.events ++ d.late;
   came = d.becomes start r.events r.came;
   runs = runs_drained Becomes m n b old new readings out (reach m) (reach n) r.events r.runs calm rises d;
 }
 
-pub stopped_drained : {A : Type 0} (Becomes : A → List Event → A → Type 0) (start m n : A) (reach : A → ℕ → ℕ) (next : A → Step) (b : Start) (old new : State) (readings : List Reading) (out : ℕ)
-    → WritesFail old new → next m ≡ Give → DrainsFront Becomes m n old new out → IsRunning (Becomes start) reach b old m readings out
-    → WritesFail b.desk new × (FailsToCreateOutput b.desk new b.out b.ins ⊎ StopsWriting b.desk new b.out b.ins reach next (Becomes start) n)
-stopped_drained Becomes start m n reach next b old new readings out fault gives d r =
-    (writes_fail b.desk old new r.runs.counts fault, inr (stops_drained Becomes start m n reach next b old new readings out r.events r.runs r.came gives d))
+pub stopped_drained : {A : Type 0} (Becomes : A → List Event → A → Type 0) (start m n : A) (reach : A → ℕ → ℕ) (next : A → Step)
+    (b : Start) (old new : State) (readings : List Reading) (out : ℕ)
+    → WritesFail old new → next m ≡ Give → DrainsFront Becomes m n old new out
+    → IsRunning (Becomes start) reach b old m readings out
+    → WritesFail b.desk new
+    × (FailsToCreateOutput b.desk new b.out b.ins ⊎ StopsWriting b.desk new b.out b.ins reach next (Becomes start) n)
+stopped_drained Becomes start m n reach next b old new readings out fault gives d r = (
+  writes_fail b.desk old new r.runs.counts fault,
+  inr (stops_drained Becomes start m n reach next b old new readings out r.events r.runs r.came gives d),
+)
 
-item_is : (readings : List Reading) (input : ℕ) (was d : Reading) → input < length readings → was ≡ slice_index_or readings input d → was ≡ reading_at readings input
+item_is : (readings : List Reading) (input : ℕ) (was d : Reading) → input < length readings
+    → was ≡ slice_index_or readings input d → was ≡ reading_at readings input
 item_is readings input was d lt e = e ∙ get_or_default readings input d no_reading lt
 
 -- how far a reader may be that read on
-near : {A : Type 0} (Becomes : List Event → A → Type 0) (reach : A → ℕ → ℕ) (m : A) (b : Start) (old : State) (readings : List Reading) (out : ℕ) (input most : ℕ) (is : Reading) → input < length readings
+near : {A : Type 0} (Becomes : List Event → A → Type 0) (reach : A → ℕ → ℕ) (m : A) (b : Start) (old : State)
+    (readings : List Reading) (out : ℕ) (input most : ℕ) (is : Reading) → input < length readings
     → (r : IsRunning Becomes reach b old m readings out) → length (fed input r.events) + most ≤ reach m input
-    → ((limit : ℕ) → given_of (reading_at readings input) ≤ limit → (reading_at readings input).taken + most ≤ limit → given_of is ≤ limit) → given_of is ≤ reach m input
+    → ((limit : ℕ) → given_of (reading_at readings input) ≤ limit → (reading_at readings input).taken + most ≤ limit
+    → given_of is ≤ limit) → given_of is ≤ reach m input
 near Becomes reach m b old readings out input most is lt r wanted limit =
     limit (reach m input) (r.runs.within input lt) (let t = r.runs.taken input lt in omega (arith, t, wanted))
 
@@ -53,33 +66,43 @@ pub record IsReadOn (old new : State) (was is : Reading) (most : ℕ) : Type 0 w
   pub reads : ReadsOn old new was is
   pub limit : (limit : ℕ) → given_of was ≤ limit → was.taken + most ≤ limit → given_of is ≤ limit
 
-pub running_fed : {A : Type 0} (Becomes : A → List Event → A → Type 0) (start m n : A) (reach : A → ℕ → ℕ) (b : Start) (old new : State) (readings : List Reading) (out : ℕ) (input most : ℕ) (was is d : Reading) → input < length readings
-    → was ≡ slice_index_or readings input d → IsReadOn old new was is most → SameCounts old new → given_of is < most_bytes → ((other : ℕ) → reach m other ≤ reach n other) → Feeds Becomes m n old new was is input
-    → (r : IsRunning (Becomes start) reach b old m readings out) → length (fed input r.events) + most ≤ reach m input → IsRunning (Becomes start) reach b new n (slice_set readings input is) out
+pub running_fed : {A : Type 0} (Becomes : A → List Event → A → Type 0) (start m n : A) (reach : A → ℕ → ℕ) (b : Start)
+    (old new : State) (readings : List Reading) (out : ℕ) (input most : ℕ) (was is d : Reading) → input < length readings
+    → was ≡ slice_index_or readings input d → IsReadOn old new was is most → SameCounts old new → given_of is < most_bytes
+    → ((other : ℕ) → reach m other ≤ reach n other) → Feeds Becomes m n old new was is input
+    → (r : IsRunning (Becomes start) reach b old m readings out) → length (fed input r.events) + most ≤ reach m input
+    → IsRunning (Becomes start) reach b new n (slice_set readings input is) out
 running_fed Becomes start m n reach b old new readings out input most was is d lt at q calm small rises f r wanted =
     let e = item_is readings input was d lt at in
     let on : IsReadOn old new (reading_at readings input) is most = subst (λ (x : Reading). IsReadOn old new x is most) e q in
-    let feeds : Feeds Becomes m n old new (reading_at readings input) is input = subst (λ (x : Reading). Feeds Becomes m n old new x is input) e f in
+    let feeds : Feeds Becomes m n old new (reading_at readings input) is input =
+    subst (λ (x : Reading). Feeds Becomes m n old new x is input) e f in
     let k = near (Becomes start) reach m b old readings out input most is lt r wanted on.limit in
     let u = rises input in
     record {
       events = r.events ++ feeds.event ∷ [];
       came = feeds.becomes start r.events r.came;
-      runs = runs_fed Becomes m n b old new readings input is out (reach m) (reach n) r.events lt r.runs on.reads calm small (omega (arith, k, u)) rises feeds;
+      runs = runs_fed Becomes m n b old new readings input is out (reach m) (reach n) r.events lt r.runs on.reads calm small
+          (omega (arith, k, u)) rises feeds;
     }
 
-pub stopped_fed : {A : Type 0} (Becomes : List Event → A → Type 0) (m n : A) (reach : A → ℕ → ℕ) (next : A → Step) (b : Start) (old new : State) (readings : List Reading) (out : ℕ) (input least most : ℕ) (was is d : Reading) (why : ReadStop)
-    → input < length readings → was ≡ slice_index_or readings input d → IsReadOn old new was is most → TakesNone old new was is → n ≡ m → next m ≡ Read input least most → StopsReading old new is least why
-    → (r : IsRunning Becomes reach b old m readings out) → length (fed input r.events) + most ≤ reach m input → Stops b.desk new b.out b.ins reach next Becomes n (read_fault input why)
+pub stopped_fed : {A : Type 0} (Becomes : List Event → A → Type 0) (m n : A) (reach : A → ℕ → ℕ) (next : A → Step) (b : Start)
+    (old new : State) (readings : List Reading) (out : ℕ) (input least most : ℕ) (was is d : Reading) (why : ReadStop)
+    → input < length readings → was ≡ slice_index_or readings input d → IsReadOn old new was is most → TakesNone old new was is
+    → n ≡ m → next m ≡ Read input least most → StopsReading old new is least why
+    → (r : IsRunning Becomes reach b old m readings out) → length (fed input r.events) + most ≤ reach m input
+    → Stops b.desk new b.out b.ins reach next Becomes n (read_fault input why)
 stopped_fed Becomes m n reach next b old new readings out input least most was is d why lt at q t same wants s r wanted =
     let e = item_is readings input was d lt at in
     let on : IsReadOn old new (reading_at readings input) is most = subst (λ (x : Reading). IsReadOn old new x is most) e q in
     let none : TakesNone old new (reading_at readings input) is = subst (λ (x : Reading). TakesNone old new x is) e t in
     let k = near Becomes reach m b old readings out input most is lt r wanted on.limit in
     subst (λ x. Stops b.desk new b.out b.ins reach next Becomes x (read_fault input why)) (sym same)
-    (stops_unfed Becomes m reach next b old new readings input least most is out r.events why lt wants r.runs r.came on.reads none k s)
+    (stops_unfed Becomes m reach next b old new readings input least most is out r.events why lt wants r.runs r.came on.reads none
+    k s)
 
-pub run_all : {A : Type 0} (Becomes : List Event → A → Type 0) (m : A) (reach : A → ℕ → ℕ) (b : Start) (now : State) (readings : List Reading) (out : ℕ) → IsRunning Becomes reach b now m readings out
+pub run_all : {A : Type 0} (Becomes : List Event → A → Type 0) (m : A) (reach : A → ℕ → ℕ) (b : Start) (now : State)
+    (readings : List Reading) (out : ℕ) → IsRunning Becomes reach b now m readings out
     → RunsAll b.desk now b.out b.ins (reach m) (λ events. Becomes events m)
 unfolding stands stands_by
 run_all Becomes m reach b now readings out r = record {
@@ -94,11 +117,15 @@ at_end (Read input least most) give read = absurd (read input least most refl)
 at_end Give give read = absurd (give refl)
 at_end End give read = refl
 
-pub not_ended : {A : Type 0} (Becomes : List Event → A → Type 0) (reach : A → ℕ → ℕ) (m : A) (b : Start) (old : State) (readings : List Reading) (out : ℕ) (input : ℕ) (d : Reading) → input < length readings
-    → (r : IsRunning Becomes reach b old m readings out) → has_ended input r.events ≡ false → (slice_index_or readings input d).ended ≡ false
-not_ended Becomes reach m b old readings out input d lt r off = ap (λ (x : Reading). x.ended) (get_or_default readings input d no_reading lt) ∙ r.runs.ended input lt ∙ off
+pub not_ended : {A : Type 0} (Becomes : List Event → A → Type 0) (reach : A → ℕ → ℕ) (m : A) (b : Start) (old : State)
+    (readings : List Reading) (out : ℕ) (input : ℕ) (d : Reading) → input < length readings
+    → (r : IsRunning Becomes reach b old m readings out) → has_ended input r.events ≡ false
+    → (slice_index_or readings input d).ended ≡ false
+not_ended Becomes reach m b old readings out input d lt r off =
+    ap (λ (x : Reading). x.ended) (get_or_default readings input d no_reading lt) ∙ r.runs.ended input lt ∙ off
 
-pub reader_of : {A : Type 0} (Becomes : A → List Event → A → Type 0) (start : A) (reach : A → ℕ → ℕ) (m : A) (b : Start) (old : State) (readings : List Reading) (out : ℕ) (input : ℕ) (d : Reading) → input < length readings
+pub reader_of : {A : Type 0} (Becomes : A → List Event → A → Type 0) (start : A) (reach : A → ℕ → ℕ) (m : A) (b : Start)
+    (old : State) (readings : List Reading) (out : ℕ) (input : ℕ) (d : Reading) → input < length readings
     → IsRunning (Becomes start) reach b old m readings out → IsReader Becomes m input (slice_index_or readings input d)
 reader_of Becomes start reach m b old readings out input d lt r = record {
   start = start;

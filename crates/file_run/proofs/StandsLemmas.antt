@@ -10,8 +10,10 @@ use Rattle.file_run.specs.FileRun.{file_at, AreFed, Works, Stands}
 use Rattle.file_run.proofs.EventLemmas.{gave_more}
 
 -- The output is as follows from what was fed from the files.
-pub works_by : {old new : State} {out : List ℕ} {ins : List (List ℕ)} {reach : ℕ → ℕ} {Came : List Event → Type 0} {Holds : List Event → List ℕ → Type 0} (Is : (ℕ → List ℕ) → List ℕ → Type 0) (s : Stands old new out ins reach Came Holds)
-    → ((files : ℕ → List ℕ) → AreFed (length ins) files s.places s.events → (bytes : List ℕ) → Holds s.events bytes → Is files bytes)
+pub works_by : {old new : State} {out : List ℕ} {ins : List (List ℕ)} {reach : ℕ → ℕ} {Came : List Event → Type 0}
+    {Holds : List Event → List ℕ → Type 0} (Is : (ℕ → List ℕ) → List ℕ → Type 0) (s : Stands old new out ins reach Came Holds)
+    → ((files : ℕ → List ℕ) → AreFed (length ins) files s.places s.events → (bytes : List ℕ) → Holds s.events bytes
+    → Is files bytes)
     → Works old new out ins s.places (λ h bytes. Is (file_at h ins) bytes)
 works_by {old = old} {new = new} {out = out} {ins = ins} Is s f = record {
   opened = s.works.opened;
@@ -20,12 +22,14 @@ works_by {old = old} {new = new} {out = out} {ins = ins} Is s f = record {
   files = s.works.files;
   created = s.works.created;
   said = s.works.said;
-  holds = if_both old.held _ _ (λ h. (k : Held) × (new.held ≡ Some k) × ((bytes : List ℕ) × (get k.files out ≡ Some bytes) × Is (file_at h ins) bytes))
+  holds = if_both old.held _ _ (λ h. (k : Held) × (new.held ≡ Some k)
+      × ((bytes : List ℕ) × (get k.files out ≡ Some bytes) × Is (file_at h ins) bytes))
       (λ h fed w. (w.0, w.1, (w.2.0, w.2.1, f (file_at h ins) fed w.2.0 w.2.2))) s.inputs s.works.holds;
 }
 
 -- what was fed is the same where a machine gave since
-pub fed_since : (inputs : ℕ) (files : ℕ → List ℕ) (places : List ℕ) (events late : List Event) → OnlyGave late → AreFed inputs files places events → AreFed inputs files places (events ++ late)
+pub fed_since : (inputs : ℕ) (files : ℕ → List ℕ) (places : List ℕ) (events late : List Event) → OnlyGave late
+    → AreFed inputs files places events → AreFed inputs files places (events ++ late)
 fed_since inputs files places events late only are input lt =
     let f = are input lt in
     let m = gave_more events late only in
@@ -38,10 +42,12 @@ fed_since inputs files places events late only are input lt =
     }
 
 -- Where all inputs ended, each was read to its end.
-pub all_read : (h : Held) (ins : List (List ℕ)) (places : List ℕ) (events : List Event) → length places ≡ length ins → ((input : ℕ) → input < length ins → has_ended input events ≡ true) → AreFed (length ins) (file_at h ins) places events
+pub all_read : (h : Held) (ins : List (List ℕ)) (places : List ℕ) (events : List Event) → length places ≡ length ins
+    → ((input : ℕ) → input < length ins → has_ended input events ≡ true) → AreFed (length ins) (file_at h ins) places events
     → places ≡ map (λ name. length (bytes_of h.files name)) ins
 all_read h ins places events all ended are =
-    ext_get_or 0 places (map (λ name. length (bytes_of h.files name)) ins) (all ∙ sym (length-map ins (λ name. length (bytes_of h.files name)))) (λ input lt.
+    ext_get_or 0 places (map (λ name. length (bytes_of h.files name)) ins)
+    (all ∙ sym (length-map ins (λ name. length (bytes_of h.files name)))) (λ input lt.
     let inside : input < length ins = omega (arith, lt, all) in
     let f = are input inside in
     let n = length-append (fed input events) f.more in

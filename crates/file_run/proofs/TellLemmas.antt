@@ -1,5 +1,6 @@
 -- Saying what a machine gives, step by step.
-use Rattle.std.proofs.Common.{◌≡◌, ℕ, ◌+◌, ◌-◌, ◌<◌, ◌≤◌, true, false, List, [], ◌∷◌, ◌++◌, length, Option, Some, None, refl, ap, sym, subst, ◌∙◌, inl, inr, append_assoc, append-nil, arith}
+use Rattle.std.proofs.Common.{◌≡◌, ℕ, ◌+◌, ◌-◌, ◌<◌, ◌≤◌, true, false, List, [], ◌∷◌, ◌++◌, length, Option, Some, None, refl, ap}
+use Rattle.std.proofs.Common.{sym, subst, ◌∙◌, inl, inr, append_assoc, append-nil, arith}
 use Rattle.std.specs.Prelude.{◌⊎◌, IsSome, max, option_map, option_and_then, slice_set, slice_index}
 use Rattle.std.specs.FinMap.{get}
 use Rattle.terms.proofs.OptionLemmas.{append-none, was_some}
@@ -21,17 +22,21 @@ use Rattle.file_run.proofs.OpenLemmas.{some_is, of_some}
 use Rattle.file_run.proofs.RunLemmas.{read_same, moved, is_fed}
 
 -- where a reader comes to
-read_further : (start was is : State) (r s : Reading) → ReadsOn was is r s → r.handle ≡ length start.opened → was.opened ≡ start.opened ++ given_of r ∷ [] → is.opened ≡ start.opened ++ given_of s ∷ []
+read_further : (start was is : State) (r s : Reading) → ReadsOn was is r s → r.handle ≡ length start.opened
+    → was.opened ≡ start.opened ++ given_of r ∷ [] → is.opened ≡ start.opened ++ given_of s ∷ []
 read_further start was is r s on at opened =
-    on.opened ∙ ap (λ (l : List ℕ). slice_set l r.handle (slice_index l r.handle + (given_of s - given_of r))) opened ∙ moved start.opened (r ∷ []) 0 s r.handle (omega (arith, at)) (omega arith) on.later
+    on.opened ∙ ap (λ (l : List ℕ). slice_set l r.handle (slice_index l r.handle + (given_of s - given_of r))) opened
+    ∙ moved start.opened (r ∷ []) 0 s r.handle (omega (arith, at)) (omega arith) on.later
 
 -- what a reader has left depends on what the desk holds and on the places of its handles
 pub rest_kept : (old new : State) (r : Reading) → new.held ≡ old.held → new.opened ≡ old.opened → rest_of new r ≡ rest_of old r
 rest_kept old new r held opened = rw (held, opened) refl
 
 -- a piece went onto the page, and the machine gave then or nothing was said
-grown : {A : Type 0} (Becomes : A → List Event → A → Type 0) (next : A → Step) (begin old new : A) (start now : State) (name : List ℕ) (r : Reading) (waiting left : List ℕ) → Gathers Becomes old new waiting left
-    → (t : Telling (Becomes begin) next start now name old r waiting) → (t.early ≡ []) ⊎ (next t.mid ≡ Give) → Telling (Becomes begin) next start now name new r left
+grown : {A : Type 0} (Becomes : A → List Event → A → Type 0) (next : A → Step) (begin old new : A) (start now : State)
+    (name : List ℕ) (r : Reading) (waiting left : List ℕ) → Gathers Becomes old new waiting left
+    → (t : Telling (Becomes begin) next start now name old r waiting) → (t.early ≡ []) ⊎ (next t.mid ≡ Give)
+    → Telling (Becomes begin) next start now name new r left
 grown Becomes next begin old new start now name r waiting left g t going =
     let more = gave_piece g.piece t.events in
     record {
@@ -40,7 +45,8 @@ grown Becomes next begin old new start now name r waiting left g t going =
       early = t.early;
       mid = t.mid;
       met = t.met;
-      parts = more.gave ∙ ap (λ (l : List ℕ). l ++ g.piece) t.parts ∙ append_assoc (gave t.early) waiting g.piece ∙ ap (λ (l : List ℕ). gave t.early ++ l) (sym g.behind);
+      parts = more.gave ∙ ap (λ (l : List ℕ). l ++ g.piece) t.parts ∙ append_assoc (gave t.early) waiting g.piece
+          ∙ ap (λ (l : List ℕ). gave t.early ++ l) (sym g.behind);
       going = inr going;
       said = t.said;
       handle = t.handle;
@@ -55,7 +61,8 @@ grown Becomes next begin old new start now name r waiting left g t going =
     }
 
 -- Where nothing waits, all that the machine gave so far is said.
-unfoldable caught_up : {A : Type 0} (Came : List Event → A → Type 0) (next : A → Step) (machine : A) (start now : State) (name : List ℕ) (r : Reading) → Telling Came next start now name machine r [] → Telling Came next start now name machine r []
+unfoldable caught_up : {A : Type 0} (Came : List Event → A → Type 0) (next : A → Step) (machine : A) (start now : State)
+    (name : List ℕ) (r : Reading) → Telling Came next start now name machine r [] → Telling Came next start now name machine r []
 caught_up Came next machine start now name r t = record {
   events = t.events;
   came = t.came;
@@ -76,18 +83,25 @@ caught_up Came next machine start now name r t = record {
   first = λ h told. let rest = t.reads h told in (rest.left, rest.parts, rest.end);
 }
 
-still_going : {A : Type 0} (next : A → Step) (mid : A) (early : List Event) (x : ℕ) (xs : List ℕ) → (x ∷ xs ≡ []) ⊎ ((early ≡ []) ⊎ (next mid ≡ Give)) → (early ≡ []) ⊎ (next mid ≡ Give)
+still_going : {A : Type 0} (next : A → Step) (mid : A) (early : List Event) (x : ℕ) (xs : List ℕ) → (x ∷ xs ≡ [])
+    ⊎ ((early ≡ []) ⊎ (next mid ≡ Give)) → (early ≡ []) ⊎ (next mid ≡ Give)
 still_going next mid early x xs (inl none) = absurd (let e : x ∷ xs ≡ [] = none in cc)
 still_going next mid early x xs (inr going) = going
 
-pub page_grown : {A : Type 0} (Becomes : A → List Event → A → Type 0) (next : A → Step) (begin old new : A) (start now : State) (name : List ℕ) (r : Reading) (waiting left : List ℕ) → Gathers Becomes old new waiting left
-    → next old ≡ Give → Telling (Becomes begin) next start now name old r waiting → Telling (Becomes begin) next start now name new r left
+pub page_grown : {A : Type 0} (Becomes : A → List Event → A → Type 0) (next : A → Step) (begin old new : A) (start now : State)
+    (name : List ℕ) (r : Reading) (waiting left : List ℕ) → Gathers Becomes old new waiting left
+    → next old ≡ Give → Telling (Becomes begin) next start now name old r waiting
+    → Telling (Becomes begin) next start now name new r left
 unfolding caught_up
-page_grown Becomes next begin old new start now name r [] left g giving t = grown Becomes next begin old new start now name r [] left g (caught_up (Becomes begin) next old start now name r t) (inr giving)
-page_grown Becomes next begin old new start now name r (x ∷ xs) left g giving t = grown Becomes next begin old new start now name r (x ∷ xs) left g t (still_going next t.mid t.early x xs t.going)
+page_grown Becomes next begin old new start now name r [] left g giving t =
+    grown Becomes next begin old new start now name r [] left g (caught_up (Becomes begin) next old start now name r t)
+    (inr giving)
+page_grown Becomes next begin old new start now name r (x ∷ xs) left g giving t =
+    grown Becomes next begin old new start now name r (x ∷ xs) left g t (still_going next t.mid t.early x xs t.going)
 
 -- All that waited was said.
-unfoldable pub all_said : {A : Type 0} (Came : List Event → A → Type 0) (next : A → Step) (machine : A) (start was is : State) (name : List ℕ) (r : Reading) (waiting : List ℕ) → Says was is waiting
+unfoldable pub all_said : {A : Type 0} (Came : List Event → A → Type 0) (next : A → Step) (machine : A) (start was is : State)
+    (name : List ℕ) (r : Reading) (waiting : List ℕ) → Says was is waiting
     → Telling Came next start was name machine r waiting → Telling Came next start is name machine r []
 all_said Came next machine start was is name r waiting says t = record {
   events = t.events;
@@ -97,7 +111,8 @@ all_said Came next machine start was is name r waiting says t = record {
   met = t.came;
   parts = sym (append-nil (gave t.events));
   going = inl refl;
-  said = says.said ∙ ap (option_map (λ said. said ++ waiting)) t.said ∙ append_twice start.said (gave t.early) waiting ∙ ap (λ (l : List ℕ). option_map (λ said. said ++ l) start.said) (sym t.parts);
+  said = says.said ∙ ap (option_map (λ said. said ++ waiting)) t.said ∙ append_twice start.said (gave t.early) waiting
+      ∙ ap (λ (l : List ℕ). option_map (λ said. said ++ l) start.said) (sym t.parts);
   handle = t.handle;
   opened = says.opened ∙ t.opened;
   created = says.created ∙ t.created;
@@ -110,7 +125,8 @@ all_said Came next machine start was is name r waiting says t = record {
 }
 
 -- Nothing but counts changed.
-unfoldable pub telling_kept : {A : Type 0} (Came : List Event → A → Type 0) (next : A → Step) (machine : A) (start was is : State) (name : List ℕ) (r : Reading) (page : List ℕ) → Keeps was is
+unfoldable pub telling_kept : {A : Type 0} (Came : List Event → A → Type 0) (next : A → Step) (machine : A) (start was is : State)
+    (name : List ℕ) (r : Reading) (page : List ℕ) → Keeps was is
     → Telling Came next start was name machine r page → Telling Came next start is name machine r page
 telling_kept Came next machine start was is name r page keeps t = record {
   events = t.events;
@@ -133,16 +149,21 @@ telling_kept Came next machine start was is name r page keeps t = record {
 }
 
 -- All that waited, or nothing, was said.
-pub room_made : {A : Type 0} (Came : List Event → A → Type 0) (next : A → Step) (machine : A) (start was is : State) (name : List ℕ) (r : Reading) (waiting left : List ℕ) → GivesWay was is waiting left
+pub room_made : {A : Type 0} (Came : List Event → A → Type 0) (next : A → Step) (machine : A) (start was is : State)
+    (name : List ℕ) (r : Reading) (waiting left : List ℕ) → GivesWay was is waiting left
     → Telling Came next start was name machine r waiting → Telling Came next start is name machine r left
 unfolding all_said telling_kept
 room_made Came next machine start was is name r waiting left (inl kept) t =
-    subst (λ (l : List ℕ). Telling Came next start is name machine r l) (sym kept.1) (telling_kept Came next machine start was is name r waiting kept.0 t)
+    subst (λ (l : List ℕ). Telling Came next start is name machine r l) (sym kept.1)
+    (telling_kept Came next machine start was is name r waiting kept.0 t)
 room_made Came next machine start was is name r waiting left (inr said) t =
-    subst (λ (l : List ℕ). Telling Came next start is name machine r l) (sym said.1) (all_said Came next machine start was is name r waiting said.0 t)
+    subst (λ (l : List ℕ). Telling Came next start is name machine r l) (sym said.1)
+    (all_said Came next machine start was is name r waiting said.0 t)
 
 -- The machine was fed.
-pub telling_fed : {A : Type 0} (Becomes : A → List Event → A → Type 0) (next : A → Step) (begin old new : A) (start was is : State) (name : List ℕ) (r s : Reading) (input : ℕ) (page : List ℕ) → input ≡ 0 → ReadsOn was is r s → Feeds Becomes old new was is r s input
+pub telling_fed : {A : Type 0} (Becomes : A → List Event → A → Type 0) (next : A → Step) (begin old new : A)
+    (start was is : State) (name : List ℕ) (r s : Reading) (input : ℕ) (page : List ℕ) → input ≡ 0 → ReadsOn was is r s
+    → Feeds Becomes old new was is r s input
     → Telling (Becomes begin) next start was name old r page → Telling (Becomes begin) next start is name new s page
 telling_fed Becomes next begin old new start was is name r s input page zero on f t =
     let taken = subst (λ (k : ℕ). IsTaken f.event k (rest_of was r) (rest_of is s) f.count) zero f.is_taken in
@@ -167,7 +188,8 @@ telling_fed Becomes next begin old new start was is name r s input page zero on 
     }
 
 -- The file was read on, and the machine was not fed.
-pub telling_read : {A : Type 0} (Came : List Event → A → Type 0) (next : A → Step) (machine : A) (start was is : State) (name : List ℕ) (r s : Reading) (page : List ℕ) → ReadsOn was is r s → TakesNone was is r s
+pub telling_read : {A : Type 0} (Came : List Event → A → Type 0) (next : A → Step) (machine : A) (start was is : State)
+    (name : List ℕ) (r s : Reading) (page : List ℕ) → ReadsOn was is r s → TakesNone was is r s
     → Telling Came next start was name machine r page → Telling Came next start is name machine s page
 telling_read Came next machine start was is name r s page on none t = record {
   events = t.events;
@@ -194,7 +216,9 @@ same_left None = refl
 same_left (Some left) = refl
 
 -- A file was opened for a reader.
-pub telling_first : {A : Type 0} (Came : List Event → A → Type 0) (next : A → Step) (machine : A) (old new : State) (name : List ℕ) (handle : ℕ) (r : Reading) (page : List ℕ) → Opens old new name handle → r ≡ reading_from handle → page ≡ [] → Came [] machine
+pub telling_first : {A : Type 0} (Came : List Event → A → Type 0) (next : A → Step) (machine : A) (old new : State)
+    (name : List ℕ) (handle : ℕ) (r : Reading) (page : List ℕ) → Opens old new name handle → r ≡ reading_from handle → page ≡ []
+    → Came [] machine
     → Telling Came next old new name machine r page
 telling_first Came next machine old new name handle r page o is none came = record {
   events = [];
@@ -216,7 +240,8 @@ telling_first Came next machine old new name handle r page o is none came = reco
       let there : IsSome (get h.files name) = of_some old.held h (λ h. IsSome (get h.files name)) told o.present in
       record {
         left = bytes_of h.files name;
-        rest_is = ap (rest_of new) is ∙ same_left (left_of new handle) ∙ o.left ∙ ap (option_and_then (λ h. get h.files name)) told ∙ was_some (get h.files name) [] there;
+        rest_is = ap (rest_of new) is ∙ same_left (left_of new handle) ∙ o.left
+            ∙ ap (option_and_then (λ h. get h.files name)) told ∙ was_some (get h.files name) [] there;
         parts = refl;
         end = λ on. absurd (let z : false ≡ true = on in cc);
       };
@@ -224,7 +249,9 @@ telling_first Came next machine old new name handle r page o is none came = reco
 }
 
 -- what a run has told
-unfoldable pub tells_of : {A : Type 0} (Came : List Event → A → Type 0) (next : A → Step) (machine : A) (old new : State) (name : List ℕ) (r : Reading) (unsaid : List ℕ) → Telling Came next old new name machine r unsaid → Tells Came next old new name machine (given_of r) unsaid
+unfoldable pub tells_of : {A : Type 0} (Came : List Event → A → Type 0) (next : A → Step) (machine : A) (old new : State)
+    (name : List ℕ) (r : Reading) (unsaid : List ℕ) → Telling Came next old new name machine r unsaid
+    → Tells Came next old new name machine (given_of r) unsaid
 tells_of Came next machine old new name r unsaid t = record {
   events = t.events;
   came = t.came;
@@ -236,7 +263,8 @@ tells_of Came next machine old new name r unsaid t = record {
   said = t.said;
   opened = record { present = t.present; held = t.held; opened = t.opened; created = t.created };
   inputs = some_is old.held (λ h. IsFed (bytes_of h.files name) (given_of r) (fed 0 t.events) (has_ended 0 t.events)) (λ h told.
-      is_fed (bytes_of h.files name) r.waiting (fed 0 t.events) (left_of new r.handle) (has_ended 0 t.events) (given_of r) (ap (λ (n : ℕ). n + length r.waiting) t.taken) (t.reads h told));
+      is_fed (bytes_of h.files name) r.waiting (fed 0 t.events) (left_of new r.handle) (has_ended 0 t.events) (given_of r)
+      (ap (λ (n : ℕ). n + length r.waiting) t.taken) (t.reads h told));
   first = some_is old.held (λ h. StartsWith (bytes_of h.files name) (fed 0 t.early) (has_ended 0 t.early)) t.first;
 }
 
@@ -245,17 +273,21 @@ pub is_zero : (input inputs : ℕ) → input < inputs → inputs ≡ 1 → input
 is_zero input inputs lt one = omega (arith, lt, one)
 
 -- the reader's handle is there
-pub place_within : {A : Type 0} (Came : List Event → A → Type 0) (next : A → Step) (start now : State) (name : List ℕ) (machine : A) (r : Reading) (page : List ℕ) → Telling Came next start now name machine r page → r.handle < length now.opened
+pub place_within : {A : Type 0} (Came : List Event → A → Type 0) (next : A → Step) (start now : State) (name : List ℕ)
+    (machine : A) (r : Reading) (page : List ℕ) → Telling Came next start now name machine r page → r.handle < length now.opened
 place_within Came next start now name machine r page t =
     let n = ap length t.opened ∙ length_push start.opened (given_of r) in let h = t.handle in omega (arith, n, h)
 
 -- how far a file that gave too many bytes was read
-pub reads_far : {A : Type 0} (next : A → Step) (new old : A) (r s : Reading) (input least most : ℕ) → new ≡ old → next old ≡ Read input least most → input ≡ 0 → s.taken ≡ r.taken → given_of s ≡ most_bytes → given_of r < most_bytes
+pub reads_far : {A : Type 0} (next : A → Step) (new old : A) (r s : Reading) (input least most : ℕ) → new ≡ old
+    → next old ≡ Read input least most → input ≡ 0 → s.taken ≡ r.taken → given_of s ≡ most_bytes → given_of r < most_bytes
     → ((limit : ℕ) → given_of r ≤ limit → r.taken + most ≤ limit → given_of s ≤ limit) → Reaches (next new) 0 (length s.waiting)
 reads_far next new old r s input least most same wants zero taken long short limit =
     let top = limit (max (given_of r) (r.taken + most)) (omega arith) (omega arith) in
     let far : length s.waiting ≤ most = omega (arith, top, long, short, taken) in
     subst (λ (x : Step). Reaches x 0 (length s.waiting)) (sym (ap next same ∙ wants)) (zero, far)
 
-pub falls_short : {A : Type 0} (next : A → Step) (new old : A) (s : Reading) (input least most : ℕ) → new ≡ old → next old ≡ Read input least most → input ≡ 0 → length s.waiting < least → FallsShort (next new) 0 (length s.waiting)
-falls_short next new old s input least most same wants zero few = subst (λ (x : Step). FallsShort x 0 (length s.waiting)) (sym (ap next same ∙ wants)) (zero, few)
+pub falls_short : {A : Type 0} (next : A → Step) (new old : A) (s : Reading) (input least most : ℕ) → new ≡ old
+    → next old ≡ Read input least most → input ≡ 0 → length s.waiting < least → FallsShort (next new) 0 (length s.waiting)
+falls_short next new old s input least most same wants zero few =
+    subst (λ (x : Step). FallsShort x 0 (length s.waiting)) (sym (ap next same ∙ wants)) (zero, few)

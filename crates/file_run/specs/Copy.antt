@@ -15,6 +15,7 @@ pub record Copies (events : List Event) (bytes : List ℕ) (len taken : ℕ) (en
   pub count : taken ≡ length (fed 0 events)
   pub end : ended ≡ has_ended 0 events
 
--- The output holds what the input held, where the desk tells.
+-- The output holds what the input held, if the desk tells.
 abbrev pub IsCopied : State → State → List ℕ → List ℕ → Type 0
-IsCopied old new out name = IfSome old.held (λ h. (k : Held) × (new.held ≡ Some k) × (get k.files out ≡ Some (bytes_of h.files name)))
+IsCopied old new out name =
+    IfSome old.held (λ h. (k : Held) × (new.held ≡ Some k) × (get k.files out ≡ Some (bytes_of h.files name)))

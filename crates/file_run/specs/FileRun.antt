@@ -1,5 +1,6 @@
 -- What a run between files does, from the opening of its inputs on.
-use Rattle.std.specs.Prelude.{◌≡◌, ◌≢◌, ◌⊎◌, ℕ, ◌+◌, ◌-◌, ◌<◌, ◌≤◌, Bool, true, List, [], ◌∷◌, ◌++◌, length, slice_index, slice_index_or, Option, None, Some, IsSome, IfSome}
+use Rattle.std.specs.Prelude.{◌≡◌, ◌≢◌, ◌⊎◌, ℕ, ◌+◌, ◌-◌, ◌<◌, ◌≤◌, Bool, true, List, [], ◌∷◌, ◌++◌, length, slice_index}
+use Rattle.std.specs.Prelude.{slice_index_or, Option, None, Some, IsSome, IfSome}
 use Rattle.std.specs.FinMap.{get}
 use Rattle.ports.specs.Desk.{State, Held, SameCounts, bytes_of}
 use Rattle.desk_io.specs.Faults.{ReadsFail, WritesFail}
@@ -22,14 +23,15 @@ file_at h ins input = bytes_of h.files (slice_index_or ins input [])
 -- No file has changed but that of a name.
 abbrev pub OtherFiles : List ℕ → Option Held → Option Held → Type 0
 OtherFiles name None new = new ≡ None
-OtherFiles name (Some h) new = (k : Held) × (new ≡ Some k) × ((other : List ℕ) → other ≢ name → get k.files other ≡ get h.files other)
+OtherFiles name (Some h) new = (k : Held) × (new ≡ Some k)
+    × ((other : List ℕ) → other ≢ name → get k.files other ≡ get h.files other)
 
 -- No file has changed.
 abbrev pub SameFiles : Option Held → Option Held → Type 0
 SameFiles None new = new ≡ None
 SameFiles (Some h) new = (k : Held) × (new ≡ Some k) × (k.files ≡ h.files)
 
--- The handle of each of these places is of the input of its number, where the desk tells.
+-- The handle of each of these places is of the input of its number, if the desk tells.
 abbrev pub AreNamed : State → State → List (List ℕ) → List ℕ → Type 0
 AreNamed old new ins places = IfSome old.held (λ h. (k : Held) × (new.held ≡ Some k)
     × ((input : ℕ) → input < length places → slice_index_or k.names (length old.opened + input) [] ≡ slice_index_or ins input []))
@@ -65,16 +67,19 @@ pub record FailsToCreateOutput (old new : State) (out : List ℕ) (ins : List (L
   pub created : new.created ≡ old.created
   pub said : new.said ≡ old.said
 
--- All inputs were opened, in turn, and read up to these places. Then the output was created, and the desk holds it so, where it tells:
+-- All inputs were opened, in turn, and read up to these places. Then the output was created, and the desk holds it so, where it
+-- tells:
 -- by what it held at first, the output has these bytes.
-pub record Works (old new : State) (out : List ℕ) (ins : List (List ℕ)) (places : List ℕ) (HoldsOut : Held → List ℕ → Type 0) : Type 0 where
+pub record Works (old new : State) (out : List ℕ) (ins : List (List ℕ)) (places : List ℕ) (HoldsOut : Held → List ℕ
+    → Type 0) : Type 0 where
   pub opened : new.opened ≡ old.opened ++ places
   pub all : length places ≡ length ins
   pub names : AreNamed old new ins places
   pub files : OtherFiles out old.held new.held
   pub created : new.created ≡ old.created + 1
   pub said : new.said ≡ old.said
-  pub holds : IfSome old.held (λ h. (k : Held) × (new.held ≡ Some k) × ((bytes : List ℕ) × (get k.files out ≡ Some bytes) × HoldsOut h bytes))
+  pub holds : IfSome old.held (λ h. (k : Held) × (new.held ≡ Some k)
+      × ((bytes : List ℕ) × (get k.files out ≡ Some bytes) × HoldsOut h bytes))
 
 -- These bytes of a file were taken, and so many read; where it ended, they are all.
 pub record IsFed (file : List ℕ) (place : ℕ) (taken : List ℕ) (ended : Bool) : Type 0 where
@@ -86,10 +91,12 @@ pub record IsFed (file : List ℕ) (place : ℕ) (taken : List ℕ) (ended : Boo
 
 -- These events were fed from these files, read up to these places.
 abbrev pub AreFed : ℕ → (ℕ → List ℕ) → List ℕ → List Event → Type 0
-AreFed inputs files places events = (input : ℕ) → input < inputs → IsFed (files input) (slice_index places input) (fed input events) (has_ended input events)
+AreFed inputs files places events = (input : ℕ) → input < inputs
+    → IsFed (files input) (slice_index places input) (fed input events) (has_ended input events)
 
--- Where a run stands: what was done to its machine, what was read of each file, and what the output holds, where the desk tells.
-pub record Stands (old new : State) (out : List ℕ) (ins : List (List ℕ)) (reach : ℕ → ℕ) (Came : List Event → Type 0) (Holds : List Event → List ℕ → Type 0) : Type 0 where
+-- Where a run stands: what was done to its machine, what was read of each file, and what the output holds, if the desk tells.
+pub record Stands (old new : State) (out : List ℕ) (ins : List (List ℕ)) (reach : ℕ → ℕ) (Came : List Event → Type 0)
+    (Holds : List Event → List ℕ → Type 0) : Type 0 where
   pub events : List Event
   pub came : Came events
   pub places : List ℕ
@@ -104,13 +111,15 @@ abbrev pub HoldsAll : List Event → List ℕ → Type 0
 HoldsAll events bytes = bytes ≡ gave events
 
 -- A run to the end of its machine.
-pub record RunsAll (old new : State) (out : List ℕ) (ins : List (List ℕ)) (reach : ℕ → ℕ) (Came : List Event → Type 0) : Type 0 where
+pub record RunsAll (old new : State) (out : List ℕ) (ins : List (List ℕ)) (reach : ℕ → ℕ)
+    (Came : List Event → Type 0) : Type 0 where
   pub stands : Stands old new out ins reach Came HoldsAll
   pub short : AllShort stands.places
   pub counts : SameCounts old new
 
 -- An input, of which the machine wants more, gave as many bytes as no file may have.
-pub record GivesTooMuch (old new : State) (out : List ℕ) (ins : List (List ℕ)) (reach : ℕ → ℕ) (next : Step) (Came : List Event → Type 0) (input : ℕ) : Type 0 where
+pub record GivesTooMuch (old new : State) (out : List ℕ) (ins : List (List ℕ)) (reach : ℕ → ℕ) (next : Step)
+    (Came : List Event → Type 0) (input : ℕ) : Type 0 where
   pub stands : Stands old new out ins reach Came HoldsAll
   pub place : input < length ins
   pub wants : Wants next input
@@ -118,15 +127,17 @@ pub record GivesTooMuch (old new : State) (out : List ℕ) (ins : List (List ℕ
   pub counts : SameCounts old new
 
 -- An input, of which the machine wants more than was read, could not be read on. All that was given is written.
-pub record FailsToRead (old new : State) (out : List ℕ) (ins : List (List ℕ)) (reach : ℕ → ℕ) (next : Step) (Came : List Event → Type 0) (input : ℕ) : Type 0 where
+pub record FailsToRead (old new : State) (out : List ℕ) (ins : List (List ℕ)) (reach : ℕ → ℕ) (next : Step)
+    (Came : List Event → Type 0) (input : ℕ) : Type 0 where
   pub stands : Stands old new out ins reach Came HoldsAll
   pub place : input < length ins
   pub wants : FallsShort next input (slice_index stands.places input - length (fed input stands.events))
   pub short : AllShort stands.places
 
--- What a machine gave could not be written: it gives since the last reading, before which all is written, and a front of what it gave
--- since, but not all. So no input was read further than was the machine's reach then.
-pub record StopsWriting {A : Type 0} (old new : State) (out : List ℕ) (ins : List (List ℕ)) (reach : A → ℕ → ℕ) (next : A → Step) (Came : List Event → A → Type 0) (now : A) : Type 0 where
+-- What a machine gave could not be written: it gives since the last reading, before which all is written, and a front of what it
+-- gave since, but not all. So no input was read further than was the machine's reach then.
+pub record StopsWriting {A : Type 0} (old new : State) (out : List ℕ) (ins : List (List ℕ)) (reach : A → ℕ → ℕ) (next : A → Step)
+    (Came : List Event → A → Type 0) (now : A) : Type 0 where
   pub mid : A
   pub gives : next mid ≡ Give
   pub late : List Event
@@ -135,20 +146,26 @@ pub record StopsWriting {A : Type 0} (old new : State) (out : List ℕ) (ins : L
   pub more : List ℕ
   pub some : more ≢ []
   pub parts : gave late ≡ front ++ more
-  pub stands : Stands old new out ins (reach mid) (λ events. Came events mid × Came (events ++ late) now) (λ events bytes. bytes ≡ gave events ++ front)
+  pub stands : Stands old new out ins (reach mid) (λ events. Came events mid × Came (events ++ late) now)
+      (λ events bytes. bytes ≡ gave events ++ front)
   pub short : AllShort stands.places
 
 -- A run that did not come to the end of its machine, by its cause.
-abbrev pub Stops : {A : Type 0} → State → State → List ℕ → List (List ℕ) → (A → ℕ → ℕ) → (A → Step) → (List Event → A → Type 0) → A → RunFault → Type 0
-Stops old new out ins reach next Came now (TooLong input) = GivesTooMuch old new out ins (reach now) (next now) (λ events. Came events now) input
+abbrev pub Stops : {A : Type 0} → State → State → List ℕ → List (List ℕ) → (A → ℕ → ℕ) → (A → Step) → (List Event → A → Type 0)
+    → A → RunFault → Type 0
+Stops old new out ins reach next Came now (TooLong input) =
+    GivesTooMuch old new out ins (reach now) (next now) (λ events. Came events now) input
 Stops old new out ins reach next Came now (ReadFault input) = ReadsFail old new
     × (OpensInputs old new ins input ⊎ FailsToRead old new out ins (reach now) (next now) (λ events. Came events now) input)
-Stops old new out ins reach next Came now WriteFault = WritesFail old new × (FailsToCreateOutput old new out ins ⊎ StopsWriting old new out ins reach next Came now)
+Stops old new out ins reach next Came now WriteFault =
+    WritesFail old new × (FailsToCreateOutput old new out ins ⊎ StopsWriting old new out ins reach next Came now)
 
--- One input was opened and read up to a place, and then the output was created: by the bytes of the input, the output has these bytes.
+-- One input was opened and read up to a place, and then the output was created: by the bytes of the input, the output has these
+-- bytes.
 abbrev pub Writes : State → State → List ℕ → List ℕ → ℕ → (List ℕ → List ℕ → Type 0) → Type 0
 Writes old new name out place Has = Works old new out (name ∷ []) (place ∷ []) (λ h bytes. Has (bytes_of h.files name) bytes)
 
 -- It was read to its end.
 abbrev pub ReadsAll : State → List ℕ → ℕ → Type 0
-ReadsAll old name place = (place < most_bytes) × IfSome old.held (λ h. (IsSome (get h.files name)) × (place ≡ length (bytes_of h.files name)))
+ReadsAll old name place = (place < most_bytes)
+    × IfSome old.held (λ h. (IsSome (get h.files name)) × (place ≡ length (bytes_of h.files name)))

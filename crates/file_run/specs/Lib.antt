@@ -1,8 +1,9 @@
-pub mod Copy
 pub mod Events
 pub mod FileRun
 pub mod Laws
 pub mod Running
 pub mod Steps
 pub mod Telling
+-- inner: no public clause cites these
+pub mod Copy
 pub mod TellingOn

@@ -1,5 +1,6 @@
 -- How far a run has come. Of public clauses those of `OutBuffer` cite `Gathers`, and no other cites this module.
-use Rattle.std.specs.Prelude.{◌≡◌, ◌≢◌, ℕ, ◌+◌, ◌<◌, ◌≤◌, Bool, true, false, List, [], ◌∷◌, ◌++◌, length, map, slice_index_or, None, Some, IsSome, IfSome, option_map}
+use Rattle.std.specs.Prelude.{◌≡◌, ◌≢◌, ℕ, ◌+◌, ◌<◌, ◌≤◌, Bool, true, false, List, [], ◌∷◌, ◌++◌, length, map, slice_index_or}
+use Rattle.std.specs.Prelude.{None, Some, IsSome, IfSome, option_map}
 use Rattle.std.specs.declared.option.Option.{Option}
 use Rattle.std.specs.FinMap.{get}
 use Rattle.ports.specs.Desk.{State, Held, SameCounts, Creates, left_of, out_name}
@@ -41,7 +42,8 @@ pub record HoldsOut (b : Start) (h : Held) (now : State) (out : ℕ) (bytes : Li
   pub is : Held
   pub held : now.held ≡ Some is
   pub others : (name : List ℕ) → name ≢ b.out → get is.files name ≡ get h.files name
-  pub names : (input : ℕ) → input < length b.ins → slice_index_or is.names (length b.desk.opened + input) [] ≡ slice_index_or b.ins input []
+  pub names : (input : ℕ) → input < length b.ins → slice_index_or is.names (length b.desk.opened + input) []
+      ≡ slice_index_or b.ins input []
   pub named : out_name is out ≡ b.out
   pub there : get is.files b.out ≡ Some bytes
 
@@ -66,7 +68,8 @@ pub record IsRead (file : List ℕ) (rest : Option (List ℕ)) (taken : List ℕ
 -- How the files and the events are related, where the desk told its files.
 pub record Relates (b : Start) (h : Held) (now : State) (readings : List Reading) (events : List Event) : Type 0 where
   pub present : (input : ℕ) → input < length b.ins → IsSome (get h.files (slice_index_or b.ins input []))
-  pub reads : (input : ℕ) → input < length b.ins → IsRead (file_at h b.ins input) (rest_of now (reading_at readings input)) (fed input events) (has_ended input events)
+  pub reads : (input : ℕ) → input < length b.ins → IsRead (file_at h b.ins input) (rest_of now (reading_at readings input))
+      (fed input events) (has_ended input events)
 
 -- A run so far, of which all that was given is written.
 pub record Runs (b : Start) (now : State) (readings : List Reading) (out : ℕ) (reach : ℕ → ℕ) (events : List Event) : Type 0 where
@@ -99,7 +102,8 @@ pub record Drains {A : Type 0} (Becomes : A → List Event → A → Type 0) (ol
   pub wrote : Appends was is out (gave late)
 
 -- The same, but some bytes wait still.
-pub record DrainsPart {A : Type 0} (Becomes : A → List Event → A → Type 0) (old new : A) (was is : State) (out : ℕ) (waiting : List ℕ) : Type 0 where
+pub record DrainsPart {A : Type 0} (Becomes : A → List Event → A → Type 0) (old new : A) (was is : State) (out : ℕ)
+    (waiting : List ℕ) : Type 0 where
   pub late : List Event
   pub only : OnlyGave late
   pub becomes : (start : A) (events : List Event) → Becomes start events old → Becomes start (events ++ late) new
@@ -108,7 +112,8 @@ pub record DrainsPart {A : Type 0} (Becomes : A → List Event → A → Type 0)
   pub wrote : Appends was is out front
 
 -- The same, but only a front was written.
-pub record DrainsFront {A : Type 0} (Becomes : A → List Event → A → Type 0) (old new : A) (was is : State) (out : ℕ) : Type 0 where
+pub record DrainsFront {A : Type 0} (Becomes : A → List Event → A → Type 0) (old new : A) (was is : State)
+    (out : ℕ) : Type 0 where
   pub late : List Event
   pub only : OnlyGave late
   pub becomes : (start : A) (events : List Event) → Becomes start events old → Becomes start (events ++ late) new
@@ -116,8 +121,10 @@ pub record DrainsFront {A : Type 0} (Becomes : A → List Event → A → Type 0
 
 -- bytes of an input were taken, or it ended
 abbrev pub IsTaken : Event → ℕ → Option (List ℕ) → Option (List ℕ) → ℕ → Type 0
-IsTaken (Fed to bytes) input old new count = (to ≡ input) × (count ≡ length bytes) × (old ≡ option_map (λ rest. bytes ++ rest) new)
-IsTaken (Ended to bytes) input old new count = (to ≡ input) × (count ≡ length bytes) × (old ≡ option_map (λ rest. bytes ++ rest) new) × IfSome new (λ rest. rest ≡ [])
+IsTaken (Fed to bytes) input old new count = (to ≡ input) × (count ≡ length bytes)
+    × (old ≡ option_map (λ rest. bytes ++ rest) new)
+IsTaken (Ended to bytes) input old new count = (to ≡ input) × (count ≡ length bytes)
+    × (old ≡ option_map (λ rest. bytes ++ rest) new) × IfSome new (λ rest. rest ≡ [])
 IsTaken (Gave bytes) input old new count = ⊥
 
 -- whether an input ended is told by its reader
@@ -127,7 +134,8 @@ IsMarked (Ended to bytes) was is = is ≡ true
 IsMarked (Gave bytes) was is = ⊥
 
 -- A machine was fed by a reader.
-pub record Feeds {A : Type 0} (Becomes : A → List Event → A → Type 0) (old new : A) (before after : State) (was is : Reading) (input : ℕ) : Type 0 where
+pub record Feeds {A : Type 0} (Becomes : A → List Event → A → Type 0) (old new : A) (before after : State) (was is : Reading)
+    (input : ℕ) : Type 0 where
   pub event : Event
   pub becomes : (start : A) (events : List Event) → Becomes start events old → Becomes start (events ++ event ∷ []) new
   pub count : ℕ
@@ -140,7 +148,8 @@ pub record HoldsIns (old new : State) (h : Held) (ins : List (List ℕ)) : Type 
   pub is : Held
   pub held : new.held ≡ Some is
   pub files : is.files ≡ h.files
-  pub names : (input : ℕ) → input < length ins → slice_index_or is.names (length old.opened + input) [] ≡ slice_index_or ins input []
+  pub names : (input : ℕ) → input < length ins → slice_index_or is.names (length old.opened + input) []
+      ≡ slice_index_or ins input []
   pub present : (input : ℕ) → input < length ins → IsSome (get h.files (slice_index_or ins input []))
   pub left : (input : ℕ) → input < length ins → left_of new (length old.opened + input) ≡ Some (file_at h ins input)
 
@@ -170,10 +179,12 @@ FailsToOpen old new ins WriteFault = ⊥
 abbrev pub FailsToCreateFor : State → State → List ℕ → RunFault → Type 0
 FailsToCreateFor old new out (TooLong input) = ⊥
 FailsToCreateFor old new out (ReadFault input) = ⊥
-FailsToCreateFor old new out WriteFault = (start : State) (ins : List (List ℕ)) (readings : List Reading) → AreOpened start old ins readings → WritesFail start new × FailsToCreateOutput start new out ins
+FailsToCreateFor old new out WriteFault = (start : State) (ins : List (List ℕ)) (readings : List Reading)
+    → AreOpened start old ins readings → WritesFail start new × FailsToCreateOutput start new out ins
 
 -- There is a run so far, and the machine is where it came to.
-pub record IsRunning {A : Type 0} (Becomes : List Event → A → Type 0) (reach : A → ℕ → ℕ) (b : Start) (now : State) (machine : A) (readings : List Reading) (out : ℕ) : Type 0 where
+pub record IsRunning {A : Type 0} (Becomes : List Event → A → Type 0) (reach : A → ℕ → ℕ) (b : Start) (now : State) (machine : A)
+    (readings : List Reading) (out : ℕ) : Type 0 where
   pub events : List Event
   pub came : Becomes events machine
   pub runs : Runs b now readings out (reach machine) events

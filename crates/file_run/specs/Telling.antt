@@ -17,9 +17,10 @@ use Rattle.file_run.specs.declared.stop.RunFault.TheVariants.{TooLong, ReadFault
 abbrev pub StartsWith : List ℕ → List ℕ → Bool → Type 0
 StartsWith bytes front ended = (more : List ℕ) × (bytes ≡ front ++ more) × (ended ≡ true → more ≡ [])
 
--- The named file was opened and read up to a place, and its bytes were fed to a machine. All that it had given at some moment was said,
--- and of what it gave since this was not said.
-pub record Tells {A : Type 0} (Came : List Event → A → Type 0) (next : A → Step) (old new : State) (name : List ℕ) (now : A) (place : ℕ) (unsaid : List ℕ) : Type 0 where
+-- The named file was opened and read up to a place, and its bytes were fed to a machine. All that it had given at some moment was
+-- said, and of what it gave since this was not said.
+pub record Tells {A : Type 0} (Came : List Event → A → Type 0) (next : A → Step) (old new : State) (name : List ℕ) (now : A)
+    (place : ℕ) (unsaid : List ℕ) : Type 0 where
   pub events : List Event
   pub came : Came events now
   pub early : List Event
@@ -33,7 +34,8 @@ pub record Tells {A : Type 0} (Came : List Event → A → Type 0) (next : A →
   pub first : IfSome old.held (λ h. StartsWith (bytes_of h.files name) (fed 0 early) (has_ended 0 early))
 
 -- A run to the end of its machine: all that it gave was said.
-pub record TellsAll {A : Type 0} (Came : List Event → A → Type 0) (next : A → Step) (old new : State) (name : List ℕ) (now : A) : Type 0 where
+pub record TellsAll {A : Type 0} (Came : List Event → A → Type 0) (next : A → Step) (old new : State) (name : List ℕ)
+    (now : A) : Type 0 where
   pub place : ℕ
   pub tells : Tells Came next old new name now place []
   pub end : next now ≡ End
@@ -47,13 +49,15 @@ Reaches Give input count = ⊥
 Reaches End input count = ⊥
 
 -- The file gave as many bytes as none may have, and the machine wants more. All that it gave was said.
-pub record TellsTooMuch {A : Type 0} (Came : List Event → A → Type 0) (next : A → Step) (old new : State) (name : List ℕ) (now : A) : Type 0 where
+pub record TellsTooMuch {A : Type 0} (Came : List Event → A → Type 0) (next : A → Step) (old new : State) (name : List ℕ)
+    (now : A) : Type 0 where
   pub tells : Tells Came next old new name now most_bytes []
   pub wants : Reaches (next now) 0 (most_bytes - length (fed 0 tells.events))
   pub counts : SameCounts old new
 
 -- The file could not be read on, and the machine wants more than was read. What it gave was said then, unless that failed too.
-pub record TellsUntilFault {A : Type 0} (Came : List Event → A → Type 0) (next : A → Step) (old new : State) (name : List ℕ) (now : A) : Type 0 where
+pub record TellsUntilFault {A : Type 0} (Came : List Event → A → Type 0) (next : A → Step) (old new : State) (name : List ℕ)
+    (now : A) : Type 0 where
   pub place : ℕ
   pub unsaid : List ℕ
   pub tells : Tells Came next old new name now place unsaid
@@ -68,9 +72,12 @@ pub record ReadsFailFirst (old new : State) : Type 0 where
   pub writes : old.counts.writes ≤ new.counts.writes
   pub lines : new.counts.lines ≡ old.counts.lines
 
--- A run that did not come to the end of its machine, or could not say all, by its cause. After a fault of writing some bytes are not said.
+-- A run that did not come to the end of its machine, or could not say all, by its cause. After a fault of writing some bytes are
+-- not said.
 abbrev pub StopsTelling : {A : Type 0} → (List Event → A → Type 0) → (A → Step) → State → State → List ℕ → A → RunFault → Type 0
 StopsTelling Came next old new name now (TooLong input) = (input ≡ 0) × TellsTooMuch Came next old new name now
 StopsTelling Came next old new name now (ReadFault input) = (input ≡ 0)
     × ((ReadsFail old new × Unopened old new) ⊎ (ReadsFailFirst old new × TellsUntilFault Came next old new name now))
-StopsTelling Came next old new name now WriteFault = WritesFail old new × ((place : ℕ) × (unsaid : List ℕ) × Tells Came next old new name now place unsaid × (unsaid ≢ []) × (place ≤ most_bytes))
+StopsTelling Came next old new name now WriteFault =
+    WritesFail old new × ((place : ℕ) × (unsaid : List ℕ) × Tells Came next old new name now place unsaid × (unsaid ≢ [])
+    × (place ≤ most_bytes))

@@ -18,7 +18,8 @@ abbrev pub GivesWay : State → State → List ℕ → List ℕ → Type 0
 GivesWay old new waiting left = (Keeps old new × (left ≡ waiting)) ⊎ (Says old new waiting × (left ≡ []))
 
 -- A file was opened and read by a reader, its bytes were fed to a machine, and of what it gave these bytes were not said.
-pub record Telling {A : Type 0} (Came : List Event → A → Type 0) (next : A → Step) (start now : State) (name : List ℕ) (machine : A) (r : Reading) (unsaid : List ℕ) : Type 0 where
+pub record Telling {A : Type 0} (Came : List Event → A → Type 0) (next : A → Step) (start now : State) (name : List ℕ)
+    (machine : A) (r : Reading) (unsaid : List ℕ) : Type 0 where
   pub events : List Event
   pub came : Came events machine
   pub early : List Event
@@ -34,11 +35,13 @@ pub record Telling {A : Type 0} (Came : List Event → A → Type 0) (next : A �
   pub present : IfSome start.held (λ h. IsSome (get h.files name))
   pub taken : r.taken ≡ length (fed 0 events)
   pub ended : r.ended ≡ has_ended 0 events
-  pub reads : (h : Held) → start.held ≡ Some h → IsRead (bytes_of h.files name) (rest_of now r) (fed 0 events) (has_ended 0 events)
+  pub reads : (h : Held) → start.held ≡ Some h → IsRead (bytes_of h.files name) (rest_of now r) (fed 0 events)
+      (has_ended 0 events)
   pub first : (h : Held) → start.held ≡ Some h → StartsWith (bytes_of h.files name) (fed 0 early) (has_ended 0 early)
 
 -- A run was begun in which no call failed.
-pub record HasBegun {A : Type 0} (Becomes : A → List Event → A → Type 0) (next : A → Step) (inputs : A → ℕ) (now : State) (machine : A) (r : Reading) (page : List ℕ) : Type 0 where
+pub record HasBegun {A : Type 0} (Becomes : A → List Event → A → Type 0) (next : A → Step) (inputs : A → ℕ) (now : State)
+    (machine : A) (r : Reading) (page : List ℕ) : Type 0 where
   pub begin : A
   pub start : State
   pub name : List ℕ
@@ -54,8 +57,10 @@ pub record Finishes {A : Type 0} (next : A → Step) (old new : State) (machine 
 
 -- The machine has not come to its end, or not all that it gave could be said, by cause.
 abbrev pub Breaks : {A : Type 0} → (A → Step) → State → State → A → Reading → RunFault → Type 0
-Breaks next old new machine r (TooLong input) = (input ≡ 0) × (given_of r ≡ most_bytes) × Reaches (next machine) 0 (length r.waiting) × SameCounts old new
-Breaks next old new machine r (ReadFault input) = (input ≡ 0) × (given_of r < most_bytes) × FallsShort (next machine) 0 (length r.waiting) × ReadsFail old new
+Breaks next old new machine r (TooLong input) = (input ≡ 0) × (given_of r ≡ most_bytes)
+    × Reaches (next machine) 0 (length r.waiting) × SameCounts old new
+Breaks next old new machine r (ReadFault input) = (input ≡ 0) × (given_of r < most_bytes)
+    × FallsShort (next machine) 0 (length r.waiting) × ReadsFail old new
 Breaks next old new machine r WriteFault = (given_of r < most_bytes) × WritesFail old new
 
 -- What was left on the page was said, or not.
@@ -68,5 +73,7 @@ LosesLeft old new page = Keeps old new × WritesFail old new × (page ≢ [])
 -- The first fault is how the run ended.
 abbrev pub TellsLast : {T : Type 0} → State → State → List ℕ → Result T RunFault → Result T RunFault → Type 0
 TellsLast old new page (Err WriteFault) result = (result ≡ Err WriteFault) × (new ≡ old)
-TellsLast old new page (Err (ReadFault input)) result = (result ≡ Err (ReadFault input)) × (SaysLeft old new page ⊎ LosesLeft old new page)
-TellsLast old new page told result = ((result ≡ told) × SaysLeft old new page) ⊎ ((result ≡ Err WriteFault) × LosesLeft old new page)
+TellsLast old new page (Err (ReadFault input)) result = (result ≡ Err (ReadFault input))
+    × (SaysLeft old new page ⊎ LosesLeft old new page)
+TellsLast old new page told result = ((result ≡ told) × SaysLeft old new page)
+    ⊎ ((result ≡ Err WriteFault) × LosesLeft old new page)

@@ -1,5 +1,6 @@
 -- Blocks that stand one behind another.
-use Rattle.std.proofs.Common.{◌≡◌, ℕ, zero, suc, ◌*◌, ◌-◌, ◌<◌, ◌≤◌, Bool, true, false, cond, ltb, List, length, drop, take, Option, Some, None, refl, sym, ap, ◌∙◌, arith}
+use Rattle.std.proofs.Common.{◌≡◌, ℕ, zero, suc, ◌*◌, ◌-◌, ◌<◌, ◌≤◌, Bool, true, false, cond, ltb, List, length, drop, take}
+use Rattle.std.proofs.Common.{Option, Some, None, refl, sym, ap, ◌∙◌, arith}
 use Rattle.std.specs.Prelude.{slice_get, IsSome}
 use Rattle.std.proofs.lemmas.Bool.{ltb-false}
 use Rattle.std.proofs.lemmas.List.{drop-drop, take_all, length-drop}
@@ -8,7 +9,8 @@ use Rattle.site_frame.specs.Reading.{◌>>=◌, block_len, skip_block, skip_bloc
 use Rattle.site_frame.specs.Record.{cell_of}
 
 -- the value of a step that did not fail
-pub bind_some : {A B : Type 0} (r : Option A) (f : A → Option B) (y : B) → (r >>= f) ≡ Some y → (x : A) × (r ≡ Some x) × (f x ≡ Some y)
+pub bind_some : {A B : Type 0} (r : Option A) (f : A → Option B) (y : B) → (r >>= f) ≡ Some y → (x : A) × (r ≡ Some x)
+    × (f x ≡ Some y)
 bind_some (Some x) f y e = (x, refl, e)
 bind_some None f y e = absurd cc
 
@@ -26,10 +28,12 @@ some_is (Some y) x e = refl
 some_is None x e = absurd cc
 
 -- the first block is whole
-pub one_whole : (bytes rest : List ℕ) → skip_block bytes ≡ Some rest → (block_len bytes ≤ length bytes) × (drop (block_len bytes) bytes ≡ rest)
+pub one_whole : (bytes rest : List ℕ) → skip_block bytes ≡ Some rest → (block_len bytes ≤ length bytes)
+    × (drop (block_len bytes) bytes ≡ rest)
 one_whole bytes rest e = let g = guard_some (ltb (length bytes) (block_len bytes)) _ _ e in (ltb-false _ _ g.0, g.1)
 
-pub first_whole : (n : ℕ) (bytes rest : List ℕ) → skip_blocks (suc n) bytes ≡ Some rest → (block_len bytes ≤ length bytes) × (skip_blocks n (drop (block_len bytes) bytes) ≡ Some rest)
+pub first_whole : (n : ℕ) (bytes rest : List ℕ) → skip_blocks (suc n) bytes ≡ Some rest → (block_len bytes ≤ length bytes)
+    × (skip_blocks n (drop (block_len bytes) bytes) ≡ Some rest)
 first_whole n bytes rest e =
     let b = bind_some (skip_block bytes) (skip_blocks n) rest e in
     let w = one_whole bytes b.0 b.1 in
@@ -69,20 +73,24 @@ length-cells_in zero bytes = refl
 length-cells_in (suc n) bytes = ap suc (length-cells_in n (drop 4 bytes))
 
 -- the cell at a place
-pub cell_at : (n k : ℕ) (bytes : List ℕ) → k < n → slice_get (cells_in n bytes) k ≡ Some (cell_of (big_number 4 (drop (4 * k) bytes)))
+pub cell_at : (n k : ℕ) (bytes : List ℕ) → k < n → slice_get (cells_in n bytes) k
+    ≡ Some (cell_of (big_number 4 (drop (4 * k) bytes)))
 cell_at zero k bytes lt = absurd (omega arith)
 cell_at (suc n) zero bytes lt = refl
 cell_at (suc n) (suc k) bytes lt =
     cell_at n k (drop 4 bytes) (omega arith)
-    ∙ ap (λ (xs : List ℕ). Some (cell_of (big_number 4 xs))) (drop-drop (4 * k) 4 bytes ∙ ap (λ (m : ℕ). drop m bytes) (omega arith))
+    ∙ ap (λ (xs : List ℕ). Some (cell_of (big_number 4 xs)))
+    (drop-drop (4 * k) 4 bytes ∙ ap (λ (m : ℕ). drop m bytes) (omega arith))
 
 pub same_some : {A : Type 0} (r : Option A) (x y : A) → r ≡ Some x → r ≡ Some y → x ≡ y
 same_some (Some z) x y p q = cc
 same_some None x y p q = absurd cc
 
-pub skip_step : (n : ℕ) (bytes rest : List ℕ) → 0 < n → skip_block bytes ≡ Some rest → skip_blocks n bytes ≡ skip_blocks (n - 1) rest
+pub skip_step : (n : ℕ) (bytes rest : List ℕ) → 0 < n → skip_block bytes ≡ Some rest → skip_blocks n bytes
+    ≡ skip_blocks (n - 1) rest
 skip_step zero bytes rest h e = absurd (omega arith)
-skip_step (suc n) bytes rest h e = ap (λ (r : Option (List ℕ)). r >>= skip_blocks n) e ∙ ap (λ (k : ℕ). skip_blocks k rest) (omega arith)
+skip_step (suc n) bytes rest h e = ap (λ (r : Option (List ℕ)). r >>= skip_blocks n) e
+    ∙ ap (λ (k : ℕ). skip_blocks k rest) (omega arith)
 
 pub rest_all : (n : ℕ) (bytes : List ℕ) → take (length bytes - n) (drop n bytes) ≡ drop n bytes
 rest_all n bytes = take_all (length bytes - n) (drop n bytes) (simp length-drop (omega arith))

@@ -1,14 +1,19 @@
 -- What a head tells does not depend on what follows it.
-use Rattle.std.proofs.Common.{◌≡◌, ◌⊎◌, ℕ, ◌+◌, ◌-◌, ◌*◌, ◌<◌, ◌≤◌, false, List, [], ◌++◌, length, take, drop, replicate, Result, Ok, Err, refl, sym, ap, subst, ◌∙◌, arith, inl, inr}
+use Rattle.std.proofs.Common.{◌≡◌, ◌⊎◌, ℕ, ◌+◌, ◌-◌, ◌*◌, ◌<◌, ◌≤◌, false, List, [], ◌++◌, length, take, drop, replicate, Result}
+use Rattle.std.proofs.Common.{Ok, Err, refl, sym, ap, subst, ◌∙◌, arith, inl, inr}
 use Rattle.std.specs.Prelude.{slice_index, IfOk, IfErr}
 use Rattle.std.proofs.Math.ListN.{get_or-append}
 use Rattle.std.specs.List.{concat}
-use Rattle.std.proofs.lemmas.List.{take_all, take-append-drop, drop-append-le, length-append, length-take, length-drop, length-replicate}
+use Rattle.std.proofs.lemmas.List.{take_all, take-append-drop, drop-append-le, length-append, length-take, length-drop}
+use Rattle.std.proofs.lemmas.List.{length-replicate}
 use Rattle.byteorder.specs.Endian.{big_number}
 use Rattle.byteorder.specs.Numbers.{big_from-append}
 use Rattle.plp_config.specs.declared.moment.Moment.{Moment}
 use Rattle.site_frame.specs.Record.{frame_kind, muted_kind, head_len, head_bytes, FitsMoment}
-use Rattle.site_frame.specs.Whole.{greatest_rest, least_rest, kind_of, moment_of, HasRest, Spells, BeginsWith, written_rest, record_bytes, record_len, FitsRest, FitsRecord, HasHead, HasKind, told_moment, told_len, told_rest, HasLength, Refuses, CanFollow, Follow, RefusesHead, IsRight, IsRightAlone, HasBadLength, IsWrong}
+use Rattle.site_frame.specs.Whole.{greatest_rest, least_rest, kind_of, moment_of, HasRest, Spells, BeginsWith, written_rest}
+use Rattle.site_frame.specs.Whole.{record_bytes, record_len, FitsRest, FitsRecord, HasHead, HasKind, told_moment, told_len}
+use Rattle.site_frame.specs.Whole.{told_rest, HasLength, Refuses, CanFollow, Follow, RefusesHead, IsRight, IsRightAlone}
+use Rattle.site_frame.specs.Whole.{HasBadLength, IsWrong}
 use Rattle.site_frame.specs.declared.fault.RecordWhy.{RecordWhy}
 use Rattle.site_frame.specs.declared.fault.RecordWhy.TheVariants.{Head, Kind, Length, Order, OffGrid}
 use Rattle.site_frame.specs.declared.reading.RecordView.{RecordView}
@@ -18,14 +23,16 @@ use Rattle.site_frame.proofs.WholeLemmas.{head_taken, read_begun}
 use Rattle.site_frame.proofs.LawLemmas.{no_refusal, has_len, written_length, written_spells}
 
 -- the bytes of a head stand where they stood
-pub same_at : (bytes more : List ℕ) → head_len ≤ length bytes → (i : ℕ) → i < head_len → slice_index (bytes ++ more) i ≡ slice_index bytes i
+pub same_at : (bytes more : List ℕ) → head_len ≤ length bytes → (i : ℕ) → i < head_len → slice_index (bytes ++ more) i
+    ≡ slice_index bytes i
 same_at bytes more long i less = get_or-append bytes more 0 i (omega (arith, long, less))
 
 -- and tell the same length
 pub told_on : (bytes more : List ℕ) → head_len ≤ length bytes → told_len (bytes ++ more) ≡ told_len bytes
 told_on bytes more long =
     let n = length-drop {A = ℕ} 20 bytes in
-    ap (big_number 4) (drop-append-le 20 bytes more (omega (arith, long))) ∙ big_from-append 4 (drop 20 bytes) more (omega (arith, n, long))
+    ap (big_number 4) (drop-append-le 20 bytes more (omega (arith, long))) ∙ big_from-append 4 (drop 20 bytes) more
+    (omega (arith, n, long))
 
 pub head_on : (bytes more : List ℕ) → head_len ≤ length bytes → HasHead bytes → HasHead (bytes ++ more)
 head_on bytes more long h =
@@ -70,7 +77,8 @@ no_rest (Frame moment pre post blocks cells) rest muted parts = absurd (omega (a
 no_rest (Muted moment) rest muted parts = ap (λ (xs : List ℕ). length xs) parts
 
 some_rest : (view : RecordView) (rest : List ℕ) → kind_of view ≡ frame_kind → HasRest view rest → least_rest ≤ length rest
-some_rest (Frame moment pre post blocks cells) rest frame parts = omega (arith, has_len (Frame moment pre post blocks cells) rest parts)
+some_rest (Frame moment pre post blocks cells) rest frame parts =
+    omega (arith, has_len (Frame moment pre post blocks cells) rest parts)
 some_rest (Muted moment) rest frame parts = absurd (omega (arith, frame))
 
 -- a rest has the length that the head tells
@@ -93,7 +101,8 @@ bad_on head more e (inr (inr short)) h =
 pub refuses_head : (head : List ℕ) (why : RecordWhy) → length head ≡ 24 → IsWrong head why → RefusesHead head why
 refuses_head head Head e w more = λ h. w (head_back head more (omega (arith, e)) h)
 refuses_head head Kind e w more = (head_on head more (omega (arith, e)) w.0, λ h. w.1 (kind_back head more (omega (arith, e)) h))
-refuses_head head Length e (is, kind, bad) more = (head_on head more (omega (arith, e)) is, kind_on head more (omega (arith, e)) kind, bad_on head more e bad)
+refuses_head head Length e (is, kind, bad) more =
+    (head_on head more (omega (arith, e)) is, kind_on head more (omega (arith, e)) kind, bad_on head more e bad)
 refuses_head head Order e w more = w
 refuses_head head OffGrid e w more = w
 
@@ -106,20 +115,28 @@ moment_fits head fits e =
     (seconds.1, subseconds.1)
 
 -- as it is written
-written_on : (head : List ℕ) (view : RecordView) (rest : ℕ) → IsBytes head → length head ≡ 24 → IsRight head rest → kind_of view ≡ slice_index head 4 → moment_of view ≡ told_moment head
+written_on : (head : List ℕ) (view : RecordView) (rest : ℕ) → IsBytes head → length head ≡ 24 → IsRight head rest
+    → kind_of view ≡ slice_index head 4 → moment_of view ≡ told_moment head
     → length (concat (written_rest view)) ≡ rest → FitsRecord view → CanFollow head rest
 written_on head view rest fits e right kind moment size record-fits =
     let more : List ℕ = concat (written_rest view) in
-    let begin : take 24 head ≡ head_bytes (slice_index head 4) (told_moment head) (told_len head) = head_taken head fits right.head in
+    let begin : take 24 head ≡ head_bytes (slice_index head 4) (told_moment head) (told_len head) =
+    head_taken head fits right.head in
     let told : told_len head ≡ length more = omega (arith, right.told, size) in
-    let front : head ≡ head_bytes (kind_of view) (moment_of view) (length more) = sym (take_all 24 head (omega (arith, e))) ∙ begin ∙ rw (kind, moment, told) refl in
+    let front : head ≡ head_bytes (kind_of view) (moment_of view) (length more) = sym (take_all 24 head (omega (arith, e)))
+    ∙ begin ∙ rw (kind, moment, told) refl in
     let whole : record_bytes view ≡ head ++ more = ap (λ (xs : List ℕ). xs ++ more) (sym front) in
     let both : length (head ++ more) ≡ 24 + rest = omega (arith, e, size, length-append head more) in
     let all : take (24 + rest) (head ++ more) ≡ head ++ more = take_all (24 + rest) (head ++ more) (omega (arith, both)) in
     record {
       more = more;
       view = view;
-      begins = record { inside = omega (arith, both); spells = subst (Spells view) (whole ∙ sym all) (written_spells view record-fits) };
+      begins =
+          record {
+            inside = omega (arith, both);
+            spells = subst (Spells view) (whole ∙ sym all)
+                (written_spells view record-fits);
+          };
     }
 
 -- a frame of zeros without a block or a cell, whose rest has so many bytes
@@ -139,7 +156,8 @@ zeros_fit moment rest small = record {
 zeros_len : (moment : Moment) (rest : ℕ) → least_rest ≤ rest → record_len (zeros_frame moment rest) ≡ 24 + rest
 zeros_len moment rest least = omega (arith, length-replicate (8 * (rest - 35)) false, least)
 
-can_follow : (head : List ℕ) (rest : ℕ) → IsBytes head → length head ≡ 24 → IsRightAlone head rest → (slice_index head 4 ≡ frame_kind) ⊎ (slice_index head 4 ≡ muted_kind) → CanFollow head rest
+can_follow : (head : List ℕ) (rest : ℕ) → IsBytes head → length head ≡ 24 → IsRightAlone head rest
+    → (slice_index head 4 ≡ frame_kind) ⊎ (slice_index head 4 ≡ muted_kind) → CanFollow head rest
 can_follow head rest fits e r (inl frame) =
     let moment : Moment = told_moment head in
     let view : RecordView = zeros_frame moment rest in
@@ -165,7 +183,8 @@ follow head rest fits e alone =
       fewer = λ more few. (
         head_on head more (omega (arith, e)) r.head,
         kind_on head more (omega (arith, e)) r.kind,
-        λ h. let never : ⊥ = omega (arith, h.inside, told_on head more (omega (arith, e)), r.told, few, e, length-append head more) in never,
+        λ h. let never : ⊥ =
+            omega (arith, h.inside, told_on head more (omega (arith, e)), r.told, few, e, length-append head more) in never,
       );
     }
 
@@ -177,7 +196,8 @@ not_both bytes view len why b refused =
 
 -- ---- of an answer
 
-pub ok_follow : (head : List ℕ) (r : Result ℕ RecordWhy) → IsBytes head → length head ≡ 24 → IfOk r (IsRightAlone head) → IfOk r (Follow head)
+pub ok_follow : (head : List ℕ) (r : Result ℕ RecordWhy) → IsBytes head → length head ≡ 24 → IfOk r (IsRightAlone head)
+    → IfOk r (Follow head)
 ok_follow head (Ok rest) fits e h = follow head rest fits e h
 ok_follow head (Err why) fits e h = tt
 

@@ -1,6 +1,7 @@
 -- What is refused of a record that has come whole is refused whatever follows.
 use Rattle.std.proofs.Common.{◌≡◌, ℕ, ◌+◌, ◌^◌, ◌<◌, List, ◌++◌, length, take, drop, sym, ap, subst, ◌∙◌, arith, append_assoc}
-use Rattle.std.proofs.lemmas.List.{take-append-le, take-append-drop, drop-append-le, drop_at, length-append, length-drop, length-take-le}
+use Rattle.std.proofs.lemmas.List.{take-append-le, take-append-drop, drop-append-le, drop_at, length-append, length-drop}
+use Rattle.std.proofs.lemmas.List.{length-take-le}
 use Rattle.byteorder.specs.Endian.{big_number, big_bytes}
 use Rattle.byteorder.specs.Numbers.{big_number-reads_back, length-bytes_high_first}
 use Rattle.site_frame.proofs.HeadLemmas.{same_at, told_on, head_on, head_back, kind_on, kind_back}
@@ -12,20 +13,38 @@ use Rattle.site_frame.specs.declared.fault.RecordWhy.TheVariants.{Head, Kind, Le
 use Rattle.site_frame.specs.RecordFile.{Announces}
 
 -- what a head tells is the length of the rest
-told_in : (kind : ℕ) (moment : Moment) (len : ℕ) (rest : List ℕ) → len < 256 ^ 4 → told_len (head_bytes kind moment len ++ rest) ≡ len
+told_in : (kind : ℕ) (moment : Moment) (len : ℕ) (rest : List ℕ) → len < 256 ^ 4 → told_len (head_bytes kind moment len ++ rest)
+    ≡ len
 told_in kind moment len rest small =
     let front : List ℕ = big_bytes 8 moment.seconds ++ big_bytes 4 moment.subseconds in
-    let size : length front ≡ 12 = omega (arith, length-append (big_bytes 8 moment.seconds) (big_bytes 4 moment.subseconds), length-bytes_high_first 8 moment.seconds, length-bytes_high_first 4 moment.subseconds) in
-    let parts : (big_bytes 8 moment.seconds ++ (big_bytes 4 moment.subseconds ++ big_bytes 4 len)) ++ rest ≡ front ++ (big_bytes 4 len ++ rest) =
-    ap (λ (l : List ℕ). l ++ rest) (sym (append_assoc (big_bytes 8 moment.seconds) (big_bytes 4 moment.subseconds) (big_bytes 4 len))) ∙ append_assoc front (big_bytes 4 len) rest in
-    let behind : drop 12 (front ++ (big_bytes 4 len ++ rest)) ≡ big_bytes 4 len ++ rest = drop_at front (big_bytes 4 len ++ rest) 12 size in
+    let size : length front ≡ 12 =
+    omega (
+      arith,
+      length-append (big_bytes 8 moment.seconds) (big_bytes 4 moment.subseconds),
+      length-bytes_high_first 8 moment.seconds,
+      length-bytes_high_first 4 moment.subseconds,
+    ) in
+    let parts : (big_bytes 8 moment.seconds ++ (big_bytes 4 moment.subseconds ++ big_bytes 4 len)) ++ rest
+    ≡ front ++ (big_bytes 4 len ++ rest) =
+    ap (λ (l : List ℕ). l ++ rest)
+    (sym (append_assoc (big_bytes 8 moment.seconds) (big_bytes 4 moment.subseconds) (big_bytes 4 len)))
+    ∙ append_assoc front (big_bytes 4 len) rest in
+    let behind : drop 12 (front ++ (big_bytes 4 len ++ rest)) ≡ big_bytes 4 len ++ rest =
+    drop_at front (big_bytes 4 len ++ rest) 12 size in
     ap (λ (l : List ℕ). big_number 4 (drop 12 l)) parts ∙ ap (big_number 4) behind ∙ big_number-reads_back 4 len rest small
 
 head_size : (kind : ℕ) (moment : Moment) (len : ℕ) → length (head_bytes kind moment len) ≡ head_len
 head_size kind moment len =
     let a = length-append (big_bytes 8 moment.seconds) (big_bytes 4 moment.subseconds ++ big_bytes 4 len) in
     let b = length-append (big_bytes 4 moment.subseconds) (big_bytes 4 len) in
-    omega (arith, a, b, length-bytes_high_first 8 moment.seconds, length-bytes_high_first 4 moment.subseconds, length-bytes_high_first 4 len)
+    omega (
+      arith,
+      a,
+      b,
+      length-bytes_high_first 8 moment.seconds,
+      length-bytes_high_first 4 moment.subseconds,
+      length-bytes_high_first 4 len,
+    )
 
 -- a head tells how many bytes follow
 follow_told : (head : List ℕ) (len : ℕ) → length head ≡ head_len → Follow head len → told_len head ≡ len
@@ -40,23 +59,28 @@ follow_told head len size f =
     let both = length-append (head_bytes (kind_of f.some.view) (moment_of f.some.view) (length s.rest)) s.rest in
     let first = head_size (kind_of f.some.view) (moment_of f.some.view) (length s.rest) in
     let rest : length s.rest ≡ len = omega (arith, n, sum, both, first) in
-    let told : told_len bytes ≡ length s.rest = ap told_len spelled ∙ told_in (kind_of f.some.view) (moment_of f.some.view) (length s.rest) s.rest (let few = s.small in omega (arith, few)) in
-    let front : told_len whole ≡ told_len bytes = ap told_len (sym (take-append-drop (head_len + len) whole)) ∙ told_on bytes (drop (head_len + len) whole) (omega (arith, n)) in
+    let told : told_len bytes ≡ length s.rest = ap told_len spelled ∙ told_in (kind_of f.some.view) (moment_of f.some.view)
+    (length s.rest) s.rest (let few = s.small in omega (arith, few)) in
+    let front : told_len whole ≡ told_len bytes = ap told_len (sym (take-append-drop (head_len + len) whole))
+    ∙ told_on bytes (drop (head_len + len) whole) (omega (arith, n)) in
     sym (told_on head f.some.more (omega (arith, size))) ∙ front ∙ told ∙ rest
 
 -- so does the head of bytes
 announced : (bytes : List ℕ) (len : ℕ) → Announces bytes len → told_len bytes ≡ len
 announced bytes len a =
     let n = length-take-le head_len bytes a.0 in
-    ap told_len (sym (take-append-drop head_len bytes)) ∙ told_on (take head_len bytes) (drop head_len bytes) (omega (arith, n)) ∙ follow_told (take head_len bytes) len n a.1
+    ap told_len (sym (take-append-drop head_len bytes)) ∙ told_on (take head_len bytes) (drop head_len bytes) (omega (arith, n))
+    ∙ follow_told (take head_len bytes) len n a.1
 
-length_back : (bytes more : List ℕ) (len : ℕ) → Announces bytes len → length bytes ≡ head_len + len → HasLength (bytes ++ more) → HasLength bytes
+length_back : (bytes more : List ℕ) (len : ℕ) → Announces bytes len → length bytes ≡ head_len + len → HasLength (bytes ++ more)
+    → HasLength bytes
 length_back bytes more len a whole h =
     let told : told_len bytes ≡ len = announced bytes len a in
     let same : told_len (bytes ++ more) ≡ told_len bytes = told_on bytes more a.0 in
     let n = length-drop {A = ℕ} head_len bytes in
     let rest : told_rest (bytes ++ more) ≡ told_rest bytes =
-    ap (λ (k : ℕ). take k (drop head_len (bytes ++ more))) same ∙ ap (take (told_len bytes)) (drop-append-le head_len bytes more a.0)
+    ap (λ (k : ℕ). take k (drop head_len (bytes ++ more))) same
+    ∙ ap (take (told_len bytes)) (drop-append-le head_len bytes more a.0)
     ∙ take-append-le (told_len bytes) (drop head_len bytes) more (omega (arith, told, whole, n)) in
     record {
       small = (let s = h.small in omega (arith, s, same));
@@ -66,10 +90,12 @@ length_back bytes more len a whole h =
       parts = subst (HasRest h.view) rest h.parts;
     }
 
-pub refused_whole : (bytes more : List ℕ) (len : ℕ) (why : RecordWhy) → Announces bytes len → length bytes ≡ head_len + len → Refuses bytes why → Refuses (bytes ++ more) why
+pub refused_whole : (bytes more : List ℕ) (len : ℕ) (why : RecordWhy) → Announces bytes len → length bytes ≡ head_len + len
+    → Refuses bytes why → Refuses (bytes ++ more) why
 refused_whole bytes more len Head a whole r = λ h. r (head_back bytes more a.0 h)
 refused_whole bytes more len Kind a whole r = (head_on bytes more a.0 r.0, λ h. r.1 (kind_back bytes more a.0 h))
-refused_whole bytes more len Length a whole r = (head_on bytes more a.0 r.0, kind_on bytes more a.0 r.1, λ h. r.2 (length_back bytes more len a whole h))
+refused_whole bytes more len Length a whole r =
+    (head_on bytes more a.0 r.0, kind_on bytes more a.0 r.1, λ h. r.2 (length_back bytes more len a whole h))
 refused_whole bytes more len Order a whole r = r
 refused_whole bytes more len OffGrid a whole r = r
 
@@ -82,4 +108,5 @@ pub cut_refused : (bytes : List ℕ) (len : ℕ) → Announces bytes len → len
 cut_refused bytes len a few =
     let n = length-drop {A = ℕ} head_len bytes in
     let long = a.0 in
-    subst (λ (l : List ℕ). Refuses l Length) (take-append-drop head_len bytes) (a.1.fewer (drop head_len bytes) (omega (arith, n, few, long)))
+    subst (λ (l : List ℕ). Refuses l Length) (take-append-drop head_len bytes)
+    (a.1.fewer (drop head_len bytes) (omega (arith, n, few, long)))

@@ -1,5 +1,6 @@
 -- The rest of a frame's record is spelled by parts exactly if reading gives them.
-use Rattle.std.proofs.Common.{◌≡◌, ℕ, ◌+◌, ◌*◌, ◌/◌, ◌%◌, ◌<◌, ◌==◌, Bool, List, ◌++◌, length, take, drop, Option, Some, refl, sym, ap, ap₂, subst, ◌∙◌, append_assoc, append-nil, arith}
+use Rattle.std.proofs.Common.{◌≡◌, ℕ, ◌+◌, ◌*◌, ◌/◌, ◌%◌, ◌<◌, ◌==◌, Bool, List, ◌++◌, length, take, drop, Option, Some, refl}
+use Rattle.std.proofs.Common.{sym, ap, ap₂, subst, ◌∙◌, append_assoc, append-nil, arith}
 use Rattle.std.specs.List.{flat_map}
 use Rattle.std.proofs.lemmas.Bool.{eqb-true, eq-eqb, cond-true}
 use Rattle.std.proofs.lemmas.Option.{cond_some}
@@ -13,7 +14,8 @@ use Rattle.site_frame.specs.Reading.{◌>>=◌, cut, number, skip_blocks, blocks
 use Rattle.site_frame.specs.Rest.{rest_bytes, FitsFrame, IsRest, all_cells, parts_in}
 use Rattle.site_frame.specs.declared.parts.FrameParts.{FrameParts}
 use Rattle.site_frame.proofs.BlockLemmas.{bind_some, length-blocks_in, length-cells_in}
-use Rattle.site_frame.proofs.FieldLemmas.{IsBytes, some_same, cut_again, number_again, blocks_again, length-cells, cells_again, cut_takes, number_takes, wide2, wide4, blocks_take, cells_take}
+use Rattle.site_frame.proofs.FieldLemmas.{IsBytes, some_same, cut_again, number_again, blocks_again, length-cells, cells_again}
+use Rattle.site_frame.proofs.FieldLemmas.{cut_takes, number_takes, wide2, wide4, blocks_take, cells_take}
 
 pad_full : (a b : ℕ) → b < 8 → (a + b) % 8 ≡ 0 → a + b ≡ 8 * ((a + 7) / 8)
 pad_full a b short whole = omega arith
@@ -21,11 +23,13 @@ pad_full a b short whole = omega arith
 -- the sections, one behind another
 pub sections_joined : (p : FrameParts) (pad : List Bool) (ignored : List ℕ)
     → rest_bytes p pad ignored ≡ bytes_of p.pre ++ (big_bytes 4 (length p.post) ++ (bytes_of (p.post ++ pad)
-    ++ (big_bytes 2 (length p.blocks) ++ (blocks_bytes p.blocks ignored ++ (big_bytes 4 (length p.cells) ++ flat_map cell_bytes p.cells)))))
+    ++ (big_bytes 2 (length p.blocks)
+    ++ (blocks_bytes p.blocks ignored ++ (big_bytes 4 (length p.cells) ++ flat_map cell_bytes p.cells)))))
 sections_joined p pad ignored = simp (append_assoc, append-nil) refl
 
 -- What is written is read.
-pub rest_again : (p : FrameParts) (pad : List Bool) (ignored : List ℕ) → FitsFrame p → length pad < 8 → (length p.post + length pad) % 8 ≡ 0 → parts_in (rest_bytes p pad ignored) ≡ Some p
+pub rest_again : (p : FrameParts) (pad : List Bool) (ignored : List ℕ) → FitsFrame p → length pad < 8
+    → (length p.post + length pad) % 8 ≡ 0 → parts_in (rest_bytes p pad ignored) ≡ Some p
 unfolding parts_in
 rest_again p pad ignored fits short whole =
     let words : List ℕ = flat_map cell_bytes p.cells in
@@ -35,7 +39,8 @@ rest_again p pad ignored fits short whole =
     let filled : List Bool = p.post ++ pad in
     let r2 : List ℕ = bytes_of filled ++ r3 in
     let r1 : List ℕ = big_bytes 4 (length p.post) ++ r2 in
-    let long : length filled ≡ 8 * bytes_for (length p.post) = length-append p.post pad ∙ pad_full (length p.post) (length pad) short whole in
+    let long : length filled ≡ 8 * bytes_for (length p.post) = length-append p.post pad
+    ∙ pad_full (length p.post) (length pad) short whole in
     let size : length (bytes_of filled) ≡ bytes_for (length p.post) = length-bytes_of filled ∙ (omega (arith, long)) in
     let pre = cut_again 25 (bytes_of p.pre) r1 (length-bytes_of p.pre ∙ ap bytes_for fits.pre) in
     let bits = number_again 4 (length p.post) r2 fits.post in
@@ -43,14 +48,18 @@ rest_again p pad ignored fits short whole =
     let count = number_again 2 (length p.blocks) r4 fits.blocks in
     let blocks = blocks_again p.blocks ignored r5 fits.block in
     let cells = number_again 4 (length p.cells) words fits.cells in
-    let last : all_cells (length p.cells) words ≡ Some p.cells = cond-true _ _ _ (eq-eqb _ _ (length-cells p.cells)) ∙ ap Some (cells_again p.cells fits.cell) in
+    let last : all_cells (length p.cells) words ≡ Some p.cells = cond-true _ _ _ (eq-eqb _ _ (length-cells p.cells))
+    ∙ ap Some (cells_again p.cells fits.cell) in
     let pre-bits : bits_of (bytes_of p.pre) ≡ p.pre = bits_of-bytes_of p.pre 25 fits.pre in
-    let post-bits : take (length p.post) (bits_of (bytes_of filled)) ≡ p.post = ap (take (length p.post)) (bits_of-bytes_of filled (bytes_for (length p.post)) long) ∙ take_at p.post pad (length p.post) refl in
+    let post-bits : take (length p.post) (bits_of (bytes_of filled)) ≡ p.post =
+    ap (take (length p.post)) (bits_of-bytes_of filled (bytes_for (length p.post)) long)
+    ∙ take_at p.post pad (length p.post) refl in
     rw (sections_joined p pad ignored) (rw (pre, bits, post, count, blocks.0, cells, last, pre-bits, post-bits, blocks.1) refl)
 
 -- the steps of the reader
 abbrev step6 : List ℕ → ℕ → List ℕ → ℕ → List ℕ → List (Option Cell) → Option FrameParts
-step6 pre bits post count first cells = Some (record { pre = bits_of pre; post = take bits (bits_of post); blocks = blocks_in count first; cells = cells })
+step6 pre bits post count first cells =
+    Some (record { pre = bits_of pre; post = take bits (bits_of post); blocks = blocks_in count first; cells = cells })
 
 abbrev step5 : List ℕ → ℕ → List ℕ → ℕ → List ℕ → ℕ × List ℕ → Option FrameParts
 step5 pre bits post count first cells = all_cells cells.0 cells.1 >>= step6 pre bits post count first
@@ -99,14 +108,23 @@ rest_taken rest p fits e =
     let c6 = cond_some (length cells.1 == 4 * cells.0) (cells_in cells.0 cells.1) b6.0 b6.1 in
     let full : length cells.1 ≡ 4 * cells.0 = eqb-true _ _ c6.0 in
     let t6 = cells_take cells.0 cells.1 t5.rest_fits full in
-    let q : FrameParts = record { pre = bits_of pre.0; post = take bits.0 (bits_of post.0); blocks = blocks_in count.0 count.1; cells = cells_in cells.0 cells.1 } in
-    let is : q ≡ p = ap (λ (ws : List (Option Cell)). the_parts (bits_of pre.0) (take bits.0 (bits_of post.0)) (blocks_in count.0 count.1) ws) c6.1 ∙ some_same _ p b6.2 in
+    let q : FrameParts = record {
+      pre = bits_of pre.0;
+      post = take bits.0 (bits_of post.0);
+      blocks = blocks_in count.0 count.1;
+      cells = cells_in cells.0 cells.1;
+    } in
+    let is : q ≡ p =
+    ap (λ (ws : List (Option Cell)). the_parts (bits_of pre.0) (take bits.0 (bits_of post.0)) (blocks_in count.0 count.1) ws)
+    c6.1 ∙ some_same _ p b6.2 in
     let pad : List Bool = drop bits.0 (bits_of post.0) in
     let all : length (bits_of post.0) ≡ 8 * bytes_for bits.0 = length-bits_of post.0 ∙ ap (λ (n : ℕ). 8 * n) t2.long in
     let post-len : length q.post ≡ bits.0 = omega (arith, all, length-take bits.0 (bits_of post.0)) in
-    let pad-len : length pad + bits.0 ≡ 8 * bytes_for bits.0 = omega (arith, all, length-drop {A = Bool} bits.0 (bits_of post.0)) in
+    let pad-len : length pad + bits.0 ≡ 8 * bytes_for bits.0 =
+    omega (arith, all, length-drop {A = Bool} bits.0 (bits_of post.0)) in
     let pre-bytes : bytes_of q.pre ≡ pre.0 = bytes_of-bits_of pre.0 t0.front_fits in
-    let post-bytes : bytes_of (q.post ++ pad) ≡ post.0 = ap bytes_of (take-append-drop bits.0 (bits_of post.0)) ∙ bytes_of-bits_of post.0 t2.front_fits in
+    let post-bytes : bytes_of (q.post ++ pad) ≡ post.0 = ap bytes_of (take-append-drop bits.0 (bits_of post.0))
+    ∙ bytes_of-bits_of post.0 t2.front_fits in
     let blocks-len : length q.blocks ≡ count.0 = length-blocks_in count.0 count.1 in
     let cells-len : length q.cells ≡ cells.0 = length-cells_in cells.0 cells.1 in
     subst (λ (x : FrameParts). IsRest x rest) is (record {

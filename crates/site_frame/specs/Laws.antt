@@ -16,7 +16,8 @@ WrittenIsRead = (view : RecordView) (front more : List ℕ) → Spells view fron
 
 -- Bytes begin with one record at most: none is a proper prefix of another, and none is spelled like another.
 abbrev pub OneRecord : Type 0
-OneRecord = (v w : RecordView) (front other more rest : List ℕ) → Spells v front → Spells w other → front ++ more ≡ other ++ rest → (v ≡ w) × (front ≡ other)
+OneRecord = (v w : RecordView) (front other more rest : List ℕ) → Spells v front → Spells w other → front ++ more ≡ other ++ rest
+    → (v ≡ w) × (front ≡ other)
 
 -- What begins with a record is not refused, whatever follows.
 abbrev pub NoRefusal : Type 0
@@ -24,7 +25,8 @@ NoRefusal = (view : RecordView) (front more : List ℕ) (why : RecordWhy) → Sp
 
 -- Bytes begin with a record or are refused.
 abbrev pub SpelledOrRefused : Type 0
-SpelledOrRefused = (bytes : List ℕ) → ((k : ℕ) → slice_index bytes k < 256) → ((view : RecordView) × ((len : ℕ) × BeginsWith bytes view len)) ⊎ ((why : RecordWhy) × Refuses bytes why)
+SpelledOrRefused = (bytes : List ℕ) → ((k : ℕ) → slice_index bytes k < 256)
+    → ((view : RecordView) × ((len : ℕ) × BeginsWith bytes view len)) ⊎ ((why : RecordWhy) × Refuses bytes why)
 
 -- Bytes have one refusal at most.
 abbrev pub OneRefusal : Type 0
@@ -51,4 +53,5 @@ BlocksInOrder = (blocks : List Block) → blocks_bytes blocks [] ≡ flat_map (�
 
 -- A moment is the emission of one frame at most.
 abbrev pub OneFrame : Type 0
-OneFrame = (c : Config) (moment : Moment) (frame other : ℕ) → AllRules c → IsFrameOf c moment frame → IsFrameOf c moment other → frame ≡ other
+OneFrame = (c : Config) (moment : Moment) (frame other : ℕ) → AllRules c → IsFrameOf c moment frame → IsFrameOf c moment other
+    → frame ≡ other

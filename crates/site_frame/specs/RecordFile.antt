@@ -22,6 +22,12 @@ IsNoRecord rest why = (rest ≢ []) × Refuses rest why
 abbrev pub Announces : List ℕ → ℕ → Type 0
 Announces bytes len = (head_len ≤ length bytes) × Follow (take head_len bytes) len
 
+-- Of a record that is under way so many bytes are lacking.
+pub record IsBegun (bytes : List ℕ) (left : ℕ) : Type 0 where
+  pub len : ℕ
+  pub announces : Announces bytes len
+  pub lacks : length bytes + left ≡ head_len + len
+
 -- So many of the bytes are no more than a head, or no more than the record has of which the head stands there.
 abbrev pub EndsWithin : List ℕ → ℕ → Type 0
 EndsWithin bytes count = (count ≤ head_len) ⊎ ((len : ℕ) × Announces bytes len × (count ≤ head_len + len))

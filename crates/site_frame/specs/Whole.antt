@@ -1,5 +1,6 @@
 -- Records: how one is spelled, and why bytes begin with none.
-use Rattle.std.specs.Prelude.{◌≡◌, ◌⊎◌, ℕ, ◌+◌, ◌*◌, ◌<◌, ◌≤◌, List, [], ◌∷◌, ◌++◌, length, take, drop, slice_index, sum_by, Option, Some, None, ◌==◌, if◌then◌else◌}
+use Rattle.std.specs.Prelude.{◌≡◌, ◌⊎◌, ℕ, ◌+◌, ◌*◌, ◌<◌, ◌≤◌, List, [], ◌∷◌, ◌++◌, length, take, drop, slice_index, sum_by}
+use Rattle.std.specs.Prelude.{Option, Some, None, ◌==◌, if◌then◌else◌}
 use Rattle.std.specs.List.{concat}
 use Rattle.byteorder.specs.Endian.{big_number}
 use Rattle.terms.specs.Bits.{bytes_for}
@@ -31,7 +32,8 @@ moment_of (Frame moment pre post blocks cells) = moment
 moment_of (Muted moment) = moment
 
 abbrev pub HasRest : RecordView → List ℕ → Type 0
-HasRest (Frame moment pre post blocks cells) rest = IsRest (record { pre = pre; post = post; blocks = blocks; cells = cells }) rest
+HasRest (Frame moment pre post blocks cells) rest =
+    IsRest (record { pre = pre; post = post; blocks = blocks; cells = cells }) rest
 HasRest (Muted moment) rest = rest ≡ []
 
 -- The bytes are the record: its head, and its rest, whatever the bits and bytes hold that decide nothing.
@@ -51,7 +53,8 @@ pub record BeginsWith (bytes : List ℕ) (view : RecordView) (len : ℕ) : Type 
 
 -- the sections of its rest
 abbrev pub written_rest : RecordView → List (List ℕ)
-written_rest (Frame moment pre post blocks cells) = rest_sections (record { pre = pre; post = post; blocks = blocks; cells = cells }) [] []
+written_rest (Frame moment pre post blocks cells) =
+    rest_sections (record { pre = pre; post = post; blocks = blocks; cells = cells }) [] []
 written_rest (Muted moment) = []
 
 -- the sections of a record, in order: its head, which tells how many bytes the others have, and these
@@ -161,7 +164,8 @@ pub record IsRead (bytes : List ℕ) (view : RecordView) (len : ℕ) : Type 0 wh
   pub end : len ≡ head_len + told_len bytes
 
 abbrev pub IsBad : List ℕ → Type 0
-IsBad bytes = (greatest_rest < told_len bytes) ⊎ (length bytes < head_len + told_len bytes) ⊎ (view_in (slice_index bytes 4) (told_moment bytes) (told_rest bytes) ≡ None)
+IsBad bytes = (greatest_rest < told_len bytes) ⊎ (length bytes < head_len + told_len bytes)
+    ⊎ (view_in (slice_index bytes 4) (told_moment bytes) (told_rest bytes) ≡ None)
 
 abbrev pub IsRefused : List ℕ → RecordWhy → Type 0
 IsRefused bytes Head = ¬ (HasHead bytes)

@@ -4,4 +4,5 @@ use Rattle.file_run.proofs.opening.create_output.Goals as goal
 pub returns-in-Err-clause-err : goal.returns-in-Err-clause-err
 returns-in-Err-clause-err g c = λ start ins readings a.
     let f = c.create.ensures.counts in
-    creating_failed start _ _ c.args.out.now ins readings c.in-Err.ensures.err (record { rose = c.in-Err.ensures.counts.err; later = f.later; others = f.others }) a
+    creating_failed start _ _ c.args.out.now ins readings c.in-Err.ensures.err
+    (record { rose = c.in-Err.ensures.counts.err; later = f.later; others = f.others }) a

@@ -1,22 +1,28 @@
 use Rattle.std.proofs.Common.{refl, sym, ◌∙◌, arith}
 use Rattle.file_run.specs.Running.{start_of}
 use Rattle.file_run.proofs.FedLemmas.{less_left}
-use Rattle.file_run.proofs.RunningLemmas.{running_first, running_drained, stopped_drained, running_fed, stopped_fed, run_all, at_end, not_ended, reader_of}
+use Rattle.file_run.proofs.RunningLemmas.{running_first, running_drained, stopped_drained, running_fed, stopped_fed, run_all}
+use Rattle.file_run.proofs.RunningLemmas.{at_end, not_ended, reader_of}
 use Rattle.file_run.proofs.running.run.Goals as goal
 
 pub returns-in-Err-clause-err : goal.returns-in-Err-clause-err
 returns-in-Err-clause-err g c =
     let b = start_of (g.D.Desk.state c.args.desk.now) c.args.out.now c.args.ins.now in
     let f = c.drain.ensures.counts in
-    stopped_drained g.M.Machine.Becomes c.args.machine.now _ _ g.M.Machine.reach g.M.Machine.next b _ _ _ _ (record { rose = c.in-Err.ensures.counts.err; later = f.later; others = f.others }) c.in-Err.ensures.gives c.in-Err.ensures.err
-    (running_first c.creates_law.ensures _ g.M.Machine.reach _ b _ _ c.open_inputs.new.readers _ c.requires.apart c.in_ok-open_inputs.ensures.ok c.in_ok-handle.ensures.ok c.requires.start)
+    stopped_drained g.M.Machine.Becomes c.args.machine.now _ _ g.M.Machine.reach g.M.Machine.next b _ _ _ _
+    (record { rose = c.in-Err.ensures.counts.err; later = f.later; others = f.others }) c.in-Err.ensures.gives
+    c.in-Err.ensures.err
+    (running_first c.creates_law.ensures _ g.M.Machine.reach _ b _ _ c.open_inputs.new.readers _ c.requires.apart
+    c.in_ok-open_inputs.ensures.ok c.in_ok-handle.ensures.ok c.requires.start)
 
 pub loop-input-init : goal.loop-input-init
 loop-input-init g c =
     let b = start_of (g.D.Desk.state c.args.desk.now) c.args.out.now c.args.ins.now in
     record {
-      running = running_drained g.M.Machine.Becomes c.args.machine.now _ _ g.M.Machine.reach b _ _ _ _ c.in-Ok.ensures.counts.ok c.drain.ensures.reach c.in-Ok.ensures.ok
-          (running_first c.creates_law.ensures _ g.M.Machine.reach _ b _ _ c.open_inputs.new.readers _ c.requires.apart c.in_ok-open_inputs.ensures.ok c.in_ok-handle.ensures.ok c.requires.start);
+      running = running_drained g.M.Machine.Becomes c.args.machine.now _ _ g.M.Machine.reach b _ _ _ _ c.in-Ok.ensures.counts.ok
+          c.drain.ensures.reach c.in-Ok.ensures.ok
+          (running_first c.creates_law.ensures _ g.M.Machine.reach _ b _ _ c.open_inputs.new.readers _ c.requires.apart
+          c.in_ok-open_inputs.ensures.ok c.in_ok-handle.ensures.ok c.requires.start);
       dry = c.in-Ok.ensures.dry;
       nothing = c.in-Ok.ensures.nothing;
     }
@@ -25,9 +31,14 @@ pub loop-input-preserved : goal.loop-input-preserved
 loop-input-preserved g c =
     let w = c.in-Read.ensures.wanted _ _ c.loop-input.invariant.running.came in
     record {
-      running = running_drained g.M.Machine.Becomes c.args.machine.now _ _ g.M.Machine.reach _ _ _ _ _ c.in-Ok-drain.ensures.counts.ok c.drain-in-Read.ensures.reach c.in-Ok-drain.ensures.ok
-          (running_fed g.M.Machine.Becomes c.args.machine.now _ _ g.M.Machine.reach _ _ _ _ _ _ c.in-Read.most _ _ c.index-readers-input.result (omega (arith, w.place, c.requires.inputs, c.loop-input.invariant.running.runs.reached.all)) refl
-          (record { reads = c.feed.ensures.reads; limit = c.feed.ensures.limit }) c.in-Ok-feed.ensures.counts c.in-Ok-feed.ensures.short c.feed.ensures.reach c.in-Ok-feed.ensures.feeds c.loop-input.invariant.running w.near);
+      running =
+          running_drained g.M.Machine.Becomes c.args.machine.now _ _ g.M.Machine.reach _ _ _ _ _ c.in-Ok-drain.ensures.counts.ok
+          c.drain-in-Read.ensures.reach c.in-Ok-drain.ensures.ok
+          (running_fed g.M.Machine.Becomes c.args.machine.now _ _ g.M.Machine.reach _ _ _ _ _ _ c.in-Read.most _ _
+          c.index-readers-input.result
+          (omega (arith, w.place, c.requires.inputs, c.loop-input.invariant.running.runs.reached.all)) refl
+          (record { reads = c.feed.ensures.reads; limit = c.feed.ensures.limit }) c.in-Ok-feed.ensures.counts
+          c.in-Ok-feed.ensures.short c.feed.ensures.reach c.in-Ok-feed.ensures.feeds c.loop-input.invariant.running w.near);
       dry = c.in-Ok-drain.ensures.dry;
       nothing = c.in-Ok-drain.ensures.nothing;
     }
@@ -35,34 +46,51 @@ loop-input-preserved g c =
 pub returns-in-Err-feed-clause-err : goal.returns-in-Err-feed-clause-err
 returns-in-Err-feed-clause-err g c =
     let w = c.in-Read.ensures.wanted _ _ c.loop-input.invariant.running.came in
-    rw c.fault_of.ensures (stopped_fed _ _ _ g.M.Machine.reach g.M.Machine.next _ _ _ _ _ _ c.in-Read.least c.in-Read.most _ _ c.index-readers-input.result _ (omega (arith, w.place, c.requires.inputs, c.loop-input.invariant.running.runs.reached.all)) refl
-    (record { reads = c.feed.ensures.reads; limit = c.feed.ensures.limit }) c.in-Err-feed.ensures.none c.in-Err-feed.ensures.machine (sym c.step.ensures.next ∙ c.in-Read.is) c.in-Err-feed.ensures.err c.loop-input.invariant.running w.near)
+    rw c.fault_of.ensures
+    (stopped_fed _ _ _ g.M.Machine.reach g.M.Machine.next _ _ _ _ _ _ c.in-Read.least c.in-Read.most _ _
+    c.index-readers-input.result _
+    (omega (arith, w.place, c.requires.inputs, c.loop-input.invariant.running.runs.reached.all)) refl
+    (record { reads = c.feed.ensures.reads; limit = c.feed.ensures.limit }) c.in-Err-feed.ensures.none
+    c.in-Err-feed.ensures.machine (sym c.step.ensures.next ∙ c.in-Read.is) c.in-Err-feed.ensures.err
+    c.loop-input.invariant.running w.near)
 
 pub returns-in-Err-drain-clause-err : goal.returns-in-Err-drain-clause-err
 returns-in-Err-drain-clause-err g c =
     let w = c.in-Read.ensures.wanted _ _ c.loop-input.invariant.running.came in
     let f = c.drain-in-Read.ensures.counts in
-    stopped_drained g.M.Machine.Becomes c.args.machine.now _ _ g.M.Machine.reach g.M.Machine.next _ _ _ _ _ (record { rose = c.in-Err-drain.ensures.counts.err; later = f.later; others = f.others }) c.in-Err-drain.ensures.gives c.in-Err-drain.ensures.err
-    (running_fed g.M.Machine.Becomes c.args.machine.now _ _ g.M.Machine.reach _ _ _ _ _ _ c.in-Read.most _ _ c.index-readers-input.result (omega (arith, w.place, c.requires.inputs, c.loop-input.invariant.running.runs.reached.all)) refl
-    (record { reads = c.feed.ensures.reads; limit = c.feed.ensures.limit }) c.in-Ok-feed.ensures.counts c.in-Ok-feed.ensures.short c.feed.ensures.reach c.in-Ok-feed.ensures.feeds c.loop-input.invariant.running w.near)
+    stopped_drained g.M.Machine.Becomes c.args.machine.now _ _ g.M.Machine.reach g.M.Machine.next _ _ _ _ _
+    (record { rose = c.in-Err-drain.ensures.counts.err; later = f.later; others = f.others }) c.in-Err-drain.ensures.gives
+    c.in-Err-drain.ensures.err
+    (running_fed g.M.Machine.Becomes c.args.machine.now _ _ g.M.Machine.reach _ _ _ _ _ _ c.in-Read.most _ _
+    c.index-readers-input.result (omega (arith, w.place, c.requires.inputs, c.loop-input.invariant.running.runs.reached.all))
+    refl
+    (record { reads = c.feed.ensures.reads; limit = c.feed.ensures.limit }) c.in-Ok-feed.ensures.counts c.in-Ok-feed.ensures.short
+    c.feed.ensures.reach c.in-Ok-feed.ensures.feeds c.loop-input.invariant.running w.near)
 
 pub returns-clause-ok : goal.returns-clause-ok
 returns-clause-ok g c = run_all _ _ g.M.Machine.reach _ _ _ _ c.loop-input.invariant.running
 
 pub returns-clause-end : goal.returns-clause-end
-returns-clause-end g c = at_end (g.M.Machine.next c.loop-input.machine) c.loop-input.invariant.dry (λ input least most e. c.in_default.not-Read input least most (c.step.ensures.next ∙ e))
+returns-clause-end g c = at_end (g.M.Machine.next c.loop-input.machine) c.loop-input.invariant.dry
+    (λ input least most e. c.in_default.not-Read input least most (c.step.ensures.next ∙ e))
 
 pub loop-input-smaller : goal.loop-input-smaller
 loop-input-smaller g c =
     let w = c.in-Read.ensures.wanted _ _ c.loop-input.invariant.running.came in
-    less_left c.loop-input.readers c.in-Read.input _ c.feed.new.reader c.index-readers-input.result (omega (arith, w.place, c.requires.inputs, c.loop-input.invariant.running.runs.reached.all)) refl c.in-Ok-feed.ensures.fewer
+    less_left c.loop-input.readers c.in-Read.input _ c.feed.new.reader c.index-readers-input.result
+    (omega (arith, w.place, c.requires.inputs, c.loop-input.invariant.running.runs.reached.all)) refl
+    c.in-Ok-feed.ensures.fewer
 
 pub feed-requires-clause-is_open : goal.feed-requires-clause-is_open
 feed-requires-clause-is_open g c =
     let w = c.in-Read.ensures.wanted _ _ c.loop-input.invariant.running.came in
-    not_ended _ g.M.Machine.reach _ _ _ _ _ _ _ (omega (arith, w.place, c.requires.inputs, c.loop-input.invariant.running.runs.reached.all)) c.loop-input.invariant.running w.is_open
+    not_ended _ g.M.Machine.reach _ _ _ _ _ _ _
+    (omega (arith, w.place, c.requires.inputs, c.loop-input.invariant.running.runs.reached.all))
+    c.loop-input.invariant.running w.is_open
 
 pub feed-requires-clause-reader : goal.feed-requires-clause-reader
 feed-requires-clause-reader g c =
     let w = c.in-Read.ensures.wanted _ _ c.loop-input.invariant.running.came in
-    reader_of g.M.Machine.Becomes c.args.machine.now g.M.Machine.reach _ _ _ _ _ _ _ (omega (arith, w.place, c.requires.inputs, c.loop-input.invariant.running.runs.reached.all)) c.loop-input.invariant.running
+    reader_of g.M.Machine.Becomes c.args.machine.now g.M.Machine.reach _ _ _ _ _ _ _
+    (omega (arith, w.place, c.requires.inputs, c.loop-input.invariant.running.runs.reached.all))
+    c.loop-input.invariant.running

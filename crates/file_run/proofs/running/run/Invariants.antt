@@ -7,7 +7,8 @@ use Rattle.file_run.proofs.running.run.Given as goal
 
 abbrev pub invariant-loop-input : goal.invariant-loop-input
 invariant-loop-input g l = record {
-  running : IsRunning (g.M.Machine.Becomes l.fn.machine) g.M.Machine.reach (start_of (g.D.Desk.state l.fn.desk) l.fn.out l.fn.ins) (g.D.Desk.state l.desk) l.machine l.readers l.handle;
+  running : IsRunning (g.M.Machine.Becomes l.fn.machine) g.M.Machine.reach (start_of (g.D.Desk.state l.fn.desk) l.fn.out l.fn.ins)
+      (g.D.Desk.state l.desk) l.machine l.readers l.handle;
   dry : g.M.Machine.next l.machine ≢ Give;
   nothing : l.buffer ≡ [];
 }

@@ -7,7 +7,8 @@ use Rattle.file_run.proofs.TellLemmas.{telling_fed, telling_read, place_within, 
 use Rattle.file_run.proofs.telling.tell_on.Goals as goal
 
 pub returns-in-Err-clause-err : goal.returns-in-Err-clause-err
-returns-in-Err-clause-err g c = λ begin start name t. let lost = c.in-Err.ensures.err begin start name c.args.reader.now t in (lost.0, lost.1, (λ other. absurd (other refl)), λ same. lost.2)
+returns-in-Err-clause-err g c = λ begin start name t. let lost = c.in-Err.ensures.err begin start name c.args.reader.now t in
+    (lost.0, lost.1, (λ other. absurd (other refl)), λ same. lost.2)
 
 pub feed-requires-clause-within : goal.feed-requires-clause-within
 feed-requires-clause-within g c =
@@ -26,7 +27,12 @@ feed-requires-clause-reader g c =
     let b = c.requires.begun in
     let t = c.loop-input.invariant.telling b.begin b.start b.name b.telling in
     let w = c.in-Read.ensures.wanted b.begin t.events t.came in
-    record { start = b.begin; events = t.events; came = t.came; taken = subst (λ (k : ℕ). c.loop-input.reader.taken ≡ length (fed k t.events)) (sym (is_zero _ _ w.place b.one)) t.taken }
+    record {
+      start = b.begin;
+      events = t.events;
+      came = t.came;
+      taken = subst (λ (k : ℕ). c.loop-input.reader.taken ≡ length (fed k t.events)) (sym (is_zero _ _ w.place b.one)) t.taken;
+    }
 
 pub feed-requires-clause-is_open : goal.feed-requires-clause-is_open
 feed-requires-clause-is_open g c =
@@ -39,8 +45,10 @@ pub returns-in-Err-TooLong-clause-err : goal.returns-in-Err-TooLong-clause-err
 returns-in-Err-TooLong-clause-err g c = λ begin start name t.
     let n = c.in-Err-TooLong.ensures in (
       _,
-      subst (λ (m : g.row.M.Denot). Telling (g.M.Machine.Becomes begin) g.M.Machine.next start (g.D.Desk.state c.feed.new.desk) name m c.feed.new.reader c.loop-input.page) (sym n.machine)
-          (telling_read _ g.M.Machine.next _ start _ _ name _ _ _ n.reads n.none (c.loop-input.invariant.telling begin start name t)),
+      subst (λ (m : g.row.M.Denot). Telling (g.M.Machine.Becomes begin) g.M.Machine.next start
+          (g.D.Desk.state c.feed.new.desk) name m c.feed.new.reader c.loop-input.page) (sym n.machine)
+          (telling_read _ g.M.Machine.next _ start _ _ name _ _ _ n.reads n.none
+          (c.loop-input.invariant.telling begin start name t)),
       (λ other. refl),
       λ same. absurd (let e : TooLong 0 ≡ WriteFault = same in cc),
     )
@@ -51,15 +59,23 @@ returns-in-Err-TooLong-clause-cause g c =
     let t = c.loop-input.invariant.telling b.begin b.start b.name b.telling in
     let w = c.in-Read.ensures.wanted b.begin t.events t.came in
     let n = c.in-Err-TooLong.ensures in
-    let why = rw c.in-Err-TooLong.field-0-is at n.err in
-    (refl, why.0, reads_far g.M.Machine.next _ _ c.loop-input.reader c.feed.new.reader _ _ _ n.machine (sym c.step.ensures.next ∙ c.in-Read.is) (is_zero _ _ w.place b.one) n.none.taken why.0 c.loop-input.invariant.short c.feed.ensures.limit, why.1 ∙ c.loop-input.invariant.counts)
+    let why = rw c.in-Err-TooLong.field-0-is at n.err in (
+      refl,
+      why.0,
+      reads_far g.M.Machine.next _ _ c.loop-input.reader c.feed.new.reader _ _ _ n.machine
+          (sym c.step.ensures.next ∙ c.in-Read.is) (is_zero _ _ w.place b.one) n.none.taken why.0 c.loop-input.invariant.short
+          c.feed.ensures.limit,
+      why.1 ∙ c.loop-input.invariant.counts,
+    )
 
 pub returns-in-Err-Fault-clause-err : goal.returns-in-Err-Fault-clause-err
 returns-in-Err-Fault-clause-err g c = λ begin start name t.
     let n = c.in-Err-Fault.ensures in (
       _,
-      subst (λ (m : g.row.M.Denot). Telling (g.M.Machine.Becomes begin) g.M.Machine.next start (g.D.Desk.state c.feed.new.desk) name m c.feed.new.reader c.loop-input.page) (sym n.machine)
-          (telling_read _ g.M.Machine.next _ start _ _ name _ _ _ n.reads n.none (c.loop-input.invariant.telling begin start name t)),
+      subst (λ (m : g.row.M.Denot). Telling (g.M.Machine.Becomes begin) g.M.Machine.next start
+          (g.D.Desk.state c.feed.new.desk) name m c.feed.new.reader c.loop-input.page) (sym n.machine)
+          (telling_read _ g.M.Machine.next _ start _ _ name _ _ _ n.reads n.none
+          (c.loop-input.invariant.telling begin start name t)),
       (λ other. refl),
       λ same. absurd (let e : ReadFault 0 ≡ WriteFault = same in cc),
     )
@@ -70,8 +86,13 @@ returns-in-Err-Fault-clause-cause g c =
     let t = c.loop-input.invariant.telling b.begin b.start b.name b.telling in
     let w = c.in-Read.ensures.wanted b.begin t.events t.came in
     let n = c.in-Err-Fault.ensures in
-    let why = rw c.in-Err-Fault.field-0-is at n.err in
-    (refl, why.0, falls_short g.M.Machine.next _ _ c.feed.new.reader _ _ _ n.machine (sym c.step.ensures.next ∙ c.in-Read.is) (is_zero _ _ w.place b.one) why.1, reads_fail _ _ _ c.loop-input.invariant.counts why.2)
+    let why = rw c.in-Err-Fault.field-0-is at n.err in (
+      refl,
+      why.0,
+      falls_short g.M.Machine.next _ _ c.feed.new.reader _ _ _ n.machine (sym c.step.ensures.next ∙ c.in-Read.is)
+          (is_zero _ _ w.place b.one) why.1,
+      reads_fail _ _ _ c.loop-input.invariant.counts why.2,
+    )
 
 pub loop-input-preserved : goal.loop-input-preserved
 loop-input-preserved g c = record {
@@ -80,7 +101,9 @@ loop-input-preserved g c = record {
       let b = c.requires.begun in
       let u = c.loop-input.invariant.telling b.begin b.start b.name b.telling in
       let w = c.in-Read.ensures.wanted b.begin u.events u.came in
-      c.in-Ok-gather.ensures.ok begin start name _ (telling_fed g.M.Machine.Becomes g.M.Machine.next begin _ _ start _ _ name _ _ _ _ (is_zero _ _ w.place b.one) c.feed.ensures.reads c.in-Ok-feed.ensures.feeds told);
+      c.in-Ok-gather.ensures.ok begin start name _
+      (telling_fed g.M.Machine.Becomes g.M.Machine.next begin _ _ start _ _ name _ _ _ _
+      (is_zero _ _ w.place b.one) c.feed.ensures.reads c.in-Ok-feed.ensures.feeds told);
   counts = c.in-Ok-gather.ensures.counts.ok ∙ c.in-Ok-feed.ensures.counts ∙ c.loop-input.invariant.counts;
   short = c.in-Ok-feed.ensures.short;
   dry = c.in-Ok-gather.ensures.dry;
@@ -92,5 +115,8 @@ returns-in-Err-gather-clause-err g c = λ begin start name t.
     let b = c.requires.begun in
     let u = c.loop-input.invariant.telling b.begin b.start b.name b.telling in
     let w = c.in-Read.ensures.wanted b.begin u.events u.came in
-    let lost = c.in-Err-gather.ensures.err begin start name _ (telling_fed g.M.Machine.Becomes g.M.Machine.next begin _ _ start _ _ name _ _ _ _ (is_zero _ _ w.place b.one) c.feed.ensures.reads c.in-Ok-feed.ensures.feeds told) in
+    let lost =
+    c.in-Err-gather.ensures.err begin start name _
+    (telling_fed g.M.Machine.Becomes g.M.Machine.next begin _ _ start _ _ name _ _ _ _
+    (is_zero _ _ w.place b.one) c.feed.ensures.reads c.in-Ok-feed.ensures.feeds told) in
     (lost.0, lost.1, (λ other. absurd (other refl)), λ same. lost.2)

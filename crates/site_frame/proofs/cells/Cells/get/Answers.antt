@@ -10,7 +10,8 @@ use Rattle.site_frame.proofs.cells.Cells.get.Goals as goal
 pub returns-then-address-self : goal.returns-then-address-self
 returns-then-address-self c =
     let same : length c.args.self.now ≡ c.self.inside.count =
-    ap (λ (cells : List (Option Cell)). length cells) (sym c.self.view_is) ∙ length-cells_in c.self.inside.count c.self.inside.bytes.now in
+    ap (λ (cells : List (Option Cell)). length cells) (sym c.self.view_is)
+    ∙ length-cells_in c.self.inside.count c.self.inside.bytes.now in
     sym (slice_get_past c.args.self.now c.args.address (omega (arith, same, c.if-address-self.true)))
 
 pub returns : goal.returns

@@ -4,4 +4,5 @@ use Rattle.site_frame.proofs.BlockLemmas.{length-cells_in}
 use Rattle.site_frame.proofs.cells.Cells.len.Goals as goal
 
 pub returns : goal.returns
-returns c = sym (length-cells_in c.self.inside.count c.self.inside.bytes.now) ∙ ap (λ (cells : List (Option Cell)). length cells) c.self.view_is
+returns c = sym (length-cells_in c.self.inside.count c.self.inside.bytes.now)
+    ∙ ap (λ (cells : List (Option Cell)). length cells) c.self.view_is

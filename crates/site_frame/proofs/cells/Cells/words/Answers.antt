@@ -7,7 +7,8 @@ use Rattle.site_frame.proofs.cells.Cells.words.Goals as goal
 pub returns : goal.returns
 returns c =
     let same : c.self.inside.count ≡ length c.args.self.now =
-    sym (length-cells_in c.self.inside.count c.self.inside.bytes.now) ∙ ap (λ (cells : List (Option Cell)). length cells) c.self.view_is in
+    sym (length-cells_in c.self.inside.count c.self.inside.bytes.now)
+    ∙ ap (λ (cells : List (Option Cell)). length cells) c.self.view_is in
     record {
       len = omega (arith, same, c.self.invariant);
       cells = sym c.self.view_is ∙ ap (λ (n : ℕ). cells_in n c.self.inside.bytes.now) same;
