@@ -1,26 +1,32 @@
 -- Bytes that wait, when more are read behind them and when some are taken.
-use Rattle.std.proofs.Common.{◌≡◌, ℕ, ◌+◌, ◌-◌, ◌<◌, ◌≤◌, List, [], ◌∷◌, ◌++◌, length, take, drop, Option, Some, None, refl, ap, sym, ◌∙◌, arith, append_assoc}
+use Rattle.std.proofs.Common.{◌≡◌, ℕ, ◌+◌, ◌-◌, ◌<◌, ◌≤◌, List, [], ◌∷◌, ◌++◌, length, take, drop, Option, Some, None, refl, ap}
+use Rattle.std.proofs.Common.{sym, ◌∙◌, arith, append_assoc}
 use Rattle.std.specs.Prelude.{IfSome, option_map, slice_index, slice_set}
-use Rattle.std.proofs.lemmas.List.{drop-take, drop-drop, length-append, length-take-le, set-get_or, get_or-set_same, length-set, set-set}
+use Rattle.std.proofs.lemmas.List.{drop-take, drop-drop, length-append, length-take-le, set-get_or, get_or-set_same, length-set}
+use Rattle.std.proofs.lemmas.List.{set-set}
 use Rattle.std.proofs.lemmas.Option.{IfSome_then}
 use Rattle.terms.proofs.PartLemmas.{part-add}
 use Rattle.ports.specs.Desk.{State, Held, Keeps, Reads, content, left_of}
 use Rattle.desk_io.specs.Ahead.{ReadsAhead, IsAtEnd}
 
 -- what was taken from the front of a part
-pub skipped : {X : Type 0} (xs : List X) (start len count : ℕ) → count ≤ len → take (len - count) (drop (start + count) xs) ≡ drop count (take len (drop start xs))
+pub skipped : {X : Type 0} (xs : List X) (start len count : ℕ) → count ≤ len → take (len - count) (drop (start + count) xs)
+    ≡ drop count (take len (drop start xs))
 skipped xs start len count h =
     let split : count + (len - count) ≡ len = omega arith in
-    sym (ap (λ (n : ℕ). drop count (take n (drop start xs))) (sym split) ∙ drop-take count (len - count) (drop start xs) ∙ ap (take (len - count)) (drop-drop count start xs))
+    sym (ap (λ (n : ℕ). drop count (take n (drop start xs))) (sym split) ∙ drop-take count (len - count) (drop start xs)
+    ∙ ap (take (len - count)) (drop-drop count start xs))
 
 -- a part of a front, by the front
-front_part : {X : Type 0} (xs : List X) (start end : ℕ) → start ≤ end → drop start (take end xs) ≡ take (end - start) (drop start xs)
+front_part : {X : Type 0} (xs : List X) (start end : ℕ) → start ≤ end → drop start (take end xs)
+    ≡ take (end - start) (drop start xs)
 front_part xs start end h =
     let split : start + (end - start) ≡ end = omega arith in
     ap (λ (n : ℕ). drop start (take n xs)) (sym split) ∙ drop-take start (end - start) xs
 
 -- the bytes that wait stay where what stands before the end stays
-pub kept : {X : Type 0} (old new : List X) (start end : ℕ) → start ≤ end → take end new ≡ take end old → take (end - start) (drop start new) ≡ take (end - start) (drop start old)
+pub kept : {X : Type 0} (old new : List X) (start end : ℕ) → start ≤ end → take end new ≡ take end old
+    → take (end - start) (drop start new) ≡ take (end - start) (drop start old)
 kept old new start end h e = sym (front_part new start end h) ∙ ap (drop start) e ∙ front_part old start end h
 
 -- more bytes behind those that wait
@@ -32,14 +38,17 @@ grown old new start end n h e =
     ap (λ (k : ℕ). take k (drop start new)) split ∙ rw there at (part-add new start (end - start) n)
     ∙ ap (λ (front : List _). front ++ take n (drop end new)) (kept old new start end h e)
 
-joined : (left : Option (List ℕ)) (waiting piece : List ℕ) → option_map (λ l. (waiting ++ piece) ++ l) left ≡ option_map (λ l. waiting ++ l) (option_map (λ l. piece ++ l) left)
+joined : (left : Option (List ℕ)) (waiting piece : List ℕ) → option_map (λ l. (waiting ++ piece) ++ l) left
+    ≡ option_map (λ l. waiting ++ l) (option_map (λ l. piece ++ l) left)
 joined None waiting piece = refl
 joined (Some l) waiting piece = ap Some (append_assoc waiting piece l)
 
 -- a read went on
-pub reads_on : (old new : State) (handle n : ℕ) (buffer waiting more : List ℕ) → Reads old new handle n buffer → n ≤ length buffer → more ≡ waiting ++ take n buffer → ReadsAhead old new handle waiting more
+pub reads_on : (old new : State) (handle n : ℕ) (buffer waiting more : List ℕ) → Reads old new handle n buffer → n ≤ length buffer
+    → more ≡ waiting ++ take n buffer → ReadsAhead old new handle waiting more
 reads_on old new handle n buffer waiting more r inside is =
-    let size : length more ≡ length waiting + n = ap length is ∙ length-append waiting (take n buffer) ∙ ap (λ (k : ℕ). length waiting + k) (length-take-le n buffer inside) in
+    let size : length more ≡ length waiting + n = ap length is ∙ length-append waiting (take n buffer)
+    ∙ ap (λ (k : ℕ). length waiting + k) (length-take-le n buffer inside) in
     let by : n ≡ length more - length waiting = omega arith in
     record {
       held = r.held;
@@ -57,9 +66,11 @@ left_kept old new handle k =
     ∙ ap (λ (xs : List ℕ). option_map (λ h. drop (slice_index xs handle) (content h handle)) old.held) k.opened
 
 -- a failed read changed nothing
-pub reads_not : (old new : State) (handle : ℕ) (waiting more : List ℕ) → handle < length old.opened → Keeps old new → more ≡ waiting → ReadsAhead old new handle waiting more
+pub reads_not : (old new : State) (handle : ℕ) (waiting more : List ℕ) → handle < length old.opened → Keeps old new
+    → more ≡ waiting → ReadsAhead old new handle waiting more
 reads_not old new handle waiting more came k is =
-    let none : slice_index old.opened handle + (length more - length waiting) ≡ slice_index old.opened handle = let size = ap length is in omega arith in
+    let none : slice_index old.opened handle + (length more - length waiting) ≡ slice_index old.opened handle = let size =
+    ap length is in omega arith in
     record {
       held = k.held;
       said = k.said;
@@ -74,28 +85,37 @@ no_rest : (piece l : List ℕ) → piece ++ l ≡ [] → l ≡ []
 no_rest [] l e = e
 no_rest (x ∷ piece) l e = cc
 
-end_after : (left now : Option (List ℕ)) (piece : List ℕ) → left ≡ option_map (λ l. piece ++ l) now → IfSome left (λ l. l ≡ []) → IfSome now (λ l. l ≡ [])
+end_after : (left now : Option (List ℕ)) (piece : List ℕ) → left ≡ option_map (λ l. piece ++ l) now → IfSome left (λ l. l ≡ [])
+    → IfSome now (λ l. l ≡ [])
 end_after left None piece e h = tt
 end_after left (Some l) piece e h = let all : piece ++ l ≡ [] = rw e at h in no_rest piece l all
 
 -- a read of no bytes shows the end of the file
 pub at_end : (old new : State) (handle n : ℕ) (buffer : List ℕ) → Reads old new handle n buffer → n ≡ 0 → IsAtEnd new handle
 at_end old new handle n buffer r none =
-    end_after (left_of old handle) (left_of new handle) (take n buffer) r.next (IfSome_then (left_of old handle) r.end (λ left both. both.0 none))
+    end_after (left_of old handle) (left_of new handle) (take n buffer) r.next
+    (IfSome_then (left_of old handle) r.end (λ left both. both.0 none))
 
 pub reads_same : (s : State) (handle : ℕ) (waiting : List ℕ) → handle < length s.opened → ReadsAhead s s handle waiting waiting
-reads_same s handle waiting came = reads_not s s handle waiting waiting came (record { held = refl; said = refl; opened = refl; created = refl }) refl
+reads_same s handle waiting came =
+    reads_not s s handle waiting waiting came (record { held = refl; said = refl; opened = refl; created = refl }) refl
 
 -- two readings are one
-pub reads_then : (a b c : State) (handle : ℕ) (u v w : List ℕ) → handle < length a.opened → ReadsAhead a b handle u v → ReadsAhead b c handle v w → ReadsAhead a c handle u w
+pub reads_then : (a b c : State) (handle : ℕ) (u v w : List ℕ) → handle < length a.opened → ReadsAhead a b handle u v
+    → ReadsAhead b c handle v w → ReadsAhead a c handle u w
 reads_then a b c handle u v w came p q =
     let first : slice_index b.opened handle ≡ slice_index a.opened handle + (length v - length u) =
-    ap (λ (xs : List ℕ). slice_index xs handle) p.opened ∙ get_or-set_same a.opened handle (slice_index a.opened handle + (length v - length u)) 0 came in
-    let sum : slice_index b.opened handle + (length w - length v) ≡ slice_index a.opened handle + (length w - length u) = omega (arith, first, p.grown, q.grown) in
+    ap (λ (xs : List ℕ). slice_index xs handle) p.opened
+    ∙ get_or-set_same a.opened handle (slice_index a.opened handle + (length v - length u)) 0 came in
+    let sum : slice_index b.opened handle + (length w - length v) ≡ slice_index a.opened handle + (length w - length u) =
+    omega (arith, first, p.grown, q.grown) in
     record {
       held = q.held ∙ p.held;
       said = q.said ∙ p.said;
-      opened = q.opened ∙ rw (sum, p.opened) (set-set a.opened handle (slice_index a.opened handle + (length v - length u)) (slice_index a.opened handle + (length w - length u)));
+      opened =
+          q.opened
+          ∙ rw (sum, p.opened) (set-set a.opened handle (slice_index a.opened handle + (length v - length u))
+          (slice_index a.opened handle + (length w - length u)));
       created = q.created ∙ p.created;
       grown = omega (arith, p.grown, q.grown);
       next = q.next ∙ p.next;
@@ -103,4 +123,5 @@ reads_then a b c handle u v w came p q =
     }
 
 pub length-read : (a b : State) (handle : ℕ) (u v : List ℕ) → ReadsAhead a b handle u v → length b.opened ≡ length a.opened
-length-read a b handle u v p = ap length p.opened ∙ length-set a.opened handle (slice_index a.opened handle + (length v - length u))
+length-read a b handle u v p =
+    ap length p.opened ∙ length-set a.opened handle (slice_index a.opened handle + (length v - length u))

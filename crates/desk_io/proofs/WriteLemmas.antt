@@ -1,5 +1,6 @@
 -- Writes, one behind another.
-use Rattle.std.proofs.Common.{◌≡◌, ◌≢◌, ℕ, ◌+◌, Bool, List, [], ◌++◌, take, drop, slice_index_or, Option, Some, None, refl, ap, sym, subst, ◌∙◌, append_assoc, append-nil, take-add, length, ◌<◌, arith}
+use Rattle.std.proofs.Common.{◌≡◌, ◌≢◌, ℕ, ◌+◌, Bool, List, [], ◌++◌, take, drop, slice_index_or, Option, Some, None, refl, ap}
+use Rattle.std.proofs.Common.{sym, subst, ◌∙◌, append_assoc, append-nil, take-add, length, ◌<◌, arith}
 use Rattle.std.specs.Prelude.{IfSome, IsSome, option_map}
 use Rattle.std.specs.Ordering.{nat_cmp, eq_by_cmp}
 use Rattle.std.specs.Cmp.Lexicographic.{slice_cmp}
@@ -18,10 +19,17 @@ only_same : (out : ℕ) (held : Option Held) → OnlyOut out held held
 only_same out None = refl
 only_same out (Some h) = (h, refl, refl, refl, λ other apart. refl)
 
-only_written : (out : ℕ) (bytes : List ℕ) (old new : Option Held) → new ≡ option_map (with_bytes out bytes) old → OnlyOut out old new
+only_written : (out : ℕ) (bytes : List ℕ) (old new : Option Held) → new ≡ option_map (with_bytes out bytes) old
+    → OnlyOut out old new
 only_written out bytes None new e = e
-only_written out bytes (Some h) new e =
-    (with_bytes out bytes h, e, refl, refl, λ other apart. get_other h.files (out_name h out) (bytes_of h.files (out_name h out) ++ bytes) other apart)
+only_written out bytes (Some h) new e = (
+  with_bytes out bytes h,
+  e,
+  refl,
+  refl,
+  λ other apart. get_other h.files (out_name h out)
+      (bytes_of h.files (out_name h out) ++ bytes) other apart,
+)
 
 only_then : (out : ℕ) (a b c : Option Held) → OnlyOut out a b → OnlyOut out b c → OnlyOut out a c
 only_then out None b c p q = subst (λ (o : Option Held). OnlyOut out o c) p q
@@ -39,14 +47,17 @@ creates_empty old new name out h c told = (
 )
 
 -- a file that is written is there
-there_written : (out : ℕ) (bytes : List ℕ) (old new : Option Held) → new ≡ option_map (with_bytes out bytes) old → IfSome new (λ h. IsSome (get h.files (out_name h out)))
+there_written : (out : ℕ) (bytes : List ℕ) (old new : Option Held) → new ≡ option_map (with_bytes out bytes) old
+    → IfSome new (λ h. IsSome (get h.files (out_name h out)))
 there_written out bytes None new e = subst (λ (o : Option Held). IfSome o (λ h. IsSome (get h.files (out_name h out)))) (sym e) tt
 there_written out bytes (Some h) new e =
     let all : List ℕ = bytes_of h.files (out_name h out) ++ bytes in
-    let found : IsSome (get (insert h.files (out_name h out) all) (out_name h out)) = subst (λ (o : Option (List ℕ)). IsSome o) (sym (get_set h.files (out_name h out) all)) refl in
+    let found : IsSome (get (insert h.files (out_name h out) all) (out_name h out)) =
+    subst (λ (o : Option (List ℕ)). IsSome o) (sym (get_set h.files (out_name h out) all)) refl in
     subst (λ (o : Option Held). IfSome o (λ h. IsSome (get h.files (out_name h out)))) (sym e) found
 
-behind_then : (a b c : Option (List ℕ)) (x y : List ℕ) → b ≡ option_map (λ w. w ++ x) a → c ≡ option_map (λ w. w ++ y) b → c ≡ option_map (λ w. w ++ (x ++ y)) a
+behind_then : (a b c : Option (List ℕ)) (x y : List ℕ) → b ≡ option_map (λ w. w ++ x) a → c ≡ option_map (λ w. w ++ y) b
+    → c ≡ option_map (λ w. w ++ (x ++ y)) a
 behind_then None b c x y p q = rw p at q
 behind_then (Some w) b c x y p q = (rw p at q) ∙ ap Some (append_assoc w x y)
 
@@ -55,8 +66,10 @@ behind_none None = refl
 behind_none (Some w) = ap Some (sym (append-nil w))
 
 -- a handle of another file is so after a write
-apart_then : (out handle : ℕ) (a b : Option Held) → OnlyOut out a b → IfSome a (λ h. IsApart a handle (out_name h out)) → IfSome b (λ h. IsApart b handle (out_name h out))
-apart_then out handle None b o p = subst (λ (held : Option Held). IfSome held (λ h. IsApart held handle (out_name h out))) (sym o) tt
+apart_then : (out handle : ℕ) (a b : Option Held) → OnlyOut out a b → IfSome a (λ h. IsApart a handle (out_name h out))
+    → IfSome b (λ h. IsApart b handle (out_name h out))
+apart_then out handle None b o p = subst (λ (held : Option Held). IfSome held (λ h. IsApart held handle (out_name h out)))
+    (sym o) tt
 apart_then out handle (Some h) b o p =
     let names = ap (λ (names : List (List ℕ)). slice_index_or names handle []) o.2 in
     let outs = ap (λ (outs : List (List ℕ)). slice_index_or outs out []) o.3 in
@@ -106,19 +119,29 @@ appends_kept a b c out x p k =
       opened = k.opened ∙ p.opened;
       created = k.created ∙ p.created;
       behind = written ∙ p.behind;
-      there = λ was. subst (λ (o : Option Held). IfSome o (λ h. IsSome (get h.files (out_name h out)))) (sym k.held) (p.there was);
+      there = λ was. subst (λ (o : Option Held). IfSome o (λ h. IsSome (get h.files (out_name h out)))) (sym k.held)
+          (p.there was);
       others = λ handle apart. left_kept b c handle k ∙ p.others handle apart;
     }
 
 -- one more write of a piece
-pub more_written : (a b c : State) (out : ℕ) (piece : List ℕ) (m n : ℕ) → Appends a b out (take m piece) → Writes b c out (take n (drop m piece)) → Appends a c out (take (m + n) piece)
+pub more_written : (a b c : State) (out : ℕ) (piece : List ℕ) (m n : ℕ) → Appends a b out (take m piece)
+    → Writes b c out (take n (drop m piece)) → Appends a c out (take (m + n) piece)
 more_written a b c out piece m n p w =
-    subst (Appends a c out) (sym (take-add m n piece)) (appends_then a b c out (take m piece) (take n (drop m piece)) p (appends_written b c out (take n (drop m piece)) w))
+    subst (Appends a c out) (sym (take-add m n piece))
+    (appends_then a b c out (take m piece) (take n (drop m piece)) p (appends_written b c out (take n (drop m piece)) w))
 
 some_left : (piece : List ℕ) (m : ℕ) → m < length piece → drop m piece ≢ []
 some_left piece m lt e = let n = ap length e in omega (arith, n, lt, length-drop m piece)
 
 -- a front of a piece was written
-pub front_written : (a b c : State) (out : ℕ) (piece : List ℕ) (m : ℕ) → m < length piece → Appends a b out (take m piece) → Keeps b c → AppendsFront a c out piece
+pub front_written : (a b c : State) (out : ℕ) (piece : List ℕ) (m : ℕ) → m < length piece → Appends a b out (take m piece)
+    → Keeps b c → AppendsFront a c out piece
 front_written a b c out piece m lt p k =
-    record { front = take m piece; more = drop m piece; some = some_left piece m lt; parts = sym (take-append-drop m piece); appends = appends_kept a b c out (take m piece) p k }
+    record {
+      front = take m piece;
+      more = drop m piece;
+      some = some_left piece m lt;
+      parts = sym (take-append-drop m piece);
+      appends = appends_kept a b c out (take m piece) p k;
+    }

@@ -2,7 +2,7 @@
 use Rattle.std.specs.Prelude.{◌≡◌, ◌≢◌, ℕ, ◌+◌, ◌-◌, ◌≤◌, List, [], ◌++◌, length, slice_index, slice_set, IfSome, option_map}
 use Rattle.ports.specs.Desk.{State, left_of}
 
--- The handle's file was read to its end, where the desk tells.
+-- The handle's file was read to its end, if the desk tells.
 abbrev pub IsAtEnd : State → ℕ → Type 0
 IsAtEnd s handle = IfSome (left_of s handle) (λ left. left ≡ [])
 

@@ -1,8 +1,9 @@
 pub mod Ahead
-pub mod Codes
 pub mod Faults
 pub mod Laws
 pub mod Opening
 pub mod Reading
-pub mod Waiting
 pub mod Writing
+-- inner: no public clause cites these
+pub mod Codes
+pub mod Waiting

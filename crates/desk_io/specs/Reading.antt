@@ -1,11 +1,13 @@
 -- How a file is read ahead.
-use Rattle.std.specs.Prelude.{◌≡◌, ◌≢◌, ℕ, ◌+◌, ◌-◌, ◌^◌, ◌<◌, ◌≤◌, Bool, if◌then◌else◌, List, ◌++◌, length, slice_index, slice_set, Option, option_map}
+use Rattle.std.specs.Prelude.{◌≡◌, ◌≢◌, ℕ, ◌+◌, ◌-◌, ◌^◌, ◌<◌, ◌≤◌, Bool, if◌then◌else◌, List, ◌++◌, length, slice_index}
+use Rattle.std.specs.Prelude.{slice_set, Option, option_map}
 use Rattle.ports.specs.Desk.{State, SameCounts, left_of}
 use Rattle.desk_io.specs.Faults.{ReadsFail}
 use Rattle.desk_io.specs.declared.ahead.ReadStop.{ReadStop}
 use Rattle.desk_io.specs.declared.ahead.ReadStop.TheVariants.{TooLong, Fault}
 
--- the handle of a file, how many bytes were taken from it, the bytes that were read behind them, and whether it was found to have ended
+-- the handle of a file, how many bytes were taken from it, the bytes that were read behind them, and whether it was found to have
+-- ended
 pub record Reading : Type 0 where
   pub handle : ℕ
   pub taken : ℕ
@@ -16,7 +18,7 @@ pub record Reading : Type 0 where
 abbrev pub given_of : Reading → ℕ
 given_of r = r.taken + length r.waiting
 
--- the bytes of the file behind those that were taken, where the desk tells
+-- the bytes of the file behind those that were taken, if the desk tells
 abbrev pub rest_of : State → Reading → Option (List ℕ)
 rest_of s r = option_map (λ left. r.waiting ++ left) (left_of s r.handle)
 
@@ -41,7 +43,8 @@ pub record TakesNone (old new : State) (was is : Reading) : Type 0 where
 abbrev pub most_bytes : ℕ
 most_bytes = 2 ^ 40
 
--- Why a file was not read on: it gave too many bytes, and no count changed; or reading failed, where fewer bytes wait than were wanted.
+-- Why a file was not read on: it gave too many bytes, and no count changed; or reading failed, where fewer bytes wait than were
+-- wanted.
 abbrev pub StopsReading : State → State → Reading → ℕ → ReadStop → Type 0
 StopsReading old new is least TooLong = (given_of is ≡ most_bytes) × SameCounts old new
 StopsReading old new is least Fault = (given_of is < most_bytes) × (length is.waiting < least) × ReadsFail old new

@@ -6,7 +6,8 @@ use Rattle.ports.specs.Desk.{State, Held, IsApart, out_name, left_of, written_of
 -- No file but that of this handle is another, and no handle.
 abbrev pub OnlyOut : ℕ → Option Held → Option Held → Type 0
 OnlyOut out None new = new ≡ None
-OnlyOut out (Some h) new = (k : Held) × (new ≡ Some k) × (k.names ≡ h.names) × (k.outs ≡ h.outs) × ((other : List ℕ) → other ≢ out_name h out → get k.files other ≡ get h.files other)
+OnlyOut out (Some h) new = (k : Held) × (new ≡ Some k) × (k.names ≡ h.names) × (k.outs ≡ h.outs)
+    × ((other : List ℕ) → other ≢ out_name h out → get k.files other ≡ get h.files other)
 
 -- Bytes, or none, were written behind those of a file, and nothing else was done. Of counts it says nothing.
 pub record Appends (old new : State) (out : ℕ) (bytes : List ℕ) : Type 0 where
@@ -16,9 +17,11 @@ pub record Appends (old new : State) (out : ℕ) (bytes : List ℕ) : Type 0 whe
   pub created : new.created ≡ old.created
   pub behind : written_of new out ≡ option_map (λ written. written ++ bytes) (written_of old out)
   -- and a file that was there is there
-  pub there : IfSome old.held (λ h. IsSome (get h.files (out_name h out))) → IfSome new.held (λ h. IsSome (get h.files (out_name h out)))
+  pub there : IfSome old.held (λ h. IsSome (get h.files (out_name h out)))
+      → IfSome new.held (λ h. IsSome (get h.files (out_name h out)))
   -- so a handle for reading from another file has left what it had
-  pub others : (handle : ℕ) → IfSome old.held (λ h. IsApart old.held handle (out_name h out)) → left_of new handle ≡ left_of old handle
+  pub others : (handle : ℕ) → IfSome old.held (λ h. IsApart old.held handle (out_name h out)) → left_of new handle
+      ≡ left_of old handle
 
 -- Some bytes were written but for the last ones, of which there is one at least, and nothing else was done.
 pub record AppendsFront (old new : State) (out : ℕ) (bytes : List ℕ) : Type 0 where

@@ -103,7 +103,7 @@ const TOO_LATE: MuteCause = MuteCause::TimeDisagrees {
 };
 
 #[rattlefmt::skip]
-const ROWS: [Row; 11] = [
+static ROWS: [Row; 11] = [
     Row { why: "35 baseband frames need 140 chunks", change: Change::Copies(35), frame: 1, comes: Comes::Muted(TOO_MANY) },
     Row { why: "34 have room, and L1 tells 4", change: Change::Copies(34), frame: 1, comes: Comes::Muted(MuteCause::PacketMissing) },
     Row { why: "five, as L1 tells, are more than a frame may have", change: Change::Five, frame: 1, comes: Comes::Muted(MuteCause::MapRefused) },
@@ -228,6 +228,23 @@ fn a_frame_that_no_gateway_sends(rt: HostRuntime) -> Result<(), Fail> {
     Ok(())
 }
 
+// Whether the first cell of the blocks stands at address 7,600, and none before it.
+fn begins_there(view: &RecordView<'_>) -> bool {
+    match view {
+        RecordView::Frame { cells, .. } => {
+            cells.get(7_599) == Some(None)
+                && matches!(cells.get(7_600), Some(Some(cell)) if cell.ordinal == 0 && cell.cell == 0)
+        }
+        RecordView::Muted { .. } => false,
+    }
+}
+
+// The same of the bytes of a record.
+fn has_cells_there(record: &[u8]) -> Result<bool, Fail> {
+    let (view, _) = read_record(record)?;
+    Ok(begins_there(&view))
+}
+
 // The cells of frame 1 from address 7,600 on, and no other: the receiver finds them there.
 #[test]
 fn a_frame_whose_cells_stand_elsewhere(rt: HostRuntime) -> Result<(), Fail> {
@@ -237,16 +254,7 @@ fn a_frame_whose_cells_stand_elsewhere(rt: HostRuntime) -> Result<(), Fail> {
     let usual = told_of(&rt, &plan, &units)?;
     let moved = changed(&rt, &plan, &units, Change::Start(7_600))?;
     assert!(rt; moved.len() == FRAMES);
-    let (view, _) = read_record(&moved[1].bytes)?;
-    match view {
-        RecordView::Frame { cells, .. } => {
-            assert!(rt; cells.get(7_599) == Some(None));
-            assert!(rt;
-                matches!(cells.get(7_600), Some(Some(cell)) if cell.ordinal == 0 && cell.cell == 0)
-            );
-        }
-        RecordView::Muted { .. } => assert!(rt; false),
-    }
+    assert!(rt; has_cells_there(&moved[1].bytes)?);
     let given = received(&rt, &plan, ALL, &bytes_of(rt.alloc(), &moved)?)?;
     assert!(rt; given == received(&rt, &plan, ALL, &bytes_of(rt.alloc(), &usual)?)?);
     Ok(())

@@ -1,6 +1,7 @@
 // The T2-MI packets of a stream, taken out and piped again.
-ghost use Rattle.std.specs.Prelude.{◌≡◌, ◌<◌, ◌^◌, false};
+ghost use Rattle.std.specs.Prelude.{◌≡◌, ◌<◌, ◌≤◌, ◌+◌, ◌^◌, false, length, IfOk};
 ghost use Rattle.t2mi_stream.specs.PiperStandsFor.{is_finished};
+ghost use Rattle.t2mi_stream.specs.UnpiperStandsFor.{fed_len};
 
 use bit_slice::{BitSlice, OutOfMemory, crc32};
 use std::alloc::Global;
@@ -16,6 +17,33 @@ const CRC: usize = 4;
 // More packets than any stream here has.
 const MOST: u64 = 1_000;
 
+fn open(alloc: Global, pid: u16) -> Result<Unpiper, OutOfMemory>
+    ensures { IfOk result (λ unpiper. fed_len unpiper ≡ 0) }
+{
+    Unpiper::open(alloc, pid)
+}
+
+// Feeds bytes, and answers how many were taken.
+fn feed(unpiper: &mut Unpiper, piece: &[u8]) -> usize
+    requires { fed_len unpiper.old + length piece.now < 2 ^ 60 }
+    ensures inside { result ≤ length piece.now }
+    ensures fed { fed_len unpiper.new ≡ fed_len unpiper.old + result }
+{
+    unpiper.feed(piece)
+}
+
+// Takes the packet that waits, if one does.
+fn take(unpiper: &mut Unpiper, alloc: Global) -> Result<Option<Vec<u8>>, OutOfMemory>
+    ensures { fed_len unpiper.new ≡ fed_len unpiper.old }
+{
+    if !unpiper.is_ready() {
+        return Ok(None);
+    }
+    let packet = unpiper.bytes().to_vec(alloc)?;
+    unpiper.release();
+    Ok(Some(packet))
+}
+
 // The packets that are accepted in some units, each with its bytes.
 pub(crate) fn packets_in(
     rt: &(impl Abort + AllocGlobal),
@@ -23,16 +51,15 @@ pub(crate) fn packets_in(
     units: &[u8],
 ) -> Result<Vec<Vec<u8>>, Fail> {
     assert!(rt; units.len() < 1 << 30);
-    let mut unpiper = Unpiper::open(rt.alloc(), pid)?;
+    let mut unpiper = open(rt.alloc(), pid)?;
     let mut packets = Vec::new(rt.alloc());
     let mut at = 0;
     for _ in 0..MOST {
-        at += unpiper.feed(&units[at..]);
-        if !unpiper.is_ready() {
-            break;
+        at += feed(&mut unpiper, &units[at..]);
+        match take(&mut unpiper, rt.alloc())? {
+            Some(packet) => packets.push(packet)?,
+            None => break,
         }
-        packets.push(unpiper.bytes().to_vec(rt.alloc())?)?;
-        unpiper.release();
     }
     assert!(rt; at == units.len());
     Ok(packets)

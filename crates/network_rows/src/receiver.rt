@@ -1,6 +1,6 @@
 // What the receiver of a PLP gives back by calls, of records that the modulator made of what the gateway made. Expected values come from
 // worked examples, or were counted by hand.
-ghost use Rattle.std.specs.Prelude.{◌≡◌, ◌<◌, ◌≤◌, ◌+◌, OnOk};
+ghost use Rattle.std.specs.Prelude.{◌≡◌, ◌<◌, ◌≤◌, ◌+◌, ◌-◌, length, IfOk, OnOk};
 ghost use Rattle.plp_receiver.specs.StandsFor.{due_of, frame_of};
 
 use crate::records::records_of;
@@ -13,6 +13,7 @@ use sample_networks::{
     SMALL_PLP, loaded_plan, mixed_plan, network_of, plan_of, realistic_plan, small_plan,
 };
 use site_frame::{RecordView, read_record};
+use std::alloc::Global;
 use std::process::Abort;
 use std::test::Fail;
 use ts_packet::SIZE;
@@ -41,17 +42,62 @@ pub(crate) const ALL: Reception = Reception {
     window: u64::MAX,
 };
 
+// A receiver that begins with the frame of the first record.
+fn begin<'p>(alloc: Global, plan: &'p Plan, how: Reception) -> Result<Receiver<'p>, OutOfMemory>
+    requires place { how.plp < length plan.now.plps }
+    requires small { how.first < MOST_FRAMES }
+    ensures frame { IfOk result (λ receiver. frame_of receiver ≡ how.first) }
+    ensures due { IfOk result (λ receiver. due_of receiver ≡ 0) }
+{
+    let mut receiver = Receiver::open(alloc, plan, how.plp)?;
+    receiver.begin_at(how.first);
+    Ok(receiver)
+}
+
+fn holds_at_most(receiver: &Receiver<'_>, window: u64) -> bool {
+    receiver.held() <= window
+}
+
+fn due(receiver: &Receiver<'_>) -> u64
+    ensures { result ≡ due_of receiver.now }
+{
+    receiver.due()
+}
+
+// Gives out the packet of the next slot.
+fn release(receiver: &mut Receiver<'_>, out: &mut [u8; SIZE])
+    ensures frame { frame_of receiver.new ≡ frame_of receiver.old }
+    ensures due { due_of receiver.new ≡ due_of receiver.old - 1 }
+{
+    receiver.release(out);
+}
+
 // Gives out what is due.
 fn give(receiver: &mut Receiver<'_>, given: &mut Vec<u8>) -> Result<(), OutOfMemory>
     ensures frame { frame_of receiver.new ≡ frame_of receiver.old }
     ensures due { OnOk result (due_of receiver.new ≡ 0) }
 {
     let mut out = [0; SIZE];
-    for _ in 0..receiver.due() {
-        receiver.release(&mut out);
+    for _ in 0..due(receiver) {
+        release(receiver, &mut out);
         given.extend_from_slice(&out)?;
     }
     Ok(())
+}
+
+// The record at the front of some bytes, and the bytes behind.
+fn front(bytes: &[u8]) -> Result<(RecordView<'_>, &[u8]), Fail> {
+    let (view, len) = read_record(bytes)?;
+    Ok((view, bytes.get(len..).map_or(&[][..], |behind| behind)))
+}
+
+// Gives the receiver a record.
+fn take(receiver: &mut Receiver<'_>, view: &RecordView<'_>)
+    requires small { frame_of receiver.old < MOST_FRAMES }
+    requires given_out { due_of receiver.old ≡ 0 }
+    ensures { frame_of receiver.new ≡ frame_of receiver.old + 1 }
+{
+    receiver.frame(view);
 }
 
 // Gives the receiver the record at the front of some bytes, or a muted one in its place, and answers the bytes behind.
@@ -64,17 +110,17 @@ fn take_record<'a>(
     requires given_out { due_of receiver.old ≡ 0 }
     ensures frame { OnOk result (frame_of receiver.new ≡ frame_of receiver.old + 1) }
 {
-    let (view, len) = read_record(bytes)?;
+    let (view, behind) = front(bytes)?;
     if muted {
         let moment = Moment {
             seconds: 0,
             subseconds: 0,
         };
-        receiver.frame(&RecordView::Muted { moment });
+        take(receiver, &RecordView::Muted { moment });
     } else {
-        receiver.frame(&view);
+        take(receiver, &view);
     }
-    Ok(bytes.get(len..).map_or(&[][..], |behind| behind))
+    Ok(behind)
 }
 
 /// What is given back of a PLP from records; as many slots as may be are held behind each.
@@ -85,8 +131,7 @@ pub(crate) fn received(
     records: &[u8],
 ) -> Result<Vec<u8>, Fail> {
     assert!(rt; how.plp < plan.config().plps.len() && how.first < 1_000);
-    let mut receiver = Receiver::open(rt.alloc(), plan, how.plp)?;
-    receiver.begin_at(how.first);
+    let mut receiver = begin(rt.alloc(), plan, how)?;
     let mut given = Vec::new(rt.alloc());
     let mut left = records;
     for count in 0..MOST {
@@ -95,9 +140,9 @@ pub(crate) fn received(
         }
         let frame = how.first + count;
         left = take_record(&mut receiver, left, how.muted == Some(frame))?;
-        assert!(rt; receiver.held() <= how.window, "frame {frame}");
+        assert!(rt; holds_at_most(&receiver, how.window), "frame {frame}");
         give(&mut receiver, &mut given)?;
-        assert!(rt; receiver.held() <= how.window, "frame {frame}");
+        assert!(rt; holds_at_most(&receiver, how.window), "frame {frame}");
     }
     assert!(rt; left.is_empty());
     Ok(given)

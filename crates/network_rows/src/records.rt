@@ -86,6 +86,11 @@ impl<'p> Modulating<'p> {
         Ok(())
     }
 
+    // Whether the end was told, and no record waits.
+    fn has_ended(&self) -> bool {
+        self.finished && self.modulator.waiting().is_none()
+    }
+
     // Takes bytes, or feeds bytes if no record waits.
     fn step(
         &mut self,
@@ -115,12 +120,12 @@ pub(crate) fn told_of(
     let mut modulating = Modulating::open(rt.alloc(), plan)?;
     let mut out = vec![in rt.alloc(); 0; PIECE]?;
     for _ in 0..MOST_CALLS {
-        if modulating.finished && modulating.modulator.waiting().is_none() {
+        if modulating.has_ended() {
             break;
         }
         modulating.step(rt, units, &mut out)?;
     }
-    assert!(rt; modulating.finished && modulating.modulator.waiting().is_none());
+    assert!(rt; modulating.has_ended());
     Ok(modulating.records)
 }
 

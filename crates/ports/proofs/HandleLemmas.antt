@@ -1,31 +1,40 @@
 -- What the places of handles are, and what a handle has left, after it was read.
-use Rattle.std.proofs.Common.{◌≡◌, ℕ, ◌+◌, ◌-◌, ◌<◌, ◌≤◌, List, [], ◌++◌, length, take, drop, map, set, get_or, Some, refl, ap, sym, ◌∙◌, arith, ◌↔◌, string_bytes}
-use Rattle.std.proofs.lemmas.List.{map-set, get_or-map, get_or-set_same, get_or-set_other, take_all, take-append-drop, drop-drop, length-map, length-drop, length-take-le}
+use Rattle.std.proofs.Common.{◌≡◌, ℕ, ◌+◌, ◌-◌, ◌<◌, ◌≤◌, List, [], ◌++◌, length, take, drop, map, set, get_or, Some, refl, ap}
+use Rattle.std.proofs.Common.{sym, ◌∙◌, arith, ◌↔◌, string_bytes}
+use Rattle.std.proofs.lemmas.List.{map-set, get_or-map, get_or-set_same, get_or-set_other, take_all, take-append-drop, drop-drop}
+use Rattle.std.proofs.lemmas.List.{length-map, length-drop, length-take-le}
 use Rattle.std.proofs.Math.Seq.{map-set_same, take-append_seam}
 use Rattle.ports.specs.declared.counts.Counts.{Counts}
 use Rattle.ports.specs.declared.memory.Handle.{Handle}
 use Rattle.ports.specs.Desk.{Files, State, bytes_of, Reads}
 
 -- one value moved by n
-pub map-set_moved : {A : Type 0} (f : A → ℕ) (xs : List A) (i n : ℕ) (x y : A) → i < length xs → x ≡ get_or xs i x → f y ≡ f x + n →
+pub map-set_moved : {A : Type 0} (f : A → ℕ) (xs : List A) (i n : ℕ) (x y : A) → i < length xs → x ≡ get_or xs i x → f y ≡ f x + n
+    →
     map f (set xs i y) ≡ set (map f xs) i (get_or (map f xs) i 0 + n)
 map-set_moved f xs i n x y inside is moved =
     map-set f xs i y
     ∙ ap (set (map f xs) i) (moved ∙ ap (λ (k : ℕ). k + n) (ap f is ∙ sym (get_or-map f xs i x 0 inside)))
 
 -- no value moved
-pub map-set_stayed : {A B : Type 0} (f : A → B) (xs : List A) (i : ℕ) (x y : A) → x ≡ get_or xs i x → f y ≡ f x → map f (set xs i y) ≡ map f xs
+pub map-set_stayed : {A B : Type 0} (f : A → B) (xs : List A) (i : ℕ) (x y : A) → x ≡ get_or xs i x → f y ≡ f x
+    → map f (set xs i y) ≡ map f xs
 map-set_stayed f xs i x y is same = map-set_same f xs i y x (same ∙ ap f is)
 
 -- a piece that was copied, and what stands after it
-pub copied : (bytes piece kept : List ℕ) (place n : ℕ) → n ≤ length bytes - place → piece ≡ take n (take (length bytes - place) (drop place bytes)) →
+pub copied : (bytes piece kept : List ℕ) (place n : ℕ) → n ≤ length bytes - place
+    → piece ≡ take n (take (length bytes - place) (drop place bytes)) →
     drop place bytes ≡ take n (piece ++ kept) ++ drop (place + n) bytes
 copied bytes piece kept place n inside is =
-    let all : take (length bytes - place) (drop place bytes) ≡ drop place bytes = take_all (length bytes - place) (drop place bytes) (omega (arith, length-drop place bytes)) in
+    let all : take (length bytes - place) (drop place bytes) ≡ drop place bytes =
+    take_all (length bytes - place) (drop place bytes) (omega (arith, length-drop place bytes)) in
     let front : piece ≡ take n (drop place bytes) = is ∙ ap (take n) all in
-    let size : length piece ≡ n = ap length front ∙ length-take-le n (drop place bytes) (omega (arith, length-drop place bytes)) in
-    let whole : take n (piece ++ kept) ≡ piece = ap (λ (k : ℕ). take k (piece ++ kept)) (sym size) ∙ take-append_seam piece kept in
-    sym (take-append-drop n (drop place bytes)) ∙ rw (whole, drop-drop n place bytes) (ap (λ (x : List ℕ). x ++ drop (place + n) bytes) (sym front))
+    let size : length piece ≡ n =
+    ap length front ∙ length-take-le n (drop place bytes) (omega (arith, length-drop place bytes)) in
+    let whole : take n (piece ++ kept) ≡ piece = ap (λ (k : ℕ). take k (piece ++ kept)) (sym size)
+    ∙ take-append_seam piece kept in
+    sym (take-append-drop n (drop place bytes))
+    ∙ rw (whole, drop-drop n place bytes) (ap (λ (x : List ℕ). x ++ drop (place + n) bytes) (sym front))
 
 abbrev pub name_of : Handle → List ℕ
 name_of handle = string_bytes handle.name
@@ -44,7 +53,8 @@ desk files handles outs said created counts = record {
 }
 
 -- a desk after the handle x at a place was read on to y
-pub reads_on : (files : Files) (xs : List Handle) (outs : List (List ℕ)) (said : List ℕ) (created : ℕ) (counts : Counts) (at n : ℕ) (x y : Handle) (buffer : List ℕ) →
+pub reads_on : (files : Files) (xs : List Handle) (outs : List (List ℕ)) (said : List ℕ) (created : ℕ) (counts : Counts)
+    (at n : ℕ) (x y : Handle) (buffer : List ℕ) →
     at < length xs → x ≡ get_or xs at x → y.name ≡ x.name → y.place ≡ x.place + n →
     drop x.place (bytes_of files (name_of x)) ≡ take n buffer ++ drop y.place (bytes_of files (name_of x)) →
     ((n ≡ 0) ↔ (drop x.place (bytes_of files (name_of x)) ≡ [])) →

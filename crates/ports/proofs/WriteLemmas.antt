@@ -1,5 +1,6 @@
 -- What a file that is set or written leaves: two writes of a handle are one, and other names keep their bytes.
-use Rattle.std.proofs.Common.{◌≡◌, ◌≢◌, ℕ, ◌+◌, Bool, true, false, cond, List, [], ◌∷◌, ◌++◌, length, drop, get_or, Option, Some, None, refl, ap, sym, ◌∙◌, append_assoc, length-append, inl, inr, Vec, String, Global, string_bytes}
+use Rattle.std.proofs.Common.{◌≡◌, ◌≢◌, ℕ, ◌+◌, Bool, true, false, cond, List, [], ◌∷◌, ◌++◌, length, drop, get_or, Option, Some}
+use Rattle.std.proofs.Common.{None, refl, ap, sym, ◌∙◌, append_assoc, length-append, inl, inr, Vec, String, Global, string_bytes}
 use Rattle.std.specs.Prelude.{IfSome, slice_index, slice_index_or, unwrap_or, option_map}
 use Rattle.std.specs.Ordering.{nat_cmp, eq_by_cmp}
 use Rattle.std.specs.Cmp.Lexicographic.{slice_cmp, nat_list_cmp_total}
@@ -32,7 +33,8 @@ twice false u v w = refl
 -- of two inserts at a name the last one stays
 insert_twice : (m : Files) (name x y : List ℕ) → insert (insert m name x) name y ≡ insert m name y
 insert_twice m name x y =
-    same_map nat_list_cmp_total (slice_cmp-IsAntisymmetric nat_cmp-IsAntisymmetric) (insert (insert m name x) name y) (insert m name y)
+    same_map nat_list_cmp_total (slice_cmp-IsAntisymmetric nat_cmp-IsAntisymmetric) (insert (insert m name x) name y)
+    (insert m name y)
     (λ q. get-insert nat_list_cmp_total (insert m name x) name y q
     ∙ ap (cond (same q name) (Some y)) (get-insert nat_list_cmp_total m name x q)
     ∙ twice (same q name) (Some y) (Some x) (get m q)
@@ -53,33 +55,43 @@ get_other m name x q apart =
 kept_at : (m : Files) (name x q : List ℕ) → get m name ≡ Some x → get (insert m name x) q ≡ get m q
 kept_at m name x q is =
     elim (cases_Bool (same q name)) [
-      | inl here ↦ ap (get (insert m name x)) (one_name q name here) ∙ get_set m name x ∙ sym is ∙ ap (get m) (sym (one_name q name here))
+      | inl here ↦ ap (get (insert m name x)) (one_name q name here) ∙ get_set m name x ∙ sym is
+          ∙ ap (get m) (sym (one_name q name here))
       | inr other ↦ get-insert nat_list_cmp_total m name x q ∙ ap (λ (b : Bool). cond b (Some x) (get m q)) other
     ]
 
 -- to set a file to the bytes that it has changes nothing
 pub insert_kept : (m : Files) (name x : List ℕ) → get m name ≡ Some x → insert m name x ≡ m
-insert_kept m name x is = same_map nat_list_cmp_total (slice_cmp-IsAntisymmetric nat_cmp-IsAntisymmetric) (insert m name x) m (λ q. kept_at m name x q is)
+insert_kept m name x is = same_map nat_list_cmp_total (slice_cmp-IsAntisymmetric nat_cmp-IsAntisymmetric) (insert m name x) m
+    (λ q. kept_at m name x q is)
 
 -- what handles for reading have left, where another file was set
 left_beside : (files : Files) (names : List (List ℕ)) (handle place : ℕ) (name x : List ℕ) → slice_index_or names handle [] ≢ name
-    → drop place (bytes_of (insert files name x) (slice_index_or names handle [])) ≡ drop place (bytes_of files (slice_index_or names handle []))
+    → drop place (bytes_of (insert files name x) (slice_index_or names handle []))
+    ≡ drop place (bytes_of files (slice_index_or names handle []))
 left_beside files names handle place name x apart =
     ap (λ (o : Option (List ℕ)). drop place (unwrap_or o [])) (get_other files name x (slice_index_or names handle []) apart)
 
 bytes_twice : (h : Held) (out : ℕ) (x y : List ℕ) → with_bytes out y (with_bytes out x h) ≡ with_bytes out (x ++ y) h
 bytes_twice h out x y =
-    ap (λ (b : List ℕ). record h { files = insert (insert h.files (out_name h out) (bytes_of h.files (out_name h out) ++ x)) (out_name h out) (b ++ y) })
+    ap (λ (b : List ℕ). record h {
+      files = insert (insert h.files (out_name h out) (bytes_of h.files (out_name h out) ++ x))
+          (out_name h out) (b ++ y);
+    })
     (ap (λ (o : Option (List ℕ)). unwrap_or o []) (get_set h.files (out_name h out) (bytes_of h.files (out_name h out) ++ x)))
-    ∙ ap (λ (f : Files). record h { files = f }) (insert_twice h.files (out_name h out) (bytes_of h.files (out_name h out) ++ x) _)
-    ∙ ap (λ (b : List ℕ). record h { files = insert h.files (out_name h out) b }) (append_assoc (bytes_of h.files (out_name h out)) x y)
+    ∙ ap (λ (f : Files). record h { files = f })
+    (insert_twice h.files (out_name h out) (bytes_of h.files (out_name h out) ++ x) _)
+    ∙ ap (λ (b : List ℕ). record h { files = insert h.files (out_name h out) b })
+    (append_assoc (bytes_of h.files (out_name h out)) x y)
 
-held_twice : (o : Option Held) (out : ℕ) (x y : List ℕ) → option_map (with_bytes out y) (option_map (with_bytes out x) o) ≡ option_map (with_bytes out (x ++ y)) o
+held_twice : (o : Option Held) (out : ℕ) (x y : List ℕ) → option_map (with_bytes out y) (option_map (with_bytes out x) o)
+    ≡ option_map (with_bytes out (x ++ y)) o
 held_twice None out x y = refl
 held_twice (Some h) out x y = ap Some (bytes_twice h out x y)
 
 -- a handle that is apart from an out is so after a write too
-apart_after : (o p : Option Held) (handle out : ℕ) (x : List ℕ) → p ≡ option_map (with_bytes out x) o → IfSome o (λ h. IsApart o handle (out_name h out))
+apart_after : (o p : Option Held) (handle out : ℕ) (x : List ℕ) → p ≡ option_map (with_bytes out x) o
+    → IfSome o (λ h. IsApart o handle (out_name h out))
     → IfSome p (λ h. IsApart p handle (out_name h out))
 apart_after None p handle out x is apart = rw is tt
 apart_after (Some h) p handle out x is apart = rw is apart
@@ -105,20 +117,26 @@ desk files names outs said opened created counts = record {
 }
 
 -- a desk after bytes were put behind those of an out
-pub writes_on : (files new : Files) (names outs : List (List ℕ)) (said opened : List ℕ) (created : ℕ) (counts : Counts) (out : ℕ) (name bytes : List ℕ)
+pub writes_on : (files new : Files) (names outs : List (List ℕ)) (said opened : List ℕ) (created : ℕ) (counts : Counts) (out : ℕ)
+    (name bytes : List ℕ)
     → name ≡ slice_index_or outs out [] → new ≡ insert files name (bytes_of files name ++ bytes)
     → Writes (desk files names outs said opened created counts) (desk new names outs said opened created counts) out bytes
 writes_on files new names outs said opened created counts out name bytes named set =
-    let files_are : new ≡ insert files (slice_index_or outs out []) (bytes_of files (slice_index_or outs out []) ++ bytes) = rw (← named) set in
+    let files_are : new ≡ insert files (slice_index_or outs out []) (bytes_of files (slice_index_or outs out []) ++ bytes) =
+    rw (← named) set in
     record {
       held = ap (λ (f : Files). Some (record { files = f; names = names; outs = outs })) files_are;
       said = refl;
       opened = refl;
       created = refl;
       behind = ap (λ (f : Files). Some (bytes_of f (slice_index_or outs out []))) files_are
-          ∙ ap (λ (o : Option (List ℕ)). Some (unwrap_or o [])) (get_set files (slice_index_or outs out []) (bytes_of files (slice_index_or outs out []) ++ bytes));
-      others = λ handle apart. ap (λ (f : Files). Some (drop (slice_index opened handle) (bytes_of f (slice_index_or names handle [])))) files_are
-          ∙ ap Some (left_beside files names handle (slice_index opened handle) (slice_index_or outs out []) (bytes_of files (slice_index_or outs out []) ++ bytes) apart);
+          ∙ ap (λ (o : Option (List ℕ)). Some (unwrap_or o []))
+          (get_set files (slice_index_or outs out []) (bytes_of files (slice_index_or outs out []) ++ bytes));
+      others =
+          λ handle apart.
+          ap (λ (f : Files). Some (drop (slice_index opened handle) (bytes_of f (slice_index_or names handle [])))) files_are
+          ∙ ap Some (left_beside files names handle (slice_index opened handle) (slice_index_or outs out [])
+          (bytes_of files (slice_index_or outs out []) ++ bytes) apart);
     }
 
 last_of : (outs : List (List ℕ)) (name : List ℕ) → get_or (outs ++ name ∷ []) (length outs) [] ≡ name
@@ -126,8 +144,10 @@ last_of [] name = refl
 last_of (out ∷ outs) name = last_of outs name
 
 -- a desk after an empty file was made for one more out
-pub creates_on : (files new : Files) (names outs outs_new : List (List ℕ)) (said opened : List ℕ) (created created_new : ℕ) (counts : Counts) (out : ℕ) (name : List ℕ)
-    → out ≡ created → length outs ≡ created → outs_new ≡ outs ++ name ∷ [] → created_new ≡ created + 1 → new ≡ insert files name []
+pub creates_on : (files new : Files) (names outs outs_new : List (List ℕ)) (said opened : List ℕ) (created created_new : ℕ)
+    (counts : Counts) (out : ℕ) (name : List ℕ)
+    → out ≡ created → length outs ≡ created → outs_new ≡ outs ++ name ∷ [] → created_new ≡ created + 1
+    → new ≡ insert files name []
     → Creates (desk files names outs said opened created counts) (desk new names outs_new said opened created_new counts) name out
 creates_on files new names outs outs_new said opened created created_new counts out name is len more one set =
     let last : slice_index_or (outs ++ name ∷ []) out [] ≡ name = rw (is, ← len) (last_of outs name) in
@@ -143,8 +163,10 @@ creates_on files new names outs outs_new said opened created created_new counts 
     }
 
 -- what was written through to a text's value, if it has the bytes that it had, changes no file
-pub kept_files : (old new : BTreeMap (String Global) (Vec ℕ Global)) (name : List ℕ) (before after : Vec ℕ Global) → Some before ≡ tree.get_by_text old name
-    → after.items ≡ before.items → tree.UpdatesBy string_cmp (λ k. slice_cmp nat_cmp name (string_bytes k)) old new (Some after) → files_of new ≡ files_of old
+pub kept_files : (old new : BTreeMap (String Global) (Vec ℕ Global)) (name : List ℕ) (before after : Vec ℕ Global)
+    → Some before ≡ tree.get_by_text old name
+    → after.items ≡ before.items → tree.UpdatesBy string_cmp (λ k. slice_cmp nat_cmp name (string_bytes k)) old new (Some after)
+    → files_of new ≡ files_of old
 kept_files old new name before after is same_bytes updates =
     files_of-insert old new name after updates
     ∙ ap (insert (files_of old) name) same_bytes

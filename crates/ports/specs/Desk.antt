@@ -1,5 +1,6 @@
 -- What a desk means, and what its calls do.
-use Rattle.std.specs.Prelude.{◌≡◌, ◌≢◌, ◌⊎◌, ◌↔◌, ℕ, ◌+◌, ◌<◌, List, [], ◌∷◌, ◌++◌, length, take, drop, slice_index, slice_index_or, slice_set, unwrap_or, None, Some, IsSome, IfSome, option_map, option_and_then}
+use Rattle.std.specs.Prelude.{◌≡◌, ◌≢◌, ◌⊎◌, ◌↔◌, ℕ, ◌+◌, ◌<◌, List, [], ◌∷◌, ◌++◌, length, take, drop, slice_index}
+use Rattle.std.specs.Prelude.{slice_index_or, slice_set, unwrap_or, None, Some, IsSome, IfSome, option_map, option_and_then}
 use Rattle.std.specs.declared.option.Option.{Option}
 use Rattle.std.specs.Ordering.{nat_cmp}
 use Rattle.std.specs.Cmp.Lexicographic.{slice_cmp}
@@ -17,8 +18,8 @@ pub record Held : Type 0 where
   pub names : List (List ℕ)
   pub outs : List (List ℕ)
 
--- What a desk means: what it holds and what was said, where it tells; the place of each handle for reading in order of opening, and the
--- number of handles for writing; and how often its calls failed.
+-- What a desk means: what it holds and what was said, where it tells; the place of each handle for reading in order of opening,
+-- and the number of handles for writing; and how often its calls failed.
 pub record State : Type 0 where
   pub held : Option Held
   pub said : Option (List ℕ)
@@ -34,11 +35,11 @@ bytes_of files name = unwrap_or (get files name) []
 abbrev pub content : Held → ℕ → List ℕ
 content h handle = bytes_of h.files (slice_index_or h.names handle [])
 
--- the bytes of a named file, where there is one and the desk tells
+-- the bytes of a named file, if there is one and the desk tells
 abbrev pub file_of : State → List ℕ → Option (List ℕ)
 file_of s name = option_and_then (λ h. get h.files name) s.held
 
--- the bytes of a handle's file from its place on, where the desk tells
+-- the bytes of a handle's file from its place on, if the desk tells
 abbrev pub left_of : State → ℕ → Option (List ℕ)
 left_of s handle = option_map (λ h. drop (slice_index s.opened handle) (content h handle)) s.held
 
@@ -46,11 +47,11 @@ left_of s handle = option_map (λ h. drop (slice_index s.opened handle) (content
 abbrev pub out_name : Held → ℕ → List ℕ
 out_name h out = slice_index_or h.outs out []
 
--- the bytes of the file of a handle for writing, where the desk tells
+-- the bytes of the file of a handle for writing, if the desk tells
 abbrev pub written_of : State → ℕ → Option (List ℕ)
 written_of s out = option_map (λ h. bytes_of h.files (out_name h out)) s.held
 
--- A handle for reading is of another file than that of a name, where the desk tells.
+-- A handle for reading is of another file than that of a name, if the desk tells.
 abbrev pub IsApart : Option Held → ℕ → List ℕ → Type 0
 IsApart held handle name = IfSome held (λ h. slice_index_or h.names handle [] ≢ name)
 
@@ -112,7 +113,8 @@ pub record Creates (old new : State) (name : List ℕ) (out : ℕ) : Type 0 wher
 -- The files but for that of this name are as before, and so are the names of handles.
 abbrev pub SameButFor : List ℕ → Option Held → Option Held → Type 0
 SameButFor name None new = new ≡ None
-SameButFor name (Some h) new = (k : Held) × (new ≡ Some k) × (k.names ≡ h.names) × (k.outs ≡ h.outs) × ((other : List ℕ) → other ≢ name → get k.files other ≡ get h.files other)
+SameButFor name (Some h) new = (k : Held) × (new ≡ Some k) × (k.names ≡ h.names) × (k.outs ≡ h.outs)
+    × ((other : List ℕ) → other ≢ name → get k.files other ≡ get h.files other)
 
 -- The named file could not be created. Nothing is said of it.
 pub record FailsToCreate (old new : State) (name : List ℕ) : Type 0 where
@@ -133,7 +135,8 @@ pub record Writes (old new : State) (out : ℕ) (bytes : List ℕ) : Type 0 wher
   pub created : new.created ≡ old.created
   -- so the file has these bytes at its end, and a handle for reading from another file has left what it had
   pub behind : written_of new out ≡ option_map (λ written. written ++ bytes) (written_of old out)
-  pub others : (handle : ℕ) → IfSome old.held (λ h. IsApart old.held handle (out_name h out)) → left_of new handle ≡ left_of old handle
+  pub others : (handle : ℕ) → IfSome old.held (λ h. IsApart old.held handle (out_name h out)) → left_of new handle
+      ≡ left_of old handle
 
 -- The text was said.
 pub record Says (old new : State) (text : List ℕ) : Type 0 where

@@ -1,5 +1,4 @@
 pub mod Calls
-pub mod CallsCode
 pub mod Counts
 pub mod Desk
 pub mod Faults
@@ -7,5 +6,7 @@ pub mod HostDesk
 pub mod Laws
 pub mod MemoryDesk
 pub mod Script
+-- inner: no public clause cites these
+pub mod CallsCode
 pub mod StateCode
 pub mod Stored

@@ -10,7 +10,8 @@ use Rattle.ports.specs.Desk.{Held, State}
 use Rattle.ports.specs.Faults.{with_read_fault, with_write_fault, with_line_fault}
 use Rattle.ports.specs.Script.{no_script, one_call_of, listed_at}
 
--- what a desk in memory means, how many bytes a read or a write moves at most, and how many calls of each kind there were and which of them fail
+-- what a desk in memory means, how many bytes a read or a write moves at most, and how many calls of each kind there were and
+-- which of them fail
 pub record Memory : Type 0 where
   pub state : State
   pub cap : ℕ
@@ -60,11 +61,12 @@ abbrev pub given_by : List ℕ → List (List ℕ) → List ℕ → ℕ
 given_by name (other ∷ names) (place ∷ places) = (if bytes_eq other name then place else 0) + given_by name names places
 given_by name _ _ = 0
 
--- how many bytes the reads of a file gave over all handles, where the desk tells
+-- how many bytes the reads of a file gave over all handles, if the desk tells
 abbrev pub given_of : State → List ℕ → Option ℕ
 given_of s name = option_map (λ h. given_by name h.names s.opened) s.held
 
 -- The reads of the file of a handle gave n more bytes, and those of each other file as many as before.
 unfoldable pub Gives : State → State → ℕ → ℕ → Type 0
 Gives old new handle n = IfSome old.held (λ h. (name : List ℕ)
-    → given_of new name ≡ Some (given_by name h.names old.opened + (if bytes_eq (slice_index_or h.names handle []) name then n else 0)))
+    → given_of new name
+    ≡ Some (given_by name h.names old.opened + (if bytes_eq (slice_index_or h.names handle []) name then n else 0)))

@@ -7,7 +7,14 @@ use Rattle.ports.specs.Calls.{KindCalls, IsListed, no_calls, one_call, with_list
 
 -- no calls of any kind, of which none is to fail
 unfoldable pub no_script : Script
-no_script = record { opens = no_calls; creates = no_calls; reads = no_calls; writes = no_calls; says = no_calls; lasts = no_calls }
+no_script = record {
+  opens = no_calls;
+  creates = no_calls;
+  reads = no_calls;
+  writes = no_calls;
+  says = no_calls;
+  lasts = no_calls;
+}
 
 -- the calls of a kind
 abbrev pub calls_of : CallKind → Script → KindCalls

@@ -12,7 +12,8 @@ use Rattle.ports.specs.MemoryDesk.{Memory}
 
 abbrev held_code : Coded Held
 held_code = code_by (Files × (List (List ℕ) × List (List ℕ)))
-    (coded× (code (coded_list coded_ℕ) (coded_list coded_ℕ)) (coded× (coded_list (coded_list coded_ℕ)) (coded_list (coded_list coded_ℕ))))
+    (coded× (code (coded_list coded_ℕ) (coded_list coded_ℕ))
+    (coded× (coded_list (coded_list coded_ℕ)) (coded_list (coded_list coded_ℕ))))
     (λ h. (h.files, (h.names, h.outs))) (λ p. record { files = p.0; names = p.1.0; outs = p.1.1 }) (λ _. refl)
 
 abbrev counts_code : Coded Counts
@@ -22,7 +23,8 @@ counts_code = code_by (ℕ × (ℕ × ℕ)) (coded× coded_ℕ (coded× coded_�
 -- a state is stored as the tuple of its fields
 abbrev pub state_code : Coded State
 state_code = code_by (Option Held × (Option (List ℕ) × (List ℕ × (ℕ × Counts))))
-    (coded× (coded_option held_code) (coded× (coded_option (coded_list coded_ℕ)) (coded× (coded_list coded_ℕ) (coded× coded_ℕ counts_code))))
+    (coded× (coded_option held_code)
+    (coded× (coded_option (coded_list coded_ℕ)) (coded× (coded_list coded_ℕ) (coded× coded_ℕ counts_code))))
     (λ s. (s.held, (s.said, (s.opened, (s.created, s.counts)))))
     (λ p. record { held = p.0; said = p.1.0; opened = p.1.1.0; created = p.1.1.1.0; counts = p.1.1.1.1 })
     (λ _. refl)

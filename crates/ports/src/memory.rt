@@ -90,7 +90,7 @@ fn text(alloc: Global, name: &str) -> Option<String>
     String::from_str(alloc, name).ok()
 }
 
-// The bytes of the file of a name, where there is one.
+// The bytes of the file of a name, if there is one.
 #[tactic(auto, using(crate::proofs::FileLemmas::files))]
 fn find<'a>(files: &'a BTreeMap<String, Vec<u8>>, name: &str) -> Option<&'a [u8]>
     ensures { option_copied result ≡ get (files_of files.now) name.now }
@@ -236,7 +236,7 @@ impl MemoryDesk {
         given_by(&self.handles, name)
     }
 
-    /// The bytes of a file, or None where there is none of that name.
+    /// The bytes of a file, or None if there is none of that name.
     pub fn file(&self, name: &str) -> Option<&[u8]>
         ensures file { option_copied result ≡ file_of self.now.state name.now }
         ensures told { IsSome self.now.state.held }

@@ -98,8 +98,8 @@ const NO_FAULTS: Counts = Counts {
     lines: 0,
 };
 
-// A call of a desk or of the system, with what it answers. A test is a table of them, since a function that makes the calls itself is proved with
-// all that each of them promises, which takes minutes.
+// A call of a desk or of the system, with what it answers. A test is a table of them: a function that makes the calls itself is
+// proved with all that each of them promises, which takes minutes. The table is static: one in the function costs seconds more.
 enum Call {
     Open(&'static str, Result<u32, DeskFault>),
     // Of a handle: the bytes that are read.
@@ -230,162 +230,150 @@ fn follows<R: Files + Print + Drop>(
     }
 }
 
+static READS_A_REAL_FILE_TO_ITS_END: [Call; 5] = [
+    Call::MakeFile("host_desk_test", b"hello"),
+    Call::Open("host_desk_test", Ok(0)),
+    Call::Read(0, Ok(b"hello")),
+    Call::Read(0, Ok(b"")),
+    Call::RemoveFile("host_desk_test"),
+];
+
 #[test]
 fn reads_a_real_file_to_its_end(rt: HostRuntime) {
-    follows(
-        &rt,
-        &rt,
-        &[
-            Call::MakeFile("host_desk_test", b"hello"),
-            Call::Open("host_desk_test", Ok(0)),
-            Call::Read(0, Ok(b"hello")),
-            Call::Read(0, Ok(b"")),
-            Call::RemoveFile("host_desk_test"),
-        ],
-    );
+    follows(&rt, &rt, &READS_A_REAL_FILE_TO_ITS_END);
 }
+
+static WRITES_A_REAL_FILE_ANEW: [Call; 6] = [
+    Call::MakeFile("host_desk_out", b"something older"),
+    Call::Create("host_desk_out", Ok(0)),
+    Call::Write(0, b"hello", Ok(5)),
+    Call::Write(0, b" all", Ok(4)),
+    Call::HasText("host_desk_out", "hello all"),
+    Call::RemoveFile("host_desk_out"),
+];
 
 #[test]
 fn writes_a_real_file_anew(rt: HostRuntime) {
-    follows(
-        &rt,
-        &rt,
-        &[
-            Call::MakeFile("host_desk_out", b"something older"),
-            Call::Create("host_desk_out", Ok(0)),
-            Call::Write(0, b"hello", Ok(5)),
-            Call::Write(0, b" all", Ok(4)),
-            Call::HasText("host_desk_out", "hello all"),
-            Call::RemoveFile("host_desk_out"),
-        ],
-    );
+    follows(&rt, &rt, &WRITES_A_REAL_FILE_ANEW);
 }
+
+static WRITES_TWO_REAL_FILES_IN_TURN: [Call; 9] = [
+    Call::Create("host_desk_first", Ok(0)),
+    Call::Create("host_desk_second", Ok(1)),
+    Call::Write(0, b"one", Ok(3)),
+    Call::Write(1, b"other", Ok(5)),
+    Call::Write(0, b" more", Ok(5)),
+    Call::HasText("host_desk_first", "one more"),
+    Call::HasText("host_desk_second", "other"),
+    Call::RemoveFile("host_desk_first"),
+    Call::RemoveFile("host_desk_second"),
+];
 
 #[test]
 fn writes_two_real_files_in_turn(rt: HostRuntime) {
-    follows(
-        &rt,
-        &rt,
-        &[
-            Call::Create("host_desk_first", Ok(0)),
-            Call::Create("host_desk_second", Ok(1)),
-            Call::Write(0, b"one", Ok(3)),
-            Call::Write(1, b"other", Ok(5)),
-            Call::Write(0, b" more", Ok(5)),
-            Call::HasText("host_desk_first", "one more"),
-            Call::HasText("host_desk_second", "other"),
-            Call::RemoveFile("host_desk_first"),
-            Call::RemoveFile("host_desk_second"),
-        ],
-    );
+    follows(&rt, &rt, &WRITES_TWO_REAL_FILES_IN_TURN);
 }
+
+static DOES_NOT_EMPTY_A_FILE_THAT_IS_READ_UNDER_ANOTHER_NAME: [Call; 7] = [
+    Call::MakeFile("host_desk_same", b"kept"),
+    Call::Open("host_desk_same", Ok(0)),
+    Call::NoFault,
+    Call::Create("./host_desk_same", Err(DeskFault)),
+    Call::IsRead("host_desk_same"),
+    Call::HasText("host_desk_same", "kept"),
+    Call::RemoveFile("host_desk_same"),
+];
 
 #[test]
 fn does_not_empty_a_file_that_is_read_under_another_name(rt: HostRuntime) {
     follows(
         &rt,
         &rt,
-        &[
-            Call::MakeFile("host_desk_same", b"kept"),
-            Call::Open("host_desk_same", Ok(0)),
-            Call::NoFault,
-            Call::Create("./host_desk_same", Err(DeskFault)),
-            Call::IsRead("host_desk_same"),
-            Call::HasText("host_desk_same", "kept"),
-            Call::RemoveFile("host_desk_same"),
-        ],
+        &DOES_NOT_EMPTY_A_FILE_THAT_IS_READ_UNDER_ANOTHER_NAME,
     );
 }
+
+static KEEPS_THE_FIRST_FAULT_AND_ITS_REASON: [Call; 3] = [
+    Call::Open("no_such_file", Err(DeskFault)),
+    Call::Create("no_such_folder/file", Err(DeskFault)),
+    Call::NotRead("no_such_file", "no such file or directory"),
+];
 
 #[test]
 fn keeps_the_first_fault_and_its_reason(rt: HostRuntime) {
-    follows(
-        &rt,
-        &rt,
-        &[
-            Call::Open("no_such_file", Err(DeskFault)),
-            Call::Create("no_such_folder/file", Err(DeskFault)),
-            Call::NotRead("no_such_file", "no such file or directory"),
-        ],
-    );
+    follows(&rt, &rt, &KEEPS_THE_FIRST_FAULT_AND_ITS_REASON);
 }
+
+static COUNTS_WHAT_CANNOT_BE_CREATED_OR_WRITTEN: [Call; 4] = [
+    Call::Create("no_such_folder/file", Err(DeskFault)),
+    Call::Create("/dev/full", Ok(0)),
+    Call::Write(0, b"lost", Err(DeskFault)),
+    Call::Counts(Counts {
+        reads: 0,
+        writes: 2,
+        lines: 0,
+    }),
+];
 
 #[test]
 fn counts_what_cannot_be_created_or_written(rt: HostRuntime) {
-    follows(
-        &rt,
-        &rt,
-        &[
-            Call::Create("no_such_folder/file", Err(DeskFault)),
-            Call::Create("/dev/full", Ok(0)),
-            Call::Write(0, b"lost", Err(DeskFault)),
-            Call::Counts(Counts {
-                reads: 0,
-                writes: 2,
-                lines: 0,
-            }),
-        ],
-    );
+    follows(&rt, &rt, &COUNTS_WHAT_CANNOT_BE_CREATED_OR_WRITTEN);
 }
+
+static COUNTS_WHAT_CANNOT_BE_OPENED_OR_READ: [Call; 4] = [
+    Call::Open("no_such_file", Err(DeskFault)),
+    Call::Open(".", Ok(0)),
+    Call::Read(0, Err(DeskFault)),
+    Call::Counts(Counts {
+        reads: 2,
+        writes: 0,
+        lines: 0,
+    }),
+];
 
 #[test]
 fn counts_what_cannot_be_opened_or_read(rt: HostRuntime) {
-    follows(
-        &rt,
-        &rt,
-        &[
-            Call::Open("no_such_file", Err(DeskFault)),
-            Call::Open(".", Ok(0)),
-            Call::Read(0, Err(DeskFault)),
-            Call::Counts(Counts {
-                reads: 2,
-                writes: 0,
-                lines: 0,
-            }),
-        ],
-    );
+    follows(&rt, &rt, &COUNTS_WHAT_CANNOT_BE_OPENED_OR_READ);
 }
+
+static SAYS_TO_STANDARD_OUTPUT: [Call; 3] = [
+    Call::Say(b"said\n", Ok(())),
+    Call::SayLast(b"last\n"),
+    Call::Counts(NO_FAULTS),
+];
 
 #[test]
 fn says_to_standard_output(rt: HostRuntime) {
-    follows(
-        &rt,
-        &rt,
-        &[
-            Call::Say(b"said\n", Ok(())),
-            Call::SayLast(b"last\n"),
-            Call::Counts(NO_FAULTS),
-        ],
-    );
+    follows(&rt, &rt, &SAYS_TO_STANDARD_OUTPUT);
 }
+
+static SAYS_EACH_TEXT_WHOLE: [Call; 3] = [
+    Call::Say(b"whole\n", Ok(())),
+    Call::SayLast(b"whole\n"),
+    Call::Counts(NO_FAULTS),
+];
 
 #[test]
 fn says_each_text_whole(rt: HostRuntime) {
-    follows(
-        &rt,
-        Takes(b"whole\n"),
-        &[
-            Call::Say(b"whole\n", Ok(())),
-            Call::SayLast(b"whole\n"),
-            Call::Counts(NO_FAULTS),
-        ],
-    );
+    follows(&rt, Takes(b"whole\n"), &SAYS_EACH_TEXT_WHOLE);
 }
+
+static COUNTS_WHAT_STANDARD_OUTPUT_DOES_NOT_TAKE: [Call; 3] = [
+    Call::Say(b"lost\n", Err(DeskFault)),
+    Call::SayLast(b"lost too\n"),
+    Call::Counts(Counts {
+        reads: 0,
+        writes: 1,
+        lines: 1,
+    }),
+];
 
 #[test]
 fn counts_what_standard_output_does_not_take(rt: HostRuntime) {
     follows(
         &rt,
         Takes(b"other\n"),
-        &[
-            Call::Say(b"lost\n", Err(DeskFault)),
-            Call::SayLast(b"lost too\n"),
-            Call::Counts(Counts {
-                reads: 0,
-                writes: 1,
-                lines: 1,
-            }),
-        ],
+        &COUNTS_WHAT_STANDARD_OUTPUT_DOES_NOT_TAKE,
     );
 }
 

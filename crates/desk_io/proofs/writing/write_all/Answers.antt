@@ -7,7 +7,8 @@ use Rattle.desk_io.proofs.writing.write_all.Goals as goal
 pub returns-in_err-done-clause-err : goal.returns-in_err-done-clause-err
 returns-in_err-done-clause-err g c =
     let p = err_from_is_err_and c.from_residual.result c.from_residual.ensures.1 in
-    rw p.1 (front_written _ _ _ _ c.args.piece.now c.loop-done.done c.loop-done-test.true c.loop-done.invariant.front c.in_err-done.ensures.err)
+    rw p.1 (front_written _ _ _ _ c.args.piece.now c.loop-done.done c.loop-done-test.true c.loop-done.invariant.front
+    c.in_err-done.ensures.err)
 
 pub loop-done-preserved : goal.loop-done-preserved
 loop-done-preserved g c = record {

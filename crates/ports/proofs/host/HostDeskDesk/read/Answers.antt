@@ -7,10 +7,13 @@ use Rattle.ports.proofs.host.HostDeskDesk.read.Goals as goal
 pub returns-in-Ok-clause-ok : goal.returns-in-Ok-clause-ok
 returns-in-Ok-clause-ok g c =
     let came : c.args.handle < length c.self.inside.handles.items = grind (arith, common_steps, length-map) in
-    let moved = map-set_moved (λ x. x.place) c.self.inside.handles.items c.args.handle c.in-Ok.count c.index_mut.result.now c.read.new.self came c.index_mut.ensures.value c.in-Ok.ensures.ok in
-    rw (← c.self.view_is) (record { held = refl; said = refl; opened = moved; created = refl; next = refl; end = tt; others = λ other apart. refl })
+    let moved = map-set_moved (λ x. x.place) c.self.inside.handles.items c.args.handle c.in-Ok.count c.index_mut.result.now
+    c.read.new.self came c.index_mut.ensures.value c.in-Ok.ensures.ok in
+    rw (← c.self.view_is)
+    (record { held = refl; said = refl; opened = moved; created = refl; next = refl; end = tt; others = λ other apart. refl })
 
 pub returns-in-Err-clause-fault : goal.returns-in-Err-clause-fault
 returns-in-Err-clause-fault g c =
-    let stayed = map-set_stayed (λ x. x.place) c.self.inside.handles.items c.args.handle c.index_mut.result.now c.read.new.self c.index_mut.ensures.value c.in-Err.ensures.err in
+    let stayed = map-set_stayed (λ x. x.place) c.self.inside.handles.items c.args.handle c.index_mut.result.now c.read.new.self
+    c.index_mut.ensures.value c.in-Err.ensures.err in
     rw (← c.self.view_is) (rw (stayed, c.fail.ensures.one) refl)
