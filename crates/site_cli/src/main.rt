@@ -11,6 +11,7 @@ mod help;
 mod pids;
 mod progress;
 mod shown;
+mod stream_time;
 mod words;
 
 use advice::{advise, warn};
@@ -19,6 +20,7 @@ use progress::Watched;
 use site_top::{Outcome, run};
 use std::io::IsTerminal;
 use std::process::ExitCode;
+use stream_time::StreamTime;
 use words::{name_of, words_of};
 
 // The status of the program.
@@ -30,8 +32,6 @@ fn exit_code(outcome: Outcome) -> ExitCode
 
 fn main(rt: HostRuntime) -> ExitCode {
     let alloc = rt.alloc();
-    let wanted = rt.stderr().is_terminal();
-    let mut desk = Watched::new(HostDesk::new(&rt, alloc), &rt, wanted);
     let (Ok(program), Ok(words)) = (name_of(&rt), words_of(&rt)) else {
         advise(&rt, "", &[], Outcome::OutOfMemory, None, false);
         return exit_code(Outcome::OutOfMemory);
@@ -43,6 +43,13 @@ fn main(rt: HostRuntime) -> ExitCode {
         };
     }
     warn(&rt, words.as_slice());
+    let wanted = rt.stderr().is_terminal();
+    let stream = if wanted {
+        StreamTime::of(&rt, words.as_slice())
+    } else {
+        None
+    };
+    let mut desk = Watched::new(HostDesk::new(&rt, alloc), &rt, wanted, stream);
     let outcome = run(alloc, words.as_slice(), &mut desk);
     desk.wipe();
     advise(

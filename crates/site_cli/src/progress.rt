@@ -3,6 +3,7 @@ ghost use Rattle.std.specs.Prelude.{◌<◌, ◌≤◌, length, take, IfOk, OnOk
 ghost use Rattle.ports.specs.Counts.{MayFailReading, MayFailWriting, MayFailAtLast};
 ghost use Rattle.ports.specs.Desk.{State, Keeps, Opens, Creates, FailsToCreate, Reads, Writes, Says, SaysLast};
 
+use crate::stream_time::StreamTime;
 use ports::{Desk, DeskFault};
 use std::fmt::{self, Display, Formatter, Write};
 use std::io::Eprint;
@@ -46,6 +47,8 @@ struct Progress<'a, R> {
     stands: bool,
     read: u64,
     written: u64,
+    // The stream time, if it can be told.
+    stream: Option<StreamTime>,
 }
 
 impl<R: Clock + Eprint> Progress<'_, R> {
@@ -62,15 +65,36 @@ impl<R: Clock + Eprint> Progress<'_, R> {
             None => Duration::from_millis(FIRST_AFTER),
         };
         if due <= time {
-            let _ = eprint!(self.rt;
-                "{WIPE}{} read, {} written, {}/s",
-                Megabytes(self.read),
-                Megabytes(self.written),
-                Megabytes(rate(self.read, time))
-            );
+            self.say(time);
             self.told = Some(time);
             self.stands = true;
         }
+    }
+
+    fn say(&self, time: Duration) {
+        let _ = eprint!(self.rt;
+            "{WIPE}{} read, {} written, {}/s",
+            Megabytes(self.read),
+            Megabytes(self.written),
+            Megabytes(rate(self.read, time))
+        );
+        if let Some(stream) = &self.stream {
+            let _ = eprint!(self.rt;
+                ", {} of the stream",
+                stream.seconds(self.read, self.written)
+            );
+        }
+    }
+
+    fn write(&mut self, piece: &[u8]) {
+        if self.start.is_none() {
+            return;
+        }
+        self.written = self.written.saturating_add(piece.len() as u64);
+        if let Some(stream) = &mut self.stream {
+            stream.take(piece);
+        }
+        self.tell();
     }
 
     fn wipe(&mut self) {
@@ -91,8 +115,8 @@ pub struct Watched<'a, D, R> {
 }
 
 impl<'a, D, R: Clock + Eprint> Watched<'a, D, R> {
-    /// A desk whose moves are told from now on if this is wanted.
-    pub fn new(desk: D, rt: &'a R, wanted: bool) -> Watched<'a, D, R> {
+    /// A desk whose moves are told from now on if this is wanted, with the stream time if it is given.
+    pub fn new(desk: D, rt: &'a R, wanted: bool, stream: Option<StreamTime>) -> Watched<'a, D, R> {
         let start = if wanted { Instant::now(rt).ok() } else { None };
         Watched {
             desk,
@@ -103,6 +127,7 @@ impl<'a, D, R: Clock + Eprint> Watched<'a, D, R> {
                 stands: false,
                 read: 0,
                 written: 0,
+                stream,
             },
             none_came: false,
         }
@@ -135,8 +160,7 @@ impl<D: Desk, R: Clock + Eprint> Desk for Watched<'_, D, R> {
 
     fn write(&mut self, out: u32, piece: &[u8]) -> Result<usize, DeskFault> {
         let count = self.desk.write(out, piece)?;
-        self.progress.written = self.progress.written.saturating_add(count as u64);
-        self.progress.tell();
+        self.progress.write(piece.get(..count).unwrap_or(piece));
         Ok(count)
     }
 
