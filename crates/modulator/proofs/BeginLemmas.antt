@@ -1,5 +1,6 @@
 -- The record that waits is begun.
-use Rattle.std.proofs.Common.{◌≡◌, ℕ, ◌≤◌, ◌==◌, ◌&&◌, Bool, true, false, cond, List, [], Option, Some, None, refl, ap, sym, subst, ◌∙◌, arith, append-nil}
+use Rattle.std.proofs.Common.{◌≡◌, ℕ, ◌≤◌, ◌==◌, ◌&&◌, Bool, true, false, cond, List, [], Option, Some, None, refl, ap, sym}
+use Rattle.std.proofs.Common.{subst, ◌∙◌, arith, append-nil}
 use Rattle.std.specs.Prelude.{is_some, nat_lt, flat_map}
 use Rattle.std.proofs.lemmas.Bool.{ltb-true, eqb-true}
 use Rattle.terms.proofs.OptionLemmas.{some_injective, none_some}
@@ -32,18 +33,21 @@ pub record WaitsFor (at : Progress) (w : Waiting) : Type 0 where
   pub frame : w.frame ≡ at.next
   pub own : w.mute ≡ None → IsOwn at w
 
-own_by : (number : Option ℕ) (next : ℕ) (closing : Bool) (fault : Option MuteCause) (w : Waiting) → waiting_by number next closing fault ≡ Some w
+own_by : (number : Option ℕ) (next : ℕ) (closing : Bool) (fault : Option MuteCause) (w : Waiting)
+    → waiting_by number next closing fault ≡ Some w
     → WaitsFor (record { number = number; next = next; closing = closing; fault = fault }) w
 own_by None next closing fault w e = none_some w e
 own_by (Some n) next closing fault w e = go closing (nat_lt next n) (next == n) refl refl e
   where
-    go : (c t u : Bool) → nat_lt next n ≡ t → (next == n) ≡ u → cond t (Some (record { frame = next; mute = Some Gap })) (cond (c && u) (Some (record { frame = n; mute = fault })) None) ≡ Some w
+    go : (c t u : Bool) → nat_lt next n ≡ t → (next == n) ≡ u → cond t (Some (record { frame = next; mute = Some Gap }))
+        (cond (c && u) (Some (record { frame = n; mute = fault })) None) ≡ Some w
         → WaitsFor (record { number = Some n; next = next; closing = c; fault = fault }) w
     go c true u k l e =
         let same : record { frame = next; mute = Some Gap } ≡ w = some_injective _ w e in
         let less = ltb-true next n k in
         record {
-          below = λ m is. let f = ap (λ (w : Waiting). w.frame) same in let i = some_injective n m is in omega (arith, less, f, i);
+          below = λ m is. let f = ap (λ (w : Waiting). w.frame) same in let i = some_injective n m is in
+              omega (arith, less, f, i);
           some = refl;
           frame = sym (ap (λ (w : Waiting). w.frame) same);
           own = λ none. none_some Gap (sym none ∙ sym (ap (λ (w : Waiting). w.mute) same));
@@ -55,7 +59,12 @@ own_by (Some n) next closing fault w e = go closing (nat_lt next n) (next == n) 
           below = λ m is. let f = ap (λ (w : Waiting). w.frame) same in let i = some_injective n m is in omega (arith, f, i);
           some = refl;
           frame = sym (here ∙ ap (λ (w : Waiting). w.frame) same);
-          own = λ none. record { number = ap (λ (w : Waiting). Some w.frame) same; closing = refl; fault = ap (λ (w : Waiting). w.mute) same; next = here ∙ ap (λ (w : Waiting). w.frame) same };
+          own = λ none. record {
+            number = ap (λ (w : Waiting). Some w.frame) same;
+            closing = refl;
+            fault = ap (λ (w : Waiting). w.mute) same;
+            next = here ∙ ap (λ (w : Waiting). w.frame) same;
+          };
         }
     go true false false k l e = none_some w e
     go false false u k l e = none_some w e
@@ -64,17 +73,23 @@ pub waits_for : (at : Progress) (w : Waiting) → waiting_of at ≡ Some w → W
 waits_for at w e = own_by at.number at.next at.closing at.fault w e
 
 -- the own record of a group is not muted only if the group passes
-passes : (r : Rules) (g : Option Group) (at : Progress) (ps : List Packet) (given : List FrameRecord) (h : Group) (w : Waiting) → Sequenced r g at.number at.next at.closing at.fault ps given → g ≡ Some h → IsOwn at w → w.mute ≡ None
+passes : (r : Rules) (g : Option Group) (at : Progress) (ps : List Packet) (given : List FrameRecord) (h : Group) (w : Waiting)
+    → Sequenced r g at.number at.next at.closing at.fault ps given → g ≡ Some h → IsOwn at w → w.mute ≡ None
     → r.fault h w.frame ≡ None
 passes r None at ps given h w s e own none = none_some h e
 passes r (Some k) at ps given h w (closed, a, f) e own none =
-    subst (λ (k : Group). r.fault k w.frame ≡ None) (some_injective k h e) (sym (f.fault_is own.closing w.frame own.number) ∙ own.fault ∙ none)
+    subst (λ (k : Group). r.fault k w.frame ≡ None) (some_injective k h e) (sym (f.fault_is own.closing w.frame own.number)
+    ∙ own.fault ∙ none)
 
 -- what is begun of the record that waits
-pub begun_gives : (Old New : Option Group → Type 0) (key other : Option Key) (r s : Rules) (spelled : FrameRecord → List ℕ) (at : Progress) (left : List ℕ) (u : Unpiper) (finished : Bool) (pid : ℕ) (bytes : List ℕ) (given : List FrameRecord) (taken : List ℕ)
+pub begun_gives : (Old New : Option Group → Type 0) (key other : Option Key) (r s : Rules) (spelled : FrameRecord → List ℕ)
+    (at : Progress) (left : List ℕ) (u : Unpiper) (finished : Bool) (pid : ℕ) (bytes : List ℕ) (given : List FrameRecord)
+    (taken : List ℕ)
     → ((g : Option Group) → Old g → New g) → other ≡ key → s ≡ r
-    → ((w : Waiting) (h : Group) → waiting_of at ≡ Some w → Old (Some h) → (w.mute ≡ None → r.fault h w.frame ≡ None) → left ≡ spelled (record_of h w))
-    → Stands Old key r at u finished pid bytes given → taken ≡ flat_map spelled given → Gives New other s spelled at left u finished pid bytes taken
+    → ((w : Waiting) (h : Group) → waiting_of at ≡ Some w → Old (Some h) → (w.mute ≡ None → r.fault h w.frame ≡ None)
+    → left ≡ spelled (record_of h w))
+    → Stands Old key r at u finished pid bytes given → taken ≡ flat_map spelled given
+    → Gives New other s spelled at left u finished pid bytes taken
 begun_gives Old New key other r s spelled at left u finished pid bytes given taken on same rules begun st e =
     subst (λ (s : Rules). Gives New other s spelled at left u finished pid bytes taken) (sym rules)
     (subst (λ (o : Option Key). Gives New o r spelled at left u finished pid bytes taken) (sym same)
@@ -93,7 +108,9 @@ begun_gives Old New key other r s spelled at left u finished pid bytes given tak
           record {
             part = [];
             taken_is = e ∙ sym (append-nil (flat_map spelled given));
-            rest = λ w i h k. sym (begun w h i (subst Old k st.keeps.holds) (λ none. passes r st.keeps.group at _ given h w st.keeps.sequenced k ((waits_for at w i).own none) none));
+            rest = λ w i h k.
+                sym (begun w h i (subst Old k st.keeps.holds)
+                (λ none. passes r st.keeps.group at _ given h w st.keeps.sequenced k ((waits_for at w i).own none) none));
             idle = λ _. refl;
           };
     }))

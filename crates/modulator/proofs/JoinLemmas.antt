@@ -1,5 +1,6 @@
 -- Whether a group that is closed was the join: then records are due, and else none.
-use Rattle.std.proofs.Common.{◌≡◌, ℕ, ◌-◌, ◌≤◌, ◌<◌, ◌==◌, Bool, true, false, List, [], ◌∷◌, ◌++◌, length, Option, Some, None, refl, ap, sym, subst, ◌∙◌, arith, append-nil, length-append}
+use Rattle.std.proofs.Common.{◌≡◌, ℕ, ◌-◌, ◌≤◌, ◌<◌, ◌==◌, Bool, true, false, List, [], ◌∷◌, ◌++◌, length, Option, Some, None}
+use Rattle.std.proofs.Common.{refl, ap, sym, subst, ◌∙◌, arith, append-nil, length-append}
 use Rattle.std.specs.Prelude.{is_some, nat_lt, map}
 use Rattle.std.specs.List.{range_with_len}
 use Rattle.std.proofs.lemmas.Bool.{true≢false, ltb-false, eqb-false}
@@ -9,7 +10,8 @@ use Rattle.t2mi_stream.specs.Events.{UnpiperEvent}
 use Rattle.t2mi_stream.specs.UnpiperStandsFor.{UnpiperStandsFor, is_ready, AllReleased}
 use Rattle.t2mi_stream.specs.declared.unpiper.Unpiper.{Unpiper}
 use Rattle.frame_groups.specs.Groups.{Group}
-use Rattle.frame_groups.specs.Modulated.{Rules, FrameRecord, gap_record, group_record, number_behind, gaps_behind, own_record, records_with, records_from, number_after}
+use Rattle.frame_groups.specs.Modulated.{Rules, FrameRecord, gap_record, group_record, number_behind, gaps_behind, own_record}
+use Rattle.frame_groups.specs.Modulated.{records_with, records_from, number_after}
 use Rattle.frame_groups.specs.Laws.{ModulatedFront}
 use Rattle.frame_groups.specs.Due.{RecordsAreDue}
 use Rattle.frame_groups.specs.Records.{record_of}
@@ -31,18 +33,25 @@ some_behind : (r : Rules) (gs : List Group) (m : ℕ) → number_after r None gs
 some_behind r [] m e = none_some m e
 some_behind r (g ∷ gs) m e = go (some_behind r gs m) (number_behind r None g) e
   where
-    go : (number_after r None gs ≡ Some m → 0 < length (records_from r None gs)) → (o : Option ℕ) → number_after r o gs ≡ Some m → 0 < length ((gaps_behind None o ++ own_record r g o) ++ records_from r o gs)
+    go : (number_after r None gs ≡ Some m → 0 < length (records_from r None gs)) → (o : Option ℕ) → number_after r o gs ≡ Some m
+        → 0 < length ((gaps_behind None o ++ own_record r g o) ++ records_from r o gs)
     go more None e = more e
     go more (Some n) e = omega arith
 
 -- a group with a number adds a record
-some_with : (r : Rules) (others : List FrameRecord) (before : Option ℕ) (h : Group) (n : ℕ) → Some n ≡ number_behind r before h → 0 < length (others ++ records_with r before h)
+some_with : (r : Rules) (others : List FrameRecord) (before : Option ℕ) (h : Group) (n : ℕ) → Some n ≡ number_behind r before h
+    → 0 < length (others ++ records_with r before h)
 some_with r others before h n e =
     subst (λ (o : Option ℕ). 0 < length (others ++ (gaps_behind before o ++ own_record r h o))) e
-    (omega (arith, length-append others (gaps_behind before (Some n) ++ group_record r h n ∷ []), length-append (gaps_behind before (Some n)) (group_record r h n ∷ [])))
+    (omega (
+      arith,
+      length-append others (gaps_behind before (Some n) ++ group_record r h n ∷ []),
+      length-append (gaps_behind before (Some n)) (group_record r h n ∷ []),
+    ))
 
 -- the number of a group under way is known behind the join alone
-some_before : (r : Rules) (closed : List Group) (h : Group) (n : ℕ) → Some n ≡ known_number r (number_after r None closed) h → 0 < length (records_from r None closed)
+some_before : (r : Rules) (closed : List Group) (h : Group) (n : ℕ) → Some n ≡ known_number r (number_after r None closed) h
+    → 0 < length (records_from r None closed)
 some_before r closed h n e = go (number_after r None closed) refl e
   where
     go : (o : Option ℕ) → number_after r None closed ≡ o → Some n ≡ known_number r o h → 0 < length (records_from r None closed)
@@ -57,7 +66,8 @@ given_own r closed h n next fault given f w =
     let low : n ≤ next = ltb-false next n t.0 in
     let other : next ≡ n → ⊥ = eqb-false next n t.1 in
     let e = f.records.all (omega (arith, low, other, f.records.most)) in
-    subst (λ (l : List FrameRecord). 0 < length l) (sym e) (some_with r (records_from r None closed) (number_after r None closed) h n f.number_is)
+    subst (λ (l : List FrameRecord). 0 < length l) (sym e)
+    (some_with r (records_from r None closed) (number_after r None closed) h n f.number_is)
 
 -- a group under way with a number, no gap before it: those before were given
 given_others : (r : Rules) (closed : List Group) (h : Group) (n next : ℕ) (fault : Option MuteCause) (given : List FrameRecord)
@@ -66,30 +76,37 @@ given_others r closed h n next fault given f w =
     let t = neither (nat_lt next n) false _ (record { frame = n; mute = fault }) w in
     let low : n ≤ next = ltb-false next n t.0 in
     let all : n - next ≡ 0 = omega (arith, low) in
-    let gaps : given ++ map gap_record (range_with_len next (n - next)) ≡ given = ap (λ (k : ℕ). given ++ map gap_record (range_with_len next k)) all ∙ append-nil given in
+    let gaps : given ++ map gap_record (range_with_len next (n - next)) ≡ given =
+    ap (λ (k : ℕ). given ++ map gap_record (range_with_len next k)) all ∙ append-nil given in
     let e = sym gaps ∙ f.records.front (f.under_way refl n refl) in
     let some = some_before r closed h n f.number_is in
     subst (λ (l : List FrameRecord). 0 < length l) (sym e)
     (omega (arith, some, length-append (records_from r None closed) (gaps_behind (number_after r None closed) (Some n))))
 
 -- behind the join records were given, if none waits
-given_some : (r : Rules) (g : Option Group) (number : Option ℕ) (next : ℕ) (closing : Bool) (fault : Option MuteCause) (ps : List Packet) (given : List FrameRecord)
-    → Sequenced r g number next closing fault ps given → is_some number ≡ true → waits_by number next closing fault ≡ false → 0 < length given
+given_some : (r : Rules) (g : Option Group) (number : Option ℕ) (next : ℕ) (closing : Bool) (fault : Option MuteCause)
+    (ps : List Packet) (given : List FrameRecord)
+    → Sequenced r g number next closing fault ps given → is_some number ≡ true → waits_by number next closing fault ≡ false
+    → 0 < length given
 given_some r None number next closing fault ps given (a, b, c, d) some w = absurd (true≢false (sym some ∙ ap is_some b))
 given_some r (Some h) None next closing fault ps given q some w = absurd (true≢false (sym some))
 given_some r (Some h) (Some n) next true fault ps given (closed, a, f) some w = given_own r closed h n next fault given f w
 given_some r (Some h) (Some n) next false fault ps given (closed, a, f) some w = given_others r closed h n next fault given f w
 
 -- before it none were
-given_none : (r : Rules) (g : Option Group) (number : Option ℕ) (next : ℕ) (closing : Bool) (fault : Option MuteCause) (ps : List Packet) (given : List FrameRecord)
+given_none : (r : Rules) (g : Option Group) (number : Option ℕ) (next : ℕ) (closing : Bool) (fault : Option MuteCause)
+    (ps : List Packet) (given : List FrameRecord)
     → Sequenced r g number next closing fault ps given → is_some number ≡ false → given ≡ []
 given_none r None number next closing fault ps given (a, b, c, d) none = d
 given_none r (Some h) None next closing fault ps given (closed, a, f) none = f.records.1
 given_none r (Some h) (Some n) next closing fault ps given q none = absurd (true≢false none)
 
-module _ (laws : RecordsAreDue) (front : ModulatedFront) (Holds : Option Group → Type 0) (key : Option Key) (r : Rules) (at : Progress) (u : Unpiper) (finished : Bool) (pid : ℕ) (bytes : List ℕ) (given : List FrameRecord)
-    (has : HasKey Holds key) (none : is_ready u ≡ false → (pid : ℕ) (events : List UnpiperEvent) → UnpiperStandsFor u pid events → AllReleased pid events)
-    (settled : waits at ≡ false → is_ready u ≡ false) (ended : finished ≡ true → waits at ≡ false → at.closing ≡ false → is_some key ≡ false) (h : Stands Holds key r at u finished pid bytes given) where
+module _ (laws : RecordsAreDue) (front : ModulatedFront) (Holds : Option Group → Type 0) (key : Option Key) (r : Rules)
+    (at : Progress) (u : Unpiper) (finished : Bool) (pid : ℕ) (bytes : List ℕ) (given : List FrameRecord)
+    (has : HasKey Holds key) (none : is_ready u ≡ false → (pid : ℕ) (events : List UnpiperEvent) → UnpiperStandsFor u pid events
+    → AllReleased pid events)
+    (settled : waits at ≡ false → is_ready u ≡ false) (ended : finished ≡ true → waits at ≡ false → at.closing ≡ false
+    → is_some key ≡ false) (h : Stands Holds key r at u finished pid bytes given) where
   idle : waits at ≡ false → due_by r finished pid bytes ≡ given
   idle w = all_given laws Holds key r at u finished pid bytes given has (none (settled w)) (λ f c. ended f w c) w h
 
@@ -100,9 +117,12 @@ module _ (laws : RecordsAreDue) (front : ModulatedFront) (Holds : Option Group �
       go : (t : Bool) → waits at ≡ t → 0 < length (due_by r finished pid bytes)
       go true w =
           let now = now_of r h.keeps.group at _ given h.keeps.sequenced w in
-          let next = comes_next laws front Holds key r at u finished pid bytes given now.waiting now.group has none now.is h now.has in
-          subst (λ (l : List FrameRecord). 0 < length l) (sym next.1) (omega (arith, length-append given (record_of now.group now.waiting ∷ next.0)))
-      go false w = subst (λ (l : List FrameRecord). 0 < length l) (sym (idle w)) (given_some r h.keeps.group at.number at.next at.closing at.fault _ given h.keeps.sequenced some w)
+          let next = comes_next laws front Holds key r at u finished pid bytes given now.waiting now.group has none now.is h
+          now.has in
+          subst (λ (l : List FrameRecord). 0 < length l) (sym next.1)
+          (omega (arith, length-append given (record_of now.group now.waiting ∷ next.0)))
+      go false w = subst (λ (l : List FrameRecord). 0 < length l) (sym (idle w))
+          (given_some r h.keeps.group at.number at.next at.closing at.fault _ given h.keeps.sequenced some w)
 
   -- it was not: none are
   pub joined_none : is_some at.number ≡ false → due_by r finished pid bytes ≡ []

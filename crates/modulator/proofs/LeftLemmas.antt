@@ -9,7 +9,8 @@ use Rattle.frame_groups.specs.declared.waiting.Progress.{Progress}
 use Rattle.modulator.specs.Modulating.{records_ahead}
 
 -- a group has no more records left than a group can have
-few_by : (number : Option ℕ) (next : ℕ) (closing : Bool) → ((n : ℕ) → number ≡ Some n → n ≤ most_number) → records_by number next closing ≤ most_records
+few_by : (number : Option ℕ) (next : ℕ) (closing : Bool) → ((n : ℕ) → number ≡ Some n → n ≤ most_number)
+    → records_by number next closing ≤ most_records
 few_by None next true near = omega arith
 few_by None next false near = omega arith
 few_by (Some n) next closing near = let l = near n refl in omega (arith, l)
@@ -33,12 +34,15 @@ made_up a b k new old less few =
     omega (arith, up, one, few)
 
 -- a step less makes up for the records of the next group
-pub ahead_by_step : (u v : Unpiper) (at to : Progress) → steps_left v < steps_left u → IsWithin most_number to → records_ahead v to ≤ records_ahead u at
+pub ahead_by_step : (u v : Unpiper) (at to : Progress) → steps_left v < steps_left u → IsWithin most_number to
+    → records_ahead v to ≤ records_ahead u at
 unfolding records_ahead
-ahead_by_step u v at to less near = made_up (steps_left v) (steps_left u) most_records (records_left to) (records_left at) less (few_left to near)
+ahead_by_step u v at to less near = made_up (steps_left v) (steps_left u) most_records (records_left to) (records_left at) less
+    (few_left to near)
 
 -- the unit is as it was, and of the group no more records are left
-pub ahead_by_group : (u : Unpiper) (at to : Progress) → records_left to ≤ records_left at → records_ahead u to ≤ records_ahead u at
+pub ahead_by_group : (u : Unpiper) (at to : Progress) → records_left to ≤ records_left at → records_ahead u to
+    ≤ records_ahead u at
 unfolding records_ahead
 ahead_by_group u at to few = on_le (steps_left u * most_records) (records_left to) (records_left at) few
 
@@ -48,12 +52,14 @@ unfolding records_ahead
 ahead_gave u at to few = on_lt (steps_left u * most_records) (records_left to) (records_left at) few
 
 -- bytes of the record that waits were taken, and some are left
-pub part_taken : (waits : Bool) (a j k new old : ℕ) → waits ≡ true → j ≡ k → new < old → a * j + cond waits new 0 < a * k + cond waits old 0
+pub part_taken : (waits : Bool) (a j k new old : ℕ) → waits ≡ true → j ≡ k → new < old → a * j + cond waits new 0
+    < a * k + cond waits old 0
 part_taken true a j k new old now same less = let e = ap (λ (i : ℕ). a * i) same in omega (arith, e, less)
 part_taken false a j k new old now same less = absurd (true≢false (sym now))
 
 -- the record was taken whole, and the next one that waits is begun
-pub whole_taken : (now next : Bool) (a b j k new old : ℕ) → now ≡ true → j ≡ k → a < b → (next ≡ true → new ≤ k) → 0 < old → a * j + cond next new 0 < b * k + cond now old 0
+pub whole_taken : (now next : Bool) (a b j k new old : ℕ) → now ≡ true → j ≡ k → a < b → (next ≡ true → new ≤ k) → 0 < old
+    → a * j + cond next new 0 < b * k + cond now old 0
 whole_taken true true a b j k new old now same less few some =
     let e = ap (λ (i : ℕ). a * i) same in
     let up = made_up a b k new 0 less (few refl) in

@@ -1,5 +1,7 @@
 -- Bytes in, records out.
-use Rattle.std.proofs.Common.{◌≡◌, ℕ, zero, suc, ◌+◌, ◌-◌, ◌≤◌, ◌<◌, Bool, true, false, List, [], ◌∷◌, ◌++◌, length, take, drop, Option, Some, None, refl, ap, ap₂, sym, subst, ◌∙◌, ⊎_elim, inl, inr, arith, append_assoc, append-nil, length-append}
+use Rattle.std.proofs.Common.{◌≡◌, ℕ, zero, suc, ◌+◌, ◌-◌, ◌≤◌, ◌<◌, Bool, true, false, List, [], ◌∷◌, ◌++◌, length, take, drop}
+use Rattle.std.proofs.Common.{Option, Some, None, refl, ap, ap₂, sym, subst, ◌∙◌, ⊎_elim, inl, inr, arith, append_assoc}
+use Rattle.std.proofs.Common.{append-nil, length-append}
 use Rattle.std.specs.Prelude.{is_some, option_map, slice_get, IfSome, IfNone}
 use Rattle.std.proofs.Math.Seq.{take-add}
 use Rattle.std.proofs.lemmas.Bool.{true≢false, false_from_ne_true, cases_lt}
@@ -27,7 +29,8 @@ use Rattle.t2mi_stream.specs.declared.unpiper.Unpiper.{Unpiper}
 use Rattle.modulator.specs.Modulating.{packet_of, packets_of, worked, IsAhead, Stands, due_by}
 
 -- one element more
-take_next : {X : Type 0} (xs : List X) (i : ℕ) (a : X) → slice_get xs i ≡ Some a → (take (suc i) xs ≡ take i xs ++ a ∷ []) × (suc i ≤ length xs)
+take_next : {X : Type 0} (xs : List X) (i : ℕ) (a : X) → slice_get xs i ≡ Some a → (take (suc i) xs ≡ take i xs ++ a ∷ [])
+    × (suc i ≤ length xs)
 take_next [] i a e = none_some a e
 take_next (x ∷ xs) zero a e = (ap (λ y. y ∷ []) (some_injective x a e), omega arith)
 take_next (x ∷ xs) (suc i) a e = let r = take_next xs i a e in (ap (λ l. x ∷ l) r.0, omega (arith, r.1))
@@ -47,7 +50,8 @@ ends_kept r None p e = absurd e
 ends_kept r (Some k) p e = e.0
 
 -- the records of what is kept
-the_law : (laws : RecordsAreDue) (Holds : Option Group → Type 0) (r : Rules) (at : Progress) (ps : List Packet) (given : List FrameRecord) → (k : Keeps Holds r at ps given) → DueLaw r k.group at ps given
+the_law : (laws : RecordsAreDue) (Holds : Option Group → Type 0) (r : Rules) (at : Progress) (ps : List Packet)
+    (given : List FrameRecord) → (k : Keeps Holds r at ps given) → DueLaw r k.group at ps given
 the_law laws Holds r at ps given k = laws r k.group at ps given k.sequenced
 
 -- the key of the group that is kept
@@ -56,20 +60,27 @@ HasKey Holds key = (g : Option Group) → Holds g → key_of g ≡ key
 
 -- a packet was worked off
 worked_more : (push : EventsPush) (pid : ℕ) (events : List UnpiperEvent) (a : AcceptedPacket) → next_packet pid events ≡ Some a
-    → (worked pid (events ++ Released ∷ []) ≡ worked pid events ++ packet_of a.bytes ∷ []) × (released (events ++ Released ∷ []) ≤ length (accepted_of pid (fed (events ++ Released ∷ []))))
+    → (worked pid (events ++ Released ∷ []) ≡ worked pid events ++ packet_of a.bytes ∷ [])
+    × (released (events ++ Released ∷ []) ≤ length (accepted_of pid (fed (events ++ Released ∷ []))))
 worked_more push pid events a e =
     let p = push events in
     let n : released (events ++ Released ∷ []) ≡ suc (released events) = p.released_more ∙ omega arith in
     let t = take_next (accepted_of pid (fed events)) (released events) a e in (
-      ap₂ (λ (k : ℕ) (l : List ℕ). packets_of (take k (accepted_of pid l))) n p.fed_same ∙ ap packets_of t.0 ∙ map-append (λ (a : AcceptedPacket). packet_of a.bytes) (take (released events) (accepted_of pid (fed events))) (a ∷ []),
-      subst (λ (l : List ℕ). released (events ++ Released ∷ []) ≤ length (accepted_of pid l)) (sym p.fed_same) (omega (arith, n, t.1)),
+      ap₂ (λ (k : ℕ) (l : List ℕ). packets_of (take k (accepted_of pid l))) n p.fed_same ∙ ap packets_of t.0
+          ∙ map-append (λ (a : AcceptedPacket). packet_of a.bytes) (take (released events) (accepted_of pid (fed events)))
+          (a ∷ []),
+      subst (λ (l : List ℕ). released (events ++ Released ∷ []) ≤ length (accepted_of pid l)) (sym p.fed_same)
+          (omega (arith, n, t.1)),
     )
 
-pub stepped : (push : EventsPush) (Old New : Option Group → Type 0) (key other : Option Key) (r s : Rules) (at to : Progress) (u v : Unpiper) (finished : Bool) (pid : ℕ) (bytes : List ℕ) (given : List FrameRecord) (seen : List ℕ)
+pub stepped : (push : EventsPush) (Old New : Option Group → Type 0) (key other : Option Key) (r s : Rules) (at to : Progress)
+    (u v : Unpiper) (finished : Bool) (pid : ℕ) (bytes : List ℕ) (given : List FrameRecord) (seen : List ℕ)
     → is_ready u ≡ true
-    → ((pid : ℕ) (events : List UnpiperEvent) → UnpiperStandsFor u pid events → option_map (λ a. a.bytes) (next_packet pid events) ≡ Some seen)
+    → ((pid : ℕ) (events : List UnpiperEvent) → UnpiperStandsFor u pid events → option_map (λ a. a.bytes) (next_packet pid events)
+    ≡ Some seen)
     → ((pid : ℕ) (events : List UnpiperEvent) → UnpiperStandsFor u pid events → UnpiperStandsFor v pid (events ++ Released ∷ []))
-    → ((ps : List Packet) (given : List FrameRecord) → Keeps Old r at ps given → (at.closing ≡ true → Ends r key (packet_of seen)) → Keeps New s to (ps ++ packet_of seen ∷ []) given)
+    → ((ps : List Packet) (given : List FrameRecord) → Keeps Old r at ps given → (at.closing ≡ true → Ends r key (packet_of seen))
+    → Keeps New s to (ps ++ packet_of seen ∷ []) given)
     → (to.closing ≡ true → (at.closing ≡ true) × (is_counted r.frames (packet_of seen) ≡ false))
     → Stands Old key r at u finished pid bytes given → Stands New other s to v finished pid bytes given
 stepped push Old New key other r s at to u v finished pid bytes given seen ready told goes work still h =
@@ -77,7 +88,8 @@ stepped push Old New key other r s at to u v finished pid bytes given seen ready
     let w = worked_more push pid h.events b.packet b.is in
     let ends : at.closing ≡ true → Ends r key (packet_of seen) = λ c. ⊎_elim
     (λ (x : (a : AcceptedPacket) × (next_packet pid h.events ≡ Some a) × Ends r key (packet_of a.bytes)).
-    subst (λ (l : List ℕ). Ends r key (packet_of l)) (ap (λ (a : AcceptedPacket). a.bytes) (some_injective x.0 b.packet (sym x.1 ∙ b.is)) ∙ b.bytes) x.2)
+    subst (λ (l : List ℕ). Ends r key (packet_of l))
+    (ap (λ (a : AcceptedPacket). a.bytes) (some_injective x.0 b.packet (sym x.1 ∙ b.is)) ∙ b.bytes) x.2)
     (λ (x : (finished ≡ true) × (is_ready u ≡ false)). absurd (true≢false (sym ready ∙ x.1)))
     (h.ahead c) in
     record {
@@ -86,7 +98,8 @@ stepped push Old New key other r s at to u v finished pid bytes given seen ready
       fed_is = (push h.events).fed_same ∙ h.fed_is;
       few = w.1;
       keeps =
-          subst (λ (ps : List Packet). Keeps New s to ps given) (ap (λ (l : List ℕ). worked pid h.events ++ packet_of l ∷ []) (sym b.bytes) ∙ sym w.0)
+          subst (λ (ps : List Packet). Keeps New s to ps given)
+          (ap (λ (l : List ℕ). worked pid h.events ++ packet_of l ∷ []) (sym b.bytes) ∙ sym w.0)
           (work (worked pid h.events) given h.keeps ends);
       ahead = λ c. let o = still c in absurd (true≢false (sym (ends_kept r key (packet_of seen) (ends o.0)) ∙ o.1));
     }
@@ -98,16 +111,19 @@ get_past [] (suc n) e = refl
 get_past (x ∷ xs) zero e = absurd (omega (arith, e))
 get_past (x ∷ xs) (suc n) e = get_past xs n (omega (arith, e))
 
--- where no packet waits and more bytes may come, the group is not closed
-pub not_closing : (Holds : Option Group → Type 0) (key : Option Key) (r : Rules) (at : Progress) (u : Unpiper) (pid : ℕ) (bytes : List ℕ) (given : List FrameRecord)
+-- if no packet waits and more bytes may come, the group is not closed
+pub not_closing : (Holds : Option Group → Type 0) (key : Option Key) (r : Rules) (at : Progress) (u : Unpiper) (pid : ℕ)
+    (bytes : List ℕ) (given : List FrameRecord)
     → (h : Stands Holds key r at u false pid bytes given) → AllReleased pid h.events → at.closing ≡ true → ⊥
 not_closing Holds key r at u pid bytes given h all c = ⊎_elim
-    (λ (x : (a : AcceptedPacket) × (next_packet pid h.events ≡ Some a) × Ends r key (packet_of a.bytes)). none_some x.0 (sym (get_past (accepted_of pid (fed h.events)) (released h.events) all) ∙ x.1))
+    (λ (x : (a : AcceptedPacket) × (next_packet pid h.events ≡ Some a) × Ends r key (packet_of a.bytes)).
+    none_some x.0 (sym (get_past (accepted_of pid (fed h.events)) (released h.events) all) ∙ x.1))
     (λ (x : (false ≡ true) × (is_ready u ≡ false)). absurd (true≢false (sym x.0)))
     (h.ahead c)
 
 -- bytes were fed
-pub fed_more : (front : AcceptedFront) (push : EventsPush) (Holds : Option Group → Type 0) (key : Option Key) (r : Rules) (at : Progress) (u v : Unpiper) (pid : ℕ) (bytes piece : List ℕ) (given : List FrameRecord)
+pub fed_more : (front : AcceptedFront) (push : EventsPush) (Holds : Option Group → Type 0) (key : Option Key) (r : Rules)
+    (at : Progress) (u v : Unpiper) (pid : ℕ) (bytes piece : List ℕ) (given : List FrameRecord)
     → ((pid : ℕ) (events : List UnpiperEvent) → UnpiperStandsFor u pid events → AllReleased pid events)
     → ((pid : ℕ) (events : List UnpiperEvent) → UnpiperStandsFor u pid events → UnpiperStandsFor v pid (events ++ Fed piece ∷ []))
     → Stands Holds key r at u false pid bytes given → Stands Holds key r at v false pid (bytes ++ piece) given
@@ -116,7 +132,8 @@ fed_more front push Holds key r at u v pid bytes piece given none goes h =
     let all = none pid h.events h.stands in
     let f = front pid (fed h.events) piece in
     let k : released (h.events ++ Fed piece ∷ []) ≡ length (accepted_of pid (fed h.events)) = p.released_same piece ∙ sym all in
-    let whole : accepted_of pid (fed (h.events ++ Fed piece ∷ [])) ≡ accepted_of pid (fed h.events) ++ f.0 = ap (accepted_of pid) (p.fed_more piece) ∙ f.1 in
+    let whole : accepted_of pid (fed (h.events ++ Fed piece ∷ [])) ≡ accepted_of pid (fed h.events) ++ f.0 =
+    ap (accepted_of pid) (p.fed_more piece) ∙ f.1 in
     let few : length (accepted_of pid (fed h.events)) ≤ length (accepted_of pid (fed h.events)) = omega arith in
     let same : worked pid (h.events ++ Fed piece ∷ []) ≡ worked pid h.events =
     ap₂ (λ (k : ℕ) (l : List AcceptedPacket). packets_of (take k l)) k whole
@@ -127,14 +144,17 @@ fed_more front push Holds key r at u v pid bytes piece given none goes h =
       events = h.events ++ Fed piece ∷ [];
       stands = goes pid h.events h.stands;
       fed_is = p.fed_more piece ∙ ap (λ (l : List ℕ). l ++ piece) h.fed_is;
-      few = subst (λ (l : List AcceptedPacket). released (h.events ++ Fed piece ∷ []) ≤ length l) (sym whole) (omega (arith, k, n));
+      few = subst (λ (l : List AcceptedPacket). released (h.events ++ Fed piece ∷ []) ≤ length l) (sym whole)
+          (omega (arith, k, n));
       keeps = subst (λ (ps : List Packet). Keeps Holds r at ps given) (sym same) h.keeps;
       ahead = λ c. absurd (not_closing Holds key r at u pid bytes given h all c);
     }
 
 -- a packet closed the group, and waits
-pub held : (Old New : Option Group → Type 0) (key other : Option Key) (r s : Rules) (at to : Progress) (u : Unpiper) (finished : Bool) (pid : ℕ) (bytes : List ℕ) (given : List FrameRecord) (seen : List ℕ)
-    → ((pid : ℕ) (events : List UnpiperEvent) → UnpiperStandsFor u pid events → option_map (λ a. a.bytes) (next_packet pid events) ≡ Some seen)
+pub held : (Old New : Option Group → Type 0) (key other : Option Key) (r s : Rules) (at to : Progress) (u : Unpiper)
+    (finished : Bool) (pid : ℕ) (bytes : List ℕ) (given : List FrameRecord) (seen : List ℕ)
+    → ((pid : ℕ) (events : List UnpiperEvent) → UnpiperStandsFor u pid events → option_map (λ a. a.bytes) (next_packet pid events)
+    ≡ Some seen)
     → ((ps : List Packet) (given : List FrameRecord) → Keeps Old r at ps given → Keeps New s to ps given)
     → Ends s other (packet_of seen)
     → Stands Old key r at u finished pid bytes given → Stands New other s to u finished pid bytes given
@@ -153,8 +173,9 @@ none_of : (g : Option Group) (key : Option Key) → key_of g ≡ key → is_some
 none_of None key e none = refl
 none_of (Some h) key e none = absurd (true≢false (ap is_some e ∙ none))
 
--- all packets were worked off, where none waits
-all_worked : (pid : ℕ) (events : List UnpiperEvent) → AllReleased pid events → worked pid events ≡ packets_of (accepted_of pid (fed events))
+-- all packets were worked off, if none waits
+all_worked : (pid : ℕ) (events : List UnpiperEvent) → AllReleased pid events
+    → worked pid events ≡ packets_of (accepted_of pid (fed events))
 all_worked pid events all = ap packets_of (take_all (released events) (accepted_of pid (fed events)) (omega (arith, all)))
 
 prefix_without : {X : Type 0} (xs : List X) → (more : List X) × (xs ≡ without_last xs ++ more)
@@ -163,7 +184,8 @@ prefix_without (x ∷ []) = (x ∷ [], refl)
 prefix_without (x ∷ y ∷ xs) = let r = prefix_without (y ∷ xs) in (r.0, ap (λ l. x ∷ l) r.1)
 
 -- what is due by some packets is the front of what is due by more
-pub due_front : (front : ModulatedFront) (r : Rules) (finished : Bool) (ps qs : List Packet) → (more : List FrameRecord) × (due r finished (ps ++ qs) ≡ due r false ps ++ more)
+pub due_front : (front : ModulatedFront) (r : Rules) (finished : Bool) (ps qs : List Packet) → (more : List FrameRecord)
+    × (due r finished (ps ++ qs) ≡ due r false ps ++ more)
 due_front front r false ps qs = front r ps qs
 due_front front r true ps qs =
     let a = front r ps qs in
@@ -171,18 +193,24 @@ due_front front r true ps qs =
     (a.0 ++ b.0, b.1 ∙ ap (λ (l : List FrameRecord). l ++ b.0) a.1 ∙ append_assoc (without_last (modulated r ps)) a.0 b.0)
 
 -- a record that comes next in a front comes next in the whole
-next_in : (front all given more : List FrameRecord) (x : FrameRecord) → ComesNext front given x → all ≡ front ++ more → ComesNext all given x
-next_in front all given more x n e = (n.0 ++ more, e ∙ ap (λ (l : List FrameRecord). l ++ more) n.1 ∙ append_assoc given (x ∷ n.0) more)
+next_in : (front all given more : List FrameRecord) (x : FrameRecord) → ComesNext front given x → all ≡ front ++ more
+    → ComesNext all given x
+next_in front all given more x n e =
+    (n.0 ++ more, e ∙ ap (λ (l : List FrameRecord). l ++ more) n.1 ∙ append_assoc given (x ∷ n.0) more)
 
 -- the packets that are accepted, from those worked off on
-rest_of : (pid : ℕ) (events : List UnpiperEvent) → packets_of (accepted_of pid (fed events)) ≡ worked pid events ++ packets_of (drop (released events) (accepted_of pid (fed events)))
+rest_of : (pid : ℕ) (events : List UnpiperEvent) → packets_of (accepted_of pid (fed events)) ≡ worked pid events
+    ++ packets_of (drop (released events) (accepted_of pid (fed events)))
 rest_of pid events =
     ap packets_of (sym (take-append-drop (released events) (accepted_of pid (fed events))))
-    ∙ map-append (λ (a : AcceptedPacket). packet_of a.bytes) (take (released events) (accepted_of pid (fed events))) (drop (released events) (accepted_of pid (fed events)))
+    ∙ map-append (λ (a : AcceptedPacket). packet_of a.bytes) (take (released events) (accepted_of pid (fed events)))
+    (drop (released events) (accepted_of pid (fed events)))
 
 -- no record waits, nor a packet: all that are due were given
-pub all_given : (laws : RecordsAreDue) (Holds : Option Group → Type 0) (key : Option Key) (r : Rules) (at : Progress) (u : Unpiper) (finished : Bool) (pid : ℕ) (bytes : List ℕ) (given : List FrameRecord)
-    → HasKey Holds key → ((pid : ℕ) (events : List UnpiperEvent) → UnpiperStandsFor u pid events → AllReleased pid events) → (finished ≡ true → at.closing ≡ false → is_some key ≡ false) → waits at ≡ false
+pub all_given : (laws : RecordsAreDue) (Holds : Option Group → Type 0) (key : Option Key) (r : Rules) (at : Progress)
+    (u : Unpiper) (finished : Bool) (pid : ℕ) (bytes : List ℕ) (given : List FrameRecord)
+    → HasKey Holds key → ((pid : ℕ) (events : List UnpiperEvent) → UnpiperStandsFor u pid events → AllReleased pid events)
+    → (finished ≡ true → at.closing ≡ false → is_some key ≡ false) → waits at ≡ false
     → Stands Holds key r at u finished pid bytes given → due_by r finished pid bytes ≡ given
 all_given laws Holds key r at u finished pid bytes given has none end w h = go finished at.closing refl refl
   where
@@ -190,21 +218,30 @@ all_given laws Holds key r at u finished pid bytes given has none end w h = go f
     law = the_law laws Holds r at (worked pid h.events) given h.keeps
 
     all : packets_of (accepted_of pid bytes) ≡ worked pid h.events
-    all = ap (λ (l : List ℕ). packets_of (accepted_of pid l)) (sym h.fed_is) ∙ sym (all_worked pid h.events (none pid h.events h.stands))
+    all = ap (λ (l : List ℕ). packets_of (accepted_of pid l)) (sym h.fed_is)
+        ∙ sym (all_worked pid h.events (none pid h.events h.stands))
 
     go : (f c : Bool) → finished ≡ f → at.closing ≡ c → due_by r finished pid bytes ≡ given
     go true true e k = ap₂ (λ (t : Bool) (ps : List Packet). due r t ps) (e ∙ sym k) all ∙ law.idle w
-    go true false e k = ap₂ (λ (t : Bool) (ps : List Packet). due r t ps) e all ∙ law.none (none_of h.keeps.group key (has h.keeps.group h.keeps.holds) (end e k))
+    go true false e k = ap₂ (λ (t : Bool) (ps : List Packet). due r t ps) e all
+        ∙ law.none (none_of h.keeps.group key (has h.keeps.group h.keeps.holds) (end e k))
     go false false e k = ap₂ (λ (t : Bool) (ps : List Packet). due r t ps) (e ∙ sym k) all ∙ law.idle w
-    go false true e k = absurd (not_closing Holds key r at u pid bytes given (subst (λ (f : Bool). Stands Holds key r at u f pid bytes given) e h) (none_in e) k)
+    go false true e k =
+        absurd (not_closing Holds key r at u pid bytes given (subst (λ (f : Bool). Stands Holds key r at u f pid bytes given) e h)
+        (none_in e) k)
       where
-        none_in : (e : finished ≡ false) → AllReleased pid (subst (λ (f : Bool). Stands Holds key r at u f pid bytes given) e h).events
+        none_in : (e : finished ≡ false)
+            → AllReleased pid (subst (λ (f : Bool). Stands Holds key r at u f pid bytes given) e h).events
         none_in e = none pid _ (subst (λ (f : Bool). Stands Holds key r at u f pid bytes given) e h).stands
 
 -- the record that waits comes next of all that are due
-pub comes_next : (laws : RecordsAreDue) (front : ModulatedFront) (Holds : Option Group → Type 0) (key : Option Key) (r : Rules) (at : Progress) (u : Unpiper) (finished : Bool) (pid : ℕ) (bytes : List ℕ) (given : List FrameRecord) (w : Waiting) (group : Group)
-    → HasKey Holds key → (is_ready u ≡ false → (pid : ℕ) (events : List UnpiperEvent) → UnpiperStandsFor u pid events → AllReleased pid events) → waiting_of at ≡ Some w
-    → (h : Stands Holds key r at u finished pid bytes given) → h.keeps.group ≡ Some group → ComesNext (due_by r finished pid bytes) given (record_of group w)
+pub comes_next : (laws : RecordsAreDue) (front : ModulatedFront) (Holds : Option Group → Type 0) (key : Option Key) (r : Rules)
+    (at : Progress) (u : Unpiper) (finished : Bool) (pid : ℕ) (bytes : List ℕ) (given : List FrameRecord) (w : Waiting)
+    (group : Group)
+    → HasKey Holds key → (is_ready u ≡ false → (pid : ℕ) (events : List UnpiperEvent) → UnpiperStandsFor u pid events
+    → AllReleased pid events) → waiting_of at ≡ Some w
+    → (h : Stands Holds key r at u finished pid bytes given) → h.keeps.group ≡ Some group
+    → ComesNext (due_by r finished pid bytes) given (record_of group w)
 comes_next laws front Holds key r at u finished pid bytes given w group has none is h gs = go at.closing refl
   where
     law : DueLaw r h.keeps.group at (worked pid h.events) given
@@ -219,39 +256,53 @@ comes_next laws front Holds key r at u finished pid bytes given w group has none
     fed_packets_of : packets_of (accepted_of pid bytes) ≡ packets_of (accepted_of pid (fed h.events))
     fed_packets_of = ap (λ (l : List ℕ). packets_of (accepted_of pid l)) (sym h.fed_is)
 
-    next_by : (ps qs : List Packet) (all more : List FrameRecord) (x : FrameRecord) → packets_of (accepted_of pid bytes) ≡ ps ++ qs → due r false ps ≡ all ++ more → ComesNext all given x → ComesNext (due_by r finished pid bytes) given x
+    next_by : (ps qs : List Packet) (all more : List FrameRecord) (x : FrameRecord) → packets_of (accepted_of pid bytes)
+        ≡ ps ++ qs → due r false ps ≡ all ++ more → ComesNext all given x → ComesNext (due_by r finished pid bytes) given x
     next_by ps qs all more x e d n =
         let f = due_front front r finished ps qs in
-        next_in all (due_by r finished pid bytes) given (more ++ f.0) x n (ap (due r finished) e ∙ f.1 ∙ ap (λ (l : List FrameRecord). l ++ f.0) d ∙ append_assoc all more f.0)
+        next_in all (due_by r finished pid bytes) given (more ++ f.0) x n
+        (ap (due r finished) e ∙ f.1 ∙ ap (λ (l : List FrameRecord). l ++ f.0) d ∙ append_assoc all more f.0)
 
     go : (c : Bool) → at.closing ≡ c → ComesNext (due_by r finished pid bytes) given (record_of group w)
     go false c =
         let n = law.under_way c waits_now in
         subst (ComesNext (due_by r finished pid bytes) given) (it n.0 n.1)
-        (next_by (worked pid h.events) _ (due r false (worked pid h.events)) [] n.0 (fed_packets_of ∙ rest_of pid h.events) (sym (append-nil (due r false (worked pid h.events)))) n.2)
+        (next_by (worked pid h.events) _ (due r false (worked pid h.events)) [] n.0 (fed_packets_of ∙ rest_of pid h.events)
+        (sym (append-nil (due r false (worked pid h.events)))) n.2)
     go true c =
         let n = law.ended c waits_now in
         subst (ComesNext (due_by r finished pid bytes) given) (it n.0 n.1)
         (⊎_elim
         (λ (x : (a : AcceptedPacket) × (next_packet pid h.events ≡ Some a) × Ends r key (packet_of a.bytes)).
         let t = take_next (accepted_of pid (fed h.events)) (released h.events) x.0 x.1 in
-        let e : packets_of (accepted_of pid bytes) ≡ (worked pid h.events ++ packet_of x.0.bytes ∷ []) ++ packets_of (drop (suc (released h.events)) (accepted_of pid (fed h.events))) =
-        fed_packets_of ∙ ap packets_of (sym (take-append-drop (suc (released h.events)) (accepted_of pid (fed h.events))) ∙ ap (λ (l : List AcceptedPacket). l ++ drop (suc (released h.events)) (accepted_of pid (fed h.events))) t.0)
-        ∙ map-append (λ (a : AcceptedPacket). packet_of a.bytes) (take (released h.events) (accepted_of pid (fed h.events)) ++ x.0 ∷ []) (drop (suc (released h.events)) (accepted_of pid (fed h.events)))
-        ∙ ap (λ (l : List Packet). l ++ packets_of (drop (suc (released h.events)) (accepted_of pid (fed h.events)))) (map-append (λ (a : AcceptedPacket). packet_of a.bytes) (take (released h.events) (accepted_of pid (fed h.events))) (x.0 ∷ [])) in
-        let d = law.closed c (packet_of x.0.bytes) (subst (λ (o : Option Key). Ends r o (packet_of x.0.bytes)) (sym (has h.keeps.group h.keeps.holds)) x.2) in
+        let e : packets_of (accepted_of pid bytes) ≡ (worked pid h.events ++ packet_of x.0.bytes ∷ [])
+        ++ packets_of (drop (suc (released h.events)) (accepted_of pid (fed h.events))) =
+        fed_packets_of ∙ ap packets_of (sym (take-append-drop (suc (released h.events)) (accepted_of pid (fed h.events)))
+        ∙ ap (λ (l : List AcceptedPacket). l ++ drop (suc (released h.events)) (accepted_of pid (fed h.events))) t.0)
+        ∙ map-append (λ (a : AcceptedPacket). packet_of a.bytes) (take (released h.events) (accepted_of pid (fed h.events)) ++ x.0
+        ∷ []) (drop (suc (released h.events)) (accepted_of pid (fed h.events)))
+        ∙ ap (λ (l : List Packet). l ++ packets_of (drop (suc (released h.events)) (accepted_of pid (fed h.events))))
+        (map-append (λ (a : AcceptedPacket). packet_of a.bytes) (take (released h.events) (accepted_of pid (fed h.events)))
+        (x.0 ∷ [])) in
+        let d = law.closed c (packet_of x.0.bytes)
+        (subst (λ (o : Option Key). Ends r o (packet_of x.0.bytes)) (sym (has h.keeps.group h.keeps.holds)) x.2) in
         next_by (worked pid h.events ++ packet_of x.0.bytes ∷ []) _ (due r true (worked pid h.events)) d.0 n.0 e d.1 n.2)
         (λ (x : (finished ≡ true) × (is_ready u ≡ false)).
         let all = fed_packets_of ∙ sym (all_worked pid h.events (none x.1 pid h.events h.stands)) in
-        let e : due_by r finished pid bytes ≡ due r true (worked pid h.events) = ap₂ (λ (t : Bool) (ps : List Packet). due r t ps) x.0 all in
+        let e : due_by r finished pid bytes ≡ due r true (worked pid h.events) =
+        ap₂ (λ (t : Bool) (ps : List Packet). due r t ps) x.0 all in
         (n.2.0, e ∙ n.2.1))
         (h.ahead c))
 
 -- a record was given
-pub record_gave : (laws : RecordsAreDue) (Old New : Option Group → Type 0) (key other : Option Key) (r s : Rules) (at to : Progress) (u : Unpiper) (finished : Bool) (pid : ℕ) (bytes : List ℕ) (given : List FrameRecord) (w : Waiting) (group : Group)
+pub record_gave : (laws : RecordsAreDue) (Old New : Option Group → Type 0) (key other : Option Key) (r s : Rules)
+    (at to : Progress) (u : Unpiper) (finished : Bool) (pid : ℕ) (bytes : List ℕ) (given : List FrameRecord) (w : Waiting)
+    (group : Group)
     → waiting_of at ≡ Some w → other ≡ key → s ≡ r → to.closing ≡ at.closing
-    → ((ps : List Packet) (given : List FrameRecord) (x : FrameRecord) (k : Keeps Old r at ps given) → record_now r k.group at.number at.next ≡ Some x → Keeps New s to ps (given ++ x ∷ []))
-    → (h : Stands Old key r at u finished pid bytes given) → h.keeps.group ≡ Some group → Stands New other s to u finished pid bytes (given ++ record_of group w ∷ [])
+    → ((ps : List Packet) (given : List FrameRecord) (x : FrameRecord) (k : Keeps Old r at ps given)
+    → record_now r k.group at.number at.next ≡ Some x → Keeps New s to ps (given ++ x ∷ []))
+    → (h : Stands Old key r at u finished pid bytes given) → h.keeps.group ≡ Some group
+    → Stands New other s to u finished pid bytes (given ++ record_of group w ∷ [])
 record_gave laws Old New key other r s at to u finished pid bytes given w group is same rules closing gave h gs =
     let law = the_law laws Old r at (worked pid h.events) given h.keeps in
     record {
@@ -260,11 +311,13 @@ record_gave laws Old New key other r s at to u finished pid bytes given w group 
       fed_is = h.fed_is;
       few = h.few;
       keeps = gave (worked pid h.events) given (record_of group w) h.keeps (law.told group gs w is);
-      ahead = λ c. subst (λ (o : Option Key). IsAhead s o u finished pid h.events) (sym same) (subst (λ (s : Rules). IsAhead s key u finished pid h.events) (sym rules) (h.ahead (sym closing ∙ c)));
+      ahead = λ c. subst (λ (o : Option Key). IsAhead s o u finished pid h.events) (sym same)
+          (subst (λ (s : Rules). IsAhead s key u finished pid h.events) (sym rules) (h.ahead (sym closing ∙ c)));
     }
 
 -- no more bytes come
-pub no_more : (Holds : Option Group → Type 0) (key : Option Key) (r : Rules) (at : Progress) (u : Unpiper) (pid : ℕ) (bytes : List ℕ) (given : List FrameRecord)
+pub no_more : (Holds : Option Group → Type 0) (key : Option Key) (r : Rules) (at : Progress) (u : Unpiper) (pid : ℕ)
+    (bytes : List ℕ) (given : List FrameRecord)
     → Stands Holds key r at u false pid bytes given → Stands Holds key r at u true pid bytes given
 no_more Holds key r at u pid bytes given h = record {
   events = h.events;
@@ -279,7 +332,8 @@ no_more Holds key r at u pid bytes given h = record {
 }
 
 -- the last group is closed
-pub last_closed : (Old New : Option Group → Type 0) (key other : Option Key) (r s : Rules) (at to : Progress) (u : Unpiper) (pid : ℕ) (bytes : List ℕ) (given : List FrameRecord)
+pub last_closed : (Old New : Option Group → Type 0) (key other : Option Key) (r s : Rules) (at to : Progress) (u : Unpiper)
+    (pid : ℕ) (bytes : List ℕ) (given : List FrameRecord)
     → is_ready u ≡ false → ((ps : List Packet) (given : List FrameRecord) → Keeps Old r at ps given → Keeps New s to ps given)
     → Stands Old key r at u true pid bytes given → Stands New other s to u true pid bytes given
 last_closed Old New key other r s at to u pid bytes given idle close h = record {
@@ -300,11 +354,14 @@ none_from None P h = h refl
 none_from (Some x) P h = tt
 
 -- more bytes of a piece were taken
-pub piece_on : (bytes piece : List ℕ) (count more : ℕ) → (bytes ++ take count piece) ++ take more (drop count piece) ≡ bytes ++ take (count + more) piece
-piece_on bytes piece count more = append_assoc bytes (take count piece) (take more (drop count piece)) ∙ ap (λ (l : List ℕ). bytes ++ l) (sym (take-add count more piece))
+pub piece_on : (bytes piece : List ℕ) (count more : ℕ) → (bytes ++ take count piece) ++ take more (drop count piece)
+    ≡ bytes ++ take (count + more) piece
+piece_on bytes piece count more = append_assoc bytes (take count piece) (take more (drop count piece))
+    ∙ ap (λ (l : List ℕ). bytes ++ l) (sym (take-add count more piece))
 
 -- bytes with which no packet was accepted: still all that is due was given
-pub fed_idle : (laws : RecordsAreDue) (front : AcceptedFront) (push : EventsPush) (Holds : Option Group → Type 0) (key : Option Key) (r : Rules) (at : Progress) (u : Unpiper) (pid : ℕ) (bytes piece : List ℕ) (given : List FrameRecord)
+pub fed_idle : (laws : RecordsAreDue) (front : AcceptedFront) (push : EventsPush) (Holds : Option Group → Type 0)
+    (key : Option Key) (r : Rules) (at : Progress) (u : Unpiper) (pid : ℕ) (bytes piece : List ℕ) (given : List FrameRecord)
     → ((pid : ℕ) (events : List UnpiperEvent) → UnpiperStandsFor u pid events → AllReleased pid events)
     → ((pid : ℕ) (events : List UnpiperEvent) → UnpiperStandsFor u pid events → AllReleased pid (events ++ Fed piece ∷ []))
     → waits at ≡ false → Stands Holds key r at u false pid bytes given → due_by r false pid (bytes ++ piece) ≡ given
@@ -315,26 +372,33 @@ fed_idle laws front push Holds key r at u pid bytes piece given none still w h =
     let f = front pid (fed h.events) piece in
     let n = length-append (accepted_of pid (fed h.events)) f.0 in
     let e : length (accepted_of pid (fed h.events) ++ f.0) ≡ length (accepted_of pid (fed h.events)) =
-    ap length (sym f.1) ∙ ap (λ (l : List ℕ). length (accepted_of pid l)) (sym (p.fed_more piece)) ∙ a ∙ p.released_same piece ∙ sym all in
+    ap length (sym f.1) ∙ ap (λ (l : List ℕ). length (accepted_of pid l)) (sym (p.fed_more piece)) ∙ a ∙ p.released_same piece
+    ∙ sym all in
     let z : f.0 ≡ [] = nil_from_length f.0 (omega (arith, n, e)) in
     let same : accepted_of pid (bytes ++ piece) ≡ accepted_of pid (fed h.events) =
-    ap (λ (l : List ℕ). accepted_of pid (l ++ piece)) (sym h.fed_is) ∙ f.1 ∙ ap (λ (l : List AcceptedPacket). accepted_of pid (fed h.events) ++ l) z ∙ append-nil (accepted_of pid (fed h.events)) in
+    ap (λ (l : List ℕ). accepted_of pid (l ++ piece)) (sym h.fed_is) ∙ f.1
+    ∙ ap (λ (l : List AcceptedPacket). accepted_of pid (fed h.events) ++ l) z ∙ append-nil (accepted_of pid (fed h.events)) in
     let law = the_law laws Holds r at (worked pid h.events) given h.keeps in
     ap (λ (l : List AcceptedPacket). due r false (packets_of l)) same ∙ ap (due r false) (sym (all_worked pid h.events all))
-    ∙ ap (λ (t : Bool). due r t (worked pid h.events)) (sym (false_from_ne_true at.closing (λ c. not_closing Holds key r at u pid bytes given h all c))) ∙ law.idle w
+    ∙ ap (λ (t : Bool). due r t (worked pid h.events))
+    (sym (false_from_ne_true at.closing (λ c. not_closing Holds key r at u pid bytes given h all c))) ∙ law.idle w
 
 -- a front of the bytes taken, in the loop
-pub front_on : (r s : Rules) (pid : ℕ) (bytes piece : List ℕ) (given : List FrameRecord) (count more k : ℕ) → s ≡ r → count ≤ length piece
+pub front_on : (r s : Rules) (pid : ℕ) (bytes piece : List ℕ) (given : List FrameRecord) (count more k : ℕ) → s ≡ r
+    → count ≤ length piece
     → ((k : ℕ) → k < count → due_by r false pid (bytes ++ take k piece) ≡ given)
-    → ((j : ℕ) → j < more → due_by s false pid ((bytes ++ take count piece) ++ take j (take (length piece - count) (drop count piece))) ≡ given)
+    → ((j : ℕ) → j < more
+    → due_by s false pid ((bytes ++ take count piece) ++ take j (take (length piece - count) (drop count piece))) ≡ given)
     → k < count + more → due_by r false pid (bytes ++ take k piece) ≡ given
 front_on r s pid bytes piece given count more k same inside before here l = ⊎_elim
     (λ (a : k < count). before k a)
     (λ (a : count ≤ k).
     let e : count + (k - count) ≡ k = omega (arith, a) in
     let j = here (k - count) (omega (arith, a, l)) in
-    let o : (bytes ++ take count piece) ++ take (k - count) (take (length piece - count) (drop count piece)) ≡ bytes ++ take k piece =
-    ap (λ (l : List ℕ). (bytes ++ take count piece) ++ take (k - count) l) (take_rest piece count) ∙ piece_on bytes piece count (k - count) ∙ ap (λ (n : ℕ). bytes ++ take n piece) e in
+    let o : (bytes ++ take count piece) ++ take (k - count) (take (length piece - count) (drop count piece))
+    ≡ bytes ++ take k piece =
+    ap (λ (l : List ℕ). (bytes ++ take count piece) ++ take (k - count) l) (take_rest piece count)
+    ∙ piece_on bytes piece count (k - count) ∙ ap (λ (n : ℕ). bytes ++ take n piece) e in
     ap₂ (λ (r : Rules) (l : List ℕ). due_by r false pid l) (sym same) (sym o) ∙ j)
     (cases_lt k count)
 

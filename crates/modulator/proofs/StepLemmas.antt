@@ -14,7 +14,9 @@ pub most : (u : Unpiper) → steps_left u ≤ most_steps
 most u = let f = few (is_ready u) in omega (arith, f)
 
 -- a packet was given up
-pub fewer : (u v : Unpiper) → is_ready u ≡ true → ((unit_place u < unit_place v) ⊎ ((unit_place v ≡ unit_place u) × (is_ready v ≡ false))) → unit_place v ≤ SIZE → steps_left v < steps_left u
+pub fewer : (u v : Unpiper) → is_ready u ≡ true
+    → ((unit_place u < unit_place v) ⊎ ((unit_place v ≡ unit_place u) × (is_ready v ≡ false))) → unit_place v ≤ SIZE
+    → steps_left v < steps_left u
 fewer u v ready less inside =
     let one : ◌≡◌ {A = ℕ} (cond (is_ready u) 1 0) 1 = ap (λ (t : Bool). cond t 1 0) ready in
     ⊎_elim
@@ -26,5 +28,6 @@ fewer u v ready less inside =
     less
 
 -- the number of a group that began as a packet was given up
-pub risen : (m k n : ℕ) → k < m → m ≤ most_steps → n ≤ 2 ^ 31 + greatest_step * (most_steps + 1 - m) + greatest_step → n ≤ 2 ^ 31 + greatest_step * (most_steps + 1 - k)
+pub risen : (m k n : ℕ) → k < m → m ≤ most_steps → n ≤ 2 ^ 31 + greatest_step * (most_steps + 1 - m) + greatest_step
+    → n ≤ 2 ^ 31 + greatest_step * (most_steps + 1 - k)
 risen m k n less top h = omega (arith, less, top, h)

@@ -35,10 +35,12 @@ worked pid events = packets_of (take (released events) (accepted_of pid (fed eve
 -- The packet that waits closed the group; or none waits, at the end.
 abbrev pub IsAhead : Rules → Option Key → Unpiper → Bool → ℕ → List UnpiperEvent → Type 0
 IsAhead r key u finished pid events =
-    ((a : AcceptedPacket) × (next_packet pid events ≡ Some a) × Ends r key (packet_of a.bytes)) ⊎ ((finished ≡ true) × (is_ready u ≡ false))
+    ((a : AcceptedPacket) × (next_packet pid events ≡ Some a) × Ends r key (packet_of a.bytes))
+    ⊎ ((finished ≡ true) × (is_ready u ≡ false))
 
 -- Bytes were fed, and perhaps no more come; records were given.
-pub record Stands (Holds : Option Group → Type 0) (key : Option Key) (r : Rules) (at : Progress) (u : Unpiper) (finished : Bool) (pid : ℕ) (bytes : List ℕ) (given : List FrameRecord) : Type 0 where
+pub record Stands (Holds : Option Group → Type 0) (key : Option Key) (r : Rules) (at : Progress) (u : Unpiper) (finished : Bool)
+    (pid : ℕ) (bytes : List ℕ) (given : List FrameRecord) : Type 0 where
   pub events : List UnpiperEvent
   pub stands : UnpiperStandsFor u pid events
   pub fed_is : fed events ≡ bytes
@@ -50,7 +52,7 @@ pub record Stands (Holds : Option Group → Type 0) (key : Option Key) (r : Rule
 abbrev pub most_steps : ℕ
 most_steps = 2 * SIZE + 1
 
--- the most records that can be given before more bytes come: those that are left of the group under way, and those of a group for each
--- step that is left in the unit
+-- the most records that can be given before more bytes come: those that are left of the group under way, and those of a group for
+-- each step that is left in the unit
 unfoldable pub records_ahead : Unpiper → Progress → ℕ
 records_ahead u at = steps_left u * most_records + records_left at

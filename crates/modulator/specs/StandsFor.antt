@@ -1,5 +1,6 @@
 -- What a `Modulator` stands for.
-use Rattle.std.specs.Prelude.{◌≡◌, ℕ, ◌+◌, ◌*◌, ◌<◌, ◌≤◌, Bool, List, ◌++◌, ◌∷◌, length, Option, Some, None, flat_map, if◌then◌else◌}
+use Rattle.std.specs.Prelude.{◌≡◌, ℕ, ◌+◌, ◌*◌, ◌<◌, ◌≤◌, Bool, List, ◌++◌, ◌∷◌, length, Option, Some, None, flat_map}
+use Rattle.std.specs.Prelude.{if◌then◌else◌}
 use Rattle.plp_config.specs.declared.config.Config.{Config}
 use Rattle.t2mi_stream.specs.Units.{accepted_of}
 use Rattle.t2mi_stream.specs.UnpiperStandsFor.{fed_len}
@@ -53,8 +54,10 @@ left_of m = records_ahead m.inner.unpiper m.inner.sequence.progress * most_left 
 -- These bytes were fed, and these bytes of the records were taken.
 unfoldable pub ModulatorStandsFor : Modulator → List ℕ → List ℕ → Type 0
 ModulatorStandsFor m bytes taken =
-    Gives (Holds m.inner.sequence.group) m.inner.sequence.group.key (rules m.inner.sequence.group.network) (spelled m.inner.sequence.group.network)
-    m.inner.sequence.progress (bytes_left m.inner.sequence.group) m.inner.unpiper m.inner.finished m.inner.sequence.group.network.pid bytes taken
+    Gives (Holds m.inner.sequence.group) m.inner.sequence.group.key (rules m.inner.sequence.group.network)
+    (spelled m.inner.sequence.group.network)
+    m.inner.sequence.progress (bytes_left m.inner.sequence.group) m.inner.unpiper m.inner.finished
+    m.inner.sequence.group.network.pid bytes taken
 
 -- why a record is muted, if it is
 abbrev pub mute_of : Content → Option MuteCause

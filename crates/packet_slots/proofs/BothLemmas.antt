@@ -1,5 +1,6 @@
 -- The window shows what the assembler found.
-use Rattle.std.proofs.Common.{◌≡◌, ℕ, ◌+◌, ◌-◌, ◌*◌, ◌^◌, ◌<◌, Bool, true, false, List, [], ◌∷◌, ◌++◌, take, Option, Some, None, ap, ap₂, ◌∙◌, sym, subst, arith, inl, inr, append-nil, cond}
+use Rattle.std.proofs.Common.{◌≡◌, ℕ, ◌+◌, ◌-◌, ◌*◌, ◌^◌, ◌<◌, Bool, true, false, List, [], ◌∷◌, ◌++◌, take, Option, Some, None}
+use Rattle.std.proofs.Common.{ap, ap₂, ◌∙◌, sym, subst, arith, inl, inr, append-nil, cond}
 use Rattle.std.specs.Prelude.{nat_lt, nat_le, if◌then◌else◌}
 use Rattle.std.proofs.lemmas.List.{take-take}
 use Rattle.std.proofs.lemmas.Bool.{cases_lt, lt-ltb, le-ltb, and_parts, ltb-true}
@@ -18,11 +19,15 @@ use Rattle.packet_slots.specs.Filling.{filled}
 use Rattle.packet_slots.specs.Holds.{Shows}
 use Rattle.packet_slots.proofs.WindowLemmas.{nothing_found, not_counted, put_in, too_late, same_test}
 
-module _ (r : SlotRule) (sound : IsSound r) (z piece : List Item) (frame first end : ℕ) (slots : List (Option (List ℕ))) (shows : Shows r z first end slots) (held : List ℕ) where
+module _ (r : SlotRule) (sound : IsSound r) (z piece : List Item) (frame first end : ℕ) (slots : List (Option (List ℕ)))
+    (shows : Shows r z first end slots) (held : List ℕ) where
   pub gain_none : Gains r z frame piece held None → Shows r (z ++ piece) first end slots
-  gain_none g = nothing_found r z (z ++ piece) first end slots (g.packets ∙ ap (λ (l : List UserPacket). user_packets r z ++ l) g.gives ∙ append-nil (user_packets r z)) shows
+  gain_none g =
+      nothing_found r z (z ++ piece) first end slots (g.packets ∙ ap (λ (l : List UserPacket). user_packets r z ++ l) g.gives
+      ∙ append-nil (user_packets r z)) shows
 
-  module _ (found : Found) (delay : ℕ) (late : delay ≡ delay_of r) (near : over_after r found.frame < 2 ^ 53) (g : Gains r z frame piece held (Some found)) where
+  module _ (found : Found) (delay : ℕ) (late : delay ≡ delay_of r) (near : over_after r found.frame < 2 ^ 53)
+      (g : Gains r z frame piece held (Some found)) where
     abbrev up : UserPacket
     up = g.gives.0
 
@@ -44,33 +49,45 @@ module _ (r : SlotRule) (sound : IsSound r) (z piece : List Item) (frame first e
     packet_is : packet_of held ≡ packet_of (values up.items)
     packet_is =
         let u = sound.up in
-        ap (λ (l : List ℕ). SYNC ∷ l) (sym (take-take (SIZE - 1) r.up_len held (omega (arith, u))) ∙ ap (take (SIZE - 1)) is.bytes)
+        ap (λ (l : List ℕ). SYNC ∷ l) (sym (take-take (SIZE - 1) r.up_len held (omega (arith, u)))
+        ∙ ap (take (SIZE - 1)) is.bytes)
 
     pub gain_put : counts_by r delay found.slot found.frame frame ≡ true → (new : List (Option (List ℕ)))
-        → new ≡ (if nat_lt found.slot first then slots else filled slots (found.slot - first) (packet_of held)) → Shows r (z ++ piece) first end new
+        → new ≡ (if nat_lt found.slot first then slots else filled slots (found.slot - first) (packet_of held))
+        → Shows r (z ++ piece) first end new
     gain_put e new n =
         let counted : counts r up ≡ true = sym same ∙ e in
         let below : found.slot < over_after r found.frame =
-        ltb-true _ _ (and_parts (nat_lt found.slot (over_after r found.frame)) (nat_lt (frame * r.ticks) (slot_start r.num r.den found.slot + delay))
+        ltb-true _ _
+        (and_parts (nat_lt found.slot (over_after r found.frame))
+        (nat_lt (frame * r.ticks) (slot_start r.num r.den found.slot + delay))
         (and_parts (nat_le (over_after r (found.frame - 1)) found.slot) _ e).1).0 in
         let s = is.slot in
         let slot_is : found.slot ≡ up.slot = omega (arith, s, below, near) in
         elim (cases_lt found.slot first) [
           | inl lt ↦
-              subst (Shows r (z ++ piece) first end) (sym (n ∙ ap (λ (t : Bool). cond {A = List (Option (List ℕ))} t slots (filled slots (found.slot - first) (packet_of held))) (lt-ltb found.slot first lt)))
+              subst (Shows r (z ++ piece) first end)
+              (sym (n ∙ ap
+              (λ (t : Bool). cond {A = List (Option (List ℕ))} t slots (filled slots (found.slot - first) (packet_of held)))
+              (lt-ltb found.slot first lt)))
               (too_late r z (z ++ piece) up gains first end slots counted (omega (arith, slot_is, lt)) shows)
           | inr ge ↦
               subst (Shows r (z ++ piece) first end)
-              (sym (n ∙ ap (λ (t : Bool). cond {A = List (Option (List ℕ))} t slots (filled slots (found.slot - first) (packet_of held))) (le-ltb found.slot first ge)
+              (sym (n ∙ ap
+              (λ (t : Bool). cond {A = List (Option (List ℕ))} t slots (filled slots (found.slot - first) (packet_of held)))
+              (le-ltb found.slot first ge)
               ∙ ap₂ (λ (k : ℕ) (p : List ℕ). filled slots (k - first) p) slot_is packet_is))
               (put_in r z (z ++ piece) up gains first end slots counted (omega (arith, slot_is, ge)) shows)
         ]
 
-pub moved : (r : SlotRule) (z : List Item) (first end new_first new_end : ℕ) (slots : List (Option (List ℕ))) → new_first ≡ first → new_end ≡ end → Shows r z first end slots → Shows r z new_first new_end slots
-moved r z first end new_first new_end slots e f h = subst (λ (n : ℕ). Shows r z n new_end slots) (sym e) (subst (λ (n : ℕ). Shows r z first n slots) (sym f) h)
+pub moved : (r : SlotRule) (z : List Item) (first end new_first new_end : ℕ) (slots : List (Option (List ℕ))) → new_first ≡ first
+    → new_end ≡ end → Shows r z first end slots → Shows r z new_first new_end slots
+moved r z first end new_first new_end slots e f h =
+    subst (λ (n : ℕ). Shows r z n new_end slots) (sym e) (subst (λ (n : ℕ). Shows r z first n slots) (sym f) h)
 
 pub near_by : (q r : SlotRule) (frame : ℕ) → q ≡ r → over_after q frame < 2 ^ 53 → over_after r frame < 2 ^ 53
 near_by q r frame e h = subst (λ (x : SlotRule). over_after x frame < 2 ^ 53) e h
 
-pub counts_as : (q r : SlotRule) (delay slot begun ended : ℕ) (c b : Bool) → q ≡ r → c ≡ counts_by q delay slot begun ended → c ≡ b → counts_by r delay slot begun ended ≡ b
+pub counts_as : (q r : SlotRule) (delay slot begun ended : ℕ) (c b : Bool) → q ≡ r → c ≡ counts_by q delay slot begun ended
+    → c ≡ b → counts_by r delay slot begun ended ≡ b
 counts_as q r delay slot begun ended c b e h f = sym (h ∙ ap (λ (x : SlotRule). counts_by x delay slot begun ended) e) ∙ f

@@ -1,5 +1,7 @@
 -- What an assembler keeps is the machine's state, piece by piece.
-use Rattle.std.proofs.Common.{◌≡◌, ℕ, suc, ◌+◌, ◌-◌, ◌^◌, ◌<◌, ◌≤◌, ◌==◌, ◌&&◌, Bool, true, false, List, [], ◌∷◌, ◌++◌, length, take, get_or, Option, Some, None, refl, ap, ap₂, ◌∙◌, sym, subst, arith, length-append, cond, eq-eqb}
+use Rattle.std.proofs.Common.{◌≡◌, ℕ, suc, ◌+◌, ◌-◌, ◌^◌, ◌<◌, ◌≤◌, ◌==◌, ◌&&◌, Bool, true, false, List, [], ◌∷◌, ◌++◌, length}
+use Rattle.std.proofs.Common.{take, get_or, Option, Some, None, refl, ap, ap₂, ◌∙◌, sym, subst, arith, length-append, cond}
+use Rattle.std.proofs.Common.{eq-eqb}
 use Rattle.std.specs.Prelude.{min, option_map, if◌then◌else◌, IfSome}
 use Rattle.std.proofs.lemmas.List.{get_or-take}
 use Rattle.std.proofs.lemmas.Bool.{both_ways, false_from_ne_true, eqb-true}
@@ -10,7 +12,8 @@ use Rattle.packet_slots.specs.declared.assembler.Base.{Base}
 use Rattle.packet_slots.specs.declared.assembler.Found.{Found}
 use Rattle.packet_slots.specs.Sound.{IsSound}
 use Rattle.packet_slots.specs.Strings.{Item, values, is_start, is_inside}
-use Rattle.packet_slots.specs.Packets.{UserPacket, is_one, all_inside, last_item, last_of, no_item, first_item, dnp_of, slot_by, slot_of, with_slot, user_packets}
+use Rattle.packet_slots.specs.Packets.{UserPacket, is_one, all_inside, last_item, last_of, no_item, first_item, dnp_of, slot_by}
+use Rattle.packet_slots.specs.Packets.{slot_of, with_slot, user_packets}
 use Rattle.packet_slots.specs.Machine.{State, Turn, state_of, turn_of, before_next, ended, given, Follows}
 use Rattle.packet_slots.specs.Pieces.{item, piece_items, piece_grown, piece_inside, piece_turn}
 use Rattle.packet_slots.specs.Base.{far, capped, slot_with, IsBase, Holds, next_len, is_idle}
@@ -86,7 +89,8 @@ cap_near None h = refl
 cap_near (Some k) h = let e : k ≡ min k far = omega arith in ap (λ (n : ℕ). Some n) e
 
 -- the bytes of a user packet with those of the piece
-pub record Joined (r : SlotRule) (s : State) (len : ℕ) (held : List ℕ) (kept : Base) (mark : Mark) (frame : ℕ) (bytes : List ℕ) (w : List Item) (before : Option ℕ) : Type 0 where
+pub record Joined (r : SlotRule) (s : State) (len : ℕ) (held : List ℕ) (kept : Base) (mark : Mark) (frame : ℕ) (bytes : List ℕ)
+    (w : List Item) (before : Option ℕ) : Type 0 where
   pub turn : piece_turn r s mark (piece_items mark frame bytes) ≡ piece_grown r w before
   pub size : length w ≡ next_len len mark + length bytes
   pub values_are : values w ≡ take (next_len len mark) held ++ bytes
@@ -94,13 +98,15 @@ pub record Joined (r : SlotRule) (s : State) (len : ℕ) (held : List ℕ) (kept
   pub one : is_one w ≡ true
   pub last : IsLast frame (last_item w)
 
-pub record IsJoined (r : SlotRule) (s : State) (len : ℕ) (held : List ℕ) (kept : Base) (mark : Mark) (frame : ℕ) (bytes : List ℕ) : Type 0 where
+pub record IsJoined (r : SlotRule) (s : State) (len : ℕ) (held : List ℕ) (kept : Base) (mark : Mark) (frame : ℕ)
+    (bytes : List ℕ) : Type 0 where
   pub w : List Item
   pub before : Option ℕ
   pub joined : Joined r s len held kept mark frame bytes w before
 
 module _ (r : SlotRule) (sound : IsSound r) (z : List Item) (frame v : ℕ) (vs : List ℕ) where
-  goes_on : (hs : List Item) (before : Option ℕ) (len : ℕ) (held : List ℕ) (kept : Base) → Follows r z (state_of hs before) → Holds r (state_of hs before) len held kept
+  goes_on : (hs : List Item) (before : Option ℕ) (len : ℕ) (held : List ℕ) (kept : Base) → Follows r z (state_of hs before)
+      → Holds r (state_of hs before) len held kept
       → (len == 0) ≡ false → IsJoined r (state_of hs before) len held kept Inside frame (v ∷ vs)
   goes_on [] before len held kept f h e = absurd (both_ways _ e (eq-eqb len 0 h.count))
   goes_on (y ∷ ys) before len held kept f h e =
@@ -112,14 +118,17 @@ module _ (r : SlotRule) (sound : IsSound r) (z : List Item) (frame v : ℕ) (vs 
         joined = record {
           turn = refl;
           size = ap suc (length-append ys p) ∙ omega (arith, h.count, piece_length Inside frame (v ∷ vs));
-          values_are = map-append (λ (x : Item). x.value) (y ∷ ys) p ∙ ap₂ (λ (a b : List ℕ). a ++ b) (sym h.bytes) (piece_values Inside frame (v ∷ vs));
+          values_are = map-append (λ (x : Item). x.value) (y ∷ ys) p ∙ ap₂ (λ (a b : List ℕ). a ++ b) (sym h.bytes)
+              (piece_values Inside frame (v ∷ vs));
           base = h.base;
           one = one_append (y ∷ ys) p f.begins (all_piece frame (v ∷ vs));
           last = subst (IsLast frame) (sym (last_append no_item (y ∷ ys) p no_item some)) (piece_last no_item Inside frame v vs);
         };
       }
 
-  first_is : (m : Mark) (before : Option ℕ) (kept : Base) → kept.frame ≡ frame → ((dnp : ℕ) → slot_with kept dnp ≡ capped (slot_by r m frame dnp before)) → IsBase r (piece_items m frame (v ∷ vs)) before kept
+  first_is : (m : Mark) (before : Option ℕ) (kept : Base) → kept.frame ≡ frame
+      → ((dnp : ℕ) → slot_with kept dnp ≡ capped (slot_by r m frame dnp before))
+      → IsBase r (piece_items m frame (v ∷ vs)) before kept
   first_is m before kept e h = go vs
     where
       go : (us : List ℕ) → IsBase r (piece_items m frame (v ∷ us)) before kept
@@ -127,7 +136,8 @@ module _ (r : SlotRule) (sound : IsSound r) (z : List Item) (frame v : ℕ) (vs 
       go (u ∷ us) = (e, h)
 
   begins : (m : Mark) (s : State) (len : ℕ) (held : List ℕ) (kept : Base) → is_start m ≡ true → next_len len m ≡ 0
-      → piece_turn r s m (piece_items m frame (v ∷ vs)) ≡ piece_grown r (piece_items m frame (v ∷ vs)) (before_next s.held s.before)
+      → piece_turn r s m (piece_items m frame (v ∷ vs)) ≡ piece_grown r (piece_items m frame (v ∷ vs))
+      (before_next s.held s.before)
       → IsBase r (piece_items m frame (v ∷ vs)) (before_next s.held s.before) (next_base r len kept m frame)
       → IsJoined r s len held kept m frame (v ∷ vs)
   begins m s len held kept st e t b = record {
@@ -143,36 +153,46 @@ module _ (r : SlotRule) (sound : IsSound r) (z : List Item) (frame v : ℕ) (vs 
     };
   }
 
-  before_is : (hs : List Item) (before : Option ℕ) (len : ℕ) (held : List ℕ) (kept : Base) → Holds r (state_of hs before) len held kept
+  before_is : (hs : List Item) (before : Option ℕ) (len : ℕ) (held : List ℕ) (kept : Base)
+      → Holds r (state_of hs before) len held kept
       → (if len == 0 then kept.slot else None) ≡ capped (before_next hs before)
   before_is [] before len held kept h = ap (λ (b : Bool). cond {A = Option ℕ} b kept.slot None) (eq-eqb len 0 h.count) ∙ h.base
-  before_is (y ∷ ys) before len held kept h = ap (λ (b : Bool). cond {A = Option ℕ} b kept.slot None) (false_from_ne_true _ (λ (t : (len == 0) ≡ true). omega (arith, eqb-true len 0 t, h.count)))
+  before_is (y ∷ ys) before len held kept h =
+      ap (λ (b : Bool). cond {A = Option ℕ} b kept.slot None)
+      (false_from_ne_true _ (λ (t : (len == 0) ≡ true). omega (arith, eqb-true len 0 t, h.count)))
 
-  pub joined : (mark : Mark) (s : State) (len : ℕ) (held : List ℕ) (kept : Base) → Follows r z s → Holds r s len held kept → IsFrame frame mark
-      → IfSome (next_base r len kept mark frame).slot (λ k. k ≤ 2 ^ 53) → is_idle len mark ≡ false → IsJoined r s len held kept mark frame (v ∷ vs)
+  pub joined : (mark : Mark) (s : State) (len : ℕ) (held : List ℕ) (kept : Base) → Follows r z s → Holds r s len held kept
+      → IsFrame frame mark
+      → IfSome (next_base r len kept mark frame).slot (λ k. k ≤ 2 ^ 53) → is_idle len mark ≡ false
+      → IsJoined r s len held kept mark frame (v ∷ vs)
   joined Gap s len held kept f h is near e = elim is [ ]
   joined Inside s len held kept f h is near e = goes_on s.held s.before len held kept f h e
   joined Next s len held kept f h is near e =
       begins Next s len held kept refl refl refl
       (first_is Next (before_next s.held s.before) (next_base r len kept Next frame) refl
-      (λ dnp. ap (option_map (λ k. min (k + 1 + dnp) far)) (before_is s.held s.before len held kept h) ∙ cap_next dnp (before_next s.held s.before)))
+      (λ dnp. ap (option_map (λ k. min (k + 1 + dnp) far)) (before_is s.held s.before len held kept h)
+      ∙ cap_next dnp (before_next s.held s.before)))
   joined (Timed iscr) s len held kept f h is near e =
       begins (Timed iscr) s len held kept refl refl refl
-      (first_is (Timed iscr) (before_next s.held s.before) (next_base r len kept (Timed iscr) frame) refl (λ dnp. cap_near _ near))
+      (first_is (Timed iscr) (before_next s.held s.before) (next_base r len kept (Timed iscr) frame) refl
+      (λ dnp. cap_near _ near))
 
-  -- where nothing is held, a piece without a start changes nothing
-  pub idles : (mark : Mark) (s : State) (len : ℕ) (held : List ℕ) (kept : Base) → Holds r s len held kept → is_idle len mark ≡ true
+  -- if nothing is held, a piece without a start changes nothing
+  pub idles : (mark : Mark) (s : State) (len : ℕ) (held : List ℕ) (kept : Base) → Holds r s len held kept
+      → is_idle len mark ≡ true
       → piece_turn r s mark (piece_items mark frame (v ∷ vs)) ≡ turn_of (state_of [] None) []
   idles Gap s len held kept h e = refl
   idles Inside s len held kept h e = go s.held (omega (arith, h.count, eqb-true len 0 e))
     where
-      go : (hs : List Item) → length hs ≡ 0 → piece_inside r hs s.before (piece_items Inside frame (v ∷ vs)) ≡ turn_of (state_of [] None) []
+      go : (hs : List Item) → length hs ≡ 0 → piece_inside r hs s.before (piece_items Inside frame (v ∷ vs))
+          ≡ turn_of (state_of [] None) []
       go [] l = refl
       go (y ∷ ys) l = absurd (omega arith)
   idles Next s len held kept h e = absurd (both_ways _ refl e)
   idles (Timed iscr) s len held kept h e = absurd (both_ways _ refl e)
 
-module _ (r : SlotRule) (sound : IsSound r) (z : List Item) (frame v : ℕ) (vs : List ℕ) (mark : Mark) (len : ℕ) (held : List ℕ) (kept : Base) (st : AssemblerStands r len held kept z) (is : IsFrame frame mark) where
+module _ (r : SlotRule) (sound : IsSound r) (z : List Item) (frame v : ℕ) (vs : List ℕ) (mark : Mark) (len : ℕ) (held : List ℕ)
+    (kept : Base) (st : AssemblerStands r len held kept z) (is : IsFrame frame mark) where
   abbrev piece : List Item
   piece = piece_items mark frame (v ∷ vs)
 
@@ -196,7 +216,8 @@ module _ (r : SlotRule) (sound : IsSound r) (z : List Item) (frame v : ℕ) (vs 
   turned t e =
       let two : 2 ≤ r.up_len = let u = sound.up in omega (arith, u) in
       let m = reads r two piece z st.state st.follows in
-      subst Turned (piece_runs r frame mark st.state v vs two st.follows.short (no_gap mark is) ∙ e) (record { follows = m.follows; packets = m.gains })
+      subst Turned (piece_runs r frame mark st.state v vs two st.follows.short (no_gap mark is) ∙ e)
+      (record { follows = m.follows; packets = m.gains })
 
   emptied : (before : Option ℕ) (given : List UserPacket) (new_len : ℕ) (new_held : List ℕ) (new_kept : Base)
       → piece_turn r st.state mark piece ≡ turn_of (state_of [] before) given → new_len ≡ 0 → new_kept.slot ≡ capped before
@@ -207,12 +228,15 @@ module _ (r : SlotRule) (sound : IsSound r) (z : List Item) (frame v : ℕ) (vs 
     holds = record { bytes = ap (λ (n : ℕ). take n new_held) l; count = l; base = b };
   }
 
-  nothing : (s : State) → piece_turn r st.state mark piece ≡ turn_of s [] → (new_held : List ℕ) → Gains r z frame piece new_held None
+  nothing : (s : State) → piece_turn r st.state mark piece ≡ turn_of s [] → (new_held : List ℕ)
+      → Gains r z frame piece new_held None
   nothing s e new_held = record { given = []; packets = (turned _ e).packets; gives = refl }
 
   -- a piece that goes on with nothing
-  pub idle_stands : is_idle len mark ≡ true → (new_len : ℕ) (new_held : List ℕ) (new_kept : Base) → new_len ≡ 0 → new_kept.slot ≡ None → AssemblerStands r new_len new_held new_kept (z ++ piece)
-  idle_stands i new_len new_held new_kept l b = emptied None [] new_len new_held new_kept (idles r sound z frame v vs mark st.state len held kept st.holds i) l b
+  pub idle_stands : is_idle len mark ≡ true → (new_len : ℕ) (new_held : List ℕ) (new_kept : Base) → new_len ≡ 0
+      → new_kept.slot ≡ None → AssemblerStands r new_len new_held new_kept (z ++ piece)
+  idle_stands i new_len new_held new_kept l b =
+      emptied None [] new_len new_held new_kept (idles r sound z frame v vs mark st.state len held kept st.holds i) l b
 
   pub idle_gains : is_idle len mark ≡ true → (new_held : List ℕ) → Gains r z frame piece new_held None
   idle_gains i = nothing _ (idles r sound z frame v vs mark st.state len held kept st.holds i)
@@ -228,7 +252,8 @@ module _ (r : SlotRule) (sound : IsSound r) (z : List Item) (frame v : ℕ) (vs 
         ∙ lt_cond r frame r.up_len (length j.w) _ _ (omega (arith, j.joined.size))
 
     -- too many bytes
-    pub over_stands : r.up_len < total → (new_len : ℕ) (new_held : List ℕ) (new_kept : Base) → new_len ≡ 0 → new_kept.slot ≡ None → AssemblerStands r new_len new_held new_kept (z ++ piece)
+    pub over_stands : r.up_len < total → (new_len : ℕ) (new_held : List ℕ) (new_kept : Base) → new_len ≡ 0 → new_kept.slot ≡ None
+        → AssemblerStands r new_len new_held new_kept (z ++ piece)
     over_stands l new_len new_held new_kept e b = emptied None [] new_len new_held new_kept (passed l) e b
 
     pub over_gains : r.up_len < total → (new_held : List ℕ) → Gains r z frame piece new_held None
@@ -238,7 +263,8 @@ module _ (r : SlotRule) (sound : IsSound r) (z : List Item) (frame v : ℕ) (vs 
     waits l = j.joined.turn ∙ lt_cond r frame (length j.w) r.up_len _ _ (omega (arith, j.joined.size))
 
     -- too few bytes
-    pub short_stands : total < r.up_len → (new_held : List ℕ) → take total new_held ≡ take (next_len len mark) held ++ v ∷ vs → AssemblerStands r total new_held next (z ++ piece)
+    pub short_stands : total < r.up_len → (new_held : List ℕ) → take total new_held ≡ take (next_len len mark) held ++ v ∷ vs
+        → AssemblerStands r total new_held next (z ++ piece)
     short_stands l new_held e = record {
       state = state_of j.w j.before;
       follows = (turned _ (waits l)).follows;
@@ -260,10 +286,12 @@ module _ (r : SlotRule) (sound : IsSound r) (z : List Item) (frame v : ℕ) (vs 
     pub slot_is : slot_now ≡ slot_by r (first_item j.w).mark (first_item j.w).frame (dnp_of r j.w) j.before
     unfolding slot_of
     slot_is =
-        ap₂ (λ (a b : Bool). cond {A = Option ℕ} (a && b) (slot_by r (first_item j.w).mark (first_item j.w).frame (dnp_of r j.w) j.before) None)
+        ap₂ (λ (a b : Bool).
+        cond {A = Option ℕ} (a && b) (slot_by r (first_item j.w).mark (first_item j.w).frame (dnp_of r j.w) j.before) None)
         j.joined.one j.joined.last.can_end
 
-    base_is : (w : List Item) (before : Option ℕ) → 1 ≤ length w → IsBase r w before next → (next.frame ≡ (first_item w).frame) × ((dnp : ℕ) → slot_with next dnp ≡ capped (slot_by r (first_item w).mark (first_item w).frame dnp before))
+    base_is : (w : List Item) (before : Option ℕ) → 1 ≤ length w → IsBase r w before next → (next.frame ≡ (first_item w).frame)
+        × ((dnp : ℕ) → slot_with next dnp ≡ capped (slot_by r (first_item w).mark (first_item w).frame dnp before))
     base_is [] before l b = absurd (omega arith)
     base_is (x ∷ xs) before l b = b
 
@@ -282,14 +310,17 @@ module _ (r : SlotRule) (sound : IsSound r) (z : List Item) (frame v : ℕ) (vs 
           ∙ ap (λ (k : ℕ). get_or (values j.w) (k - 1) 0) (sym n)
           ∙ last_value no_item j.w (omega (arith, n, u)))
 
-      parts : (next.frame ≡ (first_item j.w).frame) × ((dnp : ℕ) → slot_with next dnp ≡ capped (slot_by r (first_item j.w).mark (first_item j.w).frame dnp j.before))
+      parts : (next.frame ≡ (first_item j.w).frame)
+          × ((dnp : ℕ) → slot_with next dnp ≡ capped (slot_by r (first_item j.w).mark (first_item j.w).frame dnp j.before))
       parts = base_is j.w j.before (omega (arith, j.joined.size)) j.joined.base
 
       pub end_slot : slot_with next (kept_dnp r new_held) ≡ capped slot_now
       end_slot = ap (slot_with next) dnp_is ∙ parts.1 (dnp_of r j.w) ∙ sym (ap capped slot_is)
 
-      pub end_stands : (new_len : ℕ) (any_held : List ℕ) (new_kept : Base) → new_len ≡ 0 → new_kept.slot ≡ slot_with next (kept_dnp r new_held) → AssemblerStands r new_len any_held new_kept (z ++ piece)
-      end_stands new_len any_held new_kept n b = emptied slot_now (with_slot j.w slot_now) new_len any_held new_kept (ends l) n (b ∙ end_slot)
+      pub end_stands : (new_len : ℕ) (any_held : List ℕ) (new_kept : Base) → new_len ≡ 0
+          → new_kept.slot ≡ slot_with next (kept_dnp r new_held) → AssemblerStands r new_len any_held new_kept (z ++ piece)
+      end_stands new_len any_held new_kept n b = emptied slot_now (with_slot j.w slot_now) new_len any_held new_kept (ends l) n
+          (b ∙ end_slot)
 
       gives : (o : Option ℕ) → Gives r frame new_held (found_of next (capped o)) (with_slot j.w o)
       gives None = refl
@@ -299,9 +330,11 @@ module _ (r : SlotRule) (sound : IsSound r) (z : List Item) (frame v : ℕ) (vs 
         refl,
       )
 
-      pub end_gains : (result : Option Found) → result ≡ found_of next (slot_with next (kept_dnp r new_held)) → Gains r z frame piece new_held result
+      pub end_gains : (result : Option Found) → result ≡ found_of next (slot_with next (kept_dnp r new_held))
+          → Gains r z frame piece new_held result
       end_gains result a = record {
         given = with_slot j.w slot_now;
         packets = (turned _ (ends l)).packets;
-        gives = subst (λ (f : Option Found). Gives r frame new_held f (with_slot j.w slot_now)) (sym (a ∙ ap (found_of next) end_slot)) (gives slot_now);
+        gives = subst (λ (f : Option Found). Gives r frame new_held f (with_slot j.w slot_now))
+            (sym (a ∙ ap (found_of next) end_slot)) (gives slot_now);
       }

@@ -17,7 +17,8 @@ all_push (y ∷ xs) x h e =
     ap₂ (λ (a b : Bool). a && b) p.0 (all_push xs x p.1 e)
 
 -- one that is cut by a start or a gap
-all_cut : (xs : List Item) (x : Item) (ys : List Item) → is_inside x.mark ≡ false → all_inside (xs ++ x ∷ ys) ≡ true → true ≡ false
+all_cut : (xs : List Item) (x : Item) (ys : List Item) → is_inside x.mark ≡ false → all_inside (xs ++ x ∷ ys) ≡ true
+    → true ≡ false
 all_cut [] x ys e h = sym (and_parts (is_inside x.mark) (all_inside ys) h).0 ∙ e
 all_cut (y ∷ xs) x ys e h = all_cut xs x ys e (and_parts (is_inside y.mark) (all_inside (xs ++ x ∷ ys)) h).1
 
@@ -37,7 +38,8 @@ none_on (x ∷ xs) ys l h =
     let p = one_parts x (xs ++ ys) t in both_ways _ h (one_from x xs p.0 (all_front xs ys p.1)))
 
 -- a start or a gap behind the first byte
-pub none_cut : (xs : List Item) (x : Item) (ys : List Item) → 1 ≤ length xs → is_inside x.mark ≡ false → is_one (xs ++ x ∷ ys) ≡ false
+pub none_cut : (xs : List Item) (x : Item) (ys : List Item) → 1 ≤ length xs → is_inside x.mark ≡ false → is_one (xs ++ x ∷ ys)
+    ≡ false
 none_cut [] x ys l e = absurd (omega arith)
 none_cut (y ∷ xs) x ys l e =
     false_from_ne_true _ (λ (t : is_one (y ∷ (xs ++ x ∷ ys)) ≡ true).

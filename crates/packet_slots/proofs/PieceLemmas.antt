@@ -1,5 +1,6 @@
 -- What a piece does to the machine, all its bytes at once.
-use Rattle.std.proofs.Common.{◌≡◌, ℕ, ◌+◌, ◌<◌, ◌≤◌, ◌&&◌, Bool, true, false, List, [], ◌∷◌, ◌++◌, length, Option, None, refl, ap, ◌∙◌, sym, arith, inl, inr, append-nil, append_assoc, length-append, cond}
+use Rattle.std.proofs.Common.{◌≡◌, ℕ, ◌+◌, ◌<◌, ◌≤◌, ◌&&◌, Bool, true, false, List, [], ◌∷◌, ◌++◌, length, Option, None, refl, ap}
+use Rattle.std.proofs.Common.{◌∙◌, sym, arith, inl, inr, append-nil, append_assoc, length-append, cond}
 use Rattle.std.specs.Prelude.{nat_lt, if◌then◌else◌}
 use Rattle.std.proofs.lemmas.Bool.{cases_lt, lt-ltb, le-ltb}
 use Rattle.packet_slots.specs.declared.mark.Mark.{Mark}
@@ -11,11 +12,15 @@ use Rattle.packet_slots.specs.Machine.{State, Turn, state_of, turn_of, before_ne
 use Rattle.packet_slots.specs.Pieces.{item, piece_items, piece_grown, piece_inside, piece_turn}
 
 -- where the last byte of a piece stands is no place where a user packet can end
-cannot_end : (r : SlotRule) (w : List Item) (x : Item) (before : Option ℕ) → x.can_end ≡ false → slot_of r (w ++ x ∷ []) before ≡ None
+cannot_end : (r : SlotRule) (w : List Item) (x : Item) (before : Option ℕ) → x.can_end ≡ false → slot_of r (w ++ x ∷ []) before
+    ≡ None
 unfolding slot_of
 cannot_end r w x before e =
-    ap (λ (b : Bool). cond {A = Option ℕ} b (slot_by r (first_item (w ++ x ∷ [])).mark (first_item (w ++ x ∷ [])).frame (dnp_of r (w ++ x ∷ [])) before) None)
-    (ap (λ (l : Item). is_one (w ++ x ∷ []) && l.can_end) (last_push no_item w) ∙ ap (λ (b : Bool). is_one (w ++ x ∷ []) && b) e ∙ and_no (is_one (w ++ x ∷ [])))
+    ap (λ (b : Bool).
+    cond {A = Option ℕ} b (slot_by r (first_item (w ++ x ∷ [])).mark (first_item (w ++ x ∷ [])).frame
+    (dnp_of r (w ++ x ∷ [])) before) None)
+    (ap (λ (l : Item). is_one (w ++ x ∷ []) && l.can_end) (last_push no_item w) ∙ ap (λ (b : Bool). is_one (w ++ x ∷ []) && b) e
+    ∙ and_no (is_one (w ++ x ∷ [])))
   where
     last_push : (y : Item) (v : List Item) → last_of y (v ++ x ∷ []) ≡ x
     last_push y [] = refl
@@ -36,21 +41,25 @@ module _ (r : SlotRule) (frame : ℕ) where
   pub ge_cond : (a b : ℕ) (x y : Turn) → b ≤ a → (if nat_lt a b then x else y) ≡ y
   ge_cond a b x y l = ap (λ (t : Bool). cond t x y) (le-ltb a b l)
 
-  step : (s : State) (x : Item) (xs : List Item) (t : Turn) → turn r s x ≡ t → runs r s (x ∷ xs) ≡ turn_of (after r t.state xs) (t.given ++ given r t.state xs)
+  step : (s : State) (x : Item) (xs : List Item) (t : Turn) → turn r s x ≡ t → runs r s (x ∷ xs) ≡ turn_of (after r t.state xs)
+      (t.given ++ given r t.state xs)
   step s x xs t e = ap (λ (u : Turn). turn_of (after r u.state xs) (u.given ++ given r u.state xs)) e
 
   -- bytes behind no start
-  idle : (before : Option ℕ) (v : ℕ) (vs : List ℕ) → runs r (state_of [] before) (piece_items Inside frame (v ∷ vs)) ≡ turn_of (state_of [] None) []
+  idle : (before : Option ℕ) (v : ℕ) (vs : List ℕ) → runs r (state_of [] before) (piece_items Inside frame (v ∷ vs))
+      ≡ turn_of (state_of [] None) []
   unfolding turn
   idle before v [] = refl
   idle before v (u ∷ us) = idle None u us
 
-  inside_turn : (h : List Item) (before : Option ℕ) (x : Item) → 1 ≤ length h → x.mark ≡ Inside → turn r (state_of h before) x ≡ grown r (h ++ x ∷ []) before
+  inside_turn : (h : List Item) (before : Option ℕ) (x : Item) → 1 ≤ length h → x.mark ≡ Inside → turn r (state_of h before) x
+      ≡ grown r (h ++ x ∷ []) before
   unfolding turn
   inside_turn [] before x l e = absurd (omega arith)
   inside_turn (y ∷ ys) before x l e = ap (turn_by r (y ∷ ys) before x) e
 
-  grown_is : (h : List Item) (before : Option ℕ) (p : List Item) → 1 ≤ length h → piece_inside r h before p ≡ piece_grown r (h ++ p) before
+  grown_is : (h : List Item) (before : Option ℕ) (p : List Item) → 1 ≤ length h → piece_inside r h before p
+      ≡ piece_grown r (h ++ p) before
   grown_is [] before p l = absurd (omega arith)
   grown_is (y ∷ ys) before p l = refl
 
@@ -60,7 +69,8 @@ module _ (r : SlotRule) (frame : ℕ) where
 
   -- bytes that go on with those that are held
   goes_on : (h : List Item) (before : Option ℕ) (v : ℕ) (vs : List ℕ) → 1 ≤ length h → length h < r.up_len
-      → runs r (state_of h before) (piece_items Inside frame (v ∷ vs)) ≡ piece_grown r (h ++ piece_items Inside frame (v ∷ vs)) before
+      → runs r (state_of h before) (piece_items Inside frame (v ∷ vs))
+      ≡ piece_grown r (h ++ piece_items Inside frame (v ∷ vs)) before
   goes_on h before v [] l m =
       let x : Item = item Inside v frame true in
       let n : length (h ++ x ∷ []) ≡ length h + 1 = length-append h (x ∷ []) ∙ omega arith in
@@ -78,7 +88,8 @@ module _ (r : SlotRule) (frame : ℕ) where
       let p : List Item = piece_items Inside frame (u ∷ us) in
       let n : length (h ++ x ∷ []) ≡ length h + 1 = length-append h (x ∷ []) ∙ omega arith in
       let e : (h ++ x ∷ []) ++ p ≡ h ++ x ∷ p = append_assoc h (x ∷ []) p in
-      let k : length (h ++ x ∷ p) ≡ length h + 1 + length p = sym (ap length e) ∙ length-append (h ++ x ∷ []) p ∙ omega (arith, n) in
+      let k : length (h ++ x ∷ p) ≡ length h + 1 + length p = sym (ap length e) ∙ length-append (h ++ x ∷ []) p
+      ∙ omega (arith, n) in
       step (state_of h before) x p (grown r (h ++ x ∷ []) before) (inside_turn h before x l refl)
       ∙ elim (cases_lt (length (h ++ x ∷ [])) r.up_len) [
         | inl lt ↦
@@ -87,9 +98,11 @@ module _ (r : SlotRule) (frame : ℕ) where
             ∙ ap (λ (w : List Item). piece_grown r w before) e
         | inr ge ↦
             ap (λ (t : Turn). turn_of (after r t.state p) (t.given ++ given r t.state p)) (ge_cond _ _ _ _ ge)
-            ∙ ap (λ (o : Option ℕ). turn_of (after r (state_of [] o) p) (with_slot (h ++ x ∷ []) o ++ given r (state_of [] o) p)) (cannot_end r h x before refl)
+            ∙ ap (λ (o : Option ℕ). turn_of (after r (state_of [] o) p) (with_slot (h ++ x ∷ []) o ++ given r (state_of [] o) p))
+            (cannot_end r h x before refl)
             ∙ idle None u us
-            ∙ sym (ge_cond (length (h ++ x ∷ p)) r.up_len _ _ (omega (arith, n, k)) ∙ lt_cond r.up_len (length (h ++ x ∷ p)) _ _ (omega (arith, n, k, length_piece Inside u us)))
+            ∙ sym (ge_cond (length (h ++ x ∷ p)) r.up_len _ _ (omega (arith, n, k)) ∙ lt_cond r.up_len (length (h ++ x ∷ p)) _ _
+            (omega (arith, n, k, length_piece Inside u us)))
       ]
 
   -- a user packet begins
@@ -106,12 +119,14 @@ module _ (r : SlotRule) (frame : ℕ) where
   unfolding turn
   next_turn s x e = ap (turn_by r s.held s.before x) e
 
-  timed_turn : (iscr : ℕ) (s : State) (x : Item) → x.mark ≡ Timed iscr → turn r s x ≡ turn_of (state_of (x ∷ []) (before_next s.held s.before)) []
+  timed_turn : (iscr : ℕ) (s : State) (x : Item) → x.mark ≡ Timed iscr
+      → turn r s x ≡ turn_of (state_of (x ∷ []) (before_next s.held s.before)) []
   unfolding turn
   timed_turn iscr s x e = ap (turn_by r s.held s.before x) e
 
   inside_runs : (h : List Item) (before : Option ℕ) (v : ℕ) (vs : List ℕ) → length h < r.up_len
-      → runs r (state_of h before) (piece_items Inside frame (v ∷ vs)) ≡ piece_inside r h before (piece_items Inside frame (v ∷ vs))
+      → runs r (state_of h before) (piece_items Inside frame (v ∷ vs))
+      ≡ piece_inside r h before (piece_items Inside frame (v ∷ vs))
   inside_runs [] before v vs l = idle before v vs
   inside_runs (y ∷ ys) before v vs l = goes_on (y ∷ ys) before v vs (omega arith) l
 

@@ -1,11 +1,13 @@
 -- Where the user packets of a string begin and end, and in which frames.
-use Rattle.std.proofs.Common.{◌≡◌, ℕ, zero, suc, ◌+◌, ◌-◌, ◌<◌, ◌≤◌, List, [], ◌∷◌, ◌++◌, length, take, drop, get_or, Option, Some, None, refl, ap, ◌∙◌, sym, subst, arith, inl, inr, append-nil, append_assoc, length-append}
+use Rattle.std.proofs.Common.{◌≡◌, ℕ, zero, suc, ◌+◌, ◌-◌, ◌<◌, ◌≤◌, List, [], ◌∷◌, ◌++◌, length, take, drop, get_or, Option}
+use Rattle.std.proofs.Common.{Some, None, refl, ap, ◌∙◌, sym, subst, arith, inl, inr, append-nil, append_assoc, length-append}
 use Rattle.std.specs.List.{AllByRecursion}
 use Rattle.std.proofs.lemmas.Bool.{cases_lt}
 use Rattle.terms.proofs.AllLemmas.{all_append}
 use Rattle.packet_slots.specs.declared.rule.SlotRule.{SlotRule}
 use Rattle.packet_slots.specs.Strings.{Item}
-use Rattle.packet_slots.specs.Packets.{UserPacket, window, first_item, last_item, last_of, no_item, slot_of, slot_before, slots_at, with_slot, packets_at, user_packets}
+use Rattle.packet_slots.specs.Packets.{UserPacket, window, first_item, last_item, last_of, no_item, slot_of, slot_before}
+use Rattle.packet_slots.specs.Packets.{slots_at, with_slot, packets_at, user_packets}
 use Rattle.packet_slots.proofs.SlotLemmas.{same_packets}
 use Rattle.packet_slots.specs.Holds.{From, UpTo, Since}
 
@@ -25,9 +27,11 @@ module _ (r : SlotRule) (z : List Item) where
   with_all n x end (Some k) l m = (record { place = x; least = l; below = m; items_are = refl }, tt)
 
   widen : (n a b : ℕ) → a ≤ b → (up : UserPacket) → From r z n a up → From r z n b up
-  widen n a b l up f = let m = f.below in record { place = f.place; least = f.least; below = omega (arith, m); items_are = f.items_are }
+  widen n a b l up f = let m = f.below in
+      record { place = f.place; least = f.least; below = omega (arith, m); items_are = f.items_are }
 
-  packets_suc : (x : ℕ) → packets_at r z (suc x) ≡ packets_at r z x ++ with_slot (window r z x) (slot_of r (window r z x) (slot_before r (slots_at r z x)))
+  packets_suc : (x : ℕ) → packets_at r z (suc x) ≡ packets_at r z x ++ with_slot (window r z x)
+      (slot_of r (window r z x) (slot_before r (slots_at r z x)))
   unfolding packets_at
   packets_suc x = refl
 
@@ -40,7 +44,8 @@ module _ (r : SlotRule) (z : List Item) where
   more_at n (suc j) =
       let m = more_at n j in
       let e : n + suc j ≡ suc (n + j) = omega arith in
-      let last : List UserPacket = with_slot (window r z (n + j)) (slot_of r (window r z (n + j)) (slot_before r (slots_at r z (n + j)))) in
+      let last : List UserPacket =
+      with_slot (window r z (n + j)) (slot_of r (window r z (n + j)) (slot_before r (slots_at r z (n + j)))) in
       record {
         more = m.more ++ last;
         packets =
@@ -60,19 +65,23 @@ first_is [] (suc x) k = refl
 first_is (y ∷ z) zero k = refl
 first_is (y ∷ z) (suc x) k = first_is z x k
 
-pub last_is : (d : Item) (z : List Item) (x k : ℕ) → x + k < length z → last_of d (take (suc k) (drop x z)) ≡ get_or z (x + k) no_item
+pub last_is : (d : Item) (z : List Item) (x k : ℕ) → x + k < length z → last_of d (take (suc k) (drop x z))
+    ≡ get_or z (x + k) no_item
 last_is d [] x k l = absurd (omega arith)
-last_is d (y ∷ z) (suc x) k l = let e : suc x + k ≡ suc (x + k) = omega arith in last_is d z x k (omega arith) ∙ sym (ap (λ (n : ℕ). get_or (y ∷ z) n no_item) e)
+last_is d (y ∷ z) (suc x) k l = let e : suc x + k ≡ suc (x + k) = omega arith in last_is d z x k (omega arith)
+    ∙ sym (ap (λ (n : ℕ). get_or (y ∷ z) n no_item) e)
 last_is d (y ∷ z) zero zero l = refl
 last_is d (y ∷ z) zero (suc k) l =
-    let e : zero + suc k ≡ suc (zero + k) = omega arith in last_is y z zero k (omega arith) ∙ sym (ap (λ (n : ℕ). get_or (y ∷ z) n no_item) e)
+    let e : zero + suc k ≡ suc (zero + k) = omega arith in last_is y z zero k (omega arith)
+    ∙ sym (ap (λ (n : ℕ). get_or (y ∷ z) n no_item) e)
 
 up_to : (frame : ℕ) (z : List Item) (i : ℕ) → UpTo frame z → (get_or z i no_item).frame ≤ frame
 up_to frame [] i h = omega arith
 up_to frame (x ∷ z) zero h = h.0
 up_to frame (x ∷ z) (suc i) h = up_to frame z i h.1
 
-since : (frame : ℕ) (z y : List Item) (i : ℕ) → length z ≤ i → i < length z + length y → Since frame y → frame ≤ (get_or (z ++ y) i no_item).frame
+since : (frame : ℕ) (z y : List Item) (i : ℕ) → length z ≤ i → i < length z + length y → Since frame y
+    → frame ≤ (get_or (z ++ y) i no_item).frame
 since frame (x ∷ z) y zero l m h = absurd (omega arith)
 since frame (x ∷ z) y (suc i) l m h = since frame z y i (omega arith) (omega arith) h
 since frame [] [] i l m h = absurd (omega arith)
@@ -83,22 +92,31 @@ len_suc : (n : ℕ) → 1 ≤ n → n ≡ suc (n - 1)
 len_suc n l = omega arith
 
 -- a user packet begins in a frame of the string
-pub begins_up_to : (r : SlotRule) (z : List Item) (n end frame : ℕ) (up : UserPacket) → 1 ≤ r.up_len → UpTo frame z → From r z n end up → (first_item up.items).frame ≤ frame
+pub begins_up_to : (r : SlotRule) (z : List Item) (n end frame : ℕ) (up : UserPacket) → 1 ≤ r.up_len → UpTo frame z
+    → From r z n end up → (first_item up.items).frame ≤ frame
 begins_up_to r z n end frame up l h f =
     let e : first_item up.items ≡ get_or z f.place no_item =
-    ap first_item f.items_are ∙ ap (λ (k : ℕ). first_item (take k (drop f.place z))) (len_suc r.up_len l) ∙ first_is z f.place (r.up_len - 1) in
+    ap first_item f.items_are ∙ ap (λ (k : ℕ). first_item (take k (drop f.place z))) (len_suc r.up_len l)
+    ∙ first_is z f.place (r.up_len - 1) in
     omega (arith, ap (λ (x : Item). x.frame) e, up_to frame z f.place h)
 
 -- one that ends behind the first items ends in a frame of the others
-pub ends_since : (r : SlotRule) (z y : List Item) (n end frame : ℕ) (up : UserPacket) → 1 ≤ r.up_len → length z + 1 ≤ n + r.up_len → end + r.up_len ≤ length z + length y + 1 → Since frame y
+pub ends_since : (r : SlotRule) (z y : List Item) (n end frame : ℕ) (up : UserPacket) → 1 ≤ r.up_len → length z + 1 ≤ n + r.up_len
+    → end + r.up_len ≤ length z + length y + 1 → Since frame y
     → From r (z ++ y) n end up → frame ≤ (last_item up.items).frame
 ends_since r z y n end frame up l a b h f =
     let p = f.least in
     let q = f.below in
     let i : f.place + (r.up_len - 1) < length (z ++ y) = omega (arith, length-append z y, p, q) in
     let e : last_item up.items ≡ get_or (z ++ y) (f.place + (r.up_len - 1)) no_item =
-    ap last_item f.items_are ∙ ap (λ (k : ℕ). last_item (take k (drop f.place (z ++ y)))) (len_suc r.up_len l) ∙ last_is no_item (z ++ y) f.place (r.up_len - 1) i in
-    omega (arith, ap (λ (x : Item). x.frame) e, since frame z y (f.place + (r.up_len - 1)) (omega (arith, p)) (omega (arith, i, length-append z y)) h)
+    ap last_item f.items_are ∙ ap (λ (k : ℕ). last_item (take k (drop f.place (z ++ y)))) (len_suc r.up_len l)
+    ∙ last_is no_item (z ++ y) f.place (r.up_len - 1) i in
+    omega (
+      arith,
+      ap (λ (x : Item). x.frame) e,
+      since frame z y (f.place + (r.up_len - 1)) (omega (arith, p))
+          (omega (arith, i, length-append z y)) h,
+    )
 
 packets_zero : (r : SlotRule) (w : List Item) → packets_at r w 0 ≡ []
 unfolding packets_at
@@ -107,7 +125,8 @@ packets_zero r w = refl
 same_front : (r : SlotRule) (z y : List Item) → packets_at r (z ++ y) (length z + 1 - r.up_len) ≡ user_packets r z
 same_front r z y =
     elim (cases_lt (length z + 1) r.up_len) [
-      | inl lt ↦ let e : length z + 1 - r.up_len ≡ 0 = omega arith in ap (packets_at r (z ++ y)) e ∙ packets_zero r (z ++ y) ∙ sym (ap (packets_at r z) e ∙ packets_zero r z)
+      | inl lt ↦ let e : length z + 1 - r.up_len ≡ 0 = omega arith in ap (packets_at r (z ++ y)) e ∙ packets_zero r (z ++ y)
+          ∙ sym (ap (packets_at r z) e ∙ packets_zero r z)
       | inr ge ↦ same_packets r z y (length z + 1 - r.up_len) (omega arith)
     ]
 
@@ -125,7 +144,8 @@ longer r z y frame l h =
           let f : length z + 1 - r.up_len ≡ 0 = omega arith in
           record {
             more = [];
-            packets = ap (packets_at r (z ++ y)) e ∙ packets_zero r (z ++ y) ∙ sym (append-nil _ ∙ ap (packets_at r z) f ∙ packets_zero r z);
+            packets = ap (packets_at r (z ++ y)) e ∙ packets_zero r (z ++ y)
+                ∙ sym (append-nil _ ∙ ap (packets_at r z) f ∙ packets_zero r z);
             all = tt;
           }
       | inr ge ↦
@@ -151,5 +171,6 @@ all_of r z =
     let n : ℕ = length z + 1 - r.up_len in
     let m = more_at r z 0 n in
     let e : 0 + n ≡ n = omega arith in
-    let p : user_packets r z ≡ m.more = sym (ap (packets_at r z) e) ∙ m.packets ∙ ap (λ (l : List UserPacket). l ++ m.more) (packets_zero r z) in
+    let p : user_packets r z ≡ m.more = sym (ap (packets_at r z) e) ∙ m.packets ∙ ap (λ (l : List UserPacket). l ++ m.more)
+    (packets_zero r z) in
     record { n = 0 + n; all = subst (AllByRecursion (From r z 0 (0 + n))) (sym p) m.all }

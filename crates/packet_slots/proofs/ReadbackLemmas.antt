@@ -1,5 +1,6 @@
 -- What records come later changes no packet of a slot that is given out.
-use Rattle.std.proofs.Common.{◌≡◌, ℕ, suc, ◌+◌, ◌-◌, ◌*◌, ◌<◌, ◌≤◌, ◌==◌, ◌&&◌, Bool, true, false, List, [], ◌∷◌, ◌++◌, length, map, Option, Some, None, refl, ap, ◌∙◌, sym, arith, inl, inr, append_assoc, length-append}
+use Rattle.std.proofs.Common.{◌≡◌, ℕ, suc, ◌+◌, ◌-◌, ◌*◌, ◌<◌, ◌≤◌, ◌==◌, ◌&&◌, Bool, true, false, List, [], ◌∷◌, ◌++◌, length}
+use Rattle.std.proofs.Common.{map, Option, Some, None, refl, ap, ◌∙◌, sym, arith, inl, inr, append_assoc, length-append}
 use Rattle.std.specs.Prelude.{nat_lt, nat_le, option_map, unwrap_or}
 use Rattle.std.specs.Option.{option_or}
 use Rattle.std.specs.List.{AllByRecursion, range_with_len, find, filter, flat_map}
@@ -44,23 +45,29 @@ pub since_string : (len frame m : ℕ) (records : List Record) → m ≤ frame �
 unfolding string_of
 since_string len frame m [] l = tt
 since_string len frame m (r ∷ records) l =
-    all_append (λ (x : Item). m ≤ x.frame) (record_items len frame r) _ (all_record (λ (x : Item). m ≤ x.frame) len frame (λ x e. omega (arith, e)) r)
+    all_append (λ (x : Item). m ≤ x.frame) (record_items len frame r) _
+    (all_record (λ (x : Item). m ≤ x.frame) len frame (λ x e. omega (arith, e)) r)
     (since_string len (frame + 1) m records (omega arith))
 
-pub up_to_string : (len frame m : ℕ) (records : List Record) → frame + length records ≤ m + 1 → UpTo m (string_of len frame records)
+pub up_to_string : (len frame m : ℕ) (records : List Record) → frame + length records ≤ m + 1
+    → UpTo m (string_of len frame records)
 unfolding string_of
 up_to_string len frame m [] l = tt
 up_to_string len frame m (r ∷ records) l =
-    all_append (λ (x : Item). x.frame ≤ m) (record_items len frame r) _ (all_record (λ (x : Item). x.frame ≤ m) len frame (λ x e. omega (arith, e)) r)
+    all_append (λ (x : Item). x.frame ≤ m) (record_items len frame r) _
+    (all_record (λ (x : Item). x.frame ≤ m) len frame (λ x e. omega (arith, e)) r)
     (up_to_string len (frame + 1) m records (omega arith))
 
-pub string_append : (len frame : ℕ) (records more : List Record) → string_of len frame (records ++ more) ≡ string_of len frame records ++ string_of len (frame + length records) more
+pub string_append : (len frame : ℕ) (records more : List Record) → string_of len frame (records ++ more)
+    ≡ string_of len frame records ++ string_of len (frame + length records) more
 unfolding string_of
 string_append len frame [] more = let e : frame ≡ frame + 0 = omega arith in ap (λ (n : ℕ). string_of len n more) e
 string_append len frame (r ∷ records) more =
     let e : frame + 1 + length records ≡ frame + suc (length records) = omega arith in
-    ap (λ (l : List Item). record_items len frame r ++ l) (string_append len (frame + 1) records more ∙ ap (λ (n : ℕ). string_of len (frame + 1) records ++ string_of len n more) e)
-    ∙ sym (append_assoc (record_items len frame r) (string_of len (frame + 1) records) (string_of len (frame + suc (length records)) more))
+    ap (λ (l : List Item). record_items len frame r ++ l) (string_append len (frame + 1) records more
+    ∙ ap (λ (n : ℕ). string_of len (frame + 1) records ++ string_of len n more) e)
+    ∙ sym (append_assoc (record_items len frame r) (string_of len (frame + 1) records)
+    (string_of len (frame + suc (length records)) more))
 
 -- What counts.
 
@@ -88,15 +95,24 @@ module _ (r : SlotRule) (sound : IsSound r) where
   den_pos = let a = sound.den in omega (arith, a)
 
   -- a slot of the range of a later frame has no packet yet
-  pub none_yet : CountRises → (z : List Item) (frame k : ℕ) → UpTo frame z → slot_count r.num r.den (frame * r.ticks) ≤ k → found_for r z k ≡ None
+  pub none_yet : CountRises → (z : List Item) (frame k : ℕ) → UpTo frame z → slot_count r.num r.den (frame * r.ticks) ≤ k
+      → found_for r z k ≡ None
   unfolding counted
   none_yet rises z frame k h l =
       let a = all_of r z in
-      none_found (counts r) (λ (up : UserPacket). up.slot == k) (user_packets r z) (all_map (From r z 0 a.n) (λ (up : UserPacket). counts r up ≡ true → (up.slot == k) ≡ false)
+      none_found (counts r) (λ (up : UserPacket). up.slot == k) (user_packets r z)
+      (all_map (From r z 0 a.n) (λ (up : UserPacket). counts r up ≡ true → (up.slot == k) ≡ false)
       (λ up f e. false_from_ne_true _ (λ (t : (up.slot == k) ≡ true).
       let b = (counts_parts r up e).below in
-      let m : (first_item up.items).frame * r.ticks ≤ frame * r.ticks = mul-le-mul_right r.ticks (begins_up_to r z 0 a.n frame up one_len h f) in
-      omega (arith, b, rises r.num r.den ((first_item up.items).frame * r.ticks) (frame * r.ticks) num_pos m, l, eqb-true up.slot k t)))
+      let m : (first_item up.items).frame * r.ticks ≤ frame * r.ticks =
+      mul-le-mul_right r.ticks (begins_up_to r z 0 a.n frame up one_len h f) in
+      omega (
+        arith,
+        b,
+        rises r.num r.den ((first_item up.items).frame * r.ticks) (frame * r.ticks) num_pos m,
+        l,
+        eqb-true up.slot k t,
+      )))
       (user_packets r z) a.all)
 
   or_none : {X : Type 0} (o : Option X) → option_or o None ≡ o
@@ -104,14 +120,18 @@ module _ (r : SlotRule) (sound : IsSound r) where
   or_none (Some x) = refl
 
   -- a slot that is given out when a frame begins has its packet
-  pub final : ReleasedFirst → (z y : List Item) (frame k : ℕ) → Since frame y → k < due_after r frame → found_for r (z ++ y) k ≡ found_for r z k
+  pub final : ReleasedFirst → (z y : List Item) (frame k : ℕ) → Since frame y → k < due_after r frame → found_for r (z ++ y) k
+      ≡ found_for r z k
   unfolding counted
   final law z y frame k h l =
       let m = longer r z y frame one_len h in
       let test : UserPacket → Bool = λ up. up.slot == k in
-      let out : slot_start r.num r.den k + delay_of r ≤ frame * r.ticks = (law r.num r.den (delay_of r) (frame * r.ticks) k num_pos den_pos).0 l in
+      let out : slot_start r.num r.den k + delay_of r ≤ frame * r.ticks =
+      (law r.num r.den (delay_of r) (frame * r.ticks) k num_pos den_pos).0 l in
       let none : find test (filter (counts r) m.more) ≡ None =
-      none_found (counts r) test m.more (all_map (λ (up : UserPacket). frame ≤ (last_item up.items).frame) (λ (up : UserPacket). counts r up ≡ true → (up.slot == k) ≡ false)
+      none_found (counts r) test m.more
+      (all_map (λ (up : UserPacket). frame ≤ (last_item up.items).frame) (λ (up : UserPacket). counts r up ≡ true
+      → (up.slot == k) ≡ false)
       (λ up f e. false_from_ne_true _ (λ (t : (up.slot == k) ≡ true).
       let b = (counts_parts r up e).early in
       let s : up.slot ≡ k = eqb-true up.slot k t in
@@ -146,16 +166,21 @@ module _ (r : SlotRule) (sound : IsSound r) where
       let s : ℕ = first_slot r first in
       let n : ℕ = due_after r (first + length records) - s in
       let m : ℕ = due_after r (first + length (records ++ more)) - s - n in
-      let rises = out_rises law (first + length records) (first + length (records ++ more)) (omega (arith, length-append records more)) in
+      let rises = out_rises law (first + length records) (first + length (records ++ more))
+      (omega (arith, length-append records more)) in
       let e : due_after r (first + length (records ++ more)) - s ≡ n + m = omega (arith, rises) in
       let w : string_of r.up_len first (records ++ more) ≡ z ++ y = string_append r.up_len first records more in
       let same : map (slot_packet r (z ++ y)) (range_with_len s n) ≡ map (slot_packet r z) (range_with_len s n) =
-      map_same (slot_packet r (z ++ y)) (slot_packet r z) n s (λ k a b. ap (λ (o : Option UserPacket). unwrap_or (option_map (λ (up : UserPacket). packet_of (values up.items)) o) null_packet)
-      (final law z y (first + length records) k (since_string r.up_len (first + length records) (first + length records) more (omega arith)) (omega arith))) in
+      map_same (slot_packet r (z ++ y)) (slot_packet r z) n s
+      (λ k a b.
+      ap (λ (o : Option UserPacket). unwrap_or (option_map (λ (up : UserPacket). packet_of (values up.items)) o) null_packet)
+      (final law z y (first + length records) k (since_string r.up_len (first + length records) (first + length records) more
+      (omega arith)) (omega arith))) in
       record {
         others = map (slot_packet r (z ++ y)) (range_with_len (s + n) m);
         front =
-            ap (λ (x : List Item). map (slot_packet r x) (range_with_len s (due_after r (first + length (records ++ more)) - s))) w
+            ap (λ (x : List Item). map (slot_packet r x) (range_with_len s (due_after r (first + length (records ++ more)) - s)))
+            w
             ∙ ap (map (slot_packet r (z ++ y))) (ap (range_with_len s) e ∙ range_append n m s)
             ∙ map-append (slot_packet r (z ++ y)) (range_with_len s n) (range_with_len (s + n) m)
             ∙ ap (λ (l : List (List ℕ)). l ++ map (slot_packet r (z ++ y)) (range_with_len (s + n) m)) same;

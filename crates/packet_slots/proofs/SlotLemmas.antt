@@ -1,15 +1,19 @@
 -- Slots and user packets of a string that grows by one item.
-use Rattle.std.proofs.Common.{◌≡◌, ℕ, zero, suc, ◌+◌, ◌-◌, ◌<◌, ◌≤◌, ◌&&◌, Bool, false, List, [], ◌∷◌, ◌++◌, length, take, drop, Option, None, refl, ap, ap₂, ◌∙◌, sym, arith, inl, inr, append-nil, length-append, length-drop, cond}
+use Rattle.std.proofs.Common.{◌≡◌, ℕ, zero, suc, ◌+◌, ◌-◌, ◌<◌, ◌≤◌, ◌&&◌, Bool, false, List, [], ◌∷◌, ◌++◌, length, take, drop}
+use Rattle.std.proofs.Common.{Option, None, refl, ap, ap₂, ◌∙◌, sym, arith, inl, inr, append-nil, length-append, length-drop}
+use Rattle.std.proofs.Common.{cond}
 use Rattle.std.proofs.lemmas.Bool.{cases_lt}
 use Rattle.std.proofs.lemmas.List.{take-append-le, drop-append-le, take_all, drop_all}
 use Rattle.packet_slots.specs.declared.rule.SlotRule.{SlotRule}
 use Rattle.packet_slots.specs.Strings.{Item}
-use Rattle.packet_slots.specs.Packets.{UserPacket, is_one, last_item, slot_by, slot_of, dnp_of, first_item, window, latest, slot_before, slots_at, with_slot, packets_at, user_packets}
+use Rattle.packet_slots.specs.Packets.{UserPacket, is_one, last_item, slot_by, slot_of, dnp_of, first_item, window, latest}
+use Rattle.packet_slots.specs.Packets.{slot_before, slots_at, with_slot, packets_at, user_packets}
 
 pub none_of : (r : SlotRule) (w : List Item) (before : Option ℕ) → is_one w ≡ false → slot_of r w before ≡ None
 unfolding slot_of
 none_of r w before h =
-    ap (λ (b : Bool). cond {A = Option ℕ} (b && (last_item w).can_end) (slot_by r (first_item w).mark (first_item w).frame (dnp_of r w) before) None) h
+    ap (λ (b : Bool). cond {A = Option ℕ} (b && (last_item w).can_end)
+    (slot_by r (first_item w).mark (first_item w).frame (dnp_of r w) before) None) h
 
 module _ (r : SlotRule) where
   same_window : (z ys : List Item) (x : ℕ) → x + r.up_len ≤ length z → window r (z ++ ys) x ≡ window r z x
@@ -21,7 +25,8 @@ module _ (r : SlotRule) where
   unfolding slots_at
   same_slots z ys zero h = refl
   same_slots z ys (suc x) h =
-      ap₂ (λ (w : List Item) (l : List (Option ℕ)). slot_of r w (slot_before r l) ∷ l) (same_window z ys x (omega arith)) (same_slots z ys x (omega arith))
+      ap₂ (λ (w : List Item) (l : List (Option ℕ)). slot_of r w (slot_before r l) ∷ l) (same_window z ys x (omega arith))
+      (same_slots z ys x (omega arith))
 
   pub same_packets : (z ys : List Item) (n : ℕ) → n + r.up_len ≤ length z + 1 → packets_at r (z ++ ys) n ≡ packets_at r z n
   unfolding packets_at
@@ -49,7 +54,8 @@ module _ (r : SlotRule) where
   pub before_none : (z : List Item) (x : ℕ) → x < r.up_len → slot_before r (slots_at r z x) ≡ None
   before_none z x h = ap latest (drop_all (r.up_len - 1) (slots_at r z x) (omega (arith, length_slots z x)))
 
-  pub same_before : (z ys : List Item) (x : ℕ) → 1 ≤ r.up_len → x ≤ length z → slot_before r (slots_at r (z ++ ys) x) ≡ slot_before r (slots_at r z x)
+  pub same_before : (z ys : List Item) (x : ℕ) → 1 ≤ r.up_len → x ≤ length z → slot_before r (slots_at r (z ++ ys) x)
+      ≡ slot_before r (slots_at r z x)
   same_before z ys x l h =
       elim (cases_lt x r.up_len) [
         | inl lt ↦ before_none (z ++ ys) x lt ∙ sym (before_none z x lt)
@@ -58,12 +64,14 @@ module _ (r : SlotRule) where
             before_at (z ++ ys) x _ e ∙ ap latest (same_slots z ys (x - (r.up_len - 1)) (omega arith)) ∙ sym (before_at z x _ e)
       ]
 
-  pub slots_suc : (z : List Item) (x : ℕ) → latest (slots_at r z (suc x)) ≡ slot_of r (window r z x) (slot_before r (slots_at r z x))
+  pub slots_suc : (z : List Item) (x : ℕ) → latest (slots_at r z (suc x))
+      ≡ slot_of r (window r z x) (slot_before r (slots_at r z x))
   unfolding slots_at
   slots_suc z x = refl
 
   -- no user packet ends where the string ends
-  pub none_ends : (z : List Item) (x : ℕ) → 1 ≤ r.up_len → x + r.up_len ≡ length z → is_one (drop x z) ≡ false → slot_before r (slots_at r z (length z)) ≡ None
+  pub none_ends : (z : List Item) (x : ℕ) → 1 ≤ r.up_len → x + r.up_len ≡ length z → is_one (drop x z) ≡ false
+      → slot_before r (slots_at r z (length z)) ≡ None
   none_ends z x l e h =
       let w : window r z x ≡ drop x z = take_all r.up_len (drop x z) (omega (arith, length-drop x z, e)) in
       before_at z (length z) (suc x) (omega arith)
@@ -85,7 +93,8 @@ module _ (r : SlotRule) where
     unfolding slots_at
     latest_is x = refl
 
-    packets_are : (x : ℕ) → packets_at r more (suc x) ≡ packets_at r more x ++ with_slot (window r more x) (slot_of r (window r more x) (slot_before r (slots_at r more x)))
+    packets_are : (x : ℕ) → packets_at r more (suc x) ≡ packets_at r more x ++ with_slot (window r more x)
+        (slot_of r (window r more x) (slot_before r (slots_at r more x)))
     unfolding packets_at
     packets_are x = refl
 
@@ -122,13 +131,18 @@ module _ (r : SlotRule) where
           | inl lt ↦
               let n : length more + 1 - r.up_len ≡ 0 = omega (arith, size) in
               let m : length z + 1 - r.up_len ≡ 0 = omega arith in
-              record { slot = before_none more (length z + 1) lt; packets = ap (packets_at r more) n ∙ sym (ap (packets_at r z) m) }
+              record {
+                slot = before_none more (length z + 1) lt;
+                packets = ap (packets_at r more) n
+                    ∙ sym (ap (packets_at r z) m);
+              }
           | inr ge ↦
               let x : ℕ = length z + 1 - r.up_len in
               let e : x + r.up_len ≡ length z + 1 = omega arith in
               let none = none_of r (drop x more) (slot_before r (slots_at r z x)) (h x e) in
               record {
                 slot = one_more_slot x l e ∙ none;
-                packets = one_more_packet x l e ∙ ap (λ (s : Option ℕ). user_packets r z ++ with_slot (drop x more) s) none ∙ append-nil (user_packets r z);
+                packets = one_more_packet x l e ∙ ap (λ (s : Option ℕ). user_packets r z ++ with_slot (drop x more) s) none
+                    ∙ append-nil (user_packets r z);
               }
         ]

@@ -14,14 +14,17 @@ before_is (suc n) ticks =
     let f : suc n - 1 ≡ n = omega arith in
     subst (λ (k : ℕ). suc n * ticks - 3 * ticks ≤ k * ticks) (sym f) (omega (arith, e))
 
-pub released_late : ReleasedOld → CountRises → (r : SlotRule) → IsSound r → (frame : ℕ) → due_after r frame ≤ over_after r (frame - 1)
+pub released_late : ReleasedOld → CountRises → (r : SlotRule) → IsSound r → (frame : ℕ)
+    → due_after r frame ≤ over_after r (frame - 1)
 released_late old rises r sound frame =
     let a = sound.den in
     let b = sound.slot in
     elim (cases_lt (over_after r (frame - 1)) (due_after r frame)) [
       | inl lt ↦
-          let p = old r.num r.den r.ticks (frame * r.ticks) (over_after r (frame - 1)) (omega (arith, a, b)) (omega (arith, a)) lt in
-          let m = rises r.num r.den (frame * r.ticks - 3 * r.ticks) ((frame - 1) * r.ticks) (omega (arith, a, b)) (before_is frame r.ticks) in
+          let p = old r.num r.den r.ticks (frame * r.ticks) (over_after r (frame - 1)) (omega (arith, a, b))
+          (omega (arith, a)) lt in
+          let m = rises r.num r.den (frame * r.ticks - 3 * r.ticks) ((frame - 1) * r.ticks) (omega (arith, a, b))
+          (before_is frame r.ticks) in
           absurd (omega (arith, p, m))
       | inr ge ↦ ge
     ]

@@ -1,5 +1,7 @@
 -- One item of the machine: the user packets that a string gains by one item are those that the machine gives.
-use Rattle.std.proofs.Common.{◌≡◌, ◌≢◌, ℕ, ◌+◌, ◌-◌, ◌<◌, ◌≤◌, Bool, true, false, List, [], ◌∷◌, ◌++◌, length, take, drop, Option, None, refl, ap, ap₂, ◌∙◌, sym, subst, arith, inl, inr, append-nil, append_assoc, length-append, length-drop, length-take, cond}
+use Rattle.std.proofs.Common.{◌≡◌, ◌≢◌, ℕ, ◌+◌, ◌-◌, ◌<◌, ◌≤◌, Bool, true, false, List, [], ◌∷◌, ◌++◌, length, take, drop, Option}
+use Rattle.std.proofs.Common.{None, refl, ap, ap₂, ◌∙◌, sym, subst, arith, inl, inr, append-nil, append_assoc, length-append}
+use Rattle.std.proofs.Common.{length-drop, length-take, cond}
 use Rattle.std.proofs.lemmas.Bool.{cases_lt, lt-ltb, le-ltb}
 use Rattle.std.proofs.lemmas.List.{drop-append-le, drop_at, drop_all, drop-drop, take-append-drop}
 use Rattle.packet_slots.specs.declared.mark.Mark.{Mark}
@@ -7,7 +9,8 @@ use Rattle.packet_slots.specs.declared.rule.SlotRule.{SlotRule}
 use Rattle.packet_slots.specs.Strings.{Item, is_start, is_inside}
 use Rattle.packet_slots.specs.declared.mark.Mark.TheVariants.{Gap, Inside, Next, Timed}
 use Rattle.packet_slots.specs.Packets.{UserPacket, is_one, slot_of, slot_before, slots_at, with_slot, user_packets}
-use Rattle.packet_slots.specs.Machine.{State, Turn, state_of, turn_of, before_next, ended, grown, inside, turn_by, turn, after, given, idle_or_one, Follows}
+use Rattle.packet_slots.specs.Machine.{State, Turn, state_of, turn_of, before_next, ended, grown, inside, turn_by, turn, after}
+use Rattle.packet_slots.specs.Machine.{given, idle_or_one, Follows}
 use Rattle.packet_slots.proofs.OneLemmas.{none_on, none_cut, one_on, one_alone, none_alone, one_parts}
 use Rattle.packet_slots.proofs.SlotLemmas.{same_before, before_none, one_more_slot, one_more_packet, none_ends, Stays, no_end}
 
@@ -26,8 +29,10 @@ start_not_inside Next e = refl
 start_not_inside (Timed iscr) e = refl
 
 -- the slot of the complete user packet, if there is one, that ends where the string ends
-next_before : (r : SlotRule) → 2 ≤ r.up_len → (z held : List Item) (before : Option ℕ) → Follows r z (state_of held before) → before_next held before ≡ slot_before r (slots_at r z (length z))
-next_before r two z [] before f = f.before ∙ ap (λ (n : ℕ). slot_before r (slots_at r z n)) (let e : length z - 0 ≡ length z = omega arith in e)
+next_before : (r : SlotRule) → 2 ≤ r.up_len → (z held : List Item) (before : Option ℕ) → Follows r z (state_of held before)
+    → before_next held before ≡ slot_before r (slots_at r z (length z))
+next_before r two z [] before f =
+    f.before ∙ ap (λ (n : ℕ). slot_before r (slots_at r z n)) (let e : length z - 0 ≡ length z = omega arith in e)
 next_before r two z (y ∷ ys) before f = sym (
     elim (cases_lt (length z) r.up_len) [
       | inl lt ↦ before_none r z (length z) lt
@@ -38,9 +43,11 @@ next_before r two z (y ∷ ys) before f = sym (
           let s = f.short in
           let q : x + k ≡ length z - length h = omega (arith, s) in
           let split : take k (drop x z) ++ (y ∷ ys) ≡ drop x z =
-          ap (λ (l : List Item). take k (drop x z) ++ l) (sym (drop-drop k x z ∙ ap (λ (n : ℕ). drop n z) q ∙ f.tail)) ∙ take-append-drop k (drop x z) in
+          ap (λ (l : List Item). take k (drop x z) ++ l) (sym (drop-drop k x z ∙ ap (λ (n : ℕ). drop n z) q ∙ f.tail))
+          ∙ take-append-drop k (drop x z) in
           let none : is_one (drop x z) ≡ false =
-          sym (ap is_one split) ∙ none_cut (take k (drop x z)) y ys (omega (arith, length-take k (drop x z), length-drop x z, s)) (start_not_inside y.mark (one_parts y ys f.begins).0) in
+          sym (ap is_one split) ∙ none_cut (take k (drop x z)) y ys (omega (arith, length-take k (drop x z), length-drop x z, s))
+          (start_not_inside y.mark (one_parts y ys f.begins).0) in
           none_ends r z x (omega arith) (omega arith) none
     ])
 
@@ -72,10 +79,13 @@ module _ (r : SlotRule) (two : 2 ≤ r.up_len) (z : List Item) (b : Item) where
   last_none h = ap is_one alone ∙ none_alone b [] h
 
   -- no place from which the user packet might go on
-  closes : Stays r z b → ((x : ℕ) → x < length more → length more < x + r.up_len → is_one (drop x more) ≡ false) → Turned (turn_of (state_of [] None) [])
+  closes : Stays r z b → ((x : ℕ) → x < length more → length more < x + r.up_len → is_one (drop x more) ≡ false)
+      → Turned (turn_of (state_of [] None) [])
   closes stays none = record {
     follows = record {
-      before = sym (ap (λ (n : ℕ). slot_before r (slots_at r more n)) (let e : length more - 0 ≡ length z + 1 = omega (arith, size) in e) ∙ stays.slot);
+      before =
+          sym (ap (λ (n : ℕ). slot_before r (slots_at r more n)) (let e : length more - 0 ≡ length z + 1 = omega (arith, size) in
+          e) ∙ stays.slot);
       tail = drop_all _ more (omega arith);
       short = omega arith;
       begins = refl;
@@ -89,18 +99,21 @@ module _ (r : SlotRule) (two : 2 ≤ r.up_len) (z : List Item) (b : Item) where
       let each : (x : ℕ) → x < length more → is_one (drop x more) ≡ false = λ x l.
       elim (cases_lt x (length z)) [
         | inl lt ↦ cut_more x lt i
-        | inr ge ↦ let e : x ≡ length z = omega (arith, size) in subst (λ (k : ℕ). is_one (drop k more) ≡ false) (sym e) (last_none s)
+        | inr ge ↦ let e : x ≡ length z = omega (arith, size) in
+            subst (λ (k : ℕ). is_one (drop k more) ≡ false) (sym e) (last_none s)
       ] in
       closes (no_end r z b (omega arith) (λ x e. each x (omega (arith, size)))) (λ x l m. each x l)
 
-  started : (held : List Item) (before : Option ℕ) → Follows r z (state_of held before) → is_inside b.mark ≡ false → is_start b.mark ≡ true → Turned (turn_of (state_of (b ∷ []) (before_next held before)) [])
+  started : (held : List Item) (before : Option ℕ) → Follows r z (state_of held before) → is_inside b.mark ≡ false
+      → is_start b.mark ≡ true → Turned (turn_of (state_of (b ∷ []) (before_next held before)) [])
   started held before f i st =
       let each : (x : ℕ) → x < length z → is_one (drop x more) ≡ false = λ x l. cut_more x l i in
       let at : length more - 1 ≡ length z = omega (arith, size) in
       let stays = no_end r z b (omega arith) (λ x e. each x (omega arith)) in
       record {
         follows = record {
-          before = next_before r two z held before f ∙ sym (same_before r z (b ∷ []) (length z) (omega arith) (omega arith)) ∙ sym (ap (λ (n : ℕ). slot_before r (slots_at r more n)) at);
+          before = next_before r two z held before f ∙ sym (same_before r z (b ∷ []) (length z) (omega arith) (omega arith))
+              ∙ sym (ap (λ (n : ℕ). slot_before r (slots_at r more n)) at);
           tail = ap (λ (n : ℕ). drop n more) at ∙ alone;
           short = omega arith;
           begins = one_alone b st;
@@ -109,17 +122,21 @@ module _ (r : SlotRule) (two : 2 ≤ r.up_len) (z : List Item) (b : Item) where
         gains = stays.packets ∙ sym (append-nil (user_packets r z));
       }
 
-  waits : (before : Option ℕ) → Follows r z (state_of [] before) → is_start b.mark ≡ false → Turned (turn_of (state_of [] None) [])
+  waits : (before : Option ℕ) → Follows r z (state_of [] before) → is_start b.mark ≡ false
+      → Turned (turn_of (state_of [] None) [])
   waits before f st =
       let each : (x : ℕ) → x < length more → length z < x + r.up_len → is_one (drop x more) ≡ false = λ x l m.
       elim (cases_lt x (length z)) [
         | inl lt ↦ none_more x lt (f.others x lt m (λ (q : x ≡ length z - 0). omega (arith, q)))
-        | inr ge ↦ let q : x ≡ length z = omega (arith, size) in subst (λ (k : ℕ). is_one (drop k more) ≡ false) (sym q) (last_none st)
+        | inr ge ↦ let q : x ≡ length z = omega (arith, size) in
+            subst (λ (k : ℕ). is_one (drop k more) ≡ false) (sym q) (last_none st)
       ] in
-      closes (no_end r z b (omega arith) (λ x q. each x (omega (arith, size)) (omega arith))) (λ x l m. each x l (omega (arith, size)))
+      closes (no_end r z b (omega arith) (λ x q. each x (omega (arith, size)) (omega arith)))
+      (λ x l m. each x l (omega (arith, size)))
 
   -- the user packet that is held gets a byte more
-  module _ (held : List Item) (before : Option ℕ) (f : Follows r z (state_of held before)) (some : 1 ≤ length held) (i : is_inside b.mark ≡ true) (st : is_start b.mark ≡ false) where
+  module _ (held : List Item) (before : Option ℕ) (f : Follows r z (state_of held before)) (some : 1 ≤ length held)
+      (i : is_inside b.mark ≡ true) (st : is_start b.mark ≡ false) where
     abbrev from : ℕ
     from = length z - length held
 
@@ -136,16 +153,20 @@ module _ (r : SlotRule) (two : 2 ≤ r.up_len) (z : List Item) (b : Item) where
     each x l m ne =
         elim (cases_lt x (length z)) [
           | inl lt ↦ none_more x lt (f.others x lt m ne)
-          | inr ge ↦ let q : x ≡ length z = omega (arith, size) in subst (λ (k : ℕ). is_one (drop k more) ≡ false) (sym q) (last_none st)
+          | inr ge ↦ let q : x ≡ length z = omega (arith, size) in
+              subst (λ (k : ℕ). is_one (drop k more) ≡ false) (sym q) (last_none st)
         ]
 
     goes_on : length held + 1 < r.up_len → Turned (turn_of (state_of (held ++ b ∷ []) before) [])
     goes_on l =
         let at : length more - length (held ++ b ∷ []) ≡ from = omega (arith, size, longer, fits) in
-        let stays = no_end r z b (omega arith) (λ x e. each x (omega (arith, size)) (omega arith) (λ (q : x ≡ from). omega (arith, q, fits))) in
+        let stays =
+        no_end r z b (omega arith)
+        (λ x e. each x (omega (arith, size)) (omega arith) (λ (q : x ≡ from). omega (arith, q, fits))) in
         record {
           follows = record {
-            before = f.before ∙ sym (same_before r z (b ∷ []) from (omega arith) (omega arith)) ∙ sym (ap (λ (n : ℕ). slot_before r (slots_at r more n)) at);
+            before = f.before ∙ sym (same_before r z (b ∷ []) from (omega arith) (omega arith))
+                ∙ sym (ap (λ (n : ℕ). slot_before r (slots_at r more n)) at);
             tail = ap (λ (n : ℕ). drop n more) at ∙ grown_is;
             short = omega (arith, longer);
             begins = idle_from (held ++ b ∷ []) (one_on held b (one_from_idle held some f.begins) i);
@@ -168,17 +189,25 @@ module _ (r : SlotRule) (two : 2 ≤ r.up_len) (z : List Item) (b : Item) where
             begins = refl;
             others = λ x k m ne. each x k (omega (arith, size)) (λ (q : x ≡ from). omega (arith, q, size, e));
           };
-          gains = one_more_packet r z b from (omega arith) e ∙ ap₂ (λ (w : List Item) (s : Option ℕ). user_packets r z ++ with_slot w s) grown_is slot;
+          gains = one_more_packet r z b from (omega arith) e
+              ∙ ap₂ (λ (w : List Item) (s : Option ℕ). user_packets r z ++ with_slot w s) grown_is slot;
         }
 
     grows : Turned (grown r (held ++ b ∷ []) before)
     grows =
         elim (cases_lt (length (held ++ b ∷ [])) r.up_len) [
-          | inl lt ↦ subst Turned (sym (ap (λ (t : Bool). cond {A = Turn} t (turn_of (state_of (held ++ b ∷ []) before) []) (ended r (held ++ b ∷ []) before)) (lt-ltb _ _ lt))) (goes_on (omega (arith, longer)))
-          | inr ge ↦ subst Turned (sym (ap (λ (t : Bool). cond {A = Turn} t (turn_of (state_of (held ++ b ∷ []) before) []) (ended r (held ++ b ∷ []) before)) (le-ltb _ _ ge))) (completes (let s = f.short in omega (arith, longer, s)))
+          | inl lt ↦
+              subst Turned
+              (sym (ap (λ (t : Bool). cond {A = Turn} t (turn_of (state_of (held ++ b ∷ []) before) [])
+              (ended r (held ++ b ∷ []) before)) (lt-ltb _ _ lt))) (goes_on (omega (arith, longer)))
+          | inr ge ↦
+              subst Turned
+              (sym (ap (λ (t : Bool). cond {A = Turn} t (turn_of (state_of (held ++ b ∷ []) before) [])
+              (ended r (held ++ b ∷ []) before)) (le-ltb _ _ ge))) (completes (let s = f.short in omega (arith, longer, s)))
         ]
 
-  insides : (held : List Item) (before : Option ℕ) → Follows r z (state_of held before) → is_inside b.mark ≡ true → is_start b.mark ≡ false → Turned (inside r held before b)
+  insides : (held : List Item) (before : Option ℕ) → Follows r z (state_of held before) → is_inside b.mark ≡ true
+      → is_start b.mark ≡ false → Turned (inside r held before b)
   insides [] before f i st = waits before f st
   insides (y ∷ ys) before f i st = grows (y ∷ ys) before f (omega arith) i st
 

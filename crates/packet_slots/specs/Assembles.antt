@@ -1,5 +1,6 @@
 -- What an `Assembler` stands for.
-use Rattle.std.specs.Prelude.{◌≡◌, ℕ, ◌-◌, ◌<◌, ◌++◌, ◌==◌, slice_index, min, option_map, true, false, List, [], ◌∷◌, take, Option, Some, None, if◌then◌else◌}
+use Rattle.std.specs.Prelude.{◌≡◌, ℕ, ◌-◌, ◌<◌, ◌++◌, ◌==◌, slice_index, min, option_map, true, false, List, [], ◌∷◌, take}
+use Rattle.std.specs.Prelude.{Option, Some, None, if◌then◌else◌}
 use Rattle.plp_config.specs.declared.moment.TheConstants.{MOST_FRAMES}
 use Rattle.packet_slots.specs.declared.rule.TheConstants.{ISCR_MODULUS}
 use Rattle.packet_slots.specs.declared.rule.SlotRule.{SlotRule}
@@ -66,7 +67,8 @@ Gives r frame held None given = given ≡ []
 Gives r frame held (Some found) given = (up : UserPacket) × IsFound r frame held found up × (given ≡ up ∷ [])
 
 -- the user packets that a string gains by some items are what was found
-pub record Gains (r : SlotRule) (z : List Item) (frame : ℕ) (more : List Item) (held : List ℕ) (result : Option Found) : Type 0 where
+pub record Gains (r : SlotRule) (z : List Item) (frame : ℕ) (more : List Item) (held : List ℕ)
+    (result : Option Found) : Type 0 where
   pub given : List UserPacket
   pub packets : user_packets r (z ++ more) ≡ user_packets r z ++ given
   pub gives : Gives r frame held result given

@@ -1,5 +1,6 @@
 -- What an `Assembler` keeps of the machine's state. No public clause cites this module.
-use Rattle.std.specs.Prelude.{◌≡◌, ℕ, ◌+◌, ◌^◌, ◌==◌, Bool, false, List, [], ◌∷◌, length, take, Option, if◌then◌else◌, option_map, min}
+use Rattle.std.specs.Prelude.{◌≡◌, ℕ, ◌+◌, ◌^◌, ◌==◌, Bool, false, List, [], ◌∷◌, length, take, Option, if◌then◌else◌, option_map}
+use Rattle.std.specs.Prelude.{min}
 use Rattle.packet_slots.specs.declared.mark.Mark.{Mark}
 use Rattle.packet_slots.specs.declared.mark.Mark.TheVariants.{Gap, Inside, Next, Timed}
 use Rattle.packet_slots.specs.declared.rule.SlotRule.{SlotRule}
@@ -21,7 +22,8 @@ slot_with base dnp = if base.timed then base.slot else option_map (λ k. min (k 
 -- the slot of what is held, or, if nothing is, of the user packet before
 abbrev pub IsBase : SlotRule → List Item → Option ℕ → Base → Type 0
 IsBase r [] before base = base.slot ≡ capped before
-IsBase r (x ∷ xs) before base = (base.frame ≡ x.frame) × ((dnp : ℕ) → slot_with base dnp ≡ capped (slot_by r x.mark x.frame dnp before))
+IsBase r (x ∷ xs) before base = (base.frame ≡ x.frame)
+    × ((dnp : ℕ) → slot_with base dnp ≡ capped (slot_by r x.mark x.frame dnp before))
 
 pub record Holds (r : SlotRule) (s : State) (len : ℕ) (held : List ℕ) (kept : Base) : Type 0 where
   pub bytes : take len held ≡ values s.held

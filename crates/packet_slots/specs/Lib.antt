@@ -1,17 +1,18 @@
 pub mod Sound
 pub mod Strings
 pub mod Packets
-pub mod Machine
 pub mod Pieces
-pub mod Base
 pub mod Assembles
 pub mod Times
 pub mod Readback
 pub mod Records
-pub mod Filling
 pub mod Window
-pub mod Holds
-pub mod Both
 pub mod StandsFor
 pub mod Laws
 pub mod LaterBlocks
+-- inner: no public clause cites these
+pub mod Machine
+pub mod Base
+pub mod Filling
+pub mod Holds
+pub mod Both

@@ -1,5 +1,6 @@
 -- User packets of a string: which are complete, and which slot each has.
-use Rattle.std.specs.Prelude.{ℕ, zero, suc, ◌+◌, ◌-◌, ◌*◌, ◌%◌, ◌==◌, ◌&&◌, Bool, false, List, [], ◌∷◌, ◌++◌, length, take, drop, Option, Some, None, if◌then◌else◌, option_map}
+use Rattle.std.specs.Prelude.{ℕ, zero, suc, ◌+◌, ◌-◌, ◌*◌, ◌%◌, ◌==◌, ◌&&◌, Bool, false, List, [], ◌∷◌, ◌++◌, length, take, drop}
+use Rattle.std.specs.Prelude.{Option, Some, None, if◌then◌else◌, option_map}
 use Rattle.std.specs.List.{range_with_len, find, list_all}
 use Rattle.ts_packet.specs.declared.sizes.TheConstants.{SIZE, SYNC}
 use Rattle.plp_config.specs.SlotTime.{slot_start, slot_count}
@@ -39,7 +40,8 @@ is_complete w = is_one w && (last_item w).can_end
 abbrev pub slot_of_iscr : SlotRule → ℕ → ℕ → Option ℕ
 slot_of_iscr r frame iscr =
     find (λ k. slot_start r.num r.den k % ISCR_MODULUS == iscr)
-    (range_with_len (slot_count r.num r.den ((frame - 1) * r.ticks)) (slot_count r.num r.den (frame * r.ticks) - slot_count r.num r.den ((frame - 1) * r.ticks)))
+    (range_with_len (slot_count r.num r.den ((frame - 1) * r.ticks))
+    (slot_count r.num r.den (frame * r.ticks) - slot_count r.num r.den ((frame - 1) * r.ticks)))
 
 abbrev pub dnp_of : SlotRule → List Item → ℕ
 dnp_of r w = if r.deletes then (last_item w).value else 0

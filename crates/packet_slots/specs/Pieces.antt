@@ -1,4 +1,5 @@
--- A data field in pieces: a user packet may begin at the first byte of a piece, and at no other. No public clause cites this module.
+-- A data field in pieces: a user packet may begin at the first byte of a piece, and at no other. No public clause cites this
+-- module.
 use Rattle.std.specs.Prelude.{ℕ, nat_lt, Bool, true, false, List, [], ◌∷◌, ◌++◌, length, Option, None, if◌then◌else◌}
 use Rattle.packet_slots.specs.declared.mark.Mark.{Mark}
 use Rattle.packet_slots.specs.declared.rule.SlotRule.{SlotRule}
@@ -18,7 +19,8 @@ piece_items mark frame (v ∷ u ∷ us) = item mark v frame false ∷ piece_item
 -- the bytes of a user packet go on with those of a piece
 abbrev pub piece_grown : SlotRule → List Item → Option ℕ → Turn
 piece_grown r w before =
-    if nat_lt (length w) r.up_len then turn_of (state_of w before) [] else (if nat_lt r.up_len (length w) then turn_of (state_of [] None) [] else ended r w before)
+    if nat_lt (length w) r.up_len then turn_of (state_of w before) []
+    else (if nat_lt r.up_len (length w) then turn_of (state_of [] None) [] else ended r w before)
 
 abbrev pub piece_inside : SlotRule → List Item → Option ℕ → List Item → Turn
 piece_inside r [] before piece = turn_of (state_of [] None) []

@@ -9,7 +9,8 @@ use Rattle.packet_slots.specs.Times.{delay_of, over_after}
 use Rattle.packet_slots.specs.Strings.{Item, values}
 use Rattle.packet_slots.specs.Packets.{UserPacket, user_packets, first_item, last_item}
 
--- A slot is in the range of the frame in which its user packet begins, and is not given out when the frame begins in which it ends.
+-- A slot is in the range of the frame in which its user packet begins, and is not given out when the frame begins in which it
+-- ends.
 abbrev pub counts_by : SlotRule → ℕ → ℕ → ℕ → ℕ → Bool
 counts_by r delay slot begun ended =
     nat_le (over_after r (begun - 1)) slot && (nat_lt slot (over_after r begun)

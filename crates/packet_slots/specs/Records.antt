@@ -37,7 +37,8 @@ first_slot r first = over_after r (first - 1)
 -- the packets of the slots that are given out after the records from a frame on
 unfoldable pub readback : SlotRule → ℕ → List Record → List (List ℕ)
 readback r first records =
-    map (slot_packet r (string_of r.up_len first records)) (range_with_len (first_slot r first) (due_after r (first + length records) - first_slot r first))
+    map (slot_packet r (string_of r.up_len first records))
+    (range_with_len (first_slot r first) (due_after r (first + length records) - first_slot r first))
 
 -- how many slots are behind the first one when so many frames have come
 abbrev pub held_slots : SlotRule → ℕ → ℕ → ℕ

@@ -14,14 +14,16 @@ use Rattle.packet_slots.specs.Both.{Both}
 abbrev pub blocks_items : ℕ → ℕ → List (Option Block) → List Item
 blocks_items len frame blocks = flat_map (block_or_gap len frame) blocks
 
-pub record Stands (a : Assembler) (w : SlotWindow) (frame : ℕ) (r : SlotRule) (first : ℕ) (records : List Record) (released : ℕ) : Type 0 where
+pub record Stands (a : Assembler) (w : SlotWindow) (frame : ℕ) (r : SlotRule) (first : ℕ) (records : List Record)
+    (released : ℕ) : Type 0 where
   pub both : Both r (string_of r.up_len first records) a w
   pub number : frame ≡ first + length records
   pub begin : w.first ≡ first_slot r first + released
   pub end : w.end ≡ over_after r (frame - 1)
   pub due : w.due_end ≡ due_after r frame
 
-pub record Within (a : Assembler) (w : SlotWindow) (frame : ℕ) (r : SlotRule) (first : ℕ) (records : List Record) (blocks : List (Option Block)) (released : ℕ) : Type 0 where
+pub record Within (a : Assembler) (w : SlotWindow) (frame : ℕ) (r : SlotRule) (first : ℕ) (records : List Record)
+    (blocks : List (Option Block)) (released : ℕ) : Type 0 where
   pub both : Both r (string_of r.up_len first records ++ blocks_items r.up_len frame blocks) a w
   pub number : frame ≡ first + length records
   pub begin : w.first ≡ first_slot r first + released

@@ -1,11 +1,13 @@
--- The joined data fields of taken blocks, byte by byte (EN 302 755, clause 5.1). A byte tells where user packets begin and may end.
-use Rattle.std.specs.Prelude.{ℕ, ◌+◌, ◌-◌, ◌/◌, ◌%◌, ◌==◌, ◌||◌, nat_lt, Bool, true, false, List, [], ◌∷◌, length, map, Option, Some, None, if◌then◌else◌}
+-- The joined data fields of taken blocks, byte by byte (EN 302 755, clause 5.1). A byte tells where user packets begin and may
+-- end.
+use Rattle.std.specs.Prelude.{ℕ, ◌+◌, ◌-◌, ◌/◌, ◌%◌, ◌==◌, ◌||◌, nat_lt, Bool, true, false, List, [], ◌∷◌, length, map, Option}
+use Rattle.std.specs.Prelude.{Some, None, if◌then◌else◌}
 use Rattle.packet_slots.specs.declared.rule.TheConstants.{ISCR_MODULUS}
 use Rattle.packet_slots.specs.declared.mark.Mark.{Mark}
 use Rattle.packet_slots.specs.declared.mark.Mark.TheVariants.{Gap, Inside, Next, Timed}
 
--- a byte of the string, or a gap; frame is the number of the frame whose block it stands in. A user packet can end at the last byte
--- of a block, and at each byte behind which one begins
+-- a byte of the string, or a gap; frame is the number of the frame whose block it stands in. A user packet can end at the last
+-- byte of a block, and at each byte behind which one begins
 pub record Item : Type 0 where
   pub mark : Mark
   pub value : ℕ
@@ -36,7 +38,8 @@ first_mark issy = if issy / ISCR_MODULUS == 2 then Timed (issy % ISCR_MODULUS) e
 
 -- user packets begin at the first place and at every further len bytes
 abbrev pub mark_from : ℕ → ℕ → ℕ → ℕ → Mark
-mark_from len issy s i = if i == s then first_mark issy else (if nat_lt i s then Inside else (if (i - s) % len == 0 then Next else Inside))
+mark_from len issy s i = if i == s then first_mark issy
+    else (if nat_lt i s then Inside else (if (i - s) % len == 0 then Next else Inside))
 
 abbrev pub mark_in : ℕ → ℕ → Option ℕ → ℕ → Mark
 mark_in len issy None i = Inside
@@ -46,7 +49,14 @@ unfoldable pub mark_at : ℕ → Block → ℕ → Mark
 mark_at len b i = mark_in len b.issy b.first i
 
 abbrev pub item_at : ℕ → ℕ → Block → ℕ → ℕ → Item
-item_at len frame b i value = record { mark = mark_at len b i; value = value; frame = frame; can_end = (i + 1 == length b.field) || is_start (mark_at len b (i + 1)) }
+item_at len frame b i value =
+    record {
+      mark = mark_at len b i;
+      value = value;
+      frame = frame;
+      can_end = (i + 1 == length b.field) || is_start
+          (mark_at len b (i + 1));
+    }
 
 -- some bytes of the data field, from place i on
 abbrev pub items_from : ℕ → ℕ → Block → ℕ → List ℕ → List Item

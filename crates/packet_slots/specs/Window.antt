@@ -20,7 +20,8 @@ status_of w = record { rule = w.rule; slots = w.slots.items; first = w.first; en
 
 -- a window that begins with the slots of a frame
 abbrev pub begun : Status → ℕ → Status
-begun s frame = record s { first = over_after s.rule (frame - 1); end = over_after s.rule (frame - 1); due_end = due_after s.rule frame }
+begun s frame =
+    record s { first = over_after s.rule (frame - 1); end = over_after s.rule (frame - 1); due_end = due_after s.rule frame }
 
 -- the slots of a frame came into it
 abbrev pub entered : Status → ℕ → Status

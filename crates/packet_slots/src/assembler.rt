@@ -8,7 +8,7 @@ use crate::mark::Mark;
 use crate::rule::SlotRule;
 use ts_packet::{SIZE, SYNC, TsPacket};
 
-// How the user packet under way gets its slot.
+/// How the user packet under way gets its slot.
 #[derive(Clone, Copy)]
 pub struct Base {
     // By its ISCR: then `slot` is its own, else that of the one before it.

@@ -46,7 +46,7 @@ fn take_piece(
     }
 }
 
-// A block is not taken, or a frame is muted.
+/// A block is not taken, or a frame is muted.
 pub fn take_gap(assembler: &mut Assembler, window: &SlotWindow)
     ensures rule { assembler.new.rule ≡ assembler.old.rule }
     ensures both { (r : SlotRule) (z : List Item) (frame : ℕ) → Both r z assembler.old window.now → Both r (z ++ gap frame ∷ []) assembler.new window.now }
@@ -145,7 +145,7 @@ fn start_of(block: &TakenBlock<'_>) -> usize
     }
 }
 
-// Takes a block.
+/// Takes a block.
 pub fn take_block(
     assembler: &mut Assembler,
     window: &mut SlotWindow,

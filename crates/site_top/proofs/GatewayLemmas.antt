@@ -12,12 +12,15 @@ not_true false e = refl
 
 pub other_name : (file out : List ℕ) → is_input out file ≡ true → file ≢ out
 other_name file out e same =
-    let differs : bytes_eq file out ≡ false = not_true (bytes_eq file out) (both (not (is_empty file)) (not (bytes_eq file out)) e).1 in
+    let differs : bytes_eq file out ≡ false =
+    not_true (bytes_eq file out) (both (not (is_empty file)) (not (bytes_eq file out)) e).1 in
     let equal : bytes_eq file out ≡ true = (bytes_eq-Decides file out).1 same in
     cc
 
 -- the output is none of the inputs
-pub apart : (out : List ℕ) (ins : List (List ℕ)) → are_inputs out ins ≡ true → (plp : ℕ) → plp < length ins → slice_index_or ins plp [] ≢ out
+pub apart : (out : List ℕ) (ins : List (List ℕ)) → are_inputs out ins ≡ true → (plp : ℕ) → plp < length ins
+    → slice_index_or ins plp [] ≢ out
 apart out [] e plp inside = absurd (omega arith)
 apart out (file ∷ files) e zero inside = other_name file out (both (is_input out file) (are_inputs out files) e).0
-apart out (file ∷ files) e (suc plp) inside = apart out files (both (is_input out file) (are_inputs out files) e).1 plp (omega arith)
+apart out (file ∷ files) e (suc plp) inside = apart out files (both (is_input out file) (are_inputs out files) e).1 plp
+    (omega arith)

@@ -13,7 +13,8 @@ same_or_not a b = elim (cases_eq a b) [ inl same ↦ inr same | inr differ ↦ i
 
 pub has_place : (c : Config) → AllRules c → (id : ℕ) → HasNoPlace c id ⊎ ((plp : ℕ) × IsPlace c id plp)
 has_place c rules id =
-    elim (first_other (λ k. ¬ ((plp_at c.plps k).id ≡ id)) (λ k. (plp_at c.plps k).id ≡ id) (λ k. same_or_not (plp_at c.plps k).id id) (length c.plps)) [
+    elim (first_other (λ k. ¬ ((plp_at c.plps k).id ≡ id)) (λ k. (plp_at c.plps k).id ≡ id)
+    (λ k. same_or_not (plp_at c.plps k).id id) (length c.plps)) [
       | inl none ↦ inl none
       | inr found ↦ inr (found.0, place_is c rules id found.0 found.1 found.2)
     ]

@@ -1,5 +1,6 @@
 -- What comes back of a file of the records of a run's frames.
-use Rattle.std.proofs.Common.{◌≡◌, ℕ, zero, suc, ◌+◌, ◌*◌, ◌<◌, ◌≤◌, Bool, true, not, List, [], ◌∷◌, ◌++◌, map, length, Option, Some, None, refl, ap, sym, subst, ◌∙◌, arith}
+use Rattle.std.proofs.Common.{◌≡◌, ℕ, zero, suc, ◌+◌, ◌*◌, ◌<◌, ◌≤◌, Bool, true, not, List, [], ◌∷◌, ◌++◌, map, length, Option}
+use Rattle.std.proofs.Common.{Some, None, refl, ap, sym, subst, ◌∙◌, arith}
 use Rattle.std.specs.Prelude.{IfSome, unwrap_or, replicate}
 use Rattle.std.specs.FinMap.{get}
 use Rattle.std.specs.List.{AllByRecursion, concat, range_with_len}
@@ -50,12 +51,14 @@ pub record FileLaws : Type 0 where
   pub back : RunComesBack
 
 -- what was written of records is these records
-written_back : WrittenIsRead → WrittenSpells → (ws : List RecordView) → AllByRecursion FitsRecord ws → AreRecords (file_bytes ws) ws []
+written_back : WrittenIsRead → WrittenSpells → (ws : List RecordView) → AllByRecursion FitsRecord ws
+    → AreRecords (file_bytes ws) ws []
 written_back read spells [] all = refl
 written_back read spells (w ∷ ws) all = (
   length (record_bytes w),
   read w (record_bytes w) (file_bytes ws) (spells w all.0),
-  subst (λ (bytes : List ℕ). AreRecords bytes ws []) (sym (drop-append_seam (record_bytes w) (file_bytes ws))) (written_back read spells ws all.1),
+  subst (λ (bytes : List ℕ). AreRecords bytes ws []) (sym (drop-append_seam (record_bytes w) (file_bytes ws)))
+      (written_back read spells ws all.1),
 )
 
 abbrev first_of : List Moment → Moment → Moment
@@ -64,40 +67,54 @@ first_of (x ∷ xs) other = x
 
 module _ (laws : FileLaws) (c : Config) (plan : IsPlan c) (types : TypesFit c) (plp : ℕ) (inside : plp < length c.plps) where
   -- they are those that are read
-  same_views : (file : List ℕ) (views ws : List RecordView) → AreRecords file views [] → AllByRecursion FitsRecord ws → file ≡ file_bytes ws → views ≡ ws
+  same_views : (file : List ℕ) (views ws : List RecordView) → AreRecords file views [] → AllByRecursion FitsRecord ws
+      → file ≡ file_bytes ws → views ≡ ws
   same_views file views ws records all is =
-      (same_records laws.one laws.never file [] [] views ws records (subst (λ (bytes : List ℕ). AreRecords bytes ws []) (sym is) (written_back laws.read laws.spells ws all)) stuck_nil stuck_nil).0
+      (same_records laws.one laws.never file [] [] views ws records
+      (subst (λ (bytes : List ℕ). AreRecords bytes ws []) (sym is) (written_back laws.read laws.spells ws all)) stuck_nil
+      stuck_nil).0
 
   -- and the first one is of the frame that it was written of
-  first_is : (inputs : ℕ → List (List ℕ)) (whole : ℕ → Bool) (first count n : ℕ) → first + suc count ≤ MOST_FRAMES → IsOnGrid c n (map (record_of c inputs whole) (range_with_len first (suc count))) → n ≡ first
+  first_is : (inputs : ℕ → List (List ℕ)) (whole : ℕ → Bool) (first count n : ℕ) → first + suc count ≤ MOST_FRAMES
+      → IsOnGrid c n (map (record_of c inputs whole) (range_with_len first (suc count))) → n ≡ first
   first_is inputs whole first count n small grid =
-      let own : moment_of (record_of c inputs whole first) ≡ emission c first = cond_both {A = RecordView} (whole first) (frame_of c inputs first) (Muted (emission c first)) (λ (v : RecordView). moment_of v ≡ emission c first) (λ t. refl) (λ f. refl) in
+      let own : moment_of (record_of c inputs whole first) ≡ emission c first =
+      cond_both {A = RecordView} (whole first) (frame_of c inputs first) (Muted (emission c first))
+      (λ (v : RecordView). moment_of v ≡ emission c first) (λ t. refl) (λ f. refl) in
       let told : moment_of (record_of c inputs whole first) ≡ emission c n = ap (λ xs. first_of xs (emission c n)) grid.moments in
       let few = grid.small in
-      laws.frame c (emission c n) n first plan.rules (record { small = omega (arith, few); emission-is = refl }) (record { small = omega (arith, small); emission-is = sym told ∙ own })
+      laws.frame c (emission c n) n first plan.rules (record { small = omega (arith, few); emission-is = refl })
+      (record { small = omega (arith, small); emission-is = sym told ∙ own })
 
-  given_back : (first : ℕ) (w : RecordView) (ws views : List RecordView) (packets : List (List ℕ)) → views ≡ w ∷ ws → GivesBack c plp first views packets → Readback c plp first (w ∷ ws) packets
+  given_back : (first : ℕ) (w : RecordView) (ws views : List RecordView) (packets : List (List ℕ)) → views ≡ w ∷ ws
+      → GivesBack c plp first views packets → Readback c plp first (w ∷ ws) packets
   given_back first w ws views packets is back = subst (λ (vs : List RecordView). GivesBack c plp first vs packets) is back
 
   -- so they are given back from that frame on
-  packets_back : (file bytes : List ℕ) (views : List RecordView) → AreRecords file views [] → (r : Received c plp views bytes) → (inputs : ℕ → List (List ℕ)) (whole : ℕ → Bool) (first count : ℕ)
+  packets_back : (file bytes : List ℕ) (views : List RecordView) → AreRecords file views [] → (r : Received c plp views bytes)
+      → (inputs : ℕ → List (List ℕ)) (whole : ℕ → Bool) (first count : ℕ)
       → 1 ≤ count → first + count ≤ MOST_FRAMES → file ≡ file_bytes (map (record_of c inputs whole) (range_with_len first count))
       → Readback c plp first (map (record_of c inputs whole) (range_with_len first count)) r.packets
   packets_back file bytes views records r inputs whole first zero some small is = absurd (omega (arith, some))
   packets_back file bytes views records r inputs whole first (suc count) some small is =
       let ws : List RecordView = map (record_of c inputs whole) (range_with_len first (suc count)) in
-      let same : views ≡ ws = same_views file views ws records (laws.fits c inputs whole first (suc count) plan types.ids small) is in
+      let same : views ≡ ws =
+      same_views file views ws records (laws.fits c inputs whole first (suc count) plan types.ids small) is in
       let at : r.first ≡ first = first_is inputs whole first count r.first small (subst (IsOnGrid c r.first) same r.successive) in
       let back : Readback c plp r.first ws r.packets =
-      given_back r.first (record_of c inputs whole first) (map (record_of c inputs whole) (range_with_len (first + 1) count)) views r.packets same r.back in
+      given_back r.first (record_of c inputs whole first) (map (record_of c inputs whole) (range_with_len (first + 1) count))
+      views r.packets same r.back in
       subst (λ (n : ℕ). Readback c plp n ws r.packets) at back
 
   -- of frames in a row
-  frames_back : (file bytes : List ℕ) (views : List RecordView) → AreRecords file views [] → Received c plp views bytes → (inputs : ℕ → List (List ℕ)) (whole : ℕ → Bool) (first count : ℕ) → AllByRecursion IsPacket (inputs plp)
+  frames_back : (file bytes : List ℕ) (views : List RecordView) → AreRecords file views [] → Received c plp views bytes
+      → (inputs : ℕ → List (List ℕ)) (whole : ℕ → Bool) (first count : ℕ) → AllByRecursion IsPacket (inputs plp)
       → 1 ≤ count → first + count ≤ MOST_FRAMES → file ≡ file_bytes (map (record_of c inputs whole) (range_with_len first count))
       → bytes ≡ concat (recover c plp c.ticks (packet_at (inputs plp)) (λ m. not (whole m)) first count)
   frames_back file bytes views records r inputs whole first count all some small is =
-      r.bytes_are ∙ ap concat (laws.recovers c plp inputs whole first count r.packets plan types inside all (packets_back file bytes views records r inputs whole first count some small is))
+      r.bytes_are
+      ∙ ap concat (laws.recovers c plp inputs whole first count r.packets plan types inside all
+      (packets_back file bytes views records r inputs whole first count some small is))
 
   -- a run has a frame
   some_ticks : (count least : ℕ) → 1 ≤ least → least ≤ count * c.ticks → 1 ≤ count
@@ -107,13 +124,18 @@ module _ (laws : FileLaws) (c : Config) (plan : IsPlan c) (types : TypesFit c) (
   some_frames : (inputs : ℕ → List (List ℕ)) → 1 ≤ run_length c inputs
   some_frames inputs =
       let plps = (plan.rules PlpCount).0 in
-      some_ticks (run_length c inputs) _ (omega arith) ((laws.least c (λ plp. length (inputs plp)) plan.rules).enough 0 (omega (arith, plps)))
+      some_ticks (run_length c inputs) _ (omega arith)
+      ((laws.least c (λ plp. length (inputs plp)) plan.rules).enough 0 (omega (arith, plps)))
 
   -- of all frames
-  run_back : (file bytes : List ℕ) (views : List RecordView) → AreRecords file views [] → Received c plp views bytes → (inputs : ℕ → List (List ℕ)) → AllByRecursion IsPacket (inputs plp) → AllByRecursion (IsCanonical (plp_at c.plps plp).delete) (inputs plp)
-      → run_length c inputs ≤ MOST_FRAMES → file ≡ file_bytes (run_frames c inputs) → (nulls : ℕ) × (bytes ≡ concat (inputs plp ++ replicate nulls null_packet))
+  run_back : (file bytes : List ℕ) (views : List RecordView) → AreRecords file views [] → Received c plp views bytes
+      → (inputs : ℕ → List (List ℕ)) → AllByRecursion IsPacket (inputs plp)
+      → AllByRecursion (IsCanonical (plp_at c.plps plp).delete) (inputs plp)
+      → run_length c inputs ≤ MOST_FRAMES → file ≡ file_bytes (run_frames c inputs) → (nulls : ℕ)
+      × (bytes ≡ concat (inputs plp ++ replicate nulls null_packet))
   run_back file bytes views records r inputs all canonical small is =
-      let back : Readback c plp 0 (run_frames c inputs) r.packets = packets_back file bytes views records r inputs (λ n. true) 0 (run_length c inputs) (some_frames inputs) (omega (arith, small)) is in
+      let back : Readback c plp 0 (run_frames c inputs) r.packets = packets_back file bytes views records r inputs (λ n. true) 0
+      (run_length c inputs) (some_frames inputs) (omega (arith, small)) is in
       let b = laws.back c plp inputs r.packets plan types inside all canonical back in
       (b.0, r.bytes_are ∙ ap concat b.1)
 
@@ -123,13 +145,19 @@ comes_back laws c plan types plp file bytes views inside records r = record {
   run = run_back laws c plan types plp inside file bytes views records r;
 }
 
-pub holds_back : (c : Config) (plp : ℕ) (old new : State) (file out : List ℕ) (ran : Ran) → ReceivedComesBack c → plp < length c.plps → RunsAll c plp old new file out ran → HoldsWhatComesBack c plp old new file out
+pub holds_back : (c : Config) (plp : ℕ) (old new : State) (file out : List ℕ) (ran : Ran) → ReceivedComesBack c
+    → plp < length c.plps → RunsAll c plp old new file out ran → HoldsWhatComesBack c plp old new file out
 holds_back c plp old new file out ran law inside r = go old.held new.held r.works.holds
   where
-    go : (h k : Option Held) → IfSome h (λ x. (y : Held) × (k ≡ Some y) × ((bytes : List ℕ) × (get y.files out ≡ Some bytes) × HasAll c plp ran (bytes_of x.files file) bytes))
+    go : (h k : Option Held)
+        → IfSome h (λ x. (y : Held) × (k ≡ Some y)
+        × ((bytes : List ℕ) × (get y.files out ≡ Some bytes) × HasAll c plp ran (bytes_of x.files file) bytes))
         → IfSome h (λ x. IfSome k (λ y. ComesBack c plp (bytes_of x.files file) (bytes_of y.files out)))
     go None k w = tt
     go (Some x) None w = tt
     go (Some x) (Some y) w =
-        let here : w.2.0 ≡ bytes_of y.files out = sym (ap (λ (z : Held). bytes_of z.files out) (same_Some y w.0 w.1) ∙ ap (λ (o : Option (List ℕ)). unwrap_or o []) w.2.1) in
-        subst (ComesBack c plp (bytes_of x.files file)) here (law plp (bytes_of x.files file) w.2.0 w.2.2.views inside w.2.2.records w.2.2.received)
+        let here : w.2.0 ≡ bytes_of y.files out =
+        sym (ap (λ (z : Held). bytes_of z.files out) (same_Some y w.0 w.1)
+        ∙ ap (λ (o : Option (List ℕ)). unwrap_or o []) w.2.1) in
+        subst (ComesBack c plp (bytes_of x.files file)) here
+        (law plp (bytes_of x.files file) w.2.0 w.2.2.views inside w.2.2.records w.2.2.received)

@@ -1,5 +1,6 @@
 -- However a command ends, it changes no file but the one that it writes.
-use Rattle.std.proofs.Common.{◌≡◌, ℕ, suc, ◌+◌, ◌≤◌, ⊎_elim, List, [], ◌∷◌, ◌++◌, length, Option, Some, None, refl, ap, sym, subst, ◌∙◌, arith, append_assoc, append-nil, length-append}
+use Rattle.std.proofs.Common.{◌≡◌, ℕ, suc, ◌+◌, ◌≤◌, ⊎_elim, List, [], ◌∷◌, ◌++◌, length, Option, Some, None, refl, ap, sym}
+use Rattle.std.proofs.Common.{subst, ◌∙◌, arith, append_assoc, append-nil, length-append}
 use Rattle.std.specs.Prelude.{option_map, IfSome, Result, Ok, Err}
 use Rattle.std.proofs.lemmas.Option.{IfSome_then}
 use Rattle.std.specs.FinMap.{get}
@@ -26,7 +27,8 @@ use Rattle.show_run.specs.declared.stop.ShowStop.{ShowStop}
 use Rattle.show_run.specs.declared.stop.ShowStop.TheVariants as show
 use Rattle.site_top.specs.declared.outcome.Outcome.{Outcome}
 use Rattle.site_top.specs.declared.outcome.Outcome.TheVariants as outcome
-use Rattle.site_top.specs.Commands.{Command, ShowPackets, ShowT2mi, ShowFrames, ShowConfig, Plan, Gateway, Modulate, Receive, Trial}
+use Rattle.site_top.specs.Commands.{Command, ShowPackets, ShowT2mi, ShowFrames, ShowConfig, Plan, Gateway, Modulate, Receive}
+use Rattle.site_top.specs.Commands.{Trial}
 use Rattle.site_top.specs.ConfigCommands.{ShowsConfig, Plans}
 use Rattle.site_top.specs.GatewayCommand as gateways
 use Rattle.site_top.specs.ModulateCommand as modulates
@@ -43,11 +45,13 @@ same_files : (out : Option (List ℕ)) (old new : Option Held) → new ≡ old �
 same_files out None new e = e
 same_files out (Some h) new e = (h, e, λ name apart. refl)
 
-named_files : (out : Option (List ℕ)) (name : List ℕ) (old new : Option Held) → new ≡ option_map (with_name name) old → OthersStay out old new
+named_files : (out : Option (List ℕ)) (name : List ℕ) (old new : Option Held) → new ≡ option_map (with_name name) old
+    → OthersStay out old new
 named_files out name None new e = e
 named_files out name (Some h) new e = (with_name name h, e, λ name apart. refl)
 
-files_then : (out : Option (List ℕ)) (old mid new : Option Held) → OthersStay out old mid → OthersStay out mid new → OthersStay out old new
+files_then : (out : Option (List ℕ)) (old mid new : Option Held) → OthersStay out old mid → OthersStay out mid new
+    → OthersStay out old new
 files_then out None None new first second = second
 files_then out None (Some k) new first second = none_some k (sym first)
 files_then out (Some h) mid new first second =
@@ -75,7 +79,8 @@ untouched out reads old new same = record {
 }
 
 -- one thing, and then another
-then_touched : (out : Option (List ℕ)) (first second : ℕ) (old mid new : State) → Touches out first old mid → mid.created ≡ old.created → Touches out second mid new → Touches out (first + second) old new
+then_touched : (out : Option (List ℕ)) (first second : ℕ) (old mid new : State) → Touches out first old mid
+    → mid.created ≡ old.created → Touches out second mid new → Touches out (first + second) old new
 then_touched out first second old mid new a none b = record {
   files = files_then out old.held mid.held new.held a.files b.files;
   created = subst (λ (n : ℕ). new.created ≤ n + outs out) none b.created;
@@ -87,7 +92,8 @@ then_touched out first second old mid new a none b = record {
 }
 
 -- and then something was said
-then_said : (out : Option (List ℕ)) (reads : ℕ) (old mid new : State) (text : List ℕ) → Touches out reads old mid → new.held ≡ mid.held → new.created ≡ mid.created → new.opened ≡ mid.opened
+then_said : (out : Option (List ℕ)) (reads : ℕ) (old mid new : State) (text : List ℕ) → Touches out reads old mid
+    → new.held ≡ mid.held → new.created ≡ mid.created → new.opened ≡ mid.opened
     → new.said ≡ option_map (λ (said : List ℕ). said ++ text) mid.said → Touches out reads old new
 then_said out reads old mid new text a held created opened said = record {
   files = subst (OthersStay out old.held) (sym held) a.files;
@@ -99,13 +105,17 @@ then_said out reads old mid new text a held created opened said = record {
   said = said ∙ ap (option_map (λ (said : List ℕ). said ++ text)) a.said ∙ append_twice old.said a.text text;
 }
 
-told : (out : Option (List ℕ)) (reads : ℕ) (old mid new : State) (text : List ℕ) (result : Outcome) → Touches out reads old mid → Tells mid new text result → Touches out reads old new
-told out reads old mid new text outcome.Done a tells = then_said out reads old mid new text a tells.0.held tells.0.created tells.0.opened tells.0.said
-told out reads old mid new text outcome.WriteFault a tells = then_said out reads old mid new [] a tells.0.held tells.0.created tells.0.opened (tells.0.said ∙ append-none mid.said)
+told : (out : Option (List ℕ)) (reads : ℕ) (old mid new : State) (text : List ℕ) (result : Outcome) → Touches out reads old mid
+    → Tells mid new text result → Touches out reads old new
+told out reads old mid new text outcome.Done a tells =
+    then_said out reads old mid new text a tells.0.held tells.0.created tells.0.opened tells.0.said
+told out reads old mid new text outcome.WriteFault a tells =
+    then_said out reads old mid new [] a tells.0.held tells.0.created tells.0.opened (tells.0.said ∙ append-none mid.said)
 told out reads old mid new text result a tells = absurd tells
 
 -- a file was opened
-opened_one : (out : Option (List ℕ)) (old new : State) (name : List ℕ) (given : ℕ) (text : List ℕ) → Opened old new name given → new.said ≡ option_map (λ (said : List ℕ). said ++ text) old.said → Touches out 1 old new
+opened_one : (out : Option (List ℕ)) (old new : State) (name : List ℕ) (given : ℕ) (text : List ℕ) → Opened old new name given
+    → new.said ≡ option_map (λ (said : List ℕ). said ++ text) old.said → Touches out 1 old new
 opened_one out old new name given text o said = record {
   files = named_files out name old.held new.held o.held;
   created = subst (λ (n : ℕ). n ≤ old.created + outs out) (sym o.created) (omega arith);
@@ -132,23 +142,29 @@ text_read : (out : Option (List ℕ)) (old new : State) (name : List ℕ) → Re
 text_read out old new name r = opened_one out old new name r.given [] r.opened (r.said ∙ append-none old.said)
 
 text_failed : (out : Option (List ℕ)) (old new : State) (name : List ℕ) → FailsToRead old new name → Touches out 1 old new
-text_failed out old new name f = ⊎_elim (λ u. unopened out old new [] u) (λ o. opened_one out old new name o.0 [] o.1 (o.3 ∙ append-none old.said)) f.way
+text_failed out old new name f =
+    ⊎_elim (λ u. unopened out old new [] u) (λ o. opened_one out old new name o.0 [] o.1 (o.3 ∙ append-none old.said)) f.way
 
-gives_none : (out : Option (List ℕ)) (old new : State) (name : List ℕ) (stop : ConfigStop) → GivesNone old new name stop → Touches out 1 old new
+gives_none : (out : Option (List ℕ)) (old new : State) (name : List ℕ) (stop : ConfigStop) → GivesNone old new name stop
+    → Touches out 1 old new
 gives_none out old new name (config.Refused cause) g = text_read out old new name g.0
 gives_none out old new name config.ReadFault g = text_failed out old new name g
-gives_none out old new name config.OutOfMemory g = ⊎_elim (λ (same : new ≡ old). untouched out 1 old new same) (λ (r : ReadsText old new name). text_read out old new name r) g
+gives_none out old new name config.OutOfMemory g =
+    ⊎_elim (λ (same : new ≡ old). untouched out 1 old new same) (λ (r : ReadsText old new name). text_read out old new name r) g
 gives_none out old new name (config.Lacks fault) g = absurd g
 
-gives_no_plan : (out : Option (List ℕ)) (old new : State) (name : List ℕ) (stop : ConfigStop) → GivesNoPlan old new name stop → Touches out 1 old new
+gives_no_plan : (out : Option (List ℕ)) (old new : State) (name : List ℕ) (stop : ConfigStop) → GivesNoPlan old new name stop
+    → Touches out 1 old new
 gives_no_plan out old new name (config.Refused cause) g = gives_none out old new name (config.Refused cause) g
 gives_no_plan out old new name config.ReadFault g = gives_none out old new name config.ReadFault g
 gives_no_plan out old new name config.OutOfMemory g = gives_none out old new name config.OutOfMemory g
 gives_no_plan out old new name (config.Lacks fault) g = text_read out old new name g.1.reads
 
 -- what follows CONFIG
-behind : (out : Option (List ℕ)) (reads : ℕ) (old mid new : State) (name : List ℕ) (c : Config) → Gives old mid name c → Touches out reads mid new → Touches out (1 + reads) old new
-behind out reads old mid new name c g t = then_touched out 1 reads old mid new (text_read out old mid name g.reads) g.reads.opened.created t
+behind : (out : Option (List ℕ)) (reads : ℕ) (old mid new : State) (name : List ℕ) (c : Config) → Gives old mid name c
+    → Touches out reads mid new → Touches out (1 + reads) old new
+behind out reads old mid new name c g t =
+    then_touched out 1 reads old mid new (text_read out old mid name g.reads) g.reads.opened.created t
 
 -- nothing follows
 fewer : (out : Option (List ℕ)) (reads : ℕ) (old new : State) → Touches out 1 old new → Touches out (1 + reads) old new
@@ -163,7 +179,8 @@ fewer out reads old new t = record {
 }
 
 -- a run between files
-run_opens : (old new : State) (out : List ℕ) (ins : List (List ℕ)) (count : ℕ) → OpensInputs old new ins count → Touches (Some out) (length ins) old new
+run_opens : (old new : State) (out : List ℕ) (ins : List (List ℕ)) (count : ℕ) → OpensInputs old new ins count
+    → Touches (Some out) (length ins) old new
 run_opens old new out ins count o = record {
   files = nothing_files (Some out) old.held new.held o.files;
   created = subst (λ (n : ℕ). n ≤ old.created + 1) (sym o.created) (omega arith);
@@ -174,7 +191,8 @@ run_opens old new out ins count o = record {
   said = o.said ∙ append-none old.said;
 }
 
-run_creates : (old new : State) (out : List ℕ) (ins : List (List ℕ)) → FailsToCreateOutput old new out ins → Touches (Some out) (length ins) old new
+run_creates : (old new : State) (out : List ℕ) (ins : List (List ℕ)) → FailsToCreateOutput old new out ins
+    → Touches (Some out) (length ins) old new
 run_creates old new out ins f = record {
   files = out_files out old.held new.held f.files;
   created = subst (λ (n : ℕ). n ≤ old.created + 1) (sym f.created) (omega arith);
@@ -185,7 +203,8 @@ run_creates old new out ins f = record {
   said = f.said ∙ append-none old.said;
 }
 
-run_works : (old new : State) (out : List ℕ) (ins : List (List ℕ)) (places : List ℕ) (Holds : Held → List ℕ → Type 0) → Works old new out ins places Holds → Touches (Some out) (length ins) old new
+run_works : (old new : State) (out : List ℕ) (ins : List (List ℕ)) (places : List ℕ) (Holds : Held → List ℕ → Type 0)
+    → Works old new out ins places Holds → Touches (Some out) (length ins) old new
 run_works old new out ins places Holds w = record {
   files = out_files out old.held new.held w.files;
   created = subst (λ (n : ℕ). n ≤ old.created + 1) (sym w.created) (omega arith);
@@ -197,73 +216,94 @@ run_works old new out ins places Holds w = record {
 }
 
 -- that of a gateway
-gateway_stops : (c : Config) (old new : State) (out : List ℕ) (ins : List (List ℕ)) (stop : RunStop) → gateway.Stops c old new out ins stop → Touches (Some out) (length ins) old new
+gateway_stops : (c : Config) (old new : State) (out : List ℕ) (ins : List (List ℕ)) (stop : RunStop)
+    → gateway.Stops c old new out ins stop → Touches (Some out) (length ins) old new
 gateway_stops c old new out ins (run.Bad plp packet) s = run_works old new out ins s.places _ s.works
 gateway_stops c old new out ins (run.TooLong count) s = run_works old new out ins s.places _ s.works
-gateway_stops c old new out ins run.ReadFault s = ⊎_elim (λ o. run_opens old new out ins s.1.0 o) (λ w. run_works old new out ins w.places _ w.works) s.1.1
-gateway_stops c old new out ins run.WriteFault s = ⊎_elim (λ f. run_creates old new out ins f) (λ w. run_works old new out ins w.places _ w.works) s.1
+gateway_stops c old new out ins run.ReadFault s =
+    ⊎_elim (λ o. run_opens old new out ins s.1.0 o) (λ w. run_works old new out ins w.places _ w.works) s.1.1
+gateway_stops c old new out ins run.WriteFault s =
+    ⊎_elim (λ f. run_creates old new out ins f) (λ w. run_works old new out ins w.places _ w.works) s.1
 gateway_stops c old new out ins run.OutOfMemory s = untouched (Some out) (length ins) old new s
 
-gateway_runs : (c : Config) (mid new : State) (out : List ℕ) (ins : List (List ℕ)) (result : Outcome) → gateways.RunsAndTells mid new out ins c result → Touches (Some out) (length ins) mid new
+gateway_runs : (c : Config) (mid new : State) (out : List ℕ) (ins : List (List ℕ)) (result : Outcome)
+    → gateways.RunsAndTells mid new out ins c result → Touches (Some out) (length ins) mid new
 gateway_runs c mid new out ins result r = ⊎_elim
     (λ s. gateway_stops c mid new out ins s.0 s.1)
     (λ a. told (Some out) (length ins) mid a.2 new _ result (run_works mid a.2 out ins a.3.places _ a.3.works) a.4) r
 
-gateway_touches : (old new : State) (config out : List ℕ) (ins : List (List ℕ)) (result : Outcome) → gateways.Gateways old new config out ins result → Touches (Some out) (1 + length ins) old new
+gateway_touches : (old new : State) (config out : List ℕ) (ins : List (List ℕ)) (result : Outcome)
+    → gateways.Gateways old new config out ins result → Touches (Some out) (1 + length ins) old new
 gateway_touches old new config out ins result g = ⊎_elim
     (λ n. fewer (Some out) (length ins) old new (gives_no_plan (Some out) old new config n.0 n.1))
     (λ p. behind (Some out) (length ins) old p.1 new config p.0 p.2
-    (⊎_elim (λ none. untouched (Some out) (length ins) p.1 new none.0) (λ all. gateway_runs p.0 p.1 new out ins result all.1) p.4)) g
+    (⊎_elim (λ none. untouched (Some out) (length ins) p.1 new none.0) (λ all. gateway_runs p.0 p.1 new out ins result all.1)
+    p.4)) g
 
 -- that of a modulator
-modulate_stops : (c : Config) (old new : State) (name out : List ℕ) (stop : ModulateStop) → modulating.Stops c old new name out stop → Touches (Some out) 1 old new
+modulate_stops : (c : Config) (old new : State) (name out : List ℕ) (stop : ModulateStop)
+    → modulating.Stops c old new name out stop → Touches (Some out) 1 old new
 modulate_stops c old new name out modulate.NoSuperframe s = run_works old new out (name ∷ []) _ _ s.works
-modulate_stops c old new name out (modulate.TooLong count) s = ⊎_elim (λ g. run_works old new out (name ∷ []) _ _ g.1.works) (λ m. run_works old new out (name ∷ []) _ _ m.1.works) s
-modulate_stops c old new name out modulate.ReadFault s = ⊎_elim (λ o. run_opens old new out (name ∷ []) 0 o) (λ w. run_works old new out (name ∷ []) _ _ w.works) s.1
-modulate_stops c old new name out modulate.WriteFault s = ⊎_elim (λ f. run_creates old new out (name ∷ []) f) (λ w. run_works old new out (name ∷ []) _ _ w.works) s.1
+modulate_stops c old new name out (modulate.TooLong count) s = ⊎_elim (λ g. run_works old new out (name ∷ []) _ _ g.1.works)
+    (λ m. run_works old new out (name ∷ []) _ _ m.1.works) s
+modulate_stops c old new name out modulate.ReadFault s =
+    ⊎_elim (λ o. run_opens old new out (name ∷ []) 0 o) (λ w. run_works old new out (name ∷ []) _ _ w.works) s.1
+modulate_stops c old new name out modulate.WriteFault s =
+    ⊎_elim (λ f. run_creates old new out (name ∷ []) f) (λ w. run_works old new out (name ∷ []) _ _ w.works) s.1
 modulate_stops c old new name out modulate.OutOfMemory s = untouched (Some out) 1 old new s
 
-modulate_runs : (c : Config) (mid new : State) (file out : List ℕ) (result : Outcome) → modulates.RunsAndTells mid new file out c result → Touches (Some out) 1 mid new
+modulate_runs : (c : Config) (mid new : State) (file out : List ℕ) (result : Outcome)
+    → modulates.RunsAndTells mid new file out c result → Touches (Some out) 1 mid new
 modulate_runs c mid new file out result r = ⊎_elim
     (λ s. modulate_stops c mid new file out s.0 s.1)
     (λ a. told (Some out) 1 mid a.1 new _ result (run_works mid a.1 out (file ∷ []) _ _ a.2.works) a.4) r
 
-modulate_touches : (old new : State) (config file out : List ℕ) (result : Outcome) → modulates.Modulates old new config file out result → Touches (Some out) 2 old new
+modulate_touches : (old new : State) (config file out : List ℕ) (result : Outcome)
+    → modulates.Modulates old new config file out result → Touches (Some out) 2 old new
 modulate_touches old new config file out result g = ⊎_elim
     (λ n. fewer (Some out) 1 old new (gives_no_plan (Some out) old new config n.0 n.1))
     (λ p. behind (Some out) 1 old p.1 new config p.0 p.2 (modulate_runs p.0 p.1 new file out result p.4)) g
 
 -- that of a receiver
-receive_stops : (c : Config) (plp : ℕ) (old new : State) (name out : List ℕ) (stop : ReceiveStop) → receiving.Stops c plp old new name out stop → Touches (Some out) 1 old new
+receive_stops : (c : Config) (plp : ℕ) (old new : State) (name out : List ℕ) (stop : ReceiveStop)
+    → receiving.Stops c plp old new name out stop → Touches (Some out) 1 old new
 receive_stops c plp old new name out (receive.RecordRefused number why) s = run_works old new out (name ∷ []) _ _ s.works
 receive_stops c plp old new name out (receive.TooLong count) s = run_works old new out (name ∷ []) _ _ s.1.works
-receive_stops c plp old new name out receive.ReadFault s = ⊎_elim (λ o. run_opens old new out (name ∷ []) 0 o) (λ w. run_works old new out (name ∷ []) _ _ w.works) s.1
-receive_stops c plp old new name out receive.WriteFault s = ⊎_elim (λ f. run_creates old new out (name ∷ []) f) (λ w. run_works old new out (name ∷ []) _ _ w.works) s.1
+receive_stops c plp old new name out receive.ReadFault s =
+    ⊎_elim (λ o. run_opens old new out (name ∷ []) 0 o) (λ w. run_works old new out (name ∷ []) _ _ w.works) s.1
+receive_stops c plp old new name out receive.WriteFault s =
+    ⊎_elim (λ f. run_creates old new out (name ∷ []) f) (λ w. run_works old new out (name ∷ []) _ _ w.works) s.1
 receive_stops c plp old new name out receive.OutOfMemory s = untouched (Some out) 1 old new s
 
-receive_runs : (c : Config) (plp : ℕ) (mid new : State) (file out : List ℕ) (result : Outcome) → receives.RunsAndTells mid new file out c plp result → Touches (Some out) 1 mid new
+receive_runs : (c : Config) (plp : ℕ) (mid new : State) (file out : List ℕ) (result : Outcome)
+    → receives.RunsAndTells mid new file out c plp result → Touches (Some out) 1 mid new
 receive_runs c plp mid new file out result r = ⊎_elim
     (λ s. receive_stops c plp mid new file out s.0 s.1)
     (λ a. told (Some out) 1 mid a.1 new _ result (run_works mid a.1 out (file ∷ []) _ _ a.2.works) a.4) r
 
-receive_touches : (old new : State) (config : List ℕ) (id : ℕ) (file out : List ℕ) (result : Outcome) → receives.Receives old new config id file out result → Touches (Some out) 2 old new
+receive_touches : (old new : State) (config : List ℕ) (id : ℕ) (file out : List ℕ) (result : Outcome)
+    → receives.Receives old new config id file out result → Touches (Some out) 2 old new
 receive_touches old new config id file out result g = ⊎_elim
     (λ n. fewer (Some out) 1 old new (gives_no_plan (Some out) old new config n.0 n.1))
     (λ p. behind (Some out) 1 old p.1 new config p.0 p.2
     (⊎_elim (λ none. untouched (Some out) 1 p.1 new none.1) (λ all. receive_runs p.0 all.0 p.1 new file out result all.2) p.4)) g
 
 -- a file that is shown
-file_read : (old new : State) (name : List ℕ) (given : ℕ) (text : List ℕ) (result : Result ℕ ShowStop) → ReadsFile old new name given result → new.said ≡ option_map (λ (said : List ℕ). said ++ text) old.said → Touches None 1 old new
+file_read : (old new : State) (name : List ℕ) (given : ℕ) (text : List ℕ) (result : Result ℕ ShowStop)
+    → ReadsFile old new name given result → new.said ≡ option_map (λ (said : List ℕ). said ++ text) old.said
+    → Touches None 1 old new
 file_read old new name given text (Ok count) r said = opened_one None old new name given text r.0 said
 file_read old new name given text (Err (show.PacketRefused at why)) r said = opened_one None old new name given text r.0 said
 file_read old new name given text (Err (show.RecordRefused number why)) r said = opened_one None old new name given text r.0 said
 file_read old new name given text (Err show.TooLong) r said = opened_one None old new name given text r.0 said
-file_read old new name given text (Err show.ReadFault) r said = ⊎_elim (λ u. unopened None old new text u.0) (λ o. opened_one None old new name given text o.0 said) r
+file_read old new name given text (Err show.ReadFault) r said =
+    ⊎_elim (λ u. unopened None old new text u.0) (λ o. opened_one None old new name given text o.0 said) r
 file_read old new name given text (Err show.WriteFault) r said = opened_one None old new name given text r.0 said
 file_read old new name given text (Err show.OutOfMemory) r said = untouched None 1 old new r
 file_read old new name given text (Err show.NoRoom) r said = opened_one None old new name given text r.0 said
 
-shown_touches : {IsText : List ℕ → ℕ → Result ℕ ShowStop → List ℕ → Type 0} (old new : State) (name : List ℕ) (result : Result ℕ ShowStop) → Shows IsText old new name result → Touches None 1 old new
+shown_touches : {IsText : List ℕ → ℕ → Result ℕ ShowStop → List ℕ → Type 0} (old new : State) (name : List ℕ)
+    (result : Result ℕ ShowStop) → Shows IsText old new name result → Touches None 1 old new
 shown_touches old new name result s = file_read old new name s.given s.text result s.reads s.grew
 
 -- a configuration that is shown, and a plan
@@ -297,12 +337,16 @@ only_out_changes (Receive config id file out) old new result does = receive_touc
 only_out_changes (Trial seed frames) old new result does = trial_touches old new seed frames result does
 
 -- its last line changes nothing of that
-touched_at_end : (out : Option (List ℕ)) (reads : ℕ) (old mid new : State) (result : Outcome) → Touches out reads old mid → Ends mid new result → Touches out reads old new
+touched_at_end : (out : Option (List ℕ)) (reads : ℕ) (old mid new : State) (result : Outcome) → Touches out reads old mid
+    → Ends mid new result → Touches out reads old new
 touched_at_end out reads old mid new outcome.Done t e = subst (Touches out reads old) (sym e) t
 touched_at_end out reads old mid new result t e = ⊎_elim
     (λ s. then_said out reads old mid new _ t s.0.held s.0.created s.0.opened s.0.said)
     (λ k. then_said out reads old mid new [] t k.0.held k.0.created k.0.opened (k.0.said ∙ append-none mid.said)) e.said
 
-pub run_touches : OnlyOutChanges → (command : Option Command) (old mid new : State) (result : Outcome) → IfSome command (λ c. Does c old mid result) → Ends mid new result
+pub run_touches : OnlyOutChanges → (command : Option Command) (old mid new : State) (result : Outcome)
+    → IfSome command (λ c. Does c old mid result) → Ends mid new result
     → IfSome command (λ c. Touches (out_of c) (length (ins_of c)) old new)
-run_touches law command old mid new result does ends = IfSome_then command does (λ c did. touched_at_end (out_of c) (length (ins_of c)) old mid new result (law c old mid result did) ends)
+run_touches law command old mid new result does ends =
+    IfSome_then command does (λ c did. touched_at_end (out_of c) (length (ins_of c)) old mid new result
+    (law c old mid result did) ends)

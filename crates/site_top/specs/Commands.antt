@@ -1,8 +1,9 @@
 -- The commands, and the words that name them.
-use Rattle.std.specs.Prelude.{◌≡◌, ℕ, ◌+◌, ◌-◌, ◌^◌, Bool, true, false, not, ◌&&◌, List, [], ◌∷◌, codes, if◌then◌else◌, Some, None}
+use Rattle.std.specs.Prelude.{◌≡◌, ℕ, ◌+◌, ◌-◌, ◌^◌, Bool, true, false, not, ◌&&◌, List, [], ◌∷◌, codes, if◌then◌else◌, Some}
+use Rattle.std.specs.Prelude.{None}
 use Rattle.std.specs.declared.option.Option.{Option}
 use Rattle.std.specs.Fmt.{decimal}
-use Rattle.std.specs.List.{find, range_with_len}
+use Rattle.std.specs.List.{find, list_all, range_with_len}
 use Rattle.std.specs.Option.{option_map, option_and_then}
 use Rattle.std.specs.Str.{bytes_eq}
 use Rattle.site_top.specs.declared.request.Request.{Request}
@@ -32,15 +33,15 @@ abbrev pub shown : List ℕ → List ℕ → Option Command
 shown what file =
     if bytes_eq what (codes "packets") then Some (ShowPackets file)
     else (if bytes_eq what (codes "t2mi") then Some (ShowT2mi file)
-    else (if bytes_eq what (codes "frames") then Some (ShowFrames file) else (if bytes_eq what (codes "config") then Some (ShowConfig file) else None)))
+    else (if bytes_eq what (codes "frames") then Some (ShowFrames file)
+    else (if bytes_eq what (codes "config") then Some (ShowConfig file) else None)))
 
 -- The name of an input: not empty, and not that of the output.
 abbrev pub is_input : List ℕ → List ℕ → Bool
 is_input out file = not (is_empty file) && not (bytes_eq file out)
 
 abbrev pub are_inputs : List ℕ → List (List ℕ) → Bool
-are_inputs out [] = true
-are_inputs out (file ∷ files) = is_input out file && are_inputs out files
+are_inputs out files = list_all (is_input out) files
 
 -- the command of the words `gateway CONFIG OUT IN..`: the output is none of the files that are read
 abbrev pub gateway_of : List ℕ → List ℕ → List (List ℕ) → Option Command
@@ -49,7 +50,8 @@ gateway_of config out ins = if not (is_empty out) && are_inputs out (config ∷ 
 -- the command of the words `modulate CONFIG IN OUT`
 abbrev pub modulate_of : List ℕ → List ℕ → List ℕ → List ℕ → Option Command
 modulate_of modulate config file out =
-    if bytes_eq modulate (codes "modulate") && not (is_empty out) && is_input out config && is_input out file then Some (Modulate config file out) else None
+    if bytes_eq modulate (codes "modulate") && not (is_empty out) && is_input out config && is_input out file
+    then Some (Modulate config file out) else None
 
 -- the number from the least to the most whose decimal a word is
 unfoldable pub number_named : ℕ → ℕ → List ℕ → Option ℕ
@@ -58,11 +60,13 @@ number_named least most word = find (λ n. bytes_eq word (decimal n)) (range_wit
 -- the command of the words `receive CONFIG PLP IN OUT`
 abbrev pub receive_of : List ℕ → List ℕ → List ℕ → List ℕ → List ℕ → Option Command
 receive_of receive config plp file out =
-    if bytes_eq receive (codes "receive") && not (is_empty out) && is_input out config && is_input out file then option_map (λ id. Receive config id file out) (number_named 0 255 plp) else None
+    if bytes_eq receive (codes "receive") && not (is_empty out) && is_input out config && is_input out file
+    then option_map (λ id. Receive config id file out) (number_named 0 255 plp) else None
 
 -- the command of the words `trial SEED FRAMES`
 abbrev pub trial_of : List ℕ → List ℕ → Option Command
-trial_of seed frames = option_and_then (λ s. option_map (λ n. Trial s n) (number_named FEWEST_TRIED MOST_TRIED frames)) (number_named 0 (2 ^ 64 - 1) seed)
+trial_of seed frames = option_and_then (λ s. option_map (λ n. Trial s n) (number_named FEWEST_TRIED MOST_TRIED frames))
+    (number_named 0 (2 ^ 64 - 1) seed)
 
 -- the command of the words `show WHAT FILE`
 abbrev pub show_of : List ℕ → List ℕ → List ℕ → Option Command
@@ -78,7 +82,8 @@ counted_of first second third (fourth ∷ fifth ∷ more) = None
 -- the command that words name; no word of a command is empty
 abbrev pub command_of : List (List ℕ) → Option Command
 command_of (plan ∷ config ∷ []) = if bytes_eq plan (codes "plan") && not (is_empty config) then Some (Plan config) else None
-command_of (first ∷ second ∷ third ∷ more) = if bytes_eq first (codes "gateway") then gateway_of second third more else counted_of first second third more
+command_of (first ∷ second ∷ third ∷ more) = if bytes_eq first (codes "gateway") then gateway_of second third more
+    else counted_of first second third more
 command_of words = None
 
 -- the command that a request means

@@ -20,11 +20,13 @@ gateway_line frames units = codes "frames=" ++ decimal frames ++ codes " units="
 abbrev pub RunsAndTells : State → State → List ℕ → List (List ℕ) → Config → Outcome → Type 0
 RunsAndTells mid new out ins c outcome =
     ((stop : RunStop) × Stops c mid new out ins stop × (outcome ≡ stopped_outcome stop))
-    ⊎ ((frames : ℕ) × (units : ℕ) × (after : State) × RunsAll c mid after out ins frames units × Tells after new (gateway_line frames units) outcome)
+    ⊎ ((frames : ℕ) × (units : ℕ) × (after : State) × RunsAll c mid after out ins frames units
+    × Tells after new (gateway_line frames units) outcome)
 
 -- There is not one input for each PLP, and nothing is done; or the run follows.
 abbrev pub Follows : State → State → List ℕ → List (List ℕ) → Config → Outcome → Type 0
-Follows mid new out ins c outcome = ((new ≡ mid) × Miscounts c ins outcome) ⊎ ((length ins ≡ length c.plps) × RunsAndTells mid new out ins c outcome)
+Follows mid new out ins c outcome = ((new ≡ mid) × Miscounts c ins outcome)
+    ⊎ ((length ins ≡ length c.plps) × RunsAndTells mid new out ins c outcome)
 
 -- `gateway CONFIG OUT IN..`: the file gives no plan, and nothing else is done; or what follows of the plan.
 abbrev pub Gateways : State → State → List ℕ → List ℕ → List (List ℕ) → Outcome → Type 0

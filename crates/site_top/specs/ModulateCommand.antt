@@ -21,22 +21,26 @@ use Rattle.site_top.specs.Saying.{Tells}
 
 -- the line of a run to its end
 abbrev pub modulate_line : Ran → List ℕ
-modulate_line ran = codes "first=" ++ decimal ran.first ++ codes " records=" ++ decimal ran.records ++ codes " muted=" ++ decimal ran.muted ++ codes "\n"
+modulate_line ran = codes "first=" ++ decimal ran.first ++ codes " records=" ++ decimal ran.records ++ codes " muted="
+    ++ decimal ran.muted ++ codes "\n"
 
--- If a file is what is received of the stream that a gateway makes of some inputs, these bytes are the records that must come: those
--- of the frames of the run, from the first whole one that begins a superframe to the last one of which a packet survives, each whole
--- frame as all transmitters send it, and each frame that lacks a packet muted.
+-- If a file is what is received of the stream that a gateway makes of some inputs, these bytes are the records that must come:
+-- those of the frames of the run, from the first whole one that begins a superframe to the last one of which a packet survives,
+-- each whole frame as all transmitters send it, and each frame that lacks a packet muted.
 pub record MustCome (c : Config) (file bytes : List ℕ) : Type 0 where
   -- whatever becomes of the units from one on, if damage is honest
-  pub honest : (inputs : ℕ → List (List ℕ)) (from : ℕ) (fates : List Fate) → run_length c inputs ≤ MOST_FRAMES → Honest (run_stream c inputs) from fates
+  pub honest : (inputs : ℕ → List (List ℕ)) (from : ℕ) (fates : List Fate) → run_length c inputs ≤ MOST_FRAMES
+      → Honest (run_stream c inputs) from fates
       → file ≡ stream_bytes (run_stream c inputs) from fates → bytes ≡ file_bytes (run_records c inputs from fates)
   -- and if all units from one on came as they were sent; nothing is asked of damage then
   pub undamaged : (inputs : ℕ → List (List ℕ)) (from : ℕ) → run_length c inputs ≤ MOST_FRAMES
-      → file ≡ stream_bytes (run_stream c inputs) from (all_kept (run_stream c inputs) from) → bytes ≡ file_bytes (run_records c inputs from (all_kept (run_stream c inputs) from))
+      → file ≡ stream_bytes (run_stream c inputs) from (all_kept (run_stream c inputs) from)
+      → bytes ≡ file_bytes (run_records c inputs from (all_kept (run_stream c inputs) from))
 
 -- So it is with the bytes of IN and OUT.
 abbrev pub HoldsWhatMustCome : Config → State → State → List ℕ → List ℕ → Type 0
-HoldsWhatMustCome c old new file out = IfSome old.held (λ h. IfSome new.held (λ k. MustCome c (bytes_of h.files file) (bytes_of k.files out)))
+HoldsWhatMustCome c old new file out =
+    IfSome old.held (λ h. IfSome new.held (λ k. MustCome c (bytes_of h.files file) (bytes_of k.files out)))
 
 -- So it is also if IN has no record, and OUT is empty.
 abbrev pub StopsWith : Config → State → State → List ℕ → List ℕ → RunStop → Type 0
@@ -50,7 +54,8 @@ StopsWith c old new file out OutOfMemory = Unit {0}
 abbrev pub RunsAndTells : State → State → List ℕ → List ℕ → Config → Outcome → Type 0
 RunsAndTells mid new file out c outcome =
     ((stop : RunStop) × Stops c mid new file out stop × StopsWith c mid new file out stop × (outcome ≡ modulate_stopped stop))
-    ⊎ ((ran : Ran) × (after : State) × RunsAll c mid after file out ran × HoldsWhatMustCome c mid after file out × Tells after new (modulate_line ran) outcome)
+    ⊎ ((ran : Ran) × (after : State) × RunsAll c mid after file out ran × HoldsWhatMustCome c mid after file out
+    × Tells after new (modulate_line ran) outcome)
 
 -- `modulate CONFIG IN OUT`: CONFIG gives no plan, and nothing else is done; or the run follows.
 abbrev pub Modulates : State → State → List ℕ → List ℕ → List ℕ → Outcome → Type 0

@@ -8,7 +8,8 @@ use Rattle.t2mi_packet.specs.declared.fault.PacketWhy.TheVariants.{Short, Crc, P
 use Rattle.site_frame.specs.declared.fault.RecordWhy.{RecordWhy}
 use Rattle.site_frame.specs.declared.fault.RecordWhy.TheVariants.{Head, Kind, Length, Order, OffGrid}
 use Rattle.config_text.specs.declared.fault.TextWhy.{TextWhy}
-use Rattle.config_text.specs.declared.fault.TextWhy.TheVariants.{NotAscii, WrongKey, WrongCount, BadWord, BadNumber, EndsEarly, TooLong as TextTooLong}
+use Rattle.config_text.specs.declared.fault.TextWhy.TheVariants.{NotAscii, WrongKey, WrongCount, BadWord, BadNumber, EndsEarly}
+use Rattle.config_text.specs.declared.fault.TextWhy.TheVariants.{TooLong as TextTooLong}
 use Rattle.config_file.specs.declared.stop.ConfigCause.TheVariants.{Text, Rule}
 use Rattle.config_file.specs.declared.stop.ConfigStop.{ConfigStop}
 use Rattle.config_file.specs.declared.stop.ConfigStop.TheVariants as config
@@ -25,7 +26,9 @@ use Rattle.receive_run.specs.declared.stop.RunStop.TheVariants as receive
 use Rattle.show_run.specs.declared.stop.ShowStop.{ShowStop}
 use Rattle.show_run.specs.declared.stop.ShowStop.TheVariants as show
 use Rattle.site_top.specs.declared.outcome.Outcome.{Outcome}
-use Rattle.site_top.specs.declared.outcome.Outcome.TheVariants.{Done, Usage, WrongInputs, ConfigRefused, CapacityRefused, InputRefused, NoSuperframe, RecordRefused, UnknownPlp, TooLong, PacketRefused, ReadFault, WriteFault, OutOfMemory}
+use Rattle.site_top.specs.declared.outcome.Outcome.TheVariants.{Done, Usage, WrongInputs, ConfigRefused, CapacityRefused}
+use Rattle.site_top.specs.declared.outcome.Outcome.TheVariants.{InputRefused, NoSuperframe, RecordRefused, UnknownPlp, TooLong}
+use Rattle.site_top.specs.declared.outcome.Outcome.TheVariants.{PacketRefused, ReadFault, WriteFault, OutOfMemory}
 
 -- the status that the program ends with
 abbrev pub status_of : Outcome → ℕ
@@ -79,16 +82,22 @@ unfoldable pub last_line : Outcome → List ℕ
 last_line Done = []
 last_line Usage = codes "refused: usage\n"
 last_line (WrongInputs plps inputs) = codes "refused: usage\n"
-last_line (ConfigRefused (Text line why)) = codes "refused: config line " ++ decimal line ++ codes " why " ++ decimal (text_why_number why) ++ codes "\n"
-last_line (ConfigRefused (Rule rule plp)) = codes "refused: config rule " ++ decimal rule ++ codes " plp " ++ place_word plp ++ codes "\n"
+last_line (ConfigRefused (Text line why)) = codes "refused: config line " ++ decimal line ++ codes " why "
+    ++ decimal (text_why_number why) ++ codes "\n"
+last_line (ConfigRefused (Rule rule plp)) = codes "refused: config rule " ++ decimal rule ++ codes " plp " ++ place_word plp
+    ++ codes "\n"
 last_line (CapacityRefused test plp need have) =
-    codes "refused: capacity test " ++ decimal test ++ codes " plp " ++ place_word plp ++ codes " need " ++ decimal need ++ codes " have " ++ decimal have ++ codes "\n"
-last_line (InputRefused input packet) = codes "refused: input " ++ decimal input ++ codes " packet " ++ decimal packet ++ codes "\n"
+    codes "refused: capacity test " ++ decimal test ++ codes " plp " ++ place_word plp ++ codes " need " ++ decimal need
+    ++ codes " have " ++ decimal have ++ codes "\n"
+last_line (InputRefused input packet) = codes "refused: input " ++ decimal input ++ codes " packet " ++ decimal packet
+    ++ codes "\n"
 last_line NoSuperframe = codes "refused: no superframe\n"
-last_line (RecordRefused number why) = codes "refused: record " ++ decimal number ++ codes " why " ++ decimal (record_why_number why) ++ codes "\n"
+last_line (RecordRefused number why) = codes "refused: record " ++ decimal number ++ codes " why "
+    ++ decimal (record_why_number why) ++ codes "\n"
 last_line (UnknownPlp plp) = codes "refused: plp " ++ decimal plp ++ codes "\n"
 last_line (TooLong count) = codes "refused: too long " ++ decimal count ++ codes "\n"
-last_line (PacketRefused at why) = codes "refused: packet at " ++ decimal at ++ codes " why " ++ decimal (why_number why) ++ codes "\n"
+last_line (PacketRefused at why) = codes "refused: packet at " ++ decimal at ++ codes " why " ++ decimal (why_number why)
+    ++ codes "\n"
 last_line ReadFault = codes "fault: read\n"
 last_line WriteFault = codes "fault: write\n"
 last_line OutOfMemory = codes "fault: memory\n"

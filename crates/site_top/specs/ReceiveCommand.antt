@@ -33,34 +33,44 @@ use Rattle.site_top.specs.Saying.{Tells}
 abbrev pub receive_line : Ran → List ℕ
 receive_line ran = codes "first=" ++ decimal ran.first ++ codes " slots=" ++ decimal ran.slots ++ codes "\n"
 
--- If a file is records of the frames of a run, these bytes are what the frames give back of the PLP at a place: for each slot that is due
--- the packet that was sent in it, and a null packet if it was not kept, if a frame that carries a part of it is muted, or if the input had ended.
+-- If a file is records of the frames of a run, these bytes are what the frames give back of the PLP at a place: for each slot
+-- that is due the packet that was sent in it, and a null packet if it was not kept, if a frame that carries a part of it is
+-- muted, or if the input had ended.
 pub record ComesBack (c : Config) (plp : ℕ) (file bytes : List ℕ) : Type 0 where
-  -- the records of frames in a row, each as all transmitters send it, or muted; so are those that must come of what is received of a stream
-  pub frames : (inputs : ℕ → List (List ℕ)) (whole : ℕ → Bool) (first count : ℕ) → AllByRecursion IsPacket (inputs plp) → 1 ≤ count → first + count ≤ MOST_FRAMES
-      → file ≡ file_bytes (map (record_of c inputs whole) (range_with_len first count)) → bytes ≡ concat (recover c plp c.ticks (packet_at (inputs plp)) (λ m. not (whole m)) first count)
-  -- all frames of the run, none of them muted: the packets that were sent, if their null packets are canonical or none is deleted, and null packets behind
-  pub run : (inputs : ℕ → List (List ℕ)) → AllByRecursion IsPacket (inputs plp) → AllByRecursion (IsCanonical (plp_at c.plps plp).delete) (inputs plp) → run_length c inputs ≤ MOST_FRAMES
+  -- the records of frames in a row, each as all transmitters send it, or muted; so are those that must come of what is received
+  -- of a stream
+  pub frames : (inputs : ℕ → List (List ℕ)) (whole : ℕ → Bool) (first count : ℕ) → AllByRecursion IsPacket (inputs plp)
+      → 1 ≤ count → first + count ≤ MOST_FRAMES
+      → file ≡ file_bytes (map (record_of c inputs whole) (range_with_len first count))
+      → bytes ≡ concat (recover c plp c.ticks (packet_at (inputs plp)) (λ m. not (whole m)) first count)
+  -- all frames of the run, none of them muted: the packets that were sent, if their null packets are canonical or none is
+  -- deleted, and null packets behind
+  pub run : (inputs : ℕ → List (List ℕ)) → AllByRecursion IsPacket (inputs plp)
+      → AllByRecursion (IsCanonical (plp_at c.plps plp).delete) (inputs plp) → run_length c inputs ≤ MOST_FRAMES
       → file ≡ file_bytes (run_frames c inputs) → (nulls : ℕ) × (bytes ≡ concat (inputs plp ++ replicate nulls null_packet))
 
 -- So it is with the bytes of IN and OUT.
 abbrev pub HoldsWhatComesBack : Config → ℕ → State → State → List ℕ → List ℕ → Type 0
-HoldsWhatComesBack c plp old new file out = IfSome old.held (λ h. IfSome new.held (λ k. ComesBack c plp (bytes_of h.files file) (bytes_of k.files out)))
+HoldsWhatComesBack c plp old new file out =
+    IfSome old.held (λ h. IfSome new.held (λ k. ComesBack c plp (bytes_of h.files file) (bytes_of k.files out)))
 
 -- So it is of every file of records of successive frames, and what they give back.
 abbrev pub ReceivedComesBack : Config → Type 0
-ReceivedComesBack c = (plp : ℕ) (file bytes : List ℕ) (views : List RecordView) → plp < length c.plps → AreRecords file views [] → Received c plp views bytes → ComesBack c plp file bytes
+ReceivedComesBack c = (plp : ℕ) (file bytes : List ℕ) (views : List RecordView) → plp < length c.plps → AreRecords file views []
+    → Received c plp views bytes → ComesBack c plp file bytes
 
 -- The run does not come to its end, or it does, and then its line is told.
 abbrev pub RunsAndTells : State → State → List ℕ → List ℕ → Config → ℕ → Outcome → Type 0
 RunsAndTells mid new file out c plp outcome =
     ((stop : RunStop) × Stops c plp mid new file out stop × (outcome ≡ receive_stopped stop))
-    ⊎ ((ran : Ran) × (after : State) × RunsAll c plp mid after file out ran × HoldsWhatComesBack c plp mid after file out × Tells after new (receive_line ran) outcome)
+    ⊎ ((ran : Ran) × (after : State) × RunsAll c plp mid after file out ran × HoldsWhatComesBack c plp mid after file out
+    × Tells after new (receive_line ran) outcome)
 
 -- No PLP has the identifier, and nothing else is done; or the run follows.
 abbrev pub Follows : State → State → ℕ → List ℕ → List ℕ → Config → Outcome → Type 0
 Follows mid new id file out c outcome =
-    (HasNoPlace c id × (new ≡ mid) × (outcome ≡ UnknownPlp id)) ⊎ ((plp : ℕ) × IsPlace c id plp × RunsAndTells mid new file out c plp outcome)
+    (HasNoPlace c id × (new ≡ mid) × (outcome ≡ UnknownPlp id))
+    ⊎ ((plp : ℕ) × IsPlace c id plp × RunsAndTells mid new file out c plp outcome)
 
 -- `receive CONFIG PLP IN OUT`: CONFIG gives no plan, and nothing else is done; or what follows does.
 abbrev pub Receives : State → State → List ℕ → ℕ → List ℕ → List ℕ → Outcome → Type 0

@@ -26,17 +26,20 @@ use Rattle.show_run.specs.declared.stop.ShowStop.{ShowStop}
 use Rattle.site_frame.specs.RecordFile.{AreBytes}
 use Rattle.site_top.specs.declared.outcome.Outcome.{Outcome}
 use Rattle.site_top.specs.declared.outcome.Outcome.TheVariants.{Done, UnknownPlp, OutOfMemory}
-use Rattle.site_top.specs.Commands.{Command, ShowPackets, ShowT2mi, ShowFrames, ShowConfig, Plan, Gateway, Modulate, Receive, Trial}
+use Rattle.site_top.specs.Commands.{Command, ShowPackets, ShowT2mi, ShowFrames, ShowConfig, Plan, Gateway, Modulate, Receive}
+use Rattle.site_top.specs.Commands.{Trial}
 use Rattle.site_top.specs.ConfigCommands.{ShowsConfig, Plans}
 use Rattle.site_top.specs.GatewayCommand.{Gateways}
 use Rattle.site_top.specs.ModulateCommand.{Modulates}
 use Rattle.site_top.specs.ReceiveCommand.{Receives}
 use Rattle.site_top.specs.TrialCommand.{Tries}
-use Rattle.site_top.specs.Outcomes.{shown_outcome, given_outcome, config_outcome, ran_outcome, modulate_outcome, receive_outcome, Miscounts}
+use Rattle.site_top.specs.Outcomes.{shown_outcome, given_outcome, config_outcome, ran_outcome, modulate_outcome, receive_outcome}
+use Rattle.site_top.specs.Outcomes.{Miscounts}
 
 -- A file is shown by the text that a definition asks for.
 abbrev pub Shows : (List ℕ → ℕ → Result ℕ ShowStop → List ℕ → Type 0) → State → State → List ℕ → Outcome → Type 0
-Shows IsText old new file outcome = (result : Result ℕ ShowStop) × show.Shows IsText old new file result × (outcome ≡ shown_outcome result)
+Shows IsText old new file outcome = (result : Result ℕ ShowStop) × show.Shows IsText old new file result
+    × (outcome ≡ shown_outcome result)
 
 abbrev pub Does : Command → State → State → Outcome → Type 0
 Does (ShowPackets file) old new outcome = Shows IsPacketText old new file outcome
@@ -62,44 +65,56 @@ AreShortFor (ShowConfig file) held = Unit {0}
 AreShortFor (Plan config) held = Unit {0}
 AreShortFor (Gateway config out ins) held = AreShort held ins
 AreShortFor (Modulate config file out) held = length (bytes_of held.files file) < most_bytes
-AreShortFor (Receive config id file out) held = (length (bytes_of held.files file) < most_bytes) × AreBytes (bytes_of held.files file)
+AreShortFor (Receive config id file out) held = (length (bytes_of held.files file) < most_bytes)
+    × AreBytes (bytes_of held.files file)
 AreShortFor (Trial seed frames) held = Unit {0}
 
--- How `gateway` must end over a plan: with the numbers if there is not one input for each PLP, else as the run does over inputs that
--- are not too long.
+-- How `gateway` must end over a plan: with the numbers if there is not one input for each PLP, else as the run does over inputs
+-- that are not too long.
 abbrev pub PlanMustEnd : Held → List (List ℕ) → Config → Outcome → Type 0
 PlanMustEnd held ins c outcome = Miscounts c ins outcome
-    ⊎ ((length ins ≡ length c.plps) × AreShort held ins × ((result : Result Ran RunStop) × MustRun c (file_at held ins) result × (outcome ≡ ran_outcome result)))
+    ⊎ ((length ins ≡ length c.plps) × AreShort held ins × ((result : Result Ran RunStop) × MustRun c (file_at held ins) result
+    × (outcome ≡ ran_outcome result)))
 
 -- How `modulate` must end over a plan: as the run does over an input that is not too long.
 abbrev pub ModulateMustEnd : List ℕ → Config → Outcome → Type 0
-ModulateMustEnd bytes c outcome = (length bytes < most_bytes) × ((result : Result Modulated ModulateStop) × ModulateMust c bytes result × (outcome ≡ modulate_outcome result))
+ModulateMustEnd bytes c outcome = (length bytes < most_bytes)
+    × ((result : Result Modulated ModulateStop) × ModulateMust c bytes result × (outcome ≡ modulate_outcome result))
 
--- How `receive` must end over a plan: with the identifier if no PLP has it, else as the run does over records that are not too long.
+-- How `receive` must end over a plan: with the identifier if no PLP has it, else as the run does over records that are not too
+-- long.
 abbrev pub ReceiveMustEnd : List ℕ → ℕ → Config → Outcome → Type 0
 ReceiveMustEnd bytes id c outcome = (HasNoPlace c id × (outcome ≡ UnknownPlp id))
-    ⊎ ((plp : ℕ) × IsPlace c id plp × (length bytes < most_bytes) × ((result : Result Received ReceiveStop) × ReceiveMust c plp bytes result × (outcome ≡ receive_outcome result)))
+    ⊎ ((plp : ℕ) × IsPlace c id plp × (length bytes < most_bytes)
+    × ((result : Result Received ReceiveStop) × ReceiveMust c plp bytes result × (outcome ≡ receive_outcome result)))
 
 -- How a command must end whose CONFIG has this text: with its refusal, or as it must over the plan that it gives.
 abbrev pub OverPlan : List ℕ → (Config → Outcome → Type 0) → Outcome → Type 0
 OverPlan text Must outcome =
-    ((stop : ConfigStop) × GivesPlan text (Err stop) × (outcome ≡ config_outcome stop)) ⊎ ((c : Config) × GivesPlan text (Ok c) × Must c outcome)
+    ((stop : ConfigStop) × GivesPlan text (Err stop) × (outcome ≡ config_outcome stop))
+    ⊎ ((c : Config) × GivesPlan text (Ok c) × Must c outcome)
 
--- How a command must end over what a desk holds, where nothing outside fails. If CONFIG alone decides, nothing is asked of inputs.
+-- How a command must end over what a desk holds, if nothing outside fails. If CONFIG alone decides, nothing is asked of
+-- inputs.
 abbrev pub MustEnd : Command → Held → Outcome → Type 0
 MustEnd (ShowPackets file) held outcome = (length (bytes_of held.files file) < most_bytes)
     × ((result : Result ℕ ShowStop) × PacketsEnd (bytes_of held.files file) result × (outcome ≡ shown_outcome result))
 MustEnd (ShowT2mi file) held outcome = (length (bytes_of held.files file) < most_bytes) × (outcome ≡ Done)
 MustEnd (ShowFrames file) held outcome = (length (bytes_of held.files file) < most_bytes)
     × ((result : Result ℕ ShowStop) × RecordsEnd (bytes_of held.files file) result × (outcome ≡ shown_outcome result))
-MustEnd (ShowConfig file) held outcome = (result : Result Config ConfigStop) × GivesConfig (bytes_of held.files file) result × (outcome ≡ given_outcome result)
-MustEnd (Plan config) held outcome = (result : Result Config ConfigStop) × GivesPlan (bytes_of held.files config) result × (outcome ≡ given_outcome result)
+MustEnd (ShowConfig file) held outcome = (result : Result Config ConfigStop) × GivesConfig (bytes_of held.files file) result
+    × (outcome ≡ given_outcome result)
+MustEnd (Plan config) held outcome = (result : Result Config ConfigStop) × GivesPlan (bytes_of held.files config) result
+    × (outcome ≡ given_outcome result)
 MustEnd (Gateway config out ins) held outcome = OverPlan (bytes_of held.files config) (PlanMustEnd held ins) outcome
-MustEnd (Modulate config file out) held outcome = OverPlan (bytes_of held.files config) (ModulateMustEnd (bytes_of held.files file)) outcome
-MustEnd (Receive config id file out) held outcome = OverPlan (bytes_of held.files config) (ReceiveMustEnd (bytes_of held.files file) id) outcome
+MustEnd (Modulate config file out) held outcome =
+    OverPlan (bytes_of held.files config) (ModulateMustEnd (bytes_of held.files file)) outcome
+MustEnd (Receive config id file out) held outcome =
+    OverPlan (bytes_of held.files config) (ReceiveMustEnd (bytes_of held.files file) id) outcome
 MustEnd (Trial seed frames) held outcome = outcome ≡ Done
 
 -- Where nothing outside fails, the files decide the outcome, unless memory runs out.
 abbrev pub IsComplete : Command → State → State → Outcome → Type 0
 IsComplete command old new result = IfSome old.held (λ held. (outcome : Outcome) → MustEnd command held outcome
-    → ¬ (Rose old.counts.reads new.counts.reads) → ¬ (Rose old.counts.writes new.counts.writes) → (result ≡ outcome) ⊎ (result ≡ OutOfMemory))
+    → ¬ (Rose old.counts.reads new.counts.reads) → ¬ (Rose old.counts.writes new.counts.writes) → (result ≡ outcome)
+    ⊎ (result ≡ OutOfMemory))

@@ -2,7 +2,8 @@
 use Rattle.std.specs.Prelude.{◌≡◌, ◌≢◌, ℕ, ◌+◌, ◌≤◌, List, [], ◌∷◌, ◌++◌, length, Option, None, Some, option_map}
 use Rattle.std.specs.FinMap.{get}
 use Rattle.ports.specs.Desk.{State, Held}
-use Rattle.site_top.specs.Commands.{Command, ShowPackets, ShowT2mi, ShowFrames, ShowConfig, Plan, Gateway, Modulate, Receive, Trial}
+use Rattle.site_top.specs.Commands.{Command, ShowPackets, ShowT2mi, ShowFrames, ShowConfig, Plan, Gateway, Modulate, Receive}
+use Rattle.site_top.specs.Commands.{Trial}
 
 -- the file that a command writes, if it writes one
 abbrev pub out_of : Command → Option (List ℕ)
@@ -36,10 +37,11 @@ outs (Some out) = 1
 -- No file has changed but that one.
 abbrev pub OthersStay : Option (List ℕ) → Option Held → Option Held → Type 0
 OthersStay out None new = new ≡ None
-OthersStay out (Some h) new = (k : Held) × (new ≡ Some k) × ((name : List ℕ) → out ≢ Some name → get k.files name ≡ get h.files name)
+OthersStay out (Some h) new = (k : Held) × (new ≡ Some k)
+    × ((name : List ℕ) → out ≢ Some name → get k.files name ≡ get h.files name)
 
--- No file has changed but the one that is written, which is created once at most; no more files were opened than are read; and what was
--- said before stands.
+-- No file has changed but the one that is written, which is created once at most; no more files were opened than are read; and
+-- what was said before stands.
 pub record Touches (out : Option (List ℕ)) (reads : ℕ) (old new : State) : Type 0 where
   pub files : OthersStay out old.held new.held
   pub created : new.created ≤ old.created + outs out

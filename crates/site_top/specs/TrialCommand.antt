@@ -10,4 +10,5 @@ use Rattle.site_top.specs.Saying.{Tells}
 -- The lines of the trial are told; or memory ran out, and nothing was done.
 abbrev pub Tries : State → State → ℕ → ℕ → Outcome → Type 0
 Tries old new seed frames outcome =
-    ((new ≡ old) × (outcome ≡ OutOfMemory)) ⊎ ((text : List ℕ) × IsTrialText trial_config frames seed text × Tells old new text outcome)
+    ((new ≡ old) × (outcome ≡ OutOfMemory))
+    ⊎ ((text : List ℕ) × IsTrialText trial_config frames seed text × Tells old new text outcome)

@@ -91,7 +91,7 @@ fn are_inputs(out: &str, ins: &[Word]) -> bool
     true
 }
 
-// The command `gateway CONFIG OUT IN..`, where the output is none of the files that are read.
+// The command `gateway CONFIG OUT IN..`, if the output is none of the files that are read.
 fn gateway_of<'a>(config: &'a str, out: &'a str, ins: &'a [Word]) -> Option<Request<'a>>
     ensures named { option_map meant result ≡ gateway_by config.now out.now ins.now }
     ensures apart { IfSome result IsApart }
@@ -109,7 +109,7 @@ fn is_input(out: &str, file: &str) -> bool
     !file.is_empty() && file != out
 }
 
-// The command `modulate CONFIG IN OUT`, where the output is none of the files that are read.
+// The command `modulate CONFIG IN OUT`, if the output is none of the files that are read.
 fn modulate_of<'a>(
     modulate: &str,
     config: &'a str,
@@ -133,7 +133,7 @@ fn number_named(word: &str, least: u64, most: u64) -> Option<u64>
     number_within(word.as_bytes(), least, most)
 }
 
-// The command `receive CONFIG PLP IN OUT`, where the output is none of the files that are read.
+// The command `receive CONFIG PLP IN OUT`, if the output is none of the files that are read.
 fn receive_of<'a>(
     receive: &str,
     config: &'a str,

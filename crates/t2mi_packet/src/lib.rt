@@ -1,6 +1,7 @@
 //! T2-MI packets (ETSI TS 102 773, clause 5).
 #![tactic(auto)]
 
+mod body;
 mod fault;
 mod fields;
 mod laws;
@@ -9,7 +10,6 @@ mod packet_view;
 mod reading;
 #[cfg(test)]
 mod samples;
-mod shape;
 #[cfg(test)]
 mod tests;
 mod writing;

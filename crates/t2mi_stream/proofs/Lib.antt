@@ -14,6 +14,7 @@ pub mod PointerLemmas
 pub mod TallyLemmas
 pub mod FitLemmas
 pub mod ReadsLemmas
+pub mod KeptUnitsLemmas
 pub mod SurviveLemmas
 pub mod DisjointLemmas
 pub mod SkippingLemmas
@@ -21,4 +22,5 @@ pub mod FirstPidLemmas
 pub mod StandLemmas
 pub mod RiseLemmas
 pub mod SurvivorLemmas
+pub mod OneRunLemmas
 pub mod UndamagedLemmas

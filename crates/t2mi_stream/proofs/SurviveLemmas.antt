@@ -1,206 +1,34 @@
--- A sent packet is accepted at its place where the units that carry it are kept.
-use Rattle.std.proofs.Common.{◌≡◌, ℕ, zero, suc, ◌+◌, ◌-◌, ◌*◌, ◌%◌, ◌^◌, ◌<◌, ◌≤◌, Bool, true, false, List, [], ◌∷◌, ◌++◌, length, take, drop, Option, Some, refl, ap, sym, subst, ◌∙◌, inl, inr, ⊎_elim, arith, append_assoc, append-nil, length-append, length-drop, eq-eqb, take-add}
-use Rattle.std.specs.Prelude.{option_to_list, option_map, flat_map}
-use Rattle.std.proofs.lemmas.List.{drop-append-le, drop-drop, drop_at, take_all, drop_all, length-take-le}
+-- A sent packet is accepted at its place if the units that carry it are kept.
+use Rattle.std.proofs.Common.{◌≡◌, ℕ, zero, suc, ◌+◌, ◌-◌, ◌*◌, ◌%◌, ◌^◌, ◌<◌, ◌≤◌, true, List, [], ◌∷◌, ◌++◌}
+use Rattle.std.proofs.Common.{length, take, drop, Some, refl, ap, sym, subst, ◌∙◌, ⊎_elim, arith, append_assoc}
+use Rattle.std.proofs.Common.{length-append, length-drop, take-add}
+use Rattle.std.specs.Prelude.{option_map, flat_map}
+use Rattle.std.proofs.lemmas.List.{drop-append-le, drop-drop, drop_at, drop_all, length-take-le}
 use Rattle.std.proofs.lemmas.List.Concat.{flat_map-append}
-use Rattle.std.proofs.lemmas.Bool.{cond-true, cond-false, cond_both, cases_lt, both_ways}
+use Rattle.std.proofs.lemmas.Bool.{cases_lt}
 use Rattle.std.proofs.lemmas.Option.{none-some, same_Some}
 use Rattle.t2mi_packet.specs.Spell.{spell}
-use Rattle.ts_packet.specs.Told.{fields_in}
 use Rattle.t2mi_stream.specs.Accepted.{Byte, AcceptedPacket, is_marked, packet_of, accepted}
 use Rattle.t2mi_stream.specs.Candidate.{placed}
-use Rattle.t2mi_stream.specs.Units.{Carrier, carrier_of, unit_at, Cut, goes_on, with_carrier, cut_from, runs, accepted_of, bytes_from}
-use Rattle.t2mi_stream.specs.Pipe.{Item, values, items, joined, least_start, part, unit, units_in, units_of, carried_in, carried_len, offset_in}
+use Rattle.t2mi_stream.specs.Units.{Carrier, Cut, with_carrier, runs, accepted_of}
+use Rattle.t2mi_stream.specs.Pipe.{Item, values, items, joined, part, unit, units_in, units_of, carried_in}
+use Rattle.t2mi_stream.specs.Pipe.{carried_len, offset_in}
 use Rattle.t2mi_stream.specs.Pipes.{is_first}
 use Rattle.t2mi_stream.specs.Received.{Fate, left_of, received, left_number, AlteredWhole, fate_of}
 use Rattle.t2mi_stream.specs.Received.Fate.{Kept, Lost, Altered}
 use Rattle.t2mi_stream.specs.Laws.{AcceptedFront, Among, ArePackets, IsStart, Survives}
 use Rattle.t2mi_stream.specs.SpellLaws.{SpellLaws}
-use Rattle.t2mi_stream.proofs.UnitLemmas.{runs_unit}
 use Rattle.t2mi_stream.proofs.PipeLemmas.{length-values, part_size, carried_add, carried_mono, length-items}
 use Rattle.t2mi_stream.proofs.StartsLemmas.{starts_law}
 use Rattle.t2mi_stream.proofs.FitLemmas.{Fits, fits_append, fits_drop, fits_len, chain, stands_there}
 use Rattle.t2mi_stream.proofs.ReadsLemmas.{UnitLaws, unit_reads, carried_fits, carried_mark}
-
--- one more unit behind whole units
-pub one_unit : (w : UnitLaws) (pid counter number : ℕ) (bytes : List ℕ) (xs : List Item) → pid < 2 ^ 13 → counter < 16 → 0 < length xs → length bytes ≡ 188 * number →
-    runs pid (bytes ++ unit pid counter xs) ≡ with_carrier (runs pid bytes) (record { counter = counter; bytes = carried_in (188 * number) xs })
-one_unit w pid counter number bytes xs p n some whole =
-    let r = unit_reads w pid (188 * number) counter xs p n some in
-    let at : unit_at (bytes ++ unit pid counter xs) number ≡ unit pid counter xs =
-    ap (take 188) (drop_at bytes (unit pid counter xs) (188 * number) whole) ∙ take_all 188 (unit pid counter xs) (omega (arith, r.whole)) in
-    runs_unit pid bytes (unit pid counter xs) number (omega (arith, whole)) (length-append bytes (unit pid counter xs) ∙ omega (arith, whole, r.whole))
-    ∙ ap (λ (u : List ℕ). cut_from (runs pid bytes) (option_to_list (carrier_of pid (188 * number) u (fields_in u)))) at
-    ∙ ap (λ (o : Option Carrier). cut_from (runs pid bytes) (option_to_list o)) r.carrier
-
--- a carrier in a run
-entered : (cut : Cut) (c : Carrier) → (front : List Byte) × ((with_carrier cut c).run ≡ front ++ c.bytes) × ((with_carrier cut c).last ≡ Some c.counter)
-entered cut c = cond_both {A = Cut} (goes_on cut.last c.counter) _ _ (λ k. (front : List Byte) × (k.run ≡ front ++ c.bytes) × (k.last ≡ Some c.counter))
-    (λ _. (cut.run, refl, refl)) (λ _. ([], refl, refl))
-
--- Units that are kept go on with a run.
-record GoesOn (pid : ℕ) (bytes : List ℕ) (units : List (List ℕ)) (xs : List Item) (size : ℕ) : Type 0 where
-  pub more : List Byte
-  pub run_is : (runs pid (bytes ++ flat_map (λ u. u) units)).run ≡ (runs pid bytes).run ++ more
-  pub fits : Fits more (take size xs)
-
-none_carried : (count : ℕ) → take {A = Item} (carried_len count []) [] ≡ []
-none_carried count = take_nothing (carried_len count [])
-  where
-    take_nothing : (n : ℕ) → take {A = Item} n [] ≡ []
-    take_nothing zero = refl
-    take_nothing (suc n) = refl
-
-none_along : (pid count : ℕ) (bytes : List ℕ) → GoesOn pid bytes [] [] (carried_len count [])
-none_along pid count bytes = record {
-  more = [];
-  run_is = ap (λ (l : List ℕ). (runs pid l).run) (append-nil bytes) ∙ sym (append-nil (runs pid bytes).run);
-  fits = subst (Fits []) (sym (none_carried count)) tt;
-}
-
--- one unit, and then others
-along : (pid : ℕ) (bytes u : List ℕ) (units : List (List ℕ)) (more carried : List Byte) → (runs pid ((bytes ++ u) ++ flat_map (λ u. u) units)).run ≡ (runs pid (bytes ++ u)).run ++ more →
-    (runs pid (bytes ++ u)).run ≡ (runs pid bytes).run ++ carried → (runs pid (bytes ++ flat_map (λ u. u) (u ∷ units))).run ≡ (runs pid bytes).run ++ (carried ++ more)
-along pid bytes u units more carried rest one =
-    ap (λ (l : List ℕ). (runs pid l).run) (sym (append_assoc bytes u (flat_map (λ u. u) units)))
-    ∙ rest ∙ ap (λ (l : List Byte). l ++ more) one ∙ append_assoc (runs pid bytes).run carried more
-
-goes_along : (w : UnitLaws) (pid count steps counter last number : ℕ) (bytes : List ℕ) (xs : List Item) → pid < 2 ^ 13 → length bytes ≡ 188 * number → (runs pid bytes).last ≡ Some last →
-    counter ≡ (last + 1) % 16 → length xs ≤ steps → GoesOn pid bytes (take count (units_in pid steps counter xs)) xs (carried_len count xs)
-unfolding units_in
-goes_along w pid zero steps counter last number bytes xs p whole is n enough = record {
-  more = [];
-  run_is = ap (λ (l : List ℕ). (runs pid l).run) (append-nil bytes) ∙ sym (append-nil (runs pid bytes).run);
-  fits = tt;
-}
-goes_along w pid (suc count) zero counter last number bytes [] p whole is n enough = none_along pid (suc count) bytes
-goes_along w pid (suc count) zero counter last number bytes (x ∷ xs) p whole is n enough = absurd (omega arith)
-goes_along w pid (suc count) (suc steps) counter last number bytes [] p whole is n enough = none_along pid (suc count) bytes
-goes_along w pid (suc count) (suc steps) counter last number bytes (x ∷ xs) p whole is n enough =
-    let all : List Item = x ∷ xs in
-    let u : List ℕ = unit pid counter all in
-    let small : counter < 16 = omega (arith, n) in
-    let size = part_size all (omega arith) in
-    let rest : List Item = drop (part all).size all in
-    let next : ℕ = (counter + 1) % 16 in
-    let r = unit_reads w pid (188 * number) counter all p small (omega arith) in
-    let c : Carrier = record { counter = counter; bytes = carried_in (188 * number) all } in
-    let cut : runs pid (bytes ++ u) ≡ with_carrier (runs pid bytes) c = one_unit w pid counter number bytes all p small (omega arith) whole in
-    let goes : with_carrier (runs pid bytes) c ≡ record { ended = (runs pid bytes).ended; run = (runs pid bytes).run ++ c.bytes; last = Some counter } =
-    cond-true _ _ _ (ap (λ (o : Option ℕ). goes_on o counter) is ∙ eq-eqb counter ((last + 1) % 16) n) in
-    let left : length rest ≤ steps = omega (arith, length-drop (part all).size all, size.0, enough) in
-    let h = goes_along w pid count steps next counter (number + 1) (bytes ++ u) rest p (length-append bytes u ∙ omega (arith, whole, r.whole)) (ap (λ (k : Cut). k.last) (cut ∙ goes)) refl left in
-    record {
-      more = c.bytes ++ h.more;
-      run_is = along pid bytes u (take count (units_in pid steps next rest)) h.more c.bytes h.run_is (ap (λ (k : Cut). k.run) (cut ∙ goes));
-      fits = subst (Fits (c.bytes ++ h.more)) (sym (take-add (part all).size (carried_len count rest) all))
-          (fits_append c.bytes h.more (take (part all).size all) (take (carried_len count rest) rest) (carried_fits (188 * number) all (omega arith)) h.fits);
-    }
-
--- units that are kept, one behind another
-kept_front : (units : List (List ℕ)) (fates : List Fate) (count : ℕ) → ((n : ℕ) → n < count → fate_of fates n ≡ Some Kept) →
-    (others : List ℕ) × (left_of units fates ≡ flat_map (λ u. u) (take count units) ++ others)
-kept_front units fates zero kept = (left_of units fates, refl)
-kept_front [] fates (suc count) kept = ([], refl)
-kept_front (u ∷ units) [] (suc count) kept = absurd (none-some Kept (kept 0 (omega arith)))
-kept_front (u ∷ units) (f ∷ fates) (suc count) kept =
-    let first : f ≡ Kept = same_Some f Kept (kept 0 (omega arith)) in
-    let h = kept_front units fates count (λ n l. kept (suc n) (omega arith)) in
-    (h.0, ap (λ (f : Fate). left_of (u ∷ units) (f ∷ fates)) first ∙ ap (λ (l : List ℕ). u ++ l) h.1 ∙ sym (append_assoc u (flat_map (λ u. u) (take count units)) h.0))
-
--- What is among the first is among all.
-pub among_left : {X : Type 0} (x : X) (xs ys : List X) → Among x xs → Among x (xs ++ ys)
-among_left x [] ys h = elim h [ ]
-among_left x (y ∷ xs) ys (inl e) = inl e
-among_left x (y ∷ xs) ys (inr h) = inr (among_left x xs ys h)
-
-pub among_right : {X : Type 0} (x : X) (xs ys : List X) → Among x ys → Among x (xs ++ ys)
-among_right x [] ys h = h
-among_right x (y ∷ xs) ys h = inr (among_right x xs ys h)
-
--- Each byte that begins a packet begins whole packets up to the end.
-abbrev Whole : List Item → Type 0
-Whole xs = (t : ℕ) → is_first (drop t xs) ≡ true → (packets : List (List ℕ)) × (drop t xs ≡ joined packets) × ArePackets packets
-
-whole_drop : (n : ℕ) (xs : List Item) → Whole xs → Whole (drop n xs)
-whole_drop n xs h t first =
-    let e = drop-drop t n xs in
-    let r = h (n + t) (ap is_first (sym e) ∙ first) in (r.0, e ∙ r.1, r.2)
-
-pub plain_first : (c : List ℕ) (t : ℕ) (more : List Item) → t < length c → is_first (drop t (items false c ++ more)) ≡ false
-plain_first [] t more l = absurd (omega arith)
-plain_first (b ∷ c) zero more l = refl
-plain_first (b ∷ c) (suc t) more l = plain_first c t more (omega arith)
-
-whole_joined : (packets : List (List ℕ)) → ArePackets packets → Whole (joined packets)
-whole_joined [] all t first = ([], drop_all t [] (omega arith), tt)
-whole_joined (c ∷ packets) all zero first = (c ∷ packets, refl, all)
-whole_joined ([] ∷ packets) all (suc t) first = whole_joined packets all.1 (suc t) first
-whole_joined ((b ∷ c) ∷ packets) all (suc t) first = ⊎_elim
-    (λ (l : t < length c). absurd (both_ways _ (plain_first c t (joined packets) l) first))
-    (λ (l : length c ≤ t).
-    let size = length-items false c in
-    let e : drop t (items false c ++ joined packets) ≡ drop (t - length c) (joined packets) =
-    ap (λ (k : ℕ). drop k (items false c ++ joined packets)) (let q : t ≡ length c + (t - length c) = omega arith in q)
-    ∙ sym (drop-drop (t - length c) (length c) (items false c ++ joined packets)) ∙ ap (drop (t - length c)) (drop_at (items false c) (joined packets) (length c) size) in
-    let r = whole_joined packets all.1 (t - length c) (ap is_first (sym e) ∙ first) in (r.0, e ∙ r.1, r.2))
-    (cases_lt t (length c))
-
--- what a part of a list is
-take_over : {X : Type 0} (a b : List X) (l : ℕ) → length a ≤ l → take l (a ++ b) ≡ a ++ take (l - length a) b
-take_over [] b l h = let e : l ≡ l - 0 = omega arith in ap (λ (n : ℕ). take n b) e
-take_over (x ∷ a) b zero h = absurd (omega arith)
-take_over (x ∷ a) b (suc l) h =
-    let e : l - length a ≡ suc l - suc (length a) = omega arith in
-    ap (λ (r : List _). x ∷ r) (take_over a b l (omega arith) ∙ ap (λ (n : ℕ). a ++ take n b) e)
-
-first_take : (n t : ℕ) (xs : List Item) → t < n → is_first (drop t (take n xs)) ≡ is_first (drop t xs)
-first_take zero t xs l = absurd (omega arith)
-first_take (suc n) zero [] l = refl
-first_take (suc n) zero (x ∷ xs) l = refl
-first_take (suc n) (suc t) [] l = refl
-first_take (suc n) (suc t) (x ∷ xs) l = first_take n t xs (omega arith)
-
-first_append : (t : ℕ) (xs ys : List Item) → t < length xs → is_first (drop t (xs ++ ys)) ≡ is_first (drop t xs)
-first_append t [] ys l = absurd (omega arith)
-first_append zero (x ∷ xs) ys l = refl
-first_append (suc t) (x ∷ xs) ys l = first_append t xs ys (omega arith)
-
--- the first start, where there is one
-record Least (xs : List Item) (t : ℕ) : Type 0 where
-  pub place : ℕ
-  pub least : least_start xs ≡ Some place
-  pub before : place ≤ t
-  pub first : is_first (drop place xs) ≡ true
-
-least_first : (xs : List Item) (t : ℕ) → is_first (drop t xs) ≡ true → Least xs t
-least_first [] t h = let none : List Item = [] in absurd (both_ways false refl (ap is_first (sym (drop_all t none (omega arith))) ∙ h))
-least_first (x ∷ xs) t h = go x.first refl t h (λ s k. least_first xs s k)
-  where
-    go : (b : Bool) → x.first ≡ b → (t : ℕ) → is_first (drop t (x ∷ xs)) ≡ true → ((s : ℕ) → is_first (drop s xs) ≡ true → Least xs s) → Least (x ∷ xs) t
-    go true e t h ih = record { place = 0; least = cond-true _ _ _ e; before = omega arith; first = e }
-    go false e zero h ih = absurd (both_ways _ e h)
-    go false e (suc t) h ih = let r = ih t h in record {
-      place = suc r.place;
-      least = cond-false _ _ _ e ∙ ap (option_map (λ (k : ℕ). k + 1)) r.least ∙ ap (λ (n : ℕ). Some n) (let q : r.place + 1 ≡ suc r.place = omega arith in q);
-      before = let l = r.before in omega arith;
-      first = r.first;
-    }
-
-pub place_at : (place at named t : ℕ) (bytes : List ℕ) (more : List Byte) → t < length bytes → (packet_of (drop t (bytes_from place at named bytes ++ more))).place ≡ place + (at + t)
-place_at place at named t [] more l = absurd (omega arith)
-place_at place at named zero (b ∷ bytes) more l = omega arith
-place_at place at named (suc t) (b ∷ bytes) more l = place_at place (at + 1) named t bytes more (omega arith) ∙ omega arith
-
--- The packets of what stands between the first start and a packet.
-between : (pre : List Item) (f : ℕ) → Whole pre → f ≤ length pre → (f < length pre → is_first (drop f pre) ≡ true) → (packets : List (List ℕ)) × (drop f pre ≡ joined packets) × ArePackets packets
-between pre f whole l first = ⊎_elim
-    (λ (less : f < length pre). whole f (first less))
-    (λ (more : length pre ≤ f). ([], drop_all f pre more, tt))
-    (cases_lt f (length pre))
+use Rattle.t2mi_stream.proofs.KeptUnitsLemmas.{one_unit, entered, GoesOn, goes_along, kept_front, among_left, among_right, Whole}
+use Rattle.t2mi_stream.proofs.KeptUnitsLemmas.{whole_drop, whole_joined, take_over, first_take, first_append, Least, least_first}
+use Rattle.t2mi_stream.proofs.KeptUnitsLemmas.{place_at, between}
 
 -- A packet that begins in the first of the units, and whose units are kept.
-module _ (g : SpellLaws) (w : UnitLaws) (front : AcceptedFront) (pid : ℕ) (fits_pid : pid < 2 ^ 13) (p : List ℕ) (spelled : spell p ≡ Some (length p)) (z : List Item) where
+module _ (g : SpellLaws) (w : UnitLaws) (front : AcceptedFront) (pid : ℕ) (fits_pid : pid < 2 ^ 13) (p : List ℕ)
+    (spelled : spell p ≡ Some (length p)) (z : List Item) where
   ten : 10 ≤ length p
   ten = (g.range p (length p) spelled).0
 
@@ -211,8 +39,11 @@ module _ (g : SpellLaws) (w : UnitLaws) (front : AcceptedFront) (pid : ℕ) (fit
       go [] l = absurd (omega arith)
       go (b ∷ q) l = refl
 
-  module _ (steps counter number count : ℕ) (bytes : List ℕ) (x : Item) (xs pre : List Item) (fates : List Fate) (small : counter < 16) (units : length bytes ≡ 188 * number) (all_is : x ∷ xs ≡ pre ++ (items true p ++ z))
-      (whole : Whole pre) (here : length pre < (part (x ∷ xs)).size) (reach : length pre + length p ≤ carried_len (suc count) (x ∷ xs)) (enough : length xs ≤ steps) (kept : (n : ℕ) → n < count → fate_of fates n ≡ Some Kept) where
+  module _ (steps counter number count : ℕ) (bytes : List ℕ) (x : Item) (xs pre : List Item) (fates : List Fate)
+      (small : counter < 16) (units : length bytes ≡ 188 * number) (all_is : x ∷ xs ≡ pre ++ (items true p ++ z))
+      (whole : Whole pre) (here : length pre < (part (x ∷ xs)).size)
+      (reach : length pre + length p ≤ carried_len (suc count) (x ∷ xs)) (enough : length xs ≤ steps)
+      (kept : (n : ℕ) → n < count → fate_of fates n ≡ Some Kept) where
     abbrev all : List Item
     all = x ∷ xs
 
@@ -237,13 +68,15 @@ module _ (g : SpellLaws) (w : UnitLaws) (front : AcceptedFront) (pid : ℕ) (fit
     cut : runs pid (bytes ++ u) ≡ with_carrier (runs pid bytes) c
     cut = one_unit w pid counter number bytes all fits_pid small (omega arith) units
 
-    e : (front : List Byte) × ((with_carrier (runs pid bytes) c).run ≡ front ++ c.bytes) × ((with_carrier (runs pid bytes) c).last ≡ Some counter)
+    e : (front : List Byte) × ((with_carrier (runs pid bytes) c).run ≡ front ++ c.bytes)
+        × ((with_carrier (runs pid bytes) c).last ≡ Some counter)
     e = entered (runs pid bytes) c
 
     further : GoesOn pid (bytes ++ u) (take count (units_in pid steps next rest)) rest (carried_len count rest)
     further =
         let r = unit_reads w pid (188 * number) counter all fits_pid small (omega arith) in
-        goes_along w pid count steps next counter (number + 1) (bytes ++ u) rest fits_pid (length-append bytes u ∙ omega (arith, units, r.whole)) (ap (λ (k : Cut). k.last) cut ∙ e.2) refl
+        goes_along w pid count steps next counter (number + 1) (bytes ++ u) rest fits_pid
+        (length-append bytes u ∙ omega (arith, units, r.whole)) (ap (λ (k : Cut). k.last) cut ∙ e.2) refl
         (let z = size in omega (arith, length-drop (part all).size all, z.0, enough))
 
     abbrev came : List ℕ
@@ -256,7 +89,8 @@ module _ (g : SpellLaws) (w : UnitLaws) (front : AcceptedFront) (pid : ℕ) (fit
     base = length e.0
 
     run_is : (runs pid came).run ≡ e.0 ++ mine
-    run_is = further.run_is ∙ ap (λ (l : List Byte). l ++ further.more) (ap (λ (k : Cut). k.run) cut ∙ e.1) ∙ append_assoc e.0 c.bytes further.more
+    run_is = further.run_is ∙ ap (λ (l : List Byte). l ++ further.more) (ap (λ (k : Cut). k.run) cut ∙ e.1)
+        ∙ append_assoc e.0 c.bytes further.more
 
     abbrev z' : List Item
     z' = take (carried_len (suc count) all - s - length (items true p)) z
@@ -266,17 +100,20 @@ module _ (g : SpellLaws) (w : UnitLaws) (front : AcceptedFront) (pid : ℕ) (fit
         let n = length-items true p in
         ap (take (carried_len (suc count) all)) all_is
         ∙ take_over pre (items true p ++ z) (carried_len (suc count) all) (omega (arith, reach))
-        ∙ ap (λ (l : List Item). pre ++ l) (take_over (items true p) z (carried_len (suc count) all - s) (omega (arith, reach, n)))
+        ∙ ap (λ (l : List Item). pre ++ l)
+        (take_over (items true p) z (carried_len (suc count) all - s) (omega (arith, reach, n)))
 
     fits : Fits mine (pre ++ (items true p ++ z'))
     fits = subst (Fits mine) (sym (take-add (part all).size (carried_len count rest) all) ∙ taken)
-        (fits_append c.bytes further.more (take (part all).size all) (take (carried_len count rest) rest) (carried_fits (188 * number) all (omega arith)) further.fits)
+        (fits_append c.bytes further.more (take (part all).size all) (take (carried_len count rest) rest)
+        (carried_fits (188 * number) all (omega arith)) further.fits)
 
     at_run : (t : ℕ) → drop (base + t) (e.0 ++ mine) ≡ drop t mine
     at_run t = sym (drop-drop t base (e.0 ++ mine)) ∙ ap (drop t) (drop_at e.0 mine base refl)
 
     first_at : is_first (drop s all) ≡ true
-    first_at = ap (λ (l : List Item). is_first (drop s l)) all_is ∙ ap is_first (drop_at pre (items true p ++ z) s refl) ∙ first_item z
+    first_at = ap (λ (l : List Item). is_first (drop s l)) all_is ∙ ap is_first (drop_at pre (items true p ++ z) s refl)
+        ∙ first_item z
 
     least : Least (take (part all).size all) s
     least = least_first (take (part all).size all) s (first_take (part all).size s all here ∙ first_at)
@@ -299,42 +136,59 @@ module _ (g : SpellLaws) (w : UnitLaws) (front : AcceptedFront) (pid : ℕ) (fit
         let o = length-append (items true p) z' in
         let q = length-items true p in
         let b = least.before in
-        let mark : is_marked (drop (base + f) (e.0 ++ mine)) ≡ true = ap is_marked (at_run f) ∙ carried_mark (188 * number) f all further.more (omega arith) least.least in
-        let start : IsStart (e.0 ++ mine) (base + f) = (starts_law g (e.0 ++ mine)).marked (base + f) (omega (arith, n, m, o, q, b, ten, length-append e.0 mine)) mark in
+        let mark : is_marked (drop (base + f) (e.0 ++ mine)) ≡ true = ap is_marked (at_run f)
+        ∙ carried_mark (188 * number) f all further.more (omega arith) least.least in
+        let start : IsStart (e.0 ++ mine) (base + f) =
+        (starts_law g (e.0 ++ mine)).marked (base + f) (omega (arith, n, m, o, q, b, ten, length-append e.0 mine)) mark in
         let from_f : Fits (drop (base + f) (e.0 ++ mine)) (joined packets.0 ++ (items true p ++ z')) =
         subst (λ (l : List Byte). Fits l (joined packets.0 ++ (items true p ++ z'))) (sym (at_run f))
-        (subst (Fits (drop f mine)) (drop-append-le f pre (items true p ++ z') b ∙ ap (λ (l : List Item). l ++ (items true p ++ z')) packets.1) (fits_drop f mine (pre ++ (items true p ++ z')) fits)) in
-        let to_p : base + f + length (joined packets.0) ≡ base + s = let k = ap length packets.1 in omega (arith, k, length-drop f pre, b) in
-        let at_p : IsStart (e.0 ++ mine) (base + s) = subst (IsStart (e.0 ++ mine)) to_p (chain g (e.0 ++ mine) (base + f) packets.0 p z' start packets.2 spelled from_f) in
+        (subst (Fits (drop f mine)) (drop-append-le f pre (items true p ++ z') b
+        ∙ ap (λ (l : List Item). l ++ (items true p ++ z')) packets.1)
+        (fits_drop f mine (pre ++ (items true p ++ z')) fits)) in
+        let to_p : base + f + length (joined packets.0) ≡ base + s = let k = ap length packets.1 in
+        omega (arith, k, length-drop f pre, b) in
+        let at_p : IsStart (e.0 ++ mine) (base + s) =
+        subst (IsStart (e.0 ++ mine)) to_p (chain g (e.0 ++ mine) (base + f) packets.0 p z' start packets.2 spelled from_f) in
         let from_p : Fits (drop (base + s) (e.0 ++ mine)) (items true p ++ z') =
-        subst (λ (l : List Byte). Fits l (items true p ++ z')) (sym (at_run s)) (subst (Fits (drop s mine)) (drop_at pre (items true p ++ z') s refl) (fits_drop s mine (pre ++ (items true p ++ z')) fits)) in
+        subst (λ (l : List Byte). Fits l (items true p ++ z')) (sym (at_run s))
+        (subst (Fits (drop s mine)) (drop_at pre (items true p ++ z') s refl)
+        (fits_drop s mine (pre ++ (items true p ++ z')) fits)) in
         let place : (packet_of (drop (base + s) (e.0 ++ mine))).place ≡ 188 * number + (188 - (part all).size + s) =
         ap (λ (l : List Byte). (packet_of l).place) (at_run s)
-        ∙ place_at (188 * number) (188 - length (values (take (part all).size all))) _ s (values (take (part all).size all)) further.more (omega (arith, vals, here))
+        ∙ place_at (188 * number) (188 - length (values (take (part all).size all))) _ s
+        (values (take (part all).size all)) further.more (omega (arith, vals, here))
         ∙ ap (λ (n : ℕ). 188 * number + (188 - n + s)) vals in
         stands_there g (e.0 ++ mine) (base + s) (188 * number + (188 - (part all).size + s)) p z' at_p spelled from_p place
 
-    pub begun_here : Among (placed (188 * number + (188 - (part all).size + s)) p) (accepted_of pid (bytes ++ (u ++ left_of (units_in pid steps next rest) fates)))
+    pub begun_here : Among (placed (188 * number + (188 - (part all).size + s)) p)
+        (accepted_of pid (bytes ++ (u ++ left_of (units_in pid steps next rest) fates)))
     begun_here =
         let k = kept_front (units_in pid steps next rest) fates count kept in
         let o = front pid came k.0 in
         let parts : came ++ k.0 ≡ bytes ++ (u ++ left_of (units_in pid steps next rest) fates) =
-        append_assoc (bytes ++ u) (flat_map (λ u. u) (take count (units_in pid steps next rest))) k.0 ∙ append_assoc bytes u (flat_map (λ u. u) (take count (units_in pid steps next rest)) ++ k.0) ∙ ap (λ (l : List ℕ). bytes ++ (u ++ l)) (sym k.1) in
+        append_assoc (bytes ++ u) (flat_map (λ u. u) (take count (units_in pid steps next rest))) k.0
+        ∙ append_assoc bytes u (flat_map (λ u. u) (take count (units_in pid steps next rest)) ++ k.0)
+        ∙ ap (λ (l : List ℕ). bytes ++ (u ++ l)) (sym k.1) in
         let packet : AcceptedPacket = placed (188 * number + (188 - (part all).size + s)) p in
         let there : Among packet (accepted_of pid came) =
-        among_right packet (flat_map accepted (runs pid came).ended) (accepted (runs pid came).run) (subst (λ (r : List Byte). Among packet (accepted r)) (sym run_is) accepted_there) in
-        subst (Among packet) (ap (accepted_of pid) parts) (subst (Among packet) (sym o.1) (among_left packet (accepted_of pid came) o.0 there))
+        among_right packet (flat_map accepted (runs pid came).ended) (accepted (runs pid came).run)
+        (subst (λ (r : List Byte). Among packet (accepted r)) (sym run_is) accepted_there) in
+        subst (Among packet) (ap (accepted_of pid) parts)
+        (subst (Among packet) (sym o.1) (among_left packet (accepted_of pid came) o.0 there))
 
   -- It begins in a later one.
-  record Found (i number : ℕ) (bytes : List ℕ) (xs : List Item) (place : ℕ) (units : List (List ℕ)) (fates : List Fate) : Type 0 where
+  record Found (i number : ℕ) (bytes : List ℕ) (xs : List Item) (place : ℕ) (units : List (List ℕ))
+      (fates : List Fate) : Type 0 where
     pub left : ℕ
     pub number_is : left_number fates i ≡ Some left
     pub there : Among (placed (188 * (number + left) + offset_in i xs place) p) (accepted_of pid (bytes ++ left_of units fates))
 
   -- by what becomes of the unit before
-  behind_unit : (i number : ℕ) (bytes u : List ℕ) (x : Item) (xs : List Item) (place : ℕ) (units : List (List ℕ)) (f : Fate) (fates : List Fate) → length bytes ≡ 188 * number → length u ≡ 188 →
+  behind_unit : (i number : ℕ) (bytes u : List ℕ) (x : Item) (xs : List Item) (place : ℕ) (units : List (List ℕ)) (f : Fate)
+      (fates : List Fate) → length bytes ≡ 188 * number → length u ≡ 188 →
       (part (x ∷ xs)).size ≤ place → AlteredWhole (f ∷ fates) →
-      ((number : ℕ) (bytes : List ℕ) → length bytes ≡ 188 * number → AlteredWhole fates → Found i number bytes (drop (part (x ∷ xs)).size (x ∷ xs)) (place - (part (x ∷ xs)).size) units fates) →
+      ((number : ℕ) (bytes : List ℕ) → length bytes ≡ 188 * number → AlteredWhole fates
+      → Found i number bytes (drop (part (x ∷ xs)).size (x ∷ xs)) (place - (part (x ∷ xs)).size) units fates) →
       Found (suc i) number bytes (x ∷ xs) place (u ∷ units) (f ∷ fates)
   behind_unit i number bytes u x xs place units f fates whole full l altered ih = go f altered
     where
@@ -348,12 +202,16 @@ module _ (g : SpellLaws) (w : UnitLaws) (front : AcceptedFront) (pid : ℕ) (fit
       same = omega (arith, l)
 
       one_more : (other : List ℕ) → length other ≡ 188 → Found i (number + 1) (bytes ++ other) rest (place - size) units fates →
-          (k : ℕ) × (left_number fates i ≡ Some k) × Among (placed (188 * (number + (1 + k)) + offset_in (suc i) (x ∷ xs) place) p) (accepted_of pid (bytes ++ (other ++ left_of units fates)))
+          (k : ℕ) × (left_number fates i ≡ Some k)
+          × Among (placed (188 * (number + (1 + k)) + offset_in (suc i) (x ∷ xs) place) p)
+          (accepted_of pid (bytes ++ (other ++ left_of units fates)))
       one_more other n h = (
         h.left,
         h.number_is,
-        subst (λ (m : ℕ). Among (placed m p) (accepted_of pid (bytes ++ (other ++ left_of units fates)))) (ap (λ (m : ℕ). 188 * (number + 1 + h.left) + m) same ∙ omega arith)
-            (subst (λ (l : List ℕ). Among (placed (188 * (number + 1 + h.left) + offset_in i rest (place - size)) p) (accepted_of pid l)) (append_assoc bytes other (left_of units fates)) h.there),
+        subst (λ (m : ℕ). Among (placed m p) (accepted_of pid (bytes ++ (other ++ left_of units fates))))
+            (ap (λ (m : ℕ). 188 * (number + 1 + h.left) + m) same ∙ omega arith)
+            (subst (λ (l : List ℕ). Among (placed (188 * (number + 1 + h.left) + offset_in i rest (place - size)) p)
+            (accepted_of pid l)) (append_assoc bytes other (left_of units fates)) h.there),
       )
 
       grown : (other : List ℕ) → length other ≡ 188 → length (bytes ++ other) ≡ 188 * (number + 1)
@@ -365,42 +223,76 @@ module _ (g : SpellLaws) (w : UnitLaws) (front : AcceptedFront) (pid : ℕ) (fit
       go (Altered other) a = let r = one_more other a.0 (ih (number + 1) (bytes ++ other) (grown other a.0) a.1) in
           record { left = 1 + r.0; number_is = ap (option_map (λ (k : ℕ). 1 + k)) r.1; there = r.2 }
       go Lost a = let h = ih number bytes whole a in
-          record { left = h.left; number_is = h.number_is; there = subst (λ (m : ℕ). Among (placed (188 * (number + h.left) + m) p) (accepted_of pid (bytes ++ left_of units fates))) same h.there }
+          record {
+            left = h.left;
+            number_is = h.number_is;
+            there = subst
+                (λ (m : ℕ). Among (placed (188 * (number + h.left) + m) p) (accepted_of pid (bytes ++ left_of units fates))) same
+                h.there;
+          }
 
   -- a unit that is kept
-  first_kept : (number : ℕ) (bytes u : List ℕ) (xs : List Item) (place : ℕ) (units : List (List ℕ)) (f : Fate) (fates : List Fate) → f ≡ Kept →
-      Among (placed (188 * (number + 0) + offset_in 0 xs place) p) (accepted_of pid (bytes ++ (u ++ left_of units fates))) → Found 0 number bytes xs place (u ∷ units) (f ∷ fates)
-  first_kept number bytes u xs place units f fates e h = subst (λ (f : Fate). Found 0 number bytes xs place (u ∷ units) (f ∷ fates)) (sym e) (record { left = 0; number_is = refl; there = h })
+  first_kept : (number : ℕ) (bytes u : List ℕ) (xs : List Item) (place : ℕ) (units : List (List ℕ)) (f : Fate) (fates : List Fate)
+      → f ≡ Kept →
+      Among (placed (188 * (number + 0) + offset_in 0 xs place) p) (accepted_of pid (bytes ++ (u ++ left_of units fates)))
+      → Found 0 number bytes xs place (u ∷ units) (f ∷ fates)
+  first_kept number bytes u xs place units f fates e h =
+      subst (λ (f : Fate). Found 0 number bytes xs place (u ∷ units) (f ∷ fates)) (sym e)
+      (record { left = 0; number_is = refl; there = h })
 
-  walk : (i steps counter number : ℕ) (bytes : List ℕ) (xs pre : List Item) (fates : List Fate) (last : ℕ) → counter < 16 → length bytes ≡ 188 * number → xs ≡ pre ++ (items true p ++ z) → Whole pre →
-      carried_len i xs ≤ length pre → length pre < carried_len (suc i) xs → length pre + length p ≤ carried_len last xs → length xs ≤ steps →
-      ((n : ℕ) → i ≤ n → n < last → fate_of fates n ≡ Some Kept) → AlteredWhole fates → Found i number bytes xs (length pre) (units_in pid steps counter xs) fates
+  walk : (i steps counter number : ℕ) (bytes : List ℕ) (xs pre : List Item) (fates : List Fate) (last : ℕ) → counter < 16
+      → length bytes ≡ 188 * number → xs ≡ pre ++ (items true p ++ z) → Whole pre →
+      carried_len i xs ≤ length pre → length pre < carried_len (suc i) xs → length pre + length p ≤ carried_len last xs
+      → length xs ≤ steps →
+      ((n : ℕ) → i ≤ n → n < last → fate_of fates n ≡ Some Kept) → AlteredWhole fates
+      → Found i number bytes xs (length pre) (units_in pid steps counter xs) fates
   unfolding units_in
   walk i steps counter number bytes [] pre fates last small units is whole begins within ends enough kept altered =
-      absurd (let n = ap length is in omega (arith, n, length-append pre (items true p ++ z), length-append (items true p) z, length-items true p, ten))
-  walk i zero counter number bytes (x ∷ xs) pre fates last small units is whole begins within ends enough kept altered = absurd (omega arith)
-  walk zero (suc steps) counter number bytes (x ∷ xs) pre fates zero small units is whole begins within ends enough kept altered = absurd (let t = ten in omega arith)
-  walk zero (suc steps) counter number bytes (x ∷ xs) pre [] (suc last) small units is whole begins within ends enough kept altered = absurd (none-some Kept (kept 0 (omega arith) (omega arith)))
-  walk zero (suc steps) counter number bytes (x ∷ xs) pre (f ∷ fates) (suc last) small units is whole begins within ends enough kept altered =
-      let here = begun_here steps counter number last bytes x xs pre fates small units is whole (omega (arith, within)) ends (omega (arith, enough)) (λ n l. kept (suc n) (omega arith) (omega arith)) in
-      first_kept number bytes (unit pid counter (x ∷ xs)) (x ∷ xs) (length pre) (units_in pid steps ((counter + 1) % 16) (drop (part (x ∷ xs)).size (x ∷ xs))) f fates
+      absurd (let n = ap length is in
+      omega (arith, n, length-append pre (items true p ++ z), length-append (items true p) z, length-items true p, ten))
+  walk i zero counter number bytes (x ∷ xs) pre fates last small units is whole begins within ends enough kept altered =
+      absurd (omega arith)
+  walk zero (suc steps) counter number bytes (x ∷ xs) pre fates zero small units is whole begins within ends enough kept altered =
+      absurd (let t = ten in omega arith)
+  walk zero (suc steps) counter number bytes (x ∷ xs) pre [] (suc last) small units is whole begins within ends enough kept
+      altered = absurd (none-some Kept (kept 0 (omega arith) (omega arith)))
+  walk zero (suc steps) counter number bytes (x ∷ xs) pre (f ∷ fates) (suc last) small units is whole begins within ends enough
+      kept altered =
+      let here = begun_here steps counter number last bytes x xs pre fates small units is whole (omega (arith, within)) ends
+      (omega (arith, enough)) (λ n l. kept (suc n) (omega arith) (omega arith)) in
+      first_kept number bytes (unit pid counter (x ∷ xs)) (x ∷ xs) (length pre)
+      (units_in pid steps ((counter + 1) % 16) (drop (part (x ∷ xs)).size (x ∷ xs))) f fates
       (same_Some f Kept (kept 0 (omega arith) (omega arith)))
-      (subst (λ (m : ℕ). Among (placed m p) (accepted_of pid (bytes ++ (unit pid counter (x ∷ xs) ++ left_of (units_in pid steps ((counter + 1) % 16) (drop (part (x ∷ xs)).size (x ∷ xs))) fates)))) (omega arith) here)
-  walk (suc i) (suc steps) counter number bytes (x ∷ xs) pre fates zero small units is whole begins within ends enough kept altered = absurd (let t = ten in omega arith)
-  walk (suc i) (suc steps) counter number bytes (x ∷ xs) pre [] (suc last) small units is whole begins within ends enough kept altered = absurd (none-some Kept (kept (suc i) (omega arith)
-      (⊎_elim (λ (l : suc i < suc last). l) (λ (l : suc last ≤ suc i). let m = carried_mono (suc last) (suc i) (x ∷ xs) l in absurd (let t = ten in omega (arith, m, begins, ends, t))) (cases_lt (suc i) (suc last)))))
-  walk (suc i) (suc steps) counter number bytes (x ∷ xs) pre (f ∷ fates) (suc last) small units is whole begins within ends enough kept altered =
+      (subst (λ (m : ℕ).
+      Among (placed m p)
+      (accepted_of pid
+      (bytes ++ (unit pid counter (x ∷ xs)
+      ++ left_of (units_in pid steps ((counter + 1) % 16) (drop (part (x ∷ xs)).size (x ∷ xs))) fates)))) (omega arith) here)
+  walk (suc i) (suc steps) counter number bytes (x ∷ xs) pre fates zero small units is whole begins within ends enough kept
+      altered = absurd (let t = ten in omega arith)
+  walk (suc i) (suc steps) counter number bytes (x ∷ xs) pre [] (suc last) small units is whole begins within ends enough kept
+      altered = absurd (none-some Kept (kept (suc i) (omega arith)
+      (⊎_elim (λ (l : suc i < suc last). l) (λ (l : suc last ≤ suc i). let m = carried_mono (suc last) (suc i) (x ∷ xs) l in
+      absurd (let t = ten in omega (arith, m, begins, ends, t))) (cases_lt (suc i) (suc last)))))
+  walk (suc i) (suc steps) counter number bytes (x ∷ xs) pre (f ∷ fates) (suc last) small units is whole begins within ends enough
+      kept altered =
       let all : List Item = x ∷ xs in
       let n : ℕ = (part all).size in
       let size = part_size all (omega arith) in
       let r = unit_reads w pid (188 * number) counter all fits_pid small (omega arith) in
       let passed : n ≤ length pre = omega (arith, begins) in
       let left : length (drop n pre) ≡ length pre - n = length-drop n pre in
-      let rest_is : drop n all ≡ drop n pre ++ (items true p ++ z) = ap (drop n) is ∙ drop-append-le n pre (items true p ++ z) passed in
-      behind_unit i number bytes (unit pid counter all) x xs (length pre) (units_in pid steps ((counter + 1) % 16) (drop n all)) f fates units r.whole passed altered
-      (λ number' bytes' units' altered'. subst (λ (m : ℕ). Found i number' bytes' (drop n all) m (units_in pid steps ((counter + 1) % 16) (drop n all)) fates) left
-      (walk i steps ((counter + 1) % 16) number' bytes' (drop n all) (drop n pre) fates last (omega arith) units' rest_is (whole_drop n pre whole)
-      (omega (arith, left, begins)) (omega (arith, left, within, passed)) (omega (arith, left, ends, passed)) (omega (arith, length-drop n all, size.0, enough))
+      let rest_is : drop n all ≡ drop n pre ++ (items true p ++ z) =
+      ap (drop n) is ∙ drop-append-le n pre (items true p ++ z) passed in
+      behind_unit i number bytes (unit pid counter all) x xs (length pre) (units_in pid steps ((counter + 1) % 16) (drop n all)) f
+      fates units r.whole passed altered
+      (λ number' bytes' units' altered'.
+      subst (λ (m : ℕ). Found i number' bytes' (drop n all) m (units_in pid steps ((counter + 1) % 16) (drop n all)) fates)
+      left
+      (walk i steps ((counter + 1) % 16) number' bytes' (drop n all) (drop n pre) fates last (omega arith) units' rest_is
+      (whole_drop n pre whole)
+      (omega (arith, left, begins)) (omega (arith, left, within, passed)) (omega (arith, left, ends, passed))
+      (omega (arith, length-drop n all, size.0, enough))
       (λ m a b. kept (suc m) (omega arith) (omega arith)) altered'))
 
 -- later units of the same
@@ -418,9 +310,11 @@ nothing_later pid n counter small =
     let e = ap length (drop_all n none (omega arith)) in
     record { steps = 0; counter = counter; units_are = refl; small = small; enough = omega (arith, e) }
 
-pub later : (pid from steps counter : ℕ) (xs : List Item) → counter < 16 → length xs ≤ steps → Later pid (drop from (units_in pid steps counter xs)) (drop (carried_len from xs) xs)
+pub later : (pid from steps counter : ℕ) (xs : List Item) → counter < 16 → length xs ≤ steps
+    → Later pid (drop from (units_in pid steps counter xs)) (drop (carried_len from xs) xs)
 unfolding units_in
-later pid zero steps counter xs small enough = record { steps = steps; counter = counter; units_are = refl; small = small; enough = enough }
+later pid zero steps counter xs small enough =
+    record { steps = steps; counter = counter; units_are = refl; small = small; enough = enough }
 later pid (suc from) zero counter [] small enough = nothing_later pid (carried_len (suc from) []) counter small
 later pid (suc from) zero counter (x ∷ xs) small enough = absurd (omega arith)
 later pid (suc from) (suc steps) counter [] small enough = nothing_later pid (carried_len (suc from) []) counter small
@@ -428,8 +322,10 @@ later pid (suc from) (suc steps) counter (x ∷ xs) small enough =
     let all : List Item = x ∷ xs in
     let n : ℕ = (part all).size in
     let size = part_size all (omega arith) in
-    let h = later pid from steps ((counter + 1) % 16) (drop n all) (omega arith) (omega (arith, length-drop n all, size.0, enough)) in
-    let e : drop (carried_len from (drop n all)) (drop n all) ≡ drop (n + carried_len from (drop n all)) all = drop-drop (carried_len from (drop n all)) n all in
+    let h = later pid from steps ((counter + 1) % 16) (drop n all) (omega arith)
+    (omega (arith, length-drop n all, size.0, enough)) in
+    let e : drop (carried_len from (drop n all)) (drop n all) ≡ drop (n + carried_len from (drop n all)) all =
+    drop-drop (carried_len from (drop n all)) n all in
     record {
       steps = h.steps;
       counter = h.counter;
@@ -438,7 +334,8 @@ later pid (suc from) (suc steps) counter (x ∷ xs) small enough =
       enough = let k = ap length e in omega (arith, k, h.enough);
     }
 
-are_parts : (before : List (List ℕ)) (packet : List ℕ) (after : List (List ℕ)) → ArePackets (before ++ packet ∷ after) → ArePackets before × (spell packet ≡ Some (length packet))
+are_parts : (before : List (List ℕ)) (packet : List ℕ) (after : List (List ℕ)) → ArePackets (before ++ packet ∷ after)
+    → ArePackets before × (spell packet ≡ Some (length packet))
 are_parts [] packet after h = (tt, h.0)
 are_parts (c ∷ before) packet after h = let r = are_parts before packet after h.1 in ((h.0, r.0), r.1)
 
@@ -460,9 +357,12 @@ survives g w front pid before after packet from first last fates small packets a
     let within : s < carried_len (from + suc first) all = subst (λ (k : ℕ). s < carried_len k all) (sym e) carry.within in
     let passed : c ≤ s = omega (arith, one, carry.begins) in
     let left : length (drop c pre) ≡ s - c = length-drop c pre in
-    let y_is : y ≡ drop c pre ++ (items true packet ++ z) = ap (drop c) all_is ∙ drop-append-le c pre (items true packet ++ z) passed in
-    let found = walk g w front pid small packet parts.1 z first h.steps h.counter 0 [] y (drop c pre) fates last h.small refl y_is (whole_drop c pre (whole_joined before parts.0))
-    (omega (arith, left, one, carry.begins)) (omega (arith, left, two, within, passed)) (omega (arith, left, three, carry.ends, passed)) h.enough kept altered in
+    let y_is : y ≡ drop c pre ++ (items true packet ++ z) =
+    ap (drop c) all_is ∙ drop-append-le c pre (items true packet ++ z) passed in
+    let found = walk g w front pid small packet parts.1 z first h.steps h.counter 0 [] y (drop c pre) fates last h.small refl y_is
+    (whole_drop c pre (whole_joined before parts.0))
+    (omega (arith, left, one, carry.begins)) (omega (arith, left, two, within, passed))
+    (omega (arith, left, three, carry.ends, passed)) h.enough kept altered in
     let off : ℕ = offset_in (from + first) all s in
     let same : 188 * (0 + found.left) + offset_in first y (length (drop c pre)) ≡ 188 * found.left + off =
     omega (arith, left, one, two, passed, ap (λ (k : ℕ). carried_len k all) e) in
@@ -473,5 +373,6 @@ survives g w front pid before after packet from first last fates small packets a
       place = 188 * found.left + off;
       place_is = ap (option_map (λ (k : ℕ). 188 * k + off)) found.number_is;
       found = subst (λ (n : ℕ). Among (placed n packet) (accepted_of pid (received (units_of pid all) from fates))) same
-          (subst (λ (u : List (List ℕ)). Among (placed (188 * (0 + found.left) + offset_in first y (length (drop c pre))) packet) (accepted_of pid (left_of u fates))) (sym h.units_are) found.there);
+          (subst (λ (u : List (List ℕ)). Among (placed (188 * (0 + found.left) + offset_in first y (length (drop c pre))) packet)
+          (accepted_of pid (left_of u fates))) (sym h.units_are) found.there);
     }

@@ -1,5 +1,6 @@
 -- What is accepted, and which sent packets that are.
-use Rattle.std.specs.Prelude.{◌≡◌, ℕ, ◌+◌, ◌^◌, ◌<◌, ◌≤◌, true, false, List, [], ◌∷◌, ◌++◌, length, drop, map, replicate, slice_get, Some}
+use Rattle.std.specs.Prelude.{◌≡◌, ℕ, ◌+◌, ◌^◌, ◌<◌, ◌≤◌, true, false, List, [], ◌∷◌, ◌++◌, length, drop, map, replicate}
+use Rattle.std.specs.Prelude.{slice_get, Some}
 use Rattle.std.specs.List.{items_where_true}
 use Rattle.t2mi_stream.specs.Accepted.{Byte, AcceptedPacket, front_packet}
 use Rattle.t2mi_stream.specs.Units.{runs, accepted_of}
@@ -30,8 +31,10 @@ PlacesRise = (pid : ℕ) (bytes : List ℕ) → RiseFrom 0 (accepted_of pid byte
 
 -- The accepted packets are, in order, the sent packets that survive, each at the place of its first byte.
 pub record AreSurvivors (pid : ℕ) (packets : List (List ℕ)) (from : ℕ) (fates : List Fate) : Type 0 where
-  pub bytes : map (λ p. p.bytes) (received_packets pid packets from fates) ≡ items_where_true (survival pid packets from fates) packets
-  pub places : map Some (received_packets pid packets from fates) ≡ items_where_true (survival pid packets from fates) (sent_packets packets from fates)
+  pub bytes : map (λ p. p.bytes) (received_packets pid packets from fates)
+      ≡ items_where_true (survival pid packets from fates) packets
+  pub places : map Some (received_packets pid packets from fates) ≡ items_where_true (survival pid packets from fates)
+      (sent_packets packets from fates)
 
 -- If every accepted packet is a sent one at its place, the accepted packets are those that survive.
 abbrev pub AcceptedSurvive : Type 0
@@ -39,14 +42,19 @@ AcceptedSurvive = (pid : ℕ) (packets : List (List ℕ)) (from : ℕ) (fates : 
     → AreSent (received_packets pid packets from fates) (sent_packets packets from fates) → AreSurvivors pid packets from fates
 
 -- `IsSurvivor` says what the test of a sent packet, by its number, decides.
-pub record SurvivalIs (pid : ℕ) (before : List (List ℕ)) (packet : List ℕ) (after : List (List ℕ)) (from : ℕ) (fates : List Fate) : Type 0 where
-  pub told : IsSurvivor pid before packet after from fates → slice_get (survival pid (before ++ packet ∷ after) from fates) (length before) ≡ Some true
-  pub only : slice_get (survival pid (before ++ packet ∷ after) from fates) (length before) ≡ Some true → IsSurvivor pid before packet after from fates
+pub record SurvivalIs (pid : ℕ) (before : List (List ℕ)) (packet : List ℕ) (after : List (List ℕ)) (from : ℕ)
+    (fates : List Fate) : Type 0 where
+  pub told : IsSurvivor pid before packet after from fates → slice_get (survival pid (before ++ packet ∷ after) from fates)
+      (length before) ≡ Some true
+  pub only : slice_get (survival pid (before ++ packet ∷ after) from fates) (length before) ≡ Some true
+      → IsSurvivor pid before packet after from fates
 
 abbrev pub SurvivalTold : Type 0
-SurvivalTold = (pid : ℕ) (before after : List (List ℕ)) (packet : List ℕ) (from : ℕ) (fates : List Fate) → ArePackets (before ++ packet ∷ after) → SurvivalIs pid before packet after from fates
+SurvivalTold = (pid : ℕ) (before after : List (List ℕ)) (packet : List ℕ) (from : ℕ) (fates : List Fate)
+    → ArePackets (before ++ packet ∷ after) → SurvivalIs pid before packet after from fates
 
--- Every accepted packet is a sent one at its place, and exactly the packets that begin in one of the units survive: all but the first ones.
+-- Every accepted packet is a sent one at its place, and exactly the packets that begin in one of the units survive: all but the
+-- first ones.
 pub record IsUndamaged (pid : ℕ) (packets : List (List ℕ)) (from : ℕ) (fates : List Fate) : Type 0 where
   pub sent : AreSent (received_packets pid packets from fates) (sent_packets packets from fates)
   pub survive : survival pid packets from fates ≡ begun_from (joined packets) from 0 packets
@@ -56,5 +64,6 @@ pub record IsUndamaged (pid : ℕ) (packets : List (List ℕ)) (from : ℕ) (fat
 
 -- So it is if all units from one on are kept.
 abbrev pub KeptUndamaged : Type 0
-KeptUndamaged = (pid : ℕ) (packets : List (List ℕ)) (from : ℕ) (fates : List Fate) → pid < 2 ^ 13 → ArePackets packets → AlteredWhole fates
+KeptUndamaged = (pid : ℕ) (packets : List (List ℕ)) (from : ℕ) (fates : List Fate) → pid < 2 ^ 13 → ArePackets packets
+    → AlteredWhole fates
     → AreKept (length (drop from (pipe pid packets))) fates → IsUndamaged pid packets from fates

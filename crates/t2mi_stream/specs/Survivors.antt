@@ -1,5 +1,6 @@
 -- Sent packets among the packets that are accepted of what is received.
-use Rattle.std.specs.Prelude.{◌≡◌, ◌<◌, ℕ, zero, suc, ◌+◌, ◌-◌, ◌==◌, ◌&&◌, nat_lt, nat_le, Bool, false, List, [], ◌∷◌, length, drop, map, bytes_eq, Option, Some, None, option_map, if◌then◌else◌}
+use Rattle.std.specs.Prelude.{◌≡◌, ◌<◌, ℕ, zero, suc, ◌+◌, ◌-◌, ◌==◌, ◌&&◌, nat_lt, nat_le, Bool, false, List, [], ◌∷◌, length}
+use Rattle.std.specs.Prelude.{drop, map, bytes_eq, Option, Some, None, option_map, if◌then◌else◌}
 use Rattle.std.specs.List.{list_any}
 use Rattle.t2mi_stream.specs.Accepted.{AcceptedPacket}
 use Rattle.t2mi_stream.specs.Laws.{Among}
@@ -11,7 +12,8 @@ use Rattle.t2mi_stream.specs.Units.{accepted_of}
 -- the number of the unit that carries the byte at a place of joined packets, among so many units
 abbrev pub unit_within : ℕ → List Item → ℕ → ℕ
 unit_within zero xs place = 0
-unit_within (suc steps) xs place = if nat_lt place (part xs).size then 0 else suc (unit_within steps (drop (part xs).size xs) (place - (part xs).size))
+unit_within (suc steps) xs place = if nat_lt place (part xs).size then 0
+    else suc (unit_within steps (drop (part xs).size xs) (place - (part xs).size))
 
 -- the number of the unit that carries the byte at a place: each unit takes a byte at least
 abbrev pub unit_number : List Item → ℕ → ℕ
@@ -19,7 +21,8 @@ unit_number xs place = unit_within (length xs) xs place
 
 -- the place of a byte that a unit carries, by the unit's number among those sent
 abbrev pub place_in : List Item → ℕ → List Fate → ℕ → ℕ → Option ℕ
-place_in xs from fates place number = if nat_le from number then place_of fates (number - from) (offset_in number xs place) else None
+place_in xs from fates place number = if nat_le from number then place_of fates (number - from) (offset_in number xs place)
+    else None
 
 -- the place among the received bytes of the byte at a place of joined packets: none if its unit is lost
 unfoldable pub received_place : List Item → ℕ → List Fate → ℕ → Option ℕ
@@ -28,7 +31,8 @@ received_place xs from fates place = place_in xs from fates place (unit_number x
 -- packets, the first of them at a place of the joined ones, each with the place that its first byte gets
 abbrev pub placed_from : (ℕ → Option ℕ) → ℕ → List (List ℕ) → List (Option AcceptedPacket)
 placed_from place at [] = []
-placed_from place at (packet ∷ packets) = option_map (λ n. record { place = n; bytes = packet }) (place at) ∷ placed_from place (at + length packet) packets
+placed_from place at (packet ∷ packets) = option_map (λ n. record { place = n; bytes = packet }) (place at)
+    ∷ placed_from place (at + length packet) packets
 
 -- each sent packet with the place of its first byte among the received bytes: none if that byte is lost
 abbrev pub sent_packets : List (List ℕ) → ℕ → List Fate → List (Option AcceptedPacket)

@@ -17,12 +17,15 @@ returns-in-Some-clause-gives c = λ pid bytes given taken st e.
     let old = inner.sequence.group in
     let new = c.begin_record.new.self in
     let at = inner.sequence.progress in
-    subst (λ (k : Config). Gives (Holds new) new.key (rules new.network) (spelled k) at (bytes_left new) inner.unpiper inner.finished pid bytes taken) (sym c.begin_record.ensures.network)
-    (begun_gives (Holds old) (Holds new) old.key new.key (rules old.network) (rules new.network) (spelled old.network) at (bytes_left new) inner.unpiper inner.finished pid bytes given taken
+    subst (λ (k : Config). Gives (Holds new) new.key (rules new.network) (spelled k) at
+    (bytes_left new) inner.unpiper inner.finished pid bytes taken) (sym c.begin_record.ensures.network)
+    (begun_gives (Holds old) (Holds new) old.key new.key (rules old.network) (rules new.network) (spelled old.network) at
+    (bytes_left new) inner.unpiper inner.finished pid bytes given taken
     c.begin_record.ensures.group c.begin_record.ensures.key (ap rules c.begin_record.ensures.network)
     (λ w h i held pass.
     let same : w ≡ c.in-Some.waiting = some_injective w c.in-Some.waiting (sym i ∙ sym c.waiting.ensures ∙ c.in-Some.is) in
-    c.begin_record.ensures.left h held (subst (λ (v : Waiting). v.mute ≡ None → group_fault old.network h v.frame ≡ None) same pass)
+    c.begin_record.ensures.left h held
+    (subst (λ (v : Waiting). v.mute ≡ None → group_fault old.network h v.frame ≡ None) same pass)
     ∙ ap (λ (v : Waiting). spelled old.network (record_of h v)) (sym same))
     st e)
 

@@ -12,9 +12,16 @@ loop-at-preserved c =
     record {
       first = λ l. i.first c.loop-at-test.true;
       begun = λ l. subst (λ (q : SlotRule). IsBegun c.start_of-start.result c.take_up-at.result q.up_len) (sym e.rule)
-          (begun_next c.loop-at.assembler.rule.up_len 0 (block_of c.args.block.now) c.start_of-start.result (i.first c.loop-at-test.true) (omega (arith, s)) c.loop-at.at c.take_up-at.result (i.begun c.loop-at-test.true) e.next l);
+          (begun_next c.loop-at.assembler.rule.up_len 0 (block_of c.args.block.now) c.start_of-start.result
+          (i.first c.loop-at-test.true) (omega (arith, s)) c.loop-at.at c.take_up-at.result
+          (i.begun c.loop-at-test.true) e.next l);
       within = omega (arith, e.next);
-      times = record { rule = e.times.rule ∙ i.times.rule; first = e.times.first ∙ i.times.first; end = e.times.end ∙ i.times.end; due = e.times.due ∙ i.times.due };
+      times = record {
+        rule = e.times.rule ∙ i.times.rule;
+        first = e.times.first ∙ i.times.first;
+        end = e.times.end ∙ i.times.end;
+        due = e.times.due ∙ i.times.due;
+      };
       rule = e.rule ∙ i.rule;
       both = λ r z h. e.both r z (i.both r z h);
     }

@@ -11,7 +11,8 @@ invariant-loop-at l = record {
   within : l.at ≤ length l.block.field.now;
   times : KeepsTimes l.fn.window l.window;
   rule : l.assembler.rule ≡ l.fn.assembler.rule;
-  both : (r : SlotRule) (z : List Item) → Both r z l.fn.assembler l.fn.window → Both r (z ++ front_of r.up_len l.frame (block_of l.block) l.at) l.assembler l.window;
+  both : (r : SlotRule) (z : List Item) → Both r z l.fn.assembler l.fn.window
+      → Both r (z ++ front_of r.up_len l.frame (block_of l.block) l.at) l.assembler l.window;
 }
 
 abbrev pub decreases-loop-at : goal.decreases-loop-at

@@ -14,7 +14,9 @@ pub returns-in_default-clause-both : goal.returns-in_default-clause-both
 returns-in_default-clause-both c = λ r z h. record {
   assembles = c.piece.ensures.stands r z h.assembles;
   rule = h.rule;
-  shows = gain_none r (subst IsSound h.rule c.args.window.now.sound) z _ c.args.frame _ _ _ h.shows _ (subst (λ (f : Option Found). Gains r z c.args.frame (piece_items c.args.mark c.args.frame c.args.bytes.now) c.piece.new.self.held f) c.in_default.is (c.piece.ensures.answer r z h.assembles));
+  shows = gain_none r (subst IsSound h.rule c.args.window.now.sound) z _ c.args.frame _ _ _ h.shows _
+      (subst (λ (f : Option Found). Gains r z c.args.frame (piece_items c.args.mark c.args.frame c.args.bytes.now)
+      c.piece.new.self.held f) c.in_default.is (c.piece.ensures.answer r z h.assembles));
 }
 
 pub returns-then-counts-clause-both : goal.returns-then-counts-clause-both
@@ -23,10 +25,14 @@ returns-then-counts-clause-both c = λ r z h. record {
   rule = ap (λ (s : Status). s.rule) c.put.ensures ∙ h.rule;
   shows =
       moved r _ _ _ _ _ _ (ap (λ (s : Status). s.first) c.put.ensures) (ap (λ (s : Status). s.end) c.put.ensures)
-      (gain_put r (subst IsSound h.rule c.args.window.now.sound) z _ c.args.frame _ _ _ h.shows c.piece.new.self.held c.in-Some.found (delay_of c.args.window.now.rule) (ap delay_of h.rule) (near_by _ _ _ h.rule c.counts.ensures.near)
-      (subst (λ (f : Option Found). Gains r z c.args.frame (piece_items c.args.mark c.args.frame c.args.bytes.now) c.piece.new.self.held f) c.in-Some.is (c.piece.ensures.answer r z h.assembles))
+      (gain_put r (subst IsSound h.rule c.args.window.now.sound) z _ c.args.frame _ _ _ h.shows c.piece.new.self.held
+      c.in-Some.found (delay_of c.args.window.now.rule) (ap delay_of h.rule) (near_by _ _ _ h.rule c.counts.ensures.near)
+      (subst (λ (f : Option Found). Gains r z c.args.frame (piece_items c.args.mark c.args.frame c.args.bytes.now)
+      c.piece.new.self.held f) c.in-Some.is (c.piece.ensures.answer r z h.assembles))
       (counts_as _ _ _ _ _ _ _ _ h.rule c.counts.ensures.value c.if-counts.true) _
-      (ap (λ (s : Status). s.slots) c.put.ensures ∙ ap (λ (p : List ℕ). if nat_lt c.in-Some.found.slot c.args.window.now.first then c.args.window.now.slots.items else filled c.args.window.now.slots.items (c.in-Some.found.slot - c.args.window.now.first) p) c.packet.ensures));
+      (ap (λ (s : Status). s.slots) c.put.ensures ∙ ap (λ (p : List ℕ). if nat_lt c.in-Some.found.slot c.args.window.now.first
+      then c.args.window.now.slots.items else filled c.args.window.now.slots.items
+      (c.in-Some.found.slot - c.args.window.now.first) p) c.packet.ensures));
 }
 
 pub returns-else-counts-clause-both : goal.returns-else-counts-clause-both
@@ -34,7 +40,9 @@ returns-else-counts-clause-both c = λ r z h. record {
   assembles = c.piece.ensures.stands r z h.assembles;
   rule = h.rule;
   shows =
-      gain_not r (subst IsSound h.rule c.args.window.now.sound) z _ c.args.frame _ _ _ h.shows c.piece.new.self.held c.in-Some.found (delay_of c.args.window.now.rule) (ap delay_of h.rule) (near_by _ _ _ h.rule c.counts.ensures.near)
-      (subst (λ (f : Option Found). Gains r z c.args.frame (piece_items c.args.mark c.args.frame c.args.bytes.now) c.piece.new.self.held f) c.in-Some.is (c.piece.ensures.answer r z h.assembles))
+      gain_not r (subst IsSound h.rule c.args.window.now.sound) z _ c.args.frame _ _ _ h.shows c.piece.new.self.held
+      c.in-Some.found (delay_of c.args.window.now.rule) (ap delay_of h.rule) (near_by _ _ _ h.rule c.counts.ensures.near)
+      (subst (λ (f : Option Found). Gains r z c.args.frame (piece_items c.args.mark c.args.frame c.args.bytes.now)
+      c.piece.new.self.held f) c.in-Some.is (c.piece.ensures.answer r z h.assembles))
       (counts_as _ _ _ _ _ _ _ _ h.rule c.counts.ensures.value c.if-counts.false);
 }

@@ -20,7 +20,8 @@ returns-in-Ok-run g c =
           _,
           _,
           c.in-Ok-run.ensures.ok,
-          subst (λ (text : List ℕ). Tells (g.D.Desk.state c.run.new.desk) (g.D.Desk.state c.tell.new.desk) text c.tell.result) (c.as_bytes.ensures ∙ c.gateway_line.ensures) c.tell.ensures,
+          subst (λ (text : List ℕ). Tells (g.D.Desk.state c.run.new.desk) (g.D.Desk.state c.tell.new.desk) text c.tell.result)
+              (c.as_bytes.ensures ∙ c.gateway_line.ensures) c.tell.ensures,
         ),
       ),
     )

@@ -19,7 +19,8 @@ returns-in-Ok-run g c =
         _,
         c.in-Ok-run.ensures.ok,
         holds_records _ _ _ _ _ _ c.plan_law.ensures.honest c.plan_law.ensures.undamaged c.in-Ok-run.ensures.ok,
-        subst (λ (text : List ℕ). Tells (g.D.Desk.state c.run.new.desk) (g.D.Desk.state c.tell.new.desk) text c.tell.result) (c.as_bytes.ensures ∙ c.modulate_line.ensures) c.tell.ensures,
+        subst (λ (text : List ℕ). Tells (g.D.Desk.state c.run.new.desk) (g.D.Desk.state c.tell.new.desk) text c.tell.result)
+            (c.as_bytes.ensures ∙ c.modulate_line.ensures) c.tell.ensures,
       ),
     )
 
@@ -30,5 +31,10 @@ returns g c =
       _,
       c.in-Ok.ensures.ok.0,
       c.in-Ok.ensures.ok.1,
-      inl (_, c.in-Err-run.ensures.err, stops_with _ _ _ _ _ _ c.plan_law.ensures.honest c.plan_law.ensures.undamaged c.in-Err-run.ensures.err, c.stopped.ensures),
+      inl (
+        _,
+        c.in-Err-run.ensures.err,
+        stops_with _ _ _ _ _ _ c.plan_law.ensures.honest c.plan_law.ensures.undamaged c.in-Err-run.ensures.err,
+        c.stopped.ensures,
+      ),
     )

@@ -22,11 +22,18 @@ returns-in-Ok-run g c =
           _,
           c.in-Ok-run.ensures.ok,
           holds_back _ _ _ _ _ _ _ c.back_law.ensures c.in-Some.ensures.some.inside c.in-Ok-run.ensures.ok,
-          subst (λ (text : List ℕ). Tells (g.D.Desk.state c.run.new.desk) (g.D.Desk.state c.tell.new.desk) text c.tell.result) (c.as_bytes.ensures ∙ c.receive_line.ensures) c.tell.ensures,
+          subst (λ (text : List ℕ). Tells (g.D.Desk.state c.run.new.desk) (g.D.Desk.state c.tell.new.desk) text c.tell.result)
+              (c.as_bytes.ensures ∙ c.receive_line.ensures) c.tell.ensures,
         ),
       ),
     )
 
 pub returns : goal.returns
 returns g c =
-    inr (_, _, c.in-Ok.ensures.ok.0, c.in-Ok.ensures.ok.1, inr (_, c.in-Some.ensures.some, inl (_, c.in-Err-run.ensures.err, c.stopped.ensures)))
+    inr (
+      _,
+      _,
+      c.in-Ok.ensures.ok.0,
+      c.in-Ok.ensures.ok.1,
+      inr (_, c.in-Some.ensures.some, inl (_, c.in-Err-run.ensures.err, c.stopped.ensures)),
+    )

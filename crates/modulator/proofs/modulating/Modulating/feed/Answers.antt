@@ -1,4 +1,5 @@
-use Rattle.std.proofs.Common.{◌≡◌, ◌⊎◌, ◌<◌, ◌++◌, ◌∙◌, ◌^◌, ℕ, List, false, take, ap, sym, subst, inl, inr, ⊎_elim, arith, rules, length-drop}
+use Rattle.std.proofs.Common.{◌≡◌, ◌⊎◌, ◌<◌, ◌++◌, ◌∙◌, ◌^◌, ℕ, List, false, take, ap, sym, subst, inl, inr, ⊎_elim, arith, rules}
+use Rattle.std.proofs.Common.{length-drop}
 use Rattle.std.proofs.lemmas.List.{take_rest}
 use Rattle.std.proofs.lemmas.Bool.{true≢false}
 use Rattle.frame_groups.specs.Waits.{waits}
@@ -24,16 +25,20 @@ loop-count-preserved g c =
     record {
       stands = λ pid bytes given h.
           subst
-          (λ (l : List ℕ). Stands (o.holds new.group) (o.key_now new.group) (o.rules new.group) new.progress c.feed_some-count.new.unpiper false pid l given)
-          (ap (λ (l : List ℕ). (bytes ++ take c.loop-count.count c.args.piece.now) ++ take c.feed_some-count.result l) (take_rest c.args.piece.now c.loop-count.count)
+          (λ (l : List ℕ). Stands (o.holds new.group) (o.key_now new.group)
+          (o.rules new.group) new.progress c.feed_some-count.new.unpiper false pid l given)
+          (ap (λ (l : List ℕ). (bytes ++ take c.loop-count.count c.args.piece.now) ++ take c.feed_some-count.result l)
+          (take_rest c.args.piece.now c.loop-count.count)
           ∙ piece_on bytes c.args.piece.now c.loop-count.count c.feed_some-count.result)
           (s.stands pid (bytes ++ take c.loop-count.count c.args.piece.now) given (i.stands pid bytes given h));
       front = λ k l pid bytes given h.
-          front_on (o.rules c.args.self.now.sequence.group) (o.rules c.loop-count.self.sequence.group) pid bytes c.args.piece.now given c.loop-count.count c.feed_some-count.result k i.rules i.inside
+          front_on (o.rules c.args.self.now.sequence.group) (o.rules c.loop-count.self.sequence.group) pid bytes c.args.piece.now
+          given c.loop-count.count c.feed_some-count.result k i.rules i.inside
           (λ k a. i.front k a pid bytes given h)
           (λ j a. s.first w j a pid (bytes ++ take c.loop-count.count c.args.piece.now) given (i.stands pid bytes given h)) l;
       inside = search rules;
-      next = next_on c.args.self.now.sequence.progress.next c.loop-count.self.sequence.progress.next new.progress.next s.next i.next;
+      next = next_on c.args.self.now.sequence.progress.next c.loop-count.self.sequence.progress.next new.progress.next s.next
+          i.next;
       fed = omega (arith, s.fed, i.fed);
       finished = i.finished;
       rules = s.rules ∙ i.rules;

@@ -20,7 +20,11 @@ returns-clause-stands c =
     let sequence = c.new-sequence.result in
     let group = sequence.group in
     let at = sequence.progress in
-    let network : group.network ≡ c.args.plan.now = ap (λ (r : Rules). r.network) c.new-sequence.ensures.rules ∙ c.in_ok-open.ensures.network in
-    opened (Holds group) group.key (rules group.network) (spelled group.network) at (bytes_left group) c.in_ok-unpiper.unpiper group.network.pid
-    (subst (λ (pid : ℕ). UnpiperStandsFor c.in_ok-unpiper.unpiper pid []) (ap (λ (k : Config). k.pid) (c.config.ensures.value ∙ sym network)) c.in_ok-unpiper.ensures.stands)
-    (ap (λ (o : Option ℕ). waits_by o at.next at.closing at.fault) c.new-sequence.ensures.none) c.new-sequence.ensures.«open» c.new-sequence.ensures.stands
+    let network : group.network ≡ c.args.plan.now = ap (λ (r : Rules). r.network) c.new-sequence.ensures.rules
+    ∙ c.in_ok-open.ensures.network in
+    opened (Holds group) group.key (rules group.network) (spelled group.network) at (bytes_left group) c.in_ok-unpiper.unpiper
+    group.network.pid
+    (subst (λ (pid : ℕ). UnpiperStandsFor c.in_ok-unpiper.unpiper pid [])
+    (ap (λ (k : Config). k.pid) (c.config.ensures.value ∙ sym network)) c.in_ok-unpiper.ensures.stands)
+    (ap (λ (o : Option ℕ). waits_by o at.next at.closing at.fault) c.new-sequence.ensures.none) c.new-sequence.ensures.«open»
+    c.new-sequence.ensures.stands

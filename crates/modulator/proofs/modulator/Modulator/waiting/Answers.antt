@@ -48,6 +48,7 @@ returns-clause-none c = none_from c.waiting.result _ (λ e.
     let w : waits old.sequence.progress ≡ false = ap is_some (sym c.waiting.ensures.is ∙ e) in (
       w,
       λ bytes taken h.
-          all_taken (Holds old.sequence.group) old.sequence.group.key (rules net) (spelled net) old.sequence.progress (bytes_left old.sequence.group) old.unpiper old.finished old.finished net.pid bytes bytes taken h w
+          all_taken (Holds old.sequence.group) old.sequence.group.key (rules net) (spelled net) old.sequence.progress
+          (bytes_left old.sequence.group) old.unpiper old.finished old.finished net.pid bytes bytes taken h w
           (none_is c.waiting.result _ c.waiting.ensures.none e net.pid bytes h.given h.stands),
     ))

@@ -5,8 +5,11 @@ use Rattle.packet_slots.proofs.assembler.Assembler.gap.Goals as goal
 
 pub returns-clause-stands : goal.returns-clause-stands
 unfolding AssemblerStandsFor
-returns-clause-stands c = λ r z frame h.
-    (c.clear.ensures.rule ∙ h.0, gap_stands frame c.args.self.now.rule r _ _ _ z h.0 c.args.self.now.sound h.1 _ _ _ c.clear.ensures.len c.clear.ensures.slot)
+returns-clause-stands c = λ r z frame h. (
+  c.clear.ensures.rule ∙ h.0,
+  gap_stands frame c.args.self.now.rule r _ _ _ z h.0 c.args.self.now.sound h.1 _ _ _
+      c.clear.ensures.len c.clear.ensures.slot,
+)
 
 pub returns-clause-none : goal.returns-clause-none
 unfolding AssemblerStandsFor

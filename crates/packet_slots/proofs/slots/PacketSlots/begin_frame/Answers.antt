@@ -8,4 +8,5 @@ pub returns-clause-stands : goal.returns-clause-stands
 unfolding StandsFor StandsWithin
 returns-clause-stands c = λ r first records released h.
     let p = c.args.self.now in
-    enters r (subst IsSound h.both.rule p.window.sound) c.slot_time_law.ensures.count_rises first p.frame records released p.assembler p.window c.enter.new.self h c.enter.ensures.status c.enter.ensures.order
+    enters r (subst IsSound h.both.rule p.window.sound) c.slot_time_law.ensures.count_rises first p.frame records released
+    p.assembler p.window c.enter.new.self h c.enter.ensures.status c.enter.ensures.order

@@ -6,4 +6,5 @@ pub returns-clause-stands : goal.returns-clause-stands
 unfolding StandsFor StandsWithin
 returns-clause-stands c = λ r first records blocks released h.
     let p = c.args.self.now in
-    stands_at c.leave.ensures.assembler c.leave.ensures.frame (ends_frame r first p.frame records blocks released p.assembler p.window c.leave.new.self.window h c.leave.ensures.window)
+    stands_at c.leave.ensures.assembler c.leave.ensures.frame
+    (ends_frame r first p.frame records blocks released p.assembler p.window c.leave.new.self.window h c.leave.ensures.window)

@@ -8,15 +8,18 @@ pub returns-clause-stands : goal.returns-clause-stands
 unfolding StandsFor
 returns-clause-stands c = λ r first records released h.
     let p = c.args.self.now in
-    released_or_not p.assembler p.window c.release.new.self p.frame r first records released h c.release.result c.release.ensures.due c.release.ensures.status p.window.known
+    released_or_not p.assembler p.window c.release.new.self p.frame r first records released h c.release.result
+    c.release.ensures.due c.release.ensures.status p.window.known
 
 pub returns-clause-answer : goal.returns-clause-answer
 unfolding StandsFor
 returns-clause-answer c = λ e r first records released h.
     let p = c.args.self.now in
-    release_answers p.assembler p.window p.frame r first records released h c.release.result e c.release.ensures.due c.release.new.out c.args.out.now c.release.ensures.packet p.window.known
+    release_answers p.assembler p.window p.frame r first records released h c.release.result e c.release.ensures.due
+    c.release.new.out c.args.out.now c.release.ensures.packet p.window.known
 
 pub returns-clause-none : goal.returns-clause-none
 unfolding StandsFor
 returns-clause-none c = λ e r first records released h.
-    none_due c.args.self.now.assembler c.args.self.now.window c.args.self.now.frame r first records released h (ltb-false _ _ (sym c.release.ensures.due ∙ e))
+    none_due c.args.self.now.assembler c.args.self.now.window c.args.self.now.frame r first records released h
+    (ltb-false _ _ (sym c.release.ensures.due ∙ e))

@@ -7,5 +7,6 @@ pub returns-clause-stands : goal.returns-clause-stands
 unfolding StandsWithin
 returns-clause-stands c = λ r first records blocks released h.
     let p = c.args.self.now in
-    takes r first p.frame records blocks None released p.assembler c.take_gap.new.assembler p.window p.window h (record { rule = refl; first = refl; end = refl; due = refl })
+    takes r first p.frame records blocks None released p.assembler c.take_gap.new.assembler p.window p.window h
+    (record { rule = refl; first = refl; end = refl; due = refl })
     (c.take_gap.ensures.both r _ p.frame h.both)

@@ -6,7 +6,8 @@ pub push_empty-requires : goal.push_empty-requires
 push_empty-requires c =
     let w = c.args.self.now in
     let s = w.sound in
-    let holds = c.release_law.ensures.window w.rule.num w.rule.den (delay_of w.rule) w.rule.ticks (c.args.frame * w.rule.ticks) w.first (omega (arith, s)) (omega (arith, s)) c.requires.given_out in
+    let holds = c.release_law.ensures.window w.rule.num w.rule.den (delay_of w.rule) w.rule.ticks
+    (c.args.frame * w.rule.ticks) w.first (omega (arith, s)) (omega (arith, s)) c.requires.given_out in
     let span = w.span in
     let room = w.room in
     omega (arith, holds, span, room, let e = c.frame_range-end.ensures.end in e)
