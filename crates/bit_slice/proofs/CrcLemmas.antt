@@ -1,5 +1,6 @@
 -- The register computes the remainder.
-use Rattle.std.proofs.Common.{◌≡◌, ℕ, zero, suc, ◌+◌, ◌*◌, ◌/◌, ◌%◌, ◌^◌, ◌<◌, ◌≤◌, ◌==◌, Bool, true, false, cond, List, [], ◌∷◌, length, refl, ap, sym, ◌∙◌, arith, add_comm, add-one}
+use Rattle.std.proofs.Common.{◌≡◌, ℕ, zero, suc, ◌+◌, ◌*◌, ◌/◌, ◌%◌, ◌^◌, ◌<◌, ◌≤◌, ◌==◌, Bool, true, false, cond, List, [], ◌∷◌}
+use Rattle.std.proofs.Common.{length, refl, ap, sym, ◌∙◌, arith, add_comm, add-one}
 use Rattle.std.specs.Prelude.{bit_xor}
 use lib.Bits.{xor_assoc}
 use Rattle.std.proofs.lemmas.Nat.{xor_block, xor_lt, pow_pos, pow-add, shl_below, mod_below, div_below, div-add-mod'}
@@ -86,7 +87,8 @@ finish d low n u m false p r below small_u small e = omega (arith, e)
 
 begun : (d : ℕ) (b : Bool) (bs : List Bool) (s : ℕ) → s < 2 ^ d →
     bit_xor (number_of (b ∷ bs) * 2 ^ d) (s * 2 ^ suc (length bs))
-    ≡ cond (differ (s * 2 / 2 ^ d == 1) b) 1 0 * 2 ^ (length bs + d) + bit_xor (number_of bs * 2 ^ d) (s * 2 % 2 ^ d * 2 ^ length bs)
+    ≡ cond (differ (s * 2 / 2 ^ d == 1) b) 1 0 * 2 ^ (length bs + d) + bit_xor (number_of bs * 2 ^ d)
+    (s * 2 % 2 ^ d * 2 ^ length bs)
 begun d b bs s fits =
     let heads = number_is b bs in
     let parted = split d (length bs) s (cond b 1 0) (number_of bs) (number_of-lt bs) fits in
@@ -105,8 +107,10 @@ divides d low small (b ∷ bs) s fits =
     let rest = divides d low small bs (step d low s b) (step_lt d low s b small) in
     let pos = pow_pos d in
     let small_u : s * 2 % 2 ^ d < 2 ^ d = mod_below (s * 2) (2 ^ d) pos in
-    let same : bit_xor (number_of bs * 2 ^ d) (step d low s b * 2 ^ length bs) ≡ bit_xor (product rest.0 (2 ^ d + low)) (register d low (step d low s b) bs) = rest.1.1 in
-    let ended = finish d low (length bs) (s * 2 % 2 ^ d) (number_of bs) (differ (s * 2 / 2 ^ d == 1) b) (product rest.0 (2 ^ d + low)) (register d low (step d low s b) bs) (number_of-lt bs) small_u small same in
+    let same : bit_xor (number_of bs * 2 ^ d) (step d low s b * 2 ^ length bs) ≡ bit_xor (product rest.0 (2 ^ d + low))
+    (register d low (step d low s b) bs) = rest.1.1 in
+    let ended = finish d low (length bs) (s * 2 % 2 ^ d) (number_of bs) (differ (s * 2 / 2 ^ d == 1) b)
+    (product rest.0 (2 ^ d + low)) (register d low (step d low s b) bs) (number_of-lt bs) small_u small same in
     (differ (s * 2 / 2 ^ d == 1) b ∷ rest.0, (ap suc rest.1.0, rw (rest.1.0) (begun d b bs s fits ∙ ended)))
 
 has_degree : (d low : ℕ) → low < 2 ^ d → HasDegree (2 ^ d + low) d
@@ -117,17 +121,20 @@ register_lt d low small [] s fits = fits
 register_lt d low small (b ∷ bs) s fits = register_lt d low small bs (step d low s b) (step_lt d low s b small)
 
 -- What the register ends with is the remainder, and so what long division gives.
-pub is_remainder : (d low : ℕ) → low < 2 ^ d → (bs : List Bool) (s : ℕ) → s < 2 ^ d → IsRemainder d (dividend d s bs) (2 ^ d + low) (register d low s bs)
+pub is_remainder : (d low : ℕ) → low < 2 ^ d → (bs : List Bool) (s : ℕ) → s < 2 ^ d
+    → IsRemainder d (dividend d s bs) (2 ^ d + low) (register d low s bs)
 is_remainder d low small bs s fits =
     let found = divides d low small bs s fits in
     (register_lt d low small bs s fits, (found.0, found.1.1))
 
-pub crc_of_is : (d low : ℕ) → low < 2 ^ d → (bs : List Bool) (s : ℕ) → s < 2 ^ d → crc_of d (2 ^ d + low) s bs ≡ register d low s bs
+pub crc_of_is : (d low : ℕ) → low < 2 ^ d → (bs : List Bool) (s : ℕ) → s < 2 ^ d → crc_of d (2 ^ d + low) s bs
+    ≡ register d low s bs
 crc_of_is d low small bs s fits =
     let found = divides d low small bs s fits in
     let few : length found.0 ≤ length bs = omega (arith, found.1.0) in
     ap (remainder d (2 ^ d + low) (length bs)) found.1.1
-    ∙ divided d (2 ^ d + low) (has_degree d low small) (length bs) found.0 (register d low s bs) (register_lt d low small bs s fits) few
+    ∙ divided d (2 ^ d + low) (has_degree d low small) (length bs) found.0 (register d low s bs)
+    (register_lt d low small bs s fits) few
 
 pub crc32_of_is : (w : List Bool) → crc32_of w ≡ register 32 0x04C1_1DB7 0xFFFF_FFFF w
 unfolding crc32_of

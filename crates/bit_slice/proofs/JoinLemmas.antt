@@ -1,5 +1,6 @@
 -- Parts of two lists, one behind the other.
-use Rattle.std.proofs.Common.{◌≡◌, ℕ, ◌+◌, ◌-◌, ◌*◌, ◌%◌, ◌^◌, ◌<◌, ◌≤◌, ⊎_elim, List, Bool, true, ◌++◌, length, take, drop, refl, ap, sym, ◌∙◌, arith, append-nil}
+use Rattle.std.proofs.Common.{◌≡◌, ℕ, ◌+◌, ◌-◌, ◌*◌, ◌%◌, ◌^◌, ◌<◌, ◌≤◌, ⊎_elim, List, Bool, true, ◌++◌, length, take, drop, refl}
+use Rattle.std.proofs.Common.{ap, sym, ◌∙◌, arith, append-nil}
 use Rattle.std.specs.Prelude.{min, bit_or, IsTrue, nat_eq, ◌↔◌}
 use Rattle.std.proofs.lemmas.Bool.{cases_lt}
 use Rattle.std.proofs.lemmas.Bool.Decides.{Decides-eqb}
@@ -11,7 +12,8 @@ use Rattle.terms.specs.Bits.{field, number_of, number_at, part}
 use Rattle.terms.proofs.BitLemmas.{number_of-append, number_of-lt, length-part, part-append, part-part, field-number_at}
 
 -- a part that lies in the second
-pub behind_part : {X : Type 0} (xs ys : List X) (f l : ℕ) → length xs ≤ f → take l (drop f (xs ++ ys)) ≡ take l (drop (f - length xs) ys)
+pub behind_part : {X : Type 0} (xs ys : List X) (f l : ℕ) → length xs ≤ f → take l (drop f (xs ++ ys))
+    ≡ take l (drop (f - length xs) ys)
 behind_part xs ys f l h =
     let place : f ≡ length xs + (f - length xs) = omega arith in
     ap (λ (k : ℕ). take l (drop k (xs ++ ys))) place ∙ ap (take l) (drop-append-add xs ys (f - length xs))
@@ -23,11 +25,13 @@ across_part xs ys f l before h is less =
     let size : length (drop f xs) ≡ before = length-drop f xs ∙ sym is in
     let few : length (drop f xs) ≤ before = omega arith in
     let sum : l ≡ length (drop f xs) + (l - before) = omega arith in
-    ap (take l) (drop-append-le f xs ys h) ∙ ap (λ (k : ℕ). take k (drop f xs ++ ys)) sum ∙ take-append-add (drop f xs) ys (l - before)
+    ap (take l) (drop-append-le f xs ys h) ∙ ap (λ (k : ℕ). take k (drop f xs ++ ys)) sum
+    ∙ take-append-add (drop f xs) ys (l - before)
     ∙ ap (λ (zs : List _). zs ++ take (l - before) ys) (sym (take_all before (drop f xs) few))
 
 -- how the code finds a part
-pub joined_part : {X : Type 0} (xs ys : List X) (f l from taken : ℕ) → from ≡ min f (length xs) → taken ≡ min l (length xs - from) →
+pub joined_part : {X : Type 0} (xs ys : List X) (f l from taken : ℕ) → from ≡ min f (length xs) → taken ≡ min l (length xs - from)
+    →
     take taken (drop from xs) ++ take (l - taken) (drop (f - from) ys) ≡ take l (drop f (xs ++ ys))
 joined_part xs ys f l from taken is_from is_taken =
     ⊎_elim
@@ -51,8 +55,10 @@ joined_part xs ys f l from taken is_from is_taken =
     (cases_lt f (length xs))
 
 -- how the code reads a field across the seam
-pub seam_read : (xs ys : List Bool) (f l before x y : ℕ) → f ≤ length xs → before ≡ length xs - f → before ≤ l → l ≤ 64 → l - before ≤ length ys →
-    x ≡ number_at xs f before → y ≡ number_at ys 0 (l - before) → bit_or (x * 2 ^ (l - before) % 2 ^ 64) y ≡ number_at (xs ++ ys) f l
+pub seam_read : (xs ys : List Bool) (f l before x y : ℕ) → f ≤ length xs → before ≡ length xs - f → before ≤ l → l ≤ 64
+    → l - before ≤ length ys →
+    x ≡ number_at xs f before → y ≡ number_at ys 0 (l - before) → bit_or (x * 2 ^ (l - before) % 2 ^ 64) y
+    ≡ number_at (xs ++ ys) f l
 seam_read xs ys f l before x y h is less narrow inside is_x is_y =
     let m : ℕ = l - before in
     let wide_x : length (part xs f before) ≡ before = length-part xs f before (omega arith) in
@@ -70,28 +76,36 @@ seam_read xs ys f l before x y h is less narrow inside is_x is_y =
     ∙ sym (spelled ∙ ap (λ (k : ℕ). number_at xs f before * 2 ^ k + number_at ys 0 m) wide_y ∙ rw (← is_x, ← is_y) refl))
 
 -- ---- the same bits, by their numbers
-same_part : (a b : List Bool) (at width : ℕ) → at + width ≤ length a → at + width ≤ length b → number_at a at width ≡ number_at b at width → part a at width ≡ part b at width
+same_part : (a b : List Bool) (at width : ℕ) → at + width ≤ length a → at + width ≤ length b → number_at a at width
+    ≡ number_at b at width → part a at width ≡ part b at width
 same_part a b at width in_a in_b e = sym (field-number_at a at width in_a) ∙ ap (field width) e ∙ field-number_at b at width in_b
 
-pub word_more : (a b : List Bool) (at width : ℕ) → at + width ≤ length a → at + width ≤ length b → take at a ≡ take at b → number_at a at width ≡ number_at b at width →
+pub word_more : (a b : List Bool) (at width : ℕ) → at + width ≤ length a → at + width ≤ length b → take at a ≡ take at b
+    → number_at a at width ≡ number_at b at width →
     take (at + width) a ≡ take (at + width) b
 word_more a b at width in_a in_b front e =
-    take-add at width a ∙ ap (λ (xs : List Bool). xs ++ part a at width) front ∙ ap (λ (xs : List Bool). take at b ++ xs) (same_part a b at width in_a in_b e) ∙ sym (take-add at width b)
+    take-add at width a ∙ ap (λ (xs : List Bool). xs ++ part a at width) front ∙ ap (λ (xs : List Bool). take at b ++ xs)
+    (same_part a b at width in_a in_b e) ∙ sym (take-add at width b)
 
-pub word_of : (a b : List Bool) (at width count : ℕ) → at + width ≤ count → take count a ≡ take count b → number_at a at width ≡ number_at b at width
+pub word_of : (a b : List Bool) (at width count : ℕ) → at + width ≤ count → take count a ≡ take count b → number_at a at width
+    ≡ number_at b at width
 word_of a b at width count inside e =
     let place : 0 + at ≡ at = omega arith in
-    let of : (xs : List Bool) → part (take count xs) at width ≡ part xs at width = λ xs. part-part xs 0 count at width inside ∙ ap (λ (k : ℕ). part xs k width) place in
+    let of : (xs : List Bool) → part (take count xs) at width ≡ part xs at width = λ xs. part-part xs 0 count at width inside
+    ∙ ap (λ (k : ℕ). part xs k width) place in
     ap number_of (sym (of a) ∙ ap (λ (xs : List Bool). part xs at width) e ∙ of b)
 
-pub all_same : (a b : List Bool) (at width : ℕ) → at + width ≡ length a → length b ≡ length a → take at a ≡ take at b → number_at a at width ≡ number_at b at width → a ≡ b
+pub all_same : (a b : List Bool) (at width : ℕ) → at + width ≡ length a → length b ≡ length a → take at a ≡ take at b
+    → number_at a at width ≡ number_at b at width → a ≡ b
 all_same a b at width size long front e =
     let few_a : length a ≤ at + width = omega arith in
     let few_b : length b ≤ at + width = omega arith in
-    sym (take_all (at + width) a few_a) ∙ word_more a b at width (omega arith) (omega arith) front e ∙ take_all (at + width) b few_b
+    sym (take_all (at + width) a few_a) ∙ word_more a b at width (omega arith) (omega arith) front e
+    ∙ take_all (at + width) b few_b
 
 -- where the words at the front are the same, the rest decides
-pub words_same : (a b : List Bool) (at rest x y : ℕ) → at + rest ≡ length a → length b ≡ length a → (IsTrue true ↔ (take at a ≡ take at b)) →
+pub words_same : (a b : List Bool) (at rest x y : ℕ) → at + rest ≡ length a → length b ≡ length a
+    → (IsTrue true ↔ (take at a ≡ take at b)) →
     x ≡ number_at a at rest → y ≡ number_at b at rest → IsTrue (nat_eq x y) ↔ (a ≡ b)
 words_same a b at rest x y size long words is_x is_y = (
   λ same. all_same a b at rest size long (words.0 refl) (sym is_x ∙ (Decides-eqb x y).0 same ∙ is_y),

@@ -1,5 +1,6 @@
 -- Eight bits of the scrambler's sequence at a time.
-use Rattle.std.proofs.Common.{◌≡◌, ℕ, zero, suc, ◌+◌, ◌-◌, ◌*◌, ◌/◌, ◌%◌, ◌^◌, ◌<◌, ◌≤◌, ⊎_elim, Bool, true, false, cond, List, [], ◌∷◌, ◌++◌, length, drop, map, get_or, set, refl, ap, sym, ◌∙◌, arith}
+use Rattle.std.proofs.Common.{◌≡◌, ℕ, zero, suc, ◌+◌, ◌-◌, ◌*◌, ◌/◌, ◌%◌, ◌^◌, ◌<◌, ◌≤◌, ⊎_elim, Bool, true, false, cond, List}
+use Rattle.std.proofs.Common.{[], ◌∷◌, ◌++◌, length, drop, map, get_or, set, refl, ap, sym, ◌∙◌, arith}
 use Rattle.std.specs.Prelude.{bit_and, bit_or, bit_xor}
 use Rattle.std.specs.List.{range_with_len}
 use Rattle.std.proofs.lemmas.Bool.{le-ltb, cases_lt}
@@ -38,7 +39,8 @@ number_of-sums (a ∷ xs) [] e = absurd (omega arith)
 number_of-sums (a ∷ xs) (b ∷ ys) e =
     let same : length xs ≡ length ys = omega arith in
     let low : number_of ys < 2 ^ length xs = rw same (number_of-lt ys) in
-    let right : number_of (b ∷ ys) ≡ cond b 1 0 * 2 ^ length xs + number_of ys = number_is b ys ∙ ap (λ (k : ℕ). cond b 1 0 * 2 ^ k + number_of ys) (sym same) in
+    let right : number_of (b ∷ ys) ≡ cond b 1 0 * 2 ^ length xs + number_of ys =
+    number_is b ys ∙ ap (λ (k : ℕ). cond b 1 0 * 2 ^ k + number_of ys) (sym same) in
     rw (number_is (plus a b) (sums xs ys), length-sums xs ys same, number_of-sums xs ys same, plus_is a b, number_is a xs, right)
     (sym (xor_block (length xs) (cond a 1 0) (cond b 1 0) (number_of xs) (number_of ys) (number_of-lt xs) low))
 
@@ -67,7 +69,8 @@ after (suc k) w = after k (moved w)
 before-plus : (k i : ℕ) → fifteen_before (i + k) ≡ after k (fifteen_before i)
 unfolding after
 before-plus zero i = let e : i + 0 ≡ i = omega arith in ap fifteen_before e
-before-plus (suc k) i = let e : i + suc k ≡ i + 1 + k = omega arith in ap fifteen_before e ∙ before-plus k (i + 1) ∙ ap (after k) (before-one i)
+before-plus (suc k) i = let e : i + suc k ≡ i + 1 + k = omega arith in ap fifteen_before e ∙ before-plus k (i + 1)
+    ∙ ap (after k) (before-one i)
 
 -- so many next bits
 nexts : ℕ → List Bool → List Bool
@@ -119,7 +122,8 @@ before_is (suc i) =
     let place : i + 1 + 14 ≡ i + 15 = omega arith in
     let next : i + 1 ≡ suc i = omega arith in
     ap moved (before_is i)
-    ∙ ap (λ (b : Bool). map sequence (range_with_len (i + 1) 14) ++ b ∷ []) (sym (ap next_bit (before_is i)) ∙ sym (sequence-later i))
+    ∙ ap (λ (b : Bool). map sequence (range_with_len (i + 1) 14) ++ b ∷ []) (sym (ap next_bit (before_is i))
+    ∙ sym (sequence-later i))
     ∙ sym (map-range_with_len_more sequence (i + 1) 14 (i + 15) place) ∙ ap (λ (k : ℕ). map sequence (range_with_len k 15)) next
 
 pub prbs_recurs : PrbsRecurs
@@ -147,7 +151,8 @@ apart (suc k) i =
     ∙ ap (plus (plus (prbs (i + p + p)) (prbs (i + p)))) (apart k i)
     ∙ plus_middle (prbs (i + p + p)) (prbs (i + p)) (prbs i) ∙ ap (λ (n : ℕ). plus (prbs n) (prbs i)) sum
 
-bits_apart : (n i : ℕ) → map prbs (range_with_len (i + 960) n) ≡ sums (map prbs (range_with_len (i + 64) n)) (map prbs (range_with_len i n))
+bits_apart : (n i : ℕ) → map prbs (range_with_len (i + 960) n) ≡ sums (map prbs (range_with_len (i + 64) n))
+    (map prbs (range_with_len i n))
 bits_apart zero i = refl
 bits_apart (suc n) i =
     let far : i + 960 + 1 ≡ i + 1 + 960 = omega arith in
@@ -161,8 +166,10 @@ byte_apart k =
     let near : 8 * (k + 8) ≡ 8 * k + 64 = omega arith in
     let xs : List Bool = map prbs (range_with_len (8 * k + 64) 8) in
     let ys : List Bool = map prbs (range_with_len (8 * k) 8) in
-    let long : length xs ≡ length ys = length-map-range_with_len prbs (8 * k + 64) 8 ∙ sym (length-map-range_with_len prbs (8 * k) 8) in
-    ap (λ (n : ℕ). number_of (map prbs (range_with_len n 8))) far ∙ ap number_of (bits_apart 8 (8 * k)) ∙ number_of-sums xs ys long
+    let long : length xs ≡ length ys = length-map-range_with_len prbs (8 * k + 64) 8
+    ∙ sym (length-map-range_with_len prbs (8 * k) 8) in
+    ap (λ (n : ℕ). number_of (map prbs (range_with_len n 8))) far ∙ ap number_of (bits_apart 8 (8 * k))
+    ∙ number_of-sums xs ys long
     ∙ ap (λ (n : ℕ). bit_xor (number_of (map prbs (range_with_len n 8))) (number_of ys)) (sym near)
 
 -- the bytes from one on, of which so many were put in place of those 120 before them
@@ -184,7 +191,8 @@ runs_on bytes from done next r inside is =
     record {
       size = length-set bytes done sum ∙ r.size;
       new = λ k h. ⊎_elim (λ less. get_or-set_other bytes done k sum 0 (λ e. omega arith) ∙ r.new k less)
-          (λ more. let e : k ≡ done = omega arith in get_or-set_at bytes done k sum 0 e within ∙ here ∙ ap (λ (n : ℕ). prbs_byte (from + 120 + n)) (sym e)) (cases_lt k done);
+          (λ more. let e : k ≡ done = omega arith in get_or-set_at bytes done k sum 0 e within ∙ here
+          ∙ ap (λ (n : ℕ). prbs_byte (from + 120 + n)) (sym e)) (cases_lt k done);
       old = λ k h short. get_or-set_other bytes done k sum 0 (λ e. omega arith) ∙ r.old k (omega arith) short;
     }
 
@@ -193,7 +201,8 @@ pub runs_near : (bytes : List ℕ) (from done : ℕ) → RunsOn bytes from done 
     RunsOn (set bytes done (bit_xor (get_or bytes done 0) (get_or bytes (done + 8) 0))) from (done + 1)
 runs_near bytes from done r inside =
     let sum : from + (done + 8) ≡ from + done + 8 = omega arith in
-    runs_on bytes from done (get_or bytes (done + 8) 0) r (omega arith) (r.old (done + 8) (omega arith) (omega arith) ∙ ap prbs_byte sum)
+    runs_on bytes from done (get_or bytes (done + 8) 0) r (omega arith) (r.old (done + 8) (omega arith) (omega arith)
+    ∙ ap prbs_byte sum)
 
 -- one of the last eight, by a new byte
 pub runs_round : (bytes : List ℕ) (from done : ℕ) → RunsOn bytes from done → 112 ≤ done → done < 120 →
@@ -203,21 +212,25 @@ runs_round bytes from done r least inside =
     runs_on bytes from done (get_or bytes (done - 112) 0) r inside (r.new (done - 112) (omega arith) ∙ ap prbs_byte sum)
 
 -- ---- the next byte by the register of fifteen bits
-eight_number : (w : List Bool) (r : ℕ) → length w ≡ 15 → r ≡ number_of w → number_of (nexts 8 w) ≡ bit_xor (r / 2 ^ 6) (r / 2 ^ 7) % 2 ^ 8
+eight_number : (w : List Bool) (r : ℕ) → length w ≡ 15 → r ≡ number_of w → number_of (nexts 8 w)
+    ≡ bit_xor (r / 2 ^ 6) (r / 2 ^ 7) % 2 ^ 8
 eight_number w r long is =
-    let same : length (part w 1 8) ≡ length (part w 0 8) = length-part w 1 8 (omega arith) ∙ sym (length-part w 0 8 (omega arith)) in
+    let same : length (part w 1 8) ≡ length (part w 0 8) = length-part w 1 8 (omega arith)
+    ∙ sym (length-part w 0 8 (omega arith)) in
     let one : number_of (part w 1 8) ≡ r / 2 ^ 6 % 2 ^ 8 = rw is (rw long at (number_of-part w 1 8 (omega arith))) in
     let zero_ : number_of (part w 0 8) ≡ r / 2 ^ 7 % 2 ^ 8 = rw is (rw long at (number_of-part w 0 8 (omega arith))) in
     ap number_of (eight_sums w long) ∙ number_of-sums (part w 1 8) (part w 0 8) same
     ∙ rw (one, zero_) (sym (xor_mod (r / 2 ^ 6) (r / 2 ^ 7) 8))
 
-pub byte_is : (given r : ℕ) → r ≡ number_of (fifteen_before (8 * given)) → bit_and (bit_xor (r / 2 ^ 6) (r / 2 ^ 7)) 0xFF ≡ prbs_byte given
+pub byte_is : (given r : ℕ) → r ≡ number_of (fifteen_before (8 * given)) → bit_and (bit_xor (r / 2 ^ 6) (r / 2 ^ 7)) 0xFF
+    ≡ prbs_byte given
 byte_is given r is =
     and_mask (bit_xor (r / 2 ^ 6) (r / 2 ^ 7)) 8
     ∙ sym (ap number_of (nexts_are 8 (8 * given)) ∙ eight_number (fifteen_before (8 * given)) r (length-before (8 * given)) is)
 
 pub register_is : (given r : ℕ) → r < 2 ^ 16 → r ≡ number_of (fifteen_before (8 * given)) →
-    bit_and (bit_or (r * 2 ^ 8 % 2 ^ 16) (bit_and (bit_xor (r / 2 ^ 6) (r / 2 ^ 7)) 0xFF)) 0x7FFF ≡ number_of (fifteen_before (8 * (given + 1)))
+    bit_and (bit_or (r * 2 ^ 8 % 2 ^ 16) (bit_and (bit_xor (r / 2 ^ 6) (r / 2 ^ 7)) 0xFF)) 0x7FFF
+    ≡ number_of (fifteen_before (8 * (given + 1)))
 register_is given r fits is =
     let w : List Bool = fifteen_before (8 * given) in
     let long : length w ≡ 15 = length-before (8 * given) in
@@ -227,10 +240,12 @@ register_is given r fits is =
     let shifted : r * 2 ^ 8 % 2 ^ 16 ≡ r % 2 ^ 8 * 2 ^ 8 = omega arith in
     let rest : drop 8 w ≡ part w 8 7 = sym (take_all 7 (drop 8 w) (rw (length-drop 8 w, long) (omega arith))) in
     let low : r / 2 ^ 0 % 2 ^ 7 ≡ r % 2 ^ 7 = omega arith in
-    let kept : number_of (drop 8 w) ≡ r % 2 ^ 7 = ap number_of rest ∙ rw is (rw long at (number_of-part w 8 7 (omega arith))) ∙ low in
+    let kept : number_of (drop 8 w) ≡ r % 2 ^ 7 = ap number_of rest ∙ rw is (rw long at (number_of-part w 8 7 (omega arith)))
+    ∙ low in
     let long_next : length (nexts 8 w) ≡ 8 = length-nexts 8 w in
     let place : 8 * (given + 1) ≡ 8 * given + 8 = omega arith in
     let next : number_of (fifteen_before (8 * (given + 1))) ≡ r % 2 ^ 7 * 2 ^ 8 + byte =
-    ap (λ (i : ℕ). number_of (fifteen_before i)) place ∙ ap number_of (before-plus 8 (8 * given) ∙ eight_after w long) ∙ number_of-append (drop 8 w) (nexts 8 w)
+    ap (λ (i : ℕ). number_of (fifteen_before i)) place ∙ ap number_of (before-plus 8 (8 * given) ∙ eight_after w long)
+    ∙ number_of-append (drop 8 w) (nexts 8 w)
     ∙ rw (kept, long_next, eight_number w r long is) refl in
     rw (masked, shifted, or_shifted (r % 2 ^ 8) 8 byte small) (and_mask (r % 2 ^ 8 * 2 ^ 8 + byte) 15 ∙ omega arith ∙ sym next)

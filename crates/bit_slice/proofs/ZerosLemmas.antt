@@ -1,6 +1,7 @@
 -- What zero bits make of the register: a sum goes through them, and what stands low only moves. So a run of bits makes
 -- of the register what as many zero bits make of a sum.
-use Rattle.std.proofs.Common.{◌≡◌, ℕ, zero, suc, ◌+◌, ◌-◌, ◌*◌, ◌/◌, ◌%◌, ◌^◌, ◌<◌, ◌≤◌, ◌==◌, Bool, true, false, cond, List, [], ◌∷◌, ◌++◌, length, refl, ap, sym, ◌∙◌, arith}
+use Rattle.std.proofs.Common.{◌≡◌, ℕ, zero, suc, ◌+◌, ◌-◌, ◌*◌, ◌/◌, ◌%◌, ◌^◌, ◌<◌, ◌≤◌, ◌==◌, Bool, true, false, cond, List, []}
+use Rattle.std.proofs.Common.{◌∷◌, ◌++◌, length, refl, ap, sym, ◌∙◌, arith}
 use Rattle.std.specs.Prelude.{bit_xor}
 use lib.Bits.{xor_assoc, xor_self, xor_shifted, xor_zero_l, xor_zero_r}
 use Rattle.std.proofs.lemmas.Nat.{xor_lt, xor_shr, xor_mod, pow_pos, pow-add, shl_below, shl-shr, mod_low}
@@ -30,11 +31,14 @@ xor_times (suc zero) (suc zero) low h k = let e : 0 * low ≡ 0 = omega arith in
 xor_times (suc zero) (suc (suc t)) low h k = absurd (omega arith)
 xor_times (suc (suc s)) t low h k = absurd (omega arith)
 
-step_xor : (d low a b : ℕ) → low < 2 ^ d → a < 2 ^ d → b < 2 ^ d → step d low (bit_xor a b) false ≡ bit_xor (step d low a false) (step d low b false)
+step_xor : (d low a b : ℕ) → low < 2 ^ d → a < 2 ^ d → b < 2 ^ d → step d low (bit_xor a b) false ≡ bit_xor (step d low a false)
+    (step d low b false)
 step_xor d low a b small fits_a fits_b =
     let twice : bit_xor a b * 2 ≡ bit_xor (a * 2) (b * 2) = sym (xor_shl a b 1) in
-    let left : bit_xor a b * 2 / 2 ^ d ≡ bit_xor (a * 2 / 2 ^ d) (b * 2 / 2 ^ d) = ap (λ (x : ℕ). x / 2 ^ d) twice ∙ xor_shr (a * 2) (b * 2) d in
-    let kept : bit_xor a b * 2 % 2 ^ d ≡ bit_xor (a * 2 % 2 ^ d) (b * 2 % 2 ^ d) = ap (λ (x : ℕ). x % 2 ^ d) twice ∙ xor_mod (a * 2) (b * 2) d in
+    let left : bit_xor a b * 2 / 2 ^ d ≡ bit_xor (a * 2 / 2 ^ d) (b * 2 / 2 ^ d) = ap (λ (x : ℕ). x / 2 ^ d) twice
+    ∙ xor_shr (a * 2) (b * 2) d in
+    let kept : bit_xor a b * 2 % 2 ^ d ≡ bit_xor (a * 2 % 2 ^ d) (b * 2 % 2 ^ d) = ap (λ (x : ℕ). x % 2 ^ d) twice
+    ∙ xor_mod (a * 2) (b * 2) d in
     step_zero d low (bit_xor a b) (xor_lt d a b fits_a fits_b)
     ∙ rw (left, kept, xor_times (a * 2 / 2 ^ d) (b * 2 / 2 ^ d) low (top_lt d a fits_a) (top_lt d b fits_b)) refl
     ∙ xor_swap (a * 2 % 2 ^ d) (b * 2 % 2 ^ d) (a * 2 / 2 ^ d * low) (b * 2 / 2 ^ d * low)
@@ -58,9 +62,12 @@ step_bit d low s true some fits =
     let double : x * 2 ≡ 1 * 2 ^ d = let p = pow-succ' 2 (d - 1) in let q = ap (λ (k : ℕ). 2 ^ k) e in omega arith in
     let twice : bit_xor s x * 2 ≡ bit_xor (s * 2) (1 * 2 ^ d) = sym (xor_shl s x 1) ∙ ap (bit_xor (s * 2)) double in
     let pos = pow_pos d in
-    let none : 1 * 2 ^ d % 2 ^ d ≡ 0 = let m = mod_low 1 d 0 pos in let z : 1 * 2 ^ d + 0 ≡ 1 * 2 ^ d = omega arith in rw z at m in
-    let left : bit_xor s x * 2 / 2 ^ d ≡ bit_xor (s * 2 / 2 ^ d) 1 = ap (λ (y : ℕ). y / 2 ^ d) twice ∙ xor_shr (s * 2) (1 * 2 ^ d) d ∙ ap (bit_xor (s * 2 / 2 ^ d)) (shl-shr 1 d) in
-    let kept : bit_xor s x * 2 % 2 ^ d ≡ s * 2 % 2 ^ d = ap (λ (y : ℕ). y % 2 ^ d) twice ∙ xor_mod (s * 2) (1 * 2 ^ d) d ∙ ap (bit_xor (s * 2 % 2 ^ d)) none ∙ xor_zero_r (s * 2 % 2 ^ d) in
+    let none : 1 * 2 ^ d % 2 ^ d ≡ 0 = let m = mod_low 1 d 0 pos in let z : 1 * 2 ^ d + 0 ≡ 1 * 2 ^ d = omega arith in
+    rw z at m in
+    let left : bit_xor s x * 2 / 2 ^ d ≡ bit_xor (s * 2 / 2 ^ d) 1 = ap (λ (y : ℕ). y / 2 ^ d) twice
+    ∙ xor_shr (s * 2) (1 * 2 ^ d) d ∙ ap (bit_xor (s * 2 / 2 ^ d)) (shl-shr 1 d) in
+    let kept : bit_xor s x * 2 % 2 ^ d ≡ s * 2 % 2 ^ d = ap (λ (y : ℕ). y % 2 ^ d) twice ∙ xor_mod (s * 2) (1 * 2 ^ d) d
+    ∙ ap (bit_xor (s * 2 % 2 ^ d)) none ∙ xor_zero_r (s * 2 % 2 ^ d) in
     rw (left, kept, turned (s * 2 / 2 ^ d) (top_lt d s fits)) refl
 
 -- ---- zero bits
@@ -69,12 +76,14 @@ unfolding zeros
 zeros_lt d low small zero s fits = fits
 zeros_lt d low small (suc n) s fits = zeros_lt d low small n (step d low s false) (step_lt d low s false small)
 
-pub zeros_xor : (d low : ℕ) → low < 2 ^ d → (n a b : ℕ) → a < 2 ^ d → b < 2 ^ d → zeros d low n (bit_xor a b) ≡ bit_xor (zeros d low n a) (zeros d low n b)
+pub zeros_xor : (d low : ℕ) → low < 2 ^ d → (n a b : ℕ) → a < 2 ^ d → b < 2 ^ d → zeros d low n (bit_xor a b)
+    ≡ bit_xor (zeros d low n a) (zeros d low n b)
 unfolding zeros
 zeros_xor d low small zero a b fits_a fits_b = refl
 zeros_xor d low small (suc n) a b fits_a fits_b =
     ap (zeros d low n) (step_xor d low a b small fits_a fits_b)
-    ∙ zeros_xor d low small n (step d low a false) (step d low b false) (step_lt d low a false small) (step_lt d low b false small)
+    ∙ zeros_xor d low small n (step d low a false) (step d low b false) (step_lt d low a false small)
+    (step_lt d low b false small)
 
 pub zeros_low : (d low n x : ℕ) → x * 2 ^ n < 2 ^ d → zeros d low n x ≡ x * 2 ^ n
 unfolding zeros
@@ -115,11 +124,18 @@ register_is_zeros d low small (b ∷ bs) s fits few =
     let half : 2 ^ d ≡ 2 * 2 ^ (d - 1) = rw f at (pow-succ' 2 (d - 1)) in
     let low_y : y < 2 ^ (d - 1) = omega arith in
     let fits_y : y < 2 ^ d = omega arith in
-    let fits_bit : bit < 2 ^ d = elim b as (λ v. cond v 1 0 * 2 ^ (d - 1) < 2 ^ d) [ true ↦ (let pos = pow_pos (d - 1) in omega arith) | false ↦ (let pos = pow_pos d in omega arith) ] in
+    let fits_bit : bit < 2 ^ d =
+    elim b as (λ v. cond v 1 0 * 2 ^ (d - 1) < 2 ^ d) [
+      | true ↦ (let pos = pow_pos (d - 1) in omega arith)
+      | false ↦
+          (let pos = pow_pos d in omega arith)
+    ] in
     let place : n + (d - suc n) ≡ d - 1 = omega arith in
     let size : 2 ^ n * 2 ^ (d - suc n) ≡ 2 ^ (d - 1) = rw place at (sym (pow-add 2 n (d - suc n))) in
     let spelled : number_of (b ∷ bs) * 2 ^ (d - suc n) ≡ bit + y =
-    ap (λ (k : ℕ). k * 2 ^ (d - suc n)) (number_is b bs) ∙ elim b as (λ v. (cond v 1 0 * 2 ^ n + number_of bs) * 2 ^ (d - suc n) ≡ cond v 1 0 * 2 ^ (d - 1) + y) [ true ↦ omega (arith, size) | false ↦ omega arith ] in
+    ap (λ (k : ℕ). k * 2 ^ (d - suc n)) (number_is b bs)
+    ∙ elim b as (λ v. (cond v 1 0 * 2 ^ n + number_of bs) * 2 ^ (d - suc n) ≡ cond v 1 0 * 2 ^ (d - 1) + y)
+    [ true ↦ omega (arith, size) | false ↦ omega arith ] in
     let joined : bit_xor bit y ≡ bit + y = xor_shifted (cond b 1 0) (d - 1) y low_y in
     rw (step_bit d low s b some fits)
     (register_is_zeros d low small bs (step d low (bit_xor s bit) false) (step_lt d low (bit_xor s bit) false small) (omega arith)
@@ -127,14 +143,16 @@ register_is_zeros d low small (b ∷ bs) s fits few =
     ∙ sym (step_xor d low (bit_xor s bit) y small (xor_lt d s bit fits fits_bit) fits_y)
     ∙ ap (λ (x : ℕ). step d low x false) (xor_assoc s bit y ∙ ap (bit_xor s) (joined ∙ sym spelled))))
 
--- what moves up by n places, where there is room
+-- what moves up by n places, if there is room
 pub zeros_moved : (d low n m x y : ℕ) → x * 2 ^ n ≡ y → y < 2 ^ d → zeros d low (n + m) x ≡ zeros d low m y
 zeros_moved d low n m x y e fits =
     let room : x * 2 ^ n < 2 ^ d = rw e fits in
     zeros-add d low n m x ∙ ap (zeros d low m) (zeros_low d low n x room ∙ e)
 
 -- a register over bits that are put one behind the other
-pub registered : (degree low s put_s next : ℕ) (put more all : List Bool) → put_s ≡ register degree low s put → next ≡ register degree low put_s more → all ≡ put ++ more →
+pub registered : (degree low s put_s next : ℕ) (put more all : List Bool) → put_s ≡ register degree low s put
+    → next ≡ register degree low put_s more → all ≡ put ++ more →
     next ≡ register degree low s all
 registered degree low s put_s next put more all is step joined =
-    step ∙ ap (λ (r : ℕ). register degree low r more) is ∙ sym (register-append degree low s put more) ∙ sym (ap (register degree low s) joined)
+    step ∙ ap (λ (r : ℕ). register degree low r more) is ∙ sym (register-append degree low s put more)
+    ∙ sym (ap (register degree low s) joined)

@@ -32,7 +32,8 @@ PutsJoin = (a b c : State) (front more : List Bool) → Puts a b front → Puts 
 
 -- A writer whose next put is refused stops there.
 abbrev pub StopsHere : Type 0
-StopsHere = (a : State) (bits : List Bool) (count : ℕ) (fault : SinkFault) → Refuses a count fault → count ≤ length bits → Stops a a bits fault
+StopsHere = (a : State) (bits : List Bool) (count : ℕ) (fault : SinkFault) → Refuses a count fault → count ≤ length bits
+    → Stops a a bits fault
 
 -- A writer that stopped within its first part stopped within the whole.
 abbrev pub StopsEarly : Type 0
@@ -40,9 +41,11 @@ StopsEarly = (a b : State) (front more : List Bool) (fault : SinkFault) → Stop
 
 -- A writer that stopped stopped also where it had put bits before.
 abbrev pub StopsLater : Type 0
-StopsLater = (a b c : State) (front more : List Bool) (fault : SinkFault) → Puts a b front → Stops b c more fault → Stops a c (front ++ more) fault
+StopsLater = (a b c : State) (front more : List Bool) (fault : SinkFault) → Puts a b front → Stops b c more fault
+    → Stops a c (front ++ more) fault
 
--- A writer that finds the sink full had less room than bits, and one that finds no memory writes to a sink that has no end and grows.
+-- A writer that finds the sink full had less room than bits, and one that finds no memory writes to a sink that has no end and
+-- grows.
 abbrev pub IsCause : State → ℕ → SinkFault → Type 0
 IsCause a count (Full need room) = IsSomeAnd a.room (λ r. r < count)
 IsCause a count OutOfMemory = (a.room ≡ None) × (a.grows ≡ true)
@@ -56,4 +59,5 @@ PutsThrough = (s t : State) (bits : List Bool) → Puts (wrapped s) t bits → P
 
 -- A writer that stopped at a sink around another one stopped at that one.
 abbrev pub StopsThrough : Type 0
-StopsThrough = (s t : State) (bits : List Bool) (fault : SinkFault) → Stops (wrapped s) t bits fault → Stops s (unwrapped t) bits fault
+StopsThrough = (s t : State) (bits : List Bool) (fault : SinkFault) → Stops (wrapped s) t bits fault
+    → Stops s (unwrapped t) bits fault

@@ -1,9 +1,11 @@
 pub mod Crc
 pub mod Laws
-pub mod Filling
 pub mod Prbs
 pub mod PrbsBlocks
 pub mod Sink
 pub mod Source
+-- inner: no public clause cites these
+pub mod Filling
 pub mod Register
+-- of the crates below, for those who read this one
 pub use Rattle.terms.specs.Bits

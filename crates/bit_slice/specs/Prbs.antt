@@ -1,5 +1,6 @@
 -- The sequence of the scrambler (EN 302 755, clause 5.2.4): x(i) = x(i - 14) + x(i - 15), modulo 2.
-use Rattle.std.specs.Prelude.{◌≡◌, ℕ, zero, suc, ◌-◌, ◌*◌, Bool, true, false, not, List, [], ◌∷◌, ◌++◌, drop, map, nat_lt, slice_index_or, if◌then◌else◌}
+use Rattle.std.specs.Prelude.{◌≡◌, ℕ, zero, suc, ◌-◌, ◌*◌, Bool, true, false, not, List, [], ◌∷◌, ◌++◌, drop, map, nat_lt}
+use Rattle.std.specs.Prelude.{slice_index_or, if◌then◌else◌}
 use Rattle.std.specs.List.{range_with_len}
 use Rattle.terms.specs.Bits.{number_of}
 use Rattle.bit_slice.specs.declared.prbs.Prbs.{Prbs}

@@ -1,5 +1,6 @@
 -- Sinks of bits: what they hold, what a put does to it, and why it does not.
-use Rattle.std.specs.Prelude.{◌≡◌, ◌<◌, ◌≤◌, ℕ, ◌-◌, Bool, true, List, [], ◌∷◌, ◌++◌, length, take, drop, slice_index_or, Some, None, IfSome}
+use Rattle.std.specs.Prelude.{◌≡◌, ◌<◌, ◌≤◌, ℕ, ◌-◌, Bool, true, List, [], ◌∷◌, ◌++◌, length, take, drop, slice_index_or, Some}
+use Rattle.std.specs.Prelude.{None, IfSome}
 use Rattle.std.specs.declared.option.Option.{Option}
 use Rattle.std.specs.Option.{option_map}
 use Rattle.bit_slice.specs.declared.sink.SinkFault.{SinkFault}
@@ -43,4 +44,9 @@ wrapped s = record { written = []; room = s.room; grows = s.grows; below = s.wri
 
 -- the state of the inner sink: what was put through stands behind what stood in it
 abbrev pub unwrapped : State → State
-unwrapped s = record { written = slice_index_or s.below 0 [] ++ s.written; room = s.room; grows = s.grows; below = drop 1 s.below }
+unwrapped s = record {
+  written = slice_index_or s.below 0 [] ++ s.written;
+  room = s.room;
+  grows = s.grows;
+  below = drop 1 s.below;
+}

@@ -4,7 +4,7 @@ ghost use Rattle.terms.specs.Bits.{field};
 ghost use Rattle.bit_slice.specs.Crc.{crc32_of};
 ghost use Rattle.bit_slice.specs.Sink.{Puts, Refuses, wrapped, unwrapped};
 
-use crate::crc::{after_field, after_slice};
+use crate::crc_32::{after_field, after_slice};
 use crate::written::{Written, and_field, and_slice, none, written_to};
 use crate::{BitSink, BitSlice, SinkFault};
 use std::marker::Model;

@@ -3,8 +3,8 @@
 
 mod buf;
 mod count;
-mod crc;
-mod crc_eight;
+mod crc_32;
+mod crc_8;
 mod crc_sink;
 mod filling;
 mod fixed;
@@ -26,8 +26,8 @@ mod written;
 
 pub use buf::BitBuf;
 pub use count::BitCount;
-pub use crc::crc32;
-pub use crc_eight::crc8;
+pub use crc_8::crc8;
+pub use crc_32::crc32;
 pub use crc_sink::CrcSink;
 pub use fixed::FixedBits;
 pub use joined::{Joined, put_joined};

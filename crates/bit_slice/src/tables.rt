@@ -548,7 +548,7 @@ pub const TABLES: [[u32; 256]; 16] = [
     ],
 ];
 
-// Table for CRC-8: what 8 zero bits make of each byte in the register.
+/// Table for CRC-8: what 8 zero bits make of each byte in the register.
 #[rattlefmt::skip]
 pub const BYTE_TABLE: [u8; 256] = [
     0x00, 0xD5, 0x7F, 0xAA, 0xFE, 0x2B, 0x81, 0x54, 0x29, 0xFC, 0x56, 0x83, 0xD7, 0x02, 0xA8, 0x7D,

@@ -17,7 +17,8 @@ use Rattle.cell_map.proofs.MeetingLemmas.{parts_of}
 
 -- a row from its four numbers
 pub row_is : (c : Config) (plp cells blocks interleave slices : ℕ) → IsPlan c → plp < length c.plps
-    → cells ≡ block_cells c plp → blocks ≡ (plp_at c.plps plp).blocks → interleave ≡ (plp_at c.plps plp).interleave → slices ≡ slice_count c plp
+    → cells ≡ block_cells c plp → blocks ≡ (plp_at c.plps plp).blocks → interleave ≡ (plp_at c.plps plp).interleave
+    → slices ≡ slice_count c plp
     → IsRow c plp (record { cells = cells; blocks = blocks; interleave = interleave; slices = slices })
 row_is c plp cells blocks interleave slices is h e f g k =
     let r = plan_row c plp is h in
@@ -38,10 +39,13 @@ row_is c plp cells blocks interleave slices is h e f g k =
 -- the address of a cell by its position
 pub record AddressIs (c : Config) (shape : FrameShape) (plp block cell : ℕ) : Type 0 where
   pub some : 0 < (slices_of c shape plp).len
-  pub value : (slices_of c shape plp).start + position_of c shape plp block cell / (slices_of c shape plp).len * shape.interval + position_of c shape plp block cell % (slices_of c shape plp).len ≡ address_of c shape plp block cell
-  pub single : slice_count c plp ≡ 1 → (slices_of c shape plp).start + position_of c shape plp block cell ≡ address_of c shape plp block cell
+  pub value : (slices_of c shape plp).start + position_of c shape plp block cell / (slices_of c shape plp).len * shape.interval
+      + position_of c shape plp block cell % (slices_of c shape plp).len ≡ address_of c shape plp block cell
+  pub single : slice_count c plp ≡ 1 → (slices_of c shape plp).start + position_of c shape plp block cell
+      ≡ address_of c shape plp block cell
 
-pub address_is : (c : Config) (shape : FrameShape) (plp block cell : ℕ) → IsPlan c → IsCell c shape plp block cell → AddressIs c shape plp block cell
+pub address_is : (c : Config) (shape : FrameShape) (plp block cell : ℕ) → IsPlan c → IsCell c shape plp block cell
+    → AddressIs c shape plp block cell
 address_is c shape plp block cell is there =
     let (k, (t, x)) = at_of_cell c shape plp block cell is there in
     let s = slices_of c shape plp in
@@ -52,7 +56,8 @@ address_is c shape plp block cell is there =
       single = λ one.
           let first : k ≡ 0 = omega (arith, x.slice, one) in
           let place : position_of c shape plp block cell ≡ 0 * s.len + t = x.place ∙ ap (λ (n : ℕ). n * s.len + t) first in
-          let address : address_of c shape plp block cell ≡ s.start + 0 * shape.interval + t = x.address ∙ ap (λ (n : ℕ). s.start + n * shape.interval + t) first in
+          let address : address_of c shape plp block cell ≡ s.start + 0 * shape.interval + t =
+          x.address ∙ ap (λ (n : ℕ). s.start + n * shape.interval + t) first in
           omega (arith, place, address);
     }
 
@@ -61,7 +66,8 @@ pub not_beyond : (c : Config) (shape : FrameShape) (plp : ℕ) → Passes c shap
 not_beyond c shape plp passes h w =
     ⊎_elim
     (λ many. let never : ⊥ = omega (arith, many, passes.counts plp h) in never)
-    (λ far. let (block, cell, there, past) = far in let never : ⊥ = omega (arith, past, passes.below plp block cell there) in never)
+    (λ far. let (block, cell, there, past) = far in let never : ⊥ = omega (arith, past, passes.below plp block cell there) in
+    never)
     w
 
 pub not_shared : (c : Config) (shape : FrameShape) (i j : ℕ) → Passes c shape → ¬ (Shares c shape i j)
@@ -81,7 +87,8 @@ pub record IsInFrame (c : Config) (shape : FrameShape) (plp : ℕ) (it : PlpInFr
 
 pub computes : (c : Config) (shape : FrameShape) (plp block cell : ℕ) (it : PlpInFrame) (start at interval : ℕ)
     → IsPlan c → Passes c shape → IsCell c shape plp block cell → IsInFrame c shape plp it
-    → start ≡ slice_index shape.starts plp → at ≡ position it.row.cells it.row.interleave it.count block cell → interval ≡ shape.interval
+    → start ≡ slice_index shape.starts plp → at ≡ position it.row.cells it.row.interleave it.count block cell
+    → interval ≡ shape.interval
     → Computes c shape plp block cell start at interval it.slices.len
 computes c shape plp block cell it start at interval is passes there in_frame e f g =
     let a = address_is c shape plp block cell is there in
@@ -100,10 +107,12 @@ computes_single c shape plp block cell it start at is passes there in_frame e f 
     (same, omega (arith, same, passes.below plp block cell there))
 
 -- one PLP more: its blocks are counted
-pub counted : (counts : List ℕ) (plp before count : ℕ) → plp < length counts → before ≡ sum (take plp counts) → count ≡ slice_index counts plp
+pub counted : (counts : List ℕ) (plp before count : ℕ) → plp < length counts → before ≡ sum (take plp counts)
+    → count ≡ slice_index counts plp
     → before + count ≡ sum (take (plp + 1) counts)
 counted counts plp before count inside e f = omega (arith, e, f, sum_by_more (λ (x : ℕ). x) counts plp 0 inside)
 
 -- a PLP has few blocks where a shape passes
-pub few_blocks : (c : Config) (shape : FrameShape) (plp : ℕ) → IsPlan c → Passes c shape → plp < length c.plps → slice_index shape.counts plp ≤ 1023
+pub few_blocks : (c : Config) (shape : FrameShape) (plp : ℕ) → IsPlan c → Passes c shape → plp < length c.plps
+    → slice_index shape.counts plp ≤ 1023
 few_blocks c shape plp is passes h = omega (arith, passes.counts plp h, (plan_row c plp is h).few)

@@ -1,5 +1,6 @@
 -- The group of a block.
-use Rattle.std.proofs.Common.{◌≡◌, ℕ, zero, suc, ◌+◌, ◌-◌, ◌*◌, ◌/◌, ◌%◌, ◌<◌, ◌≤◌, ltb, List, [], ◌∷◌, ◌++◌, replicate, refl, ap, sym, ◌∙◌, arith}
+use Rattle.std.proofs.Common.{◌≡◌, ℕ, zero, suc, ◌+◌, ◌-◌, ◌*◌, ◌/◌, ◌%◌, ◌<◌, ◌≤◌, ltb, List, [], ◌∷◌, ◌++◌, replicate, refl, ap}
+use Rattle.std.proofs.Common.{sym, ◌∙◌, arith}
 use Rattle.std.proofs.lemmas.Bool.{lt-ltb, le-ltb, ltb-true, ltb-false}
 use Rattle.std.proofs.lemmas.Nat.{div-add-mod', mod_below, div_below, mul-le}
 use Rattle.std.proofs.lemmas.List.{append-nil}
@@ -26,7 +27,11 @@ total-sizes n groups h =
     let parts : small + n % groups ≡ groups = omega arith in
     let whole = div-add-mod' n groups in
     let spread : n / groups * (small + n % groups) + n % groups ≡ n = rw parts whole in
-    rw (total-append (replicate small (n / groups)) (replicate (n % groups) (n / groups + 1)), total-replicate small (n / groups), total-replicate (n % groups) (n / groups + 1))
+    rw (
+      total-append (replicate small (n / groups)) (replicate (n % groups) (n / groups + 1)),
+      total-replicate small (n / groups),
+      total-replicate (n % groups) (n / groups + 1),
+    )
     (omega (arith, spread))
 
 pub record Around (sizes : List ℕ) (start block : ℕ) (g : Group) : Type 0 where
@@ -36,7 +41,8 @@ pub record Around (sizes : List ℕ) (start block : ℕ) (g : Group) : Type 0 wh
   pub whole : g.first + g.size ≤ start + total sizes
   pub same : (other : ℕ) → g.first ≤ other → other < g.first + g.size → group_in sizes start other ≡ g
 
-pub around : (sizes : List ℕ) (start block : ℕ) → start ≤ block → block < start + total sizes → Around sizes start block (group_in sizes start block)
+pub around : (sizes : List ℕ) (start block : ℕ) → start ≤ block → block < start + total sizes
+    → Around sizes start block (group_in sizes start block)
 around [] start block h k = absurd (omega arith)
 around (s ∷ ss) start block h k =
     bool_cases (ltb block (start + s))
@@ -55,7 +61,8 @@ around (s ∷ ss) start block h k =
       before = r.before;
       behind = r.behind;
       whole = omega (arith, r.whole);
-      same = λ other a b. let far : start + s ≤ other = omega (arith, r.low) in rw (le-ltb other (start + s) far) (r.same other a b);
+      same = λ other a b. let far : start + s ≤ other = omega (arith, r.low) in
+          rw (le-ltb other (start + s) far) (r.same other a b);
     }))
 
 -- a block in the d-th of groups of one size
@@ -69,7 +76,8 @@ group_at (suc k) size start block zero rest h a b =
 group_at (suc k) size start block (suc d) rest h a b =
     let far : start + size ≤ block = omega arith in
     let e : start + size + d * size ≡ start + suc d * size = omega arith in
-    rw (le-ltb block (start + size) far) (group_at k size (start + size) block d rest (omega arith) (omega arith) (omega arith) ∙ ap (λ (f : ℕ). record { first = f; size = size }) e)
+    rw (le-ltb block (start + size) far) (group_at k size (start + size) block d rest (omega arith) (omega arith) (omega arith)
+    ∙ ap (λ (f : ℕ). record { first = f; size = size }) e)
 
 pub group_skip : (k size start block : ℕ) (rest : List ℕ) → start + k * size ≤ block →
     group_in (replicate k size ++ rest) start block ≡ group_in rest (start + k * size) block
@@ -78,7 +86,8 @@ group_skip zero size start block rest h =
 group_skip (suc k) size start block rest h =
     let far : start + size ≤ block = omega arith in
     let e : start + size + k * size ≡ start + suc k * size = omega arith in
-    rw (le-ltb block (start + size) far) (group_skip k size (start + size) block rest (omega arith) ∙ ap (λ (f : ℕ). group_in rest f block) e)
+    rw (le-ltb block (start + size) far) (group_skip k size (start + size) block rest (omega arith)
+    ∙ ap (λ (f : ℕ). group_in rest f block) e)
 
 -- the code's group of an early block
 pub early : (n groups block : ℕ) → 0 < groups → block < (groups - n % groups) * (n / groups) →
@@ -88,7 +97,12 @@ early n groups block some h =
     let k : ℕ = groups - n % groups in
     let size : ℕ = n / groups in
     let d : ℕ = block / size in
-    let has : 0 < size = elim size as (λ (s : ℕ). block < k * s → 0 < s) [ zero ↦ (λ (x : block < k * 0). absurd (omega arith)) | suc s ↦ (λ (x : block < k * suc s). omega arith) ] h in
+    let has : 0 < size =
+    elim size as (λ (s : ℕ). block < k * s → 0 < s) [
+      | zero ↦ (λ (x : block < k * 0). absurd (omega arith))
+      | suc s ↦
+          (λ (x : block < k * suc s). omega arith)
+    ] h in
     let all = div-add-mod' block size in
     let m : block % size < size = mod_below block size has in
     let lt : d < k = div_below block size k has h in
@@ -101,7 +115,8 @@ pub record Late (n groups block low size d : ℕ) : Type 0 where
 
 -- the code's group of a late block
 pub late : (n groups block : ℕ) → 0 < groups → block < n → (groups - n % groups) * (n / groups) ≤ block →
-    (let low = (groups - n % groups) * (n / groups) in Late n groups block low (n / groups + 1) ((block - low) / (n / groups + 1)))
+    (let low = (groups - n % groups) * (n / groups) in
+    Late n groups block low (n / groups + 1) ((block - low) / (n / groups + 1)))
 unfolding group_of
 late n groups block some h far =
     let k : ℕ = groups - n % groups in
@@ -113,7 +128,8 @@ late n groups block some h far =
     let has : 0 < size = omega arith in
     let whole = total-sizes n groups some in
     let parts : total (sizes_of n groups) ≡ low + more * size =
-    total-append (replicate k floor) (replicate more size) ∙ (let a = total-replicate k floor in let b = total-replicate more size in omega (arith, a, b)) in
+    total-append (replicate k floor) (replicate more size)
+    ∙ (let a = total-replicate k floor in let b = total-replicate more size in omega (arith, a, b)) in
     let rest : block - low < more * size = omega (arith, whole, parts) in
     let lt : d < more = div_below (block - low) size more has rest in
     let all = div-add-mod' (block - low) size in

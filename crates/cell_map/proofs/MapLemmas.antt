@@ -1,5 +1,6 @@
 -- What the finite map of the pairs has at an address.
-use Rattle.std.proofs.Common.{◌≡◌, ℕ, zero, suc, ◌+◌, ◌<◌, ◌≤◌, ◌⊎◌, ⊎_elim, inl, inr, Bool, true, false, cond, List, [], ◌∷◌, ◌++◌, Option, Some, None, length, map, refl, ap, sym, ◌∙◌, subst, arith}
+use Rattle.std.proofs.Common.{◌≡◌, ℕ, zero, suc, ◌+◌, ◌<◌, ◌≤◌, ◌⊎◌, ⊎_elim, inl, inr, Bool, true, false, cond, List, [], ◌∷◌}
+use Rattle.std.proofs.Common.{◌++◌, Option, Some, None, length, map, refl, ap, sym, ◌∙◌, subst, arith}
 use Rattle.std.specs.Prelude.{slice_index, IfNone, IfSome}
 use Rattle.std.specs.Cmp.{nat_cmp_total, nat_cmp_is}
 use Rattle.std.specs.FinMap.{find, get, get-from_entries}
@@ -44,7 +45,8 @@ unfolding Has
 has-right key [] ys h = h
 has-right key (x ∷ xs) ys h = inr (has-right key xs ys h)
 
-each-flat : (P : ℕ × Cell → Type 0) (f : ℕ → Entries) (s n : ℕ) → ((i : ℕ) → s ≤ i → i < s + n → Each P (f i)) → Each P (flat_map f (range_with_len s n))
+each-flat : (P : ℕ × Cell → Type 0) (f : ℕ → Entries) (s n : ℕ) → ((i : ℕ) → s ≤ i → i < s + n → Each P (f i))
+    → Each P (flat_map f (range_with_len s n))
 unfolding Each
 each-flat P f s zero h = tt
 each-flat P f s (suc n) h =
@@ -56,10 +58,12 @@ has-flat key f s zero i a b h = absurd (omega arith)
 has-flat key f s (suc n) i a b h =
     elim (cases_eq s i) [
       | inl same ↦ has-left key (f s) (flat_map f (range_with_len (s + 1) n)) (subst (λ (k : ℕ). Has key (f k)) (sym same) h)
-      | inr differ ↦ has-right key (f s) (flat_map f (range_with_len (s + 1) n)) (has-flat key f (s + 1) n i (omega arith) (omega arith) h)
+      | inr differ ↦ has-right key (f s) (flat_map f (range_with_len (s + 1) n))
+          (has-flat key f (s + 1) n i (omega arith) (omega arith) h)
     ]
 
-each-map : (P : ℕ × Cell → Type 0) (f : ℕ → ℕ × Cell) (s n : ℕ) → ((i : ℕ) → s ≤ i → i < s + n → P (f i)) → Each P (map f (range_with_len s n))
+each-map : (P : ℕ × Cell → Type 0) (f : ℕ → ℕ × Cell) (s n : ℕ) → ((i : ℕ) → s ≤ i → i < s + n → P (f i))
+    → Each P (map f (range_with_len s n))
 unfolding Each
 each-map P f s zero h = tt
 each-map P f s (suc n) h = (h s (omega arith) (omega arith), each-map P f (s + 1) n (λ i a b. h i (omega arith) (omega arith)))
@@ -80,14 +84,20 @@ each-pair c shape P h =
     each-flat P (plp_pairs c shape) 0 (length c.plps)
     (λ plp _ configured. each-flat P (block_pairs c shape plp) 0 (slice_index shape.counts plp)
     (λ block _ sent. each-map P (pair_of c shape plp block) 0 (block_cells c plp)
-    (λ cell _ within. h plp block cell (record { configured = omega (arith, configured); sent = omega (arith, sent); within = omega (arith, within) }))))
+    (λ cell _ within.
+    h plp block cell
+    (record { configured = omega (arith, configured); sent = omega (arith, sent); within = omega (arith, within) }))))
 
 -- each cell is in a pair
-has-pair : (c : Config) (shape : FrameShape) (plp block cell : ℕ) → IsCell c shape plp block cell → Has (address_of c shape plp block cell) (pairs c shape)
+has-pair : (c : Config) (shape : FrameShape) (plp block cell : ℕ) → IsCell c shape plp block cell
+    → Has (address_of c shape plp block cell) (pairs c shape)
 has-pair c shape plp block cell there =
-    has-flat (address_of c shape plp block cell) (plp_pairs c shape) 0 (length c.plps) plp (omega arith) (omega (arith, there.configured))
-    (has-flat (address_of c shape plp block cell) (block_pairs c shape plp) 0 (slice_index shape.counts plp) block (omega arith) (omega (arith, there.sent))
-    (has-map (address_of c shape plp block cell) (pair_of c shape plp block) 0 (block_cells c plp) cell (omega arith) (omega (arith, there.within)) refl))
+    has-flat (address_of c shape plp block cell) (plp_pairs c shape) 0 (length c.plps) plp (omega arith)
+    (omega (arith, there.configured))
+    (has-flat (address_of c shape plp block cell) (block_pairs c shape plp) 0 (slice_index shape.counts plp) block (omega arith)
+    (omega (arith, there.sent))
+    (has-map (address_of c shape plp block cell) (pair_of c shape plp block) 0 (block_cells c plp) cell (omega arith)
+    (omega (arith, there.within)) refl))
 
 -- a test of keys
 keys_equal : (a b : ℕ) → is_eq (nat_cmp a b) ≡ true → a ≡ b
@@ -96,12 +106,14 @@ keys_equal a b h =
       | inl same ↦ same
       | inr differ ↦ elim (cases_lt a b) [
         | inl less ↦ (let e : is_eq Less ≡ true = ap is_eq (nat_cmp_is a b Less less) ∙ h in let never : false ≡ true = e in cc)
-        | inr more ↦ (let e : is_eq Greater ≡ true = ap is_eq (nat_cmp_is a b Greater (omega arith)) ∙ h in let never : false ≡ true = e in cc)
+        | inr more ↦ (let e : is_eq Greater ≡ true = ap is_eq (nat_cmp_is a b Greater (omega arith)) ∙ h in
+            let never : false ≡ true = e in cc)
       ]
     ]
 
 keys_differ : (a b : ℕ) → is_eq (nat_cmp a b) ≡ false → ¬ (b ≡ a)
-keys_differ a b h e = let same : is_eq Equal ≡ false = ap is_eq (nat_cmp_is a b Equal (sym e)) ∙ h in let never : true ≡ false = same in cc
+keys_differ a b h e = let same : is_eq Equal ≡ false = ap is_eq (nat_cmp_is a b Equal (sym e)) ∙ h in let never : true ≡ false =
+    same in cc
 
 find-none : (key : ℕ) (es : Entries) → Each (λ e. ¬ (e.0 ≡ key)) es → find nat_cmp key es ≡ None
 unfolding Each
@@ -116,12 +128,14 @@ unfolding Each Has
 find-some key v [] h has = absurd has
 find-some key v (e ∷ es) h has =
     bool_cases (is_eq (nat_cmp key e.0))
-    (λ t. ap (λ (b : Bool). cond b (Some e.1) (find nat_cmp key es)) t ∙ ap (λ (x : Cell). Some x) (h.0 (sym (keys_equal key e.0 t))))
+    (λ t. ap (λ (b : Bool). cond b (Some e.1) (find nat_cmp key es)) t
+    ∙ ap (λ (x : Cell). Some x) (h.0 (sym (keys_equal key e.0 t))))
     (λ t. ap (λ (b : Bool). cond b (Some e.1) (find nat_cmp key es)) t
     ∙ find-some key v es h.1 (⊎_elim (λ (a : e.0 ≡ key). absurd (keys_differ key e.0 t a)) (λ (b : Has key es). b) has))
 
 -- the cell found at an address is the map's
-pub get-found : (c : Config) (shape : FrameShape) (address : ℕ) (v : Cell) → Passes c shape → StandsAt c shape address v → get (cell_map c shape) address ≡ Some v
+pub get-found : (c : Config) (shape : FrameShape) (address : ℕ) (v : Cell) → Passes c shape → StandsAt c shape address v
+    → get (cell_map c shape) address ≡ Some v
 unfolding cell_map
 get-found c shape address v passes found =
     let only : (plp block cell : ℕ) → IsCell c shape plp block cell → address_of c shape plp block cell ≡ address
@@ -137,8 +151,9 @@ get-found c shape address v passes found =
     (each-pair c shape (λ e. e.0 ≡ address → e.1 ≡ v) only)
     (subst (λ (a : ℕ). Has a (pairs c shape)) found.value (has-pair c shape found.plp found.block v.cell found.there))
 
--- where no cell has the address the map has none
-pub get-none : (c : Config) (shape : FrameShape) (address : ℕ) → ((plp block cell : ℕ) → IsCell c shape plp block cell → ¬ (address_of c shape plp block cell ≡ address))
+-- if no cell has the address the map has none
+pub get-none : (c : Config) (shape : FrameShape) (address : ℕ)
+    → ((plp block cell : ℕ) → IsCell c shape plp block cell → ¬ (address_of c shape plp block cell ≡ address))
     → get (cell_map c shape) address ≡ None
 unfolding cell_map
 get-none c shape address none =
@@ -172,13 +187,16 @@ pub map_has_only : MapHasOnlyCells
 unfolding cell_map
 map_has_only c shape address found is =
     find-each (λ e. StandsAt c shape e.0 e.1) address found (pairs c shape)
-    (each-pair c shape (λ e. StandsAt c shape e.0 e.1) (λ plp block cell there. record { plp = plp; block = block; there = there; value = refl; ordinal = refl }))
+    (each-pair c shape (λ e. StandsAt c shape e.0 e.1)
+    (λ plp block cell there. record { plp = plp; block = block; there = there; value = refl; ordinal = refl }))
     (sym (get-from_entries nat_cmp_total (pairs c shape) address) ∙ is)
 
 pub dummy_has_none : DummyHasNoCell
 dummy_has_none c shape address passes = (
   λ is plp block cell there here.
-      let found = subst (λ (a : ℕ). get (cell_map c shape) a ≡ Some (record { ordinal = ordinal_of shape plp block; cell = cell })) here (map_has_each c shape plp block cell passes there) in
+      let found =
+      subst (λ (a : ℕ). get (cell_map c shape) a ≡ Some (record { ordinal = ordinal_of shape plp block; cell = cell })) here
+      (map_has_each c shape plp block cell passes there) in
       let never : None ≡ Some (record { ordinal = ordinal_of shape plp block; cell = cell }) = sym is ∙ found in cc,
   λ none. get-none c shape address none,
 )

@@ -1,5 +1,6 @@
 -- Where slices meet.
-use Rattle.std.proofs.Common.{◌≡◌, ℕ, ◌+◌, ◌-◌, ◌*◌, ◌/◌, ◌%◌, ◌<◌, ◌≤◌, ◌↔◌, ◌≢◌, ◌⊎◌, ⊎_elim, inl, inr, min, Bool, true, false, ltb, IsTrue, ap, sym, ◌∙◌, subst, arith}
+use Rattle.std.proofs.Common.{◌≡◌, ℕ, ◌+◌, ◌-◌, ◌*◌, ◌/◌, ◌%◌, ◌<◌, ◌≤◌, ◌↔◌, ◌≢◌, ◌⊎◌, ⊎_elim, inl, inr, min, Bool, true, false}
+use Rattle.std.proofs.Common.{ltb, IsTrue, ap, sym, ◌∙◌, subst, arith}
 use Rattle.std.proofs.lemmas.Bool.{lt-ltb, ltb-true, ltb-false}
 use Rattle.std.proofs.lemmas.Nat.{div-add-mod', mod_below, mul-le, le-div, div-mul-add, mod-mul-add}
 use Rattle.cell_map.specs.declared.slices.Slices.{Slices}
@@ -30,7 +31,8 @@ meets_law start len s interval last some has far e =
     )
 
 -- two slices meet where the first of the one meets one of the other's: shift both back by the smaller number
-pub meet_shifted : (a b : Slices) (interval : ℕ) → SlicesMeet a b interval → SliceMeets a.start a.len b interval ⊎ SliceMeets b.start b.len a interval
+pub meet_shifted : (a b : Slices) (interval : ℕ) → SlicesMeet a b interval → SliceMeets a.start a.len b interval
+    ⊎ SliceMeets b.start b.len a interval
 meet_shifted a b interval (j, (k, hj, hk, meets)) =
     bool_cases (ltb j k)
     (λ e. let lt = ltb-true j k e in
@@ -57,8 +59,11 @@ meet_law a b interval first second ha hb f none g = (
 )
 
 pub parts_of : (interval k t rest : ℕ) → t < interval → k * interval + t ≡ rest → (rest / interval ≡ k) × (rest % interval ≡ t)
-parts_of interval k t rest h e =
-    (ap (λ (n : ℕ). n / interval) (sym e) ∙ div-mul-add k interval t h, ap (λ (n : ℕ). n % interval) (sym e) ∙ mod-mul-add k interval t h)
+parts_of interval k t rest h e = (
+  ap (λ (n : ℕ). n / interval) (sym e) ∙ div-mul-add k interval t h,
+  ap (λ (n : ℕ). n % interval) (sym e)
+      ∙ mod-mul-add k interval t h,
+)
 
 pub no_place : (start len count interval address : ℕ) → (count ≡ 1) ⊎ (len ≤ interval) → count ≢ 1 → start ≤ address →
     (count ≤ (address - start) / interval) ⊎ (len ≤ (address - start) % interval) →
@@ -68,7 +73,8 @@ no_place start len count interval address apart many low out k t hk ht e =
     let rest : k * interval + t ≡ address - start = omega (arith, e) in
     let inner : t < interval = omega (arith, long) in
     let p = parts_of interval k t (address - start) inner rest in
-    ⊎_elim (λ (x : count ≤ (address - start) / interval). (let never : ⊥ = omega (arith, x, p.0) in never)) (λ (x : len ≤ (address - start) % interval). (let never : ⊥ = omega (arith, x, p.1) in never)) out
+    ⊎_elim (λ (x : count ≤ (address - start) / interval). (let never : ⊥ = omega (arith, x, p.0) in never))
+    (λ (x : len ≤ (address - start) % interval). (let never : ⊥ = omega (arith, x, p.1) in never)) out
 
 -- a place at or behind an address that is in no slice is in a later slice
 pub later : (len count interval rest k t : ℕ) → len ≤ interval → (count ≤ rest / interval) ⊎ (len ≤ rest % interval)
@@ -100,13 +106,15 @@ next_slice start len count interval address k t apart many low out hk ht far =
     let lt : rest / interval < k = later len count interval rest k t long out hk ht (omega (arith, far, low)) in
     let all : rest / interval * interval + rest % interval ≡ rest = div-add-mod' rest interval in
     let inner : rest % interval < interval = mod_below rest interval (omega (arith, ht, long)) in
-    let m : (rest / interval + 1) * interval ≤ k * interval = mul-le (rest / interval + 1) interval k interval (omega (arith, lt)) (omega arith) in
+    let m : (rest / interval + 1) * interval ≤ k * interval = mul-le (rest / interval + 1) interval k interval (omega (arith, lt))
+    (omega arith) in
     (lt, omega (arith, all, inner, m, low))
 
 pub never_law : {P : Type 0} → ¬ P → IsTrue false ↔ P
 never_law n = (λ e. absurd (let never : false ≡ true = e in cc), λ p. absurd (n p))
 
-pub more_below : (P : ℕ → Type 0) (first k : ℕ) → ((j : ℕ) → first ≤ j → j < k → P j) → P k → (j : ℕ) → first ≤ j → j < k + 1 → P j
+pub more_below : (P : ℕ → Type 0) (first k : ℕ) → ((j : ℕ) → first ≤ j → j < k → P j) → P k → (j : ℕ) → first ≤ j → j < k + 1
+    → P j
 more_below P first k below here j a b =
     bool_cases (ltb j k) (λ e. below j a (ltb-true j k e))
     (λ e. let le = ltb-false j k e in let same : k ≡ j = omega (arith, le) in subst P same here)

@@ -23,7 +23,8 @@ room_for blocks plp few =
     omega (arith, both)
 
 -- nor have the blocks of the PLPs up to a place
-room_for_all : (counts : List ℕ) (plps : List Plp) (plp : ℕ) → ((i : ℕ) → i < length plps → slice_index counts i ≤ (plp_at plps i).blocks) → plp < length plps
+room_for_all : (counts : List ℕ) (plps : List Plp) (plp : ℕ)
+    → ((i : ℕ) → i < length plps → slice_index counts i ≤ (plp_at plps i).blocks) → plp < length plps
     → 2025 * (sum (take plp counts) + slice_index counts plp) ≤ sum_by room plps
 room_for_all [] plps zero within inside = omega arith
 room_for_all [] plps (suc plp) within inside = omega arith

@@ -1,5 +1,6 @@
 -- A shape whose PLPs stand in order has a cell map.
-use Rattle.std.proofs.Common.{◌≡◌, ℕ, zero, suc, ◌+◌, ◌-◌, ◌*◌, ◌/◌, ◌<◌, ◌≤◌, inl, inr, true, false, length, refl, ap, sym, subst, arith}
+use Rattle.std.proofs.Common.{◌≡◌, ℕ, zero, suc, ◌+◌, ◌-◌, ◌*◌, ◌/◌, ◌<◌, ◌≤◌, inl, inr, true, false, length, refl, ap, sym}
+use Rattle.std.proofs.Common.{subst, arith}
 use Rattle.std.specs.Prelude.{slice_index}
 use Rattle.std.proofs.lemmas.Bool.{cases_lt, cases_eq}
 use Rattle.std.proofs.lemmas.Nat.{mul-le}
@@ -16,7 +17,8 @@ use Rattle.terms.proofs.CaseLemmas.{bool_cases}
 
 -- a PLP with cells has blocks
 count_some : (n cells slices : ℕ) → 0 < n * cells / slices → 0 < n
-count_some zero cells slices h = let m : 0 * cells / slices ≤ 0 * cells = div-le_self (0 * cells) slices in absurd (omega (arith, h, m))
+count_some zero cells slices h = let m : 0 * cells / slices ≤ 0 * cells = div-le_self (0 * cells) slices in
+    absurd (omega (arith, h, m))
 count_some (suc n) cells slices h = omega arith
 
 -- the slices of either type
@@ -27,14 +29,16 @@ pub record Kind (c : Config) (shape : FrameShape) (plp len count : ℕ) : Type 0
 kind1 : (c : Config) (shape : FrameShape) (plp : ℕ) → in_type2 c plp ≡ false → Kind c shape plp (cells_of c shape.counts plp) 1
 kind1 c shape plp e = record { len_is = rw e (omega arith); count_is = rw e refl }
 
-kind2 : (c : Config) (shape : FrameShape) (plp : ℕ) → in_type2 c plp ≡ true → Kind c shape plp (slice_of c shape.counts plp) c.sub_slices
+kind2 : (c : Config) (shape : FrameShape) (plp : ℕ) → in_type2 c plp ≡ true
+    → Kind c shape plp (slice_of c shape.counts plp) c.sub_slices
 kind2 c shape plp e = record { len_is = rw e refl; count_is = rw e refl }
 
 -- what ends within the frame is not beyond it
 ends : (c : Config) (shape : FrameShape) (plp : ℕ) → StandsInOrder c shape → plp < length c.plps → 0 < (slices_of c shape plp).len
     → (slices_of c shape plp).start + ((slices_of c shape plp).count - 1) * shape.interval + (slices_of c shape plp).len ≤ c.cells
 ends c shape plp stands inside some =
-    let blocks : 0 < slice_index shape.counts plp = count_some (slice_index shape.counts plp) (block_cells c plp) (slices_of c shape plp).count some in
+    let blocks : 0 < slice_index shape.counts plp = count_some (slice_index shape.counts plp) (block_cells c plp)
+    (slices_of c shape plp).count some in
     bool_cases (in_type2 c plp)
     (λ e. let k = kind2 c shape plp e in rw (k.len_is, k.count_is) (stands.end2 plp (inside, blocks, e)))
     (λ e. let k = kind1 c shape plp e in rw (k.len_is, k.count_is) (omega (arith, stands.end1 plp (inside, blocks, e))))
@@ -44,18 +48,22 @@ in_order : (a la b lb interval j k : ℕ) → a + la ≤ b → b + lb ≤ a + in
     → ¬ ((a + j * interval < b + k * interval + lb) × (b + k * interval < a + j * interval + la))
 in_order a la b lb interval j k before within meets =
     elim (cases_lt k j) [
-      | inl less ↦ (let product : (k + 1) * interval ≤ j * interval = mul-le (k + 1) interval j interval (omega arith) (omega arith) in
+      | inl less ↦
+          (let product : (k + 1) * interval ≤ j * interval = mul-le (k + 1) interval j interval (omega arith) (omega arith) in
           let never : ⊥ = omega (arith, product, meets.0, within) in never)
       | inr upto ↦ (let product : j * interval ≤ k * interval = mul-le j interval k interval upto (omega arith) in
           let never : ⊥ = omega (arith, product, meets.1, before) in never)
     ]
 
 -- PLPs in order share no address
-apart : (c : Config) (shape : FrameShape) (i j : ℕ) → IsPlan c → StandsInOrder c shape → i < j → i < length c.plps → j < length c.plps → ¬ (Shares c shape i j)
+apart : (c : Config) (shape : FrameShape) (i j : ℕ) → IsPlan c → StandsInOrder c shape → i < j → i < length c.plps
+    → j < length c.plps → ¬ (Shares c shape i j)
 apart c shape i j is stands less hi hj s =
     let some = some_of_shares c shape i j is s in
-    let one : 0 < slice_index shape.counts i = count_some (slice_index shape.counts i) (block_cells c i) (slices_of c shape i).count some.0 in
-    let other : 0 < slice_index shape.counts j = count_some (slice_index shape.counts j) (block_cells c j) (slices_of c shape j).count some.1 in
+    let one : 0 < slice_index shape.counts i =
+    count_some (slice_index shape.counts i) (block_cells c i) (slices_of c shape i).count some.0 in
+    let other : 0 < slice_index shape.counts j =
+    count_some (slice_index shape.counts j) (block_cells c j) (slices_of c shape j).count some.1 in
     let (k, (m, hk, hm, meets)) = meet_of_shares c shape i j is s in
     bool_cases (in_type2 c i)
     (λ e. let a = kind2 c shape i e in
@@ -63,7 +71,8 @@ apart c shape i j is stands less hi hj s =
     (λ f. let b = kind2 c shape j f in
     let before = stands.type2 i j less (hi, one, e) (hj, other, f) in
     let within = stands.interval i j (hi, one, e) (hj, other, f) in
-    in_order (slice_index shape.starts i) (slice_of c shape.counts i) (slice_index shape.starts j) (slice_of c shape.counts j) shape.interval k m before within (rw (a.len_is, b.len_is) at meets))
+    in_order (slice_index shape.starts i) (slice_of c shape.counts i) (slice_index shape.starts j)
+    (slice_of c shape.counts j) shape.interval k m before within (rw (a.len_is, b.len_is) at meets))
     (λ f. let b = kind1 c shape j f in
     let first : m ≡ 0 = omega (arith, b.count_is, hm) in
     let product : 0 * shape.interval ≡ m * shape.interval = ap (λ (n : ℕ). n * shape.interval) (sym first) in
@@ -82,13 +91,15 @@ apart c shape i j is stands less hi hj s =
 alone : (c : Config) (shape : FrameShape) (j : ℕ) → IsPlan c → StandsInOrder c shape → j < length c.plps → ¬ (Shares c shape j j)
 alone c shape j is stands inside s =
     let some = some_of_shares c shape j j is s in
-    let blocks : 0 < slice_index shape.counts j = count_some (slice_index shape.counts j) (block_cells c j) (slices_of c shape j).count some.0 in
+    let blocks : 0 < slice_index shape.counts j =
+    count_some (slice_index shape.counts j) (block_cells c j) (slices_of c shape j).count some.0 in
     bool_cases (in_type2 c j)
     (λ e. let k = kind2 c shape j e in
     self_apart c shape j is (inr (omega (arith, k.len_is, stands.interval j j (inside, blocks, e) (inside, blocks, e)))) s)
     (λ e. let k = kind1 c shape j e in self_apart c shape j is (inl (omega (arith, k.count_is))) s)
 
-pub shape_passes : (c : Config) (shape : FrameShape) → IsPlan c → ((plp : ℕ) → plp < length c.plps → slice_index shape.counts plp ≤ (plp_at c.plps plp).blocks)
+pub shape_passes : (c : Config) (shape : FrameShape) → IsPlan c
+    → ((plp : ℕ) → plp < length c.plps → slice_index shape.counts plp ≤ (plp_at c.plps plp).blocks)
     → StandsInOrder c shape → Passes c shape
 shape_passes c shape is fit stands =
     passes_from c shape

@@ -9,8 +9,8 @@ use Rattle.plp_config.specs.declared.plp.FecSize.{FecSize}
 use Rattle.plp_config.specs.declared.plp.FecSize.TheVariants.{Short, Normal}
 use Rattle.plp_config.specs.declared.plp.Modulation.{Modulation}
 use Rattle.plp_config.specs.declared.plp.Modulation.TheVariants.{Qpsk, Qam16, Qam64, Qam256}
-use Rattle.plp_config.specs.declared.plp.PlpKind.{PlpKind}
-use Rattle.plp_config.specs.declared.plp.PlpKind.TheVariants.{Type1, Type2}
+use Rattle.plp_config.specs.declared.plp.PlpType.{PlpType}
+use Rattle.plp_config.specs.declared.plp.PlpType.TheVariants.{Type1, Type2}
 use Rattle.scheduler.specs.Shape.{in_type2}
 use Rattle.cell_map.specs.Slices.{slice_count}
 
@@ -32,12 +32,13 @@ pub block_cells-five : (c : Config) (plp : ℕ) → Five (block_cells c plp)
 unfolding block_cells
 block_cells-five c plp = five (plp_at c.plps plp).fec (plp_at c.plps plp).modulation
 
-kind_is : (kind : PlpKind) → is_type2 kind ≡ true → kind ≡ Type2
-kind_is Type1 h = cc
-kind_is Type2 h = refl
+type_is : (plp_type : PlpType) → is_type2 plp_type ≡ true → plp_type ≡ Type2
+type_is Type1 h = cc
+type_is Type2 h = refl
 
 sub_slices-by : (c : Config) → IsPlan c → (has : Bool) → has_type2 c.plps ≡ has → (1 ≤ c.sub_slices) × (c.sub_slices ≤ 6480)
-sub_slices-by c is true h = let range : (2 ≤ c.sub_slices) × (c.sub_slices ≤ 6480) = rw h at (is.rules SubSlices) in (omega (arith, range), range.1)
+sub_slices-by c is true h = let range : (2 ≤ c.sub_slices) × (c.sub_slices ≤ 6480) = rw h at (is.rules SubSlices) in
+    (omega (arith, range), range.1)
 sub_slices-by c is false h = let one : c.sub_slices ≡ 1 = rw h at (is.rules SubSlices) in (omega (arith, one), omega (arith, one))
 
 pub sub_slices-range : (c : Config) → IsPlan c → (1 ≤ c.sub_slices) × (c.sub_slices ≤ 6480)
@@ -61,8 +62,9 @@ count-range : (second : Bool) (n : ℕ) → (1 ≤ n) × (n ≤ 6480) → (1 ≤
 count-range true n h = h
 count-range false n h = (omega arith, omega arith)
 
-cut-by : (c : Config) (plp : ℕ) → IsPlan c → plp < length c.plps → (second : Bool) → in_type2 c plp ≡ second → block_cells c plp % cond second c.sub_slices 1 ≡ 0
-cut-by c plp is h true e = is.tests EvenSubSlices plp h (kind_is (plp_at c.plps plp).kind e)
+cut-by : (c : Config) (plp : ℕ) → IsPlan c → plp < length c.plps → (second : Bool) → in_type2 c plp ≡ second
+    → block_cells c plp % cond second c.sub_slices 1 ≡ 0
+cut-by c plp is h true e = is.tests EvenSubSlices plp h (type_is (plp_at c.plps plp).plp_type e)
 cut-by c plp is h false e = omega arith
 
 pub plan_row : (c : Config) (plp : ℕ) → IsPlan c → plp < length c.plps → PlanRow c plp

@@ -1,6 +1,7 @@
 -- Positions are the numbers below blocks times cells, each once.
 use Rattle.std.proofs.Common.{◌≡◌, ℕ, zero, suc, ◌+◌, ◌-◌, ◌*◌, ◌/◌, ◌%◌, ◌<◌, ◌≤◌, refl, ap, sym, ◌∙◌, arith}
-use Rattle.std.proofs.lemmas.Nat.{div-add-mod', mod_below, div-mul-add, mod-mul-add, div_below, mul-add-lt, mul-le, le-div, same_from_place}
+use Rattle.std.proofs.lemmas.Nat.{div-add-mod', mod_below, div-mul-add, mod-mul-add, div_below, mul-add-lt, mul-le, le-div}
+use Rattle.std.proofs.lemmas.Nat.{same_from_place}
 use Rattle.cell_map.specs.declared.interleaving.Group.{Group}
 use Rattle.cell_map.specs.Laws.{InterleaverFillsOnce}
 use Rattle.cell_map.specs.Interleaver.{sizes_of, group_of, in_group, position}
@@ -30,7 +31,8 @@ pub record Stands (cells r : ℕ) (g : Group) (block cell z : ℕ) : Type 0 wher
   pub column : cell / r < 5
   pub inner : block - g.first < g.size
 
-pub stands : (cells r : ℕ) (g : Group) (block cell : ℕ) → cells ≡ 5 * r → g.first ≤ block → block < g.first + g.size → cell < cells →
+pub stands : (cells r : ℕ) (g : Group) (block cell : ℕ) → cells ≡ 5 * r → g.first ≤ block → block < g.first + g.size
+    → cell < cells →
     Stands cells r g block cell (cell % r * (5 * g.size) + (5 * (block - g.first) + cell / r))
 stands cells r g block cell fifth before behind h =
     let some : 0 < r = omega arith in
@@ -38,14 +40,22 @@ stands cells r g block cell fifth before behind h =
     let t : cell % r < r = mod_below cell r some in
     let d : block - g.first < g.size = omega arith in
     let c : cell / r < 5 = column_below cell r some short in
-    record { is = refl; within = radix_below r g.size (cell % r) (block - g.first) (cell / r) t d c; row = t; column = c; inner = d }
+    record {
+      is = refl;
+      within = radix_below r g.size (cell % r) (block - g.first) (cell / r) t d c;
+      row = t;
+      column = c;
+      inner = d;
+    }
 
 pub fifth_of : (cells : ℕ) → cells % 5 ≡ 0 → cells ≡ 5 * (cells / 5)
 fifth_of cells h = omega arith
 
 -- a position lies below the number of all cells
-pub position_below : (cells groups n block cell : ℕ) → cells % 5 ≡ 0 → block < n → cell < cells → position cells groups n block cell < n * cells
-position_below cells zero n block cell f b c = let m : block * cells + cell < cells * n = mul-add-lt block cells cell n b c in omega (arith, m)
+pub position_below : (cells groups n block cell : ℕ) → cells % 5 ≡ 0 → block < n → cell < cells
+    → position cells groups n block cell < n * cells
+position_below cells zero n block cell f b c = let m : block * cells + cell < cells * n = mul-add-lt block cells cell n b c in
+    omega (arith, m)
 position_below cells (suc groups) n block cell f b c =
     let g = group_of n (suc groups) block in
     let law = group_law n (suc groups) block (omega arith) b in
@@ -77,7 +87,8 @@ lies_in cells at g some before behind =
     let m : at % cells < cells = mod_below at cells some in
     let low : g.first * cells ≤ at / cells * cells = mul-le g.first cells (at / cells) cells before (omega arith) in
     let up : at / cells + 1 ≤ g.first + g.size = omega arith in
-    let high : (at / cells + 1) * cells ≤ (g.first + g.size) * cells = mul-le (at / cells + 1) cells (g.first + g.size) cells up (omega arith) in
+    let high : (at / cells + 1) * cells ≤ (g.first + g.size) * cells =
+    mul-le (at / cells + 1) cells (g.first + g.size) cells up (omega arith) in
     record { from = omega (arith, all, low); to = omega (arith, all, low, high, m) }
 
 pub holds : (cells groups n at : ℕ) → cells % 5 ≡ 0 → at < n * cells →
@@ -85,7 +96,12 @@ pub holds : (cells groups n at : ℕ) → cells % 5 ≡ 0 → at < n * cells →
     let rest = at - g.first * cells in
     Holds cells (suc groups) n at (block_at rest g) (cell_at (cells / 5) rest g))
 holds cells groups n at f h =
-    let some : 0 < cells = elim cells as (λ (k : ℕ). at < n * k → 0 < k) [ zero ↦ (λ (x : at < n * 0). absurd (omega arith)) | suc k ↦ (λ (x : at < n * suc k). omega arith) ] h in
+    let some : 0 < cells =
+    elim cells as (λ (k : ℕ). at < n * k → 0 < k) [
+      | zero ↦ (λ (x : at < n * 0). absurd (omega arith))
+      | suc k ↦
+          (λ (x : at < n * suc k). omega arith)
+    ] h in
     let inside : at / cells < n = div_below at cells n some h in
     let g = group_of n (suc groups) (at / cells) in
     let rest = at - g.first * cells in
@@ -137,16 +153,19 @@ only cells groups n at b q f hb hq e =
     let there : q ≡ cell_at r z g = rw (p.column, p.row) (sym back) in
     rw (one, rest) (here, there)
 
-pub below_in : (cells groups n block cell : ℕ) (g : Group) → 0 < groups → g ≡ group_of n groups block → cells % 5 ≡ 0 → block < n → cell < cells → in_group cells g block cell < n * cells
+pub below_in : (cells groups n block cell : ℕ) (g : Group) → 0 < groups → g ≡ group_of n groups block → cells % 5 ≡ 0 → block < n
+    → cell < cells → in_group cells g block cell < n * cells
 below_in cells zero n block cell g some e f b c = absurd (omega arith)
 below_in cells (suc groups) n block cell g some e f b c = rw e (position_below cells (suc groups) n block cell f b c)
 
-pub holds_at : (cells groups n at : ℕ) (g : Group) → 0 < groups → g ≡ group_of n groups (at / cells) → cells % 5 ≡ 0 → at < n * cells →
+pub holds_at : (cells groups n at : ℕ) (g : Group) → 0 < groups → g ≡ group_of n groups (at / cells) → cells % 5 ≡ 0
+    → at < n * cells →
     Holds cells groups n at (block_at (at - g.first * cells) g) (cell_at (cells / 5) (at - g.first * cells) g)
 holds_at cells zero n at g some e f h = absurd (omega arith)
 holds_at cells (suc groups) n at g some e f h = rw e (holds cells groups n at f h)
 
-pub only_at : (cells groups n at : ℕ) (g : Group) → 0 < groups → g ≡ group_of n groups (at / cells) → cells % 5 ≡ 0 → (b q : ℕ) → b < n → q < cells → position cells groups n b q ≡ at →
+pub only_at : (cells groups n at : ℕ) (g : Group) → 0 < groups → g ≡ group_of n groups (at / cells) → cells % 5 ≡ 0 → (b q : ℕ)
+    → b < n → q < cells → position cells groups n b q ≡ at →
     (b ≡ block_at (at - g.first * cells) g) × (q ≡ cell_at (cells / 5) (at - g.first * cells) g)
 only_at cells zero n at g some e f b q hb hq h = absurd (omega arith)
 only_at cells (suc groups) n at g some e f b q hb hq h = rw e (only cells groups n at b q f hb hq h)

@@ -38,7 +38,8 @@ pub record Ready (run : Run) : Type 0 where
 pub ready : (c : Config) (shape : FrameShape) (address : ℕ) (run : Run) → RunsAt c shape address run → Ready run
 ready c shape address run a =
     let r = a.runs in
-    let row = row_below run.row run.rows (run.columns * run.size) (run.columns * run.block + run.column) (omega (arith, r.within, r.some)) in
+    let row = row_below run.row run.rows (run.columns * run.size) (run.columns * run.block + run.column)
+    (omega (arith, r.within, r.some)) in
     record { few = r.few; row = row; block = r.block; column = r.column; left = r.some }
 
 -- its next cell stands at the address
@@ -49,7 +50,8 @@ found_run c shape address run a =
     let is = ready c shape address run a in
     let h = r.holds run.row run.block run.column is.row r.block r.column in
     let none : 0 < a.limit = omega (arith, r.some, r.most) in
-    let here : position_of c shape a.plp (r.first + run.block) (run.column * run.rows + run.row) ≡ a.at + 0 = omega (arith, h.value, r.here) in
+    let here : position_of c shape a.plp (r.first + run.block) (run.column * run.rows + run.row) ≡ a.at + 0 =
+    omega (arith, h.value, r.here) in
     let first : address_at c shape a.plp (a.at + 0) ≡ address = omega (arith, a.addresses 0 none) in
     record {
       plp = a.plp;
@@ -60,18 +62,23 @@ found_run c shape address run a =
     }
 
 pub read : (c : Config) (shape : FrameShape) (address : ℕ) (run : Run) (cell : Cell) → Passes c shape → RunsAt c shape address run
-    → cell.ordinal ≡ run.first + run.block → cell.cell ≡ run.column * run.rows + run.row → Some cell ≡ get (cell_map c shape) address
+    → cell.ordinal ≡ run.first + run.block → cell.cell ≡ run.column * run.rows + run.row
+    → Some cell ≡ get (cell_map c shape) address
 read c shape address run cell passes a e f =
     let same : cell ≡ record { ordinal = run.first + run.block; cell = run.column * run.rows + run.row } =
-    ap (λ (n : ℕ). record { ordinal = n; cell = cell.cell }) e ∙ ap (λ (n : ℕ). record { ordinal = run.first + run.block; cell = n }) f in
+    ap (λ (n : ℕ). record { ordinal = n; cell = cell.cell }) e
+    ∙ ap (λ (n : ℕ). record { ordinal = run.first + run.block; cell = n }) f in
     ap (λ (x : Cell). Some x) same
-    ∙ sym (get-found c shape address (record { ordinal = run.first + run.block; cell = run.column * run.rows + run.row }) passes (found_run c shape address run a))
+    ∙ sym (get-found c shape address (record { ordinal = run.first + run.block; cell = run.column * run.rows + run.row }) passes
+    (found_run c shape address run a))
 
 -- one step on
-advance : (c : Config) (shape : FrameShape) (address : ℕ) (run next : Run) → RunsAt c shape address run → Steps run next → 0 < next.left → RunsAt c shape (address + 1) next
+advance : (c : Config) (shape : FrameShape) (address : ℕ) (run next : Run) → RunsAt c shape address run → Steps run next
+    → 0 < next.left → RunsAt c shape (address + 1) next
 advance c shape address run next a s some =
     let r = a.runs in
-    let place : next.row * (run.columns * run.size) + (run.columns * next.block + next.column) ≡ place_in run + 1 = rw (s.columns, s.size) at s.place in
+    let place : next.row * (run.columns * run.size) + (run.columns * next.block + next.column) ≡ place_in run + 1 =
+    rw (s.columns, s.size) at s.place in
     record {
       plp = a.plp;
       at = a.at + 1;
@@ -80,7 +87,8 @@ advance c shape address run next a s some =
       runs = record {
         first = r.first;
         ordinal = s.first ∙ r.ordinal;
-        holds = λ row block column hr hb hc. rw (s.rows, s.columns, s.size) (r.holds row block column (rw s.rows at hr) (rw s.size at hb) (rw s.columns at hc));
+        holds = λ row block column hr hb hc. rw (s.rows, s.columns, s.size)
+            (r.holds row block column (rw s.rows at hr) (rw s.size at hb) (rw s.columns at hc));
         here = omega (arith, r.here, s.place);
         block = s.block;
         column = s.column;
@@ -91,11 +99,13 @@ advance c shape address run next a s some =
       };
       addresses = λ i less.
           let e : a.at + 1 + i ≡ a.at + (i + 1) = omega arith in
-          let there : address_at c shape a.plp (a.at + (i + 1)) ≡ address + 1 + i = omega (arith, a.addresses (i + 1) (omega arith)) in
+          let there : address_at c shape a.plp (a.at + (i + 1)) ≡ address + 1 + i =
+          omega (arith, a.addresses (i + 1) (omega arith)) in
           ap (λ (p : ℕ). address_at c shape a.plp p) e ∙ there;
     }
 
-pub reading_on : (c : Config) (shape : FrameShape) (address : ℕ) (before run next : Run) (old mark : Mark) (dummy : ℕ) → IsReading c shape address before old dummy → address < c.cells → dummy ≡ 0
+pub reading_on : (c : Config) (shape : FrameShape) (address : ℕ) (before run next : Run) (old mark : Mark) (dummy : ℕ)
+    → IsReading c shape address before old dummy → address < c.cells → dummy ≡ 0
     → RunsAt c shape address run → IsMark c shape mark → Steps run next → IsReading c shape (address + 1) next mark dummy
 reading_on c shape address before run next old mark dummy is inside none a m s = record {
   plps = is.plps;
@@ -109,7 +119,8 @@ reading_on c shape address before run next old mark dummy is inside none a m s =
 }
 
 -- the same of the run in hand
-pub reading_hand : (c : Config) (shape : FrameShape) (address : ℕ) (run next : Run) (mark : Mark) (dummy : ℕ) → IsReading c shape address run mark dummy → address < c.cells → 0 < run.left
+pub reading_hand : (c : Config) (shape : FrameShape) (address : ℕ) (run next : Run) (mark : Mark) (dummy : ℕ)
+    → IsReading c shape address run mark dummy → address < c.cells → 0 < run.left
     → Steps run next → IsReading c shape (address + 1) next mark dummy
 reading_hand c shape address run next mark dummy is inside some s =
     let none : dummy ≡ 0 = elim (cases_lt 0 dummy) [
@@ -118,8 +129,9 @@ reading_hand c shape address run next mark dummy is inside some s =
     ] in
     reading_on c shape address run run next mark mark dummy is inside none (is.next some) is.first s
 
--- where no cell stands, as many dummy addresses as were counted
-pub reading_none : (c : Config) (shape : FrameShape) (address : ℕ) (run : Run) (mark : Mark) (old dummy : ℕ) → IsReading c shape address run mark old → address < c.cells → run.left ≡ 0
+-- if no cell stands, as many dummy addresses as were counted
+pub reading_none : (c : Config) (shape : FrameShape) (address : ℕ) (run : Run) (mark : Mark) (old dummy : ℕ)
+    → IsReading c shape address run mark old → address < c.cells → run.left ≡ 0
     → AreDummy c shape (address + 1) dummy → IsReading c shape (address + 1) run mark dummy
 reading_none c shape address run mark old dummy is inside end free = record {
   plps = is.plps;
@@ -133,7 +145,8 @@ reading_none c shape address run mark old dummy is inside end free = record {
 }
 
 -- one of them less
-pub reading_less : (c : Config) (shape : FrameShape) (address : ℕ) (run : Run) (mark : Mark) (dummy : ℕ) → IsReading c shape address run mark dummy → address < c.cells → 0 < dummy
+pub reading_less : (c : Config) (shape : FrameShape) (address : ℕ) (run : Run) (mark : Mark) (dummy : ℕ)
+    → IsReading c shape address run mark dummy → address < c.cells → 0 < dummy
     → IsReading c shape (address + 1) run mark (dummy - 1)
 reading_less c shape address run mark dummy is inside some = record {
   plps = is.plps;
@@ -146,24 +159,31 @@ reading_less c shape address run mark dummy is inside some = record {
   one = λ less. is.one some;
 }
 
-pub dummy_here : (c : Config) (shape : FrameShape) (address : ℕ) (run : Run) (mark : Mark) (dummy : ℕ) → IsReading c shape address run mark dummy → 0 < dummy → None ≡ get (cell_map c shape) address
+pub dummy_here : (c : Config) (shape : FrameShape) (address : ℕ) (run : Run) (mark : Mark) (dummy : ℕ)
+    → IsReading c shape address run mark dummy → 0 < dummy → None ≡ get (cell_map c shape) address
 dummy_here c shape address run mark dummy is some =
-    sym (get-none c shape address (λ plp b q cell here. (let end = is.free plp b q cell (omega (arith, here)) in let never : ⊥ = omega (arith, end, here, some) in never)))
+    sym (get-none c shape address
+    (λ plp b q cell here. (let end = is.free plp b q cell (omega (arith, here)) in
+    let never : ⊥ = omega (arith, end, here, some) in never)))
 
 -- a run begins where a PLP has a place of a slice
-pub begins : (c : Config) (shape : FrameShape) (plp : ℕ) (a : Slices) (interval address wide k t cells interleave count before at limit : ℕ) (run : Run)
+pub begins : (c : Config) (shape : FrameShape) (plp : ℕ) (a : Slices)
+    (interval address wide k t cells interleave count before at limit : ℕ) (run : Run)
     → IsPlan c → plp < length c.plps → a ≡ slices_of c shape plp → interval ≡ shape.interval → wide ≡ address
-    → cells ≡ block_cells c plp → interleave ≡ (plp_at c.plps plp).interleave → count ≡ slice_index shape.counts plp → before ≡ sum (take plp shape.counts)
+    → cells ≡ block_cells c plp → interleave ≡ (plp_at c.plps plp).interleave → count ≡ slice_index shape.counts plp
+    → before ≡ sum (take plp shape.counts)
     → k < a.count → t < a.len → a.start + k * interval + t ≡ wide → at ≡ k * a.len + t → limit ≡ a.len - t
     → RunsFrom cells interleave count before at limit run → RunsAt c shape address run
-begins c shape plp a interval address wide k t cells interleave count before at limit run is inside e f g h l m o hk ht here place rest runs =
+begins c shape plp a interval address wide k t cells interleave count before at limit run is inside e f g h l m o hk ht here place
+    rest runs =
     let s = slices_of c shape plp in
     let hk' : k < s.count = rw e at hk in
     let ht' : t < s.len = rw e at ht in
     let here' : s.start + k * shape.interval + t ≡ address = rw (e, f, g) at here in
     let place' : at ≡ k * s.len + t = rw e at place in
     let rest' : limit ≡ s.len - t = rw e at rest in
-    let runs' : RunsFrom (block_cells c plp) (plp_at c.plps plp).interleave (slice_index shape.counts plp) (sum (take plp shape.counts)) at limit run = rw (h, l, m, o) at runs in
+    let runs' : RunsFrom (block_cells c plp) (plp_at c.plps plp).interleave (slice_index shape.counts plp)
+    (sum (take plp shape.counts)) at limit run = rw (h, l, m, o) at runs in
     record {
       plp = plp;
       at = at;
@@ -173,6 +193,8 @@ begins c shape plp a interval address wide k t cells interleave count before at 
       addresses = λ i less.
           let inner : t + i < s.len = omega (arith, rest', ht') in
           let p : at + i ≡ k * s.len + (t + i) = omega (arith, place') in
-          let law : address_at c shape plp (k * s.len + (t + i)) ≡ s.start + k * shape.interval + (t + i) = address_law (in_type2 c plp) (cells_of c shape.counts plp) c.sub_slices (slice_index shape.starts plp) shape.interval k (t + i) hk' inner in
+          let law : address_at c shape plp (k * s.len + (t + i)) ≡ s.start + k * shape.interval + (t + i) =
+          address_law (in_type2 c plp) (cells_of c shape.counts plp) c.sub_slices
+          (slice_index shape.starts plp) shape.interval k (t + i) hk' inner in
           ap (λ (q : ℕ). address_at c shape plp q) p ∙ omega (arith, law, here');
     }

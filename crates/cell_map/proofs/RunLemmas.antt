@@ -12,7 +12,8 @@ use Rattle.cell_map.proofs.RadixLemmas.{radix_whole}
 in_rows : (cells length n : ℕ) (g : Group) → cells % 5 ≡ 0 → g.first + g.size ≤ n
     → ((other : ℕ) → g.first ≤ other → other < g.first + g.size → group_of n (suc length) other ≡ g)
     → (row block column : ℕ) → row < cells / 5 → block < g.size → column < 5
-    → Holds cells (suc length) n (g.first * cells + (row * (5 * g.size) + (5 * block + column))) (g.first + block) (column * (cells / 5) + row)
+    → Holds cells (suc length) n (g.first * cells + (row * (5 * g.size) + (5 * block + column))) (g.first + block)
+    (column * (cells / 5) + row)
 in_rows cells length n g f whole same row block column hr hb hc =
     let r : ℕ = cells / 5 in
     let cell : ℕ = column * r + row in
@@ -22,11 +23,17 @@ in_rows cells length n g f whole same row block column hr hb hc =
     let m : cell % r ≡ row = mod-mul-add column r row hr in
     let inner : g.first + block - g.first ≡ block = omega arith in
     let small : cell < r * 5 = mul-add-lt column r row 5 hc hr in
-    let again : in_group cells g (g.first + block) cell ≡ g.first * cells + (row * (5 * g.size) + (5 * block + column)) = rw (q, m, inner) (omega arith) in
-    record { sent = omega (arith, whole); within = omega (arith, small, fifth); value = ap (λ (x : Group). in_group cells x (g.first + block) cell) one ∙ again }
+    let again : in_group cells g (g.first + block) cell ≡ g.first * cells + (row * (5 * g.size) + (5 * block + column)) =
+    rw (q, m, inner) (omega arith) in
+    record {
+      sent = omega (arith, whole);
+      within = omega (arith, small, fifth);
+      value = ap (λ (x : Group). in_group cells x (g.first + block) cell) one ∙ again;
+    }
 
 -- a run begins at a position of a group
-grouped : (cells length n before at limit left : ℕ) (g : Group) → cells % 5 ≡ 0 → at < n * cells → n < 2 ^ 10 → cells < 2 ^ 15 → before < 2 ^ 20 → 0 < limit
+grouped : (cells length n before at limit left : ℕ) (g : Group) → cells % 5 ≡ 0 → at < n * cells → n < 2 ^ 10 → cells < 2 ^ 15
+    → before < 2 ^ 20 → 0 < limit
     → g ≡ group_of n (suc length) (at / cells) → left ≡ min limit (g.size * cells - (at - g.first * cells))
     → RunsFrom cells (suc length) n before at limit (record {
       left = left;
@@ -39,7 +46,12 @@ grouped : (cells length n before at limit left : ℕ) (g : Group) → cells % 5 
       column = (at - g.first * cells) % (5 * g.size) % 5;
     })
 grouped cells length n before at limit left g f h few short small some e m =
-    let positive : 0 < cells = elim cells as (λ (k : ℕ). at < n * k → 0 < k) [ zero ↦ (λ (x : at < n * 0). absurd (omega arith)) | suc k ↦ (λ (x : at < n * suc k). omega arith) ] h in
+    let positive : 0 < cells =
+    elim cells as (λ (k : ℕ). at < n * k → 0 < k) [
+      | zero ↦ (λ (x : at < n * 0). absurd (omega arith))
+      | suc k ↦
+          (λ (x : at < n * suc k). omega arith)
+    ] h in
     let inside : at / cells < n = div_below at cells n positive h in
     let law : Law n (suc length) (at / cells) g = rw e (group_law n (suc length) (at / cells) (omega arith) inside) in
     let l = lies_in cells at g positive law.before law.behind in
@@ -63,7 +75,8 @@ grouped cells length n before at limit left g f h few short small some e m =
       few = (omega (arith, short, fifth), omega (arith, few, law.whole), omega arith, omega (arith, small, few, law.whole, has));
     }
 
-pub grouped_is : (cells length n before at limit left : ℕ) (g : Group) → 0 < length → cells % 5 ≡ 0 → at < n * cells → n < 2 ^ 10 → cells < 2 ^ 15 → before < 2 ^ 20 → 0 < limit
+pub grouped_is : (cells length n before at limit left : ℕ) (g : Group) → 0 < length → cells % 5 ≡ 0 → at < n * cells → n < 2 ^ 10
+    → cells < 2 ^ 15 → before < 2 ^ 20 → 0 < limit
     → g ≡ group_of n length (at / cells) → left ≡ min limit (g.size * cells - (at - g.first * cells))
     → RunsFrom cells length n before at limit (record {
       left = left;
@@ -76,30 +89,66 @@ pub grouped_is : (cells length n before at limit left : ℕ) (g : Group) → 0 <
       column = (at - g.first * cells) % (5 * g.size) % 5;
     })
 grouped_is cells zero n before at limit left g long f h few short small some e m = absurd (omega arith)
-grouped_is cells (suc length) n before at limit left g long f h few short small some e m = grouped cells length n before at limit left g f h few short small some e m
+grouped_is cells (suc length) n before at limit left g long f h few short small some e m =
+    grouped cells length n before at limit left g f h few short small some e m
 
 -- and lies within it
-pub lies_within : (cells length n at : ℕ) (g : Group) → 0 < length → at < n * cells → g.first ≤ at / cells → at / cells < g.first + g.size
+pub lies_within : (cells length n at : ℕ) (g : Group) → 0 < length → at < n * cells → g.first ≤ at / cells
+    → at / cells < g.first + g.size
     → (g.first * cells ≤ at) × (at - g.first * cells < g.size * cells)
 lies_within cells length n at g long h before behind =
-    let positive : 0 < cells = elim cells as (λ (k : ℕ). at < n * k → 0 < k) [ zero ↦ (λ (x : at < n * 0). absurd (omega arith)) | suc k ↦ (λ (x : at < n * suc k). omega arith) ] h in
+    let positive : 0 < cells =
+    elim cells as (λ (k : ℕ). at < n * k → 0 < k) [
+      | zero ↦ (λ (x : at < n * 0). absurd (omega arith))
+      | suc k ↦
+          (λ (x : at < n * suc k). omega arith)
+    ] h in
     let l = lies_in cells at g positive before behind in
     (l.from, l.to)
 
 -- one step, to the next column, block or row
 pub to_column : (run : Run) → 0 < run.left → run.block < run.size → run.column + 1 < run.columns
     → Steps run (record run { left = run.left - 1; column = run.column + 1 })
-to_column run some block column = record { first = refl; rows = refl; columns = refl; size = refl; place = omega arith; left = omega arith; block = block; column = column }
+to_column run some block column =
+    record {
+      first = refl;
+      rows = refl;
+      columns = refl;
+      size = refl;
+      place = omega arith;
+      left = omega arith;
+      block = block;
+      column = column;
+    }
 
 pub to_block : (run : Run) → 0 < run.left → run.column < run.columns → run.columns ≤ run.column + 1 → run.block + 1 < run.size
     → Steps run (record run { left = run.left - 1; column = 0; block = run.block + 1 })
 to_block run some column last block =
     let e : run.columns * (run.block + 1) ≡ run.columns * run.block + run.columns = omega arith in
-    record { first = refl; rows = refl; columns = refl; size = refl; place = omega (arith, e); left = omega arith; block = block; column = omega arith }
+    record {
+      first = refl;
+      rows = refl;
+      columns = refl;
+      size = refl;
+      place = omega (arith, e);
+      left = omega arith;
+      block = block;
+      column = omega arith;
+    }
 
-pub to_row : (run : Run) → 0 < run.left → run.column < run.columns → run.columns ≤ run.column + 1 → run.block < run.size → run.size ≤ run.block + 1
+pub to_row : (run : Run) → 0 < run.left → run.column < run.columns → run.columns ≤ run.column + 1 → run.block < run.size
+    → run.size ≤ run.block + 1
     → Steps run (record run { left = run.left - 1; column = 0; block = 0; row = run.row + 1 })
 to_row run some column last block end =
     let size : run.block + 1 ≡ run.size = omega arith in
     let e : run.columns * (run.block + 1) ≡ run.columns * run.size = ap (λ (n : ℕ). run.columns * n) size in
-    record { first = refl; rows = refl; columns = refl; size = refl; place = omega (arith, e); left = omega arith; block = omega arith; column = omega arith }
+    record {
+      first = refl;
+      rows = refl;
+      columns = refl;
+      size = refl;
+      place = omega (arith, e);
+      left = omega arith;
+      block = omega arith;
+      column = omega arith;
+    }

@@ -1,5 +1,6 @@
 -- What it means for slices that cells share an address, or stand beyond the end.
-use Rattle.std.proofs.Common.{◌≡◌, ℕ, ◌+◌, ◌-◌, ◌*◌, ◌<◌, ◌≤◌, ◌↔◌, ◌≢◌, ◌⊎◌, ⊎_elim, inl, inr, Bool, true, false, cond, ltb, eqb, ◌&&◌, rules, IsTrue, length, refl, ap, sym, ◌∙◌, subst, arith}
+use Rattle.std.proofs.Common.{◌≡◌, ℕ, ◌+◌, ◌-◌, ◌*◌, ◌<◌, ◌≤◌, ◌↔◌, ◌≢◌, ◌⊎◌, ⊎_elim, inl, inr, Bool, true, false, cond, ltb, eqb}
+use Rattle.std.proofs.Common.{◌&&◌, rules, IsTrue, length, refl, ap, sym, ◌∙◌, subst, arith}
 use Rattle.std.specs.Prelude.{slice_index}
 use Rattle.std.proofs.lemmas.Bool.{ltb-true, ltb-false}
 use Rattle.std.proofs.lemmas.Nat.{mul-le, same_from_place, mul-add-lt}
@@ -20,16 +21,26 @@ use Rattle.cell_map.proofs.MeetingLemmas.{more_below}
 use Rattle.terms.proofs.CaseLemmas.{bool_cases}
 
 -- two PLPs
-pub meet_of_shares : (c : Config) (shape : FrameShape) (i j : ℕ) → IsPlan c → Shares c shape i j → SlicesMeet (slices_of c shape i) (slices_of c shape j) shape.interval
+pub meet_of_shares : (c : Config) (shape : FrameShape) (i j : ℕ) → IsPlan c → Shares c shape i j
+    → SlicesMeet (slices_of c shape i) (slices_of c shape j) shape.interval
 meet_of_shares c shape i j is s =
     let (k, (t, x)) = at_of_cell c shape i s.b s.q is s.one in
     let (m, (u, y)) = at_of_cell c shape j s.d s.r is s.other in
-    let e = s.same in
-    (k, (m, x.slice, y.slice, (omega (arith, e, x.address, y.address, x.inner, y.inner), omega (arith, e, x.address, y.address, x.inner, y.inner))))
+    let e = s.same in (
+      k,
+      (
+        m,
+        x.slice,
+        y.slice,
+        (omega (arith, e, x.address, y.address, x.inner, y.inner), omega (arith, e, x.address, y.address, x.inner, y.inner)),
+      ),
+    )
 
 pub shares_at : (c : Config) (shape : FrameShape) (i j k t m u : ℕ) → IsPlan c → i < length c.plps → j < length c.plps → i ≢ j →
-    k < (slices_of c shape i).count → t < (slices_of c shape i).len → m < (slices_of c shape j).count → u < (slices_of c shape j).len →
-    (slices_of c shape i).start + k * shape.interval + t ≡ (slices_of c shape j).start + m * shape.interval + u → Shares c shape i j
+    k < (slices_of c shape i).count → t < (slices_of c shape i).len → m < (slices_of c shape j).count
+    → u < (slices_of c shape j).len →
+    (slices_of c shape i).start + k * shape.interval + t ≡ (slices_of c shape j).start + m * shape.interval + u
+    → Shares c shape i j
 shares_at c shape i j k t m u is hi hj ne hk ht hm hu e =
     let (b, (q, one, x)) = cell_of_at c shape i k t is hi hk ht in
     let (d, (r, other, y)) = cell_of_at c shape j m u is hj hm hu in
@@ -49,21 +60,24 @@ shares_of_meet c shape i j is hi hj ne a b (k, (m, hk, hm, meets)) =
     (λ e. let le : y ≤ x = ltb-false x y e in
     shares_at c shape i j k 0 m (x - y) is hi hj ne hk a hm (omega (arith, le, one)) (omega (arith, le)))
 
-pub some_of_shares : (c : Config) (shape : FrameShape) (i j : ℕ) → IsPlan c → Shares c shape i j → (0 < (slices_of c shape i).len) × (0 < (slices_of c shape j).len)
+pub some_of_shares : (c : Config) (shape : FrameShape) (i j : ℕ) → IsPlan c → Shares c shape i j → (0 < (slices_of c shape i).len)
+    × (0 < (slices_of c shape j).len)
 some_of_shares c shape i j is s =
     let (k, (t, x)) = at_of_cell c shape i s.b s.q is s.one in
     let (m, (u, y)) = at_of_cell c shape j s.d s.r is s.other in
     (omega (arith, x.inner), omega (arith, y.inner))
 
 -- one PLP with itself
-pub self_shares : (c : Config) (shape : FrameShape) (j : ℕ) → IsPlan c → j < length c.plps → 1 < (slices_of c shape j).count → shape.interval < (slices_of c shape j).len → Shares c shape j j
+pub self_shares : (c : Config) (shape : FrameShape) (j : ℕ) → IsPlan c → j < length c.plps → 1 < (slices_of c shape j).count
+    → shape.interval < (slices_of c shape j).len → Shares c shape j j
 self_shares c shape j is h two long =
     let len : ℕ = (slices_of c shape j).len in
     let zero_in : 0 < (slices_of c shape j).count = omega arith in
     let some : 0 < len = omega arith in
     let (b, (q, one, x)) = cell_of_at c shape j 0 shape.interval is h zero_in long in
     let (d, (r, other, y)) = cell_of_at c shape j 1 0 is h two some in
-    let position_at : ℕ → ℕ → ℕ = λ b q. position (block_cells c j) (plp_at c.plps j).interleave (slice_index shape.counts j) b q in
+    let position_at : ℕ → ℕ → ℕ = λ b q. position (block_cells c j) (plp_at c.plps j).interleave
+    (slice_index shape.counts j) b q in
     record {
       b = b;
       q = q;
@@ -78,7 +92,8 @@ self_shares c shape j is h two long =
           omega (arith, e, long);
     }
 
-pub self_apart : (c : Config) (shape : FrameShape) (j : ℕ) → IsPlan c → ((slices_of c shape j).count ≤ 1) ⊎ ((slices_of c shape j).len ≤ shape.interval) → ¬ (Shares c shape j j)
+pub self_apart : (c : Config) (shape : FrameShape) (j : ℕ) → IsPlan c → ((slices_of c shape j).count ≤ 1)
+    ⊎ ((slices_of c shape j).len ≤ shape.interval) → ¬ (Shares c shape j j)
 self_apart c shape j is few s =
     let (k, (t, x)) = at_of_cell c shape j s.b s.q is s.one in
     let (m, (u, y)) = at_of_cell c shape j s.d s.r is s.other in
@@ -86,7 +101,8 @@ self_apart c shape j is few s =
     let equal : (k ≡ m) × (t ≡ u) = ⊎_elim
     (λ one. let a : k ≡ 0 = omega (arith, x.slice) in
     let b : m ≡ 0 = omega (arith, y.slice) in
-    let both : 0 * shape.interval + t ≡ 0 * shape.interval + u = sym (ap (λ (n : ℕ). n * shape.interval + t) a) ∙ same ∙ ap (λ (n : ℕ). n * shape.interval + u) b in
+    let both : 0 * shape.interval + t ≡ 0 * shape.interval + u = sym (ap (λ (n : ℕ). n * shape.interval + t) a) ∙ same
+    ∙ ap (λ (n : ℕ). n * shape.interval + u) b in
     (a ∙ sym b, omega (arith, both)))
     (λ long. let a : t < shape.interval = omega (arith, x.inner) in
     let b : u < shape.interval = omega (arith, y.inner) in
@@ -97,8 +113,10 @@ self_apart c shape j is few s =
     s.apart (refl, one.0, one.1)
 
 -- beyond the end
-pub beyond_last : (c : Config) (shape : FrameShape) (j : ℕ) → IsPlan c → j < length c.plps → 0 < (slices_of c shape j).len → 0 < (slices_of c shape j).count →
-    c.cells < (slices_of c shape j).start + ((slices_of c shape j).count - 1) * shape.interval + (slices_of c shape j).len → IsBeyond c shape j
+pub beyond_last : (c : Config) (shape : FrameShape) (j : ℕ) → IsPlan c → j < length c.plps → 0 < (slices_of c shape j).len
+    → 0 < (slices_of c shape j).count →
+    c.cells < (slices_of c shape j).start + ((slices_of c shape j).count - 1) * shape.interval + (slices_of c shape j).len
+    → IsBeyond c shape j
 beyond_last c shape j is h some any far =
     let k : ℕ = (slices_of c shape j).count - 1 in
     let t : ℕ = (slices_of c shape j).len - 1 in
@@ -108,7 +126,8 @@ beyond_last c shape j is h some any far =
     inr (b, q, cell, omega (arith, x.address, far, some))
 
 pub not_beyond : (c : Config) (shape : FrameShape) (j : ℕ) → IsPlan c → slice_index shape.counts j ≤ (plp_at c.plps j).blocks →
-    (0 < (slices_of c shape j).len → (slices_of c shape j).start + ((slices_of c shape j).count - 1) * shape.interval + (slices_of c shape j).len ≤ c.cells) → ¬ (IsBeyond c shape j)
+    (0 < (slices_of c shape j).len → (slices_of c shape j).start + ((slices_of c shape j).count - 1) * shape.interval
+    + (slices_of c shape j).len ≤ c.cells) → ¬ (IsBeyond c shape j)
 not_beyond c shape j is few last w =
     ⊎_elim
     (λ many. let never : ⊥ = omega (arith, few, many) in never)
@@ -116,27 +135,35 @@ not_beyond c shape j is few last w =
     let (k, (t, x)) = at_of_cell c shape j b q is cell in
     let some : 0 < (slices_of c shape j).len = omega (arith, x.inner) in
     let upto : k ≤ (slices_of c shape j).count - 1 = omega (arith, x.slice) in
-    let product : k * shape.interval ≤ ((slices_of c shape j).count - 1) * shape.interval = mul-le k shape.interval ((slices_of c shape j).count - 1) shape.interval upto (omega arith) in
+    let product : k * shape.interval ≤ ((slices_of c shape j).count - 1) * shape.interval =
+    mul-le k shape.interval ((slices_of c shape j).count - 1) shape.interval upto (omega arith) in
     let end = last some in
     let never : ⊥ = omega (arith, far, x.address, x.inner, product, end) in never)
     w
 
 -- the same, for what the code computed
-pub shares_law : (c : Config) (shape : FrameShape) (i j : ℕ) (a b : Slices) (test : Bool) → IsPlan c → i < length c.plps → j < length c.plps → i ≢ j →
-    a ≡ slices_of c shape i → b ≡ slices_of c shape j → 0 < a.len → 0 < b.len → IsTrue test ↔ SlicesMeet a b shape.interval → IsTrue test ↔ Shares c shape i j
+pub shares_law : (c : Config) (shape : FrameShape) (i j : ℕ) (a b : Slices) (test : Bool) → IsPlan c → i < length c.plps
+    → j < length c.plps → i ≢ j →
+    a ≡ slices_of c shape i → b ≡ slices_of c shape j → 0 < a.len → 0 < b.len → IsTrue test ↔ SlicesMeet a b shape.interval
+    → IsTrue test ↔ Shares c shape i j
 shares_law c shape i j a b test is hi hj ne ea eb sa sb f =
     let ta : 0 < (slices_of c shape i).len = rw ea at sa in
     let tb : 0 < (slices_of c shape j).len = rw eb at sb in
     let g : IsTrue test ↔ SlicesMeet (slices_of c shape i) (slices_of c shape j) shape.interval = rw (ea, eb) at f in
     (λ t. shares_of_meet c shape i j is hi hj ne ta tb (g.0 t), λ s. g.1 (meet_of_shares c shape i j is s))
 
-pub empty_first : (c : Config) (shape : FrameShape) (i j : ℕ) (a : Slices) → IsPlan c → a ≡ slices_of c shape i → a.len ≡ 0 → ¬ (Shares c shape i j)
-empty_first c shape i j a is e none s = let z : (slices_of c shape i).len ≡ 0 = rw e at none in let x = some_of_shares c shape i j is s in let never : ⊥ = omega (arith, x.0, z) in never
+pub empty_first : (c : Config) (shape : FrameShape) (i j : ℕ) (a : Slices) → IsPlan c → a ≡ slices_of c shape i → a.len ≡ 0
+    → ¬ (Shares c shape i j)
+empty_first c shape i j a is e none s = let z : (slices_of c shape i).len ≡ 0 = rw e at none in let x =
+    some_of_shares c shape i j is s in let never : ⊥ = omega (arith, x.0, z) in never
 
-pub empty_second : (c : Config) (shape : FrameShape) (i j : ℕ) (a : Slices) → IsPlan c → a ≡ slices_of c shape j → a.len ≡ 0 → ¬ (Shares c shape i j)
-empty_second c shape i j a is e none s = let z : (slices_of c shape j).len ≡ 0 = rw e at none in let x = some_of_shares c shape i j is s in let never : ⊥ = omega (arith, x.1, z) in never
+pub empty_second : (c : Config) (shape : FrameShape) (i j : ℕ) (a : Slices) → IsPlan c → a ≡ slices_of c shape j → a.len ≡ 0
+    → ¬ (Shares c shape i j)
+empty_second c shape i j a is e none s = let z : (slices_of c shape j).len ≡ 0 = rw e at none in let x =
+    some_of_shares c shape i j is s in let never : ⊥ = omega (arith, x.1, z) in never
 
-pub self_law : (c : Config) (shape : FrameShape) (j : ℕ) (a : Slices) → IsPlan c → j < length c.plps → a ≡ slices_of c shape j → 0 < a.count → a.count ≢ 1 →
+pub self_law : (c : Config) (shape : FrameShape) (j : ℕ) (a : Slices) → IsPlan c → j < length c.plps → a ≡ slices_of c shape j
+    → 0 < a.count → a.count ≢ 1 →
     IsTrue (ltb shape.interval a.len) ↔ Shares c shape j j
 self_law c shape j a is h e some many =
     let two : 1 < a.count = omega arith in
@@ -147,11 +174,15 @@ self_law c shape j a is h e some many =
           (λ f. absurd (self_apart c shape j is (inr (ltb-false shape.interval (slices_of c shape j).len f)) s)),
     )
 
-pub self_one : (c : Config) (shape : FrameShape) (j : ℕ) (a : Slices) → IsPlan c → a ≡ slices_of c shape j → a.count ≡ 1 → ¬ (Shares c shape j j)
-self_one c shape j a is e one = let few : (slices_of c shape j).count ≡ 1 = rw e at one in self_apart c shape j is (inl (omega arith))
+pub self_one : (c : Config) (shape : FrameShape) (j : ℕ) (a : Slices) → IsPlan c → a ≡ slices_of c shape j → a.count ≡ 1
+    → ¬ (Shares c shape j j)
+self_one c shape j a is e one = let few : (slices_of c shape j).count ≡ 1 = rw e at one in
+    self_apart c shape j is (inl (omega arith))
 
-pub beyond_law : (c : Config) (shape : FrameShape) (j : ℕ) (a : Slices) → IsPlan c → j < length c.plps → slice_index shape.counts j ≤ (plp_at c.plps j).blocks →
-    a ≡ slices_of c shape j → 0 < a.count → a.len ≢ 0 → IsTrue (ltb c.cells (a.start + (a.count - 1) * shape.interval + a.len)) ↔ IsBeyond c shape j
+pub beyond_law : (c : Config) (shape : FrameShape) (j : ℕ) (a : Slices) → IsPlan c → j < length c.plps
+    → slice_index shape.counts j ≤ (plp_at c.plps j).blocks →
+    a ≡ slices_of c shape j → 0 < a.count → a.len ≢ 0 → IsTrue (ltb c.cells (a.start + (a.count - 1) * shape.interval + a.len))
+    ↔ IsBeyond c shape j
 beyond_law c shape j a is h few e any some =
     let ta : (slices_of c shape j).len ≢ 0 = rw e at some in
     let tb : 0 < (slices_of c shape j).count = rw e at any in
@@ -159,10 +190,12 @@ beyond_law c shape j a is h few e any some =
     rw e (
       λ t. beyond_last c shape j is h (omega arith) tb (ltb-true c.cells (s.start + (s.count - 1) * shape.interval + s.len) t),
       λ w. bool_cases (ltb c.cells (s.start + (s.count - 1) * shape.interval + s.len)) (λ t. t)
-          (λ f. absurd (not_beyond c shape j is few (λ x. ltb-false c.cells (s.start + (s.count - 1) * shape.interval + s.len) f) w)),
+          (λ f. absurd (not_beyond c shape j is few (λ x. ltb-false c.cells (s.start + (s.count - 1) * shape.interval + s.len) f)
+          w)),
     )
 
-pub beyond_empty : (c : Config) (shape : FrameShape) (j : ℕ) (a : Slices) → IsPlan c → slice_index shape.counts j ≤ (plp_at c.plps j).blocks →
+pub beyond_empty : (c : Config) (shape : FrameShape) (j : ℕ) (a : Slices) → IsPlan c → slice_index shape.counts j
+    ≤ (plp_at c.plps j).blocks →
     a ≡ slices_of c shape j → a.len ≡ 0 → ¬ (IsBeyond c shape j)
 beyond_empty c shape j a is few e none =
     let z : (slices_of c shape j).len ≡ 0 = rw e at none in
@@ -172,7 +205,8 @@ pub alone : (c : Config) (shape : FrameShape) (j : ℕ) → IsPlan c → Passes 
     ((slices_of c shape j).count ≡ 1) ⊎ ((slices_of c shape j).len ≤ shape.interval)
 alone c shape j is passes h =
     let s = slices_of c shape j in
-    let some : 0 < s.count = elim (in_type2 c j) as (λ (b : Bool). 0 < cond b c.sub_slices 1) [ true ↦ (sub_slices-some c is) | false ↦ omega arith ] in
+    let some : 0 < s.count = elim (in_type2 c j) as (λ (b : Bool). 0 < cond b c.sub_slices 1)
+    [ true ↦ (sub_slices-some c is) | false ↦ omega arith ] in
     bool_cases (ltb 1 s.count)
     (λ e. bool_cases (ltb shape.interval s.len)
     (λ f. let x = self_shares c shape j is h (ltb-true 1 s.count e) (ltb-true shape.interval s.len f) in
@@ -189,11 +223,23 @@ not_all_equal i j b d q r e z = search rules
 pub passes_from : (c : Config) (shape : FrameShape) → ((k : ℕ) → k < length c.plps → ¬ (IsBeyond c shape k)) →
     ((h k : ℕ) → h < length c.plps → h ≤ k → k < length c.plps → ¬ (Shares c shape h k)) → Passes c shape
 passes_from c shape near single =
-    let ordered : (i b q j d r : ℕ) → i ≤ j → IsCell c shape i b q → IsCell c shape j d r → address_of c shape i b q ≡ address_of c shape j d r → (i ≡ j) × (b ≡ d) × (q ≡ r) =
+    let ordered : (i b q j d r : ℕ) → i ≤ j → IsCell c shape i b q → IsCell c shape j d r → address_of c shape i b q
+    ≡ address_of c shape j d r → (i ≡ j) × (b ≡ d) × (q ≡ r) =
     λ i b q j d r le one other same.
     bool_cases (eqb i j && (eqb b d && eqb q r))
     (λ e. all_equal i j b d q r e)
-    (λ e. absurd (single i j one.configured le other.configured (record { b = b; q = q; d = d; r = r; one = one; other = other; same = same; apart = λ z. not_all_equal i j b d q r e z }))) in
+    (λ e. absurd (single i j one.configured le other.configured
+    (record {
+      b = b;
+      q = q;
+      d = d;
+      r = r;
+      one = one;
+      other = other;
+      same = same;
+      apart = λ z.
+          not_all_equal i j b d q r e z;
+    }))) in
     record {
       counts = λ j h. bool_cases (ltb (plp_at c.plps j).blocks (slice_index shape.counts j))
           (λ e. absurd (near j h (inl (ltb-true (plp_at c.plps j).blocks (slice_index shape.counts j) e))))
@@ -203,11 +249,13 @@ passes_from c shape near single =
           (λ e. absurd (near j cell.configured (inr (b, q, cell, ltb-false (address_of c shape j b q) c.cells e))));
       apart = λ i b q j d r one other same.
           bool_cases (ltb j i)
-          (λ e. let x = ordered j d r i b q (let lt = ltb-true j i e in omega (arith, lt)) other one (sym same) in (sym x.0, sym x.1, sym x.2))
+          (λ e. let x = ordered j d r i b q (let lt = ltb-true j i e in omega (arith, lt)) other one (sym same) in
+          (sym x.0, sym x.1, sym x.2))
           (λ e. ordered i b q j d r (ltb-false j i e) one other same);
     }
 
-pub alone_at : (c : Config) (shape : FrameShape) (j : ℕ) (a : Slices) (interval : ℕ) → IsPlan c → Passes c shape → j < length c.plps →
+pub alone_at : (c : Config) (shape : FrameShape) (j : ℕ) (a : Slices) (interval : ℕ) → IsPlan c → Passes c shape
+    → j < length c.plps →
     a ≡ slices_of c shape j → interval ≡ shape.interval → (a.count ≡ 1) ⊎ (a.len ≤ interval)
 alone_at c shape j a interval is passes h e f = rw (e, f) (alone c shape j is passes h)
 
@@ -233,7 +281,8 @@ pairs_more c shape i before here h k lt =
     let P : ℕ → Type 0 = λ h. h ≤ k → k < length c.plps → ¬ (Shares c shape h k) in
     more_below P 0 i (λ h a b. before h k b) (λ a b. here k a b) h (omega arith) lt
 
-pub nowhere : (c : Config) (shape : FrameShape) (j : ℕ) (a : Slices) (interval address wide : ℕ) → IsPlan c → a ≡ slices_of c shape j → interval ≡ shape.interval → wide ≡ address →
+pub nowhere : (c : Config) (shape : FrameShape) (j : ℕ) (a : Slices) (interval address wide : ℕ) → IsPlan c
+    → a ≡ slices_of c shape j → interval ≡ shape.interval → wide ≡ address →
     ((k t : ℕ) → k < a.count → t < a.len → ¬ (a.start + k * interval + t ≡ wide)) →
     (b q : ℕ) → IsCell c shape j b q → ¬ (address_of c shape j b q ≡ address)
 nowhere c shape j a interval address wide is e f g none b q cell here =
@@ -241,8 +290,10 @@ nowhere c shape j a interval address wide is e f g none b q cell here =
     let out = rw (e, f, g) at none in
     out k t x.slice x.inner (sym x.address ∙ here)
 
-pub leaves_free : (c : Config) (shape : FrameShape) (j : ℕ) (a : Slices) (interval address wide n : ℕ) → IsPlan c → a ≡ slices_of c shape j → interval ≡ shape.interval → wide ≡ address →
-    ((k t : ℕ) → k < a.count → t < a.len → wide ≤ a.start + k * interval + t → wide + n ≤ a.start + k * interval + t) → LeavesFree c shape j address n
+pub leaves_free : (c : Config) (shape : FrameShape) (j : ℕ) (a : Slices) (interval address wide n : ℕ) → IsPlan c
+    → a ≡ slices_of c shape j → interval ≡ shape.interval → wide ≡ address →
+    ((k t : ℕ) → k < a.count → t < a.len → wide ≤ a.start + k * interval + t → wide + n ≤ a.start + k * interval + t)
+    → LeavesFree c shape j address n
 leaves_free c shape j a interval address wide n is e f g none b q cell far =
     let (k, (t, x)) = at_of_cell c shape j b q is cell in
     let out = rw (e, f, g) at none in
@@ -250,7 +301,8 @@ leaves_free c shape j a interval address wide n is e f g none b q cell far =
     omega (arith, end, x.address)
 
 -- an address in one of its slices has a cell
-pub has_cell : (c : Config) (shape : FrameShape) (j : ℕ) (a : Slices) (interval address wide n : ℕ) → IsPlan c → j < length c.plps → a ≡ slices_of c shape j → interval ≡ shape.interval → wide ≡ address →
+pub has_cell : (c : Config) (shape : FrameShape) (j : ℕ) (a : Slices) (interval address wide n : ℕ) → IsPlan c → j < length c.plps
+    → a ≡ slices_of c shape j → interval ≡ shape.interval → wide ≡ address →
     IsIn a interval (wide + n) → HasCell c shape j (address + n)
 has_cell c shape j a interval address wide n is h e f g x =
     let hk : x.slice < (slices_of c shape j).count = rw e at x.some in
@@ -259,18 +311,26 @@ has_cell c shape j a interval address wide n is h e f g x =
     let same : (slices_of c shape j).start + x.slice * shape.interval + x.inner ≡ wide + n = rw (e, f) at x.here in
     record { block = b; cell = q; there = cell; here = at.address ∙ same ∙ ap (λ (k : ℕ). k + n) g }
 
-pub place_law : (c : Config) (shape : FrameShape) (j : ℕ) (a : Slices) (interval address wide k t : ℕ) (place : Place) (n : ℕ) → n ≡ slice_index shape.counts j → IsPlan c → j < length c.plps → a ≡ slices_of c shape j → interval ≡ shape.interval → wide ≡ address →
+pub place_law : (c : Config) (shape : FrameShape) (j : ℕ) (a : Slices) (interval address wide k t : ℕ) (place : Place) (n : ℕ)
+    → n ≡ slice_index shape.counts j → IsPlan c → j < length c.plps → a ≡ slices_of c shape j → interval ≡ shape.interval
+    → wide ≡ address →
     k < a.count → t < a.len → a.start + k * interval + t ≡ wide →
     place.block < n → place.cell < (block_cells c j) →
-    position (block_cells c j) (plp_at c.plps j).interleave n place.block place.cell ≡ k * a.len + t → PlaceOf c shape j address place
+    position (block_cells c j) (plp_at c.plps j).interleave n place.block place.cell ≡ k * a.len + t
+    → PlaceOf c shape j address place
 place_law c shape j a interval address wide k t place n same is h e f g hk ht here hb hq p =
     let hk' : k < (slices_of c shape j).count = rw e at hk in
     let ht' : t < (slices_of c shape j).len = rw e at ht in
     let here' : (slices_of c shape j).start + k * shape.interval + t ≡ address = rw (e, f, g) at here in
-    let p' : position (block_cells c j) (plp_at c.plps j).interleave (slice_index shape.counts j) place.block place.cell ≡ k * (slices_of c shape j).len + t = rw (same, e) at p in
-    record { there = record { configured = h; sent = rw same at hb; within = hq }; value = (at_place c shape j place.block place.cell k t hk' ht' p').address ∙ here' }
+    let p' : position (block_cells c j) (plp_at c.plps j).interleave (slice_index shape.counts j) place.block place.cell
+    ≡ k * (slices_of c shape j).len + t = rw (same, e) at p in
+    record {
+      there = record { configured = h; sent = rw same at hb; within = hq };
+      value = (at_place c shape j place.block place.cell k t hk' ht' p').address ∙ here';
+    }
 
-pub place_inside : (c : Config) (shape : FrameShape) (j : ℕ) (a : Slices) (k t : ℕ) → IsPlan c → j < length c.plps → a ≡ slices_of c shape j → k < a.count → t < a.len →
+pub place_inside : (c : Config) (shape : FrameShape) (j : ℕ) (a : Slices) (k t : ℕ) → IsPlan c → j < length c.plps
+    → a ≡ slices_of c shape j → k < a.count → t < a.len →
     k * a.len + t < slice_index shape.counts j * (block_cells c j)
 place_inside c shape j a k t is h e hk ht =
     let cut = cut_of c shape j is h in

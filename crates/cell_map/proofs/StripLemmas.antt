@@ -23,16 +23,29 @@ inside_of c shape address run a =
     record { few = is.few; row = is.row; block = is.block; column = is.column; some = is.left; within = a.runs.within }
 
 -- ---- the run at a block
-pub same_row : (run : Run) (block left : ℕ) → block < run.size → 0 < run.columns → IsAtBlock run block left (record run { left = left; column = 0; block = block })
-same_row run block left h some = record { first = refl; rows = refl; columns = refl; size = refl; place = omega arith; left = refl; block = h; column = refl }
+pub same_row : (run : Run) (block left : ℕ) → block < run.size → 0 < run.columns
+    → IsAtBlock run block left (record run { left = left; column = 0; block = block })
+same_row run block left h some =
+    record { first = refl; rows = refl; columns = refl; size = refl; place = omega arith; left = refl; block = h; column = refl }
 
-pub next_row : (run : Run) (block left : ℕ) → block ≡ run.size → 0 < run.size → IsAtBlock run block left (record run { left = left; column = 0; block = 0; row = run.row + 1 })
+pub next_row : (run : Run) (block left : ℕ) → block ≡ run.size → 0 < run.size
+    → IsAtBlock run block left (record run { left = left; column = 0; block = 0; row = run.row + 1 })
 next_row run block left e some =
     let all : run.columns * block ≡ run.columns * run.size = ap (λ (n : ℕ). run.columns * n) e in
-    record { first = refl; rows = refl; columns = refl; size = refl; place = omega (arith, all); left = refl; block = some; column = refl }
+    record {
+      first = refl;
+      rows = refl;
+      columns = refl;
+      size = refl;
+      place = omega (arith, all);
+      left = refl;
+      block = some;
+      column = refl;
+    }
 
 -- ---- cuts
-pub plain_cut : (run : Run) (limit : ℕ) (first : Cell) → IsInside run → run.columns ≡ 1 → run.size ≡ 1 → 0 < limit → limit ≤ run.left
+pub plain_cut : (run : Run) (limit : ℕ) (first : Cell) → IsInside run → run.columns ≡ 1 → run.size ≡ 1 → 0 < limit
+    → limit ≤ run.left
     → first.ordinal ≡ run.first + run.block → first.cell ≡ run.column * run.rows + run.row
     → IsCut run limit (record {
       strip = record { first = first; stride = 1; columns = limit; blocks = 1 };
@@ -97,7 +110,8 @@ block_cells_next run columns first is most o q b z hb hz =
       cell-is = omega (arith, q);
     }
 
-pub part_cut : (run : Run) (limit columns : ℕ) (first : Cell) → IsInside run → 0 < limit → limit ≤ run.left → columns ≤ limit → columns ≤ run.columns - run.column → 0 < columns
+pub part_cut : (run : Run) (limit columns : ℕ) (first : Cell) → IsInside run → 0 < limit → limit ≤ run.left → columns ≤ limit
+    → columns ≤ run.columns - run.column → 0 < columns
     → run.column + columns < run.columns
     → first.ordinal ≡ run.first + run.block → first.cell ≡ run.column * run.rows + run.row
     → IsCut run limit (record {
@@ -108,10 +122,20 @@ part_cut run limit columns first is some most few fits any more o q = record {
   cells = block_cells_next run columns first is fits o q;
   some = omega arith;
   most = omega arith;
-  skips = record { first = refl; rows = refl; columns = refl; size = refl; place = omega arith; left = omega arith; block = is.block; column = more };
+  skips = record {
+    first = refl;
+    rows = refl;
+    columns = refl;
+    size = refl;
+    place = omega arith;
+    left = omega arith;
+    block = is.block;
+    column = more;
+  };
 }
 
-pub end_cut : (run rest : Run) (limit columns : ℕ) (first : Cell) → IsInside run → 0 < limit → limit ≤ run.left → columns ≤ limit → columns ≤ run.columns - run.column → 0 < columns
+pub end_cut : (run rest : Run) (limit columns : ℕ) (first : Cell) → IsInside run → 0 < limit → limit ≤ run.left → columns ≤ limit
+    → columns ≤ run.columns - run.column → 0 < columns
     → run.column + columns ≡ run.columns → IsAtBlock run (run.block + 1) (run.left - columns) rest
     → first.ordinal ≡ run.first + run.block → first.cell ≡ run.column * run.rows + run.row
     → IsCut run limit (record { strip = record { first = first; stride = run.rows; columns = columns; blocks = 1 }; rest = rest })
@@ -121,13 +145,25 @@ end_cut run rest limit columns first is some most few fits any end at o q =
       cells = block_cells_next run columns first is fits o q;
       some = omega arith;
       most = omega arith;
-      skips = record { first = at.first; rows = at.rows; columns = at.columns; size = at.size; place = omega (arith, at.place, next, end); left = omega (arith, at.left); block = at.block; column = omega (arith, at.column, at.columns, is.column) };
+      skips = record {
+        first = at.first;
+        rows = at.rows;
+        columns = at.columns;
+        size = at.size;
+        place = omega (arith, at.place, next, end);
+        left = omega (arith, at.left);
+        block = at.block;
+        column =
+            omega (arith, at.column, at.columns, is.column);
+      };
     }
 
-pub blocks_cut : (run rest : Run) (whole blocks : ℕ) (first : Cell) → IsInside run → run.column ≡ 0 → 0 < whole → whole * run.columns ≤ run.left → blocks ≤ whole → blocks ≤ run.size - run.block → 0 < blocks
+pub blocks_cut : (run rest : Run) (whole blocks : ℕ) (first : Cell) → IsInside run → run.column ≡ 0 → 0 < whole
+    → whole * run.columns ≤ run.left → blocks ≤ whole → blocks ≤ run.size - run.block → 0 < blocks
     → IsAtBlock run (run.block + blocks) (run.left - blocks * run.columns) rest
     → first.ordinal ≡ run.first + run.block → first.cell ≡ run.column * run.rows + run.row
-    → IsCut run (whole * run.columns) (record { strip = record { first = first; stride = run.rows; columns = run.columns; blocks = blocks }; rest = rest })
+    → IsCut run (whole * run.columns)
+    (record { strip = record { first = first; stride = run.rows; columns = run.columns; blocks = blocks }; rest = rest })
 blocks_cut run rest whole blocks first is zero_column some most few fits any at o q =
     let fewer : blocks * run.columns ≤ whole * run.columns = mul-le blocks run.columns whole run.columns few (omega arith) in
     let turned : run.columns * blocks ≡ blocks * run.columns = omega arith in
@@ -150,17 +186,29 @@ blocks_cut run rest whole blocks first is zero_column some most few fits any at 
           };
       some = omega (arith, positive, is.column);
       most = omega (arith, fewer, turned);
-      skips = record { first = at.first; rows = at.rows; columns = at.columns; size = at.size; place = omega (arith, at.place, joined, zero_column); left = omega (arith, at.left, fewer, turned, most); block = at.block; column = omega (arith, at.column, at.columns, is.column) };
+      skips = record {
+        first = at.first;
+        rows = at.rows;
+        columns = at.columns;
+        size = at.size;
+        place = omega (arith, at.place, joined, zero_column);
+        left = omega (arith, at.left, fewer, turned, most);
+        block =
+            at.block;
+        column = omega (arith, at.column, at.columns, is.column);
+      };
     }
 
 -- ---- what a strip has
 -- a cell so many steps on stands so many addresses on
-found_next : (c : Config) (shape : FrameShape) (address : ℕ) (run : Run) (i ordinal cell : ℕ) → RunsAt c shape address run → i < run.left → (next : IsNext run i ordinal cell)
+found_next : (c : Config) (shape : FrameShape) (address : ℕ) (run : Run) (i ordinal cell : ℕ) → RunsAt c shape address run
+    → i < run.left → (next : IsNext run i ordinal cell)
     → StandsAt c shape (address + i) (record { ordinal = run.first + next.block; cell = next.column * run.rows + next.row })
 found_next c shape address run i ordinal cell a less next =
     let r = a.runs in
     let h = r.holds next.row next.block next.column next.in-rows next.in-group next.in-block in
-    let here : position_of c shape a.plp (r.first + next.block) (next.column * run.rows + next.row) ≡ a.at + i = omega (arith, h.value, r.here, next.place) in
+    let here : position_of c shape a.plp (r.first + next.block) (next.column * run.rows + next.row) ≡ a.at + i =
+    omega (arith, h.value, r.here, next.place) in
     let there : address_at c shape a.plp (a.at + i) ≡ address + i = a.addresses i (omega (arith, less, r.most)) in
     record {
       plp = a.plp;
@@ -170,26 +218,33 @@ found_next c shape address run i ordinal cell a less next =
       ordinal = omega (arith, r.ordinal);
     }
 
-read_next : (c : Config) (shape : FrameShape) (address : ℕ) (run : Run) (i ordinal cell : ℕ) → Passes c shape → RunsAt c shape address run → i < run.left → IsNext run i ordinal cell
+read_next : (c : Config) (shape : FrameShape) (address : ℕ) (run : Run) (i ordinal cell : ℕ) → Passes c shape
+    → RunsAt c shape address run → i < run.left → IsNext run i ordinal cell
     → get (cell_map c shape) (address + i) ≡ Some (record { ordinal = ordinal; cell = cell })
 read_next c shape address run i ordinal cell passes a less next =
-    get-found c shape (address + i) (record { ordinal = run.first + next.block; cell = next.column * run.rows + next.row }) passes (found_next c shape address run i ordinal cell a less next)
+    get-found c shape (address + i) (record { ordinal = run.first + next.block; cell = next.column * run.rows + next.row }) passes
+    (found_next c shape address run i ordinal cell a less next)
     ∙ ap₂ (λ (o q : ℕ). Some (record { ordinal = o; cell = q })) (sym next.ordinal-is) (sym next.cell-is)
 
-pub strip_here : (c : Config) (shape : FrameShape) (address most : ℕ) (run : Run) (cut : Cut) → Passes c shape → RunsAt c shape address run → IsCut run most cut → HasStrip c shape address cut.strip
+pub strip_here : (c : Config) (shape : FrameShape) (address most : ℕ) (run : Run) (cut : Cut) → Passes c shape
+    → RunsAt c shape address run → IsCut run most cut → HasStrip c shape address cut.strip
 strip_here c shape address most run cut passes a is b z hb hz =
-    let wide : z + cut.strip.columns * b < cut.strip.columns * cut.strip.blocks = mul-add-lt' b cut.strip.columns z cut.strip.blocks hb hz in
-    read_next c shape address run (cut.strip.columns * b + z) (cut.strip.first.ordinal + b) (cut.strip.first.cell + z * cut.strip.stride) passes a
+    let wide : z + cut.strip.columns * b < cut.strip.columns * cut.strip.blocks =
+    mul-add-lt' b cut.strip.columns z cut.strip.blocks hb hz in
+    read_next c shape address run (cut.strip.columns * b + z) (cut.strip.first.ordinal + b)
+    (cut.strip.first.cell + z * cut.strip.stride) passes a
     (omega (arith, wide, is.skips.left)) (is.cells b z hb hz)
   where
     mul-add-lt' : (b w z h : ℕ) → b < h → z < w → z + w * b < w * h
     mul-add-lt' b w z h p q = let m : b * w + z < w * h = mul-add-lt b w z h p q in omega (arith, m)
 
 -- ---- so many steps on
-skipped : (c : Config) (shape : FrameShape) (address n : ℕ) (run next : Run) → RunsAt c shape address run → Skips run next n → 0 < next.left → RunsAt c shape (address + n) next
+skipped : (c : Config) (shape : FrameShape) (address n : ℕ) (run next : Run) → RunsAt c shape address run → Skips run next n
+    → 0 < next.left → RunsAt c shape (address + n) next
 skipped c shape address n run next a s some =
     let r = a.runs in
-    let place : next.row * (run.columns * run.size) + (run.columns * next.block + next.column) ≡ place_in run + n = rw (s.columns, s.size) at s.place in
+    let place : next.row * (run.columns * run.size) + (run.columns * next.block + next.column) ≡ place_in run + n =
+    rw (s.columns, s.size) at s.place in
     record {
       plp = a.plp;
       at = a.at + n;
@@ -198,7 +253,8 @@ skipped c shape address n run next a s some =
       runs = record {
         first = r.first;
         ordinal = s.first ∙ r.ordinal;
-        holds = λ row block column hr hb hc. rw (s.rows, s.columns, s.size) (r.holds row block column (rw s.rows at hr) (rw s.size at hb) (rw s.columns at hc));
+        holds = λ row block column hr hb hc. rw (s.rows, s.columns, s.size)
+            (r.holds row block column (rw s.rows at hr) (rw s.size at hb) (rw s.columns at hc));
         here = omega (arith, r.here, s.place);
         block = s.block;
         column = s.column;
@@ -209,11 +265,13 @@ skipped c shape address n run next a s some =
       };
       addresses = λ i less.
           let e : a.at + n + i ≡ a.at + (n + i) = omega arith in
-          let there : address_at c shape a.plp (a.at + (n + i)) ≡ address + n + i = omega (arith, a.addresses (n + i) (omega arith)) in
+          let there : address_at c shape a.plp (a.at + (n + i)) ≡ address + n + i =
+          omega (arith, a.addresses (n + i) (omega arith)) in
           ap (λ (p : ℕ). address_at c shape a.plp p) e ∙ there;
     }
 
-pub reading_found : (c : Config) (shape : FrameShape) (address n : ℕ) (before run next : Run) (old mark : Mark) (dummy : ℕ) → IsReading c shape address before old dummy → address + n ≤ c.cells → dummy ≡ 0
+pub reading_found : (c : Config) (shape : FrameShape) (address n : ℕ) (before run next : Run) (old mark : Mark) (dummy : ℕ)
+    → IsReading c shape address before old dummy → address + n ≤ c.cells → dummy ≡ 0
     → RunsAt c shape address run → IsMark c shape mark → Skips run next n → IsReading c shape (address + n) next mark dummy
 reading_found c shape address n before run next old mark dummy is inside none a m s = record {
   plps = is.plps;
@@ -227,7 +285,8 @@ reading_found c shape address n before run next old mark dummy is inside none a 
 }
 
 -- the same of the run in hand
-pub reading_cut : (c : Config) (shape : FrameShape) (address n : ℕ) (run next : Run) (mark : Mark) (dummy : ℕ) → IsReading c shape address run mark dummy → address + n ≤ c.cells → 0 < run.left
+pub reading_cut : (c : Config) (shape : FrameShape) (address n : ℕ) (run next : Run) (mark : Mark) (dummy : ℕ)
+    → IsReading c shape address run mark dummy → address + n ≤ c.cells → 0 < run.left
     → Skips run next n → IsReading c shape (address + n) next mark dummy
 reading_cut c shape address n run next mark dummy is inside some s =
     let none : dummy ≡ 0 = elim (cases_lt 0 dummy) [
@@ -237,6 +296,9 @@ reading_cut c shape address n run next mark dummy is inside some s =
     reading_found c shape address n run run next mark mark dummy is inside none (is.next some) is.first s
 
 -- where none stands
-pub dummies_here : (c : Config) (shape : FrameShape) (address i : ℕ) (run : Run) (mark : Mark) (dummy : ℕ) → IsReading c shape address run mark dummy → i < dummy → get (cell_map c shape) (address + i) ≡ None
+pub dummies_here : (c : Config) (shape : FrameShape) (address i : ℕ) (run : Run) (mark : Mark) (dummy : ℕ)
+    → IsReading c shape address run mark dummy → i < dummy → get (cell_map c shape) (address + i) ≡ None
 dummies_here c shape address i run mark dummy is less =
-    get-none c shape (address + i) (λ plp b q cell here. (let end = is.free plp b q cell (omega (arith, here)) in let never : ⊥ = omega (arith, end, here, less) in never))
+    get-none c shape (address + i)
+    (λ plp b q cell here. (let end = is.free plp b q cell (omega (arith, here)) in
+    let never : ⊥ = omega (arith, end, here, less) in never))

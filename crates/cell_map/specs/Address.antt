@@ -14,13 +14,15 @@ pub record IsCell (c : Config) (shape : FrameShape) (plp block cell : ℕ) : Typ
 
 -- its position among the cells of its PLP
 abbrev pub position_of : Config → FrameShape → ℕ → ℕ → ℕ → ℕ
-position_of c shape plp block cell = position (block_cells c plp) (plp_at c.plps plp).interleave (slice_index shape.counts plp) block cell
+position_of c shape plp block cell =
+    position (block_cells c plp) (plp_at c.plps plp).interleave (slice_index shape.counts plp) block cell
 
 -- the address of a position: of type 1 from PLP_START on; of type 2 in sub-slices, each SUB_SLICE_INTERVAL after the one before
 abbrev pub address_at : Config → FrameShape → ℕ → ℕ → ℕ
 address_at c shape plp position =
     if in_type2 c plp
-    then slice_index shape.starts plp + position / slice_of c shape.counts plp * shape.interval + position % slice_of c shape.counts plp
+    then slice_index shape.starts plp + position / slice_of c shape.counts plp * shape.interval
+    + position % slice_of c shape.counts plp
     else slice_index shape.starts plp + position
 
 -- the address of a cell

@@ -1,4 +1,5 @@
--- The map of the cells of a frame (EN 302 755, clauses 6.5 and 8): which cell stands at an address. An address without a cell is dummy.
+-- The map of the cells of a frame (EN 302 755, clauses 6.5 and 8): which cell stands at an address. An address without a cell is
+-- dummy.
 use Rattle.std.specs.Prelude.{◌≡◌, ℕ, ◌+◌, ◌<◌, ◌≤◌, ◌⊎◌, List, length, take, map, sum, slice_index}
 use Rattle.std.specs.FinMap.{FinMap, from_entries}
 use Rattle.std.specs.List.{flat_map, range_with_len}

@@ -28,7 +28,8 @@ ShapePasses = (c : Config) (counts : List ℕ) → IsPlan c → CountsFit c coun
 -- the map has each cell at its address
 abbrev pub MapHasEachCell : Type 0
 MapHasEachCell = (c : Config) (shape : FrameShape) (plp block cell : ℕ) → Passes c shape → IsCell c shape plp block cell
-    → get (cell_map c shape) (address_of c shape plp block cell) ≡ Some (record { ordinal = ordinal_of shape plp block; cell = cell })
+    → get (cell_map c shape) (address_of c shape plp block cell)
+    ≡ Some (record { ordinal = ordinal_of shape plp block; cell = cell })
 
 -- and nothing else: what it has at an address is a cell with that address
 pub record StandsAt (c : Config) (shape : FrameShape) (address : ℕ) (found : Cell) : Type 0 where
@@ -39,14 +40,18 @@ pub record StandsAt (c : Config) (shape : FrameShape) (address : ℕ) (found : C
   pub ordinal : found.ordinal ≡ ordinal_of shape plp block
 
 abbrev pub MapHasOnlyCells : Type 0
-MapHasOnlyCells = (c : Config) (shape : FrameShape) (address : ℕ) (found : Cell) → get (cell_map c shape) address ≡ Some found → StandsAt c shape address found
+MapHasOnlyCells = (c : Config) (shape : FrameShape) (address : ℕ) (found : Cell) → get (cell_map c shape) address ≡ Some found
+    → StandsAt c shape address found
 
--- an address is dummy exactly where no cell has it
+-- an address is dummy exactly if no cell has it
 abbrev pub DummyHasNoCell : Type 0
 DummyHasNoCell = (c : Config) (shape : FrameShape) (address : ℕ) → Passes c shape
-    → (get (cell_map c shape) address ≡ None) ↔ ((plp block cell : ℕ) → IsCell c shape plp block cell → ¬ (address_of c shape plp block cell ≡ address))
+    → (get (cell_map c shape) address ≡ None)
+    ↔ ((plp block cell : ℕ) → IsCell c shape plp block cell → ¬ (address_of c shape plp block cell ≡ address))
 
--- the numbers of each cell are small, so that a word of 32 bits holds both: a frame has 2,071 blocks at most, of 32,400 cells at most
+-- the numbers of each cell are small, so that a word of 32 bits holds both: a frame has 2,071 blocks at most, of 32,400 cells at
+-- most
 abbrev pub CellsFit : Type 0
-CellsFit = (c : Config) (shape : FrameShape) (address : ℕ) (found : Cell) → IsPlan c → Passes c shape → get (cell_map c shape) address ≡ Some found
+CellsFit = (c : Config) (shape : FrameShape) (address : ℕ) (found : Cell) → IsPlan c → Passes c shape
+    → get (cell_map c shape) address ≡ Some found
     → (found.ordinal < 2 ^ 12) × (found.cell < 2 ^ 15)

@@ -24,7 +24,8 @@ pub record Holds (cells length n at block cell : ℕ) : Type 0 where
 -- the places of a group, each of whose blocks is written column by column and which is read row by row
 abbrev pub HoldsAll : ℕ → ℕ → ℕ → ℕ → Run → Type 0
 HoldsAll cells length n first run = (row block column : ℕ) → row < run.rows → block < run.size → column < run.columns
-    → Holds cells length n (first * cells + (row * (run.columns * run.size) + (run.columns * block + column))) (first + block) (column * run.rows + row)
+    → Holds cells length n (first * cells + (row * (run.columns * run.size) + (run.columns * block + column))) (first + block)
+    (column * run.rows + row)
 
 -- a run at a position, of no more than so many cells
 pub record RunsFrom (cells length n before at limit : ℕ) (run : Run) : Type 0 where
@@ -45,7 +46,8 @@ pub record RunsAt (c : Config) (shape : FrameShape) (address : ℕ) (run : Run) 
   pub at : ℕ
   pub limit : ℕ
   pub configured : plp < length c.plps
-  pub runs : RunsFrom (block_cells c plp) (plp_at c.plps plp).interleave (slice_index shape.counts plp) (sum (take plp shape.counts)) at limit run
+  pub runs : RunsFrom (block_cells c plp) (plp_at c.plps plp).interleave (slice_index shape.counts plp)
+      (sum (take plp shape.counts)) at limit run
   pub addresses : (i : ℕ) → i < limit → address_at c shape plp (at + i) ≡ address + i
 
 -- one step on

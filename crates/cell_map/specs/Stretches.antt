@@ -16,7 +16,8 @@ stretch_len (Blocks strip) = strip.columns * strip.blocks
 -- The map has the cells of a strip at the addresses from one on: block after block.
 abbrev pub HasStrip : Config → FrameShape → ℕ → Strip → Type 0
 HasStrip c shape address strip = (b z : ℕ) → b < strip.blocks → z < strip.columns
-    → get (cell_map c shape) (address + (strip.columns * b + z)) ≡ Some (record { ordinal = strip.first.ordinal + b; cell = strip.first.cell + z * strip.stride })
+    → get (cell_map c shape) (address + (strip.columns * b + z))
+    ≡ Some (record { ordinal = strip.first.ordinal + b; cell = strip.first.cell + z * strip.stride })
 
 -- The same of what stands there.
 abbrev pub HasStretch : Config → FrameShape → ℕ → Stretch → Type 0

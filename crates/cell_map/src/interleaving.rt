@@ -2,21 +2,21 @@
 ghost use Rattle.std.specs.Prelude.{ℕ, ◌≡◌, ◌<◌, ◌≤◌, ◌*◌, ◌+◌, ◌/◌, ◌%◌, ◌^◌};
 ghost use Rattle.cell_map.specs.Interleaver.{group_of as group_is, position as position_is};
 
-// Blocks that are interleaved together.
+/// Blocks that are interleaved together.
 #[derive(Clone, Copy)]
 pub struct Group {
     pub first: u32,
     pub size: u32,
 }
 
-// A cell of a block of a PLP.
+/// A cell of a block of a PLP.
 #[derive(Clone, Copy)]
 pub struct Place {
     pub block: u32,
     pub cell: u32,
 }
 
-// The group of a block.
+/// The group of a block.
 pub fn group_of(blocks: u32, length: u32, block: u32) -> Group
     requires some { 0 < length }
     requires few { length < 2 ^ 16 }
@@ -42,7 +42,7 @@ pub fn group_of(blocks: u32, length: u32, block: u32) -> Group
     }
 }
 
-// The position of a cell of a block.
+/// The position of a cell of a block.
 pub fn position(cells: u32, length: u32, blocks: u32, block: u32, cell: u32) -> u32
     requires fifth { cells % 5 ≡ 0 }
     requires few { length < 2 ^ 16 }
@@ -61,7 +61,7 @@ pub fn position(cells: u32, length: u32, blocks: u32, block: u32, cell: u32) -> 
     group.first * cells + cell % rows * (5 * group.size) + 5 * (block - group.first) + cell / rows
 }
 
-// The cell at a position.
+/// The cell at a position.
 pub fn place_at(cells: u32, length: u32, blocks: u32, at: u32) -> Place
     requires fifth { cells % 5 ≡ 0 }
     requires few { length < 2 ^ 16 }

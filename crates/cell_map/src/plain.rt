@@ -8,7 +8,7 @@ ghost use Rattle.cell_map.specs.CellMap.{pair_of, block_pairs, plp_pairs, pairs}
 use crate::interleaving::Group;
 use crate::places::Cell;
 use bit_slice::OutOfMemory;
-use plp_config::{Plan, PlpKind};
+use plp_config::{Plan, PlpType};
 use scheduler::Shape;
 use std::alloc::Global;
 
@@ -78,7 +78,7 @@ fn is_type2(plan: &Plan, plp: usize) -> bool
     requires { plp < length plan.now.plps }
     ensures { result ≡ in_type2 plan.now plp }
 {
-    plan.config().plps.get(plp).unwrap().kind == PlpKind::Type2
+    plan.config().plps.get(plp).unwrap().plp_type == PlpType::Type2
 }
 
 // The cells of a PLP of type 2 in one of its sub-slices.

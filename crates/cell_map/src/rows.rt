@@ -5,10 +5,10 @@ ghost use Rattle.scheduler.specs.Shape.{in_type2};
 ghost use Rattle.cell_map.specs.Slices.{IsRow, slice_count, slices_of};
 
 use crate::slices::Slices;
-use plp_config::{Plan, PlpKind};
+use plp_config::{Plan, PlpType};
 use scheduler::Shape;
 
-// What the plan says of a PLP.
+/// What the plan says of a PLP.
 #[derive(Clone, Copy)]
 pub struct Row {
     // Cells of a block.
@@ -25,7 +25,7 @@ fn is_type2(plan: &Plan, plp: usize) -> bool
     requires { plp < length plan.now.plps }
     ensures { result ≡ in_type2 plan.now plp }
 {
-    plan.config().plps.get(plp).unwrap().kind == PlpKind::Type2
+    plan.config().plps.get(plp).unwrap().plp_type == PlpType::Type2
 }
 
 fn slice_count(plan: &Plan, plp: usize) -> u32
@@ -39,6 +39,7 @@ fn slice_count(plan: &Plan, plp: usize) -> u32
     }
 }
 
+/// The row of the PLP at a place.
 pub fn row_of(plan: &Plan, plp: usize) -> Row
     requires { plp < length plan.now.plps }
     ensures row { IsRow plan.now plp result }
@@ -53,7 +54,7 @@ pub fn row_of(plan: &Plan, plp: usize) -> Row
     }
 }
 
-// A PLP in a frame: how many blocks it has, and its slices.
+/// A PLP in a frame: how many blocks it has, and its slices.
 #[derive(Clone, Copy)]
 pub struct PlpInFrame {
     pub row: Row,
@@ -61,6 +62,7 @@ pub struct PlpInFrame {
     pub slices: Slices,
 }
 
+/// What a frame has of the PLP at a place: its row, the number of its blocks, and its sub-slices.
 pub fn plp_in_frame(plan: &Plan, shape: &Shape, plp: usize) -> PlpInFrame
     requires plps { length shape.now.counts ≡ length plan.now.plps }
     requires plp { plp < length plan.now.plps }

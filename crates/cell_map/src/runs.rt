@@ -5,7 +5,7 @@ ghost use Rattle.cell_map.specs.Runs.{RunsFrom, Steps};
 use crate::interleaving::group_of;
 use crate::places::Cell;
 
-// A run within a group of blocks. Each block is written in columns, and the group is read row by row.
+/// A run within a group of blocks. Each block is written in columns, and the group is read row by row.
 #[derive(Clone, Copy)]
 pub struct Run {
     // Cells to come.
@@ -71,7 +71,7 @@ fn grouped_run(cells: u32, length: u32, blocks: u32, before: u32, at: u32, limit
     }
 }
 
-// The run at a position, of `limit` cells at most.
+/// The run at a position, of `limit` cells at most.
 pub fn run_at(cells: u32, length: u32, blocks: u32, before: u32, at: u32, limit: u32) -> Run
     requires fifth { cells % 5 ≡ 0 }
     requires few { length < 2 ^ 16 }
@@ -89,7 +89,7 @@ pub fn run_at(cells: u32, length: u32, blocks: u32, before: u32, at: u32, limit:
     }
 }
 
-// The run behind its next cell.
+/// The run behind its next cell.
 pub fn step(run: Run) -> Run
     requires left { 0 < run.left }
     requires block { run.block < run.size }
@@ -124,7 +124,7 @@ pub fn step(run: Run) -> Run
     }
 }
 
-// The next cell of a run.
+/// The next cell of a run.
 pub fn cell_of(run: Run) -> Cell
     requires few { (run.rows < 2 ^ 15) × (run.size < 2 ^ 10) × (run.columns ≤ 5) × (run.first < 2 ^ 21) }
     requires row { run.row < run.rows }

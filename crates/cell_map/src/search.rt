@@ -36,16 +36,17 @@ fn run_of(plan: &Plan, shape: &Shape, plp: usize, before: u32, address: u32) -> 
     }
 }
 
-// A PLP, and how many blocks those before it have: where a search begins.
+/// A PLP, and how many blocks those before it have: where a search begins.
 #[derive(Clone, Copy)]
 pub struct Mark {
     pub plp: usize,
     pub before: u32,
 }
 
+/// A mark before the first PLP.
 pub const FIRST_PLP: Mark = Mark { plp: 0, before: 0 };
 
-// A run, and its PLP.
+/// A run, and its PLP.
 #[derive(Clone, Copy)]
 pub struct Found {
     pub run: Run,
@@ -79,7 +80,7 @@ fn find_among(plan: &Plan, shape: &Shape, address: u32, first: Mark, end: usize)
     None
 }
 
-// The same of all PLPs, those from a mark on first.
+/// The same of all PLPs, those from a mark on first.
 pub fn find(plan: &Plan, shape: &Shape, address: u32, first: Mark) -> Option<Found>
     requires plps { length shape.now.counts ≡ length plan.now.plps }
     requires passes { Passes plan.now shape.now }
@@ -107,7 +108,7 @@ fn free_of(plan: &Plan, shape: &Shape, plp: usize, address: u32, limit: u32) -> 
     free(it.slices, interval, u64::from(address), u64::from(limit)) as u32
 }
 
-// How many addresses from one on are dummy: up to the next cell, or to the end of the frame.
+/// How many addresses from one on are dummy: up to the next cell, or to the end of the frame.
 pub fn dummies(plan: &Plan, shape: &Shape, address: u32) -> u32
     requires plps { length shape.now.counts ≡ length plan.now.plps }
     requires passes { Passes plan.now shape.now }

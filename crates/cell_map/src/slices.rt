@@ -2,7 +2,7 @@
 ghost use Rattle.std.specs.Prelude.{ℕ, ◌≡◌, ◌<◌, ◌≤◌, ◌*◌, ◌+◌, ◌/◌, ◌%◌, ◌^◌, ◌-◌, ◌↔◌, ◌⊎◌, IsTrue, IfNone, IfSome};
 ghost use Rattle.cell_map.specs.Slices.{SliceMeets, SlicesMeet, IsIn};
 
-// Slices of one length, each an interval after the one before it.
+/// Slices of one length, each an interval after the one before it.
 #[derive(Clone, Copy)]
 pub struct Slices {
     pub start: u64,
@@ -28,7 +28,7 @@ fn slice_meets(start: u64, len: u64, slices: Slices, interval: u64) -> bool
     start < slices.start + last * interval + slices.len
 }
 
-// Whether two slices meet, one of each.
+/// Whether two slices meet, one of each.
 pub fn slices_meet(a: Slices, b: Slices, interval: u64) -> bool
     requires a { (a.start < 2 ^ 32) × (0 < a.len) × (a.len < 2 ^ 32) × (0 < a.count) }
     requires b { (b.start < 2 ^ 32) × (0 < b.len) × (b.len < 2 ^ 32) × (0 < b.count) }
@@ -38,7 +38,7 @@ pub fn slices_meet(a: Slices, b: Slices, interval: u64) -> bool
     slice_meets(a.start, a.len, b, interval) || slice_meets(b.start, b.len, a, interval)
 }
 
-// The slice and the place in it that stand at an address.
+/// The slice and the place in it that stand at an address.
 pub fn locate(slices: Slices, interval: u64, address: u64) -> Option<(u64, u64)>
     requires apart { (slices.count ≡ 1) ⊎ (slices.len ≤ interval) }
     requires some { 0 < slices.count }
@@ -69,7 +69,7 @@ pub fn locate(slices: Slices, interval: u64, address: u64) -> Option<(u64, u64)>
     Some((slice, inner))
 }
 
-// How many addresses from one on, `limit` at most, are in none of the slices: the greatest such number.
+/// How many addresses from one on, `limit` at most, are in none of the slices: the greatest such number.
 pub fn free(slices: Slices, interval: u64, address: u64, limit: u64) -> u64
     requires apart { (slices.count ≡ 1) ⊎ (slices.len ≤ interval) }
     requires some { 0 < slices.count }

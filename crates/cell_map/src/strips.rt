@@ -27,7 +27,7 @@ pub enum Stretch {
     Blocks(Strip),
 }
 
-// A strip of a run, and the run behind it.
+/// A strip of a run, and the run behind it.
 #[derive(Clone, Copy)]
 pub struct Cut {
     pub strip: Strip,
@@ -131,7 +131,7 @@ fn cut_blocks(run: Run, whole: u32) -> Cut
     }
 }
 
-// A strip of the next cells of a run, `most` at most.
+/// A strip of the next cells of a run, `most` at most.
 pub fn split(run: Run, most: u32) -> Cut
     requires inside { IsInside run }
     requires some { 0 < most }

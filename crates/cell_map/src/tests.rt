@@ -3,7 +3,7 @@ ghost use Rattle.cell_map.specs.CellMap.{Passes};
 
 use super::*;
 use bit_slice::OutOfMemory;
-use plp_config::{Modulation, Plan, Plp, PlpKind};
+use plp_config::{Modulation, Plan, Plp, PlpType};
 use sample_networks::{NoPlan, SMALL_PLP, network_of, plan_of};
 use scheduler::Shape;
 use std::alloc::Global;
@@ -122,13 +122,13 @@ fn two_plps_of_type_1(rt: HostRuntime) -> Result<(), Fail> {
 // One PLP of type 1 and two of type 2, in five sub-slices.
 fn mixed(alloc: Global) -> Result<Plan, NoPlan> {
     let second = Plp {
-        kind: PlpKind::Type2,
+        plp_type: PlpType::Type2,
         id: 1,
         interleave: 0,
         ..SMALL
     };
     let third = Plp {
-        kind: PlpKind::Type2,
+        plp_type: PlpType::Type2,
         ..MIDDLE
     };
     plan_of(network_of(alloc, &[SMALL, second, third], 20_000, 5)?)
@@ -353,12 +353,12 @@ fn where_cells_stand(rt: HostRuntime) -> Result<(), Fail> {
 #[test]
 fn sub_slices_at_their_interval(rt: HostRuntime) -> Result<(), Fail> {
     let first = Plp {
-        kind: PlpKind::Type2,
+        plp_type: PlpType::Type2,
         interleave: 0,
         ..SMALL
     };
     let second = Plp {
-        kind: PlpKind::Type2,
+        plp_type: PlpType::Type2,
         interleave: 0,
         ..MIDDLE
     };

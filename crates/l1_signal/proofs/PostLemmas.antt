@@ -1,5 +1,6 @@
 -- L1-post of a frame.
-use Rattle.std.proofs.Common.{◌≡◌, ℕ, ◌+◌, ◌-◌, ◌*◌, List, [], ◌∷◌, ◌++◌, length, take, drop, refl, ap, sym, ◌∙◌, arith, length-append}
+use Rattle.std.proofs.Common.{◌≡◌, ℕ, ◌+◌, ◌-◌, ◌*◌, List, [], ◌∷◌, ◌++◌, length, take, drop, refl, ap, sym, ◌∙◌, arith}
+use Rattle.std.proofs.Common.{length-append}
 use Rattle.std.specs.List.{flat_map}
 use Rattle.std.proofs.lemmas.List.{take_at, drop_at, take_all, length-map}
 use Rattle.std.proofs.lemmas.List.FromFn.{length-map-range_with_len}
@@ -18,11 +19,18 @@ use Rattle.l1_signal.specs.L1Of.{conf_plp_of, conf_of, dyn_plp_of, dyn_of, post_
 use Rattle.l1_signal.specs.Laws.{PostLength, ConfPartLength, EndsInItsCrc}
 use Rattle.l1_signal.proofs.RowLemmas.{total, length-row_bits}
 
-length-each_bits : {A : Type 0} (rows : List (Row A)) (xs : List A) → length (flat_map (row_bits rows) xs) ≡ total (fields rows) * length xs
+length-each_bits : {A : Type 0} (rows : List (Row A)) (xs : List A) → length (flat_map (row_bits rows) xs) ≡ total (fields rows)
+    * length xs
 length-each_bits rows [] = omega arith
 length-each_bits rows (x ∷ xs) =
     let step : total (fields rows) * length (x ∷ xs) ≡ total (fields rows) + total (fields rows) * length xs = omega arith in
-    omega (arith, length-append (row_bits rows x) (flat_map (row_bits rows) xs), length-row_bits rows x, length-each_bits rows xs, step)
+    omega (
+      arith,
+      length-append (row_bits rows x) (flat_map (row_bits rows) xs),
+      length-row_bits rows x,
+      length-each_bits rows xs,
+      step,
+    )
 
 length-conf_bits : (conf : L1Conf) → length (conf_bits conf) ≡ 102 + 89 * length conf.plps
 unfolding conf_bits
@@ -89,7 +97,9 @@ ends_in_its_crc law front =
     let size = length-append front crc in
     let tail = length-field 32 (crc32_of front) in
     let cut : length (front ++ crc) - 32 ≡ length front = omega (arith, size, tail) in
-    let told : take 32 (drop (length front) (front ++ crc)) ≡ crc = ap (take 32) (drop_at front crc (length front) refl) ∙ take_all 32 crc (omega (arith, tail)) in (
+    let told : take 32 (drop (length front) (front ++ crc)) ≡ crc = ap (take 32) (drop_at front crc (length front) refl)
+    ∙ take_all 32 crc (omega (arith, tail)) in (
       omega (arith, size, tail),
-      rw cut (ap number_of told ∙ number_of-field 32 (crc32_of front) (law front).0 ∙ ap crc32_of (sym (take_at front crc (length front) refl))),
+      rw cut (ap number_of told ∙ number_of-field 32 (crc32_of front) (law front).0
+          ∙ ap crc32_of (sym (take_at front crc (length front) refl))),
     )

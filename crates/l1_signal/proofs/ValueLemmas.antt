@@ -15,18 +15,22 @@ use Rattle.l1_signal.specs.L1Of.{dyn_plp_of, dyn_of, told_shape}
 use Rattle.l1_signal.proofs.ReadLemmas.{pow_pos}
 
 -- one place more of a list has its value
-pub place_set : {A : Type 0} (f : ℕ → A) (xs : List A) (i : ℕ) (x d : A) → i < length xs → x ≡ f i → ((k : ℕ) → k < i → get_or xs k d ≡ f k) → (k : ℕ) → k < i + 1 → get_or (set xs i x) k d ≡ f k
+pub place_set : {A : Type 0} (f : ℕ → A) (xs : List A) (i : ℕ) (x d : A) → i < length xs → x ≡ f i
+    → ((k : ℕ) → k < i → get_or xs k d ≡ f k) → (k : ℕ) → k < i + 1 → get_or (set xs i x) k d ≡ f k
 place_set f xs i x d lt is so_far = rw is (fill_by_more f xs i d lt so_far)
 
 -- a list of the values of another one, place by place
-pub mapped : {A B : Type 0} (f : A → B) (ys : List A) (xs : List B) (d : A) (e : B) → length xs ≡ length ys → ((k : ℕ) → k < length ys → get_or xs k e ≡ f (get_or ys k d)) → xs ≡ map f ys
+pub mapped : {A B : Type 0} (f : A → B) (ys : List A) (xs : List B) (d : A) (e : B) → length xs ≡ length ys
+    → ((k : ℕ) → k < length ys → get_or xs k e ≡ f (get_or ys k d)) → xs ≡ map f ys
 mapped f ys xs d e same each =
     let size = length-map ys f in
     ext_get_or e xs (map f ys) (omega (arith, same, size))
     (λ k lt. let inside : k < length ys = omega (arith, lt, same) in each k inside ∙ sym (get_or-map f ys k d e inside))
 
 -- the dynamic part fits its fields where the shape does
-pub dyn_numbers_fit : (c : Config) (frame : ℕ) (shape : FrameShape) → ((place : ℕ) → place < length c.plps → (plp_at c.plps place).id < 2 ^ 8) → frame % c.frames < 2 ^ 8 → FitsL1 shape → DynFits (dyn_of c frame shape)
+pub dyn_numbers_fit : (c : Config) (frame : ℕ) (shape : FrameShape)
+    → ((place : ℕ) → place < length c.plps → (plp_at c.plps place).id < 2 ^ 8) → frame % c.frames < 2 ^ 8 → FitsL1 shape
+    → DynFits (dyn_of c frame shape)
 unfolding dyn_of RowsFit Fits
 dyn_numbers_fit c frame shape ids idx s = record {
   front = (idx, refl, (s.interval, refl, (s.type2_start, refl, (pow_pos 8, refl, (pow_pos 3, refl, (pow_pos 8, refl, tt))))));
@@ -38,12 +42,14 @@ dyn_numbers_fit c frame shape ids idx s = record {
       ((ids k inside, refl, (s.starts k, refl, (s.counts k, refl, (pow_pos 8, refl, tt)))));
 }
 
-joined : (shape : FrameShape) (counts starts : List ℕ) (interval start : ℕ) → shape.counts ≡ counts → shape.starts ≡ starts → shape.interval ≡ interval → shape.type2_start ≡ start →
+joined : (shape : FrameShape) (counts starts : List ℕ) (interval start : ℕ) → shape.counts ≡ counts → shape.starts ≡ starts
+    → shape.interval ≡ interval → shape.type2_start ≡ start →
     shape ≡ record { counts = counts; starts = starts; interval = interval; type2_start = start }
 joined shape counts starts interval start p q r t = rw (← p, ← q, ← r, ← t) refl
 
 -- the shape that is told, from its lists
-pub shape_is : (dynamic : L1Dyn) (shape : FrameShape) → length shape.counts ≡ length dynamic.plps → length shape.starts ≡ length dynamic.plps →
+pub shape_is : (dynamic : L1Dyn) (shape : FrameShape) → length shape.counts ≡ length dynamic.plps → length shape.starts
+    ≡ length dynamic.plps →
     ((k : ℕ) → k < length dynamic.plps → get_or shape.counts k 0 ≡ (get_or dynamic.plps k no_dyn_plp).plp_num_blocks) →
     ((k : ℕ) → k < length dynamic.plps → get_or shape.starts k 0 ≡ (get_or dynamic.plps k no_dyn_plp).plp_start) →
     shape.interval ≡ dynamic.sub_slice_interval → shape.type2_start ≡ dynamic.type_2_start → shape ≡ told_shape dynamic

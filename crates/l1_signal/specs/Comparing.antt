@@ -9,10 +9,12 @@ abbrev pub front_told : L1Conf → List ℕ
 front_told conf = conf.sub_slices_per_frame ∷ conf.num_plp ∷ conf.num_aux ∷ conf.rf_idx ∷ conf.frequency ∷ []
 
 abbrev pub front_of : List ℕ → List ℕ → List ℕ
-front_of first more = slice_index first 0 ∷ slice_index first 1 ∷ slice_index more 0 ∷ slice_index more 2 ∷ slice_index more 3 ∷ []
+front_of first more = slice_index first 0 ∷ slice_index first 1 ∷ slice_index more 0 ∷ slice_index more 2 ∷ slice_index more 3
+    ∷ []
 
 unfoldable pub front_read : List Bool → Reading (List ℕ)
-front_read bits = after (values_of conf_first bits) (λ first b. after (values_of conf_more b) (λ more c. Ok (front_of first more, c)))
+front_read bits =
+    after (values_of conf_first bits) (λ first b. after (values_of conf_more b) (λ more c. Ok (front_of first more, c)))
 
 -- and behind them
 unfoldable pub back_read : List Bool → Reading ℕ

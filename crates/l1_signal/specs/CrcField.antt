@@ -27,5 +27,6 @@ EndsInCrc post = (32 ≤ length post) × (told_crc post ≡ crc32_of (post_front
 -- why it does not
 abbrev pub RefusesPost : List Bool → L1Fault → Type 0
 RefusesPost post (Short left) = (length post < 32) × (left ≡ length post)
-RefusesPost post (Crc read counted) = (32 ≤ length post) × (read ≡ told_crc post) × (counted ≡ crc32_of (post_front post)) × (read ≢ counted)
+RefusesPost post (Crc read counted) = (32 ≤ length post) × (read ≡ told_crc post) × (counted ≡ crc32_of (post_front post))
+    × (read ≢ counted)
 RefusesPost post _ = ⊥

@@ -1,5 +1,6 @@
 -- Fields one behind another, by a table: how they are read and spelled (EN 302 755, clause 7.2).
-use Rattle.std.specs.Prelude.{◌≡◌, ◌<◌, ℕ, ◌%◌, ◌^◌, ◌==◌, Bool, true, nat_lt, nat_le, List, [], ◌∷◌, ◌++◌, length, take, drop, map, slice_index, if◌then◌else◌, Result, Ok, Err}
+use Rattle.std.specs.Prelude.{◌≡◌, ◌<◌, ℕ, ◌%◌, ◌^◌, ◌==◌, Bool, true, nat_lt, nat_le, List, [], ◌∷◌, ◌++◌, length, take, drop}
+use Rattle.std.specs.Prelude.{map, slice_index, if◌then◌else◌, Result, Ok, Err}
 use Rattle.terms.specs.Bits.{field, number_of}
 use Rattle.l1_signal.specs.declared.fault.L1Fault.{L1Fault}
 use Rattle.l1_signal.specs.declared.fault.L1Fault.TheVariants.{Short, Unsupported}
@@ -103,4 +104,5 @@ RowsFit rows x = Fits (fields rows) (values rows x [])
 -- Bits spell several things with such rows, one behind another.
 abbrev pub EachSpells : {A : Type 0} → List (Row A) → List A → List Bool → Type 0
 EachSpells rows [] bits = bits ≡ []
-EachSpells rows (x ∷ xs) bits = (first : List Bool) × (more : List Bool) × Spells rows x first × EachSpells rows xs more × (bits ≡ first ++ more)
+EachSpells rows (x ∷ xs) bits = (first : List Bool) × (more : List Bool) × Spells rows x first × EachSpells rows xs more
+    × (bits ≡ first ++ more)

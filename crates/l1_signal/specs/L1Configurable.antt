@@ -1,12 +1,14 @@
 -- The configurable part of L1-post (EN 302 755, clause 7.2.3.1).
-use Rattle.std.specs.Prelude.{◌≡◌, ℕ, ◌+◌, ◌*◌, ◌==◌, Bool, List, [], ◌∷◌, ◌++◌, length, replicate, slice_index, if◌then◌else◌, Ok, Err}
+use Rattle.std.specs.Prelude.{◌≡◌, ℕ, ◌+◌, ◌*◌, ◌==◌, Bool, List, [], ◌∷◌, ◌++◌, length, replicate, slice_index, if◌then◌else◌}
+use Rattle.std.specs.Prelude.{Ok, Err}
 use Rattle.std.specs.List.{All, flat_map}
 use Rattle.l1_signal.specs.declared.fault.L1Fault.TheVariants.{Size}
 use Rattle.l1_signal.specs.declared.fields.Demand.TheVariants.{Any, Only, AtMost, Positive}
 use Rattle.l1_signal.specs.declared.fields.Field.{Field}
 use Rattle.l1_signal.specs.declared.conf.L1Conf.{L1Conf}
 use Rattle.l1_signal.specs.declared.conf_plp.ConfPlp.{ConfPlp}
-use Rattle.l1_signal.specs.Fields.{Row, Told, Ignored, fields, Reading, after, made, values_of, each_read, Spells, row_bits, RowsFit, EachSpells}
+use Rattle.l1_signal.specs.Fields.{Row, Told, Ignored, fields, Reading, after, made, values_of, each_read, Spells, row_bits}
+use Rattle.l1_signal.specs.Fields.{RowsFit, EachSpells}
 
 -- the rows before those of the PLPs: number, width in bits, which values are read, and what is told. They are cut where
 -- L1_POST_INFO_SIZE is looked at
@@ -122,7 +124,8 @@ conf_plps first more bits = after (each_read (replicate (slice_index first 1) co
 
 abbrev pub conf_sized : ℕ → List ℕ → List Bool → Reading L1Conf
 conf_sized told first bits =
-    if told == info_size (slice_index first 1) then after (values_of conf_more bits) (conf_plps first) else Err (Size told (info_size (slice_index first 1)))
+    if told == info_size (slice_index first 1) then after (values_of conf_more bits) (conf_plps first)
+    else Err (Size told (info_size (slice_index first 1)))
 
 -- what reading gives, where L1-pre tells this L1_POST_INFO_SIZE: it is looked at as soon as NUM_PLP is read
 unfoldable pub conf_read : ℕ → List Bool → Reading L1Conf
@@ -143,7 +146,8 @@ pub record ConfSpells (conf : L1Conf) (bits : List Bool) : Type 0 where
 
 -- what is written
 unfoldable pub conf_bits : L1Conf → List Bool
-conf_bits conf = row_bits conf_first_rows conf ++ row_bits conf_more_rows conf ++ flat_map (row_bits conf_plp_rows) conf.plps ++ row_bits conf_back_rows conf
+conf_bits conf = row_bits conf_first_rows conf ++ row_bits conf_more_rows conf ++ flat_map (row_bits conf_plp_rows) conf.plps
+    ++ row_bits conf_back_rows conf
 
 -- Each field fits its width, none is refused, and NUM_PLP is the number of the PLPs.
 pub record ConfFits (conf : L1Conf) : Type 0 where

@@ -5,7 +5,8 @@ use Rattle.l1_signal.specs.declared.fields.Demand.TheVariants.{Any}
 use Rattle.l1_signal.specs.declared.fields.Field.{Field}
 use Rattle.l1_signal.specs.declared.dyn_plp.DynPlp.{DynPlp}
 use Rattle.l1_signal.specs.declared.dynamic.L1Dyn.{L1Dyn}
-use Rattle.l1_signal.specs.Fields.{Row, Told, Ignored, fields, Reading, after, made, values_of, each_read, Spells, row_bits, RowsFit, EachSpells}
+use Rattle.l1_signal.specs.Fields.{Row, Told, Ignored, fields, Reading, after, made, values_of, each_read, Spells, row_bits}
+use Rattle.l1_signal.specs.Fields.{RowsFit, EachSpells}
 
 -- the rows before those of the PLPs: number, width in bits, which values are read, and what is told
 abbrev pub dyn_front_rows : List (Row L1Dyn)
@@ -87,7 +88,8 @@ pub record DynSpells (dynamic : L1Dyn) (bits : List Bool) : Type 0 where
 
 -- what is written
 unfoldable pub dyn_bits : L1Dyn → List Bool
-dyn_bits dynamic = row_bits dyn_front_rows dynamic ++ flat_map (row_bits dyn_plp_rows) dynamic.plps ++ row_bits dyn_back_rows dynamic
+dyn_bits dynamic = row_bits dyn_front_rows dynamic ++ flat_map (row_bits dyn_plp_rows) dynamic.plps
+    ++ row_bits dyn_back_rows dynamic
 
 -- Each field fits its width.
 pub record DynFits (dynamic : L1Dyn) : Type 0 where

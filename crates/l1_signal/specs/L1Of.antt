@@ -3,7 +3,7 @@ use Rattle.std.specs.Prelude.{ℕ, ◌%◌, Bool, List, ◌++◌, length, map, s
 use Rattle.std.specs.List.{range_with_len}
 use Rattle.terms.specs.Bits.{field}
 use Rattle.bit_slice.specs.Crc.{crc32_of}
-use Rattle.plp_config.specs.Plps.{plp_at, plp_type}
+use Rattle.plp_config.specs.Plps.{plp_at, type_number}
 use Rattle.plp_config.specs.Tables.{plp_cod, plp_mod, plp_fec_type}
 use Rattle.plp_config.specs.declared.config.Config.{Config}
 use Rattle.plp_config.specs.declared.plp.Plp.{Plp}
@@ -55,7 +55,7 @@ pre_of c = record {
 unfoldable pub conf_plp_of : Plp → ConfPlp
 conf_plp_of plp = record {
   plp_id = plp.id;
-  plp_type = plp_type plp.kind;
+  plp_type = type_number plp.plp_type;
   plp_payload_type = 3;
   ff_flag = 0;
   first_rf_idx = 0;

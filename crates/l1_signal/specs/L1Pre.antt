@@ -80,7 +80,8 @@ pre_read bits = made pre_at (values_of pre_table bits)
 -- what reading gives: the rows, and where CRC_32 is there, then that of their 168 bits
 unfoldable pub pre_reading : Bool → List Bool → Reading L1Pre
 pre_reading with_crc bits =
-    after (pre_read bits) (λ pre rest. if with_crc then after (crc_read (crc32_of (take 168 bits)) rest) (λ crc more. Ok (pre, more)) else Ok (pre, rest))
+    after (pre_read bits) (λ pre rest. if with_crc then after (crc_read (crc32_of (take 168 bits)) rest)
+    (λ crc more. Ok (pre, more)) else Ok (pre, rest))
 
 -- how it is spelled, and written; each field fits its width, and none is refused
 unfoldable pub PreSpells : L1Pre → List Bool → Type 0

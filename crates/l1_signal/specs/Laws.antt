@@ -14,7 +14,8 @@ use Rattle.l1_signal.specs.CrcField.{EndsInCrc}
 use Rattle.l1_signal.specs.Fields.{fields}
 use Rattle.l1_signal.specs.L1Of.{conf_of, post_bits}
 use Rattle.l1_signal.specs.declared.conf.L1Conf.{L1Conf}
-use Rattle.l1_signal.specs.L1Configurable.{conf_first_rows, conf_more_rows, conf_plp_rows, conf_back_rows, info_size, conf_read, conf_bits, ConfSpells, ConfFits}
+use Rattle.l1_signal.specs.L1Configurable.{conf_first_rows, conf_more_rows, conf_plp_rows, conf_back_rows, info_size, conf_read}
+use Rattle.l1_signal.specs.L1Configurable.{conf_bits, ConfSpells, ConfFits}
 use Rattle.l1_signal.specs.declared.dynamic.L1Dyn.{L1Dyn}
 use Rattle.l1_signal.specs.L1Dynamic.{dyn_front_rows, dyn_plp_rows, dyn_back_rows, dyn_read, dyn_bits, DynSpells, DynFits}
 use Rattle.l1_signal.specs.L1Pre.{pre_table, pre_reading, pre_bits, PreSpells, PreFits}
@@ -26,7 +27,8 @@ crc_behind false front = front
 
 -- What spells an L1-pre is read as that one, whatever follows it.
 abbrev pub PreReadBack : Type 0
-PreReadBack = (with_crc : Bool) (pre : L1Pre) (front rest : List Bool) → PreSpells pre front → pre_reading with_crc (crc_behind with_crc front ++ rest) ≡ Ok (pre, rest)
+PreReadBack = (with_crc : Bool) (pre : L1Pre) (front rest : List Bool) → PreSpells pre front
+    → pre_reading with_crc (crc_behind with_crc front ++ rest) ≡ Ok (pre, rest)
 
 -- What is read as an L1-pre spells it.
 pub record PreIsSpelled (with_crc : Bool) (bits : List Bool) (pre : L1Pre) (rest : List Bool) : Type 0 where
@@ -35,7 +37,8 @@ pub record PreIsSpelled (with_crc : Bool) (bits : List Bool) (pre : L1Pre) (rest
   pub whole : bits ≡ crc_behind with_crc front ++ rest
 
 abbrev pub PreReadSpelled : Type 0
-PreReadSpelled = (with_crc : Bool) (bits : List Bool) (pre : L1Pre) (rest : List Bool) → pre_reading with_crc bits ≡ Ok (pre, rest) → PreIsSpelled with_crc bits pre rest
+PreReadSpelled = (with_crc : Bool) (bits : List Bool) (pre : L1Pre) (rest : List Bool) → pre_reading with_crc bits
+    ≡ Ok (pre, rest) → PreIsSpelled with_crc bits pre rest
 
 -- What is written spells it.
 abbrev pub PreWritten : Type 0
@@ -50,7 +53,8 @@ PreBitsLength = (pre : L1Pre) → length (pre_bits pre) ≡ 168
 
 -- The same of the configurable part, where L1-pre tells the right L1_POST_INFO_SIZE.
 abbrev pub ConfReadBack : Type 0
-ConfReadBack = (conf : L1Conf) (front rest : List Bool) → ConfSpells conf front → conf_read (info_size (length conf.plps)) (front ++ rest) ≡ Ok (conf, rest)
+ConfReadBack = (conf : L1Conf) (front rest : List Bool) → ConfSpells conf front
+    → conf_read (info_size (length conf.plps)) (front ++ rest) ≡ Ok (conf, rest)
 
 pub record ConfIsSpelled (told : ℕ) (bits : List Bool) (conf : L1Conf) (rest : List Bool) : Type 0 where
   pub size : told ≡ info_size (length conf.plps)
@@ -59,7 +63,8 @@ pub record ConfIsSpelled (told : ℕ) (bits : List Bool) (conf : L1Conf) (rest :
   pub whole : bits ≡ front ++ rest
 
 abbrev pub ConfReadSpelled : Type 0
-ConfReadSpelled = (told : ℕ) (bits : List Bool) (conf : L1Conf) (rest : List Bool) → conf_read told bits ≡ Ok (conf, rest) → ConfIsSpelled told bits conf rest
+ConfReadSpelled = (told : ℕ) (bits : List Bool) (conf : L1Conf) (rest : List Bool) → conf_read told bits ≡ Ok (conf, rest)
+    → ConfIsSpelled told bits conf rest
 
 abbrev pub ConfWritten : Type 0
 ConfWritten = (conf : L1Conf) → ConfFits conf → ConfSpells conf (conf_bits conf)
@@ -69,7 +74,8 @@ ConfLength = (conf : L1Conf) (bits : List Bool) → ConfSpells conf bits → len
 
 -- The same of the dynamic part, with as many PLPs as it has.
 abbrev pub DynReadBack : Type 0
-DynReadBack = (dynamic : L1Dyn) (front rest : List Bool) → DynSpells dynamic front → dyn_read (length dynamic.plps) (front ++ rest) ≡ Ok (dynamic, rest)
+DynReadBack = (dynamic : L1Dyn) (front rest : List Bool) → DynSpells dynamic front
+    → dyn_read (length dynamic.plps) (front ++ rest) ≡ Ok (dynamic, rest)
 
 pub record DynIsSpelled (plps : ℕ) (bits : List Bool) (dynamic : L1Dyn) (rest : List Bool) : Type 0 where
   pub count : length dynamic.plps ≡ plps
@@ -78,7 +84,8 @@ pub record DynIsSpelled (plps : ℕ) (bits : List Bool) (dynamic : L1Dyn) (rest 
   pub whole : bits ≡ front ++ rest
 
 abbrev pub DynReadSpelled : Type 0
-DynReadSpelled = (plps : ℕ) (bits : List Bool) (dynamic : L1Dyn) (rest : List Bool) → dyn_read plps bits ≡ Ok (dynamic, rest) → DynIsSpelled plps bits dynamic rest
+DynReadSpelled = (plps : ℕ) (bits : List Bool) (dynamic : L1Dyn) (rest : List Bool) → dyn_read plps bits ≡ Ok (dynamic, rest)
+    → DynIsSpelled plps bits dynamic rest
 
 abbrev pub DynWritten : Type 0
 DynWritten = (dynamic : L1Dyn) → DynFits dynamic → DynSpells dynamic (dyn_bits dynamic)

@@ -1,13 +1,15 @@
 pub mod Fields
-pub mod Places
 pub mod CrcField
 pub mod L1Pre
 pub mod L1Configurable
 pub mod L1Dynamic
 pub mod L1Of
+pub mod Laws
+-- inner: no public clause cites these
+pub mod Places
 pub mod Numbers
 pub mod Comparing
-pub mod Laws
+-- of the crates below, for those who read this one
 pub use Rattle.bit_slice.specs.Crc
 pub use Rattle.bit_slice.specs.Sink
 pub use Rattle.terms.specs.Bits

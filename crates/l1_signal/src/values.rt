@@ -13,7 +13,7 @@ ghost use Rattle.l1_signal.specs.L1Dynamic.{DynFits};
 
 use crate::{ConfPlp, ConfRows, DynPlp, DynRows, L1Conf, L1Dyn, L1Pre};
 use bit_slice::OutOfMemory;
-use plp_config::{FecSize, Modulation, Plan, Plp, PlpKind, Rate};
+use plp_config::{FecSize, Modulation, Plan, Plp, PlpType, Rate};
 use scheduler::Shape;
 use std::alloc::Global;
 
@@ -82,7 +82,7 @@ fn conf_plp_of(plp: Plp) -> ConfPlp
 {
     fitting_plp(ConfPlp {
         plp_id: plp.id,
-        plp_type: plp.kind.plp_type(),
+        plp_type: plp.plp_type.number(),
         plp_payload_type: 3,
         ff_flag: 0,
         first_rf_idx: 0,

@@ -1,8 +1,10 @@
 -- The first test of the capacity that fails, from the answers of the tests in their order.
-use Rattle.std.proofs.Common.{◌≡◌, ℕ, zero, suc, ◌+◌, ◌<◌, ◌≤◌, Option, Some, None, MatchOption, refl, sym, ap, subst, ◌∙◌, arith, inl, inr}
+use Rattle.std.proofs.Common.{◌≡◌, ℕ, zero, suc, ◌+◌, ◌<◌, ◌≤◌, Option, Some, None, MatchOption, refl, sym, ap, subst, ◌∙◌, arith}
+use Rattle.std.proofs.Common.{inl, inr}
 use Rattle.std.proofs.lemmas.Bool.{cases_eq}
 use Rattle.std.specs.Option.{option_or}
-use Rattle.plp_config.specs.Capacity.{Test, Throughput, CellCount, EvenSubSlices, CellAddresses, test_number, TestHolds, TestsBelow, AllTests, Lacks}
+use Rattle.plp_config.specs.Capacity.{Test, Throughput, CellCount, EvenSubSlices, CellAddresses, test_number, TestHolds}
+use Rattle.plp_config.specs.Capacity.{TestsBelow, AllTests, Lacks}
 use Rattle.plp_config.specs.CapacityTests.{AnswersTest}
 use Rattle.plp_config.specs.declared.config.Config.{Config}
 use Rattle.plp_config.specs.declared.capacity.CapacityFault.{CapacityFault}
@@ -43,7 +45,8 @@ pub same_test : (a b : Test) → test_number a ≡ test_number b → a ≡ b
 same_test a b e = sym (test_at-test_number a) ∙ ap test_at e ∙ test_at-test_number b
 
 -- one test more holds
-TestsBelow-more : (c : Config) (test : Test) → TestsBelow (test_number test) c → TestHolds test c → TestsBelow (test_number test + 1) c
+TestsBelow-more : (c : Config) (test : Test) → TestsBelow (test_number test) c → TestHolds test c
+    → TestsBelow (test_number test + 1) c
 TestsBelow-more c test below here other lt =
     elim (cases_eq (test_number other) (test_number test)) [
       | inl same ↦ subst (λ t. TestHolds t c) (sym (same_test other test same)) here
@@ -67,7 +70,8 @@ Tried-or c test None (Some fault) tried lacks = lacks tried
 
 -- one test more was tried
 pub Tried-more : (c : Config) (test : Test) (fault answer all : Option CapacityFault)
-    → Tried (test_number test) c fault → AnswersTest test c answer → all ≡ option_or fault answer → Tried (test_number test + 1) c all
+    → Tried (test_number test) c fault → AnswersTest test c answer → all ≡ option_or fault answer
+    → Tried (test_number test + 1) c all
 Tried-more c test fault answer all tried answers is = rw is (Tried-or c test fault answer tried answers)
 
 -- every test was tried

@@ -26,7 +26,8 @@ emissions_differ c frame other rules same =
 -- the subseconds are fewer than a second has
 emission_carried : (c : Config) (frame : ℕ) → (emission c frame).subseconds < subseconds_per_second c.band
 unfolding emission
-emission_carried c frame = mod_below (origin c + frame * frame_subseconds c) (subseconds_per_second c.band) (second_range c.band).0
+emission_carried c frame = mod_below (origin c + frame * frame_subseconds c) (subseconds_per_second c.band)
+    (second_range c.band).0
 
 -- an emission is found again
 finds_emission : (c : Config) (frame : ℕ) → AllRules c → FindsFrame c (emission c frame) frame
@@ -46,11 +47,17 @@ found_emission : (c : Config) (moment : Moment) (frame : ℕ) → FindsFrame c m
 unfolding emission
 found_emission c moment frame found =
     let second = subseconds_per_second c.band in
-    let past : (subseconds_by c moment - origin c) / frame_subseconds c * frame_subseconds c + (subseconds_by c moment - origin c) % frame_subseconds c
+    let past : (subseconds_by c moment - origin c) / frame_subseconds c * frame_subseconds c
+    + (subseconds_by c moment - origin c) % frame_subseconds c
     ≡ subseconds_by c moment - origin c = div-add-mod' (subseconds_by c moment - origin c) (frame_subseconds c) in
     let frames : frame * frame_subseconds c + 0 ≡ subseconds_by c moment - origin c = rw (found.frames, found.whole) at past in
-    let total : origin c + frame * frame_subseconds c ≡ moment.seconds * second + moment.subseconds = omega (arith, found.later) in
-    rw (total, div-mul-add moment.seconds second moment.subseconds found.carried, mod-mul-add moment.seconds second moment.subseconds found.carried) refl
+    let total : origin c + frame * frame_subseconds c ≡ moment.seconds * second + moment.subseconds =
+    omega (arith, found.later) in
+    rw (
+      total,
+      div-mul-add moment.seconds second moment.subseconds found.carried,
+      mod-mul-add moment.seconds second moment.subseconds found.carried,
+    ) refl
 
 pub emission_found : EmissionFound
 emission_found c moment frame rules = (
@@ -66,7 +73,8 @@ emission_fits c frame rules lt =
     let begin : (1 ≤ c.seconds) × (c.seconds ≤ 2 ^ 39) × (c.subseconds < second) = rules StartTime in
     let least : 1 * second ≤ c.seconds * second = mul-le-mul_right second begin.0 in
     let most : c.seconds * second ≤ 2 ^ 39 * second = mul-le-mul_right second begin.1 in
-    let run : frame * (4 * frame_subseconds c) ≤ 2 ^ 32 * second = mul-le frame (4 * frame_subseconds c) (2 ^ 32) second (omega arith) (frame_quarter c rules).1 in
+    let run : frame * (4 * frame_subseconds c) ≤ 2 ^ 32 * second =
+    mul-le frame (4 * frame_subseconds c) (2 ^ 32) second (omega arith) (frame_quarter c rules).1 in
     let run4 : frame * (4 * frame_subseconds c) ≡ 4 * (frame * frame_subseconds c) = omega arith in (
       (le-div_iff_mul-le some).1 (omega arith),
       (div-lt_iff_lt-mul some).1 (omega (arith, begin.2)),
@@ -74,7 +82,8 @@ emission_fits c frame rules lt =
     )
 
 -- the seconds that have passed at a frame, of subseconds that fit 32 bits
-pub seconds_passed : (subseconds frame length second : ℕ) → 40000000 ≤ second → subseconds < 2 ^ 32 → frame < 2 ^ 32 → 4 * length ≤ second
+pub seconds_passed : (subseconds frame length second : ℕ) → 40000000 ≤ second → subseconds < 2 ^ 32 → frame < 2 ^ 32
+    → 4 * length ≤ second
     → (subseconds + frame * length) / second < 2 ^ 31
 seconds_passed subseconds frame length second long few early short =
     let run : frame * (4 * length) ≤ 2 ^ 32 * second = mul-le frame (4 * length) (2 ^ 32) second (omega arith) short in

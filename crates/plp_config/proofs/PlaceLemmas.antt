@@ -11,11 +11,13 @@ use Rattle.plp_config.specs.declared.config.Config.{Config}
 apart : (c : Config) → AllRules c → (a b : ℕ) → a < b → b < length c.plps → (plp_at c.plps a).id ≢ (plp_at c.plps b).id
 apart c rules a b less inside = rules DistinctIds b inside a less
 
-pub place_is : (c : Config) → AllRules c → (id place : ℕ) → place < length c.plps → (plp_at c.plps place).id ≡ id → IsPlace c id place
+pub place_is : (c : Config) → AllRules c → (id place : ℕ) → place < length c.plps → (plp_at c.plps place).id ≡ id
+    → IsPlace c id place
 place_is c rules id place inside own = record {
   inside = inside;
   own = own;
   others = λ plp within other same.
       ⊎_elim (λ (e : plp ≡ place). other e)
-      (⊎_elim (λ (l : plp < place). apart c rules plp place l inside (same ∙ sym own)) (λ (l : place < plp). apart c rules place plp l within (own ∙ sym same))) (cases_order plp place);
+      (⊎_elim (λ (l : plp < place). apart c rules plp place l inside (same ∙ sym own))
+      (λ (l : place < plp). apart c rules place plp l within (own ∙ sym same))) (cases_order plp place);
 }

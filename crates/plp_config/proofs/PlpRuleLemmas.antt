@@ -1,31 +1,33 @@
 -- One PLP more has been looked at, in the loops over identifiers and over types.
-use Rattle.std.proofs.Common.{◌≡◌, ℕ, ◌+◌, ◌<◌, ◌≤◌, Bool, true, false, List, length, get_or, set, sym, ap, ◌∙◌, arith, inl, inr, below_more, get_or-set_same, get_or-set_other}
+use Rattle.std.proofs.Common.{◌≡◌, ℕ, ◌+◌, ◌<◌, ◌≤◌, Bool, true, false, List, length, get_or, set, sym, ap, ◌∙◌, arith, inl, inr}
+use Rattle.std.proofs.Common.{below_more, get_or-set_same, get_or-set_other}
 use Rattle.std.proofs.lemmas.Bool.{cases_eq, cases_lt, false≢true}
 use Rattle.std.proofs.lemmas.List.{get_or-replicate, length-replicate}
 use Rattle.std.proofs.Math.ListN.{get_or-eq_default, replicate}
 use Rattle.plp_config.specs.FirstFailure.{HoldsBelow}
-use Rattle.plp_config.specs.Plps.{plp_at, plp_type}
-use Rattle.plp_config.specs.Rules.{PlaceHolds, KindOrder, DistinctIds}
+use Rattle.plp_config.specs.Plps.{plp_at, type_number}
+use Rattle.plp_config.specs.Rules.{PlaceHolds, TypeOrder, DistinctIds}
 use Rattle.plp_config.specs.declared.config.Config.{Config}
 
 -- a type that is no less than the greatest keeps the order
-pub KindOrder-more : (c : Config) (last now place : ℕ)
-    → HoldsBelow (PlaceHolds KindOrder c) place
-    → HoldsBelow (λ earlier. plp_type (plp_at c.plps earlier).kind ≤ last) place
-    → now ≡ plp_type (plp_at c.plps place).kind
+pub TypeOrder-more : (c : Config) (last now place : ℕ)
+    → HoldsBelow (PlaceHolds TypeOrder c) place
+    → HoldsBelow (λ earlier. type_number (plp_at c.plps earlier).plp_type ≤ last) place
+    → now ≡ type_number (plp_at c.plps place).plp_type
     → last ≤ now
-    → HoldsBelow (PlaceHolds KindOrder c) (place + 1)
-KindOrder-more c last now place holds greatest is le =
-    below_more (PlaceHolds KindOrder c) place holds (λ earlier lt. omega (arith, greatest earlier lt, is))
+    → HoldsBelow (PlaceHolds TypeOrder c) (place + 1)
+TypeOrder-more c last now place holds greatest is le =
+    below_more (PlaceHolds TypeOrder c) place holds (λ earlier lt. omega (arith, greatest earlier lt, is))
 
 -- and it is the greatest of all so far
 pub greatest-more : (c : Config) (last now place : ℕ)
-    → HoldsBelow (λ earlier. plp_type (plp_at c.plps earlier).kind ≤ last) place
-    → now ≡ plp_type (plp_at c.plps place).kind
+    → HoldsBelow (λ earlier. type_number (plp_at c.plps earlier).plp_type ≤ last) place
+    → now ≡ type_number (plp_at c.plps place).plp_type
     → last ≤ now
-    → HoldsBelow (λ earlier. plp_type (plp_at c.plps earlier).kind ≤ now) (place + 1)
+    → HoldsBelow (λ earlier. type_number (plp_at c.plps earlier).plp_type ≤ now) (place + 1)
 greatest-more c last now place greatest is le =
-    below_more (λ earlier. plp_type (plp_at c.plps earlier).kind ≤ now) place (λ earlier lt. omega (arith, greatest earlier lt)) (omega (arith, is))
+    below_more (λ earlier. type_number (plp_at c.plps earlier).plp_type ≤ now) place
+    (λ earlier lt. omega (arith, greatest earlier lt)) (omega (arith, is))
 
 -- an identifier that was not seen differs from all before
 pub DistinctIds-more : (c : Config) (seen : List Bool) (place : ℕ)
@@ -45,7 +47,8 @@ pub seen-more : (c : Config) (seen : List Bool) (place : ℕ)
 seen-more c seen place all inside =
     below_more (λ earlier. get_or (set seen (plp_at c.plps place).id true) (plp_at c.plps earlier).id false ≡ true) place
     (λ earlier lt. elim (cases_eq (plp_at c.plps earlier).id (plp_at c.plps place).id) [
-      | inl same ↦ ap (λ (id : ℕ). get_or (set seen (plp_at c.plps place).id true) id false) same ∙ get_or-set_same seen (plp_at c.plps place).id true false inside
+      | inl same ↦ ap (λ (id : ℕ). get_or (set seen (plp_at c.plps place).id true) id false) same
+          ∙ get_or-set_same seen (plp_at c.plps place).id true false inside
       | inr differ ↦ get_or-set_other seen (plp_at c.plps place).id (plp_at c.plps earlier).id true false differ ∙ all earlier lt
     ])
     (get_or-set_same seen (plp_at c.plps place).id true false inside)
@@ -59,7 +62,8 @@ only-more c seen place id only on =
     elim (cases_eq id (plp_at c.plps place).id) [
       | inl same ↦ (place, omega arith, sym same)
       | inr differ ↦
-          let found : (earlier : ℕ) × (earlier < place) × ((plp_at c.plps earlier).id ≡ id) = only (sym (get_or-set_other seen (plp_at c.plps place).id id true false differ) ∙ on) in
+          let found : (earlier : ℕ) × (earlier < place) × ((plp_at c.plps earlier).id ≡ id) =
+          only (sym (get_or-set_other seen (plp_at c.plps place).id id true false differ) ∙ on) in
           (found.0, omega (arith, found.1), found.2)
     ]
 
@@ -68,5 +72,6 @@ pub none_seen : (n id : ℕ) → get_or (replicate n false) id false ≡ true �
 none_seen n id on =
     elim (cases_lt id n) [
       | inl inside ↦ false≢true (sym (get_or-replicate n id false false inside) ∙ on)
-      | inr past ↦ false≢true (sym (get_or-eq_default (replicate n false) false (omega (arith, length-replicate {A = Bool} n false))) ∙ on)
+      | inr past ↦
+          false≢true (sym (get_or-eq_default (replicate n false) false (omega (arith, length-replicate {A = Bool} n false))) ∙ on)
     ]

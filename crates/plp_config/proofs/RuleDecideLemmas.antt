@@ -1,13 +1,16 @@
 -- Every rule is decided, so a configuration satisfies all or has a refusal.
-use Rattle.std.proofs.Common.{◌≡◌, ℕ, ◌+◌, ◌-◌, ◌%◌, ◌^◌, ◌<◌, ◌≤◌, length, min, Some, None, refl, ap, subst, ◌∙◌, inl, inr, arith}
+use Rattle.std.proofs.Common.{◌≡◌, ℕ, ◌+◌, ◌-◌, ◌%◌, ◌^◌, ◌<◌, ◌≤◌, length, min, Some, None, refl, ap, subst, ◌∙◌, inl, inr}
+use Rattle.std.proofs.Common.{arith}
 use Rattle.std.proofs.Math.Decide.{dec_le, dec_lt, map_dec, ℕ_discrete}
 use Rattle.std.proofs.lemmas.Bool.{lt-leb}
 use Rattle.terms.proofs.DecisionLemmas.{decide_not, decide_both, decide_three, decide_case, first_failure, decide_below}
 use Rattle.plp_config.proofs.RuleLemmas.{rule_at, rule_at-rule_number, rule_number-rule_at, rule_number-range, refused_at}
 use Rattle.plp_config.specs.FirstFailure.{HoldsBelow}
 use Rattle.plp_config.specs.Laws.{RulesDecided}
-use Rattle.plp_config.specs.Plps.{plp_at, plp_type, has_type2}
-use Rattle.plp_config.specs.Rules.{Rule, FrameDuration, SuperframeLength, LeastCells, StartTime, UtcOffset, PidRange, L1Fields, SubSlices, PlpCount, DistinctIds, KindOrder, BlockLimit, InterleaverLength, BitRate, rule_number, FitsL1, PlaceHolds, RuleHolds, RulesBelow, Refuses}
+use Rattle.plp_config.specs.Plps.{plp_at, type_number, has_type2}
+use Rattle.plp_config.specs.Rules.{Rule, FrameDuration, SuperframeLength, LeastCells, StartTime, UtcOffset, PidRange, L1Fields}
+use Rattle.plp_config.specs.Rules.{SubSlices, PlpCount, DistinctIds, TypeOrder, BlockLimit, InterleaverLength, BitRate}
+use Rattle.plp_config.specs.Rules.{rule_number, FitsL1, PlaceHolds, RuleHolds, RulesBelow, Refuses}
 use Rattle.plp_config.specs.Tables.{subseconds_per_second, greatest_ticks}
 use Rattle.plp_config.specs.declared.config.Config.{Config}
 use Rattle.plp_config.specs.declared.config.L1Numbers.{L1Numbers}
@@ -17,8 +20,10 @@ use Rattle.plp_config.specs.declared.rules.ConfigFault.{ConfigFault}
 decide_l1 : (l1 : L1Numbers) → Dec (FitsL1 l1)
 decide_l1 l1 =
     map_dec
-    (λ (h : (((l1.bwt_ext < 2 ^ 1) × (l1.s2 < 2 ^ 4) × (l1.s2 % 2 ≡ 0)) × ((l1.guard < 2 ^ 3) × (l1.papr < 2 ^ 4) × (l1.l1_mod < 2 ^ 4)))
-    × (((l1.l1_cod < 2 ^ 2) × (l1.l1_fec < 2 ^ 2) × (l1.post_size < 2 ^ 18)) × ((l1.pilot < 2 ^ 4) × (l1.symbols < 2 ^ 12) × (l1.regen < 2 ^ 3)))). record {
+    (λ (h : (((l1.bwt_ext < 2 ^ 1) × (l1.s2 < 2 ^ 4) × (l1.s2 % 2 ≡ 0))
+    × ((l1.guard < 2 ^ 3) × (l1.papr < 2 ^ 4) × (l1.l1_mod < 2 ^ 4)))
+    × (((l1.l1_cod < 2 ^ 2) × (l1.l1_fec < 2 ^ 2) × (l1.post_size < 2 ^ 18))
+    × ((l1.pilot < 2 ^ 4) × (l1.symbols < 2 ^ 12) × (l1.regen < 2 ^ 3)))). record {
       bwt_ext = h.0.0.0;
       s2 = h.0.0.1;
       s2_even = h.0.0.2;
@@ -32,7 +37,10 @@ decide_l1 l1 =
       symbols = h.1.1.1;
       regen = h.1.1.2;
     })
-    (λ (f : FitsL1 l1). (((f.bwt_ext, f.s2, f.s2_even), (f.guard, f.papr, f.l1_mod)), ((f.l1_cod, f.l1_fec, f.post_size), (f.pilot, f.symbols, f.regen))))
+    (λ (f : FitsL1 l1). (
+      ((f.bwt_ext, f.s2, f.s2_even), (f.guard, f.papr, f.l1_mod)),
+      ((f.l1_cod, f.l1_fec, f.post_size), (f.pilot, f.symbols, f.regen)),
+    ))
     (decide_both
     (decide_both
     (decide_three (dec_lt l1.bwt_ext (2 ^ 1)) (dec_lt l1.s2 (2 ^ 4)) (ℕ_discrete (l1.s2 % 2) 0))
@@ -42,11 +50,16 @@ decide_l1 l1 =
     (decide_three (dec_lt l1.pilot (2 ^ 4)) (dec_lt l1.symbols (2 ^ 12)) (dec_lt l1.regen (2 ^ 3)))))
 
 decide_place : (rule : Rule) (c : Config) (place : ℕ) → Dec (PlaceHolds rule c place)
-decide_place DistinctIds c place = decide_below _ (λ earlier. decide_not (ℕ_discrete (plp_at c.plps earlier).id (plp_at c.plps place).id)) place
-decide_place KindOrder c place = decide_below _ (λ earlier. dec_le (plp_type (plp_at c.plps earlier).kind) (plp_type (plp_at c.plps place).kind)) place
-decide_place BlockLimit c place = decide_both (dec_le 1 (plp_at c.plps place).blocks) (dec_le (plp_at c.plps place).blocks MOST_BLOCKS)
+decide_place DistinctIds c place =
+    decide_below _ (λ earlier. decide_not (ℕ_discrete (plp_at c.plps earlier).id (plp_at c.plps place).id)) place
+decide_place TypeOrder c place =
+    decide_below _ (λ earlier. dec_le (type_number (plp_at c.plps earlier).plp_type) (type_number (plp_at c.plps place).plp_type))
+    place
+decide_place BlockLimit c place =
+    decide_both (dec_le 1 (plp_at c.plps place).blocks) (dec_le (plp_at c.plps place).blocks MOST_BLOCKS)
 decide_place InterleaverLength c place = dec_le (plp_at c.plps place).interleave (min (plp_at c.plps place).blocks 255)
-decide_place BitRate c place = decide_both (dec_le 1 (plp_at c.plps place).bits_per_second) (dec_le (plp_at c.plps place).bits_per_second 72000000)
+decide_place BitRate c place = decide_both (dec_le 1 (plp_at c.plps place).bits_per_second)
+    (dec_le (plp_at c.plps place).bits_per_second 72000000)
 decide_place FrameDuration c place = yes tt
 decide_place SuperframeLength c place = yes tt
 decide_place LeastCells c place = yes tt
@@ -61,14 +74,16 @@ decide_rule : (rule : Rule) (c : Config) → Dec (RuleHolds rule c)
 decide_rule FrameDuration c = decide_both (dec_le 1000 c.ticks) (dec_le c.ticks (greatest_ticks c.band))
 decide_rule SuperframeLength c = decide_both (dec_le 2 c.frames) (dec_le c.frames 255)
 decide_rule LeastCells c = dec_le 2025 c.cells
-decide_rule StartTime c = decide_three (dec_le 1 c.seconds) (dec_le c.seconds (2 ^ 39)) (dec_lt c.subseconds (subseconds_per_second c.band))
+decide_rule StartTime c = decide_three (dec_le 1 c.seconds) (dec_le c.seconds (2 ^ 39))
+    (dec_lt c.subseconds (subseconds_per_second c.band))
 decide_rule UtcOffset c = dec_lt c.utco 8192
 decide_rule PidRange c = decide_both (dec_le 16 c.pid) (dec_le c.pid 8190)
 decide_rule L1Fields c = decide_l1 c.l1
-decide_rule SubSlices c = decide_case (has_type2 c.plps) (decide_both (dec_le 2 c.sub_slices) (dec_le c.sub_slices 6480)) (ℕ_discrete c.sub_slices 1)
+decide_rule SubSlices c = decide_case (has_type2 c.plps) (decide_both (dec_le 2 c.sub_slices) (dec_le c.sub_slices 6480))
+    (ℕ_discrete c.sub_slices 1)
 decide_rule PlpCount c = decide_both (dec_le 1 (length c.plps)) (dec_le (length c.plps) 255)
 decide_rule DistinctIds c = decide_below _ (decide_place DistinctIds c) (length c.plps)
-decide_rule KindOrder c = decide_below _ (decide_place KindOrder c) (length c.plps)
+decide_rule TypeOrder c = decide_below _ (decide_place TypeOrder c) (length c.plps)
 decide_rule BlockLimit c = decide_below _ (decide_place BlockLimit c) (length c.plps)
 decide_rule InterleaverLength c = decide_below _ (decide_place InterleaverLength c) (length c.plps)
 decide_rule BitRate c = decide_below _ (decide_place BitRate c) (length c.plps)
@@ -77,7 +92,8 @@ abbrev Refused : Config → Type 0
 Refused c = (fault : ConfigFault) × Refuses c fault
 
 -- the refusal for a rule of the network
-refused_network : (c : Config) (rule : Rule) → rule_number rule < 10 → ¬ (RuleHolds rule c) → RulesBelow (rule_number rule) c → Refused c
+refused_network : (c : Config) (rule : Rule) → rule_number rule < 10 → ¬ (RuleHolds rule c) → RulesBelow (rule_number rule) c
+    → Refused c
 refused_network c rule early fails lower = (
   record { rule = rule_number rule; plp = None },
   record { rule = rule; number = refl; fails = fails; lower = lower; place = rw (lt-leb 10 (rule_number rule) early) refl },
@@ -108,7 +124,7 @@ refused_by c L1Fields fails lower = refused_network c L1Fields (omega arith) fai
 refused_by c SubSlices fails lower = refused_network c SubSlices (omega arith) fails lower
 refused_by c PlpCount fails lower = refused_network c PlpCount (omega arith) fails lower
 refused_by c DistinctIds fails lower = refused_plp c DistinctIds (omega arith) (λ h. h) (λ h. h) fails lower
-refused_by c KindOrder fails lower = refused_plp c KindOrder (omega arith) (λ h. h) (λ h. h) fails lower
+refused_by c TypeOrder fails lower = refused_plp c TypeOrder (omega arith) (λ h. h) (λ h. h) fails lower
 refused_by c BlockLimit fails lower = refused_plp c BlockLimit (omega arith) (λ h. h) (λ h. h) fails lower
 refused_by c InterleaverLength fails lower = refused_plp c InterleaverLength (omega arith) (λ h. h) (λ h. h) fails lower
 refused_by c BitRate fails lower = refused_plp c BitRate (omega arith) (λ h. h) (λ h. h) fails lower
@@ -129,5 +145,7 @@ rules_decided c =
       | inl all ↦ inl (λ rule. holds_of c rule (all (rule_number rule - 1) (omega (arith, rule_number-range rule))))
       | inr found ↦
           let number : rule_number (rule_at (found.0 + 1)) ≡ found.0 + 1 = rule_number-rule_at found.0 found.1 in
-          inr (refused_by c (rule_at (found.0 + 1)) found.2 (λ other lt. holds_of c other (found.3 (rule_number other - 1) (omega (arith, lt, number, rule_number-range other)))))
+          inr (refused_by c (rule_at (found.0 + 1)) found.2
+          (λ other lt.
+          holds_of c other (found.3 (rule_number other - 1) (omega (arith, lt, number, rule_number-range other)))))
     ]

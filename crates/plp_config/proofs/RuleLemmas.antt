@@ -1,9 +1,12 @@
 -- The first rule that fails, from the tests of the rules in their order.
-use Rattle.std.proofs.Common.{◌≡◌, ℕ, zero, suc, ◌+◌, ◌-◌, ◌<◌, ◌≤◌, ◌↔◌, Bool, true, List, [], ◌∷◌, length, get_or, Option, Some, None, MatchOption, IsTrue, refl, sym, ap, subst, ◌∙◌, arith, inl, inr}
+use Rattle.std.proofs.Common.{◌≡◌, ℕ, zero, suc, ◌+◌, ◌-◌, ◌<◌, ◌≤◌, ◌↔◌, Bool, true, List, [], ◌∷◌, length, get_or, Option, Some}
+use Rattle.std.proofs.Common.{None, MatchOption, IsTrue, refl, sym, ap, subst, ◌∙◌, arith, inl, inr}
 use Rattle.std.proofs.lemmas.Bool.{cases_eq, le-leb, lt-leb}
 use Rattle.std.specs.Option.{option_or}
 use Rattle.plp_config.specs.FirstFailure.{HoldsBelow, IsFirstFailure, FindsFailure}
-use Rattle.plp_config.specs.Rules.{Rule, FrameDuration, SuperframeLength, LeastCells, StartTime, UtcOffset, PidRange, L1Fields, SubSlices, PlpCount, DistinctIds, KindOrder, BlockLimit, InterleaverLength, BitRate, rule_number, PlaceHolds, RuleHolds, RulesBelow, AllRules, Refuses}
+use Rattle.plp_config.specs.Rules.{Rule, FrameDuration, SuperframeLength, LeastCells, StartTime, UtcOffset, PidRange, L1Fields}
+use Rattle.plp_config.specs.Rules.{SubSlices, PlpCount, DistinctIds, TypeOrder, BlockLimit, InterleaverLength, BitRate}
+use Rattle.plp_config.specs.Rules.{rule_number, PlaceHolds, RuleHolds, RulesBelow, AllRules, Refuses}
 use Rattle.plp_config.specs.RuleTests.{TellsRules}
 use Rattle.plp_config.specs.declared.config.Config.{Config}
 use Rattle.plp_config.specs.declared.rules.ConfigFault.{ConfigFault}
@@ -20,14 +23,15 @@ rule_number-range L1Fields = (omega arith, omega arith)
 rule_number-range SubSlices = (omega arith, omega arith)
 rule_number-range PlpCount = (omega arith, omega arith)
 rule_number-range DistinctIds = (omega arith, omega arith)
-rule_number-range KindOrder = (omega arith, omega arith)
+rule_number-range TypeOrder = (omega arith, omega arith)
 rule_number-range BlockLimit = (omega arith, omega arith)
 rule_number-range InterleaverLength = (omega arith, omega arith)
 rule_number-range BitRate = (omega arith, omega arith)
 
 -- the rule with a number
 pub rule_at : ℕ → Rule
-rule_at number = get_or (FrameDuration ∷ SuperframeLength ∷ LeastCells ∷ StartTime ∷ UtcOffset ∷ PidRange ∷ L1Fields ∷ SubSlices ∷ PlpCount ∷ DistinctIds ∷ KindOrder ∷ BlockLimit ∷ InterleaverLength ∷ BitRate ∷ []) (number - 1) BitRate
+rule_at number = get_or (FrameDuration ∷ SuperframeLength ∷ LeastCells ∷ StartTime ∷ UtcOffset ∷ PidRange ∷ L1Fields ∷ SubSlices
+    ∷ PlpCount ∷ DistinctIds ∷ TypeOrder ∷ BlockLimit ∷ InterleaverLength ∷ BitRate ∷ []) (number - 1) BitRate
 
 pub rule_at-rule_number : (rule : Rule) → rule_at (rule_number rule) ≡ rule
 unfolding rule_at
@@ -41,7 +45,7 @@ rule_at-rule_number L1Fields = refl
 rule_at-rule_number SubSlices = refl
 rule_at-rule_number PlpCount = refl
 rule_at-rule_number DistinctIds = refl
-rule_at-rule_number KindOrder = refl
+rule_at-rule_number TypeOrder = refl
 rule_at-rule_number BlockLimit = refl
 rule_at-rule_number InterleaverLength = refl
 rule_at-rule_number BitRate = refl
@@ -63,14 +67,16 @@ rule_number-rule_at (suc (suc (suc (suc (suc (suc (suc (suc (suc (suc zero))))))
 rule_number-rule_at (suc (suc (suc (suc (suc (suc (suc (suc (suc (suc (suc zero))))))))))) lt = refl
 rule_number-rule_at (suc (suc (suc (suc (suc (suc (suc (suc (suc (suc (suc (suc zero)))))))))))) lt = refl
 rule_number-rule_at (suc (suc (suc (suc (suc (suc (suc (suc (suc (suc (suc (suc (suc zero))))))))))))) lt = refl
-rule_number-rule_at (suc (suc (suc (suc (suc (suc (suc (suc (suc (suc (suc (suc (suc (suc n)))))))))))))) lt = absurd (omega arith)
+rule_number-rule_at (suc (suc (suc (suc (suc (suc (suc (suc (suc (suc (suc (suc (suc (suc n)))))))))))))) lt =
+    absurd (omega arith)
 
 -- two rules with one number are one
 pub same_rule : (a b : Rule) → rule_number a ≡ rule_number b → a ≡ b
 same_rule a b e = sym (rule_at-rule_number a) ∙ ap rule_at e ∙ rule_at-rule_number b
 
 -- one rule more holds
-pub RulesBelow-more : (c : Config) (rule : Rule) → RulesBelow (rule_number rule) c → RuleHolds rule c → RulesBelow (rule_number rule + 1) c
+pub RulesBelow-more : (c : Config) (rule : Rule) → RulesBelow (rule_number rule) c → RuleHolds rule c
+    → RulesBelow (rule_number rule + 1) c
 RulesBelow-more c rule below here other lt =
     elim (cases_eq (rule_number other) (rule_number rule)) [
       | inl same ↦ subst (λ r. RuleHolds r c) (sym (same_rule other rule same)) here
@@ -125,7 +131,8 @@ pub Tried-more : (c : Config) (rule : Rule) (fault : Option ConfigFault) (place 
     → MatchOption place (other ≡ None) (λ p. p < 256 → other ≡ Some (record { rule = rule_number rule; plp = Some p }))
     → all ≡ option_or fault other
     → Tried (rule_number rule + 1) c all
-Tried-more c rule fault place other all late whole parts tried finds told is = rw is (Tried-or c rule fault place other late whole parts tried finds told)
+Tried-more c rule fault place other all late whole parts tried finds told is =
+    rw is (Tried-or c rule fault place other late whole parts tried finds told)
 
 -- every rule was tried
 pub Tried-all : (c : Config) (fault : Option ConfigFault) → Tried 15 c fault → MatchOption fault (AllRules c) (Refuses c)
@@ -154,7 +161,7 @@ TellsRules-from _ _ _ _ _ _ _ _ _ _ _ _ _ _ _ _ h _ _ L1Fields lt = h
 TellsRules-from _ _ _ _ _ _ _ _ _ _ _ _ _ _ _ _ _ h _ SubSlices lt = h
 TellsRules-from _ _ _ _ _ _ _ _ _ _ _ _ _ _ _ _ _ _ h PlpCount lt = h
 TellsRules-from _ _ _ _ _ _ _ _ _ _ _ _ _ _ _ _ _ _ _ DistinctIds lt = absurd (omega arith)
-TellsRules-from _ _ _ _ _ _ _ _ _ _ _ _ _ _ _ _ _ _ _ KindOrder lt = absurd (omega arith)
+TellsRules-from _ _ _ _ _ _ _ _ _ _ _ _ _ _ _ _ _ _ _ TypeOrder lt = absurd (omega arith)
 TellsRules-from _ _ _ _ _ _ _ _ _ _ _ _ _ _ _ _ _ _ _ BlockLimit lt = absurd (omega arith)
 TellsRules-from _ _ _ _ _ _ _ _ _ _ _ _ _ _ _ _ _ _ _ InterleaverLength lt = absurd (omega arith)
 TellsRules-from _ _ _ _ _ _ _ _ _ _ _ _ _ _ _ _ _ _ _ BitRate lt = absurd (omega arith)
@@ -167,7 +174,8 @@ RulesBelow-from_tests c tests nine tells all rule lt =
 
 -- the first test that tells false gives the refusal
 pub refused_by_test : (c : Config) (tests : List Bool) (place : ℕ) → length tests ≡ 9 → TellsRules c tests
-    → IsFirstFailure (λ k. IsTrue (get_or tests k true)) (length tests) place → Refuses c (record { rule = place + 1; plp = None })
+    → IsFirstFailure (λ k. IsTrue (get_or tests k true)) (length tests) place
+    → Refuses c (record { rule = place + 1; plp = None })
 refused_by_test c tests place nine tells first =
     let number : rule_number (rule_at (place + 1)) ≡ place + 1 = rule_number-rule_at place (omega (arith, first.inside)) in
     let late : rule_number (rule_at (place + 1)) < 10 = omega (arith, number, first.inside) in
@@ -176,6 +184,7 @@ refused_by_test c tests place nine tells first =
       rule = rule_at (place + 1);
       number = sym number;
       fails = λ holds. first.fails (ap (λ (k : ℕ). get_or tests k true) (sym here) ∙ (tells (rule_at (place + 1)) late).1 holds);
-      lower = λ other lt. (tells other (omega (arith, late))).0 (first.before (rule_number other - 1) (omega (arith, number, rule_number-range other)));
+      lower = λ other lt. (tells other (omega (arith, late))).0
+          (first.before (rule_number other - 1) (omega (arith, number, rule_number-range other)));
       place = rw (lt-leb 10 (rule_number (rule_at (place + 1))) late) refl;
     }

@@ -13,7 +13,8 @@ use Rattle.plp_config.specs.SlotTime.{start, delay}
 use Rattle.plp_config.specs.declared.config.Config.{Config}
 
 -- no PLP is done later
-le-last_tick : (c : Config) (packets : ℕ → ℕ) (n : ℕ) → HoldsBelow (λ plp. start c plp (packets plp) + delay c plp ≤ last_tick c packets n) n
+le-last_tick : (c : Config) (packets : ℕ → ℕ) (n : ℕ)
+    → HoldsBelow (λ plp. start c plp (packets plp) + delay c plp ≤ last_tick c packets n) n
 unfolding last_tick
 le-last_tick c packets zero plp lt = absurd (omega arith)
 le-last_tick c packets (suc n) plp lt = elim (cases_eq plp n) [
@@ -22,18 +23,22 @@ le-last_tick c packets (suc n) plp lt = elim (cases_eq plp n) [
 ]
 
 -- a tick by which all are done is not before it
-last_tick-le : (c : Config) (packets : ℕ → ℕ) (tick n : ℕ) → HoldsBelow (λ plp. start c plp (packets plp) + delay c plp ≤ tick) n → last_tick c packets n ≤ tick
+last_tick-le : (c : Config) (packets : ℕ → ℕ) (tick n : ℕ) → HoldsBelow (λ plp. start c plp (packets plp) + delay c plp ≤ tick) n
+    → last_tick c packets n ≤ tick
 unfolding last_tick
 last_tick-le c packets tick zero done = omega arith
-last_tick-le c packets tick (suc n) done = omega (arith, done n (omega arith), last_tick-le c packets tick n (λ plp lt. done plp (omega arith)))
+last_tick-le c packets tick (suc n) done =
+    omega (arith, done n (omega arith), last_tick-le c packets tick n (λ plp lt. done plp (omega arith)))
 
 pub frame_count_least : FrameCountLeast
 unfolding frame_count
 frame_count_least c packets rules =
     let last = last_tick c packets (length c.plps) in
-    let superframe : 0 < c.frames * c.ticks = omega (arith, mul-le 2 1000 c.frames c.ticks (rules SuperframeLength).0 (rules FrameDuration).0) in
+    let superframe : 0 < c.frames * c.ticks =
+    omega (arith, mul-le 2 1000 c.frames c.ticks (rules SuperframeLength).0 (rules FrameDuration).0) in
     let runs = div_ceil last (c.frames * c.ticks) in
-    let enough : last ≤ runs * c.frames * c.ticks = omega (arith, div_ceil-ge last (c.frames * c.ticks) superframe, mul_assoc runs c.frames c.ticks) in
+    let enough : last ≤ runs * c.frames * c.ticks =
+    omega (arith, div_ceil-ge last (c.frames * c.ticks) superframe, mul_assoc runs c.frames c.ticks) in
     record {
       superframes = mul-mod_left runs c.frames;
       enough = λ plp lt. omega (arith, le-last_tick c packets (length c.plps) plp lt);
@@ -41,7 +46,8 @@ frame_count_least c packets rules =
           (let q = other / c.frames in
           let parts : q * c.frames + 0 ≡ other = rw (sym whole) (div-add-mod' other c.frames) in
           let late : last ≤ other * c.ticks = last_tick-le c packets (other * c.ticks) (length c.plps) done in
-          let span : other * c.ticks ≡ q * (c.frames * c.ticks) = ap (λ (k : ℕ). k * c.ticks) (omega arith) ∙ mul_assoc q c.frames c.ticks in
+          let span : other * c.ticks ≡ q * (c.frames * c.ticks) = ap (λ (k : ℕ). k * c.ticks) (omega arith)
+          ∙ mul_assoc q c.frames c.ticks in
           let runs_le : runs ≤ q = elim (cases_lt q runs) [
             | inl more ↦ absurd (omega (arith, (lt-div_ceil last (c.frames * c.ticks) q superframe).0 more))
             | inr le ↦ le

@@ -3,7 +3,8 @@ use Rattle.std.proofs.Common.{◌≡◌, ℕ, ◌*◌, ◌/◌, ◌%◌, ◌≤�
 use Rattle.std.specs.Int.{div_ceil}
 use Rattle.std.proofs.lemmas.Nat.{mul-le}
 use Rattle.plp_config.specs.Capacity.{block_bytes, field_bytes, block_cells, up_bytes, capacity, CellAddresses, IsPlan}
-use Rattle.plp_config.specs.Laws.{SlotLength, FrameTicks, FrameQuarter, FieldRange, BlockBits, UserPacketRange, CapacityHoldsUp, CellsByFive, BlockChunks}
+use Rattle.plp_config.specs.Laws.{SlotLength, FrameTicks, FrameQuarter, FieldRange, BlockBits, UserPacketRange, CapacityHoldsUp}
+use Rattle.plp_config.specs.Laws.{CellsByFive, BlockChunks}
 use Rattle.plp_config.specs.Plps.{plp_at, has_type2}
 use Rattle.plp_config.specs.Ranges.{HasRanges}
 use Rattle.plp_config.specs.Rules.{FrameDuration, SuperframeLength, LeastCells, SubSlices, PlpCount, BlockLimit, BitRate}
@@ -38,7 +39,8 @@ greatest_quarter Mhz8 = lit≤ tt
 greatest_quarter Mhz10 = lit≤ tt
 
 -- no frame lasts longer than a quarter of a second
-pub quarter : (band : Band) (ticks : ℕ) → ticks ≤ greatest_ticks band → 4 * ticks * subseconds_per_tick band ≤ subseconds_per_second band
+pub quarter : (band : Band) (ticks : ℕ) → ticks ≤ greatest_ticks band → 4 * ticks * subseconds_per_tick band
+    ≤ subseconds_per_second band
 quarter band ticks h =
     let four : 4 * ticks ≤ 4 * greatest_ticks band = omega arith in
     let all : 4 * ticks * subseconds_per_tick band ≤ 4 * greatest_ticks band * subseconds_per_tick band =
@@ -46,7 +48,8 @@ quarter band ticks h =
     omega (arith, greatest_quarter band)
 
 -- the sub-slices of either case
-pub sub_slices-range : (several : Bool) (sub_slices : ℕ) → MatchBool several ((2 ≤ sub_slices) × (sub_slices ≤ 6480)) (sub_slices ≡ 1)
+pub sub_slices-range : (several : Bool) (sub_slices : ℕ) → MatchBool several ((2 ≤ sub_slices) × (sub_slices ≤ 6480))
+    (sub_slices ≡ 1)
     → (1 ≤ sub_slices) × (sub_slices ≤ 6480)
 sub_slices-range true sub_slices range = (omega (arith, range), range.1)
 sub_slices-range false sub_slices one = (omega arith, omega arith)
@@ -79,7 +82,8 @@ second_range Mhz8 = (lit≤ tt, lit≤ tt)
 second_range Mhz10 = (lit≤ tt, lit≤ tt)
 
 -- the bytes of a block, which are whole
-block_table : (fec : FecSize) (rate : Rate) → (879 ≤ info_bits fec rate / 8) × (info_bits fec rate / 8 ≤ 6730) × (8 * (info_bits fec rate / 8) ≡ info_bits fec rate)
+block_table : (fec : FecSize) (rate : Rate) → (879 ≤ info_bits fec rate / 8) × (info_bits fec rate / 8 ≤ 6730)
+    × (8 * (info_bits fec rate / 8) ≡ info_bits fec rate)
 block_table Normal R1_2 = (lit≤ tt, lit≤ tt, refl)
 block_table Normal R3_5 = (lit≤ tt, lit≤ tt, refl)
 block_table Normal R2_3 = (lit≤ tt, lit≤ tt, refl)
@@ -95,7 +99,8 @@ block_table Short R5_6 = (lit≤ tt, lit≤ tt, refl)
 
 -- the cells of a block
 cell_table : (fec : FecSize) (modulation : Modulation)
-    → (cells_per_block fec modulation % 5 ≡ 0) × (2025 ≤ cells_per_block fec modulation) × (cells_per_block fec modulation ≤ 32400)
+    → (cells_per_block fec modulation % 5 ≡ 0) × (2025 ≤ cells_per_block fec modulation)
+    × (cells_per_block fec modulation ≤ 32400)
 cell_table Normal Qpsk = (refl, lit≤ tt, lit≤ tt)
 cell_table Normal Qam16 = (refl, lit≤ tt, lit≤ tt)
 cell_table Normal Qam64 = (refl, lit≤ tt, lit≤ tt)
@@ -125,23 +130,30 @@ chunks_of : (bytes cells most : ℕ) → bytes ≤ 256 * (7 * most) → 2025 * m
 chunks_of bytes cells most few many = omega arith
 
 -- the chunks of a block
-chunk_table : (fec : FecSize) (rate : Rate) (modulation : Modulation) → div_ceil (info_bits fec rate / 8) 256 ≤ 7 * (cells_per_block fec modulation / 2025)
+chunk_table : (fec : FecSize) (rate : Rate) (modulation : Modulation) → div_ceil (info_bits fec rate / 8) 256
+    ≤ 7 * (cells_per_block fec modulation / 2025)
 chunk_table Normal rate modulation =
-    chunks_of (info_bits Normal rate / 8) (cells_per_block Normal modulation) 4 (omega (arith, (block_table Normal rate).1)) (normal_cells modulation)
+    chunks_of (info_bits Normal rate / 8) (cells_per_block Normal modulation) 4 (omega (arith, (block_table Normal rate).1))
+    (normal_cells modulation)
 chunk_table Short rate modulation =
-    chunks_of (info_bits Short rate / 8) (cells_per_block Short modulation) 1 (omega (arith, short_bytes rate)) ((cell_table Short modulation).1)
+    chunks_of (info_bits Short rate / 8) (cells_per_block Short modulation) 1 (omega (arith, short_bytes rate))
+    ((cell_table Short modulation).1)
 
 -- ---- the laws of lengths and sizes
 
 pub slot_length : SlotLength
 unfolding num den
 slot_length c plp rules lt =
-    let rate : (1 ≤ (plp_at c.plps plp).bits_per_second) × ((plp_at c.plps plp).bits_per_second ≤ 72000000) = rules BitRate plp lt in
+    let rate : (1 ≤ (plp_at c.plps plp).bits_per_second) × ((plp_at c.plps plp).bits_per_second ≤ 72000000) =
+    rules BitRate plp lt in
     let band = c.band in
-    let least : 1 * 1 ≤ den c plp = mul-le 1 1 (plp_at c.plps plp).bits_per_second (subseconds_per_tick band) rate.0 (tick_range band).0 in
-    let most : den c plp ≤ 72000000 * 71 = mul-le (plp_at c.plps plp).bits_per_second (subseconds_per_tick band) 72000000 71 rate.1 (tick_range band).1 in
+    let least : 1 * 1 ≤ den c plp = mul-le 1 1 (plp_at c.plps plp).bits_per_second (subseconds_per_tick band) rate.0
+    (tick_range band).0 in
+    let most : den c plp ≤ 72000000 * 71 =
+    mul-le (plp_at c.plps plp).bits_per_second (subseconds_per_tick band) 72000000 71 rate.1 (tick_range band).1 in
     let long : den c plp ≤ 72000000 * subseconds_per_tick band =
-    mul-le (plp_at c.plps plp).bits_per_second (subseconds_per_tick band) 72000000 (subseconds_per_tick band) rate.1 (omega arith) in
+    mul-le (plp_at c.plps plp).bits_per_second (subseconds_per_tick band) 72000000 (subseconds_per_tick band) rate.1
+    (omega arith) in
     (omega arith, omega arith, omega (arith, fastest band), omega (arith, second_range band))
 
 pub frame_ticks : FrameTicks
@@ -176,7 +188,8 @@ pub capacity_holds_up : CapacityHoldsUp
 unfolding capacity
 capacity_holds_up c plp rules lt =
     let some : 1 ≤ (plp_at c.plps plp).blocks = (rules BlockLimit plp lt).0 in
-    let whole : 1 * 869 ≤ (plp_at c.plps plp).blocks * field_bytes c plp = mul-le 1 869 (plp_at c.plps plp).blocks (field_bytes c plp) some (field_range c plp).0 in
+    let whole : 1 * 869 ≤ (plp_at c.plps plp).blocks * field_bytes c plp =
+    mul-le 1 869 (plp_at c.plps plp).blocks (field_bytes c plp) some (field_range c plp).0 in
     omega (arith, user_packet_range c plp)
 
 pub cells_by_five : CellsByFive

@@ -3,23 +3,26 @@ use Rattle.std.proofs.Common.{◌≡◌, ℕ, ◌+◌, ◌-◌, ◌*◌, ◌%◌
 use Rattle.std.proofs.Math.Decide.{dec_le, ℕ_discrete}
 use Rattle.terms.proofs.DecisionLemmas.{decide_if, first_failure, decide_below}
 use Rattle.plp_config.proofs.CapacityLemmas.{test_at, test_at-test_number, test_number-test_at, test_number-range}
-use Rattle.plp_config.specs.Capacity.{Test, Throughput, CellCount, EvenSubSlices, CellAddresses, test_number, is_of_plps, need_of, supply_of, block_cells, up_bytes, capacity, cell_need, PlaceFits, TestHolds, TestsBelow, Lacks}
+use Rattle.plp_config.specs.Capacity.{Test, Throughput, CellCount, EvenSubSlices, CellAddresses, test_number, is_of_plps, need_of}
+use Rattle.plp_config.specs.Capacity.{supply_of, block_cells, up_bytes, capacity, cell_need, PlaceFits, TestHolds, TestsBelow}
+use Rattle.plp_config.specs.Capacity.{Lacks}
 use Rattle.plp_config.specs.FirstFailure.{HoldsBelow}
 use Rattle.plp_config.specs.Laws.{TestsDecided}
-use Rattle.plp_config.specs.Plps.{plp_at, plp_type}
+use Rattle.plp_config.specs.Plps.{plp_at, type_number}
 use Rattle.plp_config.specs.SlotTime.{num, den}
 use Rattle.plp_config.specs.declared.config.Config.{Config}
 use Rattle.plp_config.specs.declared.capacity.CapacityFault.{CapacityFault}
-use Rattle.plp_config.specs.declared.plp.PlpKind.{PlpKind}
-use Rattle.plp_config.specs.declared.plp.PlpKind.TheVariants.{Type1, Type2}
+use Rattle.plp_config.specs.declared.plp.PlpType.{PlpType}
+use Rattle.plp_config.specs.declared.plp.PlpType.TheVariants.{Type1, Type2}
 
-decide_type2 : (kind : PlpKind) → Dec (kind ≡ Type2)
-decide_type2 Type1 = no (λ h. let e = ap plp_type h in omega (arith, e))
+decide_type2 : (plp_type : PlpType) → Dec (plp_type ≡ Type2)
+decide_type2 Type1 = no (λ h. let e = ap type_number h in omega (arith, e))
 decide_type2 Type2 = yes refl
 
 decide_place : (test : Test) (c : Config) (plp : ℕ) → Dec (PlaceFits test c plp)
 decide_place Throughput c plp = dec_le (up_bytes c plp * c.ticks * den c plp) (capacity c plp * num c)
-decide_place EvenSubSlices c plp = decide_if (decide_type2 (plp_at c.plps plp).kind) (ℕ_discrete (block_cells c plp % c.sub_slices) 0)
+decide_place EvenSubSlices c plp =
+    decide_if (decide_type2 (plp_at c.plps plp).plp_type) (ℕ_discrete (block_cells c plp % c.sub_slices) 0)
 decide_place CellCount c plp = yes tt
 decide_place CellAddresses c plp = yes tt
 
@@ -33,14 +36,16 @@ abbrev Lacking : Config → Type 0
 Lacking c = (fault : CapacityFault) × Lacks c fault
 
 -- the refusal for a test of the frame
-lacks_frame : (c : Config) (test : Test) → is_of_plps test ≡ false → ¬ (TestHolds test c) → TestsBelow (test_number test) c → Lacking c
+lacks_frame : (c : Config) (test : Test) → is_of_plps test ≡ false → ¬ (TestHolds test c) → TestsBelow (test_number test) c
+    → Lacking c
 lacks_frame c test whole fails lower = (
   record { test = test_number test; plp = None; need = need_of test c 0; have = supply_of test c 0 },
   record { test = test; number = refl; fails = fails; lower = lower; place = rw whole refl; need = refl; supply = refl },
 )
 
 -- the refusal for a test of single PLPs
-lacks_plp : (c : Config) (test : Test) → is_of_plps test ≡ true → (HoldsBelow (PlaceFits test c) (length c.plps) → TestHolds test c)
+lacks_plp : (c : Config) (test : Test) → is_of_plps test ≡ true
+    → (HoldsBelow (PlaceFits test c) (length c.plps) → TestHolds test c)
     → ¬ (TestHolds test c) → TestsBelow (test_number test) c → Lacking c
 lacks_plp c test single parts fails lower =
     elim (first_failure (PlaceFits test c) (decide_place test c) (length c.plps)) [
@@ -81,5 +86,7 @@ tests_decided c =
       | inl all ↦ inl (λ test. holds_of c test (all (test_number test - 1) (omega (arith, test_number-range test))))
       | inr found ↦
           let number : test_number (test_at (found.0 + 1)) ≡ found.0 + 1 = test_number-test_at found.0 found.1 in
-          inr (lacks_by c (test_at (found.0 + 1)) found.2 (λ other lt. holds_of c other (found.3 (test_number other - 1) (omega (arith, lt, number, test_number-range other)))))
+          inr (lacks_by c (test_at (found.0 + 1)) found.2
+          (λ other lt.
+          holds_of c other (found.3 (test_number other - 1) (omega (arith, lt, number, test_number-range other)))))
     ]

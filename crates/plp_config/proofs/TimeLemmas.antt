@@ -1,12 +1,15 @@
 -- Starts, counts and ranges of slots, for epochs of any number of ticks.
 use Rattle.std.proofs.Common.{◌≡◌, ◌≢◌, ℕ, zero, suc, ◌+◌, ◌-◌, ◌*◌, ◌/◌, ◌%◌, ◌^◌, ◌<◌, ◌≤◌, ◌↔◌, sym, ap, ◌∙◌, arith, inl, inr}
-use Rattle.std.proofs.Math.Nat.{le-div_iff_mul-le, div-lt_iff_lt-mul, mul-le-mul_left, mul-le-mul_right, lt_of_mul-lt-mul_right, le_of_mul-le-mul_right, add-mul, mul_assoc}
+use Rattle.std.proofs.Math.Nat.{le-div_iff_mul-le, div-lt_iff_lt-mul, mul-le-mul_left, mul-le-mul_right, lt_of_mul-lt-mul_right}
+use Rattle.std.proofs.Math.Nat.{le_of_mul-le-mul_right, add-mul, mul_assoc}
 use Rattle.std.proofs.lemmas.Nat.{div-add-mod'}
 use Rattle.std.proofs.lemmas.Grind.{div_ceil_times}
 use Rattle.std.proofs.lemmas.Bool.{cases_lt, cases_order}
 use Rattle.std.specs.Int.{div_ceil}
 use Rattle.plp_config.specs.SlotTime.{slot_start, slot_count, InRange, tick_of_iscr, delay_ticks, released_count, window_slots}
-use Rattle.plp_config.specs.Laws.{StartsBefore, StartsFrom, StartsAt, OverBy, NotOverBy, CountReaches, StartRises, CountRises, NoneAtZero, EndsAfterStart, StartsApart, RangesPartition, RangeBounds, SpansEpoch, OneSlotPerIscr, IscrFindsSlot, DelayOutlasts, ReleasedFirst, ReleasedOld, WindowHolds}
+use Rattle.plp_config.specs.Laws.{StartsBefore, StartsFrom, StartsAt, OverBy, NotOverBy, CountReaches, StartRises, CountRises}
+use Rattle.plp_config.specs.Laws.{NoneAtZero, EndsAfterStart, StartsApart, RangesPartition, RangeBounds, SpansEpoch}
+use Rattle.plp_config.specs.Laws.{OneSlotPerIscr, IscrFindsSlot, DelayOutlasts, ReleasedFirst, ReleasedOld, WindowHolds}
 
 -- ---- quotients rounded up
 
@@ -65,12 +68,20 @@ not_over_by num den slot tick pos = (
 pub start_rises : StartRises
 start_rises num den slot later pos le =
     (starts_from num den later (slot_start num den slot) pos).1
-    (omega (arith, (starts_from num den slot (slot_start num den slot) pos).0 (omega arith), mul-le-mul_right {m = slot} {n = later} num le))
+    (omega (
+      arith,
+      (starts_from num den slot (slot_start num den slot) pos).0 (omega arith),
+      mul-le-mul_right {m = slot} {n = later} num le,
+    ))
 
 pub count_rises : CountRises
 count_rises num den tick later pos le =
     (count_reaches num den (slot_count num den tick) later pos).1
-    (omega (arith, (count_reaches num den (slot_count num den tick) tick pos).0 (omega arith), mul-le-mul_right {m = tick} {n = later} den le))
+    (omega (
+      arith,
+      (count_reaches num den (slot_count num den tick) tick pos).0 (omega arith),
+      mul-le-mul_right {m = tick} {n = later} den le,
+    ))
 
 pub none_at_zero : NoneAtZero
 none_at_zero num den pos =
@@ -84,7 +95,8 @@ ends_after_start num den slot pos =
     let start = slot_start num den slot in
     let early : slot * num < (start + 1) * den = (starts_before num den slot (start + 1) pos).0 (omega arith) in
     let whole : (slot + 1) * num ≡ slot * num + 1 * num = add-mul slot 1 num in
-    let parts : (start + 1 + div_ceil num den) * den ≡ (start + 1) * den + div_ceil num den * den = add-mul (start + 1) (div_ceil num den) den in
+    let parts : (start + 1 + div_ceil num den) * den ≡ (start + 1) * den + div_ceil num den * den =
+    add-mul (start + 1) (div_ceil num den) den in
     omega (arith, div_ceil-ge num den pos)
 
 -- the next slot starts a tick later, or more
@@ -120,13 +132,15 @@ ranges_partition num den epoch slot pos den_pos long =
     let end = (slot + 1) * num in
     let length : 0 < epoch * den = omega (arith, mul-le-mul_right {m = 1} {n = epoch} den long) in
     let m = div_ceil end (epoch * den) in
-    let some : 0 < m = (lt-div_ceil end (epoch * den) 0 length).1 (omega (arith, mul-le-mul_right {m = 1} {n = slot + 1} num (omega arith))) in
+    let some : 0 < m =
+    (lt-div_ceil end (epoch * den) 0 length).1 (omega (arith, mul-le-mul_right {m = 1} {n = slot + 1} num (omega arith))) in
     let low : (m - 1) * (epoch * den) < end = (lt-div_ceil end (epoch * den) (m - 1) length).0 (omega arith) in
     let high : end ≤ m * (epoch * den) = div_ceil-ge end (epoch * den) length in
     let early : (m - 1) * epoch * den ≡ (m - 1) * (epoch * den) = mul_assoc (m - 1) epoch den in
     let late : m * epoch * den ≡ m * (epoch * den) = mul_assoc m epoch den in
     let only : (other : ℕ) → InRange num den epoch other slot → other ≡ m = λ other range.
-    (let bounds : (1 ≤ other) × (end ≤ other * epoch * den) × ((other - 1) * epoch * den < end) = range_bounds num den epoch other slot pos range in
+    (let bounds : (1 ≤ other) × (end ≤ other * epoch * den) × ((other - 1) * epoch * den < end) =
+    range_bounds num den epoch other slot pos range in
     let above : (other - 1) * epoch * den ≡ (other - 1) * (epoch * den) = mul_assoc (other - 1) epoch den in
     let below : other * epoch * den ≡ other * (epoch * den) = mul_assoc other epoch den in
     let less : other - 1 < m = (lt-div_ceil end (epoch * den) (other - 1) length).1 (omega (arith, bounds)) in
@@ -155,8 +169,10 @@ spans_epoch num den epoch m slot later pos long range other lt =
     let num_pos : 0 < num = omega arith in
     let s = slot_start num den slot in
     let t = slot_start num den later in
-    let bounds : (1 ≤ m) × ((later + 1) * num ≤ m * epoch * den) × ((m - 1) * epoch * den < (later + 1) * num) = range_bounds num den epoch m later num_pos other in
-    let ends : (1 ≤ m) × ((slot + 1) * num ≤ m * epoch * den) × ((m - 1) * epoch * den < (slot + 1) * num) = range_bounds num den epoch m slot num_pos range in
+    let bounds : (1 ≤ m) × ((later + 1) * num ≤ m * epoch * den) × ((m - 1) * epoch * den < (later + 1) * num) =
+    range_bounds num den epoch m later num_pos other in
+    let ends : (1 ≤ m) × ((slot + 1) * num ≤ m * epoch * den) × ((m - 1) * epoch * den < (slot + 1) * num) =
+    range_bounds num den epoch m slot num_pos range in
     let from : t * den ≤ later * num = (starts_from num den later t pos).0 (omega arith) in
     let before : slot * num < (s + 1) * den = (starts_before num den slot (s + 1) pos).0 (omega arith) in
     let one : (later + 1) * num ≡ later * num + 1 * num = add-mul later 1 num in
@@ -209,7 +225,8 @@ iscr_finds_slot num den epoch m slot pos long short range =
     let first = slot_count num den ((m - 1) * epoch) in
     let from : slot_start num den first ≤ slot_start num den slot = start_rises num den first slot pos range.0 in
     let near : slot_start num den slot < slot_start num den first + 2 ^ 22 = elim (cases_lt first slot) [
-      | inl later ↦ omega (arith, (spans_epoch num den epoch m first slot pos long (omega arith, omega (arith, range.1)) range later).1)
+      | inl later ↦
+          omega (arith, (spans_epoch num den epoch m first slot pos long (omega arith, omega (arith, range.1)) range later).1)
       | inr same ↦ omega (arith, start_rises num den slot first pos same)
     ] in
     let tick : tick_of_iscr (slot_start num den first) (slot_start num den slot % 2 ^ 22) ≡ slot_start num den slot
@@ -221,7 +238,8 @@ iscr_finds_slot num den epoch m slot pos long short range =
 pub delay_outlasts : DelayOutlasts
 delay_outlasts num den epoch m slot pos den_pos range =
     let start = slot_start num den slot in
-    let bounds : (1 ≤ m) × ((slot + 1) * num ≤ m * epoch * den) × ((m - 1) * epoch * den < (slot + 1) * num) = range_bounds num den epoch m slot pos range in
+    let bounds : (1 ≤ m) × ((slot + 1) * num ≤ m * epoch * den) × ((m - 1) * epoch * den < (slot + 1) * num) =
+    range_bounds num den epoch m slot pos range in
     let late : (slot + 1) * num < (start + 1 + div_ceil num den) * den = ends_after_start num den slot den_pos in
     let before : (m - 1) * epoch < start + 1 + div_ceil num den = lt_of_mul-lt-mul_right den (omega (arith, bounds)) in
     let whole : m + 2 ≡ m - 1 + 3 = omega (arith, bounds.0) in
@@ -241,7 +259,8 @@ released_first num den delay tick slot pos den_pos = (
 pub released_old : ReleasedOld
 released_old num den epoch tick slot pos den_pos released =
     let start = slot_start num den slot in
-    let early : start + delay_ticks num den epoch ≤ tick = (released_first num den (delay_ticks num den epoch) tick slot pos den_pos).0 released in
+    let early : start + delay_ticks num den epoch ≤ tick =
+    (released_first num den (delay_ticks num den epoch) tick slot pos den_pos).0 released in
     let end : (slot + 1) * num < (start + 1 + div_ceil num den) * den = ends_after_start num den slot den_pos in
     let room : (start + 1 + div_ceil num den) * den ≤ (tick - 3 * epoch) * den = mul-le-mul_right den (omega arith) in
     (omega arith, (over_by num den slot (tick - 3 * epoch) pos).1 (omega arith))
@@ -252,13 +271,15 @@ held_slots : (num den delay tick first : ℕ) → 0 < num → 0 < den → releas
 held_slots num den delay tick first pos den_pos released =
     let count = slot_count num den tick in
     let over : count * num ≤ tick * den = (count_reaches num den count tick pos).0 (omega arith) in
-    let given : (tick + 1 - delay) * den ≤ released_count num den delay tick * num = div_ceil-ge ((tick + 1 - delay) * den) num pos in
+    let given : (tick + 1 - delay) * den ≤ released_count num den delay tick * num =
+    div_ceil-ge ((tick + 1 - delay) * den) num pos in
     let first_given : released_count num den delay tick * num ≤ first * num = mul-le-mul_right num released in
     let split : tick * den ≤ (tick + 1 - delay + delay) * den = mul-le-mul_right den (omega arith) in
     elim (cases_lt first count) [
       | inl some ↦
           let whole : count ≡ count - first + first = omega arith in
-          let parts : count * num ≡ (count - first) * num + first * num = ap (λ (k : ℕ). k * num) whole ∙ add-mul (count - first) first num in
+          let parts : count * num ≡ (count - first) * num + first * num = ap (λ (k : ℕ). k * num) whole
+          ∙ add-mul (count - first) first num in
           omega (arith, add-mul (tick + 1 - delay) delay den)
       | inr none ↦
           let zero_held : count - first ≡ 0 = omega arith in

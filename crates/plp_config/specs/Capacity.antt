@@ -1,5 +1,6 @@
 -- What a block holds, and whether the PLPs fit their frames.
-use Rattle.std.specs.Prelude.{◌≡◌, ℕ, ◌-◌, ◌*◌, ◌/◌, ◌%◌, ◌<◌, ◌≤◌, Bool, true, false, None, length, sum_by, unwrap_or, MatchBool, IsSomeAnd, if◌then◌else◌}
+use Rattle.std.specs.Prelude.{◌≡◌, ℕ, ◌-◌, ◌*◌, ◌/◌, ◌%◌, ◌<◌, ◌≤◌, Bool, true, false, None, length, sum_by, unwrap_or, MatchBool}
+use Rattle.std.specs.Prelude.{IsSomeAnd, if◌then◌else◌}
 use Rattle.std.specs.Int.{div_ceil}
 use Rattle.plp_config.specs.FirstFailure.{HoldsBelow, IsFirstFailure}
 use Rattle.plp_config.specs.Plps.{plp_at}
@@ -8,7 +9,7 @@ use Rattle.plp_config.specs.SlotTime.{num, den}
 use Rattle.plp_config.specs.Tables.{info_bits, cells_per_block}
 use Rattle.plp_config.specs.declared.config.Config.{Config}
 use Rattle.plp_config.specs.declared.capacity.CapacityFault.{CapacityFault}
-use Rattle.plp_config.specs.declared.plp.PlpKind.TheVariants.{Type2}
+use Rattle.plp_config.specs.declared.plp.PlpType.TheVariants.{Type2}
 
 -- bytes of a baseband frame, and of its data field, behind a header of 80 bits (EN 302 755, clause 5.1)
 unfoldable pub block_bytes : Config → ℕ → ℕ
@@ -49,7 +50,7 @@ test_number CellAddresses = 4
 -- what the tests of the PLPs ask at a place; the others ask nothing there
 abbrev pub PlaceFits : Test → Config → ℕ → Type 0
 PlaceFits Throughput c plp = up_bytes c plp * c.ticks * den c plp ≤ capacity c plp * num c
-PlaceFits EvenSubSlices c plp = (plp_at c.plps plp).kind ≡ Type2 → block_cells c plp % c.sub_slices ≡ 0
+PlaceFits EvenSubSlices c plp = (plp_at c.plps plp).plp_type ≡ Type2 → block_cells c plp % c.sub_slices ≡ 0
 PlaceFits _ c plp = Unit {0}
 
 -- what each test demands
@@ -93,7 +94,8 @@ pub record Lacks (c : Config) (fault : CapacityFault) : Type 0 where
   pub number : fault.test ≡ test_number test
   pub fails : ¬ (TestHolds test c)
   pub lower : TestsBelow (test_number test) c
-  pub place : MatchBool (is_of_plps test) (IsSomeAnd fault.plp (IsFirstFailure (PlaceFits test c) (length c.plps))) (fault.plp ≡ None)
+  pub place : MatchBool (is_of_plps test) (IsSomeAnd fault.plp (IsFirstFailure (PlaceFits test c) (length c.plps)))
+      (fault.plp ≡ None)
   pub need : fault.need ≡ need_of test c (unwrap_or fault.plp 0)
   pub supply : fault.have ≡ supply_of test c (unwrap_or fault.plp 0)
 

@@ -11,6 +11,6 @@ pub record IsFirstFailure (holds : ℕ → Type 0) (count place : ℕ) : Type 0 
   pub fails : ¬ (holds place)
   pub before : HoldsBelow holds place
 
--- the answer of a search for it: None where the demand holds everywhere
+-- the answer of a search for it: None if the demand holds everywhere
 abbrev pub FindsFailure : (ℕ → Type 0) → ℕ → Option ℕ → Type 0
 FindsFailure holds count answer = MatchOption answer (HoldsBelow holds count) (IsFirstFailure holds count)

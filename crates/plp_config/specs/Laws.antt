@@ -12,7 +12,8 @@ use Rattle.plp_config.specs.declared.config.Config.{Config}
 use Rattle.plp_config.specs.declared.moment.Moment.{Moment}
 use Rattle.plp_config.specs.declared.plp.TheConstants.{MOST_FIELD_BYTES}
 use Rattle.plp_config.specs.declared.rules.ConfigFault.{ConfigFault}
-use Rattle.plp_config.specs.SlotTime.{num, den, slot_start, slot_count, InRange, iscr_slot, delay, delay_ticks, released_count, window_slots, IsReleased}
+use Rattle.plp_config.specs.SlotTime.{num, den, slot_start, slot_count, InRange, iscr_slot, delay, delay_ticks, released_count}
+use Rattle.plp_config.specs.SlotTime.{window_slots, IsReleased}
 
 -- a slot starts before a tick
 abbrev pub StartsBefore : Type 0
@@ -24,7 +25,8 @@ StartsFrom = (num den slot tick : ℕ) → 0 < den → (tick ≤ slot_start num 
 
 -- a slot starts in a tick
 abbrev pub StartsAt : Type 0
-StartsAt = (num den slot tick : ℕ) → 0 < den → (slot_start num den slot ≡ tick) ↔ ((tick * den ≤ slot * num) × (slot * num < (tick + 1) * den))
+StartsAt = (num den slot tick : ℕ) → 0 < den → (slot_start num den slot ≡ tick)
+    ↔ ((tick * den ≤ slot * num) × (slot * num < (tick + 1) * den))
 
 -- a slot is over by a tick: its end, the start of the next one, is not after it
 abbrev pub OverBy : Type 0
@@ -70,7 +72,8 @@ RangeBounds = (num den epoch m slot : ℕ) → 0 < num → InRange num den epoch
 
 -- two slots of one epoch start an epoch apart at most
 abbrev pub SpansEpoch : Type 0
-SpansEpoch = (num den epoch m slot later : ℕ) → 0 < den → den ≤ num → InRange num den epoch m slot → InRange num den epoch m later → slot < later
+SpansEpoch = (num den epoch m slot later : ℕ) → 0 < den → den ≤ num → InRange num den epoch m slot → InRange num den epoch m later
+    → slot < later
     → (slot_start num den slot < slot_start num den later) × (slot_start num den later ≤ slot_start num den slot + epoch)
 
 -- ISCR, the start of a slot modulo 2^22, tells the slots of an epoch apart. Both premises are needed
@@ -79,18 +82,20 @@ OneSlotPerIscr = (num den epoch m slot later : ℕ) → 0 < den → den ≤ num 
     → InRange num den epoch m slot → InRange num den epoch m later → slot < later
     → slot_start num den slot % 2 ^ 22 ≢ slot_start num den later % 2 ^ 22
 
--- what the ISCR gives is the slot, where it is one of the range
+-- what the ISCR gives is the slot, if it is one of the range
 abbrev pub IscrFindsSlot : Type 0
 IscrFindsSlot = (num den epoch m slot : ℕ) → 0 < den → den ≤ num → epoch < 2 ^ 22 → InRange num den epoch m slot
     → iscr_slot num den epoch m (slot_start num den slot % 2 ^ 22) ≡ slot
 
 -- the delay of a slot has not passed when two epochs more have ended after the one in which the slot ends
 abbrev pub DelayOutlasts : Type 0
-DelayOutlasts = (num den epoch m slot : ℕ) → 0 < num → 0 < den → InRange num den epoch m slot → (m + 2) * epoch < slot_start num den slot + delay_ticks num den epoch
+DelayOutlasts = (num den epoch m slot : ℕ) → 0 < num → 0 < den → InRange num den epoch m slot
+    → (m + 2) * epoch < slot_start num den slot + delay_ticks num den epoch
 
 -- the slots that are given out by a tick are the first ones
 abbrev pub ReleasedFirst : Type 0
-ReleasedFirst = (num den delay tick slot : ℕ) → 0 < num → 0 < den → (slot < released_count num den delay tick) ↔ (slot_start num den slot + delay ≤ tick)
+ReleasedFirst = (num den delay tick slot : ℕ) → 0 < num → 0 < den → (slot < released_count num den delay tick)
+    ↔ (slot_start num den slot + delay ≤ tick)
 
 -- the slots that are given out when a frame has ended are the first ones
 abbrev pub ReleasedByFrame : Type 0
@@ -153,7 +158,8 @@ TestsDecided = (c : Config) → AllTests c ⊎ ((fault : CapacityFault) × Lacks
 
 -- a slot lasts 38 ticks or more
 abbrev pub SlotLength : Type 0
-SlotLength = (c : Config) (plp : ℕ) → AllRules c → plp < length c.plps → (1 ≤ den c plp) × (den c plp < 2 ^ 33) × (38 * den c plp ≤ num c) × (num c < 2 ^ 38)
+SlotLength = (c : Config) (plp : ℕ) → AllRules c → plp < length c.plps → (1 ≤ den c plp) × (den c plp < 2 ^ 33)
+    × (38 * den c plp ≤ num c) × (num c < 2 ^ 38)
 
 -- a frame is an epoch in which the ISCR tells slots apart
 abbrev pub FrameTicks : Type 0
@@ -165,7 +171,8 @@ FrameQuarter = (c : Config) → AllRules c → (1 ≤ frame_subseconds c) × (4 
 
 -- the sizes of blocks: a data field is longer than a user packet, and shorter than 65,535 bits
 abbrev pub FieldRange : Type 0
-FieldRange = (c : Config) (plp : ℕ) → (869 ≤ field_bytes c plp) × (field_bytes c plp ≤ MOST_FIELD_BYTES) × (block_bytes c plp ≡ field_bytes c plp + 10)
+FieldRange = (c : Config) (plp : ℕ) → (869 ≤ field_bytes c plp) × (field_bytes c plp ≤ MOST_FIELD_BYTES)
+    × (block_bytes c plp ≡ field_bytes c plp + 10)
 
 -- a block is whole bytes
 abbrev pub BlockBits : Type 0

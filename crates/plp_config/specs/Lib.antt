@@ -3,11 +3,12 @@ pub mod Plps
 pub mod Places
 pub mod FirstFailure
 pub mod Rules
-pub mod RuleTests
 pub mod SlotTime
 pub mod Capacity
-pub mod CapacityTests
 pub mod Ranges
 pub mod Emission
 pub mod RunLength
 pub mod Laws
+-- inner: no public clause cites these
+pub mod RuleTests
+pub mod CapacityTests

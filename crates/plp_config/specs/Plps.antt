@@ -2,8 +2,8 @@
 use Rattle.std.specs.Prelude.{ℕ, Bool, true, false, List, slice_index_or}
 use Rattle.std.specs.List.{list_any}
 use Rattle.plp_config.specs.declared.plp.Plp.{Plp}
-use Rattle.plp_config.specs.declared.plp.PlpKind.{PlpKind}
-use Rattle.plp_config.specs.declared.plp.PlpKind.TheVariants.{Type1, Type2}
+use Rattle.plp_config.specs.declared.plp.PlpType.{PlpType}
+use Rattle.plp_config.specs.declared.plp.PlpType.TheVariants.{Type1, Type2}
 use Rattle.plp_config.specs.declared.plp.FecSize.TheVariants.{Short}
 use Rattle.plp_config.specs.declared.plp.Rate.TheVariants.{R1_2}
 use Rattle.plp_config.specs.declared.plp.Modulation.TheVariants.{Qpsk}
@@ -12,7 +12,7 @@ use Rattle.plp_config.specs.declared.plp.Modulation.TheVariants.{Qpsk}
 abbrev pub no_plp : Plp
 no_plp = record {
   id = 0;
-  kind = Type1;
+  plp_type = Type1;
   group = 0;
   rate = R1_2;
   modulation = Qpsk;
@@ -29,14 +29,14 @@ abbrev pub plp_at : List Plp → ℕ → Plp
 plp_at plps place = slice_index_or plps place no_plp
 
 -- PLP_TYPE (EN 302 755, clause 7.2.3.1)
-abbrev pub plp_type : PlpKind → ℕ
-plp_type Type1 = 1
-plp_type Type2 = 2
+abbrev pub type_number : PlpType → ℕ
+type_number Type1 = 1
+type_number Type2 = 2
 
-abbrev pub is_type2 : PlpKind → Bool
+abbrev pub is_type2 : PlpType → Bool
 is_type2 Type1 = false
 is_type2 Type2 = true
 
 -- whether a PLP is of type 2
 abbrev pub has_type2 : List Plp → Bool
-has_type2 plps = list_any (λ plp. is_type2 plp.kind) plps
+has_type2 plps = list_any (λ plp. is_type2 plp.plp_type) plps

@@ -1,7 +1,7 @@
 -- The rules of a configuration. A rule's number is its place in `Rule`, from 1.
 use Rattle.std.specs.Prelude.{◌≡◌, ◌≢◌, ℕ, ◌<◌, ◌≤◌, ◌%◌, ◌^◌, min, length, nat_le, None, MatchBool, IsSomeAnd}
 use Rattle.plp_config.specs.FirstFailure.{HoldsBelow, IsFirstFailure}
-use Rattle.plp_config.specs.Plps.{plp_at, plp_type, has_type2}
+use Rattle.plp_config.specs.Plps.{plp_at, type_number, has_type2}
 use Rattle.plp_config.specs.Tables.{subseconds_per_second, greatest_ticks}
 use Rattle.plp_config.specs.declared.config.Config.{Config}
 use Rattle.plp_config.specs.declared.config.L1Numbers.{L1Numbers}
@@ -19,7 +19,7 @@ pub data Rule : Type 0 where
   SubSlices : Rule
   PlpCount : Rule
   DistinctIds : Rule
-  KindOrder : Rule
+  TypeOrder : Rule
   BlockLimit : Rule
   InterleaverLength : Rule
   BitRate : Rule
@@ -35,7 +35,7 @@ rule_number L1Fields = 7
 rule_number SubSlices = 8
 rule_number PlpCount = 9
 rule_number DistinctIds = 10
-rule_number KindOrder = 11
+rule_number TypeOrder = 11
 rule_number BlockLimit = 12
 rule_number InterleaverLength = 13
 rule_number BitRate = 14
@@ -58,7 +58,8 @@ pub record FitsL1 (l1 : L1Numbers) : Type 0 where
 -- what the rules of the PLPs ask of the PLP at a place; the other rules ask nothing of it
 abbrev pub PlaceHolds : Rule → Config → ℕ → Type 0
 PlaceHolds DistinctIds c place = HoldsBelow (λ earlier. (plp_at c.plps earlier).id ≢ (plp_at c.plps place).id) place
-PlaceHolds KindOrder c place = HoldsBelow (λ earlier. plp_type (plp_at c.plps earlier).kind ≤ plp_type (plp_at c.plps place).kind) place
+PlaceHolds TypeOrder c place =
+    HoldsBelow (λ earlier. type_number (plp_at c.plps earlier).plp_type ≤ type_number (plp_at c.plps place).plp_type) place
 PlaceHolds BlockLimit c place = (1 ≤ (plp_at c.plps place).blocks) × ((plp_at c.plps place).blocks ≤ MOST_BLOCKS)
 PlaceHolds InterleaverLength c place = (plp_at c.plps place).interleave ≤ min (plp_at c.plps place).blocks 255
 PlaceHolds BitRate c place = (1 ≤ (plp_at c.plps place).bits_per_second) × ((plp_at c.plps place).bits_per_second ≤ 72000000)
@@ -91,4 +92,5 @@ pub record Refuses (c : Config) (fault : ConfigFault) : Type 0 where
   pub number : fault.rule ≡ rule_number rule
   pub fails : ¬ (RuleHolds rule c)
   pub lower : RulesBelow (rule_number rule) c
-  pub place : MatchBool (nat_le 10 (rule_number rule)) (IsSomeAnd fault.plp (IsFirstFailure (PlaceHolds rule c) (length c.plps))) (fault.plp ≡ None)
+  pub place : MatchBool (nat_le 10 (rule_number rule)) (IsSomeAnd fault.plp (IsFirstFailure (PlaceHolds rule c) (length c.plps)))
+      (fault.plp ≡ None)

@@ -24,7 +24,8 @@ tick_of_iscr from iscr = from + (iscr + 2 ^ 22 - from % 2 ^ 22) % 2 ^ 22
 
 -- the slot that an ISCR names, among those of an epoch
 abbrev pub iscr_slot : ℕ → ℕ → ℕ → ℕ → ℕ → ℕ
-iscr_slot num den epoch m iscr = div_ceil (tick_of_iscr (slot_start num den (slot_count num den ((m - 1) * epoch))) iscr * den) num
+iscr_slot num den epoch m iscr =
+    div_ceil (tick_of_iscr (slot_start num den (slot_count num den ((m - 1) * epoch))) iscr * den) num
 
 -- the constant delay from a slot's start until its packet is given out
 abbrev pub delay_ticks : ℕ → ℕ → ℕ → ℕ

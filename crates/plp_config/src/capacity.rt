@@ -10,7 +10,7 @@ ghost use Rattle.plp_config.specs.CapacityTests.{AnswersTest};
 use crate::at::At;
 use crate::config::Config;
 use crate::plan::Plan;
-use crate::plp::PlpKind;
+use crate::plp::PlpType;
 use crate::rules::Valid;
 use crate::values::{
     block_cells, capacity, den, num, plp_at, plp_count, sub_slices, ticks, up_bytes,
@@ -178,7 +178,7 @@ fn is_even(config: &Config, plp: usize) -> bool
     requires configured { plp < length config.now.plps }
     ensures { IsTrue result ↔ PlaceFits EvenSubSlices config.now plp }
 {
-    plp_at(config, plp).kind != PlpKind::Type2
+    plp_at(config, plp).plp_type != PlpType::Type2
         || block_cells(config, plp) % u32::from(sub_slices(config)) == 0
 }
 

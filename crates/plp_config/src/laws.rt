@@ -1,7 +1,7 @@
 // Laws between the definitions, for the crates above. No function here does anything.
 ghost use Rattle.plp_config.specs.Laws.{StartsBefore, StartsFrom, StartsAt, OverBy, NotOverBy, CountReaches, StartRises, CountRises, NoneAtZero, EndsAfterStart, StartsApart, RangesPartition, RangeBounds, SpansEpoch, OneSlotPerIscr, IscrFindsSlot, DelayOutlasts, ReleasedFirst, ReleasedByFrame, ReleasedOld, WindowHolds, EmissionTotal, EmissionsDiffer, EmissionFound, EmissionFits, FrameCountLeast, OneRuleFails, RefusalFails, RulesDecided, OneTestFails, LackFails, TestsDecided, SlotLength, FrameTicks, FrameQuarter, FieldRange, BlockBits, UserPacketRange, CapacityHoldsUp, CellsByFive, BlockChunks};
 
-/// When slots start and when they are over. A count reaches a number exactly where the end of the
+/// When slots start and when they are over. A count reaches a number exactly if the end of the
 /// last slot below it is not after the tick.
 pub fn slot_time_law()
     ensures starts_before { StartsBefore }

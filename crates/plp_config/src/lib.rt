@@ -28,7 +28,7 @@ pub use moment::{MOST_FRAMES, Moment};
 pub use plan::Plan;
 pub use plp::{
     FecSize, MOST_BLOCK_BYTES, MOST_BLOCKS, MOST_CAPACITY, MOST_FIELD_BYTES, MOST_INFO_BITS,
-    Modulation, Plp, PlpKind, Rate,
+    Modulation, Plp, PlpType, Rate,
 };
 pub use rules::{ConfigFault, Valid, validate};
 

@@ -7,7 +7,7 @@ ghost use Rattle.plp_config.specs.RuleTests.{TellsRules};
 
 use crate::config::Config;
 use crate::list::MOST_PLPS;
-use crate::plp::{Plp, PlpKind};
+use crate::plp::{Plp, PlpType};
 
 // Whether each of the rules 1 to 9 holds.
 pub(crate) fn network_tests(config: &Config) -> [bool; 9]
@@ -103,7 +103,7 @@ fn has_sub_slices(config: &Config) -> bool
 fn has_type2(plps: &[Plp]) -> bool
     ensures { result ≡ has_type2 plps.now }
 {
-    plps.iter().any(|plp| plp.kind == PlpKind::Type2)
+    plps.iter().any(|plp| plp.plp_type == PlpType::Type2)
 }
 
 fn has_plp_count(config: &Config) -> bool

@@ -1,6 +1,6 @@
 // One physical layer pipe, and the tables of its blocks.
 ghost use Rattle.std.specs.Prelude.{◌≡◌, ◌<◌, ◌≤◌};
-ghost use Rattle.plp_config.specs.Plps.{plp_type};
+ghost use Rattle.plp_config.specs.Plps.{type_number};
 ghost use Rattle.plp_config.specs.Tables.{plp_cod, plp_mod, plp_fec_type, info_bits, cells_per_block};
 
 /// Bits of a baseband frame at most, those of a normal block at rate 5/6.
@@ -20,17 +20,17 @@ pub const MOST_CAPACITY: u32 = MOST_BLOCKS as u32 * MOST_FIELD_BYTES;
 
 /// How a PLP lies in a frame. Its number is PLP_TYPE (EN 302 755, clause 7.2.3.1).
 #[derive(Clone, Copy, Debug, PartialEq, Eq)]
-pub enum PlpKind {
+pub enum PlpType {
     /// One slice in each frame.
     Type1 = 1,
     /// Several sub-slices in each frame.
     Type2 = 2,
 }
 
-impl PlpKind {
+impl PlpType {
     /// PLP_TYPE.
-    pub fn plp_type(self) -> u8
-        ensures { result ≡ plp_type self }
+    pub fn number(self) -> u8
+        ensures { result ≡ type_number self }
     {
         self as u8
     }
@@ -111,7 +111,7 @@ pub struct Plp {
     /// PLP_ID; no two PLPs have one.
     pub id: u8,
     /// PLP_TYPE.
-    pub kind: PlpKind,
+    pub plp_type: PlpType,
     /// PLP_GROUP_ID.
     pub group: u8,
     /// PLP_COD.

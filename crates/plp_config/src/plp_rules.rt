@@ -1,7 +1,7 @@
 // The rules of the PLPs, each by the first place where it fails.
 ghost use Rattle.std.specs.Prelude.{length};
 ghost use Rattle.plp_config.specs.FirstFailure.{FindsFailure};
-ghost use Rattle.plp_config.specs.Rules.{PlaceHolds, DistinctIds, KindOrder, BlockLimit, InterleaverLength, BitRate};
+ghost use Rattle.plp_config.specs.Rules.{PlaceHolds, DistinctIds, TypeOrder, BlockLimit, InterleaverLength, BitRate};
 
 use crate::config::Config;
 use crate::plp::MOST_BLOCKS;
@@ -22,12 +22,12 @@ pub(crate) fn repeated_id(config: &Config) -> Option<usize>
 }
 
 // The first PLP behind one of a later type.
-pub(crate) fn falling_kind(config: &Config) -> Option<usize>
-    ensures { FindsFailure (PlaceHolds KindOrder config.now) (length config.now.plps) result }
+pub(crate) fn falling_type(config: &Config) -> Option<usize>
+    ensures { FindsFailure (PlaceHolds TypeOrder config.now) (length config.now.plps) result }
 {
     let mut last = 0;
     for (place, plp) in config.plps.as_slice().iter().enumerate() {
-        let plp_type = plp.kind.plp_type();
+        let plp_type = plp.plp_type.number();
         if plp_type < last {
             return Some(place);
         }

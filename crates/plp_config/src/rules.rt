@@ -7,7 +7,7 @@ use crate::at::At;
 use crate::config::Config;
 use crate::network_rules::network_tests;
 use crate::plp_rules::{
-    falling_kind, repeated_id, wrong_bit_rate, wrong_block_limit, wrong_interleaver_length,
+    falling_type, repeated_id, wrong_bit_rate, wrong_block_limit, wrong_interleaver_length,
 };
 use std::marker::Model;
 use thiserror::Error;
@@ -99,7 +99,7 @@ fn first_fault(config: &Config) -> Option<ConfigFault>
 {
     network_fault(config)
         .or(fault_at(10, repeated_id(config)))
-        .or(fault_at(11, falling_kind(config)))
+        .or(fault_at(11, falling_type(config)))
         .or(fault_at(12, wrong_block_limit(config)))
         .or(fault_at(13, wrong_interleaver_length(config)))
         .or(fault_at(14, wrong_bit_rate(config)))

@@ -1,11 +1,11 @@
 // PLPs, from which a test makes others: `Plp { id: 3, ..SMALL_PLP }`.
-use plp_config::{FecSize, Modulation, Plp, PlpKind, Rate};
+use plp_config::{FecSize, Modulation, Plp, PlpType, Rate};
 
 /// A PLP of 2 Mbit/s: QPSK at rate 1/2 in short blocks, which have 8,100 cells and carry 869 bytes; four of them a frame, which
 /// carry what 100,000 ticks bring.
 pub const SMALL_PLP: Plp = Plp {
     id: 0,
-    kind: PlpKind::Type1,
+    plp_type: PlpType::Type1,
     group: 1,
     rate: Rate::R1_2,
     modulation: Modulation::Qpsk,
@@ -53,7 +53,7 @@ pub const MIXED_PLPS: [Plp; 3] = [
     },
     Plp {
         id: 5,
-        kind: PlpKind::Type2,
+        plp_type: PlpType::Type2,
         group: 2,
         rate: Rate::R3_5,
         modulation: Modulation::Qam64,

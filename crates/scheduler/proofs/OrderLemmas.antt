@@ -1,5 +1,6 @@
 -- The PLPs of a shape stand one behind the other.
-use Rattle.std.proofs.Common.{◌≡◌, ℕ, zero, suc, ◌+◌, ◌-◌, ◌*◌, ◌<◌, ◌≤◌, ◌==◌, Bool, true, false, not, List, length, map, filter, sum_by, refl, ap, sym, ◌∙◌, subst, arith}
+use Rattle.std.proofs.Common.{◌≡◌, ℕ, zero, suc, ◌+◌, ◌-◌, ◌*◌, ◌<◌, ◌≤◌, ◌==◌, Bool, true, false, not, List, length, map, filter}
+use Rattle.std.proofs.Common.{sum_by, refl, ap, sym, ◌∙◌, subst, arith}
 use Rattle.std.specs.Prelude.{slice_index}
 use Rattle.std.specs.List.{range_with_len}
 use Rattle.std.proofs.lemmas.List.FromFn.{get_or-map-range_with_len}
@@ -11,10 +12,11 @@ use Rattle.plp_config.specs.Capacity.{IsPlan, block_cells, EvenSubSlices}
 use Rattle.plp_config.specs.Plps.{plp_at, is_type2, has_type2, no_plp}
 use Rattle.plp_config.specs.Rules.{SubSlices}
 use Rattle.plp_config.specs.declared.config.Config.{Config}
-use Rattle.plp_config.specs.declared.plp.PlpKind.{PlpKind}
-use Rattle.plp_config.specs.declared.plp.PlpKind.TheVariants.{Type1, Type2}
+use Rattle.plp_config.specs.declared.plp.PlpType.{PlpType}
+use Rattle.plp_config.specs.declared.plp.PlpType.TheVariants.{Type1, Type2}
 use Rattle.scheduler.specs.Laws.{ShapeStandsInOrder}
-use Rattle.scheduler.specs.Shape.{cells_of, slice_of, in_type2, type1_before, type2_before, type2_start_of, interval_of, start_of, shape_of}
+use Rattle.scheduler.specs.Shape.{cells_of, slice_of, in_type2, type1_before, type2_before, type2_start_of, interval_of, start_of}
+use Rattle.scheduler.specs.Shape.{shape_of}
 use Rattle.scheduler.proofs.SumLemmas.{sum-more, sum-rises, cells_fit}
 use Rattle.terms.proofs.CaseLemmas.{bool_cases}
 use Rattle.terms.proofs.NatLemmas.{cut_whole}
@@ -26,7 +28,8 @@ rise f test i j less passes =
     let here = rw passes at (sum-more f test i) in
     let e : i + 1 + (j - (i + 1)) ≡ j = omega arith in
     let more : sum_by f (filter test (range_with_len 0 (i + 1))) ≤ sum_by f (filter test (range_with_len 0 j)) =
-    subst (λ (n : ℕ). sum_by f (filter test (range_with_len 0 (i + 1))) ≤ sum_by f (filter test (range_with_len 0 n))) e (sum-rises f test (i + 1) (j - (i + 1))) in
+    subst (λ (n : ℕ). sum_by f (filter test (range_with_len 0 (i + 1))) ≤ sum_by f (filter test (range_with_len 0 n))) e
+    (sum-rises f test (i + 1) (j - (i + 1))) in
     omega (arith, here, more)
 
 -- where a PLP with blocks starts
@@ -36,23 +39,23 @@ some_count n h = bool_cases (n == 0) (λ e. let none : n ≡ 0 = eqb-true n 0 e 
 start_type1 : (c : Config) (counts : List ℕ) (plp : ℕ) → 0 < slice_index counts plp → in_type2 c plp ≡ false
     → start_of c counts plp ≡ sum_by (cells_of c counts) (type1_before c plp)
 unfolding start_of
-start_type1 c counts plp some kind = let e = some_count (slice_index counts plp) some in rw (e, kind) refl
+start_type1 c counts plp some plp_type = let e = some_count (slice_index counts plp) some in rw (e, plp_type) refl
 
 start_type2 : (c : Config) (counts : List ℕ) (plp : ℕ) → 0 < slice_index counts plp → in_type2 c plp ≡ true
     → start_of c counts plp ≡ type2_start_of c counts + sum_by (slice_of c counts) (type2_before c plp)
 unfolding start_of
-start_type2 c counts plp some kind = let e = some_count (slice_index counts plp) some in rw (e, kind) refl
+start_type2 c counts plp some plp_type = let e = some_count (slice_index counts plp) some in rw (e, plp_type) refl
 
 type2_start_is : (c : Config) (counts : List ℕ) (plp : ℕ) → plp < length c.plps → in_type2 c plp ≡ true
     → type2_start_of c counts ≡ sum_by (cells_of c counts) (type1_before c (length c.plps))
 unfolding type2_start_of
-type2_start_is c counts plp inside kind =
-    let has : has_type2 c.plps ≡ true = list_any_at (λ plp. is_type2 plp.kind) c.plps plp no_plp inside kind in
+type2_start_is c counts plp inside plp_type =
+    let has : has_type2 c.plps ≡ true = list_any_at (λ plp. is_type2 plp.plp_type) c.plps plp no_plp inside plp_type in
     rw has refl
 
-kind_is : (kind : PlpKind) → is_type2 kind ≡ true → kind ≡ Type2
-kind_is Type1 h = cc
-kind_is Type2 h = refl
+type_is : (plp_type : PlpType) → is_type2 plp_type ≡ true → plp_type ≡ Type2
+type_is Type1 h = cc
+type_is Type2 h = refl
 
 sub_slices-some : (c : Config) → IsPlan c → 0 < c.sub_slices
 sub_slices-some c is = bool_cases (has_type2 c.plps)
@@ -69,32 +72,39 @@ slices_of_cells c counts (suc place) is inside =
     let rest = slices_of_cells c counts place is (omega arith) in
     let a = sum-more (slice_of c counts) (in_type2 c) place in
     let b = sum-more (cells_of c counts) (in_type2 c) place in
-    let next : c.sub_slices * sum_by (slice_of c counts) (type2_before c (place + 1)) ≡ sum_by (cells_of c counts) (type2_before c (place + 1)) =
+    let next : c.sub_slices * sum_by (slice_of c counts) (type2_before c (place + 1))
+    ≡ sum_by (cells_of c counts) (type2_before c (place + 1)) =
     bool_cases (in_type2 c place)
-    (λ t. let even = is.tests EvenSubSlices place here (kind_is (plp_at c.plps place).kind t) in
-    let one : c.sub_slices * slice_of c counts place ≡ cells_of c counts place = cut_whole (slice_index counts place) (block_cells c place) c.sub_slices (sub_slices-some c is) even in
+    (λ t. let even = is.tests EvenSubSlices place here (type_is (plp_at c.plps place).plp_type t) in
+    let one : c.sub_slices * slice_of c counts place ≡ cells_of c counts place =
+    cut_whole (slice_index counts place) (block_cells c place) c.sub_slices (sub_slices-some c is) even in
     let a' = rw t at a in
     let b' = rw t at b in
     rw (a', b') (omega (arith, rest, one)))
     (λ t. let a' = rw t at a in
     let b' = rw t at b in
     rw (a', b') (omega (arith, rest))) in
-    subst (λ (k : ℕ). c.sub_slices * sum_by (slice_of c counts) (type2_before c k) ≡ sum_by (cells_of c counts) (type2_before c k)) (sym e) next
+    subst (λ (k : ℕ). c.sub_slices * sum_by (slice_of c counts) (type2_before c k)
+    ≡ sum_by (cells_of c counts) (type2_before c k)) (sym e) next
 
 -- the sub-slices are within an interval, and the intervals within the frame
-slices_within : (c : Config) (counts : List ℕ) → IsPlan c → sum_by (slice_of c counts) (type2_before c (length c.plps)) ≤ interval_of c counts
+slices_within : (c : Config) (counts : List ℕ) → IsPlan c → sum_by (slice_of c counts) (type2_before c (length c.plps))
+    ≤ interval_of c counts
 unfolding interval_of
 slices_within c counts is =
     let n : ℕ = length c.plps in
     let all = slices_of_cells c counts n is (omega arith) in
-    le-div (sum_by (slice_of c counts) (type2_before c n)) (sum_by (cells_of c counts) (type2_before c n)) c.sub_slices (sub_slices-some c is) (omega (arith, all))
+    le-div (sum_by (slice_of c counts) (type2_before c n)) (sum_by (cells_of c counts) (type2_before c n)) c.sub_slices
+    (sub_slices-some c is) (omega (arith, all))
 
-intervals_within : (c : Config) (counts : List ℕ) → interval_of c counts * c.sub_slices ≤ sum_by (cells_of c counts) (type2_before c (length c.plps))
+intervals_within : (c : Config) (counts : List ℕ) → interval_of c counts * c.sub_slices
+    ≤ sum_by (cells_of c counts) (type2_before c (length c.plps))
 unfolding interval_of
 intervals_within c counts = div-mul-le_self (sum_by (cells_of c counts) (type2_before c (length c.plps))) c.sub_slices
 
 -- a start is read
-started : (c : Config) (counts : List ℕ) (plp : ℕ) → plp < length c.plps → slice_index (map (start_of c counts) (range_with_len 0 (length c.plps))) plp ≡ start_of c counts plp
+started : (c : Config) (counts : List ℕ) (plp : ℕ) → plp < length c.plps
+    → slice_index (map (start_of c counts) (range_with_len 0 (length c.plps))) plp ≡ start_of c counts plp
 started c counts plp inside = get_or-map-range_with_len (start_of c counts) 0 (length c.plps) plp plp 0 inside (omega arith)
 
 -- where the PLPs of either type stand
@@ -104,20 +114,26 @@ pub record Stands1 (c : Config) (counts : List ℕ) (plp start : ℕ) : Type 0 w
 
 stands1 : (c : Config) (counts : List ℕ) (plp : ℕ) → plp < length c.plps → 0 < slice_index counts plp → in_type2 c plp ≡ false
     → Stands1 c counts plp (slice_index (map (start_of c counts) (range_with_len 0 (length c.plps))) plp)
-stands1 c counts plp inside some kind =
-    let is = started c counts plp inside ∙ start_type1 c counts plp some kind in
-    record { is = is; upto = λ j less. omega (arith, is, rise (cells_of c counts) (λ plp. not (in_type2 c plp)) plp j less (ap not kind)) }
+stands1 c counts plp inside some plp_type =
+    let is = started c counts plp inside ∙ start_type1 c counts plp some plp_type in
+    record {
+      is = is;
+      upto = λ j less.
+          omega (arith, is, rise (cells_of c counts) (λ plp. not (in_type2 c plp)) plp j less (ap not plp_type));
+    }
 
 pub record Stands2 (c : Config) (counts : List ℕ) (plp start : ℕ) : Type 0 where
   pub is : start ≡ sum_by (cells_of c counts) (type1_before c (length c.plps)) + sum_by (slice_of c counts) (type2_before c plp)
-  pub upto : (j : ℕ) → plp < j → start + slice_of c counts plp ≤ sum_by (cells_of c counts) (type1_before c (length c.plps)) + sum_by (slice_of c counts) (type2_before c j)
+  pub upto : (j : ℕ) → plp < j → start + slice_of c counts plp ≤ sum_by (cells_of c counts) (type1_before c (length c.plps))
+      + sum_by (slice_of c counts) (type2_before c j)
 
 stands2 : (c : Config) (counts : List ℕ) (plp : ℕ) → plp < length c.plps → 0 < slice_index counts plp → in_type2 c plp ≡ true
     → Stands2 c counts plp (slice_index (map (start_of c counts) (range_with_len 0 (length c.plps))) plp)
-stands2 c counts plp inside some kind =
-    let first = type2_start_is c counts plp inside kind in
-    let is = started c counts plp inside ∙ start_type2 c counts plp some kind ∙ ap (λ (n : ℕ). n + sum_by (slice_of c counts) (type2_before c plp)) first in
-    record { is = is; upto = λ j less. omega (arith, is, rise (slice_of c counts) (in_type2 c) plp j less kind) }
+stands2 c counts plp inside some plp_type =
+    let first = type2_start_is c counts plp inside plp_type in
+    let is = started c counts plp inside ∙ start_type2 c counts plp some plp_type
+    ∙ ap (λ (n : ℕ). n + sum_by (slice_of c counts) (type2_before c plp)) first in
+    record { is = is; upto = λ j less. omega (arith, is, rise (slice_of c counts) (in_type2 c) plp j less plp_type) }
 
 pub stands_in_order : ShapeStandsInOrder
 unfolding shape_of
@@ -131,9 +147,16 @@ stands_in_order c counts is fit =
       type1 = λ i j less a b. omega (arith, (stands1 c counts i a.0 a.1 a.2).upto j less, (stands1 c counts j b.0 b.1 b.2).is);
       types = λ i j a b. omega (arith, (stands1 c counts i a.0 a.1 a.2).upto n a.0, (stands2 c counts j b.0 b.1 b.2).is);
       type2 = λ i j less a b. omega (arith, (stands2 c counts i a.0 a.1 a.2).upto j less, (stands2 c counts j b.0 b.1 b.2).is);
-      interval = λ i j a b. omega (arith, (stands2 c counts i a.0 a.1 a.2).is, (stands2 c counts j b.0 b.1 b.2).upto n b.0, within);
+      interval = λ i j a b. omega (
+        arith,
+        (stands2 c counts i a.0 a.1 a.2).is,
+        (stands2 c counts j b.0 b.1 b.2).upto n b.0,
+        within,
+      );
       end1 = λ i a. omega (arith, (stands1 c counts i a.0 a.1 a.2).upto n a.0, all);
       end2 = λ i a.
-          let last : (c.sub_slices - 1) * interval_of c counts + interval_of c counts ≡ interval_of c counts * c.sub_slices = (let e : c.sub_slices - 1 + 1 ≡ c.sub_slices = omega arith in omega (arith, ap (λ (k : ℕ). k * interval_of c counts) e)) in
+          let last : (c.sub_slices - 1) * interval_of c counts + interval_of c counts ≡ interval_of c counts * c.sub_slices =
+          (let e : c.sub_slices - 1 + 1 ≡ c.sub_slices = omega arith in
+          omega (arith, ap (λ (k : ℕ). k * interval_of c counts) e)) in
           omega (arith, (stands2 c counts i a.0 a.1 a.2).upto n a.0, within, last, whole, all);
     }

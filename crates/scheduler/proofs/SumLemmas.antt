@@ -1,5 +1,6 @@
 -- Sums over the PLPs before a place stay within the cells of a frame.
-use Rattle.std.proofs.Common.{◌≡◌, ℕ, zero, suc, ◌+◌, ◌-◌, ◌*◌, ◌<◌, ◌≤◌, Bool, true, false, cond, not, List, [], ◌∷◌, length, take, filter, sum_by, refl, ap, sym, ◌∙◌, subst, arith}
+use Rattle.std.proofs.Common.{◌≡◌, ℕ, zero, suc, ◌+◌, ◌-◌, ◌*◌, ◌<◌, ◌≤◌, Bool, true, false, cond, not, List, [], ◌∷◌, length}
+use Rattle.std.proofs.Common.{take, filter, sum_by, refl, ap, sym, ◌∙◌, subst, arith}
 use Rattle.std.specs.Prelude.{slice_index}
 use Rattle.std.specs.List.{range_with_len}
 use Rattle.std.proofs.lemmas.List.Elements.{filter-append}
@@ -56,18 +57,23 @@ cells-le c counts plp fit inside =
 
 -- the same of the PLPs before a place
 cells_before-le : (c : Config) (counts : List ℕ) (place : ℕ) → CountsFit c counts → place ≤ length c.plps
-    → sum_by (cells_of c counts) (range_with_len 0 place) ≤ sum_by (λ plp. plp.blocks * cells_per_block plp.fec plp.modulation) (take place c.plps)
+    → sum_by (cells_of c counts) (range_with_len 0 place) ≤ sum_by (λ plp. plp.blocks * cells_per_block plp.fec plp.modulation)
+    (take place c.plps)
 cells_before-le c counts zero fit inside = omega arith
 cells_before-le c counts (suc place) fit inside =
     let here : place < length c.plps = omega arith in
     let room : Plp → ℕ = λ plp. plp.blocks * cells_per_block plp.fec plp.modulation in
     let e : suc place ≡ place + 1 = omega arith in
-    let a : sum_by (cells_of c counts) (range_with_len 0 (place + 1)) ≡ sum_by (cells_of c counts) (range_with_len 0 place) + cells_of c counts place =
+    let a : sum_by (cells_of c counts) (range_with_len 0 (place + 1)) ≡ sum_by (cells_of c counts) (range_with_len 0 place)
+    + cells_of c counts place =
     ap (sum_by (cells_of c counts)) (places_more place) ∙ sum_by_push (cells_of c counts) (range_with_len 0 place) place in
-    let b : sum_by room (take (place + 1) c.plps) ≡ sum_by room (take place c.plps) + room (plp_at c.plps place) = sum_by_more room c.plps place no_plp here in
+    let b : sum_by room (take (place + 1) c.plps) ≡ sum_by room (take place c.plps) + room (plp_at c.plps place) =
+    sum_by_more room c.plps place no_plp here in
     let one : cells_of c counts place ≤ room (plp_at c.plps place) = cells-le c counts place fit here in
-    let rest : sum_by (cells_of c counts) (range_with_len 0 place) ≤ sum_by room (take place c.plps) = cells_before-le c counts place fit (omega arith) in
-    let next : sum_by (cells_of c counts) (range_with_len 0 (place + 1)) ≤ sum_by room (take (place + 1) c.plps) = omega (arith, a, b, one, rest) in
+    let rest : sum_by (cells_of c counts) (range_with_len 0 place) ≤ sum_by room (take place c.plps) =
+    cells_before-le c counts place fit (omega arith) in
+    let next : sum_by (cells_of c counts) (range_with_len 0 (place + 1)) ≤ sum_by room (take (place + 1) c.plps) =
+    omega (arith, a, b, one, rest) in
     subst (λ (k : ℕ). sum_by (cells_of c counts) (range_with_len 0 k) ≤ sum_by room (take k c.plps)) (sym e) next
 
 -- the PLPs before a place fill no more cells than a frame has
@@ -76,7 +82,8 @@ pub cells_fit : (c : Config) (counts : List ℕ) (place : ℕ) → IsPlan c → 
 unfolding cell_need
 cells_fit c counts place is fit inside =
     let room : Plp → ℕ = λ plp. plp.blocks * cells_per_block plp.fec plp.modulation in
-    let parts : sum_by (cells_of c counts) (type2_before c place) + sum_by (cells_of c counts) (type1_before c place) ≡ sum_by (cells_of c counts) (range_with_len 0 place) =
+    let parts : sum_by (cells_of c counts) (type2_before c place) + sum_by (cells_of c counts) (type1_before c place)
+    ≡ sum_by (cells_of c counts) (range_with_len 0 place) =
     sum_by-filter_both (in_type2 c) (λ plp. not (in_type2 c plp)) (λ _. refl) (cells_of c counts) (range_with_len 0 place) in
     let most : sum_by room (take place c.plps) ≤ sum_by room c.plps = sum_by-take-le room c.plps place in
     let need : sum_by room c.plps ≤ c.cells = is.tests CellCount in
@@ -97,8 +104,10 @@ slices_fit c counts place is fit inside =
     let n : ℕ = length c.plps in
     let e : place + (n - place) ≡ n = omega arith in
     let thin : sum_by (slice_of c counts) (type2_before c place) ≤ sum_by (cells_of c counts) (type2_before c place) =
-    sum_by-le-sum_by (slice_of c counts) (cells_of c counts) (type2_before c place) (λ plp. div-le_self (cells_of c counts plp) c.sub_slices) in
-    let rises : sum_by (cells_of c counts) (type2_before c place) ≤ sum_by (cells_of c counts) (type2_before c (place + (n - place))) =
+    sum_by-le-sum_by (slice_of c counts) (cells_of c counts) (type2_before c place)
+    (λ plp. div-le_self (cells_of c counts plp) c.sub_slices) in
+    let rises : sum_by (cells_of c counts) (type2_before c place)
+    ≤ sum_by (cells_of c counts) (type2_before c (place + (n - place))) =
     sum-rises (cells_of c counts) (in_type2 c) place (n - place) in
     let all : sum_by (cells_of c counts) (type2_before c place) ≤ sum_by (cells_of c counts) (type2_before c n) = rw e at rises in
     omega (arith, thin, all, cells_fit c counts n is fit (omega arith))

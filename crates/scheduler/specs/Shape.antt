@@ -1,5 +1,6 @@
 -- The shape of a frame: where its PLPs stand (EN 302 755, clause 8). Cells have addresses from 0 on.
-use Rattle.std.specs.Prelude.{ℕ, ◌+◌, ◌*◌, ◌/◌, ◌==◌, Bool, not, List, length, map, filter, replicate, sum_by, slice_index, slice_set, if◌then◌else◌}
+use Rattle.std.specs.Prelude.{ℕ, ◌+◌, ◌*◌, ◌/◌, ◌==◌, Bool, not, List, length, map, filter, replicate, sum_by, slice_index}
+use Rattle.std.specs.Prelude.{slice_set, if◌then◌else◌}
 use Rattle.std.specs.List.{range_with_len}
 use Rattle.plp_config.specs.Capacity.{block_cells}
 use Rattle.plp_config.specs.Plps.{plp_at, is_type2, has_type2}
@@ -18,7 +19,8 @@ blank plps = record { counts = replicate plps 0; starts = replicate plps 0; inte
 
 -- one PLP has other numbers
 abbrev pub with_plp : FrameShape → ℕ → ℕ → ℕ → FrameShape
-with_plp shape plp count start = record shape { counts = slice_set shape.counts plp count; starts = slice_set shape.starts plp start }
+with_plp shape plp count start =
+    record shape { counts = slice_set shape.counts plp count; starts = slice_set shape.starts plp start }
 
 -- type 2 has other numbers
 abbrev pub with_type2 : FrameShape → ℕ → ℕ → FrameShape
@@ -34,7 +36,7 @@ slice_of c counts plp = cells_of c counts plp / c.sub_slices
 
 -- the PLPs of type 2 before a place, by their places, and the others, which stand in one slice each
 abbrev pub in_type2 : Config → ℕ → Bool
-in_type2 c plp = is_type2 (plp_at c.plps plp).kind
+in_type2 c plp = is_type2 (plp_at c.plps plp).plp_type
 
 abbrev pub type2_before : Config → ℕ → List ℕ
 type2_before c place = filter (in_type2 c) (range_with_len 0 place)

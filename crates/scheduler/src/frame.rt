@@ -6,7 +6,7 @@ ghost use Rattle.scheduler.specs.Shape.{cells_of, in_type2, type2_start_of, inte
 ghost use Rattle.scheduler.specs.Steps.{AreBefore, AreNext};
 
 use crate::numbers::Shape;
-use plp_config::{Plan, PlpKind};
+use plp_config::{Plan, PlpType};
 
 // A number of cells for type 1, and one for type 2.
 #[derive(Clone, Copy)]
@@ -20,7 +20,7 @@ fn is_type2(plan: &Plan, plp: usize) -> bool
     ensures value { result ≡ in_type2 plan.now plp }
     ensures plan { IsPlan plan.now }
 {
-    plan.config().plps.get(plp).unwrap().kind == PlpKind::Type2
+    plan.config().plps.get(plp).unwrap().plp_type == PlpType::Type2
 }
 
 // The cells of a PLP in the frame.
@@ -88,7 +88,7 @@ fn behind(plan: &Plan, counts: &[u16], plp: usize, next: Cells) -> Cells
     }
 }
 
-// TYPE_2_START. There is one sub-slice exactly where no PLP is of type 2.
+// TYPE_2_START. There is one sub-slice exactly if no PLP is of type 2.
 #[tactic(auto, unfolding(crate::specs::Shape::type2_start_of))]
 fn type2_start(plan: &Plan, counts: &[u16], all: Cells) -> u32
     requires { AreBefore plan.now counts.now (length plan.now.plps) all }

@@ -3,7 +3,7 @@ ghost use Rattle.scheduler.specs.Laws.{CountsFit};
 
 use super::*;
 use bit_slice::OutOfMemory;
-use plp_config::{Config, Modulation, Plan, Plp, PlpKind};
+use plp_config::{Config, Modulation, Plan, Plp, PlpType};
 use sample_networks::{SMALL_PLP, network_of, plan_of};
 use std::alloc::Global;
 use std::process::Abort;
@@ -12,15 +12,15 @@ use std::test::Fail;
 // The network of these PLPs, which have little to send.
 fn network(
     alloc: Global,
-    plps: &[(PlpKind, Modulation)],
+    plps: &[(PlpType, Modulation)],
     sub_slices: u16,
 ) -> Result<Config, OutOfMemory> {
     let mut list = Vec::new(alloc);
     let mut id = 0;
-    for (kind, modulation) in plps {
+    for (plp_type, modulation) in plps {
         list.push(Plp {
             id,
-            kind: *kind,
+            plp_type: *plp_type,
             modulation: *modulation,
             interleave: 0,
             bits_per_second: 100_000,
@@ -46,9 +46,9 @@ fn fits_counts(plan: &Plan, counts: &[u16]) -> bool
     true
 }
 
-const TYPE_1: PlpKind = PlpKind::Type1;
+const TYPE_1: PlpType = PlpType::Type1;
 
-const TYPE_2: PlpKind = PlpKind::Type2;
+const TYPE_2: PlpType = PlpType::Type2;
 
 const QPSK: Modulation = Modulation::Qpsk;
 

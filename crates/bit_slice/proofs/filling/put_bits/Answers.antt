@@ -6,7 +6,9 @@ use Rattle.bit_slice.proofs.FillingLemmas.{all_put, parts_put}
 use Rattle.bit_slice.proofs.filling.put_bits.Goals as goal
 
 pub returns-then-len-head-clause-holds : goal.returns-then-len-head-clause-holds
-returns-then-len-head-clause-holds c = λ front long held. all_put c.put_part.new.bytes front c.args.bits.now c.len-len.result c.len-len.ensures.len (c.put_part.ensures.holds front long held)
+returns-then-len-head-clause-holds c =
+    λ front long held. all_put c.put_part.new.bytes front c.args.bits.now c.len-len.result c.len-len.ensures.len
+    (c.put_part.ensures.holds front long held)
 
 pub returns-clause-holds : goal.returns-clause-holds
 returns-clause-holds c = λ front long held.
@@ -20,6 +22,8 @@ returns-clause-holds c = λ front long held.
     let one = front ++ part bits 0 head in
     let two = one ++ part bits head middle in
     let long_one : length one ≡ c.args.used + head = length-append front (part bits 0 head) ∙ omega (arith, long, first) in
-    let long_two : length two ≡ c.args.used + last = length-append one (part bits head middle) ∙ omega (arith, long_one, second) in
+    let long_two : length two ≡ c.args.used + last = length-append one (part bits head middle)
+    ∙ omega (arith, long_one, second) in
     parts_put _ front bits head middle last (c.len-len.result - last) (omega arith) (omega (arith, len)) (omega (arith, len))
-    (c.put_part-3.ensures.holds two long_two (c.put_bytes.ensures.holds one long_one (c.put_part-2.ensures.holds front long held)))
+    (c.put_part-3.ensures.holds two long_two
+    (c.put_bytes.ensures.holds one long_one (c.put_part-2.ensures.holds front long held)))

@@ -9,4 +9,5 @@ returns-then-width-eq0-clause-holds c = λ front long held.
 
 pub returns-clause-holds : goal.returns-clause-holds
 returns-clause-holds c = λ front long held.
-    rw (c.field.ensures.value, field-number_at c.args.bits.now c.args.at c.args.width c.requires.part) at (c.put_field.ensures.holds front long held)
+    rw (c.field.ensures.value, field-number_at c.args.bits.now c.args.at c.args.width c.requires.part) at
+    (c.put_field.ensures.holds front long held)

@@ -7,7 +7,8 @@ returns-then-field c =
     let a = c.args.a.now in
     let b = c.args.b.now in (
       λ f. cc,
-      λ e. absurd (c.if-field.true (c.field.ensures.value ∙ word_of a b (64 * c.loop-k.k) 64 (64 * (length a / 64)) (omega (arith, c.len-k-end.ensures.len)) e
+      λ e. absurd (c.if-field.true (c.field.ensures.value ∙ word_of a b (64 * c.loop-k.k) 64 (64 * (length a / 64))
+          (omega (arith, c.len-k-end.ensures.len)) e
           ∙ sym c.field-in-loop-k.ensures.value)),
     )
 
@@ -18,6 +19,7 @@ loop-k-preserved c =
     let at = 64 * c.loop-k.k in
     let next : 64 * (c.loop-k.k + 1) ≡ 64 * c.loop-k.k + 64 = omega arith in
     let more : take (64 * (c.loop-k.k + 1)) a ≡ take (64 * (c.loop-k.k + 1)) b =
-    rw next (word_more a b at 64 (omega (arith, c.len-k-end.ensures.len)) (omega (arith, c.len-k-end.ensures.len, c.requires)) c.loop-k.invariant
+    rw next (word_more a b at 64 (omega (arith, c.len-k-end.ensures.len)) (omega (arith, c.len-k-end.ensures.len, c.requires))
+    c.loop-k.invariant
     (sym c.field.ensures.value ∙ c.if-field.false ∙ c.field-in-loop-k.ensures.value)) in
     more

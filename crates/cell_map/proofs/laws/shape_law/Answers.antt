@@ -9,5 +9,6 @@ pub returns : goal.returns
 returns c = λ config counts is fit.
     let same = c.order_law.ensures.counts config counts in
     shape_passes config (shape_of config counts) is
-    (λ plp inside. subst (λ (ns : List ℕ). slice_index ns plp ≤ (plp_at config.plps plp).blocks) (sym same) (fit.within plp inside))
+    (λ plp inside. subst (λ (ns : List ℕ). slice_index ns plp ≤ (plp_at config.plps plp).blocks) (sym same)
+    (fit.within plp inside))
     (c.order_law.ensures.order config counts is fit)

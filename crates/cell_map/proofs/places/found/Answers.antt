@@ -14,14 +14,33 @@ pub overflow_add-result : goal.overflow_add-result
 overflow_add-result c =
     let plps = c.place_of.ensures.plan.rules PlpCount in
     let row : c.loop-plp.plp < length c.args.plan.now.plps = omega (arith, c.len-plp-end.ensures.counts, c.requires.plps) in
-    omega (arith, c.loop-plp.invariant.small, c.len-plp-end.ensures.counts, c.requires.plps, plps, c.in-Some.ensures.some.there.sent, few_blocks c.args.plan.now c.args.shape.now c.loop-plp.plp c.place_of.ensures.plan c.requires.passes row)
+    omega (
+      arith,
+      c.loop-plp.invariant.small,
+      c.len-plp-end.ensures.counts,
+      c.requires.plps,
+      plps,
+      c.in-Some.ensures.some.there.sent,
+      few_blocks c.args.plan.now c.args.shape.now c.loop-plp.plp c.place_of.ensures.plan
+          c.requires.passes row,
+    )
 
 pub loop-plp-preserved : goal.loop-plp-preserved
 loop-plp-preserved c =
     let inside : c.loop-plp.plp < length c.args.shape.now.counts = omega (arith, c.len-plp-end.ensures.counts) in
     let row : c.loop-plp.plp < length c.args.plan.now.plps = omega (arith, inside, c.requires.plps) in
     record {
-      before = counted c.args.shape.now.counts c.loop-plp.plp c.loop-plp.before c.from-before.result inside c.loop-plp.invariant.before (c.from-before.ensures ∙ c.count.ensures);
-      small = omega (arith, c.loop-plp.invariant.small, c.from-before.ensures, c.count.ensures, few_blocks c.args.plan.now c.args.shape.now c.loop-plp.plp c.place_of.ensures.plan c.requires.passes row);
-      none = λ k b q lt. more_below (λ (j : ℕ). (b q : ℕ) → IsCell c.args.plan.now c.args.shape.now j b q → ¬ (address_of c.args.plan.now c.args.shape.now j b q ≡ c.args.address)) 0 c.loop-plp.plp (λ j x y. (λ b q. c.loop-plp.invariant.none j b q y)) c.in-None.ensures.none k (omega arith) lt b q;
+      before =
+          counted c.args.shape.now.counts c.loop-plp.plp c.loop-plp.before c.from-before.result inside c.loop-plp.invariant.before
+          (c.from-before.ensures ∙ c.count.ensures);
+      small = omega (
+        arith,
+        c.loop-plp.invariant.small,
+        c.from-before.ensures,
+        c.count.ensures,
+        few_blocks c.args.plan.now c.args.shape.now c.loop-plp.plp c.place_of.ensures.plan c.requires.passes row,
+      );
+      none = λ k b q lt. more_below (λ (j : ℕ). (b q : ℕ) → IsCell c.args.plan.now c.args.shape.now j b q
+          → ¬ (address_of c.args.plan.now c.args.shape.now j b q ≡ c.args.address)) 0 c.loop-plp.plp
+          (λ j x y. (λ b q. c.loop-plp.invariant.none j b q y)) c.in-None.ensures.none k (omega arith) lt b q;
     }

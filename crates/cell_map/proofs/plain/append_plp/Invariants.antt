@@ -5,4 +5,5 @@ use Rattle.cell_map.proofs.plain.append_plp.Given as goal
 
 -- the blocks so far
 abbrev pub invariant-loop-block : goal.invariant-loop-block
-invariant-loop-block l = l.pairs.items ≡ l.fn.pairs.items ++ flat_map (block_pairs l.plan l.shape l.plp) (range_with_len 0 l.block)
+invariant-loop-block l = l.pairs.items ≡ l.fn.pairs.items ++ flat_map (block_pairs l.plan l.shape l.plp)
+    (range_with_len 0 l.block)

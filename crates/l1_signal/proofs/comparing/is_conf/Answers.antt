@@ -1,12 +1,15 @@
 use Rattle.std.proofs.Common.{◌∙◌, sym}
-use Rattle.l1_signal.proofs.CompareLemmas.{no_front, other_front, other_plps, no_back, other_back, more_left, is_spelled, holds, fails, refuted, ends}
+use Rattle.l1_signal.proofs.CompareLemmas.{no_front, other_front, other_plps, no_back, other_back, more_left, is_spelled, holds}
+use Rattle.l1_signal.proofs.CompareLemmas.{fails, refuted, ends}
 use Rattle.l1_signal.proofs.comparing.is_conf.Goals as goal
 
 pub returns-in_default : goal.returns-in_default
 returns-in_default c = refuted (no_front _ _ _ (rw c.new-source.ensures at c.in_default.ensures.fault))
 
 pub returns-then-not-is_front : goal.returns-then-not-is_front
-returns-then-not-is_front c = refuted (other_front _ _ _ _ (rw c.new-source.ensures at c.in-Ok.ensures.ok) (fails _ c.is_front.ensures c.if-not-is_front.true))
+returns-then-not-is_front c =
+    refuted (other_front _ _ _ _ (rw c.new-source.ensures at c.in-Ok.ensures.ok)
+    (fails _ c.is_front.ensures c.if-not-is_front.true))
 
 pub returns-then-not-has_plps : goal.returns-then-not-has_plps
 returns-then-not-has_plps c =
@@ -21,7 +24,8 @@ returns-in_default-read_back c =
 pub returns-then-back-from : goal.returns-then-back-from
 returns-then-back-from c =
     let plps = rw c.as_slice.ensures at (c.has_plps.ensures.yes c.if-not-has_plps.false) in
-    refuted (other_back _ _ _ _ _ _ c.in-Ok-read_back.back (rw c.new-source.ensures at c.in-Ok.ensures.ok) plps c.in-Ok-read_back.ensures.ok (rw (← c.from-2.ensures) c.if-back-from.true))
+    refuted (other_back _ _ _ _ _ _ c.in-Ok-read_back.back (rw c.new-source.ensures at c.in-Ok.ensures.ok) plps
+    c.in-Ok-read_back.ensures.ok (rw (← c.from-2.ensures) c.if-back-from.true))
 
 pub returns : goal.returns
 returns c =
@@ -29,5 +33,6 @@ returns c =
     let plps = rw c.as_slice.ensures at (c.has_plps.ensures.yes c.if-not-has_plps.false) in
     let count = sym c.from.ensures ∙ c.if-from-len.false ∙ c.len.ensures in
     ends _ _ _ _ c.is_err.ensures.value c.take.ensures.ok c.take.ensures.short
-    (is_spelled _ _ _ _ _ _ c.in-Ok-read_back.back count read (holds _ c.is_front.ensures c.if-not-is_front.false) plps c.in-Ok-read_back.ensures.ok (c.if-back-from.false ∙ c.from-2.ensures))
+    (is_spelled _ _ _ _ _ _ c.in-Ok-read_back.back count read (holds _ c.is_front.ensures c.if-not-is_front.false) plps
+    c.in-Ok-read_back.ensures.ok (c.if-back-from.false ∙ c.from-2.ensures))
     (more_left _ _ _ _ _ _ c.in-Ok-read_back.back read plps c.in-Ok-read_back.ensures.ok)

@@ -3,7 +3,8 @@ use Rattle.std.proofs.lemmas.Result.{err_from_is_err_and}
 use Rattle.l1_signal.specs.L1Configurable.{conf_first, conf_more, conf_back}
 use Rattle.l1_signal.proofs.ReadLemmas.{are_small, given_on}
 use Rattle.l1_signal.proofs.RowLemmas.{read_fits}
-use Rattle.l1_signal.proofs.ConfLemmas.{first_refused, size_refused, more_refused, plps_refused, back_refused, conf_done, read_conf_fits}
+use Rattle.l1_signal.proofs.ConfLemmas.{first_refused, size_refused, more_refused, plps_refused, back_refused, conf_done}
+use Rattle.l1_signal.proofs.ConfLemmas.{read_conf_fits}
 use Rattle.l1_signal.proofs.conf.read_conf.Goals as goal
 
 pub returns-in_err-read_fields-clause-fault : goal.returns-in_err-read_fields-clause-fault
@@ -15,24 +16,33 @@ pub num_plp-count-requires : goal.num_plp-count-requires
 num_plp-count-requires g c = are_small conf_first _ (read_fits conf_first _ _ _ c.in_ok-read_fields.ensures.ok)
 
 pub returns-then-told-counted-clause-fault : goal.returns-then-told-counted-clause-fault
-returns-then-told-counted-clause-fault g c = inr (size_refused _ _ _ _ _ c.in_ok-read_fields.ensures.ok (omega (arith, c.from.ensures, c.num_plp-count.ensures)) c.if-told-counted.true)
+returns-then-told-counted-clause-fault g c =
+    inr (size_refused _ _ _ _ _ c.in_ok-read_fields.ensures.ok (omega (arith, c.from.ensures, c.num_plp-count.ensures))
+    c.if-told-counted.true)
 
 pub returns-in_err-read_fields-2-clause-fault : goal.returns-in_err-read_fields-2-clause-fault
 returns-in_err-read_fields-2-clause-fault g c =
     let p = err_from_is_err_and c.from_residual-in_err-read_fields-2.result c.from_residual-in_err-read_fields-2.ensures.1 in
-    rw (p.1, p.2) (inr (more_refused _ _ _ _ _ c.in_ok-read_fields.ensures.ok (omega (arith, c.from.ensures, c.num_plp-count.ensures, c.if-told-counted.false)) c.in_err-read_fields-2.ensures.fault))
+    rw (p.1, p.2)
+    (inr (more_refused _ _ _ _ _ c.in_ok-read_fields.ensures.ok
+    (omega (arith, c.from.ensures, c.num_plp-count.ensures, c.if-told-counted.false)) c.in_err-read_fields-2.ensures.fault))
 
 pub returns-in_err-read-clause-fault : goal.returns-in_err-read-clause-fault
 returns-in_err-read-clause-fault g c =
     let p = err_from_is_err_and c.from_residual-in_err-read.result c.from_residual-in_err-read.ensures.1 in
-    rw (p.1, p.2) (inr (plps_refused _ _ _ _ _ _ _ _ c.in_ok-read_fields.ensures.ok (omega (arith, c.from.ensures, c.num_plp-count.ensures, c.if-told-counted.false)) c.in_ok-read_fields-2.ensures.ok
+    rw (p.1, p.2)
+    (inr (plps_refused _ _ _ _ _ _ _ _ c.in_ok-read_fields.ensures.ok
+    (omega (arith, c.from.ensures, c.num_plp-count.ensures, c.if-told-counted.false)) c.in_ok-read_fields-2.ensures.ok
     (omega (arith, c.in-Ok.ensures, c.from-2.ensures, c.num_plp-count.ensures)) c.in_err-read.ensures.fault))
 
 pub returns-in_err-read_fields-3-clause-fault : goal.returns-in_err-read_fields-3-clause-fault
 returns-in_err-read_fields-3-clause-fault g c =
     let p = err_from_is_err_and c.from_residual-in_err-read_fields-3.result c.from_residual-in_err-read_fields-3.ensures.1 in
-    rw (p.1, p.2) (inr (back_refused _ _ _ _ _ _ _ _ _ _ c.in_ok-read_fields.ensures.ok (omega (arith, c.from.ensures, c.num_plp-count.ensures, c.if-told-counted.false)) c.in_ok-read_fields-2.ensures.ok
-    (omega (arith, c.in-Ok.ensures, c.from-2.ensures, c.num_plp-count.ensures)) c.in_ok-read.ensures.ok c.in_err-read_fields-3.ensures.fault))
+    rw (p.1, p.2)
+    (inr (back_refused _ _ _ _ _ _ _ _ _ _ c.in_ok-read_fields.ensures.ok
+    (omega (arith, c.from.ensures, c.num_plp-count.ensures, c.if-told-counted.false)) c.in_ok-read_fields-2.ensures.ok
+    (omega (arith, c.in-Ok.ensures, c.from-2.ensures, c.num_plp-count.ensures)) c.in_ok-read.ensures.ok
+    c.in_err-read_fields-3.ensures.fault))
 
 pub returns-in_err-read_fields-2-clause-given : goal.returns-in_err-read_fields-2-clause-given
 returns-in_err-read_fields-2-clause-given g c = given_on c.read_fields.ensures.given c.read_fields-2.ensures.given
@@ -41,15 +51,18 @@ pub returns-in_default-clause-given : goal.returns-in_default-clause-given
 returns-in_default-clause-given g c = given_on c.read_fields.ensures.given c.read_fields-2.ensures.given
 
 pub returns-in_err-read-clause-given : goal.returns-in_err-read-clause-given
-returns-in_err-read-clause-given g c = given_on c.read_fields.ensures.given (given_on c.read_fields-2.ensures.given c.read.ensures.given)
+returns-in_err-read-clause-given g c =
+    given_on c.read_fields.ensures.given (given_on c.read_fields-2.ensures.given c.read.ensures.given)
 
 pub returns-in_err-read_fields-3-clause-given : goal.returns-in_err-read_fields-3-clause-given
 returns-in_err-read_fields-3-clause-given g c =
-    given_on c.read_fields.ensures.given (given_on c.read_fields-2.ensures.given (given_on c.read.ensures.given c.read_fields-3.ensures.given))
+    given_on c.read_fields.ensures.given
+    (given_on c.read_fields-2.ensures.given (given_on c.read.ensures.given c.read_fields-3.ensures.given))
 
 pub returns-clause-given : goal.returns-clause-given
 returns-clause-given g c =
-    given_on c.read_fields.ensures.given (given_on c.read_fields-2.ensures.given (given_on c.read.ensures.given c.read_fields-3.ensures.given))
+    given_on c.read_fields.ensures.given
+    (given_on c.read_fields-2.ensures.given (given_on c.read.ensures.given c.read_fields-3.ensures.given))
 
 pub conf_at-requires-clause-first : goal.conf_at-requires-clause-first
 conf_at-requires-clause-first g c = are_small conf_first _ (read_fits conf_first _ _ _ c.in_ok-read_fields.ensures.ok)
@@ -62,8 +75,10 @@ conf_at-requires-clause-back g c = are_small conf_back _ (read_fits conf_back _ 
 
 pub returns-clause-ok : goal.returns-clause-ok
 returns-clause-ok g c =
-    conf_done _ _ _ _ _ _ _ _ _ _ _ _ c.in_ok-read_fields.ensures.ok (omega (arith, c.from.ensures, c.num_plp-count.ensures, c.if-told-counted.false)) c.in_ok-read_fields-2.ensures.ok
-    (omega (arith, c.in-Ok.ensures, c.from-2.ensures, c.num_plp-count.ensures)) c.in_ok-read.ensures.ok c.in_ok-read_fields-3.ensures.ok c.conf_at.ensures
+    conf_done _ _ _ _ _ _ _ _ _ _ _ _ c.in_ok-read_fields.ensures.ok
+    (omega (arith, c.from.ensures, c.num_plp-count.ensures, c.if-told-counted.false)) c.in_ok-read_fields-2.ensures.ok
+    (omega (arith, c.in-Ok.ensures, c.from-2.ensures, c.num_plp-count.ensures)) c.in_ok-read.ensures.ok
+    c.in_ok-read_fields-3.ensures.ok c.conf_at.ensures
 
 pub returns-clause-fits : goal.returns-clause-fits
 returns-clause-fits g c = read_conf_fits _ _ _ _ (returns-clause-ok g c)

@@ -2,7 +2,8 @@ use Rattle.std.proofs.Common.{◌++◌, sym, subst}
 use Rattle.std.specs.List.{flat_map}
 use Rattle.std.proofs.lemmas.Result.{err_from_is_err_and}
 use Rattle.l1_signal.specs.Fields.{Fits, row_bits, RowsFit}
-use Rattle.l1_signal.specs.L1Configurable.{conf_first_rows, conf_more_rows, conf_plp_rows, conf_back_rows, conf_first, conf_more, conf_back, conf_bits}
+use Rattle.l1_signal.specs.L1Configurable.{conf_first_rows, conf_more_rows, conf_plp_rows, conf_back_rows, conf_first, conf_more}
+use Rattle.l1_signal.specs.L1Configurable.{conf_back, conf_bits}
 use Rattle.l1_signal.proofs.PartLemmas.{last_puts, last_stops}
 use Rattle.l1_signal.proofs.conf.write_conf.Goals as goal
 
@@ -28,7 +29,9 @@ returns-in_err-put_fields-clause-fault g c =
     let more = row_bits conf_more_rows conf in
     let plps = flat_map (row_bits conf_plp_rows) conf.plps in
     let stopped = rw c.first_values.ensures at c.in_err-put_fields.ensures.fault in
-    rw (p.1, p.2) (early _ _ (first ++ more ++ plps) (row_bits conf_back_rows conf) _ (early _ _ (first ++ more) plps _ (early _ _ first more _ stopped)))
+    rw (p.1, p.2)
+    (early _ _ (first ++ more ++ plps) (row_bits conf_back_rows conf) _
+    (early _ _ (first ++ more) plps _ (early _ _ first more _ stopped)))
 
 pub returns-in_err-put_fields-2-clause-fault : goal.returns-in_err-put_fields-2-clause-fault
 unfolding conf_bits row_bits
@@ -41,7 +44,9 @@ returns-in_err-put_fields-2-clause-fault g c =
     let plps = flat_map (row_bits conf_plp_rows) conf.plps in
     let put = rw c.first_values.ensures at c.in_ok-put_fields.ensures.ok in
     let stopped = rw c.more_values.ensures at c.in_err-put_fields-2.ensures.fault in
-    rw (p.1, p.2) (early _ _ (first ++ more ++ plps) (row_bits conf_back_rows conf) _ (early _ _ (first ++ more) plps _ (c.stops_law.ensures.later _ _ _ first more _ put stopped)))
+    rw (p.1, p.2)
+    (early _ _ (first ++ more ++ plps) (row_bits conf_back_rows conf) _
+    (early _ _ (first ++ more) plps _ (c.stops_law.ensures.later _ _ _ first more _ put stopped)))
 
 pub returns-in_err-write_conf_plps-clause-fault : goal.returns-in_err-write_conf_plps-clause-fault
 unfolding conf_bits row_bits
@@ -69,7 +74,8 @@ returns-clause-ok g c =
     let put_more = rw c.more_values.ensures at c.in_ok-put_fields-2.ensures.ok in
     let put_plps = rw c.as_slice.ensures at c.in_ok-write_conf_plps.ensures.ok in
     let last = rw c.back_values.ensures at c.put_fields-3.ensures.ok in
-    last_puts join _ _ _ (first ++ more ++ plps) (row_bits conf_back_rows conf) _ (join _ _ _ (first ++ more) plps (join _ _ _ first more put put_more) put_plps) last
+    last_puts join _ _ _ (first ++ more ++ plps) (row_bits conf_back_rows conf) _
+    (join _ _ _ (first ++ more) plps (join _ _ _ first more put put_more) put_plps) last
 
 pub returns-clause-fault : goal.returns-clause-fault
 unfolding conf_bits row_bits
@@ -83,4 +89,5 @@ returns-clause-fault g c =
     let put_more = rw c.more_values.ensures at c.in_ok-put_fields-2.ensures.ok in
     let put_plps = rw c.as_slice.ensures at c.in_ok-write_conf_plps.ensures.ok in
     let last = rw c.back_values.ensures at c.put_fields-3.ensures.fault in
-    last_stops c.stops_law.ensures.later _ _ _ (first ++ more ++ plps) (row_bits conf_back_rows conf) _ (join _ _ _ (first ++ more) plps (join _ _ _ first more put put_more) put_plps) last
+    last_stops c.stops_law.ensures.later _ _ _ (first ++ more ++ plps) (row_bits conf_back_rows conf) _
+    (join _ _ _ (first ++ more) plps (join _ _ _ first more put put_more) put_plps) last

@@ -19,4 +19,5 @@ conf_plp_at-requires g c = are_small conf_plp _ (read_fits conf_plp _ _ _ c.in_o
 pub returns-clause-ok : goal.returns-clause-ok
 unfolding conf_plp_read
 returns-clause-ok g c =
-    ap (made conf_plp_at) c.in_ok-read_fields.ensures.ok ∙ ap (λ (plp : ConfPlp). Ok (plp, g.R.BitSource.left c.read_fields.new.source)) (sym c.conf_plp_at.ensures)
+    ap (made conf_plp_at) c.in_ok-read_fields.ensures.ok
+    ∙ ap (λ (plp : ConfPlp). Ok (plp, g.R.BitSource.left c.read_fields.new.source)) (sym c.conf_plp_at.ensures)

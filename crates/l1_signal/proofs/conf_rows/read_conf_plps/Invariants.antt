@@ -7,6 +7,7 @@ use Rattle.l1_signal.proofs.conf_rows.read_conf_plps.Given as goal
 abbrev pub invariant-loop-i : goal.invariant-loop-i
 invariant-loop-i g l = record {
   read : each_read (replicate (length l.initial.rows) conf_plp_read) (g.R.BitSource.left l.initial.source)
-      ≡ behind (take l.i l.rows) (each_read (replicate (length l.initial.rows - l.i) conf_plp_read) (g.R.BitSource.left l.source));
+      ≡ behind (take l.i l.rows)
+      (each_read (replicate (length l.initial.rows - l.i) conf_plp_read) (g.R.BitSource.left l.source));
   given : HasGiven (g.R.BitSource.left l.initial.source) (g.R.BitSource.left l.source);
 }

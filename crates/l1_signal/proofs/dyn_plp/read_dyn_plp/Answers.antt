@@ -19,4 +19,5 @@ dyn_plp_at-requires g c = are_small dyn_plp _ (read_fits dyn_plp _ _ _ c.in_ok-r
 pub returns-clause-ok : goal.returns-clause-ok
 unfolding dyn_plp_read
 returns-clause-ok g c =
-    ap (made dyn_plp_at) c.in_ok-read_fields.ensures.ok ∙ ap (λ (plp : DynPlp). Ok (plp, g.R.BitSource.left c.read_fields.new.source)) (sym c.dyn_plp_at.ensures)
+    ap (made dyn_plp_at) c.in_ok-read_fields.ensures.ok
+    ∙ ap (λ (plp : DynPlp). Ok (plp, g.R.BitSource.left c.read_fields.new.source)) (sym c.dyn_plp_at.ensures)

@@ -8,14 +8,16 @@ use Rattle.l1_signal.proofs.dyn_rows.read_dyn_plps.Goals as goal
 pub returns-in_err-rows-clause-fault : goal.returns-in_err-rows-clause-fault
 returns-in_err-rows-clause-fault g c =
     let p = err_from_is_err_and c.from_residual.result c.from_residual.ensures.1 in
-    rw (p.1, p.2) (c.loop-i.invariant.read ∙ stopped_each _ c.loop-i.i dyn_plp_read _ _ _ (omega arith) c.in_err-rows.ensures.fault)
+    rw (p.1, p.2) (c.loop-i.invariant.read ∙ stopped_each _ c.loop-i.i dyn_plp_read _ _ _
+    (omega arith) c.in_err-rows.ensures.fault)
 
 pub returns-in_err-rows-clause-given : goal.returns-in_err-rows-clause-given
 returns-in_err-rows-clause-given g c = given_on c.loop-i.invariant.given c.read_dyn_plp.ensures.given
 
 pub loop-i-preserved : goal.loop-i-preserved
 loop-i-preserved g c = record {
-  read = c.loop-i.invariant.read ∙ next_each _ c.loop-i.i dyn_plp_read c.in_ok-rows.field-0 c.loop-i.rows _ _ _ (omega arith) (omega arith) c.in_ok-rows.ensures.ok;
+  read = c.loop-i.invariant.read ∙ next_each _ c.loop-i.i dyn_plp_read c.in_ok-rows.field-0 c.loop-i.rows _ _ _ (omega arith)
+      (omega arith) c.in_ok-rows.ensures.ok;
   given = given_on c.loop-i.invariant.given c.read_dyn_plp.ensures.given;
 }
 

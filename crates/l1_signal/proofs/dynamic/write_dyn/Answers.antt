@@ -35,7 +35,8 @@ returns-in_err-write_dyn_plps-clause-fault g c =
     let plps = flat_map (row_bits dyn_plp_rows) dynamic.plps in
     let put = rw c.front_values.ensures at c.in_ok-put_fields.ensures.ok in
     let plps_stop = rw c.as_slice.ensures at c.in_err-write_dyn_plps.ensures.fault in
-    rw (p.1, p.2) (c.stops_law.ensures.early _ _ (front ++ plps) (row_bits dyn_back_rows dynamic) _ (c.stops_law.ensures.later _ _ _ front plps _ put plps_stop))
+    rw (p.1, p.2) (c.stops_law.ensures.early _ _ (front ++ plps) (row_bits dyn_back_rows dynamic) _
+    (c.stops_law.ensures.later _ _ _ front plps _ put plps_stop))
 
 pub returns-clause-ok : goal.returns-clause-ok
 unfolding dyn_bits row_bits
@@ -45,7 +46,8 @@ returns-clause-ok g c =
     let plps = flat_map (row_bits dyn_plp_rows) dynamic.plps in
     let put = rw c.front_values.ensures at c.in_ok-put_fields.ensures.ok in
     let put_plps = rw c.as_slice.ensures at c.in_ok-write_dyn_plps.ensures.ok in
-    last_puts c.puts_law.ensures _ _ _ (front ++ plps) (row_bits dyn_back_rows dynamic) _ (c.puts_law.ensures _ _ _ front plps put put_plps) c.put_fields-2.ensures.ok
+    last_puts c.puts_law.ensures _ _ _ (front ++ plps) (row_bits dyn_back_rows dynamic) _
+    (c.puts_law.ensures _ _ _ front plps put put_plps) c.put_fields-2.ensures.ok
 
 pub returns-clause-fault : goal.returns-clause-fault
 unfolding dyn_bits row_bits
@@ -55,4 +57,5 @@ returns-clause-fault g c =
     let plps = flat_map (row_bits dyn_plp_rows) dynamic.plps in
     let put = rw c.front_values.ensures at c.in_ok-put_fields.ensures.ok in
     let put_plps = rw c.as_slice.ensures at c.in_ok-write_dyn_plps.ensures.ok in
-    last_stops c.stops_law.ensures.later _ _ _ (front ++ plps) (row_bits dyn_back_rows dynamic) _ (c.puts_law.ensures _ _ _ front plps put put_plps) c.put_fields-2.ensures.fault
+    last_stops c.stops_law.ensures.later _ _ _ (front ++ plps) (row_bits dyn_back_rows dynamic) _
+    (c.puts_law.ensures _ _ _ front plps put put_plps) c.put_fields-2.ensures.fault

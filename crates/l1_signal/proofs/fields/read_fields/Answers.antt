@@ -14,7 +14,8 @@ returns-in_err-out-clause-given g c = given_on c.loop-i.invariant.given c.read_f
 
 pub loop-i-preserved : goal.loop-i-preserved
 loop-i-preserved g c = record {
-  read = c.loop-i.invariant.read ∙ next_field _ c.loop-i.i _ c.loop-i.out _ _ _ (omega arith) (omega arith) c.in_ok-out.ensures.ok;
+  read = c.loop-i.invariant.read ∙ next_field _ c.loop-i.i _ c.loop-i.out _ _ _ (omega arith)
+      (omega arith) c.in_ok-out.ensures.ok;
   narrow = narrow_more _ c.loop-i.i c.loop-i.invariant.narrow;
   given = given_on c.loop-i.invariant.given c.read_field.ensures.given;
 }

@@ -11,4 +11,7 @@ returns c =
     let bits = spelling pre_table c.args.values.now in
     let few : length bits ≤ 2 ^ 64 - 1 = omega (arith, length-fit pre_table c.args.values.now c.requires) in
     let sink = rw c.new.ensures at c.new-sink.ensures in
-    c.crc.ensures ∙ ap crc32_of (counted_all c.stops_law.ensures.full (2 ^ 64 - 1) c.new-sink.result c.put_fields.new.sink bits c.put_fields.result sink few c.put_fields.ensures.ok c.put_fields.ensures.fault)
+    c.crc.ensures
+    ∙ ap crc32_of
+    (counted_all c.stops_law.ensures.full (2 ^ 64 - 1) c.new-sink.result c.put_fields.new.sink bits c.put_fields.result sink
+    few c.put_fields.ensures.ok c.put_fields.ensures.fault)

@@ -14,7 +14,8 @@ pub pre_at-pre-requires : goal.pre_at-pre-requires
 pre_at-pre-requires g c = are_small pre_table _ (read_fits pre_table _ _ _ c.in_ok-read_fields.ensures.ok)
 
 pub returns-then-not-with_crc-clause-ok : goal.returns-then-not-with_crc-clause-ok
-returns-then-not-with_crc-clause-ok g c = pre_done c.args.with_crc _ _ _ _ c.if-not-with_crc.true c.in_ok-read_fields.ensures.ok c.pre_at-pre.ensures
+returns-then-not-with_crc-clause-ok g c =
+    pre_done c.args.with_crc _ _ _ _ c.if-not-with_crc.true c.in_ok-read_fields.ensures.ok c.pre_at-pre.ensures
 
 pub returns-then-not-with_crc-clause-fits : goal.returns-then-not-with_crc-clause-fits
 returns-then-not-with_crc-clause-fits g c = pre_fits _ _ _ _ c.in_ok-read_fields.ensures.ok c.pre_at-pre.ensures
@@ -25,13 +26,17 @@ pre_crc-requires g c = read_fits pre_table _ _ _ c.in_ok-read_fields.ensures.ok
 pub returns-in_err-read_crc-clause-fault : goal.returns-in_err-read_crc-clause-fault
 returns-in_err-read_crc-clause-fault g c =
     let p = err_from_is_err_and c.from_residual-in_err-read_crc.result c.from_residual-in_err-read_crc.ensures.1 in
-    rw (p.1, p.2) (pre_crc_refused c.args.with_crc _ _ _ _ _ c.if-not-with_crc.false c.in_ok-read_fields.ensures.ok c.pre_crc.ensures c.in_err-read_crc.ensures.fault)
+    rw (p.1, p.2)
+    (pre_crc_refused c.args.with_crc _ _ _ _ _ c.if-not-with_crc.false c.in_ok-read_fields.ensures.ok c.pre_crc.ensures
+    c.in_err-read_crc.ensures.fault)
 
 pub returns-in_err-read_crc-clause-given : goal.returns-in_err-read_crc-clause-given
 returns-in_err-read_crc-clause-given g c = given_on c.read_fields.ensures.given c.read_crc.ensures.given
 
 pub returns-clause-ok : goal.returns-clause-ok
-returns-clause-ok g c = pre_crc_done c.args.with_crc _ _ _ _ _ _ c.if-not-with_crc.false c.in_ok-read_fields.ensures.ok c.pre_at-pre.ensures c.pre_crc.ensures c.in_ok-read_crc.ensures.ok
+returns-clause-ok g c =
+    pre_crc_done c.args.with_crc _ _ _ _ _ _ c.if-not-with_crc.false c.in_ok-read_fields.ensures.ok c.pre_at-pre.ensures
+    c.pre_crc.ensures c.in_ok-read_crc.ensures.ok
 
 pub returns-clause-fits : goal.returns-clause-fits
 returns-clause-fits g c = pre_fits _ _ _ _ c.in_ok-read_fields.ensures.ok c.pre_at-pre.ensures

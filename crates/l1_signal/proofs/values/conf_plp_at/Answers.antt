@@ -5,7 +5,8 @@ use Rattle.plp_config.specs.Rules.{BlockLimit, InterleaverLength}
 use Rattle.l1_signal.proofs.values.conf_plp_at.Goals as goal
 
 pub conf_plp_of-requires-clause-blocks : goal.conf_plp_of-requires-clause-blocks
-conf_plp_of-requires-clause-blocks c = rw c.plp_at.ensures.value (c.plp_at.ensures.plan.rules BlockLimit c.args.place c.requires).1
+conf_plp_of-requires-clause-blocks c =
+    rw c.plp_at.ensures.value (c.plp_at.ensures.plan.rules BlockLimit c.args.place c.requires).1
 
 pub conf_plp_of-requires-clause-interleave : goal.conf_plp_of-requires-clause-interleave
 conf_plp_of-requires-clause-interleave c =

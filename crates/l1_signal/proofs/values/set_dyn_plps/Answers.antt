@@ -6,5 +6,6 @@ use Rattle.l1_signal.proofs.values.set_dyn_plps.Goals as goal
 
 pub returns-clause-value : goal.returns-clause-value
 returns-clause-value c =
-    fill_by_all (dyn_plp_of c.args.plan.now c.args.shape.now) c.loop-place.plps (length c.args.plan.now.plps) no_dyn_plp c.loop-place.invariant.len
+    fill_by_all (dyn_plp_of c.args.plan.now c.args.shape.now) c.loop-place.plps (length c.args.plan.now.plps) no_dyn_plp
+    c.loop-place.invariant.len
     (λ k lt. c.loop-place.invariant.set k (omega (arith, lt, c.requires.plan, c.len-place-end.ensures)))

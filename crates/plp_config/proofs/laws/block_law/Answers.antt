@@ -1,4 +1,5 @@
-use Rattle.plp_config.proofs.TableLemmas.{field_range, block_bits, user_packet_range, capacity_holds_up, cells_by_five, block_chunks}
+use Rattle.plp_config.proofs.TableLemmas.{field_range, block_bits, user_packet_range, capacity_holds_up, cells_by_five}
+use Rattle.plp_config.proofs.TableLemmas.{block_chunks}
 use Rattle.plp_config.proofs.laws.block_law.Goals as goal
 
 pub returns-clause-field : goal.returns-clause-field

@@ -11,5 +11,6 @@ invariant-loop-place l = record {
   size : length l.seen ≡ 256;
   holds : HoldsBelow (PlaceHolds DistinctIds l.config) l.place;
   seen : HoldsBelow (λ earlier. get_or l.seen (plp_at l.config.plps earlier).id false ≡ true) l.place;
-  only : (id : ℕ) → get_or l.seen id false ≡ true → (earlier : ℕ) × (earlier < l.place) × ((plp_at l.config.plps earlier).id ≡ id);
+  only : (id : ℕ) → get_or l.seen id false ≡ true → (earlier : ℕ) × (earlier < l.place)
+      × ((plp_at l.config.plps earlier).id ≡ id);
 }

@@ -4,7 +4,9 @@ use Rattle.plp_config.specs.Rules.{SubSlices}
 use Rattle.plp_config.proofs.values.sub_slices.Goals as goal
 
 pub returns-clause-least : goal.returns-clause-least
-returns-clause-least c = (sub_slices-range (has_type2 c.args.config.now.plps) c.args.config.now.sub_slices (c.requires SubSlices)).0
+returns-clause-least c =
+    (sub_slices-range (has_type2 c.args.config.now.plps) c.args.config.now.sub_slices (c.requires SubSlices)).0
 
 pub returns-clause-greatest : goal.returns-clause-greatest
-returns-clause-greatest c = (sub_slices-range (has_type2 c.args.config.now.plps) c.args.config.now.sub_slices (c.requires SubSlices)).1
+returns-clause-greatest c =
+    (sub_slices-range (has_type2 c.args.config.now.plps) c.args.config.now.sub_slices (c.requires SubSlices)).1

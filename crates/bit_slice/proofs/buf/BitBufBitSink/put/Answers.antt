@@ -13,9 +13,12 @@ invariant_of-self-2 c =
     let new = c.put_field.new.bytes in
     let long = seen_long old bits c.self.inside.used c.self.view_is (omega (arith, c.self.invariant.0)) in
     let longer = c.lengthen.ensures.holds c.if-not-lengthen.false bits long (rw c.self.view_is at c.self.invariant.2) in
-    let held : Holds new (bits ++ (field c.args.width c.args.value)) = c.put_field.ensures.holds bits long (rw c.deref_mut.ensures.value longer) in
-    let back = written_back new c.lengthen.new.bytes.items c.lengthen.new.bytes.len (c.put_field.ensures.len ∙ c.deref_mut.ensures.len) in
-    let is = seen_more new bits (field c.args.width c.args.value) c.self.inside.used c.args.width held long (length-field c.args.width c.args.value) in (
+    let held : Holds new (bits ++ (field c.args.width c.args.value)) =
+    c.put_field.ensures.holds bits long (rw c.deref_mut.ensures.value longer) in
+    let back = written_back new c.lengthen.new.bytes.items c.lengthen.new.bytes.len
+    (c.put_field.ensures.len ∙ c.deref_mut.ensures.len) in
+    let is = seen_more new bits (field c.args.width c.args.value) c.self.inside.used c.args.width held long
+    (length-field c.args.width c.args.value) in (
       c.lengthen.ensures.len c.if-not-lengthen.false,
       c.lengthen.ensures.short c.if-not-lengthen.false,
       rw back (holds_seen new (bits ++ (field c.args.width c.args.value)) (c.self.inside.used + c.args.width) is held),
@@ -28,7 +31,10 @@ returns-clause-ok c =
     let new = c.put_field.new.bytes in
     let long = seen_long old bits c.self.inside.used c.self.view_is (omega (arith, c.self.invariant.0)) in
     let longer = c.lengthen.ensures.holds c.if-not-lengthen.false bits long (rw c.self.view_is at c.self.invariant.2) in
-    let held : Holds new (bits ++ (field c.args.width c.args.value)) = c.put_field.ensures.holds bits long (rw c.deref_mut.ensures.value longer) in
-    let back = written_back new c.lengthen.new.bytes.items c.lengthen.new.bytes.len (c.put_field.ensures.len ∙ c.deref_mut.ensures.len) in
-    let is = seen_more new bits (field c.args.width c.args.value) c.self.inside.used c.args.width held long (length-field c.args.width c.args.value) in
+    let held : Holds new (bits ++ (field c.args.width c.args.value)) =
+    c.put_field.ensures.holds bits long (rw c.deref_mut.ensures.value longer) in
+    let back = written_back new c.lengthen.new.bytes.items c.lengthen.new.bytes.len
+    (c.put_field.ensures.len ∙ c.deref_mut.ensures.len) in
+    let is = seen_more new bits (field c.args.width c.args.value) c.self.inside.used c.args.width held long
+    (length-field c.args.width c.args.value) in
     grown_puts bits _ (field c.args.width c.args.value) (rw back is)

@@ -7,15 +7,26 @@ use Rattle.bit_slice.proofs.fixed.FixedBitsBitSink.put_slice.Goals as goal
 pub invariant_of-self : goal.invariant_of-self
 invariant_of-self g c =
     let bits = c.args.self.now in
-    let long = seen_long c.self.inside.bytes bits c.self.inside.used c.self.view_is (omega (arith, c.self.told, c.self.invariant.0)) in
-    let held : Holds c.put_bits.new.bytes (bits ++ c.args.bits) = c.put_bits.ensures.holds bits long (rw c.self.view_is at c.self.invariant.2) in
-    let is = seen_more c.put_bits.new.bytes bits c.args.bits c.self.inside.used c.len-len.result held long (sym c.len-len.ensures.len) in
-    (omega (arith, c.room-room.ensures.room, long), c.self.invariant.1, holds_seen c.put_bits.new.bytes (bits ++ c.args.bits) (c.self.inside.used + c.len-len.result) is held)
+    let long = seen_long c.self.inside.bytes bits c.self.inside.used c.self.view_is
+    (omega (arith, c.self.told, c.self.invariant.0)) in
+    let held : Holds c.put_bits.new.bytes (bits ++ c.args.bits) =
+    c.put_bits.ensures.holds bits long (rw c.self.view_is at c.self.invariant.2) in
+    let is = seen_more c.put_bits.new.bytes bits c.args.bits c.self.inside.used c.len-len.result held long
+    (sym c.len-len.ensures.len) in (
+      omega (arith, c.room-room.ensures.room, long),
+      c.self.invariant.1,
+      holds_seen c.put_bits.new.bytes (bits ++ c.args.bits)
+          (c.self.inside.used + c.len-len.result) is held,
+    )
 
 pub returns-clause-ok : goal.returns-clause-ok
 returns-clause-ok g c =
     let bits = c.args.self.now in
-    let long = seen_long c.self.inside.bytes bits c.self.inside.used c.self.view_is (omega (arith, c.self.told, c.self.invariant.0)) in
-    let held : Holds c.put_bits.new.bytes (bits ++ c.args.bits) = c.put_bits.ensures.holds bits long (rw c.self.view_is at c.self.invariant.2) in
-    fixed_puts (8 * g.row.N) bits _ c.args.bits (seen_more c.put_bits.new.bytes bits c.args.bits c.self.inside.used c.len-len.result held long (sym c.len-len.ensures.len))
+    let long = seen_long c.self.inside.bytes bits c.self.inside.used c.self.view_is
+    (omega (arith, c.self.told, c.self.invariant.0)) in
+    let held : Holds c.put_bits.new.bytes (bits ++ c.args.bits) =
+    c.put_bits.ensures.holds bits long (rw c.self.view_is at c.self.invariant.2) in
+    fixed_puts (8 * g.row.N) bits _ c.args.bits
+    (seen_more c.put_bits.new.bytes bits c.args.bits c.self.inside.used c.len-len.result held long
+    (sym c.len-len.ensures.len))
     (omega (arith, c.room-room.ensures.room, (sym c.len-len.ensures.len)))

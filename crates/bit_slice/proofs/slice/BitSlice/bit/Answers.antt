@@ -6,7 +6,8 @@ use Rattle.bit_slice.proofs.slice.BitSlice.bit.Goals as goal
 
 pub returns : goal.returns
 returns c =
-    let size = seen_length c.self.inside.bytes.now c.self.inside.first c.self.inside.len c.args.self.now c.self.view_is (omega arith) in
+    let size = seen_length c.self.inside.bytes.now c.self.inside.first c.self.inside.len c.args.self.now c.self.view_is
+    (omega arith) in
     let inside : c.args.at < c.self.inside.len = omega arith in
     rw (← c.self.view_is)
     (bit_read c.self.inside.bytes.now (c.self.inside.first + c.args.at) (omega arith)

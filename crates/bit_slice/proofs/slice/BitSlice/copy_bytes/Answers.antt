@@ -8,7 +8,8 @@ pub returns-then-self-eq0-clause-bits : goal.returns-then-self-eq0-clause-bits
 returns-then-self-eq0-clause-bits c =
     let size : length c.copy_from_slice.new.self ≡ length c.args.out.now = c.copy_from_slice.ensures.len in
     bits_of_borrowed c.self.inside.bytes.now c.copy_from_slice.new.self c.self.inside.first c.self.inside.len c.args.self.now
-    c.self.view_is (omega arith) c.if-self-eq0.true (omega arith) (c.self.inside.first / 8 + length c.args.out.now) (omega arith) c.copy_from_slice.ensures.after
+    c.self.view_is (omega arith) c.if-self-eq0.true (omega arith) (c.self.inside.first / 8 + length c.args.out.now)
+    (omega arith) c.copy_from_slice.ensures.after
 
 pub returns-then-self-eq0-clause-bytes : goal.returns-then-self-eq0-clause-bytes
 returns-then-self-eq0-clause-bytes c =
@@ -17,7 +18,8 @@ returns-then-self-eq0-clause-bytes c =
 
 pub returns-clause-bytes : goal.returns-clause-bytes
 returns-clause-bytes c =
-    let each : (k : ℕ) → k < length c.loop-k.out → get_or c.loop-k.out k 0 ≡ number_at c.args.self.now (8 * k) 8 = λ k h. c.loop-k.invariant k (omega arith) in
+    let each : (k : ℕ) → k < length c.loop-k.out → get_or c.loop-k.out k 0 ≡ number_at c.args.self.now (8 * k) 8 =
+    λ k h. c.loop-k.invariant k (omega arith) in
     bytes_of_fields c.args.self.now c.loop-k.out (omega arith) each
 
 pub returns-clause-bits : goal.returns-clause-bits

@@ -1,0 +1,6 @@
+use Rattle.std.proofs.Common.{◌≡◌, drop}
+use Rattle.bit_slice.specs.Register.{register}
+use Rattle.bit_slice.proofs.crc_32.bit_by_bit.Given as goal
+
+abbrev pub invariant-loop-k : goal.invariant-loop-k
+invariant-loop-k l = register 32 0x04C1_1DB7 l.register (drop l.k l.bits) ≡ register 32 0x04C1_1DB7 l.fn.register l.bits

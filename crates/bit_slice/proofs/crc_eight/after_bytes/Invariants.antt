@@ -1,7 +1,0 @@
-use Rattle.std.proofs.Common.{◌≡◌, drop}
-use Rattle.terms.specs.Bits.{bits_of}
-use Rattle.bit_slice.specs.Register.{register}
-use Rattle.bit_slice.proofs.crc_eight.after_bytes.Given as goal
-
-abbrev pub invariant-loop-byte : goal.invariant-loop-byte
-invariant-loop-byte l = register 8 0xD5 l.register (bits_of (drop l.byte-index l.bytes)) ≡ register 8 0xD5 l.fn.register (bits_of l.bytes)
