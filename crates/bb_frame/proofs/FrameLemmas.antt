@@ -1,5 +1,6 @@
 -- Where the parts of a frame stand, and how it is put together from them.
-use Rattle.std.proofs.Common.{◌≡◌, ℕ, ◌+◌, ◌/◌, ◌%◌, ◌^◌, ◌<◌, ◌≤◌, Bool, List, [], ◌++◌, length, take, drop, refl, ap, sym, ◌∙◌, arith, append_assoc, length-append}
+use Rattle.std.proofs.Common.{◌≡◌, ℕ, ◌+◌, ◌/◌, ◌%◌, ◌^◌, ◌<◌, ◌≤◌, Bool, List, [], ◌++◌, length, take, drop, refl, ap, sym, ◌∙◌}
+use Rattle.std.proofs.Common.{arith, append_assoc, length-append}
 use Rattle.std.specs.Prelude.{bit_xor}
 use Rattle.std.proofs.lemmas.List.{take_at, take-append-drop}
 use Rattle.std.proofs.lemmas.Nat.{xor_lt}
@@ -48,8 +49,11 @@ fields_read h tail fit =
       ap (λ (bits : List Bool). number_at bits 8 8) at_b ∙ number-middle a _ 8 8 h.matype2 (length-field 8 h.matype1) fit.matype2,
       ap (λ (bits : List Bool). number_at bits 16 16) at_c ∙ number-middle (a ++ b) _ 16 16 (h.issy / 2 ^ 8) two high,
       ap (λ (bits : List Bool). number_at bits 32 16) at_d ∙ number-middle (a ++ b ++ c) _ 32 16 h.dfl four fit.dfl,
-      ap (λ (bits : List Bool). number_at bits 48 8) at_e ∙ ap number_of (part-middle (a ++ b ++ c ++ d) e (f ++ tail) 48 8 six (length-field 8 h.issy)) ∙ number_of-field-mod 8 h.issy,
-      ap (λ (bits : List Bool). number_at bits 56 16) at_f ∙ number-middle (a ++ b ++ c ++ d ++ e) _ 56 16 h.syncd seven fit.syncd,
+      ap (λ (bits : List Bool). number_at bits 48 8) at_e
+          ∙ ap number_of (part-middle (a ++ b ++ c ++ d) e (f ++ tail) 48 8 six (length-field 8 h.issy))
+          ∙ number_of-field-mod 8 h.issy,
+      ap (λ (bits : List Bool). number_at bits 56 16) at_f
+          ∙ number-middle (a ++ b ++ c ++ d ++ e) _ 56 16 h.syncd seven fit.syncd,
     )
 
 -- A frame is read as it is spelled.
@@ -59,13 +63,20 @@ placed bounded h body bits s =
     let tail : List Bool = field 8 crc ++ (body ++ s.padding) in
     let whole : bits ≡ fields_bits h ++ tail = s.spelled ∙ simp append_assoc in
     let behind : bits ≡ (header_bits h ++ body) ++ s.padding = s.spelled in
-    let ends : fields_bits h ++ tail ≡ (fields_bits h ++ field 8 crc) ++ (body ++ s.padding) = sym (append_assoc (fields_bits h) (field 8 crc) (body ++ s.padding)) in
+    let ends : fields_bits h ++ tail ≡ (fields_bits h ++ field 8 crc) ++ (body ++ s.padding) =
+    sym (append_assoc (fields_bits h) (field 8 crc) (body ++ s.padding)) in
     let size : length bits ≡ 80 + length body + length s.padding =
-    ap length behind ∙ omega (arith, length-append (header_bits h ++ body) s.padding, length-append (header_bits h) body, length-header h) in
+    ap length behind ∙ omega (
+      arith,
+      length-append (header_bits h ++ body) s.padding,
+      length-append (header_bits h) body,
+      length-header h,
+    ) in
     let read = fields_read h tail s.fits in
     let one : mode < 2 ^ 8 = omega arith in
     let small : crc < 2 ^ 8 = xor_lt 8 (crc8_of (fields_bits h)) mode (bounded (fields_bits h)) one in
-    let told : told_crc bits ≡ crc = ap (λ (xs : List Bool). number_at xs 72 8) (whole ∙ ends) ∙ number-middle (fields_bits h) (body ++ s.padding) 72 8 crc (length-fields h) small in
+    let told : told_crc bits ≡ crc = ap (λ (xs : List Bool). number_at xs 72 8) (whole ∙ ends)
+    ∙ number-middle (fields_bits h) (body ++ s.padding) 72 8 crc (length-fields h) small in
     let front : part bits 0 72 ≡ fields_bits h = ap (take 72) whole ∙ take_at (fields_bits h) tail 72 (length-fields h) in
     let dfl : number_at bits 32 16 ≡ h.dfl = ap (λ (xs : List Bool). number_at xs 32 16) whole ∙ read.3 in
     let syncd : number_at bits 56 16 ≡ h.syncd = ap (λ (xs : List Bool). number_at xs 56 16) whole ∙ read.5 in
@@ -84,7 +95,8 @@ placed bounded h body bits s =
         dfl = sym dfl;
         syncd = sym syncd;
       };
-      taken = sym (ap (λ (xs : List Bool). part xs 80 h.dfl) behind ∙ part-middle (header_bits h) body s.padding 80 h.dfl (length-header h) (sym d.len));
+      taken = sym (ap (λ (xs : List Bool). part xs 80 h.dfl) behind ∙ part-middle (header_bits h) body s.padding 80 h.dfl
+          (length-header h) (sym d.len));
     }
 
 -- ---- the other way
@@ -93,10 +105,12 @@ narrow : (xs : List Bool) (at width n : ℕ) → n ≡ number_at xs at width →
 narrow xs at width n e h = rw e (number_at-lt xs at width h)
 
 -- the field of a number that was read off is what stands there
-restored : (xs : List Bool) (at width n : ℕ) → n ≡ number_at xs at width → at + width ≤ length xs → part xs at width ≡ field width n
+restored : (xs : List Bool) (at width n : ℕ) → n ≡ number_at xs at width → at + width ≤ length xs
+    → part xs at width ≡ field width n
 restored xs at width n e h = sym (field-number_at xs at width h) ∙ ap (field width) (sym e)
 
-fields_parts : (xs : List Bool) → part xs 0 72 ≡ part xs 0 8 ++ part xs 8 8 ++ part xs 16 16 ++ part xs 32 16 ++ part xs 48 8 ++ part xs 56 16
+fields_parts : (xs : List Bool) → part xs 0 72 ≡ part xs 0 8 ++ part xs 8 8 ++ part xs 16 16 ++ part xs 32 16 ++ part xs 48 8
+    ++ part xs 56 16
 fields_parts xs =
     part-add xs 0 56 16
     ∙ ap (λ (front : List Bool). front ++ part xs 56 16) (part-add xs 0 48 8
@@ -123,7 +137,8 @@ fields_are bits h long r =
     let issy = r.issy in
     let upper_is : h.issy / 2 ^ 8 ≡ number_at bits 16 16 = omega arith in
     let same : 8 ≤ 8 = omega arith in
-    let lower_is : field 8 h.issy ≡ field 8 (number_at bits 48 8) = ap (field 8) issy ∙ field-high 8 (number_at bits 16 16) (number_at bits 48 8) 8 same in
+    let lower_is : field 8 h.issy ≡ field 8 (number_at bits 48 8) =
+    ap (field 8) issy ∙ field-high 8 (number_at bits 16 16) (number_at bits 48 8) 8 same in
     let a = restored bits 0 8 h.matype1 r.matype1 (omega arith) in
     let b = restored bits 8 8 h.matype2 r.matype2 (omega arith) in
     let c = restored bits 16 16 (h.issy / 2 ^ 8) upper_is (omega arith) in
@@ -153,6 +168,7 @@ spelled bits h body long r =
       };
       padding = rest;
       spelled = sym (take-append-drop 80 bits) ∙ ap (λ (front : List Bool). front ++ drop 80 bits) header
-          ∙ ap (λ (behind : List Bool). header_bits h ++ behind) (sym (take-append-drop h.dfl (drop 80 bits)) ∙ ap (λ (front : List Bool). front ++ rest) taken)
+          ∙ ap (λ (behind : List Bool). header_bits h ++ behind) (sym (take-append-drop h.dfl (drop 80 bits))
+          ∙ ap (λ (front : List Bool). front ++ rest) taken)
           ∙ sym (append_assoc (header_bits h) body rest);
     }

@@ -1,11 +1,13 @@
 -- The sequence added a byte at a time.
-use Rattle.std.proofs.Common.{◌≡◌, ℕ, zero, suc, ◌+◌, ◌-◌, ◌*◌, ◌%◌, ◌<◌, ◌≤◌, ◌==◌, Bool, true, false, List, [], ◌∷◌, ◌++◌, ⊎_elim, length, take, drop, map, get_or, refl, ap, sym, ◌∙◌, arith}
+use Rattle.std.proofs.Common.{◌≡◌, ℕ, zero, suc, ◌+◌, ◌-◌, ◌*◌, ◌%◌, ◌<◌, ◌≤◌, ◌==◌, Bool, true, false, List, [], ◌∷◌, ◌++◌}
+use Rattle.std.proofs.Common.{⊎_elim, length, take, drop, map, get_or, refl, ap, sym, ◌∙◌, arith}
 use Rattle.std.specs.Prelude.{bit_xor}
 use Rattle.std.specs.Int.{bit_at}
 use Rattle.std.specs.List.{range_with_len}
 use Rattle.std.proofs.lemmas.Nat.Bits.{bit_at-lt, bit_at_xor}
 use Rattle.std.proofs.lemmas.Bool.{cases_lt}
-use Rattle.std.proofs.lemmas.List.{get_or_append_left, get_or-append_right, get_or-take, get_or-drop, length-take-le, length-append, length-drop}
+use Rattle.std.proofs.lemmas.List.{get_or_append_left, get_or-append_right, get_or-take, get_or-drop, length-take-le}
+use Rattle.std.proofs.lemmas.List.{length-append, length-drop}
 use Rattle.terms.specs.Bits.{field, bits_of, number_of}
 use Rattle.terms.proofs.BitLemmas.{length-part, get_or-part, length-field, field-number_of}
 use Rattle.bit_slice.specs.Prbs.{plus, prbs, prbs_byte}
@@ -63,9 +65,11 @@ length-prbs (suc n) i = ap suc (length-prbs n (i + 1))
 byte_added : (byte k : ℕ) → field 8 (bit_xor byte (prbs_byte k)) ≡ added (8 * k) (field 8 byte)
 byte_added byte k =
     let eight : List Bool = map prbs (range_with_len (8 * k) 8) in
-    let back : field 8 (number_of eight) ≡ eight = ap (λ (n : ℕ). field n (number_of eight)) (sym (length-prbs 8 (8 * k))) ∙ field-number_of eight in
+    let back : field 8 (number_of eight) ≡ eight = ap (λ (n : ℕ). field n (number_of eight)) (sym (length-prbs 8 (8 * k)))
+    ∙ field-number_of eight in
     field-xor 8 byte (prbs_byte k) ∙ ap (sums (field 8 byte)) back
-    ∙ sym (added_sums (field 8 byte) (8 * k) ∙ ap (λ (n : ℕ). sums (field 8 byte) (map prbs (range_with_len (8 * k) n))) (length-field 8 byte))
+    ∙ sym (added_sums (field 8 byte) (8 * k) ∙ ap (λ (n : ℕ). sums (field 8 byte) (map prbs (range_with_len (8 * k) n)))
+    (length-field 8 byte))
 
 added-append : (xs ys : List Bool) (i : ℕ) → added i (xs ++ ys) ≡ added i xs ++ added (i + length xs) ys
 added-append [] ys i = let e : i ≡ i + 0 = omega arith in ap (λ (k : ℕ). added k ys) e
@@ -74,7 +78,8 @@ added-append (x ∷ xs) ys i =
     ap (λ (zs : List Bool). plus x (prbs i) ∷ zs) (added-append xs ys (i + 1) ∙ ap (λ (k : ℕ). added (i + 1) xs ++ added k ys) e)
 
 -- all bytes from one on
-pub bytes_added : (old new : List ℕ) (k : ℕ) → length new ≡ length old → ((j : ℕ) → j < length old → get_or new j 0 ≡ bit_xor (get_or old j 0) (prbs_byte (k + j))) →
+pub bytes_added : (old new : List ℕ) (k : ℕ) → length new ≡ length old
+    → ((j : ℕ) → j < length old → get_or new j 0 ≡ bit_xor (get_or old j 0) (prbs_byte (k + j))) →
     bits_of new ≡ added (8 * k) (bits_of old)
 bytes_added [] [] k size each = refl
 bytes_added [] (y ∷ new) k size each = absurd (omega arith)
@@ -83,17 +88,21 @@ bytes_added (x ∷ old) (y ∷ new) k size each =
     let zero_ : k + 0 ≡ k = omega arith in
     let here : y ≡ bit_xor x (prbs_byte k) = each 0 (omega arith) ∙ ap (λ (n : ℕ). bit_xor x (prbs_byte n)) zero_ in
     let later : (j : ℕ) → j < length old → get_or new j 0 ≡ bit_xor (get_or old j 0) (prbs_byte (k + 1 + j)) =
-    λ j h. let e : k + suc j ≡ k + 1 + j = omega arith in each (suc j) (omega arith) ∙ ap (λ (n : ℕ). bit_xor (get_or old j 0) (prbs_byte n)) e in
+    λ j h. let e : k + suc j ≡ k + 1 + j = omega arith in each (suc j) (omega arith)
+    ∙ ap (λ (n : ℕ). bit_xor (get_or old j 0) (prbs_byte n)) e in
     let place : 8 * (k + 1) ≡ 8 * k + length (field 8 x) = omega (arith, length-field 8 x) in
     ap (λ (n : ℕ). field 8 n ++ bits_of new) here
     ∙ ap (λ (bits : List Bool). bits ++ bits_of new) (byte_added x k)
-    ∙ ap (λ (bits : List Bool). added (8 * k) (field 8 x) ++ bits) (bytes_added old new (k + 1) (omega arith) later ∙ ap (λ (n : ℕ). added n (bits_of old)) place)
+    ∙ ap (λ (bits : List Bool). added (8 * k) (field 8 x) ++ bits) (bytes_added old new (k + 1) (omega arith) later
+    ∙ ap (λ (n : ℕ). added n (bits_of old)) place)
     ∙ sym (added-append (field 8 x) (bits_of old) (8 * k))
 
-pub all_scrambled : (old new : List ℕ) → length new ≡ length old → ((j : ℕ) → j < length old → get_or new j 0 ≡ bit_xor (get_or old j 0) (prbs_byte j)) →
+pub all_scrambled : (old new : List ℕ) → length new ≡ length old
+    → ((j : ℕ) → j < length old → get_or new j 0 ≡ bit_xor (get_or old j 0) (prbs_byte j)) →
     bits_of new ≡ scrambled (bits_of old)
 all_scrambled old new size each =
-    bytes_added old new 0 size (λ j h. let e : j ≡ 0 + j = omega arith in each j h ∙ ap (λ (n : ℕ). bit_xor (get_or old j 0) (prbs_byte n)) e)
+    bytes_added old new 0 size (λ j h. let e : j ≡ 0 + j = omega arith in
+    each j h ∙ ap (λ (n : ℕ). bit_xor (get_or old j 0) (prbs_byte n)) e)
 
 -- ---- many bytes at a time
 -- the sequence was added to so many bytes
@@ -109,17 +118,22 @@ mid xs at piece = take at xs ++ (piece ++ drop (length piece) (drop at xs))
 before_mid : (xs piece : List ℕ) (at j : ℕ) → at ≤ length xs → j < at → get_or (mid xs at piece) j 0 ≡ get_or xs j 0
 unfolding mid
 before_mid xs piece at j inside h =
-    get_or_append_left (take at xs) (piece ++ drop (length piece) (drop at xs)) 0 j (omega (arith, length-take-le at xs inside)) ∙ get_or-take at xs j 0 h
+    get_or_append_left (take at xs) (piece ++ drop (length piece) (drop at xs)) 0 j (omega (arith, length-take-le at xs inside))
+    ∙ get_or-take at xs j 0 h
 
-from_mid : (xs piece : List ℕ) (at j : ℕ) → at ≤ length xs → at ≤ j → get_or (mid xs at piece) j 0 ≡ get_or (piece ++ drop (length piece) (drop at xs)) (j - at) 0
+from_mid : (xs piece : List ℕ) (at j : ℕ) → at ≤ length xs → at ≤ j → get_or (mid xs at piece) j 0
+    ≡ get_or (piece ++ drop (length piece) (drop at xs)) (j - at) 0
 unfolding mid
-from_mid xs piece at j inside h = get_or-append_right (take at xs) (piece ++ drop (length piece) (drop at xs)) at j 0 (length-take-le at xs inside) h
+from_mid xs piece at j inside h = get_or-append_right (take at xs) (piece ++ drop (length piece) (drop at xs)) at j 0
+    (length-take-le at xs inside) h
 
-within_mid : (xs piece : List ℕ) (at j : ℕ) → at ≤ length xs → at ≤ j → j < at + length piece → get_or (mid xs at piece) j 0 ≡ get_or piece (j - at) 0
+within_mid : (xs piece : List ℕ) (at j : ℕ) → at ≤ length xs → at ≤ j → j < at + length piece → get_or (mid xs at piece) j 0
+    ≡ get_or piece (j - at) 0
 within_mid xs piece at j inside h short =
     from_mid xs piece at j inside h ∙ get_or_append_left piece (drop (length piece) (drop at xs)) 0 (j - at) (omega arith)
 
-behind_mid : (xs piece : List ℕ) (at j : ℕ) → at ≤ length xs → at + length piece ≤ j → get_or (mid xs at piece) j 0 ≡ get_or xs j 0
+behind_mid : (xs piece : List ℕ) (at j : ℕ) → at ≤ length xs → at + length piece ≤ j → get_or (mid xs at piece) j 0
+    ≡ get_or xs j 0
 behind_mid xs piece at j inside h =
     let n : ℕ = length piece in
     let place : at + (n + (j - at - n)) ≡ j = omega arith in
@@ -132,8 +146,10 @@ unfolding mid
 length-mid xs piece at inside = simp (length-append, length-drop) (omega (arith, length-take-le at xs (omega arith)))
 
 -- the sequence was added to a part more
-more_added : (old now piece sequence : List ℕ) (done : ℕ) → AddedTo old now done → done + length piece ≤ length now → length piece ≤ 120 → Runs sequence done →
-    ((k : ℕ) → k < length piece → get_or piece k 0 ≡ bit_xor (get_or now (done + k) 0) (get_or sequence k 0)) → AddedTo old (mid now done piece) (done + length piece)
+more_added : (old now piece sequence : List ℕ) (done : ℕ) → AddedTo old now done → done + length piece ≤ length now
+    → length piece ≤ 120 → Runs sequence done →
+    ((k : ℕ) → k < length piece → get_or piece k 0 ≡ bit_xor (get_or now (done + k) 0) (get_or sequence k 0))
+    → AddedTo old (mid now done piece) (done + length piece)
 more_added old now piece sequence done a inside short runs each =
     let within : done ≤ length now = omega arith in
     record {
@@ -150,8 +166,11 @@ more_added old now piece sequence done a inside short runs each =
       rest = λ j h. behind_mid now piece done j within h ∙ a.rest j (omega arith);
     }
 
-pub part_added : (old now piece sequence : List ℕ) (done count n : ℕ) → AddedTo old now done → done + count ≤ length now → count ≤ 120 → n ≡ count → length piece ≡ length (take n (drop done now)) →
-    Runs sequence done → ((k : ℕ) → k < length (take n (drop done now)) → get_or piece k 0 ≡ bit_xor (get_or (take n (drop done now)) k 0) (get_or sequence k 0)) →
+pub part_added : (old now piece sequence : List ℕ) (done count n : ℕ) → AddedTo old now done → done + count ≤ length now
+    → count ≤ 120 → n ≡ count → length piece ≡ length (take n (drop done now)) →
+    Runs sequence done
+    → ((k : ℕ) → k < length (take n (drop done now)) → get_or piece k 0 ≡ bit_xor (get_or (take n (drop done now)) k 0)
+    (get_or sequence k 0)) →
     AddedTo old (take done now ++ (piece ++ drop n (drop done now))) (done + count)
 unfolding mid
 part_added old now piece sequence done count n a inside short is size runs each =

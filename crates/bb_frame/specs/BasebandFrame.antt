@@ -8,7 +8,8 @@ use Rattle.bb_frame.specs.declared.fault.BbFault.TheVariants.{Crc, Mode, Length,
 
 -- the header but for its last byte: MATYPE-1, MATYPE-2, the two upper bytes of ISSY, DFL, the lowest byte of ISSY, SYNCD
 abbrev pub fields_bits : Header → List Bool
-fields_bits h = field 8 h.matype1 ++ field 8 h.matype2 ++ field 16 (h.issy / 2 ^ 8) ++ field 16 h.dfl ++ field 8 h.issy ++ field 16 h.syncd
+fields_bits h = field 8 h.matype1 ++ field 8 h.matype2 ++ field 16 (h.issy / 2 ^ 8) ++ field 16 h.dfl ++ field 8 h.issy
+    ++ field 16 h.syncd
 
 -- MODE, which is added to the CRC-8: 1 is the high-efficiency mode
 abbrev pub mode : ℕ

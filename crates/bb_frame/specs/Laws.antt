@@ -7,7 +7,8 @@ use Rattle.bb_frame.specs.Scrambled.{scrambled}
 
 -- What is written spells what was to be written, whatever follows it.
 abbrev pub WrittenIsSpelled : Type 0
-WrittenIsSpelled = (h : Header) (body : List Bool) (size : ℕ) (after : List Bool) → Fits h → Describes h body → Spells h body (frame_bits h body size ++ after)
+WrittenIsSpelled = (h : Header) (body : List Bool) (size : ℕ) (after : List Bool) → Fits h → Describes h body
+    → Spells h body (frame_bits h body size ++ after)
 
 -- Bits that are a frame are not refused.
 abbrev pub NoRefusal : Type 0
@@ -15,7 +16,8 @@ NoRefusal = (h : Header) (body bits : List Bool) (fault : BbFault) → Spells h 
 
 -- As many bits as a header has, or more, are a frame or have a refusal.
 abbrev pub SpelledOrRefused : Type 0
-SpelledOrRefused = (bits : List Bool) → 80 ≤ length bits → ((h : Header) × ((body : List Bool) × Spells h body bits)) ⊎ ((fault : BbFault) × Refuses bits fault)
+SpelledOrRefused = (bits : List Bool) → 80 ≤ length bits → ((h : Header) × ((body : List Bool) × Spells h body bits))
+    ⊎ ((fault : BbFault) × Refuses bits fault)
 
 -- Bits have one refusal at most.
 abbrev pub OneRefusal : Type 0
@@ -25,7 +27,8 @@ OneRefusal = (bits : List Bool) (fault other : BbFault) → Refuses bits fault �
 abbrev pub ScramblesBack : Type 0
 ScramblesBack = (bits : List Bool) → scrambled (scrambled bits) ≡ bits
 
--- How many bits there are: 80 in a header; in a frame as many as it is given, if the data field fits; and scrambling changes no number.
+-- How many bits there are: 80 in a header; in a frame as many as it is given, if the data field fits; and scrambling changes no
+-- number.
 pub record BitCounts : Type 0 where
   pub header : (h : Header) → length (header_bits h) ≡ 80
   pub frame : (h : Header) (body : List Bool) (size : ℕ) → 80 + length body ≤ size → length (frame_bits h body size) ≡ size

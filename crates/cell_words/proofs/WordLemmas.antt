@@ -1,5 +1,6 @@
 -- The words of cells, in parts.
-use Rattle.std.proofs.Common.{◌≡◌, ℕ, zero, suc, ◌+◌, ◌*◌, List, ◌++◌, length, refl, ap, ap₂, sym, ◌∙◌, arith, append_assoc, append-nil, length-append}
+use Rattle.std.proofs.Common.{◌≡◌, ℕ, zero, suc, ◌+◌, ◌*◌, List, ◌++◌, length, refl, ap, ap₂, sym, ◌∙◌, arith, append_assoc}
+use Rattle.std.proofs.Common.{append-nil, length-append}
 use Rattle.std.specs.FinMap.{get}
 use Rattle.plp_config.specs.declared.config.Config.{Config}
 use Rattle.scheduler.specs.Shape.{FrameShape}
@@ -12,7 +13,8 @@ abbrev pub word_at : Config → FrameShape → ℕ → List ℕ
 word_at c shape address = cell_bytes (get (cell_map c shape) address)
 
 -- the cells from an address on, in two parts
-pub words_split : (c : Config) (shape : FrameShape) (n m address : ℕ) → words c shape address (n + m) ≡ words c shape address n ++ words c shape (address + n) m
+pub words_split : (c : Config) (shape : FrameShape) (n m address : ℕ) → words c shape address (n + m) ≡ words c shape address n
+    ++ words c shape (address + n) m
 words_split c shape zero m address =
     let e : 0 + m ≡ m = omega arith in
     let f : address ≡ address + 0 = omega arith in
@@ -26,9 +28,12 @@ words_split c shape (suc n) m address =
     ∙ ap (λ (a : ℕ). (word_at c shape address ++ words c shape (address + 1) n) ++ words c shape a m) f
 
 -- one cell more
-pub words_more : (c : Config) (shape : FrameShape) (n address : ℕ) → words c shape address (n + 1) ≡ words c shape address n ++ word_at c shape (address + n)
-words_more c shape n address = words_split c shape n 1 address ∙ ap (λ (l : List ℕ). words c shape address n ++ l) (append-nil (word_at c shape (address + n)))
+pub words_more : (c : Config) (shape : FrameShape) (n address : ℕ) → words c shape address (n + 1) ≡ words c shape address n
+    ++ word_at c shape (address + n)
+words_more c shape n address = words_split c shape n 1 address ∙ ap (λ (l : List ℕ). words c shape address n ++ l)
+    (append-nil (word_at c shape (address + n)))
 
 pub length-words : (c : Config) (shape : FrameShape) (n address : ℕ) → length (words c shape address n) ≡ 4 * n
 length-words c shape zero address = refl
-length-words c shape (suc n) address = length-append (word_at c shape address) (words c shape (address + 1) n) ∙ (let h = length-words c shape n (address + 1) in omega (arith, h))
+length-words c shape (suc n) address = length-append (word_at c shape address) (words c shape (address + 1) n)
+    ∙ (let h = length-words c shape n (address + 1) in omega (arith, h))

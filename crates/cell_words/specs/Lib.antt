@@ -1,2 +1,3 @@
 pub mod Words
+-- inner: no public clause cites these
 pub mod Lines

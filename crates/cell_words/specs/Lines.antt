@@ -37,7 +37,8 @@ FitsStretch (Blocks strip) = FitsStrip strip
 
 -- the words of a row are those of the row before, each greater by 1
 pub record IsAgain (c : Config) (shape : FrameShape) (address width : ℕ) : Type 0 where
-  pub next : (k : ℕ) → k < width → word_of (get (cell_map c shape) (address + width + k)) ≡ word_of (get (cell_map c shape) (address + k)) + 1
+  pub next : (k : ℕ) → k < width → word_of (get (cell_map c shape) (address + width + k))
+      ≡ word_of (get (cell_map c shape) (address + k)) + 1
   pub small : (k : ℕ) → k < width → word_of (get (cell_map c shape) (address + k)) + 1 < 2 ^ 32
 
 -- each cell of a strip is followed by that of another

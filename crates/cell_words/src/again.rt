@@ -11,7 +11,7 @@ use cell_map::{Cell, Stretch, Strip};
 use plp_config::Plan;
 use scheduler::Shape;
 
-// The word at a place.
+/// The word at a place.
 pub fn word_at(bytes: &[u8], at: usize) -> u32
     requires { at + 4 ≤ length bytes.now }
     ensures { result ≡ big_number 4 (drop at bytes.now) }

@@ -47,7 +47,7 @@ pub fn agree(
     ensures len { length buffer.new ≡ length buffer.old }
 {
     map_law();
-    let _config = plan.config();
+    plan.obeys_rules();
     fill_words(plan, shape, address, count, buffer);
     let words = cells.words();
     are_same(buffer, &words[4 * address as usize..], count)

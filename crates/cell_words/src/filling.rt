@@ -17,7 +17,7 @@ pub fn fill_words(plan: &Plan, shape: &Shape, address: u32, count: u32, out: &mu
     ensures { out.new ≡ words plan.now shape.now address count }
 {
     map_law();
-    let _config = plan.config();
+    plan.obeys_rules();
     let mut cells = Cells::resume(plan, shape, address);
     let mut last = NO_STRIP;
     let mut done = 0;

@@ -19,7 +19,7 @@ const BLOCK_WORDS: u32 = 32_768;
 // The columns into which the time interleaver writes a block.
 const COLUMNS: u32 = 5;
 
-// Writes a word at a place.
+/// Writes a word at a place.
 pub fn put_word(word: u32, at: usize, out: &mut [u8])
     requires { at + 4 ≤ length out.old }
     ensures front { take (at + 4) out.new ≡ take at out.old ++ big_bytes 4 word }

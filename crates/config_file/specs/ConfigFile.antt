@@ -31,7 +31,7 @@ pub record FailsToRead (old new : State) (name : List ℕ) : Type 0 where
   pub way : Unopened old new ⊎ ((given : ℕ) × Opened old new name given × (given < read_bytes) × (new.said ≡ old.said))
   pub counts : ReadsFail old new
 
--- The text of the named file spells the configuration, where the desk tells.
+-- The text of the named file spells the configuration, if the desk tells.
 abbrev pub FileSpells : State → List ℕ → Config → Type 0
 FileSpells old name c = IfSome old.held (λ held. Spells (bytes_of held.files name) c)
 
@@ -42,7 +42,8 @@ IsCause text (Rule rule plp) = (c : Config) × Spells text c × rules.Refuses c 
 
 -- The named file gives no configuration that satisfies the rules, by cause.
 abbrev pub GivesNone : State → State → List ℕ → ConfigStop → Type 0
-GivesNone old new name (Refused cause) = ReadsText old new name × IfSome old.held (λ held. IsCause (bytes_of held.files name) cause)
+GivesNone old new name (Refused cause) = ReadsText old new name
+    × IfSome old.held (λ held. IsCause (bytes_of held.files name) cause)
 GivesNone old new name ReadFault = FailsToRead old new name
 GivesNone old new name OutOfMemory = (new ≡ old) ⊎ ReadsText old new name
 GivesNone old new name (Lacks fault) = ⊥

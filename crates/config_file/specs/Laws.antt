@@ -9,7 +9,7 @@ use Rattle.config_file.specs.ConfigFile.{IsCause}
 use Rattle.config_file.specs.declared.stop.ConfigStop.{ConfigStop}
 use Rattle.config_file.specs.declared.stop.ConfigStop.TheVariants.{Refused, Lacks}
 
--- What a text gives, where nothing outside fails: the configuration that it spells, or why it has none that satisfies the rules.
+-- What a text gives, if nothing outside fails: the configuration that it spells, or why it has none that satisfies the rules.
 abbrev pub GivesConfig : List ℕ → Result Config ConfigStop → Type 0
 GivesConfig text (Ok c) = Spells text c × AllRules c
 GivesConfig text (Err (Refused cause)) = IsCause text cause
@@ -24,10 +24,12 @@ GivesPlan text (Err stop) = ⊥
 
 -- A text gives one thing.
 abbrev pub OneConfig : Type 0
-OneConfig = (text : List ℕ) (result other : Result Config ConfigStop) → GivesConfig text result → GivesConfig text other → result ≡ other
+OneConfig = (text : List ℕ) (result other : Result Config ConfigStop) → GivesConfig text result → GivesConfig text other
+    → result ≡ other
 
 abbrev pub OnePlan : Type 0
-OnePlan = (text : List ℕ) (result other : Result Config ConfigStop) → GivesPlan text result → GivesPlan text other → result ≡ other
+OnePlan = (text : List ℕ) (result other : Result Config ConfigStop) → GivesPlan text result → GivesPlan text other
+    → result ≡ other
 
 -- Each text gives something.
 abbrev pub ConfigEnds : Type 0

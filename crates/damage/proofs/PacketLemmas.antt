@@ -6,7 +6,8 @@ use Rattle.std.proofs.lemmas.Bool.{cond-true, cond-false}
 use Rattle.damage.specs.SentPackets.{Sent, packets_of, frame_packets}
 use Rattle.damage.specs.Survivors.{is_whole}
 
-pub packets_here : (n : ℕ) (s : Sent) (sent : List Sent) → s.frame ≡ n → frame_packets n (s ∷ sent) ≡ s.packet ∷ frame_packets n sent
+pub packets_here : (n : ℕ) (s : Sent) (sent : List Sent) → s.frame ≡ n → frame_packets n (s ∷ sent) ≡ s.packet
+    ∷ frame_packets n sent
 packets_here n s sent e =
     let rest : List Sent = filter (λ (s : Sent). s.frame == n) sent in
     ap packets_of (cond-true (s.frame == n) (s ∷ rest) rest (eq-eqb s.frame n e))
@@ -20,10 +21,14 @@ packets_other n s sent e =
 abbrev told : List Sent → List Bool → ℕ → List (Sent × Bool)
 told sent survival n = filter (λ p. p.0.frame == n) (zip sent survival)
 
-pub whole_here : (s : Sent) (sent : List Sent) (t : Bool) (survival : List Bool) (n : ℕ) → s.frame ≡ n → is_whole (s ∷ sent) (t ∷ survival) n ≡ (t && is_whole sent survival n)
+pub whole_here : (s : Sent) (sent : List Sent) (t : Bool) (survival : List Bool) (n : ℕ) → s.frame ≡ n
+    → is_whole (s ∷ sent) (t ∷ survival) n ≡ (t && is_whole sent survival n)
 whole_here s sent t survival n e =
-    ap (list_all (λ (p : Sent × Bool). p.1)) (cond-true (s.frame == n) ((s, t) ∷ told sent survival n) (told sent survival n) (eq-eqb s.frame n e))
+    ap (list_all (λ (p : Sent × Bool). p.1)) (cond-true (s.frame == n) ((s, t) ∷ told sent survival n) (told sent survival n)
+    (eq-eqb s.frame n e))
 
-pub whole_other : (s : Sent) (sent : List Sent) (t : Bool) (survival : List Bool) (n : ℕ) → s.frame ≢ n → is_whole (s ∷ sent) (t ∷ survival) n ≡ is_whole sent survival n
+pub whole_other : (s : Sent) (sent : List Sent) (t : Bool) (survival : List Bool) (n : ℕ) → s.frame ≢ n
+    → is_whole (s ∷ sent) (t ∷ survival) n ≡ is_whole sent survival n
 whole_other s sent t survival n e =
-    ap (list_all (λ (p : Sent × Bool). p.1)) (cond-false (s.frame == n) ((s, t) ∷ told sent survival n) (told sent survival n) (ne_eqb s.frame n e))
+    ap (list_all (λ (p : Sent × Bool). p.1)) (cond-false (s.frame == n) ((s, t) ∷ told sent survival n) (told sent survival n)
+    (ne_eqb s.frame n e))

@@ -3,6 +3,7 @@ pub mod Survivors
 pub mod Streams
 pub mod Laws
 pub mod StreamLaws
+-- of the crates below, for those who read this one
 pub use Rattle.frame_groups.specs.Groups
 pub use Rattle.frame_groups.specs.Modulated
 pub use Rattle.frame_groups.specs.Numbers

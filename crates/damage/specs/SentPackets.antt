@@ -28,14 +28,14 @@ abbrev pub IsTimestamp : Body → Type 0
 IsTimestamp (Block frame_idx plp first bits) = ⊥
 IsTimestamp (L1Current frame_idx pre conf dynamic extension) = ⊥
 IsTimestamp (Timestamp stamp) = Unit {0}
-IsTimestamp (Other kind bits) = ⊥
+IsTimestamp (Other packet_type bits) = ⊥
 
 -- A packet tells its frame: a timestamp is sent in the first frame of a superframe (ETSI TS 102 773, clause 5.2.7).
 abbrev pub TellsFrame : ℕ → ℕ → Body → Type 0
 TellsFrame frames n (Block frame_idx plp first bits) = frame_idx ≡ n % frames
 TellsFrame frames n (L1Current frame_idx pre conf dynamic extension) = frame_idx ≡ n % frames
 TellsFrame frames n (Timestamp stamp) = n % frames ≡ 0
-TellsFrame frames n (Other kind bits) = ⊥
+TellsFrame frames n (Other packet_type bits) = ⊥
 
 pub record IsOfFrame (frames : ℕ) (s : Sent) : Type 0 where
   pub superframe : s.packet.superframe ≡ s.frame / frames % superframe_period
@@ -61,8 +61,8 @@ pub record AreFrames (frames count : ℕ) (sent : List Sent) : Type 0 where
   pub below : AllByRecursion (λ s. s.frame < count) sent
   pub some : (n : ℕ) → n < count → frame_packets n sent ≢ []
 
--- A packet is near one of frame m: by less than the frames after which keys come again, and a timestamp by less than the superframes
--- after which superframe_idx does.
+-- A packet is near one of frame m: by less than the frames after which keys come again, and a timestamp by less than the
+-- superframes after which superframe_idx does.
 pub record IsNear (frames m : ℕ) (s : Sent) : Type 0 where
   pub frame : s.frame < m + superframe_period * frames
   pub stamp : IsTimestamp s.packet.body → s.frame / frames < m / frames + superframe_period

@@ -25,17 +25,20 @@ ReadAreSurvivors = (s : Stream) (from : ℕ) (fates : List Fate) → IsStream s 
 -- The groups are, in order, the survivors of those frames that have one.
 abbrev pub HonestGroups : Type 0
 HonestGroups = (s : Stream) (from : ℕ) (fates : List Fate) → IsStream s → Honest s from fates
-    → groups s.frames (modulating.packets_of (received_packets s.pid s.packets from fates)) ≡ groups_met s.frames s.count (stream_survivors s from fates)
+    → groups s.frames (modulating.packets_of (received_packets s.pid s.packets from fates))
+    ≡ groups_met s.frames s.count (stream_survivors s from fates)
 
 -- The records of what is received are those that must come.
 abbrev pub HonestRecords : Type 0
 HonestRecords = (r : Rules) (s : Stream) (from : ℕ) (fates : List Fate) → r.frames ≡ s.frames → IsStream s → Honest s from fates
     → RulesMeet r s.count s.sent (stream_survival s from fates)
-    → modulated r (modulating.packets_of (received_packets s.pid s.packets from fates)) ≡ survivor_records r.network s.sent (stream_survival s from fates)
+    → modulated r (modulating.packets_of (received_packets s.pid s.packets from fates)) ≡ survivor_records r.network s.sent
+    (stream_survival s from fates)
 
 -- A stream of which all units from one on are kept is honest by itself.
 abbrev pub KeptHonest : Type 0
-KeptHonest = (s : Stream) (from : ℕ) (fates : List Fate) → IsStream s → AlteredWhole fates → AreKept (length (drop from (pipe s.pid s.packets))) fates → Honest s from fates
+KeptHonest = (s : Stream) (from : ℕ) (fates : List Fate) → IsStream s → AlteredWhole fates
+    → AreKept (length (drop from (pipe s.pid s.packets))) fates → Honest s from fates
 
 -- The units that carry the packet with a number are kept.
 pub record IsCarried (packets : List (List ℕ)) (from : ℕ) (fates : List Fate) (number : ℕ) : Type 0 where

@@ -31,7 +31,8 @@ loss_of (p ∷ packets) = PacketMissing
 -- what must be sent of a frame: its packets, if it is whole
 abbrev pub sent_content : ℕ → List Sent → List Bool → ℕ → Content
 sent_content frames sent survival n =
-    if is_whole sent survival n then Whole (frame_group frames sent n) else Muted (loss_of (frame_packets n (items_where_true survival sent)))
+    if is_whole sent survival n then Whole (frame_group frames sent n)
+    else Muted (loss_of (frame_packets n (items_where_true survival sent)))
 
 abbrev pub sent_record : ℕ → List Sent → List Bool → ℕ → FrameRecord
 sent_record frames sent survival n = record { number = n; content = sent_content frames sent survival n }

@@ -1,12 +1,14 @@
 -- One number after another.
-use Rattle.std.proofs.Common.{◌≡◌, ℕ, zero, suc, ◌+◌, ◌-◌, ◌*◌, ◌≤◌, Bool, true, false, cond, List, [], ◌∷◌, ◌++◌, map, length, Option, Some, None, refl, subst, ◌∙◌, arith}
+use Rattle.std.proofs.Common.{◌≡◌, ℕ, zero, suc, ◌+◌, ◌-◌, ◌*◌, ◌≤◌, Bool, true, false, cond, List, [], ◌∷◌, ◌++◌, map, length}
+use Rattle.std.proofs.Common.{Option, Some, None, refl, subst, ◌∙◌, arith}
 use Rattle.std.specs.List.{range_with_len}
 use Rattle.std.proofs.lemmas.List.{length-map, length_push}
 use Rattle.std.proofs.lemmas.List.FromFn.{length-range_with_len}
 use Rattle.t2mi_packet.specs.declared.packet.Packet.{Packet}
 use Rattle.frame_groups.specs.Groups.{Group, groups, is_same}
 use Rattle.frame_groups.specs.Numbers.{frame_key, first_from, next_number}
-use Rattle.frame_groups.specs.Modulated.{Rules, FrameRecord, gap_record, group_record, join_number, gaps_between, gaps_behind, own_record, records_from, modulated}
+use Rattle.frame_groups.specs.Modulated.{Rules, FrameRecord, gap_record, group_record, join_number, gaps_between, gaps_behind}
+use Rattle.frame_groups.specs.Modulated.{own_record, records_from, modulated}
 use Rattle.frame_groups.specs.Laws.{AreFrom}
 
 first_above : (f : ℕ → Bool) (steps n : ℕ) → n ≤ first_from f steps n
@@ -34,16 +36,22 @@ behind r [] m = tt
 behind r (g ∷ gs) m =
     let n : ℕ = next_number r.frames m g.key in
     let up : m + 1 ≤ n = next_above r m g in
-    let l : length (gaps_between m n) ≡ n - (m + 1) = length-map (range_with_len (m + 1) (n - (m + 1))) gap_record ∙ length-range_with_len (m + 1) (n - (m + 1)) in
-    let both : AreFrom (m + 1) (gaps_between m n ++ group_record r g n ∷ []) = from_append (gaps_between m n) (group_record r g n ∷ []) (m + 1) n (gaps_from (n - (m + 1)) (m + 1)) (omega (arith, l, up)) (refl, tt) in
-    let all : length (gaps_between m n ++ group_record r g n ∷ []) ≡ length (gaps_between m n) + 1 = length_push (gaps_between m n) (group_record r g n) in
-    from_append (gaps_between m n ++ group_record r g n ∷ []) (records_from r (Some n) gs) (m + 1) (n + 1) both (omega (arith, l, all, up)) (behind r gs n)
+    let l : length (gaps_between m n) ≡ n - (m + 1) = length-map (range_with_len (m + 1) (n - (m + 1))) gap_record
+    ∙ length-range_with_len (m + 1) (n - (m + 1)) in
+    let both : AreFrom (m + 1) (gaps_between m n ++ group_record r g n ∷ []) =
+    from_append (gaps_between m n) (group_record r g n ∷ []) (m + 1) n (gaps_from (n - (m + 1)) (m + 1))
+    (omega (arith, l, up)) (refl, tt) in
+    let all : length (gaps_between m n ++ group_record r g n ∷ []) ≡ length (gaps_between m n) + 1 =
+    length_push (gaps_between m n) (group_record r g n) in
+    from_append (gaps_between m n ++ group_record r g n ∷ []) (records_from r (Some n) gs) (m + 1) (n + 1) both
+    (omega (arith, l, all, up)) (behind r gs n)
 
 first : (r : Rules) (gs : List Group) → (n : ℕ) × AreFrom n (records_from r None gs)
 first r [] = (0, tt)
 first r (g ∷ gs) = go (first r gs) (λ n. behind r gs n) (join_number r g)
   where
-    go : ((n : ℕ) × AreFrom n (records_from r None gs)) → ((n : ℕ) → AreFrom (n + 1) (records_from r (Some n) gs)) → (o : Option ℕ) → (n : ℕ) × AreFrom n ((gaps_behind None o ++ own_record r g o) ++ records_from r o gs)
+    go : ((n : ℕ) × AreFrom n (records_from r None gs)) → ((n : ℕ) → AreFrom (n + 1) (records_from r (Some n) gs))
+        → (o : Option ℕ) → (n : ℕ) × AreFrom n ((gaps_behind None o ++ own_record r g o) ++ records_from r o gs)
     go none some None = none
     go none some (Some n) = (n, (refl, some n))
 

@@ -1,5 +1,6 @@
 -- What follows changes no record but the last.
-use Rattle.std.proofs.Common.{◌≡◌, ℕ, Bool, true, false, cond, List, [], ◌∷◌, ◌++◌, Option, Some, None, refl, ap, sym, subst, ◌∙◌, append_assoc, append-nil}
+use Rattle.std.proofs.Common.{◌≡◌, ℕ, Bool, true, false, cond, List, [], ◌∷◌, ◌++◌, Option, Some, None, refl, ap, sym, subst, ◌∙◌}
+use Rattle.std.proofs.Common.{append_assoc, append-nil}
 use Rattle.std.specs.Prelude.{is_some}
 use Rattle.std.specs.List.{filter}
 use Rattle.std.proofs.lemmas.List.Elements.{filter-append}
@@ -8,7 +9,8 @@ use Rattle.t2mi_packet.specs.declared.packet.Packet.{Packet}
 use Rattle.frame_groups.specs.Groups.{is_counted, is_same, Group, key_behind, groups}
 use Rattle.frame_groups.specs.Grouping.{Grouped, one_packet, one_more, grouped_from, no_groups, grouped, all_groups}
 use Rattle.frame_groups.specs.declared.key.Key.{Key}
-use Rattle.frame_groups.specs.Modulated.{Rules, FrameRecord, number_behind, join_number, gaps_behind, gaps_between, own_record, group_record, records_with, records_from, number_after, modulated}
+use Rattle.frame_groups.specs.Modulated.{Rules, FrameRecord, number_behind, join_number, gaps_behind, gaps_between, own_record}
+use Rattle.frame_groups.specs.Modulated.{group_record, records_with, records_from, number_after, modulated}
 use Rattle.frame_groups.specs.Numbers.{next_number}
 use Rattle.frame_groups.specs.Laws.{without_last, IsPrefix}
 use Rattle.frame_groups.proofs.GroupLemmas.{grouped_append}
@@ -21,16 +23,29 @@ pub record GoesOn (closed : List Group) (h : Group) (all : List Group) : Type 0 
   pub all_are : all ≡ closed ++ group ∷ more
   pub key : group.key ≡ h.key
 
-pub goes_on : (qs : List Packet) (closed : List Group) (h : Group) → GoesOn closed h (all_groups (grouped_from (record { closed = closed; under_way = Some h }) qs))
+pub goes_on : (qs : List Packet) (closed : List Group) (h : Group)
+    → GoesOn closed h (all_groups (grouped_from (record { closed = closed; under_way = Some h }) qs))
 goes_on [] closed h = record { group = h; more = []; all_are = refl; key = refl }
 goes_on (p ∷ qs) closed h = go (λ closed h. goes_on qs closed h) (is_same h.key (key_behind (Some h.key) p))
   where
-    go : ((closed : List Group) (h : Group) → GoesOn closed h (all_groups (grouped_from (record { closed = closed; under_way = Some h }) qs)))
-        → (t : Bool) → GoesOn closed h (all_groups (grouped_from (cond t (record { closed = closed; under_way = Some (one_more h p) }) (record { closed = closed ++ h ∷ []; under_way = Some (one_packet (key_behind (Some h.key) p) p) })) qs))
-    go rest true = let r = rest closed (one_more h p) in record { group = r.group; more = r.more; all_are = r.all_are; key = r.key }
+    go : ((closed : List Group) (h : Group)
+        → GoesOn closed h (all_groups (grouped_from (record { closed = closed; under_way = Some h }) qs)))
+        → (t : Bool)
+        → GoesOn closed h
+        (all_groups
+        (grouped_from
+        (cond t (record { closed = closed; under_way = Some (one_more h p) })
+        (record { closed = closed ++ h ∷ []; under_way = Some (one_packet (key_behind (Some h.key) p) p) })) qs))
+    go rest true = let r = rest closed (one_more h p) in
+        record { group = r.group; more = r.more; all_are = r.all_are; key = r.key }
     go rest false =
         let r = rest (closed ++ h ∷ []) (one_packet (key_behind (Some h.key) p) p) in
-        record { group = h; more = r.group ∷ r.more; all_are = r.all_are ∙ append_assoc closed (h ∷ []) (r.group ∷ r.more); key = refl }
+        record {
+          group = h;
+          more = r.group ∷ r.more;
+          all_are = r.all_are ∙ append_assoc closed (h ∷ []) (r.group ∷ r.more);
+          key = refl;
+        }
 
 -- after a packet there is a last group
 pub record HasLast (g : Grouped) : Type 0 where
@@ -38,15 +53,22 @@ pub record HasLast (g : Grouped) : Type 0 where
   pub last : Group
   pub is : g ≡ record { closed = closed; under_way = Some last }
 
-pub has_last : (qs : List Packet) (closed : List Group) (h : Group) → HasLast (grouped_from (record { closed = closed; under_way = Some h }) qs)
+pub has_last : (qs : List Packet) (closed : List Group) (h : Group)
+    → HasLast (grouped_from (record { closed = closed; under_way = Some h }) qs)
 has_last [] closed h = record { closed = closed; last = h; is = refl }
 has_last (p ∷ qs) closed h = go (λ closed h. has_last qs closed h) (is_same h.key (key_behind (Some h.key) p))
   where
-    go : ((closed : List Group) (h : Group) → HasLast (grouped_from (record { closed = closed; under_way = Some h }) qs)) → (t : Bool) → HasLast (grouped_from (cond t (record { closed = closed; under_way = Some (one_more h p) }) (record { closed = closed ++ h ∷ []; under_way = Some (one_packet (key_behind (Some h.key) p) p) })) qs)
+    go : ((closed : List Group) (h : Group) → HasLast (grouped_from (record { closed = closed; under_way = Some h }) qs))
+        → (t : Bool)
+        → HasLast
+        (grouped_from
+        (cond t (record { closed = closed; under_way = Some (one_more h p) })
+        (record { closed = closed ++ h ∷ []; under_way = Some (one_packet (key_behind (Some h.key) p) p) })) qs)
     go rest true = rest closed (one_more h p)
     go rest false = rest (closed ++ h ∷ []) (one_packet (key_behind (Some h.key) p) p)
 
-pub records_append : (r : Rules) (before : Option ℕ) (gs hs : List Group) → records_from r before (gs ++ hs) ≡ records_from r before gs ++ records_from r (number_after r before gs) hs
+pub records_append : (r : Rules) (before : Option ℕ) (gs hs : List Group) → records_from r before (gs ++ hs)
+    ≡ records_from r before gs ++ records_from r (number_after r before gs) hs
 records_append r before [] hs = refl
 records_append r before (g ∷ gs) hs =
     ap (λ (l : List FrameRecord). records_with r before g ++ l) (records_append r (number_behind r before g) gs hs)
@@ -62,11 +84,13 @@ pub none_before : (r : Rules) (gs : List Group) → number_after r None gs ≡ N
 none_before r [] e = refl
 none_before r (g ∷ gs) e = go (λ e. none_before r gs e) (join_number r g) e
   where
-    go : (number_after r None gs ≡ None → records_from r None gs ≡ []) → (o : Option ℕ) → number_after r o gs ≡ None → (gaps_behind None o ++ own_record r g o) ++ records_from r o gs ≡ []
+    go : (number_after r None gs ≡ None → records_from r None gs ≡ []) → (o : Option ℕ) → number_after r o gs ≡ None
+        → (gaps_behind None o ++ own_record r g o) ++ records_from r o gs ≡ []
     go rest None e = rest e
     go rest (Some n) e = absurd (true≢false (sym (stays_joined r gs n) ∙ ap is_some e))
 
-pub without_last-append : {X : Type 0} (xs : List X) (y : X) (ys : List X) → without_last (xs ++ y ∷ ys) ≡ xs ++ without_last (y ∷ ys)
+pub without_last-append : {X : Type 0} (xs : List X) (y : X) (ys : List X) → without_last (xs ++ y ∷ ys)
+    ≡ xs ++ without_last (y ∷ ys)
 without_last-append [] y ys = refl
 without_last-append (x ∷ []) y ys = refl
 without_last-append (x ∷ z ∷ xs) y ys = ap (λ l. x ∷ l) (without_last-append (z ∷ xs) y ys)
@@ -80,18 +104,22 @@ pub record SameFront (xs ys : List FrameRecord) : Type 0 where
   pub one : xs ≡ front ++ x ∷ []
   pub other : ys ≡ front ++ y ∷ more
 
-prefix_of : (before xs ys : List FrameRecord) → SameFront xs ys → IsPrefix (without_last (before ++ xs)) (without_last (before ++ ys))
+prefix_of : (before xs ys : List FrameRecord) → SameFront xs ys
+    → IsPrefix (without_last (before ++ xs)) (without_last (before ++ ys))
 prefix_of before xs ys s =
     let a : without_last (before ++ xs) ≡ before ++ s.front =
-    ap (λ (l : List FrameRecord). without_last (before ++ l)) s.one ∙ ap without_last (sym (append_assoc before s.front (s.x ∷ [])))
+    ap (λ (l : List FrameRecord). without_last (before ++ l)) s.one
+    ∙ ap without_last (sym (append_assoc before s.front (s.x ∷ [])))
     ∙ without_last-append (before ++ s.front) s.x [] ∙ append-nil (before ++ s.front) in
     let b : without_last (before ++ ys) ≡ (before ++ s.front) ++ without_last (s.y ∷ s.more) =
-    ap (λ (l : List FrameRecord). without_last (before ++ l)) s.other ∙ ap without_last (sym (append_assoc before s.front (s.y ∷ s.more)))
+    ap (λ (l : List FrameRecord). without_last (before ++ l)) s.other
+    ∙ ap without_last (sym (append_assoc before s.front (s.y ∷ s.more)))
     ∙ without_last-append (before ++ s.front) s.y s.more in
     (without_last (s.y ∷ s.more), b ∙ ap (λ (l : List FrameRecord). l ++ without_last (s.y ∷ s.more)) (sym a))
 
 -- the records of a last group, and of another with its key and what follows
-front_joined : (r : Rules) (m : ℕ) (g h : Group) (more : List Group) → h.key ≡ g.key → SameFront (records_from r (Some m) (g ∷ [])) (records_from r (Some m) (h ∷ more))
+front_joined : (r : Rules) (m : ℕ) (g h : Group) (more : List Group) → h.key ≡ g.key
+    → SameFront (records_from r (Some m) (g ∷ [])) (records_from r (Some m) (h ∷ more))
 front_joined r m g h more key = record {
   front = gaps_between m (next_number r.frames m g.key);
   x = group_record r g (next_number r.frames m g.key);
@@ -100,7 +128,8 @@ front_joined r m g h more key = record {
   one = append-nil _;
   other =
       append_assoc (gaps_between m (next_number r.frames m h.key)) (group_record r h (next_number r.frames m h.key) ∷ []) _
-      ∙ ap (λ (k : Key). gaps_between m (next_number r.frames m k) ++ (group_record r h (next_number r.frames m h.key) ∷ records_from r (number_behind r (Some m) h) more)) key;
+      ∙ ap (λ (k : Key). gaps_between m (next_number r.frames m k)
+      ++ (group_record r h (next_number r.frames m h.key) ∷ records_from r (number_behind r (Some m) h) more)) key;
 }
 
 front_first : (r : Rules) (g : Group) (ys : List FrameRecord) → IsPrefix (without_last (records_from r None (g ∷ []))) ys
@@ -110,21 +139,28 @@ front_first r g ys = go (join_number r g)
     go None = (ys, refl)
     go (Some n) = (ys, refl)
 
-front_from : (r : Rules) (closed : List Group) (g h : Group) (more : List Group) → h.key ≡ g.key → (o : Option ℕ) → number_after r None closed ≡ o
-    → IsPrefix (without_last (records_from r None closed ++ records_from r o (g ∷ []))) (without_last (records_from r None closed ++ records_from r o (h ∷ more)))
+front_from : (r : Rules) (closed : List Group) (g h : Group) (more : List Group) → h.key ≡ g.key → (o : Option ℕ)
+    → number_after r None closed ≡ o
+    → IsPrefix (without_last (records_from r None closed ++ records_from r o (g ∷ [])))
+    (without_last (records_from r None closed ++ records_from r o (h ∷ more)))
 front_from r closed g h more key (Some m) e = prefix_of (records_from r None closed) _ _ (front_joined r m g h more key)
 front_from r closed g h more key None e =
-    subst (λ (l : List FrameRecord). IsPrefix (without_last (l ++ records_from r None (g ∷ []))) (without_last (l ++ records_from r None (h ∷ more)))) (sym (none_before r closed e))
+    subst (λ (l : List FrameRecord). IsPrefix (without_last (l ++ records_from r None (g ∷ [])))
+    (without_last (l ++ records_from r None (h ∷ more)))) (sym (none_before r closed e))
     (front_first r g (without_last (records_from r None (h ∷ more))))
 
 front_groups : (r : Rules) (closed : List Group) (g h : Group) (more : List Group) → h.key ≡ g.key
     → IsPrefix (without_last (records_from r None (closed ++ g ∷ []))) (without_last (records_from r None (closed ++ h ∷ more)))
 front_groups r closed g h more key =
-    subst (λ (l : List FrameRecord). IsPrefix (without_last l) (without_last (records_from r None (closed ++ h ∷ more)))) (sym (records_append r None closed (g ∷ [])))
-    (subst (λ (l : List FrameRecord). IsPrefix (without_last (records_from r None closed ++ records_from r (number_after r None closed) (g ∷ []))) (without_last l)) (sym (records_append r None closed (h ∷ more)))
+    subst (λ (l : List FrameRecord). IsPrefix (without_last l) (without_last (records_from r None (closed ++ h ∷ more))))
+    (sym (records_append r None closed (g ∷ [])))
+    (subst (λ (l : List FrameRecord).
+    IsPrefix (without_last (records_from r None closed ++ records_from r (number_after r None closed) (g ∷ [])))
+    (without_last l)) (sym (records_append r None closed (h ∷ more)))
     (front_from r closed g h more key (number_after r None closed) refl))
 
-front_kept : (r : Rules) (ps qs : List Packet) → IsPrefix (without_last (records_from r None (all_groups (grouped ps)))) (without_last (records_from r None (all_groups (grouped (ps ++ qs)))))
+front_kept : (r : Rules) (ps qs : List Packet) → IsPrefix (without_last (records_from r None (all_groups (grouped ps))))
+    (without_last (records_from r None (all_groups (grouped (ps ++ qs)))))
 unfolding grouped
 front_kept r [] qs = (without_last (records_from r None (all_groups (grouped qs))), refl)
 front_kept r (p ∷ ps) qs =
@@ -133,15 +169,22 @@ front_kept r (p ∷ ps) qs =
     grouped_append no_groups (p ∷ ps) qs ∙ ap (λ (g : Grouped). grouped_from g qs) l.is in
     let s = goes_on qs l.closed l.last in
     let f = front_groups r l.closed l.last s.group s.more s.key in
-    subst (λ (g : Grouped). IsPrefix (without_last (records_from r None (all_groups g))) (without_last (records_from r None (all_groups (grouped_from no_groups ((p ∷ ps) ++ qs)))))) (sym l.is)
-    (subst (λ (gs : List Group). IsPrefix (without_last (records_from r None (l.closed ++ l.last ∷ []))) (without_last (records_from r None gs))) (sym (ap all_groups e ∙ s.all_are)) f)
+    subst (λ (g : Grouped). IsPrefix (without_last (records_from r None (all_groups g)))
+    (without_last (records_from r None (all_groups (grouped_from no_groups ((p ∷ ps) ++ qs)))))) (sym l.is)
+    (subst (λ (gs : List Group). IsPrefix (without_last (records_from r None (l.closed ++ l.last ∷ [])))
+    (without_last (records_from r None gs))) (sym (ap all_groups e ∙ s.all_are)) f)
 
-pub front_law : (r : Rules) (ps qs : List Packet) → IsPrefix (without_last (modulated r ps)) (without_last (modulated r (ps ++ qs)))
+pub front_law : (r : Rules) (ps qs : List Packet)
+    → IsPrefix (without_last (modulated r ps)) (without_last (modulated r (ps ++ qs)))
 unfolding modulated
 front_law r ps qs =
     let kept : List Packet → List Packet = filter (is_counted r.frames) in
-    let f : IsPrefix (without_last (records_from r None (all_groups (grouped (kept ps))))) (without_last (records_from r None (all_groups (grouped (kept (ps ++ qs)))))) =
-    subst (λ (l : List Packet). IsPrefix (without_last (records_from r None (all_groups (grouped (kept ps))))) (without_last (records_from r None (all_groups (grouped l))))) (sym (filter-append (is_counted r.frames) ps qs))
+    let f : IsPrefix (without_last (records_from r None (all_groups (grouped (kept ps)))))
+    (without_last (records_from r None (all_groups (grouped (kept (ps ++ qs)))))) =
+    subst (λ (l : List Packet). IsPrefix (without_last (records_from r None (all_groups (grouped (kept ps)))))
+    (without_last (records_from r None (all_groups (grouped l))))) (sym (filter-append (is_counted r.frames) ps qs))
     (front_kept r (kept ps) (kept qs)) in
-    subst (λ (gs : List Group). IsPrefix (without_last (records_from r None gs)) (without_last (records_from r None (groups r.frames (ps ++ qs))))) (grown r.frames ps)
-    (subst (λ (gs : List Group). IsPrefix (without_last (records_from r None (all_groups (grouped (kept ps))))) (without_last (records_from r None gs))) (grown r.frames (ps ++ qs)) f)
+    subst (λ (gs : List Group). IsPrefix (without_last (records_from r None gs))
+    (without_last (records_from r None (groups r.frames (ps ++ qs))))) (grown r.frames ps)
+    (subst (λ (gs : List Group). IsPrefix (without_last (records_from r None (all_groups (grouped (kept ps)))))
+    (without_last (records_from r None gs))) (grown r.frames (ps ++ qs)) f)

@@ -1,10 +1,12 @@
 -- Groups that grow.
-use Rattle.std.proofs.Common.{◌≡◌, Bool, true, false, cond, List, [], ◌∷◌, ◌++◌, Option, Some, None, refl, ap, sym, subst, ◌∙◌, append_assoc, append-nil}
+use Rattle.std.proofs.Common.{◌≡◌, Bool, true, false, cond, List, [], ◌∷◌, ◌++◌, Option, Some, None, refl, ap, sym, subst, ◌∙◌}
+use Rattle.std.proofs.Common.{append_assoc, append-nil}
 use Rattle.std.specs.Prelude.{flat_map, option_to_list}
 use Rattle.std.proofs.lemmas.List.Concat.{flat_map-append}
 use Rattle.t2mi_packet.specs.declared.packet.Packet.{Packet}
 use Rattle.frame_groups.specs.Groups.{is_same, Group, key_behind}
-use Rattle.frame_groups.specs.Grouping.{Grouped, one_packet, one_more, joins, key_of, with_packet, grouped_from, no_groups, grouped, all_groups}
+use Rattle.frame_groups.specs.Grouping.{Grouped, one_packet, one_more, joins, key_of, with_packet, grouped_from, no_groups}
+use Rattle.frame_groups.specs.Grouping.{grouped, all_groups}
 use Rattle.frame_groups.specs.declared.key.Key.{Key}
 use Rattle.frame_groups.specs.Laws.{AreApart}
 
@@ -22,13 +24,20 @@ abbrev pub packets_of : List Group → List Packet
 packets_of gs = flat_map (λ g. g.packets) gs
 
 packets_push : (gs : List Group) (g : Group) → packets_of (gs ++ g ∷ []) ≡ packets_of gs ++ g.packets
-packets_push gs g = flat_map-append (λ (g : Group). g.packets) gs (g ∷ []) ∙ ap (λ (l : List Packet). packets_of gs ++ l) (append-nil g.packets)
+packets_push gs g = flat_map-append (λ (g : Group). g.packets) gs (g ∷ []) ∙ ap (λ (l : List Packet). packets_of gs ++ l)
+    (append-nil g.packets)
 
-all_joined : (closed : List Group) (last : Option Group) (k : Key) (p : Packet) → packets_of (all_groups (joins closed last k p)) ≡ packets_of (closed ++ option_to_list last) ++ p ∷ []
-all_joined closed None k p = packets_push closed (one_packet k p) ∙ ap (λ (l : List Group). packets_of l ++ p ∷ []) (sym (append-nil closed))
+all_joined : (closed : List Group) (last : Option Group) (k : Key) (p : Packet) → packets_of (all_groups (joins closed last k p))
+    ≡ packets_of (closed ++ option_to_list last) ++ p ∷ []
+all_joined closed None k p = packets_push closed (one_packet k p) ∙ ap (λ (l : List Group). packets_of l ++ p ∷ [])
+    (sym (append-nil closed))
 all_joined closed (Some g) k p = go (is_same g.key k)
   where
-    go : (t : Bool) → packets_of (all_groups (cond t (record { closed = closed; under_way = Some (one_more g p) }) (record { closed = closed ++ g ∷ []; under_way = Some (one_packet k p) }))) ≡ packets_of (closed ++ g ∷ []) ++ p ∷ []
+    go : (t : Bool)
+        → packets_of
+        (all_groups
+        (cond t (record { closed = closed; under_way = Some (one_more g p) })
+        (record { closed = closed ++ g ∷ []; under_way = Some (one_packet k p) }))) ≡ packets_of (closed ++ g ∷ []) ++ p ∷ []
     go true =
         packets_push closed (one_more g p) ∙ sym (append_assoc (packets_of closed) g.packets (p ∷ []))
         ∙ ap (λ (l : List Packet). l ++ p ∷ []) (sym (packets_push closed g))
@@ -42,7 +51,8 @@ all_from (p ∷ ps) g =
     ∙ append_assoc (packets_of (all_groups g)) (p ∷ []) ps
 
 -- a group more, or another with its key
-apart_push : (gs : List Group) (g h : Group) → AreApart (gs ++ g ∷ []) → is_same g.key h.key ≡ false → AreApart ((gs ++ g ∷ []) ++ h ∷ [])
+apart_push : (gs : List Group) (g h : Group) → AreApart (gs ++ g ∷ []) → is_same g.key h.key ≡ false
+    → AreApart ((gs ++ g ∷ []) ++ h ∷ [])
 apart_push [] g h a e = (e, tt)
 apart_push (x ∷ []) g h a e = (a.0, (e, tt))
 apart_push (x ∷ y ∷ gs) g h a e = (a.0, apart_push (y ∷ gs) g h a.1 e)
@@ -52,23 +62,35 @@ apart_change [] g h a e = tt
 apart_change (x ∷ []) g h a e = (subst (λ (k : Key). is_same x.key k ≡ false) (sym e) a.0, tt)
 apart_change (x ∷ y ∷ gs) g h a e = (a.0, apart_change (y ∷ gs) g h a.1 e)
 
-apart_joined : (closed : List Group) (last : Option Group) (k : Key) (p : Packet) → (last ≡ None → closed ≡ []) → AreApart (closed ++ option_to_list last) → AreApart (all_groups (joins closed last k p))
+apart_joined : (closed : List Group) (last : Option Group) (k : Key) (p : Packet) → (last ≡ None → closed ≡ [])
+    → AreApart (closed ++ option_to_list last) → AreApart (all_groups (joins closed last k p))
 apart_joined closed None k p none a = subst (λ (l : List Group). AreApart (l ++ one_packet k p ∷ [])) (sym (none refl)) tt
 apart_joined closed (Some g) k p none a = go (is_same g.key k) refl
   where
-    go : (t : Bool) → is_same g.key k ≡ t → AreApart (all_groups (cond t (record { closed = closed; under_way = Some (one_more g p) }) (record { closed = closed ++ g ∷ []; under_way = Some (one_packet k p) })))
+    go : (t : Bool) → is_same g.key k ≡ t
+        → AreApart
+        (all_groups
+        (cond t (record { closed = closed; under_way = Some (one_more g p) })
+        (record { closed = closed ++ g ∷ []; under_way = Some (one_packet k p) })))
     go true e = apart_change closed g (one_more g p) a refl
     go false e = apart_push closed g (one_packet k p) a e
 
-apart_from : (ps : List Packet) (closed : List Group) (h : Group) → AreApart (closed ++ h ∷ []) → AreApart (all_groups (grouped_from (record { closed = closed; under_way = Some h }) ps))
+apart_from : (ps : List Packet) (closed : List Group) (h : Group) → AreApart (closed ++ h ∷ [])
+    → AreApart (all_groups (grouped_from (record { closed = closed; under_way = Some h }) ps))
 apart_from [] closed h a = a
 apart_from (p ∷ ps) closed h a = go (λ closed h a. apart_from ps closed h a) (is_same h.key (key_behind (Some h.key) p)) refl
   where
-    go : ((closed : List Group) (h : Group) → AreApart (closed ++ h ∷ []) → AreApart (all_groups (grouped_from (record { closed = closed; under_way = Some h }) ps)))
+    go : ((closed : List Group) (h : Group) → AreApart (closed ++ h ∷ [])
+        → AreApart (all_groups (grouped_from (record { closed = closed; under_way = Some h }) ps)))
         → (t : Bool) → is_same h.key (key_behind (Some h.key) p) ≡ t →
-        AreApart (all_groups (grouped_from (cond t (record { closed = closed; under_way = Some (one_more h p) }) (record { closed = closed ++ h ∷ []; under_way = Some (one_packet (key_behind (Some h.key) p) p) })) ps))
+        AreApart
+        (all_groups
+        (grouped_from
+        (cond t (record { closed = closed; under_way = Some (one_more h p) })
+        (record { closed = closed ++ h ∷ []; under_way = Some (one_packet (key_behind (Some h.key) p) p) })) ps))
     go rest true e = rest closed (one_more h p) (apart_change closed h (one_more h p) a refl)
-    go rest false e = rest (closed ++ h ∷ []) (one_packet (key_behind (Some h.key) p) p) (apart_push closed h (one_packet (key_behind (Some h.key) p) p) a e)
+    go rest false e = rest (closed ++ h ∷ []) (one_packet (key_behind (Some h.key) p) p)
+        (apart_push closed h (one_packet (key_behind (Some h.key) p) p) a e)
 
 pub apart_all : (ps : List Packet) → AreApart (all_groups (grouped ps))
 unfolding grouped

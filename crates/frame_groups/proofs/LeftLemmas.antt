@@ -1,5 +1,6 @@
 -- How many records a group can still bring.
-use Rattle.std.proofs.Common.{◌≡◌, ◌⊎◌, ℕ, ◌+◌, ◌<◌, ◌≤◌, ◌==◌, ◌&&◌, Bool, true, false, cond, Option, Some, None, refl, sym, inl, inr, ⊎_elim, arith}
+use Rattle.std.proofs.Common.{◌≡◌, ◌⊎◌, ℕ, ◌+◌, ◌<◌, ◌≤◌, ◌==◌, ◌&&◌, Bool, true, false, cond, Option, Some, None, refl, sym, inl}
+use Rattle.std.proofs.Common.{inr, ⊎_elim, arith}
 use Rattle.std.specs.Prelude.{nat_lt, is_some}
 use Rattle.std.proofs.lemmas.Bool.{true≢false, ltb-true, eqb-true, and_parts}
 use Rattle.frame_groups.specs.declared.cause.MuteCause.{MuteCause}
@@ -19,6 +20,7 @@ not_behind n next closing fault w = ⊎_elim
     (by_one (nat_lt next n) (closing && (next == n)) _ _ w)
 
 -- once it was given, one record fewer is left
-pub fewer : (number : Option ℕ) (next : ℕ) (closing : Bool) (fault : Option MuteCause) → waits_by number next closing fault ≡ true → records_by number (next + 1) closing < records_by number next closing
+pub fewer : (number : Option ℕ) (next : ℕ) (closing : Bool) (fault : Option MuteCause) → waits_by number next closing fault ≡ true
+    → records_by number (next + 1) closing < records_by number next closing
 fewer None next closing fault w = absurd (true≢false (sym w))
 fewer (Some n) next closing fault w = let l = not_behind n next closing fault w in omega (arith, l)

@@ -1,13 +1,16 @@
 -- The least number above that has a key.
-use Rattle.std.proofs.Common.{◌≡◌, refl, ℕ, zero, suc, ◌+◌, ◌-◌, ◌*◌, ◌/◌, ◌%◌, ◌<◌, ◌≤◌, ◌==◌, Bool, true, false, ap, ap₂, sym, subst, ◌∙◌, ⊎_elim, arith, mul-le-mul_left, mul-le-mul_right}
-use Rattle.std.proofs.lemmas.Bool.{cases_eq, cases_lt, cond-true, cond-false, eqb-true, eq-eqb, and_parts, and_from, false_from_ne_true, true≢false}
+use Rattle.std.proofs.Common.{◌≡◌, refl, ℕ, zero, suc, ◌+◌, ◌-◌, ◌*◌, ◌/◌, ◌%◌, ◌<◌, ◌≤◌, ◌==◌, Bool, true, false, ap, ap₂, sym}
+use Rattle.std.proofs.Common.{subst, ◌∙◌, ⊎_elim, arith, mul-le-mul_left, mul-le-mul_right}
+use Rattle.std.proofs.lemmas.Bool.{cases_eq, cases_lt, cond-true, cond-false, eqb-true, eq-eqb, and_parts, and_from}
+use Rattle.std.proofs.lemmas.Bool.{false_from_ne_true, true≢false}
 use Rattle.std.proofs.lemmas.Nat.{div-mul-add, mod-mul-add, div_below, div-add-mod', mod_below}
 use Rattle.frame_groups.specs.Groups.{is_same}
 use Rattle.frame_groups.specs.declared.key.Key.{Key}
 use Rattle.frame_groups.specs.Numbers.{frame_key, first_from, next_number, IsKey, next_by, IsNext}
 
 -- the first number that passes
-first_is : (f : ℕ → Bool) (steps n m : ℕ) → n ≤ m → m < n + steps → f m ≡ true → ((i : ℕ) → n ≤ i → i < m → f i ≡ false) → first_from f steps n ≡ m
+first_is : (f : ℕ → Bool) (steps n m : ℕ) → n ≤ m → m < n + steps → f m ≡ true → ((i : ℕ) → n ≤ i → i < m → f i ≡ false)
+    → first_from f steps n ≡ m
 first_is f zero n m low high here none = absurd (omega arith)
 first_is f (suc steps) n m low high here none =
     ⊎_elim
@@ -26,19 +29,24 @@ same_key k l e =
     ap₂ (λ (s f : ℕ). record { superframe = s; frame = f }) a b
 
 pub is_same_self : (k l : Key) → k ≡ l → is_same k l ≡ true
-is_same_self k l e = and_from (k.superframe == l.superframe) (k.frame == l.frame) (eq-eqb k.superframe l.superframe (ap (λ (k : Key). k.superframe) e)) (eq-eqb k.frame l.frame (ap (λ (k : Key). k.frame) e))
+is_same_self k l e = and_from (k.superframe == l.superframe) (k.frame == l.frame)
+    (eq-eqb k.superframe l.superframe (ap (λ (k : Key). k.superframe) e)) (eq-eqb k.frame l.frame (ap (λ (k : Key). k.frame) e))
 
 -- keys come again after 16 superframes
-key_at : (frames q s f : ℕ) → s < 16 → f < frames → frame_key frames (16 * frames * q + (s * frames + f)) ≡ record { superframe = s; frame = f }
+key_at : (frames q s f : ℕ) → s < 16 → f < frames → frame_key frames (16 * frames * q + (s * frames + f))
+    ≡ record { superframe = s; frame = f }
 key_at frames q s f a b =
     let e : 16 * frames * q + (s * frames + f) ≡ (q * 16 + s) * frames + f = omega arith in
-    let d : (16 * frames * q + (s * frames + f)) / frames ≡ q * 16 + s = ap (λ (n : ℕ). n / frames) e ∙ div-mul-add (q * 16 + s) frames f b in
-    let m : (16 * frames * q + (s * frames + f)) % frames ≡ f = ap (λ (n : ℕ). n % frames) e ∙ mod-mul-add (q * 16 + s) frames f b in
+    let d : (16 * frames * q + (s * frames + f)) / frames ≡ q * 16 + s = ap (λ (n : ℕ). n / frames) e
+    ∙ div-mul-add (q * 16 + s) frames f b in
+    let m : (16 * frames * q + (s * frames + f)) % frames ≡ f = ap (λ (n : ℕ). n % frames) e
+    ∙ mod-mul-add (q * 16 + s) frames f b in
     let t : ((16 * frames * q + (s * frames + f)) / frames) % 16 ≡ s = ap (λ (n : ℕ). n % 16) d ∙ omega (arith, a) in
     ap₂ (λ (s f : ℕ). record { superframe = s; frame = f }) t m
 
 -- a number with a key, by its round
-at_key : (frames n : ℕ) (k : Key) → frame_key frames n ≡ k → 0 < frames → n ≡ 16 * frames * (n / frames / 16) + (k.superframe * frames + k.frame)
+at_key : (frames n : ℕ) (k : Key) → frame_key frames n ≡ k → 0 < frames → n ≡ 16 * frames * (n / frames / 16)
+    + (k.superframe * frames + k.frame)
 at_key frames n k e some =
     let s : (n / frames) % 16 ≡ k.superframe = ap (λ (k : Key). k.superframe) e in
     let f : n % frames ≡ k.frame = ap (λ (k : Key). k.frame) e in
@@ -88,7 +96,8 @@ round_of d x n small =
       below = omega (arith, rest);
     }
 
-pub next_law : (frames n : ℕ) (k : Key) → IsKey frames k → IsNext frames n k (next_number frames n k) × (next_number frames n k ≡ next_by frames n k)
+pub next_law : (frames n : ℕ) (k : Key) → IsKey frames k → IsNext frames n k (next_number frames n k)
+    × (next_number frames n k ≡ next_by frames n k)
 unfolding next_number
 next_law frames n k h = (subst (IsNext frames n k) (sym first) is_next, first)
   where
@@ -123,7 +132,8 @@ next_law frames n k h = (subst (IsNext frames n k) (sym first) is_next, first)
     is_next = record { above = r.above; has = has; least = least }
 
     first : first_from (λ i. is_same (frame_key frames i) k) (16 * frames) (n + 1) ≡ next_by frames n k
-    first = first_is (λ i. is_same (frame_key frames i) k) (16 * frames) (n + 1) (next_by frames n k) (omega (arith, r.above)) (omega (arith, r.below)) (is_same_self _ k has) (λ i a b. least i (omega (arith, a)) b)
+    first = first_is (λ i. is_same (frame_key frames i) k) (16 * frames) (n + 1) (next_by frames n k) (omega (arith, r.above))
+        (omega (arith, r.below)) (is_same_self _ k has) (λ i a b. least i (omega (arith, a)) b)
 
 -- a number with the key of a later frame, if that is nearer than keys come again
 one_round : (d x q r n next m : ℕ) → next ≡ d * q + x → m ≡ d * r + x → n < next → next ≤ m → m < n + d → next ≡ m
@@ -156,4 +166,5 @@ found frames n m some low near =
     (λ (early : m < next). absurd (true≢false (sym (is_same_self k k refl) ∙ l.least m low early)))
     (λ (h : next ≤ m). h)
     (cases_lt m next) in
-    one_round (16 * frames) (k.superframe * frames + k.frame) (next / frames / 16) (m / frames / 16) n next m (at_key frames next k l.has some) (at_key frames m k refl some) l.above up near
+    one_round (16 * frames) (k.superframe * frames + k.frame) (next / frames / 16) (m / frames / 16) n next m
+    (at_key frames next k l.has some) (at_key frames m k refl some) l.above up near

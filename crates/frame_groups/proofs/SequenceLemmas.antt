@@ -1,5 +1,6 @@
 -- Packets one at a time.
-use Rattle.std.proofs.Common.{◌≡◌, ℕ, ◌+◌, ◌<◌, ◌≤◌, ◌==◌, ◌&&◌, Bool, true, false, cond, List, [], ◌∷◌, ◌++◌, Option, Some, None, refl, ap, sym, subst, ◌∙◌, arith, append-nil}
+use Rattle.std.proofs.Common.{◌≡◌, ℕ, ◌+◌, ◌<◌, ◌≤◌, ◌==◌, ◌&&◌, Bool, true, false, cond, List, [], ◌∷◌, ◌++◌, Option, Some, None}
+use Rattle.std.proofs.Common.{refl, ap, sym, subst, ◌∙◌, arith, append-nil}
 use Rattle.std.specs.Prelude.{is_some, nat_lt}
 use Rattle.std.specs.List.{filter}
 use Rattle.std.proofs.lemmas.Bool.{true≢false, cond-true, cond-false, ltb-true, ltb-false, eqb-true, eqb-false}
@@ -19,30 +20,36 @@ use Rattle.frame_groups.specs.declared.cause.MuteCause.TheVariants.{Gap}
 use Rattle.frame_groups.specs.Sequenced.{Follows, kept_groups, Sequenced, record_now}
 use Rattle.frame_groups.specs.Waits.{waits_by}
 use Rattle.frame_groups.specs.declared.waiting.Waiting.{Waiting}
-use Rattle.frame_groups.proofs.FollowLemmas.{close_joined, close_first, start_joined, start_first, goes_on, begins, gap_given, own_given}
+use Rattle.frame_groups.proofs.FollowLemmas.{close_joined, close_first, start_joined, start_first, goes_on, begins, gap_given}
+use Rattle.frame_groups.proofs.FollowLemmas.{own_given}
 
 -- a packet that belongs to no frame
-pub kept_not : (r : Rules) (ps : List Packet) (p : Packet) → is_counted r.frames p ≡ false → kept_groups r (ps ++ p ∷ []) ≡ kept_groups r ps
+pub kept_not : (r : Rules) (ps : List Packet) (p : Packet) → is_counted r.frames p ≡ false → kept_groups r (ps ++ p ∷ [])
+    ≡ kept_groups r ps
 kept_not r ps p e =
     ap grouped
     (filter-append (is_counted r.frames) ps (p ∷ [])
     ∙ ap (λ (l : List Packet). filter (is_counted r.frames) ps ++ l) (cond-false (is_counted r.frames p) (p ∷ []) [] e)
     ∙ append-nil (filter (is_counted r.frames) ps))
 
-pub kept_more : (r : Rules) (ps : List Packet) (p : Packet) → is_counted r.frames p ≡ true → kept_groups r (ps ++ p ∷ []) ≡ with_packet (kept_groups r ps) p
+pub kept_more : (r : Rules) (ps : List Packet) (p : Packet) → is_counted r.frames p ≡ true → kept_groups r (ps ++ p ∷ [])
+    ≡ with_packet (kept_groups r ps) p
 kept_more r ps p e =
     ap grouped
     (filter-append (is_counted r.frames) ps (p ∷ [])
     ∙ ap (λ (l : List Packet). filter (is_counted r.frames) ps ++ l) (cond-true (is_counted r.frames p) (p ∷ []) [] e))
     ∙ grouped_more (filter (is_counted r.frames) ps) p
 
-pub ignored : (r : Rules) (g : Option Group) (number : Option ℕ) (next : ℕ) (closing : Bool) (fault : Option MuteCause) (ps : List Packet) (given : List FrameRecord) (p : Packet)
-    → is_counted r.frames p ≡ false → Sequenced r g number next closing fault ps given → Sequenced r g number next closing fault (ps ++ p ∷ []) given
+pub ignored : (r : Rules) (g : Option Group) (number : Option ℕ) (next : ℕ) (closing : Bool) (fault : Option MuteCause)
+    (ps : List Packet) (given : List FrameRecord) (p : Packet)
+    → is_counted r.frames p ≡ false → Sequenced r g number next closing fault ps given
+    → Sequenced r g number next closing fault (ps ++ p ∷ []) given
 ignored r None number next closing fault ps given p e (a, b, c, d) = (kept_not r ps p e ∙ a, b, c, d)
 ignored r (Some h) number next closing fault ps given p e (closed, a, f) = (closed, kept_not r ps p e ∙ a, f)
 
 -- the key of a packet that is kept fits
-stamp_fits : (frames : ℕ) (before : Option Key) (superframe : ℕ) → 0 < frames → superframe < 16 → ((k : Key) → before ≡ Some k → IsKey frames k) → IsKey frames (stamp_key before superframe)
+stamp_fits : (frames : ℕ) (before : Option Key) (superframe : ℕ) → 0 < frames → superframe < 16
+    → ((k : Key) → before ≡ Some k → IsKey frames k) → IsKey frames (stamp_key before superframe)
 stamp_fits frames None superframe some s b = record { superframe = s; frame = some }
 stamp_fits frames (Some k) superframe some s b = go (k.superframe == superframe)
   where
@@ -50,76 +57,111 @@ stamp_fits frames (Some k) superframe some s b = go (k.superframe == superframe)
     go true = b k refl
     go false = record { superframe = s; frame = some }
 
-fits_with : (frames : ℕ) (before : Option Key) (superframe : ℕ) (body : Body) → 0 < frames → superframe < 16 → body_counts frames body ≡ true → ((k : Key) → before ≡ Some k → IsKey frames k)
+fits_with : (frames : ℕ) (before : Option Key) (superframe : ℕ) (body : Body) → 0 < frames → superframe < 16
+    → body_counts frames body ≡ true → ((k : Key) → before ≡ Some k → IsKey frames k)
     → IsKey frames (body_key before superframe body)
-fits_with frames before superframe (Block frame_idx plp first bits) some s e b = record { superframe = s; frame = ltb-true frame_idx frames e }
-fits_with frames before superframe (L1Current frame_idx pre conf dynamic extension) some s e b = record { superframe = s; frame = ltb-true frame_idx frames e }
+fits_with frames before superframe (Block frame_idx plp first bits) some s e b =
+    record { superframe = s; frame = ltb-true frame_idx frames e }
+fits_with frames before superframe (L1Current frame_idx pre conf dynamic extension) some s e b =
+    record { superframe = s; frame = ltb-true frame_idx frames e }
 fits_with frames before superframe (Timestamp stamp) some s e b = stamp_fits frames before superframe some s b
-fits_with frames before superframe (Other kind bits) some s e b = absurd (true≢false (sym e))
+fits_with frames before superframe (Other packet_type bits) some s e b = absurd (true≢false (sym e))
 
-pub key_fits : (frames : ℕ) (before : Option Key) (p : Packet) → 0 < frames → p.superframe < 16 → is_counted frames p ≡ true → ((k : Key) → before ≡ Some k → IsKey frames k) → IsKey frames (key_behind before p)
+pub key_fits : (frames : ℕ) (before : Option Key) (p : Packet) → 0 < frames → p.superframe < 16 → is_counted frames p ≡ true
+    → ((k : Key) → before ≡ Some k → IsKey frames k) → IsKey frames (key_behind before p)
 key_fits frames before p some s e b = fits_with frames before p.superframe p.body some s e b
 
 -- the first packet
-pub first_packet : (r : Rules) (number : Option ℕ) (next : ℕ) (closing : Bool) (old new : Option MuteCause) (ps : List Packet) (given : List FrameRecord) (p : Packet)
+pub first_packet : (r : Rules) (number : Option ℕ) (next : ℕ) (closing : Bool) (old new : Option MuteCause) (ps : List Packet)
+    (given : List FrameRecord) (p : Packet)
     → is_counted r.frames p ≡ true → IsKey r.frames (key_behind None p) → Sequenced r None number next closing old ps given
     → Sequenced r (Some (one_packet (key_behind None p) p)) number next closing new (ps ++ p ∷ []) given
 first_packet r number next closing old new ps given p e key (a, b, c, d) =
-    subst (λ (n : Option ℕ). Sequenced r (Some (one_packet (key_behind None p) p)) n next closing new (ps ++ p ∷ []) given) (sym b)
+    subst (λ (n : Option ℕ). Sequenced r (Some (one_packet (key_behind None p) p)) n next closing new (ps ++ p ∷ []) given)
+    (sym b)
     (subst (λ (t : Bool). Sequenced r (Some (one_packet (key_behind None p) p)) None next t new (ps ++ p ∷ []) given) (sym c)
-    (subst (λ (g : List FrameRecord). Sequenced r (Some (one_packet (key_behind None p) p)) None next false new (ps ++ p ∷ []) g) (sym d)
+    (subst (λ (g : List FrameRecord). Sequenced r (Some (one_packet (key_behind None p) p)) None next false new (ps ++ p ∷ []) g)
+    (sym d)
     ([], kept_more r ps p e ∙ ap (λ (g : Grouped). with_packet g p) a, begins r (one_packet (key_behind None p) p) next new key)))
 
 -- the groups with one packet more
-pub groups_on : (r : Rules) (ps : List Packet) (p : Packet) (closed : List Group) (h : Group) → is_counted r.frames p ≡ true → kept_groups r ps ≡ record { closed = closed; under_way = Some h } → is_same h.key (key_behind (Some h.key) p) ≡ true
+pub groups_on : (r : Rules) (ps : List Packet) (p : Packet) (closed : List Group) (h : Group) → is_counted r.frames p ≡ true
+    → kept_groups r ps ≡ record { closed = closed; under_way = Some h } → is_same h.key (key_behind (Some h.key) p) ≡ true
     → kept_groups r (ps ++ p ∷ []) ≡ record { closed = closed; under_way = Some (one_more h p) }
 groups_on r ps p closed h e a same =
     kept_more r ps p e ∙ ap (λ (g : Grouped). with_packet g p) a
-    ∙ cond-true (is_same h.key (key_behind (Some h.key) p)) (record { closed = closed; under_way = Some (one_more h p) }) (record { closed = closed ++ h ∷ []; under_way = Some (one_packet (key_behind (Some h.key) p) p) }) same
+    ∙ cond-true (is_same h.key (key_behind (Some h.key) p)) (record { closed = closed; under_way = Some (one_more h p) })
+    (record { closed = closed ++ h ∷ []; under_way = Some (one_packet (key_behind (Some h.key) p) p) }) same
 
-pub groups_new : (r : Rules) (ps : List Packet) (p : Packet) (closed : List Group) (h : Group) → is_counted r.frames p ≡ true → kept_groups r ps ≡ record { closed = closed; under_way = Some h } → is_same h.key (key_behind (Some h.key) p) ≡ false
-    → kept_groups r (ps ++ p ∷ []) ≡ record { closed = closed ++ h ∷ []; under_way = Some (one_packet (key_behind (Some h.key) p) p) }
+pub groups_new : (r : Rules) (ps : List Packet) (p : Packet) (closed : List Group) (h : Group) → is_counted r.frames p ≡ true
+    → kept_groups r ps ≡ record { closed = closed; under_way = Some h } → is_same h.key (key_behind (Some h.key) p) ≡ false
+    → kept_groups r (ps ++ p ∷ [])
+    ≡ record { closed = closed ++ h ∷ []; under_way = Some (one_packet (key_behind (Some h.key) p) p) }
 groups_new r ps p closed h e a other =
     kept_more r ps p e ∙ ap (λ (g : Grouped). with_packet g p) a
-    ∙ cond-false (is_same h.key (key_behind (Some h.key) p)) (record { closed = closed; under_way = Some (one_more h p) }) (record { closed = closed ++ h ∷ []; under_way = Some (one_packet (key_behind (Some h.key) p) p) }) other
+    ∙ cond-false (is_same h.key (key_behind (Some h.key) p)) (record { closed = closed; under_way = Some (one_more h p) })
+    (record { closed = closed ++ h ∷ []; under_way = Some (one_packet (key_behind (Some h.key) p) p) }) other
 
-pub added : (r : Rules) (h : Group) (number : Option ℕ) (next : ℕ) (old new : Option MuteCause) (ps : List Packet) (given : List FrameRecord) (p : Packet)
-    → is_counted r.frames p ≡ true → is_same h.key (key_behind (Some h.key) p) ≡ true → Sequenced r (Some h) number next false old ps given
+pub added : (r : Rules) (h : Group) (number : Option ℕ) (next : ℕ) (old new : Option MuteCause) (ps : List Packet)
+    (given : List FrameRecord) (p : Packet)
+    → is_counted r.frames p ≡ true → is_same h.key (key_behind (Some h.key) p) ≡ true
+    → Sequenced r (Some h) number next false old ps given
     → Sequenced r (Some (one_more h p)) number next false old (ps ++ p ∷ []) given
-added r h number next old new ps given p e same (closed, a, f) = (closed, groups_on r ps p closed h e a same, goes_on r closed h (one_more h p) number next old given f refl)
+added r h number next old new ps given p e same (closed, a, f) =
+    (closed, groups_on r ps p closed h e a same, goes_on r closed h (one_more h p) number next old given f refl)
 
 -- a closed group makes place for the next
-pub started_joined : (r : Rules) (h : Group) (n next : ℕ) (old new : Option MuteCause) (ps : List Packet) (given : List FrameRecord) (p : Packet)
-    → is_counted r.frames p ≡ true → is_same h.key (key_behind (Some h.key) p) ≡ false → n < next → 0 < r.frames → p.superframe < 16 → Sequenced r (Some h) (Some n) next true old ps given
-    → Sequenced r (Some (one_packet (key_behind (Some h.key) p) p)) (Some (next_number r.frames n (key_behind (Some h.key) p))) next false new (ps ++ p ∷ []) given
+pub started_joined : (r : Rules) (h : Group) (n next : ℕ) (old new : Option MuteCause) (ps : List Packet)
+    (given : List FrameRecord) (p : Packet)
+    → is_counted r.frames p ≡ true → is_same h.key (key_behind (Some h.key) p) ≡ false → n < next → 0 < r.frames
+    → p.superframe < 16 → Sequenced r (Some h) (Some n) next true old ps given
+    → Sequenced r (Some (one_packet (key_behind (Some h.key) p) p)) (Some (next_number r.frames n (key_behind (Some h.key) p)))
+    next false new (ps ++ p ∷ []) given
 started_joined r h n next old new ps given p e other up some s (closed, a, f) =
     let most = f.records.most in
-    let key = key_fits r.frames (Some h.key) p some s e (λ k same. subst (IsKey r.frames) (some_injective h.key k same) f.key) in
-    (closed ++ h ∷ [], groups_new r ps p closed h e a other, start_joined r closed h (one_packet (key_behind (Some h.key) p) p) n next old new given f (omega (arith, up, most)) key)
+    let key = key_fits r.frames (Some h.key) p some s e (λ k same. subst (IsKey r.frames) (some_injective h.key k same) f.key) in (
+      closed ++ h ∷ [],
+      groups_new r ps p closed h e a other,
+      start_joined r closed h (one_packet (key_behind (Some h.key) p) p) n next old new given f (omega (arith, up, most)) key,
+    )
 
-pub started_first : (r : Rules) (h : Group) (next : ℕ) (old new : Option MuteCause) (ps : List Packet) (given : List FrameRecord) (p : Packet)
-    → is_counted r.frames p ≡ true → is_same h.key (key_behind (Some h.key) p) ≡ false → 0 < r.frames → p.superframe < 16 → Sequenced r (Some h) None next true old ps given
+pub started_first : (r : Rules) (h : Group) (next : ℕ) (old new : Option MuteCause) (ps : List Packet) (given : List FrameRecord)
+    (p : Packet)
+    → is_counted r.frames p ≡ true → is_same h.key (key_behind (Some h.key) p) ≡ false → 0 < r.frames → p.superframe < 16
+    → Sequenced r (Some h) None next true old ps given
     → Sequenced r (Some (one_packet (key_behind (Some h.key) p) p)) None next false new (ps ++ p ∷ []) given
 started_first r h next old new ps given p e other some s (closed, a, f) =
-    let key = key_fits r.frames (Some h.key) p some s e (λ k same. subst (IsKey r.frames) (some_injective h.key k same) f.key) in
-    (closed ++ h ∷ [], groups_new r ps p closed h e a other, start_first r closed h (one_packet (key_behind (Some h.key) p) p) next old new given f key)
+    let key = key_fits r.frames (Some h.key) p some s e (λ k same. subst (IsKey r.frames) (some_injective h.key k same) f.key) in (
+      closed ++ h ∷ [],
+      groups_new r ps p closed h e a other,
+      start_first r closed h (one_packet (key_behind (Some h.key) p) p) next old new given f key,
+    )
 
 -- a group is closed
-pub closed_joined : (r : Rules) (g : Option Group) (n next : ℕ) (old new : Option MuteCause) (ps : List Packet) (given : List FrameRecord)
-    → is_some g ≡ true → ((h : Group) → g ≡ Some h → new ≡ r.fault h n) → Sequenced r g (Some n) next false old ps given → Sequenced r g (Some n) next true new ps given
+pub closed_joined : (r : Rules) (g : Option Group) (n next : ℕ) (old new : Option MuteCause) (ps : List Packet)
+    (given : List FrameRecord)
+    → is_some g ≡ true → ((h : Group) → g ≡ Some h → new ≡ r.fault h n) → Sequenced r g (Some n) next false old ps given
+    → Sequenced r g (Some n) next true new ps given
 closed_joined r None n next old new ps given some e s = absurd (true≢false (sym some))
-closed_joined r (Some h) n next old new ps given some e (closed, a, f) = (closed, a, close_joined r closed h n next old new given f (e h refl))
+closed_joined r (Some h) n next old new ps given some e (closed, a, f) =
+    (closed, a, close_joined r closed h n next old new given f (e h refl))
 
-pub closed_first : (r : Rules) (g : Option Group) (number : Option ℕ) (old next : ℕ) (fault new : Option MuteCause) (ps : List Packet) (given : List FrameRecord)
-    → is_some g ≡ true → ((h : Group) → g ≡ Some h → number ≡ join_number r h) → ((h : Group) → g ≡ Some h → (n : ℕ) → number ≡ Some n → (next ≡ n) × (new ≡ r.fault h n))
+pub closed_first : (r : Rules) (g : Option Group) (number : Option ℕ) (old next : ℕ) (fault new : Option MuteCause)
+    (ps : List Packet) (given : List FrameRecord)
+    → is_some g ≡ true → ((h : Group) → g ≡ Some h → number ≡ join_number r h)
+    → ((h : Group) → g ≡ Some h → (n : ℕ) → number ≡ Some n → (next ≡ n) × (new ≡ r.fault h n))
     → Sequenced r g None old false fault ps given → Sequenced r g number next true new ps given
 closed_first r None number old next fault new ps given some e at s = absurd (true≢false (sym some))
-closed_first r (Some h) number old next fault new ps given some e at (closed, a, f) = (closed, a, close_first r closed h number old next fault new given f (e h refl) (at h refl))
+closed_first r (Some h) number old next fault new ps given some e at (closed, a, f) =
+    (closed, a, close_first r closed h number old next fault new given f (e h refl) (at h refl))
 
 -- the key of a packet behind a group fits
-pub group_key_fits : (r : Rules) (h : Group) (number : Option ℕ) (next : ℕ) (closing : Bool) (fault : Option MuteCause) (ps : List Packet) (given : List FrameRecord) (p : Packet)
-    → is_counted r.frames p ≡ true → 0 < r.frames → p.superframe < 16 → Sequenced r (Some h) number next closing fault ps given → IsKey r.frames (key_behind (Some h.key) p)
-group_key_fits r h number next closing fault ps given p e some s (closed, a, f) = key_fits r.frames (Some h.key) p some s e (λ k same. subst (IsKey r.frames) (some_injective h.key k same) f.key)
+pub group_key_fits : (r : Rules) (h : Group) (number : Option ℕ) (next : ℕ) (closing : Bool) (fault : Option MuteCause)
+    (ps : List Packet) (given : List FrameRecord) (p : Packet)
+    → is_counted r.frames p ≡ true → 0 < r.frames → p.superframe < 16 → Sequenced r (Some h) number next closing fault ps given
+    → IsKey r.frames (key_behind (Some h.key) p)
+group_key_fits r h number next closing fault ps given p e some s (closed, a, f) =
+    key_fits r.frames (Some h.key) p some s e (λ k same. subst (IsKey r.frames) (some_injective h.key k same) f.key)
 
 pub none_came : (r : Rules) → kept_groups r [] ≡ no_groups
 unfolding grouped
@@ -133,46 +175,65 @@ own_was_given n next fault e =
     let b : next ≡ n → ⊥ = eqb-false next n t.1 in
     omega (arith, a, b)
 
-pub started : (r s : Rules) (g new : Option Group) (h : Group) (number after : Option ℕ) (next : ℕ) (closing : Bool) (fault : Option MuteCause) (ps : List Packet) (given : List FrameRecord) (p : Packet) (key next_key : Key)
-    → g ≡ Some h → closing ≡ true → waits_by number next closing fault ≡ false → is_counted r.frames p ≡ true → is_same h.key (key_behind (Some h.key) p) ≡ false → 0 < r.frames → p.superframe < 16
+pub started : (r s : Rules) (g new : Option Group) (h : Group) (number after : Option ℕ) (next : ℕ) (closing : Bool)
+    (fault : Option MuteCause) (ps : List Packet) (given : List FrameRecord) (p : Packet) (key next_key : Key)
+    → g ≡ Some h → closing ≡ true → waits_by number next closing fault ≡ false → is_counted r.frames p ≡ true
+    → is_same h.key (key_behind (Some h.key) p) ≡ false → 0 < r.frames → p.superframe < 16
     → key ≡ h.key → next_key ≡ key_behind (Some key) p → new ≡ Some (one_packet next_key p) → s ≡ r
-    → (number ≡ None → after ≡ None) → ((n : ℕ) → number ≡ Some n → IsKey r.frames next_key → after ≡ Some (next_number r.frames n next_key))
+    → (number ≡ None → after ≡ None)
+    → ((n : ℕ) → number ≡ Some n → IsKey r.frames next_key → after ≡ Some (next_number r.frames n next_key))
     → Sequenced r g number next closing fault ps given → Sequenced s new after next false fault (ps ++ p ∷ []) given
-started r s g new h number after next closing fault ps given p key next_key is c idle e other some small k nk ng same none joined q =
+started r s g new h number after next closing fault ps given p key next_key is c idle e other some small k nk ng same none joined
+    q =
     subst (λ (s : Rules). Sequenced s new after next false fault (ps ++ p ∷ []) given) (sym same)
-    (subst (λ (g : Option Group). Sequenced r g after next false fault (ps ++ p ∷ []) given) (sym (ng ∙ ap (λ (k : Key). Some (one_packet k p)) key_is))
+    (subst (λ (g : Option Group). Sequenced r g after next false fault (ps ++ p ∷ []) given)
+    (sym (ng ∙ ap (λ (k : Key). Some (one_packet k p)) key_is))
     (go number (subst (λ (t : Bool). waits_by number next t fault ≡ false) c idle) none joined
-    (subst (λ (t : Bool). Sequenced r (Some h) number next t fault ps given) c (subst (λ (g : Option Group). Sequenced r g number next closing fault ps given) is q))))
+    (subst (λ (t : Bool). Sequenced r (Some h) number next t fault ps given) c
+    (subst (λ (g : Option Group). Sequenced r g number next closing fault ps given) is q))))
   where
     key_is : next_key ≡ key_behind (Some h.key) p
     key_is = nk ∙ ap (λ (k : Key). key_behind (Some k) p) k
 
-    go : (number : Option ℕ) → waits_by number next true fault ≡ false → (number ≡ None → after ≡ None) → ((n : ℕ) → number ≡ Some n → IsKey r.frames next_key → after ≡ Some (next_number r.frames n next_key))
-        → Sequenced r (Some h) number next true fault ps given → Sequenced r (Some (one_packet (key_behind (Some h.key) p) p)) after next false fault (ps ++ p ∷ []) given
+    go : (number : Option ℕ) → waits_by number next true fault ≡ false → (number ≡ None → after ≡ None)
+        → ((n : ℕ) → number ≡ Some n → IsKey r.frames next_key → after ≡ Some (next_number r.frames n next_key))
+        → Sequenced r (Some h) number next true fault ps given
+        → Sequenced r (Some (one_packet (key_behind (Some h.key) p) p)) after next false fault (ps ++ p ∷ []) given
     go None idle none joined q =
-        subst (λ (o : Option ℕ). Sequenced r (Some (one_packet (key_behind (Some h.key) p) p)) o next false fault (ps ++ p ∷ []) given) (sym (none refl))
+        subst (λ (o : Option ℕ). Sequenced r (Some (one_packet (key_behind (Some h.key) p) p)) o next false fault
+        (ps ++ p ∷ []) given) (sym (none refl))
         (started_first r h next fault fault ps given p e other some small q)
     go (Some n) idle none joined q =
         let fits = subst (IsKey r.frames) (sym key_is) (group_key_fits r h (Some n) next true fault ps given p e some small q) in
-        subst (λ (o : Option ℕ). Sequenced r (Some (one_packet (key_behind (Some h.key) p) p)) o next false fault (ps ++ p ∷ []) given)
+        subst (λ (o : Option ℕ). Sequenced r (Some (one_packet (key_behind (Some h.key) p) p)) o next false fault
+        (ps ++ p ∷ []) given)
         (sym (joined n refl fits ∙ ap (λ (k : Key). Some (next_number r.frames n k)) key_is))
         (started_joined r h n next fault fault ps given p e other (own_was_given n next fault idle) some small q)
 
 -- the record that waited was given
-pub gave : (r : Rules) (g : Option Group) (number : Option ℕ) (next : ℕ) (closing : Bool) (fault : Option MuteCause) (ps : List Packet) (given : List FrameRecord) (x : FrameRecord)
-    → waits_by number next closing fault ≡ true → record_now r g number next ≡ Some x → Sequenced r g number next closing fault ps given → Sequenced r g number (next + 1) closing fault ps (given ++ x ∷ [])
+pub gave : (r : Rules) (g : Option Group) (number : Option ℕ) (next : ℕ) (closing : Bool) (fault : Option MuteCause)
+    (ps : List Packet) (given : List FrameRecord) (x : FrameRecord)
+    → waits_by number next closing fault ≡ true → record_now r g number next ≡ Some x
+    → Sequenced r g number next closing fault ps given → Sequenced r g number (next + 1) closing fault ps (given ++ x ∷ [])
 gave r None number next closing fault ps given x w e q = none_some x e
 gave r (Some h) None next closing fault ps given x w e q = none_some x e
 gave r (Some h) (Some n) next closing fault ps given x w e (closed, a, f) = go (nat_lt next n) refl w e
   where
-    go : (t : Bool) → nat_lt next n ≡ t → is_some {T = Waiting} (cond t (Some (record { frame = next; mute = Some Gap })) (cond (closing && (next == n)) (Some (record { frame = n; mute = fault })) None)) ≡ true
-        → cond t (Some (gap_record next)) (Some (group_record r h n)) ≡ Some x → Sequenced r (Some h) (Some n) (next + 1) closing fault ps (given ++ x ∷ [])
+    go : (t : Bool) → nat_lt next n ≡ t
+        → is_some {T = Waiting}
+        (cond t (Some (record { frame = next; mute = Some Gap }))
+        (cond (closing && (next == n)) (Some (record { frame = n; mute = fault })) None)) ≡ true
+        → cond t (Some (gap_record next)) (Some (group_record r h n)) ≡ Some x
+        → Sequenced r (Some h) (Some n) (next + 1) closing fault ps (given ++ x ∷ [])
     go true t w e =
-        subst (λ (x : FrameRecord). Sequenced r (Some h) (Some n) (next + 1) closing fault ps (given ++ x ∷ [])) (some_injective (gap_record next) x e)
+        subst (λ (x : FrameRecord). Sequenced r (Some h) (Some n) (next + 1) closing fault ps (given ++ x ∷ []))
+        (some_injective (gap_record next) x e)
         (closed, a, gap_given r closed h n next closing fault given f (ltb-true next n t))
     go false t w e = own closing (next == n) refl w (some_injective (group_record r h n) x e) f
       where
-        own : (c u : Bool) → (next == n) ≡ u → is_some {T = Waiting} (cond (c && u) (Some (record { frame = n; mute = fault })) None) ≡ true → group_record r h n ≡ x → Follows r closed h (Some n) next c fault given
+        own : (c u : Bool) → (next == n) ≡ u
+            → is_some {T = Waiting} (cond (c && u) (Some (record { frame = n; mute = fault })) None) ≡ true → group_record r h n
+            ≡ x → Follows r closed h (Some n) next c fault given
             → Sequenced r (Some h) (Some n) (next + 1) c fault ps (given ++ x ∷ [])
         own false u k w e f = absurd (true≢false (sym w))
         own true false k w e f = absurd (true≢false (sym w))
@@ -181,26 +242,32 @@ gave r (Some h) (Some n) next closing fault ps given x w e (closed, a, f) = go (
             (closed, a, own_given r closed h n next fault given f (eqb-true next n k))
 
 -- the first packet of all
-pub begun : (r s : Rules) (g new : Option Group) (number : Option ℕ) (next : ℕ) (closing : Bool) (fault : Option MuteCause) (ps : List Packet) (given : List FrameRecord) (p : Packet)
-    → key_of g ≡ None → is_counted r.frames p ≡ true → 0 < r.frames → p.superframe < 16 → new ≡ Some (one_packet (key_behind None p) p) → s ≡ r
+pub begun : (r s : Rules) (g new : Option Group) (number : Option ℕ) (next : ℕ) (closing : Bool) (fault : Option MuteCause)
+    (ps : List Packet) (given : List FrameRecord) (p : Packet)
+    → key_of g ≡ None → is_counted r.frames p ≡ true → 0 < r.frames → p.superframe < 16
+    → new ≡ Some (one_packet (key_behind None p) p) → s ≡ r
     → Sequenced r g number next closing fault ps given → Sequenced s new number next false fault (ps ++ p ∷ []) given
 begun r s (Some h) new number next closing fault ps given p none e some small ng same q = none_some h.key (sym none)
 begun r s None new number next closing fault ps given p none e some small ng same q =
     subst (λ (s : Rules). Sequenced s new number next false fault (ps ++ p ∷ []) given) (sym same)
     (subst (λ (g : Option Group). Sequenced r g number next false fault (ps ++ p ∷ []) given) (sym ng)
     (subst (λ (t : Bool). Sequenced r (Some (one_packet (key_behind None p) p)) number next t fault (ps ++ p ∷ []) given) q.2
-    (first_packet r number next closing fault fault ps given p e (key_fits r.frames None p some small e (λ k same. none_some k same)) q)))
+    (first_packet r number next closing fault fault ps given p e
+    (key_fits r.frames None p some small e (λ k same. none_some k same)) q)))
 
 -- a packet goes on
-pub added_on : (r s : Rules) (g new : Option Group) (number : Option ℕ) (next : ℕ) (closing : Bool) (fault : Option MuteCause) (ps : List Packet) (given : List FrameRecord) (p : Packet) (key : Key)
-    → key_of g ≡ Some key → is_counted r.frames p ≡ true → is_same key (key_behind (Some key) p) ≡ true → ((h : Group) → g ≡ Some h → new ≡ Some (one_more h p)) → s ≡ r → closing ≡ false
+pub added_on : (r s : Rules) (g new : Option Group) (number : Option ℕ) (next : ℕ) (closing : Bool) (fault : Option MuteCause)
+    (ps : List Packet) (given : List FrameRecord) (p : Packet) (key : Key)
+    → key_of g ≡ Some key → is_counted r.frames p ≡ true → is_same key (key_behind (Some key) p) ≡ true
+    → ((h : Group) → g ≡ Some h → new ≡ Some (one_more h p)) → s ≡ r → closing ≡ false
     → Sequenced r g number next closing fault ps given → Sequenced s new number next closing fault (ps ++ p ∷ []) given
 added_on r s None new number next closing fault ps given p key is e same add rules shut q = none_some key is
 added_on r s (Some h) new number next closing fault ps given p key is e same add rules shut q =
     subst (λ (s : Rules). Sequenced s new number next closing fault (ps ++ p ∷ []) given) (sym rules)
     (subst (λ (g : Option Group). Sequenced r g number next closing fault (ps ++ p ∷ []) given) (sym (add h refl))
     (subst (λ (t : Bool). Sequenced r (Some (one_more h p)) number next t fault (ps ++ p ∷ []) given) (sym shut)
-    (added r h number next fault fault ps given p e (subst (λ (k : Key). is_same k (key_behind (Some k) p) ≡ true) (sym (some_injective h.key key is)) same)
+    (added r h number next fault fault ps given p e
+    (subst (λ (k : Key). is_same k (key_behind (Some k) p) ≡ true) (sym (some_injective h.key key is)) same)
     (subst (λ (t : Bool). Sequenced r (Some h) number next t fault ps given) shut q))))
 
 pub has_key : (g : Option Group) (key : Option Key) → key_of g ≡ key → is_some key ≡ true → is_some g ≡ true
@@ -216,5 +283,6 @@ pub has_group : (g : Option Group) (key : Key) → key_of g ≡ Some key → Has
 has_group None key e = none_some key e
 has_group (Some h) key e = record { group = h; is = refl; key_is = sym (some_injective h.key key e) }
 
-pub other_key : (h : Group) (key : Key) (p : Packet) → key ≡ h.key → is_same key (key_behind (Some key) p) ≡ false → is_same h.key (key_behind (Some h.key) p) ≡ false
+pub other_key : (h : Group) (key : Key) (p : Packet) → key ≡ h.key → is_same key (key_behind (Some key) p) ≡ false
+    → is_same h.key (key_behind (Some h.key) p) ≡ false
 other_key h key p e o = subst (λ (k : Key). is_same k (key_behind (Some k) p) ≡ false) e o

@@ -20,14 +20,18 @@ due r true ps = modulated r ps
 abbrev pub ComesNext : List FrameRecord → List FrameRecord → FrameRecord → Type 0
 ComesNext all given x = (more : List FrameRecord) × (all ≡ given ++ x ∷ more)
 
--- Where no record waits, those that are due were given. One that waits comes next: of those due by the packets that came, or, where the
--- group is closed, by them and the packet that closed it, or at the end.
+-- Where no record waits, those that are due were given. One that waits comes next: of those due by the packets that came, or,
+-- where the group is closed, by them and the packet that closed it, or at the end.
 pub record DueLaw (r : Rules) (g : Option Group) (p : Progress) (ps : List Packet) (given : List FrameRecord) : Type 0 where
   pub idle : waits p ≡ false → due r p.closing ps ≡ given
-  pub under_way : p.closing ≡ false → waits p ≡ true → (x : FrameRecord) × (record_now r g p.number p.next ≡ Some x) × ComesNext (due r false ps) given x
-  pub ended : p.closing ≡ true → waits p ≡ true → (x : FrameRecord) × (record_now r g p.number p.next ≡ Some x) × ComesNext (due r true ps) given x
-  pub closed : p.closing ≡ true → (q : Packet) → Ends r (key_of g) q → (more : List FrameRecord) × (due r false (ps ++ q ∷ []) ≡ due r true ps ++ more)
-  pub told : (h : Group) → g ≡ Some h → (w : Waiting) → waiting_of p ≡ Some w → record_now r g p.number p.next ≡ Some (record_of h w)
+  pub under_way : p.closing ≡ false → waits p ≡ true → (x : FrameRecord) × (record_now r g p.number p.next ≡ Some x)
+      × ComesNext (due r false ps) given x
+  pub ended : p.closing ≡ true → waits p ≡ true → (x : FrameRecord) × (record_now r g p.number p.next ≡ Some x)
+      × ComesNext (due r true ps) given x
+  pub closed : p.closing ≡ true → (q : Packet) → Ends r (key_of g) q → (more : List FrameRecord)
+      × (due r false (ps ++ q ∷ []) ≡ due r true ps ++ more)
+  pub told : (h : Group) → g ≡ Some h → (w : Waiting) → waiting_of p ≡ Some w → record_now r g p.number p.next
+      ≡ Some (record_of h w)
   pub none : g ≡ None → due r true ps ≡ given
 
 abbrev pub RecordsAreDue : Type 0

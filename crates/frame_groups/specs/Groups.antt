@@ -1,4 +1,5 @@
--- The packets of each T2 frame: the longest runs of packets with one key (frame_idx and superframe_idx of ETSI TS 102 773, clause 5).
+-- The packets of each T2 frame: the longest runs of packets with one key (frame_idx and superframe_idx of ETSI TS 102 773, clause
+-- 5).
 use Rattle.std.specs.Prelude.{ℕ, ◌==◌, ◌&&◌, nat_lt, Bool, true, false, List, [], ◌∷◌, Option, Some, None, if◌then◌else◌}
 use Rattle.std.specs.List.{filter}
 use Rattle.frame_groups.specs.declared.key.Key.{Key}
@@ -9,13 +10,13 @@ use Rattle.t2mi_packet.specs.declared.packet.Body.TheVariants.{Block, L1Current,
 abbrev pub is_same : Key → Key → Bool
 is_same k l = (k.superframe == l.superframe) && (k.frame == l.frame)
 
--- What belongs to a frame, if a superframe has so many: a baseband frame or an L1-current with a frame_idx below their number, and
--- every timestamp.
+-- What belongs to a frame, if a superframe has so many: a baseband frame or an L1-current with a frame_idx below their number,
+-- and every timestamp.
 abbrev pub body_counts : ℕ → Body → Bool
 body_counts frames (Block frame_idx plp first bits) = nat_lt frame_idx frames
 body_counts frames (L1Current frame_idx pre conf dynamic extension) = nat_lt frame_idx frames
 body_counts frames (Timestamp stamp) = true
-body_counts frames (Other kind bits) = false
+body_counts frames (Other packet_type bits) = false
 
 abbrev pub is_counted : ℕ → Packet → Bool
 is_counted frames p = body_counts frames p.body
@@ -27,9 +28,10 @@ stamp_key (Some k) superframe = if k.superframe == superframe then k else record
 
 abbrev pub body_key : Option Key → ℕ → Body → Key
 body_key before superframe (Block frame_idx plp first bits) = record { superframe = superframe; frame = frame_idx }
-body_key before superframe (L1Current frame_idx pre conf dynamic extension) = record { superframe = superframe; frame = frame_idx }
+body_key before superframe (L1Current frame_idx pre conf dynamic extension) =
+    record { superframe = superframe; frame = frame_idx }
 body_key before superframe (Timestamp stamp) = stamp_key before superframe
-body_key before superframe (Other kind bits) = record { superframe = superframe; frame = 0 }
+body_key before superframe (Other packet_type bits) = record { superframe = superframe; frame = 0 }
 
 -- the key of a packet behind one with a key, or behind none
 abbrev pub key_behind : Option Key → Packet → Key

@@ -30,11 +30,30 @@ held_network = record {
   network_id = 0;
   system_id = 0;
   frequency = 0;
-  l1 = record { bwt_ext = 0; s2 = 0; guard = 0; papr = 0; l1_mod = 0; l1_cod = 0; l1_fec = 0; post_size = 0; pilot = 0; tx_id = 0; symbols = 0; regen = 0 };
+  l1 = record {
+    bwt_ext = 0;
+    s2 = 0;
+    guard = 0;
+    papr = 0;
+    l1_mod = 0;
+    l1_cod = 0;
+    l1_fec = 0;
+    post_size = 0;
+    pilot = 0;
+    tx_id = 0;
+    symbols = 0;
+    regen = 0;
+  };
   sub_slices = 0;
   plps = [];
 }
 
 -- superframes of two frames; a timestamp names frame 30; a lone packet misses others
 abbrev pub held_rules : Rules
-held_rules = record { network = held_network; frames = 2; named = λ g. Some 30; fault = λ g n. if has_more g then None else Some PacketMissing }
+held_rules = record {
+  network = held_network;
+  frames = 2;
+  named = λ g. Some 30;
+  fault = λ g n. if has_more g then None
+      else Some PacketMissing;
+}

@@ -33,11 +33,13 @@ GroupsAreRuns = (frames : ℕ) (ps : List Packet) → AreRuns frames ps
 
 -- The next number is the least above that has the key.
 abbrev pub NextIsLeast : Type 0
-NextIsLeast = (frames n : ℕ) (k : Key) → IsKey frames k → IsNext frames n k (next_number frames n k) × (next_number frames n k ≡ next_by frames n k)
+NextIsLeast = (frames n : ℕ) (k : Key) → IsKey frames k → IsNext frames n k (next_number frames n k)
+    × (next_number frames n k ≡ next_by frames n k)
 
 -- It finds each later frame by its key, if that is nearer than keys come again.
 abbrev pub NextIsFound : Type 0
-NextIsFound = (frames n m : ℕ) → 0 < frames → n < m → m < n + superframe_period * frames → next_number frames n (frame_key frames m) ≡ m
+NextIsFound = (frames n m : ℕ) → 0 < frames → n < m → m < n + superframe_period * frames
+    → next_number frames n (frame_key frames m) ≡ m
 
 -- Records have one number after another.
 abbrev pub AreFrom : ℕ → List FrameRecord → Type 0
@@ -49,4 +51,5 @@ NumbersFollow = (r : Rules) (ps : List Packet) → (n : ℕ) × AreFrom n (modul
 
 -- What follows adds records, and changes none but the last.
 abbrev pub ModulatedFront : Type 0
-ModulatedFront = (r : Rules) (ps qs : List Packet) → IsPrefix (without_last (modulated r ps)) (without_last (modulated r (ps ++ qs)))
+ModulatedFront = (r : Rules) (ps qs : List Packet)
+    → IsPrefix (without_last (modulated r ps)) (without_last (modulated r (ps ++ qs)))

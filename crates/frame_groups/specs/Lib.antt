@@ -6,5 +6,6 @@ pub mod Records
 pub mod Waits
 pub mod Sequenced
 pub mod Due
-pub mod Held
 pub mod Laws
+-- inner: no public clause cites these
+pub mod Held

@@ -17,8 +17,8 @@ pub record FrameRecord : Type 0 where
   pub number : ℕ
   pub content : Content
 
--- what decides of a group: the network, how many frames a superframe has, the frame that a group's timestamp names, and why it is not
--- the frame of a number
+-- what decides of a group: the network, how many frames a superframe has, the frame that a group's timestamp names, and why it is
+-- not the frame of a number
 pub record Rules : Type 0 where
   pub network : Config
   pub frames : ℕ

@@ -58,7 +58,7 @@ fn other(superframe: u8) -> Packet<'static>
         superframe,
         stream: 0,
         body: Body::Other {
-            kind: 0x21,
+            packet_type: 0x21,
             bits: BitSlice::whole(&[]),
         },
     }
@@ -149,7 +149,7 @@ impl OpenGroup for Held {
     }
 }
 
-// Works off a packet, where no record waits.
+// Works off a packet, if no record waits.
 fn work(rt: &impl Abort, sequence: &mut Sequence<Held>, packet: &Packet<'_>) -> bool
     requires { Fits packet.now }
 {

@@ -1,5 +1,6 @@
 -- The frames of a plan fit a record.
-use Rattle.std.proofs.Common.{◌≡◌, ℕ, zero, suc, ◌+◌, ◌-◌, ◌*◌, ◌^◌, ◌<◌, ◌≤◌, ◌%◌, ◌==◌, ◌&&◌, Bool, true, false, cond, Option, Some, None, List, [], ◌∷◌, length, refl, sym, ap, ap₂, subst, ◌∙◌, arith, lit≤}
+use Rattle.std.proofs.Common.{◌≡◌, ℕ, zero, suc, ◌+◌, ◌-◌, ◌*◌, ◌^◌, ◌<◌, ◌≤◌, ◌%◌, ◌==◌, ◌&&◌, Bool, true, false, cond, Option}
+use Rattle.std.proofs.Common.{Some, None, List, [], ◌∷◌, length, refl, sym, ap, ap₂, subst, ◌∙◌, arith, lit≤}
 use Rattle.std.specs.Prelude.{map, find, min, sum, sum_by, slice_index}
 use Rattle.std.specs.List.{flat_map, range_with_len, AllByRecursion}
 use Rattle.std.specs.FinMap.{get}
@@ -8,7 +9,8 @@ use Rattle.std.proofs.lemmas.List.{length-append, length-map}
 use Rattle.std.proofs.lemmas.List.FromFn.{get_or-map-range_with_len, length-map-range_with_len}
 use Rattle.std.proofs.lemmas.List.Sums.{sum-map, sum_by-cons}
 use Rattle.terms.proofs.BitLemmas.{length-field}
-use Rattle.plp_config.specs.Capacity.{IsPlan, CellCount, CellAddresses, block_bytes, block_cells, field_bytes, capacity, cell_need}
+use Rattle.plp_config.specs.Capacity.{IsPlan, CellCount, CellAddresses, block_bytes, block_cells, field_bytes, capacity}
+use Rattle.plp_config.specs.Capacity.{cell_need}
 use Rattle.plp_config.specs.Emission.{emission}
 use Rattle.plp_config.specs.Laws.{EmissionFits, FieldRange, CellsByFive, SlotLength}
 use Rattle.plp_config.specs.Places.{places}
@@ -54,21 +56,27 @@ abbrev pub counts : Config → (ℕ → List (List ℕ)) → ℕ → ℕ → ℕ
 counts c inputs n plp = length (plp_blocks c inputs n plp)
 
 -- no PLP has more blocks than it may
-count_le : SlotLength → FieldRange → CountLaw → (c : Config) (inputs : ℕ → List (List ℕ)) (n plp : ℕ) → IsPlan c → plp < length c.plps → counts c inputs n plp ≤ (plp_at c.plps plp).blocks
+count_le : SlotLength → FieldRange → CountLaw → (c : Config) (inputs : ℕ → List (List ℕ)) (n plp : ℕ) → IsPlan c
+    → plp < length c.plps → counts c inputs n plp ≤ (plp_at c.plps plp).blocks
 unfolding capacity
 count_le slot field law c inputs n plp is lt =
     let at : ℕ → List ℕ = packet_at (inputs plp) in
     let s = slot c plp is.rules lt in
     let f = field c plp in
-    let most = law (rates_of c plp c.ticks) (plp_keeps c plp at) (field_bytes c plp) (plp_at c.plps plp).blocks n (omega (arith, s)) (omega (arith, f.0)) refl in
-    let len : counts c inputs n plp ≡ length (block_places (field_bytes c plp) (sent_before (rates_of c plp c.ticks) (plp_keeps c plp at) n) (sent (rates_of c plp c.ticks) (plp_keeps c plp at) n)) = length-map _ _ in
+    let most = law (rates_of c plp c.ticks) (plp_keeps c plp at) (field_bytes c plp) (plp_at c.plps plp).blocks n
+    (omega (arith, s)) (omega (arith, f.0)) refl in
+    let len : counts c inputs n plp
+    ≡ length (block_places (field_bytes c plp) (sent_before (rates_of c plp c.ticks) (plp_keeps c plp at) n)
+    (sent (rates_of c plp c.ticks) (plp_keeps c plp at) n)) = length-map _ _ in
     omega (arith, most, len)
 
-pub counts_fit : SlotLength → FieldRange → CountLaw → (c : Config) (inputs : ℕ → List (List ℕ)) (n : ℕ) → IsPlan c → CountsFit c (map (counts c inputs n) (places c))
+pub counts_fit : SlotLength → FieldRange → CountLaw → (c : Config) (inputs : ℕ → List (List ℕ)) (n : ℕ) → IsPlan c
+    → CountsFit c (map (counts c inputs n) (places c))
 counts_fit slot field law c inputs n is = record {
   whole = length-map-range_with_len (counts c inputs n) 0 (length c.plps);
   within = λ plp lt.
-      let here : slice_index (map (counts c inputs n) (places c)) plp ≡ counts c inputs n plp = get_or-map-range_with_len (counts c inputs n) 0 (length c.plps) plp plp 0 lt (omega arith) in
+      let here : slice_index (map (counts c inputs n) (places c)) plp ≡ counts c inputs n plp =
+      get_or-map-range_with_len (counts c inputs n) 0 (length c.plps) plp plp 0 lt (omega arith) in
       omega (arith, here, count_le slot field law c inputs n plp is lt);
 }
 
@@ -85,40 +93,53 @@ cells_le five c (n ∷ counts) (p ∷ plps) from len at each =
     let first : n ≤ p.blocks = each 0 (omega arith) in
     let same : from ≡ from + 0 = omega arith in
     let is : p ≡ plp_at c.plps from = at 0 (omega arith) ∙ ap (plp_at c.plps) (sym same) in
-    let cells : 2025 ≤ cells_per_block p.fec p.modulation = subst (λ (q : Plp). 2025 ≤ cells_per_block q.fec q.modulation) (sym is) (five c from).1 in
+    let cells : 2025 ≤ cells_per_block p.fec p.modulation = subst (λ (q : Plp). 2025 ≤ cells_per_block q.fec q.modulation)
+    (sym is) (five c from).1 in
     let both : n * 2025 ≤ p.blocks * cells_per_block p.fec p.modulation = mul-le-mul first cells in
     let more = cells_le five c counts plps (from + 1) (omega (arith, len))
     (λ i lt. let e : from + suc i ≡ from + 1 + i = omega arith in at (suc i) (omega (arith, lt)) ∙ ap (plp_at c.plps) e)
     (λ i lt. each (suc i) (omega (arith, lt))) in
-    omega (arith, both, more, sum_by-cons (λ x. x) n counts, sum_by-cons (λ plp. plp.blocks * cells_per_block plp.fec plp.modulation) p plps)
+    omega (
+      arith,
+      both,
+      more,
+      sum_by-cons (λ x. x) n counts,
+      sum_by-cons (λ plp. plp.blocks * cells_per_block plp.fec plp.modulation) p plps,
+    )
 
 -- a frame has 2071 blocks at most
 pub few_blocks : CellsByFive → FewBlocks
 unfolding cell_need
 few_blocks five c shape is len passes =
-    let cells = cells_le five c shape.counts c.plps 0 len (λ i lt. let e : i ≡ 0 + i = omega arith in ap (plp_at c.plps) e) passes.counts in
+    let cells = cells_le five c shape.counts c.plps 0 len (λ i lt. let e : i ≡ 0 + i = omega arith in
+    ap (plp_at c.plps) e) passes.counts in
     let need : cell_need c ≤ c.cells = is.tests CellCount in
     let most : c.cells ≤ 4194303 = is.tests CellAddresses in
     omega (arith, cells, need, most)
 
 -- the blocks of all PLPs
-all_blocks : (c : Config) (inputs : ℕ → List (List ℕ)) (n : ℕ) (plps : List ℕ) → length (flat_map (λ plp. map (sent_block c plp) (plp_blocks c inputs n plp)) plps) ≡ sum_by (counts c inputs n) plps
+all_blocks : (c : Config) (inputs : ℕ → List (List ℕ)) (n : ℕ) (plps : List ℕ)
+    → length (flat_map (λ plp. map (sent_block c plp) (plp_blocks c inputs n plp)) plps) ≡ sum_by (counts c inputs n) plps
 all_blocks c inputs n [] = refl
 all_blocks c inputs n (plp ∷ plps) =
-    length-append (map (sent_block c plp) (plp_blocks c inputs n plp)) (flat_map (λ plp. map (sent_block c plp) (plp_blocks c inputs n plp)) plps)
+    length-append (map (sent_block c plp) (plp_blocks c inputs n plp))
+    (flat_map (λ plp. map (sent_block c plp) (plp_blocks c inputs n plp)) plps)
     ∙ ap₂ (λ (a b : ℕ). a + b) (length-map (plp_blocks c inputs n plp) (sent_block c plp)) (all_blocks c inputs n plps)
     ∙ sym (sum_by-cons (counts c inputs n) plp plps)
 
 -- ---- each block and each cell
 
-pub all_map_twice : {X Y Z : Type 0} (P : Z → Type 0) (g : Y → Z) (f : X → Y) (xs : List X) → ((x : X) → P (g (f x))) → AllByRecursion P (map g (map f xs))
+pub all_map_twice : {X Y Z : Type 0} (P : Z → Type 0) (g : Y → Z) (f : X → Y) (xs : List X) → ((x : X) → P (g (f x)))
+    → AllByRecursion P (map g (map f xs))
 all_map_twice P g f [] each = tt
 all_map_twice P g f (x ∷ xs) each = (each x, all_map_twice P g f xs each)
 
-block_is_sent : BitCounts → FieldRange → (c : Config) (plp : ℕ) (bits : List Bool) → (plp_at c.plps plp).id < 2 ^ 8 → length bits ≡ 8 * block_bytes c plp → IsSentBlock (sent_block c plp bits)
+block_is_sent : BitCounts → FieldRange → (c : Config) (plp : ℕ) (bits : List Bool) → (plp_at c.plps plp).id < 2 ^ 8
+    → length bits ≡ 8 * block_bytes c plp → IsSentBlock (sent_block c plp bits)
 block_is_sent numbers law c plp bits id e = let f = law c plp in (id, omega (arith, block_len numbers c plp bits e, f))
 
-plp_blocks_are_sent : BitCounts → FieldRange → (c : Config) (inputs : ℕ → List (List ℕ)) (n plp : ℕ) → (plp_at c.plps plp).id < 2 ^ 8 → AllByRecursion IsSentBlock (map (sent_block c plp) (plp_blocks c inputs n plp))
+plp_blocks_are_sent : BitCounts → FieldRange → (c : Config) (inputs : ℕ → List (List ℕ)) (n plp : ℕ) → (plp_at c.plps plp).id
+    < 2 ^ 8 → AllByRecursion IsSentBlock (map (sent_block c plp) (plp_blocks c inputs n plp))
 plp_blocks_are_sent numbers law c inputs n plp id =
     let at : ℕ → List ℕ = packet_at (inputs plp) in
     let begin : ℕ = sent_before (rates_of c plp c.ticks) (plp_keeps c plp at) n in
@@ -126,14 +147,18 @@ plp_blocks_are_sent numbers law c inputs n plp id =
     let slots : ℕ = slots_by c plp (n * c.ticks) in
     let block : ℕ → List Bool = λ from. block_bits c plp at slots from (min (from + field_bytes c plp) end) in
     all_map_twice IsSentBlock (sent_block c plp) block (block_places (field_bytes c plp) begin end)
-    (λ from. block_is_sent numbers law c plp (block from) id (length-block numbers law c plp at slots from (min (from + field_bytes c plp) end) (omega arith)))
+    (λ from. block_is_sent numbers law c plp (block from) id
+    (length-block numbers law c plp at slots from (min (from + field_bytes c plp) end) (omega arith)))
 
 -- the blocks of the PLPs from one on
-blocks_are_sent : BitCounts → FieldRange → (c : Config) (inputs : ℕ → List (List ℕ)) (n from count : ℕ) → HasByteIds c → from + count ≤ length c.plps
-    → AllByRecursion IsSentBlock (flat_map (λ plp. map (sent_block c plp) (plp_blocks c inputs n plp)) (range_with_len from count))
+blocks_are_sent : BitCounts → FieldRange → (c : Config) (inputs : ℕ → List (List ℕ)) (n from count : ℕ) → HasByteIds c
+    → from + count ≤ length c.plps
+    → AllByRecursion IsSentBlock
+    (flat_map (λ plp. map (sent_block c plp) (plp_blocks c inputs n plp)) (range_with_len from count))
 blocks_are_sent numbers law c inputs n from zero ids le = tt
 blocks_are_sent numbers law c inputs n from (suc count) ids le =
-    all_append IsSentBlock (map (sent_block c from) (plp_blocks c inputs n from)) (flat_map (λ plp. map (sent_block c plp) (plp_blocks c inputs n plp)) (range_with_len (from + 1) count))
+    all_append IsSentBlock (map (sent_block c from) (plp_blocks c inputs n from))
+    (flat_map (λ plp. map (sent_block c plp) (plp_blocks c inputs n plp)) (range_with_len (from + 1) count))
     (plp_blocks_are_sent numbers law c inputs n from (ids from (omega (arith, le))))
     (blocks_are_sent numbers law c inputs n (from + 1) count ids (omega (arith, le)))
 
@@ -168,20 +193,24 @@ every_frame_fits bits emits five cells c n post blocks shape is small short len 
         blocks = omega (arith, count, few);
         block = all_fit blocks sent;
         cells = omega (arith, addresses, most);
-        cell = all_map FitsCell (get (cell_map c shape)) (range_with_len 0 c.cells) (λ address. cell_fits (get (cell_map c shape) address) (λ found e. cells c shape address found is passes e));
+        cell = all_map FitsCell (get (cell_map c shape)) (range_with_len 0 c.cells)
+            (λ address. cell_fits (get (cell_map c shape) address) (λ found e. cells c shape address found is passes e));
       };
       small = omega (arith, sizes_le blocks sent, short, addresses, most, count, few);
     }
 
-pub frame_fits : BitCounts → SlotLength → FieldRange → CountLaw → PostLength → ShapeHasCounts → ShapePasses → EveryFrameFits → FrameFits
+pub frame_fits : BitCounts → SlotLength → FieldRange → CountLaw → PostLength → ShapeHasCounts → ShapePasses → EveryFrameFits
+    → FrameFits
 frame_fits numbers slot field law post has passes every c inputs n is ids small =
     let all : List ℕ = map (counts c inputs n) (places c) in
     let fit : CountsFit c all = counts_fit slot field law c inputs n is in
     let same : (frame_shape c inputs n).counts ≡ all = has c all in
-    let blocks : length (sent_blocks c (plp_blocks c inputs n)) ≡ sum_by (counts c inputs n) (places c) = all_blocks c inputs n (places c) in
+    let blocks : length (sent_blocks c (plp_blocks c inputs n)) ≡ sum_by (counts c inputs n) (places c) =
+    all_blocks c inputs n (places c) in
     let plps : length c.plps ≤ 255 = (is.rules PlpCount).1 in
     let bits = post c n (frame_shape c inputs n) in
-    every c n (post_bits c n (frame_shape c inputs n)) (sent_blocks c (plp_blocks c inputs n)) (frame_shape c inputs n) is (omega (arith, small)) (omega (arith, bits, plps))
+    every c n (post_bits c n (frame_shape c inputs n)) (sent_blocks c (plp_blocks c inputs n)) (frame_shape c inputs n) is
+    (omega (arith, small)) (omega (arith, bits, plps))
     (ap (λ (l : List ℕ). length l) same ∙ fit.whole)
     (passes c all is fit)
     (omega (arith, blocks, ap (λ (l : List ℕ). sum l) same, sum-map (counts c inputs n) (places c)))
@@ -190,24 +219,29 @@ frame_fits numbers slot field law post has passes every c inputs n is ids small 
 -- ---- the records of a run
 
 pub muted_fits : EmissionFits → MutedFits
-muted_fits emits c n is small = let moment = emits c n is.rules small in record { moment = (omega (arith, moment), omega (arith, moment)); rest = tt; small = lit≤ tt }
+muted_fits emits c n is small = let moment = emits c n is.rules small in
+    record { moment = (omega (arith, moment), omega (arith, moment)); rest = tt; small = lit≤ tt }
 
 either_fits : (b : Bool) (v w : RecordView) → FitsRecord v → FitsRecord w → FitsRecord (cond b v w)
 either_fits true v w h k = h
 either_fits false v w h k = k
 
-pub range_fits : EmissionFits → FrameFits → (c : Config) (inputs : ℕ → List (List ℕ)) (whole : ℕ → Bool) (first count : ℕ) → IsPlan c → HasByteIds c → first + count ≤ 2 ^ 31
+pub range_fits : EmissionFits → FrameFits → (c : Config) (inputs : ℕ → List (List ℕ)) (whole : ℕ → Bool) (first count : ℕ)
+    → IsPlan c → HasByteIds c → first + count ≤ 2 ^ 31
     → AllByRecursion FitsRecord (map (record_of c inputs whole) (range_with_len first count))
 range_fits emits fits c inputs whole first zero is ids small = tt
 range_fits emits fits c inputs whole first (suc count) is ids small = (
-  either_fits (whole first) (frame_of c inputs first) (Muted (emission c first)) (fits c inputs first is ids (omega (arith, small))) (muted_fits emits c first is (omega (arith, small))),
+  either_fits (whole first) (frame_of c inputs first) (Muted (emission c first))
+      (fits c inputs first is ids (omega (arith, small))) (muted_fits emits c first is (omega (arith, small))),
   range_fits emits fits c inputs whole (first + 1) count is ids (omega (arith, small)),
 )
 
-numbers_fit : EmissionFits → FrameFits → (c : Config) (inputs : ℕ → List (List ℕ)) (whole : ℕ → Bool) (end : ℕ) (r : Option ℕ) → ((n : ℕ) → r ≡ Some n → n ≤ end) → IsPlan c → HasByteIds c → end ≤ 2 ^ 31
+numbers_fit : EmissionFits → FrameFits → (c : Config) (inputs : ℕ → List (List ℕ)) (whole : ℕ → Bool) (end : ℕ) (r : Option ℕ)
+    → ((n : ℕ) → r ≡ Some n → n ≤ end) → IsPlan c → HasByteIds c → end ≤ 2 ^ 31
     → AllByRecursion FitsRecord (map (record_of c inputs whole) (numbers_from end r))
 numbers_fit emits fits c inputs whole end None within is ids small = tt
-numbers_fit emits fits c inputs whole end (Some n) within is ids small = range_fits emits fits c inputs whole n (end - n) is ids (omega (arith, within n refl, small))
+numbers_fit emits fits c inputs whole end (Some n) within is ids small =
+    range_fits emits fits c inputs whole n (end - n) is ids (omega (arith, within n refl, small))
 
 pub records_fit : EmissionFits → FrameFits → RecordsFit
 records_fit emits fits c inputs whole end is ids small =

@@ -27,9 +27,11 @@ use Rattle.frame_records.specs.Laws.{FrameLength}
 use Rattle.bb_frame.specs.Laws.{BitCounts}
 
 -- blocks of a PLP have as many bytes as it says
-pub block_len : BitCounts → (c : Config) (plp : ℕ) (bits : List Bool) → length bits ≡ 8 * block_bytes c plp → block_size (sent_block c plp bits) ≡ 4 + block_bytes c plp
+pub block_len : BitCounts → (c : Config) (plp : ℕ) (bits : List Bool) → length bits ≡ 8 * block_bytes c plp
+    → block_size (sent_block c plp bits) ≡ 4 + block_bytes c plp
 block_len counts c plp bits e =
-    let size : length (bytes_of (scrambled bits)) ≡ bytes_for (8 * block_bytes c plp) = length-bytes_of (scrambled bits) ∙ ap bytes_for (counts.scrambled bits ∙ e) in
+    let size : length (bytes_of (scrambled bits)) ≡ bytes_for (8 * block_bytes c plp) = length-bytes_of (scrambled bits)
+    ∙ ap bytes_for (counts.scrambled bits ∙ e) in
     omega (arith, size)
 
 -- blocks of one length
@@ -41,7 +43,8 @@ alike counts c plp f each (x ∷ xs) =
     ∙ ap₂ (λ (a b : ℕ). a + b) (block_len counts c plp (f x) (each x)) (alike counts c plp f each xs) ∙ omega arith
 
 plp_len : BitCounts → FieldRange → (c : Config) (inputs : ℕ → List (List ℕ)) (n plp : ℕ)
-    → sum_by block_size (map (sent_block c plp) (plp_blocks c inputs n plp)) ≡ length (plp_blocks c inputs n plp) * (4 + block_bytes c plp)
+    → sum_by block_size (map (sent_block c plp) (plp_blocks c inputs n plp)) ≡ length (plp_blocks c inputs n plp)
+    * (4 + block_bytes c plp)
 plp_len counts law c inputs n plp =
     let at : ℕ → List ℕ = packet_at (inputs plp) in
     let end : ℕ = sent (rates_of c plp c.ticks) (plp_keeps c plp at) n in
@@ -51,8 +54,11 @@ plp_len counts law c inputs n plp =
     (block_places (field_bytes c plp) begin end)
 
 -- all blocks of a frame
-all_len : (c : Config) (blocks : ℕ → List (List Bool)) → ((plp : ℕ) → sum_by block_size (map (sent_block c plp) (blocks plp)) ≡ length (blocks plp) * (4 + block_bytes c plp)) → (plps : List ℕ)
-    → sum_by block_size (flat_map (λ plp. map (sent_block c plp) (blocks plp)) plps) ≡ sum_by (λ plp. length (blocks plp) * (4 + block_bytes c plp)) plps
+all_len : (c : Config) (blocks : ℕ → List (List Bool))
+    → ((plp : ℕ) → sum_by block_size (map (sent_block c plp) (blocks plp)) ≡ length (blocks plp) * (4 + block_bytes c plp))
+    → (plps : List ℕ)
+    → sum_by block_size (flat_map (λ plp. map (sent_block c plp) (blocks plp)) plps)
+    ≡ sum_by (λ plp. length (blocks plp) * (4 + block_bytes c plp)) plps
 all_len c blocks each [] = refl
 all_len c blocks each (plp ∷ plps) =
     sum_by-append block_size (map (sent_block c plp) (blocks plp)) (flat_map (λ plp. map (sent_block c plp) (blocks plp)) plps)
@@ -65,10 +71,13 @@ cells_count c shape = length-map-range_with_len (get (cell_map c shape)) 0 c.cel
 
 pub frame_length : BitCounts → FieldRange → PostLength → FrameLength
 frame_length counts law post c inputs n =
-    let size : sum_by block_size (sent_blocks c (plp_blocks c inputs n)) ≡ sum_by (λ plp. length (plp_blocks c inputs n plp) * (4 + block_bytes c plp)) (places c) =
+    let size : sum_by block_size (sent_blocks c (plp_blocks c inputs n))
+    ≡ sum_by (λ plp. length (plp_blocks c inputs n plp) * (4 + block_bytes c plp)) (places c) =
     all_len c (plp_blocks c inputs n) (plp_len counts law c inputs n) (places c) in
     let bits = post c n (frame_shape c inputs n) in
     let cells = cells_count c (frame_shape c inputs n) in
-    ap₂ (λ (b x : ℕ). head_len + pre_len + (4 + b) + (2 + x) + (4 + 4 * length (frame_cells c (frame_shape c inputs n)))) (ap bytes_for bits) size
-    ∙ ap (λ (k : ℕ). head_len + pre_len + (4 + bytes_for (213 + 137 * length c.plps)) + (2 + sum_by (λ plp. length (plp_blocks c inputs n plp) * (4 + block_bytes c plp)) (places c)) + (4 + 4 * k)) cells
+    ap₂ (λ (b x : ℕ). head_len + pre_len + (4 + b) + (2 + x) + (4 + 4 * length (frame_cells c (frame_shape c inputs n))))
+    (ap bytes_for bits) size
+    ∙ ap (λ (k : ℕ). head_len + pre_len + (4 + bytes_for (213 + 137 * length c.plps))
+    + (2 + sum_by (λ plp. length (plp_blocks c inputs n plp) * (4 + block_bytes c plp)) (places c)) + (4 + 4 * k)) cells
     ∙ omega arith

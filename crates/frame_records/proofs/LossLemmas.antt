@@ -1,5 +1,6 @@
 -- What is lost of the narrow network, if frames 3 and 4 are muted.
-use Rattle.std.proofs.Common.{sym, inl, inr, ◌⊎◌, lit≤, ◌≡◌, ℕ, zero, suc, ◌+◌, ◌*◌, ◌<◌, ◌≤◌, Bool, true, false, List, [], ◌∷◌, length, refl, ap, ap₂, ◌∙◌, arith, lit<}
+use Rattle.std.proofs.Common.{sym, inl, inr, ◌⊎◌, lit≤, ◌≡◌, ℕ, zero, suc, ◌+◌, ◌*◌, ◌<◌, ◌≤◌, Bool, true, false, List, [], ◌∷◌}
+use Rattle.std.proofs.Common.{length, refl, ap, ap₂, ◌∙◌, arith, lit<}
 use Rattle.std.specs.Prelude.{◌||◌, not, cond, nat_le, nat_lt, ◌&&◌}
 use Rattle.std.specs.List.{range_with_len, list_any}
 use Rattle.std.proofs.lemmas.Bool.{cases_lt}
@@ -40,9 +41,11 @@ narrow_sent4 = sent_is narrow_rates true 110 4 narrow_slots
 
 -- whether two frames that carry the bytes from a, b and c on touch a user packet
 abbrev touches : ℕ → ℕ → ℕ → ℕ → ℕ → Bool
-touches len a b c place = list_any (λ (x : ℕ × ℕ). list_any (λ i. nat_le x.0 i && nat_lt i x.1) (range_with_len place len)) ((a, b) ∷ (b, c) ∷ [])
+touches len a b c place = list_any (λ (x : ℕ × ℕ). list_any (λ i. nat_le x.0 i && nat_lt i x.1) (range_with_len place len))
+    ((a, b) ∷ (b, c) ∷ [])
 
-touched_by : (r : Rates) (keeps : ℕ → Bool) (k p a b c : ℕ) → length (kept_slots keeps k) ≡ p → sent r keeps 2 ≡ a → sent r keeps 3 ≡ b → sent r keeps 4 ≡ c
+touched_by : (r : Rates) (keeps : ℕ → Bool) (k p a b c : ℕ) → length (kept_slots keeps k) ≡ p → sent r keeps 2 ≡ a
+    → sent r keeps 3 ≡ b → sent r keeps 4 ≡ c
     → is_touched r keeps (3 ∷ 4 ∷ []) k ≡ touches r.up_len a b c (r.up_len * p)
 touched_by r keeps k p a b c place first second third =
     ap (λ (p : ℕ). touches r.up_len (sent r keeps 2) (sent r keeps 3) (sent r keeps 4) (r.up_len * p)) place
@@ -50,32 +53,39 @@ touched_by r keeps k p a b c place first second third =
     ∙ ap (λ (b : ℕ). touches r.up_len a b (sent r keeps 4) (r.up_len * p)) second
     ∙ ap (λ (c : ℕ). touches r.up_len a b c (r.up_len * p)) third
 
-narrow_touched : (k : ℕ) → k ≤ 110 → is_touched narrow_rates narrow_keeps (3 ∷ 4 ∷ []) k ≡ touches narrow_rates.up_len 5051 7658 10265 (narrow_rates.up_len * k)
-narrow_touched k le = touched_by narrow_rates narrow_keeps k k 5051 7658 10265 (kept_count true 110 k le) narrow_sent2 narrow_sent3 narrow_sent4
+narrow_touched : (k : ℕ) → k ≤ 110 → is_touched narrow_rates narrow_keeps (3 ∷ 4 ∷ []) k
+    ≡ touches narrow_rates.up_len 5051 7658 10265 (narrow_rates.up_len * k)
+narrow_touched k le =
+    touched_by narrow_rates narrow_keeps k k 5051 7658 10265 (kept_count true 110 k le) narrow_sent2 narrow_sent3 narrow_sent4
 
 abbrev given_back : Bool → Bool → List ℕ → List ℕ
 given_back kept touched packet = cond (kept && not touched) packet null_packet
 
-narrow_is : (k : ℕ) (touched : Bool) → k < 110 → touches narrow_rates.up_len 5051 7658 10265 (narrow_rates.up_len * k) ≡ touched → narrow_recovered k ≡ given_back true touched data_packet
+narrow_is : (k : ℕ) (touched : Bool) → k < 110 → touches narrow_rates.up_len 5051 7658 10265 (narrow_rates.up_len * k) ≡ touched
+    → narrow_recovered k ≡ given_back true touched data_packet
 narrow_is k touched lt e =
     ap (λ (t : Bool). given_back (narrow_keeps k) t (packet_at (data_packets 110) k)) (narrow_touched k (omega (arith, lt)) ∙ e)
     ∙ ap₂ (λ (b : Bool) (p : List ℕ). given_back b touched p) (data_kept true 110 k lt) (data_at 110 k lt)
 
 -- whether one of the numbers from one on passes a test
-none_in : (test : ℕ → Bool) (from count : ℕ) → ((i : ℕ) → from ≤ i → i < from + count → test i ≡ false) → list_any test (range_with_len from count) ≡ false
+none_in : (test : ℕ → Bool) (from count : ℕ) → ((i : ℕ) → from ≤ i → i < from + count → test i ≡ false)
+    → list_any test (range_with_len from count) ≡ false
 none_in test from zero fails = refl
 none_in test from (suc count) fails =
-    rw (fails from (omega arith) (omega arith)) (none_in test (from + 1) count (λ i le lt. fails i (omega (arith, le)) (omega (arith, lt))))
+    rw (fails from (omega arith) (omega arith))
+    (none_in test (from + 1) count (λ i le lt. fails i (omega (arith, le)) (omega (arith, lt))))
 
 or_true : (b : Bool) → (b || true) ≡ true
 or_true true = refl
 or_true false = refl
 
-one_in : (test : ℕ → Bool) (from count i : ℕ) → from ≤ i → i < from + count → test i ≡ true → list_any test (range_with_len from count) ≡ true
+one_in : (test : ℕ → Bool) (from count i : ℕ) → from ≤ i → i < from + count → test i ≡ true
+    → list_any test (range_with_len from count) ≡ true
 one_in test from zero i le lt passes = absurd (omega (arith, le, lt))
 one_in test from (suc count) i le lt passes = elim (cases_lt from i) [
   | inl more ↦ rw (one_in test (from + 1) count i (omega (arith, more)) (omega (arith, lt)) passes) (or_true (test from))
-  | inr less ↦ (let same : i ≡ from = omega (arith, le, less) in let here : test from ≡ true = ap test (sym same) ∙ passes in rw here refl)
+  | inr less ↦ (let same : i ≡ from = omega (arith, le, less) in let here : test from ≡ true = ap test (sym same) ∙ passes in
+      rw here refl)
 ]
 
 -- the bytes from a up to b
@@ -94,15 +104,22 @@ is_inside a b i le lt = grind (arith, nat_tests)
 -- a user packet before the bytes from a up to c, or behind them
 touches_none : (len a b c place : ℕ) → a ≤ b → b ≤ c → (place + len ≤ a) ⊎ (c ≤ place) → touches len a b c place ≡ false
 touches_none len a b c place first second (inl le) =
-    rw (none_in (inside a b) place len (λ i ge lt. before_all a b i (omega (arith, le, lt))), none_in (inside b c) place len (λ i ge lt. before_all b c i (omega (arith, le, lt, first)))) refl
+    rw (
+      none_in (inside a b) place len (λ i ge lt. before_all a b i (omega (arith, le, lt))),
+      none_in (inside b c) place len (λ i ge lt. before_all b c i (omega (arith, le, lt, first))),
+    ) refl
 touches_none len a b c place first second (inr le) =
-    rw (none_in (inside a b) place len (λ i ge lt. behind_all a b i (omega (arith, le, ge, second))), none_in (inside b c) place len (λ i ge lt. behind_all b c i (omega (arith, le, ge)))) refl
+    rw (
+      none_in (inside a b) place len (λ i ge lt. behind_all a b i (omega (arith, le, ge, second))),
+      none_in (inside b c) place len (λ i ge lt. behind_all b c i (omega (arith, le, ge))),
+    ) refl
 
 -- or one of whose bytes is one of them
 touches_one : (len a b c place i : ℕ) → a ≤ i → i < c → place ≤ i → i < place + len → touches len a b c place ≡ true
 touches_one len a b c place i low high from to = elim (cases_lt i b) [
   | inl lt ↦ rw (one_in (inside a b) place len i from to (is_inside a b i low lt)) refl
-  | inr le ↦ rw (one_in (inside b c) place len i from to (is_inside b c i le high)) (or_true (list_any (inside a b) (range_with_len place len)))
+  | inr le ↦ rw (one_in (inside b c) place len i from to (is_inside b c i le high))
+      (or_true (list_any (inside a b) (range_with_len place len)))
 ]
 
 abbrev narrow_touches : ℕ → Bool

@@ -1,5 +1,6 @@
 -- Blocks stand at their ordinals, and cells at their addresses.
-use Rattle.std.proofs.Common.{◌≡◌, ℕ, zero, suc, ◌+◌, ◌<◌, Option, Some, List, [], ◌∷◌, ◌++◌, length, get_or, take, refl, sym, ap, ap₂, subst, ◌∙◌, arith}
+use Rattle.std.proofs.Common.{◌≡◌, ℕ, zero, suc, ◌+◌, ◌<◌, Option, Some, List, [], ◌∷◌, ◌++◌, length, get_or, take, refl, sym, ap}
+use Rattle.std.proofs.Common.{ap₂, subst, ◌∙◌, arith}
 use Rattle.std.specs.Prelude.{map, sum, sum_by, slice_get}
 use Rattle.std.specs.List.{flat_map, range_with_len}
 use Rattle.std.specs.FinMap.{get}
@@ -30,50 +31,60 @@ get_front (x ∷ xs) ys (suc k) lt = get_front xs ys k (omega (arith, lt))
 get_behind : {X : Type 0} (xs ys : List X) (n k : ℕ) → length xs ≡ n → slice_get (xs ++ ys) (n + k) ≡ slice_get ys k
 get_behind [] ys n k e = let none : n + k ≡ k = omega (arith, e) in ap (slice_get ys) none
 get_behind (x ∷ xs) ys zero k e = absurd (omega (arith, e))
-get_behind (x ∷ xs) ys (suc n) k e = let next : suc n + k ≡ suc (n + k) = omega arith in ap (slice_get (x ∷ (xs ++ ys))) next ∙ get_behind xs ys n k (omega (arith, e))
+get_behind (x ∷ xs) ys (suc n) k e = let next : suc n + k ≡ suc (n + k) = omega arith in ap (slice_get (x ∷ (xs ++ ys))) next
+    ∙ get_behind xs ys n k (omega (arith, e))
 
 -- an element of the piece at a place stands behind the pieces before it
 get_piece : {X : Type 0} (pieces : ℕ → List X) (plps : List ℕ) (i j : ℕ) → i < length plps → j < length (pieces (get_or plps i 0))
-    → slice_get (flat_map pieces plps) (sum_by (λ plp. length (pieces plp)) (take i plps) + j) ≡ slice_get (pieces (get_or plps i 0)) j
+    → slice_get (flat_map pieces plps) (sum_by (λ plp. length (pieces plp)) (take i plps) + j)
+    ≡ slice_get (pieces (get_or plps i 0)) j
 get_piece pieces [] i j lt in_piece = absurd (omega arith)
 get_piece pieces (plp ∷ plps) zero j lt in_piece =
     let none : 0 + j ≡ j = omega arith in
     ap (slice_get (pieces plp ++ flat_map pieces plps)) none ∙ get_front (pieces plp) (flat_map pieces plps) j in_piece
 get_piece pieces (plp ∷ plps) (suc i) j lt in_piece =
     let count : ℕ → ℕ = λ plp. length (pieces plp) in
-    let more : sum_by count (plp ∷ take i plps) + j ≡ length (pieces plp) + (sum_by count (take i plps) + j) = omega (arith, sum_by-cons count plp (take i plps)) in
+    let more : sum_by count (plp ∷ take i plps) + j ≡ length (pieces plp) + (sum_by count (take i plps) + j) =
+    omega (arith, sum_by-cons count plp (take i plps)) in
     ap (slice_get (pieces plp ++ flat_map pieces plps)) more
     ∙ get_behind (pieces plp) (flat_map pieces plps) (length (pieces plp)) (sum_by count (take i plps) + j) refl
     ∙ get_piece pieces plps i j (omega (arith, lt)) in_piece
 
 same_sums : (f g : ℕ → ℕ) (xs : List ℕ) → ((x : ℕ) → f x ≡ g x) → sum_by f xs ≡ sum_by g xs
 same_sums f g [] same = refl
-same_sums f g (x ∷ xs) same = sum_by-cons f x xs ∙ ap₂ (λ (a b : ℕ). a + b) (same x) (same_sums f g xs same) ∙ sym (sum_by-cons g x xs)
+same_sums f g (x ∷ xs) same = sum_by-cons f x xs ∙ ap₂ (λ (a b : ℕ). a + b) (same x) (same_sums f g xs same)
+    ∙ sym (sum_by-cons g x xs)
 
 -- the ordinal of a block: behind those of the PLPs before its own
 ordinal_is : ShapeHasCounts → (c : Config) (inputs : ℕ → List (List ℕ)) (n plp block : ℕ)
     → ordinal_of (frame_shape c inputs n) plp block ≡ sum_by (counts c inputs n) (take plp (places c)) + block
 ordinal_is has c inputs n plp block =
     ap (λ (l : List ℕ). sum (take plp l) + block) (has c (map (counts c inputs n) (places c)))
-    ∙ ap (λ (l : List ℕ). sum l + block) (take-map (counts c inputs n) plp (places c)) ∙ ap (λ (s : ℕ). s + block) (sum-map (counts c inputs n) (take plp (places c)))
+    ∙ ap (λ (l : List ℕ). sum l + block) (take-map (counts c inputs n) plp (places c))
+    ∙ ap (λ (s : ℕ). s + block) (sum-map (counts c inputs n) (take plp (places c)))
 
 pub block_stands : ShapeHasCounts → BlockStands
 block_stands has c inputs n plp block lt sent =
     let piece : ℕ → List Block = λ plp. map (sent_block c plp) (plp_blocks c inputs n plp) in
     let place : get_or (places c) plp 0 ≡ plp = get_or-range_with_len 0 (length c.plps) plp 0 lt ∙ omega arith in
-    let len : (plp : ℕ) → length (piece plp) ≡ counts c inputs n plp = λ plp. length-map (plp_blocks c inputs n plp) (sent_block c plp) in
+    let len : (plp : ℕ) → length (piece plp) ≡ counts c inputs n plp =
+    λ plp. length-map (plp_blocks c inputs n plp) (sent_block c plp) in
     let at : ordinal_of (frame_shape c inputs n) plp block ≡ sum_by (λ plp. length (piece plp)) (take plp (places c)) + block =
-    ordinal_is has c inputs n plp block ∙ ap (λ (s : ℕ). s + block) (sym (same_sums (λ plp. length (piece plp)) (counts c inputs n) (take plp (places c)) len)) in
-    let inside : block < length (piece (get_or (places c) plp 0)) = subst (λ (k : ℕ). block < length (piece k)) (sym place) (omega (arith, len plp, sent)) in
+    ordinal_is has c inputs n plp block
+    ∙ ap (λ (s : ℕ). s + block) (sym (same_sums (λ plp. length (piece plp)) (counts c inputs n) (take plp (places c)) len)) in
+    let inside : block < length (piece (get_or (places c) plp 0)) =
+    subst (λ (k : ℕ). block < length (piece k)) (sym place) (omega (arith, len plp, sent)) in
     ap (slice_get (sent_blocks c (plp_blocks c inputs n))) at
     ∙ get_piece piece (places c) plp block (omega (arith, lt, length-range_with_len 0 (length c.plps))) inside
     ∙ ap (λ (k : ℕ). slice_get (piece k) block) place ∙ slice_get-map (sent_block c plp) (plp_blocks c inputs n plp) block
 
 -- what stands at an address of the map
-get_in_range : {X : Type 0} (f : ℕ → X) (from count k : ℕ) → k < count → slice_get (map f (range_with_len from count)) k ≡ Some (f (from + k))
+get_in_range : {X : Type 0} (f : ℕ → X) (from count k : ℕ) → k < count → slice_get (map f (range_with_len from count)) k
+    ≡ Some (f (from + k))
 get_in_range f from zero k lt = absurd (omega arith)
 get_in_range f from (suc count) zero lt = let same : from ≡ from + 0 = omega arith in ap (λ (i : ℕ). Some (f i)) same
-get_in_range f from (suc count) (suc k) lt = let same : from + 1 + k ≡ from + suc k = omega arith in get_in_range f (from + 1) count k (omega (arith, lt)) ∙ ap (λ (i : ℕ). Some (f i)) same
+get_in_range f from (suc count) (suc k) lt = let same : from + 1 + k ≡ from + suc k = omega arith in
+    get_in_range f (from + 1) count k (omega (arith, lt)) ∙ ap (λ (i : ℕ). Some (f i)) same
 
 abbrev some_there : Option Cell → Option (Option Cell)
 some_there cell = Some cell

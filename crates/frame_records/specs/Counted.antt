@@ -9,7 +9,8 @@ use Rattle.site_frame.specs.declared.reading.RecordView.TheVariants.{Frame, Mute
 use Rattle.frame_records.specs.Frames.{sent_blocks, frame_of, run_frames}
 use Rattle.frame_records.specs.Records.{record_numbers}
 use Rattle.frame_records.specs.Recover.{due_slots, recovered}
-use Rattle.frame_records.specs.Networks.{small_network, narrow_network, large_network, small_pre, small_post, data_packet, data_packets}
+use Rattle.frame_records.specs.Networks.{small_network, narrow_network, large_network, small_pre, small_post, data_packet}
+use Rattle.frame_records.specs.Networks.{data_packets}
 use Rattle.frame_records.specs.Laws.{frame_len}
 use Rattle.mode_adapt.specs.Blocks.{plp_blocks}
 
@@ -27,7 +28,8 @@ CountedBlocks = length (plp_blocks small_network (λ plp. data_packets 20) 1 0) 
 -- Each block of the small network is sent as FF F6 and so on: that is FC 00, scrambled.
 abbrev pub CountedStart : Type 0
 CountedStart = (inputs : ℕ → List (List ℕ)) (n : ℕ)
-    → AllByRecursion (λ b. (b.plp ≡ 0) × (take 2 b.bytes ≡ 0xFF ∷ 0xF6 ∷ [])) (sent_blocks small_network (plp_blocks small_network inputs n))
+    → AllByRecursion (λ b. (b.plp ≡ 0) × (take 2 b.bytes ≡ 0xFF ∷ 0xF6 ∷ []))
+    (sent_blocks small_network (plp_blocks small_network inputs n))
 
 -- L1-pre and L1-post as they stand in a record; a muted one has none
 abbrev pub pre_bytes : RecordView → List ℕ
@@ -56,7 +58,8 @@ pub record CountedRecords : Type 0 where
   pub gap : record_numbers narrow_network (λ n. not (n == 3) && not (n == 4)) 12 ≡ range_with_len 0 12
   pub none : record_numbers small_network (λ n. n % 2 == 1) 4 ≡ []
 
--- Slots that are due: of the small network after 4 and 24 frames, of the large one after 8, of the narrow one after frames 8 to 11.
+-- Slots that are due: of the small network after 4 and 24 frames, of the large one after 8, of the narrow one after frames 8 to
+-- 11.
 pub record CountedSlots : Type 0 where
   pub four : length (due_slots small_network 0 100000 0 4) ≡ 14
   pub more : length (due_slots small_network 0 100000 0 24) ≡ 305

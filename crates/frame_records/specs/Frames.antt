@@ -45,14 +45,16 @@ frame_cells c shape = map (get (cell_map c shape)) (range_with_len 0 c.cells)
 abbrev pub l1_pre : Config → List Bool
 l1_pre c = crc_behind true (pre_bits (pre_of c))
 
--- the frame that leaves at a moment, with this L1-post, these blocks, and the cells of this shape; L1-pre is that of the configuration
+-- the frame that leaves at a moment, with this L1-post, these blocks, and the cells of this shape; L1-pre is that of the
+-- configuration
 abbrev pub frame_view : Config → Moment → List Bool → List Block → FrameShape → RecordView
 frame_view c moment post blocks shape = Frame moment (l1_pre c) post blocks (frame_cells c shape)
 
 -- frame n: when it leaves, L1-post, the blocks, and their shape
 abbrev pub frame_of : Config → (ℕ → List (List ℕ)) → ℕ → RecordView
 frame_of c inputs n =
-    frame_view c (emission c n) (post_bits c n (frame_shape c inputs n)) (sent_blocks c (plp_blocks c inputs n)) (frame_shape c inputs n)
+    frame_view c (emission c n) (post_bits c n (frame_shape c inputs n)) (sent_blocks c (plp_blocks c inputs n))
+    (frame_shape c inputs n)
 
 -- the frames of a run: whole superframes, until the delay has passed for all packets
 abbrev pub run_frames : Config → (ℕ → List (List ℕ)) → List RecordView

@@ -1,5 +1,6 @@
 -- Laws of frames, of records and of what is given back.
-use Rattle.std.specs.Prelude.{◌≡◌, ◌⊎◌, ◌↔◌, ◌<◌, ◌≤◌, ◌^◌, ◌*◌, ◌+◌, ◌-◌, ◌%◌, ℕ, Bool, true, false, List, [], length, map, sum_by, slice_get, Some, option_map, sum}
+use Rattle.std.specs.Prelude.{◌≡◌, ◌⊎◌, ◌↔◌, ◌<◌, ◌≤◌, ◌^◌, ◌*◌, ◌+◌, ◌-◌, ◌%◌, ℕ, Bool, true, false, List, [], length, map}
+use Rattle.std.specs.Prelude.{sum_by, slice_get, Some, option_map, sum}
 use Rattle.std.specs.List.{AllByRecursion, Contains, range_with_len}
 use Rattle.plp_config.specs.Places.{places}
 use Rattle.terms.specs.Bits.{bytes_for}
@@ -18,7 +19,8 @@ use Rattle.site_frame.specs.RecordFile.{IsOnGrid}
 use Rattle.site_frame.specs.Whole.{FitsRecord, record_len}
 use Rattle.site_frame.specs.declared.reading.RecordView.TheVariants.{Muted}
 use Rattle.site_frame.specs.Record.{Block, head_len, pre_len}
-use Rattle.frame_records.specs.Frames.{sent_block, sent_blocks, frame_cells, frame_shape, frame_view, frame_of, HasByteIds, run_frames}
+use Rattle.frame_records.specs.Frames.{sent_block, sent_blocks, frame_cells, frame_shape, frame_view, frame_of, HasByteIds}
+use Rattle.frame_records.specs.Frames.{run_frames}
 use Rattle.frame_records.specs.Records.{record_of, records}
 use Rattle.frame_records.specs.Recover.{due_slots, recover}
 use Rattle.mode_adapt.specs.Blocks.{plp_blocks, plp_keeps}
@@ -34,16 +36,20 @@ frame_len c count = head_len + rest_size c (213 + 137 * length c.plps) count
 
 -- So many has that of frame n.
 abbrev pub FrameLength : Type 0
-FrameLength = (c : Config) (inputs : ℕ → List (List ℕ)) (n : ℕ) → record_len (frame_of c inputs n) ≡ frame_len c (λ plp. length (plp_blocks c inputs n plp))
+FrameLength = (c : Config) (inputs : ℕ → List (List ℕ)) (n : ℕ) → record_len (frame_of c inputs n)
+    ≡ frame_len c (λ plp. length (plp_blocks c inputs n plp))
 
 -- The blocks of a frame are counted PLP by PLP: each stands at its ordinal.
 abbrev pub BlockStands : Type 0
-BlockStands = (c : Config) (inputs : ℕ → List (List ℕ)) (n plp block : ℕ) → plp < length c.plps → block < length (plp_blocks c inputs n plp)
-    → slice_get (sent_blocks c (plp_blocks c inputs n)) (ordinal_of (frame_shape c inputs n) plp block) ≡ option_map (sent_block c plp) (slice_get (plp_blocks c inputs n plp) block)
+BlockStands = (c : Config) (inputs : ℕ → List (List ℕ)) (n plp block : ℕ) → plp < length c.plps
+    → block < length (plp_blocks c inputs n plp)
+    → slice_get (sent_blocks c (plp_blocks c inputs n)) (ordinal_of (frame_shape c inputs n) plp block)
+    ≡ option_map (sent_block c plp) (slice_get (plp_blocks c inputs n plp) block)
 
 -- Each cell of each block of a plan's frame stands at its address.
 abbrev pub CellStands : Type 0
-CellStands = (c : Config) (inputs : ℕ → List (List ℕ)) (n plp block cell : ℕ) → IsPlan c → IsCell c (frame_shape c inputs n) plp block cell
+CellStands = (c : Config) (inputs : ℕ → List (List ℕ)) (n plp block cell : ℕ) → IsPlan c
+    → IsCell c (frame_shape c inputs n) plp block cell
     → slice_get (frame_cells c (frame_shape c inputs n)) (address_of c (frame_shape c inputs n) plp block cell)
     ≡ Some (Some (record { ordinal = ordinal_of (frame_shape c inputs n) plp block; cell = cell }))
 
@@ -53,7 +59,8 @@ most_post_bits = 213 + 137 * 255
 
 -- A frame of a plan has 2,071 blocks at most, if its shape passes.
 abbrev pub FewBlocks : Type 0
-FewBlocks = (c : Config) (shape : FrameShape) → IsPlan c → length shape.counts ≡ length c.plps → Passes c shape → sum shape.counts ≤ 2071
+FewBlocks = (c : Config) (shape : FrameShape) → IsPlan c → length shape.counts ≡ length c.plps → Passes c shape
+    → sum shape.counts ≤ 2071
 
 -- PLP_ID is a byte, and the block is no longer than the longest baseband frame.
 abbrev pub IsSentBlock : Block → Type 0
@@ -62,7 +69,8 @@ IsSentBlock b = (b.plp < 2 ^ 8) × (length b.bytes ≤ MOST_BLOCK_BYTES)
 -- Such a frame fits a record, whatever its L1-post and its blocks are, if it has no more blocks than its shape tells.
 abbrev pub EveryFrameFits : Type 0
 EveryFrameFits = (c : Config) (n : ℕ) (post : List Bool) (blocks : List Block) (shape : FrameShape) → IsPlan c → n < 2 ^ 32
-    → length post ≤ most_post_bits → length shape.counts ≡ length c.plps → Passes c shape → length blocks ≤ sum shape.counts → AllByRecursion IsSentBlock blocks
+    → length post ≤ most_post_bits → length shape.counts ≡ length c.plps → Passes c shape → length blocks ≤ sum shape.counts
+    → AllByRecursion IsSentBlock blocks
     → FitsRecord (frame_view c (emission c n) post blocks shape)
 
 -- And so does a muted one.
@@ -71,21 +79,25 @@ MutedFits = (c : Config) (n : ℕ) → IsPlan c → n < 2 ^ 32 → FitsRecord (M
 
 -- The frames of a run fit one: what is written of it spells it, and is read back.
 abbrev pub FrameFits : Type 0
-FrameFits = (c : Config) (inputs : ℕ → List (List ℕ)) (n : ℕ) → IsPlan c → HasByteIds c → n < 2 ^ 31 → FitsRecord (frame_of c inputs n)
+FrameFits = (c : Config) (inputs : ℕ → List (List ℕ)) (n : ℕ) → IsPlan c → HasByteIds c → n < 2 ^ 31
+    → FitsRecord (frame_of c inputs n)
 
 -- So do those of frames in a row, of which those that are not whole are muted.
 abbrev pub RangeFits : Type 0
-RangeFits = (c : Config) (inputs : ℕ → List (List ℕ)) (whole : ℕ → Bool) (first count : ℕ) → IsPlan c → HasByteIds c → first + count ≤ 2 ^ 31
+RangeFits = (c : Config) (inputs : ℕ → List (List ℕ)) (whole : ℕ → Bool) (first count : ℕ) → IsPlan c → HasByteIds c
+    → first + count ≤ 2 ^ 31
     → AllByRecursion FitsRecord (map (record_of c inputs whole) (range_with_len first count))
 
 -- Records are on the grid, and the first one begins a superframe.
 pub record StandsOnGrid (c : Config) (inputs : ℕ → List (List ℕ)) (whole : ℕ → Bool) (end : ℕ) : Type 0 where
   pub first : ℕ
   pub grid : IsOnGrid c first (records c inputs whole end)
-  pub begins : (records c inputs whole end ≡ []) ⊎ ((first % c.frames ≡ 0) × (whole first ≡ true) × (first + length (records c inputs whole end) ≡ end))
+  pub begins : (records c inputs whole end ≡ [])
+      ⊎ ((first % c.frames ≡ 0) × (whole first ≡ true) × (first + length (records c inputs whole end) ≡ end))
 
 abbrev pub RecordsOnGrid : Type 0
-RecordsOnGrid = (c : Config) (inputs : ℕ → List (List ℕ)) (whole : ℕ → Bool) (end : ℕ) → end ≤ 2 ^ 31 → StandsOnGrid c inputs whole end
+RecordsOnGrid = (c : Config) (inputs : ℕ → List (List ℕ)) (whole : ℕ → Bool) (end : ℕ) → end ≤ 2 ^ 31
+    → StandsOnGrid c inputs whole end
 
 -- The records of a plan's frames fit too.
 abbrev pub RecordsFit : Type 0
@@ -94,15 +106,18 @@ RecordsFit = (c : Config) (inputs : ℕ → List (List ℕ)) (whole : ℕ → Bo
 
 -- If every frame is whole, the records are the frames of the run.
 abbrev pub AllWhole : Type 0
-AllWhole = (c : Config) (inputs : ℕ → List (List ℕ)) → records c inputs (λ n. true) (frame_count c (λ plp. length (inputs plp))) ≡ run_frames c inputs
+AllWhole = (c : Config) (inputs : ℕ → List (List ℕ)) → records c inputs (λ n. true) (frame_count c (λ plp. length (inputs plp)))
+    ≡ run_frames c inputs
 
 -- If no frame is muted and each packet that is not kept is the canonical null packet, the packets of the slots come back.
 abbrev pub NoneLost : Type 0
-NoneLost = (c : Config) (plp ticks : ℕ) (at : ℕ → List ℕ) (first count : ℕ) → ((k : ℕ) → plp_keeps c plp at k ≡ false → at k ≡ null_packet)
+NoneLost = (c : Config) (plp ticks : ℕ) (at : ℕ → List ℕ) (first count : ℕ)
+    → ((k : ℕ) → plp_keeps c plp at k ≡ false → at k ≡ null_packet)
     → recover c plp ticks at (λ m. false) first count ≡ map at (due_slots c plp ticks first count)
 
--- A slot is due exactly if it was not over when the frame in front of the first one begins, and its packet is given out once the last
--- one has ended.
+-- A slot is due exactly if it was not over when the frame in front of the first one begins, and its packet is given out once the
+-- last one has ended.
 abbrev pub DueReleased : Type 0
 DueReleased = (c : Config) (plp first count last slot : ℕ) → AllRules c → plp < length c.plps → first + count ≡ last + 1
-    → Contains (due_slots c plp c.ticks first count) slot ↔ ((slots_by c plp ((first - 1) * c.ticks) ≤ slot) × IsReleased c plp last slot)
+    → Contains (due_slots c plp c.ticks first count) slot
+    ↔ ((slots_by c plp ((first - 1) * c.ticks) ≤ slot) × IsReleased c plp last slot)

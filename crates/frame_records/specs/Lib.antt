@@ -4,6 +4,7 @@ pub mod Recover
 pub mod Networks
 pub mod Laws
 pub mod Counted
+-- of the crates below, for those who read this one
 pub use Rattle.terms.specs.Bits
 pub use Rattle.plp_config.specs.Capacity
 pub use Rattle.plp_config.specs.Emission

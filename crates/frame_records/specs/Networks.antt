@@ -6,7 +6,7 @@ use Rattle.plp_config.specs.declared.config.L1Numbers.{L1Numbers}
 use Rattle.plp_config.specs.declared.plp.FecSize.TheVariants.{Short, Normal}
 use Rattle.plp_config.specs.declared.plp.Modulation.TheVariants.{Qpsk, Qam256}
 use Rattle.plp_config.specs.declared.plp.Plp.{Plp}
-use Rattle.plp_config.specs.declared.plp.PlpKind.TheVariants.{Type1}
+use Rattle.plp_config.specs.declared.plp.PlpType.TheVariants.{Type1}
 use Rattle.plp_config.specs.declared.plp.Rate.TheVariants.{R1_2, R2_3}
 use Rattle.ts_packet.specs.declared.sizes.TheConstants.{SYNC}
 
@@ -49,7 +49,7 @@ network ticks cells plp = record {
 abbrev pub small_plp : ℕ → ℕ → Plp
 small_plp blocks rate = record {
   id = 0;
-  kind = Type1;
+  plp_type = Type1;
   group = 1;
   rate = R1_2;
   modulation = Qpsk;
@@ -72,7 +72,7 @@ narrow_network = network 100000 40000 (small_plp 3 1906000)
 abbrev pub large_network : Config
 large_network = network 2049536 1700000 (record {
   id = 0;
-  kind = Type1;
+  plp_type = Type1;
   group = 1;
   rate = R2_3;
   modulation = Qam256;

@@ -14,7 +14,7 @@ abbrev pub body_block : ℕ → Body → Option (List Bool)
 body_block id (Block frame_idx plp first bits) = if plp == id then Some bits else None
 body_block id (L1Current frame_idx pre conf dynamic extension) = None
 body_block id (Timestamp stamp) = None
-body_block id (Other kind bits) = None
+body_block id (Other packet_type bits) = None
 
 -- the baseband frames of the PLP at a place
 abbrev pub blocks_of : Config → ℕ → List Packet → List (List Bool)
@@ -36,9 +36,10 @@ pub record L1Parts : Type 0 where
 
 abbrev pub body_l1 : Body → Option L1Parts
 body_l1 (Block frame_idx plp first bits) = None
-body_l1 (L1Current frame_idx pre conf dynamic extension) = Some (record { pre = pre; conf = conf; dynamic = dynamic; extension = extension })
+body_l1 (L1Current frame_idx pre conf dynamic extension) =
+    Some (record { pre = pre; conf = conf; dynamic = dynamic; extension = extension })
 body_l1 (Timestamp stamp) = None
-body_l1 (Other kind bits) = None
+body_l1 (Other packet_type bits) = None
 
 -- the L1 signalling
 abbrev pub l1s_of : List Packet → List L1Parts
@@ -48,7 +49,7 @@ abbrev pub body_stamp : Body → Option Stamp
 body_stamp (Block frame_idx plp first bits) = None
 body_stamp (L1Current frame_idx pre conf dynamic extension) = None
 body_stamp (Timestamp stamp) = Some stamp
-body_stamp (Other kind bits) = None
+body_stamp (Other packet_type bits) = None
 
 -- the timestamps
 abbrev pub stamps_of : List Packet → List Stamp

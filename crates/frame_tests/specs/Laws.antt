@@ -25,8 +25,8 @@ use Rattle.frame_tests.specs.Tests.{read_whole, same_told, conf_agrees, parts_ag
 abbrev pub MapPasses : Type 0
 MapPasses = (c : Config) (shape : FrameShape) → (map_passes c shape ≡ true) ↔ Passes c shape
 
--- An L1-current is one of frame n: it spells the configuration's L1-pre and configurable part, and a dynamic part with FRAME_IDX of
--- the frame and the identifiers in order.
+-- An L1-current is one of frame n: it spells the configuration's L1-pre and configurable part, and a dynamic part with FRAME_IDX
+-- of the frame and the identifiers in order.
 pub record IsOfFrame (c : Config) (n : ℕ) (l1 : L1Parts) : Type 0 where
   pub pre : PreSpells (pre_of c) l1.pre
   pub conf : ConfSpells (conf_of c) l1.conf
@@ -41,7 +41,8 @@ PreValues = (x y : L1Pre) → (same_told pre_rows x y ≡ true) ↔ (x ≡ y)
 
 -- The test of a configurable part says whether it spells the configuration's values.
 abbrev pub ConfTold : Type 0
-ConfTold = (c : Config) (bits : List Bool) → (conf_agrees c (read_whole (conf_read (info_size (length c.plps)) bits)) ≡ true) ↔ ConfSpells (conf_of c) bits
+ConfTold = (c : Config) (bits : List Bool) → (conf_agrees c (read_whole (conf_read (info_size (length c.plps)) bits)) ≡ true)
+    ↔ ConfSpells (conf_of c) bits
 
 -- The test of an L1-current says whether it is one.
 abbrev pub PartsTold : Type 0

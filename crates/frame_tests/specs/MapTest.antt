@@ -13,7 +13,9 @@ each_below n test = list_all test (range_with_len 0 n)
 
 -- each cell of a frame passes a test
 abbrev pub each_cell : Config → FrameShape → (ℕ → ℕ → ℕ → Bool) → Bool
-each_cell c shape test = each_below (length c.plps) (λ plp. each_below (slice_index shape.counts plp) (λ block. each_below (block_cells c plp) (test plp block)))
+each_cell c shape test =
+    each_below (length c.plps)
+    (λ plp. each_below (slice_index shape.counts plp) (λ block. each_below (block_cells c plp) (test plp block)))
 
 -- a cell has an address in the frame
 abbrev pub is_within : Config → FrameShape → ℕ → ℕ → ℕ → Bool

@@ -1,5 +1,6 @@
 -- What the tests need of packets, packet by packet: two numbers for each PLP, one L1-current, two timestamps and two answers.
-use Rattle.std.specs.Prelude.{ℕ, ◌+◌, ◌*◌, ◌==◌, ◌&&◌, ◌||◌, not, nat_le, is_some, Bool, true, false, List, [], ◌∷◌, length, map, sum_by, slice_get, slice_index, Option, Some, None, option_map, if◌then◌else◌}
+use Rattle.std.specs.Prelude.{ℕ, ◌+◌, ◌*◌, ◌==◌, ◌&&◌, ◌||◌, not, nat_le, is_some, Bool, true, false, List, [], ◌∷◌, length, map}
+use Rattle.std.specs.Prelude.{sum_by, slice_get, slice_index, Option, Some, None, option_map, if◌then◌else◌}
 use Rattle.std.specs.List.{find, list_all}
 use Rattle.std.specs.Option.{option_or, option_and_then, option_map_or}
 use Rattle.plp_config.specs.Places.{places}
@@ -12,7 +13,8 @@ use Rattle.t2mi_packet.specs.declared.packet.Stamp.{Stamp}
 use Rattle.frame_groups.specs.declared.cause.MuteCause.{MuteCause}
 use Rattle.frame_groups.specs.declared.cause.MuteCause.TheVariants.{PacketMissing, L1Refused, MapRefused, PoolFull}
 use Rattle.frame_tests.specs.Carried.{blocks_of, right_blocks, L1Parts, l1s_of, stamps_of}
-use Rattle.frame_tests.specs.Tests.{unless, begins_superframe, pool_chunks, capped, same_parts, parts_agree, l1_shape, stamp_agrees, disagrees, is_known, has_map}
+use Rattle.frame_tests.specs.Tests.{unless, begins_superframe, pool_chunks, capped, same_parts, parts_agree, l1_shape}
+use Rattle.frame_tests.specs.Tests.{stamp_agrees, disagrees, is_known, has_map}
 
 pub record Tally : Type 0 where
   pub right : List ℕ  -- of each PLP, its blocks that have its length
@@ -110,4 +112,5 @@ tally_map c t = unless (has_map c (tally_shape c t)) MapRefused
 unfoldable pub tally_fault : Config → ℕ → Tally → Option MuteCause
 tally_fault c n t =
     option_or (tally_pool c t)
-    (option_or (tally_missing c n t) (option_or (tally_l1 c n t) (option_or (tally_time c n t) (option_or (tally_blocks c t) (tally_map c t)))))
+    (option_or (tally_missing c n t)
+    (option_or (tally_l1 c n t) (option_or (tally_time c n t) (option_or (tally_blocks c t) (tally_map c t)))))

@@ -1,5 +1,8 @@
--- Why the packets of a group are not those of a frame: the first of our six tests that fails. The fields are those of ETSI TS 102 773, clause 5.
-use Rattle.std.specs.Prelude.{ℕ, ◌*◌, ◌/◌, ◌%◌, ◌-◌, ◌^◌, ◌==◌, ◌&&◌, ◌||◌, not, min, nat_eq, nat_lt, nat_le, Bool, true, false, List, [], ◌∷◌, length, map, sum_by, slice_get, slice_index, Option, Some, None, option_map, Ok, Err, if◌then◌else◌}
+-- Why the packets of a group are not those of a frame: the first of our six tests that fails. The fields are those of ETSI TS 102
+-- 773, clause 5.
+use Rattle.std.specs.Prelude.{ℕ, ◌*◌, ◌/◌, ◌%◌, ◌-◌, ◌^◌, ◌==◌, ◌&&◌, ◌||◌, not, min, nat_eq, nat_lt, nat_le, Bool, true, false}
+use Rattle.std.specs.Prelude.{List, [], ◌∷◌, length, map, sum_by, slice_get, slice_index, Option, Some, None, option_map, Ok, Err}
+use Rattle.std.specs.Prelude.{if◌then◌else◌}
 use Rattle.std.specs.Bool.{beq}
 use Rattle.std.specs.Cmp.Lexicographic.{pointwise}
 use Rattle.std.specs.List.{find, list_any, list_all}
@@ -60,16 +63,19 @@ capped n = min n greatest
 
 -- a: these blocks have room
 unfoldable pub pool_test : Config → List Packet → Option MuteCause
-pool_test c packets = unless (nat_le (pool_need c packets) (pool_chunks c)) (PoolFull (capped (pool_need c packets)) (pool_chunks c))
+pool_test c packets =
+    unless (nat_le (pool_need c packets) (pool_chunks c)) (PoolFull (capped (pool_need c packets)) (pool_chunks c))
 
 -- b: there is an L1-current, and a timestamp if a superframe begins (clauses 5.2.4 and 5.2.7)
 unfoldable pub missing_test : Config → ℕ → List Packet → Option MuteCause
 missing_test c n packets =
-    unless (nat_lt 0 (length (l1s_of packets)) && (not (begins_superframe c n) || nat_lt 0 (length (stamps_of packets)))) PacketMissing
+    unless (nat_lt 0 (length (l1s_of packets)) && (not (begins_superframe c n) || nat_lt 0 (length (stamps_of packets))))
+    PacketMissing
 
 -- two L1-current packets are the same
 abbrev pub same_parts : L1Parts → L1Parts → Bool
-same_parts a b = pointwise beq a.pre b.pre && pointwise beq a.conf b.conf && pointwise beq a.dynamic b.dynamic && pointwise beq a.extension b.extension
+same_parts a b = pointwise beq a.pre b.pre && pointwise beq a.conf b.conf && pointwise beq a.dynamic b.dynamic && pointwise beq
+    a.extension b.extension
 
 -- what is read of bits, if nothing is left of them
 abbrev pub read_whole : {A : Type 0} → Reading A → Option A
@@ -87,7 +93,8 @@ pre_agrees c (Some pre) = same_told pre_rows pre (pre_of c)
 
 -- a configurable part is the configuration's (clause 7.2.3.1)
 abbrev pub same_conf : L1Conf → L1Conf → Bool
-same_conf x y = same_told conf_first_rows x y && same_told conf_more_rows x y && pointwise (same_told conf_plp_rows) x.plps y.plps && same_told conf_back_rows x y
+same_conf x y = same_told conf_first_rows x y && same_told conf_more_rows x y && pointwise
+    (same_told conf_plp_rows) x.plps y.plps && same_told conf_back_rows x y
 
 abbrev pub conf_agrees : Config → Option L1Conf → Bool
 conf_agrees c None = false
@@ -96,7 +103,8 @@ conf_agrees c (Some conf) = same_conf conf (conf_of c)
 -- a dynamic part is one of frame n, and has the PLPs in order (clause 7.2.3.2)
 abbrev pub dyn_agrees : Config → ℕ → Option L1Dyn → Bool
 dyn_agrees c n None = false
-dyn_agrees c n (Some dynamic) = (dynamic.frame_idx == n % c.frames) && pointwise nat_eq (map (λ plp. plp.plp_id) dynamic.plps) (map (λ plp. plp.id) c.plps)
+dyn_agrees c n (Some dynamic) = (dynamic.frame_idx == n % c.frames) && pointwise nat_eq (map (λ plp. plp.plp_id) dynamic.plps)
+    (map (λ plp. plp.id) c.plps)
 
 abbrev pub read_dynamic : Config → L1Parts → Option L1Dyn
 read_dynamic c l1 = read_whole (dyn_read (length c.plps) l1.dynamic)
@@ -104,7 +112,8 @@ read_dynamic c l1 = read_whole (dyn_read (length c.plps) l1.dynamic)
 -- each part of an L1-current reads, and is that of the configuration and the frame
 unfoldable pub parts_agree : Config → ℕ → L1Parts → Bool
 parts_agree c n l1 =
-    pre_agrees c (read_whole (pre_reading false l1.pre)) && conf_agrees c (read_whole (conf_read (info_size (length c.plps)) l1.conf)) && dyn_agrees c n (read_dynamic c l1)
+    pre_agrees c (read_whole (pre_reading false l1.pre)) && conf_agrees c
+    (read_whole (conf_read (info_size (length c.plps)) l1.conf)) && dyn_agrees c n (read_dynamic c l1)
 
 abbrev pub l1s_agree : Config → ℕ → List L1Parts → Bool
 l1s_agree c n [] = true
@@ -116,14 +125,16 @@ l1_test c n packets = unless (l1s_agree c n (l1s_of packets)) L1Refused
 
 -- a timestamp tells the bandwidth and the emission of frame n; utco decides nothing
 abbrev pub stamp_agrees : Config → ℕ → Stamp → Bool
-stamp_agrees c n stamp = (stamp.bw == bw c.band) && (stamp.seconds == (emission c n).seconds) && (stamp.subseconds == (emission c n).subseconds)
+stamp_agrees c n stamp =
+    (stamp.bw == bw c.band) && (stamp.seconds == (emission c n).seconds) && (stamp.subseconds == (emission c n).subseconds)
 
 abbrev pub disagrees : Config → ℕ → Stamp → MuteCause
 disagrees c n stamp = TimeDisagrees stamp (emission c n)
 
 -- d: if a superframe begins, each timestamp does; the first that does not is told
 unfoldable pub time_test : Config → ℕ → List Packet → Option MuteCause
-time_test c n packets = if begins_superframe c n then option_map (disagrees c n) (find (λ s. not (stamp_agrees c n s)) (stamps_of packets)) else None
+time_test c n packets = if begins_superframe c n
+    then option_map (disagrees c n) (find (λ s. not (stamp_agrees c n s)) (stamps_of packets)) else None
 
 -- the shape that the dynamic part of an L1-current tells, if it reads
 abbrev pub l1_shape : Config → L1Parts → Option FrameShape
@@ -140,10 +151,11 @@ has_counts c packets (Some shape) = list_all (λ plp. length (blocks_of c plp pa
 
 -- if a packet carries a block, it is one of a PLP, with its length
 abbrev pub body_known : Config → Body → Bool
-body_known c (Block frame_idx id first bits) = list_any (λ plp. (id == (plp_at c.plps plp).id) && has_length c plp bits) (places c)
+body_known c (Block frame_idx id first bits) = list_any (λ plp. (id == (plp_at c.plps plp).id) && has_length c plp bits)
+    (places c)
 body_known c (L1Current frame_idx pre conf dynamic extension) = true
 body_known c (Timestamp stamp) = true
-body_known c (Other kind bits) = true
+body_known c (Other packet_type bits) = true
 
 abbrev pub is_known : Config → Packet → Bool
 is_known c p = body_known c p.body
@@ -164,7 +176,9 @@ map_test c packets = unless (has_map c (first_shape c packets)) MapRefused
 unfoldable pub packets_fault : Config → ℕ → List Packet → Option MuteCause
 packets_fault c n packets =
     option_or (pool_test c packets)
-    (option_or (missing_test c n packets) (option_or (l1_test c n packets) (option_or (time_test c n packets) (option_or (blocks_test c packets) (map_test c packets)))))
+    (option_or (missing_test c n packets)
+    (option_or (l1_test c n packets)
+    (option_or (time_test c n packets) (option_or (blocks_test c packets) (map_test c packets)))))
 
 abbrev pub group_fault : Config → Group → ℕ → Option MuteCause
 group_fault c g n = packets_fault c n g.packets
@@ -178,7 +192,8 @@ abbrev pub passed : Config → Moment → ℕ
 passed c moment = subseconds_by c moment - origin c
 
 abbrev pub is_on_grid : Config → Moment → Bool
-is_on_grid c moment = nat_lt moment.subseconds (subseconds_per_second c.band) && nat_le (origin c) (subseconds_by c moment) && (passed c moment % frame_subseconds c == 0)
+is_on_grid c moment = nat_lt moment.subseconds (subseconds_per_second c.band) && nat_le (origin c)
+    (subseconds_by c moment) && (passed c moment % frame_subseconds c == 0)
 
 abbrev pub frames_passed : Config → Moment → ℕ
 frames_passed c moment = passed c moment / frame_subseconds c
@@ -186,7 +201,8 @@ frames_passed c moment = passed c moment / frame_subseconds c
 -- the frame of a run that leaves at a moment and has a key
 unfoldable pub frame_with : Config → Key → Moment → Option ℕ
 frame_with c key moment =
-    if is_on_grid c moment && nat_lt (frames_passed c moment) MOST_FRAMES && is_same (frame_key c.frames (frames_passed c moment)) key then Some (frames_passed c moment) else None
+    if is_on_grid c moment && nat_lt (frames_passed c moment) MOST_FRAMES && is_same (frame_key c.frames (frames_passed c moment))
+    key then Some (frames_passed c moment) else None
 
 -- the frame that the first timestamp of a group names: it has the emission that this tells, and the group's key
 abbrev pub named_frame : Config → Group → Option ℕ

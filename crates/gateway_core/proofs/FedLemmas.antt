@@ -1,5 +1,7 @@
 -- An input takes packets, and its chain null packets behind them.
-use Rattle.std.proofs.Common.{◌≡◌, ℕ, zero, suc, ◌+◌, ◌-◌, ◌*◌, ◌<◌, ◌≤◌, Bool, true, false, cond, List, [], ◌∷◌, ◌++◌, Option, Some, None, length, map, replicate, is_some, refl, ap, sym, subst, ◌∙◌, arith, append-nil, append_assoc, max, inl, inr}
+use Rattle.std.proofs.Common.{◌≡◌, ℕ, zero, suc, ◌+◌, ◌-◌, ◌*◌, ◌<◌, ◌≤◌, Bool, true, false, cond, List, [], ◌∷◌, ◌++◌, Option}
+use Rattle.std.proofs.Common.{Some, None, length, map, replicate, is_some, refl, ap, sym, subst, ◌∙◌, arith, append-nil}
+use Rattle.std.proofs.Common.{append_assoc, max, inl, inr}
 use Rattle.std.proofs.Math.Nat.{mul-le-mul_right}
 use Rattle.std.specs.Prelude.{slice_index_or, Result, Ok, Err, OnOk, OnErr}
 use Rattle.std.proofs.lemmas.Bool.{cases_eq}
@@ -28,11 +30,13 @@ use Rattle.gateway_core.specs.ChainSteps.{Takes, Ends}
 use Rattle.gateway_core.specs.InputsStandFor.{Cuts}
 use Rattle.gateway_core.specs.Lists.{bits_in, AllShort}
 
-offered_push : (events : List queue.Event) (x : List ℕ) → queue.offered (events ++ queue.Offered x ∷ []) ≡ queue.offered events ++ x ∷ []
+offered_push : (events : List queue.Event) (x : List ℕ) → queue.offered (events ++ queue.Offered x ∷ []) ≡ queue.offered events
+    ++ x ∷ []
 offered_push events x = flat_map-append packet_of events (queue.Offered x ∷ [])
 
 cuts_stay : (events : List queue.Event) (x : List ℕ) → queue.cuts (events ++ queue.Offered x ∷ []) ≡ queue.cuts events
-cuts_stay events x = let e = sum_by-append (λ (e : queue.Event). cond (is_cut e) 1 0) events (queue.Offered x ∷ []) in omega (arith, e)
+cuts_stay events x = let e = sum_by-append (λ (e : queue.Event). cond (is_cut e) 1 0) events (queue.Offered x ∷ []) in
+    omega (arith, e)
 
 offered_stay : (events : List queue.Event) → queue.offered (events ++ queue.Cut ∷ []) ≡ queue.offered events
 offered_stay events = flat_map-append packet_of events (queue.Cut ∷ []) ∙ append-nil (queue.offered events)
@@ -45,56 +49,72 @@ pub record Wants (b : Bool) (gap : ℕ) : Type 0 where
   pub still : b ≡ false
   pub some : 0 < gap
 
-pub wants : (total : Option ℕ) (b : Bool) (n gap : ℕ) → 0 < cond (is_some total) 0 gap → total ≡ cond b (Some n) None → Wants b gap
-wants total true n gap lt e = absurd (let z : 0 < 0 = subst (λ (o : Option ℕ). 0 < cond (is_some o) 0 gap) e lt in omega (arith, z))
+pub wants : (total : Option ℕ) (b : Bool) (n gap : ℕ) → 0 < cond (is_some total) 0 gap → total ≡ cond b (Some n) None
+    → Wants b gap
+wants total true n gap lt e = absurd (let z : 0 < 0 = subst (λ (o : Option ℕ). 0 < cond (is_some o) 0 gap) e lt in
+    omega (arith, z))
 wants total false n gap lt e = record { still = refl; some = subst (λ (o : Option ℕ). 0 < cond (is_some o) 0 gap) e lt }
 
-room : (chain : Chain) (due slot : ℕ) (total : Option ℕ) (c : Config) (plp : ℕ) (t : Told) (early : List (List Bool)) (h : Fed chain due slot total c plp t early)
+room : (chain : Chain) (due slot : ℕ) (total : Option ℕ) (c : Config) (plp : ℕ) (t : Told) (early : List (List Bool))
+    (h : Fed chain due slot total c plp t early)
     → slot < due → HasRoom c plp h.events
 room chain due slot total c plp t early h lt = rw (h.cuts, ← h.slot_is, ← h.due_is) lt
 
-is_due : (chain : Chain) (due slot : ℕ) (total : Option ℕ) (c : Config) (plp : ℕ) (t : Told) (early : List (List Bool)) (h : Fed chain due slot total c plp t early)
+is_due : (chain : Chain) (due slot : ℕ) (total : Option ℕ) (c : Config) (plp : ℕ) (t : Told) (early : List (List Bool))
+    (h : Fed chain due slot total c plp t early)
     → slot ≡ due → IsDue c plp h.events
 is_due chain due slot total c plp t early h e = rw (h.cuts, ← h.slot_is, ← h.due_is) e
 
-one_more : (packets : List (List ℕ)) (x : List ℕ) (n : ℕ) → n ≡ 0 → (packets ++ replicate n null_packet) ++ x ∷ [] ≡ (packets ++ x ∷ []) ++ replicate n null_packet
+one_more : (packets : List (List ℕ)) (x : List ℕ) (n : ℕ) → n ≡ 0 → (packets ++ replicate n null_packet) ++ x ∷ []
+    ≡ (packets ++ x ∷ []) ++ replicate n null_packet
 one_more packets x n e = rw (e, append-nil packets, append-nil (packets ++ x ∷ [])) refl
 
-pub fed_offer : (old new : Chain) (due slot : ℕ) (total : Option ℕ) (c : Config) (plp : ℕ) (t : Told) (packet : List ℕ) (was is : State) (list : ℕ) → Takes old new packet was is list → HasPlace c plp was list
-    → 0 < cond (is_some total) 0 (due - slot) → Fed old due slot total c plp t (bits_in was list) → Fed new due (slot + 1) total c plp (with_packet t packet) (bits_in is list)
+pub fed_offer : (old new : Chain) (due slot : ℕ) (total : Option ℕ) (c : Config) (plp : ℕ) (t : Told) (packet : List ℕ)
+    (was is : State) (list : ℕ) → Takes old new packet was is list → HasPlace c plp was list
+    → 0 < cond (is_some total) 0 (due - slot) → Fed old due slot total c plp t (bits_in was list)
+    → Fed new due (slot + 1) total c plp (with_packet t packet) (bits_in is list)
 fed_offer old new due slot total c plp t packet was is list takes place lt h =
     let w = wants total t.ended (length t.packets) (due - slot) lt h.total_is in
     let before : slot < due = omega (arith, w.some) in
     let ended : t.ended ≡ false = w.still in
-    let took = takes c plp h.events place (room old due slot total c plp t (bits_in was list) h before) (record { stands = h.stands; early = h.early_is }) in
+    let took = takes c plp h.events place (room old due slot total c plp t (bits_in was list) h before)
+    (record { stands = h.stands; early = h.early_is }) in
     record {
       events = h.events ++ queue.Offered packet ∷ [];
       stands = took.stands;
       nulls = h.nulls;
-      given = offered_push h.events packet ∙ ap (λ (l : List (List ℕ)). l ++ packet ∷ []) h.given ∙ one_more t.packets packet h.nulls (h.still w.still);
+      given = offered_push h.events packet ∙ ap (λ (l : List (List ℕ)). l ++ packet ∷ []) h.given
+          ∙ one_more t.packets packet h.nulls (h.still w.still);
       cuts = cuts_stay h.events packet ∙ h.cuts;
       due_is = h.due_is;
-      slot_is = ap (λ (n : ℕ). n + 1) h.slot_is ∙ sym (length_push (queue.offered h.events) packet) ∙ sym (ap length (offered_push h.events packet));
+      slot_is = ap (λ (n : ℕ). n + 1) h.slot_is ∙ sym (length_push (queue.offered h.events) packet)
+          ∙ sym (ap length (offered_push h.events packet));
       total_is = h.total_is ∙ rw ended refl;
       still = h.still;
       early_is = took.early;
     }
 
-null_more : (packets : List (List ℕ)) (n : ℕ) → (packets ++ replicate n null_packet) ++ null_packet ∷ [] ≡ packets ++ replicate (n + 1) null_packet
-null_more packets n = append_assoc packets (replicate n null_packet) (null_packet ∷ []) ∙ ap (λ (l : List (List ℕ)). packets ++ l) (replicate_more n null_packet)
+null_more : (packets : List (List ℕ)) (n : ℕ) → (packets ++ replicate n null_packet) ++ null_packet ∷ []
+    ≡ packets ++ replicate (n + 1) null_packet
+null_more packets n = append_assoc packets (replicate n null_packet) (null_packet ∷ []) ∙ ap (λ (l : List (List ℕ)). packets ++ l)
+    (replicate_more n null_packet)
 
-pub fed_null : (old new : Chain) (due slot : ℕ) (total : Option ℕ) (c : Config) (plp : ℕ) (t : Told) (was is : State) (list : ℕ) → Takes old new null_packet was is list → HasPlace c plp was list → t.ended ≡ true
+pub fed_null : (old new : Chain) (due slot : ℕ) (total : Option ℕ) (c : Config) (plp : ℕ) (t : Told) (was is : State) (list : ℕ)
+    → Takes old new null_packet was is list → HasPlace c plp was list → t.ended ≡ true
     → slot < due → Fed old due slot total c plp t (bits_in was list) → Fed new due (slot + 1) total c plp t (bits_in is list)
 fed_null old new due slot total c plp t was is list takes place ended before h =
-    let took = takes c plp h.events place (room old due slot total c plp t (bits_in was list) h before) (record { stands = h.stands; early = h.early_is }) in
+    let took = takes c plp h.events place (room old due slot total c plp t (bits_in was list) h before)
+    (record { stands = h.stands; early = h.early_is }) in
     record {
       events = h.events ++ queue.Offered null_packet ∷ [];
       stands = took.stands;
       nulls = h.nulls + 1;
-      given = offered_push h.events null_packet ∙ ap (λ (l : List (List ℕ)). l ++ null_packet ∷ []) h.given ∙ null_more t.packets h.nulls;
+      given = offered_push h.events null_packet ∙ ap (λ (l : List (List ℕ)). l ++ null_packet ∷ []) h.given
+          ∙ null_more t.packets h.nulls;
       cuts = cuts_stay h.events null_packet ∙ h.cuts;
       due_is = h.due_is;
-      slot_is = ap (λ (n : ℕ). n + 1) h.slot_is ∙ sym (length_push (queue.offered h.events) null_packet) ∙ sym (ap length (offered_push h.events null_packet));
+      slot_is = ap (λ (n : ℕ). n + 1) h.slot_is ∙ sym (length_push (queue.offered h.events) null_packet)
+          ∙ sym (ap length (offered_push h.events null_packet));
       total_is = h.total_is;
       still = λ off. absurd (let z : true ≡ false = sym ended ∙ off in cc);
       early_is = took.early;
@@ -111,7 +131,8 @@ null_slots (p ∷ ps) n zero = refl
 null_slots (p ∷ ps) n (suc k) = null_slots ps n k
 
 -- the packets that a chain was given are those of the input
-same_slots : (packets rest : List (List ℕ)) (ended : Bool) (n k : ℕ) → (ended ≡ false → n ≡ 0) → (ended ≡ true → rest ≡ []) → k < length (packets ++ replicate n null_packet)
+same_slots : (packets rest : List (List ℕ)) (ended : Bool) (n k : ℕ) → (ended ≡ false → n ≡ 0) → (ended ≡ true → rest ≡ [])
+    → k < length (packets ++ replicate n null_packet)
     → packet_at (packets ++ replicate n null_packet) k ≡ packet_at (packets ++ rest) k
 same_slots packets rest true n k still whole lt = null_slots packets n k ∙ sym (rw (whole refl, append-nil packets) refl)
 same_slots packets rest false n k still whole lt =
@@ -120,19 +141,24 @@ same_slots packets rest false n k still whole lt =
     rw none (sym (get_or_append_left packets rest null_packet k inside))
 
 -- the packets of the slots that are over are those of any input that continues
-given_blocks : BlocksLaw → (old : Chain) (due slot : ℕ) (total : Option ℕ) (c : Config) (plp : ℕ) (t : Told) (early : List (List Bool)) (h : Fed old due slot total c plp t early) (input : List (List ℕ)) → IsPlan c
-    → plp < length c.plps → slot ≡ due → Continues t input → blocks_of c plp c.ticks (packet_at (queue.offered h.events)) t.frame ≡ blocks_of c plp c.ticks (packet_at input) t.frame
+given_blocks : BlocksLaw → (old : Chain) (due slot : ℕ) (total : Option ℕ) (c : Config) (plp : ℕ) (t : Told)
+    (early : List (List Bool)) (h : Fed old due slot total c plp t early) (input : List (List ℕ)) → IsPlan c
+    → plp < length c.plps → slot ≡ due → Continues t input → blocks_of c plp c.ticks (packet_at (queue.offered h.events)) t.frame
+    ≡ blocks_of c plp c.ticks (packet_at input) t.frame
 given_blocks law old due slot total c plp t early h input plan lt e more =
     law c plp (packet_at (queue.offered h.events)) (packet_at input) t.frame plan lt (λ k inside.
     let within : k < length (t.packets ++ replicate h.nulls null_packet) = rw (← h.given, ← h.slot_is, e, h.due_is) inside in
     rw (h.given, more.front) (same_slots t.packets more.rest t.ended h.nulls k h.still more.whole within))
 
 -- What the end of a frame leaves.
-pub fed_cut : BlocksLaw → (old new : Chain) (due slot next : ℕ) (total : Option ℕ) (c : Config) (plp : ℕ) (t : Told) (was is : State) (list count : ℕ) → Ends old new was is list count → IsPlan c → plp < length c.plps
-    → HasPlace c plp was list → slot ≡ due → next ≡ slots_by c plp ((t.frame + 1) * c.ticks) → Fed old due slot total c plp t (bits_in was list)
+pub fed_cut : BlocksLaw → (old new : Chain) (due slot next : ℕ) (total : Option ℕ) (c : Config) (plp : ℕ) (t : Told)
+    (was is : State) (list count : ℕ) → Ends old new was is list count → IsPlan c → plp < length c.plps
+    → HasPlace c plp was list → slot ≡ due → next ≡ slots_by c plp ((t.frame + 1) * c.ticks)
+    → Fed old due slot total c plp t (bits_in was list)
     → Cuts new next slot total c plp t is count
 fed_cut law old new due slot next total c plp t was is list count ends plan lt place e n h =
-    let end = ends c plp h.events place (is_due old due slot total c plp t (bits_in was list) h e) (record { stands = h.stands; early = h.early_is }) in
+    let end = ends c plp h.events place (is_due old due slot total c plp t (bits_in was list) h e)
+    (record { stands = h.stands; early = h.early_is }) in
     let here : list_at is plp ≡ list_at is list = ap (list_at is) (sym place.place) in
     record {
       fed = record {
@@ -147,13 +173,15 @@ fed_cut law old new due slot next total c plp t was is list count ends plan lt p
         still = h.still;
         early_is = end.next.early;
       };
-      blocks = λ input more. ap (map bits_of) here ∙ end.blocks_are ∙ ap (blocks_of c plp c.ticks (packet_at (queue.offered h.events))) h.cuts
+      blocks = λ input more. ap (map bits_of) here ∙ end.blocks_are
+          ∙ ap (blocks_of c plp c.ticks (packet_at (queue.offered h.events))) h.cuts
           ∙ given_blocks law old due slot total c plp t (bits_in was list) h input plan lt e more;
       count_is = end.count_is ∙ ap length (sym here);
     }
 
 -- at the next frame no fewer slots are over
-pub next_due : CountRises → SlotLength → (c : Config) (plp m due next : ℕ) → AllRules c → plp < length c.plps → due ≡ slots_by c plp (m * c.ticks)
+pub next_due : CountRises → SlotLength → (c : Config) (plp m due next : ℕ) → AllRules c → plp < length c.plps
+    → due ≡ slots_by c plp (m * c.ticks)
     → next ≡ slots_by c plp ((m + 1) * c.ticks) → max due next ≡ next
 next_due rises slot c plp m due next rules lt e f =
     let s = slot c plp rules lt in
@@ -162,16 +190,29 @@ next_due rises slot c plp m due next rules lt e f =
     let below : due ≤ next = rw (e, f) le in
     omega arith
 
-pub none_due : NoneAtZero → SlotLength → (c : Config) (plp : ℕ) → AllRules c → plp < length c.plps → 0 ≡ slots_by c plp (0 * c.ticks)
+pub none_due : NoneAtZero → SlotLength → (c : Config) (plp : ℕ) → AllRules c → plp < length c.plps
+    → 0 ≡ slots_by c plp (0 * c.ticks)
 none_due none slot c plp rules lt =
     let s = slot c plp rules lt in
     let z : 0 * c.ticks ≡ 0 = omega arith in
     sym (rw z (none (num c) (den c plp) (omega (arith, s.0, s.2))))
 
-pub fed_open : (chain : Chain) (c : Config) (plp : ℕ) → ChainStandsFor chain c plp [] → early_blocks c plp [] ≡ [] → 0 ≡ slots_by c plp (0 * c.ticks)
+pub fed_open : (chain : Chain) (c : Config) (plp : ℕ) → ChainStandsFor chain c plp [] → early_blocks c plp [] ≡ []
+    → 0 ≡ slots_by c plp (0 * c.ticks)
     → Fed chain 0 0 None c plp (record { packets = []; ended = false; frame = 0 }) []
 fed_open chain c plp h none e =
-    record { events = []; stands = h; nulls = 0; given = refl; cuts = refl; due_is = e; slot_is = refl; total_is = refl; still = λ off. refl; early_is = sym none }
+    record {
+      events = [];
+      stands = h;
+      nulls = 0;
+      given = refl;
+      cuts = refl;
+      due_is = e;
+      slot_is = refl;
+      total_is = refl;
+      still = λ off. refl;
+      early_is = sym none;
+    }
 
 -- what follows if a call did not fail
 pub took : {T E P Q : Type 0} (r : Result T E) → OnOk r P → OnErr r Q → (Q → ⊥) → P
@@ -179,7 +220,8 @@ took (Ok x) p q never = p
 took (Err e) p q never = absurd (never q)
 
 -- A pool whose other lists stay has place as before.
-pub place_stays : (c : Config) (plp : ℕ) (was is : State) (list : ℕ) → Others was is list → HasPlace c plp was list → HasPlace c plp is list
+pub place_stays : (c : Config) (plp : ℕ) (was is : State) (list : ℕ) → Others was is list → HasPlace c plp was list
+    → HasPlace c plp is list
 place_stays c plp was is list o h =
     record {
       enough = rw o.opened h.enough;
@@ -196,7 +238,8 @@ others_on was mid is list a b = record {
 }
 
 -- All lists stay short if the one that changes does.
-pub all_short : (was is : State) (list : ℕ) → Others was is list → (AreShort (list_at was list) → AreShort (list_at is list)) → AllShort was → AllShort is
+pub all_short : (was is : State) (list : ℕ) → Others was is list → (AreShort (list_at was list) → AreShort (list_at is list))
+    → AllShort was → AllShort is
 all_short was is list others stays short = λ j.
     elim (cases_eq j list) [
       | inl same ↦ subst (λ (k : ℕ). AreShort (list_at is k)) (sym same) (stays (short list))

@@ -1,5 +1,6 @@
 -- How many frames a run has, and what decides their packets.
-use Rattle.std.proofs.Common.{◌≡◌, ℕ, zero, suc, ◌+◌, ◌-◌, ◌*◌, ◌%◌, ◌<◌, ◌≤◌, Bool, true, List, [], ◌∷◌, ◌++◌, length, map, max, refl, ap, sym, subst, ◌∙◌, inl, inr, arith, append-nil, append_assoc, add-one}
+use Rattle.std.proofs.Common.{◌≡◌, ℕ, zero, suc, ◌+◌, ◌-◌, ◌*◌, ◌%◌, ◌<◌, ◌≤◌, Bool, true, List, [], ◌∷◌, ◌++◌, length, map, max}
+use Rattle.std.proofs.Common.{refl, ap, sym, subst, ◌∙◌, inl, inr, arith, append-nil, append_assoc, add-one}
 use Rattle.std.specs.Int.{div_ceil}
 use Rattle.std.specs.List.{range_with_len}
 use Rattle.std.proofs.lemmas.Bool.{cases_lt}
@@ -18,13 +19,15 @@ use Rattle.gateway_core.specs.Carried.{of_frame}
 use Rattle.gateway_core.specs.Events.{offered}
 use Rattle.gateway_core.specs.Laws.{NotYetLast, FrontsGrow, UnitsLaw, FrontsDecided, LastIsAll}
 use Rattle.mode_adapt.specs.Blocks.{plp_blocks}
-use Rattle.gateway_core.specs.Packets.{l1_body, block_bodies, plp_bodies, with_stamp, counts_of, frame_bodies, bodies_before, packets_from, front_packets}
+use Rattle.gateway_core.specs.Packets.{l1_body, block_bodies, plp_bodies, with_stamp, counts_of, frame_bodies, bodies_before}
+use Rattle.gateway_core.specs.Packets.{packets_from, front_packets}
 use Rattle.gateway_core.specs.Signalling.{pre_part, conf_part, dyn_part}
 use Rattle.gateway_core.proofs.CarriedLemmas.{packets_append}
 use Rattle.gateway_core.proofs.HoldsLemmas.{bodies_more}
 use Rattle.gateway_core.proofs.LeftLemmas.{flat_same}
 
-pub tick_more : (c : Config) (packets : ℕ → ℕ) (plp : ℕ) → last_tick c packets (plp + 1) ≡ max (last_tick c packets plp) (start c plp (packets plp) + delay c plp)
+pub tick_more : (c : Config) (packets : ℕ → ℕ) (plp : ℕ) → last_tick c packets (plp + 1) ≡ max (last_tick c packets plp)
+    (start c plp (packets plp) + delay c plp)
 unfolding last_tick
 tick_more c packets plp = rw (add-one plp) refl
 
@@ -32,7 +35,7 @@ pub tick_none : (c : Config) (packets : ℕ → ℕ) → last_tick c packets 0 �
 unfolding last_tick
 tick_none c packets = refl
 
--- a product by a positive number is less only where the factor is
+-- a product by a positive number is less only if the factor is
 less : (a b n : ℕ) → a * n < b * n → a < b
 less a b n lt = elim (cases_lt a b) [ inl is ↦ is | inr ge ↦ absurd (let p = mul-le-mul_right n ge in omega (arith, p, lt)) ]
 
@@ -43,41 +46,58 @@ not_last least ends over slot c packets plp m plan lt le =
     let e : start c plp (packets plp) + delay c plp ≤ frame_count c packets * c.ticks = count.enough plp lt in
     let a = ends (num c) (den c plp) (packets plp) (omega (arith, s.0)) in
     let b = (over (num c) (den c plp) (packets plp) (m * c.ticks) (omega (arith, s.0, s.2))).0 le in
-    let d : m * c.ticks < start c plp (packets plp) + 1 + div_ceil (num c) (den c plp) = less (m * c.ticks) _ (den c plp) (omega (arith, a, b)) in
-    less (m + 3) (frame_count c packets) c.ticks (let f : (m + 3) * c.ticks ≡ m * c.ticks + 3 * c.ticks = omega arith in omega (arith, e, d, f))
+    let d : m * c.ticks < start c plp (packets plp) + 1 + div_ceil (num c) (den c plp) =
+    less (m * c.ticks) _ (den c plp) (omega (arith, a, b)) in
+    less (m + 3) (frame_count c packets) c.ticks (let f : (m + 3) * c.ticks ≡ m * c.ticks + 3 * c.ticks = omega arith in
+    omega (arith, e, d, f))
 
-bodies_split : (c : Config) (all : ℕ → List (List ℕ)) (n k : ℕ) → (rest : List (ℕ × Body)) × (bodies_before c all (n + k) ≡ bodies_before c all n ++ rest)
+bodies_split : (c : Config) (all : ℕ → List (List ℕ)) (n k : ℕ) → (rest : List (ℕ × Body))
+    × (bodies_before c all (n + k) ≡ bodies_before c all n ++ rest)
 bodies_split c all n zero = let z : n + 0 ≡ n = omega arith in ([], rw z (sym (append-nil (bodies_before c all n))))
 bodies_split c all n (suc k) =
     let was = bodies_split c all n k in
     let z : n + suc k ≡ (n + k) + 1 = omega arith in
-    let last = of_frame (n + k) (frame_bodies c (n + k) (plp_blocks c all (n + k))) in
-    (was.0 ++ last, ap (bodies_before c all) z ∙ bodies_more c all (n + k) ∙ ap (λ (l : List (ℕ × Body)). l ++ last) was.1 ∙ append_assoc (bodies_before c all n) was.0 last)
+    let last = of_frame (n + k) (frame_bodies c (n + k) (plp_blocks c all (n + k))) in (
+      was.0 ++ last,
+      ap (bodies_before c all) z ∙ bodies_more c all (n + k) ∙ ap (λ (l : List (ℕ × Body)). l ++ last) was.1
+          ∙ append_assoc (bodies_before c all n) was.0 last,
+    )
 
 pub fronts_grow : FrontsGrow
 unfolding front_packets
 fronts_grow c inputs n k =
-    let split = bodies_split c inputs n k in
-    (packets_from c (0 + length (bodies_before c inputs n)) split.0, ap (packets_from c 0) split.1 ∙ packets_append c 0 (bodies_before c inputs n) split.0)
+    let split = bodies_split c inputs n k in (
+      packets_from c (0 + length (bodies_before c inputs n)) split.0,
+      ap (packets_from c 0) split.1
+          ∙ packets_append c 0 (bodies_before c inputs n) split.0,
+    )
 
-map_same : (f g : ℕ → ℕ) (a k : ℕ) → ((j : ℕ) → a ≤ j → j < a + k → f j ≡ g j) → map f (range_with_len a k) ≡ map g (range_with_len a k)
+map_same : (f g : ℕ → ℕ) (a k : ℕ) → ((j : ℕ) → a ≤ j → j < a + k → f j ≡ g j) → map f (range_with_len a k)
+    ≡ map g (range_with_len a k)
 map_same f g a zero h = refl
-map_same f g a (suc k) h = rw (h a (omega arith) (omega arith), map_same f g (a + 1) k (λ j le lt. h j (omega arith) (omega arith))) refl
+map_same f g a (suc k) h =
+    rw (h a (omega arith) (omega arith), map_same f g (a + 1) k (λ j le lt. h j (omega arith) (omega arith))) refl
 
-frame_same : (c : Config) (n : ℕ) (f g : ℕ → List (List Bool)) → ((j : ℕ) → j < length c.plps → f j ≡ g j) → frame_bodies c n f ≡ frame_bodies c n g
+frame_same : (c : Config) (n : ℕ) (f g : ℕ → List (List Bool)) → ((j : ℕ) → j < length c.plps → f j ≡ g j) → frame_bodies c n f
+    ≡ frame_bodies c n g
 frame_same c n f g h =
-    let counts : counts_of c f ≡ counts_of c g = map_same (λ plp. length (f plp)) (λ plp. length (g plp)) 0 (length c.plps) (λ j le lt. ap length (h j (omega arith))) in
+    let counts : counts_of c f ≡ counts_of c g = map_same (λ plp. length (f plp)) (λ plp. length (g plp)) 0 (length c.plps)
+    (λ j le lt. ap length (h j (omega arith))) in
     let blocks : plp_bodies c n f 0 ≡ plp_bodies c n g 0 =
-    flat_same (λ plp. block_bodies (n % c.frames) (plp_at c.plps plp).id true (f plp)) (λ plp. block_bodies (n % c.frames) (plp_at c.plps plp).id true (g plp)) 0 (length c.plps - 0)
+    flat_same (λ plp. block_bodies (n % c.frames) (plp_at c.plps plp).id true (f plp))
+    (λ plp. block_bodies (n % c.frames) (plp_at c.plps plp).id true (g plp)) 0 (length c.plps - 0)
     (λ j le lt. ap (block_bodies (n % c.frames) (plp_at c.plps j).id true) (h j (omega arith))) in
     ap (λ (l : List ℕ). with_stamp c n (l1_body c n (pre_part c) (conf_part c) (dyn_part c n l) ∷ plp_bodies c n f 0)) counts
     ∙ ap (λ (l : List Body). with_stamp c n (l1_body c n (pre_part c) (conf_part c) (dyn_part c n (counts_of c g)) ∷ l)) blocks
 
-bodies_same : (c : Config) (all other : ℕ → List (List ℕ)) (n : ℕ) → ((m : ℕ) → m < n → frame_bodies c m (plp_blocks c all m) ≡ frame_bodies c m (plp_blocks c other m)) → bodies_before c all n ≡ bodies_before c other n
+bodies_same : (c : Config) (all other : ℕ → List (List ℕ)) (n : ℕ)
+    → ((m : ℕ) → m < n → frame_bodies c m (plp_blocks c all m) ≡ frame_bodies c m (plp_blocks c other m)) → bodies_before c all n
+    ≡ bodies_before c other n
 bodies_same c all other zero h = refl
 bodies_same c all other (suc n) h =
     subst (λ (k : ℕ). bodies_before c all k ≡ bodies_before c other k) (add-one n)
-    (bodies_more c all n ∙ ap (λ (l : List (ℕ × Body)). l ++ of_frame n (frame_bodies c n (plp_blocks c all n))) (bodies_same c all other n (λ m lt. h m (omega arith)))
+    (bodies_more c all n ∙ ap (λ (l : List (ℕ × Body)). l ++ of_frame n (frame_bodies c n (plp_blocks c all n)))
+    (bodies_same c all other n (λ m lt. h m (omega arith)))
     ∙ ap (λ (l : List Body). bodies_before c other n ++ of_frame n l) (h n (omega arith)) ∙ sym (bodies_more c other n))
 
 pub units_first : CompleteLaw → UnitsLaw
@@ -90,7 +110,8 @@ units_first law c inputs k n le =
 pub fronts_decided : BlocksLaw → SlotLength → CountRises → FrontsDecided
 unfolding front_packets
 fronts_decided blocks slot rises c inputs other n plan h =
-    ap (packets_from c 0) (bodies_same c inputs other n (λ m lt. frame_same c m (plp_blocks c inputs m) (plp_blocks c other m) (λ j configured.
+    ap (packets_from c 0)
+    (bodies_same c inputs other n (λ m lt. frame_same c m (plp_blocks c inputs m) (plp_blocks c other m) (λ j configured.
     blocks c j (packet_at (inputs j)) (packet_at (other j)) m plan configured (λ k inside.
     let s = slot c j plan.rules configured in
     let t : m * c.ticks ≤ (n - 1) * c.ticks = let d : m ≤ n - 1 = omega arith in mul-le-mul_right c.ticks d in
@@ -111,5 +132,7 @@ frame_count_same c f g h = ap (λ (tick : ℕ). div_ceil tick (c.frames * c.tick
 pub last_all : LastIsAll
 last_all c events inputs last cont =
     let same : (j : ℕ) → j < length c.plps → length (offered j events) ≡ length (inputs j) =
-    λ j lt. let h = cont j lt in sym (ap length (h.front ∙ ap (λ (l : List (List ℕ)). offered j events ++ l) (h.whole (last.ended j lt)) ∙ append-nil (offered j events))) in
+    λ j lt. let h = cont j lt in
+    sym (ap length (h.front ∙ ap (λ (l : List (List ℕ)). offered j events ++ l) (h.whole (last.ended j lt))
+    ∙ append-nil (offered j events))) in
     ap (front_packets c inputs) (last.frames ∙ frame_count_same c _ _ same)

@@ -1,5 +1,6 @@
 -- The blocks that are left, one by one.
-use Rattle.std.proofs.Common.{◌≡◌, ◌≢◌, ℕ, zero, suc, ◌+◌, ◌-◌, ◌%◌, ◌<◌, ◌≤◌, Bool, true, false, List, [], ◌∷◌, ◌++◌, length, map, drop, refl, ap, sym, subst, ◌∙◌, inl, inr, arith, eq-eqb, get_or-set_same, get_or-set_other}
+use Rattle.std.proofs.Common.{◌≡◌, ◌≢◌, ℕ, zero, suc, ◌+◌, ◌-◌, ◌%◌, ◌<◌, ◌≤◌, Bool, true, false, List, [], ◌∷◌, ◌++◌, length}
+use Rattle.std.proofs.Common.{map, drop, refl, ap, sym, subst, ◌∙◌, inl, inr, arith, eq-eqb, get_or-set_same, get_or-set_other}
 use Rattle.std.specs.Prelude.{◌==◌, ◌||◌, not, slice_index_or}
 use Rattle.std.specs.List.{flat_map, range_with_len}
 use Rattle.std.proofs.lemmas.Bool.{cases_lt, cases_eq, ne_eqb}
@@ -23,27 +24,33 @@ use Rattle.gateway_core.specs.Lists.{bits_in, AllShort, IsNext}
 
 -- the PLPs from one on are that one and the others
 pub bodies_more : (c : Config) (n : ℕ) (blocks : ℕ → List (List Bool)) (from : ℕ) → from < length c.plps
-    → plp_bodies c n blocks from ≡ block_bodies (n % c.frames) (plp_at c.plps from).id true (blocks from) ++ plp_bodies c n blocks (from + 1)
+    → plp_bodies c n blocks from ≡ block_bodies (n % c.frames) (plp_at c.plps from).id true (blocks from) ++ plp_bodies c n blocks
+    (from + 1)
 bodies_more c n blocks from lt = let e : length c.plps - from ≡ suc (length c.plps - (from + 1)) = omega arith in rw e refl
 
-bodies_none : (c : Config) (n : ℕ) (blocks : ℕ → List (List Bool)) (from : ℕ) → length c.plps ≤ from → plp_bodies c n blocks from ≡ []
+bodies_none : (c : Config) (n : ℕ) (blocks : ℕ → List (List Bool)) (from : ℕ) → length c.plps ≤ from → plp_bodies c n blocks from
+    ≡ []
 bodies_none c n blocks from le = let e : length c.plps - from ≡ 0 = omega arith in rw e refl
 
-pub flat_same : (f g : ℕ → List Body) (a k : ℕ) → ((j : ℕ) → a ≤ j → j < a + k → f j ≡ g j) → flat_map f (range_with_len a k) ≡ flat_map g (range_with_len a k)
+pub flat_same : (f g : ℕ → List Body) (a k : ℕ) → ((j : ℕ) → a ≤ j → j < a + k → f j ≡ g j) → flat_map f (range_with_len a k)
+    ≡ flat_map g (range_with_len a k)
 flat_same f g a zero h = refl
-flat_same f g a (suc k) h = rw (h a (omega arith) (omega arith), flat_same f g (a + 1) k (λ j le lt. h j (omega arith) (omega arith))) refl
+flat_same f g a (suc k) h =
+    rw (h a (omega arith) (omega arith), flat_same f g (a + 1) k (λ j le lt. h j (omega arith) (omega arith))) refl
 
 none_from : (f : ℕ → List Body) (a k : ℕ) → ((j : ℕ) → f j ≡ []) → flat_map f (range_with_len a k) ≡ []
 none_from f a zero h = refl
 none_from f a (suc k) h = rw (h a) (none_from f (a + 1) k h)
 
 -- the PLPs from one on are the same bodies if their blocks are
-bodies_same : (c : Config) (n : ℕ) (f g : ℕ → List (List Bool)) (from : ℕ) → ((j : ℕ) → from ≤ j → f j ≡ g j) → plp_bodies c n f from ≡ plp_bodies c n g from
+bodies_same : (c : Config) (n : ℕ) (f g : ℕ → List (List Bool)) (from : ℕ) → ((j : ℕ) → from ≤ j → f j ≡ g j)
+    → plp_bodies c n f from ≡ plp_bodies c n g from
 bodies_same c n f g from h =
     flat_same _ _ from (length c.plps - from) (λ j le lt. ap (block_bodies (n % c.frames) (plp_at c.plps j).id true) (h j le))
 
 -- PLPs without blocks are passed over
-bodies_past : (c : Config) (n : ℕ) (blocks : ℕ → List (List Bool)) (from k : ℕ) → ((j : ℕ) → from ≤ j → j < from + k → blocks j ≡ []) → plp_bodies c n blocks from ≡ plp_bodies c n blocks (from + k)
+bodies_past : (c : Config) (n : ℕ) (blocks : ℕ → List (List Bool)) (from k : ℕ)
+    → ((j : ℕ) → from ≤ j → j < from + k → blocks j ≡ []) → plp_bodies c n blocks from ≡ plp_bodies c n blocks (from + k)
 bodies_past c n blocks from zero h = let z : from ≡ from + 0 = omega arith in ap (plp_bodies c n blocks) z
 bodies_past c n blocks from (suc k) h =
     let z : (from + 1) + k ≡ from + suc k = omega arith in
@@ -53,7 +60,8 @@ bodies_past c n blocks from (suc k) h =
       | inl lt ↦
           let none : blocks from ≡ [] = h from (omega arith) (omega arith) in
           bodies_more c n blocks from lt
-          ∙ ap (λ (l : List (List Bool)). block_bodies (n % c.frames) (plp_at c.plps from).id true l ++ plp_bodies c n blocks (from + 1)) none ∙ rest
+          ∙ ap (λ (l : List (List Bool)). block_bodies (n % c.frames) (plp_at c.plps from).id true l ++ plp_bodies c n blocks
+          (from + 1)) none ∙ rest
       | inr ge ↦ bodies_none c n blocks from ge ∙ sym (bodies_none c n blocks (from + suc k) (omega arith))
     ]
 
@@ -66,26 +74,33 @@ first_new true plp next differ = refl
 first_new false plp next differ = let no : (next == plp) ≡ false = ne_eqb next plp (λ e. differ (sym e)) in rw no refl
 
 -- what is left does not change if PLPs without blocks are passed over
-skipped : (c : Config) (n : ℕ) (blocks : ℕ → List (List Bool)) (plp next : ℕ) (first : Bool) → plp ≤ next → next < length c.plps → ((j : ℕ) → plp ≤ j → j < next → blocks j ≡ [])
+skipped : (c : Config) (n : ℕ) (blocks : ℕ → List (List Bool)) (plp next : ℕ) (first : Bool) → plp ≤ next → next < length c.plps
+    → ((j : ℕ) → plp ≤ j → j < next → blocks j ≡ [])
     → blocks_left c n blocks plp first ≡ blocks_left c n blocks next (first || not (next == plp))
 skipped c n blocks plp next first le lt h =
     elim (cases_eq plp next) [
       | inl same ↦
-          let stays : (first || not (next == plp)) ≡ first = subst (λ (k : ℕ). (first || not (k == plp)) ≡ first) same (first_same first plp) in
+          let stays : (first || not (next == plp)) ≡ first =
+          subst (λ (k : ℕ). (first || not (k == plp)) ≡ first) same (first_same first plp) in
           ap (λ (k : ℕ). blocks_left c n blocks k first) same ∙ ap (blocks_left c n blocks next) (sym stays)
       | inr differ ↦
           let none : blocks plp ≡ [] = h plp (omega arith) (omega arith) in
           let gap : (plp + 1) + (next - (plp + 1)) ≡ next = omega arith in
           let past : plp_bodies c n blocks (plp + 1) ≡ plp_bodies c n blocks next =
-          bodies_past c n blocks (plp + 1) (next - (plp + 1)) (λ j from to. h j (omega arith) (omega arith)) ∙ ap (plp_bodies c n blocks) gap in
-          ap (λ (l : List (List Bool)). block_bodies (n % c.frames) (plp_at c.plps plp).id first l ++ plp_bodies c n blocks (plp + 1)) none
+          bodies_past c n blocks (plp + 1) (next - (plp + 1)) (λ j from to. h j (omega arith) (omega arith))
+          ∙ ap (plp_bodies c n blocks) gap in
+          ap (λ (l : List (List Bool)). block_bodies (n % c.frames) (plp_at c.plps plp).id first l ++ plp_bodies c n blocks
+          (plp + 1)) none
           ∙ past ∙ bodies_more c n blocks next lt ∙ ap (blocks_left c n blocks next) (sym (first_new first plp next differ))
     ]
 
-none_left : (c : Config) (n : ℕ) (blocks : ℕ → List (List Bool)) (plp : ℕ) (first : Bool) → ((j : ℕ) → blocks j ≡ []) → blocks_left c n blocks plp first ≡ []
+none_left : (c : Config) (n : ℕ) (blocks : ℕ → List (List Bool)) (plp : ℕ) (first : Bool) → ((j : ℕ) → blocks j ≡ [])
+    → blocks_left c n blocks plp first ≡ []
 none_left c n blocks plp first h =
-    ap (λ (l : List (List Bool)). block_bodies (n % c.frames) (plp_at c.plps plp).id first l ++ plp_bodies c n blocks (plp + 1)) (h plp)
-    ∙ none_from (λ j. block_bodies (n % c.frames) (plp_at c.plps j).id true (blocks j)) (plp + 1) _ (λ j. ap (block_bodies (n % c.frames) (plp_at c.plps j).id true) (h j))
+    ap (λ (l : List (List Bool)). block_bodies (n % c.frames) (plp_at c.plps plp).id first l ++ plp_bodies c n blocks (plp + 1))
+    (h plp)
+    ∙ none_from (λ j. block_bodies (n % c.frames) (plp_at c.plps j).id true (blocks j)) (plp + 1) _
+    (λ j. ap (block_bodies (n % c.frames) (plp_at c.plps j).id true) (h j))
 
 -- a pool without the first block of a list
 pop_same : (pool : State) (list : ℕ) → list < length pool.lists → list_at (popped pool list) list ≡ drop 1 (list_at pool list)
@@ -99,50 +114,70 @@ first_and_rest [] lt = absurd (omega arith)
 first_and_rest (b ∷ bs) lt = refl
 
 -- the next block, and what comes behind it
-block_left : (c : Config) (n : ℕ) (pool : State) (plp : ℕ) (first : Bool) → plp < length pool.lists → 0 < length (list_at pool plp)
+block_left : (c : Config) (n : ℕ) (pool : State) (plp : ℕ) (first : Bool) → plp < length pool.lists
+    → 0 < length (list_at pool plp)
     → blocks_left c n (bits_in pool) plp first
-    ≡ Block (n % c.frames) (plp_at c.plps plp).id first (bits_of (slice_index_or (list_at pool plp) 0 [])) ∷ blocks_left c n (bits_in (popped pool plp)) plp false
+    ≡ Block (n % c.frames) (plp_at c.plps plp).id first (bits_of (slice_index_or (list_at pool plp) 0 []))
+    ∷ blocks_left c n (bits_in (popped pool plp)) plp false
 block_left c n pool plp first lt some =
     let front : list_at pool plp ≡ slice_index_or (list_at pool plp) 0 [] ∷ list_at (popped pool plp) plp =
-    first_and_rest (list_at pool plp) some ∙ ap (λ (l : List (List ℕ)). slice_index_or (list_at pool plp) 0 [] ∷ l) (sym (pop_same pool plp lt)) in
+    first_and_rest (list_at pool plp) some ∙ ap (λ (l : List (List ℕ)). slice_index_or (list_at pool plp) 0 [] ∷ l)
+    (sym (pop_same pool plp lt)) in
     let others : plp_bodies c n (bits_in pool) (plp + 1) ≡ plp_bodies c n (bits_in (popped pool plp)) (plp + 1) =
-    bodies_same c n (bits_in pool) (bits_in (popped pool plp)) (plp + 1) (λ j from. ap (map bits_of) (sym (pop_other pool plp j (λ e. absurd (omega arith))))) in
-    ap (λ (l : List (List ℕ)). block_bodies (n % c.frames) (plp_at c.plps plp).id first (map bits_of l) ++ plp_bodies c n (bits_in pool) (plp + 1)) front
+    bodies_same c n (bits_in pool) (bits_in (popped pool plp)) (plp + 1)
+    (λ j from. ap (map bits_of) (sym (pop_other pool plp j (λ e. absurd (omega arith))))) in
+    ap (λ (l : List (List ℕ)). block_bodies (n % c.frames) (plp_at c.plps plp).id first (map bits_of l)
+    ++ plp_bodies c n (bits_in pool) (plp + 1)) front
     ∙ ap (λ (l : List Body). Block (n % c.frames) (plp_at c.plps plp).id first (bits_of (slice_index_or (list_at pool plp) 0 []))
     ∷ (block_bodies (n % c.frames) (plp_at c.plps plp).id false (bits_in (popped pool plp) plp) ++ l)) others
 
-pub built_block : (c : Config) (n number : ℕ) (step : Step) (signal : Body) (pool : State) (plp next : ℕ) (first now : Bool) (block : List ℕ) (bits : List Bool) → step ≡ Blocks → length pool.lists ≡ length c.plps → IsNext pool plp next
-    → now ≡ (first || not (next == plp)) → block ≡ slice_index_or (list_at pool next) 0 [] → bits ≡ written_bits (packet_with c number n (Block (n % c.frames) (plp_at c.plps next).id now (bits_of block)))
-    → IsWhole bits → Builds c n number (from_step c n step signal (blocks_left c n (bits_in pool) plp first)) (from_step c n step signal (blocks_left c n (bits_in (popped pool next)) next false)) bits
+pub built_block : (c : Config) (n number : ℕ) (step : Step) (signal : Body) (pool : State) (plp next : ℕ) (first now : Bool)
+    (block : List ℕ) (bits : List Bool) → step ≡ Blocks → length pool.lists ≡ length c.plps → IsNext pool plp next
+    → now ≡ (first || not (next == plp)) → block ≡ slice_index_or (list_at pool next) 0 []
+    → bits ≡ written_bits (packet_with c number n (Block (n % c.frames) (plp_at c.plps next).id now (bits_of block)))
+    → IsWhole bits → Builds c n number (from_step c n step signal (blocks_left c n (bits_in pool) plp first))
+    (from_step c n step signal (blocks_left c n (bits_in (popped pool next)) next false)) bits
 built_block c n number step signal pool plp next first now block bits e plps is begins front built whole =
     let inside = is.inside in
-    let was : blocks_left c n (bits_in pool) plp first ≡ Block (n % c.frames) (plp_at c.plps next).id now (bits_of block) ∷ blocks_left c n (bits_in (popped pool next)) next false =
+    let was : blocks_left c n (bits_in pool) plp first ≡ Block (n % c.frames) (plp_at c.plps next).id now (bits_of block)
+    ∷ blocks_left c n (bits_in (popped pool next)) next false =
     skipped c n (bits_in pool) plp next first is.order (omega arith) (λ j from to. ap (map bits_of) (is.none j from to))
     ∙ ap (blocks_left c n (bits_in pool) next) (sym begins) ∙ block_left c n pool next now inside is.some
-    ∙ ap (λ (b : List ℕ). Block (n % c.frames) (plp_at c.plps next).id now (bits_of b) ∷ blocks_left c n (bits_in (popped pool next)) next false) (sym front) in
-    subst (λ (s : Step). Builds c n number (from_step c n s signal (blocks_left c n (bits_in pool) plp first)) (from_step c n s signal (blocks_left c n (bits_in (popped pool next)) next false)) bits) (sym e)
+    ∙ ap (λ (b : List ℕ). Block (n % c.frames) (plp_at c.plps next).id now (bits_of b)
+    ∷ blocks_left c n (bits_in (popped pool next)) next false) (sym front) in
+    subst (λ (s : Step). Builds c n number (from_step c n s signal (blocks_left c n (bits_in pool) plp first))
+    (from_step c n s signal (blocks_left c n (bits_in (popped pool next)) next false)) bits) (sym e)
     (record { body = Block (n % c.frames) (plp_at c.plps next).id now (bits_of block); was = was; built = built; whole = whole })
 
 -- If no list from one on has a block, and none before it, none has.
-pub all_none : (pool : State) (plp : ℕ) → ((j : ℕ) → j < plp → list_at pool j ≡ []) → ((j : ℕ) → plp ≤ j → list_at pool j ≡ []) → (j : ℕ) → list_at pool j ≡ []
+pub all_none : (pool : State) (plp : ℕ) → ((j : ℕ) → j < plp → list_at pool j ≡ []) → ((j : ℕ) → plp ≤ j → list_at pool j ≡ [])
+    → (j : ℕ) → list_at pool j ≡ []
 all_none pool plp below none j = elim (cases_lt j plp) [ inl lt ↦ below j lt | inr ge ↦ none j ge ]
 
 -- Nothing is left of a frame without blocks.
-pub nothing_left : (c : Config) (n : ℕ) (step : Step) (signal : Body) (pool : State) (plp : ℕ) (first : Bool) → step ≡ Blocks → ((j : ℕ) → list_at pool j ≡ [])
+pub nothing_left : (c : Config) (n : ℕ) (step : Step) (signal : Body) (pool : State) (plp : ℕ) (first : Bool) → step ≡ Blocks
+    → ((j : ℕ) → list_at pool j ≡ [])
     → from_step c n step signal (blocks_left c n (bits_in pool) plp first) ≡ []
 nothing_left c n step signal pool plp first e none =
-    ap (λ (s : Step). from_step c n s signal (blocks_left c n (bits_in pool) plp first)) e ∙ none_left c n (bits_in pool) plp first (λ j. ap (map bits_of) (none j))
+    ap (λ (s : Step). from_step c n s signal (blocks_left c n (bits_in pool) plp first)) e
+    ∙ none_left c n (bits_in pool) plp first (λ j. ap (map bits_of) (none j))
 
 -- The blocks stay short as a list gives its first one,
 pub pop_short : (pool : State) (list : ℕ) → list < length pool.lists → AllShort pool → AllShort (popped pool list)
 pop_short pool list lt h = λ j.
     elim (cases_eq j list) [
       | inl same ↦ subst (λ (k : ℕ). AreShort (list_at (popped pool list) k)) (sym same)
-          (subst AreShort (sym (pop_same pool list lt)) (All-drop (λ (block : List ℕ). length block ≤ MOST_BLOCK_BYTES) 1 (list_at pool list) (h list)))
+          (subst AreShort (sym (pop_same pool list lt))
+          (All-drop (λ (block : List ℕ). length block ≤ MOST_BLOCK_BYTES) 1 (list_at pool list) (h list)))
       | inr differ ↦ subst AreShort (sym (pop_other pool list j differ)) (h j)
     ]
 
 -- and the lists before it empty.
-pub pop_below : (pool : State) (plp next : ℕ) → IsNext pool plp next → ((j : ℕ) → j < plp → list_at pool j ≡ []) → (j : ℕ) → j < next → list_at (popped pool next) j ≡ []
+pub pop_below : (pool : State) (plp next : ℕ) → IsNext pool plp next → ((j : ℕ) → j < plp → list_at pool j ≡ []) → (j : ℕ)
+    → j < next → list_at (popped pool next) j ≡ []
 pop_below pool plp next is below j lt =
-    pop_other pool next j (λ e. absurd (omega arith)) ∙ elim (cases_lt j plp) [ inl before ↦ below j before | inr from ↦ is.none j from lt ]
+    pop_other pool next j (λ e. absurd (omega arith)) ∙ elim (cases_lt j plp) [
+      | inl before ↦ below j before
+      | inr from ↦
+          is.none j from lt
+    ]

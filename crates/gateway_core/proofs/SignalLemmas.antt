@@ -1,5 +1,6 @@
 -- A sink with room for all bits takes them all.
-use Rattle.std.proofs.Common.{◌≡◌, ℕ, ◌-◌, ◌*◌, ◌≤◌, Bool, false, List, [], ◌++◌, length, take, Some, Result, Ok, Err, ap, ◌∙◌, arith, length-append}
+use Rattle.std.proofs.Common.{◌≡◌, ℕ, ◌-◌, ◌*◌, ◌≤◌, Bool, false, List, [], ◌++◌, length, take, Some, Result, Ok, Err, ap, ◌∙◌}
+use Rattle.std.proofs.Common.{arith, length-append}
 use Rattle.std.specs.Prelude.{OnOk, IfErr}
 use Rattle.std.proofs.lemmas.List.{length-take}
 use Rattle.bit_slice.specs.Sink.{State, Puts, Stops}
@@ -10,7 +11,8 @@ use Rattle.bit_slice.specs.declared.sink.SinkFault.TheVariants.{Full, OutOfMemor
 abbrev sink : ℕ → List Bool → State
 sink n bits = record { written = bits; room = Some (8 * n - length bits); grows = false; below = [] }
 
-pub written_whole : (r : Result (Unit {0}) SinkFault) (n : ℕ) (old new bits : List Bool) → old ≡ [] → length bits ≤ 8 * n → OnOk r (Puts (sink n old) (sink n new) bits) → IfErr r (Stops (sink n old) (sink n new) bits) → new ≡ bits
+pub written_whole : (r : Result (Unit {0}) SinkFault) (n : ℕ) (old new bits : List Bool) → old ≡ [] → length bits ≤ 8 * n
+    → OnOk r (Puts (sink n old) (sink n new) bits) → IfErr r (Stops (sink n old) (sink n new) bits) → new ≡ bits
 written_whole (Ok u) n old new bits none few puts stops = puts.written ∙ ap (λ (l : List Bool). l ++ bits) none
 written_whole (Err OutOfMemory) n old new bits none few puts stops = absurd (let e = stops.cause.0 in cc)
 written_whole (Err (Full need room)) n old new bits none few puts stops =
@@ -18,4 +20,13 @@ written_whole (Err (Full need room)) n old new bits none few puts stops =
     let is : 8 * n - length new ≡ room = cc in
     let count = ap length stops.front.written in
     let z = ap length none in
-    absurd (omega (arith, is, stops.cause.1, stops.cause.2, count, z, length-append old (take stops.count bits), length-take stops.count bits))
+    absurd (omega (
+      arith,
+      is,
+      stops.cause.1,
+      stops.cause.2,
+      count,
+      z,
+      length-append old (take stops.count bits),
+      length-take stops.count bits,
+    ))

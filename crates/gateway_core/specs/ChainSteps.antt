@@ -18,16 +18,19 @@ pub record Has (chain : Chain) (c : Config) (plp : ℕ) (events : List Event) (b
 -- A chain took the packet of the next slot, if the pool had place.
 abbrev pub Takes : Chain → Chain → List ℕ → State → State → ℕ → Type 0
 Takes old new packet was is list =
-    (c : Config) (plp : ℕ) (events : List Event) → HasPlace c plp was list → HasRoom c plp events → Has old c plp events (list_at was list)
+    (c : Config) (plp : ℕ) (events : List Event) → HasPlace c plp was list → HasRoom c plp events
+    → Has old c plp events (list_at was list)
     → Has new c plp (events ++ Offered packet ∷ []) (list_at is list)
 
 -- A chain ended a frame, of so many blocks, that stand in a list; those of the next frame come into an empty one.
-pub record HasEnded (chain : Chain) (c : Config) (plp : ℕ) (events : List Event) (blocks : List (List ℕ)) (count : ℕ) : Type 0 where
+pub record HasEnded (chain : Chain) (c : Config) (plp : ℕ) (events : List Event) (blocks : List (List ℕ))
+    (count : ℕ) : Type 0 where
   pub next : Has chain c plp (events ++ Cut ∷ []) []
   pub blocks_are : map bits_of blocks ≡ blocks_of c plp c.ticks (packet_at (offered events)) (cuts events)
   pub count_is : count ≡ length blocks
 
 abbrev pub Ends : Chain → Chain → State → State → ℕ → ℕ → Type 0
 Ends old new was is list count =
-    (c : Config) (plp : ℕ) (events : List Event) → HasPlace c plp was list → IsDue c plp events → Has old c plp events (list_at was list)
+    (c : Config) (plp : ℕ) (events : List Event) → HasPlace c plp was list → IsDue c plp events
+    → Has old c plp events (list_at was list)
     → HasEnded new c plp events (list_at is list) count

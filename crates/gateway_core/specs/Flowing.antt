@@ -23,7 +23,8 @@ Flows o c n left all given = Carries (PiperStandsFor o.piper) (is_finished o.pip
 abbrev pub at_hand : Outlet → ℕ
 at_hand o = waiting_of o.piper + length (rest_of o)
 
--- a bound for the bytes that are not yet given: those at hand, and for each body that is left one more than the longest packet has
+-- a bound for the bytes that are not yet given: those at hand, and for each body that is left one more than the longest packet
+-- has
 abbrev pub bytes_bound : Outlet → List Body → ℕ
 bytes_bound o left = at_hand o + 8203 * length left
 
@@ -33,7 +34,8 @@ gives_unit o = nat_le PAYLOAD (at_hand o) || (is_finished o.piper && nat_lt 0 (w
 
 -- An outlet took packets of a frame, and gave no unit.
 pub record Feeds (c : Config) (s : Signalling) (old new : Outlet) (before now : Frame) : Type 0 where
-  pub flows : (all : List (ℕ × Body)) (given : ℕ) → Flows old c before.number (left c s before) all given → Flows new c now.number (left c s now) all given
+  pub flows : (all : List (ℕ × Body)) (given : ℕ) → Flows old c before.number (left c s before) all given
+      → Flows new c now.number (left c s now) all given
   pub bound : bytes_bound new (left c s now) ≤ bytes_bound old (left c s before)
   pub early : (j : ℕ) → early_of now j ≡ early_of before j
   pub layout : layout_of now ≡ layout_of before

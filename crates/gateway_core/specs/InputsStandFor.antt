@@ -22,7 +22,8 @@ pub record HasFrame (c : Config) (pool : State) : Type 0 where
 
 -- Each stands for what events tell of it, and has put these blocks of the frame under way.
 abbrev pub AllFed : List Input → (ℕ → List (List Bool)) → Config → List Event → Type 0
-AllFed inputs early c events = (j : ℕ) (d : Input) → j < length inputs → IsFed (slice_index_or inputs j d) c j (told j events) (early j)
+AllFed inputs early c events = (j : ℕ) (d : Input) → j < length inputs → IsFed (slice_index_or inputs j d) c j (told j events)
+    (early j)
 
 -- No PLP gives more blocks than the configuration allows.
 abbrev pub AreFor : List Input → Config → Type 0
@@ -34,10 +35,12 @@ AllContinue c events inputs = (j : ℕ) → j < length c.plps → Continues (tol
 
 -- A pool has the blocks of the frame under way, for any inputs that continue.
 abbrev pub AreBlocks : State → Config → List Event → (ℕ → List (List ℕ)) → Type 0
-AreBlocks pool c events inputs = (j : ℕ) → j < length c.plps → bits_in pool j ≡ blocks_of c j c.ticks (packet_at (inputs j)) (begun events)
+AreBlocks pool c events inputs = (j : ℕ) → j < length c.plps → bits_in pool j ≡ blocks_of c j c.ticks (packet_at (inputs j))
+    (begun events)
 
 -- An input put the blocks of a frame into the list of its place, and so many there are; the next frame is under way.
-pub record Cuts (chain : Chain) (due slot : ℕ) (total : Option ℕ) (c : Config) (plp : ℕ) (t : Told) (pool : State) (count : ℕ) : Type 0 where
+pub record Cuts (chain : Chain) (due slot : ℕ) (total : Option ℕ) (c : Config) (plp : ℕ) (t : Told) (pool : State)
+    (count : ℕ) : Type 0 where
   pub fed : Fed chain due slot total c plp (in_next t) []
   pub blocks : (input : List (List ℕ)) → Continues t input → bits_in pool plp ≡ blocks_of c plp c.ticks (packet_at input) t.frame
   pub count_is : count ≡ length (list_at pool plp)
@@ -50,7 +53,8 @@ pub record CutsOne (c : Config) (frame : ℕ) (old new : List Input) (was is : S
   pub others : (j : ℕ) (d : Input) → j ≢ plp → slice_index_or new j d ≡ slice_index_or old j d
   pub lists : Others was is plp
   pub few : (d : Input) → count ≤ most (slice_index_or old plp d)
-  pub cut : (d : Input) (t : Told) → t.frame ≡ frame → HasPlace c plp was plp → IsFed (slice_index_or old plp d) c plp t (bits_in was plp)
+  pub cut : (d : Input) (t : Told) → t.frame ≡ frame → HasPlace c plp was plp
+      → IsFed (slice_index_or old plp d) c plp t (bits_in was plp)
       → HasCut (slice_index_or new plp d) c plp t is count
 
 -- The inputs below a place did.

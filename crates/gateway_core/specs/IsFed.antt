@@ -14,9 +14,10 @@ use Rattle.gateway_core.specs.declared.input.Input.{Input}
 abbrev pub wanted : Input → ℕ
 wanted i = if is_some i.total then 0 else i.due - i.slot
 
--- A chain was given what was offered, and null packets from the end on; it has put these blocks of the frame under way. So many slots
--- are over when that frame begins, so many have their packets, and so many packets there were at the end.
-pub record Fed (chain : Chain) (due slot : ℕ) (total : Option ℕ) (c : Config) (plp : ℕ) (t : Told) (early : List (List Bool)) : Type 0 where
+-- A chain was given what was offered, and null packets from the end on; it has put these blocks of the frame under way. So many
+-- slots are over when that frame begins, so many have their packets, and so many packets there were at the end.
+pub record Fed (chain : Chain) (due slot : ℕ) (total : Option ℕ) (c : Config) (plp : ℕ) (t : Told)
+    (early : List (List Bool)) : Type 0 where
   pub events : List queue.Event
   pub stands : ChainStandsFor chain c plp events
   pub nulls : ℕ

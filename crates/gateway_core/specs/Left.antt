@@ -24,11 +24,13 @@ from_step c n Blocks signal rest = rest
 from_step c n Over signal rest = []
 
 abbrev pub left : Config → Signalling → Frame → List Body
-left c s f = from_step c f.number f.step (l1_body c f.number s.pre s.conf f.dynamic.bits) (blocks_left c f.number (bits_in f.blocks) f.plp f.first)
+left c s f = from_step c f.number f.step (l1_body c f.number s.pre s.conf f.dynamic.bits)
+    (blocks_left c f.number (bits_in f.blocks) f.plp f.first)
 
 -- what a frame has to give as it begins, by how many blocks each PLP has and by the blocks
 abbrev pub all_of : Config → Signalling → ℕ → List ℕ → (ℕ → List (List Bool)) → List Body
-all_of c s n counts blocks = from_step c n (first_step c n) (l1_body c n s.pre s.conf (dyn_part c n counts)) (blocks_left c n blocks 0 true)
+all_of c s n counts blocks = from_step c n (first_step c n) (l1_body c n s.pre s.conf (dyn_part c n counts))
+    (blocks_left c n blocks 0 true)
 
 -- the blocks that the chains put already for the next frame: those of the lists once nothing is left, else none
 abbrev pub early_at : Step → State → ℕ → List (List Bool)
@@ -40,7 +42,8 @@ early_at Over pool j = bits_in pool j
 abbrev pub early_of : Frame → ℕ → List (List Bool)
 early_of f j = early_at f.step f.blocks j
 
--- what stays as a frame gives its packets: its number, the lists and the chunks of its pool, and how many blocks each PLP has in it
+-- what stays as a frame gives its packets: its number, the lists and the chunks of its pool, and how many blocks each PLP has in
+-- it
 pub record Layout : Type 0 where
   pub number : ℕ
   pub lists : ℕ

@@ -1,19 +1,21 @@
 pub mod Events
 pub mod Told
-pub mod ChainSteps
-pub mod Lists
-pub mod IsFed
 pub mod InputsStandFor
 pub mod Signalling
 pub mod Packets
+pub mod StandsFor
+pub mod Laws
+-- inner: no public clause cites these
+pub mod ChainSteps
+pub mod Lists
+pub mod IsFed
 pub mod Whole
 pub mod BlocksLeft
 pub mod Left
 pub mod Carried
 pub mod FirstStep
 pub mod Flowing
-pub mod StandsFor
-pub mod Laws
+-- of the crates below, for those who read this one
 pub use Rattle.terms.specs.Bits
 pub use Rattle.plp_config.specs.RunLength
 pub use Rattle.plp_config.specs.SlotTime

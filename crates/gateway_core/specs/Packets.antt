@@ -30,7 +30,8 @@ block_bodies frame_idx id first (b ∷ blocks) = Block frame_idx id first b ∷ 
 
 -- the blocks of the PLPs from a place on, in configuration order, of those that each PLP has in frame n
 abbrev pub plp_bodies : Config → ℕ → (ℕ → List (List Bool)) → ℕ → List Body
-plp_bodies c n blocks from = flat_map (λ plp. block_bodies (n % c.frames) (plp_at c.plps plp).id true (blocks plp)) (range_with_len from (length c.plps - from))
+plp_bodies c n blocks from = flat_map (λ plp. block_bodies (n % c.frames) (plp_at c.plps plp).id true (blocks plp))
+    (range_with_len from (length c.plps - from))
 
 -- a timestamp at the front of a superframe
 abbrev pub with_stamp : Config → ℕ → List Body → List Body
@@ -40,9 +41,11 @@ with_stamp c n bodies = if n % c.frames == 0 then Timestamp (stamp_of c n) ∷ b
 abbrev pub counts_of : Config → (ℕ → List (List Bool)) → List ℕ
 counts_of c blocks = map (λ plp. length (blocks plp)) (range_with_len 0 (length c.plps))
 
--- what the packets of frame n carry: a timestamp in the first frame of a superframe, then the L1 signalling, then the blocks PLP by PLP
+-- what the packets of frame n carry: a timestamp in the first frame of a superframe, then the L1 signalling, then the blocks PLP
+-- by PLP
 abbrev pub frame_bodies : Config → ℕ → (ℕ → List (List Bool)) → List Body
-frame_bodies c n blocks = with_stamp c n (l1_body c n (pre_part c) (conf_part c) (dyn_part c n (counts_of c blocks)) ∷ plp_bodies c n blocks 0)
+frame_bodies c n blocks =
+    with_stamp c n (l1_body c n (pre_part c) (conf_part c) (dyn_part c n (counts_of c blocks)) ∷ plp_bodies c n blocks 0)
 
 -- what the packets of the frames below n carry, each with the number of its frame
 abbrev pub bodies_before : Config → (ℕ → List (List ℕ)) → ℕ → List (ℕ × Body)

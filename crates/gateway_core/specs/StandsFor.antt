@@ -16,19 +16,23 @@ use Rattle.gateway_core.specs.declared.gateway.Gateway.{Gateway}
 use Rattle.gateway_core.specs.declared.input.Input.{Input}
 use Rattle.gateway_core.specs.declared.signalling.Signalling.{Signalling}
 
--- Its inputs were fed, and their chains put these blocks already; so many frames were begun, and for all inputs that continue what was offered
--- the packets of those frames have come so far.
-pub record Holds (inputs : List Input) (early : ℕ → List (List Bool)) (s : Signalling) (frames : ℕ) (flow : Flow) (n : ℕ) (left : List Body) (c : Config) (events : List Event) : Type 0 where
+-- Its inputs were fed, and their chains put these blocks already; so many frames were begun, and for all inputs that continue
+-- what was offered the packets of those frames have come so far.
+pub record Holds (inputs : List Input) (early : ℕ → List (List Bool)) (s : Signalling) (frames : ℕ) (flow : Flow) (n : ℕ)
+    (left : List Body) (c : Config) (events : List Event) : Type 0 where
   pub fed : AllFed inputs early c events
   pub pre : s.pre ≡ pre_part c
   pub conf : s.conf ≡ conf_part c
   pub frames_are : frames ≡ begun events
   pub last : flow.finished ≡ finished events
-  pub flows : (all : ℕ → List (List ℕ)) → AllContinue c events all → Flows flow.outlet c n left (bodies_before c all frames) (given events)
+  pub flows : (all : ℕ → List (List ℕ)) → AllContinue c events all → Flows flow.outlet c n left (bodies_before c all frames)
+      (given events)
 
 -- its configuration, and what was done to it, in turn
 unfoldable pub GatewayStandsFor : Gateway → Config → List Event → Type 0
-GatewayStandsFor g c events = (g.plan.now ≡ c) × Holds g.inputs.items (early_of g.frame) g.signalling g.frames g.flow g.frame.number (left g.plan.now g.signalling g.frame) c events
+GatewayStandsFor g c events =
+    (g.plan.now ≡ c) × Holds g.inputs.items (early_of g.frame) g.signalling g.frames g.flow g.frame.number
+    (left g.plan.now g.signalling g.frame) c events
 
 -- the number of PLPs
 abbrev pub plps_of : Gateway → ℕ
@@ -74,7 +78,7 @@ pub record IsLast (c : Config) (events : List Event) : Type 0 where
   pub ended : (plp : ℕ) → plp < length c.plps → has_ended plp events ≡ true
   pub frames : begun events ≡ frame_count c (λ plp. length (offered plp events))
 
--- how many packets the frame under way wants from the input of a PLP: those of the slots that are over when it begins, without those
--- offered; none from one that ended
+-- how many packets the frame under way wants from the input of a PLP: those of the slots that are over when it begins, without
+-- those offered; none from one that ended
 abbrev pub wants_by : Config → List Event → ℕ → ℕ
 wants_by c events plp = if has_ended plp events then 0 else slots_by c plp (begun events * c.ticks) - length (offered plp events)

@@ -79,8 +79,7 @@ impl Input {
     {
         slot_time_law();
         length_law();
-        // A call that tells that the rules hold.
-        let _ = plan.config();
+        plan.obeys_rules();
         Ok(Input {
             chain: Chain::open(alloc, plan, plp)?,
             due: 0,

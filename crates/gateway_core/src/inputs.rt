@@ -110,8 +110,7 @@ pub fn cut(plan: &Plan, inputs: &mut [Input], pool: &mut Pool, frame: u64, count
     ensures whole { IsWhole pool.new }
 {
     early_fits_law();
-    // A call that tells that the rules hold.
-    let _ = plan.config();
+    plan.obeys_rules();
     for plp in 0..inputs.len() {
         counts[plp] = cut_one(plan, inputs, pool, plp, frame);
     }

@@ -45,8 +45,7 @@ fn conf_bits(alloc: Global, plan: &Plan) -> Result<BitBuf, OutOfMemory>
     ensures short { IfOk result (λ bits. length bits ≤ MOST_CONF_BITS) }
 {
     conf_law();
-    // A call that tells that the rules hold.
-    let _ = plan.config();
+    plan.obeys_rules();
     let conf = conf_of(alloc, plan)?;
     let mut bits = BitBuf::new(alloc);
     match write_conf(&mut bits, &conf) {

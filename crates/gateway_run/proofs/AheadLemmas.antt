@@ -12,20 +12,26 @@ use Rattle.gateway_run.specs.GatewayRun.{inputs_of, frames_of, units_of, ReadsNo
 use Rattle.gateway_run.proofs.MachineLemmas.{reach_more}
 
 -- A later frame wants no less.
-later_wants : (c : Config) (places : List ℕ) (frame later : ℕ) → frame ≤ later → ReadsNoFurther c places frame → ReadsNoFurther c places later
-later_wants c places frame later le further plp lt = let was = further plp lt in let more = reach_more c plp frame later le in omega (arith, was, more)
+later_wants : (c : Config) (places : List ℕ) (frame later : ℕ) → frame ≤ later → ReadsNoFurther c places frame
+    → ReadsNoFurther c places later
+later_wants c places frame later le further plp lt = let was = further plp lt in let more = reach_more c plp frame later le in
+    omega (arith, was, more)
 
 -- the complete units of fewer frames are the first of all
 first_units : UnitsLaw → (c : Config) (files : ℕ → List ℕ) (frame : ℕ) → frame ≤ frames_of c files
-    → take (length (complete_units c.pid (front_packets c (inputs_of files) frame))) (units_of c files) ≡ complete_units c.pid (front_packets c (inputs_of files) frame)
+    → take (length (complete_units c.pid (front_packets c (inputs_of files) frame))) (units_of c files)
+    ≡ complete_units c.pid (front_packets c (inputs_of files) frame)
 first_units units c files frame within =
     let l = units c (inputs_of files) frame (frames_of c files) within in
     let complete : List (List ℕ) = complete_units c.pid (front_packets c (inputs_of files) frame) in
     ap (take (length complete)) l.1 ∙ take_at complete l.0 (length complete) refl
 
--- If the output has the complete units of the frames before the one that was read for, it lacks only first bytes of that one, of the two before it, and later ones.
-pub reads_ahead : UnitsLaw → WaitsThreeFrames → (c : Config) (files : ℕ → List ℕ) (places : List ℕ) (bytes since : List ℕ) (frame : ℕ) → IsPlan c → frame ≤ frames_of c files
-    → bytes ≡ joined (complete_units c.pid (front_packets c (inputs_of files) frame)) ++ since → ReadsNoFurther c places frame → ReadsAhead c files places bytes
+-- If the output has the complete units of the frames before the one that was read for, it lacks only first bytes of that one, of
+-- the two before it, and later ones.
+pub reads_ahead : UnitsLaw → WaitsThreeFrames → (c : Config) (files : ℕ → List ℕ) (places : List ℕ) (bytes since : List ℕ)
+    (frame : ℕ) → IsPlan c → frame ≤ frames_of c files
+    → bytes ≡ joined (complete_units c.pid (front_packets c (inputs_of files) frame)) ++ since → ReadsNoFurther c places frame
+    → ReadsAhead c files places bytes
 reads_ahead units three c files places bytes since frame plan within all further n lacks =
     let complete : List (List ℕ) = complete_units c.pid (front_packets c (inputs_of files) frame) in
     elim (cases_lt (n + 2) frame) [
@@ -34,6 +40,7 @@ reads_ahead units three c files places bytes since frame plan within all further
         units = length complete;
         rest = since;
         written = all ∙ ap (λ (l : List (List ℕ)). joined l ++ since) (sym (first_units units c files frame within));
-        carried = three c (inputs_of files) n frame (frames_of c files) (length complete) plan (omega (arith, lt)) within (omega arith);
+        carried = three c (inputs_of files) n frame (frames_of c files) (length complete) plan (omega (arith, lt)) within
+            (omega arith);
       }))
     ]

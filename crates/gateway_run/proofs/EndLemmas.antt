@@ -1,5 +1,6 @@
 -- A run over files has an ending: the first bad packet that a frame wants, or the number of its frames tells.
-use Rattle.std.proofs.Common.{◌≡◌, ◌≢◌, ◌⊎◌, ℕ, zero, suc, ◌+◌, ◌-◌, ◌*◌, ◌/◌, ◌<◌, ◌≤◌, List, [], ◌∷◌, length, Ok, Err, refl, ap, subst, ◌∙◌, inl, inr, arith}
+use Rattle.std.proofs.Common.{◌≡◌, ◌≢◌, ◌⊎◌, ℕ, zero, suc, ◌+◌, ◌-◌, ◌*◌, ◌/◌, ◌<◌, ◌≤◌, List, [], ◌∷◌, length, Ok, Err, refl, ap}
+use Rattle.std.proofs.Common.{subst, ◌∙◌, inl, inr, arith}
 use Rattle.std.proofs.Math.Decide.{dec_lt}
 use Rattle.std.proofs.Math.Nat.{zero-div}
 use Rattle.std.proofs.lemmas.Bool.{cases_lt}
@@ -19,11 +20,13 @@ decide_some [] = no (λ h. h refl)
 decide_some (b ∷ bytes) = yes (λ e. cc)
 
 decide_wants : (c : Config) (files : ℕ → List ℕ) (frame plp : ℕ) → Dec (WantsBad c files frame plp)
-decide_wants c files frame plp = decide_both (decide_some (left_in (files plp))) (dec_lt (length (packets_in (files plp))) (slots_by c plp (frame * c.ticks)))
+decide_wants c files frame plp =
+    decide_both (decide_some (left_in (files plp))) (dec_lt (length (packets_in (files plp))) (slots_by c plp (frame * c.ticks)))
 
 -- the first input of which a frame wants a bad packet
 abbrev WantsFirst : Config → (ℕ → List ℕ) → ℕ → Type 0
-WantsFirst c files frame = (plp : ℕ) × (plp < length c.plps) × WantsBad c files frame plp × ((other : ℕ) → other < plp → ¬ (WantsBad c files frame other))
+WantsFirst c files frame = (plp : ℕ) × (plp < length c.plps) × WantsBad c files frame plp
+    × ((other : ℕ) → other < plp → ¬ (WantsBad c files frame other))
 
 none_or_first : (c : Config) (files : ℕ → List ℕ) (frame : ℕ) → MeetsNone c files frame ⊎ WantsFirst c files frame
 none_or_first c files frame =
@@ -37,15 +40,19 @@ none_at_first c files plp wants =
     let none : slots_by c plp (0 * c.ticks) ≡ 0 = ap (λ (n : ℕ). n / num c) start ∙ zero-div (num c) in
     let lt = wants.1 in omega (arith, lt, none)
 
-none_before : (c : Config) (files : ℕ → List ℕ) (frame plp : ℕ) → WantsBad c files frame plp → ((earlier : ℕ) → earlier < frame → MeetsNone c files earlier) → MeetsNone c files (frame - 1)
+none_before : (c : Config) (files : ℕ → List ℕ) (frame plp : ℕ) → WantsBad c files frame plp
+    → ((earlier : ℕ) → earlier < frame → MeetsNone c files earlier) → MeetsNone c files (frame - 1)
 none_before c files zero plp wants all = absurd (none_at_first c files plp wants)
-none_before c files (suc frame) plp wants all = let same : frame ≡ suc frame - 1 = omega arith in subst (λ (n : ℕ). MeetsNone c files n) same (all frame (omega arith))
+none_before c files (suc frame) plp wants all = let same : frame ≡ suc frame - 1 = omega arith in
+    subst (λ (n : ℕ). MeetsNone c files n) same (all frame (omega arith))
 
 -- the first bad packet that a frame below a count wants, or none
 abbrev FirstBad : Config → (ℕ → List ℕ) → ℕ → Type 0
-FirstBad c files count = (frame : ℕ) × (frame < count) × ((plp : ℕ) × MeetsBad c files frame plp (length (packets_in (files plp))))
+FirstBad c files count = (frame : ℕ) × (frame < count)
+    × ((plp : ℕ) × MeetsBad c files frame plp (length (packets_in (files plp))))
 
-none_or_bad : (c : Config) (files : ℕ → List ℕ) (count : ℕ) → ((frame : ℕ) → frame < count → MeetsNone c files frame) ⊎ FirstBad c files count
+none_or_bad : (c : Config) (files : ℕ → List ℕ) (count : ℕ) → ((frame : ℕ) → frame < count → MeetsNone c files frame)
+    ⊎ FirstBad c files count
 none_or_bad c files count =
     elim (first_other (MeetsNone c files) (WantsFirst c files) (none_or_first c files) count) [
       | inl all ↦ inl all
@@ -68,7 +75,8 @@ none_or_bad c files count =
     ]
 
 -- a bad packet is wanted by the frame behind the last one, if so many come
-wanted_late : NotYetLast → (c : Config) (files : ℕ → List ℕ) (plp most : ℕ) → IsPlan c → plp < length c.plps → frames_of c files ≤ most → Wants c most plp (length (packets_in (files plp)))
+wanted_late : NotYetLast → (c : Config) (files : ℕ → List ℕ) (plp most : ℕ) → IsPlan c → plp < length c.plps
+    → frames_of c files ≤ most → Wants c most plp (length (packets_in (files plp)))
 wanted_late law c files plp most plan lt few =
     elim (cases_lt (length (packets_in (files plp))) (slots_by c plp (most * c.ticks))) [
       | inl less ↦ less
@@ -78,7 +86,8 @@ wanted_late law c files plp most plan lt few =
 pub run_ends : NotYetLast → RunEnds
 run_ends law c files plan =
     elim (none_or_bad c files (MOST_FRAMES + 1)) [
-      | inr bad ↦ (Err (Bad bad.2.0 (length (packets_in (files bad.2.0)))), (bad.0, bad.2.1, (let lt = bad.1 in omega (arith, lt))))
+      | inr bad ↦
+          (Err (Bad bad.2.0 (length (packets_in (files bad.2.0)))), (bad.0, bad.2.1, (let lt = bad.1 in omega (arith, lt))))
       | inl all ↦
           let none : MeetsNone c files MOST_FRAMES = all MOST_FRAMES (omega arith) in
           elim (cases_lt MOST_FRAMES (frames_of c files)) [

@@ -16,7 +16,8 @@ use Rattle.gateway_run.specs.declared.stop.Ran.{Ran}
 
 none_over : (c : Config) (plp : ℕ) → slots_by c plp ((0 - 1) * c.ticks) ≡ 0
 none_over c plp =
-    ap (λ (k : ℕ). k * den c plp / num c) (let e : (0 - 1) * c.ticks ≡ 0 = omega arith in e) ∙ ap (λ (k : ℕ). k / num c) (let e : 0 * den c plp ≡ 0 = omega arith in e) ∙ zero-div (num c)
+    ap (λ (k : ℕ). k * den c plp / num c) (let e : (0 - 1) * c.ticks ≡ 0 = omega arith in e)
+    ∙ ap (λ (k : ℕ). k / num c) (let e : 0 * den c plp ≡ 0 = omega arith in e) ∙ zero-div (num c)
 
 none_complete : (c : Config) (inputs : ℕ → List (List ℕ)) → complete_units c.pid (front_packets c inputs 0) ≡ []
 unfolding front_packets complete_in
@@ -43,7 +44,20 @@ first c g plan stands = record {
     few = λ inputs k. omega arith;
     last = λ on. absurd (let z : false ≡ true = on in cc);
   };
-  sends = record { units = []; gave = refl; count = refl; front = λ inputs k more none. (pipe c.pid (front_packets c inputs 0 ++ more), refl) };
-  is_in = (λ plp. refl, record { begun_all = omega arith; units = λ inputs k. let n = ap length (none_complete c inputs) in omega (arith, n) });
+  sends = record {
+    units = [];
+    gave = refl;
+    count = refl;
+    front = λ inputs k more none.
+        (pipe c.pid (front_packets c inputs 0 ++ more), refl);
+  };
+  is_in = (
+    λ plp. refl,
+    record {
+      begun_all = omega arith;
+      units = λ inputs k. let n = ap length (none_complete c inputs) in
+          omega (arith, n);
+    },
+  );
   cut = λ plp some. absurd (some refl);
 }

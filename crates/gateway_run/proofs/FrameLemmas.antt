@@ -4,7 +4,8 @@ use Rattle.std.specs.Prelude.{slice_get, Some, None}
 use Rattle.std.proofs.lemmas.List.{take_at}
 
 -- the next element
-pub next_element : (xs ys : List (List ℕ)) (x : List ℕ) → slice_get (xs ++ ys) (length xs) ≡ Some x → (more : List (List ℕ)) × (ys ≡ x ∷ more)
+pub next_element : (xs ys : List (List ℕ)) (x : List ℕ) → slice_get (xs ++ ys) (length xs) ≡ Some x → (more : List (List ℕ))
+    × (ys ≡ x ∷ more)
 next_element [] [] x e = absurd (let z : None ≡ Some x = e in cc)
 next_element [] (y ∷ ys) x e = (ys, (let z : Some y ≡ Some x = e in let s : y ≡ x = cc in ap (λ (v : List ℕ). v ∷ ys) s))
 next_element (z ∷ xs) ys x e = next_element xs ys x e
@@ -14,7 +15,8 @@ pub same_front : (xs ys vs bs : List (List ℕ)) → xs ++ vs ≡ ys ++ bs → l
 same_front xs ys vs bs e l = sym (take_at xs vs (length xs) refl) ∙ ap (take (length xs)) e ∙ take_at ys bs (length xs) (sym l)
 
 -- the shorter front of two begins the other
-pub shorter_front : (xs ys vs bs : List (List ℕ)) → xs ++ vs ≡ ys ++ bs → length xs ≤ length ys → (more : List (List ℕ)) × (ys ≡ xs ++ more)
+pub shorter_front : (xs ys vs bs : List (List ℕ)) → xs ++ vs ≡ ys ++ bs → length xs ≤ length ys → (more : List (List ℕ))
+    × (ys ≡ xs ++ more)
 shorter_front [] ys vs bs e l = (ys, refl)
 shorter_front (x ∷ xs) [] vs bs e l = absurd (omega (arith, l))
 shorter_front (x ∷ xs) (y ∷ ys) vs bs e l =

@@ -1,5 +1,6 @@
 -- Files decide how a run over them ends.
-use Rattle.std.proofs.Common.{◌≡◌, ℕ, zero, suc, ◌-◌, ◌*◌, ◌/◌, ◌<◌, ◌≤◌, List, length, Result, Ok, Err, refl, ap, sym, subst, ◌∙◌, inl, inr, arith}
+use Rattle.std.proofs.Common.{◌≡◌, ℕ, zero, suc, ◌-◌, ◌*◌, ◌/◌, ◌<◌, ◌≤◌, List, length, Result, Ok, Err, refl, ap, sym, subst}
+use Rattle.std.proofs.Common.{◌∙◌, inl, inr, arith}
 use Rattle.std.proofs.Math.Nat.{mul-le-mul_right, div-zero, div-mul-le_self}
 use Rattle.std.proofs.lemmas.Nat.{le-div}
 use Rattle.std.proofs.lemmas.Bool.{cases_lt}
@@ -21,18 +22,25 @@ quotient_rises (suc k) a b le =
     le-div (a / suc k) b (suc k) (omega arith) all
 
 -- slots are over for good
-pub slots_rise : (c : Config) (plp frame later : ℕ) → frame ≤ later → slots_by c plp (frame * c.ticks) ≤ slots_by c plp (later * c.ticks)
-slots_rise c plp frame later le = quotient_rises (num c) (frame * c.ticks * den c plp) (later * c.ticks * den c plp) (mul-le-mul_right (den c plp) (mul-le-mul_right c.ticks le))
+pub slots_rise : (c : Config) (plp frame later : ℕ) → frame ≤ later → slots_by c plp (frame * c.ticks)
+    ≤ slots_by c plp (later * c.ticks)
+slots_rise c plp frame later le = quotient_rises (num c) (frame * c.ticks * den c plp) (later * c.ticks * den c plp)
+    (mul-le-mul_right (den c plp) (mul-le-mul_right c.ticks le))
 
 -- a later frame wants what one wants
-still_wants : (c : Config) (files : ℕ → List ℕ) (frame later plp : ℕ) → frame ≤ later → WantsBad c files frame plp → WantsBad c files later plp
-still_wants c files frame later plp le w = (w.0, (let lt = w.1 in let rises = slots_rise c plp frame later le in omega (arith, lt, rises)))
+still_wants : (c : Config) (files : ℕ → List ℕ) (frame later plp : ℕ) → frame ≤ later → WantsBad c files frame plp
+    → WantsBad c files later plp
+still_wants c files frame later plp le w =
+    (w.0, (let lt = w.1 in let rises = slots_rise c plp frame later le in omega (arith, lt, rises)))
 
 -- the first frame is one
-not_sooner : (c : Config) (files : ℕ → List ℕ) (frame later plp other packet next : ℕ) → frame < later → MeetsBad c files frame plp packet → MeetsBad c files later other next → ⊥
-not_sooner c files frame later plp other packet next lt a b = b.before plp a.place (still_wants c files frame (later - 1) plp (omega (arith, lt)) a.wants)
+not_sooner : (c : Config) (files : ℕ → List ℕ) (frame later plp other packet next : ℕ) → frame < later
+    → MeetsBad c files frame plp packet → MeetsBad c files later other next → ⊥
+not_sooner c files frame later plp other packet next lt a b =
+    b.before plp a.place (still_wants c files frame (later - 1) plp (omega (arith, lt)) a.wants)
 
-same_frame : (c : Config) (files : ℕ → List ℕ) (frame later plp other packet next : ℕ) → MeetsBad c files frame plp packet → MeetsBad c files later other next → frame ≡ later
+same_frame : (c : Config) (files : ℕ → List ℕ) (frame later plp other packet next : ℕ) → MeetsBad c files frame plp packet
+    → MeetsBad c files later other next → frame ≡ later
 same_frame c files frame later plp other packet next a b =
     elim (cases_lt frame later) [
       | inl sooner ↦ absurd (not_sooner c files frame later plp other packet next sooner a b)
@@ -42,7 +50,8 @@ same_frame c files frame later plp other packet next a b =
       ]
     ]
 
-same_plp : (c : Config) (files : ℕ → List ℕ) (frame plp other packet next : ℕ) → MeetsBad c files frame plp packet → MeetsBad c files frame other next → plp ≡ other
+same_plp : (c : Config) (files : ℕ → List ℕ) (frame plp other packet next : ℕ) → MeetsBad c files frame plp packet
+    → MeetsBad c files frame other next → plp ≡ other
 same_plp c files frame plp other packet next a b =
     elim (cases_lt plp other) [
       | inl less ↦ absurd (b.below plp less a.wants)
@@ -52,23 +61,28 @@ same_plp c files frame plp other packet next a b =
       ]
     ]
 
-same_bad : (plp other packet next : ℕ) → plp ≡ other → packet ≡ next → (let r : Result Ran RunStop = Err (Bad plp packet) in r) ≡ Err (Bad other next)
+same_bad : (plp other packet next : ℕ) → plp ≡ other → packet ≡ next → (let r : Result Ran RunStop = Err (Bad plp packet) in r)
+    ≡ Err (Bad other next)
 same_bad plp other packet next e f = rw (e, f) refl
 
-one_bad : (c : Config) (files : ℕ → List ℕ) (frame later plp other packet next : ℕ) → MeetsBad c files frame plp packet → MeetsBad c files later other next
+one_bad : (c : Config) (files : ℕ → List ℕ) (frame later plp other packet next : ℕ) → MeetsBad c files frame plp packet
+    → MeetsBad c files later other next
     → (let r : Result Ran RunStop = Err (Bad plp packet) in r) ≡ Err (Bad other next)
 one_bad c files frame later plp other packet next a b =
     let f = same_frame c files frame later plp other packet next a b in
     let p = same_plp c files frame plp other packet next a (subst (λ (n : ℕ). MeetsBad c files n other next) (sym f) b) in
     same_bad plp other packet next p (a.number ∙ ap (λ (k : ℕ). length (packets_in (files k))) p ∙ sym b.number)
 
-ran_of : (f g u v : ℕ) → f ≡ g → u ≡ v → (let r : Result Ran RunStop = Ok (record { frames = f; units = u }) in r) ≡ Ok (record { frames = g; units = v })
+ran_of : (f g u v : ℕ) → f ≡ g → u ≡ v → (let r : Result Ran RunStop = Ok (record { frames = f; units = u }) in r)
+    ≡ Ok (record { frames = g; units = v })
 ran_of f g u v e h = rw (e, h) refl
 
-same_ran : (ran other : Ran) → ran.frames ≡ other.frames → ran.units ≡ other.units → (let r : Result Ran RunStop = Ok ran in r) ≡ Ok other
+same_ran : (ran other : Ran) → ran.frames ≡ other.frames → ran.units ≡ other.units → (let r : Result Ran RunStop = Ok ran in r)
+    ≡ Ok other
 same_ran ran other e f = ran_of ran.frames other.frames ran.units other.units e f
 
-never_bad : (c : Config) (files : ℕ → List ℕ) (frame plp packet : ℕ) → MeetsBad c files frame plp packet → frame ≤ MOST_FRAMES → MeetsNone c files MOST_FRAMES → ⊥
+never_bad : (c : Config) (files : ℕ → List ℕ) (frame plp packet : ℕ) → MeetsBad c files frame plp packet → frame ≤ MOST_FRAMES
+    → MeetsNone c files MOST_FRAMES → ⊥
 never_bad c files frame plp packet a le none = none plp a.place (still_wants c files frame MOST_FRAMES plp le a.wants)
 
 pub runs_once : OneRun
@@ -86,7 +100,8 @@ runs_once c files (Err (Bad plp packet)) (Err WriteFault) a b = absurd b
 runs_once c files (Err (Bad plp packet)) (Err OutOfMemory) a b = absurd b
 runs_once c files (Err (TooLong count)) (Ok ran) a b = absurd (let f = b.3 in let t = a.2 in omega (arith, f, t))
 runs_once c files (Err (TooLong count)) (Err (Bad plp packet)) a b = absurd (never_bad c files b.0 plp packet b.1 b.2 a.1)
-runs_once c files (Err (TooLong count)) (Err (TooLong other)) a b = ap (λ (k : ℕ). let r : Result Ran RunStop = Err (TooLong k) in r) (a.0 ∙ sym b.0)
+runs_once c files (Err (TooLong count)) (Err (TooLong other)) a b =
+    ap (λ (k : ℕ). let r : Result Ran RunStop = Err (TooLong k) in r) (a.0 ∙ sym b.0)
 runs_once c files (Err (TooLong count)) (Err ReadFault) a b = absurd b
 runs_once c files (Err (TooLong count)) (Err WriteFault) a b = absurd b
 runs_once c files (Err (TooLong count)) (Err OutOfMemory) a b = absurd b

@@ -1,5 +1,6 @@
 -- A gateway as a machine between files.
-use Rattle.std.proofs.Common.{◌≡◌, ◌≢◌, ℕ, ◌*◌, ◌<◌, ◌≤◌, Bool, List, [], ◌++◌, length, refl, ap, sym, subst, ◌∙◌, inl, inr, arith, append-nil}
+use Rattle.std.proofs.Common.{◌≡◌, ◌≢◌, ℕ, ◌*◌, ◌<◌, ◌≤◌, Bool, List, [], ◌++◌, length, refl, ap, sym, subst, ◌∙◌, inl, inr}
+use Rattle.std.proofs.Common.{arith, append-nil}
 use Rattle.plp_config.specs.SlotTime.{slots_by}
 use Rattle.plp_config.specs.declared.config.Config.{Config}
 use Rattle.ts_packet.specs.TsFile.{joined}
@@ -22,7 +23,8 @@ use Rattle.gateway_run.proofs.LawLemmas.{slots_rise}
 use Rattle.gateway_run.proofs.ReadyLemmas.{giving_cases}
 use Rattle.gateway_run.proofs.TakeLemmas.{waiting}
 
-pub suffices_at : (g : Gateway) (plp : ℕ) (phase : Phase) (input count : ℕ) → Suffices (step_of g plp phase) input count → (phase ≡ Wants) × (plp ≡ input) × (SIZE ≤ count)
+pub suffices_at : (g : Gateway) (plp : ℕ) (phase : Phase) (input count : ℕ) → Suffices (step_of g plp phase) input count
+    → (phase ≡ Wants) × (plp ≡ input) × (SIZE ≤ count)
 suffices_at g plp Wants input count r = (refl, r.0, r.1)
 suffices_at g plp Begins input count r = absurd r
 suffices_at g plp Gives input count r = absurd r
@@ -30,7 +32,8 @@ suffices_at g plp Rests input count r = absurd r
 suffices_at g plp Done input count r = absurd r
 suffices_at g plp (Stopped why) input count r = absurd r
 
-pub falls_short_at : (g : Gateway) (plp : ℕ) (phase : Phase) (input count : ℕ) → FallsShort (step_of g plp phase) input count → (phase ≡ Wants) × (plp ≡ input) × (count < SIZE)
+pub falls_short_at : (g : Gateway) (plp : ℕ) (phase : Phase) (input count : ℕ) → FallsShort (step_of g plp phase) input count
+    → (phase ≡ Wants) × (plp ≡ input) × (count < SIZE)
 falls_short_at g plp Wants input count r = (refl, r.0, r.1)
 falls_short_at g plp Begins input count r = absurd r
 falls_short_at g plp Gives input count r = absurd r
@@ -38,11 +41,15 @@ falls_short_at g plp Rests input count r = absurd r
 falls_short_at g plp Done input count r = absurd r
 falls_short_at g plp (Stopped why) input count r = absurd r
 
-pub offered_length : (bytes : List ℕ) (ended over : Bool) (packets : List (List ℕ)) (tail : List ℕ) → tail ≡ [] → IsOffered bytes ended packets over tail → length bytes ≡ SIZE * length packets
-offered_length bytes ended over packets tail e o = ap length (o.parts ∙ ap (λ (l : List ℕ). joined packets ++ l) e ∙ append-nil (joined packets)) ∙ joined_length packets o.each
+pub offered_length : (bytes : List ℕ) (ended over : Bool) (packets : List (List ℕ)) (tail : List ℕ) → tail ≡ []
+    → IsOffered bytes ended packets over tail → length bytes ≡ SIZE * length packets
+offered_length bytes ended over packets tail e o =
+    ap length (o.parts ∙ ap (λ (l : List ℕ). joined packets ++ l) e ∙ append-nil (joined packets)) ∙ joined_length packets o.each
 
 -- What a frame wants of the input that is looked at can be read.
-pub wanted_by : (c : Config) (done : List run.Event) (g : Gateway) (place : Place) (ran : Ran) (n inputs : ℕ) → inputs ≡ length c.plps → IsReady g c place ran → place.phase ≡ Wants → n ≤ wants_of g place.plp → 0 < n → Holds c done g place ran
+pub wanted_by : (c : Config) (done : List run.Event) (g : Gateway) (place : Place) (ran : Ran) (n inputs : ℕ)
+    → inputs ≡ length c.plps → IsReady g c place ran → place.phase ≡ Wants → n ≤ wants_of g place.plp → 0 < n
+    → Holds c done g place ran
     → CanBeRead inputs done (λ plp. SIZE * slots_by c plp (ran.frames * c.ticks)) place.plp SIZE (SIZE * n)
 wanted_by c done g place ran n inputs all r e few some h =
     let w = waiting c done g place ran e r h in
@@ -61,8 +68,9 @@ wanted_by c done g place ran n inputs all r e few some h =
       near = omega (arith, k, at, l, size, few);
     }
 
--- what is read behind a look, or where a packet is bad
-pub looked_read : (g : Gateway) (from count plp frames : ℕ) (phase : Phase) → IsLookedAs g from count plp phase → frame_read phase frames ≡ frames
+-- what is read behind a look, or if a packet is bad
+pub looked_read : (g : Gateway) (from count plp frames : ℕ) (phase : Phase) → IsLookedAs g from count plp phase
+    → frame_read phase frames ≡ frames
 looked_read g from count plp frames Wants l = refl
 looked_read g from count plp frames Begins l = refl
 looked_read g from count plp frames Gives l = absurd l
@@ -70,7 +78,8 @@ looked_read g from count plp frames Rests l = absurd l
 looked_read g from count plp frames Done l = absurd l
 looked_read g from count plp frames (Stopped why) l = absurd l
 
-pub bad_read : (c : Config) (plp frames wants : ℕ) (phase : Phase) → IsBadAs c plp frames wants phase → frame_read phase frames ≡ frames
+pub bad_read : (c : Config) (plp frames wants : ℕ) (phase : Phase) → IsBadAs c plp frames wants phase → frame_read phase frames
+    ≡ frames
 bad_read c plp frames wants (Stopped (Bad of packet)) b = refl
 bad_read c plp frames wants (Stopped TooManyFrames) b = refl
 bad_read c plp frames wants Wants b = absurd b
@@ -80,11 +89,13 @@ bad_read c plp frames wants Rests b = absurd b
 bad_read c plp frames wants Done b = absurd b
 
 -- what is read behind the units
-pub behind_read : (g : Gateway) (count frames : ℕ) (place after : Place) → IsGiving place.phase → IsBehindAs place.phase g count after → frame_read place.phase frames ≤ frame_read after.phase frames
+pub behind_read : (g : Gateway) (count frames : ℕ) (place after : Place) → IsGiving place.phase
+    → IsBehindAs place.phase g count after → frame_read place.phase frames ≤ frame_read after.phase frames
 behind_read g count frames place after i b =
     elim (giving_cases place.phase i) [
       | inl gives ↦
-          let n = looked_read g 0 count after.plp frames after.phase (subst (λ (p : Phase). IsBehindAs p g count after) gives b) in
+          let n = looked_read g 0 count after.plp frames after.phase
+          (subst (λ (p : Phase). IsBehindAs p g count after) gives b) in
           let m = ap (λ (p : Phase). frame_read p frames) gives in
           omega (arith, n, m)
       | inr rests ↦
@@ -95,14 +106,17 @@ behind_read g count frames place after i b =
     ]
 
 -- no input is to be read less far
-pub reach_more : (c : Config) (plp frame later : ℕ) → frame ≤ later → SIZE * slots_by c plp (frame * c.ticks) ≤ SIZE * slots_by c plp (later * c.ticks)
+pub reach_more : (c : Config) (plp frame later : ℕ) → frame ≤ later → SIZE * slots_by c plp (frame * c.ticks)
+    ≤ SIZE * slots_by c plp (later * c.ticks)
 reach_more c plp frame later le = let s = slots_rise c plp frame later le in omega (arith, s)
 
 -- The reach of the machine is that of the frame that is read.
-pub wanted_as : (inputs : ℕ) (done : List run.Event) (c : Config) (phase : Phase) (frames plp least most : ℕ) → phase ≡ Wants → CanBeRead inputs done (λ plp. SIZE * slots_by c plp (frames * c.ticks)) plp least most
+pub wanted_as : (inputs : ℕ) (done : List run.Event) (c : Config) (phase : Phase) (frames plp least most : ℕ) → phase ≡ Wants
+    → CanBeRead inputs done (λ plp. SIZE * slots_by c plp (frames * c.ticks)) plp least most
     → CanBeRead inputs done (λ plp. SIZE * slots_by c plp (frame_read phase frames * c.ticks)) plp least most
 wanted_as inputs done c phase frames plp least most e w =
-    subst (λ (f : ℕ). CanBeRead inputs done (λ plp. SIZE * slots_by c plp (f * c.ticks)) plp least most) (sym (ap (λ (p : Phase). frame_read p frames) e)) w
+    subst (λ (f : ℕ). CanBeRead inputs done (λ plp. SIZE * slots_by c plp (f * c.ticks)) plp least most)
+    (sym (ap (λ (p : Phase). frame_read p frames) e)) w
 
 -- Where something is given and no frame begins, units are given.
 pub giving_at : (g : Gateway) (plp : ℕ) (phase : Phase) → step_of g plp phase ≡ Give → phase ≢ Begins → IsGiving phase

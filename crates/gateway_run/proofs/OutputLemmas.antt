@@ -1,5 +1,6 @@
 -- What a gateway gave, by the files.
-use Rattle.std.proofs.Common.{◌≡◌, ◌≢◌, ℕ, ◌+◌, ◌-◌, ◌*◌, ◌<◌, ◌≤◌, Bool, true, false, List, [], ◌++◌, length, refl, ap, sym, subst, ◌∙◌, inl, inr, arith, append_assoc, append-nil, length-append}
+use Rattle.std.proofs.Common.{◌≡◌, ◌≢◌, ℕ, ◌+◌, ◌-◌, ◌*◌, ◌<◌, ◌≤◌, Bool, true, false, List, [], ◌++◌, length, refl, ap, sym}
+use Rattle.std.proofs.Common.{subst, ◌∙◌, inl, inr, arith, append_assoc, append-nil, length-append}
 use Rattle.std.proofs.lemmas.Bool.{cases_Bool}
 use Rattle.std.proofs.lemmas.Grind.{flat_map-append}
 use Rattle.std.proofs.lemmas.List.{nil_from_length}
@@ -27,7 +28,8 @@ use Rattle.gateway_run.specs.declared.stop.Ran.{Ran}
 use Rattle.gateway_run.proofs.FileLemmas.{IsRead, continues, taken_all, none_bad, next_bad, not_wanted, still_bad}
 use Rattle.gateway_run.proofs.FrameLemmas.{same_front, shorter_front}
 
-read_of : (file bytes tail : List ℕ) (place : ℕ) (ended over : Bool) (packets : List (List ℕ)) → (over ≡ true → tail ≡ []) → (f : IsFed file place bytes ended) → IsOffered bytes ended packets over tail → IsRead file packets over (tail ++ f.more)
+read_of : (file bytes tail : List ℕ) (place : ℕ) (ended over : Bool) (packets : List (List ℕ)) → (over ≡ true → tail ≡ [])
+    → (f : IsFed file place bytes ended) → IsOffered bytes ended packets over tail → IsRead file packets over (tail ++ f.more)
 read_of file bytes tail place ended over packets whole f o = record {
   parts = f.parts ∙ ap (λ (l : List ℕ). l ++ f.more) o.parts ∙ append_assoc (joined packets) tail f.more;
   each = o.each;
@@ -35,29 +37,43 @@ read_of file bytes tail place ended over packets whole f o = record {
 }
 
 -- what was read of each file
-reads : (c : Config) (done : List run.Event) (g : Gateway) (place : Place) (ran : Ran) (h : Holds c done g place ran) (files : ℕ → List ℕ) (places : List ℕ) (are : AreFed (length c.plps) files places done) (plp : ℕ) (lt : plp < length c.plps)
+reads : (c : Config) (done : List run.Event) (g : Gateway) (place : Place) (ran : Ran) (h : Holds c done g place ran)
+    (files : ℕ → List ℕ) (places : List ℕ) (are : AreFed (length c.plps) files places done) (plp : ℕ) (lt : plp < length c.plps)
     → IsRead (files plp) (offered plp h.events) (has_ended plp h.events) (h.tails plp ++ (are plp lt).more)
-reads c done g place ran h files places are plp lt = read_of _ _ (h.tails plp) _ _ _ _ (h.inputs.whole plp) (are plp lt) (h.inputs.each plp lt)
+reads c done g place ran h files places are plp lt = read_of _ _ (h.tails plp) _ _ _ _ (h.inputs.whole plp) (are plp lt)
+    (h.inputs.each plp lt)
 
 -- the packets of the files continue what was offered
-pub continue_files : (c : Config) (done : List run.Event) (g : Gateway) (place : Place) (ran : Ran) (h : Holds c done g place ran) (files : ℕ → List ℕ) (places : List ℕ) → AreFed (length c.plps) files places done → AllContinue c h.events (inputs_of files)
-continue_files c done g place ran h files places are = λ plp lt. continues (files plp) (offered plp h.events) (has_ended plp h.events) _ (begun h.events) (reads c done g place ran h files places are plp lt)
+pub continue_files : (c : Config) (done : List run.Event) (g : Gateway) (place : Place) (ran : Ran) (h : Holds c done g place ran)
+    (files : ℕ → List ℕ) (places : List ℕ) → AreFed (length c.plps) files places done → AllContinue c h.events (inputs_of files)
+continue_files c done g place ran h files places are =
+    λ plp lt. continues (files plp) (offered plp h.events) (has_ended plp h.events) _ (begun h.events)
+    (reads c done g place ran h files places are plp lt)
 
 -- Where so much was offered, no bad packet is wanted of so much.
-pub never_wanted : (c : Config) (done : List run.Event) (g : Gateway) (place : Place) (ran : Ran) (h : Holds c done g place ran) (files : ℕ → List ℕ) (places : List ℕ) → AreFed (length c.plps) files places done → (plp slots : ℕ) → plp < length c.plps
-    → (has_ended plp h.events ≡ false → slots ≤ length (offered plp h.events)) → ¬ (HasBad (files plp) × length (packets_in (files plp)) < slots)
-never_wanted c done g place ran h files places are plp slots lt enough = not_wanted (files plp) (offered plp h.events) (has_ended plp h.events) _ slots (reads c done g place ran h files places are plp lt) enough
+pub never_wanted : (c : Config) (done : List run.Event) (g : Gateway) (place : Place) (ran : Ran) (h : Holds c done g place ran)
+    (files : ℕ → List ℕ) (places : List ℕ) → AreFed (length c.plps) files places done → (plp slots : ℕ) → plp < length c.plps
+    → (has_ended plp h.events ≡ false → slots ≤ length (offered plp h.events))
+    → ¬ (HasBad (files plp) × length (packets_in (files plp)) < slots)
+never_wanted c done g place ran h files places are plp slots lt enough =
+    not_wanted (files plp) (offered plp h.events) (has_ended plp h.events) _ slots
+    (reads c done g place ran h files places are plp lt) enough
 
 -- So none was met in the frames before the one under way.
-pub none_before : (c : Config) (done : List run.Event) (g : Gateway) (place : Place) (ran : Ran) (h : Holds c done g place ran) (files : ℕ → List ℕ) (places : List ℕ) → AreFed (length c.plps) files places done → MeetsNone c files (ran.frames - 1)
+pub none_before : (c : Config) (done : List run.Event) (g : Gateway) (place : Place) (ran : Ran) (h : Holds c done g place ran)
+    (files : ℕ → List ℕ) (places : List ℕ) → AreFed (length c.plps) files places done → MeetsNone c files (ran.frames - 1)
 none_before c done g place ran h files places are plp lt =
-    never_wanted c done g place ran h files places are plp (slots_by c plp ((ran.frames - 1) * c.ticks)) lt (λ on. let t = h.time.there plp lt on in let e = ap (λ (n : ℕ). slots_by c plp ((n - 1) * c.ticks)) h.frames in omega (arith, t, e))
+    never_wanted c done g place ran h files places are plp (slots_by c plp ((ran.frames - 1) * c.ticks)) lt
+    (λ on. let t = h.time.there plp lt on in let e = ap (λ (n : ℕ). slots_by c plp ((n - 1) * c.ticks)) h.frames in
+    omega (arith, t, e))
 
 -- Nor in the one under way, of an input of which it has all.
-pub none_here : (c : Config) (done : List run.Event) (g : Gateway) (place : Place) (ran : Ran) (h : Holds c done g place ran) (files : ℕ → List ℕ) (places : List ℕ) → AreFed (length c.plps) files places done → (plp : ℕ) → plp < length c.plps
+pub none_here : (c : Config) (done : List run.Event) (g : Gateway) (place : Place) (ran : Ran) (h : Holds c done g place ran)
+    (files : ℕ → List ℕ) (places : List ℕ) → AreFed (length c.plps) files places done → (plp : ℕ) → plp < length c.plps
     → HasAll c h.events plp → ¬ (HasBad (files plp) × length (packets_in (files plp)) < slots_by c plp (ran.frames * c.ticks))
 none_here c done g place ran h files places are plp lt all =
-    never_wanted c done g place ran h files places are plp (slots_by c plp (ran.frames * c.ticks)) lt (λ on. let t = all on in let e = ap (λ (n : ℕ). slots_by c plp (n * c.ticks)) h.frames in omega (arith, t, e))
+    never_wanted c done g place ran h files places are plp (slots_by c plp (ran.frames * c.ticks)) lt (λ on. let t = all on in
+    let e = ap (λ (n : ℕ). slots_by c plp (n * c.ticks)) h.frames in omega (arith, t, e))
 
 -- All units of all packets of the files were given.
 pub record GaveAll (c : Config) (files : ℕ → List ℕ) (ran : Ran) (bytes : List ℕ) : Type 0 where
@@ -66,21 +82,30 @@ pub record GaveAll (c : Config) (files : ℕ → List ℕ) (ran : Ran) (bytes : 
   pub frames : ran.frames ≡ frames_of c files
   pub count : ran.units ≡ length (units_of c files)
 
-pub gave_all : (c : Config) (done : List run.Event) (g : Gateway) (place : Place) (ran : Ran) → place.phase ≡ Done → Holds c done g place ran → (files : ℕ → List ℕ) (places : List ℕ) → AreFed (length c.plps) files places done → GaveAll c files ran (run.gave done)
+pub gave_all : (c : Config) (done : List run.Event) (g : Gateway) (place : Place) (ran : Ran) → place.phase ≡ Done
+    → Holds c done g place ran → (files : ℕ → List ℕ) (places : List ℕ) → AreFed (length c.plps) files places done
+    → GaveAll c files ran (run.gave done)
 gave_all c done g place ran e h files places are =
-    let i : NoTails h.tails × (finished h.events ≡ true) × AreAll c h.events = subst (λ (p : Phase). IsIn c h.events h.tails p) e h.is_in in
+    let i : NoTails h.tails × (finished h.events ≡ true) × AreAll c h.events =
+    subst (λ (p : Phase). IsIn c h.events h.tails p) e h.is_in in
     let last : IsLast c h.events = h.time.last i.1 in
     let k = continue_files c done g place ran h files places are in
-    let ended : (plp : ℕ) (lt : plp < length c.plps) → IsRead (files plp) (offered plp h.events) true (h.tails plp ++ (are plp lt).more) = λ plp lt.
-    subst (λ (b : Bool). IsRead (files plp) (offered plp h.events) b (h.tails plp ++ (are plp lt).more)) (last.ended plp lt) (reads c done g place ran h files places are plp lt) in
+    let ended : (plp : ℕ) (lt : plp < length c.plps)
+    → IsRead (files plp) (offered plp h.events) true (h.tails plp ++ (are plp lt).more) = λ plp lt.
+    subst (λ (b : Bool). IsRead (files plp) (offered plp h.events) b (h.tails plp ++ (are plp lt).more)) (last.ended plp lt)
+    (reads c done g place ran h files places are plp lt) in
     let frames : begun h.events ≡ frames_of c files =
-    last.frames ∙ frame_count_same c (λ j. length (offered j h.events)) (λ j. length (inputs_of files j)) (λ j lt. ap length (sym (taken_all (files j) (offered j h.events) _ (ended j lt)))) in
+    last.frames ∙ frame_count_same c (λ j. length (offered j h.events)) (λ j. length (inputs_of files j))
+    (λ j lt. ap length (sym (taken_all (files j) (offered j h.events) _ (ended j lt)))) in
     let all = h.sends.front (inputs_of files) k [] (λ _. refl) in
-    let whole : pipe c.pid (front_packets c (inputs_of files) (begun h.events)) ≡ h.sends.units ++ all.0 = ap (pipe c.pid) (sym (append-nil (front_packets c (inputs_of files) (begun h.events)))) ∙ all.1 in
+    let whole : pipe c.pid (front_packets c (inputs_of files) (begun h.events)) ≡ h.sends.units ++ all.0 =
+    ap (pipe c.pid) (sym (append-nil (front_packets c (inputs_of files) (begun h.events)))) ∙ all.1 in
     let size = i.2 (inputs_of files) k in
-    let none : all.0 ≡ [] = nil_from_length all.0 (let n = ap length whole in let m = length-append h.sends.units all.0 in let d = h.sends.count in omega (arith, n, m, d, size)) in
+    let none : all.0 ≡ [] = nil_from_length all.0 (let n = ap length whole in let m = length-append h.sends.units all.0 in
+    let d = h.sends.count in omega (arith, n, m, d, size)) in
     let units : units_of c files ≡ h.sends.units =
-    ap (λ (n : ℕ). pipe c.pid (front_packets c (inputs_of files) n)) (sym frames) ∙ whole ∙ ap (λ (l : List (List ℕ)). h.sends.units ++ l) none ∙ append-nil h.sends.units in
+    ap (λ (n : ℕ). pipe c.pid (front_packets c (inputs_of files) n)) (sym frames) ∙ whole
+    ∙ ap (λ (l : List (List ℕ)). h.sends.units ++ l) none ∙ append-nil h.sends.units in
     record {
       units = h.sends.gave ∙ ap joined (sym units);
       whole = λ plp lt. none_bad (files plp) (offered plp h.events) _ (ended plp lt);
@@ -89,13 +114,17 @@ gave_all c done g place ran e h files places are =
     }
 
 -- each input ended
-pub ended_all : (c : Config) (done : List run.Event) (g : Gateway) (place : Place) (ran : Ran) → place.phase ≡ Done → Holds c done g place ran → (plp : ℕ) → plp < length c.plps → run.has_ended plp done ≡ true
+pub ended_all : (c : Config) (done : List run.Event) (g : Gateway) (place : Place) (ran : Ran) → place.phase ≡ Done
+    → Holds c done g place ran → (plp : ℕ) → plp < length c.plps → run.has_ended plp done ≡ true
 ended_all c done g place ran e h plp lt =
-    let i : NoTails h.tails × (finished h.events ≡ true) × AreAll c h.events = subst (λ (p : Phase). IsIn c h.events h.tails p) e h.is_in in
+    let i : NoTails h.tails × (finished h.events ≡ true) × AreAll c h.events =
+    subst (λ (p : Phase). IsIn c h.events h.tails p) e h.is_in in
     (h.inputs.each plp lt).end (i.0 plp) ∙ (h.time.last i.1).ended plp lt
 
 -- The complete units of the frames begun were given, and no more.
-pub gave_complete : UnitsLaw → (c : Config) (done : List run.Event) (g : Gateway) (place : Place) (ran : Ran) (h : Holds c done g place ran) (files : ℕ → List ℕ) (places : List ℕ) → AreFed (length c.plps) files places done → AreComplete c h.events
+pub gave_complete : UnitsLaw → (c : Config) (done : List run.Event) (g : Gateway) (place : Place) (ran : Ran)
+    (h : Holds c done g place ran) (files : ℕ → List ℕ) (places : List ℕ) → AreFed (length c.plps) files places done
+    → AreComplete c h.events
     → run.gave done ≡ joined (complete_units c.pid (front_packets c (inputs_of files) ran.frames))
 gave_complete law c done g place ran h files places are complete =
     let k = continue_files c done g place ran h files places are in
@@ -103,12 +132,16 @@ gave_complete law c done g place ran h files places are complete =
     let l = law c (inputs_of files) (begun h.events) (begun h.events) (omega arith) in
     let units : h.sends.units ≡ complete_units c.pid (front_packets c (inputs_of files) (begun h.events)) =
     same_front h.sends.units (complete_units c.pid (front_packets c (inputs_of files) (begun h.events))) all.0 l.0
-    (sym all.1 ∙ ap (pipe c.pid) (append-nil (front_packets c (inputs_of files) (begun h.events))) ∙ l.1) (sym h.sends.count ∙ complete (inputs_of files) k) in
-    h.sends.gave ∙ ap joined units ∙ ap (λ (n : ℕ). joined (complete_units c.pid (front_packets c (inputs_of files) n))) (sym h.frames)
+    (sym all.1 ∙ ap (pipe c.pid) (append-nil (front_packets c (inputs_of files) (begun h.events))) ∙ l.1)
+    (sym h.sends.count ∙ complete (inputs_of files) k) in
+    h.sends.gave ∙ ap joined units ∙ ap (λ (n : ℕ). joined (complete_units c.pid (front_packets c (inputs_of files) n)))
+    (sym h.frames)
 
 -- The complete units of some frames were given, and then some more.
-pub gave_since : UnitsLaw → (c : Config) (done : List run.Event) (g : Gateway) (place : Place) (ran : Ran) (h : Holds c done g place ran) (files : ℕ → List ℕ) (places : List ℕ) (frames : ℕ) → AreFed (length c.plps) files places done
-    → HasGiven c h.events frames → (since : List ℕ) × (run.gave done ≡ joined (complete_units c.pid (front_packets c (inputs_of files) frames)) ++ since)
+pub gave_since : UnitsLaw → (c : Config) (done : List run.Event) (g : Gateway) (place : Place) (ran : Ran)
+    (h : Holds c done g place ran) (files : ℕ → List ℕ) (places : List ℕ) (frames : ℕ) → AreFed (length c.plps) files places done
+    → HasGiven c h.events frames → (since : List ℕ)
+    × (run.gave done ≡ joined (complete_units c.pid (front_packets c (inputs_of files) frames)) ++ since)
 gave_since law c done g place ran h files places frames are given =
     let k = continue_files c done g place ran h files places are in
     let all = h.sends.front (inputs_of files) k [] (λ _. refl) in
@@ -116,34 +149,53 @@ gave_since law c done g place ran h files places frames are given =
     let few = given.units (inputs_of files) k in
     let count = h.sends.count in
     let s = shorter_front (complete_units c.pid (front_packets c (inputs_of files) frames)) h.sends.units l.0 all.0
-    (sym l.1 ∙ ap (pipe c.pid) (sym (append-nil (front_packets c (inputs_of files) (begun h.events)))) ∙ all.1) (omega (arith, few, count)) in
-    (joined s.0, h.sends.gave ∙ ap joined s.1 ∙ flat_map-append (λ (p : List ℕ). p) (complete_units c.pid (front_packets c (inputs_of files) frames)) s.0)
+    (sym l.1 ∙ ap (pipe c.pid) (sym (append-nil (front_packets c (inputs_of files) (begun h.events)))) ∙ all.1)
+    (omega (arith, few, count)) in (
+      joined s.0,
+      h.sends.gave ∙ ap joined s.1
+          ∙ flat_map-append (λ (p : List ℕ). p) (complete_units c.pid (front_packets c (inputs_of files) frames)) s.0,
+    )
 
 -- What was given is the first of all units.
-pub gave_front : FrontsGrow → LastIsAll → (c : Config) (done : List run.Event) (g : Gateway) (place : Place) (ran : Ran) → Holds c done g place ran → (files : ℕ → List ℕ) (places : List ℕ) → AreFed (length c.plps) files places done
+pub gave_front : FrontsGrow → LastIsAll → (c : Config) (done : List run.Event) (g : Gateway) (place : Place) (ran : Ran)
+    → Holds c done g place ran → (files : ℕ → List ℕ) (places : List ℕ) → AreFed (length c.plps) files places done
     → (more : List ℕ) × (joined (units_of c files) ≡ run.gave done ++ more)
 gave_front grow law c done g place ran h files places are =
     let k = continue_files c done g place ran h files places are in
-    let f : (more : List (List ℕ)) × (front_packets c (inputs_of files) (begun h.events) ++ more ≡ packets_of c (inputs_of files)) × (finished h.events ≡ true → more ≡ []) =
+    let f : (more : List (List ℕ)) × (front_packets c (inputs_of files) (begun h.events) ++ more ≡ packets_of c (inputs_of files))
+    × (finished h.events ≡ true → more ≡ []) =
     elim (cases_Bool (finished h.events)) [
-      | inl on ↦ ([], append-nil (front_packets c (inputs_of files) (begun h.events)) ∙ law c h.events (inputs_of files) (h.time.last on) k, λ _. refl)
+      | inl on ↦ (
+        [],
+        append-nil (front_packets c (inputs_of files) (begun h.events))
+            ∙ law c h.events (inputs_of files) (h.time.last on) k,
+        λ _. refl,
+      )
       | inr off ↦
           let few = h.time.few (inputs_of files) k in
           let sum : begun h.events + (frames_of c files - begun h.events) ≡ frames_of c files = omega (arith, few) in
           let r = grow c (inputs_of files) (begun h.events) (frames_of c files - begun h.events) in
           (r.0, sym r.1 ∙ ap (front_packets c (inputs_of files)) sum, λ on. absurd (let z : true ≡ false = sym on ∙ off in cc))
     ] in
-    let all = h.sends.front (inputs_of files) k f.0 f.2 in
-    (joined all.0, ap joined (ap (pipe c.pid) (sym f.1) ∙ all.1) ∙ flat_map-append (λ (p : List ℕ). p) h.sends.units all.0 ∙ ap (λ (l : List ℕ). l ++ joined all.0) (sym h.sends.gave))
+    let all = h.sends.front (inputs_of files) k f.0 f.2 in (
+      joined all.0,
+      ap joined (ap (pipe c.pid) (sym f.1) ∙ all.1) ∙ flat_map-append (λ (p : List ℕ). p) h.sends.units all.0
+          ∙ ap (λ (l : List ℕ). l ++ joined all.0) (sym h.sends.gave),
+    )
 
 -- The bad packet that is met first was met.
-pub meets_bad : (c : Config) (done : List run.Event) (g : Gateway) (place : Place) (ran : Ran) (plp packet : ℕ) → place.phase ≡ Stopped (Bad plp packet) → Holds c done g place ran → (files : ℕ → List ℕ) (places : List ℕ)
+pub meets_bad : (c : Config) (done : List run.Event) (g : Gateway) (place : Place) (ran : Ran) (plp packet : ℕ)
+    → place.phase ≡ Stopped (Bad plp packet) → Holds c done g place ran → (files : ℕ → List ℕ) (places : List ℕ)
     → AreFed (length c.plps) files places done → MeetsBad c files ran.frames plp packet
 meets_bad c done g place ran plp packet e h files places are =
     let m : MetBad c h.events h.tails plp packet = subst (λ (p : Phase). IsIn c h.events h.tails p) e h.is_in in
     let f = are plp m.place in
-    let some : h.tails plp ++ f.more ≢ [] = λ z. m.some (nil_from_length (h.tails plp) (let n = ap length z in let l = length-append (h.tails plp) f.more in omega (arith, n, l))) in
-    let bad = next_bad (files plp) (offered plp h.events) (has_ended plp h.events) _ (reads c done g place ran h files places are plp m.place) some (still_bad (h.tails plp) f.more (run.has_ended plp done) m.some m.bad (h.cut plp m.some) f.end) in
+    let some : h.tails plp ++ f.more ≢ [] =
+    λ z. m.some (nil_from_length (h.tails plp) (let n = ap length z in let l = length-append (h.tails plp) f.more in
+    omega (arith, n, l))) in
+    let bad = next_bad (files plp) (offered plp h.events) (has_ended plp h.events) _
+    (reads c done g place ran h files places are plp m.place) some
+    (still_bad (h.tails plp) f.more (run.has_ended plp done) m.some m.bad (h.cut plp m.some) f.end) in
     let slots = ap (λ (n : ℕ). slots_by c plp (n * c.ticks)) h.frames in
     record {
       place = m.place;

@@ -19,7 +19,11 @@ giving_cases Done i = absurd i
 giving_cases (Stopped why) i = absurd i
 
 giving_used : (phase : Phase) → IsGiving phase → IsUsed phase
-giving_used phase i = elim (giving_cases phase i) [ inl gives ↦ subst (λ (p : Phase). IsUsed p) (sym gives) tt | inr rests ↦ subst (λ (p : Phase). IsUsed p) (sym rests) tt ]
+giving_used phase i = elim (giving_cases phase i) [
+  | inl gives ↦ subst (λ (p : Phase). IsUsed p) (sym gives) tt
+  | inr rests ↦
+      subst (λ (p : Phase). IsUsed p) (sym rests) tt
+]
 
 -- what it counted is what it tells
 pub record IsCounted (g : Gateway) (c : Config) (ran : Ran) : Type 0 where
@@ -28,14 +32,16 @@ pub record IsCounted (g : Gateway) (c : Config) (ran : Ran) : Type 0 where
   pub early : ran.frames ≤ MOST_FRAMES
   pub few : ran.units + bytes_left g ≤ ran.frames * 2 ^ 32
 
-pub looked_ready : (g : Gateway) (c : Config) (after : Place) (ran : Ran) → IsCounted g c ran → IsIdle g → IsLooked g 0 (length c.plps) after → IsReady g c after ran
+pub looked_ready : (g : Gateway) (c : Config) (after : Place) (ran : Ran) → IsCounted g c ran → IsIdle g
+    → IsLooked g 0 (length c.plps) after → IsReady g c after ran
 looked_ready g c after ran n idle look = record {
   plps = n.plps;
   frames_are = λ _. n.frames;
   early = n.early;
   few = λ _. n.few;
   wanting = λ e.
-      let l : (after.plp < length c.plps) × (0 < wants_of g after.plp) × ((k : ℕ) → 0 ≤ k → k < after.plp → wants_of g k ≡ 0) = subst (λ (p : Phase). IsLookedAs g 0 (length c.plps) after.plp p) e look in
+      let l : (after.plp < length c.plps) × (0 < wants_of g after.plp) × ((k : ℕ) → 0 ≤ k → k < after.plp → wants_of g k ≡ 0) =
+      subst (λ (p : Phase). IsLookedAs g 0 (length c.plps) after.plp p) e look in
       record {
         place = (let a = l.0 in let p = n.plps in omega (arith, a, p));
         some = l.1;
@@ -43,13 +49,15 @@ looked_ready g c after ran n idle look = record {
         idle = idle;
       };
   beginning = λ e.
-      let l : (k : ℕ) → 0 ≤ k → k < length c.plps → wants_of g k ≡ 0 = subst (λ (p : Phase). IsLookedAs g 0 (length c.plps) after.plp p) e look in
+      let l : (k : ℕ) → 0 ≤ k → k < length c.plps → wants_of g k ≡ 0 =
+      subst (λ (p : Phase). IsLookedAs g 0 (length c.plps) after.plp p) e look in
       record { none = λ k lt. l k (omega arith) (let p = n.plps in omega (arith, lt, p)); idle = idle };
   giving = λ e. absurd (subst (λ (p : Phase). IsLookedAs g 0 (length c.plps) after.plp p) e look);
   resting = λ e. absurd (subst (λ (p : Phase). IsLookedAs g 0 (length c.plps) after.plp p) e look);
 }
 
-done_ready : (g : Gateway) (c : Config) (after : Place) (ran : Ran) → IsCounted g c ran → after.phase ≡ Done → IsReady g c after ran
+done_ready : (g : Gateway) (c : Config) (after : Place) (ran : Ran) → IsCounted g c ran → after.phase ≡ Done
+    → IsReady g c after ran
 done_ready g c after ran n to = record {
   plps = n.plps;
   frames_are = λ _. n.frames;
@@ -61,8 +69,10 @@ done_ready g c after ran n to = record {
   resting = λ e. absurd (let z : Done ≡ Rests = sym to ∙ e in cc);
 }
 
-pub ready_behind : (g next : Gateway) (c : Config) (place after : Place) (ran : Ran) → IsReady g c place ran → IsGiving place.phase → IsBehindAs place.phase next (length c.plps) after
-    → status_of next ≡ record (status_of g) { unit = has_unit next; left = bytes_left next } → has_unit next ≡ false → bytes_left next ≡ bytes_left g → IsReady next c after ran
+pub ready_behind : (g next : Gateway) (c : Config) (place after : Place) (ran : Ran) → IsReady g c place ran
+    → IsGiving place.phase → IsBehindAs place.phase next (length c.plps) after
+    → status_of next ≡ record (status_of g) { unit = has_unit next; left = bytes_left next } → has_unit next ≡ false
+    → bytes_left next ≡ bytes_left g → IsReady next c after ran
 ready_behind g next c place after ran r i b status unit left =
     let used = giving_used place.phase i in
     let n : IsCounted next c ran = record {
@@ -72,10 +82,14 @@ ready_behind g next c place after ran r i b status unit left =
       few = (let f = r.few used in omega (arith, f, left));
     } in
     elim (giving_cases place.phase i) [
-      | inl gives ↦ looked_ready next c after ran n (record { given = unit; is_open = ap (λ (s : Status). s.finished) status ∙ r.giving gives }) (subst (λ (p : Phase). IsBehindAs p next (length c.plps) after) gives b)
+      | inl gives ↦
+          looked_ready next c after ran n
+          (record { given = unit; is_open = ap (λ (s : Status). s.finished) status ∙ r.giving gives })
+          (subst (λ (p : Phase). IsBehindAs p next (length c.plps) after) gives b)
       | inr rests ↦ done_ready next c after ran n (subst (λ (p : Phase). IsBehindAs p next (length c.plps) after) rests b)
     ]
 
 -- so the units can be counted
-pub count_fits : (g : Gateway) (c : Config) (place : Place) (ran : Ran) → IsReady g c place ran → IsGiving place.phase → ran.units + bytes_left g ≤ 2 ^ 63
+pub count_fits : (g : Gateway) (c : Config) (place : Place) (ran : Ran) → IsReady g c place ran → IsGiving place.phase
+    → ran.units + bytes_left g ≤ 2 ^ 63
 count_fits g c place ran r i = let f = r.few (giving_used place.phase i) in let e = r.early in omega (arith, f, e)

@@ -1,5 +1,6 @@
 -- What a run of the gateway over files does, from the opening of its inputs on.
-use Rattle.std.specs.Prelude.{◌≡◌, ◌≢◌, ◌⊎◌, ℕ, ◌+◌, ◌-◌, ◌*◌, ◌<◌, ◌≤◌, List, [], ◌++◌, length, map, take, slice_index, slice_index_or, IsSome, IfSome}
+use Rattle.std.specs.Prelude.{◌≡◌, ◌≢◌, ◌⊎◌, ℕ, ◌+◌, ◌-◌, ◌*◌, ◌<◌, ◌≤◌, List, [], ◌++◌, length, map, take, slice_index}
+use Rattle.std.specs.Prelude.{slice_index_or, IsSome, IfSome}
 use Rattle.std.specs.FinMap.{get}
 use Rattle.ports.specs.Desk.{State, Held, SameCounts, bytes_of}
 use Rattle.plp_config.specs.RunLength.{frame_count}
@@ -107,10 +108,11 @@ pub record StopsTooLong (c : Config) (old new : State) (out : List ℕ) (ins : L
   pub works : Works old new out ins places (BeginsUnits c ins)
   pub counts : SameCounts old new
   pub cause : ((count ≡ most_bytes) × GivesTooMuch c old ins places)
-      ⊎ ((count ≡ MOST_FRAMES) × AllShort places × IfSome old.held (λ h. MeetsNone c (file_at h ins) MOST_FRAMES × (MOST_FRAMES < frames_of c (file_at h ins))))
+      ⊎ ((count ≡ MOST_FRAMES) × AllShort places
+      × IfSome old.held (λ h. MeetsNone c (file_at h ins) MOST_FRAMES × (MOST_FRAMES < frames_of c (file_at h ins))))
 
--- An input of which a frame wants more than was read could not be read on, and no bad packet was met before. The output is the complete
--- units of the frames before this one.
+-- An input of which a frame wants more than was read could not be read on, and no bad packet was met before. The output is the
+-- complete units of the frames before this one.
 pub record StopsReading (c : Config) (old new : State) (out : List ℕ) (ins : List (List ℕ)) (plp : ℕ) : Type 0 where
   pub places : List ℕ
   pub frame : ℕ
@@ -130,12 +132,14 @@ pub record BeginsSome (c : Config) (files : ℕ → List ℕ) (frame : ℕ) (byt
   pub since : List ℕ
   pub complete : bytes ≡ joined (complete_units c.pid (front_packets c (inputs_of files) frame)) ++ since
 
--- These bytes hold the first byte of a frame: so many whole units of them carry more bytes than the packets of the frames before have.
+-- These bytes hold the first byte of a frame: so many whole units of them carry more bytes than the packets of the frames before
+-- have.
 pub record HoldsFirst (c : Config) (files : ℕ → List ℕ) (bytes : List ℕ) (frame : ℕ) : Type 0 where
   pub units : ℕ
   pub rest : List ℕ
   pub written : bytes ≡ joined (take units (units_of c files)) ++ rest
-  pub carried : length (piping.joined (front_packets c (inputs_of files) frame)) < carried_len units (piping.joined (packets_of c (inputs_of files)))
+  pub carried : length (piping.joined (front_packets c (inputs_of files) frame))
+      < carried_len units (piping.joined (packets_of c (inputs_of files)))
 
 -- Of no input was more read than the frame two behind one wants whose first byte these bytes lack.
 abbrev pub ReadsAhead : Config → (ℕ → List ℕ) → List ℕ → List ℕ → Type 0
@@ -145,7 +149,8 @@ ReadsAhead c files places bytes = (frame : ℕ) → ¬ (HoldsFirst c files bytes
 pub record StopsWriting (c : Config) (old new : State) (out : List ℕ) (ins : List (List ℕ)) : Type 0 where
   pub places : List ℕ
   pub frame : ℕ
-  pub works : Works old new out ins places (λ h bytes. BeginsSome c (file_at h ins) frame bytes × ReadsAhead c (file_at h ins) places bytes)
+  pub works : Works old new out ins places (λ h bytes. BeginsSome c (file_at h ins) frame bytes
+      × ReadsAhead c (file_at h ins) places bytes)
   pub short : AllShort places
   pub early : frame ≤ MOST_FRAMES
   pub no_further : ReadsNoFurther c places frame
@@ -155,6 +160,7 @@ pub record StopsWriting (c : Config) (old new : State) (out : List ℕ) (ins : L
 abbrev pub Stops : Config → State → State → List ℕ → List (List ℕ) → RunStop → Type 0
 Stops c old new out ins (Bad input packet) = StopsAtBad c old new out ins input packet
 Stops c old new out ins (TooLong count) = StopsTooLong c old new out ins count
-Stops c old new out ins ReadFault = ReadsFail old new × ((input : ℕ) × (OpensInputs old new ins input ⊎ StopsReading c old new out ins input))
+Stops c old new out ins ReadFault =
+    ReadsFail old new × ((input : ℕ) × (OpensInputs old new ins input ⊎ StopsReading c old new out ins input))
 Stops c old new out ins WriteFault = WritesFail old new × (FailsToCreateOutput old new out ins ⊎ StopsWriting c old new out ins)
 Stops c old new out ins OutOfMemory = new ≡ old

@@ -35,13 +35,16 @@ pub record IsOffered (bytes : List ℕ) (ended : Bool) (packets : List (List ℕ
 
 -- So it is for each input, and one that ended has no tail.
 pub record AreOffered (c : Config) (done : List run.Event) (events : List Event) (tails : ℕ → List ℕ) : Type 0 where
-  pub each : (plp : ℕ) → plp < length c.plps → IsOffered (run.fed plp done) (run.has_ended plp done) (offered plp events) (has_ended plp events) (tails plp)
+  pub each : (plp : ℕ) → plp < length c.plps → IsOffered (run.fed plp done) (run.has_ended plp done) (offered plp events)
+      (has_ended plp events) (tails plp)
   pub whole : (plp : ℕ) → has_ended plp events ≡ true → tails plp ≡ []
 
--- No more packets were offered than the frame under way wants, all that earlier frames wanted, and no more frames begun than there are.
+-- No more packets were offered than the frame under way wants, all that earlier frames wanted, and no more frames begun than
+-- there are.
 pub record IsInTime (c : Config) (events : List Event) : Type 0 where
   pub within : (plp : ℕ) → plp < length c.plps → length (offered plp events) ≤ slots_by c plp (begun events * c.ticks)
-  pub there : (plp : ℕ) → plp < length c.plps → has_ended plp events ≡ false → slots_by c plp ((begun events - 1) * c.ticks) ≤ length (offered plp events)
+  pub there : (plp : ℕ) → plp < length c.plps → has_ended plp events ≡ false → slots_by c plp ((begun events - 1) * c.ticks)
+      ≤ length (offered plp events)
   pub few : (inputs : ℕ → List (List ℕ)) → AllContinue c events inputs → begun events ≤ frame_count c (λ plp. length (inputs plp))
   pub last : finished events ≡ true → IsLast c events
 
@@ -50,21 +53,25 @@ pub record Sends (c : Config) (done : List run.Event) (events : List Event) : Ty
   pub units : List (List ℕ)
   pub gave : run.gave done ≡ joined units
   pub count : given events ≡ length units
-  pub front : (inputs : ℕ → List (List ℕ)) → AllContinue c events inputs → (more : List (List ℕ)) → (finished events ≡ true → more ≡ [])
+  pub front : (inputs : ℕ → List (List ℕ)) → AllContinue c events inputs → (more : List (List ℕ))
+      → (finished events ≡ true → more ≡ [])
       → (rest : List (List ℕ)) × (pipe c.pid (front_packets c inputs (begun events) ++ more) ≡ units ++ rest)
 
 -- all complete units of the frames begun were given
 abbrev pub AreComplete : Config → List Event → Type 0
-AreComplete c events = (inputs : ℕ → List (List ℕ)) → AllContinue c events inputs → given events ≡ length (complete_units c.pid (front_packets c inputs (begun events)))
+AreComplete c events = (inputs : ℕ → List (List ℕ)) → AllContinue c events inputs
+    → given events ≡ length (complete_units c.pid (front_packets c inputs (begun events)))
 
 -- all complete units of so many frames were given, which were begun
 pub record HasGiven (c : Config) (events : List Event) (frames : ℕ) : Type 0 where
   pub begun_all : frames ≤ begun events
-  pub units : (inputs : ℕ → List (List ℕ)) → AllContinue c events inputs → length (complete_units c.pid (front_packets c inputs frames)) ≤ given events
+  pub units : (inputs : ℕ → List (List ℕ)) → AllContinue c events inputs
+      → length (complete_units c.pid (front_packets c inputs frames)) ≤ given events
 
 -- all units were given
 abbrev pub AreAll : Config → List Event → Type 0
-AreAll c events = (inputs : ℕ → List (List ℕ)) → AllContinue c events inputs → length (pipe c.pid (front_packets c inputs (begun events))) ≡ given events
+AreAll c events = (inputs : ℕ → List (List ℕ)) → AllContinue c events inputs
+    → length (pipe c.pid (front_packets c inputs (begun events))) ≡ given events
 
 -- All that the frame under way wants of an input was offered, unless it ended.
 abbrev pub HasAll : Config → List Event → ℕ → Type 0
@@ -91,7 +98,8 @@ pub record IsOneTooMany (c : Config) (events : List Event) (tails : ℕ → List
   pub none : NoTails tails
   pub frame : begun events ≡ MOST_FRAMES
   pub all : (plp : ℕ) → plp < length c.plps → HasAll c events plp
-  pub more : (inputs : ℕ → List (List ℕ)) → AllContinue c events inputs → begun events < frame_count c (λ plp. length (inputs plp))
+  pub more : (inputs : ℕ → List (List ℕ)) → AllContinue c events inputs
+      → begun events < frame_count c (λ plp. length (inputs plp))
 
 abbrev pub StopsFor : Config → List Event → (ℕ → List ℕ) → GatewayStop → Type 0
 StopsFor c events tails (Bad plp packet) = MetBad c events tails plp packet

@@ -1,5 +1,6 @@
-pub mod AsMachine
 pub mod GatewayRun
-pub mod Holds
 pub mod Laws
+-- inner: no public clause cites these
+pub mod AsMachine
+pub mod Holds
 pub mod Ready

@@ -3,7 +3,7 @@ ghost use Rattle.gateway_run.specs.Laws.{OneRun, RunEnds};
 
 use gateway_core::not_yet_last;
 
-/// Files of which none is too long decide how a run over them ends, where nothing outside fails.
+/// Files of which none is too long decide how a run over them ends, if nothing outside fails.
 pub fn one_run()
     ensures { OneRun }
 {}

@@ -86,8 +86,7 @@ impl<'p> GatewayMachine<'p> {
         ensures plan { IfOk result (λ m. m.plan.now ≡ plan.now) }
         ensures becomes { IfOk result (λ m. becomes m [] m) }
     {
-        // It tells that the configuration satisfies every rule and test.
-        let _ = plan.config();
+        plan.obeys_rules();
         Ok(GatewayMachine {
             plan,
             gateway: Gateway::open(alloc, plan)?,

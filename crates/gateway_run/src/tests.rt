@@ -23,7 +23,7 @@ fn file(alloc: Global, count: u8) -> Result<Vec<u8>, OutOfMemory> {
     Ok(file)
 }
 
-// How a run over one file ends, and the output, where there is one. Reads and writes move at most so many bytes.
+// How a run over one file ends, and the output, if there is one. Reads and writes move at most so many bytes.
 fn run_over(
     rt: &(impl Abort + AllocGlobal),
     plan: &Plan,

@@ -1,7 +1,9 @@
 -- The last chunk of each block.
-use Rattle.std.proofs.Common.{◌≡◌, ◌≢◌, ℕ, zero, suc, ◌+◌, ◌-◌, ◌<◌, ◌≤◌, eqb, ltb, List, [], ◌++◌, length, take, drop, get_or, set, replicate, refl, ap, sym, ◌∙◌, subst, arith, length-append, length-set, length-drop}
+use Rattle.std.proofs.Common.{◌≡◌, ◌≢◌, ℕ, zero, suc, ◌+◌, ◌-◌, ◌<◌, ◌≤◌, eqb, ltb, List, [], ◌++◌, length, take, drop, get_or}
+use Rattle.std.proofs.Common.{set, replicate, refl, ap, sym, ◌∙◌, subst, arith, length-append, length-set, length-drop}
 use Rattle.std.proofs.lemmas.Bool.{eqb-true, eqb-false, ltb-true, ltb-false}
-use Rattle.std.proofs.lemmas.List.{get_or-set_same, get_or-set_other, take-append-drop, length-take-le, nil_from_length, drop-append-le, drop-drop, get_or-drop, get_or_append_left, get_or-append-add}
+use Rattle.std.proofs.lemmas.List.{get_or-set_same, get_or-set_other, take-append-drop, length-take-le, nil_from_length}
+use Rattle.std.proofs.lemmas.List.{drop-append-le, drop-drop, get_or-drop, get_or_append_left, get_or-append-add}
 use Rattle.linked_pool.specs.Chains.{count, moved}
 use Rattle.linked_pool.specs.Pool.{chunks_for}
 use Rattle.linked_pool.specs.Blocks.{front_chunks, uses, IsPool, Ends, AreEnds}
@@ -12,13 +14,15 @@ use Rattle.linked_pool.proofs.FillLemmas.{in_chain}
 use Rattle.linked_pool.proofs.OpenLemmas.{zero_at}
 
 -- without the first block
-pub ends_rest : (lens lasts : List ℕ) (n : ℕ) (chain : List ℕ) → 0 < n → Ends lens lasts n chain → Ends lens lasts (n - 1) (drop (front_chunks lens chain) chain)
+pub ends_rest : (lens lasts : List ℕ) (n : ℕ) (chain : List ℕ) → 0 < n → Ends lens lasts n chain
+    → Ends lens lasts (n - 1) (drop (front_chunks lens chain) chain)
 ends_rest lens lasts zero chain some e = absurd (omega arith)
 ends_rest lens lasts (suc n) chain some e = let less : suc n - 1 ≡ n = omega arith in rw less e.1
 
 -- the last chunk of a block by the blocks before it
 pub at_end : (lens lasts : List ℕ) (n : ℕ) (chain : List ℕ) (p : ℕ) → Ends lens lasts n chain → p < n
-    → get_or lasts (get_or chain (uses lens p chain) 0) 0 ≡ get_or chain (uses lens p chain + front_chunks lens (drop (uses lens p chain) chain) - 1) 0
+    → get_or lasts (get_or chain (uses lens p chain) 0) 0
+    ≡ get_or chain (uses lens p chain + front_chunks lens (drop (uses lens p chain) chain) - 1) 0
 at_end lens lasts zero chain p e lt = absurd (omega arith)
 at_end lens lasts (suc n) chain zero e lt =
     let k : front_chunks lens chain - 1 ≡ 0 + front_chunks lens chain - 1 = omega arith in
@@ -35,7 +39,9 @@ at_end lens lasts (suc n) chain (suc p) e lt =
     ap (λ (v : ℕ). get_or lasts v 0) (sym here) ∙ r ∙ there ∙ ap (λ (v : ℕ). get_or chain v 0) sum
     ∙ ap (λ (l : List ℕ). get_or chain (k + o + front_chunks lens l - 1) 0) rest
 
-pub ends_kept : (lens lens' lasts lasts' : List ℕ) (n : ℕ) (chain : List ℕ) → ((c : ℕ) → 0 < count c chain → get_or lens' c 0 ≡ get_or lens c 0) → ((c : ℕ) → 0 < count c chain → get_or lasts' c 0 ≡ get_or lasts c 0)
+pub ends_kept : (lens lens' lasts lasts' : List ℕ) (n : ℕ) (chain : List ℕ)
+    → ((c : ℕ) → 0 < count c chain → get_or lens' c 0 ≡ get_or lens c 0)
+    → ((c : ℕ) → 0 < count c chain → get_or lasts' c 0 ≡ get_or lasts c 0)
     → uses lens n chain ≡ length chain → Ends lens lasts n chain → Ends lens' lasts' n chain
 ends_kept lens lens' lasts lasts' zero chain g h u e = tt
 ends_kept lens lens' lasts lasts' (suc n) chain g h u e =
@@ -44,12 +50,15 @@ ends_kept lens lens' lasts lasts' (suc n) chain g h u e =
     let here = in_chain chain 0 some in
     let head : get_or lens' (get_or chain 0 0) 0 ≡ get_or lens (get_or chain 0 0) 0 = g (get_or chain 0 0) here in
     let end : get_or lasts' (get_or chain 0 0) 0 ≡ get_or lasts (get_or chain 0 0) 0 = h (get_or chain 0 0) here in
-    let parts : (c : ℕ) → count c (take k chain) + count c (drop k chain) ≡ count c chain = λ c. sym (count-append c (take k chain) (drop k chain)) ∙ ap (count c) (take-append-drop k chain) in
+    let parts : (c : ℕ) → count c (take k chain) + count c (drop k chain) ≡ count c chain =
+    λ c. sym (count-append c (take k chain) (drop k chain)) ∙ ap (count c) (take-append-drop k chain) in
     let rest : uses lens n (drop k chain) ≡ length (drop k chain) = omega (arith, u, length-drop k chain) in
-    let tail = ends_kept lens lens' lasts lasts' n (drop k chain) (λ c s. g c (let p = parts c in omega (arith, p, s))) (λ c s. h c (let p = parts c in omega (arith, p, s))) rest e.1 in
+    let tail = ends_kept lens lens' lasts lasts' n (drop k chain) (λ c s. g c (let p = parts c in omega (arith, p, s)))
+    (λ c s. h c (let p = parts c in omega (arith, p, s))) rest e.1 in
     rw head (end ∙ e.0, tail)
 
-pub ends_append : (lens lasts : List ℕ) (n : ℕ) (chain more : List ℕ) → uses lens n chain ≡ length chain → Ends lens lasts n chain → Ends lens lasts 1 more → Ends lens lasts (n + 1) (chain ++ more)
+pub ends_append : (lens lasts : List ℕ) (n : ℕ) (chain more : List ℕ) → uses lens n chain ≡ length chain → Ends lens lasts n chain
+    → Ends lens lasts 1 more → Ends lens lasts (n + 1) (chain ++ more)
 ends_append lens lasts zero chain more u e m =
     let none : chain ≡ [] = nil_from_length chain (sym u) in
     let one : 0 + 1 ≡ 1 = omega arith in
@@ -59,7 +68,8 @@ ends_append lens lasts (suc n) chain more u e m =
     let some : 0 < length chain = omega (arith, u) in
     let fits : k ≤ length chain = omega (arith, u) in
     let head : get_or (chain ++ more) 0 0 ≡ get_or chain 0 0 = get_or_append_left chain more 0 0 some in
-    let end : get_or (chain ++ more) (k - 1) 0 ≡ get_or chain (k - 1) 0 = get_or_append_left chain more 0 (k - 1) (omega (arith, fits, some)) in
+    let end : get_or (chain ++ more) (k - 1) 0 ≡ get_or chain (k - 1) 0 =
+    get_or_append_left chain more 0 (k - 1) (omega (arith, fits, some)) in
     let rest : uses lens n (drop k chain) ≡ length (drop k chain) = omega (arith, u, length-drop k chain) in
     let next = ends_append lens lasts n (drop k chain) more rest e.1 m in
     let one : suc n + 1 ≡ suc (n + 1) = omega arith in
@@ -67,7 +77,8 @@ ends_append lens lasts (suc n) chain more u e m =
     rw (one, head, back, end) (e.0, next)
 
 -- the first chunks of a list's chain become free
-pub ends_shrunk : (chains : List (List ℕ)) (lens lasts counts : List ℕ) (i k m : ℕ) → AreEnds chains lens lasts counts → i + 1 < length chains → i < length counts
+pub ends_shrunk : (chains : List (List ℕ)) (lens lasts counts : List ℕ) (i k m : ℕ) → AreEnds chains lens lasts counts
+    → i + 1 < length chains → i < length counts
     → Ends lens lasts m (drop k (get_or chains (i + 1) [])) → AreEnds (moved chains (i + 1) 0 k) lens lasts (set counts i m)
 ends_shrunk chains lens lasts counts i k m all hi h e =
     let c : List ℕ = get_or chains (i + 1) [] in
@@ -78,7 +89,8 @@ ends_shrunk chains lens lasts counts i k m all hi h e =
       each = λ j lt0.
           let lt : j < length counts = rw (length-set counts i m) at lt0 in
           let nz : j + 1 ≢ 0 = (λ z. omega (arith, z)) in
-          let a : get_or (moved chains (i + 1) 0 k) (j + 1) [] ≡ get_or first (j + 1) [] = get_or-set_other first 0 (j + 1) (free ++ take k c) [] nz in
+          let a : get_or (moved chains (i + 1) 0 k) (j + 1) [] ≡ get_or first (j + 1) [] =
+          get_or-set_other first 0 (j + 1) (free ++ take k c) [] nz in
           rw a
           (bool_cases (eqb j i)
           (λ z. let same : i ≡ j = sym (eqb-true j i z) in
@@ -93,23 +105,30 @@ ends_shrunk chains lens lasts counts i k m all hi h e =
           rw (x, y) (all.each j lt)));
     }
 
-pub ends_popped : (chains chunks chains' : List (List ℕ)) (lens lasts counts : List ℕ) (i k n : ℕ) → IsPool chains chunks lens counts → AreEnds chains lens lasts counts → i < length counts → 0 < get_or counts i 0
-    → k ≡ front_chunks lens (get_or chains (i + 1) []) → n ≡ get_or counts i 0 - 1 → chains' ≡ moved chains (i + 1) 0 k → AreEnds chains' lens lasts (set counts i n)
+pub ends_popped : (chains chunks chains' : List (List ℕ)) (lens lasts counts : List ℕ) (i k n : ℕ)
+    → IsPool chains chunks lens counts → AreEnds chains lens lasts counts → i < length counts → 0 < get_or counts i 0
+    → k ≡ front_chunks lens (get_or chains (i + 1) []) → n ≡ get_or counts i 0 - 1 → chains' ≡ moved chains (i + 1) 0 k
+    → AreEnds chains' lens lasts (set counts i n)
 ends_popped chains chunks chains' lens lasts counts i k n p all h some size less moves =
     let lists = p.lists in
-    rw (moves, size, less) (ends_shrunk chains lens lasts counts i (front_chunks lens (get_or chains (i + 1) [])) (get_or counts i 0 - 1) all (omega (arith, lists, h)) h
+    rw (moves, size, less) (ends_shrunk chains lens lasts counts i (front_chunks lens (get_or chains (i + 1) []))
+    (get_or counts i 0 - 1) all (omega (arith, lists, h)) h
     (ends_rest lens lasts (get_or counts i 0) (get_or chains (i + 1) []) some (all.each i h)))
 
-pub ends_cleared : (chains chunks chains' : List (List ℕ)) (lens lasts counts : List ℕ) (i k : ℕ) → IsPool chains chunks lens counts → AreEnds chains lens lasts counts → i < length counts
+pub ends_cleared : (chains chunks chains' : List (List ℕ)) (lens lasts counts : List ℕ) (i k : ℕ)
+    → IsPool chains chunks lens counts → AreEnds chains lens lasts counts → i < length counts
     → chains' ≡ moved chains (i + 1) 0 k → AreEnds chains' lens lasts (set counts i 0)
 ends_cleared chains chunks chains' lens lasts counts i k p all h moves =
     let lists = p.lists in
     rw moves (ends_shrunk chains lens lasts counts i k 0 all (omega (arith, lists, h)) h tt)
 
 -- a block at the end of a list
-pub ends_appended : (chains chunks chains' : List (List ℕ)) (lens lasts counts : List ℕ) (i k n first last len : ℕ) → IsPool chains chunks lens counts → AreEnds chains lens lasts counts → i < length counts
-    → k ≡ chunks_for len → k ≤ length (get_or chains 0 []) → first ≡ get_or (get_or chains 0 []) 0 0 → n ≡ get_or counts i 0 + 1 → chains' ≡ moved chains 0 (i + 1) k
-    → last ≡ get_or (get_or chains' (i + 1) []) (length (get_or chains' (i + 1) []) - 1) 0 → AreEnds chains' (set lens first len) (set lasts first last) (set counts i n)
+pub ends_appended : (chains chunks chains' : List (List ℕ)) (lens lasts counts : List ℕ) (i k n first last len : ℕ)
+    → IsPool chains chunks lens counts → AreEnds chains lens lasts counts → i < length counts
+    → k ≡ chunks_for len → k ≤ length (get_or chains 0 []) → first ≡ get_or (get_or chains 0 []) 0 0 → n ≡ get_or counts i 0 + 1
+    → chains' ≡ moved chains 0 (i + 1) k
+    → last ≡ get_or (get_or chains' (i + 1) []) (length (get_or chains' (i + 1) []) - 1) 0
+    → AreEnds chains' (set lens first len) (set lasts first last) (set counts i n)
 ends_appended chains chunks chains' lens lasts counts i k n first last len p all h size enough at more moves is =
     let lists = p.lists in
     let free : List ℕ = get_or chains 0 [] in
@@ -121,9 +140,11 @@ ends_appended chains chunks chains' lens lasts counts i k n first last len p all
     let some : 0 < k = omega (arith, size) in
     let has : 0 < length free = omega (arith, enough, some) in
     let long_a : length a ≡ k = length-take-le k free enough in
-    let head_a : get_or a 0 0 ≡ first = (let t = get_or_append_left a (drop k free) 0 0 (omega (arith, long_a, some)) in sym t ∙ ap (λ (xs : List ℕ). get_or xs 0 0) (take-append-drop k free) ∙ sym at) in
+    let head_a : get_or a 0 0 ≡ first = (let t = get_or_append_left a (drop k free) 0 0 (omega (arith, long_a, some)) in
+    sym t ∙ ap (λ (xs : List ℕ). get_or xs 0 0) (take-append-drop k free) ∙ sym at) in
     let first_a : 0 < count first a = subst (λ (x : ℕ). 0 < count x a) head_a (in_chain a 0 (omega (arith, long_a, some))) in
-    let parts : (x : ℕ) → count x a + count x (drop k free) ≡ count x free = λ x. sym (count-append x a (drop k free)) ∙ ap (count x) (take-append-drop k free) in
+    let parts : (x : ℕ) → count x a + count x (drop k free) ≡ count x free = λ x. sym (count-append x a (drop k free))
+    ∙ ap (count x) (take-append-drop k free) in
     let apart : (j x : ℕ) → j < length counts → 0 < count x (get_or chains (j + 1) []) → x ≢ first =
     λ j x lt there z.
     let hj : j + 1 < length chains = omega (arith, lists, lt) in
@@ -142,17 +163,24 @@ ends_appended chains chunks chains' lens lasts counts i k n first last len p all
     let in_lasts : first < length lasts = rw all.lasts_too in_lens in
     let first_set : List (List ℕ) = set chains 0 (drop k free) in
     let long1 : length first_set ≡ length chains = length-set chains 0 (drop k free) in
-    let next : get_or (moved chains 0 (i + 1) k) (i + 1) [] ≡ c ++ a = get_or-set_same first_set (i + 1) (c ++ a) [] (rw long1 hi) in
+    let next : get_or (moved chains 0 (i + 1) k) (i + 1) [] ≡ c ++ a =
+    get_or-set_same first_set (i + 1) (c ++ a) [] (rw long1 hi) in
     let end : last ≡ get_or a (k - 1) 0 =
-    is ∙ rw (moves, next) (let l = length-append c a in let e : length (c ++ a) - 1 ≡ length c + (k - 1) = omega (arith, l, long_a, some) in rw e (get_or-append-add c a (k - 1) 0)) in
+    is ∙ rw (moves, next) (let l = length-append c a in let e : length (c ++ a) - 1 ≡ length c + (k - 1) =
+    omega (arith, l, long_a, some) in rw e (get_or-append-add c a (k - 1) 0)) in
     let len_a : get_or lens' (get_or a 0 0) 0 ≡ len = rw head_a (get_or-set_same lens first len 0 in_lens) in
     let need_a : front_chunks lens' a ≡ k = ap chunks_for len_a ∙ sym size in
     let last_a : get_or lasts' (get_or a 0 0) 0 ≡ get_or a (front_chunks lens' a - 1) 0 =
-    ap (λ (v : ℕ). get_or lasts' v 0) head_a ∙ get_or-set_same lasts first last 0 in_lasts ∙ end ∙ ap (λ (v : ℕ). get_or a (v - 1) 0) (sym need_a) in
+    ap (λ (v : ℕ). get_or lasts' v 0) head_a ∙ get_or-set_same lasts first last 0 in_lasts ∙ end
+    ∙ ap (λ (v : ℕ). get_or a (v - 1) 0) (sym need_a) in
     let block_a : Ends lens' lasts' 1 a = (last_a, tt) in
     let kept : (j : ℕ) → j < length counts → Ends lens' lasts' (get_or counts j 0) (get_or chains (j + 1) []) =
-    λ j lt. ends_kept lens lens' lasts lasts' (get_or counts j 0) (get_or chains (j + 1) []) (λ x s. get_or-set_other lens first x len 0 (apart j x lt s)) (λ x s. get_or-set_other lasts first x last 0 (apart j x lt s)) (p.used j lt) (all.each j lt) in
-    let used_i : uses lens' (get_or counts i 0) c ≡ length c = (blocks_kept chunks chunks lens lens' (get_or counts i 0) c (λ x s. refl) (λ x s. get_or-set_other lens first x len 0 (apart i x h s)) (p.used i h)).1 ∙ p.used i h in
+    λ j lt. ends_kept lens lens' lasts lasts' (get_or counts j 0) (get_or chains (j + 1) [])
+    (λ x s. get_or-set_other lens first x len 0 (apart j x lt s))
+    (λ x s. get_or-set_other lasts first x last 0 (apart j x lt s)) (p.used j lt) (all.each j lt) in
+    let used_i : uses lens' (get_or counts i 0) c ≡ length c =
+    (blocks_kept chunks chunks lens lens' (get_or counts i 0) c (λ x s. refl)
+    (λ x s. get_or-set_other lens first x len 0 (apart i x h s)) (p.used i h)).1 ∙ p.used i h in
     let joined = ends_append lens' lasts' (get_or counts i 0) c a used_i (kept i h) block_a in
     rw moves (record {
       lasts_too = length-set lasts first last ∙ all.lasts_too ∙ sym (length-set lens first len);
@@ -161,22 +189,28 @@ ends_appended chains chunks chains' lens lasts counts i k n first last len p all
           bool_cases (eqb j i)
           (λ z. let same : i ≡ j = sym (eqb-true j i z) in
           let y : get_or (set counts i n) i 0 ≡ get_or counts i 0 + 1 = get_or-set_same counts i n 0 h ∙ more in
-          let here : Ends lens' lasts' (get_or (set counts i n) i 0) (get_or (moved chains 0 (i + 1) k) (i + 1) []) = rw (next, y) joined in
-          subst (λ (v : ℕ). Ends lens' lasts' (get_or (set counts i n) v 0) (get_or (moved chains 0 (i + 1) k) (v + 1) [])) same here)
+          let here : Ends lens' lasts' (get_or (set counts i n) i 0) (get_or (moved chains 0 (i + 1) k) (i + 1) []) =
+          rw (next, y) joined in
+          subst (λ (v : ℕ). Ends lens' lasts' (get_or (set counts i n) v 0) (get_or (moved chains 0 (i + 1) k) (v + 1) [])) same
+          here)
           (λ z. let other : j ≢ i = eqb-false j i z in
           let nx : j + 1 ≢ i + 1 = (λ v. other (omega (arith, v))) in
           let nz : j + 1 ≢ 0 = (λ v. omega (arith, v)) in
-          let x : get_or (moved chains 0 (i + 1) k) (j + 1) [] ≡ get_or chains (j + 1) [] = get_or-set_other first_set (i + 1) (j + 1) (c ++ a) [] nx ∙ get_or-set_other chains 0 (j + 1) (drop k free) [] nz in
+          let x : get_or (moved chains 0 (i + 1) k) (j + 1) [] ≡ get_or chains (j + 1) [] =
+          get_or-set_other first_set (i + 1) (j + 1) (c ++ a) [] nx ∙ get_or-set_other chains 0 (j + 1) (drop k free) [] nz in
           let y : get_or (set counts i n) j 0 ≡ get_or counts j 0 = get_or-set_other counts i j n 0 other in
           rw (x, y) (kept j lt));
     })
 
 -- an empty pool
-pub ends_blank : (chains : List (List ℕ)) (lens lasts counts : List ℕ) (n lists : ℕ) → lens ≡ replicate n 0 → lasts ≡ replicate n 0 → counts ≡ replicate lists 0 → AreEnds chains lens lasts counts
-ends_blank chains lens lasts counts n lists a b c = rw (a, b, c) (record { lasts_too = refl; each = λ i lt. rw (zero_at lists i) tt })
+pub ends_blank : (chains : List (List ℕ)) (lens lasts counts : List ℕ) (n lists : ℕ) → lens ≡ replicate n 0
+    → lasts ≡ replicate n 0 → counts ≡ replicate lists 0 → AreEnds chains lens lasts counts
+ends_blank chains lens lasts counts n lists a b c =
+    rw (a, b, c) (record { lasts_too = refl; each = λ i lt. rw (zero_at lists i) tt })
 
 -- the chain that grew
-pub moved_place : (chains chains' : List (List ℕ)) (i k : ℕ) → chains' ≡ moved chains 0 (i + 1) k → i + 1 < length chains → 0 < k → k ≤ length (get_or chains 0 [])
+pub moved_place : (chains chains' : List (List ℕ)) (i k : ℕ) → chains' ≡ moved chains 0 (i + 1) k → i + 1 < length chains → 0 < k
+    → k ≤ length (get_or chains 0 [])
     → (i + 1 < length chains') × (0 < length (get_or chains' (i + 1) []))
 moved_place chains chains' i k moves hi some enough =
     let free : List ℕ = get_or chains 0 [] in
@@ -184,6 +218,7 @@ moved_place chains chains' i k moves hi some enough =
     let first : List (List ℕ) = set chains 0 (drop k free) in
     let long : length first ≡ length chains = length-set chains 0 (drop k free) in
     let all : length (moved chains 0 (i + 1) k) ≡ length chains = length-set first (i + 1) (c ++ take k free) ∙ long in
-    let next : get_or (moved chains 0 (i + 1) k) (i + 1) [] ≡ c ++ take k free = get_or-set_same first (i + 1) (c ++ take k free) [] (rw long hi) in
+    let next : get_or (moved chains 0 (i + 1) k) (i + 1) [] ≡ c ++ take k free =
+    get_or-set_same first (i + 1) (c ++ take k free) [] (rw long hi) in
     let size = ap length next ∙ length-append c (take k free) in
     rw moves (omega (arith, all, hi), omega (arith, size, length-take-le k free enough, some))

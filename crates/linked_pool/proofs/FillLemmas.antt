@@ -1,9 +1,12 @@
 -- One more chunk has a piece of the block.
-use Rattle.std.proofs.Common.{◌≡◌, ◌≢◌, ℕ, zero, suc, ◌+◌, ◌-◌, ◌*◌, ◌<◌, ◌≤◌, min, List, [], ◌∷◌, ◌++◌, length, take, drop, get_or, set, refl, ap, sym, ◌∙◌, subst, arith, length-append, length-set, append_assoc, length-drop}
-use Rattle.std.proofs.lemmas.List.{get_or-set_same, get_or-set_other, take-append-drop, length-take, length-take-le, take_all, take_at, take_more, drop_at, take_min, drop-drop, get_or-drop, take-append-le}
+use Rattle.std.proofs.Common.{◌≡◌, ◌≢◌, ℕ, zero, suc, ◌+◌, ◌-◌, ◌*◌, ◌<◌, ◌≤◌, min, List, [], ◌∷◌, ◌++◌, length, take, drop}
+use Rattle.std.proofs.Common.{get_or, set, refl, ap, sym, ◌∙◌, subst, arith, length-append, length-set, append_assoc, length-drop}
+use Rattle.std.proofs.lemmas.List.{get_or-set_same, get_or-set_other, take-append-drop, length-take, length-take-le, take_all}
+use Rattle.std.proofs.lemmas.List.{take_at, take_more, drop_at, take_min, drop-drop, get_or-drop, take-append-le}
 use Rattle.linked_pool.specs.Chains.{count, occurs, moved}
 use Rattle.linked_pool.specs.Pool.{State, chunks_for, appended, list_at}
-use Rattle.linked_pool.specs.Blocks.{joined, Fills, piece_of, IsPool, view_of, IsRef, ref_bytes, IsRest, rest_bytes, blocks_of, front_chunks, uses, all_of}
+use Rattle.linked_pool.specs.Blocks.{joined, Fills, piece_of, IsPool, view_of, IsRef, ref_bytes, IsRest, rest_bytes, blocks_of}
+use Rattle.linked_pool.specs.Blocks.{front_chunks, uses, all_of}
 use Rattle.std.proofs.Common.{eqb, ltb}
 use Rattle.std.proofs.lemmas.Bool.{eqb-true, eqb-false, ltb-true, ltb-false}
 use Rattle.terms.proofs.CaseLemmas.{bool_cases}
@@ -15,20 +18,24 @@ take_add : (n m : ℕ) (xs : List ℕ) → take (n + m) xs ≡ take n xs ++ take
 take_add zero m xs = let e : 0 + m ≡ m = omega arith in ap (λ (k : ℕ). take k xs) e
 take_add (suc n) zero [] = let e : suc n + 0 ≡ suc n = omega arith in rw e refl
 take_add (suc n) (suc m) [] = let e : suc n + suc m ≡ suc (n + suc m) = omega arith in rw e refl
-take_add (suc n) m (x ∷ xs) = let e : suc n + m ≡ suc (n + m) = omega arith in rw e (ap (λ (ys : List ℕ). x ∷ ys) (take_add n m xs))
+take_add (suc n) m (x ∷ xs) = let e : suc n + m ≡ suc (n + m) = omega arith in
+    rw e (ap (λ (ys : List ℕ). x ∷ ys) (take_add n m xs))
 
 joined-append : (chunks : List (List ℕ)) (xs ys : List ℕ) → joined chunks (xs ++ ys) ≡ joined chunks xs ++ joined chunks ys
 joined-append chunks [] ys = refl
-joined-append chunks (x ∷ xs) ys = rw (joined-append chunks xs ys) (sym (append_assoc (get_or chunks x []) (joined chunks xs) (joined chunks ys)))
+joined-append chunks (x ∷ xs) ys =
+    rw (joined-append chunks xs ys) (sym (append_assoc (get_or chunks x []) (joined chunks xs) (joined chunks ys)))
 
 -- a chain's chunk isn't one before it
-not_before : (chain : List ℕ) (i : ℕ) → i < length chain → count (get_or chain i 0) chain ≤ 1 → count (get_or chain i 0) (take i chain) ≡ 0
+not_before : (chain : List ℕ) (i : ℕ) → i < length chain → count (get_or chain i 0) chain ≤ 1
+    → count (get_or chain i 0) (take i chain) ≡ 0
 not_before chain i h one =
     let x : ℕ = get_or chain i 0 in
     let more : take (i + 1) chain ≡ take i chain ++ x ∷ [] = take_more chain i 0 h in
     let sum = ap (count x) more ∙ count-append x (take i chain) (x ∷ []) in
     let here = count_one x [] in
-    let whole : count x (take (i + 1) chain) + count x (drop (i + 1) chain) ≡ count x chain = sym (count-append x (take (i + 1) chain) (drop (i + 1) chain)) ∙ ap (count x) (take-append-drop (i + 1) chain) in
+    let whole : count x (take (i + 1) chain) + count x (drop (i + 1) chain) ≡ count x chain =
+    sym (count-append x (take (i + 1) chain) (drop (i + 1) chain)) ∙ ap (count x) (take-append-drop (i + 1) chain) in
     omega (arith, one, sum, here, whole)
 
 pub in_chain : (chain : List ℕ) (i : ℕ) → i < length chain → 0 < count (get_or chain i 0) chain
@@ -36,7 +43,8 @@ in_chain [] i h = absurd (omega arith)
 in_chain (x ∷ chain) zero h = let e = count_one x chain in omega (arith, e)
 in_chain (x ∷ chain) (suc i) h = let k = in_chain chain i (omega arith) in omega (arith, k)
 
-whole_set : (new : List (List ℕ)) (x : ℕ) (v : List ℕ) (c : ℕ) → x < length new → length v ≡ 256 → ((c : ℕ) → c < length new → length (get_or new c []) ≡ 256) → c < length new → length (get_or (set new x v) c []) ≡ 256
+whole_set : (new : List (List ℕ)) (x : ℕ) (v : List ℕ) (c : ℕ) → x < length new → length v ≡ 256
+    → ((c : ℕ) → c < length new → length (get_or new c []) ≡ 256) → c < length new → length (get_or (set new x v) c []) ≡ 256
 whole_set new x v c inside size w lt =
     bool_cases (eqb c x)
     (λ e. let same : x ≡ c = sym (eqb-true c x e) in
@@ -44,8 +52,10 @@ whole_set new x v c inside size w lt =
     subst (λ (y : ℕ). length (get_or (set new x v) y []) ≡ 256) same here)
     (λ e. rw (get_or-set_other new x c v [] (eqb-false c x e)) (w c lt))
 
-pub fills_more : (chain block : List ℕ) (i : ℕ) (old new : List (List ℕ)) (piece rest : List ℕ) → i < length chain → ((c : ℕ) → count c chain ≤ 1) → ((c : ℕ) → 0 < count c chain → c < length new) → 256 * i ≤ length block →
-    piece ≡ piece_of block i → length (piece ++ rest) ≡ 256 → Fills chain block i old new → Fills chain block (i + 1) old (set new (get_or chain i 0) (piece ++ rest))
+pub fills_more : (chain block : List ℕ) (i : ℕ) (old new : List (List ℕ)) (piece rest : List ℕ) → i < length chain
+    → ((c : ℕ) → count c chain ≤ 1) → ((c : ℕ) → 0 < count c chain → c < length new) → 256 * i ≤ length block →
+    piece ≡ piece_of block i → length (piece ++ rest) ≡ 256 → Fills chain block i old new
+    → Fills chain block (i + 1) old (set new (get_or chain i 0) (piece ++ rest))
 fills_more chain block i old new piece rest h apart there fits is size f =
     let x : ℕ = get_or chain i 0 in
     let v : List ℕ = piece ++ rest in
@@ -53,30 +63,41 @@ fills_more chain block i old new piece rest h apart there fits is size f =
     let inside : x < length new = there x (in_chain chain i h) in
     let before : count x (take i chain) ≡ 0 = not_before chain i h (apart x) in
     let more : take (i + 1) chain ≡ take i chain ++ x ∷ [] = take_more chain i 0 h in
-    let parts : (c : ℕ) → count c (take i chain) + count c (drop i chain) ≡ count c chain = λ c. sym (count-append c (take i chain) (drop i chain)) ∙ ap (count c) (take-append-drop i chain) in
+    let parts : (c : ℕ) → count c (take i chain) + count c (drop i chain) ≡ count c chain =
+    λ c. sym (count-append c (take i chain) (drop i chain)) ∙ ap (count c) (take-append-drop i chain) in
     let whole : Whole new (take i chain) = record { at = λ c s. f.whole c (there c (let e = parts c in omega (arith, e, s))) } in
     let front : joined new' (take i chain) ≡ joined new (take i chain) =
-    joined_kept new new' (take i chain) (λ c s. get_or-set_other new x c v [] (λ z. let t : 0 < count x (take i chain) = subst (λ (y : ℕ). 0 < count y (take i chain)) z s in omega (arith, t, before))) in
+    joined_kept new new' (take i chain)
+    (λ c s. get_or-set_other new x c v [] (λ z. let t : 0 < count x (take i chain) =
+    subst (λ (y : ℕ). 0 < count y (take i chain)) z s in omega (arith, t, before))) in
     let back : joined new' (x ∷ []) ≡ v ++ [] = ap (λ (ys : List ℕ). ys ++ []) (get_or-set_same new x v [] inside) in
     let j : List ℕ = joined new (take i chain) in
     let done : List ℕ = take (256 * i) block in
-    let long : length j ≡ 256 * i = length-joined new (take i chain) whole ∙ ap (λ (n : ℕ). 256 * n) (length-take-le i chain (omega arith)) in
+    let long : length j ≡ 256 * i = length-joined new (take i chain) whole
+    ∙ ap (λ (n : ℕ). 256 * n) (length-take-le i chain (omega arith)) in
     let long' : length done ≡ 256 * i = length-take-le (256 * i) block fits in
     let exact : j ≡ done = sym (take_all (length done) j (omega (arith, long, long'))) ∙ f.bytes in
-    let all : joined new' (take (i + 1) chain) ≡ done ++ (v ++ []) = ap (joined new') more ∙ joined-append new' (take i chain) (x ∷ []) ∙ rw (front, back, exact) refl in
+    let all : joined new' (take (i + 1) chain) ≡ done ++ (v ++ []) = ap (joined new') more
+    ∙ joined-append new' (take i chain) (x ∷ []) ∙ rw (front, back, exact) refl in
     let e : 256 * (i + 1) ≡ 256 * i + 256 = omega arith in
-    let goal : take (256 * (i + 1)) block ≡ done ++ piece = ap (λ (n : ℕ). take n block) e ∙ take_add (256 * i) 256 block ∙ ap (λ (ys : List ℕ). done ++ ys) (sym is) in
-    let split : done ++ (v ++ []) ≡ (done ++ piece) ++ (rest ++ []) = ap (λ (ys : List ℕ). done ++ ys) (append_assoc piece rest []) ∙ sym (append_assoc done piece (rest ++ [])) in
+    let goal : take (256 * (i + 1)) block ≡ done ++ piece = ap (λ (n : ℕ). take n block) e ∙ take_add (256 * i) 256 block
+    ∙ ap (λ (ys : List ℕ). done ++ ys) (sym is) in
+    let split : done ++ (v ++ []) ≡ (done ++ piece) ++ (rest ++ []) =
+    ap (λ (ys : List ℕ). done ++ ys) (append_assoc piece rest []) ∙ sym (append_assoc done piece (rest ++ [])) in
     record {
       bytes = rw (goal, all, split) (take_at (done ++ piece) (rest ++ []) (length (done ++ piece)) refl);
       kept = λ c none.
           let sum = ap (count c) more ∙ count-append c (take i chain) (x ∷ []) in
-          let nx : c ≢ x = (λ z. let one = count_one x [] in let t : count x (take (i + 1) chain) ≡ 0 = subst (λ (y : ℕ). count y (take (i + 1) chain) ≡ 0) z none in let sum' = ap (count x) more ∙ count-append x (take i chain) (x ∷ []) in omega (arith, t, sum', one)) in
+          let nx : c ≢ x =
+          (λ z. let one = count_one x [] in let t : count x (take (i + 1) chain) ≡ 0 =
+          subst (λ (y : ℕ). count y (take (i + 1) chain) ≡ 0) z none in let sum' =
+          ap (count x) more ∙ count-append x (take i chain) (x ∷ []) in omega (arith, t, sum', one)) in
           get_or-set_other new x c v [] nx ∙ f.kept c (omega (arith, none, sum));
       whole = λ c lt0. let lt : c < length new = rw (length-set new x v) at lt0 in whole_set new x v c inside size f.whole lt;
     }
 
-pub piece_law : (block : List ℕ) (i end : ℕ) → 256 * i ≤ length block → end ≡ min (length block) (256 * i + 256) → take (end - 256 * i) (drop (256 * i) block) ≡ piece_of block i
+pub piece_law : (block : List ℕ) (i end : ℕ) → 256 * i ≤ length block → end ≡ min (length block) (256 * i + 256)
+    → take (end - 256 * i) (drop (256 * i) block) ≡ piece_of block i
 piece_law block i end h e =
     let long = length-drop (256 * i) block in
     let n : end - 256 * i ≡ min 256 (length (drop (256 * i) block)) = omega (arith, e, long) in
@@ -85,7 +106,8 @@ piece_law block i end h e =
 pub length-piece : (block : List ℕ) (i : ℕ) → length (piece_of block i) ≤ 256
 length-piece block i = let e = length-take 256 (drop (256 * i) block) in omega (arith, e)
 
-pub there_in : (cs : List (List ℕ)) (i n : ℕ) → ((c : ℕ) → 0 < occurs c cs → c < n) → 0 < length cs → i < length (get_or cs 0 []) → get_or (get_or cs 0 []) i 0 < n
+pub there_in : (cs : List (List ℕ)) (i n : ℕ) → ((c : ℕ) → 0 < occurs c cs → c < n) → 0 < length cs → i < length (get_or cs 0 [])
+    → get_or (get_or cs 0 []) i 0 < n
 there_in cs i n there some h =
     let x : ℕ = get_or (get_or cs 0 []) i 0 in
     let k = in_chain (get_or cs 0 []) i h in
@@ -93,31 +115,43 @@ there_in cs i n there some h =
     there x (omega (arith, k, m))
 
 -- the step of the loop
-pub fills_step : (cs : List (List ℕ)) (block : List ℕ) (i chunk : ℕ) (old new : List (List ℕ)) (piece was put : List ℕ) → ((c : ℕ) → 0 < occurs c cs → c < length new) → ((c : ℕ) → occurs c cs ≤ 1) → 0 < length cs →
-    i < length (get_or cs 0 []) → 256 * i ≤ length block → chunk ≡ get_or (get_or cs 0 []) i 0 → piece ≡ piece_of block i → was ≡ get_or new chunk [] → put ≡ piece ++ drop (length piece) was →
+pub fills_step : (cs : List (List ℕ)) (block : List ℕ) (i chunk : ℕ) (old new : List (List ℕ)) (piece was put : List ℕ)
+    → ((c : ℕ) → 0 < occurs c cs → c < length new) → ((c : ℕ) → occurs c cs ≤ 1) → 0 < length cs →
+    i < length (get_or cs 0 []) → 256 * i ≤ length block → chunk ≡ get_or (get_or cs 0 []) i 0 → piece ≡ piece_of block i
+    → was ≡ get_or new chunk [] → put ≡ piece ++ drop (length piece) was →
     Fills (get_or cs 0 []) block i old new → Fills (get_or cs 0 []) block (i + 1) old (set new chunk put)
 fills_step cs block i chunk old new piece was put there apart some h fits at is same e f =
     let chain : List ℕ = get_or cs 0 [] in
     let one : (c : ℕ) → count c chain ≤ 1 = λ c. (let m = occurs-at c cs 0 some in let a = apart c in omega (arith, m, a)) in
-    let in_new : (c : ℕ) → 0 < count c chain → c < length new = λ c s. there c (let m = occurs-at c cs 0 some in omega (arith, m, s)) in
+    let in_new : (c : ℕ) → 0 < count c chain → c < length new =
+    λ c s. there c (let m = occurs-at c cs 0 some in omega (arith, m, s)) in
     let inside : chunk < length new = rw at (in_new (get_or chain i 0) (in_chain chain i h)) in
     let old_long : length was ≡ 256 = ap length same ∙ f.whole chunk inside in
     let short : length piece ≤ 256 = rw is (length-piece block i) in
-    let size : length (piece ++ drop (length piece) was) ≡ 256 = length-append piece (drop (length piece) was) ∙ (let d = length-drop (length piece) was in omega (arith, d, old_long, short)) in
+    let size : length (piece ++ drop (length piece) was) ≡ 256 = length-append piece (drop (length piece) was)
+    ∙ (let d = length-drop (length piece) was in omega (arith, d, old_long, short)) in
     rw (e, at) (fills_more chain block i old new piece (drop (length piece) was) h one in_new fits is size f)
 
 -- the code's append
-pub append_done : (view : State) (chains chunks chunks' chunks'' chains' : List (List ℕ)) (lens counts : List ℕ) (i k n first : ℕ) (block : List ℕ) → view ≡ view_of chains chunks lens counts → IsPool chains chunks lens counts → i < length view.lists →
-    k ≡ chunks_for (length block) → k ≤ length (get_or chains 0 []) → length chunks' ≡ length chunks → chunks'' ≡ chunks' → Fills (get_or chains 0 []) block k chunks chunks' →
+pub append_done : (view : State) (chains chunks chunks' chunks'' chains' : List (List ℕ)) (lens counts : List ℕ) (i k n first : ℕ)
+    (block : List ℕ) → view ≡ view_of chains chunks lens counts → IsPool chains chunks lens counts → i < length view.lists →
+    k ≡ chunks_for (length block) → k ≤ length (get_or chains 0 []) → length chunks' ≡ length chunks → chunks'' ≡ chunks'
+    → Fills (get_or chains 0 []) block k chunks chunks' →
     first ≡ get_or (get_or chains 0 []) 0 0 → n ≡ get_or counts i 0 + 1 → chains' ≡ moved chains 0 (i + 1) k →
-    IsPool chains' chunks'' (set lens first (length block)) (set counts i n) × (view_of chains' chunks'' (set lens first (length block)) (set counts i n) ≡ appended view i block)
-append_done view chains chunks chunks' chunks'' chains' lens counts i k n first block e p h size enough same copied f at more moves =
+    IsPool chains' chunks'' (set lens first (length block)) (set counts i n)
+    × (view_of chains' chunks'' (set lens first (length block)) (set counts i n) ≡ appended view i block)
+append_done view chains chunks chunks' chunks'' chains' lens counts i k n first block e p h size enough same copied f at more
+    moves =
     let whole : take (256 * k) block ≡ block = take_all (256 * k) block (omega (arith, size)) in
     let bytes : take (length block) (joined chunks' (take k (get_or chains 0 []))) ≡ block = rw whole at f.bytes in
-    rw (copied, at) (append_law view chains chunks chunks' chains' lens (set lens (get_or (get_or chains 0 []) 0 0) (length block)) counts i k n block e p h
-    (record { size = size; enough = enough; same = same; kept = f.kept; bytes = bytes; whole = f.whole; lens_is = refl }) more moves)
+    rw (copied, at)
+    (append_law view chains chunks chunks' chains' lens (set lens (get_or (get_or chains 0 []) 0 0) (length block)) counts i k
+    n block e p h
+    (record { size = size; enough = enough; same = same; kept = f.kept; bytes = bytes; whole = f.whole; lens_is = refl }) more
+    moves)
 
-pub first_free : (chains chunks : List (List ℕ)) (lens counts : List ℕ) (first : ℕ) → IsPool chains chunks lens counts → 0 < length (get_or chains 0 []) → first ≡ get_or (get_or chains 0 []) 0 0 → first < length lens
+pub first_free : (chains chunks : List (List ℕ)) (lens counts : List ℕ) (first : ℕ) → IsPool chains chunks lens counts
+    → 0 < length (get_or chains 0 []) → first ≡ get_or (get_or chains 0 []) 0 0 → first < length lens
 first_free chains chunks lens counts first p has e =
     let lists = p.lists in
     let same = p.lens_too in
@@ -126,20 +160,26 @@ first_free chains chunks lens counts first p has e =
     (λ z. let none = p.within c (ltb-false c (length chunks) z) in absurd (omega (arith, none, s))) in
     rw e (there_in chains 0 (length lens) there (omega (arith, lists)) has)
 
-pub length-ref : (chains chunks : List (List ℕ)) (i offset first len : ℕ) → IsRef chains chunks i offset first len → len ≡ length (ref_bytes chains chunks i offset len)
+pub length-ref : (chains chunks : List (List ℕ)) (i offset first len : ℕ) → IsRef chains chunks i offset first len
+    → len ≡ length (ref_bytes chains chunks i offset len)
 length-ref chains chunks i offset first len r =
     let chain : List ℕ = drop offset (get_or chains i []) in
-    let all : Whole chunks (get_or chains i []) = record { at = λ c s. r.whole c (r.there c (let m = occurs-at c chains i r.inside in omega (arith, m, s))) } in
-    let part = length-joined chunks (take (chunks_for len) chain) (whole_take chunks (chunks_for len) chain (whole_drop chunks offset (get_or chains i []) all)) in
+    let all : Whole chunks (get_or chains i []) =
+    record { at = λ c s. r.whole c (r.there c (let m = occurs-at c chains i r.inside in omega (arith, m, s))) } in
+    let part =
+    length-joined chunks (take (chunks_for len) chain)
+    (whole_take chunks (chunks_for len) chain (whole_drop chunks offset (get_or chains i []) all)) in
     let size = length-take-le (chunks_for len) chain r.enough in
     sym (length-take-le len (joined chunks (take (chunks_for len) chain)) (omega (arith, part, size)))
 
 pub record AtBlock (chunks : List (List ℕ)) (lens : List ℕ) (n : ℕ) (chain : List ℕ) (p : ℕ) : Type 0 where
   pub fits : front_chunks lens (drop (uses lens p chain) chain) ≤ length (drop (uses lens p chain) chain)
   pub more : uses lens (p + 1) chain ≡ uses lens p chain + front_chunks lens (drop (uses lens p chain) chain)
-  pub is : get_or (blocks_of chunks lens n chain) p [] ≡ take (get_or lens (get_or (drop (uses lens p chain) chain) 0 0) 0) (joined chunks (take (front_chunks lens (drop (uses lens p chain) chain)) (drop (uses lens p chain) chain)))
+  pub is : get_or (blocks_of chunks lens n chain) p [] ≡ take (get_or lens (get_or (drop (uses lens p chain) chain) 0 0) 0)
+      (joined chunks (take (front_chunks lens (drop (uses lens p chain) chain)) (drop (uses lens p chain) chain)))
 
-pub at_block : (chunks : List (List ℕ)) (lens : List ℕ) (n : ℕ) (chain : List ℕ) (p : ℕ) → uses lens n chain ≡ length chain → p < n → AtBlock chunks lens n chain p
+pub at_block : (chunks : List (List ℕ)) (lens : List ℕ) (n : ℕ) (chain : List ℕ) (p : ℕ) → uses lens n chain ≡ length chain
+    → p < n → AtBlock chunks lens n chain p
 at_block chunks lens zero chain p u h = absurd (omega arith)
 at_block chunks lens (suc m) chain zero u h = record { fits = omega (arith, u); more = omega arith; is = refl }
 at_block chunks lens (suc m) chain (suc p) u h =
@@ -164,8 +204,10 @@ pub record Step (chains : List (List ℕ)) (lens counts : List ℕ) (i p offset 
   pub fits : offset + chunks_for (get_or lens chunk 0) ≤ all_of chains
 
 -- a block's first chunk, by the blocks before it
-pub step : (chains chunks : List (List ℕ)) (lens counts : List ℕ) (i p offset chunk : ℕ) → IsPool chains chunks lens counts → i < length counts → p < get_or counts i 0 →
-    offset ≡ uses lens p (get_or chains (i + 1) []) → chunk ≡ get_or (get_or chains (i + 1) []) offset 0 → Step chains lens counts i p offset chunk
+pub step : (chains chunks : List (List ℕ)) (lens counts : List ℕ) (i p offset chunk : ℕ) → IsPool chains chunks lens counts
+    → i < length counts → p < get_or counts i 0 →
+    offset ≡ uses lens p (get_or chains (i + 1) []) → chunk ≡ get_or (get_or chains (i + 1) []) offset 0
+    → Step chains lens counts i p offset chunk
 step chains chunks lens counts i p offset chunk pool h lt o c =
     let chain : List ℕ = get_or chains (i + 1) [] in
     let lists = pool.lists in
@@ -175,16 +217,31 @@ step chains chunks lens counts i p offset chunk pool h lt o c =
     let fits = r.fits in
     let gone = length-drop (uses lens p chain) chain in
     let inside : offset < length chain = omega (arith, fits, gone, o) in
-    let head : get_or (drop (uses lens p chain) chain) 0 0 ≡ chunk = get_or-drop (uses lens p chain) chain 0 0 ∙ ap (λ (n : ℕ). get_or chain n 0) (omega (arith, o)) ∙ sym c in
-    let has : 0 < occurs (get_or chain offset 0) chains = (let a = in_chain chain offset inside in let m = occurs-at (get_or chain offset 0) chains (i + 1) hi in omega (arith, a, m)) in
-    let there : get_or chain offset 0 < length lens = bool_cases (ltb (get_or chain offset 0) (length chunks)) (λ z. let l = ltb-true (get_or chain offset 0) (length chunks) z in omega (arith, l, same))
-    (λ z. let none = pool.within (get_or chain offset 0) (ltb-false (get_or chain offset 0) (length chunks) z) in absurd (omega (arith, none, has))) in
-    let size : front_chunks lens (drop (uses lens p chain) chain) ≡ chunks_for (get_or lens chunk 0) = ap (λ (x : ℕ). chunks_for (get_or lens x 0)) head in
+    let head : get_or (drop (uses lens p chain) chain) 0 0 ≡ chunk = get_or-drop (uses lens p chain) chain 0 0
+    ∙ ap (λ (n : ℕ). get_or chain n 0) (omega (arith, o)) ∙ sym c in
+    let has : 0 < occurs (get_or chain offset 0) chains =
+    (let a = in_chain chain offset inside in let m = occurs-at (get_or chain offset 0) chains (i + 1) hi in
+    omega (arith, a, m)) in
+    let there : get_or chain offset 0 < length lens =
+    bool_cases (ltb (get_or chain offset 0) (length chunks))
+    (λ z. let l = ltb-true (get_or chain offset 0) (length chunks) z in omega (arith, l, same))
+    (λ z. let none = pool.within (get_or chain offset 0) (ltb-false (get_or chain offset 0) (length chunks) z) in
+    absurd (omega (arith, none, has))) in
+    let size : front_chunks lens (drop (uses lens p chain) chain) ≡ chunks_for (get_or lens chunk 0) =
+    ap (λ (x : ℕ). chunks_for (get_or lens x 0)) head in
     let more = r.more in
-    record { inside = inside; there = rw c there; next = omega (arith, more, size, o); fits = (let m = all-at chains (i + 1) hi in omega (arith, m, fits, size, gone, o, inside)) }
+    record {
+      inside = inside;
+      there = rw c there;
+      next = omega (arith, more, size, o);
+      fits = (let m = all-at chains (i + 1) hi in omega (arith, m, fits, size, gone, o, inside));
+    }
 
-pub block_is : (view : State) (chains chunks : List (List ℕ)) (lens counts : List ℕ) (i p offset chunk len : ℕ) → view ≡ view_of chains chunks lens counts → IsPool chains chunks lens counts → i < length view.lists → p < get_or counts i 0 →
-    offset ≡ uses lens p (get_or chains (i + 1) []) → chunk ≡ get_or (get_or chains (i + 1) []) offset 0 → len ≡ get_or lens chunk 0 →
+pub block_is : (view : State) (chains chunks : List (List ℕ)) (lens counts : List ℕ) (i p offset chunk len : ℕ)
+    → view ≡ view_of chains chunks lens counts → IsPool chains chunks lens counts → i < length view.lists → p < get_or counts i 0
+    →
+    offset ≡ uses lens p (get_or chains (i + 1) []) → chunk ≡ get_or (get_or chains (i + 1) []) offset 0
+    → len ≡ get_or lens chunk 0 →
     IsRef chains chunks (i + 1) offset chunk len × (ref_bytes chains chunks (i + 1) offset len ≡ get_or (list_at view i) p [])
 block_is view chains chunks lens counts i p offset chunk len e pool h lt o c size =
     let inside = list_inside view chains chunks lens counts i e pool h in
@@ -194,20 +251,24 @@ block_is view chains chunks lens counts i p offset chunk len e pool h lt o c siz
     let r = at_block chunks lens (get_or counts i 0) chain p (pool.used i inside) lt in
     let fits = r.fits in
     let bytes = r.is in
-    let head : get_or (drop (uses lens p chain) chain) 0 0 ≡ chunk = get_or-drop (uses lens p chain) chain 0 0 ∙ ap (λ (n : ℕ). get_or chain n 0) (omega (arith, o)) ∙ sym c in
-    let len_is : len ≡ get_or lens (get_or (drop (uses lens p chain) chain) 0 0) 0 = size ∙ ap (λ (x : ℕ). get_or lens x 0) (sym head) in (
+    let head : get_or (drop (uses lens p chain) chain) 0 0 ≡ chunk = get_or-drop (uses lens p chain) chain 0 0
+    ∙ ap (λ (n : ℕ). get_or chain n 0) (omega (arith, o)) ∙ sym c in
+    let len_is : len ≡ get_or lens (get_or (drop (uses lens p chain) chain) 0 0) 0 =
+    size ∙ ap (λ (x : ℕ). get_or lens x 0) (sym head) in (
       record {
         inside = omega (arith, lists, inside);
         enough = rw (o, len_is) fits;
         at = c;
-        there = λ x s. bool_cases (ltb x (length chunks)) (λ z. ltb-true x (length chunks) z) (λ z. let none = pool.within x (ltb-false x (length chunks) z) in absurd (omega (arith, none, s)));
+        there = λ x s. bool_cases (ltb x (length chunks)) (λ z. ltb-true x (length chunks) z)
+            (λ z. let none = pool.within x (ltb-false x (length chunks) z) in absurd (omega (arith, none, s)));
         whole = pool.size;
         few = (let m = all-at chains (i + 1) (omega (arith, lists, inside)) in omega (arith, m, pool.all, pool.few_chunks));
       },
       rw (o, len_is) (sym bytes ∙ ap (λ (bs : List (List ℕ)). get_or bs p []) (sym is)),
     )
 
-pub begins : (chains chunks : List (List ℕ)) (lens counts : List ℕ) (i p : ℕ) → IsPool chains chunks lens counts → i < length counts → p < get_or counts i 0 → uses lens p (get_or chains (i + 1) []) < length (get_or chains (i + 1) [])
+pub begins : (chains chunks : List (List ℕ)) (lens counts : List ℕ) (i p : ℕ) → IsPool chains chunks lens counts
+    → i < length counts → p < get_or counts i 0 → uses lens p (get_or chains (i + 1) []) < length (get_or chains (i + 1) [])
 begins chains chunks lens counts i p pool h lt =
     let chain : List ℕ = get_or chains (i + 1) [] in
     let r = at_block chunks lens (get_or counts i 0) chain p (pool.used i h) lt in
@@ -216,7 +277,8 @@ begins chains chunks lens counts i p pool h lt =
     omega (arith, fits, gone)
 
 -- the bytes from an offset on
-pub joined_take : (chunks : List (List ℕ)) (chain : List ℕ) (k n : ℕ) → Whole chunks chain → k ≤ length chain → n ≤ 256 * k → take n (joined chunks (take k chain)) ≡ take n (joined chunks chain)
+pub joined_take : (chunks : List (List ℕ)) (chain : List ℕ) (k n : ℕ) → Whole chunks chain → k ≤ length chain → n ≤ 256 * k
+    → take n (joined chunks (take k chain)) ≡ take n (joined chunks chain)
 joined_take chunks chain k n w le few =
     let whole = length-joined chunks (take k chain) (whole_take chunks k chain w) in
     let size = length-take-le k chain le in
@@ -229,7 +291,8 @@ pub pieces_is : (chains chunks : List (List ℕ)) (i offset first len : ℕ) →
     IsRest chains chunks i offset first len × (rest_bytes chains chunks i offset len ≡ ref_bytes chains chunks i offset len)
 pieces_is chains chunks i offset first len r =
     let chain : List ℕ = drop offset (get_or chains i []) in
-    let all : Whole chunks (get_or chains i []) = record { at = λ c s. r.whole c (r.there c (let m = occurs-at c chains i r.inside in omega (arith, m, s))) } in
+    let all : Whole chunks (get_or chains i []) =
+    record { at = λ c s. r.whole c (r.there c (let m = occurs-at c chains i r.inside in omega (arith, m, s))) } in
     let fits : len ≤ 256 * chunks_for len = omega arith in
     let enough = r.enough in (
       record {
@@ -250,24 +313,30 @@ pub record Lends (chains chunks : List (List ℕ)) (i offset chunk left : ℕ) (
   pub long : length piece ≡ count
   pub bytes : rest_bytes chains chunks i offset left ≡ piece ++ rest_bytes chains chunks i (offset + 1) (left - count)
 
-split_first : (chunks : List (List ℕ)) (x : ℕ) (rest : List ℕ) (left count : ℕ) → length (get_or chunks x []) ≡ 256 → count ≡ min left 256 →
+split_first : (chunks : List (List ℕ)) (x : ℕ) (rest : List ℕ) (left count : ℕ) → length (get_or chunks x []) ≡ 256
+    → count ≡ min left 256 →
     take left (joined chunks (x ∷ rest)) ≡ take count (get_or chunks x []) ++ take (left - count) (joined chunks rest)
 split_first chunks x rest left count size is =
     let sum : left ≡ count + (left - count) = omega (arith, is) in
-    let first : take count (joined chunks (x ∷ rest)) ≡ take count (get_or chunks x []) = take-append-le count (get_or chunks x []) (joined chunks rest) (omega (arith, is, size)) in
+    let first : take count (joined chunks (x ∷ rest)) ≡ take count (get_or chunks x []) =
+    take-append-le count (get_or chunks x []) (joined chunks rest) (omega (arith, is, size)) in
     let second : take (left - count) (drop count (joined chunks (x ∷ rest))) ≡ take (left - count) (joined chunks rest) =
     bool_cases (ltb left 256)
     (λ e. let lt = ltb-true left 256 e in let none : left - count ≡ 0 = omega (arith, lt, is) in rw none refl)
     (λ e. let ge = ltb-false left 256 e in let all : count ≡ length (get_or chunks x []) = omega (arith, ge, is, size) in
     ap (take (left - count)) (rw all (drop_at (get_or chunks x []) (joined chunks rest) (length (get_or chunks x [])) refl))) in
-    ap (λ (n : ℕ). take n (joined chunks (x ∷ rest))) sum ∙ take_add count (left - count) (joined chunks (x ∷ rest)) ∙ rw (first, second) refl
+    ap (λ (n : ℕ). take n (joined chunks (x ∷ rest))) sum ∙ take_add count (left - count) (joined chunks (x ∷ rest))
+    ∙ rw (first, second) refl
 
-drop_first : (chain : List ℕ) (offset : ℕ) → offset < length chain → drop offset chain ≡ get_or chain offset 0 ∷ drop (offset + 1) chain
+drop_first : (chain : List ℕ) (offset : ℕ) → offset < length chain → drop offset chain ≡ get_or chain offset 0
+    ∷ drop (offset + 1) chain
 drop_first [] offset h = absurd (omega arith)
 drop_first (x ∷ chain) zero h = refl
-drop_first (x ∷ chain) (suc offset) h = let e : suc offset + 1 ≡ suc (offset + 1) = omega arith in rw e (drop_first chain offset (omega arith))
+drop_first (x ∷ chain) (suc offset) h = let e : suc offset + 1 ≡ suc (offset + 1) = omega arith in
+    rw e (drop_first chain offset (omega arith))
 
-pub lends : (chains chunks : List (List ℕ)) (i offset chunk left count : ℕ) → IsRest chains chunks i offset chunk left → 0 < left → count ≡ min left 256 →
+pub lends : (chains chunks : List (List ℕ)) (i offset chunk left count : ℕ) → IsRest chains chunks i offset chunk left → 0 < left
+    → count ≡ min left 256 →
     Lends chains chunks i offset chunk left (take count (get_or chunks chunk [])) count
 lends chains chunks i offset chunk left count r some is =
     let chain : List ℕ = get_or chains i [] in
@@ -275,7 +344,9 @@ lends chains chunks i offset chunk left count r some is =
     let enough = r.enough in
     let inside : offset < length chain = omega (arith, gone, enough, some) in
     let at = r.at some in
-    let has : 0 < occurs (get_or chain offset 0) chains = (let a = in_chain chain offset inside in let m = occurs-at (get_or chain offset 0) chains i r.inside in omega (arith, a, m)) in
+    let has : 0 < occurs (get_or chain offset 0) chains =
+    (let a = in_chain chain offset inside in let m = occurs-at (get_or chain offset 0) chains i r.inside in
+    omega (arith, a, m)) in
     let there : chunk < length chunks = rw at (r.there (get_or chain offset 0) has) in
     let size = r.whole chunk there in
     let parts : drop offset chain ≡ chunk ∷ drop (offset + 1) chain = rw at (drop_first chain offset inside) in
@@ -287,15 +358,21 @@ lends chains chunks i offset chunk left count r some is =
     }
 
 -- so many bytes are left as it says
-pub length-rest : (chains chunks : List (List ℕ)) (i offset chunk left : ℕ) → IsRest chains chunks i offset chunk left → left ≡ length (rest_bytes chains chunks i offset left)
+pub length-rest : (chains chunks : List (List ℕ)) (i offset chunk left : ℕ) → IsRest chains chunks i offset chunk left
+    → left ≡ length (rest_bytes chains chunks i offset left)
 length-rest chains chunks i offset chunk left r =
     let chain : List ℕ = get_or chains i [] in
-    let all : Whole chunks chain = record { at = λ c s. r.whole c (r.there c (let m = occurs-at c chains i r.inside in omega (arith, m, s))) } in
+    let all : Whole chunks chain =
+    record { at = λ c s. r.whole c (r.there c (let m = occurs-at c chains i r.inside in omega (arith, m, s))) } in
     let size = length-joined chunks (drop offset chain) (whole_drop chunks offset chain all) in
     sym (length-take-le left (joined chunks (drop offset chain)) (omega (arith, size, r.enough)))
 
-pub front_chunks_is : (chains chunks : List (List ℕ)) (lens counts : List ℕ) (i p offset chunk : ℕ) → IsPool chains chunks lens counts → i < length counts → p < get_or counts i 0 →
-    offset ≡ uses lens p (get_or chains (i + 1) []) → chunk ≡ get_or (get_or chains (i + 1) []) offset 0 → front_chunks lens (drop (uses lens p (get_or chains (i + 1) [])) (get_or chains (i + 1) [])) ≡ chunks_for (get_or lens chunk 0)
+pub front_chunks_is : (chains chunks : List (List ℕ)) (lens counts : List ℕ) (i p offset chunk : ℕ)
+    → IsPool chains chunks lens counts → i < length counts → p < get_or counts i 0 →
+    offset ≡ uses lens p (get_or chains (i + 1) []) → chunk ≡ get_or (get_or chains (i + 1) []) offset 0
+    → front_chunks lens (drop (uses lens p (get_or chains (i + 1) [])) (get_or chains (i + 1) []))
+    ≡ chunks_for (get_or lens chunk 0)
 front_chunks_is chains chunks lens counts i p offset chunk pool h lt o c =
     let chain : List ℕ = get_or chains (i + 1) [] in
-    ap (λ (x : ℕ). chunks_for (get_or lens x 0)) (get_or-drop (uses lens p chain) chain 0 0 ∙ ap (λ (n : ℕ). get_or chain n 0) (omega (arith, o)) ∙ sym c)
+    ap (λ (x : ℕ). chunks_for (get_or lens x 0)) (get_or-drop (uses lens p chain) chain 0 0
+    ∙ ap (λ (n : ℕ). get_or chain n 0) (omega (arith, o)) ∙ sym c)

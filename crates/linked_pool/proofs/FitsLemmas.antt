@@ -34,7 +34,8 @@ abbrev sum_of : List Plp → ℕ
 sum_of plps = sum_by chunks_by_cells plps
 
 used_within : (plps : List Plp) (lists : List (List (List ℕ))) → length lists ≡ length plps
-    → ((i : ℕ) → i < length plps → chunks_of (get_or lists i []) ≤ 7 * chunks_by_cells (get_or plps i no_plp)) → used_chunks lists ≤ 7 * sum_of plps
+    → ((i : ℕ) → i < length plps → chunks_of (get_or lists i []) ≤ 7 * chunks_by_cells (get_or plps i no_plp))
+    → used_chunks lists ≤ 7 * sum_of plps
 used_within [] [] e h = omega arith
 used_within [] (l ∷ lists) e h = absurd (omega (arith, e))
 used_within (p ∷ plps) [] e h = absurd (omega (arith, e))
@@ -61,27 +62,32 @@ plan_cells : (c : Config) → IsPlan c → sum_by (λ plp. plp.blocks * cells_pe
 unfolding cell_need
 plan_cells c is = is.tests CellCount
 
-chunks_of_block : FieldRange → BlockChunks → (c : Config) (plp : ℕ) → chunks_for (block_bytes c plp) ≤ 7 * (block_cells c plp / 2025)
+chunks_of_block : FieldRange → BlockChunks → (c : Config) (plp : ℕ) → chunks_for (block_bytes c plp)
+    ≤ 7 * (block_cells c plp / 2025)
 chunks_of_block fields chunks c plp =
     let h = chunks c plp in
     let f = fields c plp in
     omega (arith, h, f.0, f.2)
 
 -- a list of a frame's blocks fills no more than the chunks of its PLP
-chunks_of_list : FieldRange → BlockChunks → (c : Config) (plp : ℕ) (blocks : List (List ℕ)) → ListFits c plp blocks → chunks_of blocks ≤ 7 * chunks_by_cells (plp_at c.plps plp)
+chunks_of_list : FieldRange → BlockChunks → (c : Config) (plp : ℕ) (blocks : List (List ℕ)) → ListFits c plp blocks
+    → chunks_of blocks ≤ 7 * chunks_by_cells (plp_at c.plps plp)
 unfolding block_cells
 chunks_of_list fields chunks c plp blocks h =
     let most = chunks_within (block_bytes c plp) blocks h.short in
     let one = chunks_of_block fields chunks c plp in
     let n : ℕ = cells_per_block (plp_at c.plps plp).fec (plp_at c.plps plp).modulation / 2025 in
-    let few : length blocks * chunks_for (block_bytes c plp) ≤ (plp_at c.plps plp).blocks * chunks_for (block_bytes c plp) = mul-le-mul_right (chunks_for (block_bytes c plp)) h.few in
-    let each : (plp_at c.plps plp).blocks * chunks_for (block_bytes c plp) ≤ (plp_at c.plps plp).blocks * (7 * n) = mul-le-mul_left (plp_at c.plps plp).blocks one in
+    let few : length blocks * chunks_for (block_bytes c plp) ≤ (plp_at c.plps plp).blocks * chunks_for (block_bytes c plp) =
+    mul-le-mul_right (chunks_for (block_bytes c plp)) h.few in
+    let each : (plp_at c.plps plp).blocks * chunks_for (block_bytes c plp) ≤ (plp_at c.plps plp).blocks * (7 * n) =
+    mul-le-mul_left (plp_at c.plps plp).blocks one in
     let order : (plp_at c.plps plp).blocks * (7 * n) ≡ 7 * ((plp_at c.plps plp).blocks * n) = omega arith in
     omega (arith, most, few, each, order)
 
 pub plan_fits : FieldRange → BlockChunks → PlanFits
 plan_fits fields chunks c lists is fit =
-    let used = used_within c.plps lists fit.count (λ i lt. chunks_of_list fields chunks c i (get_or lists i []) (fit.each i lt)) in
+    let used =
+    used_within c.plps lists fit.count (λ i lt. chunks_of_list fields chunks c i (get_or lists i []) (fit.each i lt)) in
     let all = sum_within c.plps in
     let cells = plan_cells c is in
     let most = le-div (sum_of c.plps) c.cells 2025 (omega arith) (omega (arith, all, cells)) in

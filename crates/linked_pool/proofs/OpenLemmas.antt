@@ -1,5 +1,6 @@
 -- The chains at the start.
-use Rattle.std.proofs.Common.{◌≡◌, ℕ, zero, suc, ◌+◌, ◌-◌, ◌^◌, ◌<◌, ◌≤◌, false, eqb, List, [], ◌∷◌, ◌++◌, length, get_or, set, replicate, refl, ap, sym, ◌∙◌, subst, arith, length-set}
+use Rattle.std.proofs.Common.{◌≡◌, ℕ, zero, suc, ◌+◌, ◌-◌, ◌^◌, ◌<◌, ◌≤◌, false, eqb, List, [], ◌∷◌, ◌++◌, length, get_or, set}
+use Rattle.std.proofs.Common.{replicate, refl, ap, sym, ◌∙◌, subst, arith, length-set}
 use Rattle.std.proofs.lemmas.List.{get_or-replicate, length-replicate}
 use Rattle.std.proofs.lemmas.Bool.{eqb-true, ne_eqb}
 use Rattle.linked_pool.specs.Chains.{walk, last_on, chains_of, count, occurs, total, rising, opened, IsSound}
@@ -37,12 +38,14 @@ last_on-rising n (suc m) f h =
 below_none : (x n s : ℕ) → x < s → count x (rising n s) ≡ 0
 below_none x zero s h = refl
 below_none x (suc n) s h =
-    let e : eqb x s ≡ false = ne_eqb x s (λ z. omega (arith, z)) in let k = below_none x n (s + 1) (omega arith) in rw e (omega (arith, k))
+    let e : eqb x s ≡ false = ne_eqb x s (λ z. omega (arith, z)) in let k = below_none x n (s + 1) (omega arith) in
+    rw e (omega (arith, k))
 
 pub above_none : (x n s : ℕ) → s + n ≤ x → count x (rising n s) ≡ 0
 above_none x zero s h = refl
 above_none x (suc n) s h =
-    let e : eqb x s ≡ false = ne_eqb x s (λ z. omega (arith, z)) in let k = above_none x n (s + 1) (omega arith) in rw e (omega (arith, k))
+    let e : eqb x s ≡ false = ne_eqb x s (λ z. omega (arith, z)) in let k = above_none x n (s + 1) (omega arith) in
+    rw e (omega (arith, k))
 
 pub once : (x n s : ℕ) → count x (rising n s) ≤ 1
 once x zero s = omega arith
@@ -63,7 +66,8 @@ total-zeros : (n : ℕ) → total (replicate n 0) ≡ 0
 total-zeros zero = refl
 total-zeros (suc n) = omega (arith, total-zeros n)
 
-pub opened_chains : (n lists : ℕ) → chains_of (rising n 1) (replicate (lists + 1) 0) (set (replicate (lists + 1) 0) 0 n) ≡ opened n lists
+pub opened_chains : (n lists : ℕ) → chains_of (rising n 1) (replicate (lists + 1) 0) (set (replicate (lists + 1) 0) 0 n)
+    ≡ opened n lists
 opened_chains n lists =
     let e : lists + 1 ≡ suc lists = omega arith in
     rw (e, walk-rising n n 0 (omega arith), chains-zeros (rising n 1) lists) refl
@@ -74,18 +78,25 @@ zero_at (suc n) zero = refl
 zero_at (suc n) (suc i) = zero_at n i
 
 ends_of : (n lists : ℕ) (tails : List ℕ) → (0 < n → get_or tails 0 0 ≡ n - 1) →
-    (i : ℕ) → i < length (set (replicate (suc lists) 0) 0 n) → 0 < get_or (set (replicate (suc lists) 0) 0 n) i 0 → get_or tails i 0 ≡ last_on (rising n 1) (get_or (set (replicate (suc lists) 0) 0 n) i 0 - 1) (get_or (replicate (suc lists) 0) i 0)
+    (i : ℕ) → i < length (set (replicate (suc lists) 0) 0 n) → 0 < get_or (set (replicate (suc lists) 0) 0 n) i 0
+    → get_or tails i 0 ≡ last_on (rising n 1) (get_or (set (replicate (suc lists) 0) 0 n) i 0 - 1)
+    (get_or (replicate (suc lists) 0) i 0)
 ends_of n lists tails last zero h some = last some ∙ sym (last_on-rising n (n - 1) 0 (omega arith) ∙ omega arith)
 ends_of n lists tails last (suc i) h some = let z = zero_at lists i in absurd (omega (arith, z, some))
 
-pub opened_sound : (n lists : ℕ) (tails : List ℕ) → n < 2 ^ 32 → length tails ≡ lists + 1 → (0 < n → get_or tails 0 0 ≡ n - 1) → IsSound (rising n 1) (replicate (lists + 1) 0) tails (set (replicate (lists + 1) 0) 0 n)
+pub opened_sound : (n lists : ℕ) (tails : List ℕ) → n < 2 ^ 32 → length tails ≡ lists + 1 → (0 < n → get_or tails 0 0 ≡ n - 1)
+    → IsSound (rising n 1) (replicate (lists + 1) 0) tails (set (replicate (lists + 1) 0) 0 n)
 opened_sound n lists tails few long last =
     let e : lists + 1 ≡ suc lists = omega arith in
     let cs = opened_chains n lists in
-    let size : length (set (replicate (lists + 1) 0) 0 n) ≡ lists + 1 = length-set (replicate (lists + 1) 0) 0 n ∙ length-replicate (lists + 1) 0 in
-    let occ : (x : ℕ) → occurs x (chains_of (rising n 1) (replicate (lists + 1) 0) (set (replicate (lists + 1) 0) 0 n)) ≡ count x (rising n 0) + 0 =
+    let size : length (set (replicate (lists + 1) 0) 0 n) ≡ lists + 1 = length-set (replicate (lists + 1) 0) 0 n
+    ∙ length-replicate (lists + 1) 0 in
+    let occ : (x : ℕ) → occurs x (chains_of (rising n 1) (replicate (lists + 1) 0) (set (replicate (lists + 1) 0) 0 n))
+    ≡ count x (rising n 0) + 0 =
     λ x. ap (occurs x) cs ∙ ap (λ (m : ℕ). count x (rising n 0) + m) (occurs-zeros x lists) in
-    let ends : (i : ℕ) → i < length (set (replicate (lists + 1) 0) 0 n) → 0 < get_or (set (replicate (lists + 1) 0) 0 n) i 0 → get_or tails i 0 ≡ last_on (rising n 1) (get_or (set (replicate (lists + 1) 0) 0 n) i 0 - 1) (get_or (replicate (lists + 1) 0) i 0) =
+    let ends : (i : ℕ) → i < length (set (replicate (lists + 1) 0) 0 n) → 0 < get_or (set (replicate (lists + 1) 0) 0 n) i 0
+    → get_or tails i 0 ≡ last_on (rising n 1) (get_or (set (replicate (lists + 1) 0) 0 n) i 0 - 1)
+    (get_or (replicate (lists + 1) 0) i 0) =
     rw e (ends_of n lists tails last) in
     record {
       few = rw (length-rising n 1) (omega (arith, few));
@@ -93,20 +104,25 @@ opened_sound n lists tails few long last =
       tails_too = long ∙ sym size;
       all = rw (e, length-rising n 1) (let z = total-zeros lists in omega (arith, z));
       apart = λ x. (let a = occ x in let b = once x n 0 in omega (arith, a, b));
-      within = λ x h. (let a = occ x in let l = length-rising n 1 in let b = above_none x n 0 (omega (arith, l, h)) in omega (arith, a, b));
+      within = λ x h. (let a = occ x in let l = length-rising n 1 in let b = above_none x n 0 (omega (arith, l, h)) in
+          omega (arith, a, b));
       last = ends;
     }
 
-pub opened_both : (n lists : ℕ) (next heads tails sizes : List ℕ) → n < 2 ^ 32 → next ≡ rising n 1 → heads ≡ replicate (lists + 1) 0 → tails ≡ set (replicate (lists + 1) 0) 0 (n - 1) → sizes ≡ replicate (lists + 1) 0 →
+pub opened_both : (n lists : ℕ) (next heads tails sizes : List ℕ) → n < 2 ^ 32 → next ≡ rising n 1
+    → heads ≡ replicate (lists + 1) 0 → tails ≡ set (replicate (lists + 1) 0) 0 (n - 1) → sizes ≡ replicate (lists + 1) 0 →
     IsSound next heads tails (set sizes 0 n) × (chains_of next heads (set sizes 0 n) ≡ opened n lists)
 opened_both n lists next heads tails sizes few a b c d =
     let e : suc lists ≡ lists + 1 = omega arith in
-    let long : length tails ≡ lists + 1 = ap length c ∙ length-set (replicate (lists + 1) 0) 0 (n - 1) ∙ length-replicate (lists + 1) 0 in
+    let long : length tails ≡ lists + 1 = ap length c ∙ length-set (replicate (lists + 1) 0) 0 (n - 1)
+    ∙ length-replicate (lists + 1) 0 in
     let first : get_or (set (replicate (suc lists) 0) 0 (n - 1)) 0 0 ≡ n - 1 = refl in
-    let last : get_or tails 0 0 ≡ n - 1 = ap (λ (xs : List ℕ). get_or xs 0 0) c ∙ subst (λ (m : ℕ). get_or (set (replicate m 0) 0 (n - 1)) 0 0 ≡ n - 1) e first in
+    let last : get_or tails 0 0 ≡ n - 1 = ap (λ (xs : List ℕ). get_or xs 0 0) c
+    ∙ subst (λ (m : ℕ). get_or (set (replicate m 0) 0 (n - 1)) 0 0 ≡ n - 1) e first in
     rw (a, b, d) (opened_sound n lists tails few long (λ z. last), opened_chains n lists)
 
-lists-blank : (chunks : List (List ℕ)) (lens : List ℕ) (n : ℕ) → lists_of chunks lens (replicate n 0) (replicate n []) ≡ replicate n []
+lists-blank : (chunks : List (List ℕ)) (lens : List ℕ) (n : ℕ) → lists_of chunks lens (replicate n 0) (replicate n [])
+    ≡ replicate n []
 lists-blank chunks lens zero = refl
 lists-blank chunks lens (suc n) = ap (λ (xs : List (List (List ℕ))). [] ∷ xs) (lists-blank chunks lens n)
 
@@ -120,13 +136,16 @@ blank_at (suc n) zero = refl
 blank_at (suc n) (suc i) = blank_at n i
 
 -- a pool at the start
-pub blank_pool : (n lists : ℕ) (chains chunks : List (List ℕ)) (lens counts : List ℕ) → n < 2 ^ 32 → chains ≡ opened n lists → chunks ≡ replicate n (replicate 256 0) → lens ≡ replicate n 0 → counts ≡ replicate lists 0 →
-    IsPool chains chunks lens counts × ((view_of chains chunks lens counts).lists ≡ replicate lists []) × ((view_of chains chunks lens counts).spare ≡ n) × ((view_of chains chunks lens counts).opened ≡ n)
+pub blank_pool : (n lists : ℕ) (chains chunks : List (List ℕ)) (lens counts : List ℕ) → n < 2 ^ 32 → chains ≡ opened n lists
+    → chunks ≡ replicate n (replicate 256 0) → lens ≡ replicate n 0 → counts ≡ replicate lists 0 →
+    IsPool chains chunks lens counts × ((view_of chains chunks lens counts).lists ≡ replicate lists [])
+    × ((view_of chains chunks lens counts).spare ≡ n) × ((view_of chains chunks lens counts).opened ≡ n)
 blank_pool n lists chains chunks lens counts hn a b c d =
     let bytes : List ℕ = replicate 256 0 in
     let long : length (replicate n bytes) ≡ n = length-replicate n bytes in
     let size : length bytes ≡ 256 = length-replicate {A = ℕ} 256 0 in
-    let occ : (x : ℕ) → occurs x (opened n lists) ≡ count x (rising n 0) + 0 = λ x. ap (λ (m : ℕ). count x (rising n 0) + m) (occurs-zeros x lists) in
+    let occ : (x : ℕ) → occurs x (opened n lists) ≡ count x (rising n 0) + 0 =
+    λ x. ap (λ (m : ℕ). count x (rising n 0) + m) (occurs-zeros x lists) in
     let pool : IsPool (opened n lists) (replicate n bytes) (replicate n 0) (replicate lists 0) = record {
       lists = ap (λ (m : ℕ). suc m) (length-replicate lists []) ∙ (let e = length-replicate {A = ℕ} lists 0 in omega (arith, e));
       lens_too = length-replicate {A = ℕ} n 0 ∙ sym long;

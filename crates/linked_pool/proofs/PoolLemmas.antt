@@ -16,7 +16,8 @@ pub has_list : (p : Inside) (s : State) (list : ℕ) → view p ≡ s → Holds 
 has_list p s list e h lt = list_inside s p.chains p.chunks.items p.lens.items p.counts.items list (sym e) h.0 lt
 
 -- which is that of its blocks
-pub count_in : (p : Inside) (s : State) (list : ℕ) → view p ≡ s → Holds p → list < length s.lists → get_or p.counts.items list 0 ≡ length (list_at s list)
+pub count_in : (p : Inside) (s : State) (list : ℕ) → view p ≡ s → Holds p → list < length s.lists → get_or p.counts.items list 0
+    ≡ length (list_at s list)
 count_in p s list e h lt = count_is s p.chains p.chunks.items p.lens.items p.counts.items list (sym e) h.0 lt
 
 -- every chunk is free or has a part of a block
@@ -24,5 +25,6 @@ pub whole_in : (p : Inside) (s : State) → view p ≡ s → Holds p → IsWhole
 whole_in p s e h = whole_law s p.chains p.chunks.items p.lens.items p.counts.items (sym e) h.0
 
 -- with another list at one place there are as many
-pub same_count : (lists new : List (List (List ℕ))) (list : ℕ) (blocks : List (List ℕ)) → new ≡ set lists list blocks → length new ≡ length lists
+pub same_count : (lists new : List (List (List ℕ))) (list : ℕ) (blocks : List (List ℕ)) → new ≡ set lists list blocks
+    → length new ≡ length lists
 same_count lists new list blocks e = ap length e ∙ length-set lists list blocks

@@ -1,5 +1,6 @@
 -- How the blocks of a pool lie in its chunks. No public clause cites this module.
-use Rattle.std.specs.Prelude.{◌≡◌, ℕ, zero, suc, ◌+◌, ◌-◌, ◌*◌, ◌^◌, ◌<◌, ◌≤◌, List, [], ◌∷◌, ◌++◌, length, take, drop, get_or, set}
+use Rattle.std.specs.Prelude.{◌≡◌, ℕ, zero, suc, ◌+◌, ◌-◌, ◌*◌, ◌^◌, ◌<◌, ◌≤◌, List, [], ◌∷◌, ◌++◌, length, take, drop, get_or}
+use Rattle.std.specs.Prelude.{set}
 use Rattle.linked_pool.specs.Chains.{occurs, count}
 use Rattle.linked_pool.specs.Pool.{State, chunk_len, chunks_for, chunks_of, list_at}
 
@@ -43,7 +44,8 @@ pub record IsPool (chains : List (List ℕ)) (chunks : List (List ℕ)) (lens co
   pub apart : (x : ℕ) → occurs x chains ≤ 1
   pub within : (x : ℕ) → length chunks ≤ x → occurs x chains ≡ 0
   pub all : all_of chains ≡ length chunks
-  pub used : (i : ℕ) → i < length counts → uses lens (get_or counts i 0) (get_or chains (i + 1) []) ≡ length (get_or chains (i + 1) [])
+  pub used : (i : ℕ) → i < length counts → uses lens (get_or counts i 0) (get_or chains (i + 1) [])
+      ≡ length (get_or chains (i + 1) [])
   pub size : (c : ℕ) → c < length chunks → length (get_or chunks c []) ≡ chunk_len
 
 -- what callers see
@@ -100,7 +102,8 @@ pub record IsRest (chains chunks : List (List ℕ)) (i offset chunk left : ℕ) 
 abbrev pub Ends : List ℕ → List ℕ → ℕ → List ℕ → Type 0
 Ends lens lasts zero chain = Unit {0}
 Ends lens lasts (suc n) chain =
-    (get_or lasts (get_or chain 0 0) 0 ≡ get_or chain (front_chunks lens chain - 1) 0) × Ends lens lasts n (drop (front_chunks lens chain) chain)
+    (get_or lasts (get_or chain 0 0) 0 ≡ get_or chain (front_chunks lens chain - 1) 0)
+    × Ends lens lasts n (drop (front_chunks lens chain) chain)
 
 -- So it is in all lists.
 pub record AreEnds (chains : List (List ℕ)) (lens lasts counts : List ℕ) : Type 0 where

@@ -1,5 +1,6 @@
 -- How chunks are linked by index into chains. No public clause cites this module.
-use Rattle.std.specs.Prelude.{◌≡◌, ℕ, zero, suc, ◌+◌, ◌-◌, ◌^◌, ◌<◌, ◌≤◌, List, [], ◌∷◌, ◌++◌, length, take, drop, get_or, set, nat_eq, replicate, if◌then◌else◌}
+use Rattle.std.specs.Prelude.{◌≡◌, ℕ, zero, suc, ◌+◌, ◌-◌, ◌^◌, ◌<◌, ◌≤◌, List, [], ◌∷◌, ◌++◌, length, take, drop, get_or, set}
+use Rattle.std.specs.Prelude.{nat_eq, replicate, if◌then◌else◌}
 
 -- so many chunks, from the first on
 abbrev pub walk : List ℕ → ℕ → ℕ → List ℕ
@@ -37,7 +38,8 @@ pub record IsSound (next heads tails sizes : List ℕ) : Type 0 where
   pub all : total sizes ≡ length next
   pub apart : (x : ℕ) → occurs x (chains_of next heads sizes) ≤ 1
   pub within : (x : ℕ) → length next ≤ x → occurs x (chains_of next heads sizes) ≡ 0
-  pub last : (i : ℕ) → i < length sizes → 0 < get_or sizes i 0 → get_or tails i 0 ≡ last_on next (get_or sizes i 0 - 1) (get_or heads i 0)
+  pub last : (i : ℕ) → i < length sizes → 0 < get_or sizes i 0 → get_or tails i 0 ≡ last_on next (get_or sizes i 0 - 1)
+      (get_or heads i 0)
 
 -- so many of a chain's first chunks moved to the end of another
 abbrev pub moved : List (List ℕ) → ℕ → ℕ → ℕ → List (List ℕ)

@@ -15,14 +15,14 @@ pub const CHUNKS_OF_CELLS: u32 = 7;
 /// The fewest cells that a block has: those of a short FECFRAME in 256-QAM.
 pub const FEWEST_CELLS: u32 = 2_025;
 
-// The chunks that so many bytes fill: one at least.
+/// The chunks that so many bytes fill: one at least.
 pub fn chunks_for(len: usize) -> usize
     ensures { result ≡ chunks_for_len len }
 {
     len.div_ceil(CHUNK).max(1)
 }
 
-// The first bytes of a chunk.
+/// The first bytes of a chunk.
 pub fn front_of<'b>(chunks: &'b [[u8; CHUNK]], at: u32, count: usize) -> &'b [u8]
     requires at { at < length chunks.now }
     requires count { count ≤ CHUNK }
@@ -50,7 +50,7 @@ fn piece_at(block: &[u8], i: u32) -> &[u8]
     &block[from..end]
 }
 
-// Writes a block into the first free chunks.
+/// Writes a block into the first free chunks.
 pub fn fill(chains: &Chains, chunks: &mut [[u8; CHUNK]], count: u32, block: &[u8])
     requires free { 0 < length chains.now }
     requires some { 0 < count }

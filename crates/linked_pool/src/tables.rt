@@ -3,7 +3,7 @@ ghost use Rattle.std.specs.Prelude.{◌≡◌, ◌<◌, length, IfOk, replicate,
 
 use std::alloc::{AllocError, Global};
 
-// A table with one value at each place.
+/// A table with one value at each place.
 pub fn filled<T: Copy>(alloc: Global, len: usize, value: T) -> Result<Vec<T>, AllocError>
     ensures { IfOk result (λ table. table.items ≡ replicate len value) }
 {
@@ -14,7 +14,7 @@ pub fn filled<T: Copy>(alloc: Global, len: usize, value: T) -> Result<Vec<T>, Al
     Ok(table)
 }
 
-// The number at a place.
+/// The number at a place.
 pub fn read(numbers: &[u32], place: usize) -> u32
     requires { place < length numbers.now }
     ensures { result ≡ slice_index numbers.now place }
@@ -22,7 +22,7 @@ pub fn read(numbers: &[u32], place: usize) -> u32
     numbers[place]
 }
 
-// How many bytes or blocks there are at a place.
+/// How many bytes or blocks there are at a place.
 pub fn count_at(counts: &[usize], place: usize) -> usize
     requires { place < length counts.now }
     ensures { result ≡ slice_index counts.now place }

@@ -1,17 +1,16 @@
 -- Blocks that are put before the frame ends.
-use Rattle.std.proofs.Common.{◌≡◌, ℕ, zero, suc, ◌+◌, ◌-◌, ◌*◌, ◌/◌, ◌<◌, ◌≤◌, Bool, true, false, cond, List, [], ◌∷◌, ◌++◌, Some, length, take, drop, map, min, get_or, set, replicate, length-set, refl, ap, sym, subst, ◌∙◌, arith, add-one, length-append, length-drop, inl, inr}
-use Rattle.std.specs.Prelude.{nat_lt, slice_get}
+use Rattle.std.proofs.Common.{◌≡◌, ℕ, ◌+◌, ◌-◌, ◌*◌, ◌<◌, ◌≤◌, Bool, true, false, List, [], ◌∷◌, ◌++◌}
+use Rattle.std.proofs.Common.{length, drop, map, min, get_or, set, replicate, length-set, refl, ap, sym, ◌∙◌, arith}
+use Rattle.std.proofs.Common.{add-one, length-append, length-drop, inl, inr}
 use Rattle.std.specs.List.{range_with_len}
 use Rattle.std.specs.Int.{div_ceil}
-use Rattle.std.specs.Option.{option_map}
 use Rattle.std.proofs.lemmas.Grind.{div_ceil_times}
-use Rattle.std.proofs.lemmas.Bool.{cases_lt, cases_eq, cases_order, cases_Bool, ltb-true}
-use Rattle.std.proofs.lemmas.Nat.{div-mul-add, le-div}
-use Rattle.std.proofs.lemmas.Option.{slice_get-get_or}
-use Rattle.std.proofs.lemmas.List.{get_or_append_left, get_or-set_same, get_or-set_other, length-take, length-map, length-replicate}
+use Rattle.std.proofs.lemmas.Bool.{cases_lt, cases_eq, cases_order}
+use Rattle.std.proofs.lemmas.List.{get_or-set_same, get_or-set_other, length-take, length-map}
+use Rattle.std.proofs.lemmas.List.{length-replicate}
 use Rattle.std.proofs.lemmas.List.Elements.{All-append}
 use Rattle.std.proofs.lemmas.List.FromFn.{map-range_with_len_more, length-map-range_with_len}
-use Rattle.std.proofs.Math.Nat.{mul-le-mul_left, mul-le-mul_right}
+use Rattle.std.proofs.Math.Nat.{mul-le-mul_right}
 use Rattle.terms.specs.Bits.{bits_of}
 use Rattle.linked_pool.specs.Fits.{ListFits}
 use Rattle.linked_pool.specs.Laws.{NextFits}
@@ -24,231 +23,33 @@ use Rattle.plp_config.specs.declared.config.Config.{Config}
 use Rattle.null_delete.specs.Deletion.{kept_slots, packet_at}
 use Rattle.null_delete.specs.Laws.{DecidedByThePast}
 use Rattle.mode_adapt.specs.declared.chain.Chain.{Chain}
-use Rattle.mode_adapt.specs.Blocks.{rates_of, plp_keeps, plp_string, first_up, with_place, up_with, data_field, block_bits, blocks_between, blocks_of}
+use Rattle.mode_adapt.specs.Blocks.{rates_of, plp_keeps, plp_string, block_bits}
+use Rattle.mode_adapt.specs.Blocks.{blocks_between, blocks_of}
 use Rattle.mode_adapt.specs.Events.{Event, Offered, Cut, HasRoom, IsDue, offered, cuts}
 use Rattle.mode_adapt.specs.Place.{HasPlace}
 use Rattle.mode_adapt.specs.Laws.{WithinLaw, BacklogLaw, EarlyFits}
 use Rattle.mode_adapt.specs.Pieces.{piece_of}
-use Rattle.mode_adapt.specs.Queue.{arrived, sent, sent_before}
+use Rattle.mode_adapt.specs.Queue.{sent, sent_before}
 use Rattle.mode_adapt.specs.StandsFor.{HoldsRest, Holds, ChainStandsFor, full_blocks, early_blocks, IsPartial}
 use Rattle.mode_adapt.specs.Steps.{Keeps, HasSpace, IsFull, IsLeft, IsOver, Puts, Resets, Lacks}
-use Rattle.mode_adapt.proofs.KeptLemmas.{kept_le}
 use Rattle.mode_adapt.proofs.SentLemmas.{sent_now, slots_mono}
-use Rattle.mode_adapt.proofs.PlaceLemmas.{in_front}
-use Rattle.mode_adapt.proofs.SameLemmas.{Same, keeps_same, before_same}
-use Rattle.mode_adapt.proofs.FirstLemmas.{first_law}
-use Rattle.mode_adapt.proofs.OfferLemmas.{Adds, added, length-up, at_before, up_push, slots_push}
-use Rattle.mode_adapt.proofs.SendLemmas.{block_here, map_both, all_came, num_pos, waits, rest_sent, left_over}
-use Rattle.mode_adapt.proofs.EventLemmas.{offered_push, cuts_stay, offered_stay, cuts_push, opened, offered_on, was_cut}
-
--- what is sent before the frame
-abbrev before : Config → ℕ → List (List ℕ) → ℕ → ℕ
-before c plp ps m = sent_before (rates_of c plp c.ticks) (plp_keeps c plp (packet_at ps)) m
-
--- The blocks are those that were put.
-abbrev pub Has : Chain → Config → ℕ → List (List ℕ) → ℕ → List (List Bool) → Type 0
-Has chain c plp ps m blocks = blocks ≡ full_blocks c plp (packet_at ps) (length ps) (before c plp ps m) chain.made
-
--- what was made fills so many data fields
-abbrev early_of : Config → ℕ → List (List ℕ) → ℕ → List (List Bool)
-early_of c plp ps m =
-    full_blocks c plp (packet_at ps) (length ps) (before c plp ps m)
-    (min (plp_at c.plps plp).blocks ((length (plp_string c plp (packet_at ps) (length ps)) - before c plp ps m) / field_bytes c plp))
-
-made_count : (made most b w : ℕ) → made ≤ most → (made < most → w < b) → 1 ≤ b → made ≡ min most ((made * b + w) / b)
-made_count made most b w le short one =
-    elim (cases_lt made most) [
-      | inl lt ↦ let e = div-mul-add made b w (short lt) in omega (arith, e)
-      | inr ge ↦ let e = le-div made (made * b + w) b one (omega arith) in omega (arith, e)
-    ]
-
--- as many as the chain counts
-pub made_is : FieldRange → (chain : Chain) (c : Config) (plp : ℕ) (ps : List (List ℕ)) (m : ℕ) → Holds chain c plp ps m → IsPartial chain
-    → chain.made ≡ min (plp_at c.plps plp).blocks ((length (plp_string c plp (packet_at ps) (length ps)) - before c plp ps m) / field_bytes c plp)
-made_is fields chain c plp ps m h p =
-    let b : ℕ = field_bytes c plp in
-    let w : ℕ = length chain.pending.items in
-    let few = h.few in
-    let blocks = h.settings.blocks in
-    let field = h.settings.field in
-    let sum : length (plp_string c plp (packet_at ps) (length ps)) - before c plp ps m ≡ chain.made * b + w = omega (arith, h.sent, h.rest.behind, waits chain c plp ps h.rest) in
-    let n = made_count chain.made (plp_at c.plps plp).blocks b w (omega (arith, few, blocks)) (λ lt. let s = p (omega (arith, lt, blocks)) in omega (arith, s, field)) (let f = (fields c plp).0 in omega (arith, f)) in
-    n ∙ ap (λ (v : ℕ). min (plp_at c.plps plp).blocks (v / b)) (sym sum)
-
-pub early_is : FieldRange → (chain : Chain) (c : Config) (plp : ℕ) (events : List Event) → Holds chain c plp (offered events) (cuts events) → IsPartial chain
-    → early_blocks c plp events ≡ full_blocks c plp (packet_at (offered events)) (length (offered events)) (before c plp (offered events) (cuts events)) chain.made
-early_is fields chain c plp events h p =
-    ap (full_blocks c plp (packet_at (offered events)) (length (offered events)) (before c plp (offered events) (cuts events))) (sym (made_is fields chain c plp (offered events) (cuts events) h p))
-
-pub early_offered : FieldRange → (chain : Chain) (c : Config) (plp : ℕ) (events : List Event) (x : List ℕ) → Holds chain c plp (offered events ++ x ∷ []) (cuts events) → IsPartial chain
-    → early_blocks c plp (events ++ Offered x ∷ []) ≡ full_blocks c plp (packet_at (offered events ++ x ∷ [])) (length (offered events ++ x ∷ [])) (before c plp (offered events ++ x ∷ []) (cuts events)) chain.made
-early_offered fields chain c plp events x h p =
-    ap (λ (ps : List (List ℕ)). early_of c plp ps (cuts (events ++ Offered x ∷ []))) (offered_push events x)
-    ∙ ap (early_of c plp (offered events ++ x ∷ [])) (cuts_stay events x)
-    ∙ ap (full_blocks c plp (packet_at (offered events ++ x ∷ [])) (length (offered events ++ x ∷ [])) (before c plp (offered events ++ x ∷ []) (cuts events))) (sym (made_is fields chain c plp (offered events ++ x ∷ []) (cuts events) h p))
-
-pub early_cut : FieldRange → (chain : Chain) (c : Config) (plp : ℕ) (events : List Event) → Holds chain c plp (offered events) (cuts events + 1) → IsPartial chain → chain.made ≡ 0
-    → early_blocks c plp (events ++ Cut ∷ []) ≡ []
-early_cut fields chain c plp events h p none =
-    ap (λ (ps : List (List ℕ)). early_of c plp ps (cuts (events ++ Cut ∷ []))) (offered_stay events)
-    ∙ ap (early_of c plp (offered events)) (cuts_push events)
-    ∙ ap (full_blocks c plp (packet_at (offered events)) (length (offered events)) (before c plp (offered events) (cuts events + 1))) (sym (made_is fields chain c plp (offered events) (cuts events + 1) h p) ∙ none)
-
--- what waits after so many blocks is less than a user packet
-rest_small : (whole arrived now before cap l w s made b : ℕ) → whole ≤ arrived → now ≡ min arrived (before + cap) → arrived - now < l → s ≡ before + made * b → made * b ≡ cap → w ≡ whole - s → w < l
-rest_small whole arrived now before cap l w s made b e0 e1 e2 e3 e4 e5 = omega arith
-
--- Less than a data field waits.
-pub all_short : SlotLength → FieldRange → UserPacketRange → WithinLaw → BacklogLaw → (chain : Chain) (c : Config) (plp : ℕ) (ps : List (List ℕ)) (m : ℕ) → Holds chain c plp ps m → IsPartial chain
-    → length chain.pending.items < field_bytes c plp
-all_short lengths fields ups within backlog chain c plp ps m h p =
-    let field = h.settings.field in
-    let few = h.few in
-    let up = ups c plp in
-    let range = fields c plp in
-    elim (cases_lt chain.made chain.settings.blocks) [
-      | inl lt ↦ let s = p lt in omega (arith, s, field)
-      | inr ge ↦
-          let keeps : ℕ → Bool = plp_keeps c plp (packet_at ps) in
-          let pos = num_pos lengths chain c plp ps m h in
-          let same : chain.made ≡ chain.settings.blocks = omega (arith, ge, few) in
-          let cap : chain.made * field_bytes c plp ≡ capacity c plp = ap (λ (v : ℕ). v * field_bytes c plp) same ∙ ap (λ (v : ℕ). chain.settings.blocks * v) (sym field) ∙ h.settings.most in
-          let came : up_bytes c plp * length (kept_slots keeps (length ps)) ≤ arrived (rates_of c plp c.ticks) keeps m = mul-le-mul_left (up_bytes c plp) (kept_le keeps (length ps) (slots_by c plp (m * c.ticks)) h.to) in
-          let whole : length (plp_string c plp (packet_at ps) (length ps)) ≤ arrived (rates_of c plp c.ticks) keeps m = rw (length-up c plp (packet_at ps) (length ps) h.whole) came in
-          let back = backlog (rates_of c plp c.ticks) keeps m (within c plp h.plan h.place).0 in
-          let small = rest_small _ _ _ (before c plp ps m) (capacity c plp) (up_bytes c plp) (length chain.pending.items) chain.sent chain.made (field_bytes c plp) whole (sent_now (rates_of c plp c.ticks) keeps m pos) back h.sent cap (waits chain c plp ps h.rest) in
-          omega (arith, small, up.1, range.0)
-    ]
-
--- There is room for a user packet.
-pub has_space : SlotLength → FieldRange → UserPacketRange → WithinLaw → BacklogLaw → (chain : Chain) (c : Config) (plp : ℕ) (ps : List (List ℕ)) (m : ℕ) → Holds chain c plp ps m → IsPartial chain
-    → HasSpace chain
-has_space lengths fields ups within backlog chain c plp ps m h p =
-    let short = all_short lengths fields ups within backlog chain c plp ps m h p in
-    let field = h.settings.field in
-    omega (arith, short, field)
-
--- a slot more does not matter to a user packet that begins early enough
-got_left : (xs ys : List ℕ) (i : ℕ) → i < length xs → slice_get xs i ≡ slice_get (xs ++ ys) i
-got_left xs ys i lt =
-    slice_get-get_or xs i 0 lt ∙ ap Some (sym (get_or_append_left xs ys 0 i lt)) ∙ sym (slice_get-get_or (xs ++ ys) i 0 (omega (arith, lt, length-append xs ys)))
-
-up_more : (len : ℕ) (slots more : List ℕ) (i y : ℕ) → (len * i < y → i < length slots) → up_with len slots 0 i y ≡ up_with len (slots ++ more) 0 i y
-up_more len slots more i y within =
-    let back : i - 0 ≡ i = omega arith in
-    elim (cases_Bool (nat_lt (len * i) y)) [
-      | inl e ↦ rw e (ap (option_map (λ k. (len * i, k))) (rw back (got_left slots more i (within (ltb-true (len * i) y e)))))
-      | inr e ↦ rw e refl
-    ]
-
-below_count : (len i y k : ℕ) → len * i < y → y ≤ len * k → i < k
-below_count len i y k a b =
-    elim (cases_lt i k) [
-      | inl lt ↦ lt
-      | inr ge ↦ let h : len * k ≤ len * i = mul-le-mul_left len ge in absurd (omega (arith, h, a, b))
-    ]
-
--- A block whose bytes have all arrived is final.
-block_later : DecidedByThePast → (c : Config) (plp : ℕ) (at to : ℕ → List ℕ) (n x y : ℕ) (b : Bool) → 1 ≤ up_bytes c plp → ((k : ℕ) → length (at k) ≡ 188) → Same to at n → plp_keeps c plp to n ≡ b
-    → x ≤ y → y ≤ length (plp_string c plp at n) → block_bits c plp at n x y ≡ block_bits c plp to (n + 1) x y
-block_later past c plp at to n x y b one whole same on le inside =
-    let len : ℕ = up_bytes c plp in
-    let was : List ℕ = kept_slots (plp_keeps c plp at) n in
-    let kept = slots_push past (plp_at c.plps plp).delete at to n b same on in
-    let string = up_push past (plp_at c.plps plp).delete at to n b same on in
-    let size = length-up c plp at n whole in
-    let first : with_place len (plp_keeps c plp at) (first_up len (plp_keeps c plp at) n x y) ≡ with_place len (plp_keeps c plp to) (first_up len (plp_keeps c plp to) (n + 1) x y) =
-    first_law len (plp_keeps c plp at) n x y one
-    ∙ up_more len was (cond b (n ∷ []) []) (div_ceil x len) y (λ lt. below_count len (div_ceil x len) y (length was) lt (omega (arith, inside, size)))
-    ∙ ap (λ (l : List ℕ). up_with len l 0 (div_ceil x len) y) (sym kept)
-    ∙ sym (first_law len (plp_keeps c plp to) (n + 1) x y one) in
-    let bytes : data_field c plp at n x y ≡ data_field c plp to (n + 1) x y =
-    sym (ap (λ (l : List ℕ). take (y - x) (drop x l)) string ∙ in_front (plp_string c plp at n) _ x (y - x) (omega (arith, le, inside))) in
-    rw (first, bytes) refl
-
--- equal at each place below n
-range_same : (f g : ℕ → List Bool) (n : ℕ) → ((i : ℕ) → i < n → f i ≡ g i) → map f (range_with_len 0 n) ≡ map g (range_with_len 0 n)
-range_same f g zero h = refl
-range_same f g (suc n) h =
-    subst (λ k. map f (range_with_len 0 k) ≡ map g (range_with_len 0 k)) (add-one n)
-    (map-range_with_len_more f 0 n n (omega arith)
-    ∙ ap (λ (l : List (List Bool)). l ++ f n ∷ []) (range_same f g n (λ i lt. h i (omega arith)))
-    ∙ ap (λ (v : List Bool). map g (range_with_len 0 n) ++ v ∷ []) (h n (omega arith))
-    ∙ sym (map-range_with_len_more g 0 n n (omega arith)))
-
-place_within : (x i b made s : ℕ) → i < made → x + made * b ≤ s → x + i * b + b ≤ s
-place_within x i b made s lt le = let h : (i + 1) * b ≤ made * b = mul-le-mul_right b (omega arith) in omega (arith, h, le)
-
--- the blocks that were put stay what they are
-pub has_added : DecidedByThePast → SlotLength → UserPacketRange → (chain new : Chain) (c : Config) (plp : ℕ) (ps : List (List ℕ)) (m : ℕ) (x : List ℕ) (b : Bool) (blocks : List (List Bool)) → Holds chain c plp ps m
-    → plp_keeps c plp (packet_at (ps ++ x ∷ [])) (length ps) ≡ b → Adds chain new c plp ps x b → Has chain c plp ps m blocks → Has new c plp (ps ++ x ∷ []) m blocks
-has_added past lengths ups chain new c plp ps m x b blocks h on a has =
-    let at : ℕ → List ℕ = packet_at ps in
-    let to : ℕ → List ℕ = packet_at (ps ++ x ∷ []) in
-    let same = at_before ps x in
-    let up = ups c plp in
-    let one : 1 ≤ up_bytes c plp = omega (arith, up.0) in
-    let pos = num_pos lengths chain c plp ps m h in
-    let len : length (ps ++ x ∷ []) ≡ length ps + 1 = length-append ps (x ∷ []) in
-    let start : before c plp (ps ++ x ∷ []) m ≡ before c plp ps m = before_same (rates_of c plp c.ticks) (plp_keeps c plp to) (plp_keeps c plp at) m (length ps) pos h.from (keeps_same past (plp_at c.plps plp).delete _ _ (length ps) same) in
-    let inside : before c plp ps m + chain.made * field_bytes c plp ≤ length (plp_string c plp at (length ps)) = omega (arith, h.sent, h.rest.behind) in
-    has
-    ∙ range_same _ _ chain.made (λ i lt. block_later past c plp at to (length ps) (before c plp ps m + i * field_bytes c plp) (before c plp ps m + i * field_bytes c plp + field_bytes c plp) b one h.whole same on (omega arith)
-    (place_within (before c plp ps m) i (field_bytes c plp) chain.made (length (plp_string c plp at (length ps))) lt inside))
-    ∙ ap (λ (v : ℕ). full_blocks c plp to v (before c plp ps m) chain.made) (sym len)
-    ∙ ap (λ (v : ℕ). full_blocks c plp to (length (ps ++ x ∷ [])) v chain.made) (sym start)
-    ∙ ap (full_blocks c plp to (length (ps ++ x ∷ [])) (before c plp (ps ++ x ∷ []) m)) (sym a.made)
-
--- the block of the first bytes
-piece_is : FieldRange → UserPacketRange → (chain : Chain) (c : Config) (plp : ℕ) (ps : List (List ℕ)) (m count : ℕ) → Holds chain c plp ps m
-    → piece_of chain count ≡ block_bits c plp (packet_at ps) (length ps) (before c plp ps m + chain.made * field_bytes c plp) (before c plp ps m + chain.made * field_bytes c plp + count)
-piece_is fields ups chain c plp ps m count h =
-    let up = ups c plp in
-    block_here fields chain c plp ps count (omega (arith, up.0)) h.settings h.rest
-    ∙ ap (λ (v : ℕ). block_bits c plp (packet_at ps) (length ps) v (v + count)) h.sent
-
--- one full block more
-pub has_put : FieldRange → UserPacketRange → (chain new : Chain) (c : Config) (plp : ℕ) (ps : List (List ℕ)) (m : ℕ) (was is : List (List ℕ)) → Holds chain c plp ps m
-    → Puts chain new chain.settings.field_bytes was is → Has chain c plp ps m (map bits_of was) → Has new c plp ps m (map bits_of is)
-has_put fields ups chain new c plp ps m was is h k has =
-    let f : ℕ → List Bool = λ (i : ℕ). block_bits c plp (packet_at ps) (length ps) (before c plp ps m + i * field_bytes c plp) (before c plp ps m + i * field_bytes c plp + field_bytes c plp) in
-    k.list
-    ∙ ap (λ (l : List (List Bool)). l ++ piece_of chain chain.settings.field_bytes ∷ []) has
-    ∙ ap (λ (v : List Bool). map f (range_with_len 0 chain.made) ++ v ∷ [])
-    (piece_is fields ups chain c plp ps m chain.settings.field_bytes h ∙ ap (λ (v : ℕ). block_bits c plp (packet_at ps) (length ps) (before c plp ps m + chain.made * field_bytes c plp) (before c plp ps m + chain.made * field_bytes c plp + v)) h.settings.field)
-    ∙ sym (map-range_with_len_more f 0 chain.made chain.made (omega arith))
-    ∙ ap (λ (n : ℕ). map f (range_with_len 0 n)) (sym k.sends.made)
-
--- a chain that put a full block
-put_holds : UserPacketRange → (chain new : Chain) (c : Config) (plp : ℕ) (ps : List (List ℕ)) (m : ℕ) (was is : List (List ℕ)) → Holds chain c plp ps m → IsFull chain
-    → Puts chain new chain.settings.field_bytes was is → Holds new c plp ps m
-put_holds ups chain new c plp ps m was is h full k =
-    let up = ups c plp in
-    let s = k.sends in
-    let field = h.settings.field in
-    let more : new.made * field_bytes c plp ≡ chain.made * field_bytes c plp + field_bytes c plp = ap (λ (v : ℕ). v * field_bytes c plp) k.sends.made ∙ omega arith in
-    record {
-      plan = h.plan;
-      place = h.place;
-      settings = rw s.settings h.settings;
-      slot = s.slot ∙ h.slot;
-      deleter = rw s.deleter h.deleter;
-      whole = h.whole;
-      sent = omega (arith, s.sent, h.sent, more, field);
-      few = rw (k.sends.made, s.settings) (omega (arith, full.0));
-      rest = rest_sent chain new c plp ps chain.settings.field_bytes (omega (arith, up.0)) h.settings full.1 h.rest s;
-      from = h.from;
-      to = h.to;
-    }
+use Rattle.mode_adapt.proofs.OfferLemmas.{Adds, added}
+use Rattle.mode_adapt.proofs.SendLemmas.{map_both, all_came, num_pos, waits, rest_sent, left_over}
+use Rattle.mode_adapt.proofs.EventLemmas.{opened, offered_on, was_cut}
+use Rattle.mode_adapt.proofs.FinalLemmas.{before, Has, early_is, early_offered, all_short, range_same, place_within, has_added}
+use Rattle.mode_adapt.proofs.FinalLemmas.{piece_is, has_put, put_holds}
 
 -- What an offer ends with.
-pub record Offers (new : Chain) (c : Config) (plp : ℕ) (ps : List (List ℕ)) (m : ℕ) (kept : Chain) (was is : List (List ℕ)) : Type 0 where
+pub record Offers (new : Chain) (c : Config) (plp : ℕ) (ps : List (List ℕ)) (m : ℕ) (kept : Chain)
+    (was is : List (List ℕ)) : Type 0 where
   pub holds : Holds new c plp ps m
   pub partial : IsPartial new
   pub has : Has kept c plp ps m (map bits_of was) → Has new c plp ps m (map bits_of is)
 
-pub offer_step : FieldRange → UserPacketRange → (kept new : Chain) (c : Config) (plp : ℕ) (ps : List (List ℕ)) (m : ℕ) (was is : List (List ℕ)) → Holds kept c plp ps m
-    → length kept.pending.items < 2 * kept.settings.field_bytes → (IsPartial kept → (new ≡ kept) × (is ≡ was)) → (IsFull kept → Puts kept new kept.settings.field_bytes was is)
+pub offer_step : FieldRange → UserPacketRange → (kept new : Chain) (c : Config) (plp : ℕ) (ps : List (List ℕ)) (m : ℕ)
+    (was is : List (List ℕ)) → Holds kept c plp ps m
+    → length kept.pending.items < 2 * kept.settings.field_bytes → (IsPartial kept → (new ≡ kept) × (is ≡ was))
+    → (IsFull kept → Puts kept new kept.settings.field_bytes was is)
     → Offers new c plp ps m kept was is
 offer_step fields ups kept new c plp ps m was is h bound none some =
     let stays : IsPartial kept → Offers new c plp ps m kept was is = λ p.
@@ -262,7 +63,8 @@ offer_step fields ups kept new c plp ps m was is h bound none some =
             | inr full ↦
                 let k = some (lt, full) in
                 let s = k.sends in
-                let size : length new.pending.items ≡ length kept.pending.items - kept.settings.field_bytes = ap length s.pending ∙ length-drop kept.settings.field_bytes kept.pending.items in
+                let size : length new.pending.items ≡ length kept.pending.items - kept.settings.field_bytes =
+                ap length s.pending ∙ length-drop kept.settings.field_bytes kept.pending.items in
                 record {
                   holds = put_holds ups kept new c plp ps m was is h (lt, full) k;
                   partial = λ less. rw s.settings (omega (arith, size, bound, full));
@@ -277,18 +79,22 @@ cdiv_is v b k one up low =
     let bound = div_ceil_times v b one in
     elim (cases_order (div_ceil v b) k) [
       | inl e ↦ e
-      | inr (inl lt) ↦ let h : (div_ceil v b + 1) * b ≤ k * b = mul-le-mul_right b (omega arith) in absurd (omega (arith, h, bound.0, low))
-      | inr (inr gt) ↦ let h : (k + 1) * b ≤ div_ceil v b * b = mul-le-mul_right b (omega arith) in absurd (omega (arith, h, bound.1, up))
+      | inr (inl lt) ↦ let h : (div_ceil v b + 1) * b ≤ k * b = mul-le-mul_right b (omega arith) in
+          absurd (omega (arith, h, bound.0, low))
+      | inr (inr gt) ↦ let h : (k + 1) * b ≤ div_ceil v b * b = mul-le-mul_right b (omega arith) in
+          absurd (omega (arith, h, bound.1, up))
     ]
 
 -- the block that begins at data field i, and ends at place y at the latest
 abbrev block_to : Config → ℕ → (ℕ → List ℕ) → ℕ → ℕ → ℕ → ℕ → List Bool
-block_to c plp at n x y i = block_bits c plp at n (x + i * field_bytes c plp) (min (x + i * field_bytes c plp + field_bytes c plp) y)
+block_to c plp at n x y i =
+    block_bits c plp at n (x + i * field_bytes c plp) (min (x + i * field_bytes c plp + field_bytes c plp) y)
 
 between_is : (c : Config) (plp : ℕ) (at : ℕ → List ℕ) (n x y k : ℕ) → div_ceil (y - x) (field_bytes c plp) ≡ k
     → blocks_between c plp at n x y ≡ map (block_to c plp at n x y) (range_with_len 0 k)
 between_is c plp at n x y k e =
-    sym (map_both (block_to c plp at n x y) (λ from. block_bits c plp at n from (min (from + field_bytes c plp) y)) (λ i. x + i * field_bytes c plp) (λ i. refl) (range_with_len 0 (div_ceil (y - x) (field_bytes c plp))))
+    sym (map_both (block_to c plp at n x y) (λ from. block_bits c plp at n from (min (from + field_bytes c plp) y))
+    (λ i. x + i * field_bytes c plp) (λ i. refl) (range_with_len 0 (div_ceil (y - x) (field_bytes c plp))))
     ∙ ap (λ (v : ℕ). map (block_to c plp at n x y) (range_with_len 0 v)) e
 
 front_same : (c : Config) (plp : ℕ) (at : ℕ → List ℕ) (n x y made : ℕ) → x + made * field_bytes c plp ≤ y
@@ -296,39 +102,49 @@ front_same : (c : Config) (plp : ℕ) (at : ℕ → List ℕ) (n x y made : ℕ)
 front_same c plp at n x y made le =
     range_same (block_to c plp at n x y) _ made (λ i lt.
     let h = place_within x i (field_bytes c plp) made y lt le in
-    let e : min (x + i * field_bytes c plp + field_bytes c plp) y ≡ x + i * field_bytes c plp + field_bytes c plp = omega (arith, h) in
+    let e : min (x + i * field_bytes c plp + field_bytes c plp) y ≡ x + i * field_bytes c plp + field_bytes c plp =
+    omega (arith, h) in
     ap (block_bits c plp at n (x + i * field_bytes c plp)) e)
 
 -- blocks that are all full
-between_full : (c : Config) (plp : ℕ) (at : ℕ → List ℕ) (n x y made : ℕ) → 1 ≤ field_bytes c plp → y ≡ x + made * field_bytes c plp
+between_full : (c : Config) (plp : ℕ) (at : ℕ → List ℕ) (n x y made : ℕ) → 1 ≤ field_bytes c plp
+    → y ≡ x + made * field_bytes c plp
     → blocks_between c plp at n x y ≡ full_blocks c plp at n x made
 between_full c plp at n x y made one e =
     between_is c plp at n x y made (cdiv_is (y - x) (field_bytes c plp) made one (omega (arith, e)) (omega (arith, e, one)))
     ∙ front_same c plp at n x y made (omega (arith, e))
 
 -- and a last one that may be shorter
-between_more : (c : Config) (plp : ℕ) (at : ℕ → List ℕ) (n x y made r : ℕ) → 1 ≤ field_bytes c plp → 1 ≤ r → r ≤ field_bytes c plp → y ≡ x + made * field_bytes c plp + r
-    → blocks_between c plp at n x y ≡ full_blocks c plp at n x made ++ block_bits c plp at n (x + made * field_bytes c plp) (x + made * field_bytes c plp + r) ∷ []
+between_more : (c : Config) (plp : ℕ) (at : ℕ → List ℕ) (n x y made r : ℕ) → 1 ≤ field_bytes c plp → 1 ≤ r → r ≤ field_bytes c plp
+    → y ≡ x + made * field_bytes c plp + r
+    → blocks_between c plp at n x y ≡ full_blocks c plp at n x made ++ block_bits c plp at n (x + made * field_bytes c plp)
+    (x + made * field_bytes c plp + r) ∷ []
 between_more c plp at n x y made r one some short e =
-    let count : div_ceil (y - x) (field_bytes c plp) ≡ made + 1 = cdiv_is (y - x) (field_bytes c plp) (made + 1) one (omega (arith, e, short)) (omega (arith, e, some)) in
-    let end : min (x + made * field_bytes c plp + field_bytes c plp) y ≡ x + made * field_bytes c plp + r = omega (arith, e, short) in
+    let count : div_ceil (y - x) (field_bytes c plp) ≡ made + 1 =
+    cdiv_is (y - x) (field_bytes c plp) (made + 1) one (omega (arith, e, short)) (omega (arith, e, some)) in
+    let end : min (x + made * field_bytes c plp + field_bytes c plp) y ≡ x + made * field_bytes c plp + r =
+    omega (arith, e, short) in
     between_is c plp at n x y (made + 1) count
     ∙ map-range_with_len_more (block_to c plp at n x y) 0 made made (omega arith)
     ∙ ap (λ (l : List (List Bool)). l ++ block_to c plp at n x y made ∷ []) (front_same c plp at n x y made (omega (arith, e)))
     ∙ ap (λ (v : ℕ). full_blocks c plp at n x made ++ block_bits c plp at n (x + made * field_bytes c plp) v ∷ []) end
 
 full_len : (c : Config) (plp : ℕ) (at : ℕ → List ℕ) (n x made : ℕ) → length (full_blocks c plp at n x made) ≡ made
-full_len c plp at n x made = length-map-range_with_len (λ (i : ℕ). block_bits c plp at n (x + i * field_bytes c plp) (x + i * field_bytes c plp + field_bytes c plp)) 0 made
+full_len c plp at n x made =
+    length-map-range_with_len
+    (λ (i : ℕ). block_bits c plp at n (x + i * field_bytes c plp) (x + i * field_bytes c plp + field_bytes c plp)) 0 made
 
 -- what a frame sends
 made_within : (made blocks b cap : ℕ) → made ≤ blocks → blocks * b ≡ cap → made * b ≤ cap
 made_within made blocks b cap le e = let h : made * b ≤ blocks * b = mul-le-mul_right b le in omega (arith, h, e)
 
-blocks_by : (chain : Chain) (c : Config) (plp : ℕ) (ps : List (List ℕ)) (m : ℕ) → Holds chain c plp ps m → chain.settings.blocks * field_bytes c plp ≡ capacity c plp
+blocks_by : (chain : Chain) (c : Config) (plp : ℕ) (ps : List (List ℕ)) (m : ℕ) → Holds chain c plp ps m
+    → chain.settings.blocks * field_bytes c plp ≡ capacity c plp
 blocks_by chain c plp ps m h = ap (λ (v : ℕ). chain.settings.blocks * v) (sym h.settings.field) ∙ h.settings.most
 
 -- all has been put that the frame sends
-over_sent : SlotLength → (chain : Chain) (c : Config) (plp : ℕ) (ps : List (List ℕ)) (m : ℕ) → Holds chain c plp ps m → IsOver chain → length ps ≡ slots_by c plp (m * c.ticks)
+over_sent : SlotLength → (chain : Chain) (c : Config) (plp : ℕ) (ps : List (List ℕ)) (m : ℕ) → Holds chain c plp ps m
+    → IsOver chain → length ps ≡ slots_by c plp (m * c.ticks)
     → chain.sent ≡ sent (rates_of c plp c.ticks) (plp_keeps c plp (packet_at ps)) m
 over_sent lengths chain c plp ps m h over due =
     let now = sent_now (rates_of c plp c.ticks) (plp_keeps c plp (packet_at ps)) m (num_pos lengths chain c plp ps m h) in
@@ -346,7 +162,8 @@ over_sent lengths chain c plp ps m h over due =
     ]
 
 -- what is left goes into a last block
-left_sent : SlotLength → (chain : Chain) (c : Config) (plp : ℕ) (ps : List (List ℕ)) (m : ℕ) → Holds chain c plp ps m → IsPartial chain → IsLeft chain → length ps ≡ slots_by c plp (m * c.ticks)
+left_sent : SlotLength → (chain : Chain) (c : Config) (plp : ℕ) (ps : List (List ℕ)) (m : ℕ) → Holds chain c plp ps m
+    → IsPartial chain → IsLeft chain → length ps ≡ slots_by c plp (m * c.ticks)
     → chain.sent + length chain.pending.items ≡ sent (rates_of c plp c.ticks) (plp_keeps c plp (packet_at ps)) m
 left_sent lengths chain c plp ps m h p left due =
     let now = sent_now (rates_of c plp c.ticks) (plp_keeps c plp (packet_at ps)) m (num_pos lengths chain c plp ps m h) in
@@ -355,11 +172,13 @@ left_sent lengths chain c plp ps m h p left due =
     let short = p left.0 in
     let field = h.settings.field in
     let cap = blocks_by chain c plp ps m h in
-    let fits : (chain.made + 1) * field_bytes c plp ≤ capacity c plp = made_within (chain.made + 1) chain.settings.blocks (field_bytes c plp) (capacity c plp) (omega (arith, left.0)) cap in
+    let fits : (chain.made + 1) * field_bytes c plp ≤ capacity c plp =
+    made_within (chain.made + 1) chain.settings.blocks (field_bytes c plp) (capacity c plp) (omega (arith, left.0)) cap in
     omega (arith, now, came, w, short, field, fits, h.sent, h.rest.behind)
 
 -- What a cut ends with; mid is the chain before its count is taken back.
-pub record Ends (chain mid new : Chain) (c : Config) (plp : ℕ) (ps : List (List ℕ)) (m : ℕ) (was is : List (List ℕ)) : Type 0 where
+pub record Ends (chain mid new : Chain) (c : Config) (plp : ℕ) (ps : List (List ℕ)) (m : ℕ)
+    (was is : List (List ℕ)) : Type 0 where
   pub holds : Holds new c plp ps (m + 1)
   pub partial : IsPartial new
   pub blocks : Has chain c plp ps m (map bits_of was) → map bits_of is ≡ blocks_of c plp c.ticks (packet_at ps) m
@@ -369,15 +188,18 @@ no_field : (s b made f : ℕ) → s ≡ b → made ≡ 0 → s ≡ b + made * f
 no_field s b made f e none = let z : made * f ≡ 0 * f = ap (λ (v : ℕ). v * f) none in omega (arith, e, z)
 
 -- the next frame is under way
-next_holds : SlotLength → (chain mid new : Chain) (c : Config) (plp : ℕ) (ps : List (List ℕ)) (m : ℕ) → Holds chain c plp ps m → length ps ≡ slots_by c plp (m * c.ticks)
-    → mid.settings ≡ chain.settings → mid.slot ≡ chain.slot → mid.deleter ≡ chain.deleter → HoldsRest mid c plp ps → mid.sent ≡ sent (rates_of c plp c.ticks) (plp_keeps c plp (packet_at ps)) m
+next_holds : SlotLength → (chain mid new : Chain) (c : Config) (plp : ℕ) (ps : List (List ℕ)) (m : ℕ) → Holds chain c plp ps m
+    → length ps ≡ slots_by c plp (m * c.ticks)
+    → mid.settings ≡ chain.settings → mid.slot ≡ chain.slot → mid.deleter ≡ chain.deleter → HoldsRest mid c plp ps
+    → mid.sent ≡ sent (rates_of c plp c.ticks) (plp_keeps c plp (packet_at ps)) m
     → Resets mid new → Holds new c plp ps (m + 1)
 next_holds lengths chain mid new c plp ps m h due e0 e1 e2 rest is r =
     let pos = num_pos lengths chain c plp ps m h in
     let back : m + 1 - 1 ≡ m = omega arith in
     let next : m * c.ticks ≤ (m + 1) * c.ticks = mul-le-mul_right c.ticks (omega arith) in
     let mono = slots_mono (rates_of c plp c.ticks) (m * c.ticks) ((m + 1) * c.ticks) pos next in
-    let now : new.sent ≡ before c plp ps (m + 1) = r.sent ∙ is ∙ ap (sent_before (rates_of c plp c.ticks) (plp_keeps c plp (packet_at ps))) (sym (add-one m)) in
+    let now : new.sent ≡ before c plp ps (m + 1) =
+    r.sent ∙ is ∙ ap (sent_before (rates_of c plp c.ticks) (plp_keeps c plp (packet_at ps))) (sym (add-one m)) in
     record {
       plan = h.plan;
       place = h.place;
@@ -389,7 +211,9 @@ next_holds lengths chain mid new c plp ps m h due e0 e1 e2 rest is r =
       few = rw r.made (omega arith);
       rest = record {
         pending = r.pending ∙ rest.pending ∙ ap (λ (v : ℕ). drop v (plp_string c plp (packet_at ps) (length ps))) (sym r.sent);
-        slots = r.slots ∙ rest.slots ∙ ap (λ (v : ℕ). drop (div_ceil v (up_bytes c plp)) (kept_slots (plp_keeps c plp (packet_at ps)) (length ps))) (sym r.sent);
+        slots = r.slots ∙ rest.slots
+            ∙ ap (λ (v : ℕ). drop (div_ceil v (up_bytes c plp)) (kept_slots (plp_keeps c plp (packet_at ps)) (length ps)))
+            (sym r.sent);
         behind = rw r.sent rest.behind;
       };
       from = rw back (omega (arith, due));
@@ -397,7 +221,8 @@ next_holds lengths chain mid new c plp ps m h due e0 e1 e2 rest is r =
     }
 
 -- less than a data field is left
-next_partial : FieldRange → UserPacketRange → WithinLaw → BacklogLaw → (new : Chain) (c : Config) (plp : ℕ) (ps : List (List ℕ)) (m : ℕ) → Holds new c plp ps (m + 1) → new.made ≡ 0
+next_partial : FieldRange → UserPacketRange → WithinLaw → BacklogLaw → (new : Chain) (c : Config) (plp : ℕ) (ps : List (List ℕ))
+    (m : ℕ) → Holds new c plp ps (m + 1) → new.made ≡ 0
     → length ps ≡ slots_by c plp (m * c.ticks) → IsPartial new
 next_partial fields ups within backlog new c plp ps m h none due = λ lt.
     let w = left_over new c plp ps m h none due in
@@ -408,14 +233,16 @@ next_partial fields ups within backlog new c plp ps m h none due = λ lt.
     omega (arith, w, back, up.1, range.0, field)
 
 -- no block is put right behind a cut
-pub none_made : FieldRange → UserPacketRange → WithinLaw → BacklogLaw → (chain : Chain) (c : Config) (plp : ℕ) (ps : List (List ℕ)) (m : ℕ) → Holds chain c plp ps (m + 1) → IsPartial chain
+pub none_made : FieldRange → UserPacketRange → WithinLaw → BacklogLaw
+    → (chain : Chain) (c : Config) (plp : ℕ) (ps : List (List ℕ)) (m : ℕ) → Holds chain c plp ps (m + 1) → IsPartial chain
     → length ps ≡ slots_by c plp (m * c.ticks) → chain.made ≡ 0
 none_made fields ups within backlog chain c plp ps m h p due =
     let back = backlog (rates_of c plp c.ticks) (plp_keeps c plp (packet_at ps)) m (within c plp h.plan h.place).0 in
     let up = ups c plp in
     let range = fields c plp in
     let came = all_came c plp ps m h.whole due in
-    let start : before c plp ps (m + 1) ≡ sent (rates_of c plp c.ticks) (plp_keeps c plp (packet_at ps)) m = ap (sent_before (rates_of c plp c.ticks) (plp_keeps c plp (packet_at ps))) (add-one m) in
+    let start : before c plp ps (m + 1) ≡ sent (rates_of c plp c.ticks) (plp_keeps c plp (packet_at ps)) m =
+    ap (sent_before (rates_of c plp c.ticks) (plp_keeps c plp (packet_at ps))) (add-one m) in
     let n : ℕ = chain.made in
     let b : ℕ = field_bytes c plp in
     let small : chain.made * b < 1 * b = omega (arith, came, start, back, up.1, range.0, h.sent, h.rest.behind) in
@@ -424,8 +251,11 @@ none_made fields ups within backlog chain c plp ps m h p due =
       | inr ge ↦ let x : 1 * b ≤ chain.made * b = mul-le-mul_right b ge in absurd (omega (arith, x, small))
     ]
 
-pub cut_step : SlotLength → FieldRange → UserPacketRange → WithinLaw → BacklogLaw → (chain mid new : Chain) (c : Config) (plp : ℕ) (ps : List (List ℕ)) (m : ℕ) (was is : List (List ℕ)) → Holds chain c plp ps m → IsPartial chain
-    → length ps ≡ slots_by c plp (m * c.ticks) → (IsOver chain → (mid ≡ chain) × (is ≡ was)) → (IsLeft chain → Puts chain mid (min chain.settings.field_bytes (length chain.pending.items)) was is) → Resets mid new
+pub cut_step : SlotLength → FieldRange → UserPacketRange → WithinLaw → BacklogLaw
+    → (chain mid new : Chain) (c : Config) (plp : ℕ) (ps : List (List ℕ)) (m : ℕ) (was is : List (List ℕ))
+    → Holds chain c plp ps m → IsPartial chain
+    → length ps ≡ slots_by c plp (m * c.ticks) → (IsOver chain → (mid ≡ chain) × (is ≡ was))
+    → (IsLeft chain → Puts chain mid (min chain.settings.field_bytes (length chain.pending.items)) was is) → Resets mid new
     → Ends chain mid new c plp ps m was is
 cut_step lengths fields ups within backlog chain mid new c plp ps m was is h p due none some r =
     let at : ℕ → List ℕ = packet_at ps in
@@ -436,9 +266,12 @@ cut_step lengths fields ups within backlog chain mid new c plp ps m was is h p d
     let stays : IsOver chain → Ends chain mid new c plp ps m was is = λ over.
     let e = none over in
     let end = over_sent lengths chain c plp ps m h over due in
-    let holds = next_holds lengths chain mid new c plp ps m h due (ap (λ (v : Chain). v.settings) e.0) (ap (λ (v : Chain). v.slot) e.0) (ap (λ (v : Chain). v.deleter) e.0) (rw e.0 h.rest) (ap (λ (v : Chain). v.sent) e.0 ∙ end) r in
+    let holds = next_holds lengths chain mid new c plp ps m h due (ap (λ (v : Chain). v.settings) e.0)
+    (ap (λ (v : Chain). v.slot) e.0) (ap (λ (v : Chain). v.deleter) e.0) (rw e.0 h.rest) (ap (λ (v : Chain). v.sent) e.0
+    ∙ end) r in
     let all : blocks_of c plp c.ticks at m ≡ full_blocks c plp at (length ps) x chain.made =
-    ap (λ (v : ℕ). blocks_between c plp at v x (sent (rates_of c plp c.ticks) (plp_keeps c plp at) m)) (sym due) ∙ between_full c plp at (length ps) x _ chain.made one (sym end ∙ h.sent) in
+    ap (λ (v : ℕ). blocks_between c plp at v x (sent (rates_of c plp c.ticks) (plp_keeps c plp at) m)) (sym due)
+    ∙ between_full c plp at (length ps) x _ chain.made one (sym end ∙ h.sent) in
     record {
       holds = holds;
       partial = next_partial fields ups within backlog new c plp ps m holds r.made due;
@@ -459,22 +292,28 @@ cut_step lengths fields ups within backlog chain mid new c plp ps m was is h p d
                 let k : Puts chain mid w was is = rw count at some (lt, more) in
                 let s = k.sends in
                 let end = left_sent lengths chain c plp ps m h p (lt, more) due in
-                let holds = next_holds lengths chain mid new c plp ps m h due s.settings s.slot s.deleter (rest_sent chain mid c plp ps w (omega (arith, up.0)) h.settings (omega arith) h.rest s) (s.sent ∙ end) r in
-                let all : blocks_of c plp c.ticks at m ≡ full_blocks c plp at (length ps) x chain.made ++ block_bits c plp at (length ps) (x + chain.made * field_bytes c plp) (x + chain.made * field_bytes c plp + w) ∷ [] =
+                let holds = next_holds lengths chain mid new c plp ps m h due s.settings s.slot s.deleter
+                (rest_sent chain mid c plp ps w (omega (arith, up.0)) h.settings (omega arith) h.rest s) (s.sent ∙ end) r in
+                let all : blocks_of c plp c.ticks at m ≡ full_blocks c plp at (length ps) x chain.made ++ block_bits c plp at
+                (length ps) (x + chain.made * field_bytes c plp) (x + chain.made * field_bytes c plp + w) ∷ [] =
                 ap (λ (v : ℕ). blocks_between c plp at v x (sent (rates_of c plp c.ticks) (plp_keeps c plp at) m)) (sym due)
-                ∙ between_more c plp at (length ps) x _ chain.made w one more (omega (arith, short, field)) (sym end ∙ omega (arith, h.sent)) in
+                ∙ between_more c plp at (length ps) x _ chain.made w one more (omega (arith, short, field))
+                (sym end ∙ omega (arith, h.sent)) in
                 record {
                   holds = holds;
                   partial = next_partial fields ups within backlog new c plp ps m holds r.made due;
                   blocks = λ has. k.list ∙ ap (λ (l : List (List Bool)). l ++ piece_of chain w ∷ []) has
-                      ∙ ap (λ (v : List Bool). full_blocks c plp at (length ps) x chain.made ++ v ∷ []) (piece_is fields ups chain c plp ps m w h) ∙ sym all;
-                  count = k.sends.made ∙ sym (ap length all ∙ length-append (full_blocks c plp at (length ps) x chain.made) _ ∙ ap (λ (v : ℕ). v + 1) (full_len c plp at (length ps) x chain.made));
+                      ∙ ap (λ (v : List Bool). full_blocks c plp at (length ps) x chain.made ++ v ∷ [])
+                      (piece_is fields ups chain c plp ps m w h) ∙ sym all;
+                  count = k.sends.made ∙ sym (ap length all ∙ length-append (full_blocks c plp at (length ps) x chain.made) _
+                      ∙ ap (λ (v : ℕ). v + 1) (full_len c plp at (length ps) x chain.made));
                 }
           ]
     ]
 
 -- a user packet more is less than two data fields
-pub kept_bound : (mid kept : Chain) (x : List ℕ) (g : ℕ) → Keeps mid kept x g → HasSpace mid → length kept.pending.items < 2 * kept.settings.field_bytes
+pub kept_bound : (mid kept : Chain) (x : List ℕ) (g : ℕ) → Keeps mid kept x g → HasSpace mid → length kept.pending.items
+    < 2 * kept.settings.field_bytes
 kept_bound mid kept x g k s =
     let up = mid.settings.up in
     let field = mid.settings.field in
@@ -484,13 +323,16 @@ kept_bound mid kept x g k s =
     omega (arith, up.1, field.0, same, size, more, s)
 
 -- What an offer of a kept packet does.
-pub record Goes (chain new : Chain) (c : Config) (plp : ℕ) (events : List Event) (x : List ℕ) (was is : List (List ℕ)) : Type 0 where
+pub record Goes (chain new : Chain) (c : Config) (plp : ℕ) (events : List Event) (x : List ℕ)
+    (was is : List (List ℕ)) : Type 0 where
   pub stands : ChainStandsFor new c plp (events ++ Offered x ∷ [])
   pub blocks : map bits_of was ≡ early_blocks c plp events → map bits_of is ≡ early_blocks c plp (events ++ Offered x ∷ [])
 
-goes : FieldRange → (chain new : Chain) (c : Config) (plp : ℕ) (events : List Event) (x : List ℕ) (was is : List (List ℕ)) → Holds chain c plp (offered events) (cuts events) → IsPartial chain
+goes : FieldRange → (chain new : Chain) (c : Config) (plp : ℕ) (events : List Event) (x : List ℕ) (was is : List (List ℕ))
+    → Holds chain c plp (offered events) (cuts events) → IsPartial chain
     → Holds new c plp (offered events ++ x ∷ []) (cuts events) → IsPartial new
-    → (Has chain c plp (offered events) (cuts events) (map bits_of was) → Has new c plp (offered events ++ x ∷ []) (cuts events) (map bits_of is)) → Goes chain new c plp events x was is
+    → (Has chain c plp (offered events) (cuts events) (map bits_of was) → Has new c plp (offered events ++ x ∷ []) (cuts events)
+    (map bits_of is)) → Goes chain new c plp events x was is
 goes fields chain new c plp events x was is h p h' p' step =
     record {
       stands = offered_on new c plp events x h' p';
@@ -498,8 +340,11 @@ goes fields chain new c plp events x was is h p h' p' step =
     }
 
 -- a packet that is deleted
-pub goes_on : DecidedByThePast → SlotLength → FieldRange → UserPacketRange → (chain new : Chain) (c : Config) (plp : ℕ) (events : List Event) (x : List ℕ) (was : List (List ℕ)) → ChainStandsFor chain c plp events
-    → length x ≡ 188 → HasRoom c plp events → plp_keeps c plp (packet_at (offered events ++ x ∷ [])) (length (offered events)) ≡ false → Adds chain new c plp (offered events) x false
+pub goes_on : DecidedByThePast → SlotLength → FieldRange → UserPacketRange
+    → (chain new : Chain) (c : Config) (plp : ℕ) (events : List Event) (x : List ℕ) (was : List (List ℕ))
+    → ChainStandsFor chain c plp events
+    → length x ≡ 188 → HasRoom c plp events → plp_keeps c plp (packet_at (offered events ++ x ∷ [])) (length (offered events))
+    ≡ false → Adds chain new c plp (offered events) x false
     → new.pending.items ≡ chain.pending.items → Goes chain new c plp events x was was
 goes_on past lengths fields ups chain new c plp events x was stands long room off a same =
     let o = opened chain c plp events stands in
@@ -512,9 +357,13 @@ goes_on past lengths fields ups chain new c plp events x was stands long room of
     (has_added past lengths ups chain new c plp (offered events) (cuts events) x false (map bits_of was) h off a)
 
 -- a packet that is kept
-pub goes_kept : DecidedByThePast → SlotLength → FieldRange → UserPacketRange → (chain kept new : Chain) (c : Config) (plp : ℕ) (events : List Event) (x : List ℕ) (was is : List (List ℕ)) → ChainStandsFor chain c plp events
-    → length x ≡ 188 → HasRoom c plp events → plp_keeps c plp (packet_at (offered events ++ x ∷ [])) (length (offered events)) ≡ true → Adds chain kept c plp (offered events) x true
-    → length kept.pending.items < 2 * kept.settings.field_bytes → (IsPartial kept → (new ≡ kept) × (is ≡ was)) → (IsFull kept → Puts kept new kept.settings.field_bytes was is)
+pub goes_kept : DecidedByThePast → SlotLength → FieldRange → UserPacketRange
+    → (chain kept new : Chain) (c : Config) (plp : ℕ) (events : List Event) (x : List ℕ) (was is : List (List ℕ))
+    → ChainStandsFor chain c plp events
+    → length x ≡ 188 → HasRoom c plp events → plp_keeps c plp (packet_at (offered events ++ x ∷ [])) (length (offered events))
+    ≡ true → Adds chain kept c plp (offered events) x true
+    → length kept.pending.items < 2 * kept.settings.field_bytes → (IsPartial kept → (new ≡ kept) × (is ≡ was))
+    → (IsFull kept → Puts kept new kept.settings.field_bytes was is)
     → Goes chain new c plp events x was is
 goes_kept past lengths fields ups chain kept new c plp events x was is stands long room on a bound none some =
     let o = opened chain c plp events stands in
@@ -524,36 +373,46 @@ goes_kept past lengths fields ups chain kept new c plp events x was is stands lo
     let mid = added past lengths chain kept c plp (offered events) (cuts events) x true one h long room on a in
     let step = offer_step fields ups kept new c plp (offered events ++ x ∷ []) (cuts events) was is mid bound none some in
     goes fields chain new c plp events x was is h o.1 step.holds step.partial
-    (λ has. step.has (has_added past lengths ups chain kept c plp (offered events) (cuts events) x true (map bits_of was) h on a has))
+    (λ has. step.has (has_added past lengths ups chain kept c plp (offered events) (cuts events) x true
+    (map bits_of was) h on a has))
 
 -- the bytes of a block
-pub need_is : FieldRange → (chain : Chain) (c : Config) (plp : ℕ) (events : List Event) → ChainStandsFor chain c plp events → chain.settings.field_bytes + 10 ≡ block_bytes c plp
-need_is fields chain c plp events stands = let h = (opened chain c plp events stands).0 in omega (arith, h.settings.field, (fields c plp).2)
+pub need_is : FieldRange → (chain : Chain) (c : Config) (plp : ℕ) (events : List Event) → ChainStandsFor chain c plp events
+    → chain.settings.field_bytes + 10 ≡ block_bytes c plp
+need_is fields chain c plp events stands = let h = (opened chain c plp events stands).0 in
+    omega (arith, h.settings.field, (fields c plp).2)
 
 -- A list with one block more holds no more than a frame, if it has fewer than the frame.
-one_more : (c : Config) (plp : ℕ) (list : List (List ℕ)) (block : List ℕ) → ListFits c plp list → length list < (plp_at c.plps plp).blocks → length block ≤ block_bytes c plp → ListFits c plp (list ++ block ∷ [])
+one_more : (c : Config) (plp : ℕ) (list : List (List ℕ)) (block : List ℕ) → ListFits c plp list
+    → length list < (plp_at c.plps plp).blocks → length block ≤ block_bytes c plp → ListFits c plp (list ++ block ∷ [])
 one_more c plp list block fits less short =
     record {
       few = omega (arith, length-append list (block ∷ []), less);
-      short = All-append (λ (y : List ℕ). length y ≤ block_bytes c plp) list (block ∷ []) fits.short (λ k d lt. let e : k ≡ 0 = omega (arith, lt) in rw e short);
+      short = All-append (λ (y : List ℕ). length y ≤ block_bytes c plp) list (block ∷ []) fits.short
+          (λ k d lt. let e : k ≡ 0 = omega (arith, lt) in rw e short);
     }
 
 -- So a pool with place takes it.
-takes_more : NextFits → (c : Config) (plp : ℕ) (pool : State) (list : ℕ) (block : List ℕ) → IsPlan c → plp < length c.plps → HasPlace c plp pool list → IsWhole pool
-    → ListFits c plp (list_at pool list) → length (list_at pool list) < (plp_at c.plps plp).blocks → length block ≤ block_bytes c plp → chunks_for (length block) ≤ pool.spare
+takes_more : NextFits → (c : Config) (plp : ℕ) (pool : State) (list : ℕ) (block : List ℕ) → IsPlan c → plp < length c.plps
+    → HasPlace c plp pool list → IsWhole pool
+    → ListFits c plp (list_at pool list) → length (list_at pool list) < (plp_at c.plps plp).blocks
+    → length block ≤ block_bytes c plp → chunks_for (length block) ≤ pool.spare
 takes_more next c plp pool list block is inside h whole fits less short =
     let more : List (List ℕ) = list_at pool list ++ block ∷ [] in
     let here : list < length pool.lists = omega (arith, inside, h.lists, h.place) in
     let each : (i : ℕ) → i < length c.plps → ListFits c i (get_or (set pool.lists list more) i []) = λ i lt.
     elim (cases_eq i list) [
-      | inl e ↦ rw (e, get_or-set_same pool.lists list more [] here, h.place) (one_more c plp (list_at pool plp) block (rw h.place at fits) (rw h.place at less) short)
+      | inl e ↦ rw (e, get_or-set_same pool.lists list more [] here, h.place)
+          (one_more c plp (list_at pool plp) block (rw h.place at fits) (rw h.place at less) short)
       | inr ne ↦ rw (get_or-set_other pool.lists list i more [] ne) (h.others i lt (λ e. ne (e ∙ sym h.place)))
     ] in
     next c pool list block is whole h.enough here (record { count = length-set pool.lists list more ∙ h.lists; each = each })
 
 -- if the pool has place no block is refused
-pub never_put : FieldRange → EarlyFits → NextFits → (chain kept : Chain) (c : Config) (plp : ℕ) (events : List Event) (pool : State) (list want have : ℕ) → ChainStandsFor chain c plp events
-    → kept.settings ≡ chain.settings → kept.made ≡ chain.made → Lacks kept pool want have → map bits_of (list_at pool list) ≡ early_blocks c plp events → ¬ (HasPlace c plp pool list)
+pub never_put : FieldRange → EarlyFits → NextFits → (chain kept : Chain) (c : Config) (plp : ℕ) (events : List Event)
+    (pool : State) (list want have : ℕ) → ChainStandsFor chain c plp events
+    → kept.settings ≡ chain.settings → kept.made ≡ chain.made → Lacks kept pool want have → map bits_of (list_at pool list)
+    ≡ early_blocks c plp events → ¬ (HasPlace c plp pool list)
 never_put fields early next chain kept c plp events pool list want have stands e0 e1 l put = λ place.
     let o = opened chain c plp events stands in
     let h = o.0 in
@@ -561,26 +420,31 @@ never_put fields early next chain kept c plp events pool list want have stands e
     let size : kept.settings.field_bytes + 10 ≡ block_bytes c plp = omega (arith, field, h.settings.field, (fields c plp).2) in
     let most : kept.settings.blocks ≡ (plp_at c.plps plp).blocks = ap (λ s. s.blocks) e0 ∙ h.settings.blocks in
     let made : length (list_at pool list) ≡ chain.made =
-    sym (length-map (list_at pool list) bits_of) ∙ ap length (put ∙ early_is fields chain c plp events h o.1) ∙ full_len c plp _ _ _ chain.made in
+    sym (length-map (list_at pool list) bits_of) ∙ ap length (put ∙ early_is fields chain c plp events h o.1)
+    ∙ full_len c plp _ _ _ chain.made in
     let block : List ℕ = replicate (block_bytes c plp) 0 in
     let long : length block ≡ block_bytes c plp = length-replicate {A = ℕ} (block_bytes c plp) 0 in
-    let room = takes_more next c plp pool list block h.plan h.place place l.whole (early c plp events (list_at pool list) put) (omega (arith, l.room, e1, most, made)) (omega (arith, long)) in
+    let room = takes_more next c plp pool list block h.plan h.place place l.whole (early c plp events (list_at pool list) put)
+    (omega (arith, l.room, e1, most, made)) (omega (arith, long)) in
     let wanted : want ≡ chunks_for (length block) = l.wanted ∙ ap chunks_for (size ∙ sym long) in
     omega (arith, room, wanted, l.less, l.spare)
 
 -- After an offer less than a data field waits, and after a cut less than a user packet.
-pub kept_short : SlotLength → FieldRange → UserPacketRange → WithinLaw → BacklogLaw → (new : Chain) (c : Config) (plp : ℕ) (events : List Event) → ChainStandsFor new c plp events
+pub kept_short : SlotLength → FieldRange → UserPacketRange → WithinLaw → BacklogLaw
+    → (new : Chain) (c : Config) (plp : ℕ) (events : List Event) → ChainStandsFor new c plp events
     → length new.pending.items < field_bytes c plp
 kept_short lengths fields ups within backlog new c plp events stands =
     let o = opened new c plp events stands in
     all_short lengths fields ups within backlog new c plp (offered events) (cuts events) o.0 o.1
 
-pub cut_short : FieldRange → UserPacketRange → WithinLaw → BacklogLaw → (new : Chain) (c : Config) (plp : ℕ) (events : List Event) → ChainStandsFor new c plp (events ++ Cut ∷ []) → IsDue c plp events
+pub cut_short : FieldRange → UserPacketRange → WithinLaw → BacklogLaw → (new : Chain) (c : Config) (plp : ℕ) (events : List Event)
+    → ChainStandsFor new c plp (events ++ Cut ∷ []) → IsDue c plp events
     → length new.pending.items < up_bytes c plp
 cut_short fields ups within backlog new c plp events stands due =
     let o = was_cut new c plp events stands in
     let h = o.0 in
     let none = none_made fields ups within backlog new c plp (offered events) (cuts events) h o.1 due in
     let w = left_over new c plp (offered events) (cuts events) h none due in
-    let law = backlog (rates_of c plp c.ticks) (plp_keeps c plp (packet_at (offered events))) (cuts events) (within c plp h.plan h.place).0 in
+    let law = backlog (rates_of c plp c.ticks) (plp_keeps c plp (packet_at (offered events))) (cuts events)
+    (within c plp h.plan h.place).0 in
     omega (arith, w, law)

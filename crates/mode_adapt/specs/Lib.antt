@@ -5,10 +5,12 @@ pub mod Blocks
 pub mod Events
 pub mod Settings
 pub mod StandsFor
-pub mod Pieces
-pub mod Steps
 pub mod Place
 pub mod Laws
+-- inner: no public clause cites these
+pub mod Pieces
+pub mod Steps
+-- of the crates below, for those who read this one
 pub use Rattle.ts_packet.specs.Null
 pub use Rattle.terms.specs.Bits
 pub use Rattle.bb_frame.specs.BasebandFrame

@@ -12,12 +12,20 @@ use Rattle.mode_adapt.specs.declared.chain.Chain.{Chain}
 -- a header by settings
 abbrev pub header_by : Settings → ℕ → ℕ → Option (ℕ × ℕ) → Header
 header_by s x len None = record { matype1 = s.matype1; matype2 = s.matype2; issy = 0x800000; dfl = 8 * len; syncd = 65535 }
-header_by s x len (Some up) = record { matype1 = s.matype1; matype2 = s.matype2; issy = 0x800000 + up.1 * s.num / s.den % 2 ^ 22; dfl = 8 * len; syncd = 8 * (up.0 - x) }
+header_by s x len (Some up) = record {
+  matype1 = s.matype1;
+  matype2 = s.matype2;
+  issy = 0x800000 + up.1 * s.num / s.den % 2 ^ 22;
+  dfl = 8 * len;
+  syncd = 8 * (up.0 - x);
+}
 
 -- the first user packet that begins in the first bytes of those that wait
 abbrev pub first_in : Chain → ℕ → Option (ℕ × ℕ)
-first_in c count = up_with c.settings.up_bytes c.slots.items (div_ceil c.sent c.settings.up_bytes) (div_ceil c.sent c.settings.up_bytes) (c.sent + count)
+first_in c count = up_with c.settings.up_bytes c.slots.items (div_ceil c.sent c.settings.up_bytes)
+    (div_ceil c.sent c.settings.up_bytes) (c.sent + count)
 
 -- the block of these bytes
 abbrev pub piece_of : Chain → ℕ → List Bool
-piece_of c count = frame_bits (header_by c.settings c.sent count (first_in c count)) (bits_of (take count c.pending.items)) (8 * (c.settings.field_bytes + 10))
+piece_of c count = frame_bits (header_by c.settings c.sent count (first_in c count)) (bits_of (take count c.pending.items))
+    (8 * (c.settings.field_bytes + 10))

@@ -18,7 +18,8 @@ use Rattle.mode_adapt.specs.Events.{Event, offered, cuts}
 -- that begin there.
 pub record HoldsRest (chain : Chain) (c : Config) (plp : ℕ) (packets : List (List ℕ)) : Type 0 where
   pub pending : chain.pending.items ≡ drop chain.sent (plp_string c plp (packet_at packets) (length packets))
-  pub slots : chain.slots.items ≡ drop (div_ceil chain.sent (up_bytes c plp)) (kept_slots (plp_keeps c plp (packet_at packets)) (length packets))
+  pub slots : chain.slots.items ≡ drop (div_ceil chain.sent (up_bytes c plp))
+      (kept_slots (plp_keeps c plp (packet_at packets)) (length packets))
   pub behind : chain.sent ≤ length (plp_string c plp (packet_at packets) (length packets))
 
 -- It was given these packets of the PLP at a place, and has sent what is sent before frame m and the blocks that it put of it.
@@ -29,7 +30,8 @@ pub record Holds (chain : Chain) (c : Config) (plp : ℕ) (packets : List (List 
   pub slot : chain.slot ≡ length packets
   pub deleter : DeleterStandsFor chain.deleter (plp_at c.plps plp).delete packets
   pub whole : (k : ℕ) → length (packet_at packets k) ≡ 188
-  pub sent : chain.sent ≡ sent_before (rates_of c plp c.ticks) (plp_keeps c plp (packet_at packets)) m + chain.made * field_bytes c plp
+  pub sent : chain.sent ≡ sent_before (rates_of c plp c.ticks) (plp_keeps c plp (packet_at packets)) m + chain.made
+      * field_bytes c plp
   pub few : chain.made ≤ chain.settings.blocks
   pub rest : HoldsRest chain c plp packets
   pub from : slots_by c plp ((m - 1) * c.ticks) ≤ length packets
@@ -71,7 +73,9 @@ waiting c plp events = fresh c plp events - full_fields c plp events * field_byt
 
 -- so many blocks with full data fields, from place x on
 abbrev pub full_blocks : Config → ℕ → (ℕ → List ℕ) → ℕ → ℕ → ℕ → List (List Bool)
-full_blocks c plp at n x count = map (λ i. block_bits c plp at n (x + i * field_bytes c plp) (x + i * field_bytes c plp + field_bytes c plp)) (range_with_len 0 count)
+full_blocks c plp at n x count =
+    map (λ i. block_bits c plp at n (x + i * field_bytes c plp) (x + i * field_bytes c plp + field_bytes c plp))
+    (range_with_len 0 count)
 
 -- the blocks of the frame under way that are full already
 abbrev pub early_blocks : Config → ℕ → List Event → List (List Bool)

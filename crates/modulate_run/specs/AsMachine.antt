@@ -1,5 +1,6 @@
 -- The modulator as a machine between files. Of public clauses none cites this module.
-use Rattle.std.specs.Prelude.{◌≡◌, ℕ, ◌<◌, ◌==◌, nat_lt, Bool, true, false, List, [], length, take, Option, Some, None, Result, Ok, Err, if◌then◌else◌}
+use Rattle.std.specs.Prelude.{◌≡◌, ℕ, ◌<◌, ◌==◌, nat_lt, Bool, true, false, List, [], length, take, Option, Some, None, Result}
+use Rattle.std.specs.Prelude.{Ok, Err, if◌then◌else◌}
 use Rattle.plp_config.specs.declared.config.Config.{Config}
 use Rattle.plp_config.specs.declared.moment.TheConstants.{MOST_FRAMES}
 use Rattle.frame_groups.specs.Laws.{IsPrefix}
@@ -52,7 +53,8 @@ pub record Shown (m : ModulatorMachine) (bytes taken : List ℕ) (ended : Bool) 
 
 -- To the first this was done, and then it is the second.
 abbrev pub becomes : ModulatorMachine → List Event → ModulatorMachine → Type 0
-becomes start events m = (config_of m.modulator ≡ config_of start.modulator) × Shown m (fed 0 events) (gave events) (has_ended 0 events)
+becomes start events m = (config_of m.modulator ≡ config_of start.modulator)
+    × Shown m (fed 0 events) (gave events) (has_ended 0 events)
 
 -- how a run ends that came so far
 abbrev pub ending_of : Option Waiting → Ran → Result Ran RunStop

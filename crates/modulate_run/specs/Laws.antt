@@ -17,7 +17,8 @@ MustRun c file (Err stop) = ⊥
 
 -- A file decides how a run over it must end.
 abbrev pub OneRun : Type 0
-OneRun = (c : Config) (file : List ℕ) (result other : Result Ran RunStop) → MustRun c file result → MustRun c file other → result ≡ other
+OneRun = (c : Config) (file : List ℕ) (result other : Result Ran RunStop) → MustRun c file result → MustRun c file other
+    → result ≡ other
 
 -- A run over a file has an ending.
 abbrev pub RunEnds : Type 0

@@ -1,5 +1,6 @@
 -- What a run of the modulator over a file does, from the opening of its input on.
-use Rattle.std.specs.Prelude.{◌≡◌, ◌≢◌, ◌⊎◌, ℕ, ◌+◌, ◌<◌, ◌≤◌, nat_lt, true, false, List, [], ◌∷◌, ◌++◌, length, take, flat_map, IfSome}
+use Rattle.std.specs.Prelude.{◌≡◌, ◌≢◌, ◌⊎◌, ℕ, ◌+◌, ◌<◌, ◌≤◌, nat_lt, true, false, List, [], ◌∷◌, ◌++◌, length, take, flat_map}
+use Rattle.std.specs.Prelude.{IfSome}
 use Rattle.std.specs.List.{list_all}
 use Rattle.ports.specs.Desk.{State, SameCounts, bytes_of}
 use Rattle.plp_config.specs.declared.config.Config.{Config}
@@ -85,8 +86,8 @@ pub record StopsReading (c : Config) (old new : State) (name out : List ℕ) : T
   pub short : place < most_bytes
   pub works : Writes old new name out place (HasWritten c place)
 
--- Of some first records, each of a frame whose number one may have, some bytes were written, but not all; and all that is due by fewer
--- bytes than were read by more than are read ahead.
+-- Of some first records, each of a frame whose number one may have, some bytes were written, but not all; and all that is due by
+-- fewer bytes than were read by more than are read ahead.
 pub record HasSome (c : Config) (place : ℕ) (file bytes : List ℕ) : Type 0 where
   pub given : List FrameRecord
   pub later : List FrameRecord
@@ -106,7 +107,9 @@ pub record StopsWriting (c : Config) (old new : State) (name out : List ℕ) : T
 -- A run that did not come to its end, by its cause.
 abbrev pub Stops : Config → State → State → List ℕ → List ℕ → RunStop → Type 0
 Stops c old new name out NoSuperframe = FindsNone c old new name out
-Stops c old new name out (TooLong count) = ((count ≡ most_bytes) × GivesTooMuch c old new name out) ⊎ ((count ≡ MOST_FRAMES) × MeetsLate c old new name out)
+Stops c old new name out (TooLong count) = ((count ≡ most_bytes) × GivesTooMuch c old new name out)
+    ⊎ ((count ≡ MOST_FRAMES) × MeetsLate c old new name out)
 Stops c old new name out ReadFault = ReadsFail old new × (OpensInputs old new (name ∷ []) 0 ⊎ StopsReading c old new name out)
-Stops c old new name out WriteFault = WritesFail old new × (FailsToCreateOutput old new out (name ∷ []) ⊎ StopsWriting c old new name out)
+Stops c old new name out WriteFault =
+    WritesFail old new × (FailsToCreateOutput old new out (name ∷ []) ⊎ StopsWriting c old new name out)
 Stops c old new name out OutOfMemory = new ≡ old

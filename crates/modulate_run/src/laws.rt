@@ -1,7 +1,7 @@
 // Laws of the definitions. Their functions do nothing.
 ghost use Rattle.modulate_run.specs.Laws.{OneRun, RunEnds};
 
-/// A file that is not too long decides how a run over it ends, where nothing outside fails.
+/// A file that is not too long decides how a run over it ends, if nothing outside fails.
 pub fn one_run()
     ensures { OneRun }
 {}

@@ -1,5 +1,6 @@
 -- Null-packet deletion (EN 302 755, clause 5.1.5): which packets are kept, and with which dnp. Each packet has a slot, from 0 on.
-use Rattle.std.specs.Prelude.{ℕ, ◌+◌, ◌%◌, ◌==◌, Bool, true, not, ◌||◌, if◌then◌else◌, List, [], ◌∷◌, ◌++◌, length, filter, take_while, reverse, sum_by, slice_index_or, Option, Some, None}
+use Rattle.std.specs.Prelude.{ℕ, ◌+◌, ◌%◌, ◌==◌, Bool, true, not, ◌||◌, if◌then◌else◌, List, [], ◌∷◌, ◌++◌, length, filter}
+use Rattle.std.specs.Prelude.{take_while, reverse, sum_by, slice_index_or, Option, Some, None}
 use Rattle.std.specs.List.{range_with_len}
 use Rattle.ts_packet.specs.Null.{is_null, null_packet}
 
@@ -20,7 +21,7 @@ dnp keeps k = length (run_before (λ j. not (keeps j)) k)
 abbrev pub kept_slots : (ℕ → Bool) → ℕ → List ℕ
 kept_slots keeps n = filter keeps (range_with_len 0 n)
 
--- the answer to slot k: its dnp, where it is kept
+-- the answer to slot k: its dnp, if it is kept
 abbrev pub answer_at : Bool → (ℕ → Bool) → ℕ → Option ℕ
 answer_at deletes nulls k = if is_kept deletes nulls k then Some (dnp (is_kept deletes nulls) k) else None
 

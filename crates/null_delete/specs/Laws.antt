@@ -33,7 +33,7 @@ abbrev pub DecidedByThePast : Type 0
 DecidedByThePast = (deletes : Bool) (f g : ℕ → Bool) (k : ℕ) → ((j : ℕ) → j ≤ k → f j ≡ g j)
     → (is_kept deletes f k ≡ is_kept deletes g k) × (dnp (is_kept deletes f) k ≡ dnp (is_kept deletes g) k)
 
--- A run that ends before the next slot goes on where that slot passes; before slot 0 there is none.
+-- A run that ends before the next slot goes on if that slot passes; before slot 0 there is none.
 pub record RunsOn (passes : ℕ → Bool) : Type 0 where
   pub none : length (run_before passes 0) ≡ 0
   pub next : (k : ℕ) → length (run_before passes (k + 1)) ≡ (if passes k then length (run_before passes k) + 1 else 0)

@@ -1,5 +1,6 @@
 -- Pools without blocks, and numbers of blocks beside those that a shape tells.
-use Rattle.std.proofs.Common.{◌≡◌, ◌≢◌, ℕ, suc, ◌<◌, ◌==◌, ◌^◌, true, false, List, [], ◌∷◌, length, get_or, refl, ap, sym, subst, arith}
+use Rattle.std.proofs.Common.{◌≡◌, ◌≢◌, ℕ, suc, ◌<◌, ◌==◌, ◌^◌, true, false, List, [], ◌∷◌, length, get_or, refl, ap, sym, subst}
+use Rattle.std.proofs.Common.{arith}
 use Rattle.std.specs.Prelude.{slice_index, Some}
 use Rattle.std.proofs.lemmas.Bool.{eq-eqb, ne_eqb}
 use Rattle.std.proofs.lemmas.List.Folds.{list_all_at}
@@ -37,19 +38,24 @@ place_at : (c : Config) (k d : ℕ) → k < length c.plps → get_or (places c) 
 place_at c k d l = let e = get_or-range_with_len 0 (length c.plps) k d l in omega (arith, e)
 
 pub counts_told : (c : Config) (held : HeldBlocks) (shape : FrameShape) (t : Tally) → HoldsCounts c held t
-    → ((k : ℕ) → k < length c.plps → (slice_index held.counts.items k ≡ slice_index shape.counts k) × (slice_index shape.counts k < 2 ^ 16)) → tally_counts c t (Some shape) ≡ true
+    → ((k : ℕ) → k < length c.plps → (slice_index held.counts.items k ≡ slice_index shape.counts k)
+    × (slice_index shape.counts k < 2 ^ 16)) → tally_counts c t (Some shape) ≡ true
 counts_told c held shape t h all =
     list_all-from_AllPass (λ plp. slice_index t.blocks plp == slice_index shape.counts plp) (places c)
     (λ k d l.
     let inside : k < length c.plps = let n = length-range_with_len 0 (length c.plps) in omega (arith, n, l) in
     subst (λ (j : ℕ). (slice_index t.blocks j == slice_index shape.counts j) ≡ true) (sym (place_at c k d inside))
     (eq-eqb (slice_index t.blocks k) (slice_index shape.counts k)
-    (held_same (slice_index held.counts.items k) (slice_index t.blocks k) (slice_index shape.counts k) (h.counts k inside) (all k inside).0 (all k inside).1)))
+    (held_same (slice_index held.counts.items k) (slice_index t.blocks k) (slice_index shape.counts k) (h.counts k inside)
+    (all k inside).0 (all k inside).1)))
 
 pub counts_differ : (c : Config) (held : HeldBlocks) (shape : FrameShape) (t : Tally) → HoldsCounts c held t
-    → (k : ℕ) → k < length c.plps → slice_index held.counts.items k ≢ slice_index shape.counts k → slice_index shape.counts k < 2 ^ 16 → tally_counts c t (Some shape) ≡ false
+    → (k : ℕ) → k < length c.plps → slice_index held.counts.items k ≢ slice_index shape.counts k → slice_index shape.counts k
+    < 2 ^ 16 → tally_counts c t (Some shape) ≡ false
 counts_differ c held shape t h k inside ne small =
     let within : k < length (places c) = let n = length-range_with_len 0 (length c.plps) in omega (arith, n, inside) in
     list_all_at (λ plp. slice_index t.blocks plp == slice_index shape.counts plp) (places c) k 0 within
     (subst (λ (j : ℕ). (slice_index t.blocks j == slice_index shape.counts j) ≡ false) (sym (place_at c k 0 inside))
-    (ne_eqb (slice_index t.blocks k) (slice_index shape.counts k) (held_other (slice_index held.counts.items k) (slice_index t.blocks k) (slice_index shape.counts k) (h.counts k inside) ne small)))
+    (ne_eqb (slice_index t.blocks k) (slice_index shape.counts k)
+    (held_other (slice_index held.counts.items k) (slice_index t.blocks k) (slice_index shape.counts k)
+    (h.counts k inside) ne small)))

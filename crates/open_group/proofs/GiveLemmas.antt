@@ -26,7 +26,8 @@ counts_still c old new t same h = record {
   known = same.2 ∙ h.known;
 }
 
-lists_still : (c : Config) (old new : HeldBlocks) (packets : List Packet) → SameNumbers old new → new.pool ≡ old.pool → HoldsLists c old packets → HoldsLists c new packets
+lists_still : (c : Config) (old new : HeldBlocks) (packets : List Packet) → SameNumbers old new → new.pool ≡ old.pool
+    → HoldsLists c old packets → HoldsLists c new packets
 lists_still c old new packets same pool h few plp inside =
     let need = same.1 in
     let chunks = same.3 in
@@ -42,16 +43,22 @@ pub record Stays (old new : PooledGroup) : Type 0 where
   pub numbers : SameNumbers old.blocks new.blocks
   pub pool : new.intact ≡ true → new.blocks.pool ≡ old.blocks.pool
 
-packets_still : (old new : PooledGroup) (packets : List Packet) → Stays old new → new.blocks.pool ≡ old.blocks.pool → HoldsPackets old packets → HoldsPackets new packets
+packets_still : (old new : PooledGroup) (packets : List Packet) → Stays old new → new.blocks.pool ≡ old.blocks.pool
+    → HoldsPackets old packets → HoldsPackets new packets
 packets_still old new packets s pool h =
     let tallied : tally old.network packets ≡ tally new.network packets = ap (λ (c : Config). tally c packets) (sym s.network) in
     record {
-      stamps = subst (HoldsStamps new.stamps) tallied (subst (λ (st : HeldStamps). HoldsStamps st (tally old.network packets)) (sym s.stamps) h.stamps);
+      stamps =
+          subst (HoldsStamps new.stamps) tallied (subst (λ (st : HeldStamps). HoldsStamps st (tally old.network packets))
+          (sym s.stamps) h.stamps);
       l1 =
           subst (λ (c : Config). HoldsL1 c new.l1 (tally c packets).l1 (tally c packets).alike) (sym s.network)
-          (subst (λ (l : HeldL1). HoldsL1 old.network l (tally old.network packets).l1 (tally old.network packets).alike) (sym s.l1) h.l1);
-      blocks = subst (λ (c : Config). HoldsCounts c new.blocks (tally c packets)) (sym s.network) (counts_still old.network old.blocks new.blocks (tally old.network packets) s.numbers h.blocks);
-      lists = subst (λ (c : Config). HoldsLists c new.blocks packets) (sym s.network) (lists_still old.network old.blocks new.blocks packets s.numbers pool h.lists);
+          (subst (λ (l : HeldL1). HoldsL1 old.network l (tally old.network packets).l1 (tally old.network packets).alike)
+          (sym s.l1) h.l1);
+      blocks = subst (λ (c : Config). HoldsCounts c new.blocks (tally c packets)) (sym s.network)
+          (counts_still old.network old.blocks new.blocks (tally old.network packets) s.numbers h.blocks);
+      lists = subst (λ (c : Config). HoldsLists c new.blocks packets) (sym s.network)
+          (lists_still old.network old.blocks new.blocks packets s.numbers pool h.lists);
     }
 
 pub holds_still : (old new : PooledGroup) → Stays old new → (g : Option Group) → Holds old g → Holds new g

@@ -1,5 +1,6 @@
 -- A group that passes gives its frame.
-use Rattle.std.proofs.Common.{◌≡◌, ℕ, zero, suc, ◌+◌, ◌*◌, ◌<◌, ◌≤◌, ◌==◌, ◌&&◌, Bool, true, false, cond, List, [], ◌∷◌, ◌++◌, map, length, get_or, Option, Some, None, refl, ap, ap₂, sym, subst, ◌∙◌, ⊎_elim, arith}
+use Rattle.std.proofs.Common.{◌≡◌, ℕ, zero, suc, ◌+◌, ◌*◌, ◌<◌, ◌≤◌, ◌==◌, ◌&&◌, Bool, true, false, cond, List, [], ◌∷◌, ◌++◌}
+use Rattle.std.proofs.Common.{map, length, get_or, Option, Some, None, refl, ap, ap₂, sym, subst, ◌∙◌, ⊎_elim, arith}
 use Rattle.std.specs.Prelude.{slice_index, slice_index_or, is_some, sum}
 use Rattle.std.specs.List.{concat, filter, flat_map, list_all, list_any, cons_option, range_with_len}
 use Rattle.std.specs.Option.{option_or, unwrap_or}
@@ -27,7 +28,8 @@ use Rattle.t2mi_packet.specs.declared.packet.Packet.{Packet}
 use Rattle.frame_groups.specs.declared.cause.MuteCause.{MuteCause}
 use Rattle.frame_groups.specs.declared.cause.MuteCause.TheVariants.{PacketMissing}
 use Rattle.frame_tests.specs.Carried.{body_block, has_length, blocks_of, right_blocks}
-use Rattle.frame_tests.specs.Tests.{pool_test, missing_test, l1_test, time_test, first_shape, has_counts, body_known, is_known, blocks_test, map_test, packets_fault}
+use Rattle.frame_tests.specs.Tests.{pool_test, missing_test, l1_test, time_test, first_shape, has_counts, body_known, is_known}
+use Rattle.frame_tests.specs.Tests.{blocks_test, map_test, packets_fault}
 use Rattle.frame_records.specs.Frames.{sent_block, sent_blocks, frame_view}
 use Rattle.frame_records.specs.Laws.{rest_size}
 use Rattle.site_frame.specs.Whole.{written_rest, record_bytes}
@@ -53,14 +55,17 @@ none_behind None b e = e
 none_behind (Some cause) b e = not_some cause e
 
 -- the last two tests
-both_none : (c : Config) (n : ℕ) (packets : List Packet) → packets_fault c n packets ≡ None → option_or (blocks_test c packets) (map_test c packets) ≡ None
+both_none : (c : Config) (n : ℕ) (packets : List Packet) → packets_fault c n packets ≡ None
+    → option_or (blocks_test c packets) (map_test c packets) ≡ None
 unfolding packets_fault
 both_none c n packets e =
     let behind_d : Option MuteCause = option_or (blocks_test c packets) (map_test c packets) in
     let behind_c : Option MuteCause = option_or (time_test c n packets) behind_d in
     let behind_b : Option MuteCause = option_or (l1_test c n packets) behind_c in
     let behind_a : Option MuteCause = option_or (missing_test c n packets) behind_b in
-    none_behind (time_test c n packets) behind_d (none_behind (l1_test c n packets) behind_c (none_behind (missing_test c n packets) behind_b (none_behind (pool_test c packets) behind_a e)))
+    none_behind (time_test c n packets) behind_d
+    (none_behind (l1_test c n packets) behind_c
+    (none_behind (missing_test c n packets) behind_b (none_behind (pool_test c packets) behind_a e)))
 
 blocks_none : (c : Config) (n : ℕ) (packets : List Packet) → packets_fault c n packets ≡ None → blocks_test c packets ≡ None
 blocks_none c n packets e = none_first (blocks_test c packets) (map_test c packets) (both_none c n packets e)
@@ -68,7 +73,8 @@ blocks_none c n packets e = none_first (blocks_test c packets) (map_test c packe
 pub map_none : (c : Config) (n : ℕ) (packets : List Packet) → packets_fault c n packets ≡ None → map_test c packets ≡ None
 map_none c n packets e = none_behind (blocks_test c packets) (map_test c packets) (both_none c n packets e)
 
-blocks_pass : (c : Config) (packets : List Packet) → blocks_test c packets ≡ None → (has_counts c packets (first_shape c packets) ≡ true) × (list_all (is_known c) packets ≡ true)
+blocks_pass : (c : Config) (packets : List Packet) → blocks_test c packets ≡ None
+    → (has_counts c packets (first_shape c packets) ≡ true) × (list_all (is_known c) packets ≡ true)
 unfolding blocks_test
 blocks_pass c packets e =
     and_parts (has_counts c packets (first_shape c packets)) (list_all (is_known c) packets)
@@ -78,9 +84,11 @@ blocks_pass c packets e =
 counts_are : (c : Config) (packets : List Packet) (shape : FrameShape) → has_counts c packets (Some shape) ≡ true
     → (plp : ℕ) → plp < length c.plps → length (blocks_of c plp packets) ≡ slice_index shape.counts plp
 counts_are c packets shape all plp inside =
-    let there : get_or (places c) plp 0 ≡ plp = let e = get_or-range_with_len 0 (length c.plps) plp 0 inside in omega (arith, e) in
+    let there : get_or (places c) plp 0 ≡ plp = let e = get_or-range_with_len 0 (length c.plps) plp 0 inside in
+    omega (arith, e) in
     let within : plp < length (places c) = let size = length-range_with_len 0 (length c.plps) in omega (arith, size, inside) in
-    let passes = AllPass-from_list_all (λ plp. length (blocks_of c plp packets) == slice_index shape.counts plp) (places c) all plp 0 within in
+    let passes = AllPass-from_list_all (λ plp. length (blocks_of c plp packets) == slice_index shape.counts plp)
+    (places c) all plp 0 within in
     eqb-true (length (blocks_of c plp packets)) (slice_index shape.counts plp)
     (subst (λ (j : ℕ). (length (blocks_of c j packets) == slice_index shape.counts j) ≡ true) there passes)
 
@@ -93,35 +101,46 @@ module _ (c : Config) (plan : IsPlan c) (plp : ℕ) (inside : plp < length c.plp
   abbrev is_of : ℕ → List Bool → ℕ → Bool
   is_of id bits k = (id == (plp_at c.plps k).id) && has_length c k bits
 
-  known_length : (id : ℕ) (bits : List Bool) → list_any (is_of id bits) (places c) ≡ true → id ≡ own_id → has_length c plp bits ≡ true
+  known_length : (id : ℕ) (bits : List Bool) → list_any (is_of id bits) (places c) ≡ true → id ≡ own_id → has_length c plp bits
+      ≡ true
   known_length id bits known own =
       let found = Any-from_list_any (is_of id bits) (places c) known in
       let k : ℕ = found.0 in
-      let within : k < length c.plps = let size = length-range_with_len 0 (length c.plps) in let l = found.2 in omega (arith, size, l) in
-      let there : found.1 ≡ k = let e = get_or-range_with_len 0 (length c.plps) k found.1 within in let f = found.3 in omega (arith, e, f) in
-      let both = and_parts (id == (plp_at c.plps k).id) (has_length c k bits) (subst (λ (j : ℕ). is_of id bits j ≡ true) there found.4) in
+      let within : k < length c.plps = let size = length-range_with_len 0 (length c.plps) in let l = found.2 in
+      omega (arith, size, l) in
+      let there : found.1 ≡ k = let e = get_or-range_with_len 0 (length c.plps) k found.1 within in let f = found.3 in
+      omega (arith, e, f) in
+      let both = and_parts (id == (plp_at c.plps k).id) (has_length c k bits)
+      (subst (λ (j : ℕ). is_of id bits j ≡ true) there found.4) in
       let of_k : id ≡ (plp_at c.plps k).id = eqb-true id (plp_at c.plps k).id both.0 in
       ⊎_elim (λ (e : k ≡ plp). subst (λ (j : ℕ). has_length c j bits ≡ true) e both.1)
       (λ (ne : k ≡ plp → ⊥). absurd ((place_is c plan.rules own_id plp inside refl).others k within ne (sym of_k ∙ own)))
       (cases_eq k plp)
 
-  by_id : (id : ℕ) (bits own : List Bool) → list_any (is_of id bits) (places c) ≡ true → (t : Bool) → (id == own_id) ≡ t → cond t (Some bits) None ≡ Some own → has_length c plp own ≡ true
-  by_id id bits own known true is e = subst (λ (b : List Bool). has_length c plp b ≡ true) (ap (λ (o : Option (List Bool)). unwrap_or o bits) e) (known_length id bits known (eqb-true id own_id is))
+  by_id : (id : ℕ) (bits own : List Bool) → list_any (is_of id bits) (places c) ≡ true → (t : Bool) → (id == own_id) ≡ t
+      → cond t (Some bits) None ≡ Some own → has_length c plp own ≡ true
+  by_id id bits own known true is e =
+      subst (λ (b : List Bool). has_length c plp b ≡ true) (ap (λ (o : Option (List Bool)). unwrap_or o bits) e)
+      (known_length id bits known (eqb-true id own_id is))
   by_id id bits own known false is e = not_some own (sym e)
 
-  body_length : (body : Body) → body_known c body ≡ true → (bits : List Bool) → body_block own_id body ≡ Some bits → has_length c plp bits ≡ true
+  body_length : (body : Body) → body_known c body ≡ true → (bits : List Bool) → body_block own_id body ≡ Some bits
+      → has_length c plp bits ≡ true
   body_length (Block frame_idx id first own) known bits e = by_id id own bits known (id == own_id) refl e
   body_length (L1Current frame_idx pre conf dynamic extension) known bits e = not_some bits (sym e)
   body_length (Timestamp stamp) known bits e = not_some bits (sym e)
-  body_length (Other kind others) known bits e = not_some bits (sym e)
+  body_length (Other packet_type others) known bits e = not_some bits (sym e)
 
-  kept : (o : Option (List Bool)) (more : List (List Bool)) → ((bits : List Bool) → o ≡ Some bits → has_length c plp bits ≡ true) → filter (has_length c plp) more ≡ more
+  kept : (o : Option (List Bool)) (more : List (List Bool)) → ((bits : List Bool) → o ≡ Some bits → has_length c plp bits ≡ true)
+      → filter (has_length c plp) more ≡ more
       → filter (has_length c plp) (cons_option o more) ≡ cons_option o more
   kept None more right rest = rest
   kept (Some bits) more right rest =
-      ap (λ (t : Bool). cond t (bits ∷ filter (has_length c plp) more) (filter (has_length c plp) more)) (right bits refl) ∙ ap (λ (l : List (List Bool)). bits ∷ l) rest
+      ap (λ (t : Bool). cond t (bits ∷ filter (has_length c plp) more) (filter (has_length c plp) more)) (right bits refl)
+      ∙ ap (λ (l : List (List Bool)). bits ∷ l) rest
 
-  all_right : (packets : List Packet) → list_all (is_known c) packets ≡ true → right_blocks c plp packets ≡ blocks_of c plp packets
+  all_right : (packets : List Packet) → list_all (is_known c) packets ≡ true → right_blocks c plp packets
+      ≡ blocks_of c plp packets
   all_right [] known = refl
   all_right (p ∷ packets) known =
       let both = and_parts (is_known c p) (list_all (is_known c) packets) known in
@@ -129,7 +148,8 @@ module _ (c : Config) (plan : IsPlan c) (plp : ℕ) (inside : plp < length c.plp
 
 -- the blocks of lists, PLP by PLP
 laid : (c : Config) (blocks : ℕ → List (List Bool)) (a n : ℕ)
-    → list_blocks c a (map (λ plp. map sent_bytes (blocks plp)) (range_with_len a n)) ≡ flat_map (λ plp. map (sent_block c plp) (blocks plp)) (range_with_len a n)
+    → list_blocks c a (map (λ plp. map sent_bytes (blocks plp)) (range_with_len a n))
+    ≡ flat_map (λ plp. map (sent_block c plp) (blocks plp)) (range_with_len a n)
 laid c blocks a zero = refl
 laid c blocks a (suc n) = ap₂ (λ x y. x ++ y) (map-map (plp_block c a) sent_bytes (blocks a)) (laid c blocks (a + 1) n)
 
@@ -138,10 +158,13 @@ whole_bytes : (bits width : ℕ) → bits ≡ 8 * width → bytes_for bits ≡ w
 whole_bytes bits width e = omega (arith, e)
 
 sent_length : BitCounts → (bits : List Bool) (width : ℕ) → length bits ≡ 8 * width → length (sent_bytes bits) ≡ width
-sent_length sizes bits width e = length-bytes_of (scrambled bits) ∙ whole_bytes (length (scrambled bits)) width (sizes.scrambled bits ∙ e)
+sent_length sizes bits width e = length-bytes_of (scrambled bits) ∙ whole_bytes (length (scrambled bits)) width
+    (sizes.scrambled bits ∙ e)
 
-module _ (sizes : BitCounts) (c : Config) (n : ℕ) (packets : List Packet) (shape : FrameShape) (lists : List (List (List ℕ))) (plan : IsPlan c) (passes : packets_fault c n packets ≡ None)
-    (first : first_shape c packets ≡ Some shape) (told : length shape.counts ≡ length c.plps) (long : length lists ≡ length c.plps)
+module _ (sizes : BitCounts) (c : Config) (n : ℕ) (packets : List Packet) (shape : FrameShape) (lists : List (List (List ℕ)))
+    (plan : IsPlan c) (passes : packets_fault c n packets ≡ None)
+    (first : first_shape c packets ≡ Some shape) (told : length shape.counts ≡ length c.plps)
+    (long : length lists ≡ length c.plps)
     (held : (plp : ℕ) → plp < length c.plps → list_at lists plp ≡ map sent_bytes (right_blocks c plp packets)) where
   lists_sent : list_blocks c 0 lists ≡ sent_blocks c (λ plp. right_blocks c plp packets)
   lists_sent =
@@ -151,30 +174,37 @@ module _ (sizes : BitCounts) (c : Config) (n : ℕ) (packets : List Packet) (sha
   held_count : (plp : ℕ) → plp < length c.plps → slice_index shape.counts plp ≡ length (list_at lists plp)
   held_count plp inside =
       let tests = blocks_pass c packets (blocks_none c n packets passes) in
-      let counts : has_counts c packets (Some shape) ≡ true = subst (λ (o : Option FrameShape). has_counts c packets o ≡ true) first tests.0 in
+      let counts : has_counts c packets (Some shape) ≡ true =
+      subst (λ (o : Option FrameShape). has_counts c packets o ≡ true) first tests.0 in
       sym
-      (ap length (held plp inside) ∙ length-map (right_blocks c plp packets) sent_bytes ∙ ap length (all_right c plan plp inside packets tests.1)
+      (ap length (held plp inside) ∙ length-map (right_blocks c plp packets) sent_bytes
+      ∙ ap length (all_right c plan plp inside packets tests.1)
       ∙ counts_are c packets shape counts plp inside)
 
   held_length : (plp place : ℕ) → plp < length c.plps → place < length (map sent_bytes (right_blocks c plp packets))
       → length (slice_index_or (map sent_bytes (right_blocks c plp packets)) place []) ≡ block_bytes c plp
   held_length plp place inside within =
-      let there : place < length (right_blocks c plp packets) = let size = length-map (right_blocks c plp packets) sent_bytes in omega (arith, size, within) in
+      let there : place < length (right_blocks c plp packets) = let size = length-map (right_blocks c plp packets) sent_bytes in
+      omega (arith, size, within) in
       let right = filter_passes (has_length c plp) (blocks_of c plp packets) place [] there in
       ap length (get_or-map sent_bytes (right_blocks c plp packets) place [] [] there)
-      ∙ sent_length sizes (get_or (right_blocks c plp packets) place []) (block_bytes c plp) (eqb-true (length (get_or (right_blocks c plp packets) place [])) (8 * block_bytes c plp) right)
+      ∙ sent_length sizes (get_or (right_blocks c plp packets) place []) (block_bytes c plp)
+      (eqb-true (length (get_or (right_blocks c plp packets) place [])) (8 * block_bytes c plp) right)
 
   pub has_blocks : HasBlocks c shape lists
   has_blocks = record {
     plps = long;
-    counts = ext_get_or 0 shape.counts (map (λ blocks. length blocks) lists) (told ∙ sym long ∙ sym (length-map lists (λ blocks. length blocks)))
+    counts = ext_get_or 0 shape.counts (map (λ blocks. length blocks) lists)
+        (told ∙ sym long ∙ sym (length-map lists (λ blocks. length blocks)))
         (λ plp l.
-        held_count plp (omega (arith, l, told)) ∙ sym (get_or-map (λ blocks. length blocks) lists plp [] 0 (omega (arith, l, told, long))));
+        held_count plp (omega (arith, l, told))
+        ∙ sym (get_or-map (λ blocks. length blocks) lists plp [] 0 (omega (arith, l, told, long))));
     each = λ plp place within.
         ⊎_elim
         (λ (inside : plp < length c.plps).
         let is = held plp inside in
-        let there : place < length (map sent_bytes (right_blocks c plp packets)) = let e = ap length is in omega (arith, e, within) in
+        let there : place < length (map sent_bytes (right_blocks c plp packets)) = let e = ap length is in
+        omega (arith, e, within) in
         ap (λ (l : List (List ℕ)). length (slice_index_or l place [])) is ∙ held_length plp place inside there)
         (λ (past : length c.plps ≤ plp).
         let none = ap length (get_or_past lists plp [] (omega (arith, past, long))) in
@@ -182,24 +212,30 @@ module _ (sizes : BitCounts) (c : Config) (n : ℕ) (packets : List Packet) (sha
         (cases_lt plp (length c.plps));
   }
 
-  pub same_view : (dynamic : List Bool) → dynamic ≡ dynamic_in packets → written_frame c (emission c n) dynamic shape lists ≡ packets_view c n packets
+  pub same_view : (dynamic : List Bool) → dynamic ≡ dynamic_in packets → written_frame c (emission c n) dynamic shape lists
+      ≡ packets_view c n packets
   same_view dynamic is =
       ap (λ (d : List Bool). frame_view c (emission c n) (post_with c d) (list_blocks c 0 lists) shape) is
       ∙ ap (λ b. frame_view c (emission c n) (post_with c (dynamic_in packets)) b shape) lists_sent
-      ∙ ap (λ (o : Option FrameShape). frame_view c (emission c n) (post_with c (dynamic_in packets)) (sent_blocks c (λ plp. right_blocks c plp packets)) (unwrap_or o (blank (length c.plps)))) (sym first)
+      ∙ ap (λ (o : Option FrameShape). frame_view c (emission c n) (post_with c (dynamic_in packets))
+      (sent_blocks c (λ plp. right_blocks c plp packets)) (unwrap_or o (blank (length c.plps)))) (sym first)
 
 -- What a writer gives of the lists of a group that passes is the record of its frame.
 pub given_frame : RecordWritten → BlockCount → RestLength → BitCounts
-    → (c : Config) (n : ℕ) (packets : List Packet) (dynamic : List Bool) (shape : FrameShape) (lists : List (List (List ℕ))) (blocks rest : ℕ)
+    → (c : Config) (n : ℕ) (packets : List Packet) (dynamic : List Bool) (shape : FrameShape) (lists : List (List (List ℕ)))
+    (blocks rest : ℕ)
     → IsPlan c → packets_fault c n packets ≡ None → dynamic ≡ dynamic_in packets → first_shape c packets ≡ Some shape
     → length shape.counts ≡ length c.plps → length lists ≡ length c.plps
     → ((plp : ℕ) → plp < length c.plps → list_at lists plp ≡ map sent_bytes (right_blocks c plp packets))
     → blocks ≡ sum shape.counts → rest ≡ rest_size c (post_size c (length dynamic)) (slice_index shape.counts)
-    → front_bytes c (emission c n) dynamic blocks rest ++ step_bytes c shape lists (Blocks 0) ≡ record_bytes (packets_view c n packets)
-given_frame written count size sizes c n packets dynamic shape lists blocks rest plan passes is first told long held so_many so_long =
+    → front_bytes c (emission c n) dynamic blocks rest ++ step_bytes c shape lists (Blocks 0)
+    ≡ record_bytes (packets_view c n packets)
+given_frame written count size sizes c n packets dynamic shape lists blocks rest plan passes is first told long held so_many
+    so_long =
     let has = has_blocks sizes c n packets shape lists plan passes first told long held in
     let all : blocks ≡ length (list_blocks c 0 lists) = so_many ∙ sym (count c shape lists has) in
-    let follow : rest ≡ length (concat (written_rest (written_frame c (emission c n) dynamic shape lists))) = so_long ∙ sym (size c (emission c n) dynamic shape lists has) in
+    let follow : rest ≡ length (concat (written_rest (written_frame c (emission c n) dynamic shape lists))) =
+    so_long ∙ sym (size c (emission c n) dynamic shape lists has) in
     ap₂ (λ (b r : ℕ). front_bytes c (emission c n) dynamic b r ++ step_bytes c shape lists (Blocks 0)) all follow
     ∙ written c (emission c n) dynamic shape lists
     ∙ ap record_bytes (same_view sizes c n packets shape lists plan passes first told long held dynamic is)

@@ -1,5 +1,6 @@
 -- No packets, and one packet more.
-use Rattle.std.proofs.Common.{◌≡◌, ℕ, zero, suc, ◌+◌, ◌*◌, ◌<◌, ◌≤◌, Bool, true, false, List, [], ◌∷◌, ◌++◌, map, length, replicate, sum_by, Option, Some, None, refl, ap, ap₂, sym, subst, ◌∙◌, arith}
+use Rattle.std.proofs.Common.{◌≡◌, ℕ, zero, suc, ◌+◌, ◌*◌, ◌<◌, ◌≤◌, Bool, true, false, List, [], ◌∷◌, ◌++◌, map, length}
+use Rattle.std.proofs.Common.{replicate, sum_by, Option, Some, None, refl, ap, ap₂, sym, subst, ◌∙◌, arith}
 use Rattle.std.specs.Prelude.{slice_index, slice_get, if◌then◌else◌}
 use Rattle.std.specs.List.{range_with_len}
 use Rattle.std.specs.Option.{option_or}
@@ -48,11 +49,16 @@ zero_at zero k = refl
 zero_at (suc n) zero = refl
 zero_at (suc n) (suc k) = zero_at n k
 
-pub no_blocks : (c : Config) (held : HeldBlocks) (n : ℕ) → held.counts.items ≡ replicate n 0 → held.need ≡ 0 → held.known ≡ true → HoldsCounts c held (tally c [])
+pub no_blocks : (c : Config) (held : HeldBlocks) (n : ℕ) → held.counts.items ≡ replicate n 0 → held.need ≡ 0 → held.known ≡ true
+    → HoldsCounts c held (tally c [])
 no_blocks c held n counts need known = record {
   counts = λ plp inside.
       ap (λ (l : List ℕ). slice_index l plp) counts ∙ zero_at n plp ∙ ap capped (sym (none_at c plp inside));
-  need = need ∙ ap capped (sym (none_needed (λ plp. slice_index (map (λ plp. 0) (places c)) plp * chunks_for (block_bytes c plp)) 0 (length c.plps) (λ plp low high. ap (λ (k : ℕ). k * chunks_for (block_bytes c plp)) (none_at c plp (omega arith)) ∙ no_times (chunks_for (block_bytes c plp)))));
+  need = need
+      ∙ ap capped
+      (sym (none_needed (λ plp. slice_index (map (λ plp. 0) (places c)) plp * chunks_for (block_bytes c plp)) 0 (length c.plps)
+      (λ plp low high. ap (λ (k : ℕ). k * chunks_for (block_bytes c plp)) (none_at c plp (omega arith))
+      ∙ no_times (chunks_for (block_bytes c plp)))));
   known = known;
 }
   where
@@ -61,7 +67,8 @@ no_blocks c held n counts need known = record {
 
 -- one packet more
 module _ (grows : TallyGrows) (c : Config) (packets : List Packet) (p : Packet) where
-  pub stamps_more : (old new : HeldStamps) → AddsStamps old new (stamps_of (p ∷ [])) → HoldsStamps old (tally c packets) → HoldsStamps new (tally c (packets ++ p ∷ []))
+  pub stamps_more : (old new : HeldStamps) → AddsStamps old new (stamps_of (p ∷ [])) → HoldsStamps old (tally c packets)
+      → HoldsStamps new (tally c (packets ++ p ∷ []))
   stamps_more old new adds h =
       subst (HoldsStamps new) (sym (grows c packets p))
       (record {
@@ -69,8 +76,12 @@ module _ (grows : TallyGrows) (c : Config) (packets : List Packet) (p : Packet) 
         unlike = adds.unlike ∙ ap₂ (λ (u o : Option Stamp). option_or u (unlike_behind o (stamps_of (p ∷ [])))) h.unlike h.first;
       })
 
-  pub l1_more : (old new : HeldL1) → AddsL1 c old new (l1s_of (p ∷ [])) → HoldsL1 c old (tally c packets).l1 (tally c packets).alike → HoldsL1 c new (tally c (packets ++ p ∷ [])).l1 (tally c (packets ++ p ∷ [])).alike
-  l1_more old new adds h = subst (λ (t : Tally). HoldsL1 c new t.l1 t.alike) (sym (grows c packets p)) (adds (tally c packets).l1 (tally c packets).alike h)
+  pub l1_more : (old new : HeldL1) → AddsL1 c old new (l1s_of (p ∷ []))
+      → HoldsL1 c old (tally c packets).l1 (tally c packets).alike
+      → HoldsL1 c new (tally c (packets ++ p ∷ [])).l1 (tally c (packets ++ p ∷ [])).alike
+  l1_more old new adds h = subst (λ (t : Tally). HoldsL1 c new t.l1 t.alike) (sym (grows c packets p))
+      (adds (tally c packets).l1 (tally c packets).alike h)
 
-  pub blocks_more : (old new : HeldBlocks) → ((t : Tally) → HoldsCounts c old t → HoldsCounts c new (tally_with c t p)) → HoldsCounts c old (tally c packets) → HoldsCounts c new (tally c (packets ++ p ∷ []))
+  pub blocks_more : (old new : HeldBlocks) → ((t : Tally) → HoldsCounts c old t → HoldsCounts c new (tally_with c t p))
+      → HoldsCounts c old (tally c packets) → HoldsCounts c new (tally c (packets ++ p ∷ []))
   blocks_more old new adds h = subst (HoldsCounts c new) (sym (grows c packets p)) (adds (tally c packets) h)

@@ -15,8 +15,10 @@ use Rattle.frame_tests.specs.Tests.{moment_of, named_frame}
 
 module _ (law : FrameNamed) (c : Config) (all : AllRules c) (g : Group) where
   -- a frame that it names is the one that is named
-  pub is_named : (n : ℕ) (stamp : Stamp) → slice_get (stamps_of g.packets) 0 ≡ Some stamp → n < MOST_FRAMES → moment_of stamp ≡ emission c n → frame_key c.frames n ≡ g.key → Some n ≡ named_frame c g
-  is_named n stamp first small is key = sym ((law c g n all).1 (record { stamp = stamp; first = first; small = small; emission-is = is; key = key }))
+  pub is_named : (n : ℕ) (stamp : Stamp) → slice_get (stamps_of g.packets) 0 ≡ Some stamp → n < MOST_FRAMES
+      → moment_of stamp ≡ emission c n → frame_key c.frames n ≡ g.key → Some n ≡ named_frame c g
+  is_named n stamp first small is key =
+      sym ((law c g n all).1 (record { stamp = stamp; first = first; small = small; emission-is = is; key = key }))
 
   -- if there is none, none is named
   none_named : (o : Option ℕ) → named_frame c g ≡ o → ((n : ℕ) → ¬ (IsNamed c g n)) → ◌≡◌ {A = Option ℕ} None o
@@ -26,10 +28,14 @@ module _ (law : FrameNamed) (c : Config) (all : AllRules c) (g : Group) where
   pub no_stamp : ◌≡◌ {A = Option Stamp} None (slice_get (stamps_of g.packets) 0) → None ≡ named_frame c g
   no_stamp none = none_named (named_frame c g) refl (λ n is. let e = none ∙ is.first in cc)
 
-  pub no_frame : (stamp : Stamp) → Some stamp ≡ slice_get (stamps_of g.packets) 0 → ((n : ℕ) → n < MOST_FRAMES → moment_of stamp ≢ emission c n) → None ≡ named_frame c g
-  no_frame stamp first none = none_named (named_frame c g) refl (λ n is. let e : stamp ≡ is.stamp = (let f = first ∙ is.first in cc) in none n is.small (ap moment_of e ∙ is.emission-is))
+  pub no_frame : (stamp : Stamp) → Some stamp ≡ slice_get (stamps_of g.packets) 0
+      → ((n : ℕ) → n < MOST_FRAMES → moment_of stamp ≢ emission c n) → None ≡ named_frame c g
+  no_frame stamp first none =
+      none_named (named_frame c g) refl (λ n is. let e : stamp ≡ is.stamp = (let f = first ∙ is.first in cc) in
+      none n is.small (ap moment_of e ∙ is.emission-is))
 
-  pub no_key : EmissionsDiffer → (stamp : Stamp) (n : ℕ) → Some stamp ≡ slice_get (stamps_of g.packets) 0 → moment_of stamp ≡ emission c n → frame_key c.frames n ≢ g.key → None ≡ named_frame c g
+  pub no_key : EmissionsDiffer → (stamp : Stamp) (n : ℕ) → Some stamp ≡ slice_get (stamps_of g.packets) 0
+      → moment_of stamp ≡ emission c n → frame_key c.frames n ≢ g.key → None ≡ named_frame c g
   no_key differ stamp n first own other =
       none_named (named_frame c g) refl
       (λ m is.

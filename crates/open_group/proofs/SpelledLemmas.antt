@@ -1,5 +1,6 @@
 -- A group that passes makes a frame that fits a record.
-use Rattle.std.proofs.Common.{◌≡◌, ℕ, ◌<◌, ◌≤◌, ◌^◌, true, List, [], map, length, get_or, Option, Some, None, refl, ap, sym, subst, ◌∙◌, arith}
+use Rattle.std.proofs.Common.{◌≡◌, ℕ, ◌<◌, ◌≤◌, ◌^◌, true, List, [], map, length, get_or, Option, Some, None, refl, ap, sym}
+use Rattle.std.proofs.Common.{subst, ◌∙◌, arith}
 use Rattle.std.specs.Prelude.{slice_get}
 use Rattle.std.specs.Option.{option_map, option_map_or, option_and_then}
 use Rattle.std.proofs.lemmas.Bool.{false≢true}
@@ -39,7 +40,8 @@ shape_rows : (d : L1Dyn) → length (told_shape d).counts ≡ length d.plps
 unfolding told_shape
 shape_rows d = length-map d.plps (λ plp. plp.plp_num_blocks)
 
-map_holds : (c : Config) (n : ℕ) (packets : List Packet) → packets_fault c n packets ≡ None → has_map c (first_shape c packets) ≡ true
+map_holds : (c : Config) (n : ℕ) (packets : List Packet) → packets_fault c n packets ≡ None → has_map c (first_shape c packets)
+    ≡ true
 unfolding map_test
 map_holds c n packets e = none_if (has_map c (first_shape c packets)) MapRefused (map_none c n packets e)
 
@@ -48,22 +50,30 @@ abbrev lists_of : Config → List Packet → List (List (List ℕ))
 lists_of c packets = map (λ plp. map sent_bytes (right_blocks c plp packets)) (places c)
 
 lists_long : (c : Config) (packets : List Packet) → length (lists_of c packets) ≡ length c.plps
-lists_long c packets = length-map (places c) (λ plp. map sent_bytes (right_blocks c plp packets)) ∙ length-range_with_len 0 (length c.plps)
+lists_long c packets = length-map (places c) (λ plp. map sent_bytes (right_blocks c plp packets))
+    ∙ length-range_with_len 0 (length c.plps)
 
-lists_held : (c : Config) (packets : List Packet) (plp : ℕ) → plp < length c.plps → list_at (lists_of c packets) plp ≡ map sent_bytes (right_blocks c plp packets)
+lists_held : (c : Config) (packets : List Packet) (plp : ℕ) → plp < length c.plps → list_at (lists_of c packets) plp
+    ≡ map sent_bytes (right_blocks c plp packets)
 lists_held c packets plp inside =
     let size = length-range_with_len 0 (length c.plps) in
-    let there : get_or (places c) plp 0 ≡ plp = let e = get_or-range_with_len 0 (length c.plps) plp 0 inside in omega (arith, e) in
+    let there : get_or (places c) plp 0 ≡ plp = let e = get_or-range_with_len 0 (length c.plps) plp 0 inside in
+    omega (arith, e) in
     get_or-map (λ plp. map sent_bytes (right_blocks c plp packets)) (places c) plp 0 [] (omega (arith, size, inside))
     ∙ ap (λ (j : ℕ). map sent_bytes (right_blocks c j packets)) there
 
-module _ (fits : RecordFits) (passing : MapPasses) (spelled : DynReadSpelled) (len : DynLength) (sizes : BitCounts) (c : Config) (n : ℕ) (packets : List Packet)
+module _ (fits : RecordFits) (passing : MapPasses) (spelled : DynReadSpelled) (len : DynLength) (sizes : BitCounts) (c : Config)
+    (n : ℕ) (packets : List Packet)
     (plan : IsPlan c) (ids : HasByteIds c) (small : n < 2 ^ 32) (none : packets_fault c n packets ≡ None) where
   has : has_map c (first_shape c packets) ≡ true
   has = map_holds c n packets none
 
-  by_parts : (l1 : L1Parts) → slice_get (l1s_of packets) 0 ≡ Some l1 → (o : Option L1Dyn) → read_dynamic c l1 ≡ o → FitsRecord (packets_view c n packets)
-  by_parts l1 e None k = absurd (false≢true (sym (ap (λ (p : Option L1Parts). has_map c (option_and_then (l1_shape c) p)) e ∙ ap (λ (d : Option L1Dyn). has_map c (option_map told_shape d)) k) ∙ has))
+  by_parts : (l1 : L1Parts) → slice_get (l1s_of packets) 0 ≡ Some l1 → (o : Option L1Dyn) → read_dynamic c l1 ≡ o
+      → FitsRecord (packets_view c n packets)
+  by_parts l1 e None k =
+      absurd (false≢true
+      (sym (ap (λ (p : Option L1Parts). has_map c (option_and_then (l1_shape c) p)) e
+      ∙ ap (λ (d : Option L1Dyn). has_map c (option_map told_shape d)) k) ∙ has))
   by_parts l1 e (Some d) k =
       let shape : FrameShape = told_shape d in
       let first : first_shape c packets ≡ Some shape = ap (option_and_then (l1_shape c)) e ∙ ap (option_map told_shape) k in
@@ -75,8 +85,10 @@ module _ (fits : RecordFits) (passing : MapPasses) (spelled : DynReadSpelled) (l
       let short : length (dynamic_in packets) ≤ most_dynamic = omega (arith, size, plps) in
       let long = lists_long c packets in
       let held = lists_held c packets in
-      subst FitsRecord (same_view sizes c n packets shape (lists_of c packets) plan none first told long held (dynamic_in packets) refl)
-      (fits c n (dynamic_in packets) shape (lists_of c packets) plan ids small short passes (has_blocks sizes c n packets shape (lists_of c packets) plan none first told long held))
+      subst FitsRecord (same_view sizes c n packets shape (lists_of c packets) plan none first told long held
+      (dynamic_in packets) refl)
+      (fits c n (dynamic_in packets) shape (lists_of c packets) plan ids small short passes
+      (has_blocks sizes c n packets shape (lists_of c packets) plan none first told long held))
 
   pub packets_fit : FitsRecord (packets_view c n packets)
   packets_fit = go (slice_get (l1s_of packets) 0) refl
@@ -85,7 +97,9 @@ module _ (fits : RecordFits) (passing : MapPasses) (spelled : DynReadSpelled) (l
       go None e = absurd (false≢true (sym (ap (λ (p : Option L1Parts). has_map c (option_and_then (l1_shape c) p)) e) ∙ has))
       go (Some l1) e = by_parts l1 e (read_dynamic c l1) refl
 
-pub content_fits : RecordFits → MutedFits → MapPasses → DynReadSpelled → DynLength → BitCounts → (c : Config) (n : ℕ) (content : Content) → IsPlan c → HasByteIds c → n < 2 ^ 32
+pub content_fits : RecordFits → MutedFits → MapPasses → DynReadSpelled → DynLength → BitCounts
+    → (c : Config) (n : ℕ) (content : Content) → IsPlan c → HasByteIds c → n < 2 ^ 32
     → ((g : Group) → content ≡ Whole g → group_fault c g n ≡ None) → FitsRecord (content_view c n content)
-content_fits fits muted passing spelled len sizes c n (Whole g) plan ids small none = packets_fit fits passing spelled len sizes c n g.packets plan ids small (none g refl)
+content_fits fits muted passing spelled len sizes c n (Whole g) plan ids small none =
+    packets_fit fits passing spelled len sizes c n g.packets plan ids small (none g refl)
 content_fits fits muted passing spelled len sizes c n (Muted cause) plan ids small none = muted c n plan small

@@ -27,13 +27,17 @@ tells c held e = go held.is_held held.told refl refl e
     go false b x y e = absurd (true≢false (sym e))
 
 -- it is the first of the packets
-first_is : (c : Config) (held : HeldL1) (packets : List Packet) (alike : Bool) → Tells held → HoldsL1 c held (slice_get (l1s_of packets) 0) alike → slice_get (l1s_of packets) 0 ≡ Some (parts_of held.parts)
+first_is : (c : Config) (held : HeldL1) (packets : List Packet) (alike : Bool) → Tells held
+    → HoldsL1 c held (slice_get (l1s_of packets) 0) alike → slice_get (l1s_of packets) 0 ≡ Some (parts_of held.parts)
 first_is c held packets alike t h = sym h.is-first ∙ cond-true held.is_held (Some (parts_of held.parts)) None t.is_held
 
-pub first_dynamic : (c : Config) (held : HeldL1) (packets : List Packet) (alike : Bool) → Tells held → HoldsL1 c held (slice_get (l1s_of packets) 0) alike → (parts_of held.parts).dynamic ≡ dynamic_in packets
-first_dynamic c held packets alike t h = ap (λ (o : Option L1Parts). option_map_or (λ l1. l1.dynamic) o []) (sym (first_is c held packets alike t h))
+pub first_dynamic : (c : Config) (held : HeldL1) (packets : List Packet) (alike : Bool) → Tells held
+    → HoldsL1 c held (slice_get (l1s_of packets) 0) alike → (parts_of held.parts).dynamic ≡ dynamic_in packets
+first_dynamic c held packets alike t h = ap (λ (o : Option L1Parts). option_map_or (λ l1. l1.dynamic) o [])
+    (sym (first_is c held packets alike t h))
 
-pub first_told : (c : Config) (held : HeldL1) (packets : List Packet) (alike : Bool) → Tells held → HoldsL1 c held (slice_get (l1s_of packets) 0) alike → first_shape c packets ≡ Some held.shape
+pub first_told : (c : Config) (held : HeldL1) (packets : List Packet) (alike : Bool) → Tells held
+    → HoldsL1 c held (slice_get (l1s_of packets) 0) alike → first_shape c packets ≡ Some held.shape
 first_told c held packets alike t h =
     let read = h.reads t.is_held in
     ap (option_and_then (l1_shape c)) (first_is c held packets alike t h)

@@ -12,6 +12,7 @@ CanGive true w c shape lists = IsLast w
 CanGive false w c shape lists = IsReady w c shape lists
 
 -- That has one proof at most, so it may be a ghost field.
-pub CanGive-prop : (intact : Bool) (w : Writer) (c : Config) (shape : FrameShape) (lists : List (List (List ℕ))) → IsProp (CanGive intact w c shape lists)
+pub CanGive-prop : (intact : Bool) (w : Writer) (c : Config) (shape : FrameShape) (lists : List (List (List ℕ)))
+    → IsProp (CanGive intact w c shape lists)
 CanGive-prop true w c shape lists = Prim.hlevel logic.props
 CanGive-prop false w c shape lists = IsReady-prop w c shape lists

@@ -17,7 +17,8 @@ pub record HoldsCounts (c : Config) (held : HeldBlocks) (t : Tally) : Type 0 whe
 
 -- If the right blocks have room, the lists of the pool are they.
 abbrev pub HoldsLists : Config → HeldBlocks → List Packet → Type 0
-HoldsLists c held packets = held.need ≤ held.chunks → (plp : ℕ) → plp < length c.plps → list_at held.pool plp ≡ map sent_bytes (right_blocks c plp packets)
+HoldsLists c held packets = held.need ≤ held.chunks → (plp : ℕ) → plp < length c.plps → list_at held.pool plp
+    ≡ map sent_bytes (right_blocks c plp packets)
 
 -- There is a list and a number for each PLP of so many.
 pub record IsOpenFor (held : HeldBlocks) (plps : ℕ) : Type 0 where

@@ -22,7 +22,8 @@ shape_told held = if held.is_held && held.told then Some held.shape else None
 
 -- whether L1-pre and the configurable part are the configuration's
 abbrev pub agrees_with : Config → L1Parts → Bool
-agrees_with c l1 = pre_agrees c (read_whole (pre_reading false l1.pre)) && conf_agrees c (read_whole (conf_read (info_size (length c.plps)) l1.conf))
+agrees_with c l1 = pre_agrees c (read_whole (pre_reading false l1.pre)) && conf_agrees c
+    (read_whole (conf_read (info_size (length c.plps)) l1.conf))
 
 -- What was read of the first L1-current, with the shape that it tells.
 pub record HasRead (c : Config) (held : HeldL1) : Type 0 where
@@ -39,4 +40,5 @@ pub record HoldsL1 (c : Config) (held : HeldL1) (first : Option L1Parts) (alike 
 -- More were added.
 abbrev pub AddsL1 : Config → HeldL1 → HeldL1 → List L1Parts → Type 0
 AddsL1 c old new more =
-    (first : Option L1Parts) (alike : Bool) → HoldsL1 c old first alike → HoldsL1 c new (option_or first (slice_get more 0)) (alike && alike_behind first more)
+    (first : Option L1Parts) (alike : Bool) → HoldsL1 c old first alike → HoldsL1 c new (option_or first (slice_get more 0))
+    (alike && alike_behind first more)

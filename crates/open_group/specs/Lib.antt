@@ -5,10 +5,12 @@ pub mod Sent
 pub mod HoldsBlocks
 pub mod Holds
 pub mod Given
+pub mod Written
+pub mod Laws
+-- inner: no public clause cites these
+pub mod Giving
+-- of the crates below, for those who read this one
 pub use Rattle.frame_tests.specs.Carried
 pub use Rattle.frame_tests.specs.Tests
 pub use Rattle.frame_tests.specs.Tally
 pub use Rattle.frame_groups.specs.Groups
-pub mod Written
-pub mod Giving
-pub mod Laws

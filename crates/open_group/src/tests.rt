@@ -129,7 +129,7 @@ fn told(
         frame: 0,
     };
     let none = packet(Body::Other {
-        kind: 0x21,
+        packet_type: 0x21,
         bits: BitSlice::whole(&PRE),
     });
     group.begin(key, &none);

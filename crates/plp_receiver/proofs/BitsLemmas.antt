@@ -1,5 +1,6 @@
 -- The CRC_32 behind L1-post, bit by bit.
-use Rattle.std.proofs.Common.{◌≡◌, ℕ, ◌+◌, ◌-◌, ◌≤◌, Bool, true, false, List, [], ◌∷◌, ◌++◌, length, take, drop, refl, ap, sym, subst, ◌∙◌, arith}
+use Rattle.std.proofs.Common.{◌≡◌, ℕ, ◌+◌, ◌-◌, ◌≤◌, Bool, true, false, List, [], ◌∷◌, ◌++◌, length, take, drop, refl, ap, sym}
+use Rattle.std.proofs.Common.{subst, ◌∙◌, arith}
 use Rattle.std.specs.Prelude.{Result, Ok, Err, OnOk, IfErr, is_ok}
 use Rattle.std.specs.Bool.{beq}
 use Rattle.std.specs.Cmp.Lexicographic.{pointwise}
@@ -42,12 +43,16 @@ ends_whole post e =
     let size : length back ≤ 32 = omega (arith, length-drop at post, l) in
     let inside : at + 32 ≤ length post = omega (arith, l) in
     sym (take-append-drop at post)
-    ∙ ap (λ (b : List Bool). take at post ++ b) (sym (take_all 32 back size) ∙ sym (field-number_at post at 32 inside) ∙ ap (field 32) e.1)
+    ∙ ap (λ (b : List Bool). take at post ++ b) (sym (take_all 32 back size) ∙ sym (field-number_at post at 32 inside)
+    ∙ ap (field 32) e.1)
 
-pub crc_told : EndsInItsCrc → (post : List Bool) (r : Result (Unit {0}) L1Fault) → OnOk r (EndsInCrc post) → IfErr r (RefusesPost post)
+pub crc_told : EndsInItsCrc → (post : List Bool) (r : Result (Unit {0}) L1Fault) → OnOk r (EndsInCrc post)
+    → IfErr r (RefusesPost post)
     → is_ok r ≡ pointwise beq post (crc_whole post)
 crc_told own post (Ok u) ok err = sym (bits_equal post (crc_whole post) (ends_whole post ok))
-crc_told own post (Err fault) ok err = bool_cases (pointwise beq post (crc_whole post)) (λ e. absurd (no fault err (subst EndsInCrc (sym (bits_same post (crc_whole post) e)) (own (post_front post))))) sym
+crc_told own post (Err fault) ok err =
+    bool_cases (pointwise beq post (crc_whole post))
+    (λ e. absurd (no fault err (subst EndsInCrc (sym (bits_same post (crc_whole post) e)) (own (post_front post))))) sym
   where
     no : (fault : L1Fault) → RefusesPost post fault → ¬ (EndsInCrc post)
     no (Short left) r e = let a = r.0 in let b = e.0 in omega (arith, a, b)

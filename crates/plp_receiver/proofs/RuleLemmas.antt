@@ -32,7 +32,8 @@ rest_expands g a b l =
     let r : ℕ = a % b in
     let below : q * b ≤ a = div-mul-le_self a b in
     let whole : a ≡ q * b + r = omega (arith, below, mod-eq-sub-div-mul a b) in
-    let spread : a * g ≡ q * (b * g) + r * g = (let e : (q * b + r) * g ≡ q * (b * g) + r * g = omega arith in ap (λ (v : ℕ). v * g) whole ∙ e) in
+    let spread : a * g ≡ q * (b * g) + r * g =
+    (let e : (q * b + r) * g ≡ q * (b * g) + r * g = omega arith in ap (λ (v : ℕ). v * g) whole ∙ e) in
     let same : a * g / (b * g) * (b * g) ≡ q * (b * g) = ap (λ (v : ℕ). v * (b * g)) (mul-div-mul_right {m = g} a b l) in
     omega (arith, mod-eq-sub-div-mul (a * g) (b * g), same, spread)
 
@@ -47,7 +48,8 @@ one_of g r l =
     ]
 
 expands : (g a b : ℕ) → 1 ≤ g → div_ceil (a * g) (b * g) ≡ div_ceil a b
-expands g a b l = ap₂ (λ (q r : ℕ). q + min 1 r) (mul-div-mul_right {m = g} a b l) (rest_expands g a b l) ∙ ap (λ (m : ℕ). a / b + m) (one_of g (a % b) l)
+expands g a b l = ap₂ (λ (q r : ℕ). q + min 1 r) (mul-div-mul_right {m = g} a b l) (rest_expands g a b l)
+    ∙ ap (λ (m : ℕ). a / b + m) (one_of g (a % b) l)
 
 -- ---- the rule of a PLP
 -- what is known of the length of a slot
@@ -70,7 +72,8 @@ lengths law c plp n d rules l is =
     record { some = omega (arith, some, is.3); long = omega (arith, long, is.2, is.3); small = omega (arith, less, s, is.2) }
 
 -- the rule of a PLP is sound
-pub rule_sound : SlotLength → FrameTicks → UserPacketRange → (c : Config) (plp : ℕ) (r : SlotRule) → AllRules c → plp < length c.plps → IsRule c plp r → IsSound r
+pub rule_sound : SlotLength → FrameTicks → UserPacketRange → (c : Config) (plp : ℕ) (r : SlotRule) → AllRules c
+    → plp < length c.plps → IsRule c plp r → IsSound r
 rule_sound slot frame up c plp r rules l is =
     let n = lengths slot c plp r.num r.den rules l is.slot in
     let ticks = frame c rules in
@@ -95,12 +98,14 @@ same_window law c plp n d rules l is =
     let one : div_ceil n d ≡ div_ceil (num c) (den c plp) = sym (expands g n d pos) ∙ ap₂ div_ceil whole_n whole_d in
     let same : delay_ticks n d c.ticks ≡ delay_ticks (num c) (den c plp) c.ticks = ap (λ (v : ℕ). v + 1 + 3 * c.ticks) one in
     let k : ℕ = delay_ticks (num c) (den c plp) c.ticks + c.ticks in
-    let spread : k * d * g ≡ k * den c plp = (let e : k * d * g ≡ k * (d * g) = omega arith in e ∙ ap (λ (v : ℕ). k * v) whole_d) in
+    let spread : k * d * g ≡ k * den c plp =
+    (let e : k * d * g ≡ k * (d * g) = omega arith in e ∙ ap (λ (v : ℕ). k * v) whole_d) in
     ap (λ (v : ℕ). div_ceil ((v + c.ticks) * d) n + 2) same
     ∙ ap (λ (v : ℕ). v + 2) (sym (expands g (k * d) n pos) ∙ ap₂ div_ceil spread whole_n)
 
 -- slots are over by the same ticks
-pub same_slots : SlotLength → (c : Config) (plp : ℕ) (r : SlotRule) (frames : ℕ) → AllRules c → plp < length c.plps → IsRule c plp r → over_after r frames ≡ slots_over c plp frames
+pub same_slots : SlotLength → (c : Config) (plp : ℕ) (r : SlotRule) (frames : ℕ) → AllRules c → plp < length c.plps
+    → IsRule c plp r → over_after r frames ≡ slots_over c plp frames
 same_slots law c plp r frames rules l is =
     let s = is.slot in
     let g : ℕ = s.0 in
@@ -108,7 +113,8 @@ same_slots law c plp r frames rules l is =
     let whole_n : r.num * g ≡ num c = ap (λ (v : ℕ). v * g) s.2 ∙ div-mul_cancel g s.1.0 in
     let pos : 1 ≤ g = divisor_pos (den c plp) g (law c plp rules l).0 (div-mul_cancel g s.1.1) in
     let tick : ℕ = frames * c.ticks in
-    let spread : tick * r.den * g ≡ tick * den c plp = (let e : tick * r.den * g ≡ tick * (r.den * g) = omega arith in e ∙ ap (λ (v : ℕ). tick * v) whole_d) in
+    let spread : tick * r.den * g ≡ tick * den c plp =
+    (let e : tick * r.den * g ≡ tick * (r.den * g) = omega arith in e ∙ ap (λ (v : ℕ). tick * v) whole_d) in
     ap (λ (t : ℕ). frames * t * r.den / r.num) is.ticks
     ∙ sym (mul-div-mul_right {m = g} (tick * r.den) r.num pos)
     ∙ ap₂ (λ (a b : ℕ). a / b) spread whole_n

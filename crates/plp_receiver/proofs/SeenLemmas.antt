@@ -1,5 +1,6 @@
 -- The cells of a block all stand exactly if none is missed where the record is gone over beside the map.
-use Rattle.std.proofs.Common.{◌≡◌, ℕ, zero, suc, ◌+◌, ◌<◌, ◌&&◌, ◌==◌, Bool, true, false, List, [], ◌∷◌, length, get_or, Option, Some, None, refl, ap, ap₂, sym, subst, ◌∙◌, arith}
+use Rattle.std.proofs.Common.{◌≡◌, ℕ, zero, suc, ◌+◌, ◌<◌, ◌&&◌, ◌==◌, Bool, true, false, List, [], ◌∷◌, length, get_or, Option}
+use Rattle.std.proofs.Common.{Some, None, refl, ap, ap₂, sym, subst, ◌∙◌, arith}
 use Rattle.std.specs.Prelude.{slice_get, not, ◌||◌}
 use Rattle.std.specs.FinMap.{get}
 use Rattle.std.specs.List.{list_all, range_with_len}
@@ -43,7 +44,8 @@ true_each : (t : ℕ → Bool) (n : ℕ) → ((k : ℕ) → k < n → t k ≡ tr
 true_each t n f = true_range t 0 n (λ k l. let same : 0 + k ≡ k = omega arith in ap t same ∙ f k l)
 
 from_more : (t : ℕ → Bool) (a n : ℕ) → list_all t (range_with_len a (n + 1)) ≡ (list_all t (range_with_len a n) && t (a + n))
-from_more t a n = ap (list_all t) (range_more a n) ∙ list_all-append t (range_with_len a n) ((a + n) ∷ []) ∙ ap (λ (b : Bool). list_all t (range_with_len a n) && b) (whole (t (a + n)))
+from_more t a n = ap (list_all t) (range_more a n) ∙ list_all-append t (range_with_len a n) ((a + n) ∷ [])
+    ∙ ap (λ (b : Bool). list_all t (range_with_len a n) && b) (whole (t (a + n)))
   where
     whole : (b : Bool) → (b && true) ≡ b
     whole true = refl
@@ -54,7 +56,8 @@ and_assoc : (a b d : Bool) → ((a && b) && d) ≡ (a && (b && d))
 and_assoc true b d = refl
 and_assoc false b d = refl
 
-from_split : (t : ℕ → Bool) (a n m : ℕ) → list_all t (range_with_len a (n + m)) ≡ (list_all t (range_with_len a n) && list_all t (range_with_len (a + n) m))
+from_split : (t : ℕ → Bool) (a n m : ℕ) → list_all t (range_with_len a (n + m))
+    ≡ (list_all t (range_with_len a n) && list_all t (range_with_len (a + n) m))
 from_split t a zero m =
     let e : 0 + m ≡ m = omega arith in
     let f : a ≡ a + 0 = omega arith in
@@ -67,7 +70,8 @@ from_split t a (suc n) m =
     ∙ sym (and_assoc (t a) (list_all t (range_with_len (a + 1) n)) (list_all t (range_with_len (a + 1 + n) m)))
     ∙ ap (λ (k : ℕ). (t a && list_all t (range_with_len (a + 1) n)) && list_all t (range_with_len k m)) f
 
-pub seen_more : (c : Config) (shape : FrameShape) (cells : List (Option Cell)) (ordinal address n : ℕ) (was before now : Bool) (expected found : Option Cell)
+pub seen_more : (c : Config) (shape : FrameShape) (cells : List (Option Cell)) (ordinal address n : ℕ) (was before now : Bool)
+    (expected found : Option Cell)
     → before ≡ (was && seen_from c shape cells ordinal address n) → now ≡ (before && is_seen ordinal expected found)
     → expected ≡ get (cell_map c shape) (address + n) → slice_get cells (address + n) ≡ Some found
     → now ≡ (was && seen_from c shape cells ordinal address (n + 1))
@@ -100,28 +104,33 @@ right_own ordinal None = refl
 right_own ordinal (Some x) =
     let one : (x.ordinal == x.ordinal) ≡ true = eq-eqb x.ordinal x.ordinal refl in
     let other : (x.cell == x.cell) ≡ true = eq-eqb x.cell x.cell refl in
-    second (not (x.ordinal == ordinal)) (is_cell x.ordinal x.cell (Some (Some x))) (and_from (x.ordinal == x.ordinal) (x.cell == x.cell) one other)
+    second (not (x.ordinal == ordinal)) (is_cell x.ordinal x.cell (Some (Some x)))
+    (and_from (x.ordinal == x.ordinal) (x.cell == x.cell) one other)
   where
     second : (a b : Bool) → b ≡ true → (a || b) ≡ true
     second true b h = refl
     second false b h = h
 
 pub all_own : (c : Config) (shape : FrameShape) (cells : List (Option Cell)) (ordinal address n : ℕ)
-    → ((i : ℕ) → i < n → slice_get cells (address + i) ≡ Some (get (cell_map c shape) (address + i))) → seen_from c shape cells ordinal address n ≡ true
+    → ((i : ℕ) → i < n → slice_get cells (address + i) ≡ Some (get (cell_map c shape) (address + i)))
+    → seen_from c shape cells ordinal address n ≡ true
 all_own c shape cells ordinal address n h = true_range (right_at c shape cells ordinal) address n
-    (λ i l. ap (λ (f : Option (Option Cell)). is_right ordinal (get (cell_map c shape) (address + i)) f) (h i l) ∙ right_own ordinal (get (cell_map c shape) (address + i)))
+    (λ i l. ap (λ (f : Option (Option Cell)). is_right ordinal (get (cell_map c shape) (address + i)) f) (h i l)
+    ∙ right_own ordinal (get (cell_map c shape) (address + i)))
 
 pub none_seen : (was : Bool) → was ≡ (was && true)
 none_seen true = refl
 none_seen false = refl
 
 -- ---- all of them
-right_one : (ordinal cell : ℕ) (found : Option (Option Cell)) → is_right ordinal (Some (record { ordinal = ordinal; cell = cell })) found ≡ true → is_cell ordinal cell found ≡ true
+right_one : (ordinal cell : ℕ) (found : Option (Option Cell))
+    → is_right ordinal (Some (record { ordinal = ordinal; cell = cell })) found ≡ true → is_cell ordinal cell found ≡ true
 right_one ordinal cell found e =
     let yes : (ordinal == ordinal) ≡ true = eq-eqb ordinal ordinal refl in
     sym (ap (λ (t : Bool). not t || is_cell ordinal cell found) yes) ∙ e
 
-module _ (has : MapHasEachCell) (only : MapHasOnlyCells) (c : Config) (shape : FrameShape) (cells : List (Option Cell)) (plp block : ℕ) (passes : Passes c shape)
+module _ (has : MapHasEachCell) (only : MapHasOnlyCells) (c : Config) (shape : FrameShape) (cells : List (Option Cell))
+    (plp block : ℕ) (passes : Passes c shape)
     (configured : plp < length c.plps) (sent : block < get_or shape.counts plp 0) where
   abbrev own : ℕ
   own = ordinal_of shape plp block
@@ -133,9 +142,12 @@ module _ (has : MapHasEachCell) (only : MapHasOnlyCells) (c : Config) (shape : F
   stands_by e = true_each (stands c shape cells plp block) (block_cells c plp) (λ cell l.
       let at : ℕ = address_of c shape plp block cell in
       let right = each_true (right_at c shape cells own) c.cells e at (passes.below plp block cell (there cell l)) in
-      right_one own cell (slice_get cells at) (ap (λ (o : Option Cell). is_right own o (slice_get cells at)) (sym (has c shape plp block cell passes (there cell l))) ∙ right))
+      right_one own cell (slice_get cells at)
+      (ap (λ (o : Option Cell). is_right own o (slice_get cells at)) (sym (has c shape plp block cell passes (there cell l)))
+      ∙ right))
 
-  right_here : all_stand c shape cells plp block ≡ true → (at : ℕ) (o : Option Cell) → get (cell_map c shape) at ≡ o → is_right own o (slice_get cells at) ≡ true
+  right_here : all_stand c shape cells plp block ≡ true → (at : ℕ) (o : Option Cell) → get (cell_map c shape) at ≡ o
+      → is_right own o (slice_get cells at) ≡ true
   right_here e at None g = refl
   right_here e at (Some x) g = bool_cases (x.ordinal == own)
       (λ same.
@@ -143,11 +155,14 @@ module _ (has : MapHasEachCell) (only : MapHasOnlyCells) (c : Config) (shape : F
       let is : x.ordinal ≡ own = eqb-true x.ordinal own same in
       let one = ordinals_apart shape.counts s.plp s.block plp block s.there.sent sent (sym s.ordinal ∙ is) in
       let within : x.cell < block_cells c plp = subst (λ (p : ℕ). x.cell < block_cells c p) one.0 s.there.within in
-      let standing : is_cell own x.cell (slice_get cells (address_of c shape plp block x.cell)) ≡ true = each_true (stands c shape cells plp block) (block_cells c plp) e x.cell within in
+      let standing : is_cell own x.cell (slice_get cells (address_of c shape plp block x.cell)) ≡ true =
+      each_true (stands c shape cells plp block) (block_cells c plp) e x.cell within in
       let place : address_of c shape plp block x.cell ≡ at =
-      ap (λ (b : ℕ). address_of c shape plp b x.cell) (sym one.1) ∙ ap (λ (p : ℕ). address_of c shape p s.block x.cell) (sym one.0) ∙ s.value in
+      ap (λ (b : ℕ). address_of c shape plp b x.cell) (sym one.1) ∙ ap (λ (p : ℕ). address_of c shape p s.block x.cell)
+      (sym one.0) ∙ s.value in
       let found : is_cell x.ordinal x.cell (slice_get cells at) ≡ true =
-      ap (λ (o : ℕ). is_cell o x.cell (slice_get cells at)) is ∙ ap (λ (a : ℕ). is_cell own x.cell (slice_get cells a)) (sym place) ∙ standing in
+      ap (λ (o : ℕ). is_cell o x.cell (slice_get cells at)) is ∙ ap (λ (a : ℕ). is_cell own x.cell (slice_get cells a))
+      (sym place) ∙ standing in
       or_second (not (x.ordinal == own)) (is_cell x.ordinal x.cell (slice_get cells at)) found)
       (λ other. ap (λ (t : Bool). not t || is_cell x.ordinal x.cell (slice_get cells at)) other)
     where

@@ -1,5 +1,6 @@
 -- The blocks of a frame of a shape, each with its length.
-use Rattle.std.proofs.Common.{◌≡◌, ℕ, zero, suc, ◌+◌, ◌-◌, ◌<◌, ◌≤◌, ◌&&◌, ◌==◌, Bool, true, false, List, [], ◌∷◌, ◌++◌, length, take, drop, get_or, replicate, Option, refl, ap, sym, subst, ◌∙◌, arith}
+use Rattle.std.proofs.Common.{◌≡◌, ℕ, zero, suc, ◌+◌, ◌-◌, ◌<◌, ◌≤◌, ◌&&◌, ◌==◌, Bool, true, false, List, [], ◌∷◌, ◌++◌, length}
+use Rattle.std.proofs.Common.{take, drop, get_or, replicate, Option, refl, ap, sym, subst, ◌∙◌, arith}
 use Rattle.std.specs.Prelude.{slice_index, sum}
 use Rattle.std.specs.Option.{option_map_or}
 use Rattle.std.specs.Cmp.Lexicographic.{pointwise}
@@ -25,27 +26,32 @@ left_is n k l = omega (arith, l)
 
 -- a block came that has the size
 pub came : (b : Block) (rest : List Block) (size : BlockSize) (n k : ℕ) (more : List BlockSize) → k < n → has_size b size ≡ true
-    → pointwise has_size (b ∷ rest) (replicate (n - k) size ++ more) ≡ pointwise has_size rest (replicate (n - (k + 1)) size ++ more)
+    → pointwise has_size (b ∷ rest) (replicate (n - k) size ++ more)
+    ≡ pointwise has_size rest (replicate (n - (k + 1)) size ++ more)
 came b rest size n k more l e =
     ap (λ (m : ℕ). pointwise has_size (b ∷ rest) (replicate m size ++ more)) (left_is n k l)
     ∙ ap (λ (t : Bool). t && pointwise has_size rest (replicate (n - (k + 1)) size ++ more)) e
 
 -- a block came that has another
-pub came_other : (b : Block) (rest : List Block) (size : BlockSize) (n k : ℕ) (more : List BlockSize) → k < n → has_size b size ≡ false
+pub came_other : (b : Block) (rest : List Block) (size : BlockSize) (n k : ℕ) (more : List BlockSize) → k < n
+    → has_size b size ≡ false
     → pointwise has_size (b ∷ rest) (replicate (n - k) size ++ more) ≡ false
 came_other b rest size n k more l e =
     ap (λ (m : ℕ). pointwise has_size (b ∷ rest) (replicate m size ++ more)) (left_is n k l)
     ∙ and_left (has_size b size) (pointwise has_size rest (replicate (n - (k + 1)) size ++ more)) e
 
 -- the sizes from a PLP on begin with its own
-sizes_first : (c : Config) (shape : FrameShape) (n plp : ℕ) → plp < n → sizes_from c shape plp (n - plp) ≡ plp_sizes c shape plp ++ sizes_from c shape (plp + 1) (n - (plp + 1))
+sizes_first : (c : Config) (shape : FrameShape) (n plp : ℕ) → plp < n → sizes_from c shape plp (n - plp) ≡ plp_sizes c shape plp
+    ++ sizes_from c shape (plp + 1) (n - (plp + 1))
 sizes_first c shape n plp l = ap (sizes_from c shape plp) (left_is n plp l)
 
 -- the blocks of a PLP came, or not
 pub comes : (c : Config) (shape : FrameShape) (old new : List Block) (n plp count id len : ℕ) (result : Bool) → plp < n
     → count ≡ slice_index shape.counts plp → id ≡ (plp_at c.plps plp).id → len ≡ block_bytes c plp
-    → ((more : List BlockSize) → pointwise has_size old (replicate count (size_of id len) ++ more) ≡ (result && pointwise has_size new more))
-    → pointwise has_size old (sizes_from c shape plp (n - plp)) ≡ (result && pointwise has_size new (sizes_from c shape (plp + 1) (n - (plp + 1))))
+    → ((more : List BlockSize) → pointwise has_size old (replicate count (size_of id len) ++ more)
+    ≡ (result && pointwise has_size new more))
+    → pointwise has_size old (sizes_from c shape plp (n - plp))
+    ≡ (result && pointwise has_size new (sizes_from c shape (plp + 1) (n - (plp + 1))))
 comes c shape old new n plp count id len result l e i s f =
     let more : List BlockSize = sizes_from c shape (plp + 1) (n - (plp + 1)) in
     ap (pointwise has_size old) (sizes_first c shape n plp l)
@@ -66,7 +72,8 @@ record Splits (blocks : List Block) (n len : ℕ) (more : List BlockSize) : Type
   each : (k : ℕ) → k < n → IsLong blocks k len
   behind : pointwise has_size (drop n blocks) more ≡ true
 
-splits : (blocks : List Block) (n id len : ℕ) (more : List BlockSize) → pointwise has_size blocks (replicate n (size_of id len) ++ more) ≡ true → Splits blocks n len more
+splits : (blocks : List Block) (n id len : ℕ) (more : List BlockSize)
+    → pointwise has_size blocks (replicate n (size_of id len) ++ more) ≡ true → Splits blocks n len more
 splits blocks zero id len more e = record { whole = omega arith; each = λ k l. absurd (omega (arith, l)); behind = e }
 splits [] (suc n) id len more e = absurd (true≢false (sym e))
 splits (b ∷ blocks) (suc n) id len more e =
@@ -82,53 +89,66 @@ splits (b ∷ blocks) (suc n) id len more e =
   where
     go : length b.bytes ≡ len → ((k : ℕ) → k < n → IsLong blocks k len) → (k : ℕ) → k < suc n → IsLong (b ∷ blocks) k len
     go here each zero l = record { inside = omega arith; bytes = here }
-    go here each (suc k) l = let e = each k (omega (arith, l)) in let i = e.inside in record { inside = omega (arith, i); bytes = e.bytes }
+    go here each (suc k) l = let e = each k (omega (arith, l)) in let i = e.inside in
+        record { inside = omega (arith, i); bytes = e.bytes }
 
 is_later : (blocks : List Block) (n place len : ℕ) → IsLong (drop n blocks) place len → IsLong blocks (n + place) len
 is_later blocks n place len h =
     let i = h.inside in
     record {
       inside = omega (arith, i, length-drop n blocks);
-      bytes = ap (λ (o : Option Block). length (option_map_or (λ b. b.bytes) o [])) (sym (slice_get_drop blocks n place (n + place) refl)) ∙ h.bytes;
+      bytes = ap (λ (o : Option Block). length (option_map_or (λ b. b.bytes) o []))
+          (sym (slice_get_drop blocks n place (n + place) refl)) ∙ h.bytes;
     }
 
 sum_none : (n : ℕ) → sum (take n []) ≡ 0
 sum_none zero = refl
 sum_none (suc n) = refl
 
-sum_from : (xs : List ℕ) (first plp : ℕ) → sum (take (suc plp) (drop first xs)) ≡ get_or xs first 0 + sum (take plp (drop (suc first) xs))
+sum_from : (xs : List ℕ) (first plp : ℕ) → sum (take (suc plp) (drop first xs)) ≡ get_or xs first 0
+    + sum (take plp (drop (suc first) xs))
 sum_from [] zero plp = omega (arith, sum_none plp, sum_none (suc plp))
 sum_from [] (suc first) plp = omega (arith, sum_none plp, sum_none (suc plp))
 sum_from (x ∷ xs) zero plp = sum_by-cons (λ x. x) x (take plp xs)
 sum_from (x ∷ xs) (suc first) plp = sum_from xs first plp
 
-sum_next : (xs : List ℕ) (first plp : ℕ) → sum (take (suc plp) (drop first xs)) ≡ get_or xs first 0 + sum (take plp (drop (first + 1) xs))
-sum_next xs first plp = let next : suc first ≡ first + 1 = omega arith in sum_from xs first plp ∙ ap (λ (n : ℕ). get_or xs first 0 + sum (take plp (drop n xs))) next
+sum_next : (xs : List ℕ) (first plp : ℕ) → sum (take (suc plp) (drop first xs)) ≡ get_or xs first 0
+    + sum (take plp (drop (first + 1) xs))
+sum_next xs first plp = let next : suc first ≡ first + 1 = omega arith in sum_from xs first plp
+    ∙ ap (λ (n : ℕ). get_or xs first 0 + sum (take plp (drop n xs))) next
 
 -- those of the PLP at a place among so many, from the first block of the first one on
-placed : (c : Config) (shape : FrameShape) (blocks : List Block) (first n : ℕ) → pointwise has_size blocks (sizes_from c shape first n) ≡ true
-    → (plp at k place : ℕ) → plp < n → at ≡ first + plp → k < slice_index shape.counts at → place ≡ sum (take plp (drop first shape.counts)) + k → IsLong blocks place (block_bytes c at)
+placed : (c : Config) (shape : FrameShape) (blocks : List Block) (first n : ℕ)
+    → pointwise has_size blocks (sizes_from c shape first n) ≡ true
+    → (plp at k place : ℕ) → plp < n → at ≡ first + plp → k < slice_index shape.counts at
+    → place ≡ sum (take plp (drop first shape.counts)) + k → IsLong blocks place (block_bytes c at)
 placed c shape blocks first zero e plp at k place l a inside p = absurd (omega (arith, l))
 placed c shape blocks first (suc n) e zero at k place l a inside p =
     let same : at ≡ first = omega (arith, a) in
     let here : place ≡ k = omega (arith, p) in
-    let s = splits blocks (slice_index shape.counts first) (plp_at c.plps first).id (block_bytes c first) (sizes_from c shape (first + 1) n) e in
+    let s = splits blocks (slice_index shape.counts first) (plp_at c.plps first).id (block_bytes c first)
+    (sizes_from c shape (first + 1) n) e in
     subst (λ (i : ℕ). IsLong blocks i (block_bytes c at)) (sym here)
-    (subst (λ (j : ℕ). IsLong blocks k (block_bytes c j)) (sym same) (s.each k (subst (λ (j : ℕ). k < slice_index shape.counts j) same inside)))
+    (subst (λ (j : ℕ). IsLong blocks k (block_bytes c j)) (sym same)
+    (s.each k (subst (λ (j : ℕ). k < slice_index shape.counts j) same inside)))
 placed c shape blocks first (suc n) e (suc plp) at k place l a inside p =
     let m : ℕ = slice_index shape.counts first in
     let s = splits blocks m (plp_at c.plps first).id (block_bytes c first) (sizes_from c shape (first + 1) n) e in
     let behind : ℕ = sum (take plp (drop (first + 1) shape.counts)) + k in
-    let more = placed c shape (drop m blocks) (first + 1) n s.behind plp at k behind (omega (arith, l)) (omega (arith, a)) inside refl in
+    let more = placed c shape (drop m blocks) (first + 1) n s.behind plp at k behind (omega (arith, l))
+    (omega (arith, a)) inside refl in
     let here : m + behind ≡ place = omega (arith, p, sum_next shape.counts first plp) in
     subst (λ (i : ℕ). IsLong blocks i (block_bytes c at)) here (is_later blocks m behind (block_bytes c at) more)
 
-pub long_blocks : (c : Config) (shape : FrameShape) (blocks : List Block) (plp k : ℕ) → pointwise has_size blocks (block_sizes c shape) ≡ true → plp < length c.plps
+pub long_blocks : (c : Config) (shape : FrameShape) (blocks : List Block) (plp k : ℕ)
+    → pointwise has_size blocks (block_sizes c shape) ≡ true → plp < length c.plps
     → k < slice_index shape.counts plp → IsLong blocks (sum (take plp shape.counts) + k) (block_bytes c plp)
-long_blocks c shape blocks plp k e l inside = placed c shape blocks 0 (length c.plps) e plp plp k (sum (take plp shape.counts) + k) l (omega arith) inside refl
+long_blocks c shape blocks plp k e l inside =
+    placed c shape blocks 0 (length c.plps) e plp plp k (sum (take plp shape.counts) + k) l (omega arith) inside refl
 
 -- behind those before it
-pub have_bytes : FieldRange → (c : Config) (shape : FrameShape) (blocks : List Block) (plp room : ℕ) → pointwise has_size blocks (block_sizes c shape) ≡ true → plp < length c.plps
+pub have_bytes : FieldRange → (c : Config) (shape : FrameShape) (blocks : List Block) (plp room : ℕ)
+    → pointwise has_size blocks (block_sizes c shape) ≡ true → plp < length c.plps
     → room ≡ MOST_BLOCK_BYTES → HaveBytes room (slice_index shape.counts plp) (drop (sum (take plp shape.counts)) blocks)
 have_bytes range c shape blocks plp room e l r = (enough (slice_index shape.counts plp) (λ k i. (long k i).inside), each)
   where
@@ -148,5 +168,6 @@ have_bytes range c shape blocks plp room e l r = (enough (slice_index shape.coun
         let most : room ≡ 6730 = r in
         let field : MOST_FIELD_BYTES ≡ 6720 = refl in
         let same : length (bytes_at (drop front blocks) k) ≡ block_bytes c plp =
-        ap (λ (o : Option Block). length (option_map_or (λ b. b.bytes) o [])) (slice_get_drop blocks front k (front + k) refl) ∙ (long k i).bytes in
+        ap (λ (o : Option Block). length (option_map_or (λ b. b.bytes) o [])) (slice_get_drop blocks front k (front + k) refl)
+        ∙ (long k i).bytes in
         (omega (arith, same, size), omega (arith, same, size, most, field), omega (arith, most))

@@ -1,5 +1,6 @@
 -- Where the fields of a baseband frame stand in the bits that spell it, so that bits spell one frame at most.
-use Rattle.std.proofs.Common.{◌≡◌, ◌+◌, ◌/◌, ◌%◌, ◌^◌, ◌<◌, ◌≤◌, Bool, List, ◌++◌, length, refl, ap, sym, ◌∙◌, arith, append_assoc, length-append}
+use Rattle.std.proofs.Common.{◌≡◌, ◌+◌, ◌/◌, ◌%◌, ◌^◌, ◌<◌, ◌≤◌, Bool, List, ◌++◌, length, refl, ap, sym, ◌∙◌, arith}
+use Rattle.std.proofs.Common.{append_assoc, length-append}
 use Rattle.std.specs.Prelude.{bit_xor}
 use Rattle.bit_slice.specs.Crc.{crc8_of}
 use Rattle.terms.specs.Bits.{field, number_of, part, number_at}
@@ -42,18 +43,30 @@ tells h body bits s =
     record {
       upper = ap (λ (xs : List Bool). number_at xs 16 16) at_c ∙ number-middle (a ++ b) rest_c 16 16 (h.issy / 2 ^ 8) two high;
       dfl = ap (λ (xs : List Bool). number_at xs 32 16) at_d ∙ number-middle (a ++ b ++ c) rest_d 32 16 h.dfl four fit.dfl;
-      lower = ap (λ (xs : List Bool). number_at xs 48 8) at_e ∙ ap number_of (part-middle (a ++ b ++ c ++ d) e rest_e 48 8 six (length-field 8 h.issy)) ∙ number_of-field-mod 8 h.issy;
-      syncd = ap (λ (xs : List Bool). number_at xs 56 16) at_f ∙ number-middle (a ++ b ++ c ++ d ++ e) rest_f 56 16 h.syncd seven fit.syncd;
+      lower = ap (λ (xs : List Bool). number_at xs 48 8) at_e
+          ∙ ap number_of (part-middle (a ++ b ++ c ++ d) e rest_e 48 8 six (length-field 8 h.issy))
+          ∙ number_of-field-mod 8 h.issy;
+      syncd = ap (λ (xs : List Bool). number_at xs 56 16) at_f
+          ∙ number-middle (a ++ b ++ c ++ d ++ e) rest_f 56 16 h.syncd seven fit.syncd;
     }
 
 -- the data field stands behind the header
-pub field_behind : BitCounts → (h : Header) (body bits : List Bool) → Spells h body bits → (80 + h.dfl ≤ length bits) × (body ≡ part bits 80 h.dfl)
+pub field_behind : BitCounts → (h : Header) (body bits : List Bool) → Spells h body bits → (80 + h.dfl ≤ length bits)
+    × (body ≡ part bits 80 h.dfl)
 field_behind counts h body bits s =
     let behind : bits ≡ (header_bits h ++ body) ++ s.padding = s.spelled in
     let len = s.describes.len in
     let size : length bits ≡ 80 + length body + length s.padding =
-    ap length behind ∙ omega (arith, length-append (header_bits h ++ body) s.padding, length-append (header_bits h) body, counts.header h) in
-    (omega (arith, size, len), sym (ap (λ (xs : List Bool). part xs 80 h.dfl) behind ∙ part-middle (header_bits h) body s.padding 80 h.dfl (counts.header h) (sym len)))
+    ap length behind ∙ omega (
+      arith,
+      length-append (header_bits h ++ body) s.padding,
+      length-append (header_bits h) body,
+      counts.header h,
+    ) in (
+      omega (arith, size, len),
+      sym (ap (λ (xs : List Bool). part xs 80 h.dfl) behind ∙ part-middle (header_bits h) body s.padding 80 h.dfl
+          (counts.header h) (sym len)),
+    )
 
 -- two frames that bits spell have the same numbers, and the same data field
 pub record AreSame (h k : Header) (body other : List Bool) : Type 0 where
@@ -61,7 +74,8 @@ pub record AreSame (h k : Header) (body other : List Bool) : Type 0 where
   pub syncd : h.syncd ≡ k.syncd
   pub field : body ≡ other
 
-pub spelled_once : BitCounts → (h k : Header) (body other bits : List Bool) → Spells h body bits → Spells k other bits → AreSame h k body other
+pub spelled_once : BitCounts → (h k : Header) (body other bits : List Bool) → Spells h body bits → Spells k other bits
+    → AreSame h k body other
 spelled_once counts h k body other bits s t =
     let a = tells h body bits s in
     let b = tells k other bits t in

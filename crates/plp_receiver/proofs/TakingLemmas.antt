@@ -1,5 +1,6 @@
 -- What is taken of bytes.
-use Rattle.std.proofs.Common.{◌≡◌, ◌⊎◌, ℕ, zero, suc, ◌+◌, ◌*◌, ◌/◌, ◌%◌, ◌==◌, ◌<◌, ◌≤◌, Bool, true, false, List, [], ◌∷◌, length, take, drop, get_or, Option, Some, None, refl, ap, ◌∙◌, sym, subst, arith, inl, inr, cond}
+use Rattle.std.proofs.Common.{◌≡◌, ◌⊎◌, ℕ, zero, suc, ◌+◌, ◌*◌, ◌/◌, ◌%◌, ◌==◌, ◌<◌, ◌≤◌, Bool, true, false, List, [], ◌∷◌}
+use Rattle.std.proofs.Common.{length, take, drop, get_or, Option, Some, None, refl, ap, ◌∙◌, sym, subst, arith, inl, inr, cond}
 use Rattle.std.specs.Prelude.{if◌then◌else◌, Result, Ok, Err}
 use Rattle.std.proofs.lemmas.Bool.{both_ways, eq-eqb}
 use Rattle.std.proofs.lemmas.List.{get_or-drop, length-take, length-drop}
@@ -18,11 +19,14 @@ use Rattle.plp_receiver.proofs.SpelledLemmas.{field_behind}
 abbrev pub block_with : Option ℕ → ℕ → List ℕ → Block
 block_with first issy field = record { first = first; issy = issy; field = field }
 
-small_part : (bytes : List ℕ) → ((k : ℕ) → get_or bytes k 0 < 256) → (at count k : ℕ) → get_or (take count (drop at bytes)) k 0 < 256
-small_part bytes small at count k = small_take count (drop at bytes) (λ j. subst (λ (v : ℕ). v < 256) (sym (get_or-drop at bytes j 0)) (small (at + j))) k
+small_part : (bytes : List ℕ) → ((k : ℕ) → get_or bytes k 0 < 256) → (at count k : ℕ) → get_or (take count (drop at bytes)) k 0
+    < 256
+small_part bytes small at count k =
+    small_take count (drop at bytes) (λ j. subst (λ (v : ℕ). v < 256) (sym (get_or-drop at bytes j 0)) (small (at + j))) k
 
 -- the data field's bytes
-pub field_is : BitCounts → (bytes : List ℕ) → ((k : ℕ) → get_or bytes k 0 < 256) → (h : Header) (body : List Bool) → Spells h body (bits_of bytes)
+pub field_is : BitCounts → (bytes : List ℕ) → ((k : ℕ) → get_or bytes k 0 < 256) → (h : Header) (body : List Bool)
+    → Spells h body (bits_of bytes)
     → (10 + h.dfl / 8 ≤ length bytes) × (bytes_of body ≡ take (h.dfl / 8) (drop 10 bytes))
 field_is counts bytes small h body s =
     let r = field_behind counts h body (bits_of bytes) s in
@@ -33,28 +37,34 @@ field_is counts bytes small h body s =
     r.1 ∙ ap (λ (n : ℕ). part (bits_of bytes) 80 n) e ∙ part-bits_of bytes 10 (h.dfl / 8) fits in
     (fits, ap bytes_of field ∙ bytes_of-bits_of (take (h.dfl / 8) (drop 10 bytes)) (λ k. small_part bytes small 10 (h.dfl / 8) k))
 
-pub taken_is : BitCounts → (bytes : List ℕ) → ((k : ℕ) → get_or bytes k 0 < 256) → (h : Header) (body : List Bool) → Spells h body (bits_of bytes) → (deletes : Bool) → IsOfStream deletes h.matype1
-    → IsTaken deletes (bits_of bytes) (block_with (if h.syncd == 65535 then None else Some (h.syncd / 8)) h.issy (take (h.dfl / 8) (drop 10 bytes)))
+pub taken_is : BitCounts → (bytes : List ℕ) → ((k : ℕ) → get_or bytes k 0 < 256) → (h : Header) (body : List Bool)
+    → Spells h body (bits_of bytes) → (deletes : Bool) → IsOfStream deletes h.matype1
+    → IsTaken deletes (bits_of bytes) (block_with (if h.syncd == 65535 then None else Some (h.syncd / 8)) h.issy
+    (take (h.dfl / 8) (drop 10 bytes)))
 taken_is counts bytes small h body s deletes stream = record {
   header = h;
   body = body;
   spelled = s;
   stream = stream;
-  block = ap (λ (f : List ℕ). block_with (if h.syncd == 65535 then None else Some (h.syncd / 8)) h.issy f) (sym (field_is counts bytes small h body s).1);
+  block = ap (λ (f : List ℕ). block_with (if h.syncd == 65535 then None else Some (h.syncd / 8)) h.issy f)
+      (sym (field_is counts bytes small h body s).1);
 }
 
 -- the first user packet begins in the data field
-pub place_is : BitCounts → (bytes : List ℕ) → ((k : ℕ) → get_or bytes k 0 < 256) → (h : Header) (body : List Bool) → Spells h body (bits_of bytes)
+pub place_is : BitCounts → (bytes : List ℕ) → ((k : ℕ) → get_or bytes k 0 < 256) → (h : Header) (body : List Bool)
+    → Spells h body (bits_of bytes)
     → IsPlace (if h.syncd == 65535 then None else Some (h.syncd / 8)) (h.dfl / 8)
 place_is counts bytes small h body s = go (h.syncd == 65535) refl s.describes.sync
   where
-    go : (b : Bool) → (h.syncd == 65535) ≡ b → (h.syncd ≡ 65535) ⊎ ((h.syncd % 8 ≡ 0) × (h.syncd < h.dfl)) → IsPlace (cond b None (Some (h.syncd / 8))) (h.dfl / 8)
+    go : (b : Bool) → (h.syncd == 65535) ≡ b → (h.syncd ≡ 65535) ⊎ ((h.syncd % 8 ≡ 0) × (h.syncd < h.dfl))
+        → IsPlace (cond b None (Some (h.syncd / 8))) (h.dfl / 8)
     go true e p = tt
     go false e (inl p) = absurd (both_ways _ e (eq-eqb h.syncd 65535 p))
     go false e (inr p) = let d = s.describes.bytes in omega (arith, p.0, p.1, d)
 
 -- what was read is what the bits spell
-pub same_matype : (r : Result BbView BbFault) (view : BbView) (h : Header) (body : List Bool) → r ≡ Ok view → r ≡ Ok (record { header = h; field = body }) → h.matype1 ≡ view.header.matype1
+pub same_matype : (r : Result BbView BbFault) (view : BbView) (h : Header) (body : List Bool) → r ≡ Ok view
+    → r ≡ Ok (record { header = h; field = body }) → h.matype1 ≡ view.header.matype1
 same_matype r view h body e f = ap matype (sym f ∙ e)
   where
     matype : Result BbView BbFault → ℕ

@@ -1,7 +1,8 @@
 pub mod Readable
 pub mod Taken
+pub mod StandsFor
+pub mod Laws
+-- inner: no public clause cites these
 pub mod Sizes
 pub mod Seeing
 pub mod Taking
-pub mod StandsFor
-pub mod Laws

@@ -1,5 +1,6 @@
 -- Which records of frames are readable, and what they tell (EN 302 755, clauses 5 to 8).
-use Rattle.std.specs.Prelude.{ℕ, ◌+◌, ◌-◌, ◌*◌, ◌==◌, ◌&&◌, Bool, true, false, List, length, take, replicate, slice_get, slice_index, Option, Some, None, if◌then◌else◌, option_map}
+use Rattle.std.specs.Prelude.{ℕ, ◌+◌, ◌-◌, ◌*◌, ◌==◌, ◌&&◌, Bool, true, false, List, length, take, replicate, slice_get}
+use Rattle.std.specs.Prelude.{slice_index, Option, Some, None, if◌then◌else◌, option_map}
 use Rattle.std.specs.Bool.{beq}
 use Rattle.std.specs.Cmp.Lexicographic.{pointwise}
 use Rattle.std.specs.List.{flat_map}
@@ -43,7 +44,8 @@ told_dynamic c post = read_whole (dyn_read (length c.plps) (part post (conf_len 
 abbrev pub post_agrees : Config → ℕ → List Bool → Bool
 post_agrees c n post =
     (length post == post_len c) && pointwise beq post (crc_behind true (take (length post - crc_len) post))
-    && conf_agrees c (read_whole (conf_read (info_size (length c.plps)) (take (conf_len c) post))) && dyn_agrees c n (told_dynamic c post)
+    && conf_agrees c (read_whole (conf_read (info_size (length c.plps)) (take (conf_len c) post))) && dyn_agrees c n
+    (told_dynamic c post)
 
 -- the PLP and the length of each block of a frame of this shape: PLP by PLP, in order
 pub record BlockSize : Type 0 where
@@ -51,14 +53,17 @@ pub record BlockSize : Type 0 where
   pub len : ℕ
 
 abbrev pub block_sizes : Config → FrameShape → List BlockSize
-block_sizes c shape = flat_map (λ plp. replicate (slice_index shape.counts plp) (record { plp = (plp_at c.plps plp).id; len = block_bytes c plp })) (places c)
+block_sizes c shape =
+    flat_map (λ plp. replicate (slice_index shape.counts plp) (record { plp = (plp_at c.plps plp).id; len = block_bytes c plp }))
+    (places c)
 
 abbrev pub has_size : Block → BlockSize → Bool
 has_size b size = (b.plp == size.plp) && (length b.bytes == size.len)
 
 -- blocks and cells are those of a frame of this shape, and its cells stand apart, in the frame
 abbrev pub shape_agrees : Config → List Block → List (Option Cell) → FrameShape → Bool
-shape_agrees c blocks cells shape = pointwise has_size blocks (block_sizes c shape) && (length cells == c.cells) && map_passes c shape
+shape_agrees c blocks cells shape =
+    pointwise has_size blocks (block_sizes c shape) && (length cells == c.cells) && map_passes c shape
 
 abbrev pub fitting : Config → List Block → List (Option Cell) → Option FrameShape → Option FrameShape
 fitting c blocks cells None = None
@@ -67,7 +72,8 @@ fitting c blocks cells (Some shape) = if shape_agrees c blocks cells shape then 
 -- the shape of a record of frame n that is readable: its L1-pre is the configuration's, L1-post agrees, and what it tells
 unfoldable pub readable : Config → ℕ → List Bool → List Bool → List Block → List (Option Cell) → Option FrameShape
 readable c n pre post blocks cells =
-    if pre_agrees c (read_whole (pre_reading true pre)) && post_agrees c n post then fitting c blocks cells (option_map told_shape (told_dynamic c post)) else None
+    if pre_agrees c (read_whole (pre_reading true pre)) && post_agrees c n post
+    then fitting c blocks cells (option_map told_shape (told_dynamic c post)) else None
 
 -- a cell stands at its address
 abbrev pub is_cell : ℕ → ℕ → Option (Option Cell) → Bool
@@ -76,7 +82,8 @@ is_cell ordinal cell (Some None) = false
 is_cell ordinal cell (Some (Some x)) = (x.ordinal == ordinal) && (x.cell == cell)
 
 abbrev pub stands : Config → FrameShape → List (Option Cell) → ℕ → ℕ → ℕ → Bool
-stands c shape cells plp block cell = is_cell (ordinal_of shape plp block) cell (slice_get cells (address_of c shape plp block cell))
+stands c shape cells plp block cell =
+    is_cell (ordinal_of shape plp block) cell (slice_get cells (address_of c shape plp block cell))
 
 -- and so does each cell of a block
 abbrev pub all_stand : Config → FrameShape → List (Option Cell) → ℕ → ℕ → Bool

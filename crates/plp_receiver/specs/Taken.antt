@@ -1,5 +1,6 @@
 -- What is taken of the blocks of a record, and what a PLP is given back of records.
-use Rattle.std.specs.Prelude.{◌≡◌, ℕ, ◌+◌, ◌/◌, ◌%◌, ◌^◌, ◌==◌, Bool, true, false, List, [], ◌∷◌, slice_get, slice_index, Option, Some, None, if◌then◌else◌}
+use Rattle.std.specs.Prelude.{◌≡◌, ℕ, ◌+◌, ◌/◌, ◌%◌, ◌^◌, ◌==◌, Bool, true, false, List, [], ◌∷◌, slice_get, slice_index, Option}
+use Rattle.std.specs.Prelude.{Some, None, if◌then◌else◌}
 use Rattle.std.specs.List.{AllZip, range_with_len}
 use Rattle.std.specs.Option.{option_map_or}
 use Rattle.terms.specs.Bits.{bits_of, bytes_of}
@@ -60,13 +61,15 @@ bytes_at blocks ordinal = option_map_or (λ b. b.bytes) (slice_get blocks ordina
 -- The record of a frame of this shape tells this of the blocks of the PLP at a place.
 abbrev pub TellsBlocks : Config → ℕ → FrameShape → List frame.Block → List (Option Cell) → List (Option Block) → Type 0
 TellsBlocks c plp shape blocks cells told =
-    AllZip (λ block b. IsGiven (plp_at c.plps plp).delete (all_stand c shape cells plp block) (bytes_at blocks (ordinal_of shape plp block)) b)
+    AllZip (λ block b. IsGiven (plp_at c.plps plp).delete (all_stand c shape cells plp block)
+    (bytes_at blocks (ordinal_of shape plp block)) b)
     (range_with_len 0 (slice_index shape.counts plp)) told
 
 -- What a readable record tells, and one that is not.
 abbrev pub TellsShape : Config → ℕ → List frame.Block → List (Option Cell) → Option FrameShape → Record → Type 0
 TellsShape c plp blocks cells None told = told ≡ muted_record
-TellsShape c plp blocks cells (Some shape) told = (blocks_told : List (Option Block)) × TellsBlocks c plp shape blocks cells blocks_told × (told ≡ framed_record blocks_told)
+TellsShape c plp blocks cells (Some shape) told = (blocks_told : List (Option Block))
+    × TellsBlocks c plp shape blocks cells blocks_told × (told ≡ framed_record blocks_told)
 
 -- The record of frame n tells this of the PLP at a place.
 abbrev pub Tells : Config → ℕ → ℕ → RecordView → Record → Type 0

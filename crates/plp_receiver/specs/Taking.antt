@@ -35,7 +35,8 @@ pub record TakesBlock (deletes stands : Bool) (sent : List ℕ) (old new : Packe
 -- So were the first of some blocks.
 pub record TakesBlocks (deletes : Bool) (stands : List Bool) (blocks : List frame.Block) (old new : PacketSlots) : Type 0 where
   pub told : List (Option Block)
-  pub given : AllZip (λ k b. IsGiven deletes (slice_index_or stands k false) (bytes_at blocks k) b) (range_with_len 0 (length stands)) told
+  pub given : AllZip (λ k b. IsGiven deletes (slice_index_or stands k false) (bytes_at blocks k) b)
+      (range_with_len 0 (length stands)) told
   pub adds : Adds old new told
 
 -- A record came, which told this.
@@ -44,7 +45,8 @@ Comes old new told = (r : SlotRule) (first : ℕ) (records : List Record) (relea
     → StandsFor old r first records released → StandsFor new r first (records ++ told ∷ []) released
 
 -- The blocks of a frame of this shape were taken.
-pub record TakesFrame (c : Config) (plp : ℕ) (shape : FrameShape) (blocks : List frame.Block) (cells : List (Option Cell)) (old new : PacketSlots) : Type 0 where
+pub record TakesFrame (c : Config) (plp : ℕ) (shape : FrameShape) (blocks : List frame.Block) (cells : List (Option Cell))
+    (old new : PacketSlots) : Type 0 where
   pub told : List (Option Block)
   pub tells : TellsBlocks c plp shape blocks cells told
   pub comes : Comes old new (framed_record told)

@@ -16,7 +16,8 @@ moved (suc (suc (suc (suc (suc (suc (suc zero))))))) v h s = omega (arith, s)
 moved (suc (suc (suc (suc (suc (suc (suc (suc left)))))))) v h s = absurd (omega (arith, h))
 
 -- the last byte
-pub last_byte : (bits : List Bool) (k left v : ℕ) → left ≡ length bits - 8 * k → left < 8 → v ≡ number_at bits (8 * k) left → v * 2 ^ (8 - left) ≡ byte_at bits k
+pub last_byte : (bits : List Bool) (k left v : ℕ) → left ≡ length bits - 8 * k → left < 8 → v ≡ number_at bits (8 * k) left
+    → v * 2 ^ (8 - left) ≡ byte_at bits k
 last_byte bits k left v e h is =
     let d : length (drop (8 * k) bits) ≡ left = length-drop (8 * k) bits ∙ sym e in
     let all : take left (drop (8 * k) bits) ≡ take 8 (drop (8 * k) bits) =

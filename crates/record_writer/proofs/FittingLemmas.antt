@@ -9,7 +9,9 @@ use Rattle.bit_slice.specs.Sink.{State, Puts, wrapped}
 use Rattle.record_writer.specs.Fitting.{HasRoom}
 
 -- a sink of fixed size in which nothing stands
-pub fresh_room : (size : ℕ) (bits : List Bool) (s : State) (count : ℕ) → bits ≡ [] → s ≡ wrapped (record { written = bits; room = Some (size - length bits); grows = false; below = [] }) → count ≤ size → HasRoom s count
+pub fresh_room : (size : ℕ) (bits : List Bool) (s : State) (count : ℕ) → bits ≡ []
+    → s ≡ wrapped (record { written = bits; room = Some (size - length bits); grows = false; below = [] }) → count ≤ size
+    → HasRoom s count
 fresh_room size bits s count empty is most =
     let none : size - 0 ≡ size = omega arith in
     record {
@@ -19,7 +21,8 @@ fresh_room size bits s count empty is most =
     }
 
 -- and one to which some were put
-pub room_behind : (old new : State) (bits : List Bool) (count : ℕ) → HasRoom old (length bits + count) → Puts old new bits → HasRoom new count
+pub room_behind : (old new : State) (bits : List Bool) (count : ℕ) → HasRoom old (length bits + count) → Puts old new bits
+    → HasRoom new count
 room_behind old new bits count h p = record {
   room = h.room - length bits;
   has = p.room ∙ ap (option_map (λ (room : ℕ). room - length bits)) h.has;
@@ -28,4 +31,5 @@ room_behind old new bits count h p = record {
 
 -- a CRC_32 has 32 bits
 pub length-crc_behind : (front : List Bool) → length (crc_behind true front) ≡ length front + 32
-length-crc_behind front = length-append front (field 32 (crc32_of front)) ∙ ap (λ (n : ℕ). length front + n) (length-field 32 (crc32_of front))
+length-crc_behind front = length-append front (field 32 (crc32_of front))
+    ∙ ap (λ (n : ℕ). length front + n) (length-field 32 (crc32_of front))

@@ -20,7 +20,8 @@ block_fits len = omega arith
 length-sent_bytes : (c : Config) (plp : ℕ) (block : List ℕ) → length (sent_bytes c plp block) ≡ 4 + length block
 length-sent_bytes c plp block = omega arith
 
-list_fits : (c : Config) (plp : ℕ) (blocks : List (List ℕ)) → length (flat_map (sent_bytes c plp) blocks) ≤ (4 + chunk_len) * chunks_of blocks
+list_fits : (c : Config) (plp : ℕ) (blocks : List (List ℕ)) → length (flat_map (sent_bytes c plp) blocks) ≤ (4 + chunk_len)
+    * chunks_of blocks
 list_fits c plp [] = omega arith
 list_fits c plp (b ∷ blocks) =
     let size = length-append (sent_bytes c plp b) (flat_map (sent_bytes c plp) blocks) in
@@ -30,7 +31,8 @@ list_fits c plp (b ∷ blocks) =
     let others = list_fits c plp blocks in
     omega (arith, size, one, chunks, first, others)
 
-lists_fit : (c : Config) (plp : ℕ) (lists : List (List (List ℕ))) → length (lists_bytes c plp lists) ≤ (4 + chunk_len) * used_chunks lists
+lists_fit : (c : Config) (plp : ℕ) (lists : List (List (List ℕ))) → length (lists_bytes c plp lists) ≤ (4 + chunk_len)
+    * used_chunks lists
 lists_fit c plp [] = omega arith
 lists_fit c plp (blocks ∷ lists) =
     let size = length-append (flat_map (sent_bytes c plp) blocks) (lists_bytes c (plp + 1) lists) in
@@ -40,7 +42,8 @@ lists_fit c plp (blocks ∷ lists) =
     omega (arith, size, chunks, first, others)
 
 -- what stands behind the front of a frame's record
-behind_front : (c : Config) (shape : FrameShape) (lists : List (List (List ℕ))) → length (step_bytes c shape lists (Blocks 0)) ≤ (4 + chunk_len) * used_chunks lists + 4 + 4 * c.cells
+behind_front : (c : Config) (shape : FrameShape) (lists : List (List (List ℕ))) → length (step_bytes c shape lists (Blocks 0))
+    ≤ (4 + chunk_len) * used_chunks lists + 4 + 4 * c.cells
 behind_front c shape lists =
     let size = length-append (lists_bytes c 0 lists) (big_bytes 4 c.cells ++ words c shape 0 c.cells) in
     let cells = length-append (big_bytes 4 c.cells) (words c shape 0 c.cells) in
@@ -49,7 +52,8 @@ behind_front c shape lists =
     omega (arith, size, cells, blocks, each)
 
 -- a frame's record whose front fits a piece
-pub record_fits : (c : Config) (shape : FrameShape) (lists : List (List (List ℕ))) (piece : List ℕ) → length piece ≤ piece_len → length (piece ++ step_bytes c shape lists (Blocks 0)) ≤ most_record c (used_chunks lists)
+pub record_fits : (c : Config) (shape : FrameShape) (lists : List (List (List ℕ))) (piece : List ℕ) → length piece ≤ piece_len
+    → length (piece ++ step_bytes c shape lists (Blocks 0)) ≤ most_record c (used_chunks lists)
 record_fits c shape lists piece short =
     let size = length-append piece (step_bytes c shape lists (Blocks 0)) in
     let behind = behind_front c shape lists in

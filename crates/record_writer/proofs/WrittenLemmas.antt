@@ -1,5 +1,6 @@
 -- What a writer gives of a frame is its record.
-use Rattle.std.proofs.Common.{◌≡◌, ℕ, zero, suc, ◌+◌, ◌*◌, ◌^◌, ◌<◌, ◌≤◌, Bool, List, [], ◌∷◌, ◌++◌, length, refl, sym, ap, ap₂, ◌∙◌, arith, append_assoc, append-nil, length-append}
+use Rattle.std.proofs.Common.{◌≡◌, ℕ, zero, suc, ◌+◌, ◌*◌, ◌^◌, ◌<◌, ◌≤◌, Bool, List, [], ◌∷◌, ◌++◌, length, refl, sym, ap, ap₂}
+use Rattle.std.proofs.Common.{◌∙◌, arith, append_assoc, append-nil, length-append}
 use Rattle.std.specs.Prelude.{map, sum, sum_by, slice_index, slice_index_or}
 use Rattle.std.specs.List.{concat, flat_map, range_with_len, AllByRecursion}
 use Rattle.std.specs.FinMap.{get}
@@ -20,7 +21,8 @@ use Rattle.l1_signal.specs.L1Configurable.{conf_bits}
 use Rattle.l1_signal.specs.L1Of.{conf_of}
 use Rattle.l1_signal.specs.Laws.{PreBitsLength, ConfPartLength}
 use Rattle.site_frame.specs.Laws.{BlocksInOrder}
-use Rattle.site_frame.specs.Record.{Block, frame_kind, muted_kind, head_bytes, block_bytes as spelled_block, blocks_bytes, cell_bytes}
+use Rattle.site_frame.specs.Record.{Block, frame_kind, muted_kind, head_bytes, block_bytes as spelled_block, blocks_bytes}
+use Rattle.site_frame.specs.Record.{cell_bytes}
 use Rattle.site_frame.specs.Whole.{written_rest}
 use Rattle.frame_records.specs.Frames.{l1_pre, frame_cells, HasByteIds}
 use Rattle.frame_records.specs.Laws.{IsSentBlock, EveryFrameFits}
@@ -37,41 +39,52 @@ use Rattle.cell_words.proofs.WordLemmas.{length-words}
 
 -- the bytes of blocks are those of the lists
 plp_bytes : (c : Config) (plp : ℕ) (blocks : List (List ℕ)) (more : List Block)
-    → flat_map (λ b. spelled_block b 0) (map (plp_block c plp) blocks ++ more) ≡ flat_map (sent_bytes c plp) blocks ++ flat_map (λ b. spelled_block b 0) more
+    → flat_map (λ b. spelled_block b 0) (map (plp_block c plp) blocks ++ more) ≡ flat_map (sent_bytes c plp) blocks
+    ++ flat_map (λ b. spelled_block b 0) more
 plp_bytes c plp [] more = refl
 plp_bytes c plp (b ∷ blocks) more =
     ap (λ (l : List ℕ). sent_bytes c plp b ++ l) (plp_bytes c plp blocks more)
     ∙ sym (append_assoc (sent_bytes c plp b) (flat_map (sent_bytes c plp) blocks) (flat_map (λ b. spelled_block b 0) more))
 
-all_bytes : (c : Config) (plp : ℕ) (lists : List (List (List ℕ))) → flat_map (λ b. spelled_block b 0) (list_blocks c plp lists) ≡ lists_bytes c plp lists
+all_bytes : (c : Config) (plp : ℕ) (lists : List (List (List ℕ))) → flat_map (λ b. spelled_block b 0) (list_blocks c plp lists)
+    ≡ lists_bytes c plp lists
 all_bytes c plp [] = refl
 all_bytes c plp (blocks ∷ lists) =
-    plp_bytes c plp blocks (list_blocks c (plp + 1) lists) ∙ ap (λ (l : List ℕ). flat_map (sent_bytes c plp) blocks ++ l) (all_bytes c (plp + 1) lists)
+    plp_bytes c plp blocks (list_blocks c (plp + 1) lists) ∙ ap (λ (l : List ℕ). flat_map (sent_bytes c plp) blocks ++ l)
+    (all_bytes c (plp + 1) lists)
 
 -- the words are those of the cells
 words_are : (c : Config) (shape : FrameShape) (addresses : List ℕ)
-    → flat_map cell_bytes (map (get (cell_map c shape)) addresses) ≡ flat_map (λ a. cell_bytes (get (cell_map c shape) a)) addresses
+    → flat_map cell_bytes (map (get (cell_map c shape)) addresses)
+    ≡ flat_map (λ a. cell_bytes (get (cell_map c shape) a)) addresses
 words_are c shape [] = refl
 words_are c shape (a ∷ addresses) = ap (λ (l : List ℕ). cell_bytes (get (cell_map c shape) a) ++ l) (words_are c shape addresses)
 
 -- what is given in two parts, section by section
 joined : (head pre post count blocks cells words : List ℕ)
-    → (head ++ (pre ++ (post ++ count))) ++ (blocks ++ (cells ++ words)) ≡ head ++ (pre ++ (post ++ ((count ++ blocks) ++ ((cells ++ words) ++ []))))
+    → (head ++ (pre ++ (post ++ count))) ++ (blocks ++ (cells ++ words))
+    ≡ head ++ (pre ++ (post ++ ((count ++ blocks) ++ ((cells ++ words) ++ []))))
 joined head pre post count blocks cells words = simp (append_assoc, append-nil) refl
 
 pub record_written : BlocksInOrder → RecordWritten
 record_written order c moment dynamic shape lists =
     let post : List Bool = post_with c dynamic in
     let blocks : List Block = list_blocks c 0 lists in
-    let head : List ℕ = head_bytes frame_kind moment (length (concat (written_rest (written_frame c moment dynamic shape lists)))) in
+    let head : List ℕ =
+    head_bytes frame_kind moment (length (concat (written_rest (written_frame c moment dynamic shape lists)))) in
     let pre : List ℕ = bytes_of (l1_pre c) in
     let bits : List ℕ = big_bytes 4 (length post) in
     let count : List ℕ = big_bytes 2 (length blocks) in
     let spelled : blocks_bytes blocks [] ≡ lists_bytes c 0 lists = order blocks ∙ all_bytes c 0 lists in
-    let all : flat_map cell_bytes (frame_cells c shape) ≡ words c shape 0 c.cells = words_are c shape (range_with_len 0 c.cells) in
+    let all : flat_map cell_bytes (frame_cells c shape) ≡ words c shape 0 c.cells =
+    words_are c shape (range_with_len 0 c.cells) in
     joined head pre (bits ++ bytes_of post) count (lists_bytes c 0 lists) (big_bytes 4 c.cells) (words c shape 0 c.cells)
-    ∙ ap₂ (λ (p b : List ℕ). head ++ (pre ++ ((bits ++ p) ++ ((count ++ b) ++ ((big_bytes 4 c.cells ++ words c shape 0 c.cells) ++ []))))) (ap bytes_of (sym (append-nil post))) (sym spelled)
-    ∙ ap₂ (λ (n : ℕ) (w : List ℕ). head ++ (pre ++ ((bits ++ bytes_of (post ++ [])) ++ ((count ++ blocks_bytes blocks []) ++ ((big_bytes 4 n ++ w) ++ []))))) (sym (cells_count c shape)) (sym all)
+    ∙ ap₂ (λ (p b : List ℕ).
+    head ++ (pre ++ ((bits ++ p) ++ ((count ++ b) ++ ((big_bytes 4 c.cells ++ words c shape 0 c.cells) ++ [])))))
+    (ap bytes_of (sym (append-nil post))) (sym spelled)
+    ∙ ap₂ (λ (n : ℕ) (w : List ℕ).
+    head ++ (pre ++ ((bits ++ bytes_of (post ++ [])) ++ ((count ++ blocks_bytes blocks []) ++ ((big_bytes 4 n ++ w) ++ [])))))
+    (sym (cells_count c shape)) (sym all)
 
 pub muted_written : MutedWritten
 muted_written moment = sym (append-nil (head_bytes muted_kind moment 0))
@@ -81,7 +94,8 @@ muted_written moment = sym (append-nil (head_bytes muted_kind moment 0))
 pub block_count : BlockCount
 block_count c shape lists h = counted 0 lists ∙ ap (λ (l : List ℕ). sum l) (sym h.counts)
   where
-    counted : (plp : ℕ) (lists : List (List (List ℕ))) → length (list_blocks c plp lists) ≡ sum (map (λ blocks. length blocks) lists)
+    counted : (plp : ℕ) (lists : List (List (List ℕ))) → length (list_blocks c plp lists)
+        ≡ sum (map (λ blocks. length blocks) lists)
     counted plp [] = refl
     counted plp (blocks ∷ lists) =
         length-append (map (plp_block c plp) blocks) (list_blocks c (plp + 1) lists)
@@ -89,7 +103,8 @@ block_count c shape lists h = counted 0 lists ∙ ap (λ (l : List ℕ). sum l) 
         ∙ sym (sum_by-cons (λ x. x) (length blocks) (map (λ blocks. length blocks) lists))
 
 -- blocks of one length
-plp_size : (c : Config) (plp size : ℕ) (blocks : List (List ℕ)) → ((place : ℕ) → place < length blocks → length (slice_index_or blocks place []) ≡ size)
+plp_size : (c : Config) (plp size : ℕ) (blocks : List (List ℕ))
+    → ((place : ℕ) → place < length blocks → length (slice_index_or blocks place []) ≡ size)
     → length (flat_map (sent_bytes c plp) blocks) ≡ length blocks * (4 + size)
 plp_size c plp size [] each = omega arith
 plp_size c plp size (b ∷ blocks) each =
@@ -99,8 +114,10 @@ plp_size c plp size (b ∷ blocks) each =
     omega (arith, length-append (sent_bytes c plp b) (flat_map (sent_bytes c plp) blocks), here, more, one)
 
 -- the lists of the PLPs from one on
-lists_size : (c : Config) (count : ℕ → ℕ) (from : ℕ) (lists : List (List (List ℕ))) → ((i : ℕ) → i < length lists → count (from + i) ≡ length (list_at lists i))
-    → ((i place : ℕ) → place < length (list_at lists i) → length (slice_index_or (list_at lists i) place []) ≡ block_bytes c (from + i))
+lists_size : (c : Config) (count : ℕ → ℕ) (from : ℕ) (lists : List (List (List ℕ)))
+    → ((i : ℕ) → i < length lists → count (from + i) ≡ length (list_at lists i))
+    → ((i place : ℕ) → place < length (list_at lists i) → length (slice_index_or (list_at lists i) place [])
+    ≡ block_bytes c (from + i))
     → length (lists_bytes c from lists) ≡ sum_by (λ plp. count plp * (4 + block_bytes c plp)) (range_with_len from (length lists))
 lists_size c count from [] counts each = refl
 lists_size c count from (blocks ∷ lists) counts each =
@@ -115,7 +132,8 @@ lists_size c count from (blocks ∷ lists) counts each =
     ∙ sym (sum_by-cons (λ plp. count plp * (4 + block_bytes c plp)) from (range_with_len (from + 1) (length lists)))
 
 -- how many blocks a list has
-length_at : (lists : List (List (List ℕ))) (i : ℕ) → slice_index (map (λ blocks. length blocks) lists) i ≡ length (list_at lists i)
+length_at : (lists : List (List (List ℕ))) (i : ℕ) → slice_index (map (λ blocks. length blocks) lists) i
+    ≡ length (list_at lists i)
 length_at [] zero = refl
 length_at [] (suc i) = refl
 length_at (blocks ∷ lists) zero = refl
@@ -123,11 +141,20 @@ length_at (blocks ∷ lists) (suc i) = length_at lists i
 
 -- the bytes of four sections
 four_sections : (a b c d : List ℕ) → length (concat (a ∷ b ∷ c ∷ d ∷ [])) ≡ length a + (length b + (length c + length d))
-four_sections a b c d = omega (arith, length-append a (b ++ (c ++ (d ++ []))), length-append b (c ++ (d ++ [])), length-append c (d ++ []), length-append d [])
+four_sections a b c d =
+    omega (
+      arith,
+      length-append a (b ++ (c ++ (d ++ []))),
+      length-append b (c ++ (d ++ [])),
+      length-append c (d ++ []),
+      length-append d [],
+    )
 
 -- the bits of L1-post
-length-post_with : ConfPartLength → (c : Config) (dynamic : List Bool) → length (post_with c dynamic) ≡ post_size c (length dynamic)
-length-post_with law c dynamic = omega (arith, length-crc_behind (conf_bits (conf_of c) ++ dynamic), length-append (conf_bits (conf_of c)) dynamic, law c)
+length-post_with : ConfPartLength → (c : Config) (dynamic : List Bool) → length (post_with c dynamic)
+    ≡ post_size c (length dynamic)
+length-post_with law c dynamic =
+    omega (arith, length-crc_behind (conf_bits (conf_of c) ++ dynamic), length-append (conf_bits (conf_of c)) dynamic, law c)
 
 pub rest_length : PreBitsLength → ConfPartLength → BlocksInOrder → RestLength
 rest_length bits conf order c moment dynamic shape lists h =
@@ -135,43 +162,57 @@ rest_length bits conf order c moment dynamic shape lists h =
     let blocks : List Block = list_blocks c 0 lists in
     let pre_size : length (bytes_of (l1_pre c)) ≡ 25 = length-bytes_of (l1_pre c) ∙ ap bytes_for (length-l1_pre bits c) in
     let post_bytes : length (bytes_of (post ++ [])) ≡ bytes_for (post_size c (length dynamic)) =
-    length-bytes_of (post ++ []) ∙ ap (λ (p : List Bool). bytes_for (length p)) (append-nil post) ∙ ap bytes_for (length-post_with conf c dynamic) in
-    let long : length (big_bytes 4 (length post) ++ bytes_of (post ++ [])) ≡ 4 + bytes_for (post_size c (length dynamic)) = omega (arith, post_bytes) in
+    length-bytes_of (post ++ []) ∙ ap (λ (p : List Bool). bytes_for (length p)) (append-nil post)
+    ∙ ap bytes_for (length-post_with conf c dynamic) in
+    let long : length (big_bytes 4 (length post) ++ bytes_of (post ++ [])) ≡ 4 + bytes_for (post_size c (length dynamic)) =
+    omega (arith, post_bytes) in
     let count : ℕ → ℕ = slice_index shape.counts in
-    let all : length (lists_bytes c 0 lists) ≡ sum_by (λ plp. count plp * (4 + block_bytes c plp)) (range_with_len 0 (length c.plps)) =
+    let all : length (lists_bytes c 0 lists) ≡ sum_by (λ plp. count plp * (4 + block_bytes c plp))
+    (range_with_len 0 (length c.plps)) =
     lists_size c count 0 lists
     (λ i lt. let e : 0 + i ≡ i = omega arith in ap count e ∙ ap (λ (l : List ℕ). slice_index l i) h.counts ∙ length_at lists i)
     (λ i place lt. let e : i ≡ 0 + i = omega arith in h.each i place lt ∙ ap (block_bytes c) e)
     ∙ ap (λ (n : ℕ). sum_by (λ plp. count plp * (4 + block_bytes c plp)) (range_with_len 0 n)) h.plps in
-    let sized : length (big_bytes 2 (length blocks) ++ blocks_bytes blocks []) ≡ 2 + sum_by (λ plp. count plp * (4 + block_bytes c plp)) (range_with_len 0 (length c.plps)) =
+    let sized : length (big_bytes 2 (length blocks) ++ blocks_bytes blocks [])
+    ≡ 2 + sum_by (λ plp. count plp * (4 + block_bytes c plp)) (range_with_len 0 (length c.plps)) =
     omega (arith, ap (λ (l : List ℕ). length l) (order blocks ∙ all_bytes c 0 lists), all) in
-    let cells : length (big_bytes 4 (length (frame_cells c shape)) ++ flat_map cell_bytes (frame_cells c shape)) ≡ 4 + 4 * c.cells =
+    let cells : length (big_bytes 4 (length (frame_cells c shape)) ++ flat_map cell_bytes (frame_cells c shape))
+    ≡ 4 + 4 * c.cells =
     omega (arith, ap (λ (l : List ℕ). length l) (words_are c shape (range_with_len 0 c.cells)), length-words c shape c.cells 0) in
-    four_sections (bytes_of (l1_pre c)) (big_bytes 4 (length post) ++ bytes_of (post ++ [])) (big_bytes 2 (length blocks) ++ blocks_bytes blocks []) (big_bytes 4 (length (frame_cells c shape)) ++ flat_map cell_bytes (frame_cells c shape))
+    four_sections (bytes_of (l1_pre c)) (big_bytes 4 (length post) ++ bytes_of (post ++ []))
+    (big_bytes 2 (length blocks) ++ blocks_bytes blocks [])
+    (big_bytes 4 (length (frame_cells c shape)) ++ flat_map cell_bytes (frame_cells c shape))
     ∙ omega (arith, pre_size, long, sized, cells)
 
 -- ---- it fits
 
-plp_is_sent : (c : Config) (plp : ℕ) (blocks : List (List ℕ)) → (plp_at c.plps plp).id < 2 ^ 8 → ((place : ℕ) → place < length blocks → length (slice_index_or blocks place []) ≤ 6730)
+plp_is_sent : (c : Config) (plp : ℕ) (blocks : List (List ℕ)) → (plp_at c.plps plp).id < 2 ^ 8
+    → ((place : ℕ) → place < length blocks → length (slice_index_or blocks place []) ≤ 6730)
     → AllByRecursion IsSentBlock (map (plp_block c plp) blocks)
 plp_is_sent c plp [] id each = tt
-plp_is_sent c plp (b ∷ blocks) id each = ((id, each 0 (omega arith)), plp_is_sent c plp blocks id (λ place lt. each (suc place) (omega (arith, lt))))
+plp_is_sent c plp (b ∷ blocks) id each =
+    ((id, each 0 (omega arith)), plp_is_sent c plp blocks id (λ place lt. each (suc place) (omega (arith, lt))))
 
-lists_are_sent : FieldRange → (c : Config) (from : ℕ) (lists : List (List (List ℕ))) → HasByteIds c → from + length lists ≤ length c.plps
-    → ((i place : ℕ) → place < length (list_at lists i) → length (slice_index_or (list_at lists i) place []) ≡ block_bytes c (from + i))
+lists_are_sent : FieldRange → (c : Config) (from : ℕ) (lists : List (List (List ℕ))) → HasByteIds c → from + length lists
+    ≤ length c.plps
+    → ((i place : ℕ) → place < length (list_at lists i) → length (slice_index_or (list_at lists i) place [])
+    ≡ block_bytes c (from + i))
     → AllByRecursion IsSentBlock (list_blocks c from lists)
 lists_are_sent field c from [] ids inside each = tt
 lists_are_sent field c from (blocks ∷ lists) ids inside each =
     all_append IsSentBlock (map (plp_block c from) blocks) (list_blocks c (from + 1) lists)
-    (plp_is_sent c from blocks (ids from (omega (arith, inside))) (λ place lt. let f = field c (from + 0) in omega (arith, each 0 place lt, f)))
+    (plp_is_sent c from blocks (ids from (omega (arith, inside))) (λ place lt. let f = field c (from + 0) in
+    omega (arith, each 0 place lt, f)))
     (lists_are_sent field c (from + 1) lists ids (omega (arith, inside))
     (λ i place lt. let e : from + suc i ≡ from + 1 + i = omega arith in each (suc i) place lt ∙ ap (block_bytes c) e))
 
 pub record_fits : ConfPartLength → FieldRange → EveryFrameFits → RecordFits
 record_fits conf field every c n dynamic shape lists is ids small short passes h =
     let plps : length c.plps ≤ 255 = (is.rules PlpCount).1 in
-    every c n (post_with c dynamic) (list_blocks c 0 lists) shape is small (omega (arith, length-post_with conf c dynamic, plps, short))
+    every c n (post_with c dynamic) (list_blocks c 0 lists) shape is small
+    (omega (arith, length-post_with conf c dynamic, plps, short))
     (ap (λ (l : List ℕ). length l) h.counts ∙ length-map lists (λ blocks. length blocks) ∙ h.plps)
     passes
     (omega (arith, block_count c shape lists h))
-    (lists_are_sent field c 0 lists ids (omega (arith, h.plps)) (λ i place lt. let e : i ≡ 0 + i = omega arith in h.each i place lt ∙ ap (block_bytes c) e))
+    (lists_are_sent field c 0 lists ids (omega (arith, h.plps)) (λ i place lt. let e : i ≡ 0 + i = omega arith in
+    h.each i place lt ∙ ap (block_bytes c) e))

@@ -17,7 +17,8 @@ post_with c dynamic = crc_behind true (conf_bits (conf_of c) ++ dynamic)
 abbrev pub front_bytes : Config → Moment → List Bool → ℕ → ℕ → List ℕ
 front_bytes c moment dynamic blocks rest =
     head_bytes frame_kind moment rest
-    ++ (bytes_of (l1_pre c) ++ ((big_bytes 4 (length (post_with c dynamic)) ++ bytes_of (post_with c dynamic)) ++ big_bytes 2 blocks))
+    ++ (bytes_of (l1_pre c) ++ ((big_bytes 4 (length (post_with c dynamic)) ++ bytes_of (post_with c dynamic))
+    ++ big_bytes 2 blocks))
 
 -- the most bits of a configurable and of a dynamic part, with 255 PLPs (clauses 7.2.3.1 and 7.2.3.2)
 abbrev pub most_conf : ℕ

@@ -1,5 +1,6 @@
 -- Laws of what a writer gives.
-use Rattle.std.specs.Prelude.{◌≡◌, ℕ, ◌+◌, ◌*◌, ◌<◌, ◌≤◌, ◌^◌, Bool, List, [], ◌++◌, length, map, sum, slice_index, slice_index_or}
+use Rattle.std.specs.Prelude.{◌≡◌, ℕ, ◌+◌, ◌*◌, ◌<◌, ◌≤◌, ◌^◌, Bool, List, [], ◌++◌, length, map, sum, slice_index}
+use Rattle.std.specs.Prelude.{slice_index_or}
 use Rattle.std.specs.List.{concat}
 use Rattle.plp_config.specs.Capacity.{IsPlan, block_bytes}
 use Rattle.plp_config.specs.Emission.{emission}
@@ -26,7 +27,8 @@ written_frame c moment dynamic shape lists = frame_view c moment (post_with c dy
 -- What a writer gives of a frame is its record, if it was told how many blocks there are and how many bytes follow the head.
 abbrev pub RecordWritten : Type 0
 RecordWritten = (c : Config) (moment : Moment) (dynamic : List Bool) (shape : FrameShape) (lists : List (List (List ℕ)))
-    → front_bytes c moment dynamic (length (list_blocks c 0 lists)) (length (concat (written_rest (written_frame c moment dynamic shape lists))))
+    → front_bytes c moment dynamic (length (list_blocks c 0 lists))
+    (length (concat (written_rest (written_frame c moment dynamic shape lists))))
     ++ step_bytes c shape lists (Blocks 0)
     ≡ record_bytes (written_frame c moment dynamic shape lists)
 
@@ -34,15 +36,18 @@ RecordWritten = (c : Config) (moment : Moment) (dynamic : List Bool) (shape : Fr
 abbrev pub MutedWritten : Type 0
 MutedWritten = (moment : Moment) → head_bytes muted_kind moment 0 ≡ record_bytes (Muted moment)
 
--- In the lists are the blocks of a frame of this shape: of each PLP as many as it tells, each of the length that blocks of the PLP have.
+-- In the lists are the blocks of a frame of this shape: of each PLP as many as it tells, each of the length that blocks of the
+-- PLP have.
 pub record HasBlocks (c : Config) (shape : FrameShape) (lists : List (List (List ℕ))) : Type 0 where
   pub plps : length lists ≡ length c.plps
   pub counts : shape.counts ≡ map (λ blocks. length blocks) lists
-  pub each : (plp place : ℕ) → place < length (list_at lists plp) → length (slice_index_or (list_at lists plp) place []) ≡ block_bytes c plp
+  pub each : (plp place : ℕ) → place < length (list_at lists plp) → length (slice_index_or (list_at lists plp) place [])
+      ≡ block_bytes c plp
 
 -- So many blocks there are.
 abbrev pub BlockCount : Type 0
-BlockCount = (c : Config) (shape : FrameShape) (lists : List (List (List ℕ))) → HasBlocks c shape lists → length (list_blocks c 0 lists) ≡ sum shape.counts
+BlockCount = (c : Config) (shape : FrameShape) (lists : List (List (List ℕ))) → HasBlocks c shape lists
+    → length (list_blocks c 0 lists) ≡ sum shape.counts
 
 -- the bits of L1-post with a dynamic part of so many: the configurable part, this one, and the CRC_32
 abbrev pub post_size : Config → ℕ → ℕ
@@ -50,17 +55,22 @@ post_size c dynamic = 102 + 89 * length c.plps + dynamic + 32
 
 -- So many bytes follow the head.
 abbrev pub RestLength : Type 0
-RestLength = (c : Config) (moment : Moment) (dynamic : List Bool) (shape : FrameShape) (lists : List (List (List ℕ))) → HasBlocks c shape lists
-    → length (concat (written_rest (written_frame c moment dynamic shape lists))) ≡ rest_size c (post_size c (length dynamic)) (slice_index shape.counts)
+RestLength = (c : Config) (moment : Moment) (dynamic : List Bool) (shape : FrameShape) (lists : List (List (List ℕ)))
+    → HasBlocks c shape lists
+    → length (concat (written_rest (written_frame c moment dynamic shape lists))) ≡ rest_size c (post_size c (length dynamic))
+    (slice_index shape.counts)
 
 -- A frame of a plan fits a record: so what is written of it spells it, and is read back.
 abbrev pub RecordFits : Type 0
-RecordFits = (c : Config) (n : ℕ) (dynamic : List Bool) (shape : FrameShape) (lists : List (List (List ℕ))) → IsPlan c → HasByteIds c → n < 2 ^ 32
-    → length dynamic ≤ most_dynamic → Passes c shape → HasBlocks c shape lists → FitsRecord (written_frame c (emission c n) dynamic shape lists)
+RecordFits = (c : Config) (n : ℕ) (dynamic : List Bool) (shape : FrameShape) (lists : List (List (List ℕ))) → IsPlan c
+    → HasByteIds c → n < 2 ^ 32
+    → length dynamic ≤ most_dynamic → Passes c shape → HasBlocks c shape lists
+    → FitsRecord (written_frame c (emission c n) dynamic shape lists)
 
 -- The lists of a pool without blocks are short, and stay so if a short block is appended.
 abbrev pub EmptyIsShort : Type 0
 EmptyIsShort = (chunks lists : ℕ) → AreShort (empty chunks lists).lists
 
 abbrev pub AppendedIsShort : Type 0
-AppendedIsShort = (pool : State) (list : ℕ) (block : List ℕ) → list < length pool.lists → AreShort pool.lists → length block ≤ most_block → AreShort (appended pool list block).lists
+AppendedIsShort = (pool : State) (list : ℕ) (block : List ℕ) → list < length pool.lists → AreShort pool.lists
+    → length block ≤ most_block → AreShort (appended pool list block).lists

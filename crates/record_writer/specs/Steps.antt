@@ -33,7 +33,8 @@ IsStep c shape lists (Cells address) = (address ≤ c.cells) × HasMap c shape
 IsStep c shape lists Done = Unit {0}
 
 -- That has one proof at most, so it may be a ghost field.
-pub IsStep-prop : (c : Config) (shape : FrameShape) (lists : List (List (List ℕ))) (step : Step) → IsProp (IsStep c shape lists step)
+pub IsStep-prop : (c : Config) (shape : FrameShape) (lists : List (List (List ℕ))) (step : Step)
+    → IsProp (IsStep c shape lists step)
 IsStep-prop c shape lists (Blocks plp) = Prim.hlevel logic.props
 IsStep-prop c shape lists (Cells address) = Prim.hlevel logic.props
 IsStep-prop c shape lists Done = Prim.hlevel logic.props

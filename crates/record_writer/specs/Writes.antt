@@ -12,8 +12,8 @@ use Rattle.record_writer.specs.declared.writer.Writer.{Writer}
 abbrev pub bytes_left : Writer → Config → FrameShape → List (List (List ℕ)) → List ℕ
 bytes_left w c shape lists = drop w.at w.piece ++ step_bytes c shape lists w.step
 
--- the most bytes of a frame's record whose blocks fill so many chunks: its front, the blocks with a head for each chunk, the number of
--- cells, and these
+-- the most bytes of a frame's record whose blocks fill so many chunks: its front, the blocks with a head for each chunk, the
+-- number of cells, and these
 abbrev pub most_record : Config → ℕ → ℕ
 most_record c chunks = piece_len + (4 + chunk_len) * chunks + 4 + 4 * c.cells
 
@@ -22,7 +22,8 @@ abbrev pub IsReady : Writer → Config → FrameShape → List (List (List ℕ))
 IsReady w c shape lists = IsStep c shape lists w.step
 
 -- that has one proof at most, so it may be a ghost field
-pub IsReady-prop : (w : Writer) (c : Config) (shape : FrameShape) (lists : List (List (List ℕ))) → IsProp (IsReady w c shape lists)
+pub IsReady-prop : (w : Writer) (c : Config) (shape : FrameShape) (lists : List (List (List ℕ)))
+    → IsProp (IsReady w c shape lists)
 IsReady-prop w c shape lists = IsStep-prop c shape lists w.step
 
 -- Nothing stands behind its piece.

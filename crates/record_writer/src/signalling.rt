@@ -82,7 +82,7 @@ fn put_bits(bits: &BitSlice<'_>, out: &mut Piece)
     }
 }
 
-// The bytes of L1-pre with its CRC_32, and the most bytes of L1-post: `213 + 137 * 255` bits.
+/// The bytes of L1-pre with its CRC_32, and the most bytes of L1-post: `213 + 137 * 255` bits.
 pub const PRE: usize = 25;
 
 const MOST_POST: usize = 4394;

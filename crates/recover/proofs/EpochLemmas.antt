@@ -1,5 +1,6 @@
 -- The blocks of an epoch, one behind another.
-use Rattle.std.proofs.Common.{◌≡◌, ℕ, zero, suc, ◌+◌, ◌-◌, ◌*◌, ◌<◌, ◌≤◌, List, [], ◌++◌, length, map, ap, ◌∙◌, sym, subst, arith, add-one, length-append}
+use Rattle.std.proofs.Common.{◌≡◌, ℕ, zero, suc, ◌+◌, ◌-◌, ◌*◌, ◌<◌, ◌≤◌, List, [], ◌++◌, length, map, ap, ◌∙◌, sym, subst, arith}
+use Rattle.std.proofs.Common.{add-one, length-append}
 use Rattle.std.specs.Prelude.{min}
 use Rattle.std.specs.Int.{div_ceil}
 use Rattle.std.specs.List.{flat_map, range_with_len}
@@ -14,7 +15,8 @@ use Rattle.mode_adapt.specs.Laws.{WithinLaw}
 use Rattle.recover.specs.Laws.{FrameIsEpoch}
 
 -- for whatever can be said of strings by their places and is true of two strings joined
-module _ (P : ℕ → List Item → Type 0) (none : (place : ℕ) → P place []) (join : (place : ℕ) (z y : List Item) → P place z → P (place + length z) y → P place (z ++ y))
+module _ (P : ℕ → List Item → Type 0) (none : (place : ℕ) → P place []) (join : (place : ℕ) (z y : List Item) → P place z
+    → P (place + length z) y → P place (z ++ y))
     (items : ℕ → List Item) (len x y : ℕ) (pos : 1 ≤ len) (order : x ≤ y)
     (each : (from : ℕ) → x ≤ from → from < y → (length (items from) ≡ min (from + len) y - from) × P from (items from)) where
   abbrev count : ℕ
@@ -53,8 +55,10 @@ module _ (P : ℕ → List Item → Type 0) (none : (place : ℕ) → P place []
           let at : x + length (first_items j) ≡ place j = let s = p.size in omega (arith, s, b) in
           let step : suc j * len ≡ j * len + len = omega arith in
           record {
-            size = let s = p.size in let t = block.0 in ap length (more j) ∙ length-append (first_items j) (items (place j)) ∙ omega (arith, s, t, b, step);
-            holds = subst (P x) (sym (more j)) (join x (first_items j) (items (place j)) p.holds (subst (λ (n : ℕ). P n (items (place j))) (sym at) block.1));
+            size = let s = p.size in let t = block.0 in ap length (more j) ∙ length-append (first_items j) (items (place j))
+                ∙ omega (arith, s, t, b, step);
+            holds = subst (P x) (sym (more j))
+                (join x (first_items j) (items (place j)) p.holds (subst (λ (n : ℕ). P n (items (place j))) (sym at) block.1));
           }
 
   pub whole : (length (flat_map items (block_places len x y)) ≡ y - x) × P x (flat_map items (block_places len x y))

@@ -10,7 +10,8 @@ use Rattle.plp_receiver.specs.Taken.{block_read}
 use Rattle.recover.proofs.Regular.{IsBlock}
 
 -- The kept slots are these, those of the bytes of the block are of a frame's range, and the bytes hold the dnps.
-pub record IsSent (r : SlotRule) (c : Config) (plp : ℕ) (kept : List ℕ) (dnps : ℕ → ℕ) (frame x y : ℕ) (field : List ℕ) : Type 0 where
+pub record IsSent (r : SlotRule) (c : Config) (plp : ℕ) (kept : List ℕ) (dnps : ℕ → ℕ) (frame x y : ℕ)
+    (field : List ℕ) : Type 0 where
   pub starts : (k : ℕ) → start c plp k ≡ slot_start r.num r.den k
   pub some : x < y
   pub short : y - x ≤ 6720
@@ -20,5 +21,7 @@ pub record IsSent (r : SlotRule) (c : Config) (plp : ℕ) (kept : List ℕ) (dnp
   pub values : (k i : ℕ) → x + i + 1 ≡ r.up_len * suc k → i < length field → r.deletes ≡ true → get_or field i 0 ≡ dnps k
 
 abbrev pub GatewayBlock : Type 0
-GatewayBlock = (r : SlotRule) (c : Config) (plp : ℕ) (kept : List ℕ) (dnps : ℕ → ℕ) (frame x y : ℕ) (field : List ℕ) → IsSound r → IsSent r c plp kept dnps frame x y field
-    → IsBlock r (λ n. get_or kept n 0) dnps frame x (div_ceil x r.up_len) (block_read (header_at c plp x (y - x) (up_with r.up_len kept 0 (div_ceil x r.up_len) y)) field)
+GatewayBlock = (r : SlotRule) (c : Config) (plp : ℕ) (kept : List ℕ) (dnps : ℕ → ℕ) (frame x y : ℕ) (field : List ℕ) → IsSound r
+    → IsSent r c plp kept dnps frame x y field
+    → IsBlock r (λ n. get_or kept n 0) dnps frame x (div_ceil x r.up_len)
+    (block_read (header_at c plp x (y - x) (up_with r.up_len kept 0 (div_ceil x r.up_len) y)) field)

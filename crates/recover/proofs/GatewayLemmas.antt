@@ -1,5 +1,6 @@
 -- What a gateway's block tells of its bytes.
-use Rattle.std.proofs.Common.{◌≡◌, ℕ, ◌+◌, ◌-◌, ◌*◌, ◌/◌, ◌%◌, ◌^◌, ◌==◌, ◌<◌, ◌≤◌, Bool, true, false, List, length, get_or, Option, Some, None, ap, ◌∙◌, arith, inl, inr, cond, eq-eqb}
+use Rattle.std.proofs.Common.{◌≡◌, ℕ, ◌+◌, ◌-◌, ◌*◌, ◌/◌, ◌%◌, ◌^◌, ◌==◌, ◌<◌, ◌≤◌, Bool, true, false, List, length, get_or}
+use Rattle.std.proofs.Common.{Option, Some, None, ap, ◌∙◌, arith, inl, inr, cond, eq-eqb}
 use Rattle.std.specs.Prelude.{slice_get, option_map}
 use Rattle.std.specs.Int.{div_ceil}
 use Rattle.std.proofs.lemmas.Bool.{cases_lt, cases_eq, lt-ltb, le-ltb, false_from_ne_true, eqb-true}
@@ -43,7 +44,8 @@ timed_mark v l =
     let m : (0x800000 + v) % 2 ^ 22 ≡ v = omega arith in
     ap (λ (b : Bool). cond {A = Mark} b (Timed ((0x800000 + v) % 2 ^ 22)) Next) (eq-eqb _ _ d) ∙ ap (λ (n : ℕ). Timed n) m
 
-module _ (r : SlotRule) (c : Config) (plp : ℕ) (kept : List ℕ) (dnps : ℕ → ℕ) (frame x y : ℕ) (field : List ℕ) (law : IscrFindsSlot) (sound : IsSound r) (is : IsSent r c plp kept dnps frame x y field) where
+module _ (r : SlotRule) (c : Config) (plp : ℕ) (kept : List ℕ) (dnps : ℕ → ℕ) (frame x y : ℕ) (field : List ℕ)
+    (law : IscrFindsSlot) (sound : IsSound r) (is : IsSent r c plp kept dnps frame x y field) where
   abbrev n : ℕ
   n = div_ceil x r.up_len
 
@@ -57,7 +59,10 @@ module _ (r : SlotRule) (c : Config) (plp : ℕ) (kept : List ℕ) (dnps : ℕ �
   end = let s = is.size in let l = is.some in omega (arith, s, l)
 
   none_is : y ≤ r.up_len * n → header.syncd ≡ 65535
-  none_is l = ap (λ (b : Bool). (header_at c plp x (y - x) (cond b (option_map (λ k. (r.up_len * n, k)) (slice_get kept (n - 0))) None)).syncd) (le-ltb (r.up_len * n) y l)
+  none_is l =
+      ap (λ (b : Bool).
+      (header_at c plp x (y - x) (cond b (option_map (λ k. (r.up_len * n, k)) (slice_get kept (n - 0))) None)).syncd)
+      (le-ltb (r.up_len * n) y l)
 
   module _ (l : r.up_len * n < y) where
     inside : n < length kept
@@ -69,7 +74,8 @@ module _ (r : SlotRule) (c : Config) (plp : ℕ) (kept : List ℕ) (dnps : ℕ �
     up_is : up_with r.up_len kept 0 n y ≡ Some (r.up_len * n, get_or kept n 0)
     up_is =
         let z : n - 0 ≡ n = omega arith in
-        ap (λ (b : Bool). cond b (option_map (λ (k : ℕ). (r.up_len * n, k)) (slice_get kept (n - 0))) None) (lt-ltb (r.up_len * n) y l)
+        ap (λ (b : Bool). cond b (option_map (λ (k : ℕ). (r.up_len * n, k)) (slice_get kept (n - 0))) None)
+        (lt-ltb (r.up_len * n) y l)
         ∙ ap (λ (i : ℕ). option_map (λ (k : ℕ). (r.up_len * n, k)) (slice_get kept i)) z
         ∙ ap (option_map (λ (k : ℕ). (r.up_len * n, k))) (slice_get-get_or kept n 0 inside)
 
@@ -77,26 +83,34 @@ module _ (r : SlotRule) (c : Config) (plp : ℕ) (kept : List ℕ) (dnps : ℕ �
     syncd_is = ap (λ (o : Option (ℕ × ℕ)). (header_at c plp x (y - x) o).syncd) up_is
 
     issy_is : header.issy ≡ 0x800000 + slot_start r.num r.den (get_or kept n 0) % 2 ^ 22
-    issy_is = ap (λ (o : Option (ℕ × ℕ)). (header_at c plp x (y - x) o).issy) up_is ∙ ap (λ (k : ℕ). 0x800000 + k % 2 ^ 22) (is.starts (get_or kept n 0))
+    issy_is = ap (λ (o : Option (ℕ × ℕ)). (header_at c plp x (y - x) o).issy) up_is
+        ∙ ap (λ (k : ℕ). 0x800000 + k % 2 ^ 22) (is.starts (get_or kept n 0))
 
     first_is : (block_read header field).first ≡ Some (r.up_len * n - x)
     first_is =
         let p = (ceil_parts x r.up_len one).0 in
         let s = is.short in
-        let not_none : (header.syncd == 65535) ≡ false = false_from_ne_true _ (λ (t : (header.syncd == 65535) ≡ true). omega (arith, eqb-true header.syncd 65535 t, syncd_is, l, s, p)) in
+        let not_none : (header.syncd == 65535) ≡ false =
+        false_from_ne_true _ (λ (t : (header.syncd == 65535) ≡ true).
+        omega (arith, eqb-true header.syncd 65535 t, syncd_is, l, s, p)) in
         let d : header.syncd / 8 ≡ r.up_len * n - x = omega (arith, syncd_is) in
         ap (λ (b : Bool). cond b None (Some (header.syncd / 8))) not_none ∙ ap (λ (k : ℕ). Some k) d
 
     tells : (iscr : ℕ) × (first_mark header.issy ≡ Timed iscr) × (slot_of_iscr r frame iscr ≡ Some (get_or kept n 0))
     tells =
-        let v : ℕ = slot_start r.num r.den (get_or kept n 0) % 2 ^ 22 in
-        (v, ap first_mark issy_is ∙ timed_mark v (omega arith), iscr_is law r frame (get_or kept n 0) sound (is.range n (ceil_parts x r.up_len one).0 l))
+        let v : ℕ = slot_start r.num r.den (get_or kept n 0) % 2 ^ 22 in (
+          v,
+          ap first_mark issy_is ∙ timed_mark v (omega arith),
+          iscr_is law r frame (get_or kept n 0) sound
+              (is.range n (ceil_parts x r.up_len one).0 l),
+        )
 
   pub block : IsBlock r (λ n. get_or kept n 0) dnps frame x n (block_read header field)
   block = record {
     least = (ceil_parts x r.up_len one).0;
     close = (ceil_parts x r.up_len one).1;
-    none = λ l. ap (λ (b : Bool). cond b None (Some (header.syncd / 8))) (eq-eqb header.syncd 65535 (none_is (omega (arith, l, end))));
+    none = λ l. ap (λ (b : Bool). cond b None (Some (header.syncd / 8)))
+        (eq-eqb header.syncd 65535 (none_is (omega (arith, l, end))));
     some = λ l. first_is (omega (arith, l, end));
     issy = λ l. tells (omega (arith, l, end));
     values = is.values;

@@ -1,5 +1,7 @@
 -- What a PLP is given back of the frames of a run.
-use Rattle.std.proofs.Common.{◌≡◌, ℕ, zero, suc, ◌+◌, ◌-◌, ◌*◌, ◌<◌, ◌≤◌, ◌%◌, ◌==◌, ◌&&◌, not, Bool, true, false, cond, List, [], ◌∷◌, ◌++◌, length, map, replicate, get_or, Option, Some, None, refl, ap, ap₂, ◌∙◌, sym, subst, arith}
+use Rattle.std.proofs.Common.{◌≡◌, ℕ, zero, suc, ◌+◌, ◌-◌, ◌*◌, ◌<◌, ◌≤◌, ◌%◌, ◌==◌, ◌&&◌, not, Bool, true, false, cond, List, []}
+use Rattle.std.proofs.Common.{◌∷◌, ◌++◌, length, map, replicate, get_or, Option, Some, None, refl, ap, ap₂, ◌∙◌, sym, subst}
+use Rattle.std.proofs.Common.{arith}
 use Rattle.std.specs.Prelude.{find, ◌||◌}
 use Rattle.std.specs.List.{AllByRecursion, range_with_len, filter}
 use Rattle.std.proofs.lemmas.List.FromFn.{length-map-range_with_len}
@@ -26,7 +28,8 @@ use Rattle.packet_slots.proofs.ListLemmas.{map_same}
 use Rattle.plp_receiver.specs.Laws.{ReadbackOnce}
 use Rattle.plp_receiver.specs.Taken.{Readback}
 use Rattle.recover.specs.Told.{IsPacket, ArePackets, told_records}
-use Rattle.recover.specs.Laws.{FrameIsEpoch, ReadbackRecovers, RunRecovers, RecordsRecover, IsCanonical, WholeComesBack, RunComesBack}
+use Rattle.recover.specs.Laws.{FrameIsEpoch, ReadbackRecovers, RunRecovers, RecordsRecover, IsCanonical, WholeComesBack}
+use Rattle.recover.specs.Laws.{RunComesBack}
 use Rattle.recover.proofs.ReadableLemmas as R
 use Rattle.recover.proofs.RuleLemmas.{rule_readback}
 use Rattle.recover.proofs.TellLemmas as T
@@ -49,7 +52,8 @@ null_is = record { size = refl; sync = refl; bytes = small }
     small (suc (suc (suc (suc i)))) = small_run 184 i 0xFF (omega arith)
 
 -- what is true of the null packet and of all packets of an input is true of the packet of each slot
-in_each_slot : (P : List ℕ → Type 0) → P null_packet → (packets : List (List ℕ)) → AllByRecursion P packets → (k : ℕ) → P (packet_at packets k)
+in_each_slot : (P : List ℕ → Type 0) → P null_packet → (packets : List (List ℕ)) → AllByRecursion P packets → (k : ℕ)
+    → P (packet_at packets k)
 in_each_slot P null [] h k = null
 in_each_slot P null (p ∷ packets) h zero = h.0
 in_each_slot P null (p ∷ packets) h (suc k) = in_each_slot P null packets h.1 k
@@ -63,19 +67,22 @@ run_recovers reads stand once lengths epochs recovers c plp inputs whole first c
     let epoch = epochs c plp plan inside in
     let each : ArePackets at = in_each_slot IsPacket null_is (inputs plp) all in
     let told : List Record = told_records c plp c.ticks at muted first count in
-    let other : Readback c plp first (map (record_of c inputs whole) (range_with_len first count)) (readback back.rule first told) = record {
+    let other : Readback c plp first (map (record_of c inputs whole) (range_with_len first count))
+    (readback back.rule first told) = record {
       rule = back.rule;
       rule_is = back.rule_is;
       told = told;
       tells = T.tells_all reads stand c inputs plan types plp inside epoch each whole count first;
       packets_are = refl;
     } in
-    once c plp first (map (record_of c inputs whole) (range_with_len first count)) packets (readback back.rule first told) back other
+    once c plp first (map (record_of c inputs whole) (range_with_len first count)) packets
+    (readback back.rule first told) back other
     ∙ rule_readback lengths c plp back.rule first told plan.rules inside back.rule_is
     ∙ recovers c plp c.ticks at muted first count plan inside epoch each
 
 -- the moment of a record is that of its frame
-moment_is : (c : Config) (inputs : ℕ → List (List ℕ)) (whole : ℕ → Bool) (n : ℕ) → moment_of (record_of c inputs whole n) ≡ emission c n
+moment_is : (c : Config) (inputs : ℕ → List (List ℕ)) (whole : ℕ → Bool) (n : ℕ) → moment_of (record_of c inputs whole n)
+    ≡ emission c n
 moment_is c inputs whole n = go (whole n)
   where
     go : (b : Bool) → moment_of (cond b (frame_of c inputs n) (Muted (emission c n))) ≡ emission c n
@@ -92,17 +99,25 @@ are_from : (c : Config) (inputs : ℕ → List (List ℕ)) (whole : ℕ → Bool
 are_from c inputs whole end = go (find (λ n. whole n && (n % c.frames == 0)) (range_with_len 0 end)) refl
   where
     go : (o : Option ℕ) → find (λ n. whole n && (n % c.frames == 0)) (range_with_len 0 end) ≡ o → AreFrom c inputs whole end
-    go None e = record { first = 0; count = 0; are = ap (λ (r : Option ℕ). map (record_of c inputs whole) (numbers_from end r)) e }
-    go (Some n) e = record { first = n; count = end - n; are = ap (λ (r : Option ℕ). map (record_of c inputs whole) (numbers_from end r)) e }
+    go None e =
+        record { first = 0; count = 0; are = ap (λ (r : Option ℕ). map (record_of c inputs whole) (numbers_from end r)) e }
+    go (Some n) e =
+        record { first = n; count = end - n; are = ap (λ (r : Option ℕ). map (record_of c inputs whole) (numbers_from end r)) e }
 
 -- they tell the frame from which on they are
-same_first : EmissionsDiffer → (c : Config) (inputs : ℕ → List (List ℕ)) (whole : ℕ → Bool) (first other count : ℕ) (views : List RecordView) → IsPlan c
-    → IsOnGrid c first views → views ≡ map (record_of c inputs whole) (range_with_len other count) → map (record_of c inputs whole) (range_with_len other count) ≡ map (record_of c inputs whole) (range_with_len first count)
+same_first : EmissionsDiffer → (c : Config) (inputs : ℕ → List (List ℕ)) (whole : ℕ → Bool) (first other count : ℕ)
+    (views : List RecordView) → IsPlan c
+    → IsOnGrid c first views → views ≡ map (record_of c inputs whole) (range_with_len other count)
+    → map (record_of c inputs whole) (range_with_len other count) ≡ map (record_of c inputs whole)
+    (range_with_len first count)
 same_first differ c inputs whole first other zero views plan grid e = refl
 same_first differ c inputs whole first other (suc count) views plan grid e =
-    let len : length views ≡ suc count = ap (λ (l : List RecordView). length l) e ∙ length-map-range_with_len (record_of c inputs whole) other (suc count) in
-    let moments : map moment_of (map (record_of c inputs whole) (range_with_len other (suc count))) ≡ map (emission c) (range_with_len first (suc count)) =
-    ap (λ (l : List RecordView). map moment_of l) (sym e) ∙ grid.moments ∙ ap (λ (k : ℕ). map (emission c) (range_with_len first k)) len in
+    let len : length views ≡ suc count = ap (λ (l : List RecordView). length l) e
+    ∙ length-map-range_with_len (record_of c inputs whole) other (suc count) in
+    let moments : map moment_of (map (record_of c inputs whole) (range_with_len other (suc count)))
+    ≡ map (emission c) (range_with_len first (suc count)) =
+    ap (λ (l : List RecordView). map moment_of l) (sym e) ∙ grid.moments
+    ∙ ap (λ (k : ℕ). map (emission c) (range_with_len first k)) len in
     let head : List Moment → Moment = λ l. get_or l 0 (emission c 0) in
     let same : other ≡ first = differ c other first plan.rules (sym (moment_is c inputs whole other) ∙ ap head moments) in
     ap (λ (k : ℕ). map (record_of c inputs whole) (range_with_len k (suc count))) same
@@ -111,17 +126,22 @@ pub records_recover : EmissionsDiffer → RunRecovers → RecordsRecover
 records_recover differ run c plp inputs whole end first packets plan types inside all grid back =
     let from = are_from c inputs whole end in
     let views : List RecordView = map (record_of c inputs whole) (range_with_len first from.count) in
-    let same : records c inputs whole end ≡ views = from.are ∙ same_first differ c inputs whole first from.first from.count (records c inputs whole end) plan grid from.are in
-    let len : length (records c inputs whole end) ≡ from.count = ap (λ (l : List RecordView). length l) from.are ∙ length-map-range_with_len (record_of c inputs whole) from.first from.count in
-    run c plp inputs whole first from.count packets plan types inside all (subst (λ (l : List RecordView). Readback c plp first l packets) same back)
+    let same : records c inputs whole end ≡ views = from.are ∙ same_first differ c inputs whole first from.first from.count
+    (records c inputs whole end) plan grid from.are in
+    let len : length (records c inputs whole end) ≡ from.count = ap (λ (l : List RecordView). length l) from.are
+    ∙ length-map-range_with_len (record_of c inputs whole) from.first from.count in
+    run c plp inputs whole first from.count packets plan types inside all
+    (subst (λ (l : List RecordView). Readback c plp first l packets) same back)
     ∙ ap (recover c plp c.ticks (packet_at (inputs plp)) (λ m. not (whole m)) first) (sym len)
 
 -- ---- nothing is muted
 
-none_muted : (muted : ℕ → Bool) (count first : ℕ) → ((m : ℕ) → first ≤ m → m < first + count → muted m ≡ false) → filter muted (range_with_len first count) ≡ []
+none_muted : (muted : ℕ → Bool) (count first : ℕ) → ((m : ℕ) → first ≤ m → m < first + count → muted m ≡ false)
+    → filter muted (range_with_len first count) ≡ []
 none_muted muted zero first h = refl
 none_muted muted (suc count) first h =
-    ap (λ (b : Bool). cond {A = List ℕ} b (first ∷ filter muted (range_with_len (first + 1) count)) (filter muted (range_with_len (first + 1) count))) (h first (omega arith) (omega arith))
+    ap (λ (b : Bool). cond {A = List ℕ} b (first ∷ filter muted (range_with_len (first + 1) count))
+    (filter muted (range_with_len (first + 1) count))) (h first (omega arith) (omega arith))
     ∙ none_muted muted count (first + 1) (λ m from below. h m (omega (arith, from)) (omega (arith, below)))
 
 -- what is not kept is null, and null packets are deleted
@@ -135,7 +155,8 @@ whole_comes_back none run c plp inputs whole first count packets plan types insi
     let at : ℕ → List ℕ = packet_at (inputs plp) in
     let given : List ℕ → List (List ℕ) = λ muted. map (recovered c plp c.ticks at muted) (due_slots c plp c.ticks first count) in
     run c plp inputs whole first count packets plan types inside all back
-    ∙ ap given (none_muted (λ m. not (whole m)) count first (λ m from below. ap not (each m from below)) ∙ sym (none_muted (λ m. false) count first (λ m from below. refl)))
+    ∙ ap given (none_muted (λ m. not (whole m)) count first (λ m from below. ap not (each m from below))
+    ∙ sym (none_muted (λ m. false) count first (λ m from below. refl)))
     ∙ none c plp c.ticks at first count (λ k e.
     let lost = not_kept (plp_at c.plps plp).delete (is_null (at k)) _ e in
     in_each_slot (IsCanonical (plp_at c.plps plp).delete) (λ deletes null. refl) (inputs plp) canonical k lost.0 lost.1)
@@ -147,20 +168,24 @@ nulls_behind zero a = refl
 nulls_behind (suc n) a = ap (λ (l : List (List ℕ)). null_packet ∷ l) (nulls_behind n (a + 1))
 
 -- the packets of the slots from one on are those of an input from there on
-moved_slots : (p : List ℕ) (packets : List (List ℕ)) (n a : ℕ) → map (packet_at (p ∷ packets)) (range_with_len (a + 1) n) ≡ map (packet_at packets) (range_with_len a n)
+moved_slots : (p : List ℕ) (packets : List (List ℕ)) (n a : ℕ) → map (packet_at (p ∷ packets)) (range_with_len (a + 1) n)
+    ≡ map (packet_at packets) (range_with_len a n)
 moved_slots p packets zero a = refl
 moved_slots p packets (suc n) a =
     let e : a + 1 ≡ suc a = omega arith in
     ap₂ (λ (q : List ℕ) (l : List (List ℕ)). q ∷ l) (ap (packet_at (p ∷ packets)) e) (moved_slots p packets n (a + 1))
 
-packets_first : (packets : List (List ℕ)) (n : ℕ) → map (packet_at packets) (range_with_len 0 (length packets + n)) ≡ packets ++ replicate n null_packet
-packets_first [] n = let z : 0 + n ≡ n = omega arith in ap (λ (k : ℕ). map (packet_at []) (range_with_len 0 k)) z ∙ nulls_behind n 0
+packets_first : (packets : List (List ℕ)) (n : ℕ) → map (packet_at packets) (range_with_len 0 (length packets + n))
+    ≡ packets ++ replicate n null_packet
+packets_first [] n = let z : 0 + n ≡ n = omega arith in ap (λ (k : ℕ). map (packet_at []) (range_with_len 0 k)) z
+    ∙ nulls_behind n 0
 packets_first (p ∷ packets) n =
     let s : suc (length packets) + n ≡ suc (length packets + n) = omega arith in
     ap (λ (k : ℕ). map (packet_at (p ∷ packets)) (range_with_len 0 k)) s
     ∙ ap (λ (l : List (List ℕ)). p ∷ l) (moved_slots p packets (length packets + n) 0 ∙ packets_first packets n)
 
-module _ (lengths : SlotLength) (zero_law : NoneAtZero) (released : ReleasedFirst) (least : FrameCountLeast) (c : Config) (plp : ℕ) (inputs : ℕ → List (List ℕ)) (plan : IsPlan c) (inside : plp < length c.plps) where
+module _ (lengths : SlotLength) (zero_law : NoneAtZero) (released : ReleasedFirst) (least : FrameCountLeast) (c : Config)
+    (plp : ℕ) (inputs : ℕ → List (List ℕ)) (plan : IsPlan c) (inside : plp < length c.plps) where
   abbrev frames : ℕ
   frames = frame_count c (λ plp. length (inputs plp))
 
@@ -172,14 +197,17 @@ module _ (lengths : SlotLength) (zero_law : NoneAtZero) (released : ReleasedFirs
   enough =
       let l = lengths c plp plan.rules inside in
       let e = (least c (λ plp. length (inputs plp)) plan.rules).enough plp inside in
-      let z : (0 + frames) * c.ticks ≡ frames * c.ticks = let s : 0 + frames ≡ frames = omega arith in ap (λ (k : ℕ). k * c.ticks) s in
-      (released (num c) (den c plp) (delay c plp) ((0 + frames) * c.ticks) (length (inputs plp)) (omega (arith, l)) (omega (arith, l))).1 (omega (arith, e, z))
+      let z : (0 + frames) * c.ticks ≡ frames * c.ticks = let s : 0 + frames ≡ frames = omega arith in
+      ap (λ (k : ℕ). k * c.ticks) s in
+      (released (num c) (den c plp) (delay c plp) ((0 + frames) * c.ticks) (length (inputs plp)) (omega (arith, l))
+      (omega (arith, l))).1 (omega (arith, e, z))
 
   pub slots_are : due_slots c plp c.ticks 0 frames ≡ range_with_len 0 (length (inputs plp) + (due - length (inputs plp)))
   slots_are =
       let l = lengths c plp plan.rules inside in
       let start : (0 - 1) * c.ticks ≡ 0 = omega arith in
-      let none : slots_by c plp ((0 - 1) * c.ticks) ≡ 0 = ap (slots_by c plp) start ∙ zero_law (num c) (den c plp) (omega (arith, l)) in
+      let none : slots_by c plp ((0 - 1) * c.ticks) ≡ 0 = ap (slots_by c plp) start
+      ∙ zero_law (num c) (den c plp) (omega (arith, l)) in
       let size : due - 0 ≡ length (inputs plp) + (due - length (inputs plp)) = let e = enough in omega (arith, e) in
       ap (λ (k : ℕ). range_with_len k (due - k)) none ∙ ap (range_with_len 0) size
 
@@ -193,7 +221,8 @@ run_comes_back lengths zero_law released least whole c plp inputs packets plan t
     map_same (frame_of c inputs) (record_of c inputs (λ n. true)) frames 0 (λ k from below. refl) in
     let nulls : ℕ = released_count (num c) (den c plp) (delay c plp) ((0 + frames) * c.ticks) - length (inputs plp) in (
       nulls,
-      whole c plp inputs (λ n. true) 0 frames packets plan types inside all canonical (λ m from below. refl) (subst (λ (l : List RecordView). Readback c plp 0 l packets) same back)
+      whole c plp inputs (λ n. true) 0 frames packets plan types inside all canonical (λ m from below. refl)
+          (subst (λ (l : List RecordView). Readback c plp 0 l packets) same back)
           ∙ ap (map (packet_at (inputs plp))) (slots_are lengths zero_law released least c plp inputs plan inside)
           ∙ packets_first (inputs plp) nulls,
     )

@@ -1,5 +1,6 @@
 -- Between one kept slot and the next none is kept.
-use Rattle.std.proofs.Common.{◌≡◌, ℕ, zero, suc, ◌+◌, ◌-◌, ◌*◌, ◌<◌, ◌≤◌, Bool, true, false, List, [], ◌∷◌, ◌++◌, length-append, length, get_or, refl, ap, ◌∙◌, sym, subst, arith, inl, inr, cond}
+use Rattle.std.proofs.Common.{◌≡◌, ℕ, zero, suc, ◌+◌, ◌-◌, ◌*◌, ◌<◌, ◌≤◌, Bool, true, false, List, [], ◌∷◌, ◌++◌, length-append}
+use Rattle.std.proofs.Common.{length, get_or, refl, ap, ◌∙◌, sym, subst, arith, inl, inr, cond}
 use Rattle.std.specs.Prelude.{if◌then◌else◌}
 use Rattle.std.specs.List.{range_with_len, filter, flat_map}
 use Rattle.std.proofs.lemmas.List.{get_or_append_left, get_or-append_right}
@@ -35,9 +36,12 @@ module _ (keeps : ℕ → Bool) where
       list : Bool → List ℕ
       list b = cond b (a ∷ kept (a + 1) len) (kept (a + 1) len)
 
-      go : (b : Bool) → keeps a ≡ b → 1 ≤ length (list (keeps a)) → (1 ≤ length (kept (a + 1) len) → IsFirst (a + 1) (nth (a + 1) len 0)) → IsFirst a (get_or (list (keeps a)) 0 0)
-      go true e m rest = subst (λ (b : Bool). IsFirst a (get_or (list b) 0 0)) (sym e) (record { from = omega arith; none = λ j x y. absurd (omega arith); is = e })
-      go false e m rest = subst (λ (b : Bool). IsFirst a (get_or (list b) 0 0)) (sym e) (wider a (nth (a + 1) len 0) e (rest (subst (λ (b : Bool). 1 ≤ length (list b)) e m)))
+      go : (b : Bool) → keeps a ≡ b → 1 ≤ length (list (keeps a))
+          → (1 ≤ length (kept (a + 1) len) → IsFirst (a + 1) (nth (a + 1) len 0)) → IsFirst a (get_or (list (keeps a)) 0 0)
+      go true e m rest = subst (λ (b : Bool). IsFirst a (get_or (list b) 0 0)) (sym e)
+          (record { from = omega arith; none = λ j x y. absurd (omega arith); is = e })
+      go false e m rest = subst (λ (b : Bool). IsFirst a (get_or (list b) 0 0)) (sym e)
+          (wider a (nth (a + 1) len 0) e (rest (subst (λ (b : Bool). 1 ≤ length (list b)) e m)))
 
   pub record Steps (i k : ℕ) : Type 0 where
     pub is : keeps i ≡ true
@@ -51,7 +55,8 @@ module _ (keeps : ℕ → Bool) where
       list : Bool → List ℕ
       list b = cond b (a ∷ kept (a + 1) len) (kept (a + 1) len)
 
-      at_true : (m : ℕ) → suc m < length (list true) → keeps a ≡ true → ((m : ℕ) → suc m < length (kept (a + 1) len) → Steps (nth (a + 1) len m) (nth (a + 1) len (suc m)))
+      at_true : (m : ℕ) → suc m < length (list true) → keeps a ≡ true
+          → ((m : ℕ) → suc m < length (kept (a + 1) len) → Steps (nth (a + 1) len m) (nth (a + 1) len (suc m)))
           → Steps (get_or (list true) m 0) (get_or (list true) (suc m) 0)
       at_true zero h e rest =
           let f = first_of len (a + 1) (omega arith) in
@@ -59,10 +64,13 @@ module _ (keeps : ℕ → Bool) where
           record { is = e; rises = omega (arith, b); none = f.none }
       at_true (suc m) h e rest = rest m (omega arith)
 
-      go : (b : Bool) → keeps a ≡ b → (m : ℕ) → suc m < length (list (keeps a)) → ((m : ℕ) → suc m < length (kept (a + 1) len) → Steps (nth (a + 1) len m) (nth (a + 1) len (suc m)))
+      go : (b : Bool) → keeps a ≡ b → (m : ℕ) → suc m < length (list (keeps a))
+          → ((m : ℕ) → suc m < length (kept (a + 1) len) → Steps (nth (a + 1) len m) (nth (a + 1) len (suc m)))
           → Steps (get_or (list (keeps a)) m 0) (get_or (list (keeps a)) (suc m) 0)
-      go true e m h rest = subst (λ (b : Bool). Steps (get_or (list b) m 0) (get_or (list b) (suc m) 0)) (sym e) (at_true m (subst (λ (b : Bool). suc m < length (list b)) e h) e rest)
-      go false e m h rest = subst (λ (b : Bool). Steps (get_or (list b) m 0) (get_or (list b) (suc m) 0)) (sym e) (rest m (subst (λ (b : Bool). suc m < length (list b)) e h))
+      go true e m h rest = subst (λ (b : Bool). Steps (get_or (list b) m 0) (get_or (list b) (suc m) 0)) (sym e)
+          (at_true m (subst (λ (b : Bool). suc m < length (list b)) e h) e rest)
+      go false e m h rest = subst (λ (b : Bool). Steps (get_or (list b) m 0) (get_or (list b) (suc m) 0)) (sym e)
+          (rest m (subst (λ (b : Bool). suc m < length (list b)) e h))
 
 pub kept_follow : NextKept → WithoutDeletion → KeptFollow
 kept_follow next without r nulls end n l = go r.deletes refl
@@ -76,11 +84,13 @@ kept_follow next without r nulls end n l = go r.deletes refl
     step : kept_slot keeps end (suc n) ≡ kept_slot keeps end n + 1 + dnp keeps (kept_slot keeps end (suc n))
     step = next keeps (kept_slot keeps end n) (kept_slot keeps end (suc n)) s.is s.rises s.none
 
-    go : (b : Bool) → r.deletes ≡ b → kept_slot keeps end (suc n) ≡ kept_slot keeps end n + 1 + (if b then dnp keeps (kept_slot keeps end (suc n)) else 0)
+    go : (b : Bool) → r.deletes ≡ b → kept_slot keeps end (suc n) ≡ kept_slot keeps end n + 1
+        + (if b then dnp keeps (kept_slot keeps end (suc n)) else 0)
     go true e = step
     go false e =
         let none : dnp keeps (kept_slot keeps end (suc n)) ≡ 0 =
-        ap (λ (b : Bool). dnp (is_kept b nulls) (kept_slot keeps end (suc n))) e ∙ (without nulls 0 (kept_slot keeps end (suc n))).1 in
+        ap (λ (b : Bool). dnp (is_kept b nulls) (kept_slot keeps end (suc n))) e
+        ∙ (without nulls 0 (kept_slot keeps end (suc n))).1 in
         omega (arith, step, none)
 
 -- The number of a kept slot.
@@ -91,7 +101,8 @@ module _ (keeps : ℕ → Bool) where
     pub below : slot < a + len
     pub count : length (filter keeps (range_with_len a (slot - a))) ≡ n
 
-  number : (len a n : ℕ) → n < length (filter keeps (range_with_len a len)) → HasNumber a len n (get_or (filter keeps (range_with_len a len)) n 0)
+  number : (len a n : ℕ) → n < length (filter keeps (range_with_len a len))
+      → HasNumber a len n (get_or (filter keeps (range_with_len a len)) n 0)
   number zero a n l = absurd (omega arith)
   number (suc len) a n l = go (keeps a) refl n l (λ m h. number len (a + 1) m h)
     where
@@ -102,19 +113,27 @@ module _ (keeps : ℕ → Bool) where
       list b = cond b (a ∷ filter keeps (range_with_len (a + 1) len)) (filter keeps (range_with_len (a + 1) len))
 
       -- one more slot in front
-      wider_count : (slot m : ℕ) → a + 1 ≤ slot → (b : Bool) → keeps a ≡ b → length (filter keeps (range_with_len (a + 1) (slot - (a + 1)))) ≡ m
+      wider_count : (slot m : ℕ) → a + 1 ≤ slot → (b : Bool) → keeps a ≡ b
+          → length (filter keeps (range_with_len (a + 1) (slot - (a + 1)))) ≡ m
           → length (filter keeps (range_with_len a (slot - a))) ≡ (if b then suc m else m)
       wider_count slot m l b e c =
           let d : slot - a ≡ suc (slot - (a + 1)) = omega arith in
           ap (λ (k : ℕ). length (filter keeps (range_with_len a k))) d
-          ∙ ap (λ (t : Bool). length (cond t (a ∷ filter keeps (range_with_len (a + 1) (slot - (a + 1)))) (filter keeps (range_with_len (a + 1) (slot - (a + 1)))))) e
+          ∙ ap (λ (t : Bool).
+          length (cond t (a ∷ filter keeps (range_with_len (a + 1) (slot - (a + 1))))
+          (filter keeps (range_with_len (a + 1) (slot - (a + 1)))))) e
           ∙ last b
         where
-          last : (b : Bool) → length (cond b (a ∷ filter keeps (range_with_len (a + 1) (slot - (a + 1)))) (filter keeps (range_with_len (a + 1) (slot - (a + 1))))) ≡ (if b then suc m else m)
+          last : (b : Bool)
+              → length
+              (cond b (a ∷ filter keeps (range_with_len (a + 1) (slot - (a + 1))))
+              (filter keeps (range_with_len (a + 1) (slot - (a + 1))))) ≡ (if b then suc m else m)
           last true = ap suc c
           last false = c
 
-      at_true : (m : ℕ) → m < length (list true) → keeps a ≡ true → ((m : ℕ) → m < length (filter keeps (range_with_len (a + 1) len)) → HasNumber (a + 1) len m (get_or (filter keeps (range_with_len (a + 1) len)) m 0))
+      at_true : (m : ℕ) → m < length (list true) → keeps a ≡ true
+          → ((m : ℕ) → m < length (filter keeps (range_with_len (a + 1) len))
+          → HasNumber (a + 1) len m (get_or (filter keeps (range_with_len (a + 1) len)) m 0))
           → HasNumber a (suc len) m (get_or (list true) m 0)
       at_true zero h e more =
           let d : a - a ≡ 0 = omega arith in
@@ -123,17 +142,28 @@ module _ (keeps : ℕ → Bool) where
           let f = more m (omega arith) in
           let x = f.from in
           let y = f.below in
-          record { from = omega (arith, x); below = omega (arith, y); count = wider_count (get_or (filter keeps (range_with_len (a + 1) len)) m 0) m x true e f.count }
+          record {
+            from = omega (arith, x);
+            below = omega (arith, y);
+            count = wider_count (get_or (filter keeps (range_with_len (a + 1) len)) m 0) m x true e f.count;
+          }
 
-      go : (b : Bool) → keeps a ≡ b → (m : ℕ) → m < length (list (keeps a)) → ((m : ℕ) → m < length (filter keeps (range_with_len (a + 1) len)) → HasNumber (a + 1) len m (get_or (filter keeps (range_with_len (a + 1) len)) m 0))
+      go : (b : Bool) → keeps a ≡ b → (m : ℕ) → m < length (list (keeps a))
+          → ((m : ℕ) → m < length (filter keeps (range_with_len (a + 1) len))
+          → HasNumber (a + 1) len m (get_or (filter keeps (range_with_len (a + 1) len)) m 0))
           → HasNumber a (suc len) m (get_or (list (keeps a)) m 0)
-      go true e m h more = subst (λ (b : Bool). HasNumber a (suc len) m (get_or (list b) m 0)) (sym e) (at_true m (subst (λ (b : Bool). m < length (list b)) e h) e more)
+      go true e m h more = subst (λ (b : Bool). HasNumber a (suc len) m (get_or (list b) m 0)) (sym e)
+          (at_true m (subst (λ (b : Bool). m < length (list b)) e h) e more)
       go false e m h more =
           let f = more m (subst (λ (b : Bool). m < length (list b)) e h) in
           let x = f.from in
           let y = f.below in
           subst (λ (b : Bool). HasNumber a (suc len) m (get_or (list b) m 0)) (sym e)
-          (record { from = omega (arith, x); below = omega (arith, y); count = wider_count (get_or (filter keeps (range_with_len (a + 1) len)) m 0) m x false e f.count })
+          (record {
+            from = omega (arith, x);
+            below = omega (arith, y);
+            count = wider_count (get_or (filter keeps (range_with_len (a + 1) len)) m 0) m x false e f.count;
+          })
 
 pub kept_number : KeptNumber
 kept_number keeps end n l =
@@ -150,7 +180,8 @@ flat_size f len each (k ∷ ks) =
     let s : len * suc (length ks) ≡ len * length ks + len = omega arith in
     length-append (f k) (flat_map f ks) ∙ omega (arith, each k, flat_size f len each ks, s)
 
-flat_byte : (f : ℕ → List ℕ) (len : ℕ) → ((k : ℕ) → length (f k) ≡ len) → (ks : List ℕ) (n j : ℕ) → n < length ks → j < len → get_or (flat_map f ks) (len * n + j) 0 ≡ get_or (f (get_or ks n 0)) j 0
+flat_byte : (f : ℕ → List ℕ) (len : ℕ) → ((k : ℕ) → length (f k) ≡ len) → (ks : List ℕ) (n j : ℕ) → n < length ks → j < len
+    → get_or (flat_map f ks) (len * n + j) 0 ≡ get_or (f (get_or ks n 0)) j 0
 flat_byte f len each [] n j l m = absurd (omega arith)
 flat_byte f len each (k ∷ ks) zero j l m =
     let s : len * 0 + j ≡ j = omega arith in

@@ -1,5 +1,7 @@
 -- The record of a frame of a plan is readable, and its shape is that of the frame.
-use Rattle.std.proofs.Common.{◌≡◌, ℕ, zero, suc, ◌+◌, ◌-◌, ◌*◌, ◌<◌, ◌≤◌, ◌==◌, ◌&&◌, Bool, true, false, List, [], ◌∷◌, ◌++◌, length, map, replicate, take, Option, Some, None, refl, ap, ◌∙◌, sym, subst, arith, cond, append-nil, append_assoc, length-append, eq-eqb}
+use Rattle.std.proofs.Common.{◌≡◌, ℕ, zero, suc, ◌+◌, ◌-◌, ◌*◌, ◌<◌, ◌≤◌, ◌==◌, ◌&&◌, Bool, true, false, List, [], ◌∷◌, ◌++◌}
+use Rattle.std.proofs.Common.{length, map, replicate, take, Option, Some, None, refl, ap, ◌∙◌, sym, subst, arith, cond}
+use Rattle.std.proofs.Common.{append-nil, append_assoc, length-append, eq-eqb}
 use Rattle.std.specs.Prelude.{option_map, slice_index}
 use Rattle.std.specs.Bool.{beq}
 use Rattle.std.specs.Cmp.{bool_eq_equiv}
@@ -34,7 +36,8 @@ use Rattle.frame_records.proofs.FitLemmas.{counts_fit}
 use Rattle.frame_records.proofs.FrameLemmas.{block_len, cells_count}
 use Rattle.gateway_core.specs.Packets.{counts_of}
 use Rattle.gateway_core.specs.Signalling.{pre_part, conf_part, dyn_part}
-use Rattle.plp_receiver.specs.Readable.{conf_len, dyn_len, crc_len, post_len, told_dynamic, post_agrees, BlockSize, block_sizes, has_size, shape_agrees, fitting, readable}
+use Rattle.plp_receiver.specs.Readable.{conf_len, dyn_len, crc_len, post_len, told_dynamic, post_agrees, BlockSize, block_sizes}
+use Rattle.plp_receiver.specs.Readable.{has_size, shape_agrees, fitting, readable}
 use Rattle.sent_frames.specs.Types.{TypesFit}
 use Rattle.sent_frames.proofs.BlockLemmas.{blocks_long, count_at}
 use Rattle.sent_frames.proofs.PassLemmas.{Given, parts_tell}
@@ -42,7 +45,8 @@ use Rattle.sent_frames.proofs.SignalLemmas.{frame_parts, parts_pass}
 
 -- ---- sizes of blocks
 
-pointwise_append : {A B : Type 0} (test : A → B → Bool) (xs ys : List A) (us vs : List B) → pointwise test xs us ≡ true → pointwise test ys vs ≡ true → pointwise test (xs ++ ys) (us ++ vs) ≡ true
+pointwise_append : {A B : Type 0} (test : A → B → Bool) (xs ys : List A) (us vs : List B) → pointwise test xs us ≡ true
+    → pointwise test ys vs ≡ true → pointwise test (xs ++ ys) (us ++ vs) ≡ true
 pointwise_append test [] ys [] vs e f = f
 pointwise_append test [] ys (u ∷ us) vs e f = absurd (both_ways false refl e)
 pointwise_append test (x ∷ xs) ys [] vs e f = absurd (both_ways false refl e)
@@ -54,28 +58,37 @@ abbrev size_of : Config → ℕ → BlockSize
 size_of c plp = record { plp = (plp_at c.plps plp).id; len = block_bytes c plp }
 
 -- a block of Kbch bits is sent as so many bytes
-sent_size : BitCounts → (c : Config) (plp : ℕ) (bits : List Bool) → length bits ≡ 8 * block_bytes c plp → has_size (sent_block c plp bits) (size_of c plp) ≡ true
+sent_size : BitCounts → (c : Config) (plp : ℕ) (bits : List Bool) → length bits ≡ 8 * block_bytes c plp
+    → has_size (sent_block c plp bits) (size_of c plp) ≡ true
 sent_size counts c plp bits e =
     and_from ((plp_at c.plps plp).id == (plp_at c.plps plp).id) (length (sent_block c plp bits).bytes == block_bytes c plp)
     (eq-eqb (plp_at c.plps plp).id (plp_at c.plps plp).id refl)
-    (eq-eqb (length (sent_block c plp bits).bytes) (block_bytes c plp) (let s = block_len counts c plp bits e in omega (arith, s)))
+    (eq-eqb (length (sent_block c plp bits).bytes) (block_bytes c plp) (let s = block_len counts c plp bits e in
+    omega (arith, s)))
 
-plp_sizes : BitCounts → (c : Config) (plp : ℕ) (blocks : List (List Bool)) → AllByRecursion (λ b. length b ≡ 8 * block_bytes c plp) blocks
+plp_sizes : BitCounts → (c : Config) (plp : ℕ) (blocks : List (List Bool))
+    → AllByRecursion (λ b. length b ≡ 8 * block_bytes c plp) blocks
     → pointwise has_size (map (sent_block c plp) blocks) (replicate (length blocks) (size_of c plp)) ≡ true
 plp_sizes counts c plp [] h = refl
 plp_sizes counts c plp (b ∷ blocks) h =
-    and_from (has_size (sent_block c plp b) (size_of c plp)) (pointwise has_size (map (sent_block c plp) blocks) (replicate (length blocks) (size_of c plp)))
+    and_from (has_size (sent_block c plp b) (size_of c plp))
+    (pointwise has_size (map (sent_block c plp) blocks) (replicate (length blocks) (size_of c plp)))
     (sent_size counts c plp b h.0) (plp_sizes counts c plp blocks h.1)
 
 -- the blocks of so many PLPs from one on
-all_sizes : BitCounts → (c : Config) (shape : FrameShape) (blocks : ℕ → List (List Bool)) → ((plp : ℕ) → AllByRecursion (λ b. length b ≡ 8 * block_bytes c plp) (blocks plp))
+all_sizes : BitCounts → (c : Config) (shape : FrameShape) (blocks : ℕ → List (List Bool))
+    → ((plp : ℕ) → AllByRecursion (λ b. length b ≡ 8 * block_bytes c plp) (blocks plp))
     → (k a : ℕ) → ((plp : ℕ) → a ≤ plp → plp < a + k → slice_index shape.counts plp ≡ length (blocks plp))
-    → pointwise has_size (flat_map (λ plp. map (sent_block c plp) (blocks plp)) (range_with_len a k)) (flat_map (λ plp. replicate (slice_index shape.counts plp) (size_of c plp)) (range_with_len a k)) ≡ true
+    → pointwise has_size (flat_map (λ plp. map (sent_block c plp) (blocks plp)) (range_with_len a k))
+    (flat_map (λ plp. replicate (slice_index shape.counts plp) (size_of c plp)) (range_with_len a k)) ≡ true
 all_sizes counts c shape blocks long zero a h = refl
 all_sizes counts c shape blocks long (suc k) a h =
-    pointwise_append has_size (map (sent_block c a) (blocks a)) (flat_map (λ plp. map (sent_block c plp) (blocks plp)) (range_with_len (a + 1) k))
-    (replicate (slice_index shape.counts a) (size_of c a)) (flat_map (λ plp. replicate (slice_index shape.counts plp) (size_of c plp)) (range_with_len (a + 1) k))
-    (subst (λ (n : ℕ). pointwise has_size (map (sent_block c a) (blocks a)) (replicate n (size_of c a)) ≡ true) (sym (h a (omega arith) (omega arith))) (plp_sizes counts c a (blocks a) (long a)))
+    pointwise_append has_size (map (sent_block c a) (blocks a))
+    (flat_map (λ plp. map (sent_block c plp) (blocks plp)) (range_with_len (a + 1) k))
+    (replicate (slice_index shape.counts a) (size_of c a))
+    (flat_map (λ plp. replicate (slice_index shape.counts plp) (size_of c plp)) (range_with_len (a + 1) k))
+    (subst (λ (n : ℕ). pointwise has_size (map (sent_block c a) (blocks a)) (replicate n (size_of c a)) ≡ true)
+    (sym (h a (omega arith) (omega arith))) (plp_sizes counts c a (blocks a) (long a)))
     (all_sizes counts c shape blocks long k (a + 1) (λ plp from below. h plp (omega (arith, from)) (omega (arith, below))))
 
 -- ---- L1-post
@@ -165,7 +178,8 @@ module _ (reads : Reads) (c : Config) (inputs : ℕ → List (List ℕ)) (n : �
   -- the parts stand in L1-post at their places
   conf_there : take (conf_len c) post ≡ conf
   conf_there =
-      ap (take (conf_len c)) (post_is ∙ append_assoc conf dynamic (field 32 (crc32_of front))) ∙ front_of conf (dynamic ++ field 32 (crc32_of front)) (conf_len c) lengths.first
+      ap (take (conf_len c)) (post_is ∙ append_assoc conf dynamic (field 32 (crc32_of front)))
+      ∙ front_of conf (dynamic ++ field 32 (crc32_of front)) (conf_len c) lengths.first
 
   dynamic_there : part post (conf_len c) (dyn_len c) ≡ dynamic
   dynamic_there =
@@ -174,7 +188,8 @@ module _ (reads : Reads) (c : Config) (inputs : ℕ → List (List ℕ)) (n : �
 
   crc_there : crc_behind true (take (length post - crc_len) post) ≡ post
   crc_there =
-      ap (crc_behind true) (ap (take (length post - crc_len)) post_is ∙ front_of front (field 32 (crc32_of front)) (length post - crc_len) lengths.both) ∙ sym post_is
+      ap (crc_behind true) (ap (take (length post - crc_len)) post_is ∙ front_of front (field 32 (crc32_of front))
+      (length post - crc_len) lengths.both) ∙ sym post_is
 
   -- what the dynamic part tells
   told_is : told_dynamic c post ≡ read_dynamic c (frame_parts c inputs n)
@@ -186,7 +201,8 @@ module _ (reads : Reads) (c : Config) (inputs : ℕ → List (List ℕ)) (n : �
 
   conf_is : conf_agrees c (read_whole (conf_read (info_size (length c.plps)) (take (conf_len c) post))) ≡ true
   unfolding conf_part
-  conf_is = ap (λ (bits : List Bool). conf_agrees c (read_whole (conf_read (info_size (length c.plps)) bits))) conf_there ∙ agree.configured
+  conf_is = ap (λ (bits : List Bool). conf_agrees c (read_whole (conf_read (info_size (length c.plps)) bits))) conf_there
+      ∙ agree.configured
 
   post_ok : post_agrees c n post ≡ true
   post_ok =
@@ -195,14 +211,16 @@ module _ (reads : Reads) (c : Config) (inputs : ℕ → List (List ℕ)) (n : �
       let right : Bool = conf_agrees c (read_whole (conf_read (info_size (length c.plps)) (take (conf_len c) post))) in
       and_from (len && crc && right) (dyn_agrees c n (told_dynamic c post))
       (and_from (len && crc) right
-      (and_from len crc (eq-eqb (length post) (post_len c) lengths.whole) (ap (pointwise beq post) crc_there ∙ (lists_equiv bool_eq_equiv).refl post))
+      (and_from len crc (eq-eqb (length post) (post_len c) lengths.whole) (ap (pointwise beq post) crc_there
+      ∙ (lists_equiv bool_eq_equiv).refl post))
       conf_is)
       (ap (dyn_agrees c n) told_is ∙ agree.dynamic)
 
   -- ---- blocks and cells
 
   pub counts_are : (plp : ℕ) → plp < length c.plps → slice_index shape.counts plp ≡ length (plp_blocks c inputs n plp)
-  counts_are plp inside = ap (λ (l : List ℕ). slice_index l plp) (given.counts c counts) ∙ count_at c (plp_blocks c inputs n) plp inside
+  counts_are plp inside = ap (λ (l : List ℕ). slice_index l plp) (given.counts c counts)
+      ∙ count_at c (plp_blocks c inputs n) plp inside
 
   abbrev pub blocks : List Block
   blocks = sent_blocks c (plp_blocks c inputs n)
@@ -212,7 +230,8 @@ module _ (reads : Reads) (c : Config) (inputs : ℕ → List (List ℕ)) (n : �
 
   sizes_agree : pointwise has_size blocks (block_sizes c shape) ≡ true
   sizes_agree =
-      all_sizes given.numbers c shape (plp_blocks c inputs n) (blocks_long given.numbers given.field c inputs n) (length c.plps) 0 (λ plp from below. counts_are plp (omega (arith, below)))
+      all_sizes given.numbers c shape (plp_blocks c inputs n) (blocks_long given.numbers given.field c inputs n) (length c.plps) 0
+      (λ plp from below. counts_are plp (omega (arith, below)))
 
   shape_ok : shape_agrees c blocks cells shape ≡ true
   shape_ok =
@@ -225,7 +244,8 @@ module _ (reads : Reads) (c : Config) (inputs : ℕ → List (List ℕ)) (n : �
   pub is_readable : readable c n (l1_pre c) post blocks cells ≡ Some shape
   unfolding readable
   is_readable =
-      ap (λ (b : Bool). cond {A = Option FrameShape} b (fitting c blocks cells (option_map told_shape (told_dynamic c post))) None)
+      ap (λ (b : Bool). cond {A = Option FrameShape} b (fitting c blocks cells (option_map told_shape (told_dynamic c post)))
+      None)
       (and_from (pre_agrees c (read_whole (pre_reading true (l1_pre c)))) (post_agrees c n post) pre_is post_ok)
       ∙ ap (fitting c blocks cells) shape_told
       ∙ ap (λ (b : Bool). cond {A = Option FrameShape} b (Some shape) None) shape_ok

@@ -1,5 +1,6 @@
 -- Strings as a gateway makes them: user packet n stands from place up_len * n on, and no byte is missing.
-use Rattle.std.specs.Prelude.{◌≡◌, ◌⊎◌, ℕ, ◌+◌, ◌-◌, ◌*◌, ◌<◌, ◌≤◌, ◌%◌, ◌^◌, suc, true, None, ◌++◌, ◌∷◌, map, List, length, get_or, Some, if◌then◌else◌}
+use Rattle.std.specs.Prelude.{◌≡◌, ◌⊎◌, ℕ, ◌+◌, ◌-◌, ◌*◌, ◌<◌, ◌≤◌, ◌%◌, ◌^◌, suc, true, None, ◌++◌, ◌∷◌, map, List, length}
+use Rattle.std.specs.Prelude.{get_or, Some, if◌then◌else◌}
 use Rattle.packet_slots.specs.declared.rule.SlotRule.{SlotRule}
 use Rattle.packet_slots.specs.declared.mark.Mark.TheVariants.{Inside, Next, Timed}
 use Rattle.packet_slots.specs.Strings.{Item, Block, block_items, first_mark, gap}
@@ -37,28 +38,32 @@ Follow r slots dnps bound = (n : ℕ) → suc n < bound → slots (suc n) ≡ sl
 
 -- Every user packet that stands whole in such a string gets its own slot.
 abbrev pub OwnSlots : Type 0
-OwnSlots = (r : SlotRule) (slots dnps : ℕ → ℕ) (place bound : ℕ) (z : List Item) → IsSound r → Follow r slots dnps bound → place + length z ≤ r.up_len * bound → IsRegular r slots dnps place z
+OwnSlots = (r : SlotRule) (slots dnps : ℕ → ℕ) (place bound : ℕ) (z : List Item) → IsSound r → Follow r slots dnps bound
+    → place + length z ≤ r.up_len * bound → IsRegular r slots dnps place z
     → (n i : ℕ) → place + i ≡ r.up_len * n → i + r.up_len ≤ length z
     → slot_of r (window r z i) (slot_before r (slots_at r z i)) ≡ Some (slots n)
 
 -- Strings that follow each other in the stream are together such a string.
 abbrev pub RegularJoin : Type 0
-RegularJoin = (r : SlotRule) (slots dnps : ℕ → ℕ) (place : ℕ) (z y : List Item) → IsRegular r slots dnps place z → IsRegular r slots dnps (place + length z) y
+RegularJoin = (r : SlotRule) (slots dnps : ℕ → ℕ) (place : ℕ) (z y : List Item) → IsRegular r slots dnps place z
+    → IsRegular r slots dnps (place + length z) y
     → IsRegular r slots dnps place (z ++ y)
 
--- What a block tells of the bytes from a place on: SYNCD is the place of user packet n, the first from there, if that begins in the
--- block, and ISSY then tells its slot. The last byte of a user packet is its dnp.
+-- What a block tells of the bytes from a place on: SYNCD is the place of user packet n, the first from there, if that begins in
+-- the block, and ISSY then tells its slot. The last byte of a user packet is its dnp.
 pub record IsBlock (r : SlotRule) (slots dnps : ℕ → ℕ) (frame place n : ℕ) (b : Block) : Type 0 where
   pub least : place ≤ r.up_len * n
   pub close : r.up_len * n < place + r.up_len
   pub none : place + length b.field ≤ r.up_len * n → b.first ≡ None
   pub some : r.up_len * n < place + length b.field → b.first ≡ Some (r.up_len * n - place)
-  pub issy : r.up_len * n < place + length b.field → (iscr : ℕ) × (first_mark b.issy ≡ Timed iscr) × (slot_of_iscr r frame iscr ≡ Some (slots n))
+  pub issy : r.up_len * n < place + length b.field → (iscr : ℕ) × (first_mark b.issy ≡ Timed iscr)
+      × (slot_of_iscr r frame iscr ≡ Some (slots n))
   pub values : (k i : ℕ) → place + i + 1 ≡ r.up_len * suc k → i < length b.field → r.deletes ≡ true → get_or b.field i 0 ≡ dnps k
 
 -- Its items are such a string.
 abbrev pub BlockRegular : Type 0
-BlockRegular = (r : SlotRule) (slots dnps : ℕ → ℕ) (frame place n : ℕ) (b : Block) → IsSound r → IsBlock r slots dnps frame place n b
+BlockRegular = (r : SlotRule) (slots dnps : ℕ → ℕ) (frame place n : ℕ) (b : Block) → IsSound r
+    → IsBlock r slots dnps frame place n b
     → IsRegular r slots dnps place (block_items r.up_len frame b)
 
 -- user packet n of a string that begins at a place of the stream
@@ -73,13 +78,16 @@ pub record AreWhole (r : SlotRule) (slots : ℕ → ℕ) (place n : ℕ) (z : Li
   pub all : (k : ℕ) → n ≤ k → r.up_len * k + r.up_len ≤ place + length z → k < n + count
 
 abbrev pub WholePackets : Type 0
-WholePackets = (r : SlotRule) (slots dnps : ℕ → ℕ) (place n bound : ℕ) (z : List Item) → IsSound r → Follow r slots dnps bound → place + length z ≤ r.up_len * bound → IsRegular r slots dnps place z
+WholePackets = (r : SlotRule) (slots dnps : ℕ → ℕ) (place n bound : ℕ) (z : List Item) → IsSound r → Follow r slots dnps bound
+    → place + length z ≤ r.up_len * bound → IsRegular r slots dnps place z
     → place ≤ r.up_len * n → r.up_len * n < place + r.up_len → AreWhole r slots place n z
 
 -- Across a gap no user packet goes on.
 abbrev pub GapParts : Type 0
-GapParts = (r : SlotRule) (z y : List Item) (frame : ℕ) → IsSound r → user_packets r (z ++ gap frame ∷ y) ≡ user_packets r z ++ user_packets r y
+GapParts = (r : SlotRule) (z y : List Item) (frame : ℕ) → IsSound r → user_packets r (z ++ gap frame ∷ y) ≡ user_packets r z
+    ++ user_packets r y
 
 -- The ISCR of a slot tells it among those of its range.
 abbrev pub IscrOfSlot : Type 0
-IscrOfSlot = (r : SlotRule) (frame slot : ℕ) → IsSound r → InRange r.num r.den r.ticks frame slot → slot_of_iscr r frame (slot_start r.num r.den slot % 2 ^ 22) ≡ Some slot
+IscrOfSlot = (r : SlotRule) (frame slot : ℕ) → IsSound r → InRange r.num r.den r.ticks frame slot
+    → slot_of_iscr r frame (slot_start r.num r.den slot % 2 ^ 22) ≡ Some slot

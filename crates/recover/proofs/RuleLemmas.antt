@@ -1,5 +1,6 @@
 -- Rules that give the same times give the same readback.
-use Rattle.std.proofs.Common.{◌≡◌, ℕ, zero, suc, ◌+◌, ◌-◌, ◌*◌, ◌/◌, ◌%◌, ◌^◌, ◌<◌, ◌≤◌, ◌==◌, ◌&&◌, Bool, List, [], ◌∷◌, ◌++◌, length, map, Option, Some, None, refl, ap, ap₂, ◌∙◌, sym, arith, inl, inr, cond}
+use Rattle.std.proofs.Common.{◌≡◌, ℕ, zero, suc, ◌+◌, ◌-◌, ◌*◌, ◌/◌, ◌%◌, ◌^◌, ◌<◌, ◌≤◌, ◌==◌, ◌&&◌, Bool, List, [], ◌∷◌, ◌++◌}
+use Rattle.std.proofs.Common.{length, map, Option, Some, None, refl, ap, ap₂, ◌∙◌, sym, arith, inl, inr, cond}
 use Rattle.std.specs.Prelude.{nat_le, nat_lt, option_map, unwrap_or}
 use Rattle.std.specs.Int.{div_ceil, ◌∣◌}
 use Rattle.std.specs.List.{range_with_len, find, filter}
@@ -15,7 +16,8 @@ use Rattle.packet_slots.specs.declared.mark.Mark.TheVariants.{Gap, Inside, Next,
 use Rattle.packet_slots.specs.declared.rule.SlotRule.{SlotRule}
 use Rattle.packet_slots.specs.Packets.{packet_of}
 use Rattle.packet_slots.specs.Strings.{Item, values}
-use Rattle.packet_slots.specs.Packets.{UserPacket, slot_of_iscr, slot_by, slot_of, slot_before, slots_at, with_slot, packets_at, user_packets, window, first_item, last_item, dnp_of, is_complete}
+use Rattle.packet_slots.specs.Packets.{UserPacket, slot_of_iscr, slot_by, slot_of, slot_before, slots_at, with_slot, packets_at}
+use Rattle.packet_slots.specs.Packets.{user_packets, window, first_item, last_item, dnp_of, is_complete}
 use Rattle.packet_slots.specs.Readback.{counts, counted, slot_packet}
 use Rattle.packet_slots.specs.Times.{delay_of}
 use Rattle.packet_slots.specs.Records.{Record, string_of, readback}
@@ -50,8 +52,10 @@ module _ (n d a b ticks len : ℕ) (deletes : Bool) (same : SameTimes n d a b) w
 
   iscr_same : (frame iscr : ℕ) → slot_of_iscr r frame iscr ≡ slot_of_iscr s frame iscr
   iscr_same frame iscr =
-      find_same (λ k. slot_start n d k % 2 ^ 22 == iscr) (λ k. slot_start a b k % 2 ^ 22 == iscr) (λ k. ap (λ (v : ℕ). v % 2 ^ 22 == iscr) (same.starts k)) _
-      ∙ ap₂ (λ (x y : ℕ). find (λ k. slot_start a b k % 2 ^ 22 == iscr) (range_with_len x (y - x))) (same.counts ((frame - 1) * ticks)) (same.counts (frame * ticks))
+      find_same (λ k. slot_start n d k % 2 ^ 22 == iscr) (λ k. slot_start a b k % 2 ^ 22 == iscr)
+      (λ k. ap (λ (v : ℕ). v % 2 ^ 22 == iscr) (same.starts k)) _
+      ∙ ap₂ (λ (x y : ℕ). find (λ k. slot_start a b k % 2 ^ 22 == iscr) (range_with_len x (y - x)))
+      (same.counts ((frame - 1) * ticks)) (same.counts (frame * ticks))
 
   by_same : (m : Mark) (frame dnp : ℕ) (before : Option ℕ) → slot_by r m frame dnp before ≡ slot_by s m frame dnp before
   by_same Gap frame dnp before = refl
@@ -61,7 +65,8 @@ module _ (n d a b ticks len : ℕ) (deletes : Bool) (same : SameTimes n d a b) w
 
   slot_same : (w : List Item) (before : Option ℕ) → slot_of r w before ≡ slot_of s w before
   unfolding slot_of
-  slot_same w before = ap (λ (o : Option ℕ). cond {A = Option ℕ} (is_complete w) o None) (by_same (first_item w).mark (first_item w).frame (dnp_of r w) before)
+  slot_same w before = ap (λ (o : Option ℕ). cond {A = Option ℕ} (is_complete w) o None)
+      (by_same (first_item w).mark (first_item w).frame (dnp_of r w) before)
 
   slots_same : (z : List Item) (x : ℕ) → slots_at r z x ≡ slots_at s z x
   unfolding slots_at
@@ -75,38 +80,50 @@ module _ (n d a b ticks len : ℕ) (deletes : Bool) (same : SameTimes n d a b) w
   packets_same z zero = refl
   packets_same z (suc x) =
       ap₂ (λ (l : List UserPacket) (o : Option ℕ). l ++ with_slot (window r z x) o) (packets_same z x)
-      (ap (λ (t : List (Option ℕ)). slot_of r (window r z x) (slot_before r t)) (slots_same z x) ∙ slot_same (window r z x) (slot_before r (slots_at s z x)))
+      (ap (λ (t : List (Option ℕ)). slot_of r (window r z x) (slot_before r t)) (slots_same z x)
+      ∙ slot_same (window r z x) (slot_before r (slots_at s z x)))
 
   delay_same : delay_of r ≡ delay_of s
   delay_same = ap (λ (c : ℕ). c + 1 + 3 * ticks) same.rounded
 
   counts_same : (up : UserPacket) → counts r up ≡ counts s up
   counts_same up =
-      ap₂ (λ (x y : ℕ). nat_le x up.slot && (nat_lt up.slot y && nat_lt ((last_item up.items).frame * ticks) (slot_start n d up.slot + delay_of r)))
+      ap₂ (λ (x y : ℕ).
+      nat_le x up.slot && (nat_lt up.slot y && nat_lt ((last_item up.items).frame * ticks)
+      (slot_start n d up.slot + delay_of r)))
       (same.counts (((first_item up.items).frame - 1) * ticks)) (same.counts ((first_item up.items).frame * ticks))
-      ∙ ap₂ (λ (x y : ℕ). nat_le (slot_count a b (((first_item up.items).frame - 1) * ticks)) up.slot && (nat_lt up.slot (slot_count a b ((first_item up.items).frame * ticks)) && nat_lt ((last_item up.items).frame * ticks) (x + y)))
+      ∙ ap₂ (λ (x y : ℕ). nat_le (slot_count a b (((first_item up.items).frame - 1) * ticks)) up.slot
+      && (nat_lt up.slot (slot_count a b ((first_item up.items).frame * ticks)) && nat_lt ((last_item up.items).frame * ticks)
+      (x + y)))
       (same.starts up.slot) delay_same
 
   counted_same : (z : List Item) → counted r z ≡ counted s z
   unfolding counted
-  counted_same z = filter_same (counts r) (counts s) counts_same (user_packets r z) ∙ ap (filter (counts s)) (packets_same z (length z + 1 - len))
+  counted_same z = filter_same (counts r) (counts s) counts_same (user_packets r z)
+      ∙ ap (filter (counts s)) (packets_same z (length z + 1 - len))
 
   shown_same : (z : List Item) (k : ℕ) → slot_packet r z k ≡ slot_packet s z k
-  shown_same z k = ap (λ (l : List UserPacket). unwrap_or (option_map (λ up. packet_of (values up.items)) (find (λ up. up.slot == k) l)) null_packet) (counted_same z)
+  shown_same z k =
+      ap (λ (l : List UserPacket). unwrap_or (option_map (λ up. packet_of (values up.items)) (find (λ up. up.slot == k) l))
+      null_packet) (counted_same z)
 
   pub readback_same : (first : ℕ) (records : List Record) → readback r first records ≡ readback s first records
   unfolding readback
   readback_same first records =
-      map_by (slot_packet r (string_of len first records)) (slot_packet s (string_of len first records)) (shown_same (string_of len first records)) _
-      ∙ ap₂ (λ (x y : ℕ). map (slot_packet s (string_of len first records)) (range_with_len x (y - x))) (same.counts ((first - 1) * ticks))
-      (ap (λ (delay : ℕ). released_count n d delay ((first + length records) * ticks)) delay_same ∙ same.released (delay_of s) ((first + length records) * ticks))
+      map_by (slot_packet r (string_of len first records)) (slot_packet s (string_of len first records))
+      (shown_same (string_of len first records)) _
+      ∙ ap₂ (λ (x y : ℕ). map (slot_packet s (string_of len first records)) (range_with_len x (y - x)))
+      (same.counts ((first - 1) * ticks))
+      (ap (λ (delay : ℕ). released_count n d delay ((first + length records) * ticks)) delay_same
+      ∙ same.released (delay_of s) ((first + length records) * ticks))
 
 -- A fraction in lower terms.
 
 times_cancel : (g x y : ℕ) → 1 ≤ g → x * g ≤ y * g → x ≤ y
 times_cancel g x y pos l =
     elim (cases_lt y x) [
-      | inl lt ↦ let q : suc y * g ≤ x * g = mul-le-mul_right g lt in let s : suc y * g ≡ y * g + g = omega arith in absurd (omega (arith, q, s, l))
+      | inl lt ↦ let q : suc y * g ≤ x * g = mul-le-mul_right g lt in let s : suc y * g ≡ y * g + g = omega arith in
+          absurd (omega (arith, q, s, l))
       | inr ge ↦ ge
     ]
 
@@ -166,12 +183,16 @@ lower_times n d g a b num_pos den_pos gn gd ea eb =
     }
 
 -- readback by the rule of a PLP is that by its slots and user packets as they stand in the configuration
-pub rule_readback : SlotLength → (c : Config) (plp : ℕ) (r : SlotRule) (first : ℕ) (records : List Record) → AllRules c → plp < length c.plps → IsRule c plp r
+pub rule_readback : SlotLength → (c : Config) (plp : ℕ) (r : SlotRule) (first : ℕ) (records : List Record) → AllRules c
+    → plp < length c.plps → IsRule c plp r
     → readback r first records ≡ readback (slot_rule c plp c.ticks) first records
 rule_readback length_is c plp r first records rules place rule =
     let l = length_is c plp rules place in
     let g = rule.slot in
-    let times : SameTimes r.num r.den (num c) (den c plp) = lower_times (num c) (den c plp) g.0 r.num r.den (omega (arith, l)) (omega (arith, l)) g.1.0 g.1.1 g.2 g.3 in
+    let times : SameTimes r.num r.den (num c) (den c plp) = lower_times (num c) (den c plp) g.0 r.num r.den (omega (arith, l))
+    (omega (arith, l)) g.1.0 g.1.1 g.2 g.3 in
     readback_same r.num r.den (num c) (den c plp) r.ticks r.up_len r.deletes times first records
-    ∙ ap (λ (t : ℕ). readback (record { num = num c; den = den c plp; ticks = t; up_len = r.up_len; deletes = r.deletes }) first records) rule.ticks
-    ∙ ap₂ (λ (u : ℕ) (b : Bool). readback (record { num = num c; den = den c plp; ticks = c.ticks; up_len = u; deletes = b }) first records) rule.up_len rule.deletes
+    ∙ ap (λ (t : ℕ). readback (record { num = num c; den = den c plp; ticks = t; up_len = r.up_len; deletes = r.deletes }) first
+    records) rule.ticks
+    ∙ ap₂ (λ (u : ℕ) (b : Bool). readback (record { num = num c; den = den c plp; ticks = c.ticks; up_len = u; deletes = b })
+    first records) rule.up_len rule.deletes

@@ -1,5 +1,7 @@
 -- The user packets of the records of a gateway's frames: those that stand whole in runs of frames that are not muted.
-use Rattle.std.proofs.Common.{◌≡◌, ◌⊎◌, ℕ, zero, suc, ◌+◌, ◌-◌, ◌*◌, ◌<◌, ◌≤◌, ◌&&◌, Bool, true, false, List, [], ◌∷◌, ◌++◌, length, map, take, drop, get_or, Some, refl, ap, ap₂, ◌∙◌, sym, subst, arith, inl, inr, cond, add-one, append-nil, append_assoc, length-take, length-drop, length-append}
+use Rattle.std.proofs.Common.{◌≡◌, ◌⊎◌, ℕ, zero, suc, ◌+◌, ◌-◌, ◌*◌, ◌<◌, ◌≤◌, ◌&&◌, Bool, true, false, List, [], ◌∷◌, ◌++◌}
+use Rattle.std.proofs.Common.{length, map, take, drop, get_or, Some, refl, ap, ap₂, ◌∙◌, sym, subst, arith, inl, inr, cond}
+use Rattle.std.proofs.Common.{add-one, append-nil, append_assoc, length-take, length-drop, length-append}
 use Rattle.std.specs.Int.{div_ceil}
 use Rattle.std.specs.List.{AllByRecursion}
 use Rattle.std.proofs.lemmas.List.{get_or-take, get_or-drop, length-map}
@@ -38,7 +40,8 @@ value_at (x ∷ z) zero = refl
 value_at (x ∷ z) (suc j) = value_at z j
 
 module _ (c : Config) (plp ticks : ℕ) (packet : ℕ → List ℕ) (end : ℕ) (law : F.Sending) (is : F.IsGateway c plp ticks packet)
-    (follow : Follow (F.r c plp ticks packet end law is) (F.slots c plp ticks packet end law is) (F.dnps c plp ticks packet end law is) (length (kept_slots (F.keeps c plp ticks packet end law is) end))) where
+    (follow : Follow (F.r c plp ticks packet end law is) (F.slots c plp ticks packet end law is)
+    (F.dnps c plp ticks packet end law is) (length (kept_slots (F.keeps c plp ticks packet end law is) end))) where
   abbrev r : SlotRule
   r = slot_rule c plp ticks
 
@@ -76,12 +79,14 @@ module _ (c : Config) (plp ticks : ℕ) (packet : ℕ → List ℕ) (end : ℕ) 
       omega (arith, q, w, h)
 
   pub before_rises : (a b : ℕ) → a ≤ b → sent_before rates keeps a ≤ sent_before rates keeps b
-  before_rises a b l = let e : a + (b - a) ≡ b = omega arith in subst (λ (k : ℕ). sent_before rates keeps a ≤ sent_before rates keeps k) e (rises_by (b - a) a)
+  before_rises a b l = let e : a + (b - a) ≡ b = omega arith in
+      subst (λ (k : ℕ). sent_before rates keeps a ≤ sent_before rates keeps k) e (rises_by (b - a) a)
 
   pub within_end : (m : ℕ) → slots_by c plp (m * ticks) ≤ end → sent_before rates keeps m ≤ len * length (kept_slots keeps end)
   within_end m l =
       let a = law.within rates keeps m is.within.slot in
-      let b : len * length (kept_slots keeps (slots_by c plp (m * ticks))) ≤ len * length (kept_slots keeps end) = mul-le-mul_left len (kept_least keeps (slots_by c plp (m * ticks)) end l) in
+      let b : len * length (kept_slots keeps (slots_by c plp (m * ticks))) ≤ len * length (kept_slots keeps end) =
+      mul-le-mul_left len (kept_least keeps (slots_by c plp (m * ticks)) end l) in
       omega (arith, a, b)
 
   -- of these frames some are muted
@@ -111,7 +116,8 @@ module _ (c : Config) (plp ticks : ℕ) (packet : ℕ → List ℕ) (end : ℕ) 
       are : AreWhole r slots place (div_ceil place len) z
       are =
           let p = ceil_parts place len one in
-          whole_packets r slots (F.dnps c plp ticks packet end law is) place (div_ceil place len) (length (kept_slots keeps end)) z is.sound follow fits run.bytes.regular p.0 p.1
+          whole_packets r slots (F.dnps c plp ticks packet end law is) place (div_ceil place len)
+          (length (kept_slots keeps end)) z is.sound follow fits run.bytes.regular p.0 p.1
 
       module _ (n : ℕ) (from : place ≤ len * n) (inside_is : len * n + len ≤ place + length z) where
         abbrev i : ℕ
@@ -132,13 +138,15 @@ module _ (c : Config) (plp ticks : ℕ) (packet : ℕ → List ℕ) (end : ℕ) 
         byte_at : (j : ℕ) → j < len → F.IsByte c plp ticks packet end law is (len * n + j) (at z (i + j))
         byte_at j l =
             let e : place + (i + j) ≡ len * n + j = omega (arith, from) in
-            subst (λ (p : ℕ). F.IsByte c plp ticks packet end law is p (at z (i + j))) e (run.bytes.each (i + j) (omega (arith, from, inside_is, l)))
+            subst (λ (p : ℕ). F.IsByte c plp ticks packet end law is p (at z (i + j))) e
+            (run.bytes.each (i + j) (omega (arith, from, inside_is, l)))
 
         even : IsEven (plp_at c.plps plp).delete packet len end
         even = string_even (plp_at c.plps plp).delete packet len end (F.size_of c plp ticks packet end law is)
 
         bytes : values w ≡ user_packet (plp_at c.plps plp).delete packet (slots n)
-        bytes = same_list (values w) (user_packet (plp_at c.plps plp).delete packet (slots n)) (length-map w (λ (x : Item). x.value) ∙ long ∙ sym (F.size_of c plp ticks packet end law is (slots n)))
+        bytes = same_list (values w) (user_packet (plp_at c.plps plp).delete packet (slots n))
+            (length-map w (λ (x : Item). x.value) ∙ long ∙ sym (F.size_of c plp ticks packet end law is (slots n)))
             (λ j l. let lt : j < len = omega (arith, l, length-map w (λ (x : Item). x.value), long) in
             value_at w j ∙ ap (λ (x : Item). x.value) (item_is j lt) ∙ (byte_at j lt).value ∙ even.byte n j inside lt)
 
@@ -188,15 +196,18 @@ module _ (c : Config) (plp ticks : ℕ) (packet : ℕ → List ℕ) (end : ℕ) 
         first_frame : (first_item w).frame ≡ begun
         first_frame =
             let z_is : i + 0 ≡ i = omega arith in
-            ap (λ (k : ℕ). (first_item (take k (drop i z))).frame) len_is ∙ ap (λ (x : Item). x.frame) (first_is z i (len - 1) ∙ sym (ap (at z) z_is))
+            ap (λ (k : ℕ). (first_item (take k (drop i z))).frame) len_is
+            ∙ ap (λ (x : Item). x.frame) (first_is z i (len - 1) ∙ sym (ap (at z) z_is))
 
         last_frame : (last_item w).frame ≡ ended
-        last_frame = ap (λ (k : ℕ). (last_item (take k (drop i z))).frame) len_is ∙ ap (λ (x : Item). x.frame) (last_is no_item z i (len - 1) (omega (arith, from, inside_is, one)))
+        last_frame = ap (λ (k : ℕ). (last_item (take k (drop i z))).frame) len_is
+            ∙ ap (λ (x : Item). x.frame) (last_is no_item z i (len - 1) (omega (arith, from, inside_is, one)))
 
         count_is : counts r (up_of r slots place z n) ≡ true
         count_is =
             ap₂ (λ (b e : ℕ). counts_of b e) first_frame last_frame
-            ∙ ap₂ (λ (a b : Bool). a && b) (le-leb _ _ range.0) (ap₂ (λ (a b : Bool). a && b) (lt-ltb _ _ range.1) (lt-ltb _ _ early))
+            ∙ ap₂ (λ (a b : Bool). a && b) (le-leb _ _ range.0)
+            (ap₂ (λ (a b : Bool). a && b) (lt-ltb _ _ range.1) (lt-ltb _ _ early))
           where
             counts_of : ℕ → ℕ → Bool
             counts_of b e = counts_by r (delay_of r) (slots n) b e
@@ -235,7 +246,8 @@ module _ (c : Config) (plp ticks : ℕ) (packet : ℕ → List ℕ) (end : ℕ) 
                 absurd (omega (arith, p, q, s, from))
             | inr ge ↦ ge
           ] in
-          subst (Has (slots n)) (sym a.packets) (has_in_range (up_of r slots place z) a.count (div_ceil place len) n k (a.all n k (omega (arith, e, l))))
+          subst (Has (slots n)) (sym a.packets) (has_in_range (up_of r slots place z) a.count (div_ceil place len) n k
+          (a.all n k (omega (arith, e, l))))
 
     -- the items of so many records from frame m on
     abbrev pub rest_items : ℕ → ℕ → List Item
@@ -245,29 +257,40 @@ module _ (c : Config) (plp ticks : ℕ) (packet : ℕ → List ℕ) (end : ℕ) 
     unfolding string_of
     rest_none m = refl
 
-    rest_more : (m j : ℕ) → rest_items m (suc j) ≡ record_items len m (told_record c plp ticks packet muted m) ++ rest_items (m + 1) j
+    rest_more : (m j : ℕ) → rest_items m (suc j) ≡ record_items len m (told_record c plp ticks packet muted m)
+        ++ rest_items (m + 1) j
     unfolding string_of
     rest_more m j = refl
 
-    rest_by : (m j : ℕ) (b : Bool) → muted m ≡ b → rest_items m (suc j) ≡ record_items len m (cond b muted_record (framed_record (map Some (told_blocks c plp ticks packet m)))) ++ rest_items (m + 1) j
-    rest_by m j b e = rest_more m j ∙ ap (λ (t : Bool). record_items len m (cond t muted_record (framed_record (map Some (told_blocks c plp ticks packet m)))) ++ rest_items (m + 1) j) e
+    rest_by : (m j : ℕ) (b : Bool) → muted m ≡ b → rest_items m (suc j)
+        ≡ record_items len m (cond b muted_record (framed_record (map Some (told_blocks c plp ticks packet m))))
+        ++ rest_items (m + 1) j
+    rest_by m j b e =
+        rest_more m j
+        ∙ ap (λ (t : Bool). record_items len m (cond t muted_record (framed_record (map Some (told_blocks c plp ticks packet m))))
+        ++ rest_items (m + 1) j) e
 
     pub record Gives (m j place : ℕ) (z : List Item) : Type 0 where
       pub all : AllByRecursion IsOwn (user_packets r (z ++ rest_items m j))
-      pub has : (n : ℕ) → place ≤ len * n → len * n + len ≤ sent_before rates keeps (first + count) → ((i : ℕ) → m ≤ i → i < first + count → muted i ≡ true → Misses i n) → Has (slots n) (user_packets r (z ++ rest_items m j))
+      pub has : (n : ℕ) → place ≤ len * n → len * n + len ≤ sent_before rates keeps (first + count)
+          → ((i : ℕ) → m ≤ i → i < first + count → muted i ≡ true → Misses i n)
+          → Has (slots n) (user_packets r (z ++ rest_items m j))
 
     pub gives : (j m place : ℕ) (z : List Item) → m + j ≡ first + count → IsRun m place z → Gives m j place z
     gives zero m place z e run =
         let here : m ≡ first + count = omega (arith, e) in
         let same : z ++ rest_items m 0 ≡ z = ap (λ (l : List Item). z ++ l) (rest_none m) ∙ append-nil z in
         record {
-          all = subst (λ (l : List Item). AllByRecursion IsOwn (user_packets r l)) (sym same) (run_own m place z (omega (arith, here)) run);
+          all = subst (λ (l : List Item). AllByRecursion IsOwn (user_packets r l)) (sym same)
+              (run_own m place z (omega (arith, here)) run);
           has = λ n from l misses. subst (λ (l : List Item). Has (slots n) (user_packets r l)) (sym same)
-              (run_has m place z (omega (arith, here)) run n from (let q = ap (sent_before rates keeps) here in omega (arith, q, l)));
+              (run_has m place z (omega (arith, here)) run n from (let q = ap (sent_before rates keeps) here in
+              omega (arith, q, l)));
         }
     gives (suc j) m place z e run = go (muted m) refl (λ p y next. gives j (m + 1) p y (omega (arith, e)) next)
       where
-        go : (b : Bool) → muted m ≡ b → ((p : ℕ) (y : List Item) → IsRun (m + 1) p y → Gives (m + 1) j p y) → Gives m (suc j) place z
+        go : (b : Bool) → muted m ≡ b → ((p : ℕ) (y : List Item) → IsRun (m + 1) p y → Gives (m + 1) j p y)
+            → Gives m (suc j) place z
         go true on next =
             let to : m ≤ first + count = omega (arith, e) in
             let after : IsRun (m + 1) (sent rates keeps m) [] = record {
@@ -281,12 +304,16 @@ module _ (c : Config) (plp ticks : ℕ) (packet : ℕ → List ℕ) (end : ℕ) 
             } in
             let g = next (sent rates keeps m) [] after in
             let parts : user_packets r (z ++ rest_items m (suc j)) ≡ user_packets r z ++ user_packets r (rest_items (m + 1) j) =
-            ap (λ (l : List Item). user_packets r (z ++ l)) (rest_by m j true on) ∙ gap_parts r z (rest_items (m + 1) j) m is.sound in
+            ap (λ (l : List Item). user_packets r (z ++ l)) (rest_by m j true on)
+            ∙ gap_parts r z (rest_items (m + 1) j) m is.sound in
             record {
-              all = subst (AllByRecursion IsOwn) (sym parts) (all_append IsOwn (user_packets r z) (user_packets r (rest_items (m + 1) j)) (run_own m place z to run) g.all);
+              all = subst (AllByRecursion IsOwn) (sym parts)
+                  (all_append IsOwn (user_packets r z) (user_packets r (rest_items (m + 1) j)) (run_own m place z to run) g.all);
               has = λ n from l misses. subst (Has (slots n)) (sym parts) (elim (misses m (omega arith) (omega (arith, e)) on) [
-                | inl before ↦ has_right (slots n) (user_packets r z) (user_packets r (rest_items (m + 1) j)) (g.has n before l (λ i a b t. misses i (omega arith) b t))
-                | inr behind ↦ has_left (slots n) (user_packets r z) (user_packets r (rest_items (m + 1) j)) (run_has m place z to run n from behind)
+                | inl before ↦ has_right (slots n) (user_packets r z) (user_packets r (rest_items (m + 1) j))
+                    (g.has n before l (λ i a b t. misses i (omega arith) b t))
+                | inr behind ↦ has_left (slots n) (user_packets r z) (user_packets r (rest_items (m + 1) j))
+                    (run_has m place z to run n from behind)
               ]);
             }
         go false off next =
@@ -297,7 +324,8 @@ module _ (c : Config) (plp ticks : ℕ) (packet : ℕ → List ℕ) (end : ℕ) 
             let s = frame.size in
             let q = before_next m in
             let after : IsRun (m + 1) place y = record {
-              bytes = F.bytes_join c plp ticks packet end law is place z (frame_items m) run.bytes (subst (λ (p : ℕ). AreBytes p (frame_items m)) (sym t) frame.bytes);
+              bytes = F.bytes_join c plp ticks packet end law is place z (frame_items m) run.bytes
+                  (subst (λ (p : ℕ). AreBytes p (frame_items m)) (sym t) frame.bytes);
               reaches = omega (arith, length-append z (frame_items m), s, t, w, q);
               past = λ i a b on. elim (cases_eq i m) [
                 | inl same ↦ absurd (both_ways _ off (ap muted (sym same) ∙ on))
@@ -306,8 +334,10 @@ module _ (c : Config) (plp ticks : ℕ) (packet : ℕ → List ℕ) (end : ℕ) 
             } in
             let g = next place y after in
             let same : z ++ rest_items m (suc j) ≡ y ++ rest_items (m + 1) j =
-            ap (λ (l : List Item). z ++ l) (rest_by m j false off) ∙ sym (append_assoc z (frame_items m) (rest_items (m + 1) j)) in
+            ap (λ (l : List Item). z ++ l) (rest_by m j false off)
+            ∙ sym (append_assoc z (frame_items m) (rest_items (m + 1) j)) in
             record {
               all = subst (λ (l : List Item). AllByRecursion IsOwn (user_packets r l)) (sym same) g.all;
-              has = λ n from l misses. subst (λ (l : List Item). Has (slots n) (user_packets r l)) (sym same) (g.has n from l (λ i a b on. misses i (omega arith) b on));
+              has = λ n from l misses. subst (λ (l : List Item). Has (slots n) (user_packets r l)) (sym same)
+                  (g.has n from l (λ i a b on. misses i (omega arith) b on));
             }

@@ -1,5 +1,6 @@
 -- The user packets of a string of the gateway, as a list.
-use Rattle.std.proofs.Common.{◌≡◌, ℕ, zero, suc, ◌+◌, ◌-◌, ◌*◌, ◌%◌, ◌^◌, ◌<◌, ◌≤◌, List, [], ◌∷◌, ◌++◌, length, map, take, drop, Option, None, refl, ap, ap₂, ◌∙◌, sym, arith, inl, inr, append-nil, append_assoc}
+use Rattle.std.proofs.Common.{◌≡◌, ℕ, zero, suc, ◌+◌, ◌-◌, ◌*◌, ◌%◌, ◌^◌, ◌<◌, ◌≤◌, List, [], ◌∷◌, ◌++◌, length, map, take, drop}
+use Rattle.std.proofs.Common.{Option, None, refl, ap, ap₂, ◌∙◌, sym, arith, inl, inr, append-nil, append_assoc}
 use Rattle.std.specs.List.{range_with_len}
 use Rattle.std.proofs.lemmas.Bool.{cases_lt, cases_eq}
 use Rattle.std.proofs.lemmas.List.{drop_more}
@@ -9,7 +10,8 @@ use Rattle.plp_config.specs.SlotTime.{slot_start}
 use Rattle.plp_config.specs.Laws.{IscrFindsSlot}
 use Rattle.packet_slots.specs.declared.rule.SlotRule.{SlotRule}
 use Rattle.packet_slots.specs.Strings.{Item, gap, is_start}
-use Rattle.packet_slots.specs.Packets.{UserPacket, is_one, no_item, slot_of, slot_before, slots_at, window, with_slot, packets_at, user_packets}
+use Rattle.packet_slots.specs.Packets.{UserPacket, is_one, no_item, slot_of, slot_before, slots_at, window, with_slot, packets_at}
+use Rattle.packet_slots.specs.Packets.{user_packets}
 use Rattle.packet_slots.specs.Machine.{State, state_of, turn, after, given}
 use Rattle.packet_slots.specs.Sound.{IsSound}
 use Rattle.packet_slots.proofs.OneLemmas.{none_alone}
@@ -22,11 +24,13 @@ use Rattle.recover.proofs.RegularLemmas.{own_slots}
 
 -- the user packets that begin below a place, place by place
 packets_by : (r : SlotRule) (z : List Item) → (packets_at r z 0 ≡ [])
-    × ((x : ℕ) → packets_at r z (suc x) ≡ packets_at r z x ++ with_slot (window r z x) (slot_of r (window r z x) (slot_before r (slots_at r z x))))
+    × ((x : ℕ) → packets_at r z (suc x) ≡ packets_at r z x ++ with_slot (window r z x)
+    (slot_of r (window r z x) (slot_before r (slots_at r z x))))
 unfolding packets_at
 packets_by r z = (refl, λ x. refl)
 
-module _ (r : SlotRule) (slots dnps : ℕ → ℕ) (place n bound : ℕ) (z : List Item) (sound : IsSound r) (follow : Follow r slots dnps bound) (fits : place + length z ≤ r.up_len * bound) (reg : IsRegular r slots dnps place z)
+module _ (r : SlotRule) (slots dnps : ℕ → ℕ) (place n bound : ℕ) (z : List Item) (sound : IsSound r)
+    (follow : Follow r slots dnps bound) (fits : place + length z ≤ r.up_len * bound) (reg : IsRegular r slots dnps place z)
     (least : place ≤ r.up_len * n) (close : r.up_len * n < place + r.up_len) where
   pub record UpTo (x : ℕ) : Type 0 where
     pub count : ℕ
@@ -38,7 +42,8 @@ module _ (r : SlotRule) (slots dnps : ℕ → ℕ) (place n bound : ℕ) (z : Li
   more_len c = omega arith
 
   -- a place inside a user packet begins none
-  none_inside : (x m t : ℕ) → place + x ≡ r.up_len * m + t → 1 ≤ t → t < r.up_len → x + r.up_len ≤ length z → slot_of r (window r z x) (slot_before r (slots_at r z x)) ≡ None
+  none_inside : (x m t : ℕ) → place + x ≡ r.up_len * m + t → 1 ≤ t → t < r.up_len → x + r.up_len ≤ length z
+      → slot_of r (window r z x) (slot_before r (slots_at r z x)) ≡ None
   none_inside x m t e a b l =
       let u = sound.up in
       let some : x < length z = omega (arith, u) in
@@ -49,7 +54,14 @@ module _ (r : SlotRule) (slots dnps : ℕ → ℕ) (place n bound : ℕ) (z : Li
       (ap is_one split ∙ none_alone (at z x) (take (r.up_len - 1) (drop (x + 1) z)) (ap is_start (reg.inner m t x e a b some)))
 
   up_to : (x : ℕ) → x + r.up_len ≤ length z + 1 → UpTo x
-  up_to zero l = record { count = 0; packets = (packets_by r z).0; above = let e : n + 0 ≡ n = omega arith in let f = ap (λ (k : ℕ). r.up_len * k) e in omega (arith, f, least); near = let e : n + 0 ≡ n = omega arith in let f = ap (λ (k : ℕ). r.up_len * k) e in omega (arith, f, close) }
+  up_to zero l = record {
+    count = 0;
+    packets = (packets_by r z).0;
+    above = let e : n + 0 ≡ n = omega arith in
+        let f = ap (λ (k : ℕ). r.up_len * k) e in omega (arith, f, least);
+    near = let e : n + 0 ≡ n = omega arith in let f =
+        ap (λ (k : ℕ). r.up_len * k) e in omega (arith, f, close);
+  }
   up_to (suc x) l = go (up_to x (omega arith))
     where
       go : UpTo x → UpTo (suc x)
@@ -66,23 +78,27 @@ module _ (r : SlotRule) (slots dnps : ℕ → ℕ) (place n bound : ℕ) (z : Li
                   packets =
                       (packets_by r z).1 x
                       ∙ ap₂ (λ (l : List UserPacket) (o : Option ℕ). l ++ with_slot (window r z x) o) p.packets own
-                      ∙ sym (ap (λ (k : ℕ). map (up_of r slots place z) (range_with_len n p.count) ++ record { slot = slots (n + p.count); items = window r z k } ∷ []) i)
+                      ∙ sym (ap (λ (k : ℕ). map (up_of r slots place z) (range_with_len n p.count)
+                      ++ record { slot = slots (n + p.count); items = window r z k } ∷ []) i)
                       ∙ sym (map-range_with_len_more (up_of r slots place z) n p.count (n + p.count) refl);
                   above = omega (arith, more_len p.count, e, u);
                   near = omega (arith, more_len p.count, e, u);
                 }
             | inr ne ↦
                 let pos : 1 ≤ n + p.count = elim (cases_eq (n + p.count) 0) [
-                  | inl zero_is ↦ let q : r.up_len * (n + p.count) ≡ r.up_len * 0 = ap (λ (k : ℕ). r.up_len * k) zero_is in absurd (omega (arith, q, a, ne))
+                  | inl zero_is ↦ let q : r.up_len * (n + p.count) ≡ r.up_len * 0 = ap (λ (k : ℕ). r.up_len * k) zero_is in
+                      absurd (omega (arith, q, a, ne))
                   | inr some ↦ omega (arith, some)
                 ] in
                 let m : ℕ = n + p.count - 1 in
                 let d : n + p.count ≡ m + 1 = omega (arith, pos) in
                 let s : r.up_len * (n + p.count) ≡ r.up_len * m + r.up_len = ap (λ (k : ℕ). r.up_len * k) d ∙ omega arith in
-                let none = none_inside x m (place + x - r.up_len * m) (omega (arith, s, a, b)) (omega (arith, s, a, b)) (omega (arith, s, a, b, ne)) (omega arith) in
+                let none = none_inside x m (place + x - r.up_len * m) (omega (arith, s, a, b)) (omega (arith, s, a, b))
+                (omega (arith, s, a, b, ne)) (omega arith) in
                 record {
                   count = p.count;
-                  packets = (packets_by r z).1 x ∙ ap (λ (o : Option ℕ). packets_at r z x ++ with_slot (window r z x) o) none ∙ append-nil (packets_at r z x) ∙ p.packets;
+                  packets = (packets_by r z).1 x ∙ ap (λ (o : Option ℕ). packets_at r z x ++ with_slot (window r z x) o) none
+                      ∙ append-nil (packets_at r z x) ∙ p.packets;
                   above = omega (arith, a, ne);
                   near = omega (arith, b);
                 }
@@ -115,13 +131,15 @@ module _ (r : SlotRule) (slots dnps : ℕ → ℕ) (place n bound : ℕ) (z : Li
                   omega (arith, q, s, near);
               all = λ k a b. elim (cases_lt k (n + p.count)) [
                 | inl is ↦ is
-                | inr no_less ↦ absurd (let q = rises (n + p.count) k no_less in let u = sound.up in omega (arith, q, above, b, u))
+                | inr no_less ↦ absurd (let q = rises (n + p.count) k no_less in let u = sound.up in
+                    omega (arith, q, above, b, u))
               ];
             }
       ]
 
 pub whole_packets : WholePackets
-whole_packets r slots dnps place n bound z sound follow fits reg least close = whole r slots dnps place n bound z sound follow fits reg least close
+whole_packets r slots dnps place n bound z sound follow fits reg least close =
+    whole r slots dnps place n bound z sound follow fits reg least close
 
 -- Gaps.
 
@@ -149,7 +167,8 @@ gap_parts r z y frame sound =
     let two : 2 ≤ r.up_len = omega (arith, u) in
     from_start r two (z ++ gap frame ∷ y)
     ∙ given_append r (state_of [] None) z (gap frame ∷ y)
-    ∙ ap₂ (λ (a b : List UserPacket). a ++ b) (sym (from_start r two z)) (gap_given r (after r (state_of [] None) z) frame y ∙ sym (from_start r two y))
+    ∙ ap₂ (λ (a b : List UserPacket). a ++ b) (sym (from_start r two z)) (gap_given r (after r (state_of [] None) z) frame y
+    ∙ sym (from_start r two y))
 
 pub iscr_is : IscrFindsSlot → IscrOfSlot
 iscr_is law r frame slot sound range =

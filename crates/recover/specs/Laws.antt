@@ -24,44 +24,60 @@ FrameIsEpoch = (c : Config) (plp : ℕ) → IsPlan c → plp < length c.plps →
 
 -- The packet of each slot of these epochs but the last one is what they give back of it.
 abbrev pub SlotRecovers : Type 0
-SlotRecovers = (c : Config) (plp ticks : ℕ) (at : ℕ → List ℕ) (muted : ℕ → Bool) (first count k : ℕ) → IsPlan c → plp < length c.plps → IsEpoch c plp ticks → ArePackets at
+SlotRecovers = (c : Config) (plp ticks : ℕ) (at : ℕ → List ℕ) (muted : ℕ → Bool) (first count k : ℕ) → IsPlan c
+    → plp < length c.plps → IsEpoch c plp ticks → ArePackets at
     → slots_by c plp ((first - 1) * ticks) ≤ k → k < slots_by c plp ((first + count - 2) * ticks)
-    → slot_packet (slot_rule c plp ticks) (string_of (up_bytes c plp) first (told_records c plp ticks at muted first count)) k ≡ recovered c plp ticks at (filter muted (range_with_len first count)) k
+    → slot_packet (slot_rule c plp ticks) (string_of (up_bytes c plp) first (told_records c plp ticks at muted first count)) k
+    ≡ recovered c plp ticks at (filter muted (range_with_len first count)) k
 
 -- Readback of the records of epochs is what they give back.
 abbrev pub ReadbackRecovers : Type 0
-ReadbackRecovers = (c : Config) (plp ticks : ℕ) (at : ℕ → List ℕ) (muted : ℕ → Bool) (first count : ℕ) → IsPlan c → plp < length c.plps → IsEpoch c plp ticks → ArePackets at
-    → readback (slot_rule c plp ticks) first (told_records c plp ticks at muted first count) ≡ recover c plp ticks at muted first count
+ReadbackRecovers = (c : Config) (plp ticks : ℕ) (at : ℕ → List ℕ) (muted : ℕ → Bool) (first count : ℕ) → IsPlan c
+    → plp < length c.plps → IsEpoch c plp ticks → ArePackets at
+    → readback (slot_rule c plp ticks) first (told_records c plp ticks at muted first count)
+    ≡ recover c plp ticks at muted first count
 
 -- Each block of an epoch is taken, as what was sent.
 abbrev pub BlocksTaken : Type 0
-BlocksTaken = (c : Config) (plp ticks : ℕ) (at : ℕ → List ℕ) (m : ℕ) → IsPlan c → plp < length c.plps → IsEpoch c plp ticks → (plp_at c.plps plp).id < 2 ^ 8 → ArePackets at
+BlocksTaken = (c : Config) (plp ticks : ℕ) (at : ℕ → List ℕ) (m : ℕ) → IsPlan c → plp < length c.plps → IsEpoch c plp ticks
+    → (plp_at c.plps plp).id < 2 ^ 8 → ArePackets at
     → AllZip (IsTaken (plp_at c.plps plp).delete) (blocks_of c plp ticks at m) (told_blocks c plp ticks at m)
 
--- What a PLP is given back of the records of a plan's frames, of which those that are not whole are muted, is what the frames give back.
+-- What a PLP is given back of the records of a plan's frames, of which those that are not whole are muted, is what the frames
+-- give back.
 abbrev pub RunRecovers : Type 0
-RunRecovers = (c : Config) (plp : ℕ) (inputs : ℕ → List (List ℕ)) (whole : ℕ → Bool) (first count : ℕ) (packets : List (List ℕ)) → IsPlan c → TypesFit c → plp < length c.plps
-    → AllByRecursion IsPacket (inputs plp) → Readback c plp first (map (record_of c inputs whole) (range_with_len first count)) packets
+RunRecovers = (c : Config) (plp : ℕ) (inputs : ℕ → List (List ℕ)) (whole : ℕ → Bool) (first count : ℕ) (packets : List (List ℕ))
+    → IsPlan c → TypesFit c → plp < length c.plps
+    → AllByRecursion IsPacket (inputs plp)
+    → Readback c plp first (map (record_of c inputs whole) (range_with_len first count)) packets
     → packets ≡ recover c plp c.ticks (packet_at (inputs plp)) (λ m. not (whole m)) first count
 
 -- So it is of all records of a run, by the frame from which on they are on the grid.
 abbrev pub RecordsRecover : Type 0
-RecordsRecover = (c : Config) (plp : ℕ) (inputs : ℕ → List (List ℕ)) (whole : ℕ → Bool) (end first : ℕ) (packets : List (List ℕ)) → IsPlan c → TypesFit c → plp < length c.plps
-    → AllByRecursion IsPacket (inputs plp) → IsOnGrid c first (records c inputs whole end) → Readback c plp first (records c inputs whole end) packets
+RecordsRecover = (c : Config) (plp : ℕ) (inputs : ℕ → List (List ℕ)) (whole : ℕ → Bool) (end first : ℕ) (packets : List (List ℕ))
+    → IsPlan c → TypesFit c → plp < length c.plps
+    → AllByRecursion IsPacket (inputs plp) → IsOnGrid c first (records c inputs whole end)
+    → Readback c plp first (records c inputs whole end) packets
     → packets ≡ recover c plp c.ticks (packet_at (inputs plp)) (λ m. not (whole m)) first (length (records c inputs whole end))
 
 -- If null packets are deleted, a null packet is the canonical one.
 abbrev pub IsCanonical : Bool → List ℕ → Type 0
 IsCanonical deletes packet = deletes ≡ true → is_null packet ≡ true → packet ≡ null_packet
 
--- If all frames are whole, and the null packets of the input are canonical if they are deleted, it is the packets of the slots that are due.
+-- If all frames are whole, and the null packets of the input are canonical if they are deleted, it is the packets of the slots
+-- that are due.
 abbrev pub WholeComesBack : Type 0
-WholeComesBack = (c : Config) (plp : ℕ) (inputs : ℕ → List (List ℕ)) (whole : ℕ → Bool) (first count : ℕ) (packets : List (List ℕ)) → IsPlan c → TypesFit c → plp < length c.plps
-    → AllByRecursion IsPacket (inputs plp) → AllByRecursion (IsCanonical (plp_at c.plps plp).delete) (inputs plp) → ((m : ℕ) → first ≤ m → m < first + count → whole m ≡ true)
-    → Readback c plp first (map (record_of c inputs whole) (range_with_len first count)) packets → packets ≡ map (packet_at (inputs plp)) (due_slots c plp c.ticks first count)
+WholeComesBack = (c : Config) (plp : ℕ) (inputs : ℕ → List (List ℕ)) (whole : ℕ → Bool) (first count : ℕ)
+    (packets : List (List ℕ)) → IsPlan c → TypesFit c → plp < length c.plps
+    → AllByRecursion IsPacket (inputs plp) → AllByRecursion (IsCanonical (plp_at c.plps plp).delete) (inputs plp)
+    → ((m : ℕ) → first ≤ m → m < first + count → whole m ≡ true)
+    → Readback c plp first (map (record_of c inputs whole) (range_with_len first count)) packets
+    → packets ≡ map (packet_at (inputs plp)) (due_slots c plp c.ticks first count)
 
 -- And of all frames of a run it is the packets of the input, and null packets behind them.
 abbrev pub RunComesBack : Type 0
-RunComesBack = (c : Config) (plp : ℕ) (inputs : ℕ → List (List ℕ)) (packets : List (List ℕ)) → IsPlan c → TypesFit c → plp < length c.plps
-    → AllByRecursion IsPacket (inputs plp) → AllByRecursion (IsCanonical (plp_at c.plps plp).delete) (inputs plp) → Readback c plp 0 (run_frames c inputs) packets
+RunComesBack = (c : Config) (plp : ℕ) (inputs : ℕ → List (List ℕ)) (packets : List (List ℕ)) → IsPlan c → TypesFit c
+    → plp < length c.plps
+    → AllByRecursion IsPacket (inputs plp) → AllByRecursion (IsCanonical (plp_at c.plps plp).delete) (inputs plp)
+    → Readback c plp 0 (run_frames c inputs) packets
     → (nulls : ℕ) × (packets ≡ inputs plp ++ replicate nulls null_packet)

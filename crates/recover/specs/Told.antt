@@ -1,6 +1,7 @@
 -- What a gateway sends for a PLP, epoch by epoch, as records tell it to a receiver. Here an epoch of so many ticks stands for a
 -- frame, and in each slot of the PLP is the packet that `at` tells.
-use Rattle.std.specs.Prelude.{◌≡◌, ◌<◌, ◌≤◌, ℕ, ◌+◌, ◌-◌, ◌*◌, ◌^◌, Bool, List, map, length, slice_index, min, Some, if◌then◌else◌}
+use Rattle.std.specs.Prelude.{◌≡◌, ◌<◌, ◌≤◌, ℕ, ◌+◌, ◌-◌, ◌*◌, ◌^◌, Bool, List, map, length, slice_index, min, Some}
+use Rattle.std.specs.Prelude.{if◌then◌else◌}
 use Rattle.std.specs.List.{range_with_len}
 use Rattle.ts_packet.specs.declared.sizes.TheConstants.{SIZE, SYNC}
 use Rattle.plp_config.specs.Capacity.{field_bytes, up_bytes, capacity}
@@ -34,21 +35,27 @@ pub record IsEpoch (c : Config) (plp ticks : ℕ) : Type 0 where
 
 -- the slots and the user packets of the PLP, as a receiver counts them
 abbrev pub slot_rule : Config → ℕ → ℕ → SlotRule
-slot_rule c plp ticks = record { num = num c; den = den c plp; ticks = ticks; up_len = up_bytes c plp; deletes = (plp_at c.plps plp).delete }
+slot_rule c plp ticks =
+    record { num = num c; den = den c plp; ticks = ticks; up_len = up_bytes c plp; deletes = (plp_at c.plps plp).delete }
 
 -- the block from place x on and up to place y, of the string of the slots below n: what its header and its data field tell
 abbrev pub told_block : Config → ℕ → (ℕ → List ℕ) → ℕ → ℕ → ℕ → Block
 told_block c plp at n x y =
-    block_read (header_at c plp x (y - x) (with_place (up_bytes c plp) (plp_keeps c plp at) (first_up (up_bytes c plp) (plp_keeps c plp at) n x y))) (data_field c plp at n x y)
+    block_read
+    (header_at c plp x (y - x)
+    (with_place (up_bytes c plp) (plp_keeps c plp at) (first_up (up_bytes c plp) (plp_keeps c plp at) n x y)))
+    (data_field c plp at n x y)
 
 -- the blocks that carry the bytes from place x up to y
 abbrev pub told_between : Config → ℕ → (ℕ → List ℕ) → ℕ → ℕ → ℕ → List Block
-told_between c plp at n x y = map (λ from. told_block c plp at n from (min (from + field_bytes c plp) y)) (block_places (field_bytes c plp) x y)
+told_between c plp at n x y = map (λ from. told_block c plp at n from (min (from + field_bytes c plp) y))
+    (block_places (field_bytes c plp) x y)
 
 -- the blocks of epoch m
 abbrev pub told_blocks : Config → ℕ → ℕ → (ℕ → List ℕ) → ℕ → List Block
 told_blocks c plp ticks at m =
-    told_between c plp at (slots_by c plp (m * ticks)) (sent_before (rates_of c plp ticks) (plp_keeps c plp at) m) (sent (rates_of c plp ticks) (plp_keeps c plp at) m)
+    told_between c plp at (slots_by c plp (m * ticks)) (sent_before (rates_of c plp ticks) (plp_keeps c plp at) m)
+    (sent (rates_of c plp ticks) (plp_keeps c plp at) m)
 
 -- the record of epoch m: muted, or with all its blocks
 abbrev pub told_record : Config → ℕ → ℕ → (ℕ → List ℕ) → (ℕ → Bool) → ℕ → Record

@@ -1,5 +1,6 @@
 -- What comes of a run of which all units are kept: the bytes that the gateway writes, and the frames of the run.
-use Rattle.std.proofs.Common.{◌≡◌, ◌≢◌, ◌⊎◌, inl, inr, ℕ, zero, suc, ◌+◌, ◌<◌, ◌≤◌, ◌==◌, Bool, true, List, [], ◌∷◌, ◌++◌, map, length, replicate, Some, None, refl, ap, ap₂, sym, subst, ◌∙◌, ⊎_elim, arith}
+use Rattle.std.proofs.Common.{◌≡◌, ◌≢◌, ◌⊎◌, inl, inr, ℕ, zero, suc, ◌+◌, ◌<◌, ◌≤◌, ◌==◌, Bool, true, List, [], ◌∷◌, ◌++◌, map}
+use Rattle.std.proofs.Common.{length, replicate, Some, None, refl, ap, ap₂, sym, subst, ◌∙◌, ⊎_elim, arith}
 use Rattle.std.proofs.Math.Path.{fun_ext}
 use Rattle.std.specs.List.{items_where_true, last_or, list_all}
 use Rattle.std.specs.Option.{option_map_or}
@@ -36,7 +37,9 @@ whole_arrives c inputs = sym (left_all (pipe c.pid (packets_of c inputs)))
 
 all_begun : (xs : List Item) (at : ℕ) (packets : List (List ℕ)) → begun_from xs 0 at packets ≡ replicate (length packets) true
 all_begun xs at [] = refl
-all_begun xs at (packet ∷ packets) = ap₂ (λ (t : Bool) (flags : List Bool). t ∷ flags) (le-leb 0 (unit_number xs at) (omega arith)) (all_begun xs (at + length packet) packets)
+all_begun xs at (packet ∷ packets) =
+    ap₂ (λ (t : Bool) (flags : List Bool). t ∷ flags) (le-leb 0 (unit_number xs at) (omega arith))
+    (all_begun xs (at + length packet) packets)
 
 abbrev all_survive : List Sent → List Bool
 all_survive sent = replicate (length sent) true
@@ -48,17 +51,21 @@ all_left (s ∷ sent) = ap (λ (l : List Sent). s ∷ l) (all_left sent)
 each_whole : (sent : List Sent) (n : ℕ) → is_whole sent (all_survive sent) n ≡ true
 each_whole [] n = refl
 each_whole (s ∷ sent) n =
-    cond_both {A = List (Sent × Bool)} (s.frame == n) _ _ (λ l. list_all (λ (p : Sent × Bool). p.1) l ≡ true) (λ t. each_whole sent n) (λ t. each_whole sent n)
+    cond_both {A = List (Sent × Bool)} (s.frame == n) _ _ (λ l. list_all (λ (p : Sent × Bool). p.1) l ≡ true)
+    (λ t. each_whole sent n) (λ t. each_whole sent n)
 
 -- ---- the last packet is of the last frame
 
-own_or_later : (k : ℕ) (s : Sent) (sent : List Sent) → frame_packets k (s ∷ sent) ≢ [] → (k < s.frame + 1) ⊎ (frame_packets k sent ≢ [])
+own_or_later : (k : ℕ) (s : Sent) (sent : List Sent) → frame_packets k (s ∷ sent) ≢ [] → (k < s.frame + 1)
+    ⊎ (frame_packets k sent ≢ [])
 own_or_later k s sent some = ⊎_elim
     (λ (e : s.frame ≡ k). inl (omega (arith, e)))
-    (λ (e : s.frame ≡ k → ⊥). inr (λ none. some (ap (map (λ (x : Sent). x.packet)) (cond-false (s.frame == k) _ _ (ne_eqb s.frame k e)) ∙ none)))
+    (λ (e : s.frame ≡ k → ⊥).
+    inr (λ none. some (ap (map (λ (x : Sent). x.packet)) (cond-false (s.frame == k) _ _ (ne_eqb s.frame k e)) ∙ none)))
     (cases_eq s.frame k)
 
-last_above : (frames k : ℕ) (b : Sent) (sent : List Sent) → InFrameOrder frames (Some b.frame) sent → (k < b.frame + 1) ⊎ (frame_packets k sent ≢ [])
+last_above : (frames k : ℕ) (b : Sent) (sent : List Sent) → InFrameOrder frames (Some b.frame) sent → (k < b.frame + 1)
+    ⊎ (frame_packets k sent ≢ [])
     → k < option_map_or (λ s. s.frame + 1) (last_or (Some b) sent) 0
 last_above frames k b [] o w = ⊎_elim (λ (l : k < b.frame + 1). l) (λ (some : frame_packets k [] ≢ []). absurd (some refl)) w
 last_above frames k b (s ∷ sent) o w = last_above frames k s sent o.2
@@ -72,7 +79,8 @@ above_each frames k [] o some = absurd (some refl)
 above_each frames k (s ∷ sent) o some = last_above frames k s sent o.2 (own_or_later k s sent some)
 
 within : (frames n : ℕ) (sent : List Sent) → AreFrames frames n sent → end_of sent ≤ n
-within frames n sent are = subst (λ (l : List Sent). end_of l ≤ n) (all_left sent) (last_below n sent (all_survive sent) None (omega arith) are.below)
+within frames n sent are =
+    subst (λ (l : List Sent). end_of l ≤ n) (all_left sent) (last_below n sent (all_survive sent) None (omega arith) are.below)
 
 end_is : (frames n : ℕ) (sent : List Sent) → AreFrames frames n sent → end_of sent ≡ n
 end_is frames zero sent are = let l = within frames 0 sent are in omega (arith, l)
@@ -93,7 +101,9 @@ whole_comes stream undamaged all c inputs plan ids l =
     let a = length-map s.packets packet_of in
     let b = length-map s.sent (λ (x : Sent). x.packet) in
     let told : stream_survival s 0 fates ≡ all_survive s.sent =
-    survive ∙ all_begun (joined_items s.packets) 0 s.packets ∙ ap (λ (k : ℕ). replicate k true) (sym a ∙ ap length is.reads ∙ b) in
+    survive ∙ all_begun (joined_items s.packets) 0 s.packets
+    ∙ ap (λ (k : ℕ). replicate k true) (sym a ∙ ap length is.reads ∙ b) in
     ap (λ (flags : List Bool). records c inputs (is_whole s.sent flags) (end_of (items_where_true flags s.sent))) told
-    ∙ ap₂ (λ (whole : ℕ → Bool) (end : ℕ). records c inputs whole end) (fun_ext (each_whole s.sent)) (ap end_of (all_left s.sent) ∙ end_is s.frames s.count s.sent is.frames)
+    ∙ ap₂ (λ (whole : ℕ → Bool) (end : ℕ). records c inputs whole end) (fun_ext (each_whole s.sent))
+    (ap end_of (all_left s.sent) ∙ end_is s.frames s.count s.sent is.frames)
     ∙ all c inputs

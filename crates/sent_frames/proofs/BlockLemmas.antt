@@ -16,7 +16,8 @@ use Rattle.mode_adapt.proofs.FitsLemmas.{length-block}
 use Rattle.gateway_core.specs.Packets.{counts_of}
 
 -- each block of a PLP has as many bits as the PLP says
-pub blocks_long : BitCounts → FieldRange → (c : Config) (inputs : ℕ → List (List ℕ)) (n plp : ℕ) → AllByRecursion (λ b. length b ≡ 8 * block_bytes c plp) (plp_blocks c inputs n plp)
+pub blocks_long : BitCounts → FieldRange → (c : Config) (inputs : ℕ → List (List ℕ)) (n plp : ℕ)
+    → AllByRecursion (λ b. length b ≡ 8 * block_bytes c plp) (plp_blocks c inputs n plp)
 blocks_long counts law c inputs n plp =
     let at : ℕ → List ℕ = packet_at (inputs plp) in
     let end : ℕ = sent (rates_of c plp c.ticks) (plp_keeps c plp at) n in
@@ -26,5 +27,7 @@ blocks_long counts law c inputs n plp =
     (λ from. length-block counts law c plp at slots from (min (from + field_bytes c plp) end) (omega arith))
 
 -- how many blocks a PLP has, among the numbers of all
-pub count_at : (c : Config) (blocks : ℕ → List (List Bool)) (plp : ℕ) → plp < length c.plps → slice_index (counts_of c blocks) plp ≡ length (blocks plp)
-count_at c blocks plp inside = get_or-map-range_with_len (λ plp. length (blocks plp)) 0 (length c.plps) plp plp 0 inside (omega arith)
+pub count_at : (c : Config) (blocks : ℕ → List (List Bool)) (plp : ℕ) → plp < length c.plps → slice_index (counts_of c blocks) plp
+    ≡ length (blocks plp)
+count_at c blocks plp inside = get_or-map-range_with_len (λ plp. length (blocks plp)) 0 (length c.plps) plp plp 0 inside
+    (omega arith)

@@ -1,5 +1,6 @@
 -- Each packet of a run fits its fields.
-use Rattle.std.proofs.Common.{◌≡◌, ℕ, zero, suc, ◌+◌, ◌-◌, ◌*◌, ◌%◌, ◌^◌, ◌<◌, ◌≤◌, ◌==◌, Bool, true, false, List, [], ◌∷◌, map, length, arith, length-append}
+use Rattle.std.proofs.Common.{◌≡◌, ℕ, zero, suc, ◌+◌, ◌-◌, ◌*◌, ◌%◌, ◌^◌, ◌<◌, ◌≤◌, ◌==◌, Bool, true, false, List, [], ◌∷◌, map}
+use Rattle.std.proofs.Common.{length, arith, length-append}
 use Rattle.std.specs.List.{flat_map, range_with_len, AllByRecursion}
 use Rattle.std.proofs.lemmas.Bool.{cond_both}
 use Rattle.std.proofs.lemmas.Nat.{mod_below}
@@ -46,22 +47,28 @@ pre_len : PreBitsLength → (c : Config) → length (pre_part c) ≡ 168
 unfolding pre_part
 pre_len law c = law (pre_of c)
 
-parts_len : PostLength → (c : Config) (n : ℕ) (counts : List ℕ) → length (conf_part c) + length (dyn_part c n counts) + 32 ≡ 213 + 137 * length c.plps
+parts_len : PostLength → (c : Config) (n : ℕ) (counts : List ℕ) → length (conf_part c) + length (dyn_part c n counts) + 32
+    ≡ 213 + 137 * length c.plps
 unfolding conf_part dyn_part post_bits
 parts_len law c n counts =
     let a = law c n (shape_of c counts) in
-    let b = length-append (post_front_bits c n (shape_of c counts)) (field 32 (crc32_of (post_front_bits c n (shape_of c counts)))) in
+    let b = length-append (post_front_bits c n (shape_of c counts))
+    (field 32 (crc32_of (post_front_bits c n (shape_of c counts)))) in
     let d = length-append (conf_part c) (dyn_part c n counts) in
     omega (arith, a, b, d, length-field 32 (crc32_of (post_front_bits c n (shape_of c counts))))
 
-fit_blocks : (size frame_idx id : ℕ) (first : Bool) (blocks : List (List Bool)) → size ≤ 65000 → frame_idx < 2 ^ 8 → id < 2 ^ 8 → AllByRecursion (λ b. length b ≡ size) blocks
+fit_blocks : (size frame_idx id : ℕ) (first : Bool) (blocks : List (List Bool)) → size ≤ 65000 → frame_idx < 2 ^ 8 → id < 2 ^ 8
+    → AllByRecursion (λ b. length b ≡ size) blocks
     → AllByRecursion IsFit (block_bodies frame_idx id first blocks)
 fit_blocks size frame_idx id first [] l f i s = tt
-fit_blocks size frame_idx id first (b ∷ blocks) l f i s = (((f, i), omega (arith, l, s.0)), fit_blocks size frame_idx id false blocks l f i s.1)
+fit_blocks size frame_idx id first (b ∷ blocks) l f i s =
+    (((f, i), omega (arith, l, s.0)), fit_blocks size frame_idx id false blocks l f i s.1)
 
-fit_plps : (count : ℕ) (bodies : ℕ → List Body) → ((plp : ℕ) → plp < count → AllByRecursion IsFit (bodies plp)) → (a k : ℕ) → a + k ≤ count → AllByRecursion IsFit (flat_map bodies (range_with_len a k))
+fit_plps : (count : ℕ) (bodies : ℕ → List Body) → ((plp : ℕ) → plp < count → AllByRecursion IsFit (bodies plp)) → (a k : ℕ)
+    → a + k ≤ count → AllByRecursion IsFit (flat_map bodies (range_with_len a k))
 fit_plps count bodies h a zero l = tt
-fit_plps count bodies h a (suc k) l = all_append IsFit (bodies a) (flat_map bodies (range_with_len (a + 1) k)) (h a (omega (arith, l))) (fit_plps count bodies h (a + 1) k (omega (arith, l)))
+fit_plps count bodies h a (suc k) l = all_append IsFit (bodies a) (flat_map bodies (range_with_len (a + 1) k))
+    (h a (omega (arith, l))) (fit_plps count bodies h (a + 1) k (omega (arith, l)))
 
 -- ---- all of it
 
@@ -69,18 +76,22 @@ fit_plps count bodies h a (suc k) l = all_append IsFit (bodies a) (flat_map bodi
 abbrev pub PairFits : ℕ × Body → Type 0
 PairFits b = IsFit b.1
 
-pairs_fit : (n : ℕ) (bodies : List Body) → AllByRecursion IsFit bodies → AllByRecursion PairFits (map (λ (body : Body). (n, body)) bodies)
+pairs_fit : (n : ℕ) (bodies : List Body) → AllByRecursion IsFit bodies
+    → AllByRecursion PairFits (map (λ (body : Body). (n, body)) bodies)
 pairs_fit n [] h = tt
 pairs_fit n (b ∷ bodies) h = (h.0, pairs_fit n bodies h.1)
 
-all_pairs : (bodies : ℕ → List Body) (count from more : ℕ) → from + more ≤ count → ((n : ℕ) → n < count → AllByRecursion IsFit (bodies n))
+all_pairs : (bodies : ℕ → List Body) (count from more : ℕ) → from + more ≤ count
+    → ((n : ℕ) → n < count → AllByRecursion IsFit (bodies n))
     → AllByRecursion PairFits (flat_map (λ m. map (λ (body : Body). (m, body)) (bodies m)) (range_with_len from more))
 all_pairs bodies count from zero l h = tt
 all_pairs bodies count from (suc more) l h =
-    all_append PairFits (map (λ (body : Body). (from, body)) (bodies from)) (flat_map (λ m. map (λ (body : Body). (m, body)) (bodies m)) (range_with_len (from + 1) more))
+    all_append PairFits (map (λ (body : Body). (from, body)) (bodies from))
+    (flat_map (λ m. map (λ (body : Body). (m, body)) (bodies m)) (range_with_len (from + 1) more))
     (pairs_fit from (bodies from) (h from (omega (arith, l)))) (all_pairs bodies count (from + 1) more (omega (arith, l)) h)
 
-module _ (emits : EmissionFits) (bits : PreBitsLength) (post : PostLength) (numbers : BitCounts) (range : FieldRange) (c : Config) (plan : IsPlan c) (ids : HasByteIds c) (inputs : ℕ → List (List ℕ)) where
+module _ (emits : EmissionFits) (bits : PreBitsLength) (post : PostLength) (numbers : BitCounts) (range : FieldRange) (c : Config)
+    (plan : IsPlan c) (ids : HasByteIds c) (inputs : ℕ → List (List ℕ)) where
   frames_range : (2 ≤ c.frames) × (c.frames ≤ 255)
   frames_range = plan.rules SuperframeLength
 
@@ -103,14 +114,16 @@ module _ (emits : EmissionFits) (bits : PreBitsLength) (post : PostLength) (numb
       fit_plps (length c.plps) (λ plp. block_bodies (n % c.frames) (plp_at c.plps plp).id true (plp_blocks c inputs n plp))
       (λ plp inside.
       let r = range c plp in
-      fit_blocks (8 * block_bytes c plp) (n % c.frames) (plp_at c.plps plp).id true (plp_blocks c inputs n plp) (omega (arith, r.1, r.2)) (frame_idx_fits n) (ids plp inside) (blocks_long numbers range c inputs n plp))
+      fit_blocks (8 * block_bytes c plp) (n % c.frames) (plp_at c.plps plp).id true (plp_blocks c inputs n plp)
+      (omega (arith, r.1, r.2)) (frame_idx_fits n) (ids plp inside) (blocks_long numbers range c inputs n plp))
       0 (length c.plps - 0) (omega arith) in
       cond_both {A = List Body} (n % c.frames == 0) _ _ (AllByRecursion IsFit)
       (λ _. (((bw_fits c.band, omega (arith, e.1), e.2, utco), omega arith), (l1, blocks)))
       (λ _. (l1, blocks))
 
   pub run_fits : (n : ℕ) → n ≤ MOST_FRAMES → AllByRecursion PairFits (bodies_before c inputs n)
-  run_fits n l = all_pairs (λ m. frame_bodies c m (plp_blocks c inputs m)) n 0 n (omega arith) (λ m k. fit_frame m (omega (arith, k, l)))
+  run_fits n l = all_pairs (λ m. frame_bodies c m (plp_blocks c inputs m)) n 0 n (omega arith)
+      (λ m k. fit_frame m (omega (arith, k, l)))
 
 pub plan_range : (c : Config) → IsPlan c → (0 < c.frames) × (c.pid < 2 ^ 13)
 plan_range c plan =

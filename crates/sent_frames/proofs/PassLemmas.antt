@@ -1,5 +1,6 @@
 -- The six tests of the packets of a frame, and what they say of fewer.
-use Rattle.std.proofs.Common.{◌≡◌, ℕ, zero, suc, ◌+◌, ◌*◌, ◌/◌, ◌<◌, ◌≤◌, ◌==◌, ◌&&◌, ◌||◌, not, Bool, true, false, List, [], ◌∷◌, length, Option, Some, None, refl, ap, sym, subst, ◌∙◌, arith, sum_by}
+use Rattle.std.proofs.Common.{◌≡◌, ℕ, zero, suc, ◌+◌, ◌*◌, ◌/◌, ◌<◌, ◌≤◌, ◌==◌, ◌&&◌, ◌||◌, not, Bool, true, false, List, [], ◌∷◌}
+use Rattle.std.proofs.Common.{length, Option, Some, None, refl, ap, sym, subst, ◌∙◌, arith, sum_by}
 use Rattle.std.specs.Prelude.{slice_get, slice_index, if◌then◌else◌, nat_le, nat_lt, option_map}
 use Rattle.std.specs.Bool.{beq}
 use Rattle.std.specs.Cmp.Lexicographic.{pointwise, pointwise_decides}
@@ -33,7 +34,9 @@ use Rattle.frame_groups.specs.declared.cause.MuteCause.{MuteCause}
 use Rattle.frame_groups.specs.declared.cause.MuteCause.TheVariants.{PacketMissing, L1Refused, MapRefused, PoolFull}
 use Rattle.frame_tests.specs.Carried.{blocks_of, right_blocks, L1Parts, l1s_of, stamps_of}
 use Rattle.frame_tests.specs.Laws.{MapPasses, PartsTold}
-use Rattle.frame_tests.specs.Tests.{unless, begins_superframe, pool_chunks, pool_need, capped, pool_test, missing_test, same_parts, parts_agree, l1s_agree, l1_test, stamp_agrees, disagrees, time_test, l1_shape, first_shape, has_counts, is_known, blocks_test, has_map, map_test, packets_fault}
+use Rattle.frame_tests.specs.Tests.{unless, begins_superframe, pool_chunks, pool_need, capped, pool_test, missing_test}
+use Rattle.frame_tests.specs.Tests.{same_parts, parts_agree, l1s_agree, l1_test, stamp_agrees, disagrees, time_test, l1_shape}
+use Rattle.frame_tests.specs.Tests.{first_shape, has_counts, is_known, blocks_test, has_map, map_test, packets_fault}
 use Rattle.gateway_core.specs.Packets.{stamp_of, counts_of}
 use Rattle.sent_frames.specs.Types.{TypesFit}
 use Rattle.sent_frames.proofs.BlockLemmas.{count_at}
@@ -58,7 +61,8 @@ pub record Given : Type 0 where
   pub passes : ShapePasses
   pub map : MapPasses
 
-pub given_by : PartsTold → PreWritten → ConfWritten → DynReadBack → DynWritten → BitCounts → CountLaw → SlotLength → FieldRange → BlockChunks → CellsByFive → ShapeFitsL1 → ShapeHasCounts → ShapePasses → MapPasses → Given
+pub given_by : PartsTold → PreWritten → ConfWritten → DynReadBack → DynWritten → BitCounts → CountLaw → SlotLength → FieldRange
+    → BlockChunks → CellsByFive → ShapeFitsL1 → ShapeHasCounts → ShapePasses → MapPasses → Given
 given_by a b d e f g h i j k l m n o p = record {
   told = a;
   pre_written = b;
@@ -93,9 +97,11 @@ bits_self bits = (pointwise_decides bit_same bits bits).1 refl
 
 parts_self : (l1 : L1Parts) → same_parts l1 l1 ≡ true
 parts_self l1 =
-    and_from (pointwise beq l1.pre l1.pre && pointwise beq l1.conf l1.conf && pointwise beq l1.dynamic l1.dynamic) (pointwise beq l1.extension l1.extension)
+    and_from (pointwise beq l1.pre l1.pre && pointwise beq l1.conf l1.conf && pointwise beq l1.dynamic l1.dynamic)
+    (pointwise beq l1.extension l1.extension)
     (and_from (pointwise beq l1.pre l1.pre && pointwise beq l1.conf l1.conf) (pointwise beq l1.dynamic l1.dynamic)
-    (and_from (pointwise beq l1.pre l1.pre) (pointwise beq l1.conf l1.conf) (bits_self l1.pre) (bits_self l1.conf)) (bits_self l1.dynamic))
+    (and_from (pointwise beq l1.pre l1.pre) (pointwise beq l1.conf l1.conf) (bits_self l1.pre) (bits_self l1.conf))
+    (bits_self l1.dynamic))
     (bits_self l1.extension)
 
 -- ---- the chunks of a frame
@@ -107,7 +113,8 @@ chunks_most law cells c plp =
     let some = cells c plp in
     omega (arith, h, some.1)
 
-sums_most : (f g : ℕ → ℕ) (count : ℕ) → ((plp : ℕ) → plp < count → 2025 * f plp ≤ 7 * g plp) → (a k : ℕ) → a + k ≤ count → 2025 * sum_by f (range_with_len a k) ≤ 7 * sum_by g (range_with_len a k)
+sums_most : (f g : ℕ → ℕ) (count : ℕ) → ((plp : ℕ) → plp < count → 2025 * f plp ≤ 7 * g plp) → (a k : ℕ) → a + k ≤ count
+    → 2025 * sum_by f (range_with_len a k) ≤ 7 * sum_by g (range_with_len a k)
 sums_most f g count h a zero l = omega arith
 sums_most f g count h a (suc k) l =
     let x = sum_by-cons f a (range_with_len (a + 1) k) in
@@ -118,28 +125,36 @@ sums_most f g count h a (suc k) l =
 
 -- a sum over the PLPs, by their places
 sum_places : (h : Plp → ℕ) (plps : List Plp) → sum_by h plps ≡ sum_by (λ k. h (plp_at plps k)) (range_with_len 0 (length plps))
-sum_places h plps = ap (sum_by h) (fill_by_all (plp_at plps) plps (length plps) no_plp refl (λ k l. refl)) ∙ fold-map (λ (sum : ℕ) (plp : Plp). sum + h plp) (plp_at plps) 0 (range_with_len 0 (length plps))
+sum_places h plps = ap (sum_by h) (fill_by_all (plp_at plps) plps (length plps) no_plp refl (λ k l. refl))
+    ∙ fold-map (λ (sum : ℕ) (plp : Plp). sum + h plp) (plp_at plps) 0 (range_with_len 0 (length plps))
 
-pool_holds : BlockChunks → CellsByFive → (c : Config) (packets : List Packet) → IsPlan c → ((plp : ℕ) → plp < length c.plps → length (right_blocks c plp packets) ≤ (plp_at c.plps plp).blocks) → pool_need c packets ≤ pool_chunks c
+pool_holds : BlockChunks → CellsByFive → (c : Config) (packets : List Packet) → IsPlan c
+    → ((plp : ℕ) → plp < length c.plps → length (right_blocks c plp packets) ≤ (plp_at c.plps plp).blocks) → pool_need c packets
+    ≤ pool_chunks c
 unfolding block_cells cell_need
 pool_holds law cells c packets plan few =
     let n : ℕ = length c.plps in
     let all =
-    sums_most (λ plp. length (right_blocks c plp packets) * chunks_for (block_bytes c plp)) (λ plp. (plp_at c.plps plp).blocks * block_cells c plp) n
+    sums_most (λ plp. length (right_blocks c plp packets) * chunks_for (block_bytes c plp))
+    (λ plp. (plp_at c.plps plp).blocks * block_cells c plp) n
     (λ plp inside.
-    let m = mul-le (length (right_blocks c plp packets)) (2025 * chunks_for (block_bytes c plp)) (plp_at c.plps plp).blocks (7 * block_cells c plp) (few plp inside) (chunks_most law cells c plp) in omega (arith, m)) 0 n (omega arith) in
+    let m = mul-le (length (right_blocks c plp packets)) (2025 * chunks_for (block_bytes c plp)) (plp_at c.plps plp).blocks
+    (7 * block_cells c plp) (few plp inside) (chunks_most law cells c plp) in omega (arith, m)) 0 n (omega arith) in
     let sum = sum_places (λ plp. plp.blocks * cells_per_block plp.fec plp.modulation) c.plps in
     let need : cell_need c ≤ c.cells = plan.tests CellCount in
     omega (arith, all, sum, need)
 
 -- ---- a test of each PLP
 
-each_place : (test : ℕ → Bool) (count : ℕ) → ((plp : ℕ) → plp < count → test plp ≡ true) → (a k : ℕ) → a + k ≤ count → list_all test (range_with_len a k) ≡ true
+each_place : (test : ℕ → Bool) (count : ℕ) → ((plp : ℕ) → plp < count → test plp ≡ true) → (a k : ℕ) → a + k ≤ count
+    → list_all test (range_with_len a k) ≡ true
 each_place test count h a zero l = refl
-each_place test count h a (suc k) l = and_from (test a) (list_all test (range_with_len (a + 1) k)) (h a (omega (arith, l))) (each_place test count h (a + 1) k (omega (arith, l)))
+each_place test count h a (suc k) l = and_from (test a) (list_all test (range_with_len (a + 1) k)) (h a (omega (arith, l)))
+    (each_place test count h (a + 1) k (omega (arith, l)))
 
 -- a superframe has one timestamp
-pub own_stamps : (c : Config) (n : ℕ) (t : Bool) → AllByRecursion (λ (s : Stamp). s ≡ stamp_of c n) (if t then stamp_of c n ∷ [] else [])
+pub own_stamps : (c : Config) (n : ℕ) (t : Bool) → AllByRecursion (λ (s : Stamp). s ≡ stamp_of c n)
+    (if t then stamp_of c n ∷ [] else [])
 own_stamps c n true = (refl, tt)
 own_stamps c n false = tt
 
@@ -153,53 +168,66 @@ module _ (given : Given) (c : Config) (inputs : ℕ → List (List ℕ)) (n : �
   fit = counts_fit given.slot given.field given.count c inputs n plan
 
   -- a, if no PLP has more blocks
-  pub pool_passes : (packets : List Packet) → ((plp : ℕ) → plp < length c.plps → length (right_blocks c plp packets) ≤ length (plp_blocks c inputs n plp)) → pool_test c packets ≡ None
+  pub pool_passes : (packets : List Packet)
+      → ((plp : ℕ) → plp < length c.plps → length (right_blocks c plp packets) ≤ length (plp_blocks c inputs n plp))
+      → pool_test c packets ≡ None
   unfolding pool_test
   pool_passes packets few =
       unless_true (nat_le (pool_need c packets) (pool_chunks c)) (PoolFull (capped (pool_need c packets)) (pool_chunks c))
       (le-leb (pool_need c packets) (pool_chunks c)
       (pool_holds given.chunks given.cells c packets plan
-      (λ plp inside. let a = few plp inside in let b = count_at c (plp_blocks c inputs n) plp inside in let most = fit.within plp inside in omega (arith, a, b, most))))
+      (λ plp inside. let a = few plp inside in let b = count_at c (plp_blocks c inputs n) plp inside in
+      let most = fit.within plp inside in omega (arith, a, b, most))))
 
   -- c, if all L1-current packets are the frame's
   agree : parts_agree c n (frame_parts c inputs n) ≡ true
   agree = parts_pass c plan types n counts fit given.told given.pre_written given.conf_written given.dyn_written given.fits
 
-  same_all : (l1s : List L1Parts) → AllByRecursion (λ l1. l1 ≡ frame_parts c inputs n) l1s → list_all (same_parts (frame_parts c inputs n)) l1s ≡ true
+  same_all : (l1s : List L1Parts) → AllByRecursion (λ l1. l1 ≡ frame_parts c inputs n) l1s
+      → list_all (same_parts (frame_parts c inputs n)) l1s ≡ true
   same_all [] h = refl
   same_all (l1 ∷ l1s) h =
       and_from (same_parts (frame_parts c inputs n) l1) (list_all (same_parts (frame_parts c inputs n)) l1s)
-      (subst (λ (x : L1Parts). same_parts (frame_parts c inputs n) x ≡ true) (sym h.0) (parts_self (frame_parts c inputs n))) (same_all l1s h.1)
+      (subst (λ (x : L1Parts). same_parts (frame_parts c inputs n) x ≡ true) (sym h.0) (parts_self (frame_parts c inputs n)))
+      (same_all l1s h.1)
 
   l1s_pass : (l1s : List L1Parts) → AllByRecursion (λ l1. l1 ≡ frame_parts c inputs n) l1s → l1s_agree c n l1s ≡ true
   l1s_pass [] h = refl
   l1s_pass (l1 ∷ l1s) h =
       subst (λ (x : L1Parts). (list_all (same_parts x) l1s && parts_agree c n x) ≡ true) (sym h.0)
-      (and_from (list_all (same_parts (frame_parts c inputs n)) l1s) (parts_agree c n (frame_parts c inputs n)) (same_all l1s h.1) agree)
+      (and_from (list_all (same_parts (frame_parts c inputs n)) l1s) (parts_agree c n (frame_parts c inputs n))
+      (same_all l1s h.1) agree)
 
-  pub l1_passes : (packets : List Packet) → AllByRecursion (λ l1. l1 ≡ frame_parts c inputs n) (l1s_of packets) → l1_test c n packets ≡ None
+  pub l1_passes : (packets : List Packet) → AllByRecursion (λ l1. l1 ≡ frame_parts c inputs n) (l1s_of packets)
+      → l1_test c n packets ≡ None
   unfolding l1_test
   l1_passes packets h = unless_true (l1s_agree c n (l1s_of packets)) L1Refused (l1s_pass (l1s_of packets) h)
 
   -- d, if all timestamps are the superframe's
   stamp_passes : stamp_agrees c n (stamp_of c n) ≡ true
   stamp_passes =
-      and_from ((bw c.band == bw c.band) && ((emission c n).seconds == (emission c n).seconds)) ((emission c n).subseconds == (emission c n).subseconds)
-      (and_from (bw c.band == bw c.band) ((emission c n).seconds == (emission c n).seconds) (eq-eqb (bw c.band) (bw c.band) refl) (eq-eqb (emission c n).seconds (emission c n).seconds refl))
+      and_from ((bw c.band == bw c.band) && ((emission c n).seconds == (emission c n).seconds))
+      ((emission c n).subseconds == (emission c n).subseconds)
+      (and_from (bw c.band == bw c.band) ((emission c n).seconds == (emission c n).seconds) (eq-eqb (bw c.band) (bw c.band) refl)
+      (eq-eqb (emission c n).seconds (emission c n).seconds refl))
       (eq-eqb (emission c n).subseconds (emission c n).subseconds refl)
 
-  none_late : (stamps : List Stamp) → AllByRecursion (λ s. s ≡ stamp_of c n) stamps → find (λ s. not (stamp_agrees c n s)) stamps ≡ None
+  none_late : (stamps : List Stamp) → AllByRecursion (λ s. s ≡ stamp_of c n) stamps → find (λ s. not (stamp_agrees c n s)) stamps
+      ≡ None
   none_late [] h = refl
   none_late (s ∷ stamps) h =
       cond-false {A = Option Stamp} (not (stamp_agrees c n s)) (Some s) (find (λ s. not (stamp_agrees c n s)) stamps)
       (not_from_true (stamp_agrees c n s) (subst (λ (x : Stamp). stamp_agrees c n x ≡ true) (sym h.0) stamp_passes))
       ∙ none_late stamps h.1
 
-  pub time_passes : (packets : List Packet) → AllByRecursion (λ s. s ≡ stamp_of c n) (stamps_of packets) → time_test c n packets ≡ None
+  pub time_passes : (packets : List Packet) → AllByRecursion (λ s. s ≡ stamp_of c n) (stamps_of packets) → time_test c n packets
+      ≡ None
   unfolding time_test
   time_passes packets h = go (begins_superframe c n)
     where
-      go : (t : Bool) → ◌≡◌ {A = Option MuteCause} (if t then option_map (disagrees c n) (find (λ s. not (stamp_agrees c n s)) (stamps_of packets)) else None) None
+      go : (t : Bool)
+          → ◌≡◌ {A = Option MuteCause}
+          (if t then option_map (disagrees c n) (find (λ s. not (stamp_agrees c n s)) (stamps_of packets)) else None) None
       go true = ap (option_map (disagrees c n)) (none_late (stamps_of packets) h)
       go false = refl
 
@@ -223,33 +251,41 @@ module _ (given : Given) (c : Config) (inputs : ℕ → List (List ℕ)) (n : �
     missing_none : missing_test c n packets ≡ None
     unfolding missing_test
     missing_none =
-        unless_true (nat_lt 0 (length (l1s_of packets)) && (not (begins_superframe c n) || nat_lt 0 (length (stamps_of packets)))) PacketMissing
-        (and_from (nat_lt 0 (length (l1s_of packets))) (not (begins_superframe c n) || nat_lt 0 (length (stamps_of packets))) (ap (λ (l : List L1Parts). nat_lt 0 (length l)) has.l1s)
-        (ap (λ (l : List Stamp). not (begins_superframe c n) || nat_lt 0 (length l)) has.stamps ∙ stamp_there (begins_superframe c n)))
+        unless_true (nat_lt 0 (length (l1s_of packets)) && (not (begins_superframe c n) || nat_lt 0 (length (stamps_of packets))))
+        PacketMissing
+        (and_from (nat_lt 0 (length (l1s_of packets))) (not (begins_superframe c n) || nat_lt 0 (length (stamps_of packets)))
+        (ap (λ (l : List L1Parts). nat_lt 0 (length l)) has.l1s)
+        (ap (λ (l : List Stamp). not (begins_superframe c n) || nat_lt 0 (length l)) has.stamps
+        ∙ stamp_there (begins_superframe c n)))
 
     l1_none : l1_test c n packets ≡ None
     l1_none = l1_passes packets (subst (AllByRecursion (λ l1. l1 ≡ frame_parts c inputs n)) (sym has.l1s) (refl, tt))
 
     time_none : time_test c n packets ≡ None
-    time_none = time_passes packets (subst (AllByRecursion (λ s. s ≡ stamp_of c n)) (sym has.stamps) (own_stamps c n (begins_superframe c n)))
+    time_none =
+        time_passes packets
+        (subst (AllByRecursion (λ s. s ≡ stamp_of c n)) (sym has.stamps) (own_stamps c n (begins_superframe c n)))
 
     has_each : has_counts c packets (Some (frame_shape c inputs n)) ≡ true
     has_each =
         each_place (λ plp. length (blocks_of c plp packets) == slice_index (frame_shape c inputs n).counts plp) (length c.plps)
         (λ plp inside.
         eq-eqb (length (blocks_of c plp packets)) (slice_index (frame_shape c inputs n).counts plp)
-        (ap length (has.blocks plp inside) ∙ sym (count_at c (plp_blocks c inputs n) plp inside) ∙ sym (ap (λ (l : List ℕ). slice_index l plp) (given.counts c counts)))) 0 (length c.plps) (omega arith)
+        (ap length (has.blocks plp inside) ∙ sym (count_at c (plp_blocks c inputs n) plp inside)
+        ∙ sym (ap (λ (l : List ℕ). slice_index l plp) (given.counts c counts)))) 0 (length c.plps) (omega arith)
 
     blocks_none : blocks_test c packets ≡ None
     unfolding blocks_test
     blocks_none =
         unless_true (has_counts c packets (first_shape c packets) && list_all (is_known c) packets) PacketMissing
-        (and_from (has_counts c packets (first_shape c packets)) (list_all (is_known c) packets) (ap (has_counts c packets) first_is ∙ has_each) has.known)
+        (and_from (has_counts c packets (first_shape c packets)) (list_all (is_known c) packets)
+        (ap (has_counts c packets) first_is ∙ has_each) has.known)
 
     map_none : map_test c packets ≡ None
     unfolding map_test
     map_none =
-        unless_true (has_map c (first_shape c packets)) MapRefused (ap (has_map c) first_is ∙ (given.map c (frame_shape c inputs n)).1 (given.passes c counts plan fit))
+        unless_true (has_map c (first_shape c packets)) MapRefused
+        (ap (has_map c) first_is ∙ (given.map c (frame_shape c inputs n)).1 (given.passes c counts plan fit))
 
     pub passes : packets_fault c n packets ≡ None
     unfolding packets_fault

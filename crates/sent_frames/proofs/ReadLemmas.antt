@@ -1,5 +1,6 @@
 -- The bytes of a run read as its packets.
-use Rattle.std.proofs.Common.{◌≡◌, ℕ, ◌+◌, ◌^◌, ◌<◌, Bool, List, [], ◌∷◌, ◌++◌, map, length, Some, refl, ap, ap₂, subst, ◌∙◌, arith, append-nil}
+use Rattle.std.proofs.Common.{◌≡◌, ℕ, ◌+◌, ◌^◌, ◌<◌, Bool, List, [], ◌∷◌, ◌++◌, map, length, Some, refl, ap, ap₂, subst, ◌∙◌}
+use Rattle.std.proofs.Common.{arith, append-nil}
 use Rattle.std.specs.List.{AllByRecursion}
 use Rattle.terms.specs.Bits.{bits_of, bytes_of}
 use Rattle.terms.proofs.BitLemmas.{bits_of-bytes_of, length-bits_of}
@@ -37,22 +38,36 @@ module _ (bounded : (w : List Bool) → crc32_of w < 2 ^ 32) (spell_is : SpellIs
       let whole = len p in
       let bits : bits_of front ≡ written_bits p = bits_of-bytes_of (written_bits p) (packet_len p) whole in
       let none : front ++ [] ≡ front = append-nil front in
-      let begins : BeginsWith front p (packet_len p) = subst (λ (l : List ℕ). BeginsWith l p (packet_len p)) none (read p front [] fits bits) in
+      let begins : BeginsWith front p (packet_len p) =
+      subst (λ (l : List ℕ). BeginsWith l p (packet_len p)) none (read p front [] fits bits) in
       let size : packet_len p ≡ length front = let e = ap length bits in omega (arith, e, whole, length-bits_of front) in
-      record { spelled = (spell_is front (packet_len p)).1 (p, begins) ∙ ap Some size; is = (begun bounded front p (packet_len p) begins).is }
+      record {
+        spelled = (spell_is front (packet_len p)).1 (p, begins) ∙ ap Some size;
+        is = (begun bounded front p (packet_len p) begins).is;
+      }
 
-  spelled_from : (c : Config) (number : ℕ) (bodies : List (ℕ × Body)) → AllByRecursion PairFits bodies → ArePackets (packets_from c number bodies)
+  spelled_from : (c : Config) (number : ℕ) (bodies : List (ℕ × Body)) → AllByRecursion PairFits bodies
+      → ArePackets (packets_from c number bodies)
   spelled_from c number [] h = tt
-  spelled_from c number (b ∷ bodies) h = ((written (packet_with c number b.0 b.1) (fits_with c number b h.0)).spelled, spelled_from c (number + 1) bodies h.1)
+  spelled_from c number (b ∷ bodies) h =
+      ((written (packet_with c number b.0 b.1) (fits_with c number b h.0)).spelled, spelled_from c (number + 1) bodies h.1)
 
-  reads_from : (c : Config) (number : ℕ) (bodies : List (ℕ × Body)) → AllByRecursion PairFits bodies → map packet_of (packets_from c number bodies) ≡ packets_of (sent_from c number bodies)
+  reads_from : (c : Config) (number : ℕ) (bodies : List (ℕ × Body)) → AllByRecursion PairFits bodies
+      → map packet_of (packets_from c number bodies) ≡ packets_of (sent_from c number bodies)
   reads_from c number [] h = refl
   reads_from c number (b ∷ bodies) h =
-      ap₂ (λ (p : Packet) (l : List Packet). p ∷ l) (written (packet_with c number b.0 b.1) (fits_with c number b h.0)).is (reads_from c (number + 1) bodies h.1)
+      ap₂ (λ (p : Packet) (l : List Packet). p ∷ l) (written (packet_with c number b.0 b.1) (fits_with c number b h.0)).is
+      (reads_from c (number + 1) bodies h.1)
 
   pub frames_are_stream : EmissionFits → PreBitsLength → PostLength → BitCounts → FieldRange → SentAreFrames → FramesAreStream
   unfolding front_packets
   frames_are_stream emits bits post numbers range are c inputs n plan ids l =
       let r = plan_range c plan in
       let fit = run_fits emits bits post numbers range c plan ids inputs n l in
-      record { pid = r.1; some = r.0; frames = are c inputs n r.0; spelled = spelled_from c 0 (bodies_before c inputs n) fit; reads = reads_from c 0 (bodies_before c inputs n) fit }
+      record {
+        pid = r.1;
+        some = r.0;
+        frames = are c inputs n r.0;
+        spelled = spelled_from c 0 (bodies_before c inputs n) fit;
+        reads = reads_from c 0 (bodies_before c inputs n) fit;
+      }

@@ -1,5 +1,6 @@
 -- The L1 signalling of a plan fits its fields, and is read back.
-use Rattle.std.proofs.Common.{◌≡◌, ℕ, ◌^◌, ◌<◌, ◌≤◌, Bool, true, false, List, [], length, map, get_or, Some, refl, ap, sym, subst, ◌∙◌, arith, append-nil}
+use Rattle.std.proofs.Common.{◌≡◌, ℕ, ◌^◌, ◌<◌, ◌≤◌, Bool, true, false, List, [], length, map, get_or, Some, refl, ap, sym, subst}
+use Rattle.std.proofs.Common.{◌∙◌, arith, append-nil}
 use Rattle.std.specs.Prelude.{min, MatchBool}
 use Rattle.std.specs.List.{range_with_len}
 use Rattle.std.specs.Option.{option_map}
@@ -8,7 +9,7 @@ use Rattle.std.proofs.lemmas.List.FromFn.{get_or-map-range_with_len, length-map-
 use Rattle.std.proofs.lemmas.Nat.{mod_below}
 use Rattle.plp_config.specs.Capacity.{IsPlan}
 use Rattle.plp_config.specs.Laws.{SlotLength, FieldRange}
-use Rattle.plp_config.specs.Plps.{plp_at, no_plp, plp_type, has_type2}
+use Rattle.plp_config.specs.Plps.{plp_at, no_plp, type_number, has_type2}
 use Rattle.plp_config.specs.Rules.{FitsL1}
 use Rattle.plp_config.specs.Rules.Rule.{L1Fields, SuperframeLength, PlpCount, SubSlices, BlockLimit, InterleaverLength}
 use Rattle.plp_config.specs.Tables.{plp_cod, plp_mod, plp_fec_type}
@@ -18,8 +19,8 @@ use Rattle.plp_config.specs.declared.plp.FecSize.TheVariants.{Short, Normal}
 use Rattle.plp_config.specs.declared.plp.Modulation.{Modulation}
 use Rattle.plp_config.specs.declared.plp.Modulation.TheVariants.{Qpsk, Qam16, Qam64, Qam256}
 use Rattle.plp_config.specs.declared.plp.Plp.{Plp}
-use Rattle.plp_config.specs.declared.plp.PlpKind.{PlpKind}
-use Rattle.plp_config.specs.declared.plp.PlpKind.TheVariants.{Type1, Type2}
+use Rattle.plp_config.specs.declared.plp.PlpType.{PlpType}
+use Rattle.plp_config.specs.declared.plp.PlpType.TheVariants.{Type1, Type2}
 use Rattle.plp_config.specs.declared.plp.Rate.{Rate}
 use Rattle.plp_config.specs.declared.plp.Rate.TheVariants.{R1_2, R3_5, R2_3, R3_4, R4_5, R5_6}
 use Rattle.scheduler.specs.Laws.{CountsFit, ShapeFitsL1}
@@ -53,7 +54,14 @@ pre_fits c plan types =
     let f : (2 ≤ c.frames) × (c.frames ≤ 255) = plan.rules SuperframeLength in
     let p : (1 ≤ length c.plps) × (length c.plps ≤ 255) = plan.rules PlpCount in
     pre_numbers_fit (pre_of c)
-    (record { tx_id_availability = types.tx_id; cell_id = types.cell_id; network_id = types.network_id; t2_system_id = types.system_id; num_t2_frames = omega (arith, f.1) })
+    (record {
+      tx_id_availability = types.tx_id;
+      cell_id = types.cell_id;
+      network_id = types.network_id;
+      t2_system_id =
+          types.system_id;
+      num_t2_frames = omega (arith, f.1);
+    })
     (record {
       stream_type = refl;
       bwt_ext = l1.bwt_ext;
@@ -79,9 +87,9 @@ pre_fits c plan types =
       t2_base_lite = refl;
     })
 
-kind_most : (kind : PlpKind) → plp_type kind ≤ 2
-kind_most Type1 = omega arith
-kind_most Type2 = omega arith
+type_most : (plp_type : PlpType) → type_number plp_type ≤ 2
+type_most Type1 = omega arith
+type_most Type2 = omega arith
 
 cod_most : (rate : Rate) → plp_cod rate ≤ 5
 cod_most R1_2 = omega arith
@@ -105,12 +113,13 @@ flag_most : (flag : Bool) → flag_of flag ≤ 1
 flag_most true = omega arith
 flag_most false = omega arith
 
-plp_fits : (plp : Plp) → plp.id < 2 ^ 8 → plp.group < 2 ^ 8 → plp.blocks ≤ 1023 → plp.interleave ≤ 255 → RowsFit conf_plp_rows (conf_plp_of plp)
+plp_fits : (plp : Plp) → plp.id < 2 ^ 8 → plp.group < 2 ^ 8 → plp.blocks ≤ 1023 → plp.interleave ≤ 255
+    → RowsFit conf_plp_rows (conf_plp_of plp)
 unfolding conf_plp_of
 plp_fits plp id group blocks interleave =
     plp_numbers_fit (conf_plp_of plp) (record { plp_id = id; plp_group_id = group; time_il_length = omega (arith, interleave) })
     (record {
-      plp_type = kind_most plp.kind;
+      plp_type = type_most plp.plp_type;
       plp_payload_type = refl;
       ff_flag = refl;
       first_rf_idx = refl;
@@ -138,12 +147,15 @@ unfolding conf_of
 conf_fits c plan types =
     let p : (1 ≤ length c.plps) × (length c.plps ≤ 255) = plan.rules PlpCount in
     let size = length-map c.plps conf_plp_of in
-    conf_numbers_fit c.sub_slices c.frequency (map conf_plp_of c.plps) (slices_most c.sub_slices (has_type2 c.plps) (plan.rules SubSlices)) types.frequency (omega (arith, size, p.0)) (omega (arith, size, p.1))
+    conf_numbers_fit c.sub_slices c.frequency (map conf_plp_of c.plps)
+    (slices_most c.sub_slices (has_type2 c.plps) (plan.rules SubSlices)) types.frequency (omega (arith, size, p.0))
+    (omega (arith, size, p.1))
     (λ k d lt.
     let inside : k < length c.plps = omega (arith, lt, size) in
     let few : (1 ≤ (plp_at c.plps k).blocks) × ((plp_at c.plps k).blocks ≤ 1023) = plan.rules BlockLimit k inside in
     let short : (plp_at c.plps k).interleave ≤ min (plp_at c.plps k).blocks 255 = plan.rules InterleaverLength k inside in
-    subst (RowsFit conf_plp_rows) (sym (get_or-map conf_plp_of c.plps k no_plp d inside)) (plp_fits (plp_at c.plps k) (types.ids k inside) (types.groups k inside) few.1 (omega (arith, short))))
+    subst (RowsFit conf_plp_rows) (sym (get_or-map conf_plp_of c.plps k no_plp d inside))
+    (plp_fits (plp_at c.plps k) (types.ids k inside) (types.groups k inside) few.1 (omega (arith, short))))
 
 -- ---- the dynamic part
 
@@ -164,28 +176,34 @@ module _ (c : Config) (plan : IsPlan c) (types : TypesFit c) (n : ℕ) (counts :
   dyn_fits : ShapeFitsL1 → DynFits (dyn_of c n (shape_of c counts))
   dyn_fits law =
       let f : (2 ≤ c.frames) × (c.frames ≤ 255) = plan.rules SuperframeLength in
-      dyn_numbers_fit c n (shape_of c counts) types.ids (omega (arith, mod_below n c.frames (omega (arith, f.0)), f.1)) (law c counts plan fit)
+      dyn_numbers_fit c n (shape_of c counts) types.ids (omega (arith, mod_below n c.frames (omega (arith, f.0)), f.1))
+      (law c counts plan fit)
 
-  dyn_told : DynReadBack → DynWritten → ShapeFitsL1 → read_whole (dyn_read (length c.plps) (dyn_part c n counts)) ≡ Some (dyn_of c n (shape_of c counts))
+  dyn_told : DynReadBack → DynWritten → ShapeFitsL1 → read_whole (dyn_read (length c.plps) (dyn_part c n counts))
+      ≡ Some (dyn_of c n (shape_of c counts))
   unfolding dyn_part dyn_of
   dyn_told back written law =
       let front : List Bool = dyn_bits (dyn_of c n (shape_of c counts)) in
       let read = back (dyn_of c n (shape_of c counts)) front [] (written (dyn_of c n (shape_of c counts)) (dyn_fits law)) in
-      ap read_whole (ap (λ (k : ℕ). dyn_read k front) (sym plps_len) ∙ ap (dyn_read (length dynamic_plps)) (sym (append-nil front)) ∙ read)
+      ap read_whole (ap (λ (k : ℕ). dyn_read k front) (sym plps_len)
+      ∙ ap (dyn_read (length dynamic_plps)) (sym (append-nil front)) ∙ read)
 
   ids_same : map (λ (plp : DynPlp). plp.plp_id) dynamic_plps ≡ map (λ (plp : Plp). plp.id) c.plps
   ids_same =
       let size = length-map dynamic_plps (λ (plp : DynPlp). plp.plp_id) in
-      mapped (λ (plp : Plp). plp.id) c.plps (map (λ (plp : DynPlp). plp.plp_id) dynamic_plps) no_plp 0 (omega (arith, size, plps_len))
+      mapped (λ (plp : Plp). plp.id) c.plps (map (λ (plp : DynPlp). plp.plp_id) dynamic_plps) no_plp 0
+      (omega (arith, size, plps_len))
       (λ k inside.
       let there : k < length dynamic_plps = omega (arith, inside, plps_len) in
-      get_or-map (λ (plp : DynPlp). plp.plp_id) dynamic_plps k no_dyn_plp 0 there ∙ ap (λ (plp : DynPlp). plp.plp_id) (plp_there k no_dyn_plp inside))
+      get_or-map (λ (plp : DynPlp). plp.plp_id) dynamic_plps k no_dyn_plp 0 there
+      ∙ ap (λ (plp : DynPlp). plp.plp_id) (plp_there k no_dyn_plp inside))
 
   -- it tells the shape of the frame
   shape_told : shape_of c counts ≡ told_shape (dyn_of c n (shape_of c counts))
   unfolding shape_of dyn_of
   shape_told =
-      shape_is (dyn_of c n (shape_of c counts)) (shape_of c counts) (let w = fit.whole in omega (arith, w, plps_len)) (let w = length-map-range_with_len (start_of c counts) 0 (length c.plps) in omega (arith, w, plps_len))
+      shape_is (dyn_of c n (shape_of c counts)) (shape_of c counts) (let w = fit.whole in omega (arith, w, plps_len))
+      (let w = length-map-range_with_len (start_of c counts) 0 (length c.plps) in omega (arith, w, plps_len))
       (λ k lt. sym (ap (λ (plp : DynPlp). plp.plp_num_blocks) (plp_there k no_dyn_plp (omega (arith, lt, plps_len)))))
       (λ k lt. sym (ap (λ (plp : DynPlp). plp.plp_start) (plp_there k no_dyn_plp (omega (arith, lt, plps_len)))))
       refl refl
@@ -202,7 +220,8 @@ module _ (c : Config) (plan : IsPlan c) (types : TypesFit c) (n : ℕ) (counts :
   })
 
   parts_shape : DynReadBack → DynWritten → ShapeFitsL1 → l1_shape c (l1_parts c n counts) ≡ Some (shape_of c counts)
-  parts_shape back written law = ap (option_map told_shape) (dyn_told back written law) ∙ ap (λ (shape : FrameShape). Some shape) (sym shape_told)
+  parts_shape back written law = ap (option_map told_shape) (dyn_told back written law) ∙ ap (λ (shape : FrameShape). Some shape)
+      (sym shape_told)
 
 -- ---- the L1-current of a frame of a run
 
@@ -210,7 +229,9 @@ abbrev pub frame_parts : Config → (ℕ → List (List ℕ)) → ℕ → L1Part
 frame_parts c inputs n = l1_parts c n (counts_of c (plp_blocks c inputs n))
 
 -- it tells the frame's shape
-pub frame_told : SlotLength → FieldRange → CountLaw → DynReadBack → DynWritten → ShapeFitsL1 → (c : Config) (inputs : ℕ → List (List ℕ)) (n : ℕ) → IsPlan c → TypesFit c
+pub frame_told : SlotLength → FieldRange → CountLaw → DynReadBack → DynWritten → ShapeFitsL1
+    → (c : Config) (inputs : ℕ → List (List ℕ)) (n : ℕ) → IsPlan c → TypesFit c
     → l1_shape c (frame_parts c inputs n) ≡ Some (frame_shape c inputs n)
 frame_told slot field count back written law c inputs n plan types =
-    parts_shape c plan types n (counts_of c (plp_blocks c inputs n)) (counts_fit slot field count c inputs n plan) back written law
+    parts_shape c plan types n (counts_of c (plp_blocks c inputs n)) (counts_fit slot field count c inputs n plan) back written
+    law

@@ -1,6 +1,7 @@
 pub mod SentFrames
 pub mod Types
 pub mod Laws
+-- of the crates below, for those who read this one
 pub use Rattle.frame_records.specs.Frames
 pub use Rattle.frame_records.specs.Records
 pub use Rattle.gateway_core.specs.Packets

@@ -24,7 +24,8 @@ sent_frames c inputs n = sent_from c 0 (bodies_before c inputs n)
 
 -- their stream
 abbrev pub frames_stream : Config → (ℕ → List (List ℕ)) → ℕ → Stream
-frames_stream c inputs n = record { pid = c.pid; frames = c.frames; count = n; sent = sent_frames c inputs n; packets = front_packets c inputs n }
+frames_stream c inputs n =
+    record { pid = c.pid; frames = c.frames; count = n; sent = sent_frames c inputs n; packets = front_packets c inputs n }
 
 -- how many frames a run has, and its stream
 abbrev pub run_length : Config → (ℕ → List (List ℕ)) → ℕ
@@ -41,11 +42,12 @@ stream_bytes s from fates = received (pipe s.pid s.packets) from fates
 abbrev pub all_kept : Stream → ℕ → List Fate
 all_kept s from = replicate (length (drop from (pipe s.pid s.packets))) Kept
 
--- the records that must come of the frames below n: from the first whole frame that begins a superframe to the last one of which a
--- packet survives, each whole frame, and each other one muted
+-- the records that must come of the frames below n: from the first whole frame that begins a superframe to the last one of which
+-- a packet survives, each whole frame, and each other one muted
 abbrev pub left_records : Config → (ℕ → List (List ℕ)) → ℕ → ℕ → List Fate → List RecordView
 left_records c inputs n from fates =
-    records c inputs (is_whole (sent_frames c inputs n) (stream_survival (frames_stream c inputs n) from fates)) (end_of (stream_survivors (frames_stream c inputs n) from fates))
+    records c inputs (is_whole (sent_frames c inputs n) (stream_survival (frames_stream c inputs n) from fates))
+    (end_of (stream_survivors (frames_stream c inputs n) from fates))
 
 -- and of a run
 abbrev pub run_records : Config → (ℕ → List (List ℕ)) → ℕ → List Fate → List RecordView

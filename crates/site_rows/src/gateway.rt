@@ -15,7 +15,7 @@ const KEPT: &str = "plp 0 type1 1 1/2 qpsk short 0 4 1 keep 2000000\n";
 const TWO: &str =
     "plp 7 type1 1 1/2 qpsk short 0 1 1 delete 500000\nplp 3 type1 1 1/2 qpsk short 0 1 1 delete 500000\n";
 
-// The stream of the small network where the input is empty: two superframes, of which each has a timestamp and the L1 of two frames.
+// The stream of the small network if the input is empty: two superframes, of which each has a timestamp and the L1 of two frames.
 const EMPTY_STREAM: &str = "\
     4741001000200000000058040029b9270000000000059c0c76e410010000022800000006101000fa0013e600000100020003\
     0203b0208000bf00020200007102aa00008c00004000200808001000000000007f0000000000000000000000000000000000\
@@ -46,7 +46,7 @@ fn spoil(bytes: &mut [u8], packet: u8) {
     }
 }
 
-// A run over a network and the inputs `0`, `1` and so on, where a read or a write moves at most so many bytes.
+// A run over a network and the inputs `0`, `1` and so on, if a read or a write moves at most so many bytes.
 fn ends(
     alloc: Global,
     words: &[&str],

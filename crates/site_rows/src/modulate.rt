@@ -48,7 +48,7 @@ pub(crate) fn stream(alloc: Global, plps: &str, count: usize) -> Result<Vec<u8>,
     Ok(bench.bytes("t").to_vec(alloc)?)
 }
 
-// A run over a network and its stream `t`, where a read or a write moves at most so many bytes.
+// A run over a network and its stream `t`, if a read or a write moves at most so many bytes.
 fn ends(
     alloc: Global,
     words: &[&str],

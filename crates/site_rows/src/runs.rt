@@ -175,7 +175,7 @@ pub(crate) fn said(alloc: Global, words: &[&str], file: &[u8]) -> Result<Ended, 
     said_by(alloc, words, file, usize::MAX)
 }
 
-/// The same where a read gives at most so many bytes.
+/// The same if a read gives at most so many bytes.
 pub(crate) fn said_by(
     alloc: Global,
     words: &[&str],

@@ -1,7 +1,10 @@
 -- Bits of numbers and bytes, the numbers of bits, and parts of bits.
-use Rattle.std.proofs.Common.{◌≡◌, ℕ, zero, suc, ◌+◌, ◌-◌, ◌*◌, ◌/◌, ◌%◌, ◌^◌, ◌<◌, ◌≤◌, ◌==◌, Bool, true, false, cond, List, [], ◌∷◌, ◌++◌, length, take, drop, map, get_or, refl, ap, sym, ◌∙◌, arith, length-append, add-one}
+use Rattle.std.proofs.Common.{◌≡◌, ℕ, zero, suc, ◌+◌, ◌-◌, ◌*◌, ◌/◌, ◌%◌, ◌^◌, ◌<◌, ◌≤◌, ◌==◌, Bool, true, false, cond, List, []}
+use Rattle.std.proofs.Common.{◌∷◌, ◌++◌, length, take, drop, map, get_or, refl, ap, sym, ◌∙◌, arith, length-append, add-one}
 use Rattle.std.specs.Int.{bit_at, bytes_high_first, byte_at as number_byte}
-use Rattle.std.proofs.lemmas.List.{append_assoc, take_at, take_all, drop_all, drop_more, take-append-drop, length-take-le, get_or_append_left, get_or-append-add, length_push, drop-take, take-take, drop-drop, get_or-take, get_or-drop, length-take, length-drop, drop-append-le, take-append-le}
+use Rattle.std.proofs.lemmas.List.{append_assoc, take_at, take_all, drop_all, drop_more, take-append-drop, length-take-le}
+use Rattle.std.proofs.lemmas.List.{get_or_append_left, get_or-append-add, length_push, drop-take, take-take, drop-drop}
+use Rattle.std.proofs.lemmas.List.{get_or-take, get_or-drop, length-take, length-drop, drop-append-le, take-append-le}
 use Rattle.std.specs.List.{range_with_len}
 use Rattle.std.proofs.lemmas.List.Concat.{flat_map-append}
 use Rattle.std.proofs.lemmas.List.FromFn.{fill_by_all, length-map-range_with_len}
@@ -33,7 +36,8 @@ get_or-field (suc w) n (suc j) h =
     get_or-field w n j (omega arith) ∙ ap (λ (k : ℕ). bit_at n k == 1) e
 
 -- the bit at a place of the bits of bytes
-pub get_or-bits_of : (bytes : List ℕ) (i j : ℕ) → j < 8 → i < length bytes → get_or (bits_of bytes) (8 * i + j) false ≡ (bit_at (get_or bytes i 0) (7 - j) == 1)
+pub get_or-bits_of : (bytes : List ℕ) (i j : ℕ) → j < 8 → i < length bytes → get_or (bits_of bytes) (8 * i + j) false
+    ≡ (bit_at (get_or bytes i 0) (7 - j) == 1)
 get_or-bits_of [] i j within h = absurd (omega arith)
 get_or-bits_of (b ∷ bytes) zero j within h =
     let e : 8 * 0 + j ≡ j = omega arith in
@@ -48,8 +52,10 @@ get_or-bits_of (b ∷ bytes) (suc i) j within h =
 
 pub number_of-lt : (bs : List Bool) → number_of bs < 2 ^ length bs
 number_of-lt [] = omega arith
-number_of-lt (true ∷ bs) = let e : 2 ^ suc (length bs) ≡ 2 * 2 ^ length bs = pow-succ' 2 (length bs) in omega (arith, number_of-lt bs, e)
-number_of-lt (false ∷ bs) = let e : 2 ^ suc (length bs) ≡ 2 * 2 ^ length bs = pow-succ' 2 (length bs) in omega (arith, number_of-lt bs, e)
+number_of-lt (true ∷ bs) = let e : 2 ^ suc (length bs) ≡ 2 * 2 ^ length bs = pow-succ' 2 (length bs) in
+    omega (arith, number_of-lt bs, e)
+number_of-lt (false ∷ bs) = let e : 2 ^ suc (length bs) ≡ 2 * 2 ^ length bs = pow-succ' 2 (length bs) in
+    omega (arith, number_of-lt bs, e)
 
 -- one more bit at the end
 pub number_of-push : (bs : List Bool) (b : Bool) → number_of (bs ++ b ∷ []) ≡ 2 * number_of bs + (cond b 1 0)
@@ -61,7 +67,8 @@ number_of-push (true ∷ bs) b =
 number_of-push (false ∷ bs) b = omega (arith, number_of-push bs b)
 
 -- a part of a part
-pub part-part : {X : Type 0} (xs : List X) (f l g m : ℕ) → g + m ≤ l → take m (drop g (take l (drop f xs))) ≡ take m (drop (f + g) xs)
+pub part-part : {X : Type 0} (xs : List X) (f l g m : ℕ) → g + m ≤ l → take m (drop g (take l (drop f xs)))
+    ≡ take m (drop (f + g) xs)
 part-part xs f l g m h =
     let e : l ≡ g + (l - g) = omega arith in
     let within : m ≤ l - g = omega arith in
@@ -71,7 +78,8 @@ part-part xs f l g m h =
     ∙ ap (take m) (drop-drop g f xs)
 
 -- an element of a part
-pub get_or-part : {X : Type 0} (xs : List X) (f l at : ℕ) (d : X) → at < l → get_or (take l (drop f xs)) at d ≡ get_or xs (f + at) d
+pub get_or-part : {X : Type 0} (xs : List X) (f l at : ℕ) (d : X) → at < l → get_or (take l (drop f xs)) at d
+    ≡ get_or xs (f + at) d
 get_or-part xs f l at d h = get_or-take l (drop f xs) at d h ∙ get_or-drop f xs at d
 
 pub length-part : {X : Type 0} (xs : List X) (f l : ℕ) → f + l ≤ length xs → length (take l (drop f xs)) ≡ l
@@ -87,8 +95,10 @@ part-append xs ys f l h =
 pub number_of-append : (xs ys : List Bool) → number_of (xs ++ ys) ≡ number_of xs * 2 ^ length ys + number_of ys
 number_of-append [] ys = omega arith
 number_of-append (true ∷ xs) ys =
-    let size : 2 ^ length (xs ++ ys) ≡ 2 ^ length xs * 2 ^ length ys = rw (length-append xs ys) (pow-add 2 (length xs) (length ys)) in
-    let product : (2 ^ length xs + number_of xs) * 2 ^ length ys ≡ 2 ^ length xs * 2 ^ length ys + number_of xs * 2 ^ length ys = add-mul (2 ^ length xs) (number_of xs) (2 ^ length ys) in
+    let size : 2 ^ length (xs ++ ys) ≡ 2 ^ length xs * 2 ^ length ys =
+    rw (length-append xs ys) (pow-add 2 (length xs) (length ys)) in
+    let product : (2 ^ length xs + number_of xs) * 2 ^ length ys ≡ 2 ^ length xs * 2 ^ length ys + number_of xs * 2 ^ length ys =
+    add-mul (2 ^ length xs) (number_of xs) (2 ^ length ys) in
     omega (arith, number_of-append xs ys, size, product)
 number_of-append (false ∷ xs) ys = omega (arith, number_of-append xs ys)
 
@@ -125,10 +135,12 @@ unfolding field
 field-number_of [] = refl
 field-number_of (true ∷ bs) =
     let one : 2 ^ length bs + number_of bs ≡ 1 * 2 ^ length bs + number_of bs = omega arith in
-    let top : bit_at (1 * 2 ^ length bs + number_of bs) (length bs) ≡ 1 = ap (λ (x : ℕ). x % 2) (shr_high 1 (length bs) (number_of bs) (number_of-lt bs)) in
+    let top : bit_at (1 * 2 ^ length bs + number_of bs) (length bs) ≡ 1 =
+    ap (λ (x : ℕ). x % 2) (shr_high 1 (length bs) (number_of bs) (number_of-lt bs)) in
     rw (one, top, field-high (length bs) 1 (number_of bs) (length bs) (omega arith), field-number_of bs) refl
 field-number_of (false ∷ bs) =
-    let top : bit_at (number_of bs) (length bs) ≡ 0 = bit_at_above (number_of bs) (length bs) (length bs) (number_of-lt bs) (omega arith) in
+    let top : bit_at (number_of bs) (length bs) ≡ 0 = bit_at_above (number_of bs) (length bs) (length bs) (number_of-lt bs)
+    (omega arith) in
     let none : 0 + number_of bs ≡ number_of bs = omega arith in
     rw (none, top, field-number_of bs) refl
 
@@ -143,7 +155,8 @@ pub field-number : (width : ℕ) (bits : List Bool) → length bits ≡ width �
 field-number width bits size = ap (λ (k : ℕ). field k (number_of bits)) (sym size) ∙ field-number_of bits
 
 -- a field that stands in bits holds the number that it spells
-pub field-number_at : (bits : List Bool) (at width : ℕ) → at + width ≤ length bits → field width (number_of (take width (drop at bits))) ≡ take width (drop at bits)
+pub field-number_at : (bits : List Bool) (at width : ℕ) → at + width ≤ length bits
+    → field width (number_of (take width (drop at bits))) ≡ take width (drop at bits)
 field-number_at bits at width h = field-number width (take width (drop at bits)) (length-part bits at width h)
 
 pub drop-bits_of : (n : ℕ) (bytes : List ℕ) → drop (8 * n) (bits_of bytes) ≡ bits_of (drop n bytes)
@@ -158,18 +171,22 @@ drop-bits_of (suc n) (b ∷ bytes) =
 
 pub take-bits_of : (n : ℕ) (bytes : List ℕ) → n ≤ length bytes → take (8 * n) (bits_of bytes) ≡ bits_of (take n bytes)
 take-bits_of n bytes h =
-    let parts : bits_of bytes ≡ bits_of (take n bytes) ++ bits_of (drop n bytes) = sym (ap bits_of (take-append-drop n bytes)) ∙ bits_of-append (take n bytes) (drop n bytes) in
-    let size : length (bits_of (take n bytes)) ≡ 8 * n = length-bits_of (take n bytes) ∙ ap (λ (k : ℕ). 8 * k) (length-take-le n bytes h) in
+    let parts : bits_of bytes ≡ bits_of (take n bytes) ++ bits_of (drop n bytes) = sym (ap bits_of (take-append-drop n bytes))
+    ∙ bits_of-append (take n bytes) (drop n bytes) in
+    let size : length (bits_of (take n bytes)) ≡ 8 * n = length-bits_of (take n bytes)
+    ∙ ap (λ (k : ℕ). 8 * k) (length-take-le n bytes h) in
     ap (take (8 * n)) parts ∙ take_at (bits_of (take n bytes)) (bits_of (drop n bytes)) (8 * n) size
 
 -- the bits of some bytes are a part of the bits of all
-pub part-bits_of : (bytes : List ℕ) (from count : ℕ) → from + count ≤ length bytes → part (bits_of bytes) (8 * from) (8 * count) ≡ bits_of (take count (drop from bytes))
+pub part-bits_of : (bytes : List ℕ) (from count : ℕ) → from + count ≤ length bytes → part (bits_of bytes) (8 * from) (8 * count)
+    ≡ bits_of (take count (drop from bytes))
 part-bits_of bytes from count h =
     let inside : count ≤ length (drop from bytes) = simp length-drop (omega arith) in
     ap (take (8 * count)) (drop-bits_of from bytes) ∙ take-bits_of count (drop from bytes) inside
 
 -- The number of a part: what stands behind it is shifted out, and what stands before it is masked out.
-pub number_of-part : (bits : List Bool) (at width : ℕ) → at + width ≤ length bits → number_of (part bits at width) ≡ number_of bits / 2 ^ (length bits - (at + width)) % 2 ^ width
+pub number_of-part : (bits : List Bool) (at width : ℕ) → at + width ≤ length bits → number_of (part bits at width)
+    ≡ number_of bits / 2 ^ (length bits - (at + width)) % 2 ^ width
 number_of-part bits at width h =
     let front : List Bool = take at bits in
     let here : List Bool = part bits at width in
@@ -177,15 +194,20 @@ number_of-part bits at width h =
     let wide : length here ≡ width = length-part bits at width h in
     let left : length behind ≡ length bits - (at + width) = simp length-drop (omega arith) in
     let spelled : number_of bits ≡ (number_of front * 2 ^ width + number_of here) * 2 ^ length behind + number_of behind =
-    sym (ap number_of (take-append-drop at bits)) ∙ ap (λ (bs : List Bool). number_of (front ++ bs)) (sym (take-append-drop width (drop at bits)))
+    sym (ap number_of (take-append-drop at bits)) ∙ ap (λ (bs : List Bool). number_of (front ++ bs))
+    (sym (take-append-drop width (drop at bits)))
     ∙ ap number_of (sym (append_assoc front here behind)) ∙ number_of-append (front ++ here) behind
-    ∙ ap (λ (n : ℕ). n * 2 ^ length behind + number_of behind) (number_of-append front here ∙ ap (λ (n : ℕ). number_of front * 2 ^ n + number_of here) wide) in
+    ∙ ap (λ (n : ℕ). n * 2 ^ length behind + number_of behind)
+    (number_of-append front here ∙ ap (λ (n : ℕ). number_of front * 2 ^ n + number_of here) wide) in
     let small : number_of here < 2 ^ width = rw wide at (number_of-lt here) in
-    let shifted : number_of bits / 2 ^ length behind ≡ number_of front * 2 ^ width + number_of here = rw spelled (shr_high (number_of front * 2 ^ width + number_of here) (length behind) (number_of behind) (number_of-lt behind)) in
+    let shifted : number_of bits / 2 ^ length behind ≡ number_of front * 2 ^ width + number_of here =
+    rw spelled (shr_high (number_of front * 2 ^ width + number_of here) (length behind) (number_of behind)
+    (number_of-lt behind)) in
     sym (rw (← left, shifted) (mod_low (number_of front) width (number_of here) small))
 
 -- a byte read as a field
-pub number_at-bits_of : (bytes : List ℕ) (k : ℕ) → k < length bytes → number_at (bits_of bytes) (8 * k) 8 ≡ get_or bytes k 0 % 2 ^ 8
+pub number_at-bits_of : (bytes : List ℕ) (k : ℕ) → k < length bytes → number_at (bits_of bytes) (8 * k) 8
+    ≡ get_or bytes k 0 % 2 ^ 8
 number_at-bits_of bytes k h =
     ap (λ (bs : List Bool). number_of (take 8 bs)) (drop-bits_of k bytes ∙ ap bits_of (drop_more bytes k 0 h))
     ∙ ap number_of (take-field 8 (get_or bytes k 0) (bits_of (drop (k + 1) bytes)))
@@ -202,13 +224,15 @@ pub bytes_of_fields : (bits : List Bool) (bytes : List ℕ) → length bits ≡ 
     ((k : ℕ) → k < length bytes → get_or bytes k 0 ≡ number_at bits (8 * k) 8) → bytes ≡ bytes_of bits
 bytes_of_fields bits bytes size held =
     let count : length bytes ≡ bytes_for (length bits) = omega arith in
-    let each : (k : ℕ) → k < length bytes → get_or bytes k 0 ≡ byte_at bits k = λ k h. held k h ∙ sym (byte_at-whole bits k (omega arith)) in
+    let each : (k : ℕ) → k < length bytes → get_or bytes k 0 ≡ byte_at bits k =
+    λ k h. held k h ∙ sym (byte_at-whole bits k (omega arith)) in
     fill_by_all (byte_at bits) bytes (length bytes) 0 refl each ∙ ap (λ (n : ℕ). map (byte_at bits) (range_with_len 0 n)) count
 
 -- bytes are what their bits fill
 pub bytes_of-bits_of : (bytes : List ℕ) → ((k : ℕ) → get_or bytes k 0 < 256) → bytes_of (bits_of bytes) ≡ bytes
 bytes_of-bits_of bytes small =
-    sym (bytes_of_fields (bits_of bytes) bytes (length-bits_of bytes) (λ k h. sym (number_at-bits_of bytes k h ∙ mod-eq_of_lt (small k))))
+    sym (bytes_of_fields (bits_of bytes) bytes (length-bits_of bytes)
+    (λ k h. sym (number_at-bits_of bytes k h ∙ mod-eq_of_lt (small k))))
 
 -- the bytes from one on, as far as whole bytes stand there, have the bits from there on
 bits_of-bytes_from : (bits : List Bool) (from count : ℕ) → 8 * (from + count) ≤ length bits →
@@ -235,15 +259,24 @@ pub length-bytes_of : (bits : List Bool) → length (bytes_of bits) ≡ bytes_fo
 length-bytes_of bits = length-map-range_with_len (byte_at bits) 0 (bytes_for (length bits))
 
 -- the number of bytes, the first of them apart
-pub number_of-bytes : (byte : ℕ) (bytes : List ℕ) → byte < 256 → number_of (bits_of (byte ∷ bytes)) ≡ byte * 2 ^ (8 * length bytes) + number_of (bits_of bytes)
+pub number_of-bytes : (byte : ℕ) (bytes : List ℕ) → byte < 256 → number_of (bits_of (byte ∷ bytes))
+    ≡ byte * 2 ^ (8 * length bytes) + number_of (bits_of bytes)
 number_of-bytes byte bytes small =
     number_of-append (field 8 byte) (bits_of bytes)
-    ∙ rw (length-bits_of bytes) (ap (λ (n : ℕ). n * 2 ^ (8 * length bytes) + number_of (bits_of bytes)) (number_of-field 8 byte small))
+    ∙ rw (length-bits_of bytes) (ap (λ (n : ℕ). n * 2 ^ (8 * length bytes) + number_of (bits_of bytes))
+    (number_of-field 8 byte small))
 
 -- the number of four bytes
-pub four_bytes : (a b c d : ℕ) → a < 256 → b < 256 → c < 256 → d < 256 → number_of (bits_of (a ∷ b ∷ c ∷ d ∷ [])) ≡ a * 2 ^ 24 + b * 2 ^ 16 + c * 2 ^ 8 + d
+pub four_bytes : (a b c d : ℕ) → a < 256 → b < 256 → c < 256 → d < 256 → number_of (bits_of (a ∷ b ∷ c ∷ d ∷ [])) ≡ a * 2 ^ 24 + b
+    * 2 ^ 16 + c * 2 ^ 8 + d
 four_bytes a b c d fits_a fits_b fits_c fits_d =
-    omega (arith, number_of-bytes a (b ∷ c ∷ d ∷ []) fits_a, number_of-bytes b (c ∷ d ∷ []) fits_b, number_of-bytes c (d ∷ []) fits_c, number_of-bytes d [] fits_d)
+    omega (
+      arith,
+      number_of-bytes a (b ∷ c ∷ d ∷ []) fits_a,
+      number_of-bytes b (c ∷ d ∷ []) fits_b,
+      number_of-bytes c (d ∷ []) fits_c,
+      number_of-bytes d [] fits_d,
+    )
 
 -- a wide field in two
 pub field-add : (a b n : ℕ) → field (a + b) n ≡ field a (n / 2 ^ b) ++ field b n
@@ -284,7 +317,8 @@ bits_of-high-first zero n = sym (field-none n)
 bits_of-high-first (suc k) n =
     let e : 8 * suc k ≡ 8 + 8 * k = omega arith in
     let rest = bits_of-high-first k n in
-    ap (λ (xs : List Bool). xs ++ bits_of (bytes_high_first k n)) (field-byte k n) ∙ ap (λ (xs : List Bool). field 8 (n / 2 ^ (8 * k)) ++ xs) rest
+    ap (λ (xs : List Bool). xs ++ bits_of (bytes_high_first k n)) (field-byte k n)
+    ∙ ap (λ (xs : List Bool). field 8 (n / 2 ^ (8 * k)) ++ xs) rest
     ∙ sym (ap (λ (x : ℕ). field x n) e ∙ field-add 8 (8 * k) n)
 
 -- a number that was read off is as narrow as its field

@@ -33,7 +33,8 @@ decide_if (yes p) (no f) = no (λ h. f (h p))
 decide_if (yes p) (yes q) = yes (λ h. q)
 
 -- One of two things is so of each number: the first of all below a count, or the second of a number, and the first of all before.
-pub first_other : (A B : ℕ → Type 0) → ((n : ℕ) → A n ⊎ B n) → (count : ℕ) → ((n : ℕ) → n < count → A n) ⊎ ((n : ℕ) × (n < count) × B n × ((m : ℕ) → m < n → A m))
+pub first_other : (A B : ℕ → Type 0) → ((n : ℕ) → A n ⊎ B n) → (count : ℕ) → ((n : ℕ) → n < count → A n)
+    ⊎ ((n : ℕ) × (n < count) × B n × ((m : ℕ) → m < n → A m))
 first_other A B each zero = inl (λ n lt. absurd (omega arith))
 first_other A B each (suc count) =
     elim (first_other A B each count) [
@@ -45,7 +46,8 @@ first_other A B each (suc count) =
     ]
 
 -- the first number below a count at which something fails, or none
-pub first_failure : (P : ℕ → Type 0) → ((n : ℕ) → Dec (P n)) → (count : ℕ) → ((n : ℕ) → n < count → P n) ⊎ ((n : ℕ) × (n < count) × ¬ (P n) × ((m : ℕ) → m < n → P m))
+pub first_failure : (P : ℕ → Type 0) → ((n : ℕ) → Dec (P n)) → (count : ℕ) → ((n : ℕ) → n < count → P n)
+    ⊎ ((n : ℕ) × (n < count) × ¬ (P n) × ((m : ℕ) → m < n → P m))
 first_failure P each count = first_other P (λ n. ¬ (P n)) (λ n. as_sum (each n)) count
 
 -- whether something is so of all numbers below a count

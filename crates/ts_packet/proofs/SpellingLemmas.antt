@@ -1,21 +1,28 @@
 -- What was read place by place, put together: the bytes spell a packet.
-use Rattle.std.proofs.Common.{◌≡◌, ℕ, zero, suc, ◌+◌, ◌-◌, ◌*◌, ◌%◌, ◌^◌, ◌<◌, ◌≤◌, ◌==◌, inl, Bool, true, false, List, [], ◌∷◌, ◌++◌, length, take, drop, get_or, refl, ap, sym, subst, ◌∙◌, arith}
+use Rattle.std.proofs.Common.{◌≡◌, ℕ, zero, suc, ◌+◌, ◌-◌, ◌*◌, ◌%◌, ◌^◌, ◌<◌, ◌≤◌, ◌==◌, inl, Bool, true, false, List, [], ◌∷◌}
+use Rattle.std.proofs.Common.{◌++◌, length, take, drop, get_or, refl, ap, sym, subst, ◌∙◌, arith}
 use Rattle.std.specs.Prelude.{Result, Ok, Err, IfOk, Option, Some, None}
-use Rattle.std.proofs.lemmas.List.{take-append-drop, take_all, drop_all, drop_more, drop-drop, length-drop, length-take-le, append_assoc}
+use Rattle.std.proofs.lemmas.List.{take-append-drop, take_all, drop_all, drop_more, drop-drop, length-drop, length-take-le}
+use Rattle.std.proofs.lemmas.List.{append_assoc}
 use Rattle.terms.specs.Bits.{field, bits_of, number_of, part, number_at, bytes_of}
-use Rattle.terms.proofs.BitLemmas.{length-bits_of, length-part, part-bits_of, field-number_at, bytes_of-bits_of, number_at-bits_of, number_at-lt, small_take}
+use Rattle.terms.proofs.BitLemmas.{length-bits_of, length-part, part-bits_of, field-number_at, bytes_of-bits_of}
+use Rattle.terms.proofs.BitLemmas.{number_at-bits_of, number_at-lt, small_take}
 use Rattle.terms.proofs.PartLemmas.{part-add}
-use Rattle.ts_packet.specs.TransportPacket.{Fields, flag, header_bits, control_of, adaptation_bytes, packet_bytes, Spells, HasSync, control_at, length_at, IsBadAdaptation}
+use Rattle.ts_packet.specs.TransportPacket.{Fields, flag, header_bits, control_of, adaptation_bytes, packet_bytes, Spells}
+use Rattle.ts_packet.specs.TransportPacket.{HasSync, control_at, length_at, IsBadAdaptation}
 use Rattle.ts_packet.specs.Reading.{fields_of, place_for, IsRead}
 use Rattle.ts_packet.proofs.HeaderLemmas.{front_number, header_number}
 
 -- A header and a payload that were read off are those of the bytes.
-pub is_read : (bytes : List ℕ) (header place control : ℕ) → length bytes ≡ 188 → HasSync bytes → field 32 header ≡ part (bits_of bytes) 0 32 →
-    control ≡ number_at (field 32 header) 26 2 → ¬ (IsBadAdaptation control (length_at bytes)) → place ≡ place_for control (length_at bytes) →
+pub is_read : (bytes : List ℕ) (header place control : ℕ) → length bytes ≡ 188 → HasSync bytes
+    → field 32 header ≡ part (bits_of bytes) 0 32 →
+    control ≡ number_at (field 32 header) 26 2 → ¬ (IsBadAdaptation control (length_at bytes))
+    → place ≡ place_for control (length_at bytes) →
     IsRead bytes (fields_of (field 32 header) (take (188 - place) (drop place bytes)))
 is_read bytes header place control long sync e told good at =
     let seen : control ≡ control_at bytes = told ∙ header_number bytes header 26 2 e (omega arith) in
-    let rest : take (188 - place) (drop place bytes) ≡ drop place bytes = take_all (188 - place) (drop place bytes) (simp length-drop (omega (arith, long))) in
+    let rest : take (188 - place) (drop place bytes) ≡ drop place bytes =
+    take_all (188 - place) (drop place bytes) (simp length-drop (omega (arith, long))) in
     let here : place ≡ place_for (control_at bytes) (length_at bytes) = at ∙ ap (λ (n : ℕ). place_for n (length_at bytes)) seen in
     record {
       sync = sync;
@@ -35,7 +42,8 @@ flag_at : (bits : List Bool) (at : ℕ) → at < length bits → part bits at 1 
 flag_at bits at h = one_bit (drop at bits) (simp length-drop (omega arith))
 
 -- a header, part by part
-header_parts : (bits : List Bool) → part bits 0 32 ≡ part bits 0 8 ++ part bits 8 1 ++ part bits 9 1 ++ part bits 10 1 ++ part bits 11 13 ++ part bits 24 2 ++ part bits 26 2 ++ part bits 28 4
+header_parts : (bits : List Bool) → part bits 0 32 ≡ part bits 0 8 ++ part bits 8 1 ++ part bits 9 1 ++ part bits 10 1
+    ++ part bits 11 13 ++ part bits 24 2 ++ part bits 26 2 ++ part bits 28 4
 header_parts bits =
     part-add bits 0 28 4
     ∙ ap (λ (front : List Bool). front ++ part bits 28 4) (part-add bits 0 26 2
@@ -69,10 +77,12 @@ record Behind (bytes : List ℕ) (control : ℕ) (payload : List ℕ) : Type 0 w
 field_parts : (bytes : List ℕ) (len : ℕ) → length bytes ≡ 188 → len ≡ length_at bytes → 5 + len ≤ 188 →
     drop 4 bytes ≡ adaptation_bytes (Some (take len (drop 5 bytes))) ++ drop (5 + len) bytes
 field_parts bytes len long told inside =
-    let size : length (take len (drop 5 bytes)) ≡ len = length-take-le len (drop 5 bytes) (simp length-drop (omega (arith, long))) in
+    let size : length (take len (drop 5 bytes)) ≡ len =
+    length-take-le len (drop 5 bytes) (simp length-drop (omega (arith, long))) in
     drop_more bytes 4 0 (omega (arith, long))
     ∙ ap (λ (n : ℕ). n ∷ drop 5 bytes) (sym told ∙ sym size)
-    ∙ ap (λ (xs : List ℕ). length (take len (drop 5 bytes)) ∷ xs) (sym (take-append-drop len (drop 5 bytes)) ∙ ap (λ (xs : List ℕ). take len (drop 5 bytes) ++ xs) (drop-drop len 5 bytes))
+    ∙ ap (λ (xs : List ℕ). length (take len (drop 5 bytes)) ∷ xs) (sym (take-append-drop len (drop 5 bytes))
+    ∙ ap (λ (xs : List ℕ). take len (drop 5 bytes) ++ xs) (drop-drop len 5 bytes))
 
 -- where the length is not bad, it is the one asked for
 exact : (len : ℕ) → ¬ (IsBadAdaptation 2 len) → len ≡ 183
@@ -99,7 +109,8 @@ behind bytes (suc (suc zero)) long small good =
 behind bytes (suc (suc (suc zero))) long small good =
     let len : ℕ = length_at bytes in
     let short : len ≤ 182 = most len good in
-    let some : drop (5 + len) bytes ≡ get_or bytes (5 + len) 0 ∷ drop (5 + len + 1) bytes = drop_more bytes (5 + len) 0 (omega (arith, long, short)) in
+    let some : drop (5 + len) bytes ≡ get_or bytes (5 + len) 0 ∷ drop (5 + len + 1) bytes =
+    drop_more bytes (5 + len) 0 (omega (arith, long, short)) in
     record {
       adaptation = Some (take len (drop 5 bytes));
       told = sym (ap (control_of (Some (take len (drop 5 bytes)))) some);
@@ -108,7 +119,8 @@ behind bytes (suc (suc (suc zero))) long small good =
 behind bytes (suc (suc (suc (suc n)))) long small good = absurd (omega arith)
 
 -- What was read off is spelled by the bytes.
-pub spelled : (bytes : List ℕ) (f : Fields) → length bytes ≡ 188 → ((k : ℕ) → get_or bytes k 0 < 256) → IsRead bytes f → Spells f bytes
+pub spelled : (bytes : List ℕ) (f : Fields) → length bytes ≡ 188 → ((k : ℕ) → get_or bytes k 0 < 256) → IsRead bytes f
+    → Spells f bytes
 unfolding packet_bytes
 spelled bytes f long small r =
     let bits : List Bool = bits_of bytes in
@@ -118,12 +130,15 @@ spelled bytes f long small r =
     let payload : List ℕ = drop (place_for (control_at bytes) (length_at bytes)) bytes in
     let fields : Fields = fields_of header payload in
     let priority : Bool = number_at header 10 1 == 1 in
-    let sync : number_at header 0 8 ≡ 0x47 = front_number bits 0 8 (omega arith) ∙ number_at-bits_of bytes 0 (omega (arith, long)) ∙ ap (λ (n : ℕ). n % 2 ^ 8) r.sync in
-    let rest : Behind bytes (control_at bytes) payload = behind bytes (control_at bytes) long (number_at-lt bits 26 2 (omega (arith, size))) r.adaptation in
+    let sync : number_at header 0 8 ≡ 0x47 = front_number bits 0 8 (omega arith) ∙ number_at-bits_of bytes 0 (omega (arith, long))
+    ∙ ap (λ (n : ℕ). n % 2 ^ 8) r.sync in
+    let rest : Behind bytes (control_at bytes) payload =
+    behind bytes (control_at bytes) long (number_at-lt bits 26 2 (omega (arith, size))) r.adaptation in
     let whole : header ≡ header_bits fields priority (control_of rest.adaptation payload) =
     header_is header payload wide sync ∙ ap (header_bits fields priority) (front_number bits 26 2 (omega arith) ∙ rest.told) in
     let front : take 4 bytes ≡ bytes_of (header_bits fields priority (control_of rest.adaptation payload)) =
-    sym (bytes_of-bits_of (take 4 bytes) (small_take 4 bytes small)) ∙ ap bytes_of (sym (part-bits_of bytes 0 4 (omega (arith, long))) ∙ whole) in
+    sym (bytes_of-bits_of (take 4 bytes) (small_take 4 bytes small))
+    ∙ ap bytes_of (sym (part-bits_of bytes 0 4 (omega (arith, long))) ∙ whole) in
     subst (λ (g : Fields). Spells g bytes) (sym r.fields) (record {
       fits = record {
         pid = number_at-lt header 11 13 (omega (arith, wide));
@@ -135,10 +150,12 @@ spelled bytes f long small r =
       whole = long;
       spelled = sym (take-append-drop 4 bytes) ∙ ap (λ (xs : List ℕ). xs ++ drop 4 bytes) front
           ∙ ap (λ (xs : List ℕ). bytes_of (header_bits fields priority (control_of rest.adaptation payload)) ++ xs) rest.parts
-          ∙ sym (append_assoc (bytes_of (header_bits fields priority (control_of rest.adaptation payload))) (adaptation_bytes rest.adaptation) payload);
+          ∙ sym (append_assoc (bytes_of (header_bits fields priority (control_of rest.adaptation payload)))
+          (adaptation_bytes rest.adaptation) payload);
     })
 
 -- the same of an answer
-pub ok_spelled : {E : Type 0} (bytes : List ℕ) (r : Result Fields E) → length bytes ≡ 188 → ((k : ℕ) → get_or bytes k 0 < 256) → IfOk r (IsRead bytes) → IfOk r (λ f. Spells f bytes)
+pub ok_spelled : {E : Type 0} (bytes : List ℕ) (r : Result Fields E) → length bytes ≡ 188 → ((k : ℕ) → get_or bytes k 0 < 256)
+    → IfOk r (IsRead bytes) → IfOk r (λ f. Spells f bytes)
 ok_spelled bytes (Ok f) long small h = spelled bytes f long small h
 ok_spelled bytes (Err e) long small h = tt

@@ -1,5 +1,6 @@
 -- Laws of transport packets.
-use Rattle.std.specs.Prelude.{◌≡◌, ◌⊎◌, ◌==◌, ◌+◌, ◌<◌, ◌≤◌, ◌^◌, ℕ, List, true, length, drop, slice_index, replicate, Option, Some, None}
+use Rattle.std.specs.Prelude.{◌≡◌, ◌⊎◌, ◌==◌, ◌+◌, ◌<◌, ◌≤◌, ◌^◌, ℕ, List, true, length, drop, slice_index, replicate, Option}
+use Rattle.std.specs.Prelude.{Some, None}
 use Rattle.ts_packet.specs.declared.sizes.TheConstants.{PAYLOAD, SIZE}
 use Rattle.ts_packet.specs.declared.fault.TsFault.{TsFault}
 use Rattle.ts_packet.specs.TransportPacket.{Fields, Spells, Refuses}
@@ -26,7 +27,8 @@ OneRefusal = (bytes : List ℕ) (fault other : TsFault) → Refuses bytes fault 
 
 -- What was written spells what was to be written.
 abbrev pub WrittenSpells : Type 0
-WrittenSpells = (pid counter : ℕ) (pointer : Option ℕ) (payload : List ℕ) → pid < 2 ^ 13 → counter < 2 ^ 4 → 1 ≤ length payload → length (area_of pointer payload) ≤ PAYLOAD
+WrittenSpells = (pid counter : ℕ) (pointer : Option ℕ) (payload : List ℕ) → pid < 2 ^ 13 → counter < 2 ^ 4 → 1 ≤ length payload
+    → length (area_of pointer payload) ≤ PAYLOAD
     → Spells (written_fields pid counter pointer payload) (written_bytes pid counter pointer payload)
 
 -- A packet is null where its PID is that of null packets.
@@ -41,8 +43,10 @@ CanonicalNull = (is_null null_packet ≡ true) × Spells (written_fields 0x1FFF 
 pub record FieldsTold : Type 0 where
   pub spelled : (f : Fields) (bytes : List ℕ) → Spells f bytes → fields_in bytes ≡ Some f
   pub refused : (bytes : List ℕ) (fault : TsFault) → Refuses bytes fault → fields_in bytes ≡ None
-  pub told : (f : Fields) (bytes : List ℕ) → length bytes ≡ SIZE → ((k : ℕ) → slice_index bytes k < 256) → fields_in bytes ≡ Some f → Spells f bytes
+  pub told : (f : Fields) (bytes : List ℕ) → length bytes ≡ SIZE → ((k : ℕ) → slice_index bytes k < 256)
+      → fields_in bytes ≡ Some f → Spells f bytes
 
 -- The payload is the end of the packet.
 abbrev pub PayloadLast : Type 0
-PayloadLast = (f : Fields) (bytes : List ℕ) (front : ℕ) → Spells f bytes → front + length f.payload ≡ SIZE → (drop front bytes ≡ f.payload) × (4 ≤ front)
+PayloadLast = (f : Fields) (bytes : List ℕ) (front : ℕ) → Spells f bytes → front + length f.payload ≡ SIZE
+    → (drop front bytes ≡ f.payload) × (4 ≤ front)

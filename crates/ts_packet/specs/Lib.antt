@@ -5,4 +5,5 @@ pub mod Told
 pub mod TsFile
 pub mod Written
 pub mod Laws
+-- of the crates below, for those who read this one
 pub use Rattle.terms.specs.Bits

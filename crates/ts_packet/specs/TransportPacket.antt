@@ -23,7 +23,8 @@ flag b = b ∷ []
 -- transport_scrambling_control, adaptation_field_control, continuity_counter
 abbrev pub header_bits : Fields → Bool → ℕ → List Bool
 header_bits f priority control =
-    field 8 SYNC ++ flag f.error ++ flag f.starts ++ flag priority ++ field 13 f.pid ++ field 2 f.scrambling ++ field 2 control ++ field 4 f.counter
+    field 8 SYNC ++ flag f.error ++ flag f.starts ++ flag priority ++ field 13 f.pid ++ field 2 f.scrambling ++ field 2 control
+    ++ field 4 f.counter
 
 -- adaptation_field_control (table 2-5): 1 where a payload alone follows, 2 where an adaptation field alone, 3 where both
 abbrev pub control_of : Option (List ℕ) → List ℕ → ℕ
@@ -38,7 +39,8 @@ adaptation_bytes (Some adaptation) = length adaptation ∷ adaptation
 
 -- the whole packet: header, adaptation field and payload
 unfoldable pub packet_bytes : Fields → Bool → Option (List ℕ) → List ℕ
-packet_bytes f priority adaptation = bytes_of (header_bits f priority (control_of adaptation f.payload)) ++ adaptation_bytes adaptation ++ f.payload
+packet_bytes f priority adaptation = bytes_of (header_bits f priority (control_of adaptation f.payload))
+    ++ adaptation_bytes adaptation ++ f.payload
 
 -- Each field fits its width.
 pub record Fits (f : Fields) : Type 0 where
@@ -66,7 +68,8 @@ control_at bytes = number_at (bits_of bytes) 26 2
 abbrev pub length_at : List ℕ → ℕ
 length_at bytes = slice_index bytes 4
 
--- adaptation_field_control is the reserved 0, or an adaptation field alone does not fill the packet, or one before a payload leaves it no byte.
+-- adaptation_field_control is the reserved 0, or an adaptation field alone does not fill the packet, or one before a payload
+-- leaves it no byte.
 abbrev pub IsBadAdaptation : ℕ → ℕ → Type 0
 IsBadAdaptation control len = (control ≡ 0) ⊎ (((control ≡ 2) × (len ≢ 183)) ⊎ ((control ≡ 3) × (182 < len)))
 

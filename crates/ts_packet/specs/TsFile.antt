@@ -1,5 +1,6 @@
 -- Files of transport packets that stand back to back (ISO/IEC 13818-1, clause 2.4.3).
-use Rattle.std.specs.Prelude.{◌≢◌, ℕ, zero, suc, ◌*◌, ◌==◌, ◌&&◌, nat_le, Bool, List, [], ◌∷◌, length, take, drop, slice_index, flat_map, if◌then◌else◌}
+use Rattle.std.specs.Prelude.{◌≢◌, ℕ, zero, suc, ◌*◌, ◌==◌, ◌&&◌, nat_le, Bool, List, [], ◌∷◌, length, take, drop, slice_index}
+use Rattle.std.specs.Prelude.{flat_map, if◌then◌else◌}
 use Rattle.ts_packet.specs.declared.sizes.TheConstants.{SIZE, SYNC}
 
 -- A packet stands at the front: there are enough bytes, and the first is the sync byte.

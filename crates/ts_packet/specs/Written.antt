@@ -3,7 +3,7 @@ use Rattle.std.specs.Prelude.{ℕ, zero, suc, ◌-◌, false, List, [], ◌∷�
 use Rattle.ts_packet.specs.declared.sizes.TheConstants.{PAYLOAD}
 use Rattle.ts_packet.specs.TransportPacket.{Fields, packet_bytes}
 
--- the payload with its pointer_field in front, where there is one (clause 2.4.4)
+-- the payload with its pointer_field in front, if there is one (clause 2.4.4)
 abbrev pub area_of : Option ℕ → List ℕ → List ℕ
 area_of None payload = payload
 area_of (Some pointer) payload = pointer ∷ payload

@@ -5,4 +5,5 @@ pub returns-clause-ok : goal.returns-clause-ok
 returns-clause-ok c = ok_spelled c.args.bits c.parse.result c.requires c.parse.ensures.ok
 
 pub returns-clause-every : goal.returns-clause-every
-returns-clause-every c = every_read (λ w. (c.crc8_law.ensures w).0) c.args.bits c.parse.result c.parse.ensures.ok c.parse.ensures.err
+returns-clause-every c =
+    every_read (λ w. (c.crc8_law.ensures w).0) c.args.bits c.parse.result c.parse.ensures.ok c.parse.ensures.err

@@ -7,7 +7,8 @@ use Rattle.cell_words.proofs.again.put_next.Goals as goal
 
 pub put_again-requires-clause-again : goal.put_again-requires-clause-again
 put_again-requires-clause-again c =
-    (again_here c.args.plan.now c.args.shape.now c.args.address c.args.done c.args.last c.args.stretch c.strip_of-strip.result c.requires.fits c.requires.has c.requires.last c.strip_of-strip.ensures
+    (again_here c.args.plan.now c.args.shape.now c.args.address c.args.done c.args.last c.args.stretch c.strip_of-strip.result
+    c.requires.fits c.requires.has c.requires.last c.strip_of-strip.ensures
     (c.follows.ensures c.if-follows.true)).again
 
 pub returns-clause-words : goal.returns-clause-words

@@ -11,11 +11,14 @@ loop-b-preserved c =
     let before : c.args.columns * b ≡ s.columns * b = ap (λ (n : ℕ). n * b) all in
     let place : c.args.at + 4 * (c.args.columns * b) ≡ c.args.at + 4 * (s.columns * b) = omega (arith, before) in
     let next : s.columns * (b + 1) ≡ s.columns * b + s.columns = omega arith in
-    let to : c.args.at + 4 * (s.columns * (b + 1)) ≡ c.args.at + 4 * (c.args.columns * b) + 4 * c.args.columns = omega (arith, before, next, all) in
+    let to : c.args.at + 4 * (s.columns * (b + 1)) ≡ c.args.at + 4 * (c.args.columns * b) + 4 * c.args.columns =
+    omega (arith, before, next, all) in
     record {
       len = c.put_line.ensures.len ∙ c.loop-b.invariant.len;
-      front = part_on (take c.args.at c.args.out.now) c.loop-b.out c.put_line.new.out (strip_bytes s b) (line_bytes (first_word s b) s.stride s.columns) (strip_bytes s (b + 1))
+      front = part_on (take c.args.at c.args.out.now) c.loop-b.out c.put_line.new.out (strip_bytes s b)
+          (line_bytes (first_word s b) s.stride s.columns) (strip_bytes s (b + 1))
           (c.args.at + 4 * (s.columns * b)) (c.args.at + 4 * (s.columns * (b + 1))) c.loop-b.invariant.front
-          (ap (λ (n : ℕ). take n c.put_line.new.out) to ∙ c.put_line.ensures.front ∙ ap₂ (λ (n m : ℕ). take n c.loop-b.out ++ line_bytes (first_word s b) s.stride m) place all)
+          (ap (λ (n : ℕ). take n c.put_line.new.out) to ∙ c.put_line.ensures.front
+          ∙ ap₂ (λ (n m : ℕ). take n c.loop-b.out ++ line_bytes (first_word s b) s.stride m) place all)
           (strip_more s b);
     }

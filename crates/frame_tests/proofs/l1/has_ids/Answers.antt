@@ -5,7 +5,9 @@ use Rattle.frame_tests.proofs.l1.has_ids.Goals as goal
 
 pub returns-then-told_id-plp_id : goal.returns-then-told_id-plp_id
 returns-then-told_id-plp_id c =
-    sym (ids_differ c.args.dynamic.now.plps c.args.plan.now.plps c.loop-plp.plp c.requires (omega arith) (λ e. c.if-told_id-plp_id.true (c.told_id.ensures no_dyn_plp ∙ e ∙ sym c.plp_id.ensures)))
+    sym (ids_differ c.args.dynamic.now.plps c.args.plan.now.plps c.loop-plp.plp c.requires (omega arith)
+    (λ e. c.if-told_id-plp_id.true (c.told_id.ensures no_dyn_plp ∙ e ∙ sym c.plp_id.ensures)))
 
 pub returns : goal.returns
-returns c = sym (ids_same c.args.dynamic.now.plps c.args.plan.now.plps c.requires (λ k l. c.loop-plp.invariant k (omega (arith, l))))
+returns c =
+    sym (ids_same c.args.dynamic.now.plps c.args.plan.now.plps c.requires (λ k l. c.loop-plp.invariant k (omega (arith, l))))

@@ -4,4 +4,5 @@ use Rattle.plp_config.specs.declared.config.Config.{Config}
 use Rattle.gateway_core.proofs.gateway.pid_of.Goals as goal
 
 pub returns-clause-small : goal.returns-clause-small
-returns-clause-small c = let r = c.config.ensures.plan.rules PidRange in omega (arith, r.1, ap (λ (k : Config). k.pid) c.config.ensures.value)
+returns-clause-small c = let r = c.config.ensures.plan.rules PidRange in
+    omega (arith, r.1, ap (λ (k : Config). k.pid) c.config.ensures.value)

@@ -4,7 +4,8 @@ use Rattle.gateway_core.proofs.inputs.cut.Goals as goal
 
 pub cut_one-requires-clause-ready : goal.cut_one-requires-clause-ready
 cut_one-requires-clause-ready c =
-    same_wanted c.loop-plp.inputs c.args.inputs.now c.loop-plp.plp c.loop-plp.auto.inputs (omega arith) (λ d. c.loop-plp.invariant.cut.rest c.loop-plp.plp d (omega arith))
+    same_wanted c.loop-plp.inputs c.args.inputs.now c.loop-plp.plp c.loop-plp.auto.inputs (omega arith)
+    (λ d. c.loop-plp.invariant.cut.rest c.loop-plp.plp d (omega arith))
     ∙ c.requires.ready c.loop-plp.plp c.loop-plp-test.true
 
 pub loop-plp-init : goal.loop-plp-init
@@ -12,7 +13,8 @@ loop-plp-init c = record { cut = cut_none _ _ _ _ _; most = λ j d. refl; short 
 
 pub loop-plp-preserved : goal.loop-plp-preserved
 loop-plp-preserved c = record {
-  cut = cut_step c.early_fits_law.ensures.early c.early_fits_law.ensures.blocks _ _ _ _ _ _ _ _ _ c.loop-plp.plp _ c.config.ensures.plan c.requires.whole c.loop-plp-test.true (omega arith)
+  cut = cut_step c.early_fits_law.ensures.early c.early_fits_law.ensures.blocks _ _ _ _ _ _ _ _ _ c.loop-plp.plp _
+      c.obeys_rules.ensures.plan c.requires.whole c.loop-plp-test.true (omega arith)
       c.loop-plp.invariant.cut c.cut_one.ensures.cuts;
   most = λ j d. c.cut_one.ensures.most j d ∙ c.loop-plp.invariant.most j d;
   short = λ short. c.cut_one.ensures.short (c.loop-plp.invariant.short short);
@@ -25,7 +27,8 @@ returns c =
     record {
       fed = λ events e has was. cut_fed _ _ _ _ _ _ _ _ events cut all c.loop-plp.auto.inputs e has was;
       blocks = λ events e has was inputs more. cut_blocks _ _ _ _ _ _ _ _ events inputs cut all c.requires.whole e has was more;
-      counts = λ events e has was. cut_counts _ _ _ _ _ _ _ _ events cut all c.requires.lists (c.loop-plp.auto.counts ∙ omega arith) e has was;
+      counts = λ events e has was. cut_counts _ _ _ _ _ _ _ _ events cut all c.requires.lists
+          (c.loop-plp.auto.counts ∙ omega arith) e has was;
       few = λ are plp lt. cut_few _ _ _ _ _ _ _ _ plp cut all c.requires.whole are lt;
       len = c.loop-plp.auto.counts;
       most = c.loop-plp.invariant.most;

@@ -6,10 +6,14 @@ use Rattle.gateway_core.proofs.inputs.cut_one.Goals as goal
 
 pub returns-clause-cuts : goal.returns-clause-cuts
 returns-clause-cuts c =
-    let same : c.from-ticks.result ≡ c.args.plan.now.ticks = c.from-ticks.ensures ∙ ap (λ (k : Config). k.ticks) c.config.ensures.value in
-    let due : c.slots_by-due.result ≡ slots_by c.args.plan.now c.args.plp ((c.args.frame + 1) * c.args.plan.now.ticks) = rw same at c.slots_by-due.ensures.count in
-    cuts_one c.args.inputs.now c.args.plp c.index-inputs-plp.result c.cut.new.self c.args.plan.now c.args.frame c.slots_by-due.result c.args.pool.now c.cut.new.pool c.cut.result c.requires.place
+    let same : c.from-ticks.result ≡ c.args.plan.now.ticks = c.from-ticks.ensures
+    ∙ ap (λ (k : Config). k.ticks) c.config.ensures.value in
+    let due : c.slots_by-due.result ≡ slots_by c.args.plan.now c.args.plp ((c.args.frame + 1) * c.args.plan.now.ticks) =
+    rw same at c.slots_by-due.ensures.count in
+    cuts_one c.args.inputs.now c.args.plp c.index-inputs-plp.result c.cut.new.self c.args.plan.now c.args.frame
+    c.slots_by-due.result c.args.pool.now c.cut.new.pool c.cut.result c.requires.place
     c.config.ensures.plan (omega arith) due c.cut.ensures.cut c.cut.ensures.few c.cut.ensures.others
 
 pub returns-clause-most : goal.returns-clause-most
-returns-clause-most c = same_most c.args.inputs.now c.args.plp c.index-inputs-plp.result c.cut.new.self c.requires.place c.cut.ensures.most
+returns-clause-most c =
+    same_most c.args.inputs.now c.args.plp c.index-inputs-plp.result c.cut.new.self c.requires.place c.cut.ensures.most

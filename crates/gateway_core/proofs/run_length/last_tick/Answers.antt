@@ -21,7 +21,8 @@ loop-plp-preserved c = record {
       ap (λ (i : Input). i.total) c.index-inputs-plp.is ∙ h c.loop-plp.plp c.index-inputs-plp.result c.loop-plp-test.true in
       c.later-last.ensures
       ∙ ap (λ (n : ℕ). max n c.in-Some.tick) (c.loop-plp.invariant.tick packets h)
-      ∙ ap (λ (n : ℕ). max (last_tick c.args.plan.now packets c.loop-plp.plp) n) (c.in-Some.ensures.tick (packets c.loop-plp.plp) here)
+      ∙ ap (λ (n : ℕ). max (last_tick c.args.plan.now packets c.loop-plp.plp) n)
+      (c.in-Some.ensures.tick (packets c.loop-plp.plp) here)
       ∙ sym (tick_more c.args.plan.now packets c.loop-plp.plp);
   small = omega (arith, c.later-last.ensures, c.in-Some.ensures.small, c.loop-plp.invariant.small);
   ended = λ j d lt. elim (cases_lt j c.loop-plp.plp) [

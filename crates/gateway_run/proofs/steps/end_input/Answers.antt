@@ -8,12 +8,14 @@ use Rattle.gateway_run.proofs.steps.end_input.Goals as goal
 pub returns-then-rest-gt0-clause-holds : goal.returns-then-rest-gt0-clause-holds
 returns-then-rest-gt0-clause-holds c = λ done h.
     let some = some_bytes _ c.if-rest-gt0.true in
-    let m = met_bad _ done _ c.args.place c.bad.result c.args.ran c.args.bytes.now c.requires.ready c.requires.wants c.bad.ensures some (no_short _ c.requires.short) h in
+    let m = met_bad _ done _ c.args.place c.bad.result c.args.ran c.args.bytes.now c.requires.ready c.requires.wants c.bad.ensures
+    some (no_short _ c.requires.short) h in
     ended_stopped c.events_law.ensures _ done _ _ _ _ c.args.ran _ _ c.requires.ready c.requires.wants m.phase some h m.met
 
 pub returns-clause-holds : goal.returns-clause-holds
 returns-clause-holds c = λ done h.
-    input_ended c.events_law.ensures _ done _ _ _ _ c.args.ran _ c.args.bytes.now c.requires.ready c.requires.wants c.look.ensures (nil_from_length _ (omega (arith, c.if-rest-gt0.false))) c.end_input.ensures.stands h
+    input_ended c.events_law.ensures _ done _ _ _ _ c.args.ran _ c.args.bytes.now c.requires.ready c.requires.wants c.look.ensures
+    (nil_from_length _ (omega (arith, c.if-rest-gt0.false))) c.end_input.ensures.stands h
 
 pub returns-then-rest-gt0-clause-read : goal.returns-then-rest-gt0-clause-read
 returns-then-rest-gt0-clause-read c = bad_read _ _ _ _ c.bad.result.phase c.bad.ensures

@@ -8,21 +8,30 @@ use Rattle.gateway_run.proofs.steps.give.Goals as goal
 
 pub returns-then-next_ts-clause-holds : goal.returns-then-next_ts-clause-holds
 returns-then-next_ts-clause-holds c = λ done h.
-    unit_gave c.events_law.ensures _ done _ _ c.args.place.now _ _ c.next_ts.new.out _ c.requires.gives (take_all SIZE c.next_ts.new.out (omega (arith, c.next_ts.array_long))) refl refl
+    unit_gave c.events_law.ensures _ done _ _ c.args.place.now _ _ c.next_ts.new.out _ c.requires.gives
+    (take_all SIZE c.next_ts.new.out (omega (arith, c.next_ts.array_long))) refl refl
     (c.next_ts.ensures.unit c.if-next_ts.true) (c.next_ts.ensures.stands c.if-next_ts.true) h
 
 pub returns-then-next_ts-clause-left : goal.returns-then-next_ts-clause-left
-returns-then-next_ts-clause-left c = unit_left c.args.place.now.phase c.args.gateway.now c.next_ts.new.self c.args.ran.now.frames c.requires.gives (c.next_ts.ensures.less c.if-next_ts.true)
+returns-then-next_ts-clause-left c =
+    unit_left c.args.place.now.phase c.args.gateway.now c.next_ts.new.self c.args.ran.now.frames c.requires.gives
+    (c.next_ts.ensures.less c.if-next_ts.true)
 
 pub returns-clause-left : goal.returns-clause-left
-returns-clause-left c = behind_left c.args.place.now.phase c.args.gateway.now c.next_ts.new.self c.args.ran.now.frames _ c.behind.result c.requires.gives (c.next_ts.ensures.kept c.if-next_ts.false) c.behind.ensures
+returns-clause-left c =
+    behind_left c.args.place.now.phase c.args.gateway.now c.next_ts.new.self c.args.ran.now.frames _ c.behind.result
+    c.requires.gives (c.next_ts.ensures.kept c.if-next_ts.false) c.behind.ensures
 
 pub returns-clause-ready : goal.returns-clause-ready
-returns-clause-ready c = ready_behind _ _ _ c.args.place.now _ _ c.requires.ready c.requires.gives c.behind.ensures c.next_ts.ensures.status (c.next_ts.ensures.stays c.if-next_ts.false).0 (c.next_ts.ensures.kept c.if-next_ts.false)
+returns-clause-ready c =
+    ready_behind _ _ _ c.args.place.now _ _ c.requires.ready c.requires.gives c.behind.ensures c.next_ts.ensures.status
+    (c.next_ts.ensures.stays c.if-next_ts.false).0 (c.next_ts.ensures.kept c.if-next_ts.false)
 
 pub returns-clause-holds : goal.returns-clause-holds
 returns-clause-holds c = λ done h.
-    gave_none c.events_law.ensures _ done _ _ c.args.place.now _ _ c.requires.ready c.requires.gives c.behind.ensures (c.next_ts.ensures.still c.if-next_ts.false) (c.next_ts.ensures.caught_up c.if-next_ts.false) (c.next_ts.ensures.none c.if-next_ts.false) h
+    gave_none c.events_law.ensures _ done _ _ c.args.place.now _ _ c.requires.ready c.requires.gives c.behind.ensures
+    (c.next_ts.ensures.still c.if-next_ts.false) (c.next_ts.ensures.caught_up c.if-next_ts.false)
+    (c.next_ts.ensures.none c.if-next_ts.false) h
 
 pub overflow_add-ran : goal.overflow_add-ran
 overflow_add-ran c =

@@ -10,13 +10,17 @@ pub returns-then-as_array-ne-SYNC-clause-holds : goal.returns-then-as_array-ne-S
 returns-then-as_array-ne-SYNC-clause-holds c = λ done h.
     let first = ap (λ (l : List ℕ). slice_index_or l 0 0) (c.as_array.ensures.bytes ∙ c.front_packet-packet.ensures) in
     let some = some_taken _ c.requires.long in
-    let m = met_bad _ done _ c.args.place c.bad.result c.args.ran (take SIZE c.args.bytes.now) c.requires.ready c.requires.wants c.bad.ensures some (no_sync (take SIZE c.args.bytes.now) (λ e. c.if-as_array-ne-SYNC.true (first ∙ e))) h in
-    fed_stopped c.events_law.ensures _ done _ _ _ _ c.args.ran _ _ c.requires.ready c.requires.wants m.phase some (λ e. c.if-as_array-ne-SYNC.true (first ∙ e)) h m.met
+    let m = met_bad _ done _ c.args.place c.bad.result c.args.ran (take SIZE c.args.bytes.now) c.requires.ready c.requires.wants
+    c.bad.ensures some (no_sync (take SIZE c.args.bytes.now) (λ e. c.if-as_array-ne-SYNC.true (first ∙ e))) h in
+    fed_stopped c.events_law.ensures _ done _ _ _ _ c.args.ran _ _ c.requires.ready c.requires.wants m.phase some
+    (λ e. c.if-as_array-ne-SYNC.true (first ∙ e)) h m.met
 
 pub returns-clause-holds : goal.returns-clause-holds
 returns-clause-holds c = λ done h.
-    packet_offered c.events_law.ensures _ done _ _ _ _ c.args.ran _ c.front_packet-packet.result (take SIZE c.args.bytes.now) c.requires.ready c.requires.wants c.look.ensures c.front_packet-packet.ensures
-    (ap length c.front_packet-packet.ensures ∙ length-take-le SIZE c.args.bytes.now c.requires.long) (let a = c.as_array.ensures.bytes in let f = c.if-as_array-ne-SYNC.false in cc) c.offer.ensures.stands h
+    packet_offered c.events_law.ensures _ done _ _ _ _ c.args.ran _ c.front_packet-packet.result
+    (take SIZE c.args.bytes.now) c.requires.ready c.requires.wants c.look.ensures c.front_packet-packet.ensures
+    (ap length c.front_packet-packet.ensures ∙ length-take-le SIZE c.args.bytes.now c.requires.long)
+    (let a = c.as_array.ensures.bytes in let f = c.if-as_array-ne-SYNC.false in cc) c.offer.ensures.stands h
 
 pub returns-then-as_array-ne-SYNC-clause-read : goal.returns-then-as_array-ne-SYNC-clause-read
 returns-then-as_array-ne-SYNC-clause-read c = bad_read _ _ _ _ c.bad.result.phase c.bad.ensures

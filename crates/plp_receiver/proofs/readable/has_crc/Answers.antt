@@ -11,5 +11,6 @@ returns c =
     let len = c.len.ensures.len in
     let same : c.sub.result ≡ post = c.sub.ensures.bits ∙ take_all c.len.result post (omega (arith, len)) in
     c.is_ok.ensures.value
-    ∙ crc_told c.post_law.ensures.crc post c.check_post.result (subst (λ (bits : List Bool). OnOk c.check_post.result (EndsInCrc bits)) same c.check_post.ensures.ok)
+    ∙ crc_told c.post_law.ensures.crc post c.check_post.result
+    (subst (λ (bits : List Bool). OnOk c.check_post.result (EndsInCrc bits)) same c.check_post.ensures.ok)
     (subst (λ (bits : List Bool). IfErr c.check_post.result (RefusesPost bits)) same c.check_post.ensures.fault)

@@ -9,35 +9,44 @@ use Rattle.plp_receiver.proofs.taking.taken_block.Goals as goal
 
 pub returns-in_default-clause-none : goal.returns-in_default-clause-none
 returns-in_default-clause-none c e b t =
-    c.in_default.not-Ok _ (c.read_frame.ensures.every t.header t.body (subst (Spells t.header t.body) (sym c.whole.ensures.bits) t.spelled))
+    c.in_default.not-Ok _
+    (c.read_frame.ensures.every t.header t.body (subst (Spells t.header t.body) (sym c.whole.ensures.bits) t.spelled))
 
 pub returns-then-not-is_of_stream-clause-none : goal.returns-then-not-is_of_stream-clause-none
 returns-then-not-is_of_stream-clause-none c = λ e b t.
     let spelled : Spells t.header t.body c.whole.result = subst (Spells t.header t.body) (sym c.whole.ensures.bits) t.spelled in
-    let same = T.same_matype c.read_frame.result c.in-Ok.view t.header t.body c.in-Ok.is (c.read_frame.ensures.every t.header t.body spelled) in
+    let same = T.same_matype c.read_frame.result c.in-Ok.view t.header t.body c.in-Ok.is
+    (c.read_frame.ensures.every t.header t.body spelled) in
     both_ways _ refl (c.if-not-is_of_stream.ensures.1 (subst (IsOfStream c.args.deletes) same t.stream))
 
 pub field_of-requires : goal.field_of-requires
 field_of-requires c =
     let small : (k : ℕ) → get_or c.args.block.now k 0 < 256 = λ k. omega (arith, c.type_inv.block k) in
-    let spelled : Spells c.in-Ok.view.header c.in-Ok.view.field (bits_of c.args.block.now) = subst (Spells c.in-Ok.view.header c.in-Ok.view.field) c.whole.ensures.bits c.in-Ok.ensures.ok in
+    let spelled : Spells c.in-Ok.view.header c.in-Ok.view.field (bits_of c.args.block.now) =
+    subst (Spells c.in-Ok.view.header c.in-Ok.view.field) c.whole.ensures.bits c.in-Ok.ensures.ok in
     (T.field_is c.bit_counts.ensures c.args.block.now small c.in-Ok.view.header c.in-Ok.view.field spelled).0
 
 pub returns-clause-some : goal.returns-clause-some
 returns-clause-some c =
     let small : (k : ℕ) → get_or c.args.block.now k 0 < 256 = λ k. omega (arith, c.type_inv.block k) in
-    let spelled : Spells c.in-Ok.view.header c.in-Ok.view.field (bits_of c.args.block.now) = subst (Spells c.in-Ok.view.header c.in-Ok.view.field) c.whole.ensures.bits c.in-Ok.ensures.ok in
+    let spelled : Spells c.in-Ok.view.header c.in-Ok.view.field (bits_of c.args.block.now) =
+    subst (Spells c.in-Ok.view.header c.in-Ok.view.field) c.whole.ensures.bits c.in-Ok.ensures.ok in
     let stream : IsOfStream c.args.deletes c.in-Ok.view.header.matype1 = c.if-not-is_of_stream.ensures.0 refl in
-    subst (λ (l : List ℕ). IsTaken c.args.deletes (bits_of c.args.block.now) (T.block_with c.first_of.result c.in-Ok.view.header.issy l)) (sym c.field_of.ensures)
-    (subst (λ (f : Option ℕ). IsTaken c.args.deletes (bits_of c.args.block.now) (T.block_with f c.in-Ok.view.header.issy (take (c.in-Ok.view.header.dfl / 8) (drop 10 c.args.block.now)))) (sym c.first_of.ensures)
+    subst (λ (l : List ℕ). IsTaken c.args.deletes (bits_of c.args.block.now)
+    (T.block_with c.first_of.result c.in-Ok.view.header.issy l)) (sym c.field_of.ensures)
+    (subst (λ (f : Option ℕ). IsTaken c.args.deletes (bits_of c.args.block.now)
+    (T.block_with f c.in-Ok.view.header.issy (take (c.in-Ok.view.header.dfl / 8) (drop 10 c.args.block.now))))
+    (sym c.first_of.ensures)
     (T.taken_is c.bit_counts.ensures c.args.block.now small c.in-Ok.view.header c.in-Ok.view.field spelled c.args.deletes stream))
 
 pub returns-clause-places : goal.returns-clause-places
 returns-clause-places c =
     let small : (k : ℕ) → get_or c.args.block.now k 0 < 256 = λ k. omega (arith, c.type_inv.block k) in
-    let spelled : Spells c.in-Ok.view.header c.in-Ok.view.field (bits_of c.args.block.now) = subst (Spells c.in-Ok.view.header c.in-Ok.view.field) c.whole.ensures.bits c.in-Ok.ensures.ok in
+    let spelled : Spells c.in-Ok.view.header c.in-Ok.view.field (bits_of c.args.block.now) =
+    subst (Spells c.in-Ok.view.header c.in-Ok.view.field) c.whole.ensures.bits c.in-Ok.ensures.ok in
     let fits = (T.field_is c.bit_counts.ensures c.args.block.now small c.in-Ok.view.header c.in-Ok.view.field spelled).0 in
-    let size : length c.field_of.result.now ≡ c.in-Ok.view.header.dfl / 8 = ap length c.field_of.ensures ∙ T.field_len c.args.block.now (c.in-Ok.view.header.dfl / 8) fits in
+    let size : length c.field_of.result.now ≡ c.in-Ok.view.header.dfl / 8 = ap length c.field_of.ensures
+    ∙ T.field_len c.args.block.now (c.in-Ok.view.header.dfl / 8) fits in
     subst (λ (n : ℕ). IsPlace c.first_of.result n) (sym size)
     (subst (λ (f : Option ℕ). IsPlace f (c.in-Ok.view.header.dfl / 8)) (sym c.first_of.ensures)
     (T.place_is c.bit_counts.ensures c.args.block.now small c.in-Ok.view.header c.in-Ok.view.field spelled))

@@ -4,4 +4,5 @@ use Rattle.frame_records.proofs.FitLemmas.{length-l1_pre}
 use Rattle.record_writer.proofs.signalling.pre_with_crc.Goals as goal
 
 pub returns-clause-len : goal.returns-clause-len
-returns-clause-len c = let v : c.with_crc.result ≡ l1_pre c.args.plan.now = search rules in ap length v ∙ length-l1_pre c.pre_law.ensures.bits c.args.plan.now
+returns-clause-len c = let v : c.with_crc.result ≡ l1_pre c.args.plan.now = search rules in
+    ap length v ∙ length-l1_pre c.pre_law.ensures.bits c.args.plan.now

@@ -6,7 +6,8 @@ use Rattle.record_writer.proofs.signalling.put_bits.Goals as goal
 
 pub put-requires : goal.put-requires
 put-requires c =
-    let a = ap length c.loop-k.invariant ∙ length-append c.args.out.now (map (byte_at c.args.bits.now) (range_with_len 0 c.loop-k.k)) in
+    let a = ap length c.loop-k.invariant
+    ∙ length-append c.args.out.now (map (byte_at c.args.bits.now) (range_with_len 0 c.loop-k.k)) in
     let b = length-map-range_with_len (byte_at c.args.bits.now) 0 c.loop-k.k in
     omega (arith, a, b, c.requires, c.loop-k-test.true, c.div_ceil-k-end.ensures, c.len.ensures.len)
 
@@ -16,10 +17,12 @@ loop-k-preserved c =
     c.put.ensures ∙ ap (λ (l : List ℕ). l ++ c.byte_of.result ∷ []) c.loop-k.invariant
     ∙ append_assoc c.args.out.now bytes (c.byte_of.result ∷ [])
     ∙ ap (λ (n : ℕ). c.args.out.now ++ (bytes ++ n ∷ [])) c.byte_of.ensures
-    ∙ ap (λ (l : List ℕ). c.args.out.now ++ l) (sym (map-range_with_len_more (byte_at c.args.bits.now) 0 c.loop-k.k c.loop-k.k (omega arith)))
+    ∙ ap (λ (l : List ℕ). c.args.out.now ++ l)
+    (sym (map-range_with_len_more (byte_at c.args.bits.now) 0 c.loop-k.k c.loop-k.k (omega arith)))
 
 pub returns-clause-len : goal.returns-clause-len
 returns-clause-len c =
-    let a = ap length c.loop-k.invariant ∙ length-append c.args.out.now (map (byte_at c.args.bits.now) (range_with_len 0 c.loop-k.k)) in
+    let a = ap length c.loop-k.invariant
+    ∙ length-append c.args.out.now (map (byte_at c.args.bits.now) (range_with_len 0 c.loop-k.k)) in
     let b = length-map-range_with_len (byte_at c.args.bits.now) 0 c.loop-k.k in
     omega (arith, a, b, c.loop-k-test.false, c.loop-k.auto.k-end, c.div_ceil-k-end.ensures, c.len.ensures.len)

@@ -7,7 +7,8 @@ use Rattle.record_writer.proofs.sizes.blocks_len.Goals as goal
 pub loop-plp-preserved : goal.loop-plp-preserved
 loop-plp-preserved c = record {
   sum =
-      sum_more (λ plp. slice_index c.args.shape.now.counts plp * (4 + block_bytes c.args.plan.now plp)) c.loop-plp.plp c.loop-plp.len c.plp_len-len.result c.loop-plp.invariant.sum
+      sum_more (λ plp. slice_index c.args.shape.now.counts plp * (4 + block_bytes c.args.plan.now plp)) c.loop-plp.plp
+      c.loop-plp.len c.plp_len-len.result c.loop-plp.invariant.sum
       c.plp_len-len.ensures.value;
   most = omega (arith, c.loop-plp.invariant.most, c.plp_len-len.ensures.most);
 }

@@ -6,11 +6,19 @@ pub returns : goal.returns
 returns c =
     run_recovers
     (record {
-      given = given_by c.parts_law.ensures.whole c.pre_law.ensures.written c.conf_law.ensures.written c.dyn_law.ensures.back c.dyn_law.ensures.written c.bit_counts.ensures c.count_law.ensures c.length_law.ensures.slot c.block_law.ensures.field c.block_law.ensures.chunks c.block_law.ensures.cells c.field_law.ensures c.order_law.ensures.counts c.shape_law.ensures c.map_test_law.ensures;
+      given = given_by c.parts_law.ensures.whole c.pre_law.ensures.written c.conf_law.ensures.written c.dyn_law.ensures.back
+          c.dyn_law.ensures.written c.bit_counts.ensures c.count_law.ensures c.length_law.ensures.slot c.block_law.ensures.field
+          c.block_law.ensures.chunks c.block_law.ensures.cells c.field_law.ensures c.order_law.ensures.counts c.shape_law.ensures
+          c.map_test_law.ensures;
       pre_back = c.pre_law.ensures.back;
       pre_values = c.parts_law.ensures.pre;
       post_len = c.post_law.ensures.len;
       conf_len = c.post_law.ensures.conf;
     })
-    (record { block = c.stand_law.ensures.block; cell = c.stand_law.ensures.cell; back = c.scramble_twice.ensures; taken = c.taken_law.ensures })
+    (record {
+      block = c.stand_law.ensures.block;
+      cell = c.stand_law.ensures.cell;
+      back = c.scramble_twice.ensures;
+      taken = c.taken_law.ensures;
+    })
     c.readback_law.ensures.once c.length_law.ensures.slot c.frame_law.ensures c.epochs_law.ensures.readback

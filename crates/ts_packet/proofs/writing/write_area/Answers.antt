@@ -7,4 +7,5 @@ pub returns-in-Some : goal.returns-in-Some
 returns-in-Some c =
     let payload = c.args.front.now ++ c.args.back.now in
     let is = ap (λ p. area_of p payload) c.in-Some.is in
-    pointer_first c.args.area.now c.write_both-in-Some.new.bytes payload c.in-Some.pointer (c.requires ∙ ap length is) c.write_both-in-Some.ensures ∙ sym is
+    pointer_first c.args.area.now c.write_both-in-Some.new.bytes payload c.in-Some.pointer
+    (c.requires ∙ ap length is) c.write_both-in-Some.ensures ∙ sym is

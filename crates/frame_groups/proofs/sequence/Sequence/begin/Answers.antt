@@ -14,11 +14,20 @@ returns-clause-follows g c = λ ps given other k.
       group = Some (one_packet c.key_behind-next_key.result c.args.packet.now);
       holds = c.begin.ensures.group;
       sequenced =
-          started (g.G.OpenGroup.rules c.args.self.now.group) (g.G.OpenGroup.rules c.begin.new.self) k.group (Some (one_packet c.key_behind-next_key.result c.args.packet.now)) h.group
-          c.args.self.now.progress.number c.number_behind-number.result c.args.self.now.progress.next c.args.self.now.progress.closing c.args.self.now.progress.fault ps given c.args.packet.now c.args.key c.key_behind-next_key.result
-          h.is c.requires.closing c.requires.idle c.requires.counted (other_key h.group c.args.key c.args.packet.now h.key_is other) some c.requires.fits.superframe h.key_is c.key_behind-next_key.ensures refl c.begin.ensures.rules
+          started (g.G.OpenGroup.rules c.args.self.now.group) (g.G.OpenGroup.rules c.begin.new.self) k.group
+          (Some (one_packet c.key_behind-next_key.result c.args.packet.now)) h.group
+          c.args.self.now.progress.number c.number_behind-number.result c.args.self.now.progress.next
+          c.args.self.now.progress.closing c.args.self.now.progress.fault ps given c.args.packet.now c.args.key
+          c.key_behind-next_key.result
+          h.is c.requires.closing c.requires.idle c.requires.counted
+          (other_key h.group c.args.key c.args.packet.now h.key_is other) some c.requires.fits.superframe h.key_is
+          c.key_behind-next_key.ensures refl c.begin.ensures.rules
           c.number_behind-number.ensures.none (rw (← e) c.number_behind-number.ensures.some) k.sequenced;
     }
 
 pub invariant_of-self : goal.invariant_of-self
-invariant_of-self g c = record { near = c.number_behind-number.ensures.near (most_number - greatest_step) c.requires.near; intact = λ _. c.begin.ensures.intact; frame = λ shut. absurd (true≢false (sym shut)) }
+invariant_of-self g c = record {
+  near = c.number_behind-number.ensures.near (most_number - greatest_step) c.requires.near;
+  intact = λ _. c.begin.ensures.intact;
+  frame = λ shut. absurd (true≢false (sym shut));
+}

@@ -6,8 +6,10 @@ pub returns-clause-follows : goal.returns-clause-follows
 returns-clause-follows g c = λ ps given x k e. record {
   group = k.group;
   holds = k.holds;
-  sequenced = gave _ k.group c.args.self.now.progress.number c.args.self.now.progress.next c.args.self.now.progress.closing c.args.self.now.progress.fault ps given x c.requires e k.sequenced;
+  sequenced = gave _ k.group c.args.self.now.progress.number c.args.self.now.progress.next c.args.self.now.progress.closing
+      c.args.self.now.progress.fault ps given x c.requires e k.sequenced;
 }
 
 pub returns-clause-left : goal.returns-clause-left
-returns-clause-left g c = fewer c.args.self.now.progress.number c.args.self.now.progress.next c.args.self.now.progress.closing c.args.self.now.progress.fault c.requires
+returns-clause-left g c = fewer c.args.self.now.progress.number c.args.self.now.progress.next c.args.self.now.progress.closing
+    c.args.self.now.progress.fault c.requires

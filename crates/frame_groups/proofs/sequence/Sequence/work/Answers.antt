@@ -15,8 +15,11 @@ returns-in_default-clause-worked g c = λ _ ps given k ends.
       group = Some (one_packet c.key_behind.result c.args.packet.now);
       holds = c.begin.ensures.group;
       sequenced =
-          begun (g.G.OpenGroup.rules c.args.self.now.group) (g.G.OpenGroup.rules c.begin.new.self) k.group (Some (one_packet c.key_behind.result c.args.packet.now))
-          c.args.self.now.progress.number c.args.self.now.progress.next c.args.self.now.progress.closing c.args.self.now.progress.fault ps given c.args.packet.now (c.key.ensures.is k.group k.holds ∙ no) kept some c.requires.fits.superframe
+          begun (g.G.OpenGroup.rules c.args.self.now.group) (g.G.OpenGroup.rules c.begin.new.self) k.group
+          (Some (one_packet c.key_behind.result c.args.packet.now))
+          c.args.self.now.progress.number c.args.self.now.progress.next c.args.self.now.progress.closing
+          c.args.self.now.progress.fault ps given c.args.packet.now (c.key.ensures.is k.group k.holds ∙ no) kept some
+          c.requires.fits.superframe
           (ap (λ key. Some (one_packet key c.args.packet.now)) c.key_behind.ensures) c.begin.ensures.rules k.sequenced;
     }
 
@@ -31,9 +34,13 @@ returns-then-goes_on-clause-worked g c = λ _ ps given k ends.
       group = Some (one_more h.group c.args.packet.now);
       holds = c.add.ensures.group h.group (subst (g.G.OpenGroup.holds c.args.self.now.group) h.is k.holds);
       sequenced =
-          added_on (g.G.OpenGroup.rules c.args.self.now.group) (g.G.OpenGroup.rules c.add.new.self) k.group (Some (one_more h.group c.args.packet.now))
-          c.args.self.now.progress.number c.args.self.now.progress.next c.args.self.now.progress.closing c.args.self.now.progress.fault ps given c.args.packet.now c.in-Some.key (c.key.ensures.is k.group k.holds ∙ key) kept same
-          (λ o e. ap (λ (h : Group). Some (one_more h c.args.packet.now)) (some_injective h.group o (sym h.is ∙ e))) c.add.ensures.rules shut k.sequenced;
+          added_on (g.G.OpenGroup.rules c.args.self.now.group) (g.G.OpenGroup.rules c.add.new.self) k.group
+          (Some (one_more h.group c.args.packet.now))
+          c.args.self.now.progress.number c.args.self.now.progress.next c.args.self.now.progress.closing
+          c.args.self.now.progress.fault ps given c.args.packet.now c.in-Some.key (c.key.ensures.is k.group k.holds
+          ∙ key) kept same
+          (λ o e. ap (λ (h : Group). Some (one_more h c.args.packet.now)) (some_injective h.group o (sym h.is ∙ e)))
+          c.add.ensures.rules shut k.sequenced;
     }
 
 pub returns-then-self-clause-near : goal.returns-then-self-clause-near

@@ -11,7 +11,8 @@ returns-then-not-next-clause-none c = λ off end all given h.
 pub returns-then-self-clause-unit : goal.returns-then-self-clause-unit
 returns-then-self-clause-unit c = λ on all given h more none.
     c.if-not-next.ensures.unit refl c.args.plan.now _ _ all given h more
-    (λ fin. gone_when c.args.plan.now c.args.signalling.now c.args.frame.now _ more (c.args.self.now.fed c.if-self.true) (c.requires.over c.if-self.true) (none (finished_when c.args.self.now.finished _ c.args.self.now.«open» fin)))
+    (λ fin. gone_when c.args.plan.now c.args.signalling.now c.args.frame.now _ more (c.args.self.now.fed c.if-self.true)
+    (c.requires.over c.if-self.true) (none (finished_when c.args.self.now.finished _ c.args.self.now.«open» fin)))
 
 pub returns-clause-unit : goal.returns-clause-unit
 returns-clause-unit c = λ on all given h more none.

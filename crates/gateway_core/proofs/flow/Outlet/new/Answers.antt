@@ -7,4 +7,6 @@ use Rattle.gateway_core.proofs.flow.Outlet.new.Goals as goal
 
 pub returns-clause-flows : goal.returns-clause-flows
 returns-clause-flows c = λ config n e.
-    subst (λ (l : List ℕ). Carries (PiperStandsFor c.new.result) (is_finished c.new.result) l 0 config n [] [] 0) (sym (ap bytes_of c.new-2.ensures)) (carries_new (PiperStandsFor c.new.result) _ config n c.args.pid e c.new.ensures.stands)
+    subst (λ (l : List ℕ). Carries (PiperStandsFor c.new.result) (is_finished c.new.result) l 0 config n [] [] 0)
+    (sym (ap bytes_of c.new-2.ensures))
+    (carries_new (PiperStandsFor c.new.result) _ config n c.args.pid e c.new.ensures.stands)

@@ -14,11 +14,13 @@ pub returns-clause-stands : goal.returns-clause-stands
 unfolding GatewayStandsFor
 returns-clause-stands c = λ config events h.
     let early : ℕ → List (List Bool) = early_of c.args.self.now.frame in
-    let old : AllFed c.deref_mut.result.now early config events = subst (λ (l : List Input). AllFed l early config events) (sym c.deref_mut.ensures.value) h.1.fed in
+    let old : AllFed c.deref_mut.result.now early config events =
+    subst (λ (l : List Input). AllFed l early config events) (sym c.deref_mut.ensures.value) h.1.fed in
     let items = with_items_is c.args.self.now.inputs c.end.new.inputs (c.end.auto.inputs ∙ c.deref_mut.ensures.len) in (
       h.0,
       holds_end _ _ early _ _ _ _ _ config events c.args.plp
-          (subst (λ (l : List Input). AllFed l early config (events ++ Ended c.args.plp ∷ [])) (sym items) (c.end.ensures.fed early config events old)) h.1,
+          (subst (λ (l : List Input). AllFed l early config (events ++ Ended c.args.plp ∷ [])) (sym items)
+          (c.end.ensures.fed early config events old)) h.1,
     )
 
 pub returns-clause-none : goal.returns-clause-none
@@ -29,5 +31,7 @@ returns-clause-none c =
 pub returns-clause-others : goal.returns-clause-others
 returns-clause-others c =
     let items = with_items_is c.args.self.now.inputs c.end.new.inputs (c.end.auto.inputs ∙ c.deref_mut.ensures.len) in
-    subst (λ (l : List Input). (other : ℕ) → other ≢ c.args.plp → slice_index (map wanted l) other ≡ slice_index (map wanted c.args.self.now.inputs.items) other) (sym items)
-    (subst (λ (l : List Input). (other : ℕ) → other ≢ c.args.plp → slice_index (map wanted c.end.new.inputs) other ≡ slice_index (map wanted l) other) c.deref_mut.ensures.value c.end.ensures.others)
+    subst (λ (l : List Input). (other : ℕ) → other ≢ c.args.plp → slice_index (map wanted l) other
+    ≡ slice_index (map wanted c.args.self.now.inputs.items) other) (sym items)
+    (subst (λ (l : List Input). (other : ℕ) → other ≢ c.args.plp → slice_index (map wanted c.end.new.inputs) other
+    ≡ slice_index (map wanted l) other) c.deref_mut.ensures.value c.end.ensures.others)

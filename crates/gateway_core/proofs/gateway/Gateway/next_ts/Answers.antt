@@ -16,20 +16,26 @@ use Rattle.gateway_core.proofs.gateway.Gateway.next_ts.Goals as goal
 pub returns-clause-unit : goal.returns-clause-unit
 unfolding GatewayStandsFor
 returns-clause-unit c = λ on config events h inputs cont more none.
-    holds_unit c.args.self.now.plan.now config _ _ _ _ c.args.self.now.flow _ _ events inputs more c.next.new.out h.0 (c.next.ensures.unit on) h.1 cont none
+    holds_unit c.args.self.now.plan.now config _ _ _ _ c.args.self.now.flow _ _ events inputs more c.next.new.out h.0
+    (c.next.ensures.unit on) h.1 cont none
 
 pub returns-clause-none : goal.returns-clause-none
 unfolding GatewayStandsFor
 returns-clause-none c = λ off config events h fin inputs cont.
-    holds_none c.args.self.now.plan.now config _ _ _ _ c.args.self.now.flow _ _ events inputs h.0 (c.next.ensures.none off) h.1 fin cont
+    holds_none c.args.self.now.plan.now config _ _ _ _ c.args.self.now.flow _ _ events inputs h.0
+    (c.next.ensures.none off) h.1 fin cont
 
 pub returns-clause-stands : goal.returns-clause-stands
 unfolding GatewayStandsFor
 returns-clause-stands c = λ on config events h. (
   h.0,
   holds_gave _ _ _ _ _ c.args.self.now.flow c.next.new.self _ _ _ _ config events c.next.ensures.finished
-      (subst (λ (k : Config). (all : List (ℕ × Body)) (given : ℕ) → Flows c.args.self.now.flow.outlet k c.args.self.now.frame.number (left c.args.self.now.plan.now c.args.self.now.signalling c.args.self.now.frame) all given
-      → Flows c.next.new.self.outlet k c.next.new.frame.number (left c.args.self.now.plan.now c.args.self.now.signalling c.next.new.frame) all (given + 1)) h.0 (c.next.ensures.flows on)) c.next.ensures.early h.1,
+      (subst (λ (k : Config). (all : List (ℕ × Body)) (given : ℕ)
+      → Flows c.args.self.now.flow.outlet k c.args.self.now.frame.number
+      (left c.args.self.now.plan.now c.args.self.now.signalling c.args.self.now.frame) all given
+      → Flows c.next.new.self.outlet k c.next.new.frame.number
+      (left c.args.self.now.plan.now c.args.self.now.signalling c.next.new.frame) all (given + 1)) h.0
+      (c.next.ensures.flows on)) c.next.ensures.early h.1,
 )
 
 pub returns-clause-still : goal.returns-clause-still
@@ -38,8 +44,10 @@ returns-clause-still c = λ off config events h.
     let g = c.args.self.now in
     let same = c.next.ensures.stays off in (
       h.0,
-      subst (λ (f : Flow). Holds g.inputs.items (early_of c.next.new.frame) g.signalling g.frames f c.next.new.frame.number (left g.plan.now g.signalling c.next.new.frame) config events) (sym same.0)
-          (subst (λ (r : Frame). Holds g.inputs.items (early_of r) g.signalling g.frames g.flow r.number (left g.plan.now g.signalling r) config events) (sym same.1) h.1),
+      subst (λ (f : Flow). Holds g.inputs.items (early_of c.next.new.frame) g.signalling g.frames f c.next.new.frame.number
+          (left g.plan.now g.signalling c.next.new.frame) config events) (sym same.0)
+          (subst (λ (r : Frame). Holds g.inputs.items (early_of r) g.signalling g.frames g.flow r.number
+          (left g.plan.now g.signalling r) config events) (sym same.1) h.1),
     )
 
 pub returns-clause-stays : goal.returns-clause-stays
@@ -52,13 +60,16 @@ pub returns-clause-complete : goal.returns-clause-complete
 unfolding GatewayStandsFor
 returns-clause-complete c = λ config events h off inputs cont.
     both _ _ _
-    (λ on. holds_complete c.args.self.now.plan.now config _ _ _ _ c.args.self.now.flow _ _ events inputs h.0 (c.next.ensures.complete on) h.1 off cont)
-    (λ none. holds_caught_up c.args.self.now.plan.now config _ _ _ _ c.args.self.now.flow _ _ events inputs h.0 (c.next.ensures.caught_up none) h.1 off cont)
+    (λ on. holds_complete c.args.self.now.plan.now config _ _ _ _ c.args.self.now.flow _ _ events inputs h.0
+    (c.next.ensures.complete on) h.1 off cont)
+    (λ none. holds_caught_up c.args.self.now.plan.now config _ _ _ _ c.args.self.now.flow _ _ events inputs h.0
+    (c.next.ensures.caught_up none) h.1 off cont)
 
 pub returns-clause-caught_up : goal.returns-clause-caught_up
 unfolding GatewayStandsFor
 returns-clause-caught_up c = λ none config events h off inputs cont.
-    holds_caught_up c.args.self.now.plan.now config _ _ _ _ c.args.self.now.flow _ _ events inputs h.0 (c.next.ensures.caught_up none) h.1 off cont
+    holds_caught_up c.args.self.now.plan.now config _ _ _ _ c.args.self.now.flow _ _ events inputs h.0
+    (c.next.ensures.caught_up none) h.1 off cont
 
 pub returns-clause-rest : goal.returns-clause-rest
 unfolding GatewayStandsFor
@@ -66,9 +77,12 @@ returns-clause-rest c = λ config events h fin inputs cont.
     let front = front_packets config inputs (begun events) in
     both _ _ _
     (λ on.
-    let at = holds_unit c.args.self.now.plan.now config _ _ _ _ c.args.self.now.flow _ _ events inputs [] c.next.new.out h.0 (c.next.ensures.unit on) h.1 cont (λ _. refl) in
-    subst (λ (l : List (List ℕ)). given events < length (pipe config.pid l)) (append-nil front) (slice_get_within (pipe config.pid (front ++ [])) (given events) _ at))
-    (λ off. sym (holds_none c.args.self.now.plan.now config _ _ _ _ c.args.self.now.flow _ _ events inputs h.0 (c.next.ensures.none off) h.1 fin cont))
+    let at = holds_unit c.args.self.now.plan.now config _ _ _ _ c.args.self.now.flow _ _ events inputs [] c.next.new.out h.0
+    (c.next.ensures.unit on) h.1 cont (λ _. refl) in
+    subst (λ (l : List (List ℕ)). given events < length (pipe config.pid l)) (append-nil front)
+    (slice_get_within (pipe config.pid (front ++ [])) (given events) _ at))
+    (λ off. sym (holds_none c.args.self.now.plan.now config _ _ _ _ c.args.self.now.flow _ _ events inputs h.0
+    (c.next.ensures.none off) h.1 fin cont))
 
 pub returns-clause-kept : goal.returns-clause-kept
 returns-clause-kept c = λ off.

@@ -23,24 +23,34 @@ returns-clause-stands c = λ config events h.
     let p = g.plan.now in
     let over = g.over (dry_when g.flow.dry _ _ g.flow.full (sym c.requires.given)) in
     let old : AllFed c.deref_mut.result.now (bits_in f.blocks) config events =
-    subst (λ (l : List Input). AllFed l (bits_in f.blocks) config events) (sym c.deref_mut.ensures.value) (early_over g.inputs.items f.step f.blocks config events over h.1.fed) in
+    subst (λ (l : List Input). AllFed l (bits_in f.blocks) config events) (sym c.deref_mut.ensures.value)
+    (early_over g.inputs.items f.step f.blocks config events over h.1.fed) in
     let items = with_items_is g.inputs c.offer.new.inputs (c.offer.auto.inputs ∙ c.deref_mut.ensures.len) in
-    let count : length c.deref_mut.result.now ≡ length config.plps = c.deref_mut.ensures.len ∙ g.whole ∙ ap (λ (k : Config). length k.plps) h.0 in
+    let count : length c.deref_mut.result.now ≡ length config.plps = c.deref_mut.ensures.len ∙ g.whole
+    ∙ ap (λ (k : Config). length k.plps) h.0 in
     let fed = c.offer.ensures.fed config events count (has_frame p config f.blocks h.0 g.chunks g.lists) old in (
       h.0,
-      holds_over g.inputs.items _ (early_of f) g.signalling g.frames g.flow p f.number f.step (l1_body p f.number g.signalling.pre g.signalling.conf f.dynamic.bits)
-          (blocks_left p f.number (bits_in f.blocks) f.plp f.first) (blocks_left p f.number (bits_in c.offer.new.pool) f.plp f.first) c.offer.new.pool config events c.args.plp c.args.packet.now over c.requires.place c.requires.wanted
-          (subst (λ (l : List Input). AllFed l (bits_in c.offer.new.pool) config (events ++ Offered c.args.plp c.args.packet.now ∷ [])) (sym items) fed) h.1,
+      holds_over g.inputs.items _ (early_of f) g.signalling g.frames g.flow p f.number f.step
+          (l1_body p f.number g.signalling.pre g.signalling.conf f.dynamic.bits)
+          (blocks_left p f.number (bits_in f.blocks) f.plp f.first)
+          (blocks_left p f.number (bits_in c.offer.new.pool) f.plp f.first) c.offer.new.pool config events c.args.plp
+          c.args.packet.now over c.requires.place c.requires.wanted
+          (subst (λ (l : List Input). AllFed l (bits_in c.offer.new.pool) config
+          (events ++ Offered c.args.plp c.args.packet.now ∷ [])) (sym items) fed) h.1,
     )
 
 pub returns-clause-fewer : goal.returns-clause-fewer
 returns-clause-fewer c =
     let items = with_items_is c.args.self.now.inputs c.offer.new.inputs (c.offer.auto.inputs ∙ c.deref_mut.ensures.len) in
-    subst (λ (l : List Input). slice_index (map wanted l) c.args.plp + 1 ≡ slice_index (map wanted c.args.self.now.inputs.items) c.args.plp) (sym items)
-    (subst (λ (l : List Input). slice_index (map wanted c.offer.new.inputs) c.args.plp + 1 ≡ slice_index (map wanted l) c.args.plp) c.deref_mut.ensures.value c.offer.ensures.fewer)
+    subst (λ (l : List Input). slice_index (map wanted l) c.args.plp + 1
+    ≡ slice_index (map wanted c.args.self.now.inputs.items) c.args.plp) (sym items)
+    (subst (λ (l : List Input). slice_index (map wanted c.offer.new.inputs) c.args.plp + 1
+    ≡ slice_index (map wanted l) c.args.plp) c.deref_mut.ensures.value c.offer.ensures.fewer)
 
 pub returns-clause-others : goal.returns-clause-others
 returns-clause-others c =
     let items = with_items_is c.args.self.now.inputs c.offer.new.inputs (c.offer.auto.inputs ∙ c.deref_mut.ensures.len) in
-    subst (λ (l : List Input). (other : ℕ) → other ≢ c.args.plp → slice_index (map wanted l) other ≡ slice_index (map wanted c.args.self.now.inputs.items) other) (sym items)
-    (subst (λ (l : List Input). (other : ℕ) → other ≢ c.args.plp → slice_index (map wanted c.offer.new.inputs) other ≡ slice_index (map wanted l) other) c.deref_mut.ensures.value c.offer.ensures.others)
+    subst (λ (l : List Input). (other : ℕ) → other ≢ c.args.plp → slice_index (map wanted l) other
+    ≡ slice_index (map wanted c.args.self.now.inputs.items) other) (sym items)
+    (subst (λ (l : List Input). (other : ℕ) → other ≢ c.args.plp → slice_index (map wanted c.offer.new.inputs) other
+    ≡ slice_index (map wanted l) other) c.deref_mut.ensures.value c.offer.ensures.others)

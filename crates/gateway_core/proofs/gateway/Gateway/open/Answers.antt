@@ -19,7 +19,8 @@ returns-clause-stands c =
         conf = c.in_ok-open.ensures.conf;
         frames_are = refl;
         last = c.new.ensures.finished;
-        flows = λ all more. subst (λ (l : List Body). Flows c.new.result.outlet c.args.plan.now f.number l [] 0) (sym nothing) (c.new.ensures.flows c.args.plan.now f.number (sym c.pid_of.ensures.value));
+        flows = λ all more. subst (λ (l : List Body). Flows c.new.result.outlet c.args.plan.now f.number l [] 0) (sym nothing)
+            (c.new.ensures.flows c.args.plan.now f.number (sym c.pid_of.ensures.value));
       },
     )
 

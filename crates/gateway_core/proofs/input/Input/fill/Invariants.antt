@@ -9,7 +9,8 @@ use Rattle.gateway_core.proofs.input.Input.fill.Given as goal
 
 abbrev pub invariant-loop : goal.invariant-loop
 invariant-loop l = record {
-  fed : (c : Config) (plp : ℕ) (t : Told) → t.ended ≡ true → HasPlace c plp l.initial.pool l.list → IsFed l.initial.self c plp t (bits_in l.initial.pool l.list)
+  fed : (c : Config) (plp : ℕ) (t : Told) → t.ended ≡ true → HasPlace c plp l.initial.pool l.list
+      → IsFed l.initial.self c plp t (bits_in l.initial.pool l.list)
       → IsFed l.self c plp t (bits_in l.pool l.list);
   short : AllShort l.initial.pool → AllShort l.pool;
   others : Others l.initial.pool l.pool l.list;

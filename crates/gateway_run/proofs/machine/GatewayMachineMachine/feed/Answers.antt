@@ -9,8 +9,13 @@ use Rattle.gateway_run.proofs.machine.GatewayMachineMachine.feed.Goals as goal
 
 pub returns-clause-becomes : goal.returns-clause-becomes
 returns-clause-becomes c = λ start events h.
-    let r = suffices_at c.args.self.now.gateway c.args.self.now.place.plp c.args.self.now.place.phase _ _ c.requires.wanted in
-    (h.0, subst (λ (k : ℕ). Holds c.args.self.now.plan.now (events ++ Fed k (take SIZE c.args.bytes.now) ∷ []) c.take_packet-self.new.gateway c.take_packet-self.result c.args.self.now.ran) r.1 (c.take_packet-self.ensures.holds events h.1))
+    let r = suffices_at c.args.self.now.gateway c.args.self.now.place.plp c.args.self.now.place.phase _ _ c.requires.wanted in (
+      h.0,
+      subst
+          (λ (k : ℕ). Holds c.args.self.now.plan.now (events ++ Fed k (take SIZE c.args.bytes.now) ∷ [])
+          c.take_packet-self.new.gateway c.take_packet-self.result c.args.self.now.ran) r.1
+          (c.take_packet-self.ensures.holds events h.1),
+    )
 
 pub returns-clause-reach : goal.returns-clause-reach
 returns-clause-reach c = λ other.

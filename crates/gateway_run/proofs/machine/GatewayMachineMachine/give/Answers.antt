@@ -10,7 +10,8 @@ use Rattle.gateway_run.proofs.MachineLemmas.{giving_at, reach_more}
 use Rattle.gateway_run.proofs.machine.GatewayMachineMachine.give.Goals as goal
 
 pub returns-in-Begins-clause-becomes : goal.returns-in-Begins-clause-becomes
-returns-in-Begins-clause-becomes c = λ start events h. (h.0, nothing_gave c.events_law.ensures _ events _ _ _ (c.begin-self.ensures.holds events h.1))
+returns-in-Begins-clause-becomes c =
+    λ start events h. (h.0, nothing_gave c.events_law.ensures _ events _ _ _ (c.begin-self.ensures.holds events h.1))
 
 pub returns-in-Begins-clause-reach : goal.returns-in-Begins-clause-reach
 returns-in-Begins-clause-reach c = λ other.
@@ -24,7 +25,13 @@ returns c =
     let front = take-append-le c.give.result c.give.new.unit (drop SIZE c.args.out.now) g.count in
     record {
       count = (let n = g.count in let w = g.whole in let r = c.requires.room in omega (arith, n, w, r));
-      becomes = λ start events h. (h.0, subst (λ (l : List ℕ). Holds c.args.self.now.plan.now (events ++ Gave l ∷ []) c.give.new.gateway c.give.new.place c.give.new.ran) (sym front) (g.holds events h.1));
+      becomes =
+          λ start events h. (
+            h.0,
+            subst
+                (λ (l : List ℕ). Holds c.args.self.now.plan.now (events ++ Gave l ∷ []) c.give.new.gateway c.give.new.place
+                c.give.new.ran) (sym front) (g.holds events h.1),
+          );
       left = g.left;
       reach = λ other. reach_more c.args.self.now.plan.now other _ _ g.read;
     }
@@ -32,5 +39,6 @@ returns c =
 pub give-requires : goal.give-requires
 give-requires c = record {
   ready = c.args.self.now.ready;
-  gives = giving_at c.args.self.now.gateway c.args.self.now.place.plp c.args.self.now.place.phase c.requires.gives c.in_default.not-Begins;
+  gives = giving_at c.args.self.now.gateway c.args.self.now.place.plp c.args.self.now.place.phase c.requires.gives
+      c.in_default.not-Begins;
 }

@@ -9,4 +9,5 @@ returns-in-Wants-clause-wanted c = λ start events h.
     let m = c.min.ensures in
     let v = c.wants.ensures.value in
     wanted_as _ _ _ c.args.self.now.place.phase c.args.self.now.ran.frames _ _ _ c.in-Wants.is
-    (wanted_by _ events _ c.args.self.now.place c.args.self.now.ran c.min.result _ (sym (ap (λ x. length x.plps) h.0)) r c.in-Wants.is (omega (arith, m, v)) (let s = q.some in omega (arith, m, v, s)) h.1)
+    (wanted_by _ events _ c.args.self.now.place c.args.self.now.ran c.min.result _
+    (sym (ap (λ x. length x.plps) h.0)) r c.in-Wants.is (omega (arith, m, v)) (let s = q.some in omega (arith, m, v, s)) h.1)

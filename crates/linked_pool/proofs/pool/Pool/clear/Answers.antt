@@ -22,11 +22,24 @@ index_mut-requires c =
 
 pub invariant_of-self : goal.invariant_of-self
 invariant_of-self c =
-    let p = clear_law c.args.self.now c.self.inside.chains c.self.inside.chunks.items c.move_front.new.self c.self.inside.lens.items c.self.inside.counts.items c.args.list c.size-size.result (sym c.self.view_is) c.self.invariant.0 c.requires c.size-size.ensures c.move_front.ensures in
-    let inside = has_list c.self.inside c.args.self.now c.args.list c.self.view_is c.self.invariant c.requires in
-    (p.0, ends_cleared c.self.inside.chains c.self.inside.chunks.items c.move_front.new.self c.self.inside.lens.items c.self.inside.lasts.items c.self.inside.counts.items c.args.list c.size-size.result c.self.invariant.0 c.self.invariant.1 inside c.move_front.ensures)
+    let p = clear_law c.args.self.now c.self.inside.chains c.self.inside.chunks.items c.move_front.new.self
+    c.self.inside.lens.items c.self.inside.counts.items c.args.list c.size-size.result
+    (sym c.self.view_is) c.self.invariant.0 c.requires c.size-size.ensures c.move_front.ensures in
+    let inside = has_list c.self.inside c.args.self.now c.args.list c.self.view_is c.self.invariant c.requires in (
+      p.0,
+      ends_cleared c.self.inside.chains c.self.inside.chunks.items c.move_front.new.self c.self.inside.lens.items
+          c.self.inside.lasts.items c.self.inside.counts.items c.args.list c.size-size.result c.self.invariant.0
+          c.self.invariant.1
+          inside c.move_front.ensures,
+    )
 
 pub returns : goal.returns
 returns c =
-    let p = clear_law c.args.self.now c.self.inside.chains c.self.inside.chunks.items c.move_front.new.self c.self.inside.lens.items c.self.inside.counts.items c.args.list c.size-size.result (sym c.self.view_is) c.self.invariant.0 c.requires c.size-size.ensures c.move_front.ensures in
-    record { cleared = p.1; count = same_count c.args.self.now.lists _ c.args.list _ (ap (λ (s : State). s.lists) p.1); whole = whole_law _ _ _ _ _ refl p.0 }
+    let p = clear_law c.args.self.now c.self.inside.chains c.self.inside.chunks.items c.move_front.new.self
+    c.self.inside.lens.items c.self.inside.counts.items c.args.list c.size-size.result
+    (sym c.self.view_is) c.self.invariant.0 c.requires c.size-size.ensures c.move_front.ensures in
+    record {
+      cleared = p.1;
+      count = same_count c.args.self.now.lists _ c.args.list _ (ap (λ (s : State). s.lists) p.1);
+      whole = whole_law _ _ _ _ _ refl p.0;
+    }

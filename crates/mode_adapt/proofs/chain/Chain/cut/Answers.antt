@@ -2,14 +2,17 @@ use Rattle.std.proofs.Common.{ap, ◌∙◌, refl}
 use Rattle.linked_pool.specs.Pool.{list_at, chunks_for}
 use Rattle.mode_adapt.specs.Events.{offered, cuts}
 use Rattle.mode_adapt.proofs.EventLemmas.{opened, cut_on}
-use Rattle.mode_adapt.proofs.PutLemmas.{early_is, early_cut, cut_step, need_is, never_put, cut_short}
+use Rattle.mode_adapt.proofs.PutLemmas.{cut_step, need_is, never_put, cut_short}
+use Rattle.mode_adapt.proofs.FinalLemmas.{early_is, early_cut}
 use Rattle.mode_adapt.proofs.chain.Chain.cut.Goals as goal
 
 pub returns-in-Ok-clause-stands : goal.returns-in-Ok-clause-stands
 returns-in-Ok-clause-stands c = λ config plp events stands due.
     let o = opened c.args.self.now config plp events stands in
     let none = c.in-Ok.ensures.none in
-    let end = cut_step c.length_law.ensures.slot c.block_law.ensures.field c.block_law.ensures.user_packet c.within_law.ensures c.backlog_law.ensures c.args.self.now c.put_rest.new.self c.end_frame.new.self config plp (offered events) (cuts events) (list_at c.args.pool.now c.args.list) (list_at c.put_rest.new.pool c.args.list) o.0 o.1 due
+    let end = cut_step c.length_law.ensures.slot c.block_law.ensures.field c.block_law.ensures.user_packet c.within_law.ensures
+    c.backlog_law.ensures c.args.self.now c.put_rest.new.self c.end_frame.new.self config plp (offered events) (cuts events)
+    (list_at c.args.pool.now c.args.list) (list_at c.put_rest.new.pool c.args.list) o.0 o.1 due
     (λ over. ((none over).0, ap (λ s. list_at s c.args.list) (none over).1)) c.in-Ok.ensures.some c.end_frame.ensures.resets in
     cut_on c.end_frame.new.self config plp events end.holds end.partial
 
@@ -17,7 +20,9 @@ pub returns-in-Ok-clause-blocks : goal.returns-in-Ok-clause-blocks
 returns-in-Ok-clause-blocks c = λ config plp events stands due e.
     let o = opened c.args.self.now config plp events stands in
     let none = c.in-Ok.ensures.none in
-    let end = cut_step c.length_law.ensures.slot c.block_law.ensures.field c.block_law.ensures.user_packet c.within_law.ensures c.backlog_law.ensures c.args.self.now c.put_rest.new.self c.end_frame.new.self config plp (offered events) (cuts events) (list_at c.args.pool.now c.args.list) (list_at c.put_rest.new.pool c.args.list) o.0 o.1 due
+    let end = cut_step c.length_law.ensures.slot c.block_law.ensures.field c.block_law.ensures.user_packet c.within_law.ensures
+    c.backlog_law.ensures c.args.self.now c.put_rest.new.self c.end_frame.new.self config plp (offered events) (cuts events)
+    (list_at c.args.pool.now c.args.list) (list_at c.put_rest.new.pool c.args.list) o.0 o.1 due
     (λ over. ((none over).0, ap (λ s. list_at s c.args.list) (none over).1)) c.in-Ok.ensures.some c.end_frame.ensures.resets in
     end.blocks (e ∙ early_is c.block_law.ensures.field c.args.self.now config plp events o.0 o.1)
 
@@ -25,7 +30,9 @@ pub returns-in-Ok-clause-answer : goal.returns-in-Ok-clause-answer
 returns-in-Ok-clause-answer c = λ config plp events stands due.
     let o = opened c.args.self.now config plp events stands in
     let none = c.in-Ok.ensures.none in
-    let end = cut_step c.length_law.ensures.slot c.block_law.ensures.field c.block_law.ensures.user_packet c.within_law.ensures c.backlog_law.ensures c.args.self.now c.put_rest.new.self c.end_frame.new.self config plp (offered events) (cuts events) (list_at c.args.pool.now c.args.list) (list_at c.put_rest.new.pool c.args.list) o.0 o.1 due
+    let end = cut_step c.length_law.ensures.slot c.block_law.ensures.field c.block_law.ensures.user_packet c.within_law.ensures
+    c.backlog_law.ensures c.args.self.now c.put_rest.new.self c.end_frame.new.self config plp (offered events) (cuts events)
+    (list_at c.args.pool.now c.args.list) (list_at c.put_rest.new.pool c.args.list) o.0 o.1 due
     (λ over. ((none over).0, ap (λ s. list_at s c.args.list) (none over).1)) c.in-Ok.ensures.some c.end_frame.ensures.resets in
     c.end_frame.ensures.made ∙ end.count
 
@@ -33,9 +40,12 @@ pub returns-in-Ok-clause-none_put : goal.returns-in-Ok-clause-none_put
 returns-in-Ok-clause-none_put c = λ config plp events stands due.
     let o = opened c.args.self.now config plp events stands in
     let none = c.in-Ok.ensures.none in
-    let end = cut_step c.length_law.ensures.slot c.block_law.ensures.field c.block_law.ensures.user_packet c.within_law.ensures c.backlog_law.ensures c.args.self.now c.put_rest.new.self c.end_frame.new.self config plp (offered events) (cuts events) (list_at c.args.pool.now c.args.list) (list_at c.put_rest.new.pool c.args.list) o.0 o.1 due
+    let end = cut_step c.length_law.ensures.slot c.block_law.ensures.field c.block_law.ensures.user_packet c.within_law.ensures
+    c.backlog_law.ensures c.args.self.now c.put_rest.new.self c.end_frame.new.self config plp (offered events) (cuts events)
+    (list_at c.args.pool.now c.args.list) (list_at c.put_rest.new.pool c.args.list) o.0 o.1 due
     (λ over. ((none over).0, ap (λ s. list_at s c.args.list) (none over).1)) c.in-Ok.ensures.some c.end_frame.ensures.resets in
-    early_cut c.block_law.ensures.field c.end_frame.new.self config plp events end.holds end.partial c.end_frame.ensures.resets.made
+    early_cut c.block_law.ensures.field c.end_frame.new.self config plp events end.holds end.partial
+    c.end_frame.ensures.resets.made
 
 pub returns-in-Err-clause-need : goal.returns-in-Err-clause-need
 returns-in-Err-clause-need c = λ config plp events stands.
@@ -43,8 +53,11 @@ returns-in-Err-clause-need c = λ config plp events stands.
 
 pub returns-in-Err-clause-never : goal.returns-in-Err-clause-never
 returns-in-Err-clause-never c = λ config plp events stands put.
-    never_put c.block_law.ensures.field c.early_fits_law.ensures.early c.plan_fits_law.ensures.next c.args.self.now c.args.self.now config plp events c.args.pool.now c.args.list c.in-Err.full.need c.in-Err.full.spare stands refl refl c.in-Err.ensures.full put
+    never_put c.block_law.ensures.field c.early_fits_law.ensures.early c.plan_fits_law.ensures.next c.args.self.now
+    c.args.self.now config plp events c.args.pool.now c.args.list c.in-Err.full.need c.in-Err.full.spare stands refl refl
+    c.in-Err.ensures.full put
 
 pub returns-in-Ok-clause-kept : goal.returns-in-Ok-clause-kept
 returns-in-Ok-clause-kept c = λ config plp events stands due.
-    cut_short c.block_law.ensures.field c.block_law.ensures.user_packet c.within_law.ensures c.backlog_law.ensures c.end_frame.new.self config plp events (returns-in-Ok-clause-stands c config plp events stands due) due
+    cut_short c.block_law.ensures.field c.block_law.ensures.user_packet c.within_law.ensures c.backlog_law.ensures
+    c.end_frame.new.self config plp events (returns-in-Ok-clause-stands c config plp events stands due) due

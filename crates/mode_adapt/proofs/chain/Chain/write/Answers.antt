@@ -7,13 +7,15 @@ use Rattle.mode_adapt.proofs.chain.Chain.write.Goals as goal
 
 pub write_block-requires-clause-describes : goal.write_block-requires-clause-describes
 write_block-requires-clause-describes c =
-    let long : length (take c.args.count c.deref.result.now) ≡ c.args.count = length-take-le c.args.count c.deref.result.now (omega (arith, c.deref.ensures.len, c.requires.inside)) in
+    let long : length (take c.args.count c.deref.result.now) ≡ c.args.count =
+    length-take-le c.args.count c.deref.result.now (omega (arith, c.deref.ensures.len, c.requires.inside)) in
     c.header-header.ensures.describes _ (length-bits_of (take c.args.count c.deref.result.now) ∙ ap (λ (v : ℕ). 8 * v) long)
 
 pub returns : goal.returns
 returns c =
     let block : c.write_block.new.block ≡ piece_of c.args.self.now c.args.count =
-    written c.args.self.now c.args.count c.write_block.new.block c.header-header.result c.first_up-up.result c.deref.result.now c.write_block.ensures c.header-header.ensures.header c.first_up-up.ensures.up c.deref.ensures.value in
+    written c.args.self.now c.args.count c.write_block.new.block c.header-header.result c.first_up-up.result c.deref.result.now
+    c.write_block.ensures c.header-header.ensures.header c.first_up-up.ensures.up c.deref.ensures.value in
     record {
       settings = refl;
       deleter = refl;

@@ -8,5 +8,6 @@ returns-clause-becomes c = λ start events came.
     let f = c.finish.ensures in (
       f.config ∙ came.0,
       ended_event c.events_law.ensures _ events _ _ w.2 w.3
-          (shown_ended c.due_records_law.ensures.front c.args.self.now _ _ _ _ w.0 w.1 f.config refl refl f.fed f.stands (c.waiting-self.ensures.some, c.waiting-self.ensures.none) came.1),
+          (shown_ended c.due_records_law.ensures.front c.args.self.now _ _ _ _ w.0 w.1 f.config refl refl f.fed f.stands
+          (c.waiting-self.ensures.some, c.waiting-self.ensures.none) came.1),
     )

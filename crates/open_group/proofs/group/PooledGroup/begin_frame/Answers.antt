@@ -25,7 +25,9 @@ returns-clause-left c = λ h n leaves held none.
     let g = c.args.self.now in
     let network = g.network in
     let packets = held.packets c.requires.intact in
-    let t : Tells g.l1 = tells network g.l1 (and_parts (nat_le g.blocks.need g.blocks.chunks) (has_map network (shape_told g.l1)) c.requires.frame).1 in
+    let t : Tells g.l1 =
+    tells network g.l1
+    (and_parts (nat_le g.blocks.need g.blocks.chunks) (has_map network (shape_told g.l1)) c.requires.frame).1 in
     let dynamic = (parts_of g.l1.parts).dynamic in
     let shape = g.l1.shape in
     let lists = g.blocks.pool.lists in
@@ -33,19 +35,25 @@ returns-clause-left c = λ h n leaves held none.
     let rest = rest_size network (post_size network (length dynamic)) (slice_index shape.counts) in
     let is_plan : IsPlan network = subst IsPlan (c.plan.ensures) c.obeys_rules.ensures.plan in
     let left = subst
-    (λ (k : Config). bytes_left c.begin_frame.new.writer k shape lists ≡ front_bytes k c.args.moment.now dynamic blocks (rest_size k (post_size k (length dynamic)) (slice_index shape.counts)) ++ step_bytes k shape lists (Blocks 0))
+    (λ (k : Config). bytes_left c.begin_frame.new.writer k shape lists ≡ front_bytes k c.args.moment.now dynamic blocks
+    (rest_size k (post_size k (length dynamic)) (slice_index shape.counts)) ++ step_bytes k shape lists (Blocks 0))
     c.plan-2.ensures (c.begin_frame.ensures.left lists) in
     left ∙ ap (λ (m : Moment). front_bytes network m dynamic blocks rest ++ step_bytes network shape lists (Blocks 0)) leaves
-    ∙ given_frame c.written_law.ensures.written c.written_law.ensures.blocks c.written_law.ensures.rest c.bit_counts.ensures network n h.packets dynamic shape lists blocks rest
+    ∙ given_frame c.written_law.ensures.written c.written_law.ensures.blocks c.written_law.ensures.rest c.bit_counts.ensures
+    network n h.packets dynamic shape lists blocks rest
     is_plan none
-    (first_dynamic network g.l1 h.packets (tally network h.packets).alike t packets.l1) (first_told network g.l1 h.packets (tally network h.packets).alike t packets.l1) (g.l1.rows ∙ g.rows) g.open.lists
-    (holds_all network g.blocks h.packets n (tally network h.packets) packets.blocks packets.lists g.chunks (sym (c.tally_law.ensures.tests network n h.packets) ∙ none)) refl refl
+    (first_dynamic network g.l1 h.packets (tally network h.packets).alike t packets.l1)
+    (first_told network g.l1 h.packets (tally network h.packets).alike t packets.l1) (g.l1.rows ∙ g.rows) g.open.lists
+    (holds_all network g.blocks h.packets n (tally network h.packets) packets.blocks packets.lists g.chunks
+    (sym (c.tally_law.ensures.tests network n h.packets) ∙ none)) refl refl
 
 pub returns-clause-most : goal.returns-clause-most
 returns-clause-most c =
     let g = c.args.self.now in
     let lists = g.blocks.pool.lists in
-    let most = subst (λ (k : Config). length (bytes_left c.begin_frame.new.writer k g.l1.shape lists) ≤ most_record k (used_chunks lists)) c.plan-2.ensures (c.begin_frame.ensures.most lists) in
+    let most =
+    subst (λ (k : Config). length (bytes_left c.begin_frame.new.writer k g.l1.shape lists)
+    ≤ most_record k (used_chunks lists)) c.plan-2.ensures (c.begin_frame.ensures.most lists) in
     let fits = c.fits_chunks.ensures in
     let chunks = g.chunks in
     omega (arith, most, fits, chunks)

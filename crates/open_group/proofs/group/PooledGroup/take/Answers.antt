@@ -11,7 +11,9 @@ returns-clause-none c =
     let group = c.args.self.now in (
       λ zero. ⊎_elim
           (λ (e : length c.args.out.now ≡ 0). inl e)
-          (λ (d : is_done group.writer ≡ true). inr (c.is_done-done.ensures.none (c.is_done-done.ensures.is ∙ d) group.network group.l1.shape group.blocks.pool.lists))
+          (λ (d : is_done group.writer ≡ true).
+          inr (c.is_done-done.ensures.none (c.is_done-done.ensures.is ∙ d) group.network group.l1.shape
+          group.blocks.pool.lists))
           (c.give.ensures.none.0 zero),
       λ cause. c.give.ensures.none.1
           (⊎_elim
@@ -20,7 +22,8 @@ returns-clause-none c =
           inr
           (true_from_ne_false (is_done group.writer)
           (λ no.
-          let some = c.is_done-done.ensures.some (c.is_done-done.ensures.is ∙ no) group.network group.l1.shape group.blocks.pool.lists in
+          let some =
+          c.is_done-done.ensures.some (c.is_done-done.ensures.is ∙ no) group.network group.l1.shape group.blocks.pool.lists in
           let none = ap length e in
           omega (arith, some, none))))
           cause),
@@ -34,5 +37,8 @@ returns-clause-group c = holds_still c.args.self.now _ (record {
   stamps = refl;
   l1 = refl;
   numbers = c.give.ensures.same;
-  pool = λ intact. (c.give.ensures.last (subst (λ (t : Bool). CanGive t c.args.self.now.writer c.args.self.now.network c.args.self.now.l1.shape c.args.self.now.blocks.pool.lists) intact c.args.self.now.gives)).1;
+  pool = λ intact.
+      (c.give.ensures.last
+      (subst (λ (t : Bool). CanGive t c.args.self.now.writer c.args.self.now.network c.args.self.now.l1.shape
+      c.args.self.now.blocks.pool.lists) intact c.args.self.now.gives)).1;
 })

@@ -8,4 +8,5 @@ begin_at-requires-clause-empty c = is_empty c.args.self.now.network c.args.self.
 
 pub returns-clause-stands : goal.returns-clause-stands
 unfolding StandsFor IsFresh
-returns-clause-stands c = begun c.args.self.now.network c.args.self.now.plp c.args.self.now.slots c.begin_at.new.self c.args.first c.requires.fresh c.begin_at.ensures.stands
+returns-clause-stands c = begun c.args.self.now.network c.args.self.now.plp c.args.self.now.slots c.begin_at.new.self c.args.first
+    c.requires.fresh c.begin_at.ensures.stands

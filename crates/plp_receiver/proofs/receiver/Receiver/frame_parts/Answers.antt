@@ -5,7 +5,9 @@ use Rattle.plp_receiver.proofs.receiver.Receiver.frame_parts.Goals as goal
 
 pub returns-then-is_readable-clause-takes : goal.returns-then-is_readable-clause-takes
 returns-then-is_readable-clause-takes c = λ moment.
-    readable_taken c.args.self.now.network c.args.self.now.plp _ moment c.args.pre.now c.args.post.now c.args.blocks.now c.args.cells.now c.is_readable.new.shape
+    readable_taken c.args.self.now.network c.args.self.now.plp _ moment c.args.pre.now c.args.post.now c.args.blocks.now
+    c.args.cells.now c.is_readable.new.shape
     c.args.self.now.slots c.take.new.self.slots
-    (ap (λ (n : ℕ). readable c.args.self.now.network n c.args.pre.now c.args.post.now c.args.blocks.now c.args.cells.now) (sym c.frame.ensures) ∙ c.if-is_readable.ensures.value)
+    (ap (λ (n : ℕ). readable c.args.self.now.network n c.args.pre.now c.args.post.now c.args.blocks.now c.args.cells.now)
+    (sym c.frame.ensures) ∙ c.if-is_readable.ensures.value)
     c.take.ensures.takes

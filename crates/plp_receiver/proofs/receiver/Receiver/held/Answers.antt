@@ -9,7 +9,8 @@ unfolding StandsFor
 returns-clause-answer c = λ first views released s.
     let v = c.args.self.now in
     let is : IsPlan v.network = subst IsPlan c.plan.ensures c.obeys_rules.ensures.plan in
-    held_is c.length_law.ensures.slot v.network v.plp v.slots first views released c.held.result is.rules v.configured s c.held.ensures.answer
+    held_is c.length_law.ensures.slot v.network v.plp v.slots first views released c.held.result is.rules v.configured s
+    c.held.ensures.answer
 
 pub returns-clause-fresh : goal.returns-clause-fresh
 unfolding IsFresh

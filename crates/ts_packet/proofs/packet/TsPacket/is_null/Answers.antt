@@ -7,4 +7,5 @@ pub returns : goal.returns
 unfolding is_null
 returns c =
     rw (← c.self.view_is)
-    (ap (λ (n : ℕ). n == 0x1FFF) (c.field_at.ensures.value ∙ header_number c.self.inside.bytes c.header_of.result 11 13 c.header_of.ensures (omega arith)))
+    (ap (λ (n : ℕ). n == 0x1FFF)
+    (c.field_at.ensures.value ∙ header_number c.self.inside.bytes c.header_of.result 11 13 c.header_of.ensures (omega arith)))
