@@ -15,21 +15,22 @@ pub record ArePut {A : Type 0} (spell : A → List Bool) (xs : List A) (i : ℕ)
   pub puts : Puts old new front
   pub whole : flat_map spell xs ≡ front ++ flat_map spell (drop i xs)
 
-split : {A : Type 0} (spell : A → List Bool) (xs : List A) (i : ℕ) (d : A) → i < length xs → flat_map spell (drop i xs)
-    ≡ spell (get_or xs i d) ++ flat_map spell (drop (i + 1) xs)
-split spell xs i d lt = ap (flat_map spell) (drop_more xs i d lt)
+-- x is what the list has at place i
+split : {A : Type 0} (spell : A → List Bool) (xs : List A) (i : ℕ) (x : A) → i < length xs → x ≡ get_or xs i x
+    → flat_map spell (drop i xs) ≡ spell x ++ flat_map spell (drop (i + 1) xs)
+split spell xs i x lt at = ap (flat_map spell) (drop_more xs i x lt)
+    ∙ ap (λ (y : _). spell y ++ flat_map spell (drop (i + 1) xs)) (sym at)
 
 pub begun : {A : Type 0} (spell : A → List Bool) (xs : List A) (s : State) → ArePut spell xs 0 s s
 begun spell xs s = record { front = []; puts = puts_none s; whole = refl }
 
-pub one_put : {A : Type 0} → PutsJoin → (spell : A → List Bool) (xs : List A) (i : ℕ) (d : A) (old mid new : State)
-    → ArePut spell xs i old mid → i < length xs → Puts mid new (spell (get_or xs i d)) →
-    ArePut spell xs (i + 1) old new
-one_put join spell xs i d old mid new h lt p = record {
-  front = h.front ++ spell (get_or xs i d);
-  puts = join old mid new h.front (spell (get_or xs i d)) h.puts p;
-  whole = h.whole ∙ ap (λ (l : List Bool). h.front ++ l) (split spell xs i d lt)
-      ∙ sym (append_assoc h.front (spell (get_or xs i d)) (flat_map spell (drop (i + 1) xs)));
+pub one_put : {A : Type 0} → PutsJoin → (spell : A → List Bool) (xs : List A) (i : ℕ) (x : A) (old mid new : State)
+    → ArePut spell xs i old mid → i < length xs → x ≡ get_or xs i x → Puts mid new (spell x) → ArePut spell xs (i + 1) old new
+one_put join spell xs i x old mid new h lt at p = record {
+  front = h.front ++ spell x;
+  puts = join old mid new h.front (spell x) h.puts p;
+  whole = h.whole ∙ ap (λ (l : List Bool). h.front ++ l) (split spell xs i x lt at)
+      ∙ sym (append_assoc h.front (spell x) (flat_map spell (drop (i + 1) xs)));
 }
 
 pub all_put : {A : Type 0} (spell : A → List Bool) (xs : List A) (i : ℕ) (old new : State) → ArePut spell xs i old new
@@ -39,13 +40,13 @@ all_put spell xs i old new h le =
     ∙ append-nil h.front in
     subst (Puts old new) (sym e) h.puts
 
-pub one_stops : {A : Type 0} → StopsEarly → StopsLater → (spell : A → List Bool) (xs : List A) (i : ℕ) (d : A) (fault : SinkFault)
-    (old mid new : State) → ArePut spell xs i old mid → i < length xs →
-    Stops mid new (spell (get_or xs i d)) fault → Stops old new (flat_map spell xs) fault
-one_stops early later spell xs i d fault old mid new h lt s =
-    rw (h.whole, split spell xs i d lt)
-    (later old mid new h.front (spell (get_or xs i d) ++ flat_map spell (drop (i + 1) xs)) fault h.puts
-    (early mid new (spell (get_or xs i d)) (flat_map spell (drop (i + 1) xs)) fault s))
+pub one_stops : {A : Type 0} → StopsEarly → StopsLater → (spell : A → List Bool) (xs : List A) (i : ℕ) (x : A) (fault : SinkFault)
+    (old mid new : State) → ArePut spell xs i old mid → i < length xs → x ≡ get_or xs i x → Stops mid new (spell x) fault
+    → Stops old new (flat_map spell xs) fault
+one_stops early later spell xs i x fault old mid new h lt at s =
+    rw (h.whole, split spell xs i x lt at)
+    (later old mid new h.front (spell x ++ flat_map spell (drop (i + 1) xs)) fault h.puts
+    (early mid new (spell x) (flat_map spell (drop (i + 1) xs)) fault s))
 
 -- the last part, behind what was put
 pub last_puts : {T : Type 0} → PutsJoin → (a b c : State) (front more : List Bool) (r : Result T SinkFault) → Puts a b front

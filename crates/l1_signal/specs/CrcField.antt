@@ -20,7 +20,7 @@ post_front post = take (length post - 32) post
 abbrev pub told_crc : List Bool → ℕ
 told_crc post = number_at post (length post - 32) 32
 
--- L1-post ends with the CRC_32 of what stands before it.
+-- L1-post ends with the CRC_32 of what stands before it (EN 302 755, clause 7.2.3.5).
 abbrev pub EndsInCrc : List Bool → Type 0
 EndsInCrc post = (32 ≤ length post) × (told_crc post ≡ crc32_of (post_front post))
 

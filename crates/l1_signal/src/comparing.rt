@@ -5,8 +5,8 @@ ghost use Rattle.l1_signal.specs.Fields.{each_read};
 ghost use Rattle.l1_signal.specs.L1Configurable.{conf_plp_read, ConfSpells};
 
 use crate::conf::{CONF_BACK, CONF_FIRST, CONF_MORE};
-use crate::conf_plp::read_conf_plp;
 use crate::fields::read_fields;
+use crate::rows::ReadPlp;
 use crate::{ConfPlp, L1Conf, L1Fault};
 use bit_slice::{BitReader, BitSlice, BitSource};
 
@@ -51,11 +51,13 @@ fn is_same(one: &ConfPlp, other: &ConfPlp) -> bool
 
 // Whether these PLPs come next.
 fn has_plps<'a, R: BitSource<'a>>(source: &mut R, plps: &[ConfPlp]) -> bool
-    ensures yes { result ≡ true → each_read (replicate (length plps.now) conf_plp_read) (R.left source.old) ≡ Ok (plps.now, R.left source.new) }
-    ensures no { result ≡ false → (rest : List Bool) → each_read (replicate (length plps.now) conf_plp_read) (R.left source.old) ≢ Ok (plps.now, rest) }
+    ensures yes { result ≡ true → each_read (replicate (length plps.now) conf_plp_read) (R.left source.old)
+        ≡ Ok (plps.now, R.left source.new) }
+    ensures no { result ≡ false → (rest : List Bool) → each_read (replicate (length plps.now) conf_plp_read)
+        (R.left source.old) ≢ Ok (plps.now, rest) }
 {
     for i in 0..plps.len() {
-        let Ok(plp) = read_conf_plp(source) else {
+        let Ok(plp) = ConfPlp::read(source) else {
             return false;
         };
         if !is_same(&plp, &plps[i]) {

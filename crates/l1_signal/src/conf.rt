@@ -2,13 +2,15 @@
 ghost use Rattle.std.specs.Prelude.{◌≡◌, ◌⊎◌, ℕ, Ok, Err, OnOk, IfOk, IfErr, [], slice_index};
 ghost use Rattle.bit_slice.specs.Sink.{Puts, Stops};
 ghost use Rattle.l1_signal.specs.Fields.{values, HasGiven};
-ghost use Rattle.l1_signal.specs.L1Configurable.{conf_first_rows, conf_more_rows, conf_back_rows, conf_first, conf_more, conf_back, conf_at, conf_read, conf_bits, ConfFits};
+ghost use Rattle.l1_signal.specs.L1Configurable.{conf_first_rows, conf_more_rows, conf_back_rows, conf_first, conf_more};
+ghost use Rattle.l1_signal.specs.L1Configurable.{conf_back, conf_at, conf_read, conf_bits, ConfFits};
 ghost use Rattle.l1_signal.specs.Places.{AreSmall};
 ghost use Rattle.l1_signal.specs.declared.fault.L1Fault.TheVariants.{OutOfMemory};
 
-use crate::conf_rows::write_conf_plps;
+use crate::conf_plp::zero_conf_plps;
 use crate::fields::{Demand, Field, put_fields, read_fields};
-use crate::{ConfRows, L1Fault, L1Pre};
+use crate::rows::{read_plps, write_plps};
+use crate::{ConfPlp, L1Fault, L1Pre, PlpRows};
 use bit_slice::{BitSink, BitSource, SinkFault, puts_law, stops_law};
 use std::alloc::Global;
 
@@ -46,12 +48,12 @@ pub struct L1Conf {
     /// FREQUENCY, 32 bits.
     pub frequency: u32,
     /// The PLPs.
-    pub plps: ConfRows,
+    pub plps: PlpRows<ConfPlp>,
     /// FEF_LENGTH_MSB, 2 bits.
     pub fef_length_msb: u8,
 }
 
-fn conf_at(first: &[u64; 2], more: &[u64; 4], plps: ConfRows, back: &[u64; 2]) -> L1Conf
+fn conf_at(first: &[u64; 2], more: &[u64; 4], plps: PlpRows<ConfPlp>, back: &[u64; 2]) -> L1Conf
     requires first { AreSmall 0 conf_first first.now }
     requires more { AreSmall 0 conf_more more.now }
     requires back { AreSmall 0 conf_back back.now }
@@ -122,10 +124,10 @@ pub fn read_conf<'a, R: BitSource<'a>>(
     }
     let mut more = [0; 4];
     read_fields(source, &CONF_MORE, &mut more)?;
-    let Ok(mut plps) = ConfRows::zeros(alloc, usize::from(count)) else {
+    let Ok(mut plps) = zero_conf_plps(alloc, usize::from(count)) else {
         return Err(L1Fault::OutOfMemory);
     };
-    plps.read(source)?;
+    read_plps(source, &mut plps)?;
     let mut back = [0; 2];
     read_fields(source, &CONF_BACK, &mut back)?;
     Ok(conf_at(&first, &more, plps, &back))
@@ -144,6 +146,6 @@ pub fn write_conf<S: BitSink>(sink: &mut S, conf: &L1Conf) -> Result<(), SinkFau
     stops_law();
     put_fields(sink, &CONF_FIRST, &first_values(conf))?;
     put_fields(sink, &CONF_MORE, &more_values(conf))?;
-    write_conf_plps(sink, conf.plps.as_slice())?;
+    write_plps(sink, conf.plps.as_slice())?;
     put_fields(sink, &CONF_BACK, &back_values(conf))
 }

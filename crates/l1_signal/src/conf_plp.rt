@@ -1,13 +1,14 @@
-// The rows of one PLP in the configurable part.
-ghost use Rattle.std.specs.Prelude.{◌≡◌, Ok, Err, IfOk, IfErr, OnOk, []};
-ghost use Rattle.bit_slice.specs.Sink.{Puts, Stops};
-ghost use Rattle.l1_signal.specs.Fields.{values, row_bits, RowsFit, HasGiven};
-ghost use Rattle.l1_signal.specs.L1Configurable.{conf_plp_rows, conf_plp, conf_plp_at, conf_plp_read};
+// One PLP in the configurable part.
+ghost use Rattle.std.specs.Prelude.{◌≡◌, [], IfOk, length};
+ghost use Rattle.l1_signal.specs.Fields.{values};
+ghost use Rattle.l1_signal.specs.L1Configurable.{conf_plp_rows, conf_plp, conf_plp_at};
 ghost use Rattle.l1_signal.specs.Places.{AreSmall};
 
 use crate::L1Fault;
 use crate::fields::{Demand, Field, put_fields, read_fields};
-use bit_slice::{BitSink, BitSource, SinkFault};
+use crate::rows::{PlpRows, ReadPlp, WritePlp};
+use bit_slice::{BitSink, BitSource, OutOfMemory, SinkFault};
+use std::alloc::Global;
 
 #[rattlefmt::skip]
 const CONF_PLP: [Field; 21] = [
@@ -79,6 +80,37 @@ pub struct ConfPlp {
     pub static_padding_flag: u8,
 }
 
+// All fields are 0.
+const NO_CONF_PLP: ConfPlp = ConfPlp {
+    plp_id: 0,
+    plp_type: 0,
+    plp_payload_type: 0,
+    ff_flag: 0,
+    first_rf_idx: 0,
+    first_frame_idx: 0,
+    plp_group_id: 0,
+    plp_cod: 0,
+    plp_mod: 0,
+    plp_rotation: 0,
+    plp_fec_type: 0,
+    plp_num_blocks_max: 0,
+    frame_interval: 0,
+    time_il_length: 0,
+    time_il_type: 0,
+    in_band_a_flag: 0,
+    in_band_b_flag: 0,
+    plp_mode: 0,
+    static_flag: 0,
+    static_padding_flag: 0,
+};
+
+// So many of them.
+pub(crate) fn zero_conf_plps(alloc: Global, count: usize) -> Result<PlpRows<ConfPlp>, OutOfMemory>
+    ensures { IfOk result (λ plps. length plps ≡ count) }
+{
+    Ok(PlpRows::of(vec![in alloc; NO_CONF_PLP; count]?))
+}
+
 fn conf_plp_at(values: &[u64; 21]) -> ConfPlp
     requires { AreSmall 0 conf_plp values.now }
     ensures { result ≡ conf_plp_at values.now }
@@ -135,20 +167,27 @@ fn conf_plp_values(plp: &ConfPlp) -> [u64; 21]
     ]
 }
 
-pub(crate) fn read_conf_plp<'a, R: BitSource<'a>>(source: &mut R) -> Result<ConfPlp, L1Fault>
-    ensures ok { IfOk result (λ plp. conf_plp_read (R.left source.old) ≡ Ok (plp, R.left source.new)) }
-    ensures fault { IfErr result (λ e. conf_plp_read (R.left source.old) ≡ Err e) }
-    ensures given { HasGiven (R.left source.old) (R.left source.new) }
-{
-    let mut values = [0; 21];
-    read_fields(source, &CONF_PLP, &mut values)?;
-    Ok(conf_plp_at(&values))
+impl<'a, R: BitSource<'a>> ReadPlp<'a, R> for ConfPlp {
+    ghost use Rattle.l1_signal.specs.L1Configurable.{conf_plp_read};
+
+    ghost reading = { conf_plp_read };
+
+    fn read(source: &mut R) -> Result<ConfPlp, L1Fault> {
+        let mut values = [0; 21];
+        read_fields(source, &CONF_PLP, &mut values)?;
+        Ok(conf_plp_at(&values))
+    }
 }
 
-pub(crate) fn write_conf_plp<S: BitSink>(sink: &mut S, plp: &ConfPlp) -> Result<(), SinkFault>
-    requires { RowsFit conf_plp_rows plp.now }
-    ensures ok { OnOk result (Puts (S.state sink.old) (S.state sink.new) (row_bits conf_plp_rows plp.now)) }
-    ensures fault { IfErr result (Stops (S.state sink.old) (S.state sink.new) (row_bits conf_plp_rows plp.now)) }
-{
-    put_fields(sink, &CONF_PLP, &conf_plp_values(plp))
+impl WritePlp for ConfPlp {
+    ghost use Rattle.l1_signal.specs.Fields.{row_bits, RowsFit};
+    ghost use Rattle.l1_signal.specs.L1Configurable.{conf_plp_rows};
+
+    ghost fits = { RowsFit conf_plp_rows };
+
+    ghost bits = { row_bits conf_plp_rows };
+
+    fn write<S: BitSink>(sink: &mut S, plp: &ConfPlp) -> Result<(), SinkFault> {
+        put_fields(sink, &CONF_PLP, &conf_plp_values(plp))
+    }
 }

@@ -1,13 +1,14 @@
-// The rows of one PLP in the dynamic part.
-ghost use Rattle.std.specs.Prelude.{◌≡◌, Ok, Err, IfOk, IfErr, OnOk, []};
-ghost use Rattle.bit_slice.specs.Sink.{Puts, Stops};
-ghost use Rattle.l1_signal.specs.Fields.{values, row_bits, RowsFit, HasGiven};
-ghost use Rattle.l1_signal.specs.L1Dynamic.{dyn_plp_rows, dyn_plp, dyn_plp_at, dyn_plp_read};
+// One PLP in the dynamic part.
+ghost use Rattle.std.specs.Prelude.{◌≡◌, [], IfOk, replicate};
+ghost use Rattle.l1_signal.specs.Fields.{values};
+ghost use Rattle.l1_signal.specs.L1Dynamic.{dyn_plp_rows, dyn_plp, dyn_plp_at, no_dyn_plp};
 ghost use Rattle.l1_signal.specs.Places.{AreSmall};
 
 use crate::L1Fault;
 use crate::fields::{Demand, Field, put_fields, read_fields};
-use bit_slice::{BitSink, BitSource, SinkFault};
+use crate::rows::{PlpRows, ReadPlp, WritePlp};
+use bit_slice::{BitSink, BitSource, OutOfMemory, SinkFault};
+use std::alloc::Global;
 
 #[rattlefmt::skip]
 const DYN_PLP: [Field; 4] = [
@@ -26,6 +27,20 @@ pub struct DynPlp {
     pub plp_start: u32,
     /// PLP_NUM_BLOCKS, 10 bits.
     pub plp_num_blocks: u16,
+}
+
+// All fields are 0.
+const NO_DYN_PLP: DynPlp = DynPlp {
+    plp_id: 0,
+    plp_start: 0,
+    plp_num_blocks: 0,
+};
+
+// So many of them.
+pub(crate) fn zero_dyn_plps(alloc: Global, count: usize) -> Result<PlpRows<DynPlp>, OutOfMemory>
+    ensures { IfOk result (λ plps. plps ≡ replicate count no_dyn_plp) }
+{
+    Ok(PlpRows::of(vec![in alloc; NO_DYN_PLP; count]?))
 }
 
 fn dyn_plp_at(values: &[u64; 4]) -> DynPlp
@@ -50,20 +65,27 @@ fn dyn_plp_values(plp: &DynPlp) -> [u64; 4]
     ]
 }
 
-pub(crate) fn read_dyn_plp<'a, R: BitSource<'a>>(source: &mut R) -> Result<DynPlp, L1Fault>
-    ensures ok { IfOk result (λ plp. dyn_plp_read (R.left source.old) ≡ Ok (plp, R.left source.new)) }
-    ensures fault { IfErr result (λ e. dyn_plp_read (R.left source.old) ≡ Err e) }
-    ensures given { HasGiven (R.left source.old) (R.left source.new) }
-{
-    let mut values = [0; 4];
-    read_fields(source, &DYN_PLP, &mut values)?;
-    Ok(dyn_plp_at(&values))
+impl<'a, R: BitSource<'a>> ReadPlp<'a, R> for DynPlp {
+    ghost use Rattle.l1_signal.specs.L1Dynamic.{dyn_plp_read};
+
+    ghost reading = { dyn_plp_read };
+
+    fn read(source: &mut R) -> Result<DynPlp, L1Fault> {
+        let mut values = [0; 4];
+        read_fields(source, &DYN_PLP, &mut values)?;
+        Ok(dyn_plp_at(&values))
+    }
 }
 
-pub(crate) fn write_dyn_plp<S: BitSink>(sink: &mut S, plp: &DynPlp) -> Result<(), SinkFault>
-    requires { RowsFit dyn_plp_rows plp.now }
-    ensures ok { OnOk result (Puts (S.state sink.old) (S.state sink.new) (row_bits dyn_plp_rows plp.now)) }
-    ensures fault { IfErr result (Stops (S.state sink.old) (S.state sink.new) (row_bits dyn_plp_rows plp.now)) }
-{
-    put_fields(sink, &DYN_PLP, &dyn_plp_values(plp))
+impl WritePlp for DynPlp {
+    ghost use Rattle.l1_signal.specs.Fields.{row_bits, RowsFit};
+    ghost use Rattle.l1_signal.specs.L1Dynamic.{dyn_plp_rows};
+
+    ghost fits = { RowsFit dyn_plp_rows };
+
+    ghost bits = { row_bits dyn_plp_rows };
+
+    fn write<S: BitSink>(sink: &mut S, plp: &DynPlp) -> Result<(), SinkFault> {
+        put_fields(sink, &DYN_PLP, &dyn_plp_values(plp))
+    }
 }

@@ -5,9 +5,10 @@ ghost use Rattle.l1_signal.specs.Fields.{values, HasGiven};
 ghost use Rattle.l1_signal.specs.L1Dynamic.{dyn_front_rows, dyn_front, dyn_at, dyn_read, dyn_bits, DynFits};
 ghost use Rattle.l1_signal.specs.Places.{AreSmall};
 
-use crate::dyn_rows::write_dyn_plps;
+use crate::dyn_plp::zero_dyn_plps;
 use crate::fields::{Demand, Field, put_fields, read_fields};
-use crate::{DynRows, L1Fault};
+use crate::rows::{read_plps, write_plps};
+use crate::{DynPlp, L1Fault, PlpRows};
 use bit_slice::{BitSink, BitSource, OutOfMemory, SinkFault, puts_law, stops_law};
 use std::alloc::Global;
 
@@ -40,7 +41,7 @@ pub struct L1Dyn {
     /// START_RF_IDX, 3 bits.
     pub start_rf_idx: u8,
     /// The PLPs.
-    pub plps: DynRows,
+    pub plps: PlpRows<DynPlp>,
 }
 
 impl L1Dyn {
@@ -57,7 +58,7 @@ impl L1Dyn {
             type_2_start: 0,
             l1_change_counter: 0,
             start_rf_idx: 0,
-            plps: DynRows::zeros(alloc, usize::from(plps))?,
+            plps: zero_dyn_plps(alloc, usize::from(plps))?,
         })
     }
 }
@@ -97,7 +98,7 @@ pub fn read_dyn<'a, R: BitSource<'a>>(source: &mut R, out: &mut L1Dyn) -> Result
 {
     let mut front = [0; 6];
     read_fields(source, &DYN_FRONT, &mut front)?;
-    out.plps.read(source)?;
+    read_plps(source, &mut out.plps)?;
     read_fields(source, &DYN_BACK, &mut [0])?;
     set_front(out, &front);
     Ok(())
@@ -112,6 +113,6 @@ pub fn write_dyn<S: BitSink>(sink: &mut S, dynamic: &L1Dyn) -> Result<(), SinkFa
     puts_law();
     stops_law();
     put_fields(sink, &DYN_FRONT, &front_values(dynamic))?;
-    write_dyn_plps(sink, dynamic.plps.as_slice())?;
+    write_plps(sink, dynamic.plps.as_slice())?;
     put_fields(sink, &DYN_BACK, &[0])
 }

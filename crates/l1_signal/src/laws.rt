@@ -1,5 +1,7 @@
 // Laws of the definitions. Their functions do nothing.
-ghost use Rattle.l1_signal.specs.Laws.{PreReadBack, PreReadSpelled, PreWritten, PreLength, PreBitsLength, ConfReadBack, ConfReadSpelled, ConfWritten, ConfLength, DynReadBack, DynReadSpelled, DynWritten, DynLength, PostLength, ConfPartLength, EndsInItsCrc, TablesAreRows};
+ghost use Rattle.l1_signal.specs.Laws.{PreReadBack, PreReadSpelled, PreWritten, PreLength, PreBitsLength, ConfReadBack};
+ghost use Rattle.l1_signal.specs.Laws.{ConfReadSpelled, ConfWritten, ConfLength, DynReadBack, DynReadSpelled, DynWritten};
+ghost use Rattle.l1_signal.specs.Laws.{DynLength, PostLength, ConfPartLength, EndsInItsCrc, TablesAreRows};
 
 use bit_slice::crc32_law;
 

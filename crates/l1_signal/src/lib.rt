@@ -4,28 +4,26 @@
 mod comparing;
 mod conf;
 mod conf_plp;
-mod conf_rows;
 mod crc;
 mod dyn_plp;
-mod dyn_rows;
 mod dynamic;
 mod fault;
 mod fields;
 mod laws;
 mod pre;
+mod rows;
 mod values;
 
 pub use comparing::is_conf;
 pub use conf::{L1Conf, MOST_CONF_BITS, read_conf, write_conf};
 pub use conf_plp::ConfPlp;
-pub use conf_rows::ConfRows;
 pub use crc::check_post;
 pub use dyn_plp::DynPlp;
-pub use dyn_rows::DynRows;
 pub use dynamic::{L1Dyn, read_dyn, write_dyn};
 pub use fault::L1Fault;
 pub use laws::{conf_law, dyn_law, post_law, pre_law, table_law};
 pub use pre::{L1Pre, read_pre, write_pre};
+pub use rows::{PlpRows, ReadPlp, WritePlp};
 pub use values::{conf_of, dyn_of, pre_of, shape_of};
 
 #[cfg(test)]

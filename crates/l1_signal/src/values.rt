@@ -11,7 +11,7 @@ ghost use Rattle.l1_signal.specs.Numbers.{HasPreNumbers, HasPlpNumbers};
 ghost use Rattle.l1_signal.specs.L1Configurable.{conf_plp_rows, ConfFits};
 ghost use Rattle.l1_signal.specs.L1Dynamic.{DynFits};
 
-use crate::{ConfPlp, ConfRows, DynPlp, DynRows, L1Conf, L1Dyn, L1Pre};
+use crate::{ConfPlp, DynPlp, L1Conf, L1Dyn, L1Pre, PlpRows};
 use bit_slice::OutOfMemory;
 use plp_config::{FecSize, Modulation, Plan, Plp, PlpType, Rate};
 use scheduler::Shape;
@@ -120,18 +120,18 @@ fn conf_plp_at(plan: &Plan, place: usize) -> ConfPlp
     conf_plp_of(plp_at(plan, place))
 }
 
-fn conf_plps_of(alloc: Global, plan: &Plan) -> Result<ConfRows, OutOfMemory>
+fn conf_plps_of(alloc: Global, plan: &Plan) -> Result<PlpRows<ConfPlp>, OutOfMemory>
     ensures value { IfOk result (λ plps. plps ≡ map conf_plp_of plan.now.plps) }
     ensures fits { IfOk result (All (RowsFit conf_plp_rows)) }
 {
-    let mut plps = ConfRows::new(alloc);
+    let mut plps = PlpRows::new(alloc);
     for place in 0..plan.config().plps.len() {
         plps.push(conf_plp_at(plan, place))?;
     }
     Ok(plps)
 }
 
-fn conf_with(sub_slices: u16, frequency: u32, plps: ConfRows) -> L1Conf
+fn conf_with(sub_slices: u16, frequency: u32, plps: PlpRows<ConfPlp>) -> L1Conf
     requires sub_slices { sub_slices ≤ 6480 }
     requires plps { (1 ≤ length plps) × (length plps ≤ 255) }
     requires fits { All (RowsFit conf_plp_rows) plps }
@@ -160,13 +160,6 @@ pub fn conf_of(alloc: Global, plan: &Plan) -> Result<L1Conf, OutOfMemory>
     Ok(conf_with(config.sub_slices, config.frequency, plps))
 }
 
-fn plp_id(plan: &Plan, place: usize) -> u8
-    requires { place < length plan.now.plps }
-    ensures { result ≡ (plp_at plan.now.plps place).id }
-{
-    plp_at(plan, place).id
-}
-
 fn dyn_plp_of(plan: &Plan, shape: &Shape, place: usize) -> DynPlp
     requires plp { place < length plan.now.plps }
     requires shape { place < length shape.now.counts }
@@ -174,13 +167,13 @@ fn dyn_plp_of(plan: &Plan, shape: &Shape, place: usize) -> DynPlp
     ensures id { (plp_at plan.now.plps place).id < 2 ^ 8 }
 {
     DynPlp {
-        plp_id: plp_id(plan, place),
+        plp_id: plan.plp_id(place),
         plp_start: shape.start(place),
         plp_num_blocks: shape.count(place),
     }
 }
 
-fn set_dyn_plps(plan: &Plan, shape: &Shape, plps: &mut DynRows)
+fn set_dyn_plps(plan: &Plan, shape: &Shape, plps: &mut PlpRows<DynPlp>)
     requires plan { length plps.old ≡ length plan.now.plps }
     requires shape { length shape.now.counts ≡ length plan.now.plps }
     ensures value { plps.new ≡ map (dyn_plp_of plan.now shape.now) (range_with_len 0 (length plan.now.plps)) }

@@ -27,13 +27,13 @@ returns-in_err-read_fields-2-clause-fault g c =
     (inr (more_refused _ _ _ _ _ c.in_ok-read_fields.ensures.ok
     (omega (arith, c.from.ensures, c.num_plp-count.ensures, c.if-told-counted.false)) c.in_err-read_fields-2.ensures.fault))
 
-pub returns-in_err-read-clause-fault : goal.returns-in_err-read-clause-fault
-returns-in_err-read-clause-fault g c =
-    let p = err_from_is_err_and c.from_residual-in_err-read.result c.from_residual-in_err-read.ensures.1 in
+pub returns-in_err-read_plps-clause-fault : goal.returns-in_err-read_plps-clause-fault
+returns-in_err-read_plps-clause-fault g c =
+    let p = err_from_is_err_and c.from_residual-in_err-read_plps.result c.from_residual-in_err-read_plps.ensures.1 in
     rw (p.1, p.2)
     (inr (plps_refused _ _ _ _ _ _ _ _ c.in_ok-read_fields.ensures.ok
     (omega (arith, c.from.ensures, c.num_plp-count.ensures, c.if-told-counted.false)) c.in_ok-read_fields-2.ensures.ok
-    (omega (arith, c.in-Ok.ensures, c.from-2.ensures, c.num_plp-count.ensures)) c.in_err-read.ensures.fault))
+    (omega (arith, c.in-Ok.ensures, c.from-2.ensures, c.num_plp-count.ensures)) c.in_err-read_plps.ensures.fault))
 
 pub returns-in_err-read_fields-3-clause-fault : goal.returns-in_err-read_fields-3-clause-fault
 returns-in_err-read_fields-3-clause-fault g c =
@@ -41,7 +41,7 @@ returns-in_err-read_fields-3-clause-fault g c =
     rw (p.1, p.2)
     (inr (back_refused _ _ _ _ _ _ _ _ _ _ c.in_ok-read_fields.ensures.ok
     (omega (arith, c.from.ensures, c.num_plp-count.ensures, c.if-told-counted.false)) c.in_ok-read_fields-2.ensures.ok
-    (omega (arith, c.in-Ok.ensures, c.from-2.ensures, c.num_plp-count.ensures)) c.in_ok-read.ensures.ok
+    (omega (arith, c.in-Ok.ensures, c.from-2.ensures, c.num_plp-count.ensures)) c.in_ok-read_plps.ensures.ok
     c.in_err-read_fields-3.ensures.fault))
 
 pub returns-in_err-read_fields-2-clause-given : goal.returns-in_err-read_fields-2-clause-given
@@ -50,19 +50,19 @@ returns-in_err-read_fields-2-clause-given g c = given_on c.read_fields.ensures.g
 pub returns-in_default-clause-given : goal.returns-in_default-clause-given
 returns-in_default-clause-given g c = given_on c.read_fields.ensures.given c.read_fields-2.ensures.given
 
-pub returns-in_err-read-clause-given : goal.returns-in_err-read-clause-given
-returns-in_err-read-clause-given g c =
-    given_on c.read_fields.ensures.given (given_on c.read_fields-2.ensures.given c.read.ensures.given)
+pub returns-in_err-read_plps-clause-given : goal.returns-in_err-read_plps-clause-given
+returns-in_err-read_plps-clause-given g c =
+    given_on c.read_fields.ensures.given (given_on c.read_fields-2.ensures.given c.read_plps.ensures.given)
 
 pub returns-in_err-read_fields-3-clause-given : goal.returns-in_err-read_fields-3-clause-given
 returns-in_err-read_fields-3-clause-given g c =
     given_on c.read_fields.ensures.given
-    (given_on c.read_fields-2.ensures.given (given_on c.read.ensures.given c.read_fields-3.ensures.given))
+    (given_on c.read_fields-2.ensures.given (given_on c.read_plps.ensures.given c.read_fields-3.ensures.given))
 
 pub returns-clause-given : goal.returns-clause-given
 returns-clause-given g c =
     given_on c.read_fields.ensures.given
-    (given_on c.read_fields-2.ensures.given (given_on c.read.ensures.given c.read_fields-3.ensures.given))
+    (given_on c.read_fields-2.ensures.given (given_on c.read_plps.ensures.given c.read_fields-3.ensures.given))
 
 pub conf_at-requires-clause-first : goal.conf_at-requires-clause-first
 conf_at-requires-clause-first g c = are_small conf_first _ (read_fits conf_first _ _ _ c.in_ok-read_fields.ensures.ok)
@@ -77,7 +77,7 @@ pub returns-clause-ok : goal.returns-clause-ok
 returns-clause-ok g c =
     conf_done _ _ _ _ _ _ _ _ _ _ _ _ c.in_ok-read_fields.ensures.ok
     (omega (arith, c.from.ensures, c.num_plp-count.ensures, c.if-told-counted.false)) c.in_ok-read_fields-2.ensures.ok
-    (omega (arith, c.in-Ok.ensures, c.from-2.ensures, c.num_plp-count.ensures)) c.in_ok-read.ensures.ok
+    (omega (arith, c.in-Ok.ensures, c.from-2.ensures, c.num_plp-count.ensures)) c.in_ok-read_plps.ensures.ok
     c.in_ok-read_fields-3.ensures.ok c.conf_at.ensures
 
 pub returns-clause-fits : goal.returns-clause-fits

@@ -48,17 +48,17 @@ returns-in_err-put_fields-2-clause-fault g c =
     (early _ _ (first ++ more ++ plps) (row_bits conf_back_rows conf) _
     (early _ _ (first ++ more) plps _ (c.stops_law.ensures.later _ _ _ first more _ put stopped)))
 
-pub returns-in_err-write_conf_plps-clause-fault : goal.returns-in_err-write_conf_plps-clause-fault
+pub returns-in_err-write_plps-clause-fault : goal.returns-in_err-write_plps-clause-fault
 unfolding conf_bits row_bits
-returns-in_err-write_conf_plps-clause-fault g c =
-    let p = err_from_is_err_and c.from_residual-in_err-write_conf_plps.result c.from_residual-in_err-write_conf_plps.ensures.1 in
+returns-in_err-write_plps-clause-fault g c =
+    let p = err_from_is_err_and c.from_residual-in_err-write_plps.result c.from_residual-in_err-write_plps.ensures.1 in
     let conf = c.args.conf.now in
     let first = row_bits conf_first_rows conf in
     let more = row_bits conf_more_rows conf in
     let plps = flat_map (row_bits conf_plp_rows) conf.plps in
     let put = rw c.first_values.ensures at c.in_ok-put_fields.ensures.ok in
     let put_more = rw c.more_values.ensures at c.in_ok-put_fields-2.ensures.ok in
-    let plps_stop = rw c.as_slice.ensures at c.in_err-write_conf_plps.ensures.fault in
+    let plps_stop = rw c.as_slice.ensures at c.in_err-write_plps.ensures.fault in
     rw (p.1, p.2) (c.stops_law.ensures.early _ _ (first ++ more ++ plps) (row_bits conf_back_rows conf) _
     (c.stops_law.ensures.later _ _ _ (first ++ more) plps _ (c.puts_law.ensures _ _ _ first more put put_more) plps_stop))
 
@@ -72,7 +72,7 @@ returns-clause-ok g c =
     let plps = flat_map (row_bits conf_plp_rows) conf.plps in
     let put = rw c.first_values.ensures at c.in_ok-put_fields.ensures.ok in
     let put_more = rw c.more_values.ensures at c.in_ok-put_fields-2.ensures.ok in
-    let put_plps = rw c.as_slice.ensures at c.in_ok-write_conf_plps.ensures.ok in
+    let put_plps = rw c.as_slice.ensures at c.in_ok-write_plps.ensures.ok in
     let last = rw c.back_values.ensures at c.put_fields-3.ensures.ok in
     last_puts join _ _ _ (first ++ more ++ plps) (row_bits conf_back_rows conf) _
     (join _ _ _ (first ++ more) plps (join _ _ _ first more put put_more) put_plps) last
@@ -87,7 +87,7 @@ returns-clause-fault g c =
     let plps = flat_map (row_bits conf_plp_rows) conf.plps in
     let put = rw c.first_values.ensures at c.in_ok-put_fields.ensures.ok in
     let put_more = rw c.more_values.ensures at c.in_ok-put_fields-2.ensures.ok in
-    let put_plps = rw c.as_slice.ensures at c.in_ok-write_conf_plps.ensures.ok in
+    let put_plps = rw c.as_slice.ensures at c.in_ok-write_plps.ensures.ok in
     let last = rw c.back_values.ensures at c.put_fields-3.ensures.fault in
     last_stops c.stops_law.ensures.later _ _ _ (first ++ more ++ plps) (row_bits conf_back_rows conf) _
     (join _ _ _ (first ++ more) plps (join _ _ _ first more put put_more) put_plps) last

@@ -26,15 +26,15 @@ returns-in_err-put_fields-clause-fault g c =
     let stopped = rw c.front_values.ensures at c.in_err-put_fields.ensures.fault in
     rw (p.1, p.2) (early _ _ (front ++ plps) (row_bits dyn_back_rows dynamic) _ (early _ _ front plps _ stopped))
 
-pub returns-in_err-write_dyn_plps-clause-fault : goal.returns-in_err-write_dyn_plps-clause-fault
+pub returns-in_err-write_plps-clause-fault : goal.returns-in_err-write_plps-clause-fault
 unfolding dyn_bits row_bits
-returns-in_err-write_dyn_plps-clause-fault g c =
-    let p = err_from_is_err_and c.from_residual-in_err-write_dyn_plps.result c.from_residual-in_err-write_dyn_plps.ensures.1 in
+returns-in_err-write_plps-clause-fault g c =
+    let p = err_from_is_err_and c.from_residual-in_err-write_plps.result c.from_residual-in_err-write_plps.ensures.1 in
     let dynamic = c.args.dynamic.now in
     let front = row_bits dyn_front_rows dynamic in
     let plps = flat_map (row_bits dyn_plp_rows) dynamic.plps in
     let put = rw c.front_values.ensures at c.in_ok-put_fields.ensures.ok in
-    let plps_stop = rw c.as_slice.ensures at c.in_err-write_dyn_plps.ensures.fault in
+    let plps_stop = rw c.as_slice.ensures at c.in_err-write_plps.ensures.fault in
     rw (p.1, p.2) (c.stops_law.ensures.early _ _ (front ++ plps) (row_bits dyn_back_rows dynamic) _
     (c.stops_law.ensures.later _ _ _ front plps _ put plps_stop))
 
@@ -45,7 +45,7 @@ returns-clause-ok g c =
     let front = row_bits dyn_front_rows dynamic in
     let plps = flat_map (row_bits dyn_plp_rows) dynamic.plps in
     let put = rw c.front_values.ensures at c.in_ok-put_fields.ensures.ok in
-    let put_plps = rw c.as_slice.ensures at c.in_ok-write_dyn_plps.ensures.ok in
+    let put_plps = rw c.as_slice.ensures at c.in_ok-write_plps.ensures.ok in
     last_puts c.puts_law.ensures _ _ _ (front ++ plps) (row_bits dyn_back_rows dynamic) _
     (c.puts_law.ensures _ _ _ front plps put put_plps) c.put_fields-2.ensures.ok
 
@@ -56,6 +56,6 @@ returns-clause-fault g c =
     let front = row_bits dyn_front_rows dynamic in
     let plps = flat_map (row_bits dyn_plp_rows) dynamic.plps in
     let put = rw c.front_values.ensures at c.in_ok-put_fields.ensures.ok in
-    let put_plps = rw c.as_slice.ensures at c.in_ok-write_dyn_plps.ensures.ok in
+    let put_plps = rw c.as_slice.ensures at c.in_ok-write_plps.ensures.ok in
     last_stops c.stops_law.ensures.later _ _ _ (front ++ plps) (row_bits dyn_back_rows dynamic) _
     (c.puts_law.ensures _ _ _ front plps put put_plps) c.put_fields-2.ensures.fault

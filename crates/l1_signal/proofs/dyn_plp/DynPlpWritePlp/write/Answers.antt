@@ -1,7 +1,7 @@
 use Rattle.std.proofs.Common.{sym, subst}
 use Rattle.l1_signal.specs.Fields.{Fits, row_bits, RowsFit}
 use Rattle.l1_signal.specs.L1Dynamic.{dyn_plp}
-use Rattle.l1_signal.proofs.dyn_plp.write_dyn_plp.Goals as goal
+use Rattle.l1_signal.proofs.dyn_plp.DynPlpWritePlp.write.Goals as goal
 
 pub put_fields-requires-clause-fits : goal.put_fields-requires-clause-fits
 unfolding RowsFit

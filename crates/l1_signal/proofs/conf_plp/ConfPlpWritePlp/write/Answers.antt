@@ -1,7 +1,7 @@
 use Rattle.std.proofs.Common.{sym, subst}
 use Rattle.l1_signal.specs.Fields.{Fits, row_bits, RowsFit}
 use Rattle.l1_signal.specs.L1Configurable.{conf_plp}
-use Rattle.l1_signal.proofs.conf_plp.write_conf_plp.Goals as goal
+use Rattle.l1_signal.proofs.conf_plp.ConfPlpWritePlp.write.Goals as goal
 
 pub put_fields-requires-clause-fits : goal.put_fields-requires-clause-fits
 unfolding RowsFit

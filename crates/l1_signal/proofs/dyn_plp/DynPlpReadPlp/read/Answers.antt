@@ -5,7 +5,7 @@ use Rattle.l1_signal.specs.Fields.{made}
 use Rattle.l1_signal.specs.L1Dynamic.{dyn_plp, dyn_plp_at, dyn_plp_read}
 use Rattle.l1_signal.proofs.ReadLemmas.{are_small}
 use Rattle.l1_signal.proofs.RowLemmas.{read_fits}
-use Rattle.l1_signal.proofs.dyn_plp.read_dyn_plp.Goals as goal
+use Rattle.l1_signal.proofs.dyn_plp.DynPlpReadPlp.read.Goals as goal
 
 pub returns-in_err-read_fields-clause-fault : goal.returns-in_err-read_fields-clause-fault
 unfolding dyn_plp_read

@@ -5,7 +5,7 @@ use Rattle.l1_signal.specs.Fields.{made}
 use Rattle.l1_signal.specs.L1Configurable.{conf_plp, conf_plp_at, conf_plp_read}
 use Rattle.l1_signal.proofs.ReadLemmas.{are_small}
 use Rattle.l1_signal.proofs.RowLemmas.{read_fits}
-use Rattle.l1_signal.proofs.conf_plp.read_conf_plp.Goals as goal
+use Rattle.l1_signal.proofs.conf_plp.ConfPlpReadPlp.read.Goals as goal
 
 pub returns-in_err-read_fields-clause-fault : goal.returns-in_err-read_fields-clause-fault
 unfolding conf_plp_read
