@@ -41,7 +41,7 @@ pub record Describes (h : Header) (body : List Bool) : Type 0 where
   pub bytes : h.dfl % 8 ≡ 0
   pub sync : IsPlace h.syncd h.dfl
 
--- The bits are the frame, whatever its padding holds.
+-- The bits are the frame, whatever its padding holds (clause 5.2.2).
 pub record Spells (h : Header) (body bits : List Bool) : Type 0 where
   pub fits : Fits h
   pub describes : Describes h body

@@ -23,7 +23,8 @@ pub fn scramble(bytes: &mut [u8])
 fn add(bytes: &mut [u8], sequence: &[u8; 120])
     requires { length bytes.old ≤ 120 }
     ensures len { length bytes.new ≡ length bytes.old }
-    ensures sums { (k : ℕ) → k < length bytes.old → slice_index bytes.new k ≡ bit_xor (slice_index bytes.old k) (slice_index sequence.now k) }
+    ensures sums { (k : ℕ) → k < length bytes.old → slice_index bytes.new k
+        ≡ bit_xor (slice_index bytes.old k) (slice_index sequence.now k) }
 {
     for (k, byte) in bytes.iter_mut().enumerate() {
         *byte ^= sequence[k];

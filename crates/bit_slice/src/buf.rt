@@ -27,7 +27,8 @@ impl Model for BitBuf {
 
     ghost view = { λ b. take b.used (bits_of b.bytes.items) };
 
-    ghost invariant = { λ b. (vec_len b.bytes ≡ bytes_for b.used) × (vec_len b.bytes < 2 ^ 60) × Holds b.bytes.items (take b.used (bits_of b.bytes.items)) };
+    ghost invariant = { λ b. (vec_len b.bytes ≡ bytes_for b.used) × (vec_len b.bytes < 2 ^ 60)
+        × Holds b.bytes.items (take b.used (bits_of b.bytes.items)) };
 }
 
 // Makes room for more bits behind those used, zeros at first. `false` where no memory was found.
@@ -36,7 +37,8 @@ fn lengthen(bytes: &mut Vec<u8>, used: usize, more: usize) -> bool
     requires short { vec_len bytes.old < 2 ^ 60 }
     ensures len { result ≡ true → vec_len bytes.new ≡ bytes_for (used + more) }
     ensures short { result ≡ true → vec_len bytes.new < 2 ^ 60 }
-    ensures holds { result ≡ true → (bits : List Bool) → length bits ≡ used → Holds bytes.old.items bits → Holds bytes.new.items bits }
+    ensures holds { result ≡ true → (bits : List Bool) → length bits ≡ used → Holds bytes.old.items bits
+        → Holds bytes.new.items bits }
     ensures kept { result ≡ false → bytes.new.items ≡ bytes.old.items }
 {
     if more > LIMIT - used {

@@ -27,9 +27,15 @@ impl<S: BitSink> Model for CrcSink<S> {
 
     ghost Value = { State };
 
-    ghost view = { λ c. record { written = c.put.bits; room = (S.state c.inner).room; grows = (S.state c.inner).grows; below = c.stood.bits ∷ (S.state c.inner).below } };
+    ghost view = { λ c. record {
+      written = c.put.bits;
+      room = (S.state c.inner).room;
+      grows = (S.state c.inner).grows;
+      below = c.stood.bits ∷ (S.state c.inner).below;
+    } };
 
-    ghost invariant = { λ c. ((S.state c.inner).written ≡ c.stood.bits ++ c.put.bits) × (c.register ≡ register_of 32 0x04C1_1DB7 0xFFFF_FFFF c.put.bits) };
+    ghost invariant = { λ c. ((S.state c.inner).written ≡ c.stood.bits ++ c.put.bits)
+        × (c.register ≡ register_of 32 0x04C1_1DB7 0xFFFF_FFFF c.put.bits) };
 }
 
 impl<S: BitSink> CrcSink<S> {

@@ -53,7 +53,8 @@ fn put_part(bytes: &mut [u8], used: usize, bits: &BitSlice<'_>, at: usize, width
     requires part { at + width ≤ length bits.now }
     requires inside { used + width ≤ 8 * length bytes.old }
     ensures len { length bytes.new ≡ length bytes.old }
-    ensures holds { (front : List Bool) → length front ≡ used → Holds bytes.old front → Holds bytes.new (front ++ part bits.now at width) }
+    ensures holds { (front : List Bool) → length front ≡ used → Holds bytes.old front
+        → Holds bytes.new (front ++ part bits.now at width) }
 {
     if width == 0 {
         return;
@@ -68,7 +69,8 @@ fn put_bytes(bytes: &mut [u8], used: usize, bits: &BitSlice<'_>, at: usize, coun
     requires part { at + 8 * count ≤ length bits.now }
     requires inside { used + 8 * count ≤ 8 * length bytes.old }
     ensures len { length bytes.new ≡ length bytes.old }
-    ensures holds { (front : List Bool) → length front ≡ used → Holds bytes.old front → Holds bytes.new (front ++ part bits.now at (8 * count)) }
+    ensures holds { (front : List Bool) → length front ≡ used → Holds bytes.old front
+        → Holds bytes.new (front ++ part bits.now at (8 * count)) }
 {
     let first = used / 8;
     bits.sub(at, 8 * count)

@@ -1,4 +1,4 @@
-pub mod GroupLemmas
+pub mod TiBlockLemmas
 pub mod RadixLemmas
 pub mod PositionLemmas
 pub mod MeetingLemmas

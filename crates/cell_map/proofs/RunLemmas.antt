@@ -1,16 +1,16 @@
 -- Runs of cells whose places follow from one another.
 use Rattle.std.proofs.Common.{◌≡◌, ℕ, zero, suc, ◌+◌, ◌-◌, ◌*◌, ◌/◌, ◌%◌, ◌<◌, ◌≤◌, min, ◌^◌, refl, ap, sym, ◌∙◌, arith, length}
 use Rattle.std.proofs.lemmas.Nat.{div-mul-add, mod-mul-add, div_below, mul-add-lt}
-use Rattle.cell_map.specs.declared.interleaving.Group.{Group}
-use Rattle.cell_map.specs.Interleaver.{group_of, in_group}
+use Rattle.cell_map.specs.declared.interleaving.TiBlock.{TiBlock}
+use Rattle.cell_map.specs.Interleaver.{ti_block_of, in_ti_block}
 use Rattle.cell_map.specs.Runs.{Holds, RunsFrom, Steps}
 use Rattle.cell_map.specs.declared.runs.Run.{Run}
-use Rattle.cell_map.proofs.PositionLemmas.{Law, group_law, fifth_of, lies_in}
+use Rattle.cell_map.proofs.PositionLemmas.{Law, ti_block_law, fifth_of, lies_in}
 use Rattle.cell_map.proofs.RadixLemmas.{radix_whole}
 
--- the cell at a place of a group
-in_rows : (cells length n : ℕ) (g : Group) → cells % 5 ≡ 0 → g.first + g.size ≤ n
-    → ((other : ℕ) → g.first ≤ other → other < g.first + g.size → group_of n (suc length) other ≡ g)
+-- the cell at a place of a TI-block
+in_rows : (cells length n : ℕ) (g : TiBlock) → cells % 5 ≡ 0 → g.first + g.size ≤ n
+    → ((other : ℕ) → g.first ≤ other → other < g.first + g.size → ti_block_of n (suc length) other ≡ g)
     → (row block column : ℕ) → row < cells / 5 → block < g.size → column < 5
     → Holds cells (suc length) n (g.first * cells + (row * (5 * g.size) + (5 * block + column))) (g.first + block)
     (column * (cells / 5) + row)
@@ -18,23 +18,23 @@ in_rows cells length n g f whole same row block column hr hb hc =
     let r : ℕ = cells / 5 in
     let cell : ℕ = column * r + row in
     let fifth : cells ≡ 5 * r = fifth_of cells f in
-    let one : group_of n (suc length) (g.first + block) ≡ g = same (g.first + block) (omega arith) (omega arith) in
+    let one : ti_block_of n (suc length) (g.first + block) ≡ g = same (g.first + block) (omega arith) (omega arith) in
     let q : cell / r ≡ column = div-mul-add column r row hr in
     let m : cell % r ≡ row = mod-mul-add column r row hr in
     let inner : g.first + block - g.first ≡ block = omega arith in
     let small : cell < r * 5 = mul-add-lt column r row 5 hc hr in
-    let again : in_group cells g (g.first + block) cell ≡ g.first * cells + (row * (5 * g.size) + (5 * block + column)) =
+    let again : in_ti_block cells g (g.first + block) cell ≡ g.first * cells + (row * (5 * g.size) + (5 * block + column)) =
     rw (q, m, inner) (omega arith) in
     record {
       sent = omega (arith, whole);
       within = omega (arith, small, fifth);
-      value = ap (λ (x : Group). in_group cells x (g.first + block) cell) one ∙ again;
+      value = ap (λ (x : TiBlock). in_ti_block cells x (g.first + block) cell) one ∙ again;
     }
 
--- a run begins at a position of a group
-grouped : (cells length n before at limit left : ℕ) (g : Group) → cells % 5 ≡ 0 → at < n * cells → n < 2 ^ 10 → cells < 2 ^ 15
+-- a run begins at a position of a TI-block
+interleaved : (cells length n before at limit left : ℕ) (g : TiBlock) → cells % 5 ≡ 0 → at < n * cells → n < 2 ^ 10 → cells < 2 ^ 15
     → before < 2 ^ 20 → 0 < limit
-    → g ≡ group_of n (suc length) (at / cells) → left ≡ min limit (g.size * cells - (at - g.first * cells))
+    → g ≡ ti_block_of n (suc length) (at / cells) → left ≡ min limit (g.size * cells - (at - g.first * cells))
     → RunsFrom cells (suc length) n before at limit (record {
       left = left;
       first = before + g.first;
@@ -45,7 +45,7 @@ grouped : (cells length n before at limit left : ℕ) (g : Group) → cells % 5 
       block = (at - g.first * cells) % (5 * g.size) / 5;
       column = (at - g.first * cells) % (5 * g.size) % 5;
     })
-grouped cells length n before at limit left g f h few short small some e m =
+interleaved cells length n before at limit left g f h few short small some e m =
     let positive : 0 < cells =
     elim cells as (λ (k : ℕ). at < n * k → 0 < k) [
       | zero ↦ (λ (x : at < n * 0). absurd (omega arith))
@@ -53,7 +53,7 @@ grouped cells length n before at limit left g f h few short small some e m =
           (λ (x : at < n * suc k). omega arith)
     ] h in
     let inside : at / cells < n = div_below at cells n positive h in
-    let law : Law n (suc length) (at / cells) g = rw e (group_law n (suc length) (at / cells) (omega arith) inside) in
+    let law : Law n (suc length) (at / cells) g = rw e (ti_block_law n (suc length) (at / cells) (omega arith) inside) in
     let l = lies_in cells at g positive law.before law.behind in
     let r : ℕ = cells / 5 in
     let rest : ℕ = at - g.first * cells in
@@ -75,9 +75,9 @@ grouped cells length n before at limit left g f h few short small some e m =
       few = (omega (arith, short, fifth), omega (arith, few, law.whole), omega arith, omega (arith, small, few, law.whole, has));
     }
 
-pub grouped_is : (cells length n before at limit left : ℕ) (g : Group) → 0 < length → cells % 5 ≡ 0 → at < n * cells → n < 2 ^ 10
+pub interleaved_is : (cells length n before at limit left : ℕ) (g : TiBlock) → 0 < length → cells % 5 ≡ 0 → at < n * cells → n < 2 ^ 10
     → cells < 2 ^ 15 → before < 2 ^ 20 → 0 < limit
-    → g ≡ group_of n length (at / cells) → left ≡ min limit (g.size * cells - (at - g.first * cells))
+    → g ≡ ti_block_of n length (at / cells) → left ≡ min limit (g.size * cells - (at - g.first * cells))
     → RunsFrom cells length n before at limit (record {
       left = left;
       first = before + g.first;
@@ -88,12 +88,12 @@ pub grouped_is : (cells length n before at limit left : ℕ) (g : Group) → 0 <
       block = (at - g.first * cells) % (5 * g.size) / 5;
       column = (at - g.first * cells) % (5 * g.size) % 5;
     })
-grouped_is cells zero n before at limit left g long f h few short small some e m = absurd (omega arith)
-grouped_is cells (suc length) n before at limit left g long f h few short small some e m =
-    grouped cells length n before at limit left g f h few short small some e m
+interleaved_is cells zero n before at limit left g long f h few short small some e m = absurd (omega arith)
+interleaved_is cells (suc length) n before at limit left g long f h few short small some e m =
+    interleaved cells length n before at limit left g f h few short small some e m
 
 -- and lies within it
-pub lies_within : (cells length n at : ℕ) (g : Group) → 0 < length → at < n * cells → g.first ≤ at / cells
+pub lies_within : (cells length n at : ℕ) (g : TiBlock) → 0 < length → at < n * cells → g.first ≤ at / cells
     → at / cells < g.first + g.size
     → (g.first * cells ≤ at) × (at - g.first * cells < g.size * cells)
 lies_within cells length n at g long h before behind =

@@ -71,7 +71,7 @@ plain_cut run limit first is one alone some most o q =
             block = 0;
             column = 0;
             in-rows = omega (arith, behind, hz, most);
-            in-group = omega (arith, alone);
+            in-ti-block = omega (arith, alone);
             in-block = omega (arith, one);
             place = omega (arith, there, here, zero_block, column, none);
             ordinal-is = omega (arith, o, block, b0);
@@ -103,7 +103,7 @@ block_cells_next run columns first is most o q b z hb hz =
       block = run.block;
       column = run.column + z;
       in-rows = is.row;
-      in-group = is.block;
+      in-ti-block = is.block;
       in-block = omega (arith, most, hz, is.column);
       place = omega (arith, none);
       ordinal-is = omega (arith, o, b0);
@@ -178,7 +178,7 @@ blocks_cut run rest whole blocks first is zero_column some most few fits any at 
             block = run.block + b;
             column = z;
             in-rows = is.row;
-            in-group = omega (arith, fits, hb, is.block);
+            in-ti-block = omega (arith, fits, hb, is.block);
             in-block = hz;
             place = omega (arith, on, zero_column);
             ordinal-is = omega (arith, o);
@@ -206,7 +206,7 @@ found_next : (c : Config) (shape : FrameShape) (address : ℕ) (run : Run) (i or
     → StandsAt c shape (address + i) (record { ordinal = run.first + next.block; cell = next.column * run.rows + next.row })
 found_next c shape address run i ordinal cell a less next =
     let r = a.runs in
-    let h = r.holds next.row next.block next.column next.in-rows next.in-group next.in-block in
+    let h = r.holds next.row next.block next.column next.in-rows next.in-ti-block next.in-block in
     let here : position_of c shape a.plp (r.first + next.block) (next.column * run.rows + next.row) ≡ a.at + i =
     omega (arith, h.value, r.here, next.place) in
     let there : address_at c shape a.plp (a.at + i) ≡ address + i = a.addresses i (omega (arith, less, r.most)) in

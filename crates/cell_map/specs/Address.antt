@@ -1,4 +1,4 @@
--- The address of a cell in its frame (EN 302 755, clause 8).
+-- The address of a cell in its frame (EN 302 755, clause 8.3.6), by the numbers of L1-post (clause 7.2.3.2).
 use Rattle.std.specs.Prelude.{ℕ, ◌+◌, ◌*◌, ◌/◌, ◌%◌, ◌<◌, length, slice_index, if◌then◌else◌}
 use Rattle.plp_config.specs.Capacity.{block_cells}
 use Rattle.plp_config.specs.Plps.{plp_at}

@@ -11,7 +11,7 @@ use Rattle.cell_map.specs.declared.runs.Run.{Run}
 use Rattle.cell_map.specs.declared.search.Mark.{Mark}
 use Rattle.cell_map.specs.declared.strips.Cut.{Cut}
 
--- the place of a run in its group: rows of so many columns a block
+-- the place of a run in its TI-block: rows of so many columns a block
 abbrev pub place_in : Run → ℕ
 place_in run = run.row * (run.columns * run.size) + (run.columns * run.block + run.column)
 
@@ -21,7 +21,7 @@ pub record Holds (cells length n at block cell : ℕ) : Type 0 where
   pub within : cell < cells
   pub value : position cells length n block cell ≡ at
 
--- the places of a group, each of whose blocks is written column by column and which is read row by row
+-- the places of a TI-block, each of whose blocks is written column by column and which is read row by row
 abbrev pub HoldsAll : ℕ → ℕ → ℕ → ℕ → Run → Type 0
 HoldsAll cells length n first run = (row block column : ℕ) → row < run.rows → block < run.size → column < run.columns
     → Holds cells length n (first * cells + (row * (run.columns * run.size) + (run.columns * block + column))) (first + block)
@@ -61,7 +61,7 @@ pub record Steps (run next : Run) : Type 0 where
   pub block : next.block < next.size
   pub column : next.column < next.columns
 
--- a run with a next cell, all of which lies in its group
+-- a run with a next cell, all of which lies in its TI-block
 pub record IsInside (run : Run) : Type 0 where
   pub few : (run.rows < 2 ^ 15) × (run.size < 2 ^ 10) × (run.columns ≤ 5) × (run.first < 2 ^ 21)
   pub row : run.row < run.rows
@@ -92,13 +92,13 @@ pub record IsAtBlock (run : Run) (at count : ℕ) (next : Run) : Type 0 where
   pub block : next.block < next.size
   pub column : next.column ≡ 0
 
--- a cell of the group stands so many steps on
+-- a cell of the TI-block stands so many steps on
 pub record IsNext (run : Run) (steps ordinal cell : ℕ) : Type 0 where
   pub row : ℕ
   pub block : ℕ
   pub column : ℕ
   pub in-rows : row < run.rows
-  pub in-group : block < run.size
+  pub in-ti-block : block < run.size
   pub in-block : column < run.columns
   pub place : row * (run.columns * run.size) + (run.columns * block + column) ≡ place_in run + steps
   pub ordinal-is : ordinal ≡ run.first + block

@@ -67,7 +67,8 @@ fn partner(plan: &Plan, shape: &Shape, first: u8) -> Option<u8>
     requires plps { length shape.now.counts ≡ length plan.now.plps }
     requires first { first < length plan.now.plps }
     ensures none { IfNone result ((k : ℕ) → first ≤ k → k < length plan.now.plps → ¬ (Shares plan.now shape.now first k)) }
-    ensures some { IfSome result (λ k. (first ≤ k) × (k < length plan.now.plps) × Shares plan.now shape.now first k × ((j : ℕ) → first ≤ j → j < k → ¬ (Shares plan.now shape.now first j))) }
+    ensures some { IfSome result (λ k. (first ≤ k) × (k < length plan.now.plps) × Shares plan.now shape.now first k
+        × ((j : ℕ) → first ≤ j → j < k → ¬ (Shares plan.now shape.now first j))) }
 {
     for k in first..plan.config().plps.len() as u8 {
         if shares(plan, shape, usize::from(first), usize::from(k)) {

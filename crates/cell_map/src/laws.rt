@@ -1,5 +1,6 @@
 // Laws of the cell map. Their functions do nothing.
-ghost use Rattle.cell_map.specs.Laws.{InterleaverFillsOnce, ShapePasses, MapHasEachCell, MapHasOnlyCells, DummyHasNoCell, CellsFit};
+ghost use Rattle.cell_map.specs.Laws.{InterleaverFillsOnce, ShapePasses, MapHasEachCell, MapHasOnlyCells, DummyHasNoCell};
+ghost use Rattle.cell_map.specs.Laws.{CellsFit};
 
 use scheduler::order_law;
 

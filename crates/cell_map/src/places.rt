@@ -53,7 +53,8 @@ fn place_of(plan: &Plan, shape: &Shape, plp: usize, address: u32) -> Option<Plac
     requires plps { length shape.now.counts ≡ length plan.now.plps }
     requires passes { Passes plan.now shape.now }
     requires plp { plp < length plan.now.plps }
-    ensures none { IfNone result ((b q : ℕ) → IsCell plan.now shape.now plp b q → ¬ (address_of plan.now shape.now plp b q ≡ address)) }
+    ensures none { IfNone result ((b q : ℕ) → IsCell plan.now shape.now plp b q
+        → ¬ (address_of plan.now shape.now plp b q ≡ address)) }
     ensures some { IfSome result (λ place. PlaceOf plan.now shape.now plp address place) }
     ensures plan { IsPlan plan.now }
 {
@@ -73,7 +74,8 @@ fn place_of(plan: &Plan, shape: &Shape, plp: usize, address: u32) -> Option<Plac
 fn found(plan: &Plan, shape: &Shape, address: u32) -> Option<Cell>
     requires plps { length shape.now.counts ≡ length plan.now.plps }
     requires passes { Passes plan.now shape.now }
-    ensures none { IfNone result ((j b q : ℕ) → IsCell plan.now shape.now j b q → ¬ (address_of plan.now shape.now j b q ≡ address)) }
+    ensures none { IfNone result ((j b q : ℕ) → IsCell plan.now shape.now j b q
+        → ¬ (address_of plan.now shape.now j b q ≡ address)) }
     ensures some { IfSome result (λ cell. StandsAt plan.now shape.now address cell) }
 {
     let mut before = 0;

@@ -1,18 +1,18 @@
 // The cells of a frame with their addresses, by the definitions: slow, cell by cell.
 ghost use Rattle.std.specs.Prelude.{◌≡◌, ◌<◌, ◌≤◌, ◌*◌, ◌^◌, ◌++◌, length, sum, take, IfOk, OnOk};
 ghost use Rattle.scheduler.specs.Shape.{in_type2, slice_of};
-ghost use Rattle.cell_map.specs.Interleaver.{sizes_of, group_in, in_group, position};
+ghost use Rattle.cell_map.specs.Interleaver.{sizes_of, ti_block_in, in_ti_block, position};
 ghost use Rattle.cell_map.specs.Address.{address_at};
 ghost use Rattle.cell_map.specs.CellMap.{pair_of, block_pairs, plp_pairs, pairs};
 
-use crate::interleaving::Group;
+use crate::interleaving::TiBlock;
 use crate::places::Cell;
 use bit_slice::OutOfMemory;
 use plp_config::{Plan, PlpType};
 use scheduler::Shape;
 use std::alloc::Global;
 
-// The sizes of the groups into which so many blocks are split.
+// The sizes of the TI-blocks into which so many blocks are split.
 fn sizes(alloc: Global, blocks: u16, length: u16) -> Result<Vec<u32>, OutOfMemory>
     requires { 0 < length }
     ensures { IfOk result (λ sizes. sizes.items ≡ sizes_of blocks length) }
@@ -25,36 +25,36 @@ fn sizes(alloc: Global, blocks: u16, length: u16) -> Result<Vec<u32>, OutOfMemor
     Ok(sizes)
 }
 
-// The group of a block, where groups of these sizes follow so many blocks.
-fn group_in(sizes: &[u32], first: u32, block: u32) -> Group
-    ensures { result ≡ group_in sizes.now first block }
+// The TI-block of a block, where TI-blocks of these sizes follow so many blocks.
+fn ti_block_in(sizes: &[u32], first: u32, block: u32) -> TiBlock
+    ensures { result ≡ ti_block_in sizes.now first block }
 {
     match sizes {
-        [] => Group { first, size: 0 },
+        [] => TiBlock { first, size: 0 },
         [size, rest @ ..] => {
             if u64::from(block) < u64::from(first) + u64::from(*size) {
-                return Group { first, size: *size };
+                return TiBlock { first, size: *size };
             }
-            group_in(rest, first + *size, block)
+            ti_block_in(rest, first + *size, block)
         }
     }
 }
 
-// The position in a group that is known.
-fn in_group(cells: u32, group: Group, block: u32, cell: u32) -> u64
+// The position in a TI-block that is known.
+fn in_ti_block(cells: u32, ti_block: TiBlock, block: u32, cell: u32) -> u64
     requires some { 5 ≤ cells }
     requires few { cells < 2 ^ 16 }
-    ensures { result ≡ in_group cells group block cell }
+    ensures { result ≡ in_ti_block cells ti_block block cell }
 {
     let rows = u64::from(cells / 5);
-    u64::from(group.first) * u64::from(cells)
-        + u64::from(cell) % rows * (5 * u64::from(group.size))
-        + 5 * u64::from(block.saturating_sub(group.first))
+    u64::from(ti_block.first) * u64::from(cells)
+        + u64::from(cell) % rows * (5 * u64::from(ti_block.size))
+        + 5 * u64::from(block.saturating_sub(ti_block.first))
         + u64::from(cell) / rows
 }
 
 // The position of a cell of a block, of so many blocks.
-#[tactic(auto, unfolding(crate::specs::Interleaver::group_of))]
+#[tactic(auto, unfolding(crate::specs::Interleaver::ti_block_of))]
 fn position(
     alloc: Global,
     cells: u32,
@@ -71,7 +71,7 @@ fn position(
         return Ok(u64::from(block) * u64::from(cells) + u64::from(cell));
     }
     let sizes = sizes(alloc, blocks, length)?;
-    Ok(in_group(cells, group_in(&sizes, 0, block), block, cell))
+    Ok(in_ti_block(cells, ti_block_in(&sizes, 0, block), block, cell))
 }
 
 fn is_type2(plan: &Plan, plp: usize) -> bool

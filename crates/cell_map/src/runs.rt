@@ -2,27 +2,27 @@
 ghost use Rattle.std.specs.Prelude.{◌≡◌, ◌<◌, ◌≤◌, ◌*◌, ◌+◌, ◌^◌, ◌%◌};
 ghost use Rattle.cell_map.specs.Runs.{RunsFrom, Steps};
 
-use crate::interleaving::group_of;
+use crate::interleaving::ti_block_of;
 use crate::places::Cell;
 
-/// A run within a group of blocks. Each block is written in columns, and the group is read row by row.
+/// A run within a TI-block of blocks. Each block is written in columns, and the TI-block is read row by row.
 #[derive(Clone, Copy)]
 pub struct Run {
     // Cells to come.
     pub left: u32,
-    // The ordinal of the group's first block.
+    // The ordinal of the TI-block's first block.
     pub first: u32,
-    // The group: the rows, the columns of a block, and the blocks.
+    // The TI-block: the rows, the columns of a block, and the blocks.
     pub rows: u32,
     pub columns: u32,
     pub size: u32,
-    // The next cell: its row, its block in the group, and its column.
+    // The next cell: its row, its block in the TI-block, and its column.
     pub row: u32,
     pub block: u32,
     pub column: u32,
 }
 
-// The run at a position, without interleaving: a block is a group of one column.
+// The run at a position, without interleaving: a block is a TI-block of one column.
 fn plain_run(cells: u32, blocks: u32, before: u32, at: u32, limit: u32) -> Run
     requires inside { at < blocks * cells }
     requires small { blocks < 2 ^ 10 }
@@ -45,7 +45,7 @@ fn plain_run(cells: u32, blocks: u32, before: u32, at: u32, limit: u32) -> Run
 }
 
 // The same with interleaving.
-fn grouped_run(cells: u32, length: u32, blocks: u32, before: u32, at: u32, limit: u32) -> Run
+fn interleaved_run(cells: u32, length: u32, blocks: u32, before: u32, at: u32, limit: u32) -> Run
     requires fifth { cells % 5 ≡ 0 }
     requires length { 0 < length }
     requires few { length < 2 ^ 16 }
@@ -56,16 +56,16 @@ fn grouped_run(cells: u32, length: u32, blocks: u32, before: u32, at: u32, limit
     requires some { 0 < limit }
     ensures { RunsFrom cells length blocks before at limit result }
 {
-    let group = group_of(blocks, length, at / cells);
-    let rest = at - group.first * cells;
-    let place = rest % (5 * group.size);
+    let ti_block = ti_block_of(blocks, length, at / cells);
+    let rest = at - ti_block.first * cells;
+    let place = rest % (5 * ti_block.size);
     Run {
-        left: limit.min(group.size * cells - rest),
-        first: before + group.first,
+        left: limit.min(ti_block.size * cells - rest),
+        first: before + ti_block.first,
         rows: cells / 5,
         columns: 5,
-        size: group.size,
-        row: rest / (5 * group.size),
+        size: ti_block.size,
+        row: rest / (5 * ti_block.size),
         block: place / 5,
         column: place % 5,
     }
@@ -85,7 +85,7 @@ pub fn run_at(cells: u32, length: u32, blocks: u32, before: u32, at: u32, limit:
     if length == 0 {
         plain_run(cells, blocks, before, at, limit)
     } else {
-        grouped_run(cells, length, blocks, before, at, limit)
+        interleaved_run(cells, length, blocks, before, at, limit)
     }
 }
 

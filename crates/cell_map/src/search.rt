@@ -18,7 +18,8 @@ fn run_of(plan: &Plan, shape: &Shape, plp: usize, before: u32, address: u32) -> 
     requires plp { plp < length plan.now.plps }
     requires before { before ≡ sum (take plp shape.now.counts) }
     requires small { before < 2 ^ 20 }
-    ensures none { IfNone result ((b q : ℕ) → IsCell plan.now shape.now plp b q → ¬ (address_of plan.now shape.now plp b q ≡ address)) }
+    ensures none { IfNone result ((b q : ℕ) → IsCell plan.now shape.now plp b q
+        → ¬ (address_of plan.now shape.now plp b q ≡ address)) }
     ensures some { IfSome result (λ run. RunsAt plan.now shape.now address run) }
     ensures plan { IsPlan plan.now }
 {
@@ -60,7 +61,8 @@ fn find_among(plan: &Plan, shape: &Shape, address: u32, first: Mark, end: usize)
     requires first { IsMark plan.now shape.now first }
     requires order { first.plp ≤ end }
     requires end { end ≤ length plan.now.plps }
-    ensures none { IfNone result ((j b q : ℕ) → first.plp ≤ j → j < end → IsCell plan.now shape.now j b q → ¬ (address_of plan.now shape.now j b q ≡ address)) }
+    ensures none { IfNone result ((j b q : ℕ) → first.plp ≤ j → j < end → IsCell plan.now shape.now j b q
+        → ¬ (address_of plan.now shape.now j b q ≡ address)) }
     ensures some { IfSome result (λ found. RunsAt plan.now shape.now address found.run × IsMark plan.now shape.now found.mark) }
 {
     let _config = plan.config();
@@ -85,7 +87,8 @@ pub fn find(plan: &Plan, shape: &Shape, address: u32, first: Mark) -> Option<Fou
     requires plps { length shape.now.counts ≡ length plan.now.plps }
     requires passes { Passes plan.now shape.now }
     requires first { IsMark plan.now shape.now first }
-    ensures none { IfNone result ((j b q : ℕ) → IsCell plan.now shape.now j b q → ¬ (address_of plan.now shape.now j b q ≡ address)) }
+    ensures none { IfNone result ((j b q : ℕ) → IsCell plan.now shape.now j b q
+        → ¬ (address_of plan.now shape.now j b q ≡ address)) }
     ensures some { IfSome result (λ found. RunsAt plan.now shape.now address found.run × IsMark plan.now shape.now found.mark) }
 {
     match find_among(plan, shape, address, first, plan.config().plps.len()) {

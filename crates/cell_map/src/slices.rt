@@ -43,7 +43,8 @@ pub fn locate(slices: Slices, interval: u64, address: u64) -> Option<(u64, u64)>
     requires apart { (slices.count ≡ 1) ⊎ (slices.len ≤ interval) }
     requires some { 0 < slices.count }
     ensures none { IfNone result ((k t : ℕ) → k < slices.count → t < slices.len → ¬ (slices.start + k * interval + t ≡ address)) }
-    ensures some { IfSome result (λ x. (x.0 < slices.count) × (x.1 < slices.len) × (slices.start + x.0 * interval + x.1 ≡ address)) }
+    ensures some { IfSome result (λ x. (x.0 < slices.count) × (x.1 < slices.len)
+        × (slices.start + x.0 * interval + x.1 ≡ address)) }
 {
     if address < slices.start {
         return None;
@@ -74,7 +75,8 @@ pub fn free(slices: Slices, interval: u64, address: u64, limit: u64) -> u64
     requires apart { (slices.count ≡ 1) ⊎ (slices.len ≤ interval) }
     requires some { 0 < slices.count }
     ensures most { result ≤ limit }
-    ensures none { (k t : ℕ) → k < slices.count → t < slices.len → address ≤ slices.start + k * interval + t → address + result ≤ slices.start + k * interval + t }
+    ensures none { (k t : ℕ) → k < slices.count → t < slices.len → address ≤ slices.start + k * interval + t
+        → address + result ≤ slices.start + k * interval + t }
     ensures greatest { result < limit → IsIn slices interval (address + result) }
 {
     if slices.len == 0 {

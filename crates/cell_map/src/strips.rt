@@ -5,7 +5,8 @@ ghost use Rattle.cell_map.specs.Runs.{IsInside, IsCut, IsAtBlock};
 use crate::places::Cell;
 use crate::runs::{Run, cell_of};
 
-/// Cells at successive addresses: of successive blocks, of each block as many, and from each cell of a block to the next the same distance.
+/// Cells at successive addresses: of successive blocks, of each block as many, and from each cell of a block to the next the same
+/// distance.
 #[derive(Clone, Copy, Debug, PartialEq, Eq)]
 pub struct Strip {
     /// The first cell.
@@ -58,7 +59,7 @@ fn at_block(run: Run, block: u32, left: u32) -> Run
     }
 }
 
-// The next cells of a block that is its own group, and has one column.
+// The next cells of a block that is its own TI-block, and has one column.
 fn cut_plain(run: Run, limit: u32) -> Cut
     requires inside { IsInside run }
     requires plain { (run.columns ≡ 1) × (run.size ≡ 1) }

@@ -370,7 +370,7 @@ fn sub_slices_at_their_interval(rt: HostRuntime) -> Result<(), Fail> {
 }
 
 #[test]
-fn groups_of_several_sizes(rt: HostRuntime) -> Result<(), Fail> {
+fn ti_blocks_of_several_sizes(rt: HostRuntime) -> Result<(), Fail> {
     let plp = Plp {
         blocks: 5,
         interleave: 3,

@@ -87,7 +87,8 @@ pub fn put_next(
     requires short { length out.old < 2 ^ 34 }
     requires words { take (4 * done) out.old ≡ words plan.now shape.now address done }
     ensures count { result ≡ stretch_len stretch }
-    ensures words { take (4 * (done + stretch_len stretch)) out.new ≡ words plan.now shape.now address (done + stretch_len stretch) }
+    ensures words { take (4 * (done + stretch_len stretch)) out.new
+        ≡ words plan.now shape.now address (done + stretch_len stretch) }
     ensures len { length out.new ≡ length out.old }
 {
     let strip = strip_of(stretch);

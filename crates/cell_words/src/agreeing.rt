@@ -28,8 +28,8 @@ fn are_same(one: &[u8], other: &[u8], count: u32) -> bool
     same
 }
 
-/// Whether so many cells of a record from an address on are those of the map, word by word. `false` tells nothing of any cell: its caller
-/// looks at them one by one. `buffer` is as long as the words of the cells, and is written to.
+/// Whether so many cells of a record from an address on are those of the map, word by word. `false` tells nothing of any cell:
+/// its caller looks at them one by one. `buffer` is as long as the words of the cells, and is written to.
 pub fn agree(
     plan: &Plan,
     shape: &Shape,
@@ -43,7 +43,8 @@ pub fn agree(
     requires all { length cells.now ≡ plan.now.cells }
     requires inside { address + count ≤ plan.now.cells }
     requires room { length buffer.old ≡ 4 * count }
-    ensures same { result ≡ true → (i : ℕ) → i < count → slice_get cells.now (address + i) ≡ Some (get (cell_map plan.now shape.now) (address + i)) }
+    ensures same { result ≡ true → (i : ℕ) → i < count
+        → slice_get cells.now (address + i) ≡ Some (get (cell_map plan.now shape.now) (address + i)) }
     ensures len { length buffer.new ≡ length buffer.old }
 {
     map_law();

@@ -9,14 +9,14 @@ ghost use Rattle.desk_io.specs.Ahead.{ReadsAhead, IsAtEnd};
 ghost use Rattle.config_file.specs.TextReading.{RefusesText};
 
 use crate::stop::{ConfigCause, ConfigStop};
-use config_text::{MOST_BYTES, TextFault};
+use config_text::{LONGEST_TEXT, TextFault};
 use desk_io::Input;
 use plp_config::{Plan, Valid, fits, validate};
 use ports::{Desk, DeskFault};
 use std::alloc::Global;
 
 // One byte more than a text may have.
-const LIMIT: usize = MOST_BYTES + 1;
+const LIMIT: usize = LONGEST_TEXT + 1;
 
 // Reads a text to its end, or until it has too many bytes.
 fn read_text<D: Desk>(desk: &mut D, handle: u32, input: &mut Input) -> Result<(), DeskFault>

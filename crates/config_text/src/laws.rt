@@ -16,7 +16,8 @@ pub fn not_refused()
 
 /// A text has one refusal.
 pub fn refused_once()
-    ensures { (text : List ℕ) (line other : ℕ) (why reason : TextWhy) → Refuses text line why → Refuses text other reason → (line ≡ other) × (why ≡ reason) }
+    ensures { (text : List ℕ) (line other : ℕ) (why reason : TextWhy) → Refuses text line why → Refuses text other reason
+        → (line ≡ other) × (why ≡ reason) }
 {}
 
 /// Each text spells a configuration or is refused.

@@ -18,7 +18,7 @@ mod writing;
 pub use decimal::number_within;
 pub use fault::{TextFault, TextWhy};
 pub use laws::{decided, not_refused, refused_once, spelled_once};
-pub use reading::{MOST_BYTES, read};
+pub use reading::{LONGEST_TEXT, read};
 pub use writing::{band_word, write};
 
 #[cfg(test)]

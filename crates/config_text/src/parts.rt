@@ -4,7 +4,8 @@ ghost use Rattle.std.specs.List.{slice_split};
 
 /// The bytes before the first separator, and those behind it if there is one.
 pub fn split_once(bytes: &[u8], separator: u8) -> (&[u8], Option<&[u8]>)
-    ensures some { IfSome result.1 (λ rest. slice_split (λ b. b == separator) bytes.now ≡ result.0.now ∷ slice_split (λ b. b == separator) rest.now) }
+    ensures some { IfSome result.1 (λ rest. slice_split (λ b. b == separator) bytes.now
+        ≡ result.0.now ∷ slice_split (λ b. b == separator) rest.now) }
     ensures none { IfNone result.1 (slice_split (λ b. b == separator) bytes.now ≡ bytes.now ∷ []) }
     ensures all { IfNone result.1 (result.0.now ≡ bytes.now) }
 {

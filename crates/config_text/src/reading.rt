@@ -17,7 +17,7 @@ use std::alloc::Global;
 const FIRST_LINES: usize = 8;
 
 /// Bytes of a text at most.
-pub const MOST_BYTES: usize = 65_536;
+pub const LONGEST_TEXT: usize = 65_536;
 
 fn is_skipped(line: &[u8]) -> bool
     ensures { result ≡ is_skipped line.now }
@@ -74,7 +74,7 @@ fn read_text(alloc: Global, text: &[u8]) -> Result<Config, TextFault>
     ensures ok { IfOk result (Spells text.now) }
     ensures err { IfErr result (CausesFault text.now) }
 {
-    if text.len() > MOST_BYTES {
+    if text.len() > LONGEST_TEXT {
         return Err(TextFault::Refused {
             line: 0,
             why: TextWhy::TooLong,
@@ -91,7 +91,8 @@ pub fn read(alloc: Global, text: &[u8]) -> Result<Config, TextFault>
 
     ensures err { IfErr result (CausesFault text.now) }
     // every text that is refused is refused so, if there is memory
-    ensures refused { (line : ℕ) (why : TextWhy) → Refuses text.now line why → (result ≡ Err (TextFault.Refused line why)) ⊎ (result ≡ Err TextFault.OutOfMemory) }
+    ensures refused { (line : ℕ) (why : TextWhy) → Refuses text.now line why
+        → (result ≡ Err (TextFault.Refused line why)) ⊎ (result ≡ Err TextFault.OutOfMemory) }
 {
     read_text(alloc, text)
 }

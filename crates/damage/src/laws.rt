@@ -1,5 +1,6 @@
 // Laws of the definitions. Their functions do nothing.
-ghost use Rattle.damage.specs.Laws.{GroupsAreFrames, ModulatedIsRecords, WholeTold, WholeIsAll, NotWholeMisses, LaterNear, NearTold};
+ghost use Rattle.damage.specs.Laws.{GroupsAreFrames, ModulatedIsRecords, WholeTold, WholeIsAll, NotWholeMisses, LaterNear};
+ghost use Rattle.damage.specs.Laws.{NearTold};
 
 use frame_groups::next_law;
 
@@ -22,7 +23,8 @@ pub fn whole_law()
     ensures misses { NotWholeMisses }
 {}
 
-/// Which packets are near one another: those of which each next one is, and those that are left if only packets at the front are lost.
+/// Which packets are near one another: those of which each next one is, and those that are left if only packets at the front are
+/// lost.
 pub fn near_law()
     ensures told { NearTold }
     ensures later { LaterNear }

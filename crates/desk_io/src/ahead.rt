@@ -9,12 +9,12 @@ use t2mi_packet::LARGEST;
 use thiserror::Error;
 
 /// A file that gives as many bytes is too long.
-pub const MOST_BYTES: u64 = 1 << 40;
+pub const LONGEST_FILE: u64 = 1 << 40;
 
 /// Why a file was not read on.
 #[derive(Clone, Copy, Debug, PartialEq, Eq, Error)]
 pub enum ReadStop {
-    /// The file gave [`MOST_BYTES`].
+    /// The file gave [`LONGEST_FILE`].
     #[error("the file is too long")]
     TooLong,
     /// The file could not be read.
@@ -22,8 +22,8 @@ pub enum ReadStop {
     Fault,
 }
 
-/// Reads a file ahead. It is seen as the file's handle, how many bytes were taken, the bytes that were read behind them, and whether
-/// the file was found to have ended. After `open` it takes no memory.
+/// Reads a file ahead. It is seen as the file's handle, how many bytes were taken, the bytes that were read behind them, and
+/// whether the file was found to have ended. After `open` it takes no memory.
 #[derive(Drop)]
 pub struct ReadAhead {
     handle: u32,
@@ -115,11 +115,11 @@ impl ReadAhead {
     {
         let len = self.input.len() as u64;
         let given = self.taken + len;
-        let room = (most - len).min(MOST_BYTES - given);
+        let room = (most - len).min(LONGEST_FILE - given);
         let Ok(count) = self.input.read(desk, self.handle, room) else {
             return Err(ReadStop::Fault);
         };
-        if given + count as u64 == MOST_BYTES {
+        if given + count as u64 == LONGEST_FILE {
             return Err(ReadStop::TooLong);
         }
         Ok(count)
@@ -140,7 +140,8 @@ impl ReadAhead {
         ensures none { TakesNone (D.state desk.old) (D.state desk.new) self.old self.new }
         ensures limit { (limit : ℕ) → given_of self.old ≤ limit → self.old.taken + most ≤ limit → given_of self.new ≤ limit }
         ensures full { IfOk result (λ full. IsTrue full → least ≤ length self.new.waiting) }
-        ensures end { IfOk result (λ full. full ≡ false → (length self.new.waiting < least) × IsAtEnd (D.state desk.new) self.old.handle) }
+        ensures end { IfOk result (λ full. full ≡ false
+            → (length self.new.waiting < least) × IsAtEnd (D.state desk.new) self.old.handle) }
         ensures counts { OnOk result (SameCounts (D.state desk.old) (D.state desk.new)) }
         ensures short { OnOk result (given_of self.new < most_bytes) }
         ensures err { IfErr result (StopsReading (D.state desk.old) (D.state desk.new) self.new least) }

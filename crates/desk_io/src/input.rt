@@ -95,7 +95,8 @@ fn read_behind<D: Desk>(
     requires few { span.old.end - span.old.start + LARGEST ≤ BUFFER }
     requires size { length bytes.old ≡ BUFFER }
     requires some { 0 < most }
-    ensures reads { ReadsAhead (D.state desk.old) (D.state desk.new) handle (part_in span.old bytes.old) (part_in span.new bytes.new) }
+    ensures reads { ReadsAhead (D.state desk.old) (D.state desk.new) handle (part_in span.old bytes.old)
+        (part_in span.new bytes.new) }
     ensures order { (span.new.start ≤ span.new.end) × (span.new.end ≤ length bytes.new) }
     ensures count { IfOk result (λ n. span.new.end - span.new.start ≡ span.old.end - span.old.start + n) }
     ensures most { IfOk result (λ n. n ≤ most) }

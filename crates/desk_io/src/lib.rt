@@ -10,7 +10,7 @@ mod page;
 mod tests;
 mod writing;
 
-pub use ahead::{MOST_BYTES, ReadAhead, ReadStop};
+pub use ahead::{LONGEST_FILE, ReadAhead, ReadStop};
 pub use input::{BUFFER, Input};
 pub use laws::{appends_law, creates_law};
 pub use line::{Line, ROOM};

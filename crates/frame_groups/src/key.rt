@@ -35,7 +35,7 @@ fn stamp_key(before: Option<Key>, superframe: u8) -> Key
     }
 }
 
-/// Whether a packet belongs to a frame, if a superframe has so many.
+/// Whether a packet belongs to a frame, in superframes of so many frames.
 pub fn is_counted(frames: u8, packet: &Packet<'_>) -> bool
     ensures { result ≡ is_counted frames packet.now }
 {
@@ -47,7 +47,7 @@ pub fn is_counted(frames: u8, packet: &Packet<'_>) -> bool
     }
 }
 
-/// The key of a packet, behind one with a key or behind none.
+/// The key of a packet that comes behind one with the key before, or first of all.
 pub fn key_behind(before: Option<Key>, packet: &Packet<'_>) -> Key
     ensures { result ≡ key_behind before packet.now }
 {
@@ -74,7 +74,7 @@ fn is_same(one: Key, other: Key) -> bool
     one.superframe == other.superframe && one.frame == other.frame
 }
 
-/// Whether a packet behind one with a key has the same.
+/// Whether a packet that comes behind one with this key has the same key.
 pub fn goes_on(key: Key, packet: &Packet<'_>) -> bool
     ensures { result ≡ is_same key (key_behind (Some key) packet.now) }
 {

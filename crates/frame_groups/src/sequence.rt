@@ -14,7 +14,7 @@ use crate::number::next_number;
 use crate::waiting::Progress;
 use t2mi_packet::Packet;
 
-// The number of a group as the join.
+// The number of a group that may be the join.
 fn join_number<G: OpenGroup>(group: &G) -> Option<u64>
     requires { G.is_intact group.now ≡ true }
     ensures value { (h : Group) → G.holds group.now (Some h) → result ≡ join_number (G.rules group.now) h }
@@ -37,13 +37,14 @@ fn join_number<G: OpenGroup>(group: &G) -> Option<u64>
     }
 }
 
-// The progress of a group that is closed.
+// How far the records have come once the group is closed.
 fn close_group<G: OpenGroup>(group: &G, progress: Progress) -> Progress
     requires open { progress.closing ≡ false }
     requires some { is_some (G.key_now group.now) ≡ true }
     requires near { IsWithin most_number progress }
     requires intact { G.is_intact group.now ≡ true }
-    ensures follows { (ps : List Packet) (given : List FrameRecord) → Keeps (G.holds group.now) (G.rules group.now) progress ps given
+    ensures follows { (ps : List Packet) (given : List FrameRecord)
+        → Keeps (G.holds group.now) (G.rules group.now) progress ps given
         → Keeps (G.holds group.now) (G.rules group.now) result ps given }
     ensures closing { result.closing ≡ true }
     ensures near { (bound : ℕ) → 2 ^ 31 ≤ bound → IsWithin bound progress → IsWithin bound result }
@@ -51,6 +52,7 @@ fn close_group<G: OpenGroup>(group: &G, progress: Progress) -> Progress
     ensures left { records_left result ≤ records_left progress }
     ensures frame { is_some result.number ≡ true → is_some result.fault ≡ false → G.is_frame group.now ≡ true }
 {
+    // A call that tells that the group that is held has this key.
     let _key = group.key();
     match progress.number {
         Some(number) => Progress {
@@ -98,11 +100,13 @@ pub struct Sequence<G: OpenGroup + Drop> {
     ghost near: { IsWithin most_number progress },
     ghost intact: { wants_packets progress ≡ true → G.is_intact group ≡ true },
     // A group that passes can be given.
-    ghost frame: { progress.closing ≡ true → is_some progress.number ≡ true → is_some progress.fault ≡ false → G.is_frame group ≡ true },
+    ghost frame: { progress.closing ≡ true → is_some progress.number ≡ true → is_some progress.fault ≡ false
+        → G.is_frame group ≡ true },
 }
 
 impl<G: OpenGroup + Drop> Sequence<G> {
-    ghost use Rattle.std.specs.Prelude.{◌≡◌, ◌<◌, ◌≤◌, ◌+◌, ◌-◌, ◌++◌, ◌∷◌, ◌^◌, ℕ, List, [], Option, Some, None, is_some, true, false};
+    ghost use Rattle.std.specs.Prelude.{◌≡◌, ◌<◌, ◌≤◌, ◌+◌, ◌-◌, ◌++◌, ◌∷◌, ◌^◌, ℕ, List, [], Option, Some, None, is_some, true};
+    ghost use Rattle.std.specs.Prelude.{false};
     ghost use Rattle.t2mi_packet.specs.declared.packet.Packet.{Packet};
     ghost use Rattle.frame_groups.specs.Groups.{Group, is_counted, is_same, key_behind};
     ghost use Rattle.frame_groups.specs.Modulated.{FrameRecord};
@@ -135,7 +139,8 @@ impl<G: OpenGroup + Drop> Sequence<G> {
     pub fn close(&mut self)
         requires open { self.old.progress.closing ≡ false }
         requires some { is_some (G.key_now self.old.group) ≡ true }
-        ensures follows { (ps : List Packet) (given : List FrameRecord) → Keeps (G.holds self.old.group) (G.rules self.old.group) self.old.progress ps given
+        ensures follows { (ps : List Packet) (given : List FrameRecord)
+            → Keeps (G.holds self.old.group) (G.rules self.old.group) self.old.progress ps given
             → Keeps (G.holds self.old.group) (G.rules self.old.group) self.new.progress ps given }
         ensures group { self.new.group ≡ self.old.group }
         ensures intact { G.is_intact self.new.group ≡ true }
@@ -164,6 +169,7 @@ impl<G: OpenGroup + Drop> Sequence<G> {
         ensures open { self.new.progress.closing ≡ false }
         ensures intact { G.is_intact self.new.group ≡ true }
     {
+        // A call that tells that the group that is held has this key.
         let _key = self.group.key();
         let next_key = key_behind(Some(key), packet);
         let number = number_behind(self.group.frames(), self.progress.number, next_key);
@@ -179,17 +185,22 @@ impl<G: OpenGroup + Drop> Sequence<G> {
         requires near { IsWithin (most_number - greatest_step) self.old.progress }
         requires counted { is_counted (G.rules self.old.group).frames packet.now ≡ true }
         requires fits { Fits packet.now }
-        ensures worked { result ≡ true → (ps : List Packet) (given : List FrameRecord) → is_same key (key_behind (Some key) packet.now) ≡ false
+        ensures worked { result ≡ true → (ps : List Packet) (given : List FrameRecord)
+            → is_same key (key_behind (Some key) packet.now) ≡ false
             → Keeps (G.holds self.old.group) (G.rules self.old.group) self.old.progress ps given
             → Keeps (G.holds self.new.group) (G.rules self.new.group) self.new.progress (ps ++ packet.now ∷ []) given }
-        ensures kept { result ≡ false → (ps : List Packet) (given : List FrameRecord) → Keeps (G.holds self.old.group) (G.rules self.old.group) self.old.progress ps given
+        ensures kept { result ≡ false → (ps : List Packet) (given : List FrameRecord)
+            → Keeps (G.holds self.old.group) (G.rules self.old.group) self.old.progress ps given
             → Keeps (G.holds self.new.group) (G.rules self.new.group) self.new.progress ps given }
-        ensures waits { result ≡ false → (self.new.progress.closing ≡ true) × (waits self.new.progress ≡ true) × (self.new.group ≡ self.old.group) }
+        ensures waits { result ≡ false → (self.new.progress.closing ≡ true) × (waits self.new.progress ≡ true)
+            × (self.new.group ≡ self.old.group) }
         ensures open { result ≡ true → self.new.progress.closing ≡ false }
         ensures intact { G.is_intact self.new.group ≡ true }
         ensures rules { G.rules self.new.group ≡ G.rules self.old.group }
-        ensures near { (bound : ℕ) → 2 ^ 31 ≤ bound → IsWithin bound self.old.progress → IsWithin (bound + greatest_step) self.new.progress }
-        ensures same { result ≡ false → (bound : ℕ) → 2 ^ 31 ≤ bound → IsWithin bound self.old.progress → IsWithin bound self.new.progress }
+        ensures near { (bound : ℕ) → 2 ^ 31 ≤ bound → IsWithin bound self.old.progress
+            → IsWithin (bound + greatest_step) self.new.progress }
+        ensures same { result ≡ false → (bound : ℕ) → 2 ^ 31 ≤ bound → IsWithin bound self.old.progress
+            → IsWithin bound self.new.progress }
         ensures next { (self.new.progress.next ≡ self.old.progress.next) ⊎ (self.new.progress.next < 2 ^ 31) }
         ensures left { result ≡ false → records_left self.new.progress ≤ records_left self.old.progress }
     {
@@ -201,23 +212,30 @@ impl<G: OpenGroup + Drop> Sequence<G> {
         true
     }
 
-    /// Works off a packet, unless its group is closed by it and a record waits: then it has to come again, once the record was given.
+    /// Works off a packet, unless its group is closed by it and a record waits: then it has to come again, once the record was
+    /// given.
     pub fn work(&mut self, packet: &Packet<'_>) -> bool
         requires idle { waits self.old.progress ≡ false }
         requires near { IsWithin (most_number - greatest_step) self.old.progress }
         requires fits { Fits packet.now }
-        ensures worked { result ≡ true → (ps : List Packet) (given : List FrameRecord) → Keeps (G.holds self.old.group) (G.rules self.old.group) self.old.progress ps given
+        ensures worked { result ≡ true → (ps : List Packet) (given : List FrameRecord)
+            → Keeps (G.holds self.old.group) (G.rules self.old.group) self.old.progress ps given
             → (self.old.progress.closing ≡ true → Ends (G.rules self.old.group) (G.key_now self.old.group) packet.now)
             → Keeps (G.holds self.new.group) (G.rules self.new.group) self.new.progress (ps ++ packet.now ∷ []) given }
-        ensures kept { result ≡ false → (ps : List Packet) (given : List FrameRecord) → Keeps (G.holds self.old.group) (G.rules self.old.group) self.old.progress ps given
+        ensures kept { result ≡ false → (ps : List Packet) (given : List FrameRecord)
+            → Keeps (G.holds self.old.group) (G.rules self.old.group) self.old.progress ps given
             → Keeps (G.holds self.new.group) (G.rules self.new.group) self.new.progress ps given }
-        ensures waits { result ≡ false → (self.new.progress.closing ≡ true) × (waits self.new.progress ≡ true) × Ends (G.rules self.new.group) (G.key_now self.new.group) packet.now }
+        ensures waits { result ≡ false → (self.new.progress.closing ≡ true) × (waits self.new.progress ≡ true)
+            × Ends (G.rules self.new.group) (G.key_now self.new.group) packet.now }
         // The packets of the record that waits are there.
         ensures intact { waits self.new.progress ≡ true → G.is_intact self.new.group ≡ true }
-        ensures open { result ≡ true → self.new.progress.closing ≡ true → (self.old.progress.closing ≡ true) × (is_counted (G.rules self.old.group).frames packet.now ≡ false) }
+        ensures open { result ≡ true → self.new.progress.closing ≡ true
+            → (self.old.progress.closing ≡ true) × (is_counted (G.rules self.old.group).frames packet.now ≡ false) }
         ensures rules { G.rules self.new.group ≡ G.rules self.old.group }
-        ensures near { (bound : ℕ) → 2 ^ 31 ≤ bound → IsWithin bound self.old.progress → IsWithin (bound + greatest_step) self.new.progress }
-        ensures same { result ≡ false → (bound : ℕ) → 2 ^ 31 ≤ bound → IsWithin bound self.old.progress → IsWithin bound self.new.progress }
+        ensures near { (bound : ℕ) → 2 ^ 31 ≤ bound → IsWithin bound self.old.progress
+            → IsWithin (bound + greatest_step) self.new.progress }
+        ensures same { result ≡ false → (bound : ℕ) → 2 ^ 31 ≤ bound → IsWithin bound self.old.progress
+            → IsWithin bound self.new.progress }
         ensures next { (self.new.progress.next ≡ self.old.progress.next) ⊎ (self.new.progress.next < 2 ^ 31) }
         ensures left { result ≡ false → records_left self.new.progress ≤ records_left self.old.progress }
     {
@@ -243,7 +261,8 @@ impl<G: OpenGroup + Drop> Sequence<G> {
     /// The record that waits was given.
     pub fn gave(&mut self)
         requires { waits self.old.progress ≡ true }
-        ensures follows { (ps : List Packet) (given : List FrameRecord) (x : FrameRecord) → (k : Keeps (G.holds self.old.group) (G.rules self.old.group) self.old.progress ps given)
+        ensures follows { (ps : List Packet) (given : List FrameRecord) (x : FrameRecord)
+            → (k : Keeps (G.holds self.old.group) (G.rules self.old.group) self.old.progress ps given)
             → record_now (G.rules self.old.group) k.group self.old.progress.number self.old.progress.next ≡ Some x
             → Keeps (G.holds self.new.group) (G.rules self.new.group) self.new.progress ps (given ++ x ∷ []) }
         ensures group { self.new.group ≡ self.old.group }

@@ -20,12 +20,12 @@ fn block(superframe: u8, frame_idx: u8) -> Packet<'static>
     ensures { Fits result }
 {
     Packet {
-        count: 0,
+        packet_count: 0,
         superframe,
         stream: 0,
         body: Body::Block {
             frame_idx,
-            plp: 0,
+            plp_id: 0,
             first: false,
             bits: BitSlice::whole(&[]),
         },
@@ -37,7 +37,7 @@ fn timestamp(superframe: u8) -> Packet<'static>
     ensures { Fits result }
 {
     Packet {
-        count: 0,
+        packet_count: 0,
         superframe,
         stream: 0,
         body: Body::Timestamp(Stamp {
@@ -54,7 +54,7 @@ fn other(superframe: u8) -> Packet<'static>
     ensures { Fits result }
 {
     Packet {
-        count: 0,
+        packet_count: 0,
         superframe,
         stream: 0,
         body: Body::Other {

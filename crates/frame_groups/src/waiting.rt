@@ -1,4 +1,4 @@
-// What waits.
+// A record that waits to be given.
 ghost use Rattle.std.specs.Prelude.{◌≡◌};
 ghost use Rattle.frame_groups.specs.Waits.{waiting_of};
 

@@ -177,7 +177,7 @@ block_starts numbers at n x y =
     (8 * block_bytes small_network 0) (header_starts x (y - x) up)
 
 abbrev Starts : Block → Type 0
-Starts b = (b.plp ≡ 0) × (take 2 b.bytes ≡ 0xFF ∷ 0xF6 ∷ [])
+Starts b = (b.plp_id ≡ 0) × (take 2 b.bytes ≡ 0xFF ∷ 0xF6 ∷ [])
 
 pub counted_start : BitCounts → CountedStart
 counted_start numbers inputs n =

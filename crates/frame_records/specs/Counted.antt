@@ -28,7 +28,7 @@ CountedBlocks = length (plp_blocks small_network (λ plp. data_packets 20) 1 0) 
 -- Each block of the small network is sent as FF F6 and so on: that is FC 00, scrambled.
 abbrev pub CountedStart : Type 0
 CountedStart = (inputs : ℕ → List (List ℕ)) (n : ℕ)
-    → AllByRecursion (λ b. (b.plp ≡ 0) × (take 2 b.bytes ≡ 0xFF ∷ 0xF6 ∷ []))
+    → AllByRecursion (λ b. (b.plp_id ≡ 0) × (take 2 b.bytes ≡ 0xFF ∷ 0xF6 ∷ []))
     (sent_blocks small_network (plp_blocks small_network inputs n))
 
 -- L1-pre and L1-post as they stand in a record; a muted one has none

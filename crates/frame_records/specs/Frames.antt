@@ -31,7 +31,7 @@ frame_shape c inputs n = shape_of c (map (λ plp. length (plp_blocks c inputs n 
 
 -- a block as it is sent: PLP_ID, and its bytes, scrambled
 abbrev pub sent_block : Config → ℕ → List Bool → Block
-sent_block c plp bits = record { plp = (plp_at c.plps plp).id; bytes = bytes_of (scrambled bits) }
+sent_block c plp bits = record { plp_id = (plp_at c.plps plp).id; bytes = bytes_of (scrambled bits) }
 
 -- the blocks of a frame, PLP by PLP
 abbrev pub sent_blocks : Config → (ℕ → List (List Bool)) → List Block

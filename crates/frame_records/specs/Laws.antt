@@ -64,7 +64,7 @@ FewBlocks = (c : Config) (shape : FrameShape) → IsPlan c → length shape.coun
 
 -- PLP_ID is a byte, and the block is no longer than the longest baseband frame.
 abbrev pub IsSentBlock : Block → Type 0
-IsSentBlock b = (b.plp < 2 ^ 8) × (length b.bytes ≤ MOST_BLOCK_BYTES)
+IsSentBlock b = (b.plp_id < 2 ^ 8) × (length b.bytes ≤ MOST_BLOCK_BYTES)
 
 -- Such a frame fits a record, whatever its L1-post and its blocks are, if it has no more blocks than its shape tells.
 abbrev pub EveryFrameFits : Type 0

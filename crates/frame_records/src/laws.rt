@@ -1,6 +1,8 @@
 // Laws of the definitions. Their functions do nothing.
-ghost use Rattle.frame_records.specs.Laws.{FrameLength, BlockStands, CellStands, FewBlocks, EveryFrameFits, MutedFits, FrameFits, RangeFits, RecordsOnGrid, RecordsFit, AllWhole, NoneLost, DueReleased};
-ghost use Rattle.frame_records.specs.Counted.{CountedLengths, CountedBlocks, CountedStart, CountedPre, CountedPost, CountedFrames, CountedRecords, CountedSlots, CountedLoss};
+ghost use Rattle.frame_records.specs.Laws.{FrameLength, BlockStands, CellStands, FewBlocks, EveryFrameFits, MutedFits, FrameFits};
+ghost use Rattle.frame_records.specs.Laws.{RangeFits, RecordsOnGrid, RecordsFit, AllWhole, NoneLost, DueReleased};
+ghost use Rattle.frame_records.specs.Counted.{CountedLengths, CountedBlocks, CountedStart, CountedPre, CountedPost};
+ghost use Rattle.frame_records.specs.Counted.{CountedFrames, CountedRecords, CountedSlots, CountedLoss};
 
 use bb_frame::bit_counts;
 use cell_map::{map_law, shape_law};

@@ -9,7 +9,7 @@ ghost use Rattle.l1_signal.specs.L1Pre.{pre_rows, pre_reading};
 ghost use Rattle.frame_tests.specs.Tests.{read_whole, same_told, pre_agrees, conf_agrees, dyn_agrees};
 
 use crate::laws::parts_law;
-use crate::network::{Network, plp_id};
+use crate::network::Network;
 use bit_slice::{BitReader, BitSlice, BitSource};
 use l1_signal::{L1Dyn, L1Pre, is_conf, pre_of, read_dyn, read_pre, shape_of};
 use plp_config::Plan;
@@ -82,7 +82,7 @@ fn has_ids(plan: &Plan, dynamic: &L1Dyn) -> bool
     ensures { result ≡ pointwise nat_eq (map (λ plp. plp.plp_id) dynamic.now.plps) (map (λ plp. plp.id) plan.now.plps) }
 {
     for plp in 0..dynamic.plps.len() {
-        if told_id(dynamic, plp) != plp_id(plan, plp) {
+        if told_id(dynamic, plp) != plan.plp_id(plp) {
             return false;
         }
     }

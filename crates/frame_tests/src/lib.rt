@@ -1,5 +1,5 @@
-//! The six tests of the packets of a T2 frame, packet by packet too (ETSI TS 102 773, clause 5): their definitions and laws; and the
-//! reading of L1 signalling that they ask for.
+//! The six tests of the packets of a T2 frame, packet by packet too (ETSI TS 102 773, clause 5): their definitions and laws; and
+//! the reading of L1 signalling that they ask for.
 #![tactic(auto)]
 
 mod l1;
@@ -10,4 +10,4 @@ mod network;
 pub use l1::{is_network_conf, is_of_frame, is_pre, read_dynamic, tell_shape};
 pub use laws::{map_test_law, named_law, parts_law, tally_law};
 pub use map::map_passes;
-pub use network::{Network, plp_id};
+pub use network::Network;

@@ -1,7 +1,4 @@
 // What is fixed for a network.
-ghost use Rattle.std.specs.Prelude.{◌≡◌, ◌<◌, length};
-ghost use Rattle.plp_config.specs.Plps.{plp_at};
-
 use bit_slice::OutOfMemory;
 use l1_signal::{L1Conf, conf_of};
 use plp_config::Plan;
@@ -52,12 +49,4 @@ impl<'p> Network<'p> {
     {
         &self.conf
     }
-}
-
-/// PLP_ID of the PLP at a place.
-pub fn plp_id(plan: &Plan, plp: usize) -> u8
-    requires { plp < length plan.now.plps }
-    ensures { result ≡ (plp_at plan.now.plps plp).id }
-{
-    plan.config().plps.get(plp).unwrap().id
 }

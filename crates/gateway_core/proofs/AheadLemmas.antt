@@ -34,7 +34,7 @@ packet_size written p = let bits = written p in length-bytes_of (written_bits p)
 -- an L1-current has 63 bytes at least
 signal_size : (number superframe frame_idx : ℕ) (pre conf dynamic : List Bool) → length pre ≡ 168 → 191 ≤ length conf
     → 63 ≤ packet_len
-    (record { count = number; superframe = superframe; stream = 0; body = L1Current frame_idx pre conf dynamic [] })
+    (record { packet_count = number; superframe = superframe; stream = 0; body = L1Current frame_idx pre conf dynamic [] })
 signal_size number superframe frame_idx pre conf dynamic long some = omega (arith, long, some)
 
 -- the parts of it that all frames share
@@ -50,7 +50,7 @@ begins_size : JoinedLength → WrittenLength → (c : Config) (number n : ℕ) (
 begins_size join written c number n dynamic rest pre conf =
     let p : Packet = packet_with c number n (l1_body c n (pre_part c) (conf_part c) dynamic) in
     let size = packet_size written p in
-    let some = signal_size p.count p.superframe (n % c.frames) (pre_part c) (conf_part c) dynamic pre conf in
+    let some = signal_size p.packet_count p.superframe (n % c.frames) (pre_part c) (conf_part c) dynamic pre conf in
     let all = join (bytes_of (written_bits p)) (packets_from c (number + 1) (of_frame n rest)) in
     omega (arith, size, some, all)
 

@@ -10,7 +10,7 @@ use Rattle.mode_adapt.specs.Place.{HasPlace}
 use Rattle.mode_adapt.specs.StandsFor.{ChainStandsFor, early_blocks}
 use Rattle.mode_adapt.specs.declared.chain.Chain.{Chain}
 
--- A chain with so many packets and cuts has put these blocks of the frame under way into a list.
+-- A chain with so many packets and cuts has put these blocks of the next frame into a list.
 pub record Has (chain : Chain) (c : Config) (plp : ℕ) (events : List Event) (blocks : List (List ℕ)) : Type 0 where
   pub stands : ChainStandsFor chain c plp events
   pub early : map bits_of blocks ≡ early_blocks c plp events

@@ -39,7 +39,7 @@ begins Begun = true
 begins Gave = false
 begins Finished = false
 
--- how many frames were begun, which is the number of the frame under way
+-- how many frames were begun, which is the number of the next frame
 abbrev pub begun : List Event → ℕ
 begun events = count_by begins events
 

@@ -20,7 +20,7 @@ pub record HasFrame (c : Config) (pool : State) : Type 0 where
   pub enough : frame_chunks c ≤ pool.opened
   pub lists : length pool.lists ≡ length c.plps
 
--- Each stands for what events tell of it, and has put these blocks of the frame under way.
+-- Each stands for what events tell of it, and has put these blocks of the next frame.
 abbrev pub AllFed : List Input → (ℕ → List (List Bool)) → Config → List Event → Type 0
 AllFed inputs early c events = (j : ℕ) (d : Input) → j < length inputs → IsFed (slice_index_or inputs j d) c j (told j events)
     (early j)
@@ -33,12 +33,12 @@ AreFor inputs c = (j : ℕ) (d : Input) → j < length inputs → most (slice_in
 abbrev pub AllContinue : Config → List Event → (ℕ → List (List ℕ)) → Type 0
 AllContinue c events inputs = (j : ℕ) → j < length c.plps → Continues (told j events) (inputs j)
 
--- A pool has the blocks of the frame under way, for any inputs that continue.
+-- A pool has the blocks of the next frame, for any inputs that continue.
 abbrev pub AreBlocks : State → Config → List Event → (ℕ → List (List ℕ)) → Type 0
 AreBlocks pool c events inputs = (j : ℕ) → j < length c.plps → bits_in pool j ≡ blocks_of c j c.ticks (packet_at (inputs j))
     (begun events)
 
--- An input put the blocks of a frame into the list of its place, and so many there are; the next frame is under way.
+-- An input put the blocks of a frame into the list of its place, and so many there are; the frame behind it is the next one.
 pub record Cuts (chain : Chain) (due slot : ℕ) (total : Option ℕ) (c : Config) (plp : ℕ) (t : Told) (pool : State)
     (count : ℕ) : Type 0 where
   pub fed : Fed chain due slot total c plp (in_next t) []

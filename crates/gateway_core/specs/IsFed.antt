@@ -10,11 +10,11 @@ use Rattle.mode_adapt.specs.declared.chain.Chain.{Chain}
 use Rattle.gateway_core.specs.Told.{Told}
 use Rattle.gateway_core.specs.declared.input.Input.{Input}
 
--- the packets that the frame under way still wants; none from an input that ended
+-- the packets that the next frame still wants; none from an input that ended
 abbrev pub wanted : Input → ℕ
 wanted i = if is_some i.total then 0 else i.due - i.slot
 
--- A chain was given what was offered, and null packets from the end on; it has put these blocks of the frame under way. So many
+-- A chain was given what was offered, and null packets from the end on; it has put these blocks of the next frame. So many
 -- slots are over when that frame begins, so many have their packets, and so many packets there were at the end.
 pub record Fed (chain : Chain) (due slot : ℕ) (total : Option ℕ) (c : Config) (plp : ℕ) (t : Told)
     (early : List (List Bool)) : Type 0 where

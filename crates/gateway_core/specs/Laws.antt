@@ -12,7 +12,7 @@ use Rattle.gateway_core.specs.InputsStandFor.{AllContinue}
 use Rattle.gateway_core.specs.Packets.{front_packets, packets_of}
 use Rattle.gateway_core.specs.StandsFor.{IsLast}
 
--- A run is three frames longer at least than the frame under way when all packets that it wants of an input were there.
+-- A run is three frames longer at least than the next frame when all packets that it wants of an input were there.
 abbrev pub NotYetLast : Type 0
 NotYetLast = (c : Config) (packets : ℕ → ℕ) (plp m : ℕ) → IsPlan c → plp < length c.plps → slots_by c plp (m * c.ticks)
     ≤ packets plp → m + 3 < frame_count c packets

@@ -53,9 +53,9 @@ pub record Layout : Type 0 where
 abbrev pub layout_of : Frame → Layout
 layout_of f = record { number = f.number; lists = length f.blocks.lists; chunks = f.blocks.opened; counts = f.counts.items }
 
--- The next packet was built, with a number modulo 256.
-pub record Builds (c : Config) (n number : ℕ) (old new : List Body) (bits : List Bool) : Type 0 where
+-- The next packet was built, with a packet_count.
+pub record Builds (c : Config) (n packet_count : ℕ) (old new : List Body) (bits : List Bool) : Type 0 where
   pub body : Body
   pub was : old ≡ body ∷ new
-  pub built : bits ≡ written_bits (packet_with c number n body)
+  pub built : bits ≡ written_bits (packet_with c packet_count n body)
   pub whole : IsWhole bits

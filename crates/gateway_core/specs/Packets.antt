@@ -51,14 +51,14 @@ frame_bodies c n blocks =
 abbrev pub bodies_before : Config → (ℕ → List (List ℕ)) → ℕ → List (ℕ × Body)
 bodies_before c inputs n = flat_map (λ m. map (λ body. (m, body)) (frame_bodies c m (plp_blocks c inputs m))) (range_with_len 0 n)
 
--- a packet of frame n, by its number among all packets: packet_count is modulo 256, superframe_idx modulo 16
+-- a packet of frame n, by its place among all packets: packet_count is modulo 256, superframe_idx modulo 16
 abbrev pub packet_with : Config → ℕ → ℕ → Body → Packet
-packet_with c number n body = record { count = number % 256; superframe = n / c.frames % 16; stream = 0; body = body }
+packet_with c place n body = record { packet_count = place % 256; superframe = n / c.frames % 16; stream = 0; body = body }
 
--- packets with these numbers and the next ones, as their bytes
+-- packets from a place on, as their bytes
 abbrev pub packets_from : Config → ℕ → List (ℕ × Body) → List (List ℕ)
-packets_from c number [] = []
-packets_from c number (b ∷ bodies) = bytes_of (written_bits (packet_with c number b.0 b.1)) ∷ packets_from c (number + 1) bodies
+packets_from c place [] = []
+packets_from c place (b ∷ bodies) = bytes_of (written_bits (packet_with c place b.0 b.1)) ∷ packets_from c (place + 1) bodies
 
 -- the packets of the frames below n
 unfoldable pub front_packets : Config → (ℕ → List (List ℕ)) → ℕ → List (List ℕ)

@@ -38,11 +38,11 @@ GatewayStandsFor g c events =
 abbrev pub plps_of : Gateway → ℕ
 plps_of g = length g.inputs.items
 
--- how many packets the frame under way still wants from the input of a PLP
+-- how many packets the next frame still wants from the input of a PLP
 abbrev pub wants_of : Gateway → ℕ → ℕ
 wants_of g plp = slice_index (map wanted g.inputs.items) plp
 
--- the number of the frame under way
+-- the number of the next frame
 abbrev pub frame_of : Gateway → ℕ
 frame_of g = g.frames
 
@@ -78,7 +78,7 @@ pub record IsLast (c : Config) (events : List Event) : Type 0 where
   pub ended : (plp : ℕ) → plp < length c.plps → has_ended plp events ≡ true
   pub frames : begun events ≡ frame_count c (λ plp. length (offered plp events))
 
--- how many packets the frame under way wants from the input of a PLP: those of the slots that are over when it begins, without
+-- how many packets the next frame wants from the input of a PLP: those of the slots that are over when it begins, without
 -- those offered; none from one that ended
 abbrev pub wants_by : Config → List Event → ℕ → ℕ
 wants_by c events plp = if has_ended plp events then 0 else slots_by c plp (begun events * c.ticks) - length (offered plp events)

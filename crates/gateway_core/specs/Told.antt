@@ -2,7 +2,7 @@
 use Rattle.std.specs.Prelude.{◌≡◌, ℕ, ◌+◌, Bool, true, List, [], ◌∷◌, ◌++◌}
 use Rattle.gateway_core.specs.Events.{Event, offered, has_ended, begun}
 
--- the packets offered, whether it ended, and the frame under way
+-- the packets offered, whether it ended, and the next frame
 pub record Told : Type 0 where
   pub packets : List (List ℕ)
   pub ended : Bool

@@ -21,7 +21,7 @@ pub struct Outlet {
     // How many of the packet's bytes the piper took.
     at: usize,
     // How many packets were built, modulo 256.
-    number: u8,
+    packet_count: u8,
     ghost within: { at ≤ length (bytes_of packet) },
     ghost room: { length (bytes_of packet) ≤ LARGEST },
     ghost few: { waiting_of piper < PAYLOAD },
@@ -52,22 +52,28 @@ impl Outlet {
             piper: Piper::new(pid),
             packet: FixedBits::new(),
             at: 0,
-            number: 0,
+            packet_count: 0,
         }
     }
 
     /// Gives the next unit, if it is complete, and after [`Outlet::finish`] also the rest. Else nothing changes.
     pub fn next(&mut self, out: &mut [u8; SIZE]) -> bool
         ensures is { result ≡ gives_unit self.old }
-        ensures unit { result ≡ true → (c : Config) (n : ℕ) (left : List Body) (all : List (ℕ × Body)) (given : ℕ) → Flows self.old c n left all given
-            → (more : List (List ℕ)) → (is_finished self.old.piper ≡ true → AllGone (rest_of self.old) left more) → slice_get (pipe c.pid (packets_from c 0 all ++ more)) given ≡ Some out.new }
-        ensures flows { result ≡ true → (c : Config) (n : ℕ) (left : List Body) (all : List (ℕ × Body)) (given : ℕ) → Flows self.old c n left all given → Flows self.new c n left all (given + 1) }
+        ensures unit { result ≡ true → (c : Config) (n : ℕ) (left : List Body) (all : List (ℕ × Body)) (given : ℕ)
+            → Flows self.old c n left all given
+            → (more : List (List ℕ)) → (is_finished self.old.piper ≡ true → AllGone (rest_of self.old) left more)
+            → slice_get (pipe c.pid (packets_from c 0 all ++ more)) given ≡ Some out.new }
+        ensures flows { result ≡ true → (c : Config) (n : ℕ) (left : List Body) (all : List (ℕ × Body)) (given : ℕ)
+            → Flows self.old c n left all given → Flows self.new c n left all (given + 1) }
         ensures stays { result ≡ false → (self.new ≡ self.old) × (out.new ≡ out.old) }
-        ensures none { result ≡ false → is_finished self.old.piper ≡ true → (c : Config) (n : ℕ) (left : List Body) (all : List (ℕ × Body)) (given : ℕ) → Flows self.old c n left all given
+        ensures none { result ≡ false → is_finished self.old.piper ≡ true
+            → (c : Config) (n : ℕ) (left : List Body) (all : List (ℕ × Body)) (given : ℕ) → Flows self.old c n left all given
             → AllGone (rest_of self.old) left [] → length (pipe c.pid (packets_from c 0 all)) ≡ given }
-        ensures complete { result ≡ true → is_finished self.old.piper ≡ false → (c : Config) (n : ℕ) (left : List Body) (all : List (ℕ × Body)) (given : ℕ) → Flows self.old c n left all given
+        ensures complete { result ≡ true → is_finished self.old.piper ≡ false
+            → (c : Config) (n : ℕ) (left : List Body) (all : List (ℕ × Body)) (given : ℕ) → Flows self.old c n left all given
             → given < length (complete_units c.pid (packets_from c 0 all)) }
-        ensures caught_up { result ≡ false → is_finished self.old.piper ≡ false → (c : Config) (n : ℕ) (left : List Body) (all : List (ℕ × Body)) (given : ℕ) → Flows self.old c n left all given
+        ensures caught_up { result ≡ false → is_finished self.old.piper ≡ false
+            → (c : Config) (n : ℕ) (left : List Body) (all : List (ℕ × Body)) (given : ℕ) → Flows self.old c n left all given
             → AllGone (rest_of self.old) left [] → given ≡ length (complete_units c.pid (packets_from c 0 all)) }
         ensures rest { rest_of self.old ≡ [] → rest_of self.new ≡ [] }
         ensures less { result ≡ true → (left : List Body) → bytes_bound self.new left < bytes_bound self.old left }
@@ -83,7 +89,8 @@ impl Outlet {
     /// No more packets come.
     pub fn finish(&mut self)
         requires fed { rest_of self.old ≡ [] }
-        ensures flows { (c : Config) (n : ℕ) (left : List Body) (all : List (ℕ × Body)) (given : ℕ) → Flows self.old c n left all given → Flows self.new c n left all given }
+        ensures flows { (c : Config) (n : ℕ) (left : List Body) (all : List (ℕ × Body)) (given : ℕ)
+            → Flows self.old c n left all given → Flows self.new c n left all given }
         ensures rest { rest_of self.new ≡ rest_of self.old }
         ensures waiting { waiting_of self.new.piper ≡ waiting_of self.old.piper }
         ensures finished { is_finished self.new.piper ≡ true }
@@ -102,7 +109,8 @@ impl Outlet {
     fn feed(&mut self)
         requires going { is_finished self.old.piper ≡ false }
         requires few { at_hand self.old < PAYLOAD }
-        ensures flows { (c : Config) (n : ℕ) (left : List Body) (all : List (ℕ × Body)) (given : ℕ) → Flows self.old c n left all given → Flows self.new c n left all given }
+        ensures flows { (c : Config) (n : ℕ) (left : List Body) (all : List (ℕ × Body)) (given : ℕ)
+            → Flows self.old c n left all given → Flows self.new c n left all given }
         ensures fed { rest_of self.new ≡ [] }
         ensures bound { (left : List Body) → bytes_bound self.new left ≡ bytes_bound self.old left }
         ensures finished { is_finished self.new.piper ≡ false }
@@ -116,20 +124,21 @@ impl Outlet {
         requires fed { rest_of self.old ≡ [] }
         requires open { is_finished self.old.piper ≡ false }
         ensures feeds { Feeds plan.now signalling.now self.old self.new frame.old frame.new }
-        ensures fewer { result ≡ true → length (left plan.now signalling.now frame.new) < length (left plan.now signalling.now frame.old) }
+        ensures fewer { result ≡ true → length (left plan.now signalling.now frame.new)
+            < length (left plan.now signalling.now frame.old) }
         ensures over { result ≡ false → (rest_of self.new ≡ []) × (frame.new.step ≡ Over) }
         ensures finished { is_finished self.new.piper ≡ false }
     {
-        if !frame.build(plan, signalling, self.number, &mut self.packet) {
+        if !frame.build(plan, signalling, self.packet_count, &mut self.packet) {
             return false;
         }
         self.at = 0;
-        self.number = self.number.wrapping_add(1);
+        self.packet_count = self.packet_count.wrapping_add(1);
         self.piper.begin();
         true
     }
 
-    // Builds the packets of a frame, until a unit is at hand or none is left, and answers whether none is.
+    // Builds packets of a frame until a unit is at hand or no packet is left, and answers whether no packet is left.
     fn refill(&mut self, plan: &Plan, signalling: &Signalling, frame: &mut Frame) -> bool
         requires plps { length frame.old.blocks.lists ≡ length plan.now.plps }
         requires open { is_finished self.old.piper ≡ false }
@@ -147,8 +156,8 @@ impl Outlet {
         false
     }
 
-    /// Builds the packets of a frame, until a unit is at hand or none is left, and answers whether none is. Behind the last frame that
-    /// is the end.
+    /// Builds packets of a frame until a unit is at hand or no packet is left, and answers whether no packet is left. Behind the
+    /// last frame that is the end.
     pub fn go_on(
         &mut self,
         is_last: bool,
@@ -236,18 +245,25 @@ impl Flow {
         requires plps { length frame.old.blocks.lists ≡ length plan.now.plps }
         requires over { self.old.dry ≡ true → frame.old.step ≡ Over }
         ensures is { result ≡ gives_unit self.old.outlet }
-        ensures unit { result ≡ true → (all : List (ℕ × Body)) (given : ℕ) → Flows self.old.outlet plan.now frame.old.number (left plan.now signalling.now frame.old) all given
-            → (more : List (List ℕ)) → (self.old.finished ≡ true → more ≡ []) → slice_get (pipe plan.now.pid (packets_from plan.now 0 all ++ more)) given ≡ Some out.new }
-        ensures flows { result ≡ true → (all : List (ℕ × Body)) (given : ℕ) → Flows self.old.outlet plan.now frame.old.number (left plan.now signalling.now frame.old) all given
+        ensures unit { result ≡ true → (all : List (ℕ × Body)) (given : ℕ)
+            → Flows self.old.outlet plan.now frame.old.number (left plan.now signalling.now frame.old) all given
+            → (more : List (List ℕ)) → (self.old.finished ≡ true → more ≡ [])
+            → slice_get (pipe plan.now.pid (packets_from plan.now 0 all ++ more)) given ≡ Some out.new }
+        ensures flows { result ≡ true → (all : List (ℕ × Body)) (given : ℕ)
+            → Flows self.old.outlet plan.now frame.old.number (left plan.now signalling.now frame.old) all given
             → Flows self.new.outlet plan.now frame.new.number (left plan.now signalling.now frame.new) all (given + 1) }
         ensures stays { result ≡ false → (self.new ≡ self.old) × (frame.new ≡ frame.old) × (out.new ≡ out.old) }
-        ensures none { result ≡ false → self.old.finished ≡ true → (all : List (ℕ × Body)) (given : ℕ) → Flows self.old.outlet plan.now frame.old.number (left plan.now signalling.now frame.old) all given
+        ensures none { result ≡ false → self.old.finished ≡ true → (all : List (ℕ × Body)) (given : ℕ)
+            → Flows self.old.outlet plan.now frame.old.number (left plan.now signalling.now frame.old) all given
             → length (pipe plan.now.pid (packets_from plan.now 0 all)) ≡ given }
-        ensures complete { result ≡ true → self.old.finished ≡ false → (all : List (ℕ × Body)) (given : ℕ) → Flows self.old.outlet plan.now frame.old.number (left plan.now signalling.now frame.old) all given
+        ensures complete { result ≡ true → self.old.finished ≡ false → (all : List (ℕ × Body)) (given : ℕ)
+            → Flows self.old.outlet plan.now frame.old.number (left plan.now signalling.now frame.old) all given
             → given < length (complete_units plan.now.pid (packets_from plan.now 0 all)) }
-        ensures caught_up { result ≡ false → self.old.finished ≡ false → (all : List (ℕ × Body)) (given : ℕ) → Flows self.old.outlet plan.now frame.old.number (left plan.now signalling.now frame.old) all given
+        ensures caught_up { result ≡ false → self.old.finished ≡ false → (all : List (ℕ × Body)) (given : ℕ)
+            → Flows self.old.outlet plan.now frame.old.number (left plan.now signalling.now frame.old) all given
             → given ≡ length (complete_units plan.now.pid (packets_from plan.now 0 all)) }
-        ensures less { result ≡ true → bytes_bound self.new.outlet (left plan.now signalling.now frame.new) < bytes_bound self.old.outlet (left plan.now signalling.now frame.old) }
+        ensures less { result ≡ true → bytes_bound self.new.outlet (left plan.now signalling.now frame.new)
+            < bytes_bound self.old.outlet (left plan.now signalling.now frame.old) }
         ensures over { self.new.dry ≡ true → frame.new.step ≡ Over }
         ensures early { (j : ℕ) → early_of frame.new j ≡ early_of frame.old j }
         ensures layout { layout_of frame.new ≡ layout_of frame.old }
@@ -265,7 +281,8 @@ impl Flow {
 
     /// No more frames come.
     pub fn finish(&mut self)
-        ensures flows { (c : Config) (n : ℕ) (left : List Body) (all : List (ℕ × Body)) (given : ℕ) → Flows self.old.outlet c n left all given → Flows self.new.outlet c n left all given }
+        ensures flows { (c : Config) (n : ℕ) (left : List Body) (all : List (ℕ × Body)) (given : ℕ)
+            → Flows self.old.outlet c n left all given → Flows self.new.outlet c n left all given }
         ensures finished { self.new.finished ≡ true }
         ensures dry { self.new.dry ≡ self.old.dry }
         ensures same { (left : List Body) → bytes_bound self.new.outlet left ≡ bytes_bound self.old.outlet left }

@@ -49,7 +49,8 @@ fn next_list(pool: &Pool, from: u32, lists: u32) -> Option<u32>
     None
 }
 
-// Whether the next block, of one PLP, is the first of it: no block of the PLP looked at before was given, or it is of a later PLP.
+// Whether the next block, of PLP plp, is the first one of its PLP: it is of a later PLP than from, or no block of from was built
+// yet. Its packet has intl_frame_start then.
 fn is_first(first: bool, from: u32, plp: u32) -> bool
     ensures { result ≡ first || not (plp == from) }
 {
@@ -65,8 +66,8 @@ fn front_block(pool: &Pool, list: u32) -> BlockRef<'_>
     pool.front(list).unwrap()
 }
 
-/// The packets of a frame that were not built yet. The lists hold its blocks that were not; once none is left, they hold the blocks that
-/// the chains put already for the next frame.
+/// The packets of a frame that were not built yet. The lists hold its blocks that were not; once none is left, they hold the
+/// blocks that the chains put already for the next frame.
 #[derive(Drop)]
 pub struct Frame {
     number: u64,
@@ -75,7 +76,7 @@ pub struct Frame {
     pub blocks: Pool,
     pub counts: Vec<u16>,
     step: Step,
-    // The PLP of the next block, and whether that is the first of its PLP.
+    // The PLP from which on the next block is looked for, and whether none of its blocks was built yet.
     plp: u32,
     first: bool,
     ghost early: { number < MOST_FRAMES },
@@ -103,7 +104,12 @@ impl Frame {
     pub fn open(alloc: Global, plan: &Plan) -> Result<Frame, OutOfMemory>
         ensures over { IfOk result (λ f. f.step ≡ Over) }
         ensures early { IfOk result (λ f. (j : ℕ) → early_of f j ≡ []) }
-        ensures layout { IfOk result (λ f. layout_of f ≡ record { number = 0; lists = length plan.now.plps; chunks = frame_chunks plan.now; counts = replicate (length plan.now.plps) 0 }) }
+        ensures layout { IfOk result (λ f. layout_of f ≡ record {
+          number = 0;
+          lists = length plan.now.plps;
+          chunks = frame_chunks plan.now;
+          counts = replicate (length plan.now.plps) 0;
+        }) }
     {
         let plps = plan.config().plps.len();
         Ok(Frame {
@@ -122,7 +128,8 @@ impl Frame {
         requires early { number < MOST_FRAMES }
         requires plps { length self.old.blocks.lists ≡ length plan.now.plps }
         requires fit { CountsFit plan.now self.old.counts.items }
-        ensures all { (s : Signalling) → left plan.now s self.new ≡ all_of plan.now s number self.old.counts.items (bits_in self.old.blocks) }
+        ensures all { (s : Signalling) → left plan.now s self.new
+            ≡ all_of plan.now s number self.old.counts.items (bits_in self.old.blocks) }
         ensures few { (s : Signalling) → length (left plan.now s self.new) ≤ self.old.blocks.opened + 2 }
         ensures early { (j : ℕ) → early_of self.new j ≡ [] }
         ensures layout { layout_of self.new ≡ record (layout_of self.old) { number = number } }
@@ -137,10 +144,11 @@ impl Frame {
     }
 
     // Builds the packet of the next block, if there is one.
-    fn build_block(&mut self, plan: &Plan, number: u8, out: &mut FixedBits<LARGEST>) -> bool
+    fn build_block(&mut self, plan: &Plan, packet_count: u8, out: &mut FixedBits<LARGEST>) -> bool
         requires plps { length self.old.blocks.lists ≡ length plan.now.plps }
         requires step { self.old.step ≡ Step.Blocks }
-        ensures some { result ≡ true → (s : Signalling) → Builds plan.now self.old.number number (left plan.now s self.old) (left plan.now s self.new) out.new }
+        ensures some { result ≡ true → (s : Signalling)
+            → Builds plan.now self.old.number packet_count (left plan.now s self.old) (left plan.now s self.new) out.new }
         ensures none { result ≡ false → (s : Signalling) → left plan.now s self.old ≡ [] }
         ensures over { result ≡ false → self.new.step ≡ Over }
         ensures stays { result ≡ false → out.new ≡ out.old }
@@ -154,7 +162,15 @@ impl Frame {
         };
         let first = is_first(self.first, self.plp, list);
         let block = front_block(&self.blocks, list);
-        write_block(out, plan, number, self.number, list as usize, first, &block);
+        write_block(
+            out,
+            plan,
+            packet_count,
+            self.number,
+            list as usize,
+            first,
+            &block,
+        );
         self.blocks.pop(list);
         self.plp = list;
         self.first = false;
@@ -166,12 +182,14 @@ impl Frame {
         &mut self,
         plan: &Plan,
         signalling: &Signalling,
-        number: u8,
+        packet_count: u8,
         out: &mut FixedBits<LARGEST>,
     ) -> bool
         requires { length self.old.blocks.lists ≡ length plan.now.plps }
-        ensures some { result ≡ true → Builds plan.now self.old.number number (left plan.now signalling.now self.old) (left plan.now signalling.now self.new) out.new }
-        ensures none { result ≡ false → (left plan.now signalling.now self.old ≡ []) × (left plan.now signalling.now self.new ≡ []) }
+        ensures some { result ≡ true → Builds plan.now self.old.number packet_count (left plan.now signalling.now self.old)
+            (left plan.now signalling.now self.new) out.new }
+        ensures none { result ≡ false → (left plan.now signalling.now self.old ≡ [])
+            × (left plan.now signalling.now self.new ≡ []) }
         ensures over { result ≡ false → self.new.step ≡ Over }
         ensures stays { result ≡ false → out.new ≡ out.old }
         ensures early { (j : ℕ) → early_of self.new j ≡ early_of self.old j }
@@ -179,7 +197,7 @@ impl Frame {
     {
         match self.step {
             Step::Stamp => {
-                write_stamp(out, plan, number, self.number);
+                write_stamp(out, plan, packet_count, self.number);
                 self.step = Step::Signal;
                 true
             }
@@ -188,7 +206,7 @@ impl Frame {
                 write_signal(
                     out,
                     plan,
-                    number,
+                    packet_count,
                     self.number,
                     pre,
                     conf,
@@ -197,7 +215,7 @@ impl Frame {
                 self.step = Step::Blocks;
                 true
             }
-            Step::Blocks => self.build_block(plan, number, out),
+            Step::Blocks => self.build_block(plan, packet_count, out),
             Step::Over => false,
         }
     }

@@ -16,9 +16,9 @@ use plp_config::Plan;
 use std::alloc::Global;
 use ts_packet::{SIZE, TsPacket};
 
-/// Makes the T2-MI stream of a network (TS 102 773) from the packets of its inputs: offer the packets that a frame wants, begin
-/// the frame, take the units; behind the last frame finish, and take the rest. A PLP is named by its place in the configuration,
-/// from 0 on. The frame under way is the next one to begin.
+/// Makes the T2-MI stream of a network (TS 102 773) from the packets of its inputs: offer the packets that the next frame wants,
+/// begin it, take the units; behind the last frame finish, and take the rest. A PLP is named by its place in the configuration,
+/// from 0 on.
 #[derive(Drop)]
 pub struct Gateway<'p> {
     plan: &'p Plan,
@@ -45,14 +45,16 @@ fn pid_of(plan: &Plan) -> u16
 }
 
 impl<'p> Gateway<'p> {
-    ghost use Rattle.std.specs.Prelude.{◌≡◌, ◌≢◌, ◌<◌, ◌≤◌, ◌+◌, ◌^◌, ◌++◌, ◌∷◌, ◌↔◌, ℕ, List, [], true, false, length, Some, IfOk, slice_get};
+    ghost use Rattle.std.specs.Prelude.{◌≡◌, ◌≢◌, ◌<◌, ◌≤◌, ◌+◌, ◌^◌, ◌++◌, ◌∷◌, ◌↔◌, ℕ, List, [], true, false, length, Some};
+    ghost use Rattle.std.specs.Prelude.{IfOk, slice_get};
     ghost use Rattle.plp_config.specs.declared.config.Config.{Config};
     ghost use Rattle.t2mi_stream.specs.Complete.{complete_units};
     ghost use Rattle.t2mi_stream.specs.Pipe.{pipe};
     ghost use Rattle.gateway_core.specs.Events.{Event, Offered, Ended, Begun, Gave, Finished, begun, given, finished};
     ghost use Rattle.gateway_core.specs.InputsStandFor.{AllContinue};
     ghost use Rattle.gateway_core.specs.Packets.{front_packets};
-    ghost use Rattle.gateway_core.specs.StandsFor.{GatewayStandsFor, plps_of, wants_of, frame_of, has_unit, bytes_left, has_finished, status_of, new_status, IsLast, wants_by};
+    ghost use Rattle.gateway_core.specs.StandsFor.{GatewayStandsFor, plps_of, wants_of, frame_of, has_unit, bytes_left};
+    ghost use Rattle.gateway_core.specs.StandsFor.{has_finished, status_of, new_status, IsLast, wants_by};
 
     /// A gateway to which nothing was offered, for a plan. It takes all the memory that it needs.
     pub fn open(alloc: Global, plan: &'p Plan) -> Result<Gateway<'p>, OutOfMemory>
@@ -69,22 +71,24 @@ impl<'p> Gateway<'p> {
         })
     }
 
-    /// How many packets the frame under way still wants from the input of a PLP: those of the slots that are over when it begins,
+    /// How many packets the next frame still wants from the input of a PLP: those of the slots that are over when it begins,
     /// 0 from an input that ended.
     pub fn wants(&self, plp: usize) -> u64
         requires { plp < plps_of self.now }
         ensures value { result ≡ wants_of self.now plp }
-        ensures answer { (c : Config) (events : List Event) → GatewayStandsFor self.now c events → result ≡ wants_by c events plp }
+        ensures answer { (c : Config) (events : List Event) → GatewayStandsFor self.now c events
+            → result ≡ wants_by c events plp }
     {
         wanted(&self.inputs, plp)
     }
 
-    /// Takes the next packet of the input of a PLP, one that the frame under way wants, once all complete units were taken.
+    /// Takes the next packet of the input of a PLP, one that the next frame wants, once all complete units were taken.
     pub fn offer(&mut self, plp: usize, packet: &TsPacket)
         requires place { plp < plps_of self.old }
         requires wanted { 0 < wants_of self.old plp }
         requires given { has_unit self.old ≡ false }
-        ensures stands { (c : Config) (events : List Event) → GatewayStandsFor self.old c events → GatewayStandsFor self.new c (events ++ Offered plp packet.now ∷ []) }
+        ensures stands { (c : Config) (events : List Event) → GatewayStandsFor self.old c events
+            → GatewayStandsFor self.new c (events ++ Offered plp packet.now ∷ []) }
         ensures fewer { wants_of self.new plp + 1 ≡ wants_of self.old plp }
         ensures others { (other : ℕ) → other ≢ plp → wants_of self.new other ≡ wants_of self.old other }
         ensures status { status_of self.new ≡ status_of self.old }
@@ -96,7 +100,8 @@ impl<'p> Gateway<'p> {
     /// The input of a PLP has ended: null packets follow. A second time nothing changes.
     pub fn end_input(&mut self, plp: usize)
         requires { plp < plps_of self.old }
-        ensures stands { (c : Config) (events : List Event) → GatewayStandsFor self.old c events → GatewayStandsFor self.new c (events ++ Ended plp ∷ []) }
+        ensures stands { (c : Config) (events : List Event) → GatewayStandsFor self.old c events
+            → GatewayStandsFor self.new c (events ++ Ended plp ∷ []) }
         ensures none { wants_of self.new plp ≡ 0 }
         ensures others { (other : ℕ) → other ≢ plp → wants_of self.new other ≡ wants_of self.old other }
         ensures status { status_of self.new ≡ status_of self.old }
@@ -104,16 +109,21 @@ impl<'p> Gateway<'p> {
         end(&mut self.inputs, plp);
     }
 
-    /// Begins the frame under way, which wants no more packets and has a number below `plp_config::MOST_FRAMES`, once all complete units were taken and
-    /// before [`Gateway::finish`].
+    /// Begins the next frame, which wants no more packets and has a number below `plp_config::MOST_FRAMES`, once all
+    /// complete units were taken and before [`Gateway::finish`].
     pub fn begin_frame(&mut self)
         requires wanted { (plp : ℕ) → plp < plps_of self.old → wants_of self.old plp ≡ 0 }
         requires given { has_unit self.old ≡ false }
         requires early { frame_of self.old < MOST_FRAMES }
         requires open { has_finished self.old ≡ false }
-        ensures stands { (c : Config) (events : List Event) → GatewayStandsFor self.old c events → GatewayStandsFor self.new c (events ++ Begun ∷ []) }
+        ensures stands { (c : Config) (events : List Event) → GatewayStandsFor self.old c events
+            → GatewayStandsFor self.new c (events ++ Begun ∷ []) }
         ensures frame { frame_of self.new ≡ frame_of self.old + 1 }
-        ensures status { status_of self.new ≡ record (status_of self.old) { frame = frame_of self.new; unit = has_unit self.new; left = bytes_left self.new } }
+        ensures status { status_of self.new ≡ record (status_of self.old) {
+          frame = frame_of self.new;
+          unit = has_unit self.new;
+          left = bytes_left self.new;
+        } }
         ensures more { bytes_left self.new ≤ bytes_left self.old + 2 ^ 32 }
     {
         self.plan.obeys_rules();
@@ -130,31 +140,42 @@ impl<'p> Gateway<'p> {
             .begin(self.plan, &self.signalling, &mut self.frame);
     }
 
-    /// Gives the next unit of the frames begun, a transport packet, if it is complete: 184 bytes wait. After [`Gateway::finish`] it
-    /// gives also the rest. Else `out` stays.
+    /// Gives the next unit of the frames begun, a transport packet, if it is complete: 184 bytes wait. After [`Gateway::finish`]
+    /// it gives also the rest. Else `out` stays.
     pub fn next_ts(&mut self, out: &mut [u8; SIZE]) -> bool
         ensures is { result ≡ has_unit self.old }
         // Whatever packets follow, the unit is the next one of all.
-        ensures unit { result ≡ true → (c : Config) (events : List Event) → GatewayStandsFor self.old c events → (inputs : ℕ → List (List ℕ)) → AllContinue c events inputs
-            → (more : List (List ℕ)) → (finished events ≡ true → more ≡ []) → slice_get (pipe c.pid (front_packets c inputs (begun events) ++ more)) (given events) ≡ Some out.new }
-        ensures stands { result ≡ true → (c : Config) (events : List Event) → GatewayStandsFor self.old c events → GatewayStandsFor self.new c (events ++ Gave ∷ []) }
-        ensures still { result ≡ false → (c : Config) (events : List Event) → GatewayStandsFor self.old c events → GatewayStandsFor self.new c events }
+        ensures unit { result ≡ true → (c : Config) (events : List Event) → GatewayStandsFor self.old c events
+            → (inputs : ℕ → List (List ℕ)) → AllContinue c events inputs
+            → (more : List (List ℕ)) → (finished events ≡ true → more ≡ [])
+            → slice_get (pipe c.pid (front_packets c inputs (begun events) ++ more)) (given events) ≡ Some out.new }
+        ensures stands { result ≡ true → (c : Config) (events : List Event) → GatewayStandsFor self.old c events
+            → GatewayStandsFor self.new c (events ++ Gave ∷ []) }
+        ensures still { result ≡ false → (c : Config) (events : List Event) → GatewayStandsFor self.old c events
+            → GatewayStandsFor self.new c events }
         ensures stays { result ≡ false → (has_unit self.new ≡ false) × (out.new ≡ out.old) }
         // So a loop that takes units ends.
         ensures less { result ≡ true → bytes_left self.new < bytes_left self.old }
         ensures kept { result ≡ false → bytes_left self.new ≡ bytes_left self.old }
         // Before the end a unit of the frames begun is given as soon as it is complete, and no other.
-        ensures complete { (c : Config) (events : List Event) → GatewayStandsFor self.old c events → finished events ≡ false → (inputs : ℕ → List (List ℕ)) → AllContinue c events inputs
+        ensures complete { (c : Config) (events : List Event) → GatewayStandsFor self.old c events → finished events ≡ false
+            → (inputs : ℕ → List (List ℕ)) → AllContinue c events inputs
             → (result ≡ true) ↔ (given events < length (complete_units c.pid (front_packets c inputs (begun events)))) }
-        ensures caught_up { result ≡ false → (c : Config) (events : List Event) → GatewayStandsFor self.old c events → finished events ≡ false → (inputs : ℕ → List (List ℕ)) → AllContinue c events inputs
+        ensures caught_up { result ≡ false → (c : Config) (events : List Event) → GatewayStandsFor self.old c events
+            → finished events ≡ false → (inputs : ℕ → List (List ℕ)) → AllContinue c events inputs
             → given events ≡ length (complete_units c.pid (front_packets c inputs (begun events))) }
         // After the end none is left out.
-        ensures rest { (c : Config) (events : List Event) → GatewayStandsFor self.old c events → finished events ≡ true → (inputs : ℕ → List (List ℕ)) → AllContinue c events inputs
+        ensures rest { (c : Config) (events : List Event) → GatewayStandsFor self.old c events → finished events ≡ true
+            → (inputs : ℕ → List (List ℕ)) → AllContinue c events inputs
             → (result ≡ true) ↔ (given events < length (pipe c.pid (front_packets c inputs (begun events)))) }
-        ensures none { result ≡ false → (c : Config) (events : List Event) → GatewayStandsFor self.old c events → finished events ≡ true → (inputs : ℕ → List (List ℕ)) → AllContinue c events inputs
+        ensures none { result ≡ false → (c : Config) (events : List Event) → GatewayStandsFor self.old c events
+            → finished events ≡ true → (inputs : ℕ → List (List ℕ)) → AllContinue c events inputs
             → length (pipe c.pid (front_packets c inputs (begun events))) ≡ given events }
         ensures wants { (plp : ℕ) → wants_of self.new plp ≡ wants_of self.old plp }
-        ensures status { status_of self.new ≡ record (status_of self.old) { unit = has_unit self.new; left = bytes_left self.new } }
+        ensures status { status_of self.new ≡ record (status_of self.old) {
+          unit = has_unit self.new;
+          left = bytes_left self.new;
+        } }
     {
         self.flow
             .next(self.plan, &self.signalling, &mut self.frame, out)
@@ -172,7 +193,8 @@ impl<'p> Gateway<'p> {
 
     /// No more frames come: the rest of the units can be taken.
     pub fn finish(&mut self)
-        ensures stands { (c : Config) (events : List Event) → GatewayStandsFor self.old c events → GatewayStandsFor self.new c (events ++ Finished ∷ []) }
+        ensures stands { (c : Config) (events : List Event) → GatewayStandsFor self.old c events
+            → GatewayStandsFor self.new c (events ++ Finished ∷ []) }
         ensures wants { (plp : ℕ) → wants_of self.new plp ≡ wants_of self.old plp }
         ensures status { status_of self.new ≡ record (status_of self.old) { unit = has_unit self.new; finished = true } }
     {

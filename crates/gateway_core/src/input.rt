@@ -16,7 +16,7 @@ use ts_packet::TsPacket;
 #[derive(Drop)]
 pub struct Input {
     chain: Chain,
-    // The slots that are over when the frame under way begins.
+    // The slots that are over when the next frame begins.
     due: u64,
     // The slot of the next packet.
     slot: u64,
@@ -42,7 +42,7 @@ fn offer_to(chain: &mut Chain, packet: &TsPacket, pool: &mut Pool, list: u32)
     let _ = chain.offer(packet, pool, list);
 }
 
-// Ends the frame under way: how many blocks it has. A pool with place has room for every one.
+// Ends the next frame: how many blocks it has. A pool with place has room for every one.
 fn end_frame(chain: &mut Chain, pool: &mut Pool, list: u32) -> u16
     requires { list < length pool.old.lists }
     ensures ends { Ends chain.old chain.new pool.old pool.new list result }
@@ -88,7 +88,7 @@ impl Input {
         })
     }
 
-    /// How many packets the frame under way still wants.
+    /// How many packets the next frame still wants.
     pub fn wanted(&self) -> u64
         ensures { result ≡ wanted self.now }
     {
@@ -108,11 +108,12 @@ impl Input {
         self.total
     }
 
-    /// Takes the packet of the next slot. The list has the blocks that the chain put of the frame under way.
+    /// Takes the packet of the next slot. The list has the blocks that the chain put of the next frame.
     pub fn offer(&mut self, packet: &TsPacket, pool: &mut Pool, list: u32)
         requires wanted { 0 < wanted self.old }
         requires list { list < length pool.old.lists }
-        ensures fed { (c : Config) (plp : ℕ) (t : Told) → HasPlace c plp pool.old list → IsFed self.old c plp t (bits_in pool.old list)
+        ensures fed { (c : Config) (plp : ℕ) (t : Told) → HasPlace c plp pool.old list
+            → IsFed self.old c plp t (bits_in pool.old list)
             → IsFed self.new c plp (with_packet t packet.now) (bits_in pool.new list) }
         ensures wanted { wanted self.new + 1 ≡ wanted self.old }
         ensures most { most self.new ≡ most self.old }
@@ -126,7 +127,8 @@ impl Input {
 
     /// The input has ended.
     pub fn end(&mut self)
-        ensures fed { (c : Config) (plp : ℕ) (t : Told) (early : List (List Bool)) → IsFed self.old c plp t early → IsFed self.new c plp (at_end t) early }
+        ensures fed { (c : Config) (plp : ℕ) (t : Told) (early : List (List Bool)) → IsFed self.old c plp t early
+            → IsFed self.new c plp (at_end t) early }
         ensures wanted { wanted self.new ≡ 0 }
         ensures most { most self.new ≡ most self.old }
     {
@@ -139,7 +141,8 @@ impl Input {
     fn offer_null(&mut self, pool: &mut Pool, list: u32)
         requires before { self.old.slot < self.old.due }
         requires list { list < length pool.old.lists }
-        ensures fed { (c : Config) (plp : ℕ) (t : Told) → t.ended ≡ true → HasPlace c plp pool.old list → IsFed self.old c plp t (bits_in pool.old list)
+        ensures fed { (c : Config) (plp : ℕ) (t : Told) → t.ended ≡ true → HasPlace c plp pool.old list
+            → IsFed self.old c plp t (bits_in pool.old list)
             → IsFed self.new c plp t (bits_in pool.new list) }
         ensures slot { self.new.slot ≡ self.old.slot + 1 }
         ensures due { self.new.due ≡ self.old.due }
@@ -155,7 +158,8 @@ impl Input {
     // Null packets up to the slots that are over.
     fn fill(&mut self, pool: &mut Pool, list: u32)
         requires { list < length pool.old.lists }
-        ensures fed { (c : Config) (plp : ℕ) (t : Told) → t.ended ≡ true → HasPlace c plp pool.old list → IsFed self.old c plp t (bits_in pool.old list)
+        ensures fed { (c : Config) (plp : ℕ) (t : Told) → t.ended ≡ true → HasPlace c plp pool.old list
+            → IsFed self.old c plp t (bits_in pool.old list)
             → IsFed self.new c plp t (bits_in pool.new list) }
         ensures full { self.new.slot ≡ self.new.due }
         ensures due { self.new.due ≡ self.old.due }
@@ -172,7 +176,8 @@ impl Input {
     fn complete(&mut self, pool: &mut Pool, list: u32)
         requires wanted { wanted self.old ≡ 0 }
         requires list { list < length pool.old.lists }
-        ensures fed { (c : Config) (plp : ℕ) (t : Told) → HasPlace c plp pool.old list → IsFed self.old c plp t (bits_in pool.old list)
+        ensures fed { (c : Config) (plp : ℕ) (t : Told) → HasPlace c plp pool.old list
+            → IsFed self.old c plp t (bits_in pool.old list)
             → IsFed self.new c plp t (bits_in pool.new list) }
         ensures full { self.new.slot ≡ self.new.due }
         ensures due { self.new.due ≡ self.old.due }
@@ -185,14 +190,15 @@ impl Input {
         }
     }
 
-    /// Puts what is left of the frame under way, and goes on to the next one, by whose begin so many slots are over; the answer is
-    /// how many blocks the frame has. An input that ended has null packets. The list has the blocks that the chain put of the
+    /// Puts what is left of the next frame, and goes on to the one behind it, by whose begin so many slots are over; the answer
+    /// is how many blocks the frame has. An input that ended has null packets. The list has the blocks that the chain put of the
     /// frame.
     pub fn cut(&mut self, due: u64, pool: &mut Pool, list: u32) -> u16
         requires wanted { wanted self.old ≡ 0 }
         requires small { due < 2 ^ 54 }
         requires list { list < length pool.old.lists }
-        ensures cut { (c : Config) (plp : ℕ) (t : Told) → IsPlan c → plp < length c.plps → HasPlace c plp pool.old list → due ≡ slots_by c plp ((t.frame + 1) * c.ticks)
+        ensures cut { (c : Config) (plp : ℕ) (t : Told) → IsPlan c → plp < length c.plps → HasPlace c plp pool.old list
+            → due ≡ slots_by c plp ((t.frame + 1) * c.ticks)
             → IsFed self.old c plp t (bits_in pool.old list) → HasCut self.new c plp t pool.new result }
         ensures few { result ≤ most self.old }
         ensures most { most self.new ≡ most self.old }

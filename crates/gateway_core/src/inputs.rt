@@ -32,7 +32,7 @@ pub fn open_inputs(alloc: Global, plan: &Plan) -> Result<Vec<Input>, OutOfMemory
     Ok(inputs)
 }
 
-/// How many packets the frame under way still wants from an input.
+/// How many packets the next frame still wants from an input.
 pub fn wanted(inputs: &[Input], plp: usize) -> u64
     requires { plp < length inputs.now }
     ensures { result ≡ slice_index (map wanted inputs.now) plp }
@@ -46,10 +46,12 @@ pub fn offer(inputs: &mut [Input], pool: &mut Pool, plp: usize, packet: &TsPacke
     requires few { plp < 2 ^ 32 }
     requires lists { length pool.old.lists ≡ length inputs.old }
     requires wanted { 0 < slice_index (map wanted inputs.old) plp }
-    ensures fed { (c : Config) (events : List Event) → length inputs.old ≡ length c.plps → HasFrame c pool.old → AllFed inputs.old (bits_in pool.old) c events
+    ensures fed { (c : Config) (events : List Event) → length inputs.old ≡ length c.plps → HasFrame c pool.old
+        → AllFed inputs.old (bits_in pool.old) c events
         → AllFed inputs.new (bits_in pool.new) c (events ++ Offered plp packet.now ∷ []) }
     ensures fewer { slice_index (map wanted inputs.new) plp + 1 ≡ slice_index (map wanted inputs.old) plp }
-    ensures others { (other : ℕ) → other ≢ plp → slice_index (map wanted inputs.new) other ≡ slice_index (map wanted inputs.old) other }
+    ensures others { (other : ℕ) → other ≢ plp → slice_index (map wanted inputs.new) other
+        ≡ slice_index (map wanted inputs.old) other }
     ensures most { SameMost inputs.old inputs.new }
     ensures short { AllShort pool.old → AllShort pool.new }
     ensures lists { length pool.new.lists ≡ length pool.old.lists }
@@ -63,15 +65,17 @@ pub fn offer(inputs: &mut [Input], pool: &mut Pool, plp: usize, packet: &TsPacke
 /// An input has ended.
 pub fn end(inputs: &mut [Input], plp: usize)
     requires { plp < length inputs.old }
-    ensures fed { (early : ℕ → List (List Bool)) (c : Config) (events : List Event) → AllFed inputs.old early c events → AllFed inputs.new early c (events ++ Ended plp ∷ []) }
+    ensures fed { (early : ℕ → List (List Bool)) (c : Config) (events : List Event) → AllFed inputs.old early c events
+        → AllFed inputs.new early c (events ++ Ended plp ∷ []) }
     ensures none { slice_index (map wanted inputs.new) plp ≡ 0 }
-    ensures others { (other : ℕ) → other ≢ plp → slice_index (map wanted inputs.new) other ≡ slice_index (map wanted inputs.old) other }
+    ensures others { (other : ℕ) → other ≢ plp → slice_index (map wanted inputs.new) other
+        ≡ slice_index (map wanted inputs.old) other }
     ensures most { SameMost inputs.old inputs.new }
 {
     inputs[plp].end();
 }
 
-// Ends the frame under way for one PLP: how many blocks of it the frame has.
+// Ends the next frame for one PLP: how many blocks of it the frame has.
 fn cut_one(plan: &Plan, inputs: &mut [Input], pool: &mut Pool, plp: usize, frame: u64) -> u16
     requires whole { length inputs.old ≡ length plan.now.plps }
     requires place { plp < length inputs.old }
@@ -87,21 +91,25 @@ fn cut_one(plan: &Plan, inputs: &mut [Input], pool: &mut Pool, plp: usize, frame
     inputs[plp].cut(due, pool, plp as u32)
 }
 
-/// Ends the frame under way: each list of the pool has the blocks of its PLP, and at each place stands how many they are. After it
-/// the next frame is under way.
+/// Ends the next frame: each list of the pool has the blocks of its PLP, and at each place stands how many they are. After
+/// it the frame behind it is the next one.
 pub fn cut(plan: &Plan, inputs: &mut [Input], pool: &mut Pool, frame: u64, counts: &mut [u16])
     requires whole { length inputs.old ≡ length plan.now.plps }
     requires early { frame < MOST_FRAMES }
     requires ready { (plp : ℕ) → plp < length inputs.old → slice_index (map wanted inputs.old) plp ≡ 0 }
     requires lists { length pool.old.lists ≡ length inputs.old }
     requires counts { length counts.old ≡ length plan.now.plps }
-    ensures fed { (events : List Event) → frame ≡ begun events → HasFrame plan.now pool.old → AllFed inputs.old (bits_in pool.old) plan.now events
+    ensures fed { (events : List Event) → frame ≡ begun events → HasFrame plan.now pool.old
+        → AllFed inputs.old (bits_in pool.old) plan.now events
         → AllFed inputs.new (λ j. []) plan.now (events ++ Begun ∷ []) }
-    ensures blocks { (events : List Event) → frame ≡ begun events → HasFrame plan.now pool.old → AllFed inputs.old (bits_in pool.old) plan.now events
+    ensures blocks { (events : List Event) → frame ≡ begun events → HasFrame plan.now pool.old
+        → AllFed inputs.old (bits_in pool.old) plan.now events
         → (all : ℕ → List (List ℕ)) → AllContinue plan.now events all → AreBlocks pool.new plan.now events all }
-    ensures counts { (events : List Event) → frame ≡ begun events → HasFrame plan.now pool.old → AllFed inputs.old (bits_in pool.old) plan.now events
+    ensures counts { (events : List Event) → frame ≡ begun events → HasFrame plan.now pool.old
+        → AllFed inputs.old (bits_in pool.old) plan.now events
         → counts.new ≡ map length pool.new.lists }
-    ensures few { AreFor inputs.old plan.now → (plp : ℕ) → plp < length plan.now.plps → slice_index counts.new plp ≤ (plp_at plan.now.plps plp).blocks }
+    ensures few { AreFor inputs.old plan.now → (plp : ℕ) → plp < length plan.now.plps
+        → slice_index counts.new plp ≤ (plp_at plan.now.plps plp).blocks }
     ensures len { length counts.new ≡ length counts.old }
     ensures most { SameMost inputs.old inputs.new }
     ensures short { AllShort pool.old → AllShort pool.new }

@@ -7,7 +7,7 @@ use plp_config::{length_law, run_length_law, slot_time_law};
 use t2mi_packet::written_law;
 use t2mi_stream::complete_law;
 
-/// A run is three frames longer at least than the frame under way when all packets that it wants of an input were there. So a
+/// A run is three frames longer at least than the next frame when all packets that it wants of an input were there. So a
 /// caller that ends each input where it ends, and begins no frame once the last was begun, begins no frame behind the run.
 pub fn not_yet_last()
     ensures { NotYetLast }

@@ -70,13 +70,13 @@ fn stamp_of(plan: &Plan, frame: u64) -> Stamp
 }
 
 /// The timestamp of the superframe that begins with a frame.
-pub fn write_stamp(out: &mut FixedBits<LARGEST>, plan: &Plan, number: u8, frame: u64)
+pub fn write_stamp(out: &mut FixedBits<LARGEST>, plan: &Plan, packet_count: u8, frame: u64)
     requires { frame < 2 ^ 32 }
-    ensures bits { out.new ≡ written_bits (packet_with plan.now number frame (Body.Timestamp (stamp_of plan.now frame))) }
+    ensures bits { out.new ≡ written_bits (packet_with plan.now packet_count frame (Body.Timestamp (stamp_of plan.now frame))) }
     ensures whole { IsWhole out.new }
 {
     let packet = Packet {
-        count: number,
+        packet_count,
         superframe: superframe_idx(plan, frame),
         stream: 0,
         body: Body::Timestamp(stamp_of(plan, frame)),
@@ -88,7 +88,7 @@ pub fn write_stamp(out: &mut FixedBits<LARGEST>, plan: &Plan, number: u8, frame:
 pub fn write_signal(
     out: &mut FixedBits<LARGEST>,
     plan: &Plan,
-    number: u8,
+    packet_count: u8,
     frame: u64,
     pre: BitSlice<'_>,
     conf: BitSlice<'_>,
@@ -97,11 +97,12 @@ pub fn write_signal(
     requires pre { length pre ≡ 168 }
     requires conf { length conf ≤ MOST_CONF_BITS }
     requires dynamic { length dynamic ≤ MOST_DYN_BITS }
-    ensures bits { out.new ≡ written_bits (packet_with plan.now number frame (l1_body plan.now frame pre.entry conf.entry dynamic.entry)) }
+    ensures bits { out.new ≡ written_bits (packet_with plan.now packet_count frame
+        (l1_body plan.now frame pre.entry conf.entry dynamic.entry)) }
     ensures whole { IsWhole out.new }
 {
     let packet = Packet {
-        count: number,
+        packet_count,
         superframe: superframe_idx(plan, frame),
         stream: 0,
         body: Body::L1Current {
@@ -113,17 +114,6 @@ pub fn write_signal(
         },
     };
     write_packet(out, &packet);
-}
-
-// PLP_ID.
-fn plp_id(plan: &Plan, plp: usize) -> u8
-    requires { plp < length plan.now.plps }
-    ensures { result ≡ (plp_at plan.now.plps plp).id }
-{
-    match plan.config().plps.get(plp) {
-        Some(plp) => plp.id,
-        None => 0,
-    }
 }
 
 // Puts the bytes of a block behind what was written, chunk by chunk.
@@ -142,7 +132,7 @@ fn put_pieces(out: &mut FixedBits<LARGEST>, block: &BlockRef<'_>)
 pub fn write_block(
     out: &mut FixedBits<LARGEST>,
     plan: &Plan,
-    number: u8,
+    packet_count: u8,
     frame: u64,
     plp: usize,
     first: bool,
@@ -150,15 +140,16 @@ pub fn write_block(
 )
     requires configured { plp < length plan.now.plps }
     requires short { length block.now ≤ MOST_BLOCK_BYTES }
-    ensures bits { out.new ≡ written_bits (packet_with plan.now number frame (Body.Block (frame % plan.now.frames) (plp_at plan.now.plps plp).id first (bits_of block.now))) }
+    ensures bits { out.new ≡ written_bits (packet_with plan.now packet_count frame
+        (Body.Block (frame % plan.now.frames) (plp_at plan.now.plps plp).id first (bits_of block.now))) }
     ensures whole { IsWhole out.new }
 {
     let head = BlockHead {
-        count: number,
+        packet_count,
         superframe: superframe_idx(plan, frame),
         stream: 0,
         frame_idx: frame_idx(plan, frame),
-        plp: plp_id(plan, plp),
+        plp_id: plan.plp_id(plp),
         first,
     };
     begin_block(out, &head, block.len());

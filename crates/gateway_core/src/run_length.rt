@@ -10,7 +10,8 @@ use plp_config::Plan;
 // The tick by which the delay has passed for all packets of an input, once it ended.
 fn end_of(plan: &Plan, input: &Input, plp: usize) -> Option<u128>
     requires { plp < length plan.now.plps }
-    ensures tick { IfSome result (λ tick. (total : ℕ) → input.now.total ≡ Some total → tick ≡ start plan.now plp total + delay plan.now plp) }
+    ensures tick { IfSome result (λ tick. (total : ℕ) → input.now.total ≡ Some total
+        → tick ≡ start plan.now plp total + delay plan.now plp) }
     ensures small { IfSome result (λ tick. tick < 2 ^ 93) }
     ensures some { IfSome result (λ _. is_some input.now.total ≡ true) }
     ensures none { IfNone result (input.now.total ≡ None) }
@@ -31,7 +32,8 @@ fn later(tick: u128, other: u128) -> u128
 // That of all inputs, once they ended.
 fn last_tick(plan: &Plan, inputs: &[Input]) -> Option<u128>
     requires { length inputs.now ≡ length plan.now.plps }
-    ensures tick { IfSome result (λ tick. (packets : ℕ → ℕ) → HaveEnded inputs.now packets → tick ≡ last_tick plan.now packets (length plan.now.plps)) }
+    ensures tick { IfSome result (λ tick. (packets : ℕ → ℕ) → HaveEnded inputs.now packets
+        → tick ≡ last_tick plan.now packets (length plan.now.plps)) }
     ensures small { IfSome result (λ tick. tick < 2 ^ 93) }
     ensures some { IfSome result (λ _. AllEnded inputs.now) }
     ensures none { IfNone result (¬ (AllEnded inputs.now)) }
@@ -50,7 +52,8 @@ fn last_tick(plan: &Plan, inputs: &[Input]) -> Option<u128>
 #[tactic(auto, unfolding(plp_config::specs::RunLength::frame_count))]
 pub fn frame_count(plan: &Plan, inputs: &[Input]) -> Option<u128>
     requires { length inputs.now ≡ length plan.now.plps }
-    ensures count { IfSome result (λ frames. (packets : ℕ → ℕ) → HaveEnded inputs.now packets → frames ≡ frame_count plan.now packets) }
+    ensures count { IfSome result (λ frames. (packets : ℕ → ℕ) → HaveEnded inputs.now packets
+        → frames ≡ frame_count plan.now packets) }
     ensures some { IfSome result (λ _. AllEnded inputs.now) }
     ensures none { IfNone result (¬ (AllEnded inputs.now)) }
 {

@@ -25,7 +25,7 @@ fn packets(alloc: Global, count: u16) -> Result<Vec<TsPacket>, OutOfMemory> {
     Ok(packets)
 }
 
-// Offers the packets from one on that the frame under way wants of a PLP, and answers which comes next.
+// Offers the packets from one on that the next frame wants of a PLP, and answers which comes next.
 fn feed(gateway: &mut Gateway<'_>, plp: usize, packets: &[TsPacket], from: usize) -> usize
     requires place { plp < plps_of gateway.old }
     requires given { has_unit gateway.old ≡ false }
@@ -48,7 +48,7 @@ fn feed(gateway: &mut Gateway<'_>, plp: usize, packets: &[TsPacket], from: usize
     packets.len()
 }
 
-// Offers what the frame under way wants, PLP by PLP.
+// Offers what the next frame wants, PLP by PLP.
 fn feed_all(gateway: &mut Gateway<'_>, inputs: &[&[TsPacket]], next: &mut [usize])
     requires places { length inputs.now ≡ plps_of gateway.old }
     requires next { length next.old ≡ length inputs.now }

@@ -1,13 +1,12 @@
 -- How the blocks of a pool lie in its chunks. No public clause cites this module.
 use Rattle.std.specs.Prelude.{◌≡◌, ℕ, zero, suc, ◌+◌, ◌-◌, ◌*◌, ◌^◌, ◌<◌, ◌≤◌, List, [], ◌∷◌, ◌++◌, length, take, drop, get_or}
-use Rattle.std.specs.Prelude.{set}
+use Rattle.std.specs.Prelude.{set, flat_map}
 use Rattle.linked_pool.specs.Chains.{occurs, count}
 use Rattle.linked_pool.specs.Pool.{State, chunk_len, chunks_for, chunks_of, list_at}
 
 -- the bytes of chunks
 abbrev pub joined : List (List ℕ) → List ℕ → List ℕ
-joined chunks [] = []
-joined chunks (c ∷ cs) = get_or chunks c [] ++ joined chunks cs
+joined chunks cs = flat_map (λ c. get_or chunks c []) cs
 
 -- the chunks of the block at the front of a chain; the bytes of a block stand in lens at its first chunk
 abbrev pub front_chunks : List ℕ → List ℕ → ℕ

@@ -1,5 +1,6 @@
 // Chunks in chains, linked by index. Every chunk is in one chain.
-ghost use Rattle.std.specs.Prelude.{ℕ, List, [], ◌≡◌, ◌≢◌, ◌<◌, ◌≤◌, ◌*◌, ◌+◌, ◌-◌, ◌^◌, length, IfOk, replicate, slice_index, slice_index_or};
+ghost use Rattle.std.specs.Prelude.{ℕ, List, [], ◌≡◌, ◌≢◌, ◌<◌, ◌≤◌, ◌*◌, ◌+◌, ◌-◌, ◌^◌, length, IfOk, replicate, slice_index};
+ghost use Rattle.std.specs.Prelude.{slice_index_or};
 ghost use Rattle.linked_pool.specs.Chains.{moved, last_on, rising, opened, IsSound, Moves};
 
 use crate::tables::{filled, read};
@@ -161,7 +162,8 @@ impl Chains {
 
     /// The chunk behind a chunk of a chain.
     pub fn after(&self, chunk: u32) -> u32
-        ensures { (i k : ℕ) → i < length self.now → k + 1 < length (slice_index_or self.now i []) → slice_index (slice_index_or self.now i []) k ≡ chunk → result ≡ slice_index (slice_index_or self.now i []) (k + 1) }
+        ensures { (i k : ℕ) → i < length self.now → k + 1 < length (slice_index_or self.now i [])
+            → slice_index (slice_index_or self.now i []) k ≡ chunk → result ≡ slice_index (slice_index_or self.now i []) (k + 1) }
     {
         let next = self.next.as_slice();
         if chunk as usize >= next.len() {

@@ -33,7 +33,8 @@ impl<'a> Pieces<'a> {
     /// Lends the next bytes, a whole chunk or what is left; None if nothing is.
     pub fn next(&mut self) -> Option<&'a [u8]>
         ensures none { IfNone result ((self.old ≡ []) × (self.new ≡ [])) }
-        ensures some { IfSome result (λ piece. (self.old ≡ piece.now ++ self.new) × (0 < length piece.now) × (length piece.now ≡ min (length self.old) chunk_len)) }
+        ensures some { IfSome result (λ piece. (self.old ≡ piece.now ++ self.new) × (0 < length piece.now)
+            × (length piece.now ≡ min (length self.old) chunk_len)) }
     {
         let left = self.left;
         if left == 0 {

@@ -1,5 +1,6 @@
 // The pool.
-ghost use Rattle.std.specs.Prelude.{ℕ, [], ◌≡◌, ◌≢◌, ◌<◌, ◌≤◌, ◌↔◌, IsTrue, IsErr, IsNone, length, IfOk, IfErr, OnOk, OnErr, IfSome, slice_index_or};
+ghost use Rattle.std.specs.Prelude.{ℕ, [], ◌≡◌, ◌≢◌, ◌<◌, ◌≤◌, ◌↔◌, IsTrue, IsErr, IsNone, length, IfOk, IfErr, OnOk, OnErr};
+ghost use Rattle.std.specs.Prelude.{IfSome, slice_index_or};
 ghost use Rattle.linked_pool.specs.Pool.{chunks_for as chunks_for_len, list_at, empty, appended, popped, cleared, IsWhole};
 
 use crate::block::BlockRef;
@@ -44,7 +45,8 @@ impl Model for Pool {
 
     ghost view = { λ p. view_of p.chains p.chunks.items p.lens.items p.counts.items };
 
-    ghost invariant = { λ p. IsPool p.chains p.chunks.items p.lens.items p.counts.items × AreEnds p.chains p.lens.items p.lasts.items p.counts.items };
+    ghost invariant = { λ p. IsPool p.chains p.chunks.items p.lens.items p.counts.items
+        × AreEnds p.chains p.lens.items p.lasts.items p.counts.items };
 }
 
 impl Pool {

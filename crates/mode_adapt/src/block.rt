@@ -9,14 +9,14 @@ use bit_slice::{BitSlice, FixedBits};
 use plp_config::MOST_BLOCK_BYTES;
 
 /// Bytes of a block at most.
-pub const MOST_BYTES: usize = MOST_BLOCK_BYTES as usize;
+pub const LONGEST_BLOCK: usize = MOST_BLOCK_BYTES as usize;
 
 /// Writes the block with this header and data field, of so many bytes besides the header, in place of what was written.
 pub fn write_block(
     header: &Header,
     field: &[u8],
     field_bytes: u32,
-    block: &mut FixedBits<MOST_BYTES>,
+    block: &mut FixedBits<LONGEST_BLOCK>,
 )
     requires issy { header.now.issy < 2 ^ 24 }
     requires describes { Describes header.now (bits_of field.now) }

@@ -1,5 +1,6 @@
 // The chain of one PLP.
-ghost use Rattle.std.specs.Prelude.{◌≡◌, ◌<◌, ◌≤◌, ◌+◌, ◌-◌, ◌*◌, ◌^◌, ◌++◌, ◌∷◌, [], List, ℕ, map, length, take, drop, min, vec_len, vec_capacity, IfOk, IfErr, OnOk, OnErr, IfSome};
+ghost use Rattle.std.specs.Prelude.{◌≡◌, ◌<◌, ◌≤◌, ◌+◌, ◌-◌, ◌*◌, ◌^◌, ◌++◌, ◌∷◌, [], List, ℕ, map, length, take, drop, min};
+ghost use Rattle.std.specs.Prelude.{vec_len, vec_capacity, IfOk, IfErr, OnOk, OnErr, IfSome};
 ghost use Rattle.std.specs.Int.{div_ceil};
 ghost use Rattle.terms.specs.Bits.{bits_of};
 ghost use Rattle.plp_config.specs.Capacity.{up_bytes, field_bytes, block_bytes};
@@ -8,7 +9,7 @@ ghost use Rattle.plp_config.specs.declared.plp.TheConstants.{MOST_FIELD_BYTES};
 ghost use Rattle.ts_packet.specs.declared.sizes.TheConstants.{SIZE};
 ghost use Rattle.mode_adapt.specs.declared.chain.TheConstants.{MOST_SLOTS};
 
-use crate::block::{MOST_BYTES, write_block};
+use crate::block::{LONGEST_BLOCK, write_block};
 use crate::front::drop_front;
 use crate::laws::{backlog_law, early_fits_law, within_law};
 use crate::matype::deletes;
@@ -41,7 +42,7 @@ pub struct Chain {
     // The slots of the user packets that begin in them.
     slots: Vec<u64>,
     // The block that was put last.
-    block: FixedBits<MOST_BYTES>,
+    block: FixedBits<LONGEST_BLOCK>,
     ghost bound: { sent + vec_len pending ≤ SIZE * slot },
     ghost small: { slot ≤ 2 ^ 54 },
     ghost few: { made ≤ settings.blocks },
@@ -57,7 +58,8 @@ impl Chain {
     ghost use Rattle.mode_adapt.specs.Events.{Event, Offered, Cut, HasRoom, IsDue, offered, cuts};
     ghost use Rattle.mode_adapt.specs.StandsFor.{ChainStandsFor, IsPartial, slot_of, most_blocks, kept_of, waiting, early_blocks};
     ghost use Rattle.mode_adapt.specs.Place.{AreShort, HasPlace};
-    ghost use Rattle.mode_adapt.specs.Steps.{Keeps, Sends, HasSpace, Writes, Puts, Stays, IsFull, IsOver, IsLeft, Skips, Resets, Lacks};
+    ghost use Rattle.mode_adapt.specs.Steps.{Keeps, Sends, HasSpace, Writes, Puts, Stays, IsFull, IsOver, IsLeft, Skips, Resets};
+    ghost use Rattle.mode_adapt.specs.Steps.{Lacks};
     ghost use Rattle.mode_adapt.specs.Pieces.{first_in, piece_of};
     ghost use Rattle.mode_adapt.specs.Blocks.{blocks_of, rates_of, plp_keeps};
     ghost use Rattle.mode_adapt.specs.Queue.{arrived, sent};
@@ -94,21 +96,26 @@ impl Chain {
         requires slot { slot_of self.old < 2 ^ 54 }
         requires list { list < length pool.old.lists }
         ensures stands { OnOk result ((c : Config) (plp : ℕ) (events : List Event)
-            → ChainStandsFor self.old c plp events → HasRoom c plp events → ChainStandsFor self.new c plp (events ++ Offered packet.now ∷ [])) }
+            → ChainStandsFor self.old c plp events → HasRoom c plp events
+            → ChainStandsFor self.new c plp (events ++ Offered packet.now ∷ [])) }
         ensures blocks { OnOk result ((c : Config) (plp : ℕ) (events : List Event)
-            → ChainStandsFor self.old c plp events → HasRoom c plp events → map bits_of (list_at pool.old list) ≡ early_blocks c plp events
+            → ChainStandsFor self.old c plp events → HasRoom c plp events
+            → map bits_of (list_at pool.old list) ≡ early_blocks c plp events
             → map bits_of (list_at pool.new list) ≡ early_blocks c plp (events ++ Offered packet.now ∷ [])) }
         ensures short { AreShort (list_at pool.old list) → AreShort (list_at pool.new list) }
         ensures others { Others pool.old pool.new list }
 
         // There is room for the block if each list of the pool has no more than a frame.
         ensures never { OnErr result ((c : Config) (plp : ℕ) (events : List Event)
-            → ChainStandsFor self.old c plp events → map bits_of (list_at pool.old list) ≡ early_blocks c plp events → ¬ (HasPlace c plp pool.old list)) }
+            → ChainStandsFor self.old c plp events → map bits_of (list_at pool.old list) ≡ early_blocks c plp events
+            → ¬ (HasPlace c plp pool.old list)) }
         ensures full { IfErr result (λ e. (e.spare ≡ pool.new.spare) × (e.spare < e.need)) }
-        ensures need { IfErr result (λ e. (c : Config) (plp : ℕ) (events : List Event) → ChainStandsFor self.old c plp events → e.need ≡ chunks_for (block_bytes c plp)) }
+        ensures need { IfErr result (λ e. (c : Config) (plp : ℕ) (events : List Event) → ChainStandsFor self.old c plp events
+            → e.need ≡ chunks_for (block_bytes c plp)) }
 
         // A data field is full then, and the pool is as it was.
-        ensures due { OnErr result ((c : Config) (plp : ℕ) (events : List Event) → ChainStandsFor self.old c plp events → field_bytes c plp ≤ kept_of self.new) }
+        ensures due { OnErr result ((c : Config) (plp : ℕ) (events : List Event) → ChainStandsFor self.old c plp events
+            → field_bytes c plp ≤ kept_of self.new) }
         ensures refused { OnErr result (pool.new ≡ pool.old) }
         ensures whole { IsWhole pool.new }
 
@@ -174,7 +181,8 @@ impl Chain {
     fn put_full(&mut self, pool: &mut Pool, list: u32) -> Result<(), PoolFull>
         requires list { list < length pool.old.lists }
         ensures none { OnOk result (IsPartial self.old → (self.new ≡ self.old) × (pool.new ≡ pool.old)) }
-        ensures some { OnOk result (IsFull self.old → Puts self.old self.new self.old.settings.field_bytes (list_at pool.old list) (list_at pool.new list)) }
+        ensures some { OnOk result (IsFull self.old → Puts self.old self.new self.old.settings.field_bytes (list_at pool.old list)
+            (list_at pool.new list)) }
         ensures short { AreShort (list_at pool.old list) → AreShort (list_at pool.new list) }
         ensures others { Others pool.old pool.new list }
         ensures full { IfErr result (λ e. Lacks self.old pool.old e.need e.spare) }
@@ -262,7 +270,8 @@ impl Chain {
         ensures stands { OnOk result ((c : Config) (plp : ℕ) (events : List Event)
             → ChainStandsFor self.old c plp events → IsDue c plp events → ChainStandsFor self.new c plp (events ++ Cut ∷ [])) }
         ensures blocks { OnOk result ((c : Config) (plp : ℕ) (events : List Event)
-            → ChainStandsFor self.old c plp events → IsDue c plp events → map bits_of (list_at pool.old list) ≡ early_blocks c plp events
+            → ChainStandsFor self.old c plp events → IsDue c plp events
+            → map bits_of (list_at pool.old list) ≡ early_blocks c plp events
             → map bits_of (list_at pool.new list) ≡ blocks_of c plp c.ticks (packet_at (offered events)) (cuts events)) }
         ensures answer { IfOk result (λ count. (c : Config) (plp : ℕ) (events : List Event)
             → ChainStandsFor self.old c plp events → IsDue c plp events
@@ -275,9 +284,11 @@ impl Chain {
 
         // There is room for the block if each list of the pool has no more than a frame.
         ensures never { OnErr result ((c : Config) (plp : ℕ) (events : List Event)
-            → ChainStandsFor self.old c plp events → map bits_of (list_at pool.old list) ≡ early_blocks c plp events → ¬ (HasPlace c plp pool.old list)) }
+            → ChainStandsFor self.old c plp events → map bits_of (list_at pool.old list) ≡ early_blocks c plp events
+            → ¬ (HasPlace c plp pool.old list)) }
         ensures full { IfErr result (λ e. (e.spare ≡ pool.new.spare) × (e.spare < e.need)) }
-        ensures need { IfErr result (λ e. (c : Config) (plp : ℕ) (events : List Event) → ChainStandsFor self.old c plp events → e.need ≡ chunks_for (block_bytes c plp)) }
+        ensures need { IfErr result (λ e. (c : Config) (plp : ℕ) (events : List Event) → ChainStandsFor self.old c plp events
+            → e.need ≡ chunks_for (block_bytes c plp)) }
 
         // Bytes wait then, and the pool is as it was.
         ensures due { OnErr result (0 < kept_of self.new) }
@@ -318,7 +329,8 @@ impl Chain {
     fn put_rest(&mut self, pool: &mut Pool, list: u32) -> Result<(), PoolFull>
         requires { list < length pool.old.lists }
         ensures none { OnOk result (IsOver self.old → (self.new ≡ self.old) × (pool.new ≡ pool.old)) }
-        ensures some { OnOk result (IsLeft self.old → Puts self.old self.new (min self.old.settings.field_bytes (length self.old.pending.items)) (list_at pool.old list) (list_at pool.new list)) }
+        ensures some { OnOk result (IsLeft self.old → Puts self.old self.new
+            (min self.old.settings.field_bytes (length self.old.pending.items)) (list_at pool.old list) (list_at pool.new list)) }
         ensures short { AreShort (list_at pool.old list) → AreShort (list_at pool.new list) }
         ensures others { Others pool.old pool.new list }
         ensures full { IfErr result (λ e. Lacks self.old pool.old e.need e.spare) }

@@ -1,5 +1,6 @@
 // Packets from the unpiper into the sequence.
-ghost use Rattle.std.specs.Prelude.{◌≡◌, ◌<◌, ◌≤◌, ◌⊎◌, ◌+◌, ◌-◌, ◌*◌, ◌++◌, ◌^◌, length, take, ℕ, Bool, List, true, false, is_some};
+ghost use Rattle.std.specs.Prelude.{◌≡◌, ◌<◌, ◌≤◌, ◌⊎◌, ◌+◌, ◌-◌, ◌*◌, ◌++◌, ◌^◌, length, take, ℕ, Bool, List, true, false};
+ghost use Rattle.std.specs.Prelude.{is_some};
 ghost use Rattle.frame_groups.specs.Modulated.{FrameRecord};
 ghost use Rattle.frame_groups.specs.Waits.{waits, records_left, IsWithin, greatest_step};
 ghost use Rattle.t2mi_stream.specs.UnpiperStandsFor.{is_ready, fed_len, steps_left};
@@ -26,8 +27,10 @@ fn step<G: OpenGroup + Drop>(unpiper: &mut Unpiper, sequence: &mut Sequence<G>) 
     requires idle { waits sequence.old.progress ≡ false }
     requires near { IsWithin (2 ^ 31 + greatest_step * (most_steps + 1 - steps_left unpiper.old)) sequence.old.progress }
     ensures stands { (finished : Bool) (pid : ℕ) (bytes : List ℕ) (given : List FrameRecord)
-        → Stands (G.holds sequence.old.group) (G.key_now sequence.old.group) (G.rules sequence.old.group) sequence.old.progress unpiper.old finished pid bytes given
-        → Stands (G.holds sequence.new.group) (G.key_now sequence.new.group) (G.rules sequence.new.group) sequence.new.progress unpiper.new finished pid bytes given }
+        → Stands (G.holds sequence.old.group) (G.key_now sequence.old.group)
+        (G.rules sequence.old.group) sequence.old.progress unpiper.old finished pid bytes given
+        → Stands (G.holds sequence.new.group) (G.key_now sequence.new.group)
+        (G.rules sequence.new.group) sequence.new.progress unpiper.new finished pid bytes given }
     ensures near { IsWithin (2 ^ 31 + greatest_step * (most_steps + 1 - steps_left unpiper.new)) sequence.new.progress }
     ensures next { (sequence.new.progress.next ≡ sequence.old.progress.next) ⊎ (sequence.new.progress.next < 2 ^ 31) }
     ensures rules { G.rules sequence.new.group ≡ G.rules sequence.old.group }
@@ -50,11 +53,14 @@ fn step<G: OpenGroup + Drop>(unpiper: &mut Unpiper, sequence: &mut Sequence<G>) 
 pub fn settle<G: OpenGroup + Drop>(unpiper: &mut Unpiper, sequence: &mut Sequence<G>)
     requires near { IsWithin (2 ^ 31 + greatest_step * (most_steps + 1 - steps_left unpiper.old)) sequence.old.progress }
     ensures stands { (finished : Bool) (pid : ℕ) (bytes : List ℕ) (given : List FrameRecord)
-        → Stands (G.holds sequence.old.group) (G.key_now sequence.old.group) (G.rules sequence.old.group) sequence.old.progress unpiper.old finished pid bytes given
-        → Stands (G.holds sequence.new.group) (G.key_now sequence.new.group) (G.rules sequence.new.group) sequence.new.progress unpiper.new finished pid bytes given }
+        → Stands (G.holds sequence.old.group) (G.key_now sequence.old.group)
+        (G.rules sequence.old.group) sequence.old.progress unpiper.old finished pid bytes given
+        → Stands (G.holds sequence.new.group) (G.key_now sequence.new.group)
+        (G.rules sequence.new.group) sequence.new.progress unpiper.new finished pid bytes given }
     ensures near { IsWithin (2 ^ 31 + greatest_step * (most_steps + 1 - steps_left unpiper.new)) sequence.new.progress }
     ensures next { (sequence.new.progress.next ≡ sequence.old.progress.next) ⊎ (sequence.new.progress.next < 2 ^ 31) }
-    ensures intact { (waits sequence.old.progress ≡ true → G.is_intact sequence.old.group ≡ true) → waits sequence.new.progress ≡ true → G.is_intact sequence.new.group ≡ true }
+    ensures intact { (waits sequence.old.progress ≡ true → G.is_intact sequence.old.group ≡ true)
+        → waits sequence.new.progress ≡ true → G.is_intact sequence.new.group ≡ true }
     ensures rules { G.rules sequence.new.group ≡ G.rules sequence.old.group }
     ensures fed { fed_len unpiper.new ≡ fed_len unpiper.old }
     ensures done { waits sequence.new.progress ≡ false → is_ready unpiper.new ≡ false }
@@ -78,17 +84,22 @@ pub fn feed_some<G: OpenGroup + Drop>(
     requires some { 0 < length piece.now }
     requires room { fed_len unpiper.old + length piece.now < 2 ^ 60 }
     ensures stands { (pid : ℕ) (bytes : List ℕ) (given : List FrameRecord)
-        → Stands (G.holds sequence.old.group) (G.key_now sequence.old.group) (G.rules sequence.old.group) sequence.old.progress unpiper.old false pid bytes given
-        → Stands (G.holds sequence.new.group) (G.key_now sequence.new.group) (G.rules sequence.new.group) sequence.new.progress unpiper.new false pid (bytes ++ take result piece.now) given }
+        → Stands (G.holds sequence.old.group) (G.key_now sequence.old.group)
+        (G.rules sequence.old.group) sequence.old.progress unpiper.old false pid bytes given
+        → Stands (G.holds sequence.new.group) (G.key_now sequence.new.group)
+        (G.rules sequence.new.group) sequence.new.progress unpiper.new false pid (bytes ++ take result piece.now) given }
     // It does not go past the byte with which a packet is accepted.
-    ensures first { waits sequence.old.progress ≡ false → (k : ℕ) → k < result → (pid : ℕ) (bytes : List ℕ) (given : List FrameRecord)
-        → Stands (G.holds sequence.old.group) (G.key_now sequence.old.group) (G.rules sequence.old.group) sequence.old.progress unpiper.old false pid bytes given
+    ensures first { waits sequence.old.progress ≡ false → (k : ℕ) → k < result
+        → (pid : ℕ) (bytes : List ℕ) (given : List FrameRecord)
+        → Stands (G.holds sequence.old.group) (G.key_now sequence.old.group)
+        (G.rules sequence.old.group) sequence.old.progress unpiper.old false pid bytes given
         → due_by (G.rules sequence.old.group) false pid (bytes ++ take k piece.now) ≡ given }
     ensures inside { (0 < result) × (result ≤ length piece.now) }
     ensures near { IsWithin (2 ^ 31 + greatest_step * (most_steps + 1 - steps_left unpiper.new)) sequence.new.progress }
     ensures next { (sequence.new.progress.next ≡ sequence.old.progress.next) ⊎ (sequence.new.progress.next < 2 ^ 31) }
     ensures rules { G.rules sequence.new.group ≡ G.rules sequence.old.group }
-    ensures intact { waits sequence.old.progress ≡ false → waits sequence.new.progress ≡ true → G.is_intact sequence.new.group ≡ true }
+    ensures intact { waits sequence.old.progress ≡ false → waits sequence.new.progress ≡ true
+        → G.is_intact sequence.new.group ≡ true }
     ensures fed { fed_len unpiper.new ≡ fed_len unpiper.old + result }
     ensures done { waits sequence.new.progress ≡ false → is_ready unpiper.new ≡ false }
 {
@@ -105,15 +116,19 @@ pub fn feed_some<G: OpenGroup + Drop>(
 pub fn end<G: OpenGroup + Drop>(unpiper: &Unpiper, sequence: &mut Sequence<G>)
     requires done { waits sequence.old.progress ≡ false → is_ready unpiper.now ≡ false }
     ensures stands { (pid : ℕ) (bytes : List ℕ) (given : List FrameRecord)
-        → Stands (G.holds sequence.old.group) (G.key_now sequence.old.group) (G.rules sequence.old.group) sequence.old.progress unpiper.now true pid bytes given
-        → Stands (G.holds sequence.new.group) (G.key_now sequence.new.group) (G.rules sequence.new.group) sequence.new.progress unpiper.now true pid bytes given }
+        → Stands (G.holds sequence.old.group) (G.key_now sequence.old.group)
+        (G.rules sequence.old.group) sequence.old.progress unpiper.now true pid bytes given
+        → Stands (G.holds sequence.new.group) (G.key_now sequence.new.group)
+        (G.rules sequence.new.group) sequence.new.progress unpiper.now true pid bytes given }
     ensures still { waits sequence.old.progress ≡ true → sequence.new ≡ sequence.old }
     ensures near { (bound : ℕ) → 2 ^ 31 ≤ bound → IsWithin bound sequence.old.progress → IsWithin bound sequence.new.progress }
-    ensures intact { (waits sequence.old.progress ≡ true → G.is_intact sequence.old.group ≡ true) → waits sequence.new.progress ≡ true → G.is_intact sequence.new.group ≡ true }
+    ensures intact { (waits sequence.old.progress ≡ true → G.is_intact sequence.old.group ≡ true)
+        → waits sequence.new.progress ≡ true → G.is_intact sequence.new.group ≡ true }
     ensures next { (sequence.new.progress.next ≡ sequence.old.progress.next) ⊎ (sequence.new.progress.next < 2 ^ 31) }
     ensures rules { G.rules sequence.new.group ≡ G.rules sequence.old.group }
     ensures done { waits sequence.new.progress ≡ false → is_ready unpiper.now ≡ false }
-    ensures ended { waits sequence.new.progress ≡ false → sequence.new.progress.closing ≡ false → is_some (G.key_now sequence.new.group) ≡ false }
+    ensures ended { waits sequence.new.progress ≡ false → sequence.new.progress.closing ≡ false
+        → is_some (G.key_now sequence.new.group) ≡ false }
     ensures left { records_left sequence.new.progress ≤ records_left sequence.old.progress }
 {
     if sequence.progress.waiting().is_some() {

@@ -1,5 +1,5 @@
-// The stream comes from an independent encoder. Expected bytes were spelled by hand from the tables of records, but for L1-post, which
-// is from a Python program over the tables of EN 302 755.
+// The stream comes from an independent encoder. Expected bytes were spelled by hand from the tables of records, but for L1-post,
+// which is from a Python program over the tables of EN 302 755.
 ghost use Rattle.std.specs.Prelude.{◌≡◌, ◌<◌, ◌≤◌, ◌^◌};
 ghost use Rattle.modulator.specs.StandsFor.{fed_of, is_finished, next_of};
 
@@ -11,8 +11,8 @@ use std::alloc::{AllocError, Global};
 use std::process::Abort;
 use std::test::Fail;
 
-// The units of frames 0 to 3 of the small network where its input is empty: the timestamp of frame 0, and the L1 of frames 0 and 1;
-// its last four bytes begin the timestamp of frame 2.
+// The units of frames 0 to 3 of the small network where its input is empty: the timestamp of frame 0, and the L1 of frames 0 and
+// 1; its last four bytes begin the timestamp of frame 2.
 #[rattlefmt::skip]
 const FIRST: [u8; 188] = [
     0x47, 0x41, 0x00, 0x10, 0x00, 0x20, 0x00, 0x00, 0x00, 0x00, 0x58, 0x04, 0x00, 0x29, 0xB9, 0x27, 0x00, 0x00, 0x00, 0x00,

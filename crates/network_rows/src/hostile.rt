@@ -1,5 +1,5 @@
-// Streams that no gateway sends: in that of the small network with 20 packets, which has 6 frames, the packets of one frame are changed, and
-// all are piped again. What must come follows from the tests of a frame's packets, and was counted by hand.
+// Streams that no gateway sends: in that of the small network with 20 packets, which has 6 frames, the packets of one frame are
+// changed, and all are piped again. What must come follows from the tests of a frame's packets, and was counted by hand.
 ghost use Rattle.std.specs.Prelude.{◌<◌, length};
 
 use crate::packets::{packets_in, piped, seal, set_bits};
@@ -17,7 +17,8 @@ use std::process::Abort;
 use std::test::Fail;
 use t2mi_packet::Stamp;
 
-// Frame 0 has a timestamp and an L1-current. Of frame 1 come an L1-current and four baseband frames, and then the timestamp of frame 2.
+// Frame 0 has a timestamp and an L1-current. Of frame 1 come an L1-current and four baseband frames, and then the timestamp of
+// frame 2.
 const SIGNAL: usize = 2;
 
 const BLOCKS: usize = 3;
@@ -27,8 +28,8 @@ const STAMP: usize = 7;
 // The number of frames.
 const FRAMES: usize = 6;
 
-// Where in an L1-current of one PLP the fields of its dynamic part stand, in bits from the packet's first: behind its header of 6 bytes, 2
-// bytes, 21 of L1-pre, and the lengths and bytes of the two parts of L1-post.
+// Where in an L1-current of one PLP the fields of its dynamic part stand, in bits from the packet's first: behind its header of 6
+// bytes, 2 bytes, 21 of L1-pre, and the lengths and bytes of the two parts of L1-post.
 const DYNAMIC: usize = 8 * 57;
 
 const CHANGE_COUNTER: usize = DYNAMIC + 52;

@@ -1,5 +1,5 @@
-// What the receiver of a PLP gives back by calls, of records that the modulator made of what the gateway made. Expected values come from
-// worked examples, or were counted by hand.
+// What the receiver of a PLP gives back by calls, of records that the modulator made of what the gateway made. Expected values
+// come from worked examples, or were counted by hand.
 ghost use Rattle.std.specs.Prelude.{◌≡◌, ◌<◌, ◌≤◌, ◌+◌, ◌-◌, length, IfOk, OnOk};
 ghost use Rattle.plp_receiver.specs.StandsFor.{due_of, frame_of};
 
@@ -224,8 +224,8 @@ fn a_lost_unit_mutes_two_frames(rt: HostRuntime) -> Result<(), Fail> {
     gives_back(&rt, &plan, &sent, &lossy, ALL, &slots)
 }
 
-// 69 packets, 12,972 bytes, have come when frame 5 begins. Frame 1 carries 13 packets and each one behind it 2,607 bytes: frame 5 those
-// from 10,265 to 12,872 on, of the packets 54 to 68.
+// 69 packets, 12,972 bytes, have come when frame 5 begins. Frame 1 carries 13 packets and each one behind it 2,607 bytes: frame 5
+// those from 10,265 to 12,872 on, of the packets 54 to 68.
 #[test]
 fn a_muted_frame_costs_the_packets_that_it_has_bytes_of(rt: HostRuntime) -> Result<(), Fail> {
     let plan = loaded_plan(rt.alloc())?;

@@ -68,7 +68,9 @@ fn send(bits: &BitSlice<'_>, out: &mut [u8])
 }
 
 impl HeldBlocks {
-    ghost use Rattle.std.specs.Prelude.{◌≡◌, ◌≢◌, ◌↔◌, ◌<◌, ◌≤◌, ◌+◌, ◌*◌, ◌^◌, ◌++◌, ◌∷◌, [], true, false, Some, min, length, drop, replicate, slice_index_or, IsNone, IfSome, map, vec_len, slice_set, slice_index, IfOk, List, Bool, ℕ};
+    ghost use Rattle.std.specs.Prelude.{◌≡◌, ◌≢◌, ◌↔◌, ◌<◌, ◌≤◌, ◌+◌, ◌*◌, ◌^◌, ◌++◌, ◌∷◌, [], true, false, Some, min, length};
+    ghost use Rattle.std.specs.Prelude.{drop, replicate, slice_index_or, IsNone, IfSome, map, vec_len, slice_set, slice_index};
+    ghost use Rattle.std.specs.Prelude.{IfOk, List, Bool, ℕ};
     ghost use Rattle.linked_pool.specs.Pool.{State, list_at, chunks_for, used_chunks, appended};
     ghost use Rattle.plp_config.specs.Capacity.{block_bytes};
     ghost use Rattle.t2mi_packet.specs.declared.packet.Packet.{Packet};
@@ -100,7 +102,8 @@ impl HeldBlocks {
     // Counts a block of a PLP.
     fn count(&mut self, plp: usize)
         requires { plp < vec_len self.old.counts }
-        ensures counts { self.new.counts.items ≡ slice_set self.old.counts.items plp (capped (slice_index self.old.counts.items plp + 1)) }
+        ensures counts { self.new.counts.items ≡ slice_set self.old.counts.items plp
+            (capped (slice_index self.old.counts.items plp + 1)) }
         ensures pool { self.new.pool ≡ self.old.pool }
         ensures all { self.new.chunks ≡ self.old.chunks }
         ensures need { self.new.need ≡ self.old.need }
@@ -136,8 +139,11 @@ impl HeldBlocks {
 
     fn add_block(&mut self, plan: &Plan, id: u8, bits: &BitSlice<'_>)
         requires open { IsOpenFor self.old (length plan.now.plps) }
-        ensures counts { (t : Tally) (p : Packet) (frame_idx : ℕ) (first : Bool) → p.body ≡ Block frame_idx id first bits.now → HoldsCounts plan.now self.old t → HoldsCounts plan.now self.new (tally_with plan.now t p) }
-        ensures lists { (packets : List Packet) (p : Packet) (frame_idx : ℕ) (first : Bool) → p.body ≡ Block frame_idx id first bits.now → HoldsLists plan.now self.old packets → HoldsLists plan.now self.new (packets ++ p ∷ []) }
+        ensures counts { (t : Tally) (p : Packet) (frame_idx : ℕ) (first : Bool) → p.body ≡ Block frame_idx id first bits.now
+            → HoldsCounts plan.now self.old t → HoldsCounts plan.now self.new (tally_with plan.now t p) }
+        ensures lists { (packets : List Packet) (p : Packet) (frame_idx : ℕ) (first : Bool)
+            → p.body ≡ Block frame_idx id first bits.now → HoldsLists plan.now self.old packets
+            → HoldsLists plan.now self.new (packets ++ p ∷ []) }
         ensures open { IsOpenFor self.new (length plan.now.plps) }
         ensures all { self.new.chunks ≡ self.old.chunks }
     {
@@ -157,13 +163,15 @@ impl HeldBlocks {
     /// Adds the block of a packet, if it carries one.
     pub fn add(&mut self, plan: &Plan, packet: &Packet<'_>)
         requires open { IsOpenFor self.old (length plan.now.plps) }
-        ensures counts { (t : Tally) → HoldsCounts plan.now self.old t → HoldsCounts plan.now self.new (tally_with plan.now t packet.now) }
-        ensures lists { (packets : List Packet) → HoldsLists plan.now self.old packets → HoldsLists plan.now self.new (packets ++ packet.now ∷ []) }
+        ensures counts { (t : Tally) → HoldsCounts plan.now self.old t
+            → HoldsCounts plan.now self.new (tally_with plan.now t packet.now) }
+        ensures lists { (packets : List Packet) → HoldsLists plan.now self.old packets
+            → HoldsLists plan.now self.new (packets ++ packet.now ∷ []) }
         ensures open { IsOpenFor self.new (length plan.now.plps) }
         ensures all { self.new.chunks ≡ self.old.chunks }
     {
         match &packet.body {
-            Body::Block { plp, bits, .. } => self.add_block(plan, *plp, bits),
+            Body::Block { plp_id, bits, .. } => self.add_block(plan, *plp_id, bits),
             Body::L1Current { .. } => {}
             Body::Timestamp(_) => {}
             Body::Other { .. } => {}
@@ -235,13 +243,15 @@ impl HeldBlocks {
         requires open { IsOpenFor self.old (length plan.now.plps) }
         requires ready { IsReady writer.old plan.now shape.now self.old.pool.lists }
         ensures most { result ≤ length out.old }
-        ensures bytes { bytes_left writer.old plan.now shape.now self.old.pool.lists ≡ take result out.new ++ bytes_left writer.new plan.now shape.now self.new.pool.lists }
+        ensures bytes { bytes_left writer.old plan.now shape.now self.old.pool.lists
+            ≡ take result out.new ++ bytes_left writer.new plan.now shape.now self.new.pool.lists }
         ensures stays { (length out.new ≡ length out.old) × (drop result out.new ≡ drop result out.old) }
         ensures none { (result ≡ 0) ↔ ((length out.old ≡ 0) ⊎ (is_done writer.old ≡ true)) }
         ensures last { IsLast writer.old → IsLast writer.new × (self.new.pool ≡ self.old.pool) }
         ensures ready { IsReady writer.new plan.now shape.now self.new.pool.lists }
         ensures open { IsOpenFor self.new (length plan.now.plps) }
-        ensures same { (self.new.counts ≡ self.old.counts) × (self.new.need ≡ self.old.need) × (self.new.known ≡ self.old.known) × (self.new.chunks ≡ self.old.chunks) }
+        ensures same { (self.new.counts ≡ self.old.counts) × (self.new.need ≡ self.old.need) × (self.new.known ≡ self.old.known)
+            × (self.new.chunks ≡ self.old.chunks) }
     {
         writer.take(plan, shape, &mut self.pool, out)
     }

@@ -1,7 +1,8 @@
 // The six tests of what is held of a group (ETSI TS 102 773, clause 5).
 ghost use Rattle.std.specs.Prelude.{◌≡◌, ◌<◌, ◌≤◌, ◌^◌, true, IsNone, length};
 ghost use Rattle.std.specs.Option.{option_and_then};
-ghost use Rattle.frame_tests.specs.Tally.{Tally, tally_pool, tally_missing, tally_l1, first_late, tally_time, tally_counts, tally_shape, tally_blocks, tally_map, tally_fault};
+ghost use Rattle.frame_tests.specs.Tally.{Tally, tally_pool, tally_missing, tally_l1, first_late, tally_time, tally_counts};
+ghost use Rattle.frame_tests.specs.Tally.{tally_shape, tally_blocks, tally_map, tally_fault};
 ghost use Rattle.frame_tests.specs.Tests.{begins_superframe, pool_chunks, stamp_agrees, disagrees, has_map};
 ghost use Rattle.open_group.specs.HoldsBlocks.{IsOpenFor, HoldsCounts};
 ghost use Rattle.open_group.specs.HoldsL1.{HoldsL1, shape_told};
@@ -28,16 +29,20 @@ pub fn pool_fault(plan: &Plan, blocks: &HeldBlocks) -> Option<MuteCause>
     ensures cause { (t : Tally) → HoldsCounts plan.now blocks.now t → result ≡ tally_pool plan.now t }
     ensures room { IsNone result → blocks.now.need ≤ blocks.now.chunks }
 {
-    let (spare, need) = blocks.chunks();
-    if need <= spare {
+    let (chunks, need) = blocks.chunks();
+    if need <= chunks {
         return None;
     }
-    Some(MuteCause::PoolFull { need, spare })
+    Some(MuteCause::PoolFull {
+        need,
+        spare: chunks,
+    })
 }
 
 /// b: there is an L1-current, and a timestamp if a superframe begins.
 pub fn missing_fault(plan: &Plan, number: u64, l1: &HeldL1, stamps: HeldStamps) -> Option<MuteCause>
-    ensures { (t : Tally) → HoldsL1 plan.now l1.now t.l1 t.alike → HoldsStamps stamps t → result ≡ tally_missing plan.now number t }
+    ensures { (t : Tally) → HoldsL1 plan.now l1.now t.l1 t.alike → HoldsStamps stamps t
+        → result ≡ tally_missing plan.now number t }
 {
     if l1.is_held() && (!begins_superframe(plan, number) || stamps.first.is_some()) {
         return None;
@@ -107,7 +112,8 @@ pub fn time_fault(plan: &Plan, number: u64, stamps: HeldStamps) -> Option<MuteCa
 fn has_blocks(plan: &Plan, l1: &HeldL1, blocks: &HeldBlocks) -> bool
     requires rows { length l1.now.dynamic.plps ≡ length plan.now.plps }
     requires open { IsOpenFor blocks.now (length plan.now.plps) }
-    ensures { (t : Tally) → HoldsL1 plan.now l1.now t.l1 t.alike → HoldsCounts plan.now blocks.now t → result ≡ tally_counts plan.now t (tally_shape plan.now t) }
+    ensures { (t : Tally) → HoldsL1 plan.now l1.now t.l1 t.alike → HoldsCounts plan.now blocks.now t
+        → result ≡ tally_counts plan.now t (tally_shape plan.now t) }
 {
     match l1.shape() {
         Some(shape) => blocks.has_counts(plan, shape),
@@ -119,7 +125,8 @@ fn has_blocks(plan: &Plan, l1: &HeldL1, blocks: &HeldBlocks) -> bool
 pub fn blocks_fault(plan: &Plan, l1: &HeldL1, blocks: &HeldBlocks) -> Option<MuteCause>
     requires rows { length l1.now.dynamic.plps ≡ length plan.now.plps }
     requires open { IsOpenFor blocks.now (length plan.now.plps) }
-    ensures { (t : Tally) → HoldsL1 plan.now l1.now t.l1 t.alike → HoldsCounts plan.now blocks.now t → result ≡ tally_blocks plan.now t }
+    ensures { (t : Tally) → HoldsL1 plan.now l1.now t.l1 t.alike → HoldsCounts plan.now blocks.now t
+        → result ≡ tally_blocks plan.now t }
 {
     if has_blocks(plan, l1, blocks) && blocks.is_known() {
         return None;
@@ -139,7 +146,7 @@ fn has_map(plan: &Plan, l1: &HeldL1) -> bool
     }
 }
 
-/// f: their cells stand apart, in the frame.
+/// f: the cells that the first L1-current asks for stand apart, in the frame.
 pub fn map_fault(plan: &Plan, l1: &HeldL1) -> Option<MuteCause>
     requires rows { length l1.now.dynamic.plps ≡ length plan.now.plps }
     ensures cause { (t : Tally) → HoldsL1 plan.now l1.now t.l1 t.alike → result ≡ tally_map plan.now t }
@@ -164,7 +171,8 @@ pub fn first_fault(
     requires chunks { blocks.now.chunks ≡ pool_chunks plan.now }
     requires rows { length l1.now.dynamic.plps ≡ length plan.now.plps }
     requires open { IsOpenFor blocks.now (length plan.now.plps) }
-    ensures cause { (t : Tally) → HoldsStamps stamps t → HoldsL1 plan.now l1.now t.l1 t.alike → HoldsCounts plan.now blocks.now t → result ≡ tally_fault plan.now number t }
+    ensures cause { (t : Tally) → HoldsStamps stamps t → HoldsL1 plan.now l1.now t.l1 t.alike → HoldsCounts plan.now blocks.now t
+        → result ≡ tally_fault plan.now number t }
     ensures room { IsNone result → blocks.now.need ≤ blocks.now.chunks }
     ensures map { IsNone result → has_map plan.now (shape_told l1.now) ≡ true }
 {

@@ -1,5 +1,6 @@
 // The record that is given: of the group's frame, or of a muted one.
-ghost use Rattle.std.specs.Prelude.{◌≡◌, ◌<◌, ◌≤◌, ◌⊎◌, ◌↔◌, ◌++◌, ◌^◌, [], true, false, is_some, Option, Some, None, length, take, drop, ℕ};
+ghost use Rattle.std.specs.Prelude.{◌≡◌, ◌<◌, ◌≤◌, ◌⊎◌, ◌↔◌, ◌++◌, ◌^◌, [], true, false, is_some, Option, Some, None, length};
+ghost use Rattle.std.specs.Prelude.{take, drop, ℕ};
 ghost use Rattle.plp_config.specs.Emission.{emission};
 ghost use Rattle.site_frame.specs.Whole.{record_bytes};
 ghost use Rattle.frame_groups.specs.Groups.{Group};
@@ -22,7 +23,8 @@ impl<'p> PooledGroup<'p> {
     fn begin_frame(&mut self, moment: &Moment)
         requires intact { self.old.intact ≡ true }
         requires frame { is_frame self.old ≡ true }
-        ensures left { (h : Group) (n : ℕ) → moment.now ≡ emission self.old.network n → Holds self.old (Some h) → group_fault self.old.network h n ≡ None
+        ensures left { (h : Group) (n : ℕ) → moment.now ≡ emission self.old.network n → Holds self.old (Some h)
+            → group_fault self.old.network h n ≡ None
             → bytes_left self.new ≡ record_bytes (packets_view self.old.network n h.packets) }
         ensures some { 0 < length (bytes_left self.new) }
         ensures most { length (bytes_left self.new) ≤ most_left self.old.network }
@@ -45,7 +47,8 @@ impl<'p> PooledGroup<'p> {
     pub fn begin_record(&mut self, waiting: Waiting)
         requires small { waiting.frame < 2 ^ 32 }
         requires frame { waiting.mute ≡ None → (self.old.intact ≡ true) × (is_frame self.old ≡ true) }
-        ensures left { (h : Group) → Holds self.old (Some h) → (waiting.mute ≡ None → group_fault self.old.network h waiting.frame ≡ None)
+        ensures left { (h : Group) → Holds self.old (Some h)
+            → (waiting.mute ≡ None → group_fault self.old.network h waiting.frame ≡ None)
             → bytes_left self.new ≡ spelled self.old.network (record_of h waiting) }
         ensures some { 0 < length (bytes_left self.new) }
         ensures most { length (bytes_left self.new) ≤ most_left self.old.network }

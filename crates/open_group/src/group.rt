@@ -21,8 +21,8 @@ use scheduler::Shape;
 use std::alloc::Global;
 use t2mi_packet::Packet;
 
-/// The group under way: its key, and what its packets come to; and the record that is given of it, or of a muted frame. All its memory
-/// is taken in `open`. If its blocks need more chunks than the pool has, no more of them are kept, and only counted.
+/// The group under way: its key, and what its packets come to; and the record that is given of it, or of a muted frame. All its
+/// memory is taken in `open`. If its blocks need more chunks than the pool has, no more of them are kept, and only counted.
 #[derive(Drop)]
 pub struct PooledGroup<'p> {
     pub(crate) network: Network<'p>,
@@ -43,7 +43,8 @@ pub struct PooledGroup<'p> {
 }
 
 impl<'p> PooledGroup<'p> {
-    ghost use Rattle.std.specs.Prelude.{◌≡◌, ◌≢◌, ◌↔◌, ◌<◌, ◌^◌, ◌++◌, ◌∷◌, [], ℕ, List, Option, Some, None, true, IfOk, IfSome, IsNone, is_some, length, map, drop, slice_get, slice_index_or};
+    ghost use Rattle.std.specs.Prelude.{◌≡◌, ◌≢◌, ◌↔◌, ◌<◌, ◌^◌, ◌++◌, ◌∷◌, [], ℕ, List, Option, Some, None, true, IfOk, IfSome};
+    ghost use Rattle.std.specs.Prelude.{IsNone, is_some, length, map, drop, slice_get, slice_index_or};
     ghost use Rattle.std.specs.Option.{option_copied};
     ghost use Rattle.t2mi_packet.specs.T2miPacket.{Fits};
     ghost use Rattle.t2mi_packet.specs.declared.packet.Packet.{Packet};
@@ -90,7 +91,8 @@ impl<'p> PooledGroup<'p> {
     fn hold(&mut self, packet: &Packet<'_>)
         requires fits { Fits packet.now }
         requires intact { self.old.intact ≡ true }
-        ensures holds { (packets : List Packet) → HoldsPackets self.old packets → HoldsPackets self.new (packets ++ packet.now ∷ []) }
+        ensures holds { (packets : List Packet) → HoldsPackets self.old packets
+            → HoldsPackets self.new (packets ++ packet.now ∷ []) }
         ensures key { self.new.key ≡ self.old.key }
         ensures network { self.new.network ≡ self.old.network }
         ensures intact { self.new.intact ≡ self.old.intact }

@@ -34,7 +34,8 @@ pub struct HeldL1 {
 }
 
 impl HeldL1 {
-    ghost use Rattle.std.specs.Prelude.{◌≡◌, ◌&&◌, ◌+◌, ◌≤◌, ◌∷◌, [], true, false, Bool, Option, Some, None, length, IfOk, IfSome, if◌then◌else◌};
+    ghost use Rattle.std.specs.Prelude.{◌≡◌, ◌&&◌, ◌+◌, ◌≤◌, ◌∷◌, [], true, false, Bool, Option, Some, None, length, IfOk};
+    ghost use Rattle.std.specs.Prelude.{IfSome, if◌then◌else◌};
     ghost use Rattle.std.specs.Option.{option_and_then, option_copied, option_map_or};
     ghost use Rattle.plp_config.specs.declared.config.Config.{Config};
     ghost use Rattle.frame_tests.specs.Carried.{L1Parts};
@@ -95,7 +96,12 @@ impl HeldL1 {
     )
         requires room { length pre.now + length conf.now + length dynamic.now + length extension.now ≤ MOST_BITS }
         requires rows { length self.old.dynamic.plps ≡ length network.now.plps }
-        ensures parts { parts_of self.new.parts ≡ record { pre = pre.now; conf = conf.now; dynamic = dynamic.now; extension = extension.now } }
+        ensures parts { parts_of self.new.parts ≡ record {
+          pre = pre.now;
+          conf = conf.now;
+          dynamic = dynamic.now;
+          extension = extension.now;
+        } }
         ensures held { self.new.is_held ≡ true }
         ensures alike { self.new.alike ≡ self.old.alike }
         ensures reads { HasRead network.now self.new }
@@ -122,7 +128,12 @@ impl HeldL1 {
     )
         requires room { length pre.now + length conf.now + length dynamic.now + length extension.now ≤ MOST_BITS }
         requires rows { length self.old.dynamic.plps ≡ length network.now.plps }
-        ensures adds { AddsL1 network.now self.old self.new (record { pre = pre.now; conf = conf.now; dynamic = dynamic.now; extension = extension.now } ∷ []) }
+        ensures adds { AddsL1 network.now self.old self.new (record {
+          pre = pre.now;
+          conf = conf.now;
+          dynamic = dynamic.now;
+          extension = extension.now;
+        } ∷ []) }
         ensures rows { length self.new.dynamic.plps ≡ length self.old.dynamic.plps }
     {
         if !self.is_held {
@@ -162,7 +173,7 @@ impl HeldL1 {
         self.is_held
     }
 
-    /// The first one.
+    /// The parts of the first L1-current.
     pub fn parts(&self) -> &HeldParts
         ensures { result.now ≡ self.now.parts }
     {
@@ -172,7 +183,8 @@ impl HeldL1 {
     // Whether the dynamic part of the first one is of a frame.
     fn is_dynamic(&self, plan: &Plan, number: u64) -> bool
         requires rows { length self.now.dynamic.plps ≡ length plan.now.plps }
-        ensures { HasRead plan.now self.now → result ≡ dyn_agrees plan.now number (read_dynamic plan.now (parts_of self.now.parts)) }
+        ensures { HasRead plan.now self.now → result ≡ dyn_agrees plan.now number
+            (read_dynamic plan.now (parts_of self.now.parts)) }
     {
         self.told && is_of_frame(plan, number, &self.dynamic)
     }
@@ -189,7 +201,8 @@ impl HeldL1 {
     /// Whether all are the same, and those of the configuration and of a frame.
     pub fn agrees(&self, plan: &Plan, number: u64) -> bool
         requires rows { length self.now.dynamic.plps ≡ length plan.now.plps }
-        ensures { (first : Option L1Parts) (alike : Bool) → HoldsL1 plan.now self.now first alike → result ≡ (alike && option_map_or (parts_agree plan.now number) first true) }
+        ensures { (first : Option L1Parts) (alike : Bool) → HoldsL1 plan.now self.now first alike
+            → result ≡ (alike && option_map_or (parts_agree plan.now number) first true) }
     {
         if !self.is_held {
             return self.alike;
@@ -200,7 +213,8 @@ impl HeldL1 {
     /// The shape that the first one tells, if it reads.
     pub fn shape(&self) -> Option<&Shape>
         ensures value { option_copied result ≡ shape_told self.now }
-        ensures shape { (c : Config) (first : Option L1Parts) (alike : Bool) → HoldsL1 c self.now first alike → option_copied result ≡ option_and_then (l1_shape c) first }
+        ensures shape { (c : Config) (first : Option L1Parts) (alike : Bool) → HoldsL1 c self.now first alike
+            → option_copied result ≡ option_and_then (l1_shape c) first }
         ensures len { IfSome result (λ shape. length shape.now.counts ≡ length self.now.dynamic.plps) }
     {
         if self.is_held && self.told {
@@ -222,10 +236,14 @@ impl HeldL1 {
         requires map { has_map plan.now (shape_told self.now) ≡ true }
         requires rows { length self.now.dynamic.plps ≡ length plan.now.plps }
         ensures left { (lists : List (List (List ℕ))) → bytes_left writer.new plan.now self.now.shape lists
-            ≡ front_bytes plan.now moment.now (parts_of self.now.parts).dynamic (sum self.now.shape.counts) (rest_size plan.now (post_size plan.now (length (parts_of self.now.parts).dynamic)) (slice_index self.now.shape.counts))
+            ≡ front_bytes plan.now moment.now (parts_of self.now.parts).dynamic (sum self.now.shape.counts)
+            (rest_size plan.now (post_size plan.now (length (parts_of self.now.parts).dynamic))
+            (slice_index self.now.shape.counts))
             ++ step_bytes plan.now self.now.shape lists (Blocks 0) }
-        ensures most { (lists : List (List (List ℕ))) → length (bytes_left writer.new plan.now self.now.shape lists) ≤ most_record plan.now (used_chunks lists) }
-        ensures ready { (lists : List (List (List ℕ))) → HasLists plan.now lists → IsReady writer.new plan.now self.now.shape lists }
+        ensures most { (lists : List (List (List ℕ)))
+            → length (bytes_left writer.new plan.now self.now.shape lists) ≤ most_record plan.now (used_chunks lists) }
+        ensures ready { (lists : List (List (List ℕ))) → HasLists plan.now lists
+            → IsReady writer.new plan.now self.now.shape lists }
         ensures done { is_done writer.new ≡ false }
     {
         map_test_law();

@@ -40,7 +40,8 @@ fn has_key(plan: &Plan, number: u64, key: Key) -> bool
 
 /// The frame that the first timestamp of a group with a key names.
 pub fn named(plan: &Plan, key: Key, stamps: HeldStamps) -> Option<u64>
-    ensures value { (g : Group) → g.key ≡ key → stamps.first ≡ slice_get (stamps_of g.packets) 0 → result ≡ named_frame plan.now g }
+    ensures value { (g : Group) → g.key ≡ key → stamps.first ≡ slice_get (stamps_of g.packets) 0
+        → result ≡ named_frame plan.now g }
     ensures small { IfSome result (λ n. n < MOST_FRAMES) }
 {
     named_law();

@@ -7,14 +7,14 @@ ghost use Rattle.open_group.specs.declared.parts.TheConstants.{MOST_BITS};
 use bit_slice::{BitSink, BitSlice, FixedBits, same_bits};
 
 // What a payload has at most: payload_len has 16 bits (TS 102 773, clause 5.1).
-const MOST_BYTES: usize = 8_192;
+const LONGEST_PAYLOAD: usize = 8_192;
 
-const MOST_BITS: usize = 8 * MOST_BYTES;
+const MOST_BITS: usize = 8 * LONGEST_PAYLOAD;
 
 /// The parts of an L1-current, one behind another.
 #[derive(Drop)]
 pub struct HeldParts {
-    bits: FixedBits<MOST_BYTES>,
+    bits: FixedBits<LONGEST_PAYLOAD>,
     // How many bits the first three parts have.
     pre: usize,
     conf: usize,
@@ -24,7 +24,7 @@ pub struct HeldParts {
 }
 
 // Puts bits for which there is room.
-fn put(sink: &mut FixedBits<MOST_BYTES>, bits: &BitSlice<'_>)
+fn put(sink: &mut FixedBits<LONGEST_PAYLOAD>, bits: &BitSlice<'_>)
     requires { length sink.old + length bits.now ≤ MOST_BITS }
     ensures { sink.new ≡ sink.old ++ bits.now }
 {
@@ -63,7 +63,12 @@ impl HeldParts {
         extension: &BitSlice<'_>,
     )
         requires { length pre.now + length conf.now + length dynamic.now + length extension.now ≤ MOST_BITS }
-        ensures parts { parts_of self.new ≡ record { pre = pre.now; conf = conf.now; dynamic = dynamic.now; extension = extension.now } }
+        ensures parts { parts_of self.new ≡ record {
+          pre = pre.now;
+          conf = conf.now;
+          dynamic = dynamic.now;
+          extension = extension.now;
+        } }
         ensures dynamic { self.new.dynamic ≡ length dynamic.now }
     {
         self.bits.clear();
@@ -115,7 +120,12 @@ impl HeldParts {
         dynamic: &BitSlice<'_>,
         extension: &BitSlice<'_>,
     ) -> bool
-        ensures { result ≡ same_parts (parts_of self.now) (record { pre = pre.now; conf = conf.now; dynamic = dynamic.now; extension = extension.now }) }
+        ensures { result ≡ same_parts (parts_of self.now) (record {
+          pre = pre.now;
+          conf = conf.now;
+          dynamic = dynamic.now;
+          extension = extension.now;
+        }) }
     {
         is_same(&self.pre(), pre)
             && is_same(&self.conf(), conf)

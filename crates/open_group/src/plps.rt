@@ -1,4 +1,4 @@
-// The PLPs of a plan.
+// Chunks of memory: those of a block of each PLP, and those of a group's pool.
 ghost use Rattle.std.specs.Prelude.{◌≡◌, ◌<◌, ◌≤◌, length};
 ghost use Rattle.linked_pool.specs.Pool.{chunks_for};
 ghost use Rattle.plp_config.specs.Capacity.{block_bytes};

@@ -7,7 +7,7 @@ use t2mi_packet::{Body, Packet, Stamp};
 /// What is held of timestamps.
 #[derive(Clone, Copy, Debug, PartialEq, Eq)]
 pub struct HeldStamps {
-    /// The first one.
+    /// The first timestamp that came.
     pub first: Option<Stamp>,
     /// The first one that tells another bandwidth or moment.
     pub unlike: Option<Stamp>,

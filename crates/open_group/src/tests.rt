@@ -52,10 +52,10 @@ fn flipped<const N: usize>(bytes: &[u8; N], place: usize) -> [u8; N] {
 }
 
 fn packet(body: Body<'_>) -> Packet<'_>
-    ensures { result ≡ record { count = 0; superframe = 0; stream = 0; body = body.entry } }
+    ensures { result ≡ record { packet_count = 0; superframe = 0; stream = 0; body = body.entry } }
 {
     Packet {
-        count: 0,
+        packet_count: 0,
         superframe: 0,
         stream: 0,
         body,
@@ -94,7 +94,7 @@ fn add_blocks(group: &mut PooledGroup<'_>, plp: u8, count: usize)
     for _ in 0..count {
         group.add(&packet(Body::Block {
             frame_idx: 0,
-            plp,
+            plp_id: plp,
             first: false,
             bits: BitSlice::whole(&BLOCK),
         }));
@@ -224,7 +224,7 @@ fn blocks_are_scrambled(rt: HostRuntime) -> Result<(), Fail> {
         &plan,
         &packet(Body::Block {
             frame_idx: 0,
-            plp: 0,
+            plp_id: 0,
             first: true,
             bits: BitSlice::whole(&BLOCK),
         }),

@@ -8,7 +8,7 @@ use Rattle.plp_config.specs.SlotTime.{slot_start}
 use Rattle.packet_slots.specs.declared.rule.SlotRule.{SlotRule}
 use Rattle.packet_slots.specs.declared.assembler.Found.{Found}
 use Rattle.packet_slots.specs.Sound.{IsSound}
-use Rattle.packet_slots.specs.Strings.{Item, values}
+use Rattle.packet_slots.specs.Strings.{Item, item_values}
 use Rattle.packet_slots.specs.Packets.{packet_of}
 use Rattle.packet_slots.specs.Packets.{UserPacket, user_packets}
 use Rattle.packet_slots.specs.Assembles.{Gains, IsFound}
@@ -46,7 +46,7 @@ module _ (r : SlotRule) (sound : IsSound r) (z piece : List Item) (frame first e
     pub gain_not : counts_by r delay found.slot found.frame frame ≡ false → Shows r (z ++ piece) first end slots
     gain_not e = not_counted r z (z ++ piece) up gains first end slots (sym same ∙ e) shows
 
-    packet_is : packet_of held ≡ packet_of (values up.items)
+    packet_is : packet_of held ≡ packet_of (item_values up.items)
     packet_is =
         let u = sound.up in
         ap (λ (l : List ℕ). SYNC ∷ l) (sym (take-take (SIZE - 1) r.up_len held (omega (arith, u)))

@@ -11,7 +11,7 @@ use Rattle.packet_slots.specs.declared.mark.Mark.TheVariants.{Gap, Inside, Next,
 use Rattle.packet_slots.specs.declared.assembler.Base.{Base}
 use Rattle.packet_slots.specs.declared.assembler.Found.{Found}
 use Rattle.packet_slots.specs.Sound.{IsSound}
-use Rattle.packet_slots.specs.Strings.{Item, values, is_start, is_inside}
+use Rattle.packet_slots.specs.Strings.{Item, item_values, is_start, is_inside}
 use Rattle.packet_slots.specs.Packets.{UserPacket, is_one, all_inside, last_item, last_of, no_item, first_item, dnp_of, slot_by}
 use Rattle.packet_slots.specs.Packets.{slot_of, with_slot, user_packets}
 use Rattle.packet_slots.specs.Machine.{State, Turn, state_of, turn_of, before_next, ended, given, Follows}
@@ -25,7 +25,7 @@ use Rattle.packet_slots.proofs.PieceLemmas.{piece_runs, lt_cond, ge_cond}
 
 -- Lists of items.
 
-pub piece_values : (m : Mark) (frame : ℕ) (vs : List ℕ) → values (piece_items m frame vs) ≡ vs
+pub piece_values : (m : Mark) (frame : ℕ) (vs : List ℕ) → item_values (piece_items m frame vs) ≡ vs
 piece_values m frame [] = refl
 piece_values m frame (v ∷ []) = refl
 piece_values m frame (v ∷ u ∷ us) = ap (λ (l : List ℕ). v ∷ l) (piece_values Inside frame (u ∷ us))
@@ -71,12 +71,12 @@ last_append d [] [] e l = absurd (omega arith)
 last_append d [] (y ∷ ys) e l = refl
 last_append d (x ∷ xs) ys e l = last_append x xs ys e l
 
-last_value : (d : Item) (xs : List Item) → 1 ≤ length xs → get_or (values xs) (length xs - 1) 0 ≡ (last_of d xs).value
+last_value : (d : Item) (xs : List Item) → 1 ≤ length xs → get_or (item_values xs) (length xs - 1) 0 ≡ (last_of d xs).value
 last_value d [] l = absurd (omega arith)
 last_value d (x ∷ []) l = refl
 last_value d (x ∷ y ∷ ys) l =
     let e : length (x ∷ y ∷ ys) - 1 ≡ suc (length (y ∷ ys) - 1) = omega arith in
-    ap (λ (n : ℕ). get_or (values (x ∷ y ∷ ys)) n 0) e ∙ last_value x (y ∷ ys) (omega arith)
+    ap (λ (n : ℕ). get_or (item_values (x ∷ y ∷ ys)) n 0) e ∙ last_value x (y ∷ ys) (omega arith)
 
 -- Slots.
 
@@ -93,7 +93,7 @@ pub record Joined (r : SlotRule) (s : State) (len : ℕ) (held : List ℕ) (kept
     (w : List Item) (before : Option ℕ) : Type 0 where
   pub turn : piece_turn r s mark (piece_items mark frame bytes) ≡ piece_grown r w before
   pub size : length w ≡ next_len len mark + length bytes
-  pub values_are : values w ≡ take (next_len len mark) held ++ bytes
+  pub values_are : item_values w ≡ take (next_len len mark) held ++ bytes
   pub base : IsBase r w before (next_base r len kept mark frame)
   pub one : is_one w ≡ true
   pub last : IsLast frame (last_item w)
@@ -297,7 +297,7 @@ module _ (r : SlotRule) (sound : IsSound r) (z : List Item) (frame v : ℕ) (vs 
 
     -- as many bytes as a user packet has
     module _ (l : total ≡ r.up_len) (new_held : List ℕ) (e : take total new_held ≡ take (next_len len mark) held ++ v ∷ vs) where
-      whole : take r.up_len new_held ≡ values j.w
+      whole : take r.up_len new_held ≡ item_values j.w
       whole = ap (λ (n : ℕ). take n new_held) (sym l) ∙ e ∙ sym j.joined.values_are
 
       dnp_is : kept_dnp r new_held ≡ dnp_of r j.w
@@ -307,7 +307,7 @@ module _ (r : SlotRule) (sound : IsSound r) (z : List Item) (frame v : ℕ) (vs 
           ap (λ (d : ℕ). if r.deletes then d else 0)
           (sym (get_or-take r.up_len new_held (r.up_len - 1) 0 (omega (arith, u)))
           ∙ ap (λ (bytes : List ℕ). get_or bytes (r.up_len - 1) 0) whole
-          ∙ ap (λ (k : ℕ). get_or (values j.w) (k - 1) 0) (sym n)
+          ∙ ap (λ (k : ℕ). get_or (item_values j.w) (k - 1) 0) (sym n)
           ∙ last_value no_item j.w (omega (arith, n, u)))
 
       parts : (next.frame ≡ (first_item j.w).frame)

@@ -13,7 +13,7 @@ use Rattle.plp_config.specs.SlotTime.{slot_start, slot_count}
 use Rattle.plp_config.specs.Laws.{CountRises, ReleasedFirst}
 use Rattle.packet_slots.specs.declared.rule.SlotRule.{SlotRule}
 use Rattle.packet_slots.specs.Sound.{IsSound}
-use Rattle.packet_slots.specs.Strings.{Item, Block, gap, items_from, block_items, values}
+use Rattle.packet_slots.specs.Strings.{Item, Block, gap, items_from, block_items, item_values}
 use Rattle.packet_slots.specs.Packets.{packet_of}
 use Rattle.packet_slots.specs.Packets.{UserPacket, user_packets, first_item, last_item}
 use Rattle.packet_slots.specs.Readback.{counts, counted, found_for, slot_packet}
@@ -173,7 +173,7 @@ module _ (r : SlotRule) (sound : IsSound r) where
       let same : map (slot_packet r (z ++ y)) (range_with_len s n) ≡ map (slot_packet r z) (range_with_len s n) =
       map_same (slot_packet r (z ++ y)) (slot_packet r z) n s
       (λ k a b.
-      ap (λ (o : Option UserPacket). unwrap_or (option_map (λ (up : UserPacket). packet_of (values up.items)) o) null_packet)
+      ap (λ (o : Option UserPacket). unwrap_or (option_map (λ (up : UserPacket). packet_of (item_values up.items)) o) null_packet)
       (final law z y (first + length records) k (since_string r.up_len (first + length records) (first + length records) more
       (omega arith)) (omega arith))) in
       record {

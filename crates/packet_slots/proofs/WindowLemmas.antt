@@ -13,7 +13,7 @@ use Rattle.plp_config.specs.SlotTime.{slot_start, slot_count}
 use Rattle.plp_config.specs.Laws.{CountRises}
 use Rattle.packet_slots.specs.declared.rule.SlotRule.{SlotRule}
 use Rattle.packet_slots.specs.Sound.{IsSound}
-use Rattle.packet_slots.specs.Strings.{Item, values}
+use Rattle.packet_slots.specs.Strings.{Item, item_values}
 use Rattle.packet_slots.specs.Base.{far}
 use Rattle.packet_slots.specs.Packets.{UserPacket, user_packets, packet_of}
 use Rattle.packet_slots.specs.Readback.{counts_by, counts, counted, found_for, slot_option}
@@ -23,7 +23,7 @@ use Rattle.packet_slots.proofs.ListLemmas.{range_append, map_same, map_none, fil
 use Rattle.packet_slots.proofs.ReadbackLemmas.{none_yet}
 
 abbrev packet_of_up : UserPacket → List ℕ
-packet_of_up up = packet_of (values up.items)
+packet_of_up up = packet_of (item_values up.items)
 
 -- The slots of a frame come into range.
 pub entered : (r : SlotRule) → IsSound r → CountRises

@@ -9,7 +9,7 @@ use Rattle.packet_slots.specs.declared.assembler.Base.{Base}
 use Rattle.packet_slots.specs.declared.assembler.Found.{Found}
 use Rattle.packet_slots.specs.declared.mark.Mark.{Mark}
 use Rattle.packet_slots.specs.declared.mark.Mark.TheVariants.{Gap, Inside, Next, Timed}
-use Rattle.packet_slots.specs.Strings.{Item, values}
+use Rattle.packet_slots.specs.Strings.{Item, item_values}
 use Rattle.packet_slots.specs.Packets.{slot_of_iscr, UserPacket, user_packets, first_item, last_item}
 use Rattle.packet_slots.specs.Machine.{State, Follows}
 use Rattle.packet_slots.specs.Base.{Holds, slot_with, far}
@@ -60,7 +60,7 @@ pub record IsFound (r : SlotRule) (frame : ℕ) (held : List ℕ) (found : Found
   pub slot : found.slot ≡ min up.slot far
   pub begun : found.frame ≡ (first_item up.items).frame
   pub ended : (last_item up.items).frame ≡ frame
-  pub bytes : take r.up_len held ≡ values up.items
+  pub bytes : take r.up_len held ≡ item_values up.items
 
 abbrev pub Gives : SlotRule → ℕ → List ℕ → Option Found → List UserPacket → Type 0
 Gives r frame held None given = given ≡ []

@@ -5,7 +5,7 @@ use Rattle.packet_slots.specs.declared.mark.Mark.{Mark}
 use Rattle.packet_slots.specs.declared.mark.Mark.TheVariants.{Gap, Inside, Next, Timed}
 use Rattle.packet_slots.specs.declared.rule.SlotRule.{SlotRule}
 use Rattle.packet_slots.specs.declared.assembler.Base.{Base}
-use Rattle.packet_slots.specs.Strings.{Item, values}
+use Rattle.packet_slots.specs.Strings.{Item, item_values}
 use Rattle.packet_slots.specs.Packets.{slot_by}
 use Rattle.packet_slots.specs.Machine.{State}
 
@@ -26,7 +26,7 @@ IsBase r (x ∷ xs) before base = (base.frame ≡ x.frame)
     × ((dnp : ℕ) → slot_with base dnp ≡ capped (slot_by r x.mark x.frame dnp before))
 
 pub record Holds (r : SlotRule) (s : State) (len : ℕ) (held : List ℕ) (kept : Base) : Type 0 where
-  pub bytes : take len held ≡ values s.held
+  pub bytes : take len held ≡ item_values s.held
   pub count : len ≡ length s.held
   pub base : IsBase r s.held s.before kept
 

@@ -6,7 +6,7 @@ use Rattle.plp_config.specs.SlotTime.{slot_start}
 use Rattle.packet_slots.specs.declared.rule.SlotRule.{SlotRule}
 use Rattle.packet_slots.specs.Packets.{packet_of}
 use Rattle.packet_slots.specs.Times.{delay_of, over_after}
-use Rattle.packet_slots.specs.Strings.{Item, values}
+use Rattle.packet_slots.specs.Strings.{Item, item_values}
 use Rattle.packet_slots.specs.Packets.{UserPacket, user_packets, first_item, last_item}
 
 -- A slot is in the range of the frame in which its user packet begins, and is not given out when the frame begins in which it
@@ -28,7 +28,7 @@ abbrev pub found_for : SlotRule → List Item → ℕ → Option UserPacket
 found_for r z k = find (λ up. up.slot == k) (counted r z)
 
 abbrev pub slot_option : SlotRule → List Item → ℕ → Option (List ℕ)
-slot_option r z k = option_map (λ up. packet_of (values up.items)) (found_for r z k)
+slot_option r z k = option_map (λ up. packet_of (item_values up.items)) (found_for r z k)
 
 abbrev pub slot_packet : SlotRule → List Item → ℕ → List ℕ
 slot_packet r z k = unwrap_or (slot_option r z k) null_packet

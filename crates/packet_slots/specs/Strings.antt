@@ -69,5 +69,5 @@ block_items len frame b = items_from len frame b 0 b.field
 abbrev pub gap : ℕ → Item
 gap frame = record { mark = Gap; value = 0; frame = frame; can_end = false }
 
-abbrev pub values : List Item → List ℕ
-values xs = map (λ x. x.value) xs
+abbrev pub item_values : List Item → List ℕ
+item_values xs = map (λ x. x.value) xs

@@ -95,7 +95,8 @@ fn is_idle(len: usize, mark: Mark) -> bool
 }
 
 impl Assembler {
-    ghost use Rattle.std.specs.Prelude.{◌≡◌, ◌^◌, ◌-◌, ◌<◌, ◌≤◌, ◌++◌, ◌∷◌, [], length, slice_index, ℕ, List, Some, IfSome, if◌then◌else◌};
+    ghost use Rattle.std.specs.Prelude.{◌≡◌, ◌^◌, ◌-◌, ◌<◌, ◌≤◌, ◌++◌, ◌∷◌, [], length, slice_index, ℕ, List, Some, IfSome};
+    ghost use Rattle.std.specs.Prelude.{if◌then◌else◌};
     ghost use Rattle.packet_slots.specs.declared.rule.SlotRule.{SlotRule};
     ghost use Rattle.packet_slots.specs.Strings.{Item, gap};
     ghost use Rattle.packet_slots.specs.Packets.{user_packets};
@@ -132,8 +133,10 @@ impl Assembler {
     /// A block is not taken, or a frame is muted.
     pub fn gap(&mut self)
         ensures rule { self.new.rule ≡ self.old.rule }
-        ensures stands { (r : SlotRule) (z : List Item) (frame : ℕ) → AssemblerStandsFor self.old r z → AssemblerStandsFor self.new r (z ++ gap frame ∷ []) }
-        ensures none { (r : SlotRule) (z : List Item) (frame : ℕ) → AssemblerStandsFor self.old r z → user_packets r (z ++ gap frame ∷ []) ≡ user_packets r z }
+        ensures stands { (r : SlotRule) (z : List Item) (frame : ℕ) → AssemblerStandsFor self.old r z
+            → AssemblerStandsFor self.new r (z ++ gap frame ∷ []) }
+        ensures none { (r : SlotRule) (z : List Item) (frame : ℕ) → AssemblerStandsFor self.old r z
+            → user_packets r (z ++ gap frame ∷ []) ≡ user_packets r z }
     {
         self.clear();
     }
@@ -211,15 +214,17 @@ impl Assembler {
         }
     }
 
-    /// Takes a piece of a data field of a frame: a user packet begins at its first byte at most, and one can end where it ends. It
-    /// answers the user packet that ends there, if it is complete and has a slot.
+    /// Takes a piece of a data field of a frame: a user packet begins at its first byte at most, and one can end where it ends.
+    /// It answers the user packet that ends there, if it is complete and has a slot.
     pub fn piece(&mut self, mark: Mark, frame: u64, bytes: &[u8]) -> Option<Found>
         requires frame { IsFrame frame mark }
         requires some { 1 ≤ length bytes.now }
         ensures rule { self.new.rule ≡ self.old.rule }
         ensures recent { IfSome result (λ f. f.frame < MOST_FRAMES) }
-        ensures stands { (r : SlotRule) (z : List Item) → AssemblerStandsFor self.old r z → AssemblerStandsFor self.new r (z ++ piece_items mark frame bytes.now) }
-        ensures answer { (r : SlotRule) (z : List Item) → AssemblerStandsFor self.old r z → Gains r z frame (piece_items mark frame bytes.now) self.new.held result }
+        ensures stands { (r : SlotRule) (z : List Item) → AssemblerStandsFor self.old r z
+            → AssemblerStandsFor self.new r (z ++ piece_items mark frame bytes.now) }
+        ensures answer { (r : SlotRule) (z : List Item) → AssemblerStandsFor self.old r z
+            → Gains r z frame (piece_items mark frame bytes.now) self.new.held result }
     {
         let base = self.base_of(mark, frame);
         let from = from_of(self.len, mark);

@@ -1,5 +1,6 @@
 // Taking the blocks of a frame.
-ghost use Rattle.std.specs.Prelude.{◌≡◌, ◌^◌, ◌+◌, ◌-◌, ◌%◌, ◌<◌, ◌≤◌, ◌++◌, ◌==◌, ◌∷◌, [], length, take, drop, min, List, ℕ, IfSome, Some, Option, if◌then◌else◌};
+ghost use Rattle.std.specs.Prelude.{◌≡◌, ◌^◌, ◌+◌, ◌-◌, ◌%◌, ◌<◌, ◌≤◌, ◌++◌, ◌==◌, ◌∷◌, [], length, take, drop, min, List, ℕ};
+ghost use Rattle.std.specs.Prelude.{IfSome, Some, Option, if◌then◌else◌};
 ghost use Rattle.packet_slots.specs.declared.rule.SlotRule.{SlotRule};
 ghost use Rattle.plp_config.specs.declared.moment.TheConstants.{MOST_FRAMES};
 ghost use Rattle.packet_slots.specs.Strings.{Item, gap, items_from, first_mark, block_items};
@@ -36,7 +37,8 @@ fn take_piece(
     requires some { 1 ≤ length bytes.now }
     ensures times { KeepsTimes window.old window.new }
     ensures rule { assembler.new.rule ≡ assembler.old.rule }
-    ensures both { (r : SlotRule) (z : List Item) → Both r z assembler.old window.old → Both r (z ++ piece_items mark frame bytes.now) assembler.new window.new }
+    ensures both { (r : SlotRule) (z : List Item) → Both r z assembler.old window.old
+        → Both r (z ++ piece_items mark frame bytes.now) assembler.new window.new }
 {
     let Some(found) = assembler.piece(mark, frame, bytes) else {
         return;
@@ -49,7 +51,8 @@ fn take_piece(
 /// A block is not taken, or a frame is muted.
 pub fn take_gap(assembler: &mut Assembler, window: &SlotWindow)
     ensures rule { assembler.new.rule ≡ assembler.old.rule }
-    ensures both { (r : SlotRule) (z : List Item) (frame : ℕ) → Both r z assembler.old window.now → Both r (z ++ gap frame ∷ []) assembler.new window.now }
+    ensures both { (r : SlotRule) (z : List Item) (frame : ℕ) → Both r z assembler.old window.now
+        → Both r (z ++ gap frame ∷ []) assembler.new window.now }
 {
     let _ = window;
     assembler.gap();
@@ -93,7 +96,8 @@ fn take_up(
     ensures next { result ≡ min (at + assembler.old.rule.up_len) (length block.now.field.now) }
     ensures times { KeepsTimes window.old window.new }
     ensures rule { assembler.new.rule ≡ assembler.old.rule }
-    ensures both { (r : SlotRule) (z : List Item) → Both r (z ++ front_of r.up_len frame (block_of block.now) at) assembler.old window.old
+    ensures both { (r : SlotRule) (z : List Item) → Both r (z
+        ++ front_of r.up_len frame (block_of block.now) at) assembler.old window.old
         → Both r (z ++ front_of r.up_len frame (block_of block.now) result) assembler.new window.new }
 {
     let end = (at + assembler.up_len()).min(block.field.len());

@@ -1,5 +1,6 @@
 // The slots of a PLP.
-ghost use Rattle.std.specs.Prelude.{◌≡◌, ◌<◌, ◌≤◌, ◌+◌, ◌-◌, ◌++◌, ◌∷◌, [], length, List, ℕ, IfOk, true, false, slice_get, Some, None, Option, option_map, if◌then◌else◌};
+ghost use Rattle.std.specs.Prelude.{◌≡◌, ◌<◌, ◌≤◌, ◌+◌, ◌-◌, ◌++◌, ◌∷◌, [], length, List, ℕ, IfOk, true, false, slice_get, Some};
+ghost use Rattle.std.specs.Prelude.{None, Option, option_map, if◌then◌else◌};
 ghost use Rattle.plp_config.specs.SlotTime.{window_slots};
 ghost use Rattle.packet_slots.specs.Times.{over_after, due_after, delay_of};
 
@@ -13,8 +14,8 @@ use ts_packet::SIZE;
 
 /// Puts the user packets of successive frames into their slots, and gives each slot's packet out once it is due.
 ///
-/// Of each frame, [`begin_frame`](Self::begin_frame), then each block of the PLP in order, then [`end_frame`](Self::end_frame); or
-/// [`mute`](Self::mute). Behind that, all slots that are due must be given out.
+/// Of each frame, [`begin_frame`](Self::begin_frame), then each block of the PLP in order, then [`end_frame`](Self::end_frame);
+/// or [`mute`](Self::mute). Behind that, all slots that are due must be given out.
 #[derive(Drop)]
 pub struct PacketSlots {
     assembler: Assembler,
@@ -36,7 +37,8 @@ impl PacketSlots {
     ghost use Rattle.packet_slots.specs.Both.{block_of, IsPlace};
     ghost use Rattle.std.specs.Prelude.{nat_lt};
     ghost use Rattle.packet_slots.specs.Window.{status_of, left};
-    ghost use Rattle.packet_slots.specs.StandsFor.{StandsFor, StandsWithin, IsFresh, IsEmpty, frame_of, is_within, due_of, rule_of};
+    ghost use Rattle.packet_slots.specs.StandsFor.{StandsFor, StandsWithin, IsFresh, IsEmpty, frame_of, is_within, due_of};
+    ghost use Rattle.packet_slots.specs.StandsFor.{rule_of};
 
     /// Takes all the memory that is needed.
     ///
@@ -77,7 +79,8 @@ impl PacketSlots {
         requires small { frame_of self.old < MOST_FRAMES }
         requires outside { is_within self.old ≡ false }
         requires given_out { due_of self.old ≡ 0 }
-        ensures stands { (r : SlotRule) (first : ℕ) (records : List Record) (released : ℕ) → StandsFor self.old r first records released
+        ensures stands { (r : SlotRule) (first : ℕ) (records : List Record) (released : ℕ)
+            → StandsFor self.old r first records released
             → StandsWithin self.new r first records [] released }
         ensures frame { frame_of self.new ≡ frame_of self.old }
         ensures within { is_within self.new ≡ true }
@@ -93,7 +96,8 @@ impl PacketSlots {
         requires small { frame_of self.old < MOST_FRAMES }
         requires within { is_within self.old ≡ true }
         requires place { IsPlace block.now.first (length block.now.field.now) }
-        ensures stands { (r : SlotRule) (first : ℕ) (records : List Record) (blocks : List (Option Block)) (released : ℕ) → StandsWithin self.old r first records blocks released
+        ensures stands { (r : SlotRule) (first : ℕ) (records : List Record) (blocks : List (Option Block)) (released : ℕ)
+            → StandsWithin self.old r first records blocks released
             → StandsWithin self.new r first records (blocks ++ Some (block_of block.now) ∷ []) released }
         ensures frame { frame_of self.new ≡ frame_of self.old }
         ensures within { is_within self.new ≡ true }
@@ -105,7 +109,8 @@ impl PacketSlots {
     /// The next block of the frame is not taken.
     pub fn skip(&mut self)
         requires within { is_within self.old ≡ true }
-        ensures stands { (r : SlotRule) (first : ℕ) (records : List Record) (blocks : List (Option Block)) (released : ℕ) → StandsWithin self.old r first records blocks released
+        ensures stands { (r : SlotRule) (first : ℕ) (records : List Record) (blocks : List (Option Block)) (released : ℕ)
+            → StandsWithin self.old r first records blocks released
             → StandsWithin self.new r first records (blocks ++ None ∷ []) released }
         ensures frame { frame_of self.new ≡ frame_of self.old }
         ensures within { is_within self.new ≡ true }
@@ -132,7 +137,8 @@ impl PacketSlots {
     pub fn end_frame(&mut self)
         requires small { frame_of self.old < MOST_FRAMES }
         requires within { is_within self.old ≡ true }
-        ensures stands { (r : SlotRule) (first : ℕ) (records : List Record) (blocks : List (Option Block)) (released : ℕ) → StandsWithin self.old r first records blocks released
+        ensures stands { (r : SlotRule) (first : ℕ) (records : List Record) (blocks : List (Option Block)) (released : ℕ)
+            → StandsWithin self.old r first records blocks released
             → StandsFor self.new r first (records ++ framed_record blocks ∷ []) released }
         ensures frame { frame_of self.new ≡ frame_of self.old + 1 }
         ensures outside { is_within self.new ≡ false }
@@ -146,7 +152,8 @@ impl PacketSlots {
         requires small { frame_of self.old < MOST_FRAMES }
         requires outside { is_within self.old ≡ false }
         requires given_out { due_of self.old ≡ 0 }
-        ensures stands { (r : SlotRule) (first : ℕ) (records : List Record) (released : ℕ) → StandsFor self.old r first records released
+        ensures stands { (r : SlotRule) (first : ℕ) (records : List Record) (released : ℕ)
+            → StandsFor self.old r first records released
             → StandsFor self.new r first (records ++ muted_record ∷ []) released }
         ensures frame { frame_of self.new ≡ frame_of self.old + 1 }
         ensures outside { is_within self.new ≡ false }
@@ -168,7 +175,8 @@ impl PacketSlots {
     pub fn due(&self) -> u64
         ensures value { result ≡ due_of self.now }
         ensures fresh { (r : SlotRule) → IsFresh self.now r → result ≡ 0 }
-        ensures answer { (r : SlotRule) (first : ℕ) (records : List Record) (released : ℕ) → StandsFor self.now r first records released
+        ensures answer { (r : SlotRule) (first : ℕ) (records : List Record) (released : ℕ)
+            → StandsFor self.now r first records released
             → result ≡ length (readback r first records) - released }
     {
         self.window.due()
@@ -177,8 +185,10 @@ impl PacketSlots {
     /// How many slots are in the window: those that have come into range and were not given out.
     pub fn held(&self) -> u64
         ensures fresh { (r : SlotRule) → IsFresh self.now r → result ≡ 0 }
-        ensures most { result ≤ window_slots (rule_of self.now).num (rule_of self.now).den (delay_of (rule_of self.now)) (rule_of self.now).ticks }
-        ensures answer { (r : SlotRule) (first : ℕ) (records : List Record) (released : ℕ) → StandsFor self.now r first records released
+        ensures most { result ≤ window_slots (rule_of self.now).num (rule_of self.now).den (delay_of (rule_of self.now))
+            (rule_of self.now).ticks }
+        ensures answer { (r : SlotRule) (first : ℕ) (records : List Record) (released : ℕ)
+            → StandsFor self.now r first records released
             → result ≡ held_slots r first (length records) - released }
     {
         self.window.held()
@@ -186,11 +196,14 @@ impl PacketSlots {
 
     /// The packet of the next slot, if one is due: `false` exactly if none is.
     pub fn release(&mut self, out: &mut [u8; SIZE]) -> bool
-        ensures stands { (r : SlotRule) (first : ℕ) (records : List Record) (released : ℕ) → StandsFor self.old r first records released
+        ensures stands { (r : SlotRule) (first : ℕ) (records : List Record) (released : ℕ)
+            → StandsFor self.old r first records released
             → StandsFor self.new r first records (if result then released + 1 else released) }
-        ensures answer { result ≡ true → (r : SlotRule) (first : ℕ) (records : List Record) (released : ℕ) → StandsFor self.old r first records released
+        ensures answer { result ≡ true → (r : SlotRule) (first : ℕ) (records : List Record) (released : ℕ)
+            → StandsFor self.old r first records released
             → slice_get (readback r first records) released ≡ Some out.new }
-        ensures none { result ≡ false → (r : SlotRule) (first : ℕ) (records : List Record) (released : ℕ) → StandsFor self.old r first records released
+        ensures none { result ≡ false → (r : SlotRule) (first : ℕ) (records : List Record) (released : ℕ)
+            → StandsFor self.old r first records released
             → length (readback r first records) ≤ released }
         ensures exact { result ≡ nat_lt 0 (due_of self.old) }
         ensures due { due_of self.new ≡ due_of self.old - 1 }

@@ -1,5 +1,6 @@
-// Ten slots a frame of 1,000 ticks, whose user packets of 188 bytes make two blocks of 1,000 and 880 bytes. The packet of slot k has
-// the byte k, so what comes in a slot tells which packet it is; a null packet has 0x1F there. What must come was counted by hand.
+// Ten slots a frame of 1,000 ticks, whose user packets of 188 bytes make two blocks of 1,000 and 880 bytes. The packet of slot k
+// has the byte k, so what comes in a slot tells which packet it is; a null packet has 0x1F there. What must come was counted by
+// hand.
 ghost use Rattle.std.specs.Prelude.{◌≡◌, ◌+◌, ◌<◌, true, false, IfOk};
 ghost use Rattle.plp_config.specs.declared.moment.TheConstants.{MOST_FRAMES};
 ghost use Rattle.packet_slots.specs.StandsFor.{frame_of, is_within, due_of};

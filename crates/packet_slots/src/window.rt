@@ -1,4 +1,4 @@
-// The window.
+// The ring of the slots that are in range and not given out.
 ghost use Rattle.std.specs.Prelude.{◌≡◌, ◌^◌, ◌<◌, ◌≤◌, ◌+◌, ◌-◌, ◌*◌, ◌++◌, length, replicate, None, IfOk, []};
 ghost use Rattle.std.specs.declared.option.Option.{Option};
 ghost use Rattle.plp_config.specs.SlotTime.{window_slots};

@@ -3,7 +3,8 @@ ghost use Rattle.std.specs.Prelude.{◌≡◌, ◌<◌, ◌≤◌, ◌*◌, ◌�
 ghost use Rattle.plp_config.specs.FirstFailure.{FindsFailure};
 ghost use Rattle.plp_config.specs.Plps.{plp_at};
 ghost use Rattle.plp_config.specs.Rules.{AllRules};
-ghost use Rattle.plp_config.specs.Capacity.{block_bytes, field_bytes, block_cells, up_bytes, capacity, cell_need, need_of, PlaceFits, AllTests, Lacks, Throughput, CellCount, EvenSubSlices, CellAddresses};
+ghost use Rattle.plp_config.specs.Capacity.{block_bytes, field_bytes, block_cells, up_bytes, capacity, cell_need, need_of};
+ghost use Rattle.plp_config.specs.Capacity.{PlaceFits, AllTests, Lacks, Throughput, CellCount, EvenSubSlices, CellAddresses};
 ghost use Rattle.plp_config.specs.SlotTime.{den};
 ghost use Rattle.plp_config.specs.CapacityTests.{AnswersTest};
 

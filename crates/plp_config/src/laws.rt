@@ -1,5 +1,11 @@
 // Laws between the definitions, for the crates above. No function here does anything.
-ghost use Rattle.plp_config.specs.Laws.{StartsBefore, StartsFrom, StartsAt, OverBy, NotOverBy, CountReaches, StartRises, CountRises, NoneAtZero, EndsAfterStart, StartsApart, RangesPartition, RangeBounds, SpansEpoch, OneSlotPerIscr, IscrFindsSlot, DelayOutlasts, ReleasedFirst, ReleasedByFrame, ReleasedOld, WindowHolds, EmissionTotal, EmissionsDiffer, EmissionFound, EmissionFits, FrameCountLeast, OneRuleFails, RefusalFails, RulesDecided, OneTestFails, LackFails, TestsDecided, SlotLength, FrameTicks, FrameQuarter, FieldRange, BlockBits, UserPacketRange, CapacityHoldsUp, CellsByFive, BlockChunks};
+ghost use Rattle.plp_config.specs.Laws.{StartsBefore, StartsFrom, StartsAt, OverBy, NotOverBy, CountReaches, StartRises};
+ghost use Rattle.plp_config.specs.Laws.{CountRises, NoneAtZero, EndsAfterStart, StartsApart, RangesPartition, RangeBounds};
+ghost use Rattle.plp_config.specs.Laws.{SpansEpoch, OneSlotPerIscr, IscrFindsSlot, DelayOutlasts, ReleasedFirst, ReleasedByFrame};
+ghost use Rattle.plp_config.specs.Laws.{ReleasedOld, WindowHolds, EmissionTotal, EmissionsDiffer, EmissionFound, EmissionFits};
+ghost use Rattle.plp_config.specs.Laws.{FrameCountLeast, OneRuleFails, RefusalFails, RulesDecided, OneTestFails, LackFails};
+ghost use Rattle.plp_config.specs.Laws.{TestsDecided, SlotLength, FrameTicks, FrameQuarter, FieldRange, BlockBits};
+ghost use Rattle.plp_config.specs.Laws.{UserPacketRange, CapacityHoldsUp, CellsByFive, BlockChunks};
 
 /// When slots start and when they are over. A count reaches a number exactly if the end of the
 /// last slot below it is not after the tick.

@@ -1,8 +1,10 @@
 // A configuration that every layer above can rely on.
 ghost use Rattle.std.specs.Prelude.{◌≡◌, ◌-◌, ◌^◌, ◌<◌, ◌≤◌, length, IfSome, IfNone};
-ghost use Rattle.plp_config.specs.Capacity.{AllTests, Throughput, block_bytes, field_bytes, block_cells, up_bytes, capacity, need_of};
+ghost use Rattle.plp_config.specs.Capacity.{AllTests, Throughput, block_bytes, field_bytes, block_cells, up_bytes, capacity};
+ghost use Rattle.plp_config.specs.Capacity.{need_of};
 ghost use Rattle.plp_config.specs.Emission.{emission};
 ghost use Rattle.plp_config.specs.Places.{IsPlace, HasNoPlace};
+ghost use Rattle.plp_config.specs.Plps.{plp_at};
 ghost use Rattle.plp_config.specs.Ranges.{HasRanges};
 ghost use Rattle.plp_config.specs.Rules.{AllRules};
 ghost use Rattle.plp_config.specs.SlotTime.{IsSlotLength, start, slots_by, delay, window};
@@ -127,6 +129,14 @@ impl Plan {
         let den = values::den(&self.config, plp);
         let ticks = self.delay(plp) + u64::from(values::ticks(&self.config));
         (ticks * den).div_ceil(num) + 2
+    }
+
+    /// PLP_ID of a PLP.
+    pub fn plp_id(&self, plp: usize) -> u8
+        requires { plp < length self.now.plps }
+        ensures { result ≡ (plp_at self.now.plps plp).id }
+    {
+        self.config.plps.get(plp).unwrap().id
     }
 
     /// Bytes of the data field of a block.

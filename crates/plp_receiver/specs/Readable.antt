@@ -47,18 +47,18 @@ post_agrees c n post =
     && conf_agrees c (read_whole (conf_read (info_size (length c.plps)) (take (conf_len c) post))) && dyn_agrees c n
     (told_dynamic c post)
 
--- the PLP and the length of each block of a frame of this shape: PLP by PLP, in order
+-- the PLP_ID and the length of each block of a frame of this shape: PLP by PLP, in order
 pub record BlockSize : Type 0 where
-  pub plp : ℕ
+  pub plp_id : ℕ
   pub len : ℕ
 
 abbrev pub block_sizes : Config → FrameShape → List BlockSize
 block_sizes c shape =
-    flat_map (λ plp. replicate (slice_index shape.counts plp) (record { plp = (plp_at c.plps plp).id; len = block_bytes c plp }))
+    flat_map (λ plp. replicate (slice_index shape.counts plp) (record { plp_id = (plp_at c.plps plp).id; len = block_bytes c plp }))
     (places c)
 
 abbrev pub has_size : Block → BlockSize → Bool
-has_size b size = (b.plp == size.plp) && (length b.bytes == size.len)
+has_size b size = (b.plp_id == size.plp_id) && (length b.bytes == size.len)
 
 -- blocks and cells are those of a frame of this shape, and its cells stand apart, in the frame
 abbrev pub shape_agrees : Config → List Block → List (Option Cell) → FrameShape → Bool

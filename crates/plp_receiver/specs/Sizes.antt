@@ -8,7 +8,7 @@ use Rattle.scheduler.specs.Shape.{FrameShape}
 use Rattle.plp_receiver.specs.Readable.{BlockSize}
 
 abbrev pub size_of : ℕ → ℕ → BlockSize
-size_of id len = record { plp = id; len = len }
+size_of id len = record { plp_id = id; len = len }
 
 abbrev pub plp_sizes : Config → FrameShape → ℕ → List BlockSize
 plp_sizes c shape plp = replicate (slice_index shape.counts plp) (size_of (plp_at c.plps plp).id (block_bytes c plp))

@@ -1,14 +1,16 @@
 // Which records of frames are readable (EN 302 755, clauses 5 to 8).
-ghost use Rattle.std.specs.Prelude.{◌≡◌, ◌&&◌, ◌-◌, ◌<◌, ◌≤◌, ◌^◌, ◌==◌, true, Some, None, List, length, take, replicate, ◌++◌, if◌then◌else◌};
+ghost use Rattle.std.specs.Prelude.{◌≡◌, ◌&&◌, ◌-◌, ◌<◌, ◌≤◌, ◌^◌, ◌==◌, true, Some, None, List, length, take, replicate, ◌++◌};
+ghost use Rattle.std.specs.Prelude.{if◌then◌else◌};
 ghost use Rattle.std.specs.Bool.{beq};
 ghost use Rattle.std.specs.Cmp.Lexicographic.{pointwise};
 ghost use Rattle.l1_signal.specs.Laws.{crc_behind};
-ghost use Rattle.plp_receiver.specs.Readable.{conf_len, dyn_len, crc_len, post_len, told_dynamic, post_agrees, BlockSize, has_size, block_sizes, shape_agrees, readable};
+ghost use Rattle.plp_receiver.specs.Readable.{conf_len, dyn_len, crc_len, post_len, told_dynamic, post_agrees, BlockSize};
+ghost use Rattle.plp_receiver.specs.Readable.{has_size, block_sizes, shape_agrees, readable};
 ghost use Rattle.plp_receiver.specs.Sizes.{size_of};
 
 use bit_slice::BitSlice;
 use frame_tests::{
-    Network, is_network_conf, is_of_frame, is_pre, map_passes, plp_id, read_dynamic, tell_shape,
+    Network, is_network_conf, is_of_frame, is_pre, map_passes, read_dynamic, tell_shape,
 };
 use l1_signal::{L1Dyn, check_post, post_law};
 use plp_config::Plan;
@@ -61,21 +63,22 @@ fn is_post(network: &Network<'_>, number: u64, post: &BitSlice<'_>, dynamic: &mu
         && is_of_frame(network.plan(), number, dynamic)
 }
 
-fn is_block(id: u8, len: u32, plp: u8, block: &[u8]) -> bool
-    ensures { result ≡ ((plp == id) && (length block.now == len)) }
+fn is_block(id: u8, len: u32, plp_id: u8, block: &[u8]) -> bool
+    ensures { result ≡ ((plp_id == id) && (length block.now == len)) }
 {
-    plp == id && block.len() == len as usize
+    plp_id == id && block.len() == len as usize
 }
 
 // Whether so many blocks of a PLP come next. Goes past them then.
 fn come_next(rest: &mut BlocksIter<'_>, id: u8, len: u32, count: u16) -> bool
-    ensures { (more : List BlockSize) → pointwise has_size rest.old (replicate count (size_of id len) ++ more) ≡ (result && pointwise has_size rest.new more) }
+    ensures { (more : List BlockSize) → pointwise has_size rest.old (replicate count (size_of id len) ++ more)
+        ≡ (result && pointwise has_size rest.new more) }
 {
     for _ in 0..count {
-        let Some((plp, block)) = rest.next() else {
+        let Some((plp_id, block)) = rest.next() else {
             return false;
         };
-        if !is_block(id, len, plp, block) {
+        if !is_block(id, len, plp_id, block) {
             return false;
         }
     }
@@ -89,7 +92,7 @@ fn has_blocks(plan: &Plan, shape: &Shape, blocks: &Blocks<'_>) -> bool
 {
     let mut rest = blocks.iter();
     for plp in 0..shape.len() {
-        let id = plp_id(plan, plp);
+        let id = plan.plp_id(plp);
         let len = plan.block_bytes(plp);
         if !come_next(&mut rest, id, len, shape.count(plp)) {
             return false;
@@ -120,7 +123,8 @@ pub fn is_readable(
 ) -> bool
     requires rows { length dynamic.old.plps ≡ length network.now.plps }
     requires plps { length shape.old.counts ≡ length network.now.plps }
-    ensures value { readable network.now number pre.now post.now blocks.now cells.now ≡ (if result then Some shape.new else None) }
+    ensures value { readable network.now number pre.now post.now blocks.now cells.now
+        ≡ (if result then Some shape.new else None) }
     ensures agrees { result ≡ true → shape_agrees network.now blocks.now cells.now shape.new ≡ true }
     ensures rows { length dynamic.new.plps ≡ length dynamic.old.plps }
     ensures plps { length shape.new.counts ≡ length shape.old.counts }

@@ -1,5 +1,6 @@
 // The receiver of a PLP.
-ghost use Rattle.std.specs.Prelude.{◌≡◌, ◌<◌, ◌≤◌, ◌+◌, ◌-◌, ◌++◌, ◌∷◌, [], List, ℕ, IfOk, true, false, length, vec_len, slice_get, slice_index, Some, None, nat_lt, if◌then◌else◌};
+ghost use Rattle.std.specs.Prelude.{◌≡◌, ◌<◌, ◌≤◌, ◌+◌, ◌-◌, ◌++◌, ◌∷◌, [], List, ℕ, IfOk, true, false, length, vec_len};
+ghost use Rattle.std.specs.Prelude.{slice_get, slice_index, Some, None, nat_lt, if◌then◌else◌};
 ghost use Rattle.plp_config.specs.Plps.{plp_at};
 ghost use Rattle.plp_config.specs.SlotTime.{window, window_slots};
 ghost use Rattle.plp_config.specs.declared.plp.TheConstants.{MOST_BLOCK_BYTES};
@@ -38,7 +39,8 @@ pub struct Receiver<'p> {
     block: Vec<u8>,
     ghost configured: { plp < length network.plps },
     ghost outside: { is_within slots ≡ false },
-    ghost window: { window_slots (rule_of slots).num (rule_of slots).den (delay_of (rule_of slots)) (rule_of slots).ticks ≡ window network plp },
+    ghost window: { window_slots (rule_of slots).num (rule_of slots).den (delay_of (rule_of slots)) (rule_of slots).ticks
+        ≡ window network plp },
     ghost rows: { length dynamic.plps ≡ length network.plps },
     ghost plps: { length shape.counts ≡ length network.plps },
     ghost flags: { vec_len stands ≡ (plp_at network.plps plp).blocks },
@@ -123,7 +125,8 @@ impl<'p> Receiver<'p> {
     )
         requires small { frame_of self.old < MOST_FRAMES }
         requires given_out { due_of self.old ≡ 0 }
-        ensures takes { (moment : Moment) → TakesRecord (network_of self.old) (plp_of self.old) (frame_of self.old) (Frame moment pre.now post.now blocks.now cells.now) self.old.slots self.new.slots }
+        ensures takes { (moment : Moment) → TakesRecord (network_of self.old) (plp_of self.old) (frame_of self.old)
+            (Frame moment pre.now post.now blocks.now cells.now) self.old.slots self.new.slots }
         ensures frame { frame_of self.new ≡ frame_of self.old + 1 }
         ensures network { network_of self.new ≡ network_of self.old }
         ensures plp { plp_of self.new ≡ plp_of self.old }
@@ -149,7 +152,8 @@ impl<'p> Receiver<'p> {
         requires small { frame_of self.old < MOST_FRAMES }
         requires given_out { due_of self.old ≡ 0 }
         requires agrees { shape_agrees (network_of self.old) blocks.now cells.now self.old.shape ≡ true }
-        ensures takes { TakesFrame (network_of self.old) (plp_of self.old) self.old.shape blocks.now cells.now self.old.slots self.new.slots }
+        ensures takes { TakesFrame (network_of self.old)
+            (plp_of self.old) self.old.shape blocks.now cells.now self.old.slots self.new.slots }
         ensures frame { frame_of self.new ≡ frame_of self.old + 1 }
         ensures network { network_of self.new ≡ network_of self.old }
         ensures plp { plp_of self.new ≡ plp_of self.old }
@@ -173,7 +177,8 @@ impl<'p> Receiver<'p> {
         ensures fresh { IsFresh self.now → result ≡ 0 }
         ensures some { (first : ℕ) (views : List RecordView) (released : ℕ) → StandsFor self.now first views released
             → (packets : List (List ℕ)) × Readback (network_of self.now) (plp_of self.now) first views packets }
-        ensures answer { (first : ℕ) (views : List RecordView) (released : ℕ) (packets : List (List ℕ)) → StandsFor self.now first views released
+        ensures answer { (first : ℕ) (views : List RecordView) (released : ℕ) (packets : List (List ℕ))
+            → StandsFor self.now first views released
             → Readback (network_of self.now) (plp_of self.now) first views packets → result ≡ length packets - released }
     {
         readback_law();
@@ -196,9 +201,11 @@ impl<'p> Receiver<'p> {
     pub fn release(&mut self, out: &mut [u8; SIZE]) -> bool
         ensures stands { (first : ℕ) (views : List RecordView) (released : ℕ) → StandsFor self.old first views released
             → StandsFor self.new first views (if result then released + 1 else released) }
-        ensures answer { result ≡ true → (first : ℕ) (views : List RecordView) (released : ℕ) (packets : List (List ℕ)) → StandsFor self.old first views released
+        ensures answer { result ≡ true → (first : ℕ) (views : List RecordView) (released : ℕ) (packets : List (List ℕ))
+            → StandsFor self.old first views released
             → Readback (network_of self.old) (plp_of self.old) first views packets → slice_get packets released ≡ Some out.new }
-        ensures none { result ≡ false → (first : ℕ) (views : List RecordView) (released : ℕ) (packets : List (List ℕ)) → StandsFor self.old first views released
+        ensures none { result ≡ false → (first : ℕ) (views : List RecordView) (released : ℕ) (packets : List (List ℕ))
+            → StandsFor self.old first views released
             → Readback (network_of self.old) (plp_of self.old) first views packets → length packets ≤ released }
         ensures fresh { IsFresh self.old → IsFresh self.new }
         ensures exact { result ≡ nat_lt 0 (due_of self.old) }

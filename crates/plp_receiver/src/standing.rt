@@ -1,5 +1,6 @@
 // Whether the cells of the blocks of a PLP stand at their addresses (EN 302 755, clause 8).
-ghost use Rattle.std.specs.Prelude.{◌≡◌, ◌<◌, ◌≤◌, ◌+◌, ◌*◌, ◌^◌, ◌&&◌, ℕ, false, length, slice_index, slice_index_or, sum, take, Some};
+ghost use Rattle.std.specs.Prelude.{◌≡◌, ◌<◌, ◌≤◌, ◌+◌, ◌*◌, ◌^◌, ◌&&◌, ℕ, false, length, slice_index, slice_index_or, sum, take};
+ghost use Rattle.std.specs.Prelude.{Some};
 ghost use Rattle.cell_map.specs.CellMap.{Passes};
 ghost use Rattle.plp_receiver.specs.Readable.{is_cell, all_stand};
 ghost use Rattle.plp_receiver.specs.Seeing.{is_seen, seen_from, all_seen};
@@ -20,11 +21,12 @@ fn is_found(cell: Cell, found: Option<Cell>) -> bool
     }
 }
 
-// Sees what is found where the map has a cell, or none: the test of its block fails if it is another. The first test is that of the
-// block with this ordinal.
+// Sees what is found where the map has a cell, or none: the test of its block fails if it is another. The first test is that of
+// the block with this ordinal.
 fn see(expected: Option<Cell>, found: Option<Cell>, first: u32, stands: &mut [bool])
     ensures len { length stands.new ≡ length stands.old }
-    ensures each { (k : ℕ) → k < length stands.old → slice_index_or stands.new k false ≡ (slice_index_or stands.old k false && is_seen (first + k) expected found) }
+    ensures each { (k : ℕ) → k < length stands.old → slice_index_or stands.new k false
+        ≡ (slice_index_or stands.old k false && is_seen (first + k) expected found) }
 {
     let Some(cell) = expected else {
         return;
@@ -53,7 +55,8 @@ fn see_each(
     requires all { length cells.now ≡ plan.now.cells }
     requires inside { address + count ≤ plan.now.cells }
     ensures len { length stands.new ≡ length stands.old }
-    ensures each { (k : ℕ) → k < length stands.old → slice_index_or stands.new k false ≡ (slice_index_or stands.old k false && seen_from plan.now shape.now cells.now (first + k) address count) }
+    ensures each { (k : ℕ) → k < length stands.old → slice_index_or stands.new k false
+        ≡ (slice_index_or stands.old k false && seen_from plan.now shape.now cells.now (first + k) address count) }
 {
     let mut expected = Cells::resume(plan, shape, address);
     for i in 0..count {
@@ -81,7 +84,8 @@ fn see_piece(
     requires inside { address + count ≤ plan.now.cells }
     requires room { 4 * count ≤ length buffer.old }
     ensures len { length stands.new ≡ length stands.old }
-    ensures each { (k : ℕ) → k < length stands.old → slice_index_or stands.new k false ≡ (slice_index_or stands.old k false && seen_from plan.now shape.now cells.now (first + k) address count) }
+    ensures each { (k : ℕ) → k < length stands.old → slice_index_or stands.new k false
+        ≡ (slice_index_or stands.old k false && seen_from plan.now shape.now cells.now (first + k) address count) }
     ensures room { length buffer.new ≡ length buffer.old }
 {
     let words = &mut buffer[..4 * count as usize];
@@ -102,7 +106,8 @@ fn see_all(plan: &Plan, shape: &Shape, cells: &Words<'_>, first: u32, stands: &m
     requires passes { Passes plan.now shape.now }
     requires all { length cells.now ≡ plan.now.cells }
     ensures len { length stands.new ≡ length stands.old }
-    ensures each { (k : ℕ) → k < length stands.old → slice_index_or stands.new k false ≡ (slice_index_or stands.old k false && all_seen plan.now shape.now cells.now (first + k)) }
+    ensures each { (k : ℕ) → k < length stands.old → slice_index_or stands.new k false
+        ≡ (slice_index_or stands.old k false && all_seen plan.now shape.now cells.now (first + k)) }
 {
     let end = plan.config().cells;
     let mut buffer = [0; PIECE_BYTES];
@@ -145,7 +150,8 @@ pub fn tell_standing(plan: &Plan, shape: &Shape, plp: usize, cells: &Words<'_>, 
     requires inside { plp < length plan.now.plps }
     requires count { length stands.old ≡ slice_index shape.now.counts plp }
     ensures len { length stands.new ≡ length stands.old }
-    ensures each { (k : ℕ) → k < length stands.old → slice_index_or stands.new k false ≡ all_stand plan.now shape.now cells.now plp k }
+    ensures each { (k : ℕ) → k < length stands.old → slice_index_or stands.new k false
+        ≡ all_stand plan.now shape.now cells.now plp k }
 {
     map_law();
     plan.obeys_rules();

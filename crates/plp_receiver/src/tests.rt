@@ -42,8 +42,8 @@ const BLOCK_HEAD: [u8; 4] = [0, 0, 0x03, 0x6F];
 
 const BLOCK: usize = 879;
 
-// The headers: both with ISCR of their first user packets, of slots 0 and 5, and 869 bytes of data. User packet 5 begins at byte 71
-// of the second block.
+// The headers: both with ISCR of their first user packets, of slots 0 and 5, and 869 bytes of data. User packet 5 begins at byte
+// 71 of the second block.
 const FIRST: [u8; 10] = [0xFC, 0, 0x80, 0x00, 0x1B, 0x28, 0x00, 0x00, 0x00, 0xFA];
 
 const SECOND: [u8; 10] = [0xFC, 0, 0x80, 0x86, 0x1B, 0x28, 0x49, 0x02, 0x38, 0x82];
@@ -57,8 +57,8 @@ const LEN: usize = 161_869;
 
 const CELLS: u32 = 40_000;
 
-// Bytes of the record that are changed, each by its place and the bits that turn over; and the slots whose packets come: from one on,
-// before another.
+// Bytes of the record that are changed, each by its place and the bits that turn over; and the slots whose packets come: from one
+// on, before another.
 struct Row {
     why: &'static str,
     turned: [(usize, u8); 5],

@@ -1,5 +1,6 @@
 // A desk in memory.
-ghost use Rattle.std.specs.Prelude.{◌≡◌, ◌⊎◌, min, option_map, ◌<◌, ◌≤◌, ◌+◌, ◌-◌, ◌^◌, ◌++◌, ◌∷◌, ◌↔◌, [], length, map, vec_len, vec_capacity, take, drop, true, false, option_copied, IfSome, OnOk, OnErr, string_bytes};
+ghost use Rattle.std.specs.Prelude.{◌≡◌, ◌⊎◌, min, option_map, ◌<◌, ◌≤◌, ◌+◌, ◌-◌, ◌^◌, ◌++◌, ◌∷◌, ◌↔◌, [], length, map, vec_len};
+ghost use Rattle.std.specs.Prelude.{vec_capacity, take, drop, true, false, option_copied, IfSome, OnOk, OnErr, string_bytes};
 ghost use Rattle.std.specs.FinMap.{get, insert};
 ghost use Rattle.ports.specs.Desk.{bytes_of};
 ghost use Rattle.ports.specs.MemoryDesk.{given_by};
@@ -129,7 +130,8 @@ fn make_empty(files: &mut BTreeMap<String, Vec<u8>>, alloc: Global, name: &str) 
 // Adds a name, for which there is room.
 fn push_name(names: &mut Vec<String>, name: String)
     requires { vec_len names.old < vec_capacity names.old }
-    ensures names { map (λ text. string_bytes text) names.new.items ≡ map (λ text. string_bytes text) names.old.items ++ string_bytes name ∷ [] }
+    ensures names { map (λ text. string_bytes text) names.new.items
+        ≡ map (λ text. string_bytes text) names.old.items ++ string_bytes name ∷ [] }
     ensures len { vec_len names.new ≡ vec_len names.old + 1 }
 {
     names.push(name).unwrap();
@@ -138,7 +140,8 @@ fn push_name(names: &mut Vec<String>, name: String)
 // Appends bytes to the file of a name. `false` where there is none, or no memory was found.
 #[tactic(auto, using(crate::proofs::FileLemmas::files))]
 fn append(files: &mut BTreeMap<String, Vec<u8>>, name: &str, piece: &[u8]) -> bool
-    ensures done { result ≡ true → files_of files.new ≡ insert (files_of files.old) name.now (bytes_of (files_of files.old) name.now ++ piece.now) }
+    ensures done { result ≡ true → files_of files.new
+        ≡ insert (files_of files.old) name.now (bytes_of (files_of files.old) name.now ++ piece.now) }
     ensures not { result ≡ false → files_of files.new ≡ files_of files.old }
 {
     match files.get_mut(name) {
@@ -170,7 +173,8 @@ impl Handle {
 
 // The places of the handles of a name together, at most 2^64 - 1.
 fn given_by(handles: &[Handle], name: &str) -> u64
-    ensures { result ≡ min (2 ^ 64 - 1) (given_by name.now (map (λ h. string_bytes h.name) handles.now) (map (λ h. h.place) handles.now)) }
+    ensures { result ≡ min (2 ^ 64 - 1) (given_by name.now (map (λ h. string_bytes h.name) handles.now)
+        (map (λ h. h.place) handles.now)) }
 {
     let mut given: u64 = 0;
     for handle in handles {
@@ -220,8 +224,8 @@ impl MemoryDesk {
         self.cap = most;
     }
 
-    /// Lists a call to fail: the nth of its kind since the desk was made, counted from 1. Each call after number 2^64 - 1 counts as that
-    /// number; a number of a call that has been lists nothing.
+    /// Lists a call to fail: the nth of its kind since the desk was made, counted from 1. Each call after number 2^64 - 1 counts
+    /// as that number; a number of a call that has been lists nothing.
     pub fn fail(&mut self, kind: CallKind, nth: u64) -> Result<(), OutOfMemory>
         ensures ok { OnOk result (self.new ≡ with_failing kind nth self.old) }
         ensures err { OnErr result (self.new ≡ self.old) }
@@ -395,7 +399,8 @@ impl Desk for MemoryDesk {
 
     /// A listed call and want of memory are faults.
     fn say_last(&mut self, text: &[u8])
-        ensures said { (Says self.old.state self.new.state text.now × SameCounts self.old.state self.new.state) ⊎ (self.new ≡ fails_at_last (after_call CallKind.Last self.old)) }
+        ensures said { (Says self.old.state self.new.state text.now × SameCounts self.old.state self.new.state)
+            ⊎ (self.new ≡ fails_at_last (after_call CallKind.Last self.old)) }
         ensures listed { Strikes CallKind.Last self.old.script → self.new ≡ fails_at_last (after_call CallKind.Last self.old) }
         ensures counts { MayFailAtLast self.old.state.counts self.new.state.counts }
         ensures rest { self.new ≡ record (after_call CallKind.Last self.old) { state = self.new.state } }

@@ -11,7 +11,7 @@ piece_len = 8192
 
 -- a block of a PLP, as a record has it, and its bytes
 abbrev pub plp_block : Config → ℕ → List ℕ → Block
-plp_block c plp bytes = record { plp = (plp_at c.plps plp).id; bytes = bytes }
+plp_block c plp bytes = record { plp_id = (plp_at c.plps plp).id; bytes = bytes }
 
 abbrev pub sent_bytes : Config → ℕ → List ℕ → List ℕ
 sent_bytes c plp bytes = block_bytes (plp_block c plp bytes) 0

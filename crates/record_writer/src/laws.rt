@@ -1,12 +1,14 @@
 // Laws of the definitions. Their functions do nothing.
-ghost use Rattle.record_writer.specs.Laws.{RecordWritten, MutedWritten, EmptyIsShort, AppendedIsShort, BlockCount, RestLength, RecordFits};
+ghost use Rattle.record_writer.specs.Laws.{RecordWritten, MutedWritten, EmptyIsShort, AppendedIsShort, BlockCount, RestLength};
+ghost use Rattle.record_writer.specs.Laws.{RecordFits};
 
 use frame_records::fit_law;
 use l1_signal::{post_law, pre_law};
 use plp_config::block_law;
 use site_frame::writing_law;
 
-/// What is written of a frame is its record, which has so many blocks and so many bytes behind its head. That of a plan spells the frame.
+/// What is written of a frame is its record, which has so many blocks and so many bytes behind its head. That of a plan spells
+/// the frame.
 pub fn written_law()
     ensures written { RecordWritten }
     ensures muted { MutedWritten }

@@ -177,7 +177,8 @@ pub fn put_muted(moment: &Moment, out: &mut Piece)
 fn put_post(conf: &Signalling, dynamic: BitSlice<'_>, out: &mut Piece)
     requires short { length dynamic ≤ most_dynamic }
     requires room { length out.old + 4 + most_post ≤ piece_len }
-    ensures value { out.new ≡ out.old ++ (big_bytes 4 (length (crc_behind true (conf.now ++ dynamic.entry))) ++ bytes_of (crc_behind true (conf.now ++ dynamic.entry))) }
+    ensures value { out.new ≡ out.old ++ (big_bytes 4 (length (crc_behind true (conf.now ++ dynamic.entry)))
+        ++ bytes_of (crc_behind true (conf.now ++ dynamic.entry))) }
     ensures len { length out.new ≤ length out.old + 4 + most_post }
 {
     let post = post_with(conf.conf.as_slice(), dynamic);
@@ -186,8 +187,8 @@ fn put_post(conf: &Signalling, dynamic: BitSlice<'_>, out: &mut Piece)
     put_bits(&bits, out);
 }
 
-/// Puts the first bytes of a frame's record: its head, which tells how many bytes follow it, its L1 signalling, and the number of its
-/// blocks.
+/// Puts the first bytes of a frame's record: its head, which tells how many bytes follow it, its L1 signalling, and the number of
+/// its blocks.
 pub fn put_front(
     plan: &Plan,
     conf: &Signalling,

@@ -1,5 +1,5 @@
-// Expected bytes were spelled by hand, section by section, from the tables of records and from EN 302 755; L1-post is from a Python
-// program over its tables.
+// Expected bytes were spelled by hand, section by section, from the tables of records and from EN 302 755; L1-post is from a
+// Python program over its tables.
 ghost use Rattle.std.specs.Prelude.{◌≡◌, ◌≤◌, length, IfOk};
 ghost use Rattle.record_writer.specs.RecordBytes.{AreShort};
 ghost use Rattle.record_writer.specs.Steps.{HasLists, HasMap};

@@ -2,7 +2,6 @@
 ghost use Rattle.std.specs.Prelude.{◌≡◌, ◌<◌, ◌≤◌, ◌+◌, ◌-◌, ◌*◌, ◌⊎◌, ◌++◌, ◌∷◌, [], ℕ, List, length, take, drop};
 ghost use Rattle.byteorder.specs.Endian.{big_bytes};
 ghost use Rattle.linked_pool.specs.Pool.{popped};
-ghost use Rattle.plp_config.specs.Plps.{plp_at};
 ghost use Rattle.plp_config.specs.declared.config.Config.{Config};
 ghost use Rattle.cell_map.specs.CellMap.{Passes};
 ghost use Rattle.scheduler.specs.Shape.{FrameShape};
@@ -44,7 +43,8 @@ fn next_list(pool: &Pool, first: usize, end: usize) -> usize
     requires few { end ≤ 255 }
     ensures inside { result ≤ end }
     ensures some { result < end → 0 < length (list_at pool.now.lists result) }
-    ensures same { (c : Config) → lists_bytes c first (drop first pool.now.lists) ≡ lists_bytes c result (drop result pool.now.lists) }
+    ensures same { (c : Config) → lists_bytes c first (drop first pool.now.lists)
+        ≡ lists_bytes c result (drop result pool.now.lists) }
 {
     for plp in first..end {
         if pool.count(plp as u32) > 0 {
@@ -52,14 +52,6 @@ fn next_list(pool: &Pool, first: usize, end: usize) -> usize
         }
     }
     end
-}
-
-// plp_id of a PLP.
-fn id_of(plan: &Plan, plp: usize) -> u8
-    requires { plp < length plan.now.plps }
-    ensures { result ≡ (plp_at plan.now.plps plp).id }
-{
-    plan.config().plps.get(plp).unwrap().id
 }
 
 // Puts the head of a block.
@@ -85,7 +77,7 @@ fn put_block(plan: &Plan, pool: &mut Pool, plp: usize, out: &mut Piece)
 {
     let list = plp as u32;
     let block = pool.front(list).unwrap();
-    put_head(id_of(plan, plp), block.len() as u16, out);
+    put_head(plan.plp_id(plp), block.len() as u16, out);
     out.put_block(&block);
     pool.pop(list);
 }
@@ -95,7 +87,8 @@ fn build_block(plan: &Plan, pool: &mut Pool, plp: usize, out: &mut Piece) -> Ste
     requires lists { HasLists plan.now pool.old.lists }
     requires inside { plp ≤ length pool.old.lists }
     requires empty { out.old ≡ [] }
-    ensures bytes { (shape : FrameShape) → step_bytes plan.now shape pool.old.lists (Blocks plp) ≡ out.new ++ step_bytes plan.now shape pool.new.lists result }
+    ensures bytes { (shape : FrameShape) → step_bytes plan.now shape pool.old.lists (Blocks plp)
+        ≡ out.new ++ step_bytes plan.now shape pool.new.lists result }
     ensures some { 0 < length out.new }
     ensures step { (shape : FrameShape) → HasMap plan.now shape → IsStep plan.now shape pool.new.lists result }
     ensures lists { HasLists plan.now pool.new.lists }
@@ -119,7 +112,8 @@ fn build_cells(plan: &Plan, shape: &Shape, address: u32, out: &mut Piece) -> Ste
     requires map { HasMap plan.now shape.now }
     requires inside { address ≤ plan.now.cells }
     requires empty { out.old ≡ [] }
-    ensures bytes { (lists : List (List (List ℕ))) → words plan.now shape.now address (plan.now.cells - address) ≡ out.new ++ step_bytes plan.now shape.now lists result }
+    ensures bytes { (lists : List (List (List ℕ))) → words plan.now shape.now address (plan.now.cells - address)
+        ≡ out.new ++ step_bytes plan.now shape.now lists result }
     ensures none { out.new ≡ [] → result ≡ Done }
     ensures step { (lists : List (List (List ℕ))) → IsStep plan.now shape.now lists result }
 {
@@ -134,7 +128,8 @@ fn build_cells(plan: &Plan, shape: &Shape, address: u32, out: &mut Piece) -> Ste
 // Puts the next bytes of a frame in place of those in hand, and answers what comes behind them.
 fn build(plan: &Plan, shape: &Shape, pool: &mut Pool, step: Step, out: &mut Piece) -> Step
     requires { IsStep plan.now shape.now pool.old.lists step }
-    ensures bytes { step_bytes plan.now shape.now pool.old.lists step ≡ out.new ++ step_bytes plan.now shape.now pool.new.lists result }
+    ensures bytes { step_bytes plan.now shape.now pool.old.lists step
+        ≡ out.new ++ step_bytes plan.now shape.now pool.new.lists result }
     ensures none { out.new ≡ [] → result ≡ Done }
     ensures step { IsStep plan.now shape.now pool.new.lists result }
     ensures last { step ≡ Done → (result ≡ Done) × (pool.new ≡ pool.old) }
@@ -150,15 +145,18 @@ fn build(plan: &Plan, shape: &Shape, pool: &mut Pool, step: Step, out: &mut Piec
     }
 }
 
-// Writes the words of the cells that come next straight to a place, as many as have room behind it, and answers how many bytes these are.
+// Writes the words of the cells that come next straight to a place, as many as have room behind it, and answers how many bytes
+// these are.
 fn fill_cells(plan: &Plan, shape: &Shape, step: &mut Step, out: &mut [u8], from: usize) -> usize
     requires from { from ≤ length out.old }
     requires cells { (address : ℕ) → step.old ≡ Cells address → (address ≤ plan.now.cells) × HasMap plan.now shape.now }
     ensures most { from + result ≤ length out.old }
-    ensures bytes { (lists : List (List (List ℕ))) → step_bytes plan.now shape.now lists step.old ≡ take result (drop from out.new) ++ step_bytes plan.now shape.now lists step.new }
+    ensures bytes { (lists : List (List (List ℕ))) → step_bytes plan.now shape.now lists step.old
+        ≡ take result (drop from out.new) ++ step_bytes plan.now shape.now lists step.new }
     ensures stays { (length out.new ≡ length out.old) × (drop (from + result) out.new ≡ drop (from + result) out.old) }
     ensures front { take from out.new ≡ take from out.old }
-    ensures step { (lists : List (List (List ℕ))) → IsStep plan.now shape.now lists step.old → IsStep plan.now shape.now lists step.new }
+    ensures step { (lists : List (List (List ℕ))) → IsStep plan.now shape.now lists step.old
+        → IsStep plan.now shape.now lists step.new }
     ensures last { step.old ≡ Done → (step.new ≡ Done) × (result ≡ 0) }
 {
     let Step::Cells(address) = *step else {
@@ -222,7 +220,8 @@ impl Writer {
     pub fn open(alloc: Global) -> Result<Writer, OutOfMemory>
         ensures done { IfOk result (λ w. is_done w ≡ true) }
         ensures last { IfOk result IsLast }
-        ensures ready { IfOk result (λ w. (c : Config) (shape : FrameShape) (lists : List (List (List ℕ))) → IsReady w c shape lists) }
+        ensures ready { IfOk result (λ w. (c : Config) (shape : FrameShape) (lists : List (List (List ℕ)))
+            → IsReady w c shape lists) }
     {
         Ok(Writer {
             piece: Piece::open(alloc)?,
@@ -254,9 +253,13 @@ impl Writer {
     )
         requires conf { conf.now ≡ conf_bits (conf_of plan.now) }
         requires short { length dynamic ≤ most_dynamic }
-        ensures left { (shape : FrameShape) (lists : List (List (List ℕ))) → bytes_left self.new plan.now shape lists ≡ front_bytes plan.now moment.now dynamic.entry blocks rest ++ step_bytes plan.now shape lists (Blocks 0) }
-        ensures most { (shape : FrameShape) (lists : List (List (List ℕ))) → length (bytes_left self.new plan.now shape lists) ≤ most_record plan.now (used_chunks lists) }
-        ensures ready { (shape : FrameShape) (lists : List (List (List ℕ))) → HasMap plan.now shape → HasLists plan.now lists → IsReady self.new plan.now shape lists }
+        ensures left { (shape : FrameShape) (lists : List (List (List ℕ)))
+            → bytes_left self.new plan.now shape lists
+            ≡ front_bytes plan.now moment.now dynamic.entry blocks rest ++ step_bytes plan.now shape lists (Blocks 0) }
+        ensures most { (shape : FrameShape) (lists : List (List (List ℕ)))
+            → length (bytes_left self.new plan.now shape lists) ≤ most_record plan.now (used_chunks lists) }
+        ensures ready { (shape : FrameShape) (lists : List (List (List ℕ))) → HasMap plan.now shape → HasLists plan.now lists
+            → IsReady self.new plan.now shape lists }
         ensures done { is_done self.new ≡ false }
     {
         self.piece.clear();
@@ -267,8 +270,10 @@ impl Writer {
 
     /// Begins the record of a muted frame.
     pub fn begin_muted(&mut self, moment: &Moment)
-        ensures left { (c : Config) (shape : FrameShape) (lists : List (List (List ℕ))) → bytes_left self.new c shape lists ≡ head_bytes muted_kind moment.now 0 }
-        ensures most { (c : Config) (shape : FrameShape) (lists : List (List (List ℕ))) → length (bytes_left self.new c shape lists) ≤ piece_len }
+        ensures left { (c : Config) (shape : FrameShape) (lists : List (List (List ℕ)))
+            → bytes_left self.new c shape lists ≡ head_bytes muted_kind moment.now 0 }
+        ensures most { (c : Config) (shape : FrameShape) (lists : List (List (List ℕ)))
+            → length (bytes_left self.new c shape lists) ≤ piece_len }
         ensures last { IsLast self.new }
         ensures ready { (c : Config) (shape : FrameShape) (lists : List (List (List ℕ))) → IsReady self.new c shape lists }
         ensures done { is_done self.new ≡ false }
@@ -279,13 +284,14 @@ impl Writer {
         self.step = Step::Done;
     }
 
-    /// Gives the next bytes of the record: what is left of the piece in hand, and behind it as many words of cells as there is room for. It
-    /// takes blocks from the pool as it goes.
+    /// Gives the next bytes of the record: what is left of the piece in hand, and behind it as many words of cells as there is
+    /// room for. It takes blocks from the pool as it goes.
     pub fn take(&mut self, plan: &Plan, shape: &Shape, pool: &mut Pool, out: &mut [u8]) -> usize
         requires { IsReady self.old plan.now shape.now pool.old.lists }
         ensures last { IsLast self.old → IsLast self.new × (pool.new ≡ pool.old) }
         ensures most { result ≤ length out.old }
-        ensures bytes { bytes_left self.old plan.now shape.now pool.old.lists ≡ take result out.new ++ bytes_left self.new plan.now shape.now pool.new.lists }
+        ensures bytes { bytes_left self.old plan.now shape.now pool.old.lists
+            ≡ take result out.new ++ bytes_left self.new plan.now shape.now pool.new.lists }
         ensures stays { (length out.new ≡ length out.old) × (drop result out.new ≡ drop result out.old) }
         ensures none { (result ≡ 0) ↔ ((length out.old ≡ 0) ⊎ (is_done self.old ≡ true)) }
         ensures lists { HasLists plan.now pool.old.lists → HasLists plan.now pool.new.lists }
@@ -307,8 +313,10 @@ impl Writer {
     /// Whether all bytes were given.
     pub fn is_done(&self) -> bool
         ensures is { result ≡ is_done self.now }
-        ensures none { result ≡ true → (c : Config) (shape : FrameShape) (lists : List (List (List ℕ))) → bytes_left self.now c shape lists ≡ [] }
-        ensures some { result ≡ false → (c : Config) (shape : FrameShape) (lists : List (List (List ℕ))) → 0 < length (bytes_left self.now c shape lists) }
+        ensures none { result ≡ true → (c : Config) (shape : FrameShape) (lists : List (List (List ℕ)))
+            → bytes_left self.now c shape lists ≡ [] }
+        ensures some { result ≡ false → (c : Config) (shape : FrameShape) (lists : List (List (List ℕ)))
+            → 0 < length (bytes_left self.now c shape lists) }
     {
         self.at == self.piece.len()
     }

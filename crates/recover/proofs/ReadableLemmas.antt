@@ -55,7 +55,7 @@ pointwise_append test (x ∷ xs) ys (u ∷ us) vs e f =
     and_from (test x u) (pointwise test (xs ++ ys) (us ++ vs)) p.0 (pointwise_append test xs ys us vs p.1 f)
 
 abbrev size_of : Config → ℕ → BlockSize
-size_of c plp = record { plp = (plp_at c.plps plp).id; len = block_bytes c plp }
+size_of c plp = record { plp_id = (plp_at c.plps plp).id; len = block_bytes c plp }
 
 -- a block of Kbch bits is sent as so many bytes
 sent_size : BitCounts → (c : Config) (plp : ℕ) (bits : List Bool) → length bits ≡ 8 * block_bytes c plp

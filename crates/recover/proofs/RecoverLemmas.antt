@@ -16,7 +16,7 @@ use Rattle.mode_adapt.specs.Queue.{Rates, sent, sent_before}
 use Rattle.mode_adapt.specs.Blocks.{rates_of, plp_keeps}
 use Rattle.packet_slots.specs.declared.rule.SlotRule.{SlotRule}
 use Rattle.packet_slots.specs.Packets.{packet_of}
-use Rattle.packet_slots.specs.Strings.{Item, values}
+use Rattle.packet_slots.specs.Strings.{Item, item_values}
 use Rattle.packet_slots.specs.Packets.{UserPacket, user_packets}
 use Rattle.packet_slots.specs.Readback.{counts, counted, slot_packet}
 use Rattle.packet_slots.specs.Records.{first_slot, readback}
@@ -122,7 +122,7 @@ module _ (c : Config) (plp ticks : ℕ) (packet : ℕ → List ℕ) (law : F.Sen
       all_kept (counts r) ups (all_map IsOwn (λ (up : UserPacket). counts r up ≡ true) (λ up own. own.counted) ups gives.all)
 
   abbrev shown : Option UserPacket → List ℕ
-  shown found = unwrap_or (option_map (λ up. packet_of (values up.items)) found) null_packet
+  shown found = unwrap_or (option_map (λ up. packet_of (item_values up.items)) found) null_packet
 
   module _ (k : ℕ) where
     found_is : slot_packet r z k ≡ shown (find (λ up. up.slot == k) ups)

@@ -15,7 +15,7 @@ use Rattle.packet_slots.specs.declared.mark.Mark.{Mark}
 use Rattle.packet_slots.specs.declared.mark.Mark.TheVariants.{Gap, Inside, Next, Timed}
 use Rattle.packet_slots.specs.declared.rule.SlotRule.{SlotRule}
 use Rattle.packet_slots.specs.Packets.{packet_of}
-use Rattle.packet_slots.specs.Strings.{Item, values}
+use Rattle.packet_slots.specs.Strings.{Item, item_values}
 use Rattle.packet_slots.specs.Packets.{UserPacket, slot_of_iscr, slot_by, slot_of, slot_before, slots_at, with_slot, packets_at}
 use Rattle.packet_slots.specs.Packets.{user_packets, window, first_item, last_item, dnp_of, is_complete}
 use Rattle.packet_slots.specs.Readback.{counts, counted, slot_packet}
@@ -104,7 +104,7 @@ module _ (n d a b ticks len : ℕ) (deletes : Bool) (same : SameTimes n d a b) w
 
   shown_same : (z : List Item) (k : ℕ) → slot_packet r z k ≡ slot_packet s z k
   shown_same z k =
-      ap (λ (l : List UserPacket). unwrap_or (option_map (λ up. packet_of (values up.items)) (find (λ up. up.slot == k) l))
+      ap (λ (l : List UserPacket). unwrap_or (option_map (λ up. packet_of (item_values up.items)) (find (λ up. up.slot == k) l))
       null_packet) (counted_same z)
 
   pub readback_same : (first : ℕ) (records : List Record) → readback r first records ≡ readback s first records

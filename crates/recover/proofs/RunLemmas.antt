@@ -16,7 +16,7 @@ use Rattle.mode_adapt.specs.Queue.{Rates, sent, sent_before}
 use Rattle.mode_adapt.specs.UserPackets.{user_packet}
 use Rattle.mode_adapt.specs.Blocks.{rates_of, plp_keeps}
 use Rattle.packet_slots.specs.declared.rule.SlotRule.{SlotRule}
-use Rattle.packet_slots.specs.Strings.{Item, values}
+use Rattle.packet_slots.specs.Strings.{Item, item_values}
 use Rattle.packet_slots.specs.Packets.{UserPacket, no_item, first_item, last_item, window, user_packets}
 use Rattle.packet_slots.specs.Readback.{counts, counts_by}
 use Rattle.packet_slots.specs.Times.{delay_of}
@@ -34,7 +34,7 @@ use Rattle.recover.proofs.NumberLemmas.{same_list, is_kept_slot, kept_least}
 use Rattle.recover.proofs.FoundLemmas.{range_all, Has, has_left, has_right, has_in_range}
 use Rattle.recover.proofs.FrameLemmas as F
 
-value_at : (z : List Item) (j : ℕ) → get_or (values z) j 0 ≡ (at z j).value
+value_at : (z : List Item) (j : ℕ) → get_or (item_values z) j 0 ≡ (at z j).value
 value_at [] j = refl
 value_at (x ∷ z) zero = refl
 value_at (x ∷ z) (suc j) = value_at z j
@@ -100,7 +100,7 @@ module _ (c : Config) (plp ticks : ℕ) (packet : ℕ → List ℕ) (end : ℕ) 
       pub inside : n < length (kept_slots keeps end)
       pub slot : up.slot ≡ slots n
       pub whole : (m : ℕ) → first ≤ m → m < first + count → muted m ≡ true → Misses m n
-      pub bytes : values up.items ≡ user_packet (plp_at c.plps plp).delete packet (slots n)
+      pub bytes : item_values up.items ≡ user_packet (plp_at c.plps plp).delete packet (slots n)
       pub counted : counts r up ≡ true
 
     -- the frames that are not muted and follow each other until frame m have these bytes
@@ -144,8 +144,8 @@ module _ (c : Config) (plp ticks : ℕ) (packet : ℕ → List ℕ) (end : ℕ) 
         even : IsEven (plp_at c.plps plp).delete packet len end
         even = string_even (plp_at c.plps plp).delete packet len end (F.size_of c plp ticks packet end law is)
 
-        bytes : values w ≡ user_packet (plp_at c.plps plp).delete packet (slots n)
-        bytes = same_list (values w) (user_packet (plp_at c.plps plp).delete packet (slots n))
+        bytes : item_values w ≡ user_packet (plp_at c.plps plp).delete packet (slots n)
+        bytes = same_list (item_values w) (user_packet (plp_at c.plps plp).delete packet (slots n))
             (length-map w (λ (x : Item). x.value) ∙ long ∙ sym (F.size_of c plp ticks packet end law is (slots n)))
             (λ j l. let lt : j < len = omega (arith, l, length-map w (λ (x : Item). x.value), long) in
             value_at w j ∙ ap (λ (x : Item). x.value) (item_is j lt) ∙ (byte_at j lt).value ∙ even.byte n j inside lt)

@@ -1,6 +1,7 @@
 // Laws of the definitions. Their functions do nothing.
 ghost use Rattle.frame_records.specs.Laws.{NoneLost};
-ghost use Rattle.recover.specs.Laws.{FrameIsEpoch, SlotRecovers, ReadbackRecovers, BlocksTaken, RunRecovers, RecordsRecover, WholeComesBack, RunComesBack};
+ghost use Rattle.recover.specs.Laws.{FrameIsEpoch, SlotRecovers, ReadbackRecovers, BlocksTaken, RunRecovers, RecordsRecover};
+ghost use Rattle.recover.specs.Laws.{WholeComesBack, RunComesBack};
 
 use bb_frame::{bit_counts, scramble_twice, written_is_spelled};
 use cell_map::shape_law;

@@ -1,5 +1,6 @@
 // Laws of the definitions. Their functions do nothing.
-ghost use Rattle.sent_frames.specs.Laws.{SentAreFrames, FrameCarries, FramesAreStream, TestsMeet, WrittenIsFrame, KeptIsHonest, WholeArrives, WholeComes};
+ghost use Rattle.sent_frames.specs.Laws.{SentAreFrames, FrameCarries, FramesAreStream, TestsMeet, WrittenIsFrame, KeptIsHonest};
+ghost use Rattle.sent_frames.specs.Laws.{WholeArrives, WholeComes};
 
 use bb_frame::bit_counts;
 use bit_slice::crc32_law;
@@ -42,7 +43,8 @@ pub fn undamaged_law()
     kept_law();
 }
 
-/// If all units of a run are kept, what is received is what the gateway writes, and the records that must come are the run's frames.
+/// If all units of a run are kept, what is received is what the gateway writes, and the records that must come are the run's
+/// frames.
 pub fn run_law()
     ensures arrives { WholeArrives }
     ensures records { WholeComes }

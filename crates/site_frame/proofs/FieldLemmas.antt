@@ -76,7 +76,7 @@ block_again b second rest fits =
     ∙ ap (drop n) behind4 ∙ drop_at b.bytes rest n refl in
     let long : ltb (length bytes) (block_len bytes) ≡ false = le-ltb _ _ (omega (arith, all, len)) in
     record {
-      first = ap (λ (xs : List ℕ). block_of b.plp xs) body;
+      first = ap (λ (xs : List ℕ). block_of b.plp_id xs) body;
       skip = rw long (ap Some past);
       behind = past;
     }

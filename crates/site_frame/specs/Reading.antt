@@ -38,7 +38,7 @@ skip_blocks (suc n) bytes = skip_block bytes >>= skip_blocks n
 
 -- the block at the front
 abbrev pub block_at : List ℕ → Block
-block_at bytes = record { plp = slice_index bytes 0; bytes = take (big_number 2 (drop 2 bytes)) (drop 4 bytes) }
+block_at bytes = record { plp_id = slice_index bytes 0; bytes = take (big_number 2 (drop 2 bytes)) (drop 4 bytes) }
 
 -- so many blocks from the front on
 abbrev pub blocks_in : ℕ → List ℕ → List Block
@@ -46,7 +46,7 @@ blocks_in zero bytes = []
 blocks_in (suc n) bytes = block_at bytes ∷ blocks_in n (drop (block_len bytes) bytes)
 
 abbrev pub block_of : ℕ → List ℕ → Block
-block_of plp bytes = record { plp = plp; bytes = bytes }
+block_of plp_id bytes = record { plp_id = plp_id; bytes = bytes }
 
 -- the cells that so many words spell
 abbrev pub cells_in : ℕ → List ℕ → List (Option Cell)

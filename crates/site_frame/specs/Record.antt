@@ -7,7 +7,7 @@ use Rattle.plp_config.specs.declared.moment.Moment.{Moment}
 
 -- a block: the PLP that it belongs to, and its scrambled bytes
 pub record Block : Type 0 where
-  pub plp : ℕ
+  pub plp_id : ℕ
   pub bytes : List ℕ
 
 -- the kinds of records: a frame, or one that is muted
@@ -34,7 +34,7 @@ head_bytes kind moment rest = 0x54 ∷ 0x32 ∷ 0x46 ∷ 0x52 ∷ kind ∷ 0 ∷
 
 -- a block: its PLP, a byte that decides nothing, the number of its bytes, and these
 abbrev pub block_bytes : Block → ℕ → List ℕ
-block_bytes b second = b.plp ∷ second ∷ (big_bytes 2 (length b.bytes) ++ b.bytes)
+block_bytes b second = b.plp_id ∷ second ∷ (big_bytes 2 (length b.bytes) ++ b.bytes)
 
 -- blocks, each with its second byte: 0 if none is told
 abbrev pub blocks_bytes : List Block → List ℕ → List ℕ
@@ -65,7 +65,7 @@ cell_bytes cell = big_bytes 4 (word_of cell)
 
 -- A block fits its numbers.
 abbrev pub FitsBlock : Block → Type 0
-FitsBlock b = (b.plp < 256) × (length b.bytes < 2 ^ 16)
+FitsBlock b = (b.plp_id < 256) × (length b.bytes < 2 ^ 16)
 
 -- A cell fits its word, which is not that of a dummy cell.
 abbrev pub FitsCell : Option Cell → Type 0

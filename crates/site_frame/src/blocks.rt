@@ -84,8 +84,8 @@ impl<'a> Blocks<'a> {
             return None;
         }
         let rest = skip(place as u16, self.bytes)?;
-        let (plp, block, _) = first(rest);
-        Some((plp, block))
+        let (plp_id, block, _) = first(rest);
+        Some((plp_id, block))
     }
 
     /// All of them, from the first on.
@@ -131,9 +131,9 @@ impl<'a> Iterator for BlocksIter<'a> {
         if self.left == 0 {
             return None;
         }
-        let (plp, block, rest) = first(self.rest);
+        let (plp_id, block, rest) = first(self.rest);
         self.rest = rest;
         self.left -= 1;
-        Some((plp, block))
+        Some((plp_id, block))
     }
 }

@@ -1,8 +1,10 @@
 // Reading a record.
-ghost use Rattle.std.specs.Prelude.{◌≡◌, ◌↔◌, ℕ, ◌+◌, ◌-◌, ◌<◌, ◌≤◌, ◌^◌, List, ◌++◌, length, IsTrue, IfOk, IfErr, IfSome, Ok, Err};
+ghost use Rattle.std.specs.Prelude.{◌≡◌, ◌↔◌, ℕ, ◌+◌, ◌-◌, ◌<◌, ◌≤◌, ◌^◌, List, ◌++◌, length, IsTrue, IfOk, IfErr, IfSome, Ok};
+ghost use Rattle.std.specs.Prelude.{Err};
 ghost use Rattle.site_frame.specs.Record.{head_len};
 ghost use Rattle.site_frame.specs.Reading.{Gives};
-ghost use Rattle.site_frame.specs.Whole.{HasHead, HasKind, view_in, told_moment, IsRead, IsRefused, BeginsWith, Refuses, Follow, RefusesHead, IsRight, IsRightAlone, IsWrong};
+ghost use Rattle.site_frame.specs.Whole.{HasHead, HasKind, view_in, told_moment, IsRead, IsRefused, BeginsWith, Refuses, Follow};
+ghost use Rattle.site_frame.specs.Whole.{RefusesHead, IsRight, IsRightAlone, IsWrong};
 ghost use Rattle.site_frame.specs.declared.fault.RecordWhy.{RecordWhy};
 ghost use Rattle.site_frame.specs.declared.reading.RecordView.{RecordView};
 
@@ -121,7 +123,8 @@ fn told_alone(head: &[u8]) -> Result<usize, RecordWhy>
 pub fn rest_len(head: &[u8; HEAD]) -> Result<usize, RecordWhy>
     ensures ok { IfOk result (Follow head.now) }
     // If a record begins with the head, its length is told.
-    ensures every { (more : List ℕ) (view : RecordView) (len : ℕ) → BeginsWith (head.now ++ more) view len → result ≡ Ok (len - head_len) }
+    ensures every { (more : List ℕ) (view : RecordView) (len : ℕ) → BeginsWith (head.now ++ more) view len
+        → result ≡ Ok (len - head_len) }
     ensures err { IfErr result (RefusesHead head.now) }
 {
     told_alone(head)

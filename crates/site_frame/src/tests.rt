@@ -60,14 +60,18 @@ fn assert_frame(rt: &impl Abort, view: &RecordView<'_>) {
             assert!(rt; post.len() == 9 && post.field(0, 9) == 0x157);
             assert!(rt; blocks.len() == 1 && blocks.get(1).is_none());
             match blocks.get(0) {
-                Some((plp, block)) => assert!(rt; plp == 7 && block == [0xDE, 0xAD].as_slice()),
+                Some((plp_id, block)) => assert!(rt;
+                    plp_id == 7 && block == [0xDE, 0xAD].as_slice()
+                ),
                 None => panic!(rt; "no block"),
             }
             assert!(rt; cells.len() == 2 && cells.get(2) == None);
             assert!(rt; cells.get(0) == Some(None) && cells.get(1) == Some(Some(CELL)));
             let mut each = blocks.iter();
             match each.next() {
-                Some((plp, block)) => assert!(rt; plp == 7 && block == [0xDE, 0xAD].as_slice()),
+                Some((plp_id, block)) => assert!(rt;
+                    plp_id == 7 && block == [0xDE, 0xAD].as_slice()
+                ),
                 None => panic!(rt; "no block"),
             }
             assert!(rt; each.next().is_none());

@@ -1,5 +1,6 @@
-// Blocks that no modulator sends, to the receiver's slots: ten slots of 100 ticks a frame of 1,000, so the delay is 3,101 ticks. Frame 1 has two blocks,
-// of 1,000 and 880 bytes; the user packet of slot k has the byte k, and a null packet has 0x1F there. What must come was counted by hand.
+// Blocks that no modulator sends, to the receiver's slots: ten slots of 100 ticks a frame of 1,000, so the delay is 3,101 ticks.
+// Frame 1 has two blocks, of 1,000 and 880 bytes; the user packet of slot k has the byte k, and a null packet has 0x1F there.
+// What must come was counted by hand.
 ghost use Rattle.std.specs.Prelude.{◌≡◌, ◌+◌, ◌<◌, true, false, IfOk};
 ghost use Rattle.plp_config.specs.declared.moment.TheConstants.{MOST_FRAMES};
 ghost use Rattle.packet_slots.specs.StandsFor.{frame_of, is_within, due_of};
@@ -36,8 +37,8 @@ const NO_ISCR: u32 = 0x80_0000 + (1 << 22);
 
 const NULL: u8 = 0x1F;
 
-// What is sent: the ticks that the ISSY of the two blocks tell, the dnp of the third user packet, and the frame in which the rest of the last one
-// comes, if it does not come in frame 1; and the bytes of the packets of the first ten slots that are given out.
+// What is sent: the ticks that the ISSY of the two blocks tell, the dnp of the third user packet, and the frame in which the rest
+// of the last one comes, if it does not come in frame 1; and the bytes of the packets of the first ten slots that are given out.
 struct Row {
     why: &'static str,
     first: u32,

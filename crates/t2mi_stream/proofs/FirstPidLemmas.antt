@@ -8,7 +8,7 @@ use Rattle.std.proofs.lemmas.List.{take_all}
 use Rattle.ts_packet.specs.TransportPacket.{Fields}
 use Rattle.ts_packet.specs.Told.{fields_in}
 use Rattle.t2mi_stream.specs.Skipping.{CarriesNothing, SkipLaw}
-use Rattle.t2mi_stream.specs.Units.{points_inside, Carrier, carrier_of, carried, unit_at}
+use Rattle.t2mi_stream.specs.Units.{points_inside, PipedUnit, piped_unit_of, carried, unit_at}
 use Rattle.t2mi_stream.proofs.SkippingLemmas.{unit_before, unit_behind}
 use Rattle.t2mi_stream.specs.FirstPid.{pid_of, pid_at, pid_in, accepted_on, TellsNone, TellsNoneOn, PacketsBehind, NoPackets}
 
@@ -54,17 +54,17 @@ not_null (Some f) pid e = go (nat_lt 0 (length f.payload)) (f.pid == 0x1FFF) ref
     go false c is h = cc
 
 -- a unit that tells no PID carries nothing on the PID that another tells
-no_carrier : (pid place : ℕ) (unit : List ℕ) (f : Option Fields) → (pid == 0x1FFF) ≡ false → pid_of f ≡ None
-    → carrier_of pid place unit f ≡ None
-no_carrier pid place unit None other none = refl
-no_carrier pid place unit (Some f) other none = go (f.pid == pid) (nat_lt 0 (length f.payload)) refl none
+no_piped_unit : (pid place : ℕ) (unit : List ℕ) (f : Option Fields) → (pid == 0x1FFF) ≡ false → pid_of f ≡ None
+    → piped_unit_of pid place unit f ≡ None
+no_piped_unit pid place unit None other none = refl
+no_piped_unit pid place unit (Some f) other none = go (f.pid == pid) (nat_lt 0 (length f.payload)) refl none
   where
     null : (b : Bool) → (f.pid == 0x1FFF) ≡ b → cond (not b) (Some f.pid) None ≡ None → b ≡ true
     null true is h = refl
     null false is h = cc
 
     go : (here some : Bool) → (f.pid == pid) ≡ here → cond (some && not (f.pid == 0x1FFF)) (Some f.pid) None ≡ None →
-        cond {A = Option Carrier} (here && not f.error && (f.scrambling == 0) && some && points_inside f)
+        cond {A = Option PipedUnit} (here && not f.error && (f.scrambling == 0) && some && points_inside f)
         (Some (record { counter = f.counter; bytes = carried place unit f })) None ≡ None
     go false some is h = refl
     go true true is h =
@@ -72,7 +72,7 @@ no_carrier pid place unit (Some f) other none = go (f.pid == pid) (nat_lt 0 (len
         absurd (both_ways (pid == 0x1FFF) other (subst (λ (n : ℕ). (n == 0x1FFF) ≡ true) same (null (f.pid == 0x1FFF) refl h)))
     go true false is h = left_out (f.error) (f.scrambling == 0)
       where
-        left_out : (e s : Bool) → cond {A = Option Carrier} (true && not e && s && false && points_inside f)
+        left_out : (e s : Bool) → cond {A = Option PipedUnit} (true && not e && s && false && points_inside f)
             (Some (record { counter = f.counter; bytes = carried place unit f })) None ≡ None
         left_out true s = refl
         left_out false true = refl
@@ -82,7 +82,7 @@ carries_nothing : (front : List ℕ) (pid : ℕ) → (pid == 0x1FFF) ≡ false �
 carries_nothing front pid other t = record {
   units = t.units;
   whole = t.whole;
-  none = λ number h. no_carrier pid (188 * number) (unit_at front number) (fields_in (unit_at front number)) other
+  none = λ number h. no_piped_unit pid (188 * number) (unit_at front number) (fields_in (unit_at front number)) other
       (t.none number h);
 }
 

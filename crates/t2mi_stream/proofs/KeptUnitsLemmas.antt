@@ -8,7 +8,7 @@ use Rattle.std.proofs.lemmas.Bool.{cond-true, cond-false, cond_both, cases_lt, b
 use Rattle.std.proofs.lemmas.Option.{none-some, same_Some}
 use Rattle.ts_packet.specs.Told.{fields_in}
 use Rattle.t2mi_stream.specs.Accepted.{Byte, packet_of}
-use Rattle.t2mi_stream.specs.Units.{Carrier, carrier_of, unit_at, Cut, goes_on, with_carrier, cut_from, runs}
+use Rattle.t2mi_stream.specs.Units.{PipedUnit, piped_unit_of, unit_at, Cut, goes_on, with_piped_unit, cut_from, runs}
 use Rattle.t2mi_stream.specs.Units.{bytes_from}
 use Rattle.t2mi_stream.specs.Pipe.{Item, items, joined, least_start, part, unit, units_in, carried_in}
 use Rattle.t2mi_stream.specs.Pipe.{carried_len}
@@ -24,7 +24,7 @@ use Rattle.t2mi_stream.proofs.ReadsLemmas.{UnitLaws, unit_reads, carried_fits}
 -- one more unit behind whole units
 pub one_unit : (w : UnitLaws) (pid counter number : ℕ) (bytes : List ℕ) (xs : List Item) → pid < 2 ^ 13 → counter < 16
     → 0 < length xs → length bytes ≡ 188 * number →
-    runs pid (bytes ++ unit pid counter xs) ≡ with_carrier (runs pid bytes)
+    runs pid (bytes ++ unit pid counter xs) ≡ with_piped_unit (runs pid bytes)
     (record { counter = counter; bytes = carried_in (188 * number) xs })
 one_unit w pid counter number bytes xs p n some whole =
     let r = unit_reads w pid (188 * number) counter xs p n some in
@@ -33,12 +33,12 @@ one_unit w pid counter number bytes xs p n some whole =
     ∙ take_all 188 (unit pid counter xs) (omega (arith, r.whole)) in
     runs_unit pid bytes (unit pid counter xs) number (omega (arith, whole)) (length-append bytes (unit pid counter xs)
     ∙ omega (arith, whole, r.whole))
-    ∙ ap (λ (u : List ℕ). cut_from (runs pid bytes) (option_to_list (carrier_of pid (188 * number) u (fields_in u)))) at
-    ∙ ap (λ (o : Option Carrier). cut_from (runs pid bytes) (option_to_list o)) r.carrier
+    ∙ ap (λ (u : List ℕ). cut_from (runs pid bytes) (option_to_list (piped_unit_of pid (188 * number) u (fields_in u)))) at
+    ∙ ap (λ (o : Option PipedUnit). cut_from (runs pid bytes) (option_to_list o)) r.piped_unit
 
--- a carrier in a run
-pub entered : (cut : Cut) (c : Carrier) → (front : List Byte) × ((with_carrier cut c).run ≡ front ++ c.bytes)
-    × ((with_carrier cut c).last ≡ Some c.counter)
+-- a piped unit in a run
+pub entered : (cut : Cut) (c : PipedUnit) → (front : List Byte) × ((with_piped_unit cut c).run ≡ front ++ c.bytes)
+    × ((with_piped_unit cut c).last ≡ Some c.counter)
 entered cut c = cond_both {A = Cut} (goes_on cut.last c.counter) _ _ (λ k. (front : List Byte) × (k.run ≡ front ++ c.bytes)
     × (k.last ≡ Some c.counter))
     (λ _. (cut.run, refl, refl)) (λ _. ([], refl, refl))
@@ -93,10 +93,10 @@ goes_along w pid (suc count) (suc steps) counter last number bytes (x ∷ xs) p 
     let rest : List Item = drop (part all).size all in
     let next : ℕ = (counter + 1) % 16 in
     let r = unit_reads w pid (188 * number) counter all p small (omega arith) in
-    let c : Carrier = record { counter = counter; bytes = carried_in (188 * number) all } in
-    let cut : runs pid (bytes ++ u) ≡ with_carrier (runs pid bytes) c =
+    let c : PipedUnit = record { counter = counter; bytes = carried_in (188 * number) all } in
+    let cut : runs pid (bytes ++ u) ≡ with_piped_unit (runs pid bytes) c =
     one_unit w pid counter number bytes all p small (omega arith) whole in
-    let goes : with_carrier (runs pid bytes) c ≡ record {
+    let goes : with_piped_unit (runs pid bytes) c ≡ record {
       ended = (runs pid bytes).ended;
       run = (runs pid bytes).run ++ c.bytes;
       last = Some counter;

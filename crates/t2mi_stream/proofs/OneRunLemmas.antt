@@ -11,7 +11,7 @@ use Rattle.std.proofs.lemmas.Option.{none-some, same_Some}
 use Rattle.t2mi_packet.specs.Spell.{spell}
 use Rattle.t2mi_stream.specs.Accepted.{Byte, AcceptedPacket, values, is_marked, packet_of, accepted_len, front_packet, accepted}
 use Rattle.t2mi_stream.specs.Candidate.{placed}
-use Rattle.t2mi_stream.specs.Units.{Carrier, Cut, goes_on, runs}
+use Rattle.t2mi_stream.specs.Units.{PipedUnit, Cut, goes_on, runs}
 use Rattle.t2mi_stream.specs.Pipe.{Item, values as item_values, items, joined, part, unit, units_in, carried_in}
 use Rattle.t2mi_stream.specs.Pipe.{carried_len, offset_in}
 use Rattle.t2mi_stream.specs.Pipes.{is_first}
@@ -62,7 +62,7 @@ one_run w pid (suc steps) counter number bytes (x ∷ xs) p small whole goes =
     let rest : List Item = drop (part all).size all in
     let next : ℕ = (counter + 1) % 16 in
     let r = unit_reads w pid (188 * number) counter all p small (omega arith) in
-    let c : Carrier = record { counter = counter; bytes = carried_in (188 * number) all } in
+    let c : PipedUnit = record { counter = counter; bytes = carried_in (188 * number) all } in
     let cut : runs pid (bytes ++ u) ≡ record {
       ended = (runs pid bytes).ended;
       run = (runs pid bytes).run ++ c.bytes;

@@ -10,7 +10,7 @@ use Rattle.std.proofs.lemmas.Option.{none-some, same_Some}
 use Rattle.t2mi_packet.specs.Spell.{spell}
 use Rattle.t2mi_stream.specs.Accepted.{Byte, AcceptedPacket, is_marked, packet_of, accepted}
 use Rattle.t2mi_stream.specs.Candidate.{placed}
-use Rattle.t2mi_stream.specs.Units.{Carrier, Cut, with_carrier, runs, accepted_of}
+use Rattle.t2mi_stream.specs.Units.{PipedUnit, Cut, with_piped_unit, runs, accepted_of}
 use Rattle.t2mi_stream.specs.Pipe.{Item, values, items, joined, part, unit, units_in, units_of, carried_in}
 use Rattle.t2mi_stream.specs.Pipe.{carried_len, offset_in}
 use Rattle.t2mi_stream.specs.Pipes.{is_first}
@@ -56,7 +56,7 @@ module _ (g : SpellLaws) (w : UnitLaws) (front : AcceptedFront) (pid : ℕ) (fit
     abbrev next : ℕ
     next = (counter + 1) % 16
 
-    abbrev c : Carrier
+    abbrev c : PipedUnit
     c = record { counter = counter; bytes = carried_in (188 * number) all }
 
     abbrev s : ℕ
@@ -65,11 +65,11 @@ module _ (g : SpellLaws) (w : UnitLaws) (front : AcceptedFront) (pid : ℕ) (fit
     size : (0 < (part all).size) × ((part all).size ≤ length all) × ((part all).size ≤ 184)
     size = part_size all (omega arith)
 
-    cut : runs pid (bytes ++ u) ≡ with_carrier (runs pid bytes) c
+    cut : runs pid (bytes ++ u) ≡ with_piped_unit (runs pid bytes) c
     cut = one_unit w pid counter number bytes all fits_pid small (omega arith) units
 
-    e : (front : List Byte) × ((with_carrier (runs pid bytes) c).run ≡ front ++ c.bytes)
-        × ((with_carrier (runs pid bytes) c).last ≡ Some counter)
+    e : (front : List Byte) × ((with_piped_unit (runs pid bytes) c).run ≡ front ++ c.bytes)
+        × ((with_piped_unit (runs pid bytes) c).last ≡ Some counter)
     e = entered (runs pid bytes) c
 
     further : GoesOn pid (bytes ++ u) (take count (units_in pid steps next rest)) rest (carried_len count rest)

@@ -10,7 +10,7 @@ use Rattle.std.proofs.lemmas.Option.{same_Some}
 use Rattle.t2mi_packet.specs.Spell.{spell}
 use Rattle.t2mi_stream.specs.Accepted.{Byte, AcceptedPacket, packet_of, accepted}
 use Rattle.t2mi_stream.specs.Candidate.{placed}
-use Rattle.t2mi_stream.specs.Units.{Cut, goes_on, no_cut, carriers, runs, accepted_of}
+use Rattle.t2mi_stream.specs.Units.{Cut, goes_on, no_cut, piped_units, runs, accepted_of}
 use Rattle.t2mi_stream.specs.Pipe.{Item, items, joined, pipe}
 use Rattle.t2mi_stream.specs.Pipe.{carried_len, offset_in}
 use Rattle.t2mi_stream.specs.Received.{Fate, AlteredWhole}
@@ -168,7 +168,7 @@ length_push before packet =
     ∙ let e = ap length (append-nil (items true packet)) in omega (arith, e, length-items true packet)
 
 no_runs : (pid : ℕ) → runs pid [] ≡ no_cut
-unfolding runs carriers
+unfolding runs piped_units
 no_runs pid = refl
 
 -- Packets that begin in later units come behind those that begin in earlier ones.

@@ -1,5 +1,6 @@
 // Laws of the definitions. Their functions do nothing.
-ghost use Rattle.ts_packet.specs.Laws.{OnePacket, NoRefusal, SpelledOrRefused, OneRefusal, WrittenSpells, NullByPid, CanonicalNull, FieldsTold, PayloadLast};
+ghost use Rattle.ts_packet.specs.Laws.{OnePacket, NoRefusal, SpelledOrRefused, OneRefusal, WrittenSpells, NullByPid};
+ghost use Rattle.ts_packet.specs.Laws.{CanonicalNull, FieldsTold, PayloadLast};
 
 /// A string spells one packet at most.
 pub fn one_packet()

@@ -17,11 +17,11 @@ covered_len out front block is len = ap length is ∙ omega (arith, length-appen
 
 abbrev head : goal.After-finish_packet → BlockHead
 head c = record {
-  count = c.args.number;
+  packet_count = c.args.packet_count;
   superframe = c.superframe_idx.result;
   stream = 0;
   frame_idx = c.frame_idx.result;
-  plp = c.plp_id.result;
+  plp_id = c.plp_id.result;
   first = c.args.first;
 }
 
@@ -45,8 +45,8 @@ pub returns-clause-bits : goal.returns-clause-bits
 unfolding written_bits
 returns-clause-bits c =
     let p = c.args.plan.now in
-    let count : c.args.number ≡ c.args.number % 256 = search rules in
-    let same : packet_of (head c) (bits_of c.args.block.now) ≡ packet_with p c.args.number c.args.frame
+    let count : c.args.packet_count ≡ c.args.packet_count % 256 = search rules in
+    let same : packet_of (head c) (bits_of c.args.block.now) ≡ packet_with p c.args.packet_count c.args.frame
     (Block (c.args.frame % p.frames) (plp_at p.plps c.args.plp).id c.args.first (bits_of c.args.block.now)) =
     rw (← count, c.superframe_idx.ensures.value, c.frame_idx.ensures, c.plp_id.ensures) refl in
     c.finish_packet.ensures ∙ ap with_crc (covered c) ∙ ap written_bits same

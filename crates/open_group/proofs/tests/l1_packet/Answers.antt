@@ -9,7 +9,7 @@ returns c =
     let extension = c.sub-3.ensures.len in
     rw c.packet.ensures
     (record {
-      count = omega arith;
+      packet_count = omega arith;
       superframe = omega arith;
       stream = omega arith;
       body = (omega arith, omega (arith, pre), omega (arith, conf), omega (arith, dynamic), omega (arith, extension));

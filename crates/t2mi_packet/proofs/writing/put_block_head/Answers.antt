@@ -11,14 +11,14 @@ pub returns-in_err-put_head-clause-fault : goal.returns-in_err-put_head-clause-f
 returns-in_err-put_head-clause-fault g c =
     let p = err_from_is_err_and c.from_residual.result c.from_residual.ensures.1 in
     let h = c.args.head.now in
-    let parts = rows_bits-append (head_rows 0x00 h.count h.superframe h.stream (24 + 8 * c.args.bytes))
-    (payload_rows (Block h.frame_idx h.plp h.first [])) in
+    let parts = rows_bits-append (head_rows 0x00 h.packet_count h.superframe h.stream (24 + 8 * c.args.bytes))
+    (payload_rows (Block h.frame_idx h.plp_id h.first [])) in
     rw (p.1, p.2) (early c.stops_law.ensures.early _ _ _ _ _ _ c.in_err-put_head.ensures.fault parts)
 
 pub returns-clause-fault : goal.returns-clause-fault
 returns-clause-fault g c =
     let h = c.args.head.now in
-    let parts = rows_bits-append (head_rows 0x00 h.count h.superframe h.stream (24 + 8 * c.args.bytes))
-    (payload_rows (Block h.frame_idx h.plp h.first [])) in
+    let parts = rows_bits-append (head_rows 0x00 h.packet_count h.superframe h.stream (24 + 8 * c.args.bytes))
+    (payload_rows (Block h.frame_idx h.plp_id h.first [])) in
     rest_faults c.stops_law.ensures.later _ _ _ _ _ _ c.put_block.result c.in_ok-put_head.ensures.ok
     (rw c.whole.ensures.bits at c.put_block.ensures.fault) parts

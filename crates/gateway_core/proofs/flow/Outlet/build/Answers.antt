@@ -22,14 +22,14 @@ returns-clause-feeds c =
     let number : c.build.new.self.number ≡ old.number = ap (λ (l : Layout). l.number) c.if-not-build.ensures.layout in
     record {
       flows = λ all given h.
-          let was : Carries (PiperStandsFor o.piper) (is_finished o.piper) (rest_of o) o.number p old.number
+          let was : Carries (PiperStandsFor o.piper) (is_finished o.piper) (rest_of o) o.packet_count p old.number
           (b.body ∷ next) all given =
           subst (λ (l : List Body). Carries (PiperStandsFor o.piper) (is_finished o.piper)
-          (rest_of o) o.number p old.number l all given) b.was h in
+          (rest_of o) o.packet_count p old.number l all given) b.was h in
           subst (λ (n : ℕ). Carries (PiperStandsFor c.begin.new.self) (is_finished c.begin.new.self) (bytes_of c.build.new.out)
-          ((o.number + 1) % 256) p n next all given) (sym number)
+          ((o.packet_count + 1) % 256) p n next all given) (sym number)
           (carries_build (PiperStandsFor o.piper) (PiperStandsFor c.begin.new.self) _ _ (rest_of o)
-          (bytes_of c.build.new.out) c.build.new.out o.number p old.number b.body next all given c.requires.«open»
+          (bytes_of c.build.new.out) c.build.new.out o.packet_count p old.number b.body next all given c.requires.«open»
           c.requires.fed c.begin.ensures.stands b.built refl was);
       bound = omega (arith, whole_room c.build.new.out b.whole, ap length b.was, c.begin.ensures.waiting);
       early = c.if-not-build.ensures.early;

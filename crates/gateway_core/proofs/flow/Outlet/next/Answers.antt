@@ -59,11 +59,11 @@ old c = PiperStandsFor c.args.self.now.piper
 -- the piece is taken, and the unit not yet given
 piped : (c : goal.After-self-2-1) (config : Config) (n : ℕ) (left : List Body) (all : List (ℕ × Body)) (given : ℕ)
     → Flows c.args.self.now config n left all given
-    → Carries (AfterPiece (old c) (piece c)) false (drop c.pipe.result (rest c)) c.args.self.now.number config n left all given
+    → Carries (AfterPiece (old c) (piece c)) false (drop c.pipe.result (rest c)) c.args.self.now.packet_count config n left all given
 piped c config n left all given h =
     let o = c.args.self.now in
     let going = going_when (is_finished o.piper) _ (rest c) o.end o.few (search rules) in
-    carries_feed (old c) (AfterPiece (old c) (piece c)) _ false (rest c) c.pipe.result o.number config n left all given going
+    carries_feed (old c) (AfterPiece (old c) (piece c)) _ false (rest c) c.pipe.result o.packet_count config n left all given going
     (piece_after (old c) (piece c)) h
 
 now_complete : (c : goal.After-self-2-1) (pid : ℕ) (events : List PiperEvent) → AfterPiece (old c) (piece c) pid events
@@ -89,7 +89,7 @@ returns-clause-flows c = λ on config n left all given h.
     let stands =
     subst (λ (l : List ℕ). (pid : ℕ) (events : List PiperEvent) → old c pid events
     → new pid (events ++ Piped (take c.pipe.result l) ∷ Given ∷ [])) (rest_is c) c.pipe.ensures.stands in
-    subst (λ (l : List ℕ). Carries new (is_finished c.pipe.new.self) l c.args.self.now.number config n left all (given + 1))
+    subst (λ (l : List ℕ). Carries new (is_finished c.pipe.new.self) l c.args.self.now.packet_count config n left all (given + 1))
     (drop-drop c.pipe.result c.args.self.now.at (bytes_of c.args.self.now.packet))
     (carries_given (AfterPiece (old c) (piece c)) new false (is_finished c.pipe.new.self) _ _ config n left all given
     c.pipe.ensures.finished (λ _. now_complete c) (unit_after (old c) new (piece c) stands)

@@ -34,11 +34,11 @@ pub returns-clause-some : goal.returns-clause-some
 returns-clause-some c = λ on s.
     let f = c.args.self.now in
     let p = c.args.plan.now in
-    let built = built_block p f.number c.args.number f.step (l1_body p f.number s.pre s.conf f.dynamic.bits) f.blocks f.plp
+    let built = built_block p f.number c.args.packet_count f.step (l1_body p f.number s.pre s.conf f.dynamic.bits) f.blocks f.plp
     c.in-Some.list f.first c.is_first-first.result _ c.write_block.new.out c.requires.step c.requires.plps
     c.in-Some.ensures.next c.is_first-first.ensures c.front_block-block.ensures c.write_block.ensures.bits
     c.write_block.ensures.whole in
-    subst (λ (q : State). Builds p f.number c.args.number
+    subst (λ (q : State). Builds p f.number c.args.packet_count
     (from_step p f.number f.step (l1_body p f.number s.pre s.conf f.dynamic.bits)
     (blocks_left p f.number (bits_in f.blocks) f.plp f.first))
     (from_step p f.number f.step (l1_body p f.number s.pre s.conf f.dynamic.bits)

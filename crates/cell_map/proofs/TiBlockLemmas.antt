@@ -1,11 +1,11 @@
--- The group of a block.
+-- The TI-block of a block.
 use Rattle.std.proofs.Common.{◌≡◌, ℕ, zero, suc, ◌+◌, ◌-◌, ◌*◌, ◌/◌, ◌%◌, ◌<◌, ◌≤◌, ltb, List, [], ◌∷◌, ◌++◌, replicate, refl, ap}
 use Rattle.std.proofs.Common.{sym, ◌∙◌, arith}
 use Rattle.std.proofs.lemmas.Bool.{lt-ltb, le-ltb, ltb-true, ltb-false}
 use Rattle.std.proofs.lemmas.Nat.{div-add-mod', mod_below, div_below, mul-le}
 use Rattle.std.proofs.lemmas.List.{append-nil}
-use Rattle.cell_map.specs.declared.interleaving.Group.{Group}
-use Rattle.cell_map.specs.Interleaver.{sizes_of, group_in, group_of}
+use Rattle.cell_map.specs.declared.interleaving.TiBlock.{TiBlock}
+use Rattle.cell_map.specs.Interleaver.{sizes_of, ti_block_in, ti_block_of}
 use Rattle.terms.proofs.CaseLemmas.{bool_cases}
 
 abbrev pub total : List ℕ → ℕ
@@ -34,15 +34,15 @@ total-sizes n groups h =
     )
     (omega (arith, spread))
 
-pub record Around (sizes : List ℕ) (start block : ℕ) (g : Group) : Type 0 where
+pub record Around (sizes : List ℕ) (start block : ℕ) (g : TiBlock) : Type 0 where
   pub low : start ≤ g.first
   pub before : g.first ≤ block
   pub behind : block < g.first + g.size
   pub whole : g.first + g.size ≤ start + total sizes
-  pub same : (other : ℕ) → g.first ≤ other → other < g.first + g.size → group_in sizes start other ≡ g
+  pub same : (other : ℕ) → g.first ≤ other → other < g.first + g.size → ti_block_in sizes start other ≡ g
 
 pub around : (sizes : List ℕ) (start block : ℕ) → start ≤ block → block < start + total sizes
-    → Around sizes start block (group_in sizes start block)
+    → Around sizes start block (ti_block_in sizes start block)
 around [] start block h k = absurd (omega arith)
 around (s ∷ ss) start block h k =
     bool_cases (ltb block (start + s))
@@ -65,9 +65,9 @@ around (s ∷ ss) start block h k =
           rw (le-ltb other (start + s) far) (r.same other a b);
     }))
 
--- a block in the d-th of groups of one size
+-- a block in the d-th of TI-blocks of one size
 pub group_at : (k size start block d : ℕ) (rest : List ℕ) → d < k → start + d * size ≤ block → block < start + (d + 1) * size →
-    group_in (replicate k size ++ rest) start block ≡ record { first = start + d * size; size = size }
+    ti_block_in (replicate k size ++ rest) start block ≡ record { first = start + d * size; size = size }
 group_at zero size start block d rest h a b = absurd (omega arith)
 group_at (suc k) size start block zero rest h a b =
     let lt : block < start + size = omega arith in
@@ -80,19 +80,19 @@ group_at (suc k) size start block (suc d) rest h a b =
     ∙ ap (λ (f : ℕ). record { first = f; size = size }) e)
 
 pub group_skip : (k size start block : ℕ) (rest : List ℕ) → start + k * size ≤ block →
-    group_in (replicate k size ++ rest) start block ≡ group_in rest (start + k * size) block
+    ti_block_in (replicate k size ++ rest) start block ≡ ti_block_in rest (start + k * size) block
 group_skip zero size start block rest h =
-    let e : start ≡ start + 0 * size = omega arith in ap (λ (f : ℕ). group_in rest f block) e
+    let e : start ≡ start + 0 * size = omega arith in ap (λ (f : ℕ). ti_block_in rest f block) e
 group_skip (suc k) size start block rest h =
     let far : start + size ≤ block = omega arith in
     let e : start + size + k * size ≡ start + suc k * size = omega arith in
     rw (le-ltb block (start + size) far) (group_skip k size (start + size) block rest (omega arith)
-    ∙ ap (λ (f : ℕ). group_in rest f block) e)
+    ∙ ap (λ (f : ℕ). ti_block_in rest f block) e)
 
--- the code's group of an early block
+-- the code's TI-block of an early block
 pub early : (n groups block : ℕ) → 0 < groups → block < (groups - n % groups) * (n / groups) →
-    record { first = block / (n / groups) * (n / groups); size = n / groups } ≡ group_of n groups block
-unfolding group_of
+    record { first = block / (n / groups) * (n / groups); size = n / groups } ≡ ti_block_of n groups block
+unfolding ti_block_of
 early n groups block some h =
     let k : ℕ = groups - n % groups in
     let size : ℕ = n / groups in
@@ -110,14 +110,14 @@ early n groups block some h =
     ∙ ap (λ (f : ℕ). record { first = f; size = size }) (omega arith))
 
 pub record Late (n groups block low size d : ℕ) : Type 0 where
-  pub value : record { first = low + d * size; size = size } ≡ group_of n groups block
+  pub value : record { first = low + d * size; size = size } ≡ ti_block_of n groups block
   pub whole : low + d * size + size ≤ n
 
--- the code's group of a late block
+-- the code's TI-block of a late block
 pub late : (n groups block : ℕ) → 0 < groups → block < n → (groups - n % groups) * (n / groups) ≤ block →
     (let low = (groups - n % groups) * (n / groups) in
     Late n groups block low (n / groups + 1) ((block - low) / (n / groups + 1)))
-unfolding group_of
+unfolding ti_block_of
 late n groups block some h far =
     let k : ℕ = groups - n % groups in
     let floor : ℕ = n / groups in
@@ -141,8 +141,8 @@ late n groups block some h far =
     let fits : (d + 1) * size ≤ more * size = mul-le (d + 1) size more size (omega arith) (omega arith) in
     record {
       value = sym (group_skip k floor 0 block (replicate more size) past
-          ∙ ap (λ (f : ℕ). group_in (replicate more size) f block) there
-          ∙ ap (λ (ss : List ℕ). group_in ss low block) (sym (append-nil (replicate more size)))
+          ∙ ap (λ (f : ℕ). ti_block_in (replicate more size) f block) there
+          ∙ ap (λ (ss : List ℕ). ti_block_in ss low block) (sym (append-nil (replicate more size)))
           ∙ group_at more size low block d [] lt a b);
       whole = omega (arith, whole, parts, fits);
     }

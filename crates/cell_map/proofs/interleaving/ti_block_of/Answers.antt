@@ -1,5 +1,5 @@
-use Rattle.cell_map.proofs.GroupLemmas.{early, late}
-use Rattle.cell_map.proofs.interleaving.group_of.Goals as goal
+use Rattle.cell_map.proofs.TiBlockLemmas.{early, late}
+use Rattle.cell_map.proofs.interleaving.ti_block_of.Goals as goal
 
 pub returns-then-block-low-clause-value : goal.returns-then-block-low-clause-value
 returns-then-block-low-clause-value c = early c.args.blocks c.args.length c.args.block c.requires.some c.if-block-low.true
