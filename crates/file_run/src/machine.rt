@@ -22,9 +22,9 @@ pub enum Step {
     End,
 }
 
-/// A machine that is fed with the bytes of some inputs, in any cutting, and gives the bytes of one output. It knows no desk. No call
-/// fails: a machine takes also what it cannot use, comes to its end, and its owner asks it then how it ended. So it takes no memory
-/// in its calls, or ends for want of it.
+/// A machine that is fed with the bytes of some inputs, in any cutting, and gives the bytes of one output. It knows no desk. No
+/// call fails: a machine takes also what it cannot use, comes to its end, and its owner asks it then how it ended. So it takes no
+/// memory in its calls, or ends for want of it.
 pub trait Machine {
     ghost use Rattle.file_run.specs.declared.machine.Step.{Step};
 

@@ -10,8 +10,8 @@ use desk_io::PAGE;
 use std::alloc::Global;
 use std::marker::Model;
 
-/// Bytes that a machine gave and that are not written or said yet, at most [`PAGE`], seen as a list. A machine gives straight into its room. After
-/// `open` it takes no memory.
+/// Bytes that a machine gave and that are not written or said yet, at most [`PAGE`], seen as a list. A machine gives straight
+/// into its room. After `open` it takes no memory.
 #[derive(Drop)]
 pub struct OutBuffer {
     bytes: Vec<u8>,
@@ -73,7 +73,7 @@ impl OutBuffer {
         &self.bytes[..self.count]
     }
 
-    /// Forgets them.
+    /// Forgets all bytes that wait.
     pub fn clear(&mut self)
         ensures { self.new ≡ [] }
     {

@@ -1,4 +1,4 @@
-// The run.
+// The driver of a machine between files: some that are read, and one that is written.
 ghost use Rattle.std.specs.Prelude.{◌≡◌, [], length, IfErr, OnOk};
 ghost use Rattle.file_run.specs.FileRun.{AreApart, RunsAll, Stops};
 ghost use Rattle.file_run.specs.Running.{read_fault};
@@ -6,7 +6,7 @@ ghost use Rattle.file_run.specs.Running.{read_fault};
 use crate::draining::drain;
 use crate::feeding::feed;
 use crate::machine::{Machine, Step};
-use crate::opening::{create_output, open_inputs};
+use crate::opening::{create_output, open_files};
 use crate::out_buffer::OutBuffer;
 use crate::stop::RunFault;
 use desk_io::{ReadAhead, ReadStop, creates_law};
@@ -22,8 +22,8 @@ fn fault_of(input: usize, why: ReadStop) -> RunFault
     }
 }
 
-/// Runs a machine between files: opens the inputs in turn, one for each reader; creates the output; and reads what the machine wants
-/// and writes what it gives until it has come to its end. What it gives is written before it is fed on. It takes no memory.
+/// Runs a machine between files: opens the inputs in turn, one for each reader; creates the output; and reads what the machine
+/// wants and writes what it gives until it has come to its end. What it gives is written before it is fed on. It takes no memory.
 pub fn run<M: Machine, D: Desk>(
     machine: &mut M,
     readers: &mut [ReadAhead],
@@ -41,7 +41,7 @@ pub fn run<M: Machine, D: Desk>(
     ensures err { IfErr result (Stops (D.state desk.old) (D.state desk.new) out.now ins.now M.reach M.next (M.Becomes machine.old) machine.new) }
 {
     creates_law();
-    open_inputs(ins, readers, desk)?;
+    open_files(ins, readers, desk)?;
     let handle = create_output(out, desk)?;
     buffer.clear();
     match drain(machine, buffer, handle, desk) {

@@ -116,8 +116,8 @@ fn tell_last<D: Desk>(
     }
 }
 
-/// Reads the named file for a machine of one input and says what the machine gives, some 128 KiB at a time, until it has come to its end.
-/// The first fault is the answer; after one of reading what waits is said still. It takes no memory.
+/// Reads the named file for a machine of one input and says what the machine gives, some 128 KiB at a time, until it has come to
+/// its end. The first fault is the answer; after one of reading what waits is said still. It takes no memory.
 pub fn tell<M: Machine, D: Desk>(
     machine: &mut M,
     reader: &mut ReadAhead,

@@ -13,7 +13,7 @@ use Rattle.ts_packet.specs.TsFile.{packets_in, left_in}
 use Rattle.gateway_core.specs.Laws.{NotYetLast}
 use Rattle.gateway_run.specs.GatewayRun.{inputs_of, frames_of, units_of, Wants, WantsBad, MeetsBad, MeetsNone}
 use Rattle.gateway_run.specs.Laws.{RunEnds}
-use Rattle.gateway_run.specs.declared.stop.RunStop.TheVariants.{Bad, TooLong}
+use Rattle.gateway_run.specs.declared.stop.RunStop.TheVariants.{Bad, TooManyFrames}
 
 decide_some : (bytes : List ℕ) → Dec (bytes ≢ [])
 decide_some [] = no (λ h. h refl)
@@ -91,7 +91,7 @@ run_ends law c files plan =
       | inl all ↦
           let none : MeetsNone c files MOST_FRAMES = all MOST_FRAMES (omega arith) in
           elim (cases_lt MOST_FRAMES (frames_of c files)) [
-            | inl more ↦ (Err (TooLong MOST_FRAMES), (refl, none, more))
+            | inl more ↦ (Err TooManyFrames, (none, more))
             | inr few ↦ (
               Ok (record { frames = frames_of c files; units = length (units_of c files) }),
               ((λ plp lt bad. none plp lt (bad, wanted_late law c files plp MOST_FRAMES plan lt few)), refl, refl, few),

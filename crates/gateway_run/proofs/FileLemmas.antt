@@ -58,12 +58,12 @@ pub packets_joined : (packets : List (List ℕ)) (rest : List ℕ) → ArePacket
     ≡ packets ++ packets_in rest
 packets_joined [] rest each = refl
 packets_joined (p ∷ packets) rest each =
-    ap packets_in (append_assoc p (joined packets) rest) ∙ packets_cons p (joined packets ++ rest) each.0 each.1
-    ∙ ap (λ (ps : List (List ℕ)). p ∷ ps) (packets_joined packets rest each.2)
+    ap packets_in (append_assoc p (joined packets) rest) ∙ packets_cons p (joined packets ++ rest) each.0.0 each.0.1
+    ∙ ap (λ (ps : List (List ℕ)). p ∷ ps) (packets_joined packets rest each.1)
 
 pub joined_length : (packets : List (List ℕ)) → ArePackets packets → length (joined packets) ≡ SIZE * length packets
 joined_length [] each = refl
-joined_length (p ∷ packets) each = omega (arith, length-append p (joined packets), joined_length packets each.2, each.0)
+joined_length (p ∷ packets) each = omega (arith, length-append p (joined packets), joined_length packets each.1, each.0.0)
 
 pub left_joined : (packets : List (List ℕ)) (rest : List ℕ) → ArePackets packets → left_in (joined packets ++ rest) ≡ left_in rest
 left_joined packets rest each =
@@ -92,8 +92,8 @@ nothing_left = refl
 
 pub packets_push : (packets : List (List ℕ)) (p : List ℕ) → ArePackets packets → length p ≡ SIZE → slice_index p 0 ≡ SYNC
     → ArePackets (packets ++ p ∷ [])
-packets_push [] p each long sync = (long, sync, tt)
-packets_push (q ∷ packets) p each long sync = (each.0, each.1, packets_push packets p each.2 long sync)
+packets_push [] p each long sync = ((long, sync), tt)
+packets_push (q ∷ packets) p each long sync = (each.0, packets_push packets p each.1 long sync)
 
 pub joined_push : (packets : List (List ℕ)) (p : List ℕ) → joined (packets ++ p ∷ []) ≡ joined packets ++ p
 joined_push packets p = flat_map-append (λ (q : List ℕ). q) packets (p ∷ []) ∙ ap (λ (l : List ℕ). joined packets ++ l)

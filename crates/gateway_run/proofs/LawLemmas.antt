@@ -12,7 +12,7 @@ use Rattle.gateway_run.specs.GatewayRun.{WantsBad, MeetsBad, MeetsNone}
 use Rattle.gateway_run.specs.Laws.{OneRun}
 use Rattle.gateway_run.specs.declared.stop.Ran.{Ran}
 use Rattle.gateway_run.specs.declared.stop.RunStop.{RunStop}
-use Rattle.gateway_run.specs.declared.stop.RunStop.TheVariants.{Bad, TooLong, ReadFault, WriteFault, OutOfMemory}
+use Rattle.gateway_run.specs.declared.stop.RunStop.TheVariants.{Bad, TooManyFrames, Files, OutOfMemory}
 
 quotient_rises : (k a b : ℕ) → a ≤ b → a / k ≤ b / k
 quotient_rises zero a b le = omega (arith, div-zero a, div-zero b)
@@ -88,23 +88,18 @@ never_bad c files frame plp packet a le none = none plp a.place (still_wants c f
 pub runs_once : OneRun
 runs_once c files (Ok ran) (Ok other) a b = same_ran ran other (a.1 ∙ sym b.1) (a.2 ∙ sym b.2)
 runs_once c files (Ok ran) (Err (Bad plp packet)) a b = absurd (a.0 plp b.1.place b.1.wants.0)
-runs_once c files (Ok ran) (Err (TooLong count)) a b = absurd (let f = a.3 in let t = b.2 in omega (arith, f, t))
-runs_once c files (Ok ran) (Err ReadFault) a b = absurd b
-runs_once c files (Ok ran) (Err WriteFault) a b = absurd b
+runs_once c files (Ok ran) (Err TooManyFrames) a b = absurd (let f = a.3 in let t = b.1 in omega (arith, f, t))
+runs_once c files (Ok ran) (Err (Files fault)) a b = absurd b
 runs_once c files (Ok ran) (Err OutOfMemory) a b = absurd b
 runs_once c files (Err (Bad plp packet)) (Ok ran) a b = absurd (b.0 plp a.1.place a.1.wants.0)
 runs_once c files (Err (Bad plp packet)) (Err (Bad other next)) a b = one_bad c files a.0 b.0 plp other packet next a.1 b.1
-runs_once c files (Err (Bad plp packet)) (Err (TooLong count)) a b = absurd (never_bad c files a.0 plp packet a.1 a.2 b.1)
-runs_once c files (Err (Bad plp packet)) (Err ReadFault) a b = absurd b
-runs_once c files (Err (Bad plp packet)) (Err WriteFault) a b = absurd b
+runs_once c files (Err (Bad plp packet)) (Err TooManyFrames) a b = absurd (never_bad c files a.0 plp packet a.1 a.2 b.0)
+runs_once c files (Err (Bad plp packet)) (Err (Files fault)) a b = absurd b
 runs_once c files (Err (Bad plp packet)) (Err OutOfMemory) a b = absurd b
-runs_once c files (Err (TooLong count)) (Ok ran) a b = absurd (let f = b.3 in let t = a.2 in omega (arith, f, t))
-runs_once c files (Err (TooLong count)) (Err (Bad plp packet)) a b = absurd (never_bad c files b.0 plp packet b.1 b.2 a.1)
-runs_once c files (Err (TooLong count)) (Err (TooLong other)) a b =
-    ap (λ (k : ℕ). let r : Result Ran RunStop = Err (TooLong k) in r) (a.0 ∙ sym b.0)
-runs_once c files (Err (TooLong count)) (Err ReadFault) a b = absurd b
-runs_once c files (Err (TooLong count)) (Err WriteFault) a b = absurd b
-runs_once c files (Err (TooLong count)) (Err OutOfMemory) a b = absurd b
-runs_once c files (Err ReadFault) other a b = absurd a
-runs_once c files (Err WriteFault) other a b = absurd a
+runs_once c files (Err TooManyFrames) (Ok ran) a b = absurd (let f = b.3 in let t = a.1 in omega (arith, f, t))
+runs_once c files (Err TooManyFrames) (Err (Bad plp packet)) a b = absurd (never_bad c files b.0 plp packet b.1 b.2 a.0)
+runs_once c files (Err TooManyFrames) (Err TooManyFrames) a b = refl
+runs_once c files (Err TooManyFrames) (Err (Files fault)) a b = absurd b
+runs_once c files (Err TooManyFrames) (Err OutOfMemory) a b = absurd b
+runs_once c files (Err (Files fault)) other a b = absurd a
 runs_once c files (Err OutOfMemory) other a b = absurd a

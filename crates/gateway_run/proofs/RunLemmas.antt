@@ -11,7 +11,6 @@ use Rattle.plp_config.specs.declared.moment.TheConstants.{MOST_FRAMES}
 use Rattle.ts_packet.specs.TsFile.{joined}
 use Rattle.ts_packet.specs.declared.sizes.TheConstants.{SIZE}
 use Rattle.t2mi_stream.specs.Complete.{complete_units}
-use Rattle.desk_io.specs.Reading.{most_bytes}
 use Rattle.file_run.specs.Events as run
 use Rattle.file_run.specs.Laws.{EventsTell}
 use Rattle.file_run.specs.FileRun as driver
@@ -25,10 +24,10 @@ use Rattle.gateway_core.specs.Events.{Event, begun, finished}
 use Rattle.gateway_core.specs.Laws.{UnitsLaw, FrontsGrow, LastIsAll, WaitsThreeFrames}
 use Rattle.gateway_core.specs.Packets.{front_packets}
 use Rattle.gateway_core.specs.declared.gateway.Gateway.{Gateway}
-use Rattle.gateway_run.specs.AsMachine.{becomes, step_of, next_of, frame_read, reach_of, ending_of, stop_by}
+use Rattle.gateway_run.specs.AsMachine.{becomes, step_of, next_of, frame_read, reach_of, ending_of}
 use Rattle.gateway_run.specs.GatewayRun.{inputs_of, frames_of, units_of, MeetsNone, MeetsNoneBefore, ReadsNoFurther, BeginsUnits}
-use Rattle.gateway_run.specs.GatewayRun.{BeginsSome, ReadsAhead, RunsAll, StopsAtBad, StopsTooLong, StopsReading, StopsWriting}
-use Rattle.gateway_run.specs.GatewayRun.{Stops}
+use Rattle.gateway_run.specs.GatewayRun.{BeginsSome, ReadsAhead, RunsAll, StopsAtBad, HasTooManyFrames, MeetsTooManyFrames}
+use Rattle.gateway_run.specs.GatewayRun.{GivesTooMuch, StopsReading, StopsWriting, Stops}
 use Rattle.gateway_run.specs.Holds.{NoTails, HasGiven, IsOneTooMany, MetBad, IsIn, Holds}
 use Rattle.gateway_run.specs.Ready.{IsReady}
 use Rattle.gateway_run.specs.declared.machine.GatewayMachine.{GatewayMachine}
@@ -36,6 +35,7 @@ use Rattle.gateway_run.specs.declared.place.GatewayStop.TheVariants.{Bad, TooMan
 use Rattle.gateway_run.specs.declared.place.Phase.{Phase}
 use Rattle.gateway_run.specs.declared.place.Place.{Place}
 use Rattle.gateway_run.specs.declared.stop.Ran.{Ran}
+use Rattle.gateway_run.specs.declared.stop.RunStop.TheVariants.{Files}
 use Rattle.gateway_run.specs.declared.place.Phase.TheVariants as phase
 use Rattle.gateway_run.proofs.AheadLemmas.{reads_ahead}
 use Rattle.gateway_run.proofs.BeginLemmas.{before_frame}
@@ -137,7 +137,7 @@ front_works grow law start now old new out ins count s =
 pub too_many_frames : FrontsGrow → LastIsAll → (start now : GatewayMachine) (old new : State) (out : List ℕ) (ins : List (List ℕ))
     → length ins ≡ length start.plan.now.plps → now.place.phase ≡ phase.Stopped TooManyFrames
     → driver.RunsAll old new out ins (reach_of now) (λ events. becomes start events now)
-    → StopsTooLong start.plan.now old new out ins MOST_FRAMES
+    → MeetsTooManyFrames start.plan.now old new out ins
 too_many_frames grow law start now old new out ins count e r =
     let s = r.stands in
     let h = holds_of start now s.events s.came in
@@ -147,21 +147,18 @@ too_many_frames grow law start now old new out ins count e r =
     record {
       places = s.places;
       works = front_works grow law start now old new out ins count s;
+      short = r.short;
       counts = r.counts;
-      cause = inr (
-        refl,
-        r.short,
-        IfSome_then old.held s.inputs (λ held are.
-            let fed = for_plps start.plan.now ins (file_at held ins) s.places s.events count are in
-            let k = continue_files start.plan.now s.events now.gateway now.place now.ran h (file_at held ins) s.places fed in
-            let none : MeetsNone start.plan.now (file_at held ins) now.ran.frames =
-            λ plp lt. none_here start.plan.now s.events now.gateway now.place now.ran h (file_at held ins) s.places fed plp lt
-            (m.all plp lt) in (
-              subst (λ (n : ℕ). MeetsNone start.plan.now (file_at held ins) n) frame none,
-              subst (λ (n : ℕ). n < frames_of start.plan.now (file_at held ins)) m.frame
-                  (m.more (inputs_of (file_at held ins)) k),
-            )),
-      );
+      has = IfSome_then old.held s.inputs (λ held are.
+          let fed = for_plps start.plan.now ins (file_at held ins) s.places s.events count are in
+          let k = continue_files start.plan.now s.events now.gateway now.place now.ran h (file_at held ins) s.places fed in
+          let none : MeetsNone start.plan.now (file_at held ins) now.ran.frames =
+          λ plp lt. none_here start.plan.now s.events now.gateway now.place now.ran h (file_at held ins) s.places fed plp lt
+          (m.all plp lt) in (
+            subst (λ (n : ℕ). MeetsNone start.plan.now (file_at held ins) n) frame none,
+            subst (λ (n : ℕ). n < frames_of start.plan.now (file_at held ins)) m.frame
+                (m.more (inputs_of (file_at held ins)) k),
+          ));
     }
 
 -- how a machine ended that came to its end
@@ -212,11 +209,11 @@ none_met start now events b files places plp e at are =
           omega (arith, i, lt, at)) (w.below other (omega (arith, lt, at))),
     )
 
--- An input gave too many bytes.
+-- This input gave too many bytes.
 gives_too_much : FrontsGrow → LastIsAll → (start now : GatewayMachine) (old new : State) (out : List ℕ) (ins : List (List ℕ))
     (plp : ℕ) → length ins ≡ length start.plan.now.plps
     → driver.GivesTooMuch old new out ins (reach_of now) (next_of now) (λ events. becomes start events now) plp
-    → StopsTooLong start.plan.now old new out ins most_bytes
+    → GivesTooMuch start.plan.now old new out ins plp
 gives_too_much grow law start now old new out ins plp count r =
     let s = r.stands in
     let w = wants_at now.gateway now.place.plp now.place.phase plp r.wants in
@@ -224,30 +221,24 @@ gives_too_much grow law start now old new out ins plp count r =
     s.works.all s.within in
     record {
       places = s.places;
+      frame = now.ran.frames;
       works = front_works grow law start now old new out ins count s;
+      place = r.place;
+      gave = r.gave;
+      early = now.ready.early;
+      wants = (let all = s.works.all in let p = r.place in let f = further plp (omega (arith, p, all)) in let n = r.gave in
+          omega (arith, f, n));
+      no_further = further;
       counts = r.counts;
-      cause = inl (
-        refl,
-        record {
-          plp = plp;
-          place = r.place;
-          gave = r.gave;
-          frame = now.ran.frames;
-          early = now.ready.early;
-          wants = (let all = s.works.all in let p = r.place in let f = further plp (omega (arith, p, all)) in let n = r.gave in
-              omega (arith, f, n));
-          no_further = further;
-          long = IfSome_then old.held s.inputs (λ held are. let f = are plp r.place in let n = r.gave in let w = f.within in
-              omega (arith, n, w));
-          before =
-              IfSome_then old.held s.inputs
-              (λ held are. none_met start now s.events s.came (file_at held ins) s.places plp w.0 w.1
-              (for_plps start.plan.now ins (file_at held ins) s.places s.events count are));
-        },
-      );
+      long = IfSome_then old.held s.inputs (λ held are. let f = are plp r.place in let n = r.gave in let w = f.within in
+          omega (arith, n, w));
+      before =
+          IfSome_then old.held s.inputs
+          (λ held are. none_met start now s.events s.came (file_at held ins) s.places plp w.0 w.1
+          (for_plps start.plan.now ins (file_at held ins) s.places s.events count are));
     }
 
--- An input could not be read on.
+-- This input could not be read on.
 stops_reading : UnitsLaw → FrontsGrow → LastIsAll → (start now : GatewayMachine) (old new : State) (out : List ℕ)
     (ins : List (List ℕ)) (plp : ℕ) → length ins ≡ length start.plan.now.plps
     → driver.FailsToRead old new out ins (reach_of now) (next_of now) (λ events. becomes start events now) plp
@@ -406,19 +397,16 @@ stops_writing tell units grow law three start now old new out ins count w =
 pub stops : EventsTell → UnitsLaw → FrontsGrow → LastIsAll → WaitsThreeFrames
     → (start now : GatewayMachine) (old new : State) (out : List ℕ) (ins : List (List ℕ)) (why : RunFault)
     → length ins ≡ length start.plan.now.plps
-    → driver.Stops old new out ins reach_of next_of (becomes start) now why → Stops start.plan.now old new out ins (stop_by why)
+    → driver.Stops old new out ins reach_of next_of (becomes start) now why → Stops start.plan.now old new out ins (Files why)
 stops tell units grow law three start now old new out ins (fault.TooLong input) count s =
     gives_too_much grow law start now old new out ins input count s
 stops tell units grow law three start now old new out ins (fault.ReadFault input) count s = (
   s.0,
-  (
-    input,
-    elim s.1 [
-      | inl opens ↦ inl opens
-      | inr fails ↦
-          inr (stops_reading units grow law start now old new out ins input count fails)
-    ],
-  ),
+  elim s.1 [
+    | inl opens ↦ inl opens
+    | inr fails ↦
+        inr (stops_reading units grow law start now old new out ins input count fails)
+  ],
 )
 stops tell units grow law three start now old new out ins fault.WriteFault count s = (
   s.0,

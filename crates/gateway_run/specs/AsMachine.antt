@@ -1,14 +1,10 @@
 -- A gateway as a machine between files. No public clause cites this module.
 use Rattle.std.specs.Prelude.{◌≡◌, ℕ, ◌-◌, ◌*◌, ◌^◌, min, List, Result, Ok, Err}
 use Rattle.plp_config.specs.SlotTime.{slots_by}
-use Rattle.plp_config.specs.declared.moment.TheConstants.{MOST_FRAMES}
 use Rattle.ts_packet.specs.declared.sizes.TheConstants.{SIZE}
-use Rattle.desk_io.specs.Reading.{most_bytes}
 use Rattle.file_run.specs.Events.{Event}
 use Rattle.file_run.specs.declared.machine.Step.{Step}
 use Rattle.file_run.specs.declared.machine.Step.TheVariants.{Read, Give, End}
-use Rattle.file_run.specs.declared.stop.RunFault.{RunFault}
-use Rattle.file_run.specs.declared.stop.RunFault.TheVariants as fault
 use Rattle.gateway_core.specs.StandsFor.{wants_of}
 use Rattle.gateway_core.specs.declared.gateway.Gateway.{Gateway}
 use Rattle.gateway_run.specs.Holds.{Holds}
@@ -46,11 +42,5 @@ reach_of m plp = SIZE * slots_by m.plan.now plp (frame_read m.place.phase m.ran.
 -- how a run ends that came so far
 abbrev pub ending_of : Phase → Ran → Result Ran RunStop
 ending_of (Stopped (Bad input packet)) ran = Err (stop.Bad input packet)
-ending_of (Stopped TooManyFrames) ran = Err (stop.TooLong MOST_FRAMES)
+ending_of (Stopped TooManyFrames) ran = Err stop.TooManyFrames
 ending_of phase ran = Ok ran
-
--- how a run ends that its files stopped
-abbrev pub stop_by : RunFault → RunStop
-stop_by (fault.TooLong input) = stop.TooLong most_bytes
-stop_by (fault.ReadFault input) = stop.ReadFault
-stop_by fault.WriteFault = stop.WriteFault

@@ -16,8 +16,9 @@ use Rattle.gateway_core.specs.Packets.{front_packets, packets_of}
 use Rattle.desk_io.specs.Faults.{ReadsFail, WritesFail}
 use Rattle.desk_io.specs.Reading.{most_bytes}
 use Rattle.file_run.specs.FileRun.{file_at, OpensInputs, FailsToCreateOutput, Works, AllShort}
+use Rattle.file_run.specs.declared.stop.RunFault.TheVariants.{TooLong, ReadFault, WriteFault}
 use Rattle.gateway_run.specs.declared.stop.RunStop.{RunStop}
-use Rattle.gateway_run.specs.declared.stop.RunStop.TheVariants.{Bad, TooLong, ReadFault, WriteFault, OutOfMemory}
+use Rattle.gateway_run.specs.declared.stop.RunStop.TheVariants.{Bad, TooManyFrames, Files, OutOfMemory}
 
 -- the packets of each file, up to its first bad one
 abbrev pub inputs_of : (ℕ → List ℕ) → ℕ → List (List ℕ)
@@ -90,29 +91,35 @@ pub record StopsAtBad (c : Config) (old new : State) (out : List ℕ) (ins : Lis
 abbrev pub MeetsNoneBefore : Config → (ℕ → List ℕ) → ℕ → ℕ → Type 0
 MeetsNoneBefore c files frame plp = MeetsNone c files (frame - 1) × ((other : ℕ) → other < plp → ¬ (WantsBad c files frame other))
 
--- An input gave as many bytes as no file may have. A frame wants so many of it, and no bad packet was met before.
-pub record GivesTooMuch (c : Config) (old : State) (ins : List (List ℕ)) (places : List ℕ) : Type 0 where
-  pub plp : ℕ
+-- A run over files has more frames than may be, and none of those that may be wants a bad packet.
+abbrev pub HasTooManyFrames : Config → (ℕ → List ℕ) → Type 0
+HasTooManyFrames c files = MeetsNone c files MOST_FRAMES × (MOST_FRAMES < frames_of c files)
+
+-- The run would begin a frame of which none may have the number. The output is the first of all units.
+pub record MeetsTooManyFrames (c : Config) (old new : State) (out : List ℕ) (ins : List (List ℕ)) : Type 0 where
+  pub places : List ℕ
+  pub works : Works old new out ins places (BeginsUnits c ins)
+  pub short : AllShort places
+  pub counts : SameCounts old new
+  pub has : IfSome old.held (λ h. HasTooManyFrames c (file_at h ins))
+
+-- This input gave as many bytes as no file may have. A frame wants so many of it, and no bad packet was met before. The output is
+-- the first of all units.
+pub record GivesTooMuch (c : Config) (old new : State) (out : List ℕ) (ins : List (List ℕ)) (plp : ℕ) : Type 0 where
+  pub places : List ℕ
+  pub frame : ℕ
+  pub works : Works old new out ins places (BeginsUnits c ins)
   pub place : plp < length ins
   pub gave : slice_index places plp ≡ most_bytes
-  pub frame : ℕ
   pub early : frame ≤ MOST_FRAMES
   pub wants : most_bytes ≤ SIZE * slots_by c plp (frame * c.ticks)
   pub no_further : ReadsNoFurther c places frame
+  pub counts : SameCounts old new
   pub long : IfSome old.held (λ h. most_bytes ≤ length (file_at h ins plp))
   pub before : IfSome old.held (λ h. MeetsNoneBefore c (file_at h ins) frame plp)
 
--- An input gave as many bytes as no file may have, or the run would begin a frame of which none may have the number.
-pub record StopsTooLong (c : Config) (old new : State) (out : List ℕ) (ins : List (List ℕ)) (count : ℕ) : Type 0 where
-  pub places : List ℕ
-  pub works : Works old new out ins places (BeginsUnits c ins)
-  pub counts : SameCounts old new
-  pub cause : ((count ≡ most_bytes) × GivesTooMuch c old ins places)
-      ⊎ ((count ≡ MOST_FRAMES) × AllShort places
-      × IfSome old.held (λ h. MeetsNone c (file_at h ins) MOST_FRAMES × (MOST_FRAMES < frames_of c (file_at h ins))))
-
--- An input of which a frame wants more than was read could not be read on, and no bad packet was met before. The output is the
--- complete units of the frames before this one.
+-- This input, of which a frame wants more than was read, could not be read on, and no bad packet was met before. The output is
+-- the complete units of the frames before this one.
 pub record StopsReading (c : Config) (old new : State) (out : List ℕ) (ins : List (List ℕ)) (plp : ℕ) : Type 0 where
   pub places : List ℕ
   pub frame : ℕ
@@ -159,8 +166,10 @@ pub record StopsWriting (c : Config) (old new : State) (out : List ℕ) (ins : L
 -- A run that did not come to its end, by its cause.
 abbrev pub Stops : Config → State → State → List ℕ → List (List ℕ) → RunStop → Type 0
 Stops c old new out ins (Bad input packet) = StopsAtBad c old new out ins input packet
-Stops c old new out ins (TooLong count) = StopsTooLong c old new out ins count
-Stops c old new out ins ReadFault =
-    ReadsFail old new × ((input : ℕ) × (OpensInputs old new ins input ⊎ StopsReading c old new out ins input))
-Stops c old new out ins WriteFault = WritesFail old new × (FailsToCreateOutput old new out ins ⊎ StopsWriting c old new out ins)
+Stops c old new out ins TooManyFrames = MeetsTooManyFrames c old new out ins
+Stops c old new out ins (Files (TooLong input)) = GivesTooMuch c old new out ins input
+Stops c old new out ins (Files (ReadFault input)) =
+    ReadsFail old new × (OpensInputs old new ins input ⊎ StopsReading c old new out ins input)
+Stops c old new out ins (Files WriteFault) =
+    WritesFail old new × (FailsToCreateOutput old new out ins ⊎ StopsWriting c old new out ins)
 Stops c old new out ins OutOfMemory = new ≡ old

@@ -1,5 +1,6 @@
 -- What a gateway between files holds. No public clause cites this module.
 use Rattle.std.specs.Prelude.{◌≡◌, ◌≢◌, ◌⊎◌, ℕ, ◌-◌, ◌*◌, ◌<◌, ◌≤◌, Bool, true, false, List, [], ◌∷◌, ◌++◌, length, slice_index}
+use Rattle.std.specs.List.{AllByRecursion}
 use Rattle.plp_config.specs.Capacity.{IsPlan}
 use Rattle.plp_config.specs.RunLength.{frame_count}
 use Rattle.plp_config.specs.SlotTime.{slots_by}
@@ -24,8 +25,7 @@ use Rattle.gateway_run.specs.declared.stop.Ran.{Ran}
 
 -- Each is a packet of a file.
 abbrev pub ArePackets : List (List ℕ) → Type 0
-ArePackets [] = Unit {0}
-ArePackets (p ∷ packets) = (length p ≡ SIZE) × (slice_index p 0 ≡ SYNC) × ArePackets packets
+ArePackets packets = AllByRecursion (λ p. (length p ≡ SIZE) × (slice_index p 0 ≡ SYNC)) packets
 
 -- What an input was fed: packets, which were offered, and a tail that is none.
 pub record IsOffered (bytes : List ℕ) (ended : Bool) (packets : List (List ℕ)) (over : Bool) (tail : List ℕ) : Type 0 where

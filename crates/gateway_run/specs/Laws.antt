@@ -4,17 +4,17 @@ use Rattle.plp_config.specs.Capacity.{IsPlan}
 use Rattle.plp_config.specs.declared.config.Config.{Config}
 use Rattle.plp_config.specs.declared.moment.TheConstants.{MOST_FRAMES}
 use Rattle.ts_packet.specs.TsFile.{HasBad}
-use Rattle.gateway_run.specs.GatewayRun.{frames_of, units_of, MeetsBad, MeetsNone}
+use Rattle.gateway_run.specs.GatewayRun.{frames_of, units_of, MeetsBad, HasTooManyFrames}
 use Rattle.gateway_run.specs.declared.stop.Ran.{Ran}
 use Rattle.gateway_run.specs.declared.stop.RunStop.{RunStop}
-use Rattle.gateway_run.specs.declared.stop.RunStop.TheVariants.{Bad, TooLong}
+use Rattle.gateway_run.specs.declared.stop.RunStop.TheVariants.{Bad, TooManyFrames}
 
 -- How a run over files must end of which none is too long, if nothing outside fails.
 abbrev pub MustRun : Config → (ℕ → List ℕ) → Result Ran RunStop → Type 0
 MustRun c files (Ok ran) = ((plp : ℕ) → plp < length c.plps → ¬ (HasBad (files plp))) × (ran.frames ≡ frames_of c files)
     × (ran.units ≡ length (units_of c files)) × (frames_of c files ≤ MOST_FRAMES)
 MustRun c files (Err (Bad input packet)) = (frame : ℕ) × MeetsBad c files frame input packet × (frame ≤ MOST_FRAMES)
-MustRun c files (Err (TooLong count)) = (count ≡ MOST_FRAMES) × MeetsNone c files MOST_FRAMES × (MOST_FRAMES < frames_of c files)
+MustRun c files (Err TooManyFrames) = HasTooManyFrames c files
 MustRun c files (Err stop) = ⊥
 
 -- Files decide how a run over them must end.

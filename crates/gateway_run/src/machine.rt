@@ -7,7 +7,7 @@ use crate::stop::{Ran, RunStop};
 use bit_slice::OutOfMemory;
 use file_run::{Machine, Step, events_law};
 use gateway_core::Gateway;
-use plp_config::{MOST_FRAMES, Plan};
+use plp_config::Plan;
 use std::alloc::Global;
 use ts_packet::SIZE;
 
@@ -109,9 +109,7 @@ impl<'p> GatewayMachine<'p> {
             Phase::Stopped(GatewayStop::Bad { input, packet }) => {
                 Err(RunStop::Bad { input, packet })
             }
-            Phase::Stopped(GatewayStop::TooManyFrames) => {
-                Err(RunStop::TooLong { count: MOST_FRAMES })
-            }
+            Phase::Stopped(GatewayStop::TooManyFrames) => Err(RunStop::TooManyFrames),
             _ => Ok(self.ran),
         }
     }

@@ -1,6 +1,7 @@
 // How far a run reads ahead of what it wrote, if a write fails.
 use crate::{RunStop, run};
 use bit_slice::OutOfMemory;
+use file_run::RunFault;
 use plp_config::Plan;
 use ports::{CallKind, MemoryDesk, Word};
 use sample_networks::small_plan;
@@ -23,7 +24,8 @@ fn file(alloc: Global, count: u16) -> Result<Vec<u8>, OutOfMemory> {
     Ok(file)
 }
 
-// The bytes of T2-MI packets in a unit: behind 4 bytes of header, an adaptation field if there is one, and a pointer_field if a packet begins.
+// The bytes of T2-MI packets in a unit: behind 4 bytes of header, an adaptation field if there is one, and a pointer_field if a
+// packet begins.
 fn carried(unit: &[u8]) -> &[u8] {
     if unit.len() < 5 {
         return &[];
@@ -94,7 +96,7 @@ fn run_to_write(
     let failed = match run(rt.alloc(), plan, "out", &ins, &mut desk) {
         Ok(_) => false,
         Err(why) => {
-            assert!(rt; why == RunStop::WriteFault);
+            assert!(rt; why == RunStop::Files(RunFault::WriteFault));
             true
         }
     };

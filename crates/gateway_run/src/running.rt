@@ -1,14 +1,14 @@
-// The run.
+// A run of the gateway of a plan: its readers, its buffer and its machine on the driver.
 ghost use Rattle.std.specs.Prelude.{◌≡◌, ◌≢◌, ◌<◌, ℕ, List, [], length, slice_index_or, IfOk, IfErr};
 ghost use Rattle.file_run.specs.FileRun.{AreApart};
-ghost use Rattle.gateway_run.specs.AsMachine.{becomes, stop_by};
+ghost use Rattle.gateway_run.specs.AsMachine.{becomes};
 ghost use Rattle.gateway_run.specs.GatewayRun.{RunsAll, Stops};
 
 use crate::machine::GatewayMachine;
 use crate::stop::{Ran, RunStop};
 use bit_slice::OutOfMemory;
-use desk_io::{MOST_BYTES, ReadAhead};
-use file_run::{OutBuffer, RunFault, events_law};
+use desk_io::ReadAhead;
+use file_run::{OutBuffer, events_law};
 use gateway_core::{ahead_law, front_law, last_law, units_law};
 use plp_config::Plan;
 use ports::{Desk, Word};
@@ -23,17 +23,6 @@ fn open_readers(alloc: Global, count: usize) -> Result<Vec<ReadAhead>, OutOfMemo
         readers.push(ReadAhead::open(alloc)?)?;
     }
     Ok(readers)
-}
-
-// A run stops where its files stop it.
-fn stop_of(fault: RunFault) -> RunStop
-    ensures { result ≡ stop_by fault }
-{
-    match fault {
-        RunFault::TooLong { .. } => RunStop::TooLong { count: MOST_BYTES },
-        RunFault::ReadFault { .. } => RunStop::ReadFault,
-        RunFault::WriteFault => RunStop::WriteFault,
-    }
 }
 
 // Runs a gateway between files.
@@ -57,10 +46,8 @@ fn run_machine<D: Desk>(
     last_law();
     units_law();
     ahead_law();
-    match file_run::run(machine, readers, buffer, out, ins, desk) {
-        Ok(()) => machine.ending(),
-        Err(fault) => Err(stop_of(fault)),
-    }
+    file_run::run(machine, readers, buffer, out, ins, desk)?;
+    machine.ending()
 }
 
 /// Runs the gateway of a plan: opens the inputs, one for each PLP, in turn; creates the output; and goes frame by frame through

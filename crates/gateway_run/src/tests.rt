@@ -3,6 +3,7 @@ ghost use Rattle.std.specs.Prelude.{◌<◌};
 
 use crate::{Ran, RunStop, run};
 use bit_slice::OutOfMemory;
+use file_run::RunFault;
 use plp_config::Plan;
 use ports::{MemoryDesk, Word};
 use sample_networks::{loaded_plan, small_plan};
@@ -118,7 +119,10 @@ fn bad_packets(rt: HostRuntime) -> Result<(), Fail> {
 #[test]
 fn absent_input(rt: HostRuntime) -> Result<(), Fail> {
     let (result, out) = run_over(&rt, &small_plan(rt.alloc())?, None, usize::MAX)?;
-    assert_eq!(rt; result, Err(RunStop::ReadFault));
+    assert_eq!(rt;
+        result,
+        Err(RunStop::Files(RunFault::ReadFault { input: 0 }))
+    );
     assert_eq!(rt; len_of(&out), None);
     Ok(())
 }

@@ -11,7 +11,7 @@ use Rattle.modulate_run.specs.Laws.{MustRun, OneRun, RunEnds}
 use Rattle.modulate_run.specs.ModulateRun.{records_of, AreEarly}
 use Rattle.modulate_run.specs.declared.stop.Ran.{Ran}
 use Rattle.modulate_run.specs.declared.stop.RunStop.{RunStop}
-use Rattle.modulate_run.specs.declared.stop.RunStop.TheVariants.{NoSuperframe, TooLong, ReadFault, WriteFault, OutOfMemory}
+use Rattle.modulate_run.specs.declared.stop.RunStop.TheVariants.{NoSuperframe, TooManyFrames, Files, OutOfMemory}
 
 none_early : (records : List FrameRecord) → records ≡ [] → AreEarly records
 none_early records e = subst AreEarly (sym e) refl
@@ -19,24 +19,20 @@ none_early records e = subst AreEarly (sym e) refl
 pub one_run : OneRun
 one_run c file (Ok ran) (Ok other) a b = ap Ok (a.2 ∙ sym b.2)
 one_run c file (Ok ran) (Err NoSuperframe) a b = absurd (a.0 b)
-one_run c file (Ok ran) (Err (TooLong n)) a b = absurd (b.1 a.1)
-one_run c file (Ok ran) (Err ReadFault) a b = absurd b
-one_run c file (Ok ran) (Err WriteFault) a b = absurd b
+one_run c file (Ok ran) (Err TooManyFrames) a b = absurd (b a.1)
+one_run c file (Ok ran) (Err (Files fault)) a b = absurd b
 one_run c file (Ok ran) (Err OutOfMemory) a b = absurd b
 one_run c file (Err NoSuperframe) (Ok other) a b = absurd (b.0 a)
 one_run c file (Err NoSuperframe) (Err NoSuperframe) a b = refl
-one_run c file (Err NoSuperframe) (Err (TooLong n)) a b = absurd (b.1 (none_early (records_of c file) a))
-one_run c file (Err NoSuperframe) (Err ReadFault) a b = absurd b
-one_run c file (Err NoSuperframe) (Err WriteFault) a b = absurd b
+one_run c file (Err NoSuperframe) (Err TooManyFrames) a b = absurd (b (none_early (records_of c file) a))
+one_run c file (Err NoSuperframe) (Err (Files fault)) a b = absurd b
 one_run c file (Err NoSuperframe) (Err OutOfMemory) a b = absurd b
-one_run c file (Err (TooLong m)) (Ok other) a b = absurd (a.1 b.1)
-one_run c file (Err (TooLong m)) (Err NoSuperframe) a b = absurd (a.1 (none_early (records_of c file) b))
-one_run c file (Err (TooLong m)) (Err (TooLong n)) a b = ap (λ (k : ℕ). Err (TooLong k)) (a.0 ∙ sym b.0)
-one_run c file (Err (TooLong m)) (Err ReadFault) a b = absurd b
-one_run c file (Err (TooLong m)) (Err WriteFault) a b = absurd b
-one_run c file (Err (TooLong m)) (Err OutOfMemory) a b = absurd b
-one_run c file (Err ReadFault) other a b = absurd a
-one_run c file (Err WriteFault) other a b = absurd a
+one_run c file (Err TooManyFrames) (Ok other) a b = absurd (a b.1)
+one_run c file (Err TooManyFrames) (Err NoSuperframe) a b = absurd (a (none_early (records_of c file) b))
+one_run c file (Err TooManyFrames) (Err TooManyFrames) a b = refl
+one_run c file (Err TooManyFrames) (Err (Files fault)) a b = absurd b
+one_run c file (Err TooManyFrames) (Err OutOfMemory) a b = absurd b
+one_run c file (Err (Files fault)) other a b = absurd a
 one_run c file (Err OutOfMemory) other a b = absurd a
 
 pub run_ends : RunEnds
@@ -50,4 +46,4 @@ run_ends c file = go (records_of c file) refl
     go (x ∷ xs) e =
         bool_cases (list_all (λ (x : FrameRecord). nat_lt x.number MOST_FRAMES) (records_of c file))
         (λ early. (Ok (counted (records_of c file)), ((λ none. some x xs (sym e ∙ none)), early, refl)))
-        (λ late. (Err (TooLong MOST_FRAMES), (refl, λ early. true≢false (sym early ∙ late))))
+        (λ late. (Err TooManyFrames, λ early. true≢false (sym early ∙ late)))

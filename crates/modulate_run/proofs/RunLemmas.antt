@@ -26,13 +26,13 @@ use Rattle.file_run.specs.Steps.{Wants}
 use Rattle.file_run.specs.declared.machine.Step.TheVariants.{Read, Give, End}
 use Rattle.file_run.specs.declared.stop.RunFault.{RunFault}
 use Rattle.file_run.specs.declared.stop.RunFault.TheVariants as fault
-use Rattle.modulate_run.specs.AsMachine.{step_of, Behind, IsNext, IsAll, becomes, ending_of, stop_by}
+use Rattle.modulate_run.specs.AsMachine.{step_of, Behind, IsNext, IsAll, becomes, ending_of}
 use Rattle.modulate_run.specs.Counted.{counted}
 use Rattle.modulate_run.specs.ModulateRun.{read_ahead, records_of, output_of, AreEarly, RunsAll, FindsNone, HasWritten}
 use Rattle.modulate_run.specs.ModulateRun.{GivesTooMuch, HasEarly, MeetsLate, StopsReading, HasSome, StopsWriting, Stops}
 use Rattle.modulate_run.specs.declared.machine.ModulatorMachine.{ModulatorMachine}
 use Rattle.modulate_run.specs.declared.stop.Ran.{Ran}
-use Rattle.modulate_run.specs.declared.stop.RunStop.TheVariants.{TooLong, ReadFault, WriteFault}
+use Rattle.modulate_run.specs.declared.stop.RunStop.TheVariants.{Files}
 use Rattle.modulate_run.proofs.CountLemmas.{early_one}
 use Rattle.modulate_run.proofs.MachineLemmas.{falls_short}
 use Rattle.file_run.proofs.OneInputLemmas.{writes_by, whole_file}
@@ -230,7 +230,7 @@ ends_by law start now old new name out (Some w) e is ended end r =
     let number : w.frame ≡ next_of now.modulator = now.number w is in
     let least = ltb-false w.frame MOST_FRAMES last in
     let late : w.frame ≡ MOST_FRAMES = omega (arith, least, few, number) in
-    (tt, inr (refl, meets_late law start now old new name out w is late r))
+    (tt, meets_late law start now old new name out w is late r)
 ends_by law start now old new name out None false is ended end r = absurd (let z : Read 0 1 read_ahead ≡ End = end in cc)
 ends_by law start now old new name out None true is ended end r =
     bool_cases (now.ran.records == 0)
@@ -364,14 +364,14 @@ stops_writing tell law start now old new name out g =
 -- how a run ended that its files stopped
 stops_by : EventsTell → DueFront → (start now : ModulatorMachine) (old new : State) (name out : List ℕ) (why : RunFault)
     → driver.Stops old new out (name ∷ []) reach_of (λ m. step_of m.waiting m.ended) (becomes start) now why
-    → Stops (config_of now.modulator) old new name out (stop_by why)
+    → Stops (config_of now.modulator) old new name out (Files why)
 stops_by tell law start now old new name out (fault.TooLong input) g =
-    inl (refl, gives_too_much start now old new name out input g)
+    ((let p = g.place in omega (arith, p)), gives_too_much start now old new name out input g)
 stops_by tell law start now old new name out (fault.ReadFault input) (counts, inl o) =
     let first : input ≡ 0 = let f = o.few in omega (arith, f) in
-    (counts, inl (subst (OpensInputs old new (name ∷ [])) first o))
+    (first, counts, inl (subst (OpensInputs old new (name ∷ [])) first o))
 stops_by tell law start now old new name out (fault.ReadFault input) (counts, inr g) =
-    (counts, inr (stops_reading start now old new name out input g))
+    ((let p = g.place in omega (arith, p)), counts, inr (stops_reading start now old new name out input g))
 stops_by tell law start now old new name out fault.WriteFault (counts, inl o) = (counts, inl o)
 stops_by tell law start now old new name out fault.WriteFault (counts, inr g) =
     (counts, inr (stops_writing tell law start now old new name out g))
@@ -389,18 +389,19 @@ ends law start now old new name out end r =
 
 stops : EventsTell → DueFront → (start now : ModulatorMachine) (old new : State) (name out : List ℕ) (why : RunFault)
     → driver.Stops old new out (name ∷ []) reach_of (λ m. step_of m.waiting m.ended) (becomes start) now why
-    → Stops (config_of start.modulator) old new name out (stop_by why)
+    → Stops (config_of start.modulator) old new name out (Files why)
 stops tell law start now old new name out (fault.TooLong input) g =
-    subst (λ (c : Config). Stops c old new name out (TooLong most_bytes)) g.stands.came.0
+    subst (λ (c : Config). Stops c old new name out (Files (fault.TooLong input))) g.stands.came.0
     (stops_by tell law start now old new name out (fault.TooLong input) g)
 stops tell law start now old new name out (fault.ReadFault input) (counts, inl o) =
-    (counts, inl (let first : input ≡ 0 = let f = o.few in omega (arith, f) in subst (OpensInputs old new (name ∷ [])) first o))
+    let first : input ≡ 0 = let f = o.few in omega (arith, f) in
+    (first, counts, inl (subst (OpensInputs old new (name ∷ [])) first o))
 stops tell law start now old new name out (fault.ReadFault input) (counts, inr g) =
-    subst (λ (c : Config). Stops c old new name out ReadFault) g.stands.came.0
+    subst (λ (c : Config). Stops c old new name out (Files (fault.ReadFault input))) g.stands.came.0
     (stops_by tell law start now old new name out (fault.ReadFault input) (counts, inr g))
 stops tell law start now old new name out fault.WriteFault (counts, inl o) = (counts, inl o)
 stops tell law start now old new name out fault.WriteFault (counts, inr g) =
-    subst (λ (c : Config). Stops c old new name out WriteFault) g.stands.came.1.0
+    subst (λ (c : Config). Stops c old new name out (Files fault.WriteFault)) g.stands.came.1.0
     (stops_by tell law start now old new name out fault.WriteFault (counts, inr g))
 
 -- ---- of a list of one input
@@ -417,7 +418,7 @@ ends_one law start now old new (name ∷ other ∷ ins) out one end r = absurd (
 pub stops_one : EventsTell → DueFront → (start now : ModulatorMachine) (old new : State) (ins : List (List ℕ)) (out : List ℕ)
     (why : RunFault) → length ins ≡ 1
     → driver.Stops old new out ins reach_of (λ m. step_of m.waiting m.ended) (becomes start) now why
-    → Stops (config_of start.modulator) old new (slice_index_or ins 0 []) out (stop_by why)
+    → Stops (config_of start.modulator) old new (slice_index_or ins 0 []) out (Files why)
 stops_one tell law start now old new [] out why one g = absurd (omega (arith, one))
 stops_one tell law start now old new (name ∷ []) out why one g = stops tell law start now old new name out why g
 stops_one tell law start now old new (name ∷ other ∷ ins) out why one g = absurd (omega (arith, one))

@@ -6,12 +6,9 @@ use Rattle.plp_config.specs.declared.moment.TheConstants.{MOST_FRAMES}
 use Rattle.frame_groups.specs.Laws.{IsPrefix}
 use Rattle.frame_groups.specs.declared.waiting.Waiting.{Waiting}
 use Rattle.modulator.specs.StandsFor.{ModulatorStandsFor, WaitsAs, records_due, bytes_due, config_of, fed_of}
-use Rattle.desk_io.specs.Reading.{most_bytes}
 use Rattle.file_run.specs.Events.{Event, fed, has_ended, gave}
 use Rattle.file_run.specs.declared.machine.Step.{Step}
 use Rattle.file_run.specs.declared.machine.Step.TheVariants.{Read, Give, End}
-use Rattle.file_run.specs.declared.stop.RunFault.{RunFault}
-use Rattle.file_run.specs.declared.stop.RunFault.TheVariants as fault
 use Rattle.modulate_run.specs.Counted.{counted}
 use Rattle.modulate_run.specs.ModulateRun.{read_ahead, AreEarly}
 use Rattle.modulate_run.specs.declared.machine.ModulatorMachine.{ModulatorMachine}
@@ -58,11 +55,5 @@ becomes start events m = (config_of m.modulator ≡ config_of start.modulator)
 
 -- how a run ends that came so far
 abbrev pub ending_of : Option Waiting → Ran → Result Ran RunStop
-ending_of (Some w) ran = Err (stop.TooLong MOST_FRAMES)
+ending_of (Some w) ran = Err stop.TooManyFrames
 ending_of None ran = if ran.records == 0 then Err stop.NoSuperframe else Ok ran
-
--- how a run ends that its files stopped
-abbrev pub stop_by : RunFault → RunStop
-stop_by (fault.TooLong input) = stop.TooLong most_bytes
-stop_by (fault.ReadFault input) = stop.ReadFault
-stop_by fault.WriteFault = stop.WriteFault

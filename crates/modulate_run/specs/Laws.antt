@@ -1,18 +1,17 @@
 -- Laws of runs over a file.
 use Rattle.std.specs.Prelude.{◌≡◌, ◌≢◌, ℕ, List, [], Result, Ok, Err}
 use Rattle.plp_config.specs.declared.config.Config.{Config}
-use Rattle.plp_config.specs.declared.moment.TheConstants.{MOST_FRAMES}
 use Rattle.modulate_run.specs.Counted.{counted}
 use Rattle.modulate_run.specs.ModulateRun.{records_of, AreEarly}
 use Rattle.modulate_run.specs.declared.stop.Ran.{Ran}
 use Rattle.modulate_run.specs.declared.stop.RunStop.{RunStop}
-use Rattle.modulate_run.specs.declared.stop.RunStop.TheVariants.{NoSuperframe, TooLong}
+use Rattle.modulate_run.specs.declared.stop.RunStop.TheVariants.{NoSuperframe, TooManyFrames}
 
 -- How a run must end over a file that is not too long, if nothing outside fails.
 abbrev pub MustRun : Config → List ℕ → Result Ran RunStop → Type 0
 MustRun c file (Ok ran) = (records_of c file ≢ []) × AreEarly (records_of c file) × (ran ≡ counted (records_of c file))
 MustRun c file (Err NoSuperframe) = records_of c file ≡ []
-MustRun c file (Err (TooLong count)) = (count ≡ MOST_FRAMES) × ¬ (AreEarly (records_of c file))
+MustRun c file (Err TooManyFrames) = ¬ (AreEarly (records_of c file))
 MustRun c file (Err stop) = ⊥
 
 -- A file decides how a run over it must end.

@@ -12,10 +12,11 @@ use Rattle.modulator.specs.StandsFor.{records_due, bytes_due}
 use Rattle.desk_io.specs.Faults.{ReadsFail, WritesFail}
 use Rattle.desk_io.specs.Reading.{most_bytes}
 use Rattle.file_run.specs.FileRun.{OpensInputs, FailsToCreateOutput, Writes, ReadsAll}
+use Rattle.file_run.specs.declared.stop.RunFault.TheVariants.{TooLong, ReadFault, WriteFault}
 use Rattle.modulate_run.specs.Counted.{counted}
 use Rattle.modulate_run.specs.declared.stop.Ran.{Ran}
 use Rattle.modulate_run.specs.declared.stop.RunStop.{RunStop}
-use Rattle.modulate_run.specs.declared.stop.RunStop.TheVariants.{NoSuperframe, TooLong, ReadFault, WriteFault, OutOfMemory}
+use Rattle.modulate_run.specs.declared.stop.RunStop.TheVariants.{NoSuperframe, TooManyFrames, Files, OutOfMemory}
 
 -- how many bytes are read ahead at most
 abbrev pub read_ahead : ℕ
@@ -104,12 +105,13 @@ pub record StopsWriting (c : Config) (old new : State) (name out : List ℕ) : T
   pub short : place < most_bytes
   pub works : Writes old new name out place (HasSome c place)
 
--- A run that did not come to its end, by its cause.
+-- A run that did not come to its end, by its cause. IN is input 0, the only one.
 abbrev pub Stops : Config → State → State → List ℕ → List ℕ → RunStop → Type 0
 Stops c old new name out NoSuperframe = FindsNone c old new name out
-Stops c old new name out (TooLong count) = ((count ≡ most_bytes) × GivesTooMuch c old new name out)
-    ⊎ ((count ≡ MOST_FRAMES) × MeetsLate c old new name out)
-Stops c old new name out ReadFault = ReadsFail old new × (OpensInputs old new (name ∷ []) 0 ⊎ StopsReading c old new name out)
-Stops c old new name out WriteFault =
+Stops c old new name out TooManyFrames = MeetsLate c old new name out
+Stops c old new name out (Files (TooLong input)) = (input ≡ 0) × GivesTooMuch c old new name out
+Stops c old new name out (Files (ReadFault input)) =
+    (input ≡ 0) × ReadsFail old new × (OpensInputs old new (name ∷ []) 0 ⊎ StopsReading c old new name out)
+Stops c old new name out (Files WriteFault) =
     WritesFail old new × (FailsToCreateOutput old new out (name ∷ []) ⊎ StopsWriting c old new name out)
 Stops c old new name out OutOfMemory = new ≡ old

@@ -120,7 +120,7 @@ impl<'p> ModulatorMachine<'p> {
         ensures { result ≡ ending_of self.now.waiting self.now.ran }
     {
         if self.waiting.is_some() {
-            return Err(RunStop::TooLong { count: MOST_FRAMES });
+            return Err(RunStop::TooManyFrames);
         }
         if self.ran.records == 0 {
             return Err(RunStop::NoSuperframe);

@@ -1,29 +1,18 @@
-// The run.
+// A run of the modulator of a plan: its reader, its buffer and its machine on the driver.
 ghost use Rattle.std.specs.Prelude.{◌≡◌, ◌≢◌, [], length, slice_index_or, IfOk, IfErr};
 ghost use Rattle.file_run.specs.FileRun.{AreApart};
 ghost use Rattle.modulator.specs.StandsFor.{config_of};
-ghost use Rattle.modulate_run.specs.AsMachine.{becomes, stop_by};
+ghost use Rattle.modulate_run.specs.AsMachine.{becomes};
 ghost use Rattle.modulate_run.specs.ModulateRun.{RunsAll, Stops};
 
 use crate::machine::ModulatorMachine;
 use crate::stop::{Ran, RunStop};
-use desk_io::{MOST_BYTES, ReadAhead};
-use file_run::{OutBuffer, RunFault, events_law};
+use desk_io::ReadAhead;
+use file_run::{OutBuffer, events_law};
 use modulator::due_records_law;
 use plp_config::Plan;
 use ports::{Desk, Word};
 use std::alloc::Global;
-
-// A run stops where its files stop it.
-fn stop_of(fault: RunFault) -> RunStop
-    ensures { result ≡ stop_by fault }
-{
-    match fault {
-        RunFault::TooLong { .. } => RunStop::TooLong { count: MOST_BYTES },
-        RunFault::ReadFault { .. } => RunStop::ReadFault,
-        RunFault::WriteFault => RunStop::WriteFault,
-    }
-}
 
 // Runs a modulator between files.
 fn run_machine<D: Desk>(
@@ -43,14 +32,12 @@ fn run_machine<D: Desk>(
 {
     events_law();
     due_records_law();
-    match file_run::run(machine, readers, buffer, out, ins, desk) {
-        Ok(()) => machine.ending(),
-        Err(fault) => Err(stop_of(fault)),
-    }
+    file_run::run(machine, readers, buffer, out, ins, desk)?;
+    machine.ending()
 }
 
-/// Runs the modulator of a plan: opens the input, creates the output, and writes each record as soon as it is due, before it reads on.
-/// It reads 65,536 bytes ahead at most. All memory is taken before the input is opened.
+/// Runs the modulator of a plan: opens the input, creates the output, and writes each record as soon as it is due, before it
+/// reads on. It reads 65,536 bytes ahead at most. All memory is taken before the input is opened.
 pub fn run<D: Desk>(
     alloc: Global,
     plan: &Plan,

@@ -3,6 +3,7 @@ ghost use Rattle.std.specs.Prelude.{◌≡◌};
 ghost use Rattle.modulate_run.specs.Given.{added};
 
 use bit_slice::OutOfMemory;
+use file_run::RunFault;
 use frame_groups::Waiting;
 use thiserror::Error;
 
@@ -38,18 +39,26 @@ pub enum RunStop {
     /// The input was read to its end, and no frame that begins a superframe passes the tests.
     #[error("no superframe begins in the input with a frame that passes the tests")]
     NoSuperframe,
-    /// The input gave 2^40 bytes, or the record of frame 2^31 waits; this is that number.
-    #[error("too long: {count}")]
-    TooLong { count: u64 },
-    /// The input could not be opened or read.
-    #[error("the input could not be read")]
-    ReadFault,
-    /// The output could not be created or written.
-    #[error("the output could not be written")]
-    WriteFault,
+    /// The record of frame 2^31 waits.
+    #[error("too many frames")]
+    TooManyFrames,
+    /// The input gave 2^40 bytes, or could not be opened or read; or the output could not be created or written.
+    #[error(transparent)]
+    Files(RunFault),
     /// No memory was found.
     #[error("out of memory")]
     OutOfMemory,
+}
+
+impl From<RunFault> for RunStop {
+    ghost use Rattle.std.specs.Prelude.{◌≡◌};
+    ghost use Rattle.modulate_run.specs.declared.stop.RunStop.TheVariants.{Files};
+
+    ghost from_gives = { λ fault e. e ≡ Files fault };
+
+    fn from(fault: RunFault) -> RunStop {
+        RunStop::Files(fault)
+    }
 }
 
 impl From<OutOfMemory> for RunStop {

@@ -1,5 +1,6 @@
 // Records of a stream stand in tests of the commands, whose streams `gateway` wrote.
 use crate::{RunStop, run};
+use file_run::RunFault;
 use ports::MemoryDesk;
 use sample_networks::small_plan;
 use std::test::Fail;
@@ -23,7 +24,10 @@ fn an_absent_input(rt: HostRuntime) -> Result<(), Fail> {
     let plan = small_plan(alloc)?;
     let mut desk = MemoryDesk::new(alloc);
     let result = run(alloc, &plan, "in", "out", &mut desk);
-    assert_eq!(rt; result, Err(RunStop::ReadFault));
+    assert_eq!(rt;
+        result,
+        Err(RunStop::Files(RunFault::ReadFault { input: 0 }))
+    );
     assert!(rt; desk.file("out").is_none());
     Ok(())
 }

@@ -22,13 +22,14 @@ use Rattle.file_run.specs.Steps.{FallsShort}
 use Rattle.file_run.specs.declared.machine.Step.TheVariants.{Read, Give, End}
 use Rattle.file_run.specs.declared.stop.RunFault.{RunFault}
 use Rattle.file_run.specs.declared.stop.RunFault.TheVariants as fault
-use Rattle.receive_run.specs.AsMachine.{next_of, first_of, Becomes, ran_by, ending_of, stop_by}
+use Rattle.receive_run.specs.AsMachine.{next_of, first_of, Becomes, ran_by, ending_of}
 use Rattle.receive_run.specs.NextStep.{step_of}
 use Rattle.receive_run.specs.ReceiveRun.{HasAll, RunsAll, HasMetRefused, MeetsRefused, HasMet, HasMetPart, GivesTooMuch}
 use Rattle.receive_run.specs.ReceiveRun.{StopsReading, Stops}
 use Rattle.receive_run.specs.declared.machine.Coming.{Coming}
 use Rattle.receive_run.specs.declared.machine.Coming.TheVariants.{Head, Rest, Packets, Refused, Finished}
 use Rattle.receive_run.specs.declared.machine.ReceiverMachine.{ReceiverMachine}
+use Rattle.receive_run.specs.declared.stop.RunStop.TheVariants.{Files}
 use Rattle.receive_run.proofs.StepLemmas.{idle_at}
 use Rattle.site_frame.proofs.RecordFileLemmas.{records_file, rest_inside}
 use Rattle.file_run.proofs.OneInputLemmas.{writes_by, whole_file}
@@ -174,13 +175,14 @@ ends_one start now old new (name ∷ other ∷ ins) out one end r = absurd (omeg
 stops : EventsTell → OneRecord → NoRefusal → OneFrame → (start now : ReceiverMachine) (old new : State) (name out : List ℕ)
     (why : RunFault) → AllRules (plan_of start)
     → driver.Stops old new out (name ∷ []) reach_of next_of (Becomes start) now why
-    → Stops (plan_of start) (place_of start) old new name out (stop_by why)
+    → Stops (plan_of start) (place_of start) old new name out (Files why)
 stops tell one never frame start now old new name out (fault.TooLong input) rules g =
-    (refl, gives_too_much start now old new name out input g)
+    ((let p = g.place in omega (arith, p)), gives_too_much start now old new name out input g)
 stops tell one never frame start now old new name out (fault.ReadFault input) rules (counts, inl o) =
-    let first : input ≡ 0 = let f = o.few in omega (arith, f) in (counts, inl (subst (OpensInputs old new (name ∷ [])) first o))
+    let first : input ≡ 0 = let f = o.few in omega (arith, f) in
+    (first, counts, inl (subst (OpensInputs old new (name ∷ [])) first o))
 stops tell one never frame start now old new name out (fault.ReadFault input) rules (counts, inr g) =
-    (counts, inr (stops_reading start now old new name out input g))
+    ((let p = g.place in omega (arith, p)), counts, inr (stops_reading start now old new name out input g))
 stops tell one never frame start now old new name out fault.WriteFault rules (counts, inl o) = (counts, inl o)
 stops tell one never frame start now old new name out fault.WriteFault rules (counts, inr g) =
     (counts, inr (stops_writing tell one never frame start now old new name out rules g))
@@ -189,7 +191,7 @@ pub stops_one : EventsTell → OneRecord → NoRefusal → OneFrame
     → (start now : ReceiverMachine) (old new : State) (ins : List (List ℕ)) (out : List ℕ) (why : RunFault) → length ins ≡ 1
     → AllRules (plan_of start)
     → driver.Stops old new out ins reach_of next_of (Becomes start) now why
-    → Stops (plan_of start) (place_of start) old new (slice_index_or ins 0 []) out (stop_by why)
+    → Stops (plan_of start) (place_of start) old new (slice_index_or ins 0 []) out (Files why)
 stops_one tell one never frame start now old new [] out why count rules g = absurd (omega (arith, count))
 stops_one tell one never frame start now old new (name ∷ []) out why count rules g =
     stops tell one never frame start now old new name out why rules g

@@ -12,11 +12,8 @@ use Rattle.site_frame.specs.declared.reading.RecordView.{RecordView}
 use Rattle.plp_receiver.specs.StandsFor.{StandsFor, IsFresh, network_of, plp_of, frame_of, due_of}
 use Rattle.plp_receiver.specs.Taken.{Readback}
 use Rattle.plp_receiver.specs.declared.receiver.Receiver.{Receiver}
-use Rattle.desk_io.specs.Reading.{most_bytes}
 use Rattle.file_run.specs.Events.{Event, fed, has_ended, gave}
 use Rattle.file_run.specs.declared.machine.Step.{Step}
-use Rattle.file_run.specs.declared.stop.RunFault.{RunFault}
-use Rattle.file_run.specs.declared.stop.RunFault.TheVariants as fault
 use Rattle.receive_run.specs.NextStep.{step_of, gives, coming_by, left_by}
 use Rattle.receive_run.specs.Received.{GivesBack, expected_after, RefusesNext}
 use Rattle.receive_run.specs.Taking.{expected_by, Awaits, SamePlp, TakesRecord, RefusesRecord, TellsDue}
@@ -170,9 +167,3 @@ ran_by c plp first slots = record { first = slot_by c plp first; slots = slots }
 abbrev pub ending_of : Coming → ℕ → Ran → Result Ran RunStop
 ending_of (Refused why) count ran = Err (stop.RecordRefused count why)
 ending_of coming count ran = Ok ran
-
--- how a run ends that its files stopped
-abbrev pub stop_by : RunFault → RunStop
-stop_by (fault.TooLong input) = stop.TooLong most_bytes
-stop_by (fault.ReadFault input) = stop.ReadFault
-stop_by fault.WriteFault = stop.WriteFault

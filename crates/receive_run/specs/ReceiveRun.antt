@@ -9,10 +9,11 @@ use Rattle.site_frame.specs.declared.reading.RecordView.{RecordView}
 use Rattle.desk_io.specs.Faults.{ReadsFail, WritesFail}
 use Rattle.desk_io.specs.Reading.{most_bytes}
 use Rattle.file_run.specs.FileRun.{OpensInputs, FailsToCreateOutput, Writes, ReadsAll}
+use Rattle.file_run.specs.declared.stop.RunFault.TheVariants.{TooLong, ReadFault, WriteFault}
 use Rattle.receive_run.specs.Received.{Received, ran_of, expected_after, RefusesNext}
 use Rattle.receive_run.specs.declared.stop.Ran.{Ran}
 use Rattle.receive_run.specs.declared.stop.RunStop.{RunStop}
-use Rattle.receive_run.specs.declared.stop.RunStop.TheVariants.{RecordRefused, TooLong, ReadFault, WriteFault, OutOfMemory}
+use Rattle.receive_run.specs.declared.stop.RunStop.TheVariants.{RecordRefused, Files, OutOfMemory}
 
 -- The file is nothing but records, the bytes are what they give back, and these are their slots.
 pub record HasAll (c : Config) (plp : ℕ) (ran : Ran) (file bytes : List ℕ) : Type 0 where
@@ -107,12 +108,12 @@ pub record StopsWriting (c : Config) (plp : ℕ) (old new : State) (name out : L
   pub short : place < most_bytes
   pub works : Writes old new name out place (HasSome c plp place)
 
--- A run that did not come to its end, by its cause.
+-- A run that did not come to its end, by its cause. IN is input 0, the only one.
 abbrev pub Stops : Config → ℕ → State → State → List ℕ → List ℕ → RunStop → Type 0
 Stops c plp old new name out (RecordRefused number why) = MeetsRefused c plp old new name out number why
-Stops c plp old new name out (TooLong count) = (count ≡ most_bytes) × GivesTooMuch c plp old new name out
-Stops c plp old new name out ReadFault =
-    ReadsFail old new × (OpensInputs old new (name ∷ []) 0 ⊎ StopsReading c plp old new name out)
-Stops c plp old new name out WriteFault =
+Stops c plp old new name out (Files (TooLong input)) = (input ≡ 0) × GivesTooMuch c plp old new name out
+Stops c plp old new name out (Files (ReadFault input)) =
+    (input ≡ 0) × ReadsFail old new × (OpensInputs old new (name ∷ []) 0 ⊎ StopsReading c plp old new name out)
+Stops c plp old new name out (Files WriteFault) =
     WritesFail old new × (FailsToCreateOutput old new out (name ∷ []) ⊎ StopsWriting c plp old new name out)
 Stops c plp old new name out OutOfMemory = new ≡ old

@@ -1,30 +1,19 @@
-// The run.
+// A run of the receiver of a PLP: its reader, its buffer and its machine on the driver.
 ghost use Rattle.std.specs.Prelude.{◌≡◌, ◌≢◌, ◌<◌, [], length, slice_index_or, IfOk, IfErr};
 ghost use Rattle.file_run.specs.FileRun.{AreApart};
 ghost use Rattle.plp_config.specs.Capacity.{IsPlan};
 ghost use Rattle.plp_receiver.specs.StandsFor.{network_of, plp_of};
-ghost use Rattle.receive_run.specs.AsMachine.{Becomes, stop_by};
+ghost use Rattle.receive_run.specs.AsMachine.{Becomes};
 ghost use Rattle.receive_run.specs.ReceiveRun.{RunsAll, Stops};
 
 use crate::machine::ReceiverMachine;
 use crate::stop::{Ran, RunStop};
-use desk_io::{MOST_BYTES, ReadAhead};
-use file_run::{OutBuffer, RunFault, events_law};
+use desk_io::ReadAhead;
+use file_run::{OutBuffer, events_law};
 use plp_config::Plan;
 use ports::{Desk, Word};
 use site_frame::{place_law, reading_law, refusal_law};
 use std::alloc::Global;
-
-// A run stops where its files stop it.
-fn stop_of(fault: RunFault) -> RunStop
-    ensures { result ≡ stop_by fault }
-{
-    match fault {
-        RunFault::TooLong { .. } => RunStop::TooLong { count: MOST_BYTES },
-        RunFault::ReadFault { .. } => RunStop::ReadFault,
-        RunFault::WriteFault => RunStop::WriteFault,
-    }
-}
 
 // Runs a receiver between files.
 fn run_machine<D: Desk>(
@@ -47,15 +36,13 @@ fn run_machine<D: Desk>(
     reading_law();
     refusal_law();
     place_law();
-    match file_run::run(machine, readers, buffer, out, ins, desk) {
-        Ok(()) => machine.ending(),
-        Err(fault) => Err(stop_of(fault)),
-    }
+    file_run::run(machine, readers, buffer, out, ins, desk)?;
+    machine.ending()
 }
 
-/// Runs the receiver of the PLP at a place of a plan: opens the input, creates the output, and writes the packets of all slots that are
-/// due behind a record before it reads the next one. It reads no further than the record under way, and no further than a head with
-/// which no record begins. All memory is taken before the input is opened.
+/// Runs the receiver of the PLP at a place of a plan: opens the input, creates the output, and writes the packets of all slots
+/// that are due behind a record before it reads the next one. It reads no further than the record under way, and no further than
+/// a head with which no record begins. All memory is taken before the input is opened.
 pub fn run<D: Desk>(
     alloc: Global,
     plan: &Plan,

@@ -1,5 +1,6 @@
 // How a run ends.
 use bit_slice::OutOfMemory;
+use file_run::RunFault;
 use site_frame::RecordWhy;
 use thiserror::Error;
 
@@ -18,18 +19,23 @@ pub enum RunStop {
     /// No record begins where this one must, counted from 0, or its frame is not the next one.
     #[error("record {number}: {why}")]
     RecordRefused { number: u64, why: RecordWhy },
-    /// The input gave 2^40 bytes; this is that number.
-    #[error("too long: {count}")]
-    TooLong { count: u64 },
-    /// The input could not be opened or read.
-    #[error("the input could not be read")]
-    ReadFault,
-    /// The output could not be created or written.
-    #[error("the output could not be written")]
-    WriteFault,
+    /// The input gave 2^40 bytes, or could not be opened or read; or the output could not be created or written.
+    #[error(transparent)]
+    Files(RunFault),
     /// No memory was found.
     #[error("out of memory")]
     OutOfMemory,
+}
+
+impl From<RunFault> for RunStop {
+    ghost use Rattle.std.specs.Prelude.{◌≡◌};
+    ghost use Rattle.receive_run.specs.declared.stop.RunStop.TheVariants.{Files};
+
+    ghost from_gives = { λ fault e. e ≡ Files fault };
+
+    fn from(fault: RunFault) -> RunStop {
+        RunStop::Files(fault)
+    }
 }
 
 impl From<OutOfMemory> for RunStop {

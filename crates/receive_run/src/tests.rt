@@ -1,9 +1,10 @@
-// Records are muted: a head spelled by hand from the table of records. Which slots are due was counted by hand: a slot lasts 1,504 · 64 / 14
-// ticks, and is due 306,877 ticks after its start. Records of frames with blocks stand in hostile.rt and in tests
+// Records are muted: a head spelled by hand from the table of records. Which slots are due was counted by hand: a slot lasts
+// 1,504 · 64 / 14 ticks, and is due 306,877 ticks after its start. Records of frames with blocks stand in hostile.rt and in tests
 // of the commands.
 ghost use Rattle.std.specs.Prelude.{◌<◌};
 
 use crate::{Ran, RunStop, run};
+use file_run::RunFault;
 use plp_config::Plan;
 use ports::MemoryDesk;
 use sample_networks::small_plan;
@@ -129,7 +130,10 @@ fn an_absent_input(rt: HostRuntime) -> Result<(), Fail> {
     plan.obeys_rules();
     let mut desk = MemoryDesk::new(rt.alloc());
     let result = run(rt.alloc(), &plan, 0, "in", "out", &mut desk);
-    assert_eq!(rt; result, Err(RunStop::ReadFault));
+    assert_eq!(rt;
+        result,
+        Err(RunStop::Files(RunFault::ReadFault { input: 0 }))
+    );
     assert!(rt; desk.file("out").is_none());
     Ok(())
 }

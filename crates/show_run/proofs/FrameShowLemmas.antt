@@ -12,6 +12,7 @@ use Rattle.file_run.specs.Events.{Event, fed, has_ended, gave}
 use Rattle.file_run.specs.FileRun.{IsFed}
 use Rattle.file_run.specs.Telling.{StartsWith, Tells, TellsAll}
 use Rattle.file_run.specs.declared.machine.Step.TheVariants.{Read, Give, End}
+use Rattle.file_run.specs.declared.stop.RunFault.TheVariants.{TooLong, ReadFault, WriteFault}
 use Rattle.site_frame.specs.Laws.{OneRecord, NoRefusal}
 use Rattle.site_frame.specs.Record.{head_len}
 use Rattle.site_frame.specs.declared.fault.RecordWhy.{RecordWhy}
@@ -182,14 +183,14 @@ pub frames_stop : OneRecord → NoRefusal → (start now : FrameLines) (old new 
     → (now.coming ≡ Rest → 0 < now.left) → StopsLines (Comes start) next_of old new name now why → shows old new name (Err why)
 frames_stop one never start now old new name (stop.PacketRefused at why) some s = absurd s
 frames_stop one never start now old new name (stop.RecordRefused number why) some s = absurd s
-frames_stop one never start now old new name stop.TooLong some s =
+frames_stop one never start now old new name (stop.Files (TooLong input)) some s =
     let t = s.1 in
     let x = t.tells in
     let r = reaches_in now.line now.coming now.at now.left _ t.wants in
     record {
       given = most_bytes;
       text = gave x.early;
-      reads = (x.opened, refl);
+      reads = (s.0, x.opened, refl);
       grew = x.said;
       lines = IfSome_then old.held x.inputs (λ held f.
           let ahead = f.ahead in
@@ -203,11 +204,11 @@ frames_stop one never start now old new name stop.TooLong some s =
           ));
       counts = t.counts;
     }
-frames_stop one never start now old new name stop.ReadFault some s = elim s.1 [
+frames_stop one never start now old new name (stop.Files (ReadFault input)) some s = elim s.1 [
   | inl closed ↦ record {
     given = 0;
     text = [];
-    reads = inl (closed.1, refl);
+    reads = (s.0, inl (closed.1, refl));
     grew = closed.1.said ∙ append-none old.said;
     lines = if_any old.held _
         (λ held. (([], bytes_of held.files name, refl, inl (omega arith)), none_first (bytes_of held.files name)));
@@ -220,7 +221,7 @@ frames_stop one never start now old new name stop.ReadFault some s = elim s.1 [
       record {
         given = t.place;
         text = gave x.early;
-        reads = inr (x.opened, t.short);
+        reads = (s.0, inr (x.opened, t.short));
         grew = x.said;
         lines = if_both old.held _ _ _ (λ held f first. (
           part_met (bytes_of held.files name) now x.events t.place (t.place - length (fed 0 x.events))
@@ -231,7 +232,7 @@ frames_stop one never start now old new name stop.ReadFault some s = elim s.1 [
         counts = more.0;
       }
 ]
-frames_stop one never start now old new name stop.WriteFault some s =
+frames_stop one never start now old new name (stop.Files WriteFault) some s =
     let x = s.1.2 in
     record {
       given = s.1.0;

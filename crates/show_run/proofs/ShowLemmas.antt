@@ -14,6 +14,7 @@ use Rattle.file_run.specs.Events.{Event, fed, has_ended, gave}
 use Rattle.file_run.specs.FileRun.{IsFed}
 use Rattle.file_run.specs.Telling.{StartsWith, Tells, TellsAll}
 use Rattle.file_run.specs.declared.machine.Step.TheVariants.{Read, Give, End}
+use Rattle.file_run.specs.declared.stop.RunFault.TheVariants.{TooLong, ReadFault, WriteFault}
 use Rattle.show_run.specs.Front.{most_of}
 use Rattle.show_run.specs.PacketFile.{Packs, bytes_in, IsRefused}
 use Rattle.show_run.specs.PacketLines.{next_from, next_of, Behind, Given, Shown, Comes, packets_end}
@@ -25,8 +26,7 @@ use Rattle.show_run.specs.declared.packet_lines.PacketLines.{PacketLines}
 use Rattle.show_run.specs.declared.packet_lines.Phase.{Phase}
 use Rattle.show_run.specs.declared.packet_lines.Phase.TheVariants.{Reads, Ends, Refused, Finished}
 use Rattle.show_run.specs.declared.stop.ShowStop.{ShowStop}
-use Rattle.show_run.specs.declared.stop.ShowStop.TheVariants.{PacketRefused, RecordRefused, TooLong, ReadFault, WriteFault}
-use Rattle.show_run.specs.declared.stop.ShowStop.TheVariants.{OutOfMemory, NoRoom}
+use Rattle.show_run.specs.declared.stop.ShowStop.TheVariants.{PacketRefused, RecordRefused, Files, OutOfMemory, NoRoom}
 use Rattle.show_run.proofs.EndLemmas.{packs_within, same_packets}
 use Rattle.show_run.proofs.PacketFileLemmas.{packs_first, lines_of-append}
 use Rattle.show_run.proofs.PacketLinesLemmas.{all_seen}
@@ -171,14 +171,14 @@ pub shows_stop : OnePacket → NoRefusal → PacketLength → (start now : Packe
     (why : ShowStop) → StopsLines (Comes start) next_of old new name now why → shows old new name (Err why)
 shows_stop one none sizes start now old new name (PacketRefused at why) s = absurd s
 shows_stop one none sizes start now old new name (RecordRefused number why) s = absurd s
-shows_stop one none sizes start now old new name TooLong s =
+shows_stop one none sizes start now old new name (Files (TooLong input)) s =
     let t = s.1 in
     let x = t.tells in
     let r = reaches_reads now.line now.phase now.at _ t.wants in
     record {
       given = most_bytes;
       text = gave x.early;
-      reads = (x.opened, refl);
+      reads = (s.0, x.opened, refl);
       grew = x.said;
       lines = IfSome_then old.held x.inputs (λ held f. (
         (let w = f.within in w),
@@ -189,11 +189,11 @@ shows_stop one none sizes start now old new name TooLong s =
       ));
       counts = t.counts;
     }
-shows_stop one none sizes start now old new name ReadFault s = elim s.1 [
+shows_stop one none sizes start now old new name (Files (ReadFault input)) s = elim s.1 [
   | inl closed ↦ record {
     given = 0;
     text = [];
-    reads = inl (closed.1, refl);
+    reads = (s.0, inl (closed.1, refl));
     grew = closed.1.said ∙ append-none old.said;
     lines = if_any old.held _
         (λ held. (([], bytes_of held.files name, refl, omega arith), none_first (bytes_of held.files name)));
@@ -206,7 +206,7 @@ shows_stop one none sizes start now old new name ReadFault s = elim s.1 [
       record {
         given = t.place;
         text = gave x.early;
-        reads = inr (x.opened, t.short);
+        reads = (s.0, inr (x.opened, t.short));
         grew = x.said;
         lines = if_both old.held _ _ _ (λ held f first. (
           met _ _ _ (all_met (bytes_of held.files name) now x.events t.place r.0 r.1 x.came.shown (starts_fed _ _ _ _ f)
@@ -216,7 +216,7 @@ shows_stop one none sizes start now old new name ReadFault s = elim s.1 [
         counts = some.0;
       }
 ]
-shows_stop one none sizes start now old new name WriteFault s =
+shows_stop one none sizes start now old new name (Files WriteFault) s =
     let x = s.1.2 in
     record {
       given = s.1.0;

@@ -21,14 +21,14 @@ use Rattle.file_run.specs.FileRun.{IsFed}
 use Rattle.file_run.specs.Steps.{FallsShort}
 use Rattle.file_run.specs.Telling.{StartsWith, Reaches, Tells, TellsAll}
 use Rattle.file_run.specs.declared.machine.Step.TheVariants.{Read, Give, End}
+use Rattle.file_run.specs.declared.stop.RunFault.TheVariants.{TooLong, ReadFault, WriteFault}
 use Rattle.show_run.specs.SaidLines.{count_line}
 use Rattle.show_run.specs.Shows.{Shows}
 use Rattle.show_run.specs.T2miLines.{next_in, next_of, packets_from, Unpiping, Found, Shown, Comes}
 use Rattle.show_run.specs.T2miText.{place_lines, AreFirstLines, IsT2miText}
 use Rattle.show_run.specs.Told.{StopsLines}
 use Rattle.show_run.specs.declared.stop.ShowStop.{ShowStop}
-use Rattle.show_run.specs.declared.stop.ShowStop.TheVariants.{PacketRefused, RecordRefused, TooLong, ReadFault, WriteFault}
-use Rattle.show_run.specs.declared.stop.ShowStop.TheVariants.{OutOfMemory, NoRoom}
+use Rattle.show_run.specs.declared.stop.ShowStop.TheVariants.{PacketRefused, RecordRefused, Files, OutOfMemory, NoRoom}
 use Rattle.show_run.specs.declared.t2mi_lines.T2miLines.{T2miLines}
 use Rattle.show_run.specs.declared.t2mi_lines.Search.{Search}
 use Rattle.show_run.specs.declared.t2mi_lines.Search.TheVariants.{Seeks, Unpipes, Finished}
@@ -168,24 +168,24 @@ pub t2mi_stop : AcceptedFront → PacketsBehind → (start now : T2miLines) (old
     → StopsLines (Comes start) next_of old new name now why → shows old new name (Err why)
 t2mi_stop front behind start now old new name (PacketRefused at why) s = absurd s
 t2mi_stop front behind start now old new name (RecordRefused number why) s = absurd s
-t2mi_stop front behind start now old new name TooLong s =
+t2mi_stop front behind start now old new name (Files (TooLong input)) s =
     let t = s.1 in
     let x = t.tells in
     record {
       given = most_bytes;
       text = gave x.early;
-      reads = (x.opened, refl);
+      reads = (s.0, x.opened, refl);
       grew = x.said;
       lines = if_both old.held _ _ _ (λ held f first. ((let w = f.within in w), first)) x.inputs
           (some_said front behind start now old new name most_bytes [] x
           (λ none. reaches_waits now.search (is_ready now.unpiper) (SIZE - now.from) now.line _ t.wants));
       counts = t.counts;
     }
-t2mi_stop front behind start now old new name ReadFault s = elim s.1 [
+t2mi_stop front behind start now old new name (Files (ReadFault input)) s = elim s.1 [
   | inl none ↦ record {
     given = 0;
     text = [];
-    reads = inl (none.1, refl);
+    reads = (s.0, inl (none.1, refl));
     grew = none.1.said ∙ append-none old.said;
     lines = if_any old.held _ (λ held. none_first (t2mi_packets_in (bytes_of held.files name)) [] refl);
     counts = fails_only old new none.0;
@@ -196,14 +196,14 @@ t2mi_stop front behind start now old new name ReadFault s = elim s.1 [
       record {
         given = t.place;
         text = gave x.early;
-        reads = inr (x.opened, t.short);
+        reads = (s.0, inr (x.opened, t.short));
         grew = x.said;
         lines = some_said front behind start now old new name t.place t.unsaid x
             (λ none. short_waits now.search (is_ready now.unpiper) (SIZE - now.from) now.line _ t.wants);
         counts = some.0;
       }
 ]
-t2mi_stop front behind start now old new name WriteFault s =
+t2mi_stop front behind start now old new name (Files WriteFault) s =
     let x = s.1.2 in
     record {
       given = s.1.0;

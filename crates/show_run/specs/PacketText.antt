@@ -1,13 +1,13 @@
 -- The text of a file of T2-MI packets that stand back to back.
 use Rattle.std.specs.Prelude.{◌≡◌, ℕ, ◌+◌, ◌≤◌, List, [], ◌++◌, length, Result, Ok, Err}
 use Rattle.desk_io.specs.Reading.{most_bytes}
+use Rattle.file_run.specs.declared.stop.RunFault.TheVariants.{TooLong, ReadFault, WriteFault}
 use Rattle.t2mi_packet.specs.declared.fault.PacketWhy.{PacketWhy}
 use Rattle.t2mi_packet.specs.declared.reading.TheConstants.{LARGEST}
 use Rattle.show_run.specs.PacketFile.{Packs, bytes_in, IsRefused}
 use Rattle.show_run.specs.SaidLines.{lines_of, count_line}
 use Rattle.show_run.specs.declared.stop.ShowStop.{ShowStop}
-use Rattle.show_run.specs.declared.stop.ShowStop.TheVariants.{PacketRefused, RecordRefused, TooLong, ReadFault, WriteFault}
-use Rattle.show_run.specs.declared.stop.ShowStop.TheVariants.{OutOfMemory, NoRoom}
+use Rattle.show_run.specs.declared.stop.ShowStop.TheVariants.{PacketRefused, RecordRefused, Files, OutOfMemory, NoRoom}
 
 -- The text is the lines of some packets with which the file begins.
 abbrev pub AreFirst : List ℕ → List ℕ → Type 0
@@ -39,8 +39,8 @@ IsPacketText file given (Err (PacketRefused at why)) text =
     (packets : List (List ℕ)) × (rest : List ℕ) × Packs file packets rest × IsRefused rest why × (at ≡ bytes_in packets)
     × (text ≡ lines_of 0 packets)
 IsPacketText file given (Err (RecordRefused number why)) text = ⊥
-IsPacketText file given (Err TooLong) text = (most_bytes ≤ length file) × SaysMet file given text
-IsPacketText file given (Err ReadFault) text = MeetsPackets file given × AreFirst file text
-IsPacketText file given (Err WriteFault) text = LeavesSome file text
+IsPacketText file given (Err (Files (TooLong input))) text = (most_bytes ≤ length file) × SaysMet file given text
+IsPacketText file given (Err (Files (ReadFault input))) text = MeetsPackets file given × AreFirst file text
+IsPacketText file given (Err (Files WriteFault)) text = LeavesSome file text
 IsPacketText file given (Err OutOfMemory) text = text ≡ []
 IsPacketText file given (Err NoRoom) text = ⊥

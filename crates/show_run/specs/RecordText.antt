@@ -1,13 +1,13 @@
 -- The text of a file of records.
 use Rattle.std.specs.Prelude.{◌≡◌, ℕ, ◌+◌, ◌-◌, ◌≤◌, List, [], ◌++◌, length, Result, Ok, Err}
 use Rattle.desk_io.specs.Reading.{most_bytes}
+use Rattle.file_run.specs.declared.stop.RunFault.TheVariants.{TooLong, ReadFault, WriteFault}
 use Rattle.site_frame.specs.declared.fault.RecordWhy.{RecordWhy}
 use Rattle.site_frame.specs.declared.reading.RecordView.{RecordView}
 use Rattle.site_frame.specs.RecordFile.{AreRecords, IsNoRecord, Announces, EndsWithin, bytes_before}
 use Rattle.show_run.specs.SaidLines.{record_lines, records_line}
 use Rattle.show_run.specs.declared.stop.ShowStop.{ShowStop}
-use Rattle.show_run.specs.declared.stop.ShowStop.TheVariants.{PacketRefused, RecordRefused, TooLong, ReadFault, WriteFault}
-use Rattle.show_run.specs.declared.stop.ShowStop.TheVariants.{OutOfMemory, NoRoom}
+use Rattle.show_run.specs.declared.stop.ShowStop.TheVariants.{PacketRefused, RecordRefused, Files, OutOfMemory, NoRoom}
 
 -- The text is the lines of some records with which the file begins, and then comes a rest.
 abbrev pub SaysFirst : List ℕ → List RecordView → List ℕ → List ℕ → Type 0
@@ -43,9 +43,9 @@ IsRecordText file given (Ok count) text =
 IsRecordText file given (Err (PacketRefused at why)) text = ⊥
 IsRecordText file given (Err (RecordRefused number why)) text =
     (views : List RecordView) × (rest : List ℕ) × SaysFirst file views rest text × IsNoRecord rest why × (number ≡ length views)
-IsRecordText file given (Err TooLong) text = (most_bytes ≤ length file) × SaysMetRecords file given text
-IsRecordText file given (Err ReadFault) text = MeetsRecords file given × AreFirstRecords file text
-IsRecordText file given (Err WriteFault) text = LeavesRecords file text
+IsRecordText file given (Err (Files (TooLong input))) text = (most_bytes ≤ length file) × SaysMetRecords file given text
+IsRecordText file given (Err (Files (ReadFault input))) text = MeetsRecords file given × AreFirstRecords file text
+IsRecordText file given (Err (Files WriteFault)) text = LeavesRecords file text
 IsRecordText file given (Err OutOfMemory) text = text ≡ []
 IsRecordText file given (Err NoRoom) text = (views : List RecordView) × (rest : List ℕ) × SaysFirst file views rest text
     × ((len : ℕ) × Announces rest len)

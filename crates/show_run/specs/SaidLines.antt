@@ -16,7 +16,7 @@ head_of bits = take 8 (bytes_of bits)
 -- payload in hexadecimal, packet_count, superframe_idx, t2mi_stream_id and payload_len in decimal
 unfoldable pub view_line : List ℕ → ℕ → PacketView → List ℕ
 view_line key at v =
-    key ++ decimal at ++ codes " type=" ++ encode_lower (v.packet_type ∷ []) ++ codes " count=" ++ decimal v.count
+    key ++ decimal at ++ codes " type=" ++ encode_lower (v.packet_type ∷ []) ++ codes " count=" ++ decimal v.packet_count
     ++ codes " superframe=" ++ decimal v.superframe ++ codes " stream=" ++ decimal v.stream
     ++ codes " bits=" ++ decimal (length v.payload) ++ codes " head=" ++ encode_lower (head_of v.payload) ++ codes "\n"
 

@@ -1,13 +1,13 @@
 -- The text of the T2-MI packets in a file of units.
 use Rattle.std.specs.Prelude.{◌≡◌, ℕ, ◌≤◌, List, [], ◌++◌, length, flat_map, codes, Result, Ok, Err}
 use Rattle.desk_io.specs.Reading.{most_bytes}
+use Rattle.file_run.specs.declared.stop.RunFault.TheVariants.{TooLong, ReadFault, WriteFault}
 use Rattle.t2mi_packet.specs.T2miPacket.{view_of}
 use Rattle.t2mi_stream.specs.Accepted.{AcceptedPacket}
 use Rattle.t2mi_stream.specs.FirstPid.{t2mi_packets_in}
 use Rattle.show_run.specs.SaidLines.{view_line, count_line}
 use Rattle.show_run.specs.declared.stop.ShowStop.{ShowStop}
-use Rattle.show_run.specs.declared.stop.ShowStop.TheVariants.{PacketRefused, RecordRefused, TooLong, ReadFault, WriteFault}
-use Rattle.show_run.specs.declared.stop.ShowStop.TheVariants.{OutOfMemory, NoRoom}
+use Rattle.show_run.specs.declared.stop.ShowStop.TheVariants.{PacketRefused, RecordRefused, Files, OutOfMemory, NoRoom}
 
 -- the line of a packet, by its place and the fields of its bytes
 abbrev pub place_line : AcceptedPacket → List ℕ
@@ -28,8 +28,8 @@ IsT2miText file given (Ok count) text =
     × (given ≡ length file)
 IsT2miText file given (Err (PacketRefused at why)) text = ⊥
 IsT2miText file given (Err (RecordRefused number why)) text = ⊥
-IsT2miText file given (Err TooLong) text = (most_bytes ≤ length file) × AreFirstLines (t2mi_packets_in file) text
-IsT2miText file given (Err ReadFault) text = AreFirstLines (t2mi_packets_in file) text
-IsT2miText file given (Err WriteFault) text = AreFirstLines (t2mi_packets_in file) text
+IsT2miText file given (Err (Files (TooLong input))) text = (most_bytes ≤ length file) × AreFirstLines (t2mi_packets_in file) text
+IsT2miText file given (Err (Files (ReadFault input))) text = AreFirstLines (t2mi_packets_in file) text
+IsT2miText file given (Err (Files WriteFault)) text = AreFirstLines (t2mi_packets_in file) text
 IsT2miText file given (Err OutOfMemory) text = text ≡ []
 IsT2miText file given (Err NoRoom) text = ⊥

@@ -3,7 +3,7 @@ ghost use Rattle.std.specs.Prelude.{◌≡◌, ◌<◌, ◌≤◌, ◌^◌, leng
 ghost use Rattle.show_run.specs.Front.{IsFront, RefusesFront, most_of};
 
 use crate::packet_line::packet_line;
-use desk_io::{BUFFER, Line, MOST_BYTES};
+use desk_io::{BUFFER, LONGEST_FILE, Line};
 use t2mi_packet::{PacketWhy, view};
 
 // Bytes of a packet without payload: a header of six, and CRC_32.
@@ -26,7 +26,7 @@ pub fn front_line(bytes: &[u8], at: u64) -> Result<(Line, usize), PacketWhy>
 pub fn most_of(at: u64, wanted: usize) -> u64
     ensures { result ≡ most_of at wanted }
 {
-    if at < MOST_BYTES - BUFFER as u64 {
+    if at < LONGEST_FILE - BUFFER as u64 {
         BUFFER as u64
     } else {
         wanted as u64

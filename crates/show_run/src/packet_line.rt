@@ -44,7 +44,7 @@ pub fn packet_line(key: &[u8], at: u64, packet: &PacketView<'_>) -> Line
     line.push_field(key, at);
     line.push(b" type=");
     line.push_hex(&[packet.packet_type]);
-    line.push_field(b" count=", u64::from(packet.count));
+    line.push_field(b" count=", u64::from(packet.packet_count));
     line.push_field(b" superframe=", u64::from(packet.superframe));
     line.push_field(b" stream=", u64::from(packet.stream));
     line.push_field(b" bits=", packet.payload.len() as u64);

@@ -14,7 +14,7 @@ use crate::packet_lines::{PacketLines, Phase};
 use crate::stop::ShowStop;
 use crate::t2mi_lines::T2miLines;
 use desk_io::ReadAhead;
-use file_run::{Machine, OutBuffer, RunFault, tell};
+use file_run::{Machine, OutBuffer, tell};
 use ports::Desk;
 use site_frame::{reading_law, refusal_law};
 use std::alloc::Global;
@@ -39,12 +39,8 @@ fn tell_lines<M: Machine, D: Desk>(
     let Ok(mut page) = OutBuffer::open(alloc) else {
         return Err(ShowStop::OutOfMemory);
     };
-    match tell(machine, &mut reader, &mut page, name, desk) {
-        Ok(()) => Ok(()),
-        Err(RunFault::TooLong { .. }) => Err(ShowStop::TooLong),
-        Err(RunFault::ReadFault { .. }) => Err(ShowStop::ReadFault),
-        Err(RunFault::WriteFault) => Err(ShowStop::WriteFault),
-    }
+    tell(machine, &mut reader, &mut page, name, desk)?;
+    Ok(())
 }
 
 // How the packets of a file ended: their number, or where none begins.
@@ -72,8 +68,8 @@ pub fn show_packets<D: Desk>(alloc: Global, name: &str, desk: &mut D) -> Result<
     packets_end(&lines)
 }
 
-/// Says a line for each T2-MI packet in the transport packets of a named file, on the PID of the first that tells one, and last their
-/// number: how many.
+/// Says a line for each T2-MI packet in the transport packets of a named file, on the PID of the first that tells one, and last
+/// their number: how many.
 pub fn show_t2mi<D: Desk>(alloc: Global, name: &str, desk: &mut D) -> Result<u64, ShowStop>
     ensures { Shows IsT2miText (D.state desk.old) (D.state desk.new) name.now result }
 {

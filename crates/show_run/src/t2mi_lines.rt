@@ -130,7 +130,8 @@ impl T2miLines {
         }
     }
 
-    // Gives the line of the packet that waits, and gives the packet up. There are no more packets than bytes, and none behind the last.
+    // Gives the line of the packet that waits, and gives the packet up. There are no more packets than bytes, and none behind the
+    // last.
     fn give_packet(&mut self, out: &mut [u8]) -> usize
         requires unpipes { self.old.search ≡ Unpipes }
         requires ready { is_ready self.old.unpiper ≡ true }

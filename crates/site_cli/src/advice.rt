@@ -221,8 +221,8 @@ fn file_of(words: &[Word], outcome: Outcome) -> &str {
     }
 }
 
-/// Says for people, who know the program by this name, why a run over words is not done, and what failed first, if something did; of a
-/// run of `show t2mi` that is done, on which PID it looked, and whether no packet came there.
+/// Says for people, who know the program by this name, why a run over words is not done, and what failed first, if something did;
+/// of a run of `show t2mi` that is done, on which PID it looked, and whether no packet came there.
 pub fn advise(
     rt: &(impl Eprint + Files + AllocGlobal),
     program: &str,

@@ -1,5 +1,5 @@
 // Where in the text of CONFIG a refusal is, looked at again for people.
-use config_text::MOST_BYTES;
+use config_text::LONGEST_TEXT;
 use std::fs::{File, Files};
 use std::io::{self, Read};
 use std::str;
@@ -8,7 +8,7 @@ use std::str;
 pub fn front_of(rt: &(impl Files + AllocGlobal), name: &str) -> io::Result<Vec<u8>> {
     let mut text = Vec::new(rt.alloc());
     File::open(rt, name)?
-        .take(MOST_BYTES as u64)
+        .take(LONGEST_TEXT as u64)
         .read_to_end(&mut text)?;
     Ok(text)
 }

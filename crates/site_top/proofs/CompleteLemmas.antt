@@ -20,7 +20,8 @@ use Rattle.config_file.specs.Laws.{GivesConfig, GivesPlan, OnePlan}
 use Rattle.config_file.specs.declared.stop.ConfigStop.{ConfigStop}
 use Rattle.config_file.specs.declared.stop.ConfigStop.TheVariants as config
 use Rattle.file_run.specs.FileRun.{file_at}
-use Rattle.gateway_run.specs.GatewayRun.{RunsAll, Stops, StopsTooLong, frames_of, units_of}
+use Rattle.file_run.specs.declared.stop.RunFault.TheVariants as run_fault
+use Rattle.gateway_run.specs.GatewayRun.{RunsAll, Stops, frames_of, units_of}
 use Rattle.gateway_run.specs.Laws.{MustRun, OneRun}
 use Rattle.gateway_run.specs.declared.stop.Ran.{Ran}
 use Rattle.gateway_run.specs.declared.stop.RunStop.{RunStop}
@@ -45,7 +46,7 @@ use Rattle.show_run.specs.declared.stop.ShowStop.{ShowStop}
 use Rattle.show_run.specs.declared.stop.ShowStop.TheVariants as show
 use Rattle.ts_packet.specs.TsFile.{HasBad}
 use Rattle.site_top.specs.declared.outcome.Outcome.{Outcome}
-use Rattle.site_top.specs.declared.outcome.Outcome.TheVariants.{Done, WriteFault, OutOfMemory}
+use Rattle.site_top.specs.declared.outcome.Outcome.TheVariants.{Done, ReadFault, WriteFault, OutOfMemory}
 use Rattle.site_top.specs.Commands.{Command, ShowPackets, ShowT2mi, ShowFrames, ShowConfig, Plan, Gateway, Modulate, Receive}
 use Rattle.site_top.specs.Commands.{Trial}
 use Rattle.site_top.specs.ConfigCommands.{ShowsConfig, Plans}
@@ -88,13 +89,13 @@ packets_so law file old new given text (Err (show.PacketRefused at why)) s count
     (λ held x. λ outcome must. (must.0, (Err (show.PacketRefused at why), (x.0, x.1, x.2, x.3, x.4), refl))))
 packets_so law file old new given text (Err (show.RecordRefused number why)) s counts =
     IfSome_then old.held s (λ held x. absurd x)
-packets_so law file old new given text (Err show.TooLong) s counts =
+packets_so law file old new given text (Err (show.Files (run_fault.TooLong input))) s counts =
     IfSome_then old.held s (λ held x. λ outcome must r w. let many : 2 ^ 40 ≤ length (bytes_of held.files file) = x.0 in
     absurd (omega (arith, many, must.0)))
-packets_so law file old new given text (Err show.ReadFault) s counts =
-    failed (ShowPackets file) old new (shown_outcome (Err show.ReadFault)) (inl counts.rose)
-packets_so law file old new given text (Err show.WriteFault) s counts =
-    failed (ShowPackets file) old new (shown_outcome (Err show.WriteFault)) (inr (inl counts.rose))
+packets_so law file old new given text (Err (show.Files (run_fault.ReadFault input))) s counts =
+    failed (ShowPackets file) old new ReadFault (inl counts.rose)
+packets_so law file old new given text (Err (show.Files run_fault.WriteFault)) s counts =
+    failed (ShowPackets file) old new WriteFault (inr (inl counts.rose))
 packets_so law file old new given text (Err show.OutOfMemory) s counts =
     failed (ShowPackets file) old new OutOfMemory (inr (inr refl))
 packets_so law file old new given text (Err show.NoRoom) s counts = failed (ShowPackets file) old new OutOfMemory (inr (inr refl))
@@ -111,13 +112,13 @@ records_so law file old new given text (Err (show.RecordRefused number why)) s c
     decided law (ShowFrames file) old new (shown_outcome (Err (show.RecordRefused number why)))
     (IfSome_then old.held s
     (λ held x. λ outcome must. (must.0, (Err (show.RecordRefused number why), (x.0, x.1, x.2.0, x.3, x.4), refl))))
-records_so law file old new given text (Err show.TooLong) s counts =
+records_so law file old new given text (Err (show.Files (run_fault.TooLong input))) s counts =
     IfSome_then old.held s (λ held x. λ outcome must r w. let many : 2 ^ 40 ≤ length (bytes_of held.files file) = x.0 in
     absurd (omega (arith, many, must.0)))
-records_so law file old new given text (Err show.ReadFault) s counts =
-    failed (ShowFrames file) old new (shown_outcome (Err show.ReadFault)) (inl counts.rose)
-records_so law file old new given text (Err show.WriteFault) s counts =
-    failed (ShowFrames file) old new (shown_outcome (Err show.WriteFault)) (inr (inl counts.rose))
+records_so law file old new given text (Err (show.Files (run_fault.ReadFault input))) s counts =
+    failed (ShowFrames file) old new ReadFault (inl counts.rose)
+records_so law file old new given text (Err (show.Files run_fault.WriteFault)) s counts =
+    failed (ShowFrames file) old new WriteFault (inr (inl counts.rose))
 records_so law file old new given text (Err show.OutOfMemory) s counts =
     failed (ShowFrames file) old new OutOfMemory (inr (inr refl))
 records_so law file old new given text (Err show.NoRoom) s counts = failed (ShowFrames file) old new OutOfMemory (inr (inr refl))
@@ -129,13 +130,13 @@ t2mi_so : (file : List ℕ) (old new : State) (given : ℕ) (text : List ℕ) (s
 t2mi_so file old new given text (Ok count) s counts = IfSome_then old.held s (λ held x. λ outcome must r w. inl (sym must.1))
 t2mi_so file old new given text (Err (show.PacketRefused at why)) s counts = IfSome_then old.held s (λ held x. absurd x)
 t2mi_so file old new given text (Err (show.RecordRefused number why)) s counts = IfSome_then old.held s (λ held x. absurd x)
-t2mi_so file old new given text (Err show.TooLong) s counts =
+t2mi_so file old new given text (Err (show.Files (run_fault.TooLong input))) s counts =
     IfSome_then old.held s (λ held x. λ outcome must r w. let many : 2 ^ 40 ≤ length (bytes_of held.files file) = x.0 in
     absurd (omega (arith, many, must.0)))
-t2mi_so file old new given text (Err show.ReadFault) s counts =
-    failed (ShowT2mi file) old new (shown_outcome (Err show.ReadFault)) (inl counts.rose)
-t2mi_so file old new given text (Err show.WriteFault) s counts =
-    failed (ShowT2mi file) old new (shown_outcome (Err show.WriteFault)) (inr (inl counts.rose))
+t2mi_so file old new given text (Err (show.Files (run_fault.ReadFault input))) s counts =
+    failed (ShowT2mi file) old new ReadFault (inl counts.rose)
+t2mi_so file old new given text (Err (show.Files run_fault.WriteFault)) s counts =
+    failed (ShowT2mi file) old new WriteFault (inr (inl counts.rose))
 t2mi_so file old new given text (Err show.OutOfMemory) s counts = failed (ShowT2mi file) old new OutOfMemory (inr (inr refl))
 t2mi_so file old new given text (Err show.NoRoom) s counts = failed (ShowT2mi file) old new OutOfMemory (inr (inr refl))
 
@@ -226,21 +227,14 @@ must_all c files count frames units same early e = (
 abbrev RunMust : State → List (List ℕ) → Config → Result Ran RunStop → Type 0
 RunMust mid ins c result = IfSome mid.held (λ h. AreShort h ins → MustRun c (file_at h ins) result)
 
-too_long : (c : Config) (mid new : State) (out : List ℕ) (ins : List (List ℕ)) (count : ℕ) → StopsTooLong c mid new out ins count
-    → RunMust mid ins c (Err (run.TooLong count))
-too_long c mid new out ins count s =
-    ⊎_elim
-    (λ b. IfSome_then mid.held b.1.long (λ h most. λ short. let few = short b.1.plp b.1.place in
-    absurd (omega (arith, most, few))))
-    (λ f. IfSome_then mid.held f.2 (λ h m. λ short. (f.0, m.0, m.1)))
-    s.cause
-
 run_stops : (c : Config) (mid new : State) (out : List ℕ) (ins : List (List ℕ)) (stop : RunStop) → Stops c mid new out ins stop
     → RunMust mid ins c (Err stop) ⊎ By mid new (stopped_outcome stop)
 run_stops c mid new out ins (run.Bad input packet) s = inl (IfSome_then mid.held s.meets (λ h m. λ short. (s.frame, m, s.early)))
-run_stops c mid new out ins (run.TooLong count) s = inl (too_long c mid new out ins count s)
-run_stops c mid new out ins run.ReadFault s = inr (inl s.0.rose)
-run_stops c mid new out ins run.WriteFault s = inr (inr (inl s.0.rose))
+run_stops c mid new out ins run.TooManyFrames s = inl (IfSome_then mid.held s.has (λ h m. λ short. m))
+run_stops c mid new out ins (run.Files (run_fault.TooLong input)) s =
+    inl (IfSome_then mid.held s.long (λ h most. λ short. let few = short input s.place in absurd (omega (arith, most, few))))
+run_stops c mid new out ins (run.Files (run_fault.ReadFault input)) s = inr (inl s.0.rose)
+run_stops c mid new out ins (run.Files run_fault.WriteFault) s = inr (inr (inl s.0.rose))
 run_stops c mid new out ins run.OutOfMemory s = inr (inr (inr refl))
 
 run_ends : (c : Config) (mid after : State) (out : List ℕ) (ins : List (List ℕ)) (frames units : ℕ) → length ins ≡ length c.plps
@@ -319,13 +313,13 @@ modulate_stops : (c : Config) (mid new : State) (file out : List ℕ) (stop : Mo
     ⊎ By mid new (modulate_stopped stop)
 modulate_stops c mid new file out modulate.NoSuperframe s =
     inl (IfSome_then mid.held s.none (λ h none. λ short. (Err modulate.NoSuperframe, none, refl)))
-modulate_stops c mid new file out (modulate.TooLong count) (inl (is, s)) =
-    inl (IfSome_then mid.held s.long (λ h long. λ short. let most = long.1 in absurd (omega (arith, most, short))))
-modulate_stops c mid new file out (modulate.TooLong count) (inr (is, s)) =
+modulate_stops c mid new file out modulate.TooManyFrames s =
     inl (IfSome_then mid.held s.works.holds
-    (λ h w. λ short. (Err (modulate.TooLong count), (is, not_early c (bytes_of h.files file) w.2.0 w.2.2), refl)))
-modulate_stops c mid new file out modulate.ReadFault s = inr (inl s.0.rose)
-modulate_stops c mid new file out modulate.WriteFault s = inr (inr (inl s.0.rose))
+    (λ h w. λ short. (Err modulate.TooManyFrames, not_early c (bytes_of h.files file) w.2.0 w.2.2, refl)))
+modulate_stops c mid new file out (modulate.Files (run_fault.TooLong input)) s =
+    inl (IfSome_then mid.held s.1.long (λ h long. λ short. let most = long.1 in absurd (omega (arith, most, short))))
+modulate_stops c mid new file out (modulate.Files (run_fault.ReadFault input)) s = inr (inl s.1.rose)
+modulate_stops c mid new file out (modulate.Files run_fault.WriteFault) s = inr (inr (inl s.0.rose))
 modulate_stops c mid new file out modulate.OutOfMemory s = inr (inr (inr refl))
 
 modulate_ends : (c : Config) (mid after : State) (file out : List ℕ) (ran : Modulated)
@@ -381,10 +375,10 @@ receive_stops : (c : Config) (id plp : ℕ) (mid new : State) (file out : List �
 receive_stops c id plp mid new file out (receive.RecordRefused number why) at s =
     inl (IfSome_then mid.held s.works.holds
     (λ h w. inr (plp, at, λ short. (Err (receive.RecordRefused number why), (w.2.0, w.2.2.before), refl))))
-receive_stops c id plp mid new file out (receive.TooLong count) at s =
+receive_stops c id plp mid new file out (receive.Files (run_fault.TooLong input)) at s =
     inl (IfSome_then mid.held s.1.long (λ h long. inr (plp, at, λ short. absurd (omega (arith, long, short)))))
-receive_stops c id plp mid new file out receive.ReadFault at s = inr (inl s.0.rose)
-receive_stops c id plp mid new file out receive.WriteFault at s = inr (inr (inl s.0.rose))
+receive_stops c id plp mid new file out (receive.Files (run_fault.ReadFault input)) at s = inr (inl s.1.rose)
+receive_stops c id plp mid new file out (receive.Files run_fault.WriteFault) at s = inr (inr (inl s.0.rose))
 receive_stops c id plp mid new file out receive.OutOfMemory at s = inr (inr (inr refl))
 
 receive_ends : (c : Config) (id plp : ℕ) (mid after : State) (file out : List ℕ) (ran : Received) → IsPlace c id plp

@@ -11,7 +11,7 @@ use Rattle.file_run.specs.FileRun.{Writes}
 use Rattle.modulate_run.specs.ModulateRun.{records_of, RunsAll, FindsNone, Stops}
 use Rattle.modulate_run.specs.declared.stop.Ran.{Ran}
 use Rattle.modulate_run.specs.declared.stop.RunStop.{RunStop}
-use Rattle.modulate_run.specs.declared.stop.RunStop.TheVariants.{NoSuperframe, TooLong, ReadFault, WriteFault, OutOfMemory}
+use Rattle.modulate_run.specs.declared.stop.RunStop.TheVariants.{NoSuperframe, TooManyFrames, Files, OutOfMemory}
 use Rattle.sent_frames.specs.Laws.{WrittenMustCome, UndamagedMustCome}
 use Rattle.sent_frames.specs.SentFrames.{run_length}
 use Rattle.site_top.specs.ModulateCommand.{MustCome, HoldsWhatMustCome, StopsWith}
@@ -63,7 +63,6 @@ none_due c old new file out honest undamaged r =
 pub stops_with : (c : Config) (old new : State) (file out : List ℕ) (stop : RunStop) → WrittenMustCome c → UndamagedMustCome c
     → Stops c old new file out stop → StopsWith c old new file out stop
 stops_with c old new file out NoSuperframe honest undamaged s = none_due c old new file out honest undamaged s
-stops_with c old new file out (TooLong count) honest undamaged s = tt
-stops_with c old new file out ReadFault honest undamaged s = tt
-stops_with c old new file out WriteFault honest undamaged s = tt
+stops_with c old new file out TooManyFrames honest undamaged s = tt
+stops_with c old new file out (Files fault) honest undamaged s = tt
 stops_with c old new file out OutOfMemory honest undamaged s = tt

@@ -13,6 +13,7 @@ use Rattle.config_file.specs.declared.stop.ConfigStop.TheVariants as config
 use Rattle.desk_io.specs.Opening.{Opened, Unopened}
 use Rattle.file_run.specs.FileRun as running
 use Rattle.file_run.specs.FileRun.{SameFiles, OpensInputs, FailsToCreateOutput, Works}
+use Rattle.file_run.specs.declared.stop.RunFault.TheVariants as run_fault
 use Rattle.gateway_run.specs.GatewayRun as gateway
 use Rattle.gateway_run.specs.declared.stop.RunStop.{RunStop}
 use Rattle.gateway_run.specs.declared.stop.RunStop.TheVariants as run
@@ -219,10 +220,11 @@ run_works old new out ins places Holds w = record {
 gateway_stops : (c : Config) (old new : State) (out : List ℕ) (ins : List (List ℕ)) (stop : RunStop)
     → gateway.Stops c old new out ins stop → Touches (Some out) (length ins) old new
 gateway_stops c old new out ins (run.Bad plp packet) s = run_works old new out ins s.places _ s.works
-gateway_stops c old new out ins (run.TooLong count) s = run_works old new out ins s.places _ s.works
-gateway_stops c old new out ins run.ReadFault s =
-    ⊎_elim (λ o. run_opens old new out ins s.1.0 o) (λ w. run_works old new out ins w.places _ w.works) s.1.1
-gateway_stops c old new out ins run.WriteFault s =
+gateway_stops c old new out ins run.TooManyFrames s = run_works old new out ins s.places _ s.works
+gateway_stops c old new out ins (run.Files (run_fault.TooLong input)) s = run_works old new out ins s.places _ s.works
+gateway_stops c old new out ins (run.Files (run_fault.ReadFault input)) s =
+    ⊎_elim (λ o. run_opens old new out ins input o) (λ w. run_works old new out ins w.places _ w.works) s.1
+gateway_stops c old new out ins (run.Files run_fault.WriteFault) s =
     ⊎_elim (λ f. run_creates old new out ins f) (λ w. run_works old new out ins w.places _ w.works) s.1
 gateway_stops c old new out ins run.OutOfMemory s = untouched (Some out) (length ins) old new s
 
@@ -244,11 +246,11 @@ gateway_touches old new config out ins result g = ⊎_elim
 modulate_stops : (c : Config) (old new : State) (name out : List ℕ) (stop : ModulateStop)
     → modulating.Stops c old new name out stop → Touches (Some out) 1 old new
 modulate_stops c old new name out modulate.NoSuperframe s = run_works old new out (name ∷ []) _ _ s.works
-modulate_stops c old new name out (modulate.TooLong count) s = ⊎_elim (λ g. run_works old new out (name ∷ []) _ _ g.1.works)
-    (λ m. run_works old new out (name ∷ []) _ _ m.1.works) s
-modulate_stops c old new name out modulate.ReadFault s =
-    ⊎_elim (λ o. run_opens old new out (name ∷ []) 0 o) (λ w. run_works old new out (name ∷ []) _ _ w.works) s.1
-modulate_stops c old new name out modulate.WriteFault s =
+modulate_stops c old new name out modulate.TooManyFrames s = run_works old new out (name ∷ []) _ _ s.works
+modulate_stops c old new name out (modulate.Files (run_fault.TooLong input)) s = run_works old new out (name ∷ []) _ _ s.1.works
+modulate_stops c old new name out (modulate.Files (run_fault.ReadFault input)) s =
+    ⊎_elim (λ o. run_opens old new out (name ∷ []) 0 o) (λ w. run_works old new out (name ∷ []) _ _ w.works) s.2
+modulate_stops c old new name out (modulate.Files run_fault.WriteFault) s =
     ⊎_elim (λ f. run_creates old new out (name ∷ []) f) (λ w. run_works old new out (name ∷ []) _ _ w.works) s.1
 modulate_stops c old new name out modulate.OutOfMemory s = untouched (Some out) 1 old new s
 
@@ -268,10 +270,10 @@ modulate_touches old new config file out result g = ⊎_elim
 receive_stops : (c : Config) (plp : ℕ) (old new : State) (name out : List ℕ) (stop : ReceiveStop)
     → receiving.Stops c plp old new name out stop → Touches (Some out) 1 old new
 receive_stops c plp old new name out (receive.RecordRefused number why) s = run_works old new out (name ∷ []) _ _ s.works
-receive_stops c plp old new name out (receive.TooLong count) s = run_works old new out (name ∷ []) _ _ s.1.works
-receive_stops c plp old new name out receive.ReadFault s =
-    ⊎_elim (λ o. run_opens old new out (name ∷ []) 0 o) (λ w. run_works old new out (name ∷ []) _ _ w.works) s.1
-receive_stops c plp old new name out receive.WriteFault s =
+receive_stops c plp old new name out (receive.Files (run_fault.TooLong input)) s = run_works old new out (name ∷ []) _ _ s.1.works
+receive_stops c plp old new name out (receive.Files (run_fault.ReadFault input)) s =
+    ⊎_elim (λ o. run_opens old new out (name ∷ []) 0 o) (λ w. run_works old new out (name ∷ []) _ _ w.works) s.2
+receive_stops c plp old new name out (receive.Files run_fault.WriteFault) s =
     ⊎_elim (λ f. run_creates old new out (name ∷ []) f) (λ w. run_works old new out (name ∷ []) _ _ w.works) s.1
 receive_stops c plp old new name out receive.OutOfMemory s = untouched (Some out) 1 old new s
 
@@ -295,10 +297,10 @@ file_read : (old new : State) (name : List ℕ) (given : ℕ) (text : List ℕ) 
 file_read old new name given text (Ok count) r said = opened_one None old new name given text r.0 said
 file_read old new name given text (Err (show.PacketRefused at why)) r said = opened_one None old new name given text r.0 said
 file_read old new name given text (Err (show.RecordRefused number why)) r said = opened_one None old new name given text r.0 said
-file_read old new name given text (Err show.TooLong) r said = opened_one None old new name given text r.0 said
-file_read old new name given text (Err show.ReadFault) r said =
-    ⊎_elim (λ u. unopened None old new text u.0) (λ o. opened_one None old new name given text o.0 said) r
-file_read old new name given text (Err show.WriteFault) r said = opened_one None old new name given text r.0 said
+file_read old new name given text (Err (show.Files (run_fault.TooLong input))) r said = opened_one None old new name given text r.1 said
+file_read old new name given text (Err (show.Files (run_fault.ReadFault input))) r said =
+    ⊎_elim (λ u. unopened None old new text u.0) (λ o. opened_one None old new name given text o.0 said) r.1
+file_read old new name given text (Err (show.Files run_fault.WriteFault)) r said = opened_one None old new name given text r.0 said
 file_read old new name given text (Err show.OutOfMemory) r said = untouched None 1 old new r
 file_read old new name given text (Err show.NoRoom) r said = opened_one None old new name given text r.0 said
 

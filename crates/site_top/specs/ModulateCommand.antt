@@ -14,7 +14,7 @@ use Rattle.config_file.specs.declared.stop.ConfigStop.{ConfigStop}
 use Rattle.modulate_run.specs.ModulateRun.{RunsAll, Stops}
 use Rattle.modulate_run.specs.declared.stop.Ran.{Ran}
 use Rattle.modulate_run.specs.declared.stop.RunStop.{RunStop}
-use Rattle.modulate_run.specs.declared.stop.RunStop.TheVariants.{NoSuperframe, TooLong, ReadFault, WriteFault, OutOfMemory}
+use Rattle.modulate_run.specs.declared.stop.RunStop.TheVariants.{NoSuperframe, TooManyFrames, Files, OutOfMemory}
 use Rattle.site_top.specs.declared.outcome.Outcome.{Outcome}
 use Rattle.site_top.specs.Outcomes.{config_outcome, modulate_stopped}
 use Rattle.site_top.specs.Saying.{Tells}
@@ -45,9 +45,8 @@ HoldsWhatMustCome c old new file out =
 -- So it is also if IN has no record, and OUT is empty.
 abbrev pub StopsWith : Config → State → State → List ℕ → List ℕ → RunStop → Type 0
 StopsWith c old new file out NoSuperframe = HoldsWhatMustCome c old new file out
-StopsWith c old new file out (TooLong count) = Unit {0}
-StopsWith c old new file out ReadFault = Unit {0}
-StopsWith c old new file out WriteFault = Unit {0}
+StopsWith c old new file out TooManyFrames = Unit {0}
+StopsWith c old new file out (Files fault) = Unit {0}
 StopsWith c old new file out OutOfMemory = Unit {0}
 
 -- The run does not come to its end, or it does, and then its line is told.

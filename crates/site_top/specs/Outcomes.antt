@@ -13,7 +13,10 @@ use Rattle.config_text.specs.declared.fault.TextWhy.TheVariants.{TooLong as Text
 use Rattle.config_file.specs.declared.stop.ConfigCause.TheVariants.{Text, Rule}
 use Rattle.config_file.specs.declared.stop.ConfigStop.{ConfigStop}
 use Rattle.config_file.specs.declared.stop.ConfigStop.TheVariants as config
+use Rattle.plp_config.specs.declared.moment.TheConstants.{MOST_FRAMES}
 use Rattle.desk_io.specs.Reading.{most_bytes}
+use Rattle.file_run.specs.declared.stop.RunFault.{RunFault}
+use Rattle.file_run.specs.declared.stop.RunFault.TheVariants as run_fault
 use Rattle.gateway_run.specs.declared.stop.Ran.{Ran}
 use Rattle.gateway_run.specs.declared.stop.RunStop.{RunStop}
 use Rattle.gateway_run.specs.declared.stop.RunStop.TheVariants as run
@@ -102,14 +105,18 @@ last_line ReadFault = codes "fault: read\n"
 last_line WriteFault = codes "fault: write\n"
 last_line OutOfMemory = codes "fault: memory\n"
 
--- the outcome of a command that shows a file
+-- the outcome of a command that its files stopped
+abbrev pub file_outcome : RunFault → Outcome
+file_outcome (run_fault.TooLong input) = TooLong most_bytes
+file_outcome (run_fault.ReadFault input) = ReadFault
+file_outcome run_fault.WriteFault = WriteFault
+
+-- of one that shows a file
 abbrev pub shown_outcome : Result ℕ ShowStop → Outcome
 shown_outcome (Ok count) = Done
 shown_outcome (Err (show.PacketRefused at why)) = PacketRefused at why
 shown_outcome (Err (show.RecordRefused number why)) = RecordRefused number why
-shown_outcome (Err show.TooLong) = TooLong most_bytes
-shown_outcome (Err show.ReadFault) = ReadFault
-shown_outcome (Err show.WriteFault) = WriteFault
+shown_outcome (Err (show.Files why)) = file_outcome why
 shown_outcome (Err show.OutOfMemory) = OutOfMemory
 shown_outcome (Err show.NoRoom) = OutOfMemory
 
@@ -131,9 +138,8 @@ Miscounts c ins outcome = (length ins ≢ length c.plps) × (outcome ≡ WrongIn
 -- of one whose run did not come to its end
 abbrev pub stopped_outcome : RunStop → Outcome
 stopped_outcome (run.Bad input packet) = InputRefused input packet
-stopped_outcome (run.TooLong count) = TooLong count
-stopped_outcome run.ReadFault = ReadFault
-stopped_outcome run.WriteFault = WriteFault
+stopped_outcome run.TooManyFrames = TooLong MOST_FRAMES
+stopped_outcome (run.Files why) = file_outcome why
 stopped_outcome run.OutOfMemory = OutOfMemory
 
 abbrev pub ran_outcome : Result Ran RunStop → Outcome
@@ -143,9 +149,8 @@ ran_outcome (Err stop) = stopped_outcome stop
 -- of one that makes records, whose run did not come to its end
 abbrev pub modulate_stopped : ModulateStop → Outcome
 modulate_stopped modulate.NoSuperframe = NoSuperframe
-modulate_stopped (modulate.TooLong count) = TooLong count
-modulate_stopped modulate.ReadFault = ReadFault
-modulate_stopped modulate.WriteFault = WriteFault
+modulate_stopped modulate.TooManyFrames = TooLong MOST_FRAMES
+modulate_stopped (modulate.Files why) = file_outcome why
 modulate_stopped modulate.OutOfMemory = OutOfMemory
 
 abbrev pub modulate_outcome : Result Modulated ModulateStop → Outcome
@@ -155,9 +160,7 @@ modulate_outcome (Err stop) = modulate_stopped stop
 -- of one that gives packets back, whose run did not come to its end
 abbrev pub receive_stopped : ReceiveStop → Outcome
 receive_stopped (receive.RecordRefused number why) = RecordRefused number why
-receive_stopped (receive.TooLong count) = TooLong count
-receive_stopped receive.ReadFault = ReadFault
-receive_stopped receive.WriteFault = WriteFault
+receive_stopped (receive.Files why) = file_outcome why
 receive_stopped receive.OutOfMemory = OutOfMemory
 
 abbrev pub receive_outcome : Result Received ReceiveStop → Outcome

@@ -5,10 +5,11 @@ ghost use Rattle.site_top.specs.GatewayCommand.{Gateways, gateway_line as line_o
 ghost use Rattle.site_top.specs.Outcomes.{stopped_outcome};
 
 use crate::config_commands::{outcome_of, tell};
-use crate::outcome::Outcome;
+use crate::outcome::{Outcome, file_outcome};
 use config_file::read_plan;
 use desk_io::Line;
 use gateway_run::{Ran, RunStop};
+use plp_config::MOST_FRAMES;
 use ports::{Desk, Word};
 use std::alloc::Global;
 
@@ -29,9 +30,8 @@ fn stopped(stop: RunStop) -> Outcome
 {
     match stop {
         RunStop::Bad { input, packet } => Outcome::InputRefused { input, packet },
-        RunStop::TooLong { count } => Outcome::TooLong { count },
-        RunStop::ReadFault => Outcome::ReadFault,
-        RunStop::WriteFault => Outcome::WriteFault,
+        RunStop::TooManyFrames => Outcome::TooLong { count: MOST_FRAMES },
+        RunStop::Files(fault) => file_outcome(fault),
         RunStop::OutOfMemory => Outcome::OutOfMemory,
     }
 }

@@ -2,8 +2,8 @@
 #![tactic(auto)]
 
 mod config_commands;
-mod ending;
 mod gateway;
+mod last_lines;
 mod laws;
 mod modulate;
 mod outcome;

@@ -5,10 +5,11 @@ ghost use Rattle.site_top.specs.ModulateCommand.{Modulates, modulate_line as lin
 ghost use Rattle.site_top.specs.Outcomes.{modulate_stopped};
 
 use crate::config_commands::{outcome_of, tell};
-use crate::outcome::Outcome;
+use crate::outcome::{Outcome, file_outcome};
 use config_file::read_plan;
 use desk_io::Line;
 use modulate_run::{Ran, RunStop};
+use plp_config::MOST_FRAMES;
 use ports::Desk;
 use sent_frames::plan_law;
 use std::alloc::Global;
@@ -31,15 +32,14 @@ fn stopped(stop: RunStop) -> Outcome
 {
     match stop {
         RunStop::NoSuperframe => Outcome::NoSuperframe,
-        RunStop::TooLong { count } => Outcome::TooLong { count },
-        RunStop::ReadFault => Outcome::ReadFault,
-        RunStop::WriteFault => Outcome::WriteFault,
+        RunStop::TooManyFrames => Outcome::TooLong { count: MOST_FRAMES },
+        RunStop::Files(fault) => file_outcome(fault),
         RunStop::OutOfMemory => Outcome::OutOfMemory,
     }
 }
 
-/// Makes the records of the frames of a network, by the named configuration, from its named T2-MI stream, and says the number of the
-/// first frame, how many records there are, and how many of them are muted.
+/// Makes the records of the frames of a network, by the named configuration, from its named T2-MI stream, and says the number of
+/// the first frame, how many records there are, and how many of them are muted.
 pub fn modulate<D: Desk>(
     alloc: Global,
     config: &str,

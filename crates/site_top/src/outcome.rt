@@ -1,8 +1,10 @@
 // How a run ends.
 ghost use Rattle.std.specs.Prelude.{◌≡◌};
-ghost use Rattle.site_top.specs.Outcomes.{status_of};
+ghost use Rattle.site_top.specs.Outcomes.{file_outcome, status_of};
 
 use config_file::ConfigCause;
+use desk_io::LONGEST_FILE;
+use file_run::RunFault;
 use site_frame::RecordWhy;
 use t2mi_packet::PacketWhy;
 
@@ -30,8 +32,8 @@ pub enum Outcome {
         need: u64,
         have: u64,
     },
-    /// This packet of this input, both counted from 0, does not begin with the sync byte, or the input ends inside it. No bad packet
-    /// is met in an earlier frame, or in the same frame in an earlier input.
+    /// This packet of this input, both counted from 0, does not begin with the sync byte, or the input ends inside it. No bad
+    /// packet is met in an earlier frame, or in the same frame in an earlier input.
     InputRefused {
         input: u8,
         packet: u64,
@@ -84,5 +86,18 @@ impl Outcome {
             Outcome::WriteFault => 71,
             Outcome::OutOfMemory => 72,
         }
+    }
+}
+
+/// How a command ends that its files stopped.
+pub fn file_outcome(fault: RunFault) -> Outcome
+    ensures { result ≡ file_outcome fault }
+{
+    match fault {
+        RunFault::TooLong { .. } => Outcome::TooLong {
+            count: LONGEST_FILE,
+        },
+        RunFault::ReadFault { .. } => Outcome::ReadFault,
+        RunFault::WriteFault => Outcome::WriteFault,
     }
 }

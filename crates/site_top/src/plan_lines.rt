@@ -40,7 +40,7 @@ fn push_slot(line: &mut Line, plan: &Plan, plp: usize, num: u64, den: u64)
     ensures text { line.new ≡ line.old ++ slot_part plan.now plp num den }
     ensures len { length line.new ≤ length line.old + SLOT_ROOM }
 {
-    let id = plan.config().plps.get(plp).unwrap().id;
+    let id = plan.plp_id(plp);
     line.push_field(b"plp=", u64::from(id));
     line.push_field(b" slot=", num);
     line.push_field(b"/", den);

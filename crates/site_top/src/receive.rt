@@ -5,7 +5,7 @@ ghost use Rattle.site_top.specs.Outcomes.{receive_stopped};
 ghost use Rattle.site_top.specs.ReceiveCommand.{ReceivedComesBack, Receives, receive_line as line_of_run};
 
 use crate::config_commands::{outcome_of, tell};
-use crate::outcome::Outcome;
+use crate::outcome::{Outcome, file_outcome};
 use config_file::read_plan;
 use desk_io::Line;
 use frame_records::fit_law;
@@ -50,15 +50,13 @@ fn stopped(stop: RunStop) -> Outcome
 {
     match stop {
         RunStop::RecordRefused { number, why } => Outcome::RecordRefused { number, why },
-        RunStop::TooLong { count } => Outcome::TooLong { count },
-        RunStop::ReadFault => Outcome::ReadFault,
-        RunStop::WriteFault => Outcome::WriteFault,
+        RunStop::Files(fault) => file_outcome(fault),
         RunStop::OutOfMemory => Outcome::OutOfMemory,
     }
 }
 
-/// Gives back the packets of the PLP with an identifier, by the named configuration, from the named records of a network's frames, and
-/// says the slot at which they begin and how many there are.
+/// Gives back the packets of the PLP with an identifier, by the named configuration, from the named records of a network's
+/// frames, and says the slot at which they begin and how many there are.
 pub fn receive<D: Desk>(
     alloc: Global,
     config: &str,

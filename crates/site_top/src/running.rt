@@ -1,4 +1,4 @@
-// The top call.
+// Carrying out the command that words name, up to the last line of a run that is not done.
 ghost use Rattle.std.specs.Prelude.{◌≡◌, ◌↔◌, IfSome, IfNone, IsNone, length};
 ghost use Rattle.ports.specs.Desk.{State};
 ghost use Rattle.site_top.specs.Commands.{command_of};
@@ -7,8 +7,8 @@ ghost use Rattle.site_top.specs.Runs.{Does, IsComplete};
 ghost use Rattle.site_top.specs.Touches.{Touches, out_of, ins_of};
 
 use crate::config_commands::{plan, show_config};
-use crate::ending::last_line;
 use crate::gateway::gateway;
+use crate::last_lines::last_line;
 use crate::laws::{completeness, only_out_changes};
 use crate::modulate::modulate;
 use crate::outcome::Outcome;
@@ -65,7 +65,8 @@ pub fn run<D: Desk>(alloc: Global, words: &[Word], desk: &mut D) -> Outcome
     ensures does { IfSome (command_of words.now) (λ command.
         (before : State) × Does command (D.state desk.old) before result × Ends before (D.state desk.new) result) }
 
-    // However it ends, it changes no file but the one that it writes, creates that once at most, and opens no more files than it reads.
+    // However it ends, it changes no file but the one that it writes, creates that once at most, and opens no more files than it
+    // reads.
     ensures touches { IfSome (command_of words.now) (λ command. Touches (out_of command) (length (ins_of command)) (D.state desk.old) (D.state desk.new)) }
 
     ensures complete { IfSome (command_of words.now) (λ command. IsComplete command (D.state desk.old) (D.state desk.new) result) }

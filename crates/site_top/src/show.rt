@@ -2,8 +2,7 @@
 ghost use Rattle.std.specs.Prelude.{◌≡◌};
 ghost use Rattle.site_top.specs.Outcomes.{shown_outcome};
 
-use crate::outcome::Outcome;
-use desk_io::MOST_BYTES;
+use crate::outcome::{Outcome, file_outcome};
 use show_run::ShowStop;
 
 /// How a command ends that shows a file.
@@ -14,9 +13,7 @@ pub fn outcome_of(shown: Result<u64, ShowStop>) -> Outcome
         Ok(_) => Outcome::Done,
         Err(ShowStop::PacketRefused { at, why }) => Outcome::PacketRefused { at, why },
         Err(ShowStop::RecordRefused { number, why }) => Outcome::RecordRefused { number, why },
-        Err(ShowStop::TooLong) => Outcome::TooLong { count: MOST_BYTES },
-        Err(ShowStop::ReadFault) => Outcome::ReadFault,
-        Err(ShowStop::WriteFault) => Outcome::WriteFault,
+        Err(ShowStop::Files(fault)) => file_outcome(fault),
         Err(ShowStop::OutOfMemory | ShowStop::NoRoom) => Outcome::OutOfMemory,
     }
 }

@@ -7,7 +7,8 @@ use ports::Desk;
 use std::alloc::Global;
 use trial_run::{trial_plan, trial_text};
 
-/// Tries a whole network, for so many frames, with inputs that are drawn from a number, and says what came of it. No file is opened.
+/// Tries a whole network, for so many frames, with inputs that are drawn from a number, and says what came of it. No file is
+/// opened.
 pub fn trial<D: Desk>(alloc: Global, seed: u64, frames: u32, desk: &mut D) -> Outcome
     ensures { Tries (D.state desk.old) (D.state desk.new) seed frames result }
 {

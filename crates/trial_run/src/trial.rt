@@ -2,7 +2,6 @@
 ghost use Rattle.std.specs.Prelude.{◌≡◌, ◌+◌, ◌*◌, ◌++◌, ◌<◌, ◌≤◌, ℕ, List, [], length, map, IfOk, OnOk};
 ghost use Rattle.std.specs.List.{range_with_len};
 ghost use Rattle.desk_io.specs.declared.line.TheConstants.{ROOM};
-ghost use Rattle.plp_config.specs.Plps.{plp_at};
 ghost use Rattle.plp_config.specs.declared.config.Config.{Config};
 ghost use Rattle.trial_run.specs.Made.{IsMade};
 ghost use Rattle.trial_run.specs.Trial.{IsSameCount, IsNetworkText, IsPlpLine, IsTrialText};
@@ -85,14 +84,6 @@ fn push_network(page: &mut Page, alloc: Global, made: &Made) -> Result<(), OutOf
     Ok(())
 }
 
-// The identifier of the PLP at a place.
-fn id_of(plan: &Plan, plp: usize) -> u8
-    requires { plp < length plan.now.plps }
-    ensures { result ≡ (plp_at plan.now.plps plp).id }
-{
-    plan.config().plps.get(plp).unwrap().id
-}
-
 // The input of the PLP at a place.
 fn input_at(inputs: &[Vec<u8>], plp: usize) -> &[u8]
     requires { plp < length inputs.now }
@@ -111,7 +102,7 @@ fn line_of(alloc: Global, plan: &Plan, made: &Made, plp: usize) -> Result<Line, 
     let whole = receive(alloc, plan, plp, &made.whole.records)?;
     let lossy = receive(alloc, plan, plp, &made.lossy.records)?;
     let line = plp_line(
-        id_of(plan, plp),
+        plan.plp_id(plp),
         input_at(&made.inputs, plp),
         &whole,
         &lossy,
@@ -119,8 +110,9 @@ fn line_of(alloc: Global, plan: &Plan, made: &Made, plp: usize) -> Result<Line, 
     Ok(line)
 }
 
-/// What is said of a trial of a network of three PLPs: inputs for so many frames are drawn from a number, the gateway sends them, one
-/// modulator reads all units and one loses some, and each PLP is received from the records of both. It keeps all bytes that it makes.
+/// What is said of a trial of a network of three PLPs: inputs for so many frames are drawn from a number, the gateway sends them,
+/// one modulator reads all units and one loses some, and each PLP is received from the records of both. It keeps all bytes that
+/// it makes.
 pub fn trial_text(alloc: Global, plan: &Plan, frames: u32, seed: u64) -> Result<Page, OutOfMemory>
     requires { length plan.now.plps ≡ 3 }
     ensures { IfOk result (IsTrialText plan.now frames seed) }

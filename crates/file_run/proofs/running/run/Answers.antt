@@ -12,8 +12,8 @@ returns-in-Err-clause-err g c =
     stopped_drained g.M.Machine.Becomes c.args.machine.now _ _ g.M.Machine.reach g.M.Machine.next b _ _ _ _
     (record { rose = c.in-Err.ensures.counts.err; later = f.later; others = f.others }) c.in-Err.ensures.gives
     c.in-Err.ensures.err
-    (running_first c.creates_law.ensures _ g.M.Machine.reach _ b _ _ c.open_inputs.new.readers _ c.requires.apart
-    c.in_ok-open_inputs.ensures.ok c.in_ok-handle.ensures.ok c.requires.start)
+    (running_first c.creates_law.ensures _ g.M.Machine.reach _ b _ _ c.open_files.new.readers _ c.requires.apart
+    c.in_ok-open_files.ensures.ok c.in_ok-handle.ensures.ok c.requires.start)
 
 pub loop-input-init : goal.loop-input-init
 loop-input-init g c =
@@ -21,8 +21,8 @@ loop-input-init g c =
     record {
       running = running_drained g.M.Machine.Becomes c.args.machine.now _ _ g.M.Machine.reach b _ _ _ _ c.in-Ok.ensures.counts.ok
           c.drain.ensures.reach c.in-Ok.ensures.ok
-          (running_first c.creates_law.ensures _ g.M.Machine.reach _ b _ _ c.open_inputs.new.readers _ c.requires.apart
-          c.in_ok-open_inputs.ensures.ok c.in_ok-handle.ensures.ok c.requires.start);
+          (running_first c.creates_law.ensures _ g.M.Machine.reach _ b _ _ c.open_files.new.readers _ c.requires.apart
+          c.in_ok-open_files.ensures.ok c.in_ok-handle.ensures.ok c.requires.start);
       dry = c.in-Ok.ensures.dry;
       nothing = c.in-Ok.ensures.nothing;
     }

@@ -1,20 +1,22 @@
+use Rattle.std.proofs.lemmas.Result.{err_from_is_err_and}
 use Rattle.modulate_run.proofs.RunLemmas.{ends_one, stops_one}
 use Rattle.modulate_run.proofs.running.run_machine.Goals as goal
 
-pub returns-in-Ok-clause-ok : goal.returns-in-Ok-clause-ok
-returns-in-Ok-clause-ok g c =
-    rw c.ending.ensures
-    ((ends_one c.due_records_law.ensures.front c.args.machine.now c.run.new.machine _ _ c.args.ins.now _ c.requires.input
-    c.in-Ok.ensures.end c.in-Ok.ensures.ok).0)
-
-pub returns-in-Ok-clause-err : goal.returns-in-Ok-clause-err
-returns-in-Ok-clause-err g c =
-    rw c.ending.ensures
-    ((ends_one c.due_records_law.ensures.front c.args.machine.now c.run.new.machine _ _ c.args.ins.now _ c.requires.input
-    c.in-Ok.ensures.end c.in-Ok.ensures.ok).1)
-
-pub returns-in-Err-clause-err : goal.returns-in-Err-clause-err
-returns-in-Err-clause-err g c =
-    rw c.stop_of.ensures
+pub returns-in_err-run-clause-err : goal.returns-in_err-run-clause-err
+returns-in_err-run-clause-err g c =
+    let p = err_from_is_err_and c.from_residual.result c.from_residual.ensures.1 in
+    rw (p.1, p.2)
     (stops_one c.events_law.ensures c.due_records_law.ensures.front c.args.machine.now c.run.new.machine _ _ c.args.ins.now _ _
-    c.requires.input c.in-Err.ensures.err)
+    c.requires.input c.in_err-run.ensures.err)
+
+pub returns-clause-ok : goal.returns-clause-ok
+returns-clause-ok g c =
+    rw c.ending.ensures
+    ((ends_one c.due_records_law.ensures.front c.args.machine.now c.run.new.machine _ _ c.args.ins.now _ c.requires.input
+    c.in_ok-run.ensures.end c.in_ok-run.ensures.ok).0)
+
+pub returns-clause-err : goal.returns-clause-err
+returns-clause-err g c =
+    rw c.ending.ensures
+    ((ends_one c.due_records_law.ensures.front c.args.machine.now c.run.new.machine _ _ c.args.ins.now _ c.requires.input
+    c.in_ok-run.ensures.end c.in_ok-run.ensures.ok).1)

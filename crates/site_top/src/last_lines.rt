@@ -2,7 +2,8 @@
 ghost use Rattle.std.specs.Prelude.{◌≡◌, ◌+◌, ◌++◌, ◌≤◌, codes, length};
 ghost use Rattle.desk_io.specs.declared.line.TheConstants.{ROOM};
 ghost use Rattle.config_file.specs.declared.stop.ConfigCause.TheVariants.{Text, Rule};
-ghost use Rattle.site_top.specs.Outcomes.{last_line as line_of_outcome, why_number as number_of_why, record_why_number as number_of_record_why, text_why_number as number_of_text_why, place_word};
+ghost use Rattle.site_top.specs.Outcomes.{last_line as line_of_outcome, place_word, why_number as number_of_why};
+ghost use Rattle.site_top.specs.Outcomes.{record_why_number as number_of_record_why, text_why_number as number_of_text_why};
 
 use crate::outcome::Outcome;
 use config_file::ConfigCause;

@@ -1,6 +1,6 @@
 use Rattle.std.proofs.Common.{arith}
 use Rattle.file_run.proofs.OpenLemmas.{none_opened, opened_next, opening_failed}
-use Rattle.file_run.proofs.opening.open_inputs.Goals as goal
+use Rattle.file_run.proofs.opening.open_files.Goals as goal
 
 pub loop-input-init : goal.loop-input-init
 loop-input-init g c = none_opened _
