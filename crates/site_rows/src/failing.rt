@@ -1,246 +1,161 @@
-// Commands over devices that fail: each call of each kind in turn, until a run is done. What a run leaves is a front of what it leaves
-// without a fault.
+// Commands over devices that fail: each call of each kind in turn, until a run is done. What a run leaves is a front of what it
+// leaves without a fault. `gateway.rt` has the call that says a last line.
 
-use crate::runs::{Bench, Ended, LOADED, NETWORK, SMALL, assert_outcome, assert_status, packets};
-use network_rows::DATA;
+use crate::bench::{Ended, assert_outcome, done, end_of};
+use crate::rows::bytes_of;
+use crate::samples::{LOADED, LOADED_INPUT};
 use ports::CallKind;
 use site_top::Outcome;
-use std::alloc::Global;
 use std::process::Abort;
 use std::test::Fail;
 
 // More calls of one kind than any run here makes.
 const MOST: u64 = 200;
 
-// The kinds of calls, and how a run ends in which one fails.
-const KINDS: [(CallKind, Outcome, &str); 5] = [
-    (CallKind::Open, Outcome::ReadFault, "fault: read\n"),
-    (CallKind::Read, Outcome::ReadFault, "fault: read\n"),
-    (CallKind::Create, Outcome::WriteFault, "fault: write\n"),
-    (CallKind::Write, Outcome::WriteFault, "fault: write\n"),
-    (CallKind::Say, Outcome::WriteFault, "fault: write\n"),
+// A kind of calls, how a run ends in which one fails, and how many there are at least and at most, in a command that writes a
+// file and in one that writes none.
+struct Kind {
+    why: &'static str,
+    kind: CallKind,
+    outcome: Outcome,
+    status: u8,
+    line: &'static str,
+    writing: (u64, u64),
+    other: (u64, u64),
+}
+
+// A run opens CONFIG, and its input if it writes a file, and reads each to its end; it creates that file once, and writes it by
+// more than one call; and it says its text at once.
+#[rattlefmt::skip]
+static KINDS: [Kind; 5] = [
+    Kind {
+        why: "open", kind: CallKind::Open, outcome: Outcome::ReadFault, status: 70, line: "fault: read\n",
+        writing: (2, 2), other: (1, 1),
+    },
+    Kind {
+        why: "read", kind: CallKind::Read, outcome: Outcome::ReadFault, status: 70, line: "fault: read\n",
+        writing: (2, MOST), other: (2, MOST),
+    },
+    Kind {
+        why: "create", kind: CallKind::Create, outcome: Outcome::WriteFault, status: 71, line: "fault: write\n",
+        writing: (1, 1), other: (0, 0),
+    },
+    Kind {
+        why: "write", kind: CallKind::Write, outcome: Outcome::WriteFault, status: 71, line: "fault: write\n",
+        writing: (2, MOST), other: (0, 0),
+    },
+    Kind {
+        why: "say", kind: CallKind::Say, outcome: Outcome::WriteFault, status: 71, line: "fault: write\n",
+        writing: (1, 1), other: (1, 1),
+    },
 ];
 
-// The files: a configuration, an input, and what comes of them.
-const CONFIG: &str = "c";
-
-const INPUT: &str = "i";
-
-const STREAM: &str = "s";
-
-const RECORDS: &str = "r";
-
-const OUTPUT: &str = "o";
-
-// The one packet of a file of packets: a timestamp.
-const PACKETS: &str = "p";
-
+// A file of packets: a timestamp.
 const STAMP: [u8; 21] = [
     0x20, 0x00, 0x00, 0x00, 0x00, 0x58, 0x04, 0x00, 0x29, 0xB9, 0x27, 0x00, 0x00, 0x00, 0x00, 0x00,
     0x05, 0x9C, 0x0C, 0x76, 0xE4,
 ];
 
-// Each command.
-const COMMANDS: [Command; 8] = [
-    (&["gateway", CONFIG, STREAM, INPUT], Some(STREAM)),
-    (&["modulate", CONFIG, STREAM, RECORDS], Some(RECORDS)),
-    (&["receive", CONFIG, "0", RECORDS, OUTPUT], Some(OUTPUT)),
-    (&["plan", CONFIG], None),
-    (&["show", "config", CONFIG], None),
-    (&["show", "packets", PACKETS], None),
-    (&["show", "t2mi", STREAM], None),
-    (&["show", "frames", RECORDS], None),
+// A command, and whether it writes the file `o`.
+struct Command {
+    why: &'static str,
+    words: &'static [&'static str],
+    writes: bool,
+}
+
+// Each command, over a configuration `c`, an input `i`, its stream `s`, the records `r` of that, and packets `p`.
+#[rattlefmt::skip]
+static COMMANDS: [Command; 8] = [
+    Command { why: "gateway", words: &["gateway", "c", "o", "i"], writes: true },
+    Command { why: "modulate", words: &["modulate", "c", "s", "o"], writes: true },
+    Command { why: "receive", words: &["receive", "c", "0", "r", "o"], writes: true },
+    Command { why: "plan", words: &["plan", "c"], writes: false },
+    Command { why: "show config", words: &["show", "config", "c"], writes: false },
+    Command { why: "show packets", words: &["show", "packets", "p"], writes: false },
+    Command { why: "show t2mi", words: &["show", "t2mi", "s"], writes: false },
+    Command { why: "show frames", words: &["show", "frames", "r"], writes: false },
 ];
 
-// Some files, by their names.
-#[derive(Drop)]
-struct Files {
-    named: Vec<(&'static str, Vec<u8>)>,
-}
-
-impl Files {
-    // A configuration with this PLP, an input, and a packet.
-    fn of(alloc: Global, plp: &str, input: Vec<u8>) -> Result<Files, Fail> {
-        let config = format!(in alloc; "{NETWORK}{plp}")?;
-        let mut named = Vec::new(alloc);
-        named.push((CONFIG, config.as_bytes().to_vec(alloc)?))?;
-        named.push((INPUT, input))?;
-        named.push((PACKETS, STAMP.to_vec(alloc)?))?;
-        Ok(Files { named })
-    }
-
-    // With an input of 110 packets.
-    fn usual(alloc: Global) -> Result<Files, Fail> {
-        Files::of(alloc, LOADED, packets(alloc, 110, DATA, 0xAB)?)
-    }
-
-    fn bench(&self, alloc: Global) -> Result<Bench, Fail> {
-        let mut bench = Bench::new(alloc);
-        for (name, bytes) in &self.named {
-            bench.put(name, bytes)?;
-        }
-        Ok(bench)
-    }
-}
-
-// A command, with the file that it writes, if it does.
-type Command = (&'static [&'static str], Option<&'static str>);
-
-// What a command leaves over files.
-fn left_by(alloc: Global, files: &Files, command: Command) -> Result<Ended, Fail> {
-    let mut bench = files.bench(alloc)?;
-    bench.ended(command.0, command.1)
-}
-
-// The same if one call of a kind fails.
-fn left_failing(
-    alloc: Global,
-    files: &Files,
-    command: Command,
-    kind: CallKind,
-    nth: u64,
-) -> Result<Ended, Fail> {
-    let mut bench = files.bench(alloc)?;
-    bench.fail(kind, nth)?;
-    bench.ended(command.0, command.1)
-}
-
-// Whether a run said a front of what it says if nothing fails, and then its last line.
-fn says_front(left: &Ended, usual: &Ended, line: &str) -> bool {
-    match left.said.as_slice().strip_suffix(line.as_bytes()) {
+// Whether a run in which this call failed said a front of what it says if nothing fails, and then its last line; and whether the
+// file that it wrote has a front of what it has then. It may be absent only if a call failed that can come before it is created.
+// If a second write failed, it has some bytes and not all.
+fn leaves_front(left: &Ended, usual: &Ended, kind: &Kind, nth: u64) -> bool {
+    let says_front = match left.said.as_slice().strip_suffix(kind.line.as_bytes()) {
         Some(front) => usual.said.as_slice().starts_with(front),
         None => false,
-    }
-}
-
-// Whether the file that a run wrote has a front of what it has if nothing fails. It may be absent only if a call failed that can come before it is
-// created.
-fn writes_front(left: &Ended, usual: &Ended, kind: CallKind) -> bool {
-    match (&left.out, &usual.out) {
-        (Some(some), Some(all)) => all.as_slice().starts_with(some.as_slice()),
-        (None, Some(_)) => matches!(kind, CallKind::Open | CallKind::Read | CallKind::Create),
+    };
+    let again = kind.kind == CallKind::Write && 1 < nth;
+    let writes_front = match (&left.out, &usual.out) {
+        (Some(some), Some(all)) => {
+            all.as_slice().starts_with(some.as_slice())
+                && (!again || 0 < some.len() && some.len() < all.len())
+        }
+        (None, Some(_)) => matches!(
+            kind.kind,
+            CallKind::Open | CallKind::Read | CallKind::Create
+        ),
         (some, None) => some.is_none(),
-    }
+    };
+    says_front && writes_front
 }
 
-// The first word of a command.
-fn name_of<'a>(words: &[&'a str]) -> &'a str {
-    words.first().map_or("", |word| *word)
-}
-
-// Makes each call of a kind fail in turn, until a run is done, and answers how many there were: fewer than so many.
-fn fails_in_turn(
+// Makes each call of a kind fail in turn, until a run is done, and answers how many there were.
+fn calls_of(
     rt: &(impl AllocGlobal + Abort),
-    files: &Files,
-    command: Command,
+    files: &[(&str, &[u8])],
+    command: &Command,
     usual: &Ended,
-    kind: (CallKind, Outcome, &str),
+    kind: &Kind,
 ) -> Result<u64, Fail> {
     for nth in 1..MOST {
-        let left = left_failing(rt.alloc(), files, command, kind.0, nth)?;
+        let left = end_of(rt.alloc(), files, Some((kind.kind, nth)), command.words)?;
         if left.outcome == Outcome::Done {
             return Ok(nth - 1);
         }
-        assert_outcome(rt, left.outcome, kind.1);
+        assert_outcome(rt, command.why, left.outcome, kind.outcome, kind.status);
         assert!(rt;
-            says_front(&left, usual, kind.2),
-            "{} {nth}",
-            name_of(command.0)
-        );
-        assert!(rt;
-            writes_front(&left, usual, kind.0),
-            "{} {nth}",
-            name_of(command.0)
+            leaves_front(&left, usual, kind, nth),
+            "{}: {} {nth}",
+            command.why,
+            kind.why
         );
     }
-    panic!(rt; "{}: it makes more calls", name_of(command.0))
-}
-
-// Whether a command makes so many calls of a kind. It opens CONFIG, and its input if it writes a file, and reads each to its end; it creates that
-// file once; and it says its text at once.
-fn makes(kind: CallKind, calls: u64, writes: bool) -> bool {
-    let files = u64::from(writes);
-    match kind {
-        CallKind::Open => calls == 1 + files,
-        CallKind::Read => calls >= 2,
-        CallKind::Create => calls == files,
-        CallKind::Write => calls >= files,
-        CallKind::Say => calls == 1,
-        CallKind::Last => calls == 0,
-    }
-}
-
-// Makes each call of each kind fail in turn, and answers what the command leaves if none does.
-fn fails_in_each_way(
-    rt: &(impl AllocGlobal + Abort),
-    files: &Files,
-    command: Command,
-) -> Result<Ended, Fail> {
-    let usual = left_by(rt.alloc(), files, command)?;
-    assert_outcome(rt, usual.outcome, Outcome::Done);
-    for kind in KINDS {
-        let calls = fails_in_turn(rt, files, command, &usual, kind)?;
-        assert!(rt;
-            makes(kind.0, calls, command.1.is_some()),
-            "{}: {calls}",
-            name_of(command.0)
-        );
-    }
-    Ok(usual)
+    panic!(rt; "{}: {} {MOST}", command.why, kind.why)
 }
 
 #[test]
 fn each_call_that_fails_is_told_and_leaves_a_front(rt: HostRuntime) -> Result<(), Fail> {
-    let mut files = Files::usual(rt.alloc())?;
-    for command in COMMANDS {
-        let usual = fails_in_each_way(&rt, &files, command)?;
-        if let (Some(name), Some(bytes)) = (command.1, &usual.out) {
-            files.named.push((name, bytes.to_vec(rt.alloc())?))?;
+    let alloc = rt.alloc();
+    let config = bytes_of(alloc, &LOADED)?;
+    let input = bytes_of(alloc, &LOADED_INPUT)?;
+    let files = [("c", config.as_slice()), ("i", input.as_slice())];
+    let (_, stream) = done(&rt, "gateway", &files, COMMANDS[0].words)?;
+    let files = [("c", config.as_slice()), ("s", stream.as_slice())];
+    let (_, records) = done(&rt, "modulate", &files, COMMANDS[1].words)?;
+    let files = [
+        ("c", config.as_slice()),
+        ("i", input.as_slice()),
+        ("s", stream.as_slice()),
+        ("r", records.as_slice()),
+        ("p", STAMP.as_slice()),
+    ];
+    for command in &COMMANDS {
+        let usual = end_of(alloc, &files, None, command.words)?;
+        assert_outcome(&rt, command.why, usual.outcome, Outcome::Done, 0);
+        for kind in &KINDS {
+            let calls = calls_of(&rt, &files, command, &usual, kind)?;
+            let (least, most) = if command.writes {
+                kind.writing
+            } else {
+                kind.other
+            };
+            assert!(rt;
+                least <= calls && calls <= most,
+                "{}: {} {calls}",
+                command.why,
+                kind.why
+            );
         }
     }
-    Ok(())
-}
-
-// OUT holds what the writes before took: some, and not all.
-#[test]
-fn a_second_write_that_fails(rt: HostRuntime) -> Result<(), Fail> {
-    let files = Files::usual(rt.alloc())?;
-    let usual = left_by(rt.alloc(), &files, COMMANDS[0])?;
-    let left = left_failing(rt.alloc(), &files, COMMANDS[0], CallKind::Write, 2)?;
-    assert_outcome(&rt, left.outcome, Outcome::WriteFault);
-    assert_status(&rt, left.outcome, 71);
-    assert!(rt; writes_front(&left, &usual, CallKind::Write));
-    let some = left.out.as_ref().map_or(0, |bytes| bytes.len());
-    let all = usual.out.as_ref().map_or(0, |bytes| bytes.len());
-    assert!(rt; 0 < some && some < all);
-    Ok(())
-}
-
-#[test]
-fn an_input_that_is_not_there(rt: HostRuntime) -> Result<(), Fail> {
-    let files = Files::usual(rt.alloc())?;
-    let command: Command = (&["gateway", CONFIG, STREAM, "absent"], Some(STREAM));
-    let left = left_by(rt.alloc(), &files, command)?;
-    assert_outcome(&rt, left.outcome, Outcome::ReadFault);
-    assert_status(&rt, left.outcome, 70);
-    assert!(rt; left.out.is_none());
-    Ok(())
-}
-
-// The outcome is that of the run, and nothing is said.
-#[test]
-fn a_last_line_that_cannot_be_said(rt: HostRuntime) -> Result<(), Fail> {
-    let mut input = packets(rt.alloc(), 20, DATA, 0xAB)?;
-    if let Some(sync) = input.get_mut(3 * 188) {
-        *sync = 0x46;
-    }
-    let files = Files::of(rt.alloc(), SMALL, input)?;
-    let left = left_failing(rt.alloc(), &files, COMMANDS[0], CallKind::Last, 1)?;
-    let refused = Outcome::InputRefused {
-        input: 0,
-        packet: 3,
-    };
-    assert_outcome(&rt, left.outcome, refused);
-    assert!(rt; left.said.is_empty());
     Ok(())
 }

@@ -2,9 +2,11 @@
 #![tactic(auto)]
 
 #[cfg(test)]
+mod bench;
+#[cfg(test)]
 mod configuration;
 #[cfg(test)]
-mod damaged_units;
+mod damaged;
 #[cfg(test)]
 mod failing;
 #[cfg(test)]
@@ -16,9 +18,15 @@ mod random_networks;
 #[cfg(test)]
 mod receive;
 #[cfg(test)]
-mod runs;
+mod returned;
+#[cfg(test)]
+mod rows;
+#[cfg(test)]
+mod samples;
 #[cfg(test)]
 mod show_frames;
+#[cfg(test)]
+mod show_many;
 #[cfg(test)]
 mod show_packets;
 #[cfg(test)]

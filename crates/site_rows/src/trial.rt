@@ -1,20 +1,29 @@
-// `trial SEED FRAMES`. The packets of the first row were counted by an independent program.
+// `trial SEED FRAMES`. The packets of the first trial were counted by an independent program.
 
-use crate::runs::{Bench, assert_outcome, assert_text};
-use bit_slice::{BitSlice, OutOfMemory, crc32};
+use crate::bench::done;
+use crate::rows::{ROW, Row, all_hold};
+use bit_slice::{BitSlice, crc32};
 use network_rows::{gateway_units, ts_packets};
 use site_top::Outcome;
-use std::alloc::Global;
 use std::process::Abort;
 use std::str;
 use std::test::Fail;
 use trial_run::{Draws, trial_input, trial_plan};
-use ts_packet::{SIZE, TsPacket};
+use ts_packet::SIZE;
 
-const ROW: &[&str] = &["trial", "1", "6"];
+// What the lines of `trial 1 6` behind the first one begin with: those of both modulators, and of each PLP, of which every packet
+// comes back without losses. Unit 0 has a part of frame 0, so the second modulator begins with the next superframe.
+static LINES: [&str; 5] = [
+    "a first=0 records=10 muted=0 crc=",
+    "b first=2 records=8 muted=",
+    "plp=1 packets=65 a=65 b=",
+    "plp=2 packets=45 a=45 b=",
+    "plp=3 packets=50 a=50 b=",
+];
 
-// The packets of the inputs of the trial `trial 1 6`.
-fn drawn_packets(alloc: Global) -> Result<Vec<Vec<TsPacket>>, OutOfMemory> {
+// The first line of that trial: how many units the gateway makes of its packets, by its calls, and their CRC-32.
+fn first_line(rt: &(impl AllocGlobal + Abort)) -> Result<String, Fail> {
+    let alloc = rt.alloc();
     let plan = trial_plan(alloc)?;
     let mut draws = Draws::new(1);
     let mut inputs = Vec::new(alloc);
@@ -22,84 +31,51 @@ fn drawn_packets(alloc: Global) -> Result<Vec<Vec<TsPacket>>, OutOfMemory> {
         let input = trial_input(alloc, &plan, plp, 6, &mut draws)?;
         inputs.push(ts_packets(alloc, &input)?)?;
     }
-    Ok(inputs)
-}
-
-// How many units the gateway makes of them, by its calls, and their CRC-32.
-fn units_and_crc(rt: &(impl AllocGlobal + Abort)) -> Result<(usize, u32), Fail> {
-    let plan = trial_plan(rt.alloc())?;
-    let inputs = drawn_packets(rt.alloc())?;
     assert!(rt; inputs.len() == plan.config().plps.len());
-    let units = gateway_units(rt.alloc(), &plan, &inputs)?;
+    let units = gateway_units(alloc, &plan, &inputs)?;
     assert!(rt; units.len() < 1 << 20);
-    Ok((units.len() / SIZE, crc32(BitSlice::whole(&units))))
-}
-
-// The lines of a trial that is done.
-fn lines_of(rt: &(impl AllocGlobal + Abort), words: &[&str]) -> Result<Vec<u8>, Fail> {
-    let mut bench = Bench::new(rt.alloc());
-    bench.done(rt, words)?;
-    Ok(bench.said().to_vec(rt.alloc())?)
-}
-
-// The line of a number.
-fn line_at(text: &[u8], number: usize) -> &str {
-    let line = text.split(|byte| *byte == b'\n').nth(number);
-    line.map_or("", |line| str::from_utf8(line).unwrap_or(""))
+    let crc = crc32(BitSlice::whole(&units));
+    Ok(format!(in alloc; "frames=10 units={} crc={crc:08x}", units.len() / SIZE)?)
 }
 
 #[test]
-fn begins_with_the_stream_of_the_gateway(rt: HostRuntime) -> Result<(), Fail> {
-    let text = lines_of(&rt, ROW)?;
-    let (units, crc) = units_and_crc(&rt)?;
-    let first = format!(in rt.alloc(); "frames=10 units={units} crc={crc:08x}")?;
-    assert_text(&rt, line_at(&text, 0).as_bytes(), first.as_str());
-    Ok(())
-}
-
-#[test]
-fn tells_of_both_modulators(rt: HostRuntime) -> Result<(), Fail> {
-    let text = lines_of(&rt, ROW)?;
-    assert!(rt; line_at(&text, 1).starts_with("a first=0 records=10 muted=0 crc="));
-    // Unit 0 has a part of frame 0, so the second one begins with the next superframe.
-    assert!(rt; line_at(&text, 2).starts_with("b first=2 records=8 muted="));
-    Ok(())
-}
-
-#[test]
-fn every_packet_comes_back_without_losses(rt: HostRuntime) -> Result<(), Fail> {
-    let text = lines_of(&rt, ROW)?;
-    assert!(rt; line_at(&text, 3).starts_with("plp=1 packets=65 a=65 b="));
-    assert!(rt; line_at(&text, 4).starts_with("plp=2 packets=45 a=45 b="));
-    assert!(rt; line_at(&text, 5).starts_with("plp=3 packets=50 a=50 b="));
-    Ok(())
-}
-
-#[test]
-fn says_the_same_text_twice(rt: HostRuntime) -> Result<(), Fail> {
-    assert!(rt; lines_of(&rt, ROW)? == lines_of(&rt, ROW)?);
-    Ok(())
-}
-
-#[test]
-fn goes_on_for_64_frames(rt: HostRuntime) -> Result<(), Fail> {
-    let mut bench = Bench::new(rt.alloc());
-    bench.done(&rt, &["trial", "7", "64"])
-}
-
-#[test]
-fn refuses_numbers_that_are_not_spelled_so(rt: HostRuntime) -> Result<(), Fail> {
-    let words: [&[&str]; 6] = [
-        &["trial", "1", "5"],
-        &["trial", "1", "65"],
-        &["trial", "01", "6"],
-        &["trial", "+1", "6"],
-        &["trial", "18446744073709551616", "6"],
-        &["trial", "1"],
-    ];
-    for words in words {
-        let mut bench = Bench::new(rt.alloc());
-        assert_outcome(&rt, bench.run(words)?, Outcome::Usage);
+fn each_line_of_a_trial(rt: HostRuntime) -> Result<(), Fail> {
+    let words = ["trial", "1", "6"];
+    let (said, _) = done(&rt, "trial 1 6", &[], &words)?;
+    let mut lines = said.split(|byte| *byte == b'\n');
+    let first = first_line(&rt)?;
+    assert!(rt; lines.next() == Some(first.as_bytes()), "{first}");
+    for front in LINES {
+        match lines.next() {
+            Some(line) => assert!(rt; line.starts_with(front.as_bytes()), "{front}"),
+            None => panic!(rt; "{front}"),
+        }
     }
+    let (again, _) = done(&rt, "trial 1 6 again", &[], &words)?;
+    assert!(rt; said == again, "trial 1 6 says the same text twice");
     Ok(())
+}
+
+// Numbers that are not spelled so are refused.
+const WRONG: Row = Row {
+    outcome: Outcome::Usage,
+    status: 2,
+    said: &["refused: usage\n"],
+    ..ROW
+};
+
+#[rattlefmt::skip]
+static WORDS: [Row; 7] = [
+    Row { why: "a trial of 64 frames", words: &["trial", "7", "64"], said: &["frames="], more: true, ..ROW },
+    Row { why: "five frames are too few", words: &["trial", "1", "5"], ..WRONG },
+    Row { why: "65 frames are too many", words: &["trial", "1", "65"], ..WRONG },
+    Row { why: "a seed with a leading zero", words: &["trial", "01", "6"], ..WRONG },
+    Row { why: "a seed with a sign", words: &["trial", "+1", "6"], ..WRONG },
+    Row { why: "a seed of more than 64 bits", words: &["trial", "18446744073709551616", "6"], ..WRONG },
+    Row { why: "no FRAMES", words: &["trial", "1"], ..WRONG },
+];
+
+#[test]
+fn numbers_of_a_trial(rt: HostRuntime) -> Result<(), Fail> {
+    all_hold(&rt, &WORDS)
 }

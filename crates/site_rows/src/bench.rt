@@ -1,0 +1,129 @@
+// Runs over a desk in memory.
+ghost use Rattle.std.specs.Prelude.{◌<◌};
+
+use ports::{CallKind, MemoryDesk};
+use site_top::{Outcome, Word, run};
+use std::alloc::Global;
+use std::marker::Model;
+use std::process::Abort;
+use std::test::Fail;
+
+/// A desk in memory, on which commands are run.
+///
+/// The contracts of the desk and of a command are large, and what calls them has all that they say in its own proof. So the tests
+/// call the methods of a bench, which have no `ensures`, and its model tells nothing: their proofs are short.
+#[derive(Drop)]
+pub(crate) struct Bench {
+    alloc: Global,
+    desk: MemoryDesk,
+}
+
+impl Model for Bench {
+    ghost Value = { Unit };
+
+    ghost view = { λ _. tt };
+}
+
+impl Bench {
+    /// A bench with no file.
+    pub(crate) fn new(alloc: Global) -> Bench {
+        Bench {
+            alloc,
+            desk: MemoryDesk::new(alloc),
+        }
+    }
+
+    /// Sets a file.
+    pub(crate) fn put(&mut self, name: &str, bytes: &[u8]) -> Result<(), Fail> {
+        Ok(self.desk.put_file(name, bytes)?)
+    }
+
+    /// Makes each read and write from now on move at most so many bytes.
+    pub(crate) fn cap(&mut self, most: usize)
+        requires { 0 < most }
+    {
+        self.desk.cap(most);
+    }
+
+    /// Makes a call fail: the nth of its kind.
+    pub(crate) fn fail(&mut self, kind: CallKind, nth: u64) -> Result<(), Fail> {
+        Ok(self.desk.fail(kind, nth)?)
+    }
+
+    /// Runs the command that these words name.
+    pub(crate) fn run(&mut self, words: &[&str]) -> Result<Outcome, Fail> {
+        let mut list = Vec::new(self.alloc);
+        for word in words {
+            list.push(Word::new(self.alloc, word)?)?;
+        }
+        Ok(run(self.alloc, list.as_slice(), &mut self.desk))
+    }
+
+    /// What was said.
+    pub(crate) fn said(&self) -> &[u8] {
+        self.desk.said()
+    }
+
+    /// The bytes of a file, if it is there.
+    pub(crate) fn file(&self, name: &str) -> Option<&[u8]> {
+        self.desk.file(name)
+    }
+}
+
+/// How a run ended, what was said, and what the file `o` holds if it is there.
+#[derive(Drop)]
+pub(crate) struct Ended {
+    pub(crate) outcome: Outcome,
+    pub(crate) said: Vec<u8>,
+    pub(crate) out: Option<Vec<u8>>,
+}
+
+/// How a command ends on a bench with these files, if one call fails: the nth of a kind.
+pub(crate) fn end_of(
+    alloc: Global,
+    files: &[(&str, &[u8])],
+    fault: Option<(CallKind, u64)>,
+    words: &[&str],
+) -> Result<Ended, Fail> {
+    let mut bench = Bench::new(alloc);
+    for (name, bytes) in files {
+        bench.put(name, bytes)?;
+    }
+    if let Some((kind, nth)) = fault {
+        bench.fail(kind, nth)?;
+    }
+    let outcome = bench.run(words)?;
+    let said = bench.said().to_vec(alloc)?;
+    let out = match bench.file("o") {
+        Some(bytes) => Some(bytes.to_vec(alloc)?),
+        None => None,
+    };
+    Ok(Ended { outcome, said, out })
+}
+
+/// What a command says on a bench with these files, and what the file `o` holds then. The run is done.
+pub(crate) fn done(
+    rt: &(impl AllocGlobal + Abort),
+    why: &str,
+    files: &[(&str, &[u8])],
+    words: &[&str],
+) -> Result<(Vec<u8>, Vec<u8>), Fail> {
+    let Ended { outcome, said, out } = end_of(rt.alloc(), files, None, words)?;
+    assert_outcome(rt, why, outcome, Outcome::Done, 0);
+    match out {
+        Some(out) => Ok((said, out)),
+        None => Ok((said, Vec::new(rt.alloc()))),
+    }
+}
+
+/// A run ended so, with this status. What the assertion prints has large contracts, so it stands here alone.
+pub(crate) fn assert_outcome(
+    rt: &impl Abort,
+    why: &str,
+    outcome: Outcome,
+    expected: Outcome,
+    status: u8,
+) {
+    assert_eq!(rt; outcome, expected, "{why}");
+    assert_eq!(rt; outcome.status(), status, "{why}");
+}
