@@ -78,15 +78,17 @@ pub(crate) struct Ended {
     pub(crate) out: Option<Vec<u8>>,
 }
 
-/// How a command ends on a bench with these files, if one call fails: the nth of a kind.
+/// How a command ends on a bench with the file `c` and others, if one call fails: the nth of a kind.
 pub(crate) fn end_of(
     alloc: Global,
-    files: &[(&str, &[u8])],
+    config: &[u8],
+    others: &[(&str, &[u8])],
     fault: Option<(CallKind, u64)>,
     words: &[&str],
 ) -> Result<Ended, Fail> {
     let mut bench = Bench::new(alloc);
-    for (name, bytes) in files {
+    bench.put("c", config)?;
+    for (name, bytes) in others {
         bench.put(name, bytes)?;
     }
     if let Some((kind, nth)) = fault {
@@ -101,14 +103,15 @@ pub(crate) fn end_of(
     Ok(Ended { outcome, said, out })
 }
 
-/// What a command says on a bench with these files, and what the file `o` holds then. The run is done.
+/// What a command says on a bench with the file `c` and others, and what the file `o` holds then. The run is done.
 pub(crate) fn done(
     rt: &(impl AllocGlobal + Abort),
     why: &str,
-    files: &[(&str, &[u8])],
+    config: &[u8],
+    others: &[(&str, &[u8])],
     words: &[&str],
 ) -> Result<(Vec<u8>, Vec<u8>), Fail> {
-    let Ended { outcome, said, out } = end_of(rt.alloc(), files, None, words)?;
+    let Ended { outcome, said, out } = end_of(rt.alloc(), config, others, None, words)?;
     assert_outcome(rt, why, outcome, Outcome::Done, 0);
     match out {
         Some(out) => Ok((said, out)),

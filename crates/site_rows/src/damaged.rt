@@ -152,11 +152,15 @@ fn damaged_units_mute_the_frames_that_they_carry(rt: HostRuntime) -> Result<(), 
     let words = ["modulate", "c", "t", "o"];
     let config = bytes_of(alloc, &LOADED)?;
     let input = bytes_of(alloc, &LOADED_INPUT)?;
-    let files = [("c", config.as_slice()), ("0", input.as_slice())];
-    let (_, stream) = done(&rt, "the stream", &files, &["gateway", "c", "o", "0"])?;
+    let (_, stream) = done(
+        &rt,
+        "the stream",
+        &config,
+        &[("0", &input)],
+        &["gateway", "c", "o", "0"],
+    )?;
     assert!(rt; stream.len() == 123 * SIZE);
-    let files = [("c", config.as_slice()), ("t", stream.as_slice())];
-    let (said, whole) = done(&rt, "all records", &files, &words)?;
+    let (said, whole) = done(&rt, "all records", &config, &[("t", &stream)], &words)?;
     assert!(rt; said.as_slice() == b"first=0 records=12 muted=0\n".as_slice());
     assert!(rt; whole.len() == FRAMES * EMPTY_RECORD + 8 * THREE_BLOCKS);
     for table in &TABLES {
@@ -168,8 +172,7 @@ fn damaged_units_mute_the_frames_that_they_carry(rt: HostRuntime) -> Result<(), 
             let expected = left_of(alloc, &whole, row)?;
             for _ in 0..row.units {
                 let bytes = damaged(alloc, &stream, unit, table.damage)?;
-                let files = [("c", config.as_slice()), ("t", bytes.as_slice())];
-                let (said, records) = done(&rt, row.why, &files, &words)?;
+                let (said, records) = done(&rt, row.why, &config, &[("t", &bytes)], &words)?;
                 assert!(rt;
                     said.as_slice() == line.as_bytes() && records == expected,
                     "{}: unit {unit}",

@@ -102,13 +102,20 @@ fn leaves_front(left: &Ended, usual: &Ended, kind: &Kind, nth: u64) -> bool {
 // Makes each call of a kind fail in turn, until a run is done, and answers how many there were.
 fn calls_of(
     rt: &(impl AllocGlobal + Abort),
-    files: &[(&str, &[u8])],
+    config: &[u8],
+    others: &[(&str, &[u8])],
     command: &Command,
     usual: &Ended,
     kind: &Kind,
 ) -> Result<u64, Fail> {
     for nth in 1..MOST {
-        let left = end_of(rt.alloc(), files, Some((kind.kind, nth)), command.words)?;
+        let left = end_of(
+            rt.alloc(),
+            config,
+            others,
+            Some((kind.kind, nth)),
+            command.words,
+        )?;
         if left.outcome == Outcome::Done {
             return Ok(nth - 1);
         }
@@ -128,22 +135,25 @@ fn each_call_that_fails_is_told_and_leaves_a_front(rt: HostRuntime) -> Result<()
     let alloc = rt.alloc();
     let config = bytes_of(alloc, &LOADED)?;
     let input = bytes_of(alloc, &LOADED_INPUT)?;
-    let files = [("c", config.as_slice()), ("i", input.as_slice())];
-    let (_, stream) = done(&rt, "gateway", &files, COMMANDS[0].words)?;
-    let files = [("c", config.as_slice()), ("s", stream.as_slice())];
-    let (_, records) = done(&rt, "modulate", &files, COMMANDS[1].words)?;
-    let files = [
-        ("c", config.as_slice()),
+    let (_, stream) = done(&rt, "gateway", &config, &[("i", &input)], COMMANDS[0].words)?;
+    let (_, records) = done(
+        &rt,
+        "modulate",
+        &config,
+        &[("s", &stream)],
+        COMMANDS[1].words,
+    )?;
+    let others = [
         ("i", input.as_slice()),
         ("s", stream.as_slice()),
         ("r", records.as_slice()),
         ("p", STAMP.as_slice()),
     ];
     for command in &COMMANDS {
-        let usual = end_of(alloc, &files, None, command.words)?;
+        let usual = end_of(alloc, &config, &others, None, command.words)?;
         assert_outcome(&rt, command.why, usual.outcome, Outcome::Done, 0);
         for kind in &KINDS {
-            let calls = calls_of(&rt, &files, command, &usual, kind)?;
+            let calls = calls_of(&rt, &config, &others, command, &usual, kind)?;
             let (least, most) = if command.writes {
                 kind.writing
             } else {

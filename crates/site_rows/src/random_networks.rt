@@ -129,24 +129,34 @@ fn network(alloc: Global, draws: &mut Draws) -> Result<(String, Vec<Plp>), Fail>
     Ok((text, plps))
 }
 
+// The names of the inputs.
+const NAMES: [&str; 5] = ["0", "1", "2", "3", "4"];
+
 // The records of a network.
-fn records_of<'n>(
+fn records_of(
     rt: &(impl AllocGlobal + Abort),
     why: &str,
-    text: &'n str,
-    plps: &'n [Plp],
+    config: &[u8],
+    plps: &[Plp],
 ) -> Result<Vec<u8>, Fail> {
     let alloc = rt.alloc();
-    let mut files = Vec::new(alloc);
-    let mut words = Vec::from_slice(alloc, &["gateway", "c", "o"])?;
-    files.push(("c", text.as_bytes()))?;
-    for plp in plps {
-        files.push((plp.id.as_str(), plp.sent.as_slice()))?;
-        words.push(plp.id.as_str())?;
+    let mut words = Vec::new(alloc);
+    for word in ["gateway", "c", "o"] {
+        words.push(word)?;
     }
-    let (_, stream) = done(rt, why, &files, &words)?;
-    let files = [("c", text.as_bytes()), ("t", stream.as_slice())];
-    let (_, records) = done(rt, why, &files, &["modulate", "c", "t", "o"])?;
+    let mut inputs = Vec::new(alloc);
+    for (name, plp) in NAMES.iter().zip(plps) {
+        inputs.push((*name, plp.sent.as_slice()))?;
+        words.push(*name)?;
+    }
+    let (_, stream) = done(rt, why, config, &inputs, &words)?;
+    let (_, records) = done(
+        rt,
+        why,
+        config,
+        &[("t", &stream)],
+        &["modulate", "c", "t", "o"],
+    )?;
     Ok(records)
 }
 
@@ -225,14 +235,19 @@ fn losses(
 fn comes_back(
     rt: &(impl AllocGlobal + Abort),
     why: &str,
-    text: &str,
+    config: &[u8],
     plp: &Plp,
     records: &[u8],
     muted: &[bool],
 ) -> Result<(), Fail> {
     let alloc = rt.alloc();
-    let files = [("c", text.as_bytes()), ("r", records)];
-    let (_, given) = done(rt, why, &files, &["receive", "c", &plp.id, "r", "o"])?;
+    let (_, given) = done(
+        rt,
+        why,
+        config,
+        &[("r", records)],
+        &["receive", "c", &plp.id, "r", "o"],
+    )?;
     assert!(rt;
         given.len() >= plp.sent.len(),
         "{why}, PLP {}: all slots",
@@ -263,12 +278,12 @@ fn muted_frames_cost_their_packets_and_no_others(rt: HostRuntime) -> Result<(), 
         let why = format!(in alloc; "network {seed}")?;
         let mut draws = Draws { state: seed };
         let (text, plps) = network(alloc, &mut draws)?;
-        let records = records_of(&rt, &why, &text, &plps)?;
+        let records = records_of(&rt, &why, text.as_bytes(), &plps)?;
         let (lossy, muted) = mute(alloc, &mut draws, &records)?;
         let none = vec![in alloc; false; muted.len()]?;
         for plp in &plps {
-            comes_back(&rt, &why, &text, plp, &lossy, &muted)?;
-            comes_back(&rt, &why, &text, plp, &records, &none)?;
+            comes_back(&rt, &why, text.as_bytes(), plp, &lossy, &muted)?;
+            comes_back(&rt, &why, text.as_bytes(), plp, &records, &none)?;
         }
     }
     Ok(())

@@ -78,17 +78,27 @@ static ROWS: [Row; 7] = [
 ];
 
 // What is said and given back of a PLP from a stream.
-fn received<'b>(
+fn received(
     rt: &(impl AllocGlobal + Abort),
     why: &str,
-    config: &'b [u8],
-    plp: &'b str,
-    stream: &'b [u8],
+    config: &[u8],
+    plp: &str,
+    stream: &[u8],
 ) -> Result<(Vec<u8>, Vec<u8>), Fail> {
-    let files = [("c", config), ("t", stream)];
-    let (_, records) = done(rt, why, &files, &["modulate", "c", "t", "o"])?;
-    let files = [("c", config), ("r", records.as_slice())];
-    done(rt, why, &files, &["receive", "c", plp, "r", "o"])
+    let (_, records) = done(
+        rt,
+        why,
+        config,
+        &[("t", stream)],
+        &["modulate", "c", "t", "o"],
+    )?;
+    done(
+        rt,
+        why,
+        config,
+        &[("r", &records)],
+        &["receive", "c", plp, "r", "o"],
+    )
 }
 
 #[test]
@@ -100,8 +110,13 @@ fn packets_come_back_in_their_slots(rt: HostRuntime) -> Result<(), Fail> {
             Input::Packets(packets) => bytes_of(alloc, packets)?,
             Input::Numbered(count) => numbered(alloc, *count)?,
         };
-        let files = [("c", config.as_slice()), ("0", sent.as_slice())];
-        let (_, stream) = done(&rt, row.why, &files, &["gateway", "c", "o", "0"])?;
+        let (_, stream) = done(
+            &rt,
+            row.why,
+            &config,
+            &[("0", &sent)],
+            &["gateway", "c", "o", "0"],
+        )?;
         let stream = damaged(alloc, &stream, row.unit, row.damage)?;
         let (said, given) = received(&rt, row.why, &config, "0", &stream)?;
         assert!(rt;
@@ -146,19 +161,13 @@ fn each_plp_of_a_network_of_both_types(rt: HostRuntime) -> Result<(), Fail> {
     let null = null_packet();
     let config = bytes_of(alloc, &MIXED)?;
     let sent = numbered(alloc, 80)?;
-    let inputs = sent.as_slice();
-    let files = [
-        ("c", config.as_slice()),
-        ("1", inputs),
-        ("2", inputs),
-        ("3", inputs),
+    let inputs = [
+        ("1", sent.as_slice()),
+        ("2", sent.as_slice()),
+        ("3", sent.as_slice()),
     ];
-    let (_, stream) = done(
-        &rt,
-        "the stream",
-        &files,
-        &["gateway", "c", "o", "1", "2", "3"],
-    )?;
+    let words = ["gateway", "c", "o", "1", "2", "3"];
+    let (_, stream) = done(&rt, "the stream", &config, &inputs, &words)?;
     let late = damaged(alloc, &stream, 20, Damage::Late)?;
     let lossy = damaged(alloc, &stream, 60, Damage::Lost)?;
     for plp in ["1", "2", "3"] {

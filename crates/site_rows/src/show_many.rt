@@ -61,7 +61,7 @@ fn each_part_of_a_long_file_has_its_line(rt: HostRuntime) -> Result<(), Fail> {
             }
         }
         text.push_str(row.last)?;
-        let (said, _) = done(&rt, row.why, &[("f", &file)], &["show", row.kind, "f"])?;
+        let (said, _) = done(&rt, row.why, &[], &[("f", &file)], &["show", row.kind, "f"])?;
         assert!(rt; said.as_slice() == text.as_bytes(), "{}", row.why);
     }
     Ok(())

@@ -41,7 +41,7 @@ fn first_line(rt: &(impl AllocGlobal + Abort)) -> Result<String, Fail> {
 #[test]
 fn each_line_of_a_trial(rt: HostRuntime) -> Result<(), Fail> {
     let words = ["trial", "1", "6"];
-    let (said, _) = done(&rt, "trial 1 6", &[], &words)?;
+    let (said, _) = done(&rt, "trial 1 6", &[], &[], &words)?;
     let mut lines = said.split(|byte| *byte == b'\n');
     let first = first_line(&rt)?;
     assert!(rt; lines.next() == Some(first.as_bytes()), "{first}");
@@ -51,7 +51,7 @@ fn each_line_of_a_trial(rt: HostRuntime) -> Result<(), Fail> {
             None => panic!(rt; "{front}"),
         }
     }
-    let (again, _) = done(&rt, "trial 1 6 again", &[], &words)?;
+    let (again, _) = done(&rt, "trial 1 6 again", &[], &[], &words)?;
     assert!(rt; said == again, "trial 1 6 says the same text twice");
     Ok(())
 }
