@@ -8,12 +8,12 @@ pub const MODE: u8 = 1;
 pub struct Header {
     /// MATYPE-1: TS/GS, SIS/MIS, CCM/ACM, ISSYI, NPD, EXT.
     pub matype1: u8,
-    /// MATYPE-2: the PLP_ID, where there are several PLPs.
+    /// MATYPE-2: the PLP_ID, if there are several PLPs.
     pub matype2: u8,
     /// ISSY, three bytes.
     pub issy: u32,
     /// DFL: the length of the data field, in bits.
     pub dfl: u16,
-    /// SYNCD: how many bits stand before the first user packet that begins in the data field, or 65535 where none does.
+    /// SYNCD: how many bits stand before the first user packet that begins in the data field, or 65535 if none does.
     pub syncd: u16,
 }

@@ -71,7 +71,7 @@ not_beyond c shape plp passes h w =
     w
 
 pub not_shared : (c : Config) (shape : FrameShape) (i j : ℕ) → Passes c shape → ¬ (Shares c shape i j)
-not_shared c shape i j passes s = s.apart (passes.apart i s.b s.q j s.d s.r s.one s.other s.same)
+not_shared c shape i j passes s = s.apart (passes.apart i s.block s.cell j s.other_block s.other_cell s.one s.other s.same)
 
 -- the address that the code computes
 pub record Computes (c : Config) (shape : FrameShape) (plp block cell start position interval len : ℕ) : Type 0 where

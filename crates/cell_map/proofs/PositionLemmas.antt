@@ -153,7 +153,8 @@ only cells parts n at b q f hb hq e =
     let there : q ≡ cell_at r z g = rw (p.column, p.row) (sym back) in
     rw (one, rest) (here, there)
 
-pub below_in : (cells parts n block cell : ℕ) (g : TiBlock) → 0 < parts → g ≡ ti_block_of n parts block → cells % 5 ≡ 0 → block < n
+pub below_in : (cells parts n block cell : ℕ) (g : TiBlock) → 0 < parts → g ≡ ti_block_of n parts block → cells % 5 ≡ 0
+    → block < n
     → cell < cells → in_ti_block cells g block cell < n * cells
 below_in cells zero n block cell g some e f b c = absurd (omega arith)
 below_in cells (suc parts) n block cell g some e f b c = rw e (position_below cells (suc parts) n block cell f b c)

@@ -32,7 +32,8 @@ in_rows cells length n g f whole same row block column hr hb hc =
     }
 
 -- a run begins at a position of a TI-block
-interleaved : (cells length n before at limit left : ℕ) (g : TiBlock) → cells % 5 ≡ 0 → at < n * cells → n < 2 ^ 10 → cells < 2 ^ 15
+interleaved : (cells length n before at limit left : ℕ) (g : TiBlock) → cells % 5 ≡ 0 → at < n * cells → n < 2 ^ 10
+    → cells < 2 ^ 15
     → before < 2 ^ 20 → 0 < limit
     → g ≡ ti_block_of n (suc length) (at / cells) → left ≡ min limit (g.size * cells - (at - g.first * cells))
     → RunsFrom cells (suc length) n before at limit (record {
@@ -75,7 +76,8 @@ interleaved cells length n before at limit left g f h few short small some e m =
       few = (omega (arith, short, fifth), omega (arith, few, law.whole), omega arith, omega (arith, small, few, law.whole, has));
     }
 
-pub interleaved_is : (cells length n before at limit left : ℕ) (g : TiBlock) → 0 < length → cells % 5 ≡ 0 → at < n * cells → n < 2 ^ 10
+pub interleaved_is : (cells length n before at limit left : ℕ) (g : TiBlock) → 0 < length → cells % 5 ≡ 0 → at < n * cells
+    → n < 2 ^ 10
     → cells < 2 ^ 15 → before < 2 ^ 20 → 0 < limit
     → g ≡ ti_block_of n length (at / cells) → left ≡ min limit (g.size * cells - (at - g.first * cells))
     → RunsFrom cells length n before at limit (record {

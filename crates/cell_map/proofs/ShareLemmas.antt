@@ -24,8 +24,8 @@ use Rattle.terms.proofs.CaseLemmas.{bool_cases}
 pub meet_of_shares : (c : Config) (shape : FrameShape) (i j : ℕ) → IsPlan c → Shares c shape i j
     → SlicesMeet (slices_of c shape i) (slices_of c shape j) shape.interval
 meet_of_shares c shape i j is s =
-    let (k, (t, x)) = at_of_cell c shape i s.b s.q is s.one in
-    let (m, (u, y)) = at_of_cell c shape j s.d s.r is s.other in
+    let (k, (t, x)) = at_of_cell c shape i s.block s.cell is s.one in
+    let (m, (u, y)) = at_of_cell c shape j s.other_block s.other_cell is s.other in
     let e = s.same in (
       k,
       (
@@ -44,7 +44,16 @@ pub shares_at : (c : Config) (shape : FrameShape) (i j k t m u : ℕ) → IsPlan
 shares_at c shape i j k t m u is hi hj ne hk ht hm hu e =
     let (b, (q, one, x)) = cell_of_at c shape i k t is hi hk ht in
     let (d, (r, other, y)) = cell_of_at c shape j m u is hj hm hu in
-    record { b = b; q = q; d = d; r = r; one = one; other = other; same = x.address ∙ e ∙ sym y.address; apart = λ z. ne z.0 }
+    record {
+      block = b;
+      cell = q;
+      other_block = d;
+      other_cell = r;
+      one = one;
+      other = other;
+      same = x.address ∙ e ∙ sym y.address;
+      apart = λ z. ne z.0;
+    }
 
 pub shares_of_meet : (c : Config) (shape : FrameShape) (i j : ℕ) → IsPlan c → i < length c.plps → j < length c.plps → i ≢ j →
     0 < (slices_of c shape i).len → 0 < (slices_of c shape j).len →
@@ -63,8 +72,8 @@ shares_of_meet c shape i j is hi hj ne a b (k, (m, hk, hm, meets)) =
 pub some_of_shares : (c : Config) (shape : FrameShape) (i j : ℕ) → IsPlan c → Shares c shape i j → (0 < (slices_of c shape i).len)
     × (0 < (slices_of c shape j).len)
 some_of_shares c shape i j is s =
-    let (k, (t, x)) = at_of_cell c shape i s.b s.q is s.one in
-    let (m, (u, y)) = at_of_cell c shape j s.d s.r is s.other in
+    let (k, (t, x)) = at_of_cell c shape i s.block s.cell is s.one in
+    let (m, (u, y)) = at_of_cell c shape j s.other_block s.other_cell is s.other in
     (omega (arith, x.inner), omega (arith, y.inner))
 
 -- one PLP with itself
@@ -79,10 +88,10 @@ self_shares c shape j is h two long =
     let position_at : ℕ → ℕ → ℕ = λ b q. position (block_cells c j) (plp_at c.plps j).interleave
     (slice_index shape.counts j) b q in
     record {
-      b = b;
-      q = q;
-      d = d;
-      r = r;
+      block = b;
+      cell = q;
+      other_block = d;
+      other_cell = r;
       one = one;
       other = other;
       same = omega (arith, x.address, y.address);
@@ -95,8 +104,8 @@ self_shares c shape j is h two long =
 pub self_apart : (c : Config) (shape : FrameShape) (j : ℕ) → IsPlan c → ((slices_of c shape j).count ≤ 1)
     ⊎ ((slices_of c shape j).len ≤ shape.interval) → ¬ (Shares c shape j j)
 self_apart c shape j is few s =
-    let (k, (t, x)) = at_of_cell c shape j s.b s.q is s.one in
-    let (m, (u, y)) = at_of_cell c shape j s.d s.r is s.other in
+    let (k, (t, x)) = at_of_cell c shape j s.block s.cell is s.one in
+    let (m, (u, y)) = at_of_cell c shape j s.other_block s.other_cell is s.other in
     let same : k * shape.interval + t ≡ m * shape.interval + u = (let e = s.same in omega (arith, e, x.address, y.address)) in
     let equal : (k ≡ m) × (t ≡ u) = ⊎_elim
     (λ one. let a : k ≡ 0 = omega (arith, x.slice) in
@@ -108,8 +117,8 @@ self_apart c shape j is few s =
     let b : u < shape.interval = omega (arith, y.inner) in
     same_from_place k t m u shape.interval a b same)
     few in
-    let z : At c shape j s.d s.r k t = rw (equal.0, equal.1) y in
-    let one = one_cell c shape j s.b s.q s.d s.r k t is s.one s.other x z in
+    let z : At c shape j s.other_block s.other_cell k t = rw (equal.0, equal.1) y in
+    let one = one_cell c shape j s.block s.cell s.other_block s.other_cell k t is s.one s.other x z in
     s.apart (refl, one.0, one.1)
 
 -- beyond the end
@@ -210,7 +219,7 @@ alone c shape j is passes h =
     bool_cases (ltb 1 s.count)
     (λ e. bool_cases (ltb shape.interval s.len)
     (λ f. let x = self_shares c shape j is h (ltb-true 1 s.count e) (ltb-true shape.interval s.len f) in
-    absurd (x.apart (passes.apart j x.b x.q j x.d x.r x.one x.other x.same)))
+    absurd (x.apart (passes.apart j x.block x.cell j x.other_block x.other_cell x.one x.other x.same)))
     (λ f. inr (ltb-false shape.interval s.len f)))
     (λ e. let le = ltb-false 1 s.count e in inl (omega (arith, le, some)))
 
@@ -230,10 +239,10 @@ passes_from c shape near single =
     (λ e. all_equal i j b d q r e)
     (λ e. absurd (single i j one.configured le other.configured
     (record {
-      b = b;
-      q = q;
-      d = d;
-      r = r;
+      block = b;
+      cell = q;
+      other_block = d;
+      other_cell = r;
       one = one;
       other = other;
       same = same;

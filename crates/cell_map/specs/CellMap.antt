@@ -17,8 +17,10 @@ use Rattle.cell_map.specs.declared.places.Cell.{Cell}
 pub record Passes (c : Config) (shape : FrameShape) : Type 0 where
   pub counts : (plp : ℕ) → plp < length c.plps → slice_index shape.counts plp ≤ (plp_at c.plps plp).blocks
   pub below : (plp block cell : ℕ) → IsCell c shape plp block cell → address_of c shape plp block cell < c.cells
-  pub apart : (i b q j d r : ℕ) → IsCell c shape i b q → IsCell c shape j d r
-      → address_of c shape i b q ≡ address_of c shape j d r → (i ≡ j) × (b ≡ d) × (q ≡ r)
+  pub apart : (plp block cell other other_block other_cell : ℕ)
+      → IsCell c shape plp block cell → IsCell c shape other other_block other_cell
+      → address_of c shape plp block cell ≡ address_of c shape other other_block other_cell
+      → (plp ≡ other) × (block ≡ other_block) × (cell ≡ other_cell)
 
 -- the blocks of a frame are counted PLP by PLP
 abbrev pub ordinal_of : FrameShape → ℕ → ℕ → ℕ
@@ -49,15 +51,15 @@ IsBeyond c shape plp =
     ⊎ ((block : ℕ) × (cell : ℕ) × IsCell c shape plp block cell × (c.cells ≤ address_of c shape plp block cell))
 
 -- a cell of the one PLP and another cell of the other have one address
-pub record Shares (c : Config) (shape : FrameShape) (i j : ℕ) : Type 0 where
-  pub b : ℕ
-  pub q : ℕ
-  pub d : ℕ
-  pub r : ℕ
-  pub one : IsCell c shape i b q
-  pub other : IsCell c shape j d r
-  pub same : address_of c shape i b q ≡ address_of c shape j d r
-  pub apart : ¬ ((i ≡ j) × (b ≡ d) × (q ≡ r))
+pub record Shares (c : Config) (shape : FrameShape) (first second : ℕ) : Type 0 where
+  pub block : ℕ
+  pub cell : ℕ
+  pub other_block : ℕ
+  pub other_cell : ℕ
+  pub one : IsCell c shape first block cell
+  pub other : IsCell c shape second other_block other_cell
+  pub same : address_of c shape first block cell ≡ address_of c shape second other_block other_cell
+  pub apart : ¬ ((first ≡ second) × (block ≡ other_block) × (cell ≡ other_cell))
 
 -- the fault of a shape: the first PLP that is beyond; else the least pair that shares, by its first PLP and then by its second
 abbrev pub Faults : Config → FrameShape → MapFault → Type 0

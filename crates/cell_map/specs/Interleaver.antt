@@ -2,11 +2,12 @@
 use Rattle.std.specs.Prelude.{ℕ, zero, suc, ◌+◌, ◌-◌, ◌*◌, ◌/◌, ◌%◌, List, [], ◌∷◌, ◌++◌, replicate, if◌then◌else◌, nat_lt}
 use Rattle.cell_map.specs.declared.interleaving.TiBlock.{TiBlock}
 
--- the sizes of the TI-blocks into which n blocks are split: TI-blocks of floor(n / length) blocks, then those of one block more
+-- the sizes of the TI-blocks into which n blocks are split, length of them (TIME_IL_LENGTH): TI-blocks of floor(n / length)
+-- blocks, then those of one block more
 abbrev pub sizes_of : ℕ → ℕ → List ℕ
 sizes_of n length = replicate (length - n % length) (n / length) ++ replicate (n % length) (n / length + 1)
 
--- the TI-block of a block, where TI-blocks of these sizes follow so many blocks
+-- the TI-block of a block, if TI-blocks of these sizes follow so many blocks
 abbrev pub ti_block_in : List ℕ → ℕ → ℕ → TiBlock
 ti_block_in [] first block = record { first = first; size = 0 }
 ti_block_in (size ∷ sizes) first block =
@@ -20,7 +21,8 @@ abbrev pub in_ti_block : ℕ → TiBlock → ℕ → ℕ → ℕ
 in_ti_block cells ti_block block cell =
     ti_block.first * cells + cell % (cells / 5) * (5 * ti_block.size) + 5 * (block - ti_block.first) + cell / (cells / 5)
 
--- the position of a cell of a block, of n blocks of so many cells, by the interleaver's length; length 0 leaves the order
+-- the position of a cell of a block, of n blocks of so many cells, by the interleaver's length, which is the number of TI-blocks
+-- (TIME_IL_LENGTH); length 0 leaves the order
 abbrev pub position : ℕ → ℕ → ℕ → ℕ → ℕ → ℕ
 position cells zero n block cell = block * cells + cell
 position cells (suc length) n block cell = in_ti_block cells (ti_block_of n (suc length) block) block cell

@@ -5,7 +5,7 @@ use Rattle.plp_config.specs.Capacity as capacity
 use Rattle.plp_config.specs.Rules as rules
 use Rattle.plp_config.specs.Rules.{AllRules}
 use Rattle.plp_config.specs.declared.config.Config.{Config}
-use Rattle.config_text.specs.ConfigText.{Spells, Refuses, most_bytes}
+use Rattle.config_text.specs.ConfigText.{Spells, Refuses, longest_text}
 use Rattle.config_file.specs.declared.stop.ConfigCause.{ConfigCause}
 use Rattle.config_file.specs.declared.stop.ConfigCause.TheVariants.{Text, Rule}
 use Rattle.config_file.specs.declared.stop.ConfigStop.{ConfigStop}
@@ -15,7 +15,7 @@ use Rattle.desk_io.specs.Opening.{Opened, Unopened}
 
 -- how many bytes of a text are read at most: one more than a text may have
 abbrev pub read_bytes : ℕ
-read_bytes = most_bytes + 1
+read_bytes = longest_text + 1
 
 -- The file was opened and read to its end, or until so many bytes were given, and nothing else was done.
 pub record ReadsText (old new : State) (name : List ℕ) : Type 0 where

@@ -17,7 +17,8 @@ use Rattle.std.proofs.lemmas.List.Sums.{AllPass-from_list_all}
 use Rattle.plp_config.specs.declared.config.Config.{Config}
 use Rattle.config_text.specs.ConfigText.{is_skipped, kept, IsPrintable, canonical_line, canonical_lines, canonical_text}
 use Rattle.config_text.specs.ConfigText.{ReadsLine, ReadsLines, Spells}
-use Rattle.config_text.specs.Fields.{bands, plp_types, rates, modulations, sizes, bits, deletions, Spelling, spelling_of, place_from}
+use Rattle.config_text.specs.Fields.{bands, plp_types, rates, modulations, sizes, bits, deletions, Spelling, spelling_of}
+use Rattle.config_text.specs.Fields.{place_from}
 use Rattle.config_text.specs.Fields.{SpellsValue, SpellsFields, key_at, fields_at, word_of, words_after}
 use Rattle.config_text.specs.Rows.{rows_of}
 use Rattle.config_text.specs.Fields.Spelling.{Number, Word}

@@ -66,18 +66,18 @@ RefusesLine due line why =
     ⊎ (All IsPrintable line × HasKey due line × HasCount due line × FailsFirst (fields_at due) (drop 1 (words_of line)) why)))
 
 -- how many bytes a text has at most
-abbrev pub most_bytes : ℕ
-most_bytes = 65536
+abbrev pub longest_text : ℕ
+longest_text = 65536
 
 -- The text is too long.
 pub record RefusesLength (text : List ℕ) (number : ℕ) (why : TextWhy) : Type 0 where
-  pub long : most_bytes < length text
+  pub long : longest_text < length text
   pub at : number ≡ 0
   pub reason : why ≡ TooLong
 
 -- All lines are read, but some of the first ones do not come.
 pub record RefusesEnd (text : List ℕ) (number : ℕ) (why : TextWhy) : Type 0 where
-  pub fits : length text ≤ most_bytes
+  pub fits : length text ≤ longest_text
   pub few : length (kept (lines text)) < first_lines
   pub rows : List (List ℕ)
   pub reads : ReadsLines 0 (kept (lines text)) rows
@@ -86,7 +86,7 @@ pub record RefusesEnd (text : List ℕ) (number : ℕ) (why : TextWhy) : Type 0 
 
 -- A line is refused for the place at which it is due, and the lines before it are read.
 pub record RefusesAt (text : List ℕ) (number : ℕ) (why : TextWhy) : Type 0 where
-  pub fits : length text ≤ most_bytes
+  pub fits : length text ≤ longest_text
   pub before : List (List ℕ)
   pub line : List ℕ
   pub after : List (List ℕ)
@@ -108,7 +108,7 @@ CausesFault text OutOfMemory = Unit {0}
 
 -- The text spells the configuration.
 pub record Spells (text : List ℕ) (c : Config) : Type 0 where
-  pub fits : length text ≤ most_bytes
+  pub fits : length text ≤ longest_text
   pub reads : ReadsLines 0 (kept (lines text)) (rows_of c)
 
 -- the line that is due behind so many, with these values

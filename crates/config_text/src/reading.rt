@@ -1,7 +1,7 @@
 // The text of a configuration is read.
 ghost use Rattle.std.specs.Prelude.{◌≡◌, ◌≤◌, ◌⊎◌, ◌+◌, ◌-◌, ℕ, length, IfOk, IfErr, OnOk, Ok, Err};
 ghost use Rattle.plp_config.specs.declared.config.Config.{Config};
-ghost use Rattle.config_text.specs.ConfigText.{Spells, Refuses, CausesFault, first_lines, most_bytes, is_skipped};
+ghost use Rattle.config_text.specs.ConfigText.{Spells, Refuses, CausesFault, first_lines, longest_text, is_skipped};
 ghost use Rattle.config_text.specs.Drafts.{Takes, RefusesDue};
 ghost use Rattle.config_text.specs.declared.fault.TextFault.{TextFault};
 ghost use Rattle.config_text.specs.declared.fault.TextWhy.{TextWhy};
@@ -46,7 +46,7 @@ fn take_line(config: &mut Config, due: usize, number: u32, line: &[u8]) -> Resul
 
 // The same, for a text that is not too long.
 fn read_lines(alloc: Global, text: &[u8]) -> Result<Config, TextFault>
-    requires { length text.now ≤ most_bytes }
+    requires { length text.now ≤ longest_text }
     ensures ok { IfOk result (Spells text.now) }
     ensures err { IfErr result (CausesFault text.now) }
 {

@@ -35,7 +35,7 @@ pub struct ReadAhead {
 impl Model for ReadAhead {
     ghost use Rattle.std.specs.Prelude.{◌≤◌, ◌+◌, length};
     ghost use Rattle.desk_io.specs.Codes.{reading_code};
-    ghost use Rattle.desk_io.specs.Reading.{Reading, most_bytes};
+    ghost use Rattle.desk_io.specs.Reading.{Reading, longest_file};
 
     ghost Value = { Reading };
 
@@ -43,14 +43,14 @@ impl Model for ReadAhead {
 
     ghost view = { λ r. record { handle = r.handle; taken = r.taken; waiting = r.input; ended = r.ended } };
 
-    ghost invariant = { λ r. r.taken + length r.input ≤ most_bytes };
+    ghost invariant = { λ r. r.taken + length r.input ≤ longest_file };
 }
 
 impl ReadAhead {
     ghost use Rattle.std.specs.Prelude.{◌≡◌, ◌<◌, ◌≤◌, ◌+◌, ℕ, [], true, false, length, drop, IfOk, IfErr, OnOk, IsTrue};
     ghost use Rattle.ports.specs.Desk.{SameCounts};
     ghost use Rattle.desk_io.specs.Ahead.{IsAtEnd};
-    ghost use Rattle.desk_io.specs.Reading.{given_of, most_bytes, ReadsOn, TakesNone, StopsReading};
+    ghost use Rattle.desk_io.specs.Reading.{given_of, longest_file, ReadsOn, TakesNone, StopsReading};
 
     /// A reader of nothing, and its memory. Its one refusal is want of memory.
     pub fn open(alloc: Global) -> Result<ReadAhead, OutOfMemory>
@@ -103,14 +103,14 @@ impl ReadAhead {
         requires opened { self.old.handle < length (D.state desk.old).opened }
         requires within { (least ≤ most) × (least ≤ LARGEST) }
         requires less { length self.old.waiting < least }
-        requires short { given_of self.old < most_bytes }
+        requires short { given_of self.old < longest_file }
         ensures reads { ReadsOn (D.state desk.old) (D.state desk.new) self.old self.new }
         ensures none { TakesNone (D.state desk.old) (D.state desk.new) self.old self.new }
         ensures count { IfOk result (λ n. length self.new.waiting ≡ length self.old.waiting + n) }
         ensures few { length self.new.waiting ≤ most }
         ensures end { IfOk result (λ n. n ≡ 0 → IsAtEnd (D.state desk.new) self.old.handle) }
         ensures counts { OnOk result (SameCounts (D.state desk.old) (D.state desk.new)) }
-        ensures short { OnOk result (given_of self.new < most_bytes) }
+        ensures short { OnOk result (given_of self.new < longest_file) }
         ensures err { IfErr result (StopsReading (D.state desk.old) (D.state desk.new) self.new least) }
     {
         let len = self.input.len() as u64;
@@ -135,7 +135,7 @@ impl ReadAhead {
     ) -> Result<bool, ReadStop>
         requires opened { self.old.handle < length (D.state desk.old).opened }
         requires within { (least ≤ most) × (least ≤ LARGEST) }
-        requires short { given_of self.old < most_bytes }
+        requires short { given_of self.old < longest_file }
         ensures reads { ReadsOn (D.state desk.old) (D.state desk.new) self.old self.new }
         ensures none { TakesNone (D.state desk.old) (D.state desk.new) self.old self.new }
         ensures limit { (limit : ℕ) → given_of self.old ≤ limit → self.old.taken + most ≤ limit → given_of self.new ≤ limit }
@@ -143,7 +143,7 @@ impl ReadAhead {
         ensures end { IfOk result (λ full. full ≡ false
             → (length self.new.waiting < least) × IsAtEnd (D.state desk.new) self.old.handle) }
         ensures counts { OnOk result (SameCounts (D.state desk.old) (D.state desk.new)) }
-        ensures short { OnOk result (given_of self.new < most_bytes) }
+        ensures short { OnOk result (given_of self.new < longest_file) }
         ensures err { IfErr result (StopsReading (D.state desk.old) (D.state desk.new) self.new least) }
     {
         while self.input.len() < least {

@@ -1,7 +1,7 @@
 // Files are small: what a call must give can be seen. Each call of a desk stands in a function of its own that says little of it,
 // since a function that makes several is proved with all that each of them promises, which takes minutes.
 ghost use Rattle.std.specs.Prelude.{◌<◌, ◌≤◌, ◌≡◌, [], length, IfOk, IfSome};
-ghost use Rattle.desk_io.specs.Reading.{given_of, most_bytes};
+ghost use Rattle.desk_io.specs.Reading.{given_of, longest_file};
 
 use crate::{Input, ReadAhead, write_all};
 use bit_slice::OutOfMemory;
@@ -47,10 +47,10 @@ fn read_until(
 ) -> Option<bool>
     requires opened { reader.old.handle < length desk.old.state.opened }
     requires within { (least ≤ most) × (least ≤ LARGEST) }
-    requires short { given_of reader.old < most_bytes }
+    requires short { given_of reader.old < longest_file }
     ensures opened { length desk.new.state.opened ≡ length desk.old.state.opened }
     ensures handle { reader.new.handle ≡ reader.old.handle }
-    ensures short { IfSome result (λ _. given_of reader.new < most_bytes) }
+    ensures short { IfSome result (λ _. given_of reader.new < longest_file) }
 {
     reader.read_until(desk, least, most).ok()
 }
@@ -80,7 +80,7 @@ struct Reading {
     reader: ReadAhead,
     ghost opened: { handle < length desk.state.opened },
     ghost same: { reader.handle ≡ handle },
-    ghost short: { given_of reader < most_bytes },
+    ghost short: { given_of reader < longest_file },
 }
 
 impl Reading {

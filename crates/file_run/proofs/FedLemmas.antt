@@ -6,7 +6,7 @@ use Rattle.std.specs.List.{sum_by}
 use Rattle.std.proofs.lemmas.List.{nil_from_length, length-set}
 use Rattle.std.proofs.lemmas.List.Sums.{sum_by-set}
 use Rattle.ports.specs.Desk.{State, SameCounts}
-use Rattle.desk_io.specs.Reading.{Reading, given_of, rest_of, spare, most_bytes, ReadsOn, TakesNone, StopsReading}
+use Rattle.desk_io.specs.Reading.{Reading, given_of, rest_of, spare, longest_file, ReadsOn, TakesNone, StopsReading}
 use Rattle.desk_io.specs.declared.ahead.ReadStop.{ReadStop}
 use Rattle.desk_io.specs.declared.ahead.ReadStop.TheVariants as stop
 use Rattle.file_run.specs.Events.{Event, Fed, Ended, Gave, fed, has_ended, gave}
@@ -98,7 +98,7 @@ ended_here (Gave bytes) input count o n was is events t m h = absurd t
 pub runs_fed : {A : Type 0} (Becomes : A → List Event → A → Type 0) (m n : A) (b : Start) (old new : State)
     (readings : List Reading) (input : ℕ) (is : Reading) (out : ℕ) (reach later : ℕ → ℕ) (events : List Event)
     → input < length readings → Runs b old readings out reach events → ReadsOn old new (reading_at readings input) is
-    → SameCounts old new → given_of is < most_bytes → given_of is ≤ later input
+    → SameCounts old new → given_of is < longest_file → given_of is ≤ later input
     → ((other : ℕ) → reach other ≤ later other) → (f : Feeds Becomes m n old new (reading_at readings input) is input)
     → Runs b new (slice_set readings input is) out later (events ++ f.event ∷ [])
 runs_fed Becomes m n b old new readings input is out reach later events lt r on calm small near rises f = record {
@@ -107,7 +107,7 @@ runs_fed Becomes m n b old new readings input is out reach later events lt r on 
       (sym (gives_none f.event input f.count _ _ events f.is_taken))
       (read_on b old new readings input is out (gave events) lt r.reached on);
   counts = calm ∙ r.counts;
-  short = each_reader (λ k x. given_of x < most_bytes) readings input is lt small (λ other inside differ. r.short other inside);
+  short = each_reader (λ k x. given_of x < longest_file) readings input is lt small (λ other inside differ. r.short other inside);
   taken = each_reader (λ k x. x.taken ≡ length (fed k (events ++ f.event ∷ []))) readings input is lt
       (f.taken ∙ ap (λ (k : ℕ). k + f.count) (r.taken input lt) ∙ sym (fed_here f.event input f.count _ _ events f.is_taken))
       (λ other inside differ. r.taken other inside
@@ -141,12 +141,12 @@ stands_unfed : {A : Type 0} (Becomes : List Event → A → Type 0) (m : A) (rea
     (readings : List Reading) (input : ℕ) (is : Reading) (out : ℕ) (events : List Event)
     → input < length readings → Runs b old readings out (reach m) events → Becomes events m
     → ReadsOn old new (reading_at readings input) is → TakesNone old new (reading_at readings input) is
-    → given_of is ≤ most_bytes → given_of is ≤ reach m input
+    → given_of is ≤ longest_file → given_of is ≤ reach m input
     → Stands b.desk new b.out b.ins (reach m) (λ events. Becomes events m) HoldsAll
 stands_unfed Becomes m reach b old new readings input is out events lt r came on none small near =
     stands_by b new (slice_set readings input is) out (gave events) (reach m) events (λ events. Becomes events m) HoldsAll
     (read_on b old new readings input is out (gave events) lt r.reached on) refl came
-    (each_reader (λ k x. given_of x ≤ most_bytes) readings input is lt small
+    (each_reader (λ k x. given_of x ≤ longest_file) readings input is lt small
     (λ other inside differ. let s = r.short other inside in omega (arith, s)))
     (each_reader (λ k x. x.taken ≡ length (fed k events)) readings input is lt (none.taken ∙ r.taken input lt)
     (λ other inside differ. r.taken other inside))
@@ -206,7 +206,7 @@ stops_unfed Becomes m reach next b old new readings input least most is out even
           (let u = untaken readings input (length (fed input events)) is lt (none.taken ∙ r.taken input lt) in let w = s.1 in
               omega (arith, u, w)),
         );
-    short = all_short (slice_set readings input is) (each_reader (λ k x. given_of x < most_bytes) readings input is lt s.0
+    short = all_short (slice_set readings input is) (each_reader (λ k x. given_of x < longest_file) readings input is lt s.0
         (λ other inside differ. r.short other inside));
   }),
 )

@@ -7,7 +7,7 @@ use Rattle.std.proofs.lemmas.Bool.{cases_eq}
 use Rattle.std.proofs.lemmas.List.{length-set, length-map, map-set, get_or-set_same, get_or-set_other, get_or-append-add}
 use Rattle.std.proofs.lemmas.List.{set-append_right, get_or-map}
 use Rattle.ports.specs.Desk.{State, Held, IsApart, SameCounts, out_name, left_of, written_of, bytes_of}
-use Rattle.desk_io.specs.Reading.{Reading, given_of, most_bytes, ReadsOn}
+use Rattle.desk_io.specs.Reading.{Reading, given_of, longest_file, ReadsOn}
 use Rattle.desk_io.specs.Writing.{OnlyOut, Appends}
 use Rattle.file_run.specs.Events.{Event, fed, has_ended, gave, OnlyGave}
 use Rattle.file_run.specs.FileRun.{AreApart, file_at, OtherFiles, Works, IsFed, AreFed, Stands, HoldsAll, AllShort, StopsWriting}
@@ -221,7 +221,7 @@ place_at readings input lt = get_or-map given_of readings input no_reading 0 lt
 unfoldable pub stands_by : (b : Start) (now : State) (readings : List Reading) (out : ℕ) (bytes : List ℕ) (reach : ℕ → ℕ)
     (events : List Event) (Came : List Event → Type 0) (Holds : List Event → List ℕ → Type 0)
     → Reached b now readings out bytes → Holds events bytes → Came events
-    → ((input : ℕ) → input < length readings → given_of (reading_at readings input) ≤ most_bytes)
+    → ((input : ℕ) → input < length readings → given_of (reading_at readings input) ≤ longest_file)
     → ((input : ℕ) → input < length readings → (reading_at readings input).taken ≡ length (fed input events))
     → ((input : ℕ) → input < length readings → given_of (reading_at readings input) ≤ reach input)
     → ((h : Held) → b.desk.held ≡ Some h → Relates b h now readings events)
@@ -266,7 +266,8 @@ read_same file o p taken more ended now e f h r =
 
 -- the places of readers of which each is short
 pub all_short : (readings : List Reading)
-    → ((input : ℕ) → input < length readings → given_of (reading_at readings input) < most_bytes) → AllShort (places_of readings)
+    → ((input : ℕ) → input < length readings → given_of (reading_at readings input) < longest_file)
+    → AllShort (places_of readings)
 all_short readings short input lt =
     let inside : input < length readings = let n = length-map readings given_of in omega (arith, lt, n) in
     let p = place_at readings input inside in let s = short input inside in omega (arith, p, s)

@@ -6,7 +6,7 @@ use Rattle.std.proofs.lemmas.List.{get_or_default}
 use Rattle.ports.specs.Desk.{State, SameCounts}
 use Rattle.desk_io.specs.Faults.{WritesFail}
 use Rattle.desk_io.specs.Laws.{CreatesEmpty}
-use Rattle.desk_io.specs.Reading.{Reading, given_of, most_bytes, ReadsOn, TakesNone, StopsReading}
+use Rattle.desk_io.specs.Reading.{Reading, given_of, longest_file, ReadsOn, TakesNone, StopsReading}
 use Rattle.desk_io.specs.declared.ahead.ReadStop.{ReadStop}
 use Rattle.file_run.specs.Events.{Event, fed, has_ended}
 use Rattle.file_run.specs.FileRun.{AreApart, FailsToCreateOutput, StopsWriting, RunsAll, Stops}
@@ -68,7 +68,7 @@ pub record IsReadOn (old new : State) (was is : Reading) (most : ℕ) : Type 0 w
 
 pub running_fed : {A : Type 0} (Becomes : A → List Event → A → Type 0) (start m n : A) (reach : A → ℕ → ℕ) (b : Start)
     (old new : State) (readings : List Reading) (out : ℕ) (input most : ℕ) (was is d : Reading) → input < length readings
-    → was ≡ slice_index_or readings input d → IsReadOn old new was is most → SameCounts old new → given_of is < most_bytes
+    → was ≡ slice_index_or readings input d → IsReadOn old new was is most → SameCounts old new → given_of is < longest_file
     → ((other : ℕ) → reach m other ≤ reach n other) → Feeds Becomes m n old new was is input
     → (r : IsRunning (Becomes start) reach b old m readings out) → length (fed input r.events) + most ≤ reach m input
     → IsRunning (Becomes start) reach b new n (slice_set readings input is) out

@@ -5,7 +5,7 @@ use Rattle.std.specs.Prelude.{◌⊎◌, IsSome, max, option_map, option_and_the
 use Rattle.std.specs.FinMap.{get}
 use Rattle.terms.proofs.OptionLemmas.{append-none, was_some}
 use Rattle.ports.specs.Desk.{State, Keeps, Says, Opens, left_of, bytes_of}
-use Rattle.desk_io.specs.Reading.{Reading, given_of, rest_of, ReadsOn, TakesNone, most_bytes}
+use Rattle.desk_io.specs.Reading.{Reading, given_of, rest_of, ReadsOn, TakesNone, longest_file}
 use Rattle.file_run.specs.Events.{Event, Gave, fed, has_ended, gave}
 use Rattle.file_run.specs.FileRun.{IsFed}
 use Rattle.file_run.specs.Running.{IsTaken, Feeds, Gathers, reading_from}
@@ -280,7 +280,7 @@ place_within Came next start now name machine r page t =
 
 -- how far a file that gave too many bytes was read
 pub reads_far : {A : Type 0} (next : A → Step) (new old : A) (r s : Reading) (input least most : ℕ) → new ≡ old
-    → next old ≡ Read input least most → input ≡ 0 → s.taken ≡ r.taken → given_of s ≡ most_bytes → given_of r < most_bytes
+    → next old ≡ Read input least most → input ≡ 0 → s.taken ≡ r.taken → given_of s ≡ longest_file → given_of r < longest_file
     → ((limit : ℕ) → given_of r ≤ limit → r.taken + most ≤ limit → given_of s ≤ limit) → Reaches (next new) 0 (length s.waiting)
 reads_far next new old r s input least most same wants zero taken long short limit =
     let top = limit (max (given_of r) (r.taken + most)) (omega arith) (omega arith) in

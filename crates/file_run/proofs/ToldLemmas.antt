@@ -5,7 +5,7 @@ use Rattle.ports.specs.declared.counts.Counts.{Counts}
 use Rattle.ports.specs.Counts.{Rose}
 use Rattle.ports.specs.Desk.{State, SameCounts, Keeps}
 use Rattle.desk_io.specs.Faults.{ReadsFail, WritesFail}
-use Rattle.desk_io.specs.Reading.{Reading, given_of, most_bytes}
+use Rattle.desk_io.specs.Reading.{Reading, given_of, longest_file}
 use Rattle.file_run.specs.Events.{Event, fed}
 use Rattle.file_run.specs.Steps.{FallsShort}
 use Rattle.file_run.specs.Telling.{Reaches, Tells, TellsAll, TellsTooMuch, ReadsFailFirst, StopsTelling}
@@ -64,7 +64,7 @@ stopped Came next start new name machine result = IfErr result (StopsTelling Cam
 -- what was left could not be said
 lost_last : {A : Type 0} (Came : List Event → A → Type 0) (next : A → Step) (start old new : State) (name : List ℕ) (machine : A)
     (r : Reading) (page : List ℕ) → Telling Came next start old name machine r page → SameCounts start old
-    → given_of r ≤ most_bytes
+    → given_of r ≤ longest_file
     → Keeps old new → WritesFail old new → page ≢ [] → StopsTelling Came next start new name machine WriteFault
 lost_last Came next start old new name machine r page t calm few keeps lost some = (
   writes_fail start old new calm lost,
@@ -126,12 +126,12 @@ told_at Came next start now name machine r most same t =
 
 -- a run over a file that is too long
 too_much : {A : Type 0} (Came : List Event → A → Type 0) (next : A → Step) (start now : State) (name : List ℕ) (machine : A)
-    (r : Reading) → given_of r ≡ most_bytes → (t : Telling Came next start now name machine r [])
+    (r : Reading) → given_of r ≡ longest_file → (t : Telling Came next start now name machine r [])
     → Reaches (next machine) 0 (length r.waiting) → SameCounts start now → TellsTooMuch Came next start now name machine
 unfolding tells_of
 too_much Came next start now name machine r same t wants calm =
-    let told : (x : Tells Came next start now name machine most_bytes []) × (x.events ≡ t.events) =
-    told_at Came next start now name machine r most_bytes same t in
+    let told : (x : Tells Came next start now name machine longest_file []) × (x.events ≡ t.events) =
+    told_at Came next start now name machine r longest_file same t in
     record {
       tells = told.0;
       wants = subst (λ (n : ℕ). Reaches (next machine) 0 n) (waits Came next start now name machine r [] t

@@ -4,7 +4,7 @@ use Rattle.std.specs.Prelude.{slice_index_or, Option, None, Some, IsSome, IfSome
 use Rattle.std.specs.FinMap.{get}
 use Rattle.ports.specs.Desk.{State, Held, SameCounts, bytes_of}
 use Rattle.desk_io.specs.Faults.{ReadsFail, WritesFail}
-use Rattle.desk_io.specs.Reading.{most_bytes}
+use Rattle.desk_io.specs.Reading.{longest_file}
 use Rattle.file_run.specs.Events.{Event, fed, has_ended, gave, OnlyGave}
 use Rattle.file_run.specs.Steps.{Wants, FallsShort}
 use Rattle.file_run.specs.declared.machine.Step.{Step}
@@ -42,7 +42,7 @@ AreStarts places = (input : ℕ) → input < length places → slice_index place
 
 -- Each place is below the limit.
 abbrev pub AllShort : List ℕ → Type 0
-AllShort places = (input : ℕ) → input < length places → slice_index places input < most_bytes
+AllShort places = (input : ℕ) → input < length places → slice_index places input < longest_file
 
 -- So many inputs were opened, in turn, and nothing was read.
 pub record OpensInputs (old new : State) (ins : List (List ℕ)) (count : ℕ) : Type 0 where
@@ -102,7 +102,7 @@ pub record Stands (old new : State) (out : List ℕ) (ins : List (List ℕ)) (re
   pub places : List ℕ
   pub works : Works old new out ins places (λ h bytes. Holds events bytes)
   pub within : (input : ℕ) → input < length ins → slice_index places input ≤ reach input
-  pub short : (input : ℕ) → input < length ins → slice_index places input ≤ most_bytes
+  pub short : (input : ℕ) → input < length ins → slice_index places input ≤ longest_file
   pub present : IfSome old.held (λ h. (input : ℕ) → input < length ins → IsSome (get h.files (slice_index_or ins input [])))
   pub inputs : IfSome old.held (λ h. AreFed (length ins) (file_at h ins) places events)
 
@@ -123,7 +123,7 @@ pub record GivesTooMuch (old new : State) (out : List ℕ) (ins : List (List ℕ
   pub stands : Stands old new out ins reach Came HoldsAll
   pub place : input < length ins
   pub wants : Wants next input
-  pub gave : slice_index stands.places input ≡ most_bytes
+  pub gave : slice_index stands.places input ≡ longest_file
   pub counts : SameCounts old new
 
 -- An input, of which the machine wants more than was read, could not be read on. All that was given is written.
@@ -167,5 +167,5 @@ Writes old new name out place Has = Works old new out (name ∷ []) (place ∷ [
 
 -- It was read to its end.
 abbrev pub ReadsAll : State → List ℕ → ℕ → Type 0
-ReadsAll old name place = (place < most_bytes)
+ReadsAll old name place = (place < longest_file)
     × IfSome old.held (λ h. (IsSome (get h.files name)) × (place ≡ length (bytes_of h.files name)))

@@ -4,7 +4,7 @@ use Rattle.std.specs.Prelude.{None, Some, IsSome, IfSome, option_map}
 use Rattle.std.specs.declared.option.Option.{Option}
 use Rattle.std.specs.FinMap.{get}
 use Rattle.ports.specs.Desk.{State, Held, SameCounts, Creates, left_of, out_name}
-use Rattle.desk_io.specs.Reading.{Reading, given_of, rest_of, most_bytes}
+use Rattle.desk_io.specs.Reading.{Reading, given_of, rest_of, longest_file}
 use Rattle.desk_io.specs.declared.ahead.ReadStop.{ReadStop}
 use Rattle.desk_io.specs.declared.ahead.ReadStop.TheVariants as stop
 use Rattle.desk_io.specs.Writing.{Appends, AppendsFront}
@@ -76,7 +76,7 @@ pub record Runs (b : Start) (now : State) (readings : List Reading) (out : ℕ) 
   pub apart : AreApart b.out b.ins
   pub reached : Reached b now readings out (gave events)
   pub counts : SameCounts b.desk now
-  pub short : (input : ℕ) → input < length readings → given_of (reading_at readings input) < most_bytes
+  pub short : (input : ℕ) → input < length readings → given_of (reading_at readings input) < longest_file
   pub taken : (input : ℕ) → input < length readings → (reading_at readings input).taken ≡ length (fed input events)
   pub ended : (input : ℕ) → input < length readings → (reading_at readings input).ended ≡ has_ended input events
   pub within : (input : ℕ) → input < length readings → given_of (reading_at readings input) ≤ reach input

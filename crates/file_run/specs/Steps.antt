@@ -1,7 +1,7 @@
 -- What a machine may want.
 use Rattle.std.specs.Prelude.{◌<◌, ◌≤◌, ◌≡◌, ◌+◌, ℕ, false, List, length}
 use Rattle.t2mi_packet.specs.declared.reading.TheConstants.{LARGEST}
-use Rattle.desk_io.specs.Reading.{most_bytes}
+use Rattle.desk_io.specs.Reading.{longest_file}
 use Rattle.file_run.specs.Events.{Event, fed, has_ended}
 use Rattle.file_run.specs.declared.machine.Step.{Step}
 use Rattle.file_run.specs.declared.machine.Step.TheVariants.{Read, Give, End}
@@ -44,4 +44,4 @@ pub record HasRoom {A : Type 0} (Becomes : A → List Event → A → Type 0) (m
   pub start : A
   pub events : List Event
   pub came : Becomes start events m
-  pub few : length (fed input events) + count ≤ most_bytes
+  pub few : length (fed input events) + count ≤ longest_file

@@ -4,7 +4,7 @@ use Rattle.ports.specs.Counts.{Rose}
 use Rattle.ports.specs.Desk.{State, SameCounts, bytes_of}
 use Rattle.desk_io.specs.Faults.{ReadsFail, WritesFail}
 use Rattle.desk_io.specs.Opening.{Opened, Unopened}
-use Rattle.desk_io.specs.Reading.{most_bytes}
+use Rattle.desk_io.specs.Reading.{longest_file}
 use Rattle.file_run.specs.Events.{Event, fed, has_ended, gave}
 use Rattle.file_run.specs.FileRun.{IsFed}
 use Rattle.file_run.specs.Steps.{FallsShort}
@@ -39,7 +39,7 @@ pub record TellsAll {A : Type 0} (Came : List Event → A → Type 0) (next : A 
   pub place : ℕ
   pub tells : Tells Came next old new name now place []
   pub end : next now ≡ End
-  pub short : place < most_bytes
+  pub short : place < longest_file
   pub counts : SameCounts old new
 
 -- What is wanted of an input, and read ahead of what is wanted, reaches so far.
@@ -51,8 +51,8 @@ Reaches End input count = ⊥
 -- The file gave as many bytes as none may have, and the machine wants more. All that it gave was said.
 pub record TellsTooMuch {A : Type 0} (Came : List Event → A → Type 0) (next : A → Step) (old new : State) (name : List ℕ)
     (now : A) : Type 0 where
-  pub tells : Tells Came next old new name now most_bytes []
-  pub wants : Reaches (next now) 0 (most_bytes - length (fed 0 tells.events))
+  pub tells : Tells Came next old new name now longest_file []
+  pub wants : Reaches (next now) 0 (longest_file - length (fed 0 tells.events))
   pub counts : SameCounts old new
 
 -- The file could not be read on, and the machine wants more than was read. What it gave was said then, unless that failed too.
@@ -62,7 +62,7 @@ pub record TellsUntilFault {A : Type 0} (Came : List Event → A → Type 0) (ne
   pub unsaid : List ℕ
   pub tells : Tells Came next old new name now place unsaid
   pub wants : FallsShort (next now) 0 (place - length (fed 0 tells.events))
-  pub short : place < most_bytes
+  pub short : place < longest_file
   pub all : ((unsaid ≡ []) × (new.counts.writes ≡ old.counts.writes)) ⊎ Rose old.counts.writes new.counts.writes
 
 -- The count of reading rose, before that of writing did, if it did; that of last lines stayed.
@@ -80,4 +80,4 @@ StopsTelling Came next old new name now (ReadFault input) = (input ≡ 0)
     × ((ReadsFail old new × Unopened old new) ⊎ (ReadsFailFirst old new × TellsUntilFault Came next old new name now))
 StopsTelling Came next old new name now WriteFault =
     WritesFail old new × ((place : ℕ) × (unsaid : List ℕ) × Tells Came next old new name now place unsaid × (unsaid ≢ [])
-    × (place ≤ most_bytes))
+    × (place ≤ longest_file))

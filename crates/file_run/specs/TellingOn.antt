@@ -3,7 +3,7 @@ use Rattle.std.specs.Prelude.{◌≡◌, ◌≢◌, ◌⊎◌, ℕ, ◌<◌, Lis
 use Rattle.std.specs.FinMap.{get}
 use Rattle.ports.specs.Desk.{State, Held, SameCounts, Keeps, Says, bytes_of, with_name}
 use Rattle.desk_io.specs.Faults.{ReadsFail, WritesFail}
-use Rattle.desk_io.specs.Reading.{Reading, given_of, rest_of, most_bytes}
+use Rattle.desk_io.specs.Reading.{Reading, given_of, rest_of, longest_file}
 use Rattle.file_run.specs.Events.{Event, fed, has_ended, gave}
 use Rattle.file_run.specs.Running.{IsRead}
 use Rattle.file_run.specs.Telling.{StartsWith, Reaches}
@@ -47,21 +47,21 @@ pub record HasBegun {A : Type 0} (Becomes : A → List Event → A → Type 0) (
   pub name : List ℕ
   pub telling : Telling (Becomes begin) next start now name machine r page
   pub one : inputs begin ≡ 1
-  pub short : given_of r < most_bytes
+  pub short : given_of r < longest_file
 
 -- The machine has come to its end, and no call failed.
 pub record Finishes {A : Type 0} (next : A → Step) (old new : State) (machine : A) (r : Reading) : Type 0 where
   pub end : next machine ≡ End
-  pub short : given_of r < most_bytes
+  pub short : given_of r < longest_file
   pub counts : SameCounts old new
 
 -- The machine has not come to its end, or not all that it gave could be said, by cause.
 abbrev pub Breaks : {A : Type 0} → (A → Step) → State → State → A → Reading → RunFault → Type 0
-Breaks next old new machine r (TooLong input) = (input ≡ 0) × (given_of r ≡ most_bytes)
+Breaks next old new machine r (TooLong input) = (input ≡ 0) × (given_of r ≡ longest_file)
     × Reaches (next machine) 0 (length r.waiting) × SameCounts old new
-Breaks next old new machine r (ReadFault input) = (input ≡ 0) × (given_of r < most_bytes)
+Breaks next old new machine r (ReadFault input) = (input ≡ 0) × (given_of r < longest_file)
     × FallsShort (next machine) 0 (length r.waiting) × ReadsFail old new
-Breaks next old new machine r WriteFault = (given_of r < most_bytes) × WritesFail old new
+Breaks next old new machine r WriteFault = (given_of r < longest_file) × WritesFail old new
 
 -- What was left on the page was said, or not.
 abbrev pub SaysLeft : State → State → List ℕ → Type 0

@@ -1,7 +1,7 @@
 // Reading what a machine wants.
 ghost use Rattle.std.specs.Prelude.{◌≡◌, ◌<◌, ◌≤◌, ◌+◌, ℕ, length, false, IfErr, OnOk, OnErr};
 ghost use Rattle.ports.specs.Desk.{SameCounts};
-ghost use Rattle.desk_io.specs.Reading.{given_of, spare, most_bytes, ReadsOn, TakesNone, StopsReading};
+ghost use Rattle.desk_io.specs.Reading.{given_of, spare, longest_file, ReadsOn, TakesNone, StopsReading};
 ghost use Rattle.file_run.specs.Running.{Feeds, IsReader};
 
 use crate::machine::{Machine, Step};
@@ -21,18 +21,19 @@ pub fn feed<M: Machine, D: Desk>(
     requires next { M.next machine.old ≡ Step.Read input least most }
     requires within { (least ≤ most) × (least ≤ LARGEST) × (0 < least) }
     requires opened { reader.old.handle < length (D.state desk.old).opened }
-    requires short { given_of reader.old < most_bytes }
+    requires short { given_of reader.old < longest_file }
     requires reader { IsReader M.Becomes machine.old input reader.old }
     requires is_open { reader.old.ended ≡ false }
     ensures reads { ReadsOn (D.state desk.old) (D.state desk.new) reader.old reader.new }
     ensures none { OnErr result (TakesNone (D.state desk.old) (D.state desk.new) reader.old reader.new) }
     ensures machine { OnErr result (machine.new ≡ machine.old) }
-    ensures feeds { OnOk result (Feeds M.Becomes machine.old machine.new (D.state desk.old) (D.state desk.new) reader.old reader.new input) }
+    ensures feeds { OnOk result
+        (Feeds M.Becomes machine.old machine.new (D.state desk.old) (D.state desk.new) reader.old reader.new input) }
     ensures limit { (limit : ℕ) → given_of reader.old ≤ limit → reader.old.taken + most ≤ limit → given_of reader.new ≤ limit }
     ensures fewer { OnOk result (spare reader.new < spare reader.old) }
     ensures reach { (other : ℕ) → M.reach machine.old other ≤ M.reach machine.new other }
     ensures counts { OnOk result (SameCounts (D.state desk.old) (D.state desk.new)) }
-    ensures short { OnOk result (given_of reader.new < most_bytes) }
+    ensures short { OnOk result (given_of reader.new < longest_file) }
     ensures err { IfErr result (StopsReading (D.state desk.old) (D.state desk.new) reader.new least) }
 {
     if reader.read_until(desk, least, most)? {

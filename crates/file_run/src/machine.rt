@@ -46,21 +46,24 @@ pub trait Machine {
     /// What it does next.
     fn step(&self) -> Step
         ensures next { result ≡ next self.now }
-        ensures wanted { (start : Self) (events : List Event) → Becomes start events self.now → IsWanted (inputs start) events (reach self.now) result };
+        ensures wanted { (start : Self) (events : List Event) → Becomes start events self.now
+            → IsWanted (inputs start) events (reach self.now) result };
 
     /// Takes bytes of the input that it wants from the front of these: how many.
     fn feed(&mut self, input: usize, bytes: &[u8]) -> usize
         requires wanted { Suffices (next self.old) input (length bytes.now) }
         requires room { HasRoom Becomes self.old input (length bytes.now) }
         ensures some { (0 < result) × (result ≤ length bytes.now) }
-        ensures becomes { (start : Self) (events : List Event) → Becomes start events self.old → Becomes start (events ++ Fed input (take result bytes.now) ∷ []) self.new }
+        ensures becomes { (start : Self) (events : List Event) → Becomes start events self.old
+            → Becomes start (events ++ Fed input (take result bytes.now) ∷ []) self.new }
         ensures reach { (other : ℕ) → reach self.old other ≤ reach self.new other };
 
     /// The input that it wants has ended behind these bytes, which are fewer than it wants.
     fn end_input(&mut self, input: usize, bytes: &[u8])
         requires wanted { FallsShort (next self.old) input (length bytes.now) }
         requires room { HasRoom Becomes self.old input (length bytes.now) }
-        ensures becomes { (start : Self) (events : List Event) → Becomes start events self.old → Becomes start (events ++ Ended input bytes.now ∷ []) self.new }
+        ensures becomes { (start : Self) (events : List Event) → Becomes start events self.old
+            → Becomes start (events ++ Ended input bytes.now ∷ []) self.new }
         ensures reach { (other : ℕ) → reach self.old other ≤ reach self.new other };
 
     /// Gives the next bytes, to the front of these: how many.
@@ -68,7 +71,8 @@ pub trait Machine {
         requires gives { next self.old ≡ Give }
         requires room { PIECE ≤ length out.old }
         ensures count { result ≤ length out.old }
-        ensures becomes { (start : Self) (events : List Event) → Becomes start events self.old → Becomes start (events ++ Gave (take result out.new) ∷ []) self.new }
+        ensures becomes { (start : Self) (events : List Event) → Becomes start events self.old
+            → Becomes start (events ++ Gave (take result out.new) ∷ []) self.new }
         ensures left { left self.new < left self.old }
         ensures reach { (other : ℕ) → reach self.old other ≤ reach self.new other };
 }

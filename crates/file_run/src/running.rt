@@ -36,9 +36,12 @@ pub fn run<M: Machine, D: Desk>(
     requires inputs { M.inputs machine.old ≡ length ins.now }
     requires start { M.Becomes machine.old [] machine.old }
     requires apart { AreApart out.now ins.now }
-    ensures ok { OnOk result (RunsAll (D.state desk.old) (D.state desk.new) out.now ins.now (M.reach machine.new) (λ events. M.Becomes machine.old events machine.new)) }
+    ensures ok { OnOk result
+        (RunsAll (D.state desk.old) (D.state desk.new) out.now ins.now (M.reach machine.new)
+        (λ events. M.Becomes machine.old events machine.new)) }
     ensures end { OnOk result (M.next machine.new ≡ Step.End) }
-    ensures err { IfErr result (Stops (D.state desk.old) (D.state desk.new) out.now ins.now M.reach M.next (M.Becomes machine.old) machine.new) }
+    ensures err { IfErr result
+        (Stops (D.state desk.old) (D.state desk.new) out.now ins.now M.reach M.next (M.Becomes machine.old) machine.new) }
 {
     creates_law();
     open_files(ins, readers, desk)?;

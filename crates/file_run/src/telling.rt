@@ -51,10 +51,13 @@ fn gather<M: Machine, D: Desk>(
     page: &mut OutBuffer,
     desk: &mut D,
 ) -> Result<(), DeskFault>
-    ensures ok { OnOk result ((begin : M) (start : State) (name : List ℕ) (r : Reading) → Telling (M.Becomes begin) M.next start (D.state desk.old) name machine.old r page.old
+    ensures ok { OnOk result ((begin : M) (start : State) (name : List ℕ) (r : Reading)
+        → Telling (M.Becomes begin) M.next start (D.state desk.old) name machine.old r page.old
         → Telling (M.Becomes begin) M.next start (D.state desk.new) name machine.new r page.new) }
-    ensures err { OnErr result ((begin : M) (start : State) (name : List ℕ) (r : Reading) → Telling (M.Becomes begin) M.next start (D.state desk.old) name machine.old r page.old
-        → (unsaid : List ℕ) × Telling (M.Becomes begin) M.next start (D.state desk.new) name machine.new r unsaid × (unsaid ≢ [])) }
+    ensures err { OnErr result ((begin : M) (start : State) (name : List ℕ) (r : Reading)
+        → Telling (M.Becomes begin) M.next start (D.state desk.old) name machine.old r page.old
+        → (unsaid : List ℕ) × Telling (M.Becomes begin) M.next start (D.state desk.new) name machine.new r unsaid
+        × (unsaid ≢ [])) }
     ensures dry { OnOk result (M.next machine.new ≢ Step.Give) }
     ensures counts { MayFailWriting (D.state desk.old).counts (D.state desk.new).counts result }
 {
@@ -73,11 +76,14 @@ fn tell_on<M: Machine, D: Desk>(
     desk: &mut D,
 ) -> Result<(), RunFault>
     requires begun { HasBegun M.Becomes M.next M.inputs (D.state desk.old) machine.old reader.old page.old }
-    ensures ok { OnOk result ((begin : M) (start : State) (name : List ℕ) → Telling (M.Becomes begin) M.next start (D.state desk.old) name machine.old reader.old page.old
+    ensures ok { OnOk result ((begin : M) (start : State) (name : List ℕ)
+        → Telling (M.Becomes begin) M.next start (D.state desk.old) name machine.old reader.old page.old
         → Telling (M.Becomes begin) M.next start (D.state desk.new) name machine.new reader.new page.new) }
     ensures end { OnOk result (Finishes M.next (D.state desk.old) (D.state desk.new) machine.new reader.new) }
-    ensures err { IfErr result (λ why. (begin : M) (start : State) (name : List ℕ) → Telling (M.Becomes begin) M.next start (D.state desk.old) name machine.old reader.old page.old
-        → (unsaid : List ℕ) × Telling (M.Becomes begin) M.next start (D.state desk.new) name machine.new reader.new unsaid × (why ≢ RunFault.WriteFault → unsaid ≡ page.new) × (why ≡ RunFault.WriteFault → unsaid ≢ [])) }
+    ensures err { IfErr result (λ why. (begin : M) (start : State) (name : List ℕ)
+        → Telling (M.Becomes begin) M.next start (D.state desk.old) name machine.old reader.old page.old
+        → (unsaid : List ℕ) × Telling (M.Becomes begin) M.next start (D.state desk.new) name machine.new reader.new unsaid
+        × (why ≢ RunFault.WriteFault → unsaid ≡ page.new) × (why ≡ RunFault.WriteFault → unsaid ≢ [])) }
     ensures cause { IfErr result (Breaks M.next (D.state desk.old) (D.state desk.new) machine.new reader.new) }
 {
     match gather(machine, page, desk) {
@@ -128,8 +134,10 @@ pub fn tell<M: Machine, D: Desk>(
     requires inputs { M.inputs machine.old ≡ 1 }
     requires start { M.Becomes machine.old [] machine.old }
     requires nothing { page.old ≡ [] }
-    ensures ok { OnOk result (TellsAll (M.Becomes machine.old) M.next (D.state desk.old) (D.state desk.new) name.now machine.new) }
-    ensures err { IfErr result (StopsTelling (M.Becomes machine.old) M.next (D.state desk.old) (D.state desk.new) name.now machine.new) }
+    ensures ok { OnOk result
+        (TellsAll (M.Becomes machine.old) M.next (D.state desk.old) (D.state desk.new) name.now machine.new) }
+    ensures err { IfErr result
+        (StopsTelling (M.Becomes machine.old) M.next (D.state desk.old) (D.state desk.new) name.now machine.new) }
 {
     let Ok(handle) = desk.open(name) else {
         return Err(RunFault::ReadFault { input: 0 });

@@ -116,7 +116,8 @@ waits_three stays count rises join written pre conf c inputs n k all units plan 
     let up = front_rises c inputs (n + 1 + 1 + 1) k (omega (arith, three)) in
     let complete : ℕ = length (complete_units c.pid (front_packets c inputs k)) in
     let wait : length (joined (front_packets c inputs k)) < carried_len complete (joined (front_packets c inputs k)) + 184 =
-    elim (cases_lt (length (joined (front_packets c inputs k))) (carried_len complete (joined (front_packets c inputs k)) + 184)) [
+    elim (cases_lt (length (joined (front_packets c inputs k)))
+    (carried_len complete (joined (front_packets c inputs k)) + 184)) [
       | inl lt ↦ lt
       | inr ge ↦ absurd (let lt = (count c.pid (front_packets c inputs k) complete).1 ge in omega (arith, lt))
     ] in

@@ -12,7 +12,7 @@ use Rattle.t2mi_packet.specs.declared.packet.Body.{Body}
 use Rattle.t2mi_stream.specs.Complete.{complete_of, complete_units}
 use Rattle.t2mi_stream.proofs.CompleteLemmas.{complete_grows}
 use Rattle.t2mi_stream.specs.Events.{PiperEvent, PiperTally, Begun, Piped, Given, Finished, still_begun, tally}
-use Rattle.t2mi_stream.specs.Pipe.{Item, items, joined, units_of, pipe}
+use Rattle.t2mi_stream.specs.Pipe.{JoinedByte, items, joined, units_of, pipe}
 use Rattle.gateway_core.specs.Carried.{Standing, AfterPiece, Carries, AllGone, of_frame}
 use Rattle.gateway_core.specs.Packets.{packet_with, packets_from}
 use Rattle.t2mi_stream.proofs.TallyLemmas.{tally_push, items_append}
@@ -40,11 +40,12 @@ carries_new stands finished c n pid e stood = record {
   were_complete = λ off. omega arith;
 }
 
-fed_on : (fed : List Item) (begun : Bool) (rest : List ℕ) (r : ℕ) → fed ++ items begun rest ≡ (fed ++ items begun (take r rest))
+fed_on : (fed : List JoinedByte) (begun : Bool) (rest : List ℕ) (r : ℕ) → fed ++ items begun rest
+    ≡ (fed ++ items begun (take r rest))
     ++ items (still_begun begun (take r rest)) (drop r rest)
 fed_on fed begun rest r =
     ap (λ (l : List ℕ). fed ++ items begun l) (sym (take-append-drop r rest))
-    ∙ ap (λ (l : List Item). fed ++ l) (items_append begun (take r rest) (drop r rest))
+    ∙ ap (λ (l : List JoinedByte). fed ++ l) (items_append begun (take r rest) (drop r rest))
     ∙ sym (append_assoc fed (items begun (take r rest)) (items (still_begun begun (take r rest)) (drop r rest)))
 
 pub carries_feed : (old new : Standing) (was is : Bool) (rest : List ℕ) (r number : ℕ) (c : Config) (n : ℕ) (left : List Body)
@@ -92,9 +93,9 @@ carries_build old new was now rest bytes bits number c n body left all given off
     ∙ ap (λ p. bytes_of (written_bits p)) (same_packet c number (length h.built) n body h.number_is)) in
     let more : joined (packets_from c 0 (h.built ++ (n, body) ∷ [])) ≡ (tally h.events).fed ++ items true bytes =
     ap joined (packets_push c 0 h.built n body) ∙ flat_map-append (items true) (packets_from c 0 h.built) _
-    ∙ ap (λ (l : List Item). joined (packets_from c 0 h.built) ++ l)
+    ∙ ap (λ (l : List JoinedByte). joined (packets_from c 0 h.built) ++ l)
     (append-nil (items true (bytes_of (written_bits (packet_with c (0 + length h.built) n body)))) ∙ ap (items true) same)
-    ∙ ap (λ (l : List Item). l ++ items true bytes) whole in
+    ∙ ap (λ (l : List JoinedByte). l ++ items true bytes) whole in
     record {
       events = h.events ++ Begun ∷ [];
       stood = step c.pid h.events h.stood;
@@ -115,7 +116,7 @@ packets_append c k (x ∷ xs) ys =
     (packets_append c (k + 1) xs ys ∙ ap (λ (m : ℕ). packets_from c (k + 1) xs ++ packets_from c m ys) (omega arith))
 
 -- the bytes that are not yet fed
-abbrev behind : Bool → List ℕ → Config → ℕ → ℕ → List Body → List (List ℕ) → List Item
+abbrev behind : Bool → List ℕ → Config → ℕ → ℕ → List Body → List (List ℕ) → List JoinedByte
 behind begun rest c k n left more = items begun rest ++ (joined (packets_from c k (of_frame n left)) ++ joined more)
 
 all_items : (stands : Standing) (finished : Bool) (rest : List ℕ) (number : ℕ) (c : Config) (n : ℕ) (left : List Body)
@@ -129,8 +130,8 @@ all_items stands finished rest number c n left all given h more =
     ∙ packets_append c 0 h.built (of_frame n left) in
     flat_map-append (items true) (packets_from c 0 all) more
     ∙ ap (λ (l : List (List ℕ)). joined l ++ joined more) parts
-    ∙ ap (λ (l : List Item). l ++ joined more) (flat_map-append (items true) first second)
-    ∙ ap (λ (l : List Item). (l ++ joined second) ++ joined more) h.fed
+    ∙ ap (λ (l : List JoinedByte). l ++ joined more) (flat_map-append (items true) first second)
+    ∙ ap (λ (l : List JoinedByte). (l ++ joined second) ++ joined more) h.fed
     ∙ append_assoc ((tally h.events).fed ++ items (tally h.events).begun rest) (joined second) (joined more)
     ∙ append_assoc (tally h.events).fed (items (tally h.events).begun rest) (joined second ++ joined more)
 
@@ -140,7 +141,7 @@ gone_none begun rest c k n left more g = rw (g.rest_is, g.left_is, g.more_is) re
 
 pub carries_unit : (old : Standing) (was : Bool) (out rest : List ℕ) (number : ℕ) (c : Config) (n : ℕ) (left : List Body)
     (all : List (ℕ × Body)) (given : ℕ)
-    → ((pid : ℕ) (events : List PiperEvent) → old pid events → (items : List Item) → (was ≡ true → items ≡ [])
+    → ((pid : ℕ) (events : List PiperEvent) → old pid events → (items : List JoinedByte) → (was ≡ true → items ≡ [])
     → slice_get (units_of pid ((tally events).fed ++ items)) (tally events).given ≡ Some out)
     → Carries old was rest number c n left all given → (more : List (List ℕ)) → (was ≡ true → AllGone rest left more)
     → slice_get (pipe c.pid (packets_from c 0 all ++ more)) given ≡ Some out
@@ -148,7 +149,7 @@ carries_unit old was out rest number c n left all given unit h more gone =
     let k = 0 + length h.built in
     let found = unit c.pid h.events h.stood (behind (tally h.events).begun rest c k n left more)
     (λ e. gone_none (tally h.events).begun rest c k n left more (gone e)) in
-    ap (λ (l : List Item). slice_get (units_of c.pid l) given) (all_items old was rest number c n left all given h more)
+    ap (λ (l : List JoinedByte). slice_get (units_of c.pid l) given) (all_items old was rest number c n left all given h more)
     ∙ ap (λ (g : ℕ). slice_get (units_of c.pid ((tally h.events).fed ++ behind (tally h.events).begun rest c k n left more)) g)
     (sym h.units) ∙ found
 
@@ -161,9 +162,9 @@ carries_none old was rest number c n left all given none h gone =
     let nothing : packets_from c 0 all ++ [] ≡ packets_from c 0 all = append-nil (packets_from c 0 all) in
     let whole : joined (packets_from c 0 all) ≡ (tally h.events).fed =
     ap joined (sym nothing) ∙ all_items old was rest number c n left all given h []
-    ∙ ap (λ (l : List Item). (tally h.events).fed ++ l) (gone_none (tally h.events).begun rest c k n left [] gone)
+    ∙ ap (λ (l : List JoinedByte). (tally h.events).fed ++ l) (gone_none (tally h.events).begun rest c k n left [] gone)
     ∙ append-nil (tally h.events).fed in
-    ap (λ (l : List Item). length (units_of c.pid l)) whole ∙ none c.pid h.events h.stood ∙ h.units
+    ap (λ (l : List JoinedByte). length (units_of c.pid l)) whole ∙ none c.pid h.events h.stood ∙ h.units
 
 -- a complete unit of the bytes fed is one of all
 pub carries_complete : (old : Standing) (was : Bool) (rest : List ℕ) (number : ℕ) (c : Config) (n : ℕ) (left : List Body)
@@ -177,13 +178,13 @@ carries_complete old was rest number c n left all given complete h =
     ∙ all_items old was rest number c n left all given h [] in
     let same : length (complete_of c.pid (joined (packets_from c 0 all)))
     ≡ length (complete_of c.pid ((tally h.events).fed ++ more)) =
-    ap (λ (l : List Item). length (complete_of c.pid l)) whole in
+    ap (λ (l : List JoinedByte). length (complete_of c.pid l)) whole in
     let grows = complete_grows c.pid (tally h.events).fed more in
     let lt = complete c.pid h.events h.stood in
     let units = h.units in
     omega (arith, same, grows, lt, units)
 
--- Where all bytes were fed and no unit is complete, all complete units were given.
+-- If all bytes were fed and no unit is complete, all complete units were given.
 pub carries_caught_up : (old : Standing) (was : Bool) (rest : List ℕ) (number : ℕ) (c : Config) (n : ℕ) (left : List Body)
     (all : List (ℕ × Body)) (given : ℕ) → was ≡ false
     → ((pid : ℕ) (events : List PiperEvent) → old pid events
@@ -195,10 +196,10 @@ carries_caught_up old was rest number c n left all given off none h gone =
     let nothing : packets_from c 0 all ++ [] ≡ packets_from c 0 all = append-nil (packets_from c 0 all) in
     let whole : joined (packets_from c 0 all) ≡ (tally h.events).fed =
     ap joined (sym nothing) ∙ all_items old was rest number c n left all given h []
-    ∙ ap (λ (l : List Item). (tally h.events).fed ++ l) (gone_none (tally h.events).begun rest c k n left [] gone)
+    ∙ ap (λ (l : List JoinedByte). (tally h.events).fed ++ l) (gone_none (tally h.events).begun rest c k n left [] gone)
     ∙ append-nil (tally h.events).fed in
     let same : length (complete_of c.pid (joined (packets_from c 0 all))) ≡ length (complete_of c.pid (tally h.events).fed) =
-    ap (λ (l : List Item). length (complete_of c.pid l)) whole in
+    ap (λ (l : List JoinedByte). length (complete_of c.pid l)) whole in
     let few = h.were_complete off in
     let units = h.units in
     elim (cases_lt (tally h.events).given (length (complete_of c.pid (tally h.events).fed))) [
@@ -278,7 +279,7 @@ unit_after old new piece step pid events h =
     (sym h.events_are)) (step pid h.before h.stood)
 
 -- what is known of the units with a piece more is known of those after it
-pub known_after : (old : Standing) (piece : List ℕ) (P : ℕ → List Item → ℕ → Type 0)
+pub known_after : (old : Standing) (piece : List ℕ) (P : ℕ → List JoinedByte → ℕ → Type 0)
     → ((pid : ℕ) (events : List PiperEvent) → old pid events
     → P pid (tally (events ++ Piped piece ∷ [])).fed (tally events).given)
     → (pid : ℕ) (events : List PiperEvent) → AfterPiece old piece pid events → P pid (tally events).fed (tally events).given

@@ -28,7 +28,7 @@ pub finished_when : (finished piper : Bool) → (finished ≡ false → piper �
 finished_when true piper shut e = refl
 finished_when false piper shut e = absurd (let z : false ≡ piper = sym (shut refl) in cc)
 
--- If a unit is at hand where fewer bytes than it has wait, it is not the end.
+-- If a unit is at hand and fewer bytes than it has wait, it is not the end.
 pub going_when : (finished : Bool) (waiting : ℕ) (rest : List ℕ) → (finished ≡ true → rest ≡ []) → waiting < 184
     → true ≡ nat_le 184 (waiting + length rest) → finished ≡ false
 going_when false waiting rest end few ready = refl

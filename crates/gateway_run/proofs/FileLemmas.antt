@@ -134,7 +134,7 @@ continues file packets ended left frame r = record {
   whole = λ on. ap packets_in (r.end on) ∙ nothing_in;
 }
 
--- A bad packet is not wanted where all that was wanted was there.
+-- A bad packet is not wanted if all that was wanted was there.
 pub not_wanted : (file : List ℕ) (packets : List (List ℕ)) (ended : Bool) (left : List ℕ) (slots : ℕ)
     → IsRead file packets ended left → (ended ≡ false → slots ≤ length packets)
     → ¬ (HasBad file × length (packets_in file) < slots)

@@ -118,7 +118,7 @@ wanted_as inputs done c phase frames plp least most e w =
     subst (λ (f : ℕ). CanBeRead inputs done (λ plp. SIZE * slots_by c plp (f * c.ticks)) plp least most)
     (sym (ap (λ (p : Phase). frame_read p frames) e)) w
 
--- Where something is given and no frame begins, units are given.
+-- If something is given and no frame begins, units are given.
 pub giving_at : (g : Gateway) (plp : ℕ) (phase : Phase) → step_of g plp phase ≡ Give → phase ≢ Begins → IsGiving phase
 giving_at g plp Wants gives apart = absurd (let e : step_of g plp Wants ≡ Give = gives in cc)
 giving_at g plp Begins gives apart = absurd (apart refl)

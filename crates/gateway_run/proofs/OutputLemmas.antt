@@ -50,7 +50,7 @@ continue_files c done g place ran h files places are =
     λ plp lt. continues (files plp) (offered plp h.events) (has_ended plp h.events) _ (begun h.events)
     (reads c done g place ran h files places are plp lt)
 
--- Where so much was offered, no bad packet is wanted of so much.
+-- If so much was offered, no bad packet is wanted of so much.
 pub never_wanted : (c : Config) (done : List run.Event) (g : Gateway) (place : Place) (ran : Ran) (h : Holds c done g place ran)
     (files : ℕ → List ℕ) (places : List ℕ) → AreFed (length c.plps) files places done → (plp slots : ℕ) → plp < length c.plps
     → (has_ended plp h.events ≡ false → slots ≤ length (offered plp h.events))

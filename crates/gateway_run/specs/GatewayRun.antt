@@ -14,7 +14,7 @@ use Rattle.t2mi_stream.specs.Pipe.{pipe, carried_len}
 use Rattle.t2mi_stream.specs.Complete.{complete_units}
 use Rattle.gateway_core.specs.Packets.{front_packets, packets_of}
 use Rattle.desk_io.specs.Faults.{ReadsFail, WritesFail}
-use Rattle.desk_io.specs.Reading.{most_bytes}
+use Rattle.desk_io.specs.Reading.{longest_file}
 use Rattle.file_run.specs.FileRun.{file_at, OpensInputs, FailsToCreateOutput, Works, AllShort}
 use Rattle.file_run.specs.declared.stop.RunFault.TheVariants.{TooLong, ReadFault, WriteFault}
 use Rattle.gateway_run.specs.declared.stop.RunStop.{RunStop}
@@ -110,12 +110,12 @@ pub record GivesTooMuch (c : Config) (old new : State) (out : List ℕ) (ins : L
   pub frame : ℕ
   pub works : Works old new out ins places (BeginsUnits c ins)
   pub place : plp < length ins
-  pub gave : slice_index places plp ≡ most_bytes
+  pub gave : slice_index places plp ≡ longest_file
   pub early : frame ≤ MOST_FRAMES
-  pub wants : most_bytes ≤ SIZE * slots_by c plp (frame * c.ticks)
+  pub wants : longest_file ≤ SIZE * slots_by c plp (frame * c.ticks)
   pub no_further : ReadsNoFurther c places frame
   pub counts : SameCounts old new
-  pub long : IfSome old.held (λ h. most_bytes ≤ length (file_at h ins plp))
+  pub long : IfSome old.held (λ h. longest_file ≤ length (file_at h ins plp))
   pub before : IfSome old.held (λ h. MeetsNoneBefore c (file_at h ins) frame plp)
 
 -- This input, of which a frame wants more than was read, could not be read on, and no bad packet was met before. The output is

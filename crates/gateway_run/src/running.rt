@@ -38,7 +38,8 @@ fn run_machine<D: Desk>(
     requires inputs { length ins.now ≡ length machine.old.plan.now.plps }
     requires start { becomes machine.old [] machine.old }
     requires apart { AreApart out.now ins.now }
-    ensures ok { IfOk result (λ ran. RunsAll machine.old.plan.now (D.state desk.old) (D.state desk.new) out.now ins.now ran.frames ran.units) }
+    ensures ok { IfOk result
+        (λ ran. RunsAll machine.old.plan.now (D.state desk.old) (D.state desk.new) out.now ins.now ran.frames ran.units) }
     ensures err { IfErr result (Stops machine.old.plan.now (D.state desk.old) (D.state desk.new) out.now ins.now) }
 {
     events_law();
@@ -61,7 +62,8 @@ pub fn run<D: Desk>(
 ) -> Result<Ran, RunStop>
     requires count { length ins.now ≡ length plan.now.plps }
     requires apart { (plp : ℕ) → plp < length ins.now → slice_index_or ins.now plp [] ≢ out.now }
-    ensures ok { IfOk result (λ ran. RunsAll plan.now (D.state desk.old) (D.state desk.new) out.now ins.now ran.frames ran.units) }
+    ensures ok { IfOk result
+        (λ ran. RunsAll plan.now (D.state desk.old) (D.state desk.new) out.now ins.now ran.frames ran.units) }
     ensures err { IfErr result (Stops plan.now (D.state desk.old) (D.state desk.new) out.now ins.now) }
 {
     let mut readers = open_readers(alloc, ins.len())?;

@@ -87,7 +87,8 @@ pub fn take_packet(
     requires long { SIZE ≤ length bytes.now }
     ensures ready { IsReady gateway.new plan.now result ran }
     ensures read { frame_read result.phase ran.frames ≡ ran.frames }
-    ensures holds { (done : List Event) → Holds plan.now done gateway.old place ran → Holds plan.now (done ++ Fed place.plp (take SIZE bytes.now) ∷ []) gateway.new result ran }
+    ensures holds { (done : List Event) → Holds plan.now done gateway.old place ran
+        → Holds plan.now (done ++ Fed place.plp (take SIZE bytes.now) ∷ []) gateway.new result ran }
 {
     events_law();
     let packet = front_packet(bytes);
@@ -111,7 +112,8 @@ pub fn end_input(
     requires short { length bytes.now < SIZE }
     ensures ready { IsReady gateway.new plan.now result ran }
     ensures read { frame_read result.phase ran.frames ≡ ran.frames }
-    ensures holds { (done : List Event) → Holds plan.now done gateway.old place ran → Holds plan.now (done ++ Ended place.plp bytes.now ∷ []) gateway.new result ran }
+    ensures holds { (done : List Event) → Holds plan.now done gateway.old place ran
+        → Holds plan.now (done ++ Ended place.plp bytes.now ∷ []) gateway.new result ran }
 {
     events_law();
     let rest = bytes.len();
@@ -130,7 +132,8 @@ pub fn begin(gateway: &mut Gateway<'_>, plan: &Plan, place: Place, ran: &mut Ran
     ensures ready { IsReady gateway.new plan.now result ran.new }
     ensures left { left_of gateway.new result.phase ran.new.frames < left_of gateway.old place.phase ran.old.frames }
     ensures read { frame_read result.phase ran.new.frames ≡ ran.old.frames }
-    ensures holds { (done : List Event) → Holds plan.now done gateway.old place ran.old → Holds plan.now done gateway.new result ran.new }
+    ensures holds { (done : List Event) → Holds plan.now done gateway.old place ran.old
+        → Holds plan.now done gateway.new result ran.new }
 {
     not_yet_last();
     front_law();
@@ -183,7 +186,8 @@ pub fn give(
     ensures frames { ran.new.frames ≡ ran.old.frames }
     ensures left { left_of gateway.new place.new.phase ran.new.frames < left_of gateway.old place.old.phase ran.old.frames }
     ensures read { frame_read place.old.phase ran.old.frames ≤ frame_read place.new.phase ran.new.frames }
-    ensures holds { (done : List Event) → Holds plan.now done gateway.old place.old ran.old → Holds plan.now (done ++ Gave (take result unit.new) ∷ []) gateway.new place.new ran.new }
+    ensures holds { (done : List Event) → Holds plan.now done gateway.old place.old ran.old
+        → Holds plan.now (done ++ Gave (take result unit.new) ∷ []) gateway.new place.new ran.new }
 {
     events_law();
     if gateway.next_ts(unit) {

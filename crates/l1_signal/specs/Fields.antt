@@ -30,7 +30,7 @@ field_of (Ignored number width) = record { number = number; width = width; deman
 abbrev pub fields : {A : Type 0} → List (Row A) → List Field
 fields rows = map field_of rows
 
--- their values in order, those of the ignored rows given beside; where none is given, it is 0
+-- their values in order, those of the ignored rows given beside; if none is given, it is 0
 abbrev pub values : {A : Type 0} → List (Row A) → A → List ℕ → List ℕ
 values [] x ignored = []
 values (Told number width demand value ∷ rows) x ignored = value x ∷ values rows x ignored

@@ -12,7 +12,7 @@ use Rattle.plp_config.specs.Laws.{SlotLength, FieldRange}
 use Rattle.plp_config.specs.declared.config.Config.{Config}
 use Rattle.null_delete.specs.Deletion.{kept_slots, packet_at}
 use Rattle.mode_adapt.specs.declared.chain.Chain.{Chain}
-use Rattle.mode_adapt.specs.declared.settings.Settings.{Settings}
+use Rattle.mode_adapt.specs.declared.block_header.Settings.{Settings}
 use Rattle.mode_adapt.specs.Blocks.{rates_of, plp_keeps, plp_string, first_up, with_place, up_with, header_at, block_bits}
 use Rattle.mode_adapt.specs.Pieces.{header_by, first_in, piece_of}
 use Rattle.mode_adapt.specs.Queue.{arrived, sent, sent_before}

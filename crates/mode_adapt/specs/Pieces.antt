@@ -6,7 +6,7 @@ use Rattle.terms.specs.Bits.{bits_of}
 use Rattle.bb_frame.specs.BasebandFrame.{frame_bits}
 use Rattle.bb_frame.specs.declared.header.Header.{Header}
 use Rattle.mode_adapt.specs.Blocks.{up_with}
-use Rattle.mode_adapt.specs.declared.settings.Settings.{Settings}
+use Rattle.mode_adapt.specs.declared.block_header.Settings.{Settings}
 use Rattle.mode_adapt.specs.declared.chain.Chain.{Chain}
 
 -- a header by settings

@@ -10,10 +10,10 @@ ghost use Rattle.ts_packet.specs.declared.sizes.TheConstants.{SIZE};
 ghost use Rattle.mode_adapt.specs.declared.chain.TheConstants.{MOST_SLOTS};
 
 use crate::block::{LONGEST_BLOCK, write_block};
+use crate::block_header::Settings;
 use crate::front::drop_front;
 use crate::laws::{backlog_law, early_fits_law, within_law};
 use crate::matype::deletes;
-use crate::settings::Settings;
 use bb_frame::bit_counts;
 use bit_slice::{FixedBits, OutOfMemory};
 use linked_pool::{Pool, PoolFull, plan_fits_law};

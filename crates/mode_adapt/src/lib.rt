@@ -2,11 +2,11 @@
 #![tactic(auto)]
 
 mod block;
+mod block_header;
 mod chain;
 mod front;
 mod laws;
 mod matype;
-mod settings;
 
 pub use chain::Chain;
 pub use laws::{

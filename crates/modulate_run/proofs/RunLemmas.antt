@@ -17,7 +17,7 @@ use Rattle.frame_groups.specs.declared.waiting.Waiting.{Waiting}
 use Rattle.open_group.specs.Written.{spelled}
 use Rattle.modulator.specs.Laws.{DueFront}
 use Rattle.modulator.specs.StandsFor.{records_due, bytes_due, config_of, fed_of, next_of}
-use Rattle.desk_io.specs.Reading.{most_bytes}
+use Rattle.desk_io.specs.Reading.{longest_file}
 use Rattle.file_run.specs.Events.{Event, fed, has_ended, gave}
 use Rattle.file_run.specs.FileRun as driver
 use Rattle.file_run.specs.FileRun.{file_at, AreFed, IsFed, Works, OpensInputs, Writes, ReadsAll}
@@ -278,7 +278,7 @@ gives_too_much start now old new name out input g =
     let first : input ≡ 0 = let p = g.place in omega (arith, p) in
     let w = wanted now.waiting now.ended input g.wants in
     let all = idle_of start now s.events w.0 w.1 s.came in
-    let most : slice_index s.places 0 ≡ most_bytes = ap (slice_index s.places) (sym first) ∙ g.gave in
+    let most : slice_index s.places 0 ≡ longest_file = ap (slice_index s.places) (sym first) ∙ g.gave in
     let count = s.came.1.count in
     let within = s.within 0 (omega arith) in
     record {

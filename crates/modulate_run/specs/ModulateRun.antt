@@ -10,7 +10,7 @@ use Rattle.frame_groups.specs.Modulated.{FrameRecord}
 use Rattle.open_group.specs.Written.{spelled}
 use Rattle.modulator.specs.StandsFor.{records_due, bytes_due}
 use Rattle.desk_io.specs.Faults.{ReadsFail, WritesFail}
-use Rattle.desk_io.specs.Reading.{most_bytes}
+use Rattle.desk_io.specs.Reading.{longest_file}
 use Rattle.file_run.specs.FileRun.{OpensInputs, FailsToCreateOutput, Writes, ReadsAll}
 use Rattle.file_run.specs.declared.stop.RunFault.TheVariants.{TooLong, ReadFault, WriteFault}
 use Rattle.modulate_run.specs.Counted.{counted}
@@ -59,9 +59,9 @@ pub record HasWritten (c : Config) (taken : ℕ) (file bytes : List ℕ) : Type 
 -- IN gave as many bytes as no file may have. Of these all but as many as are read ahead were taken, at least.
 pub record GivesTooMuch (c : Config) (old new : State) (name out : List ℕ) : Type 0 where
   pub taken : ℕ
-  pub near : most_bytes ≤ taken + read_ahead
-  pub works : Writes old new name out most_bytes (HasWritten c taken)
-  pub long : IfSome old.held (λ h. (taken ≤ most_bytes) × (most_bytes ≤ length (bytes_of h.files name)))
+  pub near : longest_file ≤ taken + read_ahead
+  pub works : Writes old new name out longest_file (HasWritten c taken)
+  pub long : IfSome old.held (λ h. (taken ≤ longest_file) × (longest_file ≤ length (bytes_of h.files name)))
   pub counts : SameCounts old new
 
 -- The records of a stream up to the first whose number none may have, and their bytes.
@@ -77,14 +77,14 @@ pub record HasEarly (c : Config) (file bytes : List ℕ) : Type 0 where
 -- The record waits whose number none may have. Those before it were written.
 pub record MeetsLate (c : Config) (old new : State) (name out : List ℕ) : Type 0 where
   pub place : ℕ
-  pub short : place < most_bytes
+  pub short : place < longest_file
   pub works : Writes old new name out place (HasEarly c)
   pub counts : SameCounts old new
 
 -- IN could not be read on. The records that are due by what was read were written.
 pub record StopsReading (c : Config) (old new : State) (name out : List ℕ) : Type 0 where
   pub place : ℕ
-  pub short : place < most_bytes
+  pub short : place < longest_file
   pub works : Writes old new name out place (HasWritten c place)
 
 -- Of some first records, each of a frame whose number one may have, some bytes were written, but not all; and all that is due by
@@ -102,7 +102,7 @@ pub record HasSome (c : Config) (place : ℕ) (file bytes : List ℕ) : Type 0 w
 -- OUT could not be written on.
 pub record StopsWriting (c : Config) (old new : State) (name out : List ℕ) : Type 0 where
   pub place : ℕ
-  pub short : place < most_bytes
+  pub short : place < longest_file
   pub works : Writes old new name out place (HasSome c place)
 
 -- A run that did not come to its end, by its cause. IN is input 0, the only one.

@@ -27,8 +27,10 @@ fn run_machine<D: Desk>(
     requires input { length ins.now ≡ 1 }
     requires start { becomes machine.old [] machine.old }
     requires apart { AreApart out.now ins.now }
-    ensures ok { IfOk result (RunsAll (config_of machine.old.modulator) (D.state desk.old) (D.state desk.new) (slice_index_or ins.now 0 []) out.now) }
-    ensures err { IfErr result (Stops (config_of machine.old.modulator) (D.state desk.old) (D.state desk.new) (slice_index_or ins.now 0 []) out.now) }
+    ensures ok { IfOk result
+        (RunsAll (config_of machine.old.modulator) (D.state desk.old) (D.state desk.new) (slice_index_or ins.now 0 []) out.now) }
+    ensures err { IfErr result
+        (Stops (config_of machine.old.modulator) (D.state desk.old) (D.state desk.new) (slice_index_or ins.now 0 []) out.now) }
 {
     events_law();
     due_records_law();

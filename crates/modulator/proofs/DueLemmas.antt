@@ -47,7 +47,8 @@ due_follow numbers c false bytes =
 
 -- a record that is muted, or whose group passes
 module _ (c : Config) where
-  right_append : (xs ys : List FrameRecord) → AllByRecursion (IsRight c) xs → AllByRecursion (IsRight c) ys → AllByRecursion (IsRight c) (xs ++ ys)
+  right_append : (xs ys : List FrameRecord) → AllByRecursion (IsRight c) xs → AllByRecursion (IsRight c) ys
+      → AllByRecursion (IsRight c) (xs ++ ys)
   right_append [] ys a b = b
   right_append (x ∷ xs) ys a b = (a.0, right_append xs ys a.1 b)
 
@@ -106,7 +107,8 @@ module _ (c : Config) where
   due_right true ps = modulated_right ps
   due_right false ps = without_right (modulated (rules c) ps) (modulated_right ps)
 
-  right_spelled : RecordSpelled → IsPlan c → HasByteIds c → (xs : List FrameRecord) → AllByRecursion (IsRight c) xs → AreSpelled c xs
+  right_spelled : RecordSpelled → IsPlan c → HasByteIds c → (xs : List FrameRecord) → AllByRecursion (IsRight c) xs
+      → AreSpelled c xs
   right_spelled law plan ids [] h = tt
   right_spelled law plan ids (x ∷ xs) h = (λ small. law c x plan ids small h.0, right_spelled law plan ids xs h.1)
 

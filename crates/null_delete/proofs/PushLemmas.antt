@@ -13,7 +13,7 @@ pub next_none : (on : Bool) → next_dnp on [] ≡ 0
 unfolding next_dnp
 next_none on = run_none _
 
--- What a packet comes to, behind others: it is kept where `keeps`.
+-- What a packet comes to, behind others: it is kept if `keeps`.
 record Comes (on : Bool) (packets : List (List ℕ)) (packet : List ℕ) (deleted : ℕ) (keeps : Bool) : Type 0 where
   pub answer : answer_of on packets packet ≡ cond keeps (Some deleted) None
   pub next : next_dnp on (packets ++ packet ∷ []) ≡ cond keeps 0 (deleted + 1)

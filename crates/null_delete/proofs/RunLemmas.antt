@@ -26,7 +26,7 @@ run_more passes k =
     ∙ ap (take_while passes) (reverse-append (range_with_len 0 k) (k ∷ []))
     ∙ take_while_more passes k (reverse (range_with_len 0 k))
 
--- a run goes on where its last slot passes
+-- a run goes on if its last slot passes
 pub length-run_more : (passes : ℕ → Bool) (k : ℕ) → length (run_before passes (k + 1))
     ≡ cond (passes k) (length (run_before passes k) + 1) 0
 length-run_more passes k =

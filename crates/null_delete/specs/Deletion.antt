@@ -8,8 +8,8 @@ use Rattle.ts_packet.specs.Null.{is_null, null_packet}
 unfoldable pub run_before : (ℕ → Bool) → ℕ → List ℕ
 run_before passes k = take_while passes (reverse (range_with_len 0 k))
 
--- whether the packet in slot k is kept: where deletion is on, if it is not null, or if the longest run of null packets
--- directly before it has a length that is 255 modulo 256
+-- whether the packet in slot k is kept: each one if nothing is deleted, else one that is not null, and one if the longest run of
+-- null packets directly before it has a length that is 255 modulo 256
 abbrev pub is_kept : Bool → (ℕ → Bool) → ℕ → Bool
 is_kept deletes nulls k = if deletes then not (nulls k) || (length (run_before nulls k) % 256 == 255) else true
 

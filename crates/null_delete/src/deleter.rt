@@ -25,7 +25,7 @@ impl Deleter {
         }
     }
 
-    /// Takes the packet of the next slot. Where it is kept the answer is its dnp: the number of packets that were deleted
+    /// Takes the packet of the next slot. If it is kept, the answer is its dnp: the number of packets that were deleted
     /// directly before it.
     #[tactic(auto, unfolding(crate::specs::StandsFor::DeleterStandsFor), using(crate::proofs::PushLemmas::answer_is, crate::proofs::PushLemmas::next_is))]
     pub fn push(&mut self, packet: &TsPacket) -> Option<u8>

@@ -8,7 +8,7 @@ use Rattle.std.proofs.Math.Nat.{mul-le-mul_right}
 use Rattle.plp_config.specs.SlotTime.{slot_start, slot_count, iscr_slot, tick_of_iscr}
 use Rattle.std.specs.Int.{div_ceil}
 use Rattle.plp_config.specs.Laws.{IscrFindsSlot}
-use Rattle.packet_slots.specs.declared.rule.SlotRule.{SlotRule}
+use Rattle.packet_slots.specs.declared.slot_rule.SlotRule.{SlotRule}
 use Rattle.packet_slots.specs.Packets.{slot_of_iscr}
 use Rattle.packet_slots.specs.Sound.{IsSound}
 

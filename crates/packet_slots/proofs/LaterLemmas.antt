@@ -5,7 +5,7 @@ use Rattle.std.proofs.Common.{inr, length-append, length-take, length-drop}
 use Rattle.std.proofs.lemmas.Bool.{cases_lt, cases_eq, both_ways, and_parts, false_from_ne_true, eqb-true}
 use Rattle.std.proofs.lemmas.List.{get_or-take, get_or-drop, drop_more, get_or_append_left, get_or-append_right}
 use Rattle.std.proofs.lemmas.Nat.{mod-mul-add, div-add-mod'}
-use Rattle.packet_slots.specs.declared.rule.SlotRule.{SlotRule}
+use Rattle.packet_slots.specs.declared.slot_rule.SlotRule.{SlotRule}
 use Rattle.packet_slots.specs.declared.mark.Mark.{Mark}
 use Rattle.packet_slots.specs.declared.mark.Mark.TheVariants.{Gap, Inside, Next, Timed}
 use Rattle.packet_slots.specs.Sound.{IsSound}

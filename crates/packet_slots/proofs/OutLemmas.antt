@@ -2,7 +2,7 @@
 use Rattle.std.proofs.Common.{◌≡◌, ℕ, ◌+◌, ◌^◌, ◌<◌, ◌≤◌, true, false, List, [], ◌∷◌, ◌++◌, length, take, Option, None, refl, ap}
 use Rattle.std.proofs.Common.{◌∙◌, sym, subst, arith, append-nil}
 use Rattle.std.specs.Prelude.{IfSome}
-use Rattle.packet_slots.specs.declared.rule.SlotRule.{SlotRule}
+use Rattle.packet_slots.specs.declared.slot_rule.SlotRule.{SlotRule}
 use Rattle.packet_slots.specs.declared.mark.Mark.{Mark}
 use Rattle.packet_slots.specs.declared.assembler.Base.{Base}
 use Rattle.packet_slots.specs.declared.assembler.Found.{Found}

@@ -4,7 +4,7 @@ use Rattle.std.proofs.Common.{◌∙◌, sym, arith, inl, inr, append-nil, appen
 use Rattle.std.specs.Prelude.{nat_lt, if◌then◌else◌}
 use Rattle.std.proofs.lemmas.Bool.{cases_lt, lt-ltb, le-ltb}
 use Rattle.packet_slots.specs.declared.mark.Mark.{Mark}
-use Rattle.packet_slots.specs.declared.rule.SlotRule.{SlotRule}
+use Rattle.packet_slots.specs.declared.slot_rule.SlotRule.{SlotRule}
 use Rattle.packet_slots.specs.Strings.{Item}
 use Rattle.packet_slots.specs.declared.mark.Mark.TheVariants.{Gap, Inside, Next, Timed}
 use Rattle.packet_slots.specs.Packets.{is_one, last_of, no_item, first_item, dnp_of, slot_by, slot_of, with_slot}

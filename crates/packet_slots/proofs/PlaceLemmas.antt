@@ -4,7 +4,7 @@ use Rattle.std.proofs.Common.{Some, None, refl, ap, ◌∙◌, sym, subst, arith
 use Rattle.std.specs.List.{AllByRecursion}
 use Rattle.std.proofs.lemmas.Bool.{cases_lt}
 use Rattle.terms.proofs.AllLemmas.{all_append}
-use Rattle.packet_slots.specs.declared.rule.SlotRule.{SlotRule}
+use Rattle.packet_slots.specs.declared.slot_rule.SlotRule.{SlotRule}
 use Rattle.packet_slots.specs.Strings.{Item}
 use Rattle.packet_slots.specs.Packets.{UserPacket, window, first_item, last_item, last_of, no_item, slot_of, slot_before}
 use Rattle.packet_slots.specs.Packets.{slots_at, with_slot, packets_at, user_packets}

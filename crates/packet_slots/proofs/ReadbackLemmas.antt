@@ -11,7 +11,7 @@ use Rattle.std.proofs.Math.Nat.{mul-le-mul_right}
 use Rattle.ts_packet.specs.Null.{null_packet}
 use Rattle.plp_config.specs.SlotTime.{slot_start, slot_count}
 use Rattle.plp_config.specs.Laws.{CountRises, ReleasedFirst}
-use Rattle.packet_slots.specs.declared.rule.SlotRule.{SlotRule}
+use Rattle.packet_slots.specs.declared.slot_rule.SlotRule.{SlotRule}
 use Rattle.packet_slots.specs.Sound.{IsSound}
 use Rattle.packet_slots.specs.Strings.{Item, Block, gap, items_from, block_items, item_values}
 use Rattle.packet_slots.specs.Packets.{packet_of}

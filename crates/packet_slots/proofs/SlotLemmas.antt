@@ -4,7 +4,7 @@ use Rattle.std.proofs.Common.{Option, None, refl, ap, ap₂, ◌∙◌, sym, ari
 use Rattle.std.proofs.Common.{cond}
 use Rattle.std.proofs.lemmas.Bool.{cases_lt}
 use Rattle.std.proofs.lemmas.List.{take-append-le, drop-append-le, take_all, drop_all}
-use Rattle.packet_slots.specs.declared.rule.SlotRule.{SlotRule}
+use Rattle.packet_slots.specs.declared.slot_rule.SlotRule.{SlotRule}
 use Rattle.packet_slots.specs.Strings.{Item}
 use Rattle.packet_slots.specs.Packets.{UserPacket, is_one, last_item, slot_by, slot_of, dnp_of, first_item, window, latest}
 use Rattle.packet_slots.specs.Packets.{slot_before, slots_at, with_slot, packets_at, user_packets}

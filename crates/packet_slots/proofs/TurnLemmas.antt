@@ -5,7 +5,7 @@ use Rattle.std.proofs.Common.{length-drop, length-take, cond}
 use Rattle.std.proofs.lemmas.Bool.{cases_lt, lt-ltb, le-ltb}
 use Rattle.std.proofs.lemmas.List.{drop-append-le, drop_at, drop_all, drop-drop, take-append-drop}
 use Rattle.packet_slots.specs.declared.mark.Mark.{Mark}
-use Rattle.packet_slots.specs.declared.rule.SlotRule.{SlotRule}
+use Rattle.packet_slots.specs.declared.slot_rule.SlotRule.{SlotRule}
 use Rattle.packet_slots.specs.Strings.{Item, is_start, is_inside}
 use Rattle.packet_slots.specs.declared.mark.Mark.TheVariants.{Gap, Inside, Next, Timed}
 use Rattle.packet_slots.specs.Packets.{UserPacket, is_one, slot_of, slot_before, slots_at, with_slot, user_packets}

@@ -11,7 +11,7 @@ use Rattle.std.proofs.lemmas.Bool.{cases_lt, false_from_ne_true, eqb-true, le-lt
 use Rattle.std.proofs.lemmas.Option.{none-some}
 use Rattle.plp_config.specs.SlotTime.{slot_start, slot_count}
 use Rattle.plp_config.specs.Laws.{CountRises}
-use Rattle.packet_slots.specs.declared.rule.SlotRule.{SlotRule}
+use Rattle.packet_slots.specs.declared.slot_rule.SlotRule.{SlotRule}
 use Rattle.packet_slots.specs.Sound.{IsSound}
 use Rattle.packet_slots.specs.Strings.{Item, item_values}
 use Rattle.packet_slots.specs.Base.{far}

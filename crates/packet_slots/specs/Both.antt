@@ -1,6 +1,6 @@
 -- What an assembler and a window have in common. No public clause cites this module but for `block_of` and `IsPlace`.
 use Rattle.std.specs.Prelude.{◌≡◌, ℕ, ◌-◌, ◌%◌, ◌<◌, ◌≤◌, List, take, Option, Some, None}
-use Rattle.packet_slots.specs.declared.rule.SlotRule.{SlotRule}
+use Rattle.packet_slots.specs.declared.slot_rule.SlotRule.{SlotRule}
 use Rattle.packet_slots.specs.declared.assembler.Assembler.{Assembler}
 use Rattle.packet_slots.specs.declared.block.TakenBlock.{TakenBlock}
 use Rattle.packet_slots.specs.declared.window.SlotWindow.{SlotWindow}

@@ -1,7 +1,7 @@
 -- What a window shows of a string. No public clause cites this module.
 use Rattle.std.specs.Prelude.{◌≡◌, ℕ, ◌-◌, ◌≤◌, ◌<◌, List, map, Option}
 use Rattle.std.specs.List.{range_with_len, AllByRecursion}
-use Rattle.packet_slots.specs.declared.rule.SlotRule.{SlotRule}
+use Rattle.packet_slots.specs.declared.slot_rule.SlotRule.{SlotRule}
 use Rattle.packet_slots.specs.Strings.{Item}
 use Rattle.packet_slots.specs.Packets.{UserPacket, window}
 use Rattle.packet_slots.specs.Readback.{slot_option}

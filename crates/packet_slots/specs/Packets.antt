@@ -4,9 +4,9 @@ use Rattle.std.specs.Prelude.{Option, Some, None, if◌then◌else◌, option_ma
 use Rattle.std.specs.List.{range_with_len, find, list_all}
 use Rattle.ts_packet.specs.declared.sizes.TheConstants.{SIZE, SYNC}
 use Rattle.plp_config.specs.SlotTime.{slot_start, slot_count}
-use Rattle.packet_slots.specs.declared.rule.TheConstants.{ISCR_MODULUS}
+use Rattle.packet_slots.specs.declared.slot_rule.TheConstants.{ISCR_MODULUS}
 use Rattle.packet_slots.specs.declared.mark.Mark.{Mark}
-use Rattle.packet_slots.specs.declared.rule.SlotRule.{SlotRule}
+use Rattle.packet_slots.specs.declared.slot_rule.SlotRule.{SlotRule}
 use Rattle.packet_slots.specs.Strings.{Item, is_start, is_inside}
 use Rattle.packet_slots.specs.declared.mark.Mark.TheVariants.{Gap, Inside, Next, Timed}
 

@@ -3,7 +3,7 @@ use Rattle.std.specs.Prelude.{ℕ, ◌+◌, ◌-◌, ◌*◌, ◌==◌, ◌&&◌
 use Rattle.std.specs.List.{find, filter}
 use Rattle.ts_packet.specs.Null.{null_packet}
 use Rattle.plp_config.specs.SlotTime.{slot_start}
-use Rattle.packet_slots.specs.declared.rule.SlotRule.{SlotRule}
+use Rattle.packet_slots.specs.declared.slot_rule.SlotRule.{SlotRule}
 use Rattle.packet_slots.specs.Packets.{packet_of}
 use Rattle.packet_slots.specs.Times.{delay_of, over_after}
 use Rattle.packet_slots.specs.Strings.{Item, item_values}

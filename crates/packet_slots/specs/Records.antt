@@ -1,7 +1,7 @@
 -- What a PLP gets of the records of successive frames.
 use Rattle.std.specs.Prelude.{ℕ, ◌+◌, ◌-◌, List, [], ◌∷◌, ◌++◌, length, map, Option, Some, None}
 use Rattle.std.specs.List.{range_with_len, flat_map}
-use Rattle.packet_slots.specs.declared.rule.SlotRule.{SlotRule}
+use Rattle.packet_slots.specs.declared.slot_rule.SlotRule.{SlotRule}
 use Rattle.packet_slots.specs.Strings.{Item, Block, block_items, gap}
 use Rattle.packet_slots.specs.Readback.{slot_packet}
 use Rattle.packet_slots.specs.Times.{over_after, due_after}

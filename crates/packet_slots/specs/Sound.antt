@@ -1,6 +1,6 @@
 -- The ranges of a slot rule's numbers.
 use Rattle.std.specs.Prelude.{◌^◌, ◌<◌, ◌≤◌}
-use Rattle.packet_slots.specs.declared.rule.SlotRule.{SlotRule}
+use Rattle.packet_slots.specs.declared.slot_rule.SlotRule.{SlotRule}
 
 -- A slot lasts a tick or more, and a frame fewer than 2^22.
 pub record IsSound (r : SlotRule) : Type 0 where

@@ -2,7 +2,7 @@
 -- end.
 use Rattle.std.specs.Prelude.{ℕ, ◌+◌, ◌-◌, ◌/◌, ◌%◌, ◌==◌, ◌||◌, nat_lt, Bool, true, false, List, [], ◌∷◌, length, map, Option}
 use Rattle.std.specs.Prelude.{Some, None, if◌then◌else◌}
-use Rattle.packet_slots.specs.declared.rule.TheConstants.{ISCR_MODULUS}
+use Rattle.packet_slots.specs.declared.slot_rule.TheConstants.{ISCR_MODULUS}
 use Rattle.packet_slots.specs.declared.mark.Mark.{Mark}
 use Rattle.packet_slots.specs.declared.mark.Mark.TheVariants.{Gap, Inside, Next, Timed}
 

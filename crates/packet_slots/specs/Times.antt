@@ -1,7 +1,7 @@
 -- Slots by frames.
 use Rattle.std.specs.Prelude.{ℕ, ◌*◌}
 use Rattle.plp_config.specs.SlotTime.{slot_count, released_count, delay_ticks}
-use Rattle.packet_slots.specs.declared.rule.SlotRule.{SlotRule}
+use Rattle.packet_slots.specs.declared.slot_rule.SlotRule.{SlotRule}
 
 -- the constant delay of a slot, in ticks
 abbrev pub delay_of : SlotRule → ℕ

@@ -2,7 +2,7 @@
 use Rattle.std.specs.Prelude.{ℕ, ◌+◌, ◌-◌, nat_lt, List, ◌++◌, replicate, drop, get_or, unwrap_or, None, if◌then◌else◌}
 use Rattle.std.specs.declared.option.Option.{Option}
 use Rattle.ts_packet.specs.Null.{null_packet}
-use Rattle.packet_slots.specs.declared.rule.SlotRule.{SlotRule}
+use Rattle.packet_slots.specs.declared.slot_rule.SlotRule.{SlotRule}
 use Rattle.packet_slots.specs.Filling.{filled}
 use Rattle.packet_slots.specs.Times.{over_after, due_after}
 use Rattle.packet_slots.specs.declared.window.SlotWindow.{SlotWindow}

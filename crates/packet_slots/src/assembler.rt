@@ -5,7 +5,7 @@ ghost use Rattle.plp_config.specs.declared.moment.TheConstants.{MOST_FRAMES};
 ghost use Rattle.packet_slots.specs.Sound.{IsSound};
 
 use crate::mark::Mark;
-use crate::rule::SlotRule;
+use crate::slot_rule::SlotRule;
 use ts_packet::{SIZE, SYNC, TsPacket};
 
 /// How the user packet under way gets its slot.
@@ -97,7 +97,7 @@ fn is_idle(len: usize, mark: Mark) -> bool
 impl Assembler {
     ghost use Rattle.std.specs.Prelude.{◌≡◌, ◌^◌, ◌-◌, ◌<◌, ◌≤◌, ◌++◌, ◌∷◌, [], length, slice_index, ℕ, List, Some, IfSome};
     ghost use Rattle.std.specs.Prelude.{if◌then◌else◌};
-    ghost use Rattle.packet_slots.specs.declared.rule.SlotRule.{SlotRule};
+    ghost use Rattle.packet_slots.specs.declared.slot_rule.SlotRule.{SlotRule};
     ghost use Rattle.packet_slots.specs.Strings.{Item, gap};
     ghost use Rattle.packet_slots.specs.Packets.{user_packets};
     ghost use Rattle.packet_slots.specs.Packets.{packet_of};

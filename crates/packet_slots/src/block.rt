@@ -1,7 +1,7 @@
 // Taking the blocks of a frame.
 ghost use Rattle.std.specs.Prelude.{◌≡◌, ◌^◌, ◌+◌, ◌-◌, ◌%◌, ◌<◌, ◌≤◌, ◌++◌, ◌==◌, ◌∷◌, [], length, take, drop, min, List, ℕ};
 ghost use Rattle.std.specs.Prelude.{IfSome, Some, Option, if◌then◌else◌};
-ghost use Rattle.packet_slots.specs.declared.rule.SlotRule.{SlotRule};
+ghost use Rattle.packet_slots.specs.declared.slot_rule.SlotRule.{SlotRule};
 ghost use Rattle.plp_config.specs.declared.moment.TheConstants.{MOST_FRAMES};
 ghost use Rattle.packet_slots.specs.Strings.{Item, gap, items_from, first_mark, block_items};
 ghost use Rattle.packet_slots.specs.declared.mark.Mark.TheVariants.{Next};
@@ -11,7 +11,7 @@ ghost use Rattle.packet_slots.specs.Both.{Both, KeepsTimes, block_of, front_of, 
 
 use crate::assembler::Assembler;
 use crate::mark::Mark;
-use crate::rule::ISCR_MODULUS;
+use crate::slot_rule::ISCR_MODULUS;
 use crate::window::SlotWindow;
 
 /// A block that was taken.

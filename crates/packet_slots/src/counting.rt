@@ -6,7 +6,7 @@ ghost use Rattle.packet_slots.specs.Readback.{counts_by};
 ghost use Rattle.packet_slots.specs.Times.{delay_of, over_after};
 
 use crate::assembler::Found;
-use crate::rule::SlotRule;
+use crate::slot_rule::SlotRule;
 use crate::times::delay_of;
 
 /// Whether a user packet that ends in a frame counts: its slot is one of the frame in which it

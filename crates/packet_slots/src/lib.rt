@@ -6,7 +6,7 @@ mod block;
 mod counting;
 mod laws;
 mod mark;
-mod rule;
+mod slot_rule;
 mod slots;
 #[cfg(test)]
 mod tests;
@@ -15,5 +15,5 @@ mod window;
 
 pub use block::TakenBlock;
 pub use laws::{complete_law, readback_law};
-pub use rule::{ISCR_MODULUS, SlotRule};
+pub use slot_rule::{ISCR_MODULUS, SlotRule};
 pub use slots::PacketSlots;

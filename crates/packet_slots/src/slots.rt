@@ -6,7 +6,7 @@ ghost use Rattle.packet_slots.specs.Times.{over_after, due_after, delay_of};
 
 use crate::assembler::Assembler;
 use crate::block::{TakenBlock, take_block, take_gap};
-use crate::rule::SlotRule;
+use crate::slot_rule::SlotRule;
 use crate::window::SlotWindow;
 use plp_config::slot_time_law;
 use std::alloc::{AllocError, Global};
@@ -30,7 +30,7 @@ pub struct PacketSlots {
 
 impl PacketSlots {
     ghost use Rattle.plp_config.specs.declared.moment.TheConstants.{MOST_FRAMES};
-    ghost use Rattle.packet_slots.specs.declared.rule.SlotRule.{SlotRule};
+    ghost use Rattle.packet_slots.specs.declared.slot_rule.SlotRule.{SlotRule};
     ghost use Rattle.packet_slots.specs.Sound.{IsSound};
     ghost use Rattle.packet_slots.specs.Strings.{Block};
     ghost use Rattle.packet_slots.specs.Records.{Record, muted_record, framed_record, readback, held_slots};

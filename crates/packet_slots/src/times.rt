@@ -6,7 +6,7 @@ ghost use Rattle.packet_slots.specs.Times.{over_after, due_after};
 ghost use Rattle.plp_config.specs.declared.moment.TheConstants.{MOST_FRAMES};
 ghost use Rattle.packet_slots.specs.Sound.{IsSound};
 
-use crate::rule::SlotRule;
+use crate::slot_rule::SlotRule;
 use plp_config::slot_time_law;
 
 /// The constant delay of a slot, in ticks.

@@ -8,7 +8,7 @@ ghost use Rattle.packet_slots.specs.Filling.{filled};
 
 use crate::assembler::Found;
 use crate::counting::counts;
-use crate::rule::SlotRule;
+use crate::slot_rule::SlotRule;
 use crate::times::{frame_range, released_at, window_of};
 use circular_buffer::HeapCircularBuffer;
 use plp_config::{release_law, slot_time_law};

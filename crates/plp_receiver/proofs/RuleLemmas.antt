@@ -10,7 +10,7 @@ use Rattle.plp_config.specs.Rules.{AllRules}
 use Rattle.plp_config.specs.SlotTime.{num, den, IsSlotLength, window, window_slots, delay_ticks}
 use Rattle.plp_config.specs.declared.config.Config.{Config}
 use Rattle.packet_slots.specs.Sound.{IsSound}
-use Rattle.packet_slots.specs.declared.rule.SlotRule.{SlotRule}
+use Rattle.packet_slots.specs.declared.slot_rule.SlotRule.{SlotRule}
 use Rattle.packet_slots.specs.Times.{over_after}
 use Rattle.plp_receiver.specs.StandsFor.{slots_over}
 use Rattle.plp_receiver.specs.Taken.{IsRule}

@@ -78,7 +78,8 @@ splits blocks zero id len more e = record { whole = omega arith; each = λ k l. 
 splits [] (suc n) id len more e = absurd (true≢false (sym e))
 splits (b ∷ blocks) (suc n) id len more e =
     let parts = and_parts (has_size b (size_of id len)) (pointwise has_size blocks (replicate n (size_of id len) ++ more)) e in
-    let here : length b.bytes ≡ len = eqb-true (length b.bytes) len (and_parts (b.plp_id == id) (length b.bytes == len) parts.0).1 in
+    let here : length b.bytes ≡ len =
+    eqb-true (length b.bytes) len (and_parts (b.plp_id == id) (length b.bytes == len) parts.0).1 in
     let rest = splits blocks n id len more parts.1 in
     let w = rest.whole in
     record {

@@ -12,7 +12,7 @@ use Rattle.cell_map.specs.declared.places.Cell.{Cell}
 use Rattle.scheduler.specs.Shape.{FrameShape}
 use Rattle.packet_slots.specs.StandsFor as slots
 use Rattle.packet_slots.specs.declared.slots.PacketSlots.{PacketSlots}
-use Rattle.packet_slots.specs.declared.rule.SlotRule.{SlotRule}
+use Rattle.packet_slots.specs.declared.slot_rule.SlotRule.{SlotRule}
 use Rattle.plp_receiver.specs.Readable.{readable}
 use Rattle.plp_receiver.specs.Laws.{ReadbackOnce}
 use Rattle.packet_slots.specs.Times.{over_after}

@@ -19,7 +19,7 @@ use Rattle.scheduler.specs.Shape.{FrameShape}
 use Rattle.packet_slots.specs.Records.{Record, framed_record}
 use Rattle.packet_slots.specs.StandsFor.{StandsFor, StandsWithin}
 use Rattle.packet_slots.specs.Strings.{Block}
-use Rattle.packet_slots.specs.declared.rule.SlotRule.{SlotRule}
+use Rattle.packet_slots.specs.declared.slot_rule.SlotRule.{SlotRule}
 use Rattle.packet_slots.specs.declared.slots.PacketSlots.{PacketSlots}
 use Rattle.site_frame.specs.Record as frame
 use Rattle.plp_receiver.specs.Readable.{has_size, block_sizes, shape_agrees, all_stand}

@@ -22,7 +22,7 @@ use Rattle.site_frame.specs.declared.reading.RecordView.TheVariants.{Frame, Mute
 use Rattle.packet_slots.specs.Laws as slots
 use Rattle.packet_slots.specs.Records.{Record, framed_record, readback}
 use Rattle.packet_slots.specs.Strings.{Block}
-use Rattle.packet_slots.specs.declared.rule.SlotRule.{SlotRule}
+use Rattle.packet_slots.specs.declared.slot_rule.SlotRule.{SlotRule}
 use Rattle.plp_receiver.specs.Readable.{readable, all_stand}
 use Rattle.plp_receiver.specs.Taken.{no_start, block_read, IsTaken, IsTold, IsGiven, bytes_at, TellsShape, Tells, TellAll, IsRule}
 use Rattle.plp_receiver.specs.Taken.{Readback}

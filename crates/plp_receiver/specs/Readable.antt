@@ -54,7 +54,8 @@ pub record BlockSize : Type 0 where
 
 abbrev pub block_sizes : Config → FrameShape → List BlockSize
 block_sizes c shape =
-    flat_map (λ plp. replicate (slice_index shape.counts plp) (record { plp_id = (plp_at c.plps plp).id; len = block_bytes c plp }))
+    flat_map
+    (λ plp. replicate (slice_index shape.counts plp) (record { plp_id = (plp_at c.plps plp).id; len = block_bytes c plp }))
     (places c)
 
 abbrev pub has_size : Block → BlockSize → Bool

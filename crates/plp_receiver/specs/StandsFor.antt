@@ -5,7 +5,7 @@ use Rattle.plp_config.specs.declared.config.Config.{Config}
 use Rattle.site_frame.specs.declared.reading.RecordView.{RecordView}
 use Rattle.packet_slots.specs.Records.{Record}
 use Rattle.packet_slots.specs.StandsFor as slots
-use Rattle.packet_slots.specs.declared.rule.SlotRule.{SlotRule}
+use Rattle.packet_slots.specs.declared.slot_rule.SlotRule.{SlotRule}
 use Rattle.packet_slots.specs.declared.slots.PacketSlots.{PacketSlots}
 use Rattle.plp_receiver.specs.Taken.{IsRule, TellAll}
 use Rattle.plp_receiver.specs.declared.receiver.Receiver.{Receiver}

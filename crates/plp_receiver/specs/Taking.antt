@@ -9,7 +9,7 @@ use Rattle.site_frame.specs.declared.reading.RecordView.{RecordView}
 use Rattle.packet_slots.specs.Records.{Record, framed_record}
 use Rattle.packet_slots.specs.StandsFor.{StandsFor, StandsWithin}
 use Rattle.packet_slots.specs.Strings.{Block}
-use Rattle.packet_slots.specs.declared.rule.SlotRule.{SlotRule}
+use Rattle.packet_slots.specs.declared.slot_rule.SlotRule.{SlotRule}
 use Rattle.packet_slots.specs.declared.slots.PacketSlots.{PacketSlots}
 use Rattle.plp_receiver.specs.Taken.{IsGiven, bytes_at, TellsBlocks, Tells}
 

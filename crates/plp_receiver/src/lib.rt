@@ -5,7 +5,7 @@ mod blocks;
 mod laws;
 mod readable;
 mod receiver;
-mod rule;
+mod slot_rule;
 mod standing;
 mod taking;
 #[cfg(test)]

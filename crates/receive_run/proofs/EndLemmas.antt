@@ -39,7 +39,7 @@ use Rattle.site_frame.specs.declared.reading.RecordView.{RecordView}
 use Rattle.site_frame.specs.declared.reading.RecordView.TheVariants.{Frame, Muted}
 use Rattle.packet_slots.specs.Records.{Record, muted_record, framed_record, readback}
 use Rattle.packet_slots.specs.Strings.{Block}
-use Rattle.packet_slots.specs.declared.rule.SlotRule.{SlotRule}
+use Rattle.packet_slots.specs.declared.slot_rule.SlotRule.{SlotRule}
 use Rattle.plp_receiver.specs.Readable.{readable, all_stand}
 use Rattle.plp_receiver.specs.Taken.{IsOfStream, block_read, IsTaken, IsGiven, bytes_at, TellsShape, Tells, TellAll, IsRule}
 use Rattle.receive_run.specs.Laws.{MustRun, RunEnds}

@@ -11,7 +11,7 @@ use Rattle.plp_config.specs.declared.moment.TheConstants.{MOST_FRAMES}
 use Rattle.site_frame.specs.declared.reading.RecordView.{RecordView}
 use Rattle.packet_slots.specs.Records.{first_slot}
 use Rattle.packet_slots.specs.Times.{due_after, delay_of}
-use Rattle.packet_slots.specs.declared.rule.SlotRule.{SlotRule}
+use Rattle.packet_slots.specs.declared.slot_rule.SlotRule.{SlotRule}
 use Rattle.packet_slots.proofs.StandsLemmas.{length_readback}
 use Rattle.plp_receiver.specs.Taken.{Readback}
 use Rattle.plp_receiver.proofs.StandsLemmas.{same_count}

@@ -13,7 +13,7 @@ use Rattle.site_frame.specs.Record.{head_len}
 use Rattle.site_frame.specs.RecordFile.{AreRecords, IsOnGrid}
 use Rattle.site_frame.specs.declared.fault.RecordWhy.{RecordWhy}
 use Rattle.site_frame.specs.declared.reading.RecordView.{RecordView}
-use Rattle.desk_io.specs.Reading.{most_bytes}
+use Rattle.desk_io.specs.Reading.{longest_file}
 use Rattle.file_run.specs.Events.{Event, fed, has_ended}
 use Rattle.file_run.specs.FileRun as driver
 use Rattle.file_run.specs.FileRun.{OpensInputs, Writes}
@@ -114,7 +114,7 @@ gives_too_much start now old new name out input g =
     let s = g.stands in
     let at : ℕ = slice_index s.places 0 in
     let first : input ≡ 0 = let p = g.place in omega (arith, p) in
-    let most : at ≡ most_bytes = ap (slice_index s.places) (sym first) ∙ g.gave in
+    let most : at ≡ longest_file = ap (slice_index s.places) (sym first) ∙ g.gave in
     record {
       works = subst (λ (n : ℕ). Writes old new name out n (HasMet c plp n)) most
           (writes_by (HasMet c plp at) s

@@ -8,7 +8,7 @@ use Rattle.plp_config.specs.declared.moment.TheConstants.{MOST_FRAMES}
 use Rattle.site_frame.specs.Record.{head_len}
 use Rattle.site_frame.specs.declared.reading.RecordView.{RecordView}
 use Rattle.plp_receiver.specs.StandsFor.{network_of, plp_of}
-use Rattle.desk_io.specs.Reading.{most_bytes}
+use Rattle.desk_io.specs.Reading.{longest_file}
 use Rattle.file_run.specs.Events.{Event, Fed, fed, gave}
 use Rattle.file_run.specs.Steps.{Suffices, FallsShort, HasRoom}
 use Rattle.receive_run.specs.AsMachine.{next_of, IsReady, Given, first_of, Shown, Becomes}
@@ -51,10 +51,10 @@ wants_head m count other (inl h) = h
 wants_head m count other (inr r) = absurd (other r.0)
 
 -- what was fed fits
-pub fits : (m : ReceiverMachine) (input count : ℕ) → HasRoom Becomes m input count → input ≡ 0 → m.at + count ≤ most_bytes
+pub fits : (m : ReceiverMachine) (input count : ℕ) → HasRoom Becomes m input count → input ≡ 0 → m.at + count ≤ longest_file
 fits m input count room one =
-    let few : length (fed 0 room.events) + count ≤ most_bytes =
-    subst (λ (k : ℕ). length (fed k room.events) + count ≤ most_bytes) one room.few in
+    let few : length (fed 0 room.events) + count ≤ longest_file =
+    subst (λ (k : ℕ). length (fed k room.events) + count ≤ longest_file) one room.few in
     let p = room.came.shown.place in omega (arith, few, p)
 
 -- a machine that wants bytes is ready for a record

@@ -7,7 +7,7 @@ use Rattle.site_frame.specs.RecordFile.{AreRecords, Announces, EndsWithin, bytes
 use Rattle.site_frame.specs.declared.fault.RecordWhy.{RecordWhy}
 use Rattle.site_frame.specs.declared.reading.RecordView.{RecordView}
 use Rattle.desk_io.specs.Faults.{ReadsFail, WritesFail}
-use Rattle.desk_io.specs.Reading.{most_bytes}
+use Rattle.desk_io.specs.Reading.{longest_file}
 use Rattle.file_run.specs.FileRun.{OpensInputs, FailsToCreateOutput, Writes, ReadsAll}
 use Rattle.file_run.specs.declared.stop.RunFault.TheVariants.{TooLong, ReadFault, WriteFault}
 use Rattle.receive_run.specs.Received.{Received, ran_of, expected_after, RefusesNext}
@@ -47,7 +47,7 @@ pub record HasMetRefused (c : Config) (plp number : ℕ) (why : RecordWhy) (plac
 -- A record was refused. OUT has what those before it give back.
 pub record MeetsRefused (c : Config) (plp : ℕ) (old new : State) (name out : List ℕ) (number : ℕ) (why : RecordWhy) : Type 0 where
   pub place : ℕ
-  pub short : place < most_bytes
+  pub short : place < longest_file
   pub works : Writes old new name out place (HasMetRefused c plp number why place)
   pub counts : SameCounts old new
 
@@ -74,14 +74,14 @@ pub record HasMetPart (c : Config) (plp place : ℕ) (file bytes : List ℕ) : T
 
 -- IN gave as many bytes as no file may have.
 pub record GivesTooMuch (c : Config) (plp : ℕ) (old new : State) (name out : List ℕ) : Type 0 where
-  pub works : Writes old new name out most_bytes (HasMet c plp most_bytes)
-  pub long : IfSome old.held (λ h. most_bytes ≤ length (bytes_of h.files name))
+  pub works : Writes old new name out longest_file (HasMet c plp longest_file)
+  pub long : IfSome old.held (λ h. longest_file ≤ length (bytes_of h.files name))
   pub counts : SameCounts old new
 
 -- IN could not be read on.
 pub record StopsReading (c : Config) (plp : ℕ) (old new : State) (name out : List ℕ) : Type 0 where
   pub place : ℕ
-  pub short : place < most_bytes
+  pub short : place < longest_file
   pub works : Writes old new name out place (HasMetPart c plp place)
 
 -- So many bytes were read of the file, which are records. Of what they give back the bytes are a front, but not all; and they
@@ -105,7 +105,7 @@ pub record HasSome (c : Config) (plp place : ℕ) (file bytes : List ℕ) : Type
 -- OUT could not be written on.
 pub record StopsWriting (c : Config) (plp : ℕ) (old new : State) (name out : List ℕ) : Type 0 where
   pub place : ℕ
-  pub short : place < most_bytes
+  pub short : place < longest_file
   pub works : Writes old new name out place (HasSome c plp place)
 
 -- A run that did not come to its end, by its cause. IN is input 0, the only one.

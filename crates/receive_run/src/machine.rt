@@ -3,7 +3,7 @@ ghost use Rattle.std.specs.Prelude.{◌≡◌, ◌≢◌, ◌<◌, ◌≤◌, �
 ghost use Rattle.plp_receiver.specs.StandsFor.{network_of, plp_of, due_of};
 ghost use Rattle.plp_config.specs.declared.moment.TheConstants.{MOST_FRAMES};
 ghost use Rattle.site_frame.specs.declared.head.TheConstants.{HEAD};
-ghost use Rattle.desk_io.specs.Reading.{most_bytes};
+ghost use Rattle.desk_io.specs.Reading.{longest_file};
 ghost use Rattle.receive_run.specs.declared.machine.TheConstants.{GREATEST};
 ghost use Rattle.receive_run.specs.declared.machine.Coming.TheVariants.{Head, Rest, Packets};
 ghost use Rattle.receive_run.specs.NextStep.{coming_by, left_by};
@@ -14,7 +14,7 @@ use bit_slice::OutOfMemory;
 use file_run::{Machine, Step, events_law};
 use plp_config::{Plan, length_law};
 use plp_receiver::{Receiver, readback_law};
-use site_frame::{GREATEST_REST, HEAD, RecordWhy, rest_len};
+use site_frame::{GREATEST_REST, HEAD, RecordWhy, front_head, rest_len};
 use std::alloc::Global;
 use ts_packet::SIZE;
 
@@ -60,7 +60,7 @@ pub struct ReceiverMachine<'p> {
     ghost given: { coming ≡ Packets → left ≡ 0 },
     ghost room: { coming ≡ Rest → (0 < left) × (vec_len bytes + left ≤ GREATEST) },
     ghost buffer: { GREATEST ≤ vec_capacity bytes },
-    ghost small: { at ≤ most_bytes },
+    ghost small: { at ≤ longest_file },
 }
 
 // What comes, by how many slots are due, and how many bytes may be read for it.
@@ -75,16 +75,6 @@ fn coming_by(due: u64) -> (Coming, usize)
     } else {
         (Coming::Head, HEAD)
     }
-}
-
-// The head at the front of some bytes.
-fn front_head(bytes: &[u8]) -> [u8; HEAD]
-    requires { HEAD ≤ length bytes.now }
-    ensures { result ≡ take HEAD bytes.now }
-{
-    let mut head = [0; HEAD];
-    head.copy_from_slice(&bytes[..HEAD]);
-    head
 }
 
 impl<'p> ReceiverMachine<'p> {
@@ -174,8 +164,9 @@ impl<'p> ReceiverMachine<'p> {
     fn take_head(&mut self, head: [u8; HEAD])
         requires coming { self.old.coming ≡ Head }
         requires ready { IsReady self.old }
-        requires room { self.old.at + HEAD ≤ most_bytes }
-        ensures becomes { (start : ReceiverMachine) (events : List Event) → Becomes start events self.old → Becomes start (events ++ Fed 0 head ∷ []) self.new }
+        requires room { self.old.at + HEAD ≤ longest_file }
+        ensures becomes { (start : ReceiverMachine) (events : List Event) → Becomes start events self.old
+            → Becomes start (events ++ Fed 0 head ∷ []) self.new }
         ensures at { self.new.at ≡ self.old.at + HEAD }
     {
         events_law();
@@ -195,8 +186,9 @@ impl<'p> ReceiverMachine<'p> {
         requires coming { self.old.coming ≡ Rest }
         requires ready { IsReady self.old }
         requires some { 0 < length bytes.now }
-        requires room { self.old.at + length bytes.now ≤ most_bytes }
-        ensures becomes { (start : ReceiverMachine) (events : List Event) → Becomes start events self.old → Becomes start (events ++ Fed 0 (take result bytes.now) ∷ []) self.new }
+        requires room { self.old.at + length bytes.now ≤ longest_file }
+        ensures becomes { (start : ReceiverMachine) (events : List Event) → Becomes start events self.old
+            → Becomes start (events ++ Fed 0 (take result bytes.now) ∷ []) self.new }
         ensures count { (0 < result) × (result ≤ length bytes.now) }
         ensures at { self.new.at ≡ self.old.at + result }
         ensures left { self.old.left ≤ result + self.new.left }
@@ -218,7 +210,8 @@ impl<'p> ReceiverMachine<'p> {
     /// How its run ended.
     pub fn ending(&self) -> Result<Ran, RunStop>
         requires { (n : ℕ) → self.now.first ≡ Some n → n < MOST_FRAMES }
-        ensures { result ≡ ending_of self.now.coming self.now.count (ran_by (network_of self.now.receiver) (plp_of self.now.receiver) self.now.first self.now.slots) }
+        ensures { result ≡ ending_of self.now.coming self.now.count
+            (ran_by (network_of self.now.receiver) (plp_of self.now.receiver) self.now.first self.now.slots) }
     {
         match self.coming {
             Coming::Refused(why) => Err(RunStop::RecordRefused {

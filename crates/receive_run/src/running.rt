@@ -29,8 +29,12 @@ fn run_machine<D: Desk>(
     requires start { Becomes machine.old [] machine.old }
     requires plan { IsPlan (network_of machine.old.receiver) }
     requires apart { AreApart out.now ins.now }
-    ensures ok { IfOk result (RunsAll (network_of machine.old.receiver) (plp_of machine.old.receiver) (D.state desk.old) (D.state desk.new) (slice_index_or ins.now 0 []) out.now) }
-    ensures err { IfErr result (Stops (network_of machine.old.receiver) (plp_of machine.old.receiver) (D.state desk.old) (D.state desk.new) (slice_index_or ins.now 0 []) out.now) }
+    ensures ok { IfOk result
+        (RunsAll (network_of machine.old.receiver) (plp_of machine.old.receiver) (D.state desk.old) (D.state desk.new)
+        (slice_index_or ins.now 0 []) out.now) }
+    ensures err { IfErr result
+        (Stops (network_of machine.old.receiver) (plp_of machine.old.receiver) (D.state desk.old) (D.state desk.new)
+        (slice_index_or ins.now 0 []) out.now) }
 {
     events_law();
     reading_law();

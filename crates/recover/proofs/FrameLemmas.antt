@@ -18,7 +18,7 @@ use Rattle.mode_adapt.specs.Queue.{Rates, sent, sent_before}
 use Rattle.mode_adapt.specs.UserPackets.{keeps_of, user_packet}
 use Rattle.mode_adapt.specs.Blocks.{rates_of, plp_keeps, plp_string, header_at, up_with, data_field, block_places}
 use Rattle.mode_adapt.specs.Laws.{IsWithin, SentWithin, BeginLaw, EndLaw, FirstLaw}
-use Rattle.packet_slots.specs.declared.rule.SlotRule.{SlotRule}
+use Rattle.packet_slots.specs.declared.slot_rule.SlotRule.{SlotRule}
 use Rattle.packet_slots.specs.Sound.{IsSound}
 use Rattle.packet_slots.specs.Strings.{Item, Block, block_items}
 use Rattle.packet_slots.specs.Records.{block_or_gap, record_items, framed_record}

@@ -2,7 +2,7 @@
 use Rattle.std.specs.Prelude.{◌≡◌, ℕ, ◌+◌, ◌*◌, ◌<◌, Bool, List, length, get_or}
 use Rattle.mode_adapt.specs.UserPackets.{keeps_of, user_packet, up_string}
 use Rattle.null_delete.specs.Deletion.{is_kept, dnp, kept_slots}
-use Rattle.packet_slots.specs.declared.rule.SlotRule.{SlotRule}
+use Rattle.packet_slots.specs.declared.slot_rule.SlotRule.{SlotRule}
 use Rattle.recover.proofs.Regular.{Follow}
 
 abbrev pub kept_slot : (ℕ → Bool) → ℕ → ℕ → ℕ

@@ -14,7 +14,7 @@ use Rattle.plp_config.specs.declared.config.Config.{Config}
 use Rattle.null_delete.specs.Deletion.{kept_slots}
 use Rattle.mode_adapt.specs.Queue.{Rates, sent, sent_before}
 use Rattle.mode_adapt.specs.Blocks.{rates_of, plp_keeps}
-use Rattle.packet_slots.specs.declared.rule.SlotRule.{SlotRule}
+use Rattle.packet_slots.specs.declared.slot_rule.SlotRule.{SlotRule}
 use Rattle.packet_slots.specs.Packets.{packet_of}
 use Rattle.packet_slots.specs.Strings.{Item, item_values}
 use Rattle.packet_slots.specs.Packets.{UserPacket, user_packets}

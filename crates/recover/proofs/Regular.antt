@@ -1,7 +1,7 @@
 -- Strings as a gateway makes them: user packet n stands from place up_len * n on, and no byte is missing.
 use Rattle.std.specs.Prelude.{◌≡◌, ◌⊎◌, ℕ, ◌+◌, ◌-◌, ◌*◌, ◌<◌, ◌≤◌, ◌%◌, ◌^◌, suc, true, None, ◌++◌, ◌∷◌, map, List, length}
 use Rattle.std.specs.Prelude.{get_or, Some, if◌then◌else◌}
-use Rattle.packet_slots.specs.declared.rule.SlotRule.{SlotRule}
+use Rattle.packet_slots.specs.declared.slot_rule.SlotRule.{SlotRule}
 use Rattle.packet_slots.specs.declared.mark.Mark.TheVariants.{Inside, Next, Timed}
 use Rattle.packet_slots.specs.Strings.{Item, Block, block_items, first_mark, gap}
 use Rattle.std.specs.List.{range_with_len}

@@ -13,7 +13,7 @@ use Rattle.plp_config.specs.Rules.{AllRules}
 use Rattle.plp_config.specs.declared.config.Config.{Config}
 use Rattle.packet_slots.specs.declared.mark.Mark.{Mark}
 use Rattle.packet_slots.specs.declared.mark.Mark.TheVariants.{Gap, Inside, Next, Timed}
-use Rattle.packet_slots.specs.declared.rule.SlotRule.{SlotRule}
+use Rattle.packet_slots.specs.declared.slot_rule.SlotRule.{SlotRule}
 use Rattle.packet_slots.specs.Packets.{packet_of}
 use Rattle.packet_slots.specs.Strings.{Item, item_values}
 use Rattle.packet_slots.specs.Packets.{UserPacket, slot_of_iscr, slot_by, slot_of, slot_before, slots_at, with_slot, packets_at}

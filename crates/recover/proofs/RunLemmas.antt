@@ -15,7 +15,7 @@ use Rattle.null_delete.specs.Deletion.{kept_slots}
 use Rattle.mode_adapt.specs.Queue.{Rates, sent, sent_before}
 use Rattle.mode_adapt.specs.UserPackets.{user_packet}
 use Rattle.mode_adapt.specs.Blocks.{rates_of, plp_keeps}
-use Rattle.packet_slots.specs.declared.rule.SlotRule.{SlotRule}
+use Rattle.packet_slots.specs.declared.slot_rule.SlotRule.{SlotRule}
 use Rattle.packet_slots.specs.Strings.{Item, item_values}
 use Rattle.packet_slots.specs.Packets.{UserPacket, no_item, first_item, last_item, window, user_packets}
 use Rattle.packet_slots.specs.Readback.{counts, counts_by}

@@ -8,7 +8,7 @@ use Rattle.std.proofs.lemmas.List.FromFn.{map-range_with_len_more}
 use Rattle.std.proofs.Math.Nat.{mul-le-mul_left}
 use Rattle.plp_config.specs.SlotTime.{slot_start}
 use Rattle.plp_config.specs.Laws.{IscrFindsSlot}
-use Rattle.packet_slots.specs.declared.rule.SlotRule.{SlotRule}
+use Rattle.packet_slots.specs.declared.slot_rule.SlotRule.{SlotRule}
 use Rattle.packet_slots.specs.Strings.{Item, gap, is_start}
 use Rattle.packet_slots.specs.Packets.{UserPacket, is_one, no_item, slot_of, slot_before, slots_at, window, with_slot, packets_at}
 use Rattle.packet_slots.specs.Packets.{user_packets}

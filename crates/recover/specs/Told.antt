@@ -11,7 +11,7 @@ use Rattle.plp_config.specs.declared.config.Config.{Config}
 use Rattle.mode_adapt.specs.Queue.{sent, sent_before}
 use Rattle.mode_adapt.specs.Blocks.{rates_of, plp_keeps, first_up, with_place, header_at, data_field, block_places}
 use Rattle.mode_adapt.specs.Laws.{IsWithin}
-use Rattle.packet_slots.specs.declared.rule.SlotRule.{SlotRule}
+use Rattle.packet_slots.specs.declared.slot_rule.SlotRule.{SlotRule}
 use Rattle.packet_slots.specs.Strings.{Block}
 use Rattle.packet_slots.specs.Records.{Record, muted_record, framed_record}
 use Rattle.plp_receiver.specs.Taken.{block_read}

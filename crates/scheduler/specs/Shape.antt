@@ -44,7 +44,7 @@ type2_before c place = filter (in_type2 c) (range_with_len 0 place)
 abbrev pub type1_before : Config → ℕ → List ℕ
 type1_before c place = filter (λ plp. not (in_type2 c plp)) (range_with_len 0 place)
 
--- TYPE_2_START: the PLPs of type 2 stand behind all cells of the others; 0 where there are none
+-- TYPE_2_START: the PLPs of type 2 stand behind all cells of the others; 0 if there are none
 unfoldable pub type2_start_of : Config → List ℕ → ℕ
 type2_start_of c counts = if has_type2 c.plps then sum_by (cells_of c counts) (type1_before c (length c.plps)) else 0
 

@@ -8,7 +8,7 @@ use Rattle.std.proofs.lemmas.Bool.{cases_eq, cond_both, cond-false, ne_eqb, le-l
 use Rattle.std.proofs.lemmas.List.{length-map}
 use Rattle.plp_config.specs.RunLength.{frame_count}
 use Rattle.ts_packet.specs.TsFile.{joined}
-use Rattle.t2mi_stream.specs.Pipe.{Item, pipe, joined as joined_items}
+use Rattle.t2mi_stream.specs.Pipe.{JoinedByte, pipe, joined as joined_items}
 use Rattle.t2mi_stream.specs.Received.{Fate, left_of}
 use Rattle.t2mi_stream.specs.Received.Fate.{Kept}
 use Rattle.t2mi_stream.specs.Survivors.{unit_number, begun_from}
@@ -35,7 +35,7 @@ whole_arrives c inputs = sym (left_all (pipe c.pid (packets_of c inputs)))
 
 -- ---- each packet survives
 
-all_begun : (xs : List Item) (at : ℕ) (packets : List (List ℕ)) → begun_from xs 0 at packets ≡ replicate (length packets) true
+all_begun : (xs : List JoinedByte) (at : ℕ) (packets : List (List ℕ)) → begun_from xs 0 at packets ≡ replicate (length packets) true
 all_begun xs at [] = refl
 all_begun xs at (packet ∷ packets) =
     ap₂ (λ (t : Bool) (flags : List Bool). t ∷ flags) (le-leb 0 (unit_number xs at) (omega arith))

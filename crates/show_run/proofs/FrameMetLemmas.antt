@@ -4,7 +4,7 @@ use Rattle.std.proofs.Common.{sym, subst, ◌∙◌, inl, inr, arith, append-nil
 use Rattle.std.specs.Prelude.{codes, ◌⊎◌, nat_lt, Ok, Err}
 use Rattle.std.proofs.lemmas.List.{nil_from_length}
 use Rattle.std.proofs.lemmas.Bool.{ltb-true}
-use Rattle.desk_io.specs.Reading.{most_bytes}
+use Rattle.desk_io.specs.Reading.{longest_file}
 use Rattle.desk_io.specs.declared.input.TheConstants.{BUFFER}
 use Rattle.file_run.specs.Events.{Event, fed, has_ended, gave}
 use Rattle.file_run.specs.FileRun.{IsFed}
@@ -72,15 +72,15 @@ reaches_in (c ∷ line) coming at left count r = absurd r
 abbrev pub Near : FrameLines → ℕ → Type 0
 Near m count = ((m.coming ≡ Head) × (count ≤ head_len)) ⊎ ((m.coming ≡ Rest) × (count ≤ m.left))
 
-within_most : (at wanted count : ℕ) → at + count ≡ most_bytes → count ≤ most_of at wanted → count ≤ wanted
-within_most at wanted count long reach = go (nat_lt (at + BUFFER) most_bytes) refl reach
+within_most : (at wanted count : ℕ) → at + count ≡ longest_file → count ≤ most_of at wanted → count ≤ wanted
+within_most at wanted count long reach = go (nat_lt (at + BUFFER) longest_file) refl reach
   where
-    go : (b : Bool) → nat_lt (at + BUFFER) most_bytes ≡ b → count ≤ cond b BUFFER wanted → count ≤ wanted
-    go true is near = let small : at + BUFFER < most_bytes = ltb-true (at + BUFFER) most_bytes is in
+    go : (b : Bool) → nat_lt (at + BUFFER) longest_file ≡ b → count ≤ cond b BUFFER wanted → count ≤ wanted
+    go true is near = let small : at + BUFFER < longest_file = ltb-true (at + BUFFER) longest_file is in
         absurd (omega (arith, small, long, near))
     go false is near = near
 
-pub near_most : (m : FrameLines) (count : ℕ) → m.at + count ≡ most_bytes → ((m.coming ≡ Head) × (count ≤ most_of m.at head_len))
+pub near_most : (m : FrameLines) (count : ℕ) → m.at + count ≡ longest_file → ((m.coming ≡ Head) × (count ≤ most_of m.at head_len))
     ⊎ ((m.coming ≡ Rest) × (count ≤ most_of m.at (min m.left BUFFER))) → Near m count
 near_most m count long (inl h) = inl (h.0, within_most m.at head_len count long h.1)
 near_most m count long (inr r) = inr (r.0, (let w = within_most m.at (min m.left BUFFER) count long r.1 in omega (arith, w)))

@@ -6,7 +6,7 @@ use Rattle.std.proofs.lemmas.List.{nil_from_length}
 use Rattle.std.proofs.lemmas.Option.{IfSome_then}
 use Rattle.terms.proofs.OptionLemmas.{if_any, if_both, append-none}
 use Rattle.ports.specs.Desk.{State, Held, bytes_of}
-use Rattle.desk_io.specs.Reading.{most_bytes}
+use Rattle.desk_io.specs.Reading.{longest_file}
 use Rattle.desk_io.specs.declared.input.TheConstants.{BUFFER}
 use Rattle.file_run.specs.Events.{Event, fed, has_ended, gave}
 use Rattle.file_run.specs.FileRun.{IsFed}
@@ -188,17 +188,17 @@ frames_stop one never start now old new name (stop.Files (TooLong input)) some s
     let x = t.tells in
     let r = reaches_in now.line now.coming now.at now.left _ t.wants in
     record {
-      given = most_bytes;
+      given = longest_file;
       text = gave x.early;
       reads = (s.0, x.opened, refl);
       grew = x.said;
       lines = IfSome_then old.held x.inputs (λ held f.
           let ahead = f.ahead in
           let at = x.came.shown.place in
-          let count : ℕ = most_bytes - length (fed 0 x.events) in (
+          let count : ℕ = longest_file - length (fed 0 x.events) in (
             (let w = f.within in w),
-            subst (λ (l : List ℕ). SaysMetRecords (bytes_of held.files name) most_bytes l) (x.parts ∙ append-nil (gave x.early))
-                (all_met (bytes_of held.files name) now x.events most_bytes count r.0
+            subst (λ (l : List ℕ). SaysMetRecords (bytes_of held.files name) longest_file l) (x.parts ∙ append-nil (gave x.early))
+                (all_met (bytes_of held.files name) now x.events longest_file count r.0
                 (near_most now count (omega (arith, ahead, at)) r.1) x.came.shown (starts_fed _ _ _ _ f)
                 (omega (arith, ahead))),
           ));

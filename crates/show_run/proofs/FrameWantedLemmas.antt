@@ -1,6 +1,6 @@
 -- What of a file of records is wanted next, and what is known if it is fed.
 use Rattle.std.proofs.Common.{◌≡◌, ℕ, ◌+◌, ◌≤◌, List, [], ◌∷◌, ◌++◌, length, refl, sym, subst, inl, inr, arith}
-use Rattle.desk_io.specs.Reading.{most_bytes}
+use Rattle.desk_io.specs.Reading.{longest_file}
 use Rattle.file_run.specs.Events.{Event, Fed, fed}
 use Rattle.file_run.specs.Steps.{Suffices, FallsShort, HasRoom}
 use Rattle.site_frame.specs.Record.{head_len}
@@ -43,10 +43,10 @@ wants_head m count other (inl h) = h
 wants_head m count other (inr r) = absurd (other r.0)
 
 -- what was fed fits
-pub fits : (m : FrameLines) (input count : ℕ) → HasRoom Comes m input count → input ≡ 0 → m.at + count ≤ most_bytes
+pub fits : (m : FrameLines) (input count : ℕ) → HasRoom Comes m input count → input ≡ 0 → m.at + count ≤ longest_file
 fits m input count room zero =
-    let few : length (fed 0 room.events) + count ≤ most_bytes =
-    subst (λ (k : ℕ). length (fed k room.events) + count ≤ most_bytes) zero room.few in
+    let few : length (fed 0 room.events) + count ≤ longest_file =
+    subst (λ (k : ℕ). length (fed k room.events) + count ≤ longest_file) zero room.few in
     let at = room.came.shown.place in omega (arith, at, few)
 
 pub at_input : (start n : FrameLines) (events : List Event) (input : ℕ) (bytes : List ℕ) → input ≡ 0

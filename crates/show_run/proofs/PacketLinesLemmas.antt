@@ -8,7 +8,7 @@ use Rattle.t2mi_packet.specs.declared.reading.TheConstants.{LARGEST}
 use Rattle.t2mi_packet.specs.declared.fault.PacketWhy.{PacketWhy}
 use Rattle.file_run.specs.Events.{Event, Fed, Ended, Gave, fed, has_ended, gave}
 use Rattle.file_run.specs.Laws.{EventsTell}
-use Rattle.desk_io.specs.Reading.{most_bytes}
+use Rattle.desk_io.specs.Reading.{longest_file}
 use Rattle.desk_io.specs.declared.input.TheConstants.{BUFFER}
 use Rattle.file_run.specs.Steps.{Suffices, FallsShort, HasRoom, CanBeRead}
 use Rattle.show_run.specs.PacketFile.{Begins, Packs, bytes_in}
@@ -214,7 +214,7 @@ pub not_ends : (phase : Phase) → phase ≡ Reads → phase ≡ Ends → ⊥
 not_ends phase reads ends = let e : Reads ≡ Ends = sym reads ∙ ends in cc
 
 most_between : (at : ℕ) → (LARGEST ≤ most_of at LARGEST) × (most_of at LARGEST ≤ BUFFER)
-most_between at = elim (nat_lt (at + BUFFER) most_bytes) as (λ (b : Bool). (LARGEST ≤ cond b BUFFER LARGEST)
+most_between at = elim (nat_lt (at + BUFFER) longest_file) as (λ (b : Bool). (LARGEST ≤ cond b BUFFER LARGEST)
     × (cond b BUFFER LARGEST ≤ BUFFER)) [ true ↦ (omega arith, omega arith) | false ↦ (omega arith, omega arith) ]
 
 -- what may be read
@@ -234,19 +234,19 @@ can_be_read m events reads most is s =
 
 -- the place of the next packet fits
 pub feed_fits : (m : PacketLines) (input len count : ℕ) → HasRoom Comes m input count → (m.line ≡ []) × (m.phase ≡ Reads)
-    × (input ≡ 0) × (LARGEST ≤ count) → len ≤ count → m.at + len ≤ most_bytes
+    × (input ≡ 0) × (LARGEST ≤ count) → len ≤ count → m.at + len ≤ longest_file
 feed_fits m input len count room i inside =
     let seen = all_seen m room.events i.1 room.came.shown in
-    let few : length (fed 0 room.events) + count ≤ most_bytes =
-    subst (λ (k : ℕ). length (fed k room.events) + count ≤ most_bytes) i.2 room.few in
+    let few : length (fed 0 room.events) + count ≤ longest_file =
+    subst (λ (k : ℕ). length (fed k room.events) + count ≤ longest_file) i.2 room.few in
     let at = seen.2 in omega (arith, at, few, inside)
 
 pub end_fits : (m : PacketLines) (input count : ℕ) → HasRoom Comes m input count → (m.line ≡ []) × (m.phase ≡ Reads) × (input ≡ 0)
-    × (count < LARGEST) → m.at + count ≤ most_bytes
+    × (count < LARGEST) → m.at + count ≤ longest_file
 end_fits m input count room i =
     let seen = all_seen m room.events i.1 room.came.shown in
-    let few : length (fed 0 room.events) + count ≤ most_bytes =
-    subst (λ (k : ℕ). length (fed k room.events) + count ≤ most_bytes) i.2 room.few in
+    let few : length (fed 0 room.events) + count ≤ longest_file =
+    subst (λ (k : ℕ). length (fed k room.events) + count ≤ longest_file) i.2 room.few in
     let at = seen.2 in omega (arith, at, few)
 
 -- the end of the file was reached

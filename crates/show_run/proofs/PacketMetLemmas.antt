@@ -8,7 +8,7 @@ use Rattle.std.proofs.lemmas.Bool.{ltb-true}
 use Rattle.ports.specs.declared.counts.Counts.{Counts}
 use Rattle.ports.specs.Desk.{State}
 use Rattle.desk_io.specs.Faults.{ReadsFail}
-use Rattle.desk_io.specs.Reading.{most_bytes}
+use Rattle.desk_io.specs.Reading.{longest_file}
 use Rattle.desk_io.specs.declared.input.TheConstants.{BUFFER}
 use Rattle.t2mi_packet.specs.Laws.{FrontRefusal}
 use Rattle.t2mi_packet.specs.declared.reading.TheConstants.{LARGEST}
@@ -129,11 +129,11 @@ all_first file m events none reads s starts = (
   quiet m events none reads s,
 )
 
-pub far : (at place : ℕ) → place ≡ most_bytes → place - at ≤ most_of at LARGEST → place ≤ at + LARGEST
-far at place long reach = go (nat_lt (at + BUFFER) most_bytes) refl reach
+pub far : (at place : ℕ) → place ≡ longest_file → place - at ≤ most_of at LARGEST → place ≤ at + LARGEST
+far at place long reach = go (nat_lt (at + BUFFER) longest_file) refl reach
   where
-    go : (b : Bool) → nat_lt (at + BUFFER) most_bytes ≡ b → place - at ≤ cond b BUFFER LARGEST → place ≤ at + LARGEST
-    go true is near = let small : at + BUFFER < most_bytes = ltb-true (at + BUFFER) most_bytes is in
+    go : (b : Bool) → nat_lt (at + BUFFER) longest_file ≡ b → place - at ≤ cond b BUFFER LARGEST → place ≤ at + LARGEST
+    go true is near = let small : at + BUFFER < longest_file = ltb-true (at + BUFFER) longest_file is in
         absurd (omega (arith, small, long, near))
     go false is near = omega (arith, near)
 

@@ -6,7 +6,7 @@ use Rattle.std.proofs.lemmas.List.{nil_from_length}
 use Rattle.std.proofs.lemmas.Option.{IfSome_then}
 use Rattle.terms.proofs.OptionLemmas.{if_any, if_both, append-none}
 use Rattle.ports.specs.Desk.{State, Held, bytes_of}
-use Rattle.desk_io.specs.Reading.{most_bytes}
+use Rattle.desk_io.specs.Reading.{longest_file}
 use Rattle.t2mi_packet.specs.Laws.{FrontRefusal, OnePacket, NoRefusal, PacketLength}
 use Rattle.t2mi_packet.specs.declared.reading.TheConstants.{LARGEST}
 use Rattle.t2mi_packet.specs.declared.fault.PacketWhy.{PacketWhy}
@@ -176,16 +176,16 @@ shows_stop one none sizes start now old new name (Files (TooLong input)) s =
     let x = t.tells in
     let r = reaches_reads now.line now.phase now.at _ t.wants in
     record {
-      given = most_bytes;
+      given = longest_file;
       text = gave x.early;
       reads = (s.0, x.opened, refl);
       grew = x.said;
       lines = IfSome_then old.held x.inputs (λ held f. (
         (let w = f.within in w),
-        subst (λ (l : List ℕ). SaysMet (bytes_of held.files name) most_bytes l) (x.parts ∙ append-nil (gave x.early))
-            (all_met (bytes_of held.files name) now x.events most_bytes r.0 r.1 x.came.shown (starts_fed _ _ _ _ f)
+        subst (λ (l : List ℕ). SaysMet (bytes_of held.files name) longest_file l) (x.parts ∙ append-nil (gave x.early))
+            (all_met (bytes_of held.files name) now x.events longest_file r.0 r.1 x.came.shown (starts_fed _ _ _ _ f)
             (let at = (all_seen now x.events r.1 x.came.shown).2 in
-            let n = far now.at most_bytes refl (let d = r.2 in omega (arith, d, at)) in omega (arith, n, at))),
+            let n = far now.at longest_file refl (let d = r.2 in omega (arith, d, at)) in omega (arith, n, at))),
       ));
       counts = t.counts;
     }

@@ -5,7 +5,7 @@ use Rattle.std.specs.Prelude.{option_map, slice_get, codes}
 use Rattle.std.proofs.lemmas.List.{length-map, take_more}
 use Rattle.std.proofs.lemmas.List.Concat.{flat_map-append}
 use Rattle.std.proofs.lemmas.Option.{slice_get-map, slice_get_within, get_or_from_slice_get}
-use Rattle.desk_io.specs.Reading.{most_bytes}
+use Rattle.desk_io.specs.Reading.{longest_file}
 use Rattle.t2mi_packet.specs.T2miPacket.{view_of}
 use Rattle.t2mi_stream.specs.Accepted.{AcceptedPacket}
 use Rattle.t2mi_stream.specs.Events as stream
@@ -63,7 +63,7 @@ one_more packets base count packet is =
 
 pub gave_packet : EventsTell → EventsPush → PacketPlaces → FewPackets
     → (start m n : T2miLines) (events : List Event) (place at : ℕ) (bytes line : List ℕ) → m.search ≡ Unpipes
-    → n.search ≡ m.search → n.at ≡ m.at → m.at ≤ most_bytes → n.base ≡ m.base → n.unit ≡ m.unit → n.from ≡ m.from
+    → n.search ≡ m.search → n.at ≡ m.at → m.at ≤ longest_file → n.base ≡ m.base → n.unit ≡ m.unit → n.from ≡ m.from
     → n.count ≡ min (m.count + 1) (2 ^ 64 - 1) → n.line ≡ m.line → at ≡ min (m.base + place) (2 ^ 64 - 1)
     → line ≡ view_line (codes "place=") at (view_of bytes)
     → ((p : ℕ) (events : List stream.UnpiperEvent) → UnpiperStandsFor m.unpiper p events

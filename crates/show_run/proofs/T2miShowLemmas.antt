@@ -7,7 +7,7 @@ use Rattle.std.proofs.lemmas.Option.{IfSome_then}
 use Rattle.terms.proofs.OptionLemmas.{if_any, if_both, append-none}
 use Rattle.show_run.proofs.ShowLemmas.{shows_none}
 use Rattle.ports.specs.Desk.{State, Held, bytes_of}
-use Rattle.desk_io.specs.Reading.{most_bytes}
+use Rattle.desk_io.specs.Reading.{longest_file}
 use Rattle.desk_io.specs.declared.input.TheConstants.{BUFFER}
 use Rattle.ts_packet.specs.declared.sizes.TheConstants.{SIZE}
 use Rattle.t2mi_stream.specs.Accepted.{AcceptedPacket}
@@ -172,12 +172,12 @@ t2mi_stop front behind start now old new name (Files (TooLong input)) s =
     let t = s.1 in
     let x = t.tells in
     record {
-      given = most_bytes;
+      given = longest_file;
       text = gave x.early;
       reads = (s.0, x.opened, refl);
       grew = x.said;
       lines = if_both old.held _ _ _ (λ held f first. ((let w = f.within in w), first)) x.inputs
-          (some_said front behind start now old new name most_bytes [] x
+          (some_said front behind start now old new name longest_file [] x
           (λ none. reaches_waits now.search (is_ready now.unpiper) (SIZE - now.from) now.line _ t.wants));
       counts = t.counts;
     }

@@ -1,6 +1,6 @@
 -- The text of a file of T2-MI packets that stand back to back.
 use Rattle.std.specs.Prelude.{◌≡◌, ℕ, ◌+◌, ◌≤◌, List, [], ◌++◌, length, Result, Ok, Err}
-use Rattle.desk_io.specs.Reading.{most_bytes}
+use Rattle.desk_io.specs.Reading.{longest_file}
 use Rattle.file_run.specs.declared.stop.RunFault.TheVariants.{TooLong, ReadFault, WriteFault}
 use Rattle.t2mi_packet.specs.declared.fault.PacketWhy.{PacketWhy}
 use Rattle.t2mi_packet.specs.declared.reading.TheConstants.{LARGEST}
@@ -39,7 +39,7 @@ IsPacketText file given (Err (PacketRefused at why)) text =
     (packets : List (List ℕ)) × (rest : List ℕ) × Packs file packets rest × IsRefused rest why × (at ≡ bytes_in packets)
     × (text ≡ lines_of 0 packets)
 IsPacketText file given (Err (RecordRefused number why)) text = ⊥
-IsPacketText file given (Err (Files (TooLong input))) text = (most_bytes ≤ length file) × SaysMet file given text
+IsPacketText file given (Err (Files (TooLong input))) text = (longest_file ≤ length file) × SaysMet file given text
 IsPacketText file given (Err (Files (ReadFault input))) text = MeetsPackets file given × AreFirst file text
 IsPacketText file given (Err (Files WriteFault)) text = LeavesSome file text
 IsPacketText file given (Err OutOfMemory) text = text ≡ []

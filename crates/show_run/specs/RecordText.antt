@@ -1,6 +1,6 @@
 -- The text of a file of records.
 use Rattle.std.specs.Prelude.{◌≡◌, ℕ, ◌+◌, ◌-◌, ◌≤◌, List, [], ◌++◌, length, Result, Ok, Err}
-use Rattle.desk_io.specs.Reading.{most_bytes}
+use Rattle.desk_io.specs.Reading.{longest_file}
 use Rattle.file_run.specs.declared.stop.RunFault.TheVariants.{TooLong, ReadFault, WriteFault}
 use Rattle.site_frame.specs.declared.fault.RecordWhy.{RecordWhy}
 use Rattle.site_frame.specs.declared.reading.RecordView.{RecordView}
@@ -43,7 +43,7 @@ IsRecordText file given (Ok count) text =
 IsRecordText file given (Err (PacketRefused at why)) text = ⊥
 IsRecordText file given (Err (RecordRefused number why)) text =
     (views : List RecordView) × (rest : List ℕ) × SaysFirst file views rest text × IsNoRecord rest why × (number ≡ length views)
-IsRecordText file given (Err (Files (TooLong input))) text = (most_bytes ≤ length file) × SaysMetRecords file given text
+IsRecordText file given (Err (Files (TooLong input))) text = (longest_file ≤ length file) × SaysMetRecords file given text
 IsRecordText file given (Err (Files (ReadFault input))) text = MeetsRecords file given × AreFirstRecords file text
 IsRecordText file given (Err (Files WriteFault)) text = LeavesRecords file text
 IsRecordText file given (Err OutOfMemory) text = text ≡ []

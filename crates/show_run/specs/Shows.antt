@@ -2,7 +2,7 @@
 use Rattle.std.specs.Prelude.{◌≡◌, ◌⊎◌, ℕ, ◌<◌, ◌≤◌, List, ◌++◌, Result, Ok, Err, IfSome, option_map}
 use Rattle.ports.specs.Desk.{State, SameCounts, bytes_of}
 use Rattle.desk_io.specs.Faults.{WritesFail}
-use Rattle.desk_io.specs.Reading.{most_bytes}
+use Rattle.desk_io.specs.Reading.{longest_file}
 use Rattle.desk_io.specs.Opening.{Opened, Unopened}
 use Rattle.file_run.specs.Telling.{ReadsFailFirst}
 use Rattle.file_run.specs.declared.stop.RunFault.TheVariants.{TooLong, ReadFault, WriteFault}
@@ -12,15 +12,15 @@ use Rattle.show_run.specs.declared.stop.ShowStop.TheVariants.{PacketRefused, Rec
 -- What was opened and read, by outcome. The file is input 0, the only one. Memory runs out before, if it does; that for a record
 -- runs out behind its head.
 abbrev pub ReadsFile : State → State → List ℕ → ℕ → Result ℕ ShowStop → Type 0
-ReadsFile old new name given (Ok count) = Opened old new name given × (given < most_bytes)
-ReadsFile old new name given (Err (PacketRefused at why)) = Opened old new name given × (given < most_bytes)
-ReadsFile old new name given (Err (RecordRefused number why)) = Opened old new name given × (given < most_bytes)
-ReadsFile old new name given (Err (Files (TooLong input))) = (input ≡ 0) × Opened old new name given × (given ≡ most_bytes)
+ReadsFile old new name given (Ok count) = Opened old new name given × (given < longest_file)
+ReadsFile old new name given (Err (PacketRefused at why)) = Opened old new name given × (given < longest_file)
+ReadsFile old new name given (Err (RecordRefused number why)) = Opened old new name given × (given < longest_file)
+ReadsFile old new name given (Err (Files (TooLong input))) = (input ≡ 0) × Opened old new name given × (given ≡ longest_file)
 ReadsFile old new name given (Err (Files (ReadFault input))) =
-    (input ≡ 0) × ((Unopened old new × (given ≡ 0)) ⊎ (Opened old new name given × (given < most_bytes)))
-ReadsFile old new name given (Err (Files WriteFault)) = Opened old new name given × (given ≤ most_bytes)
+    (input ≡ 0) × ((Unopened old new × (given ≡ 0)) ⊎ (Opened old new name given × (given < longest_file)))
+ReadsFile old new name given (Err (Files WriteFault)) = Opened old new name given × (given ≤ longest_file)
 ReadsFile old new name given (Err OutOfMemory) = new ≡ old
-ReadsFile old new name given (Err NoRoom) = Opened old new name given × (given < most_bytes)
+ReadsFile old new name given (Err NoRoom) = Opened old new name given × (given < longest_file)
 
 -- A fault is told if it came. One of writing came alone; after one of reading what waits is said still, which may fail too.
 abbrev pub Counted : State → State → Result ℕ ShowStop → Type 0

@@ -1,6 +1,6 @@
 -- The text of the T2-MI packets in a file of units.
 use Rattle.std.specs.Prelude.{◌≡◌, ℕ, ◌≤◌, List, [], ◌++◌, length, flat_map, codes, Result, Ok, Err}
-use Rattle.desk_io.specs.Reading.{most_bytes}
+use Rattle.desk_io.specs.Reading.{longest_file}
 use Rattle.file_run.specs.declared.stop.RunFault.TheVariants.{TooLong, ReadFault, WriteFault}
 use Rattle.t2mi_packet.specs.T2miPacket.{view_of}
 use Rattle.t2mi_stream.specs.Accepted.{AcceptedPacket}
@@ -28,7 +28,8 @@ IsT2miText file given (Ok count) text =
     × (given ≡ length file)
 IsT2miText file given (Err (PacketRefused at why)) text = ⊥
 IsT2miText file given (Err (RecordRefused number why)) text = ⊥
-IsT2miText file given (Err (Files (TooLong input))) text = (most_bytes ≤ length file) × AreFirstLines (t2mi_packets_in file) text
+IsT2miText file given (Err (Files (TooLong input))) text = (longest_file ≤ length file)
+    × AreFirstLines (t2mi_packets_in file) text
 IsT2miText file given (Err (Files (ReadFault input))) text = AreFirstLines (t2mi_packets_in file) text
 IsT2miText file given (Err (Files WriteFault)) text = AreFirstLines (t2mi_packets_in file) text
 IsT2miText file given (Err OutOfMemory) text = text ≡ []

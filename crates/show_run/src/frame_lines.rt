@@ -1,6 +1,6 @@
 // The lines of records.
 ghost use Rattle.std.specs.Prelude.{◌≡◌, ◌<◌, ◌≤◌, ◌+◌, length, take, vec_len, vec_capacity, IfOk};
-ghost use Rattle.desk_io.specs.Reading.{most_bytes};
+ghost use Rattle.desk_io.specs.Reading.{longest_file};
 ghost use Rattle.show_run.specs.declared.frame_lines.Coming.TheVariants.{Rest};
 
 use crate::count_line::{give_line, records_line};
@@ -8,7 +8,7 @@ use crate::front::most_of;
 use crate::record_line::line_of;
 use desk_io::{BUFFER, Line};
 use file_run::{Machine, Step, events_law};
-use site_frame::{HEAD, RecordWhy, rest_len};
+use site_frame::{HEAD, RecordWhy, front_head, rest_len};
 use std::alloc::Global;
 
 /// What comes next of a file of records.
@@ -38,7 +38,7 @@ pub struct FrameLines {
     left: usize,
     // The line that is given next.
     line: Line,
-    ghost small: { at ≤ most_bytes },
+    ghost small: { at ≤ longest_file },
     ghost counted: { count ≤ at },
     ghost room: { coming ≡ Rest → (0 < left) × (vec_len bytes + left ≤ vec_capacity bytes) },
 }
@@ -59,16 +59,6 @@ impl FrameLines {
             line: Line::new(),
         }
     }
-}
-
-// The head at the front of some bytes.
-fn front_head(bytes: &[u8]) -> [u8; HEAD]
-    requires { HEAD ≤ length bytes.now }
-    ensures { result ≡ take HEAD bytes.now }
-{
-    let mut head = [0; HEAD];
-    head.copy_from_slice(&bytes[..HEAD]);
-    head
 }
 
 impl FrameLines {
@@ -120,8 +110,9 @@ impl FrameLines {
     fn take_head(&mut self, head: [u8; HEAD])
         requires coming { self.old.coming ≡ Head }
         requires idle { self.old.line ≡ [] }
-        requires room { self.old.at + HEAD ≤ most_bytes }
-        ensures becomes { (start : FrameLines) (events : List Event) → Comes start events self.old → Comes start (events ++ Fed 0 head ∷ []) self.new }
+        requires room { self.old.at + HEAD ≤ longest_file }
+        ensures becomes { (start : FrameLines) (events : List Event) → Comes start events self.old
+            → Comes start (events ++ Fed 0 head ∷ []) self.new }
         ensures at { self.new.at ≡ self.old.at + HEAD }
     {
         events_law();
@@ -137,8 +128,9 @@ impl FrameLines {
         requires coming { self.old.coming ≡ Rest }
         requires idle { self.old.line ≡ [] }
         requires some { 0 < length bytes.now }
-        requires room { self.old.at + length bytes.now ≤ most_bytes }
-        ensures becomes { (start : FrameLines) (events : List Event) → Comes start events self.old → Comes start (events ++ Fed 0 (take result bytes.now) ∷ []) self.new }
+        requires room { self.old.at + length bytes.now ≤ longest_file }
+        ensures becomes { (start : FrameLines) (events : List Event) → Comes start events self.old
+            → Comes start (events ++ Fed 0 (take result bytes.now) ∷ []) self.new }
         ensures count { (0 < result) × (result ≤ length bytes.now) }
         ensures at { self.new.at ≡ self.old.at + result }
     {

@@ -1,6 +1,6 @@
 // The lines of T2-MI packets that stand back to back.
 ghost use Rattle.std.specs.Prelude.{◌≡◌, ◌<◌, ◌≤◌, ◌+◌, length, IfOk};
-ghost use Rattle.desk_io.specs.Reading.{most_bytes};
+ghost use Rattle.desk_io.specs.Reading.{longest_file};
 ghost use Rattle.show_run.specs.declared.packet_lines.Phase.TheVariants.{Ends};
 
 use crate::count_line::{count_line, give_line};
@@ -35,9 +35,9 @@ pub struct PacketLines {
     line: Line,
     // What was left when the file ended.
     rest: Input,
-    ghost small: { at ≤ most_bytes },
+    ghost small: { at ≤ longest_file },
     ghost counted: { count ≤ at },
-    ghost behind: { phase ≡ Ends → at + length rest ≤ most_bytes },
+    ghost behind: { phase ≡ Ends → at + length rest ≤ longest_file },
 }
 
 impl PacketLines {
@@ -66,7 +66,8 @@ impl PacketLines {
     fn go_on(&mut self)
         requires idle { self.old.line ≡ [] }
         requires ends { self.old.phase ≡ Phase.Ends }
-        ensures becomes { (start : PacketLines) (events : List Event) → Comes start events self.old → Comes start (events ++ Gave [] ∷ []) self.new }
+        ensures becomes { (start : PacketLines) (events : List Event) → Comes start events self.old
+            → Comes start (events ++ Gave [] ∷ []) self.new }
         ensures left { left_of self.new < left_of self.old }
         ensures later { self.old.at ≤ self.new.at }
     {

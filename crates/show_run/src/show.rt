@@ -30,8 +30,10 @@ fn tell_lines<M: Machine, D: Desk>(
 ) -> Result<(), ShowStop>
     requires inputs { M.inputs machine.old ≡ 1 }
     requires start { M.Becomes machine.old [] machine.old }
-    ensures ok { OnOk result (TellsAll (M.Becomes machine.old) M.next (D.state desk.old) (D.state desk.new) name.now machine.new) }
-    ensures err { IfErr result (StopsLines (M.Becomes machine.old) M.next (D.state desk.old) (D.state desk.new) name.now machine.new) }
+    ensures ok { OnOk result
+        (TellsAll (M.Becomes machine.old) M.next (D.state desk.old) (D.state desk.new) name.now machine.new) }
+    ensures err { IfErr result
+        (StopsLines (M.Becomes machine.old) M.next (D.state desk.old) (D.state desk.new) name.now machine.new) }
 {
     let Ok(mut reader) = ReadAhead::open(alloc) else {
         return Err(ShowStop::OutOfMemory);

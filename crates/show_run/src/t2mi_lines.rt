@@ -1,6 +1,6 @@
 // The lines of the T2-MI packets in units.
 ghost use Rattle.std.specs.Prelude.{◌≡◌, ◌<◌, ◌+◌, ◌-◌, ◌≤◌, length, take, IfOk};
-ghost use Rattle.desk_io.specs.Reading.{most_bytes};
+ghost use Rattle.desk_io.specs.Reading.{longest_file};
 ghost use Rattle.ts_packet.specs.declared.sizes.TheConstants.{SIZE};
 ghost use Rattle.t2mi_stream.specs.UnpiperStandsFor.{fed_len};
 
@@ -42,7 +42,7 @@ pub struct T2miLines {
     pub(crate) count: u64,
     // The line of their number.
     line: Line,
-    ghost small: { at ≤ most_bytes },
+    ghost small: { at ≤ longest_file },
     ghost inside: { from ≤ SIZE },
     ghost fed: { fed_len unpiper + (SIZE - from) ≤ at },
 }
@@ -91,8 +91,9 @@ impl T2miLines {
     fn pass(&mut self, unit: [u8; SIZE])
         requires seeks { self.old.search ≡ Seeks }
         requires silent { pid_of (fields_in unit) ≡ None }
-        requires room { self.old.at + SIZE ≤ most_bytes }
-        ensures becomes { (start : T2miLines) (events : List Event) → Comes start events self.old → Comes start (events ++ Fed 0 unit ∷ []) self.new }
+        requires room { self.old.at + SIZE ≤ longest_file }
+        ensures becomes { (start : T2miLines) (events : List Event) → Comes start events self.old
+            → Comes start (events ++ Fed 0 unit ∷ []) self.new }
         ensures at { self.new.at ≡ self.old.at + SIZE }
     {
         events_law();
@@ -104,8 +105,9 @@ impl T2miLines {
     fn find(&mut self, pid: u16, unit: [u8; SIZE])
         requires seeks { self.old.search ≡ Seeks }
         requires tells { pid_of (fields_in unit) ≡ Some pid }
-        requires room { self.old.at + SIZE ≤ most_bytes }
-        ensures becomes { (start : T2miLines) (events : List Event) → Comes start events self.old → Comes start (events ++ Fed 0 unit ∷ []) self.new }
+        requires room { self.old.at + SIZE ≤ longest_file }
+        ensures becomes { (start : T2miLines) (events : List Event) → Comes start events self.old
+            → Comes start (events ++ Fed 0 unit ∷ []) self.new }
         ensures at { self.new.at ≡ self.old.at + SIZE }
     {
         events_law();
@@ -120,8 +122,9 @@ impl T2miLines {
     // Takes the next unit of a file in which none before told a PID.
     fn seek(&mut self, unit: [u8; SIZE])
         requires seeks { self.old.search ≡ Seeks }
-        requires room { self.old.at + SIZE ≤ most_bytes }
-        ensures becomes { (start : T2miLines) (events : List Event) → Comes start events self.old → Comes start (events ++ Fed 0 unit ∷ []) self.new }
+        requires room { self.old.at + SIZE ≤ longest_file }
+        ensures becomes { (start : T2miLines) (events : List Event) → Comes start events self.old
+            → Comes start (events ++ Fed 0 unit ∷ []) self.new }
         ensures at { self.new.at ≡ self.old.at + SIZE }
     {
         match unit_pid(unit) {
@@ -136,7 +139,8 @@ impl T2miLines {
         requires unpipes { self.old.search ≡ Unpipes }
         requires ready { is_ready self.old.unpiper ≡ true }
         requires room { PIECE ≤ length out.old }
-        ensures becomes { (start : T2miLines) (events : List Event) → Comes start events self.old → Comes start (events ++ Gave (take result out.new) ∷ []) self.new }
+        ensures becomes { (start : T2miLines) (events : List Event) → Comes start events self.old
+            → Comes start (events ++ Gave (take result out.new) ∷ []) self.new }
         ensures count { result ≤ length out.old }
         ensures left { left_of self.new < left_of self.old }
         ensures at { self.new.at ≡ self.old.at }
@@ -157,7 +161,8 @@ impl T2miLines {
         requires unpipes { self.old.search ≡ Unpipes }
         requires idle { is_ready self.old.unpiper ≡ false }
         requires some { self.old.from < SIZE }
-        ensures becomes { (start : T2miLines) (events : List Event) → Comes start events self.old → Comes start (events ++ Gave [] ∷ []) self.new }
+        ensures becomes { (start : T2miLines) (events : List Event) → Comes start events self.old
+            → Comes start (events ++ Gave [] ∷ []) self.new }
         ensures left { left_of self.new < left_of self.old }
         ensures at { self.new.at ≡ self.old.at }
     {
@@ -174,8 +179,9 @@ impl T2miLines {
         requires idle { is_ready self.old.unpiper ≡ false }
         requires all { self.old.from ≡ SIZE }
         requires some { 0 < length bytes.now }
-        requires room { self.old.at + length bytes.now ≤ most_bytes }
-        ensures becomes { (start : T2miLines) (events : List Event) → Comes start events self.old → Comes start (events ++ Fed 0 (take result bytes.now) ∷ []) self.new }
+        requires room { self.old.at + length bytes.now ≤ longest_file }
+        ensures becomes { (start : T2miLines) (events : List Event) → Comes start events self.old
+            → Comes start (events ++ Fed 0 (take result bytes.now) ∷ []) self.new }
         ensures count { (0 < result) × (result ≤ length bytes.now) }
         ensures at { self.new.at ≡ self.old.at + result }
     {

@@ -19,7 +19,7 @@ pub use head::{GREATEST_REST, HEAD};
 pub use laws::{place_law, reading_law, refusal_law, writing_law};
 pub use parts::FrameParts;
 pub use placing::place_record;
-pub use reading::{RecordView, read_record, rest_len};
+pub use reading::{RecordView, front_head, read_record, rest_len};
 pub use writing::{write_head, write_muted};
 
 #[cfg(test)]

@@ -1,6 +1,6 @@
 // Reading a record.
 ghost use Rattle.std.specs.Prelude.{◌≡◌, ◌↔◌, ℕ, ◌+◌, ◌-◌, ◌<◌, ◌≤◌, ◌^◌, List, ◌++◌, length, IsTrue, IfOk, IfErr, IfSome, Ok};
-ghost use Rattle.std.specs.Prelude.{Err};
+ghost use Rattle.std.specs.Prelude.{Err, take};
 ghost use Rattle.site_frame.specs.Record.{head_len};
 ghost use Rattle.site_frame.specs.Reading.{Gives};
 ghost use Rattle.site_frame.specs.Whole.{HasHead, HasKind, view_in, told_moment, IsRead, IsRefused, BeginsWith, Refuses, Follow};
@@ -115,6 +115,16 @@ fn told_alone(head: &[u8]) -> Result<usize, RecordWhy>
         return Err(RecordWhy::Length);
     }
     Ok(rest)
+}
+
+/// The head at the front of some bytes.
+pub fn front_head(bytes: &[u8]) -> [u8; HEAD]
+    requires { HEAD ≤ length bytes.now }
+    ensures { result ≡ take HEAD bytes.now }
+{
+    let mut head = [0; HEAD];
+    head.copy_from_slice(&bytes[..HEAD]);
+    head
 }
 
 /// How many bytes follow the head of a record, `GREATEST_REST` at most, or why no record begins with this head, whatever follows.

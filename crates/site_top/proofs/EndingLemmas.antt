@@ -25,7 +25,7 @@ use Rattle.site_top.specs.Commands.{ShowPackets, ShowT2mi, ShowFrames, ShowConfi
 use Rattle.site_top.specs.Laws.{OneEnding}
 use Rattle.site_top.specs.Outcomes.{shown_outcome, given_outcome, config_outcome, ran_outcome, modulate_outcome, receive_outcome}
 use Rattle.site_top.specs.Outcomes.{Miscounts}
-use Rattle.desk_io.specs.Reading.{most_bytes}
+use Rattle.desk_io.specs.Reading.{longest_file}
 use Rattle.site_top.specs.Runs.{AreShort, PlanMustEnd, ModulateMustEnd, ReceiveMustEnd, OverPlan, MustEnd}
 
 -- How `gateway` must end, if its inputs are not too long.
@@ -86,7 +86,7 @@ ended_so one run held config out ins result outcome (inr (c, plan, ends)) (inr (
 
 -- How `modulate` must end over a plan, if its input is not too long.
 abbrev pub ModulatesIfShort : List ℕ → Config → Outcome → Type 0
-ModulatesIfShort bytes c outcome = (length bytes < most_bytes) → (result : Result Modulated ModulateStop)
+ModulatesIfShort bytes c outcome = (length bytes < longest_file) → (result : Result Modulated ModulateStop)
     × ModulateMust c bytes result × (outcome ≡ modulate_outcome result)
 
 -- One that ended so over a plan ended as it must, if it did over every plan.
@@ -122,7 +122,7 @@ one_modulating one run held config file out outcome other (inr (c, plan, must)) 
 -- How `receive` must end over a plan, if its input is not too long.
 abbrev pub ReceivesIfShort : List ℕ → ℕ → Config → Outcome → Type 0
 ReceivesIfShort bytes id c outcome = (HasNoPlace c id × (outcome ≡ UnknownPlp id))
-    ⊎ ((plp : ℕ) × IsPlace c id plp × ((length bytes < most_bytes) → (result : Result Received ReceiveStop)
+    ⊎ ((plp : ℕ) × IsPlace c id plp × ((length bytes < longest_file) → (result : Result Received ReceiveStop)
     × ReceiveMust c plp bytes result × (outcome ≡ receive_outcome result)))
 
 one_place : (c : Config) (id plp other : ℕ) → IsPlace c id plp → IsPlace c id other → other ≡ plp

@@ -8,7 +8,7 @@ use Rattle.plp_config.specs.declared.config.Config.{Config}
 use Rattle.site_frame.specs.RecordFile.{AreBytes}
 use Rattle.config_file.specs.Laws.{GivesPlan, ConfigEnds, PlanEnds}
 use Rattle.config_file.specs.declared.stop.ConfigStop.{ConfigStop}
-use Rattle.desk_io.specs.Reading.{most_bytes}
+use Rattle.desk_io.specs.Reading.{longest_file}
 use Rattle.file_run.specs.FileRun.{file_at}
 use Rattle.gateway_run.specs.Laws.{RunEnds}
 use Rattle.modulate_run.specs.Laws.{RunEnds as ModulationEnds}
@@ -40,13 +40,13 @@ gateway_ends run held config out ins (Ok c) short gives = let end = plan_ends ru
     (end.0, inr (c, gives, end.1))
 
 modulate_ends : ModulationEnds → (held : Held) (config file out : List ℕ) (given : Result Config ConfigStop)
-    → length (bytes_of held.files file) < most_bytes → GivesPlan (bytes_of held.files config) given
+    → length (bytes_of held.files file) < longest_file → GivesPlan (bytes_of held.files config) given
     → (outcome : Outcome) × MustEnd (Modulate config file out) held outcome
 modulate_ends run held config file out (Err stop) short gives = (config_outcome stop, inl (stop, gives, refl))
 modulate_ends run held config file out (Ok c) short gives =
     let end = run c (bytes_of held.files file) in (modulate_outcome end.0, inr (c, gives, (short, (end.0, end.1, refl))))
 
-receive_ends : ReceptionEnds → (bytes : List ℕ) (id : ℕ) (c : Config) → (length bytes < most_bytes) × AreBytes bytes → IsPlan c
+receive_ends : ReceptionEnds → (bytes : List ℕ) (id : ℕ) (c : Config) → (length bytes < longest_file) × AreBytes bytes → IsPlan c
     → (outcome : Outcome) × ReceiveMustEnd bytes id c outcome
 receive_ends run bytes id c short plan =
     elim (has_place c plan.rules id) [
@@ -56,7 +56,7 @@ receive_ends run bytes id c short plan =
     ]
 
 reception_ends : ReceptionEnds → (held : Held) (config file out : List ℕ) (id : ℕ) (given : Result Config ConfigStop)
-    → (length (bytes_of held.files file) < most_bytes) × AreBytes (bytes_of held.files file)
+    → (length (bytes_of held.files file) < longest_file) × AreBytes (bytes_of held.files file)
     → GivesPlan (bytes_of held.files config) given → (outcome : Outcome) × MustEnd (Receive config id file out) held outcome
 reception_ends run held config file out id (Err stop) short gives = (config_outcome stop, inl (stop, gives, refl))
 reception_ends run held config file out id (Ok c) short gives = let end =

@@ -297,10 +297,12 @@ file_read : (old new : State) (name : List ℕ) (given : ℕ) (text : List ℕ) 
 file_read old new name given text (Ok count) r said = opened_one None old new name given text r.0 said
 file_read old new name given text (Err (show.PacketRefused at why)) r said = opened_one None old new name given text r.0 said
 file_read old new name given text (Err (show.RecordRefused number why)) r said = opened_one None old new name given text r.0 said
-file_read old new name given text (Err (show.Files (run_fault.TooLong input))) r said = opened_one None old new name given text r.1 said
+file_read old new name given text (Err (show.Files (run_fault.TooLong input))) r said =
+    opened_one None old new name given text r.1 said
 file_read old new name given text (Err (show.Files (run_fault.ReadFault input))) r said =
     ⊎_elim (λ u. unopened None old new text u.0) (λ o. opened_one None old new name given text o.0 said) r.1
-file_read old new name given text (Err (show.Files run_fault.WriteFault)) r said = opened_one None old new name given text r.0 said
+file_read old new name given text (Err (show.Files run_fault.WriteFault)) r said =
+    opened_one None old new name given text r.0 said
 file_read old new name given text (Err show.OutOfMemory) r said = untouched None 1 old new r
 file_read old new name given text (Err show.NoRoom) r said = opened_one None old new name given text r.0 said
 

@@ -14,7 +14,7 @@ use Rattle.config_file.specs.declared.stop.ConfigCause.TheVariants.{Text, Rule}
 use Rattle.config_file.specs.declared.stop.ConfigStop.{ConfigStop}
 use Rattle.config_file.specs.declared.stop.ConfigStop.TheVariants as config
 use Rattle.plp_config.specs.declared.moment.TheConstants.{MOST_FRAMES}
-use Rattle.desk_io.specs.Reading.{most_bytes}
+use Rattle.desk_io.specs.Reading.{longest_file}
 use Rattle.file_run.specs.declared.stop.RunFault.{RunFault}
 use Rattle.file_run.specs.declared.stop.RunFault.TheVariants as run_fault
 use Rattle.gateway_run.specs.declared.stop.Ran.{Ran}
@@ -107,7 +107,7 @@ last_line OutOfMemory = codes "fault: memory\n"
 
 -- the outcome of a command that its files stopped
 abbrev pub file_outcome : RunFault → Outcome
-file_outcome (run_fault.TooLong input) = TooLong most_bytes
+file_outcome (run_fault.TooLong input) = TooLong longest_file
 file_outcome (run_fault.ReadFault input) = ReadFault
 file_outcome run_fault.WriteFault = WriteFault
 

@@ -6,7 +6,7 @@ use Rattle.plp_config.specs.Places.{IsPlace, HasNoPlace}
 use Rattle.plp_config.specs.declared.config.Config.{Config}
 use Rattle.config_file.specs.Laws.{GivesConfig, GivesPlan}
 use Rattle.config_file.specs.declared.stop.ConfigStop.{ConfigStop}
-use Rattle.desk_io.specs.Reading.{most_bytes}
+use Rattle.desk_io.specs.Reading.{longest_file}
 use Rattle.file_run.specs.FileRun.{file_at}
 use Rattle.gateway_run.specs.Laws.{MustRun}
 use Rattle.gateway_run.specs.declared.stop.Ran.{Ran}
@@ -54,18 +54,18 @@ Does (Trial seed frames) old new outcome = Tries old new seed frames outcome
 
 -- No input is too long.
 abbrev pub AreShort : Held → List (List ℕ) → Type 0
-AreShort held ins = (plp : ℕ) → plp < length ins → length (file_at held ins plp) < most_bytes
+AreShort held ins = (plp : ℕ) → plp < length ins → length (file_at held ins plp) < longest_file
 
 -- No file is too long that a command reads, CONFIG aside; and a file of records is bytes.
 abbrev pub AreShortFor : Command → Held → Type 0
-AreShortFor (ShowPackets file) held = length (bytes_of held.files file) < most_bytes
-AreShortFor (ShowT2mi file) held = length (bytes_of held.files file) < most_bytes
-AreShortFor (ShowFrames file) held = (length (bytes_of held.files file) < most_bytes) × AreBytes (bytes_of held.files file)
+AreShortFor (ShowPackets file) held = length (bytes_of held.files file) < longest_file
+AreShortFor (ShowT2mi file) held = length (bytes_of held.files file) < longest_file
+AreShortFor (ShowFrames file) held = (length (bytes_of held.files file) < longest_file) × AreBytes (bytes_of held.files file)
 AreShortFor (ShowConfig file) held = Unit {0}
 AreShortFor (Plan config) held = Unit {0}
 AreShortFor (Gateway config out ins) held = AreShort held ins
-AreShortFor (Modulate config file out) held = length (bytes_of held.files file) < most_bytes
-AreShortFor (Receive config id file out) held = (length (bytes_of held.files file) < most_bytes)
+AreShortFor (Modulate config file out) held = length (bytes_of held.files file) < longest_file
+AreShortFor (Receive config id file out) held = (length (bytes_of held.files file) < longest_file)
     × AreBytes (bytes_of held.files file)
 AreShortFor (Trial seed frames) held = Unit {0}
 
@@ -78,14 +78,14 @@ PlanMustEnd held ins c outcome = Miscounts c ins outcome
 
 -- How `modulate` must end over a plan: as the run does over an input that is not too long.
 abbrev pub ModulateMustEnd : List ℕ → Config → Outcome → Type 0
-ModulateMustEnd bytes c outcome = (length bytes < most_bytes)
+ModulateMustEnd bytes c outcome = (length bytes < longest_file)
     × ((result : Result Modulated ModulateStop) × ModulateMust c bytes result × (outcome ≡ modulate_outcome result))
 
 -- How `receive` must end over a plan: with the identifier if no PLP has it, else as the run does over records that are not too
 -- long.
 abbrev pub ReceiveMustEnd : List ℕ → ℕ → Config → Outcome → Type 0
 ReceiveMustEnd bytes id c outcome = (HasNoPlace c id × (outcome ≡ UnknownPlp id))
-    ⊎ ((plp : ℕ) × IsPlace c id plp × (length bytes < most_bytes)
+    ⊎ ((plp : ℕ) × IsPlace c id plp × (length bytes < longest_file)
     × ((result : Result Received ReceiveStop) × ReceiveMust c plp bytes result × (outcome ≡ receive_outcome result)))
 
 -- How a command must end whose CONFIG has this text: with its refusal, or as it must over the plan that it gives.
@@ -97,10 +97,10 @@ OverPlan text Must outcome =
 -- How a command must end over what a desk holds, if nothing outside fails. If CONFIG alone decides, nothing is asked of
 -- inputs.
 abbrev pub MustEnd : Command → Held → Outcome → Type 0
-MustEnd (ShowPackets file) held outcome = (length (bytes_of held.files file) < most_bytes)
+MustEnd (ShowPackets file) held outcome = (length (bytes_of held.files file) < longest_file)
     × ((result : Result ℕ ShowStop) × PacketsEnd (bytes_of held.files file) result × (outcome ≡ shown_outcome result))
-MustEnd (ShowT2mi file) held outcome = (length (bytes_of held.files file) < most_bytes) × (outcome ≡ Done)
-MustEnd (ShowFrames file) held outcome = (length (bytes_of held.files file) < most_bytes)
+MustEnd (ShowT2mi file) held outcome = (length (bytes_of held.files file) < longest_file) × (outcome ≡ Done)
+MustEnd (ShowFrames file) held outcome = (length (bytes_of held.files file) < longest_file)
     × ((result : Result ℕ ShowStop) × RecordsEnd (bytes_of held.files file) result × (outcome ≡ shown_outcome result))
 MustEnd (ShowConfig file) held outcome = (result : Result Config ConfigStop) × GivesConfig (bytes_of held.files file) result
     × (outcome ≡ given_outcome result)

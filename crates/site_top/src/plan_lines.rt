@@ -1,7 +1,8 @@
 // The lines that `plan` says.
 ghost use Rattle.std.specs.Prelude.{◌≡◌, ◌+◌, ◌++◌, ◌<◌, ◌≤◌, ℕ, [], length};
 ghost use Rattle.plp_config.specs.SlotTime.{IsSlotLength};
-ghost use Rattle.site_top.specs.PlanLines.{network_line as line_of_network, slot_part, size_part, count_part, plp_line as line_of_plp, IsPlanText};
+ghost use Rattle.site_top.specs.PlanLines.{network_line as line_of_network, slot_part, size_part, count_part};
+ghost use Rattle.site_top.specs.PlanLines.{plp_line as line_of_plp, IsPlanText};
 ghost use Rattle.desk_io.specs.declared.line.TheConstants.{ROOM};
 
 use config_text::band_word;

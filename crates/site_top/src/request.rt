@@ -1,7 +1,9 @@
 // What the words of the command line ask for.
 ghost use Rattle.std.specs.Prelude.{◌≡◌, ◌≤◌, IfSome};
 ghost use Rattle.std.specs.Option.{option_map};
-ghost use Rattle.site_top.specs.Commands.{command_of, shown as shown_by, show_of as show_by, is_input, are_inputs, gateway_of as gateway_by, modulate_of as modulate_by, number_named as number_by, receive_of as receive_by, trial_of as trial_by, meant, IsApart};
+ghost use Rattle.site_top.specs.Commands.{command_of, shown as shown_by, show_of as show_by, is_input, are_inputs};
+ghost use Rattle.site_top.specs.Commands.{gateway_of as gateway_by, modulate_of as modulate_by, number_named as number_by};
+ghost use Rattle.site_top.specs.Commands.{receive_of as receive_by, trial_of as trial_by, meant, IsApart};
 
 use config_text::number_within;
 use ports::Word;
@@ -181,7 +183,7 @@ fn show_of<'a>(show: &str, what: &str, file: &'a str) -> Option<Request<'a>>
     }
 }
 
-/// The command that words name, `None` where they name none.
+/// The command that words name, `None` if they name none.
 pub fn request_of<'a>(words: &'a [Word]) -> Option<Request<'a>>
     ensures named { option_map meant result ≡ command_of words.now }
     ensures apart { IfSome result IsApart }

@@ -67,9 +67,11 @@ pub fn run<D: Desk>(alloc: Global, words: &[Word], desk: &mut D) -> Outcome
 
     // However it ends, it changes no file but the one that it writes, creates that once at most, and opens no more files than it
     // reads.
-    ensures touches { IfSome (command_of words.now) (λ command. Touches (out_of command) (length (ins_of command)) (D.state desk.old) (D.state desk.new)) }
+    ensures touches { IfSome (command_of words.now)
+        (λ command. Touches (out_of command) (length (ins_of command)) (D.state desk.old) (D.state desk.new)) }
 
-    ensures complete { IfSome (command_of words.now) (λ command. IsComplete command (D.state desk.old) (D.state desk.new) result) }
+    ensures complete { IfSome (command_of words.now)
+        (λ command. IsComplete command (D.state desk.old) (D.state desk.new) result) }
 {
     completeness();
     only_out_changes();

@@ -10,7 +10,7 @@ use Rattle.ts_packet.specs.Told.{fields_in}
 use Rattle.t2mi_stream.specs.Accepted.{Byte, packet_of}
 use Rattle.t2mi_stream.specs.Units.{PipedUnit, piped_unit_of, unit_at, Cut, goes_on, with_piped_unit, cut_from, runs}
 use Rattle.t2mi_stream.specs.Units.{bytes_from}
-use Rattle.t2mi_stream.specs.Pipe.{Item, items, joined, least_start, part, unit, units_in, carried_in}
+use Rattle.t2mi_stream.specs.Pipe.{JoinedByte, items, joined, first_start, part, unit, units_in, carried_in}
 use Rattle.t2mi_stream.specs.Pipe.{carried_len}
 use Rattle.t2mi_stream.specs.Pipes.{is_first}
 use Rattle.t2mi_stream.specs.Received.{Fate, left_of, fate_of}
@@ -22,7 +22,7 @@ use Rattle.t2mi_stream.proofs.FitLemmas.{Fits, fits_append}
 use Rattle.t2mi_stream.proofs.ReadsLemmas.{UnitLaws, unit_reads, carried_fits}
 
 -- one more unit behind whole units
-pub one_unit : (w : UnitLaws) (pid counter number : ℕ) (bytes : List ℕ) (xs : List Item) → pid < 2 ^ 13 → counter < 16
+pub one_unit : (w : UnitLaws) (pid counter number : ℕ) (bytes : List ℕ) (xs : List JoinedByte) → pid < 2 ^ 13 → counter < 16
     → 0 < length xs → length bytes ≡ 188 * number →
     runs pid (bytes ++ unit pid counter xs) ≡ with_piped_unit (runs pid bytes)
     (record { counter = counter; bytes = carried_in (188 * number) xs })
@@ -44,15 +44,15 @@ entered cut c = cond_both {A = Cut} (goes_on cut.last c.counter) _ _ (λ k. (fro
     (λ _. (cut.run, refl, refl)) (λ _. ([], refl, refl))
 
 -- Units that are kept go on with a run.
-pub record GoesOn (pid : ℕ) (bytes : List ℕ) (units : List (List ℕ)) (xs : List Item) (size : ℕ) : Type 0 where
+pub record GoesOn (pid : ℕ) (bytes : List ℕ) (units : List (List ℕ)) (xs : List JoinedByte) (size : ℕ) : Type 0 where
   pub more : List Byte
   pub run_is : (runs pid (bytes ++ flat_map (λ u. u) units)).run ≡ (runs pid bytes).run ++ more
   pub fits : Fits more (take size xs)
 
-none_carried : (count : ℕ) → take {A = Item} (carried_len count []) [] ≡ []
+none_carried : (count : ℕ) → take {A = JoinedByte} (carried_len count []) [] ≡ []
 none_carried count = take_nothing (carried_len count [])
   where
-    take_nothing : (n : ℕ) → take {A = Item} n [] ≡ []
+    take_nothing : (n : ℕ) → take {A = JoinedByte} n [] ≡ []
     take_nothing zero = refl
     take_nothing (suc n) = refl
 
@@ -72,7 +72,7 @@ along pid bytes u units more carried rest one =
     ap (λ (l : List ℕ). (runs pid l).run) (sym (append_assoc bytes u (flat_map (λ u. u) units)))
     ∙ rest ∙ ap (λ (l : List Byte). l ++ more) one ∙ append_assoc (runs pid bytes).run carried more
 
-pub goes_along : (w : UnitLaws) (pid count steps counter last number : ℕ) (bytes : List ℕ) (xs : List Item) → pid < 2 ^ 13
+pub goes_along : (w : UnitLaws) (pid count steps counter last number : ℕ) (bytes : List ℕ) (xs : List JoinedByte) → pid < 2 ^ 13
     → length bytes ≡ 188 * number → (runs pid bytes).last ≡ Some last →
     counter ≡ (last + 1) % 16 → length xs ≤ steps → GoesOn pid bytes (take count (units_in pid steps counter xs)) xs
     (carried_len count xs)
@@ -86,11 +86,11 @@ goes_along w pid (suc count) zero counter last number bytes [] p whole is n enou
 goes_along w pid (suc count) zero counter last number bytes (x ∷ xs) p whole is n enough = absurd (omega arith)
 goes_along w pid (suc count) (suc steps) counter last number bytes [] p whole is n enough = none_along pid (suc count) bytes
 goes_along w pid (suc count) (suc steps) counter last number bytes (x ∷ xs) p whole is n enough =
-    let all : List Item = x ∷ xs in
+    let all : List JoinedByte = x ∷ xs in
     let u : List ℕ = unit pid counter all in
     let small : counter < 16 = omega (arith, n) in
     let size = part_size all (omega arith) in
-    let rest : List Item = drop (part all).size all in
+    let rest : List JoinedByte = drop (part all).size all in
     let next : ℕ = (counter + 1) % 16 in
     let r = unit_reads w pid (188 * number) counter all p small (omega arith) in
     let c : PipedUnit = record { counter = counter; bytes = carried_in (188 * number) all } in
@@ -139,15 +139,15 @@ among_right x [] ys h = h
 among_right x (y ∷ xs) ys h = inr (among_right x xs ys h)
 
 -- Each byte that begins a packet begins whole packets up to the end.
-abbrev pub Whole : List Item → Type 0
+abbrev pub Whole : List JoinedByte → Type 0
 Whole xs = (t : ℕ) → is_first (drop t xs) ≡ true → (packets : List (List ℕ)) × (drop t xs ≡ joined packets) × ArePackets packets
 
-pub whole_drop : (n : ℕ) (xs : List Item) → Whole xs → Whole (drop n xs)
+pub whole_drop : (n : ℕ) (xs : List JoinedByte) → Whole xs → Whole (drop n xs)
 whole_drop n xs h t first =
     let e = drop-drop t n xs in
     let r = h (n + t) (ap is_first (sym e) ∙ first) in (r.0, e ∙ r.1, r.2)
 
-pub plain_first : (c : List ℕ) (t : ℕ) (more : List Item) → t < length c → is_first (drop t (items false c ++ more)) ≡ false
+pub plain_first : (c : List ℕ) (t : ℕ) (more : List JoinedByte) → t < length c → is_first (drop t (items false c ++ more)) ≡ false
 plain_first [] t more l = absurd (omega arith)
 plain_first (b ∷ c) zero more l = refl
 plain_first (b ∷ c) (suc t) more l = plain_first c t more (omega arith)
@@ -175,27 +175,27 @@ take_over (x ∷ a) b (suc l) h =
     let e : l - length a ≡ suc l - suc (length a) = omega arith in
     ap (λ (r : List _). x ∷ r) (take_over a b l (omega arith) ∙ ap (λ (n : ℕ). a ++ take n b) e)
 
-pub first_take : (n t : ℕ) (xs : List Item) → t < n → is_first (drop t (take n xs)) ≡ is_first (drop t xs)
+pub first_take : (n t : ℕ) (xs : List JoinedByte) → t < n → is_first (drop t (take n xs)) ≡ is_first (drop t xs)
 first_take zero t xs l = absurd (omega arith)
 first_take (suc n) zero [] l = refl
 first_take (suc n) zero (x ∷ xs) l = refl
 first_take (suc n) (suc t) [] l = refl
 first_take (suc n) (suc t) (x ∷ xs) l = first_take n t xs (omega arith)
 
-pub first_append : (t : ℕ) (xs ys : List Item) → t < length xs → is_first (drop t (xs ++ ys)) ≡ is_first (drop t xs)
+pub first_append : (t : ℕ) (xs ys : List JoinedByte) → t < length xs → is_first (drop t (xs ++ ys)) ≡ is_first (drop t xs)
 first_append t [] ys l = absurd (omega arith)
 first_append zero (x ∷ xs) ys l = refl
 first_append (suc t) (x ∷ xs) ys l = first_append t xs ys (omega arith)
 
 -- the first start, if there is one
-pub record Least (xs : List Item) (t : ℕ) : Type 0 where
+pub record Least (xs : List JoinedByte) (t : ℕ) : Type 0 where
   pub place : ℕ
-  pub least : least_start xs ≡ Some place
+  pub least : first_start xs ≡ Some place
   pub before : place ≤ t
   pub first : is_first (drop place xs) ≡ true
 
-pub least_first : (xs : List Item) (t : ℕ) → is_first (drop t xs) ≡ true → Least xs t
-least_first [] t h = let none : List Item = [] in
+pub least_first : (xs : List JoinedByte) (t : ℕ) → is_first (drop t xs) ≡ true → Least xs t
+least_first [] t h = let none : List JoinedByte = [] in
     absurd (both_ways false refl (ap is_first (sym (drop_all t none (omega arith))) ∙ h))
 least_first (x ∷ xs) t h = go x.first refl t h (λ s k. least_first xs s k)
   where
@@ -218,7 +218,7 @@ place_at place at named zero (b ∷ bytes) more l = omega arith
 place_at place at named (suc t) (b ∷ bytes) more l = place_at place (at + 1) named t bytes more (omega arith) ∙ omega arith
 
 -- The packets of what stands between the first start and a packet.
-pub between : (pre : List Item) (f : ℕ) → Whole pre → f ≤ length pre → (f < length pre → is_first (drop f pre) ≡ true)
+pub between : (pre : List JoinedByte) (f : ℕ) → Whole pre → f ≤ length pre → (f < length pre → is_first (drop f pre) ≡ true)
     → (packets : List (List ℕ)) × (drop f pre ≡ joined packets) × ArePackets packets
 between pre f whole l first = ⊎_elim
     (λ (less : f < length pre). whole f (first less))

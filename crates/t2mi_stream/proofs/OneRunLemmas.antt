@@ -12,7 +12,7 @@ use Rattle.t2mi_packet.specs.Spell.{spell}
 use Rattle.t2mi_stream.specs.Accepted.{Byte, AcceptedPacket, values, is_marked, packet_of, accepted_len, front_packet, accepted}
 use Rattle.t2mi_stream.specs.Candidate.{placed}
 use Rattle.t2mi_stream.specs.Units.{PipedUnit, Cut, goes_on, runs}
-use Rattle.t2mi_stream.specs.Pipe.{Item, values as item_values, items, joined, part, unit, units_in, carried_in}
+use Rattle.t2mi_stream.specs.Pipe.{JoinedByte, values as joined_values, items, joined, part, unit, units_in, carried_in}
 use Rattle.t2mi_stream.specs.Pipe.{carried_len, offset_in}
 use Rattle.t2mi_stream.specs.Pipes.{is_first}
 use Rattle.t2mi_stream.specs.Received.{Fate, left_of, left_number, fate_of}
@@ -31,7 +31,7 @@ use Rattle.t2mi_stream.proofs.StandLemmas.{at_start}
 use Rattle.t2mi_stream.proofs.SurvivorLemmas.{Carries}
 
 -- what units carry, the first of them with a number
-abbrev pub carried_all : ℕ → ℕ → List Item → List Byte
+abbrev pub carried_all : ℕ → ℕ → List JoinedByte → List Byte
 carried_all zero number xs = []
 carried_all (suc steps) number [] = []
 carried_all (suc steps) number (x ∷ xs) = carried_in (188 * number) (x ∷ xs) ++ carried_all steps (number + 1)
@@ -50,16 +50,16 @@ same_run pid bytes =
           (append-nil bytes) ∙ sym (append-nil (runs pid bytes).run);
     }
 
-pub one_run : (w : UnitLaws) (pid steps counter number : ℕ) (bytes : List ℕ) (xs : List Item) → pid < 2 ^ 13 → counter < 16
+pub one_run : (w : UnitLaws) (pid steps counter number : ℕ) (bytes : List ℕ) (xs : List JoinedByte) → pid < 2 ^ 13 → counter < 16
     → length bytes ≡ 188 * number → goes_on (runs pid bytes).last counter ≡ true →
     OneRun (runs pid (bytes ++ flat_map (λ u. u) (units_in pid steps counter xs))) (runs pid bytes) (carried_all steps number xs)
 unfolding units_in
 one_run w pid zero counter number bytes xs p small whole goes = same_run pid bytes
 one_run w pid (suc steps) counter number bytes [] p small whole goes = same_run pid bytes
 one_run w pid (suc steps) counter number bytes (x ∷ xs) p small whole goes =
-    let all : List Item = x ∷ xs in
+    let all : List JoinedByte = x ∷ xs in
     let u : List ℕ = unit pid counter all in
-    let rest : List Item = drop (part all).size all in
+    let rest : List JoinedByte = drop (part all).size all in
     let next : ℕ = (counter + 1) % 16 in
     let r = unit_reads w pid (188 * number) counter all p small (omega arith) in
     let c : PipedUnit = record { counter = counter; bytes = carried_in (188 * number) all } in
@@ -82,7 +82,7 @@ one_run w pid (suc steps) counter number bytes (x ∷ xs) p small whole goes =
           (carried_all steps (number + 1) rest);
     }
 
-pub all_fits : (steps number : ℕ) (xs : List Item) → length xs ≤ steps → Fits (carried_all steps number xs) xs
+pub all_fits : (steps number : ℕ) (xs : List JoinedByte) → length xs ≤ steps → Fits (carried_all steps number xs) xs
 all_fits zero number [] l = tt
 all_fits zero number (x ∷ xs) l = absurd (omega arith)
 all_fits (suc steps) number [] l = tt
@@ -99,23 +99,23 @@ carried_nil zero = refl
 carried_nil (suc n) = let h = carried_nil n in omega (arith, h)
 
 -- Each byte has its place.
-pub place_in_run : (v steps number : ℕ) (xs : List Item) (t : ℕ) → length xs ≤ steps → Carries v xs t
+pub place_in_run : (v steps number : ℕ) (xs : List JoinedByte) (t : ℕ) → length xs ≤ steps → Carries v xs t
     → (packet_of (drop t (carried_all steps number xs))).place ≡ 188 * (number + v) + offset_in v xs t
 place_in_run v zero number [] t l h = let n = carried_nil (suc v) in absurd (let w = h.within in omega (arith, n, w))
 place_in_run v zero number (x ∷ xs) t l h = absurd (omega arith)
 place_in_run v (suc steps) number [] t l h = let n = carried_nil (suc v) in absurd (let w = h.within in omega (arith, n, w))
 place_in_run zero (suc steps) number (x ∷ xs) t l h =
     let size = part_size (x ∷ xs) (omega arith) in
-    let vals : length (item_values (take (part (x ∷ xs)).size (x ∷ xs))) ≡ (part (x ∷ xs)).size =
+    let vals : length (joined_values (take (part (x ∷ xs)).size (x ∷ xs))) ≡ (part (x ∷ xs)).size =
     length-values (take (part (x ∷ xs)).size (x ∷ xs)) ∙ length-take-le (part (x ∷ xs)).size (x ∷ xs) size.1 in
-    place_at (188 * number) (188 - length (item_values (take (part (x ∷ xs)).size (x ∷ xs)))) _ t
-    (item_values (take (part (x ∷ xs)).size (x ∷ xs))) (carried_all steps (number + 1) (drop (part (x ∷ xs)).size (x ∷ xs)))
+    place_at (188 * number) (188 - length (joined_values (take (part (x ∷ xs)).size (x ∷ xs)))) _ t
+    (joined_values (take (part (x ∷ xs)).size (x ∷ xs))) (carried_all steps (number + 1) (drop (part (x ∷ xs)).size (x ∷ xs)))
     (let w = h.within in omega (arith, vals, w))
     ∙ ap (λ (k : ℕ). 188 * number + (188 - k + t)) vals ∙ omega arith
 place_in_run (suc v) (suc steps) number (x ∷ xs) t l h =
     let n : ℕ = (part (x ∷ xs)).size in
     let size = part_size (x ∷ xs) (omega arith) in
-    let rest : List Item = drop n (x ∷ xs) in
+    let rest : List JoinedByte = drop n (x ∷ xs) in
     let begins = h.begins in
     let passed : n ≤ t = omega (arith, begins) in
     let count : length (carried_in (188 * number) (x ∷ xs)) ≡ n = fits_len (carried_in (188 * number) (x ∷ xs)) (take n (x ∷ xs))
@@ -132,7 +132,7 @@ place_in_run (suc v) (suc steps) number (x ∷ xs) t l h =
     ∙ omega (arith, passed)
 
 -- all units carry all bytes
-pub units_all : (pid steps counter : ℕ) (xs : List Item) → length xs ≤ steps
+pub units_all : (pid steps counter : ℕ) (xs : List JoinedByte) → length xs ≤ steps
     → carried_len (length (units_in pid steps counter xs)) xs
     ≡ length xs
 unfolding units_in
@@ -172,7 +172,7 @@ pub record Begins (packets : List (List ℕ)) (t : ℕ) : Type 0 where
   pub spelled : spell packet ≡ Some (length packet)
 
 pub begins : (packets : List (List ℕ)) (t : ℕ) → ArePackets packets → is_first (drop t (joined packets)) ≡ true → Begins packets t
-begins [] t all first = let none : List Item = [] in
+begins [] t all first = let none : List JoinedByte = [] in
     absurd (both_ways false refl (ap is_first (sym (drop_all t none (omega arith))) ∙ first))
 begins (c ∷ packets) zero all first =
     record { before = []; packet = c; after = packets; parts = refl; at = refl; spelled = all.0 }
@@ -230,12 +230,12 @@ module _ (g : SpellLaws) (packets : List (List ℕ)) (all : ArePackets packets) 
   fits_at : (s : ℕ) → Fits (drop s run) (drop (gone + s) (joined packets))
   fits_at s = subst (Fits (drop s run)) (drop-drop s gone (joined packets)) (fits_drop s run (drop gone (joined packets)) fits)
 
-  marked_first : (xs : List Byte) (ys : List Item) → Fits xs ys → is_marked xs ≡ true → is_first ys ≡ true
+  marked_first : (xs : List Byte) (ys : List JoinedByte) → Fits xs ys → is_marked xs ≡ true → is_first ys ≡ true
   marked_first [] ys h m = absurd (both_ways false refl m)
   marked_first (x ∷ xs) [] h m = absurd h
   marked_first (x ∷ xs) (y ∷ ys) h m = h.1 m
 
-  first_item : (p : List ℕ) (more : List Item) → spell p ≡ Some (length p) → is_first (items true p ++ more) ≡ true
+  first_item : (p : List ℕ) (more : List JoinedByte) → spell p ≡ Some (length p) → is_first (items true p ++ more) ≡ true
   first_item [] more s = let r = (g.range [] 0 s).0 in absurd (omega (arith, r))
   first_item (b ∷ p) more s = refl
 

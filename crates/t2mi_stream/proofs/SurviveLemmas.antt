@@ -11,7 +11,7 @@ use Rattle.t2mi_packet.specs.Spell.{spell}
 use Rattle.t2mi_stream.specs.Accepted.{Byte, AcceptedPacket, is_marked, packet_of, accepted}
 use Rattle.t2mi_stream.specs.Candidate.{placed}
 use Rattle.t2mi_stream.specs.Units.{PipedUnit, Cut, with_piped_unit, runs, accepted_of}
-use Rattle.t2mi_stream.specs.Pipe.{Item, values, items, joined, part, unit, units_in, units_of, carried_in}
+use Rattle.t2mi_stream.specs.Pipe.{JoinedByte, values, items, joined, part, unit, units_in, units_of, carried_in}
 use Rattle.t2mi_stream.specs.Pipe.{carried_len, offset_in}
 use Rattle.t2mi_stream.specs.Pipes.{is_first}
 use Rattle.t2mi_stream.specs.Received.{Fate, left_of, received, left_number, AlteredWhole, fate_of}
@@ -28,29 +28,29 @@ use Rattle.t2mi_stream.proofs.KeptUnitsLemmas.{place_at, between}
 
 -- A packet that begins in the first of the units, and whose units are kept.
 module _ (g : SpellLaws) (w : UnitLaws) (front : AcceptedFront) (pid : ℕ) (fits_pid : pid < 2 ^ 13) (p : List ℕ)
-    (spelled : spell p ≡ Some (length p)) (z : List Item) where
+    (spelled : spell p ≡ Some (length p)) (z : List JoinedByte) where
   ten : 10 ≤ length p
   ten = (g.range p (length p) spelled).0
 
-  first_item : (more : List Item) → is_first (items true p ++ more) ≡ true
+  first_item : (more : List JoinedByte) → is_first (items true p ++ more) ≡ true
   first_item more = go p ten
     where
       go : (q : List ℕ) → 10 ≤ length q → is_first (items true q ++ more) ≡ true
       go [] l = absurd (omega arith)
       go (b ∷ q) l = refl
 
-  module _ (steps counter number count : ℕ) (bytes : List ℕ) (x : Item) (xs pre : List Item) (fates : List Fate)
+  module _ (steps counter number count : ℕ) (bytes : List ℕ) (x : JoinedByte) (xs pre : List JoinedByte) (fates : List Fate)
       (small : counter < 16) (units : length bytes ≡ 188 * number) (all_is : x ∷ xs ≡ pre ++ (items true p ++ z))
       (whole : Whole pre) (here : length pre < (part (x ∷ xs)).size)
       (reach : length pre + length p ≤ carried_len (suc count) (x ∷ xs)) (enough : length xs ≤ steps)
       (kept : (n : ℕ) → n < count → fate_of fates n ≡ Some Kept) where
-    abbrev all : List Item
+    abbrev all : List JoinedByte
     all = x ∷ xs
 
     abbrev u : List ℕ
     u = unit pid counter all
 
-    abbrev rest : List Item
+    abbrev rest : List JoinedByte
     rest = drop (part all).size all
 
     abbrev next : ℕ
@@ -92,7 +92,7 @@ module _ (g : SpellLaws) (w : UnitLaws) (front : AcceptedFront) (pid : ℕ) (fit
     run_is = further.run_is ∙ ap (λ (l : List Byte). l ++ further.more) (ap (λ (k : Cut). k.run) cut ∙ e.1)
         ∙ append_assoc e.0 c.bytes further.more
 
-    abbrev z' : List Item
+    abbrev z' : List JoinedByte
     z' = take (carried_len (suc count) all - s - length (items true p)) z
 
     taken : take (carried_len (suc count) all) all ≡ pre ++ (items true p ++ z')
@@ -100,7 +100,7 @@ module _ (g : SpellLaws) (w : UnitLaws) (front : AcceptedFront) (pid : ℕ) (fit
         let n = length-items true p in
         ap (take (carried_len (suc count) all)) all_is
         ∙ take_over pre (items true p ++ z) (carried_len (suc count) all) (omega (arith, reach))
-        ∙ ap (λ (l : List Item). pre ++ l)
+        ∙ ap (λ (l : List JoinedByte). pre ++ l)
         (take_over (items true p) z (carried_len (suc count) all - s) (omega (arith, reach, n)))
 
     fits : Fits mine (pre ++ (items true p ++ z'))
@@ -112,7 +112,7 @@ module _ (g : SpellLaws) (w : UnitLaws) (front : AcceptedFront) (pid : ℕ) (fit
     at_run t = sym (drop-drop t base (e.0 ++ mine)) ∙ ap (drop t) (drop_at e.0 mine base refl)
 
     first_at : is_first (drop s all) ≡ true
-    first_at = ap (λ (l : List Item). is_first (drop s l)) all_is ∙ ap is_first (drop_at pre (items true p ++ z) s refl)
+    first_at = ap (λ (l : List JoinedByte). is_first (drop s l)) all_is ∙ ap is_first (drop_at pre (items true p ++ z) s refl)
         ∙ first_item z
 
     least : Least (take (part all).size all) s
@@ -123,7 +123,7 @@ module _ (g : SpellLaws) (w : UnitLaws) (front : AcceptedFront) (pid : ℕ) (fit
 
     packets : (packets : List (List ℕ)) × (drop f pre ≡ joined packets) × ArePackets packets
     packets = between pre f whole least.before (λ l.
-        sym (first_append f pre (items true p ++ z) l) ∙ ap (λ (l : List Item). is_first (drop f l)) (sym all_is)
+        sym (first_append f pre (items true p ++ z) l) ∙ ap (λ (l : List JoinedByte). is_first (drop f l)) (sym all_is)
         ∙ sym (first_take (part all).size f all (let b = least.before in omega (arith, b, here))) ∙ least.first)
 
     vals : length (values (take (part all).size all)) ≡ (part all).size
@@ -143,7 +143,7 @@ module _ (g : SpellLaws) (w : UnitLaws) (front : AcceptedFront) (pid : ℕ) (fit
         let from_f : Fits (drop (base + f) (e.0 ++ mine)) (joined packets.0 ++ (items true p ++ z')) =
         subst (λ (l : List Byte). Fits l (joined packets.0 ++ (items true p ++ z'))) (sym (at_run f))
         (subst (Fits (drop f mine)) (drop-append-le f pre (items true p ++ z') b
-        ∙ ap (λ (l : List Item). l ++ (items true p ++ z')) packets.1)
+        ∙ ap (λ (l : List JoinedByte). l ++ (items true p ++ z')) packets.1)
         (fits_drop f mine (pre ++ (items true p ++ z')) fits)) in
         let to_p : base + f + length (joined packets.0) ≡ base + s = let k = ap length packets.1 in
         omega (arith, k, length-drop f pre, b) in
@@ -177,14 +177,15 @@ module _ (g : SpellLaws) (w : UnitLaws) (front : AcceptedFront) (pid : ℕ) (fit
         (subst (Among packet) (sym o.1) (among_left packet (accepted_of pid came) o.0 there))
 
   -- It begins in a later one.
-  record Found (i number : ℕ) (bytes : List ℕ) (xs : List Item) (place : ℕ) (units : List (List ℕ))
+  record Found (i number : ℕ) (bytes : List ℕ) (xs : List JoinedByte) (place : ℕ) (units : List (List ℕ))
       (fates : List Fate) : Type 0 where
     pub left : ℕ
     pub number_is : left_number fates i ≡ Some left
     pub there : Among (placed (188 * (number + left) + offset_in i xs place) p) (accepted_of pid (bytes ++ left_of units fates))
 
   -- by what becomes of the unit before
-  behind_unit : (i number : ℕ) (bytes u : List ℕ) (x : Item) (xs : List Item) (place : ℕ) (units : List (List ℕ)) (f : Fate)
+  behind_unit : (i number : ℕ) (bytes u : List ℕ) (x : JoinedByte) (xs : List JoinedByte) (place : ℕ) (units : List (List ℕ))
+      (f : Fate)
       (fates : List Fate) → length bytes ≡ 188 * number → length u ≡ 188 →
       (part (x ∷ xs)).size ≤ place → AlteredWhole (f ∷ fates) →
       ((number : ℕ) (bytes : List ℕ) → length bytes ≡ 188 * number → AlteredWhole fates
@@ -195,7 +196,7 @@ module _ (g : SpellLaws) (w : UnitLaws) (front : AcceptedFront) (pid : ℕ) (fit
       size : ℕ
       size = (part (x ∷ xs)).size
 
-      rest : List Item
+      rest : List JoinedByte
       rest = drop size (x ∷ xs)
 
       same : offset_in i rest (place - size) ≡ offset_in (suc i) (x ∷ xs) place
@@ -232,7 +233,8 @@ module _ (g : SpellLaws) (w : UnitLaws) (front : AcceptedFront) (pid : ℕ) (fit
           }
 
   -- a unit that is kept
-  first_kept : (number : ℕ) (bytes u : List ℕ) (xs : List Item) (place : ℕ) (units : List (List ℕ)) (f : Fate) (fates : List Fate)
+  first_kept : (number : ℕ) (bytes u : List ℕ) (xs : List JoinedByte) (place : ℕ) (units : List (List ℕ)) (f : Fate)
+      (fates : List Fate)
       → f ≡ Kept →
       Among (placed (188 * (number + 0) + offset_in 0 xs place) p) (accepted_of pid (bytes ++ (u ++ left_of units fates)))
       → Found 0 number bytes xs place (u ∷ units) (f ∷ fates)
@@ -240,7 +242,7 @@ module _ (g : SpellLaws) (w : UnitLaws) (front : AcceptedFront) (pid : ℕ) (fit
       subst (λ (f : Fate). Found 0 number bytes xs place (u ∷ units) (f ∷ fates)) (sym e)
       (record { left = 0; number_is = refl; there = h })
 
-  walk : (i steps counter number : ℕ) (bytes : List ℕ) (xs pre : List Item) (fates : List Fate) (last : ℕ) → counter < 16
+  walk : (i steps counter number : ℕ) (bytes : List ℕ) (xs pre : List JoinedByte) (fates : List Fate) (last : ℕ) → counter < 16
       → length bytes ≡ 188 * number → xs ≡ pre ++ (items true p ++ z) → Whole pre →
       carried_len i xs ≤ length pre → length pre < carried_len (suc i) xs → length pre + length p ≤ carried_len last xs
       → length xs ≤ steps →
@@ -276,7 +278,7 @@ module _ (g : SpellLaws) (w : UnitLaws) (front : AcceptedFront) (pid : ℕ) (fit
       absurd (let t = ten in omega (arith, m, begins, ends, t))) (cases_lt (suc i) (suc last)))))
   walk (suc i) (suc steps) counter number bytes (x ∷ xs) pre (f ∷ fates) (suc last) small units is whole begins within ends enough
       kept altered =
-      let all : List Item = x ∷ xs in
+      let all : List JoinedByte = x ∷ xs in
       let n : ℕ = (part all).size in
       let size = part_size all (omega arith) in
       let r = unit_reads w pid (188 * number) counter all fits_pid small (omega arith) in
@@ -296,7 +298,7 @@ module _ (g : SpellLaws) (w : UnitLaws) (front : AcceptedFront) (pid : ℕ) (fit
       (λ m a b. kept (suc m) (omega arith) (omega arith)) altered'))
 
 -- later units of the same
-pub record Later (pid : ℕ) (units : List (List ℕ)) (xs : List Item) : Type 0 where
+pub record Later (pid : ℕ) (units : List (List ℕ)) (xs : List JoinedByte) : Type 0 where
   pub steps : ℕ
   pub counter : ℕ
   pub units_are : units ≡ units_in pid steps counter xs
@@ -306,11 +308,11 @@ pub record Later (pid : ℕ) (units : List (List ℕ)) (xs : List Item) : Type 0
 nothing_later : (pid n counter : ℕ) → counter < 16 → Later pid [] (drop n [])
 unfolding units_in
 nothing_later pid n counter small =
-    let none : List Item = [] in
+    let none : List JoinedByte = [] in
     let e = ap length (drop_all n none (omega arith)) in
     record { steps = 0; counter = counter; units_are = refl; small = small; enough = omega (arith, e) }
 
-pub later : (pid from steps counter : ℕ) (xs : List Item) → counter < 16 → length xs ≤ steps
+pub later : (pid from steps counter : ℕ) (xs : List JoinedByte) → counter < 16 → length xs ≤ steps
     → Later pid (drop from (units_in pid steps counter xs)) (drop (carried_len from xs) xs)
 unfolding units_in
 later pid zero steps counter xs small enough =
@@ -319,7 +321,7 @@ later pid (suc from) zero counter [] small enough = nothing_later pid (carried_l
 later pid (suc from) zero counter (x ∷ xs) small enough = absurd (omega arith)
 later pid (suc from) (suc steps) counter [] small enough = nothing_later pid (carried_len (suc from) []) counter small
 later pid (suc from) (suc steps) counter (x ∷ xs) small enough =
-    let all : List Item = x ∷ xs in
+    let all : List JoinedByte = x ∷ xs in
     let n : ℕ = (part all).size in
     let size = part_size all (omega arith) in
     let h = later pid from steps ((counter + 1) % 16) (drop n all) (omega arith)
@@ -341,15 +343,15 @@ are_parts (c ∷ before) packet after h = let r = are_parts before packet after 
 
 pub survives : (g : SpellLaws) (w : UnitLaws) → AcceptedFront → Survives
 survives g w front pid before after packet from first last fates small packets altered carry kept =
-    let all : List Item = joined (before ++ packet ∷ after) in
-    let pre : List Item = joined before in
-    let z : List Item = joined after in
+    let all : List JoinedByte = joined (before ++ packet ∷ after) in
+    let pre : List JoinedByte = joined before in
+    let z : List JoinedByte = joined after in
     let parts = are_parts before packet after packets in
     let all_is : all ≡ pre ++ (items true packet ++ z) = flat_map-append (items true) before (packet ∷ after) in
     let c : ℕ = carried_len from all in
     let s : ℕ = length pre in
     let h = later pid from (length all) 0 all (omega arith) (omega arith) in
-    let y : List Item = drop c all in
+    let y : List JoinedByte = drop c all in
     let one = carried_add from first all in
     let two = carried_add from (suc first) all in
     let three = carried_add from last all in

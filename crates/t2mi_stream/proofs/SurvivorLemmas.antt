@@ -8,7 +8,7 @@ use Rattle.std.proofs.lemmas.Bool.{or_cases, false_from_ne_true, eqb-true, eq-eq
 use Rattle.std.proofs.lemmas.Option.{none-some, same_Some}
 use Rattle.std.proofs.lemmas.Slice.Eq.{bytes_eq-Decides}
 use Rattle.t2mi_stream.specs.Accepted.{AcceptedPacket}
-use Rattle.t2mi_stream.specs.Pipe.{Item, items, joined, part, carried_len, offset_in}
+use Rattle.t2mi_stream.specs.Pipe.{JoinedByte, items, joined, part, carried_len, offset_in}
 use Rattle.t2mi_stream.specs.Received.{Fate, left_number, place_of}
 use Rattle.t2mi_stream.specs.Received.Fate.{Kept, Lost, Altered}
 use Rattle.t2mi_stream.specs.Laws.{Among, ArePackets, IsSurvivor}
@@ -19,20 +19,20 @@ use Rattle.t2mi_stream.specs.SpellLaws.{SpellLaws}
 use Rattle.t2mi_stream.proofs.PipeLemmas.{part_size, carried_mono, length-items}
 
 -- Numbers of units.
-size_most : (xs : List Item) → (part xs).size ≤ 184
+size_most : (xs : List JoinedByte) → (part xs).size ≤ 184
 size_most [] = omega arith
 size_most (x ∷ xs) = (part_size (x ∷ xs) (omega arith)).2
 
-carried_most : (n : ℕ) (xs : List Item) → carried_len (suc n) xs ≤ carried_len n xs + 184
+carried_most : (n : ℕ) (xs : List JoinedByte) → carried_len (suc n) xs ≤ carried_len n xs + 184
 carried_most zero xs = let h = size_most xs in omega arith
 carried_most (suc n) xs = let h = carried_most n (drop (part xs).size xs) in omega arith
 
 -- The unit with a number carries the byte at a place.
-pub record Carries (number : ℕ) (xs : List Item) (place : ℕ) : Type 0 where
+pub record Carries (number : ℕ) (xs : List JoinedByte) (place : ℕ) : Type 0 where
   pub begins : carried_len number xs ≤ place
   pub within : place < carried_len (suc number) xs
 
-carries_one : (xs : List Item) (a b place : ℕ) → Carries a xs place → Carries b xs place → a ≡ b
+carries_one : (xs : List JoinedByte) (a b place : ℕ) → Carries a xs place → Carries b xs place → a ≡ b
 carries_one xs a b place h k = ⊎_elim
     (λ (l : a < b). let m = carried_mono (suc a) b xs (omega arith) in absurd (omega (arith, m, h.within, k.begins)))
     (λ (l : b ≤ a). ⊎_elim
@@ -41,7 +41,7 @@ carries_one xs a b place h k = ⊎_elim
     (cases_eq a b))
     (cases_lt a b)
 
-carries_within : (steps : ℕ) (xs : List Item) (place : ℕ) → place < length xs → length xs ≤ steps
+carries_within : (steps : ℕ) (xs : List JoinedByte) (place : ℕ) → place < length xs → length xs ≤ steps
     → Carries (unit_within steps xs place) xs place
 carries_within zero xs place l m = absurd (omega arith)
 carries_within (suc steps) [] place l m = absurd (omega arith)
@@ -56,7 +56,7 @@ carries_within (suc steps) (x ∷ xs) place l m =
     (omega (arith, left, h, l, size.0)) (omega (arith, left, m, size.0)) in
     record { begins = omega (arith, r.begins, h); within = omega (arith, r.within, h) })
 
-pub carries : (xs : List Item) (place : ℕ) → place < length xs → Carries (unit_number xs place) xs place
+pub carries : (xs : List JoinedByte) (place : ℕ) → place < length xs → Carries (unit_number xs place) xs place
 carries xs place l = carries_within (length xs) xs place l (omega arith)
 
 -- Places of bytes.
@@ -84,13 +84,14 @@ left_rises (Altered other ∷ fates) (suc n) (suc m) a b l h k =
     both_left (left_number fates n) (left_number fates m) a b (λ c d. left_rises fates n m c d (omega arith)) h k
 
 -- a byte's place, by its unit
-record InUnit (xs : List Item) (from : ℕ) (fates : List Fate) (place number p : ℕ) : Type 0 where
+record InUnit (xs : List JoinedByte) (from : ℕ) (fates : List Fate) (place number p : ℕ) : Type 0 where
   pub from_on : from ≤ number
   pub left : ℕ
   pub left_is : left_number fates (number - from) ≡ Some left
   pub place_is : 188 * left + offset_in number xs place ≡ p
 
-in_unit : (xs : List Item) (from : ℕ) (fates : List Fate) (place number p : ℕ) → place_in xs from fates place number ≡ Some p
+in_unit : (xs : List JoinedByte) (from : ℕ) (fates : List Fate) (place number p : ℕ) → place_in xs from fates place number
+    ≡ Some p
     → InUnit xs from fates place number p
 in_unit xs from fates place number p h = go (nat_le from number) refl (left_number fates (number - from)) refl h
   where
@@ -108,7 +109,7 @@ in_unit xs from fates place number p h = go (nat_le from number) refl (left_numb
         }
 
 -- A later byte gets a later place.
-places_apart : (xs : List Item) (from : ℕ) (fates : List Fate) (s t a b p q : ℕ) → s < t → Carries a xs s → Carries b xs t
+places_apart : (xs : List JoinedByte) (from : ℕ) (fates : List Fate) (s t a b p q : ℕ) → s < t → Carries a xs s → Carries b xs t
     → InUnit xs from fates s a p → InUnit xs from fates t b q → p < q
 places_apart xs from fates s t a b p q l ca cb ia ib = ⊎_elim
     (λ (less : a < b).
@@ -125,7 +126,7 @@ places_apart xs from fates s t a b p q l ca cb ia ib = ⊎_elim
     (cases_eq a b))
     (cases_lt a b)
 
-place_rises : (xs : List Item) (from : ℕ) (fates : List Fate) (s t p q : ℕ) → s < t → t < length xs
+place_rises : (xs : List JoinedByte) (from : ℕ) (fates : List Fate) (s t p q : ℕ) → s < t → t < length xs
     → received_place xs from fates s ≡ Some p → received_place xs from fates t ≡ Some q → p < q
 unfolding received_place
 place_rises xs from fates s t p q l m h k =
@@ -305,7 +306,7 @@ kept low all (p ∷ ps) (Some q ∷ sent) (b ∷ packets) r s c f a = ⊎_elim
 
 pub accepted_survive : (g : SpellLaws) → PlacesRise → AcceptedSurvive
 accepted_survive g rise pid packets from fates all sent =
-    let xs : List Item = joined packets in
+    let xs : List JoinedByte = joined packets in
     let place : ℕ → Option ℕ = received_place xs from fates in
     let ps : List AcceptedPacket = received_packets pid packets from fates in
     let r = kept 0 ps ps (sent_packets packets from fates) packets (rise pid _)
@@ -315,7 +316,7 @@ accepted_survive g rise pid packets from fates all sent =
     record { bytes = r.bytes; places = r.places }
 
 -- A survivor passes the test.
-at_number : (xs : List Item) (from : ℕ) (fates : List Fate) (s number : ℕ) → Carries number xs s → s < length xs
+at_number : (xs : List JoinedByte) (from : ℕ) (fates : List Fate) (s number : ℕ) → Carries number xs s → s < length xs
     → place_in xs from fates s number ≡ received_place xs from fates s
 unfolding received_place
 at_number xs from fates s number h l =
@@ -349,7 +350,7 @@ is_told : (g : SpellLaws) (pid : ℕ) (before after : List (List ℕ)) (packet :
     → ArePackets (before ++ packet ∷ after) → IsSurvivor pid before packet after from fates →
     slice_get (survival pid (before ++ packet ∷ after) from fates) (length before) ≡ Some true
 is_told g pid before after packet from fates all h =
-    let xs : List Item = joined (before ++ packet ∷ after) in
+    let xs : List JoinedByte = joined (before ++ packet ∷ after) in
     let s : ℕ = length (joined before) in
     let inside : s < length xs = in_joined g before packet after all in
     let here : place_in xs from fates s (from + h.number) ≡ Some h.place =
@@ -387,7 +388,7 @@ accepted_at accepted None packet h = absurd (both_ways false refl h)
 accepted_at accepted (Some n) packet h =
     record { place = n; is = refl; among = told_among (record { place = n; bytes = packet }) accepted h }
 
-received_in : (xs : List Item) (from : ℕ) (fates : List Fate) (t p : ℕ) → received_place xs from fates t ≡ Some p
+received_in : (xs : List JoinedByte) (from : ℕ) (fates : List Fate) (t p : ℕ) → received_place xs from fates t ≡ Some p
     → InUnit xs from fates t (unit_number xs t) p
 unfolding received_place
 received_in xs from fates t p h = in_unit xs from fates t (unit_number xs t) p h
@@ -397,7 +398,7 @@ is_only : (g : SpellLaws) (pid : ℕ) (before after : List (List ℕ)) (packet :
     slice_get (survival pid (before ++ packet ∷ after) from fates) (length before) ≡ Some true
     → IsSurvivor pid before packet after from fates
 is_only g pid before after packet from fates all h =
-    let xs : List Item = joined (before ++ packet ∷ after) in
+    let xs : List JoinedByte = joined (before ++ packet ∷ after) in
     let s : ℕ = length (joined before) in
     let u : ℕ = unit_number xs s in
     let accepted : List AcceptedPacket = received_packets pid (before ++ packet ∷ after) from fates in

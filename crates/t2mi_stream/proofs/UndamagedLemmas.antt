@@ -11,7 +11,7 @@ use Rattle.t2mi_packet.specs.Spell.{spell}
 use Rattle.t2mi_stream.specs.Accepted.{Byte, AcceptedPacket, packet_of, accepted}
 use Rattle.t2mi_stream.specs.Candidate.{placed}
 use Rattle.t2mi_stream.specs.Units.{Cut, goes_on, no_cut, piped_units, runs, accepted_of}
-use Rattle.t2mi_stream.specs.Pipe.{Item, items, joined, pipe}
+use Rattle.t2mi_stream.specs.Pipe.{JoinedByte, items, joined, pipe}
 use Rattle.t2mi_stream.specs.Pipe.{carried_len, offset_in}
 use Rattle.t2mi_stream.specs.Received.{Fate, AlteredWhole}
 use Rattle.t2mi_stream.specs.Laws.{Among, ArePackets, Survives}
@@ -29,13 +29,13 @@ use Rattle.t2mi_stream.proofs.OneRunLemmas.{begins, placed_there, IsOne, is_one}
 
 -- The place of a byte that is received.
 module _ (pid : ℕ) (packets : List (List ℕ)) (from : ℕ) (fates : List Fate) where
-  abbrev xs : List Item
+  abbrev xs : List JoinedByte
   xs = joined packets
 
   abbrev gone : ℕ
   gone = carried_len from xs
 
-  abbrev rest : List Item
+  abbrev rest : List JoinedByte
   rest = drop gone xs
 
   unit_from : (u t : ℕ) → Carries u xs t → gone ≤ t → from ≤ u
@@ -90,7 +90,8 @@ module _ (pid : ℕ) (packets : List (List ℕ)) (from : ℕ) (fates : List Fate
         ∙ ap (option_map (λ k. 188 * k + offset_in u xs t)) (kept_number (u - from) fates (λ n k. kept n (omega (arith, k, v))))
 
 -- A packet survives exactly if it begins in one of the units.
-lost_before : (xs : List Item) (from : ℕ) (fates : List Fate) (t : ℕ) → unit_number xs t < from → received_place xs from fates t
+lost_before : (xs : List JoinedByte) (from : ℕ) (fates : List Fate) (t : ℕ) → unit_number xs t < from
+    → received_place xs from fates t
     ≡ None
 unfolding received_place
 lost_before xs from fates t l = cond-false (nat_le from (unit_number xs t)) _ _ (lt-leb from (unit_number xs t) l)
@@ -100,7 +101,7 @@ module _ (g : SpellLaws) (survives : Survives) (told : SurvivalTold) (pid : ℕ)
     (altered : AlteredWhole fates) (kept : AreKept count fates)
     (enough : carried_len count (drop (carried_len from (joined (before ++ packet ∷ after))) (joined (before ++ packet ∷ after)))
     ≡ length (drop (carried_len from (joined (before ++ packet ∷ after))) (joined (before ++ packet ∷ after)))) where
-  abbrev zs : List Item
+  abbrev zs : List JoinedByte
   zs = joined (before ++ packet ∷ after)
 
   abbrev t : ℕ
@@ -172,7 +173,7 @@ unfolding runs piped_units
 no_runs pid = refl
 
 -- Packets that begin in later units come behind those that begin in earlier ones.
-unit_mono : (xs : List Item) (s t : ℕ) → s ≤ t → t < length xs → unit_number xs s ≤ unit_number xs t
+unit_mono : (xs : List JoinedByte) (s t : ℕ) → s ≤ t → t < length xs → unit_number xs s ≤ unit_number xs t
 unit_mono xs s t l m = ⊎_elim
     (λ (less : unit_number xs t < unit_number xs s).
     let a = carries xs s (omega (arith, l, m)) in
@@ -185,7 +186,7 @@ unit_mono xs s t l m = ⊎_elim
     (cases_lt (unit_number xs t) (unit_number xs s))
 
 -- the rest of packets that are joined
-module _ (g : SpellLaws) (xs : List Item) (from : ℕ) where
+module _ (g : SpellLaws) (xs : List JoinedByte) (from : ℕ) where
   joined_more : (packet : List ℕ) (packets : List (List ℕ)) → length (joined (packet ∷ packets)) ≡ length packet
       + length (joined packets)
   joined_more packet packets = length-append (items true packet) (joined packets) ∙ let e = length-items true packet in
@@ -228,7 +229,7 @@ module _ (g : SpellLaws) (xs : List Item) (from : ℕ) where
 module _ (g : SpellLaws) (w : UnitLaws) (survives : Survives) (told : SurvivalTold) (pid : ℕ) (packets : List (List ℕ)) (from : ℕ)
     (fates : List Fate) (small : pid < 2 ^ 13) (all : ArePackets packets) (altered : AlteredWhole fates)
     (kept : AreKept (length (drop from (pipe pid packets))) fates) where
-  abbrev ys : List Item
+  abbrev ys : List JoinedByte
   ys = joined packets
 
   abbrev count : ℕ

@@ -4,28 +4,28 @@ use Rattle.std.specs.Prelude.{drop, map, bytes_eq, Option, Some, None, option_ma
 use Rattle.std.specs.List.{list_any}
 use Rattle.t2mi_stream.specs.Accepted.{AcceptedPacket}
 use Rattle.t2mi_stream.specs.Laws.{Among}
-use Rattle.t2mi_stream.specs.Pipe.{Item, joined, part, pipe, offset_in}
+use Rattle.t2mi_stream.specs.Pipe.{JoinedByte, joined, part, pipe, offset_in}
 use Rattle.t2mi_stream.specs.Received.{Fate, received, place_of, fate_of}
 use Rattle.t2mi_stream.specs.Received.Fate.{Kept}
 use Rattle.t2mi_stream.specs.Units.{accepted_of}
 
 -- the number of the unit that carries the byte at a place of joined packets, among so many units
-abbrev pub unit_within : ℕ → List Item → ℕ → ℕ
+abbrev pub unit_within : ℕ → List JoinedByte → ℕ → ℕ
 unit_within zero xs place = 0
 unit_within (suc steps) xs place = if nat_lt place (part xs).size then 0
     else suc (unit_within steps (drop (part xs).size xs) (place - (part xs).size))
 
 -- the number of the unit that carries the byte at a place: each unit takes a byte at least
-abbrev pub unit_number : List Item → ℕ → ℕ
+abbrev pub unit_number : List JoinedByte → ℕ → ℕ
 unit_number xs place = unit_within (length xs) xs place
 
 -- the place of a byte that a unit carries, by the unit's number among those sent
-abbrev pub place_in : List Item → ℕ → List Fate → ℕ → ℕ → Option ℕ
+abbrev pub place_in : List JoinedByte → ℕ → List Fate → ℕ → ℕ → Option ℕ
 place_in xs from fates place number = if nat_le from number then place_of fates (number - from) (offset_in number xs place)
     else None
 
 -- the place among the received bytes of the byte at a place of joined packets: none if its unit is lost
-unfoldable pub received_place : List Item → ℕ → List Fate → ℕ → Option ℕ
+unfoldable pub received_place : List JoinedByte → ℕ → List Fate → ℕ → Option ℕ
 received_place xs from fates place = place_in xs from fates place (unit_number xs place)
 
 -- packets, the first of them at a place of the joined ones, each with the place that its first byte gets
@@ -60,7 +60,7 @@ abbrev pub AreSent : List AcceptedPacket → List (Option AcceptedPacket) → Ty
 AreSent accepted sent = (p : AcceptedPacket) → Among p accepted → Among (Some p) sent
 
 -- for packets, the first of them at a place of the joined ones, whether they begin in a unit with a number from one on
-abbrev pub begun_from : List Item → ℕ → ℕ → List (List ℕ) → List Bool
+abbrev pub begun_from : List JoinedByte → ℕ → ℕ → List (List ℕ) → List Bool
 begun_from xs from at [] = []
 begun_from xs from at (packet ∷ packets) = nat_le from (unit_number xs at) ∷ begun_from xs from (at + length packet) packets
 

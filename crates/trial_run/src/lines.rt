@@ -1,6 +1,7 @@
 // The lines of a trial.
 ghost use Rattle.std.specs.Prelude.{◌≡◌, ◌+◌, ◌++◌, ◌≤◌, codes, length, IfOk, OnOk};
-ghost use Rattle.trial_run.specs.Trial.{crc_word, stream_line as line_of_stream, records_part, whole_line as line_of_whole, lossy_line as line_of_lossy, plp_line as line_of_plp};
+ghost use Rattle.trial_run.specs.Trial.{crc_word, stream_line as line_of_stream, records_part, whole_line as line_of_whole};
+ghost use Rattle.trial_run.specs.Trial.{lossy_line as line_of_lossy, plp_line as line_of_plp};
 ghost use Rattle.desk_io.specs.declared.line.TheConstants.{ROOM};
 
 use crate::counts::filled_packets;

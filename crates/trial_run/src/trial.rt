@@ -34,7 +34,8 @@ fn draw_inputs(
     frames: u32,
     draws: &mut Draws,
 ) -> Result<Vec<Vec<u8>>, OutOfMemory>
-    ensures inputs { IfOk result (λ inputs. map (λ input. input.items) inputs.items ≡ map (input_of plan.now frames draws.old) (range_with_len 0 (length plan.now.plps))) }
+    ensures inputs { IfOk result (λ inputs. map (λ input. input.items) inputs.items
+        ≡ map (input_of plan.now frames draws.old) (range_with_len 0 (length plan.now.plps))) }
     ensures draws { OnOk result (draws.new ≡ start_of plan.now frames (length plan.now.plps) draws.old) }
 {
     let mut inputs = Vec::new(alloc);
@@ -74,7 +75,8 @@ fn same_records(alloc: Global, whole: &[u8], lossy: &[u8]) -> Result<u64, OutOfM
 // Puts the lines of the stream and of both modulators onto a page.
 fn push_network(page: &mut Page, alloc: Global, made: &Made) -> Result<(), OutOfMemory>
     requires { page.old ≡ [] }
-    ensures text { (c : Config) (frames seed : ℕ) → IsMade c frames seed made.now → OnOk result (IsNetworkText c frames seed page.new) }
+    ensures text { (c : Config) (frames seed : ℕ) → IsMade c frames seed made.now
+        → OnOk result (IsNetworkText c frames seed page.new) }
     ensures len { OnOk result (length page.new ≤ 3 * ROOM) }
 {
     let same = same_records(alloc, &made.whole.records, &made.lossy.records)?;
@@ -87,7 +89,8 @@ fn push_network(page: &mut Page, alloc: Global, made: &Made) -> Result<(), OutOf
 // The input of the PLP at a place.
 fn input_at(inputs: &[Vec<u8>], plp: usize) -> &[u8]
     requires { plp < length inputs.now }
-    ensures { (given : ℕ → List ℕ) (n : ℕ) → map (λ input. input.items) inputs.now ≡ map given (range_with_len 0 n) → plp < n → result.now ≡ given plp }
+    ensures { (given : ℕ → List ℕ) (n : ℕ) → map (λ input. input.items) inputs.now ≡ map given (range_with_len 0 n) → plp < n
+        → result.now ≡ given plp }
 {
     &inputs[plp]
 }

@@ -15,10 +15,12 @@ returns-in_err-rows-clause-given g c = given_on c.loop-i.invariant.given c.read.
 
 pub loop-i-preserved : goal.loop-i-preserved
 loop-i-preserved g c = record {
-  read = c.loop-i.invariant.read ∙ next_each _ c.loop-i.i g.T.ReadPlp.reading c.in_ok-rows.field-0 c.loop-i.rows _ _ _ (omega arith)
+  read = c.loop-i.invariant.read
+      ∙ next_each _ c.loop-i.i g.T.ReadPlp.reading c.in_ok-rows.field-0 c.loop-i.rows _ _ _ (omega arith)
       (omega arith) c.in_ok-rows.ensures.ok;
   given = given_on c.loop-i.invariant.given c.read.ensures.given;
 }
 
 pub returns-clause-ok : goal.returns-clause-ok
-returns-clause-ok g c = c.loop-i.invariant.read ∙ all_each _ c.loop-i.i g.T.ReadPlp.reading c.loop-i.rows _ (omega arith) (omega arith)
+returns-clause-ok g c = c.loop-i.invariant.read
+    ∙ all_each _ c.loop-i.i g.T.ReadPlp.reading c.loop-i.rows _ (omega arith) (omega arith)

@@ -1,5 +1,5 @@
 use Rattle.std.proofs.Common.{length, ◌-◌, ◌≡◌, ◌<◌, ◌≤◌, ◌++◌, List, Some}
-use Rattle.packet_slots.specs.declared.rule.SlotRule.{SlotRule}
+use Rattle.packet_slots.specs.declared.slot_rule.SlotRule.{SlotRule}
 use Rattle.packet_slots.specs.Strings.{Item}
 use Rattle.packet_slots.specs.Both.{Both, KeepsTimes, block_of, front_of, IsBegun}
 use Rattle.packet_slots.proofs.block.take_block.Given as goal

@@ -1,6 +1,6 @@
 use Rattle.std.proofs.Common.{◌<◌, ◌≤◌, ◌-◌, ◌+◌, ℕ, length}
 use Rattle.ports.specs.Desk.{SameCounts}
-use Rattle.desk_io.specs.Reading.{given_of, most_bytes, ReadsOn, TakesNone}
+use Rattle.desk_io.specs.Reading.{given_of, longest_file, ReadsOn, TakesNone}
 use Rattle.desk_io.proofs.ahead.ReadAhead.read_until.Given as goal
 
 abbrev pub invariant-loop-self : goal.invariant-loop-self
@@ -8,7 +8,7 @@ invariant-loop-self g l = record {
   reads : ReadsOn (g.D.Desk.state l.initial.desk) (g.D.Desk.state l.desk) l.initial.self l.self;
   none : TakesNone (g.D.Desk.state l.initial.desk) (g.D.Desk.state l.desk) l.initial.self l.self;
   limit : (limit : ℕ) → given_of l.initial.self ≤ limit → l.initial.self.taken + l.most ≤ limit → given_of l.self ≤ limit;
-  short : given_of l.self < most_bytes;
+  short : given_of l.self < longest_file;
   counts : SameCounts (g.D.Desk.state l.initial.desk) (g.D.Desk.state l.desk);
 }
 

@@ -16,7 +16,8 @@ returns-clause-flows c = λ config n left all given h.
     ∙ ap (drop o.at) c.as_bytes.ensures in
     let stands = subst (λ (l : List ℕ). (pid : ℕ) (events : List PiperEvent) → PiperStandsFor o.piper pid events
     → PiperStandsFor c.feed.new.self pid (events ++ Piped (take c.feed.result l) ∷ [])) rest c.feed.ensures.stands in
-    subst (λ (l : List ℕ). Carries (PiperStandsFor c.feed.new.self) (is_finished c.feed.new.self) l o.packet_count config n left all
+    subst (λ (l : List ℕ). Carries (PiperStandsFor c.feed.new.self) (is_finished c.feed.new.self) l
+    o.packet_count config n left all
     given) (drop-drop c.feed.result o.at (bytes_of o.packet))
     (carries_feed (PiperStandsFor o.piper) (PiperStandsFor c.feed.new.self) _ _ (drop o.at (bytes_of o.packet)) c.feed.result
     o.packet_count config n left all given c.requires.going stands h)

@@ -7,7 +7,7 @@ use Rattle.plp_config.specs.declared.config.Config.{Config}
 use Rattle.t2mi_packet.specs.declared.packet.Body.{Body}
 use Rattle.t2mi_stream.specs.Complete.{complete_of}
 use Rattle.t2mi_stream.specs.Events.{PiperEvent, Piped, Given, tally}
-use Rattle.t2mi_stream.specs.Pipe.{Item, units_of}
+use Rattle.t2mi_stream.specs.Pipe.{JoinedByte, units_of}
 use Rattle.t2mi_stream.specs.PiperStandsFor.{PiperStandsFor, is_finished}
 use Rattle.gateway_core.specs.Carried.{Standing, AfterPiece, Carries}
 use Rattle.gateway_core.specs.Flowing.{Flows, rest_of}
@@ -59,11 +59,13 @@ old c = PiperStandsFor c.args.self.now.piper
 -- the piece is taken, and the unit not yet given
 piped : (c : goal.After-self-2-1) (config : Config) (n : ℕ) (left : List Body) (all : List (ℕ × Body)) (given : ℕ)
     → Flows c.args.self.now config n left all given
-    → Carries (AfterPiece (old c) (piece c)) false (drop c.pipe.result (rest c)) c.args.self.now.packet_count config n left all given
+    → Carries (AfterPiece (old c) (piece c)) false (drop c.pipe.result (rest c))
+    c.args.self.now.packet_count config n left all given
 piped c config n left all given h =
     let o = c.args.self.now in
     let going = going_when (is_finished o.piper) _ (rest c) o.end o.few (search rules) in
-    carries_feed (old c) (AfterPiece (old c) (piece c)) _ false (rest c) c.pipe.result o.packet_count config n left all given going
+    carries_feed (old c) (AfterPiece (old c) (piece c)) _ false (rest c)
+    c.pipe.result o.packet_count config n left all given going
     (piece_after (old c) (piece c)) h
 
 now_complete : (c : goal.After-self-2-1) (pid : ℕ) (events : List PiperEvent) → AfterPiece (old c) (piece c) pid events
@@ -74,12 +76,12 @@ now_complete c = known_after (old c) (piece c) (λ pid fed given. given < length
 
 pub returns-clause-unit : goal.returns-clause-unit
 returns-clause-unit c = λ on config n left all given h more gone.
-    let units = subst (λ (l : List ℕ). (pid : ℕ) (events : List PiperEvent) → old c pid events → (items : List Item)
+    let units = subst (λ (l : List ℕ). (pid : ℕ) (events : List PiperEvent) → old c pid events → (items : List JoinedByte)
     → slice_get (units_of pid ((tally (events ++ Piped (take c.pipe.result l) ∷ [])).fed ++ items)) (tally events).given
     ≡ Some c.pipe.new.out)
     (rest_is c) c.pipe.ensures.unit in
     carries_unit (AfterPiece (old c) (piece c)) false c.pipe.new.out _ _ config n left all given
-    (λ pid events m items _. known_after (old c) (piece c) (λ pid fed given. (items : List Item)
+    (λ pid events m items _. known_after (old c) (piece c) (λ pid fed given. (items : List JoinedByte)
     → slice_get (units_of pid (fed ++ items)) given ≡ Some c.pipe.new.out) units pid events m items)
     (piped c config n left all given h) more (λ z. absurd (let e : false ≡ true = z in cc))
 

@@ -1,7 +1,7 @@
 use Rattle.std.proofs.Common.{◌∙◌, ap, arith}
 use Rattle.plp_config.specs.SlotTime.{window_slots}
 use Rattle.packet_slots.specs.Times.{delay_of}
-use Rattle.packet_slots.specs.declared.rule.SlotRule.{SlotRule}
+use Rattle.packet_slots.specs.declared.slot_rule.SlotRule.{SlotRule}
 use Rattle.plp_receiver.proofs.TakeLemmas.{agrees}
 use Rattle.plp_receiver.proofs.receiver.Receiver.take.Goals as goal
 

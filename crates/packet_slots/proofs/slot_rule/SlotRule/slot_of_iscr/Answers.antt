@@ -1,6 +1,6 @@
 use Rattle.std.proofs.Common.{◌^◌, arith}
 use Rattle.packet_slots.proofs.IscrLemmas.{slot_within, iscr_outside, iscr_other, iscr_found, named_is}
-use Rattle.packet_slots.proofs.rule.SlotRule.slot_of_iscr.Goals as goal
+use Rattle.packet_slots.proofs.slot_rule.SlotRule.slot_of_iscr.Goals as goal
 
 pub start_of-requires-clause-small : goal.start_of-requires-clause-small
 start_of-requires-clause-small c = slot_within c.slot_named-slot.result c.range_of-first.result.1
