@@ -86,6 +86,27 @@ fn fail(count: &mut u64, first: &mut Option<HostFault>, what: HostFault) -> Desk
     fault(count)
 }
 
+// Says a text by one write.
+fn say<R: Print>(
+    rt: &R,
+    text: &[u8],
+    count: &mut u64,
+    first: &mut Option<HostFault>,
+) -> Result<(), DeskFault>
+    ensures ok { OnOk result ((count.new ≡ count.old) × (first.new ≡ first.old)) }
+    ensures one { OnErr result (count.new ≡ one_more count.old) }
+    ensures rose { OnErr result (0 < count.new) }
+    ensures kept { OnErr result (IsSome first.new) }
+{
+    match rt.write_all(text) {
+        Ok(()) => Ok(()),
+        Err(error) => {
+            let why = Reason(error.kind());
+            Err(fail(count, first, HostFault::Said { why }))
+        }
+    }
+}
+
 // Reads once more where a signal cut the call short, which std leaves to the caller.
 fn read_again<F: Read>(file: &mut F, buffer: &mut [u8]) -> io::Result<usize>
     ensures { IfOk result (λ n. n ≤ length buffer.new) }
@@ -329,28 +350,14 @@ impl<R: Files + Print + Drop> Desk for HostDesk<R> {
         ensures fault { OnErr result (self.new ≡ with_write_fault self.old) }
         ensures counts { MayFailWriting self.old.counts self.new.counts result }
     {
-        match self.rt.write_all(text) {
-            Ok(()) => Ok(()),
-            Err(error) => {
-                let why = Reason(error.kind());
-                let what = HostFault::Said { why };
-                Err(fail(&mut self.counts.writes, &mut self.first, what))
-            }
-        }
+        say(&self.rt, text, &mut self.counts.writes, &mut self.first)
     }
 
     fn say_last(&mut self, text: &[u8])
         ensures said { (Says self.old self.new text.now × SameCounts self.old self.new) ⊎ (self.new ≡ with_line_fault self.old) }
         ensures counts { MayFailAtLast self.old.counts self.new.counts }
     {
-        if let Err(error) = self.rt.write_all(text) {
-            let why = Reason(error.kind());
-            fail(
-                &mut self.counts.lines,
-                &mut self.first,
-                HostFault::Said { why },
-            );
-        }
+        let _ = say(&self.rt, text, &mut self.counts.lines, &mut self.first);
     }
 }
 

@@ -1,12 +1,6 @@
 use super::*;
 use std::process::Abort;
 
-const NO_FAULTS: Counts = Counts {
-    reads: 0,
-    writes: 0,
-    lines: 0,
-};
-
 // A call of a desk, with what it answers. A test is a table of them: a function that makes the calls itself is proved with all
 // that each of them promises of the desk, which takes minutes. The table is static: one in the function costs seconds more.
 enum Call {
@@ -26,23 +20,15 @@ enum Call {
     Counts(Counts),
 }
 
-// Whether these bytes are those of an answer.
-fn are(some: &[u8], bytes: Result<&[u8], DeskFault>) -> bool {
-    match bytes {
-        Ok(bytes) => some == bytes,
-        Err(DeskFault) => false,
-    }
-}
-
 // Whether a read gives these bytes. It is false if there is no such handle or no room, or more than a test has.
 fn reads(desk: &mut MemoryDesk, handle: u32, room: usize, bytes: Result<&[u8], DeskFault>) -> bool {
     let mut buffer = [0u8; 8];
     if handle as usize >= desk.handles.len() || room == 0 || room > buffer.len() {
         return false;
     }
-    match desk.read(handle, &mut buffer[..room]) {
-        Ok(count) => are(&buffer[..count], bytes),
-        Err(DeskFault) => bytes.is_err(),
+    match (desk.read(handle, &mut buffer[..room]), bytes) {
+        (Ok(count), Ok(bytes)) => buffer[..count] == bytes[..],
+        (read, _) => read.is_err() && bytes.is_err(),
     }
 }
 
@@ -100,208 +86,81 @@ fn does(desk: &mut MemoryDesk, call: &Call) -> bool {
     }
 }
 
+// Calls of a new desk.
+struct Row {
+    why: &'static str,
+    calls: &'static [Call],
+}
+
+#[rattlefmt::skip]
+static ROWS: [Row; 13] = [
+    Row { why: "reads a file in pieces to its end", calls: &[
+        Call::PutFile("note", b"hello"), Call::Open("note", Ok(0)), Call::Read(0, 3, Ok(b"hel")), Call::Read(0, 3, Ok(b"lo")),
+        Call::Read(0, 3, Ok(b"")),
+    ] },
+    Row { why: "reads two handles apart", calls: &[
+        Call::PutFile("a", b"first"), Call::PutFile("b", b"second"), Call::Open("a", Ok(0)), Call::Open("b", Ok(1)),
+        Call::Read(1, 4, Ok(b"seco")), Call::Read(0, 4, Ok(b"firs")),
+    ] },
+    Row { why: "counts an absent name as a read fault", calls: &[
+        Call::PutFile("note", b"hello"), Call::Open("other", Err(DeskFault)),
+        Call::Counts(Counts { reads: 1, writes: 0, lines: 0 }), Call::Open("note", Ok(0)),
+    ] },
+    Row { why: "gives the file of a name", calls: &[
+        Call::PutFile("a", b"old"), Call::PutFile("b", b"other"), Call::PutFile("a", b"new"), Call::File("a", Some(b"new")),
+        Call::File("b", Some(b"other")), Call::File("c", None),
+    ] },
+    Row { why: "moves as many bytes as the cap lets it", calls: &[
+        Call::PutFile("out", b"old"), Call::PutFile("in", b"hello"), Call::Create("out", Ok(0)), Call::File("out", Some(b"")),
+        Call::Cap(3), Call::Write(0, b"hello", Ok(3)), Call::Write(0, b"lo", Ok(2)), Call::File("out", Some(b"hello")),
+        Call::Open("in", Ok(0)), Call::Read(0, 8, Ok(b"hel")), Call::Read(0, 8, Ok(b"lo")),
+    ] },
+    Row { why: "gives what was said", calls: &[
+        Call::Say(b"one\n", Ok(())), Call::Say(b"two\n", Ok(())), Call::SayLast(b"last\n"), Call::Said(b"one\ntwo\nlast\n"),
+        Call::Counts(Counts { reads: 0, writes: 0, lines: 0 }),
+    ] },
+    Row { why: "fails to open if it is told to", calls: &[
+        Call::PutFile("note", b"hello"), Call::Fail(CallKind::Open, 2), Call::Open("note", Ok(0)),
+        Call::Open("note", Err(DeskFault)), Call::Open("note", Ok(1)),
+    ] },
+    Row { why: "fails to create if it is told to", calls: &[
+        Call::Fail(CallKind::Create, 2), Call::Create("out", Ok(0)), Call::Create("other", Err(DeskFault)),
+        Call::File("other", None), Call::Create("other", Ok(1)),
+    ] },
+    Row { why: "fails to read if it is told to, and stays at its place", calls: &[
+        Call::PutFile("note", b"hello"), Call::Fail(CallKind::Read, 2), Call::Open("note", Ok(0)), Call::Read(0, 3, Ok(b"hel")),
+        Call::Read(0, 3, Err(DeskFault)), Call::Read(0, 3, Ok(b"lo")),
+    ] },
+    Row { why: "fails to write if it is told to", calls: &[
+        Call::Fail(CallKind::Write, 2), Call::Create("out", Ok(0)), Call::Write(0, b"one", Ok(3)),
+        Call::Write(0, b"two", Err(DeskFault)), Call::File("out", Some(b"one")),
+    ] },
+    Row { why: "fails to say if it is told to", calls: &[
+        Call::Fail(CallKind::Say, 2), Call::Fail(CallKind::Say, 3), Call::Say(b"one\n", Ok(())),
+        Call::Say(b"two\n", Err(DeskFault)), Call::Say(b"three\n", Err(DeskFault)), Call::Say(b"four\n", Ok(())),
+        Call::Said(b"one\nfour\n"), Call::Counts(Counts { reads: 0, writes: 2, lines: 0 }),
+    ] },
+    Row { why: "says no last text if it is told to fail", calls: &[
+        Call::Fail(CallKind::Last, 2), Call::SayLast(b"one\n"), Call::SayLast(b"two\n"), Call::SayLast(b"three\n"),
+        Call::Said(b"one\nthree\n"), Call::Counts(Counts { reads: 0, writes: 0, lines: 1 }),
+    ] },
+    Row { why: "gives what all handles of a name were given", calls: &[
+        Call::PutFile("a", b"first"), Call::Open("a", Ok(0)), Call::Open("a", Ok(1)), Call::Read(0, 4, Ok(b"firs")),
+        Call::Read(1, 4, Ok(b"firs")), Call::Given("a", 8), Call::Given("b", 0),
+    ] },
+];
+
 // Makes these calls of a new desk, each of which answers as it should.
-fn follows(rt: &(impl AllocGlobal + Abort), calls: &[Call]) {
+fn follows(rt: &(impl AllocGlobal + Abort), row: &Row) {
     let mut desk = MemoryDesk::new(rt.alloc());
-    for (at, call) in calls.iter().enumerate() {
-        assert!(rt; does(&mut desk, call), "call {at}");
+    for (at, call) in row.calls.iter().enumerate() {
+        assert!(rt; does(&mut desk, call), "{}: call {at}", row.why);
     }
 }
 
-static READS_A_FILE_IN_PIECES_TO_ITS_END: [Call; 5] = [
-    Call::PutFile("note", b"hello"),
-    Call::Open("note", Ok(0)),
-    Call::Read(0, 3, Ok(b"hel")),
-    Call::Read(0, 3, Ok(b"lo")),
-    Call::Read(0, 3, Ok(b"")),
-];
-
 #[test]
-fn reads_a_file_in_pieces_to_its_end(rt: HostRuntime) {
-    follows(&rt, &READS_A_FILE_IN_PIECES_TO_ITS_END);
-}
-
-static READS_TWO_HANDLES_APART: [Call; 6] = [
-    Call::PutFile("a", b"first"),
-    Call::PutFile("b", b"second"),
-    Call::Open("a", Ok(0)),
-    Call::Open("b", Ok(1)),
-    Call::Read(1, 4, Ok(b"seco")),
-    Call::Read(0, 4, Ok(b"firs")),
-];
-
-#[test]
-fn reads_two_handles_apart(rt: HostRuntime) {
-    follows(&rt, &READS_TWO_HANDLES_APART);
-}
-
-static COUNTS_AN_ABSENT_NAME_AS_A_READ_FAULT: [Call; 4] = [
-    Call::PutFile("note", b"hello"),
-    Call::Open("other", Err(DeskFault)),
-    Call::Counts(Counts {
-        reads: 1,
-        writes: 0,
-        lines: 0,
-    }),
-    Call::Open("note", Ok(0)),
-];
-
-#[test]
-fn counts_an_absent_name_as_a_read_fault(rt: HostRuntime) {
-    follows(&rt, &COUNTS_AN_ABSENT_NAME_AS_A_READ_FAULT);
-}
-
-static GIVES_THE_FILE_OF_A_NAME: [Call; 6] = [
-    Call::PutFile("a", b"old"),
-    Call::PutFile("b", b"other"),
-    Call::PutFile("a", b"new"),
-    Call::File("a", Some(b"new")),
-    Call::File("b", Some(b"other")),
-    Call::File("c", None),
-];
-
-#[test]
-fn gives_the_file_of_a_name(rt: HostRuntime) {
-    follows(&rt, &GIVES_THE_FILE_OF_A_NAME);
-}
-
-static MOVES_AS_MANY_BYTES_AS_THE_CAP_LETS_IT: [Call; 11] = [
-    Call::PutFile("out", b"old"),
-    Call::PutFile("in", b"hello"),
-    Call::Create("out", Ok(0)),
-    Call::File("out", Some(b"")),
-    Call::Cap(3),
-    Call::Write(0, b"hello", Ok(3)),
-    Call::Write(0, b"lo", Ok(2)),
-    Call::File("out", Some(b"hello")),
-    Call::Open("in", Ok(0)),
-    Call::Read(0, 8, Ok(b"hel")),
-    Call::Read(0, 8, Ok(b"lo")),
-];
-
-#[test]
-fn moves_as_many_bytes_as_the_cap_lets_it(rt: HostRuntime) {
-    follows(&rt, &MOVES_AS_MANY_BYTES_AS_THE_CAP_LETS_IT);
-}
-
-static GIVES_WHAT_WAS_SAID: [Call; 5] = [
-    Call::Say(b"one\n", Ok(())),
-    Call::Say(b"two\n", Ok(())),
-    Call::SayLast(b"last\n"),
-    Call::Said(b"one\ntwo\nlast\n"),
-    Call::Counts(NO_FAULTS),
-];
-
-#[test]
-fn gives_what_was_said(rt: HostRuntime) {
-    follows(&rt, &GIVES_WHAT_WAS_SAID);
-}
-
-static FAILS_TO_OPEN_WHERE_IT_IS_TOLD_TO: [Call; 5] = [
-    Call::PutFile("note", b"hello"),
-    Call::Fail(CallKind::Open, 2),
-    Call::Open("note", Ok(0)),
-    Call::Open("note", Err(DeskFault)),
-    Call::Open("note", Ok(1)),
-];
-
-#[test]
-fn fails_to_open_where_it_is_told_to(rt: HostRuntime) {
-    follows(&rt, &FAILS_TO_OPEN_WHERE_IT_IS_TOLD_TO);
-}
-
-static FAILS_TO_CREATE_WHERE_IT_IS_TOLD_TO: [Call; 5] = [
-    Call::Fail(CallKind::Create, 2),
-    Call::Create("out", Ok(0)),
-    Call::Create("other", Err(DeskFault)),
-    Call::File("other", None),
-    Call::Create("other", Ok(1)),
-];
-
-#[test]
-fn fails_to_create_where_it_is_told_to(rt: HostRuntime) {
-    follows(&rt, &FAILS_TO_CREATE_WHERE_IT_IS_TOLD_TO);
-}
-
-static FAILS_TO_READ_WHERE_IT_IS_TOLD_TO_AND_STAYS_AT_ITS_PLACE: [Call; 6] = [
-    Call::PutFile("note", b"hello"),
-    Call::Fail(CallKind::Read, 2),
-    Call::Open("note", Ok(0)),
-    Call::Read(0, 3, Ok(b"hel")),
-    Call::Read(0, 3, Err(DeskFault)),
-    Call::Read(0, 3, Ok(b"lo")),
-];
-
-#[test]
-fn fails_to_read_where_it_is_told_to_and_stays_at_its_place(rt: HostRuntime) {
-    follows(
-        &rt,
-        &FAILS_TO_READ_WHERE_IT_IS_TOLD_TO_AND_STAYS_AT_ITS_PLACE,
-    );
-}
-
-static FAILS_TO_WRITE_WHERE_IT_IS_TOLD_TO: [Call; 5] = [
-    Call::Fail(CallKind::Write, 2),
-    Call::Create("out", Ok(0)),
-    Call::Write(0, b"one", Ok(3)),
-    Call::Write(0, b"two", Err(DeskFault)),
-    Call::File("out", Some(b"one")),
-];
-
-#[test]
-fn fails_to_write_where_it_is_told_to(rt: HostRuntime) {
-    follows(&rt, &FAILS_TO_WRITE_WHERE_IT_IS_TOLD_TO);
-}
-
-static FAILS_TO_SAY_WHERE_IT_IS_TOLD_TO: [Call; 8] = [
-    Call::Fail(CallKind::Say, 2),
-    Call::Fail(CallKind::Say, 3),
-    Call::Say(b"one\n", Ok(())),
-    Call::Say(b"two\n", Err(DeskFault)),
-    Call::Say(b"three\n", Err(DeskFault)),
-    Call::Say(b"four\n", Ok(())),
-    Call::Said(b"one\nfour\n"),
-    Call::Counts(Counts {
-        reads: 0,
-        writes: 2,
-        lines: 0,
-    }),
-];
-
-#[test]
-fn fails_to_say_where_it_is_told_to(rt: HostRuntime) {
-    follows(&rt, &FAILS_TO_SAY_WHERE_IT_IS_TOLD_TO);
-}
-
-static SAYS_NO_LAST_TEXT_WHERE_IT_IS_TOLD_TO_FAIL: [Call; 6] = [
-    Call::Fail(CallKind::Last, 2),
-    Call::SayLast(b"one\n"),
-    Call::SayLast(b"two\n"),
-    Call::SayLast(b"three\n"),
-    Call::Said(b"one\nthree\n"),
-    Call::Counts(Counts {
-        reads: 0,
-        writes: 0,
-        lines: 1,
-    }),
-];
-
-#[test]
-fn says_no_last_text_where_it_is_told_to_fail(rt: HostRuntime) {
-    follows(&rt, &SAYS_NO_LAST_TEXT_WHERE_IT_IS_TOLD_TO_FAIL);
-}
-
-static GIVES_WHAT_ALL_HANDLES_OF_A_NAME_WERE_GIVEN: [Call; 7] = [
-    Call::PutFile("a", b"first"),
-    Call::Open("a", Ok(0)),
-    Call::Open("a", Ok(1)),
-    Call::Read(0, 4, Ok(b"firs")),
-    Call::Read(1, 4, Ok(b"firs")),
-    Call::Given("a", 8),
-    Call::Given("b", 0),
-];
-
-#[test]
-fn gives_what_all_handles_of_a_name_were_given(rt: HostRuntime) {
-    follows(&rt, &GIVES_WHAT_ALL_HANDLES_OF_A_NAME_WERE_GIVEN);
+fn calls_of_a_desk(rt: HostRuntime) {
+    for row in &ROWS {
+        follows(&rt, row);
+    }
 }
