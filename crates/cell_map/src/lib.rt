@@ -19,6 +19,4 @@ pub use reading::Cells;
 pub use strips::{Stretch, Strip};
 
 #[cfg(test)]
-mod plain;
-#[cfg(test)]
 mod tests;
