@@ -11,32 +11,15 @@ use std::alloc::Global;
 use std::process::Abort;
 
 // A small network: 8 MHz, frames of 100,000 ticks and one PLP.
+#[rattlefmt::skip]
 const PLP: Plp = Plp {
-    id: 0,
-    plp_type: PlpType::Type1,
-    group: 1,
-    rate: Rate::R1_2,
-    modulation: Modulation::Qpsk,
-    fec: FecSize::Short,
-    rotation: false,
-    blocks: 4,
-    interleave: 1,
-    delete: true,
-    bits_per_second: 2_000_000,
+    id: 0, plp_type: PlpType::Type1, group: 1, rate: Rate::R1_2, modulation: Modulation::Qpsk, fec: FecSize::Short,
+    rotation: false, blocks: 4, interleave: 1, delete: true, bits_per_second: 2_000_000,
 };
 
+#[rattlefmt::skip]
 const L1: L1Numbers = L1Numbers {
-    bwt_ext: 0,
-    s2: 6,
-    guard: 1,
-    papr: 0,
-    l1_mod: 1,
-    l1_cod: 0,
-    l1_fec: 0,
-    post_size: 1_000,
-    pilot: 6,
-    tx_id: 0,
-    symbols: 59,
+    bwt_ext: 0, s2: 6, guard: 1, papr: 0, l1_mod: 1, l1_cod: 0, l1_fec: 0, post_size: 1_000, pilot: 6, tx_id: 0, symbols: 59,
     regen: 0,
 };
 
@@ -64,7 +47,7 @@ fn network(alloc: Global, plps: &[Plp]) -> Result<Config, OutOfMemory> {
     })
 }
 
-fn broken_rule(config: Config) -> Option<ConfigFault> {
+fn fault_of(config: Config) -> Option<ConfigFault> {
     match validate(config) {
         Ok(_) => None,
         Err((_, fault)) => Some(fault),

@@ -1,12 +1,17 @@
 // What each rule lets pass and refuses, and what a refusal gives and says.
-use super::{PLP, broken_rule, network};
+use super::{PLP, fault_of, network};
 use crate::{Band, CapacityFault, Config, ConfigFault, Plp, PlpType, fits, validate};
+use bit_slice::OutOfMemory;
+use std::alloc::Global;
+use std::fmt::Display;
+use std::process::Abort;
 use std::test::Fail;
 
-// What one row of `EDGES` changes in the small network.
+// What one row of `EDGES` changes in the small network: the ticks with the bandwidth, the sub-slices with the type of the PLP, and
+// the interleaver length with the number of blocks.
 #[derive(Clone, Copy, Debug)]
 enum Field {
-    Ticks,
+    Ticks(Band),
     Frames,
     Cells,
     Seconds,
@@ -25,92 +30,56 @@ enum Field {
     TxId,
     Symbols,
     Regen,
-    SubSlices,
-    Type2SubSlices,
+    SubSlices(PlpType),
+    Plps,
     Blocks,
-    Interleave,
-    LongInterleave,
+    Interleave(u16),
     BitRate,
 }
 
-// The least and the greatest that each rule lets pass, and what lies beyond: a value, and the rule that it breaks or 0.
-// The rules 9 to 11 speak of several PLPs.
+// A field, the rule that limits it, the least and the greatest that this rule lets pass, and what lies beyond. The rules 10 and
+// 11 compare PLPs.
 #[rattlefmt::skip]
-static EDGES: [(Field, u64, u8); 66] = [
-    (Field::Ticks, 999, 1),
-    (Field::Ticks, 1_000, 0),
-    (Field::Ticks, 2_285_714, 0),
-    (Field::Ticks, 2_285_715, 1),
-    (Field::Frames, 1, 2),
-    (Field::Frames, 2, 0),
-    (Field::Frames, 255, 0),
-    (Field::Frames, 256, 2),
-    (Field::Cells, 2_024, 3),
-    (Field::Cells, 2_025, 0),
-    (Field::Seconds, 0, 4),
-    (Field::Seconds, 1, 0),
-    (Field::Seconds, 1 << 39, 0),
-    (Field::Seconds, (1 << 39) + 1, 4),
-    (Field::Subseconds, 63_999_999, 0),
-    (Field::Subseconds, 64_000_000, 4),
-    (Field::Utco, 8_191, 0),
-    (Field::Utco, 8_192, 5),
-    (Field::Pid, 15, 6),
-    (Field::Pid, 16, 0),
-    (Field::Pid, 8_190, 0),
-    (Field::Pid, 8_191, 6),
-    (Field::BwtExt, 1, 0),
-    (Field::BwtExt, 2, 7),
-    (Field::S2, 14, 0),
-    (Field::S2, 15, 7),
-    (Field::S2, 16, 7),
-    (Field::Guard, 7, 0),
-    (Field::Guard, 8, 7),
-    (Field::Papr, 15, 0),
-    (Field::Papr, 16, 7),
-    (Field::L1Mod, 15, 0),
-    (Field::L1Mod, 16, 7),
-    (Field::L1Cod, 3, 0),
-    (Field::L1Cod, 4, 7),
-    (Field::L1Fec, 3, 0),
-    (Field::L1Fec, 4, 7),
-    (Field::PostSize, 262_143, 0),
-    (Field::PostSize, 262_144, 7),
-    (Field::Pilot, 15, 0),
-    (Field::Pilot, 16, 7),
-    (Field::TxId, 255, 0),
-    (Field::Symbols, 4_095, 0),
-    (Field::Symbols, 4_096, 7),
-    (Field::Regen, 7, 0),
-    (Field::Regen, 8, 7),
-    (Field::SubSlices, 0, 8),
-    (Field::SubSlices, 1, 0),
-    (Field::SubSlices, 2, 8),
-    (Field::Type2SubSlices, 1, 8),
-    (Field::Type2SubSlices, 2, 0),
-    (Field::Type2SubSlices, 6_480, 0),
-    (Field::Type2SubSlices, 6_481, 8),
-    (Field::Blocks, 0, 12),
-    (Field::Blocks, 1, 0),
-    (Field::Blocks, 1_023, 0),
-    (Field::Blocks, 1_024, 12),
-    (Field::Interleave, 0, 0),
-    (Field::Interleave, 4, 0),
-    (Field::Interleave, 5, 13),
-    (Field::LongInterleave, 255, 0),
-    (Field::LongInterleave, 256, 13),
-    (Field::BitRate, 0, 14),
-    (Field::BitRate, 1, 0),
-    (Field::BitRate, 72_000_000, 0),
-    (Field::BitRate, 72_000_001, 14),
+static EDGES: [(Field, u8, &[u64], &[u64]); 31] = [
+    (Field::Ticks(Band::Mhz1_7), 1, &[461_267], &[461_268]),
+    (Field::Ticks(Band::Mhz5), 1, &[1_428_571], &[1_428_572]),
+    (Field::Ticks(Band::Mhz6), 1, &[1_714_285], &[1_714_286]),
+    (Field::Ticks(Band::Mhz7), 1, &[2_000_000], &[2_000_001]),
+    (Field::Ticks(Band::Mhz8), 1, &[1_000, 2_285_714], &[999, 2_285_715]),
+    (Field::Ticks(Band::Mhz10), 1, &[2_857_142], &[2_857_143]),
+    (Field::Frames, 2, &[2, 255], &[1, 256]),
+    (Field::Cells, 3, &[2_025], &[2_024]),
+    (Field::Seconds, 4, &[1, 1 << 39], &[0, (1 << 39) + 1]),
+    (Field::Subseconds, 4, &[63_999_999], &[64_000_000]),
+    (Field::Utco, 5, &[8_191], &[8_192]),
+    (Field::Pid, 6, &[16, 8_190], &[15, 8_191]),
+    (Field::BwtExt, 7, &[1], &[2]),
+    (Field::S2, 7, &[14], &[15, 16]),
+    (Field::Guard, 7, &[7], &[8]),
+    (Field::Papr, 7, &[15], &[16]),
+    (Field::L1Mod, 7, &[15], &[16]),
+    (Field::L1Cod, 7, &[3], &[4]),
+    (Field::L1Fec, 7, &[3], &[4]),
+    (Field::PostSize, 7, &[262_143], &[262_144]),
+    (Field::Pilot, 7, &[15], &[16]),
+    (Field::TxId, 7, &[255], &[]),
+    (Field::Symbols, 7, &[4_095], &[4_096]),
+    (Field::Regen, 7, &[7], &[8]),
+    (Field::SubSlices(PlpType::Type1), 8, &[1], &[0, 2]),
+    (Field::SubSlices(PlpType::Type2), 8, &[2, 6_480], &[1, 6_481]),
+    (Field::Plps, 9, &[1, 255], &[0, 256]),
+    (Field::Blocks, 12, &[1, 1_023], &[0, 1_024]),
+    (Field::Interleave(4), 13, &[0, 4], &[5]),
+    (Field::Interleave(300), 13, &[255], &[256]),
+    (Field::BitRate, 14, &[1, 72_000_000], &[0, 72_000_001]),
 ];
 
-fn set(config: &mut Config, plp: &mut Plp, field: Field, value: u64) {
+fn set(config: &mut Config, plp: &mut Plp, count: &mut u16, field: Field, value: u64) {
     let byte = u8::try_from(value).unwrap_or(u8::MAX);
     let short = u16::try_from(value).unwrap_or(u16::MAX);
     let word = u32::try_from(value).unwrap_or(u32::MAX);
     match field {
-        Field::Ticks => config.ticks = word,
+        Field::Ticks(band) => (config.band, config.ticks) = (band, word),
         Field::Frames => config.frames = short,
         Field::Cells => config.cells = word,
         Field::Seconds => config.seconds = value,
@@ -129,155 +98,117 @@ fn set(config: &mut Config, plp: &mut Plp, field: Field, value: u64) {
         Field::TxId => config.l1.tx_id = byte,
         Field::Symbols => config.l1.symbols = short,
         Field::Regen => config.l1.regen = byte,
-        Field::SubSlices => config.sub_slices = short,
-        Field::Type2SubSlices => {
-            plp.plp_type = PlpType::Type2;
-            config.sub_slices = short;
-        }
+        Field::SubSlices(plp_type) => (plp.plp_type, config.sub_slices) = (plp_type, short),
+        Field::Plps => *count = short,
         Field::Blocks => plp.blocks = short,
-        Field::Interleave => plp.interleave = short,
-        Field::LongInterleave => {
-            plp.blocks = 300;
-            plp.interleave = short;
-        }
+        Field::Interleave(blocks) => (plp.blocks, plp.interleave) = (blocks, short),
         Field::BitRate => plp.bits_per_second = word,
     }
 }
 
+// The rule that the small network breaks with this value of a field, or 0. Of several PLPs each has an identifier of its own.
+fn rule_with(alloc: Global, field: Field, value: u64) -> Result<u8, OutOfMemory> {
+    let mut config = network(alloc, &[])?;
+    let (mut plp, mut count) = (PLP, 1);
+    set(&mut config, &mut plp, &mut count, field, value);
+    for id in (0..=u8::MAX).take(usize::from(count)) {
+        config.plps.push(Plp { id, ..plp })?;
+    }
+    Ok(fault_of(config).map_or(0, |fault| fault.rule))
+}
+
+// With each of these values of a field the small network breaks this rule, or none if it is 0.
+fn expect<R: AllocGlobal + Abort>(rt: &R, field: Field, all: &[u64], rule: u8) -> Result<(), Fail> {
+    for value in all {
+        let broken = rule_with(rt.alloc(), field, *value)?;
+        assert!(rt; broken == rule, "{field:?} {value}: rule {broken}");
+    }
+    Ok(())
+}
+
 #[test]
 fn edges_of_the_rules(rt: HostRuntime) -> Result<(), Fail> {
-    let alloc = rt.alloc();
-    for (field, value, rule) in &EDGES {
-        let mut config = network(alloc, &[])?;
-        let mut plp = PLP;
-        set(&mut config, &mut plp, *field, *value);
-        config.plps.push(plp)?;
-        let broken = broken_rule(config).map_or(0, |fault| fault.rule);
-        assert_eq!(rt; broken, *rule, "{field:?} {value}");
+    for (field, rule, pass, beyond) in &EDGES {
+        expect(&rt, *field, pass, 0)?;
+        expect(&rt, *field, beyond, *rule)?;
     }
     Ok(())
 }
 
-#[test]
-fn longest_frames(rt: HostRuntime) -> Result<(), Fail> {
-    let rows = [
-        (Band::Mhz1_7, 461_267),
-        (Band::Mhz5, 1_428_571),
-        (Band::Mhz6, 1_714_285),
-        (Band::Mhz7, 2_000_000),
-        (Band::Mhz8, 2_285_714),
-        (Band::Mhz10, 2_857_142),
-    ];
-    for (band, ticks) in rows {
-        for (more, rule) in [(0, None), (1, Some(1))] {
-            let mut config = network(rt.alloc(), &[PLP])?;
-            config.band = band;
-            config.ticks = ticks + more;
-            let fault = broken_rule(config);
-            assert_eq!(rt; fault.map(|fault| fault.rule), rule, "{band:?} {more}");
-        }
-    }
-    Ok(())
-}
+const SECOND: Plp = Plp { id: 1, ..PLP };
 
-#[test]
-fn edges_of_the_number_of_plps(rt: HostRuntime) -> Result<(), Fail> {
-    let alloc = rt.alloc();
-    for (count, rule) in [(0, Some(9)), (1, None), (255, None), (256, Some(9))] {
-        let mut config = network(alloc, &[])?;
-        for id in (0..=u8::MAX).take(count) {
-            config.plps.push(Plp { id, ..PLP })?;
-        }
-        let fault = broken_rule(config);
-        assert_eq!(rt; fault.map(|fault| fault.rule), rule, "{count} PLPs");
-    }
-    Ok(())
-}
+#[rattlefmt::skip]
+const TYPE2: Plp = Plp { id: 2, plp_type: PlpType::Type2, ..PLP };
+
+#[rattlefmt::skip]
+const SLOW: Plp = Plp { id: 3, bits_per_second: 0, ..PLP };
+
+// PLPs, the frames of a superframe and the sub-slices, and the rule that breaks first, with its first place.
+type Several = (
+    &'static str,
+    &'static [Plp],
+    u16,
+    u16,
+    Option<(u8, Option<u8>)>,
+);
+
+#[rattlefmt::skip]
+static SEVERAL: [Several; 6] = [
+    ("one comes twice", &[PLP, PLP], 2, 1, Some((10, Some(1)))),
+    ("two come twice", &[PLP, SECOND, PLP, SECOND], 2, 1, Some((10, Some(2)))),
+    ("type 1 behind type 2", &[PLP, TYPE2, SECOND], 2, 2, Some((11, Some(2)))),
+    ("type 1 before type 2", &[PLP, SECOND, TYPE2], 2, 2, None),
+    ("10 is less than 14", &[SECOND, SLOW, SLOW], 2, 1, Some((10, Some(2)))),
+    ("2 is less than 14", &[SLOW], 1, 1, Some((2, None))),
+];
 
 #[test]
 fn the_least_rule_and_its_first_place(rt: HostRuntime) -> Result<(), Fail> {
-    let alloc = rt.alloc();
-    let second = Plp { id: 1, ..PLP };
-    let type2 = Plp {
-        id: 2,
-        plp_type: PlpType::Type2,
-        ..PLP
-    };
-    let slow = Plp {
-        id: 3,
-        bits_per_second: 0,
-        ..PLP
-    };
-    let rows: [(&[Plp], u16, Option<ConfigFault>); 5] = [
-        (&[PLP, PLP], 1, fault(10, 1)),
-        (&[PLP, second, PLP, second], 1, fault(10, 2)),
-        (&[PLP, type2, second], 2, fault(11, 2)),
-        (&[PLP, second, type2], 2, None),
-        (&[second, slow, slow], 1, fault(10, 2)),
-    ];
-    for (plps, sub_slices, want) in rows {
-        let mut config = network(alloc, plps)?;
-        config.sub_slices = sub_slices;
-        assert_eq!(rt; broken_rule(config), want);
+    for (why, plps, frames, sub_slices, first) in &SEVERAL {
+        let mut config = network(rt.alloc(), plps)?;
+        (config.frames, config.sub_slices) = (*frames, *sub_slices);
+        let fault = fault_of(config).map(|fault| (fault.rule, fault.plp));
+        assert!(rt; fault == *first, "{why}");
     }
-    let mut config = network(alloc, &[slow])?;
-    config.frames = 1;
-    assert_eq!(rt;
-        broken_rule(config),
-        Some(ConfigFault { rule: 2, plp: None })
-    );
     Ok(())
 }
 
-fn fault(rule: u8, plp: u8) -> Option<ConfigFault> {
-    Some(ConfigFault {
-        rule,
-        plp: Some(plp),
-    })
+// The cells of a configuration that comes back, and whether it obeys the rules.
+fn given_back(config: Config) -> Option<(u32, bool)> {
+    match validate(config) {
+        Ok(valid) => fits(valid)
+            .err()
+            .map(|(valid, _)| (valid.config().cells, true)),
+        Err((config, _)) => Some((config.cells, false)),
+    }
 }
 
 #[test]
 fn a_refusal_gives_the_configuration_back(rt: HostRuntime) -> Result<(), Fail> {
-    let mut config = network(rt.alloc(), &[PLP])?;
-    config.cells = 2_025;
-    match validate(config) {
-        Ok(valid) => match fits(valid) {
-            Ok(_) => panic!(rt; "32,400 cells fit into 2,025"),
-            Err((valid, _)) => assert_eq!(rt; valid.config().cells, 2_025),
-        },
-        Err((_, fault)) => panic!(rt; "{fault}"),
-    }
-    let mut config = network(rt.alloc(), &[PLP])?;
-    config.cells = 2_024;
-    match validate(config) {
-        Ok(_) => panic!(rt; "2,024 cells pass"),
-        Err((config, _)) => assert_eq!(rt; config.cells, 2_024),
+    for back in [(2_024, false), (2_025, true)] {
+        let mut config = network(rt.alloc(), &[PLP])?;
+        config.cells = back.0;
+        assert!(rt; given_back(config) == Some(back), "{} cells", back.0);
     }
     Ok(())
 }
 
+#[rattlefmt::skip]
+const RULE_12: ConfigFault = ConfigFault { rule: 12, plp: Some(3) };
+
+#[rattlefmt::skip]
+const TEST_2: CapacityFault = CapacityFault { test: 2, plp: None, need: 40_500, have: 40_000 };
+
+fn says<D: Display>(alloc: Global, fault: &D, text: &str) -> Result<bool, Fail> {
+    Ok(format!(in alloc; "{fault}")?.as_str() == text)
+}
+
 #[test]
 fn faults_in_words(rt: HostRuntime) -> Result<(), Fail> {
-    let alloc = rt.alloc();
-    let rule = ConfigFault {
-        rule: 12,
-        plp: Some(3),
-    };
-    let text = format!(in alloc; "{rule}")?;
-    assert_eq!(rt;
-        text.as_str(),
-        "rule 12 fails at the PLP of place 3: a PLP must have from 1 to 1023 blocks"
-    );
-    let test = CapacityFault {
-        test: 2,
-        plp: None,
-        need: 40_500,
-        have: 40_000,
-    };
-    let text = format!(in alloc; "{test}")?;
-    assert_eq!(rt;
-        text.as_str(),
-        "capacity test 2 fails: the cells of a frame must hold all blocks (need 40500, have 40000)"
-    );
+    let rule = "rule 12 fails at the PLP of place 3: a PLP must have from 1 to 1023 blocks";
+    assert!(rt; says(rt.alloc(), &RULE_12, rule)?);
+    let test =
+        "capacity test 2 fails: the cells of a frame must hold all blocks (need 40500, have 40000)";
+    assert!(rt; says(rt.alloc(), &TEST_2, test)?);
     Ok(())
 }

@@ -1,110 +1,122 @@
 // The figures of two networks, worked by hand, and what does not fit.
+ghost use Rattle.std.specs.Prelude.{◌<◌, length};
+
 use super::{PLP, network, plan};
-use crate::{CapacityFault, FecSize, Modulation, Moment, Plp, PlpType, Rate};
+use crate::{FecSize, Modulation, Plan, Plp, PlpType, Rate};
+use std::process::Abort;
 use std::test::Fail;
+
+// A figure of the only PLP: some of a slot, of a tick, of so many blocks, or of a frame.
+#[derive(Clone, Copy, Debug)]
+enum Figure {
+    SlotNumerator,
+    SlotDenominator,
+    Need,
+    StartOf(u32),
+    SlotsBy(u32),
+    Delay,
+    Window,
+    FieldBytes,
+    BlockBytes,
+    Cells(u16),
+    Capacity,
+    UpBytes,
+    Seconds(u32),
+    Subseconds(u32),
+}
+
+fn figure_of(plan: &Plan, figure: Figure) -> u128
+    requires { 0 < length plan.now.plps }
+{
+    match figure {
+        Figure::SlotNumerator => u128::from(plan.slot_length(0).0),
+        Figure::SlotDenominator => u128::from(plan.slot_length(0).1),
+        Figure::Need => u128::from(plan.need(0)),
+        Figure::StartOf(slot) => plan.start_of(0, u64::from(slot)),
+        Figure::SlotsBy(tick) => u128::from(plan.slots_by(0, u64::from(tick))),
+        Figure::Delay => u128::from(plan.delay(0)),
+        Figure::Window => u128::from(plan.window(0)),
+        Figure::FieldBytes => u128::from(plan.field_bytes(0)),
+        Figure::BlockBytes => u128::from(plan.block_bytes(0)),
+        Figure::Cells(blocks) => u128::from(blocks) * u128::from(plan.block_cells(0)),
+        Figure::Capacity => u128::from(plan.capacity(0)),
+        Figure::UpBytes => u128::from(plan.up_bytes(0)),
+        Figure::Seconds(frame) => u128::from(plan.emission(u64::from(frame)).seconds),
+        Figure::Subseconds(frame) => u128::from(plan.emission(u64::from(frame)).subseconds),
+    }
+}
+
+// A plan is for this PLP alone, with these figures.
+fn has_figures(rt: &impl Abort, plan: &Plan, plp: &Plp, figures: &[(Figure, u128)]) {
+    let plps = &plan.config().plps;
+    assert!(rt; plps.len() == 1 && plps.get(0) == Some(plp) && plps.get(1) == None);
+    for (figure, value) in figures {
+        assert!(rt; figure_of(plan, *figure) == *value, "{figure:?}");
+    }
+}
+
+// Frame 2 is the first of the second superframe, and frame 92 the first that leaves in another second.
+#[rattlefmt::skip]
+static SMALL: [(Figure, u128); 20] = [
+    (Figure::SlotNumerator, 48_128), (Figure::SlotDenominator, 7), (Figure::Need, 2_735),
+    (Figure::StartOf(1), 6_875), (Figure::StartOf(7), 48_128),
+    (Figure::SlotsBy(100_000), 14), (Figure::SlotsBy(200_000), 29), (Figure::SlotsBy(300_000), 43), (Figure::SlotsBy(400_000), 58),
+    (Figure::Delay, 306_877), (Figure::Window, 62), (Figure::FieldBytes, 869), (Figure::BlockBytes, 879),
+    (Figure::Cells(1), 8_100), (Figure::Capacity, 3_476), (Figure::UpBytes, 188),
+    (Figure::Seconds(2), 700_000_000), (Figure::Subseconds(2), 1_400_000),
+    (Figure::Seconds(92), 700_000_001), (Figure::Subseconds(92), 400_000),
+];
 
 #[test]
 fn figures_of_a_small_network(rt: HostRuntime) -> Result<(), Fail> {
     let plan = plan(&rt, network(rt.alloc(), &[PLP])?)?;
-    assert_eq!(rt; plan.config().plps.len(), 1);
-    assert_eq!(rt; plan.config().plps.get(0), Some(&PLP));
-    assert_eq!(rt; plan.config().plps.get(1), None);
-    assert_eq!(rt; plan.slot_length(0), (48_128, 7));
-    assert_eq!(rt; plan.need(0), 2_735);
-    assert_eq!(rt; plan.start_of(0, 1), 6_875);
-    assert_eq!(rt; plan.start_of(0, 7), 48_128);
-    for (frame, slots) in [(1, 14), (2, 29), (3, 43), (4, 58)] {
-        assert_eq!(rt; plan.slots_by(0, frame * 100_000), slots);
-    }
-    assert_eq!(rt; plan.delay(0), 306_877);
-    assert_eq!(rt; plan.window(0), 62);
-    assert_eq!(rt; plan.field_bytes(0), 869);
-    assert_eq!(rt; plan.block_bytes(0), 879);
-    assert_eq!(rt; plan.block_cells(0), 8_100);
-    assert_eq!(rt; plan.capacity(0), 3_476);
-    assert_eq!(rt; plan.up_bytes(0), 188);
-    // The first frame of the second superframe, and the first that leaves in another second.
-    for (frame, seconds, subseconds) in [(2, 700_000_000, 1_400_000), (92, 700_000_001, 400_000)] {
-        let moment = Moment {
-            seconds,
-            subseconds,
-        };
-        assert_eq!(rt; plan.emission(frame), moment);
-    }
+    has_figures(&rt, &plan, &PLP, &SMALL);
     Ok(())
 }
+
+#[rattlefmt::skip]
+const REALISTIC_PLP: Plp = Plp {
+    rate: Rate::R2_3, modulation: Modulation::Qam256, fec: FecSize::Normal, blocks: 209, interleave: 4,
+    bits_per_second: 40_000_000, ..PLP
+};
+
+#[rattlefmt::skip]
+static REALISTIC: [(Figure, u128); 12] = [
+    (Figure::SlotNumerator, 12_032), (Figure::SlotDenominator, 35), (Figure::Need, 1_120_840), (Figure::StartOf(35), 12_032),
+    (Figure::SlotsBy(2_049_536), 5_961), (Figure::SlotsBy(2 * 2_049_536), 11_923),
+    (Figure::SlotsBy(3 * 2_049_536), 17_885), (Figure::SlotsBy(4 * 2_049_536), 23_847),
+    (Figure::Delay, 6_148_953), (Figure::Window, 23_851), (Figure::Capacity, 1_122_330), (Figure::Cells(209), 1_692_900),
+];
 
 #[test]
 fn figures_of_a_realistic_network(rt: HostRuntime) -> Result<(), Fail> {
-    let plp = Plp {
-        rate: Rate::R2_3,
-        modulation: Modulation::Qam256,
-        fec: FecSize::Normal,
-        blocks: 209,
-        interleave: 4,
-        bits_per_second: 40_000_000,
-        ..PLP
-    };
-    let mut config = network(rt.alloc(), &[plp])?;
-    config.ticks = 2_049_536;
-    config.cells = 1_700_000;
-    let plan = plan(&rt, config)?;
-    assert_eq!(rt; plan.config().plps.len(), 1);
-    assert_eq!(rt; plan.slot_length(0), (12_032, 35));
-    assert_eq!(rt; plan.need(0), 1_120_840);
-    assert_eq!(rt; plan.start_of(0, 35), 12_032);
-    for (frame, slots) in [(1, 5_961), (2, 11_923), (3, 17_885), (4, 23_847)] {
-        assert_eq!(rt; plan.slots_by(0, frame * 2_049_536), slots);
-    }
-    assert_eq!(rt; plan.delay(0), 6_148_953);
-    assert_eq!(rt; plan.window(0), 23_851);
-    assert_eq!(rt; plan.capacity(0), 1_122_330);
-    assert_eq!(rt; u32::from(plp.blocks) * plan.block_cells(0), 1_692_900);
+    let mut config = network(rt.alloc(), &[REALISTIC_PLP])?;
+    (config.ticks, config.cells) = (2_049_536, 1_700_000);
+    has_figures(&rt, &plan(&rt, config)?, &REALISTIC_PLP, &REALISTIC);
     Ok(())
 }
 
+// A PLP, the sub-slices and the cells of a network, and the test that it fails: its number and place, what is needed, and what
+// there is.
+type Lack = (&'static str, Plp, u16, u32, (u8, Option<u8>, u64, u64));
+
+#[rattlefmt::skip]
+static LACKS: [Lack; 5] = [
+    ("a block too few", Plp { blocks: 3, ..PLP }, 1, 40_000, (1, Some(0), 2_735, 2_607)),
+    ("two blocks", Plp { blocks: 2, bits_per_second: 1_906_000, ..PLP }, 1, 40_000, (1, Some(0), 2_606, 1_738)),
+    ("a block too many", Plp { blocks: 5, ..PLP }, 1, 40_000, (2, None, 40_500, 40_000)),
+    ("seven sub-slices", Plp { plp_type: PlpType::Type2, ..PLP }, 7, 40_000, (3, Some(0), 7, 8_100)),
+    ("a cell too many", PLP, 1, 4_194_304, (4, None, 4_194_304, 4_194_303)),
+];
+
 #[test]
 fn what_is_needed_and_what_there_is(rt: HostRuntime) -> Result<(), Fail> {
-    let slow = Plp {
-        blocks: 2,
-        bits_per_second: 1_906_000,
-        ..PLP
-    };
-    let type2 = Plp {
-        plp_type: PlpType::Type2,
-        ..PLP
-    };
-    let rows = [
-        (
-            Plp { blocks: 3, ..PLP },
-            1,
-            40_000,
-            (1, Some(0), 2_735, 2_607),
-        ),
-        (slow, 1, 40_000, (1, Some(0), 2_606, 1_738)),
-        (
-            Plp { blocks: 5, ..PLP },
-            1,
-            40_000,
-            (2, None, 40_500, 40_000),
-        ),
-        (type2, 7, 40_000, (3, Some(0), 7, 8_100)),
-        (PLP, 1, 4_194_304, (4, None, 4_194_304, 4_194_303)),
-    ];
-    for (plp, sub_slices, cells, (test, place, need, have)) in rows {
-        let mut config = network(rt.alloc(), &[plp])?;
-        config.sub_slices = sub_slices;
-        config.cells = cells;
-        let fault = CapacityFault {
-            test,
-            plp: place,
-            need,
-            have,
-        };
-        match plan(&rt, config) {
-            Ok(_) => panic!(rt; "test {test} holds"),
-            Err(got) => assert_eq!(rt; got, fault),
-        }
+    for (why, plp, sub_slices, cells, lack) in &LACKS {
+        let mut config = network(rt.alloc(), &[*plp])?;
+        (config.sub_slices, config.cells) = (*sub_slices, *cells);
+        let fault = plan(&rt, config).err();
+        let told = fault.map(|fault| (fault.test, fault.plp, fault.need, fault.have));
+        assert!(rt; told == Some(*lack), "{why}");
     }
     Ok(())
 }
