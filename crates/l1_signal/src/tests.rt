@@ -6,11 +6,12 @@ ghost use Rattle.l1_signal.specs.L1Dynamic.{DynFits};
 mod bits;
 mod networks;
 
-use crate::{L1Conf, L1Dyn, L1Fault, L1Pre, read_dyn, write_conf, write_dyn, write_pre};
-use bit_slice::{BitBuf, BitReader, BitSlice, SinkFault};
+use crate::*;
+use bit_slice::{BitBuf, BitReader, BitSlice, OutOfMemory, SinkFault};
 use plp_config::{Plan, Plp};
 use sample_networks::{NoPlan, SMALL_PLP, network_of, plan_of};
 use std::alloc::Global;
+use std::test::Fail;
 
 // A PLP with little to send, so that 255 of them fit.
 const SMALL: Plp = Plp {
@@ -22,17 +23,24 @@ fn plan(alloc: Global, plps: &[Plp], sub_slices: u16) -> Result<Plan, NoPlan> {
     plan_of(network_of(alloc, plps, 4_000_000, sub_slices)?)
 }
 
-const PRE: [u8; 21] = [
+// L1-pre of that PLP's network, with its CRC_32.
+static PRE: [u8; 25] = [
     0x00, 0x06, 0x10, 0x10, 0x00, 0xFA, 0x00, 0x13, 0xE6, 0x00, 0x00, 0x01, 0x00, 0x02, 0x00, 0x03,
-    0x02, 0x03, 0xB0, 0x20, 0x80,
+    0x02, 0x03, 0xB0, 0x20, 0x80, 0xD2, 0x90, 0x4B, 0x05,
 ];
 
-const CONF: [u8; 24] = [
+static CONF: [u8; 24] = [
     0x00, 0x02, 0x02, 0x00, 0x00, 0x71, 0x02, 0xAA, 0x00, 0x00, 0x8C, 0x00, 0x00, 0x40, 0x00, 0x20,
     0x08, 0x08, 0x00, 0x10, 0x00, 0x00, 0x00, 0x00,
 ];
 
-const DYN: [u8; 16] = [1, 0, 0, 0, 0, 0, 0, 0, 0, 0, 0, 0, 0, 8, 0, 0];
+static DYN: [u8; 16] = [1, 0, 0, 0, 0, 0, 0, 0, 0, 0, 0, 0, 0, 8, 0, 0];
+
+// The first bits of these bytes, or all of them if there are no more.
+fn first(bytes: &[u8], count: usize) -> BitSlice<'_> {
+    let bits = BitSlice::whole(&bytes[..bytes.len().min(4_000)]);
+    bits.sub(0, count.min(bits.len()))
+}
 
 fn pre_bytes(alloc: Global, pre: &L1Pre) -> Result<Vec<u8>, SinkFault>
     requires { PreFits pre.now }
@@ -58,20 +66,13 @@ fn dyn_bytes(alloc: Global, dynamic: &L1Dyn) -> Result<Vec<u8>, SinkFault>
     Ok(sink.into_bytes())
 }
 
-// Whether bytes came out as they are to, or the field was refused.
-fn is_told(came: &Result<Vec<u8>, L1Fault>, want: &[u8], field: Option<u8>) -> bool {
-    match (came, field) {
-        (Ok(out), None) => &out[..] == want,
-        (Err(L1Fault::Unsupported { field: told }), Some(field)) => *told == field,
-        _ => false,
-    }
+// The bytes that are written of a part that is read.
+fn rewritten_conf(alloc: Global, bits: BitSlice<'_>, pre: &L1Pre) -> Result<Vec<u8>, L1Fault> {
+    let conf = read_conf(alloc, &mut BitReader::new(bits), pre)?;
+    conf_bytes(alloc, &conf).map_err(|_| L1Fault::OutOfMemory)
 }
 
-fn rewritten_dyn(
-    alloc: Global,
-    bits: BitSlice<'_>,
-    dynamic: &mut L1Dyn,
-) -> Result<Vec<u8>, L1Fault> {
-    read_dyn(&mut BitReader::new(bits), dynamic)?;
-    dyn_bytes(alloc, dynamic).map_err(|_| L1Fault::OutOfMemory)
+fn rewritten_dyn(alloc: Global, bits: BitSlice<'_>, out: &mut L1Dyn) -> Result<Vec<u8>, L1Fault> {
+    read_dyn(&mut BitReader::new(bits), out)?;
+    dyn_bytes(alloc, out).map_err(|_| L1Fault::OutOfMemory)
 }

@@ -1,68 +1,45 @@
 // The parts of networks: their bytes, there and back, and of as many PLPs as there can be.
-use super::{
-    CONF, DYN, PRE, SMALL, conf_bytes, dyn_bytes, is_told, plan, pre_bytes, rewritten_dyn,
-};
-use crate::{
-    DynPlp, L1Dyn, conf_of, dyn_of, is_conf, pre_of, read_conf, read_dyn, shape_of, write_dyn,
-};
-use bit_slice::{
-    BitBuf, BitCount, BitReader, BitSink, BitSlice, FixedBits, OutOfMemory, SinkFault,
-};
-use plp_config::{FecSize, Modulation, Plan, Plp, PlpType, Rate};
+use super::*;
+use bit_slice::{BitCount, BitSink, FixedBits};
+use plp_config::{FecSize, Modulation, PlpType, Rate};
 use scheduler::{Shape, field_law, shape};
-use std::alloc::Global;
 use std::process::Abort;
-use std::test::Fail;
 
-const THREE: [Plp; 3] = [
+#[rattlefmt::skip]
+static THREE: [Plp; 3] = [
+    Plp { id: 1, blocks: 3, ..SMALL },
     Plp {
-        id: 1,
-        blocks: 3,
-        ..SMALL
+        id: 200, group: 7, rate: Rate::R2_3, modulation: Modulation::Qam16, fec: FecSize::Normal, rotation: true, blocks: 2,
+        interleave: 0, ..SMALL
     },
-    Plp {
-        id: 200,
-        group: 7,
-        rate: Rate::R2_3,
-        modulation: Modulation::Qam16,
-        fec: FecSize::Normal,
-        rotation: true,
-        blocks: 2,
-        interleave: 0,
-        ..SMALL
-    },
-    Plp {
-        id: 3,
-        plp_type: PlpType::Type2,
-        group: 255,
-        rate: Rate::R5_6,
-        modulation: Modulation::Qam256,
-        blocks: 2,
-        ..SMALL
-    },
+    Plp { id: 3, plp_type: PlpType::Type2, group: 255, rate: Rate::R5_6, modulation: Modulation::Qam256, blocks: 2, ..SMALL },
 ];
 
-#[test]
-fn one_plp(rt: HostRuntime) -> Result<(), Fail> {
-    let plan = plan(rt.alloc(), &[SMALL], 1)?;
-    assert!(rt; pre_bytes(rt.alloc(), &pre_of(&plan))?[..] == PRE[..]);
-    let conf = conf_of(rt.alloc(), &plan)?;
-    assert!(rt; is_conf(BitSlice::whole(&CONF).sub(0, 191), &conf));
-    assert!(rt; conf_bytes(rt.alloc(), &conf)?[..] == CONF[..]);
-    Ok(())
-}
-
-const THREE_CONF: [u8; 47] = [
+static THREE_CONF: [u8; 47] = [
     0x00, 0x0A, 0x06, 0x00, 0x00, 0x71, 0x02, 0xAA, 0x00, 0x04, 0x8C, 0x00, 0x00, 0x40, 0x00, 0x18,
     0x08, 0x08, 0x00, 0x11, 0x90, 0x46, 0x00, 0x00, 0xE8, 0xD0, 0x08, 0x04, 0x00, 0x00, 0x08, 0x03,
     0x43, 0x00, 0x0F, 0xFA, 0xC0, 0x04, 0x02, 0x02, 0x00, 0x04, 0x00, 0x00, 0x00, 0x00, 0x00,
 ];
 
+fn pre_of_plan(alloc: Global, plan: &Plan) -> Result<Vec<u8>, SinkFault> {
+    pre_bytes(alloc, &pre_of(plan))
+}
+
+fn conf_of_plan(alloc: Global, plan: &Plan) -> Result<Vec<u8>, Fail> {
+    Ok(conf_bytes(alloc, &conf_of(alloc, plan)?)?)
+}
+
 #[test]
-fn three_plps(rt: HostRuntime) -> Result<(), Fail> {
-    let plan = plan(rt.alloc(), &THREE, 5)?;
-    let conf = conf_of(rt.alloc(), &plan)?;
-    assert!(rt; conf_bytes(rt.alloc(), &conf)?[..] == THREE_CONF[..]);
+fn l1_pre_and_configurable_parts(rt: HostRuntime) -> Result<(), Fail> {
+    let alloc = rt.alloc();
+    let plan_1 = plan(alloc, &[SMALL], 1)?;
+    assert!(rt; pre_of_plan(alloc, &plan_1)?[..] == PRE[..21], "L1-pre");
+    assert!(rt; conf_of_plan(alloc, &plan_1)?[..] == CONF[..], "one PLP");
+    let plan_3 = plan(alloc, &THREE, 5)?;
+    assert!(rt;
+        conf_of_plan(alloc, &plan_3)?[..] == THREE_CONF[..],
+        "three PLPs"
+    );
     Ok(())
 }
 
@@ -80,101 +57,87 @@ fn second_frame(rt: &(impl AllocGlobal + Abort), plan: &Plan) -> Result<(L1Dyn, 
     Ok((dynamic, bytes))
 }
 
+// Whether a dynamic part tells the shape in which the only PLP has four blocks, from cell 0 on.
+fn tells_shape(dynamic: &L1Dyn, shape: &mut Shape) -> bool {
+    if shape.len() != 1 || dynamic.plps.len() != 1 {
+        return false;
+    }
+    shape_of(dynamic, shape);
+    shape.len() == 1 && shape.count(0) == 4 && shape.start(0) == 0
+}
+
 #[test]
 fn a_shape_there_and_back(rt: HostRuntime) -> Result<(), Fail> {
     let plan = plan(rt.alloc(), &[SMALL], 1)?;
     let (dynamic, bytes) = second_frame(&rt, &plan)?;
     assert!(rt; bytes[..] == DYN[..]);
-    let mut shape = Shape::open(rt.alloc(), &plan)?;
-    if shape.len() == dynamic.plps.len() {
-        shape_of(&dynamic, &mut shape);
-    }
-    assert!(rt; shape.len() == 1 && shape.count(0) == 4 && shape.start(0) == 0);
+    assert!(rt; tells_shape(&dynamic, &mut Shape::open(rt.alloc(), &plan)?));
     Ok(())
 }
 
 #[test]
 fn too_little_room(rt: HostRuntime) -> Result<(), Fail> {
     let mut dynamic = L1Dyn::open(rt.alloc(), 1)?;
-    read_dyn(&mut BitReader::new(BitSlice::whole(&DYN)), &mut dynamic)?;
+    read_dyn(&mut BitReader::new(first(&DYN, 128)), &mut dynamic)?;
     match write_dyn(&mut FixedBits::<15>::new(), &dynamic) {
         Err(SinkFault::Full { need, room }) => assert!(rt; room < need),
         _ => assert!(rt; false),
     }
     assert!(rt; write_dyn(&mut FixedBits::<16>::new(), &dynamic).is_ok());
     let mut count = BitCount::new();
-    assert!(rt; write_dyn(&mut count, &dynamic).is_ok());
-    assert_eq!(rt; count.bits(), 127);
+    assert!(rt; write_dyn(&mut count, &dynamic).is_ok() && count.bits() == 127);
     Ok(())
 }
+
+const ONE_BLOCK: Plp = Plp { blocks: 1, ..SMALL };
 
 fn many(alloc: Global, count: u8) -> Result<Vec<Plp>, OutOfMemory> {
     let mut list = Vec::new(alloc);
     for id in 0..count {
-        list.push(Plp {
-            id,
-            blocks: 1,
-            ..SMALL
-        })?;
+        list.push(Plp { id, ..ONE_BLOCK })?;
     }
     Ok(list)
 }
 
+// The number of PLPs of a configurable part.
+fn plps_of(alloc: Global, bits: BitSlice<'_>, pre: &L1Pre) -> Result<usize, L1Fault> {
+    let plps = read_conf(alloc, &mut BitReader::new(bits), pre)?.plps;
+    Ok(if plps.is_empty() { 0 } else { plps.len() })
+}
+
 #[test]
 fn as_many_plps_as_there_can_be(rt: HostRuntime) -> Result<(), Fail> {
+    let alloc = rt.alloc();
     for count in [1, 2, 255] {
-        let plan = plan(rt.alloc(), &many(rt.alloc(), count)?, 1)?;
-        let bytes = conf_bytes(rt.alloc(), &conf_of(rt.alloc(), &plan)?)?;
-        let Some(front) = bytes.get(..bytes.len().min(4_000)) else {
-            panic!(rt; "no bytes");
-        };
-        let mut source = BitReader::new(BitSlice::whole(front));
-        let conf = read_conf(rt.alloc(), &mut source, &pre_of(&plan))?;
-        assert!(rt; !conf.plps.is_empty() && conf.plps.len() == usize::from(count));
-        assert!(rt; conf_bytes(rt.alloc(), &conf)? == bytes);
+        let plan = plan(alloc, &many(alloc, count)?, 1)?;
+        let (pre, bytes) = (pre_of(&plan), conf_of_plan(alloc, &plan)?);
+        let plps = plps_of(alloc, first(&bytes, 32_000), &pre)?;
+        assert!(rt; plps == usize::from(count), "{count} PLPs");
+        let came = rewritten_conf(alloc, first(&bytes, 32_000), &pre)?;
+        assert!(rt; came == bytes, "{count} PLPs there and back");
     }
     Ok(())
 }
 
 // The 71 bits before the PLPs of a dynamic part.
-const DYN_FRONT: [u8; 9] = [0xA5, 0xAA, 0xAA, 0xAD, 0x55, 0x55, 0x35, 0xAA, 0x00];
+static DYN_FRONT: [u8; 9] = [0xA5, 0xAA, 0xAA, 0xAD, 0x55, 0x55, 0x35, 0xAA, 0x00];
 
 // The number of PLPs, and what the last one of `spelled_dyn` is.
-const DYN_LAST: [(u8, DynPlp); 3] = [
-    (
-        1,
-        DynPlp {
-            plp_id: 0,
-            plp_start: 16_320,
-            plp_num_blocks: 255,
-        },
-    ),
-    (
-        2,
-        DynPlp {
-            plp_id: 1,
-            plp_start: 32_640,
-            plp_num_blocks: 510,
-        },
-    ),
-    (
-        255,
-        DynPlp {
-            plp_id: 254,
-            plp_start: 4_161_663,
-            plp_num_blocks: 513,
-        },
-    ),
+#[rattlefmt::skip]
+static DYN_LAST: [(u8, DynPlp); 3] = [
+    (1, DynPlp { plp_id: 0, plp_start: 16_320, plp_num_blocks: 255 }),
+    (2, DynPlp { plp_id: 1, plp_start: 32_640, plp_num_blocks: 510 }),
+    (255, DynPlp { plp_id: 254, plp_start: 4_161_663, plp_num_blocks: 513 }),
 ];
 
 // A dynamic part, no two PLPs of which have the same rows.
 fn spelled_dyn(alloc: Global, count: u8) -> Result<Vec<u8>, SinkFault> {
     let mut sink = BitBuf::new(alloc);
-    sink.put_slice(BitSlice::whole(&DYN_FRONT).sub(0, 71))?;
+    sink.put_slice(first(&DYN_FRONT, 71))?;
     for id in 0..count {
-        sink.put_slice(BitSlice::whole(&[id, id, !id, id, !id, 0]))?;
+        sink.put_slice(first(&[id, id, !id, id, !id, 0], 48))?;
     }
-    sink.put_slice(BitSlice::whole(&[0]))?;
+    sink.put_slice(first(&[0], 8))?;
     Ok(sink.into_bytes())
 }
 
@@ -188,16 +151,13 @@ fn has_dyn_front(dynamic: &L1Dyn) -> bool {
 
 #[test]
 fn dynamic_parts_of_as_many_plps(rt: HostRuntime) -> Result<(), Fail> {
-    for (count, last) in DYN_LAST {
-        let spelled = spelled_dyn(rt.alloc(), count)?;
-        let Some(front) = spelled.get(..spelled.len().min(4_000)) else {
-            panic!(rt; "no bytes");
-        };
-        let mut dynamic = L1Dyn::open(rt.alloc(), u16::from(count))?;
-        let came = rewritten_dyn(rt.alloc(), BitSlice::whole(front), &mut dynamic);
-        assert!(rt; is_told(&came, &spelled, None));
-        assert!(rt; has_dyn_front(&dynamic));
-        assert!(rt; dynamic.plps.get(usize::from(last.plp_id)) == Some(&last));
+    for (count, last) in &DYN_LAST {
+        let spelled = spelled_dyn(rt.alloc(), *count)?;
+        let mut dynamic = L1Dyn::open(rt.alloc(), u16::from(*count))?;
+        let came = rewritten_dyn(rt.alloc(), first(&spelled, 32_000), &mut dynamic)?;
+        assert!(rt; came == spelled && has_dyn_front(&dynamic), "{count} PLPs");
+        let told = dynamic.plps.get(usize::from(last.plp_id));
+        assert!(rt; told == Some(last), "{count} PLPs");
     }
     Ok(())
 }
