@@ -1,12 +1,11 @@
 // The T2-MI packets of a stream, taken out and piped again.
-ghost use Rattle.std.specs.Prelude.{◌≡◌, ◌<◌, ◌≤◌, ◌+◌, ◌^◌, false, length, IfOk};
+ghost use Rattle.std.specs.Prelude.{◌≡◌, ◌<◌, ◌^◌, true};
 ghost use Rattle.t2mi_stream.specs.PiperStandsFor.{is_finished};
-ghost use Rattle.t2mi_stream.specs.UnpiperStandsFor.{fed_len};
+ghost use Rattle.t2mi_stream.specs.UnpiperStandsFor.{fed_len, is_ready};
 
 use bit_slice::{BitSlice, OutOfMemory, crc32};
 use std::alloc::Global;
-use std::process::Abort;
-use std::test::Fail;
+use std::marker::Model;
 use t2mi_packet::LARGEST;
 use t2mi_stream::{Piper, Unpiper};
 use ts_packet::SIZE;
@@ -14,79 +13,158 @@ use ts_packet::SIZE;
 // The bytes of a CRC-32.
 const CRC: usize = 4;
 
-// More packets than any stream here has.
+// More packets than any stream here has, and more bytes.
 const MOST: u64 = 1_000;
 
-fn open(alloc: Global, pid: u16) -> Result<Unpiper, OutOfMemory>
-    ensures { IfOk result (λ unpiper. fed_len unpiper ≡ 0) }
+const MOST_BYTES: usize = 1 << 30;
+
+// Whether a packet waits.
+fn is_ready(unpiper: &Unpiper) -> bool
+    ensures { result ≡ is_ready unpiper.now }
 {
-    Unpiper::open(alloc, pid)
+    unpiper.is_ready()
 }
 
-// Feeds bytes, and answers how many were taken.
-fn feed(unpiper: &mut Unpiper, piece: &[u8]) -> usize
-    requires { fed_len unpiper.old + length piece.now < 2 ^ 60 }
-    ensures inside { result ≤ length piece.now }
-    ensures fed { fed_len unpiper.new ≡ fed_len unpiper.old + result }
+// The bytes of the packet that waits.
+fn bytes_in(unpiper: &Unpiper, alloc: Global) -> Result<Vec<u8>, OutOfMemory>
+    requires { is_ready unpiper.now ≡ true }
 {
-    unpiper.feed(piece)
+    Ok(unpiper.bytes().to_vec(alloc)?)
 }
 
-// Takes the packet that waits, if one does.
-fn take(unpiper: &mut Unpiper, alloc: Global) -> Result<Option<Vec<u8>>, OutOfMemory>
-    ensures { fed_len unpiper.new ≡ fed_len unpiper.old }
-{
-    if !unpiper.is_ready() {
-        return Ok(None);
+// An unpiper under way. What stands below calls these methods, as those of a gateway in `units`.
+#[derive(Drop)]
+struct Unpiping {
+    unpiper: Unpiper,
+    fed: usize,
+}
+
+impl Model for Unpiping {
+    ghost Value = { Unit };
+
+    ghost view = { λ _. tt };
+
+    ghost invariant = { λ u. fed_len u.unpiper ≡ u.fed };
+}
+
+impl Unpiping {
+    fn open(alloc: Global, pid: u16) -> Result<Unpiping, OutOfMemory> {
+        let unpiper = Unpiper::open(alloc, pid)?;
+        Ok(Unpiping { unpiper, fed: 0 })
     }
-    let packet = unpiper.bytes().to_vec(alloc)?;
-    unpiper.release();
-    Ok(Some(packet))
+
+    // Feeds what is left of some units, until a packet waits.
+    fn feed(&mut self, units: &[u8]) {
+        let rest = units.get(self.fed..).unwrap_or(&[]);
+        if self.fed < MOST_BYTES && rest.len() < MOST_BYTES {
+            self.fed += self.unpiper.feed(rest);
+        }
+    }
+
+    fn fed(&self) -> usize {
+        self.fed
+    }
+
+    // Takes the packet that waits, if one does.
+    fn take(&mut self, alloc: Global) -> Result<Option<Vec<u8>>, OutOfMemory> {
+        if !is_ready(&self.unpiper) {
+            return Ok(None);
+        }
+        let packet = bytes_in(&self.unpiper, alloc)?;
+        self.unpiper.release();
+        Ok(Some(packet))
+    }
 }
 
-// The packets that are accepted in some units, each with its bytes.
+// The packets that are accepted in some units, each with its bytes; none if there are too many.
 pub(crate) fn packets_in(
-    rt: &(impl Abort + AllocGlobal),
+    alloc: Global,
     pid: u16,
     units: &[u8],
-) -> Result<Vec<Vec<u8>>, Fail> {
-    assert!(rt; units.len() < 1 << 30);
-    let mut unpiper = open(rt.alloc(), pid)?;
-    let mut packets = Vec::new(rt.alloc());
-    let mut at = 0;
+) -> Result<Vec<Vec<u8>>, OutOfMemory> {
+    let mut unpiping = Unpiping::open(alloc, pid)?;
+    let mut packets = Vec::new(alloc);
     for _ in 0..MOST {
-        at += feed(&mut unpiper, &units[at..]);
-        match take(&mut unpiper, rt.alloc())? {
+        unpiping.feed(units);
+        match unpiping.take(alloc)? {
             Some(packet) => packets.push(packet)?,
             None => break,
         }
     }
-    assert!(rt; at == units.len());
+    if unpiping.fed() != units.len() {
+        packets.clear();
+    }
     Ok(packets)
 }
 
+// A piper under way, in the same way.
+#[derive(Drop)]
+struct Piping {
+    piper: Piper,
+    finished: bool,
+}
+
+impl Model for Piping {
+    ghost Value = { Unit };
+
+    ghost view = { λ _. tt };
+
+    ghost invariant = { λ p. is_finished p.piper ≡ p.finished };
+}
+
+impl Piping {
+    fn new(pid: u16) -> Piping
+        requires { pid < 2 ^ 13 }
+    {
+        Piping {
+            piper: Piper::new(pid),
+            finished: false,
+        }
+    }
+
+    // The next byte begins a packet.
+    fn begin(&mut self) {
+        if !self.finished {
+            self.piper.begin();
+        }
+    }
+
+    fn feed(&mut self, piece: &[u8]) -> usize {
+        if self.finished {
+            return 0;
+        }
+        self.piper.feed(piece)
+    }
+
+    fn next(&mut self, unit: &mut [u8; SIZE]) -> bool {
+        self.piper.next(unit)
+    }
+
+    fn finish(&mut self) {
+        if !self.finished {
+            self.piper.finish();
+            self.finished = true;
+        }
+    }
+}
+
 // Takes the unit that is complete, if one is.
-fn take_unit(piper: &mut Piper, units: &mut Vec<u8>) -> Result<(), OutOfMemory>
-    ensures { is_finished piper.new ≡ is_finished piper.old }
-{
+fn take_unit(piping: &mut Piping, units: &mut Vec<u8>) -> Result<(), OutOfMemory> {
     let mut unit = [0; SIZE];
-    if piper.next(&mut unit) {
+    if piping.next(&mut unit) {
         units.extend_from_slice(&unit)?;
     }
     Ok(())
 }
 
 // Pipes a packet.
-fn pipe(piper: &mut Piper, packet: &[u8], units: &mut Vec<u8>) -> Result<(), OutOfMemory>
-    requires { is_finished piper.old ≡ false }
-    ensures { is_finished piper.new ≡ false }
-{
-    piper.begin();
+fn pipe(piping: &mut Piping, packet: &[u8], units: &mut Vec<u8>) -> Result<(), OutOfMemory> {
+    piping.begin();
     let mut left = packet;
     for _ in 0..packet.len() {
-        let count = piper.feed(left);
-        left = left.get(count..).map_or(&[][..], |behind| behind);
-        take_unit(piper, units)?;
+        let count = piping.feed(left);
+        left = left.get(count..).unwrap_or(&[]);
+        take_unit(piping, units)?;
     }
     Ok(())
 }
@@ -95,14 +173,14 @@ fn pipe(piper: &mut Piper, packet: &[u8], units: &mut Vec<u8>) -> Result<(), Out
 pub(crate) fn piped(alloc: Global, pid: u16, packets: &[Vec<u8>]) -> Result<Vec<u8>, OutOfMemory>
     requires { pid < 2 ^ 13 }
 {
-    let mut piper = Piper::new(pid);
+    let mut piping = Piping::new(pid);
     let mut units = Vec::new(alloc);
     for packet in packets {
-        pipe(&mut piper, packet, &mut units)?;
+        pipe(&mut piping, packet, &mut units)?;
     }
-    piper.finish();
-    take_unit(&mut piper, &mut units)?;
-    take_unit(&mut piper, &mut units)?;
+    piping.finish();
+    take_unit(&mut piping, &mut units)?;
+    take_unit(&mut piping, &mut units)?;
     Ok(units)
 }
 
@@ -116,22 +194,19 @@ pub(crate) fn seal(packet: &mut [u8]) {
     packet[end..].copy_from_slice(&crc.to_be_bytes());
 }
 
-// Writes a number into bits of a packet, counted from its first, and seals it.
-pub(crate) fn set_bits(packet: &mut [u8], at: usize, width: usize, value: u32)
-    requires place { at < 2 ^ 32 }
-    requires width { width < 2 ^ 6 }
-{
+// Writes a bit of a packet, counted from its first.
+fn set_bit(packet: &mut [u8], place: usize, bit: bool) {
+    if let Some(byte) = packet.get_mut(place / 8) {
+        let mask = 0x80 >> (place % 8);
+        *byte = if bit { *byte | mask } else { *byte & !mask };
+    }
+}
+
+// Writes a number into bits of a packet, and seals it.
+pub(crate) fn set_bits(packet: &mut [u8], at: u16, width: u8, value: u32) {
     for k in 0..width {
-        let place = at + k;
-        let bit = (value >> (width - 1 - k) % 32) & 1;
-        if let Some(byte) = packet.get_mut(place / 8) {
-            let mask = 0x80 >> (place % 8);
-            *byte = if bit == 1 {
-                *byte | mask
-            } else {
-                *byte & !mask
-            };
-        }
+        let bit = value >> (u32::from(width - 1 - k) % 32) & 1;
+        set_bit(packet, usize::from(at) + usize::from(k), bit == 1);
     }
     seal(packet);
 }

@@ -1,20 +1,20 @@
 // What the receiver of a PLP gives back by calls, of records that the modulator made of what the gateway made. Expected values
 // come from worked examples, or were counted by hand.
-ghost use Rattle.std.specs.Prelude.{◌≡◌, ◌<◌, ◌≤◌, ◌+◌, ◌-◌, length, IfOk, OnOk};
+ghost use Rattle.std.specs.Prelude.{◌≡◌, ◌<◌, length};
 ghost use Rattle.plp_receiver.specs.StandsFor.{due_of, frame_of};
 
 use crate::records::records_of;
 use crate::slots::{Slots, add_nulls, null_packet, numbered, packets_of};
-use crate::units::units_of;
+use crate::units::{plps_in, units_of};
 use bit_slice::OutOfMemory;
 use plp_config::{MOST_FRAMES, Moment, Plan, Plp};
 use plp_receiver::Receiver;
 use sample_networks::{
-    SMALL_PLP, loaded_plan, mixed_plan, network_of, plan_of, realistic_plan, small_plan,
+    NoPlan, SMALL_PLP, loaded_plan, mixed_plan, network_of, plan_of, realistic_plan, small_plan,
 };
-use site_frame::{RecordView, read_record};
-use std::alloc::Global;
-use std::process::Abort;
+use site_frame::{RecordView, RecordWhy, read_record};
+use std::alloc::{AllocError, Global};
+use std::marker::Model;
 use std::test::Fail;
 use ts_packet::SIZE;
 
@@ -42,21 +42,14 @@ pub(crate) const ALL: Reception = Reception {
     window: u64::MAX,
 };
 
-// A receiver that begins with the frame of the first record.
-fn begin<'p>(alloc: Global, plan: &'p Plan, how: Reception) -> Result<Receiver<'p>, OutOfMemory>
-    requires place { how.plp < length plan.now.plps }
-    requires small { how.first < MOST_FRAMES }
-    ensures frame { IfOk result (λ receiver. frame_of receiver ≡ how.first) }
-    ensures due { IfOk result (λ receiver. due_of receiver ≡ 0) }
-{
-    let mut receiver = Receiver::open(alloc, plan, how.plp)?;
-    receiver.begin_at(how.first);
-    Ok(receiver)
-}
+#[rattlefmt::skip]
+const LATE: Reception = Reception { first: 8, ..ALL };
 
-fn holds_at_most(receiver: &Receiver<'_>, window: u64) -> bool {
-    receiver.held() <= window
-}
+#[rattlefmt::skip]
+const MUTED: Reception = Reception { muted: Some(5), ..ALL };
+
+#[rattlefmt::skip]
+const WINDOW: Reception = Reception { window: 23_851, ..ALL };
 
 fn due(receiver: &Receiver<'_>) -> u64
     ensures { result ≡ due_of receiver.now }
@@ -64,218 +57,343 @@ fn due(receiver: &Receiver<'_>) -> u64
     receiver.due()
 }
 
-// Gives out the packet of the next slot.
-fn release(receiver: &mut Receiver<'_>, out: &mut [u8; SIZE])
-    ensures frame { frame_of receiver.new ≡ frame_of receiver.old }
-    ensures due { due_of receiver.new ≡ due_of receiver.old - 1 }
-{
-    receiver.release(out);
+// A receiver under way. What stands below calls these methods, as those of a gateway in `units`.
+#[derive(Drop)]
+struct Receiving<'p> {
+    receiver: Receiver<'p>,
+    frame: u64,
+}
+
+impl<'p> Model for Receiving<'p> {
+    ghost Value = { Unit };
+
+    ghost view = { λ _. tt };
+
+    ghost invariant = { λ r. frame_of r.receiver ≡ r.frame };
+}
+
+impl<'p> Receiving<'p> {
+    // A receiver that begins with the frame of the first record.
+    fn open(alloc: Global, plan: &'p Plan, how: Reception) -> Result<Receiving<'p>, OutOfMemory>
+        requires place { how.plp < length plan.now.plps }
+        requires small { how.first < MOST_FRAMES }
+    {
+        let mut receiver = Receiver::open(alloc, plan, how.plp)?;
+        receiver.begin_at(how.first);
+        Ok(Receiving {
+            receiver,
+            frame: how.first,
+        })
+    }
+
+    fn due(&self) -> u64 {
+        due(&self.receiver)
+    }
+
+    fn held(&self) -> u64 {
+        self.receiver.held()
+    }
+
+    // Gives the receiver the record of the next frame, if all that is due was given out.
+    fn take(&mut self, view: &RecordView<'_>) {
+        if self.frame < MOST_FRAMES && due(&self.receiver) == 0 {
+            self.receiver.frame(view);
+            self.frame += 1;
+        }
+    }
+
+    // Gives it a muted one.
+    fn take_muted(&mut self) {
+        let moment = Moment {
+            seconds: 0,
+            subseconds: 0,
+        };
+        self.take(&RecordView::Muted { moment });
+    }
+
+    // Gives out the packet of the next slot.
+    fn release(&mut self, out: &mut [u8; SIZE]) {
+        self.receiver.release(out);
+    }
 }
 
 // Gives out what is due.
-fn give(receiver: &mut Receiver<'_>, given: &mut Vec<u8>) -> Result<(), OutOfMemory>
-    ensures frame { frame_of receiver.new ≡ frame_of receiver.old }
-    ensures due { OnOk result (due_of receiver.new ≡ 0) }
-{
+fn give(receiving: &mut Receiving<'_>, given: &mut Vec<u8>) -> Result<(), AllocError> {
     let mut out = [0; SIZE];
-    for _ in 0..due(receiver) {
-        release(receiver, &mut out);
+    for _ in 0..receiving.due() {
+        receiving.release(&mut out);
         given.extend_from_slice(&out)?;
     }
     Ok(())
 }
 
 // The record at the front of some bytes, and the bytes behind.
-fn front(bytes: &[u8]) -> Result<(RecordView<'_>, &[u8]), Fail> {
+fn front(bytes: &[u8]) -> Result<(RecordView<'_>, &[u8]), RecordWhy> {
     let (view, len) = read_record(bytes)?;
-    Ok((view, bytes.get(len..).map_or(&[][..], |behind| behind)))
-}
-
-// Gives the receiver a record.
-fn take(receiver: &mut Receiver<'_>, view: &RecordView<'_>)
-    requires small { frame_of receiver.old < MOST_FRAMES }
-    requires given_out { due_of receiver.old ≡ 0 }
-    ensures { frame_of receiver.new ≡ frame_of receiver.old + 1 }
-{
-    receiver.frame(view);
+    Ok((view, bytes.get(len..).unwrap_or(&[])))
 }
 
 // Gives the receiver the record at the front of some bytes, or a muted one in its place, and answers the bytes behind.
 fn take_record<'a>(
-    receiver: &mut Receiver<'_>,
+    receiving: &mut Receiving<'_>,
     bytes: &'a [u8],
     muted: bool,
-) -> Result<&'a [u8], Fail>
-    requires small { frame_of receiver.old < MOST_FRAMES }
-    requires given_out { due_of receiver.old ≡ 0 }
-    ensures frame { OnOk result (frame_of receiver.new ≡ frame_of receiver.old + 1) }
-{
+) -> Result<&'a [u8], RecordWhy> {
     let (view, behind) = front(bytes)?;
     if muted {
-        let moment = Moment {
-            seconds: 0,
-            subseconds: 0,
-        };
-        take(receiver, &RecordView::Muted { moment });
+        receiving.take_muted();
     } else {
-        take(receiver, &view);
+        receiving.take(&view);
     }
     Ok(behind)
 }
 
-/// What is given back of a PLP from records; as many slots as may be are held behind each.
-pub(crate) fn received(
-    rt: &(impl Abort + AllocGlobal),
-    plan: &Plan,
+// Gives the receiver the records of some bytes, and gives out what is due behind each. Whether these were not too many, and no
+// more slots were held at any time than may be.
+fn follow(
+    receiving: &mut Receiving<'_>,
     how: Reception,
     records: &[u8],
-) -> Result<Vec<u8>, Fail> {
-    assert!(rt; how.plp < plan.config().plps.len() && how.first < 1_000);
-    let mut receiver = begin(rt.alloc(), plan, how)?;
-    let mut given = Vec::new(rt.alloc());
+    given: &mut Vec<u8>,
+) -> Result<bool, Fail> {
     let mut left = records;
+    let mut held = 0;
     for count in 0..MOST {
         if left.is_empty() {
             break;
         }
-        let frame = how.first + count;
-        left = take_record(&mut receiver, left, how.muted == Some(frame))?;
-        assert!(rt; holds_at_most(&receiver, how.window), "frame {frame}");
-        give(&mut receiver, &mut given)?;
-        assert!(rt; holds_at_most(&receiver, how.window), "frame {frame}");
+        let frame = how.first.saturating_add(count);
+        left = take_record(receiving, left, how.muted == Some(frame))?;
+        held = receiving.held().max(held);
+        give(receiving, given)?;
+        held = receiving.held().max(held);
     }
-    assert!(rt; left.is_empty());
+    Ok(left.is_empty() && held <= how.window)
+}
+
+// The same from the beginning. It is false too if there is no such PLP.
+fn receive(
+    alloc: Global,
+    plan: &Plan,
+    how: Reception,
+    records: &[u8],
+    given: &mut Vec<u8>,
+) -> Result<bool, Fail> {
+    if how.plp >= plps_in(plan) || how.first >= MOST_FRAMES {
+        return Ok(false);
+    }
+    let mut receiving = Receiving::open(alloc, plan, how)?;
+    follow(&mut receiving, how, records, given)
+}
+
+/// What is given back of a PLP from records; nothing if they can't be received so.
+pub(crate) fn received(
+    alloc: Global,
+    plan: &Plan,
+    how: Reception,
+    records: &[u8],
+) -> Result<Vec<u8>, Fail> {
+    let mut given = Vec::new(alloc);
+    if !receive(alloc, plan, how, records, &mut given)? {
+        given.clear();
+    }
     Ok(given)
 }
 
-// From the units of a network, so received, come the packets of these slots.
-fn gives_back(
-    rt: &(impl Abort + AllocGlobal),
-    plan: &Plan,
-    sent: &[u8],
-    units: &[u8],
+// A network.
+#[derive(Clone, Copy)]
+enum Network {
+    Small,
+    // The small one, if it deletes no null packets.
+    Keeping,
+    // Frames that are always full.
+    Loaded,
+    Realistic,
+}
+
+// What is sent.
+#[derive(Clone, Copy)]
+enum Sent {
+    Nothing,
+    Nulls(u16),
+    // Null packets whose last byte is 0.
+    OtherNulls(u16),
+    Numbered(u16),
+}
+
+// What comes back of packets that are sent through a network.
+struct Row {
+    // What the row shows.
+    why: &'static str,
+    network: Network,
+    sent: Sent,
+    // The units from the one up to the other do not come.
+    lost: (u16, u16),
     how: Reception,
-    slots: &[Slots],
-) -> Result<(), Fail> {
-    let records = records_of(rt, plan, units)?;
-    let given = received(rt, plan, how, &records)?;
-    assert!(rt; given == packets_of(rt.alloc(), sent, slots)?);
-    Ok(())
+    slots: &'static [Slots],
 }
 
 // The last frame with a packet is followed by one that wants 14 more.
-#[test]
-fn deleted_null_packets_come_back_canonical(rt: HostRuntime) -> Result<(), Fail> {
-    let plan = small_plan(rt.alloc())?;
-    let units = units_of(&rt, &plan, &[&[]])?;
-    gives_back(&rt, &plan, &[], &units, ALL, &[Slots::Null(14)])?;
-    let mut nulls = Vec::new(rt.alloc());
-    add_nulls(&mut nulls, 300)?;
-    let units = units_of(&rt, &plan, &[&nulls])?;
-    gives_back(&rt, &plan, &nulls, &units, ALL, &[Slots::Null(305)])
-}
+//
+// Unit 90 has the first byte of frame 7, behind the end of frame 6: the first whole superframe behind it begins with frame 8.
+// Unit 45 has the end of frame 3 and the beginning of frame 4.
+//
+// 69 packets, 12,972 bytes, have come when frame 5 begins. Frame 1 carries 13 packets and each one behind it 2,607 bytes: frame 5
+// those from 10,265 to 12,872 on, of the packets 54 to 68.
+#[rattlefmt::skip]
+static ROWS: [Row; 6] = [
+    Row { why: "if nothing is sent null packets come", network: Network::Small, sent: Sent::Nothing, lost: (0, 0), how: ALL,
+        slots: &[Slots::Null(14)] },
+    Row { why: "deleted null packets come back canonical", network: Network::Small, sent: Sent::Nulls(300), lost: (0, 0),
+        how: ALL, slots: &[Slots::Null(305)] },
+    Row { why: "kept null packets come back as they are", network: Network::Keeping, sent: Sent::OtherNulls(300), lost: (0, 0),
+        how: ALL, slots: &[Slots::Sent(0, 300), Slots::Null(5)] },
+    Row { why: "a stream that begins late", network: Network::Loaded, sent: Sent::Numbered(110), lost: (0, 90), how: LATE,
+        slots: &[Slots::Sent(97, 110), Slots::Null(14)] },
+    Row { why: "a lost unit mutes two frames", network: Network::Loaded, sent: Sent::Numbered(110), lost: (45, 46), how: ALL,
+        slots: &[Slots::Sent(0, 26), Slots::Null(29), Slots::Sent(55, 110), Slots::Null(14)] },
+    Row { why: "a muted frame costs the packets that it has bytes of", network: Network::Loaded, sent: Sent::Numbered(110),
+        lost: (0, 0), how: MUTED, slots: &[Slots::Sent(0, 54), Slots::Null(15), Slots::Sent(69, 110), Slots::Null(14)] },
+];
 
-#[test]
-fn kept_null_packets_come_back_as_they_are(rt: HostRuntime) -> Result<(), Fail> {
-    let kept = Plp {
+#[rattlefmt::skip]
+static REALISTIC: Row =
+    Row { why: "of a network of 40 Mbit/s 23,851 slots are in the window at most", network: Network::Realistic,
+        sent: Sent::Numbered(23_847), lost: (0, 0), how: WINDOW, slots: &[Slots::Sent(0, 23_847), Slots::Null(5_962)] };
+
+fn keeping_plan(alloc: Global) -> Result<Plan, NoPlan> {
+    let plp = Plp {
         delete: false,
         ..SMALL_PLP
     };
-    let plan = plan_of(network_of(rt.alloc(), &[kept], 40_000, 1)?)?;
-    let mut nulls = Vec::new(rt.alloc());
-    add_nulls(&mut nulls, 300)?;
-    for last in nulls.iter_mut().skip(187).step_by(188) {
+    plan_of(network_of(alloc, &[plp], 40_000, 1)?)
+}
+
+fn plan_for(alloc: Global, network: Network) -> Result<Plan, NoPlan> {
+    match network {
+        Network::Small => small_plan(alloc),
+        Network::Keeping => keeping_plan(alloc),
+        Network::Loaded => loaded_plan(alloc),
+        Network::Realistic => realistic_plan(alloc),
+    }
+}
+
+fn nulls(alloc: Global, count: u16) -> Result<Vec<u8>, OutOfMemory> {
+    let mut packets = Vec::new(alloc);
+    add_nulls(&mut packets, count)?;
+    Ok(packets)
+}
+
+fn other_nulls(alloc: Global, count: u16) -> Result<Vec<u8>, OutOfMemory> {
+    let mut packets = nulls(alloc, count)?;
+    for last in packets.iter_mut().skip(SIZE - 1).step_by(SIZE) {
         *last = 0;
     }
-    let units = units_of(&rt, &plan, &[&nulls])?;
-    let slots = [Slots::Sent(0, 300), Slots::Null(5)];
-    gives_back(&rt, &plan, &nulls, &units, ALL, &slots)
+    Ok(packets)
 }
 
-// Unit 90 has the first byte of frame 7, behind the end of frame 6: the first whole superframe behind it begins with frame 8.
+fn packets_for(alloc: Global, sent: Sent) -> Result<Vec<u8>, OutOfMemory> {
+    match sent {
+        Sent::Nothing => Ok(Vec::new(alloc)),
+        Sent::Nulls(count) => nulls(alloc, count),
+        Sent::OtherNulls(count) => other_nulls(alloc, count),
+        Sent::Numbered(count) => numbered(alloc, count),
+    }
+}
+
+// Some units without those from the one up to the other.
+fn without(alloc: Global, units: &[u8], lost: (u16, u16)) -> Result<Vec<u8>, OutOfMemory> {
+    let mut left = Vec::new(alloc);
+    for (at, unit) in units.chunks_exact(SIZE).enumerate() {
+        if at < usize::from(lost.0) || at >= usize::from(lost.1) {
+            left.extend_from_slice(unit)?;
+        }
+    }
+    Ok(left)
+}
+
+// What a network gives back of packets, as a row says.
+fn given_by(alloc: Global, plan: &Plan, row: &Row, sent: &[u8]) -> Result<Vec<u8>, Fail> {
+    let units = units_of(alloc, plan, &[sent])?;
+    let left = without(alloc, &units, row.lost)?;
+    let records = records_of(alloc, plan, &left)?;
+    received(alloc, plan, row.how, &records)
+}
+
+// Whether the slots of a row come back.
+fn comes_back(alloc: Global, plan: &Plan, row: &Row) -> Result<bool, Fail> {
+    let sent = packets_for(alloc, row.sent)?;
+    let given = given_by(alloc, plan, row, &sent)?;
+    Ok(given == packets_of(alloc, &sent, row.slots)?)
+}
+
+// The same of a network that is made for it.
+fn holds(alloc: Global, row: &Row) -> Result<bool, Fail> {
+    let plan = plan_for(alloc, row.network)?;
+    comes_back(alloc, &plan, row)
+}
+
 #[test]
-fn a_stream_that_begins_late(rt: HostRuntime) -> Result<(), Fail> {
-    let plan = loaded_plan(rt.alloc())?;
-    let sent = numbered(rt.alloc(), 110)?;
-    let units = units_of(&rt, &plan, &[&sent])?;
-    let late = units.get(90 * 188..).map_or(&[][..], |units| units);
-    let slots = [Slots::Sent(97, 110), Slots::Null(14)];
-    let how = Reception { first: 8, ..ALL };
-    gives_back(&rt, &plan, &sent, late, how, &slots)
+fn slots_come_back(rt: HostRuntime) -> Result<(), Fail> {
+    for row in &ROWS {
+        assert!(rt; holds(rt.alloc(), row)?, "{}", row.why);
+    }
+    Ok(())
 }
 
-// Unit 45 has the end of frame 3 and the beginning of frame 4.
 #[test]
-fn a_lost_unit_mutes_two_frames(rt: HostRuntime) -> Result<(), Fail> {
-    let plan = loaded_plan(rt.alloc())?;
-    let sent = numbered(rt.alloc(), 110)?;
-    let units = units_of(&rt, &plan, &[&sent])?;
-    let mut lossy = units
-        .get(..45 * 188)
-        .map_or(&[][..], |front| front)
-        .to_vec(rt.alloc())?;
-    lossy.extend_from_slice(units.get(46 * 188..).map_or(&[][..], |behind| behind))?;
-    let slots = [
-        Slots::Sent(0, 26),
-        Slots::Null(29),
-        Slots::Sent(55, 110),
-        Slots::Null(14),
-    ];
-    gives_back(&rt, &plan, &sent, &lossy, ALL, &slots)
+fn slots_of_a_realistic_network_come_back(rt: HostRuntime) -> Result<(), Fail> {
+    assert!(rt; holds(rt.alloc(), &REALISTIC)?, "{}", REALISTIC.why);
+    Ok(())
 }
 
-// 69 packets, 12,972 bytes, have come when frame 5 begins. Frame 1 carries 13 packets and each one behind it 2,607 bytes: frame 5
-// those from 10,265 to 12,872 on, of the packets 54 to 68.
-#[test]
-fn a_muted_frame_costs_the_packets_that_it_has_bytes_of(rt: HostRuntime) -> Result<(), Fail> {
-    let plan = loaded_plan(rt.alloc())?;
-    let sent = numbered(rt.alloc(), 110)?;
-    let units = units_of(&rt, &plan, &[&sent])?;
-    let slots = [
-        Slots::Sent(0, 54),
-        Slots::Null(15),
-        Slots::Sent(69, 110),
-        Slots::Null(14),
-    ];
-    let how = Reception {
-        muted: Some(5),
-        ..ALL
-    };
-    gives_back(&rt, &plan, &sent, &units, how, &slots)
+// How many packets are sent of each PLP of a network of both types.
+const COUNTS: [u16; 3] = [90, 80, 70];
+
+// The records of that network.
+fn mixed_records(alloc: Global, plan: &Plan) -> Result<Vec<u8>, OutOfMemory> {
+    let first = numbered(alloc, COUNTS[0])?;
+    let second = numbered(alloc, COUNTS[1])?;
+    let third = numbered(alloc, COUNTS[2])?;
+    let units = units_of(alloc, plan, &[&first, &second, &third])?;
+    records_of(alloc, plan, &units)
 }
 
-// A network of 40 Mbit/s, of which 23,851 slots are in the window at most.
-#[test]
-fn a_realistic_network_within_its_window(rt: HostRuntime) -> Result<(), Fail> {
-    let plan = realistic_plan(rt.alloc())?;
-    let sent = numbered(rt.alloc(), 23_847)?;
-    let units = units_of(&rt, &plan, &[&sent])?;
-    let slots = [Slots::Sent(0, 23_847), Slots::Null(5_962)];
-    let how = Reception {
-        window: 23_851,
-        ..ALL
-    };
-    gives_back(&rt, &plan, &sent, &units, how, &slots)
+fn are_null(packets: &[u8]) -> bool {
+    for packet in packets.chunks_exact(SIZE) {
+        if packet != null_packet().as_slice() {
+            return false;
+        }
+    }
+    true
 }
 
-// Of two PLPs of type 1 and one of type 2 every packet comes back, and null packets behind.
+// Whether every packet of a PLP comes back of records, and null packets behind.
+fn plp_comes_back(
+    alloc: Global,
+    plan: &Plan,
+    plp: usize,
+    count: u16,
+    records: &[u8],
+) -> Result<bool, Fail> {
+    let sent = numbered(alloc, count)?;
+    let given = received(alloc, plan, Reception { plp, ..ALL }, records)?;
+    match given.strip_prefix(sent.as_slice()) {
+        Some(behind) => Ok(are_null(behind)),
+        None => Ok(false),
+    }
+}
+
+// Of two PLPs of type 1 and one of type 2.
 #[test]
 fn each_plp_of_a_network_of_both_types(rt: HostRuntime) -> Result<(), Fail> {
     let plan = mixed_plan(rt.alloc())?;
-    let inputs = [
-        numbered(rt.alloc(), 90)?,
-        numbered(rt.alloc(), 80)?,
-        numbered(rt.alloc(), 70)?,
-    ];
-    let units = units_of(&rt, &plan, &[&inputs[0], &inputs[1], &inputs[2]])?;
-    let records = records_of(&rt, &plan, &units)?;
-    for (plp, sent) in inputs.iter().enumerate() {
-        let given = received(&rt, &plan, Reception { plp, ..ALL }, &records)?;
-        assert!(rt; given.starts_with(sent), "PLP {plp}");
-        let behind = given.get(sent.len()..).map_or(&[][..], |behind| behind);
-        for packet in behind.chunks_exact(SIZE) {
-            assert!(rt; packet == null_packet().as_slice(), "PLP {plp}");
-        }
+    let records = mixed_records(rt.alloc(), &plan)?;
+    for (plp, count) in COUNTS.iter().enumerate() {
+        assert!(rt;
+            plp_comes_back(rt.alloc(), &plan, plp, *count, &records)?,
+            "PLP {plp}"
+        );
     }
     Ok(())
 }
