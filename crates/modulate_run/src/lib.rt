@@ -5,8 +5,6 @@ mod laws;
 mod machine;
 mod running;
 mod stop;
-#[cfg(test)]
-mod tests;
 mod waiting;
 
 pub use laws::{one_run, run_ends};

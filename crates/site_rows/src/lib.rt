@@ -8,6 +8,8 @@ mod configuration;
 #[cfg(test)]
 mod damaged;
 #[cfg(test)]
+mod draws;
+#[cfg(test)]
 mod failing;
 #[cfg(test)]
 mod gateway;

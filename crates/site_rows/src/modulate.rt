@@ -25,6 +25,13 @@ const SECOND_UNIT: File = File {
     ..ONCE
 };
 
+// As many bytes as five units have, and 60 more.
+const NO_UNIT: File = File {
+    pieces: &[&[0x47]],
+    times: 1_000,
+    ..ONCE
+};
+
 const MODULATE: Row = Row {
     words: &["modulate", "c", "t", "o"],
     ..ROW
@@ -39,7 +46,7 @@ const NO_SUPERFRAME: Row = Row {
 };
 
 #[rattlefmt::skip]
-static RECORDS: [Row; 6] = [
+static RECORDS: [Row; 7] = [
     Row {
         why: "what one command wrote, the next one reads", files: &[("c", SMALL), ("0", ONCE)],
         before: &[&["gateway", "c", "t", "0"], &["modulate", "c", "t", "o"]], words: &["show", "frames", "o"],
@@ -56,6 +63,7 @@ static RECORDS: [Row; 6] = [
     },
     Row { why: "the second unit begins no superframe", files: &[("c", SMALL), ("t", SECOND_UNIT)], ..NO_SUPERFRAME },
     Row { why: "an empty stream begins no superframe", files: &[("c", SMALL), ("t", ONCE)], ..NO_SUPERFRAME },
+    Row { why: "bytes of no unit begin no superframe", files: &[("c", SMALL), ("t", NO_UNIT)], ..NO_SUPERFRAME },
     Row {
         why: "the stream is absent, and OUT is not created", files: &[("c", SMALL)],
         outcome: Outcome::ReadFault, status: 70, said: &["fault: read\n"], ..MODULATE

@@ -9,8 +9,6 @@ mod lines;
 mod losses;
 mod network;
 mod stages;
-#[cfg(test)]
-mod tests;
 mod trial;
 
 pub use draws::Draws;

@@ -1,8 +1,7 @@
-// Expected values come from an independent program.
-use crate::losses::kept_units;
-use crate::network::trial_plan;
-use crate::{Draws, trial_input};
+// What `trial` draws: the packets of its inputs, and the units that are lost. Expected values come from an independent program.
+
 use std::test::Fail;
+use trial_run::{Draws, kept_units, trial_input, trial_plan};
 use ts_packet::{SIZE, TsPacket};
 
 // Bytes from one place to another, none if there are not so many.
