@@ -70,7 +70,7 @@ fn parse<'a>(bits: &BitSlice<'a>) -> Result<BbView<'a>, BbFault>
 pub fn read_frame<'a>(bits: BitSlice<'a>) -> Result<BbView<'a>, BbFault>
     requires { 80 ≤ length bits }
     ensures ok { IfOk result (λ v. Spells v.header v.field bits.entry) }
-    // Where the bits are a frame, it is read.
+    // If the bits are a frame, it is read.
     ensures every { (h : Header) (body : List Bool) → Spells h body bits.entry
         → result ≡ Ok (record { header = h; field = body }) }
     ensures err { IfErr result (Refuses bits.entry) }

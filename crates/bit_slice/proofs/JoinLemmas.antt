@@ -103,7 +103,7 @@ all_same a b at width size long front e =
     sym (take_all (at + width) a few_a) ∙ word_more a b at width (omega arith) (omega arith) front e
     ∙ take_all (at + width) b few_b
 
--- where the words at the front are the same, the rest decides
+-- if the words at the front are the same, the rest decides
 pub words_same : (a b : List Bool) (at rest x y : ℕ) → at + rest ≡ length a → length b ≡ length a
     → (IsTrue true ↔ (take at a ≡ take at b)) →
     x ≡ number_at a at rest → y ≡ number_at b at rest → IsTrue (nat_eq x y) ↔ (a ≡ b)

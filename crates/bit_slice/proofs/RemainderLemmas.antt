@@ -37,11 +37,11 @@ sum_lt d g n q r small below few =
     let b : r < 2 ^ (n + d) = let w = pow-le-pow_right two least in omega arith in
     xor_lt (n + d) (product q g) r a b
 
--- where the term is not there, division goes on
+-- if the term is not there, division goes on
 goes_on : (p n d a : ℕ) → p < 2 ^ (n + d) → cond (bit_at p (n + d) == 1) a p ≡ p
 goes_on p n d a small = let le : n + d ≤ n + d = omega arith in rw (bit_at_above p (n + d) (n + d) small le) refl
 
--- where it is there, the generator is taken away
+-- if it is there, the generator is taken away
 takes_away : (g n d p : ℕ) → HasDegree g d → p < 2 ^ (n + d) →
     cond (bit_at (bit_xor (g * 2 ^ n) p) (n + d) == 1) (bit_xor (bit_xor (g * 2 ^ n) p) (g * 2 ^ n)) (bit_xor (g * 2 ^ n) p) ≡ p
 takes_away g n d p has small =

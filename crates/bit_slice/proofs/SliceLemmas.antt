@@ -29,7 +29,7 @@ front_bytes bytes first len count to bits seen within aligned few e =
     ∙ part-bits_of bytes (first / 8) count (omega arith)
     ∙ ap (λ (k : ℕ). bits_of (take k (drop (first / 8) bytes))) size
 
--- borrowed bytes have the bits, where these begin at a byte and fill them
+-- borrowed bytes have the bits, if these begin at a byte and fill them
 pub bits_of_borrowed : (bytes out : List ℕ) (first len : ℕ) (bits : List Bool) → take len (drop first (bits_of bytes)) ≡ bits
     → first + len ≤ 8 * length bytes →
     first % 8 ≡ 0 → length bits ≡ 8 * length out → (to : ℕ) → to ≡ first / 8 + length out

@@ -39,7 +39,7 @@ StopsHere = (a : State) (bits : List Bool) (count : ℕ) (fault : SinkFault) →
 abbrev pub StopsEarly : Type 0
 StopsEarly = (a b : State) (front more : List Bool) (fault : SinkFault) → Stops a b front fault → Stops a b (front ++ more) fault
 
--- A writer that stopped stopped also where it had put bits before.
+-- A writer that stopped stopped also if it had put bits before.
 abbrev pub StopsLater : Type 0
 StopsLater = (a b c : State) (front more : List Bool) (fault : SinkFault) → Puts a b front → Stops b c more fault
     → Stops a c (front ++ more) fault

@@ -6,7 +6,7 @@ use Rattle.std.specs.Option.{option_map}
 use Rattle.bit_slice.specs.declared.sink.SinkFault.{SinkFault}
 use Rattle.bit_slice.specs.declared.sink.SinkFault.TheVariants.{Full, OutOfMemory}
 
--- the bits written, the room left where the sink has an end, and whether it takes memory as it grows; and for a sink around
+-- the bits written, the room left if the sink has an end, and whether it takes memory as it grows; and for a sink around
 -- others what stood in each when it was put around them, the outermost first
 pub record State : Type 0 where
   pub written : List Bool

@@ -29,7 +29,7 @@ pub fn puts_law()
 {}
 
 /// Where a writer of several parts stops: `here` at its first put, `early` before other parts, `later` behind them.
-/// Where it finds the sink `full`, this had less room than all its bits; and where it put all of them, they `fit`.
+/// If it finds the sink `full`, this had less room than all its bits; and if it put all of them, they `fit`.
 pub fn stops_law()
     ensures here { StopsHere }
     ensures early { StopsEarly }

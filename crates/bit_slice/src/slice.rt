@@ -103,7 +103,7 @@ impl<'a> BitSlice<'a> {
         }
     }
 
-    // The whole bytes at the front, and the bits behind them. Where the bits begin within a byte, none can be borrowed.
+    // The whole bytes at the front, and the bits behind them. If the bits begin within a byte, none can be borrowed.
     pub(crate) fn split_bytes(&self) -> (&'a [u8], BitSlice<'a>)
         ensures { bits_of result.0.now ++ result.1 ≡ self.now }
     {

@@ -14,7 +14,7 @@ pub struct Short {
     pub left: u64,
 }
 
-/// What bits are taken from the front of. Where it has too few, nothing is taken.
+/// What bits are taken from the front of. If it has too few, nothing is taken.
 pub trait BitSource<'a> {
     /// The bits left.
     ghost left: { Self → List Bool };

@@ -14,7 +14,7 @@ use Rattle.cell_map.proofs.PlanLemmas.{plan_row, sub_slices-some}
 use Rattle.cell_map.proofs.PositionLemmas.{position_below, position_one, placed}
 use Rattle.terms.proofs.NatLemmas.{cut_whole}
 
--- slices where the kind is known
+-- slices if the kind is known
 abbrev pub count_by_kind : Bool → ℕ → ℕ
 count_by_kind second slices = cond second slices 1
 

@@ -61,7 +61,7 @@ address_is c shape plp block cell is there =
           omega (arith, place, address);
     }
 
--- where a shape passes, nothing is wrong with it
+-- if a shape passes, nothing is wrong with it
 pub not_beyond : (c : Config) (shape : FrameShape) (plp : ℕ) → Passes c shape → plp < length c.plps → ¬ (IsBeyond c shape plp)
 not_beyond c shape plp passes h w =
     ⊎_elim
@@ -112,7 +112,7 @@ pub counted : (counts : List ℕ) (plp before count : ℕ) → plp < length coun
     → before + count ≡ sum (take (plp + 1) counts)
 counted counts plp before count inside e f = omega (arith, e, f, sum_by_more (λ (x : ℕ). x) counts plp 0 inside)
 
--- a PLP has few blocks where a shape passes
+-- a PLP has few blocks if a shape passes
 pub few_blocks : (c : Config) (shape : FrameShape) (plp : ℕ) → IsPlan c → Passes c shape → plp < length c.plps
     → slice_index shape.counts plp ≤ 1023
 few_blocks c shape plp is passes h = omega (arith, passes.counts plp h, (plan_row c plp is h).few)

@@ -15,7 +15,7 @@ pub enum MapFault {
     /// The first PLP with more blocks than it may have, or with a cell beyond the frame's end.
     #[error("the PLP of place {plp} has too many blocks, or a cell beyond the end of the frame")]
     Beyond { plp: u8 },
-    /// The first two PLPs of which two cells share an address; one PLP twice where both are its own.
+    /// The first two PLPs of which two cells share an address; one PLP twice if both are its own.
     #[error("cells of the PLPs of places {first} and {second} share an address")]
     Overlap { first: u8, second: u8 },
 }

@@ -94,7 +94,7 @@ fn found(plan: &Plan, shape: &Shape, address: u32) -> Option<Cell>
     None
 }
 
-/// The cell at an address, `None` where it is dummy.
+/// The cell at an address, `None` if it is dummy.
 pub fn at(plan: &Plan, shape: &Shape, address: u32) -> Option<Cell>
     requires plps { length shape.now.counts ≡ length plan.now.plps }
     requires passes { Passes plan.now shape.now }

@@ -91,8 +91,8 @@ impl<'a> Cells<'a> {
         self.plan.config().cells - self.address
     }
 
-    /// The cell at the next address, `None` where it is dummy. Not an iterator's `next`: the end
-    /// is where `left` answers 0.
+    /// The cell at the next address, `None` if it is dummy. Not an iterator's `next`: the end
+    /// is when `left` answers 0.
     pub fn next_cell(&mut self) -> Option<Cell>
         requires { self.old.address < self.old.config.cells }
         ensures cell { result ≡ get (cell_map self.old.config self.old.shape) self.old.address }

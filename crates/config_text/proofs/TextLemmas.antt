@@ -65,7 +65,7 @@ pub kept-parted : (before after : List (List ℕ)) (line : List ℕ) → is_skip
 kept-parted before after line stays = kept-append before (line ∷ after) ∙ ap (λ (l : List (List ℕ)). kept before ++ l)
     (kept-cons line after stays)
 
--- a line that is kept among lines that are read is read where it is due
+-- a line that is kept among lines that are read is read if it is due
 reads_at : (all before after rows : List (List ℕ)) (line : List ℕ) → all ≡ before ++ line ∷ after → is_skipped line ≡ false
     → ReadsLines 0 (kept all) rows
     → (row : List ℕ) × ReadsLine (length (kept before)) line row

@@ -29,7 +29,7 @@ pub record Stands (text : List ℕ) (left : List (List ℕ)) (number due : ℕ) 
   pub small : number + length left ≤ 65537
   pub order : due ≤ number
 
--- The fault tells the number of the line, and why it is refused where it is due; or memory is wanting.
+-- The fault tells the number of the line, and why it is refused if it is due; or memory is wanting.
 abbrev pub RefusesDue : ℕ → List ℕ → ℕ → TextFault → Type 0
 RefusesDue due line number (Refused told why) = (told ≡ number) × RefusesLine due line why
 RefusesDue due line number OutOfMemory = Unit {0}

@@ -7,7 +7,7 @@ use Rattle.config_text.specs.declared.field.Field.{Field}
 use Rattle.config_text.specs.declared.spelling.Spelling.{Spelling as Held}
 use Rattle.config_text.specs.declared.spelling.Spelling.TheVariants.{Number as HeldNumber, Word as HeldWord}
 
--- the words that are left of a line; there is none where the last one was taken
+-- the words that are left of a line; there is none if the last one was taken
 abbrev pub words_in : Option (List ℕ) → List (List ℕ)
 words_in None = []
 words_in (Some rest) = words_of rest

@@ -62,7 +62,7 @@ below_survivors count (s ∷ sent) (false ∷ survival) b = below_survivors coun
 
 -- Each of them counts.
 body_told : (frames n : ℕ) (b : Body) → 0 < frames → TellsFrame frames n b → body_counts frames b ≡ true
-body_told frames n (Block frame_idx plp first bits) some t =
+body_told frames n (Block frame_idx plp_id first bits) some t =
     lt-ltb frame_idx frames (let h = mod_below n frames some in omega (arith, h, t))
 body_told frames n (L1Current frame_idx pre conf dynamic extension) some t =
     lt-ltb frame_idx frames (let h = mod_below n frames some in omega (arith, h, t))
@@ -101,7 +101,7 @@ key_with a b = record { superframe = a; frame = b }
 key_told : (frames : ℕ) (before : Option ℕ) (n : ℕ) (b : Body) (superframe : ℕ) → 0 < frames → superframe ≡ n / frames % 16
     → TellsFrame frames n b → FollowsBody before b n → NearBody frames before b n
     → body_key (option_map (frame_key frames) before) superframe b ≡ frame_key frames n
-key_told frames before n (Block frame_idx plp first bits) s some e t fo ne = ap₂ key_with e t
+key_told frames before n (Block frame_idx plp_id first bits) s some e t fo ne = ap₂ key_with e t
 key_told frames before n (L1Current frame_idx pre conf dynamic extension) s some e t fo ne = ap₂ key_with e t
 key_told frames None n (Timestamp stamp) s some e t fo ne = ap₂ key_with e (sym t)
 key_told frames (Some m) n (Timestamp stamp) s some e t fo ne =

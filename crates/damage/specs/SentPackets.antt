@@ -25,14 +25,14 @@ frame_group frames sent n = record { key = frame_key frames n; packets = frame_p
 
 -- It carries a timestamp.
 abbrev pub IsTimestamp : Body → Type 0
-IsTimestamp (Block frame_idx plp first bits) = ⊥
+IsTimestamp (Block frame_idx plp_id first bits) = ⊥
 IsTimestamp (L1Current frame_idx pre conf dynamic extension) = ⊥
 IsTimestamp (Timestamp stamp) = Unit {0}
 IsTimestamp (Other packet_type bits) = ⊥
 
 -- A packet tells its frame: a timestamp is sent in the first frame of a superframe (ETSI TS 102 773, clause 5.2.7).
 abbrev pub TellsFrame : ℕ → ℕ → Body → Type 0
-TellsFrame frames n (Block frame_idx plp first bits) = frame_idx ≡ n % frames
+TellsFrame frames n (Block frame_idx plp_id first bits) = frame_idx ≡ n % frames
 TellsFrame frames n (L1Current frame_idx pre conf dynamic extension) = frame_idx ≡ n % frames
 TellsFrame frames n (Timestamp stamp) = n % frames ≡ 0
 TellsFrame frames n (Other packet_type bits) = ⊥

@@ -24,7 +24,7 @@ front_part xs start end h =
     let split : start + (end - start) ≡ end = omega arith in
     ap (λ (n : ℕ). drop start (take n xs)) (sym split) ∙ drop-take start (end - start) xs
 
--- the bytes that wait stay where what stands before the end stays
+-- the bytes that wait stay if what stands before the end stays
 pub kept : {X : Type 0} (old new : List X) (start end : ℕ) → start ≤ end → take end new ≡ take end old
     → take (end - start) (drop start new) ≡ take (end - start) (drop start old)
 kept old new start end h e = sym (front_part new start end h) ∙ ap (drop start) e ∙ front_part old start end h

@@ -4,7 +4,7 @@ use Rattle.std.specs.FinMap.{get}
 use Rattle.ports.specs.Desk.{State, Held, Creates}
 use Rattle.desk_io.specs.Writing.{Appends}
 
--- No bytes are appended where nothing is done.
+-- No bytes are appended if nothing is done.
 abbrev pub AppendsNone : Type 0
 AppendsNone = (s : State) (out : ℕ) → Appends s s out []
 

@@ -98,7 +98,7 @@ impl ReadAhead {
         self.taken += count as u64;
     }
 
-    // Reads on where fewer bytes wait than are wanted, no further than `most` bytes: how many, and 0 only at the end of the file.
+    // Reads on if fewer bytes wait than are wanted, no further than `most` bytes: how many, and 0 only at the end of the file.
     fn read<D: Desk>(&mut self, desk: &mut D, least: usize, most: u64) -> Result<usize, ReadStop>
         requires opened { self.old.handle < length (D.state desk.old).opened }
         requires within { (least ≤ most) × (least ≤ LARGEST) }
@@ -125,7 +125,7 @@ impl ReadAhead {
         Ok(count)
     }
 
-    /// Reads on until so many bytes wait: false where the file ends before. It reads no further than `most` bytes wait. If it
+    /// Reads on until so many bytes wait: false if the file ends before. It reads no further than `most` bytes wait. If it
     /// fails, as many bytes wait as were read.
     pub fn read_until<D: Desk>(
         &mut self,

@@ -56,7 +56,7 @@ each_reader P readings input is lt here others other inside =
           (others other was differ)
     ]
 
--- the output is as it was where what the desk holds is
+-- the output is as it was if what the desk holds is
 held_out : (b : Start) (h : Held) (old new : State) (out : ℕ) (bytes : List ℕ) → new.held ≡ old.held → HoldsOut b h old out bytes
     → HoldsOut b h new out bytes
 held_out b h old new out bytes e t = record {

@@ -27,7 +27,7 @@ works_by {old = old} {new = new} {out = out} {ins = ins} Is s f = record {
       (λ h fed w. (w.0, w.1, (w.2.0, w.2.1, f (file_at h ins) fed w.2.0 w.2.2))) s.inputs s.works.holds;
 }
 
--- what was fed is the same where a machine gave since
+-- what was fed is the same if a machine gave since
 pub fed_since : (inputs : ℕ) (files : ℕ → List ℕ) (places : List ℕ) (events late : List Event) → OnlyGave late
     → AreFed inputs files places events → AreFed inputs files places (events ++ late)
 fed_since inputs files places events late only are input lt =
@@ -41,7 +41,7 @@ fed_since inputs files places events late only are input lt =
       end = λ on. f.end (sym (m.ended input) ∙ on);
     }
 
--- Where all inputs ended, each was read to its end.
+-- If all inputs ended, each was read to its end.
 pub all_read : (h : Held) (ins : List (List ℕ)) (places : List ℕ) (events : List Event) → length places ≡ length ins
     → ((input : ℕ) → input < length ins → has_ended input events ≡ true) → AreFed (length ins) (file_at h ins) places events
     → places ≡ map (λ name. length (bytes_of h.files name)) ins

@@ -60,7 +60,7 @@ grown Becomes next begin old new start now name r waiting left g t going =
       first = t.first;
     }
 
--- Where nothing waits, all that the machine gave so far is said.
+-- If nothing waits, all that the machine gave so far is said.
 unfoldable caught_up : {A : Type 0} (Came : List Event → A → Type 0) (next : A → Step) (machine : A) (start now : State)
     (name : List ℕ) (r : Reading) → Telling Came next start now name machine r [] → Telling Came next start now name machine r []
 caught_up Came next machine start now name r t = record {

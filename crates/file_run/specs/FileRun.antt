@@ -67,7 +67,7 @@ pub record FailsToCreateOutput (old new : State) (out : List ℕ) (ins : List (L
   pub created : new.created ≡ old.created
   pub said : new.said ≡ old.said
 
--- All inputs were opened, in turn, and read up to these places. Then the output was created, and the desk holds it so, where it
+-- All inputs were opened, in turn, and read up to these places. Then the output was created, and the desk holds it so, if it
 -- tells:
 -- by what it held at first, the output has these bytes.
 pub record Works (old new : State) (out : List ℕ) (ins : List (List ℕ)) (places : List ℕ) (HoldsOut : Held → List ℕ
@@ -81,7 +81,7 @@ pub record Works (old new : State) (out : List ℕ) (ins : List (List ℕ)) (pla
   pub holds : IfSome old.held (λ h. (k : Held) × (new.held ≡ Some k)
       × ((bytes : List ℕ) × (get k.files out ≡ Some bytes) × HoldsOut h bytes))
 
--- These bytes of a file were taken, and so many read; where it ended, they are all.
+-- These bytes of a file were taken, and so many read; if it ended, they are all.
 pub record IsFed (file : List ℕ) (place : ℕ) (taken : List ℕ) (ended : Bool) : Type 0 where
   pub more : List ℕ
   pub parts : file ≡ taken ++ more

@@ -37,7 +37,7 @@ reading_at readings input = slice_index_or readings input no_reading
 abbrev pub places_of : List Reading → List ℕ
 places_of readings = map given_of readings
 
--- What the desk holds, where it told what it held: the output is these bytes, and no other file is another.
+-- What the desk holds, if it told what it held: the output is these bytes, and no other file is another.
 pub record HoldsOut (b : Start) (h : Held) (now : State) (out : ℕ) (bytes : List ℕ) : Type 0 where
   pub is : Held
   pub held : now.held ≡ Some is
@@ -58,14 +58,14 @@ pub record Reached (b : Start) (now : State) (readings : List Reading) (out : �
   pub untold : b.desk.held ≡ None → now.held ≡ None
   pub tells : (h : Held) → b.desk.held ≡ Some h → HoldsOut b h now out bytes
 
--- These bytes of a file were taken, and where it ended nothing is left.
+-- These bytes of a file were taken, and if it ended nothing is left.
 pub record IsRead (file : List ℕ) (rest : Option (List ℕ)) (taken : List ℕ) (ended : Bool) : Type 0 where
   pub left : List ℕ
   pub rest_is : rest ≡ Some left
   pub parts : file ≡ taken ++ left
   pub end : ended ≡ true → left ≡ []
 
--- How the files and the events are related, where the desk told its files.
+-- How the files and the events are related, if the desk told its files.
 pub record Relates (b : Start) (h : Held) (now : State) (readings : List Reading) (events : List Event) : Type 0 where
   pub present : (input : ℕ) → input < length b.ins → IsSome (get h.files (slice_index_or b.ins input []))
   pub reads : (input : ℕ) → input < length b.ins → IsRead (file_at h b.ins input) (rest_of now (reading_at readings input))
@@ -143,7 +143,7 @@ pub record Feeds {A : Type 0} (Becomes : A → List Event → A → Type 0) (old
   pub marked : IsMarked event was.ended is.ended
   pub is_taken : IsTaken event input (rest_of before was) (rest_of after is) count
 
--- What the desk holds after inputs were opened, where it told what it held.
+-- What the desk holds after inputs were opened, if it told what it held.
 pub record HoldsIns (old new : State) (h : Held) (ins : List (List ℕ)) : Type 0 where
   pub is : Held
   pub held : new.held ≡ Some is
@@ -189,7 +189,7 @@ pub record IsRunning {A : Type 0} (Becomes : List Event → A → Type 0) (reach
   pub came : Becomes events machine
   pub runs : Runs b now readings out (reach machine) events
 
--- why a run stops where an input could not be read on
+-- why a run stops if an input could not be read on
 abbrev pub read_fault : ℕ → ReadStop → RunFault
 read_fault input stop.TooLong = TooLong input
 read_fault input stop.Fault = ReadFault input

@@ -13,7 +13,7 @@ use Rattle.file_run.specs.declared.machine.Step.TheVariants.{Read, Give, End}
 use Rattle.file_run.specs.declared.stop.RunFault.{RunFault}
 use Rattle.file_run.specs.declared.stop.RunFault.TheVariants.{TooLong, ReadFault, WriteFault}
 
--- Bytes begin with some, and are no more where these came to the end.
+-- Bytes begin with some, and are no more if these came to the end.
 abbrev pub StartsWith : List ℕ → List ℕ → Bool → Type 0
 StartsWith bytes front ended = (more : List ℕ) × (bytes ≡ front ++ more) × (ended ≡ true → more ≡ [])
 

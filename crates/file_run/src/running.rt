@@ -12,7 +12,7 @@ use crate::stop::RunFault;
 use desk_io::{ReadAhead, ReadStop, creates_law};
 use ports::{Desk, Word};
 
-// A run stops where an input could not be read on.
+// A run stops if an input could not be read on.
 fn fault_of(input: usize, why: ReadStop) -> RunFault
     ensures { result ≡ read_fault input why }
 {

@@ -60,7 +60,7 @@ stamp_fits frames (Some k) superframe some s b = go (k.superframe == superframe)
 fits_with : (frames : ℕ) (before : Option Key) (superframe : ℕ) (body : Body) → 0 < frames → superframe < 16
     → body_counts frames body ≡ true → ((k : Key) → before ≡ Some k → IsKey frames k)
     → IsKey frames (body_key before superframe body)
-fits_with frames before superframe (Block frame_idx plp first bits) some s e b =
+fits_with frames before superframe (Block frame_idx plp_id first bits) some s e b =
     record { superframe = s; frame = ltb-true frame_idx frames e }
 fits_with frames before superframe (L1Current frame_idx pre conf dynamic extension) some s e b =
     record { superframe = s; frame = ltb-true frame_idx frames e }

@@ -20,8 +20,8 @@ due r true ps = modulated r ps
 abbrev pub ComesNext : List FrameRecord → List FrameRecord → FrameRecord → Type 0
 ComesNext all given x = (more : List FrameRecord) × (all ≡ given ++ x ∷ more)
 
--- Where no record waits, those that are due were given. One that waits comes next: of those due by the packets that came, or,
--- where the group is closed, by them and the packet that closed it, or at the end.
+-- If no record waits, those that are due were given. One that waits comes next: of those due by the packets that came, or,
+-- if the group is closed, by them and the packet that closed it, or at the end.
 pub record DueLaw (r : Rules) (g : Option Group) (p : Progress) (ps : List Packet) (given : List FrameRecord) : Type 0 where
   pub idle : waits p ≡ false → due r p.closing ps ≡ given
   pub under_way : p.closing ≡ false → waits p ≡ true → (x : FrameRecord) × (record_now r g p.number p.next ≡ Some x)

@@ -13,7 +13,7 @@ is_same k l = (k.superframe == l.superframe) && (k.frame == l.frame)
 -- What belongs to a frame, if a superframe has so many: a baseband frame or an L1-current with a frame_idx below their number,
 -- and every timestamp.
 abbrev pub body_counts : ℕ → Body → Bool
-body_counts frames (Block frame_idx plp first bits) = nat_lt frame_idx frames
+body_counts frames (Block frame_idx plp_id first bits) = nat_lt frame_idx frames
 body_counts frames (L1Current frame_idx pre conf dynamic extension) = nat_lt frame_idx frames
 body_counts frames (Timestamp stamp) = true
 body_counts frames (Other packet_type bits) = false
@@ -27,7 +27,7 @@ stamp_key None superframe = record { superframe = superframe; frame = 0 }
 stamp_key (Some k) superframe = if k.superframe == superframe then k else record { superframe = superframe; frame = 0 }
 
 abbrev pub body_key : Option Key → ℕ → Body → Key
-body_key before superframe (Block frame_idx plp first bits) = record { superframe = superframe; frame = frame_idx }
+body_key before superframe (Block frame_idx plp_id first bits) = record { superframe = superframe; frame = frame_idx }
 body_key before superframe (L1Current frame_idx pre conf dynamic extension) =
     record { superframe = superframe; frame = frame_idx }
 body_key before superframe (Timestamp stamp) = stamp_key before superframe

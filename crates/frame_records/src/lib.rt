@@ -2,7 +2,7 @@
 #![tactic(auto)]
 
 mod laws;
-mod plan;
+mod plan_laws;
 
 pub use laws::{fit_law, frame_law, record_law, recover_law, stand_law};
-pub use plan::id_law;
+pub use plan_laws::id_law;

@@ -11,7 +11,7 @@ use Rattle.t2mi_packet.specs.declared.packet.Stamp.{Stamp}
 
 -- the baseband frame of the PLP with an identifier
 abbrev pub body_block : ℕ → Body → Option (List Bool)
-body_block id (Block frame_idx plp first bits) = if plp == id then Some bits else None
+body_block id (Block frame_idx plp_id first bits) = if plp_id == id then Some bits else None
 body_block id (L1Current frame_idx pre conf dynamic extension) = None
 body_block id (Timestamp stamp) = None
 body_block id (Other packet_type bits) = None
@@ -35,7 +35,7 @@ pub record L1Parts : Type 0 where
   pub extension : List Bool
 
 abbrev pub body_l1 : Body → Option L1Parts
-body_l1 (Block frame_idx plp first bits) = None
+body_l1 (Block frame_idx plp_id first bits) = None
 body_l1 (L1Current frame_idx pre conf dynamic extension) =
     Some (record { pre = pre; conf = conf; dynamic = dynamic; extension = extension })
 body_l1 (Timestamp stamp) = None
@@ -46,7 +46,7 @@ abbrev pub l1s_of : List Packet → List L1Parts
 l1s_of packets = filter_map (λ p. body_l1 p.body) packets
 
 abbrev pub body_stamp : Body → Option Stamp
-body_stamp (Block frame_idx plp first bits) = None
+body_stamp (Block frame_idx plp_id first bits) = None
 body_stamp (L1Current frame_idx pre conf dynamic extension) = None
 body_stamp (Timestamp stamp) = Some stamp
 body_stamp (Other packet_type bits) = None

@@ -1,5 +1,5 @@
-//! The six tests of the packets of a T2 frame, packet by packet too (ETSI TS 102 773, clause 5): their definitions and laws; and
-//! the reading of L1 signalling that they ask for.
+//! Our six tests of the packets of a T2 frame, packet by packet too: their definitions and laws, and the reading of L1 signalling
+//! that they ask for. The fields are those of ETSI TS 102 773, clause 5.
 #![tactic(auto)]
 
 mod l1;

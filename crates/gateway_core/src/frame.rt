@@ -7,7 +7,7 @@ ghost use Rattle.gateway_core.specs.Lists.{AllShort, IsNext};
 ghost use Rattle.gateway_core.specs.FirstStep.{first_step};
 ghost use Rattle.gateway_core.specs.declared.frame.Step.TheVariants.{Over};
 
-use crate::packet::{write_block, write_signal, write_stamp};
+use crate::packet::{write_block, write_l1_current, write_timestamp};
 use crate::signalling::{Dynamic, Signalling};
 use bit_slice::{FixedBits, OutOfMemory};
 use linked_pool::{BlockRef, CHUNKS_OF_CELLS, FEWEST_CELLS, Pool};
@@ -197,13 +197,13 @@ impl Frame {
     {
         match self.step {
             Step::Stamp => {
-                write_stamp(out, plan, packet_count, self.number);
+                write_timestamp(out, plan, packet_count, self.number);
                 self.step = Step::Signal;
                 true
             }
             Step::Signal => {
                 let (pre, conf) = (signalling.pre.as_slice(), signalling.conf.as_slice());
-                write_signal(
+                write_l1_current(
                     out,
                     plan,
                     packet_count,

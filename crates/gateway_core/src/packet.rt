@@ -70,7 +70,7 @@ fn stamp_of(plan: &Plan, frame: u64) -> Stamp
 }
 
 /// The timestamp of the superframe that begins with a frame.
-pub fn write_stamp(out: &mut FixedBits<LARGEST>, plan: &Plan, packet_count: u8, frame: u64)
+pub fn write_timestamp(out: &mut FixedBits<LARGEST>, plan: &Plan, packet_count: u8, frame: u64)
     requires { frame < 2 ^ 32 }
     ensures bits { out.new ≡ written_bits (packet_with plan.now packet_count frame (Body.Timestamp (stamp_of plan.now frame))) }
     ensures whole { IsWhole out.new }
@@ -85,7 +85,7 @@ pub fn write_stamp(out: &mut FixedBits<LARGEST>, plan: &Plan, packet_count: u8, 
 }
 
 /// The L1-current of a frame.
-pub fn write_signal(
+pub fn write_l1_current(
     out: &mut FixedBits<LARGEST>,
     plan: &Plan,
     packet_count: u8,

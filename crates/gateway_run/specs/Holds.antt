@@ -39,7 +39,7 @@ pub record AreOffered (c : Config) (done : List run.Event) (events : List Event)
       (has_ended plp events) (tails plp)
   pub whole : (plp : ℕ) → has_ended plp events ≡ true → tails plp ≡ []
 
--- No more packets were offered than the frame under way wants, all that earlier frames wanted, and no more frames begun than
+-- No more packets were offered than the next frame wants, all that earlier frames wanted, and no more frames begun than
 -- there are.
 pub record IsInTime (c : Config) (events : List Event) : Type 0 where
   pub within : (plp : ℕ) → plp < length c.plps → length (offered plp events) ≤ slots_by c plp (begun events * c.ticks)
@@ -73,11 +73,11 @@ abbrev pub AreAll : Config → List Event → Type 0
 AreAll c events = (inputs : ℕ → List (List ℕ)) → AllContinue c events inputs
     → length (pipe c.pid (front_packets c inputs (begun events))) ≡ given events
 
--- All that the frame under way wants of an input was offered, unless it ended.
+-- All that the next frame wants of an input was offered, unless it ended.
 abbrev pub HasAll : Config → List Event → ℕ → Type 0
 HasAll c events plp = has_ended plp events ≡ false → slots_by c plp (begun events * c.ticks) ≤ length (offered plp events)
 
--- The next packet of an input is bad, one that the frame under way wants, and nothing is wanted of the inputs before.
+-- The next packet of an input is bad, one that the next frame wants, and nothing is wanted of the inputs before.
 pub record MetBad (c : Config) (events : List Event) (tails : ℕ → List ℕ) (plp packet : ℕ) : Type 0 where
   pub place : plp < length c.plps
   pub number : packet ≡ length (offered plp events)
@@ -93,7 +93,7 @@ pub record MetBad (c : Config) (events : List Event) (tails : ℕ → List ℕ) 
 abbrev pub NoTails : (ℕ → List ℕ) → Type 0
 NoTails tails = (plp : ℕ) → tails plp ≡ []
 
--- All that the frame under way wants was offered, one of which none may have the number, and the run has it.
+-- All that the next frame wants was offered, one of which none may have the number, and the run has it.
 pub record IsOneTooMany (c : Config) (events : List Event) (tails : ℕ → List ℕ) : Type 0 where
   pub none : NoTails tails
   pub frame : begun events ≡ MOST_FRAMES

@@ -27,7 +27,7 @@ pub record IsWanting (g : Gateway) (plp : ℕ) : Type 0 where
   pub below : NoneWanted g plp
   pub idle : IsIdle g
 
--- The frame under way can begin.
+-- The next frame can begin.
 pub record IsBeginning (g : Gateway) : Type 0 where
   pub none : NoneWanted g (plps_of g)
   pub idle : IsIdle g
@@ -70,7 +70,7 @@ IsLookedAs g from count plp phase = ⊥
 abbrev pub IsLooked : Gateway → ℕ → ℕ → Place → Type 0
 IsLooked g from count place = IsLookedAs g from count place.plp place.phase
 
--- A packet is bad, the first one that the frame under way still wants.
+-- A packet is bad, the first one that the next frame still wants.
 abbrev pub IsBadAs : Config → ℕ → ℕ → ℕ → Phase → Type 0
 IsBadAs c plp frames wants (Stopped (Bad of packet)) = (of ≡ plp) × (packet ≡ slots_by c plp (frames * c.ticks) - wants)
 IsBadAs c plp frames wants phase = ⊥

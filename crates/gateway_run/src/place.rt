@@ -14,7 +14,7 @@ pub enum GatewayStop {
 pub enum Phase {
     /// Packets of the input that is looked at.
     Wants,
-    /// The frame under way.
+    /// The next frame.
     Begins,
     /// Units of the frames begun.
     Gives,

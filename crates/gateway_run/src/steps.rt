@@ -125,7 +125,7 @@ pub fn end_input(
     look(gateway, place.plp, count)
 }
 
-/// Begins the frame under way, or the rest if no frame comes.
+/// Begins the next frame, or the rest if no frame comes.
 pub fn begin(gateway: &mut Gateway<'_>, plan: &Plan, place: Place, ran: &mut Ran) -> Place
     requires ready { IsReady gateway.old plan.now place ran.old }
     requires begins { place.phase ≡ Begins }

@@ -27,7 +27,7 @@ mapped f ys xs d e same each =
     ext_get_or e xs (map f ys) (omega (arith, same, size))
     (λ k lt. let inside : k < length ys = omega (arith, lt, same) in each k inside ∙ sym (get_or-map f ys k d e inside))
 
--- the dynamic part fits its fields where the shape does
+-- the dynamic part fits its fields if the shape does
 pub dyn_numbers_fit : (c : Config) (frame : ℕ) (shape : FrameShape)
     → ((place : ℕ) → place < length c.plps → (plp_at c.plps place).id < 2 ^ 8) → frame % c.frames < 2 ^ 8 → FitsL1 shape
     → DynFits (dyn_of c frame shape)

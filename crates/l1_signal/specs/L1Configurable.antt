@@ -127,7 +127,7 @@ conf_sized told first bits =
     if told == info_size (slice_index first 1) then after (values_of conf_more bits) (conf_plps first)
     else Err (Size told (info_size (slice_index first 1)))
 
--- what reading gives, where L1-pre tells this L1_POST_INFO_SIZE: it is looked at as soon as NUM_PLP is read
+-- what reading gives, if L1-pre tells this L1_POST_INFO_SIZE: it is looked at as soon as NUM_PLP is read
 unfoldable pub conf_read : ℕ → List Bool → Reading L1Conf
 conf_read told bits = after (values_of conf_first bits) (conf_sized told)
 

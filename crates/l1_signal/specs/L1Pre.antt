@@ -77,7 +77,7 @@ pre_at vs = record {
 unfoldable pub pre_read : List Bool → Reading L1Pre
 pre_read bits = made pre_at (values_of pre_table bits)
 
--- what reading gives: the rows, and where CRC_32 is there, then that of their 168 bits
+-- what reading gives: the rows, and if CRC_32 is there, then that of their 168 bits
 unfoldable pub pre_reading : Bool → List Bool → Reading L1Pre
 pre_reading with_crc bits =
     after (pre_read bits) (λ pre rest. if with_crc then after (crc_read (crc32_of (take 168 bits)) rest)

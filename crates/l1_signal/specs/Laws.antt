@@ -51,7 +51,7 @@ PreLength = (pre : L1Pre) (bits : List Bool) → PreSpells pre bits → length b
 abbrev pub PreBitsLength : Type 0
 PreBitsLength = (pre : L1Pre) → length (pre_bits pre) ≡ 168
 
--- The same of the configurable part, where L1-pre tells the right L1_POST_INFO_SIZE.
+-- The same of the configurable part, if L1-pre tells the right L1_POST_INFO_SIZE.
 abbrev pub ConfReadBack : Type 0
 ConfReadBack = (conf : L1Conf) (front rest : List Bool) → ConfSpells conf front
     → conf_read (info_size (length conf.plps)) (front ++ rest) ≡ Ok (conf, rest)

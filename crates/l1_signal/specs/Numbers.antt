@@ -1,4 +1,4 @@
--- What the fields of a plan's values are, where their types do not say that they fit. No public clause cites this module.
+-- What the fields of a plan's values are, if their types do not say that they fit. No public clause cites this module.
 use Rattle.std.specs.Prelude.{◌≡◌, ◌<◌, ◌≤◌, ◌^◌, ◌%◌}
 use Rattle.l1_signal.specs.declared.pre.L1Pre.{L1Pre}
 use Rattle.l1_signal.specs.declared.conf_plp.ConfPlp.{ConfPlp}

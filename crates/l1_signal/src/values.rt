@@ -196,7 +196,7 @@ pub fn dyn_of(plan: &Plan, frame: u64, shape: &Shape, out: &mut L1Dyn)
     requires plan { length out.old.plps ≡ length plan.now.plps }
     requires shape { length shape.now.counts ≡ length plan.now.plps }
     ensures value { out.new ≡ dyn_of plan.now frame shape.now }
-    // it can be written where the numbers of the shape fit their fields, as those of every frame do
+    // it can be written if the numbers of the shape fit their fields, as those of every frame do
     ensures fits { FitsL1 shape.now → DynFits out.new }
 {
     out.frame_idx = frame_idx(plan, frame);

@@ -57,7 +57,7 @@ kept_of chain = length chain.pending.items
 abbrev pub most_blocks : Chain → ℕ
 most_blocks chain = chain.settings.blocks
 
--- the bytes of the packets offered that are not sent before the frame under way
+-- the bytes of the packets offered that are not sent before the next frame
 abbrev pub fresh : Config → ℕ → List Event → ℕ
 fresh c plp events =
     length (plp_string c plp (packet_at (offered events)) (length (offered events)))
@@ -77,7 +77,7 @@ full_blocks c plp at n x count =
     map (λ i. block_bits c plp at n (x + i * field_bytes c plp) (x + i * field_bytes c plp + field_bytes c plp))
     (range_with_len 0 count)
 
--- the blocks of the frame under way that are full already
+-- the blocks of the next frame that are full already
 abbrev pub early_blocks : Config → ℕ → List Event → List (List Bool)
 early_blocks c plp events =
     full_blocks c plp (packet_at (offered events)) (length (offered events))

@@ -35,7 +35,7 @@ pub struct Chain {
     slot: u64,
     // How many bytes of user packets were put into blocks.
     sent: u64,
-    // How many blocks of the frame under way were put.
+    // How many blocks of the next frame were put.
     made: u32,
     // The bytes that wait for a block.
     pending: Vec<u8>,
@@ -89,7 +89,7 @@ impl Chain {
         })
     }
 
-    /// Takes the packet of the next slot, one that is over by the tick at which the frame under way begins. A block whose data
+    /// Takes the packet of the next slot, one that is over by the tick at which the next frame begins. A block whose data
     /// field is full goes to the end of the list, which holds what the chain put there since its last cut. After `PoolFull` the
     /// chain is used no more.
     pub fn offer(&mut self, packet: &TsPacket, pool: &mut Pool, list: u32) -> Result<(), PoolFull>
@@ -164,7 +164,7 @@ impl Chain {
         ensures stays { Stays self.old self.new }
         ensures slot { self.new.slot ≡ self.old.slot + 1 }
     {
-        // There is room for every packet whose slot is over by the tick at which the frame under way begins.
+        // There is room for every packet whose slot is over by the tick at which the next frame begins.
         if self.pending.len() > self.settings.field_bytes as usize {
             self.slot += 1;
             return;
@@ -262,7 +262,7 @@ impl Chain {
         Some((place, *slot))
     }
 
-    /// Ends the frame under way: the list then holds exactly its blocks, at most `blocks` of the PLP, and the answer is their
+    /// Ends the next frame: the list then holds exactly its blocks, at most `blocks` of the PLP, and the answer is their
     /// number. The first cut ends frame 0, which has none. All slots that are over by the tick at which the frame begins were
     /// offered, and the list holds what the chain put there since its last cut. After `PoolFull` the chain is used no more.
     pub fn cut(&mut self, pool: &mut Pool, list: u32) -> Result<u32, PoolFull>

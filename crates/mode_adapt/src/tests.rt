@@ -116,7 +116,7 @@ impl Feed {
         Ok(())
     }
 
-    // Offers the packets of the frame under way, where these begin at slot 0, and null packets follow.
+    // Offers the packets of the next frame, if these begin at slot 0, and null packets follow.
     fn fill(&mut self, packets: &[TsPacket]) -> Result<(), PoolFull> {
         let end = self
             .plan
@@ -231,8 +231,8 @@ fn backlogs_of_a_loaded_network(rt: HostRuntime) -> Result<(), Fail> {
     Ok(())
 }
 
-// Headers of the first frame with blocks, and what follows the first: FULL where slot 0 begins, NEXT where slot 5 begins 71 bytes
-// on, and LAST where none does.
+// Headers of the first frame with blocks, and what follows the first: FULL if slot 0 begins, NEXT if slot 5 begins 71 bytes
+// on, and LAST if none does.
 #[rattlefmt::skip]
 const FULL: [u8; 13] = [0xFC, 0x00, 0x80, 0x00, 0x1B, 0x28, 0x00, 0x00, 0x00, 0xFA, 0x1F, 0xFE, 0x10];
 

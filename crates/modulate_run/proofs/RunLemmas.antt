@@ -39,7 +39,7 @@ use Rattle.file_run.proofs.OneInputLemmas.{writes_by, whole_file}
 
 -- ---- what is due
 
--- what was taken is a front of the file, and all of it where it ended; so what is due by it is a front of the records
+-- what was taken is a front of the file, and all of it if it ended; so what is due by it is a front of the records
 due_front : DueFront → (c : Config) (ended : Bool) (file bytes more : List ℕ) → file ≡ bytes ++ more → (ended ≡ true → more ≡ [])
     → IsPrefix (records_due c ended bytes) (records_of c file)
 due_front law c false file bytes more is end = subst (λ (l : List ℕ). IsPrefix (records_due c false bytes) (records_of c l))

@@ -12,7 +12,7 @@ use std::alloc::{AllocError, Global};
 use std::marker::Model;
 use std::test::Fail;
 
-// The units of frames 0 to 3 of the small network where its input is empty: the timestamp of frame 0, and the L1 of frames 0 and
+// The units of frames 0 to 3 of the small network if its input is empty: the timestamp of frame 0, and the L1 of frames 0 and
 // 1; its last four bytes begin the timestamp of frame 2.
 #[rattlefmt::skip]
 const FIRST: [u8; 188] = [

@@ -1,4 +1,4 @@
-// The six tests of what is held of a group (ETSI TS 102 773, clause 5).
+// Our six tests of a group, by what is held of it; `frame_tests` defines them. The fields are those of ETSI TS 102 773, clause 5.
 ghost use Rattle.std.specs.Prelude.{◌≡◌, ◌<◌, ◌≤◌, ◌^◌, true, IsNone, length};
 ghost use Rattle.std.specs.Option.{option_and_then};
 ghost use Rattle.frame_tests.specs.Tally.{Tally, tally_pool, tally_missing, tally_l1, first_late, tally_time, tally_counts};

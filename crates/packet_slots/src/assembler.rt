@@ -66,7 +66,7 @@ fn slot_with(base: Base, dnp: u8) -> Option<u64>
     }
 }
 
-// Where nothing is held, the slot of the user packet before.
+// If nothing is held, the slot of the user packet before.
 fn before_next(len: usize, base: Base) -> Option<u64>
     ensures { result ≡ (if len == 0 then base.slot else None) }
 {

@@ -166,7 +166,7 @@ TellsRules-from _ _ _ _ _ _ _ _ _ _ _ _ _ _ _ _ _ _ _ BlockLimit lt = absurd (om
 TellsRules-from _ _ _ _ _ _ _ _ _ _ _ _ _ _ _ _ _ _ _ InterleaverLength lt = absurd (omega arith)
 TellsRules-from _ _ _ _ _ _ _ _ _ _ _ _ _ _ _ _ _ _ _ BitRate lt = absurd (omega arith)
 
--- where every test tells true, the rules 1 to 9 hold
+-- if every test tells true, the rules 1 to 9 hold
 pub RulesBelow-from_tests : (c : Config) (tests : List Bool) → length tests ≡ 9 → TellsRules c tests
     → HoldsBelow (λ place. IsTrue (get_or tests place true)) (length tests) → RulesBelow 10 c
 RulesBelow-from_tests c tests nine tells all rule lt =

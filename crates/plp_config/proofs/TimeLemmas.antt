@@ -203,7 +203,7 @@ one_slot_per_iscr num den epoch m slot later pos long short range other lt =
 tick_found : (from tick : ℕ) → from ≤ tick → tick < from + 2 ^ 22 → tick_of_iscr from (tick % 2 ^ 22) ≡ tick
 tick_found from tick le near = omega arith
 
--- the start of a slot gives the slot, where a slot lasts a tick or more
+-- the start of a slot gives the slot, if a slot lasts a tick or more
 slot_of_start : (num den slot : ℕ) → 0 < den → den ≤ num → div_ceil (slot_start num den slot * den) num ≡ slot
 slot_of_start num den slot pos long =
     let num_pos : 0 < num = omega arith in

@@ -22,7 +22,7 @@ field_bytes c plp = block_bytes c plp - 10
 unfoldable pub block_cells : Config → ℕ → ℕ
 block_cells c plp = cells_per_block (plp_at c.plps plp).fec (plp_at c.plps plp).modulation
 
--- bytes of a user packet: no sync byte, and one byte more where null packets are deleted (EN 302 755, clause 5.1)
+-- bytes of a user packet: no sync byte, and one byte more if null packets are deleted (EN 302 755, clause 5.1)
 unfoldable pub up_bytes : Config → ℕ → ℕ
 up_bytes c plp = if (plp_at c.plps plp).delete then 188 else 187
 
@@ -59,7 +59,7 @@ TestHolds CellCount c = cell_need c ≤ c.cells
 TestHolds CellAddresses c = c.cells ≤ 4194303
 TestHolds test c = HoldsBelow (PlaceFits test c) (length c.plps)
 
--- what a test needs, and what there is, at a place where it speaks of one
+-- what a test needs, and what there is, at a place if it speaks of one
 abbrev pub need_of : Test → Config → ℕ → ℕ
 need_of Throughput c plp = div_ceil (up_bytes c plp * c.ticks * den c plp) (num c)
 need_of CellCount c plp = cell_need c

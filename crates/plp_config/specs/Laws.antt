@@ -52,7 +52,7 @@ NoneAtZero = (num den : ℕ) → 0 < num → slot_count num den 0 ≡ 0
 abbrev pub EndsAfterStart : Type 0
 EndsAfterStart = (num den slot : ℕ) → 0 < den → (slot + 1) * num < (slot_start num den slot + 1 + div_ceil num den) * den
 
--- where a slot lasts a tick or more, no two slots start in one tick
+-- if a slot lasts a tick or more, no two slots start in one tick
 abbrev pub StartsApart : Type 0
 StartsApart = (num den slot later : ℕ) → 0 < den → den ≤ num → slot < later → slot_start num den slot < slot_start num den later
 

@@ -14,7 +14,7 @@ slot_start num den slot = slot * num / den
 abbrev pub slot_count : ℕ → ℕ → ℕ → ℕ
 slot_count num den tick = tick * den / num
 
--- the slots that end in epoch m, where an epoch is so many ticks: after tick (m - 1) * epoch, and at tick m * epoch at the latest
+-- the slots that end in epoch m, if an epoch is so many ticks: after tick (m - 1) * epoch, and at tick m * epoch at the latest
 abbrev pub InRange : ℕ → ℕ → ℕ → ℕ → ℕ → Type 0
 InRange num den epoch m slot = (slot_count num den ((m - 1) * epoch) ≤ slot) × (slot < slot_count num den (m * epoch))
 

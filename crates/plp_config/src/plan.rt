@@ -188,7 +188,7 @@ impl Plan {
         throughput_need(&self.config, plp)
     }
 
-    /// Bytes of a user packet: 188 where null packets are deleted, else 187.
+    /// Bytes of a user packet: 188 if null packets are deleted, else 187.
     pub fn up_bytes(&self, plp: usize) -> u32
         requires { plp < length self.now.plps }
         ensures value { result ≡ up_bytes self.now plp }

@@ -124,7 +124,7 @@ pub struct Plp {
     pub rotation: bool,
     /// The greatest number of blocks in a frame, PLP_NUM_BLOCKS_MAX; 1 to 1,023.
     pub blocks: u16,
-    /// TIME_IL_LENGTH: time interleaver blocks in a frame, or 0 for none; at most `blocks`, and at most 255.
+    /// TIME_IL_LENGTH: TI-blocks in a frame, or 0 for no time interleaving; at most `blocks`, and at most 255.
     pub interleave: u16,
     /// Whether null packets are deleted.
     pub delete: bool,

@@ -1,4 +1,4 @@
--- The cells of a block all stand exactly if none is missed where the record is gone over beside the map.
+-- The cells of a block all stand exactly if none is missed when the record is gone over beside the map.
 use Rattle.std.proofs.Common.{◌≡◌, ℕ, zero, suc, ◌+◌, ◌<◌, ◌&&◌, ◌==◌, Bool, true, false, List, [], ◌∷◌, length, get_or, Option}
 use Rattle.std.proofs.Common.{Some, None, refl, ap, ap₂, sym, subst, ◌∙◌, arith}
 use Rattle.std.specs.Prelude.{slice_get, not, ◌||◌}

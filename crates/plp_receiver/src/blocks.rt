@@ -6,7 +6,7 @@ ghost use Rattle.plp_config.specs.declared.plp.TheConstants.{MOST_BLOCK_BYTES};
 ghost use Rattle.plp_receiver.specs.Readable.{shape_agrees};
 ghost use Rattle.plp_receiver.specs.Taking.{TakesBlock, TakesBlocks, TakesFrame, HasBytes, HaveBytes};
 
-use crate::slot_rule::deletes;
+use crate::plp_rule::deletes;
 use crate::standing::{first_ordinal, tell_standing};
 use crate::taking::{descramble, taken_block};
 use frame_tests::map_test_law;

@@ -3,9 +3,9 @@
 
 mod blocks;
 mod laws;
+mod plp_rule;
 mod readable;
 mod receiver;
-mod slot_rule;
 mod standing;
 mod taking;
 #[cfg(test)]

@@ -9,8 +9,8 @@ ghost use Rattle.packet_slots.specs.Times.{delay_of};
 
 use crate::blocks::take_frame;
 use crate::laws::readback_law;
+use crate::plp_rule::rule_of;
 use crate::readable::is_readable;
-use crate::slot_rule::rule_of;
 use bit_slice::{BitSlice, OutOfMemory};
 use frame_tests::{Network, map_test_law};
 use l1_signal::L1Dyn;

@@ -21,7 +21,7 @@ fn is_found(cell: Cell, found: Option<Cell>) -> bool
     }
 }
 
-// Sees what is found where the map has a cell, or none: the test of its block fails if it is another. The first test is that of
+// Sees what is found if the map has a cell, or none: the test of its block fails if it is another. The first test is that of
 // the block with this ordinal.
 fn see(expected: Option<Cell>, found: Option<Cell>, first: u32, stands: &mut [bool])
     ensures len { length stands.new ≡ length stands.old }

@@ -65,7 +65,7 @@ pub insert_kept : (m : Files) (name x : List ℕ) → get m name ≡ Some x → 
 insert_kept m name x is = same_map nat_list_cmp_total (slice_cmp-IsAntisymmetric nat_cmp-IsAntisymmetric) (insert m name x) m
     (λ q. kept_at m name x q is)
 
--- what handles for reading have left, where another file was set
+-- what handles for reading have left, if another file was set
 left_beside : (files : Files) (names : List (List ℕ)) (handle place : ℕ) (name x : List ℕ) → slice_index_or names handle [] ≢ name
     → drop place (bytes_of (insert files name x) (slice_index_or names handle []))
     ≡ drop place (bytes_of files (slice_index_or names handle []))

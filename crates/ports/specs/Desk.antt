@@ -18,7 +18,7 @@ pub record Held : Type 0 where
   pub names : List (List ℕ)
   pub outs : List (List ℕ)
 
--- What a desk means: what it holds and what was said, where it tells; the place of each handle for reading in order of opening,
+-- What a desk means: what it holds and what was said, if it tells; the place of each handle for reading in order of opening,
 -- and the number of handles for writing; and how often its calls failed.
 pub record State : Type 0 where
   pub held : Option Held
@@ -27,7 +27,7 @@ pub record State : Type 0 where
   pub created : ℕ
   pub counts : Counts
 
--- the bytes of a named file, none where there is none of that name
+-- the bytes of a named file, none if there is none of that name
 abbrev pub bytes_of : Files → List ℕ → List ℕ
 bytes_of files name = unwrap_or (get files name) []
 
@@ -145,6 +145,6 @@ pub record Says (old new : State) (text : List ℕ) : Type 0 where
   pub opened : new.opened ≡ old.opened
   pub created : new.created ≡ old.created
 
--- The last text was said, or nothing was where the count rose.
+-- The last text was said, or nothing was if the count rose.
 abbrev pub SaysLast : State → State → List ℕ → Type 0
 SaysLast old new text = (Says old new text × SameCounts old new) ⊎ (Keeps old new × Rose old.counts.lines new.counts.lines)

@@ -10,7 +10,7 @@ use crate::DeskFault;
 /// After a fault all is as before but the count of its kind, of which `Counts` tells. Of a file that could not be created
 /// nothing is known then. A call that is Ok changes no count.
 pub trait Desk {
-    /// What the desk holds and what was said, where it tells; the place of each handle for reading, and the number of
+    /// What the desk holds and what was said, if it tells; the place of each handle for reading, and the number of
     /// those for writing; its counts of faults.
     ghost state: { Self → State };
 

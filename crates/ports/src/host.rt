@@ -107,7 +107,7 @@ fn say<R: Print>(
     }
 }
 
-// Reads once more where a signal cut the call short, which std leaves to the caller.
+// Reads once more if a signal cut the call short, which std leaves to the caller.
 fn read_again<F: Read>(file: &mut F, buffer: &mut [u8]) -> io::Result<usize>
     ensures { IfOk result (λ n. n ≤ length buffer.new) }
 {
@@ -120,7 +120,7 @@ fn read_again<F: Read>(file: &mut F, buffer: &mut [u8]) -> io::Result<usize>
     Err(io::Error::from(ErrorKind::Interrupted))
 }
 
-// Writes once more where a signal cut the call short.
+// Writes once more if a signal cut the call short.
 fn write_again<F: Write>(file: &mut F, piece: &[u8]) -> io::Result<usize>
     ensures { IfOk result (λ n. n ≤ length piece.now) }
 {
@@ -198,7 +198,7 @@ impl<R: Files + Print + Drop> HostDesk<R> {
         self.handles.iter().find(|handle| handle.node == Some(node))
     }
 
-    // Opens a file as the next handle, where it can.
+    // Opens a file as the next handle, if it can.
     fn add_handle(&mut self, name: &str) -> Result<u32, Reason>
         ensures ok { IfOk result (Opens self.old self.new name.now) }
         ensures err { OnErr result (self.new ≡ self.old) }
@@ -224,7 +224,7 @@ impl<R: Files + Print + Drop> HostDesk<R> {
         }
     }
 
-    // Makes a file empty and gives the next handle for writing, where it can.
+    // Makes a file empty and gives the next handle for writing, if it can.
     fn add_out(&mut self, name: &str) -> Result<u32, HostFault>
         ensures ok { IfOk result (Creates self.old self.new name.now) }
         ensures err { OnErr result (self.new ≡ self.old) }

@@ -84,7 +84,7 @@ fn copy_next(bytes: &[u8], place: u64, buffer: &mut [u8], most: usize) -> usize
     count
 }
 
-// A name of one's own, where memory is found.
+// A name of one's own, if memory is found.
 fn text(alloc: Global, name: &str) -> Option<String>
     ensures { IfSome result (λ text. string_bytes text ≡ name.now) }
 {
@@ -116,7 +116,7 @@ fn set(
     Ok(())
 }
 
-// Makes the file of a name empty, or makes one. `false` where no memory was found.
+// Makes the file of a name empty, or makes one. `false` if no memory was found.
 fn make_empty(files: &mut BTreeMap<String, Vec<u8>>, alloc: Global, name: &str) -> bool
     ensures done { result ≡ true → files_of files.new ≡ insert (files_of files.old) name.now [] }
     ensures not { result ≡ false → files_of files.new ≡ files_of files.old }
@@ -137,7 +137,7 @@ fn push_name(names: &mut Vec<String>, name: String)
     names.push(name).unwrap();
 }
 
-// Appends bytes to the file of a name. `false` where there is none, or no memory was found.
+// Appends bytes to the file of a name. `false` if there is none, or no memory was found.
 #[tactic(auto, using(crate::proofs::FileLemmas::files))]
 fn append(files: &mut BTreeMap<String, Vec<u8>>, name: &str, piece: &[u8]) -> bool
     ensures done { result ≡ true → files_of files.new
@@ -255,7 +255,7 @@ impl MemoryDesk {
         &self.said
     }
 
-    // Opens a file as the next handle, where it can.
+    // Opens a file as the next handle, if it can.
     fn add_handle(&mut self, name: &str) -> Option<u32>
         ensures some { IfSome result (Opens self.old.state self.new.state name.now) }
         ensures none { IfNone result (self.new ≡ self.old) }
@@ -273,7 +273,7 @@ impl MemoryDesk {
         Some(at as u32)
     }
 
-    // Makes an empty file and gives the next handle for writing, where it can.
+    // Makes an empty file and gives the next handle for writing, if it can.
     fn add_out(&mut self, name: &str) -> Option<u32>
         ensures some { IfSome result (Creates self.old.state self.new.state name.now) }
         ensures none { IfNone result (self.new ≡ self.old) }

@@ -35,7 +35,8 @@ whole_arrives c inputs = sym (left_all (pipe c.pid (packets_of c inputs)))
 
 -- ---- each packet survives
 
-all_begun : (xs : List JoinedByte) (at : ℕ) (packets : List (List ℕ)) → begun_from xs 0 at packets ≡ replicate (length packets) true
+all_begun : (xs : List JoinedByte) (at : ℕ) (packets : List (List ℕ))
+    → begun_from xs 0 at packets ≡ replicate (length packets) true
 all_begun xs at [] = refl
 all_begun xs at (packet ∷ packets) =
     ap₂ (λ (t : Bool) (flags : List Bool). t ∷ flags) (le-leb 0 (unit_number xs at) (omega arith))

@@ -259,7 +259,7 @@ module _ (given : Given) (c : Config) (inputs : ℕ → List (List ℕ)) (n : �
       let count = count_at c (plp_blocks c inputs n) plp inside in
       omega (arith, same, told, count, fewer)
 
-  -- Not both hold where something is lacking, as any frame that begins a superframe if frame n does.
+  -- Not both hold if something is lacking, as any frame that begins a superframe if frame n does.
   not_both : (k : ℕ) → begins_superframe c k ≡ begins_superframe c n → Lacks c inputs n left → (currents && stamped k) ≡ true
       → counted ≡ true → ⊥
   not_both k same (NoStamp begins none) some all =

@@ -2,7 +2,7 @@
 #![tactic(auto)]
 
 mod laws;
-mod plan;
+mod plan_laws;
 
 pub use laws::{frame_law, run_law, sent_law, stream_law, tests_law, undamaged_law};
-pub use plan::{plan_law, type_law};
+pub use plan_laws::{plan_law, type_law};

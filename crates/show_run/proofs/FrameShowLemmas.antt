@@ -140,7 +140,7 @@ none_refused one never file place m events views rest why done f s records refus
     ((same_records one never file rest [] views (s.told ++ s.next) records
     (subst (λ (l : List ℕ). AreRecords file (s.told ++ s.next) l) nothing all) (why, refused.1) stuck_nil).1)
 
--- where something was not said, what stands behind the records that were is not refused
+-- if something was not said, what stands behind the records that were is not refused
 not_refused : OneRecord → NoRefusal → (file : List ℕ) (place : ℕ) (m : FrameLines) (events : List Event) (views : List RecordView)
     (rest unsaid : List ℕ) (why : RecordWhy) → IsFed file place (fed 0 events) (has_ended 0 events)
     → Shown m events → AreRecords file views rest → gave events ≡ record_lines 0 views ++ unsaid → unsaid ≢ []

@@ -45,7 +45,7 @@ pub falls_idle : (m : PacketLines) (input count : ℕ) → FallsShort (next_of m
     × (input ≡ 0) × (count < LARGEST)
 falls_idle m input count s = short_idle m.line m.phase m.at input count s
 
--- where packets are read, all that was fed are packets
+-- if packets are read, all that was fed are packets
 pub all_seen : (m : PacketLines) (events : List Event) → m.phase ≡ Reads → (s : Shown m events) → (s.rest ≡ [])
     × (has_ended 0 events ≡ false) × (m.at ≡ length (fed 0 events))
 all_seen m events reads s =

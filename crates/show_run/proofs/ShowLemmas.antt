@@ -126,7 +126,7 @@ none_refused one none sizes file place m events packets rest why done f s packs 
     ((same_packets one none sizes file rest (s.rest ++ f.more) packets (s.told ++ s.next) packs all (inr (why, refused))
     (inl nothing)).1 ∙ nothing)
 
--- where something was not said, what stands behind the packets that were is not refused
+-- if something was not said, what stands behind the packets that were is not refused
 not_refused : OnePacket → NoRefusal → PacketLength → (file : List ℕ) (place : ℕ) (m : PacketLines) (events : List Event)
     (packets : List (List ℕ)) (rest unsaid : List ℕ) (why : PacketWhy) → IsFed file place (fed 0 events) (has_ended 0 events)
     → Shown m events → Packs file packets rest → gave events ≡ lines_of 0 packets ++ unsaid → unsaid ≢ [] → ¬ (IsRefused rest why)

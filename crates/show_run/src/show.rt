@@ -45,7 +45,7 @@ fn tell_lines<M: Machine, D: Desk>(
     Ok(())
 }
 
-// How the packets of a file ended: their number, or where none begins.
+// How the packets of a file ended: their number, or the place at which none begins.
 fn packets_end(lines: &PacketLines) -> Result<u64, ShowStop>
     ensures { result ≡ packets_end lines.now.phase lines.now.at lines.now.count }
 {

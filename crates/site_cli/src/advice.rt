@@ -189,8 +189,8 @@ fn say(
         Outcome::PacketRefused { at, why } => eprintln!(rt;
             "{file}: no T2-MI packet begins at byte {at}: {why}; the packets before it were shown; see that the file holds whole packets and nothing else"
         ),
-        Outcome::UnknownPlp { plp } => eprintln!(rt;
-            "{file}: no PLP has the identifier {plp}; it is the first number behind the word plp"
+        Outcome::UnknownPlp { plp_id } => eprintln!(rt;
+            "{file}: no PLP has the identifier {plp_id}; it is the first number behind the word plp"
         ),
         Outcome::RecordRefused { number, why } if is_receive(words) => eprintln!(rt;
             "{file}: record {number}, counted from 0: {why}; OUT holds what the records before it give back; see that the file holds the records of successive frames of CONFIG and nothing else"

@@ -42,7 +42,7 @@ static ROWS: [Row; 11] = [
     },
     Row {
         why: "no PLP has the identifier", words: &["receive", "c", "9", "r", "o"],
-        outcome: Outcome::UnknownPlp { plp: 9 }, status: 8, said: &["refused: plp 9\n"], ..RECEIVE
+        outcome: Outcome::UnknownPlp { plp_id: 9 }, status: 8, said: &["refused: plp 9\n"], ..RECEIVE
     },
     Row { why: "no OUT", words: &["receive", "c", "0", "r"], ..WRONG },
     Row { why: "OUT is the file of records", words: &["receive", "c", "0", "r", "r"], ..WRONG },

@@ -1,4 +1,4 @@
--- Every command is complete: where nothing outside fails, it ends as its files say.
+-- Every command is complete: if nothing outside fails, it ends as its files say.
 use Rattle.std.proofs.Common.{◌≡◌, ◌≢◌, ◌⊎◌, ℕ, ◌<◌, ◌≤◌, ◌^◌, inl, inr, ⊎_elim, List, [], ◌∷◌, length, Option, Some, None, refl}
 use Rattle.std.proofs.Common.{ap, sym, subst, ◌∙◌, arith}
 use Rattle.std.specs.Prelude.{IfSome, option_map, nat_lt, Result, Ok, Err}

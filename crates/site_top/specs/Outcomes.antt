@@ -43,7 +43,7 @@ status_of (CapacityRefused test plp need have) = 4
 status_of (InputRefused input packet) = 5
 status_of NoSuperframe = 6
 status_of (RecordRefused number why) = 7
-status_of (UnknownPlp plp) = 8
+status_of (UnknownPlp plp_id) = 8
 status_of (TooLong count) = 9
 status_of (PacketRefused at why) = 10
 status_of ReadFault = 70
@@ -75,7 +75,7 @@ text_why_number BadNumber = 5
 text_why_number EndsEarly = 6
 text_why_number TextTooLong = 7
 
--- the place of a PLP, or a dash where there is none
+-- the place of a PLP, or a dash if there is none
 abbrev pub place_word : Option ℕ → List ℕ
 place_word (Some place) = decimal place
 place_word None = codes "-"
@@ -97,7 +97,7 @@ last_line (InputRefused input packet) = codes "refused: input " ++ decimal input
 last_line NoSuperframe = codes "refused: no superframe\n"
 last_line (RecordRefused number why) = codes "refused: record " ++ decimal number ++ codes " why "
     ++ decimal (record_why_number why) ++ codes "\n"
-last_line (UnknownPlp plp) = codes "refused: plp " ++ decimal plp ++ codes "\n"
+last_line (UnknownPlp plp_id) = codes "refused: plp " ++ decimal plp_id ++ codes "\n"
 last_line (TooLong count) = codes "refused: too long " ++ decimal count ++ codes "\n"
 last_line (PacketRefused at why) = codes "refused: packet at " ++ decimal at ++ codes " why " ++ decimal (why_number why)
     ++ codes "\n"

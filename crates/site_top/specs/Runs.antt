@@ -113,7 +113,7 @@ MustEnd (Receive config id file out) held outcome =
     OverPlan (bytes_of held.files config) (ReceiveMustEnd (bytes_of held.files file) id) outcome
 MustEnd (Trial seed frames) held outcome = outcome ≡ Done
 
--- Where nothing outside fails, the files decide the outcome, unless memory runs out.
+-- If nothing outside fails, the files decide the outcome, unless memory runs out.
 abbrev pub IsComplete : Command → State → State → Outcome → Type 0
 IsComplete command old new result = IfSome old.held (λ held. (outcome : Outcome) → MustEnd command held outcome
     → ¬ (Rose old.counts.reads new.counts.reads) → ¬ (Rose old.counts.writes new.counts.writes) → (result ≡ outcome)

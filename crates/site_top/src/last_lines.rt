@@ -71,11 +71,11 @@ fn record_refused_line(number: u64, why: RecordWhy) -> Line
 }
 
 #[tactic(auto, unfolding(crate::specs::Outcomes::last_line))]
-fn unknown_plp_line(plp: u8) -> Line
-    ensures { result ≡ line_of_outcome (Outcome.UnknownPlp plp) }
+fn unknown_plp_line(plp_id: u8) -> Line
+    ensures { result ≡ line_of_outcome (Outcome.UnknownPlp plp_id) }
 {
     let mut line = Line::new();
-    line.push_field(b"refused: plp ", u64::from(plp));
+    line.push_field(b"refused: plp ", u64::from(plp_id));
     line.push(b"\n");
     line
 }
@@ -97,7 +97,7 @@ fn text_refused_line(line: u32, why: TextWhy) -> Line
     last
 }
 
-// Adds the place of a PLP, or a dash where there is none.
+// Adds the place of a PLP, or a dash if there is none.
 fn push_place(line: &mut Line, plp: Option<u8>)
     requires { length line.old + PLACE_ROOM ≤ ROOM }
     ensures text { line.new ≡ line.old ++ codes " plp " ++ place_word plp }
@@ -169,7 +169,7 @@ pub fn last_line(outcome: Outcome) -> Line
         Outcome::InputRefused { input, packet } => input_refused_line(input, packet),
         Outcome::NoSuperframe => line_with(b"refused: no superframe\n"),
         Outcome::RecordRefused { number, why } => record_refused_line(number, why),
-        Outcome::UnknownPlp { plp } => unknown_plp_line(plp),
+        Outcome::UnknownPlp { plp_id } => unknown_plp_line(plp_id),
         Outcome::TooLong { count } => too_long_line(count),
         Outcome::PacketRefused { at, why } => packet_refused_line(at, why),
         Outcome::ReadFault => line_with(b"fault: read\n"),

@@ -47,7 +47,7 @@ pub enum Outcome {
     },
     /// No PLP of the configuration has this identifier.
     UnknownPlp {
-        plp: u8,
+        plp_id: u8,
     },
     /// A file gave as many bytes as no file may have, or a frame comes of which none may have the number; `count` is that number.
     TooLong {

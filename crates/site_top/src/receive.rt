@@ -73,7 +73,7 @@ pub fn receive<D: Desk>(
         Err(stop) => return outcome_of(stop),
     };
     let Some(plp) = plan.place_of(id) else {
-        return Outcome::UnknownPlp { plp: id };
+        return Outcome::UnknownPlp { plp_id: id };
     };
     back_law(&plan);
     match receive_run::run(alloc, &plan, plp, input, out, desk) {

@@ -52,7 +52,7 @@ pub enum Request<'a> {
     /// transport stream.
     Receive {
         config: &'a str,
-        plp: u8,
+        plp_id: u8,
         input: &'a str,
         out: &'a str,
     },
@@ -149,10 +149,10 @@ fn receive_of<'a>(
     if receive != "receive" || out.is_empty() || !is_input(out, config) || !is_input(out, input) {
         return None;
     }
-    let plp = number_named(plp, 0, 255)?;
+    let plp_id = number_named(plp, 0, 255)?;
     Some(Request::Receive {
         config,
-        plp: plp as u8,
+        plp_id: plp_id as u8,
         input,
         out,
     })

@@ -36,11 +36,11 @@ fn command<D: Desk>(alloc: Global, words: &[Word], desk: &mut D) -> Outcome
         Some(
             Request::Receive {
                 config,
-                plp,
+                plp_id,
                 input,
                 out,
             },
-        ) => receive(alloc, config, plp, input, out, desk),
+        ) => receive(alloc, config, plp_id, input, out, desk),
         Some(Request::Trial { seed, frames }) => trial(alloc, seed, frames, desk),
         None => Outcome::Usage,
     }

@@ -213,7 +213,7 @@ number_at-bits_of bytes k h =
     ∙ ap number_of (take-field 8 (get_or bytes k 0) (bits_of (drop (k + 1) bytes)))
     ∙ number_of-field-mod 8 (get_or bytes k 0)
 
--- where a whole byte stands at a place, nothing is filled up
+-- if a whole byte stands at a place, nothing is filled up
 pub byte_at-whole : (bits : List Bool) (k : ℕ) → 8 * k + 8 ≤ length bits → byte_at bits k ≡ number_at bits (8 * k) 8
 byte_at-whole bits k h =
     let none : 8 - length (drop (8 * k) bits) ≡ 0 = simp length-drop (omega arith) in

@@ -258,7 +258,7 @@ null_by_pid f bytes s =
     ap (λ (n : ℕ). n == 0x1FFF) (sym (front_number (bits_of bytes) 11 13 (omega arith))
     ∙ ap (λ (g : Fields). g.pid) (sym r.fields))
 
--- an answer, where the packet is known
+-- an answer, if the packet is known
 answer : (bytes : List ℕ) (r : Result Fields TsFault) (f : Fields) → IsRead bytes f → IfOk r (IsRead bytes)
     → IfErr r (Refuses bytes) → r ≡ Ok f
 answer bytes (Ok g) f there ok err = ap Ok (one_read bytes g f ok there)

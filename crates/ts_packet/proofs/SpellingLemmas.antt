@@ -84,11 +84,11 @@ field_parts bytes len long told inside =
     ∙ ap (λ (xs : List ℕ). length (take len (drop 5 bytes)) ∷ xs) (sym (take-append-drop len (drop 5 bytes))
     ∙ ap (λ (xs : List ℕ). take len (drop 5 bytes) ++ xs) (drop-drop len 5 bytes))
 
--- where the length is not bad, it is the one asked for
+-- if the length is not bad, it is the one asked for
 exact : (len : ℕ) → ¬ (IsBadAdaptation 2 len) → len ≡ 183
 exact len good = grind arith
 
--- where it leaves a payload a byte, it is 182 at most
+-- if it leaves a payload a byte, it is 182 at most
 most : (len : ℕ) → ¬ (IsBadAdaptation 3 len) → len ≤ 182
 most len good = grind arith
 

@@ -31,7 +31,7 @@ WrittenSpells = (pid counter : ℕ) (pointer : Option ℕ) (payload : List ℕ) 
     → length (area_of pointer payload) ≤ PAYLOAD
     → Spells (written_fields pid counter pointer payload) (written_bytes pid counter pointer payload)
 
--- A packet is null where its PID is that of null packets.
+-- A packet is null if its PID is that of null packets.
 abbrev pub NullByPid : Type 0
 NullByPid = (f : Fields) (bytes : List ℕ) → Spells f bytes → is_null bytes ≡ (f.pid == 0x1FFF)
 

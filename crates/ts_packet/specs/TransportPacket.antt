@@ -26,7 +26,7 @@ header_bits f priority control =
     field 8 SYNC ++ flag f.error ++ flag f.starts ++ flag priority ++ field 13 f.pid ++ field 2 f.scrambling ++ field 2 control
     ++ field 4 f.counter
 
--- adaptation_field_control (table 2-5): 1 where a payload alone follows, 2 where an adaptation field alone, 3 where both
+-- adaptation_field_control (table 2-5): 1 if a payload alone follows, 2 if an adaptation field alone, 3 if both
 abbrev pub control_of : Option (List ℕ) → List ℕ → ℕ
 control_of None payload = 1
 control_of (Some adaptation) [] = 2

@@ -27,7 +27,7 @@ pub fn written_spells()
     ensures { WrittenSpells }
 {}
 
-/// A packet is null where its PID is that of null packets.
+/// A packet is null if its PID is that of null packets.
 pub fn null_by_pid()
     ensures { NullByPid }
 {}

@@ -68,7 +68,7 @@ impl<'a> TsView<'a> {
         field_at(self.header, 28, 4) as u8
     }
 
-    /// The bytes of the payload: none where there is an adaptation field alone.
+    /// The bytes of the payload: none if there is an adaptation field alone.
     pub fn payload(&self) -> &'a [u8]
         ensures payload { result.now ≡ self.now.payload }
         ensures short { length result.now ≤ PAYLOAD }
@@ -77,7 +77,7 @@ impl<'a> TsView<'a> {
     }
 }
 
-// Where the payload begins, or nothing where the adaptation field is bad.
+// Where the payload begins, or nothing if the adaptation field is bad.
 fn payload_place(control: u32, len: u8) -> Option<usize>
     requires { control < 4 }
     ensures some { IfSome result (λ place. (¬ (IsBadAdaptation control len)) × (place ≡ place_for control len)) }
@@ -113,10 +113,10 @@ fn parse(bytes: &[u8; SIZE]) -> Result<TsView<'_>, TsFault>
 /// The transport packet that the bytes are, or the first refusal of [`TsFault`] that holds.
 pub fn read(bytes: &[u8; SIZE]) -> Result<TsView<'_>, TsFault>
     ensures ok { IfOk result (λ f. Spells f bytes.now) }
-    // Where the bytes are a packet, it is read.
+    // If the bytes are a packet, it is read.
     ensures every { (f : Fields) → Spells f bytes.now → result ≡ Ok f }
     ensures err { IfErr result (Refuses bytes.now) }
-    // Where they are refused, the refusal is told.
+    // If they are refused, the refusal is told.
     ensures refused { (fault : TsFault) → Refuses bytes.now fault → result ≡ Err fault }
 {
     parse(bytes)

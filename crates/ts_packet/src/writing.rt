@@ -51,7 +51,7 @@ fn write_both(bytes: &mut [u8], front: &[u8], back: &[u8])
     bytes[front.len()..].copy_from_slice(back);
 }
 
-// Writes the payload, behind its pointer_field where there is one.
+// Writes the payload, behind its pointer_field if there is one.
 fn write_area(area: &mut [u8], pointer: Option<u8>, front: &[u8], back: &[u8])
     requires { length area.old ≡ length (area_of pointer (front.now ++ back.now)) }
     ensures { area.new ≡ area_of pointer (front.now ++ back.now) }

@@ -2,7 +2,7 @@ use Rattle.std.proofs.Common.{◌≡◌, ◌∙◌, ap, ℕ}
 use Rattle.plp_config.specs.SlotTime.{window_slots, delay_ticks}
 use Rattle.plp_config.specs.declared.config.Config.{Config}
 use Rattle.plp_receiver.proofs.RuleLemmas.{rule_sound, same_window}
-use Rattle.plp_receiver.proofs.slot_rule.rule_of.Goals as goal
+use Rattle.plp_receiver.proofs.plp_rule.rule_of.Goals as goal
 
 pub returns-clause-sound : goal.returns-clause-sound
 returns-clause-sound c =

@@ -1,5 +1,5 @@
 use Rattle.sent_frames.proofs.RecordLemmas.{written_must_come, undamaged_must_come}
-use Rattle.sent_frames.proofs.plan.plan_law.Goals as goal
+use Rattle.sent_frames.proofs.plan_laws.plan_law.Goals as goal
 
 pub returns-clause-honest : goal.returns-clause-honest
 returns-clause-honest c =
