@@ -1,6 +1,8 @@
 //! A run of the gateway over the files of a desk.
 #![tactic(auto)]
 
+#[cfg(test)]
+mod bench;
 mod laws;
 mod machine;
 mod place;

@@ -1,28 +1,15 @@
 // How far a run reads ahead of what it wrote, if a write fails.
-use crate::{RunStop, run};
-use bit_slice::OutOfMemory;
+use crate::RunStop;
+use crate::bench::{Bench, packets};
 use file_run::RunFault;
 use plp_config::Plan;
-use ports::{CallKind, MemoryDesk, Word};
 use sample_networks::small_plan;
 use std::alloc::Global;
-use std::process::Abort;
 use std::test::Fail;
-use ts_packet::TsPacket;
+use ts_packet::SIZE;
 
 // Ticks of a frame of the small network.
 const TICKS: u64 = 100_000;
-
-// So many packets, none of them null.
-fn file(alloc: Global, count: u16) -> Result<Vec<u8>, OutOfMemory> {
-    let mut bytes = *TsPacket::canonical().as_array();
-    bytes[2] = 0xFE;
-    let mut file = Vec::new(alloc);
-    for _ in 0..count {
-        file.extend_from_slice(&bytes)?;
-    }
-    Ok(file)
-}
 
 // The bytes of T2-MI packets in a unit: behind 4 bytes of header, an adaptation field if there is one, and a pointer_field if a
 // packet begins.
@@ -40,16 +27,16 @@ fn carried(unit: &[u8]) -> &[u8] {
 }
 
 // Those in all whole units of a stream.
-fn carried_by(alloc: Global, stream: &[u8]) -> Result<Vec<u8>, OutOfMemory> {
+fn carried_by(alloc: Global, stream: &[u8]) -> Result<Vec<u8>, Fail> {
     let mut bytes = Vec::new(alloc);
-    for unit in stream.chunks_exact(188) {
+    for unit in stream.chunks_exact(SIZE) {
         bytes.extend_from_slice(carried(unit))?;
     }
     Ok(bytes)
 }
 
 // The places at which frames begin: at a timestamp (0x20), and at an L1-current (0x10) that follows none.
-fn frame_places(alloc: Global, packets: &[u8]) -> Result<Vec<usize>, OutOfMemory> {
+fn frame_places(alloc: Global, packets: &[u8]) -> Result<Vec<usize>, Fail> {
     let mut places = Vec::new(alloc);
     let mut at: usize = 0;
     let mut before = 0;
@@ -81,49 +68,50 @@ fn first_lacking(places: &[usize], held: usize) -> u64 {
     frame
 }
 
-// How a run over one file ends if the write of this number fails, the output, and how many bytes of the file were given.
+// So many bytes are the packets whose slots are over at the end of the frame behind this one, none if there is no such frame.
+fn read_by(plan: &Plan, frame: u64) -> u64 {
+    if frame >= 1_000 || plan.config().plps.len() != 1 {
+        return 0;
+    }
+    188 * plan.slots_by(0, (frame + 2) * TICKS)
+}
+
+// Whether a run over a file fails if the write of this number fails, and so of no other cause; the output, and how many bytes of
+// the file were given.
 fn run_to_write(
-    rt: &(impl Abort + AllocGlobal),
+    alloc: Global,
     plan: &Plan,
     file: &[u8],
     nth: u64,
 ) -> Result<(bool, Vec<u8>, u64), Fail> {
-    assert!(rt; plan.config().plps.len() == 1);
-    let mut desk = MemoryDesk::new(rt.alloc());
-    desk.put_file("in", file)?;
-    desk.fail(CallKind::Write, nth)?;
-    let ins = [Word::new(rt.alloc(), "in")?];
-    let failed = match run(rt.alloc(), plan, "out", &ins, &mut desk) {
+    let mut bench = Bench::new(alloc);
+    bench.put(file)?;
+    bench.fail(nth)?;
+    let failed = match bench.run(plan)? {
         Ok(_) => false,
-        Err(why) => {
-            assert!(rt; why == RunStop::Files(RunFault::WriteFault));
-            true
-        }
+        Err(RunStop::Files(RunFault::WriteFault)) => true,
+        Err(_) => return Err("another cause".into()),
     };
-    let out = desk
-        .file("out")
-        .ok_or("there is no output")?
-        .to_vec(rt.alloc())?;
-    Ok((failed, out, desk.given("in")))
+    let out = bench.out()?.ok_or("there is no output")?;
+    Ok((failed, out, bench.given()))
 }
 
 #[test]
 fn no_more_is_read_than_two_frames_ahead_of_the_first_that_is_lacking(
     rt: HostRuntime,
 ) -> Result<(), Fail> {
-    let plan = small_plan(rt.alloc())?;
-    let file = file(rt.alloc(), 10_000)?;
-    let (failed, stream, _) = run_to_write(&rt, &plan, &file, u64::MAX)?;
-    assert!(rt; !failed);
-    let places = frame_places(rt.alloc(), &carried_by(rt.alloc(), &stream)?)?;
-    assert!(rt; places.len() > 600);
+    let alloc = rt.alloc();
+    let plan = small_plan(alloc)?;
+    let file = packets(alloc, 10_000)?;
+    let (failed, stream, _) = run_to_write(alloc, &plan, &file, u64::MAX)?;
+    assert!(rt; !failed, "no write fails");
+    let places = frame_places(alloc, &carried_by(alloc, &stream)?)?;
+    assert!(rt; places.len() > 600, "the stream has more than 600 frames");
     for nth in 1..101 {
-        let (failed, out, given) = run_to_write(&rt, &plan, &file, nth)?;
-        assert!(rt; failed && out.len() < stream.len());
-        let held = carried_by(rt.alloc(), &out)?.len();
-        let frame = first_lacking(&places, held);
-        assert!(rt; frame < 1_000 && plan.config().plps.len() == 1);
-        assert!(rt; given <= 188 * plan.slots_by(0, (frame + 2) * TICKS));
+        let (failed, out, given) = run_to_write(alloc, &plan, &file, nth)?;
+        assert!(rt; failed && out.len() < stream.len(), "write {nth} fails");
+        let frame = first_lacking(&places, carried_by(alloc, &out)?.len());
+        assert!(rt; given <= read_by(&plan, frame), "write {nth}");
     }
     Ok(())
 }

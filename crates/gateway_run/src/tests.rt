@@ -1,128 +1,126 @@
-// Expected values come from worked examples.
-ghost use Rattle.std.specs.Prelude.{◌<◌};
+// How runs end. Expected values come from worked examples.
 
-use crate::{Ran, RunStop, run};
-use bit_slice::OutOfMemory;
+use crate::bench::{Bench, packets};
+use crate::{Ran, RunStop};
 use file_run::RunFault;
-use plp_config::Plan;
-use ports::{MemoryDesk, Word};
 use sample_networks::{loaded_plan, small_plan};
 use std::alloc::Global;
 use std::process::Abort;
 use std::test::Fail;
-use ts_packet::TsPacket;
+use ts_packet::SIZE;
 
-// A file of so many packets, none of them null.
-fn file(alloc: Global, count: u8) -> Result<Vec<u8>, OutOfMemory> {
-    let mut file = Vec::new(alloc);
-    for number in 0..count {
-        let mut bytes = *TsPacket::canonical().as_array();
-        bytes[2] = 0xFE;
-        bytes[4] = number;
-        file.extend_from_slice(&bytes)?;
-    }
-    Ok(file)
+// So many packets, cut to a length, and then with another byte at a place.
+struct File {
+    packets: u16,
+    len: usize,
+    set: Option<(usize, u8)>,
 }
 
-// How a run over one file ends, and the output, if there is one. Reads and writes move at most so many bytes.
-fn run_over(
-    rt: &(impl Abort + AllocGlobal),
-    plan: &Plan,
-    file: Option<&[u8]>,
-    most: usize,
-) -> Result<(Result<Ran, RunStop>, Option<Vec<u8>>), Fail>
-    requires { 0 < most }
-{
-    assert!(rt; plan.config().plps.len() == 1);
-    let mut desk = MemoryDesk::new(rt.alloc());
-    if let Some(bytes) = file {
-        desk.put_file("in", bytes)?;
-    }
-    desk.cap(most);
-    let ins = [Word::new(rt.alloc(), "in")?];
-    let result = run(rt.alloc(), plan, "out", &ins, &mut desk);
-    let out = match desk.file("out") {
-        Some(bytes) => Some(bytes.to_vec(rt.alloc())?),
-        None => None,
-    };
-    Ok((result, out))
-}
+// The start of each `File`: it is not cut, and no byte is another.
+const WHOLE: File = File {
+    packets: 0,
+    len: usize::MAX,
+    set: None,
+};
 
-// How long it is.
-fn len_of(out: &Option<Vec<u8>>) -> Option<usize> {
-    match out {
-        Some(bytes) => Some(bytes.len()),
-        None => None,
-    }
-}
-
-#[test]
-fn empty_input(rt: HostRuntime) -> Result<(), Fail> {
-    let (result, out) = run_over(&rt, &small_plan(rt.alloc())?, Some(&[]), usize::MAX)?;
-    assert_eq!(rt;
-        result,
-        Ok(Ran {
-            frames: 4,
-            units: 2
-        })
-    );
-    assert_eq!(rt; len_of(&out), Some(376));
-    Ok(())
-}
-
-#[test]
-fn whole_run_however_few_bytes_move(rt: HostRuntime) -> Result<(), Fail> {
-    let plan = loaded_plan(rt.alloc())?;
-    let file = file(rt.alloc(), 110)?;
-    let (result, out) = run_over(&rt, &plan, Some(&file), usize::MAX)?;
-    assert_eq!(rt;
-        result,
-        Ok(Ran {
-            frames: 12,
-            units: 123
-        })
-    );
-    assert_eq!(rt; len_of(&out), Some(123 * 188));
-    for most in [1, 187, 189] {
-        let (again, same) = run_over(&rt, &plan, Some(&file), most)?;
-        assert!(rt; again == result && same == out);
-    }
-    Ok(())
+// A run over an input, if there is one, how it ends, and how long the output is, if there is one.
+struct Row {
+    why: &'static str,
+    // Whether the network is the loaded one, or the small one.
+    loaded: bool,
+    file: Option<File>,
+    // The run is made for each of these numbers: reads and writes move at most so many bytes. The output is the same each time.
+    most: &'static [usize],
+    ended: Result<Ran, RunStop>,
+    len: Option<usize>,
 }
 
 // The first frame has 100 bytes of packets, and so no complete unit.
-#[test]
-fn bad_packets(rt: HostRuntime) -> Result<(), Fail> {
-    let mut short = file(rt.alloc(), 1)?;
-    short.truncate(187);
-    let (result, _) = run_over(&rt, &small_plan(rt.alloc())?, Some(&short), usize::MAX)?;
-    let first = RunStop::Bad {
-        input: 0,
-        packet: 0,
+#[rattlefmt::skip]
+static ROWS: [Row; 5] = [
+    Row {
+        why: "an empty input", loaded: false, file: Some(WHOLE), most: &[usize::MAX],
+        ended: Ok(Ran { frames: 4, units: 2 }), len: Some(376),
+    },
+    Row {
+        why: "a whole run, however few bytes move",
+        loaded: true, file: Some(File { packets: 110, ..WHOLE }), most: &[usize::MAX, 1, 187, 189],
+        ended: Ok(Ran { frames: 12, units: 123 }), len: Some(123 * SIZE),
+    },
+    Row {
+        why: "the file ends inside a packet",
+        loaded: false, file: Some(File { packets: 1, len: 187, ..WHOLE }), most: &[usize::MAX],
+        ended: Err(RunStop::Bad { input: 0, packet: 0 }), len: Some(0),
+    },
+    Row {
+        why: "a packet does not begin with the sync byte",
+        loaded: false, file: Some(File { packets: 10, set: Some((3 * SIZE, 0x46)), ..WHOLE }), most: &[usize::MAX],
+        ended: Err(RunStop::Bad { input: 0, packet: 3 }), len: Some(0),
+    },
+    Row {
+        why: "the input is absent", loaded: false, file: None, most: &[usize::MAX],
+        ended: Err(RunStop::Files(RunFault::ReadFault { input: 0 })), len: None,
+    },
+];
+
+// The bytes of a file.
+fn bytes_of(alloc: Global, file: &File) -> Result<Vec<u8>, Fail> {
+    let mut bytes = packets(alloc, file.packets)?;
+    bytes.truncate(file.len);
+    if let Some((place, byte)) = file.set
+        && let Some(old) = bytes.get_mut(place)
+    {
+        *old = byte;
+    }
+    Ok(bytes)
+}
+
+// How the run of a row ends, and its output.
+fn run_of(
+    alloc: Global,
+    row: &Row,
+    most: usize,
+) -> Result<(Result<Ran, RunStop>, Option<Vec<u8>>), Fail> {
+    let plan = match row.loaded {
+        true => loaded_plan(alloc)?,
+        false => small_plan(alloc)?,
     };
-    assert_eq!(rt; result, Err(first));
-    let mut file = file(rt.alloc(), 10)?;
-    assert!(rt; file.len() > 3 * 188);
-    file[3 * 188] = 0x46;
-    let (result, out) = run_over(&rt, &small_plan(rt.alloc())?, Some(&file), usize::MAX)?;
-    assert_eq!(rt;
-        result,
-        Err(RunStop::Bad {
-            input: 0,
-            packet: 3
-        })
-    );
-    assert_eq!(rt; len_of(&out), Some(0));
-    Ok(())
+    let mut bench = Bench::new(alloc);
+    if let Some(file) = &row.file {
+        bench.put(&bytes_of(alloc, file)?)?;
+    }
+    bench.cap(most);
+    let result = bench.run(&plan)?;
+    Ok((result, bench.out()?))
+}
+
+// A run ended as that of its row must. What the assertion prints has large contracts, so it stands here alone.
+fn assert_run(rt: &impl Abort, row: &Row, ended: Result<Ran, RunStop>) {
+    assert_eq!(rt; ended, row.ended, "{}", row.why);
+}
+
+// The output is as long as that of its row must be.
+fn assert_len(rt: &impl Abort, row: &Row, out: &Option<Vec<u8>>) {
+    let len = match out {
+        Some(bytes) => Some(bytes.len()),
+        None => None,
+    };
+    assert_eq!(rt; len, row.len, "{}", row.why);
 }
 
 #[test]
-fn absent_input(rt: HostRuntime) -> Result<(), Fail> {
-    let (result, out) = run_over(&rt, &small_plan(rt.alloc())?, None, usize::MAX)?;
-    assert_eq!(rt;
-        result,
-        Err(RunStop::Files(RunFault::ReadFault { input: 0 }))
-    );
-    assert_eq!(rt; len_of(&out), None);
+fn each_run_ends_as_it_must(rt: HostRuntime) -> Result<(), Fail> {
+    for row in &ROWS {
+        let mut first = None;
+        for most in row.most {
+            let (ended, out) = run_of(rt.alloc(), row, *most)?;
+            assert_run(&rt, row, ended);
+            assert_len(&rt, row, &out);
+            match &first {
+                None => first = Some(out),
+                Some(before) => assert!(rt; *before == out, "{}: {most} bytes", row.why),
+            }
+        }
+    }
     Ok(())
 }

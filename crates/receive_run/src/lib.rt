@@ -2,7 +2,11 @@
 #![tactic(auto)]
 
 #[cfg(test)]
+mod bench;
+#[cfg(test)]
 mod hostile;
+#[cfg(test)]
+mod hostile_rows;
 mod laws;
 mod machine;
 mod record;
