@@ -1,19 +1,11 @@
 //! The receiver of a PLP between files: the records of one in, the packets of its slots into the other.
 #![tactic(auto)]
 
-#[cfg(test)]
-mod bench;
-#[cfg(test)]
-mod hostile;
-#[cfg(test)]
-mod hostile_rows;
 mod laws;
 mod machine;
 mod record;
 mod running;
 mod stop;
-#[cfg(test)]
-mod tests;
 
 pub use laws::{one_output, one_run, run_ends};
 pub use running::run;

@@ -64,6 +64,11 @@ impl Bench {
         self.desk.said()
     }
 
+    /// How many bytes of a file were given.
+    pub(crate) fn given(&self, name: &str) -> u64 {
+        self.desk.given(name)
+    }
+
     /// The bytes of a file, if it is there.
     pub(crate) fn file(&self, name: &str) -> Option<&[u8]> {
         self.desk.file(name)

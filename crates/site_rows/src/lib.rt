@@ -14,9 +14,15 @@ mod failing;
 #[cfg(test)]
 mod gateway;
 #[cfg(test)]
+mod hostile_records;
+#[cfg(test)]
+mod hostile_rows;
+#[cfg(test)]
 mod modulate;
 #[cfg(test)]
 mod random_networks;
+#[cfg(test)]
+mod reading;
 #[cfg(test)]
 mod receive;
 #[cfg(test)]

@@ -1,14 +1,23 @@
-// One file of the records of hostile_rows.rt, and what then stands in the output, byte for byte.
+// `receive` over one file of the records of hostile_rows.rt, and what then stands in the output, byte for byte.
 
-use crate::RunStop;
-use crate::bench::{Bench, FRAME, FRAMED, MUTED, assert_ended, push_head, push_packet};
+use crate::bench::{Bench, assert_outcome};
 use crate::hostile_rows::{POSTS, PRE, ROWS, Row};
+use crate::rows::bytes_of;
+use crate::samples::SMALL;
 use bb_frame::scramble;
-use sample_networks::small_plan;
 use site_frame::RecordWhy;
+use site_top::Outcome;
 use std::alloc::Global;
 use std::test::Fail;
 use ts_packet::SIZE;
+
+// The subseconds of a frame.
+const FRAME: u32 = 700_000;
+
+// The kinds of records: a frame, or one that is muted.
+const FRAMED: u8 = 1;
+
+const MUTED: u8 = 2;
 
 // The rest of a record without blocks, and of one with two.
 const REST: u32 = 160_079;
@@ -26,6 +35,28 @@ const FIELD: usize = 869;
 const CELLS: u32 = 40_000;
 
 const CELLS_OF_TWO: u32 = 16_200;
+
+// Appends the head of a record: "T2FR", its kind, the seconds of 700,000,000, subseconds, and the length of the rest.
+fn push_head(bytes: &mut Vec<u8>, kind: u8, subseconds: u32, rest: u32) -> Result<(), Fail> {
+    bytes.extend_from_slice(&[0x54, 0x32, 0x46, 0x52, kind, 0, 0, 0])?;
+    bytes.extend_from_slice(&[0, 0, 0, 0, 0x29, 0xB9, 0x27, 0x00])?;
+    bytes.extend_from_slice(&subseconds.to_be_bytes())?;
+    bytes.extend_from_slice(&rest.to_be_bytes())?;
+    Ok(())
+}
+
+// Appends a packet that repeats a byte behind its sync byte, or a null packet if that byte is 0.
+fn push_packet(bytes: &mut Vec<u8>, byte: u8) -> Result<(), Fail> {
+    let mut packet = [byte; SIZE];
+    if byte == 0 {
+        packet = [0xFF; SIZE];
+        packet[1] = 0x1F;
+        packet[3] = 0x10;
+    }
+    packet[0] = 0x47;
+    bytes.extend_from_slice(&packet)?;
+    Ok(())
+}
 
 // The byte of the user packets of a row that stands so far behind the front of its first one.
 fn byte_at(row: &Row, at: usize) -> u8 {
@@ -125,15 +156,16 @@ fn given(alloc: Global, row: &Row) -> Result<Vec<u8>, Fail> {
 // All slots of the rows are due behind the muted records.
 #[test]
 fn a_hostile_file_gives_the_packets_of_its_rows(rt: HostRuntime) -> Result<(), Fail> {
-    let mut bench = Bench::new(rt.alloc(), usize::MAX);
-    bench.put(&file_of(rt.alloc())?)?;
-    let ended = bench.run(&small_plan(rt.alloc())?)?;
-    let refused = RunStop::RecordRefused {
+    let mut bench = Bench::new(rt.alloc());
+    bench.put("c", &bytes_of(rt.alloc(), &SMALL)?)?;
+    bench.put("r", &file_of(rt.alloc())?)?;
+    let outcome = bench.run(&["receive", "c", "0", "r", "o"])?;
+    let refused = Outcome::RecordRefused {
         number: 21,
         why: RecordWhy::Length,
     };
-    assert_ended(&rt, "a muted record tells a rest", ended, Err(refused));
-    let mut left = bench.out().ok_or("there is no output")?;
+    assert_outcome(&rt, "a muted record tells a rest", outcome, refused, 7);
+    let mut left = bench.file("o").ok_or("there is no output")?;
     for row in &ROWS {
         match left.strip_prefix(given(rt.alloc(), row)?.as_slice()) {
             Some(rest) => left = rest,

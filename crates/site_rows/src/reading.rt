@@ -1,12 +1,21 @@
-// How far a run reads ahead of what it wrote, if a write fails.
-use crate::RunStop;
-use crate::bench::{Bench, packets};
-use file_run::RunFault;
+// How far `gateway` reads ahead of what it wrote, if a write fails.
+
+use crate::bench::Bench;
+use crate::rows::{File, bytes_of};
+use crate::samples::{PACKET, SMALL};
 use plp_config::Plan;
+use ports::CallKind;
 use sample_networks::small_plan;
+use site_top::Outcome;
 use std::alloc::Global;
 use std::test::Fail;
 use ts_packet::SIZE;
+
+// An input that is much longer than what the first hundred writes need.
+const INPUT: File = File {
+    times: 10_000,
+    ..PACKET
+};
 
 // Ticks of a frame of the small network.
 const TICKS: u64 = 100_000;
@@ -78,22 +87,18 @@ fn read_by(plan: &Plan, frame: u64) -> u64 {
 
 // Whether a run over a file fails if the write of this number fails, and so of no other cause; the output, and how many bytes of
 // the file were given.
-fn run_to_write(
-    alloc: Global,
-    plan: &Plan,
-    file: &[u8],
-    nth: u64,
-) -> Result<(bool, Vec<u8>, u64), Fail> {
+fn run_to_write(alloc: Global, input: &[u8], nth: u64) -> Result<(bool, Vec<u8>, u64), Fail> {
     let mut bench = Bench::new(alloc);
-    bench.put(file)?;
-    bench.fail(nth)?;
-    let failed = match bench.run(plan)? {
-        Ok(_) => false,
-        Err(RunStop::Files(RunFault::WriteFault)) => true,
-        Err(_) => return Err("another cause".into()),
+    bench.put("c", &bytes_of(alloc, &SMALL)?)?;
+    bench.put("i", input)?;
+    bench.fail(CallKind::Write, nth)?;
+    let failed = match bench.run(&["gateway", "c", "o", "i"])? {
+        Outcome::Done => false,
+        Outcome::WriteFault => true,
+        _ => return Err("another cause".into()),
     };
-    let out = bench.out()?.ok_or("there is no output")?;
-    Ok((failed, out, bench.given()))
+    let out = bench.file("o").ok_or("there is no output")?.to_vec(alloc)?;
+    Ok((failed, out, bench.given("i")))
 }
 
 #[test]
@@ -102,13 +107,13 @@ fn no_more_is_read_than_two_frames_ahead_of_the_first_that_is_lacking(
 ) -> Result<(), Fail> {
     let alloc = rt.alloc();
     let plan = small_plan(alloc)?;
-    let file = packets(alloc, 10_000)?;
-    let (failed, stream, _) = run_to_write(alloc, &plan, &file, u64::MAX)?;
+    let input = bytes_of(alloc, &INPUT)?;
+    let (failed, stream, _) = run_to_write(alloc, &input, u64::MAX)?;
     assert!(rt; !failed, "no write fails");
     let places = frame_places(alloc, &carried_by(alloc, &stream)?)?;
     assert!(rt; places.len() > 600, "the stream has more than 600 frames");
     for nth in 1..101 {
-        let (failed, out, given) = run_to_write(alloc, &plan, &file, nth)?;
+        let (failed, out, given) = run_to_write(alloc, &input, nth)?;
         assert!(rt; failed && out.len() < stream.len(), "write {nth} fails");
         let frame = first_lacking(&places, carried_by(alloc, &out)?.len());
         assert!(rt; given <= read_by(&plan, frame), "write {nth}");
