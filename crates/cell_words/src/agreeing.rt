@@ -28,11 +28,12 @@ fn are_same(one: &[u8], other: &[u8], count: u32) -> bool
     same
 }
 
-/// Whether so many cells of a record from an address on are those of the map, word by word. `false` tells nothing of any cell:
+/// Whether so many cells of a record from an address on are those of the map of a frame, word by word. `false` tells nothing of any cell:
 /// its caller looks at them one by one. `buffer` is as long as the words of the cells, and is written to.
 pub fn agree(
     plan: &Plan,
     shape: &Shape,
+    frame_idx: u8,
     cells: &Cells<'_>,
     address: u32,
     count: u32,
@@ -44,12 +45,12 @@ pub fn agree(
     requires inside { address + count ≤ plan.now.cells }
     requires room { length buffer.old ≡ 4 * count }
     ensures same { result ≡ true → (i : ℕ) → i < count
-        → slice_get cells.now (address + i) ≡ Some (get (cell_map plan.now shape.now) (address + i)) }
+        → slice_get cells.now (address + i) ≡ Some (get (cell_map plan.now shape.now frame_idx) (address + i)) }
     ensures len { length buffer.new ≡ length buffer.old }
 {
     map_law();
     plan.obeys_rules();
-    fill_words(plan, shape, address, count, buffer);
+    fill_words(plan, shape, frame_idx, address, count, buffer);
     let words = cells.words();
     are_same(buffer, &words[4 * address as usize..], count)
 }

@@ -43,7 +43,7 @@ conf_plp_rows =
     ∷ Told 48 10 Any (λ x. x.plp_num_blocks_max)
     ∷ Told 49 8 (Only 1) (λ x. x.frame_interval)
     ∷ Told 50 8 Any (λ x. x.time_il_length)
-    ∷ Told 51 1 (Only 0) (λ x. x.time_il_type)
+    ∷ Told 51 1 (AtMost 1) (λ x. x.time_il_type)
     ∷ Told 52 1 (Only 0) (λ x. x.in_band_a_flag)
     ∷ Told 53 1 (Only 0) (λ x. x.in_band_b_flag)
     ∷ Ignored 54 11  -- RESERVED_1

@@ -5,7 +5,7 @@ ghost use Rattle.plp_config.specs.Capacity.{IsPlan};
 ghost use Rattle.plp_config.specs.Plps.{plp_at};
 ghost use Rattle.scheduler.specs.Laws.{FitsL1};
 ghost use Rattle.l1_signal.specs.Fields.{RowsFit};
-ghost use Rattle.l1_signal.specs.L1Of.{pre_of, conf_plp_of, conf_with, conf_of, dyn_plp_of, dyn_of, told_shape};
+ghost use Rattle.l1_signal.specs.L1Of.{pre_of, il_length_of, conf_plp_of, conf_with, conf_of, dyn_plp_of, dyn_of, told_shape};
 ghost use Rattle.l1_signal.specs.L1Pre.{PreFits};
 ghost use Rattle.l1_signal.specs.Numbers.{HasPreNumbers, HasPlpNumbers};
 ghost use Rattle.l1_signal.specs.L1Configurable.{conf_plp_rows, ConfFits};
@@ -73,6 +73,18 @@ pub fn pre_of(plan: &Plan) -> L1Pre
     })
 }
 
+// TIME_IL_LENGTH.
+fn time_il_length(plp: Plp) -> u8
+    requires { plp.interleave ≤ 255 }
+    ensures { result ≡ il_length_of plp }
+{
+    if plp.spread > 1 {
+        plp.spread
+    } else {
+        plp.interleave as u8
+    }
+}
+
 #[tactic(auto, unfolding(crate::specs::L1Of::conf_plp_of))]
 fn conf_plp_of(plp: Plp) -> ConfPlp
     requires blocks { plp.blocks ≤ 1023 }
@@ -94,8 +106,8 @@ fn conf_plp_of(plp: Plp) -> ConfPlp
         plp_fec_type: plp.fec.plp_fec_type(),
         plp_num_blocks_max: plp.blocks,
         frame_interval: 1,
-        time_il_length: plp.interleave as u8,
-        time_il_type: 0,
+        time_il_length: time_il_length(plp),
+        time_il_type: u8::from(plp.spread > 1),
         in_band_a_flag: 0,
         in_band_b_flag: 0,
         plp_mode: 2,

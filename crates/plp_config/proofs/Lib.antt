@@ -8,6 +8,7 @@ pub mod CapacityLemmas
 pub mod TimeLemmas
 pub mod EmissionLemmas
 pub mod RunLemmas
+pub mod SpreadLemmas
 pub mod RuleDecideLemmas
 pub mod TestDecideLemmas
 pub mod PlaceLemmas

@@ -18,13 +18,13 @@ mod values;
 
 pub use band::Band;
 pub use capacity::{CapacityFault, fits};
-pub use config::{Config, L1Numbers};
+pub use config::{Config, GREATEST_REST, L1Numbers, MOST_CELLS};
 pub use laws::{
     block_law, delay_law, emission_law, iscr_law, length_law, range_law, refusal_law, release_law,
-    run_length_law, slot_time_law,
+    run_length_law, slot_time_law, spread_law,
 };
 pub use list::{MOST_PLPS, PlpList};
-pub use moment::{MOST_FRAMES, Moment};
+pub use moment::{ISCR_TICKS, MOST_FRAMES, Moment};
 pub use plan::Plan;
 pub use plp::{
     FecSize, MOST_BLOCK_BYTES, MOST_BLOCKS, MOST_CAPACITY, MOST_FIELD_BYTES, MOST_INFO_BITS,

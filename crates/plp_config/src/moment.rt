@@ -3,6 +3,9 @@
 /// Frames of a run at most: the emissions of these fit a timestamp (`emission_law`).
 pub const MOST_FRAMES: u64 = 1 << 31;
 
+/// Ticks after which an ISCR comes again: it has 22 bits (EN 302 755, annex C).
+pub const ISCR_TICKS: u64 = 1 << 22;
+
 /// When a frame leaves: whole seconds since 2000-01-01, and subseconds of the bandwidth besides.
 #[derive(Clone, Copy, Debug, PartialEq, Eq)]
 pub struct Moment {

@@ -1,19 +1,19 @@
 // A configuration that every layer above can rely on.
-ghost use Rattle.std.specs.Prelude.{◌≡◌, ◌-◌, ◌^◌, ◌<◌, ◌≤◌, length, IfSome, IfNone};
+ghost use Rattle.std.specs.Prelude.{◌≡◌, ◌-◌, ◌%◌, ◌^◌, ◌<◌, ◌≤◌, length, IfSome, IfNone};
 ghost use Rattle.plp_config.specs.Capacity.{AllTests, Throughput, block_bytes, field_bytes, block_cells, up_bytes, capacity};
-ghost use Rattle.plp_config.specs.Capacity.{need_of};
+ghost use Rattle.plp_config.specs.Capacity.{frame_room, need_of};
 ghost use Rattle.plp_config.specs.Emission.{emission};
 ghost use Rattle.plp_config.specs.Places.{IsPlace, HasNoPlace};
-ghost use Rattle.plp_config.specs.Plps.{plp_at};
+ghost use Rattle.plp_config.specs.Plps.{plp_at, spread, spread_max};
 ghost use Rattle.plp_config.specs.Ranges.{HasRanges};
 ghost use Rattle.plp_config.specs.Rules.{AllRules};
-ghost use Rattle.plp_config.specs.SlotTime.{IsSlotLength, start, slots_by, delay, window};
+ghost use Rattle.plp_config.specs.SlotTime.{IsSlotLength, start, slots_by, epoch_ticks, delay, window};
 ghost use Rattle.plp_config.specs.Tables.{subseconds_per_second};
 
 use crate::capacity::throughput_need;
 use crate::config::Config;
 use crate::gcd::gcd;
-use crate::moment::Moment;
+use crate::moment::{ISCR_TICKS, Moment};
 use crate::plp::{MOST_BLOCK_BYTES, MOST_CAPACITY, MOST_FIELD_BYTES};
 use crate::values;
 use std::marker::Model;
@@ -116,7 +116,7 @@ impl Plan {
     {
         let num = values::num(&self.config);
         let den = values::den(&self.config, plp);
-        num.div_ceil(den) + 1 + 3 * u64::from(values::ticks(&self.config))
+        num.div_ceil(den) + 1 + 3 * values::epoch_ticks(&self.config, plp)
     }
 
     /// How many slots of a PLP a receiver holds at most.
@@ -129,6 +129,46 @@ impl Plan {
         let den = values::den(&self.config, plp);
         let ticks = self.delay(plp) + u64::from(values::ticks(&self.config));
         (ticks * den).div_ceil(num) + 2
+    }
+
+    /// The frames that carry an interleaving frame of a PLP.
+    pub fn spread(&self, plp: usize) -> u32
+        requires { plp < length self.now.plps }
+        ensures value { result ≡ spread self.now.plps plp }
+        ensures least { 1 ≤ result }
+        ensures greatest { result ≤ spread_max self.now.plps }
+        // whole interleaving frames are in a superframe
+        ensures whole { self.now.frames % result ≡ 0 }
+    {
+        u32::from(values::spread(&self.config, plp))
+    }
+
+    /// The greatest spread of all PLPs.
+    pub fn spread_max(&self) -> u32
+        ensures value { result ≡ spread_max self.now.plps }
+        ensures least { 1 ≤ result }
+        ensures greatest { result ≤ 255 }
+    {
+        u32::from(values::spread_max(&self.config))
+    }
+
+    /// The ticks of an interleaving frame of a PLP.
+    pub fn epoch_ticks(&self, plp: usize) -> u64
+        requires { plp < length self.now.plps }
+        ensures value { result ≡ epoch_ticks self.now plp }
+        ensures least { 1000 ≤ result }
+        ensures greatest { result < ISCR_TICKS }
+    {
+        values::epoch_ticks(&self.config, plp)
+    }
+
+    /// Cells that the blocks of a PLP fill in a frame, at most.
+    pub fn frame_room(&self, plp: usize) -> u32
+        requires { plp < length self.now.plps }
+        ensures value { result ≡ frame_room (plp_at self.now.plps plp) }
+        ensures greatest { result ≤ self.now.cells }
+    {
+        values::frame_room(&self.config, plp)
     }
 
     /// PLP_ID of a PLP.
@@ -169,7 +209,7 @@ impl Plan {
         values::block_cells(&self.config, plp)
     }
 
-    /// Bytes of the data fields of a frame, at most.
+    /// Bytes of the data fields of an interleaving frame, at most.
     pub fn capacity(&self, plp: usize) -> u32
         requires { plp < length self.now.plps }
         ensures value { result ≡ capacity self.now plp }
@@ -179,7 +219,7 @@ impl Plan {
         values::capacity(&self.config, plp)
     }
 
-    /// Bytes of user packets that a frame brings, rounded up; at most `capacity`.
+    /// Bytes of user packets that an interleaving frame brings, rounded up; at most `capacity`.
     pub fn need(&self, plp: usize) -> u64
         requires { plp < length self.now.plps }
         ensures value { result ≡ need_of Throughput self.now plp }

@@ -7,8 +7,8 @@ use std::fmt::Display;
 use std::process::Abort;
 use std::test::Fail;
 
-// What one row of `EDGES` changes in the small network: the ticks with the bandwidth, the sub-slices with the type of the PLP, and
-// the interleaver length with the number of blocks.
+// What one row of `EDGES` changes in the small network: the ticks with the bandwidth or with the spread, the sub-slices with the type
+// of the PLP, the interleaver length with the number of blocks or with the spread, and the spread with the frames of a superframe.
 #[derive(Clone, Copy, Debug)]
 enum Field {
     Ticks(Band),
@@ -35,12 +35,15 @@ enum Field {
     Blocks,
     Interleave(u16),
     BitRate,
+    Spread(u16),
+    Length(u8),
+    Epoch(u8),
 }
 
 // A field, the rule that limits it, the least and the greatest that this rule lets pass, and what lies beyond. The rules 10 and
-// 11 compare PLPs.
+// 11, and 18 to 20, compare PLPs.
 #[rattlefmt::skip]
-static EDGES: [(Field, u8, &[u64], &[u64]); 31] = [
+static EDGES: [(Field, u8, &[u64], &[u64]); 37] = [
     (Field::Ticks(Band::Mhz1_7), 1, &[461_267], &[461_268]),
     (Field::Ticks(Band::Mhz5), 1, &[1_428_571], &[1_428_572]),
     (Field::Ticks(Band::Mhz6), 1, &[1_714_285], &[1_714_286]),
@@ -72,6 +75,12 @@ static EDGES: [(Field, u8, &[u64], &[u64]); 31] = [
     (Field::Interleave(4), 13, &[0, 4], &[5]),
     (Field::Interleave(300), 13, &[255], &[256]),
     (Field::BitRate, 14, &[1, 72_000_000], &[0, 72_000_001]),
+    (Field::Spread(2), 15, &[1, 2], &[0, 3, 4]),
+    (Field::Spread(255), 15, &[1, 3, 5, 15, 17, 51, 85, 255], &[0, 2, 254]),
+    (Field::Length(1), 16, &[0, 1, 2], &[]),
+    (Field::Length(2), 16, &[1], &[0, 2]),
+    (Field::Epoch(2), 17, &[2_097_151], &[2_097_152]),
+    (Field::Epoch(255), 17, &[16_448], &[16_449]),
 ];
 
 fn set(config: &mut Config, plp: &mut Plp, count: &mut u16, field: Field, value: u64) {
@@ -103,6 +112,13 @@ fn set(config: &mut Config, plp: &mut Plp, count: &mut u16, field: Field, value:
         Field::Blocks => plp.blocks = short,
         Field::Interleave(blocks) => (plp.blocks, plp.interleave) = (blocks, short),
         Field::BitRate => plp.bits_per_second = word,
+        Field::Spread(frames) => {
+            (config.frames, config.ticks, plp.spread) = (frames, 1_000, byte);
+        }
+        Field::Length(spread) => (plp.spread, plp.interleave) = (spread, short),
+        Field::Epoch(spread) => {
+            (config.frames, plp.spread, config.ticks) = (u16::from(spread), spread, word);
+        }
     }
 }
 
@@ -143,6 +159,23 @@ const TYPE2: Plp = Plp { id: 2, plp_type: PlpType::Type2, ..PLP };
 #[rattlefmt::skip]
 const SLOW: Plp = Plp { id: 3, bits_per_second: 0, ..PLP };
 
+#[rattlefmt::skip]
+const COMMON: Plp = Plp { id: 9, plp_type: PlpType::Common, ..PLP };
+
+const OTHER_COMMON: Plp = Plp { id: 8, ..COMMON };
+
+#[rattlefmt::skip]
+const COMMON_OF_2: Plp = Plp { id: 10, group: 2, ..COMMON };
+
+#[rattlefmt::skip]
+const PLP_OF_2: Plp = Plp { id: 11, group: 2, ..PLP };
+
+#[rattlefmt::skip]
+const SLOWER: Plp = Plp { id: 4, bits_per_second: 400_000, ..PLP };
+
+#[rattlefmt::skip]
+const WIDE: Plp = Plp { id: 5, spread: 2, ..PLP };
+
 // PLPs, the frames of a superframe and the sub-slices, and the rule that breaks first, with its first place.
 type Several = (
     &'static str,
@@ -153,11 +186,18 @@ type Several = (
 );
 
 #[rattlefmt::skip]
-static SEVERAL: [Several; 6] = [
+static SEVERAL: [Several; 13] = [
     ("one comes twice", &[PLP, PLP], 2, 1, Some((10, Some(1)))),
     ("two come twice", &[PLP, SECOND, PLP, SECOND], 2, 1, Some((10, Some(2)))),
     ("type 1 behind type 2", &[PLP, TYPE2, SECOND], 2, 2, Some((11, Some(2)))),
     ("type 1 before type 2", &[PLP, SECOND, TYPE2], 2, 2, None),
+    ("common PLPs in front", &[COMMON, SECOND, TYPE2], 2, 2, None),
+    ("common behind type 1", &[PLP, SECOND, COMMON], 2, 1, Some((11, Some(2)))),
+    ("two common ones of a group", &[COMMON, OTHER_COMMON, PLP], 2, 1, Some((18, Some(1)))),
+    ("another rate than the common one", &[COMMON, PLP, SLOWER], 2, 1, Some((19, Some(2)))),
+    ("another spread than the common one", &[COMMON, WIDE, SECOND], 2, 1, Some((19, Some(1)))),
+    ("a common one alone in its group", &[COMMON_OF_2, COMMON, SECOND], 2, 1, Some((20, Some(0)))),
+    ("common ones of two groups", &[COMMON_OF_2, COMMON, SECOND, PLP_OF_2], 2, 1, None),
     ("10 is less than 14", &[SECOND, SLOW, SLOW], 2, 1, Some((10, Some(2)))),
     ("2 is less than 14", &[SLOW], 1, 1, Some((2, None))),
 ];

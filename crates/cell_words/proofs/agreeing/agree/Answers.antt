@@ -6,7 +6,7 @@ use Rattle.cell_words.proofs.agreeing.agree.Goals as goal
 
 pub returns-clause-same : goal.returns-clause-same
 returns-clause-same c = λ same i less.
-    agreed c.map_law.ensures.small c.args.plan.now c.args.shape.now c.args.address c.args.count i c.args.cells.now
+    agreed c.map_law.ensures.small c.args.plan.now c.args.shape.now c.args.frame_idx c.args.address c.args.count i c.args.cells.now
     c.words-words.result.now c.fill_words.new.out c.obeys_rules.ensures.plan c.requires.passes less
     (omega (arith, c.requires.inside, c.requires.all)) c.words-words.ensures.cells c.fill_words.ensures
     (c.are_same.ensures same i less ∙ ap (λ (xs : List ℕ). big_number 4 (drop (4 * i) xs))

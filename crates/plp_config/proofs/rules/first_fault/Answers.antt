@@ -1,6 +1,7 @@
 use Rattle.std.proofs.Common.{arith}
 use Rattle.plp_config.proofs.RuleLemmas.{Tried, Tried-more, Tried-all}
-use Rattle.plp_config.specs.Rules.{DistinctIds, TypeOrder, BlockLimit, InterleaverLength, BitRate}
+use Rattle.plp_config.specs.Rules.{DistinctIds, TypeOrder, BlockLimit, InterleaverLength, BitRate, SpreadDivides, SpreadLength}
+use Rattle.plp_config.specs.Rules.{EpochDuration, OneCommon, CommonRate, CommonShared}
 use Rattle.plp_config.proofs.rules.first_fault.Goals as goal
 
 pub returns : goal.returns
@@ -17,6 +18,24 @@ returns c =
     c.or-3.ensures in
     let lengths : Tried 14 n c.or-4.result = Tried-more n InterleaverLength _ _ _ _ (omega arith) (λ h. h)
     (λ h. h) blocks c.wrong_interleaver_length.ensures c.fault_at-4.ensures c.or-4.ensures in
+    let rates : Tried 15 n c.or-5.result =
+    Tried-more n BitRate _ _ _ _ (omega arith) (λ h. h) (λ h. h) lengths c.wrong_bit_rate.ensures c.fault_at-5.ensures
+    c.or-5.ensures in
+    let spreads : Tried 16 n c.or-6.result =
+    Tried-more n SpreadDivides _ _ _ _ (omega arith) (λ h. h) (λ h. h) rates c.wrong_spread.ensures c.fault_at-6.ensures
+    c.or-6.ensures in
+    let single : Tried 17 n c.or-7.result =
+    Tried-more n SpreadLength _ _ _ _ (omega arith) (λ h. h) (λ h. h) spreads c.wrong_spread_length.ensures c.fault_at-7.ensures
+    c.or-7.ensures in
+    let epochs : Tried 18 n c.or-8.result =
+    Tried-more n EpochDuration _ _ _ _ (omega arith) (λ h. h) (λ h. h) single c.wrong_epoch.ensures c.fault_at-8.ensures
+    c.or-8.ensures in
+    let commons : Tried 19 n c.or-9.result =
+    Tried-more n OneCommon _ _ _ _ (omega arith) (λ h. h) (λ h. h) epochs c.second_common.ensures c.fault_at-9.ensures
+    c.or-9.ensures in
+    let steps : Tried 20 n c.or-10.result =
+    Tried-more n CommonRate _ _ _ _ (omega arith) (λ h. h) (λ h. h) commons c.wrong_common_rate.ensures c.fault_at-10.ensures
+    c.or-10.ensures in
     Tried-all n _
-    (Tried-more n BitRate _ _ _ _ (omega arith) (λ h. h) (λ h. h) lengths c.wrong_bit_rate.ensures c.fault_at-5.ensures
-    c.or-5.ensures)
+    (Tried-more n CommonShared _ _ _ _ (omega arith) (λ h. h) (λ h. h) steps c.lone_common.ensures c.fault_at-11.ensures
+    c.or-11.ensures)

@@ -1,20 +1,36 @@
-use Rattle.std.proofs.Common.{◌≡◌, ◌≤◌, ◌<◌, ◌+◌, ◌*◌, ◌^◌, ap, ◌∙◌, arith}
-use Rattle.std.specs.Int.{div_ceil}
-use Rattle.plp_config.specs.SlotTime.{num, den, delay_ticks}
+use Rattle.std.proofs.Common.{subst, ap, ◌∙◌, arith}
+use Rattle.plp_config.specs.Capacity.{IsPlan}
+use Rattle.plp_config.specs.SlotTime.{num, den}
 use Rattle.plp_config.specs.declared.config.Config.{Config}
-use Rattle.plp_config.proofs.TimeLemmas.{window_small}
+use Rattle.plp_config.proofs.ReleaseLemmas.{window_fits}
 use Rattle.plp_config.proofs.plan.Plan.window.Goals as goal
+
+pub overflow_mul-ticks : goal.overflow_mul-ticks
+overflow_mul-ticks c =
+    let plan = c.args.self.now in
+    let same = c.self.view_is in
+    let all : IsPlan plan = subst IsPlan same c.self.invariant in
+    let fits = window_fits plan c.args.plp _ _ _ _ all.rules c.requires (c.num-num.ensures.value ∙ ap num same)
+    (c.den-den.ensures.value ∙ ap (λ (x : Config). den x c.args.plp) same)
+    (c.from.ensures ∙ c.ticks.ensures.value ∙ ap (λ (x : Config). x.ticks) same) c.delay.ensures.delay in
+    omega (arith, fits.0)
+
+pub overflow_add-result : goal.overflow_add-result
+overflow_add-result c =
+    let plan = c.args.self.now in
+    let same = c.self.view_is in
+    let all : IsPlan plan = subst IsPlan same c.self.invariant in
+    let fits = window_fits plan c.args.plp _ _ _ _ all.rules c.requires (c.num-num.ensures.value ∙ ap num same)
+    (c.den-den.ensures.value ∙ ap (λ (x : Config). den x c.args.plp) same)
+    (c.from.ensures ∙ c.ticks.ensures.value ∙ ap (λ (x : Config). x.ticks) same) c.delay.ensures.delay in
+    omega (arith, c.div_ceil.ensures, fits.1)
 
 pub returns-clause-small : goal.returns-clause-small
 returns-clause-small c =
     let plan = c.args.self.now in
     let same = c.self.view_is in
-    let n : c.num-num.result ≡ num plan = c.num-num.ensures.value ∙ ap num same in
-    let d : c.den-den.result ≡ den plan c.args.plp = c.den-den.ensures.value ∙ ap (λ (x : Config). den x c.args.plp) same in
-    let t : c.from.result ≡ plan.ticks = c.from.ensures ∙ c.ticks.ensures.value ∙ ap (λ (x : Config). x.ticks) same in
-    let late : c.delay.result ≡ delay_ticks c.num-num.result c.den-den.result c.from.result =
-    rw (n, d, t) c.delay.ensures.delay in
-    let long : 38 * c.den-den.result ≤ c.num-num.result = omega (arith, c.den-den.ensures.long, c.num-num.ensures.value) in
-    let small : div_ceil ((c.delay.result + c.from.result) * c.den-den.result) c.num-num.result + 2 < 2 ^ 20
-    = rw late (window_small c.num-num.result c.den-den.result c.from.result c.den-den.ensures.least long (omega arith)) in
-    omega (arith, c.div_ceil.ensures)
+    let all : IsPlan plan = subst IsPlan same c.self.invariant in
+    let fits = window_fits plan c.args.plp _ _ _ _ all.rules c.requires (c.num-num.ensures.value ∙ ap num same)
+    (c.den-den.ensures.value ∙ ap (λ (x : Config). den x c.args.plp) same)
+    (c.from.ensures ∙ c.ticks.ensures.value ∙ ap (λ (x : Config). x.ticks) same) c.delay.ensures.delay in
+    omega (arith, c.div_ceil.ensures, fits.1)
