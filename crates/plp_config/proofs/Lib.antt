@@ -6,6 +6,7 @@ pub mod PlpRuleLemmas
 pub mod TableLemmas
 pub mod CapacityLemmas
 pub mod TimeLemmas
+pub mod IscrLemmas
 pub mod EmissionLemmas
 pub mod RunLemmas
 pub mod SpreadLemmas

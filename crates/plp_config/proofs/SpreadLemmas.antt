@@ -1,6 +1,6 @@
 -- Interleaving frames: how many frames carry one, and the cells in each.
-use Rattle.std.proofs.Common.{◌≡◌, ℕ, zero, suc, ◌+◌, ◌*◌, ◌/◌, ◌%◌, ◌<◌, ◌≤◌, Bool, true, false, cond, List, [], ◌∷◌, ◌++◌, length, max}
-use Rattle.std.proofs.Common.{get_or, take, sum_by, refl, ap, sym, ◌∙◌, arith, inl, inr}
+use Rattle.std.proofs.Common.{◌≡◌, ℕ, zero, suc, ◌+◌, ◌*◌, ◌/◌, ◌%◌, ◌<◌, ◌≤◌, cond, List, [], ◌∷◌, ◌++◌, length, max}
+use Rattle.std.proofs.Common.{take, sum_by, ap, sym, ◌∙◌, arith, inl, inr}
 use Rattle.std.specs.Int.{div_ceil}
 use Rattle.std.proofs.Math.Nat.{div-mul-le_self, mul-le-mul_left, mul-le-mul_right, le_of_mul-le-mul_right, mul_assoc, mul_comm, mul-mod_left, add-mul}
 use Rattle.std.proofs.lemmas.Bool.{cases_lt}
@@ -9,8 +9,8 @@ use Rattle.std.proofs.lemmas.List.Sums.{sum_by-cons, get_or-le-sum_by}
 use Rattle.std.proofs.lemmas.Nat.{div-add-mod', div-mul-add, le-div}
 use Rattle.terms.proofs.NatLemmas.{cut_whole}
 use Rattle.plp_config.proofs.TimeLemmas.{div_ceil-ge}
-use Rattle.plp_config.specs.Capacity.{IsPlan, CellCount, EvenParts, cell_need, frame_room, superframe_room, block_cells, block_parts}
-use Rattle.plp_config.specs.Laws.{SpreadDividesFrames, SpreadIsGreatest, CellsInParts, RoomsFit, BlocksFit}
+use Rattle.plp_config.specs.Capacity.{IsPlan, CellCount, EvenParts, cell_need, frame_room, superframe_room, block_cells}
+use Rattle.plp_config.specs.Laws.{SpreadDividesFrames, SpreadIsGreatest, CellsInParts, RoomsFit, BlocksFit, GreatestAlone}
 use Rattle.plp_config.specs.Plps.{plp_at, no_plp, is_type2, spread, spread_max}
 use Rattle.plp_config.specs.Rules.{SpreadDivides, SuperframeLength, PlpCount}
 use Rattle.plp_config.specs.Tables.{cells_per_block}
@@ -46,6 +46,11 @@ some_reached (p ∷ plps) some = spread_max-reached p plps
 
 pub spread_greatest : SpreadIsGreatest
 spread_greatest c rules = (spread_max-ge c.plps, some_reached c.plps (rules PlpCount).0)
+
+pub greatest_alone : GreatestAlone
+greatest_alone c rules alone =
+    let one = (spread_greatest c rules).1 in
+    omega (arith, one.2, alone one.0 one.1)
 
 -- one PLP more
 spread_max_push : (plps : List Plp) (last : Plp) → spread_max (plps ++ last ∷ []) ≡ max (spread_max plps) last.spread

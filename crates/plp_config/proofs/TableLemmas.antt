@@ -1,10 +1,10 @@
 -- Facts of the tables, by computing over them.
-use Rattle.std.proofs.Common.{◌≡◌, ℕ, ◌*◌, ◌/◌, ◌%◌, ◌≤◌, Bool, true, false, cond, MatchBool, refl, lit≤, arith}
+use Rattle.std.proofs.Common.{◌≡◌, ℕ, ◌*◌, ◌/◌, ◌%◌, ◌≤◌, Bool, true, false, cond, MatchBool, refl, ap, ◌∙◌, lit≤, arith}
 use Rattle.std.specs.Int.{div_ceil}
 use Rattle.std.proofs.lemmas.Nat.{mul-le}
 use Rattle.plp_config.specs.Capacity.{block_bytes, field_bytes, block_cells, up_bytes, capacity, CellAddresses, IsPlan}
 use Rattle.plp_config.specs.Laws.{SlotLength, FrameTicks, FrameQuarter, FieldRange, BlockBits, UserPacketRange, CapacityHoldsUp}
-use Rattle.plp_config.specs.Laws.{CellsByFive, BlockChunks, EpochTicks}
+use Rattle.plp_config.specs.Laws.{CellsByFive, BlockChunks, EpochTicks, EpochAlone, SoundTimes}
 use Rattle.plp_config.specs.Plps.{plp_at, has_type2, spread}
 use Rattle.plp_config.specs.Ranges.{HasRanges}
 use Rattle.plp_config.specs.Rules.{FrameDuration, SuperframeLength, LeastCells, SubSlices, PlpCount, BlockLimit, BitRate}
@@ -165,6 +165,22 @@ epoch_ticks_range c plp rules inside = (
   omega (arith, mul-le 1 c.ticks (spread c.plps plp) c.ticks (rules SpreadDivides plp inside).0 (omega arith)),
   rules EpochDuration plp inside,
 )
+
+pub epoch_alone : EpochAlone
+epoch_alone c plp one = let e : 1 * c.ticks ≡ c.ticks = omega arith in ap (λ (s : ℕ). s * c.ticks) one ∙ e
+
+pub sound_times : SoundTimes
+sound_times c plp rules inside =
+    let slot = slot_length c plp rules inside in
+    let epoch = epoch_ticks_range c plp rules inside in
+    let frame = rules FrameDuration in
+    record {
+      some = slot.0;
+      long = omega (arith, slot.2);
+      small = slot.3;
+      least = omega (arith, epoch.0, frame.0);
+      most = epoch.1;
+    }
 
 pub frame_quarter : FrameQuarter
 frame_quarter c rules = (

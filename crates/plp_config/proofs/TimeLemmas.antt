@@ -2,7 +2,7 @@
 use Rattle.std.proofs.Common.{◌≡◌, ◌≢◌, ℕ, zero, suc, ◌+◌, ◌-◌, ◌*◌, ◌/◌, ◌%◌, ◌^◌, ◌<◌, ◌≤◌, ◌↔◌, sym, ap, ◌∙◌, arith, inl, inr}
 use Rattle.std.proofs.Math.Nat.{le-div_iff_mul-le, div-lt_iff_lt-mul, mul-le-mul_left, mul-le-mul_right, lt_of_mul-lt-mul_right}
 use Rattle.std.proofs.Math.Nat.{le_of_mul-le-mul_right, add-mul, mul_assoc}
-use Rattle.std.proofs.lemmas.Nat.{mul-le, div-add-mod'}
+use Rattle.std.proofs.lemmas.Nat.{div-add-mod'}
 use Rattle.std.proofs.lemmas.Grind.{div_ceil_times}
 use Rattle.std.proofs.lemmas.Bool.{cases_lt, cases_order}
 use Rattle.std.specs.Int.{div_ceil}
@@ -293,17 +293,6 @@ window_holds num den delay ticks tick first pos den_pos released =
     let held : (count - first) * num ≤ delay * den = held_slots num den delay tick first pos den_pos released in
     let within : count - first ≤ div_ceil ((delay + ticks) * den) num =
     le_of_mul-le-mul_right (omega (arith, add-mul delay ticks den)) pos in
-    omega arith
-
--- the numbers of a window fit 64 bits
-pub window_room : (num den epoch ticks : ℕ) → 0 < den → num < 2 ^ 38 → den < 2 ^ 33 → epoch < 2 ^ 22 → ticks ≤ epoch
-    → (delay_ticks num den epoch + ticks) * den < 2 ^ 60
-window_room num den epoch ticks pos slot thin short few =
-    let parts : (delay_ticks num den epoch + ticks) * den ≡ div_ceil num den * den + den + 3 * (epoch * den) + ticks * den =
-    omega arith in
-    let frame : ticks * den ≤ epoch * den = mul-le-mul_right den few in
-    let length : div_ceil num den * den < num + den = div_ceil-lt num den pos in
-    let most : epoch * den ≤ 2 ^ 22 * 2 ^ 33 = mul-le epoch den (2 ^ 22) (2 ^ 33) (omega arith) (omega arith) in
     omega arith
 
 -- the window of a slot that lasts 38 ticks or more, with epochs of no fewer ticks than a frame

@@ -1,5 +1,5 @@
 -- What a block holds, and whether the PLPs fit their frames.
-use Rattle.std.specs.Prelude.{◌≡◌, ℕ, ◌+◌, ◌-◌, ◌*◌, ◌/◌, ◌%◌, ◌<◌, ◌≤◌, Bool, true, false, None, length, sum_by, unwrap_or, MatchBool, List}
+use Rattle.std.specs.Prelude.{◌≡◌, ℕ, ◌+◌, ◌-◌, ◌*◌, ◌/◌, ◌%◌, ◌<◌, ◌≤◌, Bool, true, false, None, length, sum_by, unwrap_or, MatchBool}
 use Rattle.std.specs.Prelude.{IsSomeAnd, if◌then◌else◌}
 use Rattle.std.specs.Int.{div_ceil}
 use Rattle.plp_config.specs.FirstFailure.{HoldsBelow, IsFirstFailure}

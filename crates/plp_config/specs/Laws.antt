@@ -4,6 +4,7 @@ use Rattle.std.specs.Int.{div_ceil}
 use Rattle.plp_config.specs.Capacity.{block_bytes, field_bytes, block_cells, up_bytes, capacity, frame_room, AllTests, Lacks}
 use Rattle.plp_config.specs.Capacity.{IsPlan}
 use Rattle.plp_config.specs.Emission.{subseconds_by, origin, frame_subseconds, emission, FindsFrame}
+use Rattle.plp_config.specs.Places.{FramesStandAlone}
 use Rattle.plp_config.specs.Plps.{plp_at, spread, spread_max}
 use Rattle.plp_config.specs.Rules.{AllRules, Refuses}
 use Rattle.plp_config.specs.RunLength.{frame_count, IsFrameCount}
@@ -15,6 +16,7 @@ use Rattle.plp_config.specs.declared.plp.TheConstants.{MOST_FIELD_BYTES}
 use Rattle.plp_config.specs.declared.rules.ConfigFault.{ConfigFault}
 use Rattle.plp_config.specs.SlotTime.{num, den, slot_start, slot_count, InRange, iscr_slot, delay, delay_ticks, released_count}
 use Rattle.plp_config.specs.SlotTime.{window_slots, IsReleased, epoch_ticks}
+use Rattle.plp_config.specs.SlotTimes.{slot_times, AreSlotTimes}
 
 -- a slot starts before a tick
 abbrev pub StartsBefore : Type 0
@@ -170,6 +172,18 @@ FrameTicks = (c : Config) → AllRules c → (1000 ≤ c.ticks) × (c.ticks < 2 
 abbrev pub EpochTicks : Type 0
 EpochTicks = (c : Config) (plp : ℕ) → AllRules c → plp < length c.plps → (c.ticks ≤ epoch_ticks c plp)
     × (epoch_ticks c plp < 2 ^ 22)
+
+-- the numbers of a PLP are times of slots
+abbrev pub SoundTimes : Type 0
+SoundTimes = (c : Config) (plp : ℕ) → AllRules c → plp < length c.plps → AreSlotTimes (slot_times c plp)
+
+-- an interleaving frame that is carried by one frame lasts as long
+abbrev pub EpochAlone : Type 0
+EpochAlone = (c : Config) (plp : ℕ) → spread c.plps plp ≡ 1 → epoch_ticks c plp ≡ c.ticks
+
+-- if all are, no spread is greater
+abbrev pub GreatestAlone : Type 0
+GreatestAlone = (c : Config) → AllRules c → FramesStandAlone c → spread_max c.plps ≡ 1
 
 -- a superframe holds whole interleaving frames
 abbrev pub SpreadDividesFrames : Type 0

@@ -3,6 +3,7 @@ pub mod Plps
 pub mod Places
 pub mod FirstFailure
 pub mod SlotTime
+pub mod SlotTimes
 pub mod Rules
 pub mod Capacity
 pub mod Ranges

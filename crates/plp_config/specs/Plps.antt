@@ -1,5 +1,5 @@
 -- The PLPs of a configuration, by their places from 0.
-use Rattle.std.specs.Prelude.{ℕ, Bool, true, false, List, [], ◌∷◌, max, slice_index_or}
+use Rattle.std.specs.Prelude.{◌≡◌, ℕ, Bool, true, false, List, [], ◌∷◌, max, slice_index_or}
 use Rattle.std.specs.List.{list_any}
 use Rattle.plp_config.specs.declared.plp.Plp.{Plp}
 use Rattle.plp_config.specs.declared.plp.PlpType.{PlpType}
@@ -48,6 +48,10 @@ spread plps place = (plp_at plps place).spread
 unfoldable pub spread_max : List Plp → ℕ
 spread_max [] = 0
 spread_max (plp ∷ plps) = max plp.spread (spread_max plps)
+
+-- each interleaving frame of a PLP is carried by one frame
+abbrev pub StandsAlone : List Plp → ℕ → Type 0
+StandsAlone plps place = spread plps place ≡ 1
 
 -- whether a PLP is of type 2
 abbrev pub has_type2 : List Plp → Bool

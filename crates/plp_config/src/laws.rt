@@ -6,7 +6,8 @@ ghost use Rattle.plp_config.specs.Laws.{ReleasedOld, WindowHolds, EmissionTotal,
 ghost use Rattle.plp_config.specs.Laws.{FrameCountLeast, OneRuleFails, RefusalFails, RulesDecided, OneTestFails, LackFails};
 ghost use Rattle.plp_config.specs.Laws.{TestsDecided, SlotLength, FrameTicks, FrameQuarter, FieldRange, BlockBits};
 ghost use Rattle.plp_config.specs.Laws.{UserPacketRange, CapacityHoldsUp, CellsByFive, BlockChunks, EpochTicks, RoomsFit};
-ghost use Rattle.plp_config.specs.Laws.{SpreadDividesFrames, SpreadIsGreatest, CellsInParts, BlocksFit};
+ghost use Rattle.plp_config.specs.Laws.{SpreadDividesFrames, SpreadIsGreatest, CellsInParts, BlocksFit, EpochAlone, GreatestAlone};
+ghost use Rattle.plp_config.specs.Laws.{SoundTimes};
 
 /// When slots start and when they are over. A count reaches a number exactly if the end of the
 /// last slot below it is not after the tick.
@@ -79,6 +80,7 @@ pub fn length_law()
     ensures slot { SlotLength }
     ensures frame { FrameTicks }
     ensures epoch { EpochTicks }
+    ensures times { SoundTimes }
     ensures quarter { FrameQuarter }
 {}
 
@@ -86,6 +88,8 @@ pub fn length_law()
 pub fn spread_law()
     ensures frames { SpreadDividesFrames }
     ensures greatest { SpreadIsGreatest }
+    ensures alone { EpochAlone }
+    ensures greatest_alone { GreatestAlone }
     ensures parts { CellsInParts }
     ensures room { RoomsFit }
     ensures blocks { BlocksFit }

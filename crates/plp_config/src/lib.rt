@@ -14,6 +14,7 @@ mod plan;
 mod plp;
 mod plp_rules;
 mod rules;
+mod slot_times;
 mod values;
 
 pub use band::Band;
@@ -24,13 +25,14 @@ pub use laws::{
     run_length_law, slot_time_law, spread_law,
 };
 pub use list::{MOST_PLPS, PlpList};
-pub use moment::{ISCR_TICKS, MOST_FRAMES, Moment};
+pub use moment::{ISCR_TICKS, MOST_FRAMES, Moment, SUPERFRAME_PERIOD};
 pub use plan::Plan;
 pub use plp::{
     FecSize, MOST_BLOCK_BYTES, MOST_BLOCKS, MOST_CAPACITY, MOST_FIELD_BYTES, MOST_INFO_BITS,
     Modulation, Plp, PlpType, Rate,
 };
 pub use rules::{ConfigFault, Valid, validate};
+pub use slot_times::SlotTimes;
 
 #[cfg(test)]
 mod tests;

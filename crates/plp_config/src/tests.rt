@@ -1,6 +1,7 @@
 // The networks that tests change, and how they are judged.
 mod edges;
 mod figures;
+mod slots;
 
 use crate::{
     Band, CapacityFault, Config, ConfigFault, FecSize, L1Numbers, Modulation, Plan, Plp, PlpList,

@@ -3,14 +3,17 @@ ghost use Rattle.std.specs.Prelude.{◌≡◌, ◌<◌, ◌≤◌, ◌*◌, leng
 ghost use Rattle.plp_config.specs.Capacity.{block_bytes, field_bytes, block_cells, up_bytes, capacity, frame_room};
 ghost use Rattle.plp_config.specs.Emission.{frame_subseconds};
 ghost use Rattle.plp_config.specs.Places.{IsPlace, HasNoPlace};
-ghost use Rattle.plp_config.specs.Plps.{plp_at, spread, spread_max};
+ghost use Rattle.plp_config.specs.FirstFailure.{FindsFailure};
+ghost use Rattle.plp_config.specs.Plps.{plp_at, spread, spread_max, StandsAlone};
 ghost use Rattle.plp_config.specs.Rules.{AllRules};
 ghost use Rattle.plp_config.specs.SlotTime.{num, den, epoch_ticks};
+ghost use Rattle.plp_config.specs.SlotTimes.{slot_times, AreSlotTimes};
 ghost use Rattle.plp_config.specs.Tables.{subseconds_per_second, subseconds_per_tick};
 
 use crate::config::Config;
 use crate::moment::ISCR_TICKS;
 use crate::plp::{MOST_BLOCK_BYTES, MOST_BLOCKS, MOST_CAPACITY, MOST_FIELD_BYTES, Plp};
+use crate::slot_times::SlotTimes;
 
 // The duration of a frame in ticks.
 pub(crate) fn ticks(config: &Config) -> u32
@@ -75,6 +78,33 @@ pub(crate) fn frame_room(config: &Config, plp: usize) -> u32
 {
     let plp = plp_at(config, plp);
     u32::from(plp.blocks) * plp.block_cells() / u32::from(plp.spread)
+}
+
+// The first PLP with a spread above 1.
+pub(crate) fn first_spread(config: &Config) -> Option<usize>
+    requires { AllRules config.now }
+    ensures { FindsFailure (StandsAlone config.now.plps) (length config.now.plps) result }
+{
+    for plp in 0..config.plps.len() {
+        if spread(config, plp) != 1 {
+            return Some(plp);
+        }
+    }
+    None
+}
+
+// The slots of a PLP and its interleaving frames.
+pub(crate) fn slot_times(config: &Config, plp: usize) -> SlotTimes
+    requires rules { AllRules config.now }
+    requires configured { plp < length config.now.plps }
+    ensures times { result ≡ slot_times config.now plp }
+    ensures are { AreSlotTimes result }
+{
+    SlotTimes {
+        num: num(config),
+        den: den(config, plp),
+        epoch: epoch_ticks(config, plp),
+    }
 }
 
 // The ticks of an interleaving frame of a PLP.

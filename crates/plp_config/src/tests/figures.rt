@@ -102,6 +102,7 @@ static WIDE: [(Figure, u128); 15] = [
 fn figures_of_a_spread(rt: HostRuntime) -> Result<(), Fail> {
     let plan = plan(&rt, network(rt.alloc(), &[WIDE_PLP])?)?;
     has_figures(&rt, &plan, &WIDE_PLP, &WIDE);
+    assert!(rt; plan.first_spread() == Some(0));
     Ok(())
 }
 

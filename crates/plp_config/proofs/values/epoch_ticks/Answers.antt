@@ -1,4 +1,3 @@
-use Rattle.std.proofs.Common.{arith}
 use Rattle.plp_config.specs.Rules.{EpochDuration}
 use Rattle.plp_config.proofs.values.epoch_ticks.Goals as goal
 
