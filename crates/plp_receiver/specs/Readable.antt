@@ -1,5 +1,5 @@
 -- Which records of frames are readable, and what they tell (EN 302 755, clauses 5 to 8).
-use Rattle.std.specs.Prelude.{ℕ, ◌+◌, ◌-◌, ◌*◌, ◌==◌, ◌&&◌, Bool, true, false, List, length, take, replicate, slice_get}
+use Rattle.std.specs.Prelude.{ℕ, ◌+◌, ◌-◌, ◌*◌, ◌==◌, ◌&&◌, ◌||◌, not, Bool, true, false, List, length, take, replicate, slice_get}
 use Rattle.std.specs.Prelude.{slice_index, Option, Some, None, if◌then◌else◌, option_map}
 use Rattle.std.specs.Bool.{beq}
 use Rattle.std.specs.Cmp.Lexicographic.{pointwise}
@@ -11,7 +11,7 @@ use Rattle.plp_config.specs.Plps.{plp_at}
 use Rattle.plp_config.specs.declared.config.Config.{Config}
 use Rattle.scheduler.specs.Shape.{FrameShape}
 use Rattle.cell_map.specs.Address.{address_of}
-use Rattle.cell_map.specs.CellMap.{ordinal_of}
+use Rattle.cell_map.specs.CellMap.{ordinal_of, is_carried}
 use Rattle.cell_map.specs.declared.places.Cell.{Cell}
 use Rattle.l1_signal.specs.L1Configurable.{conf_read, info_size}
 use Rattle.l1_signal.specs.L1Dynamic.{dyn_read}
@@ -76,16 +76,18 @@ readable c n pre post blocks cells =
     if pre_agrees c (read_whole (pre_reading true pre)) && post_agrees c n post
     then fitting c blocks cells (option_map told_shape (told_dynamic c post)) else None
 
--- a cell stands at its address
+-- what stands at an address is the cell
 abbrev pub is_cell : ℕ → ℕ → Option (Option Cell) → Bool
 is_cell ordinal cell None = false
 is_cell ordinal cell (Some None) = false
 is_cell ordinal cell (Some (Some x)) = (x.ordinal == ordinal) && (x.cell == cell)
 
-abbrev pub stands : Config → FrameShape → List (Option Cell) → ℕ → ℕ → ℕ → Bool
-stands c shape cells plp block cell =
-    is_cell (ordinal_of shape plp block) cell (slice_get cells (address_of c shape plp block cell))
+-- a cell stands at its address, if the frame carries it
+abbrev pub stands : Config → FrameShape → ℕ → List (Option Cell) → ℕ → ℕ → ℕ → Bool
+stands c shape frame_idx cells plp block cell =
+    not (is_carried c shape frame_idx plp block cell)
+    || is_cell (ordinal_of shape plp block) cell (slice_get cells (address_of c shape frame_idx plp block cell))
 
 -- and so does each cell of a block
-abbrev pub all_stand : Config → FrameShape → List (Option Cell) → ℕ → ℕ → Bool
-all_stand c shape cells plp block = each_below (block_cells c plp) (stands c shape cells plp block)
+abbrev pub all_stand : Config → FrameShape → ℕ → List (Option Cell) → ℕ → ℕ → Bool
+all_stand c shape frame_idx cells plp block = each_below (block_cells c plp) (stands c shape frame_idx cells plp block)

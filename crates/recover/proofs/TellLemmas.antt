@@ -72,7 +72,7 @@ pub record Stand : Type 0 where
   pub taken : BlocksTaken
 
 module _ (reads : R.Reads) (stand : Stand) (c : Config) (inputs : ℕ → List (List ℕ)) (plan : IsPlan c) (types : TypesFit c)
-    (plp : ℕ) (inside : plp < length c.plps) (epoch : IsEpoch c plp c.ticks) (packets : ArePackets (packet_at (inputs plp))) where
+    (plp : ℕ) (inside : plp < length c.plps) (epoch : IsEpoch c plp (epoch_ticks c plp)) (packets : ArePackets (packet_at (inputs plp))) where
   abbrev deletes : Bool
   deletes = (plp_at c.plps plp).delete
 
@@ -90,7 +90,7 @@ module _ (reads : R.Reads) (stand : Stand) (c : Config) (inputs : ℕ → List (
     cells = R.cells reads c inputs n plan types
 
     abbrev told : List Block
-    told = told_blocks c plp c.ticks (packet_at (inputs plp)) n
+    told = told_blocks c plp (epoch_ticks c plp) (packet_at (inputs plp)) n
 
     count : slice_index shape.counts plp ≡ length bits
     count = R.counts_are reads c inputs n plan types plp inside
@@ -140,7 +140,7 @@ module _ (reads : R.Reads) (stand : Stand) (c : Config) (inputs : ℕ → List (
         (zip_numbers deletes
         (λ block b. IsGiven deletes (all_stand c shape cells plp block) (bytes_at sent (ordinal_of shape plp block)) b) bits
         told 0
-        (stand.taken c plp c.ticks (packet_at (inputs plp)) n plan inside epoch (types.ids plp inside) packets)
+        (stand.taken c plp (epoch_ticks c plp) (packet_at (inputs plp)) n plan inside epoch (types.ids plp inside) packets)
         (λ i b l t. let e : i ≡ 0 + i = omega arith in
         subst (λ (k : ℕ). IsGiven deletes (all_stand c shape cells plp k) (bytes_at sent (ordinal_of shape plp k)) (Some b)) e
         (given i l b t)))
@@ -157,7 +157,7 @@ module _ (reads : R.Reads) (stand : Stand) (c : Config) (inputs : ℕ → List (
     muted m = not (whole m)
 
     tells_record : (n : ℕ)
-        → Tells c plp n (record_of c inputs whole n) (told_record c plp c.ticks (packet_at (inputs plp)) muted n)
+        → Tells c plp n (record_of c inputs whole n) (told_record c plp (epoch_ticks c plp) (packet_at (inputs plp)) muted n)
     tells_record n = go (whole n)
       where
         go : (b : Bool) → Tells c plp n (cond b (frame_of c inputs n) (Muted (emission c n)))
@@ -167,6 +167,6 @@ module _ (reads : R.Reads) (stand : Stand) (c : Config) (inputs : ℕ → List (
 
     -- so do the records of the frames from one on
     pub tells_all : (count first : ℕ) → TellAll c plp first (map (record_of c inputs whole) (range_with_len first count))
-        (told_records c plp c.ticks (packet_at (inputs plp)) muted first count)
+        (told_records c plp (epoch_ticks c plp) (packet_at (inputs plp)) muted first count)
     tells_all zero first = tt
     tells_all (suc count) first = (tells_record first, tells_all count (first + 1))

@@ -172,5 +172,5 @@ gap_parts r z y frame sound =
 
 pub iscr_is : IscrFindsSlot → IscrOfSlot
 iscr_is law r frame slot sound range =
-    sym (iscr_found law r sound frame (slot_start r.num r.den slot % 2 ^ 22) slot
-    (sym (law r.num r.den r.ticks frame slot sound.den sound.slot sound.frame.1 range)) range.0 range.1 refl)
+    sym (iscr_found law r sound frame (slot_start r.times.num r.times.den slot % 2 ^ 22) slot
+    (sym (law r.times.num r.times.den r.times.epoch frame slot sound.times.some sound.times.long sound.times.most range)) range.0 range.1 refl)

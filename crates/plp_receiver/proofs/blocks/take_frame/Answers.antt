@@ -39,7 +39,7 @@ returns-clause-takes c =
     let behind : c.skip_blocks.new.rest ≡ drop (sum (take c.args.plp c.args.shape.now.counts)) c.args.blocks.now =
     c.skip_blocks.ensures ∙ ap (drop c.first_ordinal.result) c.iter-rest.ensures
     ∙ ap (λ (n : ℕ). drop n c.args.blocks.now) c.first_ordinal.ensures.value in
-    frame_taken c.args.plan.now c.args.plp c.args.shape.now c.args.blocks.now c.skip_blocks.new.rest c.args.cells.now
+    frame_taken c.args.plan.now c.args.plp c.frame.result c.args.shape.now c.args.blocks.now c.skip_blocks.new.rest c.args.cells.now
     c.tell_standing.new.stands c.deletes.result c.args.slots.now
     c.begin_frame.new.self c.take_blocks.new.slots c.end_frame.new.self count
     (λ k l. let same = c.tell_standing.ensures.len in c.tell_standing.ensures.each k (omega (arith, l, same)))

@@ -21,4 +21,4 @@ returns c =
       back = c.scramble_twice.ensures;
       taken = c.taken_law.ensures;
     })
-    c.readback_law.ensures.once c.length_law.ensures.slot c.frame_law.ensures c.epochs_law.ensures.readback
+    c.readback_law.ensures.once c.interleaving_law.ensures c.epochs_law.ensures.readback

@@ -1,5 +1,6 @@
 use Rattle.std.proofs.Common.{subst, sym}
 use Rattle.plp_config.specs.declared.config.Config.{Config}
+use Rattle.packet_slots.specs.StandsFor as slots
 use Rattle.plp_receiver.specs.StandsFor.{IsFresh, Fresh}
 use Rattle.plp_receiver.proofs.receiver.Receiver.open.Goals as goal
 
@@ -7,4 +8,4 @@ pub returns-clause-fresh : goal.returns-clause-fresh
 unfolding IsFresh
 returns-clause-fresh c =
     subst (λ (d : Config). Fresh d c.args.plp c.in_ok-open-2.field-0) (sym c.in_ok-open.ensures)
-    (record { rule = c.rule_of.result; rule_is = c.rule_of.ensures.is; fresh = c.in_ok-open-2.ensures.fresh })
+    (subst (slots.IsFresh c.in_ok-open-2.field-0) c.rule_of.ensures.is c.in_ok-open-2.ensures.fresh)

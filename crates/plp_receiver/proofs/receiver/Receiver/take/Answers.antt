@@ -1,6 +1,6 @@
 use Rattle.std.proofs.Common.{◌∙◌, ap, arith}
 use Rattle.plp_config.specs.SlotTime.{window_slots}
-use Rattle.packet_slots.specs.Times.{delay_of}
+use Rattle.plp_config.specs.SlotTimes.{delay_of}
 use Rattle.packet_slots.specs.declared.slot_rule.SlotRule.{SlotRule}
 use Rattle.plp_receiver.proofs.TakeLemmas.{agrees}
 use Rattle.plp_receiver.proofs.receiver.Receiver.take.Goals as goal
@@ -19,7 +19,7 @@ pub invariant_of-self : goal.invariant_of-self
 invariant_of-self c = record {
   configured = c.args.self.now.configured;
   outside = c.take_frame.ensures.outside;
-  window = ap (λ (r : SlotRule). window_slots r.num r.den (delay_of r) r.ticks) c.take_frame.ensures.rule
+  window = ap (λ (r : SlotRule). window_slots r.times.num r.times.den (delay_of r.times) r.times.epoch) c.take_frame.ensures.rule
       ∙ c.args.self.now.window;
   rows = c.args.self.now.rows;
   plps = c.args.self.now.plps;

@@ -20,7 +20,7 @@ returns-clause-becomes c = λ start events came.
     c.saturating_add-self.ensures refl refl refl
     (c.coming_by-coming.ensures.coming ∙ ap coming_by c.due.ensures.value) (c.coming_by-coming.ensures.left
     ∙ ap left_by c.due.ensures.value)
-    (λ first views packets a back. few_packets c.length_law.ensures.slot c.length_law.ensures.frame (network_of m.receiver)
+    (λ first views packets a back. few_packets c.length_law.ensures.times (network_of m.receiver)
     (plp_of m.receiver) first views packets known.0.rules known.1 a.small back) came
 
 pub returns-clause-left : goal.returns-clause-left
