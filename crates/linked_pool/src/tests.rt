@@ -62,7 +62,7 @@ impl Both {
                 Ok(fits)
             }
             Err(full) => Ok(
-                full.need == need && full.spare as usize == self.spare && need > self.spare,
+                full.need == need as u64 && full.spare == self.spare as u64 && need > self.spare,
             ),
         }
     }

@@ -4,7 +4,7 @@ use Rattle.std.specs.List.{range_with_len}
 use Rattle.std.specs.Int.{div_ceil}
 use Rattle.plp_config.specs.Capacity.{IsPlan, up_bytes, field_bytes}
 use Rattle.plp_config.specs.Plps.{plp_at}
-use Rattle.plp_config.specs.SlotTime.{slots_by}
+use Rattle.plp_config.specs.SlotTime.{slots_by, epoch_ticks}
 use Rattle.plp_config.specs.declared.config.Config.{Config}
 use Rattle.null_delete.specs.Deletion.{kept_slots, packet_at}
 use Rattle.null_delete.specs.StandsFor.{DeleterStandsFor}
@@ -30,12 +30,12 @@ pub record Holds (chain : Chain) (c : Config) (plp : ℕ) (packets : List (List 
   pub slot : chain.slot ≡ length packets
   pub deleter : DeleterStandsFor chain.deleter (plp_at c.plps plp).delete packets
   pub whole : (k : ℕ) → length (packet_at packets k) ≡ 188
-  pub sent : chain.sent ≡ sent_before (rates_of c plp c.ticks) (plp_keeps c plp (packet_at packets)) m + chain.made
+  pub sent : chain.sent ≡ sent_before (rates_of c plp (epoch_ticks c plp)) (plp_keeps c plp (packet_at packets)) m + chain.made
       * field_bytes c plp
   pub few : chain.made ≤ chain.settings.blocks
   pub rest : HoldsRest chain c plp packets
-  pub from : slots_by c plp ((m - 1) * c.ticks) ≤ length packets
-  pub to : length packets ≤ slots_by c plp (m * c.ticks)
+  pub from : slots_by c plp ((m - 1) * epoch_ticks c plp) ≤ length packets
+  pub to : length packets ≤ slots_by c plp (m * epoch_ticks c plp)
 
 -- No block is to be put yet.
 abbrev pub IsPartial : Chain → Type 0
@@ -61,7 +61,7 @@ most_blocks chain = chain.settings.blocks
 abbrev pub fresh : Config → ℕ → List Event → ℕ
 fresh c plp events =
     length (plp_string c plp (packet_at (offered events)) (length (offered events)))
-    - sent_before (rates_of c plp c.ticks) (plp_keeps c plp (packet_at (offered events))) (cuts events)
+    - sent_before (rates_of c plp (epoch_ticks c plp)) (plp_keeps c plp (packet_at (offered events))) (cuts events)
 
 -- how many data fields they fill of those that the frame may have
 abbrev pub full_fields : Config → ℕ → List Event → ℕ
@@ -81,4 +81,4 @@ full_blocks c plp at n x count =
 abbrev pub early_blocks : Config → ℕ → List Event → List (List Bool)
 early_blocks c plp events =
     full_blocks c plp (packet_at (offered events)) (length (offered events))
-    (sent_before (rates_of c plp c.ticks) (plp_keeps c plp (packet_at (offered events))) (cuts events)) (full_fields c plp events)
+    (sent_before (rates_of c plp (epoch_ticks c plp)) (plp_keeps c plp (packet_at (offered events))) (cuts events)) (full_fields c plp events)

@@ -3,6 +3,7 @@ ghost use Rattle.std.specs.Prelude.{◌≡◌, ◌<◌, ◌≤◌, ◌+◌, ◌-
 ghost use Rattle.std.specs.Prelude.{vec_len, vec_capacity, IfOk, IfErr, OnOk, OnErr, IfSome};
 ghost use Rattle.std.specs.Int.{div_ceil};
 ghost use Rattle.terms.specs.Bits.{bits_of};
+ghost use Rattle.plp_config.specs.SlotTime.{epoch_ticks};
 ghost use Rattle.plp_config.specs.Capacity.{up_bytes, field_bytes, block_bytes};
 ghost use Rattle.plp_config.specs.Plps.{plp_at};
 ghost use Rattle.plp_config.specs.declared.plp.TheConstants.{MOST_FIELD_BYTES};
@@ -272,10 +273,10 @@ impl Chain {
         ensures blocks { OnOk result ((c : Config) (plp : ℕ) (events : List Event)
             → ChainStandsFor self.old c plp events → IsDue c plp events
             → map bits_of (list_at pool.old list) ≡ early_blocks c plp events
-            → map bits_of (list_at pool.new list) ≡ blocks_of c plp c.ticks (packet_at (offered events)) (cuts events)) }
+            → map bits_of (list_at pool.new list) ≡ blocks_of c plp (epoch_ticks c plp) (packet_at (offered events)) (cuts events)) }
         ensures answer { IfOk result (λ count. (c : Config) (plp : ℕ) (events : List Event)
             → ChainStandsFor self.old c plp events → IsDue c plp events
-            → count ≡ length (blocks_of c plp c.ticks (packet_at (offered events)) (cuts events))) }
+            → count ≡ length (blocks_of c plp (epoch_ticks c plp) (packet_at (offered events)) (cuts events))) }
         ensures none_put { OnOk result ((c : Config) (plp : ℕ) (events : List Event)
             → ChainStandsFor self.old c plp events → IsDue c plp events → early_blocks c plp (events ++ Cut ∷ []) ≡ []) }
         ensures few { IfOk result (λ count. count ≤ most_blocks self.old) }
@@ -375,8 +376,8 @@ impl Chain {
         // After the cut of frame n: what has arrived by then and is not sent, less than one user packet.
         ensures after_cut { (c : Config) (plp : ℕ) (events : List Event)
             → ChainStandsFor self.now c plp (events ++ Cut ∷ []) → IsDue c plp events
-            → result ≡ arrived (rates_of c plp c.ticks) (plp_keeps c plp (packet_at (offered events))) (cuts events)
-            - sent (rates_of c plp c.ticks) (plp_keeps c plp (packet_at (offered events))) (cuts events) }
+            → result ≡ arrived (rates_of c plp (epoch_ticks c plp)) (plp_keeps c plp (packet_at (offered events))) (cuts events)
+            - sent (rates_of c plp (epoch_ticks c plp)) (plp_keeps c plp (packet_at (offered events))) (cuts events) }
         ensures few { (c : Config) (plp : ℕ) (events : List Event)
             → ChainStandsFor self.now c plp (events ++ Cut ∷ []) → IsDue c plp events → result < up_bytes c plp }
     {
