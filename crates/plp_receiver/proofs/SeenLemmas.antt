@@ -11,8 +11,8 @@ use Rattle.terms.proofs.RangeLemmas.{range_more}
 use Rattle.plp_config.specs.Capacity.{block_cells}
 use Rattle.plp_config.specs.declared.config.Config.{Config}
 use Rattle.scheduler.specs.Shape.{FrameShape}
-use Rattle.cell_map.specs.Address.{IsCell, address_of}
-use Rattle.cell_map.specs.CellMap.{Passes, ordinal_of, cell_map}
+use Rattle.cell_map.specs.Address.{IsCell, IsCarried, address_of}
+use Rattle.cell_map.specs.CellMap.{Passes, ordinal_of, is_carried, cell_map}
 use Rattle.cell_map.specs.Laws.{MapHasEachCell, MapHasOnlyCells}
 use Rattle.cell_map.specs.declared.places.Cell.{Cell}
 use Rattle.frame_tests.specs.MapTest.{each_below}
@@ -129,6 +129,14 @@ right_one ordinal cell found e =
     let yes : (ordinal == ordinal) ≡ true = eq-eqb ordinal ordinal refl in
     sym (ap (λ (t : Bool). not t || is_cell ordinal cell found) yes) ∙ e
 
+or_second : (a b : Bool) → b ≡ true → (a || b) ≡ true
+or_second true b h = refl
+or_second false b h = h
+
+if_carried : (a b : Bool) → a ≡ true → (not a || b) ≡ true → b ≡ true
+if_carried true b e h = h
+if_carried false b e h = absurd (true≢false (sym e))
+
 module _ (has : MapHasEachCell) (only : MapHasOnlyCells) (c : Config) (shape : FrameShape) (frame_idx : ℕ) (cells : List (Option Cell))
     (plp block : ℕ) (passes : Passes c shape)
     (configured : plp < length c.plps) (sent : block < get_or shape.counts plp 0) where
@@ -140,35 +148,39 @@ module _ (has : MapHasEachCell) (only : MapHasOnlyCells) (c : Config) (shape : F
 
   stands_by : all_seen c shape frame_idx cells own ≡ true → all_stand c shape frame_idx cells plp block ≡ true
   stands_by e = true_each (stands c shape frame_idx cells plp block) (block_cells c plp) (λ cell l.
-      let at : ℕ = address_of c shape plp block cell in
-      let right = each_true (right_at c shape frame_idx cells own) c.cells e at (passes.below plp block cell (there cell l)) in
-      right_one own cell (slice_get cells at)
-      (ap (λ (o : Option Cell). is_right own o (slice_get cells at)) (sym (has c shape plp block cell passes (there cell l)))
-      ∙ right))
+      let at : ℕ = address_of c shape frame_idx plp block cell in
+      bool_cases (is_carried c shape frame_idx plp block cell)
+      (λ yes.
+      let here : IsCarried c shape frame_idx plp block cell = record { there = there cell l; carried = eqb-true _ _ yes } in
+      let right = each_true (right_at c shape frame_idx cells own) c.cells e at (passes.below frame_idx plp block cell here) in
+      or_second (not (is_carried c shape frame_idx plp block cell)) (is_cell own cell (slice_get cells at))
+      (right_one own cell (slice_get cells at)
+      (ap (λ (o : Option Cell). is_right own o (slice_get cells at)) (sym (has c shape frame_idx plp block cell passes here))
+      ∙ right)))
+      (λ none. ap (λ (t : Bool). not t || is_cell own cell (slice_get cells at)) none))
 
-  right_here : all_stand c shape frame_idx cells plp block ≡ true → (at : ℕ) (o : Option Cell) → get (cell_map c shape frame_idx) at ≡ o
-      → is_right own o (slice_get cells at) ≡ true
+  right_here : all_stand c shape frame_idx cells plp block ≡ true → (at : ℕ) (o : Option Cell)
+      → get (cell_map c shape frame_idx) at ≡ o → is_right own o (slice_get cells at) ≡ true
   right_here e at None g = refl
   right_here e at (Some x) g = bool_cases (x.ordinal == own)
       (λ same.
-      let s = only c shape at x g in
+      let s = only c shape frame_idx at x g in
       let is : x.ordinal ≡ own = eqb-true x.ordinal own same in
-      let one = ordinals_apart shape.counts s.plp s.block plp block s.there.sent sent (sym s.ordinal ∙ is) in
-      let within : x.cell < block_cells c plp = subst (λ (p : ℕ). x.cell < block_cells c p) one.0 s.there.within in
-      let standing : is_cell own x.cell (slice_get cells (address_of c shape plp block x.cell)) ≡ true =
-      each_true (stands c shape frame_idx cells plp block) (block_cells c plp) e x.cell within in
-      let place : address_of c shape plp block x.cell ≡ at =
-      ap (λ (b : ℕ). address_of c shape plp b x.cell) (sym one.1) ∙ ap (λ (p : ℕ). address_of c shape p s.block x.cell)
-      (sym one.0) ∙ s.value in
+      let one = ordinals_apart shape.counts s.plp s.block plp block s.there.there.sent sent (sym s.ordinal ∙ is) in
+      let here : IsCarried c shape frame_idx plp block x.cell =
+      subst (λ (b : ℕ). IsCarried c shape frame_idx plp b x.cell) one.1
+      (subst (λ (p : ℕ). IsCarried c shape frame_idx p s.block x.cell) one.0 s.there) in
+      let standing : is_cell own x.cell (slice_get cells (address_of c shape frame_idx plp block x.cell)) ≡ true =
+      if_carried (is_carried c shape frame_idx plp block x.cell) _ (eq-eqb _ _ here.carried)
+      (each_true (stands c shape frame_idx cells plp block) (block_cells c plp) e x.cell here.there.within) in
+      let place : address_of c shape frame_idx plp block x.cell ≡ at =
+      ap (λ (b : ℕ). address_of c shape frame_idx plp b x.cell) (sym one.1)
+      ∙ ap (λ (p : ℕ). address_of c shape frame_idx p s.block x.cell) (sym one.0) ∙ s.value in
       let found : is_cell x.ordinal x.cell (slice_get cells at) ≡ true =
       ap (λ (o : ℕ). is_cell o x.cell (slice_get cells at)) is ∙ ap (λ (a : ℕ). is_cell own x.cell (slice_get cells a))
       (sym place) ∙ standing in
       or_second (not (x.ordinal == own)) (is_cell x.ordinal x.cell (slice_get cells at)) found)
       (λ other. ap (λ (t : Bool). not t || is_cell x.ordinal x.cell (slice_get cells at)) other)
-    where
-      or_second : (a b : Bool) → b ≡ true → (a || b) ≡ true
-      or_second true b h = refl
-      or_second false b h = h
 
   pub seen_stand : all_seen c shape frame_idx cells own ≡ all_stand c shape frame_idx cells plp block
   seen_stand = same_test (all_seen c shape frame_idx cells own) (all_stand c shape frame_idx cells plp block) stands_by

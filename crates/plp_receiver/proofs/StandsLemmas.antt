@@ -1,5 +1,5 @@
 -- What a receiver stands for, record by record.
-use Rattle.std.proofs.Common.{◌≡◌, ℕ, suc, ◌+◌, ◌-◌, ◌<◌, ◌≤◌, Bool, false, List, [], ◌∷◌, ◌++◌, length, Option, Some, refl, ap}
+use Rattle.std.proofs.Common.{◌≡◌, ℕ, suc, ◌+◌, ◌-◌, ◌≤◌, Bool, false, List, [], ◌∷◌, ◌++◌, length, Option, Some, refl, ap}
 use Rattle.std.proofs.Common.{sym, subst, ◌∙◌, arith}
 use Rattle.std.specs.Prelude.{slice_get, nat_lt, if◌then◌else◌}
 use Rattle.plp_config.specs.declared.config.Config.{Config}
@@ -15,9 +15,7 @@ use Rattle.packet_slots.specs.declared.slots.PacketSlots.{PacketSlots}
 use Rattle.packet_slots.specs.declared.slot_rule.SlotRule.{SlotRule}
 use Rattle.plp_receiver.specs.Readable.{readable}
 use Rattle.plp_receiver.specs.Laws.{ReadbackOnce}
-use Rattle.packet_slots.specs.Times.{over_after}
-use Rattle.plp_config.specs.Rules.{AllRules}
-use Rattle.plp_receiver.specs.StandsFor.{Stands, Fresh, slots_over, slots_come}
+use Rattle.plp_receiver.specs.StandsFor.{Stands, Fresh, slots_come}
 use Rattle.plp_receiver.specs.Taken.{slot_rule, TellsShape, Tells, TellAll, Readback}
 use Rattle.plp_receiver.specs.Taking.{Comes, TakesFrame, TakesRecord}
 

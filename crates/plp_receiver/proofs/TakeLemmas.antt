@@ -1,5 +1,5 @@
 -- Blocks that were taken, one by one.
-use Rattle.std.proofs.Common.{◌≡◌, ℕ, zero, suc, ◌+◌, ◌<◌, ◌≤◌, ◌==◌, ◌&&◌, Bool, true, false, List, [], ◌∷◌, ◌++◌, length}
+use Rattle.std.proofs.Common.{◌%◌, ◌≡◌, ℕ, zero, suc, ◌+◌, ◌<◌, ◌≤◌, ◌==◌, ◌&&◌, Bool, true, false, List, [], ◌∷◌, ◌++◌, length}
 use Rattle.std.proofs.Common.{get_or, take, drop, arith, Option, Some, None, refl, ap, sym, subst, ◌∙◌, append_assoc, append-nil}
 use Rattle.std.specs.Prelude.{slice_get, slice_index, sum}
 use Rattle.std.specs.Cmp.Lexicographic.{pointwise}
@@ -13,6 +13,7 @@ use Rattle.cell_map.specs.CellMap.{Passes, ordinal_of}
 use Rattle.cell_map.specs.declared.places.Cell.{Cell}
 use Rattle.frame_tests.specs.Laws.{MapPasses}
 use Rattle.frame_tests.specs.MapTest.{map_passes}
+use Rattle.plp_config.specs.Capacity.{IsPlan}
 use Rattle.plp_config.specs.Plps.{plp_at}
 use Rattle.plp_config.specs.declared.config.Config.{Config}
 use Rattle.scheduler.specs.Shape.{FrameShape}
@@ -94,13 +95,13 @@ pub record Agrees (c : Config) (blocks : List frame.Block) (cells : List (Option
   pub all : length cells ≡ c.cells
   pub passes : Passes c shape
 
-pub agrees : MapPasses → (c : Config) (blocks : List frame.Block) (cells : List (Option Cell)) (shape : FrameShape)
+pub agrees : MapPasses → (c : Config) (blocks : List frame.Block) (cells : List (Option Cell)) (shape : FrameShape) → IsPlan c
     → shape_agrees c blocks cells shape ≡ true → Agrees c blocks cells shape
-agrees law c blocks cells shape e =
+agrees law c blocks cells shape plan e =
     let sizes : Bool = pointwise has_size blocks (block_sizes c shape) in
     let a = and_parts (sizes && (length cells == c.cells)) (map_passes c shape) e in
     let b = and_parts sizes (length cells == c.cells) a.0 in
-    record { sizes = b.0; all = eqb-true (length cells) c.cells b.1; passes = (law c shape).0 a.1 }
+    record { sizes = b.0; all = eqb-true (length cells) c.cells b.1; passes = (law c shape plan).0 a.1 }
 
 zip_over : {B : Type 0} (R S : ℕ → B → Type 0) (a n : ℕ) (ys : List B) → ((k : ℕ) (y : B) → a ≤ k → k < a + n → R k y → S k y)
     → AllZip R (range_with_len a n) ys → AllZip S (range_with_len a n) ys

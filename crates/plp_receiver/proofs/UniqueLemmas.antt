@@ -1,9 +1,8 @@
 -- A PLP is given back one list of packets: its rule is one, and records tell one thing.
-use Rattle.std.proofs.Common.{◌≡◌, ℕ, ◌+◌, ◌/◌, ◌==◌, ◌<◌, Bool, true, false, List, [], ◌∷◌, ◌++◌, length, Option, Some, None}
+use Rattle.std.proofs.Common.{◌%◌, ◌≡◌, ℕ, ◌+◌, ◌/◌, ◌==◌, ◌<◌, Bool, true, false, List, [], ◌∷◌, ◌++◌, length, Option, Some, None}
 use Rattle.std.proofs.Common.{refl, ap, ap₂, sym, ◌∙◌, cond}
 use Rattle.std.specs.Prelude.{slice_index}
 use Rattle.std.specs.List.{AllZip, range_with_len}
-use Rattle.std.proofs.lemmas.Nat.Gcd.{same_from_IsGcd}
 use Rattle.terms.specs.Bits.{bits_of, bytes_of}
 use Rattle.bb_frame.specs.Scrambled.{scrambled}
 use Rattle.bb_frame.specs.declared.header.Header.{Header}
@@ -13,7 +12,6 @@ use Rattle.cell_map.specs.declared.places.Cell.{Cell}
 use Rattle.plp_config.specs.Capacity.{IsPlan}
 use Rattle.plp_config.specs.Laws.{SoundTimes, UserPacketRange}
 use Rattle.plp_config.specs.Plps.{plp_at}
-use Rattle.plp_config.specs.SlotTime.{num, den}
 use Rattle.plp_config.specs.declared.config.Config.{Config}
 use Rattle.scheduler.specs.Shape.{FrameShape}
 use Rattle.site_frame.specs.Record as frame
@@ -22,7 +20,6 @@ use Rattle.site_frame.specs.declared.reading.RecordView.TheVariants.{Frame, Mute
 use Rattle.packet_slots.specs.Laws as slots
 use Rattle.packet_slots.specs.Records.{Record, framed_record, readback}
 use Rattle.packet_slots.specs.Strings.{Block}
-use Rattle.packet_slots.specs.declared.slot_rule.SlotRule.{SlotRule}
 use Rattle.plp_receiver.specs.Readable.{readable, all_stand}
 use Rattle.plp_receiver.specs.Taken.{no_start, block_read, IsTaken, IsTold, IsGiven, bytes_at, TellsShape, Tells, TellAll, slot_rule}
 use Rattle.plp_receiver.specs.Taken.{Readback}

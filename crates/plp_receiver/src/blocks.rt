@@ -102,7 +102,14 @@ pub fn take_frame(
     block_law();
     plan.obeys_rules();
     let stands = &mut stands[..usize::from(shape.count(plp))];
-    tell_standing(plan, shape, plan.frame_idx(slots.frame()), plp, cells, stands);
+    tell_standing(
+        plan,
+        shape,
+        plan.frame_idx(slots.frame()),
+        plp,
+        cells,
+        stands,
+    );
     let mut rest = blocks.iter();
     skip_blocks(&mut rest, first_ordinal(shape, plp));
     slots.begin_frame();

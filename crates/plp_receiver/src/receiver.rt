@@ -10,13 +10,13 @@ ghost use Rattle.plp_config.specs.SlotTimes.{delay_of};
 
 use crate::blocks::take_frame;
 use crate::laws::readback_law;
-use crate::plp_rule::rule_of;
+use crate::plp_rule::open_slots;
 use crate::readable::is_readable;
 use bit_slice::{BitSlice, OutOfMemory};
 use frame_tests::{Network, map_test_law};
 use l1_signal::L1Dyn;
 use packet_slots::PacketSlots;
-use plp_config::{MOST_BLOCK_BYTES, Plan, spread_law};
+use plp_config::{MOST_BLOCK_BYTES, Plan};
 use scheduler::Shape;
 use site_frame::{Blocks, Cells, RecordView};
 use std::alloc::Global;
@@ -69,13 +69,12 @@ impl<'p> Receiver<'p> {
         ensures network { IfOk result (λ v. network_of v ≡ plan.now) }
         ensures plp { IfOk result (λ v. plp_of v ≡ plp) }
     {
-        spread_law();
         let count = usize::from(plan.config().plps.get(plp).unwrap().blocks);
         let plps = plan.config().plps.len() as u16;
         Ok(Receiver {
             network: Network::open(alloc, plan)?,
             plp,
-            slots: PacketSlots::open(alloc, rule_of(plan, plp))?,
+            slots: open_slots(alloc, plan, plp)?,
             dynamic: L1Dyn::open(alloc, plps)?,
             shape: Shape::open(alloc, plan)?,
             stands: vec![in alloc; false; count]?,
@@ -162,8 +161,10 @@ impl<'p> Receiver<'p> {
         ensures plp { plp_of self.new ≡ plp_of self.old }
     {
         map_test_law();
+        let plan = self.network.plan();
+        plan.obeys_rules();
         take_frame(
-            self.network.plan(),
+            plan,
             &self.shape,
             self.plp,
             blocks,

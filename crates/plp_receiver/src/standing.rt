@@ -103,7 +103,14 @@ const PIECE: u32 = 4_096;
 const PIECE_BYTES: usize = 4 * PIECE as usize;
 
 // The same of all cells of a record.
-fn see_all(plan: &Plan, shape: &Shape, frame_idx: u8, cells: &Words<'_>, first: u32, stands: &mut [bool])
+fn see_all(
+    plan: &Plan,
+    shape: &Shape,
+    frame_idx: u8,
+    cells: &Words<'_>,
+    first: u32,
+    stands: &mut [bool],
+)
     requires plps { length shape.now.counts ≡ length plan.now.plps }
     requires passes { Passes plan.now shape.now }
     requires all { length cells.now ≡ plan.now.cells }
@@ -146,7 +153,14 @@ pub fn first_ordinal(shape: &Shape, plp: usize) -> u32
 }
 
 /// Tells of each block of a PLP whether all its cells stand.
-pub fn tell_standing(plan: &Plan, shape: &Shape, frame_idx: u8, plp: usize, cells: &Words<'_>, stands: &mut [bool])
+pub fn tell_standing(
+    plan: &Plan,
+    shape: &Shape,
+    frame_idx: u8,
+    plp: usize,
+    cells: &Words<'_>,
+    stands: &mut [bool],
+)
     requires plps { length shape.now.counts ≡ length plan.now.plps }
     requires passes { Passes plan.now shape.now }
     requires all { length cells.now ≡ plan.now.cells }

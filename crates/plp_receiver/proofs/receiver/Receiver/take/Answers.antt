@@ -1,4 +1,5 @@
-use Rattle.std.proofs.Common.{◌∙◌, ap, arith}
+use Rattle.std.proofs.Common.{◌∙◌, ap, subst, arith}
+use Rattle.plp_config.specs.Capacity.{IsPlan}
 use Rattle.plp_config.specs.SlotTime.{window_slots}
 use Rattle.plp_config.specs.SlotTimes.{delay_of}
 use Rattle.packet_slots.specs.declared.slot_rule.SlotRule.{SlotRule}
@@ -9,7 +10,8 @@ pub take_frame-requires-clause-count : goal.take_frame-requires-clause-count
 take_frame-requires-clause-count c =
     let v = c.args.self.now in
     let most =
-    (agrees c.map_test_law.ensures v.network c.args.blocks.now c.args.cells.now v.shape c.requires.agrees).passes.counts v.plp
+    (agrees c.map_test_law.ensures v.network c.args.blocks.now c.args.cells.now v.shape
+    (subst IsPlan c.plan-plan.ensures c.obeys_rules.ensures.plan) c.requires.agrees).passes.counts v.plp
     v.configured in
     let flags = v.flags in
     let room = c.deref_mut.ensures.len in
