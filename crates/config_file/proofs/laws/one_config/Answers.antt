@@ -1,4 +1,4 @@
-use Rattle.config_file.proofs.LawLemmas.{ConfigLaws, config_once, plan_once}
+use Rattle.config_file.proofs.LawLemmas.{ConfigLaws, config_once, plan_once, alone_once}
 use Rattle.config_file.proofs.laws.one_config.Goals as goal
 
 pub returns : goal.returns
@@ -12,4 +12,4 @@ returns c =
       one_test = c.refusal_law.ensures.one_test;
       tests_fail = c.refusal_law.ensures.tests_fail;
     } in
-    record { config = config_once below; plan = plan_once below }
+    record { config = config_once below; plan = plan_once below; alone = alone_once below }
