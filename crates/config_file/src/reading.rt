@@ -97,11 +97,7 @@ fn alone_of(plan: Plan) -> Result<Plan, ConfigStop>
 }
 
 /// Reads a plan as [`read_plan`] does, and then looks whether its frames stand alone: `NotBuilt` if they do not.
-pub fn read_alone_plan<D: Desk>(
-    alloc: Global,
-    name: &str,
-    desk: &mut D,
-) -> Result<Plan, ConfigStop>
+pub fn read_alone_plan<D: Desk>(alloc: Global, name: &str, desk: &mut D) -> Result<Plan, ConfigStop>
     ensures ok { IfOk result (λ plan. Gives (D.state desk.old) (D.state desk.new) name.now plan × IsPlan plan × FramesStandAlone plan) }
     ensures err { IfErr result (GivesNoAlone (D.state desk.old) (D.state desk.new) name.now) }
 {
