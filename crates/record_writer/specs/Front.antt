@@ -20,6 +20,10 @@ front_bytes c moment dynamic blocks rest =
     ++ (bytes_of (l1_pre c) ++ ((big_bytes 4 (length (post_with c dynamic)) ++ bytes_of (post_with c dynamic))
     ++ big_bytes 2 blocks))
 
+-- the bits of a dynamic part (clause 7.2.3.2)
+abbrev pub dyn_len : Config → ℕ
+dyn_len c = 79 + 48 * length c.plps
+
 -- the most bits of a configurable and of a dynamic part, with 255 PLPs (clauses 7.2.3.1 and 7.2.3.2)
 abbrev pub most_conf : ℕ
 most_conf = 102 + 89 * 255

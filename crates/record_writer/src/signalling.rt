@@ -92,7 +92,7 @@ fn put_fitting<S: BitSink>(sink: &mut S, bits: BitSlice<'_>)
     requires { HasRoom (S.state sink.old) (length bits) }
     ensures { Puts (S.state sink.old) (S.state sink.new) bits.entry }
 {
-    let _ = sink.put_slice(bits);
+    sink.put_slice(bits).unwrap();
 }
 
 // Puts the CRC-32 of all that was put through, for which there is room.
@@ -101,10 +101,7 @@ fn with_crc<const N: usize>(sink: CrcSink<FixedBits<N>>) -> FixedBits<N>
     requires below { sink.below ≡ [] ∷ [] }
     ensures { result ≡ crc_behind true sink.entry.written }
 {
-    match sink.finish() {
-        Ok(bits) => bits,
-        Err((bits, _)) => bits,
-    }
+    sink.finish().unwrap()
 }
 
 // L1-pre with its CRC_32.
@@ -114,7 +111,7 @@ fn pre_with_crc(plan: &Plan) -> FixedBits<PRE>
 {
     pre_law();
     let mut sink = CrcSink::new(FixedBits::<PRE>::new());
-    let _ = write_pre(&mut sink, &pre_of(plan));
+    write_pre(&mut sink, &pre_of(plan)).unwrap();
     with_crc(sink)
 }
 
