@@ -11,7 +11,7 @@ ghost use Rattle.l1_signal.specs.Numbers.{HasPreNumbers, HasPlpNumbers};
 ghost use Rattle.l1_signal.specs.L1Configurable.{conf_plp_rows, ConfFits};
 ghost use Rattle.l1_signal.specs.L1Dynamic.{DynFits};
 
-use crate::{ConfPlp, DynPlp, L1Conf, L1Dyn, L1Pre, PlpRows};
+use crate::{ConfPlp, DynPlp, INFO_BITS, L1Conf, L1Dyn, L1Pre, PLP_BITS, PlpRows};
 use bit_slice::OutOfMemory;
 use plp_config::{FecSize, Modulation, Plan, Plp, PlpType, Rate};
 use scheduler::Shape;
@@ -55,7 +55,7 @@ pub fn pre_of(plan: &Plan) -> L1Pre
         l1_cod: l1.l1_cod,
         l1_fec_type: l1.l1_fec,
         l1_post_size: l1.post_size,
-        l1_post_info_size: 181 + 137 * config.plps.len() as u32,
+        l1_post_info_size: (INFO_BITS + PLP_BITS * config.plps.len()) as u32,
         pilot_pattern: l1.pilot,
         tx_id_availability: l1.tx_id,
         cell_id: config.cell_id,

@@ -69,6 +69,13 @@ impl Pool {
         })
     }
 
+    /// Each chunk is free or has a part of a block. It does nothing.
+    pub fn stays_whole(&self)
+        ensures { IsWhole self.now }
+    {
+        let _ = &self.chains;
+    }
+
     /// How many chunks are free.
     pub fn spare(&self) -> u32
         ensures value { result ≡ self.now.spare }

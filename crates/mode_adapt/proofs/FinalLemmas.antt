@@ -25,7 +25,7 @@ use Rattle.mode_adapt.specs.Blocks.{rates_of, plp_keeps, plp_string, first_up, w
 use Rattle.mode_adapt.specs.Events.{Event, Offered, Cut, offered, cuts}
 use Rattle.mode_adapt.specs.Laws.{WithinLaw, BacklogLaw}
 use Rattle.mode_adapt.specs.Pieces.{piece_of}
-use Rattle.mode_adapt.specs.Queue.{arrived, sent, sent_before}
+use Rattle.mode_adapt.specs.Queue.{arrived, sent_before}
 use Rattle.mode_adapt.specs.StandsFor.{Holds, full_blocks, early_blocks, IsPartial}
 use Rattle.mode_adapt.specs.Steps.{HasSpace, IsFull, Puts}
 use Rattle.mode_adapt.proofs.KeptLemmas.{kept_le}

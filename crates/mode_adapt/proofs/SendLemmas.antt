@@ -26,7 +26,7 @@ use Rattle.mode_adapt.proofs.OfferLemmas.{length-up}
 header_same : (s : Settings) (c : Config) (plp x len : ℕ) (up : Option (ℕ × ℕ)) → AreSettings s c plp → header_by s x len up
     ≡ header_at c plp x len up
 header_same s c plp x len None a = rw (a.matype1, a.matype2) refl
-header_same s c plp x len (Some up) a = rw (a.matype1, a.matype2, a.starts up.1) refl
+header_same s c plp x len (Some up) a = rw (a.matype1, a.matype2, a.times) refl
 
 -- a frame by equal parts
 pub frame_same : (h g : Header) (a b : List Bool) (m n : ℕ) → h ≡ g → a ≡ b → m ≡ n → frame_bits h a m ≡ frame_bits g b n
