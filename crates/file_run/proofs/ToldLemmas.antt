@@ -7,8 +7,8 @@ use Rattle.ports.specs.Desk.{State, SameCounts, Keeps}
 use Rattle.desk_io.specs.Faults.{ReadsFail, WritesFail}
 use Rattle.desk_io.specs.Reading.{Reading, given_of, longest_file}
 use Rattle.file_run.specs.Events.{Event, fed}
-use Rattle.file_run.specs.Steps.{FallsShort}
-use Rattle.file_run.specs.Telling.{Reaches, Tells, TellsAll, TellsTooMuch, ReadsFailFirst, StopsTelling}
+use Rattle.file_run.specs.Steps.{Needs, FallsShort}
+use Rattle.file_run.specs.Telling.{Tells, TellsAll, TellsTooMuch, ReadsFailFirst, StopsTelling}
 use Rattle.file_run.specs.TellingOn.{Telling, Finishes, Breaks, TellsLast}
 use Rattle.file_run.specs.declared.machine.Step.{Step}
 use Rattle.file_run.specs.declared.stop.RunFault.{RunFault}
@@ -127,14 +127,14 @@ told_at Came next start now name machine r most same t =
 -- a run over a file that is too long
 too_much : {A : Type 0} (Came : List Event → A → Type 0) (next : A → Step) (start now : State) (name : List ℕ) (machine : A)
     (r : Reading) → given_of r ≡ longest_file → (t : Telling Came next start now name machine r [])
-    → Reaches (next machine) 0 (length r.waiting) → SameCounts start now → TellsTooMuch Came next start now name machine
+    → Needs (next machine) 0 (length r.waiting) → SameCounts start now → TellsTooMuch Came next start now name machine
 unfolding tells_of
 too_much Came next start now name machine r same t wants calm =
     let told : (x : Tells Came next start now name machine longest_file []) × (x.events ≡ t.events) =
     told_at Came next start now name machine r longest_file same t in
     record {
       tells = told.0;
-      wants = subst (λ (n : ℕ). Reaches (next machine) 0 n) (waits Came next start now name machine r [] t
+      wants = subst (λ (n : ℕ). Needs (next machine) 0 n) (waits Came next start now name machine r [] t
           ∙ (let e = ap (λ (l : List Event). length (fed 0 l)) told.1 in omega (arith, e, same))) wants;
       counts = calm;
     }

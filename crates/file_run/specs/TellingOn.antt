@@ -6,12 +6,12 @@ use Rattle.desk_io.specs.Faults.{ReadsFail, WritesFail}
 use Rattle.desk_io.specs.Reading.{Reading, given_of, rest_of, longest_file}
 use Rattle.file_run.specs.Events.{Event, fed, has_ended, gave}
 use Rattle.file_run.specs.Running.{IsRead}
-use Rattle.file_run.specs.Telling.{StartsWith, Reaches}
+use Rattle.file_run.specs.Telling.{StartsWith, MayWait}
 use Rattle.file_run.specs.declared.machine.Step.{Step}
 use Rattle.file_run.specs.declared.machine.Step.TheVariants.{Give, End}
 use Rattle.file_run.specs.declared.stop.RunFault.{RunFault}
 use Rattle.file_run.specs.declared.stop.RunFault.TheVariants.{TooLong, ReadFault, WriteFault}
-use Rattle.file_run.specs.Steps.{FallsShort}
+use Rattle.file_run.specs.Steps.{Needs, FallsShort}
 
 -- All that waited, or nothing, was said.
 abbrev pub GivesWay : State → State → List ℕ → List ℕ → Type 0
@@ -38,6 +38,7 @@ pub record Telling {A : Type 0} (Came : List Event → A → Type 0) (next : A �
   pub reads : (h : Held) → start.held ≡ Some h → IsRead (bytes_of h.files name) (rest_of now r) (fed 0 events)
       (has_ended 0 events)
   pub first : (h : Held) → start.held ≡ Some h → StartsWith (bytes_of h.files name) (fed 0 early) (has_ended 0 early)
+  pub waits : MayWait (gave early) unsaid events
 
 -- A run was begun in which no call failed.
 pub record HasBegun {A : Type 0} (Becomes : A → List Event → A → Type 0) (next : A → Step) (inputs : A → ℕ) (now : State)
@@ -58,7 +59,7 @@ pub record Finishes {A : Type 0} (next : A → Step) (old new : State) (machine 
 -- The machine has not come to its end, or not all that it gave could be said, by cause.
 abbrev pub Breaks : {A : Type 0} → (A → Step) → State → State → A → Reading → RunFault → Type 0
 Breaks next old new machine r (TooLong input) = (input ≡ 0) × (given_of r ≡ longest_file)
-    × Reaches (next machine) 0 (length r.waiting) × SameCounts old new
+    × Needs (next machine) 0 (length r.waiting) × SameCounts old new
 Breaks next old new machine r (ReadFault input) = (input ≡ 0) × (given_of r < longest_file)
     × FallsShort (next machine) 0 (length r.waiting) × ReadsFail old new
 Breaks next old new machine r WriteFault = (given_of r < longest_file) × WritesFail old new
