@@ -10,7 +10,7 @@ use Rattle.desk_io.specs.declared.page.TheConstants.{PAGE}
 use Rattle.file_run.specs.Events.{Event, Gave, fed, has_ended, gave}
 use Rattle.file_run.specs.FileRun.{IsFed}
 use Rattle.file_run.specs.Running.{IsTaken, Feeds, Gathers, reading_from}
-use Rattle.file_run.specs.Telling.{StartsWith, HadRoom, MayWait, Tells}
+use Rattle.file_run.specs.Telling.{StartsWith, SaidPages, HadRoom, MayWait, Tells}
 use Rattle.file_run.specs.Steps.{Needs, FallsShort}
 use Rattle.file_run.specs.declared.machine.TheConstants.{PIECE}
 use Rattle.file_run.specs.declared.machine.Step.{Step}
@@ -50,6 +50,7 @@ fed_since said events e none h = record {
   waiting = h.waiting;
   waited = h.waited;
   room = h.room;
+  pages = h.pages;
 }
 
 still_waits : (said unsaid : List ℕ) (events : List Event) (e : Event)
@@ -97,8 +98,10 @@ grown Becomes next begin old new start now name r waiting left g room few t goin
           waiting = waiting;
           waited = t.parts;
           room = room;
+          pages = t.pages;
         });
       };
+      pages = t.pages;
     }
 
 -- If nothing waits, all that the machine gave so far is said.
@@ -123,6 +126,7 @@ caught_up Came next machine start now name r t = record {
   reads = t.reads;
   first = λ h told. let rest = t.reads h told in (rest.left, rest.parts, rest.end);
   waits = none_waits (gave t.events) t.events;
+  pages = subst (λ (l : List ℕ). SaidPages l) (sym (t.parts ∙ append-nil (gave t.early))) t.pages;
 }
 
 still_going : {A : Type 0} (next : A → Step) (mid : A) (early : List Event) (x : ℕ) (xs : List ℕ) → (x ∷ xs ≡ [])
@@ -142,11 +146,11 @@ page_grown Becomes next begin old new start now name r (x ∷ xs) left g room fe
     grown Becomes next begin old new start now name r (x ∷ xs) left g room few t
     (still_going next t.mid t.early x xs t.going)
 
--- All that waited was said.
-unfoldable pub all_said : {A : Type 0} (Came : List Event → A → Type 0) (next : A → Step) (machine : A) (start was is : State)
-    (name : List ℕ) (r : Reading) (waiting : List ℕ) → Says was is waiting
+-- All that waited was said, since there was no room behind it.
+all_said : {A : Type 0} (Came : List Event → A → Type 0) (next : A → Step) (machine : A) (start was is : State)
+    (name : List ℕ) (r : Reading) (waiting : List ℕ) → Says was is waiting → PAGE < length waiting + PIECE
     → Telling Came next start was name machine r waiting → Telling Came next start is name machine r []
-all_said Came next machine start was is name r waiting says t = record {
+all_said Came next machine start was is name r waiting says full t = record {
   events = t.events;
   came = t.came;
   early = t.events;
@@ -166,6 +170,7 @@ all_said Came next machine start was is name r waiting says t = record {
   reads = λ h told. read_same _ _ _ _ _ _ _ (rest_kept was is r says.held says.opened) refl refl (t.reads h told);
   first = λ h told. let rest = t.reads h told in (rest.left, rest.parts, rest.end);
   waits = none_waits (gave t.events) t.events;
+  pages = inr (gave t.early, waiting, t.parts, full);
 }
 
 -- Nothing but counts changed.
@@ -186,6 +191,7 @@ telling_kept Came next machine start was is name r page keeps t = record {
   ended = t.ended;
   first = t.first;
   waits = t.waits;
+  pages = t.pages;
   said = keeps.said ∙ t.said;
   opened = keeps.opened ∙ t.opened;
   created = keeps.created ∙ t.created;
@@ -197,13 +203,13 @@ telling_kept Came next machine start was is name r page keeps t = record {
 pub room_made : {A : Type 0} (Came : List Event → A → Type 0) (next : A → Step) (machine : A) (start was is : State)
     (name : List ℕ) (r : Reading) (waiting left : List ℕ) → GivesWay was is waiting left
     → Telling Came next start was name machine r waiting → Telling Came next start is name machine r left
-unfolding all_said telling_kept
+unfolding telling_kept
 room_made Came next machine start was is name r waiting left (inl kept) t =
     subst (λ (l : List ℕ). Telling Came next start is name machine r l) (sym kept.1)
     (telling_kept Came next machine start was is name r waiting kept.0 t)
 room_made Came next machine start was is name r waiting left (inr said) t =
     subst (λ (l : List ℕ). Telling Came next start is name machine r l) (sym said.1)
-    (all_said Came next machine start was is name r waiting said.0 t)
+    (all_said Came next machine start was is name r waiting said.0 said.2 t)
 
 -- The machine was fed.
 pub telling_fed : {A : Type 0} (Becomes : A → List Event → A → Type 0) (next : A → Step) (begin old new : A)
@@ -231,6 +237,7 @@ telling_fed Becomes next begin old new start was is name r s input page zero on 
       reads = λ h told. read_here f.event _ 0 f.count _ _ t.events taken (t.reads h told);
       first = t.first;
       waits = still_waits (gave t.early) page t.events f.event (λ after. gives_none f.event 0 f.count _ _ after taken) t.waits;
+      pages = t.pages;
     }
 
 -- The file was read on, and the machine was not fed.
@@ -256,6 +263,7 @@ telling_read Came next machine start was is name r s page on none t = record {
   reads = λ h told. read_same _ _ _ _ _ _ _ none.rest refl refl (t.reads h told);
   first = t.first;
   waits = t.waits;
+  pages = t.pages;
 }
 
 same_left : (o : Option (List ℕ)) → option_map (λ left. [] ++ left) o ≡ o
@@ -294,6 +302,7 @@ telling_first Came next machine old new name handle r page o is none came = reco
       };
   first = λ h told. (bytes_of h.files name, refl, λ on. absurd (let z : false ≡ true = on in cc));
   waits = record { few = (let n = ap length none in omega (arith, n)); since = inl none };
+  pages = inl refl;
 }
 
 -- what a run has told
@@ -315,6 +324,35 @@ tells_of Came next machine old new name r unsaid t = record {
       (ap (λ (n : ℕ). n + length r.waiting) t.taken) (t.reads h told));
   first = some_is old.held (λ h. StartsWith (bytes_of h.files name) (fed 0 t.early) (has_ended 0 t.early)) t.first;
   waits = t.waits;
+}
+
+-- what a run has told, and then all that was left
+unfoldable pub tells_all : {A : Type 0} (Came : List Event → A → Type 0) (next : A → Step) (machine : A) (start was is : State)
+    (name : List ℕ) (r : Reading) (page : List ℕ) → Says was is page → Telling Came next start was name machine r page
+    → Tells Came next start is name machine (given_of r) []
+tells_all Came next machine start was is name r page says t = record {
+  events = t.events;
+  came = t.came;
+  early = t.events;
+  mid = machine;
+  met = t.came;
+  parts = sym (append-nil (gave t.events));
+  going = inl refl;
+  said = says.said ∙ ap (option_map (λ said. said ++ page)) t.said ∙ append_twice start.said (gave t.early) page
+      ∙ ap (λ (l : List ℕ). option_map (λ said. said ++ l) start.said) (sym t.parts);
+  opened = record {
+    present = t.present;
+    held = says.held ∙ t.held;
+    opened = says.opened ∙ t.opened;
+    created = says.created ∙ t.created;
+  };
+  inputs = some_is start.held (λ h. IsFed (bytes_of h.files name) (given_of r) (fed 0 t.events) (has_ended 0 t.events))
+      (λ h told.
+      is_fed (bytes_of h.files name) r.waiting (fed 0 t.events) (left_of was r.handle) (has_ended 0 t.events) (given_of r)
+      (ap (λ (n : ℕ). n + length r.waiting) t.taken) (t.reads h told));
+  first = some_is start.held (λ h. StartsWith (bytes_of h.files name) (fed 0 t.events) (has_ended 0 t.events))
+      (λ h told. let rest = t.reads h told in (rest.left, rest.parts, rest.end));
+  waits = none_waits (gave t.events) t.events;
 }
 
 -- the one input

@@ -20,8 +20,12 @@ use Rattle.file_run.specs.declared.stop.RunFault.TheVariants.{TooLong, ReadFault
 abbrev pub StartsWith : List ℕ → List ℕ → Bool → Type 0
 StartsWith bytes front ended = (more : List ℕ) × (bytes ≡ front ++ more) × (ended ≡ true → more ≡ [])
 
+-- Nothing was said, or last a page on which there was no room for a piece.
+abbrev pub SaidPages : List ℕ → Type 0
+SaidPages said = (said ≡ []) ⊎ ((earlier : List ℕ) × (page : List ℕ) × (said ≡ earlier ++ page) × (PAGE < length page + PIECE))
+
 -- When the machine gave for the last time, so little waited that there was room for a piece: of what is not said, nothing was to be
--- said before it.
+-- said before it. And nothing was said before it was to be.
 pub record HadRoom (said : List ℕ) (events : List Event) : Type 0 where
   pub before : List Event
   pub piece : List ℕ
@@ -31,6 +35,7 @@ pub record HadRoom (said : List ℕ) (events : List Event) : Type 0 where
   pub waiting : List ℕ
   pub waited : gave before ≡ said ++ waiting
   pub room : length waiting + PIECE ≤ PAGE
+  pub pages : SaidPages said
 
 -- What is not said is no more than may wait.
 pub record MayWait (said unsaid : List ℕ) (events : List Event) : Type 0 where
@@ -72,7 +77,8 @@ pub record TellsTooMuch {A : Type 0} (Came : List Event → A → Type 0) (next 
   pub counts : SameCounts old new
 
 -- The file could not be read on, and the machine wants more than was read. What it gave was said then, unless that failed too: then
--- no more is lost than may wait (`waits`), so nothing of it was to be said before the file failed.
+-- no more is lost than may wait (`waits`), so nothing of it was to be said before the file failed. Nor was it tried: what is said
+-- before it is to be would end a page too soon.
 pub record TellsUntilFault {A : Type 0} (Came : List Event → A → Type 0) (next : A → Step) (old new : State) (name : List ℕ)
     (now : A) : Type 0 where
   pub place : ℕ
@@ -80,7 +86,7 @@ pub record TellsUntilFault {A : Type 0} (Came : List Event → A → Type 0) (ne
   pub tells : Tells Came next old new name now place unsaid
   pub wants : FallsShort (next now) 0 (place - length (fed 0 tells.events))
   pub short : place < longest_file
-  pub all : ((unsaid ≡ []) × (new.counts.writes ≡ old.counts.writes)) ⊎ Rose old.counts.writes new.counts.writes
+  pub all : ((unsaid ≡ []) × (new.counts.writes ≡ old.counts.writes)) ⊎ ((unsaid ≢ []) × Rose old.counts.writes new.counts.writes)
 
 -- The count of reading rose, before that of writing did, if it did; that of last lines stayed.
 pub record ReadsFailFirst (old new : State) : Type 0 where
