@@ -5,7 +5,7 @@ use Rattle.site_top.proofs.SurvivorLemmas.{holds_records, stops_with}
 use Rattle.site_top.proofs.modulate.modulate.Goals as goal
 
 pub run-requires : goal.run-requires
-run-requires g c = record { alone = c.in-Ok.ensures.ok.1.1; apart = other_name c.args.input.now c.args.out.now c.requires }
+run-requires g c = record { apart = other_name c.args.input.now c.args.out.now c.requires }
 
 pub returns-in-Ok-run : goal.returns-in-Ok-run
 returns-in-Ok-run g c =
