@@ -30,6 +30,7 @@ use Rattle.cell_map.specs.declared.places.Cell.{Cell}
 use Rattle.l1_signal.specs.L1Of.{pre_of, post_bits}
 use Rattle.l1_signal.specs.L1Pre.{pre_bits}
 use Rattle.l1_signal.specs.Laws.{PreBitsLength, PostLength}
+use Rattle.l1_signal.specs.Lengths.{post_len}
 use Rattle.mode_adapt.specs.Blocks.{block_bits, block_places, plp_keeps, rates_of, plp_blocks}
 use Rattle.mode_adapt.specs.Laws.{CountLaw}
 use Rattle.mode_adapt.specs.Queue.{sent, sent_before}
@@ -37,7 +38,7 @@ use Rattle.null_delete.specs.Deletion.{packet_at}
 use Rattle.site_frame.specs.Record.{Block, FitsBlock, FitsCell}
 use Rattle.site_frame.specs.Whole.{FitsRecord}
 use Rattle.frame_records.specs.Frames.{frame_shape, sent_block, sent_blocks, frame_cells, l1_pre, frame_of, HasByteIds}
-use Rattle.frame_records.specs.Laws.{IsSentBlock, blocks_size, post_len, FewBlocks, EveryFrameFits, MutedFits, FrameFits}
+use Rattle.frame_records.specs.Laws.{IsSentBlock, blocks_size, FewBlocks, EveryFrameFits, MutedFits, FrameFits}
 use Rattle.frame_records.specs.Laws.{RecordsFit}
 use Rattle.frame_records.specs.Records.{numbers_from, record_of}
 use Rattle.frame_records.proofs.RecordLemmas.{found}
@@ -141,7 +142,7 @@ unfolding longest_rest
 few_blocks field c shape is len passes =
     let blocks = few_for field c shape.counts c.plps 0 len (λ i lt. let e : i ≡ 0 + i = omega arith in
     ap (plp_at c.plps) e) passes.counts in
-    let rest : 35 + div_ceil (213 + 137 * length c.plps) 8 + 4 * c.cells + sum_by block_room c.plps ≤ GREATEST_REST =
+    let rest : 35 + div_ceil (post_len (length c.plps)) 8 + 4 * c.cells + sum_by block_room c.plps ≤ GREATEST_REST =
     is.tests RecordLength in
     omega (arith, blocks, rest)
 
@@ -211,8 +212,8 @@ every_frame_fits bits emits field cells c n frame_idx post blocks shape is small
     let count : sum shape.counts ≤ 38000 = few_blocks field c shape is len passes in
     let addresses : length (frame_cells c shape frame_idx) ≡ c.cells = cells_count c shape frame_idx in
     let pre = length-l1_pre bits c in
-    let rest : 35 + div_ceil (post_len c) 8 + 4 * c.cells + sum_by block_room c.plps ≤ GREATEST_REST = is.tests RecordLength in
-    let bytes : bytes_for (length post) ≤ div_ceil (post_len c) 8 = omega (arith, short) in
+    let rest : 35 + div_ceil (post_len (length c.plps)) 8 + 4 * c.cells + sum_by block_room c.plps ≤ GREATEST_REST = is.tests RecordLength in
+    let bytes : bytes_for (length post) ≤ div_ceil (post_len (length c.plps)) 8 = omega (arith, short) in
     record {
       moment = (omega (arith, moment), omega (arith, moment));
       rest = record {

@@ -20,10 +20,11 @@ use Rattle.plp_config.specs.Places.{places}
 use Rattle.cell_map.specs.CellMap.{cell_map}
 use Rattle.scheduler.specs.Shape.{FrameShape}
 use Rattle.l1_signal.specs.Laws.{PostLength}
+use Rattle.l1_signal.specs.Lengths.{post_len}
 use Rattle.site_frame.specs.Whole.{block_size}
 use Rattle.site_frame.specs.Record.{head_len, pre_len}
 use Rattle.frame_records.specs.Frames.{sent_block, sent_blocks, frame_cells, frame_shape}
-use Rattle.frame_records.specs.Laws.{blocks_size, post_len, FrameLength}
+use Rattle.frame_records.specs.Laws.{blocks_size, FrameLength}
 use Rattle.bb_frame.specs.Laws.{BitCounts}
 
 -- blocks of a PLP have as many bytes as it says
@@ -83,6 +84,6 @@ frame_length counts law post c inputs n =
     ap₂ (λ (b x : ℕ). head_len + pre_len + (4 + b) + (2 + x)
     + (4 + 4 * length (frame_cells c (frame_shape c inputs n) (n % c.frames))))
     (ap bytes_for bits) size
-    ∙ ap (λ (k : ℕ). head_len + pre_len + (4 + bytes_for (post_len c))
+    ∙ ap (λ (k : ℕ). head_len + pre_len + (4 + bytes_for (post_len (length c.plps)))
     + (2 + blocks_size c (λ plp. length (plp_blocks c inputs n plp))) + (4 + 4 * k)) cells
     ∙ omega arith

@@ -16,6 +16,7 @@ use Rattle.plp_config.specs.declared.plp.TheConstants.{MOST_BLOCK_BYTES}
 use Rattle.scheduler.specs.Shape.{FrameShape}
 use Rattle.cell_map.specs.Address.{IsCarried, address_of}
 use Rattle.cell_map.specs.CellMap.{Passes, ordinal_of}
+use Rattle.l1_signal.specs.Lengths.{post_len}
 use Rattle.site_frame.specs.RecordFile.{IsOnGrid}
 use Rattle.site_frame.specs.Whole.{FitsRecord, record_len, block_size}
 use Rattle.site_frame.specs.declared.reading.RecordView.TheVariants.{Muted}
@@ -34,13 +35,9 @@ blocks_size c count = sum_by (λ plp. count plp * (4 + block_bytes c plp)) (plac
 abbrev pub rest_size : Config → ℕ → (ℕ → ℕ) → ℕ
 rest_size c bits count = pre_len + (4 + bytes_for bits) + (2 + blocks_size c count) + (4 + 4 * c.cells)
 
--- the bits of L1-post, with its CRC_32 (EN 302 755, clause 7.2.3)
-abbrev pub post_len : Config → ℕ
-post_len c = 213 + 137 * length c.plps
-
 -- how many bytes the record of a frame has, if its L1-post is as long as always
 abbrev pub frame_len : Config → (ℕ → ℕ) → ℕ
-frame_len c count = head_len + rest_size c (post_len c) count
+frame_len c count = head_len + rest_size c (post_len (length c.plps)) count
 
 -- So many has that of frame n.
 abbrev pub FrameLength : Type 0
@@ -76,7 +73,7 @@ IsSentBlock b = (b.plp_id < 2 ^ 8) × (length b.bytes ≤ MOST_BLOCK_BYTES)
 abbrev pub EveryFrameFits : Type 0
 EveryFrameFits = (c : Config) (n frame_idx : ℕ) (post : List Bool) (blocks : List Block) (shape : FrameShape) → IsPlan c
     → n < 2 ^ 32
-    → length post ≤ post_len c → length shape.counts ≡ length c.plps → Passes c shape → length blocks ≤ sum shape.counts
+    → length post ≤ post_len (length c.plps) → length shape.counts ≡ length c.plps → Passes c shape → length blocks ≤ sum shape.counts
     → sum_by block_size blocks ≤ sum_by block_room c.plps → AllByRecursion IsSentBlock blocks
     → FitsRecord (frame_view c (emission c n) frame_idx post blocks shape)
 

@@ -25,7 +25,7 @@ use Rattle.l1_signal.specs.declared.dynamic.L1Dyn.{L1Dyn}
 use Rattle.record_writer.specs.RecordBytes.{list_at}
 use Rattle.plp_config.specs.Capacity.{IsPlan}
 use Rattle.plp_config.specs.declared.config.Config.{Config}
-use Rattle.record_writer.specs.Front.{dyn_len}
+use Rattle.l1_signal.specs.Lengths.{dyn_len}
 use Rattle.record_writer.specs.Laws.{RecordFits}
 use Rattle.scheduler.specs.Shape.{FrameShape}
 use Rattle.site_frame.specs.Whole.{FitsRecord}
@@ -80,7 +80,7 @@ module _ (fits : RecordFits) (passing : MapPasses) (spelled : DynReadSpelled) (l
       let told : length shape.counts ≡ length c.plps = shape_rows d ∙ read_rows spelled len (length c.plps) l1.dynamic d k in
       let dynamic : dynamic_in packets ≡ l1.dynamic = ap (λ (o : Option L1Parts). option_map_or (λ l1. l1.dynamic) o []) e in
       let size = ap length dynamic ∙ read_len spelled len (length c.plps) l1.dynamic d k in
-      let short : length (dynamic_in packets) ≤ dyn_len c = omega (arith, size) in
+      let short : length (dynamic_in packets) ≤ dyn_len (length c.plps) = omega (arith, size) in
       let long = lists_long c packets in
       let held = lists_held c packets in
       subst FitsRecord (same_view sizes c n packets shape (lists_of c packets) plan none first told long held

@@ -53,8 +53,7 @@ fn clear_pool(pool: &mut Pool, lists: u32)
     ensures short { AreShort pool.new.lists }
 {
     clear_lists(pool, lists);
-    // A call that tells that every chunk is free or has a part of a block.
-    let _ = pool.spare();
+    pool.stays_whole();
 }
 
 // The bytes of a block as it is sent.
@@ -207,7 +206,7 @@ impl HeldBlocks {
     pub fn fits_chunks(&self)
         ensures { used_chunks self.now.pool.lists ≤ self.now.chunks }
     {
-        let _ = self.pool.spare();
+        self.pool.stays_whole();
     }
 
     /// Whether each block was one of a PLP, with its length.

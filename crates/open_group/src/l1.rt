@@ -1,6 +1,6 @@
 // The L1 signalling of a group.
 ghost use Rattle.std.specs.Prelude.{◌≡◌, ◌≤◌, true, length};
-ghost use Rattle.record_writer.specs.Front.{most_dynamic};
+ghost use Rattle.l1_signal.specs.declared.lengths.TheConstants.{MOST_DYN_BITS};
 
 use crate::parts::HeldParts;
 use bit_slice::{BitSlice, OutOfMemory};
@@ -30,7 +30,7 @@ pub struct HeldL1 {
     pub(crate) shape: Shape,
     ghost rows: { length shape.counts ≡ length dynamic.plps },
     // What reads is no longer than a dynamic part can be.
-    ghost short: { told ≡ true → parts.dynamic ≤ most_dynamic },
+    ghost short: { told ≡ true → parts.dynamic ≤ MOST_DYN_BITS },
 }
 
 impl HeldL1 {

@@ -16,7 +16,9 @@ use Rattle.site_frame.specs.Record.{head_bytes, muted_kind}
 use Rattle.site_frame.specs.declared.reading.RecordView.{RecordView}
 use Rattle.site_frame.specs.declared.reading.RecordView.TheVariants.{Muted}
 use Rattle.record_writer.specs.RecordBytes.{AreShort, most_block, list_at, list_blocks}
-use Rattle.record_writer.specs.Front.{post_with, front_bytes, dyn_len}
+use Rattle.l1_signal.specs.Lengths.{conf_len, dyn_len}
+use Rattle.l1_signal.specs.declared.lengths.TheConstants.{CRC_BITS}
+use Rattle.record_writer.specs.Front.{post_with, front_bytes}
 use Rattle.record_writer.specs.Steps.{step_bytes}
 use Rattle.record_writer.specs.declared.step.Step.TheVariants.{Blocks}
 
@@ -53,7 +55,7 @@ BlockCount = (c : Config) (shape : FrameShape) (lists : List (List (List ℕ))) 
 
 -- the bits of L1-post with a dynamic part of so many: the configurable part, this one, and the CRC_32
 abbrev pub post_size : Config → ℕ → ℕ
-post_size c dynamic = 102 + 89 * length c.plps + dynamic + 32
+post_size c dynamic = conf_len (length c.plps) + dynamic + CRC_BITS
 
 -- So many bytes follow the head.
 abbrev pub RestLength : Type 0
@@ -67,7 +69,7 @@ RestLength = (c : Config) (moment : Moment) (frame_idx : ℕ) (dynamic : List Bo
 abbrev pub RecordFits : Type 0
 RecordFits = (c : Config) (n frame_idx : ℕ) (dynamic : List Bool) (shape : FrameShape) (lists : List (List (List ℕ)))
     → IsPlan c → HasByteIds c → n < 2 ^ 32
-    → length dynamic ≤ dyn_len c → Passes c shape → HasBlocks c shape lists
+    → length dynamic ≤ dyn_len (length c.plps) → Passes c shape → HasBlocks c shape lists
     → FitsRecord (written_frame c (emission c n) frame_idx dynamic shape lists)
 
 -- The lists of a pool without blocks are short, and stay so if a short block is appended.

@@ -16,6 +16,7 @@ use crate::step::Step;
 use bit_slice::{BitSlice, OutOfMemory};
 use byteorder::{BigEndian, ByteOrder};
 use cell_words::fill_words;
+use l1_signal::MOST_DYN_BITS;
 use linked_pool::Pool;
 use plp_config::{Moment, Plan};
 use scheduler::Shape;
@@ -225,7 +226,7 @@ impl Writer {
     ghost use Rattle.scheduler.specs.Shape.{FrameShape};
     ghost use Rattle.l1_signal.specs.L1Configurable.{conf_bits};
     ghost use Rattle.l1_signal.specs.L1Of.{conf_of};
-    ghost use Rattle.record_writer.specs.Front.{front_bytes, most_dynamic};
+    ghost use Rattle.record_writer.specs.Front.{front_bytes};
     ghost use Rattle.record_writer.specs.declared.step.Step.TheVariants.{Blocks};
     ghost use Rattle.site_frame.specs.Record.{head_bytes, muted_kind};
     ghost use Rattle.linked_pool.specs.Pool.{used_chunks};
@@ -272,7 +273,7 @@ impl Writer {
         rest: u32,
     )
         requires conf { conf.now ≡ conf_bits (conf_of plan.now) }
-        requires short { length dynamic ≤ most_dynamic }
+        requires short { length dynamic ≤ MOST_DYN_BITS }
         ensures left { (shape : FrameShape) (lists : List (List (List ℕ)))
             → bytes_left self.new plan.now shape lists
             ≡ front_bytes plan.now moment.now dynamic.entry blocks rest
