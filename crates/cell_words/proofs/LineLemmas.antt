@@ -1,12 +1,13 @@
 -- Lines and strips of words are those of the map.
-use Rattle.std.proofs.Common.{◌≡◌, ℕ, zero, suc, ◌+◌, ◌-◌, ◌*◌, ◌<◌, ◌≤◌, List, [], ◌∷◌, ◌++◌, length, take, drop, Option, Some}
+use Rattle.std.proofs.Common.{◌≡◌, ℕ, zero, suc, ◌+◌, ◌-◌, ◌*◌, ◌/◌, ◌%◌, ◌<◌, ◌≤◌, ◌==◌, Bool, true, false, List, [], ◌∷◌, ◌++◌, length, take, drop, Option, Some}
 use Rattle.std.proofs.Common.{None, refl, ap, ap₂, sym, ◌∙◌, arith, append_assoc, append-nil}
-use Rattle.std.specs.Prelude.{slice_get}
+use Rattle.std.specs.Prelude.{slice_get, unwrap_or, if◌then◌else◌}
 use Rattle.std.specs.FinMap.{get}
 use Rattle.std.specs.List.{flat_map, range_with_len}
 use Rattle.std.proofs.lemmas.Grind.{flat_map-append}
 use Rattle.std.proofs.lemmas.List.{drop-drop}
-use Rattle.std.proofs.lemmas.Nat.{mul-le}
+use Rattle.std.proofs.lemmas.Bool.{eqb-true}
+use Rattle.std.proofs.lemmas.Nat.{mul-le, div-add-mod'}
 use Rattle.byteorder.specs.Endian.{big_bytes, big_number}
 use Rattle.byteorder.specs.Numbers.{big_number-reads_back}
 use Rattle.terms.proofs.RangeLemmas.{places_more}
@@ -175,3 +176,29 @@ agreed law c shape frame address n i cells bytes buffer plan passes l inside e f
     ∙ cell_at (length cells) (address + i) bytes (omega (arith, l, inside))
     ∙ ap (λ (w : ℕ). Some (cell_of w)) word
     ∙ ap Some (word_again o (fits_at law c shape frame (address + i) plan passes o refl)).1
+
+-- a word is told by its cell
+word_back : (w : ℕ) → word_of (cell_of w) ≡ w
+word_back w = go (w == dummy_word) refl
+  where
+    go : (b : Bool) → (w == dummy_word) ≡ b
+        → word_of (if b then None else Some (record { ordinal = w / block_words; cell = w % block_words })) ≡ w
+    go true e = sym (eqb-true w dummy_word e)
+    go false e = let parts = div-add-mod' w block_words in omega (arith, parts)
+
+-- a record that has the cell of the map has its word
+pub agrees : CellsFit → (c : Config) (shape : FrameShape) (frame : ℕ) (address n i : ℕ) (cells : List (Option Cell)) (bytes buffer : List ℕ)
+    → IsPlan c → Passes c shape → i < n → address + n ≤ length cells
+    → cells ≡ cells_in (length cells) bytes → buffer ≡ words c shape frame address n
+    → slice_get cells (address + i) ≡ Some (get (cell_map c shape frame) (address + i))
+    → big_number 4 (drop (4 * i) buffer) ≡ big_number 4 (drop (4 * i) (drop (4 * address) bytes))
+agrees law c shape frame address n i cells bytes buffer plan passes l inside e f there =
+    let o : Option Cell = get (cell_map c shape frame) (address + i) in
+    let d : drop (4 * i) (drop (4 * address) bytes) ≡ drop (4 * (address + i)) bytes = drop-drop (4 * i) (4 * address) bytes
+    ∙ ap (λ (m : ℕ). drop m bytes) (omega arith) in
+    let w : ℕ = big_number 4 (drop (4 * (address + i)) bytes) in
+    let found : Some (cell_of w) ≡ Some o = sym (cell_at (length cells) (address + i) bytes (omega (arith, l, inside)))
+    ∙ ap (λ (l : List (Option Cell)). slice_get l (address + i)) (sym e) ∙ there in
+    let same : cell_of w ≡ o = ap (λ (x : Option (Option Cell)). unwrap_or x o) found in
+    ap (λ (l : List ℕ). big_number 4 (drop (4 * i) l)) f ∙ word_in law c shape frame address n i plan passes l
+    ∙ ap word_of (sym same) ∙ word_back w ∙ ap (big_number 4) (sym d)

@@ -62,7 +62,7 @@ alone_ends plans text = go (plans text).0 (plans text).1
   where
     go : (given : Result Config ConfigStop) → GivesPlan text given → (result : Result Config ConfigStop) × GivesAlone text result
     go (Ok c) gives = elim (alone_decided c.plps (length c.plps)) [
-      | inl alone ↦ (Ok c, (gives, alone))
+      | inl alone ↦ (Ok c, (gives.0, (gives.1, alone)))
       | inr first ↦ (Err (NotBuilt first.0), (c, gives, first.1))
     ]
     go (Err (Refused cause)) gives = (Err (Refused cause), gives)

@@ -113,15 +113,15 @@ module _ (l : ConfigLaws) (text : List ℕ) where
   no_stop c OutOfMemory a b = b
 
 pub alone_once : ConfigLaws → OneAlone
-alone_once l text (Ok c) (Ok d) a b = ap Ok (one_plan l text c d a.0 b.0)
+alone_once l text (Ok c) (Ok d) a b = ap Ok (one_plan l text c d (a.0, a.1.0) (b.0, b.1.0))
 alone_once l text (Ok c) (Err (NotBuilt at)) a b =
-    absurd (alone_or_not c at a.1 (subst (λ (d : Config). IsNotBuilt d (NotBuilt at)) (one_plan l text b.0 c b.1 a.0) b.2))
-alone_once l text (Ok c) (Err (Refused cause)) a b = absurd (no_stop l text c (Refused cause) a.0 b)
-alone_once l text (Ok c) (Err (Lacks fault)) a b = absurd (no_stop l text c (Lacks fault) a.0 b)
+    absurd (alone_or_not c at a.1.1 (subst (λ (d : Config). IsNotBuilt d (NotBuilt at)) (one_plan l text b.0 c b.1 (a.0, a.1.0)) b.2))
+alone_once l text (Ok c) (Err (Refused cause)) a b = absurd (no_stop l text c (Refused cause) (a.0, a.1.0) b)
+alone_once l text (Ok c) (Err (Lacks fault)) a b = absurd (no_stop l text c (Lacks fault) (a.0, a.1.0) b)
 alone_once l text (Err (NotBuilt at)) (Ok c) a b =
-    absurd (alone_or_not c at b.1 (subst (λ (d : Config). IsNotBuilt d (NotBuilt at)) (one_plan l text a.0 c a.1 b.0) a.2))
-alone_once l text (Err (Refused cause)) (Ok c) a b = absurd (no_stop l text c (Refused cause) b.0 a)
-alone_once l text (Err (Lacks fault)) (Ok c) a b = absurd (no_stop l text c (Lacks fault) b.0 a)
+    absurd (alone_or_not c at b.1.1 (subst (λ (d : Config). IsNotBuilt d (NotBuilt at)) (one_plan l text a.0 c a.1 (b.0, b.1.0)) a.2))
+alone_once l text (Err (Refused cause)) (Ok c) a b = absurd (no_stop l text c (Refused cause) (b.0, b.1.0) a)
+alone_once l text (Err (Lacks fault)) (Ok c) a b = absurd (no_stop l text c (Lacks fault) (b.0, b.1.0) a)
 alone_once l text (Err (NotBuilt at)) (Err (NotBuilt other)) a b =
     ap (λ (n : ℕ). Err (NotBuilt n))
     (first_once (StandsAlone b.0.plps) (length b.0.plps) at other

@@ -4,6 +4,7 @@ use Rattle.ports.specs.Desk.{State, SameCounts, bytes_of}
 use Rattle.plp_config.specs.Capacity as capacity
 use Rattle.plp_config.specs.Capacity.{IsPlan}
 use Rattle.plp_config.specs.FirstFailure.{IsFirstFailure}
+use Rattle.plp_config.specs.Places.{FramesStandAlone}
 use Rattle.plp_config.specs.Plps.{StandsAlone}
 use Rattle.plp_config.specs.Rules as rules
 use Rattle.plp_config.specs.Rules.{AllRules}
@@ -67,6 +68,10 @@ LacksCapacity c stop = ⊥
 abbrev pub GivesNoPlan : State → State → List ℕ → ConfigStop → Type 0
 GivesNoPlan old new name (Lacks fault) = (c : Config) × Gives old new name c × capacity.Lacks c fault
 GivesNoPlan old new name stop = GivesNone old new name stop
+
+-- A configuration is a plan, and its frames stand alone.
+abbrev pub IsAlonePlan : Config → Type 0
+IsAlonePlan c = IsPlan c × FramesStandAlone c
 
 -- A plan has an interleaving frame that is carried by several frames.
 abbrev pub IsNotBuilt : Config → ConfigStop → Type 0

@@ -2,11 +2,10 @@
 use Rattle.std.specs.Prelude.{◌≡◌, ℕ, List, Result, Ok, Err}
 use Rattle.plp_config.specs.Capacity as capacity
 use Rattle.plp_config.specs.Capacity.{IsPlan}
-use Rattle.plp_config.specs.Places.{FramesStandAlone}
 use Rattle.plp_config.specs.Rules.{AllRules}
 use Rattle.plp_config.specs.declared.config.Config.{Config}
 use Rattle.config_text.specs.ConfigText.{Spells}
-use Rattle.config_file.specs.ConfigFile.{IsCause, IsNotBuilt}
+use Rattle.config_file.specs.ConfigFile.{IsCause, IsAlonePlan, IsNotBuilt}
 use Rattle.config_file.specs.declared.stop.ConfigStop.{ConfigStop}
 use Rattle.config_file.specs.declared.stop.ConfigStop.TheVariants.{Refused, Lacks, NotBuilt}
 
@@ -25,7 +24,7 @@ GivesPlan text (Err stop) = ⊥
 
 -- The same of a plan whose frames stand alone.
 abbrev pub GivesAlone : List ℕ → Result Config ConfigStop → Type 0
-GivesAlone text (Ok c) = GivesPlan text (Ok c) × FramesStandAlone c
+GivesAlone text (Ok c) = Spells text c × IsAlonePlan c
 GivesAlone text (Err (NotBuilt at)) = (c : Config) × GivesPlan text (Ok c) × IsNotBuilt c (NotBuilt at)
 GivesAlone text (Err stop) = GivesPlan text (Err stop)
 

@@ -5,7 +5,7 @@ ghost use Rattle.plp_config.specs.Capacity.{IsPlan};
 ghost use Rattle.plp_config.specs.Places.{FramesStandAlone};
 ghost use Rattle.plp_config.specs.Rules.{AllRules};
 ghost use Rattle.config_text.specs.ConfigText.{Spells, CausesFault};
-ghost use Rattle.config_file.specs.ConfigFile.{Gives, GivesNone, GivesNoPlan, GivesNoAlone, LacksCapacity, IsNotBuilt};
+ghost use Rattle.config_file.specs.ConfigFile.{Gives, GivesNone, GivesNoPlan, GivesNoAlone, LacksCapacity, IsAlonePlan, IsNotBuilt};
 ghost use Rattle.desk_io.specs.Ahead.{ReadsAhead, IsAtEnd};
 ghost use Rattle.config_file.specs.TextReading.{RefusesText};
 
@@ -97,12 +97,8 @@ fn alone_of(plan: Plan) -> Result<Plan, ConfigStop>
 }
 
 /// Reads a plan as [`read_plan`] does, and then looks whether its frames stand alone: `NotBuilt` if they do not.
-pub fn read_alone_plan<D: Desk>(
-    alloc: Global,
-    name: &str,
-    desk: &mut D,
-) -> Result<Plan, ConfigStop>
-    ensures ok { IfOk result (λ plan. Gives (D.state desk.old) (D.state desk.new) name.now plan × IsPlan plan × FramesStandAlone plan) }
+pub fn read_alone_plan<D: Desk>(alloc: Global, name: &str, desk: &mut D) -> Result<Plan, ConfigStop>
+    ensures ok { IfOk result (λ plan. Gives (D.state desk.old) (D.state desk.new) name.now plan × IsAlonePlan plan) }
     ensures err { IfErr result (GivesNoAlone (D.state desk.old) (D.state desk.new) name.now) }
 {
     alone_of(read_plan(alloc, name, desk)?)

@@ -21,7 +21,9 @@ use Rattle.packet_slots.specs.Laws as slots
 use Rattle.packet_slots.specs.Records.{Record, framed_record, readback}
 use Rattle.packet_slots.specs.Strings.{Block}
 use Rattle.plp_receiver.specs.Readable.{readable, all_stand}
-use Rattle.plp_receiver.specs.Taken.{no_start, block_read, IsTaken, IsTold, IsGiven, bytes_at, TellsShape, Tells, TellAll, slot_rule}
+use Rattle.bb_frame.specs.declared.header.TheConstants.{NO_START}
+use Rattle.plp_receiver.specs.Taken.{block_read, IsTaken, IsTold, IsGiven, bytes_at, TellsShape, Tells, TellAll, slot_rule}
+use Rattle.bb_frame.specs.declared.header.TheConstants.{NO_START}
 use Rattle.plp_receiver.specs.Taken.{Readback}
 use Rattle.packet_slots.specs.Sound.{IsSound}
 use Rattle.plp_receiver.proofs.SpelledLemmas.{spelled_once}
@@ -33,7 +35,7 @@ same_block h k field other s i f =
     ap (λ (n : ℕ). block_with n h.issy field) s ∙ ap (λ (n : ℕ). block_with k.syncd n field) i ∙ ap (block_with k.syncd k.issy) f
   where
     block_with : ℕ → ℕ → List ℕ → Block
-    block_with syncd issy field = record { first = cond (syncd == no_start) None (Some (syncd / 8)); issy = issy; field = field }
+    block_with syncd issy field = record { first = cond (syncd == NO_START) None (Some (syncd / 8)); issy = issy; field = field }
 
 taken_once : BitCounts → (deletes : Bool) (bits : List Bool) (b other : Block) → IsTaken deletes bits b
     → IsTaken deletes bits other → b ≡ other

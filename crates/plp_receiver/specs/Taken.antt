@@ -7,6 +7,7 @@ use Rattle.terms.specs.Bits.{bits_of, bytes_of}
 use Rattle.bb_frame.specs.BasebandFrame.{Spells}
 use Rattle.bb_frame.specs.Scrambled.{scrambled}
 use Rattle.bb_frame.specs.declared.header.Header.{Header}
+use Rattle.bb_frame.specs.declared.header.TheConstants.{NO_START}
 use Rattle.plp_config.specs.Capacity.{up_bytes}
 use Rattle.plp_config.specs.Plps.{plp_at}
 use Rattle.plp_config.specs.SlotTimes.{slot_times}
@@ -28,13 +29,9 @@ pub record IsOfStream (deletes : Bool) (matype1 : ℕ) : Type 0 where
   pub issyi : matype1 / 2 ^ 3 % 2 ≡ 1
   pub npd : matype1 / 2 ^ 2 % 2 ≡ (if deletes then 1 else 0)
 
--- SYNCD of a block in which no user packet begins
-abbrev pub no_start : ℕ
-no_start = 65535
-
 -- what a header and a data field tell
 abbrev pub block_read : Header → List ℕ → Block
-block_read h field = record { first = if h.syncd == no_start then None else Some (h.syncd / 8); issy = h.issy; field = field }
+block_read h field = record { first = if h.syncd == NO_START then None else Some (h.syncd / 8); issy = h.issy; field = field }
 
 -- The bits spell a baseband frame that is taken, and this is what it tells.
 pub record IsTaken (deletes : Bool) (bits : List Bool) (b : Block) : Type 0 where

@@ -1,5 +1,5 @@
 -- What stands in the output after the records of a file.
-use Rattle.std.specs.Prelude.{◌≡◌, ◌⊎◌, ℕ, ◌+◌, ◌-◌, ◌*◌, List, [], ◌∷◌, length, Option, Some, None}
+use Rattle.std.specs.Prelude.{◌≡◌, ◌⊎◌, ℕ, ◌+◌, ◌-◌, List, [], ◌∷◌, length, Option, Some, None}
 use Rattle.std.specs.List.{concat}
 use Rattle.plp_config.specs.declared.config.Config.{Config}
 use Rattle.site_frame.specs.Placing.{RefusesPlace}

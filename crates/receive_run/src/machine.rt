@@ -1,6 +1,7 @@
 // The receiver as a machine between files.
 ghost use Rattle.std.specs.Prelude.{◌≡◌, ◌≢◌, ◌<◌, ◌≤◌, ◌+◌, ℕ, length, take, vec_len, vec_capacity, Some};
 ghost use Rattle.plp_receiver.specs.StandsFor.{network_of, plp_of, due_of};
+ghost use Rattle.plp_config.specs.Laws.{SoundTimes};
 ghost use Rattle.plp_config.specs.Places.{FramesStandAlone};
 ghost use Rattle.plp_config.specs.declared.moment.TheConstants.{MOST_FRAMES};
 ghost use Rattle.site_frame.specs.declared.head.TheConstants.{HEAD};
@@ -62,6 +63,13 @@ pub struct ReceiverMachine<'p> {
     ghost room: { coming ≡ Rest → (0 < left) × (vec_len bytes + left ≤ GREATEST) },
     ghost buffer: { GREATEST ≤ vec_capacity bytes },
     ghost small: { at ≤ longest_file },
+}
+
+// The slots of a PLP last a tick or more. It does nothing.
+fn times_law()
+    ensures { SoundTimes }
+{
+    length_law();
 }
 
 // What comes, by how many slots are due, and how many bytes may be read for it.
@@ -293,7 +301,7 @@ impl<'p> Machine for ReceiverMachine<'p> {
 
     fn give(&mut self, out: &mut [u8]) -> usize {
         events_law();
-        length_law();
+        times_law();
         self.plan.obeys_rules();
         give_packet(&mut self.receiver, out.first_chunk_mut().unwrap());
         self.slots = self.slots.saturating_add(1);
