@@ -1,6 +1,7 @@
 -- What an input stands for. No public clause cites this module.
 use Rattle.std.specs.Prelude.{◌≡◌, ℕ, ◌-◌, ◌*◌, Bool, false, List, ◌++◌, length, replicate, Some, None, is_some, if◌then◌else◌}
 use Rattle.std.specs.declared.option.Option.{Option}
+use Rattle.plp_config.specs.Plps.{StandsAlone}
 use Rattle.plp_config.specs.SlotTime.{slots_by}
 use Rattle.plp_config.specs.declared.config.Config.{Config}
 use Rattle.ts_packet.specs.Null.{null_packet}
@@ -18,6 +19,8 @@ wanted i = if is_some i.total then 0 else i.due - i.slot
 -- slots are over when that frame begins, so many have their packets, and so many packets there were at the end.
 pub record Fed (chain : Chain) (due slot : ℕ) (total : Option ℕ) (c : Config) (plp : ℕ) (t : Told)
     (early : List (List Bool)) : Type 0 where
+  -- Frames and interleaving frames are the same.
+  pub alone : StandsAlone c.plps plp
   pub events : List queue.Event
   pub stands : ChainStandsFor chain c plp events
   pub nulls : ℕ

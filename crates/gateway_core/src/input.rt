@@ -1,8 +1,8 @@
 // The input of one PLP.
 ghost use Rattle.std.specs.Prelude.{◌≡◌, ◌<◌, ◌≤◌, ◌+◌, ◌^◌, ℕ, Some, length};
 ghost use Rattle.linked_pool.specs.Pool.{Others, IsWhole};
+ghost use Rattle.mode_adapt.specs.Calls.{TakesIfReady, EndsIfReady};
 ghost use Rattle.mode_adapt.specs.StandsFor.{slot_of, most_blocks};
-ghost use Rattle.gateway_core.specs.ChainSteps.{Takes, Ends};
 ghost use Rattle.gateway_core.specs.Lists.{bits_in, AllShort};
 
 use bit_slice::OutOfMemory;
@@ -28,11 +28,11 @@ pub struct Input {
     ghost behind: { (count : ℕ) → total ≡ Some count → count ≤ due },
 }
 
-// Gives a chain the packet of the next slot. A pool with place has room for every block of a frame.
+// Gives a chain the packet of the next slot. A pool that is ready has room for every block of a frame.
 fn offer_to(chain: &mut Chain, packet: &TsPacket, pool: &mut Pool, list: u32)
     requires slot { slot_of chain.old < 2 ^ 54 }
     requires list { list < length pool.old.lists }
-    ensures takes { Takes chain.old chain.new packet.now pool.old pool.new list }
+    ensures takes { TakesIfReady chain.old chain.new packet.now pool.old pool.new list }
     ensures slots { slot_of chain.new ≡ slot_of chain.old + 1 }
     ensures most { most_blocks chain.new ≡ most_blocks chain.old }
     ensures short { AllShort pool.old → AllShort pool.new }
@@ -42,10 +42,10 @@ fn offer_to(chain: &mut Chain, packet: &TsPacket, pool: &mut Pool, list: u32)
     let _ = chain.offer(packet, pool, list);
 }
 
-// Ends the next frame: how many blocks it has. A pool with place has room for every one.
+// Ends the next frame: how many blocks it has. A pool that is ready has room for every one.
 fn end_frame(chain: &mut Chain, pool: &mut Pool, list: u32) -> u16
     requires { list < length pool.old.lists }
-    ensures ends { Ends chain.old chain.new pool.old pool.new list result }
+    ensures ends { EndsIfReady chain.old chain.new pool.old pool.new list result }
     ensures few { result ≤ most_blocks chain.old }
     ensures slots { slot_of chain.new ≡ slot_of chain.old }
     ensures most { most_blocks chain.new ≡ most_blocks chain.old }
@@ -62,7 +62,7 @@ fn end_frame(chain: &mut Chain, pool: &mut Pool, list: u32) -> u16
 impl Input {
     ghost use Rattle.std.specs.Prelude.{◌≡◌, ◌<◌, ◌≤◌, ◌+◌, ◌*◌, ◌^◌, ℕ, List, Bool, [], true, false, length, IfOk, IfSome};
     ghost use Rattle.linked_pool.specs.Pool.{list_at, Others, IsWhole};
-    ghost use Rattle.plp_config.specs.Plps.{plp_at};
+    ghost use Rattle.plp_config.specs.Plps.{plp_at, StandsAlone};
     ghost use Rattle.plp_config.specs.Capacity.{IsPlan};
     ghost use Rattle.plp_config.specs.SlotTime.{slots_by};
     ghost use Rattle.plp_config.specs.declared.config.Config.{Config};
@@ -73,7 +73,8 @@ impl Input {
 
     /// An input of no packets yet, for the PLP at a place of the plan. No later call takes memory.
     pub fn open(alloc: Global, plan: &Plan, plp: usize) -> Result<Input, OutOfMemory>
-        requires { plp < length plan.now.plps }
+        requires place { plp < length plan.now.plps }
+        requires alone { StandsAlone plan.now.plps plp }
         ensures fed { IfOk result (λ i. IsFed i plan.now plp (record { packets = []; ended = false; frame = 0 }) []) }
         ensures most { IfOk result (λ i. most i ≡ (plp_at plan.now.plps plp).blocks) }
     {

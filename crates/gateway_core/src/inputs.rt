@@ -3,6 +3,7 @@ ghost use Rattle.std.specs.Prelude.{◌≡◌, ◌≢◌, ◌<◌, ◌≤◌, �
 ghost use Rattle.linked_pool.specs.Pool.{IsWhole};
 ghost use Rattle.plp_config.specs.declared.moment.TheConstants.{MOST_FRAMES};
 ghost use Rattle.plp_config.specs.Capacity.{IsPlan};
+ghost use Rattle.plp_config.specs.Places.{FramesStandAlone};
 ghost use Rattle.plp_config.specs.Plps.{plp_at};
 ghost use Rattle.plp_config.specs.declared.config.Config.{Config};
 ghost use Rattle.gateway_core.specs.IsFed.{IsFed, wanted, most};
@@ -21,6 +22,7 @@ use ts_packet::TsPacket;
 
 /// The inputs of no packets yet, for the PLPs of a plan.
 pub fn open_inputs(alloc: Global, plan: &Plan) -> Result<Vec<Input>, OutOfMemory>
+    requires alone { FramesStandAlone plan.now }
     ensures len { IfOk result (λ inputs. length inputs.items ≡ length plan.now.plps) }
     ensures fed { IfOk result (λ inputs. AllFed inputs.items (λ j. []) plan.now []) }
     ensures most { IfOk result (λ inputs. AreFor inputs.items plan.now) }
@@ -122,6 +124,5 @@ pub fn cut(plan: &Plan, inputs: &mut [Input], pool: &mut Pool, frame: u64, count
     for plp in 0..inputs.len() {
         counts[plp] = cut_one(plan, inputs, pool, plp, frame);
     }
-    // A call that tells that each chunk is free or has a part of a block.
-    let _ = pool.spare();
+    pool.stays_whole();
 }

@@ -35,5 +35,5 @@ returns c =
       short = c.loop-plp.invariant.short;
       lists = cut.lists_count;
       opened = cut.opened;
-      whole = c.spare.ensures.whole;
+      whole = c.stays_whole.ensures;
     }
