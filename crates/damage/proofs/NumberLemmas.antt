@@ -1,19 +1,17 @@
 -- From the join on, each group has the number of its frame.
-use Rattle.std.proofs.Common.{◌≡◌, ◌≢◌, ℕ, zero, suc, ◌+◌, ◌<◌, ◌≤◌, ◌==◌, Bool, true, false, cond, List, [], ◌∷◌, ◌++◌, map, length}
-use Rattle.std.proofs.Common.{Option, Some, None, refl, ap, ap₂, sym, subst, ◌∙◌, ⊎_elim, arith}
+use Rattle.std.proofs.Common.{◌≡◌, ◌≢◌, ℕ, zero, suc, ◌+◌, ◌<◌, ◌≤◌, cond, List, [], ◌∷◌, ◌++◌, map, length}
+use Rattle.std.proofs.Common.{Option, Some, None, refl, ap, ap₂, sym, ◌∙◌, ⊎_elim, arith}
 use Rattle.std.specs.Prelude.{nat_le, nat_lt}
 use Rattle.std.specs.List.{filter, items_where_true, range_with_len}
 use Rattle.std.proofs.lemmas.Bool.{cases_eq, cond-true, cond-false, false_from_ne_true, leb-true, le-leb, lt-ltb}
 use Rattle.std.proofs.lemmas.Simd.{map-map}
 use Rattle.t2mi_packet.specs.declared.packet.Packet.{Packet}
-use Rattle.frame_groups.specs.Groups.{Group}
 use Rattle.frame_groups.specs.Laws.{NextIsFound}
 use Rattle.frame_groups.specs.Modulated.{Rules, join_number}
 use Rattle.frame_groups.specs.Numbers.{frame_key, next_number}
 use Rattle.damage.specs.SentPackets.{Sent, frame_packets, frame_group}
-use Rattle.damage.specs.Laws.{Survive}
-use Rattle.damage.specs.GroupNumbers.{numbers_behind, is_met, frames_left, number_from, JoinsAt, GroupsNumbered}
-use Rattle.damage.proofs.GroupLemmas.{Met, met_of, group_as, key_groups, some_met, frames_met, groups_are_met, Steps, StepsIn}
+use Rattle.damage.specs.GroupNumbers.{numbers_behind, is_met, number_from, JoinsAt, GroupsNumbered}
+use Rattle.damage.proofs.GroupLemmas.{Met, group_as, key_groups, some_met, frames_met, groups_are_met, Steps, StepsIn}
 use Rattle.damage.proofs.GroupLemmas.{steps_met}
 
 -- the frames of which a packet survives, from one on

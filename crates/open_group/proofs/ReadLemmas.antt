@@ -1,5 +1,5 @@
 -- A dynamic part that reads has the length that its PLPs ask for.
-use Rattle.std.proofs.Common.{◌≡◌, ℕ, ◌+◌, ◌*◌, ◌==◌, Bool, true, false, cond, List, length, Option, Some, None, refl, ap, sym}
+use Rattle.std.proofs.Common.{◌≡◌, ℕ, ◌==◌, Bool, true, false, cond, List, length, Option, Some, None, refl, ap, sym}
 use Rattle.std.proofs.Common.{◌∙◌, arith, length-append}
 use Rattle.std.specs.Prelude.{is_some, Ok, Err}
 use Rattle.std.specs.Option.{unwrap_or}
