@@ -1,5 +1,5 @@
 -- The blocks of a frame: how many bits each has, and how many there are.
-use Rattle.std.proofs.Common.{◌≡◌, ℕ, ◌+◌, ◌*◌, ◌<◌, min, Bool, List, [], ◌∷◌, length, map, arith}
+use Rattle.std.proofs.Common.{◌≡◌, ℕ, ◌+◌, ◌*◌, ◌<◌, min, Bool, List, length, arith}
 use Rattle.std.specs.Prelude.{slice_index}
 use Rattle.std.specs.List.{AllByRecursion}
 use Rattle.std.proofs.lemmas.List.FromFn.{get_or-map-range_with_len}
