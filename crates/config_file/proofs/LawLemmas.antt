@@ -1,13 +1,10 @@
 -- A text gives one thing.
-use Rattle.std.proofs.Common.{◌≡◌, ℕ, ◌<◌, List, length, ap, subst, arith, inl, inr}
+use Rattle.std.proofs.Common.{◌≡◌, ℕ, List, ap, subst}
 use Rattle.std.specs.Prelude.{Ok, Err}
-use Rattle.std.proofs.lemmas.Bool.{cases_lt}
 use Rattle.plp_config.specs.Capacity as capacity
 use Rattle.plp_config.specs.Capacity.{AllTests}
-use Rattle.plp_config.specs.Laws.{OneRuleFails, RefusalFails, OneTestFails, LackFails}
-use Rattle.plp_config.specs.FirstFailure.{IsFirstFailure}
+use Rattle.plp_config.specs.Laws.{OneRuleFails, OneFirstSpread, RefusalFails, OneTestFails, LackFails}
 use Rattle.plp_config.specs.Places.{FramesStandAlone}
-use Rattle.plp_config.specs.Plps.{StandsAlone}
 use Rattle.plp_config.specs.Rules as rules
 use Rattle.plp_config.specs.Rules.{AllRules}
 use Rattle.plp_config.specs.declared.capacity.CapacityFault.{CapacityFault}
@@ -29,6 +26,7 @@ pub record ConfigLaws : Type 0 where
   pub refused : (text : List ℕ) (line other : ℕ) (why reason : TextWhy) → Refuses text line why → Refuses text other reason
       → (line ≡ other) × (why ≡ reason)
   pub one_rule : OneRuleFails
+  pub one_spread : OneFirstSpread
   pub rules_fail : RefusalFails
   pub one_test : OneTestFails
   pub tests_fail : LackFails
@@ -85,20 +83,9 @@ plan_once l text (Err (Lacks fault)) (Err other) a b = absurd b
 plan_once l text (Err stop) other a b = absurd a
 
 -- ---- frames that stand alone
--- a place where a demand fails first is none where it holds, and it is one
+-- a place where a demand fails first is none where it holds
 alone_or_not : (c : Config) (at : ℕ) → FramesStandAlone c → IsNotBuilt c (NotBuilt at) → ⊥
 alone_or_not c at alone first = first.fails (alone at first.inside)
-
-first_once : (holds : ℕ → Type 0) (count place other : ℕ) → IsFirstFailure holds count place → IsFirstFailure holds count other
-    → place ≡ other
-first_once holds count place other a b =
-    elim (cases_lt place other) [
-      | inl lt ↦ absurd (a.fails (b.before place lt))
-      | inr ge ↦ elim (cases_lt other place) [
-        | inl less ↦ absurd (b.fails (a.before other less))
-        | inr no_less ↦ omega (arith, ge, no_less)
-      ]
-    ]
 
 module _ (l : ConfigLaws) (text : List ℕ) where
   -- a plan is one, and none is given beside it
@@ -124,7 +111,7 @@ alone_once l text (Err (Refused cause)) (Ok c) a b = absurd (no_stop l text c (R
 alone_once l text (Err (Lacks fault)) (Ok c) a b = absurd (no_stop l text c (Lacks fault) (b.0, b.1.0) a)
 alone_once l text (Err (NotBuilt at)) (Err (NotBuilt other)) a b =
     ap (λ (n : ℕ). Err (NotBuilt n))
-    (first_once (StandsAlone b.0.plps) (length b.0.plps) at other
+    (l.one_spread b.0 at other
     (subst (λ (d : Config). IsNotBuilt d (NotBuilt at)) (one_plan l text a.0 b.0 a.1 b.1) a.2) b.2)
 alone_once l text (Err (NotBuilt at)) (Err (Refused cause)) a b = absurd (no_stop l text a.0 (Refused cause) a.1 b)
 alone_once l text (Err (NotBuilt at)) (Err (Lacks fault)) a b = absurd (no_stop l text a.0 (Lacks fault) a.1 b)

@@ -8,7 +8,7 @@ use Rattle.plp_config.specs.Rules.{AllRules}
 use Rattle.plp_config.specs.SlotTime.{num, den, epoch_ticks}
 use Rattle.plp_config.specs.Tables.{info_bits, cells_per_block}
 use Rattle.plp_config.specs.declared.config.Config.{Config}
-use Rattle.plp_config.specs.declared.config.TheConstants.{GREATEST_REST, MOST_CELLS}
+use Rattle.plp_config.specs.declared.config.TheConstants.{GREATEST_REST, MOST_CELLS, FIXED_REST, L1_POST_BITS, L1_POST_PLP_BITS}
 use Rattle.plp_config.specs.declared.capacity.CapacityFault.{CapacityFault}
 use Rattle.plp_config.specs.declared.plp.Plp.{Plp}
 
@@ -53,7 +53,7 @@ block_room plp = plp.blocks * (4 + info_bits plp.fec plp.rate / 8)
 
 -- bytes of a record of a frame at most, behind its head: L1-pre and three counts, L1-post, the words of the cells, and the blocks
 unfoldable pub longest_rest : Config → ℕ
-longest_rest c = 35 + div_ceil (213 + 137 * length c.plps) 8 + 4 * c.cells + sum_by block_room c.plps
+longest_rest c = FIXED_REST + div_ceil (L1_POST_BITS + L1_POST_PLP_BITS * length c.plps) 8 + 4 * c.cells + sum_by block_room c.plps
 
 -- The tests of the capacity. A test's number is its place, from 1.
 pub data Test : Type 0 where

@@ -4,8 +4,9 @@ use Rattle.std.specs.Int.{div_ceil}
 use Rattle.plp_config.specs.Capacity.{block_bytes, field_bytes, block_cells, up_bytes, capacity, frame_room, AllTests, Lacks}
 use Rattle.plp_config.specs.Capacity.{IsPlan}
 use Rattle.plp_config.specs.Emission.{subseconds_by, origin, frame_subseconds, emission, FindsFrame}
+use Rattle.plp_config.specs.FirstFailure.{IsFirstFailure}
 use Rattle.plp_config.specs.Places.{FramesStandAlone}
-use Rattle.plp_config.specs.Plps.{plp_at, spread, spread_max}
+use Rattle.plp_config.specs.Plps.{plp_at, spread, spread_max, StandsAlone}
 use Rattle.plp_config.specs.Rules.{AllRules, Refuses}
 use Rattle.plp_config.specs.RunLength.{frame_count, IsFrameCount}
 use Rattle.plp_config.specs.Tables.{subseconds_per_second, info_bits, cells_per_block}
@@ -146,6 +147,11 @@ RefusalFails = (c : Config) (fault : ConfigFault) → Refuses c fault → ¬ (Al
 -- A configuration satisfies every rule, or it has a refusal.
 abbrev pub RulesDecided : Type 0
 RulesDecided = (c : Config) → AllRules c ⊎ ((fault : ConfigFault) × Refuses c fault)
+
+-- One PLP is the first of which an interleaving frame is carried by several frames, at most.
+abbrev pub OneFirstSpread : Type 0
+OneFirstSpread = (c : Config) (place other : ℕ) → IsFirstFailure (StandsAlone c.plps) (length c.plps) place
+    → IsFirstFailure (StandsAlone c.plps) (length c.plps) other → place ≡ other
 
 -- The same for the capacity.
 abbrev pub OneTestFails : Type 0

@@ -10,7 +10,9 @@ ghost use Rattle.plp_config.specs.SlotTime.{den, epoch_ticks};
 ghost use Rattle.plp_config.specs.CapacityTests.{AnswersTest};
 
 use crate::at::At;
-use crate::config::{Config, GREATEST_REST, MOST_CELLS};
+use crate::config::{
+    Config, FIXED_REST, GREATEST_REST, L1_POST_BITS, L1_POST_PLP_BITS, MOST_CELLS,
+};
 use crate::plan::Plan;
 use crate::plp::PlpType;
 use crate::rules::Valid;
@@ -256,8 +258,8 @@ fn longest_rest(config: &Config) -> u64
     requires { AllRules config.now }
     ensures { result ≡ longest_rest config.now }
 {
-    let post_bits = 213 + 137 * u64::from(plp_count(config));
-    35 + post_bits.div_ceil(8) + word_bytes(config.cells) + block_room(config)
+    let post_bits = L1_POST_BITS + L1_POST_PLP_BITS * u64::from(plp_count(config));
+    FIXED_REST + post_bits.div_ceil(8) + word_bytes(config.cells) + block_room(config)
 }
 
 // Bytes of the words of so many cells.

@@ -7,7 +7,7 @@ ghost use Rattle.plp_config.specs.Laws.{FrameCountLeast, OneRuleFails, RefusalFa
 ghost use Rattle.plp_config.specs.Laws.{TestsDecided, SlotLength, FrameTicks, FrameQuarter, FieldRange, BlockBits};
 ghost use Rattle.plp_config.specs.Laws.{UserPacketRange, CapacityHoldsUp, CellsByFive, BlockChunks, EpochTicks, RoomsFit};
 ghost use Rattle.plp_config.specs.Laws.{SpreadDividesFrames, SpreadIsGreatest, CellsInParts, BlocksFit, EpochAlone, GreatestAlone};
-ghost use Rattle.plp_config.specs.Laws.{SoundTimes};
+ghost use Rattle.plp_config.specs.Laws.{SoundTimes, OneFirstSpread};
 
 /// When slots start and when they are over. A count reaches a number exactly if the end of the
 /// last slot below it is not after the tick.
@@ -68,6 +68,7 @@ pub fn run_length_law()
 /// Which rule or test fails first: exactly one, if not all hold.
 pub fn refusal_law()
     ensures one_rule { OneRuleFails }
+    ensures one_spread { OneFirstSpread }
     ensures rules_fail { RefusalFails }
     ensures rules_decided { RulesDecided }
     ensures one_test { OneTestFails }

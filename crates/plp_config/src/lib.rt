@@ -19,7 +19,9 @@ mod values;
 
 pub use band::Band;
 pub use capacity::{CapacityFault, fits};
-pub use config::{Config, GREATEST_REST, L1Numbers, MOST_CELLS};
+pub use config::{
+    Config, FIXED_REST, GREATEST_REST, L1_POST_BITS, L1_POST_PLP_BITS, L1Numbers, MOST_CELLS,
+};
 pub use laws::{
     block_law, delay_law, emission_law, iscr_law, length_law, range_law, refusal_law, release_law,
     run_length_law, slot_time_law, spread_law,

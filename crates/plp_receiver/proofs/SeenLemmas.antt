@@ -133,10 +133,6 @@ or_second : (a b : Bool) → b ≡ true → (a || b) ≡ true
 or_second true b h = refl
 or_second false b h = h
 
-if_carried : (a b : Bool) → a ≡ true → (not a || b) ≡ true → b ≡ true
-if_carried true b e h = h
-if_carried false b e h = absurd (true≢false (sym e))
-
 module _ (has : MapHasEachCell) (only : MapHasOnlyCells) (c : Config) (shape : FrameShape) (frame_idx : ℕ) (cells : List (Option Cell))
     (plp block : ℕ) (passes : Passes c shape)
     (configured : plp < length c.plps) (sent : block < get_or shape.counts plp 0) where
@@ -171,8 +167,9 @@ module _ (has : MapHasEachCell) (only : MapHasOnlyCells) (c : Config) (shape : F
       subst (λ (b : ℕ). IsCarried c shape frame_idx plp b x.cell) one.1
       (subst (λ (p : ℕ). IsCarried c shape frame_idx p s.block x.cell) one.0 s.there) in
       let standing : is_cell own x.cell (slice_get cells (address_of c shape frame_idx plp block x.cell)) ≡ true =
-      if_carried (is_carried c shape frame_idx plp block x.cell) _ (eq-eqb _ _ here.carried)
-      (each_true (stands c shape frame_idx cells plp block) (block_cells c plp) e x.cell here.there.within) in
+      sym (ap (λ (t : Bool). not t || is_cell own x.cell (slice_get cells (address_of c shape frame_idx plp block x.cell)))
+      (eq-eqb _ _ here.carried))
+      ∙ each_true (stands c shape frame_idx cells plp block) (block_cells c plp) e x.cell here.there.within in
       let place : address_of c shape frame_idx plp block x.cell ≡ at =
       ap (λ (b : ℕ). address_of c shape frame_idx plp b x.cell) (sym one.1)
       ∙ ap (λ (p : ℕ). address_of c shape frame_idx p s.block x.cell) (sym one.0) ∙ s.value in

@@ -8,6 +8,7 @@ returns c =
       accepted = c.not_refused.ensures;
       refused = c.refused_once.ensures;
       one_rule = c.refusal_law.ensures.one_rule;
+      one_spread = c.refusal_law.ensures.one_spread;
       rules_fail = c.refusal_law.ensures.rules_fail;
       one_test = c.refusal_law.ensures.one_test;
       tests_fail = c.refusal_law.ensures.tests_fail;
