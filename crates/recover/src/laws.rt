@@ -82,6 +82,7 @@ pub fn recover_law()
     count_law();
     length_law();
     block_law();
+    spread_law();
     field_law();
     order_law();
 }
