@@ -18,8 +18,8 @@ use std::test::Fail;
 use std::time::{Clock, Duration};
 use ts_packet::SIZE;
 
-// A runtime over another one, whose standard output takes all or nothing, whose standard error is kept, and whose clock is a second
-// later each time that it is looked at.
+// A runtime over another one, whose standard output takes all or nothing, whose standard error is kept, and whose clock is a
+// second later each time that it is looked at.
 #[derive(Drop)]
 struct Outside<R> {
     rt: R,
@@ -277,19 +277,24 @@ struct Told {
 #[rattlefmt::skip]
 static TOLD: [Told; 12] = [
     Told { words: &["plan", "c"], outcome: Outcome::Done, begins: "" },
-    Told { words: &["plan"], outcome: Outcome::Usage, begins: "these words are no command\nusage: site_cli gateway CONFIG OUT IN..\n" },
+    Told { words: &["plan"], outcome: Outcome::Usage,
+        begins: "these words are no command\nusage: site_cli gateway CONFIG OUT IN..\n" },
     Told { words: &["gateway", "c", "a", "a"], outcome: Outcome::Usage, begins: "OUT must be neither CONFIG nor an IN\n" },
     Told { words: &["gateway", "c", "o", "a", "b"], outcome: Outcome::WrongInputs { plps: 3, inputs: 2 },
         begins: "c wants one IN for each PLP, in its order: 3, and 2 were given\n" },
-    Told { words: &["gateway", "c", "o", "a", "b"], outcome: Outcome::InputRefused { input: 1, packet: 7 }, begins: "b: packet 7, " },
+    Told { words: &["gateway", "c", "o", "a", "b"], outcome: Outcome::InputRefused { input: 1, packet: 7 },
+        begins: "b: packet 7, " },
     Told { words: &["modulate", "c", "i", "o"], outcome: Outcome::NoSuperframe, begins: "i: no superframe begins in it " },
-    Told { words: &["receive", "c", "9", "i", "o"], outcome: Outcome::UnknownPlp { plp_id: 9 }, begins: "c: no PLP has the identifier 9; " },
+    Told { words: &["receive", "c", "9", "i", "o"], outcome: Outcome::UnknownPlp { plp_id: 9 },
+        begins: "c: no PLP has the identifier 9; " },
     Told { words: &["receive", "c", "0", "i", "o"], outcome: Outcome::RecordRefused { number: 4, why: RecordWhy::Order },
         begins: "i: record 4, counted from 0: " },
     Told { words: &["show", "frames", "f"], outcome: Outcome::RecordRefused { number: 4, why: RecordWhy::Order },
         begins: "f: record 4, counted from 0: " },
-    Told { words: &["show", "packets", "f"], outcome: Outcome::TooLong { count: 1 << 40 }, begins: "f: it gave 1099511627776 bytes, " },
-    Told { words: &["modulate", "c", "i", "o"], outcome: Outcome::TooLong { count: 1 << 31 }, begins: "i: frame 2147483648 of CONFIG " },
+    Told { words: &["show", "packets", "f"], outcome: Outcome::TooLong { count: 1 << 40 },
+        begins: "f: it gave 1099511627776 bytes, " },
+    Told { words: &["modulate", "c", "i", "o"], outcome: Outcome::TooLong { count: 1 << 31 },
+        begins: "i: frame 2147483648 of CONFIG " },
     Told { words: &["plan", "c"], outcome: Outcome::OutOfMemory, begins: "out of memory; " },
 ];
 
@@ -311,8 +316,8 @@ fn people_are_told_why_a_run_is_not_done(rt: HostRuntime) -> Result<(), Fail> {
     Ok(())
 }
 
-// A file in which no packet stands, of which `show t2mi` is watched. The clock is looked at when the run begins, and at each of the
-// two reads, of which the second finds the end: after a second, and after two.
+// A file in which no packet stands, of which `show t2mi` is watched. The clock is looked at when the run begins, and at each of
+// the two reads, of which the second finds the end: after a second, and after two.
 #[test]
 fn a_run_is_watched(rt: HostRuntime) -> Result<(), Fail> {
     let mut desk = MemoryDesk::new(rt.alloc());
