@@ -24,8 +24,8 @@ StartsWith bytes front ended = (more : List ℕ) × (bytes ≡ front ++ more) ×
 abbrev pub SaidPages : List ℕ → Type 0
 SaidPages said = (said ≡ []) ⊎ ((earlier : List ℕ) × (page : List ℕ) × (said ≡ earlier ++ page) × (PAGE < length page + PIECE))
 
--- When the machine gave for the last time, so little waited that there was room for a piece: of what is not said, nothing was to be
--- said before it. And nothing was said before it was to be.
+-- When the machine gave for the last time, so little waited that there was room for a piece: of what is not said, nothing was to
+-- be said before it. And nothing was said before it was to be.
 pub record HadRoom (said : List ℕ) (events : List Event) : Type 0 where
   pub before : List Event
   pub piece : List ℕ
@@ -76,9 +76,9 @@ pub record TellsTooMuch {A : Type 0} (Came : List Event → A → Type 0) (next 
   pub wants : Needs (next now) 0 (longest_file - length (fed 0 tells.events))
   pub counts : SameCounts old new
 
--- The file could not be read on, and the machine wants more than was read. What it gave was said then, unless that failed too: then
--- no more is lost than may wait (`waits`), so nothing of it was to be said before the file failed. Nor was it tried: what is said
--- before it is to be would end a page too soon.
+-- The file could not be read on, and the machine wants more than was read. What it gave was said then, unless that failed too:
+-- then no more is lost than may wait (`waits`), so nothing of it was to be said before the file failed. Nor was it tried: what is
+-- said before it is to be would end a page too soon.
 pub record TellsUntilFault {A : Type 0} (Came : List Event → A → Type 0) (next : A → Step) (old new : State) (name : List ℕ)
     (now : A) : Type 0 where
   pub place : ℕ

@@ -103,12 +103,13 @@ pub record MeetsTooManyFrames (c : Config) (old new : State) (out : List ℕ) (i
   pub counts : SameCounts old new
   pub has : IfSome old.held (λ h. HasTooManyFrames c (file_at h ins))
 
--- Behind the packets of a file, up to its first bad one, fewer bytes were read than a packet has: so no bad packet was read whole.
+-- Behind the packets of a file, up to its first bad one, fewer bytes were read than a packet has: so no bad packet was read
+-- whole.
 abbrev pub ReadsNoBad : List ℕ → ℕ → Type 0
 ReadsNoBad file place = place < SIZE * (length (packets_in file) + 1)
 
--- This input gave as many bytes as no file may have. A frame wants so many of it, no bad packet of it was read whole, and none was
--- met before. The output is the first of all units.
+-- This input gave as many bytes as no file may have. A frame wants so many of it, no bad packet of it was read whole, and none
+-- was met before. The output is the first of all units.
 pub record GivesTooMuch (c : Config) (old new : State) (out : List ℕ) (ins : List (List ℕ)) (plp : ℕ) : Type 0 where
   pub places : List ℕ
   pub frame : ℕ
@@ -123,8 +124,8 @@ pub record GivesTooMuch (c : Config) (old new : State) (out : List ℕ) (ins : L
   pub read : IfSome old.held (λ h. ReadsNoBad (file_at h ins plp) longest_file)
   pub before : IfSome old.held (λ h. MeetsNoneBefore c (file_at h ins) frame plp)
 
--- This input, of which a frame wants more than was read, could not be read on, no bad packet of it was read whole, and none was met
--- before. The output is the complete units of the frames before this one.
+-- This input, of which a frame wants more than was read, could not be read on, no bad packet of it was read whole, and none was
+-- met before. The output is the complete units of the frames before this one.
 pub record StopsReading (c : Config) (old new : State) (out : List ℕ) (ins : List (List ℕ)) (plp : ℕ) : Type 0 where
   pub places : List ℕ
   pub frame : ℕ

@@ -14,8 +14,8 @@ use Rattle.show_run.specs.declared.stop.ShowStop.TheVariants.{PacketRefused, Rec
 abbrev pub AreFirst : List ℕ → List ℕ → Type 0
 AreFirst file text = (packets : List (List ℕ)) × (rest : List ℕ) × Packs file packets rest × (text ≡ lines_of 0 packets)
 
--- Of so many bytes that were read, packets were met that end within the length of a packet: so no refused one was met. The text is
--- the lines of these packets.
+-- Of so many bytes that were read, packets were met that end within the length of a packet: so no refused one was met. The text
+-- is the lines of these packets.
 abbrev pub SaysMet : List ℕ → ℕ → List ℕ → Type 0
 SaysMet file given text = (packets : List (List ℕ)) × (rest : List ℕ) × Packs file packets rest
     × (given ≤ bytes_in packets + LARGEST) × (text ≡ lines_of 0 packets)
