@@ -146,6 +146,7 @@ no_config old new name (config.Refused cause) n = inl n.1
 no_config old new name config.ReadFault n = inr (inl n.counts.rose)
 no_config old new name config.OutOfMemory n = inr (inr (inr refl))
 no_config old new name (config.Lacks fault) n = absurd n
+no_config old new name (config.NotBuilt at) n = absurd n
 
 no_plan : (old new : State) (name : List ℕ) (stop : ConfigStop) → GivesNoPlan old new name stop
     → IfSome old.held (λ held. GivesPlan (bytes_of held.files name) (Err stop)) ⊎ By old new (config_outcome stop)
