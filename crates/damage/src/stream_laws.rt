@@ -1,5 +1,6 @@
 // Laws of streams. Their functions do nothing.
-ghost use Rattle.damage.specs.StreamLaws.{SurvivalLength, ReadAreSurvivors, HonestGroups, HonestNumbers, HonestRecords, KeptHonest, KeptWhole};
+ghost use Rattle.damage.specs.StreamLaws.{SurvivalLength, ReadAreSurvivors, HonestGroups, HonestNumbers, HonestRecords};
+ghost use Rattle.damage.specs.StreamLaws.{KeptHonest, KeptWhole};
 
 use crate::laws::{group_law, near_law, number_law, record_law, whole_law};
 use t2mi_stream::{survives, survivor_law, undamaged_law};

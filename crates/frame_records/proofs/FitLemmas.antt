@@ -1,6 +1,6 @@
 -- The frames of a plan fit a record.
-use Rattle.std.proofs.Common.{◌≡◌, ℕ, zero, suc, ◌+◌, ◌-◌, ◌*◌, ◌/◌, ◌^◌, ◌<◌, ◌≤◌, ◌%◌, ◌==◌, ◌&&◌, Bool, true, false, cond, Option}
-use Rattle.std.proofs.Common.{Some, None, List, [], ◌∷◌, length, refl, sym, ap, ap₂, subst, ◌∙◌, arith, lit≤}
+use Rattle.std.proofs.Common.{◌≡◌, ℕ, zero, suc, ◌+◌, ◌-◌, ◌*◌, ◌/◌, ◌^◌, ◌<◌, ◌≤◌, ◌%◌, ◌==◌, ◌&&◌, Bool, true, false, cond}
+use Rattle.std.proofs.Common.{Option, Some, None, List, [], ◌∷◌, length, refl, sym, ap, ap₂, subst, ◌∙◌, arith, lit≤}
 use Rattle.std.specs.Prelude.{map, find, min, sum, sum_by, slice_index}
 use Rattle.std.specs.List.{flat_map, range_with_len, AllByRecursion}
 use Rattle.std.specs.FinMap.{get}
@@ -212,7 +212,8 @@ every_frame_fits bits emits field cells c n frame_idx post blocks shape is small
     let count : sum shape.counts ≤ 38000 = few_blocks field c shape is len passes in
     let addresses : length (frame_cells c shape frame_idx) ≡ c.cells = cells_count c shape frame_idx in
     let pre = length-l1_pre bits c in
-    let rest : 35 + div_ceil (post_len (length c.plps)) 8 + 4 * c.cells + sum_by block_room c.plps ≤ GREATEST_REST = is.tests RecordLength in
+    let rest : 35 + div_ceil (post_len (length c.plps)) 8 + 4 * c.cells + sum_by block_room c.plps ≤ GREATEST_REST =
+    is.tests RecordLength in
     let bytes : bytes_for (length post) ≤ div_ceil (post_len (length c.plps)) 8 = omega (arith, short) in
     record {
       moment = (omega (arith, moment), omega (arith, moment));

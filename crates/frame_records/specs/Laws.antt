@@ -73,7 +73,8 @@ IsSentBlock b = (b.plp_id < 2 ^ 8) × (length b.bytes ≤ MOST_BLOCK_BYTES)
 abbrev pub EveryFrameFits : Type 0
 EveryFrameFits = (c : Config) (n frame_idx : ℕ) (post : List Bool) (blocks : List Block) (shape : FrameShape) → IsPlan c
     → n < 2 ^ 32
-    → length post ≤ post_len (length c.plps) → length shape.counts ≡ length c.plps → Passes c shape → length blocks ≤ sum shape.counts
+    → length post ≤ post_len (length c.plps) → length shape.counts ≡ length c.plps → Passes c shape
+    → length blocks ≤ sum shape.counts
     → sum_by block_size blocks ≤ sum_by block_room c.plps → AllByRecursion IsSentBlock blocks
     → FitsRecord (frame_view c (emission c n) frame_idx post blocks shape)
 

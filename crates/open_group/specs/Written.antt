@@ -23,8 +23,8 @@ abbrev pub shape_in : Config → List Packet → FrameShape
 shape_in c packets = unwrap_or (first_shape c packets) (blank (length c.plps))
 
 -- the frame that packets make, as frame n: it leaves when frame n does, L1-pre and the configurable part are the configuration's,
--- the dynamic part is as it came, the blocks stand PLP by PLP, scrambled, and each cell that frame n carries at its address by the
--- shape that was told
+-- the dynamic part is as it came, the blocks stand PLP by PLP, scrambled, and each cell that frame n carries stands at its
+-- address by the shape that was told
 abbrev pub packets_view : Config → ℕ → List Packet → RecordView
 packets_view c n packets =
     frame_view c (emission c n) (n % c.frames) (post_with c (dynamic_in packets))

@@ -1,6 +1,6 @@
 // The record that is given: of the group's frame, or of a muted one.
-ghost use Rattle.std.specs.Prelude.{◌≡◌, ◌<◌, ◌≤◌, ◌⊎◌, ◌↔◌, ◌++◌, ◌^◌, ◌%◌, [], true, false, is_some, Option, Some, None, length};
-ghost use Rattle.std.specs.Prelude.{take, drop, ℕ};
+ghost use Rattle.std.specs.Prelude.{◌≡◌, ◌<◌, ◌≤◌, ◌⊎◌, ◌↔◌, ◌++◌, ◌^◌, ◌%◌, [], true, false, is_some, Option, Some, None};
+ghost use Rattle.std.specs.Prelude.{length, take, drop, ℕ};
 ghost use Rattle.plp_config.specs.Emission.{emission};
 ghost use Rattle.site_frame.specs.Whole.{record_bytes};
 ghost use Rattle.frame_groups.specs.Groups.{Group};

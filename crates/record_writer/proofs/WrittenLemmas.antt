@@ -79,7 +79,8 @@ record_written order c moment frame_idx dynamic shape lists =
     let spelled : blocks_bytes blocks [] ≡ lists_bytes c 0 lists = order blocks ∙ all_bytes c 0 lists in
     let all : flat_map cell_bytes (frame_cells c shape frame_idx) ≡ words c shape frame_idx 0 c.cells =
     words_are c shape frame_idx (range_with_len 0 c.cells) in
-    joined head pre (bits ++ bytes_of post) count (lists_bytes c 0 lists) (big_bytes 4 c.cells) (words c shape frame_idx 0 c.cells)
+    joined head pre (bits ++ bytes_of post) count (lists_bytes c 0 lists) (big_bytes 4 c.cells)
+    (words c shape frame_idx 0 c.cells)
     ∙ ap₂ (λ (p b : List ℕ).
     head ++ (pre ++ ((bits ++ p) ++ ((count ++ b) ++ ((big_bytes 4 c.cells ++ words c shape frame_idx 0 c.cells) ++ [])))))
     (ap bytes_of (sym (append-nil post))) (sym spelled)
@@ -208,7 +209,8 @@ rest_length bits conf order c moment frame_idx dynamic shape lists h =
     let sized : length (big_bytes 2 (length blocks) ++ blocks_bytes blocks [])
     ≡ 2 + sum_by (λ plp. slice_index shape.counts plp * (4 + block_bytes c plp)) (range_with_len 0 (length c.plps)) =
     omega (arith, ap (λ (l : List ℕ). length l) (order blocks ∙ all_bytes c 0 lists), all) in
-    let cells : length (big_bytes 4 (length (frame_cells c shape frame_idx)) ++ flat_map cell_bytes (frame_cells c shape frame_idx))
+    let cells : length (big_bytes 4 (length (frame_cells c shape frame_idx))
+    ++ flat_map cell_bytes (frame_cells c shape frame_idx))
     ≡ 4 + 4 * c.cells =
     omega (
       arith,

@@ -61,8 +61,8 @@ post_size c dynamic = conf_len (length c.plps) + dynamic + CRC_BITS
 abbrev pub RestLength : Type 0
 RestLength = (c : Config) (moment : Moment) (frame_idx : ℕ) (dynamic : List Bool) (shape : FrameShape)
     (lists : List (List (List ℕ))) → HasBlocks c shape lists
-    → length (concat (written_rest (written_frame c moment frame_idx dynamic shape lists))) ≡ rest_size c (post_size c (length dynamic))
-    (slice_index shape.counts)
+    → length (concat (written_rest (written_frame c moment frame_idx dynamic shape lists)))
+    ≡ rest_size c (post_size c (length dynamic)) (slice_index shape.counts)
 
 -- A frame of a plan fits a record, if its dynamic part has no more bits than those of the plan: so what is written of it spells
 -- it, and is read back.

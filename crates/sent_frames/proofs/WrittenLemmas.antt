@@ -1,6 +1,6 @@
 -- What is written of the packets of a frame is the frame.
-use Rattle.std.proofs.Common.{◌≡◌, ℕ, zero, suc, ◌+◌, ◌%◌, ◌<◌, ◌≤◌, Bool, List, [], ◌++◌, length, Option, refl, ap, ap₂, ◌∙◌, arith}
-use Rattle.std.proofs.Common.{map}
+use Rattle.std.proofs.Common.{◌≡◌, ℕ, zero, suc, ◌+◌, ◌%◌, ◌<◌, ◌≤◌, Bool, List, [], ◌++◌, length, Option, refl, ap, ap₂}
+use Rattle.std.proofs.Common.{◌∙◌, arith, map}
 use Rattle.std.specs.Prelude.{slice_get, unwrap_or}
 use Rattle.std.specs.List.{flat_map, range_with_len}
 use Rattle.std.specs.Option.{option_map_or, option_and_then}
