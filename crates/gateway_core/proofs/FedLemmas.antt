@@ -3,13 +3,16 @@ use Rattle.std.proofs.Common.{◌≡◌, ℕ, zero, suc, ◌+◌, ◌-◌, ◌*�
 use Rattle.std.proofs.Common.{Some, None, length, map, replicate, is_some, refl, ap, sym, subst, ◌∙◌, arith, append-nil}
 use Rattle.std.proofs.Common.{append_assoc, max, inl, inr}
 use Rattle.std.proofs.Math.Nat.{mul-le-mul_right}
-use Rattle.std.specs.Prelude.{slice_index_or, Result, Ok, Err, OnOk, IfErr}
+use Rattle.std.proofs.Math.Logic.{∥∥₁_map}
+use Rattle.std.proofs.lemmas.Grind.{not_there}
+use Rattle.std.specs.Prelude.{slice_index_or, Result, Ok, Err, OnOk, IfErr, IsOk}
 use Rattle.std.proofs.lemmas.Bool.{cases_eq}
 use Rattle.std.proofs.lemmas.Grind.{flat_map-append}
 use Rattle.std.proofs.lemmas.List.{replicate_more, get_or_append_left, length_push, length-map}
 use Rattle.std.proofs.lemmas.List.Sums.{sum_by-append}
 use Rattle.terms.specs.Bits.{bits_of}
 use Rattle.linked_pool.specs.Pool.{State, list_at, Others}
+use Rattle.linked_pool.specs.declared.pool.PoolFull.{PoolFull}
 use Rattle.plp_config.specs.Capacity.{IsPlan}
 use Rattle.plp_config.specs.Laws.{CountRises, NoneAtZero, SlotLength}
 use Rattle.plp_config.specs.Rules.{AllRules}
@@ -20,7 +23,7 @@ use Rattle.plp_config.specs.declared.config.Config.{Config}
 use Rattle.ts_packet.specs.Null.{null_packet}
 use Rattle.mode_adapt.specs.Deletion.{packet_at}
 use Rattle.mode_adapt.specs.Blocks.{blocks_of}
-use Rattle.mode_adapt.specs.Calls.{TakesIfReady, EndsIfReady}
+use Rattle.mode_adapt.specs.Calls.{TakesIfReady, EndsIfReady, LacksPlace}
 use Rattle.mode_adapt.specs.Events as queue
 use Rattle.mode_adapt.specs.Events.{packet_of, is_cut, HasRoom, IsDue}
 use Rattle.mode_adapt.specs.Laws.{BlocksLaw}
@@ -28,7 +31,9 @@ use Rattle.mode_adapt.specs.Place.{AreShort, HasPlace}
 use Rattle.mode_adapt.specs.StandsFor.{ChainStandsFor, early_blocks}
 use Rattle.mode_adapt.specs.declared.chain.Chain.{Chain}
 use Rattle.gateway_core.specs.Told.{Told, with_packet, Continues}
-use Rattle.gateway_core.specs.IsFed.{Fed}
+use Rattle.gateway_core.specs.IsFed.{Fed, IsSupplied}
+use Rattle.gateway_core.specs.Served.{IsServed}
+use Rattle.gateway_core.specs.declared.input.Input.{Input}
 use Rattle.gateway_core.specs.InputsStandFor.{Cuts}
 use Rattle.gateway_core.specs.Lists.{bits_in, AllShort}
 
@@ -232,6 +237,26 @@ fed_open chain c plp alone h none e =
 pub took : {T E P : Type 0} {Q : E → Type 0} (r : Result T E) → OnOk r P → IfErr r Q → ((e : E) → Q e → ⊥) → P
 took (Ok x) p q never = p
 took (Err e) p q never = absurd (never e q)
+
+-- a block for which the pool is ready is not refused
+pub is_put : {T : Type 0} (r : Result T PoolFull) (chain : Chain) (pool : State) (list : ℕ)
+    → IfErr r (λ e. LacksPlace chain pool list e.need) → ∥ IsServed chain pool list ∥₁ → IsOk r
+is_put (Ok x) chain pool list lacks s = refl
+is_put (Err e) chain pool list lacks s =
+    absurd (not_there s (λ k. (lacks k.config k.plp k.events k.ready.stands).never k.ready))
+
+pub served : (i : Input) (pool : State) (list : ℕ) → ∥ IsSupplied i pool list ∥₁ → ∥ IsServed i.chain pool list ∥₁
+served i pool list h = ∥∥₁_map h (λ (s : IsSupplied i pool list). record {
+  config = s.config;
+  plp = s.plp;
+  events = s.fed.events;
+  ready = record { stands = s.fed.stands; put = s.fed.early_is; place = s.place };
+})
+
+-- what is told of an input that ended
+pub ended_told : (b : Bool) (n : ℕ) (total : Option ℕ) → is_some total ≡ true → total ≡ cond b (Some n) None → b ≡ true
+ended_told true n total some e = refl
+ended_told false n total some e = absurd (let z : false ≡ true = subst (λ (o : Option ℕ). is_some o ≡ true) e some in cc)
 
 -- A pool whose other lists stay has place as before.
 pub place_stays : (c : Config) (plp : ℕ) (was is : State) (list : ℕ) → Others was is list → HasPlace c plp was list

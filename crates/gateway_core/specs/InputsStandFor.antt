@@ -26,6 +26,12 @@ abbrev pub AllFed : List Input → (ℕ → List (List Bool)) → Config → Lis
 AllFed inputs early c events = (j : ℕ) (d : Input) → j < length inputs → IsFed (slice_index_or inputs j d) c j (told j events)
     (early j)
 
+-- There are events that they stand for, with so many frames begun.
+pub record AreSupplied (c : Config) (frame : ℕ) (inputs : List Input) (early : ℕ → List (List Bool)) : Type 0 where
+  pub events : List Event
+  pub frame_is : frame ≡ begun events
+  pub fed : AllFed inputs early c events
+
 -- No PLP gives more blocks than the configuration allows.
 abbrev pub AreFor : List Input → Config → Type 0
 AreFor inputs c = (j : ℕ) (d : Input) → j < length inputs → most (slice_index_or inputs j d) ≡ (plp_at c.plps j).blocks

@@ -5,9 +5,12 @@ use Rattle.plp_config.specs.Plps.{StandsAlone}
 use Rattle.plp_config.specs.SlotTime.{slots_by}
 use Rattle.plp_config.specs.declared.config.Config.{Config}
 use Rattle.ts_packet.specs.Null.{null_packet}
+use Rattle.linked_pool.specs.Pool.{State}
 use Rattle.mode_adapt.specs.Events as queue
+use Rattle.mode_adapt.specs.Place.{HasPlace}
 use Rattle.mode_adapt.specs.StandsFor.{ChainStandsFor, most_blocks, early_blocks}
 use Rattle.mode_adapt.specs.declared.chain.Chain.{Chain}
+use Rattle.gateway_core.specs.Lists.{bits_in}
 use Rattle.gateway_core.specs.Told.{Told}
 use Rattle.gateway_core.specs.declared.input.Input.{Input}
 
@@ -34,6 +37,14 @@ pub record Fed (chain : Chain) (due slot : ℕ) (total : Option ℕ) (c : Config
 
 abbrev pub IsFed : Input → Config → ℕ → Told → List (List Bool) → Type 0
 IsFed i c plp t early = Fed i.chain i.due i.slot i.total c plp t early
+
+-- An input stands for what it was told, and its pool is ready for whatever block its chain puts next.
+pub record IsSupplied (i : Input) (pool : State) (list : ℕ) : Type 0 where
+  pub config : Config
+  pub plp : ℕ
+  pub told : Told
+  pub place : HasPlace config plp pool list
+  pub fed : IsFed i config plp told (bits_in pool list)
 
 -- the greatest number of blocks that an input gives for a frame
 abbrev pub most : Input → ℕ

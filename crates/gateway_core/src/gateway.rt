@@ -3,7 +3,8 @@ ghost use Rattle.std.specs.Prelude.{◌≡◌, ◌<◌, ◌≤◌, ◌^◌, true
 ghost use Rattle.linked_pool.specs.Fits.{frame_chunks};
 ghost use Rattle.plp_config.specs.Places.{FramesStandAlone};
 ghost use Rattle.plp_config.specs.declared.moment.TheConstants.{MOST_FRAMES};
-ghost use Rattle.gateway_core.specs.InputsStandFor.{AreFor};
+ghost use Rattle.gateway_core.specs.InputsStandFor.{AreFor, AreSupplied};
+ghost use Rattle.gateway_core.specs.Left.{early_of};
 ghost use Rattle.gateway_core.specs.declared.frame.Step.TheVariants.{Over};
 
 use crate::flow::Flow;
@@ -13,6 +14,7 @@ use crate::inputs::{cut, end, offer, open_inputs, wanted};
 use crate::run_length::frame_count;
 use crate::signalling::Signalling;
 use bit_slice::OutOfMemory;
+use mode_adapt::early_fits_law;
 use plp_config::{Plan, spread_law};
 use std::alloc::Global;
 use ts_packet::{SIZE, TsPacket};
@@ -36,6 +38,7 @@ pub struct Gateway<'p> {
     ghost chunks: { frame.blocks.opened ≡ frame_chunks plan.now },
     ghost over: { flow.dry ≡ true → frame.step ≡ Over },
     ghost alone: { FramesStandAlone plan.now },
+    ghost supplied: { ∥ AreSupplied plan.now frames inputs.items (early_of frame) ∥₁ },
 }
 
 // If frames stand alone, a pool has few chunks. It does nothing.
@@ -106,6 +109,7 @@ impl<'p> Gateway<'p> {
         ensures others { (other : ℕ) → other ≢ plp → wants_of self.new other ≡ wants_of self.old other }
         ensures status { status_of self.new ≡ status_of self.old }
     {
+        early_fits_law();
         self.plan.obeys_rules();
         offer(&mut self.inputs, &mut self.frame.blocks, plp, packet);
     }

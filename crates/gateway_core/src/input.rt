@@ -4,6 +4,7 @@ ghost use Rattle.linked_pool.specs.Pool.{Others, IsWhole};
 ghost use Rattle.mode_adapt.specs.Calls.{TakesIfReady, EndsIfReady};
 ghost use Rattle.mode_adapt.specs.StandsFor.{slot_of, most_blocks};
 ghost use Rattle.gateway_core.specs.Lists.{bits_in, AllShort};
+ghost use Rattle.gateway_core.specs.Served.{IsServed};
 
 use bit_slice::OutOfMemory;
 use linked_pool::Pool;
@@ -32,6 +33,7 @@ pub struct Input {
 fn offer_to(chain: &mut Chain, packet: &TsPacket, pool: &mut Pool, list: u32)
     requires slot { slot_of chain.old < 2 ^ 54 }
     requires list { list < length pool.old.lists }
+    requires ready { ∥ IsServed chain.old pool.old list ∥₁ }
     ensures takes { TakesIfReady chain.old chain.new packet.now pool.old pool.new list }
     ensures slots { slot_of chain.new ≡ slot_of chain.old + 1 }
     ensures most { most_blocks chain.new ≡ most_blocks chain.old }
@@ -39,12 +41,13 @@ fn offer_to(chain: &mut Chain, packet: &TsPacket, pool: &mut Pool, list: u32)
     ensures others { Others pool.old pool.new list }
     ensures whole { IsWhole pool.new }
 {
-    let _ = chain.offer(packet, pool, list);
+    chain.offer(packet, pool, list).unwrap();
 }
 
 // Ends the next frame: how many blocks it has. A pool that is ready has room for every one.
 fn end_frame(chain: &mut Chain, pool: &mut Pool, list: u32) -> u16
-    requires { list < length pool.old.lists }
+    requires list { list < length pool.old.lists }
+    requires ready { ∥ IsServed chain.old pool.old list ∥₁ }
     ensures ends { EndsIfReady chain.old chain.new pool.old pool.new list result }
     ensures few { result ≤ most_blocks chain.old }
     ensures slots { slot_of chain.new ≡ slot_of chain.old }
@@ -53,14 +56,11 @@ fn end_frame(chain: &mut Chain, pool: &mut Pool, list: u32) -> u16
     ensures others { Others pool.old pool.new list }
     ensures whole { IsWhole pool.new }
 {
-    match chain.cut(pool, list) {
-        Ok(count) => count as u16,
-        Err(_) => 0,
-    }
+    chain.cut(pool, list).unwrap() as u16
 }
 
 impl Input {
-    ghost use Rattle.std.specs.Prelude.{◌≡◌, ◌<◌, ◌≤◌, ◌+◌, ◌*◌, ◌^◌, ℕ, List, Bool, [], true, false, length, IfOk, IfSome};
+    ghost use Rattle.std.specs.Prelude.{◌≡◌, ◌<◌, ◌≤◌, ◌+◌, ◌*◌, ◌^◌, ℕ, List, Bool, [], true, false, length, IfOk, IfSome, is_some};
     ghost use Rattle.linked_pool.specs.Pool.{list_at, Others, IsWhole};
     ghost use Rattle.plp_config.specs.Plps.{plp_at, StandsAlone};
     ghost use Rattle.plp_config.specs.Capacity.{IsPlan};
@@ -68,7 +68,7 @@ impl Input {
     ghost use Rattle.plp_config.specs.declared.config.Config.{Config};
     ghost use Rattle.mode_adapt.specs.Place.{HasPlace};
     ghost use Rattle.gateway_core.specs.Told.{Told, with_packet, at_end};
-    ghost use Rattle.gateway_core.specs.IsFed.{IsFed, wanted, most};
+    ghost use Rattle.gateway_core.specs.IsFed.{IsFed, IsSupplied, wanted, most};
     ghost use Rattle.gateway_core.specs.InputsStandFor.{HasCut};
 
     /// An input of no packets yet, for the PLP at a place of the plan. No later call takes memory.
@@ -113,6 +113,7 @@ impl Input {
     pub fn offer(&mut self, packet: &TsPacket, pool: &mut Pool, list: u32)
         requires wanted { 0 < wanted self.old }
         requires list { list < length pool.old.lists }
+        requires ready { ∥ IsSupplied self.old pool.old list ∥₁ }
         ensures fed { (c : Config) (plp : ℕ) (t : Told) → HasPlace c plp pool.old list
             → IsFed self.old c plp t (bits_in pool.old list)
             → IsFed self.new c plp (with_packet t packet.now) (bits_in pool.new list) }
@@ -142,9 +143,12 @@ impl Input {
     fn offer_null(&mut self, pool: &mut Pool, list: u32)
         requires before { self.old.slot < self.old.due }
         requires list { list < length pool.old.lists }
+        requires ended { is_some self.old.total ≡ true }
+        requires ready { ∥ IsSupplied self.old pool.old list ∥₁ }
         ensures fed { (c : Config) (plp : ℕ) (t : Told) → t.ended ≡ true → HasPlace c plp pool.old list
             → IsFed self.old c plp t (bits_in pool.old list)
             → IsFed self.new c plp t (bits_in pool.new list) }
+        ensures ready { ∥ IsSupplied self.new pool.new list ∥₁ }
         ensures slot { self.new.slot ≡ self.old.slot + 1 }
         ensures due { self.new.due ≡ self.old.due }
         ensures total { self.new.total ≡ self.old.total }
@@ -158,7 +162,10 @@ impl Input {
 
     // Null packets up to the slots that are over.
     fn fill(&mut self, pool: &mut Pool, list: u32)
-        requires { list < length pool.old.lists }
+        requires list { list < length pool.old.lists }
+        requires ended { is_some self.old.total ≡ true }
+        requires ready { ∥ IsSupplied self.old pool.old list ∥₁ }
+        ensures ready { ∥ IsSupplied self.new pool.new list ∥₁ }
         ensures fed { (c : Config) (plp : ℕ) (t : Told) → t.ended ≡ true → HasPlace c plp pool.old list
             → IsFed self.old c plp t (bits_in pool.old list)
             → IsFed self.new c plp t (bits_in pool.new list) }
@@ -177,6 +184,8 @@ impl Input {
     fn complete(&mut self, pool: &mut Pool, list: u32)
         requires wanted { wanted self.old ≡ 0 }
         requires list { list < length pool.old.lists }
+        requires ready { ∥ IsSupplied self.old pool.old list ∥₁ }
+        ensures ready { ∥ IsSupplied self.new pool.new list ∥₁ }
         ensures fed { (c : Config) (plp : ℕ) (t : Told) → HasPlace c plp pool.old list
             → IsFed self.old c plp t (bits_in pool.old list)
             → IsFed self.new c plp t (bits_in pool.new list) }
@@ -198,6 +207,7 @@ impl Input {
         requires wanted { wanted self.old ≡ 0 }
         requires small { due < 2 ^ 54 }
         requires list { list < length pool.old.lists }
+        requires ready { ∥ IsSupplied self.old pool.old list ∥₁ }
         ensures cut { (c : Config) (plp : ℕ) (t : Told) → IsPlan c → plp < length c.plps → HasPlace c plp pool.old list
             → due ≡ slots_by c plp ((t.frame + 1) * c.ticks)
             → IsFed self.old c plp t (bits_in pool.old list) → HasCut self.new c plp t pool.new result }

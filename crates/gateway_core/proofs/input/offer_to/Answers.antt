@@ -1,4 +1,4 @@
-use Rattle.gateway_core.proofs.FedLemmas.{took, all_short}
+use Rattle.gateway_core.proofs.FedLemmas.{took, is_put, all_short}
 use Rattle.gateway_core.proofs.input.offer_to.Goals as goal
 
 pub returns-clause-takes : goal.returns-clause-takes
@@ -8,3 +8,6 @@ returns-clause-takes c = λ config plp events ready room.
 
 pub returns-clause-short : goal.returns-clause-short
 returns-clause-short c = all_short c.args.pool.now c.offer.new.pool c.args.list c.offer.ensures.others c.offer.ensures.short
+
+pub unwrap-requires : goal.unwrap-requires
+unwrap-requires c = is_put c.offer.result c.args.chain.now c.args.pool.now c.args.list c.offer.ensures.lacks c.requires.ready
