@@ -91,15 +91,34 @@ const OLD_HEAD_NEW_LINE: &[&str] = &[
     SMALL_LINE,
 ];
 
-// A rule that fails at a place.
-const fn refused(rule: u8, place: u8) -> Outcome {
-    Outcome::ConfigRefused {
-        cause: ConfigCause::Rule {
-            rule,
-            plp: Some(place),
-        },
-    }
-}
+// Rules that fail at a place.
+const THIRDS_REFUSED: Outcome = Outcome::ConfigRefused {
+    cause: ConfigCause::Rule {
+        rule: 15,
+        plp: Some(0),
+    },
+};
+
+const TWO_BLOCKS_REFUSED: Outcome = Outcome::ConfigRefused {
+    cause: ConfigCause::Rule {
+        rule: 16,
+        plp: Some(0),
+    },
+};
+
+const UNEQUAL_REFUSED: Outcome = Outcome::ConfigRefused {
+    cause: ConfigCause::Rule {
+        rule: 19,
+        plp: Some(2),
+    },
+};
+
+const LAST_REFUSED: Outcome = Outcome::ConfigRefused {
+    cause: ConfigCause::Rule {
+        rule: 11,
+        plp: Some(2),
+    },
+};
 
 const LINE_9: Outcome = Outcome::ConfigRefused {
     cause: ConfigCause::Text {
@@ -157,19 +176,19 @@ plp=0 slot=48128/7 delay=606877 field=869 capacity=6952 need=5469 cells=32400 wi
     },
     Row {
         why: "a spread of 3 does not divide a superframe of 2", files: &[("f", File { text: THIRDS, ..ONCE })],
-        outcome: refused(15, 0), status: 3, said: &["refused: config rule 15 plp 0\n"], ..PLAN
+        outcome: THIRDS_REFUSED, status: 3, said: &["refused: config rule 15 plp 0\n"], ..PLAN
     },
     Row {
         why: "a spread of 2 goes with one TI-block", files: &[("f", File { text: TWO_BLOCKS, ..ONCE })],
-        outcome: refused(16, 0), status: 3, said: &["refused: config rule 16 plp 0\n"], ..PLAN
+        outcome: TWO_BLOCKS_REFUSED, status: 3, said: &["refused: config rule 16 plp 0\n"], ..PLAN
     },
     Row {
         why: "a PLP has another rate than the common one of its group", files: &[("f", File { text: UNEQUAL, ..ONCE })],
-        outcome: refused(19, 2), status: 3, said: &["refused: config rule 19 plp 2\n"], ..PLAN
+        outcome: UNEQUAL_REFUSED, status: 3, said: &["refused: config rule 19 plp 2\n"], ..PLAN
     },
     Row {
         why: "a common PLP stands behind one of type 1", files: &[("f", File { text: COMMON_LAST, ..ONCE })],
-        outcome: refused(11, 2), status: 3, said: &["refused: config rule 11 plp 2\n"], ..PLAN
+        outcome: LAST_REFUSED, status: 3, said: &["refused: config rule 11 plp 2\n"], ..PLAN
     },
     Row {
         why: "version 2 wants a spread", files: &[("f", File { text: NEW_HEAD_OLD_LINE, ..ONCE })],
