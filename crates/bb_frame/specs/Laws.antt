@@ -28,9 +28,10 @@ OneRefusal = (bits : List Bool) (fault other : BbFault) → Refuses bits fault �
 abbrev pub ScramblesBack : Type 0
 ScramblesBack = (bits : List Bool) → scrambled (scrambled bits) ≡ bits
 
--- How many bits there are: those of a header; in a frame as many as it is given, if the data field fits; and scrambling changes no
--- number.
+-- How many bits there are: those of a header; in a frame as many as it is given, if the data field fits; and scrambling
+-- changes no number.
 pub record BitCounts : Type 0 where
   pub header : (h : Header) → length (header_bits h) ≡ HEADER_BITS
-  pub frame : (h : Header) (body : List Bool) (size : ℕ) → HEADER_BITS + length body ≤ size → length (frame_bits h body size) ≡ size
+  pub frame : (h : Header) (body : List Bool) (size : ℕ) → HEADER_BITS + length body ≤ size → length (frame_bits h body size)
+      ≡ size
   pub scrambled : (bits : List Bool) → length (scrambled bits) ≡ length bits

@@ -1,5 +1,6 @@
 -- Cells by slice and place in the slice.
-use Rattle.std.proofs.Common.{◌≡◌, ℕ, zero, suc, ◌+◌, ◌-◌, ◌*◌, ◌/◌, ◌%◌, ◌<◌, ◌≤◌, Bool, true, false, cond, length, refl, ap, sym, ◌∙◌}
+use Rattle.std.proofs.Common.{◌≡◌, ℕ, zero, suc, ◌+◌, ◌-◌, ◌*◌, ◌/◌, ◌%◌, ◌<◌, ◌≤◌, Bool, true, false, cond, length, refl, ap}
+use Rattle.std.proofs.Common.{sym, ◌∙◌}
 use Rattle.std.proofs.Common.{arith}
 use Rattle.std.specs.Prelude.{slice_index}
 use Rattle.std.proofs.lemmas.Nat.{div-add-mod', mod_below, div-mul-add, mod-mul-add, div_below, mul-le, mul-add-lt}
@@ -78,7 +79,8 @@ pub at_place : (c : Config) (shape : FrameShape) (frame j b q k t : ℕ) → k <
     → At c shape frame j b q k t
 at_place c shape frame j b q k t hk ht e =
     let w : ℕ = cells_of c shape.counts j in
-    let place : position_of c shape j b q - first_position c shape frame j ≡ k * (slices_of c shape j).len + t = omega (arith, e) in
+    let place : position_of c shape j b q - first_position c shape frame j ≡ k * (slices_of c shape j).len + t = omega
+    (arith, e) in
     record {
       slice = hk;
       inner = ht;
@@ -150,7 +152,8 @@ cell_of_at c shape frame j k t is h hk ht =
     )
 
 -- a PLP's cells by place are one
-pub one_cell : (c : Config) (shape : FrameShape) (frame j b q d r k t : ℕ) → IsPlan c → IsCell c shape j b q → IsCell c shape j d r
+pub one_cell : (c : Config) (shape : FrameShape) (frame j b q d r k t : ℕ) → IsPlan c → IsCell c shape j b q
+    → IsCell c shape j d r
     → At c shape frame j b q k t → At c shape frame j d r k t → (b ≡ d) × (q ≡ r)
 one_cell c shape frame j b q d r k t is x y ax ay =
     position_one (block_cells c j) (plp_at c.plps j).interleave (slice_index shape.counts j) b q d r

@@ -1,5 +1,6 @@
 -- The facts of `ShareLemmas`, of what the code computed.
-use Rattle.std.proofs.Common.{◌≡◌, ℕ, ◌+◌, ◌-◌, ◌*◌, ◌/◌, ◌%◌, ◌<◌, ◌≤◌, ◌⊎◌, ⊎_elim, List, length, take, sum, ap, sym, ◌∙◌, arith}
+use Rattle.std.proofs.Common.{◌≡◌, ℕ, ◌+◌, ◌-◌, ◌*◌, ◌/◌, ◌%◌, ◌<◌, ◌≤◌, ◌⊎◌, ⊎_elim, List, length, take, sum, ap, sym, ◌∙◌}
+use Rattle.std.proofs.Common.{arith}
 use Rattle.std.specs.Prelude.{slice_index}
 use Rattle.std.proofs.lemmas.List.Sums.{sum_by_more}
 use Rattle.plp_config.specs.Capacity.{IsPlan, block_cells}
@@ -76,7 +77,8 @@ not_beyond c shape plp passes h w =
     w
 
 pub not_shared : (c : Config) (shape : FrameShape) (i j : ℕ) → Passes c shape → ¬ (Shares c shape i j)
-not_shared c shape i j passes s = s.apart (passes.apart s.frame_idx i s.block s.cell j s.other_block s.other_cell s.one s.other s.same)
+not_shared c shape i j passes s = s.apart
+    (passes.apart s.frame_idx i s.block s.cell j s.other_block s.other_cell s.one s.other s.same)
 
 -- the address that the code computes
 pub record Computes (c : Config) (shape : FrameShape) (frame plp block cell start place interval len : ℕ) : Type 0 where

@@ -158,7 +158,8 @@ find-some key v (e ∷ es) h has =
     ∙ find-some key v es h.1 (⊎_elim (λ (a : e.0 ≡ key). absurd (keys_differ key e.0 t a)) (λ (b : Has key es). b) has))
 
 -- the cell found at an address is the map's
-pub get-found : (c : Config) (shape : FrameShape) (frame address : ℕ) (v : Cell) → Passes c shape → StandsAt c shape frame address v
+pub get-found : (c : Config) (shape : FrameShape) (frame address : ℕ) (v : Cell) → Passes c shape
+    → StandsAt c shape frame address v
     → get (cell_map c shape frame) address ≡ Some v
 unfolding cell_map
 get-found c shape frame address v passes found =
@@ -186,7 +187,8 @@ get-none c shape frame address none =
 
 -- what was found, or not, is what the map has
 pub get-is : (c : Config) (shape : FrameShape) (frame address : ℕ) (answer : Option Cell) → Passes c shape
-    → IfNone answer ((plp block cell : ℕ) → IsCarried c shape frame plp block cell → ¬ (address_of c shape frame plp block cell ≡ address))
+    → IfNone answer ((plp block cell : ℕ) → IsCarried c shape frame plp block cell → ¬ (address_of c shape frame plp block cell
+    ≡ address))
     → IfSome answer (StandsAt c shape frame address) → answer ≡ get (cell_map c shape frame) address
 get-is c shape frame address None passes none some = sym (get-none c shape frame address none)
 get-is c shape frame address (Some v) passes none some = sym (get-found c shape frame address v passes some)
@@ -204,7 +206,8 @@ find-each P key v (e ∷ es) h is =
 
 pub map_has_each : MapHasEachCell
 map_has_each c shape frame plp block cell passes there =
-    get-found c shape frame (address_of c shape frame plp block cell) (record { ordinal = ordinal_of shape plp block; cell = cell }) passes
+    get-found c shape frame (address_of c shape frame plp block cell)
+    (record { ordinal = ordinal_of shape plp block; cell = cell }) passes
     (record { plp = plp; block = block; there = there; value = refl; ordinal = refl })
 
 pub map_has_only : MapHasOnlyCells

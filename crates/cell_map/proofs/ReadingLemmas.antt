@@ -66,7 +66,8 @@ found_run c shape frame address run a =
       ordinal = omega (arith, r.ordinal);
     }
 
-pub read : (c : Config) (shape : FrameShape) (frame address : ℕ) (run : Run) (cell : Cell) → Passes c shape → RunsAt c shape frame address run
+pub read : (c : Config) (shape : FrameShape) (frame address : ℕ) (run : Run) (cell : Cell) → Passes c shape
+    → RunsAt c shape frame address run
     → cell.ordinal ≡ run.first + run.block → cell.cell ≡ run.column * run.rows + run.row
     → Some cell ≡ get (cell_map c shape frame) address
 read c shape frame address run cell passes a e f =
@@ -74,11 +75,13 @@ read c shape frame address run cell passes a e f =
     ap (λ (n : ℕ). record { ordinal = n; cell = cell.cell }) e
     ∙ ap (λ (n : ℕ). record { ordinal = run.first + run.block; cell = n }) f in
     ap (λ (x : Cell). Some x) same
-    ∙ sym (get-found c shape frame address (record { ordinal = run.first + run.block; cell = run.column * run.rows + run.row }) passes
+    ∙ sym (get-found c shape frame address
+    (record { ordinal = run.first + run.block; cell = run.column * run.rows + run.row }) passes
     (found_run c shape frame address run a))
 
 -- one step on
-advance : (c : Config) (shape : FrameShape) (frame address : ℕ) (run next : Run) → RunsAt c shape frame address run → Steps run next
+advance : (c : Config) (shape : FrameShape) (frame address : ℕ) (run next : Run) → RunsAt c shape frame address run
+    → Steps run next
     → 0 < next.left → RunsAt c shape frame (address + 1) next
 advance c shape frame address run next a s some =
     let r = a.runs in
@@ -112,7 +115,8 @@ advance c shape frame address run next a s some =
 
 pub reading_on : (c : Config) (shape : FrameShape) (frame address : ℕ) (before run next : Run) (old mark : Mark) (dummy : ℕ)
     → IsReading c shape frame address before old dummy → address < c.cells → dummy ≡ 0
-    → RunsAt c shape frame address run → IsMark c shape mark → Steps run next → IsReading c shape frame (address + 1) next mark dummy
+    → RunsAt c shape frame address run → IsMark c shape mark → Steps run next → IsReading c shape frame
+    (address + 1) next mark dummy
 reading_on c shape frame address before run next old mark dummy is inside none a m s = record {
   plps = is.plps;
   passes = is.passes;
@@ -180,7 +184,8 @@ pub begins : (c : Config) (shape : FrameShape) (frame plp : ℕ) (a : Slices)
     → before ≡ sum (take plp shape.counts)
     → k < a.count → t < a.len → a.start + k * interval + t ≡ wide → at ≡ first_position c shape frame plp + (k * a.len + t)
     → limit ≡ a.len - t → RunsFrom cells interleave count before at limit run → RunsAt c shape frame address run
-begins c shape frame plp a interval address wide k t cells interleave count before at limit run is inside e f g h l m o hk ht here place
+begins c shape frame plp a interval address wide k t cells interleave count before at limit run is inside e f g h l m o hk ht here
+    place
     rest runs =
     let s = slices_of c shape plp in
     let hk' : k < s.count = rw e at hk in

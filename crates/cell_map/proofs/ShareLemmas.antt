@@ -314,7 +314,8 @@ leaves_free c shape frame j a interval address wide n is e f g none b q cell far
     omega (arith, end, x.address)
 
 -- an address in one of its slices has a cell
-pub has_cell : (c : Config) (shape : FrameShape) (frame j : ℕ) (a : Slices) (interval address wide n : ℕ) → IsPlan c → j < length c.plps
+pub has_cell : (c : Config) (shape : FrameShape) (frame j : ℕ) (a : Slices) (interval address wide n : ℕ) → IsPlan c → j
+    < length c.plps
     → a ≡ slices_of c shape j → interval ≡ shape.interval → wide ≡ address →
     IsIn a interval (wide + n) → HasCell c shape frame j (address + n)
 has_cell c shape frame j a interval address wide n is h e f g x =
@@ -324,7 +325,8 @@ has_cell c shape frame j a interval address wide n is h e f g x =
     let same : (slices_of c shape j).start + x.slice * shape.interval + x.inner ≡ wide + n = rw (e, f) at x.here in
     record { block = b; cell = q; there = cell; here = at.address ∙ same ∙ ap (λ (k : ℕ). k + n) g }
 
-pub place_law : (c : Config) (shape : FrameShape) (frame j : ℕ) (a : Slices) (interval address wide k t : ℕ) (place : Place) (n : ℕ)
+pub place_law : (c : Config) (shape : FrameShape) (frame j : ℕ) (a : Slices) (interval address wide k t : ℕ) (place : Place)
+    (n : ℕ)
     → n ≡ slice_index shape.counts j → IsPlan c → j < length c.plps → a ≡ slices_of c shape j → interval ≡ shape.interval
     → wide ≡ address →
     k < a.count → t < a.len → a.start + k * interval + t ≡ wide →

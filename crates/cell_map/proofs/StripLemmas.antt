@@ -18,7 +18,8 @@ use Rattle.cell_map.proofs.AtLemmas.{is_carried_at}
 use Rattle.cell_map.proofs.MapLemmas.{get-found, get-none}
 use Rattle.cell_map.proofs.ReadingLemmas.{ready}
 
-pub inside_of : (c : Config) (shape : FrameShape) (frame address : ℕ) (run : Run) → RunsAt c shape frame address run → IsInside run
+pub inside_of : (c : Config) (shape : FrameShape) (frame address : ℕ) (run : Run) → RunsAt c shape frame address run
+    → IsInside run
 inside_of c shape frame address run a =
     let is = ready c shape frame address run a in
     record { few = is.few; row = is.row; block = is.block; column = is.column; some = is.left; within = a.runs.within }
@@ -202,7 +203,8 @@ blocks_cut run rest whole blocks first is zero_column some most few fits any at 
 
 -- ---- what a strip has
 -- a cell so many steps on stands so many addresses on
-found_next : (c : Config) (shape : FrameShape) (frame address : ℕ) (run : Run) (i ordinal cell : ℕ) → RunsAt c shape frame address run
+found_next : (c : Config) (shape : FrameShape) (frame address : ℕ) (run : Run) (i ordinal cell : ℕ)
+    → RunsAt c shape frame address run
     → i < run.left → (next : IsNext run i ordinal cell)
     → StandsAt c shape frame (address + i) (record { ordinal = run.first + next.block; cell = next.column * run.rows + next.row })
 found_next c shape frame address run i ordinal cell a less next =
@@ -228,7 +230,8 @@ read_next : (c : Config) (shape : FrameShape) (frame address : ℕ) (run : Run) 
     → RunsAt c shape frame address run → i < run.left → IsNext run i ordinal cell
     → get (cell_map c shape frame) (address + i) ≡ Some (record { ordinal = ordinal; cell = cell })
 read_next c shape frame address run i ordinal cell passes a less next =
-    get-found c shape frame (address + i) (record { ordinal = run.first + next.block; cell = next.column * run.rows + next.row }) passes
+    get-found c shape frame (address + i)
+    (record { ordinal = run.first + next.block; cell = next.column * run.rows + next.row }) passes
     (found_next c shape frame address run i ordinal cell a less next)
     ∙ ap₂ (λ (o q : ℕ). Some (record { ordinal = o; cell = q })) (sym next.ordinal-is) (sym next.cell-is)
 
@@ -245,7 +248,8 @@ strip_here c shape frame address most run cut passes a is b z hb hz =
     mul-add-lt' b w z h p q = let m : b * w + z < w * h = mul-add-lt b w z h p q in omega (arith, m)
 
 -- ---- so many steps on
-skipped : (c : Config) (shape : FrameShape) (frame address n : ℕ) (run next : Run) → RunsAt c shape frame address run → Skips run next n
+skipped : (c : Config) (shape : FrameShape) (frame address n : ℕ) (run next : Run) → RunsAt c shape frame address run
+    → Skips run next n
     → 0 < next.left → RunsAt c shape frame (address + n) next
 skipped c shape frame address n run next a s some =
     let r = a.runs in
@@ -279,7 +283,8 @@ skipped c shape frame address n run next a s some =
 
 pub reading_found : (c : Config) (shape : FrameShape) (frame address n : ℕ) (before run next : Run) (old mark : Mark) (dummy : ℕ)
     → IsReading c shape frame address before old dummy → address + n ≤ c.cells → dummy ≡ 0
-    → RunsAt c shape frame address run → IsMark c shape mark → Skips run next n → IsReading c shape frame (address + n) next mark dummy
+    → RunsAt c shape frame address run → IsMark c shape mark → Skips run next n → IsReading c shape frame
+    (address + n) next mark dummy
 reading_found c shape frame address n before run next old mark dummy is inside none a m s = record {
   plps = is.plps;
   passes = is.passes;

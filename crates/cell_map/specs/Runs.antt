@@ -136,7 +136,8 @@ abbrev pub AreDummy : Config → FrameShape → ℕ → ℕ → ℕ → Type 0
 AreDummy c shape frame_idx address n = (plp : ℕ) → LeavesFree c shape frame_idx plp address n
 
 -- what is known between two calls: cells in hand, or so many dummy addresses
-pub record IsReading (c : Config) (shape : FrameShape) (frame_idx address : ℕ) (run : Run) (mark : Mark) (dummy : ℕ) : Type 0 where
+pub record IsReading (c : Config) (shape : FrameShape) (frame_idx address : ℕ) (run : Run) (mark : Mark)
+    (dummy : ℕ) : Type 0 where
   pub plps : length shape.counts ≡ length c.plps
   pub passes : Passes c shape
   pub few : c.cells < 2 ^ 32

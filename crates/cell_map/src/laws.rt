@@ -16,8 +16,8 @@ pub fn shape_law()
     order_law();
 }
 
-/// The map of a frame has each cell that it carries at its address, and nothing else, and the numbers of its cells are small. Each
-/// cell is carried in one frame of its interleaving frame.
+/// The map of a frame has each cell that it carries at its address, and nothing else, and the numbers of its cells are small.
+/// Each cell is carried in one frame of its interleaving frame.
 pub fn map_law()
     ensures each { MapHasEachCell }
     ensures only { MapHasOnlyCells }

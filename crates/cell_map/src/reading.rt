@@ -140,7 +140,8 @@ impl<'a> Cells<'a> {
         ensures some { 0 < stretch_len result }
         ensures most { stretch_len result ≤ most }
         ensures cells { HasStretch self.old.config self.old.shape self.old.frame_idx self.old.address result }
-        ensures next { self.new ≡ reading_at self.old.config self.old.shape self.old.frame_idx (self.old.address + stretch_len result) }
+        ensures next { self.new ≡ reading_at self.old.config self.old.shape self.old.frame_idx
+            (self.old.address + stretch_len result) }
     {
         if self.run.left > 0 {
             let next = split(self.run, most);

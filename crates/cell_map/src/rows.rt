@@ -103,7 +103,8 @@ pub fn first_position(plan: &Plan, shape: &Shape, frame_idx: u8, plp: usize) -> 
     requires plp { plp < length plan.now.plps }
     ensures value { result ≡ first_position plan.now shape.now frame_idx plp }
     // the positions that the frame carries are all there
-    ensures inside { result + cells_of plan.now shape.now.counts plp ≤ slice_index shape.now.counts plp * block_cells plan.now plp }
+    ensures inside { result + cells_of plan.now shape.now.counts plp
+        ≤ slice_index shape.now.counts plp * block_cells plan.now plp }
 {
     let it = plp_in_frame(plan, shape, plp);
     u32::from(frame_idx) % it.row.spread * it.cells

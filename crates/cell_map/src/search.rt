@@ -77,7 +77,8 @@ fn find_among(
     requires end { end ≤ length plan.now.plps }
     ensures none { IfNone result ((j b q : ℕ) → first.plp ≤ j → j < end → IsCarried plan.now shape.now frame_idx j b q
         → ¬ (address_of plan.now shape.now frame_idx j b q ≡ address)) }
-    ensures some { IfSome result (λ found. RunsAt plan.now shape.now frame_idx address found.run × IsMark plan.now shape.now found.mark) }
+    ensures some { IfSome result (λ found. RunsAt plan.now shape.now frame_idx address found.run
+        × IsMark plan.now shape.now found.mark) }
 {
     let _config = plan.config();
     let mut before = first.before;
@@ -103,7 +104,8 @@ pub fn find(plan: &Plan, shape: &Shape, frame_idx: u8, address: u32, first: Mark
     requires first { IsMark plan.now shape.now first }
     ensures none { IfNone result ((j b q : ℕ) → IsCarried plan.now shape.now frame_idx j b q
         → ¬ (address_of plan.now shape.now frame_idx j b q ≡ address)) }
-    ensures some { IfSome result (λ found. RunsAt plan.now shape.now frame_idx address found.run × IsMark plan.now shape.now found.mark) }
+    ensures some { IfSome result (λ found. RunsAt plan.now shape.now frame_idx address found.run
+        × IsMark plan.now shape.now found.mark) }
 {
     match find_among(
         plan,
@@ -138,7 +140,8 @@ pub fn dummies(plan: &Plan, shape: &Shape, frame_idx: u8, address: u32) -> u32
     requires passes { Passes plan.now shape.now }
     requires inside { address ≤ plan.now.cells }
     ensures dummy { AreDummy plan.now shape.now frame_idx address result }
-    ensures greatest { address + result < plan.now.cells → (plp : ℕ) × HasCell plan.now shape.now frame_idx plp (address + result) }
+    ensures greatest { address + result < plan.now.cells → (plp : ℕ) × HasCell plan.now shape.now frame_idx plp
+        (address + result) }
 {
     let mut free = plan.config().cells - address;
     for plp in 0..plan.config().plps.len() {

@@ -1,5 +1,5 @@
-// Expected faults, digests and addresses come from a Python program that fills the matrices of the interleaver and lists the cells
-// of the sub-slices (EN 302 755, clauses 6.5 and 8).
+// Expected faults, digests and addresses come from a Python program that fills the matrices of the interleaver and lists the
+// cells of the sub-slices (EN 302 755, clauses 6.5 and 8).
 ghost use Rattle.std.specs.Prelude.{◌≡◌, ◌<◌, length};
 ghost use Rattle.cell_map.specs.CellMap.{Passes};
 
@@ -105,12 +105,7 @@ fn digest_by_address(plan: &Plan, shape: &Shape, frame_idx: u8) -> u64
 }
 
 // The fault of a shape, or the digest of its cells.
-fn judged(
-    rt: &impl Abort,
-    plan: &Plan,
-    shape: &Shape,
-    frame_idx: u8,
-) -> Result<u64, MapFault> {
+fn judged(rt: &impl Abort, plan: &Plan, shape: &Shape, frame_idx: u8) -> Result<u64, MapFault> {
     if shape.len() != plan.config().plps.len() {
         panic!(rt; "another number of PLPs");
     }
@@ -149,8 +144,8 @@ fn stands(plan: &Plan, shape: &Shape, frame_idx: u8, place: Place) -> bool
         return false;
     }
     match address(plan, shape, frame_idx, plp, block, cell) {
-        Some(found) =>
-            found == wanted && at(plan, shape, frame_idx, found) == Some(Cell { ordinal, cell }),
+        Some(found) => found == wanted
+            && at(plan, shape, frame_idx, found) == Some(Cell { ordinal, cell }),
         None => false,
     }
 }
@@ -335,7 +330,10 @@ fn frames_that_carry_a_third_each(rt: HostRuntime) -> Result<(), Fail> {
         let shape = shape_with(rt.alloc(), &plan, *counts, *starts, *interval)?;
         for frame_idx in [0, 1, 2] {
             let digest = judged(&rt, &plan, &shape, frame_idx);
-            assert!(rt; digest.ok().as_ref() == wanted.get(usize::from(frame_idx)), "{counts:?} {frame_idx}");
+            assert!(rt;
+                digest.ok().as_ref() == wanted.get(usize::from(frame_idx)),
+                "{counts:?} {frame_idx}"
+            );
         }
     }
     Ok(())
@@ -344,7 +342,8 @@ fn frames_that_carry_a_third_each(rt: HostRuntime) -> Result<(), Fail> {
 // A frame, and a cell that it carries.
 #[rattlefmt::skip]
 static THIRD_PLACES: [(u8, Place); 6] = [
-    (1, (0, 1, 1, 135, 5)), (2, (0, 0, 0, 404, 1_340)), (0, (0, 0, 0, 134, 1_340)), (1, (0, 0, 0, 135, 0)), (0, (0, 1, 1, 1_215, 8)),
+    (1, (0, 1, 1, 135, 5)), (2, (0, 0, 0, 404, 1_340)), (0, (0, 0, 0, 134, 1_340)), (1, (0, 0, 0, 135, 0)),
+    (0, (0, 1, 1, 1_215, 8)),
     (254, (0, 1, 1, 2_024, 1_349)),
 ];
 

@@ -29,7 +29,8 @@ read_back c shape frame address n i out l small e =
     let behind : List ℕ = words c shape frame (address + i + 1) m in
     let rest : List ℕ = drop (4 * n) out in
     let f : n ≡ i + suc m = omega (arith, l) in
-    let parts : words c shape frame address n ≡ words c shape frame address i ++ (cell_bytes o ++ behind) = ap (words c shape frame address) f
+    let parts : words c shape frame address n ≡ words c shape frame address i ++ (cell_bytes o ++ behind) = ap
+    (words c shape frame address) f
     ∙ words_split c shape frame i (suc m) address in
     let all : out ≡ words c shape frame address i ++ (cell_bytes o ++ (behind ++ rest)) =
     sym (take-append-drop (4 * n) out) ∙ ap (λ (x : List ℕ). x ++ rest) (e ∙ parts) ∙ append_assoc (words c shape frame address i)
@@ -93,7 +94,8 @@ again_of c shape frame address old new has next f fits = record {
 
     both : (k : ℕ) → k < new.columns * new.blocks
         → (word_of (get (cell_map c shape frame) (address + new.columns * new.blocks + k))
-        ≡ word_of (get (cell_map c shape frame) (address + k)) + 1) × (word_of (get (cell_map c shape frame) (address + k)) + 1 < 2 ^ 32)
+        ≡ word_of (get (cell_map c shape frame) (address + k)) + 1) × (word_of (get (cell_map c shape frame) (address + k)) + 1
+        < 2 ^ 32)
     both k l =
         let n : ℕ = new.columns in
         let some : 0 < n = positive n new.blocks k l in
@@ -123,12 +125,14 @@ last_of c shape frame address done (Blocks it) strip has is some =
     (record { before = done; here = refl; has = has })
 
 -- what follows the last strip is one
-pub record Again (c : Config) (shape : FrameShape) (frame : ℕ) (address done : ℕ) (stretch : Stretch) (strip : Strip) : Type 0 where
+pub record Again (c : Config) (shape : FrameShape) (frame : ℕ) (address done : ℕ) (stretch : Stretch)
+    (strip : Strip) : Type 0 where
   pub len : stretch_len stretch ≡ strip.columns * strip.blocks
   pub within : strip.columns * strip.blocks ≤ done
   pub again : IsAgain c shape frame (address + (done - strip.columns * strip.blocks)) (strip.columns * strip.blocks)
 
-pub again_here : (c : Config) (shape : FrameShape) (frame : ℕ) (address done : ℕ) (last : Strip) (stretch : Stretch) (strip : Strip)
+pub again_here : (c : Config) (shape : FrameShape) (frame : ℕ) (address done : ℕ) (last : Strip) (stretch : Stretch)
+    (strip : Strip)
     → FitsStretch stretch → HasStretch c shape frame (address + done) stretch
     → (0 < last.blocks → IsLast c shape frame address done last) → IsStripOf stretch strip → Follows last strip
     → Again c shape frame address done stretch strip

@@ -1,5 +1,6 @@
 -- Lines and strips of words are those of the map.
-use Rattle.std.proofs.Common.{◌≡◌, ℕ, zero, suc, ◌+◌, ◌-◌, ◌*◌, ◌/◌, ◌%◌, ◌<◌, ◌≤◌, ◌==◌, Bool, true, false, List, [], ◌∷◌, ◌++◌, length, take, drop, Option, Some}
+use Rattle.std.proofs.Common.{◌≡◌, ℕ, zero, suc, ◌+◌, ◌-◌, ◌*◌, ◌/◌, ◌%◌, ◌<◌, ◌≤◌, ◌==◌, Bool, true, false, List, [], ◌∷◌, ◌++◌}
+use Rattle.std.proofs.Common.{length, take, drop, Option, Some}
 use Rattle.std.proofs.Common.{None, refl, ap, ap₂, sym, ◌∙◌, arith, append_assoc, append-nil}
 use Rattle.std.specs.Prelude.{slice_get, unwrap_or, if◌then◌else◌}
 use Rattle.std.specs.FinMap.{get}
@@ -75,11 +76,13 @@ block_line c shape frame address strip b h =
     * strip.stride = omega arith in
     ap (word_at c shape frame) at ∙ ap cell_bytes (h z l) ∙ ap (big_bytes 4) word)
 
-blocks_words : (c : Config) (shape : FrameShape) (frame : ℕ) (address : ℕ) (strip : Strip) (n : ℕ) → ((b z : ℕ) → b < n → z < strip.columns
+blocks_words : (c : Config) (shape : FrameShape) (frame : ℕ) (address : ℕ) (strip : Strip) (n : ℕ) → ((b z : ℕ) → b < n → z
+    < strip.columns
     → get (cell_map c shape frame) (address + (strip.columns * b + z))
     ≡ Some (record { ordinal = strip.first.ordinal + b; cell = strip.first.cell + z * strip.stride }))
     → words c shape frame address (strip.columns * n) ≡ strip_bytes strip n
-blocks_words c shape frame address strip zero h = let none : strip.columns * 0 ≡ 0 = omega arith in ap (words c shape frame address) none
+blocks_words c shape frame address strip zero h = let none : strip.columns * 0 ≡ 0 = omega arith in ap
+    (words c shape frame address) none
 blocks_words c shape frame address strip (suc n) h =
     let e : suc n ≡ n + 1 = omega arith in
     let wide : strip.columns * suc n ≡ strip.columns * n + strip.columns = omega arith in
@@ -90,18 +93,21 @@ blocks_words c shape frame address strip (suc n) h =
     ∙ sym (strip_more strip n)
     ∙ ap (strip_bytes strip) (sym e)
 
-pub strip_words : (c : Config) (shape : FrameShape) (frame : ℕ) (address : ℕ) (strip : Strip) → HasStrip c shape frame address strip
+pub strip_words : (c : Config) (shape : FrameShape) (frame : ℕ) (address : ℕ) (strip : Strip)
+    → HasStrip c shape frame address strip
     → words c shape frame address (strip.columns * strip.blocks) ≡ strip_bytes strip strip.blocks
 strip_words c shape frame address strip h = blocks_words c shape frame address strip strip.blocks h
 
 pub dummy_words : (c : Config) (shape : FrameShape) (frame : ℕ) (address n : ℕ)
-    → ((i : ℕ) → i < n → get (cell_map c shape frame) (address + i) ≡ None) → words c shape frame address n ≡ line_bytes dummy_word 0 n
+    → ((i : ℕ) → i < n → get (cell_map c shape frame) (address + i) ≡ None) → words c shape frame address n
+    ≡ line_bytes dummy_word 0 n
 dummy_words c shape frame address n h =
     line_words c shape frame address dummy_word 0 n (λ z l. let same : dummy_word ≡ dummy_word + z * 0 = omega arith in
     ap cell_bytes (h z l) ∙ ap (big_bytes 4) same)
 
 -- ---- small numbers
-pub stretch_fits : CellsFit → (c : Config) (shape : FrameShape) (frame : ℕ) (address : ℕ) (stretch : Stretch) → IsPlan c → Passes c shape
+pub stretch_fits : CellsFit → (c : Config) (shape : FrameShape) (frame : ℕ) (address : ℕ) (stretch : Stretch) → IsPlan c
+    → Passes c shape
     → 0 < stretch_len stretch → HasStretch c shape frame address stretch → FitsStretch stretch
 stretch_fits law c shape frame address (Dummy count) plan passes some h = tt
 stretch_fits law c shape frame address (Blocks strip) plan passes some h =
@@ -152,15 +158,18 @@ word_in law c shape frame address n i plan passes l =
     let m : ℕ = n - (i + 1) in
     let rest : List ℕ = words c shape frame (address + i + 1) m in
     let e : n ≡ i + suc m = omega (arith, l) in
-    let parts : words c shape frame address n ≡ words c shape frame address i ++ (cell_bytes o ++ rest) = ap (words c shape frame address) e
+    let parts : words c shape frame address n ≡ words c shape frame address i ++ (cell_bytes o ++ rest) = ap
+    (words c shape frame address) e
     ∙ words_split c shape frame i (suc m) address in
     let behind : drop (4 * i) (words c shape frame address n) ≡ cell_bytes o ++ rest =
-    ap (drop (4 * i)) parts ∙ drop_at (words c shape frame address i) (cell_bytes o ++ rest) (4 * i) (length-words c shape frame i address) in
+    ap (drop (4 * i)) parts ∙ drop_at (words c shape frame address i) (cell_bytes o ++ rest) (4 * i)
+    (length-words c shape frame i address) in
     ap (big_number 4) behind ∙ big_number-reads_back 4 (word_of o) rest
     (word_again o (fits_at law c shape frame (address + i) plan passes o refl)).0
 
 -- a record whose word is that of the map has its cell
-pub agreed : CellsFit → (c : Config) (shape : FrameShape) (frame : ℕ) (address n i : ℕ) (cells : List (Option Cell)) (bytes buffer : List ℕ)
+pub agreed : CellsFit → (c : Config) (shape : FrameShape) (frame : ℕ) (address n i : ℕ) (cells : List (Option Cell))
+    (bytes buffer : List ℕ)
     → IsPlan c → Passes c shape → i < n → address + n ≤ length cells
     → cells ≡ cells_in (length cells) bytes → buffer ≡ words c shape frame address n → big_number 4 (drop (4 * i) buffer)
     ≡ big_number 4 (drop (4 * i) (drop (4 * address) bytes))
@@ -187,7 +196,8 @@ word_back w = go (w == dummy_word) refl
     go false e = let parts = div-add-mod' w block_words in omega (arith, parts)
 
 -- a record that has the cell of the map has its word
-pub agrees : CellsFit → (c : Config) (shape : FrameShape) (frame : ℕ) (address n i : ℕ) (cells : List (Option Cell)) (bytes buffer : List ℕ)
+pub agrees : CellsFit → (c : Config) (shape : FrameShape) (frame : ℕ) (address n i : ℕ) (cells : List (Option Cell))
+    (bytes buffer : List ℕ)
     → IsPlan c → Passes c shape → i < n → address + n ≤ length cells
     → cells ≡ cells_in (length cells) bytes → buffer ≡ words c shape frame address n
     → slice_get cells (address + i) ≡ Some (get (cell_map c shape frame) (address + i))

@@ -33,7 +33,8 @@ fn put_again(
     requires short { length out.old < 2 ^ 34 }
     requires words { take (4 * (before + width)) out.old ≡ words plan.now shape.now frame_idx address (before + width) }
     requires again { IsAgain plan.now shape.now frame_idx (address + before) width }
-    ensures words { take (4 * (before + width + width)) out.new ≡ words plan.now shape.now frame_idx address (before + width + width) }
+    ensures words { take (4 * (before + width + width)) out.new ≡ words plan.now shape.now frame_idx address
+        (before + width + width) }
     ensures len { length out.new ≡ length out.old }
 {
     let from = 4 * before as usize;

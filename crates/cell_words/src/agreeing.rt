@@ -16,7 +16,8 @@ use site_frame::Cells;
 fn are_same(one: &[u8], other: &[u8], count: u32) -> bool
     requires one { 4 * count ≤ length one.now }
     requires other { 4 * count ≤ length other.now }
-    ensures { (result ≡ true) ↔ ((i : ℕ) → i < count → big_number 4 (drop (4 * i) one.now) ≡ big_number 4 (drop (4 * i) other.now)) }
+    ensures { (result ≡ true) ↔ ((i : ℕ) → i < count → big_number 4 (drop (4 * i) one.now) ≡ big_number 4
+        (drop (4 * i) other.now)) }
 {
     let mut same = true;
     for i in 0..count {
@@ -28,7 +29,8 @@ fn are_same(one: &[u8], other: &[u8], count: u32) -> bool
     same
 }
 
-/// Whether so many cells of a record from an address on are those of the map of a frame. `buffer` is as long as the words of the cells, and is written to.
+/// Whether so many cells of a record from an address on are those of the map of a frame. `buffer` is as long as the words of the
+/// cells, and is written to.
 pub fn agree(
     plan: &Plan,
     shape: &Shape,

@@ -215,7 +215,8 @@ none_due none slot c plp rules lt =
     let z : 0 * c.ticks ≡ 0 = omega arith in
     sym (rw z (none (num c) (den c plp) (omega (arith, s.0, s.2))))
 
-pub fed_open : (chain : Chain) (c : Config) (plp : ℕ) → StandsAlone c.plps plp → ChainStandsFor chain c plp [] → early_blocks c plp [] ≡ []
+pub fed_open : (chain : Chain) (c : Config) (plp : ℕ) → StandsAlone c.plps plp → ChainStandsFor chain c plp []
+    → early_blocks c plp [] ≡ []
     → 0 ≡ slots_by c plp (0 * c.ticks)
     → Fed chain 0 0 None c plp (record { packets = []; ended = false; frame = 0 }) []
 fed_open chain c plp alone h none e =

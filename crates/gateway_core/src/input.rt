@@ -60,7 +60,8 @@ fn end_frame(chain: &mut Chain, pool: &mut Pool, list: u32) -> u16
 }
 
 impl Input {
-    ghost use Rattle.std.specs.Prelude.{◌≡◌, ◌<◌, ◌≤◌, ◌+◌, ◌*◌, ◌^◌, ℕ, List, Bool, [], true, false, length, IfOk, IfSome, is_some};
+    ghost use Rattle.std.specs.Prelude.{◌≡◌, ◌<◌, ◌≤◌, ◌+◌, ◌*◌, ◌^◌, ℕ, List, Bool, [], true, false, length, IfOk, IfSome};
+    ghost use Rattle.std.specs.Prelude.{is_some};
     ghost use Rattle.linked_pool.specs.Pool.{list_at, Others, IsWhole};
     ghost use Rattle.plp_config.specs.Plps.{plp_at, StandsAlone};
     ghost use Rattle.plp_config.specs.Capacity.{IsPlan};

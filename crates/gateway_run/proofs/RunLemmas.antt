@@ -219,7 +219,8 @@ unread : (start now : GatewayMachine) (events : List run.Event) (b : becomes sta
 unread start now events b files places plp e at are short =
     let h = holds_of start now events b in
     let w = waiting start.plan.now events now.gateway now.place now.ran e (ready_of start now b.0) h in
-    none_whole start.plan.now events now.gateway now.place now.ran h files places are plp (let i = w.inside in omega (arith, i, at))
+    none_whole start.plan.now events now.gateway now.place now.ran h files places are plp
+    (let i = w.inside in omega (arith, i, at))
     (w.none plp) short
 
 -- Whole packets are never as many bytes as no file may have.

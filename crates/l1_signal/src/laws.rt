@@ -5,8 +5,8 @@ ghost use Rattle.l1_signal.specs.Laws.{DynLength, PostLength, ConfPartLength, En
 
 use bit_slice::crc32_law;
 
-/// L1-pre: what spells it is read, whatever follows it, and what is read spells it. What is written spells it, [`crate::PRE_BITS`]
-/// bits.
+/// L1-pre: what spells it is read, whatever follows it, and what is read spells it. What is written spells it, as
+/// [`crate::PRE_BITS`] bits.
 pub fn pre_law()
     ensures back { PreReadBack }
     ensures spelled { PreReadSpelled }

@@ -2,7 +2,7 @@
 ghost use Rattle.std.specs.Prelude.{◌≡◌, ◌+◌, ◌≤◌};
 ghost use Rattle.l1_signal.specs.Lengths.{conf_len, dyn_len, post_len};
 
-use plp_config::MOST_PLPS;
+use plp_config::{L1_POST_BITS, L1_POST_PLP_BITS, MOST_PLPS};
 
 /// Bits of a CRC_32.
 pub const CRC_BITS: usize = 32;
@@ -25,14 +25,14 @@ pub const DYN_BITS: usize = 79;
 /// Bits of one PLP in it.
 pub const DYN_PLP_BITS: usize = 48;
 
-/// Bits of both parts, besides those of their PLPs.
-pub const INFO_BITS: usize = CONF_BITS + DYN_BITS;
+/// Bits of L1-post, both parts and CRC_32, besides those of its PLPs. [`post_len`] says that they are those of the parts.
+pub const POST_BITS: usize = L1_POST_BITS as usize;
 
-/// Bits of L1-post, both parts and CRC_32, besides those of its PLPs.
-pub const POST_BITS: usize = INFO_BITS + CRC_BITS;
+/// Bits of one PLP in both parts.
+pub const PLP_BITS: usize = L1_POST_PLP_BITS as usize;
 
-/// Bits of one PLP in it.
-pub const PLP_BITS: usize = CONF_PLP_BITS + DYN_PLP_BITS;
+/// Bits of both parts without CRC_32, besides those of their PLPs.
+pub const INFO_BITS: usize = POST_BITS - CRC_BITS;
 
 /// Bits of a configurable part at most.
 pub const MOST_CONF_BITS: usize = CONF_BITS + CONF_PLP_BITS * MOST_PLPS;
@@ -71,6 +71,7 @@ pub fn dyn_len(plps: usize) -> usize
 pub fn post_len(plps: usize) -> usize
     requires { plps ≤ MOST_PLPS }
     ensures value { result ≡ post_len plps }
+    // both parts and CRC_32
     ensures parts { result ≡ conf_len plps + dyn_len plps + CRC_BITS }
     ensures most { result ≤ MOST_POST_BITS }
 {

@@ -5,7 +5,7 @@ use plp_config::{block_law, spread_law};
 
 /// The blocks of the interleaving frames under way have their chunks.
 pub fn plan_fits_law()
-    // lists that hold no more than these fill no more than 7 chunks for every 2,025 cells of as many frames as the greatest spread
+    // lists that hold no more than these fill 7 chunks at most for every 2,025 cells of as many frames as the greatest spread
     ensures all { PlanFits }
     // so a pool of as many chunks has room for each next block
     ensures next { NextFits }

@@ -127,9 +127,11 @@ all_short lengths fields ups within backlog chain c plp ps m h p =
           let same : chain.made ≡ chain.settings.blocks = omega (arith, ge, few) in
           let cap : chain.made * field_bytes c plp ≡ capacity c plp = ap (λ (v : ℕ). v * field_bytes c plp) same
           ∙ ap (λ (v : ℕ). chain.settings.blocks * v) (sym field) ∙ h.settings.most in
-          let came : up_bytes c plp * length (kept_slots keeps (length ps)) ≤ arrived (rates_of c plp (epoch_ticks c plp)) keeps m =
+          let came : up_bytes c plp * length (kept_slots keeps (length ps))
+          ≤ arrived (rates_of c plp (epoch_ticks c plp)) keeps m =
           mul-le-mul_left (up_bytes c plp) (kept_le keeps (length ps) (slots_by c plp (m * epoch_ticks c plp)) h.to) in
-          let whole : length (plp_string c plp (packet_at ps) (length ps)) ≤ arrived (rates_of c plp (epoch_ticks c plp)) keeps m =
+          let whole : length (plp_string c plp (packet_at ps) (length ps))
+          ≤ arrived (rates_of c plp (epoch_ticks c plp)) keeps m =
           rw (length-up c plp (packet_at ps) (length ps) h.whole) came in
           let back = backlog (rates_of c plp (epoch_ticks c plp)) keeps m (within c plp h.plan h.place).0 in
           let small = rest_small _ _ _ (before c plp ps m) (capacity c plp) (up_bytes c plp)

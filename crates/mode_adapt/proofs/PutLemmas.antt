@@ -147,7 +147,8 @@ over_sent : SlotLength → (chain : Chain) (c : Config) (plp : ℕ) (ps : List (
     → IsOver chain → length ps ≡ slots_by c plp (m * epoch_ticks c plp)
     → chain.sent ≡ sent (rates_of c plp (epoch_ticks c plp)) (plp_keeps c plp (packet_at ps)) m
 over_sent lengths chain c plp ps m h over due =
-    let now = sent_now (rates_of c plp (epoch_ticks c plp)) (plp_keeps c plp (packet_at ps)) m (num_pos lengths chain c plp ps m h) in
+    let now = sent_now (rates_of c plp (epoch_ticks c plp)) (plp_keeps c plp (packet_at ps)) m
+    (num_pos lengths chain c plp ps m h) in
     let came = all_came c plp ps m h.whole due in
     let w = waits chain c plp ps h.rest in
     let few = h.few in
@@ -166,7 +167,8 @@ left_sent : SlotLength → (chain : Chain) (c : Config) (plp : ℕ) (ps : List (
     → IsPartial chain → IsLeft chain → length ps ≡ slots_by c plp (m * epoch_ticks c plp)
     → chain.sent + length chain.pending.items ≡ sent (rates_of c plp (epoch_ticks c plp)) (plp_keeps c plp (packet_at ps)) m
 left_sent lengths chain c plp ps m h p left due =
-    let now = sent_now (rates_of c plp (epoch_ticks c plp)) (plp_keeps c plp (packet_at ps)) m (num_pos lengths chain c plp ps m h) in
+    let now = sent_now (rates_of c plp (epoch_ticks c plp)) (plp_keeps c plp (packet_at ps)) m
+    (num_pos lengths chain c plp ps m h) in
     let came = all_came c plp ps m h.whole due in
     let w = waits chain c plp ps h.rest in
     let short = p left.0 in
@@ -294,9 +296,11 @@ cut_step lengths fields ups within backlog chain mid new c plp ps m was is h p d
                 let end = left_sent lengths chain c plp ps m h p (lt, more) due in
                 let holds = next_holds lengths chain mid new c plp ps m h due s.settings s.slot s.deleter
                 (rest_sent chain mid c plp ps w (omega (arith, up.0)) h.settings (omega arith) h.rest s) (s.sent ∙ end) r in
-                let all : blocks_of c plp (epoch_ticks c plp) at m ≡ full_blocks c plp at (length ps) x chain.made ++ block_bits c plp at
+                let all : blocks_of c plp (epoch_ticks c plp) at m ≡ full_blocks c plp at (length ps) x chain.made
+                ++ block_bits c plp at
                 (length ps) (x + chain.made * field_bytes c plp) (x + chain.made * field_bytes c plp + w) ∷ [] =
-                ap (λ (v : ℕ). blocks_between c plp at v x (sent (rates_of c plp (epoch_ticks c plp)) (plp_keeps c plp at) m)) (sym due)
+                ap (λ (v : ℕ). blocks_between c plp at v x (sent (rates_of c plp (epoch_ticks c plp)) (plp_keeps c plp at) m))
+                (sym due)
                 ∙ between_more c plp at (length ps) x _ chain.made w one more (omega (arith, short, field))
                 (sym end ∙ omega (arith, h.sent)) in
                 record {

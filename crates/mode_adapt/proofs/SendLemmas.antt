@@ -65,7 +65,8 @@ map_both f g h each (x ∷ xs) = rw (each x, map_both f g h each xs) refl
 -- all bytes that have arrived stand in the string
 pub all_came : (c : Config) (plp : ℕ) (ps : List (List ℕ)) (m : ℕ) → ((k : ℕ) → length (packet_at ps k) ≡ 188)
     → length ps ≡ slots_by c plp (m * epoch_ticks c plp)
-    → arrived (rates_of c plp (epoch_ticks c plp)) (plp_keeps c plp (packet_at ps)) m ≡ length (plp_string c plp (packet_at ps) (length ps))
+    → arrived (rates_of c plp (epoch_ticks c plp)) (plp_keeps c plp (packet_at ps)) m
+    ≡ length (plp_string c plp (packet_at ps) (length ps))
 all_came c plp ps m whole due =
     ap (λ (v : ℕ). up_bytes c plp * length (kept_slots (plp_keeps c plp (packet_at ps)) v)) (sym due)
     ∙ sym (length-up c plp (packet_at ps) (length ps) whole)
@@ -110,7 +111,8 @@ pub left_over : (chain : Chain) (c : Config) (plp : ℕ) (ps : List (List ℕ)) 
 left_over chain c plp ps m h none due =
     let is : chain.sent ≡ sent (rates_of c plp (epoch_ticks c plp)) (plp_keeps c plp (packet_at ps)) m =
     h.sent ∙ ap (λ (v : ℕ). sent_before (rates_of c plp (epoch_ticks c plp)) (plp_keeps c plp (packet_at ps)) (m + 1) + v
-    * field_bytes c plp) none ∙ no_more _ _ ∙ ap (sent_before (rates_of c plp (epoch_ticks c plp)) (plp_keeps c plp (packet_at ps)))
+    * field_bytes c plp) none ∙ no_more _ _ ∙ ap
+    (sent_before (rates_of c plp (epoch_ticks c plp)) (plp_keeps c plp (packet_at ps)))
     (add-one m) in
     waits chain c plp ps h.rest
     ∙ ap (λ (v : ℕ). v - chain.sent) (sym (all_came c plp ps m h.whole due))

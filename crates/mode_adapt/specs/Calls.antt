@@ -23,8 +23,8 @@ abbrev pub Takes : Chain → Chain → List ℕ → State → State → ℕ → 
 Takes old new packet was is list = (c : Config) (plp : ℕ) (events : List Event) → ChainStandsFor old c plp events
     → HasRoom c plp events → HasTaken new packet (list_at was list) (list_at is list) c plp events
 
--- After the end of an interleaving frame: the list has its blocks, so many, those of the next come into an empty one, and less than
--- one user packet waits.
+-- After the end of an interleaving frame: the list has its blocks, so many, those of the next come into an empty one, and
+-- less than one user packet waits.
 pub record HasEnded (chain : Chain) (count : ℕ) (was is : List (List ℕ)) (c : Config) (plp : ℕ)
     (events : List Event) : Type 0 where
   pub stands : ChainStandsFor chain c plp (events ++ Cut ∷ [])

@@ -82,4 +82,5 @@ full_blocks c plp at n x count =
 abbrev pub early_blocks : Config → ℕ → List Event → List (List Bool)
 early_blocks c plp events =
     full_blocks c plp (packet_at (offered events)) (length (offered events))
-    (sent_before (rates_of c plp (epoch_ticks c plp)) (plp_keeps c plp (packet_at (offered events))) (cuts events)) (full_fields c plp events)
+    (sent_before (rates_of c plp (epoch_ticks c plp)) (plp_keeps c plp (packet_at (offered events))) (cuts events))
+    (full_fields c plp events)

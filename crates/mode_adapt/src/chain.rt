@@ -91,9 +91,9 @@ impl Chain {
         })
     }
 
-    /// Takes the packet of the next slot, one that is over by the tick at which the next interleaving frame begins. A block whose
-    /// data field is full goes to the end of the list, which holds what the chain put there since its last cut. After `PoolFull` the
-    /// chain is used no more.
+    /// Takes the packet of the next slot, one that is over by the tick at which the next interleaving frame begins. A block
+    /// whose data field is full goes to the end of the list, which holds what the chain put there since its last cut. After
+    /// `PoolFull` the chain is used no more.
     pub fn offer(&mut self, packet: &TsPacket, pool: &mut Pool, list: u32) -> Result<(), PoolFull>
         requires slot { slot_of self.old < 2 ^ 54 }
         requires list { list < length pool.old.lists }
@@ -251,7 +251,8 @@ impl Chain {
 
     /// Ends the next interleaving frame: the list then holds exactly its blocks, at most `blocks` of the PLP, and the answer is
     /// their number. The first cut ends interleaving frame 0, which has none. All slots that are over by the tick at which it
-    /// begins were offered, and the list holds what the chain put there since its last cut. After `PoolFull` the chain is used no more.
+    /// begins were offered, and the list holds what the chain put there since its last cut. After `PoolFull` the chain is used
+    /// no more.
     pub fn cut(&mut self, pool: &mut Pool, list: u32) -> Result<u32, PoolFull>
         requires { list < length pool.old.lists }
         ensures ends { IfOk result (λ count. Ends self.old self.new pool.old pool.new list count) }

@@ -68,7 +68,8 @@ cells_before-le c counts (suc place) is fit inside =
     let a : sum_by (cells_of c counts) (range_with_len 0 (place + 1)) ≡ sum_by (cells_of c counts) (range_with_len 0 place)
     + cells_of c counts place =
     ap (sum_by (cells_of c counts)) (places_more place) ∙ sum_by_push (cells_of c counts) (range_with_len 0 place) place in
-    let b : sum_by frame_room (take (place + 1) c.plps) ≡ sum_by frame_room (take place c.plps) + frame_room (plp_at c.plps place) =
+    let b : sum_by frame_room (take (place + 1) c.plps)
+    ≡ sum_by frame_room (take place c.plps) + frame_room (plp_at c.plps place) =
     sum_by_more frame_room c.plps place no_plp here in
     let one : cells_of c counts place ≤ frame_room (plp_at c.plps place) = cells-le c counts place is fit here in
     let rest : sum_by (cells_of c counts) (range_with_len 0 place) ≤ sum_by frame_room (take place c.plps) =

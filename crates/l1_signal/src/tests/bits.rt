@@ -10,7 +10,8 @@ fn flipped(alloc: Global, bytes: &[u8], place: usize) -> Result<Vec<u8>, OutOfMe
     Ok(out)
 }
 
-// What becomes of a part if a bit is the other way: it is read, and written so again or with the bit as it was; a field is refused;
+// What becomes of a part if a bit is the other way: it is read, and written so again or with the bit as it was; a field is
+// refused;
 // or NUM_PLP is another one, with which L1_POST_INFO_SIZE does not go.
 #[derive(Clone, Copy)]
 enum Told {

@@ -28,6 +28,7 @@ loop-plp-preserved c =
         few_blocks c.args.plan.now c.args.shape.now c.loop-plp.plp c.run_of.ensures.plan c.requires.passes row,
       );
       none = λ k b q low lt. more_below (λ (j : ℕ). (b q : ℕ) → IsCarried c.args.plan.now c.args.shape.now c.args.frame_idx j b q
-          → ¬ (address_of c.args.plan.now c.args.shape.now c.args.frame_idx j b q ≡ c.args.address)) c.args.first.plp c.loop-plp.plp
+          → ¬ (address_of c.args.plan.now c.args.shape.now c.args.frame_idx j b q
+          ≡ c.args.address)) c.args.first.plp c.loop-plp.plp
           (λ j x y. (λ b q. c.loop-plp.invariant.none j b q x y)) c.in-None.ensures.none k low lt b q;
     }

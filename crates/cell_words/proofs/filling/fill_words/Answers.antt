@@ -10,14 +10,16 @@ use Rattle.cell_words.proofs.filling.fill_words.Goals as goal
 pub put_next-done-requires-clause-fits : goal.put_next-done-requires-clause-fits
 put_next-done-requires-clause-fits c =
     let stretch = c.next_stretch-stretch.result in
-    stretch_fits c.map_law.ensures.small c.args.plan.now c.args.shape.now c.args.frame_idx (c.args.address + c.loop-done.done) stretch
+    stretch_fits c.map_law.ensures.small c.args.plan.now c.args.shape.now c.args.frame_idx
+    (c.args.address + c.loop-done.done) stretch
     c.obeys_rules.ensures.plan c.requires.passes c.next_stretch-stretch.ensures.some
     (subst (λ (r : Reading). HasStretch r.config r.shape r.frame_idx r.address stretch) c.loop-done.invariant.cells
     c.next_stretch-stretch.ensures.cells)
 
 pub put_next-done-requires-clause-has : goal.put_next-done-requires-clause-has
 put_next-done-requires-clause-has c =
-    subst (λ (r : Reading). HasStretch r.config r.shape r.frame_idx r.address c.next_stretch-stretch.result) c.loop-done.invariant.cells
+    subst (λ (r : Reading). HasStretch r.config r.shape r.frame_idx r.address c.next_stretch-stretch.result)
+    c.loop-done.invariant.cells
     c.next_stretch-stretch.ensures.cells
 
 pub loop-done-preserved : goal.loop-done-preserved

@@ -28,5 +28,6 @@ returns-clause-read c = looked_read c.end_input.new.self _ _ _ _ c.look.result.p
 pub returns-clause-ready : goal.returns-clause-ready
 returns-clause-ready c =
     let count = c.len-count.ensures ∙ ap (λ (k : Config). length k.plps) c.config.ensures.value in
-    ready_on c.args.gateway.now c.end_input.new.self c.args.plan.now c.args.place c.look.result c.args.ran c.len-count.result c.requires.ready
+    ready_on c.args.gateway.now c.end_input.new.self c.args.plan.now c.args.place c.look.result c.args.ran c.len-count.result
+    c.requires.ready
     c.requires.wants c.end_input.ensures.status c.end_input.ensures.others count c.look.ensures

@@ -33,5 +33,6 @@ returns-clause-read c = looked_read c.offer.new.self _ _ _ _ c.look.result.phase
 pub returns-clause-ready : goal.returns-clause-ready
 returns-clause-ready c =
     let count = c.len.ensures ∙ ap (λ (k : Config). length k.plps) c.config.ensures.value in
-    ready_on c.args.gateway.now c.offer.new.self c.args.plan.now c.args.place c.look.result c.args.ran c.len.result c.requires.ready
+    ready_on c.args.gateway.now c.offer.new.self c.args.plan.now c.args.place c.look.result c.args.ran c.len.result
+    c.requires.ready
     c.requires.wants c.offer.ensures.status c.offer.ensures.others count c.look.ensures

@@ -16,13 +16,15 @@ invariant_of-self c =
 pub returns-then-self-gt0-clause-cells : goal.returns-then-self-gt0-clause-cells
 returns-then-self-gt0-clause-cells c =
     rw (← c.self.view_is)
-    (strip_here c.self.inside.plan.now c.self.inside.shape.now c.self.inside.frame_idx c.self.inside.address c.args.most c.self.inside.run
+    (strip_here c.self.inside.plan.now c.self.inside.shape.now c.self.inside.frame_idx c.self.inside.address c.args.most
+    c.self.inside.run
     c.split-next.result c.self.invariant.passes (c.self.invariant.next c.if-self-gt0.true) c.split-next.ensures)
 
 pub returns-then-self-gt0-2-clause-cells : goal.returns-then-self-gt0-2-clause-cells
 returns-then-self-gt0-2-clause-cells c =
     rw (← c.self.view_is)
-    (λ i less. dummies_here c.self.inside.plan.now c.self.inside.shape.now c.self.inside.frame_idx c.self.inside.address i c.self.inside.run
+    (λ i less. dummies_here c.self.inside.plan.now c.self.inside.shape.now c.self.inside.frame_idx c.self.inside.address i
+    c.self.inside.run
     c.self.inside.mark c.self.inside.dummy c.self.invariant (omega (arith, less, c.min-count.ensures)))
 
 pub invariant_of-self-in-Some : goal.invariant_of-self-in-Some
@@ -40,7 +42,8 @@ invariant_of-self-in-Some c =
 pub returns-in-Some-clause-cells : goal.returns-in-Some-clause-cells
 returns-in-Some-clause-cells c =
     rw (← c.self.view_is)
-    (strip_here c.self.inside.plan.now c.self.inside.shape.now c.self.inside.frame_idx c.self.inside.address c.args.most c.in-Some.found.run
+    (strip_here c.self.inside.plan.now c.self.inside.shape.now c.self.inside.frame_idx c.self.inside.address c.args.most
+    c.in-Some.found.run
     c.split-next-in-Some.result c.self.invariant.passes c.in-Some.ensures.some.0 c.split-next-in-Some.ensures)
 
 pub returns-in-None-clause-cells : goal.returns-in-None-clause-cells

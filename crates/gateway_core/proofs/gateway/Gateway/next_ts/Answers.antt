@@ -12,7 +12,8 @@ use Rattle.gateway_core.specs.Left.{left, early_of}
 use Rattle.gateway_core.specs.StandsFor.{GatewayStandsFor, Holds}
 use Rattle.gateway_core.specs.declared.flow.Flow.{Flow}
 use Rattle.gateway_core.specs.declared.frame.Frame.{Frame}
-use Rattle.gateway_core.proofs.HoldsLemmas.{holds_unit, holds_none, holds_gave, holds_complete, holds_caught_up, both, supplied_kept}
+use Rattle.gateway_core.proofs.HoldsLemmas.{holds_unit, holds_none, holds_gave, holds_complete, holds_caught_up, both}
+use Rattle.gateway_core.proofs.HoldsLemmas.{supplied_kept}
 use Rattle.gateway_core.proofs.gateway.Gateway.next_ts.Goals as goal
 
 pub returns-clause-unit : goal.returns-clause-unit

@@ -27,7 +27,8 @@ returns-in-Ok-clause-ends c = λ config plp events stands due.
 
 pub returns-in-Err-clause-lacks : goal.returns-in-Err-clause-lacks
 returns-in-Err-clause-lacks c = λ config plp events stands. record {
-  need = c.in-Err.ensures.full.wanted ∙ ap chunks_for (need_is c.block_law.ensures.field c.args.self.now config plp events stands);
+  need = c.in-Err.ensures.full.wanted ∙ ap chunks_for
+      (need_is c.block_law.ensures.field c.args.self.now config plp events stands);
   never = λ ready. never_put c.block_law.ensures.field c.early_fits_law.ensures.early c.plan_fits_law.ensures.next c.args.self.now
       c.args.self.now config plp events c.args.pool.now c.args.list c.in-Err.full.need c.in-Err.full.spare stands refl refl
       c.in-Err.ensures.full ready.put ready.place;
