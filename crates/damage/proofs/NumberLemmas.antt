@@ -11,7 +11,7 @@ use Rattle.frame_groups.specs.Modulated.{Rules, join_number}
 use Rattle.frame_groups.specs.Numbers.{frame_key, next_number}
 use Rattle.damage.specs.SentPackets.{Sent, frame_packets, frame_group}
 use Rattle.damage.specs.GroupNumbers.{numbers_behind, is_met, number_from, JoinsAt, GroupsNumbered}
-use Rattle.damage.proofs.GroupLemmas.{Met, group_as, key_groups, some_met, frames_met, groups_are_met, Steps, StepsIn}
+use Rattle.damage.proofs.GroupLemmas.{not_empty, Met, group_as, key_groups, some_met, frames_met, groups_are_met, Steps, StepsIn}
 use Rattle.damage.proofs.GroupLemmas.{steps_met}
 
 -- the frames of which a packet survives, from one on
@@ -61,10 +61,6 @@ all_later frames first n (g ∷ gs) l steps =
 behind : (frames n : ℕ) (gs : List Met) → Steps frames n gs → StepsIn frames gs
 behind frames n [] steps = tt
 behind frames n (g ∷ gs) steps = steps.2
-
-not_empty : (p : Packet) (ps qs : List Packet) → qs ≡ p ∷ ps → qs ≢ []
-not_empty p ps [] e h = absurd cc
-not_empty p ps (q ∷ qs) e h = absurd cc
 
 module _ (found : NextIsFound) (r : Rules) (count : ℕ) (ss : List Sent) (first : ℕ) (some : 0 < r.frames)
     (joins : JoinsAt r ss first) where

@@ -11,9 +11,7 @@ pub use network::{
     SMALL_L1, loaded_network, mixed_network, network_of, realistic_network, small_network,
     spread_network,
 };
-pub use plan::{
-    NoPlan, loaded_plan, mixed_plan, plan_of, realistic_plan, small_plan, spread_plan,
-};
+pub use plan::{NoPlan, loaded_plan, mixed_plan, plan_of, realistic_plan, small_plan, spread_plan};
 pub use plps::{LOADED_PLP, MIXED_PLPS, REALISTIC_PLP, SMALL_PLP, SPREAD_PLP};
 pub use texts::{
     FIRST_LINE, FIRST_TEXT, LOADED_LINE, REALISTIC_TEXT, SMALL_HEAD, SMALL_LINE, SMALL_TEXT,
