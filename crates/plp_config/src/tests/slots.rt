@@ -5,6 +5,7 @@ use std::test::Fail;
 #[test]
 fn slots_of_an_interleaving_frame(rt: HostRuntime) -> Result<(), Fail> {
     let plan = plan(&rt, network(rt.alloc(), &[PLP])?)?;
+    assert!(rt; plan.config().plps.len() == 1);
     let times = plan.slot_times(0);
     assert!(rt; times.range_of(69) == (989, 1_003) && times.range_of(0) == (0, 0));
     assert!(rt; times.start_of(1_000) == 6_875_428 && times.iscr_of(1_000) == 2_681_124);
