@@ -235,6 +235,7 @@ fn a_number_is_one_word_without_sign_and_leading_zeros(rt: HostRuntime) -> Resul
 fn version_1_has_no_spread(rt: HostRuntime) -> Result<(), Fail> {
     let config = read(rt.alloc(), FIRST_TEXT.as_bytes())?;
     is_small(&rt, &config);
+    assert_eq!(rt; config.plps.len(), 1);
     assert_eq!(rt; config.plps.get(0), Some(&SMALL_PLP));
     assert_eq!(rt;
         write(rt.alloc(), &config)?.as_slice(),
@@ -253,26 +254,20 @@ fn version_1_has_no_spread(rt: HostRuntime) -> Result<(), Fail> {
 fn a_spread_and_common_plps(rt: HostRuntime) -> Result<(), Fail> {
     let spread = read(rt.alloc(), SPREAD_TEXT.as_bytes())?;
     assert_eq!(rt; spread.plps.get(0), Some(&SPREAD_PLP));
-    for text in [SMALL_HEAD, "t2-gateway 1\n"] {
-        let mut whole = String::from_str(rt.alloc(), text)?;
-        if text != SMALL_HEAD {
-            whole.push_str(
-                "bandwidth 8\nframe 100000 2 40000\nstart 700000000 0 5\npid 256\nnetwork 1 2 3 474000000\nl1 0 6 1 0 1 0 0 1000 6 0 59 0\nsubslices 1\n",
-            )?;
-        }
-        whole.push_str("plp 9 common 1 1/2 qpsk short 0 1 1 delete 500000")?;
-        if text == SMALL_HEAD {
-            whole.push_str(" 1")?;
-        }
-        let config = read(rt.alloc(), whole.as_bytes())?;
-        let plp = Plp {
-            id: 9,
-            plp_type: PlpType::Common,
-            blocks: 1,
-            bits_per_second: 500_000,
-            ..SMALL_PLP
-        };
-        assert_eq!(rt; config.plps.get(0), Some(&plp));
-    }
+    let common = Plp {
+        id: 9,
+        plp_type: PlpType::Common,
+        blocks: 1,
+        bits_per_second: 500_000,
+        ..SMALL_PLP
+    };
+    let mut text = String::from_str(rt.alloc(), SMALL_HEAD)?;
+    text.push_str("plp 9 common 1 1/2 qpsk short 0 1 1 delete 500000 1\n")?;
+    let config = read(rt.alloc(), text.as_bytes())?;
+    assert_eq!(rt; config.plps.get(0), Some(&common));
+    let mut first = String::from_str(rt.alloc(), FIRST_TEXT)?;
+    first.push_str("plp 9 common 1 1/2 qpsk short 0 1 1 delete 500000\n")?;
+    let config = read(rt.alloc(), first.as_bytes())?;
+    assert_eq!(rt; config.plps.get(1), Some(&common));
     Ok(())
 }

@@ -186,6 +186,18 @@ subslices 1
 plp 0 type1 1 1/2 qpsk short 0 4 1 delete 3000000
 ";
 
+// The same, whose interleaving frames are carried by two frames each.
+const SPREAD: &str = "t2-gateway 2
+bandwidth 8
+frame 100000 2 40000
+start 700000000 0 5
+pid 256
+network 1 2 3 474000000
+l1 0 6 1 0 1 0 0 1000 6 0 59 0
+subslices 1
+plp 0 type1 1 1/2 qpsk short 0 8 1 delete 2000000 2
+";
+
 // Makes the files that the words of `ENDINGS` name: configurations, a packet, what is none, and nothing.
 fn make_files(rt: &(impl Files + AllocGlobal)) -> io::Result<()> {
     let mut packet = [0; SIZE];
@@ -194,7 +206,8 @@ fn make_files(rt: &(impl Files + AllocGlobal)) -> io::Result<()> {
     fs::write(rt, "cli.ts", &packet)?;
     fs::write(rt, "cli.none", b"")?;
     fs::write(rt, "cli.txt", CONFIG.as_bytes())?;
-    fs::write(rt, "cli.full", FULL.as_bytes())
+    fs::write(rt, "cli.full", FULL.as_bytes())?;
+    fs::write(rt, "cli.spread", SPREAD.as_bytes())
 }
 
 fn remove_files(rt: &impl Files) -> io::Result<()> {
@@ -204,6 +217,7 @@ fn remove_files(rt: &impl Files) -> io::Result<()> {
         "cli.none",
         "cli.txt",
         "cli.full",
+        "cli.spread",
         "cli.out",
     ] {
         fs::remove_file(rt, name)?;
@@ -219,7 +233,7 @@ struct Ending {
 }
 
 #[rattlefmt::skip]
-static ENDINGS: [Ending; 27] = [
+static ENDINGS: [Ending; 31] = [
     Ending { words: &["--version"], takes: true, status: 0 },
     Ending { words: &["gateway", "cli.txt", "cli.out", "cli.ts"], takes: true, status: 0 },
     Ending { words: &["plan", "cli.txt"], takes: true, status: 0 },
@@ -237,6 +251,10 @@ static ENDINGS: [Ending; 27] = [
     Ending { words: &["show", "frames", "cli.ts"], takes: true, status: 7 },
     Ending { words: &["receive", "cli.txt", "9", "cli.ts", "cli.out"], takes: true, status: 8 },
     Ending { words: &["show", "packets", "cli.ts"], takes: true, status: 10 },
+    Ending { words: &["plan", "cli.spread"], takes: true, status: 0 },
+    Ending { words: &["gateway", "cli.spread", "cli.out", "cli.ts"], takes: true, status: 11 },
+    Ending { words: &["modulate", "cli.spread", "cli.ts", "cli.out"], takes: true, status: 11 },
+    Ending { words: &["receive", "cli.spread", "0", "cli.ts", "cli.out"], takes: true, status: 11 },
     Ending { words: &["plan", "cli.absent"], takes: true, status: 70 },
     Ending { words: &["gateway", "cli.txt", "cli.out", "cli.absent"], takes: true, status: 70 },
     Ending { words: &["gateway", "cli.txt", "./cli.ts", "cli.ts"], takes: true, status: 71 },
@@ -275,7 +293,7 @@ struct Told {
 }
 
 #[rattlefmt::skip]
-static TOLD: [Told; 12] = [
+static TOLD: [Told; 13] = [
     Told { words: &["plan", "c"], outcome: Outcome::Done, begins: "" },
     Told { words: &["plan"], outcome: Outcome::Usage,
         begins: "these words are no command\nusage: site_cli gateway CONFIG OUT IN..\n" },
@@ -285,6 +303,8 @@ static TOLD: [Told; 12] = [
     Told { words: &["gateway", "c", "o", "a", "b"], outcome: Outcome::InputRefused { input: 1, packet: 7 },
         begins: "b: packet 7, " },
     Told { words: &["modulate", "c", "i", "o"], outcome: Outcome::NoSuperframe, begins: "i: no superframe begins in it " },
+    Told { words: &["gateway", "c", "o", "a", "b"], outcome: Outcome::NotBuilt { at: 1 },
+        begins: "c: several frames carry an interleaving frame of the PLP at place 1, counted from 0; gateway makes or takes " },
     Told { words: &["receive", "c", "9", "i", "o"], outcome: Outcome::UnknownPlp { plp_id: 9 },
         begins: "c: no PLP has the identifier 9; " },
     Told { words: &["receive", "c", "0", "i", "o"], outcome: Outcome::RecordRefused { number: 4, why: RecordWhy::Order },
