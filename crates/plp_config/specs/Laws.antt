@@ -222,7 +222,7 @@ UserPacketRange = (c : Config) (plp : ℕ) → (187 ≤ up_bytes c plp) × (up_b
 abbrev pub CapacityHoldsUp : Type 0
 CapacityHoldsUp = (c : Config) (plp : ℕ) → AllRules c → plp < length c.plps → up_bytes c plp ≤ capacity c plp
 
--- each frame that carries blocks has as many cells of them, and of type 2 so has each sub-slice
+-- the frames that carry a block have equal parts of its cells
 abbrev pub CellsInParts : Type 0
 CellsInParts = (c : Config) (plp : ℕ) → IsPlan c → plp < length c.plps → block_cells c plp % spread c.plps plp ≡ 0
 

@@ -46,7 +46,7 @@ impl ConfigFault {
             15 => "the spread must be at least 1 and divide the frames of a superframe",
             16 => "the interleaver length must be 1 with a spread above 1",
             17 => "an interleaving frame must last fewer than 4194304 ticks",
-            18 => "a group may have one common PLP",
+            18 => "a group may have at most one common PLP",
             19 => "a PLP must have the bit rate and the spread of the common PLP of its group",
             20 => "another PLP must be in the group of a common PLP",
             _ => "there is no such rule",
@@ -104,8 +104,18 @@ pub fn validate(config: Config) -> Result<Valid, (Config, ConfigFault)>
 fn first_fault(config: &Config) -> Option<ConfigFault>
     ensures { MatchOption result (AllRules config.now) (Refuses config.now) }
 {
-    network_fault(config)
-        .or(fault_at(10, repeated_id(config)))
+    match network_fault(config) {
+        Some(fault) => Some(fault),
+        None => plp_fault(config),
+    }
+}
+
+// The least of the rules 10 to 20 that fails. They take time by the square of the number of PLPs, which is bounded by then.
+fn plp_fault(config: &Config) -> Option<ConfigFault>
+    requires { RulesBelow 10 config.now }
+    ensures { MatchOption result (AllRules config.now) (Refuses config.now) }
+{
+    fault_at(10, repeated_id(config))
         .or(fault_at(11, falling_type(config)))
         .or(fault_at(12, wrong_block_limit(config)))
         .or(fault_at(13, wrong_interleaver_length(config)))

@@ -233,11 +233,25 @@ fn a_refusal_gives_the_configuration_back(rt: HostRuntime) -> Result<(), Fail> {
     Ok(())
 }
 
+// Rules that fail at the PLP of place 3, in words.
 #[rattlefmt::skip]
-const RULE_12: ConfigFault = ConfigFault { rule: 12, plp: Some(3) };
+static RULES_IN_WORDS: [(u8, &str); 7] = [
+    (12, "rule 12 fails at the PLP of place 3: a PLP must have from 1 to 1023 blocks"),
+    (15, "rule 15 fails at the PLP of place 3: the spread must be at least 1 and divide the frames of a superframe"),
+    (16, "rule 16 fails at the PLP of place 3: the interleaver length must be 1 with a spread above 1"),
+    (17, "rule 17 fails at the PLP of place 3: an interleaving frame must last fewer than 4194304 ticks"),
+    (18, "rule 18 fails at the PLP of place 3: a group may have at most one common PLP"),
+    (19, "rule 19 fails at the PLP of place 3: a PLP must have the bit rate and the spread of the common PLP of its group"),
+    (20, "rule 20 fails at the PLP of place 3: another PLP must be in the group of a common PLP"),
+];
 
+// Tests that want 9 and have 8, in words.
 #[rattlefmt::skip]
-const TEST_2: CapacityFault = CapacityFault { test: 2, plp: None, need: 40_500, have: 40_000 };
+static TESTS_IN_WORDS: [(u8, &str); 3] = [
+    (2, "capacity test 2 fails: the cells of a frame must hold all blocks (need 9, have 8)"),
+    (3, "capacity test 3 fails: the frames and sub-slices that carry a block must divide its cells (need 9, have 8)"),
+    (5, "capacity test 5 fails: the record of a frame must have at most 33554432 bytes behind its head (need 9, have 8)"),
+];
 
 fn says<D: Display>(alloc: Global, fault: &D, text: &str) -> Result<bool, Fail> {
     Ok(format!(in alloc; "{fault}")?.as_str() == text)
@@ -245,10 +259,18 @@ fn says<D: Display>(alloc: Global, fault: &D, text: &str) -> Result<bool, Fail> 
 
 #[test]
 fn faults_in_words(rt: HostRuntime) -> Result<(), Fail> {
-    let rule = "rule 12 fails at the PLP of place 3: a PLP must have from 1 to 1023 blocks";
-    assert!(rt; says(rt.alloc(), &RULE_12, rule)?);
-    let test =
-        "capacity test 2 fails: the cells of a frame must hold all blocks (need 40500, have 40000)";
-    assert!(rt; says(rt.alloc(), &TEST_2, test)?);
+    for (rule, text) in RULES_IN_WORDS {
+        let fault = ConfigFault { rule, plp: Some(3) };
+        assert!(rt; says(rt.alloc(), &fault, text)?, "rule {rule}");
+    }
+    for (test, text) in TESTS_IN_WORDS {
+        let fault = CapacityFault {
+            test,
+            plp: None,
+            need: 9,
+            have: 8,
+        };
+        assert!(rt; says(rt.alloc(), &fault, text)?, "test {test}");
+    }
     Ok(())
 }
