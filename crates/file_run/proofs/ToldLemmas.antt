@@ -8,7 +8,7 @@ use Rattle.desk_io.specs.Faults.{ReadsFail, WritesFail}
 use Rattle.desk_io.specs.Reading.{Reading, given_of, longest_file}
 use Rattle.file_run.specs.Events.{Event, fed}
 use Rattle.file_run.specs.Steps.{Needs, FallsShort}
-use Rattle.file_run.specs.Telling.{Tells, TellsAll, TellsTooMuch, ReadsFailFirst, StopsTelling}
+use Rattle.file_run.specs.Telling.{Tells, TellsAll, TellsTooMuch, ReadsFailAtLeast, StopsTelling}
 use Rattle.file_run.specs.TellingOn.{Telling, Finishes, Breaks, TellsLast}
 use Rattle.file_run.specs.declared.machine.Step.{Step}
 use Rattle.file_run.specs.declared.stop.RunFault.{RunFault}
@@ -79,7 +79,7 @@ lost_last Came next start old new name machine r page t calm few keeps lost some
 )
 
 -- Reading failed, and then what was left was said.
-fails_said : (start old new : State) → ReadsFail start old → SameCounts old new → ReadsFailFirst start new
+fails_said : (start old new : State) → ReadsFail start old → SameCounts old new → ReadsFailAtLeast start new
 fails_said start old new f same =
     let reads : new.counts.reads ≡ old.counts.reads = ap (λ (k : Counts). k.reads) same in
     let writes : new.counts.writes ≡ start.counts.writes = ap (λ (k : Counts). k.writes) same
@@ -92,7 +92,7 @@ fails_said start old new f same =
     }
 
 -- Reading failed, and then saying what was left.
-fails_twice : (start old new : State) → ReadsFail start old → WritesFail old new → ReadsFailFirst start new
+fails_twice : (start old new : State) → ReadsFail start old → WritesFail old new → ReadsFailAtLeast start new
 fails_twice start old new f w =
     let reads : new.counts.reads ≡ old.counts.reads = ap (λ (k : Counts). k.reads) w.others in
     let writes : old.counts.writes ≡ start.counts.writes = ap (λ (k : Counts). k.writes) f.others in

@@ -77,8 +77,7 @@ pub record TellsTooMuch {A : Type 0} (Came : List Event → A → Type 0) (next 
   pub counts : SameCounts old new
 
 -- The file could not be read on, and the machine wants more than was read. What it gave was said then, unless that failed too:
--- then no more is lost than may wait (`waits`), so nothing of it was to be said before the file failed. Nor was it tried: what is
--- said before it is to be would end a page too soon.
+-- then no more is lost than may wait (`waits`), so nothing of it was to be said before the file failed.
 pub record TellsUntilFault {A : Type 0} (Came : List Event → A → Type 0) (next : A → Step) (old new : State) (name : List ℕ)
     (now : A) : Type 0 where
   pub place : ℕ
@@ -88,8 +87,9 @@ pub record TellsUntilFault {A : Type 0} (Came : List Event → A → Type 0) (ne
   pub short : place < longest_file
   pub all : ((unsaid ≡ []) × (new.counts.writes ≡ old.counts.writes)) ⊎ ((unsaid ≢ []) × Rose old.counts.writes new.counts.writes)
 
--- The count of reading rose, before that of writing did, if it did; that of last lines stayed.
-pub record ReadsFailFirst (old new : State) : Type 0 where
+-- The count of reading rose, and that of writing may have risen too; counts do not tell which one rose first. That of last lines
+-- stayed.
+pub record ReadsFailAtLeast (old new : State) : Type 0 where
   pub rose : Rose old.counts.reads new.counts.reads
   pub reads : old.counts.reads ≤ new.counts.reads
   pub writes : old.counts.writes ≤ new.counts.writes
@@ -100,7 +100,7 @@ pub record ReadsFailFirst (old new : State) : Type 0 where
 abbrev pub StopsTelling : {A : Type 0} → (List Event → A → Type 0) → (A → Step) → State → State → List ℕ → A → RunFault → Type 0
 StopsTelling Came next old new name now (TooLong input) = (input ≡ 0) × TellsTooMuch Came next old new name now
 StopsTelling Came next old new name now (ReadFault input) = (input ≡ 0)
-    × ((ReadsFail old new × Unopened old new) ⊎ (ReadsFailFirst old new × TellsUntilFault Came next old new name now))
+    × ((ReadsFail old new × Unopened old new) ⊎ (ReadsFailAtLeast old new × TellsUntilFault Came next old new name now))
 StopsTelling Came next old new name now WriteFault =
     WritesFail old new × ((place : ℕ) × (unsaid : List ℕ) × Tells Came next old new name now place unsaid × (unsaid ≢ [])
     × (place ≤ longest_file))

@@ -239,10 +239,10 @@ ends_by law start now old new name out None true is ended end r =
 
 -- ---- how a run ended that its files stopped
 
-wanted : (o : Option Waiting) (e : Bool) (input count : ℕ) → Needs (step_of o e) input count → (o ≡ None) × (e ≡ false)
+wanted : (o : Option Waiting) (e : Bool) (input count : ℕ) → Needs (step_of o e) input count → (o ≡ None) × (e ≡ false) × (count ≤ 1)
 wanted (Some w) e input count h = absurd (no_needs (nat_lt w.frame MOST_FRAMES) input count h)
 wanted None true input count h = absurd h
-wanted None false input count h = (refl, refl)
+wanted None false input count h = (refl, refl, h.1)
 
 idle_of : (start now : ModulatorMachine) (events : List Event) → now.waiting ≡ None → now.ended ≡ false → becomes start events now
     → IsAll (config_of now.modulator) false (fed 0 events) (gave events) now.ran
@@ -280,10 +280,11 @@ gives_too_much start now old new name out input g =
     let all = idle_of start now s.events w.0 w.1 s.came in
     let most : slice_index s.places 0 ≡ longest_file = ap (slice_index s.places) (sym first) ∙ g.gave in
     let count = s.came.1.count in
-    let within = s.within 0 (omega arith) in
+    let less : slice_index s.places 0 - length (fed 0 s.events) ≤ 1 =
+    subst (λ (k : ℕ). slice_index s.places k - length (fed k s.events) ≤ 1) first w.2 in
     record {
       taken = length (fed 0 s.events);
-      near = omega (arith, most, count, within);
+      near = omega (arith, most, less);
       works = subst (λ (n : ℕ). Writes old new name out n (HasWritten c (length (fed 0 s.events)))) most
           (writes_by (HasWritten c (length (fed 0 s.events))) s
           (λ file bytes f holds. has_written c (length (fed 0 s.events)) file bytes (fed 0 s.events) now.ran

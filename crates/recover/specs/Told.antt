@@ -1,5 +1,5 @@
--- What a gateway sends for a PLP, epoch by epoch, as records tell it to a receiver. Here an epoch of so many ticks stands for a
--- frame, and in each slot of the PLP is the packet that `at` tells.
+-- What a gateway sends for a PLP, epoch by epoch, as records tell it to a receiver. Here an epoch of so many ticks stands for an
+-- interleaving frame, and in each slot of the PLP is the packet that `at` tells.
 use Rattle.std.specs.Prelude.{◌≡◌, ◌<◌, ◌≤◌, ℕ, ◌+◌, ◌-◌, ◌*◌, ◌^◌, Bool, List, map, length, slice_index, min, Some}
 use Rattle.std.specs.Prelude.{if◌then◌else◌}
 use Rattle.std.specs.List.{range_with_len}

@@ -14,7 +14,7 @@ use Rattle.desk_io.specs.declared.page.TheConstants.{PAGE}
 use Rattle.file_run.specs.Events.{Event, fed, has_ended, gave}
 use Rattle.file_run.specs.FileRun.{IsFed}
 use Rattle.file_run.specs.Steps.{Needs, FallsShort}
-use Rattle.file_run.specs.Telling.{StartsWith, ReadsFailFirst}
+use Rattle.file_run.specs.Telling.{StartsWith, ReadsFailAtLeast}
 use Rattle.file_run.specs.declared.machine.Step.TheVariants.{Give, End}
 use Rattle.show_run.specs.PacketFile.{Packs, IsRefused}
 use Rattle.show_run.specs.PacketLines.{next_from, next_of, Behind, Given, Shown, Comes}
@@ -62,7 +62,7 @@ said_first start file early mid starts came (inr gives) =
     first_of_file file mid early starts came.shown
     (first_lines mid.phase came.shown.told came.shown.next mid.line (gave early) gives came.shown.given)
 
-pub fails_only : (old new : State) → ReadsFail old new → ReadsFailFirst old new
+pub fails_only : (old new : State) → ReadsFail old new → ReadsFailAtLeast old new
 fails_only old new f = record {
   rose = f.rose;
   reads = f.later;

@@ -1,4 +1,4 @@
-// The figures of two networks, worked by hand, and what does not fit.
+// The figures of three networks, worked by hand, and what does not fit.
 ghost use Rattle.std.specs.Prelude.{◌<◌, length};
 
 use super::{PLP, network, plan};
