@@ -1,11 +1,12 @@
 #!/usr/bin/env python3
 """The cells of a T2 frame, by EN 302 755, clauses 6.5 and 8, from the rules alone: matrices are filled and read, and sub-slices are listed.
 
-usage: cells.py CELLS SUB_SLICES TYPE:CELLS:BLOCKS:TI_BLOCKS.. < SHAPES
+usage: cells.py [-f FRAME_IDX] CELLS SUB_SLICES TYPE:CELLS:BLOCKS:TI_BLOCKS[:FRAMES].. < SHAPES
 
-The network has frames of so many cells, and PLPs of a type (1 or 2), of so many cells a block, of so many blocks at most, and of a
-number of TI-blocks (0: no interleaver). A line of SHAPES has the number of blocks of each PLP, then the start of each, then the sub-slice
-interval. For each line it prints the PLP that does not fit, or the two PLPs that share an address, or a digest of all cells: from 0 on, for
+The network has frames of so many cells, and PLPs of a type (0 common, 1 or 2), of so many cells a block, of so many blocks at most, of
+a number of TI-blocks (0: no interleaver), and of so many frames that carry an interleaving frame, 1 where none is told. A line of SHAPES
+has the number of blocks of each PLP, then the start of each, then the sub-slice interval; the frame is the first of its superframe, or
+that of FRAME_IDX. For each line it prints the PLP that does not fit, or the two PLPs that share an address, or a digest of all cells: from 0 on, for
 each address, 31 times the digest before, plus 0 for a dummy cell, or else plus 1, the number of the cell in its block, and 65,536 times the
 number of the block in the frame, modulo 2^64. `crates/cell_map/src/tests.rt` expects these.
 """
@@ -32,23 +33,31 @@ def interleaved(blocks, cells, ti_blocks):
     return order
 
 
-def addresses(plp, sub_slices, blocks, start, interval):
-    """The address of each cell of a PLP, in the order of its interleaver."""
-    kind, cells, _, _ = plp
-    if kind == 1:
-        return [start + place for place in range(blocks * cells)]
-    size = blocks * cells // sub_slices
-    return [start + place // size * interval + place % size for place in range(blocks * cells)]
+def carried(plp, blocks, frame_idx):
+    """Those that a frame carries: each of its frames carries as many."""
+    order = interleaved(blocks, plp[1], plp[3])
+    share = len(order) // plp[4]
+    first = frame_idx % plp[4] * share
+    return order[first : first + share]
 
 
-def judge(frame_cells, sub_slices, plps, shape):
+def addresses(plp, sub_slices, count, start, interval):
+    """The address of each cell of a PLP in a frame that has so many, in their order."""
+    if plp[0] != 2:
+        return [start + place for place in range(count)]
+    size = count // sub_slices
+    return [start + place // size * interval + place % size for place in range(count)]
+
+
+def judge(frame_cells, sub_slices, frame_idx, plps, shape):
     """What is printed of a shape."""
     counts, starts, interval = shape[: len(plps)], shape[len(plps) : -1], shape[-1]
-    placed = []
+    cells, placed = [], []
     for number, (plp, blocks, start) in enumerate(zip(plps, counts, starts)):
         if blocks > plp[2]:
             return f"PLP {number} does not fit"
-        placed.append(addresses(plp, sub_slices, blocks, start, interval))
+        cells.append(carried(plp, blocks, frame_idx))
+        placed.append(addresses(plp, sub_slices, len(cells[-1]), start, interval))
         if any(address >= frame_cells for address in placed[-1]):
             return f"PLP {number} does not fit"
     for first in range(len(plps)):
@@ -59,8 +68,8 @@ def judge(frame_cells, sub_slices, plps, shape):
                 return f"PLPs {first} and {second} share an address"
     values = [0] * frame_cells
     before = 0
-    for plp, blocks, places in zip(plps, counts, placed):
-        for (block, cell), address in zip(interleaved(blocks, plp[1], plp[3]), places):
+    for blocks, own, places in zip(counts, cells, placed):
+        for (block, cell), address in zip(own, places):
             values[address] = 1 + 65_536 * (before + block) + cell
         before += blocks
     digest = 0
@@ -70,13 +79,16 @@ def judge(frame_cells, sub_slices, plps, shape):
 
 
 def main(words):
+    frame_idx = 0
+    if words[0] == "-f":
+        frame_idx, words = int(words[1]), words[2:]
     frame_cells, sub_slices = int(words[0]), int(words[1])
-    plps = [tuple(int(number) for number in word.split(":")) for word in words[2:]]
+    plps = [tuple(int(number) for number in (word + ":1").split(":")[:5]) for word in words[2:]]
     for line in sys.stdin:
         shape = [int(number) for number in line.replace(",", " ").split()]
         if len(shape) != 2 * len(plps) + 1:
             sys.exit(f"cells.py: {line.strip()}: {2 * len(plps) + 1} numbers are wanted")
-        print(judge(frame_cells, sub_slices, plps, shape))
+        print(judge(frame_cells, sub_slices, frame_idx, plps, shape))
 
 
 if __name__ == "__main__":

@@ -3,6 +3,7 @@ use Rattle.std.specs.Prelude.{◌≡◌, ◌⊎◌, ℕ, ◌+◌, ◌-◌, ◌/�
 use Rattle.terms.specs.Bits.{field, part, number_at}
 use Rattle.bit_slice.specs.Crc.{crc8_of}
 use Rattle.bb_frame.specs.declared.header.Header.{Header}
+use Rattle.bb_frame.specs.declared.header.TheConstants.{HEADER_BITS, NO_START}
 use Rattle.bb_frame.specs.declared.fault.BbFault.{BbFault}
 use Rattle.bb_frame.specs.declared.fault.BbFault.TheVariants.{Crc, Mode, Length, Sync}
 
@@ -21,7 +22,7 @@ header_bits h = fields_bits h ++ field 8 (bit_xor (crc8_of (fields_bits h)) mode
 
 -- the frame of so many bits: header, data field, and zeros
 abbrev pub frame_bits : Header → List Bool → ℕ → List Bool
-frame_bits h body size = header_bits h ++ body ++ replicate (size - 80 - length body) false
+frame_bits h body size = header_bits h ++ body ++ replicate (size - HEADER_BITS - length body) false
 
 -- Each field fits its width.
 pub record Fits (h : Header) : Type 0 where
@@ -33,7 +34,7 @@ pub record Fits (h : Header) : Type 0 where
 
 -- SYNCD is a place of a byte in the data field, or says that no user packet begins there.
 abbrev pub IsPlace : ℕ → ℕ → Type 0
-IsPlace syncd dfl = (syncd ≡ 65535) ⊎ ((syncd % 8 ≡ 0) × (syncd < dfl))
+IsPlace syncd dfl = (syncd ≡ NO_START) ⊎ ((syncd % 8 ≡ 0) × (syncd < dfl))
 
 -- The header goes with the data field.
 pub record Describes (h : Header) (body : List Bool) : Type 0 where
@@ -72,7 +73,7 @@ HasCrc bits = told_crc bits ≡ bit_xor (counted_crc bits) mode
 
 -- DFL is a whole number of bytes, and so many stand behind the header.
 abbrev pub HasLength : List Bool → Type 0
-HasLength bits = (told_dfl bits % 8 ≡ 0) × (80 + told_dfl bits ≤ length bits)
+HasLength bits = (told_dfl bits % 8 ≡ 0) × (HEADER_BITS + told_dfl bits ≤ length bits)
 
 -- SYNCD goes with DFL.
 abbrev pub HasSync : List Bool → Type 0

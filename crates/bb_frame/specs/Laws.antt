@@ -1,6 +1,7 @@
 -- What holds of the definitions. The functions without a body ensure it.
 use Rattle.std.specs.Prelude.{◌≡◌, ◌⊎◌, ◌+◌, ◌≤◌, ℕ, List, ◌++◌, Bool, length}
 use Rattle.bb_frame.specs.declared.header.Header.{Header}
+use Rattle.bb_frame.specs.declared.header.TheConstants.{HEADER_BITS}
 use Rattle.bb_frame.specs.declared.fault.BbFault.{BbFault}
 use Rattle.bb_frame.specs.BasebandFrame.{header_bits, frame_bits, Fits, Describes, Spells, Refuses}
 use Rattle.bb_frame.specs.Scrambled.{scrambled}
@@ -16,7 +17,7 @@ NoRefusal = (h : Header) (body bits : List Bool) (fault : BbFault) → Spells h 
 
 -- As many bits as a header has, or more, are a frame or have a refusal.
 abbrev pub SpelledOrRefused : Type 0
-SpelledOrRefused = (bits : List Bool) → 80 ≤ length bits → ((h : Header) × ((body : List Bool) × Spells h body bits))
+SpelledOrRefused = (bits : List Bool) → HEADER_BITS ≤ length bits → ((h : Header) × ((body : List Bool) × Spells h body bits))
     ⊎ ((fault : BbFault) × Refuses bits fault)
 
 -- Bits have one refusal at most.
@@ -27,9 +28,10 @@ OneRefusal = (bits : List Bool) (fault other : BbFault) → Refuses bits fault �
 abbrev pub ScramblesBack : Type 0
 ScramblesBack = (bits : List Bool) → scrambled (scrambled bits) ≡ bits
 
--- How many bits there are: 80 in a header; in a frame as many as it is given, if the data field fits; and scrambling changes no
--- number.
+-- How many bits there are: those of a header; in a frame as many as it is given, if the data field fits; and scrambling
+-- changes no number.
 pub record BitCounts : Type 0 where
-  pub header : (h : Header) → length (header_bits h) ≡ 80
-  pub frame : (h : Header) (body : List Bool) (size : ℕ) → 80 + length body ≤ size → length (frame_bits h body size) ≡ size
+  pub header : (h : Header) → length (header_bits h) ≡ HEADER_BITS
+  pub frame : (h : Header) (body : List Bool) (size : ℕ) → HEADER_BITS + length body ≤ size → length (frame_bits h body size)
+      ≡ size
   pub scrambled : (bits : List Bool) → length (scrambled bits) ≡ length bits

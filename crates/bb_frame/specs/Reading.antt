@@ -2,6 +2,7 @@
 use Rattle.std.specs.Prelude.{◌≡◌, ◌+◌, ◌*◌, ◌^◌, List, Bool}
 use Rattle.terms.specs.Bits.{part, number_at}
 use Rattle.bb_frame.specs.declared.header.Header.{Header}
+use Rattle.bb_frame.specs.declared.header.TheConstants.{HEADER_BITS}
 use Rattle.bb_frame.specs.BasebandFrame.{HasCrc, HasLength, HasSync}
 
 -- The header's fields are what stands at their places in the bits.
@@ -18,4 +19,4 @@ pub record IsRead (bits : List Bool) (h : Header) (body : List Bool) : Type 0 wh
   pub len : HasLength bits
   pub sync : HasSync bits
   pub fields : HasFields bits h
-  pub taken : body ≡ part bits 80 h.dfl
+  pub taken : body ≡ part bits HEADER_BITS h.dfl

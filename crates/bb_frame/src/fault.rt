@@ -13,7 +13,7 @@ pub enum BbFault {
     /// DFL is not a multiple of 8, or more than the bits behind the header.
     #[error("DFL is no whole number of bytes, or more than there are")]
     Length = 3,
-    /// SYNCD is not 65535, and not a multiple of 8 below DFL.
+    /// SYNCD is not [`crate::NO_START`], and not a multiple of 8 below DFL.
     #[error("SYNCD is no place of a byte in the data field")]
     Sync = 4,
 }

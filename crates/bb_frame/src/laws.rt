@@ -16,7 +16,7 @@ pub fn no_refusal()
     crc8_law();
 }
 
-/// 80 bits or more are a frame or have a refusal.
+/// [`crate::HEADER_BITS`] bits or more are a frame or have a refusal.
 pub fn spelled_or_refused()
     ensures { SpelledOrRefused }
 {}

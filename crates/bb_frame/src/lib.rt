@@ -9,7 +9,7 @@ mod scrambling;
 mod writing;
 
 pub use fault::BbFault;
-pub use header::Header;
+pub use header::{HEADER_BITS, HEADER_BYTES, Header, NO_START};
 pub use laws::{
     bit_counts, no_refusal, one_refusal, scramble_twice, spelled_or_refused, written_is_spelled,
 };

@@ -5,11 +5,8 @@ ghost use Rattle.bb_frame.specs.BasebandFrame.{Spells, Refuses, IsPlace};
 ghost use Rattle.bb_frame.specs.Reading.{HasFields, IsRead};
 
 use crate::header::MODE;
-use crate::{BbFault, Header};
+use crate::{BbFault, HEADER_BITS, Header, NO_START};
 use bit_slice::{BitSlice, crc8, crc8_law};
-
-// The length of the header, in bits.
-const HEADER: usize = 80;
 
 /// A frame that stands in some bits.
 #[derive(Drop)]
@@ -21,7 +18,7 @@ pub struct BbView<'a> {
 
 // The fields of the header at the front.
 fn header_of(bits: &BitSlice<'_>) -> Header
-    requires { 80 ≤ length bits.now }
+    requires { HEADER_BITS ≤ length bits.now }
     ensures { HasFields bits.now result }
 {
     Header {
@@ -37,11 +34,11 @@ fn header_of(bits: &BitSlice<'_>) -> Header
 fn is_place(syncd: u16, dfl: u16) -> bool
     ensures { IsTrue result ↔ IsPlace syncd dfl }
 {
-    syncd == u16::MAX || syncd % 8 == 0 && syncd < dfl
+    syncd == NO_START || syncd % 8 == 0 && syncd < dfl
 }
 
 fn parse<'a>(bits: &BitSlice<'a>) -> Result<BbView<'a>, BbFault>
-    requires { 80 ≤ length bits.now }
+    requires { HEADER_BITS ≤ length bits.now }
     ensures ok { IfOk result (λ v. IsRead bits.now v.header v.field) }
     ensures err { IfErr result (Refuses bits.now) }
 {
@@ -54,13 +51,13 @@ fn parse<'a>(bits: &BitSlice<'a>) -> Result<BbView<'a>, BbFault>
         return Err(BbFault::Crc);
     }
     let header = header_of(bits);
-    if header.dfl % 8 != 0 || HEADER + header.dfl as usize > bits.len() {
+    if header.dfl % 8 != 0 || HEADER_BITS + header.dfl as usize > bits.len() {
         return Err(BbFault::Length);
     }
     if !is_place(header.syncd, header.dfl) {
         return Err(BbFault::Sync);
     }
-    let field = bits.sub(HEADER, header.dfl as usize);
+    let field = bits.sub(HEADER_BITS, header.dfl as usize);
     Ok(BbView { header, field })
 }
 
@@ -68,7 +65,7 @@ fn parse<'a>(bits: &BitSlice<'a>) -> Result<BbView<'a>, BbFault>
 ///
 /// Bits that are no frame have one refusal, the first that holds of Mode, Crc, Length and Sync.
 pub fn read_frame<'a>(bits: BitSlice<'a>) -> Result<BbView<'a>, BbFault>
-    requires { 80 ≤ length bits }
+    requires { HEADER_BITS ≤ length bits }
     ensures ok { IfOk result (λ v. Spells v.header v.field bits.entry) }
     // If the bits are a frame, it is read.
     ensures every { (h : Header) (body : List Bool) → Spells h body bits.entry

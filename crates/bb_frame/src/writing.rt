@@ -4,8 +4,8 @@ ghost use Rattle.terms.specs.Bits.{bits_of};
 ghost use Rattle.bit_slice.specs.Sink.{Puts, Stops};
 ghost use Rattle.bb_frame.specs.BasebandFrame.{fields_bits, header_bits, frame_bits, Describes};
 
-use crate::Header;
 use crate::header::MODE;
+use crate::{HEADER_BITS, Header};
 use bit_slice::{BitSink, BitSlice, SinkFault, crc8, puts_law, stops_law};
 
 // The bytes of the header but for the last one.
@@ -67,14 +67,14 @@ pub fn write_frame<S: BitSink>(
 ) -> Result<(), SinkFault>
     requires issy { header.now.issy < 2 ^ 24 }
     requires describes { Describes header.now field }
-    requires inside { 80 + length field ≤ kbch }
+    requires inside { HEADER_BITS + length field ≤ kbch }
     requires bytes { kbch % 8 ≡ 0 }
     ensures ok { OnOk result (Puts (S.state sink.old) (S.state sink.new) (frame_bits header.now field.entry kbch)) }
     ensures fault { IfErr result (Stops (S.state sink.old) (S.state sink.new) (frame_bits header.now field.entry kbch)) }
 {
     puts_law();
     stops_law();
-    let padding = kbch as usize - 80 - field.len();
+    let padding = kbch as usize - HEADER_BITS - field.len();
     put_header(sink, header)?;
     sink.put_slice(field)?;
     put_zeros(sink, padding)

@@ -1,14 +1,18 @@
 -- Cells by slice and place in the slice.
-use Rattle.std.proofs.Common.{◌≡◌, ℕ, zero, suc, ◌+◌, ◌*◌, ◌/◌, ◌%◌, ◌<◌, Bool, true, false, cond, length, refl, ap, sym, ◌∙◌}
+use Rattle.std.proofs.Common.{◌≡◌, ℕ, zero, suc, ◌+◌, ◌-◌, ◌*◌, ◌/◌, ◌%◌, ◌<◌, ◌≤◌, Bool, true, false, cond, length, refl, ap}
+use Rattle.std.proofs.Common.{sym, ◌∙◌}
 use Rattle.std.proofs.Common.{arith}
 use Rattle.std.specs.Prelude.{slice_index}
-use Rattle.std.proofs.lemmas.Nat.{div-add-mod', mod_below, div-mul-add, mod-mul-add, div_below, mul-add-lt}
+use Rattle.std.proofs.lemmas.Nat.{div-add-mod', mod_below, div-mul-add, mod-mul-add, div_below, mul-le, mul-add-lt}
+use Rattle.plp_config.proofs.SpreadLemmas.{cut_parts}
+use Rattle.std.proofs.Math.Nat.{mul_assoc, add-mul}
 use Rattle.plp_config.specs.Capacity.{IsPlan, block_cells}
-use Rattle.plp_config.specs.Plps.{plp_at}
+use Rattle.plp_config.specs.Rules.{SpreadDivides}
+use Rattle.plp_config.specs.Plps.{plp_at, spread}
 use Rattle.plp_config.specs.declared.config.Config.{Config}
-use Rattle.scheduler.specs.Shape.{FrameShape, in_type2}
-use Rattle.cell_map.specs.Interleaver.{position}
-use Rattle.cell_map.specs.Address.{IsCell, address_of}
+use Rattle.scheduler.specs.Shape.{FrameShape, in_type2, cells_of}
+use Rattle.cell_map.specs.Address.{IsCell, IsCarried, position_of, part_of, first_position, address_of}
+use Rattle.cell_map.specs.Laws.{CarriedOnce, PartsRepeat}
 use Rattle.cell_map.specs.Slices.{slices_of}
 use Rattle.cell_map.proofs.PlanLemmas.{plan_row, sub_slices-some}
 use Rattle.cell_map.proofs.PositionLemmas.{position_below, position_one, placed}
@@ -18,10 +22,11 @@ use Rattle.terms.proofs.NatLemmas.{cut_whole}
 abbrev pub count_by_kind : Bool → ℕ → ℕ
 count_by_kind second slices = cond second slices 1
 
-pub cut_by_kind : (second : Bool) (n cells slices : ℕ) → 0 < slices → cells % count_by_kind second slices ≡ 0 →
-    count_by_kind second slices * (n * cells / count_by_kind second slices) ≡ n * cells
-cut_by_kind true n cells slices some h = cut_whole n cells slices some h
-cut_by_kind false n cells slices some h = omega arith
+cut_by_kind : (second : Bool) (n cells slices spread : ℕ) → 0 < slices → 0 < spread
+    → cells % (count_by_kind second slices * spread) ≡ 0
+    → count_by_kind second slices * (n * cells / spread / count_by_kind second slices) ≡ n * cells / spread
+cut_by_kind true n cells slices spread some wide h = cut_parts n cells slices spread some wide h
+cut_by_kind false n cells slices spread some wide h = omega arith
 
 abbrev pub address_by_kind : Bool → ℕ → ℕ → ℕ → ℕ → ℕ → ℕ
 address_by_kind second w slices start interval p = cond second (start + p / (w / slices) * interval + p % (w / slices))
@@ -37,70 +42,157 @@ address_law false w slices start interval zero t hk ht = omega arith
 address_law false w slices start interval (suc k) t hk ht = absurd (omega arith)
 
 -- where a cell stands among the slices
-pub record At (c : Config) (shape : FrameShape) (j b q k t : ℕ) : Type 0 where
+pub record At (c : Config) (shape : FrameShape) (frame j b q k t : ℕ) : Type 0 where
   pub slice : k < (slices_of c shape j).count
   pub inner : t < (slices_of c shape j).len
-  pub place : position (block_cells c j) (plp_at c.plps j).interleave (slice_index shape.counts j) b q
-      ≡ k * (slices_of c shape j).len + t
-  pub address : address_of c shape j b q ≡ (slices_of c shape j).start + k * shape.interval + t
+  pub place : position_of c shape j b q ≡ first_position c shape frame j + (k * (slices_of c shape j).len + t)
+  pub address : address_of c shape frame j b q ≡ (slices_of c shape j).start + k * shape.interval + t
 
-pub cut_of : (c : Config) (shape : FrameShape) (j : ℕ) → IsPlan c → j < length c.plps →
-    (slices_of c shape j).count * (slices_of c shape j).len ≡ slice_index shape.counts j * (block_cells c j)
+-- the slices have the cells of the frame
+pub cut_of : (c : Config) (shape : FrameShape) (j : ℕ) → IsPlan c → j < length c.plps
+    → (slices_of c shape j).count * (slices_of c shape j).len ≡ cells_of c shape.counts j
 cut_of c shape j is h =
-    cut_by_kind (in_type2 c j) (slice_index shape.counts j) (block_cells c j) c.sub_slices (sub_slices-some c is)
-    (plan_row c j is h).cut
+    let r = plan_row c j is h in
+    cut_by_kind (in_type2 c j) (slice_index shape.counts j) (block_cells c j) c.sub_slices (spread c.plps j)
+    (sub_slices-some c is) r.wide r.parts
 
-pub at_place : (c : Config) (shape : FrameShape) (j b q k t : ℕ) → k < (slices_of c shape j).count → t < (slices_of c shape j).len
-    →
-    position (block_cells c j) (plp_at c.plps j).interleave (slice_index shape.counts j) b q ≡ k * (slices_of c shape j).len + t
-    → At c shape j b q k t
-at_place c shape j b q k t hk ht e =
-    let w : ℕ = slice_index shape.counts j * (block_cells c j) in
+-- and the frames those of the interleaving frame
+pub frames_of : (c : Config) (shape : FrameShape) (j : ℕ) → IsPlan c → j < length c.plps
+    → spread c.plps j * cells_of c shape.counts j ≡ slice_index shape.counts j * block_cells c j
+frames_of c shape j is h =
+    let r = plan_row c j is h in
+    cut_whole (slice_index shape.counts j) (block_cells c j) (spread c.plps j) r.wide r.whole
+
+-- the positions that a frame carries are all there
+pub part_inside : (c : Config) (shape : FrameShape) (frame j : ℕ) → IsPlan c → j < length c.plps
+    → first_position c shape frame j + cells_of c shape.counts j ≤ slice_index shape.counts j * block_cells c j
+part_inside c shape frame j is h =
+    let part : ℕ = part_of c frame j in
+    let few : part < spread c.plps j = mod_below frame (spread c.plps j) (plan_row c j is h).wide in
+    let most : (part + 1) * cells_of c shape.counts j ≤ spread c.plps j * cells_of c shape.counts j =
+    mul-le (part + 1) (cells_of c shape.counts j) (spread c.plps j) (cells_of c shape.counts j) (omega arith) (omega arith) in
+    omega (arith, most, frames_of c shape j is h)
+
+pub at_place : (c : Config) (shape : FrameShape) (frame j b q k t : ℕ) → k < (slices_of c shape j).count
+    → t < (slices_of c shape j).len
+    → position_of c shape j b q ≡ first_position c shape frame j + (k * (slices_of c shape j).len + t)
+    → At c shape frame j b q k t
+at_place c shape frame j b q k t hk ht e =
+    let w : ℕ = cells_of c shape.counts j in
+    let place : position_of c shape j b q - first_position c shape frame j ≡ k * (slices_of c shape j).len + t = omega
+    (arith, e) in
     record {
       slice = hk;
       inner = ht;
       place = e;
-      address = ap (λ (p : ℕ). address_by_kind (in_type2 c j) w c.sub_slices (slice_index shape.starts j) shape.interval p) e
+      address = ap (λ (p : ℕ). address_by_kind (in_type2 c j) w c.sub_slices (slice_index shape.starts j) shape.interval p) place
           ∙ address_law (in_type2 c j) w c.sub_slices (slice_index shape.starts j) shape.interval k t hk ht;
     }
 
-pub at_of_cell : (c : Config) (shape : FrameShape) (j b q : ℕ) → IsPlan c → IsCell c shape j b q
-    → (k : ℕ) × ((t : ℕ) × At c shape j b q k t)
-at_of_cell c shape j b q is cell =
-    let n : ℕ = slice_index shape.counts j in
-    let s = slices_of c shape j in
-    let p : ℕ = position (block_cells c j) (plp_at c.plps j).interleave n b q in
-    let within : p < n * (block_cells c j) = position_below (block_cells c j) (plp_at c.plps j).interleave n b q
-    (plan_row c j is cell.configured).fifth cell.sent cell.within in
-    let cut = cut_of c shape j is cell.configured in
-    let below : p < s.count * s.len = rw cut within in
-    let some : 0 < s.len =
-    elim s.len as (λ (l : ℕ). p < s.count * l → 0 < l) [
-      | zero ↦ (λ (x : p < s.count * 0). absurd (omega arith))
-      | suc l ↦
-          (λ (x : p < s.count * suc l). omega arith)
-    ] below in
-    let all = div-add-mod' p s.len in
-    let slice : p / s.len < s.count = div_below p s.len s.count some below in
-    let inner : p % s.len < s.len = mod_below p s.len some in
-    (p / s.len, (p % s.len, at_place c shape j b q (p / s.len) (p % s.len) slice inner (sym all)))
+-- a product above another number has no factor 0
+some_factor : (p n len : ℕ) → p < n * len → 0 < len
+some_factor p n zero h = absurd (omega arith)
+some_factor p n (suc len) h = omega arith
 
-pub cell_of_at : (c : Config) (shape : FrameShape) (j k t : ℕ) → IsPlan c → j < length c.plps → k < (slices_of c shape j).count
-    → t < (slices_of c shape j).len →
-    (b : ℕ) × ((q : ℕ) × IsCell c shape j b q × At c shape j b q k t)
-cell_of_at c shape j k t is h hk ht =
+-- a position that the frame carries is a place behind its first one
+pub carried_place : (c : Config) (shape : FrameShape) (frame j b q : ℕ) → IsPlan c → IsCarried c shape frame j b q
+    → (z : ℕ) × (z < cells_of c shape.counts j) × (position_of c shape j b q ≡ first_position c shape frame j + z)
+carried_place c shape frame j b q is it =
+    let w : ℕ = cells_of c shape.counts j in
+    let p : ℕ = position_of c shape j b q in
+    let row = plan_row c j is it.there.configured in
+    let below : p < slice_index shape.counts j * block_cells c j =
+    position_below (block_cells c j) (plp_at c.plps j).interleave (slice_index shape.counts j) b q row.fifth it.there.sent
+    it.there.within in
+    let some : 0 < w = some_factor p (spread c.plps j) w (omega (arith, below, frames_of c shape j is it.there.configured)) in
+    let all : p / w * w + p % w ≡ p = div-add-mod' p w in
+    let first : p / w * w ≡ first_position c shape frame j = ap (λ (k : ℕ). k * w) it.carried in
+    (p % w, mod_below p w some, omega (arith, all, first))
+
+-- and the other way
+pub is_carried_at : (c : Config) (shape : FrameShape) (frame j b q z : ℕ) → IsCell c shape j b q → z < cells_of c shape.counts j
+    → position_of c shape j b q ≡ first_position c shape frame j + z → IsCarried c shape frame j b q
+is_carried_at c shape frame j b q z there inside e = record {
+  there = there;
+  carried = ap (λ (p : ℕ). p / cells_of c shape.counts j) e
+      ∙ div-mul-add (part_of c frame j) (cells_of c shape.counts j) z inside;
+}
+
+pub at_of_cell : (c : Config) (shape : FrameShape) (frame j b q : ℕ) → IsPlan c → IsCarried c shape frame j b q
+    → (k : ℕ) × ((t : ℕ) × At c shape frame j b q k t)
+at_of_cell c shape frame j b q is cell =
+    let s = slices_of c shape j in
+    let (z, inside, e) = carried_place c shape frame j b q is cell in
+    let below : z < s.count * s.len = omega (arith, inside, cut_of c shape j is cell.there.configured) in
+    let some : 0 < s.len = some_factor z s.count s.len below in
+    let all : z / s.len * s.len + z % s.len ≡ z = div-add-mod' z s.len in
+    let slice : z / s.len < s.count = div_below z s.len s.count some below in
+    let inner : z % s.len < s.len = mod_below z s.len some in
+    (z / s.len, (z % s.len, at_place c shape frame j b q (z / s.len) (z % s.len) slice inner (omega (arith, all, e))))
+
+pub cell_of_at : (c : Config) (shape : FrameShape) (frame j k t : ℕ) → IsPlan c → j < length c.plps
+    → k < (slices_of c shape j).count → t < (slices_of c shape j).len
+    → (b : ℕ) × ((q : ℕ) × IsCarried c shape frame j b q × At c shape frame j b q k t)
+cell_of_at c shape frame j k t is h hk ht =
     let n : ℕ = slice_index shape.counts j in
     let s = slices_of c shape j in
-    let cut = cut_of c shape j is h in
     let product : k * s.len + t < s.len * s.count = mul-add-lt k s.len t s.count hk ht in
-    let below : k * s.len + t < n * (block_cells c j) = omega (arith, product, cut) in
+    let inside : k * s.len + t < cells_of c shape.counts j = omega (arith, product, cut_of c shape j is h) in
+    let at : ℕ = first_position c shape frame j + (k * s.len + t) in
+    let below : at < n * block_cells c j = omega (arith, inside, part_inside c shape frame j is h) in
     let r = plan_row c j is h in
-    let (b, (q, holds)) = placed (block_cells c j) (plp_at c.plps j).interleave n (k * s.len + t) r.some r.fifth below in
-    (b, (q, record { configured = h; sent = holds.block; within = holds.cell }, at_place c shape j b q k t hk ht holds.value))
+    let (b, (q, holds)) = placed (block_cells c j) (plp_at c.plps j).interleave n at r.some r.fifth below in
+    let there : IsCell c shape j b q = record { configured = h; sent = holds.block; within = holds.cell } in (
+      b,
+      (
+        q,
+        is_carried_at c shape frame j b q (k * s.len + t) there inside holds.value,
+        at_place c shape frame j b q k t hk ht holds.value,
+      ),
+    )
 
 -- a PLP's cells by place are one
-pub one_cell : (c : Config) (shape : FrameShape) (j b q d r k t : ℕ) → IsPlan c → IsCell c shape j b q → IsCell c shape j d r
-    → At c shape j b q k t → At c shape j d r k t → (b ≡ d) × (q ≡ r)
-one_cell c shape j b q d r k t is x y ax ay =
+pub one_cell : (c : Config) (shape : FrameShape) (frame j b q d r k t : ℕ) → IsPlan c → IsCell c shape j b q
+    → IsCell c shape j d r
+    → At c shape frame j b q k t → At c shape frame j d r k t → (b ≡ d) × (q ≡ r)
+one_cell c shape frame j b q d r k t is x y ax ay =
     position_one (block_cells c j) (plp_at c.plps j).interleave (slice_index shape.counts j) b q d r
     (plan_row c j is x.configured).fifth x.sent x.within y.sent y.within (ax.place ∙ sym ay.place)
+
+-- each cell is carried in one frame of its interleaving frame
+pub carried_once : CarriedOnce
+carried_once c shape plp b q is there =
+    let w : ℕ = cells_of c shape.counts plp in
+    let p : ℕ = position_of c shape plp b q in
+    let row = plan_row c plp is there.configured in
+    let below : p < slice_index shape.counts plp * block_cells c plp =
+    position_below (block_cells c plp) (plp_at c.plps plp).interleave (slice_index shape.counts plp) b q row.fifth there.sent
+    there.within in
+    let inside : p < spread c.plps plp * w = omega (arith, below, frames_of c shape plp is there.configured) in
+    let some : 0 < w = some_factor p (spread c.plps plp) w inside in (
+      p / w,
+      div_below p w (spread c.plps plp) some inside,
+      λ frame. (λ it. sym it.carried, λ e. record { there = there; carried = sym e }),
+    )
+
+-- the frames of a superframe are whole interleaving frames
+repeats : (n frames parts : ℕ) → 0 < parts → frames % parts ≡ 0 → n % frames % parts ≡ n % parts
+repeats n frames parts some whole =
+    let r : ℕ = n % frames in
+    let all : n / frames * frames + r ≡ n = div-add-mod' n frames in
+    let even : frames / parts * parts + frames % parts ≡ frames = div-add-mod' frames parts in
+    let rest : r / parts * parts + r % parts ≡ r = div-add-mod' r parts in
+    let is : frames ≡ frames / parts * parts = omega (arith, even, whole) in
+    let product : n / frames * frames ≡ n / frames * (frames / parts) * parts =
+    ap (λ (k : ℕ). n / frames * k) is ∙ sym (mul_assoc (n / frames) (frames / parts) parts) in
+    let both : (n / frames * (frames / parts) + r / parts) * parts
+    ≡ n / frames * (frames / parts) * parts + r / parts * parts =
+    add-mul (n / frames * (frames / parts)) (r / parts) parts in
+    let sum : n ≡ (n / frames * (frames / parts) + r / parts) * parts + r % parts = omega (arith, all, rest, product, both) in
+    sym (ap (λ (k : ℕ). k % parts) sum
+    ∙ mod-mul-add (n / frames * (frames / parts) + r / parts) parts (r % parts) (mod_below r parts some))
+
+pub parts_repeat : PartsRepeat
+parts_repeat c frame plp is inside =
+    let divides : (1 ≤ spread c.plps plp) × (c.frames % spread c.plps plp ≡ 0) = is.rules SpreadDivides plp inside in
+    repeats frame c.frames (spread c.plps plp) divides.0 divides.1

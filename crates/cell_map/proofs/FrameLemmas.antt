@@ -1,32 +1,33 @@
 -- The facts of `ShareLemmas`, of what the code computed.
-use Rattle.std.proofs.Common.{◌≡◌, ℕ, ◌+◌, ◌*◌, ◌/◌, ◌%◌, ◌<◌, ◌≤◌, ⊎_elim, List, length, take, sum, ap, sym, ◌∙◌, arith}
+use Rattle.std.proofs.Common.{◌≡◌, ℕ, ◌+◌, ◌-◌, ◌*◌, ◌/◌, ◌%◌, ◌<◌, ◌≤◌, ◌⊎◌, ⊎_elim, List, length, take, sum, ap, sym, ◌∙◌}
+use Rattle.std.proofs.Common.{arith}
 use Rattle.std.specs.Prelude.{slice_index}
 use Rattle.std.proofs.lemmas.List.Sums.{sum_by_more}
 use Rattle.plp_config.specs.Capacity.{IsPlan, block_cells}
-use Rattle.plp_config.specs.Plps.{plp_at}
+use Rattle.plp_config.specs.Plps.{plp_at, spread}
 use Rattle.plp_config.specs.declared.config.Config.{Config}
-use Rattle.scheduler.specs.Shape.{FrameShape}
+use Rattle.scheduler.specs.Shape.{FrameShape, cells_of}
 use Rattle.cell_map.specs.Slices.{IsRow, slice_count, slices_of}
-use Rattle.cell_map.specs.Interleaver.{position}
 use Rattle.cell_map.specs.declared.rows.PlpInFrame.{PlpInFrame}
-use Rattle.cell_map.specs.Address.{IsCell, position_of, address_of}
+use Rattle.cell_map.specs.Address.{IsCarried, position_of, first_position, address_of}
 use Rattle.cell_map.specs.CellMap.{IsBeyond, Shares, Passes}
 use Rattle.cell_map.proofs.PlanLemmas.{plan_row}
-use Rattle.cell_map.proofs.AtLemmas.{at_of_cell}
+use Rattle.cell_map.proofs.AtLemmas.{at_of_cell, carried_place}
 use Rattle.cell_map.proofs.MeetingLemmas.{parts_of}
 
 -- a row from its four numbers
-pub row_is : (c : Config) (plp cells blocks interleave slices : ℕ) → IsPlan c → plp < length c.plps
+pub row_is : (c : Config) (plp cells blocks interleave slices wide : ℕ) → IsPlan c → plp < length c.plps
     → cells ≡ block_cells c plp → blocks ≡ (plp_at c.plps plp).blocks → interleave ≡ (plp_at c.plps plp).interleave
-    → slices ≡ slice_count c plp
-    → IsRow c plp (record { cells = cells; blocks = blocks; interleave = interleave; slices = slices })
-row_is c plp cells blocks interleave slices is h e f g k =
+    → slices ≡ slice_count c plp → wide ≡ spread c.plps plp
+    → IsRow c plp (record { cells = cells; blocks = blocks; interleave = interleave; slices = slices; spread = wide })
+row_is c plp cells blocks interleave slices wide is h e f g k m =
     let r = plan_row c plp is h in
     record {
       cells = e;
       blocks = f;
       interleave = g;
       slices = k;
+      spread-is = m;
       fifth = rw e (r.fifth);
       least = omega (arith, e, r.least);
       greatest = omega (arith, e, r.greatest);
@@ -34,29 +35,33 @@ row_is c plp cells blocks interleave slices is h e f g k =
       short = omega (arith, g, r.interleave);
       some = omega (arith, k, r.one);
       most = omega (arith, k, r.most);
+      wide = omega (arith, m, r.wide);
+      whole = rw (e, m) r.whole;
     }
 
--- the address of a cell by its position
-pub record AddressIs (c : Config) (shape : FrameShape) (plp block cell : ℕ) : Type 0 where
+-- the address of a cell by its place among those of its PLP in the frame
+pub record AddressIs (c : Config) (shape : FrameShape) (frame plp block cell place : ℕ) : Type 0 where
   pub some : 0 < (slices_of c shape plp).len
-  pub value : (slices_of c shape plp).start + position_of c shape plp block cell / (slices_of c shape plp).len * shape.interval
-      + position_of c shape plp block cell % (slices_of c shape plp).len ≡ address_of c shape plp block cell
-  pub single : slice_count c plp ≡ 1 → (slices_of c shape plp).start + position_of c shape plp block cell
-      ≡ address_of c shape plp block cell
+  pub value : (slices_of c shape plp).start + place / (slices_of c shape plp).len * shape.interval
+      + place % (slices_of c shape plp).len ≡ address_of c shape frame plp block cell
+  pub single : slice_count c plp ≡ 1 → (slices_of c shape plp).start + place ≡ address_of c shape frame plp block cell
 
-pub address_is : (c : Config) (shape : FrameShape) (plp block cell : ℕ) → IsPlan c → IsCell c shape plp block cell
-    → AddressIs c shape plp block cell
-address_is c shape plp block cell is there =
-    let (k, (t, x)) = at_of_cell c shape plp block cell is there in
+pub address_is : (c : Config) (shape : FrameShape) (frame plp block cell : ℕ) → IsPlan c
+    → IsCarried c shape frame plp block cell
+    → AddressIs c shape frame plp block cell (position_of c shape plp block cell - first_position c shape frame plp)
+address_is c shape frame plp block cell is there =
+    let (k, (t, x)) = at_of_cell c shape frame plp block cell is there in
     let s = slices_of c shape plp in
-    let parts = parts_of s.len k t (position_of c shape plp block cell) x.inner (sym x.place) in
+    let z : ℕ = position_of c shape plp block cell - first_position c shape frame plp in
+    let here : k * s.len + t ≡ z = omega (arith, x.place) in
+    let parts = parts_of s.len k t z x.inner here in
     record {
       some = omega (arith, x.inner);
       value = rw (parts.0, parts.1) (sym x.address);
       single = λ one.
           let first : k ≡ 0 = omega (arith, x.slice, one) in
-          let place : position_of c shape plp block cell ≡ 0 * s.len + t = x.place ∙ ap (λ (n : ℕ). n * s.len + t) first in
-          let address : address_of c shape plp block cell ≡ s.start + 0 * shape.interval + t =
+          let place : z ≡ 0 * s.len + t = sym here ∙ ap (λ (n : ℕ). n * s.len + t) first in
+          let address : address_of c shape frame plp block cell ≡ s.start + 0 * shape.interval + t =
           x.address ∙ ap (λ (n : ℕ). s.start + n * shape.interval + t) first in
           omega (arith, place, address);
     }
@@ -66,18 +71,20 @@ pub not_beyond : (c : Config) (shape : FrameShape) (plp : ℕ) → Passes c shap
 not_beyond c shape plp passes h w =
     ⊎_elim
     (λ many. let never : ⊥ = omega (arith, many, passes.counts plp h) in never)
-    (λ far. let (block, cell, there, past) = far in let never : ⊥ = omega (arith, past, passes.below plp block cell there) in
+    (λ far. let (frame, block, cell, there, past) = far in
+    let never : ⊥ = omega (arith, past, passes.below frame plp block cell there) in
     never)
     w
 
 pub not_shared : (c : Config) (shape : FrameShape) (i j : ℕ) → Passes c shape → ¬ (Shares c shape i j)
-not_shared c shape i j passes s = s.apart (passes.apart i s.block s.cell j s.other_block s.other_cell s.one s.other s.same)
+not_shared c shape i j passes s = s.apart
+    (passes.apart s.frame_idx i s.block s.cell j s.other_block s.other_cell s.one s.other s.same)
 
 -- the address that the code computes
-pub record Computes (c : Config) (shape : FrameShape) (plp block cell start position interval len : ℕ) : Type 0 where
+pub record Computes (c : Config) (shape : FrameShape) (frame plp block cell start place interval len : ℕ) : Type 0 where
   pub some : 0 < len
-  pub value : start + position / len * interval + position % len ≡ address_of c shape plp block cell
-  pub below : start + position / len * interval + position % len < c.cells
+  pub value : start + place / len * interval + place % len ≡ address_of c shape frame plp block cell
+  pub below : start + place / len * interval + place % len < c.cells
 
 -- a PLP in a frame, as the code has it
 pub record IsInFrame (c : Config) (shape : FrameShape) (plp : ℕ) (it : PlpInFrame) : Type 0 where
@@ -85,26 +92,39 @@ pub record IsInFrame (c : Config) (shape : FrameShape) (plp : ℕ) (it : PlpInFr
   pub count : it.count ≡ slice_index shape.counts plp
   pub slices : it.slices ≡ slices_of c shape plp
 
-pub computes : (c : Config) (shape : FrameShape) (plp block cell : ℕ) (it : PlpInFrame) (start at interval : ℕ)
-    → IsPlan c → Passes c shape → IsCell c shape plp block cell → IsInFrame c shape plp it
-    → start ≡ slice_index shape.starts plp → at ≡ position it.row.cells it.row.interleave it.count block cell
+pub computes : (c : Config) (shape : FrameShape) (frame plp block cell : ℕ) (it : PlpInFrame) (start place interval : ℕ)
+    → IsPlan c → Passes c shape → IsCarried c shape frame plp block cell → IsInFrame c shape plp it
+    → start ≡ slice_index shape.starts plp → place ≡ position_of c shape plp block cell - first_position c shape frame plp
     → interval ≡ shape.interval
-    → Computes c shape plp block cell start at interval it.slices.len
-computes c shape plp block cell it start at interval is passes there in_frame e f g =
-    let a = address_is c shape plp block cell is there in
-    let below = passes.below plp block cell there in
-    let place : at ≡ position_of c shape plp block cell = rw (in_frame.row.cells, in_frame.row.interleave, in_frame.count) at f in
-    rw (e, place, g, in_frame.slices) (record { some = a.some; value = a.value; below = rw (sym a.value) at below })
+    → Computes c shape frame plp block cell start place interval it.slices.len
+computes c shape frame plp block cell it start place interval is passes there in_frame e f g =
+    let a = address_is c shape frame plp block cell is there in
+    let below = passes.below frame plp block cell there in
+    rw (e, f, g, in_frame.slices) (record { some = a.some; value = a.value; below = rw (sym a.value) at below })
 
-pub computes_single : (c : Config) (shape : FrameShape) (plp block cell : ℕ) (it : PlpInFrame) (start at : ℕ)
-    → IsPlan c → Passes c shape → IsCell c shape plp block cell → IsInFrame c shape plp it
-    → start ≡ slice_index shape.starts plp → at ≡ position it.row.cells it.row.interleave it.count block cell → it.row.slices ≡ 1
-    → (start + at ≡ address_of c shape plp block cell) × (start + at < c.cells)
-computes_single c shape plp block cell it start at is passes there in_frame e f one =
-    let a = address_is c shape plp block cell is there in
-    let place : at ≡ position_of c shape plp block cell = rw (in_frame.row.cells, in_frame.row.interleave, in_frame.count) at f in
-    let same : start + at ≡ address_of c shape plp block cell = rw (e, place) (a.single (sym in_frame.row.slices ∙ one)) in
-    (same, omega (arith, same, passes.below plp block cell there))
+pub computes_single : (c : Config) (shape : FrameShape) (frame plp block cell : ℕ) (it : PlpInFrame) (start place : ℕ)
+    → IsPlan c → Passes c shape → IsCarried c shape frame plp block cell → IsInFrame c shape plp it
+    → start ≡ slice_index shape.starts plp → place ≡ position_of c shape plp block cell - first_position c shape frame plp
+    → it.row.slices ≡ 1
+    → (start + place ≡ address_of c shape frame plp block cell) × (start + place < c.cells)
+computes_single c shape frame plp block cell it start place is passes there in_frame e f one =
+    let a = address_is c shape frame plp block cell is there in
+    let same : start + place ≡ address_of c shape frame plp block cell =
+    rw (e, f) (a.single (sym in_frame.row.slices ∙ one)) in
+    (same, omega (arith, same, passes.below frame plp block cell there))
+
+-- whether a position lies among those that the frame carries
+pub not_carried : (c : Config) (shape : FrameShape) (frame plp block cell : ℕ) → IsPlan c
+    → (position_of c shape plp block cell < first_position c shape frame plp)
+    ⊎ (first_position c shape frame plp + cells_of c shape.counts plp ≤ position_of c shape plp block cell)
+    → ¬ (IsCarried c shape frame plp block cell)
+not_carried c shape frame plp block cell is out it =
+    let (z, inside, e) = carried_place c shape frame plp block cell is it in
+    ⊎_elim
+    (λ (before : position_of c shape plp block cell < first_position c shape frame plp).
+    (let never : ⊥ = omega (arith, before, e) in never))
+    (λ (behind : first_position c shape frame plp + cells_of c shape.counts plp ≤ position_of c shape plp block cell).
+    (let never : ⊥ = omega (arith, behind, inside, e) in never)) out
 
 -- one PLP more: its blocks are counted
 pub counted : (counts : List ℕ) (plp before count : ℕ) → plp < length counts → before ≡ sum (take plp counts)

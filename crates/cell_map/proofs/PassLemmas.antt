@@ -6,7 +6,7 @@ use Rattle.std.proofs.lemmas.Bool.{cases_lt, cases_eq}
 use Rattle.std.proofs.lemmas.Nat.{mul-le}
 use Rattle.std.proofs.Math.Nat.{div-le_self}
 use Rattle.plp_config.specs.Capacity.{IsPlan, block_cells}
-use Rattle.plp_config.specs.Plps.{plp_at}
+use Rattle.plp_config.specs.Plps.{plp_at, spread}
 use Rattle.plp_config.specs.declared.config.Config.{Config}
 use Rattle.scheduler.specs.Laws.{StandsInOrder}
 use Rattle.scheduler.specs.Shape.{FrameShape, in_type2, cells_of, slice_of}
@@ -16,10 +16,12 @@ use Rattle.cell_map.proofs.ShareLemmas.{not_beyond, some_of_shares, meet_of_shar
 use Rattle.terms.proofs.CaseLemmas.{bool_cases}
 
 -- a PLP with cells has blocks
-count_some : (n cells slices : ℕ) → 0 < n * cells / slices → 0 < n
-count_some zero cells slices h = let m : 0 * cells / slices ≤ 0 * cells = div-le_self (0 * cells) slices in
-    absurd (omega (arith, h, m))
-count_some (suc n) cells slices h = omega arith
+count_some : (n cells spread slices : ℕ) → 0 < n * cells / spread / slices → 0 < n
+count_some zero cells spread slices h =
+    let m : 0 * cells / spread / slices ≤ 0 * cells / spread = div-le_self (0 * cells / spread) slices in
+    let l : 0 * cells / spread ≤ 0 * cells = div-le_self (0 * cells) spread in
+    absurd (omega (arith, h, m, l))
+count_some (suc n) cells spread slices h = omega arith
 
 -- the slices of either type
 pub record Kind (c : Config) (shape : FrameShape) (plp len count : ℕ) : Type 0 where
@@ -38,7 +40,7 @@ ends : (c : Config) (shape : FrameShape) (plp : ℕ) → StandsInOrder c shape �
     → (slices_of c shape plp).start + ((slices_of c shape plp).count - 1) * shape.interval + (slices_of c shape plp).len ≤ c.cells
 ends c shape plp stands inside some =
     let blocks : 0 < slice_index shape.counts plp = count_some (slice_index shape.counts plp) (block_cells c plp)
-    (slices_of c shape plp).count some in
+    (spread c.plps plp) (slices_of c shape plp).count some in
     bool_cases (in_type2 c plp)
     (λ e. let k = kind2 c shape plp e in rw (k.len_is, k.count_is) (stands.end2 plp (inside, blocks, e)))
     (λ e. let k = kind1 c shape plp e in rw (k.len_is, k.count_is) (omega (arith, stands.end1 plp (inside, blocks, e))))
@@ -61,9 +63,9 @@ apart : (c : Config) (shape : FrameShape) (i j : ℕ) → IsPlan c → StandsInO
 apart c shape i j is stands less hi hj s =
     let some = some_of_shares c shape i j is s in
     let one : 0 < slice_index shape.counts i =
-    count_some (slice_index shape.counts i) (block_cells c i) (slices_of c shape i).count some.0 in
+    count_some (slice_index shape.counts i) (block_cells c i) (spread c.plps i) (slices_of c shape i).count some.0 in
     let other : 0 < slice_index shape.counts j =
-    count_some (slice_index shape.counts j) (block_cells c j) (slices_of c shape j).count some.1 in
+    count_some (slice_index shape.counts j) (block_cells c j) (spread c.plps j) (slices_of c shape j).count some.1 in
     let (k, (m, hk, hm, meets)) = meet_of_shares c shape i j is s in
     bool_cases (in_type2 c i)
     (λ e. let a = kind2 c shape i e in
@@ -92,7 +94,7 @@ alone : (c : Config) (shape : FrameShape) (j : ℕ) → IsPlan c → StandsInOrd
 alone c shape j is stands inside s =
     let some = some_of_shares c shape j j is s in
     let blocks : 0 < slice_index shape.counts j =
-    count_some (slice_index shape.counts j) (block_cells c j) (slices_of c shape j).count some.0 in
+    count_some (slice_index shape.counts j) (block_cells c j) (spread c.plps j) (slices_of c shape j).count some.0 in
     bool_cases (in_type2 c j)
     (λ e. let k = kind2 c shape j e in
     self_apart c shape j is (inr (omega (arith, k.len_is, stands.interval j j (inside, blocks, e) (inside, blocks, e)))) s)

@@ -1,16 +1,15 @@
 -- What the rules and the tests of a plan say of a PLP.
-use Rattle.std.proofs.Common.{◌≡◌, ℕ, ◌%◌, ◌<◌, ◌≤◌, Bool, true, false, cond, length, refl, lit≤, arith}
-use Rattle.plp_config.specs.Capacity.{IsPlan, block_cells, EvenSubSlices}
-use Rattle.plp_config.specs.Plps.{plp_at, is_type2, has_type2}
-use Rattle.plp_config.specs.Rules.{BlockLimit, InterleaverLength, SubSlices}
+use Rattle.std.proofs.Common.{◌≡◌, ℕ, ◌*◌, ◌%◌, ◌<◌, ◌≤◌, Bool, true, false, cond, length, refl, lit≤, arith}
+use Rattle.plp_config.proofs.SpreadLemmas.{cells_in_parts}
+use Rattle.plp_config.specs.Capacity.{IsPlan, block_cells, EvenParts}
+use Rattle.plp_config.specs.Plps.{plp_at, has_type2, spread}
+use Rattle.plp_config.specs.Rules.{BlockLimit, InterleaverLength, SubSlices, SpreadDivides}
 use Rattle.plp_config.specs.Tables.{cells_per_block}
 use Rattle.plp_config.specs.declared.config.Config.{Config}
 use Rattle.plp_config.specs.declared.plp.FecSize.{FecSize}
 use Rattle.plp_config.specs.declared.plp.FecSize.TheVariants.{Short, Normal}
 use Rattle.plp_config.specs.declared.plp.Modulation.{Modulation}
 use Rattle.plp_config.specs.declared.plp.Modulation.TheVariants.{Qpsk, Qam16, Qam64, Qam256}
-use Rattle.plp_config.specs.declared.plp.PlpType.{PlpType}
-use Rattle.plp_config.specs.declared.plp.PlpType.TheVariants.{Type1, Type2}
 use Rattle.scheduler.specs.Shape.{in_type2}
 use Rattle.cell_map.specs.Slices.{slice_count}
 
@@ -32,10 +31,6 @@ pub block_cells-five : (c : Config) (plp : ℕ) → Five (block_cells c plp)
 unfolding block_cells
 block_cells-five c plp = five (plp_at c.plps plp).fec (plp_at c.plps plp).modulation
 
-type_is : (plp_type : PlpType) → is_type2 plp_type ≡ true → plp_type ≡ Type2
-type_is Type1 h = cc
-type_is Type2 h = refl
-
 sub_slices-by : (c : Config) → IsPlan c → (has : Bool) → has_type2 c.plps ≡ has → (1 ≤ c.sub_slices) × (c.sub_slices ≤ 6480)
 sub_slices-by c is true h = let range : (2 ≤ c.sub_slices) × (c.sub_slices ≤ 6480) = rw h at (is.rules SubSlices) in
     (omega (arith, range), range.1)
@@ -52,7 +47,9 @@ pub record PlanRow (c : Config) (plp : ℕ) : Type 0 where
   pub least : 2025 ≤ block_cells c plp
   pub greatest : block_cells c plp ≤ 32400
   pub fifth : block_cells c plp % 5 ≡ 0
-  pub cut : block_cells c plp % slice_count c plp ≡ 0
+  pub wide : 1 ≤ spread c.plps plp
+  pub parts : block_cells c plp % (slice_count c plp * spread c.plps plp) ≡ 0
+  pub whole : block_cells c plp % spread c.plps plp ≡ 0
   pub few : (plp_at c.plps plp).blocks ≤ 1023
   pub interleave : (plp_at c.plps plp).interleave ≤ 255
   pub one : 1 ≤ slice_count c plp
@@ -61,11 +58,6 @@ pub record PlanRow (c : Config) (plp : ℕ) : Type 0 where
 count-range : (second : Bool) (n : ℕ) → (1 ≤ n) × (n ≤ 6480) → (1 ≤ cond second n 1) × (cond second n 1 ≤ 6480)
 count-range true n h = h
 count-range false n h = (omega arith, omega arith)
-
-cut-by : (c : Config) (plp : ℕ) → IsPlan c → plp < length c.plps → (second : Bool) → in_type2 c plp ≡ second
-    → block_cells c plp % cond second c.sub_slices 1 ≡ 0
-cut-by c plp is h true e = is.tests EvenSubSlices plp h (type_is (plp_at c.plps plp).plp_type e)
-cut-by c plp is h false e = omega arith
 
 pub plan_row : (c : Config) (plp : ℕ) → IsPlan c → plp < length c.plps → PlanRow c plp
 plan_row c plp is h =
@@ -76,7 +68,9 @@ plan_row c plp is h =
       least = cells.1;
       greatest = cells.2;
       fifth = cells.0;
-      cut = cut-by c plp is h (in_type2 c plp) refl;
+      wide = (is.rules SpreadDivides plp h).0;
+      parts = is.tests EvenParts plp h;
+      whole = cells_in_parts c plp is h;
       few = (is.rules BlockLimit plp h).1;
       interleave = omega (arith, is.rules InterleaverLength plp h);
       one = counts.0;

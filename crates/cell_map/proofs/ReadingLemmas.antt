@@ -8,7 +8,7 @@ use Rattle.plp_config.specs.Capacity.{IsPlan, block_cells}
 use Rattle.plp_config.specs.Plps.{plp_at}
 use Rattle.plp_config.specs.declared.config.Config.{Config}
 use Rattle.scheduler.specs.Shape.{FrameShape, in_type2, cells_of}
-use Rattle.cell_map.specs.Address.{address_at, position_of}
+use Rattle.cell_map.specs.Address.{IsCell, address_at, position_of, first_position}
 use Rattle.cell_map.specs.CellMap.{Passes, cell_map}
 use Rattle.cell_map.specs.Laws.{StandsAt}
 use Rattle.cell_map.specs.Slices.{slices_of}
@@ -17,7 +17,7 @@ use Rattle.cell_map.specs.declared.places.Cell.{Cell}
 use Rattle.cell_map.specs.declared.runs.Run.{Run}
 use Rattle.cell_map.specs.declared.search.Mark.{Mark}
 use Rattle.cell_map.specs.declared.slices.Slices.{Slices}
-use Rattle.cell_map.proofs.AtLemmas.{address_law}
+use Rattle.cell_map.proofs.AtLemmas.{address_law, cut_of, is_carried_at}
 use Rattle.cell_map.proofs.MapLemmas.{get-found, get-none}
 
 row_below : (row rows w x : ℕ) → row * w + x < rows * w → row < rows
@@ -35,47 +35,55 @@ pub record Ready (run : Run) : Type 0 where
   pub column : run.column < run.columns
   pub left : 0 < run.left
 
-pub ready : (c : Config) (shape : FrameShape) (address : ℕ) (run : Run) → RunsAt c shape address run → Ready run
-ready c shape address run a =
+pub ready : (c : Config) (shape : FrameShape) (frame address : ℕ) (run : Run) → RunsAt c shape frame address run → Ready run
+ready c shape frame address run a =
     let r = a.runs in
     let row = row_below run.row run.rows (run.columns * run.size) (run.columns * run.block + run.column)
     (omega (arith, r.within, r.some)) in
     record { few = r.few; row = row; block = r.block; column = r.column; left = r.some }
 
 -- its next cell stands at the address
-found_run : (c : Config) (shape : FrameShape) (address : ℕ) (run : Run) → RunsAt c shape address run
-    → StandsAt c shape address (record { ordinal = run.first + run.block; cell = run.column * run.rows + run.row })
-found_run c shape address run a =
+found_run : (c : Config) (shape : FrameShape) (frame address : ℕ) (run : Run) → RunsAt c shape frame address run
+    → StandsAt c shape frame address (record { ordinal = run.first + run.block; cell = run.column * run.rows + run.row })
+found_run c shape frame address run a =
     let r = a.runs in
-    let is = ready c shape address run a in
+    let is = ready c shape frame address run a in
     let h = r.holds run.row run.block run.column is.row r.block r.column in
     let none : 0 < a.limit = omega (arith, r.some, r.most) in
-    let here : position_of c shape a.plp (r.first + run.block) (run.column * run.rows + run.row) ≡ a.at + 0 =
-    omega (arith, h.value, r.here) in
+    let here : position_of c shape a.plp (r.first + run.block) (run.column * run.rows + run.row)
+    ≡ first_position c shape frame a.plp + (a.at + 0) = omega (arith, h.value, r.here) in
     let first : address_at c shape a.plp (a.at + 0) ≡ address = omega (arith, a.addresses 0 none) in
+    let cell : IsCell c shape a.plp (r.first + run.block) (run.column * run.rows + run.row) =
+    record { configured = a.configured; sent = h.sent; within = h.within } in
+    let place : position_of c shape a.plp (r.first + run.block) (run.column * run.rows + run.row)
+    - first_position c shape frame a.plp ≡ a.at + 0 = omega (arith, here) in
     record {
       plp = a.plp;
       block = r.first + run.block;
-      there = record { configured = a.configured; sent = h.sent; within = h.within };
-      value = ap (λ (p : ℕ). address_at c shape a.plp p) here ∙ first;
+      there = is_carried_at c shape frame a.plp (r.first + run.block) (run.column * run.rows + run.row) (a.at + 0) cell
+          (omega (arith, a.carried, none)) here;
+      value = ap (λ (p : ℕ). address_at c shape a.plp p) place ∙ first;
       ordinal = omega (arith, r.ordinal);
     }
 
-pub read : (c : Config) (shape : FrameShape) (address : ℕ) (run : Run) (cell : Cell) → Passes c shape → RunsAt c shape address run
+pub read : (c : Config) (shape : FrameShape) (frame address : ℕ) (run : Run) (cell : Cell) → Passes c shape
+    → RunsAt c shape frame address run
     → cell.ordinal ≡ run.first + run.block → cell.cell ≡ run.column * run.rows + run.row
-    → Some cell ≡ get (cell_map c shape) address
-read c shape address run cell passes a e f =
+    → Some cell ≡ get (cell_map c shape frame) address
+read c shape frame address run cell passes a e f =
     let same : cell ≡ record { ordinal = run.first + run.block; cell = run.column * run.rows + run.row } =
     ap (λ (n : ℕ). record { ordinal = n; cell = cell.cell }) e
     ∙ ap (λ (n : ℕ). record { ordinal = run.first + run.block; cell = n }) f in
     ap (λ (x : Cell). Some x) same
-    ∙ sym (get-found c shape address (record { ordinal = run.first + run.block; cell = run.column * run.rows + run.row }) passes
-    (found_run c shape address run a))
+    ∙ sym (get-found c shape frame address
+    (record { ordinal = run.first + run.block; cell = run.column * run.rows + run.row }) passes
+    (found_run c shape frame address run a))
 
 -- one step on
-advance : (c : Config) (shape : FrameShape) (address : ℕ) (run next : Run) → RunsAt c shape address run → Steps run next
-    → 0 < next.left → RunsAt c shape (address + 1) next
-advance c shape address run next a s some =
+advance : (c : Config) (shape : FrameShape) (frame address : ℕ) (run next : Run) → RunsAt c shape frame address run
+    → Steps run next
+    → 0 < next.left → RunsAt c shape frame (address + 1) next
+advance c shape frame address run next a s some =
     let r = a.runs in
     let place : next.row * (run.columns * run.size) + (run.columns * next.block + next.column) ≡ place_in run + 1 =
     rw (s.columns, s.size) at s.place in
@@ -97,6 +105,7 @@ advance c shape address run next a s some =
         within = rw (s.rows, s.columns, s.size) (omega (arith, r.within, place, s.left));
         few = rw (s.rows, s.size, s.columns, s.first) r.few;
       };
+      carried = omega (arith, a.carried, r.some, r.most);
       addresses = λ i less.
           let e : a.at + 1 + i ≡ a.at + (i + 1) = omega arith in
           let there : address_at c shape a.plp (a.at + (i + 1)) ≡ address + 1 + i =
@@ -104,36 +113,37 @@ advance c shape address run next a s some =
           ap (λ (p : ℕ). address_at c shape a.plp p) e ∙ there;
     }
 
-pub reading_on : (c : Config) (shape : FrameShape) (address : ℕ) (before run next : Run) (old mark : Mark) (dummy : ℕ)
-    → IsReading c shape address before old dummy → address < c.cells → dummy ≡ 0
-    → RunsAt c shape address run → IsMark c shape mark → Steps run next → IsReading c shape (address + 1) next mark dummy
-reading_on c shape address before run next old mark dummy is inside none a m s = record {
+pub reading_on : (c : Config) (shape : FrameShape) (frame address : ℕ) (before run next : Run) (old mark : Mark) (dummy : ℕ)
+    → IsReading c shape frame address before old dummy → address < c.cells → dummy ≡ 0
+    → RunsAt c shape frame address run → IsMark c shape mark → Steps run next → IsReading c shape frame
+    (address + 1) next mark dummy
+reading_on c shape frame address before run next old mark dummy is inside none a m s = record {
   plps = is.plps;
   passes = is.passes;
   few = is.few;
   inside = omega (arith, inside);
   first = m;
-  next = λ some. advance c shape address run next a s some;
+  next = λ some. advance c shape frame address run next a s some;
   free = λ plp b q cell far. omega (arith, far, none);
   one = λ some. absurd (omega (arith, some, none));
 }
 
 -- the same of the run in hand
-pub reading_hand : (c : Config) (shape : FrameShape) (address : ℕ) (run next : Run) (mark : Mark) (dummy : ℕ)
-    → IsReading c shape address run mark dummy → address < c.cells → 0 < run.left
-    → Steps run next → IsReading c shape (address + 1) next mark dummy
-reading_hand c shape address run next mark dummy is inside some s =
+pub reading_hand : (c : Config) (shape : FrameShape) (frame address : ℕ) (run next : Run) (mark : Mark) (dummy : ℕ)
+    → IsReading c shape frame address run mark dummy → address < c.cells → 0 < run.left
+    → Steps run next → IsReading c shape frame (address + 1) next mark dummy
+reading_hand c shape frame address run next mark dummy is inside some s =
     let none : dummy ≡ 0 = elim (cases_lt 0 dummy) [
       | inl less ↦ (let end = is.one less in absurd (omega (arith, end, some)))
       | inr more ↦ omega (arith, more)
     ] in
-    reading_on c shape address run run next mark mark dummy is inside none (is.next some) is.first s
+    reading_on c shape frame address run run next mark mark dummy is inside none (is.next some) is.first s
 
 -- if no cell stands, as many dummy addresses as were counted
-pub reading_none : (c : Config) (shape : FrameShape) (address : ℕ) (run : Run) (mark : Mark) (old dummy : ℕ)
-    → IsReading c shape address run mark old → address < c.cells → run.left ≡ 0
-    → AreDummy c shape (address + 1) dummy → IsReading c shape (address + 1) run mark dummy
-reading_none c shape address run mark old dummy is inside end free = record {
+pub reading_none : (c : Config) (shape : FrameShape) (frame address : ℕ) (run : Run) (mark : Mark) (old dummy : ℕ)
+    → IsReading c shape frame address run mark old → address < c.cells → run.left ≡ 0
+    → AreDummy c shape frame (address + 1) dummy → IsReading c shape frame (address + 1) run mark dummy
+reading_none c shape frame address run mark old dummy is inside end free = record {
   plps = is.plps;
   passes = is.passes;
   few = is.few;
@@ -145,10 +155,10 @@ reading_none c shape address run mark old dummy is inside end free = record {
 }
 
 -- one of them less
-pub reading_less : (c : Config) (shape : FrameShape) (address : ℕ) (run : Run) (mark : Mark) (dummy : ℕ)
-    → IsReading c shape address run mark dummy → address < c.cells → 0 < dummy
-    → IsReading c shape (address + 1) run mark (dummy - 1)
-reading_less c shape address run mark dummy is inside some = record {
+pub reading_less : (c : Config) (shape : FrameShape) (frame address : ℕ) (run : Run) (mark : Mark) (dummy : ℕ)
+    → IsReading c shape frame address run mark dummy → address < c.cells → 0 < dummy
+    → IsReading c shape frame (address + 1) run mark (dummy - 1)
+reading_less c shape frame address run mark dummy is inside some = record {
   plps = is.plps;
   passes = is.passes;
   few = is.few;
@@ -159,40 +169,44 @@ reading_less c shape address run mark dummy is inside some = record {
   one = λ less. is.one some;
 }
 
-pub dummy_here : (c : Config) (shape : FrameShape) (address : ℕ) (run : Run) (mark : Mark) (dummy : ℕ)
-    → IsReading c shape address run mark dummy → 0 < dummy → None ≡ get (cell_map c shape) address
-dummy_here c shape address run mark dummy is some =
-    sym (get-none c shape address
+pub dummy_here : (c : Config) (shape : FrameShape) (frame address : ℕ) (run : Run) (mark : Mark) (dummy : ℕ)
+    → IsReading c shape frame address run mark dummy → 0 < dummy → None ≡ get (cell_map c shape frame) address
+dummy_here c shape frame address run mark dummy is some =
+    sym (get-none c shape frame address
     (λ plp b q cell here. (let end = is.free plp b q cell (omega (arith, here)) in
     let never : ⊥ = omega (arith, end, here, some) in never)))
 
 -- a run begins where a PLP has a place of a slice
-pub begins : (c : Config) (shape : FrameShape) (plp : ℕ) (a : Slices)
+pub begins : (c : Config) (shape : FrameShape) (frame plp : ℕ) (a : Slices)
     (interval address wide k t cells interleave count before at limit : ℕ) (run : Run)
     → IsPlan c → plp < length c.plps → a ≡ slices_of c shape plp → interval ≡ shape.interval → wide ≡ address
     → cells ≡ block_cells c plp → interleave ≡ (plp_at c.plps plp).interleave → count ≡ slice_index shape.counts plp
     → before ≡ sum (take plp shape.counts)
-    → k < a.count → t < a.len → a.start + k * interval + t ≡ wide → at ≡ k * a.len + t → limit ≡ a.len - t
-    → RunsFrom cells interleave count before at limit run → RunsAt c shape address run
-begins c shape plp a interval address wide k t cells interleave count before at limit run is inside e f g h l m o hk ht here place
+    → k < a.count → t < a.len → a.start + k * interval + t ≡ wide → at ≡ first_position c shape frame plp + (k * a.len + t)
+    → limit ≡ a.len - t → RunsFrom cells interleave count before at limit run → RunsAt c shape frame address run
+begins c shape frame plp a interval address wide k t cells interleave count before at limit run is inside e f g h l m o hk ht here
+    place
     rest runs =
     let s = slices_of c shape plp in
     let hk' : k < s.count = rw e at hk in
     let ht' : t < s.len = rw e at ht in
     let here' : s.start + k * shape.interval + t ≡ address = rw (e, f, g) at here in
-    let place' : at ≡ k * s.len + t = rw e at place in
+    let z : ℕ = k * s.len + t in
+    let place' : at ≡ first_position c shape frame plp + z = rw e at place in
     let rest' : limit ≡ s.len - t = rw e at rest in
     let runs' : RunsFrom (block_cells c plp) (plp_at c.plps plp).interleave (slice_index shape.counts plp)
-    (sum (take plp shape.counts)) at limit run = rw (h, l, m, o) at runs in
+    (sum (take plp shape.counts)) (first_position c shape frame plp + z) limit run = rw (h, l, m, o, place') at runs in
+    let product : (k + 1) * s.len ≤ s.count * s.len = mul-le (k + 1) s.len s.count s.len (omega (arith, hk')) (omega arith) in
     record {
       plp = plp;
-      at = at;
+      at = z;
       limit = limit;
       configured = inside;
       runs = runs';
+      carried = omega (arith, product, rest', ht', cut_of c shape plp is inside);
       addresses = λ i less.
           let inner : t + i < s.len = omega (arith, rest', ht') in
-          let p : at + i ≡ k * s.len + (t + i) = omega (arith, place') in
+          let p : z + i ≡ k * s.len + (t + i) = omega arith in
           let law : address_at c shape plp (k * s.len + (t + i)) ≡ s.start + k * shape.interval + (t + i) =
           address_law (in_type2 c plp) (cells_of c shape.counts plp) c.sub_slices
           (slice_index shape.starts plp) shape.interval k (t + i) hk' inner in

@@ -5,7 +5,7 @@ use Rattle.std.proofs.lemmas.Bool.{cases_lt}
 use Rattle.std.proofs.lemmas.Nat.{mul-le, mul-add-lt}
 use Rattle.plp_config.specs.declared.config.Config.{Config}
 use Rattle.scheduler.specs.Shape.{FrameShape}
-use Rattle.cell_map.specs.Address.{address_at, position_of}
+use Rattle.cell_map.specs.Address.{IsCell, address_at, position_of, first_position}
 use Rattle.cell_map.specs.CellMap.{Passes, cell_map}
 use Rattle.cell_map.specs.Laws.{StandsAt}
 use Rattle.cell_map.specs.Runs.{RunsAt, IsInside, Skips, IsAtBlock, IsNext, IsCut, IsMark, IsReading, place_in}
@@ -14,12 +14,14 @@ use Rattle.cell_map.specs.declared.places.Cell.{Cell}
 use Rattle.cell_map.specs.declared.runs.Run.{Run}
 use Rattle.cell_map.specs.declared.search.Mark.{Mark}
 use Rattle.cell_map.specs.declared.strips.Cut.{Cut}
+use Rattle.cell_map.proofs.AtLemmas.{is_carried_at}
 use Rattle.cell_map.proofs.MapLemmas.{get-found, get-none}
 use Rattle.cell_map.proofs.ReadingLemmas.{ready}
 
-pub inside_of : (c : Config) (shape : FrameShape) (address : ℕ) (run : Run) → RunsAt c shape address run → IsInside run
-inside_of c shape address run a =
-    let is = ready c shape address run a in
+pub inside_of : (c : Config) (shape : FrameShape) (frame address : ℕ) (run : Run) → RunsAt c shape frame address run
+    → IsInside run
+inside_of c shape frame address run a =
+    let is = ready c shape frame address run a in
     record { few = is.few; row = is.row; block = is.block; column = is.column; some = is.left; within = a.runs.within }
 
 -- ---- the run at a block
@@ -201,37 +203,44 @@ blocks_cut run rest whole blocks first is zero_column some most few fits any at 
 
 -- ---- what a strip has
 -- a cell so many steps on stands so many addresses on
-found_next : (c : Config) (shape : FrameShape) (address : ℕ) (run : Run) (i ordinal cell : ℕ) → RunsAt c shape address run
+found_next : (c : Config) (shape : FrameShape) (frame address : ℕ) (run : Run) (i ordinal cell : ℕ)
+    → RunsAt c shape frame address run
     → i < run.left → (next : IsNext run i ordinal cell)
-    → StandsAt c shape (address + i) (record { ordinal = run.first + next.block; cell = next.column * run.rows + next.row })
-found_next c shape address run i ordinal cell a less next =
+    → StandsAt c shape frame (address + i) (record { ordinal = run.first + next.block; cell = next.column * run.rows + next.row })
+found_next c shape frame address run i ordinal cell a less next =
     let r = a.runs in
     let h = r.holds next.row next.block next.column next.in-rows next.in-ti-block next.in-block in
-    let here : position_of c shape a.plp (r.first + next.block) (next.column * run.rows + next.row) ≡ a.at + i =
-    omega (arith, h.value, r.here, next.place) in
+    let here : position_of c shape a.plp (r.first + next.block) (next.column * run.rows + next.row)
+    ≡ first_position c shape frame a.plp + (a.at + i) = omega (arith, h.value, r.here, next.place) in
     let there : address_at c shape a.plp (a.at + i) ≡ address + i = a.addresses i (omega (arith, less, r.most)) in
+    let cell : IsCell c shape a.plp (r.first + next.block) (next.column * run.rows + next.row) =
+    record { configured = a.configured; sent = h.sent; within = h.within } in
+    let place : position_of c shape a.plp (r.first + next.block) (next.column * run.rows + next.row)
+    - first_position c shape frame a.plp ≡ a.at + i = omega (arith, here) in
     record {
       plp = a.plp;
       block = r.first + next.block;
-      there = record { configured = a.configured; sent = h.sent; within = h.within };
-      value = ap (λ (p : ℕ). address_at c shape a.plp p) here ∙ there;
+      there = is_carried_at c shape frame a.plp (r.first + next.block) (next.column * run.rows + next.row) (a.at + i) cell
+          (omega (arith, a.carried, less, r.most)) here;
+      value = ap (λ (p : ℕ). address_at c shape a.plp p) place ∙ there;
       ordinal = omega (arith, r.ordinal);
     }
 
-read_next : (c : Config) (shape : FrameShape) (address : ℕ) (run : Run) (i ordinal cell : ℕ) → Passes c shape
-    → RunsAt c shape address run → i < run.left → IsNext run i ordinal cell
-    → get (cell_map c shape) (address + i) ≡ Some (record { ordinal = ordinal; cell = cell })
-read_next c shape address run i ordinal cell passes a less next =
-    get-found c shape (address + i) (record { ordinal = run.first + next.block; cell = next.column * run.rows + next.row }) passes
-    (found_next c shape address run i ordinal cell a less next)
+read_next : (c : Config) (shape : FrameShape) (frame address : ℕ) (run : Run) (i ordinal cell : ℕ) → Passes c shape
+    → RunsAt c shape frame address run → i < run.left → IsNext run i ordinal cell
+    → get (cell_map c shape frame) (address + i) ≡ Some (record { ordinal = ordinal; cell = cell })
+read_next c shape frame address run i ordinal cell passes a less next =
+    get-found c shape frame (address + i)
+    (record { ordinal = run.first + next.block; cell = next.column * run.rows + next.row }) passes
+    (found_next c shape frame address run i ordinal cell a less next)
     ∙ ap₂ (λ (o q : ℕ). Some (record { ordinal = o; cell = q })) (sym next.ordinal-is) (sym next.cell-is)
 
-pub strip_here : (c : Config) (shape : FrameShape) (address most : ℕ) (run : Run) (cut : Cut) → Passes c shape
-    → RunsAt c shape address run → IsCut run most cut → HasStrip c shape address cut.strip
-strip_here c shape address most run cut passes a is b z hb hz =
+pub strip_here : (c : Config) (shape : FrameShape) (frame address most : ℕ) (run : Run) (cut : Cut) → Passes c shape
+    → RunsAt c shape frame address run → IsCut run most cut → HasStrip c shape frame address cut.strip
+strip_here c shape frame address most run cut passes a is b z hb hz =
     let wide : z + cut.strip.columns * b < cut.strip.columns * cut.strip.blocks =
     mul-add-lt' b cut.strip.columns z cut.strip.blocks hb hz in
-    read_next c shape address run (cut.strip.columns * b + z) (cut.strip.first.ordinal + b)
+    read_next c shape frame address run (cut.strip.columns * b + z) (cut.strip.first.ordinal + b)
     (cut.strip.first.cell + z * cut.strip.stride) passes a
     (omega (arith, wide, is.skips.left)) (is.cells b z hb hz)
   where
@@ -239,9 +248,10 @@ strip_here c shape address most run cut passes a is b z hb hz =
     mul-add-lt' b w z h p q = let m : b * w + z < w * h = mul-add-lt b w z h p q in omega (arith, m)
 
 -- ---- so many steps on
-skipped : (c : Config) (shape : FrameShape) (address n : ℕ) (run next : Run) → RunsAt c shape address run → Skips run next n
-    → 0 < next.left → RunsAt c shape (address + n) next
-skipped c shape address n run next a s some =
+skipped : (c : Config) (shape : FrameShape) (frame address n : ℕ) (run next : Run) → RunsAt c shape frame address run
+    → Skips run next n
+    → 0 < next.left → RunsAt c shape frame (address + n) next
+skipped c shape frame address n run next a s some =
     let r = a.runs in
     let place : next.row * (run.columns * run.size) + (run.columns * next.block + next.column) ≡ place_in run + n =
     rw (s.columns, s.size) at s.place in
@@ -263,6 +273,7 @@ skipped c shape address n run next a s some =
         within = rw (s.rows, s.columns, s.size) (omega (arith, r.within, place, s.left));
         few = rw (s.rows, s.size, s.columns, s.first) r.few;
       };
+      carried = omega (arith, a.carried, r.most, s.left);
       addresses = λ i less.
           let e : a.at + n + i ≡ a.at + (n + i) = omega arith in
           let there : address_at c shape a.plp (a.at + (n + i)) ≡ address + n + i =
@@ -270,35 +281,36 @@ skipped c shape address n run next a s some =
           ap (λ (p : ℕ). address_at c shape a.plp p) e ∙ there;
     }
 
-pub reading_found : (c : Config) (shape : FrameShape) (address n : ℕ) (before run next : Run) (old mark : Mark) (dummy : ℕ)
-    → IsReading c shape address before old dummy → address + n ≤ c.cells → dummy ≡ 0
-    → RunsAt c shape address run → IsMark c shape mark → Skips run next n → IsReading c shape (address + n) next mark dummy
-reading_found c shape address n before run next old mark dummy is inside none a m s = record {
+pub reading_found : (c : Config) (shape : FrameShape) (frame address n : ℕ) (before run next : Run) (old mark : Mark) (dummy : ℕ)
+    → IsReading c shape frame address before old dummy → address + n ≤ c.cells → dummy ≡ 0
+    → RunsAt c shape frame address run → IsMark c shape mark → Skips run next n → IsReading c shape frame
+    (address + n) next mark dummy
+reading_found c shape frame address n before run next old mark dummy is inside none a m s = record {
   plps = is.plps;
   passes = is.passes;
   few = is.few;
   inside = inside;
   first = m;
-  next = λ some. skipped c shape address n run next a s some;
+  next = λ some. skipped c shape frame address n run next a s some;
   free = λ plp b q cell far. omega (arith, far, none);
   one = λ some. absurd (omega (arith, some, none));
 }
 
 -- the same of the run in hand
-pub reading_cut : (c : Config) (shape : FrameShape) (address n : ℕ) (run next : Run) (mark : Mark) (dummy : ℕ)
-    → IsReading c shape address run mark dummy → address + n ≤ c.cells → 0 < run.left
-    → Skips run next n → IsReading c shape (address + n) next mark dummy
-reading_cut c shape address n run next mark dummy is inside some s =
+pub reading_cut : (c : Config) (shape : FrameShape) (frame address n : ℕ) (run next : Run) (mark : Mark) (dummy : ℕ)
+    → IsReading c shape frame address run mark dummy → address + n ≤ c.cells → 0 < run.left
+    → Skips run next n → IsReading c shape frame (address + n) next mark dummy
+reading_cut c shape frame address n run next mark dummy is inside some s =
     let none : dummy ≡ 0 = elim (cases_lt 0 dummy) [
       | inl less ↦ (let end = is.one less in absurd (omega (arith, end, some)))
       | inr more ↦ omega (arith, more)
     ] in
-    reading_found c shape address n run run next mark mark dummy is inside none (is.next some) is.first s
+    reading_found c shape frame address n run run next mark mark dummy is inside none (is.next some) is.first s
 
 -- where none stands
-pub dummies_here : (c : Config) (shape : FrameShape) (address i : ℕ) (run : Run) (mark : Mark) (dummy : ℕ)
-    → IsReading c shape address run mark dummy → i < dummy → get (cell_map c shape) (address + i) ≡ None
-dummies_here c shape address i run mark dummy is less =
-    get-none c shape (address + i)
+pub dummies_here : (c : Config) (shape : FrameShape) (frame address i : ℕ) (run : Run) (mark : Mark) (dummy : ℕ)
+    → IsReading c shape frame address run mark dummy → i < dummy → get (cell_map c shape frame) (address + i) ≡ None
+dummies_here c shape frame address i run mark dummy is less =
+    get-none c shape frame (address + i)
     (λ plp b q cell here. (let end = is.free plp b q cell (omega (arith, here)) in
     let never : ⊥ = omega (arith, end, here, less) in never))

@@ -1,11 +1,12 @@
 -- Laws of the cell map.
-use Rattle.std.specs.Prelude.{◌≡◌, ℕ, ◌*◌, ◌%◌, ◌^◌, ◌<◌, ◌↔◌, List, Some, None}
+use Rattle.std.specs.Prelude.{◌≡◌, ℕ, ◌*◌, ◌%◌, ◌^◌, ◌<◌, ◌↔◌, List, length, Some, None}
 use Rattle.std.specs.FinMap.{get}
 use Rattle.plp_config.specs.Capacity.{IsPlan}
+use Rattle.plp_config.specs.Plps.{spread}
 use Rattle.plp_config.specs.declared.config.Config.{Config}
 use Rattle.scheduler.specs.Laws.{CountsFit}
 use Rattle.scheduler.specs.Shape.{FrameShape, shape_of}
-use Rattle.cell_map.specs.Address.{IsCell, address_of}
+use Rattle.cell_map.specs.Address.{IsCell, IsCarried, part_of, address_of}
 use Rattle.cell_map.specs.CellMap.{Passes, ordinal_of, cell_map}
 use Rattle.cell_map.specs.Interleaver.{position}
 use Rattle.cell_map.specs.declared.places.Cell.{Cell}
@@ -27,31 +28,44 @@ ShapePasses = (c : Config) (counts : List ℕ) → IsPlan c → CountsFit c coun
 
 -- the map has each cell at its address
 abbrev pub MapHasEachCell : Type 0
-MapHasEachCell = (c : Config) (shape : FrameShape) (plp block cell : ℕ) → Passes c shape → IsCell c shape plp block cell
-    → get (cell_map c shape) (address_of c shape plp block cell)
+MapHasEachCell = (c : Config) (shape : FrameShape) (frame_idx plp block cell : ℕ) → Passes c shape
+    → IsCarried c shape frame_idx plp block cell
+    → get (cell_map c shape frame_idx) (address_of c shape frame_idx plp block cell)
     ≡ Some (record { ordinal = ordinal_of shape plp block; cell = cell })
 
 -- and nothing else: what it has at an address is a cell with that address
-pub record StandsAt (c : Config) (shape : FrameShape) (address : ℕ) (found : Cell) : Type 0 where
+pub record StandsAt (c : Config) (shape : FrameShape) (frame_idx address : ℕ) (found : Cell) : Type 0 where
   pub plp : ℕ
   pub block : ℕ
-  pub there : IsCell c shape plp block found.cell
-  pub value : address_of c shape plp block found.cell ≡ address
+  pub there : IsCarried c shape frame_idx plp block found.cell
+  pub value : address_of c shape frame_idx plp block found.cell ≡ address
   pub ordinal : found.ordinal ≡ ordinal_of shape plp block
 
 abbrev pub MapHasOnlyCells : Type 0
-MapHasOnlyCells = (c : Config) (shape : FrameShape) (address : ℕ) (found : Cell) → get (cell_map c shape) address ≡ Some found
-    → StandsAt c shape address found
+MapHasOnlyCells = (c : Config) (shape : FrameShape) (frame_idx address : ℕ) (found : Cell)
+    → get (cell_map c shape frame_idx) address ≡ Some found → StandsAt c shape frame_idx address found
 
 -- an address is dummy exactly if no cell has it
 abbrev pub DummyHasNoCell : Type 0
-DummyHasNoCell = (c : Config) (shape : FrameShape) (address : ℕ) → Passes c shape
-    → (get (cell_map c shape) address ≡ None)
-    ↔ ((plp block cell : ℕ) → IsCell c shape plp block cell → ¬ (address_of c shape plp block cell ≡ address))
+DummyHasNoCell = (c : Config) (shape : FrameShape) (frame_idx address : ℕ) → Passes c shape
+    → (get (cell_map c shape frame_idx) address ≡ None)
+    ↔ ((plp block cell : ℕ) → IsCarried c shape frame_idx plp block cell
+    → ¬ (address_of c shape frame_idx plp block cell ≡ address))
 
--- the numbers of each cell are small, so that a word of 32 bits holds both: a frame has 2,071 blocks at most, of 32,400 cells at
--- most
+-- each cell is carried in one of the frames of its interleaving frame
+abbrev pub CarriedOnce : Type 0
+CarriedOnce = (c : Config) (shape : FrameShape) (plp block cell : ℕ) → IsPlan c → IsCell c shape plp block cell
+    → (part : ℕ) × (part < spread c.plps plp) × ((frame_idx : ℕ) → IsCarried c shape frame_idx plp block cell
+    ↔ (part_of c frame_idx plp ≡ part))
+
+-- which part of an interleaving frame a frame of a run carries is told by its number in its superframe
+abbrev pub PartsRepeat : Type 0
+PartsRepeat = (c : Config) (frame plp : ℕ) → IsPlan c → plp < length c.plps
+    → part_of c (frame % c.frames) plp ≡ part_of c frame plp
+
+-- the numbers of each cell are small, so that a word of 32 bits holds both: a record holds the bytes of 38,000 blocks at most, of
+-- 32,400 cells at most
 abbrev pub CellsFit : Type 0
-CellsFit = (c : Config) (shape : FrameShape) (address : ℕ) (found : Cell) → IsPlan c → Passes c shape
-    → get (cell_map c shape) address ≡ Some found
-    → (found.ordinal < 2 ^ 12) × (found.cell < 2 ^ 15)
+CellsFit = (c : Config) (shape : FrameShape) (frame_idx address : ℕ) (found : Cell) → IsPlan c → Passes c shape
+    → get (cell_map c shape frame_idx) address ≡ Some found
+    → (found.ordinal < 2 ^ 16) × (found.cell < 2 ^ 15)

@@ -7,11 +7,12 @@ use Rattle.scheduler.specs.Shape.{FrameShape}
 pub record Reading : Type 0 where
   pub config : Config
   pub shape : FrameShape
+  pub frame_idx : ℕ
   pub address : ℕ
 
 -- so many cells were read
-abbrev pub reading_at : Config → FrameShape → ℕ → Reading
-reading_at c shape address = record { config = c; shape = shape; address = address }
+abbrev pub reading_at : Config → FrameShape → ℕ → ℕ → Reading
+reading_at c shape frame_idx address = record { config = c; shape = shape; frame_idx = frame_idx; address = address }
 
 -- one cell more
 abbrev pub next_address : Reading → Reading

@@ -3,8 +3,8 @@ use Rattle.std.specs.Prelude.{◌≡◌, ℕ, ◌+◌, ◌*◌, ◌^◌, ◌<◌
 use Rattle.plp_config.specs.Capacity.{block_cells}
 use Rattle.plp_config.specs.Plps.{plp_at}
 use Rattle.plp_config.specs.declared.config.Config.{Config}
-use Rattle.scheduler.specs.Shape.{FrameShape}
-use Rattle.cell_map.specs.Address.{IsCell, address_at, address_of}
+use Rattle.scheduler.specs.Shape.{FrameShape, cells_of}
+use Rattle.cell_map.specs.Address.{IsCarried, first_position, address_at, address_of}
 use Rattle.cell_map.specs.CellMap.{Passes}
 use Rattle.cell_map.specs.Interleaver.{position}
 use Rattle.cell_map.specs.declared.runs.Run.{Run}
@@ -41,13 +41,14 @@ pub record RunsFrom (cells length n before at limit : ℕ) (run : Run) : Type 0 
   pub few : (run.rows < 2 ^ 15) × (run.size < 2 ^ 10) × (run.columns ≤ 5) × (run.first < 2 ^ 21)
 
 -- the cells of the next addresses are those of a run
-pub record RunsAt (c : Config) (shape : FrameShape) (address : ℕ) (run : Run) : Type 0 where
+pub record RunsAt (c : Config) (shape : FrameShape) (frame_idx address : ℕ) (run : Run) : Type 0 where
   pub plp : ℕ
   pub at : ℕ
   pub limit : ℕ
   pub configured : plp < length c.plps
   pub runs : RunsFrom (block_cells c plp) (plp_at c.plps plp).interleave (slice_index shape.counts plp)
-      (sum (take plp shape.counts)) at limit run
+      (sum (take plp shape.counts)) (first_position c shape frame_idx plp + at) limit run
+  pub carried : at + limit ≤ cells_of c shape.counts plp
   pub addresses : (i : ℕ) → i < limit → address_at c shape plp (at + i) ≡ address + i
 
 -- one step on
@@ -119,28 +120,29 @@ pub record IsMark (c : Config) (shape : FrameShape) (mark : Mark) : Type 0 where
   pub small : mark.before ≤ 1023 * mark.plp
 
 -- a PLP has no cell at so many addresses from one on
-abbrev pub LeavesFree : Config → FrameShape → ℕ → ℕ → ℕ → Type 0
-LeavesFree c shape plp address n = (block cell : ℕ) → IsCell c shape plp block cell
-    → address ≤ address_of c shape plp block cell → address + n ≤ address_of c shape plp block cell
+abbrev pub LeavesFree : Config → FrameShape → ℕ → ℕ → ℕ → ℕ → Type 0
+LeavesFree c shape frame_idx plp address n = (block cell : ℕ) → IsCarried c shape frame_idx plp block cell
+    → address ≤ address_of c shape frame_idx plp block cell → address + n ≤ address_of c shape frame_idx plp block cell
 
 -- a PLP has a cell at an address
-pub record HasCell (c : Config) (shape : FrameShape) (plp address : ℕ) : Type 0 where
+pub record HasCell (c : Config) (shape : FrameShape) (frame_idx plp address : ℕ) : Type 0 where
   pub block : ℕ
   pub cell : ℕ
-  pub there : IsCell c shape plp block cell
-  pub here : address_of c shape plp block cell ≡ address
+  pub there : IsCarried c shape frame_idx plp block cell
+  pub here : address_of c shape frame_idx plp block cell ≡ address
 
 -- no cell stands at so many addresses from one on
-abbrev pub AreDummy : Config → FrameShape → ℕ → ℕ → Type 0
-AreDummy c shape address n = (plp : ℕ) → LeavesFree c shape plp address n
+abbrev pub AreDummy : Config → FrameShape → ℕ → ℕ → ℕ → Type 0
+AreDummy c shape frame_idx address n = (plp : ℕ) → LeavesFree c shape frame_idx plp address n
 
 -- what is known between two calls: cells in hand, or so many dummy addresses
-pub record IsReading (c : Config) (shape : FrameShape) (address : ℕ) (run : Run) (mark : Mark) (dummy : ℕ) : Type 0 where
+pub record IsReading (c : Config) (shape : FrameShape) (frame_idx address : ℕ) (run : Run) (mark : Mark)
+    (dummy : ℕ) : Type 0 where
   pub plps : length shape.counts ≡ length c.plps
   pub passes : Passes c shape
   pub few : c.cells < 2 ^ 32
   pub inside : address ≤ c.cells
   pub first : IsMark c shape mark
-  pub next : 0 < run.left → RunsAt c shape address run
-  pub free : AreDummy c shape address dummy
+  pub next : 0 < run.left → RunsAt c shape frame_idx address run
+  pub free : AreDummy c shape frame_idx address dummy
   pub one : 0 < dummy → run.left ≡ 0

@@ -1,10 +1,10 @@
 -- How the code sees the cells of a PLP: slices of one length at equal distances. No public clause cites this module.
 use Rattle.std.specs.Prelude.{◌≡◌, ℕ, ◌+◌, ◌*◌, ◌/◌, ◌%◌, ◌<◌, ◌≤◌, slice_index, if◌then◌else◌}
 use Rattle.plp_config.specs.Capacity.{block_cells}
-use Rattle.plp_config.specs.Plps.{plp_at}
+use Rattle.plp_config.specs.Plps.{plp_at, spread}
 use Rattle.plp_config.specs.declared.config.Config.{Config}
 use Rattle.scheduler.specs.Shape.{FrameShape, in_type2, cells_of}
-use Rattle.cell_map.specs.Address.{IsCell, address_of}
+use Rattle.cell_map.specs.Address.{IsCarried, address_of}
 use Rattle.cell_map.specs.declared.interleaving.Place.{Place}
 use Rattle.cell_map.specs.declared.rows.Row.{Row}
 use Rattle.cell_map.specs.declared.slices.Slices.{Slices}
@@ -25,6 +25,7 @@ pub record IsRow (c : Config) (plp : ℕ) (row : Row) : Type 0 where
   pub cells : row.cells ≡ block_cells c plp
   pub blocks : row.blocks ≡ (plp_at c.plps plp).blocks
   pub interleave : row.interleave ≡ (plp_at c.plps plp).interleave
+  pub spread-is : row.spread ≡ spread c.plps plp
   pub slices : row.slices ≡ slice_count c plp
   pub fifth : row.cells % 5 ≡ 0
   pub least : 2025 ≤ row.cells
@@ -33,6 +34,8 @@ pub record IsRow (c : Config) (plp : ℕ) (row : Row) : Type 0 where
   pub short : row.interleave ≤ 255
   pub some : 1 ≤ row.slices
   pub most : row.slices ≤ 6480
+  pub wide : 1 ≤ row.spread
+  pub whole : row.cells % row.spread ≡ 0
 
 -- two intervals have a number in common
 abbrev pub Meets : ℕ → ℕ → ℕ → ℕ → Type 0
@@ -54,6 +57,6 @@ pub record IsIn (slices : Slices) (interval address : ℕ) : Type 0 where
   pub here : slices.start + slice * interval + inner ≡ address
 
 -- the cell of a PLP at an address
-pub record PlaceOf (c : Config) (shape : FrameShape) (plp address : ℕ) (place : Place) : Type 0 where
-  pub there : IsCell c shape plp place.block place.cell
-  pub value : address_of c shape plp place.block place.cell ≡ address
+pub record PlaceOf (c : Config) (shape : FrameShape) (frame_idx plp address : ℕ) (place : Place) : Type 0 where
+  pub there : IsCarried c shape frame_idx plp place.block place.cell
+  pub value : address_of c shape frame_idx plp place.block place.cell ≡ address

@@ -14,12 +14,12 @@ stretch_len (Dummy count) = count
 stretch_len (Blocks strip) = strip.columns * strip.blocks
 
 -- The map has the cells of a strip at the addresses from one on: block after block.
-abbrev pub HasStrip : Config → FrameShape → ℕ → Strip → Type 0
-HasStrip c shape address strip = (b z : ℕ) → b < strip.blocks → z < strip.columns
-    → get (cell_map c shape) (address + (strip.columns * b + z))
+abbrev pub HasStrip : Config → FrameShape → ℕ → ℕ → Strip → Type 0
+HasStrip c shape frame_idx address strip = (b z : ℕ) → b < strip.blocks → z < strip.columns
+    → get (cell_map c shape frame_idx) (address + (strip.columns * b + z))
     ≡ Some (record { ordinal = strip.first.ordinal + b; cell = strip.first.cell + z * strip.stride })
 
 -- The same of what stands there.
-abbrev pub HasStretch : Config → FrameShape → ℕ → Stretch → Type 0
-HasStretch c shape address (Dummy count) = (i : ℕ) → i < count → get (cell_map c shape) (address + i) ≡ None
-HasStretch c shape address (Blocks strip) = HasStrip c shape address strip
+abbrev pub HasStretch : Config → FrameShape → ℕ → ℕ → Stretch → Type 0
+HasStretch c shape frame_idx address (Dummy count) = (i : ℕ) → i < count → get (cell_map c shape frame_idx) (address + i) ≡ None
+HasStretch c shape frame_idx address (Blocks strip) = HasStrip c shape frame_idx address strip

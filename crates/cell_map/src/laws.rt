@@ -1,6 +1,6 @@
 // Laws of the cell map. Their functions do nothing.
 ghost use Rattle.cell_map.specs.Laws.{InterleaverFillsOnce, ShapePasses, MapHasEachCell, MapHasOnlyCells, DummyHasNoCell};
-ghost use Rattle.cell_map.specs.Laws.{CellsFit};
+ghost use Rattle.cell_map.specs.Laws.{CarriedOnce, PartsRepeat, CellsFit};
 
 use scheduler::order_law;
 
@@ -16,10 +16,13 @@ pub fn shape_law()
     order_law();
 }
 
-/// The map has each cell at its address, and nothing else, and the numbers of its cells are small.
+/// The map of a frame has each cell that it carries at its address, and nothing else, and the numbers of its cells are small.
+/// Each cell is carried in one frame of its interleaving frame.
 pub fn map_law()
     ensures each { MapHasEachCell }
     ensures only { MapHasOnlyCells }
     ensures dummy { DummyHasNoCell }
+    ensures once { CarriedOnce }
+    ensures parts { PartsRepeat }
     ensures small { CellsFit }
 {}

@@ -20,6 +20,7 @@ use std::marker::Model;
 pub struct Cells<'a> {
     plan: &'a Plan,
     shape: &'a Shape,
+    frame_idx: u8,
     address: u32,
     // Cells in hand, from the address on.
     run: Run,
@@ -38,30 +39,31 @@ impl<'a> Model for Cells<'a> {
     ghost view = { λ r. record {
       config = r.plan.now;
       shape = r.shape.now;
+      frame_idx = r.frame_idx;
       address = r.address;
     } };
 
-    ghost invariant = { λ r. IsReading r.plan.now r.shape.now r.address r.run r.mark r.dummy };
+    ghost invariant = { λ r. IsReading r.plan.now r.shape.now r.frame_idx r.address r.run r.mark r.dummy };
 }
 
 impl<'a> Cells<'a> {
     ghost use Rattle.cell_map.specs.Reading.{reading_at, next_address};
 
-    /// All cells of a frame: the next address is 0.
-    pub fn new(plan: &'a Plan, shape: &'a Shape) -> Cells<'a>
+    /// All cells of a frame, which is told by its number in the superframe: the next address is 0.
+    pub fn new(plan: &'a Plan, shape: &'a Shape, frame_idx: u8) -> Cells<'a>
         requires plps { length shape.now.counts ≡ length plan.now.plps }
         requires passes { Passes plan.now shape.now }
-        ensures { result ≡ reading_at plan.now shape.now 0 }
+        ensures { result ≡ reading_at plan.now shape.now frame_idx 0 }
     {
-        Cells::resume(plan, shape, 0)
+        Cells::resume(plan, shape, frame_idx, 0)
     }
 
     /// The cells of a frame from an address on.
-    pub fn resume(plan: &'a Plan, shape: &'a Shape, address: u32) -> Cells<'a>
+    pub fn resume(plan: &'a Plan, shape: &'a Shape, frame_idx: u8, address: u32) -> Cells<'a>
         requires plps { length shape.now.counts ≡ length plan.now.plps }
         requires passes { Passes plan.now shape.now }
         requires inside { address ≤ plan.now.cells }
-        ensures { result ≡ reading_at plan.now shape.now address }
+        ensures { result ≡ reading_at plan.now shape.now frame_idx address }
     {
         let _config = plan.config();
         let run = Run {
@@ -77,6 +79,7 @@ impl<'a> Cells<'a> {
         Cells {
             plan,
             shape,
+            frame_idx,
             address,
             run,
             mark: FIRST_PLP,
@@ -95,7 +98,7 @@ impl<'a> Cells<'a> {
     /// is when `left` answers 0.
     pub fn next_cell(&mut self) -> Option<Cell>
         requires { self.old.address < self.old.config.cells }
-        ensures cell { result ≡ get (cell_map self.old.config self.old.shape) self.old.address }
+        ensures cell { result ≡ get (cell_map self.old.config self.old.shape self.old.frame_idx) self.old.address }
         ensures next { self.new ≡ next_address self.old }
     {
         if self.run.left > 0 {
@@ -109,7 +112,13 @@ impl<'a> Cells<'a> {
             self.address += 1;
             return None;
         }
-        match find(self.plan, self.shape, self.address, self.mark) {
+        match find(
+            self.plan,
+            self.shape,
+            self.frame_idx,
+            self.address,
+            self.mark,
+        ) {
             Some(found) => {
                 self.run = step(found.run);
                 self.mark = found.mark;
@@ -118,7 +127,7 @@ impl<'a> Cells<'a> {
             }
             None => {
                 self.address += 1;
-                self.dummy = dummies(self.plan, self.shape, self.address);
+                self.dummy = dummies(self.plan, self.shape, self.frame_idx, self.address);
                 None
             }
         }
@@ -130,8 +139,9 @@ impl<'a> Cells<'a> {
         requires inside { self.old.address + most ≤ self.old.config.cells }
         ensures some { 0 < stretch_len result }
         ensures most { stretch_len result ≤ most }
-        ensures cells { HasStretch self.old.config self.old.shape self.old.address result }
-        ensures next { self.new ≡ reading_at self.old.config self.old.shape (self.old.address + stretch_len result) }
+        ensures cells { HasStretch self.old.config self.old.shape self.old.frame_idx self.old.address result }
+        ensures next { self.new ≡ reading_at self.old.config self.old.shape self.old.frame_idx
+            (self.old.address + stretch_len result) }
     {
         if self.run.left > 0 {
             let next = split(self.run, most);
@@ -145,7 +155,13 @@ impl<'a> Cells<'a> {
             self.address += count;
             return Stretch::Dummy(count);
         }
-        match find(self.plan, self.shape, self.address, self.mark) {
+        match find(
+            self.plan,
+            self.shape,
+            self.frame_idx,
+            self.address,
+            self.mark,
+        ) {
             Some(found) => {
                 let next = split(found.run, most);
                 self.run = next.rest;
@@ -155,7 +171,7 @@ impl<'a> Cells<'a> {
             }
             None => {
                 self.address += 1;
-                self.dummy = dummies(self.plan, self.shape, self.address);
+                self.dummy = dummies(self.plan, self.shape, self.frame_idx, self.address);
                 Stretch::Dummy(1)
             }
         }

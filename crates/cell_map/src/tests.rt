@@ -1,5 +1,5 @@
-// Expected faults, digests and addresses come from a Python program that fills the matrices of the interleaver and lists the cells
-// of the sub-slices (EN 302 755, clauses 6.5 and 8).
+// Expected faults, digests and addresses come from a Python program that fills the matrices of the interleaver and lists the
+// cells of the sub-slices (EN 302 755, clauses 6.5 and 8).
 ghost use Rattle.std.specs.Prelude.{◌≡◌, ◌<◌, length};
 ghost use Rattle.cell_map.specs.CellMap.{Passes};
 
@@ -78,11 +78,11 @@ fn with_cell(digest: u64, cell: Option<Cell>) -> u64 {
 }
 
 // The digest of the cells in their order.
-fn digest_in_order(plan: &Plan, shape: &Shape) -> u64
+fn digest_in_order(plan: &Plan, shape: &Shape, frame_idx: u8) -> u64
     requires plps { length shape.now.counts ≡ length plan.now.plps }
     requires passes { Passes plan.now shape.now }
 {
-    let mut cells = Cells::new(plan, shape);
+    let mut cells = Cells::new(plan, shape, frame_idx);
     let mut digest = 0;
     for _ in 0..plan.config().cells {
         if cells.left() > 0 {
@@ -93,27 +93,27 @@ fn digest_in_order(plan: &Plan, shape: &Shape) -> u64
 }
 
 // The same, cell by cell.
-fn digest_by_address(plan: &Plan, shape: &Shape) -> u64
+fn digest_by_address(plan: &Plan, shape: &Shape, frame_idx: u8) -> u64
     requires plps { length shape.now.counts ≡ length plan.now.plps }
     requires passes { Passes plan.now shape.now }
 {
     let mut digest = 0;
     for address in 0..plan.config().cells {
-        digest = with_cell(digest, at(plan, shape, address));
+        digest = with_cell(digest, at(plan, shape, frame_idx, address));
     }
     digest
 }
 
 // The fault of a shape, or the digest of its cells.
-fn judged(rt: &impl Abort, plan: &Plan, shape: &Shape) -> Result<u64, MapFault> {
+fn judged(rt: &impl Abort, plan: &Plan, shape: &Shape, frame_idx: u8) -> Result<u64, MapFault> {
     if shape.len() != plan.config().plps.len() {
         panic!(rt; "another number of PLPs");
     }
     match check(plan, shape) {
         Err(fault) => Err(fault),
         Ok(()) => {
-            let digest = digest_in_order(plan, shape);
-            assert_eq!(rt; digest_by_address(plan, shape), digest);
+            let digest = digest_in_order(plan, shape, frame_idx);
+            assert_eq!(rt; digest_by_address(plan, shape, frame_idx), digest);
             Ok(digest)
         }
     }
@@ -128,14 +128,14 @@ fn expect_rows(
     let plan = plan_of(network_of(rt.alloc(), plps, size.0, size.1)?)?;
     for (counts, starts, interval, wanted) in rows {
         let shape = shape_with(rt.alloc(), &plan, *counts, *starts, *interval)?;
-        let row = judged(rt, &plan, &shape);
+        let row = judged(rt, &plan, &shape, 0);
         assert_eq!(rt; row, *wanted, "{counts:?} {starts:?} {interval}");
     }
     Ok(())
 }
 
 // Whether a cell stands at its address. It is false if there is no such cell.
-fn stands(plan: &Plan, shape: &Shape, place: Place) -> bool
+fn stands(plan: &Plan, shape: &Shape, frame_idx: u8, place: Place) -> bool
     requires plps { length shape.now.counts ≡ length plan.now.plps }
     requires passes { Passes plan.now shape.now }
 {
@@ -143,8 +143,11 @@ fn stands(plan: &Plan, shape: &Shape, place: Place) -> bool
     if plp >= shape.len() || block >= u32::from(shape.count(plp)) || cell >= plan.block_cells(plp) {
         return false;
     }
-    let found = address(plan, shape, plp, block, cell);
-    found == wanted && at(plan, shape, found) == Some(Cell { ordinal, cell })
+    match address(plan, shape, frame_idx, plp, block, cell) {
+        Some(found) => found == wanted
+            && at(plan, shape, frame_idx, found) == Some(Cell { ordinal, cell }),
+        None => false,
+    }
 }
 
 // Each cell stands at its address, in a network of so many cells and sub-slices with these blocks, starts and interval.
@@ -161,7 +164,7 @@ fn expect_places(
         panic!(rt; "no such shape");
     }
     for place in places {
-        assert!(rt; stands(&plan, &shape, *place), "{place:?}");
+        assert!(rt; stands(&plan, &shape, 0, *place), "{place:?}");
     }
     Ok(())
 }
@@ -278,4 +281,84 @@ fn ti_blocks_of_several_sizes(rt: HostRuntime) -> Result<(), Fail> {
     ];
     expect_places(&rt, &plps, (20_000, 1), ([5, 0, 0], [0, 0, 0], 0), &places)?;
     expect_rows(&rt, &plps, (20_000, 1), &FIVE_BLOCKS)
+}
+
+// A common PLP and one of type 2, of whose interleaving frames three frames carry a third each, and another of type 2.
+const SPREAD: [Plp; 3] = [
+    Plp {
+        id: 9,
+        plp_type: PlpType::Common,
+        ..THIRDS
+    },
+    Plp {
+        plp_type: PlpType::Type2,
+        ..THIRDS
+    },
+    Plp {
+        group: 2,
+        ..MIDDLE_TYPE_2
+    },
+];
+
+const THIRDS: Plp = Plp {
+    id: 1,
+    spread: 3,
+    bits_per_second: 400_000,
+    ..SMALL
+};
+
+// A plan of these PLPs, with superframes of three frames.
+fn plan_of_thirds(alloc: Global, plps: &[Plp], size: (u32, u16)) -> Result<Plan, Fail> {
+    let mut config = network_of(alloc, plps, size.0, size.1)?;
+    config.frames = 3;
+    Ok(plan_of(config)?)
+}
+
+// Blocks and starts, and the interval; and the digests of the cells of the three frames of a superframe.
+type Thirds = ([u16; 3], [u32; 3], u32, [u64; 3]);
+
+#[rattlefmt::skip]
+static THIRD_SHAPES: [Thirds; 2] = [
+    ([2, 1, 1], [0, 1_350, 1_485], 945, [18_280_969_306_057_027_649, 13_738_319_205_407_967_194, 9_195_669_104_758_906_739]),
+    ([2, 0, 1], [0, 0, 3_105], 4_021, [14_886_759_142_138_180_335, 7_043_340_295_586_365_839, 17_646_665_522_744_102_959]),
+];
+
+#[test]
+fn frames_that_carry_a_third_each(rt: HostRuntime) -> Result<(), Fail> {
+    let plan = plan_of_thirds(rt.alloc(), &SPREAD, (20_000, 5))?;
+    for (counts, starts, interval, wanted) in &THIRD_SHAPES {
+        let shape = shape_with(rt.alloc(), &plan, *counts, *starts, *interval)?;
+        for frame_idx in [0, 1, 2] {
+            let digest = judged(&rt, &plan, &shape, frame_idx);
+            assert!(rt;
+                digest.ok().as_ref() == wanted.get(usize::from(frame_idx)),
+                "{counts:?} {frame_idx}"
+            );
+        }
+    }
+    Ok(())
+}
+
+// A frame, and a cell that it carries.
+#[rattlefmt::skip]
+static THIRD_PLACES: [(u8, Place); 6] = [
+    (1, (0, 1, 1, 135, 5)), (2, (0, 0, 0, 404, 1_340)), (0, (0, 0, 0, 134, 1_340)), (1, (0, 0, 0, 135, 0)),
+    (0, (0, 1, 1, 1_215, 8)),
+    (254, (0, 1, 1, 2_024, 1_349)),
+];
+
+#[test]
+fn each_cell_stands_in_one_frame(rt: HostRuntime) -> Result<(), Fail> {
+    let plan = plan_of_thirds(rt.alloc(), &[THIRDS], (20_000, 1))?;
+    let shape = shape_with(rt.alloc(), &plan, [2, 0, 0], [0, 0, 0], 0)?;
+    if shape.len() != plan.config().plps.len() || check(&plan, &shape).is_err() {
+        panic!(rt; "no such shape");
+    }
+    for (frame_idx, place) in &THIRD_PLACES {
+        for other in [0, 1, 2] {
+            let stands = stands(&plan, &shape, other, *place);
+            assert!(rt; stands == (other == frame_idx % 3), "{place:?} {other}");
+        }
+    }
+    Ok(())
 }

@@ -25,7 +25,7 @@ strip_bytes strip n = flat_map (λ b. line_bytes (first_word strip b) strip.stri
 
 -- The numbers of a strip's cells are small.
 pub record FitsStrip (strip : Strip) : Type 0 where
-  pub blocks : strip.first.ordinal + strip.blocks ≤ 2 ^ 12
+  pub blocks : strip.first.ordinal + strip.blocks ≤ 2 ^ 16
   pub first : strip.first.cell < 2 ^ 15
   pub cells : (z : ℕ) → z < strip.columns → strip.first.cell + z * strip.stride < 2 ^ 15
 
@@ -36,10 +36,10 @@ FitsStretch (Blocks strip) = FitsStrip strip
 -- ---- rows that repeat the row before
 
 -- the words of a row are those of the row before, each greater by 1
-pub record IsAgain (c : Config) (shape : FrameShape) (address width : ℕ) : Type 0 where
-  pub next : (k : ℕ) → k < width → word_of (get (cell_map c shape) (address + width + k))
-      ≡ word_of (get (cell_map c shape) (address + k)) + 1
-  pub small : (k : ℕ) → k < width → word_of (get (cell_map c shape) (address + k)) + 1 < 2 ^ 32
+pub record IsAgain (c : Config) (shape : FrameShape) (frame_idx address width : ℕ) : Type 0 where
+  pub next : (k : ℕ) → k < width → word_of (get (cell_map c shape frame_idx) (address + width + k))
+      ≡ word_of (get (cell_map c shape frame_idx) (address + k)) + 1
+  pub small : (k : ℕ) → k < width → word_of (get (cell_map c shape frame_idx) (address + k)) + 1 < 2 ^ 32
 
 -- each cell of a strip is followed by that of another
 pub record Follows (old new : Strip) : Type 0 where
@@ -51,10 +51,10 @@ pub record Follows (old new : Strip) : Type 0 where
   pub cell : old.first.cell + 1 ≡ new.first.cell
 
 -- of so many words from an address on the last are those of a strip
-pub record IsLast (c : Config) (shape : FrameShape) (address done : ℕ) (strip : Strip) : Type 0 where
+pub record IsLast (c : Config) (shape : FrameShape) (frame_idx address done : ℕ) (strip : Strip) : Type 0 where
   pub before : ℕ
   pub here : before + strip.columns * strip.blocks ≡ done
-  pub has : HasStrip c shape (address + before) strip
+  pub has : HasStrip c shape frame_idx (address + before) strip
 
 -- the strip of a stretch, or one without blocks
 abbrev pub IsStripOf : Stretch → Strip → Type 0

@@ -7,6 +7,7 @@ use Rattle.scheduler.specs.Shape.{FrameShape}
 use Rattle.cell_map.specs.CellMap.{cell_map}
 use Rattle.site_frame.specs.Record.{cell_bytes}
 
--- the words of so many cells from an address on
-abbrev pub words : Config → FrameShape → ℕ → ℕ → List ℕ
-words c shape address count = flat_map (λ a. cell_bytes (get (cell_map c shape) a)) (range_with_len address count)
+-- the words of so many cells of a frame from an address on; the frame is told by its number in its superframe
+abbrev pub words : Config → FrameShape → ℕ → ℕ → ℕ → List ℕ
+words c shape frame_idx address count = flat_map (λ a. cell_bytes (get (cell_map c shape frame_idx) a))
+    (range_with_len address count)

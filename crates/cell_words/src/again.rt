@@ -20,12 +20,21 @@ pub fn word_at(bytes: &[u8], at: usize) -> u32
 }
 
 // Writes a row behind the row before it, of so many words each.
-fn put_again(plan: &Plan, shape: &Shape, address: u32, before: u32, width: u32, out: &mut [u8])
+fn put_again(
+    plan: &Plan,
+    shape: &Shape,
+    frame_idx: u8,
+    address: u32,
+    before: u32,
+    width: u32,
+    out: &mut [u8],
+)
     requires room { 4 * (before + width + width) ≤ length out.old }
     requires short { length out.old < 2 ^ 34 }
-    requires words { take (4 * (before + width)) out.old ≡ words plan.now shape.now address (before + width) }
-    requires again { IsAgain plan.now shape.now (address + before) width }
-    ensures words { take (4 * (before + width + width)) out.new ≡ words plan.now shape.now address (before + width + width) }
+    requires words { take (4 * (before + width)) out.old ≡ words plan.now shape.now frame_idx address (before + width) }
+    requires again { IsAgain plan.now shape.now frame_idx (address + before) width }
+    ensures words { take (4 * (before + width + width)) out.new ≡ words plan.now shape.now frame_idx address
+        (before + width + width) }
     ensures len { length out.new ≡ length out.old }
 {
     let from = 4 * before as usize;
@@ -74,6 +83,7 @@ pub fn strip_of(stretch: Stretch) -> Strip
 pub fn put_next(
     plan: &Plan,
     shape: &Shape,
+    frame_idx: u8,
     address: u32,
     done: u32,
     last: Strip,
@@ -81,20 +91,20 @@ pub fn put_next(
     out: &mut [u8],
 ) -> u32
     requires fits { FitsStretch stretch }
-    requires has { HasStretch plan.now shape.now (address + done) stretch }
-    requires last { 0 < last.blocks → IsLast plan.now shape.now address done last }
+    requires has { HasStretch plan.now shape.now frame_idx (address + done) stretch }
+    requires last { 0 < last.blocks → IsLast plan.now shape.now frame_idx address done last }
     requires room { 4 * (done + stretch_len stretch) ≤ length out.old }
     requires short { length out.old < 2 ^ 34 }
-    requires words { take (4 * done) out.old ≡ words plan.now shape.now address done }
+    requires words { take (4 * done) out.old ≡ words plan.now shape.now frame_idx address done }
     ensures count { result ≡ stretch_len stretch }
     ensures words { take (4 * (done + stretch_len stretch)) out.new
-        ≡ words plan.now shape.now address (done + stretch_len stretch) }
+        ≡ words plan.now shape.now frame_idx address (done + stretch_len stretch) }
     ensures len { length out.new ≡ length out.old }
 {
     let strip = strip_of(stretch);
     if follows(last, strip) {
         let width = strip.columns * strip.blocks;
-        put_again(plan, shape, address, done - width, width, out);
+        put_again(plan, shape, frame_idx, address, done - width, width, out);
         return width;
     }
     put_stretch(stretch, 4 * done as usize, out)

@@ -1,5 +1,5 @@
 // Whether cells of a record are those of the map.
-ghost use Rattle.std.specs.Prelude.{ℕ, ◌≡◌, ◌+◌, ◌*◌, ◌<◌, ◌≤◌, true, length, drop, slice_get, Some};
+ghost use Rattle.std.specs.Prelude.{ℕ, ◌≡◌, ◌↔◌, ◌+◌, ◌*◌, ◌<◌, ◌≤◌, true, length, drop, slice_get, Some};
 ghost use Rattle.std.specs.FinMap.{get};
 ghost use Rattle.byteorder.specs.Endian.{big_number};
 ghost use Rattle.cell_map.specs.CellMap.{Passes, cell_map};
@@ -16,7 +16,8 @@ use site_frame::Cells;
 fn are_same(one: &[u8], other: &[u8], count: u32) -> bool
     requires one { 4 * count ≤ length one.now }
     requires other { 4 * count ≤ length other.now }
-    ensures { result ≡ true → (i : ℕ) → i < count → big_number 4 (drop (4 * i) one.now) ≡ big_number 4 (drop (4 * i) other.now) }
+    ensures { (result ≡ true) ↔ ((i : ℕ) → i < count → big_number 4 (drop (4 * i) one.now) ≡ big_number 4
+        (drop (4 * i) other.now)) }
 {
     let mut same = true;
     for i in 0..count {
@@ -28,11 +29,12 @@ fn are_same(one: &[u8], other: &[u8], count: u32) -> bool
     same
 }
 
-/// Whether so many cells of a record from an address on are those of the map, word by word. `false` tells nothing of any cell:
-/// its caller looks at them one by one. `buffer` is as long as the words of the cells, and is written to.
+/// Whether so many cells of a record from an address on are those of the map of a frame. `buffer` is as long as the words of the
+/// cells, and is written to.
 pub fn agree(
     plan: &Plan,
     shape: &Shape,
+    frame_idx: u8,
     cells: &Cells<'_>,
     address: u32,
     count: u32,
@@ -43,13 +45,13 @@ pub fn agree(
     requires all { length cells.now ≡ plan.now.cells }
     requires inside { address + count ≤ plan.now.cells }
     requires room { length buffer.old ≡ 4 * count }
-    ensures same { result ≡ true → (i : ℕ) → i < count
-        → slice_get cells.now (address + i) ≡ Some (get (cell_map plan.now shape.now) (address + i)) }
+    ensures same { (result ≡ true) ↔ ((i : ℕ) → i < count
+        → slice_get cells.now (address + i) ≡ Some (get (cell_map plan.now shape.now frame_idx) (address + i))) }
     ensures len { length buffer.new ≡ length buffer.old }
 {
     map_law();
     plan.obeys_rules();
-    fill_words(plan, shape, address, count, buffer);
+    fill_words(plan, shape, frame_idx, address, count, buffer);
     let words = cells.words();
     are_same(buffer, &words[4 * address as usize..], count)
 }

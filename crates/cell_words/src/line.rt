@@ -76,8 +76,8 @@ pub fn put_stretch(stretch: Stretch, at: usize, out: &mut [u8]) -> u32
     requires room { at + 4 * stretch_len stretch ≤ length out.old }
     requires short { length out.old < 2 ^ 34 }
     ensures count { result ≡ stretch_len stretch }
-    ensures front { (c : Config) (shape : FrameShape) (address : ℕ) → HasStretch c shape address stretch
-        → take (at + 4 * stretch_len stretch) out.new ≡ take at out.old ++ words c shape address (stretch_len stretch) }
+    ensures front { (c : Config) (shape : FrameShape) (frame_idx address : ℕ) → HasStretch c shape frame_idx address stretch
+        → take (at + 4 * stretch_len stretch) out.new ≡ take at out.old ++ words c shape frame_idx address (stretch_len stretch) }
     ensures len { length out.new ≡ length out.old }
 {
     match stretch {

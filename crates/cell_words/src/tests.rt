@@ -7,7 +7,7 @@ use bit_slice::OutOfMemory;
 use byteorder::{BigEndian, ByteOrder};
 use cell_map::{Cell, at, check};
 use plp_config::{Plan, Plp};
-use sample_networks::{SMALL_PLP, mixed_plan, network_of, plan_of};
+use sample_networks::{SMALL_PLP, mixed_plan, network_of, plan_of, spread_plan};
 use scheduler::Shape;
 use std::alloc::Global;
 use std::process::Abort;
@@ -26,6 +26,7 @@ fn expect_words(
     alloc: Global,
     plan: &Plan,
     shape: &Shape,
+    frame_idx: u8,
     piece: u32,
 ) -> Result<(), OutOfMemory>
     requires plps { length shape.now.counts ≡ length plan.now.plps }
@@ -37,10 +38,10 @@ fn expect_words(
         let address = k * piece;
         let count = (cells - address).min(piece);
         let mut words = vec![in alloc; 0; 4 * count as usize]?;
-        fill_words(plan, shape, address, count, &mut words);
+        fill_words(plan, shape, frame_idx, address, count, &mut words);
         for i in 0..count {
             let word = BigEndian::read_u32(&words[4 * i as usize..]);
-            assert_eq!(rt; word, word_of(at(plan, shape, address + i)));
+            assert_eq!(rt; word, word_of(at(plan, shape, frame_idx, address + i)));
         }
     }
     Ok(())
@@ -54,8 +55,8 @@ fn expect_all(rt: &impl Abort, alloc: Global, plan: &Plan, shape: &Shape) -> Res
         Ok(()) => {}
         Err(fault) => panic!(rt; "{fault}"),
     }
-    for piece in [40_000, 7, 2_048] {
-        expect_words(rt, alloc, plan, shape, piece)?;
+    for (frame_idx, piece) in [(0, 40_000), (1, 7), (2, 2_048)] {
+        expect_words(rt, alloc, plan, shape, frame_idx, piece)?;
     }
     Ok(())
 }
@@ -98,5 +99,17 @@ fn slices(rt: HostRuntime) -> Result<(), Fail> {
     shape.set(1, 2, 9_000);
     shape.set(2, 2, 20_000);
     shape.set_type2(3_000, 20_000);
+    expect_all(&rt, rt.alloc(), &plan, &shape)
+}
+
+// A PLP whose interleaving frames are carried by two frames.
+#[test]
+fn halves_of_interleaving_frames(rt: HostRuntime) -> Result<(), Fail> {
+    let plan = spread_plan(rt.alloc())?;
+    let mut shape = Shape::open(rt.alloc(), &plan)?;
+    if shape.len() != 1 {
+        panic!(rt; "another number of PLPs");
+    }
+    shape.set(0, 7, 11_000);
     expect_all(&rt, rt.alloc(), &plan, &shape)
 }

@@ -1,5 +1,5 @@
 -- The text that is written spells its configuration.
-use Rattle.std.proofs.Common.{ℕ, zero, suc, ◌≡◌, ◌<◌, ◌≤◌, ◌+◌, ◌-◌, ◌*◌, ◌^◌, ◌%◌, ◌==◌, ◌∷◌, ◌++◌, ◌∙◌, List, [], Bool, true}
+use Rattle.std.proofs.Common.{drop, ℕ, zero, suc, ◌≡◌, ◌<◌, ◌≤◌, ◌+◌, ◌-◌, ◌*◌, ◌^◌, ◌%◌, ◌==◌, ◌∷◌, ◌++◌, ◌∙◌, List, [], Bool, true}
 use Rattle.std.proofs.Common.{false, length, take, get_or, ap, sym, subst, arith, refl, lit≤, All, Some, None, map, eq-eqb}
 use Rattle.std.proofs.Common.{ne_eqb, append_assoc, append-nil, length-append}
 use Rattle.std.specs.Prelude.{slice_index_or}
@@ -15,7 +15,7 @@ use Rattle.std.proofs.lemmas.List.FromFn.{get_or-map-range_with_len}
 use Rattle.std.proofs.lemmas.List.Splits.{slice_split_none, slice_split_at}
 use Rattle.std.proofs.lemmas.List.Sums.{AllPass-from_list_all}
 use Rattle.plp_config.specs.declared.config.Config.{Config}
-use Rattle.config_text.specs.ConfigText.{is_skipped, kept, IsPrintable, canonical_line, canonical_lines, canonical_text}
+use Rattle.config_text.specs.ConfigText.{is_skipped, kept, words_of, version_of, version_in, IsPrintable, canonical_line, canonical_lines, canonical_text}
 use Rattle.config_text.specs.ConfigText.{ReadsLine, ReadsLines, Spells}
 use Rattle.config_text.specs.Fields.{bands, plp_types, rates, modulations, sizes, bits, deletions, Spelling, spelling_of}
 use Rattle.config_text.specs.Fields.{place_from}
@@ -27,6 +27,7 @@ use Rattle.config_text.specs.declared.field.Field.{Field}
 use Rattle.config_text.specs.declared.field.Field.TheVariants.{Version, Number8, Number16, Number32, Number64, Bandwidth, PlpType}
 use Rattle.config_text.specs.declared.field.Field.TheVariants.{CodeRate, Constellation, BlockSize, Bit, Deletion}
 use Rattle.config_text.proofs.DraftLemmas.{length-rows_of}
+use Rattle.config_text.proofs.LineLemmas.{version_read}
 use Rattle.config_text.proofs.PartLemmas.{lines_first}
 use Rattle.config_text.proofs.TextLemmas.{kept-cons}
 
@@ -47,16 +48,16 @@ graphic_prints : (w : List ℕ) → All IsGraphic w → All IsPrintable w
 graphic_prints w all = λ k d inside. (omega (arith, (all k d inside).0), (all k d inside).1)
 
 abbrev is_short : List ℕ → Bool
-is_short w = length w - 20 == 0
+is_short w = length w - 10 == 0
 
-short_if : (w : List ℕ) → is_short w ≡ true → length w ≤ 20
-short_if w e = let none : length w - 20 ≡ 0 = grind (arith, nat_tests) in omega arith
+short_if : (w : List ℕ) → is_short w ≡ true → length w ≤ 10
+short_if w e = let none : length w - 10 ≡ 0 = grind (arith, nat_tests) in omega arith
 
 -- a word that spells a value, with no space and few bytes
-record GoodWord (s : Spelling) (n : ℕ) (w : List ℕ) : Type 0 where
+record GoodWord (s : Spelling) (most n : ℕ) (w : List ℕ) : Type 0 where
   spells : SpellsValue s n w
   graphic : All IsGraphic w
-  short : length w ≤ 20
+  short : length w ≤ most
 
 digit_graphic : (n : ℕ) → n < 10 → All IsGraphic ((48 + n) ∷ [])
 digit_graphic n small = All-cons IsGraphic (48 + n) [] (omega arith, omega arith) (All-nil IsGraphic)
@@ -68,12 +69,21 @@ decimal_graphic n fits =
     n
     fits
 
-number_good : (least greatest n : ℕ) → greatest < 2 ^ 64 → Fits (Number least greatest) n
-    → GoodWord (Number least greatest) n (decimal n)
+number_good : (least greatest n : ℕ) → greatest < 10 ^ 10 → Fits (Number least greatest) n
+    → GoodWord (Number least greatest) 10 n (decimal n)
 number_good least greatest n narrow fits =
     let small : n < 2 ^ 64 = omega (arith, fits) in
     record {
       spells = (refl, fits.0, fits.1);
+      graphic = decimal_graphic n small;
+      short = length-decimal-le 10 n (omega arith) (omega (arith, fits)) small;
+    }
+
+wide_good : (n : ℕ) → n ≤ 2 ^ 64 - 1 → GoodWord (Number 0 (2 ^ 64 - 1)) 20 n (decimal n)
+wide_good n fits =
+    let small : n < 2 ^ 64 = omega (arith, fits) in
+    record {
+      spells = (refl, omega arith, fits);
       graphic = decimal_graphic n small;
       short = length-decimal-le 20 n (omega arith) (omega arith) small;
     }
@@ -81,7 +91,7 @@ number_good least greatest n narrow fits =
 -- words with no space and few bytes, each found at its place
 words_good : (ws : List (List ℕ)) → map (λ w. place_from 0 w ws) ws ≡ map (λ n. Some n) (range_with_len 0 (length ws))
     → list_all (list_all is_graphic) ws ≡ true → list_all is_short ws ≡ true
-    → (n : ℕ) → n < length ws → GoodWord (Word ws) n (get_or ws n [])
+    → (n : ℕ) → n < length ws → GoodWord (Word ws) 10 n (get_or ws n [])
 words_good ws found graphic short n inside = record {
   spells = sym (get_or-map (λ w. place_from 0 w ws) ws n [] None inside) ∙ ap (λ places. get_or places n None) found
       ∙ get_or-map-range_with_len (λ n. Some n) 0 (length ws) n n None inside (omega arith);
@@ -89,12 +99,17 @@ words_good ws found graphic short n inside = record {
   short = short_if (get_or ws n []) (AllPass-from_list_all is_short ws short n [] inside);
 }
 
-word_good : (f : Field) (n : ℕ) → Fits (spelling_of f) n → GoodWord (spelling_of f) n (word_of (spelling_of f) n)
-word_good Version n fits = number_good 1 1 n (lit≤ tt) fits
+-- bytes of the word of a field at most
+abbrev most_len : Field → ℕ
+most_len Number64 = 20
+most_len f = 10
+
+word_good : (f : Field) (n : ℕ) → Fits (spelling_of f) n → GoodWord (spelling_of f) (most_len f) n (word_of (spelling_of f) n)
+word_good Version n fits = number_good 1 2 n (lit≤ tt) fits
 word_good Number8 n fits = number_good 0 (2 ^ 8 - 1) n (lit≤ tt) fits
 word_good Number16 n fits = number_good 0 (2 ^ 16 - 1) n (lit≤ tt) fits
 word_good Number32 n fits = number_good 0 (2 ^ 32 - 1) n (lit≤ tt) fits
-word_good Number64 n fits = number_good 0 (2 ^ 64 - 1) n (lit≤ tt) fits
+word_good Number64 n fits = wide_good n fits.1
 word_good Bandwidth n fits = words_good bands refl refl refl n fits
 word_good PlpType n fits = words_good plp_types refl refl refl n fits
 word_good CodeRate n fits = words_good rates refl refl refl n fits
@@ -138,7 +153,12 @@ prints_words (f ∷ fs) (n ∷ ns) fits =
     (All-append IsPrintable (word_of (spelling_of f) n) (words_after fs ns)
     (graphic_prints (word_of (spelling_of f) n) (word_good f n fits.0).graphic) (prints_words fs ns fits.1))
 
-length-words : (fs : List Field) (ns : List ℕ) → FitFields fs ns → length (words_after fs ns) ≤ 21 * length fs
+-- and of all, each with its space
+abbrev room_of : List Field → ℕ
+room_of [] = 0
+room_of (f ∷ fs) = most_len f + 1 + room_of fs
+
+length-words : (fs : List Field) (ns : List ℕ) → FitFields fs ns → length (words_after fs ns) ≤ room_of fs
 length-words [] ns fits = omega arith
 length-words (f ∷ fs) [] fits = absurd fits
 length-words (f ∷ fs) (n ∷ ns) fits =
@@ -149,17 +169,16 @@ length-words (f ∷ fs) (n ∷ ns) fits =
       length-words fs ns fits.1,
     )
 
--- the line that is due behind so many: its key has no space, few bytes and no # in front; its fields are twelve at most, and
--- eleven of a PLP
+-- the line that is due behind so many: its key has no space, few bytes and no # in front, and its words few bytes
 record GoodLine (due : ℕ) : Type 0 where
   graphic : All IsGraphic (key_at due)
   short : length (key_at due) ≤ 10
   stays : (rest : List ℕ) → is_skipped (key_at due ++ rest) ≡ false
-  count : length (fields_at due) + (8 - suc due) ≤ 11 + (8 - due)
+  count : room_of (fields_at due) ≤ 132
 
 line_from : (due : ℕ) → list_all is_graphic (key_at due) ≡ true → length (key_at due) ≤ 10
     → ((rest : List ℕ) → is_skipped (key_at due ++ rest) ≡ false)
-    → length (fields_at due) + (8 - suc due) ≤ 11 + (8 - due) → GoodLine due
+    → room_of (fields_at due) ≤ 132 → GoodLine due
 line_from due graphic short stays count = record {
   graphic = all_graphic (key_at due) graphic;
   short = short;
@@ -177,20 +196,21 @@ line_good (suc (suc (suc (suc zero)))) = line_from _ refl (lit≤ tt) (λ rest. 
 line_good (suc (suc (suc (suc (suc zero))))) = line_from _ refl (lit≤ tt) (λ rest. refl) (lit≤ tt)
 line_good (suc (suc (suc (suc (suc (suc zero)))))) = line_from _ refl (lit≤ tt) (λ rest. refl) (lit≤ tt)
 line_good (suc (suc (suc (suc (suc (suc (suc zero))))))) = line_from _ refl (lit≤ tt) (λ rest. refl) (lit≤ tt)
-line_good (suc (suc (suc (suc (suc (suc (suc (suc due)))))))) = line_from _ refl (lit≤ tt) (λ rest. refl) (omega arith)
+line_good (suc (suc (suc (suc (suc (suc (suc (suc due)))))))) = line_from _ refl (lit≤ tt) (λ rest. refl) (lit≤ tt)
 
-reads_line : (due : ℕ) (row : List ℕ) → FitFields (fields_at due) row → due < 263 → ReadsLine due (canonical_line due row) row
+reads_line : (due : ℕ) (row : List ℕ) → FitFields (fields_at due) row → due < 263 → ReadsLine 2 due (canonical_line due row) row
 reads_line due row fits room = record {
   printable = All-append IsPrintable (key_at due) (words_after (fields_at due) row)
       (graphic_prints (key_at due) (line_good due).graphic) (prints_words (fields_at due) row fits);
   words = words_list (fields_at due) row;
-  is = split_words (key_at due) (fields_at due) row (line_good due).graphic fits;
+  is = append-nil (words_of (canonical_line due row))
+      ∙ split_words (key_at due) (fields_at due) row (line_good due).graphic fits;
   fields = spells_words (fields_at due) row fits;
   room = room;
 }
 
 length-line : (due : ℕ) (row : List ℕ) → FitFields (fields_at due) row → length (canonical_line due row ++ 10 ∷ [])
-    ≤ 11 + 21 * length (fields_at due)
+    ≤ 143
 length-line due row fits =
     omega (
       arith,
@@ -198,6 +218,7 @@ length-line due row fits =
       length-append (key_at due) (words_after (fields_at due) row),
       (line_good due).short,
       length-words (fields_at due) row fits,
+      (line_good due).count,
     )
 
 -- ---- the lines
@@ -206,7 +227,7 @@ abbrev with_end : List ℕ → List ℕ
 with_end line = line ++ 10 ∷ []
 
 reads_all : (due : ℕ) (rows : List (List ℕ)) → FitLines due rows → due + length rows ≤ 263
-    → ReadsLines due (canonical_lines due rows) rows
+    → ReadsLines 2 due (canonical_lines due rows) rows
 reads_all due [] fits room = tt
 reads_all due (row ∷ rows) fits room = (reads_line due row fits.0 (omega arith), reads_all (suc due) rows fits.1 (omega arith))
 
@@ -244,30 +265,36 @@ lines_all due (row ∷ rows) fits room =
     ∙ ap (λ (l : List (List ℕ)). canonical_line due row ∷ l) (lines_all (suc due) rows fits.1 (omega arith))
 
 length-all : (due : ℕ) (rows : List (List ℕ)) → FitLines due rows → length (flat_map with_end (canonical_lines due rows))
-    ≤ 242 * length rows + 21 * (8 - due)
+    ≤ 143 * length rows
 length-all due [] fits = omega arith
 length-all due (row ∷ rows) fits =
     omega (
       arith,
       length-append (with_end (canonical_line due row)) (flat_map with_end (canonical_lines (suc due) rows)),
       length-line due row fits.0,
-      (line_good due).count,
       length-all (suc due) rows fits.1,
     )
 
-pub canonical_spells : (c : Config) (text : List ℕ) → FitLines 0 (rows_of c) → length c.plps ≤ 255 → text ≡ canonical_text c
+pub canonical_spells : (c : Config) (text : List ℕ) → FitLines 0 (rows_of 2 c) → length c.plps ≤ 255 → text ≡ canonical_text c
     → Spells text c
 unfolding canonical_text
 canonical_spells c text fits few is =
-    let rows : List (List ℕ) = rows_of c in
-    let room : 0 + length (rows_of c) ≤ 263 = omega (arith, length-rows_of c) in
-    let all : lines (canonical_text c) ≡ canonical_lines 0 (rows_of c) = lines_all 0 (rows_of c) fits room in
-    let stay : kept (lines (canonical_text c)) ≡ canonical_lines 0 (rows_of c) = ap kept all ∙ kept_all 0 (rows_of c) in
-    let reads : ReadsLines 0 (kept (lines (canonical_text c))) (rows_of c) =
-    subst (λ (l : List (List ℕ)). ReadsLines 0 l (rows_of c)) (sym stay) (reads_all 0 (rows_of c) fits room) in
+    let rows : List (List ℕ) = rows_of 2 c in
+    let room : 0 + length (rows_of 2 c) ≤ 263 = omega (arith, length-rows_of 2 c) in
+    let all : lines (canonical_text c) ≡ canonical_lines 0 (rows_of 2 c) = lines_all 0 (rows_of 2 c) fits room in
+    let stay : kept (lines (canonical_text c)) ≡ canonical_lines 0 (rows_of 2 c) = ap kept all ∙ kept_all 0 (rows_of 2 c) in
+    let reads : ReadsLines 2 0 (kept (lines (canonical_text c))) (rows_of 2 c) =
+    subst (λ (l : List (List ℕ)). ReadsLines 2 0 l (rows_of 2 c)) (sym stay) (reads_all 0 (rows_of 2 c) fits room) in
+    let first : 2 ∷ [] ≡ version_of (canonical_lines 0 (rows_of 2 c)) ∷ [] =
+    version_read 2 (canonical_line 0 (2 ∷ [])) (2 ∷ []) (canonical_lines 1 (drop 1 (rows_of 2 c)))
+    ((reads_all 0 (rows_of 2 c) fits room).0) in
+    let told : version_of (canonical_lines 0 (rows_of 2 c)) ≡ 2 =
+    sym (ap (λ (l : List ℕ). get_or l 0 0) first) in
+    let version : version_in text ≡ 2 = ap (λ (t : List ℕ). version_of (kept (lines t))) is ∙ ap version_of stay ∙ told in
     record {
-      fits = omega (arith, ap length is, length-all 0 (rows_of c) fits, length-rows_of c);
-      reads = subst (λ (t : List ℕ). ReadsLines 0 (kept (lines t)) (rows_of c)) (sym is) reads;
+      fits = omega (arith, ap length is, length-all 0 (rows_of 2 c) fits, length-rows_of 2 c);
+      reads = subst (λ (v : ℕ). ReadsLines v 0 (kept (lines text)) (rows_of v c)) (sym version)
+          (subst (λ (t : List ℕ). ReadsLines 2 0 (kept (lines t)) (rows_of 2 c)) (sym is) reads);
     }
 
 -- one line more fits

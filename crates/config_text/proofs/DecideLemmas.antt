@@ -7,7 +7,7 @@ use Rattle.std.specs.Str.Lines.{lines}
 use Rattle.std.proofs.lemmas.Bool.{cases_eq, cases_lt}
 use Rattle.std.proofs.lemmas.List.Elements.{All-nil, All-cons, All-head, All-tail}
 use Rattle.plp_config.specs.declared.config.Config.{Config}
-use Rattle.config_text.specs.ConfigText.{is_skipped, kept, words_of, IsPrintable, ReadsLine, ReadsLines, HasKey, HasCount}
+use Rattle.config_text.specs.ConfigText.{is_skipped, kept, full_words, version_in, IsPrintable, ReadsLine, ReadsLines, HasKey, HasCount}
 use Rattle.config_text.specs.ConfigText.{RefusesLine, RefusesAt, Refuses, Spells}
 use Rattle.config_text.specs.Fields.{Spelling, spelling_of, key_at, fields_at, place_from, SpellsValue, SpellsFields, FailsFirst}
 use Rattle.config_text.specs.Fields.{why_of}
@@ -17,7 +17,7 @@ use Rattle.config_text.specs.declared.fault.TextWhy.{TextWhy}
 use Rattle.config_text.specs.declared.fault.TextWhy.TheVariants.{NotAscii, WrongKey, WrongCount, EndsEarly, TooLong}
 use Rattle.config_text.specs.declared.field.Field.{Field}
 use Rattle.config_text.proofs.FieldLemmas.{line_fits}
-use Rattle.config_text.proofs.LineLemmas.{lines_count, lines_more}
+use Rattle.config_text.proofs.LineLemmas.{lines_count, lines_more, first_row}
 use Rattle.config_text.proofs.RowLemmas.{config_from, config_rows}
 use Rattle.config_text.proofs.TextLemmas.{kept-append, kept-parted, kept-skip}
 
@@ -121,26 +121,26 @@ length-drop_one : (ws : List (List ℕ)) (n : ℕ) → length ws ≡ n + 1 → l
 length-drop_one [] n e = absurd (omega arith)
 length-drop_one (w ∷ ws) n e = omega arith
 
-decide_count : (due : ℕ) (line : List ℕ) → HasCount due line ⊎ (HasCount due line → ⊥)
-decide_count due line =
-    elim (cases_eq (length (words_of line)) (length (fields_at due) + 1)) [
+decide_count : (v due : ℕ) (line : List ℕ) → HasCount v due line ⊎ (HasCount v due line → ⊥)
+decide_count v due line =
+    elim (cases_eq (length (full_words v due line)) (length (fields_at due) + 1)) [
       | inl same ↦
           elim (cases_lt due 263) [ inl room ↦ inl (same, room) | inr full ↦ inr (λ h. absurd (omega (arith, h.1, full))) ]
       | inr differ ↦ inr (λ h. differ h.0)
     ]
 
-decide_words : (due : ℕ) (line : List ℕ) → All IsPrintable line → HasKey due line → HasCount due line
-    → ((row : List ℕ) × ReadsLine due line row) ⊎ ((why : TextWhy) × RefusesLine due line why)
-decide_words due line printable key count =
-    elim (decide_fields (fields_at due) (drop 1 (words_of line))
-    (length-drop_one (words_of line) (length (fields_at due)) count.0)) [
+decide_words : (v due : ℕ) (line : List ℕ) → All IsPrintable line → HasKey v due line → HasCount v due line
+    → ((row : List ℕ) × ReadsLine v due line row) ⊎ ((why : TextWhy) × RefusesLine v due line why)
+decide_words v due line printable key count =
+    elim (decide_fields (fields_at due) (drop 1 (full_words v due line))
+    (length-drop_one (full_words v due line) (length (fields_at due)) count.0)) [
       | inl fields ↦
           inl (
             fields.0,
             record {
               printable = printable;
-              words = drop 1 (words_of line);
-              is = heads (words_of line) (key_at due) key (omega (arith, count.0));
+              words = drop 1 (full_words v due line);
+              is = heads (full_words v due line) (key_at due) key (omega (arith, count.0));
               fields = fields.1;
               room = count.1;
             },
@@ -148,14 +148,14 @@ decide_words due line printable key count =
       | inr fails ↦ inr (fails.0, inr (inr (inr (printable, key, count, fails.1))))
     ]
 
-decide_line : (due : ℕ) (line : List ℕ) → ((row : List ℕ) × ReadsLine due line row) ⊎ ((why : TextWhy) × RefusesLine due line why)
-decide_line due line =
+decide_line : (v due : ℕ) (line : List ℕ) → ((row : List ℕ) × ReadsLine v due line row) ⊎ ((why : TextWhy) × RefusesLine v due line why)
+decide_line v due line =
     elim (decide_printable line) [
       | inl printable ↦
-          elim (decide_bytes (slice_index_or (words_of line) 0 []) (key_at due)) [
+          elim (decide_bytes (slice_index_or (full_words v due line) 0 []) (key_at due)) [
             | inl key ↦
-                elim (decide_count due line) [
-                  | inl count ↦ decide_words due line printable key count
+                elim (decide_count v due line) [
+                  | inl count ↦ decide_words v due line printable key count
                   | inr differ ↦ inr (WrongCount, inr (inr (inl (printable, key, differ, refl))))
                 ]
             | inr differ ↦ inr (WrongKey, inr (inl (printable, differ, refl)))
@@ -166,38 +166,38 @@ decide_line due line =
 -- ---- lines
 
 abbrev Decided : List ℕ → Type 0
-Decided text = ((rows : List (List ℕ)) × ReadsLines 0 (kept (lines text)) rows)
+Decided text = ((rows : List (List ℕ)) × ReadsLines (version_in text) 0 (kept (lines text)) rows)
     ⊎ ((number : ℕ) × (why : TextWhy) × RefusesAt text number why)
 
 decide_lines : (text : List ℕ) (before left rows : List (List ℕ)) → length text ≤ 65536 → lines text ≡ before ++ left
-    → ReadsLines 0 (kept before) rows → Decided text
+    → ReadsLines (version_in text) 0 (kept before) rows → Decided text
 decide_lines text before [] rows fits are reads =
     let all : lines text ≡ before = are ∙ append-nil before in
-    inl (rows, subst (λ (l : List (List ℕ)). ReadsLines 0 (kept l) rows) (sym all) reads)
+    inl (rows, subst (λ (l : List (List ℕ)). ReadsLines (version_in text) 0 (kept l) rows) (sym all) reads)
 decide_lines text before (line ∷ left) rows fits are reads =
     decide_next text before left rows line fits are reads (is_skipped line) refl
     (λ rows more. decide_lines text (before ++ line ∷ []) left rows fits (are ∙ sym (append_assoc before (line ∷ []) left))
     more)
   where
     decide_next : (text : List ℕ) (before left rows : List (List ℕ)) (line : List ℕ) → length text ≤ 65536
-        → lines text ≡ before ++ line ∷ left → ReadsLines 0 (kept before) rows
-        → (skipped : Bool) → is_skipped line ≡ skipped → ((more : List (List ℕ)) → ReadsLines 0 (kept (before ++ line ∷ [])) more
+        → lines text ≡ before ++ line ∷ left → ReadsLines (version_in text) 0 (kept before) rows
+        → (skipped : Bool) → is_skipped line ≡ skipped → ((more : List (List ℕ)) → ReadsLines (version_in text) 0 (kept (before ++ line ∷ [])) more
         → Decided text) → Decided text
     decide_next text before left rows line fits are reads true skips go =
         let same : kept (before ++ line ∷ []) ≡ kept before =
         kept-append before (line ∷ []) ∙ ap (λ (l : List (List ℕ)). kept before ++ l) (kept-skip line [] skips)
         ∙ append-nil (kept before) in
-        go rows (subst (λ (l : List (List ℕ)). ReadsLines 0 l rows) (sym same) reads)
+        go rows (subst (λ (l : List (List ℕ)). ReadsLines (version_in text) 0 l rows) (sym same) reads)
     decide_next text before left rows line fits are reads false stays go =
-        elim (decide_line (length (kept before)) line) [
+        elim (decide_line (version_in text) (length (kept before)) line) [
           | inl row ↦
               let zero_plus : length (kept before) ≡ 0 + length (kept before) = omega arith in
-              let here : ReadsLine (0 + length (kept before)) line row.0 =
-              subst (λ (d : ℕ). ReadsLine d line row.0) zero_plus row.1 in
-              let more : ReadsLines 0 (kept before ++ line ∷ []) (rows ++ row.0 ∷ []) =
-              lines_more 0 (kept before) rows line row.0 reads here in
+              let here : ReadsLine (version_in text) (0 + length (kept before)) line row.0 =
+              subst (λ (d : ℕ). ReadsLine (version_in text) d line row.0) zero_plus row.1 in
+              let more : ReadsLines (version_in text) 0 (kept before ++ line ∷ []) (rows ++ row.0 ∷ []) =
+              lines_more (version_in text) 0 (kept before) rows line row.0 reads here in
               go (rows ++ row.0 ∷ [])
-              (subst (λ (l : List (List ℕ)). ReadsLines 0 l (rows ++ row.0 ∷ [])) (sym (kept-parted before [] line stays))
+              (subst (λ (l : List (List ℕ)). ReadsLines (version_in text) 0 l (rows ++ row.0 ∷ [])) (sym (kept-parted before [] line stays))
               more)
           | inr refuses ↦
               inr (
@@ -219,11 +219,11 @@ decide_lines text before (line ∷ left) rows fits are reads =
         ]
 
 -- lines that are read fit
-lines_fit : (due : ℕ) (ls rows : List (List ℕ)) → ReadsLines due ls rows → FitLines due rows
-lines_fit due [] [] reads = tt
-lines_fit due [] (r ∷ rs) reads = absurd reads
-lines_fit due (l ∷ ls) [] reads = absurd reads
-lines_fit due (l ∷ ls) (r ∷ rs) reads = (line_fits due l r reads.0, lines_fit (suc due) ls rs reads.1)
+lines_fit : (v due : ℕ) (ls rows : List (List ℕ)) → ReadsLines v due ls rows → FitLines due rows
+lines_fit v due [] [] reads = tt
+lines_fit v due [] (r ∷ rs) reads = absurd reads
+lines_fit v due (l ∷ ls) [] reads = absurd reads
+lines_fit v due (l ∷ ls) (r ∷ rs) reads = (line_fits v due l r reads.0, lines_fit v (suc due) ls rs reads.1)
 
 pub text_decided : (text : List ℕ) → ((c : Config) × Spells text c) ⊎ ((number : ℕ) × (why : TextWhy) × Refuses text number why)
 text_decided text =
@@ -239,7 +239,7 @@ text_decided text =
                         EndsEarly,
                         inr (inl record {
                           fits = fits;
-                          few = omega (arith, few, lines_count 0 (kept (lines text)) reads.0 reads.1);
+                          few = omega (arith, few, lines_count (version_in text) 0 (kept (lines text)) reads.0 reads.1);
                           rows = reads.0;
                           reads = reads.1;
                           at = refl;
@@ -251,8 +251,9 @@ text_decided text =
                         config_from reads.0,
                         record {
                           fits = fits;
-                          reads = subst (λ (rows : List (List ℕ)). ReadsLines 0 (kept (lines text)) rows)
-                              (sym (config_rows reads.0 (lines_fit 0 (kept (lines text)) reads.0 reads.1) enough)) reads.1;
+                          reads = subst (λ (rows : List (List ℕ)). ReadsLines (version_in text) 0 (kept (lines text)) rows)
+                              (sym (config_rows (version_in text) reads.0 (lines_fit (version_in text) 0 (kept (lines text)) reads.0 reads.1) enough
+                              (first_row (kept (lines text)) reads.0 reads.1 (omega (arith, enough))))) reads.1;
                         },
                       )
                 ]

@@ -111,5 +111,5 @@ fields_fit (f ∷ fs) [] ws spells = absurd spells
 fields_fit (f ∷ fs) (n ∷ ns) [] spells = absurd spells
 fields_fit (f ∷ fs) (n ∷ ns) (w ∷ ws) spells = (value_fits (spelling_of f) n w spells.0, fields_fit fs ns ws spells.1)
 
-pub line_fits : (due : ℕ) (line row : List ℕ) → ReadsLine due line row → FitFields (fields_at due) row
-line_fits due line row reads = fields_fit (fields_at due) row reads.words reads.fields
+pub line_fits : (v due : ℕ) (line row : List ℕ) → ReadsLine v due line row → FitFields (fields_at due) row
+line_fits v due line row reads = fields_fit (fields_at due) row reads.words reads.fields

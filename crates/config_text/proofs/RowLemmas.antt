@@ -16,7 +16,7 @@ use Rattle.plp_config.specs.declared.band.Band.TheVariants.{Mhz1_7, Mhz5, Mhz6, 
 use Rattle.plp_config.specs.declared.config.Config.{Config}
 use Rattle.plp_config.specs.declared.plp.Plp.{Plp}
 use Rattle.plp_config.specs.declared.plp.PlpType.{PlpType}
-use Rattle.plp_config.specs.declared.plp.PlpType.TheVariants.{Type1, Type2}
+use Rattle.plp_config.specs.declared.plp.PlpType.TheVariants.{Common, Type1, Type2}
 use Rattle.plp_config.specs.declared.plp.FecSize.{FecSize}
 use Rattle.plp_config.specs.declared.plp.FecSize.TheVariants.{Short, Normal}
 use Rattle.plp_config.specs.declared.plp.Rate.{Rate}
@@ -49,9 +49,10 @@ band_found Mhz8 = refl
 band_found Mhz10 = refl
 
 abbrev all_types : List PlpType
-all_types = Type1 ∷ Type2 ∷ []
+all_types = Common ∷ Type1 ∷ Type2 ∷ []
 
 type_found : (x : PlpType) → get_or all_types (type_place x) Type1 ≡ x
+type_found Common = refl
 type_found Type1 = refl
 type_found Type2 = refl
 
@@ -125,6 +126,7 @@ plp_from row = record {
   interleave = get_or row 8 0;
   delete = get_or all_deletions (get_or row 9 0) true;
   bits_per_second = get_or row 10 0;
+  spread = get_or row 11 0;
 }
 
 -- a PLP is told by its row
@@ -146,7 +148,7 @@ plps_found (p ∷ ps) = λ i. plp_found p i ∷ plps_found ps i
 -- a row that fits is that of a PLP
 pub plp_put : (row : List ℕ) → FitFields plp_fields row → plp_row (plp_from row) ≡ row
 plp_put row fits =
-    let at : FitFields plp_fields (first_values 11 row) = placed plp_fields row fits in
+    let at : FitFields plp_fields (first_values 12 row) = placed plp_fields row fits in
     let type_is = put type_place all_types Type1 refl (get_or row 1 0) at.1.0 in
     let rate_is = put plp_cod all_rates R1_2 refl (get_or row 3 0) at.1.1.1.0 in
     let modulation_is = put plp_mod all_modulations Qpsk refl (get_or row 4 0) at.1.1.1.1.0 in
@@ -154,7 +156,7 @@ plp_put row fits =
     let bit_is = put bit_place all_bits false refl (get_or row 6 0) at.1.1.1.1.1.1.0 in
     let deletion_is = put deletion_place all_deletions true refl (get_or row 9 0) at.1.1.1.1.1.1.1.1.1.0 in
     (λ i. get_or row 0 0 ∷ type_is i ∷ get_or row 2 0 ∷ rate_is i ∷ modulation_is i ∷ size_is i ∷ bit_is i ∷ get_or row 7 0
-    ∷ get_or row 8 0 ∷ deletion_is i ∷ get_or row 10 0 ∷ [])
+    ∷ get_or row 8 0 ∷ deletion_is i ∷ get_or row 10 0 ∷ get_or row 11 0 ∷ [])
     ∙ row_values plp_fields row fits
 
 -- and rows those of PLPs
@@ -202,27 +204,26 @@ config_from rows = record {
 }
 
 -- a configuration is told by its rows
-config_found : (c : Config) → config_from (rows_of c) ≡ c
-config_found c = λ i. record c { band = band_found c.band i; plps = plps_found c.plps i }
+config_found : (v : ℕ) (c : Config) → config_from (rows_of v c) ≡ c
+config_found v c = λ i. record c { band = band_found c.band i; plps = plps_found c.plps i }
 
 -- two configurations with the same rows are one
-pub config_once : (c d : Config) → rows_of c ≡ rows_of d → c ≡ d
-config_once c d e = sym (config_found c) ∙ ap config_from e ∙ config_found d
+pub config_once : (v : ℕ) (c d : Config) → rows_of v c ≡ rows_of v d → c ≡ d
+config_once v c d e = sym (config_found v c) ∙ ap config_from e ∙ config_found v d
 
 -- rows that fit are those of a configuration
-pub config_rows : (rows : List (List ℕ)) → FitLines 0 rows → 8 ≤ length rows → rows_of (config_from rows) ≡ rows
-config_rows [] fits enough = absurd (omega arith)
-config_rows (r0 ∷ []) fits enough = absurd (omega arith)
-config_rows (r0 ∷ r1 ∷ []) fits enough = absurd (omega arith)
-config_rows (r0 ∷ r1 ∷ r2 ∷ []) fits enough = absurd (omega arith)
-config_rows (r0 ∷ r1 ∷ r2 ∷ r3 ∷ []) fits enough = absurd (omega arith)
-config_rows (r0 ∷ r1 ∷ r2 ∷ r3 ∷ r4 ∷ []) fits enough = absurd (omega arith)
-config_rows (r0 ∷ r1 ∷ r2 ∷ r3 ∷ r4 ∷ r5 ∷ []) fits enough = absurd (omega arith)
-config_rows (r0 ∷ r1 ∷ r2 ∷ r3 ∷ r4 ∷ r5 ∷ r6 ∷ []) fits enough = absurd (omega arith)
-config_rows (r0 ∷ r1 ∷ r2 ∷ r3 ∷ r4 ∷ r5 ∷ r6 ∷ r7 ∷ rest) fits enough =
-    let one : FitFields (Version ∷ []) (first_values 1 r0) = placed (Version ∷ []) r0 fits.0 in
-    let version : 1 ≡ get_or r0 0 0 = omega (arith, one.0) in
-    let version_is : 1 ∷ [] ≡ r0 = ap (λ (n : ℕ). n ∷ []) version ∙ row_values (Version ∷ []) r0 fits.0 in
+pub config_rows : (v : ℕ) (rows : List (List ℕ)) → FitLines 0 rows → 8 ≤ length rows → slice_index_or rows 0 [] ≡ v ∷ []
+    → rows_of v (config_from rows) ≡ rows
+config_rows v [] fits enough version = absurd (omega arith)
+config_rows v (r0 ∷ []) fits enough version = absurd (omega arith)
+config_rows v (r0 ∷ r1 ∷ []) fits enough version = absurd (omega arith)
+config_rows v (r0 ∷ r1 ∷ r2 ∷ []) fits enough version = absurd (omega arith)
+config_rows v (r0 ∷ r1 ∷ r2 ∷ r3 ∷ []) fits enough version = absurd (omega arith)
+config_rows v (r0 ∷ r1 ∷ r2 ∷ r3 ∷ r4 ∷ []) fits enough version = absurd (omega arith)
+config_rows v (r0 ∷ r1 ∷ r2 ∷ r3 ∷ r4 ∷ r5 ∷ []) fits enough version = absurd (omega arith)
+config_rows v (r0 ∷ r1 ∷ r2 ∷ r3 ∷ r4 ∷ r5 ∷ r6 ∷ []) fits enough version = absurd (omega arith)
+config_rows v (r0 ∷ r1 ∷ r2 ∷ r3 ∷ r4 ∷ r5 ∷ r6 ∷ r7 ∷ rest) fits enough version =
+    let version_is : v ∷ [] ≡ r0 = sym version in
     let place : FitFields (Bandwidth ∷ []) (first_values 1 r1) = placed (Bandwidth ∷ []) r1 fits.1.0 in
     let band_is = put bw all_bands Mhz1_7 refl (get_or r1 0 0) place.0 in
     let bands_are : bw (get_or all_bands (get_or r1 0 0) Mhz1_7) ∷ [] ≡ r1 =

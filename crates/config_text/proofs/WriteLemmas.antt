@@ -81,15 +81,15 @@ writes_ends fields values old text i writes end =
 
 -- ---- the rows of a configuration
 
-row_at : (c : Config) (due : ℕ) → 8 ≤ due → due - 8 < length c.plps → get_or (rows_of c) due []
+row_at : (c : Config) (due : ℕ) → 8 ≤ due → due - 8 < length c.plps → get_or (rows_of 2 c) due []
     ≡ plp_row (plp_at c.plps (due - 8))
 row_at c due later inside =
-    get_or-append_right (first_rows c) (map plp_row c.plps) 8 due [] refl later
+    get_or-append_right (first_rows 2 c) (map plp_row c.plps) 8 due [] refl later
     ∙ get_or-map plp_row c.plps (due - 8) no_plp [] inside
 
 pub plp_row_at : (c : Config) (due : ℕ) (plp : Plp) (values : List ℕ) → 8 ≤ due → due - 8 < length c.plps
-    → plp ≡ plp_at c.plps (due - 8) → first_values 11 values ≡ plp_row plp
-    → row_of due values ≡ get_or (rows_of c) due []
+    → plp ≡ plp_at c.plps (due - 8) → first_values 12 values ≡ plp_row plp
+    → row_of due values ≡ get_or (rows_of 2 c) due []
 plp_row_at c due plp values later inside is row =
     row_later due values later ∙ row ∙ ap plp_row is ∙ sym (row_at c due later inside)
 

@@ -1,5 +1,6 @@
 -- The configuration text: which texts spell a configuration, which are refused, and which is written.
-use Rattle.std.specs.Prelude.{◌≡◌, ◌⊎◌, ℕ, suc, ◌+◌, ◌<◌, ◌≤◌, ◌==◌, Bool, true, false, not, List, [], ◌∷◌, ◌++◌, length, drop}
+use Rattle.std.specs.Prelude.{◌≡◌, ◌⊎◌, ℕ, suc, ◌+◌, ◌<◌, ◌≤◌, ◌==◌, ◌&&◌, Bool, true, false, not, List, [], ◌∷◌, ◌++◌, length}
+use Rattle.std.specs.Prelude.{drop, codes, bytes_eq, nat_le, if◌then◌else◌}
 use Rattle.std.specs.Prelude.{filter, slice_index_or, All}
 use Rattle.std.specs.List.{slice_split, flat_map}
 use Rattle.std.specs.Str.Lines.{lines}
@@ -35,35 +36,53 @@ first_lines = 8
 abbrev pub most_lines : ℕ
 most_lines = 263
 
+-- the version that the first of some lines tells by its second word; what is neither is refused
+abbrev pub version_of : List (List ℕ) → ℕ
+version_of [] = 2
+version_of (line ∷ rest) = if bytes_eq (slice_index_or (words_of line) 1 []) (codes "1") then 1 else 2
+
+-- the words that version 1 leaves out at the end of a line: of a PLP the spread, which is 1
+abbrev pub left_out : ℕ → ℕ → List (List ℕ)
+left_out version due = if (version == 1) && nat_le first_lines due then codes "1" ∷ [] else []
+
+-- all words of a line
+abbrev pub full_words : ℕ → ℕ → List ℕ → List (List ℕ)
+full_words version due line = words_of line ++ left_out version due
+
 -- The line that is due behind so many is this one, with these values.
-pub record ReadsLine (due : ℕ) (line values : List ℕ) : Type 0 where
+pub record ReadsLine (version due : ℕ) (line values : List ℕ) : Type 0 where
   pub printable : All IsPrintable line
   pub words : List (List ℕ)
-  pub is : words_of line ≡ key_at due ∷ words
+  pub is : full_words version due line ≡ key_at due ∷ words
   pub fields : SpellsFields (fields_at due) values words
   pub room : due < most_lines
 
 -- The lines are those that are due behind so many, with these values.
-abbrev pub ReadsLines : ℕ → List (List ℕ) → List (List ℕ) → Type 0
-ReadsLines due [] [] = Unit {0}
-ReadsLines due (line ∷ rest) (row ∷ rows) = ReadsLine due line row × ReadsLines (suc due) rest rows
-ReadsLines due ls rows = ⊥
+abbrev pub ReadsLines : ℕ → ℕ → List (List ℕ) → List (List ℕ) → Type 0
+ReadsLines version due [] [] = Unit {0}
+ReadsLines version due (line ∷ rest) (row ∷ rows) = ReadsLine version due line row × ReadsLines version (suc due) rest rows
+ReadsLines version due ls rows = ⊥
 
 -- The line has the key that is due.
-abbrev pub HasKey : ℕ → List ℕ → Type 0
-HasKey due line = slice_index_or (words_of line) 0 [] ≡ key_at due
+abbrev pub HasKey : ℕ → ℕ → List ℕ → Type 0
+HasKey version due line = slice_index_or (full_words version due line) 0 [] ≡ key_at due
 
 -- It has as many words as are due, and is not a PLP too many.
-abbrev pub HasCount : ℕ → List ℕ → Type 0
-HasCount due line = (length (words_of line) ≡ length (fields_at due) + 1) × (due < most_lines)
+abbrev pub HasCount : ℕ → ℕ → List ℕ → Type 0
+HasCount version due line = (length (full_words version due line) ≡ length (fields_at due) + 1) × (due < most_lines)
 
 -- the first refusal of the line that is due behind so many: a byte, the key, the number of words, or a word
-abbrev pub RefusesLine : ℕ → List ℕ → TextWhy → Type 0
-RefusesLine due line why =
+abbrev pub RefusesLine : ℕ → ℕ → List ℕ → TextWhy → Type 0
+RefusesLine version due line why =
     ((All IsPrintable line → ⊥) × (why ≡ NotAscii))
-    ⊎ ((All IsPrintable line × (HasKey due line → ⊥) × (why ≡ WrongKey))
-    ⊎ ((All IsPrintable line × HasKey due line × (HasCount due line → ⊥) × (why ≡ WrongCount))
-    ⊎ (All IsPrintable line × HasKey due line × HasCount due line × FailsFirst (fields_at due) (drop 1 (words_of line)) why)))
+    ⊎ ((All IsPrintable line × (HasKey version due line → ⊥) × (why ≡ WrongKey))
+    ⊎ ((All IsPrintable line × HasKey version due line × (HasCount version due line → ⊥) × (why ≡ WrongCount))
+    ⊎ (All IsPrintable line × HasKey version due line × HasCount version due line
+    × FailsFirst (fields_at due) (drop 1 (full_words version due line)) why)))
+
+-- the version of a text
+abbrev pub version_in : List ℕ → ℕ
+version_in text = version_of (kept (lines text))
 
 -- how many bytes a text has at most
 abbrev pub longest_text : ℕ
@@ -80,7 +99,7 @@ pub record RefusesEnd (text : List ℕ) (number : ℕ) (why : TextWhy) : Type 0 
   pub fits : length text ≤ longest_text
   pub few : length (kept (lines text)) < first_lines
   pub rows : List (List ℕ)
-  pub reads : ReadsLines 0 (kept (lines text)) rows
+  pub reads : ReadsLines (version_in text) 0 (kept (lines text)) rows
   pub at : number ≡ length (lines text) + 1
   pub reason : why ≡ EndsEarly
 
@@ -93,8 +112,8 @@ pub record RefusesAt (text : List ℕ) (number : ℕ) (why : TextWhy) : Type 0 w
   pub are : lines text ≡ before ++ line ∷ after
   pub stays : is_skipped line ≡ false
   pub rows : List (List ℕ)
-  pub reads : ReadsLines 0 (kept before) rows
-  pub refuses : RefusesLine (length (kept before)) line why
+  pub reads : ReadsLines (version_in text) 0 (kept before) rows
+  pub refuses : RefusesLine (version_in text) (length (kept before)) line why
   pub at : number ≡ length before + 1
 
 -- the first refusal of a text, and the number of its line, counted from 1 over all lines
@@ -109,7 +128,7 @@ CausesFault text OutOfMemory = Unit {0}
 -- The text spells the configuration.
 pub record Spells (text : List ℕ) (c : Config) : Type 0 where
   pub fits : length text ≤ longest_text
-  pub reads : ReadsLines 0 (kept (lines text)) (rows_of c)
+  pub reads : ReadsLines (version_in text) 0 (kept (lines text)) (rows_of (version_in text) c)
 
 -- the line that is due behind so many, with these values
 abbrev pub canonical_line : ℕ → List ℕ → List ℕ
@@ -123,6 +142,6 @@ canonical_lines due (row ∷ rows) = canonical_line due row ∷ canonical_lines 
 abbrev pub text_of : List (List ℕ) → List ℕ
 text_of rows = flat_map (λ line. line ++ 10 ∷ []) (canonical_lines 0 rows)
 
--- the text that is written for a configuration
+-- the text that is written for a configuration, of version 2
 unfoldable pub canonical_text : Config → List ℕ
-canonical_text c = text_of (rows_of c)
+canonical_text c = text_of (rows_of 2 c)

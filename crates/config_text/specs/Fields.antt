@@ -12,7 +12,7 @@ abbrev pub bands : List (List ℕ)
 bands = codes "1.7" ∷ codes "5" ∷ codes "6" ∷ codes "7" ∷ codes "8" ∷ codes "10" ∷ []
 
 abbrev pub plp_types : List (List ℕ)
-plp_types = codes "type1" ∷ codes "type2" ∷ []
+plp_types = codes "common" ∷ codes "type1" ∷ codes "type2" ∷ []
 
 abbrev pub rates : List (List ℕ)
 rates = codes "1/2" ∷ codes "3/5" ∷ codes "2/3" ∷ codes "3/4" ∷ codes "4/5" ∷ codes "5/6" ∷ []
@@ -36,7 +36,7 @@ pub data Spelling : Type 0 where
 
 -- the spelling of each kind of field
 abbrev pub spelling_of : Field → Spelling
-spelling_of Version = Number 1 1
+spelling_of Version = Number 1 2
 spelling_of Number8 = Number 0 (2 ^ 8 - 1)
 spelling_of Number16 = Number 0 (2 ^ 16 - 1)
 spelling_of Number32 = Number 0 (2 ^ 32 - 1)
@@ -73,10 +73,10 @@ abbrev pub l1_fields : List Field
 l1_fields = Number8 ∷ Number8 ∷ Number8 ∷ Number8 ∷ Number8 ∷ Number8 ∷ Number8 ∷ Number32 ∷ Number8 ∷ Number8 ∷ Number16
     ∷ Number8 ∷ []
 
--- identifier, type, group, rate, modulation, block size, rotation, blocks, interleaver length, null packets, bit/s
+-- identifier, type, group, rate, modulation, block size, rotation, blocks, interleaver length, null packets, bit/s, spread
 abbrev pub plp_fields : List Field
 plp_fields = Number8 ∷ PlpType ∷ Number8 ∷ CodeRate ∷ Constellation ∷ BlockSize ∷ Bit ∷ Number16 ∷ Number16 ∷ Deletion ∷ Number32
-    ∷ []
+    ∷ Number8 ∷ []
 
 -- the fields of the line that is due behind so many: version, bandwidth, frame, start, PID, network, L1, sub-slices, and PLPs
 abbrev pub fields_at : ℕ → List Field

@@ -5,15 +5,16 @@ use Rattle.plp_config.specs.declared.config.Config.{Config}
 use Rattle.plp_config.specs.declared.config.L1Numbers.{L1Numbers}
 use Rattle.plp_config.specs.declared.plp.Plp.{Plp}
 use Rattle.plp_config.specs.declared.plp.PlpType.{PlpType}
-use Rattle.plp_config.specs.declared.plp.PlpType.TheVariants.{Type1, Type2}
+use Rattle.plp_config.specs.declared.plp.PlpType.TheVariants.{Common, Type1, Type2}
 use Rattle.plp_config.specs.Tables.{bw, plp_cod, plp_mod, plp_fec_type}
 use Rattle.config_text.specs.Fields.{bands}
 
 -- the places of the values in their lists of words; those of bandwidth, rate, constellation and size are bw, PLP_COD, PLP_MOD and
 -- PLP_FEC_TYPE
 abbrev pub type_place : PlpType → ℕ
-type_place Type1 = 0
-type_place Type2 = 1
+type_place Common = 0
+type_place Type1 = 1
+type_place Type2 = 2
 
 abbrev pub bit_place : Bool → ℕ
 bit_place false = 0
@@ -33,7 +34,7 @@ abbrev pub plp_row : Plp → List ℕ
 plp_row p =
     p.id ∷ type_place p.plp_type ∷ p.group ∷ plp_cod p.rate ∷ plp_mod p.modulation ∷ plp_fec_type p.fec ∷ bit_place p.rotation
     ∷ p.blocks ∷ p.interleave
-    ∷ deletion_place p.delete ∷ p.bits_per_second ∷ []
+    ∷ deletion_place p.delete ∷ p.bits_per_second ∷ p.spread ∷ []
 
 -- the configured numbers of L1-pre, in the order of their line
 abbrev pub l1_row : L1Numbers → List ℕ
@@ -41,11 +42,11 @@ l1_row l1 =
     l1.bwt_ext ∷ l1.s2 ∷ l1.guard ∷ l1.papr ∷ l1.l1_mod ∷ l1.l1_cod ∷ l1.l1_fec ∷ l1.post_size ∷ l1.pilot ∷ l1.tx_id ∷ l1.symbols
     ∷ l1.regen ∷ []
 
--- the values of a configuration, line by line
-abbrev pub first_rows : Config → List (List ℕ)
-first_rows c =
-    (1 ∷ []) ∷ (bw c.band ∷ []) ∷ (c.ticks ∷ c.frames ∷ c.cells ∷ []) ∷ (c.seconds ∷ c.subseconds ∷ c.utco ∷ []) ∷ (c.pid ∷ [])
+-- the values of a configuration in a version of the text, line by line
+abbrev pub first_rows : ℕ → Config → List (List ℕ)
+first_rows version c =
+    (version ∷ []) ∷ (bw c.band ∷ []) ∷ (c.ticks ∷ c.frames ∷ c.cells ∷ []) ∷ (c.seconds ∷ c.subseconds ∷ c.utco ∷ []) ∷ (c.pid ∷ [])
     ∷ (c.cell_id ∷ c.network_id ∷ c.system_id ∷ c.frequency ∷ []) ∷ l1_row c.l1 ∷ (c.sub_slices ∷ []) ∷ []
 
-abbrev pub rows_of : Config → List (List ℕ)
-rows_of c = first_rows c ++ map plp_row c.plps
+abbrev pub rows_of : ℕ → Config → List (List ℕ)
+rows_of version c = first_rows version c ++ map plp_row c.plps

@@ -12,6 +12,11 @@ abbrev pub words_in : Option (List ℕ) → List (List ℕ)
 words_in None = []
 words_in (Some rest) = words_of rest
 
+-- the word that is behind them
+abbrev pub last_in : Option (List ℕ) → List (List ℕ)
+last_in None = []
+last_in (Some word) = word ∷ []
+
 -- so many values from a place on
 abbrev pub values_from : ℕ → ℕ → List ℕ → List ℕ
 values_from place zero values = []

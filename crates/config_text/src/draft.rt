@@ -1,5 +1,5 @@
 // A configuration that is filled in, a line at a time.
-ghost use Rattle.std.specs.Prelude.{◌≡◌, ◌<◌, ◌-◌, length, OnOk};
+ghost use Rattle.std.specs.Prelude.{◌≡◌, ℕ, ◌<◌, ◌-◌, ◌∷◌, [], length, OnOk};
 ghost use Rattle.config_text.specs.ConfigText.{first_lines};
 ghost use Rattle.config_text.specs.Fields.{fields_at, frame_fields, start_fields, network_fields, l1_fields, plp_fields};
 ghost use Rattle.config_text.specs.Rows.{type_place, plp_row};
@@ -31,11 +31,12 @@ fn band_of(place: u64) -> Band
 
 // The type of a PLP.
 fn type_of(place: u64) -> PlpType
-    requires { place < 2 }
+    requires { place < 3 }
     ensures { type_place result ≡ place }
 {
     match place {
-        0 => PlpType::Type1,
+        0 => PlpType::Common,
+        1 => PlpType::Type1,
         _ => PlpType::Type2,
     }
 }
@@ -118,7 +119,7 @@ pub fn empty(alloc: Global) -> Config
 fn put_frame(config: &mut Config, values: &Values)
     requires fits { FitFields frame_fields (first_values 3 values.now) }
     requires plps { length config.old.plps ≡ 0 }
-    ensures { Puts 2 (first_values 3 values.now) config.old config.new }
+    ensures { (version : ℕ) → Puts version 2 (first_values 3 values.now) config.old config.new }
 {
     config.ticks = values[0] as u32;
     config.frames = values[1] as u16;
@@ -128,7 +129,7 @@ fn put_frame(config: &mut Config, values: &Values)
 fn put_start(config: &mut Config, values: &Values)
     requires fits { FitFields start_fields (first_values 3 values.now) }
     requires plps { length config.old.plps ≡ 0 }
-    ensures { Puts 3 (first_values 3 values.now) config.old config.new }
+    ensures { (version : ℕ) → Puts version 3 (first_values 3 values.now) config.old config.new }
 {
     config.seconds = values[0];
     config.subseconds = values[1] as u32;
@@ -138,7 +139,7 @@ fn put_start(config: &mut Config, values: &Values)
 fn put_network(config: &mut Config, values: &Values)
     requires fits { FitFields network_fields (first_values 4 values.now) }
     requires plps { length config.old.plps ≡ 0 }
-    ensures { Puts 5 (first_values 4 values.now) config.old config.new }
+    ensures { (version : ℕ) → Puts version 5 (first_values 4 values.now) config.old config.new }
 {
     config.cell_id = values[0] as u16;
     config.network_id = values[1] as u16;
@@ -149,7 +150,7 @@ fn put_network(config: &mut Config, values: &Values)
 fn put_l1(config: &mut Config, values: &Values)
     requires fits { FitFields l1_fields (first_values 12 values.now) }
     requires plps { length config.old.plps ≡ 0 }
-    ensures { Puts 6 (first_values 12 values.now) config.old config.new }
+    ensures { (version : ℕ) → Puts version 6 (first_values 12 values.now) config.old config.new }
 {
     config.l1 = L1Numbers {
         bwt_ext: values[0] as u8,
@@ -168,8 +169,8 @@ fn put_l1(config: &mut Config, values: &Values)
 }
 
 fn plp_of(values: &Values) -> Plp
-    requires { FitFields plp_fields (first_values 11 values.now) }
-    ensures { plp_row result ≡ first_values 11 values.now }
+    requires { FitFields plp_fields (first_values 12 values.now) }
+    ensures { plp_row result ≡ first_values 12 values.now }
 {
     Plp {
         id: values[0] as u8,
@@ -183,6 +184,7 @@ fn plp_of(values: &Values) -> Plp
         interleave: values[8] as u16,
         delete: values[9] == 0,
         bits_per_second: values[10] as u32,
+        spread: values[11] as u8,
     }
 }
 
@@ -190,7 +192,9 @@ fn plp_of(values: &Values) -> Plp
 pub fn put(config: &mut Config, due: usize, values: &Values) -> Result<(), OutOfMemory>
     requires fits { FitFields (fields_at due) (row_of due values.now) }
     requires plps { length config.old.plps ≡ due - first_lines }
-    ensures ok { OnOk result (Puts due (row_of due values.now) config.old config.new) }
+    // the first line tells the version
+    ensures ok { OnOk result ((version : ℕ) → (due ≡ 0 → row_of due values.now ≡ version ∷ [])
+        → Puts version due (row_of due values.now) config.old config.new) }
 {
     match due {
         0 => {}

@@ -16,10 +16,10 @@ pub enum TextWhy {
     #[error("the line must have the words of its key, parted by single spaces, and there are at most 255 plp lines")]
     WrongCount = 3,
     /// A word is none of those that may stand there.
-    #[error("a word must be one of its list: 1.7 5 6 7 8 10, type1 type2, 1/2 3/5 2/3 3/4 4/5 5/6, qpsk 16qam 64qam 256qam, short normal, 0 1, delete keep")]
+    #[error("a word must be one of its list: 1.7 5 6 7 8 10, common type1 type2, 1/2 3/5 2/3 3/4 4/5 5/6, qpsk 16qam 64qam 256qam, short normal, 0 1, delete keep")]
     BadWord = 4,
     /// A number is not written in decimal without sign and leading zeros, or does not fit.
-    #[error("a number must be decimal digits without sign and leading zeros, and fit the bits of its field; the version is 1")]
+    #[error("a number must be decimal digits without sign and leading zeros, and fit the bits of its field; the version is 1 or 2")]
     BadNumber = 5,
     /// The text ends before its `subslices` line.
     #[error("the text must go on to its subslices line")]

@@ -12,7 +12,7 @@ use itoa::Buffer;
 /// What stands at a field.
 #[derive(Clone, Copy, Debug, PartialEq, Eq)]
 pub enum Field {
-    /// The version of the text, 1.
+    /// The version of the text, 1 or 2.
     Version,
     /// A number of 8 bits.
     Number8,
@@ -44,13 +44,13 @@ impl Field {
         ensures { spelling_in result ≡ spelling_of self }
     {
         match self {
-            Field::Version => Number(1, 1),
+            Field::Version => Number(1, 2),
             Field::Number8 => Number(0, 0xFF),
             Field::Number16 => Number(0, 0xFFFF),
             Field::Number32 => Number(0, 0xFFFF_FFFF),
             Field::Number64 => Number(0, 0xFFFF_FFFF_FFFF_FFFF),
             Field::Bandwidth => Word(BANDS),
-            Field::PlpType => Word(&[b"type1", b"type2"]),
+            Field::PlpType => Word(&[b"common", b"type1", b"type2"]),
             Field::CodeRate => Word(&[b"1/2", b"3/5", b"2/3", b"3/4", b"4/5", b"5/6"]),
             Field::Constellation => Word(&[b"qpsk", b"16qam", b"64qam", b"256qam"]),
             Field::BlockSize => Word(&[b"short", b"normal"]),
@@ -138,6 +138,7 @@ pub fn fields_at(due: usize) -> &'static [Field]
             Number16,
             Deletion,
             Number32,
+            Number8,
         ],
     }
 }

@@ -8,13 +8,10 @@ ghost use Rattle.config_text.specs.declared.fault.TextWhy.{TextWhy};
 
 use crate::draft::{empty, put};
 use crate::fault::{TextFault, TextWhy};
-use crate::line::read_line;
+use crate::line::{FIRST_LINES, read_line};
 use crate::lines::Lines;
 use plp_config::Config;
 use std::alloc::Global;
-
-// The lines that stand first, each once.
-const FIRST_LINES: usize = 8;
 
 /// Bytes of a text at most.
 pub const LONGEST_TEXT: usize = 65_536;
@@ -28,17 +25,23 @@ fn is_skipped(line: &[u8]) -> bool
     }
 }
 
-// One more line, which is not skipped.
+// One more line, which is not skipped. The answer is the version of the text, which the first line tells.
 #[tactic(auto, using(crate::proofs::FieldLemmas::line_fits))]
-fn take_line(config: &mut Config, due: usize, number: u32, line: &[u8]) -> Result<(), TextFault>
+fn take_line(
+    config: &mut Config,
+    version: u64,
+    due: usize,
+    number: u32,
+    line: &[u8],
+) -> Result<u64, TextFault>
     requires { length config.old.plps ≡ due - first_lines }
-    ensures ok { OnOk result (Takes due line.now config.old config.new) }
-    ensures err { IfErr result (RefusesDue due line.now number) }
+    ensures ok { IfOk result (Takes version due line.now config.old config.new) }
+    ensures err { IfErr result (RefusesDue version due line.now number) }
 {
-    match read_line(due, line) {
+    match read_line(version, due, line) {
         Ok(values) => {
             put(config, due, &values)?;
-            Ok(())
+            Ok(if due == 0 { values[0] } else { version })
         }
         Err(why) => Err(TextFault::Refused { line: number, why }),
     }
@@ -51,13 +54,14 @@ fn read_lines(alloc: Global, text: &[u8]) -> Result<Config, TextFault>
     ensures err { IfErr result (CausesFault text.now) }
 {
     let mut config = empty(alloc);
+    let mut version = 2;
     let mut due = 0;
     let mut number = 0;
     let mut lines = Lines::of(text);
     while let Some(line) = lines.next() {
         number += 1;
         if !is_skipped(line) {
-            take_line(&mut config, due, number, line)?;
+            version = take_line(&mut config, version, due, number, line)?;
             due += 1;
         }
     }

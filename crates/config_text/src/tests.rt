@@ -1,8 +1,8 @@
 use super::*;
 use plp_config::{Band, Config, FecSize, Modulation, Plp, PlpType, Rate};
 use sample_networks::{
-    REALISTIC_TEXT, SMALL_HEAD, SMALL_L1, SMALL_LINE, SMALL_PLP, SMALL_TEXT, realistic_network,
-    small_network,
+    FIRST_LINE, FIRST_TEXT, REALISTIC_TEXT, SMALL_HEAD, SMALL_L1, SMALL_LINE, SMALL_PLP,
+    SMALL_TEXT, SPREAD_PLP, SPREAD_TEXT, realistic_network, small_network,
 };
 use std::alloc::{AllocError, Global};
 use std::process::Abort;
@@ -86,6 +86,7 @@ fn each_word_has_its_value(rt: HostRuntime) -> Result<(), Fail> {
         interleave: 255,
         delete: false,
         bits_per_second: 72_000_000,
+        spread: 1,
     };
     assert_eq!(rt; config.plps.get(0), Some(&first));
     Ok(())
@@ -119,7 +120,9 @@ fn each_refusal_has_its_line(rt: HostRuntime) -> Result<(), Fail> {
         ("t2-gateway  1\n", 1, TextWhy::WrongCount),
         ("t2-gateway 1 \n", 1, TextWhy::WrongCount),
         ("t2-gateway\n", 1, TextWhy::WrongCount),
-        ("t2-gateway 2\n", 1, TextWhy::BadNumber),
+        ("t2-gateway 0\n", 1, TextWhy::BadNumber),
+        ("t2-gateway 3\n", 1, TextWhy::BadNumber),
+        ("t2-gateway 1 1\n", 1, TextWhy::WrongCount),
         ("t2-gateway 01\n", 1, TextWhy::BadNumber),
         ("t2-gateway +1\n", 1, TextWhy::BadNumber),
         ("t2-gateway 1\n# MHz\nbandwidth 9\n", 3, TextWhy::BadWord),
@@ -143,10 +146,10 @@ fn each_refusal_has_its_line(rt: HostRuntime) -> Result<(), Fail> {
 #[test]
 fn the_first_word_that_fails_is_told(rt: HostRuntime) -> Result<(), Fail> {
     let mut text = String::from_str(rt.alloc(), SMALL_HEAD)?;
-    text.push_str("plp 0 type3 256 1/2 qpsk short 2 4 1 delete 2000000\n")?;
+    text.push_str("plp 0 type3 256 1/2 qpsk short 2 4 1 delete 2000000 1\n")?;
     assert_eq!(rt; fault_of(rt.alloc(), &text), at(9, TextWhy::BadWord));
     let mut text = String::from_str(rt.alloc(), SMALL_HEAD)?;
-    text.push_str("plp 256 type3 1 1/2 qpsk short 0 4 1 delete 2000000\n")?;
+    text.push_str("plp 256 type3 1 1/2 qpsk short 0 4 1 delete 2000000 1\n")?;
     assert_eq!(rt; fault_of(rt.alloc(), &text), at(9, TextWhy::BadNumber));
     Ok(())
 }
@@ -210,7 +213,7 @@ fn networks_are_written(rt: HostRuntime) -> Result<(), Fail> {
 #[test]
 fn a_text_of_two_plps_is_read_and_written_back(rt: HostRuntime) -> Result<(), Fail> {
     let mut text = String::from_str(rt.alloc(), SMALL_TEXT)?;
-    text.push_str("plp 3 type2 2 5/6 256qam normal 1 1023 255 keep 72000000\n")?;
+    text.push_str("plp 3 type2 2 5/6 256qam normal 1 1023 255 keep 72000000 255\n")?;
     let config = read(rt.alloc(), text.as_bytes())?;
     assert_eq!(rt; config.plps.len(), 2);
     let written = write(rt.alloc(), &config)?;
@@ -225,5 +228,46 @@ fn a_number_is_one_word_without_sign_and_leading_zeros(rt: HostRuntime) -> Resul
     for word in wrong {
         assert_eq!(rt; number_within(word, 0, 255), None);
     }
+    Ok(())
+}
+
+#[test]
+fn version_1_has_no_spread(rt: HostRuntime) -> Result<(), Fail> {
+    let config = read(rt.alloc(), FIRST_TEXT.as_bytes())?;
+    is_small(&rt, &config);
+    assert_eq!(rt; config.plps.len(), 1);
+    assert_eq!(rt; config.plps.get(0), Some(&SMALL_PLP));
+    assert_eq!(rt;
+        write(rt.alloc(), &config)?.as_slice(),
+        SMALL_TEXT.as_bytes()
+    );
+    let mut short = String::from_str(rt.alloc(), SMALL_HEAD)?;
+    short.push_str(FIRST_LINE)?;
+    assert_eq!(rt; fault_of(rt.alloc(), &short), at(9, TextWhy::WrongCount));
+    let mut long = String::from_str(rt.alloc(), FIRST_TEXT)?;
+    long.push_str(SMALL_LINE)?;
+    assert_eq!(rt; fault_of(rt.alloc(), &long), at(10, TextWhy::WrongCount));
+    Ok(())
+}
+
+#[test]
+fn a_spread_and_common_plps(rt: HostRuntime) -> Result<(), Fail> {
+    let spread = read(rt.alloc(), SPREAD_TEXT.as_bytes())?;
+    assert_eq!(rt; spread.plps.get(0), Some(&SPREAD_PLP));
+    let common = Plp {
+        id: 9,
+        plp_type: PlpType::Common,
+        blocks: 1,
+        bits_per_second: 500_000,
+        ..SMALL_PLP
+    };
+    let mut text = String::from_str(rt.alloc(), SMALL_HEAD)?;
+    text.push_str("plp 9 common 1 1/2 qpsk short 0 1 1 delete 500000 1\n")?;
+    let config = read(rt.alloc(), text.as_bytes())?;
+    assert_eq!(rt; config.plps.get(0), Some(&common));
+    let mut first = String::from_str(rt.alloc(), FIRST_TEXT)?;
+    first.push_str("plp 9 common 1 1/2 qpsk short 0 1 1 delete 500000\n")?;
+    let config = read(rt.alloc(), first.as_bytes())?;
+    assert_eq!(rt; config.plps.get(1), Some(&common));
     Ok(())
 }

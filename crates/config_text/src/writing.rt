@@ -25,17 +25,18 @@ pub fn band_word(band: Band) -> &'static [u8]
 
 fn type_place(value: PlpType) -> u64
     ensures place { result ≡ type_place value }
-    ensures small { result < 2 }
+    ensures small { result < 3 }
 {
     match value {
-        PlpType::Type1 => 0,
-        PlpType::Type2 => 1,
+        PlpType::Common => 0,
+        PlpType::Type1 => 1,
+        PlpType::Type2 => 2,
     }
 }
 
 fn plp_values(plp: &Plp) -> Values
-    ensures row { first_values 11 result ≡ plp_row plp.now }
-    ensures fits { FitFields plp_fields (first_values 11 result) }
+    ensures row { first_values 12 result ≡ plp_row plp.now }
+    ensures fits { FitFields plp_fields (first_values 12 result) }
 {
     [
         u64::from(plp.id),
@@ -49,7 +50,7 @@ fn plp_values(plp: &Plp) -> Values
         u64::from(plp.interleave),
         u64::from(!plp.delete),
         u64::from(plp.bits_per_second),
-        0,
+        u64::from(plp.spread),
     ]
 }
 
@@ -106,13 +107,13 @@ fn push_line(text: &mut Vec<u8>, due: usize, values: &Values) -> Result<(), OutO
 
 // The values of the line that is due behind so many, and `None` behind the last one.
 fn values_at(config: &Config, due: usize) -> Option<Values>
-    ensures row { IfSome result (λ values. row_of due values ≡ slice_index_or (rows_of config.now) due []) }
+    ensures row { IfSome result (λ values. row_of due values ≡ slice_index_or (rows_of 2 config.now) due []) }
     ensures fits { IfSome result (λ values. FitFields (fields_at due) (row_of due values)) }
-    ensures some { IfSome result (λ values. due < length (rows_of config.now)) }
-    ensures none { IfNone result (length (rows_of config.now) ≤ due) }
+    ensures some { IfSome result (λ values. due < length (rows_of 2 config.now)) }
+    ensures none { IfNone result (length (rows_of 2 config.now) ≤ due) }
 {
     match due {
-        0 => Some([1, 0, 0, 0, 0, 0, 0, 0, 0, 0, 0, 0]),
+        0 => Some([2, 0, 0, 0, 0, 0, 0, 0, 0, 0, 0, 0]),
         1 => Some(few_values(u64::from(config.band.bw()), 0, 0, 0)),
         2 => Some(few_values(
             u64::from(config.ticks),
@@ -139,7 +140,7 @@ fn values_at(config: &Config, due: usize) -> Option<Values>
     }
 }
 
-/// The text of a configuration of at most 255 PLPs: its lines in order, each with LF, and no others.
+/// The text of a configuration of at most 255 PLPs, in version 2: its lines in order, each with LF, and no others.
 pub fn write(alloc: Global, config: &Config) -> Result<Vec<u8>, OutOfMemory>
     requires { length config.now.plps ≤ 255 }
     ensures text { IfOk result (λ text. text.items ≡ canonical_text config.now) }

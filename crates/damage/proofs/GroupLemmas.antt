@@ -1,5 +1,5 @@
 -- The groups of survivors that are near one another are those of their frames.
-use Rattle.std.proofs.Common.{◌≡◌, ℕ, zero, suc, ◌+◌, ◌*◌, ◌/◌, ◌%◌, ◌<◌, ◌≤◌, ◌==◌, Bool, true, false, cond, if◌then◌else◌, List}
+use Rattle.std.proofs.Common.{◌≡◌, ◌≢◌, ℕ, zero, suc, ◌+◌, ◌*◌, ◌/◌, ◌%◌, ◌<◌, ◌≤◌, ◌==◌, Bool, true, false, cond, if◌then◌else◌, List}
 use Rattle.std.proofs.Common.{[], ◌∷◌, ◌++◌, map, length, Option, Some, None, option_map, refl, ap, ap₂, sym, subst, ◌∙◌, ⊎_elim}
 use Rattle.std.proofs.Common.{arith, div-lt_iff_lt-mul, add-mul, mul-le-mul_right}
 use Rattle.std.specs.List.{filter, items_where_true, range_with_len, AllByRecursion}
@@ -385,3 +385,8 @@ steps_met frames count sent survival h =
     subst (StepsIn frames)
     (runs_met frames count None (items_where_true survival sent) o (below_survivors count sent survival h.sent_are.below))
     (steps_runs frames None (items_where_true survival sent) o h.near)
+
+-- packets of which there is a first one
+pub not_empty : (p : Packet) (ps qs : List Packet) → qs ≡ p ∷ ps → qs ≢ []
+not_empty p ps [] e h = absurd cc
+not_empty p ps (q ∷ qs) e h = absurd cc

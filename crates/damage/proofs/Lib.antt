@@ -3,4 +3,5 @@ mod GroupLemmas
 mod WholeLemmas
 mod NearLemmas
 mod RecordLemmas
+mod NumberLemmas
 mod StreamLemmas

@@ -20,7 +20,7 @@ use Rattle.frame_records.specs.Records.{numbers_from}
 use Rattle.damage.specs.SentPackets.{Sent, packets_of, frame_packets, frame_group}
 use Rattle.damage.specs.Survivors.{is_whole, loss_of, sent_content, sent_record, end_of, survivor_records}
 use Rattle.damage.specs.Laws.{Survive, RulesMeet, ModulatedIsRecords}
-use Rattle.damage.proofs.GroupLemmas.{Met, group_as, key_groups, with_sent, frame_runs, some_met, frames_met, order_survivors}
+use Rattle.damage.proofs.GroupLemmas.{not_empty, Met, group_as, key_groups, with_sent, frame_runs, some_met, frames_met, order_survivors}
 use Rattle.damage.proofs.GroupLemmas.{below_survivors, runs_met, groups_are_met, Steps, StepsIn, steps_met}
 use Rattle.damage.proofs.WholeLemmas.{whole_is_all}
 
@@ -85,10 +85,6 @@ end_runs (s ∷ ss) last end e = end_runs ss (Some s) (s.frame + 1) refl ∙ sym
 loss_some : (ps : List Packet) → ps ≢ [] → loss_of ps ≡ PacketMissing
 loss_some [] h = absurd (h refl)
 loss_some (p ∷ ps) h = refl
-
-not_empty : (p : Packet) (ps qs : List Packet) → qs ≡ p ∷ ps → qs ≢ []
-not_empty p ps [] e h = absurd cc
-not_empty p ps (q ∷ qs) e h = absurd cc
 
 -- a fault is no number
 none_with : (n : ℕ) (fault : Option MuteCause) → is_some fault ≡ true → unless_fault n fault ≡ None

@@ -6,6 +6,7 @@ use Rattle.std.proofs.lemmas.List.{length-map}
 use Rattle.std.proofs.lemmas.Simd.{map-map}
 use Rattle.frame_groups.specs.Groups.{groups}
 use Rattle.frame_groups.specs.Modulated.{modulated}
+use Rattle.t2mi_packet.specs.declared.packet.Packet.{Packet}
 use Rattle.t2mi_stream.specs.Laws.{ArePackets, Carry, Survives}
 use Rattle.t2mi_stream.specs.Received.{Fate, fate_of}
 use Rattle.t2mi_stream.specs.Received.Fate.{Kept}
@@ -15,7 +16,9 @@ use Rattle.modulator.specs.Modulating.{packet_of}
 use Rattle.damage.specs.SentPackets.{Sent, AreNear}
 use Rattle.damage.specs.Laws.{Survive, GroupsAreFrames, ModulatedIsRecords, WholeTold, LaterNear}
 use Rattle.damage.specs.Streams.{Stream, IsStream, stream_survival, Honest}
-use Rattle.damage.specs.StreamLaws.{SurvivalLength, ReadAreSurvivors, HonestGroups, HonestRecords, KeptHonest, KeptWhole}
+use Rattle.damage.specs.GroupNumbers.{numbers_behind, GroupsNumbered}
+use Rattle.damage.specs.StreamLaws.{SurvivalLength, ReadAreSurvivors, HonestGroups, HonestNumbers, HonestRecords, KeptHonest}
+use Rattle.damage.specs.StreamLaws.{KeptWhole}
 
 map-items_where_true : {X Y : Type 0} (f : X → Y) (tests : List Bool) (xs : List X) → map f (items_where_true tests xs)
     ≡ items_where_true tests (map f xs)
@@ -52,6 +55,13 @@ pub honest_groups : ReadAreSurvivors → GroupsAreFrames → HonestGroups
 honest_groups read law s from fates is honest =
     ap (groups s.frames) (read s from fates is honest) ∙ law s.frames s.count s.sent (stream_survival s from fates)
     (honest_survive s from fates is honest)
+
+pub honest_numbers : ReadAreSurvivors → GroupsNumbered → HonestNumbers
+honest_numbers read law r s from fates first same is honest joins =
+    ap (λ (ps : List Packet). numbers_behind r None (groups r.frames ps)) (read s from fates is honest)
+    ∙ law r s.count s.sent (stream_survival s from fates) first
+    (subst (λ (frames : ℕ). Survive frames s.count s.sent (stream_survival s from fates)) (sym same)
+    (honest_survive s from fates is honest)) joins
 
 pub honest_records : ReadAreSurvivors → ModulatedIsRecords → HonestRecords
 honest_records read law r s from fates same is honest meet =

@@ -1,5 +1,5 @@
 -- Laws of what is written of a damaged stream.
-use Rattle.std.specs.Prelude.{◌≡◌, ℕ, ◌+◌, ◌<◌, ◌≤◌, true, List, ◌∷◌, ◌++◌, length, drop, slice_get, Some}
+use Rattle.std.specs.Prelude.{◌≡◌, ℕ, ◌+◌, ◌<◌, ◌≤◌, true, List, ◌∷◌, ◌++◌, length, map, drop, slice_get, Some, None}
 use Rattle.frame_groups.specs.Groups.{groups}
 use Rattle.frame_groups.specs.Modulated.{Rules, modulated}
 use Rattle.t2mi_stream.specs.Laws.{Carry}
@@ -10,6 +10,7 @@ use Rattle.t2mi_stream.specs.Survivors.{received_packets, AreKept}
 use Rattle.modulator.specs.Modulating as modulating
 use Rattle.damage.specs.SentPackets.{Sent, packets_of}
 use Rattle.damage.specs.Survivors.{is_whole, groups_met, survivor_records}
+use Rattle.damage.specs.GroupNumbers.{numbers_behind, frames_left, number_from, JoinsAt}
 use Rattle.damage.specs.Laws.{RulesMeet}
 use Rattle.damage.specs.Streams.{Stream, IsStream, stream_survival, stream_survivors, Honest}
 
@@ -34,6 +35,13 @@ HonestRecords = (r : Rules) (s : Stream) (from : ℕ) (fates : List Fate) → r.
     → RulesMeet r s.count s.sent (stream_survival s from fates)
     → modulated r (modulating.packets_of (received_packets s.pid s.packets from fates)) ≡ survivor_records r.network s.sent
     (stream_survival s from fates)
+
+-- Once a group of what is received is the join, with the number of its frame, each later group has the number of its frame.
+abbrev pub HonestNumbers : Type 0
+HonestNumbers = (r : Rules) (s : Stream) (from : ℕ) (fates : List Fate) (first : ℕ) → r.frames ≡ s.frames → IsStream s
+    → Honest s from fates → JoinsAt r (stream_survivors s from fates) first
+    → numbers_behind r None (groups r.frames (modulating.packets_of (received_packets s.pid s.packets from fates)))
+    ≡ map (number_from first) (frames_left s.count (stream_survivors s from fates))
 
 -- A stream of which all units from one on are kept is honest by itself.
 abbrev pub KeptHonest : Type 0

@@ -1,6 +1,7 @@
 // Laws of the definitions. Their functions do nothing.
 ghost use Rattle.damage.specs.Laws.{GroupsAreFrames, ModulatedIsRecords, WholeTold, WholeIsAll, NotWholeMisses, LaterNear};
 ghost use Rattle.damage.specs.Laws.{NearTold};
+ghost use Rattle.damage.specs.GroupNumbers.{GroupsNumbered};
 
 use frame_groups::next_law;
 
@@ -12,6 +13,14 @@ pub fn group_law()
 /// The records of survivors that are near one another are those that must come.
 pub fn record_law()
     ensures { ModulatedIsRecords }
+{
+    next_law();
+}
+
+/// If survivors are near one another, and one of their groups is the join, with the number of its frame, each later group has the
+/// number of its frame.
+pub fn number_law()
+    ensures { GroupsNumbered }
 {
     next_law();
 }

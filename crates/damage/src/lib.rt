@@ -4,5 +4,5 @@
 mod laws;
 mod stream_laws;
 
-pub use laws::{group_law, near_law, record_law, whole_law};
+pub use laws::{group_law, near_law, number_law, record_law, whole_law};
 pub use stream_laws::{honest_law, kept_law};

@@ -1,7 +1,8 @@
 // Laws of streams. Their functions do nothing.
-ghost use Rattle.damage.specs.StreamLaws.{SurvivalLength, ReadAreSurvivors, HonestGroups, HonestRecords, KeptHonest, KeptWhole};
+ghost use Rattle.damage.specs.StreamLaws.{SurvivalLength, ReadAreSurvivors, HonestGroups, HonestNumbers, HonestRecords};
+ghost use Rattle.damage.specs.StreamLaws.{KeptHonest, KeptWhole};
 
-use crate::laws::{group_law, near_law, record_law, whole_law};
+use crate::laws::{group_law, near_law, number_law, record_law, whole_law};
 use t2mi_stream::{survives, survivor_law, undamaged_law};
 
 /// Of each sent packet it is told whether it survives, and what is written of an honest stream is what must come of it.
@@ -9,10 +10,12 @@ pub fn honest_law()
     ensures length { SurvivalLength }
     ensures read { ReadAreSurvivors }
     ensures groups { HonestGroups }
+    ensures numbers { HonestNumbers }
     ensures records { HonestRecords }
 {
     survivor_law();
     group_law();
+    number_law();
     record_law();
 }
 

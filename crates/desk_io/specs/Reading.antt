@@ -43,10 +43,10 @@ pub record TakesNone (old new : State) (was is : Reading) : Type 0 where
 abbrev pub longest_file : ℕ
 longest_file = 2 ^ 40
 
--- Why a file was not read on: it gave too many bytes, and no count changed; or reading failed, while fewer bytes wait than were
--- wanted.
+-- Why a file was not read on: it gave too many bytes, of which no more wait than were wanted, and no count changed; or reading
+-- failed, while fewer bytes wait than were wanted.
 abbrev pub StopsReading : State → State → Reading → ℕ → ReadStop → Type 0
-StopsReading old new is least TooLong = (given_of is ≡ longest_file) × SameCounts old new
+StopsReading old new is least TooLong = (given_of is ≡ longest_file) × (length is.waiting ≤ least) × SameCounts old new
 StopsReading old new is least Fault = (given_of is < longest_file) × (length is.waiting < least) × ReadsFail old new
 
 -- how much may still be taken, with the end counted too

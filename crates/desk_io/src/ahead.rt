@@ -1,6 +1,6 @@
 // A file that is read ahead.
 
-use crate::input::Input;
+use crate::input::{BUFFER, Input};
 use bit_slice::OutOfMemory;
 use ports::Desk;
 use std::alloc::Global;
@@ -98,7 +98,8 @@ impl ReadAhead {
         self.taken += count as u64;
     }
 
-    // Reads on if fewer bytes wait than are wanted, no further than `most` bytes: how many, and 0 only at the end of the file.
+    // Reads on if fewer bytes wait than are wanted, no further than `most` bytes: how many, and 0 only at the end of the file. If
+    // the file is nearly too long, no more is read than is wanted, so that what stands before is looked at first.
     fn read<D: Desk>(&mut self, desk: &mut D, least: usize, most: u64) -> Result<usize, ReadStop>
         requires opened { self.old.handle < length (D.state desk.old).opened }
         requires within { (least ≤ most) × (least ≤ LARGEST) }
@@ -115,7 +116,12 @@ impl ReadAhead {
     {
         let len = self.input.len() as u64;
         let given = self.taken + len;
-        let room = (most - len).min(LONGEST_FILE - given);
+        let ahead = (most - len).min(BUFFER as u64);
+        let room = if given + ahead < LONGEST_FILE {
+            ahead
+        } else {
+            (least as u64 - len).min(LONGEST_FILE - given)
+        };
         let Ok(count) = self.input.read(desk, self.handle, room) else {
             return Err(ReadStop::Fault);
         };

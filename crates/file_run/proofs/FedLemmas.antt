@@ -12,7 +12,7 @@ use Rattle.desk_io.specs.declared.ahead.ReadStop.TheVariants as stop
 use Rattle.file_run.specs.Events.{Event, Fed, Ended, Gave, fed, has_ended, gave}
 use Rattle.file_run.specs.FileRun.{file_at, Stands, HoldsAll, Stops}
 use Rattle.file_run.specs.Running.{Start, reading_at, places_of, Reached, IsRead, Runs, IsTaken, IsMarked, Feeds, read_fault}
-use Rattle.file_run.specs.Steps.{Wants, FallsShort}
+use Rattle.file_run.specs.Steps.{Needs, FallsShort}
 use Rattle.file_run.specs.declared.machine.Step.{Step}
 use Rattle.file_run.specs.declared.machine.Step.TheVariants.{Read}
 use Rattle.file_run.proofs.EventLemmas.{fed_more, ended_more}
@@ -188,10 +188,16 @@ stops_unfed Becomes m reach next b old new readings input least most is out even
       stands = stands_unfed Becomes m reach b old new readings input is out events lt r came on none (let e = s.0 in
           omega (arith, e)) near;
       place = let all = r.reached.all in omega (arith, lt, all);
-      wants = subst (λ (x : Step). Wants x input) (sym wants) refl;
+      wants = subst
+          (λ (x : Step). Needs x input (slice_index (places_of (slice_set readings input is)) input - length (fed input events)))
+          (sym wants) (
+            refl,
+            (let u = untaken readings input (length (fed input events)) is lt (none.taken ∙ r.taken input lt) in let w = s.1 in
+                omega (arith, u, w)),
+          );
       gave = place_at (slice_set readings input is) input (let e = length-set readings input is in omega (arith, e, lt))
           ∙ ap given_of (reading_same readings input is lt) ∙ s.0;
-      counts = s.1 ∙ r.counts;
+      counts = s.2 ∙ r.counts;
     }
 stops_unfed Becomes m reach next b old new readings input least most is out events stop.Fault lt wants r came on none near s = (
   reads_fail b.desk old new r.counts s.2,

@@ -1,16 +1,18 @@
 -- Saying what a machine gives, step by step.
 use Rattle.std.proofs.Common.{◌≡◌, ℕ, ◌+◌, ◌-◌, ◌<◌, ◌≤◌, true, false, List, [], ◌∷◌, ◌++◌, length, Option, Some, None, refl, ap}
 use Rattle.std.proofs.Common.{sym, subst, ◌∙◌, inl, inr, append_assoc, append-nil, arith}
-use Rattle.std.specs.Prelude.{◌⊎◌, IsSome, max, option_map, option_and_then, slice_set, slice_index}
+use Rattle.std.specs.Prelude.{◌⊎◌, IsSome, option_map, option_and_then, slice_set, slice_index}
 use Rattle.std.specs.FinMap.{get}
 use Rattle.terms.proofs.OptionLemmas.{append-none, was_some}
 use Rattle.ports.specs.Desk.{State, Keeps, Says, Opens, left_of, bytes_of}
-use Rattle.desk_io.specs.Reading.{Reading, given_of, rest_of, ReadsOn, TakesNone, longest_file}
+use Rattle.desk_io.specs.Reading.{Reading, given_of, rest_of, ReadsOn, TakesNone}
+use Rattle.desk_io.specs.declared.page.TheConstants.{PAGE}
 use Rattle.file_run.specs.Events.{Event, Gave, fed, has_ended, gave}
 use Rattle.file_run.specs.FileRun.{IsFed}
 use Rattle.file_run.specs.Running.{IsTaken, Feeds, Gathers, reading_from}
-use Rattle.file_run.specs.Telling.{StartsWith, Tells, Reaches}
-use Rattle.file_run.specs.Steps.{FallsShort}
+use Rattle.file_run.specs.Telling.{StartsWith, SaidPages, HadRoom, MayWait, Tells}
+use Rattle.file_run.specs.Steps.{Needs, FallsShort}
+use Rattle.file_run.specs.declared.machine.TheConstants.{PIECE}
 use Rattle.file_run.specs.declared.machine.Step.{Step}
 use Rattle.file_run.specs.declared.machine.Step.TheVariants.{Read, Give}
 use Rattle.std.proofs.lemmas.List.{length_push}
@@ -32,12 +34,39 @@ read_further start was is r s on at opened =
 pub rest_kept : (old new : State) (r : Reading) → new.held ≡ old.held → new.opened ≡ old.opened → rest_of new r ≡ rest_of old r
 rest_kept old new r held opened = rw (held, opened) refl
 
--- a piece went onto the page, and the machine gave then or nothing was said
+-- nothing waits
+pub none_waits : (said : List ℕ) (events : List Event) → MayWait said [] events
+none_waits said events = record { few = omega arith; since = inl refl }
+
+-- the machine was fed since, and gave nothing
+fed_since : (said : List ℕ) (events : List Event) (e : Event) → ((after : List Event) → gave (after ++ e ∷ []) ≡ gave after)
+    → HadRoom said events → HadRoom said (events ++ e ∷ [])
+fed_since said events e none h = record {
+  before = h.before;
+  piece = h.piece;
+  after = h.after ++ e ∷ [];
+  parts = ap (λ (l : List Event). l ++ e ∷ []) h.parts ∙ append_assoc h.before (Gave h.piece ∷ h.after) (e ∷ []);
+  last = none h.after ∙ h.last;
+  waiting = h.waiting;
+  waited = h.waited;
+  room = h.room;
+  pages = h.pages;
+}
+
+still_waits : (said unsaid : List ℕ) (events : List Event) (e : Event)
+    → ((after : List Event) → gave (after ++ e ∷ []) ≡ gave after)
+    → MayWait said unsaid events → MayWait said unsaid (events ++ e ∷ [])
+still_waits said unsaid events e none w = record {
+  few = w.few;
+  since = elim w.since [ inl all ↦ inl all | inr room ↦ inr (fed_since said events e none room) ];
+}
+
+-- a piece went onto the page, for which there was room, and the machine gave then or nothing was said
 grown : {A : Type 0} (Becomes : A → List Event → A → Type 0) (next : A → Step) (begin old new : A) (start now : State)
-    (name : List ℕ) (r : Reading) (waiting left : List ℕ) → Gathers Becomes old new waiting left
-    → (t : Telling (Becomes begin) next start now name old r waiting) → (t.early ≡ []) ⊎ (next t.mid ≡ Give)
-    → Telling (Becomes begin) next start now name new r left
-grown Becomes next begin old new start now name r waiting left g t going =
+    (name : List ℕ) (r : Reading) (waiting left : List ℕ) → Gathers Becomes old new waiting left → length waiting + PIECE ≤ PAGE
+    → length left ≤ PAGE → (t : Telling (Becomes begin) next start now name old r waiting)
+    → (t.early ≡ []) ⊎ (next t.mid ≡ Give) → Telling (Becomes begin) next start now name new r left
+grown Becomes next begin old new start now name r waiting left g room few t going =
     let more = gave_piece g.piece t.events in
     record {
       events = t.events ++ Gave g.piece ∷ [];
@@ -58,6 +87,21 @@ grown Becomes next begin old new start now name r waiting left g t going =
       ended = t.ended ∙ sym (more.ended 0);
       reads = λ h told. read_same _ _ _ _ _ _ _ refl (more.fed 0) (more.ended 0) (t.reads h told);
       first = t.first;
+      waits = record {
+        few = few;
+        since = inr (record {
+          before = t.events;
+          piece = g.piece;
+          after = [];
+          parts = refl;
+          last = refl;
+          waiting = waiting;
+          waited = t.parts;
+          room = room;
+          pages = t.pages;
+        });
+      };
+      pages = t.pages;
     }
 
 -- If nothing waits, all that the machine gave so far is said.
@@ -81,6 +125,8 @@ caught_up Came next machine start now name r t = record {
   ended = t.ended;
   reads = t.reads;
   first = λ h told. let rest = t.reads h told in (rest.left, rest.parts, rest.end);
+  waits = none_waits (gave t.events) t.events;
+  pages = subst (λ (l : List ℕ). SaidPages l) (sym (t.parts ∙ append-nil (gave t.early))) t.pages;
 }
 
 still_going : {A : Type 0} (next : A → Step) (mid : A) (early : List Event) (x : ℕ) (xs : List ℕ) → (x ∷ xs ≡ [])
@@ -89,21 +135,22 @@ still_going next mid early x xs (inl none) = absurd (let e : x ∷ xs ≡ [] = n
 still_going next mid early x xs (inr going) = going
 
 pub page_grown : {A : Type 0} (Becomes : A → List Event → A → Type 0) (next : A → Step) (begin old new : A) (start now : State)
-    (name : List ℕ) (r : Reading) (waiting left : List ℕ) → Gathers Becomes old new waiting left
-    → next old ≡ Give → Telling (Becomes begin) next start now name old r waiting
+    (name : List ℕ) (r : Reading) (waiting left : List ℕ) → Gathers Becomes old new waiting left → length waiting + PIECE ≤ PAGE
+    → length left ≤ PAGE → next old ≡ Give → Telling (Becomes begin) next start now name old r waiting
     → Telling (Becomes begin) next start now name new r left
 unfolding caught_up
-page_grown Becomes next begin old new start now name r [] left g giving t =
-    grown Becomes next begin old new start now name r [] left g (caught_up (Becomes begin) next old start now name r t)
-    (inr giving)
-page_grown Becomes next begin old new start now name r (x ∷ xs) left g giving t =
-    grown Becomes next begin old new start now name r (x ∷ xs) left g t (still_going next t.mid t.early x xs t.going)
+page_grown Becomes next begin old new start now name r [] left g room few giving t =
+    grown Becomes next begin old new start now name r [] left g room few
+    (caught_up (Becomes begin) next old start now name r t) (inr giving)
+page_grown Becomes next begin old new start now name r (x ∷ xs) left g room few giving t =
+    grown Becomes next begin old new start now name r (x ∷ xs) left g room few t
+    (still_going next t.mid t.early x xs t.going)
 
--- All that waited was said.
-unfoldable pub all_said : {A : Type 0} (Came : List Event → A → Type 0) (next : A → Step) (machine : A) (start was is : State)
-    (name : List ℕ) (r : Reading) (waiting : List ℕ) → Says was is waiting
+-- All that waited was said, since there was no room behind it.
+all_said : {A : Type 0} (Came : List Event → A → Type 0) (next : A → Step) (machine : A) (start was is : State)
+    (name : List ℕ) (r : Reading) (waiting : List ℕ) → Says was is waiting → PAGE < length waiting + PIECE
     → Telling Came next start was name machine r waiting → Telling Came next start is name machine r []
-all_said Came next machine start was is name r waiting says t = record {
+all_said Came next machine start was is name r waiting says full t = record {
   events = t.events;
   came = t.came;
   early = t.events;
@@ -122,6 +169,8 @@ all_said Came next machine start was is name r waiting says t = record {
   ended = t.ended;
   reads = λ h told. read_same _ _ _ _ _ _ _ (rest_kept was is r says.held says.opened) refl refl (t.reads h told);
   first = λ h told. let rest = t.reads h told in (rest.left, rest.parts, rest.end);
+  waits = none_waits (gave t.events) t.events;
+  pages = inr (gave t.early, waiting, t.parts, full);
 }
 
 -- Nothing but counts changed.
@@ -141,6 +190,8 @@ telling_kept Came next machine start was is name r page keeps t = record {
   taken = t.taken;
   ended = t.ended;
   first = t.first;
+  waits = t.waits;
+  pages = t.pages;
   said = keeps.said ∙ t.said;
   opened = keeps.opened ∙ t.opened;
   created = keeps.created ∙ t.created;
@@ -152,13 +203,13 @@ telling_kept Came next machine start was is name r page keeps t = record {
 pub room_made : {A : Type 0} (Came : List Event → A → Type 0) (next : A → Step) (machine : A) (start was is : State)
     (name : List ℕ) (r : Reading) (waiting left : List ℕ) → GivesWay was is waiting left
     → Telling Came next start was name machine r waiting → Telling Came next start is name machine r left
-unfolding all_said telling_kept
+unfolding telling_kept
 room_made Came next machine start was is name r waiting left (inl kept) t =
     subst (λ (l : List ℕ). Telling Came next start is name machine r l) (sym kept.1)
     (telling_kept Came next machine start was is name r waiting kept.0 t)
 room_made Came next machine start was is name r waiting left (inr said) t =
     subst (λ (l : List ℕ). Telling Came next start is name machine r l) (sym said.1)
-    (all_said Came next machine start was is name r waiting said.0 t)
+    (all_said Came next machine start was is name r waiting said.0 said.2 t)
 
 -- The machine was fed.
 pub telling_fed : {A : Type 0} (Becomes : A → List Event → A → Type 0) (next : A → Step) (begin old new : A)
@@ -185,6 +236,8 @@ telling_fed Becomes next begin old new start was is name r s input page zero on 
       ended = ended_here f.event 0 f.count _ _ _ _ t.events taken f.marked t.ended;
       reads = λ h told. read_here f.event _ 0 f.count _ _ t.events taken (t.reads h told);
       first = t.first;
+      waits = still_waits (gave t.early) page t.events f.event (λ after. gives_none f.event 0 f.count _ _ after taken) t.waits;
+      pages = t.pages;
     }
 
 -- The file was read on, and the machine was not fed.
@@ -209,6 +262,8 @@ telling_read Came next machine start was is name r s page on none t = record {
   ended = none.ended ∙ t.ended;
   reads = λ h told. read_same _ _ _ _ _ _ _ none.rest refl refl (t.reads h told);
   first = t.first;
+  waits = t.waits;
+  pages = t.pages;
 }
 
 same_left : (o : Option (List ℕ)) → option_map (λ left. [] ++ left) o ≡ o
@@ -246,6 +301,8 @@ telling_first Came next machine old new name handle r page o is none came = reco
         end = λ on. absurd (let z : false ≡ true = on in cc);
       };
   first = λ h told. (bytes_of h.files name, refl, λ on. absurd (let z : false ≡ true = on in cc));
+  waits = record { few = (let n = ap length none in omega (arith, n)); since = inl none };
+  pages = inl refl;
 }
 
 -- what a run has told
@@ -266,6 +323,36 @@ tells_of Came next machine old new name r unsaid t = record {
       is_fed (bytes_of h.files name) r.waiting (fed 0 t.events) (left_of new r.handle) (has_ended 0 t.events) (given_of r)
       (ap (λ (n : ℕ). n + length r.waiting) t.taken) (t.reads h told));
   first = some_is old.held (λ h. StartsWith (bytes_of h.files name) (fed 0 t.early) (has_ended 0 t.early)) t.first;
+  waits = t.waits;
+}
+
+-- what a run has told, and then all that was left
+unfoldable pub tells_all : {A : Type 0} (Came : List Event → A → Type 0) (next : A → Step) (machine : A) (start was is : State)
+    (name : List ℕ) (r : Reading) (page : List ℕ) → Says was is page → Telling Came next start was name machine r page
+    → Tells Came next start is name machine (given_of r) []
+tells_all Came next machine start was is name r page says t = record {
+  events = t.events;
+  came = t.came;
+  early = t.events;
+  mid = machine;
+  met = t.came;
+  parts = sym (append-nil (gave t.events));
+  going = inl refl;
+  said = says.said ∙ ap (option_map (λ said. said ++ page)) t.said ∙ append_twice start.said (gave t.early) page
+      ∙ ap (λ (l : List ℕ). option_map (λ said. said ++ l) start.said) (sym t.parts);
+  opened = record {
+    present = t.present;
+    held = says.held ∙ t.held;
+    opened = says.opened ∙ t.opened;
+    created = says.created ∙ t.created;
+  };
+  inputs = some_is start.held (λ h. IsFed (bytes_of h.files name) (given_of r) (fed 0 t.events) (has_ended 0 t.events))
+      (λ h told.
+      is_fed (bytes_of h.files name) r.waiting (fed 0 t.events) (left_of was r.handle) (has_ended 0 t.events) (given_of r)
+      (ap (λ (n : ℕ). n + length r.waiting) t.taken) (t.reads h told));
+  first = some_is start.held (λ h. StartsWith (bytes_of h.files name) (fed 0 t.events) (has_ended 0 t.events))
+      (λ h told. let rest = t.reads h told in (rest.left, rest.parts, rest.end));
+  waits = none_waits (gave t.events) t.events;
 }
 
 -- the one input
@@ -278,14 +365,10 @@ pub place_within : {A : Type 0} (Came : List Event → A → Type 0) (next : A �
 place_within Came next start now name machine r page t =
     let n = ap length t.opened ∙ length_push start.opened (given_of r) in let h = t.handle in omega (arith, n, h)
 
--- how far a file that gave too many bytes was read
-pub reads_far : {A : Type 0} (next : A → Step) (new old : A) (r s : Reading) (input least most : ℕ) → new ≡ old
-    → next old ≡ Read input least most → input ≡ 0 → s.taken ≡ r.taken → given_of s ≡ longest_file → given_of r < longest_file
-    → ((limit : ℕ) → given_of r ≤ limit → r.taken + most ≤ limit → given_of s ≤ limit) → Reaches (next new) 0 (length s.waiting)
-reads_far next new old r s input least most same wants zero taken long short limit =
-    let top = limit (max (given_of r) (r.taken + most)) (omega arith) (omega arith) in
-    let far : length s.waiting ≤ most = omega (arith, top, long, short, taken) in
-    subst (λ (x : Step). Reaches x 0 (length s.waiting)) (sym (ap next same ∙ wants)) (zero, far)
+pub needs : {A : Type 0} (next : A → Step) (new old : A) (s : Reading) (input least most : ℕ) → new ≡ old
+    → next old ≡ Read input least most → input ≡ 0 → length s.waiting ≤ least → Needs (next new) 0 (length s.waiting)
+needs next new old s input least most same wants zero few =
+    subst (λ (x : Step). Needs x 0 (length s.waiting)) (sym (ap next same ∙ wants)) (zero, few)
 
 pub falls_short : {A : Type 0} (next : A → Step) (new old : A) (s : Reading) (input least most : ℕ) → new ≡ old
     → next old ≡ Read input least most → input ≡ 0 → length s.waiting < least → FallsShort (next new) 0 (length s.waiting)

@@ -3,18 +3,18 @@ use Rattle.std.proofs.Common.{◌≡◌, ◌≢◌, ℕ, ◌-◌, ◌≤◌, Lis
 use Rattle.std.specs.Prelude.{Result, IfErr, OnOk}
 use Rattle.ports.specs.declared.counts.Counts.{Counts}
 use Rattle.ports.specs.Counts.{Rose}
-use Rattle.ports.specs.Desk.{State, SameCounts, Keeps}
+use Rattle.ports.specs.Desk.{State, SameCounts, Keeps, Says}
 use Rattle.desk_io.specs.Faults.{ReadsFail, WritesFail}
 use Rattle.desk_io.specs.Reading.{Reading, given_of, longest_file}
 use Rattle.file_run.specs.Events.{Event, fed}
-use Rattle.file_run.specs.Steps.{FallsShort}
-use Rattle.file_run.specs.Telling.{Reaches, Tells, TellsAll, TellsTooMuch, ReadsFailFirst, StopsTelling}
+use Rattle.file_run.specs.Steps.{Needs, FallsShort}
+use Rattle.file_run.specs.Telling.{Tells, TellsAll, TellsTooMuch, ReadsFailAtLeast, StopsTelling}
 use Rattle.file_run.specs.TellingOn.{Telling, Finishes, Breaks, TellsLast}
 use Rattle.file_run.specs.declared.machine.Step.{Step}
 use Rattle.file_run.specs.declared.stop.RunFault.{RunFault}
 use Rattle.file_run.specs.declared.stop.RunFault.TheVariants.{TooLong, ReadFault, WriteFault}
 use Rattle.file_run.proofs.OpenLemmas.{reads_fail, writes_fail}
-use Rattle.file_run.proofs.TellLemmas.{all_said, telling_kept, tells_of}
+use Rattle.file_run.proofs.TellLemmas.{telling_kept, tells_of, tells_all}
 
 -- counts since the start
 pub finishes_since : {A : Type 0} (next : A → Step) (start old new : State) (machine : A) (r : Reading) → SameCounts start old
@@ -35,7 +35,7 @@ pub told_all : {A T : Type 0} (Came : List Event → A → Type 0) (next : A →
 told_all {A = A} {T = T} Came next start old new name machine r page (Ok u) result t f (inl said) =
     subst (λ (x : Result T RunFault). OnOk x (TellsAll Came next start new name machine)) (sym said.0) (record {
       place = given_of r;
-      tells = tells_of Came next machine start new name r [] (all_said Came next machine start old new name r page said.1.0 t);
+      tells = tells_all Came next machine start old new name r page said.1.0 t;
       end = f.end;
       short = f.short;
       counts = said.1.1 ∙ f.counts;
@@ -79,7 +79,7 @@ lost_last Came next start old new name machine r page t calm few keeps lost some
 )
 
 -- Reading failed, and then what was left was said.
-fails_said : (start old new : State) → ReadsFail start old → SameCounts old new → ReadsFailFirst start new
+fails_said : (start old new : State) → ReadsFail start old → SameCounts old new → ReadsFailAtLeast start new
 fails_said start old new f same =
     let reads : new.counts.reads ≡ old.counts.reads = ap (λ (k : Counts). k.reads) same in
     let writes : new.counts.writes ≡ start.counts.writes = ap (λ (k : Counts). k.writes) same
@@ -92,7 +92,7 @@ fails_said start old new f same =
     }
 
 -- Reading failed, and then saying what was left.
-fails_twice : (start old new : State) → ReadsFail start old → WritesFail old new → ReadsFailFirst start new
+fails_twice : (start old new : State) → ReadsFail start old → WritesFail old new → ReadsFailAtLeast start new
 fails_twice start old new f w =
     let reads : new.counts.reads ≡ old.counts.reads = ap (λ (k : Counts). k.reads) w.others in
     let writes : old.counts.writes ≡ start.counts.writes = ap (λ (k : Counts). k.writes) f.others in
@@ -116,25 +116,26 @@ broke : {A : Type 0} (Came : List Event → A → Type 0) (next : A → Step) (s
 broke Came next start now name machine r page why other b = subst (λ (l : List ℕ). Telling Came next start now name machine r l)
     (b.2 other) b.1
 
-told_at : {A : Type 0} (Came : List Event → A → Type 0) (next : A → Step) (start now : State) (name : List ℕ) (machine : A)
-    (r : Reading) (most : ℕ) → given_of r ≡ most → (t : Telling Came next start now name machine r [])
+told_at : {A : Type 0} (Came : List Event → A → Type 0) (next : A → Step) (start was now : State) (name : List ℕ) (machine : A)
+    (r : Reading) (page : List ℕ) (most : ℕ) → given_of r ≡ most → Says was now page
+    → (t : Telling Came next start was name machine r page)
     → (x : Tells Came next start now name machine most []) × (x.events ≡ t.events)
-unfolding tells_of
-told_at Came next start now name machine r most same t =
+unfolding tells_all
+told_at Came next start was now name machine r page most same says t =
     subst (λ (n : ℕ). (x : Tells Came next start now name machine n []) × (x.events ≡ t.events)) same
-    (tells_of Came next machine start now name r [] t, refl)
+    (tells_all Came next machine start was now name r page says t, refl)
 
 -- a run over a file that is too long
-too_much : {A : Type 0} (Came : List Event → A → Type 0) (next : A → Step) (start now : State) (name : List ℕ) (machine : A)
-    (r : Reading) → given_of r ≡ longest_file → (t : Telling Came next start now name machine r [])
-    → Reaches (next machine) 0 (length r.waiting) → SameCounts start now → TellsTooMuch Came next start now name machine
-unfolding tells_of
-too_much Came next start now name machine r same t wants calm =
+too_much : {A : Type 0} (Came : List Event → A → Type 0) (next : A → Step) (start was now : State) (name : List ℕ) (machine : A)
+    (r : Reading) (page : List ℕ) → given_of r ≡ longest_file → Says was now page
+    → (t : Telling Came next start was name machine r page) → Needs (next machine) 0 (length r.waiting) → SameCounts start now
+    → TellsTooMuch Came next start now name machine
+too_much Came next start was now name machine r page same says t wants calm =
     let told : (x : Tells Came next start now name machine longest_file []) × (x.events ≡ t.events) =
-    told_at Came next start now name machine r longest_file same t in
+    told_at Came next start was now name machine r page longest_file same says t in
     record {
       tells = told.0;
-      wants = subst (λ (n : ℕ). Reaches (next machine) 0 n) (waits Came next start now name machine r [] t
+      wants = subst (λ (n : ℕ). Needs (next machine) 0 n) (waits Came next start was name machine r page t
           ∙ (let e = ap (λ (l : List Event). length (fed 0 l)) told.1 in omega (arith, e, same))) wants;
       counts = calm;
     }
@@ -146,7 +147,7 @@ pub told_fault : {A T : Type 0} (Came : List Event → A → Type 0) (next : A �
     → IfErr told (BrokeOff Came next start old name machine r page) → IfErr told (Breaks next start old machine r)
     → TellsLast old new page told result
     → IfErr result (StopsTelling Came next start new name machine)
-unfolding tells_of all_said telling_kept
+unfolding tells_of tells_all telling_kept
 told_fault {A = A} {T = T} Came next start old new name machine r page (Ok u) result t f broken cause (inl said) =
     subst (stopped Came next start new name machine) (sym said.0) tt
 told_fault {A = A} {T = T} Came next start old new name machine r page (Ok u) result t f broken cause (inr lost) =
@@ -157,8 +158,7 @@ told_fault {A = A} {T = T} Came next start old new name machine r page (Err (Too
     let u = broke Came next start old name machine r page (TooLong input) (λ e. cc) broken in
     subst (stopped Came next start new name machine) (sym said.0) (
       cause.0,
-      too_much Came next start new name machine r cause.1 (all_said Came next machine start old new name r page said.1.0 u)
-          cause.2 (said.1.1 ∙ cause.3),
+      too_much Came next start old new name machine r page cause.1 said.1.0 u cause.2 (said.1.1 ∙ cause.3),
     )
 told_fault {A = A} {T = T} Came next start old new name machine r page (Err (TooLong input)) result t f broken cause (inr lost) =
     let u = broke Came next start old name machine r page (TooLong input) (λ e. cc) broken in
@@ -175,8 +175,7 @@ told_fault {A = A} {T = T} Came next start old new name machine r page (Err (Rea
           record {
             place = given_of r;
             unsaid = [];
-            tells = tells_of Came next machine start new name r []
-                (all_said Came next machine start old new name r page said.0 u);
+            tells = tells_all Came next machine start old new name r page said.0 u;
             wants = subst (λ (n : ℕ). FallsShort (next machine) 0 n) (waits Came next start old name machine r page u) cause.2;
             short = cause.1;
             all = inl (refl, ap (λ (k : Counts). k.writes) said.1 ∙ ap (λ (k : Counts). k.writes) cause.3.others);
@@ -191,7 +190,10 @@ told_fault {A = A} {T = T} Came next start old new name machine r page (Err (Rea
                 (telling_kept Came next machine start old new name r page lost.0 u);
             wants = subst (λ (n : ℕ). FallsShort (next machine) 0 n) (waits Came next start old name machine r page u) cause.2;
             short = cause.1;
-            all = inr (subst (λ (n : ℕ). Rose n new.counts.writes) (ap (λ (k : Counts). k.writes) cause.3.others) lost.1.rose);
+            all = inr (
+              lost.2,
+              subst (λ (n : ℕ). Rose n new.counts.writes) (ap (λ (k : Counts). k.writes) cause.3.others) lost.1.rose,
+            );
           },
         )
       ]),

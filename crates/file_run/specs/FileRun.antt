@@ -6,7 +6,7 @@ use Rattle.ports.specs.Desk.{State, Held, SameCounts, bytes_of}
 use Rattle.desk_io.specs.Faults.{ReadsFail, WritesFail}
 use Rattle.desk_io.specs.Reading.{longest_file}
 use Rattle.file_run.specs.Events.{Event, fed, has_ended, gave, OnlyGave}
-use Rattle.file_run.specs.Steps.{Wants, FallsShort}
+use Rattle.file_run.specs.Steps.{Needs, FallsShort}
 use Rattle.file_run.specs.declared.machine.Step.{Step}
 use Rattle.file_run.specs.declared.machine.Step.TheVariants.{Give}
 use Rattle.file_run.specs.declared.stop.RunFault.{RunFault}
@@ -117,12 +117,13 @@ pub record RunsAll (old new : State) (out : List ℕ) (ins : List (List ℕ)) (r
   pub short : AllShort stands.places
   pub counts : SameCounts old new
 
--- An input, of which the machine wants more, gave as many bytes as no file may have.
+-- An input gave as many bytes as no file may have. What the machine had not taken of them is no more than it wanted, and it never
+-- looked at that.
 pub record GivesTooMuch (old new : State) (out : List ℕ) (ins : List (List ℕ)) (reach : ℕ → ℕ) (next : Step)
     (Came : List Event → Type 0) (input : ℕ) : Type 0 where
   pub stands : Stands old new out ins reach Came HoldsAll
   pub place : input < length ins
-  pub wants : Wants next input
+  pub wants : Needs next input (slice_index stands.places input - length (fed input stands.events))
   pub gave : slice_index stands.places input ≡ longest_file
   pub counts : SameCounts old new
 

@@ -6,12 +6,6 @@ use Rattle.file_run.specs.Events.{Event, fed, has_ended}
 use Rattle.file_run.specs.declared.machine.Step.{Step}
 use Rattle.file_run.specs.declared.machine.Step.TheVariants.{Read, Give, End}
 
--- It wants bytes of this input.
-abbrev pub Wants : Step → ℕ → Type 0
-Wants (Read of least most) input = of ≡ input
-Wants Give input = ⊥
-Wants End input = ⊥
-
 -- It wants bytes of this input, and so many are enough.
 abbrev pub Suffices : Step → ℕ → ℕ → Type 0
 Suffices (Read of least most) input count = (of ≡ input) × (least ≤ count)
@@ -23,6 +17,12 @@ abbrev pub FallsShort : Step → ℕ → ℕ → Type 0
 FallsShort (Read of least most) input count = (of ≡ input) × (count < least)
 FallsShort Give input count = ⊥
 FallsShort End input count = ⊥
+
+-- It wants bytes of this input, and no fewer than so many.
+abbrev pub Needs : Step → ℕ → ℕ → Type 0
+Needs (Read of least most) input count = (of ≡ input) × (count ≤ least)
+Needs Give input count = ⊥
+Needs End input count = ⊥
 
 -- What is wanted is of an input that did not end, at least one byte, and no further than is the reach.
 pub record CanBeRead (inputs : ℕ) (events : List Event) (reach : ℕ → ℕ) (input least most : ℕ) : Type 0 where

@@ -1,21 +1,25 @@
 -- How far a run has come that says what its machine gives. No public clause cites this module.
-use Rattle.std.specs.Prelude.{◌≡◌, ◌≢◌, ◌⊎◌, ℕ, ◌<◌, List, [], ◌∷◌, ◌++◌, length, IsSome, IfSome, Some, option_map, Result, Err}
+use Rattle.std.specs.Prelude.{◌≡◌, ◌≢◌, ◌⊎◌, ℕ, ◌+◌, ◌<◌, List, [], ◌∷◌, ◌++◌, length, IsSome, IfSome, Some, option_map}
+use Rattle.std.specs.Prelude.{Result, Err}
 use Rattle.std.specs.FinMap.{get}
 use Rattle.ports.specs.Desk.{State, Held, SameCounts, Keeps, Says, bytes_of, with_name}
 use Rattle.desk_io.specs.Faults.{ReadsFail, WritesFail}
 use Rattle.desk_io.specs.Reading.{Reading, given_of, rest_of, longest_file}
+use Rattle.desk_io.specs.declared.page.TheConstants.{PAGE}
 use Rattle.file_run.specs.Events.{Event, fed, has_ended, gave}
 use Rattle.file_run.specs.Running.{IsRead}
-use Rattle.file_run.specs.Telling.{StartsWith, Reaches}
+use Rattle.file_run.specs.Telling.{StartsWith, SaidPages, MayWait}
+use Rattle.file_run.specs.declared.machine.TheConstants.{PIECE}
 use Rattle.file_run.specs.declared.machine.Step.{Step}
 use Rattle.file_run.specs.declared.machine.Step.TheVariants.{Give, End}
 use Rattle.file_run.specs.declared.stop.RunFault.{RunFault}
 use Rattle.file_run.specs.declared.stop.RunFault.TheVariants.{TooLong, ReadFault, WriteFault}
-use Rattle.file_run.specs.Steps.{FallsShort}
+use Rattle.file_run.specs.Steps.{Needs, FallsShort}
 
--- All that waited, or nothing, was said.
+-- Nothing was said, or all that waited, since there was no room behind it.
 abbrev pub GivesWay : State → State → List ℕ → List ℕ → Type 0
-GivesWay old new waiting left = (Keeps old new × (left ≡ waiting)) ⊎ (Says old new waiting × (left ≡ []))
+GivesWay old new waiting left = (Keeps old new × (left ≡ waiting))
+    ⊎ (Says old new waiting × (left ≡ []) × (PAGE < length waiting + PIECE))
 
 -- A file was opened and read by a reader, its bytes were fed to a machine, and of what it gave these bytes were not said.
 pub record Telling {A : Type 0} (Came : List Event → A → Type 0) (next : A → Step) (start now : State) (name : List ℕ)
@@ -38,6 +42,8 @@ pub record Telling {A : Type 0} (Came : List Event → A → Type 0) (next : A �
   pub reads : (h : Held) → start.held ≡ Some h → IsRead (bytes_of h.files name) (rest_of now r) (fed 0 events)
       (has_ended 0 events)
   pub first : (h : Held) → start.held ≡ Some h → StartsWith (bytes_of h.files name) (fed 0 early) (has_ended 0 early)
+  pub waits : MayWait (gave early) unsaid events
+  pub pages : SaidPages (gave early)
 
 -- A run was begun in which no call failed.
 pub record HasBegun {A : Type 0} (Becomes : A → List Event → A → Type 0) (next : A → Step) (inputs : A → ℕ) (now : State)
@@ -58,7 +64,7 @@ pub record Finishes {A : Type 0} (next : A → Step) (old new : State) (machine 
 -- The machine has not come to its end, or not all that it gave could be said, by cause.
 abbrev pub Breaks : {A : Type 0} → (A → Step) → State → State → A → Reading → RunFault → Type 0
 Breaks next old new machine r (TooLong input) = (input ≡ 0) × (given_of r ≡ longest_file)
-    × Reaches (next machine) 0 (length r.waiting) × SameCounts old new
+    × Needs (next machine) 0 (length r.waiting) × SameCounts old new
 Breaks next old new machine r (ReadFault input) = (input ≡ 0) × (given_of r < longest_file)
     × FallsShort (next machine) 0 (length r.waiting) × ReadsFail old new
 Breaks next old new machine r WriteFault = (given_of r < longest_file) × WritesFail old new

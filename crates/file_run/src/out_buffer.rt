@@ -85,6 +85,7 @@ impl OutBuffer {
         requires gives { M.next machine.old ≡ Give }
         requires room { length self.old + PIECE ≤ PAGE }
         ensures gathers { Gathers M.Becomes machine.old machine.new self.old self.new }
+        ensures few { length self.new ≤ PAGE }
         ensures left { M.left machine.new < M.left machine.old }
         ensures reach { (other : ℕ) → M.reach machine.old other ≤ M.reach machine.new other }
     {

@@ -13,7 +13,7 @@ pub use cause::MuteCause;
 pub use group::OpenGroup;
 pub use key::{Key, goes_on, is_counted, key_behind};
 pub use laws::{due_law, front_law, groups_law, next_law, numbers_law};
-pub use number::{SUPERFRAME_PERIOD, next_number};
+pub use number::next_number;
 pub use sequence::Sequence;
 pub use waiting::{Progress, Waiting};
 

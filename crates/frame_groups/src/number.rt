@@ -4,9 +4,7 @@ ghost use Rattle.frame_groups.specs.Numbers.{superframe_period, IsKey, next_numb
 
 use crate::key::Key;
 use crate::laws::next_law;
-
-/// How many superframes there are until superframe_idx comes again (TS 102 773, clause 5.1).
-pub const SUPERFRAME_PERIOD: u64 = 16;
+use plp_config::SUPERFRAME_PERIOD;
 
 /// The least number above another whose frame has a key, if a superframe has so many frames.
 pub fn next_number(frames: u8, number: u64, key: Key) -> u64

@@ -1,24 +1,27 @@
 -- The frames of a plan fit a record.
-use Rattle.std.proofs.Common.{◌≡◌, ℕ, zero, suc, ◌+◌, ◌-◌, ◌*◌, ◌^◌, ◌<◌, ◌≤◌, ◌%◌, ◌==◌, ◌&&◌, Bool, true, false, cond, Option}
-use Rattle.std.proofs.Common.{Some, None, List, [], ◌∷◌, length, refl, sym, ap, ap₂, subst, ◌∙◌, arith, lit≤}
+use Rattle.std.proofs.Common.{◌≡◌, ℕ, zero, suc, ◌+◌, ◌-◌, ◌*◌, ◌/◌, ◌^◌, ◌<◌, ◌≤◌, ◌%◌, ◌==◌, ◌&&◌, Bool, true, false, cond}
+use Rattle.std.proofs.Common.{Option, Some, None, List, [], ◌∷◌, length, refl, sym, ap, ap₂, subst, ◌∙◌, arith, lit≤}
 use Rattle.std.specs.Prelude.{map, find, min, sum, sum_by, slice_index}
 use Rattle.std.specs.List.{flat_map, range_with_len, AllByRecursion}
 use Rattle.std.specs.FinMap.{get}
+use Rattle.std.specs.Int.{div_ceil}
 use Rattle.std.proofs.Math.Nat.{mul-le-mul}
 use Rattle.std.proofs.lemmas.List.{length-append, length-map}
 use Rattle.std.proofs.lemmas.List.FromFn.{get_or-map-range_with_len, length-map-range_with_len}
 use Rattle.std.proofs.lemmas.List.Sums.{sum-map, sum_by-cons}
+use Rattle.terms.specs.Bits.{bytes_for}
 use Rattle.terms.proofs.BitLemmas.{length-field}
-use Rattle.plp_config.specs.Capacity.{IsPlan, CellCount, CellAddresses, block_bytes, block_cells, field_bytes, capacity}
-use Rattle.plp_config.specs.Capacity.{cell_need}
+use Rattle.plp_config.specs.Capacity.{IsPlan, CellAddresses, RecordLength, block_bytes, field_bytes, capacity, block_room}
+use Rattle.plp_config.specs.Capacity.{longest_rest}
 use Rattle.plp_config.specs.Emission.{emission}
-use Rattle.plp_config.specs.Laws.{EmissionFits, FieldRange, CellsByFive, SlotLength}
+use Rattle.plp_config.specs.Laws.{EmissionFits, FieldRange, SlotLength}
 use Rattle.plp_config.specs.Places.{places}
 use Rattle.plp_config.specs.Plps.{plp_at}
 use Rattle.plp_config.specs.Rules.{PlpCount}
-use Rattle.plp_config.specs.SlotTime.{slots_by}
-use Rattle.plp_config.specs.Tables.{cells_per_block}
+use Rattle.plp_config.specs.SlotTime.{slots_by, epoch_ticks}
+use Rattle.plp_config.specs.Tables.{info_bits}
 use Rattle.plp_config.specs.declared.config.Config.{Config}
+use Rattle.plp_config.specs.declared.config.TheConstants.{GREATEST_REST}
 use Rattle.plp_config.specs.declared.plp.Plp.{Plp}
 use Rattle.scheduler.specs.Laws.{CountsFit, ShapeHasCounts}
 use Rattle.cell_map.specs.CellMap.{cell_map}
@@ -27,20 +30,22 @@ use Rattle.cell_map.specs.declared.places.Cell.{Cell}
 use Rattle.l1_signal.specs.L1Of.{pre_of, post_bits}
 use Rattle.l1_signal.specs.L1Pre.{pre_bits}
 use Rattle.l1_signal.specs.Laws.{PreBitsLength, PostLength}
+use Rattle.l1_signal.specs.Lengths.{post_len}
 use Rattle.mode_adapt.specs.Blocks.{block_bits, block_places, plp_keeps, rates_of, plp_blocks}
 use Rattle.mode_adapt.specs.Laws.{CountLaw}
 use Rattle.mode_adapt.specs.Queue.{sent, sent_before}
 use Rattle.null_delete.specs.Deletion.{packet_at}
 use Rattle.site_frame.specs.Record.{Block, FitsBlock, FitsCell}
-use Rattle.site_frame.specs.Whole.{FitsRecord, block_size}
+use Rattle.site_frame.specs.Whole.{FitsRecord}
 use Rattle.frame_records.specs.Frames.{frame_shape, sent_block, sent_blocks, frame_cells, l1_pre, frame_of, HasByteIds}
-use Rattle.frame_records.specs.Laws.{IsSentBlock, FewBlocks, EveryFrameFits, MutedFits, FrameFits, RecordsFit}
+use Rattle.frame_records.specs.Laws.{IsSentBlock, blocks_size, FewBlocks, EveryFrameFits, MutedFits, FrameFits}
+use Rattle.frame_records.specs.Laws.{RecordsFit}
 use Rattle.frame_records.specs.Records.{numbers_from, record_of}
 use Rattle.frame_records.proofs.RecordLemmas.{found}
 use Rattle.site_frame.specs.declared.reading.RecordView.{RecordView}
 use Rattle.site_frame.specs.declared.reading.RecordView.TheVariants.{Muted}
 use Rattle.mode_adapt.proofs.FitsLemmas.{length-block}
-use Rattle.frame_records.proofs.FrameLemmas.{block_len, cells_count}
+use Rattle.frame_records.proofs.FrameLemmas.{block_len, cells_count, length-blocks}
 use Rattle.terms.proofs.AllLemmas.{all_append, all_map}
 use Rattle.bb_frame.specs.Laws.{BitCounts}
 
@@ -63,11 +68,11 @@ count_le slot field law c inputs n plp is lt =
     let at : ℕ → List ℕ = packet_at (inputs plp) in
     let s = slot c plp is.rules lt in
     let f = field c plp in
-    let most = law (rates_of c plp c.ticks) (plp_keeps c plp at) (field_bytes c plp) (plp_at c.plps plp).blocks n
+    let most = law (rates_of c plp (epoch_ticks c plp)) (plp_keeps c plp at) (field_bytes c plp) (plp_at c.plps plp).blocks n
     (omega (arith, s)) (omega (arith, f.0)) refl in
     let len : counts c inputs n plp
-    ≡ length (block_places (field_bytes c plp) (sent_before (rates_of c plp c.ticks) (plp_keeps c plp at) n)
-    (sent (rates_of c plp c.ticks) (plp_keeps c plp at) n)) = length-map _ _ in
+    ≡ length (block_places (field_bytes c plp) (sent_before (rates_of c plp (epoch_ticks c plp)) (plp_keeps c plp at) n)
+    (sent (rates_of c plp (epoch_ticks c plp)) (plp_keeps c plp at) n)) = length-map _ _ in
     omega (arith, most, len)
 
 pub counts_fit : SlotLength → FieldRange → CountLaw → (c : Config) (inputs : ℕ → List (List ℕ)) (n : ℕ) → IsPlan c
@@ -80,42 +85,66 @@ counts_fit slot field law c inputs n is = record {
       omega (arith, here, count_le slot field law c inputs n plp is lt);
 }
 
--- the cells of so many blocks are as many as those of a configuration at most
-cells_le : CellsByFive → (c : Config) (counts : List ℕ) (plps : List Plp) (from : ℕ) → length counts ≡ length plps
+-- no block has fewer than 883 bytes with its head, and so many are no more than those of the PLPs
+few_for : FieldRange → (c : Config) (counts : List ℕ) (plps : List Plp) (from : ℕ) → length counts ≡ length plps
     → ((i : ℕ) → i < length plps → plp_at plps i ≡ plp_at c.plps (from + i))
     → ((i : ℕ) → i < length plps → slice_index counts i ≤ (plp_at plps i).blocks)
-    → 2025 * sum counts ≤ sum_by (λ plp. plp.blocks * cells_per_block plp.fec plp.modulation) plps
-unfolding block_cells
-cells_le five c [] [] from len at each = omega arith
-cells_le five c [] (p ∷ plps) from len at each = absurd (omega (arith, len))
-cells_le five c (n ∷ counts) [] from len at each = absurd (omega (arith, len))
-cells_le five c (n ∷ counts) (p ∷ plps) from len at each =
+    → 883 * sum counts ≤ sum_by block_room plps
+unfolding block_bytes
+few_for field c [] [] from len at each = omega arith
+few_for field c [] (p ∷ plps) from len at each = absurd (omega (arith, len))
+few_for field c (n ∷ counts) [] from len at each = absurd (omega (arith, len))
+few_for field c (n ∷ counts) (p ∷ plps) from len at each =
     let first : n ≤ p.blocks = each 0 (omega arith) in
     let same : from ≡ from + 0 = omega arith in
     let is : p ≡ plp_at c.plps from = at 0 (omega arith) ∙ ap (plp_at c.plps) (sym same) in
-    let cells : 2025 ≤ cells_per_block p.fec p.modulation = subst (λ (q : Plp). 2025 ≤ cells_per_block q.fec q.modulation)
-    (sym is) (five c from).1 in
-    let both : n * 2025 ≤ p.blocks * cells_per_block p.fec p.modulation = mul-le-mul first cells in
-    let more = cells_le five c counts plps (from + 1) (omega (arith, len))
+    let f = field c from in
+    let wide : 883 ≤ 4 + block_bytes c from = omega (arith, f) in
+    let bytes : 883 ≤ 4 + info_bits p.fec p.rate / 8 = subst (λ (q : Plp). 883 ≤ 4 + info_bits q.fec q.rate / 8) (sym is) wide in
+    let both : n * 883 ≤ block_room p = mul-le-mul first bytes in
+    let more = few_for field c counts plps (from + 1) (omega (arith, len))
     (λ i lt. let e : from + suc i ≡ from + 1 + i = omega arith in at (suc i) (omega (arith, lt)) ∙ ap (plp_at c.plps) e)
     (λ i lt. each (suc i) (omega (arith, lt))) in
-    omega (
-      arith,
-      both,
-      more,
-      sum_by-cons (λ x. x) n counts,
-      sum_by-cons (λ plp. plp.blocks * cells_per_block plp.fec plp.modulation) p plps,
-    )
+    omega (arith, both, more, sum_by-cons (λ x. x) n counts, sum_by-cons block_room p plps)
 
--- a frame has 2071 blocks at most
-pub few_blocks : CellsByFive → FewBlocks
-unfolding cell_need
-few_blocks five c shape is len passes =
-    let cells = cells_le five c shape.counts c.plps 0 len (λ i lt. let e : i ≡ 0 + i = omega arith in
+-- so many blocks of the PLPs from one on have no more bytes than all that these may have
+room_from : (c : Config) (count : ℕ → ℕ) (plps : List Plp) (from : ℕ)
+    → ((i : ℕ) → i < length plps → plp_at plps i ≡ plp_at c.plps (from + i))
+    → ((i : ℕ) → i < length plps → count (from + i) ≤ (plp_at plps i).blocks)
+    → sum_by (λ plp. count plp * (4 + block_bytes c plp)) (range_with_len from (length plps)) ≤ sum_by block_room plps
+unfolding block_bytes
+room_from c count [] from at each = omega arith
+room_from c count (p ∷ plps) from at each =
+    let same : from ≡ from + 0 = omega arith in
+    let is : p ≡ plp_at c.plps from = at 0 (omega arith) ∙ ap (plp_at c.plps) (sym same) in
+    let few : count from ≤ p.blocks = subst (λ (k : ℕ). count k ≤ p.blocks) (sym same) (each 0 (omega arith)) in
+    let size : 4 + block_bytes c from ≡ 4 + info_bits p.fec p.rate / 8 =
+    ap (λ (q : Plp). 4 + info_bits q.fec q.rate / 8) (sym is) in
+    let here : count from * (4 + block_bytes c from) ≤ block_room p = mul-le-mul few (omega (arith, size)) in
+    let more = room_from c count plps (from + 1)
+    (λ i lt. let e : from + suc i ≡ from + 1 + i = omega arith in at (suc i) (omega (arith, lt)) ∙ ap (plp_at c.plps) e)
+    (λ i lt. let e : from + suc i ≡ from + 1 + i = omega arith in
+    subst (λ (k : ℕ). count k ≤ (plp_at plps i).blocks) e (each (suc i) (omega (arith, lt)))) in
+    let tail : List ℕ = range_with_len (from + 1) (length plps) in
+    let front = sum_by-cons (λ (plp : ℕ). count plp * (4 + block_bytes c plp)) from tail in
+    omega (arith, here, more, front, sum_by-cons block_room p plps)
+
+-- and so have those of all
+pub room_for_all : (c : Config) (count : ℕ → ℕ) → ((plp : ℕ) → plp < length c.plps → count plp ≤ (plp_at c.plps plp).blocks)
+    → blocks_size c count ≤ sum_by block_room c.plps
+room_for_all c count few =
+    room_from c count c.plps 0 (λ i lt. let e : i ≡ 0 + i = omega arith in ap (plp_at c.plps) e)
+    (λ i lt. let e : i ≡ 0 + i = omega arith in subst (λ (k : ℕ). count k ≤ (plp_at c.plps i).blocks) e (few i lt))
+
+-- a frame has 38,000 blocks at most
+pub few_blocks : FieldRange → FewBlocks
+unfolding longest_rest
+few_blocks field c shape is len passes =
+    let blocks = few_for field c shape.counts c.plps 0 len (λ i lt. let e : i ≡ 0 + i = omega arith in
     ap (plp_at c.plps) e) passes.counts in
-    let need : cell_need c ≤ c.cells = is.tests CellCount in
-    let most : c.cells ≤ 4194303 = is.tests CellAddresses in
-    omega (arith, cells, need, most)
+    let rest : 35 + div_ceil (post_len (length c.plps)) 8 + 4 * c.cells + sum_by block_room c.plps ≤ GREATEST_REST =
+    is.tests RecordLength in
+    omega (arith, blocks, rest)
 
 -- the blocks of all PLPs
 all_blocks : (c : Config) (inputs : ℕ → List (List ℕ)) (n : ℕ) (plps : List ℕ)
@@ -142,9 +171,9 @@ plp_blocks_are_sent : BitCounts → FieldRange → (c : Config) (inputs : ℕ �
     < 2 ^ 8 → AllByRecursion IsSentBlock (map (sent_block c plp) (plp_blocks c inputs n plp))
 plp_blocks_are_sent numbers law c inputs n plp id =
     let at : ℕ → List ℕ = packet_at (inputs plp) in
-    let begin : ℕ = sent_before (rates_of c plp c.ticks) (plp_keeps c plp at) n in
-    let end : ℕ = sent (rates_of c plp c.ticks) (plp_keeps c plp at) n in
-    let slots : ℕ = slots_by c plp (n * c.ticks) in
+    let begin : ℕ = sent_before (rates_of c plp (epoch_ticks c plp)) (plp_keeps c plp at) n in
+    let end : ℕ = sent (rates_of c plp (epoch_ticks c plp)) (plp_keeps c plp at) n in
+    let slots : ℕ = slots_by c plp (n * epoch_ticks c plp) in
     let block : ℕ → List Bool = λ from. block_bits c plp at slots from (min (from + field_bytes c plp) end) in
     all_map_twice IsSentBlock (sent_block c plp) block (block_places (field_bytes c plp) begin end)
     (λ from. block_is_sent numbers law c plp (block from) id
@@ -162,41 +191,43 @@ blocks_are_sent numbers law c inputs n from (suc count) ids le =
     (plp_blocks_are_sent numbers law c inputs n from (ids from (omega (arith, le))))
     (blocks_are_sent numbers law c inputs n (from + 1) count ids (omega (arith, le)))
 
--- blocks that are sent fit their numbers, and how many bytes they have
+-- blocks that are sent fit their numbers
 all_fit : (blocks : List Block) → AllByRecursion IsSentBlock blocks → AllByRecursion FitsBlock blocks
 all_fit [] h = tt
 all_fit (b ∷ blocks) h = ((omega (arith, h.0), omega (arith, h.0)), all_fit blocks h.1)
 
-sizes_le : (blocks : List Block) → AllByRecursion IsSentBlock blocks → sum_by block_size blocks ≤ 6734 * length blocks
-sizes_le [] h = omega arith
-sizes_le (b ∷ blocks) h = omega (arith, h.0, sizes_le blocks h.1, sum_by-cons block_size b blocks)
-
 -- what stands at an address
-cell_fits : (r : Option Cell) → ((found : Cell) → r ≡ Some found → (found.ordinal < 2 ^ 12) × (found.cell < 2 ^ 15)) → FitsCell r
+cell_fits : (r : Option Cell) → ((found : Cell) → r ≡ Some found → (found.ordinal < 2 ^ 16) × (found.cell < 2 ^ 15)) → FitsCell r
 cell_fits None h = tt
 cell_fits (Some found) h = let s = h found refl in (omega (arith, s), omega (arith, s))
 
 -- ---- all of it
 
-pub every_frame_fits : PreBitsLength → EmissionFits → CellsByFive → CellsFit → EveryFrameFits
-every_frame_fits bits emits five cells c n post blocks shape is small short len passes few sent =
+pub every_frame_fits : PreBitsLength → EmissionFits → FieldRange → CellsFit → EveryFrameFits
+unfolding longest_rest
+every_frame_fits bits emits field cells c n frame_idx post blocks shape is small short len passes few room sent =
     let moment = emits c n is.rules small in
     let most : c.cells ≤ 4194303 = is.tests CellAddresses in
-    let count : sum shape.counts ≤ 2071 = few_blocks five c shape is len passes in
-    let addresses : length (frame_cells c shape) ≡ c.cells = cells_count c shape in
+    let plps : length c.plps ≤ 255 = (is.rules PlpCount).1 in
+    let count : sum shape.counts ≤ 38000 = few_blocks field c shape is len passes in
+    let addresses : length (frame_cells c shape frame_idx) ≡ c.cells = cells_count c shape frame_idx in
     let pre = length-l1_pre bits c in
+    let rest : 35 + div_ceil (post_len (length c.plps)) 8 + 4 * c.cells + sum_by block_room c.plps ≤ GREATEST_REST =
+    is.tests RecordLength in
+    let bytes : bytes_for (length post) ≤ div_ceil (post_len (length c.plps)) 8 = omega (arith, short) in
     record {
       moment = (omega (arith, moment), omega (arith, moment));
       rest = record {
         pre = pre;
-        post = omega (arith, short);
+        post = omega (arith, short, plps);
         blocks = omega (arith, count, few);
         block = all_fit blocks sent;
         cells = omega (arith, addresses, most);
-        cell = all_map FitsCell (get (cell_map c shape)) (range_with_len 0 c.cells)
-            (λ address. cell_fits (get (cell_map c shape) address) (λ found e. cells c shape address found is passes e));
+        cell = all_map FitsCell (get (cell_map c shape frame_idx)) (range_with_len 0 c.cells)
+            (λ address. cell_fits (get (cell_map c shape frame_idx) address)
+            (λ found e. cells c shape frame_idx address found is passes e));
       };
-      small = omega (arith, sizes_le blocks sent, short, addresses, most, count, few);
+      small = omega (arith, room, bytes, addresses, rest);
     }
 
 pub frame_fits : BitCounts → SlotLength → FieldRange → CountLaw → PostLength → ShapeHasCounts → ShapePasses → EveryFrameFits
@@ -207,13 +238,16 @@ frame_fits numbers slot field law post has passes every c inputs n is ids small 
     let same : (frame_shape c inputs n).counts ≡ all = has c all in
     let blocks : length (sent_blocks c (plp_blocks c inputs n)) ≡ sum_by (counts c inputs n) (places c) =
     all_blocks c inputs n (places c) in
-    let plps : length c.plps ≤ 255 = (is.rules PlpCount).1 in
     let bits = post c n (frame_shape c inputs n) in
-    every c n (post_bits c n (frame_shape c inputs n)) (sent_blocks c (plp_blocks c inputs n)) (frame_shape c inputs n) is
-    (omega (arith, small)) (omega (arith, bits, plps))
+    let size = length-blocks numbers field c inputs n in
+    let room = room_for_all c (counts c inputs n) (λ plp lt. count_le slot field law c inputs n plp is lt) in
+    every c n (n % c.frames) (post_bits c n (frame_shape c inputs n)) (sent_blocks c (plp_blocks c inputs n))
+    (frame_shape c inputs n) is
+    (omega (arith, small)) (omega (arith, bits))
     (ap (λ (l : List ℕ). length l) same ∙ fit.whole)
     (passes c all is fit)
     (omega (arith, blocks, ap (λ (l : List ℕ). sum l) same, sum-map (counts c inputs n) (places c)))
+    (omega (arith, size, room))
     (blocks_are_sent numbers field c inputs n 0 (length c.plps) ids (omega arith))
 
 -- ---- the records of a run

@@ -1,5 +1,5 @@
 -- The record of a frame has as many bytes as its sections.
-use Rattle.std.proofs.Common.{◌≡◌, ℕ, ◌+◌, ◌*◌, min, Bool, List, [], ◌∷◌, length, refl, sym, ap, ap₂, ◌∙◌, arith}
+use Rattle.std.proofs.Common.{◌≡◌, ℕ, ◌+◌, ◌*◌, ◌%◌, min, Bool, List, [], ◌∷◌, length, refl, sym, ap, ap₂, ◌∙◌, arith}
 use Rattle.std.specs.Prelude.{map, sum_by}
 use Rattle.std.specs.List.{flat_map}
 use Rattle.std.proofs.lemmas.List.FromFn.{length-map-range_with_len}
@@ -14,16 +14,17 @@ use Rattle.null_delete.specs.Deletion.{packet_at}
 use Rattle.mode_adapt.specs.Blocks.{block_bits, block_places, plp_keeps, rates_of, plp_blocks}
 use Rattle.mode_adapt.specs.Queue.{sent, sent_before}
 use Rattle.mode_adapt.proofs.FitsLemmas.{length-block}
-use Rattle.plp_config.specs.SlotTime.{slots_by}
+use Rattle.plp_config.specs.SlotTime.{slots_by, epoch_ticks}
 use Rattle.std.specs.FinMap.{get}
 use Rattle.plp_config.specs.Places.{places}
 use Rattle.cell_map.specs.CellMap.{cell_map}
 use Rattle.scheduler.specs.Shape.{FrameShape}
 use Rattle.l1_signal.specs.Laws.{PostLength}
+use Rattle.l1_signal.specs.Lengths.{post_len}
 use Rattle.site_frame.specs.Whole.{block_size}
 use Rattle.site_frame.specs.Record.{head_len, pre_len}
 use Rattle.frame_records.specs.Frames.{sent_block, sent_blocks, frame_cells, frame_shape}
-use Rattle.frame_records.specs.Laws.{FrameLength}
+use Rattle.frame_records.specs.Laws.{blocks_size, FrameLength}
 use Rattle.bb_frame.specs.Laws.{BitCounts}
 
 -- blocks of a PLP have as many bytes as it says
@@ -47,10 +48,11 @@ plp_len : BitCounts → FieldRange → (c : Config) (inputs : ℕ → List (List
     * (4 + block_bytes c plp)
 plp_len counts law c inputs n plp =
     let at : ℕ → List ℕ = packet_at (inputs plp) in
-    let end : ℕ = sent (rates_of c plp c.ticks) (plp_keeps c plp at) n in
-    let begin : ℕ = sent_before (rates_of c plp c.ticks) (plp_keeps c plp at) n in
-    alike counts c plp (λ from. block_bits c plp at (slots_by c plp (n * c.ticks)) from (min (from + field_bytes c plp) end))
-    (λ x. length-block counts law c plp at (slots_by c plp (n * c.ticks)) x (min (x + field_bytes c plp) end) (omega arith))
+    let ticks : ℕ = epoch_ticks c plp in
+    let end : ℕ = sent (rates_of c plp ticks) (plp_keeps c plp at) n in
+    let begin : ℕ = sent_before (rates_of c plp ticks) (plp_keeps c plp at) n in
+    alike counts c plp (λ from. block_bits c plp at (slots_by c plp (n * ticks)) from (min (from + field_bytes c plp) end))
+    (λ x. length-block counts law c plp at (slots_by c plp (n * ticks)) x (min (x + field_bytes c plp) end) (omega arith))
     (block_places (field_bytes c plp) begin end)
 
 -- all blocks of a frame
@@ -66,18 +68,22 @@ all_len c blocks each (plp ∷ plps) =
     ∙ sym (sum_by-cons (λ plp. length (blocks plp) * (4 + block_bytes c plp)) plp plps)
 
 -- what stands at each address
-pub cells_count : (c : Config) (shape : FrameShape) → length (frame_cells c shape) ≡ c.cells
-cells_count c shape = length-map-range_with_len (get (cell_map c shape)) 0 c.cells
+pub cells_count : (c : Config) (shape : FrameShape) (frame_idx : ℕ) → length (frame_cells c shape frame_idx) ≡ c.cells
+cells_count c shape frame_idx = length-map-range_with_len (get (cell_map c shape frame_idx)) 0 c.cells
+
+-- how many bytes the blocks of a frame have
+pub length-blocks : BitCounts → FieldRange → (c : Config) (inputs : ℕ → List (List ℕ)) (n : ℕ)
+    → sum_by block_size (sent_blocks c (plp_blocks c inputs n)) ≡ blocks_size c (λ plp. length (plp_blocks c inputs n plp))
+length-blocks counts law c inputs n = all_len c (plp_blocks c inputs n) (plp_len counts law c inputs n) (places c)
 
 pub frame_length : BitCounts → FieldRange → PostLength → FrameLength
 frame_length counts law post c inputs n =
-    let size : sum_by block_size (sent_blocks c (plp_blocks c inputs n))
-    ≡ sum_by (λ plp. length (plp_blocks c inputs n plp) * (4 + block_bytes c plp)) (places c) =
-    all_len c (plp_blocks c inputs n) (plp_len counts law c inputs n) (places c) in
+    let size = length-blocks counts law c inputs n in
     let bits = post c n (frame_shape c inputs n) in
-    let cells = cells_count c (frame_shape c inputs n) in
-    ap₂ (λ (b x : ℕ). head_len + pre_len + (4 + b) + (2 + x) + (4 + 4 * length (frame_cells c (frame_shape c inputs n))))
+    let cells = cells_count c (frame_shape c inputs n) (n % c.frames) in
+    ap₂ (λ (b x : ℕ). head_len + pre_len + (4 + b) + (2 + x)
+    + (4 + 4 * length (frame_cells c (frame_shape c inputs n) (n % c.frames))))
     (ap bytes_for bits) size
-    ∙ ap (λ (k : ℕ). head_len + pre_len + (4 + bytes_for (213 + 137 * length c.plps))
-    + (2 + sum_by (λ plp. length (plp_blocks c inputs n plp) * (4 + block_bytes c plp)) (places c)) + (4 + 4 * k)) cells
+    ∙ ap (λ (k : ℕ). head_len + pre_len + (4 + bytes_for (post_len (length c.plps)))
+    + (2 + blocks_size c (λ plp. length (plp_blocks c inputs n plp))) + (4 + 4 * k)) cells
     ∙ omega arith

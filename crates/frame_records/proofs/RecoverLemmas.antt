@@ -5,8 +5,8 @@ use Rattle.std.specs.Prelude.{map, filter}
 use Rattle.std.specs.List.{range_with_len, Contains}
 use Rattle.std.proofs.lemmas.List.FromFn.{get_or-range_with_len, length-range_with_len}
 use Rattle.ts_packet.specs.Null.{null_packet}
-use Rattle.plp_config.specs.Laws.{ReleasedByFrame}
-use Rattle.plp_config.specs.SlotTime.{num, den, delay, slots_by, released_count, IsReleased}
+use Rattle.plp_config.specs.Laws.{EpochAlone, ReleasedByFrame}
+use Rattle.plp_config.specs.SlotTime.{num, den, delay, delay_ticks, slots_by, released_count, IsReleased}
 use Rattle.plp_config.specs.declared.config.Config.{Config}
 use Rattle.mode_adapt.specs.Blocks.{plp_keeps}
 use Rattle.frame_records.specs.Recover.{due_slots, recovered}
@@ -50,13 +50,16 @@ in_range from count k = (
       (k - from, omega (arith, h.0, h.1, long), at ∙ omega (arith, h.0))),
 )
 
-pub due_released : ReleasedByFrame → DueReleased
-due_released law c plp first count last slot rules lt e =
+pub due_released : EpochAlone → ReleasedByFrame → DueReleased
+due_released epoch law c plp first count last slot rules lt alone e =
     let from : ℕ = slots_by c plp ((first - 1) * c.ticks) in
-    let end : ℕ = released_count (num c) (den c plp) (delay c plp) ((first + count) * c.ticks) in
+    let wait : ℕ = delay_ticks (num c) (den c plp) c.ticks in
+    let end : ℕ = released_count (num c) (den c plp) wait ((first + count) * c.ticks) in
+    let late : delay c plp ≡ wait = ap (delay_ticks (num c) (den c plp)) (epoch c plp alone) in
     let given : IsReleased c plp last slot ↔ (slot < end) =
-    subst (λ (n : ℕ). IsReleased c plp last slot ↔ (slot < released_count (num c) (den c plp) (delay c plp) (n * c.ticks)))
-    (sym e) (law c plp last slot rules lt) in (
+    subst (λ (d : ℕ). IsReleased c plp last slot ↔ (slot < released_count (num c) (den c plp) d ((first + count) * c.ticks))) late
+    (subst (λ (n : ℕ). IsReleased c plp last slot ↔ (slot < released_count (num c) (den c plp) (delay c plp) (n * c.ticks)))
+    (sym e) (law c plp last slot rules lt)) in (
       (λ m. let r = (in_range from (end - from) slot).0 m in (r.0, given.1 (omega (arith, r.0, r.1)))),
       (λ h. let early = given.0 h.1 in (in_range from (end - from) slot).1 (h.0, omega (arith, h.0, early))),
     )

@@ -1,6 +1,6 @@
 -- Blocks stand at their ordinals, and cells at their addresses.
-use Rattle.std.proofs.Common.{◌≡◌, ℕ, zero, suc, ◌+◌, ◌<◌, Option, Some, List, [], ◌∷◌, ◌++◌, length, get_or, take, refl, sym, ap}
-use Rattle.std.proofs.Common.{ap₂, subst, ◌∙◌, arith}
+use Rattle.std.proofs.Common.{◌≡◌, ℕ, zero, suc, ◌+◌, ◌%◌, ◌<◌, Option, Some, List, [], ◌∷◌, ◌++◌, length, get_or, take, refl}
+use Rattle.std.proofs.Common.{sym, ap, ap₂, subst, ◌∙◌, arith}
 use Rattle.std.specs.Prelude.{map, sum, sum_by, slice_get}
 use Rattle.std.specs.List.{flat_map, range_with_len}
 use Rattle.std.specs.FinMap.{get}
@@ -92,9 +92,10 @@ some_there cell = Some cell
 pub cell_stands : SlotLength → FieldRange → CountLaw → ShapePasses → MapHasEachCell → CellStands
 cell_stands slot field law passes each c inputs n plp block cell is there =
     let ok = passes c (map (counts c inputs n) (places c)) is (counts_fit slot field law c inputs n is) in
-    let at : ℕ = address_of c (frame_shape c inputs n) plp block cell in
-    let below = ok.below plp block cell there in
+    let frame_idx : ℕ = n % c.frames in
+    let at : ℕ = address_of c (frame_shape c inputs n) frame_idx plp block cell in
+    let below = ok.below frame_idx plp block cell there in
     let same : 0 + at ≡ at = omega arith in
-    get_in_range (get (cell_map c (frame_shape c inputs n))) 0 c.cells at below
-    ∙ ap (λ (a : ℕ). some_there (get (cell_map c (frame_shape c inputs n)) a)) same
-    ∙ ap some_there (each c (frame_shape c inputs n) plp block cell ok there)
+    get_in_range (get (cell_map c (frame_shape c inputs n) frame_idx)) 0 c.cells at below
+    ∙ ap (λ (a : ℕ). some_there (get (cell_map c (frame_shape c inputs n) frame_idx) a)) same
+    ∙ ap some_there (each c (frame_shape c inputs n) frame_idx plp block cell ok there)

@@ -1,5 +1,5 @@
 -- The frames of a run (EN 302 755, clauses 5 to 8): what frame n is, if these are the packets of the inputs.
-use Rattle.std.specs.Prelude.{ℕ, ◌<◌, ◌^◌, Bool, true, Option, List, length, map}
+use Rattle.std.specs.Prelude.{ℕ, ◌%◌, ◌<◌, ◌^◌, Bool, true, Option, List, length, map}
 use Rattle.std.specs.FinMap.{get}
 use Rattle.std.specs.List.{flat_map, range_with_len}
 use Rattle.terms.specs.Bits.{bytes_of}
@@ -37,24 +37,24 @@ sent_block c plp bits = record { plp_id = (plp_at c.plps plp).id; bytes = bytes_
 abbrev pub sent_blocks : Config → (ℕ → List (List Bool)) → List Block
 sent_blocks c blocks = flat_map (λ plp. map (sent_block c plp) (blocks plp)) (places c)
 
--- what stands at each address of a frame of this shape
-abbrev pub frame_cells : Config → FrameShape → List (Option Cell)
-frame_cells c shape = map (get (cell_map c shape)) (range_with_len 0 c.cells)
+-- what stands at each address of a frame of this shape; the frame is told by its number in its superframe (FRAME_IDX)
+abbrev pub frame_cells : Config → FrameShape → ℕ → List (Option Cell)
+frame_cells c shape frame_idx = map (get (cell_map c shape frame_idx)) (range_with_len 0 c.cells)
 
 -- L1-pre with its CRC_32
 abbrev pub l1_pre : Config → List Bool
 l1_pre c = crc_behind true (pre_bits (pre_of c))
 
--- the frame that leaves at a moment, with this L1-post, these blocks, and the cells of this shape; L1-pre is that of the
--- configuration
-abbrev pub frame_view : Config → Moment → List Bool → List Block → FrameShape → RecordView
-frame_view c moment post blocks shape = Frame moment (l1_pre c) post blocks (frame_cells c shape)
+-- the frame of this number in its superframe that leaves at a moment, with this L1-post, these blocks, and the cells of this
+-- shape; L1-pre is that of the configuration
+abbrev pub frame_view : Config → Moment → ℕ → List Bool → List Block → FrameShape → RecordView
+frame_view c moment frame_idx post blocks shape = Frame moment (l1_pre c) post blocks (frame_cells c shape frame_idx)
 
--- frame n: when it leaves, L1-post, the blocks, and their shape
+-- frame n: when it leaves, its number in its superframe, L1-post, the blocks, and their shape
 abbrev pub frame_of : Config → (ℕ → List (List ℕ)) → ℕ → RecordView
 frame_of c inputs n =
-    frame_view c (emission c n) (post_bits c n (frame_shape c inputs n)) (sent_blocks c (plp_blocks c inputs n))
-    (frame_shape c inputs n)
+    frame_view c (emission c n) (n % c.frames) (post_bits c n (frame_shape c inputs n))
+    (sent_blocks c (plp_blocks c inputs n)) (frame_shape c inputs n)
 
 -- the frames of a run: whole superframes, until the delay has passed for all packets
 abbrev pub run_frames : Config → (ℕ → List (List ℕ)) → List RecordView

@@ -5,7 +5,8 @@ use Rattle.std.specs.List.{AllByRecursion, Contains, range_with_len}
 use Rattle.plp_config.specs.Places.{places}
 use Rattle.terms.specs.Bits.{bytes_for}
 use Rattle.ts_packet.specs.Null.{null_packet}
-use Rattle.plp_config.specs.Capacity.{IsPlan, block_bytes}
+use Rattle.plp_config.specs.Capacity.{IsPlan, block_bytes, block_room}
+use Rattle.plp_config.specs.Plps.{spread}
 use Rattle.plp_config.specs.Rules.{AllRules}
 use Rattle.plp_config.specs.RunLength.{frame_count}
 use Rattle.plp_config.specs.SlotTime.{slots_by, IsReleased}
@@ -13,10 +14,11 @@ use Rattle.plp_config.specs.Emission.{emission}
 use Rattle.plp_config.specs.declared.config.Config.{Config}
 use Rattle.plp_config.specs.declared.plp.TheConstants.{MOST_BLOCK_BYTES}
 use Rattle.scheduler.specs.Shape.{FrameShape}
-use Rattle.cell_map.specs.Address.{IsCell, address_of}
+use Rattle.cell_map.specs.Address.{IsCarried, address_of}
 use Rattle.cell_map.specs.CellMap.{Passes, ordinal_of}
+use Rattle.l1_signal.specs.Lengths.{post_len}
 use Rattle.site_frame.specs.RecordFile.{IsOnGrid}
-use Rattle.site_frame.specs.Whole.{FitsRecord, record_len}
+use Rattle.site_frame.specs.Whole.{FitsRecord, record_len, block_size}
 use Rattle.site_frame.specs.declared.reading.RecordView.TheVariants.{Muted}
 use Rattle.site_frame.specs.Record.{Block, head_len, pre_len}
 use Rattle.frame_records.specs.Frames.{sent_block, sent_blocks, frame_cells, frame_shape, frame_view, frame_of, HasByteIds}
@@ -25,14 +27,17 @@ use Rattle.frame_records.specs.Records.{record_of, records}
 use Rattle.frame_records.specs.Recover.{due_slots, recover}
 use Rattle.mode_adapt.specs.Blocks.{plp_blocks, plp_keeps}
 
+-- how many bytes blocks have in a record, each with its head of four, if each PLP has so many
+abbrev pub blocks_size : Config → (ℕ → ℕ) → ℕ
+blocks_size c count = sum_by (λ plp. count plp * (4 + block_bytes c plp)) (places c)
+
 -- how many bytes follow the head of a frame's record, whose L1-post has so many bits and whose PLPs have so many blocks
 abbrev pub rest_size : Config → ℕ → (ℕ → ℕ) → ℕ
-rest_size c bits count =
-    pre_len + (4 + bytes_for bits) + (2 + sum_by (λ plp. count plp * (4 + block_bytes c plp)) (places c)) + (4 + 4 * c.cells)
+rest_size c bits count = pre_len + (4 + bytes_for bits) + (2 + blocks_size c count) + (4 + 4 * c.cells)
 
 -- how many bytes the record of a frame has, if its L1-post is as long as always
 abbrev pub frame_len : Config → (ℕ → ℕ) → ℕ
-frame_len c count = head_len + rest_size c (213 + 137 * length c.plps) count
+frame_len c count = head_len + rest_size c (post_len (length c.plps)) count
 
 -- So many has that of frame n.
 abbrev pub FrameLength : Type 0
@@ -46,32 +51,32 @@ BlockStands = (c : Config) (inputs : ℕ → List (List ℕ)) (n plp block : ℕ
     → slice_get (sent_blocks c (plp_blocks c inputs n)) (ordinal_of (frame_shape c inputs n) plp block)
     ≡ option_map (sent_block c plp) (slice_get (plp_blocks c inputs n plp) block)
 
--- Each cell of each block of a plan's frame stands at its address.
+-- Each cell that a plan's frame carries stands at its address.
 abbrev pub CellStands : Type 0
 CellStands = (c : Config) (inputs : ℕ → List (List ℕ)) (n plp block cell : ℕ) → IsPlan c
-    → IsCell c (frame_shape c inputs n) plp block cell
-    → slice_get (frame_cells c (frame_shape c inputs n)) (address_of c (frame_shape c inputs n) plp block cell)
+    → IsCarried c (frame_shape c inputs n) (n % c.frames) plp block cell
+    → slice_get (frame_cells c (frame_shape c inputs n) (n % c.frames))
+    (address_of c (frame_shape c inputs n) (n % c.frames) plp block cell)
     ≡ Some (Some (record { ordinal = ordinal_of (frame_shape c inputs n) plp block; cell = cell }))
 
--- the most bits of L1-post, with 255 PLPs (EN 302 755, clause 7.2.3)
-abbrev pub most_post_bits : ℕ
-most_post_bits = 213 + 137 * 255
-
--- A frame of a plan has 2,071 blocks at most, if its shape passes.
+-- A frame of a plan has 38,000 blocks at most, if its shape passes: so many have room in a record.
 abbrev pub FewBlocks : Type 0
 FewBlocks = (c : Config) (shape : FrameShape) → IsPlan c → length shape.counts ≡ length c.plps → Passes c shape
-    → sum shape.counts ≤ 2071
+    → sum shape.counts ≤ 38000
 
 -- PLP_ID is a byte, and the block is no longer than the longest baseband frame.
 abbrev pub IsSentBlock : Block → Type 0
 IsSentBlock b = (b.plp_id < 2 ^ 8) × (length b.bytes ≤ MOST_BLOCK_BYTES)
 
--- Such a frame fits a record, whatever its L1-post and its blocks are, if it has no more blocks than its shape tells.
+-- The frame of a shape that passes fits a record, whatever its L1-post and its blocks are, if L1-post has no more bits than
+-- always, there are no more blocks than the shape tells, and they have no more bytes than those that the PLPs may have.
 abbrev pub EveryFrameFits : Type 0
-EveryFrameFits = (c : Config) (n : ℕ) (post : List Bool) (blocks : List Block) (shape : FrameShape) → IsPlan c → n < 2 ^ 32
-    → length post ≤ most_post_bits → length shape.counts ≡ length c.plps → Passes c shape → length blocks ≤ sum shape.counts
-    → AllByRecursion IsSentBlock blocks
-    → FitsRecord (frame_view c (emission c n) post blocks shape)
+EveryFrameFits = (c : Config) (n frame_idx : ℕ) (post : List Bool) (blocks : List Block) (shape : FrameShape) → IsPlan c
+    → n < 2 ^ 32
+    → length post ≤ post_len (length c.plps) → length shape.counts ≡ length c.plps → Passes c shape
+    → length blocks ≤ sum shape.counts
+    → sum_by block_size blocks ≤ sum_by block_room c.plps → AllByRecursion IsSentBlock blocks
+    → FitsRecord (frame_view c (emission c n) frame_idx post blocks shape)
 
 -- And so does a muted one.
 abbrev pub MutedFits : Type 0
@@ -116,8 +121,9 @@ NoneLost = (c : Config) (plp ticks : ℕ) (at : ℕ → List ℕ) (first count :
     → recover c plp ticks at (λ m. false) first count ≡ map at (due_slots c plp ticks first count)
 
 -- A slot is due exactly if it was not over when the frame in front of the first one begins, and its packet is given out once the
--- last one has ended.
+-- last one has ended; of a PLP whose interleaving frames are single frames.
 abbrev pub DueReleased : Type 0
-DueReleased = (c : Config) (plp first count last slot : ℕ) → AllRules c → plp < length c.plps → first + count ≡ last + 1
+DueReleased = (c : Config) (plp first count last slot : ℕ) → AllRules c → plp < length c.plps → spread c.plps plp ≡ 1
+    → first + count ≡ last + 1
     → Contains (due_slots c plp c.ticks first count) slot
     ↔ ((slots_by c plp ((first - 1) * c.ticks) ≤ slot) × IsReleased c plp last slot)

@@ -59,6 +59,7 @@ small_plp blocks rate = record {
   interleave = 1;
   delete = true;
   bits_per_second = rate;
+  spread = 1;
 }
 
 -- short blocks of rate 1/2 in QPSK: 2 Mbit/s in four blocks, or somewhat less in three
@@ -82,6 +83,7 @@ large_network = network 2049536 1700000 (record {
   interleave = 4;
   delete = true;
   bits_per_second = 40000000;
+  spread = 1;
 })
 
 -- a packet that is not null, of PID 0

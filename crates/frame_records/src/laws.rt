@@ -8,7 +8,7 @@ use bb_frame::bit_counts;
 use cell_map::{map_law, shape_law};
 use l1_signal::{post_law, pre_law};
 use mode_adapt::count_law;
-use plp_config::{block_law, emission_law, length_law, release_law};
+use plp_config::{block_law, emission_law, length_law, release_law, spread_law};
 use scheduler::order_law;
 
 /// How many bytes the record of a frame has.
@@ -75,4 +75,5 @@ pub fn recover_law()
     ensures loss { CountedLoss }
 {
     release_law();
+    spread_law();
 }

@@ -1,5 +1,6 @@
 -- Laws of the six tests.
 use Rattle.std.specs.Prelude.{◌≡◌, ◌↔◌, ℕ, ◌%◌, ◌<◌, true, Bool, List, [], ◌∷◌, ◌++◌, length, map, slice_get, Some}
+use Rattle.plp_config.specs.Capacity.{IsPlan}
 use Rattle.plp_config.specs.Emission.{emission}
 use Rattle.plp_config.specs.Rules.{AllRules}
 use Rattle.plp_config.specs.declared.config.Config.{Config}
@@ -21,9 +22,9 @@ use Rattle.frame_tests.specs.Tally.{tally, tally_with, tally_fault}
 use Rattle.plp_config.specs.declared.moment.TheConstants.{MOST_FRAMES}
 use Rattle.frame_tests.specs.Tests.{read_whole, same_told, conf_agrees, parts_agree, packets_fault, moment_of, named_frame}
 
--- The test of a shape says whether it passes.
+-- The test of a shape, which goes over the frames of one superframe, says whether it passes in every frame of a plan.
 abbrev pub MapPasses : Type 0
-MapPasses = (c : Config) (shape : FrameShape) → (map_passes c shape ≡ true) ↔ Passes c shape
+MapPasses = (c : Config) (shape : FrameShape) → IsPlan c → (map_passes c shape ≡ true) ↔ Passes c shape
 
 -- An L1-current is one of frame n: it spells the configuration's L1-pre and configurable part, and a dynamic part with FRAME_IDX
 -- of the frame and the identifiers in order.

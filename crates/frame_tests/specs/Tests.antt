@@ -16,7 +16,7 @@ use Rattle.plp_config.specs.declared.config.Config.{Config}
 use Rattle.plp_config.specs.declared.moment.Moment.{Moment}
 use Rattle.plp_config.specs.declared.moment.TheConstants.{MOST_FRAMES}
 use Rattle.linked_pool.specs.Pool.{chunks_for}
-use Rattle.linked_pool.specs.declared.chunk.TheConstants.{CHUNKS_OF_CELLS, FEWEST_CELLS}
+use Rattle.linked_pool.specs.Fits.{group_chunks}
 use Rattle.scheduler.specs.Shape.{FrameShape}
 use Rattle.l1_signal.specs.Fields.{Row, Reading, values}
 use Rattle.l1_signal.specs.L1Configurable.{conf_first_rows, conf_more_rows, conf_plp_rows, conf_back_rows, conf_read, info_size}
@@ -49,7 +49,7 @@ begins_superframe c n = n % c.frames == 0
 
 -- the chunks of the pool, and those that the blocks fill that have the length of their PLP
 abbrev pub pool_chunks : Config → ℕ
-pool_chunks c = CHUNKS_OF_CELLS * c.cells / FEWEST_CELLS
+pool_chunks c = group_chunks c
 
 abbrev pub pool_need : Config → List Packet → ℕ
 pool_need c packets = sum_by (λ plp. length (right_blocks c plp packets) * chunks_for (block_bytes c plp)) (places c)

@@ -101,6 +101,5 @@ pub fn is_of_frame(plan: &Plan, number: u64, dynamic: &L1Dyn) -> bool
     requires { length dynamic.now.plps ≡ length plan.now.plps }
     ensures { result ≡ dyn_agrees plan.now number (Some dynamic.now) }
 {
-    u64::from(dynamic.frame_idx) == number % u64::from(plan.config().frames)
-        && has_ids(plan, dynamic)
+    dynamic.frame_idx == plan.frame_idx(number) && has_ids(plan, dynamic)
 }

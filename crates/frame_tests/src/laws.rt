@@ -1,13 +1,16 @@
 // Laws of the definitions. Their functions do nothing.
 ghost use Rattle.frame_tests.specs.Laws.{MapPasses, PreValues, ConfTold, PartsTold, TestsAreTallied, TallyGrows, FrameNamed};
 
+use cell_map::map_law;
 use l1_signal::{conf_law, dyn_law, pre_law};
 use plp_config::emission_law;
 
-/// The test of a shape says whether it passes.
+/// The test of a shape says whether it passes, of a plan.
 pub fn map_test_law()
     ensures { MapPasses }
-{}
+{
+    map_law();
+}
 
 /// The test of an L1-current says whether its parts spell the configuration's values, and those of the frame.
 pub fn parts_law()

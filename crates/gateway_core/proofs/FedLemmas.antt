@@ -3,21 +3,27 @@ use Rattle.std.proofs.Common.{◌≡◌, ℕ, zero, suc, ◌+◌, ◌-◌, ◌*�
 use Rattle.std.proofs.Common.{Some, None, length, map, replicate, is_some, refl, ap, sym, subst, ◌∙◌, arith, append-nil}
 use Rattle.std.proofs.Common.{append_assoc, max, inl, inr}
 use Rattle.std.proofs.Math.Nat.{mul-le-mul_right}
-use Rattle.std.specs.Prelude.{slice_index_or, Result, Ok, Err, OnOk, OnErr}
+use Rattle.std.proofs.Math.Logic.{∥∥₁_map}
+use Rattle.std.proofs.lemmas.Grind.{not_there}
+use Rattle.std.specs.Prelude.{slice_index_or, Result, Ok, Err, OnOk, IfErr, IsOk}
 use Rattle.std.proofs.lemmas.Bool.{cases_eq}
 use Rattle.std.proofs.lemmas.Grind.{flat_map-append}
-use Rattle.std.proofs.lemmas.List.{replicate_more, get_or_append_left, length_push}
+use Rattle.std.proofs.lemmas.List.{replicate_more, get_or_append_left, length_push, length-map}
 use Rattle.std.proofs.lemmas.List.Sums.{sum_by-append}
 use Rattle.terms.specs.Bits.{bits_of}
 use Rattle.linked_pool.specs.Pool.{State, list_at, Others}
+use Rattle.linked_pool.specs.declared.pool.PoolFull.{PoolFull}
 use Rattle.plp_config.specs.Capacity.{IsPlan}
 use Rattle.plp_config.specs.Laws.{CountRises, NoneAtZero, SlotLength}
 use Rattle.plp_config.specs.Rules.{AllRules}
-use Rattle.plp_config.specs.SlotTime.{num, den, slots_by}
+use Rattle.plp_config.specs.Plps.{StandsAlone}
+use Rattle.plp_config.specs.SlotTime.{num, den, slots_by, epoch_ticks}
+use Rattle.plp_config.proofs.TableLemmas.{epoch_alone}
 use Rattle.plp_config.specs.declared.config.Config.{Config}
 use Rattle.ts_packet.specs.Null.{null_packet}
 use Rattle.mode_adapt.specs.Deletion.{packet_at}
 use Rattle.mode_adapt.specs.Blocks.{blocks_of}
+use Rattle.mode_adapt.specs.Calls.{TakesIfReady, EndsIfReady, LacksPlace}
 use Rattle.mode_adapt.specs.Events as queue
 use Rattle.mode_adapt.specs.Events.{packet_of, is_cut, HasRoom, IsDue}
 use Rattle.mode_adapt.specs.Laws.{BlocksLaw}
@@ -25,8 +31,9 @@ use Rattle.mode_adapt.specs.Place.{AreShort, HasPlace}
 use Rattle.mode_adapt.specs.StandsFor.{ChainStandsFor, early_blocks}
 use Rattle.mode_adapt.specs.declared.chain.Chain.{Chain}
 use Rattle.gateway_core.specs.Told.{Told, with_packet, Continues}
-use Rattle.gateway_core.specs.IsFed.{Fed}
-use Rattle.gateway_core.specs.ChainSteps.{Takes, Ends}
+use Rattle.gateway_core.specs.IsFed.{Fed, IsSupplied}
+use Rattle.gateway_core.specs.Served.{IsServed}
+use Rattle.gateway_core.specs.declared.input.Input.{Input}
 use Rattle.gateway_core.specs.InputsStandFor.{Cuts}
 use Rattle.gateway_core.specs.Lists.{bits_in, AllShort}
 
@@ -58,28 +65,33 @@ wants total false n gap lt e = record { still = refl; some = subst (λ (o : Opti
 room : (chain : Chain) (due slot : ℕ) (total : Option ℕ) (c : Config) (plp : ℕ) (t : Told) (early : List (List Bool))
     (h : Fed chain due slot total c plp t early)
     → slot < due → HasRoom c plp h.events
-room chain due slot total c plp t early h lt = rw (h.cuts, ← h.slot_is, ← h.due_is) lt
+room chain due slot total c plp t early h lt =
+    subst (λ (ticks : ℕ). length (queue.offered h.events) < slots_by c plp (queue.cuts h.events * ticks))
+    (sym (epoch_alone c plp h.alone)) (rw (h.cuts, ← h.slot_is, ← h.due_is) lt)
 
 is_due : (chain : Chain) (due slot : ℕ) (total : Option ℕ) (c : Config) (plp : ℕ) (t : Told) (early : List (List Bool))
     (h : Fed chain due slot total c plp t early)
     → slot ≡ due → IsDue c plp h.events
-is_due chain due slot total c plp t early h e = rw (h.cuts, ← h.slot_is, ← h.due_is) e
+is_due chain due slot total c plp t early h e =
+    subst (λ (ticks : ℕ). length (queue.offered h.events) ≡ slots_by c plp (queue.cuts h.events * ticks))
+    (sym (epoch_alone c plp h.alone)) (rw (h.cuts, ← h.slot_is, ← h.due_is) e)
 
 one_more : (packets : List (List ℕ)) (x : List ℕ) (n : ℕ) → n ≡ 0 → (packets ++ replicate n null_packet) ++ x ∷ []
     ≡ (packets ++ x ∷ []) ++ replicate n null_packet
 one_more packets x n e = rw (e, append-nil packets, append-nil (packets ++ x ∷ [])) refl
 
 pub fed_offer : (old new : Chain) (due slot : ℕ) (total : Option ℕ) (c : Config) (plp : ℕ) (t : Told) (packet : List ℕ)
-    (was is : State) (list : ℕ) → Takes old new packet was is list → HasPlace c plp was list
+    (was is : State) (list : ℕ) → TakesIfReady old new packet was is list → HasPlace c plp was list
     → 0 < cond (is_some total) 0 (due - slot) → Fed old due slot total c plp t (bits_in was list)
     → Fed new due (slot + 1) total c plp (with_packet t packet) (bits_in is list)
 fed_offer old new due slot total c plp t packet was is list takes place lt h =
     let w = wants total t.ended (length t.packets) (due - slot) lt h.total_is in
     let before : slot < due = omega (arith, w.some) in
     let ended : t.ended ≡ false = w.still in
-    let took = takes c plp h.events place (room old due slot total c plp t (bits_in was list) h before)
-    (record { stands = h.stands; early = h.early_is }) in
+    let took = takes c plp h.events (record { stands = h.stands; put = h.early_is; place = place })
+    (room old due slot total c plp t (bits_in was list) h before) in
     record {
+      alone = h.alone;
       events = h.events ++ queue.Offered packet ∷ [];
       stands = took.stands;
       nulls = h.nulls;
@@ -91,7 +103,7 @@ fed_offer old new due slot total c plp t packet was is list takes place lt h =
           ∙ sym (ap length (offered_push h.events packet));
       total_is = h.total_is ∙ rw ended refl;
       still = h.still;
-      early_is = took.early;
+      early_is = took.blocks h.early_is;
     }
 
 null_more : (packets : List (List ℕ)) (n : ℕ) → (packets ++ replicate n null_packet) ++ null_packet ∷ []
@@ -100,12 +112,13 @@ null_more packets n = append_assoc packets (replicate n null_packet) (null_packe
     (replicate_more n null_packet)
 
 pub fed_null : (old new : Chain) (due slot : ℕ) (total : Option ℕ) (c : Config) (plp : ℕ) (t : Told) (was is : State) (list : ℕ)
-    → Takes old new null_packet was is list → HasPlace c plp was list → t.ended ≡ true
+    → TakesIfReady old new null_packet was is list → HasPlace c plp was list → t.ended ≡ true
     → slot < due → Fed old due slot total c plp t (bits_in was list) → Fed new due (slot + 1) total c plp t (bits_in is list)
 fed_null old new due slot total c plp t was is list takes place ended before h =
-    let took = takes c plp h.events place (room old due slot total c plp t (bits_in was list) h before)
-    (record { stands = h.stands; early = h.early_is }) in
+    let took = takes c plp h.events (record { stands = h.stands; put = h.early_is; place = place })
+    (room old due slot total c plp t (bits_in was list) h before) in
     record {
+      alone = h.alone;
       events = h.events ++ queue.Offered null_packet ∷ [];
       stands = took.stands;
       nulls = h.nulls + 1;
@@ -117,7 +130,7 @@ fed_null old new due slot total c plp t was is list takes place ended before h =
           ∙ sym (ap length (offered_push h.events null_packet));
       total_is = h.total_is;
       still = λ off. absurd (let z : true ≡ false = sym ended ∙ off in cc);
-      early_is = took.early;
+      early_is = took.blocks h.early_is;
     }
 
 alike : (n k : ℕ) (x : List ℕ) → slice_index_or (replicate n x) k x ≡ x
@@ -143,27 +156,32 @@ same_slots packets rest false n k still whole lt =
 -- the packets of the slots that are over are those of any input that continues
 given_blocks : BlocksLaw → (old : Chain) (due slot : ℕ) (total : Option ℕ) (c : Config) (plp : ℕ) (t : Told)
     (early : List (List Bool)) (h : Fed old due slot total c plp t early) (input : List (List ℕ)) → IsPlan c
-    → plp < length c.plps → slot ≡ due → Continues t input → blocks_of c plp c.ticks (packet_at (queue.offered h.events)) t.frame
-    ≡ blocks_of c plp c.ticks (packet_at input) t.frame
+    → plp < length c.plps → slot ≡ due → Continues t input
+    → blocks_of c plp (epoch_ticks c plp) (packet_at (queue.offered h.events)) t.frame
+    ≡ blocks_of c plp (epoch_ticks c plp) (packet_at input) t.frame
 given_blocks law old due slot total c plp t early h input plan lt e more =
     law c plp (packet_at (queue.offered h.events)) (packet_at input) t.frame plan lt (λ k inside.
-    let within : k < length (t.packets ++ replicate h.nulls null_packet) = rw (← h.given, ← h.slot_is, e, h.due_is) inside in
+    let by : k < slots_by c plp (t.frame * c.ticks) =
+    subst (λ (ticks : ℕ). k < slots_by c plp (t.frame * ticks)) (epoch_alone c plp h.alone) inside in
+    let within : k < length (t.packets ++ replicate h.nulls null_packet) = rw (← h.given, ← h.slot_is, e, h.due_is) by in
     rw (h.given, more.front) (same_slots t.packets more.rest t.ended h.nulls k h.still more.whole within))
 
 -- What the end of a frame leaves.
 pub fed_cut : BlocksLaw → (old new : Chain) (due slot next : ℕ) (total : Option ℕ) (c : Config) (plp : ℕ) (t : Told)
-    (was is : State) (list count : ℕ) → Ends old new was is list count → IsPlan c → plp < length c.plps
+    (was is : State) (list count : ℕ) → EndsIfReady old new was is list count → IsPlan c → plp < length c.plps
     → HasPlace c plp was list → slot ≡ due → next ≡ slots_by c plp ((t.frame + 1) * c.ticks)
     → Fed old due slot total c plp t (bits_in was list)
     → Cuts new next slot total c plp t is count
 fed_cut law old new due slot next total c plp t was is list count ends plan lt place e n h =
-    let end = ends c plp h.events place (is_due old due slot total c plp t (bits_in was list) h e)
-    (record { stands = h.stands; early = h.early_is }) in
+    let end = ends c plp h.events (record { stands = h.stands; put = h.early_is; place = place })
+    (is_due old due slot total c plp t (bits_in was list) h e) in
+    let put = end.blocks h.early_is in
     let here : list_at is plp ≡ list_at is list = ap (list_at is) (sym place.place) in
     record {
       fed = record {
+        alone = h.alone;
         events = h.events ++ queue.Cut ∷ [];
-        stands = end.next.stands;
+        stands = end.stands;
         nulls = h.nulls;
         given = offered_stay h.events ∙ h.given;
         cuts = cuts_push h.events ∙ ap (λ (n : ℕ). n + 1) h.cuts;
@@ -171,12 +189,12 @@ fed_cut law old new due slot next total c plp t was is list count ends plan lt p
         slot_is = h.slot_is ∙ sym (ap length (offered_stay h.events));
         total_is = h.total_is;
         still = h.still;
-        early_is = end.next.early;
+        early_is = sym end.none_put;
       };
-      blocks = λ input more. ap (map bits_of) here ∙ end.blocks_are
-          ∙ ap (blocks_of c plp c.ticks (packet_at (queue.offered h.events))) h.cuts
+      blocks = λ input more. ap (map bits_of) here ∙ put
+          ∙ ap (blocks_of c plp (epoch_ticks c plp) (packet_at (queue.offered h.events))) h.cuts
           ∙ given_blocks law old due slot total c plp t (bits_in was list) h input plan lt e more;
-      count_is = end.count_is ∙ ap length (sym here);
+      count_is = end.answer ∙ ap length (sym put) ∙ length-map (list_at is list) bits_of ∙ ap length (sym here);
     }
 
 -- at the next frame no fewer slots are over
@@ -197,11 +215,13 @@ none_due none slot c plp rules lt =
     let z : 0 * c.ticks ≡ 0 = omega arith in
     sym (rw z (none (num c) (den c plp) (omega (arith, s.0, s.2))))
 
-pub fed_open : (chain : Chain) (c : Config) (plp : ℕ) → ChainStandsFor chain c plp [] → early_blocks c plp [] ≡ []
+pub fed_open : (chain : Chain) (c : Config) (plp : ℕ) → StandsAlone c.plps plp → ChainStandsFor chain c plp []
+    → early_blocks c plp [] ≡ []
     → 0 ≡ slots_by c plp (0 * c.ticks)
     → Fed chain 0 0 None c plp (record { packets = []; ended = false; frame = 0 }) []
-fed_open chain c plp h none e =
+fed_open chain c plp alone h none e =
     record {
+      alone = alone;
       events = [];
       stands = h;
       nulls = 0;
@@ -215,9 +235,29 @@ fed_open chain c plp h none e =
     }
 
 -- what follows if a call did not fail
-pub took : {T E P Q : Type 0} (r : Result T E) → OnOk r P → OnErr r Q → (Q → ⊥) → P
+pub took : {T E P : Type 0} {Q : E → Type 0} (r : Result T E) → OnOk r P → IfErr r Q → ((e : E) → Q e → ⊥) → P
 took (Ok x) p q never = p
-took (Err e) p q never = absurd (never q)
+took (Err e) p q never = absurd (never e q)
+
+-- a block for which the pool is ready is not refused
+pub is_put : {T : Type 0} (r : Result T PoolFull) (chain : Chain) (pool : State) (list : ℕ)
+    → IfErr r (λ e. LacksPlace chain pool list e.need) → ∥ IsServed chain pool list ∥₁ → IsOk r
+is_put (Ok x) chain pool list lacks s = refl
+is_put (Err e) chain pool list lacks s =
+    absurd (not_there s (λ k. (lacks k.config k.plp k.events k.ready.stands).never k.ready))
+
+pub served : (i : Input) (pool : State) (list : ℕ) → ∥ IsSupplied i pool list ∥₁ → ∥ IsServed i.chain pool list ∥₁
+served i pool list h = ∥∥₁_map h (λ (s : IsSupplied i pool list). record {
+  config = s.config;
+  plp = s.plp;
+  events = s.fed.events;
+  ready = record { stands = s.fed.stands; put = s.fed.early_is; place = s.place };
+})
+
+-- what is told of an input that ended
+pub ended_told : (b : Bool) (n : ℕ) (total : Option ℕ) → is_some total ≡ true → total ≡ cond b (Some n) None → b ≡ true
+ended_told true n total some e = refl
+ended_told false n total some e = absurd (let z : false ≡ true = subst (λ (o : Option ℕ). is_some o ≡ true) e some in cc)
 
 -- A pool whose other lists stay has place as before.
 pub place_stays : (c : Config) (plp : ℕ) (was is : State) (list : ℕ) → Others was is list → HasPlace c plp was list

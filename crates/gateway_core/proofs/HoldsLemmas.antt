@@ -24,7 +24,7 @@ use Rattle.gateway_core.specs.Carried.{of_frame}
 use Rattle.gateway_core.specs.Events.{Event, Offered, Ended, Begun, Gave, Finished, offered, has_ended, begins, begun, gives}
 use Rattle.gateway_core.specs.Events.{given, finishes, finished}
 use Rattle.gateway_core.specs.Flowing.{Flows}
-use Rattle.gateway_core.specs.InputsStandFor.{HasFrame, AllFed, AllContinue, AllEnded, HaveEnded}
+use Rattle.gateway_core.specs.InputsStandFor.{HasFrame, AllFed, AllContinue, AllEnded, HaveEnded, AreSupplied}
 use Rattle.gateway_core.specs.IsFed.{IsFed, wanted}
 use Rattle.gateway_core.specs.Left.{from_step, all_of, early_at}
 use Rattle.t2mi_stream.specs.Complete.{complete_units}
@@ -436,3 +436,51 @@ wants_are (x ∷ xs) early plp c events lt h =
     ∙ wants_as (has_ended plp events) (length (offered plp events)) _ _ _ _ _ f.total_is f.due_is
     (λ off. f.slot_is ∙ ap length (f.given ∙ ap (λ (k : ℕ). offered plp events ++ replicate k null_packet) (f.still off)
     ∙ append-nil (offered plp events)))
+
+-- ---- what the inputs stand for, whatever it is, from call to call
+
+pub supplied_over : (c : Config) (frame : ℕ) (inputs same : List Input) (step : Step) (pool : State) → same ≡ inputs → step ≡ Over
+    → AreSupplied c frame inputs (early_at step pool) → AreSupplied c frame same (bits_in pool)
+supplied_over c frame inputs same step pool e over s = record {
+  events = s.events;
+  frame_is = s.frame_is;
+  fed = subst (λ (l : List Input). AllFed l (bits_in pool) c s.events) (sym e)
+      (early_over inputs step pool c s.events over s.fed);
+}
+
+pub supplied_offered : (c : Config) (frame plp : ℕ) (packet : List ℕ) (old new : List Input) (step : Step) (was is : State)
+    → step ≡ Over
+    → ((events : List Event) → AllFed old (bits_in was) c events → AllFed new (bits_in is) c (events ++ Offered plp packet ∷ []))
+    → AreSupplied c frame old (early_at step was) → AreSupplied c frame new (early_at step is)
+supplied_offered c frame plp packet old new step was is over fed s = record {
+  events = s.events ++ Offered plp packet ∷ [];
+  frame_is = s.frame_is ∙ sym (ap (λ (t : Told). t.frame) (told_offered plp s.events packet));
+  fed = subst (λ (p : Step). AllFed new (early_at p is) c (s.events ++ Offered plp packet ∷ [])) (sym over)
+      (fed s.events (early_over old step was c s.events over s.fed));
+}
+
+pub supplied_ended : (c : Config) (frame plp : ℕ) (old new : List Input) (early : ℕ → List (List Bool))
+    → ((events : List Event) → AllFed old early c events → AllFed new early c (events ++ Ended plp ∷ []))
+    → AreSupplied c frame old early → AreSupplied c frame new early
+supplied_ended c frame plp old new early fed s = record {
+  events = s.events ++ Ended plp ∷ [];
+  frame_is = s.frame_is ∙ sym (ap (λ (t : Told). t.frame) (told_ended plp s.events));
+  fed = fed s.events s.fed;
+}
+
+pub supplied_begun : (c : Config) (frame : ℕ) (old new : List Input) (early late : ℕ → List (List Bool))
+    → ((events : List Event) → frame ≡ begun events → AllFed old early c events → AllFed new late c (events ++ Begun ∷ []))
+    → AreSupplied c frame old early → AreSupplied c (frame + 1) new late
+supplied_begun c frame old new early late fed s = record {
+  events = s.events ++ Begun ∷ [];
+  frame_is = ap (λ (n : ℕ). n + 1) s.frame_is ∙ sym (ap (λ (t : Told). t.frame) (told_begun 0 s.events));
+  fed = fed s.events s.frame_is s.fed;
+}
+
+pub supplied_kept : (c : Config) (frame : ℕ) (inputs : List Input) (early late : ℕ → List (List Bool))
+    → ((j : ℕ) → late j ≡ early j) → AreSupplied c frame inputs early → AreSupplied c frame inputs late
+supplied_kept c frame inputs early late same s = record {
+  events = s.events;
+  frame_is = s.frame_is;
+  fed = fed_kept inputs early late c s.events same s.fed;
+}

@@ -19,9 +19,9 @@ use Rattle.mode_adapt.specs.Laws.{EarlyFits, BlocksFit}
 use Rattle.mode_adapt.specs.Place.{HasPlace}
 use Rattle.mode_adapt.specs.Deletion.{packet_at}
 use Rattle.gateway_core.specs.Events.{Event, Offered, Ended, Begun, packets_to, offered, ends, has_ended, begins, begun}
-use Rattle.gateway_core.specs.IsFed.{IsFed, wanted, most}
+use Rattle.gateway_core.specs.IsFed.{IsFed, IsSupplied, wanted, most}
 use Rattle.gateway_core.specs.InputsStandFor.{AllFed, AreFor, AllContinue, AreBlocks, HasCut, CutsOne, CutUntil, HasFrame}
-use Rattle.gateway_core.specs.InputsStandFor.{SameMost}
+use Rattle.gateway_core.specs.InputsStandFor.{SameMost, AreSupplied}
 use Rattle.gateway_core.specs.Lists.{bits_in}
 use Rattle.gateway_core.specs.Told.{Told, told, with_packet, at_end, in_next, Continues}
 use Rattle.gateway_core.specs.declared.input.Input.{Input}
@@ -152,6 +152,13 @@ same_most items s d new lt e = λ j f.
       | inr differ ↦ ap most (get_or-set_other items s j new f differ)
     ]
 
+-- the same for inputs that stand behind others
+pub most_stays : (old new same items : List Input) (c : Config) → same ≡ old → items ≡ new → length new ≡ length old
+    → SameMost same new → AreFor old c → AreFor items c
+most_stays old new same items c e f len kept are = λ j d lt.
+    ap most (ap (λ (l : List Input). slice_index_or l j d) f) ∙ kept j d
+    ∙ ap most (ap (λ (l : List Input). slice_index_or l j d) e) ∙ are j d (omega (arith, lt, ap length f, len))
+
 pub same_wanted : (new old : List Input) (j : ℕ) → length new ≡ length old → j < length new
     → ((d : Input) → slice_index_or new j d ≡ slice_index_or old j d)
     → slice_index (map wanted new) j ≡ slice_index (map wanted old) j
@@ -230,6 +237,31 @@ place_next early late c frame old new was is counts n events d plan whole h e ha
             (all other d (omega (arith, whole, lt))))
       ];
     }
+
+-- so it is supplied
+pub cut_supplied : EarlyFits → BlocksFit → (c : Config) (frame : ℕ) (old new : List Input) (was is : State) (counts : List ℕ)
+    (n : ℕ) (d : Input) → IsPlan c → length old ≡ length c.plps → n < length old
+    → CutUntil c frame old new was is counts n → HasFrame c was → AreSupplied c frame old (bits_in was)
+    → IsSupplied (slice_index_or new n d) is n
+cut_supplied early late c frame old new was is counts n d plan whole inside h has s = record {
+  config = c;
+  plp = n;
+  told = told n s.events;
+  place = place_next early late c frame old new was is counts n s.events d plan whole h s.frame_is has s.fed;
+  fed = rw (h.rest n d (omega arith), h.lists n (omega arith)) (s.fed n d inside);
+}
+
+-- and so is each input while no frame is given
+pub one_supplied : EarlyFits → (items : List Input) (pool : State) (c : Config) (frame plp : ℕ) (d : Input)
+    → length items ≡ length c.plps → plp < length items → HasFrame c pool → AreSupplied c frame items (bits_in pool)
+    → IsSupplied (slice_index_or items plp d) pool plp
+one_supplied early items pool c frame plp d whole lt has s = record {
+  config = c;
+  plp = plp;
+  told = told plp s.events;
+  place = has_place early items d pool plp c s.events whole has s.fed;
+  fed = s.fed plp d lt;
+}
 
 pub cut_step : EarlyFits → BlocksFit → (c : Config) (frame : ℕ) (old new newer : List Input) (was is next : State)
     (counts : List ℕ) (n count : ℕ) → IsPlan c → length old ≡ length c.plps → n < length old

@@ -5,10 +5,10 @@ use Rattle.std.specs.Int.{div_ceil}
 use Rattle.std.specs.List.{range_with_len}
 use Rattle.std.proofs.lemmas.Bool.{cases_lt}
 use Rattle.std.proofs.Math.Nat.{mul-le-mul_right}
-use Rattle.plp_config.specs.Laws.{CountRises, EndsAfterStart, FrameCountLeast, NotOverBy, SlotLength}
+use Rattle.plp_config.specs.Laws.{CountRises, EndsAfterStart, EpochTicks, FrameCountLeast, NotOverBy, SlotLength}
 use Rattle.plp_config.specs.Plps.{plp_at}
 use Rattle.plp_config.specs.RunLength.{frame_count, last_tick}
-use Rattle.plp_config.specs.SlotTime.{num, den, start, delay}
+use Rattle.plp_config.specs.SlotTime.{num, den, start, delay, epoch_ticks}
 use Rattle.plp_config.specs.declared.config.Config.{Config}
 use Rattle.t2mi_packet.specs.declared.packet.Body.{Body}
 use Rattle.mode_adapt.specs.Deletion.{packet_at}
@@ -39,9 +39,10 @@ tick_none c packets = refl
 less : (a b n : ℕ) → a * n < b * n → a < b
 less a b n lt = elim (cases_lt a b) [ inl is ↦ is | inr ge ↦ absurd (let p = mul-le-mul_right n ge in omega (arith, p, lt)) ]
 
-pub not_last : FrameCountLeast → EndsAfterStart → NotOverBy → SlotLength → NotYetLast
-not_last least ends over slot c packets plp m plan lt le =
+pub not_last : FrameCountLeast → EndsAfterStart → NotOverBy → SlotLength → EpochTicks → NotYetLast
+not_last least ends over slot epoch c packets plp m plan lt le =
     let s = slot c plp plan.rules lt in
+    let long = epoch c plp plan.rules lt in
     let count = least c packets plan.rules in
     let e : start c plp (packets plp) + delay c plp ≤ frame_count c packets * c.ticks = count.enough plp lt in
     let a = ends (num c) (den c plp) (packets plp) (omega (arith, s.0)) in
@@ -49,7 +50,7 @@ not_last least ends over slot c packets plp m plan lt le =
     let d : m * c.ticks < start c plp (packets plp) + 1 + div_ceil (num c) (den c plp) =
     less (m * c.ticks) _ (den c plp) (omega (arith, a, b)) in
     less (m + 3) (frame_count c packets) c.ticks (let f : (m + 3) * c.ticks ≡ m * c.ticks + 3 * c.ticks = omega arith in
-    omega (arith, e, d, f))
+    omega (arith, e, d, f, long.0))
 
 bodies_split : (c : Config) (all : ℕ → List (List ℕ)) (n k : ℕ) → (rest : List (ℕ × Body))
     × (bodies_before c all (n + k) ≡ bodies_before c all n ++ rest)
@@ -114,8 +115,9 @@ fronts_decided blocks slot rises c inputs other n plan h =
     (bodies_same c inputs other n (λ m lt. frame_same c m (plp_blocks c inputs m) (plp_blocks c other m) (λ j configured.
     blocks c j (packet_at (inputs j)) (packet_at (other j)) m plan configured (λ k inside.
     let s = slot c j plan.rules configured in
-    let t : m * c.ticks ≤ (n - 1) * c.ticks = let d : m ≤ n - 1 = omega arith in mul-le-mul_right c.ticks d in
-    let le = rises (num c) (den c j) (m * c.ticks) ((n - 1) * c.ticks) (omega (arith, s.0, s.2)) t in
+    let t : m * epoch_ticks c j ≤ (n - 1) * epoch_ticks c j =
+    (let d : m ≤ n - 1 = omega arith in mul-le-mul_right (epoch_ticks c j) d) in
+    let le = rises (num c) (den c j) (m * epoch_ticks c j) ((n - 1) * epoch_ticks c j) (omega (arith, s.0, s.2)) t in
     h j k configured (omega (arith, inside, le))))))
 
 tick_same : (c : Config) (f g : ℕ → ℕ) (n : ℕ) → ((j : ℕ) → j < n → f j ≡ g j) → last_tick c f n ≡ last_tick c g n

@@ -4,6 +4,7 @@ use Rattle.std.specs.declared.option.Option.{Option}
 use Rattle.linked_pool.specs.Fits.{frame_chunks}
 use Rattle.linked_pool.specs.Pool.{State, list_at, Others}
 use Rattle.plp_config.specs.Plps.{plp_at}
+use Rattle.plp_config.specs.SlotTime.{epoch_ticks}
 use Rattle.plp_config.specs.declared.config.Config.{Config}
 use Rattle.mode_adapt.specs.Blocks.{blocks_of}
 use Rattle.mode_adapt.specs.Deletion.{packet_at}
@@ -25,6 +26,12 @@ abbrev pub AllFed : List Input → (ℕ → List (List Bool)) → Config → Lis
 AllFed inputs early c events = (j : ℕ) (d : Input) → j < length inputs → IsFed (slice_index_or inputs j d) c j (told j events)
     (early j)
 
+-- There are events that they stand for, with so many frames begun.
+pub record AreSupplied (c : Config) (frame : ℕ) (inputs : List Input) (early : ℕ → List (List Bool)) : Type 0 where
+  pub events : List Event
+  pub frame_is : frame ≡ begun events
+  pub fed : AllFed inputs early c events
+
 -- No PLP gives more blocks than the configuration allows.
 abbrev pub AreFor : List Input → Config → Type 0
 AreFor inputs c = (j : ℕ) (d : Input) → j < length inputs → most (slice_index_or inputs j d) ≡ (plp_at c.plps j).blocks
@@ -35,14 +42,15 @@ AllContinue c events inputs = (j : ℕ) → j < length c.plps → Continues (tol
 
 -- A pool has the blocks of the next frame, for any inputs that continue.
 abbrev pub AreBlocks : State → Config → List Event → (ℕ → List (List ℕ)) → Type 0
-AreBlocks pool c events inputs = (j : ℕ) → j < length c.plps → bits_in pool j ≡ blocks_of c j c.ticks (packet_at (inputs j))
-    (begun events)
+AreBlocks pool c events inputs = (j : ℕ) → j < length c.plps → bits_in pool j ≡ blocks_of c j (epoch_ticks c j)
+    (packet_at (inputs j)) (begun events)
 
 -- An input put the blocks of a frame into the list of its place, and so many there are; the frame behind it is the next one.
 pub record Cuts (chain : Chain) (due slot : ℕ) (total : Option ℕ) (c : Config) (plp : ℕ) (t : Told) (pool : State)
     (count : ℕ) : Type 0 where
   pub fed : Fed chain due slot total c plp (in_next t) []
-  pub blocks : (input : List (List ℕ)) → Continues t input → bits_in pool plp ≡ blocks_of c plp c.ticks (packet_at input) t.frame
+  pub blocks : (input : List (List ℕ)) → Continues t input → bits_in pool plp
+      ≡ blocks_of c plp (epoch_ticks c plp) (packet_at input) t.frame
   pub count_is : count ≡ length (list_at pool plp)
 
 abbrev pub HasCut : Input → Config → ℕ → Told → State → ℕ → Type 0

@@ -1,12 +1,16 @@
 -- What an input stands for. No public clause cites this module.
 use Rattle.std.specs.Prelude.{◌≡◌, ℕ, ◌-◌, ◌*◌, Bool, false, List, ◌++◌, length, replicate, Some, None, is_some, if◌then◌else◌}
 use Rattle.std.specs.declared.option.Option.{Option}
+use Rattle.plp_config.specs.Plps.{StandsAlone}
 use Rattle.plp_config.specs.SlotTime.{slots_by}
 use Rattle.plp_config.specs.declared.config.Config.{Config}
 use Rattle.ts_packet.specs.Null.{null_packet}
+use Rattle.linked_pool.specs.Pool.{State}
 use Rattle.mode_adapt.specs.Events as queue
+use Rattle.mode_adapt.specs.Place.{HasPlace}
 use Rattle.mode_adapt.specs.StandsFor.{ChainStandsFor, most_blocks, early_blocks}
 use Rattle.mode_adapt.specs.declared.chain.Chain.{Chain}
+use Rattle.gateway_core.specs.Lists.{bits_in}
 use Rattle.gateway_core.specs.Told.{Told}
 use Rattle.gateway_core.specs.declared.input.Input.{Input}
 
@@ -18,6 +22,8 @@ wanted i = if is_some i.total then 0 else i.due - i.slot
 -- slots are over when that frame begins, so many have their packets, and so many packets there were at the end.
 pub record Fed (chain : Chain) (due slot : ℕ) (total : Option ℕ) (c : Config) (plp : ℕ) (t : Told)
     (early : List (List Bool)) : Type 0 where
+  -- Frames and interleaving frames are the same.
+  pub alone : StandsAlone c.plps plp
   pub events : List queue.Event
   pub stands : ChainStandsFor chain c plp events
   pub nulls : ℕ
@@ -31,6 +37,14 @@ pub record Fed (chain : Chain) (due slot : ℕ) (total : Option ℕ) (c : Config
 
 abbrev pub IsFed : Input → Config → ℕ → Told → List (List Bool) → Type 0
 IsFed i c plp t early = Fed i.chain i.due i.slot i.total c plp t early
+
+-- An input stands for what it was told, and its pool is ready for whatever block its chain puts next.
+pub record IsSupplied (i : Input) (pool : State) (list : ℕ) : Type 0 where
+  pub config : Config
+  pub plp : ℕ
+  pub told : Told
+  pub place : HasPlace config plp pool list
+  pub fed : IsFed i config plp told (bits_in pool list)
 
 -- the greatest number of blocks that an input gives for a frame
 abbrev pub most : Input → ℕ

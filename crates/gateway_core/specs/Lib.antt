@@ -6,7 +6,7 @@ pub mod Packets
 pub mod StandsFor
 pub mod Laws
 -- inner: no public clause cites these
-pub mod ChainSteps
+pub mod Served
 pub mod Lists
 pub mod IsFed
 pub mod Whole

@@ -10,7 +10,7 @@ ghost use Rattle.gateway_core.specs.declared.frame.Step.TheVariants.{Over};
 use crate::packet::{write_block, write_l1_current, write_timestamp};
 use crate::signalling::{Dynamic, Signalling};
 use bit_slice::{FixedBits, OutOfMemory};
-use linked_pool::{BlockRef, CHUNKS_OF_CELLS, FEWEST_CELLS, Pool};
+use linked_pool::{BlockRef, Pool, frame_chunks};
 use plp_config::Plan;
 use std::alloc::Global;
 use t2mi_packet::LARGEST;
@@ -28,7 +28,7 @@ enum Step {
 fn first_step(plan: &Plan, frame: u64) -> Step
     ensures { result ≡ first_step plan.now frame }
 {
-    if frame % u64::from(plan.config().frames) == 0 {
+    if plan.frame_idx(frame) == 0 {
         Step::Stamp
     } else {
         Step::Signal
@@ -86,13 +86,6 @@ pub struct Frame {
     ghost below: { step ≢ Over → (j : ℕ) → j < plp → list_at blocks j ≡ [] },
 }
 
-// The chunks that the blocks of a frame fill at most.
-fn frame_chunks(plan: &Plan) -> u32
-    ensures { result ≡ frame_chunks plan.now }
-{
-    CHUNKS_OF_CELLS * (plan.config().cells / FEWEST_CELLS)
-}
-
 impl Frame {
     ghost use Rattle.std.specs.Prelude.{◌≡◌, ◌<◌, ◌≤◌, ◌+◌, ◌*◌, ◌/◌, ℕ, true, false, [], length, replicate, IfOk};
     ghost use Rattle.scheduler.specs.Laws.{CountsFit};
@@ -134,8 +127,7 @@ impl Frame {
         ensures early { (j : ℕ) → early_of self.new j ≡ [] }
         ensures layout { layout_of self.new ≡ record (layout_of self.old) { number = number } }
     {
-        // A call that tells that each chunk is free or has a part of a block.
-        let _ = self.blocks.spare();
+        self.blocks.stays_whole();
         self.dynamic.write(plan, number, &self.counts);
         self.number = number;
         self.step = first_step(plan, number);

@@ -1,8 +1,10 @@
 // The gateway.
 ghost use Rattle.std.specs.Prelude.{◌≡◌, ◌<◌, ◌≤◌, ◌^◌, true, vec_len, length};
 ghost use Rattle.linked_pool.specs.Fits.{frame_chunks};
+ghost use Rattle.plp_config.specs.Places.{FramesStandAlone};
 ghost use Rattle.plp_config.specs.declared.moment.TheConstants.{MOST_FRAMES};
-ghost use Rattle.gateway_core.specs.InputsStandFor.{AreFor};
+ghost use Rattle.gateway_core.specs.InputsStandFor.{AreFor, AreSupplied};
+ghost use Rattle.gateway_core.specs.Left.{early_of};
 ghost use Rattle.gateway_core.specs.declared.frame.Step.TheVariants.{Over};
 
 use crate::flow::Flow;
@@ -12,7 +14,8 @@ use crate::inputs::{cut, end, offer, open_inputs, wanted};
 use crate::run_length::frame_count;
 use crate::signalling::Signalling;
 use bit_slice::OutOfMemory;
-use plp_config::Plan;
+use mode_adapt::early_fits_law;
+use plp_config::{Plan, spread_law};
 use std::alloc::Global;
 use ts_packet::{SIZE, TsPacket};
 
@@ -34,6 +37,17 @@ pub struct Gateway<'p> {
     ghost lists: { length frame.blocks.lists ≡ length plan.now.plps },
     ghost chunks: { frame.blocks.opened ≡ frame_chunks plan.now },
     ghost over: { flow.dry ≡ true → frame.step ≡ Over },
+    ghost alone: { FramesStandAlone plan.now },
+    ghost supplied: { ∥ AreSupplied plan.now frames inputs.items (early_of frame) ∥₁ },
+}
+
+// If frames stand alone, a pool has few chunks. It does nothing.
+fn few_chunks(plan: &Plan)
+    requires { FramesStandAlone plan.now }
+    ensures { frame_chunks plan.now < 2 ^ 14 }
+{
+    spread_law();
+    plan.obeys_rules();
 }
 
 // The PID of the T2-MI stream.
@@ -58,6 +72,8 @@ impl<'p> Gateway<'p> {
 
     /// A gateway to which nothing was offered, for a plan. It takes all the memory that it needs.
     pub fn open(alloc: Global, plan: &'p Plan) -> Result<Gateway<'p>, OutOfMemory>
+        // every interleaving frame is carried by one frame
+        requires alone { FramesStandAlone plan.now }
         ensures stands { IfOk result (λ g. GatewayStandsFor g plan.now []) }
         ensures status { IfOk result (λ g. status_of g ≡ new_status (length plan.now.plps)) }
     {
@@ -93,6 +109,7 @@ impl<'p> Gateway<'p> {
         ensures others { (other : ℕ) → other ≢ plp → wants_of self.new other ≡ wants_of self.old other }
         ensures status { status_of self.new ≡ status_of self.old }
     {
+        early_fits_law();
         self.plan.obeys_rules();
         offer(&mut self.inputs, &mut self.frame.blocks, plp, packet);
     }
@@ -127,6 +144,7 @@ impl<'p> Gateway<'p> {
         ensures more { bytes_left self.new ≤ bytes_left self.old + 2 ^ 32 }
     {
         self.plan.obeys_rules();
+        few_chunks(self.plan);
         cut(
             self.plan,
             &mut self.inputs,

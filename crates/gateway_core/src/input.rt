@@ -1,9 +1,10 @@
 // The input of one PLP.
 ghost use Rattle.std.specs.Prelude.{◌≡◌, ◌<◌, ◌≤◌, ◌+◌, ◌^◌, ℕ, Some, length};
 ghost use Rattle.linked_pool.specs.Pool.{Others, IsWhole};
+ghost use Rattle.mode_adapt.specs.Calls.{TakesIfReady, EndsIfReady};
 ghost use Rattle.mode_adapt.specs.StandsFor.{slot_of, most_blocks};
-ghost use Rattle.gateway_core.specs.ChainSteps.{Takes, Ends};
 ghost use Rattle.gateway_core.specs.Lists.{bits_in, AllShort};
+ghost use Rattle.gateway_core.specs.Served.{IsServed};
 
 use bit_slice::OutOfMemory;
 use linked_pool::Pool;
@@ -28,24 +29,26 @@ pub struct Input {
     ghost behind: { (count : ℕ) → total ≡ Some count → count ≤ due },
 }
 
-// Gives a chain the packet of the next slot. A pool with place has room for every block of a frame.
+// Gives a chain the packet of the next slot. A pool that is ready has room for every block of a frame.
 fn offer_to(chain: &mut Chain, packet: &TsPacket, pool: &mut Pool, list: u32)
     requires slot { slot_of chain.old < 2 ^ 54 }
     requires list { list < length pool.old.lists }
-    ensures takes { Takes chain.old chain.new packet.now pool.old pool.new list }
+    requires ready { ∥ IsServed chain.old pool.old list ∥₁ }
+    ensures takes { TakesIfReady chain.old chain.new packet.now pool.old pool.new list }
     ensures slots { slot_of chain.new ≡ slot_of chain.old + 1 }
     ensures most { most_blocks chain.new ≡ most_blocks chain.old }
     ensures short { AllShort pool.old → AllShort pool.new }
     ensures others { Others pool.old pool.new list }
     ensures whole { IsWhole pool.new }
 {
-    let _ = chain.offer(packet, pool, list);
+    chain.offer(packet, pool, list).unwrap();
 }
 
-// Ends the next frame: how many blocks it has. A pool with place has room for every one.
+// Ends the next frame: how many blocks it has. A pool that is ready has room for every one.
 fn end_frame(chain: &mut Chain, pool: &mut Pool, list: u32) -> u16
-    requires { list < length pool.old.lists }
-    ensures ends { Ends chain.old chain.new pool.old pool.new list result }
+    requires list { list < length pool.old.lists }
+    requires ready { ∥ IsServed chain.old pool.old list ∥₁ }
+    ensures ends { EndsIfReady chain.old chain.new pool.old pool.new list result }
     ensures few { result ≤ most_blocks chain.old }
     ensures slots { slot_of chain.new ≡ slot_of chain.old }
     ensures most { most_blocks chain.new ≡ most_blocks chain.old }
@@ -53,27 +56,26 @@ fn end_frame(chain: &mut Chain, pool: &mut Pool, list: u32) -> u16
     ensures others { Others pool.old pool.new list }
     ensures whole { IsWhole pool.new }
 {
-    match chain.cut(pool, list) {
-        Ok(count) => count as u16,
-        Err(_) => 0,
-    }
+    chain.cut(pool, list).unwrap() as u16
 }
 
 impl Input {
     ghost use Rattle.std.specs.Prelude.{◌≡◌, ◌<◌, ◌≤◌, ◌+◌, ◌*◌, ◌^◌, ℕ, List, Bool, [], true, false, length, IfOk, IfSome};
+    ghost use Rattle.std.specs.Prelude.{is_some};
     ghost use Rattle.linked_pool.specs.Pool.{list_at, Others, IsWhole};
-    ghost use Rattle.plp_config.specs.Plps.{plp_at};
+    ghost use Rattle.plp_config.specs.Plps.{plp_at, StandsAlone};
     ghost use Rattle.plp_config.specs.Capacity.{IsPlan};
     ghost use Rattle.plp_config.specs.SlotTime.{slots_by};
     ghost use Rattle.plp_config.specs.declared.config.Config.{Config};
     ghost use Rattle.mode_adapt.specs.Place.{HasPlace};
     ghost use Rattle.gateway_core.specs.Told.{Told, with_packet, at_end};
-    ghost use Rattle.gateway_core.specs.IsFed.{IsFed, wanted, most};
+    ghost use Rattle.gateway_core.specs.IsFed.{IsFed, IsSupplied, wanted, most};
     ghost use Rattle.gateway_core.specs.InputsStandFor.{HasCut};
 
     /// An input of no packets yet, for the PLP at a place of the plan. No later call takes memory.
     pub fn open(alloc: Global, plan: &Plan, plp: usize) -> Result<Input, OutOfMemory>
-        requires { plp < length plan.now.plps }
+        requires place { plp < length plan.now.plps }
+        requires alone { StandsAlone plan.now.plps plp }
         ensures fed { IfOk result (λ i. IsFed i plan.now plp (record { packets = []; ended = false; frame = 0 }) []) }
         ensures most { IfOk result (λ i. most i ≡ (plp_at plan.now.plps plp).blocks) }
     {
@@ -112,6 +114,7 @@ impl Input {
     pub fn offer(&mut self, packet: &TsPacket, pool: &mut Pool, list: u32)
         requires wanted { 0 < wanted self.old }
         requires list { list < length pool.old.lists }
+        requires ready { ∥ IsSupplied self.old pool.old list ∥₁ }
         ensures fed { (c : Config) (plp : ℕ) (t : Told) → HasPlace c plp pool.old list
             → IsFed self.old c plp t (bits_in pool.old list)
             → IsFed self.new c plp (with_packet t packet.now) (bits_in pool.new list) }
@@ -141,9 +144,12 @@ impl Input {
     fn offer_null(&mut self, pool: &mut Pool, list: u32)
         requires before { self.old.slot < self.old.due }
         requires list { list < length pool.old.lists }
+        requires ended { is_some self.old.total ≡ true }
+        requires ready { ∥ IsSupplied self.old pool.old list ∥₁ }
         ensures fed { (c : Config) (plp : ℕ) (t : Told) → t.ended ≡ true → HasPlace c plp pool.old list
             → IsFed self.old c plp t (bits_in pool.old list)
             → IsFed self.new c plp t (bits_in pool.new list) }
+        ensures ready { ∥ IsSupplied self.new pool.new list ∥₁ }
         ensures slot { self.new.slot ≡ self.old.slot + 1 }
         ensures due { self.new.due ≡ self.old.due }
         ensures total { self.new.total ≡ self.old.total }
@@ -157,7 +163,10 @@ impl Input {
 
     // Null packets up to the slots that are over.
     fn fill(&mut self, pool: &mut Pool, list: u32)
-        requires { list < length pool.old.lists }
+        requires list { list < length pool.old.lists }
+        requires ended { is_some self.old.total ≡ true }
+        requires ready { ∥ IsSupplied self.old pool.old list ∥₁ }
+        ensures ready { ∥ IsSupplied self.new pool.new list ∥₁ }
         ensures fed { (c : Config) (plp : ℕ) (t : Told) → t.ended ≡ true → HasPlace c plp pool.old list
             → IsFed self.old c plp t (bits_in pool.old list)
             → IsFed self.new c plp t (bits_in pool.new list) }
@@ -176,6 +185,8 @@ impl Input {
     fn complete(&mut self, pool: &mut Pool, list: u32)
         requires wanted { wanted self.old ≡ 0 }
         requires list { list < length pool.old.lists }
+        requires ready { ∥ IsSupplied self.old pool.old list ∥₁ }
+        ensures ready { ∥ IsSupplied self.new pool.new list ∥₁ }
         ensures fed { (c : Config) (plp : ℕ) (t : Told) → HasPlace c plp pool.old list
             → IsFed self.old c plp t (bits_in pool.old list)
             → IsFed self.new c plp t (bits_in pool.new list) }
@@ -197,6 +208,7 @@ impl Input {
         requires wanted { wanted self.old ≡ 0 }
         requires small { due < 2 ^ 54 }
         requires list { list < length pool.old.lists }
+        requires ready { ∥ IsSupplied self.old pool.old list ∥₁ }
         ensures cut { (c : Config) (plp : ℕ) (t : Told) → IsPlan c → plp < length c.plps → HasPlace c plp pool.old list
             → due ≡ slots_by c plp ((t.frame + 1) * c.ticks)
             → IsFed self.old c plp t (bits_in pool.old list) → HasCut self.new c plp t pool.new result }

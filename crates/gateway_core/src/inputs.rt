@@ -1,13 +1,16 @@
 // The inputs of all PLPs.
-ghost use Rattle.std.specs.Prelude.{◌≡◌, ◌≢◌, ◌<◌, ◌≤◌, ◌+◌, ◌^◌, ◌++◌, ◌∷◌, [], ℕ, List, Bool, length, map, slice_index, IfOk};
+ghost use Rattle.std.specs.Prelude.{◌≡◌, ◌≢◌, ◌<◌, ◌≤◌, ◌+◌, ◌^◌, ◌++◌, ◌∷◌, [], ℕ, List, Bool, length, map, slice_index};
+ghost use Rattle.std.specs.Prelude.{slice_index_or, IfOk};
 ghost use Rattle.linked_pool.specs.Pool.{IsWhole};
 ghost use Rattle.plp_config.specs.declared.moment.TheConstants.{MOST_FRAMES};
 ghost use Rattle.plp_config.specs.Capacity.{IsPlan};
+ghost use Rattle.plp_config.specs.Places.{FramesStandAlone};
 ghost use Rattle.plp_config.specs.Plps.{plp_at};
 ghost use Rattle.plp_config.specs.declared.config.Config.{Config};
-ghost use Rattle.gateway_core.specs.IsFed.{IsFed, wanted, most};
+ghost use Rattle.gateway_core.specs.IsFed.{IsFed, IsSupplied, wanted, most};
 ghost use Rattle.gateway_core.specs.Events.{Event, Offered, Ended, Begun, begun};
 ghost use Rattle.gateway_core.specs.InputsStandFor.{AllFed, AreFor, AllContinue, AreBlocks, CutsOne, SameMost, HasFrame};
+ghost use Rattle.gateway_core.specs.InputsStandFor.{AreSupplied};
 ghost use Rattle.gateway_core.specs.Lists.{bits_in, AllShort};
 ghost use Rattle.gateway_core.specs.declared.input.Input.{Input};
 
@@ -21,6 +24,7 @@ use ts_packet::TsPacket;
 
 /// The inputs of no packets yet, for the PLPs of a plan.
 pub fn open_inputs(alloc: Global, plan: &Plan) -> Result<Vec<Input>, OutOfMemory>
+    requires alone { FramesStandAlone plan.now }
     ensures len { IfOk result (λ inputs. length inputs.items ≡ length plan.now.plps) }
     ensures fed { IfOk result (λ inputs. AllFed inputs.items (λ j. []) plan.now []) }
     ensures most { IfOk result (λ inputs. AreFor inputs.items plan.now) }
@@ -46,6 +50,7 @@ pub fn offer(inputs: &mut [Input], pool: &mut Pool, plp: usize, packet: &TsPacke
     requires few { plp < 2 ^ 32 }
     requires lists { length pool.old.lists ≡ length inputs.old }
     requires wanted { 0 < slice_index (map wanted inputs.old) plp }
+    requires ready { (d : Input) → ∥ IsSupplied (slice_index_or inputs.old plp d) pool.old plp ∥₁ }
     ensures fed { (c : Config) (events : List Event) → length inputs.old ≡ length c.plps → HasFrame c pool.old
         → AllFed inputs.old (bits_in pool.old) c events
         → AllFed inputs.new (bits_in pool.new) c (events ++ Offered plp packet.now ∷ []) }
@@ -80,8 +85,9 @@ fn cut_one(plan: &Plan, inputs: &mut [Input], pool: &mut Pool, plp: usize, frame
     requires whole { length inputs.old ≡ length plan.now.plps }
     requires place { plp < length inputs.old }
     requires early { frame < MOST_FRAMES }
-    requires ready { slice_index (map wanted inputs.old) plp ≡ 0 }
+    requires none { slice_index (map wanted inputs.old) plp ≡ 0 }
     requires lists { length pool.old.lists ≡ length inputs.old }
+    requires ready { (d : Input) → ∥ IsSupplied (slice_index_or inputs.old plp d) pool.old plp ∥₁ }
     ensures cuts { CutsOne plan.now frame inputs.old inputs.new pool.old pool.new plp result }
     ensures most { SameMost inputs.old inputs.new }
     ensures short { AllShort pool.old → AllShort pool.new }
@@ -96,7 +102,9 @@ fn cut_one(plan: &Plan, inputs: &mut [Input], pool: &mut Pool, plp: usize, frame
 pub fn cut(plan: &Plan, inputs: &mut [Input], pool: &mut Pool, frame: u64, counts: &mut [u16])
     requires whole { length inputs.old ≡ length plan.now.plps }
     requires early { frame < MOST_FRAMES }
-    requires ready { (plp : ℕ) → plp < length inputs.old → slice_index (map wanted inputs.old) plp ≡ 0 }
+    requires none { (plp : ℕ) → plp < length inputs.old → slice_index (map wanted inputs.old) plp ≡ 0 }
+    requires frame { HasFrame plan.now pool.old }
+    requires ready { ∥ AreSupplied plan.now frame inputs.old (bits_in pool.old) ∥₁ }
     requires lists { length pool.old.lists ≡ length inputs.old }
     requires counts { length counts.old ≡ length plan.now.plps }
     ensures fed { (events : List Event) → frame ≡ begun events → HasFrame plan.now pool.old
@@ -122,6 +130,5 @@ pub fn cut(plan: &Plan, inputs: &mut [Input], pool: &mut Pool, frame: u64, count
     for plp in 0..inputs.len() {
         counts[plp] = cut_one(plan, inputs, pool, plp, frame);
     }
-    // A call that tells that each chunk is free or has a part of a block.
-    let _ = pool.spare();
+    pool.stays_whole();
 }

@@ -6,9 +6,8 @@ ghost use Rattle.t2mi_packet.specs.T2miPacket.{Fits, written_bits};
 ghost use Rattle.gateway_core.specs.Whole.{IsWhole};
 ghost use Rattle.gateway_core.specs.Packets.{stamp_of, l1_body, packet_with};
 
-use crate::signalling::MOST_DYN_BITS;
 use bit_slice::{BitSink, BitSlice, FixedBits};
-use l1_signal::MOST_CONF_BITS;
+use l1_signal::{MOST_CONF_BITS, MOST_DYN_BITS, PRE_BITS};
 use linked_pool::BlockRef;
 use plp_config::{Band, MOST_BLOCK_BYTES, Plan};
 use t2mi_packet::{
@@ -23,7 +22,7 @@ fn put_packet(out: &mut FixedBits<LARGEST>, packet: &Packet<'_>)
     written_law();
     out.clear();
     // There is room for any packet.
-    let _ = write(out, packet);
+    write(out, packet).unwrap();
 }
 
 // The same, and it is whole bytes.
@@ -34,21 +33,6 @@ fn write_packet(out: &mut FixedBits<LARGEST>, packet: &Packet<'_>)
 {
     written_law();
     put_packet(out, packet);
-}
-
-// FRAME_IDX of a frame.
-fn frame_idx(plan: &Plan, frame: u64) -> u8
-    ensures { result ≡ frame % plan.now.frames }
-{
-    (frame % u64::from(plan.config().frames)) as u8
-}
-
-// superframe_idx of a frame.
-fn superframe_idx(plan: &Plan, frame: u64) -> u8
-    ensures value { result ≡ frame / plan.now.frames % 16 }
-    ensures small { result < 2 ^ 4 }
-{
-    (frame / u64::from(plan.config().frames) % 16) as u8
 }
 
 fn stamp_of(plan: &Plan, frame: u64) -> Stamp
@@ -77,7 +61,7 @@ pub fn write_timestamp(out: &mut FixedBits<LARGEST>, plan: &Plan, packet_count: 
 {
     let packet = Packet {
         packet_count,
-        superframe: superframe_idx(plan, frame),
+        superframe: plan.superframe_idx(frame),
         stream: 0,
         body: Body::Timestamp(stamp_of(plan, frame)),
     };
@@ -94,7 +78,7 @@ pub fn write_l1_current(
     conf: BitSlice<'_>,
     dynamic: BitSlice<'_>,
 )
-    requires pre { length pre ≡ 168 }
+    requires pre { length pre ≡ PRE_BITS }
     requires conf { length conf ≤ MOST_CONF_BITS }
     requires dynamic { length dynamic ≤ MOST_DYN_BITS }
     ensures bits { out.new ≡ written_bits (packet_with plan.now packet_count frame
@@ -103,10 +87,10 @@ pub fn write_l1_current(
 {
     let packet = Packet {
         packet_count,
-        superframe: superframe_idx(plan, frame),
+        superframe: plan.superframe_idx(frame),
         stream: 0,
         body: Body::L1Current {
-            frame_idx: frame_idx(plan, frame),
+            frame_idx: plan.frame_idx(frame),
             pre,
             conf,
             dynamic,
@@ -124,7 +108,7 @@ fn put_pieces(out: &mut FixedBits<LARGEST>, block: &BlockRef<'_>)
     let mut pieces = block.pieces();
     while let Some(piece) = pieces.next() {
         // There is room for it.
-        let _ = out.put_slice(BitSlice::whole(piece));
+        out.put_slice(BitSlice::whole(piece)).unwrap();
     }
 }
 
@@ -146,9 +130,9 @@ pub fn write_block(
 {
     let head = BlockHead {
         packet_count,
-        superframe: superframe_idx(plan, frame),
+        superframe: plan.superframe_idx(frame),
         stream: 0,
-        frame_idx: frame_idx(plan, frame),
+        frame_idx: plan.frame_idx(frame),
         plp_id: plan.plp_id(plp),
         first,
     };

@@ -4,37 +4,39 @@ ghost use Rattle.scheduler.specs.Laws.{CountsFit, FitsL1};
 ghost use Rattle.l1_signal.specs.L1Dynamic.{dyn_bits};
 ghost use Rattle.l1_signal.specs.L1Of.{dyn_of};
 ghost use Rattle.gateway_core.specs.Signalling.{pre_part, conf_part, dyn_part};
-ghost use Rattle.l1_signal.specs.declared.conf.TheConstants.{MOST_CONF_BITS};
-ghost use Rattle.gateway_core.specs.declared.signalling.TheConstants.{MOST_DYN_BITS};
+ghost use Rattle.l1_signal.specs.declared.lengths.TheConstants.{MOST_CONF_BITS, MOST_DYN_BITS, PRE_BITS};
 
 use bit_slice::{BitBuf, FixedBits, OutOfMemory};
 use l1_signal::{
-    L1Dyn, MOST_CONF_BITS, conf_law, conf_of, dyn_law, dyn_of, pre_law, pre_of, write_conf,
-    write_dyn, write_pre,
+    L1Dyn, MOST_CONF_BITS, MOST_DYN_BITS, MOST_DYN_BYTES, PRE_BITS, conf_law, conf_of, dyn_law,
+    dyn_of, pre_law, pre_of, write_conf, write_dyn, write_pre,
 };
 use plp_config::Plan;
 use scheduler::{Shape, field_law, shape};
 use std::alloc::Global;
 
+// Bytes of L1-pre, without CRC_32.
+const PRE_LEN: usize = PRE_BITS / 8;
+
 /// What all frames share: L1-pre without CRC_32, and the configurable part of L1-post.
 #[derive(Drop)]
 pub struct Signalling {
-    pub pre: FixedBits<21>,
+    pub pre: FixedBits<PRE_LEN>,
     pub conf: BitBuf,
-    ghost whole: { length pre ≡ 168 },
+    ghost whole: { length pre ≡ PRE_BITS },
     ghost short: { length conf ≤ MOST_CONF_BITS },
 }
 
 // L1-pre.
 #[tactic(auto, unfolding(crate::specs::Signalling::pre_part))]
-fn pre_bits(plan: &Plan) -> FixedBits<21>
+fn pre_bits(plan: &Plan) -> FixedBits<PRE_LEN>
     ensures value { result ≡ pre_part plan.now }
-    ensures len { length result ≡ 168 }
+    ensures len { length result ≡ PRE_BITS }
 {
     pre_law();
     let mut bits = FixedBits::new();
     // There is room for it.
-    let _ = write_pre(&mut bits, &pre_of(plan));
+    write_pre(&mut bits, &pre_of(plan)).unwrap();
     bits
 }
 
@@ -90,14 +92,8 @@ fn write_bits(
     dyn_of(plan, frame, shape, rows);
     bits.clear();
     // There is room for it.
-    let _ = write_dyn(bits, rows);
+    write_dyn(bits, rows).unwrap();
 }
-
-/// Bits of a dynamic part at most: 79, and 48 for each of 255 PLPs.
-pub const MOST_DYN_BITS: usize = 79 + 48 * 255;
-
-/// Bytes of a dynamic part at most.
-pub const MOST_DYN_BYTES: usize = MOST_DYN_BITS / 8 + 1;
 
 /// The dynamic part of L1-post, written anew for each frame.
 #[derive(Drop)]

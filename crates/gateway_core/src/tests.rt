@@ -1,5 +1,6 @@
 // Expected values come from worked examples.
-ghost use Rattle.std.specs.Prelude.{◌≡◌, ◌≢◌, ◌<◌, ◌≤◌, ℕ, false, length, OnOk};
+ghost use Rattle.std.specs.Prelude.{◌≡◌, ◌≢◌, ◌<◌, ◌≤◌, ℕ, true, false, length, OnOk};
+ghost use Rattle.plp_config.specs.Places.{FramesStandAlone};
 ghost use Rattle.gateway_core.specs.StandsFor.{plps_of, wants_of, frame_of, has_unit, has_finished};
 ghost use Rattle.t2mi_stream.specs.UnpiperStandsFor.{is_ready, fed_len};
 
@@ -78,6 +79,16 @@ fn drain(gateway: &mut Gateway<'_>, units: &mut Vec<[u8; 188]>) -> Result<(), Ou
     Ok(())
 }
 
+// Whether every frame stands alone.
+fn stands_alone(plan: &Plan) -> bool
+    ensures { result ≡ true → FramesStandAlone plan.now }
+{
+    match plan.first_spread() {
+        None => true,
+        Some(_) => false,
+    }
+}
+
 // The units of a run.
 fn run(
     rt: &(impl Abort + AllocGlobal),
@@ -85,6 +96,8 @@ fn run(
     inputs: &[&[TsPacket]],
 ) -> Result<Vec<[u8; 188]>, OutOfMemory> {
     assert!(rt; plan.config().plps.len() == inputs.len() && inputs.len() <= 3);
+    let alone = stands_alone(plan);
+    assert!(rt; alone);
     let mut gateway = Gateway::open(rt.alloc(), plan)?;
     let mut units = Vec::new(rt.alloc());
     let mut places = [0; 3];

@@ -110,7 +110,7 @@ pub taken_first : (file : List ℕ) (packets : List (List ℕ)) (ended : Bool) (
     → packets_in file ≡ packets ++ packets_in left
 taken_first file packets ended left r = ap packets_in r.parts ∙ packets_joined packets left r.each
 
-taken_few : (file : List ℕ) (packets : List (List ℕ)) (ended : Bool) (left : List ℕ) → IsRead file packets ended left
+pub taken_few : (file : List ℕ) (packets : List (List ℕ)) (ended : Bool) (left : List ℕ) → IsRead file packets ended left
     → length packets ≤ length (packets_in file)
 taken_few file packets ended left r = let e = ap length (taken_first file packets ended left r) in
     omega (arith, e, length-append packets (packets_in left))

@@ -4,9 +4,11 @@ use Rattle.std.proofs.Common.{subst, ◌∙◌, inl, inr, arith, append_assoc, a
 use Rattle.std.proofs.lemmas.Bool.{cases_Bool}
 use Rattle.std.proofs.lemmas.Grind.{flat_map-append}
 use Rattle.std.proofs.lemmas.List.{nil_from_length}
+use Rattle.std.specs.Prelude.{slice_index}
 use Rattle.plp_config.specs.SlotTime.{slots_by}
 use Rattle.plp_config.specs.declared.config.Config.{Config}
 use Rattle.ts_packet.specs.TsFile.{packets_in, HasBad, joined}
+use Rattle.ts_packet.specs.declared.sizes.TheConstants.{SIZE}
 use Rattle.t2mi_stream.specs.Complete.{complete_units}
 use Rattle.t2mi_stream.specs.Pipe.{pipe}
 use Rattle.file_run.specs.Events as run
@@ -18,15 +20,16 @@ use Rattle.gateway_core.specs.Packets.{front_packets, packets_of}
 use Rattle.gateway_core.specs.StandsFor.{IsLast}
 use Rattle.gateway_core.specs.declared.gateway.Gateway.{Gateway}
 use Rattle.gateway_core.proofs.LawLemmas.{frame_count_same}
-use Rattle.gateway_run.specs.GatewayRun.{inputs_of, frames_of, units_of, MeetsNone, MeetsBad}
+use Rattle.gateway_run.specs.GatewayRun.{inputs_of, frames_of, units_of, ReadsNoBad, MeetsNone, MeetsBad}
 use Rattle.gateway_run.specs.Holds.{IsOffered, AreComplete, AreAll, HasGiven, HasAll, MetBad, NoTails, IsIn, Holds}
 use Rattle.gateway_run.specs.declared.place.Phase.{Phase}
 use Rattle.gateway_run.specs.declared.place.Phase.TheVariants.{Done, Stopped}
 use Rattle.gateway_run.specs.declared.place.GatewayStop.TheVariants.{Bad}
 use Rattle.gateway_run.specs.declared.place.Place.{Place}
 use Rattle.gateway_run.specs.declared.stop.Ran.{Ran}
-use Rattle.gateway_run.proofs.FileLemmas.{IsRead, continues, taken_all, none_bad, next_bad, not_wanted, still_bad}
+use Rattle.gateway_run.proofs.FileLemmas.{IsRead, continues, taken_few, taken_all, none_bad, next_bad, not_wanted, still_bad}
 use Rattle.gateway_run.proofs.FrameLemmas.{same_front, shorter_front}
+use Rattle.gateway_run.proofs.MachineLemmas.{offered_length}
 
 read_of : (file bytes tail : List ℕ) (place : ℕ) (ended over : Bool) (packets : List (List ℕ)) → (over ≡ true → tail ≡ [])
     → (f : IsFed file place bytes ended) → IsOffered bytes ended packets over tail → IsRead file packets over (tail ++ f.more)
@@ -74,6 +77,16 @@ pub none_here : (c : Config) (done : List run.Event) (g : Gateway) (place : Plac
 none_here c done g place ran h files places are plp lt all =
     never_wanted c done g place ran h files places are plp (slots_by c plp (ran.frames * c.ticks)) lt (λ on. let t = all on in
     let e = ap (λ (n : ℕ). slots_by c plp (n * c.ticks)) h.frames in omega (arith, t, e))
+
+-- If less than a packet waits of an input, no bad packet of it was read whole.
+pub none_whole : (c : Config) (done : List run.Event) (g : Gateway) (place : Place) (ran : Ran) (h : Holds c done g place ran)
+    (files : ℕ → List ℕ) (places : List ℕ) → AreFed (length c.plps) files places done → (plp : ℕ) → plp < length c.plps
+    → h.tails plp ≡ [] → slice_index places plp < length (run.fed plp done) + SIZE
+    → ReadsNoBad (files plp) (slice_index places plp)
+none_whole c done g place ran h files places are plp lt none short =
+    let size = offered_length _ _ _ _ _ none (h.inputs.each plp lt) in
+    let few = taken_few _ _ _ _ (reads c done g place ran h files places are plp lt) in
+    omega (arith, size, few, short)
 
 -- All units of all packets of the files were given.
 pub record GaveAll (c : Config) (files : ℕ → List ℕ) (ran : Ran) (bytes : List ℕ) : Type 0 where

@@ -1,5 +1,7 @@
 -- What a gateway is ready for behind a step.
 use Rattle.std.proofs.Common.{◌≡◌, ℕ, ◌+◌, ◌*◌, ◌^◌, ◌<◌, ◌≤◌, false, length, refl, ap, sym, subst, ◌∙◌, arith, inl, inr, ◌⊎◌}
+use Rattle.std.specs.Prelude.{◌≢◌}
+use Rattle.std.proofs.lemmas.Bool.{cases_lt}
 use Rattle.plp_config.specs.declared.config.Config.{Config}
 use Rattle.plp_config.specs.declared.moment.TheConstants.{MOST_FRAMES}
 use Rattle.gateway_core.specs.StandsFor.{Status, status_of, plps_of, wants_of, frame_of, has_unit, bytes_left}
@@ -55,6 +57,43 @@ looked_ready g c after ran n idle look = record {
   giving = λ e. absurd (subst (λ (p : Phase). IsLookedAs g 0 (length c.plps) after.plp p) e look);
   resting = λ e. absurd (subst (λ (p : Phase). IsLookedAs g 0 (length c.plps) after.plp p) e look);
 }
+
+-- a look from a place on finds what one over all inputs would, if nothing is wanted of those below
+looked_whole : (g : Gateway) (from count all plp : ℕ) (phase : Phase) → count ≡ all → ((k : ℕ) → k < from → wants_of g k ≡ 0)
+    → IsLookedAs g from count plp phase → IsLookedAs g 0 all plp phase
+looked_whole g from count all plp Wants e below l = (
+  omega (arith, l.0, e),
+  l.1,
+  λ k zero lt. elim (cases_lt k from) [ inl before ↦ below k before | inr ge ↦ l.2 k ge lt ],
+)
+looked_whole g from count all plp Begins e below l =
+    λ k zero lt. elim (cases_lt k from) [ inl before ↦ below k before | inr ge ↦ l k ge (omega (arith, lt, e)) ]
+looked_whole g from count all plp Gives e below l = absurd l
+looked_whole g from count all plp Rests e below l = absurd l
+looked_whole g from count all plp Done e below l = absurd l
+looked_whole g from count all plp (Stopped why) e below l = absurd l
+
+-- behind a packet or an end of the input that was looked at, the look goes on from it
+pub ready_on : (g next : Gateway) (c : Config) (place after : Place) (ran : Ran) (count : ℕ) → IsReady g c place ran
+    → place.phase ≡ Wants → status_of next ≡ status_of g → ((k : ℕ) → k ≢ place.plp → wants_of next k ≡ wants_of g k)
+    → count ≡ length c.plps → IsLooked next place.plp count after → IsReady next c after ran
+ready_on g next c place after ran count r wants status others len look =
+    let used : IsUsed place.phase = subst (λ (p : Phase). IsUsed p) (sym wants) tt in
+    let w = r.wanting wants in
+    let left = ap (λ (s : Status). s.left) status in
+    let n : IsCounted next c ran = record {
+      plps = ap (λ (s : Status). s.plps) status ∙ r.plps;
+      frames = r.frames_are used ∙ sym (ap (λ (s : Status). s.frame) status);
+      early = r.early;
+      few = (let f = r.few used in omega (arith, f, left));
+    } in
+    let idle : IsIdle next = record {
+      given = ap (λ (s : Status). s.unit) status ∙ w.idle.given;
+      is_open = ap (λ (s : Status). s.finished) status ∙ w.idle.is_open;
+    } in
+    looked_ready next c after ran n idle
+    (looked_whole next place.plp count (length c.plps) after.plp after.phase len
+    (λ k lt. others k (λ e. absurd (omega (arith, lt, e))) ∙ w.below k lt) look)
 
 done_ready : (g : Gateway) (c : Config) (after : Place) (ran : Ran) → IsCounted g c ran → after.phase ≡ Done
     → IsReady g c after ran

@@ -1,10 +1,11 @@
 -- How the run of a gateway ended, by its machine.
-use Rattle.std.proofs.Common.{◌≡◌, ℕ, ◌-◌, ◌*◌, ◌<◌, ◌≤◌, true, false, List, ◌++◌, length, refl, ap, sym, subst, ◌∙◌, inl, inr}
-use Rattle.std.proofs.Common.{arith, append_assoc, length-append}
+use Rattle.std.proofs.Common.{◌≡◌, ℕ, ◌+◌, ◌-◌, ◌*◌, ◌<◌, ◌≤◌, true, false, List, ◌++◌, length, refl, ap, sym, subst, ◌∙◌, inl}
+use Rattle.std.proofs.Common.{inr, arith, append_assoc, length-append}
 use Rattle.std.specs.Prelude.{IfOk, IfErr, slice_index}
 use Rattle.std.proofs.lemmas.List.{nil_from_length}
 use Rattle.std.proofs.lemmas.Option.{IfSome_then}
 use Rattle.ports.specs.Desk.{State}
+use Rattle.desk_io.specs.Reading.{longest_file}
 use Rattle.plp_config.specs.SlotTime.{slots_by}
 use Rattle.plp_config.specs.declared.config.Config.{Config}
 use Rattle.plp_config.specs.declared.moment.TheConstants.{MOST_FRAMES}
@@ -15,19 +16,19 @@ use Rattle.file_run.specs.Events as run
 use Rattle.file_run.specs.Laws.{EventsTell}
 use Rattle.file_run.specs.FileRun as driver
 use Rattle.file_run.specs.FileRun.{file_at, AreFed, Works}
-use Rattle.file_run.specs.Steps.{Wants, FallsShort}
+use Rattle.file_run.specs.Steps.{Needs, FallsShort}
 use Rattle.file_run.specs.declared.machine.Step.TheVariants.{Read, Give, End}
 use Rattle.file_run.specs.declared.stop.RunFault.{RunFault}
 use Rattle.file_run.specs.declared.stop.RunFault.TheVariants as fault
 use Rattle.file_run.proofs.StandsLemmas.{works_by, fed_since, all_read}
-use Rattle.gateway_core.specs.Events.{Event, begun, finished}
+use Rattle.gateway_core.specs.Events.{Event, offered, begun, finished}
 use Rattle.gateway_core.specs.Laws.{UnitsLaw, FrontsGrow, LastIsAll, WaitsThreeFrames}
 use Rattle.gateway_core.specs.Packets.{front_packets}
 use Rattle.gateway_core.specs.declared.gateway.Gateway.{Gateway}
 use Rattle.gateway_run.specs.AsMachine.{becomes, step_of, next_of, frame_read, reach_of, ending_of}
 use Rattle.gateway_run.specs.GatewayRun.{inputs_of, frames_of, units_of, MeetsNone, MeetsNoneBefore, ReadsNoFurther, BeginsUnits}
-use Rattle.gateway_run.specs.GatewayRun.{BeginsSome, ReadsAhead, RunsAll, StopsAtBad, HasTooManyFrames, MeetsTooManyFrames}
-use Rattle.gateway_run.specs.GatewayRun.{GivesTooMuch, StopsReading, StopsWriting, Stops}
+use Rattle.gateway_run.specs.GatewayRun.{BeginsSome, ReadsAhead, RunsAll, StopsAtBad, MeetsTooManyFrames}
+use Rattle.gateway_run.specs.GatewayRun.{ReadsNoBad, GivesTooMuch, StopsReading, StopsWriting, Stops}
 use Rattle.gateway_run.specs.Holds.{NoTails, HasGiven, IsOneTooMany, MetBad, IsIn, Holds}
 use Rattle.gateway_run.specs.Ready.{IsReady}
 use Rattle.gateway_run.specs.declared.machine.GatewayMachine.{GatewayMachine}
@@ -40,7 +41,7 @@ use Rattle.gateway_run.specs.declared.place.Phase.TheVariants as phase
 use Rattle.gateway_run.proofs.AheadLemmas.{reads_ahead}
 use Rattle.gateway_run.proofs.BeginLemmas.{before_frame}
 use Rattle.gateway_run.proofs.OutputLemmas.{continue_files, none_before, none_here, gave_all, ended_all, gave_complete}
-use Rattle.gateway_run.proofs.OutputLemmas.{gave_since, gave_front, meets_bad}
+use Rattle.gateway_run.proofs.OutputLemmas.{none_whole, gave_since, gave_front, meets_bad}
 use Rattle.gateway_run.proofs.MachineLemmas.{offered_length}
 use Rattle.gateway_run.proofs.TakeLemmas.{waiting}
 
@@ -179,13 +180,14 @@ ends units grow law start now old new out ins (phase.Stopped TooManyFrames) coun
     (tt, too_many_frames grow law start now old new out ins count e r)
 
 -- if the machine wants more of an input
-wants_at : (g : Gateway) (at : ℕ) (p : Phase) (plp : ℕ) → Wants (step_of g at p) plp → (p ≡ phase.Wants) × (at ≡ plp)
-wants_at g at phase.Wants plp w = (refl, w)
-wants_at g at phase.Begins plp w = absurd w
-wants_at g at phase.Gives plp w = absurd w
-wants_at g at phase.Rests plp w = absurd w
-wants_at g at phase.Done plp w = absurd w
-wants_at g at (phase.Stopped why) plp w = absurd w
+needs_at : (g : Gateway) (at : ℕ) (p : Phase) (plp count : ℕ) → Needs (step_of g at p) plp count → (p ≡ phase.Wants) × (at ≡ plp)
+    × (count ≤ SIZE)
+needs_at g at phase.Wants plp count w = (refl, w.0, w.1)
+needs_at g at phase.Begins plp count w = absurd w
+needs_at g at phase.Gives plp count w = absurd w
+needs_at g at phase.Rests plp count w = absurd w
+needs_at g at phase.Done plp count w = absurd w
+needs_at g at (phase.Stopped why) plp count w = absurd w
 
 short_wants : (g : Gateway) (at : ℕ) (p : Phase) (plp count : ℕ) → FallsShort (step_of g at p) plp count → (p ≡ phase.Wants)
     × (at ≡ plp) × (count < SIZE)
@@ -209,6 +211,22 @@ none_met start now events b files places plp e at are =
           omega (arith, i, lt, at)) (w.below other (omega (arith, lt, at))),
     )
 
+-- No bad packet was read whole of the input that is looked at, if less than a packet waits of it.
+unread : (start now : GatewayMachine) (events : List run.Event) (b : becomes start events now) (files : ℕ → List ℕ)
+    (places : List ℕ) (plp : ℕ) → now.place.phase ≡ phase.Wants → now.place.plp ≡ plp
+    → AreFed (length start.plan.now.plps) files places events → slice_index places plp < length (run.fed plp events) + SIZE
+    → ReadsNoBad (files plp) (slice_index places plp)
+unread start now events b files places plp e at are short =
+    let h = holds_of start now events b in
+    let w = waiting start.plan.now events now.gateway now.place now.ran e (ready_of start now b.0) h in
+    none_whole start.plan.now events now.gateway now.place now.ran h files places are plp
+    (let i = w.inside in omega (arith, i, at))
+    (w.none plp) short
+
+-- Whole packets are never as many bytes as no file may have.
+no_multiple : (fed packets place : ℕ) → fed ≡ SIZE * packets → place ≡ longest_file → place - fed ≤ SIZE → place < fed + SIZE
+no_multiple fed packets place whole long near = omega (arith, whole, long, near)
+
 -- This input gave too many bytes.
 gives_too_much : FrontsGrow → LastIsAll → (start now : GatewayMachine) (old new : State) (out : List ℕ) (ins : List (List ℕ))
     (plp : ℕ) → length ins ≡ length start.plan.now.plps
@@ -216,7 +234,12 @@ gives_too_much : FrontsGrow → LastIsAll → (start now : GatewayMachine) (old 
     → GivesTooMuch start.plan.now old new out ins plp
 gives_too_much grow law start now old new out ins plp count r =
     let s = r.stands in
-    let w = wants_at now.gateway now.place.plp now.place.phase plp r.wants in
+    let w = needs_at now.gateway now.place.plp now.place.phase plp _ r.wants in
+    let h = holds_of start now s.events s.came in
+    let k = waiting start.plan.now s.events now.gateway now.place now.ran w.0 (ready_of start now s.came.0) h in
+    let inside : plp < length start.plan.now.plps = let p = r.place in omega (arith, p, count) in
+    let short = no_multiple (length (run.fed plp s.events)) (length (offered plp h.events)) (slice_index s.places plp)
+    (offered_length _ _ _ _ _ (k.none plp) (h.inputs.each plp inside)) r.gave w.2 in
     let further = no_further start now ins s.places now.ran.frames s.came.0 (ap (λ (p : Phase). frame_read p now.ran.frames) w.0)
     s.works.all s.within in
     record {
@@ -232,6 +255,9 @@ gives_too_much grow law start now old new out ins plp count r =
       counts = r.counts;
       long = IfSome_then old.held s.inputs (λ held are. let f = are plp r.place in let n = r.gave in let w = f.within in
           omega (arith, n, w));
+      read = IfSome_then old.held s.inputs (λ held are. subst (λ (n : ℕ). ReadsNoBad (file_at held ins plp) n) r.gave
+          (unread start now s.events s.came (file_at held ins) s.places plp w.0 w.1
+          (for_plps start.plan.now ins (file_at held ins) s.places s.events count are) short));
       before =
           IfSome_then old.held s.inputs
           (λ held are. none_met start now s.events s.came (file_at held ins) s.places plp w.0 w.1
@@ -273,6 +299,8 @@ stops_reading units grow law start now old new out ins plp count r =
           omega (arith, size, slots, l, at, fed, short));
       no_further = no_further start now ins s.places now.ran.frames s.came.0 (ap (λ (p : Phase). frame_read p now.ran.frames) w.0)
           s.works.all s.within;
+      read = IfSome_then old.held s.inputs (λ held are. unread start now s.events s.came (file_at held ins) s.places plp w.0 w.1
+          (for_plps start.plan.now ins (file_at held ins) s.places s.events count are) (let d = w.2 in omega (arith, d)));
       before =
           IfSome_then old.held s.inputs (λ held are. none_met start now s.events s.came (file_at held ins) s.places plp w.0 w.1
           (for_plps start.plan.now ins (file_at held ins) s.places s.events count are));

@@ -103,8 +103,13 @@ pub record MeetsTooManyFrames (c : Config) (old new : State) (out : List ℕ) (i
   pub counts : SameCounts old new
   pub has : IfSome old.held (λ h. HasTooManyFrames c (file_at h ins))
 
--- This input gave as many bytes as no file may have. A frame wants so many of it, and no bad packet was met before. The output is
--- the first of all units.
+-- Behind the packets of a file, up to its first bad one, fewer bytes were read than a packet has: so no bad packet was read
+-- whole.
+abbrev pub ReadsNoBad : List ℕ → ℕ → Type 0
+ReadsNoBad file place = place < SIZE * (length (packets_in file) + 1)
+
+-- This input gave as many bytes as no file may have. A frame wants so many of it, no bad packet of it was read whole, and none
+-- was met before. The output is the first of all units.
 pub record GivesTooMuch (c : Config) (old new : State) (out : List ℕ) (ins : List (List ℕ)) (plp : ℕ) : Type 0 where
   pub places : List ℕ
   pub frame : ℕ
@@ -116,10 +121,11 @@ pub record GivesTooMuch (c : Config) (old new : State) (out : List ℕ) (ins : L
   pub no_further : ReadsNoFurther c places frame
   pub counts : SameCounts old new
   pub long : IfSome old.held (λ h. longest_file ≤ length (file_at h ins plp))
+  pub read : IfSome old.held (λ h. ReadsNoBad (file_at h ins plp) longest_file)
   pub before : IfSome old.held (λ h. MeetsNoneBefore c (file_at h ins) frame plp)
 
--- This input, of which a frame wants more than was read, could not be read on, and no bad packet was met before. The output is
--- the complete units of the frames before this one.
+-- This input, of which a frame wants more than was read, could not be read on, no bad packet of it was read whole, and none was
+-- met before. The output is the complete units of the frames before this one.
 pub record StopsReading (c : Config) (old new : State) (out : List ℕ) (ins : List (List ℕ)) (plp : ℕ) : Type 0 where
   pub places : List ℕ
   pub frame : ℕ
@@ -129,6 +135,7 @@ pub record StopsReading (c : Config) (old new : State) (out : List ℕ) (ins : L
   pub early : frame ≤ MOST_FRAMES
   pub wants : slice_index places plp < SIZE * slots_by c plp (frame * c.ticks)
   pub no_further : ReadsNoFurther c places frame
+  pub read : IfSome old.held (λ h. ReadsNoBad (file_at h ins plp) (slice_index places plp))
   pub before : IfSome old.held (λ h. MeetsNoneBefore c (file_at h ins) frame plp)
 
 -- These bytes are the complete units of the frames before one, and then some more of all units, or none, but not all.

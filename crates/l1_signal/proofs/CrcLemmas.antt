@@ -1,7 +1,7 @@
 -- CRC_32 behind what it is counted of.
 use Rattle.std.proofs.Common.{◌≡◌, ℕ, ◌<◌, ◌≤◌, ◌^◌, ◌==◌, Bool, true, false, List, [], ◌++◌, length, take, drop, Ok, Err, refl}
 use Rattle.std.proofs.Common.{ap, sym, ◌∙◌, arith, length-append, subst}
-use Rattle.std.specs.Prelude.{nat_lt, Result, OnOk, IfErr, ◌≢◌, Some, None}
+use Rattle.std.specs.Prelude.{nat_lt, Result, OnOk, IfErr, IsOk, ◌≢◌, Some, None}
 use Rattle.std.proofs.lemmas.Bool.{lt-ltb, le-ltb, ltb-false, eq-eqb, ne_eqb, eqb-true}
 use Rattle.std.proofs.lemmas.List.{take-append-drop, length-take-le}
 use Rattle.terms.specs.Bits.{field, number_of}
@@ -72,6 +72,16 @@ counted_all rightly n s t bits (Ok x) is few ok err =
     let p : Puts (wrapped (record { written = []; room = Some n; grows = false; below = [] })) t bits =
     subst (λ (a : State). Puts a t bits) is ok in p.written
 counted_all rightly n s t bits (Err e) is few ok err =
+    let a = wrapped (record { written = []; room = Some n; grows = false; below = [] }) in
+    let stopped : Stops a t bits e = subst (λ (b : State). Stops b t bits e) is err in
+    absurd (never_stops n t bits e (rightly a t bits e stopped) few)
+
+-- so it does not stop
+pub takes_all : {T : Type 0} → StopsRightly → (n : ℕ) (s t : State) (bits : List Bool) (r : Result T SinkFault)
+    → s ≡ wrapped (record { written = []; room = Some n; grows = false; below = [] }) → length bits ≤ n → IfErr r (Stops s t bits)
+    → IsOk r
+takes_all rightly n s t bits (Ok x) is few err = refl
+takes_all rightly n s t bits (Err e) is few err =
     let a = wrapped (record { written = []; room = Some n; grows = false; below = [] }) in
     let stopped : Stops a t bits e = subst (λ (b : State). Stops b t bits e) is err in
     absurd (never_stops n t bits e (rightly a t bits e stopped) few)

@@ -182,7 +182,7 @@ plp_numbers_fit plp r n = (
                             refl,
                             (
                               omega (arith, n.time_il_type),
-                              eq-eqb plp.time_il_type 0 n.time_il_type,
+                              le-leb plp.time_il_type 1 n.time_il_type,
                               (
                                 omega (arith, n.in_band_a_flag),
                                 eq-eqb plp.in_band_a_flag 0 n.in_band_a_flag,

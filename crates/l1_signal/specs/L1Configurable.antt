@@ -2,6 +2,7 @@
 use Rattle.std.specs.Prelude.{◌≡◌, ℕ, ◌+◌, ◌*◌, ◌==◌, Bool, List, [], ◌∷◌, ◌++◌, length, replicate, slice_index, if◌then◌else◌}
 use Rattle.std.specs.Prelude.{Ok, Err}
 use Rattle.std.specs.List.{All, flat_map}
+use Rattle.l1_signal.specs.declared.lengths.TheConstants.{INFO_BITS, PLP_BITS}
 use Rattle.l1_signal.specs.declared.fault.L1Fault.TheVariants.{Size}
 use Rattle.l1_signal.specs.declared.fields.Demand.TheVariants.{Any, Only, AtMost, Positive}
 use Rattle.l1_signal.specs.declared.fields.Field.{Field}
@@ -43,7 +44,7 @@ conf_plp_rows =
     ∷ Told 48 10 Any (λ x. x.plp_num_blocks_max)
     ∷ Told 49 8 (Only 1) (λ x. x.frame_interval)
     ∷ Told 50 8 Any (λ x. x.time_il_length)
-    ∷ Told 51 1 (Only 0) (λ x. x.time_il_type)
+    ∷ Told 51 1 (AtMost 1) (λ x. x.time_il_type)
     ∷ Told 52 1 (Only 0) (λ x. x.in_band_a_flag)
     ∷ Told 53 1 (Only 0) (λ x. x.in_band_b_flag)
     ∷ Ignored 54 11  -- RESERVED_1
@@ -109,7 +110,7 @@ conf_at first more plps back = record {
 
 -- L1_POST_INFO_SIZE for so many PLPs: both parts of L1-post without CRC_32
 abbrev pub info_size : ℕ → ℕ
-info_size plps = 181 + 137 * plps
+info_size plps = INFO_BITS + PLP_BITS * plps
 
 -- reading the rows of one PLP
 unfoldable pub conf_plp_read : List Bool → Reading ConfPlp

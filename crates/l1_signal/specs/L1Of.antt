@@ -1,5 +1,5 @@
 -- L1 signalling of a frame: the values that a configuration gives (EN 302 755, clause 7.2).
-use Rattle.std.specs.Prelude.{ℕ, ◌%◌, Bool, List, ◌++◌, length, map, slice_index, if◌then◌else◌}
+use Rattle.std.specs.Prelude.{ℕ, ◌%◌, nat_lt, Bool, List, ◌++◌, length, map, slice_index, if◌then◌else◌}
 use Rattle.std.specs.List.{range_with_len}
 use Rattle.terms.specs.Bits.{field}
 use Rattle.bit_slice.specs.Crc.{crc32_of}
@@ -51,6 +51,13 @@ pre_of c = record {
   t2_base_lite = 0;
 }
 
+-- TIME_IL_TYPE: 1 if several frames carry an interleaving frame; and TIME_IL_LENGTH: their number, else that of the TI-blocks
+abbrev pub il_type_of : Plp → ℕ
+il_type_of plp = flag_of (nat_lt 1 plp.spread)
+
+abbrev pub il_length_of : Plp → ℕ
+il_length_of plp = if nat_lt 1 plp.spread then plp.spread else plp.interleave
+
 -- the rows of one PLP in the configurable part: it carries a transport stream, payload type 3, in high-efficiency mode, mode 2
 unfoldable pub conf_plp_of : Plp → ConfPlp
 conf_plp_of plp = record {
@@ -67,8 +74,8 @@ conf_plp_of plp = record {
   plp_fec_type = plp_fec_type plp.fec;
   plp_num_blocks_max = plp.blocks;
   frame_interval = 1;
-  time_il_length = plp.interleave;
-  time_il_type = 0;
+  time_il_length = il_length_of plp;
+  time_il_type = il_type_of plp;
   in_band_a_flag = 0;
   in_band_b_flag = 0;
   plp_mode = 2;

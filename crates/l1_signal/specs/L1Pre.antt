@@ -1,6 +1,7 @@
 -- L1-pre (EN 302 755, clause 7.2.2).
 use Rattle.std.specs.Prelude.{ℕ, Bool, List, [], ◌∷◌, take, slice_index, if◌then◌else◌, Ok}
 use Rattle.bit_slice.specs.Crc.{crc32_of}
+use Rattle.l1_signal.specs.declared.lengths.TheConstants.{PRE_BITS}
 use Rattle.l1_signal.specs.declared.fields.Demand.TheVariants.{Any, Only, Even}
 use Rattle.l1_signal.specs.declared.fields.Field.{Field}
 use Rattle.l1_signal.specs.declared.pre.L1Pre.{L1Pre}
@@ -77,10 +78,10 @@ pre_at vs = record {
 unfoldable pub pre_read : List Bool → Reading L1Pre
 pre_read bits = made pre_at (values_of pre_table bits)
 
--- what reading gives: the rows, and if CRC_32 is there, then that of their 168 bits
+-- what reading gives: the rows, and if CRC_32 is there, then that of their bits
 unfoldable pub pre_reading : Bool → List Bool → Reading L1Pre
 pre_reading with_crc bits =
-    after (pre_read bits) (λ pre rest. if with_crc then after (crc_read (crc32_of (take 168 bits)) rest)
+    after (pre_read bits) (λ pre rest. if with_crc then after (crc_read (crc32_of (take PRE_BITS bits)) rest)
     (λ crc more. Ok (pre, more)) else Ok (pre, rest))
 
 -- how it is spelled, and written; each field fits its width, and none is refused

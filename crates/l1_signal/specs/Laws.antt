@@ -1,5 +1,5 @@
 -- What holds of the definitions. The functions without a body ensure it.
-use Rattle.std.specs.Prelude.{◌≡◌, ◌+◌, ◌*◌, ℕ, Bool, true, false, List, ◌++◌, length, Ok}
+use Rattle.std.specs.Prelude.{◌≡◌, ℕ, Bool, true, false, List, ◌++◌, length, Ok}
 use Rattle.terms.specs.Bits.{field}
 use Rattle.bit_slice.specs.Crc.{crc32_of}
 use Rattle.l1_signal.specs.declared.pre.L1Pre.{L1Pre}
@@ -13,6 +13,8 @@ use Rattle.l1_signal.specs.declared.dynamic.TheConstants.{DYN_FRONT, DYN_BACK}
 use Rattle.l1_signal.specs.CrcField.{EndsInCrc}
 use Rattle.l1_signal.specs.Fields.{fields}
 use Rattle.l1_signal.specs.L1Of.{conf_of, post_bits}
+use Rattle.l1_signal.specs.Lengths.{conf_len, dyn_len, post_len}
+use Rattle.l1_signal.specs.declared.lengths.TheConstants.{PRE_BITS}
 use Rattle.l1_signal.specs.declared.conf.L1Conf.{L1Conf}
 use Rattle.l1_signal.specs.L1Configurable.{conf_first_rows, conf_more_rows, conf_plp_rows, conf_back_rows, info_size, conf_read}
 use Rattle.l1_signal.specs.L1Configurable.{conf_bits, ConfSpells, ConfFits}
@@ -45,11 +47,11 @@ abbrev pub PreWritten : Type 0
 PreWritten = (pre : L1Pre) → PreFits pre → PreSpells pre (pre_bits pre)
 
 abbrev pub PreLength : Type 0
-PreLength = (pre : L1Pre) (bits : List Bool) → PreSpells pre bits → length bits ≡ 168
+PreLength = (pre : L1Pre) (bits : List Bool) → PreSpells pre bits → length bits ≡ PRE_BITS
 
 -- What is written has as many bits, whether its numbers fit or not.
 abbrev pub PreBitsLength : Type 0
-PreBitsLength = (pre : L1Pre) → length (pre_bits pre) ≡ 168
+PreBitsLength = (pre : L1Pre) → length (pre_bits pre) ≡ PRE_BITS
 
 -- The same of the configurable part, if L1-pre tells the right L1_POST_INFO_SIZE.
 abbrev pub ConfReadBack : Type 0
@@ -70,7 +72,7 @@ abbrev pub ConfWritten : Type 0
 ConfWritten = (conf : L1Conf) → ConfFits conf → ConfSpells conf (conf_bits conf)
 
 abbrev pub ConfLength : Type 0
-ConfLength = (conf : L1Conf) (bits : List Bool) → ConfSpells conf bits → length bits ≡ 102 + 89 * length conf.plps
+ConfLength = (conf : L1Conf) (bits : List Bool) → ConfSpells conf bits → length bits ≡ conf_len (length conf.plps)
 
 -- The same of the dynamic part, with as many PLPs as it has.
 abbrev pub DynReadBack : Type 0
@@ -91,15 +93,15 @@ abbrev pub DynWritten : Type 0
 DynWritten = (dynamic : L1Dyn) → DynFits dynamic → DynSpells dynamic (dyn_bits dynamic)
 
 abbrev pub DynLength : Type 0
-DynLength = (dynamic : L1Dyn) (bits : List Bool) → DynSpells dynamic bits → length bits ≡ 79 + 48 * length dynamic.plps
+DynLength = (dynamic : L1Dyn) (bits : List Bool) → DynSpells dynamic bits → length bits ≡ dyn_len (length dynamic.plps)
 
 -- L1-post of a frame
 abbrev pub PostLength : Type 0
-PostLength = (c : Config) (frame : ℕ) (shape : FrameShape) → length (post_bits c frame shape) ≡ 213 + 137 * length c.plps
+PostLength = (c : Config) (frame : ℕ) (shape : FrameShape) → length (post_bits c frame shape) ≡ post_len (length c.plps)
 
 -- and the configurable part in it
 abbrev pub ConfPartLength : Type 0
-ConfPartLength = (c : Config) → length (conf_bits (conf_of c)) ≡ 102 + 89 * length c.plps
+ConfPartLength = (c : Config) → length (conf_bits (conf_of c)) ≡ conf_len (length c.plps)
 
 -- Bits with their CRC_32 behind them pass the test of L1-post.
 abbrev pub EndsInItsCrc : Type 0

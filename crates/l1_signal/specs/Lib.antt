@@ -1,5 +1,6 @@
 pub mod Fields
 pub mod CrcField
+pub mod Lengths
 pub mod L1Pre
 pub mod L1Configurable
 pub mod L1Dynamic

@@ -39,7 +39,7 @@ pub record HasPlpNumbers (plp : ConfPlp) : Type 0 where
   pub plp_fec_type : plp.plp_fec_type ≤ 1
   pub plp_num_blocks_max : plp.plp_num_blocks_max < 2 ^ 10
   pub frame_interval : plp.frame_interval ≡ 1
-  pub time_il_type : plp.time_il_type ≡ 0
+  pub time_il_type : plp.time_il_type ≤ 1
   pub in_band_a_flag : plp.in_band_a_flag ≡ 0
   pub in_band_b_flag : plp.in_band_b_flag ≡ 0
   pub plp_mode : plp.plp_mode ≡ 2

@@ -10,7 +10,7 @@ ghost use Rattle.l1_signal.specs.declared.fault.L1Fault.TheVariants.{OutOfMemory
 use crate::conf_plp::zero_conf_plps;
 use crate::fields::{Demand, Field, put_fields, read_fields};
 use crate::rows::{read_plps, write_plps};
-use crate::{ConfPlp, L1Fault, L1Pre, PlpRows};
+use crate::{ConfPlp, INFO_BITS, L1Fault, L1Pre, PLP_BITS, PlpRows};
 use bit_slice::{BitSink, BitSource, SinkFault, puts_law, stops_law};
 use std::alloc::Global;
 
@@ -118,7 +118,10 @@ pub fn read_conf<'a, R: BitSource<'a>>(
     let mut first = [0; 2];
     read_fields(source, &CONF_FIRST, &mut first)?;
     let count = num_plp(&first);
-    let (told, counted) = (pre.l1_post_info_size, 181 + 137 * u32::from(count));
+    let (told, counted) = (
+        pre.l1_post_info_size,
+        INFO_BITS as u32 + PLP_BITS as u32 * u32::from(count),
+    );
     if told != counted {
         return Err(L1Fault::Size { told, counted });
     }
@@ -133,10 +136,7 @@ pub fn read_conf<'a, R: BitSource<'a>>(
     Ok(conf_at(&first, &more, plps, &back))
 }
 
-/// Bits of a configurable part at most: `102 + 89 * 255`, with as many PLPs as there can be.
-pub const MOST_CONF_BITS: usize = 22_797;
-
-/// Appends the configurable part, 102 + 89 NUM_PLP bits. After a fault a part of it, from its start, stands in the sink.
+/// Appends the configurable part, [`crate::conf_len`] bits. After a fault a part of it, from its start, stands in the sink.
 pub fn write_conf<S: BitSink>(sink: &mut S, conf: &L1Conf) -> Result<(), SinkFault>
     requires { ConfFits conf.now }
     ensures ok { OnOk result (Puts (S.state sink.old) (S.state sink.new) (conf_bits conf.now)) }

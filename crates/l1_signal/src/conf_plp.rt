@@ -26,7 +26,7 @@ const CONF_PLP: [Field; 21] = [
     Field { number: 48, width: 10, demand: Demand::Any },
     Field { number: 49, width: 8, demand: Demand::Only(1) },
     Field { number: 50, width: 8, demand: Demand::Any },
-    Field { number: 51, width: 1, demand: Demand::Only(0) },
+    Field { number: 51, width: 1, demand: Demand::AtMost(1) },
     Field { number: 52, width: 1, demand: Demand::Only(0) },
     Field { number: 53, width: 1, demand: Demand::Only(0) },
     Field { number: 54, width: 11, demand: Demand::Any },
@@ -60,13 +60,13 @@ pub struct ConfPlp {
     pub plp_rotation: u8,
     /// PLP_FEC_TYPE, 2 bits.
     pub plp_fec_type: u8,
-    /// PLP_NUM_BLOCKS_MAX, 10 bits.
+    /// PLP_NUM_BLOCKS_MAX, 10 bits: the blocks of an interleaving frame at most.
     pub plp_num_blocks_max: u16,
     /// FRAME_INTERVAL, 8 bits.
     pub frame_interval: u8,
-    /// TIME_IL_LENGTH, 8 bits.
+    /// TIME_IL_LENGTH, 8 bits: with TIME_IL_TYPE 0 the TI-blocks of a frame, else the frames of an interleaving frame.
     pub time_il_length: u8,
-    /// TIME_IL_TYPE, 1 bit.
+    /// TIME_IL_TYPE, 1 bit: whether several frames carry an interleaving frame.
     pub time_il_type: u8,
     /// IN_BAND_A_FLAG, 1 bit.
     pub in_band_a_flag: u8,

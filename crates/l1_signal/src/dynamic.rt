@@ -104,7 +104,7 @@ pub fn read_dyn<'a, R: BitSource<'a>>(source: &mut R, out: &mut L1Dyn) -> Result
     Ok(())
 }
 
-/// Appends the dynamic part, 79 bits and 48 for each PLP. After a fault a part of it, from its start, stands in the sink.
+/// Appends the dynamic part, [`crate::dyn_len`] bits. After a fault a part of it, from its start, stands in the sink.
 pub fn write_dyn<S: BitSink>(sink: &mut S, dynamic: &L1Dyn) -> Result<(), SinkFault>
     requires { DynFits dynamic.now }
     ensures ok { OnOk result (Puts (S.state sink.old) (S.state sink.new) (dyn_bits dynamic.now)) }

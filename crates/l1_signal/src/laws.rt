@@ -5,7 +5,8 @@ ghost use Rattle.l1_signal.specs.Laws.{DynLength, PostLength, ConfPartLength, En
 
 use bit_slice::crc32_law;
 
-/// L1-pre: what spells it is read, whatever follows it, and what is read spells it. What is written spells it, 168 bits.
+/// L1-pre: what spells it is read, whatever follows it, and what is read spells it. What is written spells it, as
+/// [`crate::PRE_BITS`] bits.
 pub fn pre_law()
     ensures back { PreReadBack }
     ensures spelled { PreReadSpelled }
@@ -16,7 +17,7 @@ pub fn pre_law()
     crc32_law();
 }
 
-/// The same of the configurable part, 102 bits and 89 for each PLP.
+/// The same of the configurable part, [`crate::conf_len`] bits.
 pub fn conf_law()
     ensures back { ConfReadBack }
     ensures spelled { ConfReadSpelled }
@@ -24,7 +25,7 @@ pub fn conf_law()
     ensures len { ConfLength }
 {}
 
-/// The same of the dynamic part, 79 bits and 48 for each PLP.
+/// The same of the dynamic part, [`crate::dyn_len`] bits.
 pub fn dyn_law()
     ensures back { DynReadBack }
     ensures spelled { DynReadSpelled }
@@ -32,7 +33,7 @@ pub fn dyn_law()
     ensures len { DynLength }
 {}
 
-/// L1-post of a frame has 213 bits and 137 for each PLP, of which the configurable part has 102 and 89, and passes
+/// L1-post of a frame has [`crate::post_len`] bits, of which the configurable part has [`crate::conf_len`], and passes
 /// [`crate::check_post`].
 pub fn post_law()
     ensures len { PostLength }

@@ -10,18 +10,24 @@ mod dynamic;
 mod fault;
 mod fields;
 mod laws;
+mod lengths;
 mod pre;
 mod rows;
 mod values;
 
 pub use comparing::is_conf;
-pub use conf::{L1Conf, MOST_CONF_BITS, read_conf, write_conf};
+pub use conf::{L1Conf, read_conf, write_conf};
 pub use conf_plp::ConfPlp;
 pub use crc::check_post;
 pub use dyn_plp::DynPlp;
 pub use dynamic::{L1Dyn, read_dyn, write_dyn};
 pub use fault::L1Fault;
 pub use laws::{conf_law, dyn_law, post_law, pre_law, table_law};
+pub use lengths::{
+    CONF_BITS, CONF_PLP_BITS, CRC_BITS, DYN_BITS, DYN_PLP_BITS, INFO_BITS, MOST_CONF_BITS,
+    MOST_DYN_BITS, MOST_DYN_BYTES, MOST_POST_BITS, MOST_POST_BYTES, PLP_BITS, POST_BITS, PRE_BITS,
+    PRE_BYTES, conf_len, dyn_len, post_len,
+};
 pub use pre::{L1Pre, read_pre, write_pre};
 pub use rows::{PlpRows, ReadPlp, WritePlp};
 pub use values::{conf_of, dyn_of, pre_of, shape_of};

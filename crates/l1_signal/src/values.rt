@@ -5,13 +5,13 @@ ghost use Rattle.plp_config.specs.Capacity.{IsPlan};
 ghost use Rattle.plp_config.specs.Plps.{plp_at};
 ghost use Rattle.scheduler.specs.Laws.{FitsL1};
 ghost use Rattle.l1_signal.specs.Fields.{RowsFit};
-ghost use Rattle.l1_signal.specs.L1Of.{pre_of, conf_plp_of, conf_with, conf_of, dyn_plp_of, dyn_of, told_shape};
+ghost use Rattle.l1_signal.specs.L1Of.{pre_of, il_length_of, conf_plp_of, conf_with, conf_of, dyn_plp_of, dyn_of, told_shape};
 ghost use Rattle.l1_signal.specs.L1Pre.{PreFits};
 ghost use Rattle.l1_signal.specs.Numbers.{HasPreNumbers, HasPlpNumbers};
 ghost use Rattle.l1_signal.specs.L1Configurable.{conf_plp_rows, ConfFits};
 ghost use Rattle.l1_signal.specs.L1Dynamic.{DynFits};
 
-use crate::{ConfPlp, DynPlp, L1Conf, L1Dyn, L1Pre, PlpRows};
+use crate::{ConfPlp, DynPlp, INFO_BITS, L1Conf, L1Dyn, L1Pre, PLP_BITS, PlpRows};
 use bit_slice::OutOfMemory;
 use plp_config::{FecSize, Modulation, Plan, Plp, PlpType, Rate};
 use scheduler::Shape;
@@ -55,7 +55,7 @@ pub fn pre_of(plan: &Plan) -> L1Pre
         l1_cod: l1.l1_cod,
         l1_fec_type: l1.l1_fec,
         l1_post_size: l1.post_size,
-        l1_post_info_size: 181 + 137 * config.plps.len() as u32,
+        l1_post_info_size: (INFO_BITS + PLP_BITS * config.plps.len()) as u32,
         pilot_pattern: l1.pilot,
         tx_id_availability: l1.tx_id,
         cell_id: config.cell_id,
@@ -71,6 +71,18 @@ pub fn pre_of(plan: &Plan) -> L1Pre
         l1_post_scrambled: 0,
         t2_base_lite: 0,
     })
+}
+
+// TIME_IL_LENGTH.
+fn time_il_length(plp: Plp) -> u8
+    requires { plp.interleave ≤ 255 }
+    ensures { result ≡ il_length_of plp }
+{
+    if plp.spread > 1 {
+        plp.spread
+    } else {
+        plp.interleave as u8
+    }
 }
 
 #[tactic(auto, unfolding(crate::specs::L1Of::conf_plp_of))]
@@ -94,8 +106,8 @@ fn conf_plp_of(plp: Plp) -> ConfPlp
         plp_fec_type: plp.fec.plp_fec_type(),
         plp_num_blocks_max: plp.blocks,
         frame_interval: 1,
-        time_il_length: plp.interleave as u8,
-        time_il_type: 0,
+        time_il_length: time_il_length(plp),
+        time_il_type: u8::from(plp.spread > 1),
         in_band_a_flag: 0,
         in_band_b_flag: 0,
         plp_mode: 2,

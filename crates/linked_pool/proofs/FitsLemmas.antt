@@ -5,14 +5,14 @@ use Rattle.std.specs.List.{sum_by}
 use Rattle.std.proofs.lemmas.Nat.{le-div}
 use Rattle.std.proofs.lemmas.List.Sums.{sum_by-cons, sum_by_push}
 use Rattle.std.proofs.Math.Nat.{mul-le-mul_left, mul-le-mul_right}
-use Rattle.plp_config.specs.Capacity.{IsPlan, block_bytes, block_cells, cell_need, CellCount}
-use Rattle.plp_config.specs.Laws.{FieldRange, BlockChunks}
+use Rattle.plp_config.specs.Capacity.{block_bytes, block_cells}
+use Rattle.plp_config.specs.Laws.{FieldRange, BlockChunks, BlocksFit}
 use Rattle.plp_config.specs.Plps.{plp_at, no_plp}
 use Rattle.plp_config.specs.Tables.{cells_per_block}
 use Rattle.plp_config.specs.declared.config.Config.{Config}
 use Rattle.plp_config.specs.declared.plp.Plp.{Plp}
 use Rattle.linked_pool.specs.Pool.{list_at, chunks_for, chunks_of, used_chunks, appended}
-use Rattle.linked_pool.specs.Fits.{ListFits}
+use Rattle.linked_pool.specs.Fits.{ListFits, spread_cells}
 use Rattle.linked_pool.specs.Laws.{PlanFits, NextFits}
 use Rattle.linked_pool.proofs.BlockLemmas.{chunks_of-cons, used_chunks-cons}
 
@@ -58,10 +58,6 @@ sum_within (p ∷ plps) =
     let cells = sum_by-cons (λ (plp : Plp). plp.blocks * cells_per_block plp.fec plp.modulation) p plps in
     omega (arith, here, sum_within plps, sum_by-cons chunks_by_cells p plps, cells)
 
-plan_cells : (c : Config) → IsPlan c → sum_by (λ plp. plp.blocks * cells_per_block plp.fec plp.modulation) c.plps ≤ c.cells
-unfolding cell_need
-plan_cells c is = is.tests CellCount
-
 chunks_of_block : FieldRange → BlockChunks → (c : Config) (plp : ℕ) → chunks_for (block_bytes c plp)
     ≤ 7 * (block_cells c plp / 2025)
 chunks_of_block fields chunks c plp =
@@ -69,7 +65,7 @@ chunks_of_block fields chunks c plp =
     let f = fields c plp in
     omega (arith, h, f.0, f.2)
 
--- a list of a frame's blocks fills no more than the chunks of its PLP
+-- a list of an interleaving frame's blocks fills no more than the chunks of its PLP
 chunks_of_list : FieldRange → BlockChunks → (c : Config) (plp : ℕ) (blocks : List (List ℕ)) → ListFits c plp blocks
     → chunks_of blocks ≤ 7 * chunks_by_cells (plp_at c.plps plp)
 unfolding block_cells
@@ -84,13 +80,13 @@ chunks_of_list fields chunks c plp blocks h =
     let order : (plp_at c.plps plp).blocks * (7 * n) ≡ 7 * ((plp_at c.plps plp).blocks * n) = omega arith in
     omega (arith, most, few, each, order)
 
-pub plan_fits : FieldRange → BlockChunks → PlanFits
-plan_fits fields chunks c lists is fit =
+pub plan_fits : FieldRange → BlockChunks → BlocksFit → PlanFits
+plan_fits fields chunks room c lists is fit =
     let used =
     used_within c.plps lists fit.count (λ i lt. chunks_of_list fields chunks c i (get_or lists i []) (fit.each i lt)) in
     let all = sum_within c.plps in
-    let cells = plan_cells c is in
-    let most = le-div (sum_of c.plps) c.cells 2025 (omega arith) (omega (arith, all, cells)) in
+    let cells = room c is in
+    let most = le-div (sum_of c.plps) (spread_cells c) 2025 (omega arith) (omega (arith, all, cells)) in
     omega (arith, used, most)
 
 -- another list at a place
@@ -102,9 +98,9 @@ used_chunks-set (l ∷ lists) (suc i) blocks lt =
     let h = used_chunks-set lists i blocks (omega arith) in
     omega (arith, used_chunks-cons l lists, used_chunks-cons l (set lists i blocks), h)
 
-pub next_fits : FieldRange → BlockChunks → NextFits
-next_fits fields chunks c pool list block is whole enough inside fit =
-    let most = plan_fits fields chunks c (appended pool list block).lists is fit in
+pub next_fits : FieldRange → BlockChunks → BlocksFit → NextFits
+next_fits fields chunks room c pool list block is whole enough inside fit =
+    let most = plan_fits fields chunks room c (appended pool list block).lists is fit in
     let sum = used_chunks-set pool.lists list (list_at pool list ++ block ∷ []) inside in
     let more = sum_by_push (λ (b : List ℕ). chunks_for (length b)) (list_at pool list) block in
     omega (arith, most, sum, more, whole, enough)

@@ -1,5 +1,5 @@
 -- Walks from chunk to chunk.
-use Rattle.std.proofs.Common.{◌≡◌, ◌≢◌, ℕ, zero, suc, ◌+◌, ◌-◌, ◌<◌, ◌≤◌, Bool, true, false, cond, eqb, List, [], ◌∷◌, ◌++◌}
+use Rattle.std.proofs.Common.{◌≡◌, ◌≢◌, ℕ, zero, suc, ◌+◌, ◌-◌, ◌<◌, ◌≤◌, true, false, cond, eqb, List, [], ◌∷◌, ◌++◌}
 use Rattle.std.proofs.Common.{length, take, drop, get_or, set, refl, ap, sym, ◌∙◌, arith, length-set}
 use Rattle.std.proofs.lemmas.List.{get_or-set_other, take-append-drop}
 use Rattle.std.proofs.lemmas.Bool.{eqb-false, eq-eqb}

@@ -1,5 +1,5 @@
 -- How the blocks of a pool lie in its chunks. No public clause cites this module.
-use Rattle.std.specs.Prelude.{◌≡◌, ℕ, zero, suc, ◌+◌, ◌-◌, ◌*◌, ◌^◌, ◌<◌, ◌≤◌, List, [], ◌∷◌, ◌++◌, length, take, drop, get_or}
+use Rattle.std.specs.Prelude.{◌≡◌, ℕ, zero, suc, ◌+◌, ◌-◌, ◌*◌, ◌^◌, ◌<◌, ◌≤◌, List, [], ◌∷◌, length, take, drop, get_or}
 use Rattle.std.specs.Prelude.{set, flat_map}
 use Rattle.linked_pool.specs.Chains.{occurs, count}
 use Rattle.linked_pool.specs.Pool.{State, chunk_len, chunks_for, chunks_of, list_at}

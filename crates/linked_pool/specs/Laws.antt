@@ -5,11 +5,11 @@ use Rattle.plp_config.specs.declared.config.Config.{Config}
 use Rattle.linked_pool.specs.Pool.{State, chunks_for, used_chunks, appended, IsWhole}
 use Rattle.linked_pool.specs.Fits.{ListsFit, frame_chunks}
 
--- The blocks of lists that hold no more than a frame fill no more than the chunks of a frame.
+-- The blocks of such lists fill no more chunks than a gateway's pool has.
 abbrev pub PlanFits : Type 0
 PlanFits = (c : Config) (lists : List (List (List ℕ))) → IsPlan c → ListsFit c lists → used_chunks lists ≤ frame_chunks c
 
--- So a pool with the chunks of a frame has room for a block with which its lists are still such lists.
+-- So a pool of as many has room for a block with which its lists are still such lists.
 abbrev pub NextFits : Type 0
 NextFits = (c : Config) (pool : State) (list : ℕ) (block : List ℕ) → IsPlan c → IsWhole pool → frame_chunks c ≤ pool.opened
     → list < length pool.lists → ListsFit c (appended pool list block).lists → chunks_for (length block) ≤ pool.spare

@@ -7,6 +7,7 @@ mod chunk;
 mod laws;
 mod pieces;
 mod pool;
+mod sizes;
 mod tables;
 #[cfg(test)]
 mod tests;
@@ -16,3 +17,4 @@ pub use chunk::{CHUNK, CHUNKS_OF_CELLS, FEWEST_CELLS};
 pub use laws::plan_fits_law;
 pub use pieces::Pieces;
 pub use pool::{Pool, PoolFull};
+pub use sizes::{frame_chunks, group_chunks};

@@ -17,9 +17,9 @@ use thiserror::Error;
 #[error("a block needs {need} chunks, and {spare} are spare")]
 pub struct PoolFull {
     /// The chunks that the block fills.
-    pub need: usize,
+    pub need: u64,
     /// The chunks that are free.
-    pub spare: u32,
+    pub spare: u64,
 }
 
 /// Blocks of bytes in lists, over chunks of [`CHUNK`] bytes that all lists share.
@@ -69,6 +69,13 @@ impl Pool {
         })
     }
 
+    /// Each chunk is free or has a part of a block. It does nothing.
+    pub fn stays_whole(&self)
+        ensures { IsWhole self.now }
+    {
+        let _ = &self.chains;
+    }
+
     /// How many chunks are free.
     pub fn spare(&self) -> u32
         ensures value { result ≡ self.now.spare }
@@ -98,7 +105,10 @@ impl Pool {
         let count = chunks_for(block.len());
         let spare = self.chains.size(0);
         if count > spare as usize {
-            return Err(PoolFull { need: count, spare });
+            return Err(PoolFull {
+                need: count as u64,
+                spare: u64::from(spare),
+            });
         }
         fill(
             &self.chains,

@@ -1,7 +1,8 @@
 // A pool beside what it stands for: lists of vectors. Expected values are computed here from the vectors, or by hand.
 ghost use Rattle.std.specs.Prelude.{◌≡◌, ◌<◌, length, vec_len};
 
-use crate::{BlockRef, Pool, PoolFull, plan_fits_law};
+use crate::{BlockRef, Pool, PoolFull, frame_chunks, group_chunks, plan_fits_law};
+use sample_networks::spread_plan;
 use std::alloc::{AllocError, Global};
 use std::process::Abort;
 use std::test::Fail;
@@ -62,7 +63,7 @@ impl Both {
                 Ok(fits)
             }
             Err(full) => Ok(
-                full.need == need && full.spare as usize == self.spare && need > self.spare,
+                full.need == need as u64 && full.spare == self.spare as u64 && need > self.spare,
             ),
         }
     }
@@ -223,5 +224,13 @@ fn the_refusal_has_a_text(rt: HostRuntime) -> Result<(), Fail> {
         text.as_str(),
         "a block needs 140 chunks, and 138 are spare"
     );
+    Ok(())
+}
+
+// By hand: two frames have 80,000 cells, 39 times 2,025 and 1,025 more; 7 * 39 chunks, and floor(7 * 80,000 / 2,025).
+#[test]
+fn chunks_of_interleaving_frames(rt: HostRuntime) -> Result<(), Fail> {
+    let plan = spread_plan(rt.alloc())?;
+    assert_eq!(rt; (frame_chunks(&plan), group_chunks(&plan)), (273, 276));
     Ok(())
 }

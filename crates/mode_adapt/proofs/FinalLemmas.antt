@@ -15,7 +15,7 @@ use Rattle.std.proofs.Math.Nat.{mul-le-mul_left, mul-le-mul_right}
 use Rattle.terms.specs.Bits.{bits_of}
 use Rattle.plp_config.specs.Capacity.{up_bytes, field_bytes, capacity}
 use Rattle.plp_config.specs.Plps.{plp_at}
-use Rattle.plp_config.specs.SlotTime.{slots_by}
+use Rattle.plp_config.specs.SlotTime.{slots_by, epoch_ticks}
 use Rattle.plp_config.specs.Laws.{SlotLength, FieldRange, UserPacketRange}
 use Rattle.plp_config.specs.declared.config.Config.{Config}
 use Rattle.null_delete.specs.Deletion.{kept_slots, packet_at}
@@ -25,7 +25,7 @@ use Rattle.mode_adapt.specs.Blocks.{rates_of, plp_keeps, plp_string, first_up, w
 use Rattle.mode_adapt.specs.Events.{Event, Offered, Cut, offered, cuts}
 use Rattle.mode_adapt.specs.Laws.{WithinLaw, BacklogLaw}
 use Rattle.mode_adapt.specs.Pieces.{piece_of}
-use Rattle.mode_adapt.specs.Queue.{arrived, sent, sent_before}
+use Rattle.mode_adapt.specs.Queue.{arrived, sent_before}
 use Rattle.mode_adapt.specs.StandsFor.{Holds, full_blocks, early_blocks, IsPartial}
 use Rattle.mode_adapt.specs.Steps.{HasSpace, IsFull, Puts}
 use Rattle.mode_adapt.proofs.KeptLemmas.{kept_le}
@@ -39,7 +39,7 @@ use Rattle.mode_adapt.proofs.EventLemmas.{offered_push, cuts_stay, offered_stay,
 
 -- what is sent before the frame
 abbrev pub before : Config → ℕ → List (List ℕ) → ℕ → ℕ
-before c plp ps m = sent_before (rates_of c plp c.ticks) (plp_keeps c plp (packet_at ps)) m
+before c plp ps m = sent_before (rates_of c plp (epoch_ticks c plp)) (plp_keeps c plp (packet_at ps)) m
 
 -- The blocks are those that were put.
 abbrev pub Has : Chain → Config → ℕ → List (List ℕ) → ℕ → List (List Bool) → Type 0
@@ -127,14 +127,16 @@ all_short lengths fields ups within backlog chain c plp ps m h p =
           let same : chain.made ≡ chain.settings.blocks = omega (arith, ge, few) in
           let cap : chain.made * field_bytes c plp ≡ capacity c plp = ap (λ (v : ℕ). v * field_bytes c plp) same
           ∙ ap (λ (v : ℕ). chain.settings.blocks * v) (sym field) ∙ h.settings.most in
-          let came : up_bytes c plp * length (kept_slots keeps (length ps)) ≤ arrived (rates_of c plp c.ticks) keeps m =
-          mul-le-mul_left (up_bytes c plp) (kept_le keeps (length ps) (slots_by c plp (m * c.ticks)) h.to) in
-          let whole : length (plp_string c plp (packet_at ps) (length ps)) ≤ arrived (rates_of c plp c.ticks) keeps m =
+          let came : up_bytes c plp * length (kept_slots keeps (length ps))
+          ≤ arrived (rates_of c plp (epoch_ticks c plp)) keeps m =
+          mul-le-mul_left (up_bytes c plp) (kept_le keeps (length ps) (slots_by c plp (m * epoch_ticks c plp)) h.to) in
+          let whole : length (plp_string c plp (packet_at ps) (length ps))
+          ≤ arrived (rates_of c plp (epoch_ticks c plp)) keeps m =
           rw (length-up c plp (packet_at ps) (length ps) h.whole) came in
-          let back = backlog (rates_of c plp c.ticks) keeps m (within c plp h.plan h.place).0 in
+          let back = backlog (rates_of c plp (epoch_ticks c plp)) keeps m (within c plp h.plan h.place).0 in
           let small = rest_small _ _ _ (before c plp ps m) (capacity c plp) (up_bytes c plp)
           (length chain.pending.items) chain.sent chain.made (field_bytes c plp) whole
-          (sent_now (rates_of c plp c.ticks) keeps m pos) back h.sent cap (waits chain c plp ps h.rest) in
+          (sent_now (rates_of c plp (epoch_ticks c plp)) keeps m pos) back h.sent cap (waits chain c plp ps h.rest) in
           omega (arith, small, up.1, range.0)
     ]
 
@@ -219,7 +221,7 @@ has_added past lengths ups chain new c plp ps m x b blocks h on a has =
     let pos = num_pos lengths chain c plp ps m h in
     let len : length (ps ++ x ∷ []) ≡ length ps + 1 = length-append ps (x ∷ []) in
     let start : before c plp (ps ++ x ∷ []) m ≡ before c plp ps m =
-    before_same (rates_of c plp c.ticks) (plp_keeps c plp to) (plp_keeps c plp at) m (length ps) pos h.from
+    before_same (rates_of c plp (epoch_ticks c plp)) (plp_keeps c plp to) (plp_keeps c plp at) m (length ps) pos h.from
     (keeps_same past (plp_at c.plps plp).delete _ _ (length ps) same) in
     let inside : before c plp ps m + chain.made * field_bytes c plp ≤ length (plp_string c plp at (length ps)) =
     omega (arith, h.sent, h.rest.behind) in

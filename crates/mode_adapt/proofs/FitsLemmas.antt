@@ -9,6 +9,7 @@ use Rattle.terms.specs.Bits.{bits_of}
 use Rattle.terms.proofs.BitLemmas.{length-bits_of}
 use Rattle.bb_frame.specs.Laws.{BitCounts}
 use Rattle.linked_pool.specs.Fits.{ListFits}
+use Rattle.plp_config.specs.SlotTime.{epoch_ticks}
 use Rattle.plp_config.specs.Capacity.{block_bytes, field_bytes, capacity}
 use Rattle.plp_config.specs.Laws.{SlotLength, FieldRange}
 use Rattle.plp_config.specs.Plps.{plp_at}
@@ -66,8 +67,8 @@ pub blocks_fit : BitCounts → FieldRange → SlotLength → BlocksFit
 blocks_fit counts fields lengths c plp at m list is inside e =
     let range = fields c plp in
     let slot = lengths c plp is.rules inside in
-    let few = count_law (rates_of c plp c.ticks) (plp_keeps c plp at) (field_bytes c plp) (plp_at c.plps plp).blocks m
+    let few = count_law (rates_of c plp (epoch_ticks c plp)) (plp_keeps c plp at) (field_bytes c plp) (plp_at c.plps plp).blocks m
     (omega (arith, slot.0, slot.2)) (omega (arith, range.0)) (capacity_is c plp) in
-    list_fits c plp _ (block_places (field_bytes c plp) (sent_before (rates_of c plp c.ticks) (plp_keeps c plp at) m)
-    (sent (rates_of c plp c.ticks) (plp_keeps c plp at) m)) list e
+    list_fits c plp _ (block_places (field_bytes c plp) (sent_before (rates_of c plp (epoch_ticks c plp)) (plp_keeps c plp at) m)
+    (sent (rates_of c plp (epoch_ticks c plp)) (plp_keeps c plp at) m)) list e
     (λ from. length-block counts fields c plp at _ from _ (omega arith)) few

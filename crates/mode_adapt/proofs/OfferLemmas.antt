@@ -8,7 +8,7 @@ use Rattle.std.proofs.lemmas.Bool.{cases_lt, cases_order}
 use Rattle.std.proofs.Math.Nat.{mul-le-mul_right}
 use Rattle.plp_config.specs.Capacity.{up_bytes, field_bytes}
 use Rattle.plp_config.specs.Plps.{plp_at}
-use Rattle.plp_config.specs.SlotTime.{num, slots_by}
+use Rattle.plp_config.specs.SlotTime.{num, slots_by, epoch_ticks}
 use Rattle.plp_config.specs.Laws.{SlotLength}
 use Rattle.plp_config.specs.declared.config.Config.{Config}
 use Rattle.ts_packet.specs.Null.{null_packet}
@@ -127,7 +127,7 @@ rest_added past chain new c plp ps x b one whole keeps h a =
 
 pub added : DecidedByThePast → SlotLength → (chain new : Chain) (c : Config) (plp : ℕ) (ps : List (List ℕ)) (m : ℕ) (x : List ℕ)
     (b : Bool) → 1 ≤ up_bytes c plp
-    → Holds chain c plp ps m → length x ≡ 188 → length ps < slots_by c plp (m * c.ticks)
+    → Holds chain c plp ps m → length x ≡ 188 → length ps < slots_by c plp (m * epoch_ticks c plp)
     → plp_keeps c plp (packet_at (ps ++ x ∷ [])) (length ps) ≡ b → Adds chain new c plp ps x b → Holds new c plp (ps ++ x ∷ []) m
 added past lengths chain new c plp ps m x b one h long room keeps a =
     let same = at_before ps x in
@@ -142,10 +142,10 @@ added past lengths chain new c plp ps m x b one h long room keeps a =
       deleter = a.deleter;
       whole = whole_push ps x h.whole long;
       sent = a.sent ∙ h.sent ∙ ap (λ (v : ℕ). v + chain.made * field_bytes c plp)
-          (sym (before_same (rates_of c plp c.ticks) (plp_keeps c plp (packet_at (ps ++ x ∷ [])))
+          (sym (before_same (rates_of c plp (epoch_ticks c plp)) (plp_keeps c plp (packet_at (ps ++ x ∷ [])))
           (plp_keeps c plp (packet_at ps)) m (length ps) pos h.from
           (keeps_same past (plp_at c.plps plp).delete _ _ (length ps) same)))
-          ∙ ap (λ (v : ℕ). sent_before (rates_of c plp c.ticks) (plp_keeps c plp (packet_at (ps ++ x ∷ []))) m + v
+          ∙ ap (λ (v : ℕ). sent_before (rates_of c plp (epoch_ticks c plp)) (plp_keeps c plp (packet_at (ps ++ x ∷ []))) m + v
           * field_bytes c plp) (sym a.made);
       few = rw (a.made, a.settings) h.few;
       rest = rest_added past chain new c plp ps x b one h.whole keeps h.rest a;

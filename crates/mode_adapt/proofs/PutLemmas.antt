@@ -17,7 +17,7 @@ use Rattle.linked_pool.specs.Laws.{NextFits}
 use Rattle.linked_pool.specs.Pool.{State, list_at, chunks_for, IsWhole}
 use Rattle.plp_config.specs.Capacity.{IsPlan, up_bytes, field_bytes, block_bytes, capacity}
 use Rattle.plp_config.specs.Plps.{plp_at}
-use Rattle.plp_config.specs.SlotTime.{slots_by}
+use Rattle.plp_config.specs.SlotTime.{slots_by, epoch_ticks}
 use Rattle.plp_config.specs.Laws.{SlotLength, FieldRange, UserPacketRange}
 use Rattle.plp_config.specs.declared.config.Config.{Config}
 use Rattle.null_delete.specs.Deletion.{kept_slots, packet_at}
@@ -144,10 +144,11 @@ blocks_by chain c plp ps m h = ap (λ (v : ℕ). chain.settings.blocks * v) (sym
 
 -- all has been put that the frame sends
 over_sent : SlotLength → (chain : Chain) (c : Config) (plp : ℕ) (ps : List (List ℕ)) (m : ℕ) → Holds chain c plp ps m
-    → IsOver chain → length ps ≡ slots_by c plp (m * c.ticks)
-    → chain.sent ≡ sent (rates_of c plp c.ticks) (plp_keeps c plp (packet_at ps)) m
+    → IsOver chain → length ps ≡ slots_by c plp (m * epoch_ticks c plp)
+    → chain.sent ≡ sent (rates_of c plp (epoch_ticks c plp)) (plp_keeps c plp (packet_at ps)) m
 over_sent lengths chain c plp ps m h over due =
-    let now = sent_now (rates_of c plp c.ticks) (plp_keeps c plp (packet_at ps)) m (num_pos lengths chain c plp ps m h) in
+    let now = sent_now (rates_of c plp (epoch_ticks c plp)) (plp_keeps c plp (packet_at ps)) m
+    (num_pos lengths chain c plp ps m h) in
     let came = all_came c plp ps m h.whole due in
     let w = waits chain c plp ps h.rest in
     let few = h.few in
@@ -163,10 +164,11 @@ over_sent lengths chain c plp ps m h over due =
 
 -- what is left goes into a last block
 left_sent : SlotLength → (chain : Chain) (c : Config) (plp : ℕ) (ps : List (List ℕ)) (m : ℕ) → Holds chain c plp ps m
-    → IsPartial chain → IsLeft chain → length ps ≡ slots_by c plp (m * c.ticks)
-    → chain.sent + length chain.pending.items ≡ sent (rates_of c plp c.ticks) (plp_keeps c plp (packet_at ps)) m
+    → IsPartial chain → IsLeft chain → length ps ≡ slots_by c plp (m * epoch_ticks c plp)
+    → chain.sent + length chain.pending.items ≡ sent (rates_of c plp (epoch_ticks c plp)) (plp_keeps c plp (packet_at ps)) m
 left_sent lengths chain c plp ps m h p left due =
-    let now = sent_now (rates_of c plp c.ticks) (plp_keeps c plp (packet_at ps)) m (num_pos lengths chain c plp ps m h) in
+    let now = sent_now (rates_of c plp (epoch_ticks c plp)) (plp_keeps c plp (packet_at ps)) m
+    (num_pos lengths chain c plp ps m h) in
     let came = all_came c plp ps m h.whole due in
     let w = waits chain c plp ps h.rest in
     let short = p left.0 in
@@ -181,25 +183,25 @@ pub record Ends (chain mid new : Chain) (c : Config) (plp : ℕ) (ps : List (Lis
     (was is : List (List ℕ)) : Type 0 where
   pub holds : Holds new c plp ps (m + 1)
   pub partial : IsPartial new
-  pub blocks : Has chain c plp ps m (map bits_of was) → map bits_of is ≡ blocks_of c plp c.ticks (packet_at ps) m
-  pub count : mid.made ≡ length (blocks_of c plp c.ticks (packet_at ps) m)
+  pub blocks : Has chain c plp ps m (map bits_of was) → map bits_of is ≡ blocks_of c plp (epoch_ticks c plp) (packet_at ps) m
+  pub count : mid.made ≡ length (blocks_of c plp (epoch_ticks c plp) (packet_at ps) m)
 
 no_field : (s b made f : ℕ) → s ≡ b → made ≡ 0 → s ≡ b + made * f
 no_field s b made f e none = let z : made * f ≡ 0 * f = ap (λ (v : ℕ). v * f) none in omega (arith, e, z)
 
 -- the next frame is under way
 next_holds : SlotLength → (chain mid new : Chain) (c : Config) (plp : ℕ) (ps : List (List ℕ)) (m : ℕ) → Holds chain c plp ps m
-    → length ps ≡ slots_by c plp (m * c.ticks)
+    → length ps ≡ slots_by c plp (m * epoch_ticks c plp)
     → mid.settings ≡ chain.settings → mid.slot ≡ chain.slot → mid.deleter ≡ chain.deleter → HoldsRest mid c plp ps
-    → mid.sent ≡ sent (rates_of c plp c.ticks) (plp_keeps c plp (packet_at ps)) m
+    → mid.sent ≡ sent (rates_of c plp (epoch_ticks c plp)) (plp_keeps c plp (packet_at ps)) m
     → Resets mid new → Holds new c plp ps (m + 1)
 next_holds lengths chain mid new c plp ps m h due e0 e1 e2 rest is r =
     let pos = num_pos lengths chain c plp ps m h in
     let back : m + 1 - 1 ≡ m = omega arith in
-    let next : m * c.ticks ≤ (m + 1) * c.ticks = mul-le-mul_right c.ticks (omega arith) in
-    let mono = slots_mono (rates_of c plp c.ticks) (m * c.ticks) ((m + 1) * c.ticks) pos next in
+    let next : m * epoch_ticks c plp ≤ (m + 1) * epoch_ticks c plp = mul-le-mul_right (epoch_ticks c plp) (omega arith) in
+    let mono = slots_mono (rates_of c plp (epoch_ticks c plp)) (m * epoch_ticks c plp) ((m + 1) * epoch_ticks c plp) pos next in
     let now : new.sent ≡ before c plp ps (m + 1) =
-    r.sent ∙ is ∙ ap (sent_before (rates_of c plp c.ticks) (plp_keeps c plp (packet_at ps))) (sym (add-one m)) in
+    r.sent ∙ is ∙ ap (sent_before (rates_of c plp (epoch_ticks c plp)) (plp_keeps c plp (packet_at ps))) (sym (add-one m)) in
     record {
       plan = h.plan;
       place = h.place;
@@ -223,10 +225,10 @@ next_holds lengths chain mid new c plp ps m h due e0 e1 e2 rest is r =
 -- less than a data field is left
 next_partial : FieldRange → UserPacketRange → WithinLaw → BacklogLaw → (new : Chain) (c : Config) (plp : ℕ) (ps : List (List ℕ))
     (m : ℕ) → Holds new c plp ps (m + 1) → new.made ≡ 0
-    → length ps ≡ slots_by c plp (m * c.ticks) → IsPartial new
+    → length ps ≡ slots_by c plp (m * epoch_ticks c plp) → IsPartial new
 next_partial fields ups within backlog new c plp ps m h none due = λ lt.
     let w = left_over new c plp ps m h none due in
-    let back = backlog (rates_of c plp c.ticks) (plp_keeps c plp (packet_at ps)) m (within c plp h.plan h.place).0 in
+    let back = backlog (rates_of c plp (epoch_ticks c plp)) (plp_keeps c plp (packet_at ps)) m (within c plp h.plan h.place).0 in
     let up = ups c plp in
     let range = fields c plp in
     let field = h.settings.field in
@@ -235,14 +237,14 @@ next_partial fields ups within backlog new c plp ps m h none due = λ lt.
 -- no block is put right behind a cut
 pub none_made : FieldRange → UserPacketRange → WithinLaw → BacklogLaw
     → (chain : Chain) (c : Config) (plp : ℕ) (ps : List (List ℕ)) (m : ℕ) → Holds chain c plp ps (m + 1) → IsPartial chain
-    → length ps ≡ slots_by c plp (m * c.ticks) → chain.made ≡ 0
+    → length ps ≡ slots_by c plp (m * epoch_ticks c plp) → chain.made ≡ 0
 none_made fields ups within backlog chain c plp ps m h p due =
-    let back = backlog (rates_of c plp c.ticks) (plp_keeps c plp (packet_at ps)) m (within c plp h.plan h.place).0 in
+    let back = backlog (rates_of c plp (epoch_ticks c plp)) (plp_keeps c plp (packet_at ps)) m (within c plp h.plan h.place).0 in
     let up = ups c plp in
     let range = fields c plp in
     let came = all_came c plp ps m h.whole due in
-    let start : before c plp ps (m + 1) ≡ sent (rates_of c plp c.ticks) (plp_keeps c plp (packet_at ps)) m =
-    ap (sent_before (rates_of c plp c.ticks) (plp_keeps c plp (packet_at ps))) (add-one m) in
+    let start : before c plp ps (m + 1) ≡ sent (rates_of c plp (epoch_ticks c plp)) (plp_keeps c plp (packet_at ps)) m =
+    ap (sent_before (rates_of c plp (epoch_ticks c plp)) (plp_keeps c plp (packet_at ps))) (add-one m) in
     let n : ℕ = chain.made in
     let b : ℕ = field_bytes c plp in
     let small : chain.made * b < 1 * b = omega (arith, came, start, back, up.1, range.0, h.sent, h.rest.behind) in
@@ -254,7 +256,7 @@ none_made fields ups within backlog chain c plp ps m h p due =
 pub cut_step : SlotLength → FieldRange → UserPacketRange → WithinLaw → BacklogLaw
     → (chain mid new : Chain) (c : Config) (plp : ℕ) (ps : List (List ℕ)) (m : ℕ) (was is : List (List ℕ))
     → Holds chain c plp ps m → IsPartial chain
-    → length ps ≡ slots_by c plp (m * c.ticks) → (IsOver chain → (mid ≡ chain) × (is ≡ was))
+    → length ps ≡ slots_by c plp (m * epoch_ticks c plp) → (IsOver chain → (mid ≡ chain) × (is ≡ was))
     → (IsLeft chain → Puts chain mid (min chain.settings.field_bytes (length chain.pending.items)) was is) → Resets mid new
     → Ends chain mid new c plp ps m was is
 cut_step lengths fields ups within backlog chain mid new c plp ps m was is h p due none some r =
@@ -269,8 +271,8 @@ cut_step lengths fields ups within backlog chain mid new c plp ps m was is h p d
     let holds = next_holds lengths chain mid new c plp ps m h due (ap (λ (v : Chain). v.settings) e.0)
     (ap (λ (v : Chain). v.slot) e.0) (ap (λ (v : Chain). v.deleter) e.0) (rw e.0 h.rest) (ap (λ (v : Chain). v.sent) e.0
     ∙ end) r in
-    let all : blocks_of c plp c.ticks at m ≡ full_blocks c plp at (length ps) x chain.made =
-    ap (λ (v : ℕ). blocks_between c plp at v x (sent (rates_of c plp c.ticks) (plp_keeps c plp at) m)) (sym due)
+    let all : blocks_of c plp (epoch_ticks c plp) at m ≡ full_blocks c plp at (length ps) x chain.made =
+    ap (λ (v : ℕ). blocks_between c plp at v x (sent (rates_of c plp (epoch_ticks c plp)) (plp_keeps c plp at) m)) (sym due)
     ∙ between_full c plp at (length ps) x _ chain.made one (sym end ∙ h.sent) in
     record {
       holds = holds;
@@ -294,9 +296,11 @@ cut_step lengths fields ups within backlog chain mid new c plp ps m was is h p d
                 let end = left_sent lengths chain c plp ps m h p (lt, more) due in
                 let holds = next_holds lengths chain mid new c plp ps m h due s.settings s.slot s.deleter
                 (rest_sent chain mid c plp ps w (omega (arith, up.0)) h.settings (omega arith) h.rest s) (s.sent ∙ end) r in
-                let all : blocks_of c plp c.ticks at m ≡ full_blocks c plp at (length ps) x chain.made ++ block_bits c plp at
+                let all : blocks_of c plp (epoch_ticks c plp) at m ≡ full_blocks c plp at (length ps) x chain.made
+                ++ block_bits c plp at
                 (length ps) (x + chain.made * field_bytes c plp) (x + chain.made * field_bytes c plp + w) ∷ [] =
-                ap (λ (v : ℕ). blocks_between c plp at v x (sent (rates_of c plp c.ticks) (plp_keeps c plp at) m)) (sym due)
+                ap (λ (v : ℕ). blocks_between c plp at v x (sent (rates_of c plp (epoch_ticks c plp)) (plp_keeps c plp at) m))
+                (sym due)
                 ∙ between_more c plp at (length ps) x _ chain.made w one more (omega (arith, short, field))
                 (sym end ∙ omega (arith, h.sent)) in
                 record {
@@ -445,6 +449,6 @@ cut_short fields ups within backlog new c plp events stands due =
     let h = o.0 in
     let none = none_made fields ups within backlog new c plp (offered events) (cuts events) h o.1 due in
     let w = left_over new c plp (offered events) (cuts events) h none due in
-    let law = backlog (rates_of c plp c.ticks) (plp_keeps c plp (packet_at (offered events))) (cuts events)
+    let law = backlog (rates_of c plp (epoch_ticks c plp)) (plp_keeps c plp (packet_at (offered events))) (cuts events)
     (within c plp h.plan h.place).0 in
     omega (arith, w, law)

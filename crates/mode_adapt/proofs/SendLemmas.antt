@@ -7,7 +7,7 @@ use Rattle.terms.specs.Bits.{bits_of}
 use Rattle.bb_frame.specs.BasebandFrame.{frame_bits}
 use Rattle.bb_frame.specs.declared.header.Header.{Header}
 use Rattle.plp_config.specs.Capacity.{block_bytes, field_bytes, up_bytes}
-use Rattle.plp_config.specs.SlotTime.{num, slots_by}
+use Rattle.plp_config.specs.SlotTime.{num, slots_by, epoch_ticks}
 use Rattle.plp_config.specs.Laws.{SlotLength, FieldRange}
 use Rattle.plp_config.specs.declared.config.Config.{Config}
 use Rattle.null_delete.specs.Deletion.{kept_slots, packet_at}
@@ -26,7 +26,7 @@ use Rattle.mode_adapt.proofs.OfferLemmas.{length-up}
 header_same : (s : Settings) (c : Config) (plp x len : ℕ) (up : Option (ℕ × ℕ)) → AreSettings s c plp → header_by s x len up
     ≡ header_at c plp x len up
 header_same s c plp x len None a = rw (a.matype1, a.matype2) refl
-header_same s c plp x len (Some up) a = rw (a.matype1, a.matype2, a.starts up.1) refl
+header_same s c plp x len (Some up) a = rw (a.matype1, a.matype2, a.times) refl
 
 -- a frame by equal parts
 pub frame_same : (h g : Header) (a b : List Bool) (m n : ℕ) → h ≡ g → a ≡ b → m ≡ n → frame_bits h a m ≡ frame_bits g b n
@@ -64,8 +64,9 @@ map_both f g h each (x ∷ xs) = rw (each x, map_both f g h each xs) refl
 
 -- all bytes that have arrived stand in the string
 pub all_came : (c : Config) (plp : ℕ) (ps : List (List ℕ)) (m : ℕ) → ((k : ℕ) → length (packet_at ps k) ≡ 188)
-    → length ps ≡ slots_by c plp (m * c.ticks)
-    → arrived (rates_of c plp c.ticks) (plp_keeps c plp (packet_at ps)) m ≡ length (plp_string c plp (packet_at ps) (length ps))
+    → length ps ≡ slots_by c plp (m * epoch_ticks c plp)
+    → arrived (rates_of c plp (epoch_ticks c plp)) (plp_keeps c plp (packet_at ps)) m
+    ≡ length (plp_string c plp (packet_at ps) (length ps))
 all_came c plp ps m whole due =
     ap (λ (v : ℕ). up_bytes c plp * length (kept_slots (plp_keeps c plp (packet_at ps)) v)) (sym due)
     ∙ sym (length-up c plp (packet_at ps) (length ps) whole)
@@ -104,14 +105,15 @@ no_more a b = omega arith
 
 -- after the cut of frame m, what has arrived by then and is not sent waits
 pub left_over : (chain : Chain) (c : Config) (plp : ℕ) (ps : List (List ℕ)) (m : ℕ) → Holds chain c plp ps (m + 1)
-    → chain.made ≡ 0 → length ps ≡ slots_by c plp (m * c.ticks)
-    → length chain.pending.items ≡ arrived (rates_of c plp c.ticks) (plp_keeps c plp (packet_at ps)) m
-    - sent (rates_of c plp c.ticks) (plp_keeps c plp (packet_at ps)) m
+    → chain.made ≡ 0 → length ps ≡ slots_by c plp (m * epoch_ticks c plp)
+    → length chain.pending.items ≡ arrived (rates_of c plp (epoch_ticks c plp)) (plp_keeps c plp (packet_at ps)) m
+    - sent (rates_of c plp (epoch_ticks c plp)) (plp_keeps c plp (packet_at ps)) m
 left_over chain c plp ps m h none due =
-    let is : chain.sent ≡ sent (rates_of c plp c.ticks) (plp_keeps c plp (packet_at ps)) m =
-    h.sent ∙ ap (λ (v : ℕ). sent_before (rates_of c plp c.ticks) (plp_keeps c plp (packet_at ps)) (m + 1) + v
-    * field_bytes c plp) none ∙ no_more _ _ ∙ ap (sent_before (rates_of c plp c.ticks) (plp_keeps c plp (packet_at ps)))
+    let is : chain.sent ≡ sent (rates_of c plp (epoch_ticks c plp)) (plp_keeps c plp (packet_at ps)) m =
+    h.sent ∙ ap (λ (v : ℕ). sent_before (rates_of c plp (epoch_ticks c plp)) (plp_keeps c plp (packet_at ps)) (m + 1) + v
+    * field_bytes c plp) none ∙ no_more _ _ ∙ ap
+    (sent_before (rates_of c plp (epoch_ticks c plp)) (plp_keeps c plp (packet_at ps)))
     (add-one m) in
     waits chain c plp ps h.rest
     ∙ ap (λ (v : ℕ). v - chain.sent) (sym (all_came c plp ps m h.whole due))
-    ∙ ap (λ (v : ℕ). arrived (rates_of c plp c.ticks) (plp_keeps c plp (packet_at ps)) m - v) is
+    ∙ ap (λ (v : ℕ). arrived (rates_of c plp (epoch_ticks c plp)) (plp_keeps c plp (packet_at ps)) m - v) is

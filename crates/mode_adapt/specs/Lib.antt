@@ -6,6 +6,7 @@ pub mod Events
 pub mod Settings
 pub mod StandsFor
 pub mod Place
+pub mod Calls
 pub mod Laws
 -- inner: no public clause cites these
 pub mod Pieces
@@ -17,6 +18,7 @@ pub use Rattle.bb_frame.specs.BasebandFrame
 pub use Rattle.plp_config.specs.Capacity
 pub use Rattle.plp_config.specs.Plps
 pub use Rattle.plp_config.specs.SlotTime
+pub use Rattle.plp_config.specs.SlotTimes
 pub use Rattle.null_delete.specs.Deletion
 pub use Rattle.linked_pool.specs.Pool
 pub use Rattle.linked_pool.specs.Fits

@@ -2,6 +2,7 @@
 use Rattle.std.specs.Prelude.{◌≡◌, ◌<◌, ◌≤◌, ℕ, ◌+◌, ◌-◌, ◌*◌, List, map, length, [], ◌∷◌, ◌++◌, take, drop}
 use Rattle.std.specs.Int.{div_ceil}
 use Rattle.terms.specs.Bits.{bits_of}
+use Rattle.bb_frame.specs.declared.header.TheConstants.{HEADER_BYTES}
 use Rattle.linked_pool.specs.Pool.{State, chunks_for, IsWhole}
 use Rattle.mode_adapt.specs.declared.chain.Chain.{Chain}
 use Rattle.mode_adapt.specs.Pieces.{piece_of}
@@ -58,7 +59,7 @@ pub record Writes (old new : Chain) (count : ℕ) : Type 0 where
   pub pending : new.pending ≡ old.pending
   pub slots : new.slots ≡ old.slots
   pub block : new.block ≡ piece_of old count
-  pub size : length new.block ≡ 8 * (old.settings.field_bytes + 10)
+  pub size : length new.block ≡ 8 * (old.settings.field_bytes + HEADER_BYTES)
 
 -- The block of the first bytes was put at the end of a list.
 pub record Puts (old new : Chain) (count : ℕ) (was is : List (List ℕ)) : Type 0 where
@@ -87,7 +88,7 @@ pub record Skips (old new : Chain) : Type 0 where
 
 -- A block may be put, and the pool has too few chunks for it.
 pub record Lacks (chain : Chain) (pool : State) (want have : ℕ) : Type 0 where
-  pub wanted : want ≡ chunks_for (chain.settings.field_bytes + 10)
+  pub wanted : want ≡ chunks_for (chain.settings.field_bytes + HEADER_BYTES)
   pub spare : have ≡ pool.spare
   pub less : have < want
   pub room : chain.made < chain.settings.blocks

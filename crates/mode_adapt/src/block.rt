@@ -2,9 +2,10 @@
 ghost use Rattle.std.specs.Prelude.{◌≡◌, ◌<◌, ◌≤◌, ◌+◌, ◌*◌, ◌^◌, length};
 ghost use Rattle.terms.specs.Bits.{bits_of};
 ghost use Rattle.bb_frame.specs.BasebandFrame.{frame_bits, Describes};
+ghost use Rattle.bb_frame.specs.declared.header.TheConstants.{HEADER_BYTES};
 ghost use Rattle.plp_config.specs.declared.plp.TheConstants.{MOST_FIELD_BYTES};
 
-use bb_frame::{Header, bit_counts, write_frame};
+use bb_frame::{HEADER_BYTES, Header, bit_counts, write_frame};
 use bit_slice::{BitSlice, FixedBits};
 use plp_config::MOST_BLOCK_BYTES;
 
@@ -22,15 +23,16 @@ pub fn write_block(
     requires describes { Describes header.now (bits_of field.now) }
     requires inside { length field.now ≤ field_bytes }
     requires short { field_bytes ≤ MOST_FIELD_BYTES }
-    ensures { block.new ≡ frame_bits header.now (bits_of field.now) (8 * (field_bytes + 10)) }
+    ensures { block.new ≡ frame_bits header.now (bits_of field.now) (8 * (field_bytes + HEADER_BYTES)) }
 {
     bit_counts();
     block.clear();
     // There is room for any block.
-    let _ = write_frame(
+    write_frame(
         block,
         header,
         BitSlice::whole(field),
-        8 * (field_bytes + 10),
-    );
+        8 * (field_bytes + HEADER_BYTES as u32),
+    )
+    .unwrap();
 }

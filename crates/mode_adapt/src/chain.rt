@@ -3,6 +3,7 @@ ghost use Rattle.std.specs.Prelude.{◌≡◌, ◌<◌, ◌≤◌, ◌+◌, ◌-
 ghost use Rattle.std.specs.Prelude.{vec_len, vec_capacity, IfOk, IfErr, OnOk, OnErr, IfSome};
 ghost use Rattle.std.specs.Int.{div_ceil};
 ghost use Rattle.terms.specs.Bits.{bits_of};
+ghost use Rattle.plp_config.specs.SlotTime.{epoch_ticks};
 ghost use Rattle.plp_config.specs.Capacity.{up_bytes, field_bytes, block_bytes};
 ghost use Rattle.plp_config.specs.Plps.{plp_at};
 ghost use Rattle.plp_config.specs.declared.plp.TheConstants.{MOST_FIELD_BYTES};
@@ -25,8 +26,8 @@ use ts_packet::{SIZE, TsPacket};
 // User packets that stand whole in a data field and a packet behind it, at most: each has all bytes of a packet but one, or more.
 const MOST_SLOTS: usize = (MOST_FIELD_BYTES as usize + SIZE) / (SIZE - 1);
 
-/// Makes the blocks of one PLP from its packets, frame by frame (EN 302 755, clause 5.1): offer the packet of each slot, in
-/// order, and cut where a frame begins.
+/// Makes the blocks of one PLP from its packets, interleaving frame by interleaving frame (EN 302 755, clause 5.1): offer the
+/// packet of each slot, in order, and cut where an interleaving frame begins.
 #[derive(Drop)]
 pub struct Chain {
     settings: Settings,
@@ -35,7 +36,7 @@ pub struct Chain {
     slot: u64,
     // How many bytes of user packets were put into blocks.
     sent: u64,
-    // How many blocks of the next frame were put.
+    // How many blocks of the next interleaving frame were put.
     made: u32,
     // The bytes that wait for a block.
     pending: Vec<u8>,
@@ -54,14 +55,15 @@ pub struct Chain {
 
 impl Chain {
     ghost use Rattle.plp_config.specs.declared.config.Config.{Config};
-    ghost use Rattle.linked_pool.specs.Pool.{list_at, chunks_for, Others, IsWhole};
-    ghost use Rattle.mode_adapt.specs.Events.{Event, Offered, Cut, HasRoom, IsDue, offered, cuts};
+    ghost use Rattle.linked_pool.specs.Pool.{list_at, Others, IsWhole};
+    ghost use Rattle.mode_adapt.specs.Calls.{Takes, Ends, LacksPlace};
+    ghost use Rattle.mode_adapt.specs.Events.{Event, Cut, IsDue, offered, cuts};
     ghost use Rattle.mode_adapt.specs.StandsFor.{ChainStandsFor, IsPartial, slot_of, most_blocks, kept_of, waiting, early_blocks};
-    ghost use Rattle.mode_adapt.specs.Place.{AreShort, HasPlace};
+    ghost use Rattle.mode_adapt.specs.Place.{AreShort};
     ghost use Rattle.mode_adapt.specs.Steps.{Keeps, Sends, HasSpace, Writes, Puts, Stays, IsFull, IsOver, IsLeft, Skips, Resets};
     ghost use Rattle.mode_adapt.specs.Steps.{Lacks};
     ghost use Rattle.mode_adapt.specs.Pieces.{first_in, piece_of};
-    ghost use Rattle.mode_adapt.specs.Blocks.{blocks_of, rates_of, plp_keeps};
+    ghost use Rattle.mode_adapt.specs.Blocks.{rates_of, plp_keeps};
     ghost use Rattle.mode_adapt.specs.Queue.{arrived, sent};
     ghost use Rattle.null_delete.specs.Deletion.{packet_at};
 
@@ -89,29 +91,19 @@ impl Chain {
         })
     }
 
-    /// Takes the packet of the next slot, one that is over by the tick at which the next frame begins. A block whose data
-    /// field is full goes to the end of the list, which holds what the chain put there since its last cut. After `PoolFull` the
-    /// chain is used no more.
+    /// Takes the packet of the next slot, one that is over by the tick at which the next interleaving frame begins. A block
+    /// whose data field is full goes to the end of the list, which holds what the chain put there since its last cut. After
+    /// `PoolFull` the chain is used no more.
     pub fn offer(&mut self, packet: &TsPacket, pool: &mut Pool, list: u32) -> Result<(), PoolFull>
         requires slot { slot_of self.old < 2 ^ 54 }
         requires list { list < length pool.old.lists }
-        ensures stands { OnOk result ((c : Config) (plp : ℕ) (events : List Event)
-            → ChainStandsFor self.old c plp events → HasRoom c plp events
-            → ChainStandsFor self.new c plp (events ++ Offered packet.now ∷ [])) }
-        ensures blocks { OnOk result ((c : Config) (plp : ℕ) (events : List Event)
-            → ChainStandsFor self.old c plp events → HasRoom c plp events
-            → map bits_of (list_at pool.old list) ≡ early_blocks c plp events
-            → map bits_of (list_at pool.new list) ≡ early_blocks c plp (events ++ Offered packet.now ∷ [])) }
+        ensures takes { OnOk result (Takes self.old self.new packet.now pool.old pool.new list) }
         ensures short { AreShort (list_at pool.old list) → AreShort (list_at pool.new list) }
         ensures others { Others pool.old pool.new list }
 
-        // There is room for the block if each list of the pool has no more than a frame.
-        ensures never { OnErr result ((c : Config) (plp : ℕ) (events : List Event)
-            → ChainStandsFor self.old c plp events → map bits_of (list_at pool.old list) ≡ early_blocks c plp events
-            → ¬ (HasPlace c plp pool.old list)) }
+        // There is room for the block if each list of the pool has no more than an interleaving frame.
+        ensures lacks { IfErr result (λ e. LacksPlace self.old pool.old list e.need) }
         ensures full { IfErr result (λ e. (e.spare ≡ pool.new.spare) × (e.spare < e.need)) }
-        ensures need { IfErr result (λ e. (c : Config) (plp : ℕ) (events : List Event) → ChainStandsFor self.old c plp events
-            → e.need ≡ chunks_for (block_bytes c plp)) }
 
         // A data field is full then, and the pool is as it was.
         ensures due { OnErr result ((c : Config) (plp : ℕ) (events : List Event) → ChainStandsFor self.old c plp events
@@ -119,9 +111,6 @@ impl Chain {
         ensures refused { OnErr result (pool.new ≡ pool.old) }
         ensures whole { IsWhole pool.new }
 
-        // Fewer bytes wait than a data field has.
-        ensures kept { OnOk result ((c : Config) (plp : ℕ) (events : List Event)
-            → ChainStandsFor self.old c plp events → HasRoom c plp events → kept_of self.new < field_bytes c plp) }
         ensures bounded { kept_of self.new ≤ MOST_FIELD_BYTES + SIZE }
         ensures slots { slot_of self.new ≡ slot_of self.old + 1 }
         ensures most { most_blocks self.new ≡ most_blocks self.old }
@@ -136,8 +125,7 @@ impl Chain {
         let bytes = packet.as_array();
         match self.deleter.push(packet) {
             None => {
-                // A call that tells that each chunk is free or has a part of a block.
-                let _ = pool.spare();
+                pool.stays_whole();
                 self.skip();
                 Ok(())
             }
@@ -164,7 +152,7 @@ impl Chain {
         ensures stays { Stays self.old self.new }
         ensures slot { self.new.slot ≡ self.old.slot + 1 }
     {
-        // There is room for every packet whose slot is over by the tick at which the next frame begins.
+        // There is room for every packet whose slot is over by the tick at which the next interleaving frame begins.
         if self.pending.len() > self.settings.field_bytes as usize {
             self.slot += 1;
             return;
@@ -192,8 +180,7 @@ impl Chain {
         ensures stays { self.new.settings ≡ self.old.settings }
         ensures slot { self.new.slot ≡ self.old.slot }
     {
-        // A call that tells that each chunk is free or has a part of a block.
-        let _ = pool.spare();
+        pool.stays_whole();
         let field_bytes = self.settings.field_bytes as usize;
         if self.made >= u32::from(self.settings.blocks) {
             return Ok(());
@@ -262,42 +249,26 @@ impl Chain {
         Some((place, *slot))
     }
 
-    /// Ends the next frame: the list then holds exactly its blocks, at most `blocks` of the PLP, and the answer is their
-    /// number. The first cut ends frame 0, which has none. All slots that are over by the tick at which the frame begins were
-    /// offered, and the list holds what the chain put there since its last cut. After `PoolFull` the chain is used no more.
+    /// Ends the next interleaving frame: the list then holds exactly its blocks, at most `blocks` of the PLP, and the answer is
+    /// their number. The first cut ends interleaving frame 0, which has none. All slots that are over by the tick at which it
+    /// begins were offered, and the list holds what the chain put there since its last cut. After `PoolFull` the chain is used
+    /// no more.
     pub fn cut(&mut self, pool: &mut Pool, list: u32) -> Result<u32, PoolFull>
         requires { list < length pool.old.lists }
-        ensures stands { OnOk result ((c : Config) (plp : ℕ) (events : List Event)
-            → ChainStandsFor self.old c plp events → IsDue c plp events → ChainStandsFor self.new c plp (events ++ Cut ∷ [])) }
-        ensures blocks { OnOk result ((c : Config) (plp : ℕ) (events : List Event)
-            → ChainStandsFor self.old c plp events → IsDue c plp events
-            → map bits_of (list_at pool.old list) ≡ early_blocks c plp events
-            → map bits_of (list_at pool.new list) ≡ blocks_of c plp c.ticks (packet_at (offered events)) (cuts events)) }
-        ensures answer { IfOk result (λ count. (c : Config) (plp : ℕ) (events : List Event)
-            → ChainStandsFor self.old c plp events → IsDue c plp events
-            → count ≡ length (blocks_of c plp c.ticks (packet_at (offered events)) (cuts events))) }
-        ensures none_put { OnOk result ((c : Config) (plp : ℕ) (events : List Event)
-            → ChainStandsFor self.old c plp events → IsDue c plp events → early_blocks c plp (events ++ Cut ∷ []) ≡ []) }
+        ensures ends { IfOk result (λ count. Ends self.old self.new pool.old pool.new list count) }
         ensures few { IfOk result (λ count. count ≤ most_blocks self.old) }
         ensures short { AreShort (list_at pool.old list) → AreShort (list_at pool.new list) }
         ensures others { Others pool.old pool.new list }
 
-        // There is room for the block if each list of the pool has no more than a frame.
-        ensures never { OnErr result ((c : Config) (plp : ℕ) (events : List Event)
-            → ChainStandsFor self.old c plp events → map bits_of (list_at pool.old list) ≡ early_blocks c plp events
-            → ¬ (HasPlace c plp pool.old list)) }
+        // There is room for the block if each list of the pool has no more than an interleaving frame.
+        ensures lacks { IfErr result (λ e. LacksPlace self.old pool.old list e.need) }
         ensures full { IfErr result (λ e. (e.spare ≡ pool.new.spare) × (e.spare < e.need)) }
-        ensures need { IfErr result (λ e. (c : Config) (plp : ℕ) (events : List Event) → ChainStandsFor self.old c plp events
-            → e.need ≡ chunks_for (block_bytes c plp)) }
 
         // Bytes wait then, and the pool is as it was.
         ensures due { OnErr result (0 < kept_of self.new) }
         ensures refused { OnErr result (pool.new ≡ pool.old) }
         ensures whole { IsWhole pool.new }
 
-        // Less than one user packet waits.
-        ensures kept { OnOk result ((c : Config) (plp : ℕ) (events : List Event)
-            → ChainStandsFor self.old c plp events → IsDue c plp events → kept_of self.new < up_bytes c plp) }
         ensures bounded { kept_of self.new ≤ MOST_FIELD_BYTES + SIZE }
         ensures slots { slot_of self.new ≡ slot_of self.old }
         ensures most { most_blocks self.new ≡ most_blocks self.old }
@@ -314,7 +285,7 @@ impl Chain {
         }
     }
 
-    // Goes on to the next frame; the answer is how many blocks this one has.
+    // Goes on to the next interleaving frame; the answer is how many blocks this one has.
     fn end_frame(&mut self) -> u32
         ensures made { result ≡ self.old.made }
         ensures resets { Resets self.old self.new }
@@ -325,7 +296,7 @@ impl Chain {
         made
     }
 
-    // Puts a last block, if the frame has room and bytes wait.
+    // Puts a last block, if the interleaving frame has room and bytes wait.
     fn put_rest(&mut self, pool: &mut Pool, list: u32) -> Result<(), PoolFull>
         requires { list < length pool.old.lists }
         ensures none { OnOk result (IsOver self.old → (self.new ≡ self.old) × (pool.new ≡ pool.old)) }
@@ -340,8 +311,7 @@ impl Chain {
         ensures stays { self.new.settings ≡ self.old.settings }
         ensures slot { self.new.slot ≡ self.old.slot }
     {
-        // A call that tells that each chunk is free or has a part of a block.
-        let _ = pool.spare();
+        pool.stays_whole();
         let count = self.pending.len();
         if self.made >= u32::from(self.settings.blocks) {
             return Ok(());
@@ -372,11 +342,11 @@ impl Chain {
         ensures kept { result ≡ kept_of self.now }
         ensures answer { (c : Config) (plp : ℕ) (events : List Event) → ChainStandsFor self.now c plp events
             → result ≡ waiting c plp events }
-        // After the cut of frame n: what has arrived by then and is not sent, less than one user packet.
+        // After the cut of interleaving frame n: what has arrived by then and is not sent, less than one user packet.
         ensures after_cut { (c : Config) (plp : ℕ) (events : List Event)
             → ChainStandsFor self.now c plp (events ++ Cut ∷ []) → IsDue c plp events
-            → result ≡ arrived (rates_of c plp c.ticks) (plp_keeps c plp (packet_at (offered events))) (cuts events)
-            - sent (rates_of c plp c.ticks) (plp_keeps c plp (packet_at (offered events))) (cuts events) }
+            → result ≡ arrived (rates_of c plp (epoch_ticks c plp)) (plp_keeps c plp (packet_at (offered events))) (cuts events)
+            - sent (rates_of c plp (epoch_ticks c plp)) (plp_keeps c plp (packet_at (offered events))) (cuts events) }
         ensures few { (c : Config) (plp : ℕ) (events : List Event)
             → ChainStandsFor self.now c plp (events ++ Cut ∷ []) → IsDue c plp events → result < up_bytes c plp }
     {

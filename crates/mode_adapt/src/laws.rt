@@ -6,7 +6,7 @@ use bb_frame::bit_counts;
 use null_delete::decided_by_the_past;
 use plp_config::{block_law, length_law, slot_time_law};
 
-/// A frame carries what the stream brings in it, and at least one user packet.
+/// An interleaving frame carries what the stream brings in it, and at least one user packet.
 pub fn within_law()
     ensures { WithinLaw }
 {
@@ -59,7 +59,7 @@ pub fn count_law()
     ensures { CountLaw }
 {}
 
-/// The blocks of a frame follow from the packets of the slots that are over when it begins.
+/// The blocks of an interleaving frame follow from the packets of the slots that are over when it begins.
 pub fn blocks_law()
     ensures { BlocksLaw }
 {
@@ -69,7 +69,7 @@ pub fn blocks_law()
     slot_time_law();
 }
 
-/// A list that holds what a chain put, before a cut or after it, holds no more than a frame.
+/// A list that holds what a chain put, before a cut or after it, holds no more than an interleaving frame.
 pub fn early_fits_law()
     ensures early { EarlyFits }
     ensures blocks { BlocksFit }

@@ -8,6 +8,7 @@ mod front;
 mod laws;
 mod matype;
 
+pub use block_header::LONG_ISCR;
 pub use chain::Chain;
 pub use laws::{
     backlog_law, begin_law, blocks_law, count_law, early_fits_law, end_law, first_law, join_law,

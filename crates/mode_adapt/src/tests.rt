@@ -6,7 +6,7 @@ use bb_frame::scramble;
 use bit_slice::{BitSlice, OutOfMemory, crc32};
 use linked_pool::{Pool, PoolFull};
 use plp_config::{Plan, Plp, Rate};
-use sample_networks::{LOADED_PLP, NoPlan, SMALL_PLP, network_of, plan_of};
+use sample_networks::{LOADED_PLP, NoPlan, SMALL_PLP, SPREAD_PLP, network_of, plan_of};
 use std::alloc::Global;
 use std::process::Abort;
 use std::test::Fail;
@@ -19,11 +19,9 @@ const LOADED: Plp = Plp {
     ..LOADED_PLP
 };
 
-const TICKS: u32 = 100_000;
-
 const CELLS: u32 = 80_000;
 
-// The chunks of a frame of so many cells.
+// The chunks of the pool, if frames of so many cells stand alone.
 const CHUNKS: u32 = 7 * (CELLS / 2_025);
 
 // Why there is no frame.
@@ -45,7 +43,7 @@ impl From<PoolFull> for NoFrame {
     }
 }
 
-// A chain with the slot of its next packet, for the first PLP of a plan.
+// A chain with the slot of its next packet, for the first PLP of a plan; `frame` counts interleaving frames.
 #[derive(Drop)]
 struct Feed {
     alloc: Global,
@@ -120,7 +118,7 @@ impl Feed {
     fn fill(&mut self, packets: &[TsPacket]) -> Result<(), PoolFull> {
         let end = self
             .plan
-            .slots_by(0, u64::from(self.frame) * u64::from(TICKS));
+            .slots_by(0, u64::from(self.frame) * self.plan.epoch_ticks(0));
         for slot in self.slot..end {
             match packets.get(slot as usize) {
                 Some(packet) => self.offer(packet)?,
@@ -206,6 +204,21 @@ fn a_block_is_refused_where_the_pool_is_too_small(rt: HostRuntime) -> Result<(),
     assert!(rt; feed.next_frame(&packets)?.is_empty());
     feed.frame = 1;
     assert_eq!(rt; feed.fill(&packets), Err(PoolFull { need: 4, spare: 3 }));
+    Ok(())
+}
+
+// An interleaving frame of two frames, 200,000 ticks: 29 slots are over by the first and 58 by the second. Packets that are not
+// null are 188 bytes each.
+#[test]
+fn two_frames_carry_an_interleaving_frame(rt: HostRuntime) -> Result<(), Fail> {
+    let mut feed = Feed::new(&rt, &[SPREAD_PLP], 2 * CHUNKS)?;
+    let packets = packets(rt.alloc(), 0, 20)?;
+    for (blocks, bytes, slot) in [(0, 0, 0), (5, 3_760, 29), (0, 0, 58)] {
+        let frame = feed.next_frame(&packets)?;
+        assert_eq!(rt; frame.len(), blocks);
+        assert_eq!(rt; carried(rt.alloc(), &frame)?.len(), bytes);
+        assert_eq!(rt; feed.slot, slot);
+    }
     Ok(())
 }
 

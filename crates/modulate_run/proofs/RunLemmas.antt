@@ -22,7 +22,7 @@ use Rattle.file_run.specs.Events.{Event, fed, has_ended, gave}
 use Rattle.file_run.specs.FileRun as driver
 use Rattle.file_run.specs.FileRun.{file_at, AreFed, IsFed, Works, OpensInputs, Writes, ReadsAll}
 use Rattle.file_run.specs.Laws.{EventsTell}
-use Rattle.file_run.specs.Steps.{Wants}
+use Rattle.file_run.specs.Steps.{Needs}
 use Rattle.file_run.specs.declared.machine.Step.TheVariants.{Read, Give, End}
 use Rattle.file_run.specs.declared.stop.RunFault.{RunFault}
 use Rattle.file_run.specs.declared.stop.RunFault.TheVariants as fault
@@ -208,9 +208,9 @@ given_last : (b : Bool) → cond b Give End ≡ End → b ≡ false
 given_last true e = absurd (let z : Give ≡ End = e in cc)
 given_last false e = refl
 
-no_wants : (b : Bool) (input : ℕ) → Wants (cond b Give End) input → ⊥
-no_wants true input h = h
-no_wants false input h = h
+no_needs : (b : Bool) (input count : ℕ) → Needs (cond b Give End) input count → ⊥
+no_needs true input count h = h
+no_needs false input count h = h
 
 front_empty : (xs ys : List ℕ) → xs ++ ys ≡ [] → xs ≡ []
 front_empty [] ys e = refl
@@ -239,10 +239,10 @@ ends_by law start now old new name out None true is ended end r =
 
 -- ---- how a run ended that its files stopped
 
-wanted : (o : Option Waiting) (e : Bool) (input : ℕ) → Wants (step_of o e) input → (o ≡ None) × (e ≡ false)
-wanted (Some w) e input h = absurd (no_wants (nat_lt w.frame MOST_FRAMES) input h)
-wanted None true input h = absurd h
-wanted None false input h = (refl, refl)
+wanted : (o : Option Waiting) (e : Bool) (input count : ℕ) → Needs (step_of o e) input count → (o ≡ None) × (e ≡ false) × (count ≤ 1)
+wanted (Some w) e input count h = absurd (no_needs (nat_lt w.frame MOST_FRAMES) input count h)
+wanted None true input count h = absurd h
+wanted None false input count h = (refl, refl, h.1)
 
 idle_of : (start now : ModulatorMachine) (events : List Event) → now.waiting ≡ None → now.ended ≡ false → becomes start events now
     → IsAll (config_of now.modulator) false (fed 0 events) (gave events) now.ran
@@ -276,14 +276,15 @@ gives_too_much start now old new name out input g =
     let c = config_of now.modulator in
     let s = g.stands in
     let first : input ≡ 0 = let p = g.place in omega (arith, p) in
-    let w = wanted now.waiting now.ended input g.wants in
+    let w = wanted now.waiting now.ended input _ g.wants in
     let all = idle_of start now s.events w.0 w.1 s.came in
     let most : slice_index s.places 0 ≡ longest_file = ap (slice_index s.places) (sym first) ∙ g.gave in
     let count = s.came.1.count in
-    let within = s.within 0 (omega arith) in
+    let less : slice_index s.places 0 - length (fed 0 s.events) ≤ 1 =
+    subst (λ (k : ℕ). slice_index s.places k - length (fed k s.events) ≤ 1) first w.2 in
     record {
       taken = length (fed 0 s.events);
-      near = omega (arith, most, count, within);
+      near = omega (arith, most, less);
       works = subst (λ (n : ℕ). Writes old new name out n (HasWritten c (length (fed 0 s.events)))) most
           (writes_by (HasWritten c (length (fed 0 s.events))) s
           (λ file bytes f holds. has_written c (length (fed 0 s.events)) file bytes (fed 0 s.events) now.ran

@@ -56,10 +56,10 @@ pub record HasWritten (c : Config) (taken : ℕ) (file bytes : List ℕ) : Type 
   pub early : AreEarly (records_due c false (take taken file))
   pub is : bytes ≡ bytes_due c false (take taken file)
 
--- IN gave as many bytes as no file may have. Of these all but as many as are read ahead were taken, at least.
+-- IN gave as many bytes as no file may have. Of these all but one were taken, at least: no step wants more than one.
 pub record GivesTooMuch (c : Config) (old new : State) (name out : List ℕ) : Type 0 where
   pub taken : ℕ
-  pub near : longest_file ≤ taken + read_ahead
+  pub near : longest_file ≤ taken + 1
   pub works : Writes old new name out longest_file (HasWritten c taken)
   pub long : IfSome old.held (λ h. (taken ≤ longest_file) × (longest_file ≤ length (bytes_of h.files name)))
   pub counts : SameCounts old new

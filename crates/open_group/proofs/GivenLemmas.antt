@@ -1,6 +1,6 @@
 -- A group that passes gives its frame.
-use Rattle.std.proofs.Common.{◌≡◌, ℕ, zero, suc, ◌+◌, ◌*◌, ◌<◌, ◌≤◌, ◌==◌, ◌&&◌, Bool, true, false, cond, List, [], ◌∷◌, ◌++◌}
-use Rattle.std.proofs.Common.{map, length, get_or, Option, Some, None, refl, ap, ap₂, sym, subst, ◌∙◌, ⊎_elim, arith}
+use Rattle.std.proofs.Common.{◌≡◌, ℕ, zero, suc, ◌+◌, ◌*◌, ◌%◌, ◌<◌, ◌≤◌, ◌==◌, ◌&&◌, Bool, true, false, cond, List, [], ◌∷◌}
+use Rattle.std.proofs.Common.{◌++◌, map, length, get_or, Option, Some, None, refl, ap, ap₂, sym, subst, ◌∙◌, ⊎_elim, arith}
 use Rattle.std.specs.Prelude.{slice_index, slice_index_or, is_some, sum}
 use Rattle.std.specs.List.{concat, filter, flat_map, list_all, list_any, cons_option, range_with_len}
 use Rattle.std.specs.Option.{option_or, unwrap_or}
@@ -212,12 +212,12 @@ module _ (sizes : BitCounts) (c : Config) (n : ℕ) (packets : List Packet) (sha
         (cases_lt plp (length c.plps));
   }
 
-  pub same_view : (dynamic : List Bool) → dynamic ≡ dynamic_in packets → written_frame c (emission c n) dynamic shape lists
-      ≡ packets_view c n packets
+  pub same_view : (dynamic : List Bool) → dynamic ≡ dynamic_in packets
+      → written_frame c (emission c n) (n % c.frames) dynamic shape lists ≡ packets_view c n packets
   same_view dynamic is =
-      ap (λ (d : List Bool). frame_view c (emission c n) (post_with c d) (list_blocks c 0 lists) shape) is
-      ∙ ap (λ b. frame_view c (emission c n) (post_with c (dynamic_in packets)) b shape) lists_sent
-      ∙ ap (λ (o : Option FrameShape). frame_view c (emission c n) (post_with c (dynamic_in packets))
+      ap (λ (d : List Bool). frame_view c (emission c n) (n % c.frames) (post_with c d) (list_blocks c 0 lists) shape) is
+      ∙ ap (λ b. frame_view c (emission c n) (n % c.frames) (post_with c (dynamic_in packets)) b shape) lists_sent
+      ∙ ap (λ (o : Option FrameShape). frame_view c (emission c n) (n % c.frames) (post_with c (dynamic_in packets))
       (sent_blocks c (λ plp. right_blocks c plp packets)) (unwrap_or o (blank (length c.plps)))) (sym first)
 
 -- What a writer gives of the lists of a group that passes is the record of its frame.
@@ -228,14 +228,14 @@ pub given_frame : RecordWritten → BlockCount → RestLength → BitCounts
     → length shape.counts ≡ length c.plps → length lists ≡ length c.plps
     → ((plp : ℕ) → plp < length c.plps → list_at lists plp ≡ map sent_bytes (right_blocks c plp packets))
     → blocks ≡ sum shape.counts → rest ≡ rest_size c (post_size c (length dynamic)) (slice_index shape.counts)
-    → front_bytes c (emission c n) dynamic blocks rest ++ step_bytes c shape lists (Blocks 0)
+    → front_bytes c (emission c n) dynamic blocks rest ++ step_bytes c shape (n % c.frames) lists (Blocks 0)
     ≡ record_bytes (packets_view c n packets)
 given_frame written count size sizes c n packets dynamic shape lists blocks rest plan passes is first told long held so_many
     so_long =
     let has = has_blocks sizes c n packets shape lists plan passes first told long held in
     let all : blocks ≡ length (list_blocks c 0 lists) = so_many ∙ sym (count c shape lists has) in
-    let follow : rest ≡ length (concat (written_rest (written_frame c (emission c n) dynamic shape lists))) =
-    so_long ∙ sym (size c (emission c n) dynamic shape lists has) in
-    ap₂ (λ (b r : ℕ). front_bytes c (emission c n) dynamic b r ++ step_bytes c shape lists (Blocks 0)) all follow
-    ∙ written c (emission c n) dynamic shape lists
+    let follow : rest ≡ length (concat (written_rest (written_frame c (emission c n) (n % c.frames) dynamic shape lists))) =
+    so_long ∙ sym (size c (emission c n) (n % c.frames) dynamic shape lists has) in
+    ap₂ (λ (b r : ℕ). front_bytes c (emission c n) dynamic b r ++ step_bytes c shape (n % c.frames) lists (Blocks 0)) all follow
+    ∙ written c (emission c n) (n % c.frames) dynamic shape lists
     ∙ ap record_bytes (same_view sizes c n packets shape lists plan passes first told long held dynamic is)

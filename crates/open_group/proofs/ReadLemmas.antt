@@ -1,5 +1,5 @@
 -- A dynamic part that reads has the length that its PLPs ask for.
-use Rattle.std.proofs.Common.{◌≡◌, ℕ, ◌+◌, ◌*◌, ◌==◌, Bool, true, false, cond, List, length, Option, Some, None, refl, ap, sym}
+use Rattle.std.proofs.Common.{◌≡◌, ℕ, ◌==◌, Bool, true, false, cond, List, length, Option, Some, None, refl, ap, sym}
 use Rattle.std.proofs.Common.{◌∙◌, arith, length-append}
 use Rattle.std.specs.Prelude.{is_some, Ok, Err}
 use Rattle.std.specs.Option.{unwrap_or}
@@ -7,12 +7,13 @@ use Rattle.std.proofs.lemmas.Bool.{true≢false, eqb-true}
 use Rattle.l1_signal.specs.Fields.{Reading}
 use Rattle.l1_signal.specs.L1Dynamic.{dyn_read}
 use Rattle.l1_signal.specs.Laws.{DynReadSpelled, DynLength}
+use Rattle.l1_signal.specs.Lengths.{dyn_len}
 use Rattle.l1_signal.specs.declared.dynamic.L1Dyn.{L1Dyn}
 use Rattle.frame_tests.specs.Tests.{read_whole}
 
 -- how long it is, and how many PLPs it tells
 record IsRead (plps : ℕ) (bits : List Bool) (d : L1Dyn) : Type 0 where
-  pub len : length bits ≡ 79 + 48 * plps
+  pub len : length bits ≡ dyn_len plps
   pub rows : length d.plps ≡ plps
 
 is_read : DynReadSpelled → DynLength → (plps : ℕ) (bits : List Bool) (d : L1Dyn) → read_whole (dyn_read plps bits) ≡ Some d
@@ -42,7 +43,7 @@ is_read spelled len plps bits d e = go (dyn_read plps bits) refl e
     go (Err fault) is e = none e
 
 pub read_len : DynReadSpelled → DynLength → (plps : ℕ) (bits : List Bool) (d : L1Dyn) → read_whole (dyn_read plps bits) ≡ Some d
-    → length bits ≡ 79 + 48 * plps
+    → length bits ≡ dyn_len plps
 read_len spelled len plps bits d e = (is_read spelled len plps bits d e).len
 
 pub read_rows : DynReadSpelled → DynLength → (plps : ℕ) (bits : List Bool) (d : L1Dyn) → read_whole (dyn_read plps bits) ≡ Some d

@@ -1,5 +1,5 @@
 -- A group that passes makes a frame that fits a record.
-use Rattle.std.proofs.Common.{◌≡◌, ℕ, ◌<◌, ◌≤◌, ◌^◌, true, List, [], map, length, get_or, Option, Some, None, refl, ap, sym}
+use Rattle.std.proofs.Common.{◌≡◌, ℕ, ◌%◌, ◌<◌, ◌≤◌, ◌^◌, true, List, [], map, length, get_or, Option, Some, None, refl, ap, sym}
 use Rattle.std.proofs.Common.{subst, ◌∙◌, arith}
 use Rattle.std.specs.Prelude.{slice_get}
 use Rattle.std.specs.Option.{option_map, option_map_or, option_and_then}
@@ -25,8 +25,7 @@ use Rattle.l1_signal.specs.declared.dynamic.L1Dyn.{L1Dyn}
 use Rattle.record_writer.specs.RecordBytes.{list_at}
 use Rattle.plp_config.specs.Capacity.{IsPlan}
 use Rattle.plp_config.specs.declared.config.Config.{Config}
-use Rattle.plp_config.specs.Rules.{PlpCount}
-use Rattle.record_writer.specs.Front.{most_dynamic}
+use Rattle.l1_signal.specs.Lengths.{dyn_len}
 use Rattle.record_writer.specs.Laws.{RecordFits}
 use Rattle.scheduler.specs.Shape.{FrameShape}
 use Rattle.site_frame.specs.Whole.{FitsRecord}
@@ -77,17 +76,16 @@ module _ (fits : RecordFits) (passing : MapPasses) (spelled : DynReadSpelled) (l
   by_parts l1 e (Some d) k =
       let shape : FrameShape = told_shape d in
       let first : first_shape c packets ≡ Some shape = ap (option_and_then (l1_shape c)) e ∙ ap (option_map told_shape) k in
-      let passes : Passes c shape = (passing c shape).0 (sym (ap (has_map c) first) ∙ has) in
+      let passes : Passes c shape = (passing c shape plan).0 (sym (ap (has_map c) first) ∙ has) in
       let told : length shape.counts ≡ length c.plps = shape_rows d ∙ read_rows spelled len (length c.plps) l1.dynamic d k in
       let dynamic : dynamic_in packets ≡ l1.dynamic = ap (λ (o : Option L1Parts). option_map_or (λ l1. l1.dynamic) o []) e in
       let size = ap length dynamic ∙ read_len spelled len (length c.plps) l1.dynamic d k in
-      let plps : length c.plps ≤ 255 = (plan.rules PlpCount).1 in
-      let short : length (dynamic_in packets) ≤ most_dynamic = omega (arith, size, plps) in
+      let short : length (dynamic_in packets) ≤ dyn_len (length c.plps) = omega (arith, size) in
       let long = lists_long c packets in
       let held = lists_held c packets in
       subst FitsRecord (same_view sizes c n packets shape (lists_of c packets) plan none first told long held
       (dynamic_in packets) refl)
-      (fits c n (dynamic_in packets) shape (lists_of c packets) plan ids small short passes
+      (fits c n (n % c.frames) (dynamic_in packets) shape (lists_of c packets) plan ids small short passes
       (has_blocks sizes c n packets shape (lists_of c packets) plan none first told long held))
 
   pub packets_fit : FitsRecord (packets_view c n packets)

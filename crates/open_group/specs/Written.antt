@@ -1,5 +1,5 @@
 -- The record of a group of packets: the frame that they make, or a muted one (EN 302 755, clauses 5 to 8).
-use Rattle.std.specs.Prelude.{ℕ, Bool, List, [], slice_get, length}
+use Rattle.std.specs.Prelude.{ℕ, ◌%◌, Bool, List, [], slice_get, length}
 use Rattle.std.specs.Option.{option_map_or, unwrap_or}
 use Rattle.plp_config.specs.Emission.{emission}
 use Rattle.plp_config.specs.declared.config.Config.{Config}
@@ -23,11 +23,12 @@ abbrev pub shape_in : Config → List Packet → FrameShape
 shape_in c packets = unwrap_or (first_shape c packets) (blank (length c.plps))
 
 -- the frame that packets make, as frame n: it leaves when frame n does, L1-pre and the configurable part are the configuration's,
--- the dynamic part is as it came, the blocks stand PLP by PLP, scrambled, and each cell at its address by the shape that was told
+-- the dynamic part is as it came, the blocks stand PLP by PLP, scrambled, and each cell that frame n carries stands at its
+-- address by the shape that was told
 abbrev pub packets_view : Config → ℕ → List Packet → RecordView
 packets_view c n packets =
-    frame_view c (emission c n) (post_with c (dynamic_in packets)) (sent_blocks c (λ plp. right_blocks c plp packets))
-    (shape_in c packets)
+    frame_view c (emission c n) (n % c.frames) (post_with c (dynamic_in packets))
+    (sent_blocks c (λ plp. right_blocks c plp packets)) (shape_in c packets)
 
 abbrev pub content_view : Config → ℕ → Content → RecordView
 content_view c n (Whole g) = packets_view c n g.packets

@@ -5,10 +5,10 @@ ghost use Rattle.open_group.specs.Sent.{sent_bytes};
 ghost use Rattle.record_writer.specs.RecordBytes.{AreShort};
 ghost use Rattle.plp_config.specs.declared.plp.TheConstants.{MOST_BLOCK_BYTES};
 
-use crate::plps::{block_chunks, pool_chunks};
+use crate::plps::block_chunks;
 use bb_frame::scramble;
 use bit_slice::{BitSlice, OutOfMemory};
-use linked_pool::{BlockRef, Pool};
+use linked_pool::{BlockRef, Pool, group_chunks};
 use plp_config::{MOST_BLOCK_BYTES, Plan};
 use record_writer::{Writer, short_law};
 use scheduler::Shape;
@@ -53,8 +53,7 @@ fn clear_pool(pool: &mut Pool, lists: u32)
     ensures short { AreShort pool.new.lists }
 {
     clear_lists(pool, lists);
-    // A call that tells that every chunk is free or has a part of a block.
-    let _ = pool.spare();
+    pool.stays_whole();
 }
 
 // The bytes of a block as it is sent.
@@ -89,7 +88,7 @@ impl HeldBlocks {
     {
         short_law();
         let plps = plan.config().plps.len();
-        let chunks = pool_chunks(plan);
+        let chunks = group_chunks(plan);
         Ok(HeldBlocks {
             pool: Pool::open(alloc, chunks, plps as u32)?,
             counts: vec![in alloc; 0; plps]?,
@@ -207,7 +206,7 @@ impl HeldBlocks {
     pub fn fits_chunks(&self)
         ensures { used_chunks self.now.pool.lists ≤ self.now.chunks }
     {
-        let _ = self.pool.spare();
+        self.pool.stays_whole();
     }
 
     /// Whether each block was one of a PLP, with its length.

@@ -20,7 +20,7 @@ use t2mi_packet::Stamp;
 fn begins_superframe(plan: &Plan, number: u64) -> bool
     ensures { result ≡ begins_superframe plan.now number }
 {
-    number % u64::from(plan.config().frames) == 0
+    plan.frame_idx(number) == 0
 }
 
 /// a: the blocks that have the length of their PLP have room.

@@ -1,6 +1,6 @@
 // The record that is given: of the group's frame, or of a muted one.
-ghost use Rattle.std.specs.Prelude.{◌≡◌, ◌<◌, ◌≤◌, ◌⊎◌, ◌↔◌, ◌++◌, ◌^◌, [], true, false, is_some, Option, Some, None, length};
-ghost use Rattle.std.specs.Prelude.{take, drop, ℕ};
+ghost use Rattle.std.specs.Prelude.{◌≡◌, ◌<◌, ◌≤◌, ◌⊎◌, ◌↔◌, ◌++◌, ◌^◌, ◌%◌, [], true, false, is_some, Option, Some, None};
+ghost use Rattle.std.specs.Prelude.{length, take, drop, ℕ};
 ghost use Rattle.plp_config.specs.Emission.{emission};
 ghost use Rattle.site_frame.specs.Whole.{record_bytes};
 ghost use Rattle.frame_groups.specs.Groups.{Group};
@@ -19,11 +19,12 @@ use plp_config::Moment;
 use record_writer::written_law;
 
 impl<'p> PooledGroup<'p> {
-    // Begins the record of its frame, which leaves at a moment.
-    fn begin_frame(&mut self, moment: &Moment)
+    // Begins the record of its frame, which leaves at a moment, with this number in its superframe.
+    fn begin_frame(&mut self, moment: &Moment, frame_idx: u8)
         requires intact { self.old.intact ≡ true }
         requires frame { is_frame self.old ≡ true }
-        ensures left { (h : Group) (n : ℕ) → moment.now ≡ emission self.old.network n → Holds self.old (Some h)
+        ensures left { (h : Group) (n : ℕ) → moment.now ≡ emission self.old.network n → frame_idx ≡ n % self.old.network.frames
+            → Holds self.old (Some h)
             → group_fault self.old.network h n ≡ None
             → bytes_left self.new ≡ record_bytes (packets_view self.old.network n h.packets) }
         ensures some { 0 < length (bytes_left self.new) }
@@ -38,8 +39,13 @@ impl<'p> PooledGroup<'p> {
         written_law();
         self.network.plan().obeys_rules();
         self.blocks.fits_chunks();
-        self.l1
-            .begin_frame(self.network.plan(), &self.conf, moment, &mut self.writer);
+        self.l1.begin_frame(
+            self.network.plan(),
+            &self.conf,
+            moment,
+            frame_idx,
+            &mut self.writer,
+        );
         self.intact = false;
     }
 
@@ -59,9 +65,10 @@ impl<'p> PooledGroup<'p> {
         ensures intact { is_some waiting.mute ≡ true → self.new.intact ≡ self.old.intact }
     {
         let moment = self.network.plan().emission(waiting.frame);
+        let frame_idx = self.network.plan().frame_idx(waiting.frame);
         match waiting.mute {
             Some(_) => self.writer.begin_muted(&moment),
-            None => self.begin_frame(&moment),
+            None => self.begin_frame(&moment, frame_idx),
         }
     }
 

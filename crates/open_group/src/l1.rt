@@ -1,6 +1,6 @@
 // The L1 signalling of a group.
 ghost use Rattle.std.specs.Prelude.{◌≡◌, ◌≤◌, true, length};
-ghost use Rattle.record_writer.specs.Front.{most_dynamic};
+ghost use Rattle.l1_signal.specs.declared.lengths.TheConstants.{MOST_DYN_BITS};
 
 use crate::parts::HeldParts;
 use bit_slice::{BitSlice, OutOfMemory};
@@ -30,7 +30,7 @@ pub struct HeldL1 {
     pub(crate) shape: Shape,
     ghost rows: { length shape.counts ≡ length dynamic.plps },
     // What reads is no longer than a dynamic part can be.
-    ghost short: { told ≡ true → parts.dynamic ≤ most_dynamic },
+    ghost short: { told ≡ true → parts.dynamic ≤ MOST_DYN_BITS },
 }
 
 impl HeldL1 {
@@ -230,8 +230,15 @@ impl HeldL1 {
         &self.shape
     }
 
-    /// Begins the record of the frame that it tells, which leaves at a moment.
-    pub fn begin_frame(&self, plan: &Plan, conf: &Signalling, moment: &Moment, writer: &mut Writer)
+    /// Begins the record of the frame that it tells, which leaves at a moment, with this number in its superframe.
+    pub fn begin_frame(
+        &self,
+        plan: &Plan,
+        conf: &Signalling,
+        moment: &Moment,
+        frame_idx: u8,
+        writer: &mut Writer,
+    )
         requires conf { conf.now ≡ conf_bits (conf_of plan.now) }
         requires map { has_map plan.now (shape_told self.now) ≡ true }
         requires rows { length self.now.dynamic.plps ≡ length plan.now.plps }
@@ -239,7 +246,7 @@ impl HeldL1 {
             ≡ front_bytes plan.now moment.now (parts_of self.now.parts).dynamic (sum self.now.shape.counts)
             (rest_size plan.now (post_size plan.now (length (parts_of self.now.parts).dynamic))
             (slice_index self.now.shape.counts))
-            ++ step_bytes plan.now self.now.shape lists (Blocks 0) }
+            ++ step_bytes plan.now self.now.shape frame_idx lists (Blocks 0) }
         ensures most { (lists : List (List (List ℕ)))
             → length (bytes_left writer.new plan.now self.now.shape lists) ≤ most_record plan.now (used_chunks lists) }
         ensures ready { (lists : List (List (List ℕ))) → HasLists plan.now lists
@@ -247,9 +254,10 @@ impl HeldL1 {
         ensures done { is_done writer.new ≡ false }
     {
         map_test_law();
+        plan.obeys_rules();
         let dynamic = self.parts.dynamic();
         let blocks = block_count(plan, &self.shape);
         let rest = rest_len(plan, &self.shape, dynamic.len());
-        writer.begin_frame(plan, conf, moment, dynamic, blocks, rest);
+        writer.begin_frame(plan, conf, moment, frame_idx, dynamic, blocks, rest);
     }
 }

@@ -8,7 +8,7 @@ ghost use Rattle.plp_config.specs.declared.moment.TheConstants.{MOST_FRAMES};
 ghost use Rattle.frame_tests.specs.Tests.{moment_of, named_frame};
 
 use crate::stamps::HeldStamps;
-use frame_groups::{Key, SUPERFRAME_PERIOD};
+use frame_groups::Key;
 use frame_tests::named_law;
 use plp_config::{Moment, Plan, emission_law};
 use site_frame::place_record;
@@ -30,10 +30,9 @@ fn frame_at(plan: &Plan, stamp: Stamp) -> Option<u64>
 fn has_key(plan: &Plan, number: u64, key: Key) -> bool
     ensures { IsTrue result ↔ (frame_key plan.now.frames number ≡ key) }
 {
-    let frames = u64::from(plan.config().frames);
     let own = Key {
-        superframe: (number / frames % SUPERFRAME_PERIOD) as u8,
-        frame: (number % frames) as u8,
+        superframe: plan.superframe_idx(number),
+        frame: plan.frame_idx(number),
     };
     own == key
 }

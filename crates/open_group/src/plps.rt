@@ -1,10 +1,9 @@
-// Chunks of memory: those of a block of each PLP, and those of a group's pool.
+// Chunks of memory: those of a block of each PLP.
 ghost use Rattle.std.specs.Prelude.{◌≡◌, ◌<◌, ◌≤◌, length};
 ghost use Rattle.linked_pool.specs.Pool.{chunks_for};
 ghost use Rattle.plp_config.specs.Capacity.{block_bytes};
-ghost use Rattle.frame_tests.specs.Tests.{pool_chunks};
 
-use linked_pool::{CHUNK, CHUNKS_OF_CELLS, FEWEST_CELLS};
+use linked_pool::CHUNK;
 use plp_config::Plan;
 
 /// The chunks of the pool that a block of a PLP fills.
@@ -14,11 +13,4 @@ pub fn block_chunks(plan: &Plan, plp: usize) -> u32
     ensures most { result ≤ 27 }
 {
     (plan.block_bytes(plp) as usize).div_ceil(CHUNK).max(1) as u32
-}
-
-/// The chunks of the pool.
-pub fn pool_chunks(plan: &Plan) -> u32
-    ensures { result ≡ pool_chunks plan.now }
-{
-    CHUNKS_OF_CELLS * plan.config().cells / FEWEST_CELLS
 }

@@ -13,7 +13,8 @@ use Rattle.packet_slots.specs.Packets.{packet_of}
 use Rattle.packet_slots.specs.Packets.{UserPacket, user_packets}
 use Rattle.packet_slots.specs.Assembles.{Gains, IsFound}
 use Rattle.packet_slots.specs.Readback.{counts_by, counts}
-use Rattle.packet_slots.specs.Times.{over_after, delay_of}
+use Rattle.packet_slots.specs.Times.{over_after}
+use Rattle.plp_config.specs.SlotTimes.{delay_of}
 use Rattle.ts_packet.specs.declared.sizes.TheConstants.{SIZE, SYNC}
 use Rattle.packet_slots.specs.Filling.{filled}
 use Rattle.packet_slots.specs.Holds.{Shows}
@@ -26,7 +27,7 @@ module _ (r : SlotRule) (sound : IsSound r) (z piece : List Item) (frame first e
       nothing_found r z (z ++ piece) first end slots (g.packets ∙ ap (λ (l : List UserPacket). user_packets r z ++ l) g.gives
       ∙ append-nil (user_packets r z)) shows
 
-  module _ (found : Found) (delay : ℕ) (late : delay ≡ delay_of r) (near : over_after r found.frame < 2 ^ 53)
+  module _ (found : Found) (delay : ℕ) (late : delay ≡ delay_of r.times) (near : over_after r found.frame < 2 ^ 53)
       (g : Gains r z frame piece held (Some found)) where
     abbrev up : UserPacket
     up = g.gives.0
@@ -40,8 +41,8 @@ module _ (r : SlotRule) (sound : IsSound r) (z piece : List Item) (frame first e
     same : counts_by r delay found.slot found.frame frame ≡ counts r up
     same =
         ap₂ (λ (d s : ℕ). counts_by r d s found.frame frame) late is.slot
-        ∙ same_test r (delay_of r) up.slot found.frame frame near
-        ∙ ap₂ (λ (b e : ℕ). counts_by r (delay_of r) up.slot b e) is.begun (sym is.ended)
+        ∙ same_test r (delay_of r.times) up.slot found.frame frame near
+        ∙ ap₂ (λ (b e : ℕ). counts_by r (delay_of r.times) up.slot b e) is.begun (sym is.ended)
 
     pub gain_not : counts_by r delay found.slot found.frame frame ≡ false → Shows r (z ++ piece) first end slots
     gain_not e = not_counted r z (z ++ piece) up gains first end slots (sym same ∙ e) shows
@@ -60,7 +61,7 @@ module _ (r : SlotRule) (sound : IsSound r) (z piece : List Item) (frame first e
         let below : found.slot < over_after r found.frame =
         ltb-true _ _
         (and_parts (nat_lt found.slot (over_after r found.frame))
-        (nat_lt (frame * r.ticks) (slot_start r.num r.den found.slot + delay))
+        (nat_lt (frame * r.times.epoch) (slot_start r.times.num r.times.den found.slot + delay))
         (and_parts (nat_le (over_after r (found.frame - 1)) found.slot) _ e).1).0 in
         let s = is.slot in
         let slot_is : found.slot ≡ up.slot = omega (arith, s, below, near) in

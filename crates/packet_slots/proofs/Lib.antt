@@ -2,7 +2,6 @@ pub mod OneLemmas
 pub mod SlotLemmas
 pub mod TurnLemmas
 mod PieceLemmas
-pub mod IscrLemmas
 mod HoldsLemmas
 mod OutLemmas
 pub mod BlockLemmas

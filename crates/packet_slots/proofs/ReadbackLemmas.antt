@@ -18,7 +18,8 @@ use Rattle.packet_slots.specs.Packets.{packet_of}
 use Rattle.packet_slots.specs.Packets.{UserPacket, user_packets, first_item, last_item}
 use Rattle.packet_slots.specs.Readback.{counts, counted, found_for, slot_packet}
 use Rattle.packet_slots.specs.Records.{Record, block_or_gap, record_items, string_of, first_slot, readback}
-use Rattle.packet_slots.specs.Times.{delay_of, due_after}
+use Rattle.packet_slots.specs.Times.{due_after}
+use Rattle.plp_config.specs.SlotTimes.{delay_of}
 use Rattle.packet_slots.specs.Records.Record.{Muted, Framed}
 use Rattle.packet_slots.specs.Holds.{From, UpTo, Since}
 use Rattle.terms.proofs.AllLemmas.{all_append}
@@ -72,14 +73,14 @@ string_append len frame (r ∷ records) more =
 -- What counts.
 
 pub record Counts (r : SlotRule) (up : UserPacket) : Type 0 where
-  pub below : up.slot < slot_count r.num r.den ((first_item up.items).frame * r.ticks)
-  pub early : (last_item up.items).frame * r.ticks < slot_start r.num r.den up.slot + delay_of r
+  pub below : up.slot < slot_count r.times.num r.times.den ((first_item up.items).frame * r.times.epoch)
+  pub early : (last_item up.items).frame * r.times.epoch < slot_start r.times.num r.times.den up.slot + delay_of r.times
 
 counts_parts : (r : SlotRule) (up : UserPacket) → counts r up ≡ true → Counts r up
 counts_parts r up h =
-    let a : Bool = nat_le (slot_count r.num r.den (((first_item up.items).frame - 1) * r.ticks)) up.slot in
-    let b : Bool = nat_lt up.slot (slot_count r.num r.den ((first_item up.items).frame * r.ticks)) in
-    let d : Bool = nat_lt ((last_item up.items).frame * r.ticks) (slot_start r.num r.den up.slot + delay_of r) in
+    let a : Bool = nat_le (slot_count r.times.num r.times.den (((first_item up.items).frame - 1) * r.times.epoch)) up.slot in
+    let b : Bool = nat_lt up.slot (slot_count r.times.num r.times.den ((first_item up.items).frame * r.times.epoch)) in
+    let d : Bool = nat_lt ((last_item up.items).frame * r.times.epoch) (slot_start r.times.num r.times.den up.slot + delay_of r.times) in
     let p = and_parts a (b && d) h in
     let q = and_parts b d p.1 in
     record { below = ltb-true _ _ q.0; early = ltb-true _ _ q.1 }
@@ -88,14 +89,14 @@ module _ (r : SlotRule) (sound : IsSound r) where
   one_len : 1 ≤ r.up_len
   one_len = let u = sound.up in omega (arith, u)
 
-  num_pos : 0 < r.num
-  num_pos = let a = sound.den in let b = sound.slot in omega (arith, a, b)
+  num_pos : 0 < r.times.num
+  num_pos = let a = sound.times.some in let b = sound.times.long in omega (arith, a, b)
 
-  den_pos : 0 < r.den
-  den_pos = let a = sound.den in omega (arith, a)
+  den_pos : 0 < r.times.den
+  den_pos = let a = sound.times.some in omega (arith, a)
 
   -- a slot of the range of a later frame has no packet yet
-  pub none_yet : CountRises → (z : List Item) (frame k : ℕ) → UpTo frame z → slot_count r.num r.den (frame * r.ticks) ≤ k
+  pub none_yet : CountRises → (z : List Item) (frame k : ℕ) → UpTo frame z → slot_count r.times.num r.times.den (frame * r.times.epoch) ≤ k
       → found_for r z k ≡ None
   unfolding counted
   none_yet rises z frame k h l =
@@ -104,12 +105,12 @@ module _ (r : SlotRule) (sound : IsSound r) where
       (all_map (From r z 0 a.n) (λ (up : UserPacket). counts r up ≡ true → (up.slot == k) ≡ false)
       (λ up f e. false_from_ne_true _ (λ (t : (up.slot == k) ≡ true).
       let b = (counts_parts r up e).below in
-      let m : (first_item up.items).frame * r.ticks ≤ frame * r.ticks =
-      mul-le-mul_right r.ticks (begins_up_to r z 0 a.n frame up one_len h f) in
+      let m : (first_item up.items).frame * r.times.epoch ≤ frame * r.times.epoch =
+      mul-le-mul_right r.times.epoch (begins_up_to r z 0 a.n frame up one_len h f) in
       omega (
         arith,
         b,
-        rises r.num r.den ((first_item up.items).frame * r.ticks) (frame * r.ticks) num_pos m,
+        rises r.times.num r.times.den ((first_item up.items).frame * r.times.epoch) (frame * r.times.epoch) num_pos m,
         l,
         eqb-true up.slot k t,
       )))
@@ -126,8 +127,8 @@ module _ (r : SlotRule) (sound : IsSound r) where
   final law z y frame k h l =
       let m = longer r z y frame one_len h in
       let test : UserPacket → Bool = λ up. up.slot == k in
-      let out : slot_start r.num r.den k + delay_of r ≤ frame * r.ticks =
-      (law r.num r.den (delay_of r) (frame * r.ticks) k num_pos den_pos).0 l in
+      let out : slot_start r.times.num r.times.den k + delay_of r.times ≤ frame * r.times.epoch =
+      (law r.times.num r.times.den (delay_of r.times) (frame * r.times.epoch) k num_pos den_pos).0 l in
       let none : find test (filter (counts r) m.more) ≡ None =
       none_found (counts r) test m.more
       (all_map (λ (up : UserPacket). frame ≤ (last_item up.items).frame) (λ (up : UserPacket). counts r up ≡ true
@@ -135,8 +136,8 @@ module _ (r : SlotRule) (sound : IsSound r) where
       (λ up f e. false_from_ne_true _ (λ (t : (up.slot == k) ≡ true).
       let b = (counts_parts r up e).early in
       let s : up.slot ≡ k = eqb-true up.slot k t in
-      let q : frame * r.ticks ≤ (last_item up.items).frame * r.ticks = mul-le-mul_right r.ticks f in
-      omega (arith, b, q, out, ap (slot_start r.num r.den) s))) m.more m.all) in
+      let q : frame * r.times.epoch ≤ (last_item up.items).frame * r.times.epoch = mul-le-mul_right r.times.epoch f in
+      omega (arith, b, q, out, ap (slot_start r.times.num r.times.den) s))) m.more m.all) in
       ap (λ (l : List UserPacket). find test (filter (counts r) l)) m.packets
       ∙ ap (find test) (filter_append (counts r) (user_packets r z) m.more)
       ∙ find-append test (filter (counts r) (user_packets r z)) (filter (counts r) m.more)
@@ -147,9 +148,9 @@ module _ (r : SlotRule) (sound : IsSound r) where
   out_rises law a b l =
       elim (cases_lt (due_after r b) (due_after r a)) [
         | inl lt ↦
-            let p = (law r.num r.den (delay_of r) (a * r.ticks) (due_after r b) num_pos den_pos).0 lt in
-            let q : a * r.ticks ≤ b * r.ticks = mul-le-mul_right r.ticks l in
-            let s = (law r.num r.den (delay_of r) (b * r.ticks) (due_after r b) num_pos den_pos).1 (omega (arith, p, q)) in
+            let p = (law r.times.num r.times.den (delay_of r.times) (a * r.times.epoch) (due_after r b) num_pos den_pos).0 lt in
+            let q : a * r.times.epoch ≤ b * r.times.epoch = mul-le-mul_right r.times.epoch l in
+            let s = (law r.times.num r.times.den (delay_of r.times) (b * r.times.epoch) (due_after r b) num_pos den_pos).1 (omega (arith, p, q)) in
             absurd (omega (arith, s))
         | inr ge ↦ ge
       ]

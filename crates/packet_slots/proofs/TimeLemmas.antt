@@ -17,21 +17,21 @@ before_is (suc n) ticks =
 pub released_late : ReleasedOld → CountRises → (r : SlotRule) → IsSound r → (frame : ℕ)
     → due_after r frame ≤ over_after r (frame - 1)
 released_late old rises r sound frame =
-    let a = sound.den in
-    let b = sound.slot in
+    let a = sound.times.some in
+    let b = sound.times.long in
     elim (cases_lt (over_after r (frame - 1)) (due_after r frame)) [
       | inl lt ↦
-          let p = old r.num r.den r.ticks (frame * r.ticks) (over_after r (frame - 1)) (omega (arith, a, b))
+          let p = old r.times.num r.times.den r.times.epoch (frame * r.times.epoch) (over_after r (frame - 1)) (omega (arith, a, b))
           (omega (arith, a)) lt in
-          let m = rises r.num r.den (frame * r.ticks - 3 * r.ticks) ((frame - 1) * r.ticks) (omega (arith, a, b))
-          (before_is frame r.ticks) in
+          let m = rises r.times.num r.times.den (frame * r.times.epoch - 3 * r.times.epoch) ((frame - 1) * r.times.epoch) (omega (arith, a, b))
+          (before_is frame r.times.epoch) in
           absurd (omega (arith, p, m))
       | inr ge ↦ ge
     ]
 
 pub all_rise : CountRises → (r : SlotRule) → IsSound r → (frame : ℕ) → over_after r (frame - 1) ≤ over_after r frame
 all_rise rises r sound frame =
-    let a = sound.den in
-    let b = sound.slot in
+    let a = sound.times.some in
+    let b = sound.times.long in
     let le : frame - 1 ≤ frame = omega arith in
-    rises r.num r.den ((frame - 1) * r.ticks) (frame * r.ticks) (omega (arith, a, b)) (mul-le-mul_right r.ticks le)
+    rises r.times.num r.times.den ((frame - 1) * r.times.epoch) (frame * r.times.epoch) (omega (arith, a, b)) (mul-le-mul_right r.times.epoch le)

@@ -28,7 +28,7 @@ packet_of_up up = packet_of (item_values up.items)
 -- The slots of a frame come into range.
 pub entered : (r : SlotRule) → IsSound r → CountRises
     → (z : List Item) (frame first end next : ℕ) (slots : List (Option (List ℕ))) → Shows r z first end slots
-    → UpTo frame z → slot_count r.num r.den (frame * r.ticks) ≤ end → end ≤ next
+    → UpTo frame z → slot_count r.times.num r.times.den (frame * r.times.epoch) ≤ end → end ≤ next
     → Shows r z first next (slots ++ replicate (next - end) None)
 entered r sound rises z frame first end next slots h u c l =
     let o = h.order in
@@ -138,7 +138,7 @@ and_no true = refl
 and_no false = refl
 
 -- A slot that no range reaches does not count, whatever stands for it.
-pub same_test : (r : SlotRule) (delay slot begun ended : ℕ) → slot_count r.num r.den (begun * r.ticks) < 2 ^ 53
+pub same_test : (r : SlotRule) (delay slot begun ended : ℕ) → slot_count r.times.num r.times.den (begun * r.times.epoch) < 2 ^ 53
     → counts_by r delay (min slot far) begun ended ≡ counts_by r delay slot begun ended
 same_test r delay slot begun ended l =
     elim (cases_lt slot far) [
@@ -146,9 +146,9 @@ same_test r delay slot begun ended l =
       | inr ge ↦ beyond (min slot far) (omega arith) ∙ sym (beyond slot (omega arith))
     ]
   where
-    beyond : (k : ℕ) → slot_count r.num r.den (begun * r.ticks) ≤ k → counts_by r delay k begun ended ≡ false
+    beyond : (k : ℕ) → slot_count r.times.num r.times.den (begun * r.times.epoch) ≤ k → counts_by r delay k begun ended ≡ false
     beyond k m =
         ap (λ (t : Bool).
-        nat_le (slot_count r.num r.den ((begun - 1) * r.ticks)) k && (t && nat_lt (ended * r.ticks)
-        (slot_start r.num r.den k + delay))) (le-ltb k (slot_count r.num r.den (begun * r.ticks)) m)
-        ∙ and_no (nat_le (slot_count r.num r.den ((begun - 1) * r.ticks)) k)
+        nat_le (slot_count r.times.num r.times.den ((begun - 1) * r.times.epoch)) k && (t && nat_lt (ended * r.times.epoch)
+        (slot_start r.times.num r.times.den k + delay))) (le-ltb k (slot_count r.times.num r.times.den (begun * r.times.epoch)) m)
+        ∙ and_no (nat_le (slot_count r.times.num r.times.den ((begun - 1) * r.times.epoch)) k)

@@ -2,7 +2,7 @@
 use Rattle.std.specs.Prelude.{◌≡◌, ℕ, ◌-◌, ◌<◌, ◌++◌, ◌==◌, slice_index, min, option_map, true, false, List, [], ◌∷◌, take}
 use Rattle.std.specs.Prelude.{Option, Some, None, if◌then◌else◌}
 use Rattle.plp_config.specs.declared.moment.TheConstants.{MOST_FRAMES}
-use Rattle.packet_slots.specs.declared.slot_rule.TheConstants.{ISCR_MODULUS}
+use Rattle.plp_config.specs.declared.moment.TheConstants.{ISCR_TICKS}
 use Rattle.packet_slots.specs.declared.slot_rule.SlotRule.{SlotRule}
 use Rattle.packet_slots.specs.declared.assembler.Assembler.{Assembler}
 use Rattle.packet_slots.specs.declared.assembler.Base.{Base}
@@ -10,7 +10,8 @@ use Rattle.packet_slots.specs.declared.assembler.Found.{Found}
 use Rattle.packet_slots.specs.declared.mark.Mark.{Mark}
 use Rattle.packet_slots.specs.declared.mark.Mark.TheVariants.{Gap, Inside, Next, Timed}
 use Rattle.packet_slots.specs.Strings.{Item, item_values}
-use Rattle.packet_slots.specs.Packets.{slot_of_iscr, UserPacket, user_packets, first_item, last_item}
+use Rattle.packet_slots.specs.Packets.{UserPacket, user_packets, first_item, last_item}
+use Rattle.plp_config.specs.SlotTimes.{slot_of_iscr}
 use Rattle.packet_slots.specs.Machine.{State, Follows}
 use Rattle.packet_slots.specs.Base.{Holds, slot_with, far}
 
@@ -18,13 +19,13 @@ abbrev pub IsFrame : ℕ → Mark → Type 0
 IsFrame frame Gap = ⊥
 IsFrame frame Inside = frame < MOST_FRAMES
 IsFrame frame Next = frame < MOST_FRAMES
-IsFrame frame (Timed iscr) = (frame < MOST_FRAMES) × (iscr < ISCR_MODULUS)
+IsFrame frame (Timed iscr) = (frame < MOST_FRAMES) × (iscr < ISCR_TICKS)
 
 abbrev pub next_base : SlotRule → ℕ → Base → Mark → ℕ → Base
 next_base r len kept Gap frame = record { timed = false; slot = None; frame = frame }
 next_base r len kept Inside frame = kept
 next_base r len kept Next frame = record { timed = false; slot = if len == 0 then kept.slot else None; frame = frame }
-next_base r len kept (Timed iscr) frame = record { timed = true; slot = slot_of_iscr r frame iscr; frame = frame }
+next_base r len kept (Timed iscr) frame = record { timed = true; slot = slot_of_iscr r.times frame iscr; frame = frame }
 
 pub record AssemblerStands (r : SlotRule) (len : ℕ) (held : List ℕ) (kept : Base) (z : List Item) : Type 0 where
   pub state : State

@@ -1,10 +1,9 @@
 -- User packets of a string: which are complete, and which slot each has.
-use Rattle.std.specs.Prelude.{ℕ, zero, suc, ◌+◌, ◌-◌, ◌*◌, ◌%◌, ◌==◌, ◌&&◌, Bool, false, List, [], ◌∷◌, ◌++◌, length, take, drop}
+use Rattle.std.specs.Prelude.{ℕ, zero, suc, ◌+◌, ◌-◌, ◌&&◌, Bool, false, List, [], ◌∷◌, ◌++◌, length, take, drop}
 use Rattle.std.specs.Prelude.{Option, Some, None, if◌then◌else◌, option_map}
-use Rattle.std.specs.List.{range_with_len, find, list_all}
+use Rattle.std.specs.List.{list_all}
 use Rattle.ts_packet.specs.declared.sizes.TheConstants.{SIZE, SYNC}
-use Rattle.plp_config.specs.SlotTime.{slot_start, slot_count}
-use Rattle.packet_slots.specs.declared.slot_rule.TheConstants.{ISCR_MODULUS}
+use Rattle.plp_config.specs.SlotTimes.{slot_of_iscr}
 use Rattle.packet_slots.specs.declared.mark.Mark.{Mark}
 use Rattle.packet_slots.specs.declared.slot_rule.SlotRule.{SlotRule}
 use Rattle.packet_slots.specs.Strings.{Item, is_start, is_inside}
@@ -36,13 +35,6 @@ last_item xs = last_of no_item xs
 abbrev pub is_complete : List Item → Bool
 is_complete w = is_one w && (last_item w).can_end
 
--- the slot of the range of a frame whose start, modulo 2^22, is the ISCR (annex C.1)
-abbrev pub slot_of_iscr : SlotRule → ℕ → ℕ → Option ℕ
-slot_of_iscr r frame iscr =
-    find (λ k. slot_start r.num r.den k % ISCR_MODULUS == iscr)
-    (range_with_len (slot_count r.num r.den ((frame - 1) * r.ticks))
-    (slot_count r.num r.den (frame * r.ticks) - slot_count r.num r.den ((frame - 1) * r.ticks)))
-
 abbrev pub dnp_of : SlotRule → List Item → ℕ
 dnp_of r w = if r.deletes then (last_item w).value else 0
 
@@ -51,7 +43,7 @@ abbrev pub slot_by : SlotRule → Mark → ℕ → ℕ → Option ℕ → Option
 slot_by r Gap frame dnp before = None
 slot_by r Inside frame dnp before = None
 slot_by r Next frame dnp before = option_map (λ k. k + 1 + dnp) before
-slot_by r (Timed iscr) frame dnp before = slot_of_iscr r frame iscr
+slot_by r (Timed iscr) frame dnp before = slot_of_iscr r.times frame iscr
 
 unfoldable pub slot_of : SlotRule → List Item → Option ℕ → Option ℕ
 slot_of r w before = if is_complete w then slot_by r (first_item w).mark (first_item w).frame (dnp_of r w) before else None

@@ -2,7 +2,7 @@
 -- end.
 use Rattle.std.specs.Prelude.{ℕ, ◌+◌, ◌-◌, ◌/◌, ◌%◌, ◌==◌, ◌||◌, nat_lt, Bool, true, false, List, [], ◌∷◌, length, map, Option}
 use Rattle.std.specs.Prelude.{Some, None, if◌then◌else◌}
-use Rattle.packet_slots.specs.declared.slot_rule.TheConstants.{ISCR_MODULUS}
+use Rattle.plp_config.specs.declared.moment.TheConstants.{ISCR_TICKS}
 use Rattle.packet_slots.specs.declared.mark.Mark.{Mark}
 use Rattle.packet_slots.specs.declared.mark.Mark.TheVariants.{Gap, Inside, Next, Timed}
 
@@ -34,7 +34,7 @@ is_inside (Timed iscr) = false
 
 -- ISSY tells the ISCR of the first user packet if its 24 bits begin with 10
 abbrev pub first_mark : ℕ → Mark
-first_mark issy = if issy / ISCR_MODULUS == 2 then Timed (issy % ISCR_MODULUS) else Next
+first_mark issy = if issy / ISCR_TICKS == 2 then Timed (issy % ISCR_TICKS) else Next
 
 -- user packets begin at the first place and at every further len bytes
 abbrev pub mark_from : ℕ → ℕ → ℕ → ℕ → Mark

@@ -171,7 +171,7 @@ impl Assembler {
             },
             Mark::Timed(iscr) => Base {
                 timed: true,
-                slot: self.rule.slot_of_iscr(frame, iscr),
+                slot: self.rule.times.slot_of_iscr(frame, iscr),
                 frame,
             },
         }

@@ -11,8 +11,8 @@ ghost use Rattle.packet_slots.specs.Both.{Both, KeepsTimes, block_of, front_of, 
 
 use crate::assembler::Assembler;
 use crate::mark::Mark;
-use crate::slot_rule::ISCR_MODULUS;
 use crate::window::SlotWindow;
+use plp_config::ISCR_TICKS;
 
 /// A block that was taken.
 #[derive(Clone, Copy)]
@@ -63,8 +63,8 @@ fn first_mark(issy: u32) -> Mark
     ensures value { result ≡ first_mark issy }
     ensures frame { (frame : ℕ) → frame < MOST_FRAMES → IsFrame frame result }
 {
-    if u64::from(issy) / ISCR_MODULUS == 2 {
-        return Mark::Timed((u64::from(issy) % ISCR_MODULUS) as u32);
+    if u64::from(issy) / ISCR_TICKS == 2 {
+        return Mark::Timed((u64::from(issy) % ISCR_TICKS) as u32);
     }
     Mark::Next
 }

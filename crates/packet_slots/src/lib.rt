@@ -15,5 +15,5 @@ mod window;
 
 pub use block::TakenBlock;
 pub use laws::{complete_law, readback_law};
-pub use slot_rule::{ISCR_MODULUS, SlotRule};
+pub use slot_rule::SlotRule;
 pub use slots::PacketSlots;

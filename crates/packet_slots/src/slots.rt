@@ -2,7 +2,8 @@
 ghost use Rattle.std.specs.Prelude.{◌≡◌, ◌<◌, ◌≤◌, ◌+◌, ◌-◌, ◌++◌, ◌∷◌, [], length, List, ℕ, IfOk, true, false, slice_get, Some};
 ghost use Rattle.std.specs.Prelude.{None, Option, option_map, if◌then◌else◌};
 ghost use Rattle.plp_config.specs.SlotTime.{window_slots};
-ghost use Rattle.packet_slots.specs.Times.{over_after, due_after, delay_of};
+ghost use Rattle.packet_slots.specs.Times.{over_after, due_after};
+ghost use Rattle.plp_config.specs.SlotTimes.{delay_of};
 
 use crate::assembler::Assembler;
 use crate::block::{TakenBlock, take_block, take_gap};
@@ -185,8 +186,8 @@ impl PacketSlots {
     /// How many slots are in the window: those that have come into range and were not given out.
     pub fn held(&self) -> u64
         ensures fresh { (r : SlotRule) → IsFresh self.now r → result ≡ 0 }
-        ensures most { result ≤ window_slots (rule_of self.now).num (rule_of self.now).den (delay_of (rule_of self.now))
-            (rule_of self.now).ticks }
+        ensures most { result ≤ window_slots (rule_of self.now).times.num (rule_of self.now).times.den (delay_of (rule_of self.now).times)
+            (rule_of self.now).times.epoch }
         ensures answer { (r : SlotRule) (first : ℕ) (records : List Record) (released : ℕ)
             → StandsFor self.now r first records released
             → result ≡ held_slots r first (length records) - released }

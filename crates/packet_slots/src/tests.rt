@@ -6,14 +6,17 @@ ghost use Rattle.plp_config.specs.declared.moment.TheConstants.{MOST_FRAMES};
 ghost use Rattle.packet_slots.specs.StandsFor.{frame_of, is_within, due_of};
 
 use crate::{PacketSlots, SlotRule, TakenBlock, readback_law};
+use plp_config::SlotTimes;
 use std::alloc::Global;
 use std::test::Fail;
 use ts_packet::SIZE;
 
 const RULE: SlotRule = SlotRule {
-    num: 1_000,
-    den: 10,
-    ticks: 1_000,
+    times: SlotTimes {
+        num: 1_000,
+        den: 10,
+        epoch: 1_000,
+    },
     up_len: 188,
     deletes: true,
 };

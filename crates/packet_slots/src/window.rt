@@ -2,14 +2,14 @@
 ghost use Rattle.std.specs.Prelude.{◌≡◌, ◌^◌, ◌<◌, ◌≤◌, ◌+◌, ◌-◌, ◌*◌, ◌++◌, length, replicate, None, IfOk, []};
 ghost use Rattle.std.specs.declared.option.Option.{Option};
 ghost use Rattle.plp_config.specs.SlotTime.{window_slots};
-ghost use Rattle.packet_slots.specs.Times.{delay_of};
+ghost use Rattle.plp_config.specs.SlotTimes.{delay_of};
 ghost use Rattle.packet_slots.specs.Sound.{IsSound};
 ghost use Rattle.packet_slots.specs.Filling.{filled};
 
 use crate::assembler::Found;
 use crate::counting::counts;
 use crate::slot_rule::SlotRule;
-use crate::times::{frame_range, released_at, window_of};
+use crate::times::due_after;
 use circular_buffer::HeapCircularBuffer;
 use plp_config::{release_law, slot_time_law};
 use std::alloc::{AllocError, Global};
@@ -26,7 +26,7 @@ pub struct SlotWindow {
     // The slots before this one are due.
     due_end: u64,
     ghost sound: { IsSound rule },
-    ghost room: { slots.capacity ≡ window_slots rule.num rule.den (delay_of rule) rule.ticks },
+    ghost room: { slots.capacity ≡ window_slots rule.times.num rule.times.den (delay_of rule.times) rule.times.epoch },
     ghost span: { first + length slots.items ≡ end },
     ghost known: { due_end ≤ end },
 }
@@ -60,7 +60,8 @@ fn fill(slots: &mut HeapCircularBuffer<Option<TsPacket>>, place: u64, packet: Ts
 impl SlotWindow {
     ghost use Rattle.plp_config.specs.declared.moment.TheConstants.{MOST_FRAMES};
     ghost use Rattle.packet_slots.specs.Readback.{counts_by};
-    ghost use Rattle.packet_slots.specs.Times.{delay_of, over_after, due_after};
+    ghost use Rattle.packet_slots.specs.Times.{over_after, due_after};
+    ghost use Rattle.plp_config.specs.SlotTimes.{delay_of};
     ghost use Rattle.packet_slots.specs.Window.{status_of, begun, entered, put_in, left, given, front_packet};
     ghost use Rattle.std.specs.Prelude.{true, false, nat_lt, if◌then◌else◌};
 
@@ -74,7 +75,10 @@ impl SlotWindow {
     {
         Ok(SlotWindow {
             rule,
-            slots: HeapCircularBuffer::with_capacity(alloc, window_of(&rule) as usize)?,
+            slots: HeapCircularBuffer::with_capacity(
+                alloc,
+                rule.times.window(rule.times.epoch) as usize,
+            )?,
             first: 0,
             end: 0,
             due_end: 0,
@@ -87,8 +91,8 @@ impl SlotWindow {
         requires empty { self.old.slots.items ≡ [] }
         ensures { status_of self.new ≡ begun (status_of self.old) frame }
     {
-        let (first, _) = self.rule.range_of(frame);
-        let due_end = released_at(&self.rule, frame);
+        let (first, _) = self.rule.times.range_of(frame);
+        let due_end = due_after(&self.rule, frame);
         release_law();
         slot_time_law();
         self.first = first;
@@ -104,7 +108,7 @@ impl SlotWindow {
         ensures status { status_of self.new ≡ entered (status_of self.old) frame }
         ensures order { self.old.end ≤ self.new.end }
     {
-        let (_, end) = frame_range(&self.rule, frame);
+        let (_, end) = self.rule.times.range_of(frame);
         release_law();
         push_empty(&mut self.slots, end - self.end);
         self.end = end;
@@ -115,7 +119,7 @@ impl SlotWindow {
     pub fn counts(&self, found: &Found, frame: u64) -> bool
         requires begun { found.now.frame < MOST_FRAMES }
         requires ended { frame < MOST_FRAMES }
-        ensures value { result ≡ counts_by self.now.rule (delay_of self.now.rule) found.now.slot found.now.frame frame }
+        ensures value { result ≡ counts_by self.now.rule (delay_of self.now.rule.times) found.now.slot found.now.frame frame }
         ensures near { over_after self.now.rule found.now.frame < 2 ^ 53 }
     {
         counts(&self.rule, found, frame)
@@ -137,7 +141,7 @@ impl SlotWindow {
         requires came { self.old.end ≡ over_after self.old.rule frame }
         ensures { status_of self.new ≡ left (status_of self.old) frame }
     {
-        let due_end = released_at(&self.rule, frame + 1);
+        let due_end = due_after(&self.rule, frame + 1);
         release_law();
         slot_time_law();
         self.due_end = due_end;
@@ -153,7 +157,7 @@ impl SlotWindow {
     /// How many slots are held: as many as the window of the PLP has at most.
     pub fn held(&self) -> u64
         ensures value { result ≡ self.now.end - self.now.first }
-        ensures most { result ≤ window_slots self.now.rule.num self.now.rule.den (delay_of self.now.rule) self.now.rule.ticks }
+        ensures most { result ≤ window_slots self.now.rule.times.num self.now.rule.times.den (delay_of self.now.rule.times) self.now.rule.times.epoch }
     {
         self.slots.len() as u64
     }

@@ -3,42 +3,46 @@ use Rattle.std.proofs.Common.{◌≡◌, ℕ, zero, suc, ◌+◌, ◌<◌, ◌�
 use Rattle.std.proofs.Common.{inl, inr}
 use Rattle.std.proofs.lemmas.Bool.{cases_eq}
 use Rattle.std.specs.Option.{option_or}
-use Rattle.plp_config.specs.Capacity.{Test, Throughput, CellCount, EvenSubSlices, CellAddresses, test_number, TestHolds}
+use Rattle.plp_config.specs.Capacity.{Test, Throughput, CellCount, EvenParts, CellAddresses, RecordLength, test_number, TestHolds}
 use Rattle.plp_config.specs.Capacity.{TestsBelow, AllTests, Lacks}
 use Rattle.plp_config.specs.CapacityTests.{AnswersTest}
 use Rattle.plp_config.specs.declared.config.Config.{Config}
 use Rattle.plp_config.specs.declared.capacity.CapacityFault.{CapacityFault}
 
--- the numbers go from 1 to 4
-pub test_number-range : (test : Test) → (1 ≤ test_number test) × (test_number test < 5)
+-- the numbers go from 1 to 5
+pub test_number-range : (test : Test) → (1 ≤ test_number test) × (test_number test < 6)
 test_number-range Throughput = (omega arith, omega arith)
 test_number-range CellCount = (omega arith, omega arith)
-test_number-range EvenSubSlices = (omega arith, omega arith)
+test_number-range EvenParts = (omega arith, omega arith)
 test_number-range CellAddresses = (omega arith, omega arith)
+test_number-range RecordLength = (omega arith, omega arith)
 
 -- the test with a number
 pub test_at : ℕ → Test
 test_at zero = Throughput
 test_at (suc zero) = Throughput
 test_at (suc (suc zero)) = CellCount
-test_at (suc (suc (suc zero))) = EvenSubSlices
-test_at _ = CellAddresses
+test_at (suc (suc (suc zero))) = EvenParts
+test_at (suc (suc (suc (suc zero)))) = CellAddresses
+test_at _ = RecordLength
 
 pub test_at-test_number : (test : Test) → test_at (test_number test) ≡ test
 unfolding test_at
 test_at-test_number Throughput = refl
 test_at-test_number CellCount = refl
-test_at-test_number EvenSubSlices = refl
+test_at-test_number EvenParts = refl
 test_at-test_number CellAddresses = refl
+test_at-test_number RecordLength = refl
 
--- the tests have all numbers from 1 to 4
-pub test_number-test_at : (place : ℕ) → place < 4 → test_number (test_at (place + 1)) ≡ place + 1
+-- the tests have all numbers from 1 to 5
+pub test_number-test_at : (place : ℕ) → place < 5 → test_number (test_at (place + 1)) ≡ place + 1
 unfolding test_at
 test_number-test_at zero lt = refl
 test_number-test_at (suc zero) lt = refl
 test_number-test_at (suc (suc zero)) lt = refl
 test_number-test_at (suc (suc (suc zero))) lt = refl
-test_number-test_at (suc (suc (suc (suc n)))) lt = absurd (omega arith)
+test_number-test_at (suc (suc (suc (suc zero)))) lt = refl
+test_number-test_at (suc (suc (suc (suc (suc n))))) lt = absurd (omega arith)
 
 -- two tests with one number are one
 pub same_test : (a b : Test) → test_number a ≡ test_number b → a ≡ b
@@ -75,6 +79,6 @@ pub Tried-more : (c : Config) (test : Test) (fault answer all : Option CapacityF
 Tried-more c test fault answer all tried answers is = rw is (Tried-or c test fault answer tried answers)
 
 -- every test was tried
-pub Tried-all : (c : Config) (fault : Option CapacityFault) → Tried 5 c fault → MatchOption fault (AllTests c) (Lacks c)
+pub Tried-all : (c : Config) (fault : Option CapacityFault) → Tried 6 c fault → MatchOption fault (AllTests c) (Lacks c)
 Tried-all c None below = λ test. below test (test_number-range test).1
 Tried-all c (Some fault) lacks = lacks

@@ -6,8 +6,10 @@ pub mod PlpRuleLemmas
 pub mod TableLemmas
 pub mod CapacityLemmas
 pub mod TimeLemmas
+pub mod IscrLemmas
 pub mod EmissionLemmas
 pub mod RunLemmas
+pub mod SpreadLemmas
 pub mod RuleDecideLemmas
 pub mod TestDecideLemmas
 pub mod PlaceLemmas

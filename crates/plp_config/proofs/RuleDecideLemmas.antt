@@ -1,19 +1,27 @@
 -- Every rule is decided, so a configuration satisfies all or has a refusal.
-use Rattle.std.proofs.Common.{◌≡◌, ℕ, ◌+◌, ◌-◌, ◌%◌, ◌^◌, ◌<◌, ◌≤◌, length, min, Some, None, refl, ap, subst, ◌∙◌, inl, inr}
+use Rattle.std.proofs.Common.{◌≡◌, ◌≢◌, ◌⊎◌, ℕ, ◌+◌, ◌-◌, ◌%◌, ◌^◌, ◌<◌, ◌≤◌, length, min, Some, None, refl, ap, subst, ◌∙◌, inl, inr}
 use Rattle.std.proofs.Common.{arith}
 use Rattle.std.proofs.Math.Decide.{dec_le, dec_lt, map_dec, ℕ_discrete}
 use Rattle.std.proofs.lemmas.Bool.{lt-leb}
-use Rattle.terms.proofs.DecisionLemmas.{decide_not, decide_both, decide_three, decide_case, first_failure, decide_below}
+use Rattle.terms.proofs.DecisionLemmas.{as_sum, decide_not, decide_both, decide_three, decide_if, decide_case, first_other}
+use Rattle.terms.proofs.DecisionLemmas.{first_failure, decide_below}
 use Rattle.plp_config.proofs.RuleLemmas.{rule_at, rule_at-rule_number, rule_number-rule_at, rule_number-range, refused_at}
 use Rattle.plp_config.specs.FirstFailure.{HoldsBelow}
 use Rattle.plp_config.specs.Laws.{RulesDecided}
-use Rattle.plp_config.specs.Plps.{plp_at, type_number, has_type2}
+use Rattle.plp_config.specs.Plps.{plp_at, type_number, has_type2, spread}
+use Rattle.plp_config.specs.SlotTime.{epoch_ticks}
 use Rattle.plp_config.specs.Rules.{Rule, FrameDuration, SuperframeLength, LeastCells, StartTime, UtcOffset, PidRange, L1Fields}
 use Rattle.plp_config.specs.Rules.{SubSlices, PlpCount, DistinctIds, TypeOrder, BlockLimit, InterleaverLength, BitRate}
+use Rattle.plp_config.specs.Rules.{SpreadDivides, SpreadLength, EpochDuration, OneCommon, CommonRate, CommonShared}
+use Rattle.plp_config.specs.Rules.{IsCommonOf, IsInStep, HasCompany}
 use Rattle.plp_config.specs.Rules.{rule_number, FitsL1, PlaceHolds, RuleHolds, RulesBelow, Refuses}
 use Rattle.plp_config.specs.Tables.{subseconds_per_second, greatest_ticks}
 use Rattle.plp_config.specs.declared.config.Config.{Config}
 use Rattle.plp_config.specs.declared.config.L1Numbers.{L1Numbers}
+use Rattle.plp_config.specs.declared.moment.TheConstants.{ISCR_TICKS}
+use Rattle.plp_config.specs.declared.plp.Plp.{Plp}
+use Rattle.plp_config.specs.declared.plp.PlpType.{PlpType}
+use Rattle.plp_config.specs.declared.plp.PlpType.TheVariants.{Common, Type1, Type2}
 use Rattle.plp_config.specs.declared.plp.TheConstants.{MOST_BLOCKS}
 use Rattle.plp_config.specs.declared.rules.ConfigFault.{ConfigFault}
 
@@ -49,6 +57,38 @@ decide_l1 l1 =
     (decide_three (dec_lt l1.l1_cod (2 ^ 2)) (dec_lt l1.l1_fec (2 ^ 2)) (dec_lt l1.post_size (2 ^ 18)))
     (decide_three (dec_lt l1.pilot (2 ^ 4)) (dec_lt l1.symbols (2 ^ 12)) (dec_lt l1.regen (2 ^ 3)))))
 
+-- whether a PLP is common, and of which group
+decide_common : (plp_type : PlpType) → Dec (plp_type ≡ Common)
+decide_common Common = yes refl
+decide_common Type1 = no (λ h. let e = ap type_number h in omega (arith, e))
+decide_common Type2 = no (λ h. let e = ap type_number h in omega (arith, e))
+
+decide_common_of : (c : Config) (group place : ℕ) → Dec (IsCommonOf c group place)
+decide_common_of c group place =
+    decide_both (decide_common (plp_at c.plps place).plp_type) (ℕ_discrete (plp_at c.plps place).group group)
+
+decide_in_step : (a b : Plp) → Dec (IsInStep a b)
+decide_in_step a b = decide_both (ℕ_discrete a.bits_per_second b.bits_per_second) (ℕ_discrete a.spread b.spread)
+
+-- whether another PLP is in a PLP's group
+abbrev IsOther : Config → ℕ → ℕ → Type 0
+IsOther c place other = (other ≢ place) × ((plp_at c.plps other).group ≡ (plp_at c.plps place).group)
+
+is_other : (c : Config) (place other : ℕ) → (¬ (IsOther c place other)) ⊎ IsOther c place other
+is_other c place other =
+    elim (as_sum (decide_both (decide_not (ℕ_discrete other place))
+    (ℕ_discrete (plp_at c.plps other).group (plp_at c.plps place).group))) [
+      | inl is ↦ inr is
+      | inr not ↦ inl not
+    ]
+
+decide_company : (c : Config) (place : ℕ) → Dec (HasCompany c place)
+decide_company c place =
+    elim (first_other (λ other. ¬ (IsOther c place other)) (IsOther c place) (is_other c place) (length c.plps)) [
+      | inl none ↦ no (λ h. none h.0 h.1 (h.2, h.3))
+      | inr found ↦ yes (found.0, found.1, found.2.0, found.2.1)
+    ]
+
 decide_place : (rule : Rule) (c : Config) (place : ℕ) → Dec (PlaceHolds rule c place)
 decide_place DistinctIds c place =
     decide_below _ (λ earlier. decide_not (ℕ_discrete (plp_at c.plps earlier).id (plp_at c.plps place).id)) place
@@ -60,6 +100,15 @@ decide_place BlockLimit c place =
 decide_place InterleaverLength c place = dec_le (plp_at c.plps place).interleave (min (plp_at c.plps place).blocks 255)
 decide_place BitRate c place = decide_both (dec_le 1 (plp_at c.plps place).bits_per_second)
     (dec_le (plp_at c.plps place).bits_per_second 72000000)
+decide_place SpreadDivides c place = decide_both (dec_le 1 (spread c.plps place)) (ℕ_discrete (c.frames % spread c.plps place) 0)
+decide_place SpreadLength c place =
+    decide_if (dec_lt 1 (spread c.plps place)) (ℕ_discrete (plp_at c.plps place).interleave 1)
+decide_place EpochDuration c place = dec_lt (epoch_ticks c place) ISCR_TICKS
+decide_place OneCommon c place = decide_if (decide_common (plp_at c.plps place).plp_type)
+    (decide_below _ (λ earlier. decide_not (decide_common_of c (plp_at c.plps place).group earlier)) place)
+decide_place CommonRate c place = decide_below _ (λ common. decide_if (decide_common_of c (plp_at c.plps place).group common)
+    (decide_in_step (plp_at c.plps place) (plp_at c.plps common))) (length c.plps)
+decide_place CommonShared c place = decide_if (decide_common (plp_at c.plps place).plp_type) (decide_company c place)
 decide_place FrameDuration c place = yes tt
 decide_place SuperframeLength c place = yes tt
 decide_place LeastCells c place = yes tt
@@ -87,6 +136,12 @@ decide_rule TypeOrder c = decide_below _ (decide_place TypeOrder c) (length c.pl
 decide_rule BlockLimit c = decide_below _ (decide_place BlockLimit c) (length c.plps)
 decide_rule InterleaverLength c = decide_below _ (decide_place InterleaverLength c) (length c.plps)
 decide_rule BitRate c = decide_below _ (decide_place BitRate c) (length c.plps)
+decide_rule SpreadDivides c = decide_below _ (decide_place SpreadDivides c) (length c.plps)
+decide_rule SpreadLength c = decide_below _ (decide_place SpreadLength c) (length c.plps)
+decide_rule EpochDuration c = decide_below _ (decide_place EpochDuration c) (length c.plps)
+decide_rule OneCommon c = decide_below _ (decide_place OneCommon c) (length c.plps)
+decide_rule CommonRate c = decide_below _ (decide_place CommonRate c) (length c.plps)
+decide_rule CommonShared c = decide_below _ (decide_place CommonShared c) (length c.plps)
 
 abbrev Refused : Config → Type 0
 Refused c = (fault : ConfigFault) × Refuses c fault
@@ -128,6 +183,12 @@ refused_by c TypeOrder fails lower = refused_plp c TypeOrder (omega arith) (λ h
 refused_by c BlockLimit fails lower = refused_plp c BlockLimit (omega arith) (λ h. h) (λ h. h) fails lower
 refused_by c InterleaverLength fails lower = refused_plp c InterleaverLength (omega arith) (λ h. h) (λ h. h) fails lower
 refused_by c BitRate fails lower = refused_plp c BitRate (omega arith) (λ h. h) (λ h. h) fails lower
+refused_by c SpreadDivides fails lower = refused_plp c SpreadDivides (omega arith) (λ h. h) (λ h. h) fails lower
+refused_by c SpreadLength fails lower = refused_plp c SpreadLength (omega arith) (λ h. h) (λ h. h) fails lower
+refused_by c EpochDuration fails lower = refused_plp c EpochDuration (omega arith) (λ h. h) (λ h. h) fails lower
+refused_by c OneCommon fails lower = refused_plp c OneCommon (omega arith) (λ h. h) (λ h. h) fails lower
+refused_by c CommonRate fails lower = refused_plp c CommonRate (omega arith) (λ h. h) (λ h. h) fails lower
+refused_by c CommonShared fails lower = refused_plp c CommonShared (omega arith) (λ h. h) (λ h. h) fails lower
 
 -- the rule at a place is so, for each place
 abbrev HoldsAt : Config → ℕ → Type 0
@@ -141,7 +202,7 @@ holds_of c rule h =
 
 pub rules_decided : RulesDecided
 rules_decided c =
-    elim (first_failure (HoldsAt c) (λ place. decide_rule (rule_at (place + 1)) c) 14) [
+    elim (first_failure (HoldsAt c) (λ place. decide_rule (rule_at (place + 1)) c) 20) [
       | inl all ↦ inl (λ rule. holds_of c rule (all (rule_number rule - 1) (omega (arith, rule_number-range rule))))
       | inr found ↦
           let number : rule_number (rule_at (found.0 + 1)) ≡ found.0 + 1 = rule_number-rule_at found.0 found.1 in

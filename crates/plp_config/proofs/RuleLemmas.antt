@@ -6,13 +6,14 @@ use Rattle.std.specs.Option.{option_or}
 use Rattle.plp_config.specs.FirstFailure.{HoldsBelow, IsFirstFailure, FindsFailure}
 use Rattle.plp_config.specs.Rules.{Rule, FrameDuration, SuperframeLength, LeastCells, StartTime, UtcOffset, PidRange, L1Fields}
 use Rattle.plp_config.specs.Rules.{SubSlices, PlpCount, DistinctIds, TypeOrder, BlockLimit, InterleaverLength, BitRate}
+use Rattle.plp_config.specs.Rules.{SpreadDivides, SpreadLength, EpochDuration, OneCommon, CommonRate, CommonShared}
 use Rattle.plp_config.specs.Rules.{rule_number, PlaceHolds, RuleHolds, RulesBelow, AllRules, Refuses}
 use Rattle.plp_config.specs.RuleTests.{TellsRules}
 use Rattle.plp_config.specs.declared.config.Config.{Config}
 use Rattle.plp_config.specs.declared.rules.ConfigFault.{ConfigFault}
 
--- the numbers go from 1 to 14
-pub rule_number-range : (rule : Rule) → (1 ≤ rule_number rule) × (rule_number rule < 15)
+-- the numbers go from 1 to 20
+pub rule_number-range : (rule : Rule) → (1 ≤ rule_number rule) × (rule_number rule < 21)
 rule_number-range FrameDuration = (omega arith, omega arith)
 rule_number-range SuperframeLength = (omega arith, omega arith)
 rule_number-range LeastCells = (omega arith, omega arith)
@@ -27,11 +28,18 @@ rule_number-range TypeOrder = (omega arith, omega arith)
 rule_number-range BlockLimit = (omega arith, omega arith)
 rule_number-range InterleaverLength = (omega arith, omega arith)
 rule_number-range BitRate = (omega arith, omega arith)
+rule_number-range SpreadDivides = (omega arith, omega arith)
+rule_number-range SpreadLength = (omega arith, omega arith)
+rule_number-range EpochDuration = (omega arith, omega arith)
+rule_number-range OneCommon = (omega arith, omega arith)
+rule_number-range CommonRate = (omega arith, omega arith)
+rule_number-range CommonShared = (omega arith, omega arith)
 
 -- the rule with a number
 pub rule_at : ℕ → Rule
 rule_at number = get_or (FrameDuration ∷ SuperframeLength ∷ LeastCells ∷ StartTime ∷ UtcOffset ∷ PidRange ∷ L1Fields ∷ SubSlices
-    ∷ PlpCount ∷ DistinctIds ∷ TypeOrder ∷ BlockLimit ∷ InterleaverLength ∷ BitRate ∷ []) (number - 1) BitRate
+    ∷ PlpCount ∷ DistinctIds ∷ TypeOrder ∷ BlockLimit ∷ InterleaverLength ∷ BitRate ∷ SpreadDivides ∷ SpreadLength
+    ∷ EpochDuration ∷ OneCommon ∷ CommonRate ∷ CommonShared ∷ []) (number - 1) CommonShared
 
 pub rule_at-rule_number : (rule : Rule) → rule_at (rule_number rule) ≡ rule
 unfolding rule_at
@@ -49,9 +57,15 @@ rule_at-rule_number TypeOrder = refl
 rule_at-rule_number BlockLimit = refl
 rule_at-rule_number InterleaverLength = refl
 rule_at-rule_number BitRate = refl
+rule_at-rule_number SpreadDivides = refl
+rule_at-rule_number SpreadLength = refl
+rule_at-rule_number EpochDuration = refl
+rule_at-rule_number OneCommon = refl
+rule_at-rule_number CommonRate = refl
+rule_at-rule_number CommonShared = refl
 
--- the rules have all numbers from 1 to 14
-pub rule_number-rule_at : (place : ℕ) → place < 14 → rule_number (rule_at (place + 1)) ≡ place + 1
+-- the rules have all numbers from 1 to 20
+pub rule_number-rule_at : (place : ℕ) → place < 20 → rule_number (rule_at (place + 1)) ≡ place + 1
 unfolding rule_at
 rule_number-rule_at zero lt = refl
 rule_number-rule_at (suc zero) lt = refl
@@ -67,7 +81,13 @@ rule_number-rule_at (suc (suc (suc (suc (suc (suc (suc (suc (suc (suc zero))))))
 rule_number-rule_at (suc (suc (suc (suc (suc (suc (suc (suc (suc (suc (suc zero))))))))))) lt = refl
 rule_number-rule_at (suc (suc (suc (suc (suc (suc (suc (suc (suc (suc (suc (suc zero)))))))))))) lt = refl
 rule_number-rule_at (suc (suc (suc (suc (suc (suc (suc (suc (suc (suc (suc (suc (suc zero))))))))))))) lt = refl
-rule_number-rule_at (suc (suc (suc (suc (suc (suc (suc (suc (suc (suc (suc (suc (suc (suc n)))))))))))))) lt =
+rule_number-rule_at (suc (suc (suc (suc (suc (suc (suc (suc (suc (suc (suc (suc (suc (suc zero)))))))))))))) lt = refl
+rule_number-rule_at (suc (suc (suc (suc (suc (suc (suc (suc (suc (suc (suc (suc (suc (suc (suc zero))))))))))))))) lt = refl
+rule_number-rule_at (suc (suc (suc (suc (suc (suc (suc (suc (suc (suc (suc (suc (suc (suc (suc (suc zero)))))))))))))))) lt = refl
+rule_number-rule_at (suc (suc (suc (suc (suc (suc (suc (suc (suc (suc (suc (suc (suc (suc (suc (suc (suc zero))))))))))))))))) lt = refl
+rule_number-rule_at (suc (suc (suc (suc (suc (suc (suc (suc (suc (suc (suc (suc (suc (suc (suc (suc (suc (suc zero)))))))))))))))))) lt = refl
+rule_number-rule_at (suc (suc (suc (suc (suc (suc (suc (suc (suc (suc (suc (suc (suc (suc (suc (suc (suc (suc (suc zero))))))))))))))))))) lt = refl
+rule_number-rule_at (suc (suc (suc (suc (suc (suc (suc (suc (suc (suc (suc (suc (suc (suc (suc (suc (suc (suc (suc (suc n)))))))))))))))))))) lt =
     absurd (omega arith)
 
 -- two rules with one number are one
@@ -83,8 +103,8 @@ RulesBelow-more c rule below here other lt =
       | inr differ ↦ below other (omega arith)
     ]
 
--- there is no rule 15
-AllRules-from : (c : Config) → RulesBelow 15 c → AllRules c
+-- there is no rule 21
+AllRules-from : (c : Config) → RulesBelow 21 c → AllRules c
 AllRules-from c below rule = below rule (rule_number-range rule).1
 
 -- the rules below a number were tried: they hold, or one is refused
@@ -135,7 +155,7 @@ Tried-more c rule fault place other all late whole parts tried finds told is =
     rw is (Tried-or c rule fault place other late whole parts tried finds told)
 
 -- every rule was tried
-pub Tried-all : (c : Config) (fault : Option ConfigFault) → Tried 15 c fault → MatchOption fault (AllRules c) (Refuses c)
+pub Tried-all : (c : Config) (fault : Option ConfigFault) → Tried 21 c fault → MatchOption fault (AllRules c) (Refuses c)
 Tried-all c None below = AllRules-from c below
 Tried-all c (Some fault) refuses = refuses
 
@@ -165,6 +185,12 @@ TellsRules-from _ _ _ _ _ _ _ _ _ _ _ _ _ _ _ _ _ _ _ TypeOrder lt = absurd (ome
 TellsRules-from _ _ _ _ _ _ _ _ _ _ _ _ _ _ _ _ _ _ _ BlockLimit lt = absurd (omega arith)
 TellsRules-from _ _ _ _ _ _ _ _ _ _ _ _ _ _ _ _ _ _ _ InterleaverLength lt = absurd (omega arith)
 TellsRules-from _ _ _ _ _ _ _ _ _ _ _ _ _ _ _ _ _ _ _ BitRate lt = absurd (omega arith)
+TellsRules-from _ _ _ _ _ _ _ _ _ _ _ _ _ _ _ _ _ _ _ SpreadDivides lt = absurd (omega arith)
+TellsRules-from _ _ _ _ _ _ _ _ _ _ _ _ _ _ _ _ _ _ _ SpreadLength lt = absurd (omega arith)
+TellsRules-from _ _ _ _ _ _ _ _ _ _ _ _ _ _ _ _ _ _ _ EpochDuration lt = absurd (omega arith)
+TellsRules-from _ _ _ _ _ _ _ _ _ _ _ _ _ _ _ _ _ _ _ OneCommon lt = absurd (omega arith)
+TellsRules-from _ _ _ _ _ _ _ _ _ _ _ _ _ _ _ _ _ _ _ CommonRate lt = absurd (omega arith)
+TellsRules-from _ _ _ _ _ _ _ _ _ _ _ _ _ _ _ _ _ _ _ CommonShared lt = absurd (omega arith)
 
 -- if every test tells true, the rules 1 to 9 hold
 pub RulesBelow-from_tests : (c : Config) (tests : List Bool) → length tests ≡ 9 → TellsRules c tests

@@ -1,13 +1,14 @@
 -- Facts of the tables, by computing over them.
-use Rattle.std.proofs.Common.{◌≡◌, ℕ, ◌*◌, ◌/◌, ◌%◌, ◌≤◌, Bool, true, false, cond, MatchBool, refl, lit≤, arith}
+use Rattle.std.proofs.Common.{◌≡◌, ℕ, ◌*◌, ◌/◌, ◌%◌, ◌≤◌, Bool, true, false, cond, MatchBool, refl, ap, ◌∙◌, lit≤, arith}
 use Rattle.std.specs.Int.{div_ceil}
 use Rattle.std.proofs.lemmas.Nat.{mul-le}
 use Rattle.plp_config.specs.Capacity.{block_bytes, field_bytes, block_cells, up_bytes, capacity, CellAddresses, IsPlan}
 use Rattle.plp_config.specs.Laws.{SlotLength, FrameTicks, FrameQuarter, FieldRange, BlockBits, UserPacketRange, CapacityHoldsUp}
-use Rattle.plp_config.specs.Laws.{CellsByFive, BlockChunks}
-use Rattle.plp_config.specs.Plps.{plp_at, has_type2}
+use Rattle.plp_config.specs.Laws.{CellsByFive, BlockChunks, EpochTicks, EpochAlone, SoundTimes}
+use Rattle.plp_config.specs.Plps.{plp_at, has_type2, spread}
 use Rattle.plp_config.specs.Ranges.{HasRanges}
 use Rattle.plp_config.specs.Rules.{FrameDuration, SuperframeLength, LeastCells, SubSlices, PlpCount, BlockLimit, BitRate}
+use Rattle.plp_config.specs.Rules.{SpreadDivides, EpochDuration}
 use Rattle.plp_config.specs.SlotTime.{num, den}
 use Rattle.plp_config.specs.Tables.{subseconds_per_second, subseconds_per_tick, greatest_ticks, info_bits, cells_per_block}
 use Rattle.plp_config.specs.declared.config.Config.{Config}
@@ -82,7 +83,7 @@ second_range Mhz8 = (lit≤ tt, lit≤ tt)
 second_range Mhz10 = (lit≤ tt, lit≤ tt)
 
 -- the bytes of a block, which are whole
-block_table : (fec : FecSize) (rate : Rate) → (879 ≤ info_bits fec rate / 8) × (info_bits fec rate / 8 ≤ 6730)
+pub block_table : (fec : FecSize) (rate : Rate) → (879 ≤ info_bits fec rate / 8) × (info_bits fec rate / 8 ≤ 6730)
     × (8 * (info_bits fec rate / 8) ≡ info_bits fec rate)
 block_table Normal R1_2 = (lit≤ tt, lit≤ tt, refl)
 block_table Normal R3_5 = (lit≤ tt, lit≤ tt, refl)
@@ -158,6 +159,28 @@ slot_length c plp rules lt =
 
 pub frame_ticks : FrameTicks
 frame_ticks c rules = ((rules FrameDuration).0, omega (arith, (rules FrameDuration).1, greatest_ticks-le c.band))
+
+pub epoch_ticks_range : EpochTicks
+epoch_ticks_range c plp rules inside = (
+  omega (arith, mul-le 1 c.ticks (spread c.plps plp) c.ticks (rules SpreadDivides plp inside).0 (omega arith)),
+  rules EpochDuration plp inside,
+)
+
+pub epoch_alone : EpochAlone
+epoch_alone c plp one = let e : 1 * c.ticks ≡ c.ticks = omega arith in ap (λ (s : ℕ). s * c.ticks) one ∙ e
+
+pub sound_times : SoundTimes
+sound_times c plp rules inside =
+    let slot = slot_length c plp rules inside in
+    let epoch = epoch_ticks_range c plp rules inside in
+    let frame = rules FrameDuration in
+    record {
+      some = slot.0;
+      long = omega (arith, slot.2);
+      small = slot.3;
+      least = omega (arith, epoch.0, frame.0);
+      most = epoch.1;
+    }
 
 pub frame_quarter : FrameQuarter
 frame_quarter c rules = (

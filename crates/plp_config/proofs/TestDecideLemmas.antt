@@ -1,36 +1,31 @@
 -- Every test of the capacity is decided, so a configuration passes all or lacks something.
 use Rattle.std.proofs.Common.{◌≡◌, ℕ, ◌+◌, ◌-◌, ◌*◌, ◌%◌, true, false, length, Some, None, refl, ap, subst, ◌∙◌, inl, inr, arith}
 use Rattle.std.proofs.Math.Decide.{dec_le, ℕ_discrete}
-use Rattle.terms.proofs.DecisionLemmas.{decide_if, first_failure, decide_below}
+use Rattle.terms.proofs.DecisionLemmas.{first_failure, decide_below}
 use Rattle.plp_config.proofs.CapacityLemmas.{test_at, test_at-test_number, test_number-test_at, test_number-range}
-use Rattle.plp_config.specs.Capacity.{Test, Throughput, CellCount, EvenSubSlices, CellAddresses, test_number, is_of_plps, need_of}
-use Rattle.plp_config.specs.Capacity.{supply_of, block_cells, up_bytes, capacity, cell_need, PlaceFits, TestHolds, TestsBelow}
-use Rattle.plp_config.specs.Capacity.{Lacks}
+use Rattle.plp_config.specs.Capacity.{Test, Throughput, CellCount, EvenParts, CellAddresses, RecordLength, test_number, is_of_plps}
+use Rattle.plp_config.specs.Capacity.{need_of, supply_of, block_cells, up_bytes, capacity, cell_need, block_parts, longest_rest}
+use Rattle.plp_config.specs.Capacity.{PlaceFits, TestHolds, TestsBelow, Lacks}
 use Rattle.plp_config.specs.FirstFailure.{HoldsBelow}
 use Rattle.plp_config.specs.Laws.{TestsDecided}
-use Rattle.plp_config.specs.Plps.{plp_at, type_number}
-use Rattle.plp_config.specs.SlotTime.{num, den}
+use Rattle.plp_config.specs.SlotTime.{num, den, epoch_ticks}
 use Rattle.plp_config.specs.declared.config.Config.{Config}
 use Rattle.plp_config.specs.declared.capacity.CapacityFault.{CapacityFault}
-use Rattle.plp_config.specs.declared.plp.PlpType.{PlpType}
-use Rattle.plp_config.specs.declared.plp.PlpType.TheVariants.{Type1, Type2}
-
-decide_type2 : (plp_type : PlpType) → Dec (plp_type ≡ Type2)
-decide_type2 Type1 = no (λ h. let e = ap type_number h in omega (arith, e))
-decide_type2 Type2 = yes refl
+use Rattle.plp_config.specs.declared.config.TheConstants.{GREATEST_REST, MOST_CELLS}
 
 decide_place : (test : Test) (c : Config) (plp : ℕ) → Dec (PlaceFits test c plp)
-decide_place Throughput c plp = dec_le (up_bytes c plp * c.ticks * den c plp) (capacity c plp * num c)
-decide_place EvenSubSlices c plp =
-    decide_if (decide_type2 (plp_at c.plps plp).plp_type) (ℕ_discrete (block_cells c plp % c.sub_slices) 0)
+decide_place Throughput c plp = dec_le (up_bytes c plp * epoch_ticks c plp * den c plp) (capacity c plp * num c)
+decide_place EvenParts c plp = ℕ_discrete (block_cells c plp % block_parts c plp) 0
 decide_place CellCount c plp = yes tt
 decide_place CellAddresses c plp = yes tt
+decide_place RecordLength c plp = yes tt
 
 decide_test : (test : Test) (c : Config) → Dec (TestHolds test c)
 decide_test Throughput c = decide_below _ (decide_place Throughput c) (length c.plps)
 decide_test CellCount c = dec_le (cell_need c) c.cells
-decide_test EvenSubSlices c = decide_below _ (decide_place EvenSubSlices c) (length c.plps)
-decide_test CellAddresses c = dec_le c.cells 4194303
+decide_test EvenParts c = decide_below _ (decide_place EvenParts c) (length c.plps)
+decide_test CellAddresses c = dec_le c.cells MOST_CELLS
+decide_test RecordLength c = dec_le (longest_rest c) GREATEST_REST
 
 abbrev Lacking : Config → Type 0
 Lacking c = (fault : CapacityFault) × Lacks c fault
@@ -67,8 +62,9 @@ lacks_plp c test single parts fails lower =
 lacks_by : (c : Config) (test : Test) → ¬ (TestHolds test c) → TestsBelow (test_number test) c → Lacking c
 lacks_by c Throughput fails lower = lacks_plp c Throughput refl (λ h. h) fails lower
 lacks_by c CellCount fails lower = lacks_frame c CellCount refl fails lower
-lacks_by c EvenSubSlices fails lower = lacks_plp c EvenSubSlices refl (λ h. h) fails lower
+lacks_by c EvenParts fails lower = lacks_plp c EvenParts refl (λ h. h) fails lower
 lacks_by c CellAddresses fails lower = lacks_frame c CellAddresses refl fails lower
+lacks_by c RecordLength fails lower = lacks_frame c RecordLength refl fails lower
 
 -- the test at a place holds
 abbrev HoldsAt : Config → ℕ → Type 0
@@ -82,7 +78,7 @@ holds_of c test h =
 
 pub tests_decided : TestsDecided
 tests_decided c =
-    elim (first_failure (HoldsAt c) (λ place. decide_test (test_at (place + 1)) c) 4) [
+    elim (first_failure (HoldsAt c) (λ place. decide_test (test_at (place + 1)) c) 5) [
       | inl all ↦ inl (λ test. holds_of c test (all (test_number test - 1) (omega (arith, test_number-range test))))
       | inr found ↦
           let number : test_number (test_at (found.0 + 1)) ≡ found.0 + 1 = test_number-test_at found.0 found.1 in

@@ -295,16 +295,17 @@ window_holds num den delay ticks tick first pos den_pos released =
     le_of_mul-le-mul_right (omega (arith, add-mul delay ticks den)) pos in
     omega arith
 
--- the window of a slot that lasts 38 ticks or more
-pub window_small : (num den ticks : ℕ) → 0 < den → 38 * den ≤ num → ticks ≤ 2857142
-    → window_slots num den (delay_ticks num den ticks) ticks < 2 ^ 20
-window_small num den ticks pos long few =
+-- the window of a slot that lasts 38 ticks or more, with epochs of no fewer ticks than a frame
+pub window_small : (num den epoch ticks : ℕ) → 0 < den → 38 * den ≤ num → epoch < 2 ^ 22 → ticks ≤ epoch
+    → window_slots num den (delay_ticks num den epoch) ticks < 2 ^ 20
+window_small num den epoch ticks pos long short few =
     let num_pos : 0 < num = omega arith in
-    let delay = delay_ticks num den ticks in
+    let delay = delay_ticks num den epoch in
     let slots = div_ceil ((delay + ticks) * den) num in
     let upper : slots * num < (delay + ticks) * den + num = div_ceil-lt ((delay + ticks) * den) num num_pos in
-    let parts : (delay + ticks) * den ≡ div_ceil num den * den + den + 4 * (ticks * den) = omega arith in
+    let parts : (delay + ticks) * den ≡ div_ceil num den * den + den + 3 * (epoch * den) + ticks * den = omega arith in
+    let frame : ticks * den ≤ epoch * den = mul-le-mul_right den few in
     let length : div_ceil num den * den < num + den = div_ceil-lt num den pos in
-    let frames : ticks * (38 * den) ≤ ticks * num = mul-le-mul_left ticks long in
-    let all : 38 * slots * num < (78 + 4 * ticks) * num = omega arith in
+    let epochs : epoch * (38 * den) ≤ epoch * num = mul-le-mul_left epoch long in
+    let all : 38 * slots * num < (78 + 4 * epoch) * num = omega arith in
     omega (arith, lt_of_mul-lt-mul_right num all)

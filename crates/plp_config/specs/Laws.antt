@@ -1,19 +1,23 @@
 -- Laws of the times and the tables, for the crates above. A slot lasts num / den ticks, and an epoch is any number of ticks.
-use Rattle.std.specs.Prelude.{◌≡◌, ◌≢◌, ◌⊎◌, ℕ, ◌+◌, ◌-◌, ◌*◌, ◌/◌, ◌%◌, ◌^◌, ◌<◌, ◌≤◌, ◌↔◌, length}
+use Rattle.std.specs.Prelude.{◌≡◌, ◌≢◌, ◌⊎◌, ℕ, ◌+◌, ◌-◌, ◌*◌, ◌/◌, ◌%◌, ◌^◌, ◌<◌, ◌≤◌, ◌↔◌, length, sum_by}
 use Rattle.std.specs.Int.{div_ceil}
-use Rattle.plp_config.specs.Capacity.{block_bytes, field_bytes, block_cells, up_bytes, capacity, AllTests, Lacks}
+use Rattle.plp_config.specs.Capacity.{block_bytes, field_bytes, block_cells, up_bytes, capacity, frame_room, AllTests, Lacks}
+use Rattle.plp_config.specs.Capacity.{IsPlan}
 use Rattle.plp_config.specs.Emission.{subseconds_by, origin, frame_subseconds, emission, FindsFrame}
-use Rattle.plp_config.specs.Plps.{plp_at}
+use Rattle.plp_config.specs.FirstFailure.{IsFirstFailure}
+use Rattle.plp_config.specs.Places.{FramesStandAlone}
+use Rattle.plp_config.specs.Plps.{plp_at, spread, spread_max, StandsAlone}
 use Rattle.plp_config.specs.Rules.{AllRules, Refuses}
 use Rattle.plp_config.specs.RunLength.{frame_count, IsFrameCount}
-use Rattle.plp_config.specs.Tables.{subseconds_per_second, info_bits}
+use Rattle.plp_config.specs.Tables.{subseconds_per_second, info_bits, cells_per_block}
 use Rattle.plp_config.specs.declared.capacity.CapacityFault.{CapacityFault}
 use Rattle.plp_config.specs.declared.config.Config.{Config}
 use Rattle.plp_config.specs.declared.moment.Moment.{Moment}
 use Rattle.plp_config.specs.declared.plp.TheConstants.{MOST_FIELD_BYTES}
 use Rattle.plp_config.specs.declared.rules.ConfigFault.{ConfigFault}
 use Rattle.plp_config.specs.SlotTime.{num, den, slot_start, slot_count, InRange, iscr_slot, delay, delay_ticks, released_count}
-use Rattle.plp_config.specs.SlotTime.{window_slots, IsReleased}
+use Rattle.plp_config.specs.SlotTime.{window_slots, IsReleased, epoch_ticks}
+use Rattle.plp_config.specs.SlotTimes.{slot_times, AreSlotTimes}
 
 -- a slot starts before a tick
 abbrev pub StartsBefore : Type 0
@@ -144,6 +148,11 @@ RefusalFails = (c : Config) (fault : ConfigFault) → Refuses c fault → ¬ (Al
 abbrev pub RulesDecided : Type 0
 RulesDecided = (c : Config) → AllRules c ⊎ ((fault : ConfigFault) × Refuses c fault)
 
+-- One PLP is the first of which an interleaving frame is carried by several frames, at most.
+abbrev pub OneFirstSpread : Type 0
+OneFirstSpread = (c : Config) (place other : ℕ) → IsFirstFailure (StandsAlone c.plps) (length c.plps) place
+    → IsFirstFailure (StandsAlone c.plps) (length c.plps) other → place ≡ other
+
 -- The same for the capacity.
 abbrev pub OneTestFails : Type 0
 OneTestFails = (c : Config) (fault other : CapacityFault) → Lacks c fault → Lacks c other → fault ≡ other
@@ -165,6 +174,34 @@ SlotLength = (c : Config) (plp : ℕ) → AllRules c → plp < length c.plps →
 abbrev pub FrameTicks : Type 0
 FrameTicks = (c : Config) → AllRules c → (1000 ≤ c.ticks) × (c.ticks < 2 ^ 22)
 
+-- and so is an interleaving frame
+abbrev pub EpochTicks : Type 0
+EpochTicks = (c : Config) (plp : ℕ) → AllRules c → plp < length c.plps → (c.ticks ≤ epoch_ticks c plp)
+    × (epoch_ticks c plp < 2 ^ 22)
+
+-- the numbers of a PLP are times of slots
+abbrev pub SoundTimes : Type 0
+SoundTimes = (c : Config) (plp : ℕ) → AllRules c → plp < length c.plps → AreSlotTimes (slot_times c plp)
+
+-- an interleaving frame that is carried by one frame lasts as long
+abbrev pub EpochAlone : Type 0
+EpochAlone = (c : Config) (plp : ℕ) → spread c.plps plp ≡ 1 → epoch_ticks c plp ≡ c.ticks
+
+-- if all are, no spread is greater
+abbrev pub GreatestAlone : Type 0
+GreatestAlone = (c : Config) → AllRules c → FramesStandAlone c → spread_max c.plps ≡ 1
+
+-- a superframe holds whole interleaving frames
+abbrev pub SpreadDividesFrames : Type 0
+SpreadDividesFrames = (c : Config) (plp : ℕ) → AllRules c → plp < length c.plps → (1 ≤ spread c.plps plp)
+    × (c.frames % spread c.plps plp ≡ 0)
+
+-- no spread is greater than the greatest, which a PLP has
+abbrev pub SpreadIsGreatest : Type 0
+SpreadIsGreatest = (c : Config) → AllRules c
+    → ((plp : ℕ) → plp < length c.plps → spread c.plps plp ≤ spread_max c.plps)
+    × ((plp : ℕ) × (plp < length c.plps) × (spread c.plps plp ≡ spread_max c.plps))
+
 -- a frame lasts a quarter of a second at most
 abbrev pub FrameQuarter : Type 0
 FrameQuarter = (c : Config) → AllRules c → (1 ≤ frame_subseconds c) × (4 * frame_subseconds c ≤ subseconds_per_second c.band)
@@ -184,6 +221,19 @@ UserPacketRange = (c : Config) (plp : ℕ) → (187 ≤ up_bytes c plp) × (up_b
 -- a frame can carry a user packet
 abbrev pub CapacityHoldsUp : Type 0
 CapacityHoldsUp = (c : Config) (plp : ℕ) → AllRules c → plp < length c.plps → up_bytes c plp ≤ capacity c plp
+
+-- the frames that carry a block have equal parts of its cells
+abbrev pub CellsInParts : Type 0
+CellsInParts = (c : Config) (plp : ℕ) → IsPlan c → plp < length c.plps → block_cells c plp % spread c.plps plp ≡ 0
+
+-- a frame has room for all blocks
+abbrev pub RoomsFit : Type 0
+RoomsFit = (c : Config) → IsPlan c → sum_by frame_room c.plps ≤ c.cells
+
+-- all blocks of the interleaving frames that a frame carries have no more cells than as many frames as the greatest spread
+abbrev pub BlocksFit : Type 0
+BlocksFit = (c : Config) → IsPlan c
+    → sum_by (λ plp. plp.blocks * cells_per_block plp.fec plp.modulation) c.plps ≤ spread_max c.plps * c.cells
 
 -- the time interleaver has five columns a block
 abbrev pub CellsByFive : Type 0

@@ -2,8 +2,9 @@ pub mod Tables
 pub mod Plps
 pub mod Places
 pub mod FirstFailure
-pub mod Rules
 pub mod SlotTime
+pub mod SlotTimes
+pub mod Rules
 pub mod Capacity
 pub mod Ranges
 pub mod Emission

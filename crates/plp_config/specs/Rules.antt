@@ -1,10 +1,14 @@
 -- The rules of a configuration. A rule's number is its place in `Rule`, from 1.
 use Rattle.std.specs.Prelude.{◌≡◌, ◌≢◌, ℕ, ◌<◌, ◌≤◌, ◌%◌, ◌^◌, min, length, nat_le, None, MatchBool, IsSomeAnd}
 use Rattle.plp_config.specs.FirstFailure.{HoldsBelow, IsFirstFailure}
-use Rattle.plp_config.specs.Plps.{plp_at, type_number, has_type2}
+use Rattle.plp_config.specs.Plps.{plp_at, type_number, has_type2, spread}
+use Rattle.plp_config.specs.SlotTime.{epoch_ticks}
 use Rattle.plp_config.specs.Tables.{subseconds_per_second, greatest_ticks}
 use Rattle.plp_config.specs.declared.config.Config.{Config}
 use Rattle.plp_config.specs.declared.config.L1Numbers.{L1Numbers}
+use Rattle.plp_config.specs.declared.moment.TheConstants.{ISCR_TICKS}
+use Rattle.plp_config.specs.declared.plp.Plp.{Plp}
+use Rattle.plp_config.specs.declared.plp.PlpType.TheVariants.{Common}
 use Rattle.plp_config.specs.declared.plp.TheConstants.{MOST_BLOCKS}
 use Rattle.plp_config.specs.declared.rules.ConfigFault.{ConfigFault}
 
@@ -23,6 +27,12 @@ pub data Rule : Type 0 where
   BlockLimit : Rule
   InterleaverLength : Rule
   BitRate : Rule
+  SpreadDivides : Rule
+  SpreadLength : Rule
+  EpochDuration : Rule
+  OneCommon : Rule
+  CommonRate : Rule
+  CommonShared : Rule
 
 abbrev pub rule_number : Rule → ℕ
 rule_number FrameDuration = 1
@@ -39,6 +49,12 @@ rule_number TypeOrder = 11
 rule_number BlockLimit = 12
 rule_number InterleaverLength = 13
 rule_number BitRate = 14
+rule_number SpreadDivides = 15
+rule_number SpreadLength = 16
+rule_number EpochDuration = 17
+rule_number OneCommon = 18
+rule_number CommonRate = 19
+rule_number CommonShared = 20
 
 -- each number fits its field of L1-pre, and S2 is even (EN 302 755, clause 7.2.2); TX_ID_AVAILABILITY has 8 bits, as its type
 pub record FitsL1 (l1 : L1Numbers) : Type 0 where
@@ -55,6 +71,19 @@ pub record FitsL1 (l1 : L1Numbers) : Type 0 where
   pub symbols : l1.symbols < 2 ^ 12
   pub regen : l1.regen < 2 ^ 3
 
+-- the PLP at a place is the common one of a group, or one of them
+abbrev pub IsCommonOf : Config → ℕ → ℕ → Type 0
+IsCommonOf c group place = ((plp_at c.plps place).plp_type ≡ Common) × ((plp_at c.plps place).group ≡ group)
+
+-- two PLPs have one bit rate and one spread
+abbrev pub IsInStep : Plp → Plp → Type 0
+IsInStep a b = (a.bits_per_second ≡ b.bits_per_second) × (a.spread ≡ b.spread)
+
+-- another PLP than the one at a place is in its group
+abbrev pub HasCompany : Config → ℕ → Type 0
+HasCompany c place = (other : ℕ) × (other < length c.plps) × (other ≢ place)
+    × ((plp_at c.plps other).group ≡ (plp_at c.plps place).group)
+
 -- what the rules of the PLPs ask of the PLP at a place; the other rules ask nothing of it
 abbrev pub PlaceHolds : Rule → Config → ℕ → Type 0
 PlaceHolds DistinctIds c place = HoldsBelow (λ earlier. (plp_at c.plps earlier).id ≢ (plp_at c.plps place).id) place
@@ -63,6 +92,14 @@ PlaceHolds TypeOrder c place =
 PlaceHolds BlockLimit c place = (1 ≤ (plp_at c.plps place).blocks) × ((plp_at c.plps place).blocks ≤ MOST_BLOCKS)
 PlaceHolds InterleaverLength c place = (plp_at c.plps place).interleave ≤ min (plp_at c.plps place).blocks 255
 PlaceHolds BitRate c place = (1 ≤ (plp_at c.plps place).bits_per_second) × ((plp_at c.plps place).bits_per_second ≤ 72000000)
+PlaceHolds SpreadDivides c place = (1 ≤ spread c.plps place) × (c.frames % spread c.plps place ≡ 0)
+PlaceHolds SpreadLength c place = 1 < spread c.plps place → (plp_at c.plps place).interleave ≡ 1
+PlaceHolds EpochDuration c place = epoch_ticks c place < ISCR_TICKS
+PlaceHolds OneCommon c place =
+    (plp_at c.plps place).plp_type ≡ Common → HoldsBelow (λ earlier. ¬ (IsCommonOf c (plp_at c.plps place).group earlier)) place
+PlaceHolds CommonRate c place = HoldsBelow (λ common. IsCommonOf c (plp_at c.plps place).group common
+    → IsInStep (plp_at c.plps place) (plp_at c.plps common)) (length c.plps)
+PlaceHolds CommonShared c place = (plp_at c.plps place).plp_type ≡ Common → HasCompany c place
 PlaceHolds _ c place = Unit {0}
 
 -- what each rule demands

@@ -2,7 +2,7 @@
 -- a slot lasts num / den, with num = 1504 Q and den = R M: a second has Q subseconds, and a tick M.
 use Rattle.std.specs.Prelude.{◌≡◌, ℕ, ◌+◌, ◌-◌, ◌*◌, ◌/◌, ◌%◌, ◌^◌, ◌<◌, ◌≤◌}
 use Rattle.std.specs.Int.{div_ceil, IsGcd}
-use Rattle.plp_config.specs.Plps.{plp_at}
+use Rattle.plp_config.specs.Plps.{plp_at, spread}
 use Rattle.plp_config.specs.Tables.{subseconds_per_second, subseconds_per_tick}
 use Rattle.plp_config.specs.declared.config.Config.{Config}
 
@@ -50,6 +50,10 @@ den c plp = (plp_at c.plps plp).bits_per_second * subseconds_per_tick c.band
 abbrev pub IsSlotLength : Config → ℕ → ℕ → ℕ → Type 0
 IsSlotLength c plp n d = (divisor : ℕ) × IsGcd (num c) (den c plp) divisor × (n ≡ num c / divisor) × (d ≡ den c plp / divisor)
 
+-- the ticks of an interleaving frame of the PLP at a place
+abbrev pub epoch_ticks : Config → ℕ → ℕ
+epoch_ticks c plp = spread c.plps plp * c.ticks
+
 -- the times of the PLP at a place of a configuration
 abbrev pub start : Config → ℕ → ℕ → ℕ
 start c plp slot = slot_start (num c) (den c plp) slot
@@ -58,7 +62,7 @@ abbrev pub slots_by : Config → ℕ → ℕ → ℕ
 slots_by c plp tick = slot_count (num c) (den c plp) tick
 
 abbrev pub delay : Config → ℕ → ℕ
-delay c plp = delay_ticks (num c) (den c plp) c.ticks
+delay c plp = delay_ticks (num c) (den c plp) (epoch_ticks c plp)
 
 abbrev pub window : Config → ℕ → ℕ
 window c plp = window_slots (num c) (den c plp) (delay c plp) c.ticks

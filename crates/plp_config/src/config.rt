@@ -2,6 +2,21 @@
 use crate::band::Band;
 use crate::list::PlpList;
 
+/// Cells of a frame at most, so that the starts and the interval of a shape have 22 bits (EN 302 755, clause 7.2.3.2).
+pub const MOST_CELLS: u32 = (1 << 22) - 1;
+
+/// Bits of L1-post besides those of its PLPs, with its CRC_32 (EN 302 755, clause 7.2.3).
+pub const L1_POST_BITS: u64 = 213;
+
+/// Bits of a PLP in L1-post.
+pub const L1_POST_PLP_BITS: u64 = 137;
+
+/// Bytes of a record behind its head, besides L1-post, blocks and cells: those of L1-pre and of three numbers.
+pub const FIXED_REST: u64 = 25 + 4 + 2 + 4;
+
+/// Bytes of a record of a frame at most, behind its head.
+pub const GREATEST_REST: u64 = 33_554_432;
+
 /// The configured fields of L1-pre (EN 302 755, clause 7.2.2), as numbers; each fits its bits.
 #[derive(Clone, Copy, Debug, PartialEq, Eq)]
 pub struct L1Numbers {

@@ -5,7 +5,9 @@ ghost use Rattle.plp_config.specs.Laws.{SpansEpoch, OneSlotPerIscr, IscrFindsSlo
 ghost use Rattle.plp_config.specs.Laws.{ReleasedOld, WindowHolds, EmissionTotal, EmissionsDiffer, EmissionFound, EmissionFits};
 ghost use Rattle.plp_config.specs.Laws.{FrameCountLeast, OneRuleFails, RefusalFails, RulesDecided, OneTestFails, LackFails};
 ghost use Rattle.plp_config.specs.Laws.{TestsDecided, SlotLength, FrameTicks, FrameQuarter, FieldRange, BlockBits};
-ghost use Rattle.plp_config.specs.Laws.{UserPacketRange, CapacityHoldsUp, CellsByFive, BlockChunks};
+ghost use Rattle.plp_config.specs.Laws.{UserPacketRange, CapacityHoldsUp, CellsByFive, BlockChunks, EpochTicks, RoomsFit};
+ghost use Rattle.plp_config.specs.Laws.{SpreadDividesFrames, SpreadIsGreatest, CellsInParts, BlocksFit, EpochAlone, GreatestAlone};
+ghost use Rattle.plp_config.specs.Laws.{SoundTimes, OneFirstSpread};
 
 /// When slots start and when they are over. A count reaches a number exactly if the end of the
 /// last slot below it is not after the tick.
@@ -66,6 +68,7 @@ pub fn run_length_law()
 /// Which rule or test fails first: exactly one, if not all hold.
 pub fn refusal_law()
     ensures one_rule { OneRuleFails }
+    ensures one_spread { OneFirstSpread }
     ensures rules_fail { RefusalFails }
     ensures rules_decided { RulesDecided }
     ensures one_test { OneTestFails }
@@ -77,7 +80,20 @@ pub fn refusal_law()
 pub fn length_law()
     ensures slot { SlotLength }
     ensures frame { FrameTicks }
+    ensures epoch { EpochTicks }
+    ensures times { SoundTimes }
     ensures quarter { FrameQuarter }
+{}
+
+/// Interleaving frames: how many frames carry one, and the cells in each.
+pub fn spread_law()
+    ensures frames { SpreadDividesFrames }
+    ensures greatest { SpreadIsGreatest }
+    ensures alone { EpochAlone }
+    ensures greatest_alone { GreatestAlone }
+    ensures parts { CellsInParts }
+    ensures room { RoomsFit }
+    ensures blocks { BlocksFit }
 {}
 
 /// The sizes of blocks, as the tables give them.

@@ -1,20 +1,22 @@
 // A configuration that every layer above can rely on.
-ghost use Rattle.std.specs.Prelude.{◌≡◌, ◌-◌, ◌^◌, ◌<◌, ◌≤◌, length, IfSome, IfNone};
+ghost use Rattle.std.specs.Prelude.{◌≡◌, ◌-◌, ◌/◌, ◌%◌, ◌^◌, ◌<◌, ◌≤◌, length, IfSome, IfNone};
 ghost use Rattle.plp_config.specs.Capacity.{AllTests, Throughput, block_bytes, field_bytes, block_cells, up_bytes, capacity};
-ghost use Rattle.plp_config.specs.Capacity.{need_of};
+ghost use Rattle.plp_config.specs.Capacity.{frame_room, need_of};
 ghost use Rattle.plp_config.specs.Emission.{emission};
 ghost use Rattle.plp_config.specs.Places.{IsPlace, HasNoPlace};
-ghost use Rattle.plp_config.specs.Plps.{plp_at};
+ghost use Rattle.plp_config.specs.FirstFailure.{FindsFailure};
+ghost use Rattle.plp_config.specs.Plps.{plp_at, spread, spread_max, StandsAlone};
 ghost use Rattle.plp_config.specs.Ranges.{HasRanges};
 ghost use Rattle.plp_config.specs.Rules.{AllRules};
-ghost use Rattle.plp_config.specs.SlotTime.{IsSlotLength, start, slots_by, delay, window};
+ghost use Rattle.plp_config.specs.SlotTime.{IsSlotLength, start, slots_by, epoch_ticks, delay, window};
 ghost use Rattle.plp_config.specs.Tables.{subseconds_per_second};
 
 use crate::capacity::throughput_need;
 use crate::config::Config;
 use crate::gcd::gcd;
-use crate::moment::Moment;
+use crate::moment::{ISCR_TICKS, Moment, SUPERFRAME_PERIOD};
 use crate::plp::{MOST_BLOCK_BYTES, MOST_CAPACITY, MOST_FIELD_BYTES};
+use crate::slot_times::SlotTimes;
 use crate::values;
 use std::marker::Model;
 
@@ -37,6 +39,7 @@ impl Model for Plan {
 
 impl Plan {
     ghost use Rattle.plp_config.specs.Capacity.{IsPlan};
+    ghost use Rattle.plp_config.specs.SlotTimes.{slot_times, AreSlotTimes};
 
     pub(crate) fn new(config: Config) -> Plan
         requires rules { AllRules config }
@@ -73,7 +76,7 @@ impl Plan {
     }
 
     /// The length of a slot of a PLP in ticks, a fraction in lowest terms: its numerator and its
-    /// denominator.
+    /// denominator. For people; times are those of [`slot_times`](Self::slot_times).
     pub fn slot_length(&self, plp: usize) -> (u64, u64)
         requires { plp < length self.now.plps }
         ensures { IsSlotLength self.now plp result.0 result.1 }
@@ -84,39 +87,40 @@ impl Plan {
         (num / divisor, den / divisor)
     }
 
+    /// The slots of a PLP and its interleaving frames.
+    pub fn slot_times(&self, plp: usize) -> SlotTimes
+        requires { plp < length self.now.plps }
+        ensures times { result ≡ slot_times self.now plp }
+        ensures are { AreSlotTimes result }
+    {
+        values::slot_times(&self.config, plp)
+    }
+
     /// How many slots of a PLP are over by a tick.
     pub fn slots_by(&self, plp: usize, tick: u64) -> u64
-        requires configured { plp < length self.now.plps }
-        requires tick { tick < 2 ^ 54 }
+        requires { plp < length self.now.plps }
         ensures count { result ≡ slots_by self.now plp tick }
         ensures small { result ≤ tick }
     {
-        let num = u128::from(values::num(&self.config));
-        let den = u128::from(values::den(&self.config, plp));
-        (u128::from(tick) * den / num) as u64
+        self.slot_times(plp).slots_by(tick)
     }
 
     /// The tick at which a slot of a PLP starts.
     pub fn start_of(&self, plp: usize, slot: u64) -> u128
-        requires configured { plp < length self.now.plps }
-        requires slot { slot < 2 ^ 54 }
+        requires { plp < length self.now.plps }
         ensures start { result ≡ start self.now plp slot }
-        ensures small { result < 2 ^ 92 }
+        ensures small { result < 2 ^ 102 }
     {
-        let num = u128::from(values::num(&self.config));
-        let den = u128::from(values::den(&self.config, plp));
-        u128::from(slot) * num / den
+        self.slot_times(plp).start_of(slot)
     }
 
     /// The constant delay of a PLP: the ticks from the start of a slot until its packet is due.
     pub fn delay(&self, plp: usize) -> u64
         requires { plp < length self.now.plps }
         ensures delay { result ≡ delay self.now plp }
-        ensures small { result < 2 ^ 38 }
+        ensures small { result < 2 ^ 39 }
     {
-        let num = values::num(&self.config);
-        let den = values::den(&self.config, plp);
-        num.div_ceil(den) + 1 + 3 * u64::from(values::ticks(&self.config))
+        self.slot_times(plp).delay()
     }
 
     /// How many slots of a PLP a receiver holds at most.
@@ -125,10 +129,70 @@ impl Plan {
         ensures window { result ≡ window self.now plp }
         ensures small { result < 2 ^ 20 }
     {
-        let num = values::num(&self.config);
-        let den = values::den(&self.config, plp);
-        let ticks = self.delay(plp) + u64::from(values::ticks(&self.config));
-        (ticks * den).div_ceil(num) + 2
+        let ticks = u64::from(values::ticks(&self.config));
+        self.slot_times(plp).window(ticks)
+    }
+
+    /// The place of a frame in its superframe: FRAME_IDX (EN 302 755, clause 7.2.3.2).
+    pub fn frame_idx(&self, frame: u64) -> u8
+        ensures { result ≡ frame % self.now.frames }
+    {
+        (frame % u64::from(values::frames(&self.config))) as u8
+    }
+
+    /// superframe_idx of a frame: the number of its superframe, of which T2-MI tells four bits (TS 102 773, clause 5.1).
+    pub fn superframe_idx(&self, frame: u64) -> u8
+        ensures value { result ≡ frame / self.now.frames % 16 }
+        ensures small { result < 2 ^ 4 }
+    {
+        (frame / u64::from(values::frames(&self.config)) % SUPERFRAME_PERIOD) as u8
+    }
+
+    /// The first PLP whose interleaving frames are carried by several frames, `None` if every frame stands alone.
+    pub fn first_spread(&self) -> Option<usize>
+        ensures { FindsFailure (StandsAlone self.now.plps) (length self.now.plps) result }
+    {
+        values::first_spread(&self.config)
+    }
+
+    /// The frames that carry an interleaving frame of a PLP.
+    pub fn spread(&self, plp: usize) -> u32
+        requires { plp < length self.now.plps }
+        ensures value { result ≡ spread self.now.plps plp }
+        ensures least { 1 ≤ result }
+        ensures greatest { result ≤ spread_max self.now.plps }
+        // whole interleaving frames are in a superframe
+        ensures whole { self.now.frames % result ≡ 0 }
+    {
+        u32::from(values::spread(&self.config, plp))
+    }
+
+    /// The greatest spread of all PLPs.
+    pub fn spread_max(&self) -> u32
+        ensures value { result ≡ spread_max self.now.plps }
+        ensures least { 1 ≤ result }
+        ensures greatest { result ≤ 255 }
+    {
+        u32::from(values::spread_max(&self.config))
+    }
+
+    /// The ticks of an interleaving frame of a PLP.
+    pub fn epoch_ticks(&self, plp: usize) -> u64
+        requires { plp < length self.now.plps }
+        ensures value { result ≡ epoch_ticks self.now plp }
+        ensures least { 1000 ≤ result }
+        ensures greatest { result < ISCR_TICKS }
+    {
+        values::epoch_ticks(&self.config, plp)
+    }
+
+    /// Cells that the blocks of a PLP fill in a frame, at most.
+    pub fn frame_room(&self, plp: usize) -> u32
+        requires { plp < length self.now.plps }
+        ensures value { result ≡ frame_room (plp_at self.now.plps plp) }
+        ensures greatest { result ≤ self.now.cells }
+    {
+        values::frame_room(&self.config, plp)
     }
 
     /// PLP_ID of a PLP.
@@ -169,7 +233,7 @@ impl Plan {
         values::block_cells(&self.config, plp)
     }
 
-    /// Bytes of the data fields of a frame, at most.
+    /// Bytes of the data fields of an interleaving frame, at most.
     pub fn capacity(&self, plp: usize) -> u32
         requires { plp < length self.now.plps }
         ensures value { result ≡ capacity self.now plp }
@@ -179,7 +243,7 @@ impl Plan {
         values::capacity(&self.config, plp)
     }
 
-    /// Bytes of user packets that a frame brings, rounded up; at most `capacity`.
+    /// Bytes of user packets that an interleaving frame brings, rounded up; at most `capacity`.
     pub fn need(&self, plp: usize) -> u64
         requires { plp < length self.now.plps }
         ensures value { result ≡ need_of Throughput self.now plp }

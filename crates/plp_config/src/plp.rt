@@ -12,15 +12,17 @@ pub const MOST_BLOCK_BYTES: u32 = 6_730;
 /// Bytes of the data field of a baseband frame at most, behind a header of ten: `MOST_BLOCK_BYTES - 10`.
 pub const MOST_FIELD_BYTES: u32 = MOST_BLOCK_BYTES - 10;
 
-/// Blocks of a PLP in a frame at most: PLP_NUM_BLOCKS_MAX has ten bits (EN 302 755, clause 7.2.3.1).
+/// Blocks of a PLP in an interleaving frame at most: PLP_NUM_BLOCKS_MAX has ten bits (EN 302 755, clause 7.2.3.1).
 pub const MOST_BLOCKS: u16 = 1_023;
 
-/// Bytes of the data fields of a PLP in a frame at most, `MOST_BLOCKS * MOST_FIELD_BYTES`.
+/// Bytes of the data fields of a PLP in an interleaving frame at most, `MOST_BLOCKS * MOST_FIELD_BYTES`.
 pub const MOST_CAPACITY: u32 = MOST_BLOCKS as u32 * MOST_FIELD_BYTES;
 
-/// How a PLP lies in a frame. Its number is PLP_TYPE (EN 302 755, clause 7.2.3.1).
+/// How a PLP lies in a frame. Its number is PLP_TYPE (EN 302 755, clause 7.2.3.1), and PLPs stand in this order.
 #[derive(Clone, Copy, Debug, PartialEq, Eq)]
 pub enum PlpType {
+    /// One slice in each frame, with what all PLPs of its group have in common.
+    Common = 0,
     /// One slice in each frame.
     Type1 = 1,
     /// Several sub-slices in each frame.
@@ -122,14 +124,17 @@ pub struct Plp {
     pub fec: FecSize,
     /// Whether the constellation is rotated.
     pub rotation: bool,
-    /// The greatest number of blocks in a frame, PLP_NUM_BLOCKS_MAX; 1 to 1,023.
+    /// The greatest number of blocks in an interleaving frame, PLP_NUM_BLOCKS_MAX; 1 to 1,023.
     pub blocks: u16,
-    /// TIME_IL_LENGTH: TI-blocks in a frame, or 0 for no time interleaving; at most `blocks`, and at most 255.
+    /// TI-blocks in an interleaving frame, or 0 for no time interleaving; at most `blocks`, and at most 255, and 1 with a
+    /// spread above 1.
     pub interleave: u16,
     /// Whether null packets are deleted.
     pub delete: bool,
     /// The rate of the transport stream, in bits per second; 1 to 72,000,000.
     pub bits_per_second: u32,
+    /// The frames that carry an interleaving frame; 1 to 255, and a divisor of the frames of a superframe.
+    pub spread: u8,
 }
 
 impl Plp {

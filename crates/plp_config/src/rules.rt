@@ -7,7 +7,8 @@ use crate::at::At;
 use crate::config::Config;
 use crate::network_rules::network_tests;
 use crate::plp_rules::{
-    falling_type, repeated_id, wrong_bit_rate, wrong_block_limit, wrong_interleaver_length,
+    falling_type, lone_common, repeated_id, second_common, wrong_bit_rate, wrong_block_limit,
+    wrong_common_rate, wrong_epoch, wrong_interleaver_length, wrong_spread, wrong_spread_length,
 };
 use std::marker::Model;
 use thiserror::Error;
@@ -18,7 +19,7 @@ use thiserror::Error;
 pub struct ConfigFault {
     /// The number of the rule, from 1.
     pub rule: u8,
-    /// The first place where it fails, for the rules 10 to 14.
+    /// The first place where it fails, for the rules 10 to 20.
     pub plp: Option<u8>,
 }
 
@@ -38,10 +39,16 @@ impl ConfigFault {
             8 => "there must be from 2 to 6480 sub-slices with a PLP of type 2, and 1 without",
             9 => "there must be from 1 to 255 PLPs",
             10 => "no two PLPs may have one identifier",
-            11 => "no PLP of type 1 may stand behind one of type 2",
+            11 => "common PLPs must stand first, and those of type 2 last",
             12 => "a PLP must have from 1 to 1023 blocks",
             13 => "the interleaver length must be at most the number of blocks, and at most 255",
             14 => "a PLP must have from 1 to 72000000 bit/s",
+            15 => "the spread must be at least 1 and divide the frames of a superframe",
+            16 => "the interleaver length must be 1 with a spread above 1",
+            17 => "an interleaving frame must last fewer than 4194304 ticks",
+            18 => "a group may have at most one common PLP",
+            19 => "a PLP must have the bit rate and the spread of the common PLP of its group",
+            20 => "another PLP must be in the group of a common PLP",
             _ => "there is no such rule",
         }
     }
@@ -97,12 +104,28 @@ pub fn validate(config: Config) -> Result<Valid, (Config, ConfigFault)>
 fn first_fault(config: &Config) -> Option<ConfigFault>
     ensures { MatchOption result (AllRules config.now) (Refuses config.now) }
 {
-    network_fault(config)
-        .or(fault_at(10, repeated_id(config)))
+    match network_fault(config) {
+        Some(fault) => Some(fault),
+        None => plp_fault(config),
+    }
+}
+
+// The least of the rules 10 to 20 that fails. They take time by the square of the number of PLPs, which is bounded by then.
+fn plp_fault(config: &Config) -> Option<ConfigFault>
+    requires { RulesBelow 10 config.now }
+    ensures { MatchOption result (AllRules config.now) (Refuses config.now) }
+{
+    fault_at(10, repeated_id(config))
         .or(fault_at(11, falling_type(config)))
         .or(fault_at(12, wrong_block_limit(config)))
         .or(fault_at(13, wrong_interleaver_length(config)))
         .or(fault_at(14, wrong_bit_rate(config)))
+        .or(fault_at(15, wrong_spread(config)))
+        .or(fault_at(16, wrong_spread_length(config)))
+        .or(fault_at(17, wrong_epoch(config)))
+        .or(fault_at(18, second_common(config)))
+        .or(fault_at(19, wrong_common_rate(config)))
+        .or(fault_at(20, lone_common(config)))
 }
 
 // The least of the rules 1 to 9 that fails.

@@ -1,6 +1,7 @@
 // The networks that tests change, and how they are judged.
 mod edges;
 mod figures;
+mod slots;
 
 use crate::{
     Band, CapacityFault, Config, ConfigFault, FecSize, L1Numbers, Modulation, Plan, Plp, PlpList,
@@ -14,7 +15,7 @@ use std::process::Abort;
 #[rattlefmt::skip]
 const PLP: Plp = Plp {
     id: 0, plp_type: PlpType::Type1, group: 1, rate: Rate::R1_2, modulation: Modulation::Qpsk, fec: FecSize::Short,
-    rotation: false, blocks: 4, interleave: 1, delete: true, bits_per_second: 2_000_000,
+    rotation: false, blocks: 4, interleave: 1, delete: true, bits_per_second: 2_000_000, spread: 1,
 };
 
 #[rattlefmt::skip]

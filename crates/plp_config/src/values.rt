@@ -1,15 +1,19 @@
 // The values of a configuration that satisfies the rules, with the ranges that follow from these.
 ghost use Rattle.std.specs.Prelude.{◌≡◌, ◌<◌, ◌≤◌, ◌*◌, length, IfSome, IfNone};
-ghost use Rattle.plp_config.specs.Capacity.{block_bytes, field_bytes, block_cells, up_bytes, capacity};
+ghost use Rattle.plp_config.specs.Capacity.{block_bytes, field_bytes, block_cells, up_bytes, capacity, frame_room};
 ghost use Rattle.plp_config.specs.Emission.{frame_subseconds};
 ghost use Rattle.plp_config.specs.Places.{IsPlace, HasNoPlace};
-ghost use Rattle.plp_config.specs.Plps.{plp_at};
+ghost use Rattle.plp_config.specs.FirstFailure.{FindsFailure};
+ghost use Rattle.plp_config.specs.Plps.{plp_at, spread, spread_max, StandsAlone};
 ghost use Rattle.plp_config.specs.Rules.{AllRules};
-ghost use Rattle.plp_config.specs.SlotTime.{num, den};
+ghost use Rattle.plp_config.specs.SlotTime.{num, den, epoch_ticks};
+ghost use Rattle.plp_config.specs.SlotTimes.{slot_times, AreSlotTimes};
 ghost use Rattle.plp_config.specs.Tables.{subseconds_per_second, subseconds_per_tick};
 
 use crate::config::Config;
+use crate::moment::ISCR_TICKS;
 use crate::plp::{MOST_BLOCK_BYTES, MOST_BLOCKS, MOST_CAPACITY, MOST_FIELD_BYTES, Plp};
+use crate::slot_times::SlotTimes;
 
 // The duration of a frame in ticks.
 pub(crate) fn ticks(config: &Config) -> u32
@@ -21,6 +25,97 @@ pub(crate) fn ticks(config: &Config) -> u32
     ensures quarter { 4 * result * subseconds_per_tick config.now.band ≤ subseconds_per_second config.now.band }
 {
     config.ticks
+}
+
+// The frames of a superframe.
+pub(crate) fn frames(config: &Config) -> u32
+    requires { AllRules config.now }
+    ensures value { result ≡ config.now.frames }
+    ensures least { 2 ≤ result }
+    ensures greatest { result ≤ 255 }
+{
+    u32::from(config.frames)
+}
+
+// The frames that carry an interleaving frame of a PLP.
+pub(crate) fn spread(config: &Config, plp: usize) -> u8
+    requires rules { AllRules config.now }
+    requires configured { plp < length config.now.plps }
+    ensures value { result ≡ spread config.now.plps plp }
+    ensures least { 1 ≤ result }
+{
+    plp_at(config, plp).spread
+}
+
+// The greatest spread.
+pub(crate) fn spread_max(config: &Config) -> u8
+    requires { AllRules config.now }
+    ensures value { result ≡ spread_max config.now.plps }
+    ensures least { 1 ≤ result }
+{
+    greatest_spread(config.plps.as_slice())
+}
+
+// The greatest spread of some PLPs.
+#[tactic(auto, unfolding(crate::specs::Plps::spread_max), using(crate::proofs::SpreadLemmas::spread_max_more))]
+fn greatest_spread(plps: &[Plp]) -> u8
+    ensures { result ≡ spread_max plps.now }
+{
+    let mut greatest = 0;
+    for plp in plps {
+        if plp.spread > greatest {
+            greatest = plp.spread;
+        }
+    }
+    greatest
+}
+
+// Cells that the blocks of a PLP fill in a frame, at most.
+pub(crate) fn frame_room(config: &Config, plp: usize) -> u32
+    requires rules { AllRules config.now }
+    requires configured { plp < length config.now.plps }
+    ensures value { result ≡ frame_room (plp_at config.now.plps plp) }
+{
+    let plp = plp_at(config, plp);
+    u32::from(plp.blocks) * plp.block_cells() / u32::from(plp.spread)
+}
+
+// The first PLP with a spread above 1.
+pub(crate) fn first_spread(config: &Config) -> Option<usize>
+    requires { AllRules config.now }
+    ensures { FindsFailure (StandsAlone config.now.plps) (length config.now.plps) result }
+{
+    for plp in 0..config.plps.len() {
+        if spread(config, plp) != 1 {
+            return Some(plp);
+        }
+    }
+    None
+}
+
+// The slots of a PLP and its interleaving frames.
+pub(crate) fn slot_times(config: &Config, plp: usize) -> SlotTimes
+    requires rules { AllRules config.now }
+    requires configured { plp < length config.now.plps }
+    ensures times { result ≡ slot_times config.now plp }
+    ensures are { AreSlotTimes result }
+{
+    SlotTimes {
+        num: num(config),
+        den: den(config, plp),
+        epoch: epoch_ticks(config, plp),
+    }
+}
+
+// The ticks of an interleaving frame of a PLP.
+pub(crate) fn epoch_ticks(config: &Config, plp: usize) -> u64
+    requires rules { AllRules config.now }
+    requires configured { plp < length config.now.plps }
+    ensures value { result ≡ epoch_ticks config.now plp }
+    ensures least { 1000 ≤ result }
+    ensures greatest { result < ISCR_TICKS }
+{
+    u64::from(spread(config, plp)) * u64::from(ticks(config))
 }
 
 // The subseconds of a frame: a quarter of a second at most.
@@ -105,6 +200,7 @@ pub(crate) fn plp_at(config: &Config, plp: usize) -> &Plp
     ensures value { result.now ≡ plp_at config.now.plps plp }
     ensures blocks { (1 ≤ result.now.blocks) × (result.now.blocks ≤ MOST_BLOCKS) }
     ensures rate { (1 ≤ result.now.bits_per_second) × (result.now.bits_per_second ≤ 72000000) }
+    ensures spread { 1 ≤ result.now.spread }
 {
     &config.plps.as_slice()[plp]
 }

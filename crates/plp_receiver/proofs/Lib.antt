@@ -5,7 +5,6 @@ mod ListLemmas
 mod CountLemmas
 mod SizeLemmas
 mod SeenLemmas
-mod RuleLemmas
 mod TakeLemmas
 mod UniqueLemmas
 pub mod StandsLemmas

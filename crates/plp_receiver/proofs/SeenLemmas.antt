@@ -11,8 +11,8 @@ use Rattle.terms.proofs.RangeLemmas.{range_more}
 use Rattle.plp_config.specs.Capacity.{block_cells}
 use Rattle.plp_config.specs.declared.config.Config.{Config}
 use Rattle.scheduler.specs.Shape.{FrameShape}
-use Rattle.cell_map.specs.Address.{IsCell, address_of}
-use Rattle.cell_map.specs.CellMap.{Passes, ordinal_of, cell_map}
+use Rattle.cell_map.specs.Address.{IsCell, IsCarried, address_of}
+use Rattle.cell_map.specs.CellMap.{Passes, ordinal_of, is_carried, cell_map}
 use Rattle.cell_map.specs.Laws.{MapHasEachCell, MapHasOnlyCells}
 use Rattle.cell_map.specs.declared.places.Cell.{Cell}
 use Rattle.frame_tests.specs.MapTest.{each_below}
@@ -70,33 +70,33 @@ from_split t a (suc n) m =
     ∙ sym (and_assoc (t a) (list_all t (range_with_len (a + 1) n)) (list_all t (range_with_len (a + 1 + n) m)))
     ∙ ap (λ (k : ℕ). (t a && list_all t (range_with_len (a + 1) n)) && list_all t (range_with_len k m)) f
 
-pub seen_more : (c : Config) (shape : FrameShape) (cells : List (Option Cell)) (ordinal address n : ℕ) (was before now : Bool)
+pub seen_more : (c : Config) (shape : FrameShape) (frame_idx : ℕ) (cells : List (Option Cell)) (ordinal address n : ℕ) (was before now : Bool)
     (expected found : Option Cell)
-    → before ≡ (was && seen_from c shape cells ordinal address n) → now ≡ (before && is_seen ordinal expected found)
-    → expected ≡ get (cell_map c shape) (address + n) → slice_get cells (address + n) ≡ Some found
-    → now ≡ (was && seen_from c shape cells ordinal address (n + 1))
-seen_more c shape cells ordinal address n was before now expected found b e x f =
-    let seen : Bool = seen_from c shape cells ordinal address n in
+    → before ≡ (was && seen_from c shape frame_idx cells ordinal address n) → now ≡ (before && is_seen ordinal expected found)
+    → expected ≡ get (cell_map c shape frame_idx) (address + n) → slice_get cells (address + n) ≡ Some found
+    → now ≡ (was && seen_from c shape frame_idx cells ordinal address (n + 1))
+seen_more c shape frame_idx cells ordinal address n was before now expected found b e x f =
+    let seen : Bool = seen_from c shape frame_idx cells ordinal address n in
     e
     ∙ ap (λ (t : Bool). t && is_seen ordinal expected found) b
     ∙ and_assoc was seen (is_seen ordinal expected found)
     ∙ ap (λ (t : Bool). was && t)
     (ap (λ (o : Option Cell). seen && is_right ordinal o (Some found)) x
-    ∙ ap (λ (o : Option (Option Cell)). seen && is_right ordinal (get (cell_map c shape) (address + n)) o) (sym f)
-    ∙ sym (from_more (right_at c shape cells ordinal) address n))
+    ∙ ap (λ (o : Option (Option Cell)). seen && is_right ordinal (get (cell_map c shape frame_idx) (address + n)) o) (sym f)
+    ∙ sym (from_more (right_at c shape frame_idx cells ordinal) address n))
 
 -- ---- one piece more
-pub pieces_seen : (c : Config) (shape : FrameShape) (cells : List (Option Cell)) (ordinal address n : ℕ) (was before now : Bool)
-    → before ≡ (was && seen_from c shape cells ordinal 0 address) → now ≡ (before && seen_from c shape cells ordinal address n)
-    → now ≡ (was && seen_from c shape cells ordinal 0 (address + n))
-pieces_seen c shape cells ordinal address n was before now b e =
+pub pieces_seen : (c : Config) (shape : FrameShape) (frame_idx : ℕ) (cells : List (Option Cell)) (ordinal address n : ℕ) (was before now : Bool)
+    → before ≡ (was && seen_from c shape frame_idx cells ordinal 0 address) → now ≡ (before && seen_from c shape frame_idx cells ordinal address n)
+    → now ≡ (was && seen_from c shape frame_idx cells ordinal 0 (address + n))
+pieces_seen c shape frame_idx cells ordinal address n was before now b e =
     let zero_on : 0 + address ≡ address = omega arith in
     e
-    ∙ ap (λ (t : Bool). t && seen_from c shape cells ordinal address n) b
-    ∙ and_assoc was (seen_from c shape cells ordinal 0 address) (seen_from c shape cells ordinal address n)
+    ∙ ap (λ (t : Bool). t && seen_from c shape frame_idx cells ordinal address n) b
+    ∙ and_assoc was (seen_from c shape frame_idx cells ordinal 0 address) (seen_from c shape frame_idx cells ordinal address n)
     ∙ ap (λ (t : Bool). was && t)
-    (ap (λ (a : ℕ). seen_from c shape cells ordinal 0 address && seen_from c shape cells ordinal a n) (sym zero_on)
-    ∙ sym (from_split (right_at c shape cells ordinal) 0 address n))
+    (ap (λ (a : ℕ). seen_from c shape frame_idx cells ordinal 0 address && seen_from c shape frame_idx cells ordinal a n) (sym zero_on)
+    ∙ sym (from_split (right_at c shape frame_idx cells ordinal) 0 address n))
 
 -- what stands there is right
 right_own : (ordinal : ℕ) (o : Option Cell) → is_right ordinal o (Some o) ≡ true
@@ -111,12 +111,12 @@ right_own ordinal (Some x) =
     second true b h = refl
     second false b h = h
 
-pub all_own : (c : Config) (shape : FrameShape) (cells : List (Option Cell)) (ordinal address n : ℕ)
-    → ((i : ℕ) → i < n → slice_get cells (address + i) ≡ Some (get (cell_map c shape) (address + i)))
-    → seen_from c shape cells ordinal address n ≡ true
-all_own c shape cells ordinal address n h = true_range (right_at c shape cells ordinal) address n
-    (λ i l. ap (λ (f : Option (Option Cell)). is_right ordinal (get (cell_map c shape) (address + i)) f) (h i l)
-    ∙ right_own ordinal (get (cell_map c shape) (address + i)))
+pub all_own : (c : Config) (shape : FrameShape) (frame_idx : ℕ) (cells : List (Option Cell)) (ordinal address n : ℕ)
+    → ((i : ℕ) → i < n → slice_get cells (address + i) ≡ Some (get (cell_map c shape frame_idx) (address + i)))
+    → seen_from c shape frame_idx cells ordinal address n ≡ true
+all_own c shape frame_idx cells ordinal address n h = true_range (right_at c shape frame_idx cells ordinal) address n
+    (λ i l. ap (λ (f : Option (Option Cell)). is_right ordinal (get (cell_map c shape frame_idx) (address + i)) f) (h i l)
+    ∙ right_own ordinal (get (cell_map c shape frame_idx) (address + i)))
 
 pub none_seen : (was : Bool) → was ≡ (was && true)
 none_seen true = refl
@@ -129,7 +129,11 @@ right_one ordinal cell found e =
     let yes : (ordinal == ordinal) ≡ true = eq-eqb ordinal ordinal refl in
     sym (ap (λ (t : Bool). not t || is_cell ordinal cell found) yes) ∙ e
 
-module _ (has : MapHasEachCell) (only : MapHasOnlyCells) (c : Config) (shape : FrameShape) (cells : List (Option Cell))
+or_second : (a b : Bool) → b ≡ true → (a || b) ≡ true
+or_second true b h = refl
+or_second false b h = h
+
+module _ (has : MapHasEachCell) (only : MapHasOnlyCells) (c : Config) (shape : FrameShape) (frame_idx : ℕ) (cells : List (Option Cell))
     (plp block : ℕ) (passes : Passes c shape)
     (configured : plp < length c.plps) (sent : block < get_or shape.counts plp 0) where
   abbrev own : ℕ
@@ -138,38 +142,43 @@ module _ (has : MapHasEachCell) (only : MapHasOnlyCells) (c : Config) (shape : F
   there : (cell : ℕ) → cell < block_cells c plp → IsCell c shape plp block cell
   there cell l = record { configured = configured; sent = sent; within = l }
 
-  stands_by : all_seen c shape cells own ≡ true → all_stand c shape cells plp block ≡ true
-  stands_by e = true_each (stands c shape cells plp block) (block_cells c plp) (λ cell l.
-      let at : ℕ = address_of c shape plp block cell in
-      let right = each_true (right_at c shape cells own) c.cells e at (passes.below plp block cell (there cell l)) in
-      right_one own cell (slice_get cells at)
-      (ap (λ (o : Option Cell). is_right own o (slice_get cells at)) (sym (has c shape plp block cell passes (there cell l)))
-      ∙ right))
+  stands_by : all_seen c shape frame_idx cells own ≡ true → all_stand c shape frame_idx cells plp block ≡ true
+  stands_by e = true_each (stands c shape frame_idx cells plp block) (block_cells c plp) (λ cell l.
+      let at : ℕ = address_of c shape frame_idx plp block cell in
+      bool_cases (is_carried c shape frame_idx plp block cell)
+      (λ yes.
+      let here : IsCarried c shape frame_idx plp block cell = record { there = there cell l; carried = eqb-true _ _ yes } in
+      let right = each_true (right_at c shape frame_idx cells own) c.cells e at (passes.below frame_idx plp block cell here) in
+      or_second (not (is_carried c shape frame_idx plp block cell)) (is_cell own cell (slice_get cells at))
+      (right_one own cell (slice_get cells at)
+      (ap (λ (o : Option Cell). is_right own o (slice_get cells at)) (sym (has c shape frame_idx plp block cell passes here))
+      ∙ right)))
+      (λ none. ap (λ (t : Bool). not t || is_cell own cell (slice_get cells at)) none))
 
-  right_here : all_stand c shape cells plp block ≡ true → (at : ℕ) (o : Option Cell) → get (cell_map c shape) at ≡ o
-      → is_right own o (slice_get cells at) ≡ true
+  right_here : all_stand c shape frame_idx cells plp block ≡ true → (at : ℕ) (o : Option Cell)
+      → get (cell_map c shape frame_idx) at ≡ o → is_right own o (slice_get cells at) ≡ true
   right_here e at None g = refl
   right_here e at (Some x) g = bool_cases (x.ordinal == own)
       (λ same.
-      let s = only c shape at x g in
+      let s = only c shape frame_idx at x g in
       let is : x.ordinal ≡ own = eqb-true x.ordinal own same in
-      let one = ordinals_apart shape.counts s.plp s.block plp block s.there.sent sent (sym s.ordinal ∙ is) in
-      let within : x.cell < block_cells c plp = subst (λ (p : ℕ). x.cell < block_cells c p) one.0 s.there.within in
-      let standing : is_cell own x.cell (slice_get cells (address_of c shape plp block x.cell)) ≡ true =
-      each_true (stands c shape cells plp block) (block_cells c plp) e x.cell within in
-      let place : address_of c shape plp block x.cell ≡ at =
-      ap (λ (b : ℕ). address_of c shape plp b x.cell) (sym one.1) ∙ ap (λ (p : ℕ). address_of c shape p s.block x.cell)
-      (sym one.0) ∙ s.value in
+      let one = ordinals_apart shape.counts s.plp s.block plp block s.there.there.sent sent (sym s.ordinal ∙ is) in
+      let here : IsCarried c shape frame_idx plp block x.cell =
+      subst (λ (b : ℕ). IsCarried c shape frame_idx plp b x.cell) one.1
+      (subst (λ (p : ℕ). IsCarried c shape frame_idx p s.block x.cell) one.0 s.there) in
+      let standing : is_cell own x.cell (slice_get cells (address_of c shape frame_idx plp block x.cell)) ≡ true =
+      sym (ap (λ (t : Bool). not t || is_cell own x.cell (slice_get cells (address_of c shape frame_idx plp block x.cell)))
+      (eq-eqb _ _ here.carried))
+      ∙ each_true (stands c shape frame_idx cells plp block) (block_cells c plp) e x.cell here.there.within in
+      let place : address_of c shape frame_idx plp block x.cell ≡ at =
+      ap (λ (b : ℕ). address_of c shape frame_idx plp b x.cell) (sym one.1)
+      ∙ ap (λ (p : ℕ). address_of c shape frame_idx p s.block x.cell) (sym one.0) ∙ s.value in
       let found : is_cell x.ordinal x.cell (slice_get cells at) ≡ true =
       ap (λ (o : ℕ). is_cell o x.cell (slice_get cells at)) is ∙ ap (λ (a : ℕ). is_cell own x.cell (slice_get cells a))
       (sym place) ∙ standing in
       or_second (not (x.ordinal == own)) (is_cell x.ordinal x.cell (slice_get cells at)) found)
       (λ other. ap (λ (t : Bool). not t || is_cell x.ordinal x.cell (slice_get cells at)) other)
-    where
-      or_second : (a b : Bool) → b ≡ true → (a || b) ≡ true
-      or_second true b h = refl
-      or_second false b h = h
 
-  pub seen_stand : all_seen c shape cells own ≡ all_stand c shape cells plp block
-  seen_stand = same_test (all_seen c shape cells own) (all_stand c shape cells plp block) stands_by
-      (λ e. true_each (right_at c shape cells own) c.cells (λ at l. right_here e at (get (cell_map c shape) at) refl))
+  pub seen_stand : all_seen c shape frame_idx cells own ≡ all_stand c shape frame_idx cells plp block
+  seen_stand = same_test (all_seen c shape frame_idx cells own) (all_stand c shape frame_idx cells plp block) stands_by
+      (λ e. true_each (right_at c shape frame_idx cells own) c.cells (λ at l. right_here e at (get (cell_map c shape frame_idx) at) refl))

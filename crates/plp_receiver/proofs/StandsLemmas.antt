@@ -1,5 +1,5 @@
 -- What a receiver stands for, record by record.
-use Rattle.std.proofs.Common.{◌≡◌, ℕ, suc, ◌+◌, ◌-◌, ◌<◌, ◌≤◌, Bool, false, List, [], ◌∷◌, ◌++◌, length, Option, Some, refl, ap}
+use Rattle.std.proofs.Common.{◌≡◌, ℕ, suc, ◌+◌, ◌-◌, ◌≤◌, Bool, false, List, [], ◌∷◌, ◌++◌, length, Option, Some, refl, ap}
 use Rattle.std.proofs.Common.{sym, subst, ◌∙◌, arith}
 use Rattle.std.specs.Prelude.{slice_get, nat_lt, if◌then◌else◌}
 use Rattle.plp_config.specs.declared.config.Config.{Config}
@@ -15,13 +15,9 @@ use Rattle.packet_slots.specs.declared.slots.PacketSlots.{PacketSlots}
 use Rattle.packet_slots.specs.declared.slot_rule.SlotRule.{SlotRule}
 use Rattle.plp_receiver.specs.Readable.{readable}
 use Rattle.plp_receiver.specs.Laws.{ReadbackOnce}
-use Rattle.packet_slots.specs.Times.{over_after}
-use Rattle.plp_config.specs.Laws.{SlotLength}
-use Rattle.plp_config.specs.Rules.{AllRules}
-use Rattle.plp_receiver.specs.StandsFor.{Stands, Fresh, slots_over, slots_come}
-use Rattle.plp_receiver.specs.Taken.{TellsShape, Tells, TellAll, Readback}
+use Rattle.plp_receiver.specs.StandsFor.{Stands, Fresh, slots_come}
+use Rattle.plp_receiver.specs.Taken.{slot_rule, TellsShape, Tells, TellAll, Readback}
 use Rattle.plp_receiver.specs.Taking.{Comes, TakesFrame, TakesRecord}
-use Rattle.plp_receiver.proofs.RuleLemmas.{same_slots}
 
 -- one record more
 tell_more : (c : Config) (plp n m : ℕ) (views : List RecordView) (told : List Record) (view : RecordView) (r : Record)
@@ -52,13 +48,11 @@ pub record_came : (c : Config) (plp : ℕ) (old new : PacketSlots) (view : Recor
     → Stands c plp old first views released → Stands c plp new first (views ++ view ∷ []) released
 record_came c plp old new view first views released t s =
     let count = same_count c plp first views s.told s.tells in
-    let here = next_is old s.rule first s.told released s.stands in
+    let here = next_is old (slot_rule c plp) first s.told released s.stands in
     record {
-      rule = s.rule;
-      rule_is = s.rule_is;
       told = s.told ++ t.told ∷ [];
       tells = tell_more c plp first (slots.frame_of old) views s.told view t.told s.tells (omega (arith, here, count)) t.tells;
-      stands = t.comes s.rule first s.told released s.stands;
+      stands = t.comes (slot_rule c plp) first s.told released s.stands;
     }
 
 pub muted_taken : (c : Config) (plp n : ℕ) (view : RecordView) (moment : Moment) (old new : PacketSlots) → view ≡ Muted moment
@@ -80,11 +74,11 @@ came_framed c d plp q old new view framed first views released same_c same_p sam
 pub begun : (c : Config) (plp : ℕ) (old new : PacketSlots) (first : ℕ) → Fresh c plp old
     → ((r : SlotRule) → slots.IsFresh old r → slots.StandsFor new r first [] 0) → Stands c plp new first [] 0
 begun c plp old new first f step =
-    record { rule = f.rule; rule_is = f.rule_is; told = []; tells = tt; stands = step f.rule f.fresh }
+    record { told = []; tells = tt; stands = step (slot_rule c plp) f }
 
 pub is_empty : (c : Config) (plp : ℕ) (old : PacketSlots) → Fresh c plp old → old.window.slots.items ≡ []
 unfolding slots.IsFresh
-is_empty c plp old f = f.fresh.empty
+is_empty c plp old f = f.empty
 
 -- ---- what is given out
 -- none is due before a record came
@@ -96,13 +90,13 @@ none_due p r f = let none = ap length f.empty in let span = p.window.span in let
 pub still_fresh : (c : Config) (plp : ℕ) (old new : PacketSlots) → Fresh c plp old → (result : Bool)
     → result ≡ nat_lt 0 (slots.due_of old) → (result ≡ false → new ≡ old) → Fresh c plp new
 still_fresh c plp old new f result due same =
-    subst (Fresh c plp) (sym (same (due ∙ ap (nat_lt 0) (none_due old f.rule f.fresh)))) f
+    subst (Fresh c plp) (sym (same (due ∙ ap (nat_lt 0) (none_due old (slot_rule c plp) f)))) f
 
 -- the packets that the slots show
 pub given_back : (c : Config) (plp : ℕ) (p : PacketSlots) (first : ℕ) (views : List RecordView) (released : ℕ)
-    → (s : Stands c plp p first views released) → Readback c plp first views (readback s.rule first s.told)
+    → (s : Stands c plp p first views released) → Readback c plp first views (readback (slot_rule c plp) first s.told)
 given_back c plp p first views released s =
-    record { rule = s.rule; rule_is = s.rule_is; told = s.told; tells = s.tells; packets_are = refl }
+    record { told = s.told; tells = s.tells; packets_are = refl }
 
 pub due_is : ReadbackOnce → (c : Config) (plp : ℕ) (p : PacketSlots) (first : ℕ) (views : List RecordView) (released : ℕ)
     (packets : List (List ℕ)) (due : ℕ)
@@ -111,9 +105,9 @@ pub due_is : ReadbackOnce → (c : Config) (plp : ℕ) (p : PacketSlots) (first 
     → due ≡ length (readback r first records) - released)
     → due ≡ length packets - released
 due_is once c plp p first views released packets due s b answer =
-    answer s.rule first s.told released s.stands
+    answer (slot_rule c plp) first s.told released s.stands
     ∙ ap (λ (l : List (List ℕ)). length l - released)
-    (once c plp first views (readback s.rule first s.told) packets (given_back c plp p first views released s) b)
+    (once c plp first views (readback (slot_rule c plp) first s.told) packets (given_back c plp p first views released s) b)
 
 pub none_is : ReadbackOnce → (c : Config) (plp : ℕ) (p : PacketSlots) (first : ℕ) (views : List RecordView) (released : ℕ)
     (packets : List (List ℕ))
@@ -123,21 +117,17 @@ pub none_is : ReadbackOnce → (c : Config) (plp : ℕ) (p : PacketSlots) (first
     → length packets ≤ released
 none_is once c plp p first views released packets s b answer =
     subst (λ (l : List (List ℕ)). length l ≤ released)
-    (once c plp first views (readback s.rule first s.told) packets (given_back c plp p first views released s) b)
-    (answer s.rule first s.told released s.stands)
+    (once c plp first views (readback (slot_rule c plp) first s.told) packets (given_back c plp p first views released s) b)
+    (answer (slot_rule c plp) first s.told released s.stands)
 
-pub held_is : SlotLength → (c : Config) (plp : ℕ) (p : PacketSlots) (first : ℕ) (views : List RecordView) (released held : ℕ)
-    → AllRules c → plp < length c.plps → Stands c plp p first views released
+pub held_is : (c : Config) (plp : ℕ) (p : PacketSlots) (first : ℕ) (views : List RecordView) (released held : ℕ)
+    → Stands c plp p first views released
     → ((r : SlotRule) (first : ℕ) (records : List Record) (released : ℕ) → slots.StandsFor p r first records released
     → held ≡ held_slots r first (length records) - released)
     → held ≡ slots_come c plp first (length views) - released
-held_is law c plp p first views released held rules inside s answer =
-    answer s.rule first s.told released s.stands
-    ∙ ap (λ (n : ℕ). held_slots s.rule first n - released) (same_count c plp first views s.told s.tells)
-    ∙ ap (λ (n : ℕ). n - over_after s.rule (first - 1) - released)
-    (same_slots law c plp s.rule (first + length views - 1) rules inside s.rule_is)
-    ∙ ap (λ (n : ℕ). slots_over c plp (first + length views - 1) - n - released)
-    (same_slots law c plp s.rule (first - 1) rules inside s.rule_is)
+held_is c plp p first views released held s answer =
+    answer (slot_rule c plp) first s.told released s.stands
+    ∙ ap (λ (n : ℕ). held_slots (slot_rule c plp) first n - released) (same_count c plp first views s.told s.tells)
 
 pub packet_is : ReadbackOnce → (c : Config) (plp : ℕ) (p : PacketSlots) (first : ℕ) (views : List RecordView) (released : ℕ)
     (packets : List (List ℕ)) (out : List ℕ)
@@ -147,8 +137,8 @@ pub packet_is : ReadbackOnce → (c : Config) (plp : ℕ) (p : PacketSlots) (fir
     → slice_get packets released ≡ Some out
 packet_is once c plp p first views released packets out s b answer =
     sym (ap (λ (l : List (List ℕ)). slice_get l released)
-    (once c plp first views (readback s.rule first s.told) packets (given_back c plp p first views released s) b))
-    ∙ answer s.rule first s.told released s.stands
+    (once c plp first views (readback (slot_rule c plp) first s.told) packets (given_back c plp p first views released s) b))
+    ∙ answer (slot_rule c plp) first s.told released s.stands
 
 pub released_or_not : (c : Config) (plp : ℕ) (old new : PacketSlots) (first : ℕ) (views : List RecordView) (released : ℕ)
     (result : Bool) → Stands c plp old first views released
@@ -157,21 +147,19 @@ pub released_or_not : (c : Config) (plp : ℕ) (old new : PacketSlots) (first : 
     → Stands c plp new first views (if result then released + 1 else released)
 released_or_not c plp old new first views released result s step =
     record {
-      rule = s.rule;
-      rule_is = s.rule_is;
       told = s.told;
       tells = s.tells;
-      stands = step s.rule first s.told released s.stands;
+      stands = step (slot_rule c plp) first s.told released s.stands;
     }
 
 -- ---- a readable record
 pub readable_taken : (c : Config) (plp n : ℕ) (moment : Moment) (pre post : List Bool) (blocks : List frame.Block)
     (cells : List (Option Cell)) (shape : FrameShape) (old new : PacketSlots)
-    → readable c n pre post blocks cells ≡ Some shape → TakesFrame c plp shape blocks cells old new
+    → readable c n pre post blocks cells ≡ Some shape → TakesFrame c plp n shape blocks cells old new
     → TakesRecord c plp n (Frame moment pre post blocks cells) old new
 readable_taken c plp n moment pre post blocks cells shape old new e t = record {
   told = framed_record t.told;
-  tells = subst (λ (o : Option FrameShape). TellsShape c plp blocks cells o (framed_record t.told)) (sym e)
+  tells = subst (λ (o : Option FrameShape). TellsShape c plp n blocks cells o (framed_record t.told)) (sym e)
       (t.told, t.tells, refl);
   comes = t.comes;
 }

@@ -1,5 +1,5 @@
 -- Blocks that were taken, one by one.
-use Rattle.std.proofs.Common.{◌≡◌, ℕ, zero, suc, ◌+◌, ◌<◌, ◌≤◌, ◌==◌, ◌&&◌, Bool, true, false, List, [], ◌∷◌, ◌++◌, length}
+use Rattle.std.proofs.Common.{◌%◌, ◌≡◌, ℕ, zero, suc, ◌+◌, ◌<◌, ◌≤◌, ◌==◌, ◌&&◌, Bool, true, false, List, [], ◌∷◌, ◌++◌, length}
 use Rattle.std.proofs.Common.{get_or, take, drop, arith, Option, Some, None, refl, ap, sym, subst, ◌∙◌, append_assoc, append-nil}
 use Rattle.std.specs.Prelude.{slice_get, slice_index, sum}
 use Rattle.std.specs.Cmp.Lexicographic.{pointwise}
@@ -13,6 +13,7 @@ use Rattle.cell_map.specs.CellMap.{Passes, ordinal_of}
 use Rattle.cell_map.specs.declared.places.Cell.{Cell}
 use Rattle.frame_tests.specs.Laws.{MapPasses}
 use Rattle.frame_tests.specs.MapTest.{map_passes}
+use Rattle.plp_config.specs.Capacity.{IsPlan}
 use Rattle.plp_config.specs.Plps.{plp_at}
 use Rattle.plp_config.specs.declared.config.Config.{Config}
 use Rattle.scheduler.specs.Shape.{FrameShape}
@@ -94,13 +95,13 @@ pub record Agrees (c : Config) (blocks : List frame.Block) (cells : List (Option
   pub all : length cells ≡ c.cells
   pub passes : Passes c shape
 
-pub agrees : MapPasses → (c : Config) (blocks : List frame.Block) (cells : List (Option Cell)) (shape : FrameShape)
+pub agrees : MapPasses → (c : Config) (blocks : List frame.Block) (cells : List (Option Cell)) (shape : FrameShape) → IsPlan c
     → shape_agrees c blocks cells shape ≡ true → Agrees c blocks cells shape
-agrees law c blocks cells shape e =
+agrees law c blocks cells shape plan e =
     let sizes : Bool = pointwise has_size blocks (block_sizes c shape) in
     let a = and_parts (sizes && (length cells == c.cells)) (map_passes c shape) e in
     let b = and_parts sizes (length cells == c.cells) a.0 in
-    record { sizes = b.0; all = eqb-true (length cells) c.cells b.1; passes = (law c shape).0 a.1 }
+    record { sizes = b.0; all = eqb-true (length cells) c.cells b.1; passes = (law c shape plan).0 a.1 }
 
 zip_over : {B : Type 0} (R S : ℕ → B → Type 0) (a n : ℕ) (ys : List B) → ((k : ℕ) (y : B) → a ≤ k → k < a + n → R k y → S k y)
     → AllZip R (range_with_len a n) ys → AllZip S (range_with_len a n) ys
@@ -113,10 +114,10 @@ zip_over R S a (suc n) (y ∷ ys) f z = (
       z.1,
 )
 
-pub frame_taken : (c : Config) (plp : ℕ) (shape : FrameShape) (blocks rest : List frame.Block) (cells : List (Option Cell))
+pub frame_taken : (c : Config) (plp n : ℕ) (shape : FrameShape) (blocks rest : List frame.Block) (cells : List (Option Cell))
     (stands : List Bool) (deletes : Bool) (old begun within new : PacketSlots)
     → length stands ≡ slice_index shape.counts plp
-    → ((k : ℕ) → k < length stands → get_or stands k false ≡ all_stand c shape cells plp k)
+    → ((k : ℕ) → k < length stands → get_or stands k false ≡ all_stand c shape (n % c.frames) cells plp k)
     → rest ≡ drop (sum (take plp shape.counts)) blocks → deletes ≡ (plp_at c.plps plp).delete
     → ((r : SlotRule) (first : ℕ) (records : List Record) (released : ℕ) → StandsFor old r first records released
     → StandsWithin begun r first records [] released)
@@ -124,10 +125,10 @@ pub frame_taken : (c : Config) (plp : ℕ) (shape : FrameShape) (blocks rest : L
     → ((r : SlotRule) (first : ℕ) (records : List Record) (taken : List (Option Block)) (released : ℕ)
     → StandsWithin within r first records taken released
     → StandsFor new r first (records ++ framed_record taken ∷ []) released)
-    → TakesFrame c plp shape blocks cells old new
-frame_taken c plp shape blocks rest cells stands deletes old begun within new count each behind own begins t ends = record {
+    → TakesFrame c plp n shape blocks cells old new
+frame_taken c plp n shape blocks rest cells stands deletes old begun within new count each behind own begins t ends = record {
   told = t.told;
-  tells = subst (λ (n : ℕ). AllZip Given (range_with_len 0 n) t.told) count
+  tells = subst (λ (k : ℕ). AllZip Given (range_with_len 0 k) t.told) count
       (zip_over (IsGivenAt deletes stands rest) Given 0 (length stands) t.told here t.given);
   comes = λ r first records released s. ends r first records t.told released
       (t.adds r first records [] released (begins r first records released s));
@@ -137,13 +138,13 @@ frame_taken c plp shape blocks rest cells stands deletes old begun within new co
     front = sum (take plp shape.counts)
 
     Given : ℕ → Option Block → Type 0
-    Given k b = IsGiven (plp_at c.plps plp).delete (all_stand c shape cells plp k) (bytes_at blocks (ordinal_of shape plp k)) b
+    Given k b = IsGiven (plp_at c.plps plp).delete (all_stand c shape (n % c.frames) cells plp k) (bytes_at blocks (ordinal_of shape plp k)) b
 
     here : (k : ℕ) (b : Option Block) → 0 ≤ k → k < 0 + length stands → IsGivenAt deletes stands rest k b → Given k b
     here k b low inside g =
         let same : bytes_at rest k ≡ bytes_at blocks (front + k) =
         ap (λ (l : List frame.Block). bytes_at l k) behind ∙ ap (λ (o : Option frame.Block). option_map_or (λ x. x.bytes) o [])
         (slice_get_drop blocks front k (front + k) refl) in
-        subst (λ (d : Bool). IsGiven d (all_stand c shape cells plp k) (bytes_at blocks (front + k)) b) own
+        subst (λ (d : Bool). IsGiven d (all_stand c shape (n % c.frames) cells plp k) (bytes_at blocks (front + k)) b) own
         (subst (λ (x : Bool). IsGiven deletes x (bytes_at blocks (front + k)) b) (each k (omega (arith, inside)))
         (subst (λ (l : List ℕ). IsGiven deletes (get_or stands k false) l b) same g))

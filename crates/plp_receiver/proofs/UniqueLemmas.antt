@@ -1,9 +1,8 @@
 -- A PLP is given back one list of packets: its rule is one, and records tell one thing.
-use Rattle.std.proofs.Common.{◌≡◌, ℕ, ◌+◌, ◌/◌, ◌==◌, ◌<◌, Bool, true, false, List, [], ◌∷◌, ◌++◌, length, Option, Some, None}
+use Rattle.std.proofs.Common.{◌%◌, ◌≡◌, ℕ, ◌+◌, ◌/◌, ◌==◌, ◌<◌, Bool, true, false, List, [], ◌∷◌, ◌++◌, length, Option, Some, None}
 use Rattle.std.proofs.Common.{refl, ap, ap₂, sym, ◌∙◌, cond}
 use Rattle.std.specs.Prelude.{slice_index}
 use Rattle.std.specs.List.{AllZip, range_with_len}
-use Rattle.std.proofs.lemmas.Nat.Gcd.{same_from_IsGcd}
 use Rattle.terms.specs.Bits.{bits_of, bytes_of}
 use Rattle.bb_frame.specs.Scrambled.{scrambled}
 use Rattle.bb_frame.specs.declared.header.Header.{Header}
@@ -11,9 +10,8 @@ use Rattle.bb_frame.specs.Laws.{BitCounts}
 use Rattle.cell_map.specs.CellMap.{ordinal_of}
 use Rattle.cell_map.specs.declared.places.Cell.{Cell}
 use Rattle.plp_config.specs.Capacity.{IsPlan}
-use Rattle.plp_config.specs.Laws.{SlotLength, FrameTicks, UserPacketRange}
+use Rattle.plp_config.specs.Laws.{SoundTimes, UserPacketRange}
 use Rattle.plp_config.specs.Plps.{plp_at}
-use Rattle.plp_config.specs.SlotTime.{num, den}
 use Rattle.plp_config.specs.declared.config.Config.{Config}
 use Rattle.scheduler.specs.Shape.{FrameShape}
 use Rattle.site_frame.specs.Record as frame
@@ -22,11 +20,12 @@ use Rattle.site_frame.specs.declared.reading.RecordView.TheVariants.{Frame, Mute
 use Rattle.packet_slots.specs.Laws as slots
 use Rattle.packet_slots.specs.Records.{Record, framed_record, readback}
 use Rattle.packet_slots.specs.Strings.{Block}
-use Rattle.packet_slots.specs.declared.slot_rule.SlotRule.{SlotRule}
 use Rattle.plp_receiver.specs.Readable.{readable, all_stand}
-use Rattle.plp_receiver.specs.Taken.{no_start, block_read, IsTaken, IsTold, IsGiven, bytes_at, TellsShape, Tells, TellAll, IsRule}
+use Rattle.bb_frame.specs.declared.header.TheConstants.{NO_START}
+use Rattle.plp_receiver.specs.Taken.{block_read, IsTaken, IsTold, IsGiven, bytes_at, TellsShape, Tells, TellAll, slot_rule}
+use Rattle.bb_frame.specs.declared.header.TheConstants.{NO_START}
 use Rattle.plp_receiver.specs.Taken.{Readback}
-use Rattle.plp_receiver.proofs.RuleLemmas.{rule_sound}
+use Rattle.packet_slots.specs.Sound.{IsSound}
 use Rattle.plp_receiver.proofs.SpelledLemmas.{spelled_once}
 
 -- ---- a block
@@ -36,7 +35,7 @@ same_block h k field other s i f =
     ap (λ (n : ℕ). block_with n h.issy field) s ∙ ap (λ (n : ℕ). block_with k.syncd n field) i ∙ ap (block_with k.syncd k.issy) f
   where
     block_with : ℕ → ℕ → List ℕ → Block
-    block_with syncd issy field = record { first = cond (syncd == no_start) None (Some (syncd / 8)); issy = issy; field = field }
+    block_with syncd issy field = record { first = cond (syncd == NO_START) None (Some (syncd / 8)); issy = issy; field = field }
 
 taken_once : BitCounts → (deletes : Bool) (bits : List Bool) (b other : Block) → IsTaken deletes bits b
     → IsTaken deletes bits other → b ≡ other
@@ -68,16 +67,16 @@ zip_once R one (x ∷ xs) (y ∷ ys) (z ∷ zs) s t =
     ap₂ (λ (v : _) (l : _). v ∷ l) (one x y z s.0 t.0) (zip_once R one xs ys zs s.1 t.1)
 
 -- ---- a record
-shape_once : BitCounts → (c : Config) (plp : ℕ) (blocks : List frame.Block) (cells : List (Option Cell)) (o : Option FrameShape)
+shape_once : BitCounts → (c : Config) (plp n : ℕ) (blocks : List frame.Block) (cells : List (Option Cell)) (o : Option FrameShape)
     (a b : Record)
-    → TellsShape c plp blocks cells o a → TellsShape c plp blocks cells o b → a ≡ b
-shape_once counts c plp blocks cells None a b s t = s ∙ sym t
-shape_once counts c plp blocks cells (Some shape) a b s t =
+    → TellsShape c plp n blocks cells o a → TellsShape c plp n blocks cells o b → a ≡ b
+shape_once counts c plp n blocks cells None a b s t = s ∙ sym t
+shape_once counts c plp n blocks cells (Some shape) a b s t =
     s.2
     ∙ ap framed_record (zip_once
-    (λ block b. IsGiven (plp_at c.plps plp).delete (all_stand c shape cells plp block)
+    (λ block b. IsGiven (plp_at c.plps plp).delete (all_stand c shape (n % c.frames) cells plp block)
     (bytes_at blocks (ordinal_of shape plp block)) b)
-    (λ block x y p q. given_once counts (plp_at c.plps plp).delete (all_stand c shape cells plp block)
+    (λ block x y p q. given_once counts (plp_at c.plps plp).delete (all_stand c shape (n % c.frames) cells plp block)
     (bytes_at blocks (ordinal_of shape plp block)) x y p q)
     (range_with_len 0 (slice_index shape.counts plp)) s.0 t.0 s.1 t.1)
     ∙ sym t.2
@@ -86,7 +85,7 @@ tells_once : BitCounts → (c : Config) (plp n : ℕ) (view : RecordView) (a b :
     → a ≡ b
 tells_once counts c plp n (Muted moment) a b s t = s ∙ sym t
 tells_once counts c plp n (Frame moment pre post blocks cells) a b s t =
-    shape_once counts c plp blocks cells (readable c n pre post blocks cells) a b s t
+    shape_once counts c plp n blocks cells (readable c n pre post blocks cells) a b s t
 
 pub tell_all_once : BitCounts → (c : Config) (plp n : ℕ) (views : List RecordView) (a b : List Record) → TellAll c plp n views a
     → TellAll c plp n views b → a ≡ b
@@ -99,33 +98,16 @@ tell_all_once counts c plp n (v ∷ views) (x ∷ a) (y ∷ b) s t =
     ap₂ (λ (r : Record) (l : List Record). r ∷ l) (tells_once counts c plp n v x y s.0 t.0)
     (tell_all_once counts c plp (n + 1) views a b s.1 t.1)
 
--- ---- the rule
-abbrev rule_with : ℕ → ℕ → ℕ → ℕ → Bool → SlotRule
-rule_with num den ticks up_len deletes = record { num = num; den = den; ticks = ticks; up_len = up_len; deletes = deletes }
-
-pub rule_once : (c : Config) (plp : ℕ) (r s : SlotRule) → IsRule c plp r → IsRule c plp s → r ≡ s
-rule_once c plp r s a b =
-    let g = same_from_IsGcd (num c) (den c plp) a.slot.0 b.slot.0 a.slot.1 b.slot.1 in
-    let n : r.num ≡ s.num = a.slot.2 ∙ ap (λ (d : ℕ). num c / d) g ∙ sym b.slot.2 in
-    let d : r.den ≡ s.den = a.slot.3 ∙ ap (λ (d : ℕ). den c plp / d) g ∙ sym b.slot.3 in
-    ap (λ (x : ℕ). rule_with x r.den r.ticks r.up_len r.deletes) n
-    ∙ ap (λ (x : ℕ). rule_with s.num x r.ticks r.up_len r.deletes) d
-    ∙ ap (λ (x : ℕ). rule_with s.num s.den x r.up_len r.deletes) (a.ticks ∙ sym b.ticks)
-    ∙ ap (λ (x : ℕ). rule_with s.num s.den s.ticks x r.deletes) (a.up_len ∙ sym b.up_len)
-    ∙ ap (λ (x : Bool). rule_with s.num s.den s.ticks s.up_len x) (a.deletes ∙ sym b.deletes)
-
 -- ---- the packets
-pub packets_are : BitCounts → (c : Config) (plp first : ℕ) (views : List RecordView) (packets : List (List ℕ)) (r : SlotRule)
-    (told : List Record)
-    → Readback c plp first views packets → IsRule c plp r → TellAll c plp first views told → packets ≡ readback r first told
-packets_are counts c plp first views packets r told b is tells =
-    b.packets_are ∙ ap₂ (λ (s : SlotRule) (l : List Record). readback s first l) (rule_once c plp b.rule r b.rule_is is)
-    (tell_all_once counts c plp first views b.told told b.tells tells)
+pub packets_are : BitCounts → (c : Config) (plp first : ℕ) (views : List RecordView) (packets : List (List ℕ)) (told : List Record)
+    → Readback c plp first views packets → TellAll c plp first views told → packets ≡ readback (slot_rule c plp) first told
+packets_are counts c plp first views packets told b tells =
+    b.packets_are ∙ ap (readback (slot_rule c plp) first) (tell_all_once counts c plp first views b.told told b.tells tells)
 
 pub readback_once : BitCounts → (c : Config) (plp first : ℕ) (views : List RecordView) (packets other : List (List ℕ))
     → Readback c plp first views packets → Readback c plp first views other → packets ≡ other
 readback_once counts c plp first views packets other a b =
-    packets_are counts c plp first views packets b.rule b.told a b.rule_is b.tells ∙ sym b.packets_are
+    packets_are counts c plp first views packets b.told a b.tells ∙ sym b.packets_are
 
 -- those of the first records are a prefix
 tell_front : (c : Config) (plp n : ℕ) (views more : List RecordView) (told : List Record) → TellAll c plp n (views ++ more) told
@@ -136,16 +118,16 @@ tell_front c plp n (v ∷ views) more (x ∷ told) t =
     let rest = tell_front c plp (n + 1) views more told t.1 in
     (x ∷ rest.0, rest.1, (t.0, rest.2), ap (λ (l : List Record). x ∷ l) rest.3)
 
-pub readback_front : BitCounts → SlotLength → FrameTicks → UserPacketRange → slots.ReadbackFront
+pub readback_front : BitCounts → SoundTimes → UserPacketRange → slots.ReadbackFront
     → (c : Config) (plp first : ℕ) (views more : List RecordView) (packets all : List (List ℕ))
     → IsPlan c → plp < length c.plps → Readback c plp first views packets → Readback c plp first (views ++ more) all
     → (others : List (List ℕ)) × (all ≡ packets ++ others)
-readback_front counts slot frame up law c plp first views more packets all plan inside a b =
+readback_front counts times up law c plp first views more packets all plan inside a b =
     let parts = tell_front c plp first views more b.told b.tells in
-    let sound = rule_sound slot frame up c plp b.rule plan.rules inside b.rule_is in
-    let prefix = law b.rule first parts.0 parts.1 sound in
-    let own = packets_are counts c plp first views packets b.rule parts.0 a b.rule_is parts.2 in (
+    let sound : IsSound (slot_rule c plp) = record { times = times c plp plan.rules inside; up = up c plp } in
+    let prefix = law (slot_rule c plp) first parts.0 parts.1 sound in
+    let own = packets_are counts c plp first views packets parts.0 a parts.2 in (
       prefix.0,
-      b.packets_are ∙ ap (readback b.rule first) parts.3 ∙ prefix.1 ∙ ap (λ (l : List (List ℕ)). l ++ prefix.0)
+      b.packets_are ∙ ap (readback (slot_rule c plp) first) parts.3 ∙ prefix.1 ∙ ap (λ (l : List (List ℕ)). l ++ prefix.0)
           (sym own),
     )

@@ -1,5 +1,5 @@
 -- Which records of frames are readable, and what they tell (EN 302 755, clauses 5 to 8).
-use Rattle.std.specs.Prelude.{ℕ, ◌+◌, ◌-◌, ◌*◌, ◌==◌, ◌&&◌, Bool, true, false, List, length, take, replicate, slice_get}
+use Rattle.std.specs.Prelude.{ℕ, ◌-◌, ◌==◌, ◌&&◌, ◌||◌, not, Bool, true, false, List, length, take, replicate, slice_get}
 use Rattle.std.specs.Prelude.{slice_index, Option, Some, None, if◌then◌else◌, option_map}
 use Rattle.std.specs.Bool.{beq}
 use Rattle.std.specs.Cmp.Lexicographic.{pointwise}
@@ -11,40 +11,29 @@ use Rattle.plp_config.specs.Plps.{plp_at}
 use Rattle.plp_config.specs.declared.config.Config.{Config}
 use Rattle.scheduler.specs.Shape.{FrameShape}
 use Rattle.cell_map.specs.Address.{address_of}
-use Rattle.cell_map.specs.CellMap.{ordinal_of}
+use Rattle.cell_map.specs.CellMap.{ordinal_of, is_carried}
 use Rattle.cell_map.specs.declared.places.Cell.{Cell}
 use Rattle.l1_signal.specs.L1Configurable.{conf_read, info_size}
 use Rattle.l1_signal.specs.L1Dynamic.{dyn_read}
 use Rattle.l1_signal.specs.L1Of.{told_shape}
+use Rattle.l1_signal.specs.Lengths.{conf_len, dyn_len, post_len}
 use Rattle.l1_signal.specs.L1Pre.{pre_reading}
 use Rattle.l1_signal.specs.Laws.{crc_behind}
 use Rattle.l1_signal.specs.declared.dynamic.L1Dyn.{L1Dyn}
+use Rattle.l1_signal.specs.declared.lengths.TheConstants.{CRC_BITS}
 use Rattle.frame_tests.specs.MapTest.{map_passes, each_below}
 use Rattle.frame_tests.specs.Tests.{read_whole, pre_agrees, conf_agrees, dyn_agrees}
 use Rattle.site_frame.specs.Record.{Block}
 
--- the bits of the parts of L1-post: configurable, dynamic, CRC_32 (clause 7.2.3)
-abbrev pub conf_len : Config → ℕ
-conf_len c = 102 + 89 * length c.plps
-
-abbrev pub dyn_len : Config → ℕ
-dyn_len c = 79 + 48 * length c.plps
-
-abbrev pub crc_len : ℕ
-crc_len = 32
-
-abbrev pub post_len : Config → ℕ
-post_len c = conf_len c + dyn_len c + crc_len
-
 -- the dynamic part of L1-post, if it reads
 abbrev pub told_dynamic : Config → List Bool → Option L1Dyn
-told_dynamic c post = read_whole (dyn_read (length c.plps) (part post (conf_len c) (dyn_len c)))
+told_dynamic c post = read_whole (dyn_read (length c.plps) (part post (conf_len (length c.plps)) (dyn_len (length c.plps))))
 
 -- L1-post has its length and its CRC_32, the configuration's configurable part, and a dynamic part of frame n
 abbrev pub post_agrees : Config → ℕ → List Bool → Bool
 post_agrees c n post =
-    (length post == post_len c) && pointwise beq post (crc_behind true (take (length post - crc_len) post))
-    && conf_agrees c (read_whole (conf_read (info_size (length c.plps)) (take (conf_len c) post))) && dyn_agrees c n
+    (length post == post_len (length c.plps)) && pointwise beq post (crc_behind true (take (length post - CRC_BITS) post))
+    && conf_agrees c (read_whole (conf_read (info_size (length c.plps)) (take (conf_len (length c.plps)) post))) && dyn_agrees c n
     (told_dynamic c post)
 
 -- the PLP_ID and the length of each block of a frame of this shape: PLP by PLP, in order
@@ -76,16 +65,18 @@ readable c n pre post blocks cells =
     if pre_agrees c (read_whole (pre_reading true pre)) && post_agrees c n post
     then fitting c blocks cells (option_map told_shape (told_dynamic c post)) else None
 
--- a cell stands at its address
+-- what stands at an address is the cell
 abbrev pub is_cell : ℕ → ℕ → Option (Option Cell) → Bool
 is_cell ordinal cell None = false
 is_cell ordinal cell (Some None) = false
 is_cell ordinal cell (Some (Some x)) = (x.ordinal == ordinal) && (x.cell == cell)
 
-abbrev pub stands : Config → FrameShape → List (Option Cell) → ℕ → ℕ → ℕ → Bool
-stands c shape cells plp block cell =
-    is_cell (ordinal_of shape plp block) cell (slice_get cells (address_of c shape plp block cell))
+-- a cell stands at its address, if the frame carries it
+abbrev pub stands : Config → FrameShape → ℕ → List (Option Cell) → ℕ → ℕ → ℕ → Bool
+stands c shape frame_idx cells plp block cell =
+    not (is_carried c shape frame_idx plp block cell)
+    || is_cell (ordinal_of shape plp block) cell (slice_get cells (address_of c shape frame_idx plp block cell))
 
 -- and so does each cell of a block
-abbrev pub all_stand : Config → FrameShape → List (Option Cell) → ℕ → ℕ → Bool
-all_stand c shape cells plp block = each_below (block_cells c plp) (stands c shape cells plp block)
+abbrev pub all_stand : Config → FrameShape → ℕ → List (Option Cell) → ℕ → ℕ → Bool
+all_stand c shape frame_idx cells plp block = each_below (block_cells c plp) (stands c shape frame_idx cells plp block)

@@ -7,9 +7,10 @@ use Rattle.terms.specs.Bits.{bits_of, bytes_of}
 use Rattle.bb_frame.specs.BasebandFrame.{Spells}
 use Rattle.bb_frame.specs.Scrambled.{scrambled}
 use Rattle.bb_frame.specs.declared.header.Header.{Header}
+use Rattle.bb_frame.specs.declared.header.TheConstants.{NO_START}
 use Rattle.plp_config.specs.Capacity.{up_bytes}
 use Rattle.plp_config.specs.Plps.{plp_at}
-use Rattle.plp_config.specs.SlotTime.{IsSlotLength}
+use Rattle.plp_config.specs.SlotTimes.{slot_times}
 use Rattle.plp_config.specs.declared.config.Config.{Config}
 use Rattle.scheduler.specs.Shape.{FrameShape}
 use Rattle.cell_map.specs.CellMap.{ordinal_of}
@@ -28,13 +29,9 @@ pub record IsOfStream (deletes : Bool) (matype1 : ℕ) : Type 0 where
   pub issyi : matype1 / 2 ^ 3 % 2 ≡ 1
   pub npd : matype1 / 2 ^ 2 % 2 ≡ (if deletes then 1 else 0)
 
--- SYNCD of a block in which no user packet begins
-abbrev pub no_start : ℕ
-no_start = 65535
-
 -- what a header and a data field tell
 abbrev pub block_read : Header → List ℕ → Block
-block_read h field = record { first = if h.syncd == no_start then None else Some (h.syncd / 8); issy = h.issy; field = field }
+block_read h field = record { first = if h.syncd == NO_START then None else Some (h.syncd / 8); issy = h.issy; field = field }
 
 -- The bits spell a baseband frame that is taken, and this is what it tells.
 pub record IsTaken (deletes : Bool) (bits : List Bool) (b : Block) : Type 0 where
@@ -58,23 +55,23 @@ IsGiven deletes false bytes told = told ≡ None
 abbrev pub bytes_at : List frame.Block → ℕ → List ℕ
 bytes_at blocks ordinal = option_map_or (λ b. b.bytes) (slice_get blocks ordinal) []
 
--- The record of a frame of this shape tells this of the blocks of the PLP at a place.
-abbrev pub TellsBlocks : Config → ℕ → FrameShape → List frame.Block → List (Option Cell) → List (Option Block) → Type 0
-TellsBlocks c plp shape blocks cells told =
-    AllZip (λ block b. IsGiven (plp_at c.plps plp).delete (all_stand c shape cells plp block)
+-- The record of frame n, of this shape, tells this of the blocks of the PLP at a place.
+abbrev pub TellsBlocks : Config → ℕ → ℕ → FrameShape → List frame.Block → List (Option Cell) → List (Option Block) → Type 0
+TellsBlocks c plp n shape blocks cells told =
+    AllZip (λ block b. IsGiven (plp_at c.plps plp).delete (all_stand c shape (n % c.frames) cells plp block)
     (bytes_at blocks (ordinal_of shape plp block)) b)
     (range_with_len 0 (slice_index shape.counts plp)) told
 
 -- What a readable record tells, and one that is not.
-abbrev pub TellsShape : Config → ℕ → List frame.Block → List (Option Cell) → Option FrameShape → Record → Type 0
-TellsShape c plp blocks cells None told = told ≡ muted_record
-TellsShape c plp blocks cells (Some shape) told = (blocks_told : List (Option Block))
-    × TellsBlocks c plp shape blocks cells blocks_told × (told ≡ framed_record blocks_told)
+abbrev pub TellsShape : Config → ℕ → ℕ → List frame.Block → List (Option Cell) → Option FrameShape → Record → Type 0
+TellsShape c plp n blocks cells None told = told ≡ muted_record
+TellsShape c plp n blocks cells (Some shape) told = (blocks_told : List (Option Block))
+    × TellsBlocks c plp n shape blocks cells blocks_told × (told ≡ framed_record blocks_told)
 
 -- The record of frame n tells this of the PLP at a place.
 abbrev pub Tells : Config → ℕ → ℕ → RecordView → Record → Type 0
 Tells c plp n (Muted moment) told = told ≡ muted_record
-Tells c plp n (Frame moment pre post blocks cells) told = TellsShape c plp blocks cells (readable c n pre post blocks cells) told
+Tells c plp n (Frame moment pre post blocks cells) told = TellsShape c plp n blocks cells (readable c n pre post blocks cells) told
 
 -- The records of the frames from one on tell this.
 abbrev pub TellAll : Config → ℕ → ℕ → List RecordView → List Record → Type 0
@@ -83,17 +80,12 @@ TellAll c plp n [] (r ∷ told) = ⊥
 TellAll c plp n (v ∷ views) [] = ⊥
 TellAll c plp n (v ∷ views) (r ∷ told) = Tells c plp n v r × TellAll c plp (n + 1) views told
 
--- A slot rule is that of a PLP.
-pub record IsRule (c : Config) (plp : ℕ) (r : SlotRule) : Type 0 where
-  pub slot : IsSlotLength c plp r.num r.den
-  pub ticks : r.ticks ≡ c.ticks
-  pub up_len : r.up_len ≡ up_bytes c plp
-  pub deletes : r.deletes ≡ (plp_at c.plps plp).delete
+-- the slots of the PLP at a place, and what its user packets have
+abbrev pub slot_rule : Config → ℕ → SlotRule
+slot_rule c plp = record { times = slot_times c plp; up_len = up_bytes c plp; deletes = (plp_at c.plps plp).delete }
 
 -- What a PLP is given back of the records of the frames from one on: one packet for each slot that is due.
 pub record Readback (c : Config) (plp first : ℕ) (views : List RecordView) (packets : List (List ℕ)) : Type 0 where
-  pub rule : SlotRule
-  pub rule_is : IsRule c plp rule
   pub told : List Record
   pub tells : TellAll c plp first views told
-  pub packets_are : packets ≡ readback rule first told
+  pub packets_are : packets ≡ readback (slot_rule c plp) first told

@@ -44,11 +44,11 @@ abbrev pub Comes : PacketSlots → PacketSlots → Record → Type 0
 Comes old new told = (r : SlotRule) (first : ℕ) (records : List Record) (released : ℕ)
     → StandsFor old r first records released → StandsFor new r first (records ++ told ∷ []) released
 
--- The blocks of a frame of this shape were taken.
-pub record TakesFrame (c : Config) (plp : ℕ) (shape : FrameShape) (blocks : List frame.Block) (cells : List (Option Cell))
+-- The blocks of frame n, of this shape, were taken.
+pub record TakesFrame (c : Config) (plp n : ℕ) (shape : FrameShape) (blocks : List frame.Block) (cells : List (Option Cell))
     (old new : PacketSlots) : Type 0 where
   pub told : List (Option Block)
-  pub tells : TellsBlocks c plp shape blocks cells told
+  pub tells : TellsBlocks c plp n shape blocks cells told
   pub comes : Comes old new (framed_record told)
 
 -- The record of frame n was taken.

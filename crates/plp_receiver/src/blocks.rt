@@ -91,7 +91,7 @@ pub fn take_frame(
     requires given_out { due_of slots.old ≡ 0 }
     requires count { slice_index shape.now.counts plp ≤ length stands.old }
     requires room { length buffer.old ≡ MOST_BLOCK_BYTES }
-    ensures takes { TakesFrame plan.now plp shape.now blocks.now cells.now slots.old slots.new }
+    ensures takes { TakesFrame plan.now plp (frame_of slots.old) shape.now blocks.now cells.now slots.old slots.new }
     ensures frame { frame_of slots.new ≡ frame_of slots.old + 1 }
     ensures outside { is_within slots.new ≡ false }
     ensures rule { rule_of slots.new ≡ rule_of slots.old }
@@ -102,7 +102,14 @@ pub fn take_frame(
     block_law();
     plan.obeys_rules();
     let stands = &mut stands[..usize::from(shape.count(plp))];
-    tell_standing(plan, shape, plp, cells, stands);
+    tell_standing(
+        plan,
+        shape,
+        plan.frame_idx(slots.frame()),
+        plp,
+        cells,
+        stands,
+    );
     let mut rest = blocks.iter();
     skip_blocks(&mut rest, first_ordinal(shape, plp));
     slots.begin_frame();

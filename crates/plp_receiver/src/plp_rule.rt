@@ -1,13 +1,16 @@
 // The slot rule of a PLP.
-ghost use Rattle.std.specs.Prelude.{◌≡◌, ◌<◌, length};
-ghost use Rattle.plp_config.specs.Plps.{plp_at};
+ghost use Rattle.std.specs.Prelude.{◌≡◌, ◌<◌, false, length, IfOk};
+ghost use Rattle.plp_config.specs.Plps.{plp_at, StandsAlone};
 ghost use Rattle.plp_config.specs.SlotTime.{window, window_slots};
+ghost use Rattle.plp_config.specs.SlotTimes.{delay_of};
 ghost use Rattle.packet_slots.specs.Sound.{IsSound};
-ghost use Rattle.packet_slots.specs.Times.{delay_of};
-ghost use Rattle.plp_receiver.specs.Taken.{IsRule};
+ghost use Rattle.packet_slots.specs.StandsFor.{is_within, rule_of};
+ghost use Rattle.plp_receiver.specs.StandsFor.{Fresh};
+ghost use Rattle.plp_receiver.specs.Taken.{slot_rule};
 
-use packet_slots::SlotRule;
-use plp_config::{Plan, block_law, length_law};
+use packet_slots::{PacketSlots, SlotRule};
+use plp_config::{Plan, spread_law};
+use std::alloc::{AllocError, Global};
 
 /// Whether the null packets of a PLP are deleted.
 pub fn deletes(plan: &Plan, plp: usize) -> bool
@@ -17,22 +20,31 @@ pub fn deletes(plan: &Plan, plp: usize) -> bool
     plan.config().plps.get(plp).unwrap().delete
 }
 
-/// Its slot rule.
-pub fn rule_of(plan: &Plan, plp: usize) -> SlotRule
+// Its slot rule.
+fn rule_of(plan: &Plan, plp: usize) -> SlotRule
     requires { plp < length plan.now.plps }
-    ensures is { IsRule plan.now plp result }
+    ensures is { result ≡ slot_rule plan.now plp }
     ensures sound { IsSound result }
-    ensures window { window_slots result.num result.den (delay_of result) result.ticks ≡ window plan.now plp }
 {
-    length_law();
-    block_law();
-    plan.obeys_rules();
-    let (num, den) = plan.slot_length(plp);
     SlotRule {
-        num,
-        den,
-        ticks: u64::from(plan.config().ticks),
+        times: plan.slot_times(plp),
         up_len: plan.up_bytes(plp) as usize,
         deletes: deletes(plan, plp),
     }
+}
+
+/// Room for its slots. Its frames stand alone, so that a frame is an interleaving frame.
+///
+/// # Errors
+/// There is no memory for them.
+pub fn open_slots(alloc: Global, plan: &Plan, plp: usize) -> Result<PacketSlots, AllocError>
+    requires inside { plp < length plan.now.plps }
+    requires alone { StandsAlone plan.now.plps plp }
+    ensures fresh { IfOk result (Fresh plan.now plp) }
+    ensures outside { IfOk result (λ p. is_within p ≡ false) }
+    ensures window { IfOk result (λ p. window_slots (rule_of p).times.num (rule_of p).times.den (delay_of (rule_of p).times)
+        (rule_of p).times.epoch ≡ window plan.now plp) }
+{
+    spread_law();
+    PacketSlots::open(alloc, rule_of(plan, plp))
 }

@@ -4,7 +4,8 @@ ghost use Rattle.std.specs.Prelude.{if◌then◌else◌};
 ghost use Rattle.std.specs.Bool.{beq};
 ghost use Rattle.std.specs.Cmp.Lexicographic.{pointwise};
 ghost use Rattle.l1_signal.specs.Laws.{crc_behind};
-ghost use Rattle.plp_receiver.specs.Readable.{conf_len, dyn_len, crc_len, post_len, told_dynamic, post_agrees, BlockSize};
+ghost use Rattle.l1_signal.specs.declared.lengths.TheConstants.{CRC_BITS};
+ghost use Rattle.plp_receiver.specs.Readable.{told_dynamic, post_agrees, BlockSize};
 ghost use Rattle.plp_receiver.specs.Readable.{has_size, block_sizes, shape_agrees, readable};
 ghost use Rattle.plp_receiver.specs.Sizes.{size_of};
 
@@ -12,36 +13,15 @@ use bit_slice::BitSlice;
 use frame_tests::{
     Network, is_network_conf, is_of_frame, is_pre, map_passes, read_dynamic, tell_shape,
 };
-use l1_signal::{L1Dyn, check_post, post_law};
+use l1_signal::{CRC_BITS, L1Dyn, check_post, conf_len, dyn_len, post_law, post_len};
 use plp_config::Plan;
 use scheduler::Shape;
 use site_frame::{Blocks, BlocksIter, Cells};
 
-// The bits of CRC_32.
-const CRC: usize = 32;
-
-// The bits of the configurable part.
-fn conf_len(plan: &Plan) -> usize
-    ensures value { result ≡ conf_len plan.now }
-    ensures small { result < 2 ^ 20 }
-{
-    plan.obeys_rules();
-    102 + 89 * plan.config().plps.len()
-}
-
-// The bits of the dynamic part.
-fn dyn_len(plan: &Plan) -> usize
-    ensures value { result ≡ dyn_len plan.now }
-    ensures small { result < 2 ^ 20 }
-{
-    plan.obeys_rules();
-    79 + 48 * plan.config().plps.len()
-}
-
 // Whether L1-post ends with its CRC_32.
 fn has_crc(post: &BitSlice<'_>) -> bool
-    requires { crc_len ≤ length post.now }
-    ensures { result ≡ pointwise beq post.now (crc_behind true (take (length post.now - crc_len) post.now)) }
+    requires { CRC_BITS ≤ length post.now }
+    ensures { result ≡ pointwise beq post.now (crc_behind true (take (length post.now - CRC_BITS) post.now)) }
 {
     post_law();
     check_post(post.sub(0, post.len())).is_ok()
@@ -54,12 +34,12 @@ fn is_post(network: &Network<'_>, number: u64, post: &BitSlice<'_>, dynamic: &mu
     ensures told { result ≡ true → told_dynamic network.now post.now ≡ Some dynamic.new }
     ensures rows { length dynamic.new.plps ≡ length dynamic.old.plps }
 {
-    let conf = conf_len(network.plan());
-    let len = dyn_len(network.plan());
-    post.len() == conf + len + CRC
+    let plps = network.plan().config().plps.len();
+    let conf = conf_len(plps);
+    post.len() == post_len(plps)
         && has_crc(post)
         && is_network_conf(network, &post.sub(0, conf))
-        && read_dynamic(&post.sub(conf, len), dynamic)
+        && read_dynamic(&post.sub(conf, dyn_len(plps)), dynamic)
         && is_of_frame(network.plan(), number, dynamic)
 }
 

@@ -1,21 +1,22 @@
 // The receiver of a PLP.
 ghost use Rattle.std.specs.Prelude.{◌≡◌, ◌<◌, ◌≤◌, ◌+◌, ◌-◌, ◌++◌, ◌∷◌, [], List, ℕ, IfOk, true, false, length, vec_len};
 ghost use Rattle.std.specs.Prelude.{slice_get, slice_index, Some, None, nat_lt, if◌then◌else◌};
+ghost use Rattle.plp_config.specs.Places.{FramesStandAlone};
 ghost use Rattle.plp_config.specs.Plps.{plp_at};
 ghost use Rattle.plp_config.specs.SlotTime.{window, window_slots};
 ghost use Rattle.plp_config.specs.declared.plp.TheConstants.{MOST_BLOCK_BYTES};
 ghost use Rattle.packet_slots.specs.StandsFor.{is_within, rule_of};
-ghost use Rattle.packet_slots.specs.Times.{delay_of};
+ghost use Rattle.plp_config.specs.SlotTimes.{delay_of};
 
 use crate::blocks::take_frame;
 use crate::laws::readback_law;
-use crate::plp_rule::rule_of;
+use crate::plp_rule::open_slots;
 use crate::readable::is_readable;
 use bit_slice::{BitSlice, OutOfMemory};
 use frame_tests::{Network, map_test_law};
 use l1_signal::L1Dyn;
 use packet_slots::PacketSlots;
-use plp_config::{MOST_BLOCK_BYTES, Plan, length_law};
+use plp_config::{MOST_BLOCK_BYTES, Plan};
 use scheduler::Shape;
 use site_frame::{Blocks, Cells, RecordView};
 use std::alloc::Global;
@@ -39,7 +40,7 @@ pub struct Receiver<'p> {
     block: Vec<u8>,
     ghost configured: { plp < length network.plps },
     ghost outside: { is_within slots ≡ false },
-    ghost window: { window_slots (rule_of slots).num (rule_of slots).den (delay_of (rule_of slots)) (rule_of slots).ticks
+    ghost window: { window_slots (rule_of slots).times.num (rule_of slots).times.den (delay_of (rule_of slots).times) (rule_of slots).times.epoch
         ≡ window network plp },
     ghost rows: { length dynamic.plps ≡ length network.plps },
     ghost plps: { length shape.counts ≡ length network.plps },
@@ -62,7 +63,8 @@ impl<'p> Receiver<'p> {
     /// # Errors
     /// There is no memory for it. No later call wants any.
     pub fn open(alloc: Global, plan: &'p Plan, plp: usize) -> Result<Receiver<'p>, OutOfMemory>
-        requires { plp < length plan.now.plps }
+        requires inside { plp < length plan.now.plps }
+        requires alone { FramesStandAlone plan.now }
         ensures fresh { IfOk result IsFresh }
         ensures network { IfOk result (λ v. network_of v ≡ plan.now) }
         ensures plp { IfOk result (λ v. plp_of v ≡ plp) }
@@ -72,7 +74,7 @@ impl<'p> Receiver<'p> {
         Ok(Receiver {
             network: Network::open(alloc, plan)?,
             plp,
-            slots: PacketSlots::open(alloc, rule_of(plan, plp))?,
+            slots: open_slots(alloc, plan, plp)?,
             dynamic: L1Dyn::open(alloc, plps)?,
             shape: Shape::open(alloc, plan)?,
             stands: vec![in alloc; false; count]?,
@@ -153,14 +155,16 @@ impl<'p> Receiver<'p> {
         requires given_out { due_of self.old ≡ 0 }
         requires agrees { shape_agrees (network_of self.old) blocks.now cells.now self.old.shape ≡ true }
         ensures takes { TakesFrame (network_of self.old)
-            (plp_of self.old) self.old.shape blocks.now cells.now self.old.slots self.new.slots }
+            (plp_of self.old) (frame_of self.old) self.old.shape blocks.now cells.now self.old.slots self.new.slots }
         ensures frame { frame_of self.new ≡ frame_of self.old + 1 }
         ensures network { network_of self.new ≡ network_of self.old }
         ensures plp { plp_of self.new ≡ plp_of self.old }
     {
         map_test_law();
+        let plan = self.network.plan();
+        plan.obeys_rules();
         take_frame(
-            self.network.plan(),
+            plan,
             &self.shape,
             self.plp,
             blocks,
@@ -192,8 +196,6 @@ impl<'p> Receiver<'p> {
         ensures answer { (first : ℕ) (views : List RecordView) (released : ℕ) → StandsFor self.now first views released
             → result ≡ slots_come (network_of self.now) (plp_of self.now) first (length views) - released }
     {
-        length_law();
-        self.network.plan().obeys_rules();
         self.slots.held()
     }
 

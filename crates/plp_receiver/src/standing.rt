@@ -44,6 +44,7 @@ fn see(expected: Option<Cell>, found: Option<Cell>, first: u32, stands: &mut [bo
 fn see_each(
     plan: &Plan,
     shape: &Shape,
+    frame_idx: u8,
     cells: &Words<'_>,
     address: u32,
     count: u32,
@@ -56,9 +57,9 @@ fn see_each(
     requires inside { address + count ≤ plan.now.cells }
     ensures len { length stands.new ≡ length stands.old }
     ensures each { (k : ℕ) → k < length stands.old → slice_index_or stands.new k false
-        ≡ (slice_index_or stands.old k false && seen_from plan.now shape.now cells.now (first + k) address count) }
+        ≡ (slice_index_or stands.old k false && seen_from plan.now shape.now frame_idx cells.now (first + k) address count) }
 {
-    let mut expected = Cells::resume(plan, shape, address);
+    let mut expected = Cells::resume(plan, shape, frame_idx, address);
     for i in 0..count {
         let Some(found) = cells.get(address + i) else {
             return;
@@ -71,6 +72,7 @@ fn see_each(
 fn see_piece(
     plan: &Plan,
     shape: &Shape,
+    frame_idx: u8,
     cells: &Words<'_>,
     address: u32,
     count: u32,
@@ -85,14 +87,14 @@ fn see_piece(
     requires room { 4 * count ≤ length buffer.old }
     ensures len { length stands.new ≡ length stands.old }
     ensures each { (k : ℕ) → k < length stands.old → slice_index_or stands.new k false
-        ≡ (slice_index_or stands.old k false && seen_from plan.now shape.now cells.now (first + k) address count) }
+        ≡ (slice_index_or stands.old k false && seen_from plan.now shape.now frame_idx cells.now (first + k) address count) }
     ensures room { length buffer.new ≡ length buffer.old }
 {
     let words = &mut buffer[..4 * count as usize];
-    if agree(plan, shape, cells, address, count, words) {
+    if agree(plan, shape, frame_idx, cells, address, count, words) {
         return;
     }
-    see_each(plan, shape, cells, address, count, first, stands);
+    see_each(plan, shape, frame_idx, cells, address, count, first, stands);
 }
 
 // Cells that are looked at at once, and the bytes of their words.
@@ -101,13 +103,20 @@ const PIECE: u32 = 4_096;
 const PIECE_BYTES: usize = 4 * PIECE as usize;
 
 // The same of all cells of a record.
-fn see_all(plan: &Plan, shape: &Shape, cells: &Words<'_>, first: u32, stands: &mut [bool])
+fn see_all(
+    plan: &Plan,
+    shape: &Shape,
+    frame_idx: u8,
+    cells: &Words<'_>,
+    first: u32,
+    stands: &mut [bool],
+)
     requires plps { length shape.now.counts ≡ length plan.now.plps }
     requires passes { Passes plan.now shape.now }
     requires all { length cells.now ≡ plan.now.cells }
     ensures len { length stands.new ≡ length stands.old }
     ensures each { (k : ℕ) → k < length stands.old → slice_index_or stands.new k false
-        ≡ (slice_index_or stands.old k false && all_seen plan.now shape.now cells.now (first + k)) }
+        ≡ (slice_index_or stands.old k false && all_seen plan.now shape.now frame_idx cells.now (first + k)) }
 {
     let end = plan.config().cells;
     let mut buffer = [0; PIECE_BYTES];
@@ -117,6 +126,7 @@ fn see_all(plan: &Plan, shape: &Shape, cells: &Words<'_>, first: u32, stands: &m
         see_piece(
             plan,
             shape,
+            frame_idx,
             cells,
             address,
             count,
@@ -143,7 +153,14 @@ pub fn first_ordinal(shape: &Shape, plp: usize) -> u32
 }
 
 /// Tells of each block of a PLP whether all its cells stand.
-pub fn tell_standing(plan: &Plan, shape: &Shape, plp: usize, cells: &Words<'_>, stands: &mut [bool])
+pub fn tell_standing(
+    plan: &Plan,
+    shape: &Shape,
+    frame_idx: u8,
+    plp: usize,
+    cells: &Words<'_>,
+    stands: &mut [bool],
+)
     requires plps { length shape.now.counts ≡ length plan.now.plps }
     requires passes { Passes plan.now shape.now }
     requires all { length cells.now ≡ plan.now.cells }
@@ -151,7 +168,7 @@ pub fn tell_standing(plan: &Plan, shape: &Shape, plp: usize, cells: &Words<'_>, 
     requires count { length stands.old ≡ slice_index shape.now.counts plp }
     ensures len { length stands.new ≡ length stands.old }
     ensures each { (k : ℕ) → k < length stands.old → slice_index_or stands.new k false
-        ≡ all_stand plan.now shape.now cells.now plp k }
+        ≡ all_stand plan.now shape.now frame_idx cells.now plp k }
 {
     map_law();
     plan.obeys_rules();
@@ -160,5 +177,5 @@ pub fn tell_standing(plan: &Plan, shape: &Shape, plp: usize, cells: &Words<'_>, 
     }
     let first = first_ordinal(shape, plp);
     stands.fill(true);
-    see_all(plan, shape, cells, first, stands);
+    see_all(plan, shape, frame_idx, cells, first, stands);
 }

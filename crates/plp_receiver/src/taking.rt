@@ -3,16 +3,14 @@ ghost use Rattle.std.specs.Prelude.{◌≡◌, ◌↔◌, ◌==◌, ◌+◌, ◌
 ghost use Rattle.std.specs.Prelude.{if◌then◌else◌};
 ghost use Rattle.terms.specs.Bits.{bits_of};
 ghost use Rattle.bb_frame.specs.Scrambled.{scrambled};
+ghost use Rattle.bb_frame.specs.declared.header.TheConstants.{NO_START, HEADER_BYTES};
 ghost use Rattle.packet_slots.specs.Strings.{Block};
 ghost use Rattle.packet_slots.specs.Both.{block_of, IsPlace};
-ghost use Rattle.plp_receiver.specs.Taken.{IsOfStream, IsTaken, no_start};
+ghost use Rattle.plp_receiver.specs.Taken.{IsOfStream, IsTaken};
 
-use bb_frame::{bit_counts, read_frame, scramble};
+use bb_frame::{HEADER_BYTES, NO_START, bit_counts, read_frame, scramble};
 use bit_slice::BitSlice;
 use packet_slots::TakenBlock;
-
-// The bytes of a header.
-const HEADER: usize = 10;
 
 // Whether MATYPE-1 is that of a transport stream with ISSY, with null packets deleted or not.
 fn is_of_stream(matype1: u8, deletes: bool) -> bool
@@ -23,9 +21,9 @@ fn is_of_stream(matype1: u8, deletes: bool) -> bool
 
 // Where the first user packet begins.
 fn first_of(syncd: u16) -> Option<usize>
-    ensures { result ≡ (if syncd == no_start then None else Some (syncd / 8)) }
+    ensures { result ≡ (if syncd == NO_START then None else Some (syncd / 8)) }
 {
-    if syncd == u16::MAX {
+    if syncd == NO_START {
         None
     } else {
         Some(usize::from(syncd) / 8)
@@ -34,15 +32,15 @@ fn first_of(syncd: u16) -> Option<usize>
 
 // The data field, DFL bits.
 fn field_of(block: &[u8], dfl: u16) -> &[u8]
-    requires { 10 + dfl / 8 ≤ length block.now }
-    ensures { result.now ≡ take (dfl / 8) (drop 10 block.now) }
+    requires { HEADER_BYTES + dfl / 8 ≤ length block.now }
+    ensures { result.now ≡ take (dfl / 8) (drop HEADER_BYTES block.now) }
 {
-    &block[HEADER..HEADER + usize::from(dfl) / 8]
+    &block[HEADER_BYTES..HEADER_BYTES + usize::from(dfl) / 8]
 }
 
 /// What is taken of a block, which is scrambled no more.
 pub fn taken_block(block: &[u8], deletes: bool) -> Option<TakenBlock<'_>>
-    requires least { 10 ≤ length block.now }
+    requires least { HEADER_BYTES ≤ length block.now }
     requires most { length block.now < 2 ^ 60 }
     ensures some { IfSome result (λ b. IsTaken deletes (bits_of block.now) (block_of b)) }
     ensures places { IfSome result (λ b. IsPlace b.first (length b.field.now)) }

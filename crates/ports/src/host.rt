@@ -107,11 +107,14 @@ fn say<R: Print>(
     }
 }
 
+// How often a call is made again that signals cut short, before that is a fault.
+const MOST_INTERRUPTIONS: u32 = 1_000;
+
 // Reads once more if a signal cut the call short, which std leaves to the caller.
 fn read_again<F: Read>(file: &mut F, buffer: &mut [u8]) -> io::Result<usize>
     ensures { IfOk result (λ n. n ≤ length buffer.new) }
 {
-    for _ in 0..u64::MAX {
+    for _ in 0..=MOST_INTERRUPTIONS {
         match file.read(buffer) {
             Err(error) if error.kind() == ErrorKind::Interrupted => {}
             answer => return answer,
@@ -124,7 +127,7 @@ fn read_again<F: Read>(file: &mut F, buffer: &mut [u8]) -> io::Result<usize>
 fn write_again<F: Write>(file: &mut F, piece: &[u8]) -> io::Result<usize>
     ensures { IfOk result (λ n. n ≤ length piece.now) }
 {
-    for _ in 0..u64::MAX {
+    for _ in 0..=MOST_INTERRUPTIONS {
         match file.write(piece) {
             Err(error) if error.kind() == ErrorKind::Interrupted => {}
             answer => return answer,

@@ -3,10 +3,8 @@ use Rattle.std.proofs.Common.{◌≡◌, ◌≢◌, ◌⊎◌, ℕ, zero, suc, �
 use Rattle.std.proofs.Common.{[], ◌∷◌, ◌++◌, length, drop, Option, Some, None, refl, ap, sym, subst, ◌∙◌, arith, append_assoc}
 use Rattle.std.proofs.Common.{length-append, length-drop, eqb-true}
 use Rattle.std.specs.Prelude.{nat_lt, slice_index, bit_xor, Result, Ok, Err, if◌then◌else◌}
-use Rattle.std.specs.Int.{IsGcd}
 use Rattle.std.specs.List.{AllZip, range_with_len, concat}
 use Rattle.std.proofs.lemmas.Bool.{eqb-false, ltb-true, ltb-false}
-use Rattle.std.proofs.lemmas.Nat.Gcd.{IsGcd-from_zero, IsGcd-from_mod}
 use Rattle.terms.specs.Bits.{field, number_at, bits_of, bytes_of}
 use Rattle.terms.proofs.CaseLemmas.{bool_cases}
 use Rattle.terms.proofs.DecisionLemmas.{decide_three, first_other}
@@ -20,10 +18,8 @@ use Rattle.bb_frame.specs.declared.header.Header.{Header}
 use Rattle.bit_slice.specs.Crc.{crc8_of}
 use Rattle.cell_map.specs.CellMap.{ordinal_of}
 use Rattle.cell_map.specs.declared.places.Cell.{Cell}
-use Rattle.plp_config.specs.Capacity.{up_bytes}
 use Rattle.plp_config.specs.Emission.{emission}
 use Rattle.plp_config.specs.Plps.{plp_at}
-use Rattle.plp_config.specs.SlotTime.{num, den}
 use Rattle.plp_config.specs.declared.config.Config.{Config}
 use Rattle.plp_config.specs.declared.moment.Moment.{Moment}
 use Rattle.plp_config.specs.declared.moment.TheConstants.{MOST_FRAMES}
@@ -39,9 +35,8 @@ use Rattle.site_frame.specs.declared.reading.RecordView.{RecordView}
 use Rattle.site_frame.specs.declared.reading.RecordView.TheVariants.{Frame, Muted}
 use Rattle.packet_slots.specs.Records.{Record, muted_record, framed_record, readback}
 use Rattle.packet_slots.specs.Strings.{Block}
-use Rattle.packet_slots.specs.declared.slot_rule.SlotRule.{SlotRule}
 use Rattle.plp_receiver.specs.Readable.{readable, all_stand}
-use Rattle.plp_receiver.specs.Taken.{IsOfStream, block_read, IsTaken, IsGiven, bytes_at, TellsShape, Tells, TellAll, IsRule}
+use Rattle.plp_receiver.specs.Taken.{IsOfStream, block_read, IsTaken, IsGiven, bytes_at, TellsShape, Tells, TellAll, slot_rule}
 use Rattle.receive_run.specs.Laws.{MustRun, RunEnds}
 use Rattle.receive_run.specs.Received.{GivesBack, Received, ran_of, expected_after, RefusesNext}
 use Rattle.receive_run.specs.declared.stop.Ran.{Ran}
@@ -54,37 +49,6 @@ use Rattle.site_frame.proofs.RecordSplitLemmas.{some_bytes, bytes_behind}
 
 decide_equal : (a b : ℕ) → Dec (a ≡ b)
 decide_equal a b = bool_cases (a == b) (λ t. yes (eqb-true a b t)) (λ f. no (eqb-false a b f))
-
--- ---- the rule of a PLP
-
-some_number : (n : ℕ) → n ≢ 0 → 0 < n
-some_number zero h = absurd (h refl)
-some_number (suc n) h = omega arith
-
-gcd_there : (fuel a b : ℕ) → b ≤ fuel → (g : ℕ) × IsGcd a b g
-gcd_there zero a b few = (a, IsGcd-from_zero a b (omega (arith, few)))
-gcd_there (suc fuel) a b few = go (gcd_there fuel) (decide_equal b 0)
-  where
-    go : ((a b : ℕ) → b ≤ fuel → (g : ℕ) × IsGcd a b g) → Dec (b ≡ 0) → (g : ℕ) × IsGcd a b g
-    go before (yes e) = (a, IsGcd-from_zero a b e)
-    go before (no some) =
-        let pos = some_number b some in
-        let less : a % b < b = omega (arith, pos) in
-        let rest = before b (a % b) (omega (arith, less, few)) in
-        (rest.0, IsGcd-from_mod a b rest.0 rest.1)
-
-rule_there : (c : Config) (plp : ℕ) → (r : SlotRule) × IsRule c plp r
-rule_there c plp =
-    let g = gcd_there (den c plp) (num c) (den c plp) (omega arith) in (
-      record {
-        num = num c / g.0;
-        den = den c plp / g.0;
-        ticks = c.ticks;
-        up_len = up_bytes c plp;
-        deletes = (plp_at c.plps plp).delete;
-      },
-      record { slot = (g.0, g.1, refl, refl); ticks = refl; up_len = refl; deletes = refl },
-    )
 
 -- ---- what a block tells
 
@@ -152,14 +116,14 @@ zip_there R each (x ∷ xs) = let here = each x in let rest = zip_there R each x
 
 -- ---- what records tell
 
-shape_there : bb.SpelledOrRefused → bb.NoRefusal → bb.BitCounts → (c : Config) (plp : ℕ) (blocks : List frame.Block)
-    (cells : List (Option Cell)) (o : Option FrameShape) → (r : Record) × TellsShape c plp blocks cells o r
-shape_there decides never counts c plp blocks cells None = (muted_record, refl)
-shape_there decides never counts c plp blocks cells (Some shape) =
+shape_there : bb.SpelledOrRefused → bb.NoRefusal → bb.BitCounts → (c : Config) (plp n : ℕ) (blocks : List frame.Block)
+    (cells : List (Option Cell)) (o : Option FrameShape) → (r : Record) × TellsShape c plp n blocks cells o r
+shape_there decides never counts c plp n blocks cells None = (muted_record, refl)
+shape_there decides never counts c plp n blocks cells (Some shape) =
     let each =
-    zip_there (λ block b. IsGiven (plp_at c.plps plp).delete (all_stand c shape cells plp block)
+    zip_there (λ block b. IsGiven (plp_at c.plps plp).delete (all_stand c shape (n % c.frames) cells plp block)
     (bytes_at blocks (ordinal_of shape plp block)) b)
-    (λ block. given_there decides never counts (plp_at c.plps plp).delete (all_stand c shape cells plp block)
+    (λ block. given_there decides never counts (plp_at c.plps plp).delete (all_stand c shape (n % c.frames) cells plp block)
     (bytes_at blocks (ordinal_of shape plp block))) (range_with_len 0 (slice_index shape.counts plp)) in
     (framed_record each.0, (each.0, each.1, refl))
 
@@ -167,7 +131,7 @@ tells_there : bb.SpelledOrRefused → bb.NoRefusal → bb.BitCounts → (c : Con
     × Tells c plp n view r
 tells_there decides never counts c plp n (Muted moment) = (muted_record, refl)
 tells_there decides never counts c plp n (Frame moment pre post blocks cells) =
-    shape_there decides never counts c plp blocks cells (readable c n pre post blocks cells)
+    shape_there decides never counts c plp n blocks cells (readable c n pre post blocks cells)
 
 told_there : bb.SpelledOrRefused → bb.NoRefusal → bb.BitCounts → (c : Config) (plp n : ℕ) (views : List RecordView)
     → (told : List Record) × TellAll c plp n views told
@@ -181,9 +145,8 @@ back_there : bb.SpelledOrRefused → bb.NoRefusal → bb.BitCounts → (c : Conf
     → (packets : List (List ℕ)) × GivesBack c plp first views packets
 back_there decides never counts c plp first [] = ([], refl)
 back_there decides never counts c plp first (v ∷ views) =
-    let r = rule_there c plp in
     let t = told_there decides never counts c plp first (v ∷ views) in
-    (readback r.0 first t.0, record { rule = r.0; rule_is = r.1; told = t.0; tells = t.1; packets_are = refl })
+    (readback (slot_rule c plp) first t.0, record { told = t.0; tells = t.1; packets_are = refl })
 
 -- ---- the frame of a moment
 

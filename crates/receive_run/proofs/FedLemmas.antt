@@ -1,5 +1,5 @@
 -- The machine was fed a head, or bytes of a rest.
-use Rattle.std.proofs.Common.{◌≡◌, ℕ, ◌+◌, ◌-◌, false, List, [], ◌∷◌, ◌++◌, length, refl, ap, sym, subst, ◌∙◌, inl, inr, arith}
+use Rattle.std.proofs.Common.{◌≡◌, ℕ, ◌+◌, false, List, [], ◌∷◌, ◌++◌, length, refl, ap, sym, subst, ◌∙◌, inl, inr, arith}
 use Rattle.std.proofs.Common.{length-append}
 use Rattle.site_frame.specs.Record.{head_len}
 use Rattle.site_frame.specs.RecordFile.{Announces}

@@ -1,7 +1,6 @@
 -- The file of records has ended.
-use Rattle.std.proofs.Common.{◌≡◌, ℕ, ◌+◌, ◌-◌, ◌<◌, List, [], ◌∷◌, ◌++◌, length, refl, ap, sym, subst, ◌∙◌, inl, inr, ⊎_elim}
+use Rattle.std.proofs.Common.{◌≡◌, ℕ, ◌+◌, ◌<◌, List, [], ◌∷◌, ◌++◌, length, refl, ap, sym, subst, ◌∙◌, inl, inr, ⊎_elim}
 use Rattle.std.proofs.Common.{arith, append-nil}
-use Rattle.std.specs.Prelude.{◌⊎◌}
 use Rattle.std.proofs.lemmas.List.{nil_from_length}
 use Rattle.site_frame.specs.declared.fault.RecordWhy.TheVariants as why
 use Rattle.plp_receiver.specs.StandsFor.{network_of, plp_of}
@@ -17,7 +16,6 @@ use Rattle.site_frame.proofs.RecordFileLemmas.{announces_on}
 use Rattle.site_frame.proofs.RecordFrontLemmas.{short_refused, cut_refused}
 use Rattle.file_run.proofs.EventLemmas.{ended_adds}
 use Rattle.receive_run.proofs.StepLemmas.{same_shown, same_plp, taken_same, nothing_before, idle_at, rest_before}
-use Rattle.receive_run.proofs.FedLemmas.{begun}
 use Rattle.receive_run.proofs.WantedLemmas.{short, wants_a_head}
 
 -- within the rest of a record

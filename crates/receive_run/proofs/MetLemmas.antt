@@ -8,7 +8,7 @@ use Rattle.site_frame.specs.RecordFile.{IsBegun, EndsWithin, bytes_before}
 use Rattle.site_frame.specs.declared.reading.RecordView.{RecordView}
 use Rattle.file_run.specs.Events.{Event, fed, has_ended, gave}
 use Rattle.file_run.specs.FileRun.{IsFed}
-use Rattle.file_run.specs.Steps.{FallsShort, Wants}
+use Rattle.file_run.specs.Steps.{FallsShort, Needs}
 use Rattle.receive_run.specs.AsMachine.{first_of, ran_by, Behind, Given, Shown}
 use Rattle.receive_run.specs.NextStep.{step_of, gives}
 use Rattle.receive_run.specs.ReceiveRun.{HasMet, HasMetPart, LacksSome}
@@ -105,12 +105,12 @@ refused_within file front more rest place parts inside near within =
 abbrev Waits : Coming → Type 0
 Waits coming = (coming ≡ Head) ⊎ (coming ≡ Rest)
 
-pub wanted : (coming : Coming) (left input : ℕ) → Wants (step_of coming left) input → Waits coming
-wanted Head left input w = inl refl
-wanted Rest left input w = inr refl
-wanted Packets left input w = absurd w
-wanted (Refused why) left input w = absurd w
-wanted Finished left input w = absurd w
+pub wanted : (coming : Coming) (left input count : ℕ) → Needs (step_of coming left) input count → Waits coming
+wanted Head left input count w = inl refl
+wanted Rest left input count w = inr refl
+wanted Packets left input count w = absurd w
+wanted (Refused why) left input count w = absurd w
+wanted Finished left input count w = absurd w
 
 pub lacked : (coming : Coming) (left input count : ℕ) → FallsShort (step_of coming left) input count → Waits coming
 lacked Head left input count w = inl refl

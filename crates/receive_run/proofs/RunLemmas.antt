@@ -118,7 +118,7 @@ gives_too_much start now old new name out input g =
     record {
       works = subst (λ (n : ℕ). Writes old new name out n (HasMet c plp n)) most
           (writes_by (HasMet c plp at) s
-          (λ file bytes f holds. has_met c plp now s.events file bytes at (wanted now.coming now.left input g.wants)
+          (λ file bytes f holds. has_met c plp now s.events file bytes at (wanted now.coming now.left input _ g.wants)
           s.came.shown f (s.within 0 (omega arith)) holds));
       long = IfSome_then old.held s.inputs (λ held are. let f = are 0 (omega arith) in let w = f.within in
           omega (arith, w, most));

@@ -1,5 +1,5 @@
 -- A run whose output could not be written on.
-use Rattle.std.proofs.Common.{◌≡◌, ℕ, ◌+◌, ◌-◌, ◌<◌, List, [], ◌∷◌, ◌++◌, length, refl, ap, sym, subst, ◌∙◌, arith, ◌≤◌, take}
+use Rattle.std.proofs.Common.{◌≡◌, ℕ, ◌+◌, ◌<◌, List, [], ◌∷◌, ◌++◌, length, refl, ap, sym, subst, ◌∙◌, arith, ◌≤◌, take}
 use Rattle.std.proofs.Common.{length-append, ◌≢◌, drop, append_assoc}
 use Rattle.std.specs.Prelude.{slice_index}
 use Rattle.ports.specs.Desk.{State}
@@ -18,7 +18,7 @@ use Rattle.receive_run.specs.declared.machine.Coming.TheVariants.{Packets}
 use Rattle.receive_run.specs.declared.machine.ReceiverMachine.{ReceiverMachine}
 use Rattle.site_frame.proofs.RecordFileLemmas.{records_file}
 use Rattle.file_run.proofs.OneInputLemmas.{writes_by}
-use Rattle.receive_run.proofs.MetLemmas.{received, plan_of, place_of, behind_at, reach_of}
+use Rattle.receive_run.proofs.MetLemmas.{plan_of, place_of, behind_at, reach_of}
 use Rattle.std.specs.List.{concat}
 use Rattle.plp_receiver.specs.StandsFor.{due_of}
 use Rattle.plp_receiver.specs.declared.receiver.Receiver.{Receiver}

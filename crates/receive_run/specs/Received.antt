@@ -1,13 +1,13 @@
 -- What stands in the output after the records of a file.
-use Rattle.std.specs.Prelude.{◌≡◌, ◌⊎◌, ℕ, ◌+◌, ◌-◌, ◌*◌, List, [], ◌∷◌, length, Option, Some, None}
+use Rattle.std.specs.Prelude.{◌≡◌, ◌⊎◌, ℕ, ◌+◌, ◌-◌, List, [], ◌∷◌, length, Option, Some, None}
 use Rattle.std.specs.List.{concat}
-use Rattle.plp_config.specs.SlotTime.{slots_by}
 use Rattle.plp_config.specs.declared.config.Config.{Config}
 use Rattle.site_frame.specs.Placing.{RefusesPlace}
 use Rattle.site_frame.specs.RecordFile.{IsNoRecord, IsOnGrid}
 use Rattle.site_frame.specs.Whole.{BeginsWith, moment_of}
 use Rattle.site_frame.specs.declared.fault.RecordWhy.{RecordWhy}
 use Rattle.site_frame.specs.declared.reading.RecordView.{RecordView}
+use Rattle.plp_receiver.specs.StandsFor.{slots_over}
 use Rattle.plp_receiver.specs.Taken.{Readback}
 use Rattle.receive_run.specs.declared.stop.Ran.{Ran}
 
@@ -29,7 +29,7 @@ pub record Received (c : Config) (plp : ℕ) (views : List RecordView) (bytes : 
 -- record
 abbrev pub first_slot : Config → ℕ → ℕ → List RecordView → ℕ
 first_slot c plp first [] = 0
-first_slot c plp first (view ∷ views) = slots_by c plp ((first - 1) * c.ticks)
+first_slot c plp first (view ∷ views) = slots_over c plp (first - 1)
 
 -- that slot, and how many slots are given out after these records
 abbrev pub ran_of : Config → ℕ → ℕ → List RecordView → List (List ℕ) → Ran

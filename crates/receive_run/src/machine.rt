@@ -1,6 +1,8 @@
 // The receiver as a machine between files.
 ghost use Rattle.std.specs.Prelude.{◌≡◌, ◌≢◌, ◌<◌, ◌≤◌, ◌+◌, ℕ, length, take, vec_len, vec_capacity, Some};
 ghost use Rattle.plp_receiver.specs.StandsFor.{network_of, plp_of, due_of};
+ghost use Rattle.plp_config.specs.Laws.{SoundTimes};
+ghost use Rattle.plp_config.specs.Places.{FramesStandAlone};
 ghost use Rattle.plp_config.specs.declared.moment.TheConstants.{MOST_FRAMES};
 ghost use Rattle.site_frame.specs.declared.head.TheConstants.{HEAD};
 ghost use Rattle.desk_io.specs.Reading.{longest_file};
@@ -63,6 +65,13 @@ pub struct ReceiverMachine<'p> {
     ghost small: { at ≤ longest_file },
 }
 
+// The slots of a PLP last a tick or more. It does nothing.
+fn times_law()
+    ensures { SoundTimes }
+{
+    length_law();
+}
+
 // What comes, by how many slots are due, and how many bytes may be read for it.
 fn coming_by(due: u64) -> (Coming, usize)
     ensures coming { result.0 ≡ coming_by due }
@@ -90,7 +99,8 @@ impl<'p> ReceiverMachine<'p> {
         plan: &'p Plan,
         plp: usize,
     ) -> Result<ReceiverMachine<'p>, OutOfMemory>
-        requires { plp < length plan.now.plps }
+        requires inside { plp < length plan.now.plps }
+        requires alone { FramesStandAlone plan.now }
         ensures network { IfOk result (λ m. network_of m.receiver ≡ plan.now) }
         ensures plp { IfOk result (λ m. plp_of m.receiver ≡ plp) }
         ensures becomes { IfOk result (λ m. Becomes m [] m) }
@@ -231,11 +241,7 @@ impl<'p> ReceiverMachine<'p> {
         ensures { result ≡ slot_by (network_of self.now.receiver) (plp_of self.now.receiver) self.now.first }
     {
         match self.first {
-            Some(first) => {
-                let ticks = u64::from(self.plan.config().ticks);
-                self.plan
-                    .slots_by(self.plp, first.saturating_sub(1) * ticks)
-            }
+            Some(first) => self.plan.slot_times(self.plp).range_of(first).0,
             None => 0,
         }
     }
@@ -295,7 +301,7 @@ impl<'p> Machine for ReceiverMachine<'p> {
 
     fn give(&mut self, out: &mut [u8]) -> usize {
         events_law();
-        length_law();
+        times_law();
         self.plan.obeys_rules();
         give_packet(&mut self.receiver, out.first_chunk_mut().unwrap());
         self.slots = self.slots.saturating_add(1);

@@ -42,21 +42,22 @@ lists_fit c plp (blocks ∷ lists) =
     omega (arith, size, chunks, first, others)
 
 -- what stands behind the front of a frame's record
-behind_front : (c : Config) (shape : FrameShape) (lists : List (List (List ℕ))) → length (step_bytes c shape lists (Blocks 0))
-    ≤ (4 + chunk_len) * used_chunks lists + 4 + 4 * c.cells
-behind_front c shape lists =
-    let size = length-append (lists_bytes c 0 lists) (big_bytes 4 c.cells ++ words c shape 0 c.cells) in
-    let cells = length-append (big_bytes 4 c.cells) (words c shape 0 c.cells) in
+behind_front : (c : Config) (shape : FrameShape) (frame_idx : ℕ) (lists : List (List (List ℕ)))
+    → length (step_bytes c shape frame_idx lists (Blocks 0)) ≤ (4 + chunk_len) * used_chunks lists + 4 + 4 * c.cells
+behind_front c shape frame_idx lists =
+    let size = length-append (lists_bytes c 0 lists) (big_bytes 4 c.cells ++ words c shape frame_idx 0 c.cells) in
+    let cells = length-append (big_bytes 4 c.cells) (words c shape frame_idx 0 c.cells) in
     let blocks = lists_fit c 0 lists in
-    let each = length-words c shape c.cells 0 in
+    let each = length-words c shape frame_idx c.cells 0 in
     omega (arith, size, cells, blocks, each)
 
 -- a frame's record whose front fits a piece
-pub record_fits : (c : Config) (shape : FrameShape) (lists : List (List (List ℕ))) (piece : List ℕ) → length piece ≤ piece_len
-    → length (piece ++ step_bytes c shape lists (Blocks 0)) ≤ most_record c (used_chunks lists)
-record_fits c shape lists piece short =
-    let size = length-append piece (step_bytes c shape lists (Blocks 0)) in
-    let behind = behind_front c shape lists in
+pub record_fits : (c : Config) (shape : FrameShape) (frame_idx : ℕ) (lists : List (List (List ℕ))) (piece : List ℕ)
+    → length piece ≤ piece_len
+    → length (piece ++ step_bytes c shape frame_idx lists (Blocks 0)) ≤ most_record c (used_chunks lists)
+record_fits c shape frame_idx lists piece short =
+    let size = length-append piece (step_bytes c shape frame_idx lists (Blocks 0)) in
+    let behind = behind_front c shape frame_idx lists in
     omega (arith, size, behind, short)
 
 -- a muted record

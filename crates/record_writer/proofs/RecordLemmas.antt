@@ -105,14 +105,15 @@ block_given c first plp old new out tail same inside some o n =
     ∙ append_assoc out (lists_bytes c plp (drop plp new)) tail
 
 -- cells are given
-pub words_given : (c : Config) (shape : FrameShape) (address count : ℕ) (old out : List ℕ) → old ≡ []
-    → out ≡ old ++ words c shape address count → address + count ≤ c.cells
-    → words c shape address (c.cells - address) ≡ out ++ words c shape (address + count) (c.cells - (address + count))
-words_given c shape address count old out empty e inside =
+pub words_given : (c : Config) (shape : FrameShape) (frame_idx address count : ℕ) (old out : List ℕ) → old ≡ []
+    → out ≡ old ++ words c shape frame_idx address count → address + count ≤ c.cells
+    → words c shape frame_idx address (c.cells - address)
+    ≡ out ++ words c shape frame_idx (address + count) (c.cells - (address + count))
+words_given c shape frame_idx address count old out empty e inside =
     let f : c.cells - address ≡ count + (c.cells - (address + count)) = omega arith in
-    ap (words c shape address) f ∙ words_split c shape count (c.cells - (address + count)) address
-    ∙ ap (λ (l : List ℕ). l ++ words c shape (address + count) (c.cells - (address + count)))
-    (sym (e ∙ ap (λ (l : List ℕ). l ++ words c shape address count) empty))
+    ap (words c shape frame_idx address) f ∙ words_split c shape frame_idx count (c.cells - (address + count)) address
+    ∙ ap (λ (l : List ℕ). l ++ words c shape frame_idx (address + count) (c.cells - (address + count)))
+    (sym (e ∙ ap (λ (l : List ℕ). l ++ words c shape frame_idx address count) empty))
 
 -- some bytes of a piece are taken, and then the next piece is in hand
 pub taken : (piece rest : List ℕ) (at size : ℕ) → drop at piece ++ rest ≡ take size (drop at piece)

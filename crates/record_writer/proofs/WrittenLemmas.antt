@@ -13,7 +13,6 @@ use Rattle.byteorder.specs.Endian.{big_bytes}
 use Rattle.plp_config.specs.Capacity.{block_bytes}
 use Rattle.plp_config.specs.Laws.{FieldRange}
 use Rattle.plp_config.specs.Plps.{plp_at}
-use Rattle.plp_config.specs.Rules.{PlpCount}
 use Rattle.plp_config.specs.declared.config.Config.{Config}
 use Rattle.scheduler.specs.Shape.{FrameShape}
 use Rattle.cell_map.specs.CellMap.{cell_map}
@@ -23,15 +22,16 @@ use Rattle.l1_signal.specs.Laws.{PreBitsLength, ConfPartLength}
 use Rattle.site_frame.specs.Laws.{BlocksInOrder}
 use Rattle.site_frame.specs.Record.{Block, frame_kind, muted_kind, head_bytes, block_bytes as spelled_block, blocks_bytes}
 use Rattle.site_frame.specs.Record.{cell_bytes}
-use Rattle.site_frame.specs.Whole.{written_rest}
+use Rattle.site_frame.specs.Whole.{written_rest, block_size}
 use Rattle.frame_records.specs.Frames.{l1_pre, frame_cells, HasByteIds}
 use Rattle.frame_records.specs.Laws.{IsSentBlock, EveryFrameFits}
 use Rattle.cell_words.specs.Words.{words}
 use Rattle.record_writer.specs.Front.{post_with}
 use Rattle.record_writer.specs.RecordBytes.{list_at, plp_block, sent_bytes, list_blocks, lists_bytes}
-use Rattle.record_writer.specs.Laws.{written_frame, RecordWritten, MutedWritten, BlockCount, post_size, RestLength, RecordFits}
+use Rattle.record_writer.specs.Laws.{written_frame, RecordWritten, MutedWritten, HasBlocks, BlockCount, post_size, RestLength}
+use Rattle.record_writer.specs.Laws.{RecordFits}
 use Rattle.frame_records.proofs.FrameLemmas.{cells_count}
-use Rattle.frame_records.proofs.FitLemmas.{length-l1_pre}
+use Rattle.frame_records.proofs.FitLemmas.{length-l1_pre, room_for_all}
 use Rattle.record_writer.proofs.FittingLemmas.{length-crc_behind}
 use Rattle.cell_words.proofs.WordLemmas.{length-words}
 
@@ -54,11 +54,12 @@ all_bytes c plp (blocks ∷ lists) =
     (all_bytes c (plp + 1) lists)
 
 -- the words are those of the cells
-words_are : (c : Config) (shape : FrameShape) (addresses : List ℕ)
-    → flat_map cell_bytes (map (get (cell_map c shape)) addresses)
-    ≡ flat_map (λ a. cell_bytes (get (cell_map c shape) a)) addresses
-words_are c shape [] = refl
-words_are c shape (a ∷ addresses) = ap (λ (l : List ℕ). cell_bytes (get (cell_map c shape) a) ++ l) (words_are c shape addresses)
+words_are : (c : Config) (shape : FrameShape) (frame_idx : ℕ) (addresses : List ℕ)
+    → flat_map cell_bytes (map (get (cell_map c shape frame_idx)) addresses)
+    ≡ flat_map (λ a. cell_bytes (get (cell_map c shape frame_idx) a)) addresses
+words_are c shape frame_idx [] = refl
+words_are c shape frame_idx (a ∷ addresses) =
+    ap (λ (l : List ℕ). cell_bytes (get (cell_map c shape frame_idx) a) ++ l) (words_are c shape frame_idx addresses)
 
 -- what is given in two parts, section by section
 joined : (head pre post count blocks cells words : List ℕ)
@@ -67,24 +68,25 @@ joined : (head pre post count blocks cells words : List ℕ)
 joined head pre post count blocks cells words = simp (append_assoc, append-nil) refl
 
 pub record_written : BlocksInOrder → RecordWritten
-record_written order c moment dynamic shape lists =
+record_written order c moment frame_idx dynamic shape lists =
     let post : List Bool = post_with c dynamic in
     let blocks : List Block = list_blocks c 0 lists in
     let head : List ℕ =
-    head_bytes frame_kind moment (length (concat (written_rest (written_frame c moment dynamic shape lists)))) in
+    head_bytes frame_kind moment (length (concat (written_rest (written_frame c moment frame_idx dynamic shape lists)))) in
     let pre : List ℕ = bytes_of (l1_pre c) in
     let bits : List ℕ = big_bytes 4 (length post) in
     let count : List ℕ = big_bytes 2 (length blocks) in
     let spelled : blocks_bytes blocks [] ≡ lists_bytes c 0 lists = order blocks ∙ all_bytes c 0 lists in
-    let all : flat_map cell_bytes (frame_cells c shape) ≡ words c shape 0 c.cells =
-    words_are c shape (range_with_len 0 c.cells) in
-    joined head pre (bits ++ bytes_of post) count (lists_bytes c 0 lists) (big_bytes 4 c.cells) (words c shape 0 c.cells)
+    let all : flat_map cell_bytes (frame_cells c shape frame_idx) ≡ words c shape frame_idx 0 c.cells =
+    words_are c shape frame_idx (range_with_len 0 c.cells) in
+    joined head pre (bits ++ bytes_of post) count (lists_bytes c 0 lists) (big_bytes 4 c.cells)
+    (words c shape frame_idx 0 c.cells)
     ∙ ap₂ (λ (p b : List ℕ).
-    head ++ (pre ++ ((bits ++ p) ++ ((count ++ b) ++ ((big_bytes 4 c.cells ++ words c shape 0 c.cells) ++ [])))))
+    head ++ (pre ++ ((bits ++ p) ++ ((count ++ b) ++ ((big_bytes 4 c.cells ++ words c shape frame_idx 0 c.cells) ++ [])))))
     (ap bytes_of (sym (append-nil post))) (sym spelled)
     ∙ ap₂ (λ (n : ℕ) (w : List ℕ).
     head ++ (pre ++ ((bits ++ bytes_of (post ++ [])) ++ ((count ++ blocks_bytes blocks []) ++ ((big_bytes 4 n ++ w) ++ [])))))
-    (sym (cells_count c shape)) (sym all)
+    (sym (cells_count c shape frame_idx)) (sym all)
 
 pub muted_written : MutedWritten
 muted_written moment = sym (append-nil (head_bytes muted_kind moment 0))
@@ -139,6 +141,43 @@ length_at [] (suc i) = refl
 length_at (blocks ∷ lists) zero = refl
 length_at (blocks ∷ lists) (suc i) = length_at lists i
 
+-- those of all
+all_size : (c : Config) (shape : FrameShape) (lists : List (List (List ℕ))) → HasBlocks c shape lists
+    → length (lists_bytes c 0 lists)
+    ≡ sum_by (λ plp. slice_index shape.counts plp * (4 + block_bytes c plp)) (range_with_len 0 (length c.plps))
+all_size c shape lists h =
+    let count : ℕ → ℕ = slice_index shape.counts in
+    lists_size c count 0 lists
+    (λ i lt. let e : 0 + i ≡ i = omega arith in ap count e ∙ ap (λ (l : List ℕ). slice_index l i) h.counts ∙ length_at lists i)
+    (λ i place lt. let e : i ≡ 0 + i = omega arith in h.each i place lt ∙ ap (block_bytes c) e)
+    ∙ ap (λ (n : ℕ). sum_by (λ plp. count plp * (4 + block_bytes c plp)) (range_with_len 0 n)) h.plps
+
+-- the sizes of the blocks are those of their bytes
+plp_sized : (c : Config) (plp : ℕ) (blocks : List (List ℕ)) (more : List Block)
+    → sum_by block_size (map (plp_block c plp) blocks ++ more)
+    ≡ length (flat_map (sent_bytes c plp) blocks) + sum_by block_size more
+plp_sized c plp [] more = omega arith
+plp_sized c plp (b ∷ blocks) more =
+    let one : length (sent_bytes c plp b) ≡ 4 + length b = omega arith in
+    omega (
+      arith,
+      one,
+      plp_sized c plp blocks more,
+      length-append (sent_bytes c plp b) (flat_map (sent_bytes c plp) blocks),
+      sum_by-cons block_size (plp_block c plp b) (map (plp_block c plp) blocks ++ more),
+    )
+
+all_sized : (c : Config) (plp : ℕ) (lists : List (List (List ℕ))) → sum_by block_size (list_blocks c plp lists)
+    ≡ length (lists_bytes c plp lists)
+all_sized c plp [] = refl
+all_sized c plp (blocks ∷ lists) =
+    omega (
+      arith,
+      plp_sized c plp blocks (list_blocks c (plp + 1) lists),
+      all_sized c (plp + 1) lists,
+      length-append (flat_map (sent_bytes c plp) blocks) (lists_bytes c (plp + 1) lists),
+    )
+
 -- the bytes of four sections
 four_sections : (a b c d : List ℕ) → length (concat (a ∷ b ∷ c ∷ d ∷ [])) ≡ length a + (length b + (length c + length d))
 four_sections a b c d =
@@ -157,7 +196,7 @@ length-post_with law c dynamic =
     omega (arith, length-crc_behind (conf_bits (conf_of c) ++ dynamic), length-append (conf_bits (conf_of c)) dynamic, law c)
 
 pub rest_length : PreBitsLength → ConfPartLength → BlocksInOrder → RestLength
-rest_length bits conf order c moment dynamic shape lists h =
+rest_length bits conf order c moment frame_idx dynamic shape lists h =
     let post : List Bool = post_with c dynamic in
     let blocks : List Block = list_blocks c 0 lists in
     let pre_size : length (bytes_of (l1_pre c)) ≡ 25 = length-bytes_of (l1_pre c) ∙ ap bytes_for (length-l1_pre bits c) in
@@ -166,22 +205,22 @@ rest_length bits conf order c moment dynamic shape lists h =
     ∙ ap bytes_for (length-post_with conf c dynamic) in
     let long : length (big_bytes 4 (length post) ++ bytes_of (post ++ [])) ≡ 4 + bytes_for (post_size c (length dynamic)) =
     omega (arith, post_bytes) in
-    let count : ℕ → ℕ = slice_index shape.counts in
-    let all : length (lists_bytes c 0 lists) ≡ sum_by (λ plp. count plp * (4 + block_bytes c plp))
-    (range_with_len 0 (length c.plps)) =
-    lists_size c count 0 lists
-    (λ i lt. let e : 0 + i ≡ i = omega arith in ap count e ∙ ap (λ (l : List ℕ). slice_index l i) h.counts ∙ length_at lists i)
-    (λ i place lt. let e : i ≡ 0 + i = omega arith in h.each i place lt ∙ ap (block_bytes c) e)
-    ∙ ap (λ (n : ℕ). sum_by (λ plp. count plp * (4 + block_bytes c plp)) (range_with_len 0 n)) h.plps in
+    let all = all_size c shape lists h in
     let sized : length (big_bytes 2 (length blocks) ++ blocks_bytes blocks [])
-    ≡ 2 + sum_by (λ plp. count plp * (4 + block_bytes c plp)) (range_with_len 0 (length c.plps)) =
+    ≡ 2 + sum_by (λ plp. slice_index shape.counts plp * (4 + block_bytes c plp)) (range_with_len 0 (length c.plps)) =
     omega (arith, ap (λ (l : List ℕ). length l) (order blocks ∙ all_bytes c 0 lists), all) in
-    let cells : length (big_bytes 4 (length (frame_cells c shape)) ++ flat_map cell_bytes (frame_cells c shape))
+    let cells : length (big_bytes 4 (length (frame_cells c shape frame_idx))
+    ++ flat_map cell_bytes (frame_cells c shape frame_idx))
     ≡ 4 + 4 * c.cells =
-    omega (arith, ap (λ (l : List ℕ). length l) (words_are c shape (range_with_len 0 c.cells)), length-words c shape c.cells 0) in
+    omega (
+      arith,
+      ap (λ (l : List ℕ). length l) (words_are c shape frame_idx (range_with_len 0 c.cells)),
+      length-words c shape frame_idx c.cells 0,
+      cells_count c shape frame_idx,
+    ) in
     four_sections (bytes_of (l1_pre c)) (big_bytes 4 (length post) ++ bytes_of (post ++ []))
     (big_bytes 2 (length blocks) ++ blocks_bytes blocks [])
-    (big_bytes 4 (length (frame_cells c shape)) ++ flat_map cell_bytes (frame_cells c shape))
+    (big_bytes 4 (length (frame_cells c shape frame_idx)) ++ flat_map cell_bytes (frame_cells c shape frame_idx))
     ∙ omega (arith, pre_size, long, sized, cells)
 
 -- ---- it fits
@@ -207,12 +246,13 @@ lists_are_sent field c from (blocks ∷ lists) ids inside each =
     (λ i place lt. let e : from + suc i ≡ from + 1 + i = omega arith in each (suc i) place lt ∙ ap (block_bytes c) e))
 
 pub record_fits : ConfPartLength → FieldRange → EveryFrameFits → RecordFits
-record_fits conf field every c n dynamic shape lists is ids small short passes h =
-    let plps : length c.plps ≤ 255 = (is.rules PlpCount).1 in
-    every c n (post_with c dynamic) (list_blocks c 0 lists) shape is small
-    (omega (arith, length-post_with conf c dynamic, plps, short))
+record_fits conf field every c n frame_idx dynamic shape lists is ids small short passes h =
+    let room = room_for_all c (slice_index shape.counts) passes.counts in
+    every c n frame_idx (post_with c dynamic) (list_blocks c 0 lists) shape is small
+    (omega (arith, length-post_with conf c dynamic, short))
     (ap (λ (l : List ℕ). length l) h.counts ∙ length-map lists (λ blocks. length blocks) ∙ h.plps)
     passes
     (omega (arith, block_count c shape lists h))
+    (omega (arith, all_sized c 0 lists, all_size c shape lists h, room))
     (lists_are_sent field c 0 lists ids (omega (arith, h.plps)) (λ i place lt. let e : i ≡ 0 + i = omega arith in
     h.each i place lt ∙ ap (block_bytes c) e))

@@ -1,7 +1,7 @@
 -- The first bytes of a frame's record: its head, its L1 signalling, and the number of its blocks.
-use Rattle.std.specs.Prelude.{ℕ, ◌+◌, ◌*◌, Bool, true, List, ◌++◌, length}
+use Rattle.std.specs.Prelude.{ℕ, Bool, true, List, ◌++◌, length}
 use Rattle.byteorder.specs.Endian.{big_bytes}
-use Rattle.terms.specs.Bits.{bytes_for, bytes_of}
+use Rattle.terms.specs.Bits.{bytes_of}
 use Rattle.plp_config.specs.declared.config.Config.{Config}
 use Rattle.plp_config.specs.declared.moment.Moment.{Moment}
 use Rattle.l1_signal.specs.L1Configurable.{conf_bits}
@@ -19,14 +19,3 @@ front_bytes c moment dynamic blocks rest =
     head_bytes frame_kind moment rest
     ++ (bytes_of (l1_pre c) ++ ((big_bytes 4 (length (post_with c dynamic)) ++ bytes_of (post_with c dynamic))
     ++ big_bytes 2 blocks))
-
--- the most bits of a configurable and of a dynamic part, with 255 PLPs (clauses 7.2.3.1 and 7.2.3.2)
-abbrev pub most_conf : ℕ
-most_conf = 102 + 89 * 255
-
-abbrev pub most_dynamic : ℕ
-most_dynamic = 79 + 48 * 255
-
--- the most bytes of L1-post
-abbrev pub most_post : ℕ
-most_post = bytes_for (most_conf + most_dynamic + 32)

@@ -1,5 +1,5 @@
 -- Laws of what a writer gives.
-use Rattle.std.specs.Prelude.{◌≡◌, ℕ, ◌+◌, ◌*◌, ◌<◌, ◌≤◌, ◌^◌, Bool, List, [], ◌++◌, length, map, sum, slice_index}
+use Rattle.std.specs.Prelude.{◌≡◌, ℕ, ◌+◌, ◌<◌, ◌≤◌, ◌^◌, Bool, List, [], ◌++◌, length, map, sum, slice_index}
 use Rattle.std.specs.Prelude.{slice_index_or}
 use Rattle.std.specs.List.{concat}
 use Rattle.plp_config.specs.Capacity.{IsPlan, block_bytes}
@@ -16,21 +16,25 @@ use Rattle.site_frame.specs.Record.{head_bytes, muted_kind}
 use Rattle.site_frame.specs.declared.reading.RecordView.{RecordView}
 use Rattle.site_frame.specs.declared.reading.RecordView.TheVariants.{Muted}
 use Rattle.record_writer.specs.RecordBytes.{AreShort, most_block, list_at, list_blocks}
-use Rattle.record_writer.specs.Front.{post_with, front_bytes, most_dynamic}
+use Rattle.l1_signal.specs.Lengths.{conf_len, dyn_len}
+use Rattle.l1_signal.specs.declared.lengths.TheConstants.{CRC_BITS}
+use Rattle.record_writer.specs.Front.{post_with, front_bytes}
 use Rattle.record_writer.specs.Steps.{step_bytes}
 use Rattle.record_writer.specs.declared.step.Step.TheVariants.{Blocks}
 
--- the frame whose blocks are in lists, one for each PLP
-abbrev pub written_frame : Config → Moment → List Bool → FrameShape → List (List (List ℕ)) → RecordView
-written_frame c moment dynamic shape lists = frame_view c moment (post_with c dynamic) (list_blocks c 0 lists) shape
+-- the frame of this number in its superframe, whose blocks are in lists, one for each PLP
+abbrev pub written_frame : Config → Moment → ℕ → List Bool → FrameShape → List (List (List ℕ)) → RecordView
+written_frame c moment frame_idx dynamic shape lists =
+    frame_view c moment frame_idx (post_with c dynamic) (list_blocks c 0 lists) shape
 
 -- What a writer gives of a frame is its record, if it was told how many blocks there are and how many bytes follow the head.
 abbrev pub RecordWritten : Type 0
-RecordWritten = (c : Config) (moment : Moment) (dynamic : List Bool) (shape : FrameShape) (lists : List (List (List ℕ)))
+RecordWritten = (c : Config) (moment : Moment) (frame_idx : ℕ) (dynamic : List Bool) (shape : FrameShape)
+    (lists : List (List (List ℕ)))
     → front_bytes c moment dynamic (length (list_blocks c 0 lists))
-    (length (concat (written_rest (written_frame c moment dynamic shape lists))))
-    ++ step_bytes c shape lists (Blocks 0)
-    ≡ record_bytes (written_frame c moment dynamic shape lists)
+    (length (concat (written_rest (written_frame c moment frame_idx dynamic shape lists))))
+    ++ step_bytes c shape frame_idx lists (Blocks 0)
+    ≡ record_bytes (written_frame c moment frame_idx dynamic shape lists)
 
 -- What it gives of a muted one is its record.
 abbrev pub MutedWritten : Type 0
@@ -51,21 +55,22 @@ BlockCount = (c : Config) (shape : FrameShape) (lists : List (List (List ℕ))) 
 
 -- the bits of L1-post with a dynamic part of so many: the configurable part, this one, and the CRC_32
 abbrev pub post_size : Config → ℕ → ℕ
-post_size c dynamic = 102 + 89 * length c.plps + dynamic + 32
+post_size c dynamic = conf_len (length c.plps) + dynamic + CRC_BITS
 
 -- So many bytes follow the head.
 abbrev pub RestLength : Type 0
-RestLength = (c : Config) (moment : Moment) (dynamic : List Bool) (shape : FrameShape) (lists : List (List (List ℕ)))
-    → HasBlocks c shape lists
-    → length (concat (written_rest (written_frame c moment dynamic shape lists))) ≡ rest_size c (post_size c (length dynamic))
-    (slice_index shape.counts)
+RestLength = (c : Config) (moment : Moment) (frame_idx : ℕ) (dynamic : List Bool) (shape : FrameShape)
+    (lists : List (List (List ℕ))) → HasBlocks c shape lists
+    → length (concat (written_rest (written_frame c moment frame_idx dynamic shape lists)))
+    ≡ rest_size c (post_size c (length dynamic)) (slice_index shape.counts)
 
--- A frame of a plan fits a record: so what is written of it spells it, and is read back.
+-- A frame of a plan fits a record, if its dynamic part has no more bits than those of the plan: so what is written of it spells
+-- it, and is read back.
 abbrev pub RecordFits : Type 0
-RecordFits = (c : Config) (n : ℕ) (dynamic : List Bool) (shape : FrameShape) (lists : List (List (List ℕ))) → IsPlan c
-    → HasByteIds c → n < 2 ^ 32
-    → length dynamic ≤ most_dynamic → Passes c shape → HasBlocks c shape lists
-    → FitsRecord (written_frame c (emission c n) dynamic shape lists)
+RecordFits = (c : Config) (n frame_idx : ℕ) (dynamic : List Bool) (shape : FrameShape) (lists : List (List (List ℕ)))
+    → IsPlan c → HasByteIds c → n < 2 ^ 32
+    → length dynamic ≤ dyn_len (length c.plps) → Passes c shape → HasBlocks c shape lists
+    → FitsRecord (written_frame c (emission c n) frame_idx dynamic shape lists)
 
 -- The lists of a pool without blocks are short, and stay so if a short block is appended.
 abbrev pub EmptyIsShort : Type 0

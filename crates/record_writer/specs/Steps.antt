@@ -10,11 +10,13 @@ use Rattle.record_writer.specs.RecordBytes.{AreShort, lists_bytes}
 use Rattle.record_writer.specs.declared.step.Step.{Step}
 use Rattle.record_writer.specs.declared.step.Step.TheVariants.{Blocks, Cells, Done}
 
--- the blocks from a PLP on, the number of cells, and these; or the cells from an address on
-abbrev pub step_bytes : Config → FrameShape → List (List (List ℕ)) → Step → List ℕ
-step_bytes c shape lists (Blocks plp) = lists_bytes c plp (drop plp lists) ++ (big_bytes 4 c.cells ++ words c shape 0 c.cells)
-step_bytes c shape lists (Cells address) = words c shape address (c.cells - address)
-step_bytes c shape lists Done = []
+-- the blocks from a PLP on, the number of cells, and these; or the cells from an address on. The frame is told by its number in
+-- its superframe
+abbrev pub step_bytes : Config → FrameShape → ℕ → List (List (List ℕ)) → Step → List ℕ
+step_bytes c shape frame_idx lists (Blocks plp) =
+    lists_bytes c plp (drop plp lists) ++ (big_bytes 4 c.cells ++ words c shape frame_idx 0 c.cells)
+step_bytes c shape frame_idx lists (Cells address) = words c shape frame_idx address (c.cells - address)
+step_bytes c shape frame_idx lists Done = []
 
 -- A shape is for as many PLPs, and has a cell map.
 pub record HasMap (c : Config) (shape : FrameShape) : Type 0 where

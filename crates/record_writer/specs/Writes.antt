@@ -10,7 +10,7 @@ use Rattle.record_writer.specs.declared.writer.Writer.{Writer}
 
 -- the bytes that it still has to give, of a frame of this shape whose blocks wait in the lists
 abbrev pub bytes_left : Writer → Config → FrameShape → List (List (List ℕ)) → List ℕ
-bytes_left w c shape lists = drop w.at w.piece ++ step_bytes c shape lists w.step
+bytes_left w c shape lists = drop w.at w.piece ++ step_bytes c shape w.frame_idx lists w.step
 
 -- the most bytes of a frame's record whose blocks fill so many chunks: its front, the blocks with a head for each chunk, the
 -- number of cells, and these

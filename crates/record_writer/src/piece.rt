@@ -70,16 +70,23 @@ impl Piece {
         self.len = end;
     }
 
-    /// Appends the words of so many cells from an address on.
-    pub fn put_words(&mut self, plan: &Plan, shape: &Shape, address: u32, count: u32)
+    /// Appends the words of so many cells of a frame from an address on. The frame is told by its number in the superframe.
+    pub fn put_words(&mut self, plan: &Plan, shape: &Shape, frame_idx: u8, address: u32, count: u32)
         requires plps { length shape.now.counts ≡ length plan.now.plps }
         requires passes { Passes plan.now shape.now }
         requires inside { address + count ≤ plan.now.cells }
         requires room { length self.old + 4 * count ≤ piece_len }
-        ensures { self.new ≡ self.old ++ words plan.now shape.now address count }
+        ensures { self.new ≡ self.old ++ words plan.now shape.now frame_idx address count }
     {
         let end = self.len + 4 * count as usize;
-        fill_words(plan, shape, address, count, &mut self.bytes[self.len..end]);
+        fill_words(
+            plan,
+            shape,
+            frame_idx,
+            address,
+            count,
+            &mut self.bytes[self.len..end],
+        );
         self.len = end;
     }
 

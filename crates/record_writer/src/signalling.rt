@@ -10,13 +10,16 @@ ghost use Rattle.frame_records.specs.Frames.{l1_pre};
 ghost use Rattle.l1_signal.specs.L1Configurable.{conf_bits};
 ghost use Rattle.site_frame.specs.Record.{head_len, pre_len, head_bytes, frame_kind, muted_kind};
 ghost use Rattle.record_writer.specs.Fitting.{HasRoom};
-ghost use Rattle.record_writer.specs.Front.{most_dynamic, most_post, front_bytes};
+ghost use Rattle.record_writer.specs.Front.{front_bytes};
 ghost use Rattle.record_writer.specs.RecordBytes.{piece_len};
 
 use crate::piece::Piece;
 use bit_slice::{BitBuf, BitSink, BitSlice, CrcSink, FixedBits, OutOfMemory};
 use byteorder::{BigEndian, ByteOrder};
-use l1_signal::{conf_law, conf_of, pre_law, pre_of, write_conf, write_pre};
+use l1_signal::{
+    CRC_BITS, MOST_DYN_BITS, MOST_POST_BYTES, PRE_BYTES, conf_law, conf_of, pre_law, pre_of,
+    write_conf, write_pre,
+};
 use plp_config::{Moment, Plan};
 use site_frame::{HEAD, write_head, write_muted, writing_law};
 use std::alloc::Global;
@@ -30,13 +33,13 @@ pub struct Signalling {
 
 impl Model for Signalling {
     ghost use Rattle.std.specs.Prelude.{◌≤◌, Bool, List, length};
-    ghost use Rattle.record_writer.specs.Front.{most_conf};
+    ghost use Rattle.l1_signal.specs.declared.lengths.TheConstants.{MOST_CONF_BITS};
 
     ghost Value = { List Bool };
 
     ghost view = { λ s. s.conf };
 
-    ghost invariant = { λ s. length s.conf ≤ most_conf };
+    ghost invariant = { λ s. length s.conf ≤ MOST_CONF_BITS };
 }
 
 impl Signalling {
@@ -82,49 +85,41 @@ fn put_bits(bits: &BitSlice<'_>, out: &mut Piece)
     }
 }
 
-/// The bytes of L1-pre with its CRC_32, and the most bytes of L1-post: `213 + 137 * 255` bits.
-pub const PRE: usize = 25;
-
-const MOST_POST: usize = 4394;
-
 // Puts bits for which there is room.
 fn put_fitting<S: BitSink>(sink: &mut S, bits: BitSlice<'_>)
     requires { HasRoom (S.state sink.old) (length bits) }
     ensures { Puts (S.state sink.old) (S.state sink.new) bits.entry }
 {
-    let _ = sink.put_slice(bits);
+    sink.put_slice(bits).unwrap();
 }
 
 // Puts the CRC-32 of all that was put through, for which there is room.
 fn with_crc<const N: usize>(sink: CrcSink<FixedBits<N>>) -> FixedBits<N>
-    requires room { HasRoom sink 32 }
+    requires room { HasRoom sink CRC_BITS }
     requires below { sink.below ≡ [] ∷ [] }
     ensures { result ≡ crc_behind true sink.entry.written }
 {
-    match sink.finish() {
-        Ok(bits) => bits,
-        Err((bits, _)) => bits,
-    }
+    sink.finish().unwrap()
 }
 
 // L1-pre with its CRC_32.
-fn pre_with_crc(plan: &Plan) -> FixedBits<PRE>
+fn pre_with_crc(plan: &Plan) -> FixedBits<PRE_BYTES>
     ensures value { result ≡ l1_pre plan.now }
     ensures len { length result ≡ 8 * pre_len }
 {
     pre_law();
-    let mut sink = CrcSink::new(FixedBits::<PRE>::new());
-    let _ = write_pre(&mut sink, &pre_of(plan));
+    let mut sink = CrcSink::new(FixedBits::<PRE_BYTES>::new());
+    write_pre(&mut sink, &pre_of(plan)).unwrap();
     with_crc(sink)
 }
 
 // L1-post with these parts.
-fn post_with(conf: BitSlice<'_>, dynamic: BitSlice<'_>) -> FixedBits<MOST_POST>
-    requires { length conf + length dynamic + 32 ≤ 8 * 4394 }
+fn post_with(conf: BitSlice<'_>, dynamic: BitSlice<'_>) -> FixedBits<MOST_POST_BYTES>
+    requires { length conf + length dynamic + CRC_BITS ≤ 8 * MOST_POST_BYTES }
     ensures value { result ≡ crc_behind true (conf.entry ++ dynamic.entry) }
-    ensures len { length result ≡ length conf.entry + length dynamic.entry + 32 }
+    ensures len { length result ≡ length conf.entry + length dynamic.entry + CRC_BITS }
 {
-    let mut sink = CrcSink::new(FixedBits::<MOST_POST>::new());
+    let mut sink = CrcSink::new(FixedBits::<MOST_POST_BYTES>::new());
     put_fitting(&mut sink, conf);
     put_fitting(&mut sink, dynamic);
     with_crc(sink)
@@ -175,11 +170,11 @@ pub fn put_muted(moment: &Moment, out: &mut Piece)
 
 // Appends L1-post behind the number of its bits.
 fn put_post(conf: &Signalling, dynamic: BitSlice<'_>, out: &mut Piece)
-    requires short { length dynamic ≤ most_dynamic }
-    requires room { length out.old + 4 + most_post ≤ piece_len }
+    requires short { length dynamic ≤ MOST_DYN_BITS }
+    requires room { length out.old + 4 + MOST_POST_BYTES ≤ piece_len }
     ensures value { out.new ≡ out.old ++ (big_bytes 4 (length (crc_behind true (conf.now ++ dynamic.entry)))
         ++ bytes_of (crc_behind true (conf.now ++ dynamic.entry))) }
-    ensures len { length out.new ≤ length out.old + 4 + most_post }
+    ensures len { length out.new ≤ length out.old + 4 + MOST_POST_BYTES }
 {
     let post = post_with(conf.conf.as_slice(), dynamic);
     let bits = post.as_slice();
@@ -200,7 +195,7 @@ pub fn put_front(
 )
     requires empty { out.old ≡ [] }
     requires conf { conf.now ≡ conf_bits (conf_of plan.now) }
-    requires short { length dynamic ≤ most_dynamic }
+    requires short { length dynamic ≤ MOST_DYN_BITS }
     ensures value { out.new ≡ front_bytes plan.now moment.now dynamic.entry blocks rest }
     ensures short { length out.new ≤ piece_len }
 {

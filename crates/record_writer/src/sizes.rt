@@ -4,21 +4,13 @@ ghost use Rattle.plp_config.specs.Capacity.{block_bytes};
 ghost use Rattle.cell_map.specs.CellMap.{Passes};
 ghost use Rattle.plp_config.specs.Places.{places};
 ghost use Rattle.frame_records.specs.Laws.{rest_size};
-ghost use Rattle.record_writer.specs.Front.{most_dynamic};
 ghost use Rattle.record_writer.specs.Laws.{post_size};
 ghost use Rattle.record_writer.specs.Sizes.{most_plp};
 
-use crate::signalling::PRE;
 use frame_records::fit_law;
+use l1_signal::{CRC_BITS, MOST_DYN_BITS, PRE_BYTES, conf_len};
 use plp_config::Plan;
 use scheduler::Shape;
-
-// The bits of a configurable part, those of each PLP in it, and those of a CRC_32 (EN 302 755, clause 7.2.3).
-const CONF_BITS: usize = 102;
-
-const CONF_PLP_BITS: usize = 89;
-
-const CRC_BITS: usize = 32;
 
 // The bytes of the numbers of a rest: of the bits of L1-post, of the blocks, and of the cells.
 const NUMBERS: u32 = 4 + 2 + 4;
@@ -74,11 +66,11 @@ fn blocks_len(plan: &Plan, shape: &Shape) -> u32
 pub fn rest_len(plan: &Plan, shape: &Shape, dynamic: usize) -> u32
     requires plps { length shape.now.counts ≡ length plan.now.plps }
     requires passes { Passes plan.now shape.now }
-    requires short { dynamic ≤ most_dynamic }
+    requires short { dynamic ≤ MOST_DYN_BITS }
     ensures { result ≡ rest_size plan.now (post_size plan.now dynamic) (slice_index shape.now.counts) }
 {
     plan.obeys_rules();
-    let bits = CONF_BITS + CONF_PLP_BITS * plan.config().plps.len() + dynamic + CRC_BITS;
-    let l1 = (PRE + bits.div_ceil(8)) as u32;
+    let bits = conf_len(plan.config().plps.len()) + dynamic + CRC_BITS;
+    let l1 = (PRE_BYTES + bits.div_ceil(8)) as u32;
     l1 + NUMBERS + blocks_len(plan, shape) + WORD * plan.config().cells
 }

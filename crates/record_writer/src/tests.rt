@@ -154,6 +154,7 @@ impl Frame {
             &plan,
             &conf,
             &plan.emission(1),
+            1,
             BitSlice::whole(&DYNAMIC).sub(0, DYNAMIC_BITS),
             block_count(&plan, &shape),
             rest_len(&plan, &shape, DYNAMIC_BITS),

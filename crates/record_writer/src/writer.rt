@@ -16,6 +16,7 @@ use crate::step::Step;
 use bit_slice::{BitSlice, OutOfMemory};
 use byteorder::{BigEndian, ByteOrder};
 use cell_words::fill_words;
+use l1_signal::MOST_DYN_BITS;
 use linked_pool::Pool;
 use plp_config::{Moment, Plan};
 use scheduler::Shape;
@@ -87,8 +88,8 @@ fn build_block(plan: &Plan, pool: &mut Pool, plp: usize, out: &mut Piece) -> Ste
     requires lists { HasLists plan.now pool.old.lists }
     requires inside { plp ≤ length pool.old.lists }
     requires empty { out.old ≡ [] }
-    ensures bytes { (shape : FrameShape) → step_bytes plan.now shape pool.old.lists (Blocks plp)
-        ≡ out.new ++ step_bytes plan.now shape pool.new.lists result }
+    ensures bytes { (shape : FrameShape) (frame_idx : ℕ) → step_bytes plan.now shape frame_idx pool.old.lists (Blocks plp)
+        ≡ out.new ++ step_bytes plan.now shape frame_idx pool.new.lists result }
     ensures some { 0 < length out.new }
     ensures step { (shape : FrameShape) → HasMap plan.now shape → IsStep plan.now shape pool.new.lists result }
     ensures lists { HasLists plan.now pool.new.lists }
@@ -108,17 +109,17 @@ fn build_block(plan: &Plan, pool: &mut Pool, plp: usize, out: &mut Piece) -> Ste
 }
 
 // Puts the words of the next cells, if there are any.
-fn build_cells(plan: &Plan, shape: &Shape, address: u32, out: &mut Piece) -> Step
+fn build_cells(plan: &Plan, shape: &Shape, frame_idx: u8, address: u32, out: &mut Piece) -> Step
     requires map { HasMap plan.now shape.now }
     requires inside { address ≤ plan.now.cells }
     requires empty { out.old ≡ [] }
-    ensures bytes { (lists : List (List (List ℕ))) → words plan.now shape.now address (plan.now.cells - address)
-        ≡ out.new ++ step_bytes plan.now shape.now lists result }
+    ensures bytes { (lists : List (List (List ℕ))) → words plan.now shape.now frame_idx address (plan.now.cells - address)
+        ≡ out.new ++ step_bytes plan.now shape.now frame_idx lists result }
     ensures none { out.new ≡ [] → result ≡ Done }
     ensures step { (lists : List (List (List ℕ))) → IsStep plan.now shape.now lists result }
 {
     let count = fitting(plan.config().cells - address);
-    out.put_words(plan, shape, address, count);
+    out.put_words(plan, shape, frame_idx, address, count);
     if count == 0 {
         return Step::Done;
     }
@@ -126,10 +127,17 @@ fn build_cells(plan: &Plan, shape: &Shape, address: u32, out: &mut Piece) -> Ste
 }
 
 // Puts the next bytes of a frame in place of those in hand, and answers what comes behind them.
-fn build(plan: &Plan, shape: &Shape, pool: &mut Pool, step: Step, out: &mut Piece) -> Step
+fn build(
+    plan: &Plan,
+    shape: &Shape,
+    frame_idx: u8,
+    pool: &mut Pool,
+    step: Step,
+    out: &mut Piece,
+) -> Step
     requires { IsStep plan.now shape.now pool.old.lists step }
-    ensures bytes { step_bytes plan.now shape.now pool.old.lists step
-        ≡ out.new ++ step_bytes plan.now shape.now pool.new.lists result }
+    ensures bytes { step_bytes plan.now shape.now frame_idx pool.old.lists step
+        ≡ out.new ++ step_bytes plan.now shape.now frame_idx pool.new.lists result }
     ensures none { out.new ≡ [] → result ≡ Done }
     ensures step { IsStep plan.now shape.now pool.new.lists result }
     ensures last { step ≡ Done → (result ≡ Done) × (pool.new ≡ pool.old) }
@@ -140,19 +148,26 @@ fn build(plan: &Plan, shape: &Shape, pool: &mut Pool, step: Step, out: &mut Piec
     out.clear();
     match step {
         Step::Blocks(plp) => build_block(plan, pool, plp, out),
-        Step::Cells(address) => build_cells(plan, shape, address, out),
+        Step::Cells(address) => build_cells(plan, shape, frame_idx, address, out),
         Step::Done => Step::Done,
     }
 }
 
 // Writes the words of the cells that come next straight to a place, as many as have room behind it, and answers how many bytes
 // these are.
-fn fill_cells(plan: &Plan, shape: &Shape, step: &mut Step, out: &mut [u8], from: usize) -> usize
+fn fill_cells(
+    plan: &Plan,
+    shape: &Shape,
+    frame_idx: u8,
+    step: &mut Step,
+    out: &mut [u8],
+    from: usize,
+) -> usize
     requires from { from ≤ length out.old }
     requires cells { (address : ℕ) → step.old ≡ Cells address → (address ≤ plan.now.cells) × HasMap plan.now shape.now }
     ensures most { from + result ≤ length out.old }
-    ensures bytes { (lists : List (List (List ℕ))) → step_bytes plan.now shape.now lists step.old
-        ≡ take result (drop from out.new) ++ step_bytes plan.now shape.now lists step.new }
+    ensures bytes { (lists : List (List (List ℕ))) → step_bytes plan.now shape.now frame_idx lists step.old
+        ≡ take result (drop from out.new) ++ step_bytes plan.now shape.now frame_idx lists step.new }
     ensures stays { (length out.new ≡ length out.old) × (drop (from + result) out.new ≡ drop (from + result) out.old) }
     ensures front { take from out.new ≡ take from out.old }
     ensures step { (lists : List (List (List ℕ))) → IsStep plan.now shape.now lists step.old
@@ -168,6 +183,7 @@ fn fill_cells(plan: &Plan, shape: &Shape, step: &mut Step, out: &mut [u8], from:
     fill_words(
         plan,
         shape,
+        frame_idx,
         address,
         count as u32,
         &mut out[from..from + size],
@@ -196,6 +212,8 @@ pub struct Writer {
     piece: Piece,
     at: usize,
     step: Step,
+    // The number in its superframe of the frame whose cells come.
+    frame_idx: u8,
     ghost within: { at ≤ length piece },
     // The next byte is in hand, if there is one.
     ghost eager: { at ≡ length piece → step ≡ Done },
@@ -208,7 +226,7 @@ impl Writer {
     ghost use Rattle.scheduler.specs.Shape.{FrameShape};
     ghost use Rattle.l1_signal.specs.L1Configurable.{conf_bits};
     ghost use Rattle.l1_signal.specs.L1Of.{conf_of};
-    ghost use Rattle.record_writer.specs.Front.{front_bytes, most_dynamic};
+    ghost use Rattle.record_writer.specs.Front.{front_bytes};
     ghost use Rattle.record_writer.specs.declared.step.Step.TheVariants.{Blocks};
     ghost use Rattle.site_frame.specs.Record.{head_bytes, muted_kind};
     ghost use Rattle.linked_pool.specs.Pool.{used_chunks};
@@ -227,6 +245,7 @@ impl Writer {
             piece: Piece::open(alloc)?,
             at: 0,
             step: Step::Done,
+            frame_idx: 0,
         })
     }
 
@@ -241,21 +260,24 @@ impl Writer {
         self.step = Step::Done;
     }
 
-    /// Begins the record of a frame: its head tells `rest`, and it has so many blocks, which wait in the pool.
+    /// Begins the record of the frame of this number in its superframe: its head tells `rest`, and it has so many blocks, which
+    /// wait in the pool.
     pub fn begin_frame(
         &mut self,
         plan: &Plan,
         conf: &Signalling,
         moment: &Moment,
+        frame_idx: u8,
         dynamic: BitSlice<'_>,
         blocks: u16,
         rest: u32,
     )
         requires conf { conf.now ≡ conf_bits (conf_of plan.now) }
-        requires short { length dynamic ≤ most_dynamic }
+        requires short { length dynamic ≤ MOST_DYN_BITS }
         ensures left { (shape : FrameShape) (lists : List (List (List ℕ)))
             → bytes_left self.new plan.now shape lists
-            ≡ front_bytes plan.now moment.now dynamic.entry blocks rest ++ step_bytes plan.now shape lists (Blocks 0) }
+            ≡ front_bytes plan.now moment.now dynamic.entry blocks rest
+            ++ step_bytes plan.now shape frame_idx lists (Blocks 0) }
         ensures most { (shape : FrameShape) (lists : List (List (List ℕ)))
             → length (bytes_left self.new plan.now shape lists) ≤ most_record plan.now (used_chunks lists) }
         ensures ready { (shape : FrameShape) (lists : List (List (List ℕ))) → HasMap plan.now shape → HasLists plan.now lists
@@ -266,6 +288,7 @@ impl Writer {
         put_front(plan, conf, moment, dynamic, blocks, rest, &mut self.piece);
         self.at = 0;
         self.step = Step::Blocks(0);
+        self.frame_idx = frame_idx;
     }
 
     /// Begins the record of a muted frame.
@@ -304,8 +327,15 @@ impl Writer {
             self.at += size;
             return size;
         }
-        let filled = fill_cells(plan, shape, &mut self.step, out, size);
-        self.step = build(plan, shape, pool, self.step, &mut self.piece);
+        let filled = fill_cells(plan, shape, self.frame_idx, &mut self.step, out, size);
+        self.step = build(
+            plan,
+            shape,
+            self.frame_idx,
+            pool,
+            self.step,
+            &mut self.piece,
+        );
         self.at = 0;
         size + filled
     }

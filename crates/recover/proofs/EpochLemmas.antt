@@ -10,9 +10,9 @@ use Rattle.std.proofs.Math.Nat.{mul-le-mul_left}
 use Rattle.mode_adapt.specs.Blocks.{block_places}
 use Rattle.packet_slots.specs.Strings.{Item}
 use Rattle.recover.proofs.GatewayLemmas.{ceil_parts}
-use Rattle.plp_config.specs.Laws.{FrameTicks}
+use Rattle.plp_config.specs.Laws.{SoundTimes}
 use Rattle.mode_adapt.specs.Laws.{WithinLaw}
-use Rattle.recover.specs.Laws.{FrameIsEpoch}
+use Rattle.recover.specs.Laws.{InterleavingIsEpoch}
 
 -- for whatever can be said of strings by their places and is true of two strings joined
 module _ (P : ℕ → List Item → Type 0) (none : (place : ℕ) → P place []) (join : (place : ℕ) (z y : List Item) → P place z
@@ -69,9 +69,9 @@ module _ (P : ℕ → List Item → Type 0) (none : (place : ℕ) → P place []
       let t = p.size in
       (omega (arith, t, c, s), p.holds)
 
--- the frames of a plan
-pub frame_is_epoch : WithinLaw → FrameTicks → FrameIsEpoch
-frame_is_epoch within lengths c plp plan l =
-    let t = lengths c plan.rules in
+-- the interleaving frames of a plan
+pub interleaving_is_epoch : WithinLaw → SoundTimes → InterleavingIsEpoch
+interleaving_is_epoch within times c plp plan l =
+    let t = times c plp plan.rules l in
     let w = within c plp plan l in
-    record { some = omega (arith, t); most = omega (arith, t); within = w.0; holds = w.1 }
+    record { some = t.least; most = t.most; within = w.0; holds = w.1 }

@@ -27,7 +27,7 @@ use Rattle.recover.proofs.Regular.{IsRegular, IsBlock}
 use Rattle.plp_receiver.specs.Taken.{block_read}
 use Rattle.recover.proofs.GatewayBlocks.{IsSent}
 use Rattle.recover.proofs.KeptSlots.{kept_slot, IsEven}
-use Rattle.recover.specs.Told.{slot_rule, told_block, told_blocks, ArePackets}
+use Rattle.recover.specs.Told.{epoch_rule, told_block, told_blocks, ArePackets}
 use Rattle.recover.proofs.RegularLemmas.{block_regular, regular_join, at_front, at_back, here, items_told, none_regular}
 use Rattle.recover.proofs.GatewayLemmas.{gateway_block}
 use Rattle.recover.proofs.KeptLemmas.{kept_number, string_even}
@@ -90,7 +90,7 @@ sending_by a b d e f g = record { iscr = a; outlasts = b; within = d; begins = e
 
 -- What the plan and the packets give.
 pub record IsGateway (c : Config) (plp ticks : ℕ) (packet : ℕ → List ℕ) : Type 0 where
-  pub sound : IsSound (slot_rule c plp ticks)
+  pub sound : IsSound (epoch_rule c plp ticks)
   pub within : IsWithin (rates_of c plp ticks)
   pub fits : up_bytes c plp ≤ capacity c plp
   pub up : up_bytes c plp ≡ (if (plp_at c.plps plp).delete then 188 else 187)
@@ -116,7 +116,7 @@ last_byte true packet k len e l d =
 
 module _ (c : Config) (plp ticks : ℕ) (packet : ℕ → List ℕ) (end : ℕ) (law : Sending) (is : IsGateway c plp ticks packet) where
   abbrev pub r : SlotRule
-  r = slot_rule c plp ticks
+  r = epoch_rule c plp ticks
 
   abbrev pub rates : Rates
   rates = rates_of c plp ticks
@@ -200,7 +200,7 @@ module _ (c : Config) (plp ticks : ℕ) (packet : ℕ → List ℕ) (end : ℕ) 
     is_in : (n : ℕ) → up_bytes c plp * n < y → n < length kept
     is_in n l = fewer (up_bytes c plp) n (length kept) (omega (arith, within, l))
 
-    range : (n : ℕ) → x ≤ up_bytes c plp * n → up_bytes c plp * n < y → InRange r.num r.den r.ticks m (get_or kept n 0)
+    range : (n : ℕ) → x ≤ up_bytes c plp * n → up_bytes c plp * n < y → InRange r.times.num r.times.den r.times.epoch m (get_or kept n 0)
     range n a b =
         let l = is_in n b in
         let p = place_is now n l in

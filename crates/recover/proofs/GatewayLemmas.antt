@@ -17,7 +17,7 @@ use Rattle.packet_slots.specs.declared.mark.Mark.{Mark}
 use Rattle.packet_slots.specs.declared.mark.Mark.TheVariants.{Next, Timed}
 use Rattle.packet_slots.specs.Sound.{IsSound}
 use Rattle.packet_slots.specs.Strings.{first_mark}
-use Rattle.packet_slots.specs.Packets.{slot_of_iscr}
+use Rattle.plp_config.specs.SlotTimes.{slot_of_iscr}
 use Rattle.recover.proofs.Regular.{IsBlock}
 use Rattle.plp_receiver.specs.Taken.{block_read}
 use Rattle.recover.proofs.GatewayBlocks.{IsSent, GatewayBlock}
@@ -82,7 +82,7 @@ module _ (r : SlotRule) (c : Config) (plp : ℕ) (kept : List ℕ) (dnps : ℕ �
     syncd_is : header.syncd ≡ 8 * (r.up_len * n - x)
     syncd_is = ap (λ (o : Option (ℕ × ℕ)). (header_at c plp x (y - x) o).syncd) up_is
 
-    issy_is : header.issy ≡ 0x800000 + slot_start r.num r.den (get_or kept n 0) % 2 ^ 22
+    issy_is : header.issy ≡ 0x800000 + slot_start r.times.num r.times.den (get_or kept n 0) % 2 ^ 22
     issy_is = ap (λ (o : Option (ℕ × ℕ)). (header_at c plp x (y - x) o).issy) up_is
         ∙ ap (λ (k : ℕ). 0x800000 + k % 2 ^ 22) (is.starts (get_or kept n 0))
 
@@ -96,9 +96,9 @@ module _ (r : SlotRule) (c : Config) (plp : ℕ) (kept : List ℕ) (dnps : ℕ �
         let d : header.syncd / 8 ≡ r.up_len * n - x = omega (arith, syncd_is) in
         ap (λ (b : Bool). cond b None (Some (header.syncd / 8))) not_none ∙ ap (λ (k : ℕ). Some k) d
 
-    tells : (iscr : ℕ) × (first_mark header.issy ≡ Timed iscr) × (slot_of_iscr r frame iscr ≡ Some (get_or kept n 0))
+    tells : (iscr : ℕ) × (first_mark header.issy ≡ Timed iscr) × (slot_of_iscr r.times frame iscr ≡ Some (get_or kept n 0))
     tells =
-        let v : ℕ = slot_start r.num r.den (get_or kept n 0) % 2 ^ 22 in (
+        let v : ℕ = slot_start r.times.num r.times.den (get_or kept n 0) % 2 ^ 22 in (
           v,
           ap first_mark issy_is ∙ timed_mark v (omega arith),
           iscr_is law r frame (get_or kept n 0) sound

@@ -8,9 +8,9 @@ use Rattle.std.proofs.lemmas.List.FromFn.{length-map-range_with_len}
 use Rattle.ts_packet.specs.Null.{null_packet, is_null}
 use Rattle.plp_config.specs.Capacity.{IsPlan}
 use Rattle.plp_config.specs.Emission.{emission}
-use Rattle.plp_config.specs.Laws.{SlotLength, NoneAtZero, ReleasedFirst, EmissionsDiffer, FrameCountLeast}
+use Rattle.plp_config.specs.Laws.{SlotLength, EpochAlone, NoneAtZero, ReleasedFirst, EmissionsDiffer, FrameCountLeast}
 use Rattle.plp_config.specs.RunLength.{frame_count}
-use Rattle.plp_config.specs.SlotTime.{num, den, delay, slots_by, released_count}
+use Rattle.plp_config.specs.SlotTime.{num, den, delay, slots_by, released_count, epoch_ticks}
 use Rattle.plp_config.specs.Plps.{plp_at}
 use Rattle.plp_config.specs.declared.config.Config.{Config}
 use Rattle.plp_config.specs.declared.moment.Moment.{Moment}
@@ -26,12 +26,11 @@ use Rattle.frame_records.specs.Recover.{due_slots, recovered, recover}
 use Rattle.packet_slots.specs.Records.{Record, readback}
 use Rattle.packet_slots.proofs.ListLemmas.{map_same}
 use Rattle.plp_receiver.specs.Laws.{ReadbackOnce}
-use Rattle.plp_receiver.specs.Taken.{Readback}
+use Rattle.plp_receiver.specs.Taken.{slot_rule, Readback}
 use Rattle.recover.specs.Told.{IsPacket, ArePackets, told_records}
-use Rattle.recover.specs.Laws.{FrameIsEpoch, ReadbackRecovers, RunRecovers, RecordsRecover, IsCanonical, WholeComesBack}
+use Rattle.recover.specs.Laws.{InterleavingIsEpoch, ReadbackRecovers, RunRecovers, RecordsRecover, IsCanonical, WholeComesBack}
 use Rattle.recover.specs.Laws.{RunComesBack}
 use Rattle.recover.proofs.ReadableLemmas as R
-use Rattle.recover.proofs.RuleLemmas.{rule_readback}
 use Rattle.recover.proofs.TellLemmas as T
 
 -- ---- packets of an input
@@ -60,25 +59,22 @@ in_each_slot P null (p ∷ packets) h (suc k) = in_each_slot P null packets h.1 
 
 -- ---- records
 
-pub run_recovers : R.Reads → T.Stand → ReadbackOnce → SlotLength → FrameIsEpoch → ReadbackRecovers → RunRecovers
-run_recovers reads stand once lengths epochs recovers c plp inputs whole first count packets plan types inside all back =
+pub run_recovers : R.Reads → T.Stand → ReadbackOnce → InterleavingIsEpoch → ReadbackRecovers → RunRecovers
+run_recovers reads stand once epochs recovers c plp inputs whole first count packets plan types inside all back =
     let at : ℕ → List ℕ = packet_at (inputs plp) in
     let muted : ℕ → Bool = λ m. not (whole m) in
     let epoch = epochs c plp plan inside in
     let each : ArePackets at = in_each_slot IsPacket null_is (inputs plp) all in
-    let told : List Record = told_records c plp c.ticks at muted first count in
+    let told : List Record = told_records c plp (epoch_ticks c plp) at muted first count in
     let other : Readback c plp first (map (record_of c inputs whole) (range_with_len first count))
-    (readback back.rule first told) = record {
-      rule = back.rule;
-      rule_is = back.rule_is;
+    (readback (slot_rule c plp) first told) = record {
       told = told;
       tells = T.tells_all reads stand c inputs plan types plp inside epoch each whole count first;
       packets_are = refl;
     } in
     once c plp first (map (record_of c inputs whole) (range_with_len first count)) packets
-    (readback back.rule first told) back other
-    ∙ rule_readback lengths c plp back.rule first told plan.rules inside back.rule_is
-    ∙ recovers c plp c.ticks at muted first count plan inside epoch each
+    (readback (slot_rule c plp) first told) back other
+    ∙ recovers c plp (epoch_ticks c plp) at muted first count plan inside epoch each
 
 -- the moment of a record is that of its frame
 moment_is : (c : Config) (inputs : ℕ → List (List ℕ)) (whole : ℕ → Bool) (n : ℕ) → moment_of (record_of c inputs whole n)
@@ -132,7 +128,7 @@ records_recover differ run c plp inputs whole end first packets plan types insid
     ∙ length-map-range_with_len (record_of c inputs whole) from.first from.count in
     run c plp inputs whole first from.count packets plan types inside all
     (subst (λ (l : List RecordView). Readback c plp first l packets) same back)
-    ∙ ap (recover c plp c.ticks (packet_at (inputs plp)) (λ m. not (whole m)) first) (sym len)
+    ∙ ap (recover c plp (epoch_ticks c plp) (packet_at (inputs plp)) (λ m. not (whole m)) first) (sym len)
 
 -- ---- nothing is muted
 
@@ -153,11 +149,11 @@ not_kept false null longest e = absurd cc
 pub whole_comes_back : NoneLost → RunRecovers → WholeComesBack
 whole_comes_back none run c plp inputs whole first count packets plan types inside all canonical each back =
     let at : ℕ → List ℕ = packet_at (inputs plp) in
-    let given : List ℕ → List (List ℕ) = λ muted. map (recovered c plp c.ticks at muted) (due_slots c plp c.ticks first count) in
+    let given : List ℕ → List (List ℕ) = λ muted. map (recovered c plp (epoch_ticks c plp) at muted) (due_slots c plp (epoch_ticks c plp) first count) in
     run c plp inputs whole first count packets plan types inside all back
     ∙ ap given (none_muted (λ m. not (whole m)) count first (λ m from below. ap not (each m from below))
     ∙ sym (none_muted (λ m. false) count first (λ m from below. refl)))
-    ∙ none c plp c.ticks at first count (λ k e.
+    ∙ none c plp (epoch_ticks c plp) at first count (λ k e.
     let lost = not_kept (plp_at c.plps plp).delete (is_null (at k)) _ e in
     in_each_slot (IsCanonical (plp_at c.plps plp).delete) (λ deletes null. refl) (inputs plp) canonical k lost.0 lost.1)
 
@@ -185,28 +181,32 @@ packets_first (p ∷ packets) n =
     ∙ ap (λ (l : List (List ℕ)). p ∷ l) (moved_slots p packets (length packets + n) 0 ∙ packets_first packets n)
 
 module _ (lengths : SlotLength) (zero_law : NoneAtZero) (released : ReleasedFirst) (least : FrameCountLeast) (c : Config)
-    (plp : ℕ) (inputs : ℕ → List (List ℕ)) (plan : IsPlan c) (inside : plp < length c.plps) where
+    (plp : ℕ) (inputs : ℕ → List (List ℕ)) (plan : IsPlan c) (inside : plp < length c.plps)
+    (alone : epoch_ticks c plp ≡ c.ticks) where
   abbrev frames : ℕ
   frames = frame_count c (λ plp. length (inputs plp))
 
+  abbrev epoch : ℕ
+  epoch = epoch_ticks c plp
+
   abbrev due : ℕ
-  due = released_count (num c) (den c plp) (delay c plp) ((0 + frames) * c.ticks)
+  due = released_count (num c) (den c plp) (delay c plp) ((0 + frames) * epoch)
 
   -- each packet has been given out when the run ends
   enough : length (inputs plp) < due
   enough =
       let l = lengths c plp plan.rules inside in
       let e = (least c (λ plp. length (inputs plp)) plan.rules).enough plp inside in
-      let z : (0 + frames) * c.ticks ≡ frames * c.ticks = let s : 0 + frames ≡ frames = omega arith in
-      ap (λ (k : ℕ). k * c.ticks) s in
-      (released (num c) (den c plp) (delay c plp) ((0 + frames) * c.ticks) (length (inputs plp)) (omega (arith, l))
+      let z : (0 + frames) * epoch ≡ frames * c.ticks = let s : 0 + frames ≡ frames = omega arith in
+      ap (λ (k : ℕ). k * epoch) s ∙ ap (λ (t : ℕ). frames * t) alone in
+      (released (num c) (den c plp) (delay c plp) ((0 + frames) * epoch) (length (inputs plp)) (omega (arith, l))
       (omega (arith, l))).1 (omega (arith, e, z))
 
-  pub slots_are : due_slots c plp c.ticks 0 frames ≡ range_with_len 0 (length (inputs plp) + (due - length (inputs plp)))
+  pub slots_are : due_slots c plp (epoch_ticks c plp) 0 frames ≡ range_with_len 0 (length (inputs plp) + (due - length (inputs plp)))
   slots_are =
       let l = lengths c plp plan.rules inside in
-      let start : (0 - 1) * c.ticks ≡ 0 = omega arith in
-      let none : slots_by c plp ((0 - 1) * c.ticks) ≡ 0 = ap (slots_by c plp) start
+      let start : (0 - 1) * epoch ≡ 0 = omega arith in
+      let none : slots_by c plp ((0 - 1) * epoch) ≡ 0 = ap (slots_by c plp) start
       ∙ zero_law (num c) (den c plp) (omega (arith, l)) in
       let size : due - 0 ≡ length (inputs plp) + (due - length (inputs plp)) = let e = enough in omega (arith, e) in
       ap (λ (k : ℕ). range_with_len k (due - k)) none ∙ ap (range_with_len 0) size
@@ -214,15 +214,15 @@ module _ (lengths : SlotLength) (zero_law : NoneAtZero) (released : ReleasedFirs
   pub nulls : ℕ
   nulls = due - length (inputs plp)
 
-pub run_comes_back : SlotLength → NoneAtZero → ReleasedFirst → FrameCountLeast → WholeComesBack → RunComesBack
-run_comes_back lengths zero_law released least whole c plp inputs packets plan types inside all canonical back =
+pub run_comes_back : SlotLength → EpochAlone → NoneAtZero → ReleasedFirst → FrameCountLeast → WholeComesBack → RunComesBack
+run_comes_back lengths alone zero_law released least whole c plp inputs packets plan types stand inside all canonical back =
     let frames : ℕ = frame_count c (λ plp. length (inputs plp)) in
     let same : run_frames c inputs ≡ map (record_of c inputs (λ n. true)) (range_with_len 0 frames) =
     map_same (frame_of c inputs) (record_of c inputs (λ n. true)) frames 0 (λ k from below. refl) in
-    let nulls : ℕ = released_count (num c) (den c plp) (delay c plp) ((0 + frames) * c.ticks) - length (inputs plp) in (
+    let nulls : ℕ = released_count (num c) (den c plp) (delay c plp) ((0 + frames) * epoch_ticks c plp) - length (inputs plp) in (
       nulls,
       whole c plp inputs (λ n. true) 0 frames packets plan types inside all canonical (λ m from below. refl)
           (subst (λ (l : List RecordView). Readback c plp 0 l packets) same back)
-          ∙ ap (map (packet_at (inputs plp))) (slots_are lengths zero_law released least c plp inputs plan inside)
+          ∙ ap (map (packet_at (inputs plp))) (slots_are lengths zero_law released least c plp inputs plan inside (alone c plp (stand plp inside)))
           ∙ packets_first (inputs plp) nulls,
     )

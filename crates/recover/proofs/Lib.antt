@@ -12,7 +12,6 @@ mod FrameLemmas
 mod RunLemmas
 mod RecoverLemmas
 mod TakenLemmas
-mod RuleLemmas
 mod ReadableLemmas
 mod TellLemmas
 mod GivenLemmas

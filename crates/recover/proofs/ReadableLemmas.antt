@@ -1,5 +1,5 @@
 -- The record of a frame of a plan is readable, and its shape is that of the frame.
-use Rattle.std.proofs.Common.{◌≡◌, ℕ, zero, suc, ◌+◌, ◌-◌, ◌*◌, ◌<◌, ◌≤◌, ◌==◌, ◌&&◌, Bool, true, false, List, [], ◌∷◌, ◌++◌}
+use Rattle.std.proofs.Common.{◌%◌, ◌≡◌, ℕ, zero, suc, ◌+◌, ◌-◌, ◌*◌, ◌<◌, ◌≤◌, ◌==◌, ◌&&◌, Bool, true, false, List, [], ◌∷◌, ◌++◌}
 use Rattle.std.proofs.Common.{length, map, replicate, take, Option, Some, None, refl, ap, ◌∙◌, sym, subst, arith, cond}
 use Rattle.std.proofs.Common.{append-nil, append_assoc, length-append, eq-eqb}
 use Rattle.std.specs.Prelude.{option_map, slice_index}
@@ -26,6 +26,8 @@ use Rattle.l1_signal.specs.L1Dynamic.{dyn_bits, dyn_read}
 use Rattle.l1_signal.specs.L1Of.{pre_of, conf_of, dyn_of, post_bits, post_front_bits, told_shape}
 use Rattle.l1_signal.specs.L1Pre.{pre_reading}
 use Rattle.l1_signal.specs.Laws.{PreReadBack, PostLength, ConfPartLength, crc_behind}
+use Rattle.l1_signal.specs.Lengths.{conf_len, dyn_len, post_len}
+use Rattle.l1_signal.specs.declared.lengths.TheConstants.{CRC_BITS}
 use Rattle.frame_tests.specs.Laws.{PreValues}
 use Rattle.frame_tests.specs.MapTest.{map_passes}
 use Rattle.frame_tests.specs.Tests.{read_whole, pre_agrees, conf_agrees, dyn_agrees, read_dynamic, parts_agree}
@@ -36,7 +38,7 @@ use Rattle.frame_records.proofs.FitLemmas.{counts_fit}
 use Rattle.frame_records.proofs.FrameLemmas.{block_len, cells_count}
 use Rattle.gateway_core.specs.Packets.{counts_of}
 use Rattle.gateway_core.specs.Signalling.{pre_part, conf_part, dyn_part}
-use Rattle.plp_receiver.specs.Readable.{conf_len, dyn_len, crc_len, post_len, told_dynamic, post_agrees, BlockSize, block_sizes}
+use Rattle.plp_receiver.specs.Readable.{told_dynamic, post_agrees, BlockSize, block_sizes}
 use Rattle.plp_receiver.specs.Readable.{has_size, shape_agrees, fitting, readable}
 use Rattle.sent_frames.specs.Types.{TypesFit}
 use Rattle.sent_frames.proofs.BlockLemmas.{blocks_long, count_at}
@@ -159,11 +161,14 @@ module _ (reads : Reads) (c : Config) (inputs : ℕ → List (List ℕ)) (n : �
   unfolding post_bits
   post_is = refl
 
+  abbrev plps : ℕ
+  plps = length c.plps
+
   record Lengths : Type 0 where
-    first : length conf ≡ conf_len c
-    second : length dynamic ≡ dyn_len c
-    both : length front ≡ length post - crc_len
-    whole : length post ≡ post_len c
+    first : length conf ≡ conf_len plps
+    second : length dynamic ≡ dyn_len plps
+    both : length front ≡ length post - CRC_BITS
+    whole : length post ≡ post_len plps
 
   lengths : Lengths
   lengths =
@@ -176,20 +181,20 @@ module _ (reads : Reads) (c : Config) (inputs : ℕ → List (List ℕ)) (n : �
       record { first = b; second = omega (arith, a, b, d, e, f, g); both = omega (arith, d, e, f); whole = omega (arith, a) }
 
   -- the parts stand in L1-post at their places
-  conf_there : take (conf_len c) post ≡ conf
+  conf_there : take (conf_len plps) post ≡ conf
   conf_there =
-      ap (take (conf_len c)) (post_is ∙ append_assoc conf dynamic (field 32 (crc32_of front)))
-      ∙ front_of conf (dynamic ++ field 32 (crc32_of front)) (conf_len c) lengths.first
+      ap (take (conf_len plps)) (post_is ∙ append_assoc conf dynamic (field 32 (crc32_of front)))
+      ∙ front_of conf (dynamic ++ field 32 (crc32_of front)) (conf_len plps) lengths.first
 
-  dynamic_there : part post (conf_len c) (dyn_len c) ≡ dynamic
+  dynamic_there : part post (conf_len plps) (dyn_len plps) ≡ dynamic
   dynamic_there =
-      ap (λ (bits : List Bool). part bits (conf_len c) (dyn_len c)) post_is
-      ∙ part-middle conf dynamic (field 32 (crc32_of front)) (conf_len c) (dyn_len c) lengths.first lengths.second
+      ap (λ (bits : List Bool). part bits (conf_len plps) (dyn_len plps)) post_is
+      ∙ part-middle conf dynamic (field 32 (crc32_of front)) (conf_len plps) (dyn_len plps) lengths.first lengths.second
 
-  crc_there : crc_behind true (take (length post - crc_len) post) ≡ post
+  crc_there : crc_behind true (take (length post - CRC_BITS) post) ≡ post
   crc_there =
-      ap (crc_behind true) (ap (take (length post - crc_len)) post_is ∙ front_of front (field 32 (crc32_of front))
-      (length post - crc_len) lengths.both) ∙ sym post_is
+      ap (crc_behind true) (ap (take (length post - CRC_BITS)) post_is ∙ front_of front (field 32 (crc32_of front))
+      (length post - CRC_BITS) lengths.both) ∙ sym post_is
 
   -- what the dynamic part tells
   told_is : told_dynamic c post ≡ read_dynamic c (frame_parts c inputs n)
@@ -199,19 +204,19 @@ module _ (reads : Reads) (c : Config) (inputs : ℕ → List (List ℕ)) (n : �
   shape_told : option_map told_shape (told_dynamic c post) ≡ Some shape
   shape_told = ap (option_map told_shape) told_is ∙ parts_tell given c inputs n plan types
 
-  conf_is : conf_agrees c (read_whole (conf_read (info_size (length c.plps)) (take (conf_len c) post))) ≡ true
+  conf_is : conf_agrees c (read_whole (conf_read (info_size (length c.plps)) (take (conf_len plps) post))) ≡ true
   unfolding conf_part
   conf_is = ap (λ (bits : List Bool). conf_agrees c (read_whole (conf_read (info_size (length c.plps)) bits))) conf_there
       ∙ agree.configured
 
   post_ok : post_agrees c n post ≡ true
   post_ok =
-      let len : Bool = length post == post_len c in
-      let crc : Bool = pointwise beq post (crc_behind true (take (length post - crc_len) post)) in
-      let right : Bool = conf_agrees c (read_whole (conf_read (info_size (length c.plps)) (take (conf_len c) post))) in
+      let len : Bool = length post == post_len plps in
+      let crc : Bool = pointwise beq post (crc_behind true (take (length post - CRC_BITS) post)) in
+      let right : Bool = conf_agrees c (read_whole (conf_read (info_size (length c.plps)) (take (conf_len plps) post))) in
       and_from (len && crc && right) (dyn_agrees c n (told_dynamic c post))
       (and_from (len && crc) right
-      (and_from len crc (eq-eqb (length post) (post_len c) lengths.whole) (ap (pointwise beq post) crc_there
+      (and_from len crc (eq-eqb (length post) (post_len plps) lengths.whole) (ap (pointwise beq post) crc_there
       ∙ (lists_equiv bool_eq_equiv).refl post))
       conf_is)
       (ap (dyn_agrees c n) told_is ∙ agree.dynamic)
@@ -226,7 +231,7 @@ module _ (reads : Reads) (c : Config) (inputs : ℕ → List (List ℕ)) (n : �
   blocks = sent_blocks c (plp_blocks c inputs n)
 
   abbrev pub cells : List (Option Cell)
-  cells = frame_cells c shape
+  cells = frame_cells c shape (n % c.frames)
 
   sizes_agree : pointwise has_size blocks (block_sizes c shape) ≡ true
   sizes_agree =
@@ -238,8 +243,8 @@ module _ (reads : Reads) (c : Config) (inputs : ℕ → List (List ℕ)) (n : �
       let sizes : Bool = pointwise has_size blocks (block_sizes c shape) in
       let len : Bool = length cells == c.cells in
       and_from (sizes && len) (map_passes c shape)
-      (and_from sizes len sizes_agree (eq-eqb (length cells) c.cells (cells_count c shape)))
-      ((given.map c shape).1 (given.passes c counts plan fit))
+      (and_from sizes len sizes_agree (eq-eqb (length cells) c.cells (cells_count c shape (n % c.frames))))
+      ((given.map c shape plan).1 (given.passes c counts plan fit))
 
   pub is_readable : readable c n (l1_pre c) post blocks cells ≡ Some shape
   unfolding readable

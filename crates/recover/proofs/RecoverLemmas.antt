@@ -25,7 +25,7 @@ use Rattle.packet_slots.proofs.ListLemmas.{map_same}
 use Rattle.packet_slots.proofs.PlaceLemmas.{all_map}
 use Rattle.recover.proofs.KeptSlots.{kept_slot, KeptFollow}
 use Rattle.frame_records.specs.Recover.{is_carried, is_touched, recovered, recover}
-use Rattle.recover.specs.Told.{slot_rule, told_record, told_records, ArePackets, IsEpoch}
+use Rattle.recover.specs.Told.{epoch_rule, told_record, told_records, ArePackets, IsEpoch}
 use Rattle.recover.specs.Laws.{SlotRecovers, ReadbackRecovers}
 use Rattle.recover.proofs.NumberLemmas.{is_kept_slot, own_number}
 use Rattle.recover.proofs.FoundLemmas.{all_in_range, each_in_range, filter_all, all_filter, none_any, any_none, all_kept, Has}
@@ -58,7 +58,7 @@ pub record Times : Type 0 where
 module _ (c : Config) (plp ticks : ℕ) (packet : ℕ → List ℕ) (law : F.Sending) (times : Times) (follow : KeptFollow)
     (is : F.IsGateway c plp ticks packet) (muted : ℕ → Bool) (first count : ℕ) where
   abbrev r : SlotRule
-  r = slot_rule c plp ticks
+  r = epoch_rule c plp ticks
 
   abbrev rates : Rates
   rates = rates_of c plp ticks
@@ -82,10 +82,10 @@ module _ (c : Config) (plp ticks : ℕ) (packet : ℕ → List ℕ) (law : F.Sen
   one = F.one c plp ticks packet end law is
 
   num_pos : 0 < num c
-  num_pos = let a = is.sound.den in let b = is.sound.slot in omega (arith, a, b)
+  num_pos = let a = is.sound.times.some in let b = is.sound.times.long in omega (arith, a, b)
 
   den_pos : 0 < den c plp
-  den_pos = let a = is.sound.den in omega (arith, a)
+  den_pos = let a = is.sound.times.some in omega (arith, a)
 
   covers : (m : ℕ) → m ≤ first + count → slots_by c plp (m * ticks) ≤ end
   covers m l = times.rises (num c) (den c plp) (m * ticks) ((first + count) * ticks) num_pos (mul-le-mul_right ticks l)
@@ -257,7 +257,7 @@ module _ (c : Config) (plp ticks : ℕ) (packet : ℕ → List ℕ) (law : F.Sen
 
       has_one : Has k ups
       has_one =
-          let p = times.partition (num c) (den c plp) ticks k num_pos den_pos (let t = is.sound.frame.0 in omega (arith, t)) in
+          let p = times.partition (num c) (den c plp) ticks k num_pos den_pos (let t = is.sound.times.least in omega (arith, t)) in
           has_it p.0 p.1.inside
 
     slot_is : first_slot r first ≤ k → k < slots_by c plp ((first + count - 2) * ticks)
@@ -305,10 +305,13 @@ gateway_is length_is sizes field c plp ticks packet plan l epoch packets =
     let s = length_is c plp plan.rules l in
     record {
       sound = record {
-        den = omega (arith, s);
-        slot = omega (arith, s);
-        num = omega (arith, s);
-        frame = (epoch.some, epoch.most);
+        times = record {
+          some = omega (arith, s);
+          long = omega (arith, s);
+          small = omega (arith, s);
+          least = epoch.some;
+          most = epoch.most;
+        };
         up = sizes c plp;
       };
       within = epoch.within;

@@ -7,14 +7,15 @@ use Rattle.packet_slots.specs.Strings.{Item, Block, block_items, first_mark, gap
 use Rattle.std.specs.List.{range_with_len}
 use Rattle.plp_config.specs.SlotTime.{slot_start, InRange}
 use Rattle.packet_slots.specs.LaterBlocks.{at}
-use Rattle.packet_slots.specs.Packets.{slot_of_iscr, slot_of, slot_before, slots_at, window, UserPacket, user_packets}
+use Rattle.packet_slots.specs.Packets.{slot_of, slot_before, slots_at, window, UserPacket, user_packets}
+use Rattle.plp_config.specs.SlotTimes.{slot_of_iscr}
 use Rattle.packet_slots.specs.Sound.{IsSound}
 
 -- the ISCR of user packet n tells its slot
 pub record IsTimed (r : SlotRule) (slot : ℕ) (x : Item) : Type 0 where
   pub iscr : ℕ
   pub mark : x.mark ≡ Timed iscr
-  pub tells : slot_of_iscr r x.frame iscr ≡ Some slot
+  pub tells : slot_of_iscr r.times x.frame iscr ≡ Some slot
 
 -- the slot of a user packet follows from the one before, which stands in the string too
 pub record IsNext (r : SlotRule) (z : List Item) (i : ℕ) : Type 0 where
@@ -57,7 +58,7 @@ pub record IsBlock (r : SlotRule) (slots dnps : ℕ → ℕ) (frame place n : �
   pub none : place + length b.field ≤ r.up_len * n → b.first ≡ None
   pub some : r.up_len * n < place + length b.field → b.first ≡ Some (r.up_len * n - place)
   pub issy : r.up_len * n < place + length b.field → (iscr : ℕ) × (first_mark b.issy ≡ Timed iscr)
-      × (slot_of_iscr r frame iscr ≡ Some (slots n))
+      × (slot_of_iscr r.times frame iscr ≡ Some (slots n))
   pub values : (k i : ℕ) → place + i + 1 ≡ r.up_len * suc k → i < length b.field → r.deletes ≡ true → get_or b.field i 0 ≡ dnps k
 
 -- Its items are such a string.
@@ -89,5 +90,5 @@ GapParts = (r : SlotRule) (z y : List Item) (frame : ℕ) → IsSound r → user
 
 -- The ISCR of a slot tells it among those of its range.
 abbrev pub IscrOfSlot : Type 0
-IscrOfSlot = (r : SlotRule) (frame slot : ℕ) → IsSound r → InRange r.num r.den r.ticks frame slot
-    → slot_of_iscr r frame (slot_start r.num r.den slot % 2 ^ 22) ≡ Some slot
+IscrOfSlot = (r : SlotRule) (frame slot : ℕ) → IsSound r → InRange r.times.num r.times.den r.times.epoch frame slot
+    → slot_of_iscr r.times frame (slot_start r.times.num r.times.den slot % 2 ^ 22) ≡ Some slot

@@ -14,7 +14,8 @@ use Rattle.packet_slots.specs.Strings.{Item, Block, is_start, is_inside, first_m
 use Rattle.packet_slots.proofs.BlockLemmas.{Ends, ends_field, ends_start, none_marks, mark_before, mark_first, mark_next}
 use Rattle.packet_slots.proofs.BlockLemmas.{mark_inner}
 use Rattle.packet_slots.specs.Packets.{all_inside, is_one, is_complete, last_item, first_item, no_item, slot_by, slot_of}
-use Rattle.packet_slots.specs.Packets.{slot_of_iscr, dnp_of, slot_before, slots_at, window}
+use Rattle.packet_slots.specs.Packets.{dnp_of, slot_before, slots_at, window}
+use Rattle.plp_config.specs.SlotTimes.{slot_of_iscr}
 use Rattle.packet_slots.specs.Sound.{IsSound}
 use Rattle.packet_slots.proofs.OneLemmas.{one_from}
 use Rattle.packet_slots.proofs.SlotLemmas.{before_at, slots_suc}
@@ -328,7 +329,7 @@ module _ (r : SlotRule) (slots dnps : ℕ → ℕ) (frame place n : ℕ) (b : Bl
           record {
             iscr = t.0;
             mark = ap (λ (x : Item). x.mark) (here i j) ∙ first_at i f j ∙ t.1;
-            tells = ap (λ (x : Item). slot_of_iscr r x.frame t.0) (here i j) ∙ t.2 ∙ sym (ap (λ (m : ℕ). Some (slots m)) same);
+            tells = ap (λ (x : Item). slot_of_iscr r.times x.frame t.0) (here i j) ∙ t.2 ∙ sym (ap (λ (m : ℕ). Some (slots m)) same);
           }
 
       can : (k i : ℕ) → place + i + 1 ≡ r.up_len * suc k → i < length b.field → Ends r.up_len frame b (i + 1) ≡ true

@@ -19,14 +19,14 @@ use Rattle.packet_slots.specs.declared.slot_rule.SlotRule.{SlotRule}
 use Rattle.packet_slots.specs.Strings.{Item, item_values}
 use Rattle.packet_slots.specs.Packets.{UserPacket, no_item, first_item, last_item, window, user_packets}
 use Rattle.packet_slots.specs.Readback.{counts, counts_by}
-use Rattle.packet_slots.specs.Times.{delay_of}
+use Rattle.plp_config.specs.SlotTimes.{delay_of}
 use Rattle.packet_slots.specs.Records.{muted_record, framed_record, record_items, string_of}
 use Rattle.terms.proofs.AllLemmas.{all_append}
 use Rattle.packet_slots.proofs.PlaceLemmas.{first_is, last_is}
 use Rattle.packet_slots.specs.LaterBlocks.{at}
 use Rattle.recover.proofs.Regular.{AreWhole, up_of, Follow}
 use Rattle.recover.proofs.KeptSlots.{kept_slot, IsEven}
-use Rattle.recover.specs.Told.{slot_rule, told_blocks, told_record, told_records}
+use Rattle.recover.specs.Told.{epoch_rule, told_blocks, told_record, told_records}
 use Rattle.recover.proofs.WholeLemmas.{whole_packets, gap_parts}
 use Rattle.recover.proofs.GatewayLemmas.{ceil_parts}
 use Rattle.recover.proofs.KeptLemmas.{string_even}
@@ -43,7 +43,7 @@ module _ (c : Config) (plp ticks : ℕ) (packet : ℕ → List ℕ) (end : ℕ) 
     (follow : Follow (F.r c plp ticks packet end law is) (F.slots c plp ticks packet end law is)
     (F.dnps c plp ticks packet end law is) (length (kept_slots (F.keeps c plp ticks packet end law is) end))) where
   abbrev r : SlotRule
-  r = slot_rule c plp ticks
+  r = epoch_rule c plp ticks
 
   abbrev rates : Rates
   rates = rates_of c plp ticks
@@ -159,7 +159,7 @@ module _ (c : Config) (plp ticks : ℕ) (packet : ℕ → List ℕ) (end : ℕ) 
         abbrev ended : ℕ
         ended = (at z (i + (len - 1))).frame
 
-        range : InRange r.num r.den r.ticks begun (slots n)
+        range : InRange r.times.num r.times.den r.times.epoch begun (slots n)
         range =
             let b = byte_at 0 (omega (arith, one)) in
             let f = b.from in
@@ -182,12 +182,12 @@ module _ (c : Config) (plp ticks : ℕ) (packet : ℕ → List ℕ) (end : ℕ) 
                   absurd (omega (arith, f, p, e, q, t, one))
             ]
 
-        early : ended * r.ticks < slot_start r.num r.den (slots n) + delay_of r
+        early : ended * r.times.epoch < slot_start r.times.num r.times.den (slots n) + delay_of r.times
         early =
-            let a = is.sound.den in
-            let b = is.sound.slot in
-            let d = law.outlasts r.num r.den r.ticks begun (slots n) (omega (arith, a, b)) (omega (arith, a)) range in
-            let q : ended * r.ticks ≤ (begun + 2) * r.ticks = mul-le-mul_right r.ticks (omega (arith, soon)) in
+            let a = is.sound.times.some in
+            let b = is.sound.times.long in
+            let d = law.outlasts r.times.num r.times.den r.times.epoch begun (slots n) (omega (arith, a, b)) (omega (arith, a)) range in
+            let q : ended * r.times.epoch ≤ (begun + 2) * r.times.epoch = mul-le-mul_right r.times.epoch (omega (arith, soon)) in
             omega (arith, d, q)
 
         len_is : len ≡ suc (len - 1)
@@ -210,7 +210,7 @@ module _ (c : Config) (plp ticks : ℕ) (packet : ℕ → List ℕ) (end : ℕ) 
             (ap₂ (λ (a b : Bool). a && b) (lt-ltb _ _ range.1) (lt-ltb _ _ early))
           where
             counts_of : ℕ → ℕ → Bool
-            counts_of b e = counts_by r (delay_of r) (slots n) b e
+            counts_of b e = counts_by r (delay_of r.times) (slots n) b e
 
         own : IsOwn (up_of r slots place z n)
         own = record {

@@ -1,22 +1,24 @@
 -- What the records of a gateway's frames tell of a PLP.
-use Rattle.std.proofs.Common.{◌≡◌, ℕ, zero, suc, ◌+◌, ◌*◌, ◌<◌, ◌≤◌, ◌==◌, Bool, true, false, List, [], ◌∷◌, length, map, get_or}
-use Rattle.std.proofs.Common.{Option, Some, refl, ap, ◌∙◌, sym, subst, arith, cond, eq-eqb}
-use Rattle.std.specs.Prelude.{not, option_map, slice_index}
+use Rattle.std.proofs.Common.{◌≡◌, ℕ, zero, suc, ◌+◌, ◌*◌, ◌%◌, ◌<◌, ◌≤◌, ◌==◌, Bool, true, false, List, [], ◌∷◌, length, map, get_or}
+use Rattle.std.proofs.Common.{Option, Some, refl, ap, ◌∙◌, sym, subst, arith, cond, eq-eqb, eqb-true}
+use Rattle.std.specs.Prelude.{not, ◌||◌, option_map, slice_get, slice_index}
 use Rattle.std.specs.List.{AllZip, AllByRecursion, range_with_len, list_all}
 use Rattle.std.specs.Option.{option_map_or}
 use Rattle.std.proofs.lemmas.Bool.{and_from}
 use Rattle.std.proofs.lemmas.Option.{slice_get-get_or}
 use Rattle.terms.specs.Bits.{bits_of, bytes_of}
 use Rattle.terms.proofs.BitLemmas.{bits_of-bytes_of}
+use Rattle.terms.proofs.CaseLemmas.{bool_cases}
 use Rattle.bb_frame.specs.Laws.{ScramblesBack}
 use Rattle.bb_frame.specs.Scrambled.{scrambled}
 use Rattle.plp_config.specs.Capacity.{IsPlan, block_bytes, block_cells}
 use Rattle.plp_config.specs.Emission.{emission}
 use Rattle.plp_config.specs.Plps.{plp_at}
+use Rattle.plp_config.specs.SlotTime.{epoch_ticks}
 use Rattle.plp_config.specs.declared.config.Config.{Config}
 use Rattle.scheduler.specs.Shape.{FrameShape}
-use Rattle.cell_map.specs.Address.{IsCell}
-use Rattle.cell_map.specs.CellMap.{ordinal_of}
+use Rattle.cell_map.specs.Address.{IsCarried, address_of}
+use Rattle.cell_map.specs.CellMap.{ordinal_of, is_carried}
 use Rattle.cell_map.specs.declared.places.Cell.{Cell}
 use Rattle.null_delete.specs.Deletion.{packet_at}
 use Rattle.mode_adapt.specs.Blocks.{plp_blocks}
@@ -72,7 +74,7 @@ pub record Stand : Type 0 where
   pub taken : BlocksTaken
 
 module _ (reads : R.Reads) (stand : Stand) (c : Config) (inputs : ℕ → List (List ℕ)) (plan : IsPlan c) (types : TypesFit c)
-    (plp : ℕ) (inside : plp < length c.plps) (epoch : IsEpoch c plp c.ticks) (packets : ArePackets (packet_at (inputs plp))) where
+    (plp : ℕ) (inside : plp < length c.plps) (epoch : IsEpoch c plp (epoch_ticks c plp)) (packets : ArePackets (packet_at (inputs plp))) where
   abbrev deletes : Bool
   deletes = (plp_at c.plps plp).delete
 
@@ -90,22 +92,33 @@ module _ (reads : R.Reads) (stand : Stand) (c : Config) (inputs : ℕ → List (
     cells = R.cells reads c inputs n plan types
 
     abbrev told : List Block
-    told = told_blocks c plp c.ticks (packet_at (inputs plp)) n
+    told = told_blocks c plp (epoch_ticks c plp) (packet_at (inputs plp)) n
 
     count : slice_index shape.counts plp ≡ length bits
     count = R.counts_are reads c inputs n plan types plp inside
 
     module _ (block : ℕ) (there : block < length bits) where
-      cell_is : (cell : ℕ) → cell < block_cells c plp → stands c shape cells plp block cell ≡ true
+      cell_is : (cell : ℕ) → cell < block_cells c plp → stands c shape (n % c.frames) cells plp block cell ≡ true
       cell_is cell below =
-          let is : IsCell c shape plp block cell =
-          record { configured = inside; sent = omega (arith, count, there); within = below } in
-          ap (is_cell (ordinal_of shape plp block) cell) (stand.cell c inputs n plp block cell plan is)
-          ∙ and_from (ordinal_of shape plp block == ordinal_of shape plp block) (cell == cell)
-          (eq-eqb (ordinal_of shape plp block) (ordinal_of shape plp block) refl) (eq-eqb cell cell refl)
+          let own : ℕ = ordinal_of shape plp block in
+          let found : Bool = is_cell own cell (slice_get cells (address_of c shape (n % c.frames) plp block cell)) in
+          bool_cases (is_carried c shape (n % c.frames) plp block cell)
+          (λ yes.
+          let is : IsCarried c shape (n % c.frames) plp block cell = record {
+            there = record { configured = inside; sent = omega (arith, count, there); within = below };
+            carried = eqb-true _ _ yes;
+          } in
+          or_second (not (is_carried c shape (n % c.frames) plp block cell)) found
+          (ap (is_cell own cell) (stand.cell c inputs n plp block cell plan is)
+          ∙ and_from (own == own) (cell == cell) (eq-eqb own own refl) (eq-eqb cell cell refl)))
+          (λ none. ap (λ (t : Bool). not t || found) none)
+        where
+          or_second : (a b : Bool) → b ≡ true → (a || b) ≡ true
+          or_second true b h = refl
+          or_second false b h = h
 
-      cells_are : all_stand c shape cells plp block ≡ true
-      cells_are = each_passes (stands c shape cells plp block) (block_cells c plp) 0
+      cells_are : all_stand c shape (n % c.frames) cells plp block ≡ true
+      cells_are = each_passes (stands c shape (n % c.frames) cells plp block) (block_cells c plp) 0
           (λ cell from below. cell_is cell (omega (arith, below)))
 
       abbrev own : List Bool
@@ -126,29 +139,29 @@ module _ (reads : R.Reads) (stand : Stand) (c : Config) (inputs : ℕ → List (
           ap (λ (bytes : List ℕ). scrambled (bits_of bytes)) bytes_are
           ∙ ap scrambled (bits_of-bytes_of (scrambled own) (block_bytes c plp) (numbers.scrambled own ∙ long)) ∙ stand.back own
 
-      given : (b : Block) → IsTaken deletes own b → IsGiven deletes (all_stand c shape cells plp block)
+      given : (b : Block) → IsTaken deletes own b → IsGiven deletes (all_stand c shape (n % c.frames) cells plp block)
           (bytes_at sent (ordinal_of shape plp block)) (Some b)
       given b taken =
           subst (λ (t : Bool). IsGiven deletes t (bytes_at sent (ordinal_of shape plp block)) (Some b)) (sym cells_are)
           (subst (λ (w : List Bool). IsTaken deletes w b) (sym bits_are) taken)
 
-    tells_blocks : TellsBlocks c plp shape sent cells (map Some told)
+    tells_blocks : TellsBlocks c plp n shape sent cells (map Some told)
     tells_blocks =
         subst (λ (k : ℕ).
-        AllZip (λ block b. IsGiven deletes (all_stand c shape cells plp block) (bytes_at sent (ordinal_of shape plp block)) b)
+        AllZip (λ block b. IsGiven deletes (all_stand c shape (n % c.frames) cells plp block) (bytes_at sent (ordinal_of shape plp block)) b)
         (range_with_len 0 k) (map Some told)) (sym count)
         (zip_numbers deletes
-        (λ block b. IsGiven deletes (all_stand c shape cells plp block) (bytes_at sent (ordinal_of shape plp block)) b) bits
+        (λ block b. IsGiven deletes (all_stand c shape (n % c.frames) cells plp block) (bytes_at sent (ordinal_of shape plp block)) b) bits
         told 0
-        (stand.taken c plp c.ticks (packet_at (inputs plp)) n plan inside epoch (types.ids plp inside) packets)
+        (stand.taken c plp (epoch_ticks c plp) (packet_at (inputs plp)) n plan inside epoch (types.ids plp inside) packets)
         (λ i b l t. let e : i ≡ 0 + i = omega arith in
-        subst (λ (k : ℕ). IsGiven deletes (all_stand c shape cells plp k) (bytes_at sent (ordinal_of shape plp k)) (Some b)) e
+        subst (λ (k : ℕ). IsGiven deletes (all_stand c shape (n % c.frames) cells plp k) (bytes_at sent (ordinal_of shape plp k)) (Some b)) e
         (given i l b t)))
 
     -- a whole frame tells its blocks
     tells_frame : Tells c plp n (frame_of c inputs n) (framed_record (map Some told))
     tells_frame =
-        subst (λ (o : Option FrameShape). TellsShape c plp sent cells o (framed_record (map Some told)))
+        subst (λ (o : Option FrameShape). TellsShape c plp n sent cells o (framed_record (map Some told)))
         (sym (R.is_readable reads c inputs n plan types))
         (map Some told, tells_blocks, refl)
 
@@ -157,7 +170,7 @@ module _ (reads : R.Reads) (stand : Stand) (c : Config) (inputs : ℕ → List (
     muted m = not (whole m)
 
     tells_record : (n : ℕ)
-        → Tells c plp n (record_of c inputs whole n) (told_record c plp c.ticks (packet_at (inputs plp)) muted n)
+        → Tells c plp n (record_of c inputs whole n) (told_record c plp (epoch_ticks c plp) (packet_at (inputs plp)) muted n)
     tells_record n = go (whole n)
       where
         go : (b : Bool) → Tells c plp n (cond b (frame_of c inputs n) (Muted (emission c n)))
@@ -167,6 +180,6 @@ module _ (reads : R.Reads) (stand : Stand) (c : Config) (inputs : ℕ → List (
 
     -- so do the records of the frames from one on
     pub tells_all : (count first : ℕ) → TellAll c plp first (map (record_of c inputs whole) (range_with_len first count))
-        (told_records c plp c.ticks (packet_at (inputs plp)) muted first count)
+        (told_records c plp (epoch_ticks c plp) (packet_at (inputs plp)) muted first count)
     tells_all zero first = tt
     tells_all (suc count) first = (tells_record first, tells_all count (first + 1))

@@ -17,7 +17,7 @@ use Rattle.packet_slots.specs.Sound.{IsSound}
 use Rattle.packet_slots.proofs.OneLemmas.{none_alone}
 use Rattle.packet_slots.proofs.SlotLemmas.{none_of}
 use Rattle.packet_slots.proofs.TurnLemmas.{reads, begins_idle}
-use Rattle.packet_slots.proofs.IscrLemmas.{iscr_found}
+use Rattle.plp_config.proofs.IscrLemmas.{iscr_found}
 use Rattle.packet_slots.specs.LaterBlocks.{at}
 use Rattle.recover.proofs.Regular.{Follow, IsRegular, up_of, AreWhole, WholePackets, GapParts, IscrOfSlot}
 use Rattle.recover.proofs.RegularLemmas.{own_slots}
@@ -172,5 +172,5 @@ gap_parts r z y frame sound =
 
 pub iscr_is : IscrFindsSlot → IscrOfSlot
 iscr_is law r frame slot sound range =
-    sym (iscr_found law r sound frame (slot_start r.num r.den slot % 2 ^ 22) slot
-    (sym (law r.num r.den r.ticks frame slot sound.den sound.slot sound.frame.1 range)) range.0 range.1 refl)
+    sym (iscr_found law r.times sound.times frame (slot_start r.times.num r.times.den slot % 2 ^ 22) slot
+    (sym (law r.times.num r.times.den r.times.epoch frame slot sound.times.some sound.times.long sound.times.most range)) range.0 range.1 refl)

@@ -4,7 +4,8 @@ use Rattle.std.specs.List.{AllByRecursion, AllZip, range_with_len, filter}
 use Rattle.ts_packet.specs.Null.{is_null, null_packet}
 use Rattle.plp_config.specs.Capacity.{IsPlan, up_bytes}
 use Rattle.plp_config.specs.Plps.{plp_at}
-use Rattle.plp_config.specs.SlotTime.{slots_by}
+use Rattle.plp_config.specs.Places.{FramesStandAlone}
+use Rattle.plp_config.specs.SlotTime.{slots_by, epoch_ticks}
 use Rattle.plp_config.specs.declared.config.Config.{Config}
 use Rattle.null_delete.specs.Deletion.{packet_at}
 use Rattle.mode_adapt.specs.Blocks.{blocks_of}
@@ -16,25 +17,25 @@ use Rattle.packet_slots.specs.Readback.{slot_packet}
 use Rattle.packet_slots.specs.Records.{string_of, readback}
 use Rattle.plp_receiver.specs.Taken.{IsTaken, Readback}
 use Rattle.sent_frames.specs.Types.{TypesFit}
-use Rattle.recover.specs.Told.{IsPacket, ArePackets, IsEpoch, slot_rule, told_blocks, told_records}
+use Rattle.recover.specs.Told.{IsPacket, ArePackets, IsEpoch, epoch_rule, told_blocks, told_records}
 
--- The frames of every plan are epochs.
-abbrev pub FrameIsEpoch : Type 0
-FrameIsEpoch = (c : Config) (plp : ℕ) → IsPlan c → plp < length c.plps → IsEpoch c plp c.ticks
+-- The interleaving frames of every plan are epochs.
+abbrev pub InterleavingIsEpoch : Type 0
+InterleavingIsEpoch = (c : Config) (plp : ℕ) → IsPlan c → plp < length c.plps → IsEpoch c plp (epoch_ticks c plp)
 
 -- The packet of each slot of these epochs but the last one is what they give back of it.
 abbrev pub SlotRecovers : Type 0
 SlotRecovers = (c : Config) (plp ticks : ℕ) (at : ℕ → List ℕ) (muted : ℕ → Bool) (first count k : ℕ) → IsPlan c
     → plp < length c.plps → IsEpoch c plp ticks → ArePackets at
     → slots_by c plp ((first - 1) * ticks) ≤ k → k < slots_by c plp ((first + count - 2) * ticks)
-    → slot_packet (slot_rule c plp ticks) (string_of (up_bytes c plp) first (told_records c plp ticks at muted first count)) k
+    → slot_packet (epoch_rule c plp ticks) (string_of (up_bytes c plp) first (told_records c plp ticks at muted first count)) k
     ≡ recovered c plp ticks at (filter muted (range_with_len first count)) k
 
 -- Readback of the records of epochs is what they give back.
 abbrev pub ReadbackRecovers : Type 0
 ReadbackRecovers = (c : Config) (plp ticks : ℕ) (at : ℕ → List ℕ) (muted : ℕ → Bool) (first count : ℕ) → IsPlan c
     → plp < length c.plps → IsEpoch c plp ticks → ArePackets at
-    → readback (slot_rule c plp ticks) first (told_records c plp ticks at muted first count)
+    → readback (epoch_rule c plp ticks) first (told_records c plp ticks at muted first count)
     ≡ recover c plp ticks at muted first count
 
 -- Each block of an epoch is taken, as what was sent.
@@ -50,7 +51,7 @@ RunRecovers = (c : Config) (plp : ℕ) (inputs : ℕ → List (List ℕ)) (whole
     → IsPlan c → TypesFit c → plp < length c.plps
     → AllByRecursion IsPacket (inputs plp)
     → Readback c plp first (map (record_of c inputs whole) (range_with_len first count)) packets
-    → packets ≡ recover c plp c.ticks (packet_at (inputs plp)) (λ m. not (whole m)) first count
+    → packets ≡ recover c plp (epoch_ticks c plp) (packet_at (inputs plp)) (λ m. not (whole m)) first count
 
 -- So it is of all records of a run, by the frame from which on they are on the grid.
 abbrev pub RecordsRecover : Type 0
@@ -58,7 +59,7 @@ RecordsRecover = (c : Config) (plp : ℕ) (inputs : ℕ → List (List ℕ)) (wh
     → IsPlan c → TypesFit c → plp < length c.plps
     → AllByRecursion IsPacket (inputs plp) → IsOnGrid c first (records c inputs whole end)
     → Readback c plp first (records c inputs whole end) packets
-    → packets ≡ recover c plp c.ticks (packet_at (inputs plp)) (λ m. not (whole m)) first (length (records c inputs whole end))
+    → packets ≡ recover c plp (epoch_ticks c plp) (packet_at (inputs plp)) (λ m. not (whole m)) first (length (records c inputs whole end))
 
 -- If null packets are deleted, a null packet is the canonical one.
 abbrev pub IsCanonical : Bool → List ℕ → Type 0
@@ -72,12 +73,12 @@ WholeComesBack = (c : Config) (plp : ℕ) (inputs : ℕ → List (List ℕ)) (wh
     → AllByRecursion IsPacket (inputs plp) → AllByRecursion (IsCanonical (plp_at c.plps plp).delete) (inputs plp)
     → ((m : ℕ) → first ≤ m → m < first + count → whole m ≡ true)
     → Readback c plp first (map (record_of c inputs whole) (range_with_len first count)) packets
-    → packets ≡ map (packet_at (inputs plp)) (due_slots c plp c.ticks first count)
+    → packets ≡ map (packet_at (inputs plp)) (due_slots c plp (epoch_ticks c plp) first count)
 
 -- And of all frames of a run it is the packets of the input, and null packets behind them.
 abbrev pub RunComesBack : Type 0
 RunComesBack = (c : Config) (plp : ℕ) (inputs : ℕ → List (List ℕ)) (packets : List (List ℕ)) → IsPlan c → TypesFit c
-    → plp < length c.plps
+    → FramesStandAlone c → plp < length c.plps
     → AllByRecursion IsPacket (inputs plp) → AllByRecursion (IsCanonical (plp_at c.plps plp).delete) (inputs plp)
     → Readback c plp 0 (run_frames c inputs) packets
     → (nulls : ℕ) × (packets ≡ inputs plp ++ replicate nulls null_packet)

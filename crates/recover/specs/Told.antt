@@ -1,5 +1,5 @@
--- What a gateway sends for a PLP, epoch by epoch, as records tell it to a receiver. Here an epoch of so many ticks stands for a
--- frame, and in each slot of the PLP is the packet that `at` tells.
+-- What a gateway sends for a PLP, epoch by epoch, as records tell it to a receiver. Here an epoch of so many ticks stands for an
+-- interleaving frame, and in each slot of the PLP is the packet that `at` tells.
 use Rattle.std.specs.Prelude.{◌≡◌, ◌<◌, ◌≤◌, ℕ, ◌+◌, ◌-◌, ◌*◌, ◌^◌, Bool, List, map, length, slice_index, min, Some}
 use Rattle.std.specs.Prelude.{if◌then◌else◌}
 use Rattle.std.specs.List.{range_with_len}
@@ -26,7 +26,7 @@ pub record IsPacket (packet : List ℕ) : Type 0 where
 abbrev pub ArePackets : (ℕ → List ℕ) → Type 0
 ArePackets at = (k : ℕ) → IsPacket (at k)
 
--- An epoch is as a frame: in it the ISCR tells slots apart, and it carries what the stream brings, a user packet at least.
+-- An epoch is as an interleaving frame: in it the ISCR tells slots apart, and it carries what the stream brings, a user packet at least.
 pub record IsEpoch (c : Config) (plp ticks : ℕ) : Type 0 where
   pub some : 1 ≤ ticks
   pub most : ticks < 2 ^ 22
@@ -34,9 +34,12 @@ pub record IsEpoch (c : Config) (plp ticks : ℕ) : Type 0 where
   pub holds : up_bytes c plp ≤ capacity c plp
 
 -- the slots and the user packets of the PLP, as a receiver counts them
-abbrev pub slot_rule : Config → ℕ → ℕ → SlotRule
-slot_rule c plp ticks =
-    record { num = num c; den = den c plp; ticks = ticks; up_len = up_bytes c plp; deletes = (plp_at c.plps plp).delete }
+abbrev pub epoch_rule : Config → ℕ → ℕ → SlotRule
+epoch_rule c plp ticks = record {
+  times = record { num = num c; den = den c plp; epoch = ticks };
+  up_len = up_bytes c plp;
+  deletes = (plp_at c.plps plp).delete;
+}
 
 -- the block from place x on and up to place y, of the string of the slots below n: what its header and its data field tell
 abbrev pub told_block : Config → ℕ → (ℕ → List ℕ) → ℕ → ℕ → ℕ → Block

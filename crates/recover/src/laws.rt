@@ -1,6 +1,6 @@
 // Laws of the definitions. Their functions do nothing.
 ghost use Rattle.frame_records.specs.Laws.{NoneLost};
-ghost use Rattle.recover.specs.Laws.{FrameIsEpoch, SlotRecovers, ReadbackRecovers, BlocksTaken, RunRecovers, RecordsRecover};
+ghost use Rattle.recover.specs.Laws.{InterleavingIsEpoch, SlotRecovers, ReadbackRecovers, BlocksTaken, RunRecovers, RecordsRecover};
 ghost use Rattle.recover.specs.Laws.{WholeComesBack, RunComesBack};
 
 use bb_frame::{bit_counts, scramble_twice, written_is_spelled};
@@ -12,14 +12,14 @@ use mode_adapt::{begin_law, count_law, end_law, first_law, sent_within, within_l
 use null_delete::{dnp_fits, next_kept, without_deletion};
 use plp_config::{
     block_law, delay_law, emission_law, iscr_law, length_law, range_law, release_law,
-    run_length_law, slot_time_law,
+    run_length_law, slot_time_law, spread_law,
 };
 use plp_receiver::readback_law as once_law;
 use scheduler::{field_law, order_law};
 
-/// The frames of every plan are epochs.
-pub fn frame_law()
-    ensures { FrameIsEpoch }
+/// The interleaving frames of every plan are epochs.
+pub fn interleaving_law()
+    ensures { InterleavingIsEpoch }
 {
     within_law();
     length_law();
@@ -65,7 +65,7 @@ pub fn taken_law()
 pub fn recover_law()
     ensures { RunRecovers }
 {
-    frame_law();
+    interleaving_law();
     epochs_law();
     taken_law();
     once_law();
@@ -82,6 +82,7 @@ pub fn recover_law()
     count_law();
     length_law();
     block_law();
+    spread_law();
     field_law();
     order_law();
 }
@@ -109,6 +110,7 @@ pub fn whole_law()
     recover_law();
     none_law();
     length_law();
+    spread_law();
     slot_time_law();
     release_law();
     run_length_law();

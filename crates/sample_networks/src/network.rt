@@ -1,5 +1,5 @@
 // Configurations of networks of 8 MHz, with two frames a superframe.
-use crate::plps::{LOADED_PLP, MIXED_PLPS, REALISTIC_PLP, SMALL_PLP};
+use crate::plps::{LOADED_PLP, MIXED_PLPS, REALISTIC_PLP, SMALL_PLP, SPREAD_PLP};
 use bit_slice::OutOfMemory;
 use plp_config::{Band, Config, L1Numbers, Plp, PlpList};
 use std::alloc::Global;
@@ -53,6 +53,11 @@ pub fn network_of(
 /// The network of `SMALL_PLP`, with 40,000 cells: a slot lasts some 6,875 ticks, so a frame wants 14 or 15 packets.
 pub fn small_network(alloc: Global) -> Result<Config, OutOfMemory> {
     network_of(alloc, &[SMALL_PLP], 40_000, 1)
+}
+
+/// The network of `SPREAD_PLP`, with 40,000 cells.
+pub fn spread_network(alloc: Global) -> Result<Config, OutOfMemory> {
+    network_of(alloc, &[SPREAD_PLP], 40_000, 1)
 }
 
 /// The network of `LOADED_PLP`, with 40,000 cells. While packets come, each frame is full, and 25 bytes more wait behind it.

@@ -1,5 +1,7 @@
 // Plans of the networks.
-use crate::network::{loaded_network, mixed_network, realistic_network, small_network};
+use crate::network::{
+    loaded_network, mixed_network, realistic_network, small_network, spread_network,
+};
 use bit_slice::OutOfMemory;
 use plp_config::{CapacityFault, Config, ConfigFault, Plan, fits, validate};
 use std::alloc::Global;
@@ -30,6 +32,11 @@ pub fn plan_of(config: Config) -> Result<Plan, NoPlan> {
 /// The plan of `small_network`.
 pub fn small_plan(alloc: Global) -> Result<Plan, NoPlan> {
     plan_of(small_network(alloc)?)
+}
+
+/// The plan of `spread_network`.
+pub fn spread_plan(alloc: Global) -> Result<Plan, NoPlan> {
+    plan_of(spread_network(alloc)?)
 }
 
 /// The plan of `loaded_network`.

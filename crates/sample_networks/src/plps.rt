@@ -15,6 +15,14 @@ pub const SMALL_PLP: Plp = Plp {
     interleave: 1,
     delete: true,
     bits_per_second: 2_000_000,
+    spread: 1,
+};
+
+/// `SMALL_PLP` with interleaving frames of two frames, and eight blocks in each.
+pub const SPREAD_PLP: Plp = Plp {
+    blocks: 8,
+    spread: 2,
+    ..SMALL_PLP
 };
 
 /// A PLP with as much to send as its three blocks a frame carry: 2,607 bytes, one more than 100,000 ticks bring.

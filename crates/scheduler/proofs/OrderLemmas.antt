@@ -1,5 +1,6 @@
 -- The PLPs of a shape stand one behind the other.
-use Rattle.std.proofs.Common.{◌≡◌, ℕ, zero, suc, ◌+◌, ◌-◌, ◌*◌, ◌<◌, ◌≤◌, ◌==◌, Bool, true, false, not, List, length, map, filter}
+use Rattle.std.proofs.Common.{◌≡◌, ℕ, zero, suc, ◌+◌, ◌-◌, ◌*◌, ◌%◌, ◌<◌, ◌≤◌, ◌==◌, Bool, true, false, not, List, length, map}
+use Rattle.std.proofs.Common.{filter}
 use Rattle.std.proofs.Common.{sum_by, refl, ap, sym, ◌∙◌, subst, arith}
 use Rattle.std.specs.Prelude.{slice_index}
 use Rattle.std.specs.List.{range_with_len}
@@ -8,18 +9,16 @@ use Rattle.std.proofs.lemmas.Bool.{eqb-true}
 use Rattle.std.proofs.lemmas.List.Folds.{list_any_at}
 use Rattle.std.proofs.lemmas.Nat.{le-div}
 use Rattle.std.proofs.Math.Nat.{div-mul-le_self}
-use Rattle.plp_config.specs.Capacity.{IsPlan, block_cells, EvenSubSlices}
-use Rattle.plp_config.specs.Plps.{plp_at, is_type2, has_type2, no_plp}
-use Rattle.plp_config.specs.Rules.{SubSlices}
+use Rattle.plp_config.proofs.SpreadLemmas.{cut_parts}
+use Rattle.plp_config.specs.Capacity.{IsPlan, block_cells, EvenParts}
+use Rattle.plp_config.specs.Plps.{plp_at, is_type2, has_type2, no_plp, spread}
+use Rattle.plp_config.specs.Rules.{SubSlices, SpreadDivides}
 use Rattle.plp_config.specs.declared.config.Config.{Config}
-use Rattle.plp_config.specs.declared.plp.PlpType.{PlpType}
-use Rattle.plp_config.specs.declared.plp.PlpType.TheVariants.{Type1, Type2}
 use Rattle.scheduler.specs.Laws.{ShapeStandsInOrder}
 use Rattle.scheduler.specs.Shape.{cells_of, slice_of, in_type2, type1_before, type2_before, type2_start_of, interval_of, start_of}
 use Rattle.scheduler.specs.Shape.{shape_of}
 use Rattle.scheduler.proofs.SumLemmas.{sum-more, sum-rises, cells_fit}
 use Rattle.terms.proofs.CaseLemmas.{bool_cases}
-use Rattle.terms.proofs.NatLemmas.{cut_whole}
 
 -- what stands before a later place has what stands at an earlier one
 rise : (f : ℕ → ℕ) (test : ℕ → Bool) (i j : ℕ) → i < j → test i ≡ true
@@ -53,10 +52,6 @@ type2_start_is c counts plp inside plp_type =
     let has : has_type2 c.plps ≡ true = list_any_at (λ plp. is_type2 plp.plp_type) c.plps plp no_plp inside plp_type in
     rw has refl
 
-type_is : (plp_type : PlpType) → is_type2 plp_type ≡ true → plp_type ≡ Type2
-type_is Type1 h = cc
-type_is Type2 h = refl
-
 sub_slices-some : (c : Config) → IsPlan c → 0 < c.sub_slices
 sub_slices-some c is = bool_cases (has_type2 c.plps)
     (λ e. let range : (2 ≤ c.sub_slices) × (c.sub_slices ≤ 6480) = rw e at (is.rules SubSlices) in omega (arith, range))
@@ -75,9 +70,12 @@ slices_of_cells c counts (suc place) is inside =
     let next : c.sub_slices * sum_by (slice_of c counts) (type2_before c (place + 1))
     ≡ sum_by (cells_of c counts) (type2_before c (place + 1)) =
     bool_cases (in_type2 c place)
-    (λ t. let even = is.tests EvenSubSlices place here (type_is (plp_at c.plps place).plp_type t) in
+    (λ t. let even : block_cells c place % (c.sub_slices * spread c.plps place) ≡ 0 =
+    rw t at (is.tests EvenParts place here) in
+    let some : 0 < spread c.plps place = (is.rules SpreadDivides place here).0 in
     let one : c.sub_slices * slice_of c counts place ≡ cells_of c counts place =
-    cut_whole (slice_index counts place) (block_cells c place) c.sub_slices (sub_slices-some c is) even in
+    cut_parts (slice_index counts place) (block_cells c place) c.sub_slices (spread c.plps place) (sub_slices-some c is) some
+    even in
     let a' = rw t at a in
     let b' = rw t at b in
     rw (a', b') (omega (arith, rest, one)))

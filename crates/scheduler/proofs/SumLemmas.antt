@@ -8,11 +8,12 @@ use Rattle.std.proofs.lemmas.List.Filters.{sum_by-filter_both}
 use Rattle.std.proofs.lemmas.List.Sums.{sum_by-append, sum_by_push, sum_by_more, sum_by-take-le, sum_by-le-sum_by}
 use Rattle.std.proofs.lemmas.Nat.{mul-le}
 use Rattle.std.proofs.Math.Nat.{div-le_self}
-use Rattle.plp_config.specs.Capacity.{IsPlan, block_cells, cell_need, CellCount}
-use Rattle.plp_config.specs.Plps.{plp_at, no_plp}
+use Rattle.plp_config.proofs.SpreadLemmas.{rooms_fit, part-le}
+use Rattle.plp_config.specs.Capacity.{IsPlan, block_cells, frame_room}
+use Rattle.plp_config.specs.Plps.{plp_at, no_plp, spread}
+use Rattle.plp_config.specs.Rules.{SpreadDivides}
 use Rattle.plp_config.specs.Tables.{cells_per_block}
 use Rattle.plp_config.specs.declared.config.Config.{Config}
-use Rattle.plp_config.specs.declared.plp.Plp.{Plp}
 use Rattle.scheduler.specs.Laws.{CountsFit}
 use Rattle.scheduler.specs.Shape.{cells_of, slice_of, in_type2, type1_before, type2_before}
 use Rattle.terms.proofs.RangeLemmas.{places_more}
@@ -48,46 +49,44 @@ adds_type1 c f plp is = record {
 }
 
 -- the cells of a PLP are at most those that it may fill
-cells-le : (c : Config) (counts : List ℕ) (plp : ℕ) → CountsFit c counts → plp < length c.plps
-    → cells_of c counts plp ≤ (plp_at c.plps plp).blocks * cells_per_block (plp_at c.plps plp).fec (plp_at c.plps plp).modulation
+cells-le : (c : Config) (counts : List ℕ) (plp : ℕ) → IsPlan c → CountsFit c counts → plp < length c.plps
+    → cells_of c counts plp ≤ frame_room (plp_at c.plps plp)
 unfolding block_cells
-cells-le c counts plp fit inside =
+cells-le c counts plp is fit inside =
     let nc : ℕ = cells_per_block (plp_at c.plps plp).fec (plp_at c.plps plp).modulation in
-    mul-le (slice_index counts plp) nc (plp_at c.plps plp).blocks nc (fit.within plp inside) (omega arith)
+    part-le (slice_index counts plp * nc) ((plp_at c.plps plp).blocks * nc) (spread c.plps plp)
+    ((is.rules SpreadDivides plp inside).0)
+    (mul-le (slice_index counts plp) nc (plp_at c.plps plp).blocks nc (fit.within plp inside) (omega arith))
 
 -- the same of the PLPs before a place
-cells_before-le : (c : Config) (counts : List ℕ) (place : ℕ) → CountsFit c counts → place ≤ length c.plps
-    → sum_by (cells_of c counts) (range_with_len 0 place) ≤ sum_by (λ plp. plp.blocks * cells_per_block plp.fec plp.modulation)
-    (take place c.plps)
-cells_before-le c counts zero fit inside = omega arith
-cells_before-le c counts (suc place) fit inside =
+cells_before-le : (c : Config) (counts : List ℕ) (place : ℕ) → IsPlan c → CountsFit c counts → place ≤ length c.plps
+    → sum_by (cells_of c counts) (range_with_len 0 place) ≤ sum_by frame_room (take place c.plps)
+cells_before-le c counts zero is fit inside = omega arith
+cells_before-le c counts (suc place) is fit inside =
     let here : place < length c.plps = omega arith in
-    let room : Plp → ℕ = λ plp. plp.blocks * cells_per_block plp.fec plp.modulation in
     let e : suc place ≡ place + 1 = omega arith in
     let a : sum_by (cells_of c counts) (range_with_len 0 (place + 1)) ≡ sum_by (cells_of c counts) (range_with_len 0 place)
     + cells_of c counts place =
     ap (sum_by (cells_of c counts)) (places_more place) ∙ sum_by_push (cells_of c counts) (range_with_len 0 place) place in
-    let b : sum_by room (take (place + 1) c.plps) ≡ sum_by room (take place c.plps) + room (plp_at c.plps place) =
-    sum_by_more room c.plps place no_plp here in
-    let one : cells_of c counts place ≤ room (plp_at c.plps place) = cells-le c counts place fit here in
-    let rest : sum_by (cells_of c counts) (range_with_len 0 place) ≤ sum_by room (take place c.plps) =
-    cells_before-le c counts place fit (omega arith) in
-    let next : sum_by (cells_of c counts) (range_with_len 0 (place + 1)) ≤ sum_by room (take (place + 1) c.plps) =
+    let b : sum_by frame_room (take (place + 1) c.plps)
+    ≡ sum_by frame_room (take place c.plps) + frame_room (plp_at c.plps place) =
+    sum_by_more frame_room c.plps place no_plp here in
+    let one : cells_of c counts place ≤ frame_room (plp_at c.plps place) = cells-le c counts place is fit here in
+    let rest : sum_by (cells_of c counts) (range_with_len 0 place) ≤ sum_by frame_room (take place c.plps) =
+    cells_before-le c counts place is fit (omega arith) in
+    let next : sum_by (cells_of c counts) (range_with_len 0 (place + 1)) ≤ sum_by frame_room (take (place + 1) c.plps) =
     omega (arith, a, b, one, rest) in
-    subst (λ (k : ℕ). sum_by (cells_of c counts) (range_with_len 0 k) ≤ sum_by room (take k c.plps)) (sym e) next
+    subst (λ (k : ℕ). sum_by (cells_of c counts) (range_with_len 0 k) ≤ sum_by frame_room (take k c.plps)) (sym e) next
 
 -- the PLPs before a place fill no more cells than a frame has
 pub cells_fit : (c : Config) (counts : List ℕ) (place : ℕ) → IsPlan c → CountsFit c counts → place ≤ length c.plps
     → sum_by (cells_of c counts) (type1_before c place) + sum_by (cells_of c counts) (type2_before c place) ≤ c.cells
-unfolding cell_need
 cells_fit c counts place is fit inside =
-    let room : Plp → ℕ = λ plp. plp.blocks * cells_per_block plp.fec plp.modulation in
     let parts : sum_by (cells_of c counts) (type2_before c place) + sum_by (cells_of c counts) (type1_before c place)
     ≡ sum_by (cells_of c counts) (range_with_len 0 place) =
     sum_by-filter_both (in_type2 c) (λ plp. not (in_type2 c plp)) (λ _. refl) (cells_of c counts) (range_with_len 0 place) in
-    let most : sum_by room (take place c.plps) ≤ sum_by room c.plps = sum_by-take-le room c.plps place in
-    let need : sum_by room c.plps ≤ c.cells = is.tests CellCount in
-    omega (arith, parts, cells_before-le c counts place fit inside, most, need)
+    let most : sum_by frame_room (take place c.plps) ≤ sum_by frame_room c.plps = sum_by-take-le frame_room c.plps place in
+    omega (arith, parts, cells_before-le c counts place is fit inside, most, rooms_fit c is)
 
 -- a sum over more places is larger
 pub sum-rises : (f : ℕ → ℕ) (test : ℕ → Bool) (n more : ℕ)

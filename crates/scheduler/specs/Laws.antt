@@ -20,15 +20,15 @@ pub record FitsL1 (shape : FrameShape) : Type 0 where
 abbrev pub ShapeFitsL1 : Type 0
 ShapeFitsL1 = (c : Config) (counts : List ℕ) → IsPlan c → CountsFit c counts → FitsL1 (shape_of c counts)
 
--- a PLP has blocks in the frame, and is of type 1 or of type 2
+-- a PLP has blocks in the frame, and is in one slice, common or of type 1, or of type 2
 abbrev pub IsSent1 : Config → FrameShape → ℕ → Type 0
 IsSent1 c shape plp = (plp < length c.plps) × (0 < slice_index shape.counts plp) × (in_type2 c plp ≡ false)
 
 abbrev pub IsSent2 : Config → FrameShape → ℕ → Type 0
 IsSent2 c shape plp = (plp < length c.plps) × (0 < slice_index shape.counts plp) × (in_type2 c plp ≡ true)
 
--- the PLPs with blocks stand one behind the other: type 1, and behind it the sub-slices of type 2, which stand within an
--- interval; and the last ends within the frame
+-- the PLPs with blocks stand one behind the other: those in one slice, and behind them the sub-slices of type 2, which stand
+-- within an interval; and the last ends within the frame
 pub record StandsInOrder (c : Config) (shape : FrameShape) : Type 0 where
   pub type1 : (i j : ℕ) → i < j → IsSent1 c shape i → IsSent1 c shape j → slice_index shape.starts i + cells_of c shape.counts i
       ≤ slice_index shape.starts j

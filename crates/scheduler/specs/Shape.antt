@@ -3,10 +3,10 @@ use Rattle.std.specs.Prelude.{ℕ, ◌+◌, ◌*◌, ◌/◌, ◌==◌, Bool, no
 use Rattle.std.specs.Prelude.{slice_set, if◌then◌else◌}
 use Rattle.std.specs.List.{range_with_len}
 use Rattle.plp_config.specs.Capacity.{block_cells}
-use Rattle.plp_config.specs.Plps.{plp_at, is_type2, has_type2}
+use Rattle.plp_config.specs.Plps.{plp_at, is_type2, has_type2, spread}
 use Rattle.plp_config.specs.declared.config.Config.{Config}
 
--- what L1 tells of it: the blocks and the first address of each PLP, and the two numbers of type 2
+-- what L1 tells of it: the blocks of each PLP in its interleaving frame and its first address, and the two numbers of type 2
 pub record FrameShape : Type 0 where
   pub counts : List ℕ
   pub starts : List ℕ
@@ -26,15 +26,15 @@ with_plp shape plp count start =
 abbrev pub with_type2 : FrameShape → ℕ → ℕ → FrameShape
 with_type2 shape interval start = record shape { interval = interval; type2_start = start }
 
--- the cells of a PLP in a frame: those of its blocks
+-- the cells of a PLP in a frame: those of the blocks of its interleaving frame, parted among the frames that carry it
 abbrev pub cells_of : Config → List ℕ → ℕ → ℕ
-cells_of c counts plp = slice_index counts plp * block_cells c plp
+cells_of c counts plp = slice_index counts plp * block_cells c plp / spread c.plps plp
 
 -- the cells of a PLP of type 2 in one of its sub-slices, which are alike
 abbrev pub slice_of : Config → List ℕ → ℕ → ℕ
 slice_of c counts plp = cells_of c counts plp / c.sub_slices
 
--- the PLPs of type 2 before a place, by their places, and the others, which stand in one slice each
+-- the PLPs of type 2 before a place, by their places, and the others, common and of type 1, which stand in one slice each
 abbrev pub in_type2 : Config → ℕ → Bool
 in_type2 c plp = is_type2 (plp_at c.plps plp).plp_type
 
@@ -52,7 +52,7 @@ type2_start_of c counts = if has_type2 c.plps then sum_by (cells_of c counts) (t
 unfoldable pub interval_of : Config → List ℕ → ℕ
 interval_of c counts = sum_by (cells_of c counts) (type2_before c (length c.plps)) / c.sub_slices
 
--- PLP_START: behind the cells of the PLPs of type 1 before it; of type 2, behind their first sub-slices; 0 without a block
+-- PLP_START: behind the cells of the PLPs before it; of type 2, behind the first sub-slices of those of type 2; 0 without a block
 unfoldable pub start_of : Config → List ℕ → ℕ → ℕ
 start_of c counts plp =
     if slice_index counts plp == 0 then 0

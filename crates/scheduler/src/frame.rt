@@ -8,7 +8,7 @@ ghost use Rattle.scheduler.specs.Steps.{AreBefore, AreNext};
 use crate::numbers::Shape;
 use plp_config::{Plan, PlpType};
 
-// A number of cells for type 1, and one for type 2.
+// A number of cells for the PLPs in one slice, common and of type 1, and one for type 2.
 #[derive(Clone, Copy)]
 struct Cells {
     type1: u32,
@@ -29,7 +29,7 @@ fn cells_of(plan: &Plan, counts: &[u16], plp: usize) -> u32
     requires plp { plp < length plan.now.plps }
     ensures value { result ≡ cells_of plan.now counts.now plp }
 {
-    u32::from(counts[plp]) * plan.block_cells(plp)
+    u32::from(counts[plp]) * plan.block_cells(plp) / plan.spread(plp)
 }
 
 // The cells of all PLPs, by type.

@@ -79,7 +79,7 @@ impl Shape {
         self.interval
     }
 
-    /// The address behind the PLPs of type 1, TYPE_2_START.
+    /// The address behind the common PLPs and those of type 1, TYPE_2_START.
     pub fn type2_start(&self) -> u32
         ensures { result ≡ self.now.type2_start }
     {

@@ -108,6 +108,42 @@ fn type2_stands_behind_in_sub_slices(rt: HostRuntime) -> Result<(), Fail> {
     expect_shape(&rt, &mixed, &[1, 1, 0, 0], (0, 12_150), &[0, 8_100, 0, 0])
 }
 
+// By hand: a frame carries 3 * 8,100 / 2 cells of the common PLP, 8,100 / 2 of that of type 1, and 2 * 4,050 of that of type 2.
+#[test]
+fn half_of_each_block_stands_in_a_frame(rt: HostRuntime) -> Result<(), Fail> {
+    let half = Plp {
+        id: 1,
+        interleave: 1,
+        bits_per_second: 100_000,
+        spread: 2,
+        ..SMALL_PLP
+    };
+    let plps = [
+        Plp {
+            id: 9,
+            plp_type: PlpType::Common,
+            ..half
+        },
+        half,
+        Plp {
+            id: 2,
+            plp_type: TYPE_2,
+            group: 2,
+            modulation: QAM16,
+            spread: 1,
+            ..half
+        },
+    ];
+    let plan = plan_of(network_of(rt.alloc(), &plps, 100_000, 5)?)?;
+    expect_shape(
+        &rt,
+        &plan,
+        &[3, 1, 2],
+        (1_620, 16_200),
+        &[0, 12_150, 16_200],
+    )
+}
+
 #[test]
 fn numbers_are_set(rt: HostRuntime) -> Result<(), Fail> {
     let plan = plan_of(network(rt.alloc(), &[(TYPE_2, QAM256), (TYPE_2, QAM16)], 5)?)?;

@@ -1,12 +1,12 @@
 -- The blocks of a frame: how many bits each has, and how many there are.
-use Rattle.std.proofs.Common.{◌≡◌, ℕ, ◌+◌, ◌*◌, ◌<◌, min, Bool, List, [], ◌∷◌, length, map, arith}
+use Rattle.std.proofs.Common.{◌≡◌, ℕ, ◌+◌, ◌*◌, ◌<◌, min, Bool, List, length, arith}
 use Rattle.std.specs.Prelude.{slice_index}
 use Rattle.std.specs.List.{AllByRecursion}
 use Rattle.std.proofs.lemmas.List.FromFn.{get_or-map-range_with_len}
 use Rattle.bb_frame.specs.Laws.{BitCounts}
 use Rattle.plp_config.specs.Capacity.{block_bytes, field_bytes}
 use Rattle.plp_config.specs.Laws.{FieldRange}
-use Rattle.plp_config.specs.SlotTime.{slots_by}
+use Rattle.plp_config.specs.SlotTime.{slots_by, epoch_ticks}
 use Rattle.plp_config.specs.declared.config.Config.{Config}
 use Rattle.null_delete.specs.Deletion.{packet_at}
 use Rattle.mode_adapt.specs.Blocks.{block_places, plp_keeps, rates_of, plp_blocks, block_bits}
@@ -20,10 +20,10 @@ pub blocks_long : BitCounts → FieldRange → (c : Config) (inputs : ℕ → Li
     → AllByRecursion (λ b. length b ≡ 8 * block_bytes c plp) (plp_blocks c inputs n plp)
 blocks_long counts law c inputs n plp =
     let at : ℕ → List ℕ = packet_at (inputs plp) in
-    let end : ℕ = sent (rates_of c plp c.ticks) (plp_keeps c plp at) n in
-    let slots : ℕ = slots_by c plp (n * c.ticks) in
+    let end : ℕ = sent (rates_of c plp (epoch_ticks c plp)) (plp_keeps c plp at) n in
+    let slots : ℕ = slots_by c plp (n * epoch_ticks c plp) in
     all_map (λ b. length b ≡ 8 * block_bytes c plp) (λ from. block_bits c plp at slots from (min (from + field_bytes c plp) end))
-    (block_places (field_bytes c plp) (sent_before (rates_of c plp c.ticks) (plp_keeps c plp at) n) end)
+    (block_places (field_bytes c plp) (sent_before (rates_of c plp (epoch_ticks c plp)) (plp_keeps c plp at) n) end)
     (λ from. length-block counts law c plp at slots from (min (from + field_bytes c plp) end) (omega arith))
 
 -- how many blocks a PLP has, among the numbers of all

@@ -21,6 +21,8 @@ use Rattle.plp_config.specs.declared.moment.TheConstants.{MOST_FRAMES}
 use Rattle.scheduler.specs.Shape.{shape_of}
 use Rattle.l1_signal.specs.L1Of.{pre_of, post_front_bits, post_bits}
 use Rattle.l1_signal.specs.Laws.{PreBitsLength, PostLength}
+use Rattle.l1_signal.specs.Lengths.{post_len}
+use Rattle.l1_signal.specs.declared.lengths.TheConstants.{PRE_BITS}
 use Rattle.t2mi_packet.specs.T2miPacket.{payload_size, FitsBody}
 use Rattle.t2mi_packet.specs.declared.packet.Body.{Body}
 use Rattle.mode_adapt.specs.Blocks.{plp_blocks}
@@ -43,12 +45,12 @@ bw_fits Mhz7 = omega arith
 bw_fits Mhz8 = omega arith
 bw_fits Mhz10 = omega arith
 
-pre_len : PreBitsLength → (c : Config) → length (pre_part c) ≡ 168
+pre_len : PreBitsLength → (c : Config) → length (pre_part c) ≡ PRE_BITS
 unfolding pre_part
 pre_len law c = law (pre_of c)
 
 parts_len : PostLength → (c : Config) (n : ℕ) (counts : List ℕ) → length (conf_part c) + length (dyn_part c n counts) + 32
-    ≡ 213 + 137 * length c.plps
+    ≡ post_len (length c.plps)
 unfolding conf_part dyn_part post_bits
 parts_len law c n counts =
     let a = law c n (shape_of c counts) in

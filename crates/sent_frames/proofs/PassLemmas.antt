@@ -13,9 +13,9 @@ use Rattle.std.proofs.lemmas.List.FromFn.{fill_by_all}
 use Rattle.std.proofs.lemmas.List.Sums.{sum_by-cons}
 use Rattle.std.proofs.lemmas.Nat.{mul-le}
 use Rattle.bb_frame.specs.Laws.{BitCounts}
-use Rattle.plp_config.specs.Capacity.{IsPlan, CellCount, block_bytes, block_cells, cell_need}
+use Rattle.plp_config.specs.Capacity.{IsPlan, block_bytes, block_cells}
 use Rattle.plp_config.specs.Emission.{emission}
-use Rattle.plp_config.specs.Laws.{SlotLength, FieldRange, BlockChunks, CellsByFive}
+use Rattle.plp_config.specs.Laws.{SlotLength, FieldRange, BlockChunks, CellsByFive, BlocksFit}
 use Rattle.plp_config.specs.Plps.{plp_at, no_plp}
 use Rattle.plp_config.specs.Tables.{bw, cells_per_block}
 use Rattle.plp_config.specs.declared.config.Config.{Config}
@@ -56,14 +56,15 @@ pub record Given : Type 0 where
   pub field : FieldRange
   pub chunks : BlockChunks
   pub cells : CellsByFive
+  pub room : BlocksFit
   pub fits : ShapeFitsL1
   pub counts : ShapeHasCounts
   pub passes : ShapePasses
   pub map : MapPasses
 
 pub given_by : PartsTold → PreWritten → ConfWritten → DynReadBack → DynWritten → BitCounts → CountLaw → SlotLength → FieldRange
-    → BlockChunks → CellsByFive → ShapeFitsL1 → ShapeHasCounts → ShapePasses → MapPasses → Given
-given_by a b d e f g h i j k l m n o p = record {
+    → BlockChunks → CellsByFive → BlocksFit → ShapeFitsL1 → ShapeHasCounts → ShapePasses → MapPasses → Given
+given_by a b d e f g h i j k l m n o p q = record {
   told = a;
   pre_written = b;
   conf_written = d;
@@ -75,10 +76,11 @@ given_by a b d e f g h i j k l m n o p = record {
   field = j;
   chunks = k;
   cells = l;
-  fits = m;
-  counts = n;
-  passes = o;
-  map = p;
+  room = m;
+  fits = n;
+  counts = o;
+  passes = p;
+  map = q;
 }
 
 pub unless_true : (t : Bool) (cause : MuteCause) → t ≡ true → unless t cause ≡ None
@@ -128,11 +130,11 @@ sum_places : (h : Plp → ℕ) (plps : List Plp) → sum_by h plps ≡ sum_by (�
 sum_places h plps = ap (sum_by h) (fill_by_all (plp_at plps) plps (length plps) no_plp refl (λ k l. refl))
     ∙ fold-map (λ (sum : ℕ) (plp : Plp). sum + h plp) (plp_at plps) 0 (range_with_len 0 (length plps))
 
-pool_holds : BlockChunks → CellsByFive → (c : Config) (packets : List Packet) → IsPlan c
+pool_holds : BlockChunks → CellsByFive → BlocksFit → (c : Config) (packets : List Packet) → IsPlan c
     → ((plp : ℕ) → plp < length c.plps → length (right_blocks c plp packets) ≤ (plp_at c.plps plp).blocks) → pool_need c packets
     ≤ pool_chunks c
-unfolding block_cells cell_need
-pool_holds law cells c packets plan few =
+unfolding block_cells
+pool_holds law cells room c packets plan few =
     let n : ℕ = length c.plps in
     let all =
     sums_most (λ plp. length (right_blocks c plp packets) * chunks_for (block_bytes c plp))
@@ -141,7 +143,7 @@ pool_holds law cells c packets plan few =
     let m = mul-le (length (right_blocks c plp packets)) (2025 * chunks_for (block_bytes c plp)) (plp_at c.plps plp).blocks
     (7 * block_cells c plp) (few plp inside) (chunks_most law cells c plp) in omega (arith, m)) 0 n (omega arith) in
     let sum = sum_places (λ plp. plp.blocks * cells_per_block plp.fec plp.modulation) c.plps in
-    let need : cell_need c ≤ c.cells = plan.tests CellCount in
+    let need = room c plan in
     omega (arith, all, sum, need)
 
 -- ---- a test of each PLP
@@ -175,7 +177,7 @@ module _ (given : Given) (c : Config) (inputs : ℕ → List (List ℕ)) (n : �
   pool_passes packets few =
       unless_true (nat_le (pool_need c packets) (pool_chunks c)) (PoolFull (capped (pool_need c packets)) (pool_chunks c))
       (le-leb (pool_need c packets) (pool_chunks c)
-      (pool_holds given.chunks given.cells c packets plan
+      (pool_holds given.chunks given.cells given.room c packets plan
       (λ plp inside. let a = few plp inside in let b = count_at c (plp_blocks c inputs n) plp inside in
       let most = fit.within plp inside in omega (arith, a, b, most))))
 
@@ -285,7 +287,7 @@ module _ (given : Given) (c : Config) (inputs : ℕ → List (List ℕ)) (n : �
     unfolding map_test
     map_none =
         unless_true (has_map c (first_shape c packets)) MapRefused
-        (ap (has_map c) first_is ∙ (given.map c (frame_shape c inputs n)).1 (given.passes c counts plan fit))
+        (ap (has_map c) first_is ∙ (given.map c (frame_shape c inputs n) plan).1 (given.passes c counts plan fit))
 
     pub passes : packets_fault c n packets ≡ None
     unfolding packets_fault

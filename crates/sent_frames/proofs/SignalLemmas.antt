@@ -1,17 +1,20 @@
 -- The L1 signalling of a plan fits its fields, and is read back.
-use Rattle.std.proofs.Common.{◌≡◌, ℕ, ◌^◌, ◌<◌, ◌≤◌, Bool, true, false, List, [], length, map, get_or, Some, refl, ap, sym, subst}
-use Rattle.std.proofs.Common.{◌∙◌, arith, append-nil}
-use Rattle.std.specs.Prelude.{min, MatchBool}
+use Rattle.std.proofs.Common.{◌≡◌, ℕ, ◌%◌, ◌^◌, ◌<◌, ◌≤◌, Bool, true, false, List, [], length, map, get_or, Some, refl, ap}
+use Rattle.std.proofs.Common.{sym, subst, ◌∙◌, ⊎_elim, arith, append-nil}
+use Rattle.std.specs.Prelude.{min, nat_lt, MatchBool, if◌then◌else◌}
 use Rattle.std.specs.List.{range_with_len}
 use Rattle.std.specs.Option.{option_map}
 use Rattle.std.proofs.lemmas.List.{length-map, get_or-map}
 use Rattle.std.proofs.lemmas.List.FromFn.{get_or-map-range_with_len, length-map-range_with_len}
+use Rattle.std.proofs.Math.Nat.{mod-eq_of_lt}
+use Rattle.std.proofs.lemmas.Bool.{cases_lt}
 use Rattle.std.proofs.lemmas.Nat.{mod_below}
 use Rattle.plp_config.specs.Capacity.{IsPlan}
 use Rattle.plp_config.specs.Laws.{SlotLength, FieldRange}
-use Rattle.plp_config.specs.Plps.{plp_at, no_plp, type_number, has_type2}
+use Rattle.plp_config.specs.Plps.{plp_at, no_plp, type_number, has_type2, spread}
 use Rattle.plp_config.specs.Rules.{FitsL1}
 use Rattle.plp_config.specs.Rules.Rule.{L1Fields, SuperframeLength, PlpCount, SubSlices, BlockLimit, InterleaverLength}
+use Rattle.plp_config.specs.Rules.Rule.{SpreadDivides}
 use Rattle.plp_config.specs.Tables.{plp_cod, plp_mod, plp_fec_type}
 use Rattle.plp_config.specs.declared.config.Config.{Config}
 use Rattle.plp_config.specs.declared.plp.FecSize.{FecSize}
@@ -20,7 +23,7 @@ use Rattle.plp_config.specs.declared.plp.Modulation.{Modulation}
 use Rattle.plp_config.specs.declared.plp.Modulation.TheVariants.{Qpsk, Qam16, Qam64, Qam256}
 use Rattle.plp_config.specs.declared.plp.Plp.{Plp}
 use Rattle.plp_config.specs.declared.plp.PlpType.{PlpType}
-use Rattle.plp_config.specs.declared.plp.PlpType.TheVariants.{Type1, Type2}
+use Rattle.plp_config.specs.declared.plp.PlpType.TheVariants.{Common, Type1, Type2}
 use Rattle.plp_config.specs.declared.plp.Rate.{Rate}
 use Rattle.plp_config.specs.declared.plp.Rate.TheVariants.{R1_2, R3_5, R2_3, R3_4, R4_5, R5_6}
 use Rattle.scheduler.specs.Laws.{CountsFit, ShapeFitsL1}
@@ -28,7 +31,7 @@ use Rattle.scheduler.specs.Shape.{FrameShape, shape_of, start_of}
 use Rattle.l1_signal.specs.Fields.{RowsFit}
 use Rattle.l1_signal.specs.L1Configurable.{conf_plp_rows, ConfFits}
 use Rattle.l1_signal.specs.L1Dynamic.{dyn_read, dyn_bits, no_dyn_plp, DynFits}
-use Rattle.l1_signal.specs.L1Of.{flag_of, pre_of, conf_plp_of, conf_of, dyn_plp_of, dyn_of, told_shape}
+use Rattle.l1_signal.specs.L1Of.{flag_of, il_length_of, pre_of, conf_plp_of, conf_of, dyn_plp_of, dyn_of, told_shape}
 use Rattle.l1_signal.specs.L1Pre.{PreFits}
 use Rattle.l1_signal.specs.Laws.{PreWritten, ConfWritten, DynReadBack, DynWritten}
 use Rattle.l1_signal.specs.declared.dyn_plp.DynPlp.{DynPlp}
@@ -88,6 +91,7 @@ pre_fits c plan types =
     })
 
 type_most : (plp_type : PlpType) → type_number plp_type ≤ 2
+type_most Common = omega arith
 type_most Type1 = omega arith
 type_most Type2 = omega arith
 
@@ -113,11 +117,30 @@ flag_most : (flag : Bool) → flag_of flag ≤ 1
 flag_most true = omega arith
 flag_most false = omega arith
 
-plp_fits : (plp : Plp) → plp.id < 2 ^ 8 → plp.group < 2 ^ 8 → plp.blocks ≤ 1023 → plp.interleave ≤ 255
+-- one of two numbers
+either_most : (t : Bool) (x y most : ℕ) → x ≤ most → y ≤ most → (if t then x else y) ≤ most
+either_most true x y most a b = a
+either_most false x y most a b = b
+
+-- what divides a number is no greater
+divisor_most : (n s : ℕ) → 0 < n → n % s ≡ 0 → s ≤ n
+divisor_most n s some whole = ⊎_elim
+    (λ (l : n < s). let e = mod-eq_of_lt l in absurd (omega (arith, e, whole, some)))
+    (λ (l : s ≤ n). l)
+    (cases_lt n s)
+
+-- TIME_IL_LENGTH has eight bits
+length_most : (plp : Plp) → plp.interleave ≤ 255 → plp.spread ≤ 255 → il_length_of plp < 2 ^ 8
+length_most plp interleave spread =
+    let most : il_length_of plp ≤ 255 = either_most (nat_lt 1 plp.spread) plp.spread plp.interleave 255 spread interleave in
+    omega (arith, most)
+
+plp_fits : (plp : Plp) → plp.id < 2 ^ 8 → plp.group < 2 ^ 8 → plp.blocks ≤ 1023 → plp.interleave ≤ 255 → plp.spread ≤ 255
     → RowsFit conf_plp_rows (conf_plp_of plp)
 unfolding conf_plp_of
-plp_fits plp id group blocks interleave =
-    plp_numbers_fit (conf_plp_of plp) (record { plp_id = id; plp_group_id = group; time_il_length = omega (arith, interleave) })
+plp_fits plp id group blocks interleave spread =
+    plp_numbers_fit (conf_plp_of plp)
+    (record { plp_id = id; plp_group_id = group; time_il_length = length_most plp interleave spread })
     (record {
       plp_type = type_most plp.plp_type;
       plp_payload_type = refl;
@@ -130,7 +153,7 @@ plp_fits plp id group blocks interleave =
       plp_fec_type = fec_most plp.fec;
       plp_num_blocks_max = omega (arith, blocks);
       frame_interval = refl;
-      time_il_type = refl;
+      time_il_type = flag_most (nat_lt 1 plp.spread);
       in_band_a_flag = refl;
       in_band_b_flag = refl;
       plp_mode = refl;
@@ -154,8 +177,12 @@ conf_fits c plan types =
     let inside : k < length c.plps = omega (arith, lt, size) in
     let few : (1 ≤ (plp_at c.plps k).blocks) × ((plp_at c.plps k).blocks ≤ 1023) = plan.rules BlockLimit k inside in
     let short : (plp_at c.plps k).interleave ≤ min (plp_at c.plps k).blocks 255 = plan.rules InterleaverLength k inside in
+    let frames : (2 ≤ c.frames) × (c.frames ≤ 255) = plan.rules SuperframeLength in
+    let whole = plan.rules SpreadDivides k inside in
+    let wide : spread c.plps k ≤ c.frames = divisor_most c.frames (spread c.plps k) (omega (arith, frames.0)) whole.1 in
     subst (RowsFit conf_plp_rows) (sym (get_or-map conf_plp_of c.plps k no_plp d inside))
-    (plp_fits (plp_at c.plps k) (types.ids k inside) (types.groups k inside) few.1 (omega (arith, short))))
+    (plp_fits (plp_at c.plps k) (types.ids k inside) (types.groups k inside) few.1 (omega (arith, short))
+    (omega (arith, wide, frames.1))))
 
 -- ---- the dynamic part
 

@@ -1,6 +1,6 @@
 -- What is written of the packets of a frame is the frame.
-use Rattle.std.proofs.Common.{◌≡◌, ℕ, zero, suc, ◌+◌, ◌<◌, ◌≤◌, Bool, List, [], ◌++◌, length, Option, refl, ap, ap₂, ◌∙◌, arith}
-use Rattle.std.proofs.Common.{map}
+use Rattle.std.proofs.Common.{◌≡◌, ℕ, zero, suc, ◌+◌, ◌%◌, ◌<◌, ◌≤◌, Bool, List, [], ◌++◌, length, Option, refl, ap, ap₂}
+use Rattle.std.proofs.Common.{◌∙◌, arith, map}
 use Rattle.std.specs.Prelude.{slice_get, unwrap_or}
 use Rattle.std.specs.List.{flat_map, range_with_len}
 use Rattle.std.specs.Option.{option_map_or, option_and_then}
@@ -30,9 +30,9 @@ use Rattle.sent_frames.specs.SentFrames.{sent_frames}
 use Rattle.sent_frames.proofs.CarriedLemmas.{HasFrame, has_frame}
 use Rattle.sent_frames.proofs.SignalLemmas.{frame_told}
 
-same_view : (c : Config) (moment : Moment) (p q : List Bool) (x y : List Block) (s t : FrameShape) → p ≡ q → x ≡ y → s ≡ t
-    → frame_view c moment p x s ≡ frame_view c moment q y t
-same_view c moment p q x y s t e f g = rw (e, f, g) refl
+same_view : (c : Config) (moment : Moment) (frame_idx : ℕ) (p q : List Bool) (x y : List Block) (s t : FrameShape) → p ≡ q
+    → x ≡ y → s ≡ t → frame_view c moment frame_idx p x s ≡ frame_view c moment frame_idx q y t
+same_view c moment frame_idx p q x y s t e f g = rw (e, f, g) refl
 
 post_is : (c : Config) (n : ℕ) (counts : List ℕ) → post_with c (dyn_part c n counts) ≡ post_bits c n (shape_of c counts)
 unfolding post_bits dyn_part
@@ -50,7 +50,7 @@ written_is_frame numbers slot field count back written law carries c inputs n m 
     let packets : List Packet = frame_packets m (sent_frames c inputs n) in
     let has : HasFrame c inputs m packets = has_frame numbers field c inputs m packets plan (carries c inputs n m l) in
     let counts : List ℕ = counts_of c (plp_blocks c inputs m) in
-    same_view c (emission c m) (post_with c (dynamic_in packets)) (post_bits c m (frame_shape c inputs m))
+    same_view c (emission c m) (m % c.frames) (post_with c (dynamic_in packets)) (post_bits c m (frame_shape c inputs m))
     (sent_blocks c (λ plp. right_blocks c plp packets)) (sent_blocks c (plp_blocks c inputs m)) (shape_in c packets)
     (frame_shape c inputs m)
     (ap (λ (s : List L1Parts). post_with c (option_map_or (λ l1. l1.dynamic) (slice_get s 0) [])) has.l1s ∙ post_is c m counts)

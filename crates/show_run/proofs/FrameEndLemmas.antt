@@ -1,7 +1,6 @@
 -- A file of records has ended.
 use Rattle.std.proofs.Common.{◌≡◌, ℕ, ◌+◌, ◌<◌, List, [], ◌∷◌, ◌++◌, length, refl, ap, sym, subst, ◌∙◌, inl, ⊎_elim, arith}
 use Rattle.std.proofs.Common.{append-nil, length-append}
-use Rattle.std.specs.Prelude.{◌⊎◌}
 use Rattle.std.proofs.lemmas.List.{nil_from_length}
 use Rattle.file_run.specs.Events.{Event, Ended, fed, has_ended, gave}
 use Rattle.file_run.specs.Laws.{EventsTell}
@@ -17,7 +16,7 @@ use Rattle.show_run.specs.declared.frame_lines.Coming.TheVariants.{Head, Rest, R
 use Rattle.show_run.specs.declared.frame_lines.FrameLines.{FrameLines}
 use Rattle.site_frame.proofs.RecordFrontLemmas.{short_refused, cut_refused}
 use Rattle.file_run.proofs.EventLemmas.{ended_adds}
-use Rattle.show_run.proofs.FrameLinesLemmas.{open_is, Before, before, refused_seen, nothing_before, begun, rest_before}
+use Rattle.show_run.proofs.FrameLinesLemmas.{open_is, Before, before, refused_seen, nothing_before, rest_before}
 use Rattle.show_run.proofs.FrameWantedLemmas.{short}
 
 at_end : EventsTell → (m n : FrameLines) (was : List Event) (piece : List ℕ) → Shown m was → n.at ≡ m.at + length piece

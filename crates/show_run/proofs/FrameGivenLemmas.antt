@@ -1,5 +1,5 @@
 -- Lines of records are given.
-use Rattle.std.proofs.Common.{◌≡◌, ◌≢◌, ℕ, ◌+◌, min, false, List, [], ◌∷◌, ◌++◌, length, refl, ap, sym, subst, ◌∙◌, inl, inr}
+use Rattle.std.proofs.Common.{◌≡◌, ◌≢◌, ℕ, false, List, [], ◌∷◌, ◌++◌, length, refl, ap, sym, subst, ◌∙◌, inl, inr}
 use Rattle.std.proofs.Common.{append-nil}
 use Rattle.desk_io.specs.declared.input.TheConstants.{BUFFER}
 use Rattle.file_run.specs.Events.{Event, Gave, fed, gave}
@@ -7,7 +7,6 @@ use Rattle.file_run.specs.Laws.{EventsTell}
 use Rattle.file_run.specs.declared.machine.Step.TheVariants.{Read, Give, End}
 use Rattle.site_frame.specs.Record.{head_len}
 use Rattle.site_frame.specs.declared.reading.RecordView.{RecordView}
-use Rattle.show_run.specs.Front.{most_of}
 use Rattle.show_run.specs.FrameLines.{next_from, Behind, Given, IsNew, Comes}
 use Rattle.site_frame.specs.RecordFile.{AreRecords}
 use Rattle.show_run.specs.declared.frame_lines.Coming.{Coming}
@@ -55,13 +54,13 @@ gave_line law start m n events bytes some is none coming held left at count c =
     }
 
 -- a machine that gives has a line
-pub gives_line : (line : List ℕ) (coming : Coming) (at left : ℕ) → next_from line coming at left ≡ Give → line ≢ []
-gives_line [] Head at left e = absurd (let f : Read 0 head_len (most_of at head_len) ≡ Give = e in cc)
-gives_line [] Rest at left e = absurd (let f : Read 0 1 (most_of at (min left BUFFER)) ≡ Give = e in cc)
-gives_line [] (Refused why) at left e = absurd (let f : End ≡ Give = e in cc)
-gives_line [] NoRoom at left e = absurd (let f : End ≡ Give = e in cc)
-gives_line [] Finished at left e = absurd (let f : End ≡ Give = e in cc)
-gives_line (c ∷ line) coming at left e = λ none. cc
+pub gives_line : (line : List ℕ) (coming : Coming) → next_from line coming ≡ Give → line ≢ []
+gives_line [] Head e = absurd (let f : Read 0 head_len BUFFER ≡ Give = e in cc)
+gives_line [] Rest e = absurd (let f : Read 0 1 BUFFER ≡ Give = e in cc)
+gives_line [] (Refused why) e = absurd (let f : End ≡ Give = e in cc)
+gives_line [] NoRoom e = absurd (let f : End ≡ Give = e in cc)
+gives_line [] Finished e = absurd (let f : End ≡ Give = e in cc)
+gives_line (c ∷ line) coming e = λ none. cc
 
 -- nothing was done yet
 pub comes_first : (m : FrameLines) → IsNew m → Comes m [] m

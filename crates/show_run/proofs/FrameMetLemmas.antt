@@ -1,22 +1,20 @@
 -- What the lines of records tell of the file: the records that were met, and what stands behind them.
-use Rattle.std.proofs.Common.{◌≡◌, ℕ, ◌+◌, ◌-◌, ◌<◌, ◌≤◌, min, Bool, true, false, cond, List, [], ◌∷◌, ◌++◌, length, refl, ap}
+use Rattle.std.proofs.Common.{◌≡◌, ℕ, ◌+◌, ◌-◌, ◌<◌, ◌≤◌, List, [], ◌∷◌, ◌++◌, length, refl, ap}
 use Rattle.std.proofs.Common.{sym, subst, ◌∙◌, inl, inr, arith, append-nil, length-append}
-use Rattle.std.specs.Prelude.{codes, ◌⊎◌, nat_lt, Ok, Err}
+use Rattle.std.specs.Prelude.{codes, ◌⊎◌, Ok, Err}
 use Rattle.std.proofs.lemmas.List.{nil_from_length}
-use Rattle.std.proofs.lemmas.Bool.{ltb-true}
-use Rattle.desk_io.specs.Reading.{longest_file}
-use Rattle.desk_io.specs.declared.input.TheConstants.{BUFFER}
+use Rattle.desk_io.specs.declared.page.TheConstants.{PAGE}
 use Rattle.file_run.specs.Events.{Event, fed, has_ended, gave}
 use Rattle.file_run.specs.FileRun.{IsFed}
-use Rattle.file_run.specs.Telling.{StartsWith, Reaches}
+use Rattle.file_run.specs.Telling.{StartsWith}
+use Rattle.file_run.specs.Steps.{Needs}
 use Rattle.file_run.specs.declared.machine.Step.TheVariants.{Give, End}
 use Rattle.site_frame.specs.Record.{head_len}
 use Rattle.site_frame.specs.declared.fault.RecordWhy.{RecordWhy}
 use Rattle.site_frame.specs.declared.reading.RecordView.{RecordView}
-use Rattle.show_run.specs.Front.{most_of}
 use Rattle.show_run.specs.FrameLines.{next_from, next_of, Behind, Given, Shown, Comes}
 use Rattle.site_frame.specs.RecordFile.{AreRecords, IsBegun, EndsWithin, bytes_before}
-use Rattle.show_run.specs.RecordText.{AreFirstRecords, MeetsRecords, SaysMetRecords, IsRecordText}
+use Rattle.show_run.specs.RecordText.{AreFirstRecords, LacksFewRecords, SaysMetRecords, IsRecordText}
 use Rattle.show_run.specs.SaidLines.{record_lines, records_line}
 use Rattle.show_run.specs.declared.frame_lines.Coming.{Coming}
 use Rattle.show_run.specs.declared.frame_lines.Coming.TheVariants.{Head, Rest, Refused, NoRoom, Finished}
@@ -28,15 +26,15 @@ use Rattle.show_run.proofs.PacketMetLemmas.{line_some}
 use Rattle.site_frame.proofs.WantLemmas.{IsWaited}
 
 -- the lines of the first records, if a machine has lines still to give
-first_lines : (coming : Coming) (told next : List RecordView) (line text : List ℕ) (at left : ℕ) → next_from line coming at left
-    ≡ Give → Given coming told next line text → text ≡ record_lines 0 told
-first_lines Head told next line text at left gives g = g.0
-first_lines Rest told next line text at left gives g = g.0
-first_lines (Refused why) told next line text at left gives g = g.0
-first_lines NoRoom told next line text at left gives g = g.0
-first_lines Finished told next [] text at left gives g = absurd (let e : End ≡ Give = gives in cc)
-first_lines Finished told next (c ∷ line) text at left gives (none, inl waits) = waits.1
-first_lines Finished told next (c ∷ line) text at left gives (none, inr given) = absurd (let e : c ∷ line ≡ [] = given.0 in cc)
+first_lines : (coming : Coming) (told next : List RecordView) (line text : List ℕ) → next_from line coming ≡ Give
+    → Given coming told next line text → text ≡ record_lines 0 told
+first_lines Head told next line text gives g = g.0
+first_lines Rest told next line text gives g = g.0
+first_lines (Refused why) told next line text gives g = g.0
+first_lines NoRoom told next line text gives g = g.0
+first_lines Finished told next [] text gives g = absurd (let e : End ≡ Give = gives in cc)
+first_lines Finished told next (c ∷ line) text gives (none, inl waits) = waits.1
+first_lines Finished told next (c ∷ line) text gives (none, inr given) = absurd (let e : c ∷ line ≡ [] = given.0 in cc)
 
 first_of_file : (file : List ℕ) (m : FrameLines) (events : List Event) → StartsWith file (fed 0 events) (has_ended 0 events)
     → (s : Shown m events) → gave events ≡ record_lines 0 s.told → AreFirstRecords file (gave events)
@@ -55,35 +53,30 @@ said_first start file early mid starts came (inl none) = subst (λ (l : List Eve
     (none_first file)
 said_first start file early mid starts came (inr gives) =
     first_of_file file mid early starts came.shown
-    (first_lines mid.coming came.shown.told came.shown.next mid.line (gave early) mid.at mid.left gives came.shown.given)
-
--- of what is wanted no more waits than may be read
-pub reaches_in : (line : List ℕ) (coming : Coming) (at left count : ℕ) → Reaches (next_from line coming at left) 0 count
-    → (line ≡ [])
-    × (((coming ≡ Head) × (count ≤ most_of at head_len)) ⊎ ((coming ≡ Rest) × (count ≤ most_of at (min left BUFFER))))
-reaches_in [] Head at left count r = (refl, inl (refl, r.1))
-reaches_in [] Rest at left count r = (refl, inr (refl, r.1))
-reaches_in [] (Refused why) at left count r = absurd r
-reaches_in [] NoRoom at left count r = absurd r
-reaches_in [] Finished at left count r = absurd r
-reaches_in (c ∷ line) coming at left count r = absurd r
+    (first_lines mid.coming came.shown.told came.shown.next mid.line (gave early) gives came.shown.given)
 
 -- no more waits than the record lacks
 abbrev pub Near : FrameLines → ℕ → Type 0
 Near m count = ((m.coming ≡ Head) × (count ≤ head_len)) ⊎ ((m.coming ≡ Rest) × (count ≤ m.left))
 
-within_most : (at wanted count : ℕ) → at + count ≡ longest_file → count ≤ most_of at wanted → count ≤ wanted
-within_most at wanted count long reach = go (nat_lt (at + BUFFER) longest_file) refl reach
-  where
-    go : (b : Bool) → nat_lt (at + BUFFER) longest_file ≡ b → count ≤ cond b BUFFER wanted → count ≤ wanted
-    go true is near = let small : at + BUFFER < longest_file = ltb-true (at + BUFFER) longest_file is in
-        absurd (omega (arith, small, long, near))
-    go false is near = near
+-- if the machine needs all that waits
+needs_in : (line : List ℕ) (coming : Coming) (count : ℕ) → Needs (next_from line coming) 0 count → (line ≡ [])
+    × (((coming ≡ Head) × (count ≤ head_len)) ⊎ ((coming ≡ Rest) × (count ≤ 1)))
+needs_in [] Head count r = (refl, inl (refl, r.1))
+needs_in [] Rest count r = (refl, inr (refl, r.1))
+needs_in [] (Refused why) count r = absurd r
+needs_in [] NoRoom count r = absurd r
+needs_in [] Finished count r = absurd r
+needs_in (c ∷ line) coming count r = absurd r
 
-pub near_most : (m : FrameLines) (count : ℕ) → m.at + count ≡ longest_file → ((m.coming ≡ Head) × (count ≤ most_of m.at head_len))
-    ⊎ ((m.coming ≡ Rest) × (count ≤ most_of m.at (min m.left BUFFER))) → Near m count
-near_most m count long (inl h) = inl (h.0, within_most m.at head_len count long h.1)
-near_most m count long (inr r) = inr (r.0, (let w = within_most m.at (min m.left BUFFER) count long r.1 in omega (arith, w)))
+near_some : (m : FrameLines) (count : ℕ) → (m.coming ≡ Rest → 0 < m.left) → ((m.coming ≡ Head) × (count ≤ head_len))
+    ⊎ ((m.coming ≡ Rest) × (count ≤ 1)) → Near m count
+near_some m count some (inl h) = inl h
+near_some m count some (inr r) = inr (r.0, (let k = r.1 in let l = some r.0 in omega (arith, k, l)))
+
+pub near_needs : (m : FrameLines) (count : ℕ) → (m.coming ≡ Rest → 0 < m.left) → Needs (next_of m) 0 count → (m.line ≡ [])
+    × Near m count
+near_needs m count some n = let r = needs_in m.line m.coming count n in (r.0, near_some m count some r.1)
 
 pub near_short : (m : FrameLines) (count : ℕ) → (m.coming ≡ Rest → 0 < m.left) → IsWaited Head Rest m.coming count
     → Near m (count + 1)
@@ -141,17 +134,19 @@ all_met file m events place count none near s starts is = (
       (ends_within m events starts.0 count near s),
 )
 
--- the next one lacks some bytes
-pub part_met : (file : List ℕ) (m : FrameLines) (events : List Event) (place count : ℕ) → Near m (count + 1)
-    → (s : Shown m events)
-    → StartsWith file (fed 0 events) (has_ended 0 events) → length (fed 0 events) + count ≡ place → MeetsRecords file place
-part_met file m events place count near s starts is =
+-- the next one lacks some bytes, and of the lines of the others the first were said
+pub part_met : (file : List ℕ) (m : FrameLines) (events : List Event) (place count : ℕ) (text unsaid : List ℕ) → m.line ≡ []
+    → Near m (count + 1) → (s : Shown m events)
+    → StartsWith file (fed 0 events) (has_ended 0 events) → length (fed 0 events) + count ≡ place → gave events ≡ text ++ unsaid
+    → length unsaid ≤ PAGE → LacksFewRecords file place text
+part_met file m events place count text unsaid none near s starts is parts few =
     let behind = read_behind file m events place count s starts is in
     let more : place - bytes_before file (s.rest ++ starts.0) + 1 ≡ length s.rest + (count + 1) = omega (arith, behind) in (
       s.told ++ s.next,
       s.rest ++ starts.0,
       records_file file (fed 0 events) starts.0 s.rest (s.told ++ s.next) starts.1 s.records,
       subst (λ (k : ℕ). EndsWithin (s.rest ++ starts.0) k) (sym more) (ends_within m events starts.0 (count + 1) near s),
+      (unsaid, sym (quiet m events (count + 1) none near s) ∙ parts, few),
     )
 
 pub all_first : (file : List ℕ) (m : FrameLines) (events : List Event) (count : ℕ) → m.line ≡ [] → Near m count
@@ -167,9 +162,9 @@ all_first file m events count none near s starts = (
 )
 
 -- at the end no line waits
-pub ends_idle : (line : List ℕ) (coming : Coming) (at left : ℕ) → next_from line coming at left ≡ End → line ≡ []
-ends_idle [] coming at left e = refl
-ends_idle (c ∷ line) coming at left e = absurd (let f : Give ≡ End = e in cc)
+pub ends_idle : (line : List ℕ) (coming : Coming) → next_from line coming ≡ End → line ≡ []
+ends_idle [] coming e = refl
+ends_idle (c ∷ line) coming e = absurd (let f : Give ≡ End = e in cc)
 
 ended_all : (told next : List RecordView) (line text : List ℕ) → line ≡ [] → Given Finished told next line text → (next ≡ [])
     × (text ≡ record_lines 0 told ++ records_line (length told))

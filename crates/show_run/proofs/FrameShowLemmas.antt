@@ -1,5 +1,5 @@
 -- What was told of the lines of records is what a file of records asks for.
-use Rattle.std.proofs.Common.{◌≡◌, ◌≢◌, ℕ, ◌+◌, ◌-◌, ◌<◌, min, List, [], ◌++◌, length, refl, ap, sym, subst, ◌∙◌, inl, inr, arith}
+use Rattle.std.proofs.Common.{◌≡◌, ◌≢◌, ℕ, ◌+◌, ◌-◌, ◌<◌, List, [], ◌++◌, length, refl, ap, sym, subst, ◌∙◌, inl, inr, arith}
 use Rattle.std.proofs.Common.{append-nil, length-append}
 use Rattle.std.specs.Prelude.{◌⊎◌, IfSome, Result, Err}
 use Rattle.std.proofs.lemmas.List.{nil_from_length}
@@ -17,7 +17,6 @@ use Rattle.site_frame.specs.Laws.{OneRecord, NoRefusal}
 use Rattle.site_frame.specs.Record.{head_len}
 use Rattle.site_frame.specs.declared.fault.RecordWhy.{RecordWhy}
 use Rattle.site_frame.specs.declared.reading.RecordView.{RecordView}
-use Rattle.show_run.specs.Front.{most_of}
 use Rattle.show_run.specs.FrameLines.{next_from, next_of, Behind, Given, Shown, Comes, records_end}
 use Rattle.site_frame.specs.RecordFile.{AreRecords, IsNoRecord}
 use Rattle.show_run.specs.RecordText.{AreFirstRecords, SaysMetRecords, LeavesRecords, IsRecordText}
@@ -34,7 +33,7 @@ use Rattle.site_frame.proofs.RecordFileLemmas.{records_file, records_first}
 use Rattle.show_run.proofs.RecordTextLemmas.{record_lines-append}
 use Rattle.site_frame.proofs.RecordSplitLemmas.{stuck_nil, same_records, records_within}
 use Rattle.show_run.proofs.PacketMetLemmas.{fails_only, starts_fed}
-use Rattle.show_run.proofs.FrameMetLemmas.{none_first, said_first, reaches_in, Near, near_most, near_short, near_less, all_met}
+use Rattle.show_run.proofs.FrameMetLemmas.{none_first, said_first, Near, near_needs, near_short, near_less, all_met}
 use Rattle.show_run.proofs.FrameMetLemmas.{part_met, all_first, ends_idle, finished_text, refused_text, room_text}
 
 abbrev shows : State → State → List ℕ → Result ℕ ShowStop → Type 0
@@ -49,18 +48,18 @@ frames_end start now old new name t = go now.coming refl
     x = t.tells
 
     idle : now.line ≡ []
-    idle = ends_idle now.line now.coming now.at now.left t.end
+    idle = ends_idle now.line now.coming t.end
 
     text : gave x.events ≡ gave x.early
     text = x.parts ∙ append-nil (gave x.early)
 
-    at : (p : Coming) → now.coming ≡ p → next_from [] p now.at now.left ≡ End
-    at p is = subst (λ (p : Coming). next_from [] p now.at now.left ≡ End) is
-        (subst (λ (l : List ℕ). next_from l now.coming now.at now.left ≡ End) idle t.end)
+    at : (p : Coming) → now.coming ≡ p → next_from [] p ≡ End
+    at p is = subst (λ (p : Coming). next_from [] p ≡ End) is
+        (subst (λ (l : List ℕ). next_from l now.coming ≡ End) idle t.end)
 
     go : (p : Coming) → now.coming ≡ p → shows old new name (records_end p now.count)
-    go Head is = absurd (let e : Read 0 head_len (most_of now.at head_len) ≡ End = at Head is in cc)
-    go Rest is = absurd (let e : Read 0 1 (most_of now.at (min now.left BUFFER)) ≡ End = at Rest is in cc)
+    go Head is = absurd (let e : Read 0 head_len BUFFER ≡ End = at Head is in cc)
+    go Rest is = absurd (let e : Read 0 1 BUFFER ≡ End = at Rest is in cc)
     go (Refused why) is = record {
       given = t.place;
       text = gave x.early;
@@ -186,7 +185,7 @@ frames_stop one never start now old new name (stop.RecordRefused number why) som
 frames_stop one never start now old new name (stop.Files (TooLong input)) some s =
     let t = s.1 in
     let x = t.tells in
-    let r = reaches_in now.line now.coming now.at now.left _ t.wants in
+    let r = near_needs now _ some t.wants in
     record {
       given = longest_file;
       text = gave x.early;
@@ -194,12 +193,10 @@ frames_stop one never start now old new name (stop.Files (TooLong input)) some s
       grew = x.said;
       lines = IfSome_then old.held x.inputs (λ held f.
           let ahead = f.ahead in
-          let at = x.came.shown.place in
           let count : ℕ = longest_file - length (fed 0 x.events) in (
             (let w = f.within in w),
             subst (λ (l : List ℕ). SaysMetRecords (bytes_of held.files name) longest_file l) (x.parts ∙ append-nil (gave x.early))
-                (all_met (bytes_of held.files name) now x.events longest_file count r.0
-                (near_most now count (omega (arith, ahead, at)) r.1) x.came.shown (starts_fed _ _ _ _ f)
+                (all_met (bytes_of held.files name) now x.events longest_file count r.0 r.1 x.came.shown (starts_fed _ _ _ _ f)
                 (omega (arith, ahead))),
           ));
       counts = t.counts;
@@ -211,7 +208,10 @@ frames_stop one never start now old new name (stop.Files (ReadFault input)) some
     reads = (s.0, inl (closed.1, refl));
     grew = closed.1.said ∙ append-none old.said;
     lines = if_any old.held _
-        (λ held. (([], bytes_of held.files name, refl, inl (omega arith)), none_first (bytes_of held.files name)));
+        (λ held. (
+          ([], bytes_of held.files name, refl, inl (omega arith), ([], refl, omega arith)),
+          none_first (bytes_of held.files name),
+        ));
     counts = fails_only old new closed.0;
   }
   | inr more ↦
@@ -224,8 +224,9 @@ frames_stop one never start now old new name (stop.Files (ReadFault input)) some
         reads = (s.0, inr (x.opened, t.short));
         grew = x.said;
         lines = if_both old.held _ _ _ (λ held f first. (
-          part_met (bytes_of held.files name) now x.events t.place (t.place - length (fed 0 x.events))
-              (near_short now _ some r.2) x.came.shown (starts_fed _ _ _ _ f) (let ahead = f.ahead in omega (arith, ahead)),
+          part_met (bytes_of held.files name) now x.events t.place (t.place - length (fed 0 x.events)) (gave x.early) t.unsaid r.0
+              (near_short now _ some r.2) x.came.shown (starts_fed _ _ _ _ f) (let ahead = f.ahead in omega (arith, ahead)) x.parts
+              x.waits.few,
           first,
         )) x.inputs
             (some_said start now old new name t.place _ t.unsaid x (λ none. (r.0, near_less now _ (near_short now _ some r.2))));

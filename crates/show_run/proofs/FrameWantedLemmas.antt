@@ -10,31 +10,31 @@ use Rattle.show_run.specs.declared.frame_lines.Coming.TheVariants.{Head, Rest, R
 use Rattle.show_run.specs.declared.frame_lines.FrameLines.{FrameLines}
 use Rattle.site_frame.proofs.WantLemmas.{IsWaited, IsEnough}
 
-short_in : (line : List ℕ) (coming : Coming) (at left input count : ℕ) → FallsShort (next_from line coming at left) input count
+short_in : (line : List ℕ) (coming : Coming) (input count : ℕ) → FallsShort (next_from line coming) input count
     → (line ≡ []) × (input ≡ 0) × IsWaited Head Rest coming count
-short_in [] Head at left input count s = (refl, sym s.0, inl (refl, s.1))
-short_in [] Rest at left input count s = (refl, sym s.0, inr (refl, s.1))
-short_in [] (Refused why) at left input count s = absurd s
-short_in [] NoRoom at left input count s = absurd s
-short_in [] Finished at left input count s = absurd s
-short_in (c ∷ line) coming at left input count s = absurd s
+short_in [] Head input count s = (refl, sym s.0, inl (refl, s.1))
+short_in [] Rest input count s = (refl, sym s.0, inr (refl, s.1))
+short_in [] (Refused why) input count s = absurd s
+short_in [] NoRoom input count s = absurd s
+short_in [] Finished input count s = absurd s
+short_in (c ∷ line) coming input count s = absurd s
 
 pub short : (m : FrameLines) (input count : ℕ) → FallsShort (next_of m) input count → (m.line ≡ []) × (input ≡ 0)
     × IsWaited Head Rest m.coming count
-short m input count s = short_in m.line m.coming m.at m.left input count s
+short m input count s = short_in m.line m.coming input count s
 
-enough_in : (line : List ℕ) (coming : Coming) (at left input count : ℕ) → Suffices (next_from line coming at left) input count
+enough_in : (line : List ℕ) (coming : Coming) (input count : ℕ) → Suffices (next_from line coming) input count
     → (line ≡ []) × (input ≡ 0) × IsEnough Head Rest coming count
-enough_in [] Head at left input count s = (refl, sym s.0, inl (refl, s.1))
-enough_in [] Rest at left input count s = (refl, sym s.0, inr (refl, s.1))
-enough_in [] (Refused why) at left input count s = absurd s
-enough_in [] NoRoom at left input count s = absurd s
-enough_in [] Finished at left input count s = absurd s
-enough_in (c ∷ line) coming at left input count s = absurd s
+enough_in [] Head input count s = (refl, sym s.0, inl (refl, s.1))
+enough_in [] Rest input count s = (refl, sym s.0, inr (refl, s.1))
+enough_in [] (Refused why) input count s = absurd s
+enough_in [] NoRoom input count s = absurd s
+enough_in [] Finished input count s = absurd s
+enough_in (c ∷ line) coming input count s = absurd s
 
 pub enough : (m : FrameLines) (input count : ℕ) → Suffices (next_of m) input count → (m.line ≡ []) × (input ≡ 0)
     × IsEnough Head Rest m.coming count
-enough m input count s = enough_in m.line m.coming m.at m.left input count s
+enough m input count s = enough_in m.line m.coming input count s
 
 -- a machine that does not want a rest wants a head
 pub wants_head : (m : FrameLines) (count : ℕ) → (m.coming ≡ Rest → ⊥) → IsEnough Head Rest m.coming count → (m.coming ≡ Head)

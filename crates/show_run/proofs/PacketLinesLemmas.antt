@@ -1,7 +1,7 @@
 -- The lines of packets, step by step.
-use Rattle.std.proofs.Common.{rules, ◌≡◌, ◌≢◌, ℕ, ◌+◌, ◌<◌, ◌≤◌, Bool, true, false, cond, List, [], ◌∷◌, ◌++◌, length, take, drop}
+use Rattle.std.proofs.Common.{rules, ◌≡◌, ◌≢◌, ℕ, ◌+◌, ◌<◌, ◌≤◌, Bool, true, false, List, [], ◌∷◌, ◌++◌, length, take, drop}
 use Rattle.std.proofs.Common.{refl, ap, sym, subst, ◌∙◌, inl, inr, arith, append-nil, length-append}
-use Rattle.std.specs.Prelude.{nat_lt, IsTrue}
+use Rattle.std.specs.Prelude.{IsTrue}
 use Rattle.std.proofs.lemmas.List.{drop-append-le}
 use Rattle.std.proofs.Math.Seq.{take-length, drop-length}
 use Rattle.t2mi_packet.specs.declared.reading.TheConstants.{LARGEST}
@@ -13,7 +13,7 @@ use Rattle.desk_io.specs.declared.input.TheConstants.{BUFFER}
 use Rattle.file_run.specs.Steps.{Suffices, FallsShort, HasRoom, CanBeRead}
 use Rattle.show_run.specs.PacketFile.{Begins, Packs, bytes_in}
 use Rattle.show_run.specs.SaidLines.{line_of, lines_of, count_line}
-use Rattle.show_run.specs.Front.{IsFront, RefusesFront, most_of}
+use Rattle.show_run.specs.Front.{IsFront, RefusesFront}
 use Rattle.show_run.specs.PacketLines.{next_from, next_of, Behind, Given, Shown, IsNew, Comes}
 use Rattle.show_run.specs.declared.packet_lines.PacketLines.{PacketLines}
 use Rattle.show_run.specs.declared.packet_lines.Phase.{Phase}
@@ -21,29 +21,29 @@ use Rattle.show_run.specs.declared.packet_lines.Phase.TheVariants.{Reads, Ends, 
 use Rattle.show_run.proofs.PacketFileLemmas.{begins_inside, begins_on, packs_more, bytes_in-append, lines_of-append, file_len}
 
 -- what is wanted tells that packets are read, and that no line waits
-reads_idle : (line : List ℕ) (phase : Phase) (at input count : ℕ) → Suffices (next_from line phase at) input count → (line ≡ [])
+reads_idle : (line : List ℕ) (phase : Phase) (input count : ℕ) → Suffices (next_from line phase) input count → (line ≡ [])
     × (phase ≡ Reads) × (input ≡ 0) × (LARGEST ≤ count)
-reads_idle [] Reads at input count s = (refl, refl, sym s.0, s.1)
-reads_idle [] Ends at input count s = absurd s
-reads_idle [] (Refused why) at input count s = absurd s
-reads_idle [] Finished at input count s = absurd s
-reads_idle (c ∷ line) phase at input count s = absurd s
+reads_idle [] Reads input count s = (refl, refl, sym s.0, s.1)
+reads_idle [] Ends input count s = absurd s
+reads_idle [] (Refused why) input count s = absurd s
+reads_idle [] Finished input count s = absurd s
+reads_idle (c ∷ line) phase input count s = absurd s
 
 pub idle : (m : PacketLines) (input count : ℕ) → Suffices (next_of m) input count → (m.line ≡ []) × (m.phase ≡ Reads)
     × (input ≡ 0) × (LARGEST ≤ count)
-idle m input count s = reads_idle m.line m.phase m.at input count s
+idle m input count s = reads_idle m.line m.phase input count s
 
-short_idle : (line : List ℕ) (phase : Phase) (at input count : ℕ) → FallsShort (next_from line phase at) input count → (line ≡ [])
+short_idle : (line : List ℕ) (phase : Phase) (input count : ℕ) → FallsShort (next_from line phase) input count → (line ≡ [])
     × (phase ≡ Reads) × (input ≡ 0) × (count < LARGEST)
-short_idle [] Reads at input count s = (refl, refl, sym s.0, s.1)
-short_idle [] Ends at input count s = absurd s
-short_idle [] (Refused why) at input count s = absurd s
-short_idle [] Finished at input count s = absurd s
-short_idle (c ∷ line) phase at input count s = absurd s
+short_idle [] Reads input count s = (refl, refl, sym s.0, s.1)
+short_idle [] Ends input count s = absurd s
+short_idle [] (Refused why) input count s = absurd s
+short_idle [] Finished input count s = absurd s
+short_idle (c ∷ line) phase input count s = absurd s
 
 pub falls_idle : (m : PacketLines) (input count : ℕ) → FallsShort (next_of m) input count → (m.line ≡ []) × (m.phase ≡ Reads)
     × (input ≡ 0) × (count < LARGEST)
-falls_idle m input count s = short_idle m.line m.phase m.at input count s
+falls_idle m input count s = short_idle m.line m.phase input count s
 
 -- if packets are read, all that was fed are packets
 pub all_seen : (m : PacketLines) (events : List Event) → m.phase ≡ Reads → (s : Shown m events) → (s.rest ≡ [])
@@ -213,23 +213,18 @@ fed_last law start m n events input bytes zero idle reads ends quiet rest at cou
 pub not_ends : (phase : Phase) → phase ≡ Reads → phase ≡ Ends → ⊥
 not_ends phase reads ends = let e : Reads ≡ Ends = sym reads ∙ ends in cc
 
-most_between : (at : ℕ) → (LARGEST ≤ most_of at LARGEST) × (most_of at LARGEST ≤ BUFFER)
-most_between at = elim (nat_lt (at + BUFFER) longest_file) as (λ (b : Bool). (LARGEST ≤ cond b BUFFER LARGEST)
-    × (cond b BUFFER LARGEST ≤ BUFFER)) [ true ↦ (omega arith, omega arith) | false ↦ (omega arith, omega arith) ]
-
 -- what may be read
-pub can_be_read : (m : PacketLines) (events : List Event) → m.phase ≡ Reads → (most : ℕ) → most ≡ most_of m.at LARGEST
-    → Shown m events → CanBeRead 1 events (λ input. m.at + BUFFER) 0 LARGEST most
-can_be_read m events reads most is s =
+pub can_be_read : (m : PacketLines) (events : List Event) → m.phase ≡ Reads → Shown m events
+    → CanBeRead 1 events (λ input. m.at + BUFFER) 0 LARGEST BUFFER
+can_be_read m events reads s =
     let seen = all_seen m events reads s in
-    let size = most_between m.at in
     record {
       place = omega arith;
       is_open = seen.1;
       some = omega arith;
       few = omega arith;
-      order = (let a = size.0 in omega (arith, a, is));
-      near = (let b = size.1 in let at = seen.2 in omega (arith, b, at, is));
+      order = omega arith;
+      near = (let at = seen.2 in omega (arith, at));
     }
 
 -- the place of the next packet fits

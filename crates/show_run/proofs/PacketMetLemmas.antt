@@ -1,27 +1,24 @@
 -- What the lines of packets tell of the file: the packets that were met, and what stands behind them.
-use Rattle.std.proofs.Common.{◌≡◌, ℕ, ◌+◌, ◌-◌, ◌<◌, ◌≤◌, Bool, true, false, cond, List, [], ◌∷◌, ◌++◌, length, refl, ap, sym}
+use Rattle.std.proofs.Common.{◌≡◌, ℕ, ◌+◌, ◌<◌, ◌≤◌, Bool, true, List, [], ◌∷◌, ◌++◌, length, refl, ap, sym}
 use Rattle.std.proofs.Common.{subst, ◌∙◌, inl, inr, arith, append-nil, length-append}
 use Rattle.std.specs.Fmt.{decimal}
-use Rattle.std.specs.Prelude.{codes, ◌⊎◌, nat_lt, Ok, Err}
+use Rattle.std.specs.Prelude.{codes, ◌⊎◌, Ok, Err}
 use Rattle.std.proofs.lemmas.List.{nil_from_length}
-use Rattle.std.proofs.lemmas.Bool.{ltb-true}
 use Rattle.ports.specs.declared.counts.Counts.{Counts}
 use Rattle.ports.specs.Desk.{State}
 use Rattle.desk_io.specs.Faults.{ReadsFail}
-use Rattle.desk_io.specs.Reading.{longest_file}
-use Rattle.desk_io.specs.declared.input.TheConstants.{BUFFER}
 use Rattle.t2mi_packet.specs.Laws.{FrontRefusal}
 use Rattle.t2mi_packet.specs.declared.reading.TheConstants.{LARGEST}
 use Rattle.t2mi_packet.specs.declared.fault.PacketWhy.{PacketWhy}
+use Rattle.desk_io.specs.declared.page.TheConstants.{PAGE}
 use Rattle.file_run.specs.Events.{Event, fed, has_ended, gave}
 use Rattle.file_run.specs.FileRun.{IsFed}
-use Rattle.file_run.specs.Steps.{FallsShort}
-use Rattle.file_run.specs.Telling.{StartsWith, Reaches, ReadsFailFirst}
+use Rattle.file_run.specs.Steps.{Needs, FallsShort}
+use Rattle.file_run.specs.Telling.{StartsWith, ReadsFailAtLeast}
 use Rattle.file_run.specs.declared.machine.Step.TheVariants.{Give, End}
-use Rattle.show_run.specs.Front.{most_of}
 use Rattle.show_run.specs.PacketFile.{Packs, IsRefused}
 use Rattle.show_run.specs.PacketLines.{next_from, next_of, Behind, Given, Shown, Comes}
-use Rattle.show_run.specs.PacketText.{AreFirst, MeetsPackets, SaysMet, IsPacketText}
+use Rattle.show_run.specs.PacketText.{AreFirst, LacksFew, SaysMet, IsPacketText}
 use Rattle.show_run.specs.SaidLines.{lines_of, count_line}
 use Rattle.show_run.specs.declared.packet_lines.PacketLines.{PacketLines}
 use Rattle.show_run.specs.declared.packet_lines.Phase.{Phase}
@@ -37,14 +34,14 @@ packs_file file front more rest ps is h =
     subst (λ (l : List ℕ). Packs l ps (rest ++ more)) (sym is) (packs_on front more rest ps h)
 
 -- the lines of the first packets, if a machine has lines still to give
-first_lines : (phase : Phase) (told next : List (List ℕ)) (line text : List ℕ) (at : ℕ) → next_from line phase at ≡ Give
+first_lines : (phase : Phase) (told next : List (List ℕ)) (line text : List ℕ) → next_from line phase ≡ Give
     → Given phase told next line text → text ≡ lines_of 0 told
-first_lines Reads told next line text at gives g = g.0
-first_lines Ends told next line text at gives g = g.0
-first_lines (Refused why) told next line text at gives g = g.0
-first_lines Finished told next [] text at gives g = absurd (let e : End ≡ Give = gives in cc)
-first_lines Finished told next (c ∷ line) text at gives (none, inl waits) = waits.1
-first_lines Finished told next (c ∷ line) text at gives (none, inr given) = absurd (let e : c ∷ line ≡ [] = given.0 in cc)
+first_lines Reads told next line text gives g = g.0
+first_lines Ends told next line text gives g = g.0
+first_lines (Refused why) told next line text gives g = g.0
+first_lines Finished told next [] text gives g = absurd (let e : End ≡ Give = gives in cc)
+first_lines Finished told next (c ∷ line) text gives (none, inl waits) = waits.1
+first_lines Finished told next (c ∷ line) text gives (none, inr given) = absurd (let e : c ∷ line ≡ [] = given.0 in cc)
 
 first_of_file : (file : List ℕ) (m : PacketLines) (events : List Event) → StartsWith file (fed 0 events) (has_ended 0 events)
     → (s : Shown m events) → gave events ≡ lines_of 0 s.told → AreFirst file (gave events)
@@ -63,9 +60,9 @@ said_first start file early mid starts came (inl none) = subst (λ (l : List Eve
     (none_first file)
 said_first start file early mid starts came (inr gives) =
     first_of_file file mid early starts came.shown
-    (first_lines mid.phase came.shown.told came.shown.next mid.line (gave early) mid.at gives came.shown.given)
+    (first_lines mid.phase came.shown.told came.shown.next mid.line (gave early) gives came.shown.given)
 
-pub fails_only : (old new : State) → ReadsFail old new → ReadsFailFirst old new
+pub fails_only : (old new : State) → ReadsFail old new → ReadsFailAtLeast old new
 fails_only old new f = record {
   rose = f.rose;
   reads = f.later;
@@ -74,21 +71,21 @@ fails_only old new f = record {
 }
 
 -- a machine that wants bytes reads packets, and no line waits
-pub reaches_reads : (line : List ℕ) (phase : Phase) (at count : ℕ) → Reaches (next_from line phase at) 0 count → (line ≡ [])
-    × (phase ≡ Reads) × (count ≤ most_of at LARGEST)
-reaches_reads [] Reads at count r = (refl, refl, r.1)
-reaches_reads [] Ends at count r = absurd r
-reaches_reads [] (Refused why) at count r = absurd r
-reaches_reads [] Finished at count r = absurd r
-reaches_reads (c ∷ line) phase at count r = absurd r
+pub needs_reads : (line : List ℕ) (phase : Phase) (count : ℕ) → Needs (next_from line phase) 0 count → (line ≡ [])
+    × (phase ≡ Reads) × (count ≤ LARGEST)
+needs_reads [] Reads count r = (refl, refl, r.1)
+needs_reads [] Ends count r = absurd r
+needs_reads [] (Refused why) count r = absurd r
+needs_reads [] Finished count r = absurd r
+needs_reads (c ∷ line) phase count r = absurd r
 
-pub short_reads : (line : List ℕ) (phase : Phase) (at count : ℕ) → FallsShort (next_from line phase at) 0 count → (line ≡ [])
+pub short_reads : (line : List ℕ) (phase : Phase) (count : ℕ) → FallsShort (next_from line phase) 0 count → (line ≡ [])
     × (phase ≡ Reads) × (count < LARGEST)
-short_reads [] Reads at count r = (refl, refl, r.1)
-short_reads [] Ends at count r = absurd r
-short_reads [] (Refused why) at count r = absurd r
-short_reads [] Finished at count r = absurd r
-short_reads (c ∷ line) phase at count r = absurd r
+short_reads [] Reads count r = (refl, refl, r.1)
+short_reads [] Ends count r = absurd r
+short_reads [] (Refused why) count r = absurd r
+short_reads [] Finished count r = absurd r
+short_reads (c ∷ line) phase count r = absurd r
 
 pub starts_fed : (file : List ℕ) (place : ℕ) (front : List ℕ) (ended : Bool) → IsFed file place front ended
     → StartsWith file front ended
@@ -116,9 +113,10 @@ all_met file m events place none reads s starts near =
       quiet m events none reads s,
     )
 
--- so these packets were met
-pub met : (file : List ℕ) (given : ℕ) (text : List ℕ) → SaysMet file given text → MeetsPackets file given
-met file given text s = (s.0, s.1, s.2, s.3)
+-- of the lines of these packets the first were said
+pub some_met : (file : List ℕ) (given : ℕ) (all text unsaid : List ℕ) → SaysMet file given all → all ≡ text ++ unsaid
+    → length unsaid ≤ PAGE → LacksFew file given text
+some_met file given all text unsaid s parts few = (s.0, s.1, s.2, s.3, (unsaid, sym s.4 ∙ parts, few))
 
 pub all_first : (file : List ℕ) (m : PacketLines) (events : List Event) → m.line ≡ [] → m.phase ≡ Reads → (s : Shown m events)
     → StartsWith file (fed 0 events) (has_ended 0 events) → AreFirst file (gave events)
@@ -129,18 +127,10 @@ all_first file m events none reads s starts = (
   quiet m events none reads s,
 )
 
-pub far : (at place : ℕ) → place ≡ longest_file → place - at ≤ most_of at LARGEST → place ≤ at + LARGEST
-far at place long reach = go (nat_lt (at + BUFFER) longest_file) refl reach
-  where
-    go : (b : Bool) → nat_lt (at + BUFFER) longest_file ≡ b → place - at ≤ cond b BUFFER LARGEST → place ≤ at + LARGEST
-    go true is near = let small : at + BUFFER < longest_file = ltb-true (at + BUFFER) longest_file is in
-        absurd (omega (arith, small, long, near))
-    go false is near = omega (arith, near)
-
 -- at the end no line waits
-pub ends_idle : (line : List ℕ) (phase : Phase) (at : ℕ) → next_from line phase at ≡ End → line ≡ []
-ends_idle [] phase at e = refl
-ends_idle (c ∷ line) phase at e = absurd (let f : Give ≡ End = e in cc)
+pub ends_idle : (line : List ℕ) (phase : Phase) → next_from line phase ≡ End → line ≡ []
+ends_idle [] phase e = refl
+ends_idle (c ∷ line) phase e = absurd (let f : Give ≡ End = e in cc)
 
 -- a line of a key and a number is not empty
 pub line_some : (key : List ℕ) (count : ℕ) → key ++ decimal count ++ codes "\n" ≡ [] → ⊥

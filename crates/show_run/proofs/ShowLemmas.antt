@@ -1,5 +1,5 @@
 -- What was told of the lines of packets is what a file of packets asks for.
-use Rattle.std.proofs.Common.{◌≡◌, ◌≢◌, ℕ, ◌+◌, ◌-◌, List, [], ◌++◌, length, refl, ap, sym, subst, ◌∙◌, inl, inr, arith}
+use Rattle.std.proofs.Common.{◌≡◌, ◌≢◌, ℕ, ◌+◌, List, [], ◌++◌, length, refl, ap, sym, subst, ◌∙◌, inl, inr, arith}
 use Rattle.std.proofs.Common.{append-nil, length-append}
 use Rattle.std.specs.Prelude.{◌⊎◌, IfSome, Result, Err}
 use Rattle.std.proofs.lemmas.List.{nil_from_length}
@@ -7,6 +7,7 @@ use Rattle.std.proofs.lemmas.Option.{IfSome_then}
 use Rattle.terms.proofs.OptionLemmas.{if_any, if_both, append-none}
 use Rattle.ports.specs.Desk.{State, Held, bytes_of}
 use Rattle.desk_io.specs.Reading.{longest_file}
+use Rattle.desk_io.specs.declared.input.TheConstants.{BUFFER}
 use Rattle.t2mi_packet.specs.Laws.{FrontRefusal, OnePacket, NoRefusal, PacketLength}
 use Rattle.t2mi_packet.specs.declared.reading.TheConstants.{LARGEST}
 use Rattle.t2mi_packet.specs.declared.fault.PacketWhy.{PacketWhy}
@@ -15,7 +16,6 @@ use Rattle.file_run.specs.FileRun.{IsFed}
 use Rattle.file_run.specs.Telling.{StartsWith, Tells, TellsAll}
 use Rattle.file_run.specs.declared.machine.Step.TheVariants.{Read, Give, End}
 use Rattle.file_run.specs.declared.stop.RunFault.TheVariants.{TooLong, ReadFault, WriteFault}
-use Rattle.show_run.specs.Front.{most_of}
 use Rattle.show_run.specs.PacketFile.{Packs, bytes_in, IsRefused}
 use Rattle.show_run.specs.PacketLines.{next_from, next_of, Behind, Given, Shown, Comes, packets_end}
 use Rattle.show_run.specs.PacketText.{AreFirst, SaysMet, LeavesSome, IsPacketText}
@@ -29,9 +29,8 @@ use Rattle.show_run.specs.declared.stop.ShowStop.{ShowStop}
 use Rattle.show_run.specs.declared.stop.ShowStop.TheVariants.{PacketRefused, RecordRefused, Files, OutOfMemory, NoRoom}
 use Rattle.show_run.proofs.EndLemmas.{packs_within, same_packets}
 use Rattle.show_run.proofs.PacketFileLemmas.{packs_first, lines_of-append}
-use Rattle.show_run.proofs.PacketLinesLemmas.{all_seen}
-use Rattle.show_run.proofs.PacketMetLemmas.{packs_file, none_first, said_first, fails_only, reaches_reads, short_reads}
-use Rattle.show_run.proofs.PacketMetLemmas.{starts_fed, all_met, met, all_first, far, ends_idle, finished_text, refused_text}
+use Rattle.show_run.proofs.PacketMetLemmas.{packs_file, none_first, said_first, fails_only, needs_reads, short_reads}
+use Rattle.show_run.proofs.PacketMetLemmas.{starts_fed, all_met, some_met, all_first, ends_idle, finished_text, refused_text}
 
 abbrev shows : State → State → List ℕ → Result ℕ ShowStop → Type 0
 shows old new name result = Shows IsPacketText old new name result
@@ -45,18 +44,18 @@ shows_end law start now old new name t = go now.phase refl
     x = t.tells
 
     idle : now.line ≡ []
-    idle = ends_idle now.line now.phase now.at t.end
+    idle = ends_idle now.line now.phase t.end
 
     text : gave x.events ≡ gave x.early
     text = x.parts ∙ append-nil (gave x.early)
 
     go : (p : Phase) → now.phase ≡ p → shows old new name (packets_end p now.at now.count)
     go Reads is =
-        absurd (let e : Read 0 LARGEST (most_of now.at LARGEST) ≡ End = subst (λ (p : Phase). next_from [] p now.at ≡ End) is
-        (subst (λ (l : List ℕ). next_from l now.phase now.at ≡ End) idle t.end) in cc)
+        absurd (let e : Read 0 LARGEST BUFFER ≡ End = subst (λ (p : Phase). next_from [] p ≡ End) is
+        (subst (λ (l : List ℕ). next_from l now.phase ≡ End) idle t.end) in cc)
     go Ends is =
-        absurd (let e : Give ≡ End = subst (λ (p : Phase). next_from [] p now.at ≡ End) is
-        (subst (λ (l : List ℕ). next_from l now.phase now.at ≡ End) idle t.end) in cc)
+        absurd (let e : Give ≡ End = subst (λ (p : Phase). next_from [] p ≡ End) is
+        (subst (λ (l : List ℕ). next_from l now.phase ≡ End) idle t.end) in cc)
     go (Refused why) is = record {
       given = t.place;
       text = gave x.early;
@@ -174,7 +173,7 @@ shows_stop one none sizes start now old new name (RecordRefused number why) s = 
 shows_stop one none sizes start now old new name (Files (TooLong input)) s =
     let t = s.1 in
     let x = t.tells in
-    let r = reaches_reads now.line now.phase now.at _ t.wants in
+    let r = needs_reads now.line now.phase _ t.wants in
     record {
       given = longest_file;
       text = gave x.early;
@@ -184,8 +183,7 @@ shows_stop one none sizes start now old new name (Files (TooLong input)) s =
         (let w = f.within in w),
         subst (λ (l : List ℕ). SaysMet (bytes_of held.files name) longest_file l) (x.parts ∙ append-nil (gave x.early))
             (all_met (bytes_of held.files name) now x.events longest_file r.0 r.1 x.came.shown (starts_fed _ _ _ _ f)
-            (let at = (all_seen now x.events r.1 x.came.shown).2 in
-            let n = far now.at longest_file refl (let d = r.2 in omega (arith, d, at)) in omega (arith, n, at))),
+            (let n = r.2 in omega (arith, n))),
       ));
       counts = t.counts;
     }
@@ -196,21 +194,24 @@ shows_stop one none sizes start now old new name (Files (ReadFault input)) s = e
     reads = (s.0, inl (closed.1, refl));
     grew = closed.1.said ∙ append-none old.said;
     lines = if_any old.held _
-        (λ held. (([], bytes_of held.files name, refl, omega arith), none_first (bytes_of held.files name)));
+        (λ held. (
+          ([], bytes_of held.files name, refl, omega arith, ([], refl, omega arith)),
+          none_first (bytes_of held.files name),
+        ));
     counts = fails_only old new closed.0;
   }
   | inr some ↦
       let t = some.1 in
       let x = t.tells in
-      let r = short_reads now.line now.phase now.at _ t.wants in
+      let r = short_reads now.line now.phase _ t.wants in
       record {
         given = t.place;
         text = gave x.early;
         reads = (s.0, inr (x.opened, t.short));
         grew = x.said;
         lines = if_both old.held _ _ _ (λ held f first. (
-          met _ _ _ (all_met (bytes_of held.files name) now x.events t.place r.0 r.1 x.came.shown (starts_fed _ _ _ _ f)
-              (let d = r.2 in omega (arith, d))),
+          some_met _ _ _ (gave x.early) t.unsaid (all_met (bytes_of held.files name) now x.events t.place r.0 r.1 x.came.shown
+              (starts_fed _ _ _ _ f) (let d = r.2 in omega (arith, d))) x.parts x.waits.few,
           first,
         )) x.inputs (some_said start now old new name t.place t.unsaid x (λ none. (r.0, r.1)));
         counts = some.0;

@@ -18,8 +18,8 @@ use Rattle.t2mi_stream.specs.Units.{accepted_of}
 use Rattle.t2mi_stream.specs.UnpiperStandsFor.{is_ready}
 use Rattle.file_run.specs.Events.{Event, fed, has_ended, gave}
 use Rattle.file_run.specs.FileRun.{IsFed}
-use Rattle.file_run.specs.Steps.{FallsShort}
-use Rattle.file_run.specs.Telling.{StartsWith, Reaches, Tells, TellsAll}
+use Rattle.file_run.specs.Steps.{Needs, FallsShort}
+use Rattle.file_run.specs.Telling.{StartsWith, Tells, TellsAll}
 use Rattle.file_run.specs.declared.machine.Step.TheVariants.{Read, Give, End}
 use Rattle.file_run.specs.declared.stop.RunFault.TheVariants.{TooLong, ReadFault, WriteFault}
 use Rattle.show_run.specs.SaidLines.{count_line}
@@ -84,12 +84,12 @@ gives_waits Unpipes ready left line gives done none = let e : Unpipes ≡ Finish
 gives_waits Finished ready left [] gives done none = let e : End ≡ Give = gives in cc
 gives_waits Finished ready left (c ∷ line) gives done none = let e : c ∷ line ≡ [] = none in cc
 
-reaches_waits : (search : Search) (ready : Bool) (left : ℕ) (line : List ℕ) (count : ℕ)
-    → Reaches (next_in search ready left line) 0 count → search ≡ Finished → ⊥
-reaches_waits Seeks ready left line count r done = let e : Seeks ≡ Finished = done in cc
-reaches_waits Unpipes ready left line count r done = let e : Unpipes ≡ Finished = done in cc
-reaches_waits Finished ready left [] count r done = r
-reaches_waits Finished ready left (c ∷ line) count r done = r
+needs_waits : (search : Search) (ready : Bool) (left : ℕ) (line : List ℕ) (count : ℕ)
+    → Needs (next_in search ready left line) 0 count → search ≡ Finished → ⊥
+needs_waits Seeks ready left line count r done = let e : Seeks ≡ Finished = done in cc
+needs_waits Unpipes ready left line count r done = let e : Unpipes ≡ Finished = done in cc
+needs_waits Finished ready left [] count r done = r
+needs_waits Finished ready left (c ∷ line) count r done = r
 
 short_waits : (search : Search) (ready : Bool) (left : ℕ) (line : List ℕ) (count : ℕ)
     → FallsShort (next_in search ready left line) 0 count → search ≡ Finished → ⊥
@@ -178,7 +178,7 @@ t2mi_stop front behind start now old new name (Files (TooLong input)) s =
       grew = x.said;
       lines = if_both old.held _ _ _ (λ held f first. ((let w = f.within in w), first)) x.inputs
           (some_said front behind start now old new name longest_file [] x
-          (λ none. reaches_waits now.search (is_ready now.unpiper) (SIZE - now.from) now.line _ t.wants));
+          (λ none. needs_waits now.search (is_ready now.unpiper) (SIZE - now.from) now.line _ t.wants));
       counts = t.counts;
     }
 t2mi_stop front behind start now old new name (Files (ReadFault input)) s = elim s.1 [

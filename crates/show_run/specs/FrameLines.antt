@@ -1,5 +1,5 @@
 -- How far the lines of records have come. No public clause cites this module.
-use Rattle.std.specs.Prelude.{◌≡◌, ◌≢◌, ◌⊎◌, ℕ, ◌+◌, nat_lt, Bool, true, false, if◌then◌else◌, List, [], ◌∷◌, ◌++◌, length, min}
+use Rattle.std.specs.Prelude.{◌≡◌, ◌≢◌, ◌⊎◌, ℕ, ◌+◌, nat_lt, Bool, true, false, if◌then◌else◌, List, [], ◌∷◌, ◌++◌, length}
 use Rattle.std.specs.Prelude.{Result, Ok, Err}
 use Rattle.desk_io.specs.declared.input.TheConstants.{BUFFER}
 use Rattle.file_run.specs.Events.{Event, fed, has_ended, gave}
@@ -9,7 +9,6 @@ use Rattle.site_frame.specs.Record.{head_len}
 use Rattle.site_frame.specs.Whole.{BeginsWith, Refuses}
 use Rattle.site_frame.specs.declared.fault.RecordWhy.{RecordWhy}
 use Rattle.site_frame.specs.declared.reading.RecordView.{RecordView}
-use Rattle.show_run.specs.Front.{most_of}
 use Rattle.site_frame.specs.RecordFile.{AreRecords, Announces, IsBegun}
 use Rattle.show_run.specs.SaidLines.{record_line, record_lines, records_line}
 use Rattle.show_run.specs.declared.frame_lines.Coming.{Coming}
@@ -19,19 +18,19 @@ use Rattle.show_run.specs.declared.stop.ShowStop.{ShowStop}
 use Rattle.show_run.specs.declared.stop.ShowStop.TheVariants as stop
 
 -- what is done next if no line waits
-abbrev pub step_of : Coming → ℕ → ℕ → Step
-step_of Head at left = Read 0 head_len (most_of at head_len)
-step_of Rest at left = Read 0 1 (most_of at (min left BUFFER))
-step_of (Refused why) at left = End
-step_of NoRoom at left = End
-step_of Finished at left = End
+abbrev pub step_of : Coming → Step
+step_of Head = Read 0 head_len BUFFER
+step_of Rest = Read 0 1 BUFFER
+step_of (Refused why) = End
+step_of NoRoom = End
+step_of Finished = End
 
-abbrev pub next_from : List ℕ → Coming → ℕ → ℕ → Step
-next_from [] coming at left = step_of coming at left
-next_from (c ∷ line) coming at left = Give
+abbrev pub next_from : List ℕ → Coming → Step
+next_from [] coming = step_of coming
+next_from (c ∷ line) coming = Give
 
 abbrev pub next_of : FrameLines → Step
-next_of m = next_from m.line m.coming m.at m.left
+next_of m = next_from m.line m.coming
 
 -- how often it gives before it wants bytes
 abbrev pub left_of : FrameLines → ℕ

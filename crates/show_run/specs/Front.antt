@@ -1,17 +1,10 @@
--- The packet at the front of what was read, and how far is read for it.
-use Rattle.std.specs.Prelude.{◌≡◌, ℕ, ◌+◌, nat_lt, if◌then◌else◌, List, length}
-use Rattle.desk_io.specs.declared.input.TheConstants.{BUFFER}
-use Rattle.desk_io.specs.Reading.{longest_file}
+-- The packet at the front of what was read.
+use Rattle.std.specs.Prelude.{◌≡◌, ℕ, List, length}
 use Rattle.t2mi_packet.specs.declared.fault.PacketFault.{PacketFault}
 use Rattle.t2mi_packet.specs.declared.fault.PacketWhy.{PacketWhy}
 use Rattle.t2mi_packet.specs.T2miPacket.{Refuses}
 use Rattle.show_run.specs.PacketFile.{Begins}
 use Rattle.show_run.specs.SaidLines.{line_of}
-
--- how far a file may be read from a place on: as far as there is room for, and no further than is wanted if the file is nearly
--- too long
-abbrev pub most_of : ℕ → ℕ → ℕ
-most_of at wanted = if nat_lt (at + BUFFER) longest_file then BUFFER else wanted
 
 -- a packet at the front of bytes, its line at a place of the file, and its length
 pub record IsFront (bytes : List ℕ) (at : ℕ) (line : List ℕ) (len : ℕ) : Type 0 where

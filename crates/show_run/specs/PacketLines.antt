@@ -1,11 +1,11 @@
 -- How far the lines of packets have come that stand back to back. No public clause cites this module.
 use Rattle.std.specs.Prelude.{◌≡◌, ◌⊎◌, ℕ, ◌+◌, ◌*◌, ◌≤◌, nat_lt, Bool, true, false, if◌then◌else◌, List, [], ◌∷◌, ◌++◌, length}
 use Rattle.std.specs.Prelude.{Result, Ok, Err}
+use Rattle.desk_io.specs.declared.input.TheConstants.{BUFFER}
 use Rattle.t2mi_packet.specs.declared.reading.TheConstants.{LARGEST}
 use Rattle.file_run.specs.Events.{Event, fed, has_ended, gave}
 use Rattle.file_run.specs.declared.machine.Step.{Step}
 use Rattle.file_run.specs.declared.machine.Step.TheVariants.{Read, Give, End}
-use Rattle.show_run.specs.Front.{most_of}
 use Rattle.show_run.specs.PacketFile.{Packs, bytes_in, IsRefused}
 use Rattle.show_run.specs.SaidLines.{lines_of, count_line}
 use Rattle.show_run.specs.declared.stop.ShowStop.{ShowStop}
@@ -15,18 +15,18 @@ use Rattle.show_run.specs.declared.packet_lines.Phase.{Phase}
 use Rattle.show_run.specs.declared.packet_lines.Phase.TheVariants.{Reads, Ends, Refused, Finished}
 
 -- what is done next if no line waits
-abbrev pub step_of : Phase → ℕ → Step
-step_of Reads at = Read 0 LARGEST (most_of at LARGEST)
-step_of Ends at = Give
-step_of (Refused why) at = End
-step_of Finished at = End
+abbrev pub step_of : Phase → Step
+step_of Reads = Read 0 LARGEST BUFFER
+step_of Ends = Give
+step_of (Refused why) = End
+step_of Finished = End
 
-abbrev pub next_from : List ℕ → Phase → ℕ → Step
-next_from [] phase at = step_of phase at
-next_from (c ∷ line) phase at = Give
+abbrev pub next_from : List ℕ → Phase → Step
+next_from [] phase = step_of phase
+next_from (c ∷ line) phase = Give
 
 abbrev pub next_of : PacketLines → Step
-next_of m = next_from m.line m.phase m.at
+next_of m = next_from m.line m.phase
 
 -- how often it gives before it wants bytes
 abbrev pub left_in : Phase → ℕ → ℕ

@@ -1,6 +1,7 @@
 -- The text of a file of T2-MI packets that stand back to back.
 use Rattle.std.specs.Prelude.{◌≡◌, ℕ, ◌+◌, ◌≤◌, List, [], ◌++◌, length, Result, Ok, Err}
 use Rattle.desk_io.specs.Reading.{longest_file}
+use Rattle.desk_io.specs.declared.page.TheConstants.{PAGE}
 use Rattle.file_run.specs.declared.stop.RunFault.TheVariants.{TooLong, ReadFault, WriteFault}
 use Rattle.t2mi_packet.specs.declared.fault.PacketWhy.{PacketWhy}
 use Rattle.t2mi_packet.specs.declared.reading.TheConstants.{LARGEST}
@@ -13,15 +14,17 @@ use Rattle.show_run.specs.declared.stop.ShowStop.TheVariants.{PacketRefused, Rec
 abbrev pub AreFirst : List ℕ → List ℕ → Type 0
 AreFirst file text = (packets : List (List ℕ)) × (rest : List ℕ) × Packs file packets rest × (text ≡ lines_of 0 packets)
 
--- Of so many bytes that were read, packets were met that end within the length of a packet: so no refused one was met.
-abbrev pub MeetsPackets : List ℕ → ℕ → Type 0
-MeetsPackets file given = (packets : List (List ℕ)) × (rest : List ℕ) × Packs file packets rest
-    × (given ≤ bytes_in packets + LARGEST)
-
--- The same, and the text is the lines of these packets.
+-- Of so many bytes that were read, packets were met that end within the length of a packet: so no refused one was met. The text
+-- is the lines of these packets.
 abbrev pub SaysMet : List ℕ → ℕ → List ℕ → Type 0
 SaysMet file given text = (packets : List (List ℕ)) × (rest : List ℕ) × Packs file packets rest
     × (given ≤ bytes_in packets + LARGEST) × (text ≡ lines_of 0 packets)
+
+-- The same packets, and the text is the first of their lines: what is left of these is no more than may wait to be said.
+abbrev pub LacksFew : List ℕ → ℕ → List ℕ → Type 0
+LacksFew file given text = (packets : List (List ℕ)) × (rest : List ℕ) × Packs file packets rest
+    × (given ≤ bytes_in packets + LARGEST)
+    × ((unsaid : List ℕ) × (lines_of 0 packets ≡ text ++ unsaid) × (length unsaid ≤ PAGE))
 
 -- The text is the lines of some packets, and not all that is due: behind them stands another packet, or the file ends and lacks
 -- its number.
@@ -40,7 +43,7 @@ IsPacketText file given (Err (PacketRefused at why)) text =
     × (text ≡ lines_of 0 packets)
 IsPacketText file given (Err (RecordRefused number why)) text = ⊥
 IsPacketText file given (Err (Files (TooLong input))) text = (longest_file ≤ length file) × SaysMet file given text
-IsPacketText file given (Err (Files (ReadFault input))) text = MeetsPackets file given × AreFirst file text
+IsPacketText file given (Err (Files (ReadFault input))) text = LacksFew file given text × AreFirst file text
 IsPacketText file given (Err (Files WriteFault)) text = LeavesSome file text
 IsPacketText file given (Err OutOfMemory) text = text ≡ []
 IsPacketText file given (Err NoRoom) text = ⊥

@@ -1,6 +1,7 @@
 -- The text of a file of records.
 use Rattle.std.specs.Prelude.{◌≡◌, ℕ, ◌+◌, ◌-◌, ◌≤◌, List, [], ◌++◌, length, Result, Ok, Err}
 use Rattle.desk_io.specs.Reading.{longest_file}
+use Rattle.desk_io.specs.declared.page.TheConstants.{PAGE}
 use Rattle.file_run.specs.declared.stop.RunFault.TheVariants.{TooLong, ReadFault, WriteFault}
 use Rattle.site_frame.specs.declared.fault.RecordWhy.{RecordWhy}
 use Rattle.site_frame.specs.declared.reading.RecordView.{RecordView}
@@ -17,10 +18,12 @@ abbrev pub AreFirstRecords : List ℕ → List ℕ → Type 0
 AreFirstRecords file text = (views : List RecordView) × (rest : List ℕ) × SaysFirst file views rest text
 
 -- Of so many bytes that were read, records were met, and of the next one some bytes were not read, since a byte more would end
--- within it too: so no refused one was met.
-abbrev pub MeetsRecords : List ℕ → ℕ → Type 0
-MeetsRecords file given = (views : List RecordView) × (rest : List ℕ) × AreRecords file views rest
+-- within it too: so no refused one was met. The text is the first of the lines of these records: what is left of them is no more
+-- than may wait to be said.
+abbrev pub LacksFewRecords : List ℕ → ℕ → List ℕ → Type 0
+LacksFewRecords file given text = (views : List RecordView) × (rest : List ℕ) × AreRecords file views rest
     × EndsWithin rest (given - bytes_before file rest + 1)
+    × ((unsaid : List ℕ) × (record_lines 0 views ≡ text ++ unsaid) × (length unsaid ≤ PAGE))
 
 -- Records were met, of which the text is the lines, and what was read behind them ends within the next one, at which nobody
 -- looked.
@@ -44,7 +47,8 @@ IsRecordText file given (Err (PacketRefused at why)) text = ⊥
 IsRecordText file given (Err (RecordRefused number why)) text =
     (views : List RecordView) × (rest : List ℕ) × SaysFirst file views rest text × IsNoRecord rest why × (number ≡ length views)
 IsRecordText file given (Err (Files (TooLong input))) text = (longest_file ≤ length file) × SaysMetRecords file given text
-IsRecordText file given (Err (Files (ReadFault input))) text = MeetsRecords file given × AreFirstRecords file text
+IsRecordText file given (Err (Files (ReadFault input))) text = LacksFewRecords file given text
+    × AreFirstRecords file text
 IsRecordText file given (Err (Files WriteFault)) text = LeavesRecords file text
 IsRecordText file given (Err OutOfMemory) text = text ≡ []
 IsRecordText file given (Err NoRoom) text = (views : List RecordView) × (rest : List ℕ) × SaysFirst file views rest text

@@ -4,7 +4,7 @@ use Rattle.ports.specs.Desk.{State, SameCounts, bytes_of}
 use Rattle.desk_io.specs.Faults.{WritesFail}
 use Rattle.desk_io.specs.Reading.{longest_file}
 use Rattle.desk_io.specs.Opening.{Opened, Unopened}
-use Rattle.file_run.specs.Telling.{ReadsFailFirst}
+use Rattle.file_run.specs.Telling.{ReadsFailAtLeast}
 use Rattle.file_run.specs.declared.stop.RunFault.TheVariants.{TooLong, ReadFault, WriteFault}
 use Rattle.show_run.specs.declared.stop.ShowStop.{ShowStop}
 use Rattle.show_run.specs.declared.stop.ShowStop.TheVariants.{PacketRefused, RecordRefused, Files, OutOfMemory, NoRoom}
@@ -24,7 +24,7 @@ ReadsFile old new name given (Err NoRoom) = Opened old new name given × (given 
 
 -- A fault is told if it came. One of writing came alone; after one of reading what waits is said still, which may fail too.
 abbrev pub Counted : State → State → Result ℕ ShowStop → Type 0
-Counted old new (Err (Files (ReadFault input))) = ReadsFailFirst old new
+Counted old new (Err (Files (ReadFault input))) = ReadsFailAtLeast old new
 Counted old new (Err (Files WriteFault)) = WritesFail old new
 Counted old new result = SameCounts old new
 

@@ -4,7 +4,6 @@ ghost use Rattle.desk_io.specs.Reading.{longest_file};
 ghost use Rattle.show_run.specs.declared.frame_lines.Coming.TheVariants.{Rest};
 
 use crate::count_line::{give_line, records_line};
-use crate::front::most_of;
 use crate::record_line::line_of;
 use desk_io::{BUFFER, Line};
 use file_run::{Machine, Step, events_law};
@@ -172,12 +171,12 @@ impl Machine for FrameLines {
             Coming::Head => Step::Read {
                 input: 0,
                 least: HEAD,
-                most: most_of(self.at, HEAD),
+                most: BUFFER as u64,
             },
             Coming::Rest => Step::Read {
                 input: 0,
                 least: 1,
-                most: most_of(self.at, self.left.min(BUFFER)),
+                most: BUFFER as u64,
             },
             Coming::Refused(_) | Coming::NoRoom | Coming::Finished => Step::End,
         }

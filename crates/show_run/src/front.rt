@@ -1,9 +1,9 @@
-// The packet at the front of what was read, and how far is read for it.
+// The packet at the front of what was read.
 ghost use Rattle.std.specs.Prelude.{◌≡◌, ◌<◌, ◌≤◌, ◌^◌, length, IfOk, IfErr};
-ghost use Rattle.show_run.specs.Front.{IsFront, RefusesFront, most_of};
+ghost use Rattle.show_run.specs.Front.{IsFront, RefusesFront};
 
 use crate::packet_line::packet_line;
-use desk_io::{BUFFER, LONGEST_FILE, Line};
+use desk_io::Line;
 use t2mi_packet::{PacketWhy, view};
 
 // Bytes of a packet without payload: a header of six, and CRC_32.
@@ -19,16 +19,5 @@ pub fn front_line(bytes: &[u8], at: u64) -> Result<(Line, usize), PacketWhy>
     match view(bytes) {
         Ok((packet, len)) => Ok((packet_line(b"offset=", at, &packet), len)),
         Err(fault) => Err(fault.why),
-    }
-}
-
-/// How far the file may be read from a place on, of which so much is wanted.
-pub fn most_of(at: u64, wanted: usize) -> u64
-    ensures { result ≡ most_of at wanted }
-{
-    if at < LONGEST_FILE - BUFFER as u64 {
-        BUFFER as u64
-    } else {
-        wanted as u64
     }
 }

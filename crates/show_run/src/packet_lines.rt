@@ -4,9 +4,9 @@ ghost use Rattle.desk_io.specs.Reading.{longest_file};
 ghost use Rattle.show_run.specs.declared.packet_lines.Phase.TheVariants.{Ends};
 
 use crate::count_line::{count_line, give_line};
-use crate::front::{front_line, most_of};
+use crate::front::front_line;
 use bit_slice::OutOfMemory;
-use desk_io::{Input, Line};
+use desk_io::{BUFFER, Input, Line};
 use file_run::{Machine, Step, events_law};
 use std::alloc::Global;
 use t2mi_packet::{LARGEST, PacketWhy};
@@ -114,7 +114,7 @@ impl Machine for PacketLines {
             Phase::Reads => Step::Read {
                 input: 0,
                 least: LARGEST,
-                most: most_of(self.at, LARGEST),
+                most: BUFFER as u64,
             },
             Phase::Ends => Step::Give,
             Phase::Refused(_) | Phase::Finished => Step::End,

@@ -44,7 +44,7 @@ pub const COMMANDS: [Command; 9] = [
     Command {
         name: "show",
         words: "show config FILE",
-        what: "shows a configuration as it is written",
+        what: "shows a configuration as it is written, in version 2 of the text",
         example: "show config small.txt",
     },
     Command {

@@ -4,6 +4,7 @@ use Rattle.std.specs.Prelude.{Option, Some, None, ◌==◌, if◌then◌else◌}
 use Rattle.std.specs.List.{concat}
 use Rattle.byteorder.specs.Endian.{big_number}
 use Rattle.terms.specs.Bits.{bytes_for}
+use Rattle.plp_config.specs.declared.config.TheConstants.{GREATEST_REST}
 use Rattle.plp_config.specs.declared.moment.Moment.{Moment}
 use Rattle.site_frame.specs.Record.{Block, frame_kind, muted_kind, head_len, pre_len, head_bytes, FitsMoment}
 use Rattle.site_frame.specs.Reading.{◌>>=◌}
@@ -16,7 +17,7 @@ use Rattle.site_frame.specs.declared.reading.RecordView.TheVariants.{Frame, Mute
 
 -- no rest is longer
 abbrev pub greatest_rest : ℕ
-greatest_rest = 33554432
+greatest_rest = GREATEST_REST
 
 -- that of a frame has L1-pre, and the numbers of the other parts
 abbrev pub least_rest : ℕ

@@ -4,7 +4,7 @@
 pub const HEAD: usize = 24;
 
 /// The most bytes that may follow a head.
-pub const GREATEST_REST: usize = 33_554_432;
+pub const GREATEST_REST: usize = plp_config::GREATEST_REST as usize;
 
 // The fewest bytes that follow the head of a frame: L1-pre, and the numbers of the other three parts.
 pub(crate) const LEAST_REST: usize = 35;

@@ -2,7 +2,9 @@
 
 use crate::rows::{File, ONCE, ROW, Row, all_hold};
 use config_text::TextWhy;
-use sample_networks::{REALISTIC_TEXT, SMALL_HEAD, SMALL_LINE};
+use sample_networks::{
+    FIRST_LINE, FIRST_TEXT, REALISTIC_TEXT, SMALL_HEAD, SMALL_LINE, SPREAD_TEXT,
+};
 use site_top::{ConfigCause, Outcome};
 use std::test::Fail;
 
@@ -14,23 +16,23 @@ const REALISTIC: &[&str] = &[REALISTIC_TEXT];
 // Three that obey the rules, of which each fails another test of the capacity.
 const SLOW: &[&str] = &[
     SMALL_HEAD,
-    "plp 0 type1 1 1/2 qpsk short 0 2 1 delete 1906000\n",
+    "plp 0 type1 1 1/2 qpsk short 0 2 1 delete 1906000 1\n",
 ];
 
 const MANY: &[&str] = &[
     SMALL_HEAD,
-    "plp 0 type1 1 1/2 qpsk short 0 5 1 delete 2000000\n",
+    "plp 0 type1 1 1/2 qpsk short 0 5 1 delete 2000000 1\n",
 ];
 
 const SLICED: &[&str] = &[
-    "t2-gateway 1\nbandwidth 8\nframe 100000 2 40000\n",
+    "t2-gateway 2\nbandwidth 8\nframe 100000 2 40000\n",
     MIDDLE,
-    "subslices 7\nplp 0 type2 1 1/2 qpsk short 0 4 1 delete 2000000\n",
+    "subslices 7\nplp 0 type2 1 1/2 qpsk short 0 4 1 delete 2000000 1\n",
 ];
 
 // Two that break a rule: one frame in a superframe, and one identifier of two PLPs.
 const SINGLE: &[&str] = &[
-    "t2-gateway 1\nbandwidth 8\nframe 100000 1 40000\n",
+    "t2-gateway 2\nbandwidth 8\nframe 100000 1 40000\n",
     MIDDLE,
     "subslices 1\n",
     SMALL_LINE,
@@ -46,8 +48,91 @@ const MIDDLE: &str =
 const LOOSE: &[&str] = &[
     "# small\r\n\n",
     SMALL_HEAD,
-    "plp 0 type1 1 1/2 qpsk short 0 4 1 delete 2000000",
+    "plp 0 type1 1 1/2 qpsk short 0 4 1 delete 2000000 1",
 ];
+
+// The small network in version 1 of the text.
+const FIRST: &[&str] = &[FIRST_TEXT];
+
+// One whose interleaving frames are carried by two frames each; the same by three, which do not divide a superframe of two, and in two
+// TI-blocks.
+const SPREAD: &[&str] = &[SPREAD_TEXT];
+
+// One whose second PLP alone has a spread above 1.
+const SECOND_SPREAD: &[&str] = &[
+    SMALL_HEAD,
+    SMALL_LINE,
+    "plp 1 type1 1 1/2 qpsk short 0 1 1 delete 250000 2\n",
+];
+
+const THIRDS: &[&str] = &[
+    SMALL_HEAD,
+    "plp 0 type1 1 1/2 qpsk short 0 8 1 delete 2000000 3\n",
+];
+
+const TWO_BLOCKS: &[&str] = &[
+    SMALL_HEAD,
+    "plp 0 type1 1 1/2 qpsk short 0 8 2 delete 2000000 2\n",
+];
+
+// Three PLPs of a group, the first one common: the last with another rate; and the common one behind the others.
+const UNEQUAL: &[&str] = &[
+    SMALL_HEAD,
+    "plp 9 common 1 1/2 qpsk short 0 1 1 delete 500000 1\nplp 1 type1 1 1/2 qpsk short 0 1 1 delete 500000 1\n",
+    "plp 2 type1 1 1/2 qpsk short 0 1 1 delete 400000 1\n",
+];
+
+const COMMON_LAST: &[&str] = &[
+    SMALL_HEAD,
+    "plp 1 type1 1 1/2 qpsk short 0 1 1 delete 500000 1\nplp 2 type1 1 1/2 qpsk short 0 1 1 delete 500000 1\n",
+    "plp 9 common 1 1/2 qpsk short 0 1 1 delete 500000 1\n",
+];
+
+// A line of a PLP that belongs to the other version.
+const NEW_HEAD_OLD_LINE: &[&str] = &[SMALL_HEAD, FIRST_LINE];
+
+const OLD_HEAD_NEW_LINE: &[&str] = &[
+    "t2-gateway 1\nbandwidth 8\nframe 100000 2 40000\n",
+    MIDDLE,
+    "subslices 1\n",
+    SMALL_LINE,
+];
+
+// Rules that fail at a place.
+const THIRDS_REFUSED: Outcome = Outcome::ConfigRefused {
+    cause: ConfigCause::Rule {
+        rule: 15,
+        plp: Some(0),
+    },
+};
+
+const TWO_BLOCKS_REFUSED: Outcome = Outcome::ConfigRefused {
+    cause: ConfigCause::Rule {
+        rule: 16,
+        plp: Some(0),
+    },
+};
+
+const UNEQUAL_REFUSED: Outcome = Outcome::ConfigRefused {
+    cause: ConfigCause::Rule {
+        rule: 19,
+        plp: Some(2),
+    },
+};
+
+const LAST_REFUSED: Outcome = Outcome::ConfigRefused {
+    cause: ConfigCause::Rule {
+        rule: 11,
+        plp: Some(2),
+    },
+};
+
+const LINE_9: Outcome = Outcome::ConfigRefused {
+    cause: ConfigCause::Text {
+        line: 9,
+        why: TextWhy::WrongCount,
+    },
+};
 
 const SINGLE_REFUSED: Outcome = Outcome::ConfigRefused {
     cause: ConfigCause::Rule { rule: 2, plp: None },
@@ -134,10 +219,54 @@ plp=0 slot=12032/35 delay=6148953 field=5370 capacity=1122330 need=1120840 cells
     },
 ];
 
+// Versions of the text, spreads and common PLPs.
 #[rattlefmt::skip]
-static SHOWN: [Row; 7] = [
+static SPREAD_PLANS: [Row; 8] = [
+    Row {
+        why: "a text of version 1 has spread 1", files: &[("f", File { text: FIRST, ..ONCE })], said: &["\
+band=8 ticks=100000 frames=2 cells=40000
+plp=0 slot=48128/7 delay=306877 field=869 capacity=3476 need=2735 cells=32400 window=62 slots=14,29,43,58
+"], ..PLAN
+    },
+    Row {
+        why: "a network with a spread of 2 has a plan", files: &[("f", File { text: SPREAD, ..ONCE })], said: &["\
+band=8 ticks=100000 frames=2 cells=40000
+plp=0 slot=48128/7 delay=606877 field=869 capacity=6952 need=5469 cells=32400 window=105 slots=14,29,43,58
+"], ..PLAN
+    },
+    Row {
+        why: "a spread of 3 does not divide a superframe of 2", files: &[("f", File { text: THIRDS, ..ONCE })],
+        outcome: THIRDS_REFUSED, status: 3, said: &["refused: config rule 15 plp 0\n"], ..PLAN
+    },
+    Row {
+        why: "a spread of 2 goes with one TI-block", files: &[("f", File { text: TWO_BLOCKS, ..ONCE })],
+        outcome: TWO_BLOCKS_REFUSED, status: 3, said: &["refused: config rule 16 plp 0\n"], ..PLAN
+    },
+    Row {
+        why: "a PLP has another rate than the common one of its group", files: &[("f", File { text: UNEQUAL, ..ONCE })],
+        outcome: UNEQUAL_REFUSED, status: 3, said: &["refused: config rule 19 plp 2\n"], ..PLAN
+    },
+    Row {
+        why: "a common PLP stands behind one of type 1", files: &[("f", File { text: COMMON_LAST, ..ONCE })],
+        outcome: LAST_REFUSED, status: 3, said: &["refused: config rule 11 plp 2\n"], ..PLAN
+    },
+    Row {
+        why: "version 2 wants a spread", files: &[("f", File { text: NEW_HEAD_OLD_LINE, ..ONCE })],
+        outcome: LINE_9, status: 3, said: &["refused: config line 9 why 3\n"], ..PLAN
+    },
+    Row {
+        why: "version 1 has none", files: &[("f", File { text: OLD_HEAD_NEW_LINE, ..ONCE })],
+        outcome: LINE_9, status: 3, said: &["refused: config line 9 why 3\n"], ..PLAN
+    },
+];
+
+#[rattlefmt::skip]
+static SHOWN: [Row; 8] = [
     Row {
         why: "a configuration is shown as it is written", files: &[("f", File { text: SMALL, ..ONCE })], said: SMALL, ..SHOW
+    },
+    Row {
+        why: "one of version 1 is shown in version 2", files: &[("f", File { text: FIRST, ..ONCE })], said: SMALL, ..SHOW
     },
     Row {
         why: "comments, empty lines, CR LF and a last line without LF leave no trace",
@@ -162,8 +291,49 @@ static SHOWN: [Row; 7] = [
     },
 ];
 
+// What the three commands say of frames that do not stand alone; nothing else is looked at.
+const NOT_BUILT: Row = Row {
+    files: &[(
+        "c",
+        File {
+            text: SPREAD,
+            ..ONCE
+        },
+    )],
+    outcome: Outcome::NotBuilt { at: 0 },
+    status: 11,
+    said: &["refused: not built 0\n"],
+    ..ROW
+};
+
+#[rattlefmt::skip]
+static NOT_BUILT_YET: [Row; 4] = [
+    Row { why: "gateway makes no frames of a spread of 2 yet", words: &["gateway", "c", "o", "0"], ..NOT_BUILT },
+    Row { why: "nor does modulate", words: &["modulate", "c", "0", "o"], ..NOT_BUILT },
+    Row { why: "receive takes none", words: &["receive", "c", "7", "0", "o"], ..NOT_BUILT },
+    Row {
+        why: "the PLP of place 1 is the first with a spread of 2", words: &["gateway", "c", "o", "0", "1"],
+        files: &[("c", File { text: SECOND_SPREAD, ..ONCE })], outcome: Outcome::NotBuilt { at: 1 },
+        said: &["refused: not built 1\n"], ..NOT_BUILT
+    },
+];
+
 #[test]
-fn plans_and_configurations(rt: HostRuntime) -> Result<(), Fail> {
-    all_hold(&rt, &PLANS)?;
+fn plans(rt: HostRuntime) -> Result<(), Fail> {
+    all_hold(&rt, &PLANS)
+}
+
+#[test]
+fn plans_of_spreads_and_common_plps(rt: HostRuntime) -> Result<(), Fail> {
+    all_hold(&rt, &SPREAD_PLANS)
+}
+
+#[test]
+fn configurations_are_shown(rt: HostRuntime) -> Result<(), Fail> {
     all_hold(&rt, &SHOWN)
+}
+
+#[test]
+fn several_frames_of_an_interleaving_frame_are_not_built_yet(rt: HostRuntime) -> Result<(), Fail> {
+    all_hold(&rt, &NOT_BUILT_YET)
 }

@@ -11,8 +11,8 @@ use std::test::Fail;
 const TWO: File = File {
     text: &[
         SMALL_HEAD,
-        "plp 7 type1 1 1/2 qpsk short 0 1 1 delete 500000\n",
-        "plp 3 type1 1 1/2 qpsk short 0 1 1 delete 500000\n",
+        "plp 7 type1 1 1/2 qpsk short 0 1 1 delete 500000 1\n",
+        "plp 3 type1 1 1/2 qpsk short 0 1 1 delete 500000 1\n",
     ],
     ..ONCE
 };

@@ -13,7 +13,7 @@ pub(crate) const SMALL: File = File {
 pub(crate) const KEPT: File = File {
     text: &[
         SMALL_HEAD,
-        "plp 0 type1 1 1/2 qpsk short 0 4 1 keep 2000000\n",
+        "plp 0 type1 1 1/2 qpsk short 0 4 1 keep 2000000 1\n",
     ],
     ..ONCE
 };

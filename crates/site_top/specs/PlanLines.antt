@@ -1,7 +1,7 @@
 -- What `plan` says of a configuration.
 use Rattle.std.specs.Prelude.{◌≡◌, ℕ, zero, suc, ◌*◌, List, ◌++◌, length, codes}
 use Rattle.std.specs.Fmt.{decimal}
-use Rattle.plp_config.specs.Capacity.{Throughput, field_bytes, block_cells, capacity, need_of}
+use Rattle.plp_config.specs.Capacity.{Throughput, field_bytes, frame_room, capacity, need_of}
 use Rattle.plp_config.specs.Plps.{plp_at}
 use Rattle.plp_config.specs.SlotTime.{IsSlotLength, slots_by, delay, window}
 use Rattle.plp_config.specs.declared.config.Config.{Config}
@@ -18,12 +18,13 @@ unfoldable pub slot_part : Config → ℕ → ℕ → ℕ → List ℕ
 slot_part c plp n d = codes "plp=" ++ decimal (plp_at c.plps plp).id ++ codes " slot=" ++ decimal n ++ codes "/" ++ decimal d
     ++ codes " delay=" ++ decimal (delay c plp)
 
--- bytes of a data field, bytes that the blocks of a frame carry at most, bytes that a frame brings, and the cells of these blocks
+-- bytes of a data field, bytes that the blocks of an interleaving frame carry at most, bytes that it brings, and the cells that the
+-- blocks fill in a frame
 unfoldable pub size_part : Config → ℕ → List ℕ
 size_part c plp =
     codes " field=" ++ decimal (field_bytes c plp) ++ codes " capacity=" ++ decimal (capacity c plp) ++ codes " need="
     ++ decimal (need_of Throughput c plp)
-    ++ codes " cells=" ++ decimal ((plp_at c.plps plp).blocks * block_cells c plp)
+    ++ codes " cells=" ++ decimal (frame_room (plp_at c.plps plp))
 
 -- the slots that a receiver holds at most, and those that are over by the end of one frame, two, three and four
 unfoldable pub count_part : Config → ℕ → List ℕ

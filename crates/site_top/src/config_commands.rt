@@ -24,6 +24,7 @@ pub fn outcome_of(stop: ConfigStop) -> Outcome
             need: fault.need,
             have: fault.have,
         },
+        ConfigStop::NotBuilt { at } => Outcome::NotBuilt { at },
         ConfigStop::ReadFault => Outcome::ReadFault,
         ConfigStop::OutOfMemory => Outcome::OutOfMemory,
     }

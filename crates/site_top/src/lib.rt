@@ -19,3 +19,4 @@ pub use laws::{commands_have_ending, completeness, one_ending, only_out_changes}
 pub use outcome::Outcome;
 pub use ports::Word;
 pub use running::run;
+pub use trial_run::{Draws, trial_input};

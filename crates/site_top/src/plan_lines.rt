@@ -55,12 +55,10 @@ fn push_sizes(line: &mut Line, plan: &Plan, plp: usize)
     ensures text { line.new ≡ line.old ++ size_part plan.now plp }
     ensures len { length line.new ≤ length line.old + SIZES_ROOM }
 {
-    let blocks = plan.config().plps.get(plp).unwrap().blocks;
-    let cells = u64::from(blocks) * u64::from(plan.block_cells(plp));
     line.push_field(b" field=", u64::from(plan.field_bytes(plp)));
     line.push_field(b" capacity=", u64::from(plan.capacity(plp)));
     line.push_field(b" need=", plan.need(plp));
-    line.push_field(b" cells=", cells);
+    line.push_field(b" cells=", u64::from(plan.frame_room(plp)));
 }
 
 #[tactic(auto, unfolding(crate::specs::PlanLines::count_part))]

@@ -24,6 +24,7 @@ trial_plps =
       interleave = 1;
       delete = true;
       bits_per_second = 1906000;
+      spread = 1;
     }
     ∷ record {
       id = 2;
@@ -37,6 +38,7 @@ trial_plps =
       interleave = 2;
       delete = false;
       bits_per_second = 1500000;
+      spread = 1;
     }
     ∷ record {
       id = 3;
@@ -50,6 +52,7 @@ trial_plps =
       interleave = 1;
       delete = true;
       bits_per_second = 1600000;
+      spread = 1;
     }
     ∷ []
 

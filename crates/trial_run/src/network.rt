@@ -1,5 +1,6 @@
 // The network of a trial.
 ghost use Rattle.std.specs.Prelude.{◌≡◌, IfOk};
+ghost use Rattle.plp_config.specs.Places.{FramesStandAlone};
 ghost use Rattle.trial_run.specs.Network.{trial_config, trial_plps};
 
 use bit_slice::OutOfMemory;
@@ -21,6 +22,7 @@ const FIRST_PLP: Plp = Plp {
     interleave: 1,
     delete: true,
     bits_per_second: 1_906_000,
+    spread: 1,
 };
 
 const TRIAL_PLPS: [Plp; 3] = [
@@ -96,8 +98,10 @@ fn trial_config(alloc: Global) -> Result<Config, OutOfMemory>
 }
 
 /// The plan of the network of a trial.
+#[tactic(auto, using(crate::proofs::NetworkLemmas::stands_alone))]
 pub fn trial_plan(alloc: Global) -> Result<Plan, OutOfMemory>
-    ensures { IfOk result (λ plan. plan ≡ trial_config) }
+    ensures value { IfOk result (λ plan. plan ≡ trial_config) }
+    ensures alone { IfOk result FramesStandAlone }
 {
     // The network satisfies all rules and tests, so nothing but memory can be wanting.
     let valid = validate(trial_config(alloc)?).map_err(|_| OutOfMemory)?;

@@ -10,7 +10,8 @@ fn flipped(alloc: Global, bytes: &[u8], place: usize) -> Result<Vec<u8>, OutOfMe
     Ok(out)
 }
 
-// What becomes of a part if a bit is the other way: it is read, and written so again or with the bit as it was; a field is refused;
+// What becomes of a part if a bit is the other way: it is read, and written so again or with the bit as it was; a field is
+// refused;
 // or NUM_PLP is another one, with which L1_POST_INFO_SIZE does not go.
 #[derive(Clone, Copy)]
 enum Told {
@@ -40,10 +41,10 @@ static PRE_PLACES: [Places; 10] = [
 ];
 
 #[rattlefmt::skip]
-static CONF_PLACES: [Places; 17] = [
+static CONF_PLACES: [Places; 16] = [
     (15, 22, Told::Size), (22, 23, Told::Field(32)), (23, 27, Told::Field(33)), (27, 35, Told::Ignored),
     (78, 80, Told::Field(38)), (81, 86, Told::Field(39)), (86, 87, Told::Field(40)), (109, 110, Told::Field(45)),
-    (113, 114, Told::Field(47)), (125, 133, Told::Field(49)), (141, 142, Told::Field(51)), (142, 143, Told::Field(52)),
+    (113, 114, Told::Field(47)), (125, 133, Told::Field(49)), (142, 143, Told::Field(52)),
     (143, 144, Told::Field(53)), (144, 155, Told::Ignored), (155, 157, Told::Field(55)), (159, 161, Told::Field(58)),
     (161, 191, Told::Ignored),
 ];

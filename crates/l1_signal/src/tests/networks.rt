@@ -43,6 +43,45 @@ fn l1_pre_and_configurable_parts(rt: HostRuntime) -> Result<(), Fail> {
     Ok(())
 }
 
+// What the configurable part tells of the interleaving of a PLP: its type, its length, and the greatest number of blocks.
+#[rattlefmt::skip]
+static INTERLEAVING: [(Plp, (u8, u8, u16)); 4] = [
+    (SMALL, (0, 1, 4)), (Plp { interleave: 0, ..SMALL }, (0, 0, 4)), (Plp { blocks: 8, interleave: 3, ..SMALL }, (0, 3, 8)),
+    (Plp { blocks: 8, spread: 2, ..SMALL }, (1, 2, 8)),
+];
+
+#[test]
+fn interleaving_is_told(rt: HostRuntime) -> Result<(), Fail> {
+    for (plp, wanted) in &INTERLEAVING {
+        let plan = plan(rt.alloc(), &[*plp], 1)?;
+        let conf = conf_of(rt.alloc(), &plan)?;
+        let told = conf.plps.get(0).map(|plp| (
+            plp.time_il_type,
+            plp.time_il_length,
+            plp.plp_num_blocks_max,
+        ));
+        assert!(rt; told == Some(*wanted), "{wanted:?}");
+        let bytes = conf_bytes(rt.alloc(), &conf)?;
+        let came = rewritten_conf(rt.alloc(), first(&bytes, 191), &pre_of(&plan))?;
+        assert!(rt; came == bytes, "{wanted:?} there and back");
+    }
+    Ok(())
+}
+
+#[test]
+fn a_common_plp_is_of_type_0(rt: HostRuntime) -> Result<(), Fail> {
+    let common = Plp {
+        id: 9,
+        plp_type: PlpType::Common,
+        ..SMALL
+    };
+    let plan = plan(rt.alloc(), &[common, SMALL], 1)?;
+    let conf = conf_of(rt.alloc(), &plan)?;
+    assert!(rt; conf.plps.get(0).map(|plp| plp.plp_type) == Some(0));
+    assert!(rt; conf.plps.get(1).map(|plp| plp.plp_type) == Some(1));
+    Ok(())
+}
+
 // The dynamic part of a second frame, in which the PLP has four blocks, and its bytes.
 fn second_frame(rt: &(impl AllocGlobal + Abort), plan: &Plan) -> Result<(L1Dyn, Vec<u8>), Fail> {
     if plan.config().plps.len() != 1 || plan.config().plps.get(0).unwrap().blocks < 4 {

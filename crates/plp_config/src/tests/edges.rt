@@ -7,8 +7,8 @@ use std::fmt::Display;
 use std::process::Abort;
 use std::test::Fail;
 
-// What one row of `EDGES` changes in the small network: the ticks with the bandwidth, the sub-slices with the type of the PLP, and
-// the interleaver length with the number of blocks.
+// What one row of `EDGES` changes in the small network: the ticks with the bandwidth or with the spread, the sub-slices with the type
+// of the PLP, the interleaver length with the number of blocks or with the spread, and the spread with the frames of a superframe.
 #[derive(Clone, Copy, Debug)]
 enum Field {
     Ticks(Band),
@@ -35,12 +35,15 @@ enum Field {
     Blocks,
     Interleave(u16),
     BitRate,
+    Spread(u16),
+    Length(u8),
+    Epoch(u8),
 }
 
 // A field, the rule that limits it, the least and the greatest that this rule lets pass, and what lies beyond. The rules 10 and
-// 11 compare PLPs.
+// 11, and 18 to 20, compare PLPs.
 #[rattlefmt::skip]
-static EDGES: [(Field, u8, &[u64], &[u64]); 31] = [
+static EDGES: [(Field, u8, &[u64], &[u64]); 37] = [
     (Field::Ticks(Band::Mhz1_7), 1, &[461_267], &[461_268]),
     (Field::Ticks(Band::Mhz5), 1, &[1_428_571], &[1_428_572]),
     (Field::Ticks(Band::Mhz6), 1, &[1_714_285], &[1_714_286]),
@@ -72,6 +75,12 @@ static EDGES: [(Field, u8, &[u64], &[u64]); 31] = [
     (Field::Interleave(4), 13, &[0, 4], &[5]),
     (Field::Interleave(300), 13, &[255], &[256]),
     (Field::BitRate, 14, &[1, 72_000_000], &[0, 72_000_001]),
+    (Field::Spread(2), 15, &[1, 2], &[0, 3, 4]),
+    (Field::Spread(255), 15, &[1, 3, 5, 15, 17, 51, 85, 255], &[0, 2, 254]),
+    (Field::Length(1), 16, &[0, 1, 2], &[]),
+    (Field::Length(2), 16, &[1], &[0, 2]),
+    (Field::Epoch(2), 17, &[2_097_151], &[2_097_152]),
+    (Field::Epoch(255), 17, &[16_448], &[16_449]),
 ];
 
 fn set(config: &mut Config, plp: &mut Plp, count: &mut u16, field: Field, value: u64) {
@@ -103,6 +112,13 @@ fn set(config: &mut Config, plp: &mut Plp, count: &mut u16, field: Field, value:
         Field::Blocks => plp.blocks = short,
         Field::Interleave(blocks) => (plp.blocks, plp.interleave) = (blocks, short),
         Field::BitRate => plp.bits_per_second = word,
+        Field::Spread(frames) => {
+            (config.frames, config.ticks, plp.spread) = (frames, 1_000, byte);
+        }
+        Field::Length(spread) => (plp.spread, plp.interleave) = (spread, short),
+        Field::Epoch(spread) => {
+            (config.frames, plp.spread, config.ticks) = (u16::from(spread), spread, word);
+        }
     }
 }
 
@@ -143,6 +159,23 @@ const TYPE2: Plp = Plp { id: 2, plp_type: PlpType::Type2, ..PLP };
 #[rattlefmt::skip]
 const SLOW: Plp = Plp { id: 3, bits_per_second: 0, ..PLP };
 
+#[rattlefmt::skip]
+const COMMON: Plp = Plp { id: 9, plp_type: PlpType::Common, ..PLP };
+
+const OTHER_COMMON: Plp = Plp { id: 8, ..COMMON };
+
+#[rattlefmt::skip]
+const COMMON_OF_2: Plp = Plp { id: 10, group: 2, ..COMMON };
+
+#[rattlefmt::skip]
+const PLP_OF_2: Plp = Plp { id: 11, group: 2, ..PLP };
+
+#[rattlefmt::skip]
+const SLOWER: Plp = Plp { id: 4, bits_per_second: 400_000, ..PLP };
+
+#[rattlefmt::skip]
+const WIDE: Plp = Plp { id: 5, spread: 2, ..PLP };
+
 // PLPs, the frames of a superframe and the sub-slices, and the rule that breaks first, with its first place.
 type Several = (
     &'static str,
@@ -153,11 +186,18 @@ type Several = (
 );
 
 #[rattlefmt::skip]
-static SEVERAL: [Several; 6] = [
+static SEVERAL: [Several; 13] = [
     ("one comes twice", &[PLP, PLP], 2, 1, Some((10, Some(1)))),
     ("two come twice", &[PLP, SECOND, PLP, SECOND], 2, 1, Some((10, Some(2)))),
     ("type 1 behind type 2", &[PLP, TYPE2, SECOND], 2, 2, Some((11, Some(2)))),
     ("type 1 before type 2", &[PLP, SECOND, TYPE2], 2, 2, None),
+    ("common PLPs in front", &[COMMON, SECOND, TYPE2], 2, 2, None),
+    ("common behind type 1", &[PLP, SECOND, COMMON], 2, 1, Some((11, Some(2)))),
+    ("two common ones of a group", &[COMMON, OTHER_COMMON, PLP], 2, 1, Some((18, Some(1)))),
+    ("another rate than the common one", &[COMMON, PLP, SLOWER], 2, 1, Some((19, Some(2)))),
+    ("another spread than the common one", &[COMMON, WIDE, SECOND], 2, 1, Some((19, Some(1)))),
+    ("a common one alone in its group", &[COMMON_OF_2, COMMON, SECOND], 2, 1, Some((20, Some(0)))),
+    ("common ones of two groups", &[COMMON_OF_2, COMMON, SECOND, PLP_OF_2], 2, 1, None),
     ("10 is less than 14", &[SECOND, SLOW, SLOW], 2, 1, Some((10, Some(2)))),
     ("2 is less than 14", &[SLOW], 1, 1, Some((2, None))),
 ];
@@ -193,11 +233,25 @@ fn a_refusal_gives_the_configuration_back(rt: HostRuntime) -> Result<(), Fail> {
     Ok(())
 }
 
+// Rules that fail at the PLP of place 3, in words.
 #[rattlefmt::skip]
-const RULE_12: ConfigFault = ConfigFault { rule: 12, plp: Some(3) };
+static RULES_IN_WORDS: [(u8, &str); 7] = [
+    (12, "rule 12 fails at the PLP of place 3: a PLP must have from 1 to 1023 blocks"),
+    (15, "rule 15 fails at the PLP of place 3: the spread must be at least 1 and divide the frames of a superframe"),
+    (16, "rule 16 fails at the PLP of place 3: the interleaver length must be 1 with a spread above 1"),
+    (17, "rule 17 fails at the PLP of place 3: an interleaving frame must last fewer than 4194304 ticks"),
+    (18, "rule 18 fails at the PLP of place 3: a group may have at most one common PLP"),
+    (19, "rule 19 fails at the PLP of place 3: a PLP must have the bit rate and the spread of the common PLP of its group"),
+    (20, "rule 20 fails at the PLP of place 3: another PLP must be in the group of a common PLP"),
+];
 
+// Tests that want 9 and have 8, in words.
 #[rattlefmt::skip]
-const TEST_2: CapacityFault = CapacityFault { test: 2, plp: None, need: 40_500, have: 40_000 };
+static TESTS_IN_WORDS: [(u8, &str); 3] = [
+    (2, "capacity test 2 fails: the cells of a frame must hold all blocks (need 9, have 8)"),
+    (3, "capacity test 3 fails: the frames and sub-slices that carry a block must divide its cells (need 9, have 8)"),
+    (5, "capacity test 5 fails: the record of a frame must have at most 33554432 bytes behind its head (need 9, have 8)"),
+];
 
 fn says<D: Display>(alloc: Global, fault: &D, text: &str) -> Result<bool, Fail> {
     Ok(format!(in alloc; "{fault}")?.as_str() == text)
@@ -205,10 +259,18 @@ fn says<D: Display>(alloc: Global, fault: &D, text: &str) -> Result<bool, Fail> 
 
 #[test]
 fn faults_in_words(rt: HostRuntime) -> Result<(), Fail> {
-    let rule = "rule 12 fails at the PLP of place 3: a PLP must have from 1 to 1023 blocks";
-    assert!(rt; says(rt.alloc(), &RULE_12, rule)?);
-    let test =
-        "capacity test 2 fails: the cells of a frame must hold all blocks (need 40500, have 40000)";
-    assert!(rt; says(rt.alloc(), &TEST_2, test)?);
+    for (rule, text) in RULES_IN_WORDS {
+        let fault = ConfigFault { rule, plp: Some(3) };
+        assert!(rt; says(rt.alloc(), &fault, text)?, "rule {rule}");
+    }
+    for (test, text) in TESTS_IN_WORDS {
+        let fault = CapacityFault {
+            test,
+            plp: None,
+            need: 9,
+            have: 8,
+        };
+        assert!(rt; says(rt.alloc(), &fault, text)?, "test {test}");
+    }
     Ok(())
 }

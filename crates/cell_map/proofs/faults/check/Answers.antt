@@ -1,4 +1,6 @@
 use Rattle.std.proofs.Common.{arith, refl}
+use Rattle.cell_map.proofs.FrameLemmas.{not_shared}
+use Rattle.cell_map.proofs.MeetingLemmas.{never_law}
 use Rattle.cell_map.proofs.ShareLemmas.{least_from, pairs_more, passes_from}
 use Rattle.cell_map.proofs.faults.check.Goals as goal
 
@@ -23,3 +25,8 @@ returns-clause-ok c =
           (λ h k a b d. c.loop-first.invariant h k (omega (arith, all)) b d),
       λ _. refl,
     )
+
+pub returns-in-Some-clause-ok : goal.returns-in-Some-clause-ok
+returns-in-Some-clause-ok c =
+    never_law (λ passes. not_shared c.args.plan.now c.args.shape.now c.loop-first.first c.in-Some.second passes
+    c.in-Some.ensures.some.2)

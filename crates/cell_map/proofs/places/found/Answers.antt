@@ -1,6 +1,6 @@
 use Rattle.std.proofs.Common.{arith, ◌≡◌, ◌<◌, ℕ, ◌∙◌, length}
 use Rattle.plp_config.specs.Rules.{PlpCount}
-use Rattle.cell_map.specs.Address.{IsCell, address_of}
+use Rattle.cell_map.specs.Address.{IsCarried, address_of}
 use Rattle.cell_map.proofs.FrameLemmas.{counted, few_blocks}
 use Rattle.cell_map.proofs.MeetingLemmas.{more_below}
 use Rattle.cell_map.proofs.places.found.Goals as goal
@@ -20,7 +20,7 @@ overflow_add-result c =
       c.len-plp-end.ensures.counts,
       c.requires.plps,
       plps,
-      c.in-Some.ensures.some.there.sent,
+      c.in-Some.ensures.some.there.there.sent,
       few_blocks c.args.plan.now c.args.shape.now c.loop-plp.plp c.place_of.ensures.plan
           c.requires.passes row,
     )
@@ -40,7 +40,7 @@ loop-plp-preserved c =
         c.count.ensures,
         few_blocks c.args.plan.now c.args.shape.now c.loop-plp.plp c.place_of.ensures.plan c.requires.passes row,
       );
-      none = λ k b q lt. more_below (λ (j : ℕ). (b q : ℕ) → IsCell c.args.plan.now c.args.shape.now j b q
-          → ¬ (address_of c.args.plan.now c.args.shape.now j b q ≡ c.args.address)) 0 c.loop-plp.plp
+      none = λ k b q lt. more_below (λ (j : ℕ). (b q : ℕ) → IsCarried c.args.plan.now c.args.shape.now c.args.frame_idx j b q
+          → ¬ (address_of c.args.plan.now c.args.shape.now c.args.frame_idx j b q ≡ c.args.address)) 0 c.loop-plp.plp
           (λ j x y. (λ b q. c.loop-plp.invariant.none j b q y)) c.in-None.ensures.none k (omega arith) lt b q;
     }

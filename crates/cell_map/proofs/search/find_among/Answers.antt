@@ -1,6 +1,6 @@
 use Rattle.std.proofs.Common.{arith, ◌≡◌, ◌<◌, ℕ, ◌∙◌, length}
 use Rattle.plp_config.specs.Rules.{PlpCount}
-use Rattle.cell_map.specs.Address.{IsCell, address_of}
+use Rattle.cell_map.specs.Address.{IsCarried, address_of}
 use Rattle.cell_map.proofs.FrameLemmas.{counted, few_blocks}
 use Rattle.cell_map.proofs.MeetingLemmas.{more_below}
 use Rattle.cell_map.proofs.search.find_among.Goals as goal
@@ -27,7 +27,8 @@ loop-plp-preserved c =
         c.count.ensures,
         few_blocks c.args.plan.now c.args.shape.now c.loop-plp.plp c.run_of.ensures.plan c.requires.passes row,
       );
-      none = λ k b q low lt. more_below (λ (j : ℕ). (b q : ℕ) → IsCell c.args.plan.now c.args.shape.now j b q
-          → ¬ (address_of c.args.plan.now c.args.shape.now j b q ≡ c.args.address)) c.args.first.plp c.loop-plp.plp
+      none = λ k b q low lt. more_below (λ (j : ℕ). (b q : ℕ) → IsCarried c.args.plan.now c.args.shape.now c.args.frame_idx j b q
+          → ¬ (address_of c.args.plan.now c.args.shape.now c.args.frame_idx j b q
+          ≡ c.args.address)) c.args.first.plp c.loop-plp.plp
           (λ j x y. (λ b q. c.loop-plp.invariant.none j b q x y)) c.in-None.ensures.none k low lt b q;
     }

@@ -6,11 +6,11 @@ use Rattle.cell_words.proofs.filling.fill_words.Given as goal
 
 abbrev pub invariant-loop-done : goal.invariant-loop-done
 invariant-loop-done l = record {
-  cells : l.cells ≡ reading_at l.plan l.shape (l.address + l.done);
+  cells : l.cells ≡ reading_at l.plan l.shape l.frame_idx (l.address + l.done);
   most : l.done ≤ l.count;
-  last : 0 < l.last.blocks → IsLast l.plan l.shape l.address l.done l.last;
+  last : 0 < l.last.blocks → IsLast l.plan l.shape l.frame_idx l.address l.done l.last;
   len : length l.out ≡ 4 * l.count;
-  out : take (4 * l.done) l.out ≡ words l.plan l.shape l.address l.done;
+  out : take (4 * l.done) l.out ≡ words l.plan l.shape l.frame_idx l.address l.done;
 }
 
 abbrev pub decreases-loop-done : goal.decreases-loop-done

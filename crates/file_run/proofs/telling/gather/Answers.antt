@@ -7,7 +7,7 @@ pub loop-desk-preserved : goal.loop-desk-preserved
 loop-desk-preserved g c = record {
   telling = λ begin start name r t.
       page_grown g.M.Machine.Becomes g.M.Machine.next begin _ _ start _ name r _ _ c.take_from.ensures.gathers
-      (sym c.step.ensures.next ∙ c.in-Give.is)
+      c.in_ok-make_room.ensures.room c.take_from.ensures.few (sym c.step.ensures.next ∙ c.in-Give.is)
       (room_made _ g.M.Machine.next _ start _ _ name r _ _ c.in_ok-make_room.ensures.ok
       (c.loop-desk.invariant.telling begin start name r t));
   counts = c.in_ok-make_room.ensures.counts.ok ∙ c.loop-desk.invariant.counts;

@@ -3,7 +3,7 @@ use Rattle.file_run.specs.Events.{fed, has_ended}
 use Rattle.file_run.specs.TellingOn.{Telling}
 use Rattle.file_run.specs.declared.stop.RunFault.TheVariants.{TooLong, ReadFault, WriteFault}
 use Rattle.file_run.proofs.OpenLemmas.{reads_fail}
-use Rattle.file_run.proofs.TellLemmas.{telling_fed, telling_read, place_within, is_zero, reads_far, falls_short}
+use Rattle.file_run.proofs.TellLemmas.{telling_fed, telling_read, place_within, is_zero, needs, falls_short}
 use Rattle.file_run.proofs.telling.tell_on.Goals as goal
 
 pub returns-in-Err-clause-err : goal.returns-in-Err-clause-err
@@ -62,10 +62,9 @@ returns-in-Err-TooLong-clause-cause g c =
     let why = rw c.in-Err-TooLong.field-0-is at n.err in (
       refl,
       why.0,
-      reads_far g.M.Machine.next _ _ c.loop-input.reader c.feed.new.reader _ _ _ n.machine
-          (sym c.step.ensures.next ∙ c.in-Read.is) (is_zero _ _ w.place b.one) n.none.taken why.0 c.loop-input.invariant.short
-          c.feed.ensures.limit,
-      why.1 ∙ c.loop-input.invariant.counts,
+      needs g.M.Machine.next _ _ c.feed.new.reader _ _ _ n.machine (sym c.step.ensures.next ∙ c.in-Read.is)
+          (is_zero _ _ w.place b.one) why.1,
+      why.2 ∙ c.loop-input.invariant.counts,
     )
 
 pub returns-in-Err-Fault-clause-err : goal.returns-in-Err-Fault-clause-err

@@ -7,7 +7,7 @@ pub returns-clause-none : goal.returns-clause-none
 returns-clause-none c = none_lost
 
 pub returns-clause-due : goal.returns-clause-due
-returns-clause-due c = due_released c.release_law.ensures.frame
+returns-clause-due c = due_released c.spread_law.ensures.alone c.release_law.ensures.frame
 
 pub returns-clause-slots : goal.returns-clause-slots
 returns-clause-slots c = counted_slots

@@ -1,12 +1,22 @@
 use Rattle.std.proofs.Common.{◌≡◌, ◌∙◌, length, arith, refl}
 use Rattle.gateway_core.proofs.InputsLemmas.{cut_step, cut_none, cut_fed, cut_blocks, cut_counts, cut_few, same_wanted}
+use Rattle.gateway_core.proofs.InputsLemmas.{cut_supplied}
+use Rattle.std.proofs.Math.Logic.{∥∥₁_map}
+use Rattle.gateway_core.specs.InputsStandFor.{AreSupplied}
+use Rattle.gateway_core.specs.Lists.{bits_in}
 use Rattle.gateway_core.proofs.inputs.cut.Goals as goal
 
-pub cut_one-requires-clause-ready : goal.cut_one-requires-clause-ready
-cut_one-requires-clause-ready c =
+pub cut_one-requires-clause-none : goal.cut_one-requires-clause-none
+cut_one-requires-clause-none c =
     same_wanted c.loop-plp.inputs c.args.inputs.now c.loop-plp.plp c.loop-plp.auto.inputs (omega arith)
     (λ d. c.loop-plp.invariant.cut.rest c.loop-plp.plp d (omega arith))
-    ∙ c.requires.ready c.loop-plp.plp c.loop-plp-test.true
+    ∙ c.requires.none c.loop-plp.plp c.loop-plp-test.true
+
+pub cut_one-requires-clause-ready : goal.cut_one-requires-clause-ready
+cut_one-requires-clause-ready c = λ d. ∥∥₁_map c.requires.ready
+    (λ (s : AreSupplied c.args.plan.now c.args.frame c.args.inputs.now (bits_in c.args.pool.now)).
+    cut_supplied c.early_fits_law.ensures.early c.early_fits_law.ensures.blocks _ _ _ _ _ _ _ c.loop-plp.plp d
+    c.obeys_rules.ensures.plan c.requires.whole (omega (arith, c.loop-plp-test.true)) c.loop-plp.invariant.cut c.requires.frame s)
 
 pub loop-plp-init : goal.loop-plp-init
 loop-plp-init c = record { cut = cut_none _ _ _ _ _; most = λ j d. refl; short = λ short. short }
@@ -35,5 +45,5 @@ returns c =
       short = c.loop-plp.invariant.short;
       lists = cut.lists_count;
       opened = cut.opened;
-      whole = c.spare.ensures.whole;
+      whole = c.stays_whole.ensures;
     }

@@ -1,8 +1,10 @@
-use Rattle.std.proofs.Common.{arith}
+use Rattle.std.proofs.Common.{ap, ◌∙◌, length, arith}
 use Rattle.std.proofs.lemmas.List.{nil_from_length}
+use Rattle.plp_config.specs.declared.config.Config.{Config}
 use Rattle.gateway_run.proofs.FileLemmas.{no_short}
 use Rattle.gateway_run.proofs.TakeLemmas.{input_ended, ended_stopped, met_bad, some_bytes}
 use Rattle.gateway_run.proofs.MachineLemmas.{looked_read, bad_read}
+use Rattle.gateway_run.proofs.ReadyLemmas.{ready_on}
 use Rattle.gateway_run.proofs.steps.end_input.Goals as goal
 
 pub returns-then-rest-gt0-clause-holds : goal.returns-then-rest-gt0-clause-holds
@@ -22,3 +24,10 @@ returns-then-rest-gt0-clause-read c = bad_read _ _ _ _ c.bad.result.phase c.bad.
 
 pub returns-clause-read : goal.returns-clause-read
 returns-clause-read c = looked_read c.end_input.new.self _ _ _ _ c.look.result.phase c.look.ensures
+
+pub returns-clause-ready : goal.returns-clause-ready
+returns-clause-ready c =
+    let count = c.len-count.ensures ∙ ap (λ (k : Config). length k.plps) c.config.ensures.value in
+    ready_on c.args.gateway.now c.end_input.new.self c.args.plan.now c.args.place c.look.result c.args.ran c.len-count.result
+    c.requires.ready
+    c.requires.wants c.end_input.ensures.status c.end_input.ensures.others count c.look.ensures

@@ -1,9 +1,11 @@
 use Rattle.std.proofs.Common.{ap, ◌∙◌, List, ℕ, take, length, slice_index_or}
 use Rattle.std.proofs.lemmas.List.{length-take-le}
 use Rattle.ts_packet.specs.declared.sizes.TheConstants.{SIZE}
+use Rattle.plp_config.specs.declared.config.Config.{Config}
 use Rattle.gateway_run.proofs.FileLemmas.{no_sync}
 use Rattle.gateway_run.proofs.TakeLemmas.{packet_offered, fed_stopped, met_bad, some_taken}
 use Rattle.gateway_run.proofs.MachineLemmas.{looked_read, bad_read}
+use Rattle.gateway_run.proofs.ReadyLemmas.{ready_on}
 use Rattle.gateway_run.proofs.steps.take_packet.Goals as goal
 
 pub returns-then-as_array-ne-SYNC-clause-holds : goal.returns-then-as_array-ne-SYNC-clause-holds
@@ -27,3 +29,10 @@ returns-then-as_array-ne-SYNC-clause-read c = bad_read _ _ _ _ c.bad.result.phas
 
 pub returns-clause-read : goal.returns-clause-read
 returns-clause-read c = looked_read c.offer.new.self _ _ _ _ c.look.result.phase c.look.ensures
+
+pub returns-clause-ready : goal.returns-clause-ready
+returns-clause-ready c =
+    let count = c.len.ensures ∙ ap (λ (k : Config). length k.plps) c.config.ensures.value in
+    ready_on c.args.gateway.now c.offer.new.self c.args.plan.now c.args.place c.look.result c.args.ran c.len.result
+    c.requires.ready
+    c.requires.wants c.offer.ensures.status c.offer.ensures.others count c.look.ensures

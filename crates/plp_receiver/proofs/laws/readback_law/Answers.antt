@@ -6,5 +6,5 @@ returns-clause-once c = readback_once c.bit_counts.ensures
 
 pub returns-clause-front : goal.returns-clause-front
 returns-clause-front c =
-    readback_front c.bit_counts.ensures c.length_law.ensures.slot c.length_law.ensures.frame c.block_law.ensures.user_packet
+    readback_front c.bit_counts.ensures c.length_law.ensures.times c.block_law.ensures.user_packet
     c.readback_law.ensures

@@ -7,7 +7,7 @@ pub record Saw (l : goal.Live-loop-address) : Type 0 where
   pub inside : l.address ≤ l.end
   pub len : length l.stands ≡ length l.fn.stands
   pub each : (k : ℕ) → k < length l.fn.stands → get_or l.stands k false
-      ≡ (get_or l.fn.stands k false && seen_from l.plan l.shape l.cells (l.first + k) 0 l.address)
+      ≡ (get_or l.fn.stands k false && seen_from l.plan l.shape l.frame_idx l.cells (l.first + k) 0 l.address)
 
 abbrev pub invariant-loop-address : goal.invariant-loop-address
 invariant-loop-address l = Saw l

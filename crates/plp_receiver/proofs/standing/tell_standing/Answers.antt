@@ -12,7 +12,7 @@ returns-clause-each c = λ k l.
     ap (λ (xs : List Bool). get_or xs k false) (c.fill.ensures.after (λ y e. e))
     ∙ get_or-replicate (length c.args.stands.now) k true false l in
     c.see_all.ensures.each k inside
-    ∙ ap (λ (t : Bool). t && all_seen c.args.plan.now c.args.shape.now c.args.cells.now (c.first_ordinal-first.result + k)) full
-    ∙ ap (λ (n : ℕ). all_seen c.args.plan.now c.args.shape.now c.args.cells.now (n + k)) c.first_ordinal-first.ensures.value
-    ∙ seen_stand c.map_law.ensures.each c.map_law.ensures.only c.args.plan.now c.args.shape.now c.args.cells.now c.args.plp k
+    ∙ ap (λ (t : Bool). t && all_seen c.args.plan.now c.args.shape.now c.args.frame_idx c.args.cells.now (c.first_ordinal-first.result + k)) full
+    ∙ ap (λ (n : ℕ). all_seen c.args.plan.now c.args.shape.now c.args.frame_idx c.args.cells.now (n + k)) c.first_ordinal-first.ensures.value
+    ∙ seen_stand c.map_law.ensures.each c.map_law.ensures.only c.args.plan.now c.args.shape.now c.args.frame_idx c.args.cells.now c.args.plp k
     c.requires.passes c.requires.inside (omega (arith, l, c.requires.count))

@@ -5,7 +5,7 @@ use Rattle.record_writer.proofs.RecordLemmas.{block_given}
 use Rattle.record_writer.proofs.writer.build_block.Goals as goal
 
 pub returns-then-next-end-clause-bytes : goal.returns-then-next-end-clause-bytes
-returns-then-next-end-clause-bytes c = λ shape.
+returns-then-next-end-clause-bytes c = λ shape frame_idx.
     let n = ap (λ (c : Config). length c.plps) c.config.ensures.value in
     let inside : c.next_list-next.result < length c.args.pool.now.lists =
     omega (arith, c.if-next-end.true, c.len-end.ensures, n, c.requires.lists.plps) in

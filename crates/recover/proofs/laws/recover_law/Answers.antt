@@ -8,7 +8,7 @@ returns c =
     (record {
       given = given_by c.parts_law.ensures.whole c.pre_law.ensures.written c.conf_law.ensures.written c.dyn_law.ensures.back
           c.dyn_law.ensures.written c.bit_counts.ensures c.count_law.ensures c.length_law.ensures.slot c.block_law.ensures.field
-          c.block_law.ensures.chunks c.block_law.ensures.cells c.field_law.ensures c.order_law.ensures.counts c.shape_law.ensures
+          c.block_law.ensures.chunks c.block_law.ensures.cells c.spread_law.ensures.blocks c.field_law.ensures c.order_law.ensures.counts c.shape_law.ensures
           c.map_test_law.ensures;
       pre_back = c.pre_law.ensures.back;
       pre_values = c.parts_law.ensures.pre;
@@ -21,4 +21,4 @@ returns c =
       back = c.scramble_twice.ensures;
       taken = c.taken_law.ensures;
     })
-    c.readback_law.ensures.once c.length_law.ensures.slot c.frame_law.ensures c.epochs_law.ensures.readback
+    c.readback_law.ensures.once c.interleaving_law.ensures c.epochs_law.ensures.readback

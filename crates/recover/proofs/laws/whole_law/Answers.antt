@@ -6,6 +6,6 @@ returns-clause-whole c = whole_comes_back c.none_law.ensures c.recover_law.ensur
 
 pub returns-clause-run : goal.returns-clause-run
 returns-clause-run c =
-    run_comes_back c.length_law.ensures.slot c.slot_time_law.ensures.none_at_zero c.release_law.ensures.first
+    run_comes_back c.length_law.ensures.slot c.spread_law.ensures.alone c.slot_time_law.ensures.none_at_zero c.release_law.ensures.first
     c.run_length_law.ensures
     (whole_comes_back c.none_law.ensures c.recover_law.ensures)

@@ -7,6 +7,6 @@ returns c =
     tests_meet
     (given_by c.parts_law.ensures.whole c.pre_law.ensures.written c.conf_law.ensures.written c.dyn_law.ensures.back
     c.dyn_law.ensures.written c.bit_counts.ensures c.count_law.ensures c.length_law.ensures.slot c.block_law.ensures.field
-    c.block_law.ensures.chunks c.block_law.ensures.cells c.field_law.ensures c.order_law.ensures.counts c.shape_law.ensures
-    c.map_test_law.ensures)
+    c.block_law.ensures.chunks c.block_law.ensures.cells c.spread_law.ensures.blocks c.field_law.ensures
+    c.order_law.ensures.counts c.shape_law.ensures c.map_test_law.ensures)
     c.sent_law.ensures.carries c.whole_law.ensures.misses c.named_law.ensures

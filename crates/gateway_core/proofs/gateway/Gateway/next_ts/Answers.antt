@@ -1,16 +1,19 @@
-use Rattle.std.proofs.Common.{◌≡◌, ◌∙◌, ◌+◌, ◌++◌, ◌<◌, ℕ, List, [], false, length, refl, ap, sym, subst, append-nil}
+use Rattle.std.proofs.Common.{rules, ◌≡◌, ◌∙◌, ◌+◌, ◌++◌, ◌<◌, ℕ, List, [], false, length, refl, ap, sym, subst, append-nil}
 use Rattle.std.proofs.lemmas.Option.{slice_get_within}
+use Rattle.std.proofs.Math.Logic.{∥∥₁_map}
 use Rattle.t2mi_stream.specs.Pipe.{pipe}
 use Rattle.gateway_core.specs.Events.{begun, given}
 use Rattle.gateway_core.specs.Packets.{front_packets}
 use Rattle.plp_config.specs.declared.config.Config.{Config}
 use Rattle.t2mi_packet.specs.declared.packet.Body.{Body}
 use Rattle.gateway_core.specs.Flowing.{Flows, bytes_bound, gives_unit}
+use Rattle.gateway_core.specs.InputsStandFor.{AreSupplied}
 use Rattle.gateway_core.specs.Left.{left, early_of}
 use Rattle.gateway_core.specs.StandsFor.{GatewayStandsFor, Holds}
 use Rattle.gateway_core.specs.declared.flow.Flow.{Flow}
 use Rattle.gateway_core.specs.declared.frame.Frame.{Frame}
 use Rattle.gateway_core.proofs.HoldsLemmas.{holds_unit, holds_none, holds_gave, holds_complete, holds_caught_up, both}
+use Rattle.gateway_core.proofs.HoldsLemmas.{supplied_kept}
 use Rattle.gateway_core.proofs.gateway.Gateway.next_ts.Goals as goal
 
 pub returns-clause-unit : goal.returns-clause-unit
@@ -90,3 +93,18 @@ returns-clause-kept c = λ off.
     let same = c.next.ensures.stays off in
     ap (λ (f : Flow). bytes_bound f.outlet (left g.plan.now g.signalling c.next.new.frame)) same.0
     ∙ ap (λ (r : Frame). bytes_bound g.flow.outlet (left g.plan.now g.signalling r)) same.1
+
+pub invariant_of-self : goal.invariant_of-self
+invariant_of-self c =
+    let g = c.args.self.now in
+    record {
+      whole = search rules;
+      most = search rules;
+      early = search rules;
+      lists = search rules;
+      chunks = search rules;
+      over = search rules;
+      alone = search rules;
+      supplied = ∥∥₁_map g.supplied (λ (s : AreSupplied g.plan.now g.frames g.inputs.items (early_of g.frame)).
+          supplied_kept g.plan.now g.frames g.inputs.items (early_of g.frame) (early_of c.next.new.frame) c.next.ensures.early s);
+    }

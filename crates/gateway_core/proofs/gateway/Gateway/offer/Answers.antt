@@ -1,18 +1,20 @@
-use Rattle.std.proofs.Common.{◌≡◌, ◌≢◌, ◌+◌, ◌∙◌, ◌++◌, ◌∷◌, [], List, ℕ, length, map, ap, sym, subst}
+use Rattle.std.proofs.Common.{rules, ◌≡◌, ◌≢◌, ◌+◌, ◌∙◌, ◌++◌, ◌∷◌, [], List, ℕ, length, map, refl, ap, sym, subst, arith}
+use Rattle.std.proofs.Math.Logic.{∥∥₁_map}
 use Rattle.std.specs.Prelude.{slice_index}
 use Rattle.std.proofs.lemmas.List.{with_items_is}
 use Rattle.plp_config.specs.declared.config.Config.{Config}
 use Rattle.gateway_core.specs.BlocksLeft.{blocks_left}
 use Rattle.gateway_core.specs.Lists.{bits_in}
 use Rattle.gateway_core.specs.Events.{Offered}
-use Rattle.gateway_core.specs.InputsStandFor.{AllFed}
+use Rattle.gateway_core.specs.InputsStandFor.{AllFed, AreSupplied}
 use Rattle.gateway_core.specs.Left.{early_of}
 use Rattle.gateway_core.specs.Packets.{l1_body}
 use Rattle.gateway_core.specs.StandsFor.{GatewayStandsFor}
 use Rattle.gateway_core.specs.declared.input.Input.{Input}
 use Rattle.gateway_core.specs.IsFed.{wanted}
 use Rattle.gateway_core.proofs.FlowLemmas.{dry_when}
-use Rattle.gateway_core.proofs.HoldsLemmas.{early_over, holds_over, has_frame}
+use Rattle.gateway_core.proofs.HoldsLemmas.{early_over, holds_over, has_frame, supplied_over, supplied_offered}
+use Rattle.gateway_core.proofs.InputsLemmas.{one_supplied}
 use Rattle.gateway_core.proofs.gateway.Gateway.offer.Goals as goal
 
 pub returns-clause-stands : goal.returns-clause-stands
@@ -54,3 +56,38 @@ returns-clause-others c =
     ≡ slice_index (map wanted c.args.self.now.inputs.items) other) (sym items)
     (subst (λ (l : List Input). (other : ℕ) → other ≢ c.args.plp → slice_index (map wanted c.offer.new.inputs) other
     ≡ slice_index (map wanted l) other) c.deref_mut.ensures.value c.offer.ensures.others)
+
+pub offer-requires-clause-ready : goal.offer-requires-clause-ready
+offer-requires-clause-ready c = λ d.
+    let g = c.args.self.now in
+    let f = g.frame in
+    let p = g.plan.now in
+    let over = g.over (dry_when g.flow.dry _ _ g.flow.full (sym c.requires.given)) in
+    ∥∥₁_map g.supplied (λ (s : AreSupplied p g.frames g.inputs.items (early_of f)).
+    one_supplied c.early_fits_law.ensures.early c.deref_mut.result.now f.blocks p g.frames c.args.plp d
+    (c.deref_mut.ensures.len ∙ g.whole) (omega (arith, c.requires.place, c.deref_mut.ensures.len))
+    (has_frame p p f.blocks refl g.chunks g.lists)
+    (supplied_over p g.frames g.inputs.items c.deref_mut.result.now f.step f.blocks c.deref_mut.ensures.value over s))
+
+pub invariant_of-self-2 : goal.invariant_of-self-2
+invariant_of-self-2 c =
+    let g = c.args.self.now in
+    let f = g.frame in
+    let p = g.plan.now in
+    let over = g.over (dry_when g.flow.dry _ _ g.flow.full (sym c.requires.given)) in
+    let items = with_items_is g.inputs c.offer.new.inputs (c.offer.auto.inputs ∙ c.deref_mut.ensures.len) in
+    record {
+      whole = search rules;
+      most = search rules;
+      early = search rules;
+      lists = search rules;
+      chunks = search rules;
+      over = search rules;
+      alone = search rules;
+      supplied = ∥∥₁_map g.supplied (λ (s : AreSupplied p g.frames g.inputs.items (early_of f)).
+          supplied_offered p g.frames c.args.plp c.args.packet.now g.inputs.items _ f.step f.blocks c.offer.new.pool over
+          (λ events fed. subst (λ (l : List Input). AllFed l (bits_in c.offer.new.pool) p
+          (events ++ Offered c.args.plp c.args.packet.now ∷ [])) (sym items)
+          (c.offer.ensures.fed p events (c.deref_mut.ensures.len ∙ g.whole) (has_frame p p f.blocks refl g.chunks g.lists)
+          (subst (λ (l : List Input). AllFed l (bits_in f.blocks) p events) (sym c.deref_mut.ensures.value) fed))) s);
+    }

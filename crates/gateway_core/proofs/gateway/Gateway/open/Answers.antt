@@ -1,4 +1,5 @@
-use Rattle.std.proofs.Common.{◌≡◌, ℕ, Bool, List, [], refl, sym, subst}
+use Rattle.std.proofs.Common.{rules, ◌≡◌, ℕ, Bool, List, [], refl, sym, subst}
+use Rattle.std.proofs.lemmas.Grind.{merely}
 use Rattle.t2mi_packet.specs.declared.packet.Body.{Body}
 use Rattle.gateway_core.specs.Flowing.{Flows, bytes_bound}
 use Rattle.gateway_core.specs.Left.{early_of}
@@ -36,3 +37,21 @@ returns-clause-status c =
     let nothing = over_left c.args.plan.now c.in_ok-open.field-0 c.in_ok-open-2.field-0 c.in_ok-open-2.ensures.over in
     status_is _ _ _ _ _ _ _ _ _ _ c.in_ok-open_inputs.ensures.len refl c.new.ensures.unit c.new.ensures.finished
     (subst (λ (l : List Body). bytes_bound c.new.result.outlet l ≡ 0) (sym nothing) c.new.ensures.none)
+
+pub invariant_of-result : goal.invariant_of-result
+invariant_of-result c =
+    record {
+      whole = search rules;
+      most = search rules;
+      early = search rules;
+      lists = search rules;
+      chunks = search rules;
+      over = search rules;
+      alone = search rules;
+      supplied = merely (record {
+        events = [];
+        frame_is = refl;
+        fed = fed_kept _ (λ j. []) (early_of c.in_ok-open-2.field-0) c.args.plan.now [] c.in_ok-open-2.ensures.early
+            c.in_ok-open_inputs.ensures.fed;
+      });
+    }

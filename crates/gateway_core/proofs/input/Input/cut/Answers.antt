@@ -1,5 +1,5 @@
 use Rattle.std.proofs.Common.{◌∙◌}
-use Rattle.gateway_core.proofs.FedLemmas.{fed_cut, next_due, place_stays, others_on}
+use Rattle.gateway_core.proofs.FedLemmas.{fed_cut, next_due, place_stays, others_on, served}
 use Rattle.gateway_core.proofs.input.Input.cut.Goals as goal
 
 pub returns-clause-cut : goal.returns-clause-cut
@@ -15,3 +15,9 @@ pub returns-clause-others : goal.returns-clause-others
 returns-clause-others c =
     others_on c.args.pool.now c.complete.new.pool c.end_frame-count.new.pool c.args.list c.complete.ensures.others
     c.end_frame-count.ensures.others
+
+pub end_frame-count-requires-clause-ready : goal.end_frame-count-requires-clause-ready
+end_frame-count-requires-clause-ready c = served c.complete.new.self c.complete.new.pool c.args.list c.complete.ensures.ready
+
+pub returns-clause-short : goal.returns-clause-short
+returns-clause-short c = λ short. c.end_frame-count.ensures.short (c.complete.ensures.short short)

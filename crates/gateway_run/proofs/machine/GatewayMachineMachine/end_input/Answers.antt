@@ -8,7 +8,8 @@ use Rattle.gateway_run.proofs.machine.GatewayMachineMachine.end_input.Goals as g
 
 pub returns-clause-becomes : goal.returns-clause-becomes
 returns-clause-becomes c = λ start events h.
-    let r = falls_short_at c.args.self.now.gateway c.args.self.now.place.plp c.args.self.now.place.phase _ _ c.requires.wanted in (
+    let r = falls_short_at c.args.self.now.gateway c.args.self.now.place.plp c.args.self.now.place.phase _ _
+    c.requires.wanted in (
       h.0,
       subst (λ (k : ℕ). Holds c.args.self.now.plan.now (events ++ Ended k c.args.bytes.now ∷ []) c.end_input-self.new.gateway
           c.end_input-self.result c.args.self.now.ran) r.1 (c.end_input-self.ensures.holds events h.1),

@@ -1,4 +1,5 @@
 use Rattle.std.proofs.Common.{◌≡◌, ◌*◌, ap, arith}
+use Rattle.plp_config.specs.SlotTime.{epoch_ticks}
 use Rattle.plp_config.specs.Capacity.{field_bytes}
 use Rattle.mode_adapt.specs.Blocks.{rates_of, plp_keeps}
 use Rattle.mode_adapt.specs.Events.{offered, cuts}
@@ -32,7 +33,8 @@ returns-clause-few c = λ config plp events stands due.
     c.args.self.now config plp (offered events) (cuts events) h o.1 due in
     let w = left_over c.args.self.now config plp (offered events) (cuts events) h none due in
     let within = c.within_law.ensures config plp h.plan h.place in
-    let law = c.backlog_law.ensures (rates_of config plp config.ticks) (plp_keeps config plp (packet_at (offered events)))
+    let law = c.backlog_law.ensures (rates_of config plp (epoch_ticks config plp)) (plp_keeps config plp
+    (packet_at (offered events)))
     (cuts events) within.0 in
     omega (arith, c.len.ensures, w, law)
 
@@ -44,7 +46,8 @@ returns-clause-after_cut c = λ config plp events stands due.
     c.args.self.now config plp (offered events) (cuts events) h o.1 due in
     let w = left_over c.args.self.now config plp (offered events) (cuts events) h none due in
     let within = c.within_law.ensures config plp h.plan h.place in
-    let law = c.backlog_law.ensures (rates_of config plp config.ticks) (plp_keeps config plp (packet_at (offered events)))
+    let law = c.backlog_law.ensures (rates_of config plp (epoch_ticks config plp)) (plp_keeps config plp
+    (packet_at (offered events)))
     (cuts events) within.0 in
     let up = c.block_law.ensures.user_packet config plp in
     omega (arith, c.len.ensures, w, law, up.1)

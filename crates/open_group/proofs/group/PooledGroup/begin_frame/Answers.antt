@@ -1,4 +1,4 @@
-use Rattle.std.proofs.Common.{◌≡◌, ◌≤◌, ◌++◌, ◌∙◌, length, sum, refl, ap, sym, subst, arith}
+use Rattle.std.proofs.Common.{◌≡◌, ℕ, ◌≤◌, ◌++◌, ◌∙◌, length, sum, refl, ap₂, sym, subst, arith}
 use Rattle.std.specs.Prelude.{nat_le, slice_index}
 use Rattle.std.proofs.lemmas.Bool.{and_parts}
 use Rattle.linked_pool.specs.Pool.{used_chunks}
@@ -21,7 +21,7 @@ use Rattle.open_group.proofs.TellLemmas.{Tells, tells, first_dynamic, first_told
 use Rattle.open_group.proofs.group.PooledGroup.begin_frame.Goals as goal
 
 pub returns-clause-left : goal.returns-clause-left
-returns-clause-left c = λ h n leaves held none.
+returns-clause-left c = λ h n leaves idx held none.
     let g = c.args.self.now in
     let network = g.network in
     let packets = held.packets c.requires.intact in
@@ -36,9 +36,12 @@ returns-clause-left c = λ h n leaves held none.
     let is_plan : IsPlan network = subst IsPlan (c.plan.ensures) c.obeys_rules.ensures.plan in
     let left = subst
     (λ (k : Config). bytes_left c.begin_frame.new.writer k shape lists ≡ front_bytes k c.args.moment.now dynamic blocks
-    (rest_size k (post_size k (length dynamic)) (slice_index shape.counts)) ++ step_bytes k shape lists (Blocks 0))
+    (rest_size k (post_size k (length dynamic)) (slice_index shape.counts))
+    ++ step_bytes k shape c.args.frame_idx lists (Blocks 0))
     c.plan-2.ensures (c.begin_frame.ensures.left lists) in
-    left ∙ ap (λ (m : Moment). front_bytes network m dynamic blocks rest ++ step_bytes network shape lists (Blocks 0)) leaves
+    left
+    ∙ ap₂ (λ (m : Moment) (i : ℕ). front_bytes network m dynamic blocks rest ++ step_bytes network shape i lists (Blocks 0))
+    leaves idx
     ∙ given_frame c.written_law.ensures.written c.written_law.ensures.blocks c.written_law.ensures.rest c.bit_counts.ensures
     network n h.packets dynamic shape lists blocks rest
     is_plan none

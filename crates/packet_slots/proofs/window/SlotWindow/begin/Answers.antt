@@ -10,5 +10,5 @@ invariant_of-self c =
       sound = w.sound;
       room = w.room;
       span = omega (arith, ap length c.requires.empty);
-      known = let first = c.range_of-first.ensures.first in omega (arith, late, first, c.released_at-due_end.ensures);
+      known = let first = c.range_of-first.ensures.first in omega (arith, late, first, c.due_after-due_end.ensures);
     }

@@ -13,5 +13,5 @@ invariant_of-self c =
       sound = w.sound;
       room = w.room;
       span = w.span;
-      known = let s = w.span in omega (arith, late, f, c.requires.came, c.released_at-due_end.ensures);
+      known = let s = w.span in omega (arith, late, f, c.requires.came, c.due_after-due_end.ensures);
     }

@@ -1,4 +1,5 @@
 use Rattle.packet_slots.specs.Records.{readback}
+use Rattle.plp_receiver.specs.Taken.{slot_rule}
 use Rattle.plp_receiver.specs.StandsFor.{StandsFor, IsFresh}
 use Rattle.plp_receiver.proofs.StandsLemmas.{due_is, given_back}
 use Rattle.plp_receiver.proofs.receiver.Receiver.due.Goals as goal
@@ -12,11 +13,11 @@ returns-clause-answer c = λ first views released packets s b.
 pub returns-clause-some : goal.returns-clause-some
 unfolding StandsFor
 returns-clause-some c = λ first views released s. (
-  readback s.rule first s.told,
+  readback (slot_rule c.args.self.now.network c.args.self.now.plp) first s.told,
   given_back c.args.self.now.network c.args.self.now.plp c.args.self.now.slots first views
       released s,
 )
 
 pub returns-clause-fresh : goal.returns-clause-fresh
 unfolding IsFresh
-returns-clause-fresh c = λ f. c.due.ensures.fresh f.rule f.fresh
+returns-clause-fresh c = λ f. c.due.ensures.fresh (slot_rule c.args.self.now.network c.args.self.now.plp) f

@@ -6,5 +6,5 @@ use Rattle.plp_receiver.proofs.receiver.Receiver.open.Goals as goal
 pub returns-clause-fresh : goal.returns-clause-fresh
 unfolding IsFresh
 returns-clause-fresh c =
-    subst (λ (d : Config). Fresh d c.args.plp c.in_ok-open-2.field-0) (sym c.in_ok-open.ensures)
-    (record { rule = c.rule_of.result; rule_is = c.rule_of.ensures.is; fresh = c.in_ok-open-2.ensures.fresh })
+    subst (λ (d : Config). Fresh d c.args.plp c.in_ok-open_slots.field-0) (sym c.in_ok-open.ensures)
+    c.in_ok-open_slots.ensures.fresh

@@ -11,6 +11,22 @@ use Rattle.receive_run.proofs.machine.ReceiverMachineMachine.give.Goals as goal
 pub give_packet-requires : goal.give_packet-requires
 give_packet-requires c = let m = c.args.self.now in m.some (packets_come m.coming m.left c.requires.gives)
 
+pub invariant_of-self : goal.invariant_of-self
+invariant_of-self c =
+    let m = c.args.self.now in
+    let g = c.give_packet.ensures.gives in
+    let due = c.due.ensures.value in
+    record {
+      network = g.same.0 ∙ m.network;
+      place = g.same.1 ∙ m.place;
+      inside = m.inside;
+      some = λ p. let s = (c.coming_by-coming.ensures.some p).0 in omega (arith, s, due);
+      given = λ p. (c.coming_by-coming.ensures.some p).1;
+      room = λ r. absurd (c.coming_by-coming.ensures.rest r);
+      buffer = m.buffer;
+      small = m.small;
+    }
+
 pub returns-clause-becomes : goal.returns-clause-becomes
 returns-clause-becomes c = λ start events came.
     let m = c.args.self.now in
@@ -20,7 +36,7 @@ returns-clause-becomes c = λ start events came.
     c.saturating_add-self.ensures refl refl refl
     (c.coming_by-coming.ensures.coming ∙ ap coming_by c.due.ensures.value) (c.coming_by-coming.ensures.left
     ∙ ap left_by c.due.ensures.value)
-    (λ first views packets a back. few_packets c.length_law.ensures.slot c.length_law.ensures.frame (network_of m.receiver)
+    (λ first views packets a back. few_packets c.times_law.ensures (network_of m.receiver)
     (plp_of m.receiver) first views packets known.0.rules known.1 a.small back) came
 
 pub returns-clause-left : goal.returns-clause-left

@@ -1,4 +1,4 @@
-use Rattle.std.proofs.Common.{◌≡◌, ◌∙◌, ℕ, sym, ap, List, Option, length, ◌*◌, arith}
+use Rattle.std.proofs.Common.{◌≡◌, ◌∙◌, ℕ, sym, ap, List, Option, length, arith}
 use Rattle.cell_map.specs.declared.places.Cell.{Cell}
 use Rattle.site_frame.specs.Reading.{cells_in}
 use Rattle.site_frame.proofs.BlockLemmas.{length-cells_in}

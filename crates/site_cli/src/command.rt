@@ -1,0 +1,44 @@
+// What the program does with its words.
+use crate::advice::{advise, warn};
+use crate::help;
+use crate::progress::Watched;
+use crate::stream_time::StreamTime;
+use ports::HostDesk;
+use site_top::{Outcome, Word, run};
+use std::fs::Files;
+use std::io::{Eprint, Print};
+use std::time::Clock;
+
+/// Answers what the words ask for, or carries out the command that they name, over the files of the system, and tells people, who
+/// know the program by this name, why it is not done: how it ended. If it is wanted, a line tells how far it is.
+pub fn carry_out<R: Files + Print + Eprint + Clock + AllocGlobal>(
+    rt: &R,
+    program: &str,
+    words: &[Word],
+    wanted: bool,
+) -> Outcome {
+    if let Some(asked) = help::asked_of(words) {
+        return match help::say(rt, program, asked) {
+            Ok(()) => Outcome::Done,
+            Err(_) => Outcome::WriteFault,
+        };
+    }
+    warn(rt, words);
+    let stream = if wanted {
+        StreamTime::of(rt, words)
+    } else {
+        None
+    };
+    let mut desk = Watched::new(HostDesk::new(rt, rt.alloc()), rt, wanted, stream);
+    let outcome = run(rt.alloc(), words, &mut desk);
+    desk.wipe();
+    advise(
+        rt,
+        program,
+        words,
+        outcome,
+        desk.desk.first_fault(),
+        desk.none_came,
+    );
+    outcome
+}
