@@ -8,7 +8,8 @@ use Rattle.std.proofs.lemmas.List.{length-map, length-take-le, get_or-take, get_
 use Rattle.std.proofs.lemmas.List.{get_or_append_left, take_more, take_more_set}
 use Rattle.terms.proofs.OptionLemmas.{was_some}
 use Rattle.ports.specs.declared.counts.Counts.{Counts}
-use Rattle.ports.specs.Counts.{Rose}
+use Rattle.ports.specs.declared.fault.FaultKind.TheVariants as kind
+use Rattle.ports.specs.Counts.{Rose, first_of}
 use Rattle.ports.specs.Desk.{State, Held, Files, SameCounts, Keeps, Opens, Creates, FailsToCreate, with_name, with_empty, left_of}
 use Rattle.ports.specs.Desk.{out_name, bytes_of, SameButFor}
 use Rattle.desk_io.specs.Faults.{ReadsFail, WritesFail}
@@ -34,15 +35,17 @@ some_at {A = A} o x P e h = subst (λ (p : Option A). IfSome p P) (sym e) h
 pub reads_fail : (a b c : State) → SameCounts a b → ReadsFail b c → ReadsFail a c
 reads_fail a b c e f = record {
   rose = subst (λ (k : Counts). Rose k.reads c.counts.reads) e f.rose;
+  first = subst (λ (k : Counts). c.counts.first ≡ first_of k.first kind.Reading) e f.first;
   later = subst (λ (k : Counts). k.reads ≤ c.counts.reads) e f.later;
-  others = subst (λ (k : Counts). c.counts ≡ record k { reads = c.counts.reads }) e f.others;
+  others = subst (λ (k : Counts). c.counts ≡ record k { reads = c.counts.reads; first = c.counts.first }) e f.others;
 }
 
 pub writes_fail : (a b c : State) → SameCounts a b → WritesFail b c → WritesFail a c
 writes_fail a b c e f = record {
   rose = subst (λ (k : Counts). Rose k.writes c.counts.writes) e f.rose;
+  first = subst (λ (k : Counts). c.counts.first ≡ first_of k.first kind.Writing) e f.first;
   later = subst (λ (k : Counts). k.writes ≤ c.counts.writes) e f.later;
-  others = subst (λ (k : Counts). c.counts ≡ record k { writes = c.counts.writes }) e f.others;
+  others = subst (λ (k : Counts). c.counts ≡ record k { writes = c.counts.writes; first = c.counts.first }) e f.others;
 }
 
 -- nothing is opened yet

@@ -1,13 +1,17 @@
 -- How a run ends that says what its machine gives.
 use Rattle.std.proofs.Common.{◌≡◌, ◌≢◌, ℕ, ◌-◌, ◌≤◌, List, [], length, refl, ap, sym, subst, ◌∙◌, inl, inr, arith, Ok, Err}
+use Rattle.std.proofs.Common.{Option, Some, None}
 use Rattle.std.specs.Prelude.{Result, IfErr, OnOk}
 use Rattle.ports.specs.declared.counts.Counts.{Counts}
-use Rattle.ports.specs.Counts.{Rose}
+use Rattle.ports.specs.declared.fault.FaultKind.{FaultKind}
+use Rattle.ports.specs.declared.fault.FaultKind.TheVariants as kind
+use Rattle.ports.specs.Counts.{Rose, first_of}
 use Rattle.ports.specs.Desk.{State, SameCounts, Keeps, Says}
 use Rattle.desk_io.specs.Faults.{ReadsFail, WritesFail}
 use Rattle.desk_io.specs.Reading.{Reading, given_of, longest_file}
 use Rattle.file_run.specs.Events.{Event, fed}
 use Rattle.file_run.specs.Steps.{Needs, FallsShort}
+use Rattle.file_run.specs.Laws.{FirstIsTold}
 use Rattle.file_run.specs.Telling.{Tells, TellsAll, TellsTooMuch, ReadsFailAtLeast, StopsTelling}
 use Rattle.file_run.specs.TellingOn.{Telling, Finishes, Breaks, TellsLast}
 use Rattle.file_run.specs.declared.machine.Step.{Step}
@@ -78,6 +82,11 @@ lost_last Came next start old new name machine r page t calm few keeps lost some
   ),
 )
 
+-- a later fault is not the first
+first_stays : (first : Option FaultKind) (one later : FaultKind) → first_of (first_of first one) later ≡ first_of first one
+first_stays None one later = refl
+first_stays (Some first) one later = refl
+
 -- Reading failed, and then what was left was said.
 fails_said : (start old new : State) → ReadsFail start old → SameCounts old new → ReadsFailAtLeast start new
 fails_said start old new f same =
@@ -86,6 +95,7 @@ fails_said start old new f same =
     ∙ ap (λ (k : Counts). k.writes) f.others in
     record {
       rose = subst (Rose start.counts.reads) (sym reads) f.rose;
+      first = ap (λ (k : Counts). k.first) same ∙ f.first;
       reads = (let l = f.later in omega (arith, l, reads));
       writes = omega (arith, writes);
       lines = ap (λ (k : Counts). k.lines) same ∙ ap (λ (k : Counts). k.lines) f.others;
@@ -98,10 +108,21 @@ fails_twice start old new f w =
     let writes : old.counts.writes ≡ start.counts.writes = ap (λ (k : Counts). k.writes) f.others in
     record {
       rose = subst (Rose start.counts.reads) (sym reads) f.rose;
+      first = w.first ∙ ap (λ (k : Option FaultKind). first_of k kind.Writing) f.first
+          ∙ first_stays start.counts.first kind.Reading kind.Writing;
       reads = (let l = f.later in omega (arith, l, reads));
       writes = (let l = w.later in omega (arith, l, writes));
       lines = ap (λ (k : Counts). k.lines) w.others ∙ ap (λ (k : Counts). k.lines) f.others;
     }
+
+-- Writing failed, and then reading: that is not told as a fault of reading.
+pub first_is_told : FirstIsTold
+first_is_told old mid new none w r told =
+    let first : mid.counts.first ≡ Some kind.Writing = w.first ∙ ap (λ (k : Option FaultKind). first_of k kind.Writing) none in
+    let later : new.counts.first ≡ Some kind.Writing = r.first ∙ ap (λ (k : Option FaultKind). first_of k kind.Reading) first in
+    let reading : new.counts.first ≡ Some kind.Reading = told.first
+    ∙ ap (λ (k : Option FaultKind). first_of k kind.Reading) none in
+    let same : Some kind.Writing ≡ Some kind.Reading = sym later ∙ reading in cc
 
 -- what waits in front of the machine
 waits : {A : Type 0} (Came : List Event → A → Type 0) (next : A → Step) (start now : State) (name : List ℕ) (machine : A)

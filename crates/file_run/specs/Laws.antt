@@ -1,6 +1,9 @@
--- What one event more tells of inputs and of the output. A function without a body ensures it.
-use Rattle.std.specs.Prelude.{◌≡◌, ◌≢◌, ℕ, true, List, [], ◌∷◌, ◌++◌}
+-- What one event more tells of inputs and of the output, and which fault is told. Functions without a body ensure it.
+use Rattle.std.specs.Prelude.{◌≡◌, ◌≢◌, ℕ, true, List, [], ◌∷◌, ◌++◌, None}
+use Rattle.ports.specs.Desk.{State}
+use Rattle.desk_io.specs.Faults.{ReadsFail, WritesFail}
 use Rattle.file_run.specs.Events.{Event, Fed, Ended, Gave, fed, has_ended, gave, OnlyGave}
+use Rattle.file_run.specs.Telling.{ReadsFailAtLeast}
 
 -- An input was fed: it has these bytes more, and no other input anything, nor an end.
 pub record FedMore (input : ℕ) (bytes : List ℕ) (events : List Event) : Type 0 where
@@ -35,3 +38,8 @@ pub record EventsTell : Type 0 where
   pub ended : (input : ℕ) (bytes : List ℕ) (events : List Event) → EndedMore input bytes events
   pub given : (bytes : List ℕ) (events : List Event) → GavePiece bytes events
   pub late : (events late : List Event) → OnlyGave late → GaveMore events late
+
+-- If nothing had failed, and writing fails and then reading, that is no run which tells a fault of reading.
+abbrev pub FirstIsTold : Type 0
+FirstIsTold = (old mid new : State) → old.counts.first ≡ None → WritesFail old mid → ReadsFail mid new
+    → ¬ (ReadsFailAtLeast old new)

@@ -1,8 +1,9 @@
 -- What a run does that reads one named file and says what its machine gives.
 use Rattle.std.specs.Prelude.{◌≡◌, ◌≢◌, ◌⊎◌, ℕ, ◌+◌, ◌-◌, ◌<◌, ◌≤◌, Bool, true, List, [], ◌∷◌, ◌++◌, length, IfSome}
 use Rattle.std.specs.Prelude.{option_map}
-use Rattle.ports.specs.Counts.{Rose}
+use Rattle.ports.specs.Counts.{Rose, first_of}
 use Rattle.ports.specs.Desk.{State, SameCounts, bytes_of}
+use Rattle.ports.specs.declared.fault.FaultKind.TheVariants.{Reading}
 use Rattle.desk_io.specs.Faults.{ReadsFail, WritesFail}
 use Rattle.desk_io.specs.Opening.{Opened, Unopened}
 use Rattle.desk_io.specs.Reading.{longest_file}
@@ -87,10 +88,11 @@ pub record TellsUntilFault {A : Type 0} (Came : List Event → A → Type 0) (ne
   pub short : place < longest_file
   pub all : ((unsaid ≡ []) × (new.counts.writes ≡ old.counts.writes)) ⊎ ((unsaid ≢ []) × Rose old.counts.writes new.counts.writes)
 
--- The count of reading rose, and that of writing may have risen too; counts do not tell which one rose first. That of last lines
--- stayed.
+-- The count of reading rose. That of writing may have risen too, but later: the first fault is what it was, or of reading if
+-- there was none. That of last lines stayed.
 pub record ReadsFailAtLeast (old new : State) : Type 0 where
   pub rose : Rose old.counts.reads new.counts.reads
+  pub first : new.counts.first ≡ first_of old.counts.first Reading
   pub reads : old.counts.reads ≤ new.counts.reads
   pub writes : old.counts.writes ≤ new.counts.writes
   pub lines : new.counts.lines ≡ old.counts.lines

@@ -13,7 +13,7 @@ mod telling;
 #[cfg(test)]
 mod tests;
 
-pub use laws::events_law;
+pub use laws::{events_law, faults_law};
 pub use machine::{Machine, PIECE, Step};
 pub use out_buffer::OutBuffer;
 pub use running::run;

@@ -6,7 +6,7 @@ use Rattle.std.specs.Ordering.{nat_cmp}
 use Rattle.std.specs.Cmp.Lexicographic.{slice_cmp}
 use Rattle.std.specs.FinMap.{FinMap, get, insert}
 use Rattle.ports.specs.declared.counts.Counts.{Counts}
-use Rattle.ports.specs.Counts.{Rose}
+use Rattle.ports.specs.Counts.{FailsAtLast}
 
 -- the bytes of each file, by its name
 abbrev pub Files : Type 0
@@ -19,7 +19,7 @@ pub record Held : Type 0 where
   pub outs : List (List ℕ)
 
 -- What a desk means: what it holds and what was said, if it tells; the place of each handle for reading in order of opening,
--- and the number of handles for writing; and how often its calls failed.
+-- and the number of handles for writing; and how often its calls failed, and which first.
 pub record State : Type 0 where
   pub held : Option Held
   pub said : Option (List ℕ)
@@ -145,6 +145,6 @@ pub record Says (old new : State) (text : List ℕ) : Type 0 where
   pub opened : new.opened ≡ old.opened
   pub created : new.created ≡ old.created
 
--- The last text was said, or nothing was if the count rose.
+-- The last text was said, or nothing was if that failed.
 abbrev pub SaysLast : State → State → List ℕ → Type 0
-SaysLast old new text = (Says old new text × SameCounts old new) ⊎ (Keeps old new × Rose old.counts.lines new.counts.lines)
+SaysLast old new text = (Says old new text × SameCounts old new) ⊎ (Keeps old new × FailsAtLast old.counts new.counts)

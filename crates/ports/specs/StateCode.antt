@@ -1,9 +1,11 @@
 -- How the state of a desk is stored. No public clause cites this module.
-use Rattle.std.specs.Prelude.{ℕ, List, refl}
+use Rattle.std.specs.Prelude.{◌≡◌, ℕ, zero, suc, List, refl}
 use Rattle.std.specs.declared.option.Option.{Option}
 use Rattle.std.specs.FinMap.{code}
 use Rattle.std.specs.Coded.{Coded, code_by, coded×, coded_ℕ, coded_list, coded_option}
 use Rattle.ports.specs.declared.counts.Counts.{Counts}
+use Rattle.ports.specs.declared.fault.FaultKind.{FaultKind}
+use Rattle.ports.specs.declared.fault.FaultKind.TheVariants.{Reading, Writing, LastLine}
 use Rattle.ports.specs.declared.script.Script.{Script}
 use Rattle.ports.specs.Calls.{KindCalls}
 use Rattle.ports.specs.CallsCode.{calls_code}
@@ -16,9 +18,30 @@ held_code = code_by (Files × (List (List ℕ) × List (List ℕ)))
     (coded× (coded_list (coded_list coded_ℕ)) (coded_list (coded_list coded_ℕ))))
     (λ h. (h.files, (h.names, h.outs))) (λ p. record { files = p.0; names = p.1.0; outs = p.1.1 }) (λ _. refl)
 
+-- a kind of faults is stored as its place among them
+abbrev pub place_of : FaultKind → ℕ
+place_of Reading = 0
+place_of Writing = 1
+place_of LastLine = 2
+
+abbrev pub kind_at : ℕ → FaultKind
+kind_at zero = Reading
+kind_at (suc zero) = Writing
+kind_at (suc (suc _)) = LastLine
+
+pub kind_at-place_of : (kind : FaultKind) → kind_at (place_of kind) ≡ kind
+kind_at-place_of Reading = refl
+kind_at-place_of Writing = refl
+kind_at-place_of LastLine = refl
+
+abbrev kind_code : Coded FaultKind
+kind_code = code_by ℕ coded_ℕ place_of kind_at kind_at-place_of
+
 abbrev counts_code : Coded Counts
-counts_code = code_by (ℕ × (ℕ × ℕ)) (coded× coded_ℕ (coded× coded_ℕ coded_ℕ))
-    (λ c. (c.reads, (c.writes, c.lines))) (λ p. record { reads = p.0; writes = p.1.0; lines = p.1.1 }) (λ _. refl)
+counts_code = code_by (ℕ × (ℕ × (ℕ × Option FaultKind)))
+    (coded× coded_ℕ (coded× coded_ℕ (coded× coded_ℕ (coded_option kind_code))))
+    (λ c. (c.reads, (c.writes, (c.lines, c.first))))
+    (λ p. record { reads = p.0; writes = p.1.0; lines = p.1.1.0; first = p.1.1.1 }) (λ _. refl)
 
 -- a state is stored as the tuple of its fields
 abbrev pub state_code : Coded State

@@ -7,8 +7,8 @@ use crate::DeskFault;
 
 /// The outside of a command: named files, and standard output.
 ///
-/// After a fault all is as before but the count of its kind, of which `Counts` tells. Of a file that could not be created
-/// nothing is known then. A call that is Ok changes no count.
+/// After a fault all is as before but the count of its kind, and the kind of the first fault if there was none before, of which
+/// `Counts` tells. Of a file that could not be created nothing is known then. A call that is Ok changes neither.
 pub trait Desk {
     /// What the desk holds and what was said, if it tells; the place of each handle for reading, and the number of
     /// those for writing; its counts of faults.

@@ -1,10 +1,10 @@
 // A desk over real files and standard output.
 ghost use Rattle.std.specs.Prelude.{◌≡◌, ◌⊎◌, ◌<◌, ◌≤◌, ◌+◌, ◌^◌, length, IfOk, OnOk, OnErr, IsErr, IsSome};
-ghost use Rattle.ports.specs.Counts.{one_more};
+ghost use Rattle.ports.specs.Counts.{with_fault};
 
 use crate::fault::fault;
 use crate::host_fault::{HostFault, Reason};
-use crate::{Counts, Desk, DeskFault};
+use crate::{Counts, Desk, DeskFault, FaultKind};
 use std::alloc::Global;
 use std::fs::{Metadata, OpenFile};
 use std::io::{ErrorKind, Read, Write};
@@ -73,36 +73,46 @@ fn node_of(file: io::Result<Metadata>) -> Option<Node> {
     })
 }
 
-// A fault that is counted, and kept if it is the first.
-fn fail(count: &mut u64, first: &mut Option<HostFault>, what: HostFault) -> DeskFault
-    ensures one { count.new ≡ one_more count.old }
-    ensures later { count.old ≤ count.new }
-    ensures rose { 0 < count.new }
+// A fault of a kind that is counted, and kept if it is the first.
+fn fail(
+    counts: &mut Counts,
+    kind: FaultKind,
+    first: &mut Option<HostFault>,
+    what: HostFault,
+) -> DeskFault
+    ensures one { counts.new ≡ with_fault kind counts.old }
+    ensures first { IsSome counts.new.first }
+    ensures reads { counts.old.reads ≤ counts.new.reads }
+    ensures writes { counts.old.writes ≤ counts.new.writes }
+    ensures lines { counts.old.lines ≤ counts.new.lines }
     ensures kept { IsSome first.new }
 {
     if first.is_none() {
         *first = Some(what);
     }
-    fault(count)
+    fault(counts, kind)
 }
 
-// Says a text by one write.
+// Says a text by one write. A failure is a fault of this kind.
 fn say<R: Print>(
     rt: &R,
     text: &[u8],
-    count: &mut u64,
+    counts: &mut Counts,
+    kind: FaultKind,
     first: &mut Option<HostFault>,
 ) -> Result<(), DeskFault>
-    ensures ok { OnOk result ((count.new ≡ count.old) × (first.new ≡ first.old)) }
-    ensures one { OnErr result (count.new ≡ one_more count.old) }
-    ensures rose { OnErr result (0 < count.new) }
+    ensures ok { OnOk result ((counts.new ≡ counts.old) × (first.new ≡ first.old)) }
+    ensures one { OnErr result (counts.new ≡ with_fault kind counts.old) }
+    ensures first { OnErr result (IsSome counts.new.first) }
+    ensures writes { counts.old.writes ≤ counts.new.writes }
+    ensures lines { counts.old.lines ≤ counts.new.lines }
     ensures kept { OnErr result (IsSome first.new) }
 {
     match rt.write_all(text) {
         Ok(()) => Ok(()),
         Err(error) => {
             let why = Reason(error.kind());
-            Err(fail(count, first, HostFault::Said { why }))
+            Err(fail(counts, kind, first, HostFault::Said { why }))
         }
     }
 }
@@ -293,7 +303,7 @@ impl<R: Files + Print + Drop> Desk for HostDesk<R> {
             Err(why) => {
                 let name = self.name(name);
                 let what = HostFault::Read { name, why };
-                Err(fail(&mut self.counts.reads, &mut self.first, what))
+                Err(fail(&mut self.counts, FaultKind::Reading, &mut self.first, what))
             }
         }
     }
@@ -311,7 +321,7 @@ impl<R: Files + Print + Drop> Desk for HostDesk<R> {
             Err(why) => {
                 let name = self.name_of(&self.handles[handle as usize]);
                 let what = HostFault::Read { name, why };
-                Err(fail(&mut self.counts.reads, &mut self.first, what))
+                Err(fail(&mut self.counts, FaultKind::Reading, &mut self.first, what))
             }
         }
     }
@@ -326,7 +336,7 @@ impl<R: Files + Print + Drop> Desk for HostDesk<R> {
     {
         match self.add_out(name) {
             Ok(out) => Ok(out),
-            Err(what) => Err(fail(&mut self.counts.writes, &mut self.first, what)),
+            Err(what) => Err(fail(&mut self.counts, FaultKind::Writing, &mut self.first, what)),
         }
     }
 
@@ -345,7 +355,7 @@ impl<R: Files + Print + Drop> Desk for HostDesk<R> {
         };
         let name = self.name_of(&self.outs[out as usize]);
         let what = HostFault::Write { name, why };
-        Err(fail(&mut self.counts.writes, &mut self.first, what))
+        Err(fail(&mut self.counts, FaultKind::Writing, &mut self.first, what))
     }
 
     fn say(&mut self, text: &[u8]) -> Result<(), DeskFault>
@@ -353,14 +363,26 @@ impl<R: Files + Print + Drop> Desk for HostDesk<R> {
         ensures fault { OnErr result (self.new ≡ with_write_fault self.old) }
         ensures counts { MayFailWriting self.old.counts self.new.counts result }
     {
-        say(&self.rt, text, &mut self.counts.writes, &mut self.first)
+        say(
+            &self.rt,
+            text,
+            &mut self.counts,
+            FaultKind::Writing,
+            &mut self.first,
+        )
     }
 
     fn say_last(&mut self, text: &[u8])
         ensures said { (Says self.old self.new text.now × SameCounts self.old self.new) ⊎ (self.new ≡ with_line_fault self.old) }
         ensures counts { MayFailAtLast self.old.counts self.new.counts }
     {
-        let _ = say(&self.rt, text, &mut self.counts.lines, &mut self.first);
+        let _ = say(
+            &self.rt,
+            text,
+            &mut self.counts,
+            FaultKind::LastLine,
+            &mut self.first,
+        );
     }
 }
 

@@ -14,7 +14,7 @@ mod word;
 
 pub use counts::Counts;
 pub use desk::Desk;
-pub use fault::DeskFault;
+pub use fault::{DeskFault, FaultKind};
 pub use host::HostDesk;
 pub use host_fault::{HostFault, Reason};
 pub use laws::writes_law;

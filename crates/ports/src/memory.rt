@@ -8,7 +8,7 @@ ghost use Rattle.ports.specs.Stored.{files_of};
 
 use crate::fault::fault;
 use crate::script::Script;
-use crate::{CallKind, Counts, Desk, DeskFault};
+use crate::{CallKind, Counts, Desk, DeskFault, FaultKind};
 use bit_slice::OutOfMemory;
 use std::alloc::Global;
 use std::collections::BTreeMap;
@@ -320,7 +320,7 @@ impl Desk for MemoryDesk {
                 return Ok(handle);
             }
         }
-        Err(fault(&mut self.counts.reads))
+        Err(fault(&mut self.counts, FaultKind::Reading))
     }
 
     /// A fault exactly if it was listed.
@@ -337,7 +337,7 @@ impl Desk for MemoryDesk {
         ensures rest { self.new ≡ record (after_call CallKind.Read self.old) { state = self.new.state } }
     {
         if self.script.strikes(CallKind::Read) {
-            return Err(fault(&mut self.counts.reads));
+            return Err(fault(&mut self.counts, FaultKind::Reading));
         }
         let most = self.cap;
         Ok(self.handles[handle as usize].read(&self.files, buffer, most))
@@ -359,7 +359,7 @@ impl Desk for MemoryDesk {
                 return Ok(out);
             }
         }
-        Err(fault(&mut self.counts.writes))
+        Err(fault(&mut self.counts, FaultKind::Writing))
     }
 
     /// A listed call and want of memory are faults.
@@ -380,7 +380,7 @@ impl Desk for MemoryDesk {
         if !listed && append(&mut self.files, name, &piece[..count]) {
             return Ok(count);
         }
-        Err(fault(&mut self.counts.writes))
+        Err(fault(&mut self.counts, FaultKind::Writing))
     }
 
     /// A listed call and want of memory are faults.
@@ -392,7 +392,7 @@ impl Desk for MemoryDesk {
         ensures rest { self.new ≡ record (after_call CallKind.Say self.old) { state = self.new.state } }
     {
         if self.script.strikes(CallKind::Say) || self.said.extend_from_slice(text).is_err() {
-            return Err(fault(&mut self.counts.writes));
+            return Err(fault(&mut self.counts, FaultKind::Writing));
         }
         Ok(())
     }
@@ -406,7 +406,7 @@ impl Desk for MemoryDesk {
         ensures rest { self.new ≡ record (after_call CallKind.Last self.old) { state = self.new.state } }
     {
         if self.script.strikes(CallKind::Last) || self.said.extend_from_slice(text).is_err() {
-            fault(&mut self.counts.lines);
+            fault(&mut self.counts, FaultKind::LastLine);
         }
     }
 }

@@ -32,7 +32,7 @@ use Rattle.show_run.proofs.FrameWantedLemmas.{short}
 use Rattle.site_frame.proofs.RecordFileLemmas.{records_file, records_first}
 use Rattle.show_run.proofs.RecordTextLemmas.{record_lines-append}
 use Rattle.site_frame.proofs.RecordSplitLemmas.{stuck_nil, same_records, records_within}
-use Rattle.show_run.proofs.PacketMetLemmas.{fails_only, starts_fed}
+use Rattle.show_run.proofs.PacketMetLemmas.{closed_counted, opened_counted, starts_fed}
 use Rattle.show_run.proofs.FrameMetLemmas.{none_first, said_first, Near, near_needs, near_short, near_less, all_met}
 use Rattle.show_run.proofs.FrameMetLemmas.{part_met, all_first, ends_idle, finished_text, refused_text, room_text}
 
@@ -212,7 +212,7 @@ frames_stop one never start now old new name (stop.Files (ReadFault input)) some
           ([], bytes_of held.files name, refl, inl (omega arith), ([], refl, omega arith)),
           none_first (bytes_of held.files name),
         ));
-    counts = fails_only old new closed.0;
+    counts = closed_counted old new closed.0;
   }
   | inr more ↦
       let t = more.1 in
@@ -230,7 +230,7 @@ frames_stop one never start now old new name (stop.Files (ReadFault input)) some
           first,
         )) x.inputs
             (some_said start now old new name t.place _ t.unsaid x (λ none. (r.0, near_less now _ (near_short now _ some r.2))));
-        counts = more.0;
+        counts = opened_counted old new name t.place x.opened more.0;
       }
 ]
 frames_stop one never start now old new name (stop.Files WriteFault) some s =

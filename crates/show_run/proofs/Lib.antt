@@ -7,6 +7,7 @@ pub mod FrameShowLemmas
 pub mod FrameWantedLemmas
 pub mod LineLemmas
 pub mod PacketFileLemmas
+pub mod PacketFrontLemmas
 pub mod PacketLinesLemmas
 pub mod PacketMetLemmas
 pub mod RecordTextLemmas

@@ -1,58 +1,55 @@
 -- The lines of packets, step by step.
-use Rattle.std.proofs.Common.{rules, ◌≡◌, ◌≢◌, ℕ, ◌+◌, ◌<◌, ◌≤◌, Bool, true, false, List, [], ◌∷◌, ◌++◌, length, take, drop}
+use Rattle.std.proofs.Common.{◌≡◌, ◌≢◌, ℕ, ◌+◌, ◌-◌, ◌<◌, ◌≤◌, false, List, [], ◌∷◌, ◌++◌, length, drop}
 use Rattle.std.proofs.Common.{refl, ap, sym, subst, ◌∙◌, inl, inr, arith, append-nil, length-append}
-use Rattle.std.specs.Prelude.{IsTrue}
-use Rattle.std.proofs.lemmas.List.{drop-append-le}
-use Rattle.std.proofs.Math.Seq.{take-length, drop-length}
-use Rattle.t2mi_packet.specs.declared.reading.TheConstants.{LARGEST}
-use Rattle.t2mi_packet.specs.declared.fault.PacketWhy.{PacketWhy}
+use Rattle.std.proofs.lemmas.List.{drop-append-le, nil_from_length}
+use Rattle.std.proofs.Math.Seq.{drop-length}
+use Rattle.t2mi_packet.specs.Laws.{SpellIs}
+use Rattle.t2mi_packet.specs.T2miPacket.{told_len, IsShort}
+use Rattle.t2mi_packet.specs.declared.fault.PacketFault.{PacketFault}
+use Rattle.t2mi_packet.specs.declared.fault.PacketWhy.TheVariants.{Short}
 use Rattle.file_run.specs.Events.{Event, Fed, Ended, Gave, fed, has_ended, gave}
 use Rattle.file_run.specs.Laws.{EventsTell}
 use Rattle.desk_io.specs.Reading.{longest_file}
 use Rattle.desk_io.specs.declared.input.TheConstants.{BUFFER}
+use Rattle.file_run.specs.declared.machine.Step.TheVariants.{Read, Give, End}
 use Rattle.file_run.specs.Steps.{Suffices, FallsShort, HasRoom, CanBeRead}
 use Rattle.show_run.specs.PacketFile.{Begins, Packs, bytes_in}
 use Rattle.show_run.specs.SaidLines.{line_of, lines_of, count_line}
-use Rattle.show_run.specs.Front.{IsFront, RefusesFront}
-use Rattle.show_run.specs.PacketLines.{next_from, next_of, Behind, Given, Shown, IsNew, Comes}
+use Rattle.show_run.specs.Front.{RefusesFront, IsLacking}
+use Rattle.show_run.specs.PacketLines.{next_from, next_of, IsWhole, Sees, Behind, Given, Shown, IsNew, Comes}
 use Rattle.show_run.specs.declared.packet_lines.PacketLines.{PacketLines}
 use Rattle.show_run.specs.declared.packet_lines.Phase.{Phase}
-use Rattle.show_run.specs.declared.packet_lines.Phase.TheVariants.{Reads, Ends, Refused, Finished}
-use Rattle.show_run.proofs.PacketFileLemmas.{begins_inside, begins_on, packs_more, bytes_in-append, lines_of-append, file_len}
+use Rattle.show_run.specs.declared.packet_lines.Phase.TheVariants.{Reads, Refused, Finished}
+use Rattle.show_run.proofs.PacketFileLemmas.{begins_inside, begins_on, packs_more, lines_of-append, file_len}
+use Rattle.show_run.proofs.PacketFrontLemmas.{whole_packet, lacks_some, lacks_none, whole_exact}
 
 -- what is wanted tells that packets are read, and that no line waits
 reads_idle : (line : List ℕ) (phase : Phase) (input count : ℕ) → Suffices (next_from line phase) input count → (line ≡ [])
-    × (phase ≡ Reads) × (input ≡ 0) × (LARGEST ≤ count)
+    × (phase ≡ Reads) × (input ≡ 0) × (1 ≤ count)
 reads_idle [] Reads input count s = (refl, refl, sym s.0, s.1)
-reads_idle [] Ends input count s = absurd s
 reads_idle [] (Refused why) input count s = absurd s
 reads_idle [] Finished input count s = absurd s
 reads_idle (c ∷ line) phase input count s = absurd s
 
 pub idle : (m : PacketLines) (input count : ℕ) → Suffices (next_of m) input count → (m.line ≡ []) × (m.phase ≡ Reads)
-    × (input ≡ 0) × (LARGEST ≤ count)
+    × (input ≡ 0) × (1 ≤ count)
 idle m input count s = reads_idle m.line m.phase input count s
 
 short_idle : (line : List ℕ) (phase : Phase) (input count : ℕ) → FallsShort (next_from line phase) input count → (line ≡ [])
-    × (phase ≡ Reads) × (input ≡ 0) × (count < LARGEST)
+    × (phase ≡ Reads) × (input ≡ 0) × (count < 1)
 short_idle [] Reads input count s = (refl, refl, sym s.0, s.1)
-short_idle [] Ends input count s = absurd s
 short_idle [] (Refused why) input count s = absurd s
 short_idle [] Finished input count s = absurd s
 short_idle (c ∷ line) phase input count s = absurd s
 
 pub falls_idle : (m : PacketLines) (input count : ℕ) → FallsShort (next_of m) input count → (m.line ≡ []) × (m.phase ≡ Reads)
-    × (input ≡ 0) × (count < LARGEST)
+    × (input ≡ 0) × (count < 1)
 falls_idle m input count s = short_idle m.line m.phase input count s
 
--- if packets are read, all that was fed are packets
-pub all_seen : (m : PacketLines) (events : List Event) → m.phase ≡ Reads → (s : Shown m events) → (s.rest ≡ [])
-    × (has_ended 0 events ≡ false) × (m.at ≡ length (fed 0 events))
-all_seen m events reads s =
-    let behind = subst (λ (p : Phase). Behind p m.rest s.rest (has_ended 0 events)) reads s.behind in
-    let sum = file_len (fed 0 events) s.rest (s.told ++ s.next) s.packs in
-    let none = ap length behind.0 in
-    (behind.0, behind.1, (let at = s.place in omega (arith, sum, none, at)))
+-- if packets are read, behind those that were seen stands the one under way
+pub under_way : (m : PacketLines) (events : List Event) → m.phase ≡ Reads → (s : Shown m events)
+    → (s.rest ≡ m.bytes.items) × IsShort s.rest × (has_ended 0 events ≡ false)
+under_way m events reads s = subst (λ (p : Phase). Behind p m.bytes.items s.rest (has_ended 0 events)) reads s.behind
 
 drop_on : (n : ℕ) (xs ys : List ℕ) → n ≤ length xs → drop n (xs ++ ys) ≡ drop n xs ++ ys
 drop_on n xs ys h = drop-append-le n xs ys h
@@ -87,44 +84,41 @@ IsOpen phase = Unit {0}
 given_of : (phase : Phase) (told next : List (List ℕ)) (line text : List ℕ) → IsOpen phase → Given phase told next line text
     → (text ≡ lines_of 0 told) × (line ≡ lines_of (bytes_in told) next)
 given_of Reads told next line text o g = g
-given_of Ends told next line text o g = g
 given_of (Refused why) told next line text o g = g
 given_of Finished told next line text o g = absurd o
 
 given_as : (phase : Phase) (told next : List (List ℕ)) (line text : List ℕ) → IsOpen phase → (text ≡ lines_of 0 told)
     × (line ≡ lines_of (bytes_in told) next) → Given phase told next line text
 given_as Reads told next line text o g = g
-given_as Ends told next line text o g = g
 given_as (Refused why) told next line text o g = g
 given_as Finished told next line text o g = absurd o
 
 -- One more packet was seen.
-seen_more : (m n : PacketLines) (was now : List Event) (bytes rest : List ℕ) (len : ℕ) → m.line ≡ [] → IsOpen m.phase
-    → IsOpen n.phase → n.at ≡ m.at + len → n.count ≡ m.count + 1
-    → (f : IsFront bytes m.at n.line len) → (s : Shown m was) → Packs (fed 0 now) ((s.told ++ s.next) ++ f.packet ∷ []) rest
-    → gave now ≡ gave was → Behind n.phase n.rest rest (has_ended 0 now) → Shown n now
-seen_more m n was now bytes rest len idle going goes at count f s packs same behind =
+seen_more : (m n : PacketLines) (was now : List Event) (packet : List ℕ) → m.line ≡ [] → IsOpen m.phase
+    → IsOpen n.phase → n.at ≡ length (fed 0 now) → n.count ≡ m.count + 1 → (s : Shown m was)
+    → n.line ≡ line_of (bytes_in (s.told ++ s.next)) packet → Packs (fed 0 now) ((s.told ++ s.next) ++ packet ∷ []) []
+    → gave now ≡ gave was → Behind n.phase n.bytes.items [] (has_ended 0 now) → Shown n now
+seen_more m n was now packet idle going goes at count s text packs same behind =
     let g = given_of m.phase s.told s.next m.line (gave was) going s.given in
-    let one : bytes_in (f.packet ∷ []) ≡ len = let z = f.size in omega (arith, z) in
-    let line : n.line ≡ lines_of (bytes_in (s.told ++ s.next)) (f.packet ∷ []) =
-    f.text ∙ ap (λ (k : ℕ). line_of k f.packet) s.place ∙ sym (append-nil (line_of (bytes_in (s.told ++ s.next)) f.packet)) in
     record {
       told = s.told ++ s.next;
-      next = f.packet ∷ [];
-      rest = rest;
+      next = packet ∷ [];
+      rest = [];
       packs = packs;
-      place = (let p = s.place in let b = bytes_in-append (s.told ++ s.next) (f.packet ∷ []) in omega (arith, at, p, b, one));
-      number = (let c = s.number in let b = length-append (s.told ++ s.next) (f.packet ∷ []) in omega (arith, count, c, b));
+      place = at;
+      number = (let c = s.number in let b = length-append (s.told ++ s.next) (packet ∷ []) in omega (arith, count, c, b));
       behind = behind;
-      given = given_as n.phase (s.told ++ s.next) (f.packet ∷ []) n.line (gave now) goes
-          (same ∙ told_all s.told s.next m.line (gave was) idle g.0 g.1, line);
+      given = given_as n.phase (s.told ++ s.next) (packet ∷ []) n.line (gave now) goes (
+        same ∙ told_all s.told s.next m.line (gave was) idle g.0 g.1,
+        text ∙ sym (append-nil (line_of (bytes_in (s.told ++ s.next)) packet)),
+      );
     }
 
 -- No more packets were seen.
 seen_same : (m n : PacketLines) (was now : List Event) (rest : List ℕ) → m.line ≡ [] → n.line ≡ [] → IsOpen m.phase
-    → IsOpen n.phase → n.at ≡ m.at → n.count ≡ m.count → (s : Shown m was) → Packs (fed 0 now) (s.told ++ s.next) rest
-    → gave now ≡ gave was
-    → Behind n.phase n.rest rest (has_ended 0 now) → Shown n now
+    → IsOpen n.phase → n.at ≡ length (fed 0 now) → n.count ≡ m.count → (s : Shown m was)
+    → Packs (fed 0 now) (s.told ++ s.next) rest → gave now ≡ gave was
+    → Behind n.phase n.bytes.items rest (has_ended 0 now) → Shown n now
 seen_same m n was now rest idle quiet going goes at count s packs same behind =
     let g = given_of m.phase s.told s.next m.line (gave was) going s.given in
     record {
@@ -132,7 +126,7 @@ seen_same m n was now rest idle quiet going goes at count s packs same behind =
       next = [];
       rest = rest;
       packs = subst (λ (l : List (List ℕ)). Packs (fed 0 now) l rest) (sym (append-nil (s.told ++ s.next))) packs;
-      place = at ∙ s.place ∙ ap bytes_in (sym (append-nil (s.told ++ s.next)));
+      place = at;
       number = count ∙ s.number ∙ ap length (sym (append-nil (s.told ++ s.next)));
       behind = behind;
       given = given_as n.phase (s.told ++ s.next) [] n.line (gave now) goes
@@ -142,179 +136,193 @@ seen_same m n was now rest idle quiet going goes at count s packs same behind =
 open_is : (p q : Phase) → q ≡ p → IsOpen p → IsOpen q
 open_is p q e o = subst IsOpen (sym e) o
 
--- a packet was fed
-pub fed_packet : EventsTell → (start m n : PacketLines) (events : List Event) (input : ℕ) (bytes : List ℕ) (len : ℕ) → input ≡ 0
-    → m.line ≡ [] → m.phase ≡ Reads → n.phase ≡ Reads → n.at ≡ m.at + len → n.count ≡ m.count + 1
-    → IsFront bytes m.at n.line len → Comes start events m → Comes start (events ++ Fed input (take len bytes) ∷ []) n
-fed_packet law start m n events input bytes len zero idle reads still at count f c =
-    let seen = all_seen m events reads c.shown in
-    let more = law.fed 0 (take len bytes) events in
-    let is : take len bytes ≡ f.packet = ap (λ (k : ℕ). take k bytes) f.size ∙ f.begins.there in
-    let begins : Begins ([] ++ f.packet) f.packet = record { is = f.begins.is; there = take-length f.packet } in
-    let packs : Packs (fed 0 events ++ f.packet) (c.shown.told ++ c.shown.next) ([] ++ f.packet) =
-    packs_on (fed 0 events) f.packet [] (c.shown.told ++ c.shown.next)
-    (subst (λ (l : List ℕ). Packs (fed 0 events) (c.shown.told ++ c.shown.next) l) seen.0 c.shown.packs) in
-    let all : Packs (fed 0 (events ++ Fed 0 (take len bytes) ∷ [])) ((c.shown.told ++ c.shown.next) ++ f.packet ∷ []) [] =
-    subst (λ (l : List ℕ). Packs l ((c.shown.told ++ c.shown.next) ++ f.packet ∷ []) [])
-    (sym (more.here ∙ ap (λ (l : List ℕ). fed 0 events ++ l) is))
-    (subst (λ (l : List ℕ). Packs (fed 0 events ++ f.packet) ((c.shown.told ++ c.shown.next) ++ f.packet ∷ []) l)
-    (drop-length f.packet)
-    (packs_more (fed 0 events ++ f.packet) ([] ++ f.packet) (c.shown.told ++ c.shown.next) f.packet packs begins)) in
-    subst (λ (k : ℕ). Comes start (events ++ Fed k (take len bytes) ∷ []) n) (sym zero) (record {
+-- a piece that was fed stands behind the packet under way
+packs_fed : EventsTell → (m : PacketLines) (events : List Event) (piece : List ℕ) (s : Shown m events)
+    → Packs (fed 0 (events ++ Fed 0 piece ∷ [])) (s.told ++ s.next) (s.rest ++ piece)
+packs_fed law m events piece s =
+    subst (λ (l : List ℕ). Packs l (s.told ++ s.next) (s.rest ++ piece)) (sym (law.fed 0 piece events).here)
+    (packs_on (fed 0 events) piece s.rest (s.told ++ s.next) s.packs)
+
+at_fed : EventsTell → (m n : PacketLines) (events : List Event) (piece : List ℕ) → Shown m events → n.at ≡ m.at + length piece
+    → n.at ≡ length (fed 0 (events ++ Fed 0 piece ∷ []))
+at_fed law m n events piece s at =
+    let more = ap length (law.fed 0 piece events).here in let sum = length-append (fed 0 events) piece in let p = s.place in
+    omega (arith, at, more, sum, p)
+
+-- not the last of a packet
+pub took_some : EventsTell → (start m n : PacketLines) (events : List Event) (input : ℕ) (piece : List ℕ) → input ≡ 0
+    → m.line ≡ [] → m.phase ≡ Reads → n.phase ≡ m.phase → n.line ≡ m.line → n.count ≡ m.count → n.at ≡ m.at + length piece
+    → n.bytes.items ≡ m.bytes.items ++ piece → IsShort n.bytes.items → Comes start events m
+    → Comes start (events ++ Fed input piece ∷ []) n
+took_some law start m n events input piece zero idle reads same quiet count at bytes few c =
+    let s = c.shown in
+    let b = under_way m events reads s in
+    let more = law.fed 0 piece events in
+    let is : s.rest ++ piece ≡ n.bytes.items = ap (λ (l : List ℕ). l ++ piece) b.0 ∙ sym bytes in
+    subst (λ (k : ℕ). Comes start (events ++ Fed k piece ∷ []) n) (sym zero) (record {
       fresh = c.fresh;
-      shown = seen_more m n events (events ++ Fed 0 (take len bytes) ∷ []) bytes [] len idle (open_is Reads m.phase reads tt)
-          (open_is Reads n.phase still tt) at count f c.shown all more.gave
-          (subst (λ (p : Phase). Behind p n.rest [] (has_ended 0 (events ++ Fed 0 (take len bytes) ∷ []))) (sym still)
-          (refl, more.ended 0 ∙ seen.1));
+      shown = seen_same m n events (events ++ Fed 0 piece ∷ []) (s.rest ++ piece) idle (quiet ∙ idle)
+          (open_is Reads m.phase reads tt) (open_is Reads n.phase (same ∙ reads) tt) (at_fed law m n events piece s at) count s
+          (packs_fed law m events piece s) more.gave
+          (subst (λ (p : Phase). Behind p n.bytes.items (s.rest ++ piece) (has_ended 0 (events ++ Fed 0 piece ∷ [])))
+          (sym (same ∙ reads)) (is, subst IsShort (sym is) few, more.ended 0 ∙ b.2));
     })
 
--- bytes were fed with which no packet begins
-pub fed_refused : EventsTell → (start m n : PacketLines) (events : List Event) (input : ℕ) (bytes : List ℕ) (why : PacketWhy)
-    → input ≡ 0 → m.line ≡ [] → m.phase ≡ Reads → n.phase ≡ Refused why → n.line ≡ m.line → n.at ≡ m.at → n.count ≡ m.count
-    → LARGEST ≤ length bytes
-    → RefusesFront bytes why → Comes start events m → Comes start (events ++ Fed input (take (length bytes) bytes) ∷ []) n
-fed_refused law start m n events input bytes why zero idle reads refused quiet at count many r c =
-    let seen = all_seen m events reads c.shown in
-    let more = law.fed 0 (take (length bytes) bytes) events in
-    let is : take (length bytes) bytes ≡ bytes = take-length bytes in
-    let packs : Packs (fed 0 events ++ bytes) (c.shown.told ++ c.shown.next) ([] ++ bytes) =
-    packs_on (fed 0 events) bytes [] (c.shown.told ++ c.shown.next)
-    (subst (λ (l : List ℕ). Packs (fed 0 events) (c.shown.told ++ c.shown.next) l) seen.0 c.shown.packs) in
-    let some : bytes ≢ [] = λ e. let n = ap length e in absurd (omega (arith, n, many)) in
-    subst (λ (k : ℕ). Comes start (events ++ Fed k (take (length bytes) bytes) ∷ []) n) (sym zero) (record {
+-- the last of a packet, which was looked at
+took_last : EventsTell → SpellIs → (start m mid n : PacketLines) (events : List Event) (input : ℕ) (piece : List ℕ)
+    → input ≡ 0 → m.line ≡ [] → m.phase ≡ Reads → mid.phase ≡ m.phase → mid.line ≡ m.line → mid.count ≡ m.count
+    → mid.at ≡ m.at + length piece → mid.bytes.items ≡ m.bytes.items ++ piece → IsWhole mid.bytes.items
+    → length mid.bytes.items ≡ told_len mid.bytes.items → n.at ≡ mid.at → Sees mid n → Comes start events m
+    → Comes start (events ++ Fed input piece ∷ []) n
+took_last law spells start m mid n events input piece zero idle reads same quiet count came bytes whole exact at (inl seen) c =
+    let s = c.shown in
+    let b = under_way m events reads s in
+    let more = law.fed 0 piece events in
+    let now = events ++ Fed 0 piece ∷ [] in
+    let f = seen.front in
+    let is : mid.bytes.items ≡ s.rest ++ piece = bytes ∙ ap (λ (l : List ℕ). l ++ piece) (sym b.0) in
+    let packet : f.packet ≡ s.rest ++ piece = whole_packet spells mid.bytes.items f.packet f.begins exact ∙ is in
+    let begins : Begins (s.rest ++ piece) f.packet = subst (λ (l : List ℕ). Begins l f.packet) is f.begins in
+    let packs = packs_fed law m events piece s in
+    let none : drop (length f.packet) (s.rest ++ piece) ≡ [] =
+    ap (λ (p : List ℕ). drop (length p) (s.rest ++ piece)) packet ∙ drop-length (s.rest ++ piece) in
+    let fed_len = file_len (fed 0 now) (s.rest ++ piece) (s.told ++ s.next) packs in
+    let all = at_fed law m mid events piece s came in
+    let size = ap length is in
+    let place : mid.at - length mid.bytes.items ≡ bytes_in (s.told ++ s.next) = omega (arith, fed_len, all, size) in
+    subst (λ (k : ℕ). Comes start (events ++ Fed k piece ∷ []) n) (sym zero) (record {
       fresh = c.fresh;
-      shown = seen_same m n events (events ++ Fed 0 (take (length bytes) bytes) ∷ []) bytes idle (quiet ∙ idle)
-          (open_is Reads m.phase reads tt) (open_is (Refused why) n.phase refused tt) at count c.shown
-          (subst (λ (l : List ℕ). Packs l (c.shown.told ++ c.shown.next) bytes)
-          (sym (more.here ∙ ap (λ (l : List ℕ). fed 0 events ++ l) is)) packs) more.gave
-          (subst (λ (p : Phase). Behind p n.rest bytes (has_ended 0 (events ++ Fed 0 (take (length bytes) bytes) ∷ [])))
-          (sym refused) ((some, r), inr many));
+      shown = seen_more m n events now f.packet idle (open_is Reads m.phase reads tt)
+          (open_is Reads n.phase (seen.phase ∙ same ∙ reads) tt) (at ∙ all) (seen.count ∙ ap (λ (k : ℕ). k + 1) count) s
+          (f.text ∙ ap (λ (k : ℕ). line_of k f.packet) place)
+          (subst (λ (l : List ℕ). Packs (fed 0 now) ((s.told ++ s.next) ++ f.packet ∷ []) l) none
+          (packs_more (fed 0 now) (s.rest ++ piece) (s.told ++ s.next) f.packet packs begins)) more.gave
+          (subst (λ (p : Phase). Behind p n.bytes.items [] (has_ended 0 now)) (sym (seen.phase ∙ same ∙ reads))
+          (sym seen.bytes, inl (omega arith), more.ended 0 ∙ b.2));
+    })
+took_last law spells start m mid n events input piece zero idle reads same quiet count came bytes whole exact at (inr stopped) c =
+    let s = c.shown in
+    let b = under_way m events reads s in
+    let more = law.fed 0 piece events in
+    let now = events ++ Fed 0 piece ∷ [] in
+    let t = stopped.1 in
+    let is : s.rest ++ piece ≡ mid.bytes.items = ap (λ (l : List ℕ). l ++ piece) b.0 ∙ sym bytes in
+    let some : s.rest ++ piece ≢ [] = λ e. let n = ap length e in let k = ap length is in let h = whole.header in
+    absurd (omega (arith, n, k, h)) in
+    subst (λ (k : ℕ). Comes start (events ++ Fed k piece ∷ []) n) (sym zero) (record {
+      fresh = c.fresh;
+      shown = seen_same m n events now (s.rest ++ piece) idle (t.line ∙ quiet ∙ idle) (open_is Reads m.phase reads tt)
+          (open_is (Refused stopped.0) n.phase t.phase tt) (at ∙ at_fed law m mid events piece s came) (t.count ∙ count) s
+          (packs_fed law m events piece s) more.gave
+          (subst (λ (p : Phase). Behind p n.bytes.items (s.rest ++ piece) (has_ended 0 now)) (sym t.phase) (
+            is ∙ sym t.bytes,
+            (some, subst (λ (l : List ℕ). RefusesFront l stopped.0) (sym is) t.refuses),
+            inr (subst IsWhole (sym is) whole),
+          ));
     })
 
--- the file has ended
-pub fed_last : EventsTell → (start m n : PacketLines) (events : List Event) (input : ℕ) (bytes : List ℕ) → input ≡ 0 → m.line ≡ []
-    → m.phase ≡ Reads → n.phase ≡ Ends → n.line ≡ m.line → n.rest ≡ bytes → n.at ≡ m.at → n.count ≡ m.count → Comes start events m
-    → Comes start (events ++ Ended input bytes ∷ []) n
-fed_last law start m n events input bytes zero idle reads ends quiet rest at count c =
-    let seen = all_seen m events reads c.shown in
+-- if as many bytes were taken as were lacking, and none is lacking now
+pub took_whole : EventsTell → SpellIs → (start m mid n : PacketLines) (events : List Event) (input lacked left : ℕ)
+    (piece : List ℕ) → Sees mid n → input ≡ 0 → m.line ≡ [] → m.phase ≡ Reads → mid.phase ≡ m.phase → mid.line ≡ m.line
+    → mid.count ≡ m.count → mid.at ≡ m.at + length piece → mid.bytes.items ≡ m.bytes.items ++ piece
+    → IsLacking m.bytes.items lacked → length piece ≤ lacked → IsLacking mid.bytes.items left → left ≡ 0 → n.at ≡ mid.at
+    → Comes start events m → Comes start (events ++ Fed input piece ∷ []) n
+took_whole law spells start m mid n events input lacked left piece sees zero idle reads same quiet count came bytes before few
+    after none at c =
+    let b = under_way m events reads c.shown in
+    let some = lacks_some m.bytes.items lacked before (subst IsShort b.0 b.1) in
+    let whole = lacks_none mid.bytes.items left after none in
+    let exact = whole_exact m.bytes.items piece lacked before some few (subst IsWhole bytes whole) in
+    took_last law spells start m mid n events input piece zero idle reads same quiet count came bytes whole
+    (subst (λ (l : List ℕ). length l ≡ told_len l) (sym bytes) exact) at sees c
+
+-- the file has ended behind the packets
+pub ended_all : EventsTell → (start m n : PacketLines) (events : List Event) (input : ℕ) (bytes : List ℕ)
+    → FallsShort (next_of m) input (length bytes) → length m.bytes.items ≡ 0 → n.phase ≡ Finished → n.line ≡ count_line m.count
+    → n.at ≡ m.at → n.count ≡ m.count → Comes start events m → Comes start (events ++ Ended input bytes ∷ []) n
+ended_all law start m n events input bytes wanted empty done line at count c =
+    let none : m.bytes.items ≡ [] = nil_from_length m.bytes.items empty in
+    let w = falls_idle m input (length bytes) wanted in
+    let s = c.shown in
+    let b = under_way m events w.1 s in
     let more = law.ended 0 bytes events in
-    let packs : Packs (fed 0 events ++ bytes) (c.shown.told ++ c.shown.next) ([] ++ bytes) =
-    packs_on (fed 0 events) bytes [] (c.shown.told ++ c.shown.next)
-    (subst (λ (l : List ℕ). Packs (fed 0 events) (c.shown.told ++ c.shown.next) l) seen.0 c.shown.packs) in
-    subst (λ (k : ℕ). Comes start (events ++ Ended k bytes ∷ []) n) (sym zero) (record {
+    let packets : List (List ℕ) = s.told ++ s.next in
+    let nothing : bytes ≡ [] = nil_from_length bytes (let k = w.3 in omega (arith, k)) in
+    let same : fed 0 (events ++ Ended 0 bytes ∷ []) ≡ fed 0 events = more.here ∙ ap (λ (l : List ℕ). fed 0 events ++ l) nothing
+    ∙ append-nil (fed 0 events) in
+    let g = given_of m.phase s.told s.next m.line (gave events) (open_is Reads m.phase w.1 tt) s.given in
+    let all : gave (events ++ Ended 0 bytes ∷ []) ≡ lines_of 0 packets = more.gave
+    ∙ told_all s.told s.next m.line (gave events) w.0 g.0 g.1 in
+    subst (λ (k : ℕ). Comes start (events ++ Ended k bytes ∷ []) n) (sym w.2) (record {
       fresh = c.fresh;
-      shown = seen_same m n events (events ++ Ended 0 bytes ∷ []) bytes idle (quiet ∙ idle) (open_is Reads m.phase reads tt)
-          (open_is Ends n.phase ends tt) at count c.shown
-          (subst (λ (l : List ℕ). Packs l (c.shown.told ++ c.shown.next) bytes) (sym more.here) packs) more.gave
-          (subst (λ (p : Phase). Behind p n.rest bytes (has_ended 0 (events ++ Ended 0 bytes ∷ []))) (sym ends)
-          (sym rest, more.ended));
+      shown = record {
+        told = packets;
+        next = [];
+        rest = [];
+        packs = subst (λ (l : List (List ℕ)). Packs (fed 0 (events ++ Ended 0 bytes ∷ [])) l []) (sym (append-nil packets))
+            (subst (λ (l : List ℕ). Packs l packets []) (sym same)
+            (subst (λ (l : List ℕ). Packs (fed 0 events) packets l) (b.0 ∙ none) s.packs));
+        place = at ∙ s.place ∙ ap length (sym same);
+        number = count ∙ s.number ∙ ap length (sym (append-nil packets));
+        behind = subst (λ (p : Phase). Behind p n.bytes.items [] (has_ended 0 (events ++ Ended 0 bytes ∷ []))) (sym done)
+            (refl, more.ended);
+        given = subst (λ (p : Phase). Given p packets [] n.line (gave (events ++ Ended 0 bytes ∷ []))) (sym done)
+            (refl, inl (line ∙ ap count_line s.number, all));
+      };
     })
 
-pub not_ends : (phase : Phase) → phase ≡ Reads → phase ≡ Ends → ⊥
-not_ends phase reads ends = let e : Reads ≡ Ends = sym reads ∙ ends in cc
+-- within a packet
+pub ended_within : EventsTell → (start m n : PacketLines) (events : List Event) (input : ℕ) (bytes : List ℕ)
+    → FallsShort (next_of m) input (length bytes) → 0 < length m.bytes.items → n.phase ≡ Refused Short → n.line ≡ m.line
+    → n.bytes.items ≡ m.bytes.items → n.at ≡ m.at → n.count ≡ m.count → Comes start events m
+    → Comes start (events ++ Ended input bytes ∷ []) n
+ended_within law start m n events input bytes wanted some refused quiet held at count c =
+    let w = falls_idle m input (length bytes) wanted in
+    let s = c.shown in
+    let b = under_way m events w.1 s in
+    let more = law.ended 0 bytes events in
+    let nothing : bytes ≡ [] = nil_from_length bytes (let k = w.3 in omega (arith, k)) in
+    let same : fed 0 (events ++ Ended 0 bytes ∷ []) ≡ fed 0 events = more.here ∙ ap (λ (l : List ℕ). fed 0 events ++ l) nothing
+    ∙ append-nil (fed 0 events) in
+    let fault : PacketFault = record { at = length s.rest; why = Short } in
+    subst (λ (k : ℕ). Comes start (events ++ Ended k bytes ∷ []) n) (sym w.2) (record {
+      fresh = c.fresh;
+      shown = seen_same m n events (events ++ Ended 0 bytes ∷ []) s.rest w.0 (quiet ∙ w.0) (open_is Reads m.phase w.1 tt)
+          (open_is (Refused Short) n.phase refused tt) (at ∙ s.place ∙ ap length (sym same)) count s
+          (subst (λ (l : List ℕ). Packs l (s.told ++ s.next) s.rest) (sym same) s.packs) more.gave
+          (subst (λ (p : Phase). Behind p n.bytes.items s.rest (has_ended 0 (events ++ Ended 0 bytes ∷ []))) (sym refused) (
+            b.0 ∙ sym held,
+            ((λ e. let n = ap length (sym b.0 ∙ e) in absurd (omega (arith, n, some))), (fault, (b.1, refl), refl)),
+            inl more.ended,
+          ));
+    })
 
 -- what may be read
 pub can_be_read : (m : PacketLines) (events : List Event) → m.phase ≡ Reads → Shown m events
-    → CanBeRead 1 events (λ input. m.at + BUFFER) 0 LARGEST BUFFER
+    → CanBeRead 1 events (λ input. m.at + BUFFER) 0 1 BUFFER
 can_be_read m events reads s =
-    let seen = all_seen m events reads s in
+    let b = under_way m events reads s in
     record {
       place = omega arith;
-      is_open = seen.1;
+      is_open = b.2;
       some = omega arith;
       few = omega arith;
       order = omega arith;
-      near = (let at = seen.2 in omega (arith, at));
+      near = (let at = s.place in omega (arith, at));
     }
 
--- the place of the next packet fits
-pub feed_fits : (m : PacketLines) (input len count : ℕ) → HasRoom Comes m input count → (m.line ≡ []) × (m.phase ≡ Reads)
-    × (input ≡ 0) × (LARGEST ≤ count) → len ≤ count → m.at + len ≤ longest_file
-feed_fits m input len count room i inside =
-    let seen = all_seen m room.events i.1 room.came.shown in
+-- what was fed fits
+pub fits : (m : PacketLines) (input count : ℕ) → HasRoom Comes m input count → input ≡ 0 → m.at + count ≤ longest_file
+fits m input count room zero =
     let few : length (fed 0 room.events) + count ≤ longest_file =
-    subst (λ (k : ℕ). length (fed k room.events) + count ≤ longest_file) i.2 room.few in
-    let at = seen.2 in omega (arith, at, few, inside)
+    subst (λ (k : ℕ). length (fed k room.events) + count ≤ longest_file) zero room.few in
+    let at = room.came.shown.place in omega (arith, at, few)
 
-pub end_fits : (m : PacketLines) (input count : ℕ) → HasRoom Comes m input count → (m.line ≡ []) × (m.phase ≡ Reads) × (input ≡ 0)
-    × (count < LARGEST) → m.at + count ≤ longest_file
-end_fits m input count room i =
-    let seen = all_seen m room.events i.1 room.came.shown in
-    let few : length (fed 0 room.events) + count ≤ longest_file =
-    subst (λ (k : ℕ). length (fed k room.events) + count ≤ longest_file) i.2 room.few in
-    let at = seen.2 in omega (arith, at, few)
-
--- the end of the file was reached
-pub gone_on_end : EventsTell → (start m n : PacketLines) (events : List Event) → m.line ≡ [] → m.phase ≡ Ends → m.rest ≡ []
-    → n.phase ≡ Finished → n.line ≡ count_line m.count → n.at ≡ m.at → n.count ≡ m.count → Comes start events m
-    → Comes start (events ++ Gave [] ∷ []) n
-gone_on_end law start m n events idle ends none done line at count c =
-    let s = c.shown in
-    let more = law.given [] events in
-    let g = given_of m.phase s.told s.next m.line (gave events) (open_is Ends m.phase ends tt) s.given in
-    let behind = subst (λ (p : Phase). Behind p m.rest s.rest (has_ended 0 events)) ends s.behind in
-    let all : gave (events ++ Gave [] ∷ []) ≡ lines_of 0 (s.told ++ s.next) = more.gave ∙ append-nil (gave events)
-    ∙ told_all s.told s.next m.line (gave events) idle g.0 g.1 in
-    record {
-      fresh = c.fresh;
-      shown = record {
-        told = s.told ++ s.next;
-        next = [];
-        rest = [];
-        packs = subst (λ (l : List (List ℕ)). Packs (fed 0 (events ++ Gave [] ∷ [])) l []) (sym (append-nil (s.told ++ s.next)))
-            (subst (λ (l : List ℕ). Packs l (s.told ++ s.next) []) (sym (more.fed 0))
-            (subst (λ (l : List ℕ). Packs (fed 0 events) (s.told ++ s.next) l) (behind.0 ∙ none) s.packs));
-        place = at ∙ s.place ∙ ap bytes_in (sym (append-nil (s.told ++ s.next)));
-        number = count ∙ s.number ∙ ap length (sym (append-nil (s.told ++ s.next)));
-        behind = subst (λ (p : Phase). Behind p n.rest [] (has_ended 0 (events ++ Gave [] ∷ []))) (sym done)
-            (refl, more.ended 0 ∙ behind.1);
-        given = subst (λ (p : Phase). Given p (s.told ++ s.next) [] n.line (gave (events ++ Gave [] ∷ []))) (sym done)
-            (refl, inl (line ∙ ap count_line s.number, all));
-      };
-    }
-
--- a packet of the last bytes was seen
-pub gone_on_packet : EventsTell → (start m n : PacketLines) (events : List Event) (len : ℕ) → m.line ≡ [] → m.phase ≡ Ends
-    → n.phase ≡ m.phase → n.rest ≡ drop len m.rest → n.at ≡ m.at + len → n.count ≡ m.count + 1 → IsFront m.rest m.at n.line len
-    → Comes start events m
-    → Comes start (events ++ Gave [] ∷ []) n
-gone_on_packet law start m n events len idle ends same rest at count f c =
-    let s = c.shown in
-    let more = law.given [] events in
-    let behind = subst (λ (p : Phase). Behind p m.rest s.rest (has_ended 0 events)) ends s.behind in
-    let begins : Begins s.rest f.packet = subst (λ (l : List ℕ). Begins l f.packet) (sym behind.0) f.begins in
-    let left : drop (length f.packet) s.rest ≡ n.rest = ap (drop (length f.packet)) behind.0
-    ∙ ap (λ (k : ℕ). drop k m.rest) (sym f.size) ∙ sym rest in
-    record {
-      fresh = c.fresh;
-      shown = seen_more m n events (events ++ Gave [] ∷ []) m.rest (drop (length f.packet) s.rest) len idle
-          (open_is Ends m.phase ends tt) (open_is Ends n.phase (same ∙ ends) tt) at count f s
-          (subst (λ (l : List ℕ). Packs l ((s.told ++ s.next) ++ f.packet ∷ []) (drop (length f.packet) s.rest))
-          (sym (more.fed 0)) (packs_more (fed 0 events) s.rest (s.told ++ s.next) f.packet s.packs begins))
-          (more.gave ∙ append-nil (gave events))
-          (subst (λ (p : Phase). Behind p n.rest (drop (length f.packet) s.rest) (has_ended 0 (events ++ Gave [] ∷ [])))
-          (sym (same ∙ ends)) (left, more.ended 0 ∙ behind.1));
-    }
-
--- no packet begins the last bytes
-pub gone_on_refused : EventsTell → (start m n : PacketLines) (events : List Event) (why : PacketWhy) → m.line ≡ []
-    → m.phase ≡ Ends → m.rest ≢ [] → n.phase ≡ Refused why → n.line ≡ m.line → n.at ≡ m.at → n.count ≡ m.count
-    → RefusesFront m.rest why
-    → Comes start events m → Comes start (events ++ Gave [] ∷ []) n
-gone_on_refused law start m n events why idle ends some refused quiet at count r c =
-    let s = c.shown in
-    let more = law.given [] events in
-    let behind = subst (λ (p : Phase). Behind p m.rest s.rest (has_ended 0 events)) ends s.behind in
-    record {
-      fresh = c.fresh;
-      shown = seen_same m n events (events ++ Gave [] ∷ []) m.rest idle (quiet ∙ idle) (open_is Ends m.phase ends tt)
-          (open_is (Refused why) n.phase refused tt) at count s
-          (subst (λ (l : List ℕ). Packs l (s.told ++ s.next) m.rest) (sym (more.fed 0))
-          (subst (λ (l : List ℕ). Packs (fed 0 events) (s.told ++ s.next) l) behind.0 s.packs))
-          (more.gave ∙ append-nil (gave events))
-          (subst (λ (p : Phase). Behind p n.rest m.rest (has_ended 0 (events ++ Gave [] ∷ []))) (sym refused)
-          ((some, r), inl (more.ended 0 ∙ behind.1)));
-    }
+-- the packet under way is short
+pub is_short : (m : PacketLines) (input count : ℕ) → HasRoom Comes m input count → m.phase ≡ Reads → IsShort m.bytes.items
+is_short m input count room reads =
+    let b = under_way m room.events reads room.came.shown in
+    subst IsShort b.0 b.1
 
 -- the lines of the next packets go behind
 lines_next : (told next : List (List ℕ)) (line text : List ℕ) → text ≡ lines_of 0 told → line ≡ lines_of (bytes_in told) next
@@ -332,13 +340,11 @@ line_given Finished told next line text now some is (none, inl waits) =
 line_given Finished told next line text now some is (none, inr given) = absurd (some given.0)
 line_given Reads told next line text now some is g =
     (told ++ next, [], append-nil (told ++ next), (is ∙ lines_next told next line text g.0 g.1, refl))
-line_given Ends told next line text now some is g =
-    (told ++ next, [], append-nil (told ++ next), (is ∙ lines_next told next line text g.0 g.1, refl))
 line_given (Refused why) told next line text now some is g =
     (told ++ next, [], append-nil (told ++ next), (is ∙ lines_next told next line text g.0 g.1, refl))
 
 pub gave_line : EventsTell → (start m n : PacketLines) (events : List Event) (bytes : List ℕ) → m.line ≢ [] → bytes ≡ m.line
-    → n.line ≡ [] → n.phase ≡ m.phase → n.rest ≡ m.rest → n.at ≡ m.at → n.count ≡ m.count → Comes start events m
+    → n.line ≡ [] → n.phase ≡ m.phase → n.bytes.items ≡ m.bytes.items → n.at ≡ m.at → n.count ≡ m.count → Comes start events m
     → Comes start (events ++ Gave bytes ∷ []) n
 gave_line law start m n events bytes some is none phase rest at count c =
     let s = c.shown in
@@ -353,16 +359,19 @@ gave_line law start m n events bytes some is none phase rest at count c =
         rest = s.rest;
         packs = subst (λ (l : List (List ℕ)). Packs (fed 0 (events ++ Gave bytes ∷ [])) l s.rest) (sym g.2)
             (subst (λ (l : List ℕ). Packs l (s.told ++ s.next) s.rest) (sym (more.fed 0)) s.packs);
-        place = at ∙ s.place ∙ ap bytes_in (sym g.2);
+        place = at ∙ s.place ∙ ap length (sym (more.fed 0));
         number = count ∙ s.number ∙ ap length (sym g.2);
         behind = rw (phase, rest, more.ended 0) s.behind;
         given = rw (phase, none) g.3;
       };
     }
 
-pub is_some : {b : Bool} → IsTrue b → b ≡ false → ⊥
-is_some {b = true} t e = let f : true ≡ false = e in cc
-is_some {b = false} t e = search (rules, t)
+-- a machine that gives has a line
+pub gives_line : (line : List ℕ) (phase : Phase) → next_from line phase ≡ Give → line ≢ []
+gives_line [] Reads e = absurd (let f : Read 0 1 BUFFER ≡ Give = e in cc)
+gives_line [] (Refused why) e = absurd (let f : End ≡ Give = e in cc)
+gives_line [] Finished e = absurd (let f : End ≡ Give = e in cc)
+gives_line (c ∷ line) phase e = λ none. cc
 
 -- nothing was done yet
 pub comes_first : (m : PacketLines) → IsNew m → Comes m [] m
@@ -375,7 +384,8 @@ comes_first m fresh = record {
     packs = refl;
     place = fresh.at;
     number = fresh.count;
-    behind = subst (λ (p : Phase). Behind p m.rest [] false) (sym fresh.phase) (refl, refl);
+    behind = subst (λ (p : Phase). Behind p m.bytes.items [] false) (sym fresh.phase)
+        (sym fresh.bytes, inl (omega arith), refl);
     given = subst (λ (p : Phase). Given p [] [] m.line []) (sym fresh.phase) (refl, fresh.line);
   };
 }

@@ -1,14 +1,12 @@
 -- What the lines of packets tell of the file: the packets that were met, and what stands behind them.
-use Rattle.std.proofs.Common.{◌≡◌, ℕ, ◌+◌, ◌<◌, ◌≤◌, Bool, true, List, [], ◌∷◌, ◌++◌, length, refl, ap, sym}
+use Rattle.std.proofs.Common.{◌≡◌, ℕ, ◌+◌, ◌-◌, ◌<◌, ◌≤◌, Bool, true, List, [], ◌∷◌, ◌++◌, length, refl, ap, sym}
 use Rattle.std.proofs.Common.{subst, ◌∙◌, inl, inr, arith, append-nil, length-append}
 use Rattle.std.specs.Fmt.{decimal}
 use Rattle.std.specs.Prelude.{codes, ◌⊎◌, Ok, Err}
-use Rattle.std.proofs.lemmas.List.{nil_from_length}
 use Rattle.ports.specs.declared.counts.Counts.{Counts}
 use Rattle.ports.specs.Desk.{State}
 use Rattle.desk_io.specs.Faults.{ReadsFail}
-use Rattle.t2mi_packet.specs.Laws.{FrontRefusal}
-use Rattle.t2mi_packet.specs.declared.reading.TheConstants.{LARGEST}
+use Rattle.desk_io.specs.Opening.{Opened, Unopened}
 use Rattle.t2mi_packet.specs.declared.fault.PacketWhy.{PacketWhy}
 use Rattle.desk_io.specs.declared.page.TheConstants.{PAGE}
 use Rattle.file_run.specs.Events.{Event, fed, has_ended, gave}
@@ -17,15 +15,16 @@ use Rattle.file_run.specs.Steps.{Needs, FallsShort}
 use Rattle.file_run.specs.Telling.{StartsWith, ReadsFailAtLeast}
 use Rattle.file_run.specs.declared.machine.Step.TheVariants.{Give, End}
 use Rattle.show_run.specs.PacketFile.{Packs, IsRefused}
-use Rattle.show_run.specs.PacketLines.{next_from, next_of, Behind, Given, Shown, Comes}
-use Rattle.show_run.specs.PacketText.{AreFirst, LacksFew, SaysMet, IsPacketText}
+use Rattle.show_run.specs.PacketLines.{next_from, next_of, IsWhole, Behind, Given, Shown, Comes}
+use Rattle.show_run.specs.PacketText.{AreFirst, Met, LacksFew, SaysMet, IsPacketText}
 use Rattle.show_run.specs.SaidLines.{lines_of, count_line}
 use Rattle.show_run.specs.declared.packet_lines.PacketLines.{PacketLines}
 use Rattle.show_run.specs.declared.packet_lines.Phase.{Phase}
-use Rattle.show_run.specs.declared.packet_lines.Phase.TheVariants.{Reads, Ends, Refused, Finished}
+use Rattle.show_run.specs.declared.packet_lines.Phase.TheVariants.{Reads, Refused, Finished}
 use Rattle.show_run.specs.declared.stop.ShowStop.TheVariants.{PacketRefused}
-use Rattle.show_run.proofs.PacketFileLemmas.{packs_first}
-use Rattle.show_run.proofs.PacketLinesLemmas.{packs_on, all_seen, told_all}
+use Rattle.show_run.proofs.PacketFileLemmas.{packs_first, file_len}
+use Rattle.show_run.proofs.PacketFrontLemmas.{refused_whole}
+use Rattle.show_run.proofs.PacketLinesLemmas.{packs_on, under_way, told_all}
 
 -- bytes that were fed are a front of the file
 pub packs_file : (file front more rest : List ℕ) (ps : List (List ℕ)) → file ≡ front ++ more → Packs front ps rest
@@ -37,7 +36,6 @@ packs_file file front more rest ps is h =
 first_lines : (phase : Phase) (told next : List (List ℕ)) (line text : List ℕ) → next_from line phase ≡ Give
     → Given phase told next line text → text ≡ lines_of 0 told
 first_lines Reads told next line text gives g = g.0
-first_lines Ends told next line text gives g = g.0
 first_lines (Refused why) told next line text gives g = g.0
 first_lines Finished told next [] text gives g = absurd (let e : End ≡ Give = gives in cc)
 first_lines Finished told next (c ∷ line) text gives (none, inl waits) = waits.1
@@ -62,27 +60,38 @@ said_first start file early mid starts came (inr gives) =
     first_of_file file mid early starts came.shown
     (first_lines mid.phase came.shown.told came.shown.next mid.line (gave early) gives came.shown.given)
 
-pub fails_only : (old new : State) → ReadsFail old new → ReadsFailAtLeast old new
+fails_only : (old new : State) → ReadsFail old new → ReadsFailAtLeast old new
 fails_only old new f = record {
   rose = f.rose;
+  first = f.first;
   reads = f.later;
   writes = (let e = ap (λ (k : Counts). k.writes) f.others in omega (arith, e));
   lines = ap (λ (k : Counts). k.lines) f.others;
 }
 
+-- a file that could not be opened, and one that was
+pub closed_counted : (old new : State) → ReadsFail old new → ReadsFailAtLeast old new × (Unopened old new → ReadsFail old new)
+closed_counted old new f = (fails_only old new f, λ closed. f)
+
+pub opened_counted : (old new : State) (name : List ℕ) (given : ℕ) → Opened old new name given → ReadsFailAtLeast old new
+    → ReadsFailAtLeast old new × (Unopened old new → ReadsFail old new)
+opened_counted old new name given o f = (
+  f,
+  λ closed. let n = ap length (sym closed.opened ∙ o.opened) in let k = length-append old.opened (given ∷ []) in
+      absurd (omega (arith, n, k)),
+)
+
 -- a machine that wants bytes reads packets, and no line waits
 pub needs_reads : (line : List ℕ) (phase : Phase) (count : ℕ) → Needs (next_from line phase) 0 count → (line ≡ [])
-    × (phase ≡ Reads) × (count ≤ LARGEST)
+    × (phase ≡ Reads) × (count ≤ 1)
 needs_reads [] Reads count r = (refl, refl, r.1)
-needs_reads [] Ends count r = absurd r
 needs_reads [] (Refused why) count r = absurd r
 needs_reads [] Finished count r = absurd r
 needs_reads (c ∷ line) phase count r = absurd r
 
 pub short_reads : (line : List ℕ) (phase : Phase) (count : ℕ) → FallsShort (next_from line phase) 0 count → (line ≡ [])
-    × (phase ≡ Reads) × (count < LARGEST)
+    × (phase ≡ Reads) × (count < 1)
 short_reads [] Reads count r = (refl, refl, r.1)
-short_reads [] Ends count r = absurd r
 short_reads [] (Refused why) count r = absurd r
 short_reads [] Finished count r = absurd r
 short_reads (c ∷ line) phase count r = absurd r
@@ -98,25 +107,42 @@ quiet m events none reads s =
     let g = subst (λ (p : Phase). Given p s.told s.next m.line (gave events)) reads s.given in
     told_all s.told s.next m.line (gave events) none g.0 g.1
 
+-- what was met of a file is what was fed
+unfoldable met_of : (file : List ℕ) (m : PacketLines) (events : List Event) → m.phase ≡ Reads → (s : Shown m events)
+    → StartsWith file (fed 0 events) (has_ended 0 events) → Met file
+met_of file m events reads s starts = record {
+  front = fed 0 events;
+  more = starts.0;
+  parts = starts.1;
+  packets = s.told ++ s.next;
+  behind = s.rest;
+  packs = s.packs;
+  short = (under_way m events reads s).1;
+}
+
 -- all packets that were seen of a file were told
 pub all_met : (file : List ℕ) (m : PacketLines) (events : List Event) (place : ℕ) → m.line ≡ [] → m.phase ≡ Reads
-    → (s : Shown m events) → StartsWith file (fed 0 events) (has_ended 0 events) → place ≤ length (fed 0 events) + LARGEST
-    → SaysMet file place (gave events)
-all_met file m events place none reads s starts near =
-    let seen = all_seen m events reads s in
-    let at = s.place in
-    let all = seen.2 in (
-      s.told ++ s.next,
-      s.rest ++ starts.0,
-      packs_file file (fed 0 events) starts.0 s.rest (s.told ++ s.next) starts.1 s.packs,
-      omega (arith, near, at, all),
-      quiet m events none reads s,
-    )
+    → (s : Shown m events) → StartsWith file (fed 0 events) (has_ended 0 events) → length (fed 0 events) ≤ place
+    → place ≤ length (fed 0 events) + 1 → SaysMet file place (gave events)
+unfolding met_of
+all_met file m events place none reads s starts ahead near =
+    (met_of file m events reads s starts, ahead, near, quiet m events none reads s)
 
 -- of the lines of these packets the first were said
-pub some_met : (file : List ℕ) (given : ℕ) (all text unsaid : List ℕ) → SaysMet file given all → all ≡ text ++ unsaid
-    → length unsaid ≤ PAGE → LacksFew file given text
-some_met file given all text unsaid s parts few = (s.0, s.1, s.2, s.3, (unsaid, sym s.4 ∙ parts, few))
+pub some_met : (file : List ℕ) (m : PacketLines) (events : List Event) (place : ℕ) (text unsaid : List ℕ) → m.line ≡ []
+    → m.phase ≡ Reads → (s : Shown m events) → StartsWith file (fed 0 events) (has_ended 0 events)
+    → place ≡ length (fed 0 events) → gave events ≡ text ++ unsaid → length unsaid ≤ PAGE → LacksFew file place text
+unfolding met_of
+some_met file m events place text unsaid none reads s starts is parts few =
+    (met_of file m events reads s starts, is, (unsaid, sym (quiet m events none reads s) ∙ parts, few))
+
+-- nothing was met
+pub none_met : (file : List ℕ) → LacksFew file 0 []
+none_met file = (
+  record { front = []; more = file; parts = refl; packets = []; behind = []; packs = refl; short = inl (omega arith) },
+  refl,
+  ([], refl, omega arith),
+)
 
 pub all_first : (file : List ℕ) (m : PacketLines) (events : List Event) → m.line ≡ [] → m.phase ≡ Reads → (s : Shown m events)
     → StartsWith file (fed 0 events) (has_ended 0 events) → AreFirst file (gave events)
@@ -150,7 +176,7 @@ pub finished_text : (file : List ℕ) (place : ℕ) (m : PacketLines) (events : 
     → m.phase ≡ Finished → (s : Shown m events) → IsFed file place (fed 0 events) (has_ended 0 events) → gave events ≡ early
     → IsPacketText file place (Ok m.count) early
 finished_text file place m events early none done s f text =
-    let behind = subst (λ (p : Phase). Behind p m.rest s.rest (has_ended 0 events)) done s.behind in
+    let behind = subst (λ (p : Phase). Behind p m.bytes.items s.rest (has_ended 0 events)) done s.behind in
     let all =
     ended_all s.told s.next m.line (gave events) none
     (subst (λ (p : Phase). Given p s.told s.next m.line (gave events)) done s.given) in
@@ -169,26 +195,26 @@ finished_text file place m events early none done s f text =
     )
 
 -- what is no packet is none in the whole file
-refused_on : FrontRefusal → (front more : List ℕ) (why : PacketWhy) (ended : Bool) → (ended ≡ true) ⊎ (LARGEST ≤ length front)
+refused_on : (front more : List ℕ) (why : PacketWhy) (ended : Bool) → (ended ≡ true) ⊎ IsWhole front
     → (ended ≡ true → more ≡ []) → IsRefused front why → IsRefused (front ++ more) why
-refused_on law front more why ended (inl on) end r =
+refused_on front more why ended (inl on) end r =
     subst (λ (l : List ℕ). IsRefused l why) (sym (ap (λ (l : List ℕ). front ++ l) (end on) ∙ append-nil front)) r
-refused_on law front more why ended (inr many) end r = (
-  (λ e. r.0 (nil_from_length front (let n = ap length e in let m = length-append front more in omega (arith, n, m)))),
-  (r.1.0, law front more r.1.0 many r.1.1, r.1.2),
-)
+refused_on front more why ended (inr whole) end r = refused_whole front more why whole r
 
-pub refused_text : FrontRefusal → (file : List ℕ) (place : ℕ) (m : PacketLines) (events : List Event) (early : List ℕ)
+pub refused_text : (file : List ℕ) (place : ℕ) (m : PacketLines) (events : List Event) (early : List ℕ)
     (why : PacketWhy) → m.line ≡ [] → m.phase ≡ Refused why → (s : Shown m events)
     → IsFed file place (fed 0 events) (has_ended 0 events)
-    → gave events ≡ early → IsPacketText file place (Err (PacketRefused m.at why)) early
-refused_text law file place m events early why none refused s f text =
-    let behind = subst (λ (p : Phase). Behind p m.rest s.rest (has_ended 0 events)) refused s.behind in
+    → gave events ≡ early → IsPacketText file place (Err (PacketRefused (m.at - length m.bytes.items) why)) early
+refused_text file place m events early why none refused s f text =
+    let behind = subst (λ (p : Phase). Behind p m.bytes.items s.rest (has_ended 0 events)) refused s.behind in
+    let size = file_len (fed 0 events) s.rest (s.told ++ s.next) s.packs in
+    let same = ap length behind.0 in
+    let at = s.place in
     let g = subst (λ (p : Phase). Given p s.told s.next m.line (gave events)) refused s.given in (
       s.told ++ s.next,
       s.rest ++ f.more,
       packs_file file (fed 0 events) f.more s.rest (s.told ++ s.next) f.parts s.packs,
-      refused_on law s.rest f.more why (has_ended 0 events) behind.1 f.end behind.0,
-      s.place,
+      refused_on s.rest f.more why (has_ended 0 events) behind.2 f.end behind.1,
+      omega (arith, size, same, at),
       sym text ∙ told_all s.told s.next m.line (gave events) none g.0 g.1,
     )

@@ -1,5 +1,5 @@
 -- What was told of the lines of packets is what a file of packets asks for.
-use Rattle.std.proofs.Common.{◌≡◌, ◌≢◌, ℕ, ◌+◌, List, [], ◌++◌, length, refl, ap, sym, subst, ◌∙◌, inl, inr, arith}
+use Rattle.std.proofs.Common.{◌≡◌, ◌≢◌, ℕ, ◌+◌, ◌-◌, List, [], ◌++◌, length, refl, ap, sym, subst, ◌∙◌, inl, inr, arith}
 use Rattle.std.proofs.Common.{append-nil, length-append}
 use Rattle.std.specs.Prelude.{◌⊎◌, IfSome, Result, Err}
 use Rattle.std.proofs.lemmas.List.{nil_from_length}
@@ -8,8 +8,7 @@ use Rattle.terms.proofs.OptionLemmas.{if_any, if_both, append-none}
 use Rattle.ports.specs.Desk.{State, Held, bytes_of}
 use Rattle.desk_io.specs.Reading.{longest_file}
 use Rattle.desk_io.specs.declared.input.TheConstants.{BUFFER}
-use Rattle.t2mi_packet.specs.Laws.{FrontRefusal, OnePacket, NoRefusal, PacketLength}
-use Rattle.t2mi_packet.specs.declared.reading.TheConstants.{LARGEST}
+use Rattle.t2mi_packet.specs.Laws.{OnePacket, NoRefusal, PacketLength}
 use Rattle.t2mi_packet.specs.declared.fault.PacketWhy.{PacketWhy}
 use Rattle.file_run.specs.Events.{Event, fed, has_ended, gave}
 use Rattle.file_run.specs.FileRun.{IsFed}
@@ -24,21 +23,23 @@ use Rattle.show_run.specs.Shows.{Shows}
 use Rattle.show_run.specs.Told.{StopsLines}
 use Rattle.show_run.specs.declared.packet_lines.PacketLines.{PacketLines}
 use Rattle.show_run.specs.declared.packet_lines.Phase.{Phase}
-use Rattle.show_run.specs.declared.packet_lines.Phase.TheVariants.{Reads, Ends, Refused, Finished}
+use Rattle.show_run.specs.declared.packet_lines.Phase.TheVariants.{Reads, Refused, Finished}
 use Rattle.show_run.specs.declared.stop.ShowStop.{ShowStop}
 use Rattle.show_run.specs.declared.stop.ShowStop.TheVariants.{PacketRefused, RecordRefused, Files, OutOfMemory, NoRoom}
 use Rattle.show_run.proofs.EndLemmas.{packs_within, same_packets}
 use Rattle.show_run.proofs.PacketFileLemmas.{packs_first, lines_of-append}
-use Rattle.show_run.proofs.PacketMetLemmas.{packs_file, none_first, said_first, fails_only, needs_reads, short_reads}
-use Rattle.show_run.proofs.PacketMetLemmas.{starts_fed, all_met, some_met, all_first, ends_idle, finished_text, refused_text}
+use Rattle.show_run.proofs.PacketMetLemmas.{packs_file, none_first, said_first, closed_counted, opened_counted, needs_reads}
+use Rattle.show_run.proofs.PacketMetLemmas.{short_reads, starts_fed, all_met, some_met, none_met, all_first, ends_idle}
+use Rattle.show_run.proofs.PacketMetLemmas.{finished_text, refused_text}
 
 abbrev shows : State → State → List ℕ → Result ℕ ShowStop → Type 0
 shows old new name result = Shows IsPacketText old new name result
 
 -- a run to the end
-pub shows_end : FrontRefusal → (start now : PacketLines) (old new : State) (name : List ℕ)
-    → TellsAll (Comes start) next_of old new name now → shows old new name (packets_end now.phase now.at now.count)
-shows_end law start now old new name t = go now.phase refl
+pub shows_end : (start now : PacketLines) (old new : State) (name : List ℕ)
+    → TellsAll (Comes start) next_of old new name now
+    → shows old new name (packets_end now.phase (now.at - length now.bytes.items) now.count)
+shows_end start now old new name t = go now.phase refl
   where
     x : Tells (Comes start) next_of old new name now t.place []
     x = t.tells
@@ -49,19 +50,16 @@ shows_end law start now old new name t = go now.phase refl
     text : gave x.events ≡ gave x.early
     text = x.parts ∙ append-nil (gave x.early)
 
-    go : (p : Phase) → now.phase ≡ p → shows old new name (packets_end p now.at now.count)
+    go : (p : Phase) → now.phase ≡ p → shows old new name (packets_end p (now.at - length now.bytes.items) now.count)
     go Reads is =
-        absurd (let e : Read 0 LARGEST BUFFER ≡ End = subst (λ (p : Phase). next_from [] p ≡ End) is
-        (subst (λ (l : List ℕ). next_from l now.phase ≡ End) idle t.end) in cc)
-    go Ends is =
-        absurd (let e : Give ≡ End = subst (λ (p : Phase). next_from [] p ≡ End) is
+        absurd (let e : Read 0 1 BUFFER ≡ End = subst (λ (p : Phase). next_from [] p ≡ End) is
         (subst (λ (l : List ℕ). next_from l now.phase ≡ End) idle t.end) in cc)
     go (Refused why) is = record {
       given = t.place;
       text = gave x.early;
       reads = (x.opened, t.short);
       grew = x.said;
-      lines = IfSome_then old.held x.inputs (λ held f. refused_text law (bytes_of held.files name) t.place now x.events
+      lines = IfSome_then old.held x.inputs (λ held f. refused_text (bytes_of held.files name) t.place now x.events
           (gave x.early) why idle is x.came.shown f text);
       counts = t.counts;
     }
@@ -98,7 +96,6 @@ some_said start now old new name place unsaid x reads =
 told_lines : (phase : Phase) (told next : List (List ℕ)) (line text : List ℕ) → Given phase told next line text
     → (text ≡ lines_of 0 told) ⊎ (phase ≡ Finished)
 told_lines Reads told next line text g = inl g.0
-told_lines Ends told next line text g = inl g.0
 told_lines (Refused why) told next line text g = inl g.0
 told_lines Finished told next line text g = inr refl
 
@@ -118,7 +115,7 @@ none_refused : OnePacket → NoRefusal → PacketLength → (file : List ℕ) (p
     → IsFed file place (fed 0 events) (has_ended 0 events)
     → Shown m events → Packs file packets rest → ¬ (IsRefused rest why)
 none_refused one none sizes file place m events packets rest why done f s packs refused =
-    let behind = subst (λ (p : Phase). Behind p m.rest s.rest (has_ended 0 events)) done s.behind in
+    let behind = subst (λ (p : Phase). Behind p m.bytes.items s.rest (has_ended 0 events)) done s.behind in
     let all = packs_file file (fed 0 events) f.more s.rest (s.told ++ s.next) f.parts s.packs in
     let nothing : s.rest ++ f.more ≡ [] = ap (λ (l : List ℕ). l ++ f.more) behind.0 ∙ f.end behind.1 in
     refused.0
@@ -183,7 +180,7 @@ shows_stop one none sizes start now old new name (Files (TooLong input)) s =
         (let w = f.within in w),
         subst (λ (l : List ℕ). SaysMet (bytes_of held.files name) longest_file l) (x.parts ∙ append-nil (gave x.early))
             (all_met (bytes_of held.files name) now x.events longest_file r.0 r.1 x.came.shown (starts_fed _ _ _ _ f)
-            (let n = r.2 in omega (arith, n))),
+            f.ahead (let n = r.2 in omega (arith, n))),
       ));
       counts = t.counts;
     }
@@ -194,11 +191,8 @@ shows_stop one none sizes start now old new name (Files (ReadFault input)) s = e
     reads = (s.0, inl (closed.1, refl));
     grew = closed.1.said ∙ append-none old.said;
     lines = if_any old.held _
-        (λ held. (
-          ([], bytes_of held.files name, refl, omega arith, ([], refl, omega arith)),
-          none_first (bytes_of held.files name),
-        ));
-    counts = fails_only old new closed.0;
+        (λ held. (none_met (bytes_of held.files name), none_first (bytes_of held.files name)));
+    counts = closed_counted old new closed.0;
   }
   | inr some ↦
       let t = some.1 in
@@ -210,11 +204,11 @@ shows_stop one none sizes start now old new name (Files (ReadFault input)) s = e
         reads = (s.0, inr (x.opened, t.short));
         grew = x.said;
         lines = if_both old.held _ _ _ (λ held f first. (
-          some_met _ _ _ (gave x.early) t.unsaid (all_met (bytes_of held.files name) now x.events t.place r.0 r.1 x.came.shown
-              (starts_fed _ _ _ _ f) (let d = r.2 in omega (arith, d))) x.parts x.waits.few,
+          some_met (bytes_of held.files name) now x.events t.place (gave x.early) t.unsaid r.0 r.1 x.came.shown
+              (starts_fed _ _ _ _ f) (let d = r.2 in let a = f.ahead in omega (arith, d, a)) x.parts x.waits.few,
           first,
         )) x.inputs (some_said start now old new name t.place t.unsaid x (λ none. (r.0, r.1)));
-        counts = some.0;
+        counts = opened_counted old new name t.place x.opened some.0;
       }
 ]
 shows_stop one none sizes start now old new name (Files WriteFault) s =

@@ -1,11 +1,12 @@
 -- What of a stream is wanted, and what is known once it has ended.
-use Rattle.std.proofs.Common.{◌≡◌, ℕ, ◌+◌, ◌-◌, ◌<◌, Bool, true, false, cond, List, [], ◌∷◌, ◌++◌, length, take, drop, map, refl}
-use Rattle.std.proofs.Common.{ap, sym, subst, ◌∙◌, inl, inr, arith, append_assoc, append-nil, length-append}
+use Rattle.std.proofs.Common.{◌≡◌, ℕ, ◌+◌, ◌-◌, ◌<◌, ◌≤◌, Bool, true, false, cond, List, [], ◌∷◌, ◌++◌, length, take, drop, map}
+use Rattle.std.proofs.Common.{refl, ap, sym, subst, ◌∙◌, inl, inr, arith, append_assoc, append-nil, length-append}
 use Rattle.std.specs.Prelude.{◌⊎◌, nat_lt}
 use Rattle.std.proofs.lemmas.List.{length-map, nil_from_length}
 use Rattle.std.proofs.lemmas.Bool.{ltb-false}
 use Rattle.std.proofs.Math.ListN.{drop_of_length-le}
 use Rattle.std.proofs.Math.Seq.{take-length, take-append_seam}
+use Rattle.desk_io.specs.Reading.{longest_file}
 use Rattle.desk_io.specs.declared.input.TheConstants.{BUFFER}
 use Rattle.ts_packet.specs.declared.sizes.TheConstants.{SIZE}
 use Rattle.ts_packet.specs.Told.{fields_in}
@@ -16,8 +17,9 @@ use Rattle.t2mi_stream.specs.Units.{accepted_of}
 use Rattle.t2mi_stream.specs.UnpiperStandsFor.{UnpiperStandsFor, is_ready, AllReleased}
 use Rattle.file_run.specs.Events.{Event, Fed, Ended, fed, has_ended, gave}
 use Rattle.file_run.specs.Laws.{EventsTell}
-use Rattle.file_run.specs.Steps.{Suffices, FallsShort}
-use Rattle.file_run.specs.declared.machine.Step.TheVariants.{Read, Give}
+use Rattle.file_run.specs.Steps.{Suffices, FallsShort, Needs}
+use Rattle.file_run.specs.declared.machine.Step.{Step}
+use Rattle.file_run.specs.declared.machine.Step.TheVariants.{Read, Give, End}
 use Rattle.show_run.specs.SaidLines.{count_line}
 use Rattle.show_run.specs.T2miLines.{next_in, next_of, packets_from, Unpiping, Comes}
 use Rattle.show_run.specs.T2miText.{place_lines}
@@ -67,6 +69,24 @@ behind_all law m all text ended f more =
     ap t2mi_packets_in whole ∙ law f.front rest f.pid f.none (omega (arith, n, k, w))
     (ap (λ (l : List ℕ). pid_of (fields_in l)) unit ∙ f.tells)
 
+-- all packets of what came were given, if none waits and no byte of the unit that told the PID is left
+given_all : PacketsBehind → (m : T2miLines) (all text : List ℕ) (ended : Bool) (f : Unpiping m all text ended)
+    → drop m.from m.unit ≡ []
+    → ((p : ℕ) (events : List stream.UnpiperEvent) → UnpiperStandsFor m.unpiper p events → AllReleased p events)
+    → (length (t2mi_packets_in all) ≡ m.count) × (text ≡ place_lines (t2mi_packets_in all))
+given_all behind m all text ended f held released =
+    let u = f.unpiped in
+    let packets = packets_from f.pid (length f.front) f.bytes in
+    let given : length (accepted_of f.pid f.bytes) ≡ m.count = ap (λ (l : List ℕ). length (accepted_of f.pid l)) (sym u.fed_are)
+    ∙ released f.pid u.events u.stands ∙ u.number in
+    let rest : (f.bytes ++ drop m.from m.unit) ++ [] ≡ f.bytes = append-nil (f.bytes ++ drop m.from m.unit)
+    ∙ ap (λ (l : List ℕ). f.bytes ++ l) held ∙ append-nil f.bytes in
+    let are : t2mi_packets_in all ≡ packets = ap t2mi_packets_in (sym (append-nil all)) ∙ behind_all behind m all text ended f []
+    ∙ ap (λ (l : List ℕ). map (further (length f.front)) (accepted_of f.pid l)) rest in
+    let many : length packets ≡ m.count = length-map (accepted_of f.pid f.bytes) (further (length f.front)) ∙ given in
+    let whole : take m.count packets ≡ packets = ap (λ (j : ℕ). take j packets) (sym many) ∙ take-length packets in
+    (ap length are ∙ many, f.lines ∙ ap place_lines (whole ∙ sym are))
+
 -- the file has ended behind the unit that told the PID
 ended_unpiping : EventsTell → PacketsBehind → (start m n : T2miLines) (events : List Event) (bytes : List ℕ) → m.search ≡ Unpipes
     → bytes ≡ [] → drop m.from m.unit ≡ [] → ((p : ℕ) (events : List stream.UnpiperEvent) → UnpiperStandsFor m.unpiper p events
@@ -76,20 +96,9 @@ ended_unpiping : EventsTell → PacketsBehind → (start m n : T2miLines) (event
 ended_unpiping law behind start m n events bytes unpipes none held released done at count line c =
     let f = found_in m _ _ _ Unpipes unpipes c.shown.found in
     let more = law.ended 0 bytes events in
-    let u = f.unpiped in
-    let given : length (accepted_of f.pid f.bytes) ≡ m.count = ap (λ (l : List ℕ). length (accepted_of f.pid l)) (sym u.fed_are)
-    ∙ released f.pid u.events u.stands ∙ u.number in
-    let rest : (f.bytes ++ drop m.from m.unit) ++ [] ≡ f.bytes = append-nil (f.bytes ++ drop m.from m.unit)
-    ∙ ap (λ (l : List ℕ). f.bytes ++ l) held ∙ append-nil f.bytes in
-    let all : t2mi_packets_in (fed 0 (events ++ Ended 0 bytes ∷ [])) ≡ packets_from f.pid (length f.front) f.bytes =
-    ap t2mi_packets_in (more.here ∙ ap (λ (l : List ℕ). fed 0 events ++ l) none)
-    ∙ behind_all behind m (fed 0 events) (gave events) (has_ended 0 events) f []
-    ∙ ap (λ (l : List ℕ). map (further (length f.front)) (accepted_of f.pid l)) rest in
-    let many : length (packets_from f.pid (length f.front) f.bytes) ≡ m.count =
-    length-map (accepted_of f.pid f.bytes) (further (length f.front)) ∙ given in
-    let whole : take m.count (packets_from f.pid (length f.front) f.bytes) ≡ packets_from f.pid (length f.front) f.bytes =
-    ap (λ (j : ℕ). take j (packets_from f.pid (length f.front) f.bytes)) (sym many)
-    ∙ take-length (packets_from f.pid (length f.front) f.bytes) in
+    let g = given_all behind m (fed 0 events) (gave events) (has_ended 0 events) f held released in
+    let all : t2mi_packets_in (fed 0 (events ++ Ended 0 bytes ∷ [])) ≡ t2mi_packets_in (fed 0 events) =
+    ap t2mi_packets_in (more.here ∙ ap (λ (l : List ℕ). fed 0 events ++ l) none ∙ append-nil (fed 0 events)) in
     record {
       fresh = c.fresh;
       shown = record {
@@ -97,8 +106,8 @@ ended_unpiping law behind start m n events bytes unpipes none held released done
             omega (arith, at, p, l, k));
         found = found_as n _ _ _ Finished done (record {
           over = more.ended;
-          number = count ∙ sym many ∙ ap length (sym all);
-          lines = inl (line ∙ ap count_line (sym count), more.gave ∙ f.lines ∙ ap place_lines (whole ∙ sym all));
+          number = count ∙ sym g.0 ∙ ap length (sym all);
+          lines = inl (line ∙ ap count_line (sym count), more.gave ∙ g.1 ∙ ap place_lines (sym all));
         });
       };
     }
@@ -138,6 +147,66 @@ short_in Unpipes false left line input count s = go (nat_lt 0 left) refl s
         (sym s.0, inr (refl, refl, (let n = ltb-false 0 left is in omega (arith, n)), (let k = s.1 in omega (arith, k))))
 short_in Finished ready left [] input count s = absurd s
 short_in Finished ready left (c ∷ line) input count s = absurd s
+
+-- what it needs
+needs_in : (search : Search) (ready : Bool) (left : ℕ) (line : List ℕ) (count : ℕ)
+    → Needs (next_in search ready left line) 0 count → ((search ≡ Seeks) × (count ≤ SIZE))
+    ⊎ ((search ≡ Unpipes) × (ready ≡ false) × (left ≡ 0) × (count ≤ 1))
+needs_in Seeks ready left line count s = inl (refl, s.1)
+needs_in Unpipes true left line count s = absurd s
+needs_in Unpipes false left line count s = go (nat_lt 0 left) refl s
+  where
+    go : (b : Bool) → nat_lt 0 left ≡ b → Needs (cond b Give (Read 0 1 BUFFER)) 0 count → ((Unpipes ≡ Seeks) × (count ≤ SIZE))
+        ⊎ ((Unpipes ≡ Unpipes) × (false ≡ false) × (left ≡ 0) × (count ≤ 1))
+    go true is s = absurd s
+    go false is s = inr (refl, refl, (let n = ltb-false 0 left is in omega (arith, n)), s.1)
+needs_in Finished ready left [] count s = absurd s
+needs_in Finished ready left (c ∷ line) count s = absurd s
+
+-- if it needs bytes, the lines of all packets in those that came were given
+pub all_given : NoPackets → PacketsBehind → (start m : T2miLines) (events : List Event) (least : ℕ) → length m.unit ≡ SIZE
+    → (is_ready m.unpiper ≡ false → (p : ℕ) (events : List stream.UnpiperEvent) → UnpiperStandsFor m.unpiper p events
+    → AllReleased p events)
+    → Comes start events m → Needs (next_of m) 0 least → gave events ≡ place_lines (t2mi_packets_in (fed 0 events))
+all_given none behind start m events least size released c s =
+    elim (needs_in m.search (is_ready m.unpiper) (SIZE - m.from) m.line least s) [
+      | inl seeks ↦
+          let f = found_in m _ _ _ Seeks seeks.0 c.shown.found in
+          let empty : t2mi_packets_in (fed 0 events) ≡ [] = ap t2mi_packets_in (sym (append-nil (fed 0 events)))
+          ∙ none (fed 0 events) [] f.none (omega arith) in
+          f.silent ∙ ap place_lines (sym empty)
+      | inr unpipes ↦
+          let f = found_in m _ _ _ Unpipes unpipes.0 c.shown.found in
+          (given_all behind m (fed 0 events) (gave events) (has_ended 0 events) f
+          (drop_of_length-le m.unit (let l = unpipes.2 in omega (arith, l, size))) (released unpipes.1)).1
+    ]
+
+-- what was not gone through of a file that is too long is less than a unit
+pub near_needed : (start m : T2miLines) (events : List Event) → Comes start events m
+    → Needs (next_of m) 0 (longest_file - length (fed 0 events)) → longest_file < length (fed 0 events) + SIZE
+near_needed start m events c s =
+    elim (needs_in m.search (is_ready m.unpiper) (SIZE - m.from) m.line (longest_file - length (fed 0 events)) s) [
+      | inl seeks ↦
+          let f = found_in m _ _ _ Seeks seeks.0 c.shown.found in
+          let w = f.none.whole in
+          let few = seeks.1 in
+          omega (arith, w, few)
+      | inr unpipes ↦ (let few = unpipes.3 in omega (arith, few))
+    ]
+
+-- and of one that could not be read on
+pub near_short : (m : T2miLines) (place taken : ℕ) → FallsShort (next_of m) 0 (place - taken) → place < taken + SIZE
+near_short m place taken s =
+    elim (short_in m.search (is_ready m.unpiper) (SIZE - m.from) m.line 0 (place - taken) s).1 [
+      | inl seeks ↦ (let few = seeks.1 in omega (arith, few))
+      | inr unpipes ↦ (let none = unpipes.3 in omega (arith, none))
+    ]
+
+-- what falls short is needed
+pub short_needs : (step : Step) (count : ℕ) → FallsShort step 0 count → Needs step 0 count
+short_needs (Read of least most) count s = (s.0, (let few = s.1 in omega (arith, few)))
+short_needs Give count s = absurd s
+short_needs End count s = absurd s
 
 -- the file has ended
 pub ended : EventsTell → NoPackets → PacketsBehind → (start m n : T2miLines) (events : List Event) (input : ℕ) (bytes : List ℕ)

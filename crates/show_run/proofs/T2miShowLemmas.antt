@@ -3,6 +3,7 @@ use Rattle.std.proofs.Common.{◌≡◌, ◌≢◌, ℕ, ◌-◌, Bool, true, fa
 use Rattle.std.proofs.Common.{sym, subst, ◌∙◌, inl, inr, arith, append_assoc, append-nil}
 use Rattle.std.specs.Prelude.{◌⊎◌, nat_lt, IfSome, Result, Ok, Err}
 use Rattle.std.proofs.lemmas.List.{take-append-drop, map-append}
+use Rattle.std.proofs.lemmas.List.Concat.{flat_map-append}
 use Rattle.std.proofs.lemmas.Option.{IfSome_then}
 use Rattle.terms.proofs.OptionLemmas.{if_any, if_both, append-none}
 use Rattle.show_run.proofs.ShowLemmas.{shows_none}
@@ -11,7 +12,7 @@ use Rattle.desk_io.specs.Reading.{longest_file}
 use Rattle.desk_io.specs.declared.input.TheConstants.{BUFFER}
 use Rattle.ts_packet.specs.declared.sizes.TheConstants.{SIZE}
 use Rattle.t2mi_stream.specs.Accepted.{AcceptedPacket}
-use Rattle.t2mi_stream.specs.FirstPid.{PacketsBehind, t2mi_packets_in}
+use Rattle.t2mi_stream.specs.FirstPid.{PacketsBehind, NoPackets, t2mi_packets_in}
 use Rattle.t2mi_stream.specs.Laws.{AcceptedFront}
 use Rattle.t2mi_stream.specs.Skipping.{further}
 use Rattle.t2mi_stream.specs.Units.{accepted_of}
@@ -25,15 +26,15 @@ use Rattle.file_run.specs.declared.stop.RunFault.TheVariants.{TooLong, ReadFault
 use Rattle.show_run.specs.SaidLines.{count_line}
 use Rattle.show_run.specs.Shows.{Shows}
 use Rattle.show_run.specs.T2miLines.{next_in, next_of, packets_from, Unpiping, Found, Shown, Comes}
-use Rattle.show_run.specs.T2miText.{place_lines, AreFirstLines, IsT2miText}
+use Rattle.show_run.specs.T2miText.{place_line, place_lines, AreFirstLines, LeavesLines, IsT2miText}
 use Rattle.show_run.specs.Told.{StopsLines}
 use Rattle.show_run.specs.declared.stop.ShowStop.{ShowStop}
 use Rattle.show_run.specs.declared.stop.ShowStop.TheVariants.{PacketRefused, RecordRefused, Files, OutOfMemory, NoRoom}
 use Rattle.show_run.specs.declared.t2mi_lines.T2miLines.{T2miLines}
 use Rattle.show_run.specs.declared.t2mi_lines.Search.{Search}
 use Rattle.show_run.specs.declared.t2mi_lines.Search.TheVariants.{Seeks, Unpipes, Finished}
-use Rattle.show_run.proofs.PacketMetLemmas.{fails_only, starts_fed, count_some}
-use Rattle.show_run.proofs.T2miEndLemmas.{behind_all}
+use Rattle.show_run.proofs.PacketMetLemmas.{closed_counted, opened_counted, starts_fed, count_some}
+use Rattle.show_run.proofs.T2miEndLemmas.{behind_all, near_needed, near_short, short_needs}
 
 -- the lines of packets that were given are those of the first packets of the file
 first_unpiped : AcceptedFront → PacketsBehind → (file : List ℕ) (m : T2miLines) (all text : List ℕ) (ended : Bool)
@@ -144,6 +145,50 @@ t2mi_end start now old new name t =
       counts = t.counts;
     }
 
+longer : (xs ys : List ℕ) → xs ≢ [] → xs ++ ys ≢ []
+longer [] ys some none = some refl
+longer (x ∷ xs) ys some none = let n = ap length none in absurd (omega (arith, n))
+
+-- what was given are the first of the lines in what was fed, or, at the end, all of them and their number
+found_due : AcceptedFront → PacketsBehind → (m : T2miLines) (search : Search) (all text : List ℕ) (ended : Bool)
+    → Found search m all text ended → AreFirstLines (t2mi_packets_in all) text
+    ⊎ ((ended ≡ true) × (text ≡ place_lines (t2mi_packets_in all) ++ count_line (length (t2mi_packets_in all))))
+found_due front behind m Seeks all text ended f = inl (none_first (t2mi_packets_in all) text f.silent)
+found_due front behind m Unpipes all text ended f =
+    inl (first_unpiped front behind all m all text ended ([], sym (append-nil all), λ over. refl) f)
+found_due front behind m Finished all text ended f = elim f.lines [
+  | inl given ↦ inl (t2mi_packets_in all, [], sym (append-nil (t2mi_packets_in all)), given.1)
+  | inr done ↦ inr (f.over, done.1 ∙ ap (λ (n : ℕ). place_lines (t2mi_packets_in all) ++ count_line n) f.number)
+]
+
+-- some of it was not said
+leaves : AcceptedFront → PacketsBehind → (file : List ℕ) (place : ℕ) (m : T2miLines) (events : List Event) (text unsaid : List ℕ)
+    → unsaid ≢ [] → gave events ≡ text ++ unsaid → Shown m events → IsFed file place (fed 0 events) (has_ended 0 events)
+    → LeavesLines file place text
+leaves front behind file place m events text unsaid some given s f =
+    elim (found_due front behind m m.search (fed 0 events) (gave events) (has_ended 0 events) s.found) [
+      | inl first ↦ record {
+        front = fed 0 events;
+        more = f.more;
+        parts = f.parts;
+        read = f.ahead;
+        unsaid = unsaid ++ place_lines first.1;
+        some = longer unsaid (place_lines first.1) some;
+        due = inl (ap place_lines first.2 ∙ flat_map-append place_line first.0 first.1
+            ∙ ap (λ (l : List ℕ). l ++ place_lines first.1) (sym first.3 ∙ given)
+            ∙ append_assoc text unsaid (place_lines first.1));
+      }
+      | inr all ↦ record {
+        front = fed 0 events;
+        more = f.more;
+        parts = f.parts;
+        read = f.ahead;
+        unsaid = unsaid;
+        some = some;
+        due = inr (f.end all.0, sym all.1 ∙ given);
+      }
+    ]
+
 -- what was said if not all was
 some_said : AcceptedFront → PacketsBehind → (start now : T2miLines) (old new : State) (name : List ℕ) (place : ℕ)
     (unsaid : List ℕ) (x : Tells (Comes start) next_of old new name now place unsaid) → (unsaid ≡ [] → now.search ≡ Finished → ⊥)
@@ -164,11 +209,21 @@ some_said front behind start now old new name place unsaid x wants =
     go held f first (inr (inr gives)) = first_shown front behind (bytes_of held.files name) x.mid x.early
         (gives_waits x.mid.search (is_ready x.mid.unpiper) (SIZE - x.mid.from) x.mid.line gives) first x.met.shown
 
-pub t2mi_stop : AcceptedFront → PacketsBehind → (start now : T2miLines) (old new : State) (name : List ℕ) (why : ShowStop)
-    → StopsLines (Comes start) next_of old new name now why → shows old new name (Err why)
-t2mi_stop front behind start now old new name (PacketRefused at why) s = absurd s
-t2mi_stop front behind start now old new name (RecordRefused number why) s = absurd s
-t2mi_stop front behind start now old new name (Files (TooLong input)) s =
+-- what a machine that needs bytes has given
+abbrev GivesAll : T2miLines → T2miLines → Type 0
+GivesAll start m = (events : List Event) (least : ℕ) → Comes start events m → Needs (next_of m) 0 least
+    → gave events ≡ place_lines (t2mi_packets_in (fed 0 events))
+
+-- no bytes hold no packet
+no_text : NoPackets → place_lines (t2mi_packets_in []) ≡ []
+no_text law =
+    ap place_lines (law [] [] (record { units = 0; whole = refl; none = λ number lt. absurd (omega (arith, lt)) }) (omega arith))
+
+pub t2mi_stop : NoPackets → AcceptedFront → PacketsBehind → (start now : T2miLines) (old new : State) (name : List ℕ)
+    (why : ShowStop) → GivesAll start now → StopsLines (Comes start) next_of old new name now why → shows old new name (Err why)
+t2mi_stop nothing front behind start now old new name (PacketRefused at why) all s = absurd s
+t2mi_stop nothing front behind start now old new name (RecordRefused number why) all s = absurd s
+t2mi_stop nothing front behind start now old new name (Files (TooLong input)) all s =
     let t = s.1 in
     let x = t.tells in
     record {
@@ -176,19 +231,38 @@ t2mi_stop front behind start now old new name (Files (TooLong input)) s =
       text = gave x.early;
       reads = (s.0, x.opened, refl);
       grew = x.said;
-      lines = if_both old.held _ _ _ (λ held f first. ((let w = f.within in w), first)) x.inputs
+      lines = if_both old.held _ _ _ (λ held f first. (
+        (let w = f.within in w),
+        (
+          record {
+            front = fed 0 x.events;
+            more = f.more;
+            parts = f.parts;
+            near = near_needed start now x.events x.came t.wants;
+          },
+          sym (x.parts ∙ append-nil (gave x.early)) ∙ all x.events _ x.came t.wants,
+        ),
+        first,
+      )) x.inputs
           (some_said front behind start now old new name longest_file [] x
           (λ none. needs_waits now.search (is_ready now.unpiper) (SIZE - now.from) now.line _ t.wants));
       counts = t.counts;
     }
-t2mi_stop front behind start now old new name (Files (ReadFault input)) s = elim s.1 [
+t2mi_stop nothing front behind start now old new name (Files (ReadFault input)) all s = elim s.1 [
   | inl none ↦ record {
     given = 0;
     text = [];
     reads = (s.0, inl (none.1, refl));
     grew = none.1.said ∙ append-none old.said;
-    lines = if_any old.held _ (λ held. none_first (t2mi_packets_in (bytes_of held.files name)) [] refl);
-    counts = fails_only old new none.0;
+    lines = if_any old.held _
+        (λ held. (
+          (
+            record { front = []; more = bytes_of held.files name; parts = refl; near = omega arith },
+            ([], no_text nothing, omega arith),
+          ),
+          none_first (t2mi_packets_in (bytes_of held.files name)) [] refl,
+        ));
+    counts = closed_counted old new none.0;
   }
   | inr some ↦
       let t = some.1 in
@@ -198,20 +272,38 @@ t2mi_stop front behind start now old new name (Files (ReadFault input)) s = elim
         text = gave x.early;
         reads = (s.0, inr (x.opened, t.short));
         grew = x.said;
-        lines = some_said front behind start now old new name t.place t.unsaid x
-            (λ none. short_waits now.search (is_ready now.unpiper) (SIZE - now.from) now.line _ t.wants);
-        counts = some.0;
+        lines = if_both old.held _ _ _ (λ held f first. (
+          (
+            record {
+              front = fed 0 x.events;
+              more = f.more;
+              parts = f.parts;
+              near = near_short now t.place (length (fed 0 x.events)) t.wants;
+            },
+            (
+              t.unsaid,
+              sym (all x.events _ x.came (short_needs (next_of now) _ t.wants)) ∙ x.parts,
+              x.waits.few,
+            ),
+          ),
+          first,
+        )) x.inputs (some_said front behind start now old new name t.place t.unsaid x
+            (λ none. short_waits now.search (is_ready now.unpiper) (SIZE - now.from) now.line _ t.wants));
+        counts = opened_counted old new name t.place x.opened some.0;
       }
 ]
-t2mi_stop front behind start now old new name (Files WriteFault) s =
+t2mi_stop nothing front behind start now old new name (Files WriteFault) all s =
     let x = s.1.2 in
     record {
       given = s.1.0;
       text = gave x.early;
       reads = (x.opened, s.1.4);
       grew = x.said;
-      lines = some_said front behind start now old new name s.1.0 s.1.1 x (λ none. absurd (s.1.3 none));
+      lines = if_both old.held _ _ _ (λ held f first. (
+        leaves front behind (bytes_of held.files name) s.1.0 now x.events (gave x.early) s.1.1 s.1.3 x.parts x.came.shown f,
+        first,
+      )) x.inputs (some_said front behind start now old new name s.1.0 s.1.1 x (λ none. absurd (s.1.3 none)));
       counts = s.0;
     }
-t2mi_stop front behind start now old new name OutOfMemory s = shows_none IsT2miText (λ file. refl) old new name s
-t2mi_stop front behind start now old new name NoRoom s = absurd s
+t2mi_stop nothing front behind start now old new name OutOfMemory all s = shows_none IsT2miText (λ file. refl) old new name s
+t2mi_stop nothing front behind start now old new name NoRoom all s = absurd s

@@ -1,23 +1,24 @@
 -- How far the lines of packets have come that stand back to back. No public clause cites this module.
-use Rattle.std.specs.Prelude.{◌≡◌, ◌⊎◌, ℕ, ◌+◌, ◌*◌, ◌≤◌, nat_lt, Bool, true, false, if◌then◌else◌, List, [], ◌∷◌, ◌++◌, length}
-use Rattle.std.specs.Prelude.{Result, Ok, Err}
+use Rattle.std.specs.Prelude.{◌≡◌, ◌⊎◌, ℕ, ◌+◌, ◌-◌, ◌≤◌, nat_lt, Bool, true, false, if◌then◌else◌, List, [], ◌∷◌, ◌++◌}
+use Rattle.std.specs.Prelude.{length, Result, Ok, Err}
 use Rattle.desk_io.specs.declared.input.TheConstants.{BUFFER}
-use Rattle.t2mi_packet.specs.declared.reading.TheConstants.{LARGEST}
+use Rattle.t2mi_packet.specs.T2miPacket.{told_len, IsShort}
+use Rattle.t2mi_packet.specs.declared.fault.PacketWhy.{PacketWhy}
 use Rattle.file_run.specs.Events.{Event, fed, has_ended, gave}
 use Rattle.file_run.specs.declared.machine.Step.{Step}
 use Rattle.file_run.specs.declared.machine.Step.TheVariants.{Read, Give, End}
+use Rattle.show_run.specs.Front.{IsFront, RefusesFront}
 use Rattle.show_run.specs.PacketFile.{Packs, bytes_in, IsRefused}
 use Rattle.show_run.specs.SaidLines.{lines_of, count_line}
 use Rattle.show_run.specs.declared.stop.ShowStop.{ShowStop}
 use Rattle.show_run.specs.declared.stop.ShowStop.TheVariants.{PacketRefused}
 use Rattle.show_run.specs.declared.packet_lines.PacketLines.{PacketLines}
 use Rattle.show_run.specs.declared.packet_lines.Phase.{Phase}
-use Rattle.show_run.specs.declared.packet_lines.Phase.TheVariants.{Reads, Ends, Refused, Finished}
+use Rattle.show_run.specs.declared.packet_lines.Phase.TheVariants.{Reads, Refused, Finished}
 
 -- what is done next if no line waits
 abbrev pub step_of : Phase → Step
-step_of Reads = Read 0 LARGEST BUFFER
-step_of Ends = Give
+step_of Reads = Read 0 1 BUFFER
 step_of (Refused why) = End
 step_of Finished = End
 
@@ -29,19 +30,37 @@ abbrev pub next_of : PacketLines → Step
 next_of m = next_from m.line m.phase
 
 -- how often it gives before it wants bytes
-abbrev pub left_in : Phase → ℕ → ℕ
-left_in Ends rest = 2 * rest + 2
-left_in phase rest = 0
-
 abbrev pub left_of : PacketLines → ℕ
-left_of m = left_in m.phase (length m.rest) + (if nat_lt 0 (length m.line) then 1 else 0)
+left_of m = if nat_lt 0 (length m.line) then 1 else 0
 
--- behind the packets that were seen: nothing yet, the last bytes of the file, bytes that begin with no packet, or the end
+-- The packet that has come whole was seen; or it is none.
+pub record IsSeen (old new : PacketLines) : Type 0 where
+  pub len : ℕ
+  pub front : IsFront old.bytes.items (old.at - length old.bytes.items) new.line len
+  pub phase : new.phase ≡ old.phase
+  pub bytes : new.bytes.items ≡ []
+  pub count : new.count ≡ old.count + 1
+
+pub record IsStopped (old new : PacketLines) (why : PacketWhy) : Type 0 where
+  pub refuses : RefusesFront old.bytes.items why
+  pub phase : new.phase ≡ Refused why
+  pub bytes : new.bytes.items ≡ old.bytes.items
+  pub line : new.line ≡ old.line
+  pub count : new.count ≡ old.count
+
+abbrev pub Sees : PacketLines → PacketLines → Type 0
+Sees old new = IsSeen old new ⊎ ((why : PacketWhy) × IsStopped old new why)
+
+-- The bytes hold as many as their header tells.
+pub record IsWhole (bytes : List ℕ) : Type 0 where
+  pub header : 6 ≤ length bytes
+  pub packet : told_len bytes ≤ length bytes
+
+-- behind the packets that were seen: the packet under way, bytes that begin with no packet, or the end
 abbrev pub Behind : Phase → List ℕ → List ℕ → Bool → Type 0
-Behind Reads last rest ended = (rest ≡ []) × (ended ≡ false)
-Behind Ends last rest ended = (rest ≡ last) × (ended ≡ true)
-Behind (Refused why) last rest ended = IsRefused rest why × ((ended ≡ true) ⊎ (LARGEST ≤ length rest))
-Behind Finished last rest ended = (rest ≡ []) × (ended ≡ true)
+Behind Reads bytes rest ended = (rest ≡ bytes) × IsShort rest × (ended ≡ false)
+Behind (Refused why) bytes rest ended = (rest ≡ bytes) × IsRefused rest why × ((ended ≡ true) ⊎ IsWhole rest)
+Behind Finished bytes rest ended = (rest ≡ []) × (ended ≡ true)
 
 -- the lines that were given of packets: all but those of which the line waits, and last their number
 abbrev pub Given : Phase → List (List ℕ) → List (List ℕ) → List ℕ → List ℕ → Type 0
@@ -57,9 +76,9 @@ pub record Shown (m : PacketLines) (events : List Event) : Type 0 where
   pub next : List (List ℕ)
   pub rest : List ℕ
   pub packs : Packs (fed 0 events) (told ++ next) rest
-  pub place : m.at ≡ bytes_in (told ++ next)
+  pub place : m.at ≡ length (fed 0 events)
   pub number : m.count ≡ length (told ++ next)
-  pub behind : Behind m.phase m.rest rest (has_ended 0 events)
+  pub behind : Behind m.phase m.bytes.items rest (has_ended 0 events)
   pub given : Given m.phase told next m.line (gave events)
 
 -- nothing was done yet
@@ -67,6 +86,7 @@ pub record IsNew (m : PacketLines) : Type 0 where
   pub at : m.at ≡ 0
   pub count : m.count ≡ 0
   pub phase : m.phase ≡ Reads
+  pub bytes : m.bytes.items ≡ []
   pub line : m.line ≡ []
 
 -- The first is new, and to it this was done.

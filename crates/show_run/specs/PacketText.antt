@@ -4,7 +4,7 @@ use Rattle.desk_io.specs.Reading.{longest_file}
 use Rattle.desk_io.specs.declared.page.TheConstants.{PAGE}
 use Rattle.file_run.specs.declared.stop.RunFault.TheVariants.{TooLong, ReadFault, WriteFault}
 use Rattle.t2mi_packet.specs.declared.fault.PacketWhy.{PacketWhy}
-use Rattle.t2mi_packet.specs.declared.reading.TheConstants.{LARGEST}
+use Rattle.t2mi_packet.specs.T2miPacket.{IsShort}
 use Rattle.show_run.specs.PacketFile.{Packs, bytes_in, IsRefused}
 use Rattle.show_run.specs.SaidLines.{lines_of, count_line}
 use Rattle.show_run.specs.declared.stop.ShowStop.{ShowStop}
@@ -14,17 +14,26 @@ use Rattle.show_run.specs.declared.stop.ShowStop.TheVariants.{PacketRefused, Rec
 abbrev pub AreFirst : List ℕ → List ℕ → Type 0
 AreFirst file text = (packets : List (List ℕ)) × (rest : List ℕ) × Packs file packets rest × (text ≡ lines_of 0 packets)
 
--- Of so many bytes that were read, packets were met that end within the length of a packet: so no refused one was met. The text
--- is the lines of these packets.
-abbrev pub SaysMet : List ℕ → ℕ → List ℕ → Type 0
-SaysMet file given text = (packets : List (List ℕ)) × (rest : List ℕ) × Packs file packets rest
-    × (given ≤ bytes_in packets + LARGEST) × (text ≡ lines_of 0 packets)
+-- A front of the file is some packets, and behind them stand fewer bytes than the next one has: so no refused one was met.
+pub record Met (file : List ℕ) : Type 0 where
+  pub front : List ℕ
+  pub more : List ℕ
+  pub parts : file ≡ front ++ more
+  pub packets : List (List ℕ)
+  pub behind : List ℕ
+  pub packs : Packs front packets behind
+  pub short : IsShort behind
 
--- The same packets, and the text is the first of their lines: what is left of these is no more than may wait to be said.
+-- All bytes that were read but for the last one are such a front, or all. The text is the lines of its packets.
+abbrev pub SaysMet : List ℕ → ℕ → List ℕ → Type 0
+SaysMet file given text = (met : Met file) × (length met.front ≤ given) × (given ≤ length met.front + 1)
+    × (text ≡ lines_of 0 met.packets)
+
+-- All bytes that were read are such a front, and the text is the first of the lines of its packets: what is left of these is no
+-- more than may wait to be said.
 abbrev pub LacksFew : List ℕ → ℕ → List ℕ → Type 0
-LacksFew file given text = (packets : List (List ℕ)) × (rest : List ℕ) × Packs file packets rest
-    × (given ≤ bytes_in packets + LARGEST)
-    × ((unsaid : List ℕ) × (lines_of 0 packets ≡ text ++ unsaid) × (length unsaid ≤ PAGE))
+LacksFew file given text = (met : Met file) × (given ≡ length met.front)
+    × ((unsaid : List ℕ) × (lines_of 0 met.packets ≡ text ++ unsaid) × (length unsaid ≤ PAGE))
 
 -- The text is the lines of some packets, and not all that is due: behind them stands another packet, or the file ends and lacks
 -- its number.

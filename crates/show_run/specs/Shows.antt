@@ -1,7 +1,7 @@
 -- What a command does that shows a file by lines, up to its last line.
 use Rattle.std.specs.Prelude.{◌≡◌, ◌⊎◌, ℕ, ◌<◌, ◌≤◌, List, ◌++◌, Result, Ok, Err, IfSome, option_map}
 use Rattle.ports.specs.Desk.{State, SameCounts, bytes_of}
-use Rattle.desk_io.specs.Faults.{WritesFail}
+use Rattle.desk_io.specs.Faults.{ReadsFail, WritesFail}
 use Rattle.desk_io.specs.Reading.{longest_file}
 use Rattle.desk_io.specs.Opening.{Opened, Unopened}
 use Rattle.file_run.specs.Telling.{ReadsFailAtLeast}
@@ -22,9 +22,10 @@ ReadsFile old new name given (Err (Files WriteFault)) = Opened old new name give
 ReadsFile old new name given (Err OutOfMemory) = new ≡ old
 ReadsFile old new name given (Err NoRoom) = Opened old new name given × (given < longest_file)
 
--- A fault is told if it came. One of writing came alone; after one of reading what waits is said still, which may fail too.
+-- A fault is told if it came. One of writing came alone, and so did one of reading if the file was not opened; after a later one
+-- of reading what waits is said still, which may fail too.
 abbrev pub Counted : State → State → Result ℕ ShowStop → Type 0
-Counted old new (Err (Files (ReadFault input))) = ReadsFailAtLeast old new
+Counted old new (Err (Files (ReadFault input))) = ReadsFailAtLeast old new × (Unopened old new → ReadsFail old new)
 Counted old new (Err (Files WriteFault)) = WritesFail old new
 Counted old new result = SameCounts old new
 

@@ -1,6 +1,8 @@
 -- The text of the T2-MI packets in a file of units.
-use Rattle.std.specs.Prelude.{◌≡◌, ℕ, ◌≤◌, List, [], ◌++◌, length, flat_map, codes, Result, Ok, Err}
+use Rattle.std.specs.Prelude.{◌≡◌, ◌≢◌, ◌⊎◌, ℕ, ◌+◌, ◌<◌, ◌≤◌, List, [], ◌++◌, length, flat_map, codes, Result, Ok, Err}
 use Rattle.desk_io.specs.Reading.{longest_file}
+use Rattle.desk_io.specs.declared.page.TheConstants.{PAGE}
+use Rattle.ts_packet.specs.declared.sizes.TheConstants.{SIZE}
 use Rattle.file_run.specs.declared.stop.RunFault.TheVariants.{TooLong, ReadFault, WriteFault}
 use Rattle.t2mi_packet.specs.T2miPacket.{view_of}
 use Rattle.t2mi_stream.specs.Accepted.{AcceptedPacket}
@@ -21,6 +23,34 @@ abbrev pub AreFirstLines : List AcceptedPacket → List ℕ → Type 0
 AreFirstLines packets text = (first : List AcceptedPacket) × (others : List AcceptedPacket) × (packets ≡ first ++ others)
     × (text ≡ place_lines first)
 
+-- Of so many bytes that were read, all but less than a unit were gone through.
+pub record GoneThrough (file : List ℕ) (given : ℕ) : Type 0 where
+  pub front : List ℕ
+  pub more : List ℕ
+  pub parts : file ≡ front ++ more
+  pub near : given < length front + SIZE
+
+-- The text is the lines of the packets in what was gone through.
+abbrev pub SaysThrough : List ℕ → ℕ → List ℕ → Type 0
+SaysThrough file given text = (through : GoneThrough file given) × (text ≡ place_lines (t2mi_packets_in through.front))
+
+-- The same packets, and the text is the first of their lines: what is left of these is no more than may wait to be said.
+abbrev pub LacksFewLines : List ℕ → ℕ → List ℕ → Type 0
+LacksFewLines file given text = (through : GoneThrough file given)
+    × ((unsaid : List ℕ) × (place_lines (t2mi_packets_in through.front) ≡ text ++ unsaid) × (length unsaid ≤ PAGE))
+
+-- The text is the first of the lines that were due, and not all of them: of the packets in what was read, and behind these, if
+-- that is the whole file, of their number.
+pub record LeavesLines (file : List ℕ) (given : ℕ) (text : List ℕ) : Type 0 where
+  pub front : List ℕ
+  pub more : List ℕ
+  pub parts : file ≡ front ++ more
+  pub read : length front ≤ given
+  pub unsaid : List ℕ
+  pub some : unsaid ≢ []
+  pub due : (place_lines (t2mi_packets_in front) ≡ text ++ unsaid)
+      ⊎ ((more ≡ []) × (place_lines (t2mi_packets_in front) ++ count_line (length (t2mi_packets_in front)) ≡ text ++ unsaid))
+
 -- The text by outcome: the lines of all packets and their number, or the lines of the first.
 abbrev pub IsT2miText : List ℕ → ℕ → Result ℕ ShowStop → List ℕ → Type 0
 IsT2miText file given (Ok count) text =
@@ -28,9 +58,10 @@ IsT2miText file given (Ok count) text =
     × (given ≡ length file)
 IsT2miText file given (Err (PacketRefused at why)) text = ⊥
 IsT2miText file given (Err (RecordRefused number why)) text = ⊥
-IsT2miText file given (Err (Files (TooLong input))) text = (longest_file ≤ length file)
+IsT2miText file given (Err (Files (TooLong input))) text = (longest_file ≤ length file) × SaysThrough file given text
     × AreFirstLines (t2mi_packets_in file) text
-IsT2miText file given (Err (Files (ReadFault input))) text = AreFirstLines (t2mi_packets_in file) text
-IsT2miText file given (Err (Files WriteFault)) text = AreFirstLines (t2mi_packets_in file) text
+IsT2miText file given (Err (Files (ReadFault input))) text = LacksFewLines file given text
+    × AreFirstLines (t2mi_packets_in file) text
+IsT2miText file given (Err (Files WriteFault)) text = LeavesLines file given text × AreFirstLines (t2mi_packets_in file) text
 IsT2miText file given (Err OutOfMemory) text = text ≡ []
 IsT2miText file given (Err NoRoom) text = ⊥

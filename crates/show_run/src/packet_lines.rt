@@ -1,23 +1,21 @@
 // The lines of T2-MI packets that stand back to back.
-ghost use Rattle.std.specs.Prelude.{◌≡◌, ◌<◌, ◌≤◌, ◌+◌, length, IfOk};
+ghost use Rattle.std.specs.Prelude.{◌≡◌, ◌<◌, ◌≤◌, ◌-◌, length, vec_len, vec_capacity, IfOk};
 ghost use Rattle.desk_io.specs.Reading.{longest_file};
-ghost use Rattle.show_run.specs.declared.packet_lines.Phase.TheVariants.{Ends};
+ghost use Rattle.t2mi_packet.specs.declared.reading.TheConstants.{LARGEST};
 
 use crate::count_line::{count_line, give_line};
-use crate::front::front_line;
+use crate::front::{front_line, lacking};
 use bit_slice::OutOfMemory;
-use desk_io::{BUFFER, Input, Line};
+use desk_io::{BUFFER, Line};
 use file_run::{Machine, Step, events_law};
 use std::alloc::Global;
-use t2mi_packet::{LARGEST, PacketWhy};
+use t2mi_packet::{LARGEST, PacketWhy, spell_law};
 
 /// Where the lines are.
 #[derive(Clone, Copy, Debug, PartialEq, Eq)]
 pub enum Phase {
     /// Packets are read.
     Reads,
-    /// The file has ended, and what was left of it is gone through.
-    Ends,
     /// No packet begins where one must, for this reason.
     Refused(PacketWhy),
     /// The file was nothing but packets.
@@ -27,62 +25,54 @@ pub enum Phase {
 /// A line for each T2-MI packet of a file in which they stand back to back, and last their number.
 #[derive(Drop)]
 pub struct PacketLines {
-    // The packets that were seen, and their bytes.
-    pub(crate) count: u64,
+    // All bytes that came, and the packets that were seen.
     pub(crate) at: u64,
+    pub(crate) count: u64,
     pub(crate) phase: Phase,
+    // What came of the packet under way.
+    pub(crate) bytes: Vec<u8>,
     // The line that is given next.
     line: Line,
-    // What was left when the file ended.
-    rest: Input,
     ghost small: { at ≤ longest_file },
     ghost counted: { count ≤ at },
-    ghost behind: { phase ≡ Ends → at + length rest ≤ longest_file },
+    ghost inside: { vec_len bytes ≤ at },
+    ghost room: { (vec_len bytes ≤ LARGEST) × (LARGEST ≤ vec_capacity bytes) },
 }
 
 impl PacketLines {
-    ghost use Rattle.show_run.specs.PacketLines.{IsNew};
+    ghost use Rattle.show_run.specs.PacketLines.{IsNew, Sees};
 
     /// No packet was seen. It takes all the memory that it needs.
     pub fn open(alloc: Global) -> Result<PacketLines, OutOfMemory>
         ensures { IfOk result IsNew }
     {
         Ok(PacketLines {
-            count: 0,
             at: 0,
+            count: 0,
             phase: Phase::Reads,
+            bytes: Vec::with_capacity(alloc, LARGEST)?,
             line: Line::new(),
-            rest: Input::open(alloc)?,
         })
     }
-}
 
-impl PacketLines {
-    ghost use Rattle.std.specs.Prelude.{ℕ, List, [], ◌∷◌, ◌++◌};
-    ghost use Rattle.file_run.specs.Events.{Event, Gave};
-    ghost use Rattle.show_run.specs.PacketLines.{Comes, left_of};
-
-    // Goes through what was left of the file: one packet, or its end.
-    fn go_on(&mut self)
-        requires idle { self.old.line ≡ [] }
-        requires ends { self.old.phase ≡ Phase.Ends }
-        ensures becomes { (start : PacketLines) (events : List Event) → Comes start events self.old
-            → Comes start (events ++ Gave [] ∷ []) self.new }
-        ensures left { left_of self.new < left_of self.old }
-        ensures later { self.old.at ≤ self.new.at }
+    /// The place of the packet under way.
+    pub(crate) fn place(&self) -> u64
+        ensures { result ≡ self.now.at - length self.now.bytes.items }
     {
-        events_law();
-        if self.rest.is_empty() {
-            self.line = count_line(self.count);
-            self.phase = Phase::Finished;
-            return;
-        }
-        match front_line(self.rest.as_bytes(), self.at) {
-            Ok((line, len)) => {
+        self.at - self.bytes.len() as u64
+    }
+
+    // Looks at the packet that has come whole.
+    fn see(&mut self)
+        requires { self.old.count < self.old.at }
+        ensures sees { Sees self.old self.new }
+        ensures at { self.new.at ≡ self.old.at }
+    {
+        match front_line(&self.bytes, self.place()) {
+            Ok((line, _)) => {
                 self.line = line;
-                self.at += len as u64;
                 self.count += 1;
-                self.rest.skip(len);
+                self.bytes.clear();
             }
             Err(why) => self.phase = Phase::Refused(why),
         }
@@ -113,42 +103,37 @@ impl Machine for PacketLines {
         match self.phase {
             Phase::Reads => Step::Read {
                 input: 0,
-                least: LARGEST,
+                least: 1,
                 most: BUFFER as u64,
             },
-            Phase::Ends => Step::Give,
             Phase::Refused(_) | Phase::Finished => Step::End,
         }
     }
 
     fn feed(&mut self, _input: usize, bytes: &[u8]) -> usize {
         events_law();
-        match front_line(bytes, self.at) {
-            Ok((line, len)) => {
-                self.line = line;
-                self.at += len as u64;
-                self.count += 1;
-                len
-            }
-            Err(why) => {
-                self.phase = Phase::Refused(why);
-                bytes.len()
-            }
+        spell_law();
+        let count = lacking(&self.bytes).min(bytes.len());
+        self.bytes.extend_from_slice(&bytes[..count]).unwrap();
+        self.at += count as u64;
+        if lacking(&self.bytes) == 0 {
+            self.see();
         }
+        count
     }
 
-    fn end_input(&mut self, _input: usize, bytes: &[u8]) {
+    fn end_input(&mut self, _input: usize, _bytes: &[u8]) {
         events_law();
-        self.rest.set(bytes);
-        self.phase = Phase::Ends;
+        if self.bytes.is_empty() {
+            self.line = count_line(self.count);
+            self.phase = Phase::Finished;
+        } else {
+            self.phase = Phase::Refused(PacketWhy::Short);
+        }
     }
 
     fn give(&mut self, out: &mut [u8]) -> usize {
         events_law();
-        if self.line.is_empty() {
-            self.go_on();
-            return 0;
-        }
         give_line(&mut self.line, out)
     }
 }

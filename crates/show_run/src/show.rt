@@ -1,5 +1,5 @@
 // The commands that show a file by lines.
-ghost use Rattle.std.specs.Prelude.{◌≡◌, [], OnOk, IfErr};
+ghost use Rattle.std.specs.Prelude.{◌≡◌, ◌-◌, [], length, OnOk, IfErr};
 ghost use Rattle.file_run.specs.Telling.{TellsAll};
 ghost use Rattle.show_run.specs.FrameLines.{records_end};
 ghost use Rattle.show_run.specs.PacketLines.{packets_end};
@@ -18,7 +18,7 @@ use file_run::{Machine, OutBuffer, tell};
 use ports::Desk;
 use site_frame::{reading_law, refusal_law};
 use std::alloc::Global;
-use t2mi_packet::{front_refusal, no_refusal, one_packet, packet_length};
+use t2mi_packet::{no_refusal, one_packet, packet_length};
 use t2mi_stream::{accepted_front, first_pid_law};
 
 // Tells the lines of a machine that is fed with a named file.
@@ -47,11 +47,14 @@ fn tell_lines<M: Machine, D: Desk>(
 
 // How the packets of a file ended: their number, or the place at which none begins.
 fn packets_end(lines: &PacketLines) -> Result<u64, ShowStop>
-    ensures { result ≡ packets_end lines.now.phase lines.now.at lines.now.count }
+    ensures { result ≡ packets_end lines.now.phase (lines.now.at - length lines.now.bytes.items) lines.now.count }
 {
     match lines.phase {
-        Phase::Refused(why) => Err(ShowStop::PacketRefused { at: lines.at, why }),
-        Phase::Reads | Phase::Ends | Phase::Finished => Ok(lines.count),
+        Phase::Refused(why) => Err(ShowStop::PacketRefused {
+            at: lines.place(),
+            why,
+        }),
+        Phase::Reads | Phase::Finished => Ok(lines.count),
     }
 }
 
@@ -59,7 +62,6 @@ fn packets_end(lines: &PacketLines) -> Result<u64, ShowStop>
 pub fn show_packets<D: Desk>(alloc: Global, name: &str, desk: &mut D) -> Result<u64, ShowStop>
     ensures { Shows IsPacketText (D.state desk.old) (D.state desk.new) name.now result }
 {
-    front_refusal();
     one_packet();
     no_refusal();
     packet_length();
@@ -80,8 +82,10 @@ pub fn show_t2mi<D: Desk>(alloc: Global, name: &str, desk: &mut D) -> Result<u64
     let Ok(mut lines) = T2miLines::open(alloc) else {
         return Err(ShowStop::OutOfMemory);
     };
-    tell_lines(alloc, &mut lines, name, desk)?;
-    Ok(lines.count)
+    let told = tell_lines(alloc, &mut lines, name, desk);
+    let count = lines.count();
+    told?;
+    Ok(count)
 }
 
 // How the records of a file ended: their number, or why one is none or has no memory.

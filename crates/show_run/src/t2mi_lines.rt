@@ -39,7 +39,7 @@ pub struct T2miLines {
     from: usize,
     unpiper: Unpiper,
     // The packets whose lines were given.
-    pub(crate) count: u64,
+    count: u64,
     // The line of their number.
     line: Line,
     ghost small: { at ≤ longest_file },
@@ -85,7 +85,23 @@ impl T2miLines {
     ghost use Rattle.ts_packet.specs.Told.{fields_in};
     ghost use Rattle.t2mi_stream.specs.FirstPid.{pid_of};
     ghost use Rattle.t2mi_stream.specs.UnpiperStandsFor.{is_ready};
-    ghost use Rattle.show_run.specs.T2miLines.{Comes, left_of};
+    ghost use Rattle.file_run.specs.Events.{fed, gave};
+    ghost use Rattle.file_run.specs.Steps.{Needs};
+    ghost use Rattle.t2mi_stream.specs.FirstPid.{t2mi_packets_in};
+    ghost use Rattle.show_run.specs.T2miLines.{Comes, left_of, next_of};
+    ghost use Rattle.show_run.specs.T2miText.{place_lines};
+
+    /// How many packets were seen. Where more bytes are wanted, the lines of all packets in those that came were given.
+    pub(crate) fn count(&self) -> u64
+        ensures count { result ≡ self.now.count }
+        ensures all { (start : T2miLines) (events : List Event) (least : ℕ) → Comes start events self.now
+            → Needs (next_of self.now) 0 least → gave events ≡ place_lines (t2mi_packets_in (fed 0 events)) }
+    {
+        first_pid_law();
+        // No packet waits then, so all were given.
+        let _ = self.unpiper.is_ready();
+        self.count
+    }
 
     // Passes a unit that tells no PID.
     fn pass(&mut self, unit: [u8; SIZE])

@@ -92,18 +92,20 @@ static ON_REAL_FILES: [Row; 8] = [
     Row { why: "keeps the first fault and its reason", calls: &[
         Call::Open("no_such_file", Err(DeskFault)), Call::Create("no_such_folder/file", Err(DeskFault)),
         Call::FirstFault("no_such_file: no such file or directory"),
+        Call::Counts(Counts { reads: 1, writes: 1, lines: 0, first: Some(FaultKind::Reading) }),
     ] },
     Row { why: "counts what cannot be created or written", calls: &[
         Call::Create("no_such_folder/file", Err(DeskFault)), Call::Create("/dev/full", Ok(0)),
         Call::Write(0, b"lost", Err(DeskFault)),
-        Call::Counts(Counts { reads: 0, writes: 2, lines: 0 }),
+        Call::Counts(Counts { reads: 0, writes: 2, lines: 0, first: Some(FaultKind::Writing) }),
     ] },
     Row { why: "counts what cannot be opened or read", calls: &[
         Call::Open("no_such_file", Err(DeskFault)), Call::Open(".", Ok(0)), Call::Read(0, Err(DeskFault)),
-        Call::Counts(Counts { reads: 2, writes: 0, lines: 0 }),
+        Call::Counts(Counts { reads: 2, writes: 0, lines: 0, first: Some(FaultKind::Reading) }),
     ] },
     Row { why: "says to standard output", calls: &[
-        Call::Say(b"said\n", Ok(())), Call::SayLast(b"last\n"), Call::Counts(Counts { reads: 0, writes: 0, lines: 0 }),
+        Call::Say(b"said\n", Ok(())), Call::SayLast(b"last\n"),
+        Call::Counts(Counts { reads: 0, writes: 0, lines: 0, first: None }),
     ] },
 ];
 
@@ -203,16 +205,21 @@ fn calls_on_real_files(rt: HostRuntime) {
 
 #[test]
 fn says_a_text_by_one_write_and_counts_what_is_not_taken(rt: HostRuntime) {
-    let mut count = 0;
+    let mut counts = Counts::default();
     let mut first = None;
     let takes = Takes(b"whole\n");
-    assert_eq!(rt; say(&takes, b"whole\n", &mut count, &mut first), Ok(()));
-    assert!(rt; count == 0 && first.is_none());
+    let kind = FaultKind::Writing;
     assert_eq!(rt;
-        say(&takes, b"lost\n", &mut count, &mut first),
+        say(&takes, b"whole\n", &mut counts, kind, &mut first),
+        Ok(())
+    );
+    assert!(rt; counts == Counts::default() && first.is_none());
+    assert_eq!(rt;
+        say(&takes, b"lost\n", &mut counts, kind, &mut first),
         Err(DeskFault)
     );
-    assert!(rt; count == 1 && has_words(rt.alloc(), first.as_ref(), "no space left on device"));
+    assert!(rt; counts.writes == 1 && counts.first == Some(kind));
+    assert!(rt; has_words(rt.alloc(), first.as_ref(), "no space left on device"));
 }
 
 #[test]

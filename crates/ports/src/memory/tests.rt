@@ -104,7 +104,7 @@ static ROWS: [Row; 13] = [
     ] },
     Row { why: "counts an absent name as a read fault", calls: &[
         Call::PutFile("note", b"hello"), Call::Open("other", Err(DeskFault)),
-        Call::Counts(Counts { reads: 1, writes: 0, lines: 0 }), Call::Open("note", Ok(0)),
+        Call::Counts(Counts { reads: 1, writes: 0, lines: 0, first: Some(FaultKind::Reading) }), Call::Open("note", Ok(0)),
     ] },
     Row { why: "gives the file of a name", calls: &[
         Call::PutFile("a", b"old"), Call::PutFile("b", b"other"), Call::PutFile("a", b"new"), Call::File("a", Some(b"new")),
@@ -117,7 +117,7 @@ static ROWS: [Row; 13] = [
     ] },
     Row { why: "gives what was said", calls: &[
         Call::Say(b"one\n", Ok(())), Call::Say(b"two\n", Ok(())), Call::SayLast(b"last\n"), Call::Said(b"one\ntwo\nlast\n"),
-        Call::Counts(Counts { reads: 0, writes: 0, lines: 0 }),
+        Call::Counts(Counts { reads: 0, writes: 0, lines: 0, first: None }),
     ] },
     Row { why: "fails to open if it is told to", calls: &[
         Call::PutFile("note", b"hello"), Call::Fail(CallKind::Open, 2), Call::Open("note", Ok(0)),
@@ -138,11 +138,11 @@ static ROWS: [Row; 13] = [
     Row { why: "fails to say if it is told to", calls: &[
         Call::Fail(CallKind::Say, 2), Call::Fail(CallKind::Say, 3), Call::Say(b"one\n", Ok(())),
         Call::Say(b"two\n", Err(DeskFault)), Call::Say(b"three\n", Err(DeskFault)), Call::Say(b"four\n", Ok(())),
-        Call::Said(b"one\nfour\n"), Call::Counts(Counts { reads: 0, writes: 2, lines: 0 }),
+        Call::Said(b"one\nfour\n"), Call::Counts(Counts { reads: 0, writes: 2, lines: 0, first: Some(FaultKind::Writing) }),
     ] },
     Row { why: "says no last text if it is told to fail", calls: &[
         Call::Fail(CallKind::Last, 2), Call::SayLast(b"one\n"), Call::SayLast(b"two\n"), Call::SayLast(b"three\n"),
-        Call::Said(b"one\nthree\n"), Call::Counts(Counts { reads: 0, writes: 0, lines: 1 }),
+        Call::Said(b"one\nthree\n"), Call::Counts(Counts { reads: 0, writes: 0, lines: 1, first: Some(FaultKind::LastLine) }),
     ] },
     Row { why: "gives what all handles of a name were given", calls: &[
         Call::PutFile("a", b"first"), Call::Open("a", Ok(0)), Call::Open("a", Ok(1)), Call::Read(0, 4, Ok(b"firs")),

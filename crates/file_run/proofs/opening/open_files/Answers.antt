@@ -9,8 +9,8 @@ pub returns-in-Err-clause-err : goal.returns-in-Err-clause-err
 returns-in-Err-clause-err g c =
     let f = c.open.ensures.counts in
     opening_failed _ _ _ _ c.loop-input.input _ c.in-Err.ensures.err
-    (record { rose = c.in-Err.ensures.counts.err; later = f.later; others = f.others }) c.loop-input-test.true
-    c.loop-input.invariant
+    (record { rose = c.in-Err.ensures.counts.err; first = c.in-Err.ensures.counts.first; later = f.later; others = f.others })
+    c.loop-input-test.true c.loop-input.invariant
 
 pub loop-input-preserved : goal.loop-input-preserved
 loop-input-preserved g c =

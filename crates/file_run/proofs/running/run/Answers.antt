@@ -10,8 +10,8 @@ returns-in-Err-clause-err g c =
     let b = start_of (g.D.Desk.state c.args.desk.now) c.args.out.now c.args.ins.now in
     let f = c.drain.ensures.counts in
     stopped_drained g.M.Machine.Becomes c.args.machine.now _ _ g.M.Machine.reach g.M.Machine.next b _ _ _ _
-    (record { rose = c.in-Err.ensures.counts.err; later = f.later; others = f.others }) c.in-Err.ensures.gives
-    c.in-Err.ensures.err
+    (record { rose = c.in-Err.ensures.counts.err; first = c.in-Err.ensures.counts.first; later = f.later; others = f.others })
+    c.in-Err.ensures.gives c.in-Err.ensures.err
     (running_first c.creates_law.ensures _ g.M.Machine.reach _ b _ _ c.open_files.new.readers _ c.requires.apart
     c.in_ok-open_files.ensures.ok c.in_ok-handle.ensures.ok c.requires.start)
 
@@ -59,8 +59,12 @@ returns-in-Err-drain-clause-err g c =
     let w = c.in-Read.ensures.wanted _ _ c.loop-input.invariant.running.came in
     let f = c.drain-in-Read.ensures.counts in
     stopped_drained g.M.Machine.Becomes c.args.machine.now _ _ g.M.Machine.reach g.M.Machine.next _ _ _ _ _
-    (record { rose = c.in-Err-drain.ensures.counts.err; later = f.later; others = f.others }) c.in-Err-drain.ensures.gives
-    c.in-Err-drain.ensures.err
+    (record {
+      rose = c.in-Err-drain.ensures.counts.err;
+      first = c.in-Err-drain.ensures.counts.first;
+      later = f.later;
+      others = f.others;
+    }) c.in-Err-drain.ensures.gives c.in-Err-drain.ensures.err
     (running_fed g.M.Machine.Becomes c.args.machine.now _ _ g.M.Machine.reach _ _ _ _ _ _ c.in-Read.most _ _
     c.index-readers-input.result (omega (arith, w.place, c.requires.inputs, c.loop-input.invariant.running.runs.reached.all))
     refl

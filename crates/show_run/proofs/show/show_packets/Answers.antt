@@ -21,4 +21,4 @@ returns-in_err-tell_lines g c =
 pub returns : goal.returns
 returns g c =
     rw c.packets_end.ensures
-    (shows_end c.front_refusal.ensures _ c.tell_lines.new.machine _ _ c.args.name.now c.in_ok-tell_lines.ensures.ok)
+    (shows_end _ c.tell_lines.new.machine _ _ c.args.name.now c.in_ok-tell_lines.ensures.ok)

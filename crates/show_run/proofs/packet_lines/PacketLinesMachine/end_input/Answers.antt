@@ -1,13 +1,13 @@
-use Rattle.std.proofs.Common.{length, refl, ap, arith}
-use Rattle.show_run.proofs.PacketLinesLemmas.{fed_last, falls_idle, end_fits}
+use Rattle.std.proofs.Common.{rules, refl, arith}
+use Rattle.show_run.proofs.PacketLinesLemmas.{ended_all, ended_within}
 use Rattle.show_run.proofs.packet_lines.PacketLinesMachine.end_input.Goals as goal
 
-pub invariant_of-self-clause-behind : goal.invariant_of-self-clause-behind
-invariant_of-self-clause-behind c = λ ends. let n = ap length c.set.ensures in let f =
-    end_fits c.args.self.now _ _ c.requires.room (falls_idle c.args.self.now _ _ c.requires.wanted) in omega (arith, n, f)
+pub returns-then-is_empty-clause-becomes : goal.returns-then-is_empty-clause-becomes
+returns-then-is_empty-clause-becomes c =
+    λ start events came. ended_all c.events_law.ensures start c.args.self.now _ events c.args._input c.args._bytes.now
+    c.requires.wanted (search (rules, arith)) refl c.count_line-self.ensures.text refl refl came
 
-pub returns-clause-becomes : goal.returns-clause-becomes
-returns-clause-becomes c = λ start events came.
-    let i = falls_idle c.args.self.now _ _ c.requires.wanted in
-    fed_last c.events_law.ensures start c.args.self.now _ events c.args._input c.args.bytes.now i.2 i.0 i.1 refl refl
-    c.set.ensures refl refl came
+pub returns-else-is_empty-clause-becomes : goal.returns-else-is_empty-clause-becomes
+returns-else-is_empty-clause-becomes c =
+    λ start events came. ended_within c.events_law.ensures start c.args.self.now _ events c.args._input c.args._bytes.now
+    c.requires.wanted (search (rules, arith)) refl refl refl refl refl came

@@ -1,23 +1,34 @@
-use Rattle.std.proofs.Common.{refl}
-use Rattle.show_run.proofs.PacketLinesLemmas.{fed_packet, fed_refused, idle, not_ends, feed_fits}
+use Rattle.std.proofs.Common.{rules, refl, take, arith}
+use Rattle.std.proofs.lemmas.List.{length-take-le}
+use Rattle.show_run.proofs.PacketFrontLemmas.{lacks_some, still_short}
+use Rattle.show_run.proofs.PacketLinesLemmas.{took_some, took_whole, idle, is_short}
 use Rattle.show_run.proofs.packet_lines.PacketLinesMachine.feed.Goals as goal
 
-pub invariant_of-self-clause-behind : goal.invariant_of-self-clause-behind
-invariant_of-self-clause-behind c = λ ends. let i = idle c.args.self.now _ _ c.requires.wanted in
-    absurd (not_ends c.args.self.now.phase i.1 ends)
-
-pub invariant_of-self-clause-small : goal.invariant_of-self-clause-small
-invariant_of-self-clause-small c =
-    feed_fits c.args.self.now _ c.in-Ok.len _ c.requires.room (idle c.args.self.now _ _ c.requires.wanted) c.in-Ok.ensures.len.1
-
-pub returns-in-Ok-clause-becomes : goal.returns-in-Ok-clause-becomes
-returns-in-Ok-clause-becomes c = λ start events came.
+pub returns-then-lacking-eq0-clause-some : goal.returns-then-lacking-eq0-clause-some
+returns-then-lacking-eq0-clause-some c =
     let i = idle c.args.self.now _ _ c.requires.wanted in
-    fed_packet c.events_law.ensures start c.args.self.now _ events c.args._input c.args.bytes.now c.in-Ok.len i.2 i.0 i.1 i.1 refl
-    refl c.in-Ok.ensures.ok came
+    let some = lacks_some _ _ (rw c.deref.ensures.value at c.lacking.ensures.is)
+    (is_short c.args.self.now _ _ c.requires.room i.1) in
+    let least = c.min-count.ensures in
+    let many = i.3 in
+    (omega (arith, some, least, many), omega (arith, least))
 
-pub returns-in-Err-clause-becomes : goal.returns-in-Err-clause-becomes
-returns-in-Err-clause-becomes c = λ start events came.
+pub returns-then-lacking-eq0-clause-becomes : goal.returns-then-lacking-eq0-clause-becomes
+returns-then-lacking-eq0-clause-becomes c = λ start events came.
     let i = idle c.args.self.now _ _ c.requires.wanted in
-    fed_refused c.events_law.ensures start c.args.self.now _ events c.args._input c.args.bytes.now c.in-Err.why i.2 i.0 i.1 refl
-    refl refl refl i.3 c.in-Err.ensures.err came
+    let least = c.min-count.ensures in
+    let size = length-take-le c.min-count.result c.args.bytes.now (omega (arith, least)) in
+    took_whole c.events_law.ensures c.spell_law.ensures.is start c.args.self.now _ c.see.new.self events c.args._input
+    c.lacking.result c.lacking-2.result
+    (take c.min-count.result c.args.bytes.now) c.see.ensures.sees i.2 i.0 i.1 refl refl refl (omega (arith, size)) (search rules)
+    (rw c.deref.ensures.value at c.lacking.ensures.is) (omega (arith, size, least))
+    (rw c.deref-2.ensures.value at c.lacking-2.ensures.is) c.if-lacking-eq0.true c.see.ensures.at came
+
+pub returns-else-lacking-eq0-clause-becomes : goal.returns-else-lacking-eq0-clause-becomes
+returns-else-lacking-eq0-clause-becomes c = λ start events came.
+    let i = idle c.args.self.now _ _ c.requires.wanted in
+    let least = c.min-count.ensures in
+    let size = length-take-le c.min-count.result c.args.bytes.now (omega (arith, least)) in
+    took_some c.events_law.ensures start c.args.self.now _ events c.args._input (take c.min-count.result c.args.bytes.now) i.2 i.0
+    i.1 refl refl refl (omega (arith, size)) (search rules)
+    (still_short _ _ (rw c.deref-2.ensures.value at c.lacking-2.ensures.is) c.if-lacking-eq0.false) came
