@@ -1,10 +1,10 @@
 // Laws of the definitions. Their functions do nothing.
 ghost use Rattle.mode_adapt.specs.Laws.{WithinLaw, BacklogLaw, SentLaw, SentWithin, BeginLaw, EndLaw, PlaceLaw, FirstLaw};
-ghost use Rattle.mode_adapt.specs.Laws.{JoinLaw, CountLaw, BlocksLaw, EarlyFits, BlocksFit};
+ghost use Rattle.mode_adapt.specs.Laws.{JoinLaw, CountLaw, BlocksLaw, EarlyFits, BlocksFit, AloneBlocks};
 
 use bb_frame::bit_counts;
 use null_delete::decided_by_the_past;
-use plp_config::{block_law, length_law, slot_time_law};
+use plp_config::{block_law, interleaving_law, length_law, slot_time_law};
 
 /// An interleaving frame carries what the stream brings in it, and at least one user packet.
 pub fn within_law()
@@ -77,4 +77,11 @@ pub fn early_fits_law()
     bit_counts();
     block_law();
     length_law();
+}
+
+/// With spread 1 a frame sends the blocks of its interleaving frame, and tells how many they are.
+pub fn alone_law()
+    ensures { AloneBlocks }
+{
+    interleaving_law();
 }

@@ -10,6 +10,7 @@ pub mod IscrLemmas
 pub mod EmissionLemmas
 pub mod RunLemmas
 pub mod SpreadLemmas
+pub mod BeginLemmas
 pub mod RuleDecideLemmas
 pub mod TestDecideLemmas
 pub mod PlaceLemmas

@@ -1,10 +1,11 @@
 -- Laws of the times and the tables, for the crates above. A slot lasts num / den ticks, and an epoch is any number of ticks.
-use Rattle.std.specs.Prelude.{◌≡◌, ◌≢◌, ◌⊎◌, ℕ, ◌+◌, ◌-◌, ◌*◌, ◌/◌, ◌%◌, ◌^◌, ◌<◌, ◌≤◌, ◌↔◌, length, sum_by}
+use Rattle.std.specs.Prelude.{◌≡◌, ◌≢◌, ◌⊎◌, ℕ, true, ◌+◌, ◌-◌, ◌*◌, ◌/◌, ◌%◌, ◌^◌, ◌<◌, ◌≤◌, ◌↔◌, length, sum_by}
 use Rattle.std.specs.Int.{div_ceil}
 use Rattle.plp_config.specs.Capacity.{block_bytes, field_bytes, block_cells, up_bytes, capacity, frame_room, AllTests, Lacks}
 use Rattle.plp_config.specs.Capacity.{IsPlan}
 use Rattle.plp_config.specs.Emission.{subseconds_by, origin, frame_subseconds, emission, FindsFrame}
 use Rattle.plp_config.specs.FirstFailure.{IsFirstFailure}
+use Rattle.plp_config.specs.InterleavingFrames.{interleaving_frame, is_first, begin_of}
 use Rattle.plp_config.specs.Places.{FramesStandAlone}
 use Rattle.plp_config.specs.Plps.{plp_at, spread, spread_max, StandsAlone}
 use Rattle.plp_config.specs.Rules.{AllRules, Refuses}
@@ -201,6 +202,33 @@ abbrev pub SpreadIsGreatest : Type 0
 SpreadIsGreatest = (c : Config) → AllRules c
     → ((plp : ℕ) → plp < length c.plps → spread c.plps plp ≤ spread_max c.plps)
     × ((plp : ℕ) × (plp < length c.plps) × (spread c.plps plp ≡ spread_max c.plps))
+
+-- in the first frame of a superframe an interleaving frame of each PLP begins
+abbrev pub SuperframeBegins : Type 0
+SuperframeBegins = (c : Config) (plp frame : ℕ) → AllRules c → plp < length c.plps → frame % c.frames ≡ 0
+    → is_first c plp frame ≡ true
+
+-- one begins in the superframe in which it is carried
+abbrev pub BeginsInSuperframe : Type 0
+BeginsInSuperframe = (c : Config) (plp frame : ℕ) → AllRules c → plp < length c.plps
+    → frame - frame % c.frames ≤ begin_of c plp frame
+
+-- of the frames up to one, `begin_of` is the last in which one begins
+abbrev pub BeginIsFirst : Type 0
+BeginIsFirst = (c : Config) (plp frame : ℕ) → AllRules c → plp < length c.plps → is_first c plp (begin_of c plp frame) ≡ true
+
+abbrev pub BeginIsLast : Type 0
+BeginIsLast = (c : Config) (plp frame first : ℕ) → AllRules c → plp < length c.plps → is_first c plp first ≡ true → first ≤ frame
+    → first ≤ begin_of c plp frame
+
+-- interleaving frame m begins in frame m P
+abbrev pub BeginByNumber : Type 0
+BeginByNumber = (c : Config) (plp frame : ℕ) → begin_of c plp frame ≡ interleaving_frame c plp frame * spread c.plps plp
+
+-- with spread 1 frames and interleaving frames are the same
+abbrev pub BeginAlone : Type 0
+BeginAlone = (c : Config) (plp frame : ℕ) → StandsAlone c.plps plp
+    → (is_first c plp frame ≡ true) × (interleaving_frame c plp frame ≡ frame) × (begin_of c plp frame ≡ frame)
 
 -- a frame lasts a quarter of a second at most
 abbrev pub FrameQuarter : Type 0

@@ -1,6 +1,7 @@
 pub mod Tables
 pub mod Plps
 pub mod Places
+pub mod InterleavingFrames
 pub mod FirstFailure
 pub mod SlotTime
 pub mod SlotTimes

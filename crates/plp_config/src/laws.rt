@@ -7,7 +7,8 @@ ghost use Rattle.plp_config.specs.Laws.{FrameCountLeast, OneRuleFails, RefusalFa
 ghost use Rattle.plp_config.specs.Laws.{TestsDecided, SlotLength, FrameTicks, FrameQuarter, FieldRange, BlockBits};
 ghost use Rattle.plp_config.specs.Laws.{UserPacketRange, CapacityHoldsUp, CellsByFive, BlockChunks, EpochTicks, RoomsFit};
 ghost use Rattle.plp_config.specs.Laws.{SpreadDividesFrames, SpreadIsGreatest, CellsInParts, BlocksFit, EpochAlone, GreatestAlone};
-ghost use Rattle.plp_config.specs.Laws.{SoundTimes, OneFirstSpread};
+ghost use Rattle.plp_config.specs.Laws.{SoundTimes, OneFirstSpread, SuperframeBegins, BeginsInSuperframe, BeginIsFirst};
+ghost use Rattle.plp_config.specs.Laws.{BeginIsLast, BeginByNumber, BeginAlone};
 
 /// When slots start and when they are over. A count reaches a number exactly if the end of the
 /// last slot below it is not after the tick.
@@ -94,6 +95,16 @@ pub fn spread_law()
     ensures parts { CellsInParts }
     ensures room { RoomsFit }
     ensures blocks { BlocksFit }
+{}
+
+/// Where interleaving frames begin.
+pub fn interleaving_law()
+    ensures superframe { SuperframeBegins }
+    ensures inside { BeginsInSuperframe }
+    ensures first { BeginIsFirst }
+    ensures last { BeginIsLast }
+    ensures number { BeginByNumber }
+    ensures alone { BeginAlone }
 {}
 
 /// The sizes of blocks, as the tables give them.

@@ -3,6 +3,7 @@ ghost use Rattle.std.specs.Prelude.{◌≡◌, ◌-◌, ◌/◌, ◌%◌, ◌^�
 ghost use Rattle.plp_config.specs.Capacity.{AllTests, Throughput, block_bytes, field_bytes, block_cells, up_bytes, capacity};
 ghost use Rattle.plp_config.specs.Capacity.{frame_room, need_of};
 ghost use Rattle.plp_config.specs.Emission.{emission};
+ghost use Rattle.plp_config.specs.InterleavingFrames.{interleaving_frame, is_first};
 ghost use Rattle.plp_config.specs.Places.{IsPlace, HasNoPlace};
 ghost use Rattle.plp_config.specs.FirstFailure.{FindsFailure};
 ghost use Rattle.plp_config.specs.Plps.{plp_at, spread, spread_max, StandsAlone};
@@ -165,6 +166,23 @@ impl Plan {
         ensures whole { self.now.frames % result ≡ 0 }
     {
         u32::from(values::spread(&self.config, plp))
+    }
+
+    /// Whether a frame is the first that carries its interleaving frame of a PLP (EN 302 755, clause 6.5).
+    pub fn is_first(&self, plp: usize, frame: u64) -> bool
+        requires { plp < length self.now.plps }
+        ensures { result ≡ is_first self.now plp frame }
+    {
+        frame % u64::from(values::spread(&self.config, plp)) == 0
+    }
+
+    /// The number of the interleaving frame of a PLP that a frame carries.
+    pub fn interleaving_frame(&self, plp: usize, frame: u64) -> u64
+        requires { plp < length self.now.plps }
+        ensures number { result ≡ interleaving_frame self.now plp frame }
+        ensures small { result ≤ frame }
+    {
+        frame / u64::from(values::spread(&self.config, plp))
     }
 
     /// The greatest spread of all PLPs.

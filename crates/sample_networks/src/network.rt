@@ -1,5 +1,5 @@
-// Configurations of networks of 8 MHz, with two frames a superframe.
-use crate::plps::{LOADED_PLP, MIXED_PLPS, REALISTIC_PLP, SMALL_PLP, SPREAD_PLP};
+// Configurations of networks of 8 MHz, with two frames a superframe, or four.
+use crate::plps::{LOADED_PLP, MIXED_PLPS, REALISTIC_PLP, SMALL_PLP, SPREAD_PLP, VARIED_PLPS};
 use bit_slice::OutOfMemory;
 use plp_config::{Band, Config, L1Numbers, Plp, PlpList};
 use std::alloc::Global;
@@ -75,4 +75,11 @@ pub fn realistic_network(alloc: Global) -> Result<Config, OutOfMemory> {
 /// The network of `MIXED_PLPS`, with 40,000 cells in five sub-slices.
 pub fn mixed_network(alloc: Global) -> Result<Config, OutOfMemory> {
     network_of(alloc, &MIXED_PLPS, 40_000, 5)
+}
+
+/// The network of `VARIED_PLPS`, with 40,000 cells in five sub-slices and four frames a superframe.
+pub fn varied_network(alloc: Global) -> Result<Config, OutOfMemory> {
+    let mut config = network_of(alloc, &VARIED_PLPS, 40_000, 5)?;
+    config.frames = 4;
+    Ok(config)
 }

@@ -1,6 +1,6 @@
 // Plans of the networks.
 use crate::network::{
-    loaded_network, mixed_network, realistic_network, small_network, spread_network,
+    loaded_network, mixed_network, realistic_network, small_network, spread_network, varied_network,
 };
 use bit_slice::OutOfMemory;
 use plp_config::{CapacityFault, Config, ConfigFault, Plan, fits, validate};
@@ -52,4 +52,9 @@ pub fn realistic_plan(alloc: Global) -> Result<Plan, NoPlan> {
 /// The plan of `mixed_network`.
 pub fn mixed_plan(alloc: Global) -> Result<Plan, NoPlan> {
     plan_of(mixed_network(alloc)?)
+}
+
+/// The plan of `varied_network`.
+pub fn varied_plan(alloc: Global) -> Result<Plan, NoPlan> {
+    plan_of(varied_network(alloc)?)
 }

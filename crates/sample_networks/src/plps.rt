@@ -25,6 +25,44 @@ pub const SPREAD_PLP: Plp = Plp {
     ..SMALL_PLP
 };
 
+/// A common PLP and one of type 1 in its group with interleaving frames of two frames, one of type 1 whose frames stand alone, and
+/// one of type 2 with interleaving frames of four. They want superframes of four frames.
+pub const VARIED_PLPS: [Plp; 4] = [
+    Plp {
+        id: 7,
+        plp_type: PlpType::Common,
+        blocks: 2,
+        bits_per_second: 600_000,
+        spread: 2,
+        ..SMALL_PLP
+    },
+    Plp {
+        id: 3,
+        blocks: 2,
+        delete: false,
+        bits_per_second: 600_000,
+        spread: 2,
+        ..SMALL_PLP
+    },
+    Plp {
+        id: 9,
+        group: 2,
+        blocks: 1,
+        bits_per_second: 600_000,
+        ..SMALL_PLP
+    },
+    Plp {
+        id: 5,
+        plp_type: PlpType::Type2,
+        group: 3,
+        rate: Rate::R3_5,
+        modulation: Modulation::Qam64,
+        bits_per_second: 800_000,
+        spread: 4,
+        ..SMALL_PLP
+    },
+];
+
 /// A PLP with as much to send as its three blocks a frame carry: 2,607 bytes, one more than 100,000 ticks bring.
 pub const LOADED_PLP: Plp = Plp {
     blocks: 3,

@@ -21,6 +21,8 @@ fn each_network_has_a_plan(rt: HostRuntime) -> Result<(), Fail> {
         mixed_plan(rt.alloc())?.config().plps.get(2),
         Some(&MIXED_PLPS[2])
     );
+    assert_eq!(rt; spread_plan(rt.alloc())?.spread_max(), 2);
+    assert_eq!(rt; varied_plan(rt.alloc())?.spread_max(), 4);
     Ok(())
 }
 

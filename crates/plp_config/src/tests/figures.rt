@@ -27,6 +27,8 @@ enum Figure {
     SpreadMax,
     EpochTicks,
     FrameRoom,
+    InterleavingFrame(u8),
+    IsFirst(u8),
 }
 
 fn figure_of(plan: &Plan, figure: Figure) -> u128
@@ -51,6 +53,11 @@ fn figure_of(plan: &Plan, figure: Figure) -> u128
         Figure::SpreadMax => u128::from(plan.spread_max()),
         Figure::EpochTicks => u128::from(plan.epoch_ticks(0)),
         Figure::FrameRoom => u128::from(plan.frame_room(0)),
+        Figure::InterleavingFrame(frame) => u128::from(plan.interleaving_frame(
+            0,
+            u64::from(frame),
+        )),
+        Figure::IsFirst(frame) => u128::from(plan.is_first(0, u64::from(frame))),
     }
 }
 
@@ -91,11 +98,12 @@ const WIDE_PLP: Plp = Plp {
 };
 
 #[rattlefmt::skip]
-static WIDE: [(Figure, u128); 15] = [
+static WIDE: [(Figure, u128); 19] = [
     (Figure::SlotNumerator, 48_128), (Figure::SlotDenominator, 7), (Figure::Need, 5_469), (Figure::Delay, 606_877),
     (Figure::Window, 105), (Figure::FieldBytes, 869), (Figure::Capacity, 6_952), (Figure::FrameRoom, 32_400),
     (Figure::Spread, 2), (Figure::SpreadMax, 2), (Figure::EpochTicks, 200_000),
     (Figure::SlotsBy(100_000), 14), (Figure::SlotsBy(200_000), 29), (Figure::SlotsBy(300_000), 43), (Figure::SlotsBy(400_000), 58),
+    (Figure::InterleavingFrame(2), 1), (Figure::InterleavingFrame(3), 1), (Figure::IsFirst(2), 1), (Figure::IsFirst(3), 0),
 ];
 
 #[test]
