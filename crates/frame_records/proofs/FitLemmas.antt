@@ -8,13 +8,14 @@ use Rattle.std.specs.Int.{div_ceil}
 use Rattle.std.proofs.Math.Nat.{mul-le-mul}
 use Rattle.std.proofs.lemmas.List.{length-append, length-map}
 use Rattle.std.proofs.lemmas.List.FromFn.{get_or-map-range_with_len, length-map-range_with_len}
-use Rattle.std.proofs.lemmas.List.Sums.{sum-map, sum_by-cons}
+use Rattle.std.proofs.lemmas.List.Sums.{sum-map, sum_by-cons, sum_by-le-sum_by}
 use Rattle.terms.specs.Bits.{bytes_for}
 use Rattle.terms.proofs.BitLemmas.{length-field}
 use Rattle.plp_config.specs.Capacity.{IsPlan, CellAddresses, RecordLength, block_bytes, field_bytes, capacity, block_room}
 use Rattle.plp_config.specs.Capacity.{longest_rest}
 use Rattle.plp_config.specs.Emission.{emission}
 use Rattle.plp_config.specs.Laws.{EmissionFits, FieldRange, SlotLength}
+use Rattle.plp_config.specs.InterleavingFrames.{interleaving_frame, is_first}
 use Rattle.plp_config.specs.Places.{places}
 use Rattle.plp_config.specs.Plps.{plp_at}
 use Rattle.plp_config.specs.Rules.{PlpCount}
@@ -31,7 +32,8 @@ use Rattle.l1_signal.specs.L1Of.{pre_of, post_bits}
 use Rattle.l1_signal.specs.L1Pre.{pre_bits}
 use Rattle.l1_signal.specs.Laws.{PreBitsLength, PostLength}
 use Rattle.l1_signal.specs.Lengths.{post_len}
-use Rattle.mode_adapt.specs.Blocks.{block_bits, block_places, plp_keeps, rates_of, plp_blocks}
+use Rattle.mode_adapt.specs.Blocks.{block_bits, block_places, plp_keeps, rates_of, plp_blocks, own_blocks, told_count}
+use Rattle.mode_adapt.specs.Blocks.{told_counts}
 use Rattle.mode_adapt.specs.Laws.{CountLaw}
 use Rattle.mode_adapt.specs.Queue.{sent, sent_before}
 use Rattle.null_delete.specs.Deletion.{packet_at}
@@ -56,13 +58,9 @@ length-l1_pre law c = length-append (pre_bits (pre_of c)) _ ∙ ap₂ (λ (a b :
 
 -- ---- how many blocks a frame has
 
--- so many has each PLP
-abbrev pub counts : Config → (ℕ → List (List ℕ)) → ℕ → ℕ → ℕ
-counts c inputs n plp = length (plp_blocks c inputs n plp)
-
--- no PLP has more blocks than it may
+-- no interleaving frame has more blocks than it may
 count_le : SlotLength → FieldRange → CountLaw → (c : Config) (inputs : ℕ → List (List ℕ)) (n plp : ℕ) → IsPlan c
-    → plp < length c.plps → counts c inputs n plp ≤ (plp_at c.plps plp).blocks
+    → plp < length c.plps → length (plp_blocks c inputs n plp) ≤ (plp_at c.plps plp).blocks
 unfolding capacity
 count_le slot field law c inputs n plp is lt =
     let at : ℕ → List ℕ = packet_at (inputs plp) in
@@ -70,20 +68,28 @@ count_le slot field law c inputs n plp is lt =
     let f = field c plp in
     let most = law (rates_of c plp (epoch_ticks c plp)) (plp_keeps c plp at) (field_bytes c plp) (plp_at c.plps plp).blocks n
     (omega (arith, s)) (omega (arith, f.0)) refl in
-    let len : counts c inputs n plp
+    let len : length (plp_blocks c inputs n plp)
     ≡ length (block_places (field_bytes c plp) (sent_before (rates_of c plp (epoch_ticks c plp)) (plp_keeps c plp at) n)
     (sent (rates_of c plp (epoch_ticks c plp)) (plp_keeps c plp at) n)) = length-map _ _ in
     omega (arith, most, len)
 
 pub counts_fit : SlotLength → FieldRange → CountLaw → (c : Config) (inputs : ℕ → List (List ℕ)) (n : ℕ) → IsPlan c
-    → CountsFit c (map (counts c inputs n) (places c))
+    → CountsFit c (told_counts c inputs n)
 counts_fit slot field law c inputs n is = record {
-  whole = length-map-range_with_len (counts c inputs n) 0 (length c.plps);
+  whole = length-map-range_with_len (told_count c inputs n) 0 (length c.plps);
   within = λ plp lt.
-      let here : slice_index (map (counts c inputs n) (places c)) plp ≡ counts c inputs n plp =
-      get_or-map-range_with_len (counts c inputs n) 0 (length c.plps) plp plp 0 lt (omega arith) in
-      omega (arith, here, count_le slot field law c inputs n plp is lt);
+      let here : slice_index (told_counts c inputs n) plp ≡ told_count c inputs n plp =
+      get_or-map-range_with_len (told_count c inputs n) 0 (length c.plps) plp plp 0 lt (omega arith) in
+      omega (arith, here, count_le slot field law c inputs (interleaving_frame c plp n) plp is lt);
 }
+
+-- those that are sent in a frame are no more than it tells
+either_le : (b : Bool) (blocks : List (List Bool)) → length (cond b blocks []) ≤ length blocks
+either_le true blocks = omega arith
+either_le false blocks = omega arith
+
+pub own_le : (c : Config) (inputs : ℕ → List (List ℕ)) (n plp : ℕ) → length (own_blocks c inputs n plp) ≤ told_count c inputs n plp
+own_le c inputs n plp = either_le (is_first c plp n) (plp_blocks c inputs (interleaving_frame c plp n) plp)
 
 -- no block has fewer than 883 bytes with its head, and so many are no more than those of the PLPs
 few_for : FieldRange → (c : Config) (counts : List ℕ) (plps : List Plp) (from : ℕ) → length counts ≡ length plps
@@ -147,14 +153,13 @@ few_blocks field c shape is len passes =
     omega (arith, blocks, rest)
 
 -- the blocks of all PLPs
-all_blocks : (c : Config) (inputs : ℕ → List (List ℕ)) (n : ℕ) (plps : List ℕ)
-    → length (flat_map (λ plp. map (sent_block c plp) (plp_blocks c inputs n plp)) plps) ≡ sum_by (counts c inputs n) plps
-all_blocks c inputs n [] = refl
-all_blocks c inputs n (plp ∷ plps) =
-    length-append (map (sent_block c plp) (plp_blocks c inputs n plp))
-    (flat_map (λ plp. map (sent_block c plp) (plp_blocks c inputs n plp)) plps)
-    ∙ ap₂ (λ (a b : ℕ). a + b) (length-map (plp_blocks c inputs n plp) (sent_block c plp)) (all_blocks c inputs n plps)
-    ∙ sym (sum_by-cons (counts c inputs n) plp plps)
+all_blocks : (c : Config) (blocks : ℕ → List (List Bool)) (plps : List ℕ)
+    → length (flat_map (λ plp. map (sent_block c plp) (blocks plp)) plps) ≡ sum_by (λ plp. length (blocks plp)) plps
+all_blocks c blocks [] = refl
+all_blocks c blocks (plp ∷ plps) =
+    length-append (map (sent_block c plp) (blocks plp)) (flat_map (λ plp. map (sent_block c plp) (blocks plp)) plps)
+    ∙ ap₂ (λ (a b : ℕ). a + b) (length-map (blocks plp) (sent_block c plp)) (all_blocks c blocks plps)
+    ∙ sym (sum_by-cons (λ plp. length (blocks plp)) plp plps)
 
 -- ---- each block and each cell
 
@@ -179,16 +184,24 @@ plp_blocks_are_sent numbers law c inputs n plp id =
     (λ from. block_is_sent numbers law c plp (block from) id
     (length-block numbers law c plp at slots from (min (from + field_bytes c plp) end) (omega arith)))
 
+either_are_sent : (b : Bool) (c : Config) (plp : ℕ) (blocks : List (List Bool))
+    → AllByRecursion IsSentBlock (map (sent_block c plp) blocks)
+    → AllByRecursion IsSentBlock (map (sent_block c plp) (cond b blocks []))
+either_are_sent true c plp blocks all = all
+either_are_sent false c plp blocks all = tt
+
 -- the blocks of the PLPs from one on
 blocks_are_sent : BitCounts → FieldRange → (c : Config) (inputs : ℕ → List (List ℕ)) (n from count : ℕ) → HasByteIds c
     → from + count ≤ length c.plps
     → AllByRecursion IsSentBlock
-    (flat_map (λ plp. map (sent_block c plp) (plp_blocks c inputs n plp)) (range_with_len from count))
+    (flat_map (λ plp. map (sent_block c plp) (own_blocks c inputs n plp)) (range_with_len from count))
 blocks_are_sent numbers law c inputs n from zero ids le = tt
 blocks_are_sent numbers law c inputs n from (suc count) ids le =
-    all_append IsSentBlock (map (sent_block c from) (plp_blocks c inputs n from))
-    (flat_map (λ plp. map (sent_block c plp) (plp_blocks c inputs n plp)) (range_with_len (from + 1) count))
-    (plp_blocks_are_sent numbers law c inputs n from (ids from (omega (arith, le))))
+    let m : ℕ = interleaving_frame c from n in
+    all_append IsSentBlock (map (sent_block c from) (own_blocks c inputs n from))
+    (flat_map (λ plp. map (sent_block c plp) (own_blocks c inputs n plp)) (range_with_len (from + 1) count))
+    (either_are_sent (is_first c from n) c from (plp_blocks c inputs m from)
+    (plp_blocks_are_sent numbers law c inputs m from (ids from (omega (arith, le)))))
     (blocks_are_sent numbers law c inputs n (from + 1) count ids (omega (arith, le)))
 
 -- blocks that are sent fit their numbers
@@ -233,20 +246,25 @@ every_frame_fits bits emits field cells c n frame_idx post blocks shape is small
 pub frame_fits : BitCounts → SlotLength → FieldRange → CountLaw → PostLength → ShapeHasCounts → ShapePasses → EveryFrameFits
     → FrameFits
 frame_fits numbers slot field law post has passes every c inputs n is ids small =
-    let all : List ℕ = map (counts c inputs n) (places c) in
+    let all : List ℕ = told_counts c inputs n in
+    let own : ℕ → ℕ = λ plp. length (own_blocks c inputs n plp) in
     let fit : CountsFit c all = counts_fit slot field law c inputs n is in
     let same : (frame_shape c inputs n).counts ≡ all = has c all in
-    let blocks : length (sent_blocks c (plp_blocks c inputs n)) ≡ sum_by (counts c inputs n) (places c) =
-    all_blocks c inputs n (places c) in
+    let blocks : length (sent_blocks c (own_blocks c inputs n)) ≡ sum_by own (places c) =
+    all_blocks c (own_blocks c inputs n) (places c) in
+    let fewer : sum_by own (places c) ≤ sum_by (told_count c inputs n) (places c) =
+    sum_by-le-sum_by own (told_count c inputs n) (places c) (own_le c inputs n) in
     let bits = post c n (frame_shape c inputs n) in
     let size = length-blocks numbers field c inputs n in
-    let room = room_for_all c (counts c inputs n) (λ plp lt. count_le slot field law c inputs n plp is lt) in
-    every c n (n % c.frames) (post_bits c n (frame_shape c inputs n)) (sent_blocks c (plp_blocks c inputs n))
+    let room = room_for_all c own (λ plp lt.
+    let most = count_le slot field law c inputs (interleaving_frame c plp n) plp is lt in
+    omega (arith, own_le c inputs n plp, most)) in
+    every c n (n % c.frames) (post_bits c n (frame_shape c inputs n)) (sent_blocks c (own_blocks c inputs n))
     (frame_shape c inputs n) is
     (omega (arith, small)) (omega (arith, bits))
     (ap (λ (l : List ℕ). length l) same ∙ fit.whole)
     (passes c all is fit)
-    (omega (arith, blocks, ap (λ (l : List ℕ). sum l) same, sum-map (counts c inputs n) (places c)))
+    (omega (arith, blocks, fewer, ap (λ (l : List ℕ). sum l) same, sum-map (told_count c inputs n) (places c)))
     (omega (arith, size, room))
     (blocks_are_sent numbers field c inputs n 0 (length c.plps) ids (omega arith))
 

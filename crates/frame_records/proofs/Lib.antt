@@ -5,3 +5,4 @@ mod CountedLemmas
 pub mod FitLemmas
 mod StandLemmas
 mod LossLemmas
+pub mod AloneLemmas

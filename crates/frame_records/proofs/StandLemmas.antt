@@ -1,5 +1,6 @@
 -- Blocks stand at their ordinals, and cells at their addresses.
-use Rattle.std.proofs.Common.{◌≡◌, ℕ, zero, suc, ◌+◌, ◌%◌, ◌<◌, Option, Some, List, [], ◌∷◌, ◌++◌, length, get_or, take, refl}
+use Rattle.std.proofs.Common.{◌≡◌, ℕ, zero, suc, ◌+◌, ◌%◌, ◌<◌, ◌≤◌, Option, Some, List, [], ◌∷◌, ◌++◌, length, get_or, take}
+use Rattle.std.proofs.Common.{refl}
 use Rattle.std.proofs.Common.{sym, ap, ap₂, subst, ◌∙◌, arith}
 use Rattle.std.specs.Prelude.{map, sum, sum_by, slice_get}
 use Rattle.std.specs.List.{flat_map, range_with_len}
@@ -19,9 +20,9 @@ use Rattle.plp_config.specs.declared.config.Config.{Config}
 use Rattle.scheduler.specs.Laws.{ShapeHasCounts}
 use Rattle.site_frame.specs.Record.{Block}
 use Rattle.frame_records.specs.Frames.{sent_block, sent_blocks, frame_shape}
-use Rattle.frame_records.specs.Laws.{BlockStands, CellStands}
-use Rattle.frame_records.proofs.FitLemmas.{counts, counts_fit}
-use Rattle.mode_adapt.specs.Blocks.{plp_blocks}
+use Rattle.frame_records.specs.Laws.{BlockStands, OrdinalCounts, CellStands, blocks_before}
+use Rattle.frame_records.proofs.FitLemmas.{counts_fit}
+use Rattle.mode_adapt.specs.Blocks.{told_count, told_counts}
 
 get_front : {X : Type 0} (xs ys : List X) (k : ℕ) → k < length xs → slice_get (xs ++ ys) k ≡ slice_get xs k
 get_front [] ys k lt = absurd (omega arith)
@@ -55,28 +56,37 @@ same_sums f g [] same = refl
 same_sums f g (x ∷ xs) same = sum_by-cons f x xs ∙ ap₂ (λ (a b : ℕ). a + b) (same x) (same_sums f g xs same)
     ∙ sym (sum_by-cons g x xs)
 
--- the ordinal of a block: behind those of the PLPs before its own
-ordinal_is : ShapeHasCounts → (c : Config) (inputs : ℕ → List (List ℕ)) (n plp block : ℕ)
-    → ordinal_of (frame_shape c inputs n) plp block ≡ sum_by (counts c inputs n) (take plp (places c)) + block
-ordinal_is has c inputs n plp block =
-    ap (λ (l : List ℕ). sum (take plp l) + block) (has c (map (counts c inputs n) (places c)))
-    ∙ ap (λ (l : List ℕ). sum l + block) (take-map (counts c inputs n) plp (places c))
-    ∙ ap (λ (s : ℕ). s + block) (sum-map (counts c inputs n) (take plp (places c)))
+-- the places before one
+take_range : (from count n : ℕ) → n ≤ count → take n (range_with_len from count) ≡ range_with_len from n
+take_range from count zero le = refl
+take_range from zero (suc n) le = absurd (omega (arith, le))
+take_range from (suc count) (suc n) le = ap (λ (l : List ℕ). from ∷ l) (take_range (from + 1) count n (omega (arith, le)))
 
-pub block_stands : ShapeHasCounts → BlockStands
-block_stands has c inputs n plp block lt sent =
-    let piece : ℕ → List Block = λ plp. map (sent_block c plp) (plp_blocks c inputs n plp) in
+take_places : (c : Config) (plp : ℕ) → plp < length c.plps → take plp (places c) ≡ range_with_len 0 plp
+take_places c plp lt = take_range 0 (length c.plps) plp (omega (arith, lt))
+
+-- the ordinal of a block: behind those of the PLPs before its own
+pub ordinal_counts : ShapeHasCounts → OrdinalCounts
+ordinal_counts has c inputs n plp block lt =
+    ap (λ (l : List ℕ). sum (take plp l) + block) (has c (told_counts c inputs n))
+    ∙ ap (λ (l : List ℕ). sum l + block) (take-map (told_count c inputs n) plp (places c))
+    ∙ ap (λ (l : List ℕ). sum (map (told_count c inputs n) l) + block) (take_places c plp lt)
+    ∙ ap (λ (s : ℕ). s + block) (sum-map (told_count c inputs n) (range_with_len 0 plp))
+
+pub block_stands : BlockStands
+block_stands c blocks plp block lt sent =
+    let piece : ℕ → List Block = λ plp. map (sent_block c plp) (blocks plp) in
     let place : get_or (places c) plp 0 ≡ plp = get_or-range_with_len 0 (length c.plps) plp 0 lt ∙ omega arith in
-    let len : (plp : ℕ) → length (piece plp) ≡ counts c inputs n plp =
-    λ plp. length-map (plp_blocks c inputs n plp) (sent_block c plp) in
-    let at : ordinal_of (frame_shape c inputs n) plp block ≡ sum_by (λ plp. length (piece plp)) (take plp (places c)) + block =
-    ordinal_is has c inputs n plp block
-    ∙ ap (λ (s : ℕ). s + block) (sym (same_sums (λ plp. length (piece plp)) (counts c inputs n) (take plp (places c)) len)) in
+    let len : (plp : ℕ) → length (piece plp) ≡ length (blocks plp) = λ plp. length-map (blocks plp) (sent_block c plp) in
+    let at : blocks_before blocks plp + block ≡ sum_by (λ plp. length (piece plp)) (take plp (places c)) + block =
+    ap (λ (l : List ℕ). sum_by (λ plp. length (blocks plp)) l + block) (sym (take_places c plp lt))
+    ∙ ap (λ (s : ℕ). s + block)
+    (sym (same_sums (λ plp. length (piece plp)) (λ plp. length (blocks plp)) (take plp (places c)) len)) in
     let inside : block < length (piece (get_or (places c) plp 0)) =
     subst (λ (k : ℕ). block < length (piece k)) (sym place) (omega (arith, len plp, sent)) in
-    ap (slice_get (sent_blocks c (plp_blocks c inputs n))) at
+    ap (slice_get (sent_blocks c blocks)) at
     ∙ get_piece piece (places c) plp block (omega (arith, lt, length-range_with_len 0 (length c.plps))) inside
-    ∙ ap (λ (k : ℕ). slice_get (piece k) block) place ∙ slice_get-map (sent_block c plp) (plp_blocks c inputs n plp) block
+    ∙ ap (λ (k : ℕ). slice_get (piece k) block) place ∙ slice_get-map (sent_block c plp) (blocks plp) block
 
 -- what stands at an address of the map
 get_in_range : {X : Type 0} (f : ℕ → X) (from count k : ℕ) → k < count → slice_get (map f (range_with_len from count)) k
@@ -91,7 +101,7 @@ some_there cell = Some cell
 
 pub cell_stands : SlotLength → FieldRange → CountLaw → ShapePasses → MapHasEachCell → CellStands
 cell_stands slot field law passes each c inputs n plp block cell is there =
-    let ok = passes c (map (counts c inputs n) (places c)) is (counts_fit slot field law c inputs n is) in
+    let ok = passes c (told_counts c inputs n) is (counts_fit slot field law c inputs n is) in
     let frame_idx : ℕ = n % c.frames in
     let at : ℕ = address_of c (frame_shape c inputs n) frame_idx plp block cell in
     let below = ok.below frame_idx plp block cell there in

@@ -61,10 +61,10 @@ pub record CountedRecords : Type 0 where
 -- Slots that are due: of the small network after 4 and 24 frames, of the large one after 8, of the narrow one after frames 8 to
 -- 11.
 pub record CountedSlots : Type 0 where
-  pub four : length (due_slots small_network 0 100000 0 4) ≡ 14
-  pub more : length (due_slots small_network 0 100000 0 24) ≡ 305
-  pub large : length (due_slots large_network 0 2049536 0 8) ≡ 29809
-  pub late : due_slots narrow_network 0 100000 8 4 ≡ range_with_len 97 27
+  pub four : length (due_slots small_network 0 0 4) ≡ 14
+  pub more : length (due_slots small_network 0 0 24) ≡ 305
+  pub large : length (due_slots large_network 0 0 8) ≡ 29809
+  pub late : due_slots narrow_network 0 8 4 ≡ range_with_len 97 27
 
 -- the packet in a slot of the narrow network, which is sent 110 packets, none null, if frames 3 and 4 are muted
 abbrev pub narrow_recovered : ℕ → List ℕ

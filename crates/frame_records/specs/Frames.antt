@@ -10,7 +10,7 @@ use Rattle.plp_config.specs.Plps.{plp_at}
 use Rattle.plp_config.specs.RunLength.{frame_count}
 use Rattle.plp_config.specs.declared.config.Config.{Config}
 use Rattle.plp_config.specs.declared.moment.Moment.{Moment}
-use Rattle.mode_adapt.specs.Blocks.{plp_blocks}
+use Rattle.mode_adapt.specs.Blocks.{own_blocks, told_counts}
 use Rattle.scheduler.specs.Shape.{FrameShape, shape_of}
 use Rattle.cell_map.specs.CellMap.{cell_map}
 use Rattle.cell_map.specs.declared.places.Cell.{Cell}
@@ -25,9 +25,9 @@ use Rattle.site_frame.specs.declared.reading.RecordView.TheVariants.{Frame}
 abbrev pub HasByteIds : Config → Type 0
 HasByteIds c = (plp : ℕ) → plp < length c.plps → (plp_at c.plps plp).id < 2 ^ 8
 
--- the shape of frame n, by the blocks that each PLP has
+-- the shape of frame n, by how many blocks each interleaving frame has that it carries
 abbrev pub frame_shape : Config → (ℕ → List (List ℕ)) → ℕ → FrameShape
-frame_shape c inputs n = shape_of c (map (λ plp. length (plp_blocks c inputs n plp)) (places c))
+frame_shape c inputs n = shape_of c (told_counts c inputs n)
 
 -- a block as it is sent: PLP_ID, and its bytes, scrambled
 abbrev pub sent_block : Config → ℕ → List Bool → Block
@@ -50,11 +50,12 @@ l1_pre c = crc_behind true (pre_bits (pre_of c))
 abbrev pub frame_view : Config → Moment → ℕ → List Bool → List Block → FrameShape → RecordView
 frame_view c moment frame_idx post blocks shape = Frame moment (l1_pre c) post blocks (frame_cells c shape frame_idx)
 
--- frame n: when it leaves, its number in its superframe, L1-post, the blocks, and their shape
+-- frame n: when it leaves, its number in its superframe, L1-post, the blocks of the interleaving frames that begin in it, and the
+-- shape of all that it carries
 abbrev pub frame_of : Config → (ℕ → List (List ℕ)) → ℕ → RecordView
 frame_of c inputs n =
     frame_view c (emission c n) (n % c.frames) (post_bits c n (frame_shape c inputs n))
-    (sent_blocks c (plp_blocks c inputs n)) (frame_shape c inputs n)
+    (sent_blocks c (own_blocks c inputs n)) (frame_shape c inputs n)
 
 -- the frames of a run: whole superframes, until the delay has passed for all packets
 abbrev pub run_frames : Config → (ℕ → List (List ℕ)) → List RecordView

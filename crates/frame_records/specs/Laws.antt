@@ -1,19 +1,19 @@
 -- Laws of frames, of records and of what is given back.
-use Rattle.std.specs.Prelude.{◌≡◌, ◌⊎◌, ◌↔◌, ◌<◌, ◌≤◌, ◌^◌, ◌*◌, ◌+◌, ◌-◌, ◌%◌, ℕ, Bool, true, false, List, [], length, map}
-use Rattle.std.specs.Prelude.{sum_by, slice_get, Some, option_map, sum}
+use Rattle.std.specs.Prelude.{◌≡◌, ◌⊎◌, ◌↔◌, ◌<◌, ◌≤◌, ◌^◌, ◌*◌, ◌+◌, ◌-◌, ◌%◌, ◌&&◌, ℕ, Bool, true, false, List, [], length}
+use Rattle.std.specs.Prelude.{map, nat_le, nat_lt, not, sum_by, slice_get, Some, option_map, sum}
 use Rattle.std.specs.List.{AllByRecursion, Contains, range_with_len}
-use Rattle.plp_config.specs.Places.{places}
+use Rattle.plp_config.specs.Places.{places, FramesStandAlone}
 use Rattle.terms.specs.Bits.{bytes_for}
 use Rattle.ts_packet.specs.Null.{null_packet}
 use Rattle.plp_config.specs.Capacity.{IsPlan, block_bytes, block_room}
-use Rattle.plp_config.specs.Plps.{spread}
+use Rattle.plp_config.specs.Plps.{spread, StandsAlone}
 use Rattle.plp_config.specs.Rules.{AllRules}
 use Rattle.plp_config.specs.RunLength.{frame_count}
-use Rattle.plp_config.specs.SlotTime.{slots_by, IsReleased}
+use Rattle.plp_config.specs.SlotTime.{num, den, slots_by, delay_ticks, released_count, IsReleased}
 use Rattle.plp_config.specs.Emission.{emission}
 use Rattle.plp_config.specs.declared.config.Config.{Config}
 use Rattle.plp_config.specs.declared.plp.TheConstants.{MOST_BLOCK_BYTES}
-use Rattle.scheduler.specs.Shape.{FrameShape}
+use Rattle.scheduler.specs.Shape.{FrameShape, shape_of}
 use Rattle.cell_map.specs.Address.{IsCarried, address_of}
 use Rattle.cell_map.specs.CellMap.{Passes, ordinal_of}
 use Rattle.l1_signal.specs.Lengths.{post_len}
@@ -24,8 +24,8 @@ use Rattle.site_frame.specs.Record.{Block, head_len, pre_len}
 use Rattle.frame_records.specs.Frames.{sent_block, sent_blocks, frame_cells, frame_shape, frame_view, frame_of, HasByteIds}
 use Rattle.frame_records.specs.Frames.{run_frames}
 use Rattle.frame_records.specs.Records.{record_of, records}
-use Rattle.frame_records.specs.Recover.{due_slots, recover}
-use Rattle.mode_adapt.specs.Blocks.{plp_blocks, plp_keeps}
+use Rattle.frame_records.specs.Recover.{due_slots, recovered, is_there}
+use Rattle.mode_adapt.specs.Blocks.{plp_blocks, own_blocks, told_count, plp_keeps}
 
 -- how many bytes blocks have in a record, each with its head of four, if each PLP has so many
 abbrev pub blocks_size : Config → (ℕ → ℕ) → ℕ
@@ -42,14 +42,34 @@ frame_len c count = head_len + rest_size c (post_len (length c.plps)) count
 -- So many has that of frame n.
 abbrev pub FrameLength : Type 0
 FrameLength = (c : Config) (inputs : ℕ → List (List ℕ)) (n : ℕ) → record_len (frame_of c inputs n)
-    ≡ frame_len c (λ plp. length (plp_blocks c inputs n plp))
+    ≡ frame_len c (λ plp. length (own_blocks c inputs n plp))
 
--- The blocks of a frame are counted PLP by PLP: each stands at its ordinal.
+-- how many blocks the PLPs before one have
+abbrev pub blocks_before : (ℕ → List (List Bool)) → ℕ → ℕ
+blocks_before blocks plp = sum_by (λ before. length (blocks before)) (range_with_len 0 plp)
+
+-- The blocks of a record are counted PLP by PLP: each stands behind those of the PLPs before its own.
 abbrev pub BlockStands : Type 0
-BlockStands = (c : Config) (inputs : ℕ → List (List ℕ)) (n plp block : ℕ) → plp < length c.plps
-    → block < length (plp_blocks c inputs n plp)
-    → slice_get (sent_blocks c (plp_blocks c inputs n)) (ordinal_of (frame_shape c inputs n) plp block)
-    ≡ option_map (sent_block c plp) (slice_get (plp_blocks c inputs n plp) block)
+BlockStands = (c : Config) (blocks : ℕ → List (List Bool)) (plp block : ℕ) → plp < length c.plps → block < length (blocks plp)
+    → slice_get (sent_blocks c blocks) (blocks_before blocks plp + block)
+    ≡ option_map (sent_block c plp) (slice_get (blocks plp) block)
+
+-- The ordinal of a block is counted among those of all interleaving frames that the frame carries.
+abbrev pub OrdinalCounts : Type 0
+OrdinalCounts = (c : Config) (inputs : ℕ → List (List ℕ)) (n plp block : ℕ) → plp < length c.plps
+    → ordinal_of (frame_shape c inputs n) plp block ≡ sum_by (told_count c inputs n) (range_with_len 0 plp) + block
+
+-- If each interleaving frame is carried by one frame, frame n has the blocks of those with its number, and their shape; so each
+-- stands in its record at its ordinal.
+pub record IsAlone (c : Config) (inputs : ℕ → List (List ℕ)) (n : ℕ) : Type 0 where
+  pub count : (plp : ℕ) → plp < length c.plps → told_count c inputs n plp ≡ length (plp_blocks c inputs n plp)
+  pub shape : frame_shape c inputs n ≡ shape_of c (map (λ plp. length (plp_blocks c inputs n plp)) (places c))
+  pub blocks : sent_blocks c (own_blocks c inputs n) ≡ sent_blocks c (plp_blocks c inputs n)
+  pub ordinal : (plp block : ℕ) → plp < length c.plps
+      → ordinal_of (frame_shape c inputs n) plp block ≡ blocks_before (plp_blocks c inputs n) plp + block
+
+abbrev pub AloneLaw : Type 0
+AloneLaw = (c : Config) (inputs : ℕ → List (List ℕ)) (n : ℕ) → FramesStandAlone c → IsAlone c inputs n
 
 -- Each cell that a plan's frame carries stands at its address.
 abbrev pub CellStands : Type 0
@@ -114,16 +134,28 @@ abbrev pub AllWhole : Type 0
 AllWhole = (c : Config) (inputs : ℕ → List (List ℕ)) → records c inputs (λ n. true) (frame_count c (λ plp. length (inputs plp)))
     ≡ run_frames c inputs
 
--- If no frame is muted and each packet that is not kept is the canonical null packet, the packets of the slots come back.
+-- If no interleaving frame is lost and a packet that is not kept is the canonical null packet, the packet of a slot comes back.
 abbrev pub NoneLost : Type 0
-NoneLost = (c : Config) (plp ticks : ℕ) (at : ℕ → List ℕ) (first count : ℕ)
-    → ((k : ℕ) → plp_keeps c plp at k ≡ false → at k ≡ null_packet)
-    → recover c plp ticks at (λ m. false) first count ≡ map at (due_slots c plp ticks first count)
+NoneLost = (c : Config) (plp ticks : ℕ) (at : ℕ → List ℕ) (k : ℕ) → (plp_keeps c plp at k ≡ false → at k ≡ null_packet)
+    → recovered c plp ticks at [] k ≡ at k
 
--- A slot is due exactly if it was not over when the frame in front of the first one begins, and its packet is given out once the
--- last one has ended; of a PLP whose interleaving frames are single frames.
+-- A slot is due exactly if it was not over one interleaving frame before the first frame begins, and its packet is given out once
+-- the last one has ended.
 abbrev pub DueReleased : Type 0
-DueReleased = (c : Config) (plp first count last slot : ℕ) → AllRules c → plp < length c.plps → spread c.plps plp ≡ 1
-    → first + count ≡ last + 1
-    → Contains (due_slots c plp c.ticks first count) slot
-    ↔ ((slots_by c plp ((first - 1) * c.ticks) ≤ slot) × IsReleased c plp last slot)
+DueReleased = (c : Config) (plp first count last slot : ℕ) → AllRules c → plp < length c.plps → first + count ≡ last + 1
+    → Contains (due_slots c plp first count) slot
+    ↔ ((slots_by c plp ((first - spread c.plps plp) * c.ticks) ≤ slot) × IsReleased c plp last slot)
+
+-- With spread 1 a slot is due that was not over when the frame in front of the first one begins, and the lost interleaving frames
+-- are the muted frames and those before the first one.
+pub record RecoversByFrames (c : Config) (plp : ℕ) (muted : ℕ → Bool) (first count : ℕ) : Type 0 where
+  pub due : due_slots c plp first count
+      ≡ range_with_len (slots_by c plp ((first - 1) * c.ticks))
+      (released_count (num c) (den c plp) (delay_ticks (num c) (den c plp) c.ticks) ((first + count) * c.ticks)
+      - slots_by c plp ((first - 1) * c.ticks))
+  pub there : (m : ℕ) → is_there c plp muted first count m
+      ≡ (nat_le first m && (nat_lt m (first + count) && not (muted m)))
+
+abbrev pub RecoverAlone : Type 0
+RecoverAlone = (c : Config) (plp : ℕ) (muted : ℕ → Bool) (first count : ℕ) → StandsAlone c.plps plp
+    → RecoversByFrames c plp muted first count

@@ -1,13 +1,15 @@
 // Laws of the definitions. Their functions do nothing.
-ghost use Rattle.frame_records.specs.Laws.{FrameLength, BlockStands, CellStands, FewBlocks, EveryFrameFits, MutedFits, FrameFits};
-ghost use Rattle.frame_records.specs.Laws.{RangeFits, RecordsOnGrid, RecordsFit, AllWhole, NoneLost, DueReleased};
+ghost use Rattle.frame_records.specs.Laws.{FrameLength, BlockStands, OrdinalCounts, CellStands, FewBlocks, EveryFrameFits};
+ghost use Rattle.frame_records.specs.Laws.{MutedFits};
+ghost use Rattle.frame_records.specs.Laws.{FrameFits, AloneLaw, RangeFits, RecordsOnGrid, RecordsFit, AllWhole, NoneLost};
+ghost use Rattle.frame_records.specs.Laws.{DueReleased, RecoverAlone};
 ghost use Rattle.frame_records.specs.Counted.{CountedLengths, CountedBlocks, CountedStart, CountedPre, CountedPost};
 ghost use Rattle.frame_records.specs.Counted.{CountedFrames, CountedRecords, CountedSlots, CountedLoss};
 
 use bb_frame::bit_counts;
 use cell_map::{map_law, shape_law};
 use l1_signal::{post_law, pre_law};
-use mode_adapt::count_law;
+use mode_adapt::{alone_law as alone_blocks_law, count_law};
 use plp_config::{block_law, emission_law, length_law, release_law, spread_law};
 use scheduler::order_law;
 
@@ -25,9 +27,10 @@ pub fn frame_law()
     post_law();
 }
 
-/// Each block of a frame stands at its ordinal, and each cell of it at its address.
+/// Each block of a frame stands behind those of the PLPs before its own, and each cell of it at its address.
 pub fn stand_law()
     ensures block { BlockStands }
+    ensures ordinal { OrdinalCounts }
     ensures cell { CellStands }
 {
     length_law();
@@ -36,6 +39,14 @@ pub fn stand_law()
     order_law();
     shape_law();
     map_law();
+}
+
+/// If each interleaving frame is carried by one frame, frames and interleaving frames are the same.
+pub fn alone_law()
+    ensures { AloneLaw }
+{
+    stand_law();
+    alone_blocks_law();
 }
 
 /// Every frame of a plan fits a record, and so do the records of a run.
@@ -71,6 +82,7 @@ pub fn record_law()
 pub fn recover_law()
     ensures due { DueReleased }
     ensures none { NoneLost }
+    ensures alone { RecoverAlone }
     ensures slots { CountedSlots }
     ensures loss { CountedLoss }
 {

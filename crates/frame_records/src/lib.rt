@@ -4,5 +4,5 @@
 mod laws;
 mod plan_laws;
 
-pub use laws::{fit_law, frame_law, record_law, recover_law, stand_law};
+pub use laws::{alone_law, fit_law, frame_law, record_law, recover_law, stand_law};
 pub use plan_laws::id_law;

@@ -1,13 +1,16 @@
 use Rattle.frame_records.proofs.CountedLemmas.{counted_slots}
 use Rattle.frame_records.proofs.LossLemmas.{counted_loss}
-use Rattle.frame_records.proofs.RecoverLemmas.{none_lost, due_released}
+use Rattle.frame_records.proofs.RecoverLemmas.{none_lost, due_released, recover_alone}
 use Rattle.frame_records.proofs.laws.recover_law.Goals as goal
 
 pub returns-clause-none : goal.returns-clause-none
 returns-clause-none c = none_lost
 
 pub returns-clause-due : goal.returns-clause-due
-returns-clause-due c = due_released c.spread_law.ensures.alone c.release_law.ensures.frame
+returns-clause-due c = due_released c.release_law.ensures.frame
+
+pub returns-clause-alone : goal.returns-clause-alone
+returns-clause-alone c = recover_alone c.spread_law.ensures.alone
 
 pub returns-clause-slots : goal.returns-clause-slots
 returns-clause-slots c = counted_slots

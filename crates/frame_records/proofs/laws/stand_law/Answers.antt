@@ -1,8 +1,11 @@
-use Rattle.frame_records.proofs.StandLemmas.{block_stands, cell_stands}
+use Rattle.frame_records.proofs.StandLemmas.{block_stands, ordinal_counts, cell_stands}
 use Rattle.frame_records.proofs.laws.stand_law.Goals as goal
 
 pub returns-clause-block : goal.returns-clause-block
-returns-clause-block c = block_stands c.order_law.ensures.counts
+returns-clause-block c = block_stands
+
+pub returns-clause-ordinal : goal.returns-clause-ordinal
+returns-clause-ordinal c = ordinal_counts c.order_law.ensures.counts
 
 pub returns-clause-cell : goal.returns-clause-cell
 returns-clause-cell c =
