@@ -10,7 +10,7 @@ use Rattle.plp_config.specs.Rules.{PlpCount}
 use Rattle.plp_config.specs.declared.config.Config.{Config}
 use Rattle.l1_signal.specs.L1Of.{pre_of}
 use Rattle.l1_signal.specs.Laws.{PreBitsLength, ConfPartLength}
-use Rattle.mode_adapt.specs.Blocks.{plp_blocks}
+use Rattle.mode_adapt.specs.Blocks.{own_blocks, told_counts}
 use Rattle.t2mi_packet.specs.Laws.{WrittenLength}
 use Rattle.t2mi_packet.specs.T2miPacket.{written_bits, packet_len}
 use Rattle.t2mi_packet.specs.declared.packet.Body.{Body}
@@ -21,7 +21,7 @@ use Rattle.t2mi_stream.specs.CompleteLaws.{CompleteLaw, CountLaw, CarriedRises, 
 use Rattle.t2mi_stream.specs.Pipe.{items, joined, carried_len}
 use Rattle.gateway_core.specs.Carried.{of_frame}
 use Rattle.gateway_core.specs.Laws.{WaitsThreeFrames}
-use Rattle.gateway_core.specs.Packets.{l1_body, plp_bodies, counts_of, frame_bodies, bodies_before, packet_with, packets_from}
+use Rattle.gateway_core.specs.Packets.{l1_body, plp_bodies, frame_bodies, bodies_before, packet_with, packets_from}
 use Rattle.gateway_core.specs.Packets.{front_packets}
 use Rattle.gateway_core.specs.Signalling.{pre_part, conf_part, dyn_part}
 use Rattle.gateway_core.proofs.CarriedLemmas.{packets_append}
@@ -64,15 +64,15 @@ stamped_size join written c number n dynamic rest stamp pre conf =
     omega (arith, behind, all)
 
 -- a frame has 63 bytes at least
-frame_size : JoinedLength → WrittenLength → (c : Config) (number n : ℕ) (blocks : ℕ → List (List Bool)) → length (pre_part c)
-    ≡ 168 → 191 ≤ length (conf_part c)
-    → 63 ≤ length (joined (packets_from c number (of_frame n (frame_bodies c n blocks))))
-frame_size join written c number n blocks pre conf =
+frame_size : JoinedLength → WrittenLength → (c : Config) (number n : ℕ) (counts : List ℕ) (blocks : ℕ → List (List Bool))
+    → length (pre_part c) ≡ 168 → 191 ≤ length (conf_part c)
+    → 63 ≤ length (joined (packets_from c number (of_frame n (frame_bodies c n counts blocks))))
+frame_size join written c number n counts blocks pre conf =
     elim (cases_Bool (n % c.frames == 0)) [
       | inl on ↦
-          rw on (stamped_size join written c number n (dyn_part c n (counts_of c blocks)) (plp_bodies c n blocks 0) _ pre conf)
+          rw on (stamped_size join written c number n (dyn_part c n counts) (plp_bodies c n blocks 0) _ pre conf)
       | inr off ↦
-          rw off (begins_size join written c number n (dyn_part c n (counts_of c blocks)) (plp_bodies c n blocks 0) pre conf)
+          rw off (begins_size join written c number n (dyn_part c n counts) (plp_bodies c n blocks 0) pre conf)
     ]
 
 joined_two : (xs ys : List (List ℕ)) → length (joined (xs ++ ys)) ≡ length (joined xs) + length (joined ys)
@@ -85,7 +85,7 @@ front_size : JoinedLength → WrittenLength → (c : Config) (inputs : ℕ → L
 unfolding front_packets
 front_size join written c inputs n pre conf =
     let before : List (ℕ × Body) = bodies_before c inputs n in
-    let last : List (ℕ × Body) = of_frame n (frame_bodies c n (plp_blocks c inputs n)) in
+    let last : List (ℕ × Body) = of_frame n (frame_bodies c n (told_counts c inputs n) (own_blocks c inputs n)) in
     let is : packets_from c 0 (bodies_before c inputs (n + 1)) ≡ packets_from c 0 before
     ++ packets_from c (0 + length before) last =
     ap (packets_from c 0) (bodies_more c inputs n) ∙ packets_append c 0 before last in
@@ -93,7 +93,7 @@ front_size join written c inputs n pre conf =
     + length (joined (packets_from c (0 + length before) last)) =
     ap (λ (l : List (List ℕ)). length (joined l)) is
     ∙ joined_two (packets_from c 0 before) (packets_from c (0 + length before) last) in
-    let some = frame_size join written c (0 + length before) n (plp_blocks c inputs n) pre conf in
+    let some = frame_size join written c (0 + length before) n (told_counts c inputs n) (own_blocks c inputs n) pre conf in
     omega (arith, size, some)
 
 front_rises : (c : Config) (inputs : ℕ → List (List ℕ)) (n k : ℕ) → n ≤ k → length (joined (front_packets c inputs n))

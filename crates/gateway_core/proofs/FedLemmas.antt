@@ -14,11 +14,10 @@ use Rattle.terms.specs.Bits.{bits_of}
 use Rattle.linked_pool.specs.Pool.{State, list_at, Others}
 use Rattle.linked_pool.specs.declared.pool.PoolFull.{PoolFull}
 use Rattle.plp_config.specs.Capacity.{IsPlan}
-use Rattle.plp_config.specs.Laws.{CountRises, NoneAtZero, SlotLength}
+use Rattle.plp_config.specs.Laws.{CountRises, NoneAtZero, SlotLength, SpreadDividesFrames}
 use Rattle.plp_config.specs.Rules.{AllRules}
-use Rattle.plp_config.specs.Plps.{StandsAlone}
+use Rattle.plp_config.specs.InterleavingFrames.{is_first}
 use Rattle.plp_config.specs.SlotTime.{num, den, slots_by, epoch_ticks}
-use Rattle.plp_config.proofs.TableLemmas.{epoch_alone}
 use Rattle.plp_config.specs.declared.config.Config.{Config}
 use Rattle.ts_packet.specs.Null.{null_packet}
 use Rattle.mode_adapt.specs.Deletion.{packet_at}
@@ -30,12 +29,13 @@ use Rattle.mode_adapt.specs.Laws.{BlocksLaw}
 use Rattle.mode_adapt.specs.Place.{AreShort, HasPlace}
 use Rattle.mode_adapt.specs.StandsFor.{ChainStandsFor, early_blocks}
 use Rattle.mode_adapt.specs.declared.chain.Chain.{Chain}
-use Rattle.gateway_core.specs.Told.{Told, with_packet, Continues}
-use Rattle.gateway_core.specs.IsFed.{Fed, IsSupplied}
+use Rattle.gateway_core.specs.Told.{Told, with_packet, in_next, Continues}
+use Rattle.gateway_core.specs.IsFed.{Fed, IsSupplied, begun_before}
 use Rattle.gateway_core.specs.Served.{IsServed}
 use Rattle.gateway_core.specs.declared.input.Input.{Input}
 use Rattle.gateway_core.specs.InputsStandFor.{Cuts}
 use Rattle.gateway_core.specs.Lists.{bits_in, AllShort}
+use Rattle.gateway_core.proofs.EpochLemmas.{none_before, before_first, before_next, before_same, begins_behind, begins_with}
 
 offered_push : (events : List queue.Event) (x : List ℕ) → queue.offered (events ++ queue.Offered x ∷ []) ≡ queue.offered events
     ++ x ∷ []
@@ -65,16 +65,20 @@ wants total false n gap lt e = record { still = refl; some = subst (λ (o : Opti
 room : (chain : Chain) (due slot : ℕ) (total : Option ℕ) (c : Config) (plp : ℕ) (t : Told) (early : List (List Bool))
     (h : Fed chain due slot total c plp t early)
     → slot < due → HasRoom c plp h.events
-room chain due slot total c plp t early h lt =
-    subst (λ (ticks : ℕ). length (queue.offered h.events) < slots_by c plp (queue.cuts h.events * ticks))
-    (sym (epoch_alone c plp h.alone)) (rw (h.cuts, ← h.slot_is, ← h.due_is) lt)
+room chain due slot total c plp t early h lt = omega (arith, h.within, h.slot_is, lt)
+
+-- the interleaving frame that begins in the next frame is the next one
+cut_with : (chain : Chain) (due slot : ℕ) (total : Option ℕ) (c : Config) (plp : ℕ) (t : Told) (early : List (List Bool))
+    (h : Fed chain due slot total c plp t early) → is_first c plp t.frame ≡ true
+    → queue.cuts h.events * epoch_ticks c plp ≡ t.frame * c.ticks
+cut_with chain due slot total c plp t early h on =
+    ap (λ (m : ℕ). m * epoch_ticks c plp) h.cuts ∙ begins_with c plp t.frame on
 
 is_due : (chain : Chain) (due slot : ℕ) (total : Option ℕ) (c : Config) (plp : ℕ) (t : Told) (early : List (List Bool))
-    (h : Fed chain due slot total c plp t early)
+    (h : Fed chain due slot total c plp t early) → is_first c plp t.frame ≡ true
     → slot ≡ due → IsDue c plp h.events
-is_due chain due slot total c plp t early h e =
-    subst (λ (ticks : ℕ). length (queue.offered h.events) ≡ slots_by c plp (queue.cuts h.events * ticks))
-    (sym (epoch_alone c plp h.alone)) (rw (h.cuts, ← h.slot_is, ← h.due_is) e)
+is_due chain due slot total c plp t early h on e =
+    sym h.slot_is ∙ e ∙ h.due_is ∙ ap (slots_by c plp) (sym (cut_with chain due slot total c plp t early h on))
 
 one_more : (packets : List (List ℕ)) (x : List ℕ) (n : ℕ) → n ≡ 0 → (packets ++ replicate n null_packet) ++ x ∷ []
     ≡ (packets ++ x ∷ []) ++ replicate n null_packet
@@ -91,7 +95,6 @@ fed_offer old new due slot total c plp t packet was is list takes place lt h =
     let took = takes c plp h.events (record { stands = h.stands; put = h.early_is; place = place })
     (room old due slot total c plp t (bits_in was list) h before) in
     record {
-      alone = h.alone;
       events = h.events ++ queue.Offered packet ∷ [];
       stands = took.stands;
       nulls = h.nulls;
@@ -99,6 +102,7 @@ fed_offer old new due slot total c plp t packet was is list takes place lt h =
           ∙ one_more t.packets packet h.nulls (h.still w.still);
       cuts = cuts_stay h.events packet ∙ h.cuts;
       due_is = h.due_is;
+      within = rw (cuts_stay h.events packet) h.within;
       slot_is = ap (λ (n : ℕ). n + 1) h.slot_is ∙ sym (length_push (queue.offered h.events) packet)
           ∙ sym (ap length (offered_push h.events packet));
       total_is = h.total_is ∙ rw ended refl;
@@ -118,7 +122,6 @@ fed_null old new due slot total c plp t was is list takes place ended before h =
     let took = takes c plp h.events (record { stands = h.stands; put = h.early_is; place = place })
     (room old due slot total c plp t (bits_in was list) h before) in
     record {
-      alone = h.alone;
       events = h.events ++ queue.Offered null_packet ∷ [];
       stands = took.stands;
       nulls = h.nulls + 1;
@@ -126,6 +129,7 @@ fed_null old new due slot total c plp t was is list takes place ended before h =
           ∙ null_more t.packets h.nulls;
       cuts = cuts_stay h.events null_packet ∙ h.cuts;
       due_is = h.due_is;
+      within = rw (cuts_stay h.events null_packet) h.within;
       slot_is = ap (λ (n : ℕ). n + 1) h.slot_is ∙ sym (length_push (queue.offered h.events) null_packet)
           ∙ sym (ap length (offered_push h.events null_packet));
       total_is = h.total_is;
@@ -156,45 +160,83 @@ same_slots packets rest false n k still whole lt =
 -- the packets of the slots that are over are those of any input that continues
 given_blocks : BlocksLaw → (old : Chain) (due slot : ℕ) (total : Option ℕ) (c : Config) (plp : ℕ) (t : Told)
     (early : List (List Bool)) (h : Fed old due slot total c plp t early) (input : List (List ℕ)) → IsPlan c
-    → plp < length c.plps → slot ≡ due → Continues t input
-    → blocks_of c plp (epoch_ticks c plp) (packet_at (queue.offered h.events)) t.frame
-    ≡ blocks_of c plp (epoch_ticks c plp) (packet_at input) t.frame
-given_blocks law old due slot total c plp t early h input plan lt e more =
-    law c plp (packet_at (queue.offered h.events)) (packet_at input) t.frame plan lt (λ k inside.
+    → plp < length c.plps → is_first c plp t.frame ≡ true → slot ≡ due → Continues t input
+    → blocks_of c plp (epoch_ticks c plp) (packet_at (queue.offered h.events)) (queue.cuts h.events)
+    ≡ blocks_of c plp (epoch_ticks c plp) (packet_at input) (queue.cuts h.events)
+given_blocks law old due slot total c plp t early h input plan lt on e more =
+    law c plp (packet_at (queue.offered h.events)) (packet_at input) (queue.cuts h.events) plan lt (λ k inside.
     let by : k < slots_by c plp (t.frame * c.ticks) =
-    subst (λ (ticks : ℕ). k < slots_by c plp (t.frame * ticks)) (epoch_alone c plp h.alone) inside in
+    subst (λ (tick : ℕ). k < slots_by c plp tick) (cut_with old due slot total c plp t early h on) inside in
     let within : k < length (t.packets ++ replicate h.nulls null_packet) = rw (← h.given, ← h.slot_is, e, h.due_is) by in
     rw (h.given, more.front) (same_slots t.packets more.rest t.ended h.nulls k h.still more.whole within))
 
--- What the end of a frame leaves.
-pub fed_cut : BlocksLaw → (old new : Chain) (due slot next : ℕ) (total : Option ℕ) (c : Config) (plp : ℕ) (t : Told)
-    (was is : State) (list count : ℕ) → EndsIfReady old new was is list count → IsPlan c → plp < length c.plps
-    → HasPlace c plp was list → slot ≡ due → next ≡ slots_by c plp ((t.frame + 1) * c.ticks)
+-- When the next interleaving frame begins, no fewer slots are over than when a frame does of which so many begin before.
+due_within : CountRises → SlotLength → SpreadDividesFrames → (c : Config) (plp frame due cuts : ℕ) → IsPlan c
+    → plp < length c.plps → due ≡ slots_by c plp (frame * c.ticks) → cuts ≡ begun_before c plp frame
+    → due ≤ slots_by c plp (cuts * epoch_ticks c plp)
+due_within rises slot spreads c plp frame due cuts plan lt e n =
+    let s = slot c plp plan.rules lt in
+    let some = (spreads c plp plan.rules lt).0 in
+    let up = rises (num c) (den c plp) (frame * c.ticks) (begun_before c plp frame * epoch_ticks c plp)
+    (omega (arith, s.0, s.2)) (begins_behind c plp frame some) in
+    rw (e, n) up
+
+-- What the end of an interleaving frame leaves.
+pub fed_cut : BlocksLaw → CountRises → SlotLength → SpreadDividesFrames → (old new : Chain) (due slot next : ℕ)
+    (total : Option ℕ) (c : Config) (plp : ℕ) (t : Told) (was is : State) (list count : ℕ) → EndsIfReady old new was is list count → IsPlan c → plp < length c.plps
+    → HasPlace c plp was list → is_first c plp t.frame ≡ true → slot ≡ due
+    → next ≡ slots_by c plp ((t.frame + 1) * c.ticks)
     → Fed old due slot total c plp t (bits_in was list)
     → Cuts new next slot total c plp t is count
-fed_cut law old new due slot next total c plp t was is list count ends plan lt place e n h =
+fed_cut law rises length_of spreads old new due slot next total c plp t was is list count ends plan lt place on e n h =
     let end = ends c plp h.events (record { stands = h.stands; put = h.early_is; place = place })
-    (is_due old due slot total c plp t (bits_in was list) h e) in
+    (is_due old due slot total c plp t (bits_in was list) h on e) in
     let put = end.blocks h.early_is in
     let here : list_at is plp ≡ list_at is list = ap (list_at is) (sym place.place) in
+    let some = (spreads c plp plan.rules lt).0 in
+    let cuts : queue.cuts (h.events ++ queue.Cut ∷ []) ≡ begun_before c plp (t.frame + 1) =
+    cuts_push h.events ∙ ap (λ (n : ℕ). n + 1) h.cuts ∙ sym (before_next c plp t.frame some on) in
     record {
       fed = record {
-        alone = h.alone;
         events = h.events ++ queue.Cut ∷ [];
         stands = end.stands;
         nulls = h.nulls;
         given = offered_stay h.events ∙ h.given;
-        cuts = cuts_push h.events ∙ ap (λ (n : ℕ). n + 1) h.cuts;
+        cuts = cuts;
         due_is = n;
+        within = due_within rises length_of spreads c plp (t.frame + 1) next _ plan lt n cuts;
         slot_is = h.slot_is ∙ sym (ap length (offered_stay h.events));
         total_is = h.total_is;
         still = h.still;
         early_is = sym end.none_put;
       };
       blocks = λ input more. ap (map bits_of) here ∙ put
-          ∙ ap (blocks_of c plp (epoch_ticks c plp) (packet_at (queue.offered h.events))) h.cuts
-          ∙ given_blocks law old due slot total c plp t (bits_in was list) h input plan lt e more;
+          ∙ given_blocks law old due slot total c plp t (bits_in was list) h input plan lt on e more
+          ∙ ap (blocks_of c plp (epoch_ticks c plp) (packet_at input)) (h.cuts ∙ before_first c plp t.frame on);
       count_is = end.answer ∙ ap length (sym put) ∙ length-map (list_at is list) bits_of ∙ ap length (sym here);
+    }
+
+-- A frame in which no interleaving frame begins leaves what there is.
+pub fed_pass : CountRises → SlotLength → SpreadDividesFrames → (chain : Chain) (due slot next : ℕ) (total : Option ℕ) (c : Config)
+    (plp : ℕ) (t : Told) (early : List (List Bool)) → IsPlan c → plp < length c.plps → is_first c plp t.frame ≡ false
+    → next ≡ slots_by c plp ((t.frame + 1) * c.ticks) → Fed chain due slot total c plp t early
+    → Fed chain next slot total c plp (in_next t) early
+fed_pass rises length_of spreads chain due slot next total c plp t early plan lt off n h =
+    let some = (spreads c plp plan.rules lt).0 in
+    let cuts : queue.cuts h.events ≡ begun_before c plp (t.frame + 1) =
+    h.cuts ∙ sym (before_same c plp t.frame some off) in
+    record {
+      events = h.events;
+      stands = h.stands;
+      nulls = h.nulls;
+      given = h.given;
+      cuts = cuts;
+      due_is = n;
+      within = due_within rises length_of spreads c plp (t.frame + 1) next _ plan lt n cuts;
+      slot_is = h.slot_is;
+      total_is = h.total_is;
+      still = h.still;
+      early_is = h.early_is;
     }
 
 -- at the next frame no fewer slots are over
@@ -215,19 +257,19 @@ none_due none slot c plp rules lt =
     let z : 0 * c.ticks ≡ 0 = omega arith in
     sym (rw z (none (num c) (den c plp) (omega (arith, s.0, s.2))))
 
-pub fed_open : (chain : Chain) (c : Config) (plp : ℕ) → StandsAlone c.plps plp → ChainStandsFor chain c plp []
+pub fed_open : (chain : Chain) (c : Config) (plp : ℕ) → ChainStandsFor chain c plp []
     → early_blocks c plp [] ≡ []
     → 0 ≡ slots_by c plp (0 * c.ticks)
     → Fed chain 0 0 None c plp (record { packets = []; ended = false; frame = 0 }) []
-fed_open chain c plp alone h none e =
+fed_open chain c plp h none e =
     record {
-      alone = alone;
       events = [];
       stands = h;
       nulls = 0;
       given = refl;
-      cuts = refl;
+      cuts = sym (none_before c plp);
       due_is = e;
+      within = omega arith;
       slot_is = refl;
       total_is = refl;
       still = λ off. refl;

@@ -8,7 +8,7 @@ use Rattle.terms.specs.Bits.{bytes_of}
 use Rattle.terms.proofs.BitLemmas.{length-bytes_of}
 use Rattle.plp_config.specs.declared.config.Config.{Config}
 use Rattle.gateway_core.specs.BlocksLeft.{blocks_left}
-use Rattle.gateway_core.specs.Lists.{bits_in}
+use Rattle.gateway_core.specs.Lists.{own_in}
 use Rattle.gateway_core.specs.Carried.{AllGone}
 use Rattle.gateway_core.specs.Left.{from_step, left}
 use Rattle.gateway_core.specs.Packets.{l1_body}
@@ -40,7 +40,7 @@ going_when true waiting rest end few ready =
 pub over_left : (c : Config) (s : Signalling) (f : Frame) → f.step ≡ Over → left c s f ≡ []
 over_left c s f e =
     ap (λ (step : Step). from_step c f.number step (l1_body c f.number s.pre s.conf f.dynamic.bits)
-    (blocks_left c f.number (bits_in f.blocks) f.plp f.first)) e
+    (blocks_left c f.number (own_in c f.number f.blocks) f.plp f.first)) e
 
 pub gone_when : (c : Config) (s : Signalling) (f : Frame) (rest : List ℕ) (more : List (List ℕ)) → rest ≡ [] → f.step ≡ Over
     → more ≡ [] → AllGone rest (left c s f) more

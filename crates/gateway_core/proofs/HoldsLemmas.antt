@@ -6,16 +6,15 @@ use Rattle.std.specs.Prelude.{slice_get, slice_index_or, slice_index, ◌==◌, 
 use Rattle.std.specs.List.{flat_map, range_with_len}
 use Rattle.std.proofs.lemmas.Bool.{cases_eq, ne_eqb}
 use Rattle.std.proofs.lemmas.Grind.{flat_map-append}
-use Rattle.std.proofs.lemmas.List.{length-map, get_or-map, ext_get_or}
-use Rattle.std.proofs.lemmas.List.FromFn.{length-map-range_with_len, get_or-map-range_with_len}
+use Rattle.std.proofs.lemmas.List.{get_or-map, get_or-replicate, length-replicate}
 use Rattle.std.proofs.lemmas.List.Folds.{list_any-append}
 use Rattle.std.proofs.lemmas.List.Sums.{sum_by-append}
-use Rattle.terms.specs.Bits.{bits_of}
 use Rattle.linked_pool.specs.Fits.{frame_chunks}
 use Rattle.linked_pool.specs.Pool.{State}
 use Rattle.plp_config.specs.Plps.{plp_at}
 use Rattle.plp_config.specs.RunLength.{frame_count}
 use Rattle.plp_config.specs.declared.config.Config.{Config}
+use Rattle.scheduler.specs.Laws.{CountsFit}
 use Rattle.ts_packet.specs.Null.{null_packet}
 use Rattle.t2mi_packet.specs.declared.packet.Body.{Body}
 use Rattle.gateway_core.specs.BlocksLeft.{blocks_left}
@@ -24,25 +23,26 @@ use Rattle.gateway_core.specs.Carried.{of_frame}
 use Rattle.gateway_core.specs.Events.{Event, Offered, Ended, Begun, Gave, Finished, offered, has_ended, begins, begun, gives}
 use Rattle.gateway_core.specs.Events.{given, finishes, finished}
 use Rattle.gateway_core.specs.Flowing.{Flows}
-use Rattle.gateway_core.specs.InputsStandFor.{HasFrame, AllFed, AllContinue, AllEnded, HaveEnded, AreSupplied}
+use Rattle.gateway_core.specs.InputsStandFor.{HasFrame, AllFed, AllContinue, AllEnded, HaveEnded, AreSupplied, CountsStay}
 use Rattle.gateway_core.specs.IsFed.{IsFed, wanted}
 use Rattle.gateway_core.specs.Left.{from_step, all_of, early_at}
 use Rattle.t2mi_stream.specs.Complete.{complete_units}
 use Rattle.t2mi_stream.specs.Pipe.{pipe}
-use Rattle.mode_adapt.specs.Blocks.{plp_blocks}
-use Rattle.gateway_core.specs.Packets.{packets_from, front_packets, l1_body, block_bodies, plp_bodies, counts_of, frame_bodies}
+use Rattle.mode_adapt.specs.Blocks.{own_blocks, told_counts}
+use Rattle.gateway_core.specs.Packets.{packets_from, front_packets, l1_body, block_bodies, plp_bodies, frame_bodies}
 use Rattle.gateway_core.specs.Packets.{bodies_before}
 use Rattle.gateway_core.specs.Signalling.{pre_part, conf_part, dyn_part}
 use Rattle.gateway_core.specs.StandsFor.{Holds, IsLast, wants_by}
-use Rattle.gateway_core.specs.Told.{Told, told, with_packet, at_end, in_next, Continues}
+use Rattle.gateway_core.specs.Told.{Told, told, with_packet, at_end, Continues}
 use Rattle.gateway_core.specs.declared.flow.Flow.{Flow}
 use Rattle.gateway_core.specs.declared.input.Input.{Input}
 use Rattle.gateway_core.specs.declared.signalling.Signalling.{Signalling}
 use Rattle.gateway_core.specs.declared.frame.Step.{Step}
 use Rattle.gateway_core.specs.declared.frame.Step.TheVariants.{Stamp, Signal, Over}
 use Rattle.gateway_core.proofs.CarriedLemmas.{carries_more}
+use Rattle.gateway_core.proofs.EpochLemmas.{begins_at_once}
 use Rattle.gateway_core.proofs.FedLemmas.{wants}
-use Rattle.gateway_core.proofs.InputsLemmas.{nothing_told, told_offered, told_ended, told_begun}
+use Rattle.gateway_core.proofs.InputsLemmas.{nothing_told, told_offered, told_ended, told_begun, back_begun}
 use Rattle.gateway_core.proofs.LeftLemmas.{bodies_more as more_left, flat_same}
 use Rattle.terms.proofs.RangeLemmas.{range_more}
 
@@ -57,9 +57,6 @@ cont_packet t packet input off h = record {
 
 cont_end : (t : Told) (input : List (List ℕ)) → Continues (at_end t) input → Continues t input
 cont_end t input h = record { rest = h.rest; front = h.front; whole = λ on. h.whole refl }
-
-cont_next : (t : Told) (input : List (List ℕ)) → Continues (in_next t) input → Continues t input
-cont_next t input h = record { rest = h.rest; front = h.front; whole = h.whole }
 
 pub other_offered : (j plp : ℕ) (events : List Event) (packet : List ℕ) → j ≢ plp → told j (events ++ Offered plp packet ∷ [])
     ≡ told j events
@@ -94,11 +91,6 @@ back_ended c events plp all h = λ j lt.
           (h j lt)
       | inr differ ↦ subst (λ (t : Told). Continues t (all j)) (other_ended j plp events differ) (h j lt)
     ]
-
-pub back_begun : (c : Config) (events : List Event) (all : ℕ → List (List ℕ)) → AllContinue c (events ++ Begun ∷ []) all
-    → AllContinue c events all
-back_begun c events all h =
-    λ j lt. cont_next (told j events) (all j) (subst (λ (t : Told). Continues t (all j)) (told_begun j events) (h j lt))
 
 -- what is counted of one event more
 pub begun_with : (events : List Event) (e : Event) → begun (events ++ e ∷ []) ≡ begun events + cond (begins e) 1 0
@@ -166,24 +158,26 @@ holds_offer old new before after s frames flow n left c events plp packet lt som
     (λ all more. back_offered c events plp packet all (open_input old before plp c events lt some h.fed) more) h
 
 -- Once nothing is left of a frame, the lists of its pool hold what the chains put already.
-pub early_over : (inputs : List Input) (step : Step) (pool : State) (c : Config) (events : List Event) → step ≡ Over
-    → AllFed inputs (early_at step pool) c events → AllFed inputs (bits_in pool) c events
-early_over inputs step pool c events e h = subst (λ (s : Step). AllFed inputs (early_at s pool) c events) e h
+pub early_over : (inputs : List Input) (p : Config) (n : ℕ) (step : Step) (plp : ℕ) (pool : State) (c : Config)
+    (events : List Event) → step ≡ Over → AllFed inputs (early_at p n step plp pool) c events → AllFed inputs (bits_in pool) c events
+early_over inputs p n step plp pool c events e h = subst (λ (s : Step). AllFed inputs (early_at p n s plp pool) c events) e h
 
 -- They may get more: nothing is left of the frame yet.
 pub holds_over : (old new : List Input) (before : ℕ → List (List Bool)) (s : Signalling) (frames : ℕ) (flow : Flow) (p : Config)
-    (n : ℕ) (step : Step) (signal : Body) (rest blocks : List Body) (pool : State) (c : Config) (events : List Event) (plp : ℕ)
-    (packet : List ℕ)
+    (n : ℕ) (step : Step) (place : ℕ) (signal : Body) (rest blocks : List Body) (pool : State) (c : Config) (events : List Event)
+    (plp : ℕ) (packet : List ℕ)
     → step ≡ Over → plp < length old → 0 < slice_index (map wanted old) plp
     → AllFed new (bits_in pool) c (events ++ Offered plp packet ∷ [])
     → Holds old before s frames flow n (from_step p n step signal rest) c events
-    → Holds new (early_at step pool) s frames flow n (from_step p n step signal blocks) c (events ++ Offered plp packet ∷ [])
-holds_over old new before s frames flow p n step signal rest blocks pool c events plp packet e lt some fed h =
+    → Holds new (early_at p n step place pool) s frames flow n (from_step p n step signal blocks) c
+    (events ++ Offered plp packet ∷ [])
+holds_over old new before s frames flow p n step place signal rest blocks pool c events plp packet e lt some fed h =
     let stays : from_step p n step signal rest ≡ from_step p n step signal blocks =
     ap (λ (s : Step). from_step p n s signal rest) e ∙ sym (ap (λ (s : Step). from_step p n s signal blocks) e) in
-    subst (λ (l : List Body). Holds new (early_at step pool) s frames flow n l c (events ++ Offered plp packet ∷ [])) stays
-    (holds_offer old new before (early_at step pool) s frames flow n (from_step p n step signal rest) c events plp packet lt some
-    (subst (λ (s : Step). AllFed new (early_at s pool) c (events ++ Offered plp packet ∷ [])) (sym e) fed) h)
+    subst (λ (l : List Body). Holds new (early_at p n step place pool) s frames flow n l c (events ++ Offered plp packet ∷ []))
+    stays
+    (holds_offer old new before (early_at p n step place pool) s frames flow n (from_step p n step signal rest) c events plp
+    packet lt some (subst (λ (s : Step). AllFed new (early_at p n s place pool) c (events ++ Offered plp packet ∷ [])) (sym e) fed) h)
 
 pub has_frame : (p c : Config) (pool : State) → p ≡ c → pool.opened ≡ frame_chunks p → length pool.lists ≡ length p.plps
     → HasFrame c pool
@@ -256,16 +250,6 @@ step_is : (c : Config) (n : ℕ) (signal : Body) (rest : List Body) (b : Bool) �
 step_is c n signal rest true = refl
 step_is c n signal rest false = refl
 
-counts_same : (c : Config) (lists : List (List (List ℕ))) (f : ℕ → List (List Bool)) → length lists ≡ length c.plps
-    → ((j : ℕ) → j < length c.plps → map bits_of (slice_index_or lists j []) ≡ f j) → map length lists ≡ counts_of c f
-counts_same c lists f len h =
-    let counts : length (counts_of c f) ≡ length c.plps = length-map-range_with_len (λ plp. length (f plp)) 0 (length c.plps) in
-    ext_get_or 0 (map length lists) (counts_of c f) (length-map lists length ∙ len ∙ sym counts) (λ i lt.
-    let inside : i < length lists = rw (length-map lists length) at lt in
-    let configured : i < length c.plps = omega arith in
-    get_or-map length lists i [] 0 inside ∙ sym (length-map (slice_index_or lists i []) bits_of) ∙ ap length (h i configured)
-    ∙ sym (get_or-map-range_with_len (λ plp. length (f plp)) 0 (length c.plps) i i 0 configured (omega arith)))
-
 bodies_are : (c : Config) (n : ℕ) (blocks f : ℕ → List (List Bool)) → 0 < length c.plps
     → ((j : ℕ) → j < length c.plps → blocks j ≡ f j) → blocks_left c n blocks 0 true ≡ plp_bodies c n f 0
 bodies_are c n blocks f some h =
@@ -274,37 +258,35 @@ bodies_are c n blocks f some h =
     (h j (omega arith)))
 
 -- what a frame has to give as it begins
-new_bodies : (c : Config) (s : Signalling) (n : ℕ) (counts : List ℕ) (lists : List (List (List ℕ))) (f : ℕ → List (List Bool))
-    → s.pre ≡ pre_part c → s.conf ≡ conf_part c
-    → counts ≡ map length lists → 0 < length c.plps → length lists ≡ length c.plps
-    → ((j : ℕ) → j < length c.plps → map bits_of (slice_index_or lists j []) ≡ f j)
-    → all_of c s n counts (λ j. map bits_of (slice_index_or lists j [])) ≡ frame_bodies c n f
-new_bodies c s n counts lists f p q d some len h =
-    let blocks : ℕ → List (List Bool) = λ j. map bits_of (slice_index_or lists j []) in
-    let told : counts ≡ counts_of c f = d ∙ counts_same c lists f len h in
+new_bodies : (c : Config) (s : Signalling) (n : ℕ) (counts told : List ℕ) (blocks f : ℕ → List (List Bool))
+    → s.pre ≡ pre_part c → s.conf ≡ conf_part c → counts ≡ told → 0 < length c.plps
+    → ((j : ℕ) → j < length c.plps → blocks j ≡ f j) → all_of c s n counts blocks ≡ frame_bodies c n told f
+new_bodies c s n counts told blocks f p q d some h =
     step_is c n (l1_body c n s.pre s.conf (dyn_part c n counts)) (blocks_left c n blocks 0 true) (n % c.frames == 0)
-    ∙ rw (p, q, told, bodies_are c n blocks f some h) refl
+    ∙ rw (p, q, d, bodies_are c n blocks f some h) refl
 
 pub bodies_more : (c : Config) (all : ℕ → List (List ℕ)) (n : ℕ) → bodies_before c all (n + 1) ≡ bodies_before c all n
-    ++ of_frame n (frame_bodies c n (plp_blocks c all n))
+    ++ of_frame n (frame_bodies c n (told_counts c all n) (own_blocks c all n))
 bodies_more c all n =
     let z : 0 + n ≡ n = omega arith in
     let r : range_with_len 0 (n + 1) ≡ range_with_len 0 n ++ n ∷ [] =
     range_more 0 n ∙ ap (λ (m : ℕ). range_with_len 0 n ++ m ∷ []) z in
-    ap (flat_map (λ m. of_frame m (frame_bodies c m (plp_blocks c all m)))) r
-    ∙ flat_map-append (λ m. of_frame m (frame_bodies c m (plp_blocks c all m))) (range_with_len 0 n) (n ∷ [])
-    ∙ ap (λ (l : List (ℕ × Body)). bodies_before c all n ++ l) (append-nil (of_frame n (frame_bodies c n (plp_blocks c all n))))
+    ap (flat_map (λ m. of_frame m (frame_bodies c m (told_counts c all m) (own_blocks c all m)))) r
+    ∙ flat_map-append (λ m. of_frame m (frame_bodies c m (told_counts c all m) (own_blocks c all m)))
+    (range_with_len 0 n) (n ∷ [])
+    ∙ ap (λ (l : List (ℕ × Body)). bodies_before c all n ++ l)
+    (append-nil (of_frame n (frame_bodies c n (told_counts c all n) (own_blocks c all n))))
 
 pub holds_begin : (old new : List Input) (before after : ℕ → List (List Bool)) (s : Signalling) (frames : ℕ) (flow next : Flow)
-    (n m : ℕ) (left begin rest : List Body) (counts : List ℕ) (lists : List (List (List ℕ))) (c : Config) (events : List Event)
+    (n m : ℕ) (left begin rest : List Body) (counts : List ℕ) (blocks : ℕ → List (List Bool)) (c : Config) (events : List Event)
     → left ≡ [] → next.finished ≡ flow.finished → AllFed new after c (events ++ Begun ∷ []) → 0 < length c.plps
-    → length lists ≡ length c.plps → counts ≡ map length lists
+    → ((all : ℕ → List (List ℕ)) → AllContinue c events all → counts ≡ told_counts c all frames)
     → ((all : ℕ → List (List ℕ)) → AllContinue c events all → (j : ℕ) → j < length c.plps
-    → map bits_of (slice_index_or lists j []) ≡ plp_blocks c all (begun events) j)
-    → begin ≡ all_of c s frames counts (λ j. map bits_of (slice_index_or lists j []))
+    → blocks j ≡ own_blocks c all frames j)
+    → begin ≡ all_of c s frames counts blocks
     → ((all : List (ℕ × Body)) (given : ℕ) → Flows flow.outlet c frames begin all given → Flows next.outlet c m rest all given)
     → Holds old before s frames flow n left c events → Holds new after s (frames + 1) next m rest c (events ++ Begun ∷ [])
-holds_begin old new before after s frames flow next n m left begin rest counts lists c events gone fin fed some len told made is
+holds_begin old new before after s frames flow next n m left begin rest counts blocks c events gone fin fed some told made is
     step h = record {
       fed = fed;
       pre = h.pre;
@@ -314,11 +296,9 @@ holds_begin old new before after s frames flow next n m left begin rest counts l
       flows = λ all more.
           let cont = back_begun c events all more in
           let was = h.flows all cont in
-          let bits : (j : ℕ) → j < length c.plps → map bits_of (slice_index_or lists j []) ≡ plp_blocks c all frames j =
-          λ j lt. subst (λ (k : ℕ). map bits_of (slice_index_or lists j []) ≡ plp_blocks c all k j) (sym h.frames_are)
-          (made all cont j lt) in
-          let bodies : begin ≡ frame_bodies c frames (plp_blocks c all frames) =
-          is ∙ new_bodies c s frames counts lists (plp_blocks c all frames) h.pre h.conf told some len bits in
+          let bodies : begin ≡ frame_bodies c frames (told_counts c all frames) (own_blocks c all frames) =
+          is ∙ new_bodies c s frames counts (told_counts c all frames) blocks (own_blocks c all frames) h.pre h.conf
+          (told all cont) some (made all cont) in
           let longer : bodies_before c all frames ++ of_frame frames begin ≡ bodies_before c all (frames + 1) =
           ap (λ (l : List Body). bodies_before c all frames ++ of_frame frames l) bodies ∙ sym (bodies_more c all frames) in
           subst (λ (k : ℕ). Flows next.outlet c m rest (bodies_before c all (frames + 1)) k) (sym (given_same events Begun refl))
@@ -437,26 +417,70 @@ wants_are (x ∷ xs) early plp c events lt h =
     (λ off. f.slot_is ∙ ap length (f.given ∙ ap (λ (k : ℕ). offered plp events ++ replicate k null_packet) (f.still off)
     ∙ append-nil (offered plp events)))
 
+-- The numbers of blocks that stay do so with an event after which no other inputs continue.
+stay_with : (c : Config) (events : List Event) (e : Event) (frame : ℕ) (counts : List ℕ)
+    → ((all : ℕ → List (List ℕ)) → AllContinue c (events ++ e ∷ []) all → AllContinue c events all)
+    → CountsStay c events frame counts → CountsStay c (events ++ e ∷ []) frame counts
+stay_with c events e frame counts back h = λ all more. h all (back all more)
+
+pub stay_offered : (inputs : List Input) (early : ℕ → List (List Bool)) (c : Config) (events : List Event) (plp : ℕ)
+    (packet : List ℕ) (frame : ℕ) (counts : List ℕ) → plp < length inputs → 0 < slice_index (map wanted inputs) plp
+    → AllFed inputs early c events → CountsStay c events frame counts
+    → CountsStay c (events ++ Offered plp packet ∷ []) frame counts
+stay_offered inputs early c events plp packet frame counts lt some fed h =
+    stay_with c events (Offered plp packet) frame counts
+    (λ all more. back_offered c events plp packet all (open_input inputs early plp c events lt some fed) more) h
+
+pub stay_ended : (c : Config) (events : List Event) (plp frame : ℕ) (counts : List ℕ) → CountsStay c events frame counts
+    → CountsStay c (events ++ Ended plp ∷ []) frame counts
+stay_ended c events plp frame counts h =
+    stay_with c events (Ended plp) frame counts (λ all more. back_ended c events plp all more) h
+
+pub stay_gave : (c : Config) (events : List Event) (frame : ℕ) (counts : List ℕ) → CountsStay c events frame counts
+    → CountsStay c (events ++ Gave ∷ []) frame counts
+stay_gave c events frame counts h =
+    stay_with c events Gave frame counts
+    (λ all more. back_same c events Gave all (λ j. nothing_told j events Gave refl refl refl) more) h
+
+pub stay_finished : (c : Config) (events : List Event) (frame : ℕ) (counts : List ℕ) → CountsStay c events frame counts
+    → CountsStay c (events ++ Finished ∷ []) frame counts
+stay_finished c events frame counts h =
+    stay_with c events Finished frame counts
+    (λ all more. back_same c events Finished all (λ j. nothing_told j events Finished refl refl refl) more) h
+
+-- In frame 0 none stays.
+pub stay_none : (c : Config) (counts : List ℕ) → CountsStay c [] 0 counts
+stay_none c counts = λ all more plp lt off. absurd (let z : true ≡ false = sym (begins_at_once c plp) ∙ off in cc)
+
+pub fit_zeros : (c : Config) (counts : List ℕ) → counts ≡ replicate (length c.plps) 0 → CountsFit c counts
+fit_zeros c counts e = record {
+  whole = ap length e ∙ length-replicate (length c.plps) 0;
+  within = λ plp lt.
+      let zero : slice_index counts plp ≡ 0 = ap (λ (l : List ℕ). slice_index l plp) e
+      ∙ get_or-replicate (length c.plps) plp 0 0 lt in
+      omega (arith, zero);
+}
+
 -- ---- what the inputs stand for, whatever it is, from call to call
 
-pub supplied_over : (c : Config) (frame : ℕ) (inputs same : List Input) (step : Step) (pool : State) → same ≡ inputs → step ≡ Over
-    → AreSupplied c frame inputs (early_at step pool) → AreSupplied c frame same (bits_in pool)
-supplied_over c frame inputs same step pool e over s = record {
+pub supplied_over : (c : Config) (frame n : ℕ) (inputs same : List Input) (step : Step) (place : ℕ) (pool : State) → same ≡ inputs
+    → step ≡ Over → AreSupplied c frame inputs (early_at c n step place pool) → AreSupplied c frame same (bits_in pool)
+supplied_over c frame n inputs same step place pool e over s = record {
   events = s.events;
   frame_is = s.frame_is;
   fed = subst (λ (l : List Input). AllFed l (bits_in pool) c s.events) (sym e)
-      (early_over inputs step pool c s.events over s.fed);
+      (early_over inputs c n step place pool c s.events over s.fed);
 }
 
-pub supplied_offered : (c : Config) (frame plp : ℕ) (packet : List ℕ) (old new : List Input) (step : Step) (was is : State)
-    → step ≡ Over
+pub supplied_offered : (c : Config) (frame n plp : ℕ) (packet : List ℕ) (old new : List Input) (step : Step) (place : ℕ)
+    (was is : State) → step ≡ Over
     → ((events : List Event) → AllFed old (bits_in was) c events → AllFed new (bits_in is) c (events ++ Offered plp packet ∷ []))
-    → AreSupplied c frame old (early_at step was) → AreSupplied c frame new (early_at step is)
-supplied_offered c frame plp packet old new step was is over fed s = record {
+    → AreSupplied c frame old (early_at c n step place was) → AreSupplied c frame new (early_at c n step place is)
+supplied_offered c frame n plp packet old new step place was is over fed s = record {
   events = s.events ++ Offered plp packet ∷ [];
   frame_is = s.frame_is ∙ sym (ap (λ (t : Told). t.frame) (told_offered plp s.events packet));
-  fed = subst (λ (p : Step). AllFed new (early_at p is) c (s.events ++ Offered plp packet ∷ [])) (sym over)
-      (fed s.events (early_over old step was c s.events over s.fed));
+  fed = subst (λ (p : Step). AllFed new (early_at c n p place is) c (s.events ++ Offered plp packet ∷ [])) (sym over)
+      (fed s.events (early_over old c n step place was c s.events over s.fed));
 }
 
 pub supplied_ended : (c : Config) (frame plp : ℕ) (old new : List Input) (early : ℕ → List (List Bool))

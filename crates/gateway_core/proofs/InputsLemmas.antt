@@ -2,29 +2,35 @@
 use Rattle.std.proofs.Common.{◌≡◌, ◌≢◌, ℕ, ◌+◌, ◌*◌, ◌<◌, ◌≤◌, Bool, true, false, cond, List, [], ◌∷◌, ◌++◌, length, map, refl}
 use Rattle.std.proofs.Common.{ap, sym, subst, ◌∙◌, inl, inr, arith, append-nil, eq-eqb}
 use Rattle.std.specs.Prelude.{slice_index_or, slice_index, slice_set, ◌==◌, ◌||◌}
-use Rattle.std.proofs.lemmas.Bool.{cases_eq, cases_lt, ne_eqb}
-use Rattle.std.proofs.lemmas.Grind.{flat_map-append, same_number_lists}
+use Rattle.std.proofs.lemmas.Bool.{cases_eq, cases_lt, cases_Bool, ne_eqb}
+use Rattle.std.proofs.lemmas.Grind.{flat_map-append, same_number_lists, not_there}
 use Rattle.std.proofs.lemmas.List.{length-map, map-set, length-set, get_or-set_same, get_or-set_other, get_or-map, get_or_default}
 use Rattle.std.proofs.lemmas.List.{get_or_append_left, get_or_push}
 use Rattle.std.proofs.lemmas.List.Folds.{list_any-append}
+use Rattle.std.proofs.lemmas.List.FromFn.{length-map-range_with_len, get_or-map-range_with_len}
 use Rattle.std.proofs.lemmas.List.Sums.{sum_by-append}
 use Rattle.terms.specs.Bits.{bits_of}
 use Rattle.linked_pool.specs.Fits.{ListFits}
 use Rattle.linked_pool.specs.Pool.{State, list_at, Others}
 use Rattle.plp_config.specs.Capacity.{IsPlan}
+use Rattle.plp_config.specs.InterleavingFrames.{interleaving_frame, is_first}
+use Rattle.plp_config.specs.Laws.{SpreadDividesFrames}
 use Rattle.plp_config.specs.Plps.{plp_at}
 use Rattle.plp_config.specs.SlotTime.{slots_by}
 use Rattle.plp_config.specs.declared.config.Config.{Config}
+use Rattle.scheduler.specs.Laws.{CountsFit}
+use Rattle.mode_adapt.specs.Blocks.{plp_blocks, own_blocks, told_count, told_counts}
 use Rattle.mode_adapt.specs.Laws.{EarlyFits, BlocksFit}
 use Rattle.mode_adapt.specs.Place.{HasPlace}
 use Rattle.mode_adapt.specs.Deletion.{packet_at}
 use Rattle.gateway_core.specs.Events.{Event, Offered, Ended, Begun, packets_to, offered, ends, has_ended, begins, begun}
 use Rattle.gateway_core.specs.IsFed.{IsFed, IsSupplied, wanted, most}
 use Rattle.gateway_core.specs.InputsStandFor.{AllFed, AreFor, AllContinue, AreBlocks, HasCut, CutsOne, CutUntil, HasFrame}
-use Rattle.gateway_core.specs.InputsStandFor.{SameMost, AreSupplied}
-use Rattle.gateway_core.specs.Lists.{bits_in}
+use Rattle.gateway_core.specs.InputsStandFor.{SameMost, AreSupplied, GoesOn, CountsStay}
+use Rattle.gateway_core.specs.Lists.{bits_in, own_in, later_in}
 use Rattle.gateway_core.specs.Told.{Told, told, with_packet, at_end, in_next, Continues}
 use Rattle.gateway_core.specs.declared.input.Input.{Input}
+use Rattle.gateway_core.proofs.EpochLemmas.{same_number}
 
 told_is : (p q : List (List ℕ)) (b d : Bool) (m n : ℕ) → p ≡ q → b ≡ d → m ≡ n
     → (let t : Told = record { packets = p; ended = b; frame = m } in t) ≡ record { packets = q; ended = d; frame = n }
@@ -71,6 +77,15 @@ told_begun j events =
     (flat_map-append (packets_to j) events (Begun ∷ []) ∙ append-nil (offered j events))
     (list_any-append (ends j) events (Begun ∷ []) ∙ or_false (has_ended j events))
     (let s = sum_by-append (λ (e : Event). cond (begins e) 1 0) events (Begun ∷ []) in omega (arith, s))
+
+-- What continues with the begin of a frame continues without it.
+cont_next : (t : Told) (input : List (List ℕ)) → Continues (in_next t) input → Continues t input
+cont_next t input h = record { rest = h.rest; front = h.front; whole = h.whole }
+
+pub back_begun : (c : Config) (events : List Event) (all : ℕ → List (List ℕ)) → AllContinue c (events ++ Begun ∷ []) all
+    → AllContinue c events all
+back_begun c events all h =
+    λ j lt. cont_next (told j events) (all j) (subst (λ (t : Told). Continues t (all j)) (told_begun j events) (h j lt))
 
 differs : (a b : ℕ) → a ≢ b → (a == b) ≡ false
 differs a b ne = ne_eqb a b ne
@@ -184,54 +199,110 @@ pushed {X} P items n y len h here = λ j d lt.
           subst (λ (k : ℕ). P k (slice_index_or (items ++ y ∷ []) k d)) (sym same) (subst (λ (x : X). P n x) (sym at) here)
     ]
 
-pub cuts_one : (items : List Input) (s : ℕ) (d new : Input) (c : Config) (frame due : ℕ) (was is : State) (count : ℕ)
-    → s < length items → IsPlan c → s < length c.plps → due ≡ slots_by c s ((frame + 1) * c.ticks)
+goes_cut : (i : Input) (c : Config) (plp : ℕ) (t : Told) (pool : State) (before count : ℕ) → is_first c plp t.frame ≡ true
+    → HasCut i c plp t pool count → GoesOn i c plp t pool before count
+goes_cut i c plp t pool before count on h = record {
+  cut = λ _. h;
+  fed = λ off. absurd (let z : true ≡ false = sym on ∙ off in cc);
+  stays = λ off. absurd (let z : true ≡ false = sym on ∙ off in cc);
+}
+
+-- An input that ends an interleaving frame goes on behind the frame.
+pub cuts_one : (items : List Input) (s : ℕ) (d new : Input) (c : Config) (frame due : ℕ) (was is : State) (before count : ℕ)
+    → s < length items → IsPlan c → s < length c.plps → is_first c s frame ≡ true → due ≡ slots_by c s ((frame + 1) * c.ticks)
     → ((c : Config) (plp : ℕ) (t : Told) → IsPlan c → plp < length c.plps → HasPlace c plp was s
-    → due ≡ slots_by c plp ((t.frame + 1) * c.ticks)
+    → is_first c plp t.frame ≡ true → due ≡ slots_by c plp ((t.frame + 1) * c.ticks)
     → IsFed (slice_index_or items s d) c plp t (bits_in was s) → HasCut new c plp t is count)
-    → count ≤ most (slice_index_or items s d) → Others was is s → CutsOne c frame items (slice_set items s new) was is s count
-cuts_one items s d new c frame due was is count lt plan inside e cut few o =
+    → count ≤ most (slice_index_or items s d) → Others was is s
+    → CutsOne c frame items (slice_set items s new) was is s before count
+cuts_one items s d new c frame due was is before count lt plan inside on e cut few o =
     let old : (f : Input) → slice_index_or items s f ≡ slice_index_or items s d = λ f. get_or_default items s f d lt in
     record {
       others = λ j f differ. get_or-set_other items s j new f differ;
       lists = o;
-      few = λ f. subst (λ (n : ℕ). count ≤ n) (sym (ap most (old f))) few;
-      cut = λ f t at place h.
+      few = λ f blocks most_is _. omega (arith, few, ap most (old f), most_is);
+      on = λ f t at place h.
           let here : slice_index_or (slice_set items s new) s f ≡ new = get_or-set_same items s new f lt in
-          subst (λ (i : Input). HasCut i c s t is count) (sym here)
-          (cut c s t plan inside place (e ∙ ap (λ (m : ℕ). slots_by c s ((m + 1) * c.ticks)) (sym at))
-          (subst (λ (i : Input). IsFed i c s t (bits_in was s)) (old f) h));
+          let first : is_first c s t.frame ≡ true = ap (λ (m : ℕ). is_first c s m) at ∙ on in
+          goes_cut (slice_index_or (slice_set items s new) s f) c s t is before count first
+          (subst (λ (i : Input). HasCut i c s t is count) (sym here)
+          (cut c s t plan inside place first (e ∙ ap (λ (m : ℕ). slots_by c s ((m + 1) * c.ticks)) (sym at))
+          (subst (λ (i : Input). IsFed i c s t (bits_in was s)) (old f) h)));
     }
 
 -- what was put stays while its list does
-cut_stays : (i : Input) (c : Config) (plp : ℕ) (t : Told) (was is : State) (count : ℕ) → list_at is plp ≡ list_at was plp
-    → HasCut i c plp t was count → HasCut i c plp t is count
-cut_stays i c plp t was is count e h = record {
-  fed = h.fed;
-  blocks = λ input more. ap (map bits_of) e ∙ h.blocks input more;
-  count_is = h.count_is ∙ ap length (sym e);
+goes_stays : (i : Input) (c : Config) (plp : ℕ) (t : Told) (was is : State) (before count : ℕ)
+    → list_at is plp ≡ list_at was plp → GoesOn i c plp t was before count → GoesOn i c plp t is before count
+goes_stays i c plp t was is before count e h = record {
+  cut = λ on. record {
+    fed = (h.cut on).fed;
+    blocks = λ input more. ap (map bits_of) e ∙ (h.cut on).blocks input more;
+    count_is = (h.cut on).count_is ∙ ap length (sym e);
+  };
+  fed = λ off. subst (λ (l : List (List ℕ)). IsFed i c plp (in_next t) (map bits_of l)) (sym e) (h.fed off);
+  stays = h.stays;
 }
 
 -- packets continue themselves
 no_more : (t : Told) → Continues t t.packets
 no_more t = record { rest = []; front = sym (append-nil t.packets); whole = λ on. refl }
 
--- The input at a place has place in the pool: the lists below have the blocks of the frame, and those above have what was put
--- before.
-place_next : EarlyFits → BlocksFit → (c : Config) (frame : ℕ) (old new : List Input) (was is : State) (counts : List ℕ) (n : ℕ)
-    (events : List Event) (d : Input) → IsPlan c → length old ≡ length c.plps
-    → CutUntil c frame old new was is counts n → frame ≡ begun events → HasFrame c was → AllFed old (bits_in was) c events
+-- Its list holds no more than an interleaving frame,
+goes_fits : EarlyFits → BlocksFit → (i : Input) (c : Config) (plp : ℕ) (t : Told) (pool : State) (before count : ℕ) → IsPlan c
+    → plp < length c.plps → GoesOn i c plp t pool before count → ListFits c plp (list_at pool plp)
+goes_fits early late i c plp t pool before count plan lt h =
+    elim (cases_Bool (is_first c plp t.frame)) [
+      | inl on ↦ late c plp (packet_at t.packets) (interleaving_frame c plp t.frame) (list_at pool plp) plan lt
+          ((h.cut on).blocks t.packets (no_more t))
+      | inr off ↦ list_fits early i c plp (in_next t) pool (h.fed off)
+    ]
+
+-- the blocks that are not sent are what it put for later,
+goes_fed : (i : Input) (c : Config) (plp : ℕ) (t : Told) (pool : State) (before count : ℕ) → GoesOn i c plp t pool before count
+    → IsFed i c plp (in_next t) (later_in c t.frame pool plp)
+goes_fed i c plp t pool before count h =
+    elim (cases_Bool (is_first c plp t.frame)) [
+      | inl on ↦ rw on (h.cut on).fed
+      | inr off ↦ rw off (h.fed off)
+    ]
+
+-- those that are sent are those of its interleaving frame,
+goes_blocks : (i : Input) (c : Config) (plp : ℕ) (t : Told) (pool : State) (before count : ℕ) (inputs : ℕ → List (List ℕ))
+    → GoesOn i c plp t pool before count → Continues t (inputs plp) → own_in c t.frame pool plp ≡ own_blocks c inputs t.frame plp
+goes_blocks i c plp t pool before count inputs h more =
+    elim (cases_Bool (is_first c plp t.frame)) [
+      | inl on ↦ rw on ((h.cut on).blocks (inputs plp) more)
+      | inr off ↦ rw off refl
+    ]
+
+-- and so many it has.
+goes_count : (i : Input) (c : Config) (plp : ℕ) (t : Told) (pool : State) (before count : ℕ) (inputs : ℕ → List (List ℕ))
+    → GoesOn i c plp t pool before count → Continues t (inputs plp)
+    → (is_first c plp t.frame ≡ false → before ≡ told_count c inputs t.frame plp) → count ≡ told_count c inputs t.frame plp
+goes_count i c plp t pool before count inputs h more stays =
+    elim (cases_Bool (is_first c plp t.frame)) [
+      | inl on ↦ (h.cut on).count_is ∙ sym (length-map (list_at pool plp) bits_of)
+          ∙ ap length ((h.cut on).blocks (inputs plp) more)
+      | inr off ↦ h.stays off ∙ stays off
+    ]
+
+-- ---- one behind the other
+
+-- The input at a place has place in the pool: the lists below have the blocks of the frame or those for later, and those above
+-- have what was put before.
+place_next : EarlyFits → BlocksFit → (c : Config) (frame : ℕ) (old new : List Input) (was is : State) (before counts : List ℕ)
+    (n : ℕ) (events : List Event) (d : Input) → IsPlan c → length old ≡ length c.plps
+    → CutUntil c frame old new was is before counts n → frame ≡ begun events → HasFrame c was → AllFed old (bits_in was) c events
     → HasPlace c n is n
-place_next early late c frame old new was is counts n events d plan whole h e has all =
+place_next early late c frame old new was is before counts n events d plan whole h e has all =
     record {
       enough = rw h.opened has.enough;
       lists = h.lists_count ∙ has.lists;
       place = refl;
       others = λ other lt differ. elim (cases_lt other n) [
-        | inl before ↦
-            let k = h.cut events e has all other d before in
-            late c other (packet_at (told other events).packets) (begun events) (list_at is other) plan lt
-            (k.blocks (told other events).packets (no_more (told other events)))
+        | inl below ↦
+            goes_fits early late (slice_index_or new other d) c other (told other events) is (slice_index before other)
+            (slice_index counts other) plan lt (h.on events e has all other d below)
         | inr from ↦
             rw (h.lists other from) (list_fits early (slice_index_or old other d) c other (told other events) was
             (all other d (omega (arith, whole, lt))))
@@ -239,15 +310,15 @@ place_next early late c frame old new was is counts n events d plan whole h e ha
     }
 
 -- so it is supplied
-pub cut_supplied : EarlyFits → BlocksFit → (c : Config) (frame : ℕ) (old new : List Input) (was is : State) (counts : List ℕ)
-    (n : ℕ) (d : Input) → IsPlan c → length old ≡ length c.plps → n < length old
-    → CutUntil c frame old new was is counts n → HasFrame c was → AreSupplied c frame old (bits_in was)
+pub cut_supplied : EarlyFits → BlocksFit → (c : Config) (frame : ℕ) (old new : List Input) (was is : State)
+    (before counts : List ℕ) (n : ℕ) (d : Input) → IsPlan c → length old ≡ length c.plps → n < length old
+    → CutUntil c frame old new was is before counts n → HasFrame c was → AreSupplied c frame old (bits_in was)
     → IsSupplied (slice_index_or new n d) is n
-cut_supplied early late c frame old new was is counts n d plan whole inside h has s = record {
+cut_supplied early late c frame old new was is before counts n d plan whole inside h has s = record {
   config = c;
   plp = n;
   told = told n s.events;
-  place = place_next early late c frame old new was is counts n s.events d plan whole h s.frame_is has s.fed;
+  place = place_next early late c frame old new was is before counts n s.events d plan whole h s.frame_is has s.fed;
   fed = rw (h.rest n d (omega arith), h.lists n (omega arith)) (s.fed n d inside);
 }
 
@@ -264,90 +335,156 @@ one_supplied early items pool c frame plp d whole lt has s = record {
 }
 
 pub cut_step : EarlyFits → BlocksFit → (c : Config) (frame : ℕ) (old new newer : List Input) (was is next : State)
-    (counts : List ℕ) (n count : ℕ) → IsPlan c → length old ≡ length c.plps → n < length old
-    → n < length counts → CutUntil c frame old new was is counts n → CutsOne c frame new newer is next n count
-    → CutUntil c frame old newer was next (slice_set counts n count) (n + 1)
-cut_step early late c frame old new newer was is next counts n count plan whole inside room h one =
+    (before counts : List ℕ) (n count : ℕ) → IsPlan c → length old ≡ length c.plps → n < length old
+    → n < length counts → CutUntil c frame old new was is before counts n
+    → CutsOne c frame new newer is next n (slice_index counts n) count
+    → CutUntil c frame old newer was next before (slice_set counts n count) (n + 1)
+cut_step early late c frame old new newer was is next before counts n count plan whole inside room h one =
     let here : (d : Input) → slice_index_or new n d ≡ slice_index_or old n d = λ d. h.rest n d (omega arith) in
     let last : slice_index (slice_set counts n count) n ≡ count = get_or-set_same counts n count 0 room in
-    let front : (j : ℕ) → j < n → slice_index (slice_set counts n count) j ≡ slice_index counts j =
-    λ j lt. get_or-set_other counts n j count 0 (omega arith) in
+    let other : (j : ℕ) → j ≢ n → slice_index (slice_set counts n count) j ≡ slice_index counts j =
+    λ j differ. get_or-set_other counts n j count 0 differ in
+    let had : slice_index counts n ≡ slice_index before n = h.behind n (omega arith) in
     record {
       rest = λ j d le. one.others j d (omega arith) ∙ h.rest j d (omega arith);
       lists = λ j le. one.lists.lists j (omega arith) ∙ h.lists j (omega arith);
       lists_count = one.lists.count ∙ h.lists_count;
       opened = one.lists.opened ∙ h.opened;
-      few = λ j d lt. elim (cases_lt j n) [
-        | inl before ↦ rw (front j before) (h.few j d before)
+      behind = λ j le. other j (omega arith) ∙ h.behind j (omega arith);
+      few = λ j d blocks lt most_is within. elim (cases_lt j n) [
+        | inl below ↦ rw (other j (omega arith)) (h.few j d blocks below most_is within)
         | inr from ↦
             let same : n ≡ j = omega arith in
-            subst (λ (k : ℕ). slice_index (slice_set counts n count) k ≤ most (slice_index_or old k d)) same
-            (rw (last, ← here d) (one.few d))
+            let most_here : most (slice_index_or new n d) ≤ blocks =
+            rw (here d) (subst (λ (k : ℕ). most (slice_index_or old k d) ≤ blocks) (sym same) most_is) in
+            let few_here : slice_index counts n ≤ blocks =
+            rw had (subst (λ (k : ℕ). slice_index before k ≤ blocks) (sym same) within) in
+            subst (λ (k : ℕ). slice_index (slice_set counts n count) k ≤ blocks) same
+            (rw last (one.few d blocks most_here few_here))
       ];
-      cut = λ events e has all j d lt. elim (cases_lt j n) [
-        | inl before ↦
-            let k = cut_stays (slice_index_or new j d) c j (told j events) is next (slice_index counts j)
-            (one.lists.lists j (omega arith)) (h.cut events e has all j d before) in
-            rw (one.others j d (omega arith), front j before) k
+      on = λ events e has all j d lt. elim (cases_lt j n) [
+        | inl below ↦
+            let k = goes_stays (slice_index_or new j d) c j (told j events) is next (slice_index before j) (slice_index counts j)
+            (one.lists.lists j (omega arith)) (h.on events e has all j d below) in
+            rw (one.others j d (omega arith), other j (omega arith)) k
         | inr from ↦
             let same : n ≡ j = omega arith in
-            let place = place_next early late c frame old new was is counts n events d plan whole h e has all in
+            let place = place_next early late c frame old new was is before counts n events d plan whole h e has all in
             let fed : IsFed (slice_index_or new n d) c n (told n events) (bits_in is n) =
             rw (here d, h.lists n (omega arith)) (all n d inside) in
-            subst (λ (k : ℕ). HasCut (slice_index_or newer k d) c k (told k events) next
-            (slice_index (slice_set counts n count) k)) same
-            (rw last (one.cut d (told n events) (sym e) place fed))
+            let on : GoesOn (slice_index_or newer n d) c n (told n events) next (slice_index before n) count =
+            subst (λ (b : ℕ). GoesOn (slice_index_or newer n d) c n (told n events) next b count) had
+            (one.on d (told n events) (sym e) place fed) in
+            subst (λ (k : ℕ). GoesOn (slice_index_or newer k d) c k (told k events) next (slice_index before k)
+            (slice_index (slice_set counts n count) k)) same (rw last on)
       ];
     }
 
 pub cut_none : (c : Config) (frame : ℕ) (old : List Input) (pool : State) (counts : List ℕ)
-    → CutUntil c frame old old pool pool counts 0
+    → CutUntil c frame old old pool pool counts counts 0
 cut_none c frame old pool counts = record {
   rest = λ j d le. refl;
   lists = λ j le. refl;
   lists_count = refl;
   opened = refl;
-  few = λ j d lt. absurd (omega arith);
-  cut = λ events e has all j d lt. absurd (omega arith);
+  behind = λ j le. refl;
+  few = λ j d blocks lt. absurd (omega arith);
+  on = λ events e has all j d lt. absurd (omega arith);
 }
 
-pub cut_fed : (c : Config) (frame : ℕ) (old new : List Input) (was is : State) (counts : List ℕ) (n : ℕ) (events : List Event)
-    → CutUntil c frame old new was is counts n → n ≡ length old → length new ≡ length old
-    → frame ≡ begun events → HasFrame c was → AllFed old (bits_in was) c events → AllFed new (λ j. []) c (events ++ Begun ∷ [])
-cut_fed c frame old new was is counts n events h all len e has fed = λ j d lt.
-    subst (λ (t : Told). IsFed (slice_index_or new j d) c j t []) (sym (told_begun j events))
-    (h.cut events e has fed j d (omega arith)).fed
+pub cut_fed : (c : Config) (frame : ℕ) (old new : List Input) (was is : State) (before counts : List ℕ) (n : ℕ)
+    (events : List Event) → CutUntil c frame old new was is before counts n → n ≡ length old → length new ≡ length old
+    → frame ≡ begun events → HasFrame c was → AllFed old (bits_in was) c events
+    → AllFed new (later_in c frame is) c (events ++ Begun ∷ [])
+cut_fed c frame old new was is before counts n events h all len e has fed = λ j d lt.
+    let on = goes_fed (slice_index_or new j d) c j (told j events) is (slice_index before j) (slice_index counts j)
+    (h.on events e has fed j d (omega arith)) in
+    subst (λ (t : Told). IsFed (slice_index_or new j d) c j t (later_in c frame is j)) (sym (told_begun j events))
+    (subst (λ (m : ℕ). IsFed (slice_index_or new j d) c j (in_next (told j events)) (later_in c m is j)) (sym e) on)
 
-pub cut_blocks : (c : Config) (frame : ℕ) (old new : List Input) (was is : State) (counts : List ℕ) (n : ℕ) (events : List Event)
-    (inputs : ℕ → List (List ℕ)) → CutUntil c frame old new was is counts n → n ≡ length old
+pub cut_blocks : (c : Config) (frame : ℕ) (old new : List Input) (was is : State) (before counts : List ℕ) (n : ℕ)
+    (events : List Event) (inputs : ℕ → List (List ℕ)) → CutUntil c frame old new was is before counts n → n ≡ length old
     → length old ≡ length c.plps → frame ≡ begun events → HasFrame c was → AllFed old (bits_in was) c events
-    → AllContinue c events inputs → AreBlocks is c events inputs
-cut_blocks c frame [] new was is counts n events inputs h all whole e has fed more = λ j lt. absurd (omega arith)
-cut_blocks c frame (x ∷ xs) new was is counts n events inputs h all whole e has fed more =
-    λ j lt. (h.cut events e has fed j x (omega arith)).blocks (inputs j) (more j lt)
+    → AllContinue c events inputs → AreBlocks is c frame inputs
+cut_blocks c frame [] new was is before counts n events inputs h all whole e has fed more = λ j lt. absurd (omega arith)
+cut_blocks c frame (x ∷ xs) new was is before counts n events inputs h all whole e has fed more = λ j lt.
+    let on = goes_blocks (slice_index_or new j x) c j (told j events) is (slice_index before j) (slice_index counts j) inputs
+    (h.on events e has fed j x (omega arith)) (more j lt) in
+    subst (λ (m : ℕ). own_in c m is j ≡ own_blocks c inputs m j) (sym e) on
 
-count_at : (c : Config) (frame : ℕ) (old new : List Input) (was is : State) (counts : List ℕ) (n : ℕ) (events : List Event)
-    (j : ℕ) → CutUntil c frame old new was is counts n → n ≡ length old → j < length old
-    → frame ≡ begun events → HasFrame c was → AllFed old (bits_in was) c events → slice_index counts j ≡ length (list_at is j)
-count_at c frame [] new was is counts n events j h all lt e has fed = absurd (omega arith)
-count_at c frame (x ∷ xs) new was is counts n events j h all lt e has fed = (h.cut events e has fed j x (omega arith)).count_is
+count_at : (c : Config) (frame : ℕ) (old new : List Input) (was is : State) (before counts : List ℕ) (n : ℕ)
+    (events : List Event) (inputs : ℕ → List (List ℕ)) (j : ℕ) → CutUntil c frame old new was is before counts n → n ≡ length old
+    → length old ≡ length c.plps → j < length old → frame ≡ begun events → HasFrame c was → AllFed old (bits_in was) c events
+    → CountsStay c events frame before → AllContinue c events inputs → slice_index counts j ≡ told_count c inputs frame j
+count_at c frame [] new was is before counts n events inputs j h all whole lt e has fed stay more = absurd (omega arith)
+count_at c frame (x ∷ xs) new was is before counts n events inputs j h all whole lt e has fed stay more =
+    let configured : j < length c.plps = omega (arith, whole, lt) in
+    let on = goes_count (slice_index_or new j x) c j (told j events) is (slice_index before j) (slice_index counts j) inputs
+    (h.on events e has fed j x (omega arith)) (more j configured)
+    (subst (λ (m : ℕ). is_first c j m ≡ false → slice_index before j ≡ told_count c inputs m j) e
+    (stay inputs more j configured)) in
+    subst (λ (m : ℕ). slice_index counts j ≡ told_count c inputs m j) (sym e) on
 
-pub cut_counts : (c : Config) (frame : ℕ) (old new : List Input) (was is : State) (counts : List ℕ) (n : ℕ) (events : List Event)
-    → CutUntil c frame old new was is counts n → n ≡ length old
-    → length was.lists ≡ length old → length counts ≡ length old → frame ≡ begun events → HasFrame c was
-    → AllFed old (bits_in was) c events → counts ≡ map length is.lists
-cut_counts c frame old new was is counts n events h all lists len e has fed =
-    same_number_lists counts (map length is.lists)
-    (omega (arith, len, lists, h.lists_count, length-map is.lists (λ (l : List (List ℕ)). length l)))
-    (λ j lt. count_at c frame old new was is counts n events j h all (omega (arith, lt, len)) e has fed
-    ∙ sym (get_or-map length is.lists j [] 0 (omega (arith, lt, len, lists, h.lists_count))))
+pub cut_counts : (c : Config) (frame : ℕ) (old new : List Input) (was is : State) (before counts : List ℕ) (n : ℕ)
+    (events : List Event) (inputs : ℕ → List (List ℕ)) → CutUntil c frame old new was is before counts n → n ≡ length old
+    → length old ≡ length c.plps → length counts ≡ length c.plps → frame ≡ begun events → HasFrame c was
+    → AllFed old (bits_in was) c events → CountsStay c events frame before → AllContinue c events inputs
+    → counts ≡ told_counts c inputs frame
+cut_counts c frame old new was is before counts n events inputs h all whole len e has fed stay more =
+    let told : length (told_counts c inputs frame) ≡ length c.plps =
+    length-map-range_with_len (told_count c inputs frame) 0 (length c.plps) in
+    same_number_lists counts (told_counts c inputs frame) (len ∙ sym told)
+    (λ j lt. count_at c frame old new was is before counts n events inputs j h all whole (omega (arith, lt, len, whole)) e has fed
+    stay more
+    ∙ sym (get_or-map-range_with_len (told_count c inputs frame) 0 (length c.plps) j j 0 (omega (arith, lt, len)) (omega arith)))
 
-pub cut_few : (c : Config) (frame : ℕ) (old new : List Input) (was is : State) (counts : List ℕ) (n plp : ℕ)
-    → CutUntil c frame old new was is counts n → n ≡ length old
-    → length old ≡ length c.plps → AreFor old c → plp < length c.plps → slice_index counts plp ≤ (plp_at c.plps plp).blocks
-cut_few c frame [] new was is counts n plp h all whole are lt = absurd (omega arith)
-cut_few c frame (x ∷ xs) new was is counts n plp h all whole are lt =
-    omega (arith, h.few plp x (omega arith), are plp x (omega arith))
+-- In the next frame they are the same for each PLP of which no interleaving frame begins in it.
+pub counts_stay : SpreadDividesFrames → (c : Config) (frame : ℕ) (counts : List ℕ) (events : List Event) → IsPlan c
+    → ((inputs : ℕ → List (List ℕ)) → AllContinue c events inputs → counts ≡ told_counts c inputs frame)
+    → CountsStay c (events ++ Begun ∷ []) (frame + 1) counts
+counts_stay spreads c frame counts events plan told = λ inputs more plp lt off.
+    let cont = back_begun c events inputs more in
+    let some = (spreads c plp plan.rules lt).0 in
+    ap (λ (l : List ℕ). slice_index l plp) (told inputs cont)
+    ∙ get_or-map-range_with_len (told_count c inputs frame) 0 (length c.plps) plp plp 0 lt (omega arith)
+    ∙ ap (λ (m : ℕ). length (plp_blocks c inputs m plp)) (sym (same_number c plp frame some off))
+
+pub cut_fit : (c : Config) (frame : ℕ) (old new : List Input) (was is : State) (before counts : List ℕ) (n : ℕ)
+    → CutUntil c frame old new was is before counts n → n ≡ length old → length old ≡ length c.plps
+    → length counts ≡ length c.plps → AreFor old c → CountsFit c before → CountsFit c counts
+cut_fit c frame [] new was is before counts n h all whole len are fit = record {
+  whole = len;
+  within = λ plp lt. absurd (omega (arith, lt, whole));
+}
+cut_fit c frame (x ∷ xs) new was is before counts n h all whole len are fit = record {
+  whole = len;
+  within = λ plp lt. h.few plp x (plp_at c.plps plp).blocks (omega arith)
+      (let e = are plp x (omega (arith, lt, whole)) in omega (arith, e)) (fit.within plp lt);
+}
+
+-- the same for lists that stand behind others
+pub fit_on : (c : Config) (old same : List Input) (before kept counts items : List ℕ) → same ≡ old → kept ≡ before
+    → items ≡ counts → (AreFor same c → CountsFit c kept → CountsFit c counts) → AreFor old c → CountsFit c before
+    → CountsFit c items
+fit_on c old same before kept counts items e f g step are fit =
+    subst (λ (l : List ℕ). CountsFit c l) (sym g)
+    (step (subst (λ (l : List Input). AreFor l c) (sym e) are) (subst (λ (l : List ℕ). CountsFit c l) (sym f) fit))
+
+pub cut_within : EarlyFits → BlocksFit → (c : Config) (frame : ℕ) (old new : List Input) (was is : State)
+    (before counts : List ℕ) (n plp : ℕ) → IsPlan c → CutUntil c frame old new was is before counts n → n ≡ length old
+    → length old ≡ length c.plps → HasFrame c was → plp < length c.plps → ∥ AreSupplied c frame old (bits_in was) ∥₁
+    → length (list_at is plp) ≤ (plp_at c.plps plp).blocks
+cut_within early late c frame [] new was is before counts n plp plan h all whole has lt supplied =
+    absurd (omega (arith, lt, whole))
+cut_within early late c frame (x ∷ xs) new was is before counts n plp plan h all whole has lt supplied =
+    elim (cases_lt (plp_at c.plps plp).blocks (length (list_at is plp))) [
+      | inl more ↦ absurd (not_there supplied (λ (s : AreSupplied c frame (x ∷ xs) (bits_in was)).
+          let fits = goes_fits early late (slice_index_or new plp x) c plp (told plp s.events) is (slice_index before plp)
+          (slice_index counts plp) plan lt (h.on s.events s.frame_is has s.fed plp x (omega arith)) in
+          let few = fits.few in
+          omega (arith, more, few)))
+      | inr le ↦ le
+    ]
 
 -- what the others want stays
 pub others_want : (items : List Input) (s : ℕ) (new : Input) (j : ℕ) → j ≢ s → slice_index (map wanted (slice_set items s new)) j

@@ -1,11 +1,12 @@
 -- How many frames a run has, and what decides their packets.
 use Rattle.std.proofs.Common.{◌≡◌, ℕ, zero, suc, ◌+◌, ◌-◌, ◌*◌, ◌%◌, ◌<◌, ◌≤◌, Bool, true, List, [], ◌∷◌, ◌++◌, length, map, max}
-use Rattle.std.proofs.Common.{refl, ap, sym, subst, ◌∙◌, inl, inr, arith, append-nil, append_assoc, add-one}
+use Rattle.std.proofs.Common.{cond, refl, ap, sym, subst, ◌∙◌, inl, inr, arith, append-nil, append_assoc, add-one}
 use Rattle.std.specs.Int.{div_ceil}
 use Rattle.std.specs.List.{range_with_len}
 use Rattle.std.proofs.lemmas.Bool.{cases_lt}
 use Rattle.std.proofs.Math.Nat.{mul-le-mul_right}
 use Rattle.plp_config.specs.Laws.{CountRises, EndsAfterStart, EpochTicks, FrameCountLeast, NotOverBy, SlotLength}
+use Rattle.plp_config.specs.InterleavingFrames.{interleaving_frame, is_first}
 use Rattle.plp_config.specs.Plps.{plp_at}
 use Rattle.plp_config.specs.RunLength.{frame_count, last_tick}
 use Rattle.plp_config.specs.SlotTime.{num, den, start, delay, epoch_ticks}
@@ -18,11 +19,12 @@ use Rattle.t2mi_stream.specs.Pipe.{pipe}
 use Rattle.gateway_core.specs.Carried.{of_frame}
 use Rattle.gateway_core.specs.Events.{offered}
 use Rattle.gateway_core.specs.Laws.{NotYetLast, FrontsGrow, UnitsLaw, FrontsDecided, LastIsAll}
-use Rattle.mode_adapt.specs.Blocks.{plp_blocks}
-use Rattle.gateway_core.specs.Packets.{l1_body, block_bodies, plp_bodies, with_stamp, counts_of, frame_bodies, bodies_before}
+use Rattle.mode_adapt.specs.Blocks.{plp_blocks, own_blocks, told_count, told_counts}
+use Rattle.gateway_core.specs.Packets.{l1_body, block_bodies, plp_bodies, with_stamp, frame_bodies, bodies_before}
 use Rattle.gateway_core.specs.Packets.{packets_from, front_packets}
 use Rattle.gateway_core.specs.Signalling.{pre_part, conf_part, dyn_part}
 use Rattle.gateway_core.proofs.CarriedLemmas.{packets_append}
+use Rattle.gateway_core.proofs.EpochLemmas.{begins_by}
 use Rattle.gateway_core.proofs.HoldsLemmas.{bodies_more}
 use Rattle.gateway_core.proofs.LeftLemmas.{flat_same}
 
@@ -58,7 +60,7 @@ bodies_split c all n zero = let z : n + 0 ≡ n = omega arith in ([], rw z (sym 
 bodies_split c all n (suc k) =
     let was = bodies_split c all n k in
     let z : n + suc k ≡ (n + k) + 1 = omega arith in
-    let last = of_frame (n + k) (frame_bodies c (n + k) (plp_blocks c all (n + k))) in (
+    let last = of_frame (n + k) (frame_bodies c (n + k) (told_counts c all (n + k)) (own_blocks c all (n + k))) in (
       was.0 ++ last,
       ap (bodies_before c all) z ∙ bodies_more c all (n + k) ∙ ap (λ (l : List (ℕ × Body)). l ++ last) was.1
           ∙ append_assoc (bodies_before c all n) was.0 last,
@@ -79,25 +81,33 @@ map_same f g a zero h = refl
 map_same f g a (suc k) h =
     rw (h a (omega arith) (omega arith), map_same f g (a + 1) k (λ j le lt. h j (omega arith) (omega arith))) refl
 
-frame_same : (c : Config) (n : ℕ) (f g : ℕ → List (List Bool)) → ((j : ℕ) → j < length c.plps → f j ≡ g j) → frame_bodies c n f
-    ≡ frame_bodies c n g
-frame_same c n f g h =
-    let counts : counts_of c f ≡ counts_of c g = map_same (λ plp. length (f plp)) (λ plp. length (g plp)) 0 (length c.plps)
-    (λ j le lt. ap length (h j (omega arith))) in
+-- the bodies of a frame of which all interleaving frames that it carries have the same blocks
+abbrev bodies_of : Config → (ℕ → List (List ℕ)) → ℕ → List Body
+bodies_of c all n = frame_bodies c n (told_counts c all n) (own_blocks c all n)
+
+frame_same : (c : Config) (n : ℕ) (all other : ℕ → List (List ℕ))
+    → ((j : ℕ) → j < length c.plps → plp_blocks c all (interleaving_frame c j n) j
+    ≡ plp_blocks c other (interleaving_frame c j n) j) → bodies_of c all n ≡ bodies_of c other n
+frame_same c n all other h =
+    let f : ℕ → List (List Bool) = own_blocks c all n in
+    let g : ℕ → List (List Bool) = own_blocks c other n in
+    let counts : told_counts c all n ≡ told_counts c other n =
+    map_same (told_count c all n) (told_count c other n) 0 (length c.plps) (λ j le lt. ap length (h j (omega arith))) in
     let blocks : plp_bodies c n f 0 ≡ plp_bodies c n g 0 =
     flat_same (λ plp. block_bodies (n % c.frames) (plp_at c.plps plp).id true (f plp))
     (λ plp. block_bodies (n % c.frames) (plp_at c.plps plp).id true (g plp)) 0 (length c.plps - 0)
-    (λ j le lt. ap (block_bodies (n % c.frames) (plp_at c.plps j).id true) (h j (omega arith))) in
-    ap (λ (l : List ℕ). with_stamp c n (l1_body c n (pre_part c) (conf_part c) (dyn_part c n l) ∷ plp_bodies c n f 0)) counts
-    ∙ ap (λ (l : List Body). with_stamp c n (l1_body c n (pre_part c) (conf_part c) (dyn_part c n (counts_of c g)) ∷ l)) blocks
+    (λ j le lt. ap (λ (l : List (List Bool)). block_bodies (n % c.frames) (plp_at c.plps j).id true
+    (cond {A = List (List Bool)} (is_first c j n) l [])) (h j (omega arith))) in
+    ap (λ (l : List ℕ). frame_bodies c n l f) counts
+    ∙ ap (λ (l : List Body). with_stamp c n (l1_body c n (pre_part c) (conf_part c) (dyn_part c n (told_counts c other n)) ∷ l))
+    blocks
 
 bodies_same : (c : Config) (all other : ℕ → List (List ℕ)) (n : ℕ)
-    → ((m : ℕ) → m < n → frame_bodies c m (plp_blocks c all m) ≡ frame_bodies c m (plp_blocks c other m)) → bodies_before c all n
-    ≡ bodies_before c other n
+    → ((m : ℕ) → m < n → bodies_of c all m ≡ bodies_of c other m) → bodies_before c all n ≡ bodies_before c other n
 bodies_same c all other zero h = refl
 bodies_same c all other (suc n) h =
     subst (λ (k : ℕ). bodies_before c all k ≡ bodies_before c other k) (add-one n)
-    (bodies_more c all n ∙ ap (λ (l : List (ℕ × Body)). l ++ of_frame n (frame_bodies c n (plp_blocks c all n)))
+    (bodies_more c all n ∙ ap (λ (l : List (ℕ × Body)). l ++ of_frame n (bodies_of c all n))
     (bodies_same c all other n (λ m lt. h m (omega arith)))
     ∙ ap (λ (l : List Body). bodies_before c other n ++ of_frame n l) (h n (omega arith)) ∙ sym (bodies_more c other n))
 
@@ -112,12 +122,13 @@ pub fronts_decided : BlocksLaw → SlotLength → CountRises → FrontsDecided
 unfolding front_packets
 fronts_decided blocks slot rises c inputs other n plan h =
     ap (packets_from c 0)
-    (bodies_same c inputs other n (λ m lt. frame_same c m (plp_blocks c inputs m) (plp_blocks c other m) (λ j configured.
-    blocks c j (packet_at (inputs j)) (packet_at (other j)) m plan configured (λ k inside.
+    (bodies_same c inputs other n (λ m lt. frame_same c m inputs other (λ j configured.
+    blocks c j (packet_at (inputs j)) (packet_at (other j)) (interleaving_frame c j m) plan configured (λ k inside.
     let s = slot c j plan.rules configured in
-    let t : m * epoch_ticks c j ≤ (n - 1) * epoch_ticks c j =
-    (let d : m ≤ n - 1 = omega arith in mul-le-mul_right (epoch_ticks c j) d) in
-    let le = rises (num c) (den c j) (m * epoch_ticks c j) ((n - 1) * epoch_ticks c j) (omega (arith, s.0, s.2)) t in
+    let by = begins_by c j m in
+    let up : m * c.ticks ≤ (n - 1) * c.ticks = (let d : m ≤ n - 1 = omega arith in mul-le-mul_right c.ticks d) in
+    let le = rises (num c) (den c j) (interleaving_frame c j m * epoch_ticks c j) ((n - 1) * c.ticks) (omega (arith, s.0, s.2))
+    (omega (arith, by, up)) in
     h j k configured (omega (arith, inside, le))))))
 
 tick_same : (c : Config) (f g : ℕ → ℕ) (n : ℕ) → ((j : ℕ) → j < n → f j ≡ g j) → last_tick c f n ≡ last_tick c g n

@@ -1,3 +1,4 @@
+pub mod EpochLemmas
 pub mod FedLemmas
 pub mod InputsLemmas
 pub mod LeftLemmas

@@ -37,5 +37,5 @@ pub record Feeds (c : Config) (s : Signalling) (old new : Outlet) (before now : 
   pub flows : (all : List (ℕ × Body)) (given : ℕ) → Flows old c before.number (left c s before) all given
       → Flows new c now.number (left c s now) all given
   pub bound : bytes_bound new (left c s now) ≤ bytes_bound old (left c s before)
-  pub early : (j : ℕ) → early_of now j ≡ early_of before j
+  pub early : (j : ℕ) → early_of c now j ≡ early_of c before j
   pub layout : layout_of now ≡ layout_of before

@@ -2,7 +2,7 @@
 use Rattle.std.specs.Prelude.{◌≡◌, ◌<◌, ◌≤◌, ℕ, ◌+◌, ◌-◌, ◌*◌, List, ◌++◌, length}
 use Rattle.plp_config.specs.Capacity.{IsPlan}
 use Rattle.plp_config.specs.RunLength.{frame_count}
-use Rattle.plp_config.specs.SlotTime.{slots_by, epoch_ticks}
+use Rattle.plp_config.specs.SlotTime.{slots_by}
 use Rattle.plp_config.specs.declared.config.Config.{Config}
 use Rattle.mode_adapt.specs.Deletion.{packet_at}
 use Rattle.t2mi_stream.specs.Complete.{complete_units}
@@ -27,11 +27,11 @@ abbrev pub UnitsLaw : Type 0
 UnitsLaw = (c : Config) (inputs : ℕ → List (List ℕ)) (k n : ℕ) → k ≤ n
     → (rest : List (List ℕ)) × (pipe c.pid (front_packets c inputs n) ≡ complete_units c.pid (front_packets c inputs k) ++ rest)
 
--- The packets of the frames below n follow from the input packets in the slots that are over when the last of their
--- interleaving frames begins.
+-- The packets of the frames below n follow from the input packets in the slots that are over when the last of these frames
+-- begins.
 abbrev pub FrontsDecided : Type 0
 FrontsDecided = (c : Config) (inputs other : ℕ → List (List ℕ)) (n : ℕ) → IsPlan c
-    → ((plp k : ℕ) → plp < length c.plps → k < slots_by c plp ((n - 1) * epoch_ticks c plp)
+    → ((plp k : ℕ) → plp < length c.plps → k < slots_by c plp ((n - 1) * c.ticks)
     → packet_at (inputs plp) k ≡ packet_at (other plp) k)
     → front_packets c inputs n ≡ front_packets c other n
 

@@ -1,12 +1,12 @@
 -- What a frame still has to give. No public clause cites this module.
-use Rattle.std.specs.Prelude.{◌≡◌, ℕ, Bool, true, List, [], ◌∷◌, length}
+use Rattle.std.specs.Prelude.{◌≡◌, ℕ, nat_lt, Bool, true, List, [], ◌∷◌, length, if◌then◌else◌}
 use Rattle.linked_pool.specs.Pool.{State}
 use Rattle.plp_config.specs.declared.config.Config.{Config}
 use Rattle.t2mi_packet.specs.T2miPacket.{written_bits}
 use Rattle.t2mi_packet.specs.declared.packet.Body.{Body}
 use Rattle.t2mi_packet.specs.declared.packet.Body.TheVariants.{Timestamp}
 use Rattle.gateway_core.specs.BlocksLeft.{blocks_left}
-use Rattle.gateway_core.specs.Lists.{bits_in}
+use Rattle.gateway_core.specs.Lists.{bits_in, own_in, later_in}
 use Rattle.gateway_core.specs.FirstStep.{first_step}
 use Rattle.gateway_core.specs.Whole.{IsWhole}
 use Rattle.gateway_core.specs.Packets.{stamp_of, l1_body, packet_with}
@@ -25,25 +25,30 @@ from_step c n Over signal rest = []
 
 abbrev pub left : Config → Signalling → Frame → List Body
 left c s f = from_step c f.number f.step (l1_body c f.number s.pre s.conf f.dynamic.bits)
-    (blocks_left c f.number (bits_in f.blocks) f.plp f.first)
+    (blocks_left c f.number (own_in c f.number f.blocks) f.plp f.first)
 
 -- what a frame has to give as it begins, by how many blocks each PLP has and by the blocks
 abbrev pub all_of : Config → Signalling → ℕ → List ℕ → (ℕ → List (List Bool)) → List Body
 all_of c s n counts blocks = from_step c n (first_step c n) (l1_body c n s.pre s.conf (dyn_part c n counts))
     (blocks_left c n blocks 0 true)
 
--- the blocks that the chains put already for the next frame: those of the lists once nothing is left, else none
-abbrev pub early_at : Step → State → ℕ → List (List Bool)
-early_at Stamp pool j = []
-early_at Signal pool j = []
-early_at Blocks pool j = []
-early_at Over pool j = bits_in pool j
+-- The blocks that the chains put already of interleaving frames that begin behind frame n. While it gives its packets they are
+-- those of the lists before a place, which gave all theirs, and those of the PLPs of which none begins in it;
+abbrev pub early_until : Config → ℕ → ℕ → State → ℕ → List (List Bool)
+early_until c n plp pool j = if nat_lt j plp then bits_in pool j else later_in c n pool j
 
-abbrev pub early_of : Frame → ℕ → List (List Bool)
-early_of f j = early_at f.step f.blocks j
+-- once nothing is left of it, all are.
+abbrev pub early_at : Config → ℕ → Step → ℕ → State → ℕ → List (List Bool)
+early_at c n Stamp plp pool j = early_until c n plp pool j
+early_at c n Signal plp pool j = early_until c n plp pool j
+early_at c n Blocks plp pool j = early_until c n plp pool j
+early_at c n Over plp pool j = bits_in pool j
+
+abbrev pub early_of : Config → Frame → ℕ → List (List Bool)
+early_of c f j = early_at c f.number f.step f.plp f.blocks j
 
 -- what stays as a frame gives its packets: its number, the lists and the chunks of its pool, and how many blocks each PLP has in
--- it
+-- the interleaving frame that it carries
 pub record Layout : Type 0 where
   pub number : ℕ
   pub lists : ℕ

@@ -7,7 +7,7 @@ use Rattle.plp_config.specs.Plps.{plp_at}
 use Rattle.plp_config.specs.RunLength.{frame_count}
 use Rattle.plp_config.specs.Tables.{bw}
 use Rattle.plp_config.specs.declared.config.Config.{Config}
-use Rattle.mode_adapt.specs.Blocks.{plp_blocks}
+use Rattle.mode_adapt.specs.Blocks.{own_blocks, told_counts}
 use Rattle.t2mi_packet.specs.T2miPacket.{written_bits}
 use Rattle.t2mi_packet.specs.declared.packet.Body.{Body}
 use Rattle.t2mi_packet.specs.declared.packet.Body.TheVariants.{Block, L1Current, Timestamp}
@@ -28,7 +28,7 @@ abbrev pub block_bodies : ℕ → ℕ → Bool → List (List Bool) → List Bod
 block_bodies frame_idx id first [] = []
 block_bodies frame_idx id first (b ∷ blocks) = Block frame_idx id first b ∷ block_bodies frame_idx id false blocks
 
--- the blocks of the PLPs from a place on, in configuration order, of those that each PLP has in frame n
+-- the blocks of the PLPs from a place on, in configuration order, of those that each PLP sends in frame n
 abbrev pub plp_bodies : Config → ℕ → (ℕ → List (List Bool)) → ℕ → List Body
 plp_bodies c n blocks from = flat_map (λ plp. block_bodies (n % c.frames) (plp_at c.plps plp).id true (blocks plp))
     (range_with_len from (length c.plps - from))
@@ -37,19 +37,17 @@ plp_bodies c n blocks from = flat_map (λ plp. block_bodies (n % c.frames) (plp_
 abbrev pub with_stamp : Config → ℕ → List Body → List Body
 with_stamp c n bodies = if n % c.frames == 0 then Timestamp (stamp_of c n) ∷ bodies else bodies
 
--- how many blocks each PLP has
-abbrev pub counts_of : Config → (ℕ → List (List Bool)) → List ℕ
-counts_of c blocks = map (λ plp. length (blocks plp)) (range_with_len 0 (length c.plps))
-
--- what the packets of frame n carry: a timestamp in the first frame of a superframe, then the L1 signalling, then the blocks PLP
--- by PLP
-abbrev pub frame_bodies : Config → ℕ → (ℕ → List (List Bool)) → List Body
-frame_bodies c n blocks =
-    with_stamp c n (l1_body c n (pre_part c) (conf_part c) (dyn_part c n (counts_of c blocks)) ∷ plp_bodies c n blocks 0)
+-- what the packets of frame n carry: a timestamp in the first frame of a superframe, then the L1 signalling, which tells these
+-- numbers of blocks, then the blocks that are sent in it, PLP by PLP
+abbrev pub frame_bodies : Config → ℕ → List ℕ → (ℕ → List (List Bool)) → List Body
+frame_bodies c n counts blocks =
+    with_stamp c n (l1_body c n (pre_part c) (conf_part c) (dyn_part c n counts) ∷ plp_bodies c n blocks 0)
 
 -- what the packets of the frames below n carry, each with the number of its frame
 abbrev pub bodies_before : Config → (ℕ → List (List ℕ)) → ℕ → List (ℕ × Body)
-bodies_before c inputs n = flat_map (λ m. map (λ body. (m, body)) (frame_bodies c m (plp_blocks c inputs m))) (range_with_len 0 n)
+bodies_before c inputs n =
+    flat_map (λ m. map (λ body. (m, body)) (frame_bodies c m (told_counts c inputs m) (own_blocks c inputs m)))
+    (range_with_len 0 n)
 
 -- a packet of frame n, by its place among all packets: packet_count is modulo 256, superframe_idx modulo 16
 abbrev pub packet_with : Config → ℕ → ℕ → Body → Packet

@@ -6,7 +6,7 @@ use Rattle.plp_config.specs.declared.config.Config.{Config}
 use Rattle.t2mi_packet.specs.declared.packet.Body.{Body}
 use Rattle.gateway_core.specs.Events.{Event, offered, has_ended, begun, given, finished}
 use Rattle.gateway_core.specs.Flowing.{Flows, bytes_bound, gives_unit}
-use Rattle.gateway_core.specs.InputsStandFor.{AllFed, AllContinue}
+use Rattle.gateway_core.specs.InputsStandFor.{AllFed, AllContinue, CountsStay}
 use Rattle.gateway_core.specs.IsFed.{wanted}
 use Rattle.gateway_core.specs.Left.{left, early_of}
 use Rattle.gateway_core.specs.Packets.{bodies_before}
@@ -28,11 +28,11 @@ pub record Holds (inputs : List Input) (early : ℕ → List (List Bool)) (s : S
   pub flows : (all : ℕ → List (List ℕ)) → AllContinue c events all → Flows flow.outlet c n left (bodies_before c all frames)
       (given events)
 
--- its configuration, and what was done to it, in turn
+-- its configuration, and what was done to it, in turn; it tells the numbers of blocks that stay
 unfoldable pub GatewayStandsFor : Gateway → Config → List Event → Type 0
 GatewayStandsFor g c events =
-    (g.plan.now ≡ c) × Holds g.inputs.items (early_of g.frame) g.signalling g.frames g.flow g.frame.number
-    (left g.plan.now g.signalling g.frame) c events
+    (g.plan.now ≡ c) × Holds g.inputs.items (early_of g.plan.now g.frame) g.signalling g.frames g.flow g.frame.number
+    (left g.plan.now g.signalling g.frame) c events × CountsStay c events g.frames g.frame.counts.items
 
 -- the number of PLPs
 abbrev pub plps_of : Gateway → ℕ

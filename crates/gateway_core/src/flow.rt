@@ -265,7 +265,7 @@ impl Flow {
         ensures less { result ≡ true → bytes_bound self.new.outlet (left plan.now signalling.now frame.new)
             < bytes_bound self.old.outlet (left plan.now signalling.now frame.old) }
         ensures over { self.new.dry ≡ true → frame.new.step ≡ Over }
-        ensures early { (j : ℕ) → early_of frame.new j ≡ early_of frame.old j }
+        ensures early { (j : ℕ) → early_of plan.now frame.new j ≡ early_of plan.now frame.old j }
         ensures layout { layout_of frame.new ≡ layout_of frame.old }
         ensures finished { self.new.finished ≡ self.old.finished }
     {

@@ -3,7 +3,7 @@ ghost use Rattle.std.specs.Prelude.{◌≡◌, ◌≢◌, ◌<◌, ◌≤◌, �
 ghost use Rattle.linked_pool.specs.Fits.{frame_chunks};
 ghost use Rattle.linked_pool.specs.Pool.{list_at};
 ghost use Rattle.plp_config.specs.declared.moment.TheConstants.{MOST_FRAMES};
-ghost use Rattle.gateway_core.specs.Lists.{AllShort, IsNext};
+ghost use Rattle.gateway_core.specs.Lists.{AllShort, IsNext, own_in};
 ghost use Rattle.gateway_core.specs.FirstStep.{first_step};
 ghost use Rattle.gateway_core.specs.declared.frame.Step.TheVariants.{Over};
 
@@ -11,7 +11,7 @@ use crate::packet::{write_block, write_l1_current, write_timestamp};
 use crate::signalling::{Dynamic, Signalling};
 use bit_slice::{FixedBits, OutOfMemory};
 use linked_pool::{BlockRef, Pool, frame_chunks};
-use plp_config::Plan;
+use plp_config::{Plan, block_law};
 use std::alloc::Global;
 use t2mi_packet::LARGEST;
 
@@ -35,14 +35,15 @@ fn first_step(plan: &Plan, frame: u64) -> Step
     }
 }
 
-// The first list from a given one on that has a block.
-fn next_list(pool: &Pool, from: u32, lists: u32) -> Option<u32>
-    requires { lists ≡ length pool.now.lists }
-    ensures next { IfSome result (IsNext pool.now from) }
-    ensures none { IfNone result ((j : ℕ) → from ≤ j → list_at pool.now j ≡ []) }
+// The first list from a given one on that has a block that is sent in a frame.
+fn next_list(plan: &Plan, pool: &Pool, frame: u64, from: u32) -> Option<u32>
+    requires { length pool.now.lists ≡ length plan.now.plps }
+    ensures next { IfSome result (IsNext plan.now frame pool.now from) }
+    ensures none { IfNone result ((j : ℕ) → from ≤ j → own_in plan.now frame pool.now j ≡ []) }
 {
+    let lists = plan.config().plps.len() as u32;
     for list in from..lists {
-        if pool.count(list) > 0 {
+        if plan.is_first(list as usize, frame) && pool.count(list) > 0 {
             return Some(list);
         }
     }
@@ -66,13 +67,13 @@ fn front_block(pool: &Pool, list: u32) -> BlockRef<'_>
     pool.front(list).unwrap()
 }
 
-/// The packets of a frame that were not built yet. The lists hold its blocks that were not; once none is left, they hold the
-/// blocks that the chains put already for the next frame.
+/// The packets of a frame that were not built yet. The lists of the PLPs of which an interleaving frame begins in it hold its
+/// blocks that were not; the others, and all once none is left, hold the blocks that the chains put already for later ones.
 #[derive(Drop)]
 pub struct Frame {
     number: u64,
     dynamic: Dynamic,
-    // A list for each PLP, and how many blocks each PLP has in the frame.
+    // A list for each PLP, and how many blocks each PLP has in the interleaving frame that the frame carries.
     pub blocks: Pool,
     pub counts: Vec<u16>,
     step: Step,
@@ -83,20 +84,21 @@ pub struct Frame {
     ghost lists: { length blocks.lists ≡ vec_len counts },
     ghost shape: { length dynamic.shape.counts ≡ vec_len counts },
     ghost short: { AllShort blocks },
-    ghost below: { step ≢ Over → (j : ℕ) → j < plp → list_at blocks j ≡ [] },
 }
 
 impl Frame {
-    ghost use Rattle.std.specs.Prelude.{◌≡◌, ◌<◌, ◌≤◌, ◌+◌, ◌*◌, ◌/◌, ℕ, true, false, [], length, replicate, IfOk};
+    ghost use Rattle.std.specs.Prelude.{◌≡◌, ◌<◌, ◌≤◌, ◌+◌, ◌*◌, ◌/◌, ◌^◌, ℕ, true, false, [], length, replicate, IfOk};
+    ghost use Rattle.linked_pool.specs.Pool.{list_at};
+    ghost use Rattle.plp_config.specs.Plps.{plp_at};
     ghost use Rattle.scheduler.specs.Laws.{CountsFit};
-    ghost use Rattle.gateway_core.specs.Lists.{bits_in};
+    ghost use Rattle.gateway_core.specs.Lists.{own_in, later_in};
     ghost use Rattle.gateway_core.specs.Left.{left, all_of, early_of, layout_of, Builds};
     ghost use Rattle.gateway_core.specs.declared.signalling.Signalling.{Signalling};
 
     /// One of which nothing is left, with the memory of all frames of a plan.
     pub fn open(alloc: Global, plan: &Plan) -> Result<Frame, OutOfMemory>
         ensures over { IfOk result (λ f. f.step ≡ Over) }
-        ensures early { IfOk result (λ f. (j : ℕ) → early_of f j ≡ []) }
+        ensures early { IfOk result (λ f. (j : ℕ) → early_of plan.now f j ≡ []) }
         ensures layout { IfOk result (λ f. layout_of f ≡ record {
           number = 0;
           lists = length plan.now.plps;
@@ -116,18 +118,22 @@ impl Frame {
         })
     }
 
-    /// Begins the frame whose blocks the lists hold, as many of each PLP as `counts` tells.
+    /// Begins the frame whose blocks the lists hold, no more of a PLP than an interleaving frame has; `counts` tells how many
+    /// blocks each PLP has in the one that the frame carries.
     pub fn begin(&mut self, plan: &Plan, number: u64)
         requires early { number < MOST_FRAMES }
         requires plps { length self.old.blocks.lists ≡ length plan.now.plps }
         requires fit { CountsFit plan.now self.old.counts.items }
+        requires within { (plp : ℕ) → plp < length plan.now.plps
+            → length (list_at self.old.blocks plp) ≤ (plp_at plan.now.plps plp).blocks }
         ensures all { (s : Signalling) → left plan.now s self.new
-            ≡ all_of plan.now s number self.old.counts.items (bits_in self.old.blocks) }
-        ensures few { (s : Signalling) → length (left plan.now s self.new) ≤ self.old.blocks.opened + 2 }
-        ensures early { (j : ℕ) → early_of self.new j ≡ [] }
+            ≡ all_of plan.now s number self.old.counts.items (own_in plan.now number self.old.blocks) }
+        ensures few { (s : Signalling) → 8203 * length (left plan.now s self.new) ≤ 2 ^ 32 }
+        ensures early { (j : ℕ) → early_of plan.now self.new j ≡ later_in plan.now number self.old.blocks j }
         ensures layout { layout_of self.new ≡ record (layout_of self.old) { number = number } }
     {
-        self.blocks.stays_whole();
+        block_law();
+        plan.obeys_rules();
         self.dynamic.write(plan, number, &self.counts);
         self.number = number;
         self.step = first_step(plan, number);
@@ -144,11 +150,10 @@ impl Frame {
         ensures none { result ≡ false → (s : Signalling) → left plan.now s self.old ≡ [] }
         ensures over { result ≡ false → self.new.step ≡ Over }
         ensures stays { result ≡ false → out.new ≡ out.old }
-        ensures early { (j : ℕ) → early_of self.new j ≡ [] }
+        ensures early { (j : ℕ) → early_of plan.now self.new j ≡ early_of plan.now self.old j }
         ensures layout { layout_of self.new ≡ layout_of self.old }
     {
-        let lists = plan.config().plps.len() as u32;
-        let Some(list) = next_list(&self.blocks, self.plp, lists) else {
+        let Some(list) = next_list(plan, &self.blocks, self.number, self.plp) else {
             self.step = Step::Over;
             return false;
         };
@@ -184,7 +189,7 @@ impl Frame {
             × (left plan.now signalling.now self.new ≡ []) }
         ensures over { result ≡ false → self.new.step ≡ Over }
         ensures stays { result ≡ false → out.new ≡ out.old }
-        ensures early { (j : ℕ) → early_of self.new j ≡ early_of self.old j }
+        ensures early { (j : ℕ) → early_of plan.now self.new j ≡ early_of plan.now self.old j }
         ensures layout { layout_of self.new ≡ layout_of self.old }
     {
         match self.step {

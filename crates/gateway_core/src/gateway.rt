@@ -1,8 +1,8 @@
 // The gateway.
 ghost use Rattle.std.specs.Prelude.{◌≡◌, ◌<◌, ◌≤◌, ◌^◌, true, vec_len, length};
 ghost use Rattle.linked_pool.specs.Fits.{frame_chunks};
-ghost use Rattle.plp_config.specs.Places.{FramesStandAlone};
 ghost use Rattle.plp_config.specs.declared.moment.TheConstants.{MOST_FRAMES};
+ghost use Rattle.scheduler.specs.Laws.{CountsFit};
 ghost use Rattle.gateway_core.specs.InputsStandFor.{AreFor, AreSupplied};
 ghost use Rattle.gateway_core.specs.Left.{early_of};
 ghost use Rattle.gateway_core.specs.declared.frame.Step.TheVariants.{Over};
@@ -15,7 +15,7 @@ use crate::run_length::frame_count;
 use crate::signalling::Signalling;
 use bit_slice::OutOfMemory;
 use mode_adapt::early_fits_law;
-use plp_config::{Plan, spread_law};
+use plp_config::Plan;
 use std::alloc::Global;
 use ts_packet::{SIZE, TsPacket};
 
@@ -37,17 +37,8 @@ pub struct Gateway<'p> {
     ghost lists: { length frame.blocks.lists ≡ length plan.now.plps },
     ghost chunks: { frame.blocks.opened ≡ frame_chunks plan.now },
     ghost over: { flow.dry ≡ true → frame.step ≡ Over },
-    ghost alone: { FramesStandAlone plan.now },
-    ghost supplied: { ∥ AreSupplied plan.now frames inputs.items (early_of frame) ∥₁ },
-}
-
-// If frames stand alone, a pool has few chunks. It does nothing.
-fn few_chunks(plan: &Plan)
-    requires { FramesStandAlone plan.now }
-    ensures { frame_chunks plan.now < 2 ^ 14 }
-{
-    spread_law();
-    plan.obeys_rules();
+    ghost fit: { CountsFit plan.now frame.counts.items },
+    ghost supplied: { ∥ AreSupplied plan.now frames inputs.items (early_of plan.now frame) ∥₁ },
 }
 
 // The PID of the T2-MI stream.
@@ -72,8 +63,6 @@ impl<'p> Gateway<'p> {
 
     /// A gateway to which nothing was offered, for a plan. It takes all the memory that it needs.
     pub fn open(alloc: Global, plan: &'p Plan) -> Result<Gateway<'p>, OutOfMemory>
-        // every interleaving frame is carried by one frame
-        requires alone { FramesStandAlone plan.now }
         ensures stands { IfOk result (λ g. GatewayStandsFor g plan.now []) }
         ensures status { IfOk result (λ g. status_of g ≡ new_status (length plan.now.plps)) }
     {
@@ -144,7 +133,6 @@ impl<'p> Gateway<'p> {
         ensures more { bytes_left self.new ≤ bytes_left self.old + 2 ^ 32 }
     {
         self.plan.obeys_rules();
-        few_chunks(self.plan);
         cut(
             self.plan,
             &mut self.inputs,

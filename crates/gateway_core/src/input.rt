@@ -9,7 +9,7 @@ ghost use Rattle.gateway_core.specs.Served.{IsServed};
 use bit_slice::OutOfMemory;
 use linked_pool::Pool;
 use mode_adapt::{Chain, blocks_law};
-use plp_config::{Plan, length_law, slot_time_law};
+use plp_config::{Plan, length_law, slot_time_law, spread_law};
 use std::alloc::Global;
 use ts_packet::TsPacket;
 
@@ -29,7 +29,7 @@ pub struct Input {
     ghost behind: { (count : ℕ) → total ≡ Some count → count ≤ due },
 }
 
-// Gives a chain the packet of the next slot. A pool that is ready has room for every block of a frame.
+// Gives a chain the packet of the next slot. A pool that is ready has room for every block.
 fn offer_to(chain: &mut Chain, packet: &TsPacket, pool: &mut Pool, list: u32)
     requires slot { slot_of chain.old < 2 ^ 54 }
     requires list { list < length pool.old.lists }
@@ -44,7 +44,7 @@ fn offer_to(chain: &mut Chain, packet: &TsPacket, pool: &mut Pool, list: u32)
     chain.offer(packet, pool, list).unwrap();
 }
 
-// Ends the next frame: how many blocks it has. A pool that is ready has room for every one.
+// Ends the next interleaving frame: how many blocks it has. A pool that is ready has room for every one.
 fn end_frame(chain: &mut Chain, pool: &mut Pool, list: u32) -> u16
     requires list { list < length pool.old.lists }
     requires ready { ∥ IsServed chain.old pool.old list ∥₁ }
@@ -63,19 +63,19 @@ impl Input {
     ghost use Rattle.std.specs.Prelude.{◌≡◌, ◌<◌, ◌≤◌, ◌+◌, ◌*◌, ◌^◌, ℕ, List, Bool, [], true, false, length, IfOk, IfSome};
     ghost use Rattle.std.specs.Prelude.{is_some};
     ghost use Rattle.linked_pool.specs.Pool.{list_at, Others, IsWhole};
-    ghost use Rattle.plp_config.specs.Plps.{plp_at, StandsAlone};
+    ghost use Rattle.plp_config.specs.InterleavingFrames.{is_first};
+    ghost use Rattle.plp_config.specs.Plps.{plp_at};
     ghost use Rattle.plp_config.specs.Capacity.{IsPlan};
     ghost use Rattle.plp_config.specs.SlotTime.{slots_by};
     ghost use Rattle.plp_config.specs.declared.config.Config.{Config};
     ghost use Rattle.mode_adapt.specs.Place.{HasPlace};
-    ghost use Rattle.gateway_core.specs.Told.{Told, with_packet, at_end};
+    ghost use Rattle.gateway_core.specs.Told.{Told, with_packet, at_end, in_next};
     ghost use Rattle.gateway_core.specs.IsFed.{IsFed, IsSupplied, wanted, most};
     ghost use Rattle.gateway_core.specs.InputsStandFor.{HasCut};
 
     /// An input of no packets yet, for the PLP at a place of the plan. No later call takes memory.
     pub fn open(alloc: Global, plan: &Plan, plp: usize) -> Result<Input, OutOfMemory>
-        requires place { plp < length plan.now.plps }
-        requires alone { StandsAlone plan.now.plps plp }
+        requires { plp < length plan.now.plps }
         ensures fed { IfOk result (λ i. IsFed i plan.now plp (record { packets = []; ended = false; frame = 0 }) []) }
         ensures most { IfOk result (λ i. most i ≡ (plp_at plan.now.plps plp).blocks) }
     {
@@ -110,7 +110,7 @@ impl Input {
         self.total
     }
 
-    /// Takes the packet of the next slot. The list has the blocks that the chain put of the next frame.
+    /// Takes the packet of the next slot. The list has the blocks that the chain put of the next interleaving frame.
     pub fn offer(&mut self, packet: &TsPacket, pool: &mut Pool, list: u32)
         requires wanted { 0 < wanted self.old }
         requires list { list < length pool.old.lists }
@@ -201,16 +201,16 @@ impl Input {
         }
     }
 
-    /// Puts what is left of the next frame, and goes on to the one behind it, by whose begin so many slots are over; the answer
-    /// is how many blocks the frame has. An input that ended has null packets. The list has the blocks that the chain put of the
-    /// frame.
+    /// Puts what is left of the interleaving frame that begins in the next frame, and goes on to the frame behind it, by whose
+    /// begin so many slots are over; the answer is how many blocks the interleaving frame has. An input that ended has null
+    /// packets. The list has the blocks that the chain put of it.
     pub fn cut(&mut self, due: u64, pool: &mut Pool, list: u32) -> u16
         requires wanted { wanted self.old ≡ 0 }
         requires small { due < 2 ^ 54 }
         requires list { list < length pool.old.lists }
         requires ready { ∥ IsSupplied self.old pool.old list ∥₁ }
         ensures cut { (c : Config) (plp : ℕ) (t : Told) → IsPlan c → plp < length c.plps → HasPlace c plp pool.old list
-            → due ≡ slots_by c plp ((t.frame + 1) * c.ticks)
+            → is_first c plp t.frame ≡ true → due ≡ slots_by c plp ((t.frame + 1) * c.ticks)
             → IsFed self.old c plp t (bits_in pool.old list) → HasCut self.new c plp t pool.new result }
         ensures few { result ≤ most self.old }
         ensures most { most self.new ≡ most self.old }
@@ -221,10 +221,25 @@ impl Input {
         blocks_law();
         slot_time_law();
         length_law();
+        spread_law();
         self.complete(pool, list);
         let count = end_frame(&mut self.chain, pool, list);
         // They never become fewer.
         self.due = self.due.max(due);
         count
+    }
+
+    /// Goes on behind the next frame, in which no interleaving frame begins, to the one by whose begin so many slots are over.
+    pub fn pass(&mut self, due: u64)
+        requires { due < 2 ^ 54 }
+        ensures fed { (c : Config) (plp : ℕ) (t : Told) (early : List (List Bool)) → IsPlan c → plp < length c.plps
+            → is_first c plp t.frame ≡ false → due ≡ slots_by c plp ((t.frame + 1) * c.ticks)
+            → IsFed self.old c plp t early → IsFed self.new c plp (in_next t) early }
+        ensures most { most self.new ≡ most self.old }
+    {
+        slot_time_law();
+        length_law();
+        spread_law();
+        self.due = self.due.max(due);
     }
 }

@@ -1,13 +1,12 @@
-// Expected values come from worked examples.
+// Expected values come from worked examples, and digests from `share/reference/packets.py`.
 ghost use Rattle.std.specs.Prelude.{◌≡◌, ◌≢◌, ◌<◌, ◌≤◌, ℕ, true, false, length, OnOk};
-ghost use Rattle.plp_config.specs.Places.{FramesStandAlone};
 ghost use Rattle.gateway_core.specs.StandsFor.{plps_of, wants_of, frame_of, has_unit, has_finished};
 ghost use Rattle.t2mi_stream.specs.UnpiperStandsFor.{is_ready, fed_len};
 
 use crate::Gateway;
 use bit_slice::OutOfMemory;
 use plp_config::Plan;
-use sample_networks::{loaded_plan, mixed_plan, small_plan};
+use sample_networks::{loaded_plan, mixed_plan, small_plan, spread_plan, varied_plan};
 use std::alloc::Global;
 use std::process::Abort;
 use std::test::Fail;
@@ -79,28 +78,16 @@ fn drain(gateway: &mut Gateway<'_>, units: &mut Vec<[u8; 188]>) -> Result<(), Ou
     Ok(())
 }
 
-// Whether every frame stands alone.
-fn stands_alone(plan: &Plan) -> bool
-    ensures { result ≡ true → FramesStandAlone plan.now }
-{
-    match plan.first_spread() {
-        None => true,
-        Some(_) => false,
-    }
-}
-
 // The units of a run.
 fn run(
     rt: &(impl Abort + AllocGlobal),
     plan: &Plan,
     inputs: &[&[TsPacket]],
 ) -> Result<Vec<[u8; 188]>, OutOfMemory> {
-    assert!(rt; plan.config().plps.len() == inputs.len() && inputs.len() <= 3);
-    let alone = stands_alone(plan);
-    assert!(rt; alone);
+    assert!(rt; plan.config().plps.len() == inputs.len() && inputs.len() <= 4);
     let mut gateway = Gateway::open(rt.alloc(), plan)?;
     let mut units = Vec::new(rt.alloc());
-    let mut places = [0; 3];
+    let mut places = [0; 4];
     let next = &mut places[..inputs.len()];
     for _ in 0..100u64 {
         feed_all(&mut gateway, inputs, next);
@@ -115,11 +102,23 @@ fn run(
     Ok(units)
 }
 
-// The first 19 bytes of each packet, and how many bytes all packets have.
+// The first 19 bytes of each packet; how many bytes all packets have, and their digest; and byte 70 of each L1-current, which has
+// the lowest seven bits of PLP_NUM_BLOCKS if there is one PLP.
 #[derive(Drop)]
 struct Stream {
     heads: Vec<[u8; 19]>,
     size: usize,
+    digest: u64,
+    told: Vec<u8>,
+}
+
+// From a digest on, for each byte 31 times the digest before, plus the byte.
+fn digest_of(bytes: &[u8], from: u64) -> u64 {
+    let mut digest = from;
+    for byte in bytes {
+        digest = digest.wrapping_mul(31).wrapping_add(u64::from(*byte));
+    }
+    digest
 }
 
 // Adds the packets that wait.
@@ -134,6 +133,10 @@ fn take_packets(unpiper: &mut Unpiper, stream: &mut Stream) -> Result<(), OutOfM
             head.copy_from_slice(&packet[..19]);
         }
         stream.size = stream.size.wrapping_add(packet.len());
+        stream.digest = digest_of(packet, stream.digest);
+        if packet.len() > 70 && packet[0] == 0x10 {
+            stream.told.push(packet[70])?;
+        }
         stream.heads.push(head)?;
         unpiper.release();
     }
@@ -151,6 +154,8 @@ fn stream_of(alloc: Global, units: &[[u8; 188]]) -> Result<Stream, OutOfMemory> 
     let mut stream = Stream {
         heads: Vec::new(alloc),
         size: 0,
+        digest: 0,
+        told: Vec::new(alloc),
     };
     let mut at = 0;
     while at < bytes.len() {
@@ -207,6 +212,7 @@ fn units_of_a_loaded_network(rt: HostRuntime) -> Result<(), Fail> {
     assert!(rt; begins(&units, 86, &[0x47, 0x41, 0x00, 0x16, 0x00]));
     let stream = stream_of(rt.alloc(), &units)?;
     assert_eq!(rt; stream.size, 22_482);
+    assert_eq!(rt; stream.digest, 10_136_991_382_808_619_490);
     assert_eq!(rt; stream.heads.len(), 42);
     assert!(rt; stream.heads[2..6] == FRAME_1[..]);
     Ok(())
@@ -290,8 +296,56 @@ fn packets_of_several_plps(rt: HostRuntime) -> Result<(), Fail> {
     let heads = heads_of_several(rt.alloc())?;
     assert_eq!(rt; heads.len(), 265);
     assert_eq!(rt; stream.heads.len(), 265);
+    assert_eq!(rt; stream.digest, 14_119_391_834_187_626_987);
     for (place, (head, want)) in stream.heads.iter().zip(heads.iter()).enumerate() {
         assert!(rt; head[..9] == want[..], "packet {place}: {head:?}");
     }
+    Ok(())
+}
+
+// The type and the ninth byte of each packet of `spread_network`. That of a block is 80 if intl_frame_start is 1: of 20 packets
+// frame 2 has all five.
+#[rattlefmt::skip]
+const SPREAD: [(u8, u8); 17] = [
+    (0x20, 0x29), (0x10, 0x00), (0x10, 0x00),
+    (0x20, 0x29), (0x10, 0x00), (0x00, 0x80), (0x00, 0x00), (0x00, 0x00), (0x00, 0x00), (0x00, 0x00), (0x10, 0x00),
+    (0x20, 0x29), (0x10, 0x00), (0x10, 0x00),
+    (0x20, 0x29), (0x10, 0x00), (0x10, 0x00),
+];
+
+#[test]
+fn interleaving_frames_of_two_frames(rt: HostRuntime) -> Result<(), Fail> {
+    let packets = packets(rt.alloc(), 20)?;
+    let units = run(&rt, &spread_plan(rt.alloc())?, &[packets.as_slice()])?;
+    let stream = stream_of(rt.alloc(), &units)?;
+    assert_eq!(rt; stream.heads.len(), 17);
+    for (place, (head, want)) in stream.heads.iter().zip(SPREAD.iter()).enumerate() {
+        assert!(rt; (head[0], head[8]) == *want, "packet {place}: {head:?}");
+    }
+    // PLP_NUM_BLOCKS is 5 in frames 2 and 3.
+    assert!(rt; stream.told[..] == [0, 0, 10, 10, 0, 0, 0, 0]);
+    assert_eq!(rt; stream.size, 5_176);
+    assert_eq!(rt; stream.digest, 3_823_314_961_280_073_089);
+    Ok(())
+}
+
+// Four PLPs with interleaving frames of 2, 2, 1 and 4 frames, one of them of type 2.
+#[test]
+fn interleaving_frames_of_several_plps(rt: HostRuntime) -> Result<(), Fail> {
+    let first = packets(rt.alloc(), 40)?;
+    let second = packets(rt.alloc(), 30)?;
+    let third = packets(rt.alloc(), 50)?;
+    let fourth = packets(rt.alloc(), 45)?;
+    let inputs = [
+        first.as_slice(),
+        second.as_slice(),
+        third.as_slice(),
+        fourth.as_slice(),
+    ];
+    let units = run(&rt, &varied_plan(rt.alloc())?, &inputs)?;
+    let stream = stream_of(rt.alloc(), &units)?;
+    assert_eq!(rt; stream.heads.len(), 73);
+    assert_eq!(rt; stream.size, 48_061);
+    assert_eq!(rt; stream.digest, 15_974_222_357_120_993_562);
     Ok(())
 }

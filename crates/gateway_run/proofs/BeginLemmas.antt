@@ -17,9 +17,9 @@ use Rattle.gateway_core.specs.Packets.{front_packets}
 use Rattle.gateway_core.specs.StandsFor.{GatewayStandsFor, IsLast, plps_of, wants_of}
 use Rattle.gateway_core.specs.Told.{Told, told}
 use Rattle.gateway_core.specs.declared.gateway.Gateway.{Gateway}
-use Rattle.gateway_core.proofs.HoldsLemmas.{finished_now, back_begun, back_same, begun_with, begun_same, given_same}
+use Rattle.gateway_core.proofs.HoldsLemmas.{finished_now, back_same, begun_with, begun_same, given_same}
 use Rattle.gateway_core.proofs.HoldsLemmas.{finished_same}
-use Rattle.gateway_core.proofs.InputsLemmas.{nothing_told, told_begun}
+use Rattle.gateway_core.proofs.InputsLemmas.{nothing_told, told_begun, back_begun}
 use Rattle.gateway_core.proofs.LawLemmas.{frame_count_same}
 use Rattle.gateway_run.specs.Holds.{ArePackets, AreOffered, IsInTime, AreComplete, HasAll, NoTails, IsIn, StandsIn, Holds}
 use Rattle.gateway_run.specs.Ready.{IsReady}

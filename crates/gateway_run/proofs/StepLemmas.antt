@@ -14,10 +14,10 @@ use Rattle.gateway_core.specs.InputsStandFor.{AllContinue}
 use Rattle.gateway_core.specs.Laws.{FrontsGrow}
 use Rattle.gateway_core.specs.Packets.{front_packets}
 use Rattle.gateway_core.specs.Told.{Told, told}
-use Rattle.gateway_core.proofs.InputsLemmas.{nothing_told}
+use Rattle.gateway_core.proofs.InputsLemmas.{nothing_told, back_begun}
 use Rattle.gateway_core.specs.StandsFor.{IsLast}
 use Rattle.file_run.specs.Events as run
-use Rattle.gateway_core.proofs.HoldsLemmas.{back_offered, back_ended, back_begun, back_same, begun_with, given_with, begun_same}
+use Rattle.gateway_core.proofs.HoldsLemmas.{back_offered, back_ended, back_same, begun_with, given_with, begun_same}
 use Rattle.gateway_core.proofs.HoldsLemmas.{given_same, finished_same}
 use Rattle.gateway_run.specs.Holds.{AreComplete, Sends, IsInTime}
 use Rattle.gateway_run.proofs.FileLemmas.{joined_push}

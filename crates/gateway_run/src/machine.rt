@@ -1,5 +1,4 @@
 // The gateway as a machine between files.
-ghost use Rattle.plp_config.specs.Places.{FramesStandAlone};
 ghost use Rattle.gateway_run.specs.Ready.{IsReady};
 
 use crate::place::{GatewayStop, Phase, Place};
@@ -84,7 +83,6 @@ impl<'p> GatewayMachine<'p> {
 
     /// A gateway to which nothing was fed, for a plan. Its one refusal is want of memory.
     pub fn open(alloc: Global, plan: &'p Plan) -> Result<GatewayMachine<'p>, OutOfMemory>
-        requires alone { FramesStandAlone plan.now }
         ensures plan { IfOk result (λ m. m.plan.now ≡ plan.now) }
         ensures becomes { IfOk result (λ m. becomes m [] m) }
     {

@@ -1,7 +1,6 @@
 // A run of the gateway of a plan: its readers, its buffer and its machine on the driver.
 ghost use Rattle.std.specs.Prelude.{◌≡◌, ◌≢◌, ◌<◌, ℕ, List, [], length, slice_index_or, IfOk, IfErr};
 ghost use Rattle.file_run.specs.FileRun.{AreApart};
-ghost use Rattle.plp_config.specs.Places.{FramesStandAlone};
 ghost use Rattle.gateway_run.specs.AsMachine.{becomes};
 ghost use Rattle.gateway_run.specs.GatewayRun.{RunsAll, Stops};
 
@@ -61,7 +60,6 @@ pub fn run<D: Desk>(
     ins: &[Word],
     desk: &mut D,
 ) -> Result<Ran, RunStop>
-    requires alone { FramesStandAlone plan.now }
     requires count { length ins.now ≡ length plan.now.plps }
     requires apart { (plp : ℕ) → plp < length ins.now → slice_index_or ins.now plp [] ≢ out.now }
     ensures ok { IfOk result

@@ -1,18 +1,18 @@
-use Rattle.std.proofs.Common.{rules, ◌≡◌, ◌∙◌, ◌+◌, ◌++◌, ◌∷◌, [], List, ℕ, length, refl, ap, sym, subst}
+use Rattle.std.proofs.Common.{rules, ◌≡◌, ◌∙◌, ◌+◌, ◌++◌, ◌∷◌, [], Bool, List, ℕ, length, refl, ap, sym, subst}
 use Rattle.std.proofs.Math.Logic.{∥∥₁_map}
 use Rattle.std.specs.Vec.{with_items}
 use Rattle.std.proofs.lemmas.List.{with_items_is}
 use Rattle.plp_config.specs.declared.config.Config.{Config}
-use Rattle.gateway_core.specs.Lists.{bits_in}
+use Rattle.gateway_core.specs.Lists.{bits_in, own_in, later_in}
 use Rattle.gateway_core.specs.Events.{Begun}
 use Rattle.gateway_core.specs.Flowing.{Flows}
-use Rattle.gateway_core.specs.InputsStandFor.{AllFed, AreSupplied}
+use Rattle.gateway_core.specs.InputsStandFor.{AllFed, AreSupplied, CountsStay}
 use Rattle.gateway_core.specs.Left.{Layout, left, early_of}
 use Rattle.gateway_core.specs.StandsFor.{GatewayStandsFor, Holds}
 use Rattle.gateway_core.specs.declared.input.Input.{Input}
 use Rattle.gateway_core.proofs.FlowLemmas.{dry_when, over_left}
 use Rattle.gateway_core.proofs.HoldsLemmas.{early_over, fed_kept, has_frame, holds_begin, supplied_over, supplied_begun}
-use Rattle.gateway_core.proofs.InputsLemmas.{most_stays}
+use Rattle.gateway_core.proofs.InputsLemmas.{most_stays, fit_on}
 use Rattle.gateway_core.proofs.gateway.Gateway.begin_frame.Goals as goal
 
 pub returns-clause-stands : goal.returns-clause-stands
@@ -24,34 +24,43 @@ returns-clause-stands c = λ config events h.
     let begun = c.begin.new.self in
     let now = c.begin-2.new.frame in
     let over = g.over (dry_when g.flow.dry _ _ g.flow.full (sym c.requires.given)) in
-    let was : Holds g.inputs.items (early_of f) g.signalling g.frames g.flow f.number (left p g.signalling f) p events =
-    subst (λ (k : Config). Holds g.inputs.items (early_of f) g.signalling g.frames g.flow f.number
+    let was : Holds g.inputs.items (early_of p f) g.signalling g.frames g.flow f.number (left p g.signalling f) p events =
+    subst (λ (k : Config). Holds g.inputs.items (early_of p f) g.signalling g.frames g.flow f.number
     (left p g.signalling f) k events) (sym h.0) h.1 in
     let old : AllFed c.deref_mut.result.now (bits_in f.blocks) p events =
     subst (λ (l : List Input). AllFed l (bits_in f.blocks) p events) (sym c.deref_mut.ensures.value)
-    (early_over g.inputs.items f.step f.blocks p events over was.fed) in
+    (early_over g.inputs.items p f.number f.step f.plp f.blocks p events over was.fed) in
+    let stay : CountsStay p events g.frames c.deref_mut-2.result.now =
+    subst (λ (l : List ℕ). CountsStay p events g.frames l) (sym c.deref_mut-2.ensures.value)
+    (subst (λ (k : Config). CountsStay k events g.frames f.counts.items) (sym h.0) h.2) in
     let has = has_frame p p f.blocks refl g.chunks g.lists in
     let items = with_items_is g.inputs c.cut.new.inputs (c.cut.auto.inputs ∙ c.deref_mut.ensures.len) in
     let counts = with_items_is f.counts c.cut.new.counts (c.cut.auto.counts ∙ c.deref_mut-2.ensures.len) in
-    let fed : AllFed (with_items g.inputs c.cut.new.inputs).items (early_of now) p (events ++ Begun ∷ []) =
-    fed_kept _ (λ j. []) (early_of now) p (events ++ Begun ∷ []) (λ j. c.begin-2.ensures.feeds.early j ∙ c.begin.ensures.early j)
-    (subst (λ (l : List Input). AllFed l (λ j. []) p (events ++ Begun ∷ [])) (sym items)
+    let later : ℕ → List (List Bool) = later_in p g.frames c.cut.new.pool in
+    let fed : AllFed (with_items g.inputs c.cut.new.inputs).items (early_of p now) p (events ++ Begun ∷ []) =
+    fed_kept _ later (early_of p now) p (events ++ Begun ∷ []) (λ j. c.begin-2.ensures.feeds.early j ∙ c.begin.ensures.early j)
+    (subst (λ (l : List Input). AllFed l later p (events ++ Begun ∷ [])) (sym items)
     (c.cut.ensures.fed events was.frames_are has old)) in
     let number : begun.number ≡ g.frames = ap (λ (l : Layout). l.number) c.begin.ensures.layout in
-    let new = holds_begin g.inputs.items (with_items g.inputs c.cut.new.inputs).items (early_of f)
-    (early_of now) g.signalling g.frames g.flow c.begin-2.new.self f.number now.number (left p g.signalling f)
+    let new = holds_begin g.inputs.items (with_items g.inputs c.cut.new.inputs).items (early_of p f)
+    (early_of p now) g.signalling g.frames g.flow c.begin-2.new.self f.number now.number (left p g.signalling f)
     (left p g.signalling begun)
-    (left p g.signalling now) (with_items f.counts c.cut.new.counts).items c.cut.new.pool.lists p events
+    (left p g.signalling now) (with_items f.counts c.cut.new.counts).items
+    (own_in p g.frames c.cut.new.pool) p events
     (over_left p g.signalling f over) c.begin-2.ensures.finished fed c.obeys_rules.ensures.ranges.plps.0
-    (c.cut.ensures.lists ∙ g.lists)
-    (counts ∙ c.cut.ensures.counts events was.frames_are has old)
+    (λ all more. counts ∙ c.cut.ensures.counts events was.frames_are has old stay all more)
     (λ all more j lt. c.cut.ensures.blocks events was.frames_are has old all more j lt)
     (c.begin.ensures.all g.signalling)
     (λ all given k. c.begin-2.ensures.feeds.flows all given
-    (subst (λ (n : ℕ). Flows g.flow.outlet p n (left p g.signalling begun) all given) (sym number) k)) was in (
+    (subst (λ (n : ℕ). Flows g.flow.outlet p n (left p g.signalling begun) all given) (sym number) k)) was in
+    let kept : now.counts.items ≡ c.cut.new.counts = ap (λ (l : Layout). l.counts) c.begin-2.ensures.feeds.layout
+    ∙ ap (λ (l : Layout). l.counts) c.begin.ensures.layout ∙ counts in (
       h.0,
-      subst (λ (k : Config). Holds (with_items g.inputs c.cut.new.inputs).items (early_of now) g.signalling
+      subst (λ (k : Config). Holds (with_items g.inputs c.cut.new.inputs).items (early_of p now) g.signalling
           (g.frames + 1) c.begin-2.new.self now.number (left p g.signalling now) k (events ++ Begun ∷ [])) h.0 new,
+      subst (λ (k : Config). CountsStay k (events ++ Begun ∷ []) (g.frames + 1) now.counts.items) h.0
+          (subst (λ (l : List ℕ). CountsStay p (events ++ Begun ∷ []) (g.frames + 1) l) (sym kept)
+          (c.cut.ensures.stay events was.frames_are has old stay)),
     )
 
 pub cut-requires-clause-ready : goal.cut-requires-clause-ready
@@ -59,8 +68,16 @@ cut-requires-clause-ready c =
     let g = c.args.self.now in
     let f = g.frame in
     let over = g.over (dry_when g.flow.dry _ _ g.flow.full (sym c.requires.given)) in
-    ∥∥₁_map g.supplied (λ (s : AreSupplied g.plan.now g.frames g.inputs.items (early_of f)).
-    supplied_over g.plan.now g.frames g.inputs.items c.deref_mut.result.now f.step f.blocks c.deref_mut.ensures.value over s)
+    ∥∥₁_map g.supplied (λ (s : AreSupplied g.plan.now g.frames g.inputs.items (early_of g.plan.now f)).
+    supplied_over g.plan.now g.frames f.number g.inputs.items c.deref_mut.result.now f.step f.plp f.blocks
+    c.deref_mut.ensures.value over s)
+
+pub begin-requires-clause-fit : goal.begin-requires-clause-fit
+begin-requires-clause-fit c =
+    let g = c.args.self.now in
+    let counts = with_items_is g.frame.counts c.cut.new.counts (c.cut.auto.counts ∙ c.deref_mut-2.ensures.len) in
+    fit_on g.plan.now g.inputs.items c.deref_mut.result.now g.frame.counts.items c.deref_mut-2.result.now c.cut.new.counts _
+    c.deref_mut.ensures.value c.deref_mut-2.ensures.value counts c.cut.ensures.fit g.most g.fit
 
 pub invariant_of-self-2 : goal.invariant_of-self-2
 invariant_of-self-2 c =
@@ -70,6 +87,8 @@ invariant_of-self-2 c =
     let now = c.begin-2.new.frame in
     let over = g.over (dry_when g.flow.dry _ _ g.flow.full (sym c.requires.given)) in
     let items = with_items_is g.inputs c.cut.new.inputs (c.cut.auto.inputs ∙ c.deref_mut.ensures.len) in
+    let counts = with_items_is f.counts c.cut.new.counts (c.cut.auto.counts ∙ c.deref_mut-2.ensures.len) in
+    let later : ℕ → List (List Bool) = later_in p g.frames c.cut.new.pool in
     record {
       whole = search rules;
       most = most_stays g.inputs.items c.cut.new.inputs c.deref_mut.result.now _ p c.deref_mut.ensures.value items
@@ -78,13 +97,16 @@ invariant_of-self-2 c =
       lists = search rules;
       chunks = search rules;
       over = search rules;
-      alone = search rules;
-      supplied = ∥∥₁_map g.supplied (λ (s : AreSupplied p g.frames g.inputs.items (early_of f)).
-          supplied_begun p g.frames g.inputs.items _ (early_of f) (early_of now)
-          (λ events frames fed. fed_kept _ (λ j. []) (early_of now) p (events ++ Begun ∷ [])
+      fit = fit_on p g.inputs.items c.deref_mut.result.now f.counts.items c.deref_mut-2.result.now c.cut.new.counts _
+          c.deref_mut.ensures.value c.deref_mut-2.ensures.value
+          (ap (λ (l : Layout). l.counts) c.begin-2.ensures.feeds.layout ∙ ap (λ (l : Layout). l.counts) c.begin.ensures.layout
+          ∙ counts) c.cut.ensures.fit g.most g.fit;
+      supplied = ∥∥₁_map g.supplied (λ (s : AreSupplied p g.frames g.inputs.items (early_of p f)).
+          supplied_begun p g.frames g.inputs.items _ (early_of p f) (early_of p now)
+          (λ events frames fed. fed_kept _ later (early_of p now) p (events ++ Begun ∷ [])
           (λ j. c.begin-2.ensures.feeds.early j ∙ c.begin.ensures.early j)
-          (subst (λ (l : List Input). AllFed l (λ j. []) p (events ++ Begun ∷ [])) (sym items)
+          (subst (λ (l : List Input). AllFed l later p (events ++ Begun ∷ [])) (sym items)
           (c.cut.ensures.fed events frames (has_frame p p f.blocks refl g.chunks g.lists)
           (subst (λ (l : List Input). AllFed l (bits_in f.blocks) p events) (sym c.deref_mut.ensures.value)
-          (early_over g.inputs.items f.step f.blocks p events over fed))))) s);
+          (early_over g.inputs.items p f.number f.step f.plp f.blocks p events over fed))))) s);
     }

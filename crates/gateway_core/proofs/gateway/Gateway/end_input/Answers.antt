@@ -8,13 +8,13 @@ use Rattle.gateway_core.specs.Left.{early_of}
 use Rattle.gateway_core.specs.StandsFor.{GatewayStandsFor}
 use Rattle.gateway_core.specs.declared.input.Input.{Input}
 use Rattle.gateway_core.specs.IsFed.{wanted}
-use Rattle.gateway_core.proofs.HoldsLemmas.{holds_end, supplied_ended}
+use Rattle.gateway_core.proofs.HoldsLemmas.{holds_end, stay_ended, supplied_ended}
 use Rattle.gateway_core.proofs.gateway.Gateway.end_input.Goals as goal
 
 pub returns-clause-stands : goal.returns-clause-stands
 unfolding GatewayStandsFor
 returns-clause-stands c = λ config events h.
-    let early : ℕ → List (List Bool) = early_of c.args.self.now.frame in
+    let early : ℕ → List (List Bool) = early_of c.args.self.now.plan.now c.args.self.now.frame in
     let old : AllFed c.deref_mut.result.now early config events =
     subst (λ (l : List Input). AllFed l early config events) (sym c.deref_mut.ensures.value) h.1.fed in
     let items = with_items_is c.args.self.now.inputs c.end.new.inputs (c.end.auto.inputs ∙ c.deref_mut.ensures.len) in (
@@ -22,6 +22,7 @@ returns-clause-stands c = λ config events h.
       holds_end _ _ early _ _ _ _ _ config events c.args.plp
           (subst (λ (l : List Input). AllFed l early config (events ++ Ended c.args.plp ∷ [])) (sym items)
           (c.end.ensures.fed early config events old)) h.1,
+      stay_ended config events c.args.plp _ _ h.2,
     )
 
 pub returns-clause-none : goal.returns-clause-none
@@ -41,7 +42,7 @@ pub invariant_of-self : goal.invariant_of-self
 invariant_of-self c =
     let g = c.args.self.now in
     let p = g.plan.now in
-    let early : ℕ → List (List Bool) = early_of g.frame in
+    let early : ℕ → List (List Bool) = early_of p g.frame in
     let items = with_items_is g.inputs c.end.new.inputs (c.end.auto.inputs ∙ c.deref_mut.ensures.len) in
     record {
       whole = search rules;
@@ -50,7 +51,7 @@ invariant_of-self c =
       lists = search rules;
       chunks = search rules;
       over = search rules;
-      alone = search rules;
+      fit = search rules;
       supplied = ∥∥₁_map g.supplied (λ (s : AreSupplied p g.frames g.inputs.items early).
           supplied_ended p g.frames c.args.plp g.inputs.items _ early
           (λ events fed. subst (λ (l : List Input). AllFed l early p (events ++ Ended c.args.plp ∷ [])) (sym items)

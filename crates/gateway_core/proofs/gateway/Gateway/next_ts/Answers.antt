@@ -5,15 +5,16 @@ use Rattle.t2mi_stream.specs.Pipe.{pipe}
 use Rattle.gateway_core.specs.Events.{begun, given}
 use Rattle.gateway_core.specs.Packets.{front_packets}
 use Rattle.plp_config.specs.declared.config.Config.{Config}
+use Rattle.scheduler.specs.Laws.{CountsFit}
 use Rattle.t2mi_packet.specs.declared.packet.Body.{Body}
 use Rattle.gateway_core.specs.Flowing.{Flows, bytes_bound, gives_unit}
-use Rattle.gateway_core.specs.InputsStandFor.{AreSupplied}
-use Rattle.gateway_core.specs.Left.{left, early_of}
+use Rattle.gateway_core.specs.InputsStandFor.{AreSupplied, CountsStay}
+use Rattle.gateway_core.specs.Left.{Layout, left, early_of}
 use Rattle.gateway_core.specs.StandsFor.{GatewayStandsFor, Holds}
 use Rattle.gateway_core.specs.declared.flow.Flow.{Flow}
 use Rattle.gateway_core.specs.declared.frame.Frame.{Frame}
 use Rattle.gateway_core.proofs.HoldsLemmas.{holds_unit, holds_none, holds_gave, holds_complete, holds_caught_up, both}
-use Rattle.gateway_core.proofs.HoldsLemmas.{supplied_kept}
+use Rattle.gateway_core.proofs.HoldsLemmas.{stay_gave, supplied_kept}
 use Rattle.gateway_core.proofs.gateway.Gateway.next_ts.Goals as goal
 
 pub returns-clause-unit : goal.returns-clause-unit
@@ -39,6 +40,9 @@ returns-clause-stands c = λ on config events h. (
       → Flows c.next.new.self.outlet k c.next.new.frame.number
       (left c.args.self.now.plan.now c.args.self.now.signalling c.next.new.frame) all (given + 1)) h.0
       (c.next.ensures.flows on)) c.next.ensures.early h.1,
+  stay_gave config events c.args.self.now.frames c.next.new.frame.counts.items
+      (subst (λ (l : List ℕ). CountsStay config events c.args.self.now.frames l)
+      (sym (ap (λ (l : Layout). l.counts) c.next.ensures.layout)) h.2),
 )
 
 pub returns-clause-still : goal.returns-clause-still
@@ -47,10 +51,11 @@ returns-clause-still c = λ off config events h.
     let g = c.args.self.now in
     let same = c.next.ensures.stays off in (
       h.0,
-      subst (λ (f : Flow). Holds g.inputs.items (early_of c.next.new.frame) g.signalling g.frames f c.next.new.frame.number
-          (left g.plan.now g.signalling c.next.new.frame) config events) (sym same.0)
-          (subst (λ (r : Frame). Holds g.inputs.items (early_of r) g.signalling g.frames g.flow r.number
+      subst (λ (f : Flow). Holds g.inputs.items (early_of g.plan.now c.next.new.frame) g.signalling g.frames f
+          c.next.new.frame.number (left g.plan.now g.signalling c.next.new.frame) config events) (sym same.0)
+          (subst (λ (r : Frame). Holds g.inputs.items (early_of g.plan.now r) g.signalling g.frames g.flow r.number
           (left g.plan.now g.signalling r) config events) (sym same.1) h.1),
+      subst (λ (r : Frame). CountsStay config events g.frames r.counts.items) (sym same.1) h.2,
     )
 
 pub returns-clause-stays : goal.returns-clause-stays
@@ -104,7 +109,8 @@ invariant_of-self c =
       lists = search rules;
       chunks = search rules;
       over = search rules;
-      alone = search rules;
-      supplied = ∥∥₁_map g.supplied (λ (s : AreSupplied g.plan.now g.frames g.inputs.items (early_of g.frame)).
-          supplied_kept g.plan.now g.frames g.inputs.items (early_of g.frame) (early_of c.next.new.frame) c.next.ensures.early s);
+      fit = subst (λ (l : List ℕ). CountsFit g.plan.now l) (sym (ap (λ (l : Layout). l.counts) c.next.ensures.layout)) g.fit;
+      supplied = ∥∥₁_map g.supplied (λ (s : AreSupplied g.plan.now g.frames g.inputs.items (early_of g.plan.now g.frame)).
+          supplied_kept g.plan.now g.frames g.inputs.items (early_of g.plan.now g.frame) (early_of g.plan.now c.next.new.frame)
+          c.next.ensures.early s);
     }

@@ -4,7 +4,7 @@ use Rattle.std.specs.Prelude.{slice_index}
 use Rattle.std.proofs.lemmas.List.{with_items_is}
 use Rattle.plp_config.specs.declared.config.Config.{Config}
 use Rattle.gateway_core.specs.BlocksLeft.{blocks_left}
-use Rattle.gateway_core.specs.Lists.{bits_in}
+use Rattle.gateway_core.specs.Lists.{bits_in, own_in}
 use Rattle.gateway_core.specs.Events.{Offered}
 use Rattle.gateway_core.specs.InputsStandFor.{AllFed, AreSupplied}
 use Rattle.gateway_core.specs.Left.{early_of}
@@ -13,7 +13,7 @@ use Rattle.gateway_core.specs.StandsFor.{GatewayStandsFor}
 use Rattle.gateway_core.specs.declared.input.Input.{Input}
 use Rattle.gateway_core.specs.IsFed.{wanted}
 use Rattle.gateway_core.proofs.FlowLemmas.{dry_when}
-use Rattle.gateway_core.proofs.HoldsLemmas.{early_over, holds_over, has_frame, supplied_over, supplied_offered}
+use Rattle.gateway_core.proofs.HoldsLemmas.{early_over, holds_over, has_frame, stay_offered, supplied_over, supplied_offered}
 use Rattle.gateway_core.proofs.InputsLemmas.{one_supplied}
 use Rattle.gateway_core.proofs.gateway.Gateway.offer.Goals as goal
 
@@ -26,19 +26,21 @@ returns-clause-stands c = λ config events h.
     let over = g.over (dry_when g.flow.dry _ _ g.flow.full (sym c.requires.given)) in
     let old : AllFed c.deref_mut.result.now (bits_in f.blocks) config events =
     subst (λ (l : List Input). AllFed l (bits_in f.blocks) config events) (sym c.deref_mut.ensures.value)
-    (early_over g.inputs.items f.step f.blocks config events over h.1.fed) in
+    (early_over g.inputs.items p f.number f.step f.plp f.blocks config events over h.1.fed) in
     let items = with_items_is g.inputs c.offer.new.inputs (c.offer.auto.inputs ∙ c.deref_mut.ensures.len) in
     let count : length c.deref_mut.result.now ≡ length config.plps = c.deref_mut.ensures.len ∙ g.whole
     ∙ ap (λ (k : Config). length k.plps) h.0 in
     let fed = c.offer.ensures.fed config events count (has_frame p config f.blocks h.0 g.chunks g.lists) old in (
       h.0,
-      holds_over g.inputs.items _ (early_of f) g.signalling g.frames g.flow p f.number f.step
+      holds_over g.inputs.items _ (early_of p f) g.signalling g.frames g.flow p f.number f.step f.plp
           (l1_body p f.number g.signalling.pre g.signalling.conf f.dynamic.bits)
-          (blocks_left p f.number (bits_in f.blocks) f.plp f.first)
-          (blocks_left p f.number (bits_in c.offer.new.pool) f.plp f.first) c.offer.new.pool config events c.args.plp
+          (blocks_left p f.number (own_in p f.number f.blocks) f.plp f.first)
+          (blocks_left p f.number (own_in p f.number c.offer.new.pool) f.plp f.first) c.offer.new.pool config events c.args.plp
           c.args.packet.now over c.requires.place c.requires.wanted
           (subst (λ (l : List Input). AllFed l (bits_in c.offer.new.pool) config
           (events ++ Offered c.args.plp c.args.packet.now ∷ [])) (sym items) fed) h.1,
+      stay_offered g.inputs.items (early_of p f) config events c.args.plp c.args.packet.now g.frames f.counts.items
+          c.requires.place c.requires.wanted h.1.fed h.2,
     )
 
 pub returns-clause-fewer : goal.returns-clause-fewer
@@ -63,11 +65,12 @@ offer-requires-clause-ready c = λ d.
     let f = g.frame in
     let p = g.plan.now in
     let over = g.over (dry_when g.flow.dry _ _ g.flow.full (sym c.requires.given)) in
-    ∥∥₁_map g.supplied (λ (s : AreSupplied p g.frames g.inputs.items (early_of f)).
+    ∥∥₁_map g.supplied (λ (s : AreSupplied p g.frames g.inputs.items (early_of p f)).
     one_supplied c.early_fits_law.ensures.early c.deref_mut.result.now f.blocks p g.frames c.args.plp d
     (c.deref_mut.ensures.len ∙ g.whole) (omega (arith, c.requires.place, c.deref_mut.ensures.len))
     (has_frame p p f.blocks refl g.chunks g.lists)
-    (supplied_over p g.frames g.inputs.items c.deref_mut.result.now f.step f.blocks c.deref_mut.ensures.value over s))
+    (supplied_over p g.frames f.number g.inputs.items c.deref_mut.result.now f.step f.plp f.blocks c.deref_mut.ensures.value
+    over s))
 
 pub invariant_of-self-2 : goal.invariant_of-self-2
 invariant_of-self-2 c =
@@ -83,9 +86,10 @@ invariant_of-self-2 c =
       lists = search rules;
       chunks = search rules;
       over = search rules;
-      alone = search rules;
-      supplied = ∥∥₁_map g.supplied (λ (s : AreSupplied p g.frames g.inputs.items (early_of f)).
-          supplied_offered p g.frames c.args.plp c.args.packet.now g.inputs.items _ f.step f.blocks c.offer.new.pool over
+      fit = search rules;
+      supplied = ∥∥₁_map g.supplied (λ (s : AreSupplied p g.frames g.inputs.items (early_of p f)).
+          supplied_offered p g.frames f.number c.args.plp c.args.packet.now g.inputs.items _ f.step f.plp f.blocks
+          c.offer.new.pool over
           (λ events fed. subst (λ (l : List Input). AllFed l (bits_in c.offer.new.pool) p
           (events ++ Offered c.args.plp c.args.packet.now ∷ [])) (sym items)
           (c.offer.ensures.fed p events (c.deref_mut.ensures.len ∙ g.whole) (has_frame p p f.blocks refl g.chunks g.lists)

@@ -1,11 +1,11 @@
-use Rattle.std.proofs.Common.{rules, ◌≡◌, ℕ, Bool, List, [], refl, sym, subst}
+use Rattle.std.proofs.Common.{rules, ◌≡◌, ℕ, Bool, List, [], refl, ap, sym, subst}
 use Rattle.std.proofs.lemmas.Grind.{merely}
 use Rattle.t2mi_packet.specs.declared.packet.Body.{Body}
 use Rattle.gateway_core.specs.Flowing.{Flows, bytes_bound}
-use Rattle.gateway_core.specs.Left.{early_of}
+use Rattle.gateway_core.specs.Left.{Layout, early_of}
 use Rattle.gateway_core.specs.StandsFor.{GatewayStandsFor, Status}
 use Rattle.gateway_core.proofs.FlowLemmas.{over_left}
-use Rattle.gateway_core.proofs.HoldsLemmas.{fed_kept}
+use Rattle.gateway_core.proofs.HoldsLemmas.{fed_kept, stay_none, fit_zeros}
 use Rattle.gateway_core.proofs.gateway.Gateway.open.Goals as goal
 
 pub returns-clause-stands : goal.returns-clause-stands
@@ -15,7 +15,8 @@ returns-clause-stands c =
     let nothing = over_left c.args.plan.now c.in_ok-open.field-0 f c.in_ok-open-2.ensures.over in (
       refl,
       record {
-        fed = fed_kept _ (λ j. []) (early_of f) c.args.plan.now [] c.in_ok-open-2.ensures.early c.in_ok-open_inputs.ensures.fed;
+        fed = fed_kept _ (λ j. []) (early_of c.args.plan.now f) c.args.plan.now [] c.in_ok-open-2.ensures.early
+            c.in_ok-open_inputs.ensures.fed;
         pre = c.in_ok-open.ensures.pre;
         conf = c.in_ok-open.ensures.conf;
         frames_are = refl;
@@ -23,6 +24,7 @@ returns-clause-stands c =
         flows = λ all more. subst (λ (l : List Body). Flows c.new.result.outlet c.args.plan.now f.number l [] 0) (sym nothing)
             (c.new.ensures.flows c.args.plan.now f.number (sym c.pid_of.ensures.value));
       },
+      stay_none c.args.plan.now f.counts.items,
     )
 
 abbrev status_with : ℕ → ℕ → Bool → Bool → ℕ → Status
@@ -47,11 +49,11 @@ invariant_of-result c =
       lists = search rules;
       chunks = search rules;
       over = search rules;
-      alone = search rules;
+      fit = fit_zeros c.args.plan.now _ (ap (λ (l : Layout). l.counts) c.in_ok-open-2.ensures.layout);
       supplied = merely (record {
         events = [];
         frame_is = refl;
-        fed = fed_kept _ (λ j. []) (early_of c.in_ok-open-2.field-0) c.args.plan.now [] c.in_ok-open-2.ensures.early
-            c.in_ok-open_inputs.ensures.fed;
+        fed = fed_kept _ (λ j. []) (early_of c.args.plan.now c.in_ok-open-2.field-0) c.args.plan.now []
+            c.in_ok-open-2.ensures.early c.in_ok-open_inputs.ensures.fed;
       });
     }

@@ -3,11 +3,12 @@ use Rattle.gateway_core.proofs.FedLemmas.{fed_cut, next_due, place_stays, others
 use Rattle.gateway_core.proofs.input.Input.cut.Goals as goal
 
 pub returns-clause-cut : goal.returns-clause-cut
-returns-clause-cut c = λ config plp t plan lt place e h.
+returns-clause-cut c = λ config plp t plan lt place on e h.
     let filled = c.complete.ensures.fed config plp t place h in
     let still = place_stays config plp c.args.pool.now c.complete.new.pool c.args.list c.complete.ensures.others place in
-    fed_cut c.blocks_law.ensures _ _ _ _ _ _ config plp t c.complete.new.pool c.end_frame-count.new.pool c.args.list _
-    c.end_frame-count.ensures.ends plan lt still c.complete.ensures.full
+    fed_cut c.blocks_law.ensures c.slot_time_law.ensures.count_rises c.length_law.ensures.slot c.spread_law.ensures.frames
+    _ _ _ _ _ _ config plp t c.complete.new.pool c.end_frame-count.new.pool c.args.list _
+    c.end_frame-count.ensures.ends plan lt still on c.complete.ensures.full
     (c.max-self.ensures ∙ next_due c.slot_time_law.ensures.count_rises c.length_law.ensures.slot config plp t.frame _ _ plan.rules
     lt filled.due_is e ∙ e) filled
 
