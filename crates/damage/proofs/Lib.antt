@@ -1,6 +1,7 @@
 mod PacketLemmas
 mod GroupLemmas
 mod WholeLemmas
+mod AloneLemmas
 mod NearLemmas
 mod RecordLemmas
 mod NumberLemmas

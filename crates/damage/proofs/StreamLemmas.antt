@@ -58,7 +58,7 @@ honest_groups read law s from fates is honest =
 
 pub honest_numbers : ReadAreSurvivors → GroupsNumbered → HonestNumbers
 honest_numbers read law r s from fates first same is honest joins =
-    ap (λ (ps : List Packet). numbers_behind r None (groups r.frames ps)) (read s from fates is honest)
+    ap (λ (ps : List Packet). numbers_behind r [] (groups r.frames ps)) (read s from fates is honest)
     ∙ law r s.count s.sent (stream_survival s from fates) first
     (subst (λ (frames : ℕ). Survive frames s.count s.sent (stream_survival s from fates)) (sym same)
     (honest_survive s from fates is honest)) joins
@@ -80,15 +80,15 @@ kept_honest undamaged near s from fates is altered kept =
     }
 
 pub kept_whole : Survives → SurvivalTold → WholeTold → KeptWhole
-kept_whole survives told whole s from fates n is altered carried =
-    whole s.sent (stream_survival s from fates) n (λ i p at same.
+kept_whole survives told whole c s from fates n is altered carried =
+    whole c s.sent (stream_survival s from fates) n (λ i p at same.
     let c = carried i p at same in
     one c.before c.after c.packet c.first c.last s.packets i c.parts c.count is.spelled c.carried c.kept)
   where
     one : (before after : List (List ℕ)) (packet : List ℕ) (first last : ℕ) (packets : List (List ℕ)) (i : ℕ)
         → packets ≡ before ++ packet ∷ after → length before ≡ i → ArePackets packets
-        → Carry packets before packet (from + first) (from + last) →
-        ((n : ℕ) → first ≤ n → n < last → fate_of fates n ≡ Some Kept) → slice_get (survival s.pid packets from fates) i
+        → Carry packets before packet (from + first) (from + last)
+        → ((n : ℕ) → first ≤ n → n < last → fate_of fates n ≡ Some Kept) → slice_get (survival s.pid packets from fates) i
         ≡ Some true
     one before after packet first last packets i parts count spelled carry kept =
         subst (λ (l : List (List ℕ)). slice_get (survival s.pid l from fates) i ≡ Some true) (sym parts)

@@ -1,146 +1,144 @@
 -- Whole frames, and what is missing in others.
-use Rattle.std.proofs.Common.{◌≡◌, ◌≢◌, ℕ, suc, ◌+◌, ◌≤◌, Bool, true, false, cond, List, [], ◌∷◌, count_by, Contains, refl, ap}
-use Rattle.std.proofs.Common.{sym, subst, ◌∙◌, ⊎_elim, arith, true≢false}
-use Rattle.std.specs.List.{items_where_true}
-use Rattle.std.proofs.lemmas.Bool.{cases_eq, cond-true, and_from}
+use Rattle.std.proofs.Common.{◌≡◌, ℕ, suc, ◌+◌, ◌≤◌, Bool, true, false, cond, List, [], ◌∷◌, length, count_by, Contains}
+use Rattle.std.proofs.Common.{refl}
+use Rattle.std.proofs.Common.{ap, sym, ◌∙◌, ⊎_elim, arith, true≢false}
+use Rattle.std.specs.Prelude.{slice_get, Some}
+use Rattle.std.specs.List.{filter, items_where_true}
+use Rattle.std.proofs.lemmas.Bool.{cases_Bool, cond-true, cond-false, and_from}
 use Rattle.std.proofs.lemmas.List.Sums.{sum_by-cons}
 use Rattle.std.proofs.lemmas.Option.{same_Some}
-use Rattle.t2mi_packet.specs.declared.packet.Packet.{Packet}
-use Rattle.damage.specs.SentPackets.{Sent, frame_packets}
-use Rattle.damage.specs.Survivors.{is_whole}
+use Rattle.damage.specs.SentPackets.{Sent}
+use Rattle.damage.specs.Survivors.{carries, all_survive}
 use Rattle.damage.specs.Laws.{WholeTold, WholeIsAll, Misses, NotWholeMisses}
-use Rattle.damage.proofs.PacketLemmas.{packets_here, packets_other, whole_here, whole_other}
+use Rattle.damage.proofs.PacketLemmas.{whole_here, whole_other}
+
+all_told : (test : Sent → Bool) (sent : List Sent) (survival : List Bool)
+    → ((i : ℕ) (s : Sent) → slice_get sent i ≡ Some s → test s ≡ true → slice_get survival i ≡ Some true)
+    → all_survive test sent survival ≡ true
+all_told test [] survival h = refl
+all_told test (s ∷ sent) [] h = refl
+all_told test (s ∷ sent) (t ∷ survival) h =
+    let rest : all_survive test sent survival ≡ true = all_told test sent survival (λ i r is e. h (suc i) r is e) in
+    ⊎_elim
+    (λ (e : test s ≡ true). whole_here test s sent t survival e
+    ∙ and_from t (all_survive test sent survival) (same_Some t true (h 0 s refl e)) rest)
+    (λ (e : test s ≡ false). whole_other test s sent t survival e ∙ rest)
+    (cases_Bool (test s))
 
 pub whole_told : WholeTold
-whole_told [] survival n h = refl
-whole_told (s ∷ sent) [] n h = refl
-whole_told (s ∷ sent) (t ∷ survival) n h =
-    let rest : is_whole sent survival n ≡ true = whole_told sent survival n (λ i r is e. h (suc i) r is e) in
+whole_told c sent survival n h = all_told (carries c n) sent survival h
+
+-- what is among packets that all survive
+passed : (test : Sent → Bool) (s : Sent) (sent : List Sent) → test s ≡ true → filter test (s ∷ sent) ≡ s ∷ filter test sent
+passed test s sent e = cond-true (test s) (s ∷ filter test sent) (filter test sent) e
+
+left_out : (test : Sent → Bool) (s : Sent) (sent : List Sent) → test s ≡ false → filter test (s ∷ sent) ≡ filter test sent
+left_out test s sent e = cond-false (test s) (s ∷ filter test sent) (filter test sent) e
+
+among_all : (all test : Sent → Bool) (sent : List Sent) (survival : List Bool) → ((s : Sent) → test s ≡ true → all s ≡ true)
+    → length survival ≡ length sent → all_survive all sent survival ≡ true
+    → filter test (items_where_true survival sent) ≡ filter test sent
+among_all all test [] [] sub l w = refl
+among_all all test [] (t ∷ survival) sub l w = refl
+among_all all test (s ∷ sent) [] sub l w = absurd (omega (arith, l))
+among_all all test (s ∷ sent) (true ∷ survival) sub l w =
+    let rest : all_survive all sent survival ≡ true = ⊎_elim
+    (λ (e : all s ≡ true). sym (whole_here all s sent true survival e) ∙ w)
+    (λ (e : all s ≡ false). sym (whole_other all s sent true survival e) ∙ w) (cases_Bool (all s)) in
+    let more = among_all all test sent survival sub (omega (arith, l)) rest in
     ⊎_elim
-    (λ (e : s.frame ≡ n). whole_here s sent t survival n e
-    ∙ and_from t (is_whole sent survival n) (same_Some t true (h 0 s refl e)) rest)
-    (λ (e : s.frame ≡ n → ⊥). whole_other s sent t survival n e ∙ rest)
-    (cases_eq s.frame n)
+    (λ (e : test s ≡ true). passed test s (items_where_true survival sent) e ∙ ap (λ (l : List Sent). s ∷ l) more
+    ∙ sym (passed test s sent e))
+    (λ (e : test s ≡ false). left_out test s (items_where_true survival sent) e ∙ more ∙ sym (left_out test s sent e))
+    (cases_Bool (test s))
+among_all all test (s ∷ sent) (false ∷ survival) sub l w = ⊎_elim
+    (λ (e : all s ≡ true). absurd (true≢false (sym w ∙ whole_here all s sent false survival e)))
+    (λ (e : all s ≡ false).
+    let none : test s ≡ false = ⊎_elim (λ (t : test s ≡ true). absurd (true≢false (sym (sub s t) ∙ e)))
+    (λ (t : test s ≡ false). t) (cases_Bool (test s)) in
+    among_all all test sent survival sub (omega (arith, l)) (sym (whole_other all s sent false survival e) ∙ w)
+    ∙ sym (left_out test s sent none))
+    (cases_Bool (all s))
 
 pub whole_is_all : WholeIsAll
-whole_is_all [] [] n l w = refl
-whole_is_all [] (t ∷ survival) n l w = refl
-whole_is_all (s ∷ sent) [] n l w = absurd (omega (arith, l))
-whole_is_all (s ∷ sent) (true ∷ survival) n l w = ⊎_elim
-    (λ (e : s.frame ≡ n).
-    packets_here n s (items_where_true survival sent) e
-    ∙ ap (λ (ps : List Packet). s.packet ∷ ps)
-    (whole_is_all sent survival n (omega (arith, l)) (sym (whole_here s sent true survival n e) ∙ w))
-    ∙ sym (packets_here n s sent e))
-    (λ (e : s.frame ≡ n → ⊥).
-    packets_other n s (items_where_true survival sent) e
-    ∙ whole_is_all sent survival n (omega (arith, l)) (sym (whole_other s sent true survival n e) ∙ w)
-    ∙ sym (packets_other n s sent e))
-    (cases_eq s.frame n)
-whole_is_all (s ∷ sent) (false ∷ survival) n l w = ⊎_elim
-    (λ (e : s.frame ≡ n). absurd (true≢false (sym w ∙ whole_here s sent false survival n e)))
-    (λ (e : s.frame ≡ n → ⊥).
-    whole_is_all sent survival n (omega (arith, l)) (sym (whole_other s sent false survival n e) ∙ w)
-    ∙ sym (packets_other n s sent e))
-    (cases_eq s.frame n)
+whole_is_all c sent survival n test l w sub = among_all (carries c n) test sent survival sub l w
 
--- how many packets of a frame pass a test
-count_here : (test : Packet → Bool) (n : ℕ) (s : Sent) (sent : List Sent) → s.frame ≡ n
-    → count_by test (frame_packets n (s ∷ sent)) ≡ cond {A = ℕ} (test s.packet) 1 0 + count_by test (frame_packets n sent)
-count_here test n s sent e = ap (count_by test) (packets_here n s sent e) ∙ sum_by-cons (λ p. cond {A = ℕ} (test p) 1 0) s.packet
-    (frame_packets n sent)
+-- ---- what is missing
 
-count_other : (test : Packet → Bool) (n : ℕ) (s : Sent) (sent : List Sent) → s.frame ≢ n
-    → count_by test (frame_packets n (s ∷ sent)) ≡ count_by test (frame_packets n sent)
-count_other test n s sent e = ap (count_by test) (packets_other n s sent e)
+counted : (test : Sent → Bool) (s : Sent) (sent : List Sent) → count_by test (s ∷ sent) ≡ cond {A = ℕ} (test s) 1 0
+    + count_by test sent
+counted test s sent = sum_by-cons (λ (s : Sent). cond {A = ℕ} (test s) 1 0) s sent
 
--- one sent packet more: what it counts
-record Counts (test : Packet → Bool) (n : ℕ) (s : Sent) : Type 0 where
-  pub here : ℕ
-  pub more : (sent : List Sent) → count_by test (frame_packets n (s ∷ sent)) ≡ here + count_by test (frame_packets n sent)
-
-counts : (test : Packet → Bool) (n : ℕ) (s : Sent) → Counts test n s
-counts test n s = ⊎_elim
-    (λ (e : s.frame ≡ n). record { here = cond {A = ℕ} (test s.packet) 1 0; more = λ sent. count_here test n s sent e })
-    (λ (e : s.frame ≡ n → ⊥). record { here = 0; more = λ sent. let h = count_other test n s sent e in omega (arith, h) })
-    (cases_eq s.frame n)
-
-count_survivors : (test : Packet → Bool) (n : ℕ) (sent : List Sent) (survival : List Bool)
-    → count_by test (frame_packets n (items_where_true survival sent)) ≤ count_by test (frame_packets n sent)
-count_survivors test n sent [] = let none : count_by test (frame_packets n (items_where_true [] sent)) ≡ 0 = refl in
+count_survivors : (test : Sent → Bool) (sent : List Sent) (survival : List Bool) → count_by test (items_where_true survival sent)
+    ≤ count_by test sent
+count_survivors test sent [] = let none : count_by test (items_where_true [] sent) ≡ 0 = refl in omega (arith, none)
+count_survivors test [] (t ∷ survival) = let none : count_by test (items_where_true (t ∷ survival) []) ≡ 0 = refl in
     omega (arith, none)
-count_survivors test n [] (t ∷ survival) = let none : count_by test (frame_packets n (items_where_true (t ∷ survival) [])) ≡ 0 =
-    refl in omega (arith, none)
-count_survivors test n (s ∷ sent) (true ∷ survival) =
-    let c = counts test n s in
-    let a = c.more (items_where_true survival sent) in
-    let b = c.more sent in
-    let l = count_survivors test n sent survival in
+count_survivors test (s ∷ sent) (true ∷ survival) =
+    let a = counted test s (items_where_true survival sent) in
+    let b = counted test s sent in
+    let l = count_survivors test sent survival in
     omega (arith, a, b, l)
-count_survivors test n (s ∷ sent) (false ∷ survival) =
-    let c = counts test n s in
-    let b = c.more sent in
-    let l = count_survivors test n sent survival in
+count_survivors test (s ∷ sent) (false ∷ survival) =
+    let b = counted test s sent in
+    let l = count_survivors test sent survival in
     omega (arith, b, l)
 
-contains_here : (n : ℕ) (s : Sent) (sent : List Sent) → s.frame ≡ n → Contains (frame_packets n (s ∷ sent)) s.packet
-contains_here n s sent e = subst (λ (ps : List Packet). Contains ps s.packet) (sym (packets_here n s sent e))
-    (0, omega arith, refl)
-
-contains_more : (p : Packet) (n : ℕ) (s : Sent) (sent : List Sent) → Contains (frame_packets n sent) p
-    → Contains (frame_packets n (s ∷ sent)) p
-contains_more p n s sent c = ⊎_elim
-    (λ (e : s.frame ≡ n). subst (λ (ps : List Packet). Contains ps p) (sym (packets_here n s sent e))
-    (suc c.0, (let l = c.1 in omega (arith, l)), c.2))
-    (λ (e : s.frame ≡ n → ⊥). subst (λ (ps : List Packet). Contains ps p) (sym (packets_other n s sent e)) c)
-    (cases_eq s.frame n)
+there_more : (s p : Sent) (sent : List Sent) → Contains sent p → Contains (s ∷ sent) p
+there_more s p sent c = (suc c.0, (let l = c.1 in omega (arith, l)), c.2)
 
 -- A packet that is missing in the later ones is missing in all.
-misses_kept : (s : Sent) (sent : List Sent) (survival : List Bool) (n : ℕ) → Misses sent survival n
-    → Misses (s ∷ sent) (true ∷ survival) n
-misses_kept s sent survival n m = record {
+misses_kept : (all : Sent → Bool) (s : Sent) (sent : List Sent) (survival : List Bool) → Misses all sent survival
+    → Misses all (s ∷ sent) (true ∷ survival)
+misses_kept all s sent survival m = record {
   packet = m.packet;
-  there = contains_more m.packet n s sent m.there;
+  there = there_more s m.packet sent m.there;
+  passing = m.passing;
   fewer = λ test t.
-      let c = counts test n s in
-      let a = c.more (items_where_true survival sent) in
-      let b = c.more sent in
+      let a = counted test s (items_where_true survival sent) in
+      let b = counted test s sent in
       let l = m.fewer test t in
       omega (arith, a, b, l);
 }
 
-misses_lost : (s : Sent) (sent : List Sent) (survival : List Bool) (n : ℕ) → Misses sent survival n
-    → Misses (s ∷ sent) (false ∷ survival) n
-misses_lost s sent survival n m = record {
+misses_lost : (all : Sent → Bool) (s : Sent) (sent : List Sent) (survival : List Bool) → Misses all sent survival
+    → Misses all (s ∷ sent) (false ∷ survival)
+misses_lost all s sent survival m = record {
   packet = m.packet;
-  there = contains_more m.packet n s sent m.there;
+  there = there_more s m.packet sent m.there;
+  passing = m.passing;
   fewer = λ test t.
-      let c = counts test n s in
-      let b = c.more sent in
+      let b = counted test s sent in
       let l = m.fewer test t in
       omega (arith, b, l);
 }
 
-misses_here : (s : Sent) (sent : List Sent) (survival : List Bool) (n : ℕ) → s.frame ≡ n → Misses (s ∷ sent) (false ∷ survival) n
-misses_here s sent survival n e = record {
-  packet = s.packet;
-  there = contains_here n s sent e;
+misses_here : (all : Sent → Bool) (s : Sent) (sent : List Sent) (survival : List Bool) → all s ≡ true
+    → Misses all (s ∷ sent) (false ∷ survival)
+misses_here all s sent survival e = record {
+  packet = s;
+  there = (0, omega arith, refl);
+  passing = e;
   fewer = λ test t.
-      let b = count_here test n s sent e in
-      let o : cond {A = ℕ} (test s.packet) 1 0 ≡ 1 = cond-true {A = ℕ} (test s.packet) 1 0 t in
-      let l = count_survivors test n sent survival in
+      let b = counted test s sent in
+      let o : cond {A = ℕ} (test s) 1 0 ≡ 1 = cond-true {A = ℕ} (test s) 1 0 t in
+      let l = count_survivors test sent survival in
       omega (arith, b, o, l);
 }
 
+not_all_misses : (all : Sent → Bool) (sent : List Sent) (survival : List Bool) → all_survive all sent survival ≡ false
+    → Misses all sent survival
+not_all_misses all [] survival w = absurd (true≢false w)
+not_all_misses all (s ∷ sent) [] w = absurd (true≢false w)
+not_all_misses all (s ∷ sent) (true ∷ survival) w = misses_kept all s sent survival (not_all_misses all sent survival (⊎_elim
+    (λ (e : all s ≡ true). sym (whole_here all s sent true survival e) ∙ w)
+    (λ (e : all s ≡ false). sym (whole_other all s sent true survival e) ∙ w)
+    (cases_Bool (all s))))
+not_all_misses all (s ∷ sent) (false ∷ survival) w = ⊎_elim
+    (λ (e : all s ≡ true). misses_here all s sent survival e)
+    (λ (e : all s ≡ false).
+    misses_lost all s sent survival (not_all_misses all sent survival (sym (whole_other all s sent false survival e) ∙ w)))
+    (cases_Bool (all s))
+
 pub not_whole_misses : NotWholeMisses
-not_whole_misses [] survival n w = absurd (true≢false w)
-not_whole_misses (s ∷ sent) [] n w = absurd (true≢false w)
-not_whole_misses (s ∷ sent) (true ∷ survival) n w = misses_kept s sent survival n (not_whole_misses sent survival n (⊎_elim
-    (λ (e : s.frame ≡ n). sym (whole_here s sent true survival n e) ∙ w)
-    (λ (e : s.frame ≡ n → ⊥). sym (whole_other s sent true survival n e) ∙ w)
-    (cases_eq s.frame n)))
-not_whole_misses (s ∷ sent) (false ∷ survival) n w = ⊎_elim
-    (λ (e : s.frame ≡ n). misses_here s sent survival n e)
-    (λ (e : s.frame ≡ n → ⊥).
-    misses_lost s sent survival n (not_whole_misses sent survival n (sym (whole_other s sent false survival n e) ∙ w)))
-    (cases_eq s.frame n)
+not_whole_misses c sent survival n w = not_all_misses (carries c n) sent survival w

@@ -3,14 +3,14 @@ use Rattle.std.specs.Prelude.{◌≡◌, ◌≢◌, ℕ, ◌<◌, nat_le, nat_lt
 use Rattle.std.specs.Prelude.{if◌then◌else◌, Bool}
 use Rattle.std.specs.List.{filter, items_where_true, range_with_len}
 use Rattle.frame_groups.specs.Groups.{Group, groups}
-use Rattle.frame_groups.specs.Modulated.{Rules, join_number, number_behind}
+use Rattle.frame_groups.specs.Modulated.{Numbered, Rules, join_number, number_behind, past_behind}
 use Rattle.damage.specs.SentPackets.{Sent, packets_of, frame_packets, frame_group}
 use Rattle.damage.specs.Laws.{Survive}
 
--- the number of each group behind one with a number, or behind none; up to the join there is none
-abbrev pub numbers_behind : Rules → Option ℕ → List Group → List (Option ℕ)
-numbers_behind r before [] = []
-numbers_behind r before (g ∷ gs) = number_behind r before g ∷ numbers_behind r (number_behind r before g) gs
+-- the number of each group behind groups with numbers, or behind none; up to the join there is none
+abbrev pub numbers_behind : Rules → List Numbered → List Group → List (Option ℕ)
+numbers_behind r past [] = []
+numbers_behind r past (g ∷ gs) = number_behind r past g ∷ numbers_behind r (past_behind r past g) gs
 
 -- the frames of which a packet survives, of so many
 abbrev pub is_met : List Sent → ℕ → Bool
@@ -34,5 +34,5 @@ pub record JoinsAt (r : Rules) (survivors : List Sent) (first : ℕ) : Type 0 wh
 abbrev pub GroupsNumbered : Type 0
 GroupsNumbered = (r : Rules) (count : ℕ) (sent : List Sent) (survival : List Bool) (first : ℕ)
     → Survive r.frames count sent survival → JoinsAt r (items_where_true survival sent) first
-    → numbers_behind r None (groups r.frames (packets_of (items_where_true survival sent)))
+    → numbers_behind r [] (groups r.frames (packets_of (items_where_true survival sent)))
     ≡ map (number_from first) (frames_left count (items_where_true survival sent))

@@ -1,5 +1,5 @@
 -- Laws of what is written of a damaged stream.
-use Rattle.std.specs.Prelude.{◌≡◌, ℕ, ◌+◌, ◌<◌, ◌≤◌, true, List, ◌∷◌, ◌++◌, length, map, drop, slice_get, Some, None}
+use Rattle.std.specs.Prelude.{◌≡◌, ℕ, ◌+◌, ◌<◌, ◌≤◌, true, List, [], ◌∷◌, ◌++◌, length, map, drop, slice_get, Some}
 use Rattle.frame_groups.specs.Groups.{groups}
 use Rattle.frame_groups.specs.Modulated.{Rules, modulated}
 use Rattle.t2mi_stream.specs.Laws.{Carry}
@@ -9,7 +9,8 @@ use Rattle.t2mi_stream.specs.Received.Fate.{Kept}
 use Rattle.t2mi_stream.specs.Survivors.{received_packets, AreKept}
 use Rattle.modulator.specs.Modulating as modulating
 use Rattle.damage.specs.SentPackets.{Sent, packets_of}
-use Rattle.damage.specs.Survivors.{is_whole, groups_met, survivor_records}
+use Rattle.plp_config.specs.declared.config.Config.{Config}
+use Rattle.damage.specs.Survivors.{carries, is_whole, groups_met, survivor_records}
 use Rattle.damage.specs.GroupNumbers.{numbers_behind, frames_left, number_from, JoinsAt}
 use Rattle.damage.specs.Laws.{RulesMeet}
 use Rattle.damage.specs.Streams.{Stream, IsStream, stream_survival, stream_survivors, Honest}
@@ -40,7 +41,7 @@ HonestRecords = (r : Rules) (s : Stream) (from : ℕ) (fates : List Fate) → r.
 abbrev pub HonestNumbers : Type 0
 HonestNumbers = (r : Rules) (s : Stream) (from : ℕ) (fates : List Fate) (first : ℕ) → r.frames ≡ s.frames → IsStream s
     → Honest s from fates → JoinsAt r (stream_survivors s from fates) first
-    → numbers_behind r None (groups r.frames (modulating.packets_of (received_packets s.pid s.packets from fates)))
+    → numbers_behind r [] (groups r.frames (modulating.packets_of (received_packets s.pid s.packets from fates)))
     ≡ map (number_from first) (frames_left s.count (stream_survivors s from fates))
 
 -- A stream of which all units from one on are kept is honest by itself.
@@ -60,8 +61,8 @@ pub record IsCarried (packets : List (List ℕ)) (from : ℕ) (fates : List Fate
   pub carried : Carry packets before packet (from + first) (from + last)
   pub kept : (n : ℕ) → first ≤ n → n < last → fate_of fates n ≡ Some Kept
 
--- A frame is whole if the units that carry its packets are kept, whatever becomes of the others.
+-- A frame is whole if the units are kept of all packets that it carries, whatever becomes of the others.
 abbrev pub KeptWhole : Type 0
-KeptWhole = (s : Stream) (from : ℕ) (fates : List Fate) (n : ℕ) → IsStream s → AlteredWhole fates
-    → ((i : ℕ) (p : Sent) → slice_get s.sent i ≡ Some p → p.frame ≡ n → IsCarried s.packets from fates i)
-    → is_whole s.sent (stream_survival s from fates) n ≡ true
+KeptWhole = (c : Config) (s : Stream) (from : ℕ) (fates : List Fate) (n : ℕ) → IsStream s → AlteredWhole fates
+    → ((i : ℕ) (p : Sent) → slice_get s.sent i ≡ Some p → carries c n p ≡ true → IsCarried s.packets from fates i)
+    → is_whole c s.sent (stream_survival s from fates) n ≡ true

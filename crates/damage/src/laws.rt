@@ -1,9 +1,10 @@
 // Laws of the definitions. Their functions do nothing.
 ghost use Rattle.damage.specs.Laws.{GroupsAreFrames, ModulatedIsRecords, WholeTold, WholeIsAll, NotWholeMisses, LaterNear};
-ghost use Rattle.damage.specs.Laws.{NearTold};
+ghost use Rattle.damage.specs.Laws.{CarriesAlone, NearTold};
 ghost use Rattle.damage.specs.GroupNumbers.{GroupsNumbered};
 
 use frame_groups::next_law;
+use plp_config::interleaving_law;
 
 /// If survivors are near one another, the groups are the survivors of those frames that have one.
 pub fn group_law()
@@ -25,12 +26,15 @@ pub fn number_law()
     next_law();
 }
 
-/// What survives of a whole frame, and of one that is not.
+/// What survives of a whole frame, and of one that is not; and what a frame carries if interleaving frames are single frames.
 pub fn whole_law()
     ensures told { WholeTold }
     ensures all { WholeIsAll }
     ensures misses { NotWholeMisses }
-{}
+    ensures alone { CarriesAlone }
+{
+    interleaving_law();
+}
 
 /// Which packets are near one another: those of which each next one is, and those that are left if only packets at the front are
 /// lost.

@@ -7,8 +7,8 @@ use Rattle.std.proofs.lemmas.List.FromFn.{length-range_with_len}
 use Rattle.t2mi_packet.specs.declared.packet.Packet.{Packet}
 use Rattle.frame_groups.specs.Groups.{Group, groups, is_same}
 use Rattle.frame_groups.specs.Numbers.{frame_key, first_from, next_number}
-use Rattle.frame_groups.specs.Modulated.{Rules, FrameRecord, gap_record, group_record, join_number, gaps_between, gaps_behind}
-use Rattle.frame_groups.specs.Modulated.{own_record, records_from, modulated}
+use Rattle.frame_groups.specs.Modulated.{Numbered, Rules, FrameRecord, gap_record, group_record, join_number, past_with}
+use Rattle.frame_groups.specs.Modulated.{gaps_between, gaps_behind, own_record, records_from, modulated}
 use Rattle.frame_groups.specs.Laws.{AreFrom}
 
 first_above : (f : ℕ → Bool) (steps n : ℕ) → n ≤ first_from f steps n
@@ -31,27 +31,32 @@ gaps_from : (k n : ℕ) → AreFrom n (map gap_record (range_with_len n k))
 gaps_from zero n = tt
 gaps_from (suc k) n = (refl, gaps_from k (n + 1))
 
-behind : (r : Rules) (gs : List Group) (m : ℕ) → AreFrom (m + 1) (records_from r (Some m) gs)
-behind r [] m = tt
-behind r (g ∷ gs) m =
+behind : (r : Rules) (gs : List Group) (b : Numbered) (past : List Numbered) → AreFrom (b.number + 1)
+    (records_from r (b ∷ past) gs)
+behind r [] b past = tt
+behind r (g ∷ gs) b past =
+    let m : ℕ = b.number in
     let n : ℕ = next_number r.frames m g.key in
     let up : m + 1 ≤ n = next_above r m g in
     let l : length (gaps_between m n) ≡ n - (m + 1) = length-map (range_with_len (m + 1) (n - (m + 1))) gap_record
     ∙ length-range_with_len (m + 1) (n - (m + 1)) in
-    let both : AreFrom (m + 1) (gaps_between m n ++ group_record r g n ∷ []) =
-    from_append (gaps_between m n) (group_record r g n ∷ []) (m + 1) n (gaps_from (n - (m + 1)) (m + 1))
+    let both : AreFrom (m + 1) (gaps_between m n ++ group_record r (b ∷ past) g n ∷ []) =
+    from_append (gaps_between m n) (group_record r (b ∷ past) g n ∷ []) (m + 1) n (gaps_from (n - (m + 1)) (m + 1))
     (omega (arith, l, up)) (refl, tt) in
-    let all : length (gaps_between m n ++ group_record r g n ∷ []) ≡ length (gaps_between m n) + 1 =
-    length_push (gaps_between m n) (group_record r g n) in
-    from_append (gaps_between m n ++ group_record r g n ∷ []) (records_from r (Some n) gs) (m + 1) (n + 1) both
-    (omega (arith, l, all, up)) (behind r gs n)
+    let all : length (gaps_between m n ++ group_record r (b ∷ past) g n ∷ []) ≡ length (gaps_between m n) + 1 =
+    length_push (gaps_between m n) (group_record r (b ∷ past) g n) in
+    from_append (gaps_between m n ++ group_record r (b ∷ past) g n ∷ [])
+    (records_from r (record { number = n; group = g } ∷ b ∷ past) gs) (m + 1) (n + 1) both
+    (omega (arith, l, all, up)) (behind r gs (record { number = n; group = g }) (b ∷ past))
 
-first : (r : Rules) (gs : List Group) → (n : ℕ) × AreFrom n (records_from r None gs)
+first : (r : Rules) (gs : List Group) → (n : ℕ) × AreFrom n (records_from r [] gs)
 first r [] = (0, tt)
-first r (g ∷ gs) = go (first r gs) (λ n. behind r gs n) (join_number r g)
+first r (g ∷ gs) = go (first r gs) (λ n. behind r gs (record { number = n; group = g }) []) (join_number r g)
   where
-    go : ((n : ℕ) × AreFrom n (records_from r None gs)) → ((n : ℕ) → AreFrom (n + 1) (records_from r (Some n) gs))
-        → (o : Option ℕ) → (n : ℕ) × AreFrom n ((gaps_behind None o ++ own_record r g o) ++ records_from r o gs)
+    go : ((n : ℕ) × AreFrom n (records_from r [] gs))
+        → ((n : ℕ) → AreFrom (n + 1) (records_from r (record { number = n; group = g } ∷ []) gs))
+        → (o : Option ℕ)
+        → (n : ℕ) × AreFrom n ((gaps_behind [] o ++ own_record r [] g o) ++ records_from r (past_with [] g o) gs)
     go none some None = none
     go none some (Some n) = (n, (refl, some n))
 

@@ -1,7 +1,6 @@
 -- What follows changes no record but the last.
 use Rattle.std.proofs.Common.{◌≡◌, ℕ, Bool, true, false, cond, List, [], ◌∷◌, ◌++◌, Option, Some, None, refl, ap, sym, subst, ◌∙◌}
 use Rattle.std.proofs.Common.{append_assoc, append-nil}
-use Rattle.std.specs.Prelude.{is_some}
 use Rattle.std.specs.List.{filter}
 use Rattle.std.proofs.lemmas.List.Elements.{filter-append}
 use Rattle.std.proofs.lemmas.Bool.{true≢false}
@@ -9,8 +8,9 @@ use Rattle.t2mi_packet.specs.declared.packet.Packet.{Packet}
 use Rattle.frame_groups.specs.Groups.{is_counted, is_same, Group, key_behind, groups}
 use Rattle.frame_groups.specs.Grouping.{Grouped, one_packet, one_more, grouped_from, no_groups, grouped, all_groups}
 use Rattle.frame_groups.specs.declared.key.Key.{Key}
-use Rattle.frame_groups.specs.Modulated.{Rules, FrameRecord, number_behind, join_number, gaps_behind, gaps_between, own_record}
-use Rattle.frame_groups.specs.Modulated.{group_record, records_with, records_from, number_after, modulated}
+use Rattle.frame_groups.specs.Modulated.{Numbered, Rules, FrameRecord, past_with, past_behind, past_after, join_number}
+use Rattle.frame_groups.specs.Modulated.{gaps_behind, gaps_between, own_record, group_record, records_with, records_from}
+use Rattle.frame_groups.specs.Modulated.{modulated}
 use Rattle.frame_groups.specs.Numbers.{next_number}
 use Rattle.frame_groups.specs.Laws.{without_last, IsPrefix}
 use Rattle.frame_groups.proofs.GroupLemmas.{grouped_append}
@@ -67,27 +67,31 @@ has_last (p ∷ qs) closed h = go (λ closed h. has_last qs closed h) (is_same h
     go rest true = rest closed (one_more h p)
     go rest false = rest (closed ++ h ∷ []) (one_packet (key_behind (Some h.key) p) p)
 
-pub records_append : (r : Rules) (before : Option ℕ) (gs hs : List Group) → records_from r before (gs ++ hs)
-    ≡ records_from r before gs ++ records_from r (number_after r before gs) hs
-records_append r before [] hs = refl
-records_append r before (g ∷ gs) hs =
-    ap (λ (l : List FrameRecord). records_with r before g ++ l) (records_append r (number_behind r before g) gs hs)
-    ∙ sym (append_assoc (records_with r before g) (records_from r (number_behind r before g) gs) _)
+pub records_append : (r : Rules) (past : List Numbered) (gs hs : List Group) → records_from r past (gs ++ hs)
+    ≡ records_from r past gs ++ records_from r (past_after r past gs) hs
+records_append r past [] hs = refl
+records_append r past (g ∷ gs) hs =
+    ap (λ (l : List FrameRecord). records_with r past g ++ l) (records_append r (past_behind r past g) gs hs)
+    ∙ sym (append_assoc (records_with r past g) (records_from r (past_behind r past g) gs) _)
 
--- once joined, there is a number
-stays_joined : (r : Rules) (gs : List Group) (m : ℕ) → is_some (number_after r (Some m) gs) ≡ true
-stays_joined r [] m = refl
-stays_joined r (g ∷ gs) m = stays_joined r gs _
+abbrev has_some : List Numbered → Bool
+has_some [] = false
+has_some (b ∷ past) = true
+
+-- once joined, there is a group with a number
+stays_joined : (r : Rules) (gs : List Group) (b : Numbered) (past : List Numbered) → has_some (past_after r (b ∷ past) gs) ≡ true
+stays_joined r [] b past = refl
+stays_joined r (g ∷ gs) b past = stays_joined r gs _ (b ∷ past)
 
 -- before the join there are no records
-pub none_before : (r : Rules) (gs : List Group) → number_after r None gs ≡ None → records_from r None gs ≡ []
+pub none_before : (r : Rules) (gs : List Group) → past_after r [] gs ≡ [] → records_from r [] gs ≡ []
 none_before r [] e = refl
 none_before r (g ∷ gs) e = go (λ e. none_before r gs e) (join_number r g) e
   where
-    go : (number_after r None gs ≡ None → records_from r None gs ≡ []) → (o : Option ℕ) → number_after r o gs ≡ None
-        → (gaps_behind None o ++ own_record r g o) ++ records_from r o gs ≡ []
+    go : (past_after r [] gs ≡ [] → records_from r [] gs ≡ []) → (o : Option ℕ) → past_after r (past_with [] g o) gs ≡ []
+        → (gaps_behind [] o ++ own_record r [] g o) ++ records_from r (past_with [] g o) gs ≡ []
     go rest None e = rest e
-    go rest (Some n) e = absurd (true≢false (sym (stays_joined r gs n) ∙ ap is_some e))
+    go rest (Some n) e = absurd (true≢false (sym (stays_joined r gs _ []) ∙ ap has_some e))
 
 pub without_last-append : {X : Type 0} (xs : List X) (y : X) (ys : List X) → without_last (xs ++ y ∷ ys)
     ≡ xs ++ without_last (y ∷ ys)
@@ -118,73 +122,76 @@ prefix_of before xs ys s =
     (without_last (s.y ∷ s.more), b ∙ ap (λ (l : List FrameRecord). l ++ without_last (s.y ∷ s.more)) (sym a))
 
 -- the records of a last group, and of another with its key and what follows
-front_joined : (r : Rules) (m : ℕ) (g h : Group) (more : List Group) → h.key ≡ g.key
-    → SameFront (records_from r (Some m) (g ∷ [])) (records_from r (Some m) (h ∷ more))
-front_joined r m g h more key = record {
-  front = gaps_between m (next_number r.frames m g.key);
-  x = group_record r g (next_number r.frames m g.key);
-  y = group_record r h (next_number r.frames m h.key);
-  more = records_from r (number_behind r (Some m) h) more;
+front_joined : (r : Rules) (b : Numbered) (past : List Numbered) (g h : Group) (more : List Group) → h.key ≡ g.key
+    → SameFront (records_from r (b ∷ past) (g ∷ [])) (records_from r (b ∷ past) (h ∷ more))
+front_joined r b past g h more key = record {
+  front = gaps_between b.number (next_number r.frames b.number g.key);
+  x = group_record r (b ∷ past) g (next_number r.frames b.number g.key);
+  y = group_record r (b ∷ past) h (next_number r.frames b.number h.key);
+  more = records_from r (past_behind r (b ∷ past) h) more;
   one = append-nil _;
   other =
-      append_assoc (gaps_between m (next_number r.frames m h.key)) (group_record r h (next_number r.frames m h.key) ∷ []) _
-      ∙ ap (λ (k : Key). gaps_between m (next_number r.frames m k)
-      ++ (group_record r h (next_number r.frames m h.key) ∷ records_from r (number_behind r (Some m) h) more)) key;
+      append_assoc (gaps_between b.number (next_number r.frames b.number h.key))
+      (group_record r (b ∷ past) h (next_number r.frames b.number h.key) ∷ []) _
+      ∙ ap (λ (k : Key). gaps_between b.number (next_number r.frames b.number k)
+      ++ (group_record r (b ∷ past) h (next_number r.frames b.number h.key) ∷ records_from r (past_behind r (b ∷ past) h) more))
+      key;
 }
 
-front_first : (r : Rules) (g : Group) (ys : List FrameRecord) → IsPrefix (without_last (records_from r None (g ∷ []))) ys
+front_first : (r : Rules) (g : Group) (ys : List FrameRecord) → IsPrefix (without_last (records_from r [] (g ∷ []))) ys
 front_first r g ys = go (join_number r g)
   where
-    go : (o : Option ℕ) → IsPrefix (without_last ((gaps_behind None o ++ own_record r g o) ++ [])) ys
+    go : (o : Option ℕ) → IsPrefix (without_last ((gaps_behind [] o ++ own_record r [] g o) ++ [])) ys
     go None = (ys, refl)
     go (Some n) = (ys, refl)
 
-front_from : (r : Rules) (closed : List Group) (g h : Group) (more : List Group) → h.key ≡ g.key → (o : Option ℕ)
-    → number_after r None closed ≡ o
-    → IsPrefix (without_last (records_from r None closed ++ records_from r o (g ∷ [])))
-    (without_last (records_from r None closed ++ records_from r o (h ∷ more)))
-front_from r closed g h more key (Some m) e = prefix_of (records_from r None closed) _ _ (front_joined r m g h more key)
-front_from r closed g h more key None e =
-    subst (λ (l : List FrameRecord). IsPrefix (without_last (l ++ records_from r None (g ∷ [])))
-    (without_last (l ++ records_from r None (h ∷ more)))) (sym (none_before r closed e))
-    (front_first r g (without_last (records_from r None (h ∷ more))))
+front_from : (r : Rules) (closed : List Group) (g h : Group) (more : List Group) → h.key ≡ g.key → (past : List Numbered)
+    → past_after r [] closed ≡ past
+    → IsPrefix (without_last (records_from r [] closed ++ records_from r past (g ∷ [])))
+    (without_last (records_from r [] closed ++ records_from r past (h ∷ more)))
+front_from r closed g h more key (b ∷ past) e =
+    prefix_of (records_from r [] closed) _ _ (front_joined r b past g h more key)
+front_from r closed g h more key [] e =
+    subst (λ (l : List FrameRecord). IsPrefix (without_last (l ++ records_from r [] (g ∷ [])))
+    (without_last (l ++ records_from r [] (h ∷ more)))) (sym (none_before r closed e))
+    (front_first r g (without_last (records_from r [] (h ∷ more))))
 
 front_groups : (r : Rules) (closed : List Group) (g h : Group) (more : List Group) → h.key ≡ g.key
-    → IsPrefix (without_last (records_from r None (closed ++ g ∷ []))) (without_last (records_from r None (closed ++ h ∷ more)))
+    → IsPrefix (without_last (records_from r [] (closed ++ g ∷ []))) (without_last (records_from r [] (closed ++ h ∷ more)))
 front_groups r closed g h more key =
-    subst (λ (l : List FrameRecord). IsPrefix (without_last l) (without_last (records_from r None (closed ++ h ∷ more))))
-    (sym (records_append r None closed (g ∷ [])))
+    subst (λ (l : List FrameRecord). IsPrefix (without_last l) (without_last (records_from r [] (closed ++ h ∷ more))))
+    (sym (records_append r [] closed (g ∷ [])))
     (subst (λ (l : List FrameRecord).
-    IsPrefix (without_last (records_from r None closed ++ records_from r (number_after r None closed) (g ∷ [])))
-    (without_last l)) (sym (records_append r None closed (h ∷ more)))
-    (front_from r closed g h more key (number_after r None closed) refl))
+    IsPrefix (without_last (records_from r [] closed ++ records_from r (past_after r [] closed) (g ∷ [])))
+    (without_last l)) (sym (records_append r [] closed (h ∷ more)))
+    (front_from r closed g h more key (past_after r [] closed) refl))
 
-front_kept : (r : Rules) (ps qs : List Packet) → IsPrefix (without_last (records_from r None (all_groups (grouped ps))))
-    (without_last (records_from r None (all_groups (grouped (ps ++ qs)))))
+front_kept : (r : Rules) (ps qs : List Packet) → IsPrefix (without_last (records_from r [] (all_groups (grouped ps))))
+    (without_last (records_from r [] (all_groups (grouped (ps ++ qs)))))
 unfolding grouped
-front_kept r [] qs = (without_last (records_from r None (all_groups (grouped qs))), refl)
+front_kept r [] qs = (without_last (records_from r [] (all_groups (grouped qs))), refl)
 front_kept r (p ∷ ps) qs =
     let l = has_last ps [] (one_packet (key_behind None p) p) in
     let e : grouped_from no_groups ((p ∷ ps) ++ qs) ≡ grouped_from (record { closed = l.closed; under_way = Some l.last }) qs =
     grouped_append no_groups (p ∷ ps) qs ∙ ap (λ (g : Grouped). grouped_from g qs) l.is in
     let s = goes_on qs l.closed l.last in
     let f = front_groups r l.closed l.last s.group s.more s.key in
-    subst (λ (g : Grouped). IsPrefix (without_last (records_from r None (all_groups g)))
-    (without_last (records_from r None (all_groups (grouped_from no_groups ((p ∷ ps) ++ qs)))))) (sym l.is)
-    (subst (λ (gs : List Group). IsPrefix (without_last (records_from r None (l.closed ++ l.last ∷ [])))
-    (without_last (records_from r None gs))) (sym (ap all_groups e ∙ s.all_are)) f)
+    subst (λ (g : Grouped). IsPrefix (without_last (records_from r [] (all_groups g)))
+    (without_last (records_from r [] (all_groups (grouped_from no_groups ((p ∷ ps) ++ qs)))))) (sym l.is)
+    (subst (λ (gs : List Group). IsPrefix (without_last (records_from r [] (l.closed ++ l.last ∷ [])))
+    (without_last (records_from r [] gs))) (sym (ap all_groups e ∙ s.all_are)) f)
 
 pub front_law : (r : Rules) (ps qs : List Packet)
     → IsPrefix (without_last (modulated r ps)) (without_last (modulated r (ps ++ qs)))
 unfolding modulated
 front_law r ps qs =
     let kept : List Packet → List Packet = filter (is_counted r.frames) in
-    let f : IsPrefix (without_last (records_from r None (all_groups (grouped (kept ps)))))
-    (without_last (records_from r None (all_groups (grouped (kept (ps ++ qs)))))) =
-    subst (λ (l : List Packet). IsPrefix (without_last (records_from r None (all_groups (grouped (kept ps)))))
-    (without_last (records_from r None (all_groups (grouped l))))) (sym (filter-append (is_counted r.frames) ps qs))
+    let f : IsPrefix (without_last (records_from r [] (all_groups (grouped (kept ps)))))
+    (without_last (records_from r [] (all_groups (grouped (kept (ps ++ qs)))))) =
+    subst (λ (l : List Packet). IsPrefix (without_last (records_from r [] (all_groups (grouped (kept ps)))))
+    (without_last (records_from r [] (all_groups (grouped l))))) (sym (filter-append (is_counted r.frames) ps qs))
     (front_kept r (kept ps) (kept qs)) in
-    subst (λ (gs : List Group). IsPrefix (without_last (records_from r None gs))
-    (without_last (records_from r None (groups r.frames (ps ++ qs))))) (grown r.frames ps)
-    (subst (λ (gs : List Group). IsPrefix (without_last (records_from r None (all_groups (grouped (kept ps)))))
-    (without_last (records_from r None gs))) (grown r.frames (ps ++ qs)) f)
+    subst (λ (gs : List Group). IsPrefix (without_last (records_from r [] gs))
+    (without_last (records_from r [] (groups r.frames (ps ++ qs))))) (grown r.frames ps)
+    (subst (λ (gs : List Group). IsPrefix (without_last (records_from r [] (all_groups (grouped (kept ps)))))
+    (without_last (records_from r [] gs))) (grown r.frames (ps ++ qs)) f)

@@ -54,6 +54,6 @@ held_rules = record {
   network = held_network;
   frames = 2;
   named = λ g. Some 30;
-  fault = λ g n. if has_more g then None
+  fault = λ past g n. if has_more g then None
       else Some PacketMissing;
 }

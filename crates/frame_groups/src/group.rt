@@ -1,10 +1,11 @@
 // The packets of the frame under way.
-ghost use Rattle.std.specs.Prelude.{◌≡◌, ◌<◌, ◌^◌, Bool, Option, Some, IfSome, is_some, true, false};
+ghost use Rattle.std.specs.Prelude.{◌≡◌, ◌<◌, ◌^◌, ℕ, Bool, List, Option, Some, IfSome, is_some, true, false};
 ghost use Rattle.t2mi_packet.specs.T2miPacket.{Fits};
 ghost use Rattle.frame_groups.specs.declared.key.Key.{Key};
 ghost use Rattle.frame_groups.specs.Groups.{Group};
 ghost use Rattle.frame_groups.specs.Grouping.{one_packet, one_more, key_of};
-ghost use Rattle.frame_groups.specs.Modulated.{Rules};
+ghost use Rattle.frame_groups.specs.Modulated.{Numbered, Rules};
+ghost use Rattle.frame_groups.specs.Sequenced.{IsAbove, past_of};
 
 use crate::cause::MuteCause;
 use crate::key::Key;
@@ -12,8 +13,8 @@ use t2mi_packet::Packet;
 
 /// The group under way, and what decides of it.
 pub trait OpenGroup {
-    /// It stands for a group, or for none.
-    ghost holds: { Self → Option Group → Type 0 };
+    /// It stands for a group, or for none, behind groups that have numbers.
+    ghost holds: { Self → List Numbered → Option Group → Type 0 };
 
     ghost key_now: { Self → Option Key };
 
@@ -33,12 +34,15 @@ pub trait OpenGroup {
     /// The key of the group, if there is one.
     fn key(&self) -> Option<Key>
         ensures value { result ≡ key_now self.now }
-        ensures is { (g : Option Group) → holds self.now g → key_of g ≡ key_now self.now };
+        ensures is { (past : List Numbered) (g : Option Group) → holds self.now past g → key_of g ≡ key_now self.now };
 
-    /// Begins a group in place of the one that there is.
-    fn begin(&mut self, key: Key, packet: &Packet<'_>)
-        requires { Fits packet.now }
-        ensures group { holds self.new (Some (one_packet key packet.now)) }
+    /// Begins a group in place of the one that there is, behind this one if it has a number.
+    fn begin(&mut self, number: Option<u64>, key: Key, packet: &Packet<'_>)
+        requires fits { Fits packet.now }
+        requires some { is_some number ≡ true → is_some (key_now self.old) ≡ true }
+        ensures group { (past : List Numbered) (g : Option Group) → holds self.old past g
+            → ((n : ℕ) → number ≡ Some n → IsAbove past n)
+            → holds self.new (past_of past g number) (Some (one_packet key packet.now)) }
         ensures intact { is_intact self.new ≡ true }
         ensures key { key_now self.new ≡ Some key }
         ensures rules { rules self.new ≡ rules self.old };
@@ -48,7 +52,8 @@ pub trait OpenGroup {
         requires fits { Fits packet.now }
         requires some { is_some (key_now self.old) ≡ true }
         requires intact { is_intact self.old ≡ true }
-        ensures group { (h : Group) → holds self.old (Some h) → holds self.new (Some (one_more h packet.now)) }
+        ensures group { (past : List Numbered) (h : Group) → holds self.old past (Some h)
+            → holds self.new past (Some (one_more h packet.now)) }
         ensures intact { is_intact self.new ≡ true }
         ensures key { key_now self.new ≡ key_now self.old }
         ensures rules { rules self.new ≡ rules self.old };
@@ -56,13 +61,14 @@ pub trait OpenGroup {
     /// The frame that its timestamp names: below 2^31.
     fn named(&self) -> Option<u64>
         requires { is_intact self.now ≡ true }
-        ensures value { (h : Group) → holds self.now (Some h) → result ≡ (rules self.now).named h }
+        ensures value { (past : List Numbered) (h : Group) → holds self.now past (Some h) → result ≡ (rules self.now).named h }
         ensures small { IfSome result (λ n. n < 2 ^ 31) };
 
-    /// Why it is not the frame of a number.
+    /// Why it is not the frame of a number, which is above those of the groups before it.
     fn fault(&self, number: u64) -> Option<MuteCause>
         requires intact { is_intact self.now ≡ true }
         requires small { number < 2 ^ 32 }
-        ensures value { (h : Group) → holds self.now (Some h) → result ≡ (rules self.now).fault h number }
+        ensures value { (past : List Numbered) (h : Group) → holds self.now past (Some h) → IsAbove past number
+            → result ≡ (rules self.now).fault past h number }
         ensures frame { is_some result ≡ false → is_frame self.now ≡ true };
 }

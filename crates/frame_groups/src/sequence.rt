@@ -1,5 +1,5 @@
 // The records of frames, in order.
-ghost use Rattle.std.specs.Prelude.{◌≡◌, ◌<◌, ◌≤◌, ◌+◌, ◌⊎◌, ◌^◌, ℕ, List, Option, Some, None, is_some, true, false};
+ghost use Rattle.std.specs.Prelude.{◌≡◌, ◌<◌, ◌≤◌, ◌+◌, ◌⊎◌, ◌^◌, ℕ, List, [], Option, Some, None, is_some, true, false};
 ghost use Rattle.t2mi_packet.specs.declared.packet.Packet.{Packet};
 ghost use Rattle.frame_groups.specs.Groups.{Group};
 ghost use Rattle.frame_groups.specs.Modulated.{FrameRecord, join_number};
@@ -17,8 +17,9 @@ use t2mi_packet::Packet;
 // The number of a group that may be the join.
 fn join_number<G: OpenGroup>(group: &G) -> Option<u64>
     requires { G.is_intact group.now ≡ true }
-    ensures value { (h : Group) → G.holds group.now (Some h) → result ≡ join_number (G.rules group.now) h }
-    ensures passes { (h : Group) → G.holds group.now (Some h) → (n : ℕ) → result ≡ Some n → (G.rules group.now).fault h n ≡ None }
+    ensures value { (h : Group) → G.holds group.now [] (Some h) → result ≡ join_number (G.rules group.now) h }
+    ensures passes { (h : Group) → G.holds group.now [] (Some h) → (n : ℕ) → result ≡ Some n
+        → (G.rules group.now).fault [] h n ≡ None }
     ensures small { (n : ℕ) → result ≡ Some n → n < 2 ^ 31 }
     ensures frame { is_some result ≡ true → G.is_frame group.now ≡ true }
 {
@@ -116,7 +117,7 @@ impl<G: OpenGroup + Drop> Sequence<G> {
 
     /// No packet came. The group is none.
     pub fn new(group: G) -> Sequence<G>
-        requires none { G.holds group None }
+        requires none { G.holds group [] None }
         requires intact { G.is_intact group ≡ true }
         ensures stands { Keeps (G.holds result.group) (G.rules result.group) result.progress [] [] }
         ensures next { result.progress.next ≡ 0 }
@@ -173,7 +174,7 @@ impl<G: OpenGroup + Drop> Sequence<G> {
         let _key = self.group.key();
         let next_key = key_behind(Some(key), packet);
         let number = number_behind(self.group.frames(), self.progress.number, next_key);
-        self.group.begin(next_key, packet);
+        self.group.begin(self.progress.number, next_key, packet);
         self.progress.number = number;
         self.progress.closing = false;
     }
@@ -243,7 +244,7 @@ impl<G: OpenGroup + Drop> Sequence<G> {
             return true;
         }
         let Some(key) = self.group.key() else {
-            self.group.begin(key_behind(None, packet), packet);
+            self.group.begin(None, key_behind(None, packet), packet);
             self.progress.closing = false;
             return true;
         };
@@ -263,7 +264,7 @@ impl<G: OpenGroup + Drop> Sequence<G> {
         requires { waits self.old.progress ≡ true }
         ensures follows { (ps : List Packet) (given : List FrameRecord) (x : FrameRecord)
             → (k : Keeps (G.holds self.old.group) (G.rules self.old.group) self.old.progress ps given)
-            → record_now (G.rules self.old.group) k.group self.old.progress.number self.old.progress.next ≡ Some x
+            → record_now (G.rules self.old.group) k.past k.group self.old.progress.number self.old.progress.next ≡ Some x
             → Keeps (G.holds self.new.group) (G.rules self.new.group) self.new.progress ps (given ++ x ∷ []) }
         ensures group { self.new.group ≡ self.old.group }
         ensures intact { waits self.new.progress ≡ true → G.is_intact self.new.group ≡ true }

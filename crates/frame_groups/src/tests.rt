@@ -106,7 +106,7 @@ struct Held {
 }
 
 impl OpenGroup for Held {
-    ghost holds = { λ t g. IsHeld t.key t.more g };
+    ghost holds = { λ t past g. IsHeld t.key t.more g };
 
     ghost key_now = { λ t. t.key };
 
@@ -124,7 +124,8 @@ impl OpenGroup for Held {
         self.key
     }
 
-    fn begin(&mut self, key: Key, packet: &Packet<'_>) {
+    fn begin(&mut self, number: Option<u64>, key: Key, packet: &Packet<'_>) {
+        let _number = number;
         let _packet = packet;
         self.key = Some(key);
         self.more = false;

@@ -19,14 +19,17 @@ use Rattle.linked_pool.specs.Pool.{chunks_for}
 use Rattle.scheduler.specs.Shape.{FrameShape}
 use Rattle.t2mi_packet.specs.declared.packet.Packet.{Packet}
 use Rattle.t2mi_packet.specs.declared.packet.Stamp.{Stamp}
+use Rattle.frame_groups.specs.Modulated.{Numbered}
 use Rattle.frame_groups.specs.declared.cause.MuteCause.TheVariants.{PacketMissing, L1Refused, PoolFull}
 use Rattle.frame_tests.specs.Carried.{body_block, has_length, blocks_of, right_blocks, L1Parts, body_l1, l1s_of, body_stamp}
 use Rattle.frame_tests.specs.Carried.{stamps_of}
 use Rattle.frame_tests.specs.Laws.{TestsAreTallied, TallyGrows}
 use Rattle.frame_tests.specs.Tally.{Tally, all_alike, is_unlike, first_unlike, tally, alike_behind, unlike_behind, tally_need}
-use Rattle.frame_tests.specs.Tally.{tally_pool, tally_missing, tally_l1, first_late, tally_time, tally_counts, tally_blocks}
+use Rattle.frame_tests.specs.Tally.{tally_room, tally_pool, tally_missing, tally_l1, first_late, tally_time, tally_counts}
+use Rattle.frame_tests.specs.Tally.{tally_blocks}
 use Rattle.frame_tests.specs.Tally.{tally_map, tally_fault}
-use Rattle.frame_tests.specs.Tests.{unless, begins_superframe, pool_chunks, capped, pool_need, pool_test, missing_test}
+use Rattle.frame_tests.specs.Tests.{unless, begins_superframe, pool_chunks, capped, pool_need, room_test, begun_test}
+use Rattle.frame_tests.specs.Tests.{first_failure, has_count, pool_test, missing_test}
 use Rattle.frame_tests.specs.Tests.{same_parts, parts_agree, l1s_agree, l1_test, stamp_agrees, disagrees, time_test, first_shape}
 use Rattle.frame_tests.specs.Tests.{has_counts, is_known, blocks_test, map_test, packets_fault}
 
@@ -123,7 +126,7 @@ alls_same f g count h a zero l = refl
 alls_same f g count h a (suc k) l =
     ap₂ (λ (x y : Bool). x && y) (h a (omega (arith, l))) (alls_same f g count h (a + 1) k (omega (arith, l)))
 
-need_is : (c : Config) (packets : List Packet) → pool_need c packets ≡ tally_need c (tally c packets)
+pub need_is : (c : Config) (packets : List Packet) → pool_need c packets ≡ tally_need c (tally c packets)
 need_is c packets =
     let right : ℕ → ℕ = λ plp. length (right_blocks c plp packets) in
     sums_same (λ plp. right plp * chunks_for (block_bytes c plp))
@@ -131,9 +134,14 @@ need_is c packets =
     (λ plp inside. ap (λ (k : ℕ). k * chunks_for (block_bytes c plp)) (sym (at_place c right plp inside))) 0 (length c.plps)
     (omega arith)
 
-pool_is : (c : Config) (packets : List Packet) → pool_test c packets ≡ tally_pool c (tally c packets)
+room_is : (c : Config) (packets : List Packet) → room_test c packets ≡ tally_room c (tally c packets)
+unfolding room_test
+room_is c packets = ap (λ (k : ℕ). unless (nat_le k (pool_chunks c)) (PoolFull (capped k) (pool_chunks c))) (need_is c packets)
+
+pool_is : (c : Config) (past : List Numbered) (n : ℕ) (packets : List Packet) → pool_test c past n packets
+    ≡ tally_pool c past n (tally c packets)
 unfolding pool_test
-pool_is c packets = ap (λ (k : ℕ). unless (nat_le k (pool_chunks c)) (PoolFull (capped k) (pool_chunks c))) (need_is c packets)
+pool_is c past n packets = ap (option_or (first_failure (begun_test c past n) (range_with_len 0 n))) (room_is c packets)
 
 some_is : {X : Type 0} (xs : List X) → nat_lt 0 (length xs) ≡ is_some (slice_get xs 0)
 some_is [] = refl
@@ -188,20 +196,22 @@ unfolding time_test
 time_is c n packets = ap (λ (o : Option Stamp). if begins_superframe c n then option_map (disagrees c n) o else None)
     (late_is c n (tally c packets) (stamps_of packets) refl)
 
-counts_is : (c : Config) (packets : List Packet) (shape : Option FrameShape) → has_counts c packets shape
-    ≡ tally_counts c (tally c packets) shape
-counts_is c packets None = refl
-counts_is c packets (Some shape) =
+counts_is : (c : Config) (past : List Numbered) (n : ℕ) (packets : List Packet) (shape : Option FrameShape)
+    → has_counts c past n packets shape ≡ tally_counts c past n (tally c packets) shape
+counts_is c past n packets None = refl
+counts_is c past n packets (Some shape) =
     let blocks : ℕ → ℕ = λ plp. length (blocks_of c plp packets) in
-    alls_same (λ plp. blocks plp == slice_index shape.counts plp)
-    (λ plp. slice_index (map blocks (places c)) plp == slice_index shape.counts plp) (length c.plps)
-    (λ plp inside. ap (λ (k : ℕ). k == slice_index shape.counts plp) (sym (at_place c blocks plp inside))) 0 (length c.plps)
+    alls_same (λ plp. has_count c past n plp (blocks plp) (slice_index shape.counts plp))
+    (λ plp. has_count c past n plp (slice_index (map blocks (places c)) plp) (slice_index shape.counts plp)) (length c.plps)
+    (λ plp inside. ap (λ (k : ℕ). has_count c past n plp k (slice_index shape.counts plp))
+    (sym (at_place c blocks plp inside))) 0 (length c.plps)
     (omega arith)
 
-blocks_is : (c : Config) (packets : List Packet) → blocks_test c packets ≡ tally_blocks c (tally c packets)
+blocks_is : (c : Config) (past : List Numbered) (n : ℕ) (packets : List Packet) → blocks_test c past n packets
+    ≡ tally_blocks c past n (tally c packets)
 unfolding blocks_test
-blocks_is c packets = ap (λ (t : Bool). unless (t && list_all (is_known c) packets) PacketMissing)
-    (counts_is c packets (first_shape c packets))
+blocks_is c past n packets = ap (λ (t : Bool). unless (t && list_all (is_known c) packets) PacketMissing)
+    (counts_is c past n packets (first_shape c packets))
 
 map_is : (c : Config) (packets : List Packet) → map_test c packets ≡ tally_map c (tally c packets)
 unfolding map_test
@@ -209,8 +219,8 @@ map_is c packets = refl
 
 pub tests_tallied : TestsAreTallied
 unfolding packets_fault tally_fault
-tests_tallied c n packets =
-    ap₂ option_or (pool_is c packets)
+tests_tallied c past n packets =
+    ap₂ option_or (pool_is c past n packets)
     (ap₂ option_or (missing_is c n packets)
     (ap₂ option_or (l1_is c n packets)
-    (ap₂ option_or (time_is c n packets) (ap₂ option_or (blocks_is c packets) (map_is c packets)))))
+    (ap₂ option_or (time_is c n packets) (ap₂ option_or (blocks_is c past n packets) (map_is c packets)))))

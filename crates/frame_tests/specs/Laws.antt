@@ -1,7 +1,8 @@
 -- Laws of the six tests.
-use Rattle.std.specs.Prelude.{◌≡◌, ◌↔◌, ℕ, ◌%◌, ◌<◌, true, Bool, List, [], ◌∷◌, ◌++◌, length, map, slice_get, Some}
+use Rattle.std.specs.Prelude.{◌≡◌, ◌↔◌, ℕ, ◌%◌, ◌<◌, ◌==◌, true, Bool, List, [], ◌∷◌, ◌++◌, length, map, slice_get, Some}
 use Rattle.plp_config.specs.Capacity.{IsPlan}
 use Rattle.plp_config.specs.Emission.{emission}
+use Rattle.plp_config.specs.Places.{FramesStandAlone}
 use Rattle.plp_config.specs.Rules.{AllRules}
 use Rattle.plp_config.specs.declared.config.Config.{Config}
 use Rattle.scheduler.specs.Shape.{FrameShape}
@@ -15,11 +16,13 @@ use Rattle.l1_signal.specs.declared.pre.L1Pre.{L1Pre}
 use Rattle.t2mi_packet.specs.declared.packet.Packet.{Packet}
 use Rattle.t2mi_packet.specs.declared.packet.Stamp.{Stamp}
 use Rattle.frame_groups.specs.Groups.{Group}
+use Rattle.frame_groups.specs.Modulated.{Numbered}
 use Rattle.frame_groups.specs.Numbers.{frame_key}
 use Rattle.frame_tests.specs.Carried.{L1Parts, stamps_of}
 use Rattle.frame_tests.specs.MapTest.{map_passes}
 use Rattle.frame_tests.specs.Tally.{tally, tally_with, tally_fault}
 use Rattle.plp_config.specs.declared.moment.TheConstants.{MOST_FRAMES}
+use Rattle.frame_tests.specs.Tests.{room_test, pool_test, has_count}
 use Rattle.frame_tests.specs.Tests.{read_whole, same_told, conf_agrees, parts_agree, packets_fault, moment_of, named_frame}
 
 -- The test of a shape, which goes over the frames of one superframe, says whether it passes in every frame of a plan.
@@ -51,10 +54,21 @@ PartsTold = (c : Config) (n : ℕ) (l1 : L1Parts) → (parts_agree c n l1 ≡ tr
 
 -- The tests are those of the tally, which each packet changes by itself.
 abbrev pub TestsAreTallied : Type 0
-TestsAreTallied = (c : Config) (n : ℕ) (packets : List Packet) → packets_fault c n packets ≡ tally_fault c n (tally c packets)
+TestsAreTallied = (c : Config) (past : List Numbered) (n : ℕ) (packets : List Packet) → packets_fault c past n packets
+    ≡ tally_fault c past n (tally c packets)
 
 abbrev pub TallyGrows : Type 0
 TallyGrows = (c : Config) (packets : List Packet) (p : Packet) → tally c (packets ++ p ∷ []) ≡ tally_with c (tally c packets) p
+
+-- The groups before decide nothing: there is room if the group has it, and a PLP has as many blocks as told if it has them in the
+-- group.
+pub record AreAlone (c : Config) (past : List Numbered) (n : ℕ) (packets : List Packet) : Type 0 where
+  pub room : pool_test c past n packets ≡ room_test c packets
+  pub counts : (plp own told : ℕ) → plp < length c.plps → has_count c past n plp own told ≡ (own == told)
+
+-- So it is if every interleaving frame is carried by one frame.
+abbrev pub TestsAlone : Type 0
+TestsAlone = (c : Config) (past : List Numbered) (n : ℕ) (packets : List Packet) → FramesStandAlone c → AreAlone c past n packets
 
 -- The group's first timestamp tells the emission of frame n, which has the group's key.
 pub record IsNamed (c : Config) (g : Group) (n : ℕ) : Type 0 where

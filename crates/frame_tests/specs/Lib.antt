@@ -1,4 +1,5 @@
 pub mod Carried
+pub mod Begun
 pub mod MapTest
 pub mod Tests
 pub mod Tally

@@ -1,7 +1,7 @@
 -- What the tests need of packets, packet by packet: two numbers for each PLP, one L1-current, two timestamps and two answers.
 use Rattle.std.specs.Prelude.{ℕ, ◌+◌, ◌*◌, ◌==◌, ◌&&◌, ◌||◌, not, nat_le, is_some, Bool, true, false, List, [], ◌∷◌, length, map}
 use Rattle.std.specs.Prelude.{sum_by, slice_get, slice_index, Option, Some, None, option_map, if◌then◌else◌}
-use Rattle.std.specs.List.{find, list_all}
+use Rattle.std.specs.List.{find, list_all, range_with_len}
 use Rattle.std.specs.Option.{option_or, option_and_then, option_map_or}
 use Rattle.plp_config.specs.Places.{places}
 use Rattle.plp_config.specs.Capacity.{block_bytes}
@@ -10,11 +10,12 @@ use Rattle.linked_pool.specs.Pool.{chunks_for}
 use Rattle.scheduler.specs.Shape.{FrameShape}
 use Rattle.t2mi_packet.specs.declared.packet.Packet.{Packet}
 use Rattle.t2mi_packet.specs.declared.packet.Stamp.{Stamp}
+use Rattle.frame_groups.specs.Modulated.{Numbered}
 use Rattle.frame_groups.specs.declared.cause.MuteCause.{MuteCause}
 use Rattle.frame_groups.specs.declared.cause.MuteCause.TheVariants.{PacketMissing, L1Refused, MapRefused, PoolFull}
 use Rattle.frame_tests.specs.Carried.{blocks_of, right_blocks, L1Parts, l1s_of, stamps_of}
 use Rattle.frame_tests.specs.Tests.{unless, begins_superframe, pool_chunks, capped, same_parts, parts_agree, l1_shape}
-use Rattle.frame_tests.specs.Tests.{stamp_agrees, disagrees, is_known, has_map}
+use Rattle.frame_tests.specs.Tests.{stamp_agrees, disagrees, is_known, has_map, begun_test, first_failure, has_count}
 
 pub record Tally : Type 0 where
   pub right : List ℕ  -- of each PLP, its blocks that have its length
@@ -76,8 +77,11 @@ abbrev pub tally_need : Config → Tally → ℕ
 tally_need c t = sum_by (λ plp. slice_index t.right plp * chunks_for (block_bytes c plp)) (places c)
 
 -- a
-abbrev pub tally_pool : Config → Tally → Option MuteCause
-tally_pool c t = unless (nat_le (tally_need c t) (pool_chunks c)) (PoolFull (capped (tally_need c t)) (pool_chunks c))
+abbrev pub tally_room : Config → Tally → Option MuteCause
+tally_room c t = unless (nat_le (tally_need c t) (pool_chunks c)) (PoolFull (capped (tally_need c t)) (pool_chunks c))
+
+abbrev pub tally_pool : Config → List Numbered → ℕ → Tally → Option MuteCause
+tally_pool c past n t = option_or (first_failure (begun_test c past n) (range_with_len 0 n)) (tally_room c t)
 
 -- b
 abbrev pub tally_missing : Config → ℕ → Tally → Option MuteCause
@@ -95,22 +99,23 @@ abbrev pub tally_time : Config → ℕ → Tally → Option MuteCause
 tally_time c n t = if begins_superframe c n then option_map (disagrees c n) (option_and_then (first_late c n t) t.stamp) else None
 
 -- e
-abbrev pub tally_counts : Config → Tally → Option FrameShape → Bool
-tally_counts c t None = false
-tally_counts c t (Some shape) = list_all (λ plp. slice_index t.blocks plp == slice_index shape.counts plp) (places c)
+abbrev pub tally_counts : Config → List Numbered → ℕ → Tally → Option FrameShape → Bool
+tally_counts c past n t None = false
+tally_counts c past n t (Some shape) = list_all
+    (λ plp. has_count c past n plp (slice_index t.blocks plp) (slice_index shape.counts plp)) (places c)
 
 abbrev pub tally_shape : Config → Tally → Option FrameShape
 tally_shape c t = option_and_then (l1_shape c) t.l1
 
-abbrev pub tally_blocks : Config → Tally → Option MuteCause
-tally_blocks c t = unless (tally_counts c t (tally_shape c t) && t.known) PacketMissing
+abbrev pub tally_blocks : Config → List Numbered → ℕ → Tally → Option MuteCause
+tally_blocks c past n t = unless (tally_counts c past n t (tally_shape c t) && t.known) PacketMissing
 
 -- f
 abbrev pub tally_map : Config → Tally → Option MuteCause
 tally_map c t = unless (has_map c (tally_shape c t)) MapRefused
 
-unfoldable pub tally_fault : Config → ℕ → Tally → Option MuteCause
-tally_fault c n t =
-    option_or (tally_pool c t)
+unfoldable pub tally_fault : Config → List Numbered → ℕ → Tally → Option MuteCause
+tally_fault c past n t =
+    option_or (tally_pool c past n t)
     (option_or (tally_missing c n t)
-    (option_or (tally_l1 c n t) (option_or (tally_time c n t) (option_or (tally_blocks c t) (tally_map c t)))))
+    (option_or (tally_l1 c n t) (option_or (tally_time c n t) (option_or (tally_blocks c past n t) (tally_map c t)))))

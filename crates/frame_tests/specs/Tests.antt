@@ -5,10 +5,11 @@ use Rattle.std.specs.Prelude.{List, [], ◌∷◌, length, map, sum_by, slice_ge
 use Rattle.std.specs.Prelude.{if◌then◌else◌}
 use Rattle.std.specs.Bool.{beq}
 use Rattle.std.specs.Cmp.Lexicographic.{pointwise}
-use Rattle.std.specs.List.{find, list_any, list_all}
+use Rattle.std.specs.List.{find, list_any, list_all, range_with_len}
 use Rattle.std.specs.Option.{option_or, option_and_then}
 use Rattle.plp_config.specs.Capacity.{block_bytes}
 use Rattle.plp_config.specs.Emission.{emission, subseconds_by, origin, frame_subseconds}
+use Rattle.plp_config.specs.InterleavingFrames.{is_first, begin_of}
 use Rattle.plp_config.specs.Places.{places}
 use Rattle.plp_config.specs.Plps.{plp_at}
 use Rattle.plp_config.specs.Tables.{bw, subseconds_per_second}
@@ -31,12 +32,13 @@ use Rattle.t2mi_packet.specs.declared.packet.Body.TheVariants.{Block, L1Current,
 use Rattle.t2mi_packet.specs.declared.packet.Packet.{Packet}
 use Rattle.t2mi_packet.specs.declared.packet.Stamp.{Stamp}
 use Rattle.frame_groups.specs.Groups.{Group, is_same}
-use Rattle.frame_groups.specs.Modulated.{Rules}
+use Rattle.frame_groups.specs.Modulated.{Numbered, Rules}
 use Rattle.frame_groups.specs.Numbers.{frame_key}
 use Rattle.frame_groups.specs.declared.cause.MuteCause.{MuteCause}
 use Rattle.frame_groups.specs.declared.cause.MuteCause.TheVariants.{PacketMissing, L1Refused, MapRefused, PoolFull, TimeDisagrees}
 use Rattle.frame_groups.specs.declared.key.Key.{Key}
 use Rattle.frame_tests.specs.Carried.{has_length, blocks_of, right_blocks, L1Parts, l1s_of, stamps_of}
+use Rattle.frame_tests.specs.Begun.{is_begin, packets_at}
 use Rattle.frame_tests.specs.MapTest.{map_passes}
 
 -- a test: nothing if it holds
@@ -61,10 +63,24 @@ greatest = 2 ^ 64 - 1
 abbrev pub capped : ℕ → ℕ
 capped n = min n greatest
 
--- a: these blocks have room
-unfoldable pub pool_test : Config → List Packet → Option MuteCause
-pool_test c packets =
+-- the blocks of packets that have their length have room
+unfoldable pub room_test : Config → List Packet → Option MuteCause
+room_test c packets =
     unless (nat_le (pool_need c packets) (pool_chunks c)) (PoolFull (capped (pool_need c packets)) (pool_chunks c))
+
+-- so have those of the group of frame b, if an interleaving frame begins there that frame n carries
+abbrev pub begun_test : Config → List Numbered → ℕ → ℕ → Option MuteCause
+begun_test c past n b = if is_begin c n b then room_test c (packets_at past b) else None
+
+-- the first test that fails
+abbrev pub first_failure : {X : Type 0} → (X → Option MuteCause) → List X → Option MuteCause
+first_failure test [] = None
+first_failure test (x ∷ xs) = option_or (test x) (first_failure test xs)
+
+-- a: in order of number, the blocks of each group have room in which an interleaving frame begins that frame n carries, and last
+-- those of the group itself
+unfoldable pub pool_test : Config → List Numbered → ℕ → List Packet → Option MuteCause
+pool_test c past n packets = option_or (first_failure (begun_test c past n) (range_with_len 0 n)) (room_test c packets)
 
 -- b: there is an L1-current, and a timestamp if a superframe begins (clauses 5.2.4 and 5.2.7)
 unfoldable pub missing_test : Config → ℕ → List Packet → Option MuteCause
@@ -144,10 +160,21 @@ l1_shape c l1 = option_map told_shape (read_dynamic c l1)
 abbrev pub first_shape : Config → List Packet → Option FrameShape
 first_shape c packets = option_and_then (l1_shape c) (slice_get (l1s_of packets) 0)
 
+-- packets have so many blocks of a PLP, each of its length
+abbrev pub has_begun : Config → ℕ → List Packet → ℕ → Bool
+has_begun c plp packets told = (length (blocks_of c plp packets) == told) && (length (right_blocks c plp packets) == told)
+
+-- with so many blocks in the group, a PLP has as many as told: in the group, if an interleaving frame begins in frame n; else it
+-- has none there, and those of its interleaving frame in the group of the frame in which that one begins
+abbrev pub has_count : Config → List Numbered → ℕ → ℕ → ℕ → ℕ → Bool
+has_count c past n plp own told = if is_first c plp n then own == told
+    else (own == 0) && has_begun c plp (packets_at past (begin_of c plp n)) told
+
 -- each PLP has as many blocks as a shape tells
-abbrev pub has_counts : Config → List Packet → Option FrameShape → Bool
-has_counts c packets None = false
-has_counts c packets (Some shape) = list_all (λ plp. length (blocks_of c plp packets) == slice_index shape.counts plp) (places c)
+abbrev pub has_counts : Config → List Numbered → ℕ → List Packet → Option FrameShape → Bool
+has_counts c past n packets None = false
+has_counts c past n packets (Some shape) = list_all
+    (λ plp. has_count c past n plp (length (blocks_of c plp packets)) (slice_index shape.counts plp)) (places c)
 
 -- if a packet carries a block, it is one of a PLP, with its length
 abbrev pub body_known : Config → Body → Bool
@@ -161,8 +188,9 @@ abbrev pub is_known : Config → Packet → Bool
 is_known c p = body_known c p.body
 
 -- e: there are as many blocks as the first L1-current tells, and no others
-unfoldable pub blocks_test : Config → List Packet → Option MuteCause
-blocks_test c packets = unless (has_counts c packets (first_shape c packets) && list_all (is_known c) packets) PacketMissing
+unfoldable pub blocks_test : Config → List Numbered → ℕ → List Packet → Option MuteCause
+blocks_test c past n packets = unless (has_counts c past n packets (first_shape c packets) && list_all (is_known c) packets)
+    PacketMissing
 
 -- f: the cells of the blocks that it tells stand apart, in the frame
 abbrev pub has_map : Config → Option FrameShape → Bool
@@ -172,16 +200,16 @@ has_map c (Some shape) = map_passes c shape
 unfoldable pub map_test : Config → List Packet → Option MuteCause
 map_test c packets = unless (has_map c (first_shape c packets)) MapRefused
 
--- why the packets are not those of frame n: the first test that fails, in their order
-unfoldable pub packets_fault : Config → ℕ → List Packet → Option MuteCause
-packets_fault c n packets =
-    option_or (pool_test c packets)
+-- why packets are not those of frame n, behind groups that have numbers: the first test that fails, in their order
+unfoldable pub packets_fault : Config → List Numbered → ℕ → List Packet → Option MuteCause
+packets_fault c past n packets =
+    option_or (pool_test c past n packets)
     (option_or (missing_test c n packets)
     (option_or (l1_test c n packets)
-    (option_or (time_test c n packets) (option_or (blocks_test c packets) (map_test c packets)))))
+    (option_or (time_test c n packets) (option_or (blocks_test c past n packets) (map_test c packets)))))
 
-abbrev pub group_fault : Config → Group → ℕ → Option MuteCause
-group_fault c g n = packets_fault c n g.packets
+abbrev pub group_fault : Config → List Numbered → Group → ℕ → Option MuteCause
+group_fault c past g n = packets_fault c past n g.packets
 
 -- the moment that a timestamp tells
 abbrev pub moment_of : Stamp → Moment

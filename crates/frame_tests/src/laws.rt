@@ -1,9 +1,10 @@
 // Laws of the definitions. Their functions do nothing.
 ghost use Rattle.frame_tests.specs.Laws.{MapPasses, PreValues, ConfTold, PartsTold, TestsAreTallied, TallyGrows, FrameNamed};
+ghost use Rattle.frame_tests.specs.Laws.{TestsAlone};
 
 use cell_map::map_law;
 use l1_signal::{conf_law, dyn_law, pre_law};
-use plp_config::emission_law;
+use plp_config::{emission_law, interleaving_law};
 
 /// The test of a shape says whether it passes, of a plan.
 pub fn map_test_law()
@@ -28,6 +29,13 @@ pub fn tally_law()
     ensures tests { TestsAreTallied }
     ensures grows { TallyGrows }
 {}
+
+/// If every interleaving frame is carried by one frame, the groups before decide nothing.
+pub fn alone_law()
+    ensures { TestsAlone }
+{
+    interleaving_law();
+}
 
 /// The frame that a group names is the one with the emission of its first timestamp and with its key.
 pub fn named_law()

@@ -8,6 +8,6 @@ mod map;
 mod network;
 
 pub use l1::{is_network_conf, is_of_frame, is_pre, read_dynamic, tell_shape};
-pub use laws::{map_test_law, named_law, parts_law, tally_law};
+pub use laws::{alone_law, map_test_law, named_law, parts_law, tally_law};
 pub use map::map_passes;
 pub use network::Network;

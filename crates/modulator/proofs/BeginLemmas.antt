@@ -7,7 +7,7 @@ use Rattle.terms.proofs.OptionLemmas.{some_injective, none_some}
 use Rattle.t2mi_packet.specs.declared.packet.Packet.{Packet}
 use Rattle.t2mi_stream.specs.declared.unpiper.Unpiper.{Unpiper}
 use Rattle.frame_groups.specs.Groups.{Group}
-use Rattle.frame_groups.specs.Modulated.{Rules, FrameRecord}
+use Rattle.frame_groups.specs.Modulated.{Numbered, Rules, FrameRecord}
 use Rattle.frame_groups.specs.Records.{record_of}
 use Rattle.frame_groups.specs.Sequenced.{Sequenced}
 use Rattle.frame_groups.specs.Waits.{waiting_by, waiting_of}
@@ -73,20 +73,23 @@ pub waits_for : (at : Progress) (w : Waiting) → waiting_of at ≡ Some w → W
 waits_for at w e = own_by at.number at.next at.closing at.fault w e
 
 -- the own record of a group is not muted only if the group passes
-passes : (r : Rules) (g : Option Group) (at : Progress) (ps : List Packet) (given : List FrameRecord) (h : Group) (w : Waiting)
-    → Sequenced r g at.number at.next at.closing at.fault ps given → g ≡ Some h → IsOwn at w → w.mute ≡ None
-    → r.fault h w.frame ≡ None
-passes r None at ps given h w s e own none = none_some h e
-passes r (Some k) at ps given h w (closed, a, f) e own none =
-    subst (λ (k : Group). r.fault k w.frame ≡ None) (some_injective k h e) (sym (f.fault_is own.closing w.frame own.number)
+passes : (r : Rules) (past : List Numbered) (g : Option Group) (at : Progress) (ps : List Packet) (given : List FrameRecord)
+    (h : Group) (w : Waiting)
+    → Sequenced r past g at.number at.next at.closing at.fault ps given → g ≡ Some h → IsOwn at w → w.mute ≡ None
+    → r.fault past h w.frame ≡ None
+passes r past None at ps given h w s e own none = none_some h e
+passes r past (Some k) at ps given h w (closed, a, f) e own none =
+    subst (λ (k : Group). r.fault past k w.frame ≡ None) (some_injective k h e) (sym (f.fault_is own.closing w.frame own.number)
     ∙ own.fault ∙ none)
 
 -- what is begun of the record that waits
-pub begun_gives : (Old New : Option Group → Type 0) (key other : Option Key) (r s : Rules) (spelled : FrameRecord → List ℕ)
+pub begun_gives : (Old New : List Numbered → Option Group → Type 0) (key other : Option Key) (r s : Rules)
+    (spelled : FrameRecord → List ℕ)
     (at : Progress) (left : List ℕ) (u : Unpiper) (finished : Bool) (pid : ℕ) (bytes : List ℕ) (given : List FrameRecord)
     (taken : List ℕ)
-    → ((g : Option Group) → Old g → New g) → other ≡ key → s ≡ r
-    → ((w : Waiting) (h : Group) → waiting_of at ≡ Some w → Old (Some h) → (w.mute ≡ None → r.fault h w.frame ≡ None)
+    → ((past : List Numbered) (g : Option Group) → Old past g → New past g) → other ≡ key → s ≡ r
+    → ((w : Waiting) (past : List Numbered) (h : Group) → waiting_of at ≡ Some w → Old past (Some h)
+    → (w.mute ≡ None → r.fault past h w.frame ≡ None)
     → left ≡ spelled (record_of h w))
     → Stands Old key r at u finished pid bytes given → taken ≡ flat_map spelled given
     → Gives New other s spelled at left u finished pid bytes taken
@@ -101,7 +104,12 @@ begun_gives Old New key other r s spelled at left u finished pid bytes given tak
             stands = st.stands;
             fed_is = st.fed_is;
             few = st.few;
-            keeps = record { group = st.keeps.group; holds = on st.keeps.group st.keeps.holds; sequenced = st.keeps.sequenced };
+            keeps = record {
+              past = st.keeps.past;
+              group = st.keeps.group;
+              holds = on st.keeps.past st.keeps.group st.keeps.holds;
+              sequenced = st.keeps.sequenced;
+            };
             ahead = st.ahead;
           };
       took =
@@ -109,8 +117,9 @@ begun_gives Old New key other r s spelled at left u finished pid bytes given tak
             part = [];
             taken_is = e ∙ sym (append-nil (flat_map spelled given));
             rest = λ w i h k.
-                sym (begun w h i (subst Old k st.keeps.holds)
-                (λ none. passes r st.keeps.group at _ given h w st.keeps.sequenced k ((waits_for at w i).own none) none));
+                sym (begun w st.keeps.past h i (subst (Old st.keeps.past) k st.keeps.holds)
+                (λ none. passes r st.keeps.past st.keeps.group at _ given h w st.keeps.sequenced k
+                ((waits_for at w i).own none) none));
             idle = λ _. refl;
           };
     }))

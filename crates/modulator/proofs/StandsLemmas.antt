@@ -12,7 +12,7 @@ use Rattle.frame_groups.specs.Groups.{Group, is_counted}
 use Rattle.frame_groups.specs.Grouping.{key_of}
 use Rattle.frame_groups.specs.declared.key.Key.{Key}
 use Rattle.frame_groups.specs.declared.waiting.Progress.{Progress}
-use Rattle.frame_groups.specs.Modulated.{Rules, FrameRecord, modulated}
+use Rattle.frame_groups.specs.Modulated.{Numbered, Rules, FrameRecord, modulated}
 use Rattle.frame_groups.specs.Laws.{without_last, ModulatedFront}
 use Rattle.frame_groups.specs.Due.{due, ComesNext, DueLaw, RecordsAreDue}
 use Rattle.frame_groups.specs.Records.{record_of}
@@ -50,13 +50,13 @@ ends_kept r None p e = absurd e
 ends_kept r (Some k) p e = e.0
 
 -- the records of what is kept
-the_law : (laws : RecordsAreDue) (Holds : Option Group → Type 0) (r : Rules) (at : Progress) (ps : List Packet)
-    (given : List FrameRecord) → (k : Keeps Holds r at ps given) → DueLaw r k.group at ps given
-the_law laws Holds r at ps given k = laws r k.group at ps given k.sequenced
+the_law : (laws : RecordsAreDue) (Holds : List Numbered → Option Group → Type 0) (r : Rules) (at : Progress) (ps : List Packet)
+    (given : List FrameRecord) → (k : Keeps Holds r at ps given) → DueLaw r k.past k.group at ps given
+the_law laws Holds r at ps given k = laws r k.past k.group at ps given k.sequenced
 
 -- the key of the group that is kept
-abbrev pub HasKey : (Option Group → Type 0) → Option Key → Type 0
-HasKey Holds key = (g : Option Group) → Holds g → key_of g ≡ key
+abbrev pub HasKey : (List Numbered → Option Group → Type 0) → Option Key → Type 0
+HasKey Holds key = (past : List Numbered) (g : Option Group) → Holds past g → key_of g ≡ key
 
 -- a packet was worked off
 worked_more : (push : EventsPush) (pid : ℕ) (events : List UnpiperEvent) (a : AcceptedPacket) → next_packet pid events ≡ Some a
@@ -73,7 +73,8 @@ worked_more push pid events a e =
           (omega (arith, n, t.1)),
     )
 
-pub stepped : (push : EventsPush) (Old New : Option Group → Type 0) (key other : Option Key) (r s : Rules) (at to : Progress)
+pub stepped : (push : EventsPush) (Old New : List Numbered → Option Group → Type 0) (key other : Option Key) (r s : Rules)
+    (at to : Progress)
     (u v : Unpiper) (finished : Bool) (pid : ℕ) (bytes : List ℕ) (given : List FrameRecord) (seen : List ℕ)
     → is_ready u ≡ true
     → ((pid : ℕ) (events : List UnpiperEvent) → UnpiperStandsFor u pid events → option_map (λ a. a.bytes) (next_packet pid events)
@@ -112,7 +113,8 @@ get_past (x ∷ xs) zero e = absurd (omega (arith, e))
 get_past (x ∷ xs) (suc n) e = get_past xs n (omega (arith, e))
 
 -- if no packet waits and more bytes may come, the group is not closed
-pub not_closing : (Holds : Option Group → Type 0) (key : Option Key) (r : Rules) (at : Progress) (u : Unpiper) (pid : ℕ)
+pub not_closing : (Holds : List Numbered → Option Group → Type 0) (key : Option Key) (r : Rules) (at : Progress) (u : Unpiper)
+    (pid : ℕ)
     (bytes : List ℕ) (given : List FrameRecord)
     → (h : Stands Holds key r at u false pid bytes given) → AllReleased pid h.events → at.closing ≡ true → ⊥
 not_closing Holds key r at u pid bytes given h all c = ⊎_elim
@@ -122,7 +124,8 @@ not_closing Holds key r at u pid bytes given h all c = ⊎_elim
     (h.ahead c)
 
 -- bytes were fed
-pub fed_more : (front : AcceptedFront) (push : EventsPush) (Holds : Option Group → Type 0) (key : Option Key) (r : Rules)
+pub fed_more : (front : AcceptedFront) (push : EventsPush) (Holds : List Numbered → Option Group → Type 0) (key : Option Key)
+    (r : Rules)
     (at : Progress) (u v : Unpiper) (pid : ℕ) (bytes piece : List ℕ) (given : List FrameRecord)
     → ((pid : ℕ) (events : List UnpiperEvent) → UnpiperStandsFor u pid events → AllReleased pid events)
     → ((pid : ℕ) (events : List UnpiperEvent) → UnpiperStandsFor u pid events → UnpiperStandsFor v pid (events ++ Fed piece ∷ []))
@@ -151,7 +154,8 @@ fed_more front push Holds key r at u v pid bytes piece given none goes h =
     }
 
 -- a packet closed the group, and waits
-pub held : (Old New : Option Group → Type 0) (key other : Option Key) (r s : Rules) (at to : Progress) (u : Unpiper)
+pub held : (Old New : List Numbered → Option Group → Type 0) (key other : Option Key) (r s : Rules) (at to : Progress)
+    (u : Unpiper)
     (finished : Bool) (pid : ℕ) (bytes : List ℕ) (given : List FrameRecord) (seen : List ℕ)
     → ((pid : ℕ) (events : List UnpiperEvent) → UnpiperStandsFor u pid events → option_map (λ a. a.bytes) (next_packet pid events)
     ≡ Some seen)
@@ -207,14 +211,15 @@ rest_of pid events =
     (drop (released events) (accepted_of pid (fed events)))
 
 -- no record waits, nor a packet: all that are due were given
-pub all_given : (laws : RecordsAreDue) (Holds : Option Group → Type 0) (key : Option Key) (r : Rules) (at : Progress)
+pub all_given : (laws : RecordsAreDue) (Holds : List Numbered → Option Group → Type 0) (key : Option Key) (r : Rules)
+    (at : Progress)
     (u : Unpiper) (finished : Bool) (pid : ℕ) (bytes : List ℕ) (given : List FrameRecord)
     → HasKey Holds key → ((pid : ℕ) (events : List UnpiperEvent) → UnpiperStandsFor u pid events → AllReleased pid events)
     → (finished ≡ true → at.closing ≡ false → is_some key ≡ false) → waits at ≡ false
     → Stands Holds key r at u finished pid bytes given → due_by r finished pid bytes ≡ given
 all_given laws Holds key r at u finished pid bytes given has none end w h = go finished at.closing refl refl
   where
-    law : DueLaw r h.keeps.group at (worked pid h.events) given
+    law : DueLaw r h.keeps.past h.keeps.group at (worked pid h.events) given
     law = the_law laws Holds r at (worked pid h.events) given h.keeps
 
     all : packets_of (accepted_of pid bytes) ≡ worked pid h.events
@@ -224,7 +229,7 @@ all_given laws Holds key r at u finished pid bytes given has none end w h = go f
     go : (f c : Bool) → finished ≡ f → at.closing ≡ c → due_by r finished pid bytes ≡ given
     go true true e k = ap₂ (λ (t : Bool) (ps : List Packet). due r t ps) (e ∙ sym k) all ∙ law.idle w
     go true false e k = ap₂ (λ (t : Bool) (ps : List Packet). due r t ps) e all
-        ∙ law.none (none_of h.keeps.group key (has h.keeps.group h.keeps.holds) (end e k))
+        ∙ law.none (none_of h.keeps.group key (has h.keeps.past h.keeps.group h.keeps.holds) (end e k))
     go false false e k = ap₂ (λ (t : Bool) (ps : List Packet). due r t ps) (e ∙ sym k) all ∙ law.idle w
     go false true e k =
         absurd (not_closing Holds key r at u pid bytes given (subst (λ (f : Bool). Stands Holds key r at u f pid bytes given) e h)
@@ -235,7 +240,8 @@ all_given laws Holds key r at u finished pid bytes given has none end w h = go f
         none_in e = none pid _ (subst (λ (f : Bool). Stands Holds key r at u f pid bytes given) e h).stands
 
 -- the record that waits comes next of all that are due
-pub comes_next : (laws : RecordsAreDue) (front : ModulatedFront) (Holds : Option Group → Type 0) (key : Option Key) (r : Rules)
+pub comes_next : (laws : RecordsAreDue) (front : ModulatedFront) (Holds : List Numbered → Option Group → Type 0)
+    (key : Option Key) (r : Rules)
     (at : Progress) (u : Unpiper) (finished : Bool) (pid : ℕ) (bytes : List ℕ) (given : List FrameRecord) (w : Waiting)
     (group : Group)
     → HasKey Holds key → (is_ready u ≡ false → (pid : ℕ) (events : List UnpiperEvent) → UnpiperStandsFor u pid events
@@ -244,13 +250,13 @@ pub comes_next : (laws : RecordsAreDue) (front : ModulatedFront) (Holds : Option
     → ComesNext (due_by r finished pid bytes) given (record_of group w)
 comes_next laws front Holds key r at u finished pid bytes given w group has none is h gs = go at.closing refl
   where
-    law : DueLaw r h.keeps.group at (worked pid h.events) given
+    law : DueLaw r h.keeps.past h.keeps.group at (worked pid h.events) given
     law = the_law laws Holds r at (worked pid h.events) given h.keeps
 
     waits_now : waits at ≡ true
     waits_now = ap is_some is
 
-    it : (x : FrameRecord) → record_now r h.keeps.group at.number at.next ≡ Some x → x ≡ record_of group w
+    it : (x : FrameRecord) → record_now r h.keeps.past h.keeps.group at.number at.next ≡ Some x → x ≡ record_of group w
     it x e = some_injective x (record_of group w) (sym e ∙ law.told group gs w is)
 
     fed_packets_of : packets_of (accepted_of pid bytes) ≡ packets_of (accepted_of pid (fed h.events))
@@ -285,7 +291,7 @@ comes_next laws front Holds key r at u finished pid bytes given w group has none
         (map-append (λ (a : AcceptedPacket). packet_of a.bytes) (take (released h.events) (accepted_of pid (fed h.events)))
         (x.0 ∷ [])) in
         let d = law.closed c (packet_of x.0.bytes)
-        (subst (λ (o : Option Key). Ends r o (packet_of x.0.bytes)) (sym (has h.keeps.group h.keeps.holds)) x.2) in
+        (subst (λ (o : Option Key). Ends r o (packet_of x.0.bytes)) (sym (has h.keeps.past h.keeps.group h.keeps.holds)) x.2) in
         next_by (worked pid h.events ++ packet_of x.0.bytes ∷ []) _ (due r true (worked pid h.events)) d.0 n.0 e d.1 n.2)
         (λ (x : (finished ≡ true) × (is_ready u ≡ false)).
         let all = fed_packets_of ∙ sym (all_worked pid h.events (none x.1 pid h.events h.stands)) in
@@ -295,12 +301,12 @@ comes_next laws front Holds key r at u finished pid bytes given w group has none
         (h.ahead c))
 
 -- a record was given
-pub record_gave : (laws : RecordsAreDue) (Old New : Option Group → Type 0) (key other : Option Key) (r s : Rules)
+pub record_gave : (laws : RecordsAreDue) (Old New : List Numbered → Option Group → Type 0) (key other : Option Key) (r s : Rules)
     (at to : Progress) (u : Unpiper) (finished : Bool) (pid : ℕ) (bytes : List ℕ) (given : List FrameRecord) (w : Waiting)
     (group : Group)
     → waiting_of at ≡ Some w → other ≡ key → s ≡ r → to.closing ≡ at.closing
     → ((ps : List Packet) (given : List FrameRecord) (x : FrameRecord) (k : Keeps Old r at ps given)
-    → record_now r k.group at.number at.next ≡ Some x → Keeps New s to ps (given ++ x ∷ []))
+    → record_now r k.past k.group at.number at.next ≡ Some x → Keeps New s to ps (given ++ x ∷ []))
     → (h : Stands Old key r at u finished pid bytes given) → h.keeps.group ≡ Some group
     → Stands New other s to u finished pid bytes (given ++ record_of group w ∷ [])
 record_gave laws Old New key other r s at to u finished pid bytes given w group is same rules closing gave h gs =
@@ -316,7 +322,8 @@ record_gave laws Old New key other r s at to u finished pid bytes given w group 
     }
 
 -- no more bytes come
-pub no_more : (Holds : Option Group → Type 0) (key : Option Key) (r : Rules) (at : Progress) (u : Unpiper) (pid : ℕ)
+pub no_more : (Holds : List Numbered → Option Group → Type 0) (key : Option Key) (r : Rules) (at : Progress) (u : Unpiper)
+    (pid : ℕ)
     (bytes : List ℕ) (given : List FrameRecord)
     → Stands Holds key r at u false pid bytes given → Stands Holds key r at u true pid bytes given
 no_more Holds key r at u pid bytes given h = record {
@@ -332,7 +339,8 @@ no_more Holds key r at u pid bytes given h = record {
 }
 
 -- the last group is closed
-pub last_closed : (Old New : Option Group → Type 0) (key other : Option Key) (r s : Rules) (at to : Progress) (u : Unpiper)
+pub last_closed : (Old New : List Numbered → Option Group → Type 0) (key other : Option Key) (r s : Rules) (at to : Progress)
+    (u : Unpiper)
     (pid : ℕ) (bytes : List ℕ) (given : List FrameRecord)
     → is_ready u ≡ false → ((ps : List Packet) (given : List FrameRecord) → Keeps Old r at ps given → Keeps New s to ps given)
     → Stands Old key r at u true pid bytes given → Stands New other s to u true pid bytes given
@@ -360,7 +368,7 @@ piece_on bytes piece count more = append_assoc bytes (take count piece) (take mo
     ∙ ap (λ (l : List ℕ). bytes ++ l) (sym (take-add count more piece))
 
 -- bytes with which no packet was accepted: still all that is due was given
-pub fed_idle : (laws : RecordsAreDue) (front : AcceptedFront) (push : EventsPush) (Holds : Option Group → Type 0)
+pub fed_idle : (laws : RecordsAreDue) (front : AcceptedFront) (push : EventsPush) (Holds : List Numbered → Option Group → Type 0)
     (key : Option Key) (r : Rules) (at : Progress) (u : Unpiper) (pid : ℕ) (bytes piece : List ℕ) (given : List FrameRecord)
     → ((pid : ℕ) (events : List UnpiperEvent) → UnpiperStandsFor u pid events → AllReleased pid events)
     → ((pid : ℕ) (events : List UnpiperEvent) → UnpiperStandsFor u pid events → AllReleased pid (events ++ Fed piece ∷ []))

@@ -6,7 +6,7 @@ use Rattle.std.proofs.lemmas.Bool.{true≢false}
 use Rattle.std.proofs.lemmas.List.Concat.{flat_map-append}
 use Rattle.t2mi_packet.specs.declared.packet.Packet.{Packet}
 use Rattle.frame_groups.specs.Groups.{Group}
-use Rattle.frame_groups.specs.Modulated.{Rules, FrameRecord}
+use Rattle.frame_groups.specs.Modulated.{Numbered, Rules, FrameRecord}
 use Rattle.frame_groups.specs.Laws.{IsPrefix, ModulatedFront}
 use Rattle.frame_groups.specs.Due.{RecordsAreDue}
 use Rattle.frame_groups.specs.Records.{record_of}
@@ -33,23 +33,25 @@ some_of : {X : Type 0} (o : Option X) → is_some o ≡ true → (x : X) × (o �
 some_of None e = absurd (true≢false (sym e))
 some_of (Some x) e = (x, refl)
 
-pub now_of : (r : Rules) (g : Option Group) (at : Progress) (ps : List Packet) (given : List FrameRecord)
-    → Sequenced r g at.number at.next at.closing at.fault ps given → waits at ≡ true → IsNow g at
-now_of r None at ps given (a, b, c, d) w =
+pub now_of : (r : Rules) (past : List Numbered) (g : Option Group) (at : Progress) (ps : List Packet) (given : List FrameRecord)
+    → Sequenced r past g at.number at.next at.closing at.fault ps given → waits at ≡ true → IsNow g at
+now_of r past None at ps given (a, o, b, c, d) w =
     absurd (true≢false (sym w ∙ ap (λ (o : Option ℕ). waits_by o at.next at.closing at.fault) b))
-now_of r (Some h) at ps given q w =
+now_of r past (Some h) at ps given q w =
     let s = some_of (waiting_of at) w in
     record { waiting = s.0; is = s.1; group = h; has = refl }
 
 -- the group stands for what it stood for, and is the same
-pub record Moved (New : Option Group → Type 0) (other : Option Key) (s : Rules) (at : Progress) (u : Unpiper) (finished : Bool)
+pub record Moved (New : List Numbered → Option Group → Type 0) (other : Option Key) (s : Rules) (at : Progress) (u : Unpiper)
+    (finished : Bool)
     (pid : ℕ) (bytes : List ℕ) (given : List FrameRecord) (group : Option Group) : Type 0 where
   pub stands : Stands New other s at u finished pid bytes given
   pub same : stands.keeps.group ≡ group
 
-pub moved : (Old New : Option Group → Type 0) (key other : Option Key) (r s : Rules) (at : Progress) (u : Unpiper)
+pub moved : (Old New : List Numbered → Option Group → Type 0) (key other : Option Key) (r s : Rules) (at : Progress) (u : Unpiper)
     (finished : Bool) (pid : ℕ) (bytes : List ℕ) (given : List FrameRecord)
-    → ((g : Option Group) → Old g → New g) → other ≡ key → s ≡ r → (st : Stands Old key r at u finished pid bytes given)
+    → ((past : List Numbered) (g : Option Group) → Old past g → New past g) → other ≡ key → s ≡ r
+    → (st : Stands Old key r at u finished pid bytes given)
     → Moved New other s at u finished pid bytes given st.keeps.group
 moved Old New key other r s at u finished pid bytes given on same rules st =
     subst (λ (s : Rules). Moved New other s at u finished pid bytes given st.keeps.group) (sym rules)
@@ -61,23 +63,30 @@ moved Old New key other r s at u finished pid bytes given on same rules st =
             stands = st.stands;
             fed_is = st.fed_is;
             few = st.few;
-            keeps = record { group = st.keeps.group; holds = on st.keeps.group st.keeps.holds; sequenced = st.keeps.sequenced };
+            keeps = record {
+              past = st.keeps.past;
+              group = st.keeps.group;
+              holds = on st.keeps.past st.keeps.group st.keeps.holds;
+              sequenced = st.keeps.sequenced;
+            };
             ahead = st.ahead;
           };
       same = refl;
     }))
 
-module _ (Holds : Option Group → Type 0) (key : Option Key) (r : Rules) (spelled : FrameRecord → List ℕ) (at : Progress)
+module _ (Holds : List Numbered → Option Group → Type 0) (key : Option Key) (r : Rules) (spelled : FrameRecord → List ℕ)
+    (at : Progress)
     (left more rest : List ℕ) (u : Unpiper) (finished : Bool) (pid : ℕ) (bytes taken : List ℕ)
     (h : Gives Holds key r spelled at left u finished pid bytes taken) (w : waits at ≡ true) (cut : left ≡ more ++ rest) where
   pub now : IsNow h.stands.keeps.group at
-  now = now_of r h.stands.keeps.group at _ h.given h.stands.keeps.sequenced w
+  now = now_of r h.stands.keeps.past h.stands.keeps.group at _ h.given h.stands.keeps.sequenced w
 
   record_bytes : spelled (record_of now.group now.waiting) ≡ h.took.part ++ (more ++ rest)
   record_bytes = h.took.rest now.waiting now.is now.group now.has ∙ ap (λ (l : List ℕ). h.took.part ++ l) cut
 
   -- a part was taken, and the group stands for what it stood for
-  pub took_more : (New : Option Group → Type 0) → ((g : Option Group) → Holds g → New g)
+  pub took_more : (New : List Numbered → Option Group → Type 0)
+      → ((past : List Numbered) (g : Option Group) → Holds past g → New past g)
       → Gives New key r spelled at rest u finished pid bytes (taken ++ more)
   took_more New on = record {
     given = h.given;
@@ -88,8 +97,9 @@ module _ (Holds : Option Group → Type 0) (key : Option Key) (r : Rules) (spell
           fed_is = h.stands.fed_is;
           few = h.stands.few;
           keeps = record {
+            past = h.stands.keeps.past;
             group = h.stands.keeps.group;
-            holds = on h.stands.keeps.group h.stands.keeps.holds;
+            holds = on h.stands.keeps.past h.stands.keeps.group h.stands.keeps.holds;
             sequenced =
                 h.stands.keeps.sequenced;
           };
@@ -134,7 +144,8 @@ module _ (Holds : Option Group → Type 0) (key : Option Key) (r : Rules) (spell
       ∙ sym (flat_map-append spelled h.given (record_of now.group now.waiting ∷ []))
 
 -- no record waits, so all that is due was taken
-pub all_taken : (Holds : Option Group → Type 0) (key : Option Key) (r : Rules) (spelled : FrameRecord → List ℕ) (at : Progress)
+pub all_taken : (Holds : List Numbered → Option Group → Type 0) (key : Option Key) (r : Rules) (spelled : FrameRecord → List ℕ)
+    (at : Progress)
     (left : List ℕ) (u : Unpiper) (finished ended : Bool) (pid : ℕ) (bytes front taken : List ℕ)
     → (h : Gives Holds key r spelled at left u finished pid bytes taken) → waits at ≡ false → due_by r ended pid front ≡ h.given
     → spelled_due r spelled ended pid front ≡ taken
@@ -150,7 +161,8 @@ pub nothing_more : (taken due : List ℕ) → due ≡ taken → IsPrefix (taken 
 nothing_more taken due e = ([], e ∙ sym (append-nil taken) ∙ sym (append-nil (taken ++ [])))
 
 -- nothing was fed
-pub opened : (Holds : Option Group → Type 0) (key : Option Key) (r : Rules) (spelled : FrameRecord → List ℕ) (at : Progress)
+pub opened : (Holds : List Numbered → Option Group → Type 0) (key : Option Key) (r : Rules) (spelled : FrameRecord → List ℕ)
+    (at : Progress)
     (left : List ℕ) (u : Unpiper) (pid : ℕ)
     → UnpiperStandsFor u pid [] → waits at ≡ false → at.closing ≡ false → Keeps Holds r at [] []
     → Gives Holds key r spelled at left u false pid [] []
@@ -170,14 +182,16 @@ opened Holds key r spelled at left u pid stands w shut k = record {
 }
 
 -- no record waits, so what was given was taken whole
-pub given_whole : (Holds : Option Group → Type 0) (key : Option Key) (r : Rules) (spelled : FrameRecord → List ℕ) (at : Progress)
+pub given_whole : (Holds : List Numbered → Option Group → Type 0) (key : Option Key) (r : Rules) (spelled : FrameRecord → List ℕ)
+    (at : Progress)
     (left : List ℕ) (u : Unpiper) (finished : Bool) (pid : ℕ) (bytes taken : List ℕ)
     → (h : Gives Holds key r spelled at left u finished pid bytes taken) → waits at ≡ false → taken ≡ flat_map spelled h.given
 given_whole Holds key r spelled at left u finished pid bytes taken h w =
     h.took.taken_is ∙ ap (λ (l : List ℕ). flat_map spelled h.given ++ l) (h.took.idle w) ∙ append-nil (flat_map spelled h.given)
 
 -- no more bytes come, and the record that waits still does
-pub took_still : (Holds : Option Group → Type 0) (key : Option Key) (r : Rules) (spelled : FrameRecord → List ℕ) (at : Progress)
+pub took_still : (Holds : List Numbered → Option Group → Type 0) (key : Option Key) (r : Rules) (spelled : FrameRecord → List ℕ)
+    (at : Progress)
     (left : List ℕ) (u : Unpiper) (pid : ℕ) (bytes taken : List ℕ)
     → Gives Holds key r spelled at left u false pid bytes taken → Gives Holds key r spelled at left u true pid bytes taken
 took_still Holds key r spelled at left u pid bytes taken h = record {

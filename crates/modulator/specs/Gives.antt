@@ -2,7 +2,7 @@
 use Rattle.std.specs.Prelude.{◌≡◌, ℕ, Bool, false, List, [], ◌++◌, Option, Some, flat_map}
 use Rattle.t2mi_stream.specs.declared.unpiper.Unpiper.{Unpiper}
 use Rattle.frame_groups.specs.Groups.{Group}
-use Rattle.frame_groups.specs.Modulated.{Rules, FrameRecord}
+use Rattle.frame_groups.specs.Modulated.{Numbered, Rules, FrameRecord}
 use Rattle.frame_groups.specs.Records.{record_of}
 use Rattle.frame_groups.specs.Waits.{waits, waiting_of}
 use Rattle.frame_groups.specs.declared.key.Key.{Key}
@@ -19,8 +19,8 @@ pub record Took (spelled : FrameRecord → List ℕ) (g : Option Group) (at : Pr
   pub idle : waits at ≡ false → part ≡ []
 
 -- Bytes were fed, and bytes of records were taken.
-pub record Gives (Holds : Option Group → Type 0) (key : Option Key) (r : Rules) (spelled : FrameRecord → List ℕ) (at : Progress)
-    (left : List ℕ) (u : Unpiper) (finished : Bool) (pid : ℕ) (bytes taken : List ℕ) : Type 0 where
+pub record Gives (Holds : List Numbered → Option Group → Type 0) (key : Option Key) (r : Rules) (spelled : FrameRecord → List ℕ)
+    (at : Progress) (left : List ℕ) (u : Unpiper) (finished : Bool) (pid : ℕ) (bytes taken : List ℕ) : Type 0 where
   pub given : List FrameRecord
   pub stands : Stands Holds key r at u finished pid bytes given
   pub took : Took spelled stands.keeps.group at left given taken

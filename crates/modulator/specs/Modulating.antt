@@ -10,7 +10,7 @@ use Rattle.t2mi_stream.specs.UnpiperStandsFor.{UnpiperStandsFor, is_ready, steps
 use Rattle.t2mi_stream.specs.declared.unpiper.Unpiper.{Unpiper}
 use Rattle.ts_packet.specs.declared.sizes.TheConstants.{SIZE}
 use Rattle.frame_groups.specs.Groups.{Group}
-use Rattle.frame_groups.specs.Modulated.{Rules, FrameRecord}
+use Rattle.frame_groups.specs.Modulated.{Numbered, Rules, FrameRecord}
 use Rattle.frame_groups.specs.Due.{due}
 use Rattle.frame_groups.specs.Sequenced.{Keeps, Ends}
 use Rattle.frame_groups.specs.Waits.{records_left, most_records}
@@ -39,8 +39,8 @@ IsAhead r key u finished pid events =
     ⊎ ((finished ≡ true) × (is_ready u ≡ false))
 
 -- Bytes were fed, and perhaps no more come; records were given.
-pub record Stands (Holds : Option Group → Type 0) (key : Option Key) (r : Rules) (at : Progress) (u : Unpiper) (finished : Bool)
-    (pid : ℕ) (bytes : List ℕ) (given : List FrameRecord) : Type 0 where
+pub record Stands (Holds : List Numbered → Option Group → Type 0) (key : Option Key) (r : Rules) (at : Progress) (u : Unpiper)
+    (finished : Bool) (pid : ℕ) (bytes : List ℕ) (given : List FrameRecord) : Type 0 where
   pub events : List UnpiperEvent
   pub stands : UnpiperStandsFor u pid events
   pub fed_is : fed events ≡ bytes

@@ -68,14 +68,21 @@ right_more c packets p plp =
 counts_added : (c : Config) (old new : HeldBlocks) (t : Tally) (p : Packet) → HoldsCounts c old t
     → ((plp : ℕ) → plp < length c.plps → slice_index new.counts.items plp
     ≡ capped (slice_index old.counts.items plp + length (blocks_of c plp (p ∷ []))))
+    → ((plp : ℕ) → plp < length c.plps → slice_index new.rights.items plp
+    ≡ capped (slice_index old.rights.items plp + length (right_blocks c plp (p ∷ []))))
     → new.need ≡ capped (tally_need c (tally_with c t p)) → new.known ≡ (old.known && is_known c p)
     → HoldsCounts c new (tally_with c t p)
-counts_added c old new t p h counts need known = record {
+counts_added c old new t p h counts rights need known = record {
   counts = λ plp inside.
       counts plp inside
       ∙ capped_more (slice_index old.counts.items plp) (slice_index t.blocks plp) (length (blocks_of c plp (p ∷ [])))
       (h.counts plp inside)
       ∙ ap capped (sym (at_place c (λ plp. slice_index t.blocks plp + length (blocks_of c plp (p ∷ []))) plp inside));
+  rights = λ plp inside.
+      rights plp inside
+      ∙ capped_more (slice_index old.rights.items plp) (slice_index t.right plp) (length (right_blocks c plp (p ∷ [])))
+      (h.rights plp inside)
+      ∙ ap capped (sym (at_place c (λ plp. slice_index t.right plp + length (right_blocks c plp (p ∷ []))) plp inside));
   need = need;
   known = known ∙ ap (λ (b : Bool). b && is_known c p) h.known;
 }
@@ -144,6 +151,7 @@ module _ (c : Config) (p : Packet) (none : (id : ℕ) → body_block id p.body �
   others_counted held t known h =
       counts_added c held held t p h
       (λ plp inside. let e = ap length (none_here plp) in let n = h.counts plp inside in omega (arith, e, n))
+      (λ plp inside. let e = ap length (none_right plp) in let n = h.rights plp inside in omega (arith, e, n))
       (h.need ∙ ap capped (sym (need_same c t p (λ plp inside. ap length (none_right plp)))))
       (one_true held.known ∙ ap (λ (b : Bool). held.known && b) (sym known))
 
@@ -200,12 +208,15 @@ module _ (c : Config) (p : Packet) (frame_idx id : ℕ) (first : Bool) (bits : L
     stray_right : (plp : ℕ) → plp < length c.plps → right_blocks c plp (p ∷ []) ≡ []
     stray_right plp inside = ap (filter (has_length c plp)) (other_here plp (none plp inside))
 
-    pub stray_counted : (old new : HeldBlocks) (t : Tally) → new.counts.items ≡ old.counts.items → new.need ≡ old.need
+    pub stray_counted : (old new : HeldBlocks) (t : Tally) → new.counts.items ≡ old.counts.items
+        → new.rights.items ≡ old.rights.items → new.need ≡ old.need
         → new.known ≡ false → HoldsCounts c old t → HoldsCounts c new (tally_with c t p)
-    stray_counted old new t counts need known h =
+    stray_counted old new t counts rights need known h =
         counts_added c old new t p h
         (λ plp inside. let e = ap length (other_here plp (none plp inside)) in let n = h.counts plp inside in
         let s = ap (λ (l : List ℕ). slice_index l plp) counts in omega (arith, e, n, s))
+        (λ plp inside. let e = ap length (stray_right plp inside) in let n = h.rights plp inside in
+        let s = ap (λ (l : List ℕ). slice_index l plp) rights in omega (arith, e, n, s))
         (need ∙ h.need ∙ ap capped (sym (need_same c t p (λ plp inside. ap length (stray_right plp inside)))))
         (known ∙ not_known old.known (unknown (λ plp inside. other_of plp (none plp inside))))
 
@@ -258,10 +269,13 @@ module _ (c : Config) (p : Packet) (frame_idx id : ℕ) (first : Bool) (bits : L
 
       pub wrong_counted : (old new : HeldBlocks) (t : Tally) → length old.counts.items ≡ length c.plps
           → new.counts.items ≡ slice_set old.counts.items k (capped (slice_index old.counts.items k + 1))
+          → new.rights.items ≡ old.rights.items
           → new.need ≡ old.need → new.known ≡ false → HoldsCounts c old t → HoldsCounts c new (tally_with c t p)
-      wrong_counted old new t size set need known h =
+      wrong_counted old new t size set rights need known h =
           counts_added c old new t p h
           (λ plp inside. counted old new size set plp inside (let n = h.counts plp inside in omega (arith, n)))
+          (λ plp inside. let e = ap length (wrong_right plp inside) in let n = h.rights plp inside in
+          let s = ap (λ (l : List ℕ). slice_index l plp) rights in omega (arith, e, n, s))
           (need ∙ h.need ∙ ap capped (sym (need_same c t p (λ plp inside. ap length (wrong_right plp inside)))))
           (known ∙ not_known old.known (unknown wrong_of))
 
@@ -287,13 +301,39 @@ module _ (c : Config) (p : Packet) (frame_idx id : ℕ) (first : Bool) (bits : L
           ∙ list_any_at is_of (places c) k 0 inside
           (subst (λ (j : ℕ). is_of j ≡ true) (sym there.0) (own_of k at.own ∙ eq-eqb (length bits) (8 * block_bytes c k) right))
 
+      -- one more of a PLP is right
+      righted : (old new : HeldBlocks) → length old.rights.items ≡ length c.plps
+          → new.rights.items ≡ slice_set old.rights.items k (capped (slice_index old.rights.items k + 1))
+          → (plp : ℕ) → plp < length c.plps → slice_index old.rights.items plp ≤ greatest → slice_index new.rights.items plp
+          ≡ capped (slice_index old.rights.items plp + length (right_blocks c plp (p ∷ [])))
+      righted old new size set plp inside most =
+          let moved = ap (λ (l : List ℕ). slice_index l plp) set in
+          ⊎_elim
+          (λ (e : plp ≡ k).
+          let own = ap (λ (j : ℕ). length (right_blocks c j (p ∷ []))) e ∙ ap length own_right in
+          let same = get_or-set_same old.rights.items plp (capped (slice_index old.rights.items plp + 1)) 0
+          (omega (arith, inside, size)) in
+          let there : slice_index new.rights.items plp
+          ≡ slice_index (slice_set old.rights.items plp (capped (slice_index old.rights.items plp + 1))) plp =
+          moved ∙ ap (λ (j : ℕ). slice_index (slice_set old.rights.items j (capped (slice_index old.rights.items j + 1))) plp)
+          (sym e) in
+          omega (arith, own, same, there))
+          (λ (ne : plp ≡ k → ⊥).
+          let other = ap length (other_right plp inside ne) in
+          let same = get_or-set_other old.rights.items k plp (capped (slice_index old.rights.items k + 1)) 0 ne in
+          omega (arith, other, same, moved, most))
+          (cases_eq plp k)
+
       pub right_counted : (old new : HeldBlocks) (t : Tally) → length old.counts.items ≡ length c.plps
+          → length old.rights.items ≡ length c.plps
           → new.counts.items ≡ slice_set old.counts.items k (capped (slice_index old.counts.items k + 1))
+          → new.rights.items ≡ slice_set old.rights.items k (capped (slice_index old.rights.items k + 1))
           → new.need ≡ capped (old.need + chunks_for (block_bytes c k)) → new.known ≡ old.known → HoldsCounts c old t
           → HoldsCounts c new (tally_with c t p)
-      right_counted old new t size set need known h =
+      right_counted old new t size rows set row need known h =
           counts_added c old new t p h
           (λ plp inside. counted old new size set plp inside (let n = h.counts plp inside in omega (arith, n)))
+          (λ plp inside. righted old new rows row plp inside (let n = h.rights plp inside in omega (arith, n)))
           (need ∙ capped_more old.need (tally_need c t) (chunks_for (block_bytes c k)) h.need
           ∙ ap capped
           (sym (need_more c t p k at.inside (ap length own_right) (λ plp inside ne. ap length (other_right plp inside ne)))))

@@ -2,6 +2,7 @@
 use Rattle.std.proofs.Common.{◌≡◌, true, List, Option, Some, None, ap, sym, subst, ◌∙◌, arith}
 use Rattle.std.specs.Prelude.{slice_index}
 use Rattle.frame_groups.specs.Groups.{Group}
+use Rattle.frame_groups.specs.Modulated.{Numbered}
 use Rattle.linked_pool.specs.Pool.{State, list_at}
 use Rattle.plp_config.specs.declared.config.Config.{Config}
 use Rattle.t2mi_packet.specs.declared.packet.Packet.{Packet}
@@ -9,28 +10,32 @@ use Rattle.frame_tests.specs.Tally.{Tally, tally}
 use Rattle.open_group.specs.Holds.{HoldsPackets, Holds}
 use Rattle.open_group.specs.HoldsBlocks.{HoldsCounts, HoldsLists}
 use Rattle.open_group.specs.HoldsL1.{HoldsL1}
+use Rattle.open_group.specs.HoldsPast.{HoldsPast}
 use Rattle.open_group.specs.HoldsStamps.{HoldsStamps}
 use Rattle.open_group.specs.declared.blocks.HeldBlocks.{HeldBlocks}
 use Rattle.open_group.specs.declared.group.PooledGroup.{PooledGroup}
 use Rattle.open_group.specs.declared.l1.HeldL1.{HeldL1}
+use Rattle.open_group.specs.declared.past.HeldPast.{HeldPast}
 use Rattle.open_group.specs.declared.stamps.HeldStamps.{HeldStamps}
 
 -- Only the pool may differ.
 abbrev pub SameNumbers : HeldBlocks → HeldBlocks → Type 0
-SameNumbers old new = (new.counts ≡ old.counts) × (new.need ≡ old.need) × (new.known ≡ old.known) × (new.chunks ≡ old.chunks)
+SameNumbers old new = (new.counts ≡ old.counts) × (new.rights ≡ old.rights) × (new.need ≡ old.need) × (new.known ≡ old.known)
+    × (new.chunks ≡ old.chunks)
 
 counts_still : (c : Config) (old new : HeldBlocks) (t : Tally) → SameNumbers old new → HoldsCounts c old t → HoldsCounts c new t
 counts_still c old new t same h = record {
   counts = λ plp inside. ap (λ v. slice_index v.items plp) same.0 ∙ h.counts plp inside;
-  need = same.1 ∙ h.need;
-  known = same.2 ∙ h.known;
+  rights = λ plp inside. ap (λ v. slice_index v.items plp) same.1 ∙ h.rights plp inside;
+  need = same.2 ∙ h.need;
+  known = same.3 ∙ h.known;
 }
 
 lists_still : (c : Config) (old new : HeldBlocks) (packets : List Packet) → SameNumbers old new → new.pool ≡ old.pool
     → HoldsLists c old packets → HoldsLists c new packets
 lists_still c old new packets same pool h few plp inside =
-    let need = same.1 in
-    let chunks = same.3 in
+    let need = same.2 in
+    let chunks = same.4 in
     ap (λ (s : State). list_at s plp) pool ∙ h (omega (arith, need, chunks, few)) plp inside
 
 -- the parts that stay
@@ -40,6 +45,7 @@ pub record Stays (old new : PooledGroup) : Type 0 where
   pub intact : new.intact ≡ true → old.intact ≡ true
   pub stamps : new.stamps ≡ old.stamps
   pub l1 : new.l1 ≡ old.l1
+  pub past : new.past ≡ old.past
   pub numbers : SameNumbers old.blocks new.blocks
   pub pool : new.intact ≡ true → new.blocks.pool ≡ old.blocks.pool
 
@@ -61,9 +67,18 @@ packets_still old new packets s pool h =
           (lists_still old.network old.blocks new.blocks packets s.numbers pool h.lists);
     }
 
-pub holds_still : (old new : PooledGroup) → Stays old new → (g : Option Group) → Holds old g → Holds new g
-holds_still old new s None h = s.key ∙ h
-holds_still old new s (Some g) h = record {
+past_still : (old new : PooledGroup) (past : List Numbered) → Stays old new → HoldsPast old.network old.past past
+    → HoldsPast new.network new.past past
+past_still old new past s h = subst (λ (c : Config). HoldsPast c new.past past) (sym s.network)
+    (subst (λ (p : HeldPast). HoldsPast old.network p past) (sym s.past) h)
+
+pub holds_still : (old new : PooledGroup) → Stays old new → (past : List Numbered) (g : Option Group) → Holds old past g
+    → Holds new past g
+holds_still old new s past None h = (s.key ∙ h.0, past_still old new past s h.1)
+holds_still old new s past (Some g) h = record {
   key = s.key ∙ h.key;
+  past-is = past_still old new past s h.past-is;
+  counts = subst (λ (c : Config). HoldsCounts c new.blocks (tally c g.packets)) (sym s.network)
+      (counts_still old.network old.blocks new.blocks (tally old.network g.packets) s.numbers h.counts);
   packets = λ intact. packets_still old new g.packets s (s.pool intact) (h.packets (s.intact intact));
 }

@@ -1,11 +1,11 @@
 -- A group that passes gives its frame.
 use Rattle.std.proofs.Common.{◌≡◌, ℕ, zero, suc, ◌+◌, ◌*◌, ◌%◌, ◌<◌, ◌≤◌, ◌==◌, ◌&&◌, Bool, true, false, cond, List, [], ◌∷◌}
 use Rattle.std.proofs.Common.{◌++◌, map, length, get_or, Option, Some, None, refl, ap, ap₂, sym, subst, ◌∙◌, ⊎_elim, arith}
-use Rattle.std.specs.Prelude.{slice_index, slice_index_or, is_some, sum}
+use Rattle.std.specs.Prelude.{slice_index, slice_index_or, is_some, sum_by}
 use Rattle.std.specs.List.{concat, filter, flat_map, list_all, list_any, cons_option, range_with_len}
 use Rattle.std.specs.Option.{option_or, unwrap_or}
 use Rattle.std.proofs.lemmas.Bool.{and_parts, cases_eq, cases_lt, eqb-true, false≢true}
-use Rattle.std.proofs.lemmas.List.{ext_get_or, get_or-map, get_or_past, length-map}
+use Rattle.std.proofs.lemmas.List.{get_or-map, get_or_past, length-map}
 use Rattle.std.proofs.lemmas.List.Elements.{filter_passes}
 use Rattle.std.proofs.lemmas.List.Folds.{Any-from_list_any}
 use Rattle.std.proofs.lemmas.List.FromFn.{fill_by_all, length-range_with_len, get_or-range_with_len}
@@ -20,6 +20,7 @@ use Rattle.plp_config.specs.Capacity.{IsPlan, block_bytes}
 use Rattle.plp_config.specs.Emission.{emission}
 use Rattle.plp_config.specs.Places.{places}
 use Rattle.plp_config.specs.Plps.{plp_at}
+use Rattle.plp_config.specs.InterleavingFrames.{is_first, begin_of}
 use Rattle.plp_config.specs.declared.config.Config.{Config}
 use Rattle.scheduler.specs.Shape.{FrameShape, blank}
 use Rattle.t2mi_packet.specs.declared.packet.Body.{Body}
@@ -28,69 +29,82 @@ use Rattle.t2mi_packet.specs.declared.packet.Packet.{Packet}
 use Rattle.frame_groups.specs.declared.cause.MuteCause.{MuteCause}
 use Rattle.frame_groups.specs.declared.cause.MuteCause.TheVariants.{PacketMissing}
 use Rattle.frame_tests.specs.Carried.{body_block, has_length, blocks_of, right_blocks}
-use Rattle.frame_tests.specs.Tests.{pool_test, missing_test, l1_test, time_test, first_shape, has_counts, body_known, is_known}
+use Rattle.frame_groups.specs.Modulated.{Numbered}
+use Rattle.frame_tests.specs.Begun.{packets_at}
+use Rattle.frame_tests.specs.Tests.{pool_test, missing_test, l1_test, time_test, first_shape, has_begun, has_count, has_counts}
+use Rattle.frame_tests.specs.Tests.{body_known, is_known}
 use Rattle.frame_tests.specs.Tests.{blocks_test, map_test, packets_fault}
 use Rattle.frame_records.specs.Frames.{sent_block, sent_blocks, frame_view}
 use Rattle.frame_records.specs.Laws.{rest_size}
 use Rattle.site_frame.specs.Whole.{written_rest, record_bytes}
 use Rattle.record_writer.specs.Front.{post_with, front_bytes}
 use Rattle.record_writer.specs.Laws.{RecordWritten, BlockCount, RestLength, HasBlocks, post_size, written_frame}
-use Rattle.record_writer.specs.RecordBytes.{plp_block, list_blocks, list_at}
+use Rattle.record_writer.specs.RecordBytes.{own_count, plp_block, list_blocks, list_at}
 use Rattle.record_writer.specs.Steps.{step_bytes}
 use Rattle.record_writer.specs.declared.step.Step.TheVariants.{Blocks}
 use Rattle.open_group.specs.Sent.{sent_bytes}
 use Rattle.open_group.specs.Written.{dynamic_in, packets_view}
+use Rattle.open_group.proofs.RoomLemmas.{none_first, none_behind}
 use Rattle.plp_config.proofs.PlaceLemmas.{place_is}
 
--- tests of which none fails
+-- what is there is not absent
 not_some : {X : Type 0} {P : Type 0} (x : X) → Some x ≡ None → P
 not_some x e = absurd (false≢true (ap is_some (sym e)))
 
-none_first : (a b : Option MuteCause) → option_or a b ≡ None → a ≡ None
-none_first None b e = refl
-none_first (Some cause) b e = e
-
-none_behind : (a b : Option MuteCause) → option_or a b ≡ None → b ≡ None
-none_behind None b e = e
-none_behind (Some cause) b e = not_some cause e
-
 -- the last two tests
-both_none : (c : Config) (n : ℕ) (packets : List Packet) → packets_fault c n packets ≡ None
-    → option_or (blocks_test c packets) (map_test c packets) ≡ None
+both_none : (c : Config) (past : List Numbered) (n : ℕ) (packets : List Packet) → packets_fault c past n packets ≡ None
+    → option_or (blocks_test c past n packets) (map_test c packets) ≡ None
 unfolding packets_fault
-both_none c n packets e =
-    let behind_d : Option MuteCause = option_or (blocks_test c packets) (map_test c packets) in
+both_none c past n packets e =
+    let behind_d : Option MuteCause = option_or (blocks_test c past n packets) (map_test c packets) in
     let behind_c : Option MuteCause = option_or (time_test c n packets) behind_d in
     let behind_b : Option MuteCause = option_or (l1_test c n packets) behind_c in
     let behind_a : Option MuteCause = option_or (missing_test c n packets) behind_b in
     none_behind (time_test c n packets) behind_d
     (none_behind (l1_test c n packets) behind_c
-    (none_behind (missing_test c n packets) behind_b (none_behind (pool_test c packets) behind_a e)))
+    (none_behind (missing_test c n packets) behind_b (none_behind (pool_test c past n packets) behind_a e)))
 
-blocks_none : (c : Config) (n : ℕ) (packets : List Packet) → packets_fault c n packets ≡ None → blocks_test c packets ≡ None
-blocks_none c n packets e = none_first (blocks_test c packets) (map_test c packets) (both_none c n packets e)
+blocks_none : (c : Config) (past : List Numbered) (n : ℕ) (packets : List Packet) → packets_fault c past n packets ≡ None
+    → blocks_test c past n packets ≡ None
+blocks_none c past n packets e = none_first (blocks_test c past n packets) (map_test c packets) (both_none c past n packets e)
 
-pub map_none : (c : Config) (n : ℕ) (packets : List Packet) → packets_fault c n packets ≡ None → map_test c packets ≡ None
-map_none c n packets e = none_behind (blocks_test c packets) (map_test c packets) (both_none c n packets e)
+pub map_none : (c : Config) (past : List Numbered) (n : ℕ) (packets : List Packet) → packets_fault c past n packets ≡ None
+    → map_test c packets ≡ None
+map_none c past n packets e = none_behind (blocks_test c past n packets) (map_test c packets) (both_none c past n packets e)
 
-blocks_pass : (c : Config) (packets : List Packet) → blocks_test c packets ≡ None
-    → (has_counts c packets (first_shape c packets) ≡ true) × (list_all (is_known c) packets ≡ true)
+blocks_pass : (c : Config) (past : List Numbered) (n : ℕ) (packets : List Packet) → blocks_test c past n packets ≡ None
+    → (has_counts c past n packets (first_shape c packets) ≡ true) × (list_all (is_known c) packets ≡ true)
 unfolding blocks_test
-blocks_pass c packets e =
-    and_parts (has_counts c packets (first_shape c packets)) (list_all (is_known c) packets)
-    (none_if (has_counts c packets (first_shape c packets) && list_all (is_known c) packets) PacketMissing e)
+blocks_pass c past n packets e =
+    and_parts (has_counts c past n packets (first_shape c packets)) (list_all (is_known c) packets)
+    (none_if (has_counts c past n packets (first_shape c packets) && list_all (is_known c) packets) PacketMissing e)
+
+-- the blocks of a PLP in a group are those that are told where its interleaving frame begins, and none elsewhere
+own_is : (c : Config) (past : List Numbered) (n plp own : ℕ) (shape : FrameShape)
+    → has_count c past n plp own (slice_index shape.counts plp) ≡ true → own ≡ own_count c n shape plp
+own_is c past n plp own shape e = go (is_first c plp n) e
+  where
+    go : (t : Bool)
+        → cond t (own == slice_index shape.counts plp)
+        ((own == 0) && has_begun c plp (packets_at past (begin_of c plp n)) (slice_index shape.counts plp)) ≡ true
+        → own ≡ cond {A = ℕ} t (slice_index shape.counts plp) 0
+    go true e = eqb-true own (slice_index shape.counts plp) e
+    go false e = eqb-true own 0
+        (and_parts (own == 0) (has_begun c plp (packets_at past (begin_of c plp n)) (slice_index shape.counts plp)) e).0
 
 -- there are as many blocks as a shape tells
-counts_are : (c : Config) (packets : List Packet) (shape : FrameShape) → has_counts c packets (Some shape) ≡ true
-    → (plp : ℕ) → plp < length c.plps → length (blocks_of c plp packets) ≡ slice_index shape.counts plp
-counts_are c packets shape all plp inside =
+counts_are : (c : Config) (past : List Numbered) (n : ℕ) (packets : List Packet) (shape : FrameShape)
+    → has_counts c past n packets (Some shape) ≡ true
+    → (plp : ℕ) → plp < length c.plps → length (blocks_of c plp packets) ≡ own_count c n shape plp
+counts_are c past n packets shape all plp inside =
     let there : get_or (places c) plp 0 ≡ plp = let e = get_or-range_with_len 0 (length c.plps) plp 0 inside in
     omega (arith, e) in
     let within : plp < length (places c) = let size = length-range_with_len 0 (length c.plps) in omega (arith, size, inside) in
-    let passes = AllPass-from_list_all (λ plp. length (blocks_of c plp packets) == slice_index shape.counts plp)
+    let passes = AllPass-from_list_all
+    (λ plp. has_count c past n plp (length (blocks_of c plp packets)) (slice_index shape.counts plp))
     (places c) all plp 0 within in
-    eqb-true (length (blocks_of c plp packets)) (slice_index shape.counts plp)
-    (subst (λ (j : ℕ). (length (blocks_of c j packets) == slice_index shape.counts j) ≡ true) there passes)
+    own_is c past n plp (length (blocks_of c plp packets)) shape
+    (subst (λ (j : ℕ). has_count c past n j (length (blocks_of c j packets)) (slice_index shape.counts j) ≡ true) there passes)
 
 -- if each block is known, all have the length of their PLP
 module _ (c : Config) (plan : IsPlan c) (plp : ℕ) (inside : plp < length c.plps) where
@@ -161,8 +175,9 @@ sent_length : BitCounts → (bits : List Bool) (width : ℕ) → length bits ≡
 sent_length sizes bits width e = length-bytes_of (scrambled bits) ∙ whole_bytes (length (scrambled bits)) width
     (sizes.scrambled bits ∙ e)
 
-module _ (sizes : BitCounts) (c : Config) (n : ℕ) (packets : List Packet) (shape : FrameShape) (lists : List (List (List ℕ)))
-    (plan : IsPlan c) (passes : packets_fault c n packets ≡ None)
+module _ (sizes : BitCounts) (c : Config) (past : List Numbered) (n : ℕ) (packets : List Packet) (shape : FrameShape)
+    (lists : List (List (List ℕ)))
+    (plan : IsPlan c) (passes : packets_fault c past n packets ≡ None)
     (first : first_shape c packets ≡ Some shape) (told : length shape.counts ≡ length c.plps)
     (long : length lists ≡ length c.plps)
     (held : (plp : ℕ) → plp < length c.plps → list_at lists plp ≡ map sent_bytes (right_blocks c plp packets)) where
@@ -171,15 +186,14 @@ module _ (sizes : BitCounts) (c : Config) (n : ℕ) (packets : List Packet) (sha
       ap (list_blocks c 0) (fill_by_all (λ plp. map sent_bytes (right_blocks c plp packets)) lists (length c.plps) [] long held)
       ∙ laid c (λ plp. right_blocks c plp packets) 0 (length c.plps)
 
-  held_count : (plp : ℕ) → plp < length c.plps → slice_index shape.counts plp ≡ length (list_at lists plp)
+  held_count : (plp : ℕ) → plp < length c.plps → length (list_at lists plp) ≡ own_count c n shape plp
   held_count plp inside =
-      let tests = blocks_pass c packets (blocks_none c n packets passes) in
-      let counts : has_counts c packets (Some shape) ≡ true =
-      subst (λ (o : Option FrameShape). has_counts c packets o ≡ true) first tests.0 in
-      sym
-      (ap length (held plp inside) ∙ length-map (right_blocks c plp packets) sent_bytes
+      let tests = blocks_pass c past n packets (blocks_none c past n packets passes) in
+      let counts : has_counts c past n packets (Some shape) ≡ true =
+      subst (λ (o : Option FrameShape). has_counts c past n packets o ≡ true) first tests.0 in
+      ap length (held plp inside) ∙ length-map (right_blocks c plp packets) sent_bytes
       ∙ ap length (all_right c plan plp inside packets tests.1)
-      ∙ counts_are c packets shape counts plp inside)
+      ∙ counts_are c past n packets shape counts plp inside
 
   held_length : (plp place : ℕ) → plp < length c.plps → place < length (map sent_bytes (right_blocks c plp packets))
       → length (slice_index_or (map sent_bytes (right_blocks c plp packets)) place []) ≡ block_bytes c plp
@@ -191,14 +205,10 @@ module _ (sizes : BitCounts) (c : Config) (n : ℕ) (packets : List Packet) (sha
       ∙ sent_length sizes (get_or (right_blocks c plp packets) place []) (block_bytes c plp)
       (eqb-true (length (get_or (right_blocks c plp packets) place [])) (8 * block_bytes c plp) right)
 
-  pub has_blocks : HasBlocks c shape lists
+  pub has_blocks : HasBlocks c (own_count c n shape) lists
   has_blocks = record {
     plps = long;
-    counts = ext_get_or 0 shape.counts (map (λ blocks. length blocks) lists)
-        (told ∙ sym long ∙ sym (length-map lists (λ blocks. length blocks)))
-        (λ plp l.
-        held_count plp (omega (arith, l, told))
-        ∙ sym (get_or-map (λ blocks. length blocks) lists plp [] 0 (omega (arith, l, told, long))));
+    counts = λ plp l. held_count plp (omega (arith, l, long));
     each = λ plp place within.
         ⊎_elim
         (λ (inside : plp < length c.plps).
@@ -222,20 +232,21 @@ module _ (sizes : BitCounts) (c : Config) (n : ℕ) (packets : List Packet) (sha
 
 -- What a writer gives of the lists of a group that passes is the record of its frame.
 pub given_frame : RecordWritten → BlockCount → RestLength → BitCounts
-    → (c : Config) (n : ℕ) (packets : List Packet) (dynamic : List Bool) (shape : FrameShape) (lists : List (List (List ℕ)))
-    (blocks rest : ℕ)
-    → IsPlan c → packets_fault c n packets ≡ None → dynamic ≡ dynamic_in packets → first_shape c packets ≡ Some shape
+    → (c : Config) (past : List Numbered) (n : ℕ) (packets : List Packet) (dynamic : List Bool) (shape : FrameShape)
+    (lists : List (List (List ℕ))) (blocks rest : ℕ)
+    → IsPlan c → packets_fault c past n packets ≡ None → dynamic ≡ dynamic_in packets → first_shape c packets ≡ Some shape
     → length shape.counts ≡ length c.plps → length lists ≡ length c.plps
     → ((plp : ℕ) → plp < length c.plps → list_at lists plp ≡ map sent_bytes (right_blocks c plp packets))
-    → blocks ≡ sum shape.counts → rest ≡ rest_size c (post_size c (length dynamic)) (slice_index shape.counts)
+    → blocks ≡ sum_by (own_count c n shape) (places c)
+    → rest ≡ rest_size c (post_size c (length dynamic)) (own_count c n shape)
     → front_bytes c (emission c n) dynamic blocks rest ++ step_bytes c shape (n % c.frames) lists (Blocks 0)
     ≡ record_bytes (packets_view c n packets)
-given_frame written count size sizes c n packets dynamic shape lists blocks rest plan passes is first told long held so_many
+given_frame written count size sizes c past n packets dynamic shape lists blocks rest plan passes is first told long held so_many
     so_long =
-    let has = has_blocks sizes c n packets shape lists plan passes first told long held in
-    let all : blocks ≡ length (list_blocks c 0 lists) = so_many ∙ sym (count c shape lists has) in
+    let has = has_blocks sizes c past n packets shape lists plan passes first told long held in
+    let all : blocks ≡ length (list_blocks c 0 lists) = so_many ∙ sym (count c (own_count c n shape) lists has) in
     let follow : rest ≡ length (concat (written_rest (written_frame c (emission c n) (n % c.frames) dynamic shape lists))) =
-    so_long ∙ sym (size c (emission c n) (n % c.frames) dynamic shape lists has) in
+    so_long ∙ sym (size c (emission c n) (n % c.frames) dynamic shape (own_count c n shape) lists has) in
     ap₂ (λ (b r : ℕ). front_bytes c (emission c n) dynamic b r ++ step_bytes c shape (n % c.frames) lists (Blocks 0)) all follow
     ∙ written c (emission c n) (n % c.frames) dynamic shape lists
-    ∙ ap record_bytes (same_view sizes c n packets shape lists plan passes first told long held dynamic is)
+    ∙ ap record_bytes (same_view sizes c past n packets shape lists plan passes first told long held dynamic is)

@@ -49,11 +49,13 @@ zero_at zero k = refl
 zero_at (suc n) zero = refl
 zero_at (suc n) (suc k) = zero_at n k
 
-pub no_blocks : (c : Config) (held : HeldBlocks) (n : ℕ) → held.counts.items ≡ replicate n 0 → held.need ≡ 0 → held.known ≡ true
-    → HoldsCounts c held (tally c [])
-no_blocks c held n counts need known = record {
+pub no_blocks : (c : Config) (held : HeldBlocks) (n m : ℕ) → held.counts.items ≡ replicate n 0
+    → held.rights.items ≡ replicate m 0 → held.need ≡ 0 → held.known ≡ true → HoldsCounts c held (tally c [])
+no_blocks c held n m counts rights need known = record {
   counts = λ plp inside.
       ap (λ (l : List ℕ). slice_index l plp) counts ∙ zero_at n plp ∙ ap capped (sym (none_at c plp inside));
+  rights = λ plp inside.
+      ap (λ (l : List ℕ). slice_index l plp) rights ∙ zero_at m plp ∙ ap capped (sym (none_at c plp inside));
   need = need
       ∙ ap capped
       (sym (none_needed (λ plp. slice_index (map (λ plp. 0) (places c)) plp * chunks_for (block_bytes c plp)) 0 (length c.plps)

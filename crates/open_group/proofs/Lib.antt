@@ -1,4 +1,6 @@
 pub mod BlockLemmas
+pub mod PastLemmas
+pub mod NoteLemmas
 pub mod CountLemmas
 pub mod HoldLemmas
 pub mod NamedLemmas

@@ -11,7 +11,7 @@ use Rattle.plp_config.specs.Places.{places}
 use Rattle.bb_frame.specs.Laws.{BitCounts}
 use Rattle.cell_map.specs.CellMap.{Passes}
 use Rattle.frame_groups.specs.Groups.{Group}
-use Rattle.frame_groups.specs.Modulated.{Content}
+use Rattle.frame_groups.specs.Modulated.{Content, Numbered}
 use Rattle.frame_groups.specs.Modulated.Content.{Whole, Muted}
 use Rattle.frame_groups.specs.declared.cause.MuteCause.TheVariants.{MapRefused}
 use Rattle.frame_records.specs.Frames.{HasByteIds}
@@ -39,10 +39,10 @@ shape_rows : (d : L1Dyn) → length (told_shape d).counts ≡ length d.plps
 unfolding told_shape
 shape_rows d = length-map d.plps (λ plp. plp.plp_num_blocks)
 
-map_holds : (c : Config) (n : ℕ) (packets : List Packet) → packets_fault c n packets ≡ None → has_map c (first_shape c packets)
-    ≡ true
+map_holds : (c : Config) (past : List Numbered) (n : ℕ) (packets : List Packet) → packets_fault c past n packets ≡ None
+    → has_map c (first_shape c packets) ≡ true
 unfolding map_test
-map_holds c n packets e = none_if (has_map c (first_shape c packets)) MapRefused (map_none c n packets e)
+map_holds c past n packets e = none_if (has_map c (first_shape c packets)) MapRefused (map_none c past n packets e)
 
 -- the blocks of packets, in lists
 abbrev lists_of : Config → List Packet → List (List (List ℕ))
@@ -62,10 +62,10 @@ lists_held c packets plp inside =
     ∙ ap (λ (j : ℕ). map sent_bytes (right_blocks c j packets)) there
 
 module _ (fits : RecordFits) (passing : MapPasses) (spelled : DynReadSpelled) (len : DynLength) (sizes : BitCounts) (c : Config)
-    (n : ℕ) (packets : List Packet)
-    (plan : IsPlan c) (ids : HasByteIds c) (small : n < 2 ^ 32) (none : packets_fault c n packets ≡ None) where
+    (past : List Numbered) (n : ℕ) (packets : List Packet)
+    (plan : IsPlan c) (ids : HasByteIds c) (small : n < 2 ^ 32) (none : packets_fault c past n packets ≡ None) where
   has : has_map c (first_shape c packets) ≡ true
-  has = map_holds c n packets none
+  has = map_holds c past n packets none
 
   by_parts : (l1 : L1Parts) → slice_get (l1s_of packets) 0 ≡ Some l1 → (o : Option L1Dyn) → read_dynamic c l1 ≡ o
       → FitsRecord (packets_view c n packets)
@@ -83,10 +83,10 @@ module _ (fits : RecordFits) (passing : MapPasses) (spelled : DynReadSpelled) (l
       let short : length (dynamic_in packets) ≤ dyn_len (length c.plps) = omega (arith, size) in
       let long = lists_long c packets in
       let held = lists_held c packets in
-      subst FitsRecord (same_view sizes c n packets shape (lists_of c packets) plan none first told long held
+      subst FitsRecord (same_view sizes c past n packets shape (lists_of c packets) plan none first told long held
       (dynamic_in packets) refl)
-      (fits c n (n % c.frames) (dynamic_in packets) shape (lists_of c packets) plan ids small short passes
-      (has_blocks sizes c n packets shape (lists_of c packets) plan none first told long held))
+      (fits c n (n % c.frames) (dynamic_in packets) shape (lists_of c packets) plan ids small short told passes
+      (has_blocks sizes c past n packets shape (lists_of c packets) plan none first told long held))
 
   pub packets_fit : FitsRecord (packets_view c n packets)
   packets_fit = go (slice_get (l1s_of packets) 0) refl
@@ -97,7 +97,9 @@ module _ (fits : RecordFits) (passing : MapPasses) (spelled : DynReadSpelled) (l
 
 pub content_fits : RecordFits → MutedFits → MapPasses → DynReadSpelled → DynLength → BitCounts
     → (c : Config) (n : ℕ) (content : Content) → IsPlan c → HasByteIds c → n < 2 ^ 32
-    → ((g : Group) → content ≡ Whole g → group_fault c g n ≡ None) → FitsRecord (content_view c n content)
+    → ((g : Group) → content ≡ Whole g → (past : List Numbered) × (group_fault c past g n ≡ None))
+    → FitsRecord (content_view c n content)
 content_fits fits muted passing spelled len sizes c n (Whole g) plan ids small none =
-    packets_fit fits passing spelled len sizes c n g.packets plan ids small (none g refl)
+    let passes = none g refl in
+    packets_fit fits passing spelled len sizes c passes.0 n g.packets plan ids small passes.1
 content_fits fits muted passing spelled len sizes c n (Muted cause) plan ids small none = muted c n plan small

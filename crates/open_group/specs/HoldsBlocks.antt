@@ -12,6 +12,7 @@ use Rattle.open_group.specs.declared.blocks.HeldBlocks.{HeldBlocks}
 -- The numbers are those of a tally.
 pub record HoldsCounts (c : Config) (held : HeldBlocks) (t : Tally) : Type 0 where
   pub counts : (plp : ℕ) → plp < length c.plps → slice_index held.counts.items plp ≡ capped (slice_index t.blocks plp)
+  pub rights : (plp : ℕ) → plp < length c.plps → slice_index held.rights.items plp ≡ capped (slice_index t.right plp)
   pub need : held.need ≡ capped (tally_need c t)
   pub known : held.known ≡ t.known
 
@@ -20,7 +21,8 @@ abbrev pub HoldsLists : Config → HeldBlocks → List Packet → Type 0
 HoldsLists c held packets = held.need ≤ held.chunks → (plp : ℕ) → plp < length c.plps → list_at held.pool plp
     ≡ map sent_bytes (right_blocks c plp packets)
 
--- There is a list and a number for each PLP of so many.
+-- There is a list and two numbers for each PLP of so many.
 pub record IsOpenFor (held : HeldBlocks) (plps : ℕ) : Type 0 where
   pub lists : length held.pool.lists ≡ plps
   pub counts : length held.counts.items ≡ plps
+  pub rights : length held.rights.items ≡ plps

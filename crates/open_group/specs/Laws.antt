@@ -1,9 +1,9 @@
 -- A law of the records of groups.
-use Rattle.std.specs.Prelude.{◌≡◌, ◌<◌, ◌^◌, None}
+use Rattle.std.specs.Prelude.{◌≡◌, ◌<◌, ◌^◌, List, None}
 use Rattle.plp_config.specs.Capacity.{IsPlan}
 use Rattle.plp_config.specs.declared.config.Config.{Config}
 use Rattle.frame_groups.specs.Groups.{Group}
-use Rattle.frame_groups.specs.Modulated.{FrameRecord}
+use Rattle.frame_groups.specs.Modulated.{Numbered, FrameRecord}
 use Rattle.frame_groups.specs.Modulated.Content.{Whole}
 use Rattle.frame_records.specs.Frames.{HasByteIds}
 use Rattle.frame_tests.specs.Tests.{group_fault}
@@ -14,5 +14,5 @@ use Rattle.open_group.specs.Written.{content_view, spelled}
 -- one. So they are read back.
 abbrev pub RecordSpelled : Type 0
 RecordSpelled = (c : Config) (x : FrameRecord) → IsPlan c → HasByteIds c → x.number < 2 ^ 32
-    → ((g : Group) → x.content ≡ Whole g → group_fault c g x.number ≡ None)
+    → ((g : Group) → x.content ≡ Whole g → (past : List Numbered) × (group_fault c past g x.number ≡ None))
     → Spells (content_view c x.number x.content) (spelled c x)

@@ -3,6 +3,7 @@ pub mod Parts
 pub mod HoldsL1
 pub mod Sent
 pub mod HoldsBlocks
+pub mod HoldsPast
 pub mod Holds
 pub mod Given
 pub mod Written

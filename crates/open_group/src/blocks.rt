@@ -20,8 +20,9 @@ use t2mi_packet::{Body, Packet};
 pub struct HeldBlocks {
     // Of each PLP, its blocks that have its length, scrambled.
     pub(crate) pool: Pool,
-    // Of each PLP, how many blocks came.
+    // Of each PLP, how many blocks came, and how many that have its length.
     counts: Vec<u64>,
+    rights: Vec<u64>,
     // Its chunks, and those that these blocks need. Once these are more, no block is kept.
     chunks: u32,
     need: u64,
@@ -74,7 +75,7 @@ impl HeldBlocks {
     ghost use Rattle.plp_config.specs.Capacity.{block_bytes};
     ghost use Rattle.t2mi_packet.specs.declared.packet.Packet.{Packet};
     ghost use Rattle.t2mi_packet.specs.declared.packet.Body.TheVariants.{Block};
-    ghost use Rattle.frame_tests.specs.Tally.{Tally, tally_counts, tally_with};
+    ghost use Rattle.frame_tests.specs.Tally.{Tally, tally_with};
     ghost use Rattle.frame_tests.specs.Tests.{pool_chunks, capped};
     ghost use Rattle.open_group.specs.HoldsBlocks.{IsOpenFor, HoldsCounts, HoldsLists};
     ghost use Rattle.open_group.specs.Sent.{sent_bytes};
@@ -92,6 +93,7 @@ impl HeldBlocks {
         Ok(HeldBlocks {
             pool: Pool::open(alloc, chunks, plps as u32)?,
             counts: vec![in alloc; 0; plps]?,
+            rights: vec![in alloc; 0; plps]?,
             chunks,
             need: 0,
             known: true,
@@ -103,12 +105,27 @@ impl HeldBlocks {
         requires { plp < vec_len self.old.counts }
         ensures counts { self.new.counts.items ≡ slice_set self.old.counts.items plp
             (capped (slice_index self.old.counts.items plp + 1)) }
+        ensures rights { self.new.rights ≡ self.old.rights }
         ensures pool { self.new.pool ≡ self.old.pool }
         ensures all { self.new.chunks ≡ self.old.chunks }
         ensures need { self.new.need ≡ self.old.need }
         ensures known { self.new.known ≡ self.old.known }
     {
         self.counts[plp] = self.counts[plp].saturating_add(1);
+    }
+
+    // And one that has its length.
+    fn count_right(&mut self, plp: usize)
+        requires { plp < vec_len self.old.rights }
+        ensures rights { self.new.rights.items ≡ slice_set self.old.rights.items plp
+            (capped (slice_index self.old.rights.items plp + 1)) }
+        ensures counts { self.new.counts ≡ self.old.counts }
+        ensures pool { self.new.pool ≡ self.old.pool }
+        ensures all { self.new.chunks ≡ self.old.chunks }
+        ensures need { self.new.need ≡ self.old.need }
+        ensures known { self.new.known ≡ self.old.known }
+    {
+        self.rights[plp] = self.rights[plp].saturating_add(1);
     }
 
     // Keeps a block of a PLP, if there is room for all that came so far.
@@ -122,6 +139,7 @@ impl HeldBlocks {
         ensures all { self.new.chunks ≡ self.old.chunks }
         ensures lists { length self.new.pool.lists ≡ length self.old.pool.lists }
         ensures counts { self.new.counts ≡ self.old.counts }
+        ensures rights { self.new.rights ≡ self.old.rights }
         ensures known { self.new.known ≡ self.old.known }
     {
         short_law();
@@ -156,6 +174,7 @@ impl HeldBlocks {
             self.known = false;
             return;
         }
+        self.count_right(place);
         self.keep(place as u32, block_chunks(plan, place), bits, len);
     }
 
@@ -181,6 +200,7 @@ impl HeldBlocks {
     pub fn clear(&mut self, plan: &Plan)
         requires open { IsOpenFor self.old (length plan.now.plps) }
         ensures counts { self.new.counts.items ≡ replicate (length self.old.counts.items) 0 }
+        ensures rights { self.new.rights.items ≡ replicate (length self.old.rights.items) 0 }
         ensures need { self.new.need ≡ 0 }
         ensures known { self.new.known ≡ true }
         ensures none { (list : ℕ) → list < length plan.now.plps → list_at self.new.pool list ≡ [] }
@@ -189,6 +209,7 @@ impl HeldBlocks {
     {
         clear_pool(&mut self.pool, plan.config().plps.len() as u32);
         self.counts.fill(0);
+        self.rights.fill(0);
         self.need = 0;
         self.known = true;
     }
@@ -216,25 +237,20 @@ impl HeldBlocks {
         self.known
     }
 
-    fn count_of(&self, plp: usize) -> u64
+    /// How many blocks of a PLP came.
+    pub fn count_of(&self, plp: usize) -> u64
         requires { plp < vec_len self.now.counts }
         ensures { result ≡ slice_index self.now.counts.items plp }
     {
         self.counts[plp]
     }
 
-    /// Whether each PLP has as many blocks as a shape tells.
-    pub fn has_counts(&self, plan: &Plan, shape: &Shape) -> bool
-        requires open { IsOpenFor self.now (length plan.now.plps) }
-        requires shape { length shape.now.counts ≡ length plan.now.plps }
-        ensures { (t : Tally) → HoldsCounts plan.now self.now t → result ≡ tally_counts plan.now t (Some shape.now) }
+    /// And how many that have its length.
+    pub fn right_of(&self, plp: usize) -> u64
+        requires { plp < vec_len self.now.rights }
+        ensures { result ≡ slice_index self.now.rights.items plp }
     {
-        for plp in 0..shape.len() {
-            if self.count_of(plp) != u64::from(shape.count(plp)) {
-                return false;
-            }
-        }
-        true
+        self.rights[plp]
     }
 
     /// Gives the next bytes of a record, whose blocks are taken from the pool.
@@ -249,8 +265,8 @@ impl HeldBlocks {
         ensures last { IsLast writer.old → IsLast writer.new × (self.new.pool ≡ self.old.pool) }
         ensures ready { IsReady writer.new plan.now shape.now self.new.pool.lists }
         ensures open { IsOpenFor self.new (length plan.now.plps) }
-        ensures same { (self.new.counts ≡ self.old.counts) × (self.new.need ≡ self.old.need) × (self.new.known ≡ self.old.known)
-            × (self.new.chunks ≡ self.old.chunks) }
+        ensures same { (self.new.counts ≡ self.old.counts) × (self.new.rights ≡ self.old.rights)
+            × (self.new.need ≡ self.old.need) × (self.new.known ≡ self.old.known) × (self.new.chunks ≡ self.old.chunks) }
     {
         writer.take(plan, shape, &mut self.pool, out)
     }

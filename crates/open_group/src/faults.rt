@@ -1,15 +1,20 @@
 // Our six tests of a group, by what is held of it; `frame_tests` defines them. The fields are those of ETSI TS 102 773, clause 5.
-ghost use Rattle.std.specs.Prelude.{◌≡◌, ◌<◌, ◌≤◌, ◌^◌, true, IsNone, length};
+ghost use Rattle.std.specs.Prelude.{◌≡◌, ◌<◌, ◌≤◌, ◌^◌, true, IsNone, List, length};
 ghost use Rattle.std.specs.Option.{option_and_then};
-ghost use Rattle.frame_tests.specs.Tally.{Tally, tally_pool, tally_missing, tally_l1, first_late, tally_time, tally_counts};
+ghost use Rattle.frame_groups.specs.Modulated.{Numbered};
+ghost use Rattle.frame_groups.specs.Sequenced.{IsAbove};
+ghost use Rattle.frame_tests.specs.Tally.{Tally, tally_room, tally_pool, tally_missing, tally_l1, first_late, tally_time};
+ghost use Rattle.frame_tests.specs.Tally.{tally_counts};
 ghost use Rattle.frame_tests.specs.Tally.{tally_shape, tally_blocks, tally_map, tally_fault};
 ghost use Rattle.frame_tests.specs.Tests.{begins_superframe, pool_chunks, stamp_agrees, disagrees, has_map};
 ghost use Rattle.open_group.specs.HoldsBlocks.{IsOpenFor, HoldsCounts};
 ghost use Rattle.open_group.specs.HoldsL1.{HoldsL1, shape_told};
+ghost use Rattle.open_group.specs.HoldsPast.{AreSized, HoldsPast};
 ghost use Rattle.open_group.specs.HoldsStamps.{HoldsStamps};
 
 use crate::blocks::HeldBlocks;
 use crate::l1::HeldL1;
+use crate::past::HeldPast;
 use crate::stamps::HeldStamps;
 use frame_groups::MuteCause;
 use frame_tests::map_passes;
@@ -23,10 +28,10 @@ fn begins_superframe(plan: &Plan, number: u64) -> bool
     plan.frame_idx(number) == 0
 }
 
-/// a: the blocks that have the length of their PLP have room.
-pub fn pool_fault(plan: &Plan, blocks: &HeldBlocks) -> Option<MuteCause>
+// The blocks that have the length of their PLP have room.
+fn room_fault(plan: &Plan, blocks: &HeldBlocks) -> Option<MuteCause>
     requires { blocks.now.chunks ≡ pool_chunks plan.now }
-    ensures cause { (t : Tally) → HoldsCounts plan.now blocks.now t → result ≡ tally_pool plan.now t }
+    ensures cause { (t : Tally) → HoldsCounts plan.now blocks.now t → result ≡ tally_room plan.now t }
     ensures room { IsNone result → blocks.now.need ≤ blocks.now.chunks }
 {
     let (chunks, need) = blocks.chunks();
@@ -37,6 +42,25 @@ pub fn pool_fault(plan: &Plan, blocks: &HeldBlocks) -> Option<MuteCause>
         need,
         spare: chunks,
     })
+}
+
+/// a: so have those of the groups before in which interleaving frames begin that the frame carries, and before all others.
+pub fn pool_fault(
+    plan: &Plan,
+    number: u64,
+    blocks: &HeldBlocks,
+    past: &HeldPast,
+) -> Option<MuteCause>
+    requires chunks { blocks.now.chunks ≡ pool_chunks plan.now }
+    requires sized { AreSized plan.now past.now }
+    ensures cause { (before : List Numbered) (t : Tally) → HoldsPast plan.now past.now before → IsAbove before number
+        → HoldsCounts plan.now blocks.now t → result ≡ tally_pool plan.now before number t }
+    ensures room { IsNone result → blocks.now.need ≤ blocks.now.chunks }
+{
+    if let Some(cause) = past.fault(plan, number) {
+        return Some(cause);
+    }
+    room_fault(plan, blocks)
 }
 
 /// b: there is an L1-current, and a timestamp if a superframe begins.
@@ -109,26 +133,36 @@ pub fn time_fault(plan: &Plan, number: u64, stamps: HeldStamps) -> Option<MuteCa
 }
 
 // Whether the blocks are those that the first L1-current tells.
-fn has_blocks(plan: &Plan, l1: &HeldL1, blocks: &HeldBlocks) -> bool
+fn has_blocks(plan: &Plan, number: u64, l1: &HeldL1, blocks: &HeldBlocks, past: &HeldPast) -> bool
     requires rows { length l1.now.dynamic.plps ≡ length plan.now.plps }
     requires open { IsOpenFor blocks.now (length plan.now.plps) }
-    ensures { (t : Tally) → HoldsL1 plan.now l1.now t.l1 t.alike → HoldsCounts plan.now blocks.now t
-        → result ≡ tally_counts plan.now t (tally_shape plan.now t) }
+    requires sized { AreSized plan.now past.now }
+    ensures { (before : List Numbered) (t : Tally) → HoldsPast plan.now past.now before → IsAbove before number
+        → HoldsL1 plan.now l1.now t.l1 t.alike → HoldsCounts plan.now blocks.now t
+        → result ≡ tally_counts plan.now before number t (tally_shape plan.now t) }
 {
     match l1.shape() {
-        Some(shape) => blocks.has_counts(plan, shape),
+        Some(shape) => past.has_counts(plan, number, blocks, shape),
         None => false,
     }
 }
 
 /// e: there are as many blocks as the first L1-current tells, and no others.
-pub fn blocks_fault(plan: &Plan, l1: &HeldL1, blocks: &HeldBlocks) -> Option<MuteCause>
+pub fn blocks_fault(
+    plan: &Plan,
+    number: u64,
+    l1: &HeldL1,
+    blocks: &HeldBlocks,
+    past: &HeldPast,
+) -> Option<MuteCause>
     requires rows { length l1.now.dynamic.plps ≡ length plan.now.plps }
     requires open { IsOpenFor blocks.now (length plan.now.plps) }
-    ensures { (t : Tally) → HoldsL1 plan.now l1.now t.l1 t.alike → HoldsCounts plan.now blocks.now t
-        → result ≡ tally_blocks plan.now t }
+    requires sized { AreSized plan.now past.now }
+    ensures { (before : List Numbered) (t : Tally) → HoldsPast plan.now past.now before → IsAbove before number
+        → HoldsL1 plan.now l1.now t.l1 t.alike → HoldsCounts plan.now blocks.now t
+        → result ≡ tally_blocks plan.now before number t }
 {
-    if has_blocks(plan, l1, blocks) && blocks.is_known() {
+    if has_blocks(plan, number, l1, blocks, past) && blocks.is_known() {
         return None;
     }
     Some(MuteCause::PacketMissing)
@@ -166,17 +200,20 @@ pub fn first_fault(
     stamps: HeldStamps,
     l1: &HeldL1,
     blocks: &HeldBlocks,
+    past: &HeldPast,
 ) -> Option<MuteCause>
     requires small { number < 2 ^ 32 }
     requires chunks { blocks.now.chunks ≡ pool_chunks plan.now }
     requires rows { length l1.now.dynamic.plps ≡ length plan.now.plps }
     requires open { IsOpenFor blocks.now (length plan.now.plps) }
-    ensures cause { (t : Tally) → HoldsStamps stamps t → HoldsL1 plan.now l1.now t.l1 t.alike → HoldsCounts plan.now blocks.now t
-        → result ≡ tally_fault plan.now number t }
+    requires sized { AreSized plan.now past.now }
+    ensures cause { (before : List Numbered) (t : Tally) → HoldsPast plan.now past.now before → IsAbove before number
+        → HoldsStamps stamps t → HoldsL1 plan.now l1.now t.l1 t.alike → HoldsCounts plan.now blocks.now t
+        → result ≡ tally_fault plan.now before number t }
     ensures room { IsNone result → blocks.now.need ≤ blocks.now.chunks }
     ensures map { IsNone result → has_map plan.now (shape_told l1.now) ≡ true }
 {
-    if let Some(cause) = pool_fault(plan, blocks) {
+    if let Some(cause) = pool_fault(plan, number, blocks, past) {
         return Some(cause);
     }
     if let Some(cause) = missing_fault(plan, number, l1, stamps) {
@@ -188,7 +225,7 @@ pub fn first_fault(
     if let Some(cause) = time_fault(plan, number, stamps) {
         return Some(cause);
     }
-    if let Some(cause) = blocks_fault(plan, l1, blocks) {
+    if let Some(cause) = blocks_fault(plan, number, l1, blocks, past) {
         return Some(cause);
     }
     map_fault(plan, l1)

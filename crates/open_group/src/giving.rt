@@ -1,10 +1,10 @@
 // The record that is given: of the group's frame, or of a muted one.
-ghost use Rattle.std.specs.Prelude.{◌≡◌, ◌<◌, ◌≤◌, ◌⊎◌, ◌↔◌, ◌++◌, ◌^◌, ◌%◌, [], true, false, is_some, Option, Some, None};
+ghost use Rattle.std.specs.Prelude.{◌≡◌, ◌<◌, ◌≤◌, ◌⊎◌, ◌↔◌, ◌++◌, ◌^◌, ◌%◌, [], true, false, is_some, List, Option, Some, None};
 ghost use Rattle.std.specs.Prelude.{length, take, drop, ℕ};
 ghost use Rattle.plp_config.specs.Emission.{emission};
 ghost use Rattle.site_frame.specs.Whole.{record_bytes};
 ghost use Rattle.frame_groups.specs.Groups.{Group};
-ghost use Rattle.frame_groups.specs.Modulated.{FrameRecord};
+ghost use Rattle.frame_groups.specs.Modulated.{Numbered, FrameRecord};
 ghost use Rattle.frame_groups.specs.Records.{record_of};
 ghost use Rattle.frame_tests.specs.Tests.{group_fault};
 ghost use Rattle.open_group.specs.Given.{is_frame, bytes_left, most_left};
@@ -19,17 +19,17 @@ use plp_config::Moment;
 use record_writer::written_law;
 
 impl<'p> PooledGroup<'p> {
-    // Begins the record of its frame, which leaves at a moment, with this number in its superframe.
-    fn begin_frame(&mut self, moment: &Moment, frame_idx: u8)
+    // Begins the record of its frame: its number, the moment at which it leaves, and its number in its superframe.
+    fn begin_frame(&mut self, number: u64, moment: &Moment, frame_idx: u8)
         requires intact { self.old.intact ≡ true }
         requires frame { is_frame self.old ≡ true }
-        ensures left { (h : Group) (n : ℕ) → moment.now ≡ emission self.old.network n → frame_idx ≡ n % self.old.network.frames
-            → Holds self.old (Some h)
-            → group_fault self.old.network h n ≡ None
-            → bytes_left self.new ≡ record_bytes (packets_view self.old.network n h.packets) }
+        ensures left { (past : List Numbered) (h : Group) → moment.now ≡ emission self.old.network number
+            → frame_idx ≡ number % self.old.network.frames
+            → Holds self.old past (Some h) → group_fault self.old.network past h number ≡ None
+            → bytes_left self.new ≡ record_bytes (packets_view self.old.network number h.packets) }
         ensures some { 0 < length (bytes_left self.new) }
         ensures most { length (bytes_left self.new) ≤ most_left self.old.network }
-        ensures group { (g : Option Group) → Holds self.old g → Holds self.new g }
+        ensures group { (past : List Numbered) (g : Option Group) → Holds self.old past g → Holds self.new past g }
         ensures key { self.new.key ≡ self.old.key }
         ensures network { self.new.network ≡ self.old.network }
         ensures frame { is_frame self.new ≡ is_frame self.old }
@@ -42,6 +42,7 @@ impl<'p> PooledGroup<'p> {
         self.l1.begin_frame(
             self.network.plan(),
             &self.conf,
+            number,
             moment,
             frame_idx,
             &mut self.writer,
@@ -53,12 +54,12 @@ impl<'p> PooledGroup<'p> {
     pub fn begin_record(&mut self, waiting: Waiting)
         requires small { waiting.frame < 2 ^ 32 }
         requires frame { waiting.mute ≡ None → (self.old.intact ≡ true) × (is_frame self.old ≡ true) }
-        ensures left { (h : Group) → Holds self.old (Some h)
-            → (waiting.mute ≡ None → group_fault self.old.network h waiting.frame ≡ None)
+        ensures left { (past : List Numbered) (h : Group) → Holds self.old past (Some h)
+            → (waiting.mute ≡ None → group_fault self.old.network past h waiting.frame ≡ None)
             → bytes_left self.new ≡ spelled self.old.network (record_of h waiting) }
         ensures some { 0 < length (bytes_left self.new) }
         ensures most { length (bytes_left self.new) ≤ most_left self.old.network }
-        ensures group { (g : Option Group) → Holds self.old g → Holds self.new g }
+        ensures group { (past : List Numbered) (g : Option Group) → Holds self.old past g → Holds self.new past g }
         ensures key { self.new.key ≡ self.old.key }
         ensures network { self.new.network ≡ self.old.network }
         ensures frame { is_frame self.new ≡ is_frame self.old }
@@ -68,7 +69,7 @@ impl<'p> PooledGroup<'p> {
         let frame_idx = self.network.plan().frame_idx(waiting.frame);
         match waiting.mute {
             Some(_) => self.writer.begin_muted(&moment),
-            None => self.begin_frame(&moment, frame_idx),
+            None => self.begin_frame(waiting.frame, &moment, frame_idx),
         }
     }
 
@@ -78,7 +79,7 @@ impl<'p> PooledGroup<'p> {
         ensures bytes { bytes_left self.old ≡ take result out.new ++ bytes_left self.new }
         ensures stays { (length out.new ≡ length out.old) × (drop result out.new ≡ drop result out.old) }
         ensures none { (result ≡ 0) ↔ ((length out.old ≡ 0) ⊎ (bytes_left self.old ≡ [])) }
-        ensures group { (g : Option Group) → Holds self.old g → Holds self.new g }
+        ensures group { (past : List Numbered) (g : Option Group) → Holds self.old past g → Holds self.new past g }
         ensures key { self.new.key ≡ self.old.key }
         ensures network { self.new.network ≡ self.old.network }
         ensures frame { is_frame self.new ≡ is_frame self.old }

@@ -5,11 +5,13 @@ ghost use Rattle.l1_signal.specs.L1Of.{conf_of};
 ghost use Rattle.frame_tests.specs.Tests.{pool_chunks};
 ghost use Rattle.open_group.specs.Giving.{CanGive, CanGive-prop};
 ghost use Rattle.open_group.specs.HoldsBlocks.{IsOpenFor};
+ghost use Rattle.open_group.specs.HoldsPast.{AreSized};
 
 use crate::blocks::HeldBlocks;
 use crate::faults::first_fault;
 use crate::l1::HeldL1;
 use crate::named::named;
+use crate::past::HeldPast;
 use crate::stamps::HeldStamps;
 use bit_slice::{BitSlice, OutOfMemory};
 use frame_groups::{Key, MuteCause, OpenGroup};
@@ -23,6 +25,7 @@ use t2mi_packet::Packet;
 
 /// The group under way: its key, and what its packets come to; and the record that is given of it, or of a muted frame. All its
 /// memory is taken in `open`. If its blocks need more chunks than the pool has, no more of them are kept, and only counted.
+/// Of the groups before it knows what the blocks came to where interleaving frames began.
 #[derive(Drop)]
 pub struct PooledGroup<'p> {
     pub(crate) network: Network<'p>,
@@ -32,10 +35,12 @@ pub struct PooledGroup<'p> {
     stamps: HeldStamps,
     pub(crate) l1: HeldL1,
     pub(crate) blocks: HeldBlocks,
+    past: HeldPast,
     pub(crate) conf: Signalling,
     pub(crate) writer: Writer,
     ghost rows: { length l1.dynamic.plps ≡ length network.plps },
     ghost open: { IsOpenFor blocks (length network.plps) },
+    ghost sized: { AreSized network past },
     ghost chunks: { blocks.chunks ≡ pool_chunks network },
     ghost signalling: { conf ≡ conf_bits (conf_of network) },
     // As long as it is intact, only muted records are given.
@@ -50,14 +55,17 @@ impl<'p> PooledGroup<'p> {
     ghost use Rattle.t2mi_packet.specs.declared.packet.Packet.{Packet};
     ghost use Rattle.frame_groups.specs.Grouping.{one_packet, one_more, key_of};
     ghost use Rattle.frame_groups.specs.Groups.{Group};
+    ghost use Rattle.frame_groups.specs.Modulated.{Numbered};
+    ghost use Rattle.frame_groups.specs.Sequenced.{IsAbove, past_of};
     ghost use Rattle.frame_tests.specs.Carried.{L1Parts, right_blocks, l1s_of};
     ghost use Rattle.frame_tests.specs.Tests.{first_shape, named_frame, group_fault};
     ghost use Rattle.open_group.specs.Holds.{HoldsPackets, Holds};
+    ghost use Rattle.open_group.specs.HoldsPast.{HoldsPast};
     ghost use Rattle.open_group.specs.Sent.{sent_bytes};
 
     /// A group in a network of this plan: none yet. It takes all the memory that a group needs.
     pub fn open(alloc: Global, plan: &'p Plan) -> Result<PooledGroup<'p>, OutOfMemory>
-        ensures holds { IfOk result (λ group. Holds group None) }
+        ensures holds { IfOk result (λ group. Holds group [] None) }
         ensures network { IfOk result (λ group. group.network ≡ plan.now) }
         ensures intact { IfOk result (λ group. group.intact ≡ true) }
     {
@@ -68,9 +76,24 @@ impl<'p> PooledGroup<'p> {
             stamps: HeldStamps::NONE,
             l1: HeldL1::open(alloc, plan)?,
             blocks: HeldBlocks::open(alloc, plan)?,
+            past: HeldPast::open(alloc, plan)?,
             conf: Signalling::open(alloc, plan)?,
             writer: Writer::open(alloc)?,
         })
+    }
+
+    // Notes the group that there is, if it has a number: it comes before the next one.
+    fn note(&mut self, number: Option<u64>)
+        requires { is_some number ≡ true → is_some self.old.key ≡ true }
+        ensures past { (past : List Numbered) (g : Option Group) → Holds self.old past g
+            → ((n : ℕ) → number ≡ Some n → IsAbove past n)
+            → HoldsPast self.new.network self.new.past (past_of past g number) }
+        ensures network { self.new.network ≡ self.old.network }
+    {
+        match number {
+            Some(number) => self.past.note(self.network.plan(), number, &self.blocks),
+            None => {}
+        }
     }
 
     // Holds no packets.
@@ -80,7 +103,8 @@ impl<'p> PooledGroup<'p> {
         ensures key { self.new.key ≡ self.old.key }
         ensures network { self.new.network ≡ self.old.network }
         ensures intact { self.new.intact ≡ self.old.intact }
-        ensures others { (self.new.writer ≡ self.old.writer) × (self.new.conf ≡ self.old.conf) }
+        ensures others { (self.new.writer ≡ self.old.writer) × (self.new.conf ≡ self.old.conf)
+            × (self.new.past ≡ self.old.past) }
     {
         self.stamps = HeldStamps::NONE;
         self.l1.clear();
@@ -93,6 +117,7 @@ impl<'p> PooledGroup<'p> {
         requires intact { self.old.intact ≡ true }
         ensures holds { (packets : List Packet) → HoldsPackets self.old packets
             → HoldsPackets self.new (packets ++ packet.now ∷ []) }
+        ensures past { self.new.past ≡ self.old.past }
         ensures key { self.new.key ≡ self.old.key }
         ensures network { self.new.network ≡ self.old.network }
         ensures intact { self.new.intact ≡ self.old.intact }
@@ -127,7 +152,8 @@ impl<'p> OpenGroup for PooledGroup<'p> {
         self.key
     }
 
-    fn begin(&mut self, key: Key, packet: &Packet<'_>) {
+    fn begin(&mut self, number: Option<u64>, key: Key, packet: &Packet<'_>) {
+        self.note(number);
         self.key = Some(key);
         self.writer.clear();
         self.intact = true;
@@ -149,6 +175,13 @@ impl<'p> OpenGroup for PooledGroup<'p> {
     fn fault(&self, number: u64) -> Option<MuteCause> {
         tally_law();
         let plan = self.network.plan();
-        first_fault(plan, number, self.stamps, &self.l1, &self.blocks)
+        first_fault(
+            plan,
+            number,
+            self.stamps,
+            &self.l1,
+            &self.blocks,
+            &self.past,
+        )
     }
 }

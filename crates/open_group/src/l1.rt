@@ -45,7 +45,9 @@ impl HeldL1 {
     ghost use Rattle.open_group.specs.declared.parts.TheConstants.{MOST_BITS};
     ghost use Rattle.open_group.specs.HoldsL1.{HasRead, HoldsL1, AddsL1, shape_told};
     ghost use Rattle.open_group.specs.Parts.{parts_of};
-    ghost use Rattle.std.specs.Prelude.{List, ℕ, ◌++◌, sum, slice_index};
+    ghost use Rattle.std.specs.Prelude.{List, ℕ, ◌++◌, sum_by};
+    ghost use Rattle.plp_config.specs.Places.{places};
+    ghost use Rattle.record_writer.specs.RecordBytes.{own_count};
     ghost use Rattle.l1_signal.specs.L1Configurable.{conf_bits};
     ghost use Rattle.l1_signal.specs.L1Of.{conf_of};
     ghost use Rattle.frame_tests.specs.Tests.{has_map};
@@ -230,11 +232,13 @@ impl HeldL1 {
         &self.shape
     }
 
-    /// Begins the record of the frame that it tells, which leaves at a moment, with this number in its superframe.
+    /// Begins the record of the frame that it tells: its number, the moment at which it leaves, and its number in its
+    /// superframe.
     pub fn begin_frame(
         &self,
         plan: &Plan,
         conf: &Signalling,
+        number: u64,
         moment: &Moment,
         frame_idx: u8,
         writer: &mut Writer,
@@ -243,9 +247,10 @@ impl HeldL1 {
         requires map { has_map plan.now (shape_told self.now) ≡ true }
         requires rows { length self.now.dynamic.plps ≡ length plan.now.plps }
         ensures left { (lists : List (List (List ℕ))) → bytes_left writer.new plan.now self.now.shape lists
-            ≡ front_bytes plan.now moment.now (parts_of self.now.parts).dynamic (sum self.now.shape.counts)
+            ≡ front_bytes plan.now moment.now (parts_of self.now.parts).dynamic
+            (sum_by (own_count plan.now number self.now.shape) (places plan.now))
             (rest_size plan.now (post_size plan.now (length (parts_of self.now.parts).dynamic))
-            (slice_index self.now.shape.counts))
+            (own_count plan.now number self.now.shape))
             ++ step_bytes plan.now self.now.shape frame_idx lists (Blocks 0) }
         ensures most { (lists : List (List (List ℕ)))
             → length (bytes_left writer.new plan.now self.now.shape lists) ≤ most_record plan.now (used_chunks lists) }
@@ -256,8 +261,8 @@ impl HeldL1 {
         map_test_law();
         plan.obeys_rules();
         let dynamic = self.parts.dynamic();
-        let blocks = block_count(plan, &self.shape);
-        let rest = rest_len(plan, &self.shape, dynamic.len());
+        let blocks = block_count(plan, number, &self.shape);
+        let rest = rest_len(plan, number, &self.shape, dynamic.len());
         writer.begin_frame(plan, conf, moment, frame_idx, dynamic, blocks, rest);
     }
 }

@@ -9,6 +9,7 @@ mod l1;
 mod laws;
 mod named;
 mod parts;
+mod past;
 mod plps;
 mod stamps;
 

@@ -7,7 +7,7 @@ use super::*;
 use bit_slice::BitSlice;
 use frame_groups::{Key, MuteCause, OpenGroup};
 use plp_config::Moment;
-use sample_networks::small_plan;
+use sample_networks::{small_plan, spread_plan};
 use std::process::Abort;
 use std::test::Fail;
 use t2mi_packet::{Body, Packet, Stamp};
@@ -20,6 +20,12 @@ const PRE: [u8; 21] = [
 const CONF: [u8; 24] = [
     0x00, 0x02, 0x02, 0x00, 0x00, 0x71, 0x02, 0xAA, 0x00, 0x00, 0x8C, 0x00, 0x00, 0x40, 0x00, 0x20,
     0x08, 0x08, 0x00, 0x10, 0x00, 0x00, 0x00, 0x00,
+];
+
+// Of the network with interleaving frames of two frames: PLP_NUM_BLOCKS_MAX 8, TIME_IL_LENGTH 2 and TIME_IL_TYPE 1.
+const SPREAD_CONF: [u8; 24] = [
+    0x00, 0x02, 0x02, 0x00, 0x00, 0x71, 0x02, 0xAA, 0x00, 0x00, 0x8C, 0x00, 0x00, 0x40, 0x00, 0x40,
+    0x08, 0x14, 0x00, 0x10, 0x00, 0x00, 0x00, 0x00,
 ];
 
 // FRAME_IDX 0 and four blocks.
@@ -73,11 +79,11 @@ fn stamp(late: u32) -> Stamp
     }
 }
 
-fn l1_packet<'a>(conf: &'a [u8; 24], dynamic: &'a [u8; 16]) -> Packet<'a>
+fn l1_packet<'a>(frame_idx: u8, conf: &'a [u8; 24], dynamic: &'a [u8; 16]) -> Packet<'a>
     ensures { Fits result }
 {
     packet(Body::L1Current {
-        frame_idx: 0,
+        frame_idx,
         pre: BitSlice::whole(&PRE),
         conf: BitSlice::whole(conf).sub(0, 191),
         dynamic: BitSlice::whole(dynamic).sub(0, 127),
@@ -112,7 +118,7 @@ fn add(group: &mut PooledGroup<'_>, part: Part)
         Part::L1(conf, dynamic) => {
             let conf = flipped(&CONF, conf);
             let dynamic = flipped(&DYN, dynamic);
-            group.add(&l1_packet(&conf, &dynamic));
+            group.add(&l1_packet(0, &conf, &dynamic));
         }
         Part::Blocks(plp, count) => add_blocks(group, plp, count),
     }
@@ -132,7 +138,7 @@ fn told(
         packet_type: 0x21,
         bits: BitSlice::whole(&PRE),
     });
-    group.begin(key, &none);
+    group.begin(None, key, &none);
     for part in parts {
         add(group, *part);
     }
@@ -211,6 +217,137 @@ fn causes_in_their_order(rt: HostRuntime) -> Result<(), Fail> {
     assert!(rt; told(&mut group, &ALL, 1).0 == REFUSED);
     // Two frames of 100,000 ticks, of 7 subseconds each.
     assert!(rt; told(&mut group, &ALL, 2).0 == late(0, 1_400_000));
+    Ok(())
+}
+
+// What comes of a frame of the network with interleaving frames of two frames: how many blocks its L1-current tells, if it comes,
+// its blocks, and whether a block of one byte comes besides.
+#[derive(Clone, Copy)]
+struct Came {
+    told: Option<u8>,
+    blocks: usize,
+    short: bool,
+}
+
+// Five blocks are told and come, and none of them.
+const BEGUN: Came = Came {
+    told: Some(5),
+    blocks: 5,
+    short: false,
+};
+
+const LATER: Came = Came { blocks: 0, ..BEGUN };
+
+// More than the pool has room for.
+const MANY: Came = Came {
+    told: None,
+    blocks: 70,
+    short: false,
+};
+
+fn add_l1(group: &mut PooledGroup<'_>, frame_idx: u8, told: u8)
+    requires some { is_some group.old.key ≡ true }
+    requires intact { group.old.intact ≡ true }
+    ensures some { is_some group.new.key ≡ true }
+    ensures intact { group.new.intact ≡ true }
+{
+    let mut dynamic = [0; 16];
+    dynamic[0] = frame_idx;
+    dynamic[13] = told << 1;
+    group.add(&l1_packet(frame_idx, &SPREAD_CONF, &dynamic));
+}
+
+// Begins the group of a frame with its timestamp, behind the group that there is if that has a number.
+fn begin(group: &mut PooledGroup<'_>, before: Option<u64>, frame_idx: u8, came: Came)
+    requires some { is_some before ≡ true → is_some group.old.key ≡ true }
+    ensures some { is_some group.new.key ≡ true }
+    ensures intact { group.new.intact ≡ true }
+{
+    let key = Key {
+        superframe: 0,
+        frame: frame_idx,
+    };
+    group.begin(before, key, &packet(Body::Timestamp(stamp(0))));
+    if let Some(told) = came.told {
+        add_l1(group, frame_idx, told);
+    }
+    add_blocks(group, 0, came.blocks);
+    if came.short {
+        group.add(&packet(Body::Block {
+            frame_idx,
+            plp_id: 0,
+            first: false,
+            bits: BitSlice::whole(&[0]),
+        }));
+    }
+}
+
+// A pool for two frames of 40,000 cells has floor(560,000 / 2,025) chunks, and 70 blocks need four each.
+const SPREAD_FULL: Option<MuteCause> = Some(MuteCause::PoolFull {
+    need: 280,
+    spare: 276,
+});
+
+// What comes of frame 0 and of a later one, and why they are muted.
+struct Row {
+    // What the row shows.
+    why: &'static str,
+    first: Option<Came>,
+    number: u32,
+    second: Came,
+    wanted: (Option<MuteCause>, Option<MuteCause>),
+}
+
+// Why frame 0 and the later frame of a row are muted.
+fn causes(group: &mut PooledGroup<'_>, row: &Row) -> (Option<MuteCause>, Option<MuteCause>) {
+    let mut first_cause = None;
+    match row.first {
+        Some(first) => {
+            begin(group, None, 0, first);
+            first_cause = group.fault(0);
+            begin(group, Some(0), 1, row.second);
+        }
+        None => begin(group, None, 1, row.second),
+    }
+    (first_cause, group.fault(u64::from(row.number)))
+}
+
+// Frame 1 is the last one of the interleaving frame that begins in frame 0, and so is frame 3 of that which begins in frame 2.
+#[rattlefmt::skip]
+const ROWS: [Row; 12] = [
+    Row { why: "a frame carries the blocks that came where its interleaving frame began",
+        first: Some(BEGUN), number: 1, second: LATER, wanted: (None, None) },
+    Row { why: "one that began with a block too many is missing in each of its frames",
+        first: Some(Came { blocks: 6, ..BEGUN }), number: 1, second: LATER, wanted: (MISSING, MISSING) },
+    Row { why: "so is one that began with a block of a wrong length besides",
+        first: Some(Came { short: true, ..BEGUN }), number: 1, second: LATER, wanted: (MISSING, MISSING) },
+    Row { why: "and one that began with such a block in place of a right one",
+        first: Some(Came { blocks: 4, short: true, ..BEGUN }), number: 1, second: LATER, wanted: (MISSING, MISSING) },
+    Row { why: "without its L1-current the frame where it began is missing alone",
+        first: Some(Came { told: None, ..BEGUN }), number: 1, second: LATER, wanted: (MISSING, None) },
+    Row { why: "without the group where it began its blocks are missing",
+        first: None, number: 1, second: LATER, wanted: (None, MISSING) },
+    Row { why: "but none is missing if none is told",
+        first: None, number: 1, second: Came { told: Some(0), ..LATER }, wanted: (None, None) },
+    Row { why: "the number of blocks changes in the middle of an interleaving frame",
+        first: Some(BEGUN), number: 1, second: Came { told: Some(4), ..LATER }, wanted: (None, MISSING) },
+    Row { why: "a block comes in the middle of an interleaving frame",
+        first: Some(BEGUN), number: 1, second: Came { blocks: 1, ..LATER }, wanted: (None, MISSING) },
+    Row { why: "the blocks of an earlier superframe are not those of the next",
+        first: Some(BEGUN), number: 3, second: LATER, wanted: (None, MISSING) },
+    Row { why: "the pool that is full is told of the earlier group, though its need is lower",
+        first: Some(MANY), number: 1, second: Came { blocks: 80, ..LATER }, wanted: (SPREAD_FULL, SPREAD_FULL) },
+    Row { why: "a full pool of an earlier superframe is forgotten",
+        first: Some(MANY), number: 3, second: Came { told: Some(0), ..LATER }, wanted: (SPREAD_FULL, None) },
+];
+
+#[test]
+fn groups_where_interleaving_frames_begin(rt: HostRuntime) -> Result<(), Fail> {
+    let plan = spread_plan(rt.alloc())?;
+    for row in &ROWS {
+        let mut group = PooledGroup::open(rt.alloc(), &plan)?;
+        assert!(rt; causes(&mut group, row) == row.wanted, "{}", row.why);
+    }
     Ok(())
 }
 

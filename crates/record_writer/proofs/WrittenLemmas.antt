@@ -1,9 +1,11 @@
 -- What a writer gives of a frame is its record.
-use Rattle.std.proofs.Common.{◌≡◌, ℕ, zero, suc, ◌+◌, ◌*◌, ◌^◌, ◌<◌, ◌≤◌, Bool, List, [], ◌∷◌, ◌++◌, length, refl, sym, ap, ap₂}
+use Rattle.std.proofs.Common.{◌≡◌, ℕ, suc, ◌+◌, ◌*◌, ◌^◌, ◌<◌, ◌≤◌, Bool, List, [], ◌∷◌, ◌++◌, length, refl, sym, subst, ap}
+use Rattle.std.proofs.Common.{ap₂}
 use Rattle.std.proofs.Common.{◌∙◌, arith, append_assoc, append-nil, length-append}
 use Rattle.std.specs.Prelude.{map, sum, sum_by, slice_index, slice_index_or}
 use Rattle.std.specs.List.{concat, flat_map, range_with_len, AllByRecursion}
 use Rattle.std.specs.FinMap.{get}
+use Rattle.std.proofs.lemmas.Bool.{cond_both}
 use Rattle.std.proofs.lemmas.List.{length-map}
 use Rattle.std.proofs.lemmas.List.Sums.{sum_by-cons}
 use Rattle.terms.specs.Bits.{bytes_of, bytes_for}
@@ -12,7 +14,9 @@ use Rattle.terms.proofs.BitLemmas.{length-bytes_of}
 use Rattle.byteorder.specs.Endian.{big_bytes}
 use Rattle.plp_config.specs.Capacity.{block_bytes}
 use Rattle.plp_config.specs.Laws.{FieldRange}
+use Rattle.plp_config.specs.Places.{places}
 use Rattle.plp_config.specs.Plps.{plp_at}
+use Rattle.plp_config.specs.InterleavingFrames.{is_first}
 use Rattle.plp_config.specs.declared.config.Config.{Config}
 use Rattle.scheduler.specs.Shape.{FrameShape}
 use Rattle.cell_map.specs.CellMap.{cell_map}
@@ -24,10 +28,10 @@ use Rattle.site_frame.specs.Record.{Block, frame_kind, muted_kind, head_bytes, b
 use Rattle.site_frame.specs.Record.{cell_bytes}
 use Rattle.site_frame.specs.Whole.{written_rest, block_size}
 use Rattle.frame_records.specs.Frames.{l1_pre, frame_cells, HasByteIds}
-use Rattle.frame_records.specs.Laws.{IsSentBlock, EveryFrameFits}
+use Rattle.frame_records.specs.Laws.{IsSentBlock, EveryFrameFits, blocks_size}
 use Rattle.cell_words.specs.Words.{words}
 use Rattle.record_writer.specs.Front.{post_with}
-use Rattle.record_writer.specs.RecordBytes.{list_at, plp_block, sent_bytes, list_blocks, lists_bytes}
+use Rattle.record_writer.specs.RecordBytes.{own_count, list_at, plp_block, sent_bytes, list_blocks, lists_bytes}
 use Rattle.record_writer.specs.Laws.{written_frame, RecordWritten, MutedWritten, HasBlocks, BlockCount, post_size, RestLength}
 use Rattle.record_writer.specs.Laws.{RecordFits}
 use Rattle.frame_records.proofs.FrameLemmas.{cells_count}
@@ -94,15 +98,23 @@ muted_written moment = sym (append-nil (head_bytes muted_kind moment 0))
 -- ---- how many bytes they have
 
 pub block_count : BlockCount
-block_count c shape lists h = counted 0 lists ∙ ap (λ (l : List ℕ). sum l) (sym h.counts)
+block_count c count lists h =
+    counted 0 lists (λ i lt. let e : 0 + i ≡ i = omega arith in ap count e ∙ sym (h.counts i lt))
+    ∙ ap (λ (n : ℕ). sum_by count (range_with_len 0 n)) h.plps
   where
-    counted : (plp : ℕ) (lists : List (List (List ℕ))) → length (list_blocks c plp lists)
-        ≡ sum (map (λ blocks. length blocks) lists)
-    counted plp [] = refl
-    counted plp (blocks ∷ lists) =
-        length-append (map (plp_block c plp) blocks) (list_blocks c (plp + 1) lists)
-        ∙ ap₂ (λ (a b : ℕ). a + b) (length-map blocks (plp_block c plp)) (counted (plp + 1) lists)
-        ∙ sym (sum_by-cons (λ x. x) (length blocks) (map (λ blocks. length blocks) lists))
+    counted : (plp : ℕ) (lists : List (List (List ℕ)))
+        → ((i : ℕ) → i < length lists → count (plp + i) ≡ length (list_at lists i))
+        → length (list_blocks c plp lists) ≡ sum_by count (range_with_len plp (length lists))
+    counted plp [] each = refl
+    counted plp (blocks ∷ lists) each =
+        let same : plp + 0 ≡ plp = omega arith in
+        let here : count plp ≡ length blocks = ap count (sym same) ∙ each 0 (omega arith) in
+        let more = counted (plp + 1) lists
+        (λ i lt. let e : plp + suc i ≡ plp + 1 + i = omega arith in ap count (sym e) ∙ each (suc i) (omega (arith, lt))) in
+        let size = length-append (map (plp_block c plp) blocks) (list_blocks c (plp + 1) lists) in
+        let one = length-map blocks (plp_block c plp) in
+        let all = sum_by-cons count plp (range_with_len (plp + 1) (length lists)) in
+        omega (arith, here, more, size, one, all)
 
 -- blocks of one length
 plp_size : (c : Config) (plp size : ℕ) (blocks : List (List ℕ))
@@ -133,22 +145,12 @@ lists_size c count from (blocks ∷ lists) counts each =
     ∙ ap₂ (λ (a b : ℕ). a + b) (size ∙ ap (λ (n : ℕ). n * (4 + block_bytes c from)) (sym here)) more
     ∙ sym (sum_by-cons (λ plp. count plp * (4 + block_bytes c plp)) from (range_with_len (from + 1) (length lists)))
 
--- how many blocks a list has
-length_at : (lists : List (List (List ℕ))) (i : ℕ) → slice_index (map (λ blocks. length blocks) lists) i
-    ≡ length (list_at lists i)
-length_at [] zero = refl
-length_at [] (suc i) = refl
-length_at (blocks ∷ lists) zero = refl
-length_at (blocks ∷ lists) (suc i) = length_at lists i
-
 -- those of all
-all_size : (c : Config) (shape : FrameShape) (lists : List (List (List ℕ))) → HasBlocks c shape lists
-    → length (lists_bytes c 0 lists)
-    ≡ sum_by (λ plp. slice_index shape.counts plp * (4 + block_bytes c plp)) (range_with_len 0 (length c.plps))
-all_size c shape lists h =
-    let count : ℕ → ℕ = slice_index shape.counts in
+all_size : (c : Config) (count : ℕ → ℕ) (lists : List (List (List ℕ))) → HasBlocks c count lists
+    → length (lists_bytes c 0 lists) ≡ blocks_size c count
+all_size c count lists h =
     lists_size c count 0 lists
-    (λ i lt. let e : 0 + i ≡ i = omega arith in ap count e ∙ ap (λ (l : List ℕ). slice_index l i) h.counts ∙ length_at lists i)
+    (λ i lt. let e : 0 + i ≡ i = omega arith in ap count e ∙ sym (h.counts i lt))
     (λ i place lt. let e : i ≡ 0 + i = omega arith in h.each i place lt ∙ ap (block_bytes c) e)
     ∙ ap (λ (n : ℕ). sum_by (λ plp. count plp * (4 + block_bytes c plp)) (range_with_len 0 n)) h.plps
 
@@ -196,7 +198,7 @@ length-post_with law c dynamic =
     omega (arith, length-crc_behind (conf_bits (conf_of c) ++ dynamic), length-append (conf_bits (conf_of c)) dynamic, law c)
 
 pub rest_length : PreBitsLength → ConfPartLength → BlocksInOrder → RestLength
-rest_length bits conf order c moment frame_idx dynamic shape lists h =
+rest_length bits conf order c moment frame_idx dynamic shape count lists h =
     let post : List Bool = post_with c dynamic in
     let blocks : List Block = list_blocks c 0 lists in
     let pre_size : length (bytes_of (l1_pre c)) ≡ 25 = length-bytes_of (l1_pre c) ∙ ap bytes_for (length-l1_pre bits c) in
@@ -205,9 +207,9 @@ rest_length bits conf order c moment frame_idx dynamic shape lists h =
     ∙ ap bytes_for (length-post_with conf c dynamic) in
     let long : length (big_bytes 4 (length post) ++ bytes_of (post ++ [])) ≡ 4 + bytes_for (post_size c (length dynamic)) =
     omega (arith, post_bytes) in
-    let all = all_size c shape lists h in
+    let all = all_size c count lists h in
     let sized : length (big_bytes 2 (length blocks) ++ blocks_bytes blocks [])
-    ≡ 2 + sum_by (λ plp. slice_index shape.counts plp * (4 + block_bytes c plp)) (range_with_len 0 (length c.plps)) =
+    ≡ 2 + blocks_size c count =
     omega (arith, ap (λ (l : List ℕ). length l) (order blocks ∙ all_bytes c 0 lists), all) in
     let cells : length (big_bytes 4 (length (frame_cells c shape frame_idx))
     ++ flat_map cell_bytes (frame_cells c shape frame_idx))
@@ -245,14 +247,43 @@ lists_are_sent field c from (blocks ∷ lists) ids inside each =
     (lists_are_sent field c (from + 1) lists ids (omega (arith, inside))
     (λ i place lt. let e : from + suc i ≡ from + 1 + i = omega arith in each (suc i) place lt ∙ ap (block_bytes c) e))
 
+own-le : (c : Config) (n : ℕ) (shape : FrameShape) (plp : ℕ) → own_count c n shape plp ≤ slice_index shape.counts plp
+own-le c n shape plp = cond_both (is_first c plp n) (slice_index shape.counts plp) 0 (λ k. k ≤ slice_index shape.counts plp)
+    (λ e. omega arith) (λ e. omega arith)
+
+-- a record has no more blocks than the shape of its frame tells
+sum-le : (f : ℕ → ℕ) (from : ℕ) (counts : List ℕ) → ((i : ℕ) → i < length counts → f (from + i) ≤ slice_index counts i)
+    → sum_by f (range_with_len from (length counts)) ≤ sum counts
+sum-le f from [] each = omega arith
+sum-le f from (k ∷ counts) each =
+    let same : from + 0 ≡ from = omega arith in
+    let here : f from ≤ k = subst (λ (j : ℕ). f j ≤ k) same (each 0 (omega arith)) in
+    let more = sum-le f (from + 1) counts
+    (λ i lt. let e : from + suc i ≡ from + 1 + i = omega arith in
+    subst (λ (j : ℕ). f j ≤ slice_index counts i) e (each (suc i) (omega (arith, lt)))) in
+    let one = sum_by-cons f from (range_with_len (from + 1) (length counts)) in
+    let all = sum_by-cons (λ (x : ℕ). x) k counts in
+    omega (arith, here, more, one, all)
+
+own_sum : (c : Config) (n : ℕ) (shape : FrameShape) → length shape.counts ≡ length c.plps
+    → sum_by (own_count c n shape) (places c) ≤ sum shape.counts
+own_sum c n shape rows =
+    subst (λ (k : ℕ). sum_by (own_count c n shape) (range_with_len 0 k) ≤ sum shape.counts) rows
+    (sum-le (own_count c n shape) 0 shape.counts
+    (λ i lt. let e : i ≡ 0 + i = omega arith in
+    subst (λ (j : ℕ). own_count c n shape j ≤ slice_index shape.counts i) e (own-le c n shape i)))
+
 pub record_fits : ConfPartLength → FieldRange → EveryFrameFits → RecordFits
-record_fits conf field every c n frame_idx dynamic shape lists is ids small short passes h =
-    let room = room_for_all c (slice_index shape.counts) passes.counts in
+record_fits conf field every c n frame_idx dynamic shape lists is ids small short rows passes h =
+    let count : ℕ → ℕ = own_count c n shape in
+    let few : (plp : ℕ) → plp < length c.plps → count plp ≤ (plp_at c.plps plp).blocks =
+    λ plp lt. omega (arith, own-le c n shape plp, passes.counts plp lt) in
+    let room = room_for_all c count few in
     every c n frame_idx (post_with c dynamic) (list_blocks c 0 lists) shape is small
     (omega (arith, length-post_with conf c dynamic, short))
-    (ap (λ (l : List ℕ). length l) h.counts ∙ length-map lists (λ blocks. length blocks) ∙ h.plps)
+    rows
     passes
-    (omega (arith, block_count c shape lists h))
-    (omega (arith, all_sized c 0 lists, all_size c shape lists h, room))
+    (omega (arith, block_count c count lists h, own_sum c n shape rows))
+    (omega (arith, all_sized c 0 lists, all_size c count lists h, room))
     (lists_are_sent field c 0 lists ids (omega (arith, h.plps)) (λ i place lt. let e : i ≡ 0 + i = omega arith in
     h.each i place lt ∙ ap (block_bytes c) e))

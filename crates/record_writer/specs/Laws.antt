@@ -1,9 +1,9 @@
 -- Laws of what a writer gives.
-use Rattle.std.specs.Prelude.{◌≡◌, ℕ, ◌+◌, ◌<◌, ◌≤◌, ◌^◌, Bool, List, [], ◌++◌, length, map, sum, slice_index}
-use Rattle.std.specs.Prelude.{slice_index_or}
+use Rattle.std.specs.Prelude.{◌≡◌, ℕ, ◌+◌, ◌<◌, ◌≤◌, ◌^◌, Bool, List, [], ◌++◌, length, sum_by, slice_index_or}
 use Rattle.std.specs.List.{concat}
 use Rattle.plp_config.specs.Capacity.{IsPlan, block_bytes}
 use Rattle.plp_config.specs.Emission.{emission}
+use Rattle.plp_config.specs.Places.{places}
 use Rattle.plp_config.specs.declared.config.Config.{Config}
 use Rattle.plp_config.specs.declared.moment.Moment.{Moment}
 use Rattle.scheduler.specs.Shape.{FrameShape}
@@ -15,7 +15,7 @@ use Rattle.site_frame.specs.Whole.{written_rest, record_bytes, FitsRecord}
 use Rattle.site_frame.specs.Record.{head_bytes, muted_kind}
 use Rattle.site_frame.specs.declared.reading.RecordView.{RecordView}
 use Rattle.site_frame.specs.declared.reading.RecordView.TheVariants.{Muted}
-use Rattle.record_writer.specs.RecordBytes.{AreShort, most_block, list_at, list_blocks}
+use Rattle.record_writer.specs.RecordBytes.{AreShort, most_block, own_count, list_at, list_blocks}
 use Rattle.l1_signal.specs.Lengths.{conf_len, dyn_len}
 use Rattle.l1_signal.specs.declared.lengths.TheConstants.{CRC_BITS}
 use Rattle.record_writer.specs.Front.{post_with, front_bytes}
@@ -40,18 +40,17 @@ RecordWritten = (c : Config) (moment : Moment) (frame_idx : ℕ) (dynamic : List
 abbrev pub MutedWritten : Type 0
 MutedWritten = (moment : Moment) → head_bytes muted_kind moment 0 ≡ record_bytes (Muted moment)
 
--- In the lists are the blocks of a frame of this shape: of each PLP as many as it tells, each of the length that blocks of the
--- PLP have.
-pub record HasBlocks (c : Config) (shape : FrameShape) (lists : List (List (List ℕ))) : Type 0 where
+-- In the lists are so many blocks of each PLP, each of the length that blocks of the PLP have.
+pub record HasBlocks (c : Config) (count : ℕ → ℕ) (lists : List (List (List ℕ))) : Type 0 where
   pub plps : length lists ≡ length c.plps
-  pub counts : shape.counts ≡ map (λ blocks. length blocks) lists
+  pub counts : (plp : ℕ) → plp < length lists → length (list_at lists plp) ≡ count plp
   pub each : (plp place : ℕ) → place < length (list_at lists plp) → length (slice_index_or (list_at lists plp) place [])
       ≡ block_bytes c plp
 
 -- So many blocks there are.
 abbrev pub BlockCount : Type 0
-BlockCount = (c : Config) (shape : FrameShape) (lists : List (List (List ℕ))) → HasBlocks c shape lists
-    → length (list_blocks c 0 lists) ≡ sum shape.counts
+BlockCount = (c : Config) (count : ℕ → ℕ) (lists : List (List (List ℕ))) → HasBlocks c count lists
+    → length (list_blocks c 0 lists) ≡ sum_by count (places c)
 
 -- the bits of L1-post with a dynamic part of so many: the configurable part, this one, and the CRC_32
 abbrev pub post_size : Config → ℕ → ℕ
@@ -59,17 +58,18 @@ post_size c dynamic = conf_len (length c.plps) + dynamic + CRC_BITS
 
 -- So many bytes follow the head.
 abbrev pub RestLength : Type 0
-RestLength = (c : Config) (moment : Moment) (frame_idx : ℕ) (dynamic : List Bool) (shape : FrameShape)
-    (lists : List (List (List ℕ))) → HasBlocks c shape lists
+RestLength = (c : Config) (moment : Moment) (frame_idx : ℕ) (dynamic : List Bool) (shape : FrameShape) (count : ℕ → ℕ)
+    (lists : List (List (List ℕ))) → HasBlocks c count lists
     → length (concat (written_rest (written_frame c moment frame_idx dynamic shape lists)))
-    ≡ rest_size c (post_size c (length dynamic)) (slice_index shape.counts)
+    ≡ rest_size c (post_size c (length dynamic)) count
 
 -- A frame of a plan fits a record, if its dynamic part has no more bits than those of the plan: so what is written of it spells
 -- it, and is read back.
 abbrev pub RecordFits : Type 0
 RecordFits = (c : Config) (n frame_idx : ℕ) (dynamic : List Bool) (shape : FrameShape) (lists : List (List (List ℕ)))
     → IsPlan c → HasByteIds c → n < 2 ^ 32
-    → length dynamic ≤ dyn_len (length c.plps) → Passes c shape → HasBlocks c shape lists
+    → length dynamic ≤ dyn_len (length c.plps) → length shape.counts ≡ length c.plps → Passes c shape
+    → HasBlocks c (own_count c n shape) lists
     → FitsRecord (written_frame c (emission c n) frame_idx dynamic shape lists)
 
 -- The lists of a pool without blocks are short, and stay so if a short block is appended.

@@ -1,8 +1,10 @@
 -- The bytes of the blocks of a frame's record.
-use Rattle.std.specs.Prelude.{ℕ, ◌+◌, ◌≤◌, List, [], ◌∷◌, ◌++◌, length, map, slice_index_or}
+use Rattle.std.specs.Prelude.{ℕ, ◌+◌, ◌≤◌, List, [], ◌∷◌, ◌++◌, length, map, slice_index, slice_index_or, if◌then◌else◌}
 use Rattle.std.specs.List.{flat_map}
 use Rattle.plp_config.specs.Plps.{plp_at}
 use Rattle.plp_config.specs.declared.config.Config.{Config}
+use Rattle.plp_config.specs.InterleavingFrames.{is_first}
+use Rattle.scheduler.specs.Shape.{FrameShape}
 use Rattle.site_frame.specs.Record.{Block, block_bytes}
 
 -- the most bytes of a piece
@@ -15,6 +17,11 @@ plp_block c plp bytes = record { plp_id = (plp_at c.plps plp).id; bytes = bytes 
 
 abbrev pub sent_bytes : Config → ℕ → List ℕ → List ℕ
 sent_bytes c plp bytes = block_bytes (plp_block c plp bytes) 0
+
+-- how many blocks of a PLP stand in the record of frame n: as many as its shape tells if an interleaving frame begins there, and
+-- else none
+abbrev pub own_count : Config → ℕ → FrameShape → ℕ → ℕ
+own_count c n shape plp = if is_first c plp n then slice_index shape.counts plp else 0
 
 -- the blocks of lists, one for each PLP from one on, and their bytes
 abbrev pub list_blocks : Config → ℕ → List (List (List ℕ)) → List Block

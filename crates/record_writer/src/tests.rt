@@ -156,8 +156,8 @@ impl Frame {
             &plan.emission(1),
             1,
             BitSlice::whole(&DYNAMIC).sub(0, DYNAMIC_BITS),
-            block_count(&plan, &shape),
-            rest_len(&plan, &shape, DYNAMIC_BITS),
+            block_count(&plan, 0, &shape),
+            rest_len(&plan, 0, &shape, DYNAMIC_BITS),
         );
         Ok(Frame {
             plan,

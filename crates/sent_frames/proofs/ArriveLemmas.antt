@@ -7,6 +7,7 @@ use Rattle.std.specs.Option.{option_map_or}
 use Rattle.std.proofs.lemmas.Bool.{cases_eq, cond_both, cond-false, ne_eqb, le-leb}
 use Rattle.std.proofs.lemmas.List.{length-map}
 use Rattle.plp_config.specs.RunLength.{frame_count}
+use Rattle.plp_config.specs.declared.config.Config.{Config}
 use Rattle.ts_packet.specs.TsFile.{joined}
 use Rattle.t2mi_stream.specs.Pipe.{JoinedByte, pipe, joined as joined_items}
 use Rattle.t2mi_stream.specs.Received.{Fate, left_of}
@@ -18,7 +19,7 @@ use Rattle.frame_records.specs.Records.{records}
 use Rattle.gateway_core.specs.Packets.{packets_of}
 use Rattle.modulator.specs.Modulating.{packet_of}
 use Rattle.damage.specs.SentPackets.{Sent, frame_packets, InFrameOrder, AreFrames}
-use Rattle.damage.specs.Survivors.{is_whole, end_of}
+use Rattle.damage.specs.Survivors.{carries, is_whole, end_of}
 use Rattle.damage.specs.Streams.{Stream, IsStream, stream_survival}
 use Rattle.sent_frames.specs.Laws.{FramesAreStream, WholeArrives, WholeComes}
 use Rattle.sent_frames.specs.SentFrames.{run_stream}
@@ -49,11 +50,11 @@ all_left : (sent : List Sent) → items_where_true (all_survive sent) sent ≡ s
 all_left [] = refl
 all_left (s ∷ sent) = ap (λ (l : List Sent). s ∷ l) (all_left sent)
 
-each_whole : (sent : List Sent) (n : ℕ) → is_whole sent (all_survive sent) n ≡ true
-each_whole [] n = refl
-each_whole (s ∷ sent) n =
-    cond_both {A = List (Sent × Bool)} (s.frame == n) _ _ (λ l. list_all (λ (p : Sent × Bool). p.1) l ≡ true)
-    (λ t. each_whole sent n) (λ t. each_whole sent n)
+each_whole : (c : Config) (sent : List Sent) (n : ℕ) → is_whole c sent (all_survive sent) n ≡ true
+each_whole c [] n = refl
+each_whole c (s ∷ sent) n =
+    cond_both {A = List (Sent × Bool)} (carries c n s) _ _ (λ l. list_all (λ (p : Sent × Bool). p.1) l ≡ true)
+    (λ t. each_whole c sent n) (λ t. each_whole c sent n)
 
 -- ---- the last packet is of the last frame
 
@@ -104,7 +105,7 @@ whole_comes stream undamaged all c inputs plan ids l =
     let told : stream_survival s 0 fates ≡ all_survive s.sent =
     survive ∙ all_begun (joined_items s.packets) 0 s.packets
     ∙ ap (λ (k : ℕ). replicate k true) (sym a ∙ ap length is.reads ∙ b) in
-    ap (λ (flags : List Bool). records c inputs (is_whole s.sent flags) (end_of (items_where_true flags s.sent))) told
-    ∙ ap₂ (λ (whole : ℕ → Bool) (end : ℕ). records c inputs whole end) (fun_ext (each_whole s.sent))
+    ap (λ (flags : List Bool). records c inputs (is_whole c s.sent flags) (end_of (items_where_true flags s.sent))) told
+    ∙ ap₂ (λ (whole : ℕ → Bool) (end : ℕ). records c inputs whole end) (fun_ext (each_whole c s.sent))
     (ap end_of (all_left s.sent) ∙ end_is s.frames s.count s.sent is.frames)
     ∙ all c inputs

@@ -1,21 +1,22 @@
 -- The blocks of a frame: how many bits each has, and how many there are.
-use Rattle.std.proofs.Common.{◌≡◌, ℕ, ◌+◌, ◌*◌, ◌<◌, min, Bool, List, length, arith}
+use Rattle.std.proofs.Common.{◌≡◌, ℕ, ◌+◌, ◌*◌, ◌<◌, min, Bool, true, false, cond, List, [], length, arith}
 use Rattle.std.specs.Prelude.{slice_index}
 use Rattle.std.specs.List.{AllByRecursion}
 use Rattle.std.proofs.lemmas.List.FromFn.{get_or-map-range_with_len}
 use Rattle.bb_frame.specs.Laws.{BitCounts}
 use Rattle.plp_config.specs.Capacity.{block_bytes, field_bytes}
+use Rattle.plp_config.specs.InterleavingFrames.{interleaving_frame, is_first}
 use Rattle.plp_config.specs.Laws.{FieldRange}
 use Rattle.plp_config.specs.SlotTime.{slots_by, epoch_ticks}
 use Rattle.plp_config.specs.declared.config.Config.{Config}
 use Rattle.null_delete.specs.Deletion.{packet_at}
-use Rattle.mode_adapt.specs.Blocks.{block_places, plp_keeps, rates_of, plp_blocks, block_bits}
+use Rattle.mode_adapt.specs.Blocks.{block_places, plp_keeps, rates_of, plp_blocks, own_blocks, told_count, told_counts}
+use Rattle.mode_adapt.specs.Blocks.{block_bits}
 use Rattle.mode_adapt.specs.Queue.{sent, sent_before}
 use Rattle.terms.proofs.AllLemmas.{all_map}
 use Rattle.mode_adapt.proofs.FitsLemmas.{length-block}
-use Rattle.gateway_core.specs.Packets.{counts_of}
 
--- each block of a PLP has as many bits as the PLP says
+-- each block of an interleaving frame has as many bits as the PLP says
 pub blocks_long : BitCounts → FieldRange → (c : Config) (inputs : ℕ → List (List ℕ)) (n plp : ℕ)
     → AllByRecursion (λ b. length b ≡ 8 * block_bytes c plp) (plp_blocks c inputs n plp)
 blocks_long counts law c inputs n plp =
@@ -26,8 +27,20 @@ blocks_long counts law c inputs n plp =
     (block_places (field_bytes c plp) (sent_before (rates_of c plp (epoch_ticks c plp)) (plp_keeps c plp at) n) end)
     (λ from. length-block counts law c plp at slots from (min (from + field_bytes c plp) end) (omega arith))
 
--- how many blocks a PLP has, among the numbers of all
-pub count_at : (c : Config) (blocks : ℕ → List (List Bool)) (plp : ℕ) → plp < length c.plps → slice_index (counts_of c blocks) plp
-    ≡ length (blocks plp)
-count_at c blocks plp inside = get_or-map-range_with_len (λ plp. length (blocks plp)) 0 (length c.plps) plp plp 0 inside
+either_long : (b : Bool) (size : ℕ) (blocks : List (List Bool)) → AllByRecursion (λ w. length w ≡ size) blocks
+    → AllByRecursion (λ w. length w ≡ size) (cond b blocks [])
+either_long true size blocks h = h
+either_long false size blocks h = tt
+
+-- so has each that is sent in a frame
+pub own_long : BitCounts → FieldRange → (c : Config) (inputs : ℕ → List (List ℕ)) (n plp : ℕ)
+    → AllByRecursion (λ b. length b ≡ 8 * block_bytes c plp) (own_blocks c inputs n plp)
+own_long counts law c inputs n plp =
+    let m : ℕ = interleaving_frame c plp n in
+    either_long (is_first c plp n) (8 * block_bytes c plp) (plp_blocks c inputs m plp) (blocks_long counts law c inputs m plp)
+
+-- how many blocks a frame tells of a PLP, among the numbers of all
+pub count_at : (c : Config) (inputs : ℕ → List (List ℕ)) (n plp : ℕ) → plp < length c.plps → slice_index (told_counts c inputs n) plp
+    ≡ told_count c inputs n plp
+count_at c inputs n plp inside = get_or-map-range_with_len (told_count c inputs n) 0 (length c.plps) plp plp 0 inside
     (omega arith)

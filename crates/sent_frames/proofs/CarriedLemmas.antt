@@ -18,13 +18,13 @@ use Rattle.t2mi_packet.specs.declared.packet.Body.{Body}
 use Rattle.t2mi_packet.specs.declared.packet.Body.TheVariants.{Block, Timestamp}
 use Rattle.t2mi_packet.specs.declared.packet.Packet.{Packet}
 use Rattle.t2mi_packet.specs.declared.packet.Stamp.{Stamp}
-use Rattle.mode_adapt.specs.Blocks.{plp_blocks}
+use Rattle.mode_adapt.specs.Blocks.{own_blocks, told_counts}
 use Rattle.frame_tests.specs.Carried.{body_block, blocks_of, has_length, right_blocks, L1Parts, body_l1, l1s_of, body_stamp}
 use Rattle.frame_tests.specs.Carried.{stamps_of}
 use Rattle.frame_tests.specs.Tests.{begins_superframe, body_known, is_known}
-use Rattle.gateway_core.specs.Packets.{stamp_of, block_bodies, plp_bodies, counts_of, frame_bodies}
+use Rattle.gateway_core.specs.Packets.{stamp_of, block_bodies, plp_bodies, frame_bodies}
 use Rattle.sent_frames.proofs.SentLemmas.{all_bodies, l1_of}
-use Rattle.sent_frames.proofs.BlockLemmas.{blocks_long}
+use Rattle.sent_frames.proofs.BlockLemmas.{own_long}
 use Rattle.sent_frames.proofs.SignalLemmas.{l1_parts, frame_parts}
 
 -- what packets carry is what their bodies do
@@ -43,13 +43,13 @@ none_blocks {Y = Y} f frame_idx id h first (b ∷ blocks) =
     ap (λ (o : Option Y). cons_option o (filter_map f (block_bodies frame_idx id false blocks))) (h first b)
     ∙ none_blocks f frame_idx id h false blocks
 
-own_blocks : (frame_idx id : ℕ) (first : Bool) (blocks : List (List Bool))
+same_blocks : (frame_idx id : ℕ) (first : Bool) (blocks : List (List Bool))
     → filter_map (body_block id) (block_bodies frame_idx id first blocks) ≡ blocks
-own_blocks frame_idx id first [] = refl
-own_blocks frame_idx id first (b ∷ blocks) =
+same_blocks frame_idx id first [] = refl
+same_blocks frame_idx id first (b ∷ blocks) =
     ap (λ (o : Option (List Bool)). cons_option o (filter_map (body_block id) (block_bodies frame_idx id false blocks)))
     (cond-true {A = Option (List Bool)} (id == id) (Some b) None (eq-eqb id id refl))
-    ∙ ap (λ (l : List (List Bool)). b ∷ l) (own_blocks frame_idx id false blocks)
+    ∙ ap (λ (l : List (List Bool)). b ∷ l) (same_blocks frame_idx id false blocks)
 
 -- what one PLP gives among others that give nothing
 record Among {Y : Type 0} (f : Body → Option Y) (plp a k : ℕ) (bodies : ℕ → List Body) (own : List Y) : Type 0 where
@@ -93,14 +93,14 @@ ids_differ c plan i j a b apart e = ⊎_elim
     (λ (l : j ≤ i). plan.rules DistinctIds i a j (omega (arith, l, apart)) (sym e))
     (cases_lt i j)
 
--- ---- a frame, by the blocks that each PLP has
+-- ---- a frame, by the numbers of blocks that it tells and the blocks that are sent in it
 
-module _ (c : Config) (n : ℕ) (blocks : ℕ → List (List Bool)) where
+module _ (c : Config) (n : ℕ) (counts : List ℕ) (blocks : ℕ → List (List Bool)) where
   abbrev of_plp : ℕ → List Body
   of_plp plp = block_bodies (n % c.frames) (plp_at c.plps plp).id true (blocks plp)
 
   abbrev parts : L1Parts
-  parts = l1_parts c n (counts_of c blocks)
+  parts = l1_parts c n counts
 
   no_blocks : {Y : Type 0} (f : Body → Option Y)
       → ((id : ℕ) (first : Bool) (bits : List Bool) → f (Block (n % c.frames) id first bits) ≡ None)
@@ -109,30 +109,30 @@ module _ (c : Config) (n : ℕ) (blocks : ℕ → List (List Bool)) where
       none_over f of_plp (λ plp. none_blocks f (n % c.frames) (plp_at c.plps plp).id (h (plp_at c.plps plp).id) true (blocks plp))
       0 (length c.plps - 0)
 
-  rest_l1 : filter_map body_l1 (l1_of c n blocks ∷ plp_bodies c n blocks 0) ≡ parts ∷ []
+  rest_l1 : filter_map body_l1 (l1_of c n counts ∷ plp_bodies c n blocks 0) ≡ parts ∷ []
   rest_l1 = ap (λ (l : List L1Parts). parts ∷ l) (no_blocks body_l1 (λ id first bits. refl))
 
-  frame_l1 : filter_map body_l1 (frame_bodies c n blocks) ≡ parts ∷ []
+  frame_l1 : filter_map body_l1 (frame_bodies c n counts blocks) ≡ parts ∷ []
   frame_l1 = cond_both {A = List Body} (n % c.frames == 0) _ _ (λ l. filter_map body_l1 l ≡ parts ∷ []) (λ t. rest_l1)
       (λ t. rest_l1)
 
-  rest_stamps : filter_map body_stamp (l1_of c n blocks ∷ plp_bodies c n blocks 0) ≡ []
+  rest_stamps : filter_map body_stamp (l1_of c n counts ∷ plp_bodies c n blocks 0) ≡ []
   rest_stamps = no_blocks body_stamp (λ id first bits. refl)
 
-  frame_stamps : filter_map body_stamp (frame_bodies c n blocks) ≡ (if begins_superframe c n then stamp_of c n ∷ [] else [])
+  frame_stamps : filter_map body_stamp (frame_bodies c n counts blocks) ≡ (if begins_superframe c n then stamp_of c n ∷ [] else [])
   frame_stamps = go (n % c.frames == 0)
     where
-      go : (t : Bool) → filter_map body_stamp (if t then Timestamp (stamp_of c n) ∷ l1_of c n blocks ∷ plp_bodies c n blocks 0
-          else l1_of c n blocks ∷ plp_bodies c n blocks 0) ≡ (if t then stamp_of c n ∷ [] else [])
+      go : (t : Bool) → filter_map body_stamp (if t then Timestamp (stamp_of c n) ∷ l1_of c n counts ∷ plp_bodies c n blocks 0
+          else l1_of c n counts ∷ plp_bodies c n blocks 0) ≡ (if t then stamp_of c n ∷ [] else [])
       go true = ap (λ (l : List Stamp). stamp_of c n ∷ l) rest_stamps
       go false = rest_stamps
 
   frame_blocks : IsPlan c → (plp : ℕ) → plp < length c.plps
-      → filter_map (body_block (plp_at c.plps plp).id) (frame_bodies c n blocks) ≡ blocks plp
+      → filter_map (body_block (plp_at c.plps plp).id) (frame_bodies c n counts blocks) ≡ blocks plp
   frame_blocks plan plp inside =
       let id : ℕ = (plp_at c.plps plp).id in
       let rest : filter_map (body_block id) (plp_bodies c n blocks 0) ≡ blocks plp =
-      (among (body_block id) (length c.plps) plp of_plp (blocks plp) (own_blocks (n % c.frames) id true (blocks plp))
+      (among (body_block id) (length c.plps) plp of_plp (blocks plp) (same_blocks (n % c.frames) id true (blocks plp))
       (λ j l apart.
       none_blocks (body_block id) (n % c.frames) (plp_at c.plps j).id
       (λ first bits. cond-false {A = Option (List Bool)} ((plp_at c.plps j).id == id) (Some bits) None
@@ -172,15 +172,15 @@ known_plps c bodies h a (suc k) l =
     (h a (omega (arith, l))) (known_plps c bodies h (a + 1) k (omega (arith, l)))
 
 known_frame : BitCounts → FieldRange → (c : Config) (inputs : ℕ → List (List ℕ)) (n : ℕ)
-    → list_all (body_known c) (frame_bodies c n (plp_blocks c inputs n)) ≡ true
+    → list_all (body_known c) (frame_bodies c n (told_counts c inputs n) (own_blocks c inputs n)) ≡ true
 known_frame numbers law c inputs n =
-    let rest : list_all (body_known c) (plp_bodies c n (plp_blocks c inputs n) 0) ≡ true =
-    known_plps c (λ plp. block_bodies (n % c.frames) (plp_at c.plps plp).id true (plp_blocks c inputs n plp))
-    (λ plp inside. known_blocks c (n % c.frames) plp true (plp_blocks c inputs n plp) inside
-    (blocks_long numbers law c inputs n plp)) 0 (length c.plps - 0) (omega arith) in
+    let rest : list_all (body_known c) (plp_bodies c n (own_blocks c inputs n) 0) ≡ true =
+    known_plps c (λ plp. block_bodies (n % c.frames) (plp_at c.plps plp).id true (own_blocks c inputs n plp))
+    (λ plp inside. known_blocks c (n % c.frames) plp true (own_blocks c inputs n plp) inside
+    (own_long numbers law c inputs n plp)) 0 (length c.plps - 0) (omega arith) in
     cond_both {A = List Body} (n % c.frames == 0) _ _ (λ l. list_all (body_known c) l ≡ true) (λ t. rest) (λ t. rest)
 
-all_right : (c : Config) (plp : ℕ) (blocks : List (List Bool)) → AllByRecursion (λ b. length b ≡ 8 * block_bytes c plp) blocks
+pub all_right : (c : Config) (plp : ℕ) (blocks : List (List Bool)) → AllByRecursion (λ b. length b ≡ 8 * block_bytes c plp) blocks
     → filter (has_length c plp) blocks ≡ blocks
 all_right c plp [] h = refl
 all_right c plp (b ∷ blocks) h = cond-true (has_length c plp b) _ _ (eq-eqb (length b) (8 * block_bytes c plp) h.0)
@@ -191,23 +191,24 @@ all_right c plp (b ∷ blocks) h = cond-true (has_length c plp b) _ _ (eq-eqb (l
 pub record HasFrame (c : Config) (inputs : ℕ → List (List ℕ)) (n : ℕ) (packets : List Packet) : Type 0 where
   pub l1s : l1s_of packets ≡ frame_parts c inputs n ∷ []
   pub stamps : stamps_of packets ≡ (if begins_superframe c n then stamp_of c n ∷ [] else [])
-  pub blocks : (plp : ℕ) → plp < length c.plps → blocks_of c plp packets ≡ plp_blocks c inputs n plp
-  pub right : (plp : ℕ) → plp < length c.plps → right_blocks c plp packets ≡ plp_blocks c inputs n plp
+  pub blocks : (plp : ℕ) → plp < length c.plps → blocks_of c plp packets ≡ own_blocks c inputs n plp
+  pub right : (plp : ℕ) → plp < length c.plps → right_blocks c plp packets ≡ own_blocks c inputs n plp
   pub known : list_all (is_known c) packets ≡ true
 
 pub has_frame : BitCounts → FieldRange → (c : Config) (inputs : ℕ → List (List ℕ)) (n : ℕ) (packets : List Packet) → IsPlan c
-    → all_bodies packets ≡ frame_bodies c n (plp_blocks c inputs n) → HasFrame c inputs n packets
+    → all_bodies packets ≡ frame_bodies c n (told_counts c inputs n) (own_blocks c inputs n) → HasFrame c inputs n packets
 has_frame numbers law c inputs n packets plan is =
-    let blocks : ℕ → List (List Bool) = plp_blocks c inputs n in
-    let each : (plp : ℕ) → plp < length c.plps → blocks_of c plp packets ≡ plp_blocks c inputs n plp =
+    let counts : List ℕ = told_counts c inputs n in
+    let blocks : ℕ → List (List Bool) = own_blocks c inputs n in
+    let each : (plp : ℕ) → plp < length c.plps → blocks_of c plp packets ≡ own_blocks c inputs n plp =
     λ plp inside. carried_by (body_block (plp_at c.plps plp).id) packets ∙ ap (filter_map (body_block (plp_at c.plps plp).id)) is
-    ∙ frame_blocks c n blocks plan plp inside in
+    ∙ frame_blocks c n counts blocks plan plp inside in
     record {
-      l1s = carried_by body_l1 packets ∙ ap (filter_map body_l1) is ∙ frame_l1 c n blocks;
-      stamps = carried_by body_stamp packets ∙ ap (filter_map body_stamp) is ∙ frame_stamps c n blocks;
+      l1s = carried_by body_l1 packets ∙ ap (filter_map body_l1) is ∙ frame_l1 c n counts blocks;
+      stamps = carried_by body_stamp packets ∙ ap (filter_map body_stamp) is ∙ frame_stamps c n counts blocks;
       blocks = each;
-      right = λ plp inside. ap (filter (has_length c plp)) (each plp inside) ∙ all_right c plp (plp_blocks c inputs n plp)
-          (blocks_long numbers law c inputs n plp);
+      right = λ plp inside. ap (filter (has_length c plp)) (each plp inside) ∙ all_right c plp (own_blocks c inputs n plp)
+          (own_long numbers law c inputs n plp);
       known = sym (list_all-map (body_known c) (λ (p : Packet). p.body) packets) ∙ ap (list_all (body_known c)) is
           ∙ known_frame numbers law c inputs n;
     }

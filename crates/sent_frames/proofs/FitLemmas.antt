@@ -25,11 +25,11 @@ use Rattle.l1_signal.specs.Lengths.{post_len}
 use Rattle.l1_signal.specs.declared.lengths.TheConstants.{PRE_BITS}
 use Rattle.t2mi_packet.specs.T2miPacket.{payload_size, FitsBody}
 use Rattle.t2mi_packet.specs.declared.packet.Body.{Body}
-use Rattle.mode_adapt.specs.Blocks.{plp_blocks}
+use Rattle.mode_adapt.specs.Blocks.{own_blocks, told_counts}
 use Rattle.frame_records.specs.Frames.{HasByteIds}
-use Rattle.gateway_core.specs.Packets.{l1_body, block_bodies, plp_bodies, counts_of, frame_bodies, bodies_before}
+use Rattle.gateway_core.specs.Packets.{l1_body, block_bodies, plp_bodies, frame_bodies, bodies_before}
 use Rattle.gateway_core.specs.Signalling.{pre_part, conf_part, dyn_part}
-use Rattle.sent_frames.proofs.BlockLemmas.{blocks_long}
+use Rattle.sent_frames.proofs.BlockLemmas.{own_long}
 
 -- A body fits, and is no longer than a packet can be.
 abbrev pub IsFit : Body → Type 0
@@ -107,24 +107,24 @@ module _ (emits : EmissionFits) (bits : PreBitsLength) (post : PostLength) (numb
       let pre = pre_len bits c in
       ((frame_idx_fits n, pre, omega (arith, parts, p.1), omega (arith, parts, p.1), omega arith), omega (arith, pre, parts, p.1))
 
-  fit_frame : (n : ℕ) → n < MOST_FRAMES → AllByRecursion IsFit (frame_bodies c n (plp_blocks c inputs n))
+  fit_frame : (n : ℕ) → n < MOST_FRAMES → AllByRecursion IsFit (frame_bodies c n (told_counts c inputs n) (own_blocks c inputs n))
   fit_frame n l =
       let e = emits c n plan.rules (omega (arith, l)) in
       let utco : c.utco < 8192 = plan.rules UtcOffset in
-      let l1 = fit_l1 n (counts_of c (plp_blocks c inputs n)) in
-      let blocks : AllByRecursion IsFit (plp_bodies c n (plp_blocks c inputs n) 0) =
-      fit_plps (length c.plps) (λ plp. block_bodies (n % c.frames) (plp_at c.plps plp).id true (plp_blocks c inputs n plp))
+      let l1 = fit_l1 n (told_counts c inputs n) in
+      let blocks : AllByRecursion IsFit (plp_bodies c n (own_blocks c inputs n) 0) =
+      fit_plps (length c.plps) (λ plp. block_bodies (n % c.frames) (plp_at c.plps plp).id true (own_blocks c inputs n plp))
       (λ plp inside.
       let r = range c plp in
-      fit_blocks (8 * block_bytes c plp) (n % c.frames) (plp_at c.plps plp).id true (plp_blocks c inputs n plp)
-      (omega (arith, r.1, r.2)) (frame_idx_fits n) (ids plp inside) (blocks_long numbers range c inputs n plp))
+      fit_blocks (8 * block_bytes c plp) (n % c.frames) (plp_at c.plps plp).id true (own_blocks c inputs n plp)
+      (omega (arith, r.1, r.2)) (frame_idx_fits n) (ids plp inside) (own_long numbers range c inputs n plp))
       0 (length c.plps - 0) (omega arith) in
       cond_both {A = List Body} (n % c.frames == 0) _ _ (AllByRecursion IsFit)
       (λ _. (((bw_fits c.band, omega (arith, e.1), e.2, utco), omega arith), (l1, blocks)))
       (λ _. (l1, blocks))
 
   pub run_fits : (n : ℕ) → n ≤ MOST_FRAMES → AllByRecursion PairFits (bodies_before c inputs n)
-  run_fits n l = all_pairs (λ m. frame_bodies c m (plp_blocks c inputs m)) n 0 n (omega arith)
+  run_fits n l = all_pairs (λ m. frame_bodies c m (told_counts c inputs m) (own_blocks c inputs m)) n 0 n (omega arith)
       (λ m k. fit_frame m (omega (arith, k, l)))
 
 pub plan_range : (c : Config) → IsPlan c → (0 < c.frames) × (c.pid < 2 ^ 13)

@@ -4,6 +4,7 @@ pub mod FitLemmas
 pub mod ReadLemmas
 pub mod SignalLemmas
 pub mod CarriedLemmas
+pub mod BegunLemmas
 pub mod PassLemmas
 pub mod LossLemmas
 pub mod TestLemmas

@@ -1,13 +1,14 @@
 -- The six tests of the packets of a frame, and what they say of fewer.
 use Rattle.std.proofs.Common.{◌≡◌, ℕ, zero, suc, ◌+◌, ◌*◌, ◌/◌, ◌<◌, ◌≤◌, ◌==◌, ◌&&◌, ◌||◌, not, Bool, true, false, List, [], ◌∷◌}
-use Rattle.std.proofs.Common.{length, Option, Some, None, refl, ap, sym, subst, ◌∙◌, arith, sum_by}
+use Rattle.std.proofs.Common.{length, Option, Some, None, refl, ap, sym, subst, ◌∙◌, ⊎_elim, arith, sum_by}
 use Rattle.std.specs.Prelude.{slice_get, slice_index, if◌then◌else◌, nat_le, nat_lt, option_map}
 use Rattle.std.specs.Bool.{beq}
 use Rattle.std.specs.Cmp.Lexicographic.{pointwise, pointwise_decides}
 use Rattle.std.specs.Int.{div_ceil}
 use Rattle.std.specs.List.{find, list_all, range_with_len, AllByRecursion}
 use Rattle.std.specs.Option.{option_and_then}
-use Rattle.std.proofs.lemmas.Bool.{and_from, cond-false, eq-eqb, le-leb, not_from_true, false≢true, true≢false}
+use Rattle.std.proofs.lemmas.Bool.{and_from, cases_Bool, cond-true, cond-false, eq-eqb, le-leb, not_from_true, false≢true}
+use Rattle.std.proofs.lemmas.Bool.{true≢false}
 use Rattle.std.proofs.lemmas.List.Folds.{fold-map}
 use Rattle.std.proofs.lemmas.List.FromFn.{fill_by_all}
 use Rattle.std.proofs.lemmas.List.Sums.{sum_by-cons}
@@ -15,6 +16,7 @@ use Rattle.std.proofs.lemmas.Nat.{mul-le}
 use Rattle.bb_frame.specs.Laws.{BitCounts}
 use Rattle.plp_config.specs.Capacity.{IsPlan, block_bytes, block_cells}
 use Rattle.plp_config.specs.Emission.{emission}
+use Rattle.plp_config.specs.InterleavingFrames.{interleaving_frame, is_first, begin_of}
 use Rattle.plp_config.specs.Laws.{SlotLength, FieldRange, BlockChunks, CellsByFive, BlocksFit}
 use Rattle.plp_config.specs.Plps.{plp_at, no_plp}
 use Rattle.plp_config.specs.Tables.{bw, cells_per_block}
@@ -26,22 +28,28 @@ use Rattle.cell_map.specs.Laws.{ShapePasses}
 use Rattle.l1_signal.specs.Laws.{PreWritten, ConfWritten, DynReadBack, DynWritten}
 use Rattle.t2mi_packet.specs.declared.packet.Packet.{Packet}
 use Rattle.t2mi_packet.specs.declared.packet.Stamp.{Stamp}
-use Rattle.mode_adapt.specs.Blocks.{plp_blocks}
+use Rattle.mode_adapt.specs.Blocks.{plp_blocks, own_blocks, told_count, told_counts}
 use Rattle.mode_adapt.specs.Laws.{CountLaw}
 use Rattle.frame_records.specs.Frames.{frame_shape}
-use Rattle.frame_records.proofs.FitLemmas.{counts_fit}
+use Rattle.frame_records.proofs.FitLemmas.{counts_fit, own_le}
+use Rattle.frame_groups.specs.Modulated.{Numbered}
 use Rattle.frame_groups.specs.declared.cause.MuteCause.{MuteCause}
 use Rattle.frame_groups.specs.declared.cause.MuteCause.TheVariants.{PacketMissing, L1Refused, MapRefused, PoolFull}
+use Rattle.frame_tests.specs.Begun.{is_begin, packets_at}
 use Rattle.frame_tests.specs.Carried.{blocks_of, right_blocks, L1Parts, l1s_of, stamps_of}
 use Rattle.frame_tests.specs.Laws.{MapPasses, PartsTold}
-use Rattle.frame_tests.specs.Tests.{unless, begins_superframe, pool_chunks, pool_need, capped, pool_test, missing_test}
-use Rattle.frame_tests.specs.Tests.{same_parts, parts_agree, l1s_agree, l1_test, stamp_agrees, disagrees, time_test, l1_shape}
-use Rattle.frame_tests.specs.Tests.{first_shape, has_counts, is_known, blocks_test, has_map, map_test, packets_fault}
-use Rattle.gateway_core.specs.Packets.{stamp_of, counts_of}
+use Rattle.frame_tests.specs.Tests.{unless, begins_superframe, pool_chunks, pool_need, capped, room_test, begun_test, pool_test}
+use Rattle.frame_tests.specs.Tests.{first_failure, missing_test, same_parts, parts_agree, l1s_agree, l1_test, stamp_agrees}
+use Rattle.frame_tests.specs.Tests.{disagrees, time_test, l1_shape}
+use Rattle.frame_tests.specs.Tests.{first_shape, has_begun, has_count, has_counts, is_known, blocks_test, has_map, map_test}
+use Rattle.frame_tests.specs.Tests.{packets_fault}
+use Rattle.frame_tests.proofs.BegunLemmas.{none_fails}
+use Rattle.gateway_core.specs.Packets.{stamp_of}
 use Rattle.sent_frames.specs.Types.{TypesFit}
 use Rattle.sent_frames.proofs.BlockLemmas.{count_at}
 use Rattle.sent_frames.proofs.SignalLemmas.{frame_parts, parts_pass, frame_told}
 use Rattle.sent_frames.proofs.CarriedLemmas.{HasFrame}
+use Rattle.sent_frames.proofs.BegunLemmas.{Interleaving, HaveBegun}
 
 -- What the laws of the crates below say.
 pub record Given : Type 0 where
@@ -61,10 +69,11 @@ pub record Given : Type 0 where
   pub counts : ShapeHasCounts
   pub passes : ShapePasses
   pub map : MapPasses
+  pub laws : Interleaving
 
 pub given_by : PartsTold → PreWritten → ConfWritten → DynReadBack → DynWritten → BitCounts → CountLaw → SlotLength → FieldRange
-    → BlockChunks → CellsByFive → BlocksFit → ShapeFitsL1 → ShapeHasCounts → ShapePasses → MapPasses → Given
-given_by a b d e f g h i j k l m n o p q = record {
+    → BlockChunks → CellsByFive → BlocksFit → ShapeFitsL1 → ShapeHasCounts → ShapePasses → MapPasses → Interleaving → Given
+given_by a b d e f g h i j k l m n o p q r = record {
   told = a;
   pre_written = b;
   conf_written = d;
@@ -81,6 +90,7 @@ given_by a b d e f g h i j k l m n o p q = record {
   counts = o;
   passes = p;
   map = q;
+  laws = r;
 }
 
 pub unless_true : (t : Bool) (cause : MuteCause) → t ≡ true → unless t cause ≡ None
@@ -130,9 +140,12 @@ sum_places : (h : Plp → ℕ) (plps : List Plp) → sum_by h plps ≡ sum_by (�
 sum_places h plps = ap (sum_by h) (fill_by_all (plp_at plps) plps (length plps) no_plp refl (λ k l. refl))
     ∙ fold-map (λ (sum : ℕ) (plp : Plp). sum + h plp) (plp_at plps) 0 (range_with_len 0 (length plps))
 
-pool_holds : BlockChunks → CellsByFive → BlocksFit → (c : Config) (packets : List Packet) → IsPlan c
-    → ((plp : ℕ) → plp < length c.plps → length (right_blocks c plp packets) ≤ (plp_at c.plps plp).blocks) → pool_need c packets
-    ≤ pool_chunks c
+-- No PLP has more blocks than it may.
+abbrev pub AreFew : Config → List Packet → Type 0
+AreFew c packets = (plp : ℕ) → plp < length c.plps → length (right_blocks c plp packets) ≤ (plp_at c.plps plp).blocks
+
+pool_holds : BlockChunks → CellsByFive → BlocksFit → (c : Config) (packets : List Packet) → IsPlan c → AreFew c packets
+    → pool_need c packets ≤ pool_chunks c
 unfolding block_cells
 pool_holds law cells room c packets plan few =
     let n : ℕ = length c.plps in
@@ -160,26 +173,50 @@ pub own_stamps : (c : Config) (n : ℕ) (t : Bool) → AllByRecursion (λ (s : S
 own_stamps c n true = (refl, tt)
 own_stamps c n false = tt
 
+-- In the groups where an interleaving frame begins that frame n carries no PLP has more blocks than it may.
+abbrev pub HaveRoom : Config → List Numbered → ℕ → Type 0
+HaveRoom c past n = (b : ℕ) → b < n → is_begin c n b ≡ true → AreFew c (packets_at past b)
+
 -- ---- the tests of packets that carry nothing but what frame n has
 
 module _ (given : Given) (c : Config) (inputs : ℕ → List (List ℕ)) (n : ℕ) (plan : IsPlan c) (types : TypesFit c) where
   abbrev counts : List ℕ
-  counts = counts_of c (plp_blocks c inputs n)
+  counts = told_counts c inputs n
 
   fit : CountsFit c counts
   fit = counts_fit given.slot given.field given.count c inputs n plan
 
-  -- a, if no PLP has more blocks
-  pub pool_passes : (packets : List Packet)
-      → ((plp : ℕ) → plp < length c.plps → length (right_blocks c plp packets) ≤ length (plp_blocks c inputs n plp))
-      → pool_test c packets ≡ None
-  unfolding pool_test
-  pool_passes packets few =
+  -- what is sent of a PLP is no more than it may have
+  pub own_few : (plp : ℕ) → plp < length c.plps → length (own_blocks c inputs n plp) ≤ (plp_at c.plps plp).blocks
+  own_few plp inside =
+      let a = own_le c inputs n plp in
+      let b = count_at c inputs n plp inside in
+      let most = fit.within plp inside in
+      omega (arith, a, b, most)
+
+  -- a, if no PLP has more blocks, here or where an interleaving frame began that frame n carries
+  room_passes : (packets : List Packet) → AreFew c packets → room_test c packets ≡ None
+  unfolding room_test
+  room_passes packets few =
       unless_true (nat_le (pool_need c packets) (pool_chunks c)) (PoolFull (capped (pool_need c packets)) (pool_chunks c))
-      (le-leb (pool_need c packets) (pool_chunks c)
-      (pool_holds given.chunks given.cells given.room c packets plan
-      (λ plp inside. let a = few plp inside in let b = count_at c (plp_blocks c inputs n) plp inside in
-      let most = fit.within plp inside in omega (arith, a, b, most))))
+      (le-leb (pool_need c packets) (pool_chunks c) (pool_holds given.chunks given.cells given.room c packets plan few))
+
+  begun_passes : (past : List Numbered) (k b : ℕ) → (is_begin c k b ≡ true → AreFew c (packets_at past b))
+      → begun_test c past k b ≡ None
+  begun_passes past k b few = ⊎_elim
+      (λ (e : is_begin c k b ≡ true).
+      cond-true {A = Option MuteCause} (is_begin c k b) (room_test c (packets_at past b)) None e
+      ∙ room_passes (packets_at past b) (few e))
+      (λ (e : is_begin c k b ≡ false).
+      cond-false {A = Option MuteCause} (is_begin c k b) (room_test c (packets_at past b)) None e)
+      (cases_Bool (is_begin c k b))
+
+  pub pool_passes : (past : List Numbered) (k : ℕ) (packets : List Packet) → HaveRoom c past k → AreFew c packets
+      → pool_test c past k packets ≡ None
+  unfolding pool_test
+  pool_passes past k packets rooms few =
+      rw (none_fails (begun_test c past k) 0 k (λ b low high. begun_passes past k b (rooms b (omega (arith, high)))))
+      (room_passes packets few)
 
   -- c, if all L1-current packets are the frame's
   agree : parts_agree c n (frame_parts c inputs n) ≡ true
@@ -239,12 +276,14 @@ module _ (given : Given) (c : Config) (inputs : ℕ → List (List ℕ)) (n : �
 
   -- ---- all packets of the frame
 
-  module _ (packets : List Packet) (has : HasFrame c inputs n packets) where
+  module _ (past : List Numbered) (rooms : HaveRoom c past n) (begun : HaveBegun c inputs past n)
+      (packets : List Packet) (has : HasFrame c inputs n packets) where
     first_is : first_shape c packets ≡ Some (frame_shape c inputs n)
     first_is = ap (λ (l : List L1Parts). option_and_then (l1_shape c) (slice_get l 0)) has.l1s ∙ parts_tell
 
-    pool_none : pool_test c packets ≡ None
-    pool_none = pool_passes packets (λ plp inside. let e = ap length (has.right plp inside) in omega (arith, e))
+    pool_none : pool_test c past n packets ≡ None
+    pool_none = pool_passes past n packets rooms
+        (λ plp inside. let e = ap length (has.right plp inside) in let most = own_few plp inside in omega (arith, e, most))
 
     stamp_there : (t : Bool) → (not t || nat_lt 0 (length (if t then stamp_of c n ∷ [] else []))) ≡ true
     stamp_there true = refl
@@ -268,20 +307,46 @@ module _ (given : Given) (c : Config) (inputs : ℕ → List (List ℕ)) (n : �
         time_passes packets
         (subst (AllByRecursion (λ s. s ≡ stamp_of c n)) (sym has.stamps) (own_stamps c n (begins_superframe c n)))
 
-    has_each : has_counts c packets (Some (frame_shape c inputs n)) ≡ true
-    has_each =
-        each_place (λ plp. length (blocks_of c plp packets) == slice_index (frame_shape c inputs n).counts plp) (length c.plps)
-        (λ plp inside.
-        eq-eqb (length (blocks_of c plp packets)) (slice_index (frame_shape c inputs n).counts plp)
-        (ap length (has.blocks plp inside) ∙ sym (count_at c (plp_blocks c inputs n) plp inside)
-        ∙ sym (ap (λ (l : List ℕ). slice_index l plp) (given.counts c counts)))) 0 (length c.plps) (omega arith)
+    abbrev carried : ℕ → List (List Bool)
+    carried plp = plp_blocks c inputs (interleaving_frame c plp n) plp
 
-    blocks_none : blocks_test c packets ≡ None
+    told_is : (plp : ℕ) → plp < length c.plps → slice_index (frame_shape c inputs n).counts plp ≡ length (carried plp)
+    told_is plp inside = ap (λ (l : List ℕ). slice_index l plp) (given.counts c counts) ∙ count_at c inputs n plp inside
+
+    has_one : (plp : ℕ) → plp < length c.plps
+        → has_count c past n plp (length (blocks_of c plp packets)) (slice_index (frame_shape c inputs n).counts plp) ≡ true
+    has_one plp inside =
+        let own : ℕ = length (blocks_of c plp packets) in
+        let told : ℕ = slice_index (frame_shape c inputs n).counts plp in
+        let before : List Packet = packets_at past (begin_of c plp n) in
+        let own_is : own ≡ length (own_blocks c inputs n plp) = ap length (has.blocks plp inside) in
+        ⊎_elim
+        (λ (e : is_first c plp n ≡ true).
+        cond-true (is_first c plp n) (own == told) ((own == 0) && has_begun c plp before told) e
+        ∙ eq-eqb own told
+        (own_is ∙ ap (λ (l : List (List Bool)). length l) (cond-true (is_first c plp n) (carried plp) [] e)
+        ∙ sym (told_is plp inside)))
+        (λ (e : is_first c plp n ≡ false).
+        cond-false (is_first c plp n) (own == told) ((own == 0) && has_begun c plp before told) e
+        ∙ and_from (own == 0) (has_begun c plp before told)
+        (eq-eqb own 0 (own_is ∙ ap (λ (l : List (List Bool)). length l) (cond-false (is_first c plp n) (carried plp) [] e)))
+        (and_from (length (blocks_of c plp before) == told) (length (right_blocks c plp before) == told)
+        (eq-eqb (length (blocks_of c plp before)) told (ap length (begun plp inside e).0 ∙ sym (told_is plp inside)))
+        (eq-eqb (length (right_blocks c plp before)) told (ap length (begun plp inside e).1 ∙ sym (told_is plp inside)))))
+        (cases_Bool (is_first c plp n))
+
+    has_each : has_counts c past n packets (Some (frame_shape c inputs n)) ≡ true
+    has_each =
+        each_place
+        (λ plp. has_count c past n plp (length (blocks_of c plp packets)) (slice_index (frame_shape c inputs n).counts plp))
+        (length c.plps) has_one 0 (length c.plps) (omega arith)
+
+    blocks_none : blocks_test c past n packets ≡ None
     unfolding blocks_test
     blocks_none =
-        unless_true (has_counts c packets (first_shape c packets) && list_all (is_known c) packets) PacketMissing
-        (and_from (has_counts c packets (first_shape c packets)) (list_all (is_known c) packets)
-        (ap (has_counts c packets) first_is ∙ has_each) has.known)
+        unless_true (has_counts c past n packets (first_shape c packets) && list_all (is_known c) packets) PacketMissing
+        (and_from (has_counts c past n packets (first_shape c packets)) (list_all (is_known c) packets)
+        (ap (has_counts c past n packets) first_is ∙ has_each) has.known)
 
     map_none : map_test c packets ≡ None
     unfolding map_test
@@ -289,6 +354,6 @@ module _ (given : Given) (c : Config) (inputs : ℕ → List (List ℕ)) (n : �
         unless_true (has_map c (first_shape c packets)) MapRefused
         (ap (has_map c) first_is ∙ (given.map c (frame_shape c inputs n) plan).1 (given.passes c counts plan fit))
 
-    pub passes : packets_fault c n packets ≡ None
+    pub passes : packets_fault c past n packets ≡ None
     unfolding packets_fault
     passes = rw (pool_none, missing_none, l1_none, time_none, blocks_none) map_none

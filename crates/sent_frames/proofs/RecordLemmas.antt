@@ -51,9 +51,9 @@ module _ (written : WrittenIsFrame) (c : Config) (inputs : ℕ → List (List �
   sent = sent_frames c inputs n
 
   abbrev whole : ℕ → Bool
-  whole = is_whole sent survival
+  whole = is_whole c sent survival
 
-  one_view : (m : ℕ) → m < n → content_view c m (sent_content c.frames sent survival m) ≡ record_of c inputs whole m
+  one_view : (m : ℕ) → m < n → content_view c m (sent_content c sent survival m) ≡ record_of c inputs whole m
   one_view m l = go (whole m)
     where
       go : (t : Bool)
@@ -63,21 +63,21 @@ module _ (written : WrittenIsFrame) (c : Config) (inputs : ℕ → List (List �
       go true = written c inputs n m plan types l
       go false = refl
 
-  some_bytes : (a k : ℕ) → a + k ≤ n → flat_map (spelled c) (map (sent_record c.frames sent survival) (range_with_len a k))
+  some_bytes : (a k : ℕ) → a + k ≤ n → flat_map (spelled c) (map (sent_record c sent survival) (range_with_len a k))
       ≡ file_bytes (map (record_of c inputs whole) (range_with_len a k))
   some_bytes a zero l = refl
   some_bytes a (suc k) l = ap₂ (λ (x y : List ℕ). x ++ y) (ap record_bytes (one_view a (omega (arith, l))))
       (some_bytes (a + 1) k (omega (arith, l)))
 
   numbers_bytes : (end : ℕ) (first : Option ℕ) → end ≤ n
-      → flat_map (spelled c) (map (sent_record c.frames sent survival) (numbers_from end first))
+      → flat_map (spelled c) (map (sent_record c sent survival) (numbers_from end first))
       ≡ file_bytes (map (record_of c inputs whole) (numbers_from end first))
   numbers_bytes end None l = refl
   numbers_bytes end (Some first) l = ⊎_elim
       (λ (s : first < end). some_bytes first (end - first) (omega (arith, l, s)))
       (λ (s : end ≤ first).
       let none : end - first ≡ 0 = omega (arith, s) in
-      ap (λ (k : ℕ). flat_map (spelled c) (map (sent_record c.frames sent survival) (range_with_len first k))) none
+      ap (λ (k : ℕ). flat_map (spelled c) (map (sent_record c sent survival) (range_with_len first k))) none
       ∙ sym (ap (λ (k : ℕ). file_bytes (map (record_of c inputs whole) (range_with_len first k))) none))
       (cases_lt first end)
 
@@ -87,7 +87,7 @@ written_must_come are stream meet written len records c plan types inputs n from
     let s : Stream = frames_stream c inputs n in
     let is : IsStream s = stream c inputs n plan types.ids l in
     let survival : List Bool = stream_survival s from fates in
-    let whole : ℕ → Bool = is_whole s.sent survival in
+    let whole : ℕ → Bool = is_whole c s.sent survival in
     let end : ℕ = end_of (items_where_true survival s.sent) in
     ap (flat_map (spelled c))
     (records (rules c) s from fates refl is honest (meet c inputs n survival plan types l (len s from fates is)))

@@ -10,9 +10,9 @@ use Rattle.plp_config.specs.Plps.{plp_at}
 use Rattle.plp_config.specs.declared.config.Config.{Config}
 use Rattle.t2mi_packet.specs.declared.packet.Body.{Body}
 use Rattle.t2mi_packet.specs.declared.packet.Packet.{Packet}
-use Rattle.mode_adapt.specs.Blocks.{plp_blocks}
+use Rattle.mode_adapt.specs.Blocks.{own_blocks, told_counts}
 use Rattle.gateway_core.specs.Carried.{of_frame}
-use Rattle.gateway_core.specs.Packets.{l1_body, block_bodies, plp_bodies, counts_of, frame_bodies, bodies_before, packet_with}
+use Rattle.gateway_core.specs.Packets.{l1_body, block_bodies, plp_bodies, frame_bodies, bodies_before, packet_with}
 use Rattle.gateway_core.specs.Signalling.{pre_part, conf_part, dyn_part}
 use Rattle.damage.specs.SentPackets.{Sent, packets_of, frame_packets, IsTimestamp, TellsFrame, FollowsSome, InFrameOrder}
 use Rattle.sent_frames.specs.SentFrames.{sent_from}
@@ -84,8 +84,8 @@ own_there bodies m from (suc count) a b =
 
 pub frame_carries : FrameCarries
 frame_carries c inputs n m l =
-    carried_own c m 0 (bodies_before c inputs n) ∙ own_there (λ k. frame_bodies c k (plp_blocks c inputs k)) m 0 n (omega arith)
-    (omega (arith, l))
+    carried_own c m 0 (bodies_before c inputs n)
+    ∙ own_there (λ k. frame_bodies c k (told_counts c inputs k) (own_blocks c inputs k)) m 0 n (omega arith) (omega (arith, l))
 
 -- ---- their order
 
@@ -143,37 +143,38 @@ order_rest c n before (b ∷ bodies) rest p l o q = λ number. (
   order_rest c n (Some n) bodies rest p.1 (omega arith) q q (number + 1),
 )
 
--- the L1-current of frame n, by the blocks that each PLP has
-abbrev pub l1_of : Config → ℕ → (ℕ → List (List Bool)) → Body
-l1_of c n blocks = l1_body c n (pre_part c) (conf_part c) (dyn_part c n (counts_of c blocks))
+-- the L1-current of frame n, by the numbers of blocks that it tells
+abbrev pub l1_of : Config → ℕ → List ℕ → Body
+l1_of c n counts = l1_body c n (pre_part c) (conf_part c) (dyn_part c n counts)
 
-order_l1 : (c : Config) (n : ℕ) (before : Option ℕ) (blocks : ℕ → List (List Bool)) (rest : List (ℕ × Body)) → NotLater before n
-    → AreOrdered c (Some n) rest
-    → AreOrdered c before (of_frame n (l1_of c n blocks ∷ plp_bodies c n blocks 0) ++ rest)
-order_l1 c n before blocks rest l o = λ number. (
+order_l1 : (c : Config) (n : ℕ) (before : Option ℕ) (counts : List ℕ) (blocks : ℕ → List (List Bool)) (rest : List (ℕ × Body))
+    → NotLater before n → AreOrdered c (Some n) rest
+    → AreOrdered c before (of_frame n (l1_of c n counts ∷ plp_bodies c n blocks 0) ++ rest)
+order_l1 c n before counts blocks rest l o = λ number. (
   record { superframe = refl; frame = refl },
   plain_follows before _ (λ t. t) l,
   order_rest c n (Some n) (plp_bodies c n blocks 0) rest (plain_plps c n blocks) (omega arith) o o (number + 1),
 )
 
-order_frame : (c : Config) (n : ℕ) (before : Option ℕ) (blocks : ℕ → List (List Bool)) (rest : List (ℕ × Body)) → Earlier before n
-    → AreOrdered c (Some n) rest
-    → AreOrdered c before (of_frame n (frame_bodies c n blocks) ++ rest)
-order_frame c n before blocks rest e o =
+order_frame : (c : Config) (n : ℕ) (before : Option ℕ) (counts : List ℕ) (blocks : ℕ → List (List Bool)) (rest : List (ℕ × Body))
+    → Earlier before n → AreOrdered c (Some n) rest
+    → AreOrdered c before (of_frame n (frame_bodies c n counts blocks) ++ rest)
+order_frame c n before counts blocks rest e o =
     cond_both {A = List Body} (n % c.frames == 0) _ _ (λ l. AreOrdered c before (of_frame n l ++ rest))
     (λ t number. (
       record { superframe = refl; frame = eqb-true (n % c.frames) 0 t },
       earlier_follows before _ e,
-      order_l1 c n (Some n) blocks rest (omega arith) o (number + 1),
+      order_l1 c n (Some n) counts blocks rest (omega arith) o (number + 1),
     ))
-    (λ t. order_l1 c n before blocks rest (not_later before n e) o)
+    (λ t. order_l1 c n before counts blocks rest (not_later before n e) o)
 
-order_frames : (c : Config) (blocks : ℕ → ℕ → List (List Bool)) (from count : ℕ) (before : Option ℕ) → Earlier before from
-    → AreOrdered c before (of_frames (λ n. frame_bodies c n (blocks n)) from count)
-order_frames c blocks from zero before e = λ number. tt
-order_frames c blocks from (suc count) before e =
-    order_frame c from before (blocks from) (of_frames (λ n. frame_bodies c n (blocks n)) (from + 1) count) e
-    (order_frames c blocks (from + 1) count (Some from) (omega arith))
+order_frames : (c : Config) (counts : ℕ → List ℕ) (blocks : ℕ → ℕ → List (List Bool)) (from count : ℕ) (before : Option ℕ)
+    → Earlier before from → AreOrdered c before (of_frames (λ n. frame_bodies c n (counts n) (blocks n)) from count)
+order_frames c counts blocks from zero before e = λ number. tt
+order_frames c counts blocks from (suc count) before e =
+    order_frame c from before (counts from) (blocks from)
+    (of_frames (λ n. frame_bodies c n (counts n) (blocks n)) (from + 1) count) e
+    (order_frames c counts blocks (from + 1) count (Some from) (omega arith))
 
 -- All packets are of the frames below another.
 abbrev AreBelow : Config → ℕ → List (ℕ × Body) → Type 0
@@ -191,14 +192,15 @@ below_frames c bodies from (suc more) count l = below_frame c from count (bodies
     (omega (arith, l)) (below_frames c bodies (from + 1) more count (omega (arith, l)))
 
 -- a frame has a packet
-some_bodies : (c : Config) (n : ℕ) (blocks : ℕ → List (List Bool)) → frame_bodies c n blocks ≡ [] → ⊥
-some_bodies c n blocks =
+some_bodies : (c : Config) (n : ℕ) (counts : List ℕ) (blocks : ℕ → List (List Bool)) → frame_bodies c n counts blocks ≡ [] → ⊥
+some_bodies c n counts blocks =
     cond_both {A = List Body} (n % c.frames == 0) _ _ (λ l. l ≡ [] → ⊥)
     (λ t e. let k = ap length e in omega (arith, k)) (λ t e. let k = ap length e in omega (arith, k))
 
 pub sent_are_frames : FrameCarries → SentAreFrames
 sent_are_frames carries c inputs n some = record {
-  order = order_frames c (plp_blocks c inputs) 0 n None tt 0;
-  below = below_frames c (λ m. frame_bodies c m (plp_blocks c inputs m)) 0 n n (omega arith) 0;
-  some = λ m l none. some_bodies c m (plp_blocks c inputs m) (sym (carries c inputs n m l) ∙ ap all_bodies none);
+  order = order_frames c (told_counts c inputs) (own_blocks c inputs) 0 n None tt 0;
+  below = below_frames c (λ m. frame_bodies c m (told_counts c inputs m) (own_blocks c inputs m)) 0 n n (omega arith) 0;
+  some = λ m l none. some_bodies c m (told_counts c inputs m) (own_blocks c inputs m)
+      (sym (carries c inputs n m l) ∙ ap all_bodies none);
 }

@@ -37,14 +37,13 @@ use Rattle.l1_signal.specs.Laws.{PreWritten, ConfWritten, DynReadBack, DynWritte
 use Rattle.l1_signal.specs.declared.dyn_plp.DynPlp.{DynPlp}
 use Rattle.l1_signal.proofs.FitLemmas.{pre_numbers_fit, plp_numbers_fit, conf_numbers_fit}
 use Rattle.l1_signal.proofs.ValueLemmas.{mapped, dyn_numbers_fit, shape_is}
-use Rattle.mode_adapt.specs.Blocks.{plp_blocks}
+use Rattle.mode_adapt.specs.Blocks.{told_counts}
 use Rattle.mode_adapt.specs.Laws.{CountLaw}
 use Rattle.frame_records.specs.Frames.{frame_shape}
 use Rattle.frame_records.proofs.FitLemmas.{counts_fit}
 use Rattle.frame_tests.specs.Carried.{L1Parts}
 use Rattle.frame_tests.specs.Laws.{PartsTold}
 use Rattle.frame_tests.specs.Tests.{read_whole, parts_agree, l1_shape}
-use Rattle.gateway_core.specs.Packets.{counts_of}
 use Rattle.gateway_core.specs.Signalling.{pre_part, conf_part, dyn_part}
 use Rattle.sent_frames.specs.Types.{TypesFit}
 
@@ -253,12 +252,11 @@ module _ (c : Config) (plan : IsPlan c) (types : TypesFit c) (n : ℕ) (counts :
 -- ---- the L1-current of a frame of a run
 
 abbrev pub frame_parts : Config → (ℕ → List (List ℕ)) → ℕ → L1Parts
-frame_parts c inputs n = l1_parts c n (counts_of c (plp_blocks c inputs n))
+frame_parts c inputs n = l1_parts c n (told_counts c inputs n)
 
 -- it tells the frame's shape
 pub frame_told : SlotLength → FieldRange → CountLaw → DynReadBack → DynWritten → ShapeFitsL1
     → (c : Config) (inputs : ℕ → List (List ℕ)) (n : ℕ) → IsPlan c → TypesFit c
     → l1_shape c (frame_parts c inputs n) ≡ Some (frame_shape c inputs n)
 frame_told slot field count back written law c inputs n plan types =
-    parts_shape c plan types n (counts_of c (plp_blocks c inputs n)) (counts_fit slot field count c inputs n plan) back written
-    law
+    parts_shape c plan types n (told_counts c inputs n) (counts_fit slot field count c inputs n plan) back written law

@@ -16,13 +16,12 @@ use Rattle.plp_config.specs.declared.moment.Moment.{Moment}
 use Rattle.scheduler.specs.Shape.{FrameShape, blank, shape_of}
 use Rattle.l1_signal.specs.L1Of.{post_bits}
 use Rattle.t2mi_packet.specs.declared.packet.Packet.{Packet}
-use Rattle.mode_adapt.specs.Blocks.{plp_blocks}
+use Rattle.mode_adapt.specs.Blocks.{own_blocks, told_counts}
 use Rattle.site_frame.specs.Record.{Block}
 use Rattle.frame_records.specs.Frames.{frame_shape, sent_block, sent_blocks, frame_view}
 use Rattle.frame_tests.specs.Carried.{right_blocks, L1Parts}
 use Rattle.record_writer.specs.Front.{post_with}
 use Rattle.open_group.specs.Written.{dynamic_in, shape_in}
-use Rattle.gateway_core.specs.Packets.{counts_of}
 use Rattle.gateway_core.specs.Signalling.{dyn_part}
 use Rattle.damage.specs.SentPackets.{frame_packets}
 use Rattle.sent_frames.specs.Laws.{FrameCarries, WrittenIsFrame}
@@ -49,13 +48,13 @@ pub written_is_frame : BitCounts → SlotLength → FieldRange → CountLaw → 
 written_is_frame numbers slot field count back written law carries c inputs n m plan types l =
     let packets : List Packet = frame_packets m (sent_frames c inputs n) in
     let has : HasFrame c inputs m packets = has_frame numbers field c inputs m packets plan (carries c inputs n m l) in
-    let counts : List ℕ = counts_of c (plp_blocks c inputs m) in
+    let counts : List ℕ = told_counts c inputs m in
     same_view c (emission c m) (m % c.frames) (post_with c (dynamic_in packets)) (post_bits c m (frame_shape c inputs m))
-    (sent_blocks c (λ plp. right_blocks c plp packets)) (sent_blocks c (plp_blocks c inputs m)) (shape_in c packets)
+    (sent_blocks c (λ plp. right_blocks c plp packets)) (sent_blocks c (own_blocks c inputs m)) (shape_in c packets)
     (frame_shape c inputs m)
     (ap (λ (s : List L1Parts). post_with c (option_map_or (λ l1. l1.dynamic) (slice_get s 0) [])) has.l1s ∙ post_is c m counts)
     (same_over (λ plp. map (sent_block c plp) (right_blocks c plp packets))
-    (λ plp. map (sent_block c plp) (plp_blocks c inputs m plp)) (length c.plps)
+    (λ plp. map (sent_block c plp) (own_blocks c inputs m plp)) (length c.plps)
     (λ plp inside. ap (map (sent_block c plp)) (has.right plp inside)) 0 (length c.plps) (omega arith))
     (ap (λ (s : List L1Parts). unwrap_or (option_and_then (l1_shape c) (slice_get s 0)) (blank (length c.plps))) has.l1s
     ∙ ap (λ (o : Option FrameShape). unwrap_or o (blank (length c.plps)))

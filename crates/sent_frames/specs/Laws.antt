@@ -8,7 +8,7 @@ use Rattle.ts_packet.specs.TsFile.{joined}
 use Rattle.t2mi_stream.specs.Pipe.{pipe}
 use Rattle.t2mi_stream.specs.Received.{Fate, AlteredWhole}
 use Rattle.t2mi_stream.specs.Survivors.{AreKept}
-use Rattle.mode_adapt.specs.Blocks.{plp_blocks}
+use Rattle.mode_adapt.specs.Blocks.{own_blocks, told_counts}
 use Rattle.frame_tests.specs.Tests.{rules}
 use Rattle.frame_records.specs.Frames.{frame_of, HasByteIds, run_frames}
 use Rattle.frame_records.specs.Records.{file_bytes}
@@ -29,7 +29,8 @@ SentAreFrames = (c : Config) (inputs : ℕ → List (List ℕ)) (n : ℕ) → 0 
 -- The packets of a frame carry what the frame has.
 abbrev pub FrameCarries : Type 0
 FrameCarries = (c : Config) (inputs : ℕ → List (List ℕ)) (n m : ℕ) → m < n
-    → map (λ p. p.body) (frame_packets m (sent_frames c inputs n)) ≡ frame_bodies c m (plp_blocks c inputs m)
+    → map (λ p. p.body) (frame_packets m (sent_frames c inputs n))
+    ≡ frame_bodies c m (told_counts c inputs m) (own_blocks c inputs m)
 
 -- The packets of a plan's frames are a stream.
 abbrev pub FramesAreStream : Type 0

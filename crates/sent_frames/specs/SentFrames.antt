@@ -46,7 +46,7 @@ all_kept s from = replicate (length (drop from (pipe s.pid s.packets))) Kept
 -- a packet survives, each whole frame, and each other one muted
 abbrev pub left_records : Config → (ℕ → List (List ℕ)) → ℕ → ℕ → List Fate → List RecordView
 left_records c inputs n from fates =
-    records c inputs (is_whole (sent_frames c inputs n) (stream_survival (frames_stream c inputs n) from fates))
+    records c inputs (is_whole c (sent_frames c inputs n) (stream_survival (frames_stream c inputs n) from fates))
     (end_of (stream_survivors (frames_stream c inputs n) from fates))
 
 -- and of a run

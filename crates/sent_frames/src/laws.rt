@@ -10,7 +10,7 @@ use frame_records::record_law;
 use frame_tests::{map_test_law, named_law, parts_law};
 use l1_signal::{conf_law, dyn_law, post_law, pre_law};
 use mode_adapt::count_law;
-use plp_config::{block_law, emission_law, length_law, spread_law};
+use plp_config::{block_law, emission_law, interleaving_law, length_law, spread_law};
 use scheduler::{field_law, order_law};
 use t2mi_packet::{spell_law, written_law};
 
@@ -72,6 +72,7 @@ pub fn tests_law()
     length_law();
     block_law();
     spread_law();
+    interleaving_law();
     field_law();
     order_law();
 }

@@ -22,10 +22,10 @@ returns-in-Some-clause-gives c = λ pid bytes given taken st e.
     (begun_gives (Holds old) (Holds new) old.key new.key (rules old.network) (rules new.network) (spelled old.network) at
     (bytes_left new) inner.unpiper inner.finished pid bytes given taken
     c.begin_record.ensures.group c.begin_record.ensures.key (ap rules c.begin_record.ensures.network)
-    (λ w h i held pass.
+    (λ w past h i held pass.
     let same : w ≡ c.in-Some.waiting = some_injective w c.in-Some.waiting (sym i ∙ sym c.waiting.ensures ∙ c.in-Some.is) in
-    c.begin_record.ensures.left h held
-    (subst (λ (v : Waiting). v.mute ≡ None → group_fault old.network h v.frame ≡ None) same pass)
+    c.begin_record.ensures.left past h held
+    (subst (λ (v : Waiting). v.mute ≡ None → group_fault old.network past h v.frame ≡ None) same pass)
     ∙ ap (λ (v : Waiting). spelled old.network (record_of h v)) (sym same))
     st e)
 

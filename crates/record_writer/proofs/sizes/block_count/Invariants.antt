@@ -1,6 +1,11 @@
-use Rattle.std.proofs.Common.{◌≡◌, take}
-use Rattle.std.specs.Prelude.{sum}
+use Rattle.std.proofs.Common.{◌≡◌, ◌≤◌, take}
+use Rattle.std.specs.Prelude.{sum, sum_by}
+use Rattle.std.specs.List.{range_with_len}
+use Rattle.record_writer.specs.RecordBytes.{own_count}
 use Rattle.record_writer.proofs.sizes.block_count.Given as goal
 
 abbrev pub invariant-loop-plp : goal.invariant-loop-plp
-invariant-loop-plp l = l.count ≡ sum (take l.plp l.shape.counts)
+invariant-loop-plp l = record {
+  count : l.count ≡ sum_by (own_count l.plan l.number l.shape) (range_with_len 0 l.plp);
+  most : l.count ≤ sum (take l.plp l.shape.counts);
+}

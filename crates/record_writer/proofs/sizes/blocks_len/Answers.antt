@@ -1,13 +1,14 @@
 use Rattle.std.proofs.Common.{◌+◌, ◌*◌, arith}
-use Rattle.std.specs.Prelude.{slice_index}
 use Rattle.plp_config.specs.Capacity.{block_bytes}
+use Rattle.record_writer.specs.RecordBytes.{own_count}
 use Rattle.record_writer.proofs.SizeLemmas.{sum_more}
 use Rattle.record_writer.proofs.sizes.blocks_len.Goals as goal
 
 pub loop-plp-preserved : goal.loop-plp-preserved
 loop-plp-preserved c = record {
   sum =
-      sum_more (λ plp. slice_index c.args.shape.now.counts plp * (4 + block_bytes c.args.plan.now plp)) c.loop-plp.plp
+      sum_more (λ plp. own_count c.args.plan.now c.args.number c.args.shape.now plp *
+      (4 + block_bytes c.args.plan.now plp)) c.loop-plp.plp
       c.loop-plp.len c.plp_len-len.result c.loop-plp.invariant.sum
       c.plp_len-len.ensures.value;
   most = omega (arith, c.loop-plp.invariant.most, c.plp_len-len.ensures.most);

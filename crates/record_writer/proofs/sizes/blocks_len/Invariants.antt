@@ -1,12 +1,13 @@
 use Rattle.std.proofs.Common.{◌≡◌, ◌≤◌, ◌+◌, ◌*◌}
-use Rattle.std.specs.Prelude.{sum_by, slice_index}
+use Rattle.std.specs.Prelude.{sum_by}
 use Rattle.std.specs.List.{range_with_len}
 use Rattle.plp_config.specs.Capacity.{block_bytes}
+use Rattle.record_writer.specs.RecordBytes.{own_count}
 use Rattle.record_writer.specs.Sizes.{most_plp}
 use Rattle.record_writer.proofs.sizes.blocks_len.Given as goal
 
 abbrev pub invariant-loop-plp : goal.invariant-loop-plp
 invariant-loop-plp l = record {
-  sum : l.len ≡ sum_by (λ plp. slice_index l.shape.counts plp * (4 + block_bytes l.plan plp)) (range_with_len 0 l.plp);
+  sum : l.len ≡ sum_by (λ plp. own_count l.plan l.number l.shape plp * (4 + block_bytes l.plan plp)) (range_with_len 0 l.plp);
   most : l.len ≤ most_plp * l.plp;
 }

@@ -117,7 +117,8 @@ unfolding ModulatorStandsFor
 returns-else-is_taken-clause-within c = λ on bytes taken h.
     let old = c.args.self.now.inner in
     let net = old.sequence.group.network in
-    let n = now_of (rules net) h.stands.keeps.group old.sequence.progress _ h.given h.stands.keeps.sequenced on in
+    let n =
+    now_of (rules net) h.stands.keeps.past h.stands.keeps.group old.sequence.progress _ h.given h.stands.keeps.sequenced on in
     let next = some_at c.waiting.result n.waiting _ c.waiting.ensures.some (c.waiting.ensures.is ∙ n.is) net.pid bytes h.given
     n.group h.stands n.has in
     let size = ap length c.take-count.ensures.bytes ∙ length-append (take c.take-count.result c.take-count.new.out)
@@ -150,7 +151,8 @@ unfolding ModulatorStandsFor
 returns-then-is_taken-clause-within c = λ on bytes taken h.
     let old = c.args.self.now.inner in
     let net = old.sequence.group.network in
-    let n = now_of (rules net) h.stands.keeps.group old.sequence.progress _ h.given h.stands.keeps.sequenced on in
+    let n =
+    now_of (rules net) h.stands.keeps.past h.stands.keeps.group old.sequence.progress _ h.given h.stands.keeps.sequenced on in
     let next = some_at c.waiting.result n.waiting _ c.waiting.ensures.some (c.waiting.ensures.is ∙ n.is) net.pid bytes h.given
     n.group h.stands n.has in
     let size = ap length c.take-count.ensures.bytes ∙ length-append (take c.take-count.result c.take-count.new.out)

@@ -23,7 +23,9 @@ returns-clause-some c = some_from c.waiting.result _ (λ w e.
       waiting,
       (waits_for old.sequence.progress w i).frame,
       λ bytes taken h.
-          let n = now_of (rules net) h.stands.keeps.group old.sequence.progress _ h.given h.stands.keeps.sequenced waiting in
+          let n =
+          now_of (rules net) h.stands.keeps.past h.stands.keeps.group old.sequence.progress _ h.given
+          h.stands.keeps.sequenced waiting in
           let next = some_at c.waiting.result w _ c.waiting.ensures.some e net.pid bytes h.given n.group h.stands n.has in
           record {
             before = h.given;

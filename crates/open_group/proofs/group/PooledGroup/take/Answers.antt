@@ -36,6 +36,7 @@ returns-clause-group c = holds_still c.args.self.now _ (record {
   intact = λ e. e;
   stamps = refl;
   l1 = refl;
+  past = refl;
   numbers = c.give.ensures.same;
   pool = λ intact.
       (c.give.ensures.last
