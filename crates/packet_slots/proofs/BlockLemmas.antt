@@ -8,14 +8,14 @@ use Rattle.packet_slots.specs.declared.mark.Mark.TheVariants.{Inside, Next}
 use Rattle.packet_slots.specs.Strings.{Item, Block, is_start, first_mark, mark_from, mark_in, mark_at, item_at, items_from}
 use Rattle.packet_slots.specs.Pieces.{item, piece_items}
 
-module _ (len frame : ℕ) (b : Block) where
-  pub items_append : (i : ℕ) (xs ys : List ℕ) → items_from len frame b i (xs ++ ys) ≡ items_from len frame b i xs
-      ++ items_from len frame b (i + length xs) ys
-  items_append i [] ys = let e : i ≡ i + 0 = omega arith in ap (λ (n : ℕ). items_from len frame b n ys) e
+module _ (len epoch : ℕ) (b : Block) where
+  pub items_append : (i : ℕ) (xs ys : List ℕ) → items_from len epoch b i (xs ++ ys) ≡ items_from len epoch b i xs
+      ++ items_from len epoch b (i + length xs) ys
+  items_append i [] ys = let e : i ≡ i + 0 = omega arith in ap (λ (n : ℕ). items_from len epoch b n ys) e
   items_append i (x ∷ xs) ys =
       let e : i + 1 + length xs ≡ i + suc (length xs) = omega arith in
-      ap (λ (l : List Item). item_at len frame b i x ∷ l)
-      (items_append (i + 1) xs ys ∙ ap (λ (n : ℕ). items_from len frame b (i + 1) xs ++ items_from len frame b n ys) e)
+      ap (λ (l : List Item). item_at len epoch b i x ∷ l)
+      (items_append (i + 1) xs ys ∙ ap (λ (n : ℕ). items_from len epoch b (i + 1) xs ++ items_from len epoch b n ys) e)
 
   abbrev pub Ends : ℕ → Bool
   Ends i = (i == length b.field) || is_start (mark_at len b i)
@@ -23,8 +23,8 @@ module _ (len frame : ℕ) (b : Block) where
   -- at the first byte at most a user packet begins, and one can end where the bytes end
   pub piece_is : (i v : ℕ) (vs : List ℕ) → ((j : ℕ) → i < j → j < i + length (v ∷ vs) → mark_at len b j ≡ Inside)
       → i + length (v ∷ vs) ≤ length b.field
-      → Ends (i + length (v ∷ vs)) ≡ true → items_from len frame b i (v ∷ vs) ≡ piece_items (mark_at len b i) frame (v ∷ vs)
-  piece_is i v [] inner l e = ap (λ (t : Bool). item (mark_at len b i) v frame t ∷ []) e
+      → Ends (i + length (v ∷ vs)) ≡ true → items_from len epoch b i (v ∷ vs) ≡ piece_items (mark_at len b i) epoch (v ∷ vs)
+  piece_is i v [] inner l e = ap (λ (t : Bool). item (mark_at len b i) v epoch t ∷ []) e
   piece_is i v (u ∷ us) inner l e =
       let m : mark_at len b (i + 1) ≡ Inside = inner (i + 1) (omega arith) (omega arith) in
       let q : i + 1 + length (u ∷ us) ≡ i + length (v ∷ u ∷ us) = omega arith in
@@ -32,8 +32,8 @@ module _ (len frame : ℕ) (b : Block) where
       false_from_ne_true _ (λ (t : (i + 1 == length b.field) ≡ true). omega (arith, eqb-true (i + 1) (length b.field) t)) in
       let none : Ends (i + 1) ≡ false = ap₂ (λ (x y : Bool). x || y) not_last (ap is_start m) in
       let rest = piece_is (i + 1) u us (λ j p r. inner j (omega arith) (omega (arith, q))) (omega (arith, q)) (ap Ends q ∙ e) in
-      ap₂ (λ (t : Bool) (l : List Item). item (mark_at len b i) v frame t ∷ l) none
-      (rest ∙ ap (λ (k : Mark). piece_items k frame (u ∷ us)) m)
+      ap₂ (λ (t : Bool) (l : List Item). item (mark_at len b i) v epoch t ∷ l) none
+      (rest ∙ ap (λ (k : Mark). piece_items k epoch (u ∷ us)) m)
 
   pub ends_field : (i : ℕ) → i ≡ length b.field → Ends i ≡ true
   ends_field i e = ap (λ (t : Bool). t || is_start (mark_at len b i)) (eq-eqb i (length b.field) e)

@@ -13,38 +13,38 @@ use Rattle.packet_slots.specs.Packets.{packet_of}
 use Rattle.packet_slots.specs.Packets.{UserPacket, user_packets}
 use Rattle.packet_slots.specs.Assembles.{Gains, IsFound}
 use Rattle.packet_slots.specs.Readback.{counts_by, counts}
-use Rattle.packet_slots.specs.Times.{over_after}
-use Rattle.plp_config.specs.SlotTimes.{delay_of}
+use Rattle.plp_config.specs.SlotTimes.{over_by, delay_of}
+use Rattle.packet_slots.specs.Times.{last_frame}
 use Rattle.ts_packet.specs.declared.sizes.TheConstants.{SIZE, SYNC}
 use Rattle.packet_slots.specs.Filling.{filled}
 use Rattle.packet_slots.specs.Holds.{Shows}
 use Rattle.packet_slots.proofs.WindowLemmas.{nothing_found, not_counted, put_in, too_late, same_test}
 
-module _ (r : SlotRule) (sound : IsSound r) (z piece : List Item) (frame first end : ℕ) (slots : List (Option (List ℕ)))
+module _ (r : SlotRule) (sound : IsSound r) (z piece : List Item) (epoch first end : ℕ) (slots : List (Option (List ℕ)))
     (shows : Shows r z first end slots) (held : List ℕ) where
-  pub gain_none : Gains r z frame piece held None → Shows r (z ++ piece) first end slots
+  pub gain_none : Gains r z epoch piece held None → Shows r (z ++ piece) first end slots
   gain_none g =
       nothing_found r z (z ++ piece) first end slots (g.packets ∙ ap (λ (l : List UserPacket). user_packets r z ++ l) g.gives
       ∙ append-nil (user_packets r z)) shows
 
-  module _ (found : Found) (delay : ℕ) (late : delay ≡ delay_of r.times) (near : over_after r found.frame < 2 ^ 53)
-      (g : Gains r z frame piece held (Some found)) where
+  module _ (found : Found) (delay : ℕ) (late : delay ≡ delay_of r.times) (near : over_by r.times found.epoch < 2 ^ 53)
+      (g : Gains r z epoch piece held (Some found)) where
     abbrev up : UserPacket
     up = g.gives.0
 
-    is : IsFound r frame held found up
+    is : IsFound r epoch held found up
     is = g.gives.1
 
     gains : user_packets r (z ++ piece) ≡ user_packets r z ++ up ∷ []
     gains = g.packets ∙ ap (λ (l : List UserPacket). user_packets r z ++ l) g.gives.2
 
-    same : counts_by r delay found.slot found.frame frame ≡ counts r up
+    same : counts_by r delay found.slot found.epoch epoch ≡ counts r up
     same =
-        ap₂ (λ (d s : ℕ). counts_by r d s found.frame frame) late is.slot
-        ∙ same_test r (delay_of r.times) up.slot found.frame frame near
+        ap₂ (λ (d s : ℕ). counts_by r d s found.epoch epoch) late is.slot
+        ∙ same_test r (delay_of r.times) up.slot found.epoch epoch near
         ∙ ap₂ (λ (b e : ℕ). counts_by r (delay_of r.times) up.slot b e) is.begun (sym is.ended)
 
-    pub gain_not : counts_by r delay found.slot found.frame frame ≡ false → Shows r (z ++ piece) first end slots
+    pub gain_not : counts_by r delay found.slot found.epoch epoch ≡ false → Shows r (z ++ piece) first end slots
     gain_not e = not_counted r z (z ++ piece) up gains first end slots (sym same ∙ e) shows
 
     packet_is : packet_of held ≡ packet_of (item_values up.items)
@@ -53,16 +53,16 @@ module _ (r : SlotRule) (sound : IsSound r) (z piece : List Item) (frame first e
         ap (λ (l : List ℕ). SYNC ∷ l) (sym (take-take (SIZE - 1) r.up_len held (omega (arith, u)))
         ∙ ap (take (SIZE - 1)) is.bytes)
 
-    pub gain_put : counts_by r delay found.slot found.frame frame ≡ true → (new : List (Option (List ℕ)))
+    pub gain_put : counts_by r delay found.slot found.epoch epoch ≡ true → (new : List (Option (List ℕ)))
         → new ≡ (if nat_lt found.slot first then slots else filled slots (found.slot - first) (packet_of held))
         → Shows r (z ++ piece) first end new
     gain_put e new n =
         let counted : counts r up ≡ true = sym same ∙ e in
-        let below : found.slot < over_after r found.frame =
+        let below : found.slot < over_by r.times found.epoch =
         ltb-true _ _
-        (and_parts (nat_lt found.slot (over_after r found.frame))
-        (nat_lt (frame * r.times.epoch) (slot_start r.times.num r.times.den found.slot + delay))
-        (and_parts (nat_le (over_after r (found.frame - 1)) found.slot) _ e).1).0 in
+        (and_parts (nat_lt found.slot (over_by r.times found.epoch))
+        (nat_lt (last_frame r epoch * r.ticks) (slot_start r.times.num r.times.den found.slot + delay))
+        (and_parts (nat_le (over_by r.times (found.epoch - 1)) found.slot) _ e).1).0 in
         let s = is.slot in
         let slot_is : found.slot ≡ up.slot = omega (arith, s, below, near) in
         elim (cases_lt found.slot first) [
@@ -86,8 +86,8 @@ pub moved : (r : SlotRule) (z : List Item) (first end new_first new_end : ℕ) (
 moved r z first end new_first new_end slots e f h =
     subst (λ (n : ℕ). Shows r z n new_end slots) (sym e) (subst (λ (n : ℕ). Shows r z first n slots) (sym f) h)
 
-pub near_by : (q r : SlotRule) (frame : ℕ) → q ≡ r → over_after q frame < 2 ^ 53 → over_after r frame < 2 ^ 53
-near_by q r frame e h = subst (λ (x : SlotRule). over_after x frame < 2 ^ 53) e h
+pub near_by : (q r : SlotRule) (epoch : ℕ) → q ≡ r → over_by q.times epoch < 2 ^ 53 → over_by r.times epoch < 2 ^ 53
+near_by q r epoch e h = subst (λ (x : SlotRule). over_by x.times epoch < 2 ^ 53) e h
 
 pub counts_as : (q r : SlotRule) (delay slot begun ended : ℕ) (c b : Bool) → q ≡ r → c ≡ counts_by q delay slot begun ended
     → c ≡ b → counts_by r delay slot begun ended ≡ b

@@ -19,16 +19,16 @@ use Rattle.packet_slots.proofs.PlaceLemmas.{last_is}
 use Rattle.packet_slots.specs.Both.{IsPlace}
 use Rattle.packet_slots.specs.LaterBlocks.{at, Placed, run_items, AreInField, Continues, EachLater, CompleteByBlocks}
 
-items_at : (len frame : ℕ) (b : Block) (vs : List ℕ) (i k : ℕ) → k < length vs → at (items_from len frame b i vs) k
-    ≡ item_at len frame b (i + k) (get_or vs k 0)
-items_at len frame b [] i k l = absurd (omega arith)
-items_at len frame b (v ∷ vs) i zero l = let e : i ≡ i + 0 = omega arith in ap (λ (j : ℕ). item_at len frame b j v) e
-items_at len frame b (v ∷ vs) i (suc k) l = let e : i + 1 + k ≡ i + suc k = omega arith in
-    items_at len frame b vs (i + 1) k (omega arith) ∙ ap (λ (j : ℕ). item_at len frame b j (get_or vs k 0)) e
+items_at : (len epoch : ℕ) (b : Block) (vs : List ℕ) (i k : ℕ) → k < length vs → at (items_from len epoch b i vs) k
+    ≡ item_at len epoch b (i + k) (get_or vs k 0)
+items_at len epoch b [] i k l = absurd (omega arith)
+items_at len epoch b (v ∷ vs) i zero l = let e : i ≡ i + 0 = omega arith in ap (λ (j : ℕ). item_at len epoch b j v) e
+items_at len epoch b (v ∷ vs) i (suc k) l = let e : i + 1 + k ≡ i + suc k = omega arith in
+    items_at len epoch b vs (i + 1) k (omega arith) ∙ ap (λ (j : ℕ). item_at len epoch b j (get_or vs k 0)) e
 
-items_len : (len frame : ℕ) (b : Block) (vs : List ℕ) (i : ℕ) → length (items_from len frame b i vs) ≡ length vs
-items_len len frame b [] i = refl
-items_len len frame b (v ∷ vs) i = ap suc (items_len len frame b vs (i + 1))
+items_len : (len epoch : ℕ) (b : Block) (vs : List ℕ) (i : ℕ) → length (items_from len epoch b i vs) ≡ length vs
+items_len len epoch b [] i = refl
+items_len len epoch b (v ∷ vs) i = ap suc (items_len len epoch b vs (i + 1))
 
 not_both : (m : Mark) → is_start m ≡ true → is_inside m ≡ true → ⊥
 not_both Gap a b = both_ways _ refl a
@@ -95,23 +95,23 @@ module _ (r : SlotRule) (sound : IsSound r) where
   abbrev Agrees : List Item → ℕ → List Placed → Type 0
   Agrees z place run = (i : ℕ) → i < length (run_items r.up_len run) → at z (place + i) ≡ at (run_items r.up_len run) i
 
-  field_len : (p : Placed) → length (block_items r.up_len p.frame p.block) ≡ length p.block.field
-  field_len p = items_len r.up_len p.frame p.block p.block.field 0
+  field_len : (p : Placed) → length (block_items r.up_len p.epoch p.block) ≡ length p.block.field
+  field_len p = items_len r.up_len p.epoch p.block p.block.field 0
 
   run_len : (p : Placed) (run : List Placed) → length (run_items r.up_len (p ∷ run)) ≡ length p.block.field
       + length (run_items r.up_len run)
-  run_len p run = length-append (block_items r.up_len p.frame p.block) (run_items r.up_len run)
+  run_len p run = length-append (block_items r.up_len p.epoch p.block) (run_items r.up_len run)
       ∙ ap (λ (n : ℕ). n + length (run_items r.up_len run)) (field_len p)
 
   in_block : (z : List Item) (place : ℕ) (p : Placed) (run : List Placed) → Agrees z place (p ∷ run) → (i : ℕ)
       → i < length p.block.field
-      → at z (place + i) ≡ item_at r.up_len p.frame p.block i (get_or p.block.field i 0)
+      → at z (place + i) ≡ item_at r.up_len p.epoch p.block i (get_or p.block.field i 0)
   in_block z place p run a i l =
       let e : 0 + i ≡ i = omega arith in
       a i (omega (arith, run_len p run))
-      ∙ get_or_append_left (block_items r.up_len p.frame p.block) (run_items r.up_len run) no_item i (omega (arith, field_len p))
-      ∙ items_at r.up_len p.frame p.block p.block.field 0 i l
-      ∙ ap (λ (j : ℕ). item_at r.up_len p.frame p.block j (get_or p.block.field i 0)) e
+      ∙ get_or_append_left (block_items r.up_len p.epoch p.block) (run_items r.up_len run) no_item i (omega (arith, field_len p))
+      ∙ items_at r.up_len p.epoch p.block p.block.field 0 i l
+      ∙ ap (λ (j : ℕ). item_at r.up_len p.epoch p.block j (get_or p.block.field i 0)) e
 
   behind : (z : List Item) (place : ℕ) (p : Placed) (run : List Placed) → Agrees z place (p ∷ run)
       → Agrees z (place + length p.block.field) run
@@ -120,7 +120,7 @@ module _ (r : SlotRule) (sound : IsSound r) where
       let d : length p.block.field + i - length p.block.field ≡ i = omega arith in
       ap (at z) e
       ∙ a (length p.block.field + i) (omega (arith, run_len p run))
-      ∙ get_or-append_right (block_items r.up_len p.frame p.block) (run_items r.up_len run) (length p.block.field)
+      ∙ get_or-append_right (block_items r.up_len p.epoch p.block) (run_items r.up_len run) (length p.block.field)
       (length p.block.field + i) no_item (field_len p) (omega arith)
       ∙ ap (at (run_items r.up_len run)) d
 
@@ -132,14 +132,14 @@ module _ (r : SlotRule) (sound : IsSound r) where
         → Continues r.up_len x place first (length p.block.field)
     one_continues h place p run a before close None e f =
         elim (cases_lt (x + r.up_len) (place + length p.block.field)) [
-          | inl lt ↦ absurd (both_ways _ (no_end (λ j. none_marks r.up_len p.frame p.block j e) lt) (end_at lt))
+          | inl lt ↦ absurd (both_ways _ (no_end (λ j. none_marks r.up_len p.epoch p.block j e) lt) (end_at lt))
           | inr ge ↦ ge
         ]
       where
         i : ℕ
         i = x + (r.up_len - 1) - place
 
-        end_at : x + r.up_len < place + length p.block.field → Ends r.up_len p.frame p.block (i + 1) ≡ true
+        end_at : x + r.up_len < place + length p.block.field → Ends r.up_len p.epoch p.block (i + 1) ≡ true
         end_at lt =
             let u = sound.up in
             let q : place + i ≡ x + (r.up_len - 1) = omega (arith, u) in
@@ -147,7 +147,7 @@ module _ (r : SlotRule) (sound : IsSound r) where
             ∙ ap (λ (n : ℕ). (at z n).can_end) q ∙ h.ends
 
         no_end : ((j : ℕ) → mark_at r.up_len p.block j ≡ Inside) → x + r.up_len < place + length p.block.field
-            → Ends r.up_len p.frame p.block (i + 1) ≡ false
+            → Ends r.up_len p.epoch p.block (i + 1) ≡ false
         no_end m lt =
             let u = sound.up in
             ap₂ (λ (s t : Bool). s || t)
@@ -156,7 +156,7 @@ module _ (r : SlotRule) (sound : IsSound r) where
     one_continues h place p run a before close (Some s) e f =
         elim (cases_lt (place + s) (x + r.up_len)) [
           | inl lt ↦
-              elim (not_both (mark_at r.up_len p.block s) (ap is_start (mark_first r.up_len p.frame p.block s e s refl)
+              elim (not_both (mark_at r.up_len p.block s) (ap is_start (mark_first r.up_len p.epoch p.block s e s refl)
               ∙ is_first p.block.issy)
               (sym (ap (λ (t : Item). is_inside t.mark) (in_block z place p run a s f)) ∙ h.inner (place + s) (omega arith) lt))
               [ ]
@@ -166,14 +166,14 @@ module _ (r : SlotRule) (sound : IsSound r) where
                 let u = sound.up in
                 let i : ℕ = x + (r.up_len - 1) - place in
                 let q : place + i ≡ x + (r.up_len - 1) = omega (arith, u) in
-                let yes_end : Ends r.up_len p.frame p.block (i + 1) ≡ true =
+                let yes_end : Ends r.up_len p.epoch p.block (i + 1) ≡ true =
                 sym (ap (λ (t : Item). t.can_end) (in_block z place p run a i (omega (arith, u, f, ge))))
                 ∙ ap (λ (n : ℕ). (at z n).can_end) q ∙ h.ends in
-                let no_end : Ends r.up_len p.frame p.block (i + 1) ≡ false =
+                let no_end : Ends r.up_len p.epoch p.block (i + 1) ≡ false =
                 ap₂ (λ (s t : Bool). s || t)
                 (false_from_ne_true _ (λ (t : (i + 1 == length p.block.field) ≡ true).
                 omega (arith, eqb-true (i + 1) (length p.block.field) t, u, f, ge, ne)))
-                (ap is_start (mark_before r.up_len p.frame p.block s e (i + 1) (omega (arith, u, ge, ne)))) in
+                (ap is_start (mark_before r.up_len p.epoch p.block s e (i + 1) (omega (arith, u, ge, ne)))) in
                 absurd (both_ways _ no_end yes_end)
           ]
         ]
@@ -201,7 +201,7 @@ module _ (r : SlotRule) (sound : IsSound r) where
     -- a block whose marks are known
     block_covers : (place : ℕ) (p : Placed) (run : List Placed) → Agrees z place (p ∷ run)
         → ((i : ℕ) → x < place + i → i < length p.block.field → place + i < x + r.up_len → mark_at r.up_len p.block i ≡ Inside)
-        → ((i : ℕ) → place + i ≡ x + (r.up_len - 1) → i < length p.block.field → Ends r.up_len p.frame p.block (i + 1) ≡ true)
+        → ((i : ℕ) → place + i ≡ x + (r.up_len - 1) → i < length p.block.field → Ends r.up_len p.epoch p.block (i + 1) ≡ true)
         → Covers place (place + length p.block.field)
     block_covers place p run a marks ends = record {
       inner = λ q l m n o.
@@ -221,15 +221,15 @@ module _ (r : SlotRule) (sound : IsSound r) where
         → (place < x + r.up_len → Continues r.up_len x place first (length p.block.field))
         → Covers place (place + length p.block.field)
     one_later place p run a before None e h =
-        block_covers place p run a (λ i l m o. none_marks r.up_len p.frame p.block i e)
+        block_covers place p run a (λ i l m o. none_marks r.up_len p.epoch p.block i e)
         (λ i q m. let u = sound.up in let c = h (omega (arith, q, u)) in
-        ends_field r.up_len p.frame p.block (i + 1) (omega (arith, q, c, u, m)))
+        ends_field r.up_len p.epoch p.block (i + 1) (omega (arith, q, c, u, m)))
     one_later place p run a before (Some s) e h =
         block_covers place p run a (λ i l m o. let c = h (omega arith) in
-        mark_before r.up_len p.frame p.block s e i (omega (arith, c)))
+        mark_before r.up_len p.epoch p.block s e i (omega (arith, c)))
         (λ i q m. let u = sound.up in let c = h (omega (arith, q, u)) in
-        ends_start r.up_len p.frame p.block (i + 1)
-        (ap is_start (mark_first r.up_len p.frame p.block s e (i + 1) (omega (arith, q, c, u))) ∙ is_first p.block.issy))
+        ends_start r.up_len p.epoch p.block (i + 1)
+        (ap is_start (mark_first r.up_len p.epoch p.block s e (i + 1) (omega (arith, q, c, u))) ∙ is_first p.block.issy))
 
     later : (place : ℕ) (run : List Placed) → Agrees z place run → x < place → EachLater r.up_len x place run
         → Covers place (place + length (run_items r.up_len run))
@@ -262,13 +262,13 @@ module _ (r : SlotRule) (sound : IsSound r) where
         → x < place + length p.block.field
         → (first : Option ℕ) → p.block.first ≡ first → is_start (mark_at r.up_len p.block (x - place)) ≡ true
         → Covers place (place + length p.block.field)
-    own_block place p run a l m None e st = elim (inside_no_start _ (none_marks r.up_len p.frame p.block (x - place) e) st) [ ]
+    own_block place p run a l m None e st = elim (inside_no_start _ (none_marks r.up_len p.epoch p.block (x - place) e) st) [ ]
     own_block place p run a l m (Some s) e st =
         let u = sound.up in
         let w : ℕ = x - place in
         let order : s ≤ w =
         elim (cases_lt w s) [
-          | inl lt ↦ elim (inside_no_start _ (mark_before r.up_len p.frame p.block s e w lt) st)
+          | inl lt ↦ elim (inside_no_start _ (mark_before r.up_len p.epoch p.block s e w lt) st)
               [ ]
           | inr ge ↦ ge
         ] in
@@ -278,7 +278,7 @@ module _ (r : SlotRule) (sound : IsSound r) where
             | inl same ↦ let d : w - s ≡ 0 * r.up_len + 0 = omega (arith, same) in ap (λ (n : ℕ). n % r.up_len) d
                 ∙ mod-mul-add 0 r.up_len 0 (omega (arith, u))
             | inr other ↦
-                elim (inside_no_start _ (mark_inner r.up_len p.frame p.block s e w (omega (arith, order, other))
+                elim (inside_no_start _ (mark_inner r.up_len p.epoch p.block s e w (omega (arith, order, other))
                 (omega (arith, ne))) st) [ ]
           ]
         ] in
@@ -287,14 +287,14 @@ module _ (r : SlotRule) (sound : IsSound r) where
         let t : i - s ≡ (w - s) + (i - w) = omega (arith, order, b) in
         let q : (i - s) % r.up_len ≡ i - w = ap (λ (n : ℕ). n % r.up_len) t ∙ mod_step (w - s) (i - w) r.up_len whole
         (omega (arith, o)) in
-        mark_inner r.up_len p.frame p.block s e i (omega (arith, order, b)) (omega (arith, q, b)))
+        mark_inner r.up_len p.epoch p.block s e i (omega (arith, order, b)) (omega (arith, q, b)))
         (λ i b c. elim (cases_lt (i + 1) (length p.block.field)) [
           | inl lt ↦
               let t : (i + 1) - s ≡ (w - s) + r.up_len = omega (arith, order, b, u) in
-              ends_start r.up_len p.frame p.block (i + 1)
-              (ap is_start (mark_next r.up_len p.frame p.block s e (i + 1) (omega (arith, order, b, u))
+              ends_start r.up_len p.epoch p.block (i + 1)
+              (ap is_start (mark_next r.up_len p.epoch p.block s e (i + 1) (omega (arith, order, b, u))
               (ap (λ (n : ℕ). n % r.up_len) t ∙ mod_whole (w - s) r.up_len (omega (arith, u)) whole)))
-          | inr ge ↦ ends_field r.up_len p.frame p.block (i + 1) (omega (arith, c, ge))
+          | inr ge ↦ ends_field r.up_len p.epoch p.block (i + 1) (omega (arith, c, ge))
         ])
 
     from_own : (place : ℕ) (run : List Placed) → Agrees z place run → place ≤ x → x < place + length (run_items r.up_len run)

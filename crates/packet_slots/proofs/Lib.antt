@@ -10,7 +10,8 @@ pub mod ListLemmas
 pub mod PlaceLemmas
 mod ReadbackLemmas
 mod WindowLemmas
-mod TimeLemmas
+pub mod TimeLemmas
+mod FrameLemmas
 mod BothLemmas
 mod FieldLemmas
 pub mod StandsLemmas

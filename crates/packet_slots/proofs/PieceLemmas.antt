@@ -17,7 +17,7 @@ cannot_end : (r : SlotRule) (w : List Item) (x : Item) (before : Option ℕ) →
 unfolding slot_of
 cannot_end r w x before e =
     ap (λ (b : Bool).
-    cond {A = Option ℕ} b (slot_by r (first_item (w ++ x ∷ [])).mark (first_item (w ++ x ∷ [])).frame
+    cond {A = Option ℕ} b (slot_by r (first_item (w ++ x ∷ [])).mark (first_item (w ++ x ∷ [])).epoch
     (dnp_of r (w ++ x ∷ [])) before) None)
     (ap (λ (l : Item). is_one (w ++ x ∷ []) && l.can_end) (last_push no_item w) ∙ ap (λ (b : Bool). is_one (w ++ x ∷ []) && b) e
     ∙ and_no (is_one (w ++ x ∷ [])))
@@ -34,7 +34,7 @@ cannot_end r w x before e =
 abbrev pub runs : SlotRule → State → List Item → Turn
 runs r s xs = turn_of (after r s xs) (given r s xs)
 
-module _ (r : SlotRule) (frame : ℕ) where
+module _ (r : SlotRule) (epoch : ℕ) where
   pub lt_cond : (a b : ℕ) (x y : Turn) → a < b → (if nat_lt a b then x else y) ≡ x
   lt_cond a b x y l = ap (λ (t : Bool). cond t x y) (lt-ltb a b l)
 
@@ -46,7 +46,7 @@ module _ (r : SlotRule) (frame : ℕ) where
   step s x xs t e = ap (λ (u : Turn). turn_of (after r u.state xs) (u.given ++ given r u.state xs)) e
 
   -- bytes behind no start
-  idle : (before : Option ℕ) (v : ℕ) (vs : List ℕ) → runs r (state_of [] before) (piece_items Inside frame (v ∷ vs))
+  idle : (before : Option ℕ) (v : ℕ) (vs : List ℕ) → runs r (state_of [] before) (piece_items Inside epoch (v ∷ vs))
       ≡ turn_of (state_of [] None) []
   unfolding turn
   idle before v [] = refl
@@ -63,16 +63,16 @@ module _ (r : SlotRule) (frame : ℕ) where
   grown_is [] before p l = absurd (omega arith)
   grown_is (y ∷ ys) before p l = refl
 
-  length_piece : (m : Mark) (v : ℕ) (vs : List ℕ) → 1 ≤ length (piece_items m frame (v ∷ vs))
+  length_piece : (m : Mark) (v : ℕ) (vs : List ℕ) → 1 ≤ length (piece_items m epoch (v ∷ vs))
   length_piece m v [] = omega arith
   length_piece m v (u ∷ us) = omega arith
 
   -- bytes that go on with those that are held
   goes_on : (h : List Item) (before : Option ℕ) (v : ℕ) (vs : List ℕ) → 1 ≤ length h → length h < r.up_len
-      → runs r (state_of h before) (piece_items Inside frame (v ∷ vs))
-      ≡ piece_grown r (h ++ piece_items Inside frame (v ∷ vs)) before
+      → runs r (state_of h before) (piece_items Inside epoch (v ∷ vs))
+      ≡ piece_grown r (h ++ piece_items Inside epoch (v ∷ vs)) before
   goes_on h before v [] l m =
-      let x : Item = item Inside v frame true in
+      let x : Item = item Inside v epoch true in
       let n : length (h ++ x ∷ []) ≡ length h + 1 = length-append h (x ∷ []) ∙ omega arith in
       step (state_of h before) x [] (grown r (h ++ x ∷ []) before) (inside_turn h before x l refl)
       ∙ elim (cases_lt (length (h ++ x ∷ [])) r.up_len) [
@@ -84,8 +84,8 @@ module _ (r : SlotRule) (frame : ℕ) where
             ∙ sym (ge_cond _ _ _ _ ge ∙ ge_cond r.up_len (length (h ++ x ∷ [])) _ _ (omega (arith, n)))
       ]
   goes_on h before v (u ∷ us) l m =
-      let x : Item = item Inside v frame false in
-      let p : List Item = piece_items Inside frame (u ∷ us) in
+      let x : Item = item Inside v epoch false in
+      let p : List Item = piece_items Inside epoch (u ∷ us) in
       let n : length (h ++ x ∷ []) ≡ length h + 1 = length-append h (x ∷ []) ∙ omega arith in
       let e : (h ++ x ∷ []) ++ p ≡ h ++ x ∷ p = append_assoc h (x ∷ []) p in
       let k : length (h ++ x ∷ p) ≡ length h + 1 + length p = sym (ap length e) ∙ length-append (h ++ x ∷ []) p
@@ -108,12 +108,12 @@ module _ (r : SlotRule) (frame : ℕ) where
   -- a user packet begins
   begins : (m : Mark) (s : State) (v : ℕ) (vs : List ℕ) → 2 ≤ r.up_len
       → ((x : Item) → x.mark ≡ m → turn r s x ≡ turn_of (state_of (x ∷ []) (before_next s.held s.before)) [])
-      → runs r s (piece_items m frame (v ∷ vs)) ≡ piece_grown r (piece_items m frame (v ∷ vs)) (before_next s.held s.before)
+      → runs r s (piece_items m epoch (v ∷ vs)) ≡ piece_grown r (piece_items m epoch (v ∷ vs)) (before_next s.held s.before)
   begins m s v [] two h =
-      step s (item m v frame true) [] _ (h (item m v frame true) refl) ∙ sym (lt_cond 1 r.up_len _ _ (omega arith))
+      step s (item m v epoch true) [] _ (h (item m v epoch true) refl) ∙ sym (lt_cond 1 r.up_len _ _ (omega arith))
   begins m s v (u ∷ us) two h =
-      step s (item m v frame false) (piece_items Inside frame (u ∷ us)) _ (h (item m v frame false) refl)
-      ∙ goes_on (item m v frame false ∷ []) (before_next s.held s.before) u us (omega arith) (omega arith)
+      step s (item m v epoch false) (piece_items Inside epoch (u ∷ us)) _ (h (item m v epoch false) refl)
+      ∙ goes_on (item m v epoch false ∷ []) (before_next s.held s.before) u us (omega arith) (omega arith)
 
   next_turn : (s : State) (x : Item) → x.mark ≡ Next → turn r s x ≡ turn_of (state_of (x ∷ []) (before_next s.held s.before)) []
   unfolding turn
@@ -125,14 +125,14 @@ module _ (r : SlotRule) (frame : ℕ) where
   timed_turn iscr s x e = ap (turn_by r s.held s.before x) e
 
   inside_runs : (h : List Item) (before : Option ℕ) (v : ℕ) (vs : List ℕ) → length h < r.up_len
-      → runs r (state_of h before) (piece_items Inside frame (v ∷ vs))
-      ≡ piece_inside r h before (piece_items Inside frame (v ∷ vs))
+      → runs r (state_of h before) (piece_items Inside epoch (v ∷ vs))
+      ≡ piece_inside r h before (piece_items Inside epoch (v ∷ vs))
   inside_runs [] before v vs l = idle before v vs
   inside_runs (y ∷ ys) before v vs l = goes_on (y ∷ ys) before v vs (omega arith) l
 
   -- the items of a piece make one turn
   pub piece_runs : (m : Mark) (s : State) (v : ℕ) (vs : List ℕ) → 2 ≤ r.up_len → length s.held < r.up_len → (m ≡ Gap → ⊥)
-      → runs r s (piece_items m frame (v ∷ vs)) ≡ piece_turn r s m (piece_items m frame (v ∷ vs))
+      → runs r s (piece_items m epoch (v ∷ vs)) ≡ piece_turn r s m (piece_items m epoch (v ∷ vs))
   piece_runs Gap s v vs two l h = elim (h refl) [ ]
   piece_runs Inside s v vs two l h = inside_runs s.held s.before v vs l
   piece_runs Next s v vs two l h = begins Next s v vs two (next_turn s)

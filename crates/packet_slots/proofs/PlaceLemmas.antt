@@ -1,4 +1,4 @@
--- Where the user packets of a string begin and end, and in which frames.
+-- Where the user packets of a string begin and end, and in which epochs.
 use Rattle.std.proofs.Common.{◌≡◌, ℕ, zero, suc, ◌+◌, ◌-◌, ◌<◌, ◌≤◌, List, [], ◌∷◌, ◌++◌, length, take, drop, get_or, Option}
 use Rattle.std.proofs.Common.{Some, None, refl, ap, ◌∙◌, sym, subst, arith, inl, inr, append-nil, append_assoc, length-append}
 use Rattle.std.specs.List.{AllByRecursion}
@@ -75,36 +75,36 @@ last_is d (y ∷ z) zero (suc k) l =
     let e : zero + suc k ≡ suc (zero + k) = omega arith in last_is y z zero k (omega arith)
     ∙ sym (ap (λ (n : ℕ). get_or (y ∷ z) n no_item) e)
 
-up_to : (frame : ℕ) (z : List Item) (i : ℕ) → UpTo frame z → (get_or z i no_item).frame ≤ frame
-up_to frame [] i h = omega arith
-up_to frame (x ∷ z) zero h = h.0
-up_to frame (x ∷ z) (suc i) h = up_to frame z i h.1
+up_to : (epoch : ℕ) (z : List Item) (i : ℕ) → UpTo epoch z → (get_or z i no_item).epoch ≤ epoch
+up_to epoch [] i h = omega arith
+up_to epoch (x ∷ z) zero h = h.0
+up_to epoch (x ∷ z) (suc i) h = up_to epoch z i h.1
 
-since : (frame : ℕ) (z y : List Item) (i : ℕ) → length z ≤ i → i < length z + length y → Since frame y
-    → frame ≤ (get_or (z ++ y) i no_item).frame
-since frame (x ∷ z) y zero l m h = absurd (omega arith)
-since frame (x ∷ z) y (suc i) l m h = since frame z y i (omega arith) (omega arith) h
-since frame [] [] i l m h = absurd (omega arith)
-since frame [] (x ∷ y) zero l m h = h.0
-since frame [] (x ∷ y) (suc i) l m h = since frame [] y i (omega arith) (omega arith) h.1
+since : (epoch : ℕ) (z y : List Item) (i : ℕ) → length z ≤ i → i < length z + length y → Since epoch y
+    → epoch ≤ (get_or (z ++ y) i no_item).epoch
+since epoch (x ∷ z) y zero l m h = absurd (omega arith)
+since epoch (x ∷ z) y (suc i) l m h = since epoch z y i (omega arith) (omega arith) h
+since epoch [] [] i l m h = absurd (omega arith)
+since epoch [] (x ∷ y) zero l m h = h.0
+since epoch [] (x ∷ y) (suc i) l m h = since epoch [] y i (omega arith) (omega arith) h.1
 
 len_suc : (n : ℕ) → 1 ≤ n → n ≡ suc (n - 1)
 len_suc n l = omega arith
 
--- a user packet begins in a frame of the string
-pub begins_up_to : (r : SlotRule) (z : List Item) (n end frame : ℕ) (up : UserPacket) → 1 ≤ r.up_len → UpTo frame z
-    → From r z n end up → (first_item up.items).frame ≤ frame
-begins_up_to r z n end frame up l h f =
+-- a user packet begins in an epoch of the string
+pub begins_up_to : (r : SlotRule) (z : List Item) (n end epoch : ℕ) (up : UserPacket) → 1 ≤ r.up_len → UpTo epoch z
+    → From r z n end up → (first_item up.items).epoch ≤ epoch
+begins_up_to r z n end epoch up l h f =
     let e : first_item up.items ≡ get_or z f.place no_item =
     ap first_item f.items_are ∙ ap (λ (k : ℕ). first_item (take k (drop f.place z))) (len_suc r.up_len l)
     ∙ first_is z f.place (r.up_len - 1) in
-    omega (arith, ap (λ (x : Item). x.frame) e, up_to frame z f.place h)
+    omega (arith, ap (λ (x : Item). x.epoch) e, up_to epoch z f.place h)
 
--- one that ends behind the first items ends in a frame of the others
-pub ends_since : (r : SlotRule) (z y : List Item) (n end frame : ℕ) (up : UserPacket) → 1 ≤ r.up_len → length z + 1 ≤ n + r.up_len
-    → end + r.up_len ≤ length z + length y + 1 → Since frame y
-    → From r (z ++ y) n end up → frame ≤ (last_item up.items).frame
-ends_since r z y n end frame up l a b h f =
+-- one that ends behind the first items ends in an epoch of the others
+pub ends_since : (r : SlotRule) (z y : List Item) (n end epoch : ℕ) (up : UserPacket) → 1 ≤ r.up_len → length z + 1 ≤ n + r.up_len
+    → end + r.up_len ≤ length z + length y + 1 → Since epoch y
+    → From r (z ++ y) n end up → epoch ≤ (last_item up.items).epoch
+ends_since r z y n end epoch up l a b h f =
     let p = f.least in
     let q = f.below in
     let i : f.place + (r.up_len - 1) < length (z ++ y) = omega (arith, length-append z y, p, q) in
@@ -113,8 +113,8 @@ ends_since r z y n end frame up l a b h f =
     ∙ last_is no_item (z ++ y) f.place (r.up_len - 1) i in
     omega (
       arith,
-      ap (λ (x : Item). x.frame) e,
-      since frame z y (f.place + (r.up_len - 1)) (omega (arith, p))
+      ap (λ (x : Item). x.epoch) e,
+      since epoch z y (f.place + (r.up_len - 1)) (omega (arith, p))
           (omega (arith, i, length-append z y)) h,
     )
 
@@ -131,13 +131,13 @@ same_front r z y =
     ]
 
 -- a longer string has the user packets of its front, and then others
-pub record IsLonger (r : SlotRule) (z y : List Item) (frame : ℕ) : Type 0 where
+pub record IsLonger (r : SlotRule) (z y : List Item) (epoch : ℕ) : Type 0 where
   pub more : List UserPacket
   pub packets : user_packets r (z ++ y) ≡ user_packets r z ++ more
-  pub all : AllByRecursion (λ (up : UserPacket). frame ≤ (last_item up.items).frame) more
+  pub all : AllByRecursion (λ (up : UserPacket). epoch ≤ (last_item up.items).epoch) more
 
-pub longer : (r : SlotRule) (z y : List Item) (frame : ℕ) → 1 ≤ r.up_len → Since frame y → IsLonger r z y frame
-longer r z y frame l h =
+pub longer : (r : SlotRule) (z y : List Item) (epoch : ℕ) → 1 ≤ r.up_len → Since epoch y → IsLonger r z y epoch
+longer r z y epoch l h =
     elim (cases_lt (length z + length y + 1) r.up_len) [
       | inl lt ↦
           let e : length (z ++ y) + 1 - r.up_len ≡ 0 = omega (arith, length-append z y) in
@@ -156,8 +156,8 @@ longer r z y frame l h =
           record {
             more = m.more;
             packets = ap (packets_at r (z ++ y)) e ∙ m.packets ∙ ap (λ (l : List UserPacket). l ++ m.more) (same_front r z y);
-            all = all_map (From r (z ++ y) n (n + j)) (λ (up : UserPacket). frame ≤ (last_item up.items).frame)
-                (λ up f. ends_since r z y n (n + j) frame up l (omega arith) (omega arith) h f) m.more m.all;
+            all = all_map (From r (z ++ y) n (n + j)) (λ (up : UserPacket). epoch ≤ (last_item up.items).epoch)
+                (λ up f. ends_since r z y n (n + j) epoch up l (omega arith) (omega arith) h f) m.more m.all;
           }
     ]
 

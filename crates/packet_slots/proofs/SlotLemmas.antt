@@ -13,7 +13,7 @@ pub none_of : (r : SlotRule) (w : List Item) (before : Option ℕ) → is_one w 
 unfolding slot_of
 none_of r w before h =
     ap (λ (b : Bool). cond {A = Option ℕ} (b && (last_item w).can_end)
-    (slot_by r (first_item w).mark (first_item w).frame (dnp_of r w) before) None) h
+    (slot_by r (first_item w).mark (first_item w).epoch (dnp_of r w) before) None) h
 
 module _ (r : SlotRule) where
   same_window : (z ys : List Item) (x : ℕ) → x + r.up_len ≤ length z → window r (z ++ ys) x ≡ window r z x

@@ -9,10 +9,12 @@ use Rattle.std.proofs.lemmas.List.{map-append}
 use Rattle.std.proofs.lemmas.List.Folds.{find-append}
 use Rattle.std.proofs.lemmas.Bool.{cases_lt, false_from_ne_true, eqb-true, le-ltb}
 use Rattle.std.proofs.lemmas.Option.{none-some}
-use Rattle.plp_config.specs.SlotTime.{slot_start, slot_count}
+use Rattle.plp_config.specs.SlotTime.{slot_start}
 use Rattle.plp_config.specs.Laws.{CountRises}
 use Rattle.packet_slots.specs.declared.slot_rule.SlotRule.{SlotRule}
 use Rattle.packet_slots.specs.Sound.{IsSound}
+use Rattle.plp_config.specs.SlotTimes.{over_by}
+use Rattle.packet_slots.specs.Times.{last_frame}
 use Rattle.packet_slots.specs.Strings.{Item, item_values}
 use Rattle.packet_slots.specs.Base.{far}
 use Rattle.packet_slots.specs.Packets.{UserPacket, user_packets, packet_of}
@@ -27,10 +29,10 @@ packet_of_up up = packet_of (item_values up.items)
 
 -- The slots of a frame come into range.
 pub entered : (r : SlotRule) → IsSound r → CountRises
-    → (z : List Item) (frame first end next : ℕ) (slots : List (Option (List ℕ))) → Shows r z first end slots
-    → UpTo frame z → slot_count r.times.num r.times.den (frame * r.times.epoch) ≤ end → end ≤ next
+    → (z : List Item) (epoch first end next : ℕ) (slots : List (Option (List ℕ))) → Shows r z first end slots
+    → UpTo epoch z → over_by r.times epoch ≤ end → end ≤ next
     → Shows r z first next (slots ++ replicate (next - end) None)
-entered r sound rises z frame first end next slots h u c l =
+entered r sound rises z epoch first end next slots h u c l =
     let o = h.order in
     let e : next - first ≡ (end - first) + (next - end) = omega (arith, o) in
     let f : first + (end - first) ≡ end = omega (arith, o) in
@@ -40,7 +42,7 @@ entered r sound rises z frame first end next slots h u c l =
           ap₂ (λ (a b : List (Option (List ℕ))). a ++ b) h.slots_are
           (sym (ap (λ (n : ℕ). map (slot_option r z) (range_with_len n (next - end))) f
           ∙ map_none (slot_option r z) (next - end) end
-          (λ k a b. ap (option_map packet_of_up) (none_yet r sound rises z frame k u (omega (arith, c))))))
+          (λ k a b. ap (option_map packet_of_up) (none_yet r sound rises z epoch k u (omega (arith, c))))))
           ∙ sym (map-append (slot_option r z) (range_with_len first (end - first))
           (range_with_len (first + (end - first)) (next - end)))
           ∙ sym (ap (map (slot_option r z)) (ap (range_with_len first) e ∙ range_append (end - first) (next - end) first));
@@ -138,7 +140,7 @@ and_no true = refl
 and_no false = refl
 
 -- A slot that no range reaches does not count, whatever stands for it.
-pub same_test : (r : SlotRule) (delay slot begun ended : ℕ) → slot_count r.times.num r.times.den (begun * r.times.epoch) < 2 ^ 53
+pub same_test : (r : SlotRule) (delay slot begun ended : ℕ) → over_by r.times begun < 2 ^ 53
     → counts_by r delay (min slot far) begun ended ≡ counts_by r delay slot begun ended
 same_test r delay slot begun ended l =
     elim (cases_lt slot far) [
@@ -146,9 +148,9 @@ same_test r delay slot begun ended l =
       | inr ge ↦ beyond (min slot far) (omega arith) ∙ sym (beyond slot (omega arith))
     ]
   where
-    beyond : (k : ℕ) → slot_count r.times.num r.times.den (begun * r.times.epoch) ≤ k → counts_by r delay k begun ended ≡ false
+    beyond : (k : ℕ) → over_by r.times begun ≤ k → counts_by r delay k begun ended ≡ false
     beyond k m =
         ap (λ (t : Bool).
-        nat_le (slot_count r.times.num r.times.den ((begun - 1) * r.times.epoch)) k && (t && nat_lt (ended * r.times.epoch)
-        (slot_start r.times.num r.times.den k + delay))) (le-ltb k (slot_count r.times.num r.times.den (begun * r.times.epoch)) m)
-        ∙ and_no (nat_le (slot_count r.times.num r.times.den ((begun - 1) * r.times.epoch)) k)
+        nat_le (over_by r.times (begun - 1)) k && (t && nat_lt (last_frame r ended * r.ticks)
+        (slot_start r.times.num r.times.den k + delay))) (le-ltb k (over_by r.times begun) m)
+        ∙ and_no (nat_le (over_by r.times (begun - 1)) k)

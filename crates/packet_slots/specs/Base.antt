@@ -22,8 +22,8 @@ slot_with base dnp = if base.timed then base.slot else option_map (λ k. min (k 
 -- the slot of what is held, or, if nothing is, of the user packet before
 abbrev pub IsBase : SlotRule → List Item → Option ℕ → Base → Type 0
 IsBase r [] before base = base.slot ≡ capped before
-IsBase r (x ∷ xs) before base = (base.frame ≡ x.frame)
-    × ((dnp : ℕ) → slot_with base dnp ≡ capped (slot_by r x.mark x.frame dnp before))
+IsBase r (x ∷ xs) before base = (base.epoch ≡ x.epoch)
+    × ((dnp : ℕ) → slot_with base dnp ≡ capped (slot_by r x.mark x.epoch dnp before))
 
 pub record Holds (r : SlotRule) (s : State) (len : ℕ) (held : List ℕ) (kept : Base) : Type 0 where
   pub bytes : take len held ≡ item_values s.held

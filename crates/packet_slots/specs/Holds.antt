@@ -18,7 +18,7 @@ pub record From (r : SlotRule) (z : List Item) (n end : ℕ) (up : UserPacket) :
   pub items_are : up.items ≡ window r z place
 
 abbrev pub UpTo : ℕ → List Item → Type 0
-UpTo frame z = AllByRecursion (λ x. x.frame ≤ frame) z
+UpTo epoch z = AllByRecursion (λ x. x.epoch ≤ epoch) z
 
 abbrev pub Since : ℕ → List Item → Type 0
-Since frame z = AllByRecursion (λ x. frame ≤ x.frame) z
+Since epoch z = AllByRecursion (λ x. epoch ≤ x.epoch) z

@@ -12,13 +12,13 @@ use Rattle.packet_slots.specs.Packets.{no_item, is_complete, window}
 abbrev pub at : List Item → ℕ → Item
 at z i = get_or z i no_item
 
--- a block with the number of its frame
+-- a block with the number of its epoch
 pub record Placed : Type 0 where
-  pub frame : ℕ
+  pub epoch : ℕ
   pub block : Block
 
 abbrev pub run_items : ℕ → List Placed → List Item
-run_items len run = flat_map (λ p. block_items len p.frame p.block) run
+run_items len run = flat_map (λ p. block_items len p.epoch p.block) run
 
 -- The first user packet of each block begins in its data field.
 abbrev pub AreInField : List Placed → Type 0

@@ -1,10 +1,32 @@
 -- Laws of Readback.
-use Rattle.std.specs.Prelude.{◌≡◌, ℕ, List, ◌++◌}
+use Rattle.std.specs.Prelude.{◌≡◌, ◌↔◌, ℕ, ◌+◌, ◌-◌, List, ◌++◌, length, map}
+use Rattle.std.specs.List.{range_with_len}
+use Rattle.plp_config.specs.SlotTime.{delay_ticks}
 use Rattle.packet_slots.specs.declared.slot_rule.SlotRule.{SlotRule}
 use Rattle.packet_slots.specs.Sound.{IsSound}
-use Rattle.packet_slots.specs.Records.{Record, readback}
+use Rattle.plp_config.specs.SlotTimes.{delay_of, over_by}
+use Rattle.packet_slots.specs.Times.{epoch_of, last_frame, over_after, due_after}
+use Rattle.packet_slots.specs.Readback.{slot_packet}
+use Rattle.packet_slots.specs.Epochs.{Epoch, HaveEnded, string_of, readback}
 
--- What later records tell changes no packet that is given out: Readback of the first records is a prefix of Readback of more.
+-- What comes of later epochs changes no packet that is given out: Readback after the first frames is a prefix of Readback after
+-- more.
 abbrev pub ReadbackFront : Type 0
-ReadbackFront = (r : SlotRule) (first : ℕ) (records more : List Record) → IsSound r
-    → (others : List (List ℕ)) × (readback r first (records ++ more) ≡ readback r first records ++ others)
+ReadbackFront = (r : SlotRule) (first count later : ℕ) (epochs more : List Epoch) → IsSound r
+    → HaveEnded r first (first + count) epochs
+    → (others : List (List ℕ))
+    × (readback r first (count + later) (epochs ++ more) ≡ readback r first count epochs ++ others)
+
+-- If an epoch is one frame, epochs are counted as frames, and each frame ends one.
+pub record IsByFrames (r : SlotRule) : Type 0 where
+  pub epoch : (frame : ℕ) → epoch_of r frame ≡ frame
+  pub last : (epoch : ℕ) → last_frame r epoch ≡ epoch
+  pub over : (epochs : ℕ) → over_by r.times epochs ≡ over_after r epochs
+  pub delay : delay_of r.times ≡ delay_ticks r.times.num r.times.den r.ticks
+  pub ended : (first count : ℕ) (epochs : List Epoch) → HaveEnded r first (first + count) epochs ↔ (length epochs ≡ count)
+  pub packets : (first count : ℕ) (epochs : List Epoch) → readback r first count epochs
+      ≡ map (slot_packet r (string_of r.up_len first epochs))
+      (range_with_len (over_after r (first - 1)) (due_after r (first + count) - over_after r (first - 1)))
+
+abbrev pub OneFrame : Type 0
+OneFrame = (r : SlotRule) → IsSound r → r.spread ≡ 1 → IsByFrames r

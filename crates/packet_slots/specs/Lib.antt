@@ -5,7 +5,7 @@ pub mod Pieces
 pub mod Assembles
 pub mod Times
 pub mod Readback
-pub mod Records
+pub mod Epochs
 pub mod Window
 pub mod StandsFor
 pub mod Laws

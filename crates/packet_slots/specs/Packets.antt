@@ -18,7 +18,7 @@ is_one [] = false
 is_one (x ∷ xs) = is_start x.mark && all_inside xs
 
 abbrev pub no_item : Item
-no_item = record { mark = Gap; value = 0; frame = 0; can_end = false }
+no_item = record { mark = Gap; value = 0; epoch = 0; can_end = false }
 
 abbrev pub last_of : Item → List Item → Item
 last_of x [] = x
@@ -40,13 +40,13 @@ dnp_of r w = if r.deletes then (last_item w).value else 0
 
 -- the slot of a user packet, by that of the complete one that ends where it begins
 abbrev pub slot_by : SlotRule → Mark → ℕ → ℕ → Option ℕ → Option ℕ
-slot_by r Gap frame dnp before = None
-slot_by r Inside frame dnp before = None
-slot_by r Next frame dnp before = option_map (λ k. k + 1 + dnp) before
-slot_by r (Timed iscr) frame dnp before = slot_of_iscr r.times frame iscr
+slot_by r Gap epoch dnp before = None
+slot_by r Inside epoch dnp before = None
+slot_by r Next epoch dnp before = option_map (λ k. k + 1 + dnp) before
+slot_by r (Timed iscr) epoch dnp before = slot_of_iscr r.times epoch iscr
 
 unfoldable pub slot_of : SlotRule → List Item → Option ℕ → Option ℕ
-slot_of r w before = if is_complete w then slot_by r (first_item w).mark (first_item w).frame (dnp_of r w) before else None
+slot_of r w before = if is_complete w then slot_by r (first_item w).mark (first_item w).epoch (dnp_of r w) before else None
 
 abbrev pub window : SlotRule → List Item → ℕ → List Item
 window r z x = take r.up_len (drop x z)

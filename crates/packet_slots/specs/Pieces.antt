@@ -8,13 +8,13 @@ use Rattle.packet_slots.specs.declared.mark.Mark.TheVariants.{Gap, Inside, Next,
 use Rattle.packet_slots.specs.Machine.{State, Turn, state_of, turn_of, before_next, ended}
 
 abbrev pub item : Mark → ℕ → ℕ → Bool → Item
-item mark value frame can_end = record { mark = mark; value = value; frame = frame; can_end = can_end }
+item mark value epoch can_end = record { mark = mark; value = value; epoch = epoch; can_end = can_end }
 
 -- the items of a piece: a user packet can end where the piece ends
 abbrev pub piece_items : Mark → ℕ → List ℕ → List Item
-piece_items mark frame [] = []
-piece_items mark frame (v ∷ []) = item mark v frame true ∷ []
-piece_items mark frame (v ∷ u ∷ us) = item mark v frame false ∷ piece_items Inside frame (u ∷ us)
+piece_items mark epoch [] = []
+piece_items mark epoch (v ∷ []) = item mark v epoch true ∷ []
+piece_items mark epoch (v ∷ u ∷ us) = item mark v epoch false ∷ piece_items Inside epoch (u ∷ us)
 
 -- the bytes of a user packet go on with those of a piece
 abbrev pub piece_grown : SlotRule → List Item → Option ℕ → Turn

@@ -5,20 +5,20 @@ use Rattle.ts_packet.specs.Null.{null_packet}
 use Rattle.plp_config.specs.SlotTime.{slot_start}
 use Rattle.packet_slots.specs.declared.slot_rule.SlotRule.{SlotRule}
 use Rattle.packet_slots.specs.Packets.{packet_of}
-use Rattle.packet_slots.specs.Times.{over_after}
-use Rattle.plp_config.specs.SlotTimes.{delay_of}
+use Rattle.plp_config.specs.SlotTimes.{delay_of, over_by}
+use Rattle.packet_slots.specs.Times.{last_frame}
 use Rattle.packet_slots.specs.Strings.{Item, item_values}
 use Rattle.packet_slots.specs.Packets.{UserPacket, user_packets, first_item, last_item}
 
--- A slot is in the range of the frame in which its user packet begins, and is not given out when the frame begins in which it
--- ends.
+-- A slot is in the range of the epoch in which its user packet begins, and is not given out when the last frame begins of the
+-- epoch in which it ends.
 abbrev pub counts_by : SlotRule → ℕ → ℕ → ℕ → ℕ → Bool
 counts_by r delay slot begun ended =
-    nat_le (over_after r (begun - 1)) slot && (nat_lt slot (over_after r begun)
-    && nat_lt (ended * r.times.epoch) (slot_start r.times.num r.times.den slot + delay))
+    nat_le (over_by r.times (begun - 1)) slot && (nat_lt slot (over_by r.times begun)
+    && nat_lt (last_frame r ended * r.ticks) (slot_start r.times.num r.times.den slot + delay))
 
 abbrev pub counts : SlotRule → UserPacket → Bool
-counts r up = counts_by r (delay_of r.times) up.slot (first_item up.items).frame (last_item up.items).frame
+counts r up = counts_by r (delay_of r.times) up.slot (first_item up.items).epoch (last_item up.items).epoch
 
 -- the user packets of a string that count, in order
 unfoldable pub counted : SlotRule → List Item → List UserPacket

@@ -1,31 +1,33 @@
 -- What a `PacketSlots` stands for.
-use Rattle.std.specs.Prelude.{◌≡◌, ℕ, ◌+◌, ◌-◌, List, [], ◌++◌, length, Option, Bool}
+use Rattle.std.specs.Prelude.{◌≡◌, ℕ, ◌+◌, ◌-◌, ◌%◌, ◌==◌, List, [], ◌++◌, Option, Bool}
 use Rattle.std.specs.List.{flat_map}
 use Rattle.packet_slots.specs.declared.slot_rule.SlotRule.{SlotRule}
 use Rattle.packet_slots.specs.declared.assembler.Assembler.{Assembler}
 use Rattle.packet_slots.specs.declared.slots.PacketSlots.{PacketSlots}
 use Rattle.packet_slots.specs.declared.window.SlotWindow.{SlotWindow}
 use Rattle.packet_slots.specs.Strings.{Item, Block}
-use Rattle.packet_slots.specs.Records.{Record, string_of, first_slot, block_or_gap}
-use Rattle.packet_slots.specs.Times.{over_after, due_after}
+use Rattle.packet_slots.specs.Epochs.{Epoch, HaveEnded, string_of, first_slot, reached, block_or_gap}
+use Rattle.packet_slots.specs.Times.{epoch_of, over_after, due_after}
 use Rattle.packet_slots.specs.Both.{Both}
 
--- the items of blocks of a frame
+-- the items of blocks of an epoch
 abbrev pub blocks_items : ℕ → ℕ → List (Option Block) → List Item
-blocks_items len frame blocks = flat_map (block_or_gap len frame) blocks
+blocks_items len epoch blocks = flat_map (block_or_gap len epoch) blocks
 
-pub record Stands (a : Assembler) (w : SlotWindow) (frame : ℕ) (r : SlotRule) (first : ℕ) (records : List Record)
+pub record Stands (a : Assembler) (w : SlotWindow) (frame : ℕ) (r : SlotRule) (first count : ℕ) (epochs : List Epoch)
     (released : ℕ) : Type 0 where
-  pub both : Both r (string_of r.up_len first records) a w
-  pub number : frame ≡ first + length records
+  pub both : Both r (string_of r.up_len (epoch_of r first) epochs) a w
+  pub number : frame ≡ first + count
+  pub ended : HaveEnded r first frame epochs
   pub begin : w.first ≡ first_slot r first + released
-  pub end : w.end ≡ over_after r (frame - 1)
+  pub end : w.end ≡ reached r first count
   pub due : w.due_end ≡ due_after r frame
 
-pub record Within (a : Assembler) (w : SlotWindow) (frame : ℕ) (r : SlotRule) (first : ℕ) (records : List Record)
+pub record Within (a : Assembler) (w : SlotWindow) (frame : ℕ) (r : SlotRule) (first count : ℕ) (epochs : List Epoch)
     (blocks : List (Option Block)) (released : ℕ) : Type 0 where
-  pub both : Both r (string_of r.up_len first records ++ blocks_items r.up_len frame blocks) a w
-  pub number : frame ≡ first + length records
+  pub both : Both r (string_of r.up_len (epoch_of r first) epochs ++ blocks_items r.up_len (epoch_of r frame) blocks) a w
+  pub number : frame ≡ first + count
+  pub ended : HaveEnded r first frame epochs
   pub begin : w.first ≡ first_slot r first + released
   pub end : w.end ≡ over_after r frame
 
@@ -42,19 +44,24 @@ due_of p = p.window.due_end - p.window.first
 abbrev pub rule_of : PacketSlots → SlotRule
 rule_of p = p.window.rule
 
+-- whether an epoch ends with that frame
+abbrev pub ends_epoch : PacketSlots → Bool
+ends_epoch p = (p.frame + 1) % p.window.rule.spread == 0
+
 -- No slot is in the window.
 abbrev pub IsEmpty : PacketSlots → Type 0
 IsEmpty p = p.window.slots.items ≡ []
 
--- These records came, the first of them of this frame, and so many slots were given out.
-unfoldable pub StandsFor : PacketSlots → SlotRule → ℕ → List Record → ℕ → Type 0
-StandsFor p r first records released = Stands p.assembler p.window p.frame r first records released
+-- So many frames came from one on, of whose epochs this came, and so many slots were given out.
+unfoldable pub StandsFor : PacketSlots → SlotRule → ℕ → ℕ → List Epoch → ℕ → Type 0
+StandsFor p r first count epochs released = Stands p.assembler p.window p.frame r first count epochs released
 
--- And of the next frame, which is under way, these blocks; nothing in place of one that is not taken.
-unfoldable pub StandsWithin : PacketSlots → SlotRule → ℕ → List Record → List (Option Block) → ℕ → Type 0
-StandsWithin p r first records blocks released = Within p.assembler p.window p.frame r first records blocks released
+-- And the next frame is under way; of the epoch that ends with it came these blocks, nothing in place of one that is not taken.
+unfoldable pub StandsWithin : PacketSlots → SlotRule → ℕ → ℕ → List Epoch → List (Option Block) → ℕ → Type 0
+StandsWithin p r first count epochs blocks released =
+    Within p.assembler p.window p.frame r first count epochs blocks released
 
--- no record came yet
+-- no frame came yet
 pub record Fresh (a : Assembler) (w : SlotWindow) (r : SlotRule) : Type 0 where
   pub both : Both r [] a w
   pub empty : w.slots.items ≡ []

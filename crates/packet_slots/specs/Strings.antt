@@ -6,12 +6,12 @@ use Rattle.plp_config.specs.declared.moment.TheConstants.{ISCR_TICKS}
 use Rattle.packet_slots.specs.declared.mark.Mark.{Mark}
 use Rattle.packet_slots.specs.declared.mark.Mark.TheVariants.{Gap, Inside, Next, Timed}
 
--- a byte of the string, or a gap; frame is the number of the frame whose block it stands in. A user packet can end at the last
--- byte of a block, and at each byte behind which one begins
+-- a byte of the string, or a gap; epoch is the number of the interleaving frame whose block it stands in. A user packet can end at
+-- the last byte of a block, and at each byte behind which one begins
 pub record Item : Type 0 where
   pub mark : Mark
   pub value : ℕ
-  pub frame : ℕ
+  pub epoch : ℕ
   pub can_end : Bool
 
 -- a taken block: the place in its data field where the first user packet begins, if one does; its ISSY; its data field
@@ -49,25 +49,25 @@ unfoldable pub mark_at : ℕ → Block → ℕ → Mark
 mark_at len b i = mark_in len b.issy b.first i
 
 abbrev pub item_at : ℕ → ℕ → Block → ℕ → ℕ → Item
-item_at len frame b i value =
+item_at len epoch b i value =
     record {
       mark = mark_at len b i;
       value = value;
-      frame = frame;
+      epoch = epoch;
       can_end = (i + 1 == length b.field) || is_start
           (mark_at len b (i + 1));
     }
 
 -- some bytes of the data field, from place i on
 abbrev pub items_from : ℕ → ℕ → Block → ℕ → List ℕ → List Item
-items_from len frame b i [] = []
-items_from len frame b i (value ∷ values) = item_at len frame b i value ∷ items_from len frame b (i + 1) values
+items_from len epoch b i [] = []
+items_from len epoch b i (value ∷ values) = item_at len epoch b i value ∷ items_from len epoch b (i + 1) values
 
 abbrev pub block_items : ℕ → ℕ → Block → List Item
-block_items len frame b = items_from len frame b 0 b.field
+block_items len epoch b = items_from len epoch b 0 b.field
 
 abbrev pub gap : ℕ → Item
-gap frame = record { mark = Gap; value = 0; frame = frame; can_end = false }
+gap epoch = record { mark = Gap; value = 0; epoch = epoch; can_end = false }
 
 abbrev pub item_values : List Item → List ℕ
 item_values xs = map (λ x. x.value) xs

@@ -1,8 +1,9 @@
 -- What happens to a window.
-use Rattle.std.specs.Prelude.{ℕ, ◌+◌, ◌-◌, nat_lt, List, ◌++◌, replicate, drop, get_or, unwrap_or, None, if◌then◌else◌}
+use Rattle.std.specs.Prelude.{◌≤◌, ℕ, Bool, ◌+◌, ◌-◌, nat_lt, List, ◌++◌, replicate, drop, get_or, unwrap_or, None, if◌then◌else◌}
 use Rattle.std.specs.declared.option.Option.{Option}
 use Rattle.ts_packet.specs.Null.{null_packet}
 use Rattle.packet_slots.specs.declared.slot_rule.SlotRule.{SlotRule}
+use Rattle.packet_slots.specs.Epochs.{first_slot}
 use Rattle.packet_slots.specs.Filling.{filled}
 use Rattle.packet_slots.specs.Times.{over_after, due_after}
 use Rattle.packet_slots.specs.declared.window.SlotWindow.{SlotWindow}
@@ -18,10 +19,10 @@ pub record Status : Type 0 where
 abbrev pub status_of : SlotWindow → Status
 status_of w = record { rule = w.rule; slots = w.slots.items; first = w.first; end = w.end; due_end = w.due_end }
 
--- a window that begins with the slots of a frame
+-- a window that begins with the first slot of the output
 abbrev pub begun : Status → ℕ → Status
 begun s frame =
-    record s { first = over_after s.rule (frame - 1); end = over_after s.rule (frame - 1); due_end = due_after s.rule frame }
+    record s { first = first_slot s.rule frame; end = first_slot s.rule frame; due_end = due_after s.rule frame }
 
 -- the slots of a frame came into it
 abbrev pub entered : Status → ℕ → Status
@@ -34,6 +35,12 @@ put_in s slot packet = record s { slots = if nat_lt slot s.first then s.slots el
 -- a frame has ended
 abbrev pub left : Status → ℕ → Status
 left s frame = record s { due_end = due_after s.rule (frame + 1) }
+
+-- a window whose slots end here, in a frame or before it: the slots of the frame came, or at least those that are over when no
+-- frame of an epoch before it came yet
+pub record Reaches (r : SlotRule) (in_frame : Bool) (frame end : ℕ) : Type 0 where
+  pub least : over_after r (if in_frame then frame else frame - r.spread) ≤ end
+  pub most : end ≤ over_after r frame
 
 -- the slot at the front was given out
 abbrev pub given : Status → Status

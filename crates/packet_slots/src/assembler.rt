@@ -14,16 +14,16 @@ pub struct Base {
     // By its ISCR: then `slot` is its own, else that of the one before it.
     pub timed: bool,
     pub slot: Option<u64>,
-    // The frame in which it begins.
-    pub frame: u64,
+    // The epoch in which it begins.
+    pub epoch: u64,
 }
 
 /// A complete user packet with a slot.
 #[derive(Clone, Copy, Debug, PartialEq, Eq)]
 pub struct Found {
     pub slot: u64,
-    /// The frame in which it begins.
-    pub frame: u64,
+    /// The epoch in which it begins.
+    pub epoch: u64,
 }
 
 /// Puts user packets together from the pieces of data fields.
@@ -36,11 +36,11 @@ pub struct Assembler {
     base: Base,
     ghost sound: { IsSound rule },
     ghost short: { len < rule.up_len },
-    ghost recent: { base.frame < MOST_FRAMES },
+    ghost recent: { base.epoch < MOST_FRAMES },
     ghost near: { (k : ℕ) → base.slot ≡ Some k → k ≤ 2 ^ 53 },
 }
 
-// No range of a frame reaches this slot.
+// No range of an epoch reaches this slot.
 const FAR: u64 = 1 << 53;
 
 // Writes a piece behind the first bytes.
@@ -102,7 +102,7 @@ impl Assembler {
     ghost use Rattle.packet_slots.specs.Packets.{user_packets};
     ghost use Rattle.packet_slots.specs.Packets.{packet_of};
     ghost use Rattle.packet_slots.specs.Pieces.{piece_items};
-    ghost use Rattle.packet_slots.specs.Assembles.{next_base, kept_dnp, IsFrame, IsCleared, Ends, Gains, AssemblerStandsFor};
+    ghost use Rattle.packet_slots.specs.Assembles.{next_base, kept_dnp, IsEpoch, IsCleared, Ends, Gains, AssemblerStandsFor};
 
     /// An assembler of no data fields yet.
     #[tactic(auto, unfolding(crate::specs::Assembles::AssemblerStandsFor), using(crate::proofs::OutLemmas::new_stands))]
@@ -118,7 +118,7 @@ impl Assembler {
             base: Base {
                 timed: false,
                 slot: None,
-                frame: 0,
+                epoch: 0,
             },
         }
     }
@@ -130,13 +130,13 @@ impl Assembler {
         self.rule.up_len
     }
 
-    /// A block is not taken, or a frame is muted.
+    /// A block is not taken, or an epoch is not there.
     pub fn gap(&mut self)
         ensures rule { self.new.rule ≡ self.old.rule }
-        ensures stands { (r : SlotRule) (z : List Item) (frame : ℕ) → AssemblerStandsFor self.old r z
-            → AssemblerStandsFor self.new r (z ++ gap frame ∷ []) }
-        ensures none { (r : SlotRule) (z : List Item) (frame : ℕ) → AssemblerStandsFor self.old r z
-            → user_packets r (z ++ gap frame ∷ []) ≡ user_packets r z }
+        ensures stands { (r : SlotRule) (z : List Item) (epoch : ℕ) → AssemblerStandsFor self.old r z
+            → AssemblerStandsFor self.new r (z ++ gap epoch ∷ []) }
+        ensures none { (r : SlotRule) (z : List Item) (epoch : ℕ) → AssemblerStandsFor self.old r z
+            → user_packets r (z ++ gap epoch ∷ []) ≡ user_packets r z }
     {
         self.clear();
     }
@@ -151,28 +151,28 @@ impl Assembler {
     }
 
     // The base of the user packet that a piece begins or goes on with.
-    fn base_of(&self, mark: Mark, frame: u64) -> Base
-        requires frame { IsFrame frame mark }
-        ensures value { result ≡ next_base self.now.rule self.now.len self.now.base mark frame }
+    fn base_of(&self, mark: Mark, epoch: u64) -> Base
+        requires epoch { IsEpoch epoch mark }
+        ensures value { result ≡ next_base self.now.rule self.now.len self.now.base mark epoch }
         ensures small { IfSome result.slot (λ k. k ≤ 2 ^ 53) }
-        ensures frame { result.frame < MOST_FRAMES }
+        ensures epoch { result.epoch < MOST_FRAMES }
     {
         match mark {
             Mark::Gap => Base {
                 timed: false,
                 slot: None,
-                frame,
+                epoch,
             },
             Mark::Inside => self.base,
             Mark::Next => Base {
                 timed: false,
                 slot: before_next(self.len, self.base),
-                frame,
+                epoch,
             },
             Mark::Timed(iscr) => Base {
                 timed: true,
-                slot: self.rule.times.slot_of_iscr(frame, iscr),
-                frame,
+                slot: self.rule.times.slot_of_iscr(epoch, iscr),
+                epoch,
             },
         }
     }
@@ -200,7 +200,7 @@ impl Assembler {
     fn end(&mut self, base: Base) -> Option<Found>
         requires near { (k : ℕ) → base.slot ≡ Some k → k ≤ 2 ^ 53 }
         ensures ends { Ends self.old self.new base result }
-        ensures frame { IfSome result (λ f. f.frame ≡ base.frame) }
+        ensures epoch { IfSome result (λ f. f.epoch ≡ base.epoch) }
     {
         let slot = slot_with(base, self.dnp());
         self.len = 0;
@@ -209,24 +209,24 @@ impl Assembler {
             None => None,
             Some(slot) => Some(Found {
                 slot,
-                frame: base.frame,
+                epoch: base.epoch,
             }),
         }
     }
 
-    /// Takes a piece of a data field of a frame: a user packet begins at its first byte at most, and one can end where it ends.
+    /// Takes a piece of a data field of an epoch: a user packet begins at its first byte at most, and one can end where it ends.
     /// It answers the user packet that ends there, if it is complete and has a slot.
-    pub fn piece(&mut self, mark: Mark, frame: u64, bytes: &[u8]) -> Option<Found>
-        requires frame { IsFrame frame mark }
+    pub fn piece(&mut self, mark: Mark, epoch: u64, bytes: &[u8]) -> Option<Found>
+        requires epoch { IsEpoch epoch mark }
         requires some { 1 ≤ length bytes.now }
         ensures rule { self.new.rule ≡ self.old.rule }
-        ensures recent { IfSome result (λ f. f.frame < MOST_FRAMES) }
+        ensures recent { IfSome result (λ f. f.epoch < MOST_FRAMES) }
         ensures stands { (r : SlotRule) (z : List Item) → AssemblerStandsFor self.old r z
-            → AssemblerStandsFor self.new r (z ++ piece_items mark frame bytes.now) }
+            → AssemblerStandsFor self.new r (z ++ piece_items mark epoch bytes.now) }
         ensures answer { (r : SlotRule) (z : List Item) → AssemblerStandsFor self.old r z
-            → Gains r z frame (piece_items mark frame bytes.now) self.new.held result }
+            → Gains r z epoch (piece_items mark epoch bytes.now) self.new.held result }
     {
-        let base = self.base_of(mark, frame);
+        let base = self.base_of(mark, epoch);
         let from = from_of(self.len, mark);
         if is_idle(self.len, mark) {
             self.clear();

@@ -1,4 +1,4 @@
-// Taking the blocks of a frame.
+// Taking the blocks of an epoch.
 ghost use Rattle.std.specs.Prelude.{◌≡◌, ◌^◌, ◌+◌, ◌-◌, ◌%◌, ◌<◌, ◌≤◌, ◌++◌, ◌==◌, ◌∷◌, [], length, take, drop, min, List, ℕ};
 ghost use Rattle.std.specs.Prelude.{IfSome, Some, Option, if◌then◌else◌};
 ghost use Rattle.packet_slots.specs.declared.slot_rule.SlotRule.{SlotRule};
@@ -6,7 +6,7 @@ ghost use Rattle.plp_config.specs.declared.moment.TheConstants.{MOST_FRAMES};
 ghost use Rattle.packet_slots.specs.Strings.{Item, gap, items_from, first_mark, block_items};
 ghost use Rattle.packet_slots.specs.declared.mark.Mark.TheVariants.{Next};
 ghost use Rattle.packet_slots.specs.Pieces.{piece_items};
-ghost use Rattle.packet_slots.specs.Assembles.{IsFrame};
+ghost use Rattle.packet_slots.specs.Assembles.{IsEpoch};
 ghost use Rattle.packet_slots.specs.Both.{Both, KeepsTimes, block_of, front_of, IsBegun, IsStart, IsPlace};
 
 use crate::assembler::Assembler;
@@ -30,29 +30,29 @@ fn take_piece(
     assembler: &mut Assembler,
     window: &mut SlotWindow,
     mark: Mark,
-    frame: u64,
+    epoch: u64,
     bytes: &[u8],
 )
-    requires frame { IsFrame frame mark }
+    requires epoch { IsEpoch epoch mark }
     requires some { 1 ≤ length bytes.now }
     ensures times { KeepsTimes window.old window.new }
     ensures rule { assembler.new.rule ≡ assembler.old.rule }
     ensures both { (r : SlotRule) (z : List Item) → Both r z assembler.old window.old
-        → Both r (z ++ piece_items mark frame bytes.now) assembler.new window.new }
+        → Both r (z ++ piece_items mark epoch bytes.now) assembler.new window.new }
 {
-    let Some(found) = assembler.piece(mark, frame, bytes) else {
+    let Some(found) = assembler.piece(mark, epoch, bytes) else {
         return;
     };
-    if window.counts(&found, frame) {
+    if window.counts(&found, epoch) {
         window.put(found.slot, assembler.packet());
     }
 }
 
-/// A block is not taken, or a frame is muted.
+/// A block is not taken, or an epoch is not there.
 pub fn take_gap(assembler: &mut Assembler, window: &SlotWindow)
     ensures rule { assembler.new.rule ≡ assembler.old.rule }
-    ensures both { (r : SlotRule) (z : List Item) (frame : ℕ) → Both r z assembler.old window.now
-        → Both r (z ++ gap frame ∷ []) assembler.new window.now }
+    ensures both { (r : SlotRule) (z : List Item) (epoch : ℕ) → Both r z assembler.old window.now
+        → Both r (z ++ gap epoch ∷ []) assembler.new window.now }
 {
     let _ = window;
     assembler.gap();
@@ -61,7 +61,7 @@ pub fn take_gap(assembler: &mut Assembler, window: &SlotWindow)
 // What begins at the first place where a user packet begins: an ISSY that begins with 10 tells its ISCR.
 fn first_mark(issy: u32) -> Mark
     ensures value { result ≡ first_mark issy }
-    ensures frame { (frame : ℕ) → frame < MOST_FRAMES → IsFrame frame result }
+    ensures epoch { (epoch : ℕ) → epoch < MOST_FRAMES → IsEpoch epoch result }
 {
     if u64::from(issy) / ISCR_TICKS == 2 {
         return Mark::Timed((u64::from(issy) % ISCR_TICKS) as u32);
@@ -72,7 +72,7 @@ fn first_mark(issy: u32) -> Mark
 // The mark of a user packet in a block.
 fn mark_of(issy: u32, start: usize, at: usize) -> Mark
     ensures value { result ≡ (if at == start then first_mark issy else Next) }
-    ensures frame { (frame : ℕ) → frame < MOST_FRAMES → IsFrame frame result }
+    ensures epoch { (epoch : ℕ) → epoch < MOST_FRAMES → IsEpoch epoch result }
 {
     if at == start {
         return first_mark(issy);
@@ -87,9 +87,9 @@ fn take_up(
     block: &TakenBlock<'_>,
     start: usize,
     at: usize,
-    frame: u64,
+    epoch: u64,
 ) -> usize
-    requires frame { frame < MOST_FRAMES }
+    requires epoch { epoch < MOST_FRAMES }
     requires inside { at < length block.now.field.now }
     requires first { block.now.first ≡ Some start }
     requires begins { IsBegun start at assembler.old.rule.up_len }
@@ -97,15 +97,15 @@ fn take_up(
     ensures times { KeepsTimes window.old window.new }
     ensures rule { assembler.new.rule ≡ assembler.old.rule }
     ensures both { (r : SlotRule) (z : List Item) → Both r (z
-        ++ front_of r.up_len frame (block_of block.now) at) assembler.old window.old
-        → Both r (z ++ front_of r.up_len frame (block_of block.now) result) assembler.new window.new }
+        ++ front_of r.up_len epoch (block_of block.now) at) assembler.old window.old
+        → Both r (z ++ front_of r.up_len epoch (block_of block.now) result) assembler.new window.new }
 {
     let end = (at + assembler.up_len()).min(block.field.len());
     take_piece(
         assembler,
         window,
         mark_of(block.issy, start, at),
-        frame,
+        epoch,
         &block.field[at..end],
     );
     end
@@ -117,14 +117,14 @@ fn take_front(
     window: &mut SlotWindow,
     block: &TakenBlock<'_>,
     start: usize,
-    frame: u64,
+    epoch: u64,
 )
-    requires frame { frame < MOST_FRAMES }
+    requires epoch { epoch < MOST_FRAMES }
     requires start { IsStart block.now.first (length block.now.field.now) start }
     ensures times { KeepsTimes window.old window.new }
     ensures rule { assembler.new.rule ≡ assembler.old.rule }
     ensures both { (r : SlotRule) (z : List Item) → Both r z assembler.old window.old
-        → Both r (z ++ front_of r.up_len frame (block_of block.now) start) assembler.new window.new }
+        → Both r (z ++ front_of r.up_len epoch (block_of block.now) start) assembler.new window.new }
 {
     if start == 0 {
         return;
@@ -133,7 +133,7 @@ fn take_front(
         assembler,
         window,
         Mark::Inside,
-        frame,
+        epoch,
         &block.field[..start],
     );
 }
@@ -154,19 +154,19 @@ pub fn take_block(
     assembler: &mut Assembler,
     window: &mut SlotWindow,
     block: &TakenBlock<'_>,
-    frame: u64,
+    epoch: u64,
 )
-    requires frame { frame < MOST_FRAMES }
+    requires epoch { epoch < MOST_FRAMES }
     requires place { IsPlace block.now.first (length block.now.field.now) }
     ensures times { KeepsTimes window.old window.new }
     ensures rule { assembler.new.rule ≡ assembler.old.rule }
     ensures both { (r : SlotRule) (z : List Item) → Both r z assembler.old window.old
-        → Both r (z ++ block_items r.up_len frame (block_of block.now)) assembler.new window.new }
+        → Both r (z ++ block_items r.up_len epoch (block_of block.now)) assembler.new window.new }
 {
     let start = start_of(block);
-    take_front(assembler, window, block, start, frame);
+    take_front(assembler, window, block, start, epoch);
     let mut at = start;
     while at < block.field.len() {
-        at = take_up(assembler, window, block, start, at, frame);
+        at = take_up(assembler, window, block, start, at, epoch);
     }
 }

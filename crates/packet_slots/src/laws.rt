@@ -1,6 +1,6 @@
 // Laws of the definitions. Their functions do nothing.
 ghost use Rattle.packet_slots.specs.LaterBlocks.{CompleteByBlocks};
-ghost use Rattle.packet_slots.specs.Laws.{ReadbackFront};
+ghost use Rattle.packet_slots.specs.Laws.{ReadbackFront, OneFrame};
 
 use plp_config::release_law;
 
@@ -10,6 +10,11 @@ pub fn readback_law()
 {
     release_law();
 }
+
+/// If an interleaving frame is one frame, Readback goes by frames alone.
+pub fn one_frame_law()
+    ensures { OneFrame }
+{}
 
 /// A user packet is complete exactly if each later block that begins before it ends has its first user packet where it ends, or
 /// has none and ends by there.

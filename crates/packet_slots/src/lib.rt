@@ -14,6 +14,6 @@ mod times;
 mod window;
 
 pub use block::TakenBlock;
-pub use laws::{complete_law, readback_law};
+pub use laws::{complete_law, one_frame_law, readback_law};
 pub use slot_rule::SlotRule;
 pub use slots::PacketSlots;

@@ -3,7 +3,7 @@
 /// What begins at a byte of the joined data fields.
 #[derive(Clone, Copy, Debug, PartialEq, Eq)]
 pub enum Mark {
-    /// No byte stands here: a block was not taken, or a frame is muted.
+    /// No byte stands here: a block was not taken, or an epoch is not there.
     Gap,
     /// No user packet.
     Inside,

@@ -2,21 +2,23 @@
 ghost use Rattle.std.specs.Prelude.{◌≡◌, ◌<◌, ◌≤◌, ◌+◌, ◌-◌, ◌++◌, ◌∷◌, [], length, List, ℕ, IfOk, true, false, slice_get, Some};
 ghost use Rattle.std.specs.Prelude.{None, Option, option_map, if◌then◌else◌};
 ghost use Rattle.plp_config.specs.SlotTime.{window_slots};
-ghost use Rattle.packet_slots.specs.Times.{over_after, due_after};
 ghost use Rattle.plp_config.specs.SlotTimes.{delay_of};
+ghost use Rattle.packet_slots.specs.Times.{due_after};
+ghost use Rattle.packet_slots.specs.Window.{Reaches};
 
 use crate::assembler::Assembler;
 use crate::block::{TakenBlock, take_block, take_gap};
 use crate::slot_rule::SlotRule;
 use crate::window::SlotWindow;
-use plp_config::slot_time_law;
+use plp_config::{release_law, slot_time_law};
 use std::alloc::{AllocError, Global};
 use ts_packet::SIZE;
 
-/// Puts the user packets of successive frames into their slots, and gives each slot's packet out once it is due.
+/// Puts the user packets of successive interleaving frames into their slots, and gives each slot's packet out once it is due.
 ///
-/// Of each frame, [`begin_frame`](Self::begin_frame), then each block of the PLP in order, then [`end_frame`](Self::end_frame);
-/// or [`mute`](Self::mute). Behind that, all slots that are due must be given out.
+/// Of each frame, [`pass`](Self::pass), unless an interleaving frame ends with it. Of one that does,
+/// [`begin_frame`](Self::begin_frame), then each block of the interleaving frame in order, then [`end_frame`](Self::end_frame); or
+/// [`lose`](Self::lose), if the interleaving frame is not there. Behind that, all slots that are due must be given out.
 #[derive(Drop)]
 pub struct PacketSlots {
     assembler: Assembler,
@@ -25,7 +27,7 @@ pub struct PacketSlots {
     frame: u64,
     in_frame: bool,
     ghost same: { assembler.rule ≡ window.rule },
-    ghost reached: { window.end ≡ over_after window.rule (if in_frame then frame else frame - 1) },
+    ghost reached: { Reaches window.rule in_frame frame window.end },
     ghost known: { window.due_end ≡ due_after window.rule frame },
 }
 
@@ -34,12 +36,12 @@ impl PacketSlots {
     ghost use Rattle.packet_slots.specs.declared.slot_rule.SlotRule.{SlotRule};
     ghost use Rattle.packet_slots.specs.Sound.{IsSound};
     ghost use Rattle.packet_slots.specs.Strings.{Block};
-    ghost use Rattle.packet_slots.specs.Records.{Record, muted_record, framed_record, readback, held_slots};
+    ghost use Rattle.packet_slots.specs.Epochs.{Epoch, lost_epoch, epoch_with, readback, held_slots};
     ghost use Rattle.packet_slots.specs.Both.{block_of, IsPlace};
     ghost use Rattle.std.specs.Prelude.{nat_lt};
     ghost use Rattle.packet_slots.specs.Window.{status_of, left};
     ghost use Rattle.packet_slots.specs.StandsFor.{StandsFor, StandsWithin, IsFresh, IsEmpty, frame_of, is_within, due_of};
-    ghost use Rattle.packet_slots.specs.StandsFor.{rule_of};
+    ghost use Rattle.packet_slots.specs.StandsFor.{rule_of, ends_epoch};
 
     /// Takes all the memory that is needed.
     ///
@@ -52,6 +54,7 @@ impl PacketSlots {
         ensures empty { IfOk result IsEmpty }
         ensures rule { IfOk result (λ p. rule_of p ≡ rule) }
     {
+        release_law();
         Ok(PacketSlots {
             assembler: Assembler::new(rule),
             window: SlotWindow::open(alloc, rule)?,
@@ -65,13 +68,14 @@ impl PacketSlots {
         requires small { first < MOST_FRAMES }
         requires outside { is_within self.old ≡ false }
         requires empty { IsEmpty self.old }
-        ensures stands { (r : SlotRule) → IsFresh self.old r → StandsFor self.new r first [] 0 }
+        ensures stands { (r : SlotRule) → IsFresh self.old r → StandsFor self.new r first 0 [] 0 }
         ensures due { due_of self.new ≡ 0 }
         ensures frame { frame_of self.new ≡ first }
         ensures outside { is_within self.new ≡ false }
         ensures rule { rule_of self.new ≡ rule_of self.old }
     {
         self.window.begin(first);
+        slot_time_law();
         self.frame = first;
     }
 
@@ -80,9 +84,9 @@ impl PacketSlots {
         requires small { frame_of self.old < MOST_FRAMES }
         requires outside { is_within self.old ≡ false }
         requires given_out { due_of self.old ≡ 0 }
-        ensures stands { (r : SlotRule) (first : ℕ) (records : List Record) (released : ℕ)
-            → StandsFor self.old r first records released
-            → StandsWithin self.new r first records [] released }
+        ensures stands { (r : SlotRule) (first count : ℕ) (epochs : List Epoch) (released : ℕ)
+            → StandsFor self.old r first count epochs released
+            → StandsWithin self.new r first count epochs [] released }
         ensures frame { frame_of self.new ≡ frame_of self.old }
         ensures within { is_within self.new ≡ true }
         ensures rule { rule_of self.new ≡ rule_of self.old }
@@ -92,27 +96,28 @@ impl PacketSlots {
         self.in_frame = true;
     }
 
-    /// Takes the next block of the frame.
+    /// Takes the next block of the epoch that ends with the frame.
     pub fn take(&mut self, block: &TakenBlock<'_>)
         requires small { frame_of self.old < MOST_FRAMES }
         requires within { is_within self.old ≡ true }
         requires place { IsPlace block.now.first (length block.now.field.now) }
-        ensures stands { (r : SlotRule) (first : ℕ) (records : List Record) (blocks : List (Option Block)) (released : ℕ)
-            → StandsWithin self.old r first records blocks released
-            → StandsWithin self.new r first records (blocks ++ Some (block_of block.now) ∷ []) released }
+        ensures stands { (r : SlotRule) (first count : ℕ) (epochs : List Epoch) (blocks : List (Option Block)) (released : ℕ)
+            → StandsWithin self.old r first count epochs blocks released
+            → StandsWithin self.new r first count epochs (blocks ++ Some (block_of block.now) ∷ []) released }
         ensures frame { frame_of self.new ≡ frame_of self.old }
         ensures within { is_within self.new ≡ true }
         ensures rule { rule_of self.new ≡ rule_of self.old }
     {
-        take_block(&mut self.assembler, &mut self.window, block, self.frame);
+        let epoch = self.window.epoch_of(self.frame);
+        take_block(&mut self.assembler, &mut self.window, block, epoch);
     }
 
-    /// The next block of the frame is not taken.
+    /// The next block of the epoch is not taken.
     pub fn skip(&mut self)
         requires within { is_within self.old ≡ true }
-        ensures stands { (r : SlotRule) (first : ℕ) (records : List Record) (blocks : List (Option Block)) (released : ℕ)
-            → StandsWithin self.old r first records blocks released
-            → StandsWithin self.new r first records (blocks ++ None ∷ []) released }
+        ensures stands { (r : SlotRule) (first count : ℕ) (epochs : List Epoch) (blocks : List (Option Block)) (released : ℕ)
+            → StandsWithin self.old r first count epochs blocks released
+            → StandsWithin self.new r first count epochs (blocks ++ None ∷ []) released }
         ensures frame { frame_of self.new ≡ frame_of self.old }
         ensures within { is_within self.new ≡ true }
         ensures rule { rule_of self.new ≡ rule_of self.old }
@@ -130,17 +135,19 @@ impl PacketSlots {
         ensures outside { is_within self.new ≡ false }
     {
         self.window.leave(self.frame);
+        slot_time_law();
         self.frame += 1;
         self.in_frame = false;
     }
 
-    /// The frame has ended: its blocks were taken.
+    /// The frame has ended, and an epoch with it: its blocks were taken.
     pub fn end_frame(&mut self)
         requires small { frame_of self.old < MOST_FRAMES }
         requires within { is_within self.old ≡ true }
-        ensures stands { (r : SlotRule) (first : ℕ) (records : List Record) (blocks : List (Option Block)) (released : ℕ)
-            → StandsWithin self.old r first records blocks released
-            → StandsFor self.new r first (records ++ framed_record blocks ∷ []) released }
+        requires last { ends_epoch self.old ≡ true }
+        ensures stands { (r : SlotRule) (first count : ℕ) (epochs : List Epoch) (blocks : List (Option Block)) (released : ℕ)
+            → StandsWithin self.old r first count epochs blocks released
+            → StandsFor self.new r first (count + 1) (epochs ++ epoch_with blocks ∷ []) released }
         ensures frame { frame_of self.new ≡ frame_of self.old + 1 }
         ensures outside { is_within self.new ≡ false }
         ensures rule { rule_of self.new ≡ rule_of self.old }
@@ -148,20 +155,38 @@ impl PacketSlots {
         self.leave();
     }
 
-    /// The next frame is muted. All slots that are due were given out.
-    pub fn mute(&mut self)
+    /// An epoch ends with the next frame, and is not there. All slots that are due were given out.
+    pub fn lose(&mut self)
         requires small { frame_of self.old < MOST_FRAMES }
         requires outside { is_within self.old ≡ false }
         requires given_out { due_of self.old ≡ 0 }
-        ensures stands { (r : SlotRule) (first : ℕ) (records : List Record) (released : ℕ)
-            → StandsFor self.old r first records released
-            → StandsFor self.new r first (records ++ muted_record ∷ []) released }
+        requires last { ends_epoch self.old ≡ true }
+        ensures stands { (r : SlotRule) (first count : ℕ) (epochs : List Epoch) (released : ℕ)
+            → StandsFor self.old r first count epochs released
+            → StandsFor self.new r first (count + 1) (epochs ++ lost_epoch ∷ []) released }
         ensures frame { frame_of self.new ≡ frame_of self.old + 1 }
         ensures outside { is_within self.new ≡ false }
         ensures rule { rule_of self.new ≡ rule_of self.old }
     {
         self.begin_frame();
         self.skip();
+        self.leave();
+    }
+
+    /// The next frame comes, and no epoch ends with it. All slots that are due were given out.
+    pub fn pass(&mut self)
+        requires small { frame_of self.old < MOST_FRAMES }
+        requires outside { is_within self.old ≡ false }
+        requires given_out { due_of self.old ≡ 0 }
+        requires inner { ends_epoch self.old ≡ false }
+        ensures stands { (r : SlotRule) (first count : ℕ) (epochs : List Epoch) (released : ℕ)
+            → StandsFor self.old r first count epochs released
+            → StandsFor self.new r first (count + 1) epochs released }
+        ensures frame { frame_of self.new ≡ frame_of self.old + 1 }
+        ensures outside { is_within self.new ≡ false }
+        ensures rule { rule_of self.new ≡ rule_of self.old }
+    {
+        self.begin_frame();
         self.leave();
     }
 
@@ -172,13 +197,21 @@ impl PacketSlots {
         self.frame
     }
 
+    /// Whether an epoch ends with that frame.
+    pub fn ends_epoch(&self) -> bool
+        requires { frame_of self.now < MOST_FRAMES }
+        ensures { result ≡ ends_epoch self.now }
+    {
+        self.window.is_last(self.frame)
+    }
+
     /// How many slots are due and not given out.
     pub fn due(&self) -> u64
         ensures value { result ≡ due_of self.now }
         ensures fresh { (r : SlotRule) → IsFresh self.now r → result ≡ 0 }
-        ensures answer { (r : SlotRule) (first : ℕ) (records : List Record) (released : ℕ)
-            → StandsFor self.now r first records released
-            → result ≡ length (readback r first records) - released }
+        ensures answer { (r : SlotRule) (first count : ℕ) (epochs : List Epoch) (released : ℕ)
+            → StandsFor self.now r first count epochs released
+            → result ≡ length (readback r first count epochs) - released }
     {
         self.window.due()
     }
@@ -187,25 +220,25 @@ impl PacketSlots {
     pub fn held(&self) -> u64
         ensures fresh { (r : SlotRule) → IsFresh self.now r → result ≡ 0 }
         ensures most { result ≤ window_slots (rule_of self.now).times.num (rule_of self.now).times.den (delay_of (rule_of self.now).times)
-            (rule_of self.now).times.epoch }
-        ensures answer { (r : SlotRule) (first : ℕ) (records : List Record) (released : ℕ)
-            → StandsFor self.now r first records released
-            → result ≡ held_slots r first (length records) - released }
+            (rule_of self.now).ticks }
+        ensures answer { (r : SlotRule) (first count : ℕ) (epochs : List Epoch) (released : ℕ)
+            → StandsFor self.now r first count epochs released
+            → result ≡ held_slots r first count - released }
     {
         self.window.held()
     }
 
     /// The packet of the next slot, if one is due: `false` exactly if none is.
     pub fn release(&mut self, out: &mut [u8; SIZE]) -> bool
-        ensures stands { (r : SlotRule) (first : ℕ) (records : List Record) (released : ℕ)
-            → StandsFor self.old r first records released
-            → StandsFor self.new r first records (if result then released + 1 else released) }
-        ensures answer { result ≡ true → (r : SlotRule) (first : ℕ) (records : List Record) (released : ℕ)
-            → StandsFor self.old r first records released
-            → slice_get (readback r first records) released ≡ Some out.new }
-        ensures none { result ≡ false → (r : SlotRule) (first : ℕ) (records : List Record) (released : ℕ)
-            → StandsFor self.old r first records released
-            → length (readback r first records) ≤ released }
+        ensures stands { (r : SlotRule) (first count : ℕ) (epochs : List Epoch) (released : ℕ)
+            → StandsFor self.old r first count epochs released
+            → StandsFor self.new r first count epochs (if result then released + 1 else released) }
+        ensures answer { result ≡ true → (r : SlotRule) (first count : ℕ) (epochs : List Epoch) (released : ℕ)
+            → StandsFor self.old r first count epochs released
+            → slice_get (readback r first count epochs) released ≡ Some out.new }
+        ensures none { result ≡ false → (r : SlotRule) (first count : ℕ) (epochs : List Epoch) (released : ℕ)
+            → StandsFor self.old r first count epochs released
+            → length (readback r first count epochs) ≤ released }
         ensures exact { result ≡ nat_lt 0 (due_of self.old) }
         ensures due { due_of self.new ≡ due_of self.old - 1 }
         ensures same { result ≡ false → self.new ≡ self.old }
@@ -214,6 +247,9 @@ impl PacketSlots {
         ensures within { is_within self.new ≡ is_within self.old }
         ensures rule { rule_of self.new ≡ rule_of self.old }
     {
+        if self.window.due() == 0 {
+            return false;
+        }
         self.window.release(out)
     }
 }

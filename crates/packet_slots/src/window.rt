@@ -9,7 +9,7 @@ ghost use Rattle.packet_slots.specs.Filling.{filled};
 use crate::assembler::Found;
 use crate::counting::counts;
 use crate::slot_rule::SlotRule;
-use crate::times::due_after;
+use crate::times::{due_after, over_after};
 use circular_buffer::HeapCircularBuffer;
 use plp_config::{release_law, slot_time_law};
 use std::alloc::{AllocError, Global};
@@ -26,7 +26,7 @@ pub struct SlotWindow {
     // The slots before this one are due.
     due_end: u64,
     ghost sound: { IsSound rule },
-    ghost room: { slots.capacity ≡ window_slots rule.times.num rule.times.den (delay_of rule.times) rule.times.epoch },
+    ghost room: { slots.capacity ≡ window_slots rule.times.num rule.times.den (delay_of rule.times) rule.ticks },
     ghost span: { first + length slots.items ≡ end },
     ghost known: { due_end ≤ end },
 }
@@ -60,10 +60,10 @@ fn fill(slots: &mut HeapCircularBuffer<Option<TsPacket>>, place: u64, packet: Ts
 impl SlotWindow {
     ghost use Rattle.plp_config.specs.declared.moment.TheConstants.{MOST_FRAMES};
     ghost use Rattle.packet_slots.specs.Readback.{counts_by};
-    ghost use Rattle.packet_slots.specs.Times.{over_after, due_after};
-    ghost use Rattle.plp_config.specs.SlotTimes.{delay_of};
+    ghost use Rattle.plp_config.specs.SlotTimes.{delay_of, over_by};
+    ghost use Rattle.packet_slots.specs.Times.{epoch_of, over_after, due_after};
     ghost use Rattle.packet_slots.specs.Window.{status_of, begun, entered, put_in, left, given, front_packet};
-    ghost use Rattle.std.specs.Prelude.{true, false, nat_lt, if◌then◌else◌};
+    ghost use Rattle.std.specs.Prelude.{◌%◌, ◌==◌, true, false, nat_lt, if◌then◌else◌};
 
     /// Takes the memory of the window.
     ///
@@ -77,7 +77,7 @@ impl SlotWindow {
             rule,
             slots: HeapCircularBuffer::with_capacity(
                 alloc,
-                rule.times.window(rule.times.epoch) as usize,
+                rule.times.window(rule.ticks) as usize,
             )?,
             first: 0,
             end: 0,
@@ -85,13 +85,13 @@ impl SlotWindow {
         })
     }
 
-    /// The output begins at the first slot of a frame.
+    /// The output begins with the first slot for records from a frame on.
     pub fn begin(&mut self, frame: u64)
         requires small { frame < MOST_FRAMES }
         requires empty { self.old.slots.items ≡ [] }
         ensures { status_of self.new ≡ begun (status_of self.old) frame }
     {
-        let (first, _) = self.rule.times.range_of(frame);
+        let first = over_after(&self.rule, frame.saturating_sub(self.rule.spread));
         let due_end = due_after(&self.rule, frame);
         release_law();
         slot_time_law();
@@ -103,26 +103,42 @@ impl SlotWindow {
     /// The slots of a frame come into range. Those that were due were given out.
     pub fn enter(&mut self, frame: u64)
         requires small { frame < MOST_FRAMES }
-        requires next { self.old.end ≡ over_after self.old.rule (frame - 1) }
+        requires next { self.old.end ≤ over_after self.old.rule frame }
         requires given_out { due_after self.old.rule frame ≤ self.old.first }
         ensures status { status_of self.new ≡ entered (status_of self.old) frame }
         ensures order { self.old.end ≤ self.new.end }
     {
-        let (_, end) = self.rule.times.range_of(frame);
+        let end = over_after(&self.rule, frame);
         release_law();
         push_empty(&mut self.slots, end - self.end);
         self.end = end;
     }
 
-    /// Whether a user packet that ends in a frame counts: its slot is one of the frame in which it begins, and was not given out
-    /// before the frame in which it ends.
-    pub fn counts(&self, found: &Found, frame: u64) -> bool
-        requires begun { found.now.frame < MOST_FRAMES }
-        requires ended { frame < MOST_FRAMES }
-        ensures value { result ≡ counts_by self.now.rule (delay_of self.now.rule.times) found.now.slot found.now.frame frame }
-        ensures near { over_after self.now.rule found.now.frame < 2 ^ 53 }
+    /// Whether a user packet that ends in an epoch counts: its slot is one of the epoch in which it begins, and was not given out
+    /// before the last frame of the epoch in which it ends.
+    pub fn counts(&self, found: &Found, epoch: u64) -> bool
+        requires begun { found.now.epoch < MOST_FRAMES }
+        requires ended { epoch < MOST_FRAMES }
+        ensures value { result ≡ counts_by self.now.rule (delay_of self.now.rule.times) found.now.slot found.now.epoch epoch }
+        ensures near { over_by self.now.rule.times found.now.epoch < 2 ^ 53 }
     {
-        counts(&self.rule, found, frame)
+        counts(&self.rule, found, epoch)
+    }
+
+    /// The epoch to which a frame belongs.
+    pub fn epoch_of(&self, frame: u64) -> u64
+        ensures value { result ≡ epoch_of self.now.rule frame }
+        ensures most { result ≤ frame }
+    {
+        self.rule.epoch_of(frame)
+    }
+
+    /// Whether an epoch ends with a frame.
+    pub fn is_last(&self, frame: u64) -> bool
+        requires { frame < MOST_FRAMES }
+        ensures { result ≡ ((frame + 1) % self.now.rule.spread == 0) }
+    {
+        (frame + 1) % self.rule.spread == 0
     }
 
     /// A slot gets its packet, unless it has one, or was given out.
@@ -138,7 +154,7 @@ impl SlotWindow {
     /// A frame has ended.
     pub fn leave(&mut self, frame: u64)
         requires small { frame < MOST_FRAMES }
-        requires came { self.old.end ≡ over_after self.old.rule frame }
+        requires came { over_after self.old.rule frame ≤ self.old.end }
         ensures { status_of self.new ≡ left (status_of self.old) frame }
     {
         let due_end = due_after(&self.rule, frame + 1);
@@ -157,7 +173,7 @@ impl SlotWindow {
     /// How many slots are held: as many as the window of the PLP has at most.
     pub fn held(&self) -> u64
         ensures value { result ≡ self.now.end - self.now.first }
-        ensures most { result ≤ window_slots self.now.rule.times.num self.now.rule.times.den (delay_of self.now.rule.times) self.now.rule.times.epoch }
+        ensures most { result ≤ window_slots self.now.rule.times.num self.now.rule.times.den (delay_of self.now.rule.times) self.now.rule.ticks }
     {
         self.slots.len() as u64
     }

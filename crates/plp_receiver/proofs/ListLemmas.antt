@@ -1,8 +1,9 @@
 -- Lists, from a place on.
-use Rattle.std.proofs.Common.{◌≡◌, ℕ, zero, suc, ◌+◌, ◌<◌, List, [], ◌∷◌, ◌++◌, length, drop, Option, Some, None, refl, ap, sym}
+use Rattle.std.proofs.Common.{◌≡◌, ℕ, zero, suc, ◌+◌, ◌<◌, ◌≤◌, List, [], ◌∷◌, ◌++◌, length, drop, Option, Some, None, refl, ap}
+use Rattle.std.proofs.Common.{sym}
 use Rattle.std.proofs.Common.{◌∙◌, arith}
 use Rattle.std.specs.Prelude.{slice_get, MatchOption}
-use Rattle.std.specs.List.{AllZip}
+use Rattle.std.specs.List.{AllZip, range_with_len}
 use Rattle.std.proofs.lemmas.List.{length-drop}
 
 module _ {X : Type 0} where
@@ -44,3 +45,16 @@ zip_more R [] [] x y z r = (r, tt)
 zip_more R [] (b ∷ ys) x y z r = absurd z
 zip_more R (a ∷ xs) [] x y z r = absurd z
 zip_more R (a ∷ xs) (b ∷ ys) x y z r = (z.0, zip_more R xs ys x y z.1 r)
+
+-- each of a range in step with another relation
+pub zip_over : {B : Type 0} (R S : ℕ → B → Type 0) (a n : ℕ) (ys : List B)
+    → ((k : ℕ) (y : B) → a ≤ k → k < a + n → R k y → S k y)
+    → AllZip R (range_with_len a n) ys → AllZip S (range_with_len a n) ys
+zip_over R S a zero [] f z = tt
+zip_over R S a zero (y ∷ ys) f z = absurd z
+zip_over R S a (suc n) [] f z = absurd z
+zip_over R S a (suc n) (y ∷ ys) f z = (
+  f a y (omega arith) (omega arith) z.0,
+  zip_over R S (a + 1) n ys (λ k x l m r. f k x (omega (arith, l)) (omega (arith, m)) r)
+      z.1,
+)

@@ -1,10 +1,11 @@
 -- The cells of a block all stand exactly if none is missed when the record is gone over beside the map.
-use Rattle.std.proofs.Common.{◌≡◌, ℕ, zero, suc, ◌+◌, ◌<◌, ◌&&◌, ◌==◌, Bool, true, false, List, [], ◌∷◌, length, get_or, Option}
+use Rattle.std.proofs.Common.{◌≡◌, ℕ, zero, suc, ◌+◌, ◌%◌, ◌<◌, ◌&&◌, ◌==◌, Bool, true, false, List, [], ◌∷◌, length, get_or}
+use Rattle.std.proofs.Common.{Option}
 use Rattle.std.proofs.Common.{Some, None, refl, ap, ap₂, sym, subst, ◌∙◌, arith}
 use Rattle.std.specs.Prelude.{slice_get, not, ◌||◌}
 use Rattle.std.specs.FinMap.{get}
 use Rattle.std.specs.List.{list_all, range_with_len}
-use Rattle.std.proofs.lemmas.Bool.{true≢false, and_from, and_parts, eqb-true, eq-eqb}
+use Rattle.std.proofs.lemmas.Bool.{and_from, and_parts, eqb-true, eq-eqb}
 use Rattle.std.proofs.lemmas.List.Folds.{list_all-append}
 use Rattle.terms.proofs.CaseLemmas.{bool_cases, same_test}
 use Rattle.terms.proofs.RangeLemmas.{range_more}
@@ -16,7 +17,8 @@ use Rattle.cell_map.specs.CellMap.{Passes, ordinal_of, is_carried, cell_map}
 use Rattle.cell_map.specs.Laws.{MapHasEachCell, MapHasOnlyCells}
 use Rattle.cell_map.specs.declared.places.Cell.{Cell}
 use Rattle.frame_tests.specs.MapTest.{each_below}
-use Rattle.plp_receiver.specs.Readable.{is_cell, stands, all_stand}
+use Rattle.plp_receiver.specs.Readable.{Part, part_with, is_cell, stands, all_stand}
+use Rattle.site_frame.specs.Record.{Block}
 use Rattle.plp_receiver.specs.Seeing.{is_right, is_seen, right_at, seen_from, all_seen}
 use Rattle.plp_receiver.proofs.CountLemmas.{ordinals_apart}
 
@@ -133,17 +135,25 @@ or_second : (a b : Bool) → b ≡ true → (a || b) ≡ true
 or_second true b h = refl
 or_second false b h = h
 
-module _ (has : MapHasEachCell) (only : MapHasOnlyCells) (c : Config) (shape : FrameShape) (frame_idx : ℕ) (cells : List (Option Cell))
-    (plp block : ℕ) (passes : Passes c shape)
+module _ (has : MapHasEachCell) (only : MapHasOnlyCells) (c : Config) (shape : FrameShape) (cells : List (Option Cell))
+    (number : ℕ) (blocks : List Block) (plp block : ℕ) (passes : Passes c shape)
     (configured : plp < length c.plps) (sent : block < get_or shape.counts plp 0) where
   abbrev own : ℕ
   own = ordinal_of shape plp block
 
+  abbrev part : Part
+  part = part_with number blocks shape cells
+
   there : (cell : ℕ) → cell < block_cells c plp → IsCell c shape plp block cell
   there cell l = record { configured = configured; sent = sent; within = l }
 
-  stands_by : all_seen c shape frame_idx cells own ≡ true → all_stand c shape frame_idx cells plp block ≡ true
-  stands_by e = true_each (stands c shape frame_idx cells plp block) (block_cells c plp) (λ cell l.
+  -- the place of the frame in its superframe
+  abbrev frame_idx : ℕ
+  frame_idx = number % c.frames
+
+  stands_by : all_seen c shape frame_idx cells own ≡ true → all_stand c plp part block ≡ true
+  unfolding all_stand
+  stands_by e = true_each (stands c part plp block) (block_cells c plp) (λ cell l.
       let at : ℕ = address_of c shape frame_idx plp block cell in
       bool_cases (is_carried c shape frame_idx plp block cell)
       (λ yes.
@@ -155,7 +165,7 @@ module _ (has : MapHasEachCell) (only : MapHasOnlyCells) (c : Config) (shape : F
       ∙ right)))
       (λ none. ap (λ (t : Bool). not t || is_cell own cell (slice_get cells at)) none))
 
-  right_here : all_stand c shape frame_idx cells plp block ≡ true → (at : ℕ) (o : Option Cell)
+  right_here : each_below (block_cells c plp) (stands c part plp block) ≡ true → (at : ℕ) (o : Option Cell)
       → get (cell_map c shape frame_idx) at ≡ o → is_right own o (slice_get cells at) ≡ true
   right_here e at None g = refl
   right_here e at (Some x) g = bool_cases (x.ordinal == own)
@@ -169,7 +179,7 @@ module _ (has : MapHasEachCell) (only : MapHasOnlyCells) (c : Config) (shape : F
       let standing : is_cell own x.cell (slice_get cells (address_of c shape frame_idx plp block x.cell)) ≡ true =
       sym (ap (λ (t : Bool). not t || is_cell own x.cell (slice_get cells (address_of c shape frame_idx plp block x.cell)))
       (eq-eqb _ _ here.carried))
-      ∙ each_true (stands c shape frame_idx cells plp block) (block_cells c plp) e x.cell here.there.within in
+      ∙ each_true (stands c part plp block) (block_cells c plp) e x.cell here.there.within in
       let place : address_of c shape frame_idx plp block x.cell ≡ at =
       ap (λ (b : ℕ). address_of c shape frame_idx plp b x.cell) (sym one.1)
       ∙ ap (λ (p : ℕ). address_of c shape frame_idx p s.block x.cell) (sym one.0) ∙ s.value in
@@ -179,6 +189,7 @@ module _ (has : MapHasEachCell) (only : MapHasOnlyCells) (c : Config) (shape : F
       or_second (not (x.ordinal == own)) (is_cell x.ordinal x.cell (slice_get cells at)) found)
       (λ other. ap (λ (t : Bool). not t || is_cell x.ordinal x.cell (slice_get cells at)) other)
 
-  pub seen_stand : all_seen c shape frame_idx cells own ≡ all_stand c shape frame_idx cells plp block
-  seen_stand = same_test (all_seen c shape frame_idx cells own) (all_stand c shape frame_idx cells plp block) stands_by
+  pub seen_stand : all_seen c shape frame_idx cells own ≡ all_stand c plp part block
+  unfolding all_stand
+  seen_stand = same_test (all_seen c shape frame_idx cells own) (all_stand c plp part block) stands_by
       (λ e. true_each (right_at c shape frame_idx cells own) c.cells (λ at l. right_here e at (get (cell_map c shape frame_idx) at) refl))

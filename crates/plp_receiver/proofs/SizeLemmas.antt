@@ -1,6 +1,6 @@
 -- The blocks of a frame of a shape, each with its length.
 use Rattle.std.proofs.Common.{◌≡◌, ℕ, zero, suc, ◌+◌, ◌-◌, ◌<◌, ◌≤◌, ◌&&◌, ◌==◌, Bool, true, false, List, [], ◌∷◌, ◌++◌, length}
-use Rattle.std.proofs.Common.{take, drop, get_or, replicate, Option, refl, ap, sym, subst, ◌∙◌, arith}
+use Rattle.std.proofs.Common.{take, drop, get_or, replicate, Option, refl, ap, sym, subst, ◌∙◌, arith, cond, ◌%◌}
 use Rattle.std.specs.Prelude.{slice_index, sum}
 use Rattle.std.specs.Option.{option_map_or}
 use Rattle.std.specs.Cmp.Lexicographic.{pointwise}
@@ -8,16 +8,17 @@ use Rattle.std.proofs.lemmas.Bool.{true≢false, and_left, and_parts, eqb-true}
 use Rattle.std.proofs.lemmas.List.{length-drop}
 use Rattle.std.proofs.lemmas.List.Sums.{sum_by-cons}
 use Rattle.plp_config.specs.Capacity.{block_bytes}
-use Rattle.plp_config.specs.Laws.{FieldRange}
+use Rattle.plp_config.specs.InterleavingFrames.{is_first}
 use Rattle.plp_config.specs.Plps.{plp_at}
 use Rattle.plp_config.specs.declared.config.Config.{Config}
-use Rattle.plp_config.specs.declared.plp.TheConstants.{MOST_BLOCK_BYTES, MOST_FIELD_BYTES}
 use Rattle.scheduler.specs.Shape.{FrameShape}
+use Rattle.std.proofs.lemmas.List.FromFn.{get_or-map-range_with_len}
 use Rattle.site_frame.specs.Record.{Block}
-use Rattle.plp_receiver.specs.Readable.{BlockSize, has_size, block_sizes}
+use Rattle.plp_receiver.specs.Readable.{BlockSize, coming, has_size, block_sizes}
+use Rattle.plp_config.specs.Plps.{spread}
 use Rattle.plp_receiver.specs.Sizes.{size_of, plp_sizes, sizes_from}
 use Rattle.plp_receiver.specs.Taken.{bytes_at}
-use Rattle.plp_receiver.specs.Taking.{HasBytes, HaveBytes}
+use Rattle.plp_receiver.specs.Taking.{HaveLength}
 use Rattle.plp_receiver.proofs.ListLemmas.{slice_get_drop}
 
 -- ---- one by one
@@ -41,20 +42,20 @@ came_other b rest size n k more l e =
     ∙ and_left (has_size b size) (pointwise has_size rest (replicate (n - (k + 1)) size ++ more)) e
 
 -- the sizes from a PLP on begin with its own
-sizes_first : (c : Config) (shape : FrameShape) (n plp : ℕ) → plp < n → sizes_from c shape plp (n - plp) ≡ plp_sizes c shape plp
-    ++ sizes_from c shape (plp + 1) (n - (plp + 1))
-sizes_first c shape n plp l = ap (sizes_from c shape plp) (left_is n plp l)
+sizes_first : (c : Config) (counts : List ℕ) (n plp : ℕ) → plp < n → sizes_from c counts plp (n - plp) ≡ plp_sizes c counts plp
+    ++ sizes_from c counts (plp + 1) (n - (plp + 1))
+sizes_first c counts n plp l = ap (sizes_from c counts plp) (left_is n plp l)
 
 -- the blocks of a PLP came, or not
-pub comes : (c : Config) (shape : FrameShape) (old new : List Block) (n plp count id len : ℕ) (result : Bool) → plp < n
-    → count ≡ slice_index shape.counts plp → id ≡ (plp_at c.plps plp).id → len ≡ block_bytes c plp
+pub comes : (c : Config) (counts : List ℕ) (old new : List Block) (n plp count id len : ℕ) (result : Bool) → plp < n
+    → count ≡ slice_index counts plp → id ≡ (plp_at c.plps plp).id → len ≡ block_bytes c plp
     → ((more : List BlockSize) → pointwise has_size old (replicate count (size_of id len) ++ more)
     ≡ (result && pointwise has_size new more))
-    → pointwise has_size old (sizes_from c shape plp (n - plp))
-    ≡ (result && pointwise has_size new (sizes_from c shape (plp + 1) (n - (plp + 1))))
-comes c shape old new n plp count id len result l e i s f =
-    let more : List BlockSize = sizes_from c shape (plp + 1) (n - (plp + 1)) in
-    ap (pointwise has_size old) (sizes_first c shape n plp l)
+    → pointwise has_size old (sizes_from c counts plp (n - plp))
+    ≡ (result && pointwise has_size new (sizes_from c counts (plp + 1) (n - (plp + 1))))
+comes c counts old new n plp count id len result l e i s f =
+    let more : List BlockSize = sizes_from c counts (plp + 1) (n - (plp + 1)) in
+    ap (pointwise has_size old) (sizes_first c counts n plp l)
     ∙ ap (λ (m : ℕ). pointwise has_size old (replicate m (size_of (plp_at c.plps plp).id (block_bytes c plp)) ++ more)) (sym e)
     ∙ ap (λ (m : ℕ). pointwise has_size old (replicate count (size_of m (block_bytes c plp)) ++ more)) (sym i)
     ∙ ap (λ (m : ℕ). pointwise has_size old (replicate count (size_of id m) ++ more)) (sym s)
@@ -119,56 +120,71 @@ sum_next xs first plp = let next : suc first ≡ first + 1 = omega arith in sum_
     ∙ ap (λ (n : ℕ). get_or xs first 0 + sum (take plp (drop n xs))) next
 
 -- those of the PLP at a place among so many, from the first block of the first one on
-placed : (c : Config) (shape : FrameShape) (blocks : List Block) (first n : ℕ)
-    → pointwise has_size blocks (sizes_from c shape first n) ≡ true
-    → (plp at k place : ℕ) → plp < n → at ≡ first + plp → k < slice_index shape.counts at
-    → place ≡ sum (take plp (drop first shape.counts)) + k → IsLong blocks place (block_bytes c at)
-placed c shape blocks first zero e plp at k place l a inside p = absurd (omega (arith, l))
-placed c shape blocks first (suc n) e zero at k place l a inside p =
+placed : (c : Config) (counts : List ℕ) (blocks : List Block) (first n : ℕ)
+    → pointwise has_size blocks (sizes_from c counts first n) ≡ true
+    → (plp at k place : ℕ) → plp < n → at ≡ first + plp → k < slice_index counts at
+    → place ≡ sum (take plp (drop first counts)) + k → IsLong blocks place (block_bytes c at)
+placed c counts blocks first zero e plp at k place l a inside p = absurd (omega (arith, l))
+placed c counts blocks first (suc n) e zero at k place l a inside p =
     let same : at ≡ first = omega (arith, a) in
     let here : place ≡ k = omega (arith, p) in
-    let s = splits blocks (slice_index shape.counts first) (plp_at c.plps first).id (block_bytes c first)
-    (sizes_from c shape (first + 1) n) e in
+    let s = splits blocks (slice_index counts first) (plp_at c.plps first).id (block_bytes c first)
+    (sizes_from c counts (first + 1) n) e in
     subst (λ (i : ℕ). IsLong blocks i (block_bytes c at)) (sym here)
     (subst (λ (j : ℕ). IsLong blocks k (block_bytes c j)) (sym same)
-    (s.each k (subst (λ (j : ℕ). k < slice_index shape.counts j) same inside)))
-placed c shape blocks first (suc n) e (suc plp) at k place l a inside p =
-    let m : ℕ = slice_index shape.counts first in
-    let s = splits blocks m (plp_at c.plps first).id (block_bytes c first) (sizes_from c shape (first + 1) n) e in
-    let behind : ℕ = sum (take plp (drop (first + 1) shape.counts)) + k in
-    let more = placed c shape (drop m blocks) (first + 1) n s.behind plp at k behind (omega (arith, l))
+    (s.each k (subst (λ (j : ℕ). k < slice_index counts j) same inside)))
+placed c counts blocks first (suc n) e (suc plp) at k place l a inside p =
+    let m : ℕ = slice_index counts first in
+    let s = splits blocks m (plp_at c.plps first).id (block_bytes c first) (sizes_from c counts (first + 1) n) e in
+    let behind : ℕ = sum (take plp (drop (first + 1) counts)) + k in
+    let more = placed c counts (drop m blocks) (first + 1) n s.behind plp at k behind (omega (arith, l))
     (omega (arith, a)) inside refl in
-    let here : m + behind ≡ place = omega (arith, p, sum_next shape.counts first plp) in
+    let here : m + behind ≡ place = omega (arith, p, sum_next counts first plp) in
     subst (λ (i : ℕ). IsLong blocks i (block_bytes c at)) here (is_later blocks m behind (block_bytes c at) more)
 
-pub long_blocks : (c : Config) (shape : FrameShape) (blocks : List Block) (plp k : ℕ)
-    → pointwise has_size blocks (block_sizes c shape) ≡ true → plp < length c.plps
-    → k < slice_index shape.counts plp → IsLong blocks (sum (take plp shape.counts) + k) (block_bytes c plp)
-long_blocks c shape blocks plp k e l inside =
-    placed c shape blocks 0 (length c.plps) e plp plp k (sum (take plp shape.counts) + k) l (omega arith) inside refl
+pub long_blocks : (c : Config) (counts : List ℕ) (blocks : List Block) (plp k : ℕ)
+    → pointwise has_size blocks (block_sizes c counts) ≡ true → plp < length c.plps
+    → k < slice_index counts plp → IsLong blocks (sum (take plp counts) + k) (block_bytes c plp)
+long_blocks c counts blocks plp k e l inside =
+    placed c counts blocks 0 (length c.plps) e plp plp k (sum (take plp counts) + k) l (omega arith) inside refl
 
 -- behind those before it
-pub have_bytes : FieldRange → (c : Config) (shape : FrameShape) (blocks : List Block) (plp room : ℕ)
-    → pointwise has_size blocks (block_sizes c shape) ≡ true → plp < length c.plps
-    → room ≡ MOST_BLOCK_BYTES → HaveBytes room (slice_index shape.counts plp) (drop (sum (take plp shape.counts)) blocks)
-have_bytes range c shape blocks plp room e l r = (enough (slice_index shape.counts plp) (λ k i. (long k i).inside), each)
+pub have_length : (c : Config) (counts : List ℕ) (blocks : List Block) (plp : ℕ)
+    → pointwise has_size blocks (block_sizes c counts) ≡ true → plp < length c.plps
+    → HaveLength (block_bytes c plp) (slice_index counts plp) (drop (sum (take plp counts)) blocks)
+have_length c counts blocks plp e l = (enough (slice_index counts plp) (λ k i. (long k i).inside), each)
   where
     front : ℕ
-    front = sum (take plp shape.counts)
+    front = sum (take plp counts)
 
-    long : (k : ℕ) → k < slice_index shape.counts plp → IsLong blocks (front + k) (block_bytes c plp)
-    long k i = long_blocks c shape blocks plp k e l i
+    long : (k : ℕ) → k < slice_index counts plp → IsLong blocks (front + k) (block_bytes c plp)
+    long k i = long_blocks c counts blocks plp k e l i
 
     enough : (n : ℕ) → ((k : ℕ) → k < n → front + k < length blocks) → n ≤ length (drop front blocks)
     enough zero f = omega arith
     enough (suc n) f = let last = f n (omega arith) in omega (arith, last, length-drop front blocks)
 
-    each : (k : ℕ) → k < slice_index shape.counts plp → HasBytes room (length (bytes_at (drop front blocks) k))
+    each : (k : ℕ) → k < slice_index counts plp → length (bytes_at (drop front blocks) k) ≡ block_bytes c plp
     each k i =
-        let size = range c plp in
-        let most : room ≡ 6730 = r in
-        let field : MOST_FIELD_BYTES ≡ 6720 = refl in
-        let same : length (bytes_at (drop front blocks) k) ≡ block_bytes c plp =
         ap (λ (o : Option Block). length (option_map_or (λ b. b.bytes) o [])) (slice_get_drop blocks front k (front + k) refl)
-        ∙ (long k i).bytes in
-        (omega (arith, same, size), omega (arith, same, size, most, field), omega (arith, most))
+        ∙ (long k i).bytes
+
+-- those that come of a PLP
+pub coming_is : (c : Config) (n : ℕ) (shape : FrameShape) (plp : ℕ) → plp < length c.plps
+    → slice_index (coming c n shape) plp ≡ cond {A = ℕ} (is_first c plp n) (slice_index shape.counts plp) 0
+coming_is c n shape plp l =
+    get_or-map-range_with_len (λ p. cond {A = ℕ} (is_first c p n) (slice_index shape.counts p) 0) 0 (length c.plps) plp plp 0 l
+    (omega arith)
+
+-- by the test of whether an epoch begins
+pub begun_is : (c : Config) (n : ℕ) (shape : FrameShape) (plp count : ℕ) → plp < length c.plps
+    → (n % spread c.plps plp == 0) ≡ true → count ≡ slice_index shape.counts plp → count ≡ slice_index (coming c n shape) plp
+begun_is c n shape plp count l e same =
+    same
+    ∙ sym (ap (λ (b : Bool). cond {A = ℕ} b (slice_index shape.counts plp) 0) e)
+    ∙ sym (coming_is c n shape plp l)
+
+pub none_begun : (c : Config) (n : ℕ) (shape : FrameShape) (plp : ℕ) → plp < length c.plps
+    → (n % spread c.plps plp == 0) ≡ false → 0 ≡ slice_index (coming c n shape) plp
+none_begun c n shape plp l e =
+    sym (ap (λ (b : Bool). cond {A = ℕ} b (slice_index shape.counts plp) 0) e) ∙ sym (coming_is c n shape plp l)

@@ -1,31 +1,28 @@
 -- A PLP is given back one list of packets: its rule is one, and records tell one thing.
-use Rattle.std.proofs.Common.{◌%◌, ◌≡◌, ℕ, ◌+◌, ◌/◌, ◌==◌, ◌<◌, Bool, true, false, List, [], ◌∷◌, ◌++◌, length, Option, Some, None}
-use Rattle.std.proofs.Common.{refl, ap, ap₂, sym, ◌∙◌, cond}
-use Rattle.std.specs.Prelude.{slice_index}
+use Rattle.std.proofs.Common.{◌≡◌, ℕ, suc, ◌+◌, ◌-◌, ◌/◌, ◌==◌, ◌<◌, ◌≤◌, Bool, true, false, List, [], ◌∷◌, ◌++◌, length, Option}
+use Rattle.std.proofs.Common.{Some, None, refl, ap, ap₂, sym, ◌∙◌, subst, cond, arith, length-append}
 use Rattle.std.specs.List.{AllZip, range_with_len}
 use Rattle.terms.specs.Bits.{bits_of, bytes_of}
 use Rattle.bb_frame.specs.Scrambled.{scrambled}
 use Rattle.bb_frame.specs.declared.header.Header.{Header}
 use Rattle.bb_frame.specs.Laws.{BitCounts}
-use Rattle.cell_map.specs.CellMap.{ordinal_of}
-use Rattle.cell_map.specs.declared.places.Cell.{Cell}
 use Rattle.plp_config.specs.Capacity.{IsPlan}
-use Rattle.plp_config.specs.Laws.{SoundTimes, UserPacketRange}
+use Rattle.plp_config.specs.Laws.{FrameTicks, SoundTimes, SpreadDividesFrames, UserPacketRange}
+use Rattle.std.proofs.lemmas.List.FromFn.{length-range_with_len}
+use Rattle.packet_slots.proofs.ListLemmas.{range_append}
 use Rattle.plp_config.specs.Plps.{plp_at}
 use Rattle.plp_config.specs.declared.config.Config.{Config}
-use Rattle.scheduler.specs.Shape.{FrameShape}
-use Rattle.site_frame.specs.Record as frame
 use Rattle.site_frame.specs.declared.reading.RecordView.{RecordView}
-use Rattle.site_frame.specs.declared.reading.RecordView.TheVariants.{Frame, Muted}
 use Rattle.packet_slots.specs.Laws as slots
-use Rattle.packet_slots.specs.Records.{Record, framed_record, readback}
+use Rattle.packet_slots.specs.Epochs.{Epoch, HaveEnded, epoch_with, readback}
 use Rattle.packet_slots.specs.Strings.{Block}
-use Rattle.plp_receiver.specs.Readable.{readable, all_stand}
 use Rattle.bb_frame.specs.declared.header.TheConstants.{NO_START}
-use Rattle.plp_receiver.specs.Taken.{block_read, IsTaken, IsTold, IsGiven, bytes_at, TellsShape, Tells, TellAll, slot_rule}
-use Rattle.bb_frame.specs.declared.header.TheConstants.{NO_START}
-use Rattle.plp_receiver.specs.Taken.{Readback}
+use Rattle.plp_config.specs.Plps.{spread}
 use Rattle.packet_slots.specs.Sound.{IsSound}
+use Rattle.plp_receiver.specs.Readable.{Part, count_of}
+use Rattle.plp_receiver.specs.Taken.{block_read, IsTaken, IsTold, IsGiven, bytes_at}
+use Rattle.plp_receiver.specs.Epochs.{epoch_parts, cells_stand, place_of, Tells, epochs_in, TellAll, slot_rule, Readback}
+use Rattle.plp_receiver.proofs.EpochLemmas.{epoch_rises, told_after}
 use Rattle.plp_receiver.proofs.SpelledLemmas.{spelled_once}
 
 -- ---- a block
@@ -66,68 +63,107 @@ zip_once R one (x ∷ xs) (y ∷ ys) [] s t = absurd t
 zip_once R one (x ∷ xs) (y ∷ ys) (z ∷ zs) s t =
     ap₂ (λ (v : _) (l : _). v ∷ l) (one x y z s.0 t.0) (zip_once R one xs ys zs s.1 t.1)
 
--- ---- a record
-shape_once : BitCounts → (c : Config) (plp n : ℕ) (blocks : List frame.Block) (cells : List (Option Cell)) (o : Option FrameShape)
-    (a b : Record)
-    → TellsShape c plp n blocks cells o a → TellsShape c plp n blocks cells o b → a ≡ b
-shape_once counts c plp n blocks cells None a b s t = s ∙ sym t
-shape_once counts c plp n blocks cells (Some shape) a b s t =
+zip_length : {A B : Type 0} (R : A → B → Type 0) (xs : List A) (ys : List B) → AllZip R xs ys → length xs ≡ length ys
+zip_length R [] [] z = refl
+zip_length R [] (y ∷ ys) z = absurd z
+zip_length R (x ∷ xs) [] z = absurd z
+zip_length R (x ∷ xs) (y ∷ ys) z = ap suc (zip_length R xs ys z.1)
+
+-- what is in step with two lists is two lists
+zip_split : {A B : Type 0} (R : A → B → Type 0) (xs more : List A) (ys : List B) → AllZip R (xs ++ more) ys
+    → (front : List B) × (back : List B) × AllZip R xs front × (ys ≡ front ++ back)
+zip_split R [] more ys z = ([], ys, tt, refl)
+zip_split R (x ∷ xs) more [] z = absurd z
+zip_split R (x ∷ xs) more (y ∷ ys) z =
+    let rest = zip_split R xs more ys z.1 in
+    (y ∷ rest.0, rest.1, (z.0, rest.2), ap (λ (l : _). y ∷ l) rest.3)
+
+-- ---- an epoch
+tells_once : BitCounts → (c : Config) (plp : ℕ) (parts : Option (List Part)) (a b : Epoch) → Tells c plp parts a
+    → Tells c plp parts b → a ≡ b
+tells_once counts c plp None a b s t = s ∙ sym t
+tells_once counts c plp (Some []) a b s t = s ∙ sym t
+tells_once counts c plp (Some (p ∷ parts)) a b s t =
     s.2
-    ∙ ap framed_record (zip_once
-    (λ block b. IsGiven (plp_at c.plps plp).delete (all_stand c shape (n % c.frames) cells plp block)
-    (bytes_at blocks (ordinal_of shape plp block)) b)
-    (λ block x y p q. given_once counts (plp_at c.plps plp).delete (all_stand c shape (n % c.frames) cells plp block)
-    (bytes_at blocks (ordinal_of shape plp block)) x y p q)
-    (range_with_len 0 (slice_index shape.counts plp)) s.0 t.0 s.1 t.1)
+    ∙ ap epoch_with (zip_once
+    (λ block b. IsGiven (plp_at c.plps plp).delete (cells_stand c plp (p ∷ parts) block)
+    (bytes_at p.blocks (place_of c plp p block)) b)
+    (λ block x y u v. given_once counts (plp_at c.plps plp).delete (cells_stand c plp (p ∷ parts) block)
+    (bytes_at p.blocks (place_of c plp p block)) x y u v)
+    (range_with_len 0 (count_of plp p)) s.0 t.0 s.1 t.1)
     ∙ sym t.2
 
-tells_once : BitCounts → (c : Config) (plp n : ℕ) (view : RecordView) (a b : Record) → Tells c plp n view a → Tells c plp n view b
-    → a ≡ b
-tells_once counts c plp n (Muted moment) a b s t = s ∙ sym t
-tells_once counts c plp n (Frame moment pre post blocks cells) a b s t =
-    shape_once counts c plp n blocks cells (readable c n pre post blocks cells) a b s t
-
-pub tell_all_once : BitCounts → (c : Config) (plp n : ℕ) (views : List RecordView) (a b : List Record) → TellAll c plp n views a
-    → TellAll c plp n views b → a ≡ b
-tell_all_once counts c plp n [] [] [] s t = refl
-tell_all_once counts c plp n [] [] (y ∷ b) s t = absurd t
-tell_all_once counts c plp n [] (x ∷ a) b s t = absurd s
-tell_all_once counts c plp n (v ∷ views) [] b s t = absurd s
-tell_all_once counts c plp n (v ∷ views) (x ∷ a) [] s t = absurd t
-tell_all_once counts c plp n (v ∷ views) (x ∷ a) (y ∷ b) s t =
-    ap₂ (λ (r : Record) (l : List Record). r ∷ l) (tells_once counts c plp n v x y s.0 t.0)
-    (tell_all_once counts c plp (n + 1) views a b s.1 t.1)
+pub tell_all_once : BitCounts → (c : Config) (plp first : ℕ) (views : List RecordView) (a b : List Epoch)
+    → TellAll c plp first views a → TellAll c plp first views b → a ≡ b
+unfolding TellAll
+tell_all_once counts c plp first views a b s t =
+    zip_once (λ m e. Tells c plp (epoch_parts c plp first views m) e)
+    (λ m x y u v. tells_once counts c plp (epoch_parts c plp first views m) x y u v)
+    (epochs_in (spread c.plps plp) first (length views)) a b s t
 
 -- ---- the packets
-pub packets_are : BitCounts → (c : Config) (plp first : ℕ) (views : List RecordView) (packets : List (List ℕ)) (told : List Record)
-    → Readback c plp first views packets → TellAll c plp first views told → packets ≡ readback (slot_rule c plp) first told
+pub packets_are : BitCounts → (c : Config) (plp first : ℕ) (views : List RecordView) (packets : List (List ℕ)) (told : List Epoch)
+    → Readback c plp first views packets → TellAll c plp first views told
+    → packets ≡ readback (slot_rule c plp) first (length views) told
 packets_are counts c plp first views packets told b tells =
-    b.packets_are ∙ ap (readback (slot_rule c plp) first) (tell_all_once counts c plp first views b.told told b.tells tells)
+    b.packets_are ∙ ap (readback (slot_rule c plp) first (length views))
+    (tell_all_once counts c plp first views b.told told b.tells tells)
 
 pub readback_once : BitCounts → (c : Config) (plp first : ℕ) (views : List RecordView) (packets other : List (List ℕ))
     → Readback c plp first views packets → Readback c plp first views other → packets ≡ other
 readback_once counts c plp first views packets other a b =
     packets_are counts c plp first views packets b.told a b.tells ∙ sym b.packets_are
 
--- those of the first records are a prefix
-tell_front : (c : Config) (plp n : ℕ) (views more : List RecordView) (told : List Record) → TellAll c plp n (views ++ more) told
-    → (front : List Record) × (back : List Record) × TellAll c plp n views front × (told ≡ front ++ back)
-tell_front c plp n [] more told t = ([], told, tt, refl)
-tell_front c plp n (v ∷ views) more [] t = absurd t
-tell_front c plp n (v ∷ views) more (x ∷ told) t =
-    let rest = tell_front c plp (n + 1) views more told t.1 in
-    (x ∷ rest.0, rest.1, (t.0, rest.2), ap (λ (l : List Record). x ∷ l) rest.3)
+-- as many epochs are told as have ended
+pub told_ended : (c : Config) (plp first : ℕ) (views : List RecordView) (told : List Epoch) → 1 ≤ spread c.plps plp
+    → TellAll c plp first views told → HaveEnded (slot_rule c plp) first (first + length views) told
+unfolding TellAll
+told_ended c plp first views told some t =
+    let s : ℕ = spread c.plps plp in
+    let low = epoch_rises s first (first + length views) some (omega arith) in
+    let long = zip_length (λ m e. Tells c plp (epoch_parts c plp first views m) e)
+    (epochs_in s first (length views)) told t in
+    let size : length (epochs_in s first (length views)) ≡ (first + length views) / s - first / s =
+    length-range_with_len (first / s) ((first + length views) / s - first / s) in
+    omega (arith, low, long, size)
 
-pub readback_front : BitCounts → SoundTimes → UserPacketRange → slots.ReadbackFront
+-- those of the first records are a prefix
+tell_front : (c : Config) (plp first : ℕ) (views more : List RecordView) (told : List Epoch) → 1 ≤ spread c.plps plp
+    → TellAll c plp first (views ++ more) told
+    → (front : List Epoch) × (back : List Epoch) × TellAll c plp first views front × (told ≡ front ++ back)
+unfolding TellAll
+tell_front c plp first views more told some t =
+    let s : ℕ = spread c.plps plp in
+    let a : ℕ = first / s in
+    let low = epoch_rises s first (first + length views) some (omega arith) in
+    let high = epoch_rises s (first + length views) (first + length (views ++ more)) some
+    (omega (arith, length-append views more)) in
+    let n : ℕ = (first + length views) / s - a in
+    let m : ℕ = (first + length (views ++ more)) / s - a - n in
+    let R : ℕ → Epoch → Type 0 = λ k e. Tells c plp (epoch_parts c plp first (views ++ more) k) e in
+    let e : (first + length (views ++ more)) / s - a ≡ n + m = omega (arith, low, high) in
+    let parts = zip_split R (range_with_len a n) (range_with_len (a + n) m) told
+    (subst (λ (l : List ℕ). AllZip R l told) (ap (range_with_len a) e ∙ range_append n m a) t) in
+    (parts.0, parts.1, told_after c plp first views more parts.0 low parts.2, parts.3)
+
+pub readback_front : BitCounts → SoundTimes → UserPacketRange → slots.ReadbackFront → SpreadDividesFrames → FrameTicks
     → (c : Config) (plp first : ℕ) (views more : List RecordView) (packets all : List (List ℕ))
     → IsPlan c → plp < length c.plps → Readback c plp first views packets → Readback c plp first (views ++ more) all
     → (others : List (List ℕ)) × (all ≡ packets ++ others)
-readback_front counts times up law c plp first views more packets all plan inside a b =
-    let parts = tell_front c plp first views more b.told b.tells in
-    let sound : IsSound (slot_rule c plp) = record { times = times c plp plan.rules inside; up = up c plp } in
-    let prefix = law (slot_rule c plp) first parts.0 parts.1 sound in
+readback_front counts times up law divides ticks c plp first views more packets all plan inside a b =
+    let some = (divides c plp plan.rules inside).0 in
+    let parts = tell_front c plp first views more b.told some b.tells in
+    let sound : IsSound (slot_rule c plp) = record {
+      times = times c plp plan.rules inside;
+      frame = (let t = ticks c plan.rules in (omega (arith, t.0), t.1));
+      spread = some;
+      epoch = refl;
+      up = up c plp;
+    } in
+    let prefix = law (slot_rule c plp) first (length views) (length more) parts.0 parts.1 sound
+    (told_ended c plp first views parts.0 some parts.2) in
     let own = packets_are counts c plp first views packets parts.0 a parts.2 in (
       prefix.0,
-      b.packets_are ∙ ap (readback (slot_rule c plp) first) parts.3 ∙ prefix.1 ∙ ap (λ (l : List (List ℕ)). l ++ prefix.0)
-          (sym own),
+      b.packets_are ∙ ap₂ (readback (slot_rule c plp) first) (length-append views more) parts.3 ∙ prefix.1
+          ∙ ap (λ (l : List (List ℕ)). l ++ prefix.0) (sym own),
     )

@@ -1,11 +1,13 @@
 -- Which records of frames are readable, and what they tell (EN 302 755, clauses 5 to 8).
-use Rattle.std.specs.Prelude.{ℕ, ◌-◌, ◌==◌, ◌&&◌, ◌||◌, not, Bool, true, false, List, length, take, replicate, slice_get}
+use Rattle.std.specs.Prelude.{ℕ, ◌-◌, ◌%◌, ◌==◌, ◌&&◌, ◌||◌, not, Bool, true, false, List, length, map, take, replicate}
+use Rattle.std.specs.Prelude.{slice_get}
 use Rattle.std.specs.Prelude.{slice_index, Option, Some, None, if◌then◌else◌, option_map}
 use Rattle.std.specs.Bool.{beq}
 use Rattle.std.specs.Cmp.Lexicographic.{pointwise}
 use Rattle.std.specs.List.{flat_map}
 use Rattle.terms.specs.Bits.{part}
 use Rattle.plp_config.specs.Capacity.{block_bytes, block_cells}
+use Rattle.plp_config.specs.InterleavingFrames.{is_first}
 use Rattle.plp_config.specs.Places.{places}
 use Rattle.plp_config.specs.Plps.{plp_at}
 use Rattle.plp_config.specs.declared.config.Config.{Config}
@@ -36,34 +38,38 @@ post_agrees c n post =
     && conf_agrees c (read_whole (conf_read (info_size (length c.plps)) (take (conf_len (length c.plps)) post))) && dyn_agrees c n
     (told_dynamic c post)
 
--- the PLP_ID and the length of each block of a frame of this shape: PLP by PLP, in order
+-- how many blocks of each PLP come with frame n: those of the interleaving frame that begins in it, if one does
+abbrev pub coming : Config → ℕ → FrameShape → List ℕ
+coming c n shape = map (λ plp. if is_first c plp n then slice_index shape.counts plp else 0) (places c)
+
+-- the PLP_ID and the length of each block, if so many come of each PLP: PLP by PLP, in order
 pub record BlockSize : Type 0 where
   pub plp_id : ℕ
   pub len : ℕ
 
-abbrev pub block_sizes : Config → FrameShape → List BlockSize
-block_sizes c shape =
+abbrev pub block_sizes : Config → List ℕ → List BlockSize
+block_sizes c counts =
     flat_map
-    (λ plp. replicate (slice_index shape.counts plp) (record { plp_id = (plp_at c.plps plp).id; len = block_bytes c plp }))
+    (λ plp. replicate (slice_index counts plp) (record { plp_id = (plp_at c.plps plp).id; len = block_bytes c plp }))
     (places c)
 
 abbrev pub has_size : Block → BlockSize → Bool
 has_size b size = (b.plp_id == size.plp_id) && (length b.bytes == size.len)
 
--- blocks and cells are those of a frame of this shape, and its cells stand apart, in the frame
-abbrev pub shape_agrees : Config → List Block → List (Option Cell) → FrameShape → Bool
-shape_agrees c blocks cells shape =
-    pointwise has_size blocks (block_sizes c shape) && (length cells == c.cells) && map_passes c shape
+-- blocks and cells are those of frame n if it has this shape, and its cells stand apart, in the frame
+abbrev pub shape_agrees : Config → ℕ → List Block → List (Option Cell) → FrameShape → Bool
+shape_agrees c n blocks cells shape =
+    pointwise has_size blocks (block_sizes c (coming c n shape)) && (length cells == c.cells) && map_passes c shape
 
-abbrev pub fitting : Config → List Block → List (Option Cell) → Option FrameShape → Option FrameShape
-fitting c blocks cells None = None
-fitting c blocks cells (Some shape) = if shape_agrees c blocks cells shape then Some shape else None
+abbrev pub fitting : Config → ℕ → List Block → List (Option Cell) → Option FrameShape → Option FrameShape
+fitting c n blocks cells None = None
+fitting c n blocks cells (Some shape) = if shape_agrees c n blocks cells shape then Some shape else None
 
 -- the shape of a record of frame n that is readable: its L1-pre is the configuration's, L1-post agrees, and what it tells
 unfoldable pub readable : Config → ℕ → List Bool → List Bool → List Block → List (Option Cell) → Option FrameShape
 readable c n pre post blocks cells =
     if pre_agrees c (read_whole (pre_reading true pre)) && post_agrees c n post
-    then fitting c blocks cells (option_map told_shape (told_dynamic c post)) else None
+    then fitting c n blocks cells (option_map told_shape (told_dynamic c post)) else None
 
 -- what stands at an address is the cell
 abbrev pub is_cell : ℕ → ℕ → Option (Option Cell) → Bool
@@ -71,12 +77,26 @@ is_cell ordinal cell None = false
 is_cell ordinal cell (Some None) = false
 is_cell ordinal cell (Some (Some x)) = (x.ordinal == ordinal) && (x.cell == cell)
 
--- a cell stands at its address, if the frame carries it
-abbrev pub stands : Config → FrameShape → ℕ → List (Option Cell) → ℕ → ℕ → ℕ → Bool
-stands c shape frame_idx cells plp block cell =
-    not (is_carried c shape frame_idx plp block cell)
-    || is_cell (ordinal_of shape plp block) cell (slice_get cells (address_of c shape frame_idx plp block cell))
+-- what a readable record tells: the number of its frame, and the shape; its blocks, and the words of its cells
+pub record Part : Type 0 where
+  pub number : ℕ
+  pub shape : FrameShape
+  pub blocks : List Block
+  pub cells : List (Option Cell)
 
--- and so does each cell of a block
-abbrev pub all_stand : Config → FrameShape → ℕ → List (Option Cell) → ℕ → ℕ → Bool
-all_stand c shape frame_idx cells plp block = each_below (block_cells c plp) (stands c shape frame_idx cells plp block)
+abbrev pub part_with : ℕ → List Block → FrameShape → List (Option Cell) → Part
+part_with n blocks shape cells = record { number = n; shape = shape; blocks = blocks; cells = cells }
+
+-- how many blocks the interleaving frame has that it carries
+abbrev pub count_of : ℕ → Part → ℕ
+count_of plp p = slice_index p.shape.counts plp
+
+-- a cell of a block stands at its address, if the frame carries it
+abbrev pub stands : Config → Part → ℕ → ℕ → ℕ → Bool
+stands c p plp block cell =
+    not (is_carried c p.shape (p.number % c.frames) plp block cell)
+    || is_cell (ordinal_of p.shape plp block) cell (slice_get p.cells (address_of c p.shape (p.number % c.frames) plp block cell))
+
+-- and so does each cell of the block
+unfoldable pub all_stand : Config → ℕ → Part → ℕ → Bool
+all_stand c plp p block = each_below (block_cells c plp) (stands c p plp block)

@@ -1,30 +1,27 @@
--- How the blocks of a PLP are taken from a record. No public clause cites this module.
-use Rattle.std.specs.Prelude.{ℕ, ◌^◌, ◌<◌, ◌≤◌, Bool, false, List, [], ◌∷◌, ◌++◌, length, slice_index_or, Option}
+-- How the blocks of a PLP are taken. No public clause cites this module.
+use Rattle.std.specs.Prelude.{◌≡◌, ℕ, ◌+◌, ◌<◌, ◌≤◌, Bool, true, false, List, [], ◌∷◌, ◌++◌, length, slice_index_or, Option}
 use Rattle.std.specs.List.{AllZip, range_with_len}
 use Rattle.plp_config.specs.declared.config.Config.{Config}
-use Rattle.scheduler.specs.Shape.{FrameShape}
-use Rattle.cell_map.specs.declared.places.Cell.{Cell}
 use Rattle.site_frame.specs.Record as frame
-use Rattle.site_frame.specs.declared.reading.RecordView.{RecordView}
-use Rattle.packet_slots.specs.Records.{Record, framed_record}
-use Rattle.packet_slots.specs.StandsFor.{StandsFor, StandsWithin}
+use Rattle.packet_slots.specs.Epochs.{Epoch, epoch_with}
+use Rattle.packet_slots.specs.StandsFor.{StandsFor, StandsWithin, ends_epoch}
 use Rattle.packet_slots.specs.Strings.{Block}
 use Rattle.packet_slots.specs.declared.slot_rule.SlotRule.{SlotRule}
 use Rattle.packet_slots.specs.declared.slots.PacketSlots.{PacketSlots}
-use Rattle.plp_receiver.specs.Taken.{IsGiven, bytes_at, TellsBlocks, Tells}
+use Rattle.plp_receiver.specs.Readable.{Part}
+use Rattle.plp_receiver.specs.Taken.{IsGiven, bytes_at}
+use Rattle.plp_receiver.specs.Epochs.{Tells}
+use Rattle.plp_receiver.specs.Holds.{Holds, block_at, is_begun}
+use Rattle.plp_receiver.specs.declared.held.HeldBlocks.{HeldBlocks}
 
--- A block has a header, and room in the buffer.
-abbrev pub HasBytes : ℕ → ℕ → Type 0
-HasBytes room len = (10 ≤ len) × (len ≤ room) × (room < 2 ^ 60)
+-- So many blocks from the front on are there, each of this length.
+abbrev pub HaveLength : ℕ → ℕ → List frame.Block → Type 0
+HaveLength len count blocks = (count ≤ length blocks) × ((k : ℕ) → k < count → length (bytes_at blocks k) ≡ len)
 
--- So many blocks from the front on are there, and have.
-abbrev pub HaveBytes : ℕ → ℕ → List frame.Block → Type 0
-HaveBytes room count blocks = (count ≤ length blocks) × ((k : ℕ) → k < count → HasBytes room (length (bytes_at blocks k)))
-
--- These blocks of the frame under way were taken, or nothing in place of each.
+-- These blocks of the epoch were taken, or nothing in place of each.
 abbrev pub Adds : PacketSlots → PacketSlots → List (Option Block) → Type 0
-Adds old new told = (r : SlotRule) (first : ℕ) (records : List Record) (blocks : List (Option Block)) (released : ℕ)
-    → StandsWithin old r first records blocks released → StandsWithin new r first records (blocks ++ told) released
+Adds old new told = (r : SlotRule) (first count : ℕ) (epochs : List Epoch) (blocks : List (Option Block)) (released : ℕ)
+    → StandsWithin old r first count epochs blocks released → StandsWithin new r first count epochs (blocks ++ told) released
 
 -- A block was taken, or nothing in its place.
 pub record TakesBlock (deletes stands : Bool) (sent : List ℕ) (old new : PacketSlots) : Type 0 where
@@ -32,27 +29,37 @@ pub record TakesBlock (deletes stands : Bool) (sent : List ℕ) (old new : Packe
   pub given : IsGiven deletes stands sent told
   pub adds : Adds old new (told ∷ [])
 
--- So were the first of some blocks.
-pub record TakesBlocks (deletes : Bool) (stands : List Bool) (blocks : List frame.Block) (old new : PacketSlots) : Type 0 where
+-- So were all blocks that are held.
+pub record TakesBlocks (deletes : Bool) (stands : List Bool) (len : ℕ) (bytes : List ℕ) (old new : PacketSlots) : Type 0 where
   pub told : List (Option Block)
-  pub given : AllZip (λ k b. IsGiven deletes (slice_index_or stands k false) (bytes_at blocks k) b)
+  pub given : AllZip (λ k b. IsGiven deletes (slice_index_or stands k false) (block_at len bytes k) b)
       (range_with_len 0 (length stands)) told
   pub adds : Adds old new told
 
--- A record came, which told this.
-abbrev pub Comes : PacketSlots → PacketSlots → Record → Type 0
-Comes old new told = (r : SlotRule) (first : ℕ) (records : List Record) (released : ℕ)
-    → StandsFor old r first records released → StandsFor new r first (records ++ told ∷ []) released
+-- A frame came, and an epoch ended with it, of which this came.
+abbrev pub Ends : PacketSlots → PacketSlots → Epoch → Type 0
+Ends old new epoch = (r : SlotRule) (first count : ℕ) (epochs : List Epoch) (released : ℕ)
+    → StandsFor old r first count epochs released → StandsFor new r first (count + 1) (epochs ++ epoch ∷ []) released
 
--- The blocks of frame n, of this shape, were taken.
-pub record TakesFrame (c : Config) (plp n : ℕ) (shape : FrameShape) (blocks : List frame.Block) (cells : List (Option Cell))
-    (old new : PacketSlots) : Type 0 where
+-- A frame came, and no epoch ended.
+abbrev pub Goes : PacketSlots → PacketSlots → Type 0
+Goes old new = (r : SlotRule) (first count : ℕ) (epochs : List Epoch) (released : ℕ)
+    → StandsFor old r first count epochs released → StandsFor new r first (count + 1) epochs released
+
+-- The blocks that are held were taken.
+pub record TakesEpoch (deletes : Bool) (h : HeldBlocks) (old new : PacketSlots) : Type 0 where
   pub told : List (Option Block)
-  pub tells : TellsBlocks c plp n shape blocks cells told
-  pub comes : Comes old new (framed_record told)
+  pub given : AllZip (λ k b. IsGiven deletes (slice_index_or h.stands.items k false) (block_at h.len h.bytes.items k) b)
+      (range_with_len 0 h.count) told
+  pub ends : Ends old new (epoch_with told)
 
--- The record of frame n was taken.
-pub record TakesRecord (c : Config) (plp n : ℕ) (view : RecordView) (old new : PacketSlots) : Type 0 where
-  pub told : Record
-  pub tells : Tells c plp n view told
-  pub comes : Comes old new told
+-- A frame ended whose record was seen: of the epoch that ends with it came what the parts tell that are held.
+pub record TellsEpoch (c : Config) (plp : ℕ) (parts : Option (List Part)) (old new : PacketSlots) : Type 0 where
+  pub told : Epoch
+  pub tells : Tells c plp parts told
+  pub ends : Ends old new told
+
+pub record EndsRecord (c : Config) (plp : ℕ) (old_held new_held : HeldBlocks) (old new : PacketSlots) : Type 0 where
+  pub last : ends_epoch old ≡ true → (parts : Option (List Part)) → is_begun parts ≡ true → Holds c plp parts old_held
+      → TellsEpoch c plp parts old new
+  pub inner : ends_epoch old ≡ false → Goes old new × (new_held ≡ old_held)

@@ -2,7 +2,10 @@
 #![tactic(auto)]
 
 mod blocks;
+mod copying;
+mod held;
 mod laws;
+mod parts;
 mod plp_rule;
 mod readable;
 mod receiver;
@@ -11,5 +14,5 @@ mod taking;
 #[cfg(test)]
 mod tests;
 
-pub use laws::readback_law;
+pub use laws::{alone_law, readback_law};
 pub use receiver::Receiver;

@@ -6,9 +6,10 @@ ghost use Rattle.std.specs.Cmp.Lexicographic.{pointwise};
 ghost use Rattle.l1_signal.specs.Laws.{crc_behind};
 ghost use Rattle.l1_signal.specs.declared.lengths.TheConstants.{CRC_BITS};
 ghost use Rattle.plp_receiver.specs.Readable.{told_dynamic, post_agrees, BlockSize};
-ghost use Rattle.plp_receiver.specs.Readable.{has_size, block_sizes, shape_agrees, readable};
+ghost use Rattle.plp_receiver.specs.Readable.{has_size, block_sizes, coming, shape_agrees, readable};
 ghost use Rattle.plp_receiver.specs.Sizes.{size_of};
 
+use crate::parts::begun_count;
 use bit_slice::BitSlice;
 use frame_tests::{
     Network, is_network_conf, is_of_frame, is_pre, map_passes, read_dynamic, tell_shape,
@@ -65,28 +66,38 @@ fn come_next(rest: &mut BlocksIter<'_>, id: u8, len: u32, count: u16) -> bool
     true
 }
 
-// Whether blocks are those of a frame of this shape: PLP by PLP, as many as it tells, each with its length.
-fn has_blocks(plan: &Plan, shape: &Shape, blocks: &Blocks<'_>) -> bool
+// Whether blocks are those of a frame if it has this shape: PLP by PLP, as many as it tells of those whose epoch begins in it, each
+// with its length.
+fn has_blocks(plan: &Plan, shape: &Shape, number: u64, blocks: &Blocks<'_>) -> bool
     requires { length shape.now.counts ≡ length plan.now.plps }
-    ensures { result ≡ pointwise has_size blocks.now (block_sizes plan.now shape.now) }
+    ensures { result ≡ pointwise has_size blocks.now (block_sizes plan.now (coming plan.now number shape.now)) }
 {
     let mut rest = blocks.iter();
     for plp in 0..shape.len() {
         let id = plan.plp_id(plp);
         let len = plan.block_bytes(plp);
-        if !come_next(&mut rest, id, len, shape.count(plp)) {
+        let count = begun_count(plan, shape, number, plp);
+        if !come_next(&mut rest, id, len, count) {
             return false;
         }
     }
     rest.next().is_none()
 }
 
-// Whether blocks and cells are those of a frame of this shape, whose cells stand apart, in the frame.
-fn has_shape(plan: &Plan, shape: &Shape, blocks: &Blocks<'_>, cells: &Cells<'_>) -> bool
+// Whether blocks and cells are those of a frame if it has this shape, and its cells stand apart, in the frame.
+fn has_shape(
+    plan: &Plan,
+    shape: &Shape,
+    number: u64,
+    blocks: &Blocks<'_>,
+    cells: &Cells<'_>,
+) -> bool
     requires { length shape.now.counts ≡ length plan.now.plps }
-    ensures { result ≡ shape_agrees plan.now blocks.now cells.now shape.now }
+    ensures { result ≡ shape_agrees plan.now number blocks.now cells.now shape.now }
 {
-    has_blocks(plan, shape, blocks) && cells.len() == plan.config().cells && map_passes(plan, shape)
+    has_blocks(plan, shape, number, blocks)
+        && cells.len() == plan.config().cells
+        && map_passes(plan, shape)
 }
 
 /// Whether the record of a frame with these parts is readable. The shape that it tells is given to `shape` then.
@@ -105,7 +116,7 @@ pub fn is_readable(
     requires plps { length shape.old.counts ≡ length network.now.plps }
     ensures value { readable network.now number pre.now post.now blocks.now cells.now
         ≡ (if result then Some shape.new else None) }
-    ensures agrees { result ≡ true → shape_agrees network.now blocks.now cells.now shape.new ≡ true }
+    ensures agrees { result ≡ true → shape_agrees network.now number blocks.now cells.now shape.new ≡ true }
     ensures rows { length dynamic.new.plps ≡ length dynamic.old.plps }
     ensures plps { length shape.new.counts ≡ length shape.old.counts }
 {
@@ -113,5 +124,5 @@ pub fn is_readable(
         return false;
     }
     tell_shape(dynamic, shape);
-    has_shape(network.plan(), shape, blocks, cells)
+    has_shape(network.plan(), shape, number, blocks, cells)
 }

@@ -1,22 +1,23 @@
 // The receiver of a PLP.
 ghost use Rattle.std.specs.Prelude.{◌≡◌, ◌<◌, ◌≤◌, ◌+◌, ◌-◌, ◌++◌, ◌∷◌, [], List, ℕ, IfOk, true, false, length, vec_len};
 ghost use Rattle.std.specs.Prelude.{slice_get, slice_index, Some, None, nat_lt, if◌then◌else◌};
-ghost use Rattle.plp_config.specs.Places.{FramesStandAlone};
-ghost use Rattle.plp_config.specs.Plps.{plp_at};
+ghost use Rattle.plp_config.specs.Plps.{plp_at, spread};
+ghost use Rattle.plp_config.specs.Capacity.{block_bytes};
 ghost use Rattle.plp_config.specs.SlotTime.{window, window_slots};
-ghost use Rattle.plp_config.specs.declared.plp.TheConstants.{MOST_BLOCK_BYTES};
 ghost use Rattle.packet_slots.specs.StandsFor.{is_within, rule_of};
 ghost use Rattle.plp_config.specs.SlotTimes.{delay_of};
 
-use crate::blocks::take_frame;
+use crate::blocks::take_epoch;
+use crate::held::HeldBlocks;
 use crate::laws::readback_law;
-use crate::plp_rule::open_slots;
+use crate::parts::see_part;
+use crate::plp_rule::{deletes, open_slots};
 use crate::readable::is_readable;
 use bit_slice::{BitSlice, OutOfMemory};
-use frame_tests::{Network, map_test_law};
+use frame_tests::Network;
 use l1_signal::L1Dyn;
 use packet_slots::PacketSlots;
-use plp_config::{MOST_BLOCK_BYTES, Plan};
+use plp_config::{Plan, block_law};
 use scheduler::Shape;
 use site_frame::{Blocks, Cells, RecordView};
 use std::alloc::Global;
@@ -34,28 +35,30 @@ pub struct Receiver<'p> {
     // Room for what a record tells.
     dynamic: L1Dyn,
     shape: Shape,
-    // Of each block of the PLP, whether all its cells stand.
-    stands: Vec<bool>,
-    // Room for a block.
-    block: Vec<u8>,
+    // The blocks of the epoch under way.
+    held: HeldBlocks,
     ghost configured: { plp < length network.plps },
     ghost outside: { is_within slots ≡ false },
-    ghost window: { window_slots (rule_of slots).times.num (rule_of slots).times.den (delay_of (rule_of slots).times) (rule_of slots).times.epoch
+    ghost window: { window_slots (rule_of slots).times.num (rule_of slots).times.den (delay_of (rule_of slots).times) (rule_of slots).ticks
         ≡ window network plp },
     ghost rows: { length dynamic.plps ≡ length network.plps },
     ghost plps: { length shape.counts ≡ length network.plps },
-    ghost flags: { vec_len stands ≡ (plp_at network.plps plp).blocks },
-    ghost room: { vec_len block ≡ MOST_BLOCK_BYTES },
+    ghost spread: { 1 ≤ spread network.plps plp },
+    ghost few: { vec_len held.stands ≡ (plp_at network.plps plp).blocks },
+    ghost size: { held.len ≡ block_bytes network plp },
 }
 
 impl<'p> Receiver<'p> {
     ghost use Rattle.plp_config.specs.declared.moment.TheConstants.{MOST_FRAMES};
     ghost use Rattle.site_frame.specs.declared.reading.RecordView.{RecordView};
-    ghost use Rattle.plp_receiver.specs.Taken.{Readback};
+    ghost use Rattle.plp_receiver.specs.Epochs.{Readback, part_of};
     ghost use Rattle.plp_config.specs.declared.moment.Moment.{Moment};
     ghost use Rattle.site_frame.specs.declared.reading.RecordView.TheVariants.{Frame};
-    ghost use Rattle.plp_receiver.specs.Readable.{shape_agrees};
-    ghost use Rattle.plp_receiver.specs.Taking.{TakesRecord, TakesFrame};
+    ghost use Rattle.plp_receiver.specs.Holds.{Sees, Holds, is_begun};
+    ghost use Rattle.plp_receiver.specs.Readable.{Part};
+    ghost use Rattle.packet_slots.specs.StandsFor.{ends_epoch};
+    ghost use Rattle.std.specs.Prelude.{Option};
+    ghost use Rattle.plp_receiver.specs.Taking.{EndsRecord, TellsEpoch};
     ghost use Rattle.plp_receiver.specs.StandsFor.{StandsFor, IsFresh, slots_come, network_of, plp_of, frame_of, due_of};
 
     /// Takes all the memory that is needed to receive the PLP at a place.
@@ -63,12 +66,14 @@ impl<'p> Receiver<'p> {
     /// # Errors
     /// There is no memory for it. No later call wants any.
     pub fn open(alloc: Global, plan: &'p Plan, plp: usize) -> Result<Receiver<'p>, OutOfMemory>
-        requires inside { plp < length plan.now.plps }
-        requires alone { FramesStandAlone plan.now }
+        requires { plp < length plan.now.plps }
         ensures fresh { IfOk result IsFresh }
         ensures network { IfOk result (λ v. network_of v ≡ plan.now) }
         ensures plp { IfOk result (λ v. plp_of v ≡ plp) }
     {
+        block_law();
+        // It is 1 at least.
+        let _ = plan.spread(plp);
         let count = usize::from(plan.config().plps.get(plp).unwrap().blocks);
         let plps = plan.config().plps.len() as u16;
         Ok(Receiver {
@@ -77,8 +82,7 @@ impl<'p> Receiver<'p> {
             slots: open_slots(alloc, plan, plp)?,
             dynamic: L1Dyn::open(alloc, plps)?,
             shape: Shape::open(alloc, plan)?,
-            stands: vec![in alloc; false; count]?,
-            block: vec![in alloc; 0; MOST_BLOCK_BYTES as usize]?,
+            held: HeldBlocks::open(alloc, count, plan.block_bytes(plp) as usize)?,
         })
     }
 
@@ -105,37 +109,49 @@ impl<'p> Receiver<'p> {
         ensures network { network_of self.new ≡ network_of self.old }
         ensures plp { plp_of self.new ≡ plp_of self.old }
     {
+        self.see(view);
+        self.end_record();
+    }
+
+    // Sees the record of the next frame.
+    fn see(&mut self, view: &RecordView<'_>)
+        ensures sees { Sees (network_of self.old) (plp_of self.old) (frame_of self.old)
+            (part_of (network_of self.old) (frame_of self.old) view.now) self.old.held self.new.held }
+        ensures slots { self.new.slots ≡ self.old.slots }
+        ensures network { network_of self.new ≡ network_of self.old }
+        ensures plp { plp_of self.new ≡ plp_of self.old }
+    {
         match view {
-            RecordView::Muted { .. } => self.slots.mute(),
+            RecordView::Muted { .. } => self.held.lose(),
             RecordView::Frame {
                 pre,
                 post,
                 blocks,
                 cells,
                 ..
-            } => self.frame_parts(pre, post, blocks, cells),
+            } => self.see_frame(pre, post, blocks, cells),
         }
     }
 
-    // Takes the record of a frame with these parts.
-    fn frame_parts(
+    // Sees the record of a frame with these parts.
+    fn see_frame(
         &mut self,
         pre: &BitSlice<'_>,
         post: &BitSlice<'_>,
         blocks: &Blocks<'_>,
         cells: &Cells<'_>,
     )
-        requires small { frame_of self.old < MOST_FRAMES }
-        requires given_out { due_of self.old ≡ 0 }
-        ensures takes { (moment : Moment) → TakesRecord (network_of self.old) (plp_of self.old) (frame_of self.old)
-            (Frame moment pre.now post.now blocks.now cells.now) self.old.slots self.new.slots }
-        ensures frame { frame_of self.new ≡ frame_of self.old + 1 }
+        ensures sees { (moment : Moment) → Sees (network_of self.old) (plp_of self.old) (frame_of self.old)
+            (part_of (network_of self.old) (frame_of self.old) (Frame moment pre.now post.now blocks.now cells.now))
+            self.old.held self.new.held }
+        ensures slots { self.new.slots ≡ self.old.slots }
         ensures network { network_of self.new ≡ network_of self.old }
         ensures plp { plp_of self.new ≡ plp_of self.old }
     {
+        let number = self.slots.frame();
         if is_readable(
             &self.network,
-            self.slots.frame(),
+            number,
             pre,
             post,
             blocks,
@@ -143,36 +159,55 @@ impl<'p> Receiver<'p> {
             &mut self.dynamic,
             &mut self.shape,
         ) {
-            self.take(blocks, cells);
+            see_part(
+                self.network.plan(),
+                &self.shape,
+                self.plp,
+                number,
+                blocks,
+                cells,
+                &mut self.held,
+            );
         } else {
-            self.slots.mute();
+            self.held.lose();
         }
     }
 
-    // Takes the blocks of a frame, whose shape was told.
-    fn take(&mut self, blocks: &Blocks<'_>, cells: &Cells<'_>)
+    // The next frame comes, whose record was seen: if an epoch ends with it, its blocks are taken.
+    fn end_record(&mut self)
         requires small { frame_of self.old < MOST_FRAMES }
         requires given_out { due_of self.old ≡ 0 }
-        requires agrees { shape_agrees (network_of self.old) blocks.now cells.now self.old.shape ≡ true }
-        ensures takes { TakesFrame (network_of self.old)
-            (plp_of self.old) (frame_of self.old) self.old.shape blocks.now cells.now self.old.slots self.new.slots }
+        ensures ends { EndsRecord (network_of self.old) (plp_of self.old) self.old.held self.new.held self.old.slots
+            self.new.slots }
         ensures frame { frame_of self.new ≡ frame_of self.old + 1 }
         ensures network { network_of self.new ≡ network_of self.old }
         ensures plp { plp_of self.new ≡ plp_of self.old }
     {
-        map_test_law();
-        let plan = self.network.plan();
-        plan.obeys_rules();
-        take_frame(
-            plan,
-            &self.shape,
-            self.plp,
-            blocks,
-            cells,
-            &mut self.slots,
-            &mut self.stands,
-            &mut self.block,
-        );
+        if self.slots.ends_epoch() {
+            self.end_epoch();
+        } else {
+            self.slots.pass();
+        }
+    }
+
+    // An epoch ends with the next frame: its blocks are taken, if it is there.
+    fn end_epoch(&mut self)
+        requires small { frame_of self.old < MOST_FRAMES }
+        requires given_out { due_of self.old ≡ 0 }
+        requires last { ends_epoch self.old.slots ≡ true }
+        ensures ends { (parts : Option (List Part)) → is_begun parts ≡ true
+            → Holds (network_of self.old) (plp_of self.old) parts self.old.held
+            → TellsEpoch (network_of self.old) (plp_of self.old) parts self.old.slots self.new.slots }
+        ensures frame { frame_of self.new ≡ frame_of self.old + 1 }
+        ensures network { network_of self.new ≡ network_of self.old }
+        ensures plp { plp_of self.new ≡ plp_of self.old }
+    {
+        if self.held.is_there() {
+            let deletes = deletes(self.network.plan(), self.plp);
+            take_epoch(&mut self.slots, &mut self.held, deletes);
+        } else {
+            self.slots.lose();
+        }
     }
 
     /// How many slots are due and not given out.

@@ -1,8 +1,10 @@
 // Whether the cells of the blocks of a PLP stand at their addresses (EN 302 755, clause 8).
-ghost use Rattle.std.specs.Prelude.{◌≡◌, ◌<◌, ◌≤◌, ◌+◌, ◌*◌, ◌^◌, ◌&&◌, ℕ, false, length, slice_index, slice_index_or, sum, take};
+ghost use Rattle.std.specs.Prelude.{◌≡◌, ◌<◌, ◌≤◌, ◌+◌, ◌*◌, ◌^◌, ◌&&◌, ℕ, false, length, slice_index, slice_index_or, sum};
+ghost use Rattle.std.specs.Prelude.{take, List};
 ghost use Rattle.std.specs.Prelude.{Some};
 ghost use Rattle.cell_map.specs.CellMap.{Passes};
-ghost use Rattle.plp_receiver.specs.Readable.{is_cell, all_stand};
+ghost use Rattle.site_frame.specs.Record.{Block};
+ghost use Rattle.plp_receiver.specs.Readable.{is_cell, all_stand, part_with};
 ghost use Rattle.plp_receiver.specs.Seeing.{is_seen, seen_from, all_seen};
 
 use cell_map::{Cell, Cells, map_law};
@@ -138,8 +140,8 @@ fn see_all(
     }
 }
 
-/// The ordinal of the first block of a PLP.
-pub fn first_ordinal(shape: &Shape, plp: usize) -> u32
+// The ordinal of the first block of a PLP.
+fn first_ordinal(shape: &Shape, plp: usize) -> u32
     requires inside { plp ≤ length shape.now.counts }
     requires few { length shape.now.counts ≤ 255 }
     ensures value { result ≡ sum (take plp shape.now.counts) }
@@ -152,12 +154,13 @@ pub fn first_ordinal(shape: &Shape, plp: usize) -> u32
     first
 }
 
-/// Tells of each block of a PLP whether all its cells stand.
-pub fn tell_standing(
+/// Sees which cells of the blocks of a PLP stand in the record of a frame of this shape. The test of a block fails if one does not.
+/// There may be tests of more blocks, which decide nothing.
+pub fn see_standing(
     plan: &Plan,
     shape: &Shape,
-    frame_idx: u8,
     plp: usize,
+    number: u64,
     cells: &Words<'_>,
     stands: &mut [bool],
 )
@@ -165,17 +168,13 @@ pub fn tell_standing(
     requires passes { Passes plan.now shape.now }
     requires all { length cells.now ≡ plan.now.cells }
     requires inside { plp < length plan.now.plps }
-    requires count { length stands.old ≡ slice_index shape.now.counts plp }
     ensures len { length stands.new ≡ length stands.old }
-    ensures each { (k : ℕ) → k < length stands.old → slice_index_or stands.new k false
-        ≡ all_stand plan.now shape.now frame_idx cells.now plp k }
+    ensures each { (blocks : List Block) (k : ℕ) → k < length stands.old → k < slice_index shape.now.counts plp
+        → slice_index_or stands.new k false
+        ≡ (slice_index_or stands.old k false && all_stand plan.now plp (part_with number blocks shape.now cells.now) k) }
 {
     map_law();
     plan.obeys_rules();
-    if stands.is_empty() {
-        return;
-    }
     let first = first_ordinal(shape, plp);
-    stands.fill(true);
-    see_all(plan, shape, frame_idx, cells, first, stands);
+    see_all(plan, shape, plan.frame_idx(number), cells, first, stands);
 }

@@ -2,13 +2,12 @@
 ghost use Rattle.std.specs.Prelude.{◌≡◌, ◌↔◌, ◌==◌, ◌+◌, ◌/◌, ◌≤◌, ◌<◌, ◌^◌, IsTrue, IfSome, length, take, drop, None, Some};
 ghost use Rattle.std.specs.Prelude.{if◌then◌else◌};
 ghost use Rattle.terms.specs.Bits.{bits_of};
-ghost use Rattle.bb_frame.specs.Scrambled.{scrambled};
 ghost use Rattle.bb_frame.specs.declared.header.TheConstants.{NO_START, HEADER_BYTES};
 ghost use Rattle.packet_slots.specs.Strings.{Block};
 ghost use Rattle.packet_slots.specs.Both.{block_of, IsPlace};
 ghost use Rattle.plp_receiver.specs.Taken.{IsOfStream, IsTaken};
 
-use bb_frame::{HEADER_BYTES, NO_START, bit_counts, read_frame, scramble};
+use bb_frame::{HEADER_BYTES, NO_START, bit_counts, read_frame};
 use bit_slice::BitSlice;
 use packet_slots::TakenBlock;
 
@@ -59,15 +58,4 @@ pub fn taken_block(block: &[u8], deletes: bool) -> Option<TakenBlock<'_>>
         issy: header.issy,
         field: field_of(block, header.dfl),
     })
-}
-
-/// Copies a block, as it is sent, to the front of the buffer, and scrambles it there once more, so that it is scrambled no more.
-pub fn descramble(sent: &[u8], buffer: &mut [u8])
-    requires room { length sent.now ≤ length buffer.old }
-    ensures bits { bits_of (take (length sent.now) buffer.new) ≡ scrambled (bits_of sent.now) }
-    ensures len { length buffer.new ≡ length buffer.old }
-{
-    let block = &mut buffer[..sent.len()];
-    block.copy_from_slice(sent);
-    scramble(block);
 }

@@ -1,8 +1,7 @@
 // The record is that of frame 1 of the small network with two blocks, spelled by hand from the tables of records and EN 302 755;
 // L1-pre, L1-post and CRC-8 are from a Python program over its tables. The packet of slot k has the byte k + 1; a null packet has
 // 0x1F there. What must come was counted by hand.
-ghost use Rattle.std.specs.Prelude.{◌≡◌, IfOk, length, true};
-ghost use Rattle.plp_config.specs.Places.{FramesStandAlone};
+ghost use Rattle.std.specs.Prelude.{◌≡◌, IfOk, length};
 ghost use Rattle.plp_receiver.specs.StandsFor.{frame_of, due_of};
 
 use crate::{Receiver, readback_law};
@@ -152,18 +151,9 @@ fn give(receiver: &mut Receiver<'_>, given: &mut Vec<u8>) -> Result<(), Fail>
     Ok(())
 }
 
-// Whether every frame stands alone.
-fn stands_alone(plan: &Plan) -> bool
-    ensures { result ≡ true → FramesStandAlone plan.now }
-{
-    plan.first_spread().is_none()
-}
-
 // What is given out after the record, of frame 1, and two muted frames.
 fn given_back(rt: &(impl Abort + AllocGlobal), plan: &Plan, bytes: &[u8]) -> Result<Vec<u8>, Fail> {
     plan.obeys_rules();
-    let alone = stands_alone(plan);
-    assert!(rt; alone);
     let mut receiver = Receiver::open(rt.alloc(), plan, 0)?;
     let mut given = Vec::new(rt.alloc());
     let (view, _) = read_record(bytes)?;

@@ -16,27 +16,23 @@ use Rattle.bb_frame.specs.Scrambled.{scrambled}
 use Rattle.bb_frame.specs.declared.fault.BbFault.{BbFault}
 use Rattle.bb_frame.specs.declared.header.Header.{Header}
 use Rattle.bit_slice.specs.Crc.{crc8_of}
-use Rattle.cell_map.specs.CellMap.{ordinal_of}
-use Rattle.cell_map.specs.declared.places.Cell.{Cell}
 use Rattle.plp_config.specs.Emission.{emission}
-use Rattle.plp_config.specs.Plps.{plp_at}
+use Rattle.plp_config.specs.Plps.{plp_at, spread}
 use Rattle.plp_config.specs.declared.config.Config.{Config}
 use Rattle.plp_config.specs.declared.moment.Moment.{Moment}
 use Rattle.plp_config.specs.declared.moment.TheConstants.{MOST_FRAMES}
-use Rattle.scheduler.specs.Shape.{FrameShape}
 use Rattle.site_frame.specs.Laws.{SpelledOrRefused}
 use Rattle.site_frame.specs.Placing.{IsFrameOf, IsOffGrid}
-use Rattle.site_frame.specs.Record as frame
 use Rattle.site_frame.specs.RecordFile.{AreRecords, IsOnGrid, AreBytes}
 use Rattle.site_frame.specs.Whole.{BeginsWith, Refuses, moment_of}
 use Rattle.site_frame.specs.declared.fault.RecordWhy.{RecordWhy}
 use Rattle.site_frame.specs.declared.fault.RecordWhy.TheVariants as why
 use Rattle.site_frame.specs.declared.reading.RecordView.{RecordView}
-use Rattle.site_frame.specs.declared.reading.RecordView.TheVariants.{Frame, Muted}
-use Rattle.packet_slots.specs.Records.{Record, muted_record, framed_record, readback}
+use Rattle.packet_slots.specs.Epochs.{Epoch, lost_epoch, epoch_with, readback}
 use Rattle.packet_slots.specs.Strings.{Block}
-use Rattle.plp_receiver.specs.Readable.{readable, all_stand}
-use Rattle.plp_receiver.specs.Taken.{IsOfStream, block_read, IsTaken, IsGiven, bytes_at, TellsShape, Tells, TellAll, slot_rule}
+use Rattle.plp_receiver.specs.Epochs.{epoch_parts, cells_stand, place_of, Tells, epochs_in, TellAll, slot_rule}
+use Rattle.plp_receiver.specs.Readable.{Part, count_of}
+use Rattle.plp_receiver.specs.Taken.{IsOfStream, block_read, IsTaken, IsGiven, bytes_at}
 use Rattle.receive_run.specs.Laws.{MustRun, RunEnds}
 use Rattle.receive_run.specs.Received.{GivesBack, Received, ran_of, expected_after, RefusesNext}
 use Rattle.receive_run.specs.declared.stop.Ran.{Ran}
@@ -116,28 +112,25 @@ zip_there R each (x ∷ xs) = let here = each x in let rest = zip_there R each x
 
 -- ---- what records tell
 
-shape_there : bb.SpelledOrRefused → bb.NoRefusal → bb.BitCounts → (c : Config) (plp n : ℕ) (blocks : List frame.Block)
-    (cells : List (Option Cell)) (o : Option FrameShape) → (r : Record) × TellsShape c plp n blocks cells o r
-shape_there decides never counts c plp n blocks cells None = (muted_record, refl)
-shape_there decides never counts c plp n blocks cells (Some shape) =
+tells_there : bb.SpelledOrRefused → bb.NoRefusal → bb.BitCounts → (c : Config) (plp : ℕ) (parts : Option (List Part)) → (e : Epoch)
+    × Tells c plp parts e
+tells_there decides never counts c plp None = (lost_epoch, refl)
+tells_there decides never counts c plp (Some []) = (epoch_with [], refl)
+tells_there decides never counts c plp (Some (p ∷ parts)) =
     let each =
-    zip_there (λ block b. IsGiven (plp_at c.plps plp).delete (all_stand c shape (n % c.frames) cells plp block)
-    (bytes_at blocks (ordinal_of shape plp block)) b)
-    (λ block. given_there decides never counts (plp_at c.plps plp).delete (all_stand c shape (n % c.frames) cells plp block)
-    (bytes_at blocks (ordinal_of shape plp block))) (range_with_len 0 (slice_index shape.counts plp)) in
-    (framed_record each.0, (each.0, each.1, refl))
+    zip_there (λ block b. IsGiven (plp_at c.plps plp).delete (cells_stand c plp (p ∷ parts) block)
+    (bytes_at p.blocks (place_of c plp p block)) b)
+    (λ block. given_there decides never counts (plp_at c.plps plp).delete (cells_stand c plp (p ∷ parts) block)
+    (bytes_at p.blocks (place_of c plp p block))) (range_with_len 0 (count_of plp p)) in
+    (epoch_with each.0, (each.0, each.1, refl))
 
-tells_there : bb.SpelledOrRefused → bb.NoRefusal → bb.BitCounts → (c : Config) (plp n : ℕ) (view : RecordView) → (r : Record)
-    × Tells c plp n view r
-tells_there decides never counts c plp n (Muted moment) = (muted_record, refl)
-tells_there decides never counts c plp n (Frame moment pre post blocks cells) =
-    shape_there decides never counts c plp n blocks cells (readable c n pre post blocks cells)
-
-told_there : bb.SpelledOrRefused → bb.NoRefusal → bb.BitCounts → (c : Config) (plp n : ℕ) (views : List RecordView)
-    → (told : List Record) × TellAll c plp n views told
-told_there decides never counts c plp n [] = ([], tt)
-told_there decides never counts c plp n (v ∷ views) = let here = tells_there decides never counts c plp n v in let rest =
-    told_there decides never counts c plp (n + 1) views in (here.0 ∷ rest.0, (here.1, rest.1))
+told_there : bb.SpelledOrRefused → bb.NoRefusal → bb.BitCounts → (c : Config) (plp first : ℕ) (views : List RecordView)
+    → (told : List Epoch) × TellAll c plp first views told
+unfolding TellAll
+told_there decides never counts c plp first views =
+    zip_there (λ m e. Tells c plp (epoch_parts c plp first views m) e)
+    (λ m. tells_there decides never counts c plp (epoch_parts c plp first views m))
+    (epochs_in (spread c.plps plp) first (length views))
 
 -- ---- what they give back
 
@@ -146,7 +139,7 @@ back_there : bb.SpelledOrRefused → bb.NoRefusal → bb.BitCounts → (c : Conf
 back_there decides never counts c plp first [] = ([], refl)
 back_there decides never counts c plp first (v ∷ views) =
     let t = told_there decides never counts c plp first (v ∷ views) in
-    (readback (slot_rule c plp) first t.0, record { told = t.0; tells = t.1; packets_are = refl })
+    (readback (slot_rule c plp) first (length (v ∷ views)) t.0, record { told = t.0; tells = t.1; packets_are = refl })
 
 -- ---- the frame of a moment
 

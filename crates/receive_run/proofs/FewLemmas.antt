@@ -2,18 +2,17 @@
 use Rattle.std.proofs.Common.{◌≡◌, ℕ, ◌+◌, ◌-◌, ◌*◌, ◌^◌, ◌<◌, ◌≤◌, List, length, ap, ◌∙◌, arith}
 use Rattle.std.specs.Int.{div_ceil}
 use Rattle.std.proofs.Math.Nat.{div-le_of_le-mul, mul-le-mul, mul-le-mul_left}
-use Rattle.plp_config.specs.Laws.{SoundTimes}
+use Rattle.plp_config.specs.Laws.{FrameTicks, SoundTimes}
 use Rattle.plp_config.specs.Rules.{AllRules}
 use Rattle.plp_config.specs.SlotTimes.{delay_of}
 use Rattle.plp_config.specs.declared.config.Config.{Config}
 use Rattle.plp_config.specs.declared.moment.TheConstants.{MOST_FRAMES}
 use Rattle.site_frame.specs.declared.reading.RecordView.{RecordView}
-use Rattle.packet_slots.specs.Records.{first_slot}
+use Rattle.packet_slots.specs.Epochs.{first_slot}
 use Rattle.packet_slots.specs.Times.{due_after}
 use Rattle.packet_slots.specs.declared.slot_rule.SlotRule.{SlotRule}
 use Rattle.packet_slots.proofs.StandsLemmas.{length_readback}
-use Rattle.plp_receiver.specs.Taken.{slot_rule, Readback}
-use Rattle.plp_receiver.proofs.StandsLemmas.{same_count}
+use Rattle.plp_receiver.specs.Epochs.{slot_rule, Readback}
 
 -- slots that last a tick or more are no more than ticks
 count_few : (n d t : ℕ) → d ≤ n → div_ceil (t * d) n ≤ t + 1
@@ -23,19 +22,18 @@ count_few n d t l =
     let q = div-le_of_le-mul n {m = t * d} {n = t} wide in
     omega (arith, q)
 
-pub few_packets : SoundTimes → (c : Config) (plp first : ℕ) (views : List RecordView) (packets : List (List ℕ))
+pub few_packets : FrameTicks → SoundTimes → (c : Config) (plp first : ℕ) (views : List RecordView) (packets : List (List ℕ))
     → AllRules c → plp < length c.plps → first + length views ≤ MOST_FRAMES → Readback c plp first views packets
     → length packets < 2 ^ 64
-few_packets times c plp first views packets rules inside small b =
+few_packets frame times c plp first views packets rules inside small b =
     let r : SlotRule = slot_rule c plp in
     let sound = times c plp rules inside in
-    let frames : ℕ = first + length b.told in
-    let told = same_count c plp first views b.told b.tells in
+    let frames : ℕ = first + length views in
     let count : length packets ≡ due_after r frames - first_slot r first = ap length b.packets_are
-    ∙ length_readback r first b.told in
-    let epoch = sound.most in
-    let short : r.times.epoch ≤ 2 ^ 22 = omega (arith, epoch) in
-    let below : frames ≤ 2 ^ 31 = omega (arith, told, small) in
-    let span : frames * r.times.epoch ≤ 2 ^ 31 * 2 ^ 22 = mul-le-mul below short in
-    let few = count_few r.times.num r.times.den (frames * r.times.epoch + 1 - delay_of r.times) sound.long in
+    ∙ length_readback r first (length views) b.told in
+    let ticks = (frame c rules).1 in
+    let short : r.ticks ≤ 2 ^ 22 = omega (arith, ticks) in
+    let below : frames ≤ 2 ^ 31 = omega (arith, small) in
+    let span : frames * r.ticks ≤ 2 ^ 31 * 2 ^ 22 = mul-le-mul below short in
+    let few = count_few r.times.num r.times.den (frames * r.ticks + 1 - delay_of r.times) sound.long in
     omega (arith, count, few, span)

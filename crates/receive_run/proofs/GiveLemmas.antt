@@ -10,7 +10,7 @@ use Rattle.std.proofs.lemmas.Option.{slice_get_within}
 use Rattle.terms.proofs.OptionLemmas.{some_injective, none_some}
 use Rattle.site_frame.specs.declared.reading.RecordView.{RecordView}
 use Rattle.plp_receiver.specs.StandsFor.{StandsFor, network_of, plp_of, frame_of, due_of}
-use Rattle.plp_receiver.specs.Taken.{Readback}
+use Rattle.plp_receiver.specs.Epochs.{Readback}
 use Rattle.plp_receiver.specs.declared.receiver.Receiver.{Receiver}
 use Rattle.receive_run.specs.Taking.{SamePlp, GivesPacket}
 

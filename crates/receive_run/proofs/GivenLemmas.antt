@@ -7,7 +7,7 @@ use Rattle.site_frame.specs.Record.{head_len}
 use Rattle.site_frame.specs.RecordFile.{AreRecords, IsOnGrid}
 use Rattle.site_frame.specs.declared.reading.RecordView.{RecordView}
 use Rattle.plp_receiver.specs.StandsFor.{network_of, plp_of, due_of}
-use Rattle.plp_receiver.specs.Taken.{Readback}
+use Rattle.plp_receiver.specs.Epochs.{Readback}
 use Rattle.plp_receiver.specs.declared.receiver.Receiver.{Receiver}
 use Rattle.file_run.specs.Events.{Event, Gave, fed, has_ended, gave}
 use Rattle.file_run.specs.Laws.{EventsTell}

@@ -15,7 +15,7 @@ use Rattle.site_frame.specs.declared.fault.RecordWhy.{RecordWhy}
 use Rattle.site_frame.specs.declared.fault.RecordWhy.TheVariants as why
 use Rattle.site_frame.specs.declared.reading.RecordView.{RecordView}
 use Rattle.plp_receiver.specs.Laws.{ReadbackOnce}
-use Rattle.plp_receiver.specs.Taken.{Readback}
+use Rattle.plp_receiver.specs.Epochs.{Readback}
 use Rattle.receive_run.specs.Laws.{OneRun, OneOutput}
 use Rattle.receive_run.specs.ReceiveRun.{HasAll, HasBefore}
 use Rattle.receive_run.specs.Received.{GivesBack, Received, first_slot, ran_of, expected_after, RefusesNext}

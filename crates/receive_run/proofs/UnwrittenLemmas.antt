@@ -25,7 +25,7 @@ use Rattle.plp_receiver.specs.declared.receiver.Receiver.{Receiver}
 use Rattle.receive_run.specs.Received.{GivesBack}
 use Rattle.std.proofs.lemmas.List.{take-append-drop}
 use Rattle.std.proofs.lemmas.List.Folds.{concat-append}
-use Rattle.plp_receiver.specs.Taken.{Readback}
+use Rattle.plp_receiver.specs.Epochs.{Readback}
 use Rattle.receive_run.proofs.GivenLemmas.{packets_come}
 use Rattle.receive_run.proofs.SameLemmas.{successive_front, same_views}
 

@@ -2,6 +2,7 @@
 use Rattle.std.specs.Prelude.{◌≡◌, ◌⊎◌, ℕ, ◌+◌, ◌-◌, ◌≤◌, Bool, true, false, List, [], ◌∷◌, ◌++◌, length, take, Option, Some}
 use Rattle.std.specs.Prelude.{None, unwrap_or, Result, Ok, Err}
 use Rattle.std.specs.List.{concat}
+use Rattle.plp_config.specs.Plps.{spread}
 use Rattle.plp_config.specs.declared.config.Config.{Config}
 use Rattle.plp_config.specs.declared.moment.TheConstants.{MOST_FRAMES}
 use Rattle.site_frame.specs.Record.{head_len}
@@ -9,7 +10,7 @@ use Rattle.site_frame.specs.RecordFile.{AreRecords, IsBegun, EndsWithin, IsOnGri
 use Rattle.site_frame.specs.declared.fault.RecordWhy.{RecordWhy}
 use Rattle.site_frame.specs.declared.reading.RecordView.{RecordView}
 use Rattle.plp_receiver.specs.StandsFor.{StandsFor, IsFresh, network_of, plp_of, frame_of, due_of, slots_over}
-use Rattle.plp_receiver.specs.Taken.{Readback}
+use Rattle.plp_receiver.specs.Epochs.{Readback}
 use Rattle.plp_receiver.specs.declared.receiver.Receiver.{Receiver}
 use Rattle.file_run.specs.Events.{Event, fed, has_ended, gave}
 use Rattle.file_run.specs.declared.machine.Step.{Step}
@@ -157,7 +158,7 @@ pub record Becomes (start : ReceiverMachine) (events : List Event) (m : Receiver
 -- the slot at which the output begins, by the frame of the first record
 abbrev pub slot_by : Config → ℕ → Option ℕ → ℕ
 slot_by c plp None = 0
-slot_by c plp (Some first) = slots_over c plp (first - 1)
+slot_by c plp (Some first) = slots_over c plp (first - spread c.plps plp)
 
 abbrev pub ran_by : Config → ℕ → Option ℕ → ℕ → Ran
 ran_by c plp first slots = record { first = slot_by c plp first; slots = slots }

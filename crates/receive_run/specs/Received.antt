@@ -1,6 +1,7 @@
 -- What stands in the output after the records of a file.
 use Rattle.std.specs.Prelude.{◌≡◌, ◌⊎◌, ℕ, ◌+◌, ◌-◌, List, [], ◌∷◌, length, Option, Some, None}
 use Rattle.std.specs.List.{concat}
+use Rattle.plp_config.specs.Plps.{spread}
 use Rattle.plp_config.specs.declared.config.Config.{Config}
 use Rattle.site_frame.specs.Placing.{RefusesPlace}
 use Rattle.site_frame.specs.RecordFile.{IsNoRecord, IsOnGrid}
@@ -8,7 +9,7 @@ use Rattle.site_frame.specs.Whole.{BeginsWith, moment_of}
 use Rattle.site_frame.specs.declared.fault.RecordWhy.{RecordWhy}
 use Rattle.site_frame.specs.declared.reading.RecordView.{RecordView}
 use Rattle.plp_receiver.specs.StandsFor.{slots_over}
-use Rattle.plp_receiver.specs.Taken.{Readback}
+use Rattle.plp_receiver.specs.Epochs.{Readback}
 use Rattle.receive_run.specs.declared.stop.Ran.{Ran}
 
 -- What a PLP is given back of the records of the frames from one on: nothing if there are none.
@@ -25,11 +26,11 @@ pub record Received (c : Config) (plp : ℕ) (views : List RecordView) (bytes : 
   pub back : GivesBack c plp first views packets
   pub bytes_are : bytes ≡ concat packets
 
--- the slot at which the output begins: those before it are over when the frame in front of the first one begins; 0 if there is no
--- record
+-- the slot at which the output begins: those before it are over one interleaving frame before the first frame begins; 0 if there is
+-- no record
 abbrev pub first_slot : Config → ℕ → ℕ → List RecordView → ℕ
 first_slot c plp first [] = 0
-first_slot c plp first (view ∷ views) = slots_over c plp (first - 1)
+first_slot c plp first (view ∷ views) = slots_over c plp (first - spread c.plps plp)
 
 -- that slot, and how many slots are given out after these records
 abbrev pub ran_of : Config → ℕ → ℕ → List RecordView → List (List ℕ) → Ran

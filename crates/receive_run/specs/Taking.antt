@@ -7,7 +7,7 @@ use Rattle.site_frame.specs.Whole.{BeginsWith, Refuses, moment_of}
 use Rattle.site_frame.specs.declared.fault.RecordWhy.{RecordWhy}
 use Rattle.site_frame.specs.declared.reading.RecordView.{RecordView}
 use Rattle.plp_receiver.specs.StandsFor.{StandsFor, IsFresh, network_of, plp_of, frame_of, due_of}
-use Rattle.plp_receiver.specs.Taken.{Readback}
+use Rattle.plp_receiver.specs.Epochs.{Readback}
 use Rattle.plp_receiver.specs.declared.receiver.Receiver.{Receiver}
 use Rattle.receive_run.specs.Received.{IsMisplaced}
 

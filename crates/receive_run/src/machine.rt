@@ -1,8 +1,7 @@
 // The receiver as a machine between files.
 ghost use Rattle.std.specs.Prelude.{◌≡◌, ◌≢◌, ◌<◌, ◌≤◌, ◌+◌, ℕ, length, take, vec_len, vec_capacity, Some};
 ghost use Rattle.plp_receiver.specs.StandsFor.{network_of, plp_of, due_of};
-ghost use Rattle.plp_config.specs.Laws.{SoundTimes};
-ghost use Rattle.plp_config.specs.Places.{FramesStandAlone};
+ghost use Rattle.plp_config.specs.Laws.{FrameTicks, SoundTimes};
 ghost use Rattle.plp_config.specs.declared.moment.TheConstants.{MOST_FRAMES};
 ghost use Rattle.site_frame.specs.declared.head.TheConstants.{HEAD};
 ghost use Rattle.desk_io.specs.Reading.{longest_file};
@@ -65,9 +64,10 @@ pub struct ReceiverMachine<'p> {
     ghost small: { at ≤ longest_file },
 }
 
-// The slots of a PLP last a tick or more. It does nothing.
+// The slots of a PLP last a tick or more, and so do frames. It does nothing.
 fn times_law()
-    ensures { SoundTimes }
+    ensures frame { FrameTicks }
+    ensures slot { SoundTimes }
 {
     length_law();
 }
@@ -100,7 +100,6 @@ impl<'p> ReceiverMachine<'p> {
         plp: usize,
     ) -> Result<ReceiverMachine<'p>, OutOfMemory>
         requires inside { plp < length plan.now.plps }
-        requires alone { FramesStandAlone plan.now }
         ensures network { IfOk result (λ m. network_of m.receiver ≡ plan.now) }
         ensures plp { IfOk result (λ m. plp_of m.receiver ≡ plp) }
         ensures becomes { IfOk result (λ m. Becomes m [] m) }
@@ -241,7 +240,11 @@ impl<'p> ReceiverMachine<'p> {
         ensures { result ≡ slot_by (network_of self.now.receiver) (plp_of self.now.receiver) self.now.first }
     {
         match self.first {
-            Some(first) => self.plan.slot_times(self.plp).range_of(first).0,
+            Some(first) => {
+                let before = first.saturating_sub(u64::from(self.plan.spread(self.plp)));
+                self.plan
+                    .slots_by(self.plp, before * u64::from(self.plan.config().ticks))
+            }
             None => 0,
         }
     }

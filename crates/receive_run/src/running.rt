@@ -1,7 +1,6 @@
 // A run of the receiver of a PLP: its reader, its buffer and its machine on the driver.
 ghost use Rattle.std.specs.Prelude.{◌≡◌, ◌≢◌, ◌<◌, [], length, slice_index_or, IfOk, IfErr};
 ghost use Rattle.file_run.specs.FileRun.{AreApart};
-ghost use Rattle.plp_config.specs.Places.{FramesStandAlone};
 ghost use Rattle.plp_config.specs.Capacity.{IsPlan};
 ghost use Rattle.plp_receiver.specs.StandsFor.{network_of, plp_of};
 ghost use Rattle.receive_run.specs.AsMachine.{Becomes};
@@ -57,7 +56,6 @@ pub fn run<D: Desk>(
     desk: &mut D,
 ) -> Result<Ran, RunStop>
     requires plp { plp < length plan.now.plps }
-    requires alone { FramesStandAlone plan.now }
     requires apart { input.now ≢ out.now }
     ensures ok { IfOk result (RunsAll plan.now plp (D.state desk.old) (D.state desk.new) input.now out.now) }
     ensures err { IfErr result (Stops plan.now plp (D.state desk.old) (D.state desk.new) input.now out.now) }

@@ -44,8 +44,8 @@ timed_mark v l =
     let m : (0x800000 + v) % 2 ^ 22 ≡ v = omega arith in
     ap (λ (b : Bool). cond {A = Mark} b (Timed ((0x800000 + v) % 2 ^ 22)) Next) (eq-eqb _ _ d) ∙ ap (λ (n : ℕ). Timed n) m
 
-module _ (r : SlotRule) (c : Config) (plp : ℕ) (kept : List ℕ) (dnps : ℕ → ℕ) (frame x y : ℕ) (field : List ℕ)
-    (law : IscrFindsSlot) (sound : IsSound r) (is : IsSent r c plp kept dnps frame x y field) where
+module _ (r : SlotRule) (c : Config) (plp : ℕ) (kept : List ℕ) (dnps : ℕ → ℕ) (epoch x y : ℕ) (field : List ℕ)
+    (law : IscrFindsSlot) (sound : IsSound r) (is : IsSent r c plp kept dnps epoch x y field) where
   abbrev n : ℕ
   n = div_ceil x r.up_len
 
@@ -96,16 +96,16 @@ module _ (r : SlotRule) (c : Config) (plp : ℕ) (kept : List ℕ) (dnps : ℕ �
         let d : header.syncd / 8 ≡ r.up_len * n - x = omega (arith, syncd_is) in
         ap (λ (b : Bool). cond b None (Some (header.syncd / 8))) not_none ∙ ap (λ (k : ℕ). Some k) d
 
-    tells : (iscr : ℕ) × (first_mark header.issy ≡ Timed iscr) × (slot_of_iscr r.times frame iscr ≡ Some (get_or kept n 0))
+    tells : (iscr : ℕ) × (first_mark header.issy ≡ Timed iscr) × (slot_of_iscr r.times epoch iscr ≡ Some (get_or kept n 0))
     tells =
         let v : ℕ = slot_start r.times.num r.times.den (get_or kept n 0) % 2 ^ 22 in (
           v,
           ap first_mark issy_is ∙ timed_mark v (omega arith),
-          iscr_is law r frame (get_or kept n 0) sound
+          iscr_is law r epoch (get_or kept n 0) sound
               (is.range n (ceil_parts x r.up_len one).0 l),
         )
 
-  pub block : IsBlock r (λ n. get_or kept n 0) dnps frame x n (block_read header field)
+  pub block : IsBlock r (λ n. get_or kept n 0) dnps epoch x n (block_read header field)
   block = record {
     least = (ceil_parts x r.up_len one).0;
     close = (ceil_parts x r.up_len one).1;
@@ -117,4 +117,4 @@ module _ (r : SlotRule) (c : Config) (plp : ℕ) (kept : List ℕ) (dnps : ℕ �
   }
 
 pub gateway_block : IscrFindsSlot → GatewayBlock
-gateway_block law r c plp kept dnps frame x y field sound is = block r c plp kept dnps frame x y field law sound is
+gateway_block law r c plp kept dnps epoch x y field sound is = block r c plp kept dnps epoch x y field law sound is

@@ -8,9 +8,11 @@ mod GatewayBlocks
 mod GatewayLemmas
 mod EpochLemmas
 mod FoundLemmas
-mod FrameLemmas
+mod CarriedLemmas
+mod SentLemmas
 mod RunLemmas
 mod RecoverLemmas
+mod LostLemmas
 mod TakenLemmas
 mod ReadableLemmas
 mod TellLemmas

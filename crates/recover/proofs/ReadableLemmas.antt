@@ -10,12 +10,14 @@ use Rattle.std.specs.List.{AllByRecursion, flat_map, range_with_len}
 use Rattle.std.proofs.lemmas.Bool.{and_from, and_parts, both_ways}
 use Rattle.std.proofs.lemmas.Cmp.{lists_equiv}
 use Rattle.std.proofs.lemmas.List.{take_all, take-append-le}
+use Rattle.std.proofs.lemmas.List.FromFn.{get_or-map-range_with_len}
 use Rattle.terms.specs.Bits.{field, part}
 use Rattle.terms.proofs.BitLemmas.{length-field}
 use Rattle.terms.proofs.PartLemmas.{part-middle}
 use Rattle.bb_frame.specs.Laws.{BitCounts}
 use Rattle.bit_slice.specs.Crc.{crc32_of}
 use Rattle.plp_config.specs.Capacity.{IsPlan, block_bytes}
+use Rattle.plp_config.specs.InterleavingFrames.{interleaving_frame, is_first}
 use Rattle.plp_config.specs.Plps.{plp_at}
 use Rattle.plp_config.specs.declared.config.Config.{Config}
 use Rattle.scheduler.specs.Laws.{CountsFit}
@@ -31,17 +33,16 @@ use Rattle.l1_signal.specs.declared.lengths.TheConstants.{CRC_BITS}
 use Rattle.frame_tests.specs.Laws.{PreValues}
 use Rattle.frame_tests.specs.MapTest.{map_passes}
 use Rattle.frame_tests.specs.Tests.{read_whole, pre_agrees, conf_agrees, dyn_agrees, read_dynamic, parts_agree}
-use Rattle.mode_adapt.specs.Blocks.{plp_blocks}
+use Rattle.mode_adapt.specs.Blocks.{plp_blocks, own_blocks, told_count, told_counts}
 use Rattle.site_frame.specs.Record.{Block}
 use Rattle.frame_records.specs.Frames.{frame_shape, sent_block, sent_blocks, frame_cells, l1_pre}
 use Rattle.frame_records.proofs.FitLemmas.{counts_fit}
 use Rattle.frame_records.proofs.FrameLemmas.{block_len, cells_count}
-use Rattle.gateway_core.specs.Packets.{counts_of}
 use Rattle.gateway_core.specs.Signalling.{pre_part, conf_part, dyn_part}
-use Rattle.plp_receiver.specs.Readable.{told_dynamic, post_agrees, BlockSize, block_sizes}
+use Rattle.plp_receiver.specs.Readable.{told_dynamic, post_agrees, coming, BlockSize, block_sizes}
 use Rattle.plp_receiver.specs.Readable.{has_size, shape_agrees, fitting, readable}
 use Rattle.sent_frames.specs.Types.{TypesFit}
-use Rattle.sent_frames.proofs.BlockLemmas.{blocks_long, count_at}
+use Rattle.sent_frames.proofs.BlockLemmas.{own_long, count_at}
 use Rattle.sent_frames.proofs.PassLemmas.{Given, parts_tell}
 use Rattle.sent_frames.proofs.SignalLemmas.{frame_parts, parts_pass}
 
@@ -78,20 +79,20 @@ plp_sizes counts c plp (b ∷ blocks) h =
     (sent_size counts c plp b h.0) (plp_sizes counts c plp blocks h.1)
 
 -- the blocks of so many PLPs from one on
-all_sizes : BitCounts → (c : Config) (shape : FrameShape) (blocks : ℕ → List (List Bool))
+all_sizes : BitCounts → (c : Config) (told : List ℕ) (blocks : ℕ → List (List Bool))
     → ((plp : ℕ) → AllByRecursion (λ b. length b ≡ 8 * block_bytes c plp) (blocks plp))
-    → (k a : ℕ) → ((plp : ℕ) → a ≤ plp → plp < a + k → slice_index shape.counts plp ≡ length (blocks plp))
+    → (k a : ℕ) → ((plp : ℕ) → a ≤ plp → plp < a + k → slice_index told plp ≡ length (blocks plp))
     → pointwise has_size (flat_map (λ plp. map (sent_block c plp) (blocks plp)) (range_with_len a k))
-    (flat_map (λ plp. replicate (slice_index shape.counts plp) (size_of c plp)) (range_with_len a k)) ≡ true
-all_sizes counts c shape blocks long zero a h = refl
-all_sizes counts c shape blocks long (suc k) a h =
+    (flat_map (λ plp. replicate (slice_index told plp) (size_of c plp)) (range_with_len a k)) ≡ true
+all_sizes counts c told blocks long zero a h = refl
+all_sizes counts c told blocks long (suc k) a h =
     pointwise_append has_size (map (sent_block c a) (blocks a))
     (flat_map (λ plp. map (sent_block c plp) (blocks plp)) (range_with_len (a + 1) k))
-    (replicate (slice_index shape.counts a) (size_of c a))
-    (flat_map (λ plp. replicate (slice_index shape.counts plp) (size_of c plp)) (range_with_len (a + 1) k))
+    (replicate (slice_index told a) (size_of c a))
+    (flat_map (λ plp. replicate (slice_index told plp) (size_of c plp)) (range_with_len (a + 1) k))
     (subst (λ (n : ℕ). pointwise has_size (map (sent_block c a) (blocks a)) (replicate n (size_of c a)) ≡ true)
     (sym (h a (omega arith) (omega arith))) (plp_sizes counts c a (blocks a) (long a)))
-    (all_sizes counts c shape blocks long k (a + 1) (λ plp from below. h plp (omega (arith, from)) (omega (arith, below))))
+    (all_sizes counts c told blocks long k (a + 1) (λ plp from below. h plp (omega (arith, from)) (omega (arith, below))))
 
 -- ---- L1-post
 
@@ -115,7 +116,7 @@ module _ (reads : Reads) (c : Config) (inputs : ℕ → List (List ℕ)) (n : �
   shape = frame_shape c inputs n
 
   abbrev pub counts : List ℕ
-  counts = counts_of c (plp_blocks c inputs n)
+  counts = told_counts c inputs n
 
   fit : CountsFit c counts
   fit = counts_fit given.slot given.field given.count c inputs n plan
@@ -223,24 +224,39 @@ module _ (reads : Reads) (c : Config) (inputs : ℕ → List (List ℕ)) (n : �
 
   -- ---- blocks and cells
 
-  pub counts_are : (plp : ℕ) → plp < length c.plps → slice_index shape.counts plp ≡ length (plp_blocks c inputs n plp)
-  counts_are plp inside = ap (λ (l : List ℕ). slice_index l plp) (given.counts c counts)
-      ∙ count_at c (plp_blocks c inputs n) plp inside
+  -- how many blocks are told, and how many come with the frame
+  pub told_are : (plp : ℕ) → plp < length c.plps → slice_index shape.counts plp ≡ told_count c inputs n plp
+  told_are plp inside = ap (λ (l : List ℕ). slice_index l plp) (given.counts c counts) ∙ count_at c inputs n plp inside
+
+  pub begun_are : (plp : ℕ) → plp < length c.plps
+      → cond {A = ℕ} (is_first c plp n) (slice_index shape.counts plp) 0 ≡ length (own_blocks c inputs n plp)
+  begun_are plp inside =
+      ap (λ (k : ℕ). cond {A = ℕ} (is_first c plp n) k 0) (told_are plp inside)
+      ∙ sized (is_first c plp n) (plp_blocks c inputs (interleaving_frame c plp n) plp)
+    where
+      sized : (b : Bool) (blocks : List (List Bool)) → cond {A = ℕ} b (length blocks) 0
+          ≡ length (cond {A = List (List Bool)} b blocks [])
+      sized true blocks = refl
+      sized false blocks = refl
 
   abbrev pub blocks : List Block
-  blocks = sent_blocks c (plp_blocks c inputs n)
+  blocks = sent_blocks c (own_blocks c inputs n)
 
   abbrev pub cells : List (Option Cell)
   cells = frame_cells c shape (n % c.frames)
 
-  sizes_agree : pointwise has_size blocks (block_sizes c shape) ≡ true
+  sizes_agree : pointwise has_size blocks (block_sizes c (coming c n shape)) ≡ true
   sizes_agree =
-      all_sizes given.numbers c shape (plp_blocks c inputs n) (blocks_long given.numbers given.field c inputs n) (length c.plps) 0
-      (λ plp from below. counts_are plp (omega (arith, below)))
+      all_sizes given.numbers c (coming c n shape) (own_blocks c inputs n) (own_long given.numbers given.field c inputs n)
+      (length c.plps) 0
+      (λ plp from below. let lt : plp < length c.plps = omega (arith, below) in
+      get_or-map-range_with_len (λ p. cond {A = ℕ} (is_first c p n) (slice_index shape.counts p) 0) 0 (length c.plps) plp plp 0 lt
+      (omega arith)
+      ∙ begun_are plp lt)
 
-  shape_ok : shape_agrees c blocks cells shape ≡ true
+  shape_ok : shape_agrees c n blocks cells shape ≡ true
   shape_ok =
-      let sizes : Bool = pointwise has_size blocks (block_sizes c shape) in
+      let sizes : Bool = pointwise has_size blocks (block_sizes c (coming c n shape)) in
       let len : Bool = length cells == c.cells in
       and_from (sizes && len) (map_passes c shape)
       (and_from sizes len sizes_agree (eq-eqb (length cells) c.cells (cells_count c shape (n % c.frames))))
@@ -249,8 +265,8 @@ module _ (reads : Reads) (c : Config) (inputs : ℕ → List (List ℕ)) (n : �
   pub is_readable : readable c n (l1_pre c) post blocks cells ≡ Some shape
   unfolding readable
   is_readable =
-      ap (λ (b : Bool). cond {A = Option FrameShape} b (fitting c blocks cells (option_map told_shape (told_dynamic c post)))
+      ap (λ (b : Bool). cond {A = Option FrameShape} b (fitting c n blocks cells (option_map told_shape (told_dynamic c post)))
       None)
       (and_from (pre_agrees c (read_whole (pre_reading true (l1_pre c)))) (post_agrees c n post) pre_is post_ok)
-      ∙ ap (fitting c blocks cells) shape_told
+      ∙ ap (fitting c n blocks cells) shape_told
       ∙ ap (λ (b : Bool). cond {A = Option FrameShape} b (Some shape) None) shape_ok

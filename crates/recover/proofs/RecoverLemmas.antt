@@ -1,53 +1,37 @@
--- Readback of the records of a gateway's frames is what they give back.
-use Rattle.std.proofs.Common.{◌≡◌, ◌⊎◌, ℕ, zero, suc, ◌+◌, ◌-◌, ◌*◌, ◌<◌, ◌≤◌, ◌==◌, ◌&&◌, Bool, true, false, List, [], length}
-use Rattle.std.proofs.Common.{map, Option, refl, ap, ap₂, ◌∙◌, sym, subst, arith, inl, inr, cond}
-use Rattle.std.specs.Prelude.{nat_le, nat_lt, not, option_map, unwrap_or, if◌then◌else◌}
+-- The packet of a slot, by the epochs of a gateway of which some are lost.
+use Rattle.std.proofs.Common.{◌≡◌, ℕ, ◌+◌, ◌-◌, ◌*◌, ◌<◌, ◌≤◌, ◌==◌, ◌&&◌, Bool, true, false, List, [], length}
+use Rattle.std.proofs.Common.{Option, refl, ap, ap₂, ◌∙◌, sym, subst, arith, inl, inr, cond}
+use Rattle.std.specs.Prelude.{not, option_map, unwrap_or, if◌then◌else◌}
 use Rattle.std.specs.List.{range_with_len, list_any, find, filter}
-use Rattle.std.proofs.lemmas.Bool.{cases_lt, cases_eq, both_ways, le-leb, lt-leb, lt-ltb, le-ltb, false_from_ne_true, eqb-true}
+use Rattle.std.proofs.lemmas.Bool.{cases_lt, cases_eq, both_ways, le-leb, lt-ltb, false_from_ne_true, eqb-true}
 use Rattle.std.proofs.Math.Nat.{mul-le-mul_right}
 use Rattle.ts_packet.specs.Null.{null_packet}
 use Rattle.plp_config.specs.Capacity.{IsPlan, up_bytes}
 use Rattle.plp_config.specs.Plps.{plp_at}
-use Rattle.plp_config.specs.SlotTime.{num, den, slots_by, InRange}
-use Rattle.plp_config.specs.Laws.{ReleasedOld, RangesPartition, CountRises, SlotLength, FieldRange, UserPacketRange}
+use Rattle.plp_config.specs.SlotTime.{num, den, slots_by, epoch_ticks, InRange}
+use Rattle.plp_config.specs.Laws.{ReleasedOld, RangesPartition, CountRises, SoundTimes, FrameTicks, SpreadDividesFrames}
+use Rattle.plp_config.specs.Laws.{FieldRange, UserPacketRange}
 use Rattle.plp_config.specs.declared.config.Config.{Config}
 use Rattle.null_delete.specs.Deletion.{kept_slots}
 use Rattle.mode_adapt.specs.Queue.{Rates, sent, sent_before}
 use Rattle.mode_adapt.specs.Blocks.{rates_of, plp_keeps}
 use Rattle.packet_slots.specs.declared.slot_rule.SlotRule.{SlotRule}
-use Rattle.packet_slots.specs.Packets.{packet_of}
+use Rattle.packet_slots.specs.Sound.{IsSound}
 use Rattle.packet_slots.specs.Strings.{Item, item_values}
-use Rattle.packet_slots.specs.Packets.{UserPacket, user_packets}
+use Rattle.packet_slots.specs.Packets.{UserPacket, packet_of, user_packets}
 use Rattle.packet_slots.specs.Readback.{counts, counted, slot_packet}
-use Rattle.packet_slots.specs.Records.{first_slot, readback}
-use Rattle.packet_slots.specs.Times.{due_after}
-use Rattle.packet_slots.proofs.ListLemmas.{map_same}
 use Rattle.packet_slots.proofs.PlaceLemmas.{all_map}
+use Rattle.plp_receiver.specs.Epochs.{slot_rule}
 use Rattle.recover.proofs.KeptSlots.{kept_slot, KeptFollow}
-use Rattle.frame_records.specs.Recover.{is_carried, is_touched, recovered, recover}
-use Rattle.recover.specs.Told.{epoch_rule, told_record, told_records, ArePackets, IsEpoch}
-use Rattle.recover.specs.Laws.{SlotRecovers, ReadbackRecovers}
+use Rattle.frame_records.specs.Recover.{is_carried, is_touched, recovered}
+use Rattle.recover.specs.Told.{ArePackets}
+use Rattle.recover.specs.Laws.{InterleavingIsEpoch, SlotRecovers}
 use Rattle.recover.proofs.NumberLemmas.{is_kept_slot, own_number}
 use Rattle.recover.proofs.FoundLemmas.{all_in_range, each_in_range, filter_all, all_filter, none_any, any_none, all_kept, Has}
 use Rattle.recover.proofs.FoundLemmas.{finds, finds_none, packet_back}
-use Rattle.recover.proofs.FrameLemmas as F
+use Rattle.recover.proofs.CarriedLemmas as C
+use Rattle.recover.proofs.SentLemmas as S
 use Rattle.recover.proofs.RunLemmas as R
-
-and_no : (b : Bool) → (b && false) ≡ false
-and_no true = refl
-and_no false = refl
-
-range_len : {X : Type 0} (f : ℕ → X) (n a : ℕ) → length (map f (range_with_len a n)) ≡ n
-range_len f zero a = refl
-range_len f (suc n) a = ap suc (range_len f n (a + 1))
-
-two_less : (n ticks : ℕ) → n * ticks - 3 * ticks ≤ (n - 2) * ticks
-two_less zero ticks = omega arith
-two_less (suc zero) ticks = let e : 1 * ticks ≡ ticks = omega arith in omega (arith, e)
-two_less (suc (suc n)) ticks =
-    let e : suc (suc n) * ticks ≡ n * ticks + 2 * ticks = omega arith in
-    let f : suc (suc n) - 2 ≡ n = omega arith in
-    subst (λ (k : ℕ). suc (suc n) * ticks - 3 * ticks ≤ k * ticks) (sym f) (omega (arith, e))
 
 -- What the laws of the times say besides.
 pub record Times : Type 0 where
@@ -55,13 +39,16 @@ pub record Times : Type 0 where
   pub partition : RangesPartition
   pub rises : CountRises
 
-module _ (c : Config) (plp ticks : ℕ) (packet : ℕ → List ℕ) (law : F.Sending) (times : Times) (follow : KeptFollow)
-    (is : F.IsGateway c plp ticks packet) (muted : ℕ → Bool) (first count : ℕ) where
+pub times_by : ReleasedOld → RangesPartition → CountRises → Times
+times_by a b d = record { old = a; partition = b; rises = d }
+
+module _ (c : Config) (plp : ℕ) (packet : ℕ → List ℕ) (law : S.Sending) (times : Times) (follow : KeptFollow)
+    (is : S.IsGateway c plp packet) (lost : ℕ → Bool) (first count : ℕ) where
   abbrev r : SlotRule
-  r = epoch_rule c plp ticks
+  r = slot_rule c plp
 
   abbrev rates : Rates
-  rates = rates_of c plp ticks
+  rates = rates_of c plp (epoch_ticks c plp)
 
   abbrev keeps : ℕ → Bool
   keeps = plp_keeps c plp packet
@@ -70,16 +57,16 @@ module _ (c : Config) (plp ticks : ℕ) (packet : ℕ → List ℕ) (law : F.Sen
   len = up_bytes c plp
 
   abbrev end : ℕ
-  end = slots_by c plp ((first + count) * ticks)
+  end = slots_by c plp ((first + count) * epoch_ticks c plp)
 
   abbrev slots : ℕ → ℕ
   slots n = kept_slot keeps end n
 
-  abbrev frames : List ℕ
-  frames = filter muted (range_with_len first count)
+  abbrev missing : List ℕ
+  missing = filter lost (range_with_len first count)
 
   one : 1 ≤ len
-  one = F.one c plp ticks packet end law is
+  one = S.one c plp packet end law is
 
   num_pos : 0 < num c
   num_pos = let a = is.sound.times.some in let b = is.sound.times.long in omega (arith, a, b)
@@ -87,34 +74,35 @@ module _ (c : Config) (plp ticks : ℕ) (packet : ℕ → List ℕ) (law : F.Sen
   den_pos : 0 < den c plp
   den_pos = let a = is.sound.times.some in omega (arith, a)
 
-  covers : (m : ℕ) → m ≤ first + count → slots_by c plp (m * ticks) ≤ end
-  covers m l = times.rises (num c) (den c plp) (m * ticks) ((first + count) * ticks) num_pos (mul-le-mul_right ticks l)
+  covers : (m : ℕ) → m ≤ first + count → slots_by c plp (m * epoch_ticks c plp) ≤ end
+  covers m l = times.rises (num c) (den c plp) (m * epoch_ticks c plp) ((first + count) * epoch_ticks c plp) num_pos
+      (mul-le-mul_right (epoch_ticks c plp) l)
 
   abbrev IsOwn : UserPacket → Type 0
-  IsOwn up = R.IsOwn c plp ticks packet end law is (follow r _ end) muted first count covers up
+  IsOwn up = R.IsOwn c plp packet end law is (follow r _ end) lost first count covers up
 
   abbrev z : List Item
-  z = R.rest_items c plp ticks packet end law is (follow r _ end) muted first count covers first count
+  z = R.rest_items c plp packet end law is (follow r _ end) lost first count covers first count
 
   abbrev ups : List UserPacket
   ups = user_packets r z
 
-  gives : R.Gives c plp ticks packet end law is (follow r _ end) muted first count covers first count
+  gives : R.Gives c plp packet end law is (follow r _ end) lost first count covers first count
       (sent_before rates keeps first) []
   gives =
-      R.gives c plp ticks packet end law is (follow r _ end) muted first count covers count first (sent_before rates keeps first)
+      R.gives c plp packet end law is (follow r _ end) lost first count covers count first (sent_before rates keeps first)
       [] refl
       (record {
-        bytes = F.no_bytes c plp ticks packet end law is (sent_before rates keeps first);
+        bytes = S.no_bytes c plp packet end law is (sent_before rates keeps first);
         reaches = omega arith;
         past = λ j a b on. absurd (omega arith);
       })
 
   before_rises : (a b : ℕ) → a ≤ b → sent_before rates keeps a ≤ sent_before rates keeps b
-  before_rises a b l = R.before_rises c plp ticks packet end law is (follow r _ end) a b l
+  before_rises a b l = C.before_rises law.within rates keeps is.within.slot a b l
 
   before_next : (m : ℕ) → sent_before rates keeps (m + 1) ≡ sent rates keeps m
-  before_next m = R.before_next c plp ticks packet end law is (follow r _ end) m
+  before_next m = C.before_next rates keeps m
 
   counted_is : counted r z ≡ ups
   unfolding counted
@@ -148,65 +136,41 @@ module _ (c : Config) (plp ticks : ℕ) (packet : ℕ → List ℕ) (law : F.Sen
     abbrev n : ℕ
     n = length (kept_slots keeps k)
 
-    -- a frame that has nothing of the user packet carries none of its bytes
-    none_carried : (m i : ℕ) → (sent rates keeps m ≤ len * n) ⊎ (len * n + len ≤ sent_before rates keeps m) → len * n ≤ i
-        → i < len * n + len → is_carried rates keeps m i ≡ false
-    none_carried m i (inl before) a b = ap (λ (t : Bool). nat_le (sent_before rates keeps m) i && t)
-        (le-ltb i (sent rates keeps m) (omega arith)) ∙ and_no _
-    none_carried m i (inr behind) a b =
-        ap (λ (t : Bool). t && nat_lt i (sent rates keeps m)) (lt-leb (sent_before rates keeps m) i (omega arith))
-
-    is_whole : (up : UserPacket) → IsOwn up → up.slot ≡ k → is_touched rates keeps frames k ≡ false
+    is_whole : (up : UserPacket) → IsOwn up → up.slot ≡ k → is_touched rates keeps missing k ≡ false
     is_whole up own e =
         let place : len * n ≡ len * own.n = ap (λ (j : ℕ). len * length (kept_slots keeps j)) (sym e ∙ own.slot)
-        ∙ F.place_is c plp ticks packet end law is end own.n own.inside in
-        let misses : (m : ℕ) → (sent rates keeps m ≤ len * own.n) ⊎ (len * own.n + len ≤ sent_before rates keeps m)
-        → (sent rates keeps m ≤ len * n) ⊎ (len * n + len ≤ sent_before rates keeps m) =
-        λ m t. subst (λ (p : ℕ). (sent rates keeps m ≤ p) ⊎ (p + len ≤ sent_before rates keeps m)) (sym place) t in
-        none_any (λ m. list_any (is_carried rates keeps m) (range_with_len (len * n) len)) frames
-        (filter_all (λ (m : ℕ). list_any (is_carried rates keeps m) (range_with_len (len * n) len) ≡ false) muted
+        ∙ S.place_is c plp packet end law is end own.n own.inside in
+        let misses : (m : ℕ) → C.Misses rates keeps m (len * own.n) → C.Misses rates keeps m (len * n) =
+        λ m t. subst (C.Misses rates keeps m) (sym place) t in
+        none_any (λ m. list_any (is_carried rates keeps m) (range_with_len (len * n) len)) missing
+        (filter_all (λ (m : ℕ). list_any (is_carried rates keeps m) (range_with_len (len * n) len) ≡ false) lost
         (range_with_len first count)
-        (all_in_range (λ (m : ℕ). muted m ≡ true → list_any (is_carried rates keeps m) (range_with_len (len * n) len) ≡ false)
+        (all_in_range (λ (m : ℕ). lost m ≡ true → list_any (is_carried rates keeps m) (range_with_len (len * n) len) ≡ false)
         count first
-        (λ m a b on. none_any (is_carried rates keeps m) (range_with_len (len * n) len)
-        (all_in_range (λ (i : ℕ). is_carried rates keeps m i ≡ false) len (len * n)
-        (λ i x y. none_carried m i (misses m (own.whole m a b on)) x y)))))
+        (λ m a b on. C.all_missed rates keeps m (len * n) (misses m (own.whole m a b on)))))
 
-    module _ (on : keeps k ≡ true) (clear : is_touched rates keeps frames k ≡ false) (from : first_slot r first ≤ k)
-        (below : k < slots_by c plp ((first + count - 2) * ticks)) where
-      -- a muted frame carries none of its bytes
-      not_carried : (m i : ℕ) → first ≤ m → m < first + count → muted m ≡ true → len * n ≤ i → i < len * n + len
+    module _ (on : keeps k ≡ true) (clear : is_touched rates keeps missing k ≡ false)
+        (from : slots_by c plp ((first - 1) * epoch_ticks c plp) ≤ k)
+        (below : k < slots_by c plp ((first + count - 2) * epoch_ticks c plp)) where
+      -- a lost epoch carries none of its bytes
+      not_carried : (m i : ℕ) → first ≤ m → m < first + count → lost m ≡ true → len * n ≤ i → i < len * n + len
           → sent_before rates keeps m ≤ i → i < sent rates keeps m → ⊥
       not_carried m i a b off x y p q =
-          let each = all_filter (λ (j : ℕ). list_any (is_carried rates keeps j) (range_with_len (len * n) len) ≡ false) muted
+          let each = all_filter (λ (j : ℕ). list_any (is_carried rates keeps j) (range_with_len (len * n) len) ≡ false) lost
           (range_with_len first count)
-          (any_none (λ j. list_any (is_carried rates keeps j) (range_with_len (len * n) len)) frames clear) in
-          let here = each_in_range (λ (j : ℕ). muted j ≡ true → list_any (is_carried rates keeps j) (range_with_len (len * n) len)
+          (any_none (λ j. list_any (is_carried rates keeps j) (range_with_len (len * n) len)) missing clear) in
+          let here = each_in_range (λ (j : ℕ). lost j ≡ true → list_any (is_carried rates keeps j) (range_with_len (len * n) len)
           ≡ false) count first each m a b off in
           let none = each_in_range (λ (j : ℕ). is_carried rates keeps m j ≡ false) len (len * n)
           (any_none (is_carried rates keeps m) (range_with_len (len * n) len) here) i x y in
           both_ways _ none (ap₂ (λ (s t : Bool). s && t) (le-leb _ _ p) (lt-ltb _ _ q))
 
-      module _ (m : ℕ) (inside : InRange (num c) (den c plp) ticks m k) where
+      module _ (m : ℕ) (inside : InRange (num c) (den c plp) (epoch_ticks c plp) m k) where
         since : first ≤ m
-        since = elim (cases_lt m first) [
-          | inl lt ↦
-              let q : m * ticks ≤ (first - 1) * ticks = mul-le-mul_right ticks (omega arith) in
-              let s = times.rises (num c) (den c plp) (m * ticks) ((first - 1) * ticks) num_pos q in
-              let h = inside.1 in
-              absurd (omega (arith, s, h, from))
-          | inr ge ↦ ge
-        ]
+        since = C.since times.rises (num c) (den c plp) (epoch_ticks c plp) m k num_pos inside first from
 
         until : m + 2 ≤ first + count
-        until = elim (cases_lt (m - 1) (first + count - 2)) [
-          | inl lt ↦ omega (arith, lt)
-          | inr ge ↦
-              let q : (first + count - 2) * ticks ≤ (m - 1) * ticks = mul-le-mul_right ticks ge in
-              let s = times.rises (num c) (den c plp) ((first + count - 2) * ticks) ((m - 1) * ticks) num_pos q in
-              let h = inside.0 in
-              absurd (omega (arith, s, h, below))
-        ]
+        until = C.until times.rises (num c) (den c plp) (epoch_ticks c plp) m k num_pos inside (first + count) below
 
         begins : (sent_before rates keeps m ≤ len * n) × (len * n < sent rates keeps m)
         begins = (law.begins rates keeps m k is.within on).begins inside
@@ -217,8 +181,7 @@ module _ (c : Config) (plp ticks : ℕ) (packet : ℕ → List ℕ) (law : F.Sen
         two : sent_before rates keeps (m + 2) ≡ sent rates keeps (m + 1)
         two = let e : m + 2 ≡ m + 1 + 1 = omega arith in ap (sent_before rates keeps) e ∙ before_next (m + 1)
 
-        misses : (i : ℕ) → first ≤ i → i < first + count → muted i ≡ true → (sent rates keeps i ≤ len * n)
-            ⊎ (len * n + len ≤ sent_before rates keeps i)
+        misses : (i : ℕ) → first ≤ i → i < first + count → lost i ≡ true → C.Misses rates keeps i (len * n)
         misses i a b off =
             let begun = begins in
             elim (cases_lt i m) [
@@ -257,76 +220,65 @@ module _ (c : Config) (plp ticks : ℕ) (packet : ℕ → List ℕ) (law : F.Sen
 
       has_one : Has k ups
       has_one =
-          let p = times.partition (num c) (den c plp) ticks k num_pos den_pos (let t = is.sound.times.least in omega (arith, t)) in
+          let p = times.partition (num c) (den c plp) (epoch_ticks c plp) k num_pos den_pos is.sound.times.least in
           has_it p.0 p.1.inside
 
-    slot_is : first_slot r first ≤ k → k < slots_by c plp ((first + count - 2) * ticks)
-        → slot_packet r z k ≡ recovered c plp ticks packet frames k
-    slot_is from below = go (keeps k) refl (is_touched rates keeps frames k) refl
+    slot_is : slots_by c plp ((first - 1) * epoch_ticks c plp) ≤ k → k < slots_by c plp ((first + count - 2) * epoch_ticks c plp)
+        → slot_packet r z k ≡ recovered c plp (epoch_ticks c plp) packet missing k
+    slot_is from below = go (keeps k) refl (is_touched rates keeps missing k) refl
       where
-        by_tests : (a t : Bool) → keeps k ≡ a → is_touched rates keeps frames k ≡ t
-            → (if a && not t then packet k else null_packet) ≡ recovered c plp ticks packet frames k
+        by_tests : (a t : Bool) → keeps k ≡ a → is_touched rates keeps missing k ≡ t
+            → (if a && not t then packet k else null_packet) ≡ recovered c plp (epoch_ticks c plp) packet missing k
         by_tests a t e f = sym (ap₂ (λ (x y : Bool). cond {A = List ℕ} (x && not y) (packet k) null_packet) e f)
 
-        go : (a : Bool) → keeps k ≡ a → (t : Bool) → is_touched rates keeps frames k ≡ t
-            → slot_packet r z k ≡ recovered c plp ticks packet frames k
+        go : (a : Bool) → keeps k ≡ a → (t : Bool) → is_touched rates keeps missing k ≡ t
+            → slot_packet r z k ≡ recovered c plp (epoch_ticks c plp) packet missing k
         go true e false f = one_has (has_one e f from below) ∙ by_tests true false e f
         go true e true f = none_has (λ up own s. both_ways _ (is_whole up own s) f) ∙ by_tests true true e f
         go false e t f =
             none_has (λ up own s. both_ways _ e (ap keeps (sym s ∙ own.slot) ∙ is_kept_slot keeps end own.n own.inside))
             ∙ by_tests false t e f
 
-  -- a slot that is given out
-  long_over : (k : ℕ) → k < due_after r (first + count) → k < slots_by c plp ((first + count - 2) * ticks)
-  long_over k l =
-      let p = times.old (num c) (den c plp) ticks ((first + count) * ticks) k num_pos den_pos l in
-      let q = times.rises (num c) (den c plp) ((first + count) * ticks - 3 * ticks) ((first + count - 2) * ticks) num_pos
-      (two_less (first + count) ticks) in
-      omega (arith, p, q)
-
-  readback_is : readback r first (told_records c plp ticks packet muted first count)
-      ≡ recover c plp ticks packet muted first count
-  unfolding readback
-  readback_is =
-      let l : length (told_records c plp ticks packet muted first count) ≡ count =
-      range_len (told_record c plp ticks packet muted) count first in
-      ap (λ (j : ℕ). map (slot_packet r z) (range_with_len (first_slot r first) (due_after r (first + j) - first_slot r first))) l
-      ∙ map_same (slot_packet r z) (recovered c plp ticks packet frames) (due_after r (first + count) - first_slot r first)
-      (first_slot r first)
-      (λ k a b. slot_is k a (long_over k (omega arith)))
-
 up_is : (c : Config) (plp : ℕ) → up_bytes c plp ≡ (if (plp_at c.plps plp).delete then 188 else 187)
 unfolding up_bytes
 up_is c plp = refl
 
-pub gateway_is : SlotLength → UserPacketRange → FieldRange → (c : Config) (plp ticks : ℕ) (packet : ℕ → List ℕ) → IsPlan c
-    → plp < length c.plps → IsEpoch c plp ticks → ArePackets packet → F.IsGateway c plp ticks packet
-gateway_is length_is sizes field c plp ticks packet plan l epoch packets =
-    let s = length_is c plp plan.rules l in
+-- What the laws say of a plan besides.
+pub record PlanLaws : Type 0 where
+  pub epochs : InterleavingIsEpoch
+  pub times : SoundTimes
+  pub frame : FrameTicks
+  pub spread : SpreadDividesFrames
+  pub up : UserPacketRange
+  pub field : FieldRange
+
+pub plans_by : InterleavingIsEpoch → SoundTimes → FrameTicks → SpreadDividesFrames → UserPacketRange → FieldRange → PlanLaws
+plans_by a b d e f g = record { epochs = a; times = b; frame = d; spread = e; up = f; field = g }
+
+pub sound_is : PlanLaws → (c : Config) (plp : ℕ) → IsPlan c → plp < length c.plps → IsSound (slot_rule c plp)
+sound_is laws c plp plan inside =
+    let ticks = laws.frame c plan.rules in
     record {
-      sound = record {
-        times = record {
-          some = omega (arith, s);
-          long = omega (arith, s);
-          small = omega (arith, s);
-          least = epoch.some;
-          most = epoch.most;
-        };
-        up = sizes c plp;
-      };
+      times = laws.times c plp plan.rules inside;
+      frame = (omega (arith, ticks.0), ticks.1);
+      spread = (laws.spread c plp plan.rules inside).0;
+      epoch = refl;
+      up = laws.up c plp;
+    }
+
+pub gateway_is : PlanLaws → (c : Config) (plp : ℕ) (packet : ℕ → List ℕ) → IsPlan c → plp < length c.plps → ArePackets packet
+    → S.IsGateway c plp packet
+gateway_is laws c plp packet plan inside packets =
+    let epoch = laws.epochs c plp plan inside in
+    record {
+      sound = sound_is laws c plp plan inside;
       within = epoch.within;
       fits = epoch.holds;
       up = up_is c plp;
-      field = let f = field c plp in (omega (arith, f), omega (arith, f));
+      field = let f = laws.field c plp in (f.0, f.1);
       packets = packets;
     }
 
-pub readback_recovers : F.Sending → Times → KeptFollow → SlotLength → UserPacketRange → FieldRange → ReadbackRecovers
-readback_recovers law times follow length_is sizes field c plp ticks packet muted first count plan l epoch packets =
-    readback_is c plp ticks packet law times follow (gateway_is length_is sizes field c plp ticks packet plan l epoch packets)
-    muted first count
-
-pub slot_recovers : F.Sending → Times → KeptFollow → SlotLength → UserPacketRange → FieldRange → SlotRecovers
-slot_recovers law times follow length_is sizes field c plp ticks packet muted first count k plan l epoch packets from below =
-    slot_is c plp ticks packet law times follow (gateway_is length_is sizes field c plp ticks packet plan l epoch packets) muted
-    first count k from below
+pub slot_recovers : S.Sending → Times → KeptFollow → PlanLaws → SlotRecovers
+slot_recovers law times follow laws c plp packet lost first count k plan inside packets from below =
+    slot_is c plp packet law times follow (gateway_is laws c plp packet plan inside packets) lost first count k from below

@@ -15,7 +15,7 @@ use Rattle.packet_slots.specs.Sound.{IsSound}
 pub record IsTimed (r : SlotRule) (slot : ℕ) (x : Item) : Type 0 where
   pub iscr : ℕ
   pub mark : x.mark ≡ Timed iscr
-  pub tells : slot_of_iscr r.times x.frame iscr ≡ Some slot
+  pub tells : slot_of_iscr r.times x.epoch iscr ≡ Some slot
 
 -- the slot of a user packet follows from the one before, which stands in the string too
 pub record IsNext (r : SlotRule) (z : List Item) (i : ℕ) : Type 0 where
@@ -52,20 +52,20 @@ RegularJoin = (r : SlotRule) (slots dnps : ℕ → ℕ) (place : ℕ) (z y : Lis
 
 -- What a block tells of the bytes from a place on: SYNCD is the place of user packet n, the first from there, if that begins in
 -- the block, and ISSY then tells its slot. The last byte of a user packet is its dnp.
-pub record IsBlock (r : SlotRule) (slots dnps : ℕ → ℕ) (frame place n : ℕ) (b : Block) : Type 0 where
+pub record IsBlock (r : SlotRule) (slots dnps : ℕ → ℕ) (epoch place n : ℕ) (b : Block) : Type 0 where
   pub least : place ≤ r.up_len * n
   pub close : r.up_len * n < place + r.up_len
   pub none : place + length b.field ≤ r.up_len * n → b.first ≡ None
   pub some : r.up_len * n < place + length b.field → b.first ≡ Some (r.up_len * n - place)
   pub issy : r.up_len * n < place + length b.field → (iscr : ℕ) × (first_mark b.issy ≡ Timed iscr)
-      × (slot_of_iscr r.times frame iscr ≡ Some (slots n))
+      × (slot_of_iscr r.times epoch iscr ≡ Some (slots n))
   pub values : (k i : ℕ) → place + i + 1 ≡ r.up_len * suc k → i < length b.field → r.deletes ≡ true → get_or b.field i 0 ≡ dnps k
 
 -- Its items are such a string.
 abbrev pub BlockRegular : Type 0
-BlockRegular = (r : SlotRule) (slots dnps : ℕ → ℕ) (frame place n : ℕ) (b : Block) → IsSound r
-    → IsBlock r slots dnps frame place n b
-    → IsRegular r slots dnps place (block_items r.up_len frame b)
+BlockRegular = (r : SlotRule) (slots dnps : ℕ → ℕ) (epoch place n : ℕ) (b : Block) → IsSound r
+    → IsBlock r slots dnps epoch place n b
+    → IsRegular r slots dnps place (block_items r.up_len epoch b)
 
 -- user packet n of a string that begins at a place of the stream
 abbrev pub up_of : SlotRule → (ℕ → ℕ) → ℕ → List Item → ℕ → UserPacket
@@ -85,10 +85,10 @@ WholePackets = (r : SlotRule) (slots dnps : ℕ → ℕ) (place n bound : ℕ) (
 
 -- Across a gap no user packet goes on.
 abbrev pub GapParts : Type 0
-GapParts = (r : SlotRule) (z y : List Item) (frame : ℕ) → IsSound r → user_packets r (z ++ gap frame ∷ y) ≡ user_packets r z
+GapParts = (r : SlotRule) (z y : List Item) (epoch : ℕ) → IsSound r → user_packets r (z ++ gap epoch ∷ y) ≡ user_packets r z
     ++ user_packets r y
 
 -- The ISCR of a slot tells it among those of its range.
 abbrev pub IscrOfSlot : Type 0
-IscrOfSlot = (r : SlotRule) (frame slot : ℕ) → IsSound r → InRange r.times.num r.times.den r.times.epoch frame slot
-    → slot_of_iscr r.times frame (slot_start r.times.num r.times.den slot % 2 ^ 22) ≡ Some slot
+IscrOfSlot = (r : SlotRule) (epoch slot : ℕ) → IsSound r → InRange r.times.num r.times.den r.times.epoch epoch slot
+    → slot_of_iscr r.times epoch (slot_start r.times.num r.times.den slot % 2 ^ 22) ≡ Some slot

@@ -79,25 +79,25 @@ module _ (r : SlotRule) (slots dnps : ℕ → ℕ) (place bound : ℕ) (z : List
         let one : is_one w ≡ true = ap is_one split ∙ one_from (at z i) (take (r.up_len - 1) (drop (i + 1) z)) s rest in
         ap₂ (λ (a b : Bool). a && b) one (ap (λ (x : Item). x.can_end) last ∙ end.can_end)
 
-    slot_is : (before : Option ℕ) → is_start (at z i).mark ≡ true → slot_of r w before ≡ slot_by r (at z i).mark (at z i).frame
+    slot_is : (before : Option ℕ) → is_start (at z i).mark ≡ true → slot_of r w before ≡ slot_by r (at z i).mark (at z i).epoch
         (if r.deletes then (at z (i + (r.up_len - 1))).value else 0) before
     unfolding slot_of
     slot_is before s =
-        ap (λ (b : Bool). cond {A = Option ℕ} b (slot_by r (first_item w).mark (first_item w).frame (dnp_of r w) before) None)
+        ap (λ (b : Bool). cond {A = Option ℕ} b (slot_by r (first_item w).mark (first_item w).epoch (dnp_of r w) before) None)
         (complete s)
-        ∙ ap₂ (λ (x y : Item). slot_by r x.mark x.frame (if r.deletes then y.value else 0) before) first last
+        ∙ ap₂ (λ (x y : Item). slot_by r x.mark x.epoch (if r.deletes then y.value else 0) before) first last
 
     timed : (before : Option ℕ) → IsTimed r (slots n) (at z i) → slot_of r w before ≡ Some (slots n)
     timed before t =
         slot_is before (ap is_start t.mark)
-        ∙ ap (λ (m : Mark). slot_by r m (at z i).frame (if r.deletes then (at z (i + (r.up_len - 1))).value else 0) before) t.mark
+        ∙ ap (λ (m : Mark). slot_by r m (at z i).epoch (if r.deletes then (at z (i + (r.up_len - 1))).value else 0) before) t.mark
         ∙ t.tells
 
     next : (before : Option ℕ) → IsNext r z i → (m : ℕ) → before ≡ Some m → slots n ≡ m + 1 + (if r.deletes then dnps n else 0)
         → slot_of r w before ≡ Some (slots n)
     next before t m b f =
         slot_is before (ap is_start t.mark)
-        ∙ ap₂ (λ (k : Mark) (o : Option ℕ). slot_by r k (at z i).frame (if r.deletes then (at z (i + (r.up_len - 1))).value
+        ∙ ap₂ (λ (k : Mark) (o : Option ℕ). slot_by r k (at z i).epoch (if r.deletes then (at z (i + (r.up_len - 1))).value
         else 0) o) t.mark b
         ∙ ap (λ (d : ℕ). Some (m + 1 + d)) dnp_is
         ∙ ap (λ (k : ℕ). Some k) (sym f)
@@ -191,22 +191,22 @@ none_regular r slots dnps place = record {
 
 -- the items of some bytes are as many, each as its block tells
 abbrev AreTold : ℕ → ℕ → Block → List ℕ → ℕ → Type 0
-AreTold len frame b vs i =
-    (length (items_from len frame b i vs) ≡ length vs)
-    × ((k : ℕ) → k < length vs → at (items_from len frame b i vs) k ≡ item_at len frame b (i + k) (get_or vs k 0))
+AreTold len epoch b vs i =
+    (length (items_from len epoch b i vs) ≡ length vs)
+    × ((k : ℕ) → k < length vs → at (items_from len epoch b i vs) k ≡ item_at len epoch b (i + k) (get_or vs k 0))
 
-pub items_told : (len frame : ℕ) (b : Block) (vs : List ℕ) (i : ℕ) → AreTold len frame b vs i
-items_told len frame b [] i = (refl, λ k l. absurd (omega (arith, l)))
-items_told len frame b (v ∷ vs) i = go (items_told len frame b vs (i + 1))
+pub items_told : (len epoch : ℕ) (b : Block) (vs : List ℕ) (i : ℕ) → AreTold len epoch b vs i
+items_told len epoch b [] i = (refl, λ k l. absurd (omega (arith, l)))
+items_told len epoch b (v ∷ vs) i = go (items_told len epoch b vs (i + 1))
   where
-    go : AreTold len frame b vs (i + 1) → AreTold len frame b (v ∷ vs) i
+    go : AreTold len epoch b vs (i + 1) → AreTold len epoch b (v ∷ vs) i
     go rest = (ap suc rest.0, each)
       where
-        each : (k : ℕ) → k < suc (length vs) → at (items_from len frame b i (v ∷ vs)) k
-            ≡ item_at len frame b (i + k) (get_or (v ∷ vs) k 0)
-        each zero l = let e : i ≡ i + 0 = omega arith in ap (λ (j : ℕ). item_at len frame b j v) e
+        each : (k : ℕ) → k < suc (length vs) → at (items_from len epoch b i (v ∷ vs)) k
+            ≡ item_at len epoch b (i + k) (get_or (v ∷ vs) k 0)
+        each zero l = let e : i ≡ i + 0 = omega arith in ap (λ (j : ℕ). item_at len epoch b j v) e
         each (suc k) l = let e : i + 1 + k ≡ i + suc k = omega arith in rest.1 k (omega (arith, l))
-            ∙ ap (λ (j : ℕ). item_at len frame b j (get_or vs k 0)) e
+            ∙ ap (λ (j : ℕ). item_at len epoch b j (get_or vs k 0)) e
 
 apart : (len n m t : ℕ) → len * n ≡ len * m + t → t < len → 1 ≤ t → ⊥
 apart len n m t e l p =
@@ -216,14 +216,14 @@ apart len n m t e l p =
       | inr ge ↦ let q : len * n ≤ len * m = mul-le-mul_left {m = n} {n = m} len ge in omega (arith, q, e)
     ]
 
-module _ (r : SlotRule) (slots dnps : ℕ → ℕ) (frame place n : ℕ) (b : Block) (sound : IsSound r)
-    (is : IsBlock r slots dnps frame place n b) where
+module _ (r : SlotRule) (slots dnps : ℕ → ℕ) (epoch place n : ℕ) (b : Block) (sound : IsSound r)
+    (is : IsBlock r slots dnps epoch place n b) where
   abbrev mark : ℕ → Mark
   mark i = mark_at r.up_len b i
 
-  pub here : (i : ℕ) → i < length b.field → at (block_items r.up_len frame b) i ≡ item_at r.up_len frame b i (get_or b.field i 0)
-  here i l = let z : 0 + i ≡ i = omega arith in (items_told r.up_len frame b b.field 0).1 i l
-      ∙ ap (λ (j : ℕ). item_at r.up_len frame b j (get_or b.field i 0)) z
+  pub here : (i : ℕ) → i < length b.field → at (block_items r.up_len epoch b) i ≡ item_at r.up_len epoch b i (get_or b.field i 0)
+  here i l = let z : 0 + i ≡ i = omega arith in (items_told r.up_len epoch b b.field 0).1 i l
+      ∙ ap (λ (j : ℕ). item_at r.up_len epoch b j (get_or b.field i 0)) z
 
   -- the user packets from n on, by their distance
   distance : (k : ℕ) → n ≤ k → r.up_len * k ≡ r.up_len * n + (k - n) * r.up_len
@@ -259,7 +259,7 @@ module _ (r : SlotRule) (slots dnps : ℕ → ℕ) (frame place n : ℕ) (b : Bl
   inner k t i e a m l =
       elim (cases_lt (r.up_len * n) (place + length b.field)) [
         | inl lt ↦ elim (cases_lt i (r.up_len * n - place)) [
-          | inl before ↦ mark_before r.up_len frame b (r.up_len * n - place) (is.some lt) i before
+          | inl before ↦ mark_before r.up_len epoch b (r.up_len * n - place) (is.some lt) i before
           | inr ge ↦
               let c = is.least in
               let later : n ≤ k = elim (cases_lt k n) [
@@ -272,15 +272,15 @@ module _ (r : SlotRule) (slots dnps : ℕ → ℕ) (frame place n : ℕ) (b : Bl
               let p = part k t i later e m in
               elim (cases_eq i (r.up_len * n - place)) [
                 | inl same ↦ elim (apart r.up_len n k t (omega (arith, same, e, c)) m a) [ ]
-                | inr ne ↦ mark_inner r.up_len frame b (r.up_len * n - place) (is.some lt) i (omega (arith, ge, ne))
+                | inr ne ↦ mark_inner r.up_len epoch b (r.up_len * n - place) (is.some lt) i (omega (arith, ge, ne))
                     (omega (arith, p, a))
               ]
         ]
-        | inr ge ↦ none_marks r.up_len frame b i (is.none ge)
+        | inr ge ↦ none_marks r.up_len epoch b i (is.none ge)
       ]
 
   first_at : (i : ℕ) → place + i ≡ r.up_len * n → i < length b.field → mark i ≡ first_mark b.issy
-  first_at i e l = mark_first r.up_len frame b (r.up_len * n - place) (is.some (omega (arith, e))) i (omega (arith, e))
+  first_at i e l = mark_first r.up_len epoch b (r.up_len * n - place) (is.some (omega (arith, e))) i (omega (arith, e))
 
   next_at : (k i : ℕ) → n < k → place + i ≡ r.up_len * k → i < length b.field → (mark i ≡ Next) × (r.up_len ≤ i)
   next_at k i lt e l =
@@ -289,7 +289,7 @@ module _ (r : SlotRule) (slots dnps : ℕ → ℕ) (frame place n : ℕ) (b : Bl
       let a = is.least in
       let u = sound.up in
       let below : n ≤ k = omega arith in (
-        mark_next r.up_len frame b (r.up_len * n - place) (is.some (omega (arith, q, s, e))) i (omega (arith, q, s, e, a, u))
+        mark_next r.up_len epoch b (r.up_len * n - place) (is.some (omega (arith, q, s, e))) i (omega (arith, q, s, e, a, u))
             (whole k i below e),
         omega (arith, q, s, e, a),
       )
@@ -304,17 +304,17 @@ module _ (r : SlotRule) (slots dnps : ℕ → ℕ) (frame place n : ℕ) (b : Bl
         | inr ne ↦ ap is_start (next_at k i (let g = reached k i e in omega (arith, g, ne)) e l).0
       ]
 
-  pub regular : IsRegular r slots dnps place (block_items r.up_len frame b)
+  pub regular : IsRegular r slots dnps place (block_items r.up_len epoch b)
   regular = record {
-    inner = λ k t i e a m l. let j : i < length b.field = omega (arith, l, (items_told r.up_len frame b b.field 0).0) in
+    inner = λ k t i e a m l. let j : i < length b.field = omega (arith, l, (items_told r.up_len epoch b b.field 0).0) in
         ap (λ (x : Item). x.mark) (here i j) ∙ inner k t i e a m j;
-    starts = λ k i e l. let j : i < length b.field = omega (arith, l, (items_told r.up_len frame b b.field 0).0) in
+    starts = λ k i e l. let j : i < length b.field = omega (arith, l, (items_told r.up_len epoch b b.field 0).0) in
         elim (cases_eq k n) [
           | inl same ↦ inl (timed k i e j same)
           | inr ne ↦ inr (let g = reached k i e in let p = next_at k i (omega (arith, g, ne)) e j in
               record { mark = ap (λ (x : Item). x.mark) (here i j) ∙ p.0; behind = p.1 })
         ];
-    ends = λ k i e l. let j : i < length b.field = omega (arith, l, (items_told r.up_len frame b b.field 0).0) in
+    ends = λ k i e l. let j : i < length b.field = omega (arith, l, (items_told r.up_len epoch b b.field 0).0) in
         record {
           can_end = ap (λ (x : Item). x.can_end) (here i j) ∙ can k i e j;
           tells = λ d. ap (λ (x : Item). x.value) (here i j) ∙ is.values k i e j d;
@@ -322,22 +322,23 @@ module _ (r : SlotRule) (slots dnps : ℕ → ℕ) (frame place n : ℕ) (b : Bl
   }
     where
       timed : (k i : ℕ) → place + i ≡ r.up_len * k → i < length b.field → k ≡ n
-          → IsTimed r (slots k) (at (block_items r.up_len frame b) i)
+          → IsTimed r (slots k) (at (block_items r.up_len epoch b) i)
       timed k i e j same =
           let f : place + i ≡ r.up_len * n = e ∙ ap (λ (j : ℕ). r.up_len * j) same in
           let t = is.issy (omega (arith, f)) in
           record {
             iscr = t.0;
             mark = ap (λ (x : Item). x.mark) (here i j) ∙ first_at i f j ∙ t.1;
-            tells = ap (λ (x : Item). slot_of_iscr r.times x.frame t.0) (here i j) ∙ t.2 ∙ sym (ap (λ (m : ℕ). Some (slots m)) same);
+            tells = ap (λ (x : Item). slot_of_iscr r.times x.epoch t.0) (here i j) ∙ t.2
+                ∙ sym (ap (λ (m : ℕ). Some (slots m)) same);
           }
 
-      can : (k i : ℕ) → place + i + 1 ≡ r.up_len * suc k → i < length b.field → Ends r.up_len frame b (i + 1) ≡ true
+      can : (k i : ℕ) → place + i + 1 ≡ r.up_len * suc k → i < length b.field → Ends r.up_len epoch b (i + 1) ≡ true
       can k i e j =
           elim (cases_lt (i + 1) (length b.field)) [
-            | inl lt ↦ ends_start r.up_len frame b (i + 1) (starts_at (suc k) (i + 1) (omega (arith, e)) lt)
-            | inr ge ↦ ends_field r.up_len frame b (i + 1) (omega (arith, ge, j))
+            | inl lt ↦ ends_start r.up_len epoch b (i + 1) (starts_at (suc k) (i + 1) (omega (arith, e)) lt)
+            | inr ge ↦ ends_field r.up_len epoch b (i + 1) (omega (arith, ge, j))
           ]
 
 pub block_regular : BlockRegular
-block_regular r slots dnps frame place n b sound is = regular r slots dnps frame place n b sound is
+block_regular r slots dnps epoch place n b sound is = regular r slots dnps epoch place n b sound is

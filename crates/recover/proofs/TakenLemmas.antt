@@ -14,7 +14,7 @@ use Rattle.bb_frame.specs.Laws.{WrittenIsSpelled}
 use Rattle.bb_frame.specs.declared.header.Header.{Header}
 use Rattle.plp_config.specs.Capacity.{up_bytes, field_bytes, block_bytes}
 use Rattle.plp_config.specs.Plps.{plp_at}
-use Rattle.plp_config.specs.SlotTime.{slots_by}
+use Rattle.plp_config.specs.SlotTime.{slots_by, epoch_ticks}
 use Rattle.plp_config.specs.declared.config.Config.{Config}
 use Rattle.null_delete.specs.Deletion.{dnp, kept_slots}
 use Rattle.null_delete.specs.Laws.{DnpFits}
@@ -27,7 +27,7 @@ use Rattle.mode_adapt.specs.Blocks.{block_bits, block_places, blocks_of}
 use Rattle.recover.specs.Told.{told_block, told_blocks, ArePackets}
 use Rattle.plp_receiver.specs.Taken.{block_read, IsOfStream, IsTaken}
 use Rattle.recover.proofs.GatewayLemmas.{ceil_parts}
-use Rattle.recover.proofs.FrameLemmas as F
+use Rattle.recover.proofs.SentLemmas as S
 
 -- Bytes.
 
@@ -157,19 +157,19 @@ good_up c plp x y len n slots id short from =
 
 -- A block.
 
-module _ (c : Config) (plp ticks : ℕ) (packet : ℕ → List ℕ) (m : ℕ) (law : F.Sending) (dnps : DnpFits)
-    (is : F.IsGateway c plp ticks packet) (id : (plp_at c.plps plp).id < 2 ^ 8) (spells : WrittenIsSpelled) where
+module _ (c : Config) (plp : ℕ) (packet : ℕ → List ℕ) (m : ℕ) (law : S.Sending) (dnps : DnpFits)
+    (is : S.IsGateway c plp packet) (id : (plp_at c.plps plp).id < 2 ^ 8) (spells : WrittenIsSpelled) where
   abbrev now : ℕ
-  now = slots_by c plp (m * ticks)
+  now = slots_by c plp (m * epoch_ticks c plp)
 
   abbrev keeps : ℕ → Bool
   keeps = plp_keeps c plp packet
 
   one : 1 ≤ up_bytes c plp
-  one = F.one c plp ticks packet now law is
+  one = S.one c plp packet now law is
 
-  module _ (x y : ℕ) (from : sent_before (rates_of c plp ticks) keeps m ≤ x) (some : x < y)
-      (to : y ≤ sent (rates_of c plp ticks) keeps m) (short : y - x ≤ 6720) where
+  module _ (x y : ℕ) (from : sent_before (rates_of c plp (epoch_ticks c plp)) keeps m ≤ x) (some : x < y)
+      (to : y ≤ sent (rates_of c plp (epoch_ticks c plp)) keeps m) (short : y - x ≤ 6720) where
     abbrev header : Header
     header = header_at c plp x (y - x) (with_place (up_bytes c plp) keeps (first_up (up_bytes c plp) keeps now x y))
 
@@ -185,7 +185,7 @@ module _ (c : Config) (plp ticks : ℕ) (packet : ℕ → List ℕ) (m : ℕ) (l
 
     size : length (bits_of field) ≡ 8 * (y - x)
     size =
-        let s = F.size c plp ticks packet now law is m x y from some to short (omega arith) in
+        let s = S.size c plp packet now law is m x y from some to short (omega arith) in
         length-bits_of field ∙ ap (λ (n : ℕ). 8 * n) s
 
     small_field : Small field
@@ -225,15 +225,15 @@ module _ (c : Config) (plp ticks : ℕ) (packet : ℕ → List ℕ) (m : ℕ) (l
       let b : x + a * len + suc n * len < y + len = elim h [ inl l ↦ l | inr e ↦ absurd (omega (arith, e)) ] in
       ((omega arith, omega (arith, b, s)), places_in len x y n (a + 1) (inl (omega (arith, b, s, t))) pos)
 
-  pub blocks_taken : AllZip (IsTaken (plp_at c.plps plp).delete) (blocks_of c plp ticks packet m)
-      (told_blocks c plp ticks packet m)
+  pub blocks_taken : AllZip (IsTaken (plp_at c.plps plp).delete) (blocks_of c plp (epoch_ticks c plp) packet m)
+      (told_blocks c plp packet m)
   blocks_taken =
-      let x : ℕ = sent_before (rates_of c plp ticks) keeps m in
-      let y : ℕ = sent (rates_of c plp ticks) keeps m in
+      let x : ℕ = sent_before (rates_of c plp (epoch_ticks c plp)) keeps m in
+      let y : ℕ = sent (rates_of c plp (epoch_ticks c plp)) keeps m in
       let len : ℕ = field_bytes c plp in
       let f = is.field in
       let p = (ceil_parts (y - x) len (omega (arith, f))).1 in
-      let order : x ≤ y = (law.within (rates_of c plp ticks) keeps m is.within.slot).0 in
+      let order : x ≤ y = (law.within (rates_of c plp (epoch_ticks c plp)) keeps m is.within.slot).0 in
       let q : div_ceil (y - x) len * len ≡ len * div_ceil (y - x) len = omega arith in
       let z : 0 * len ≡ 0 = omega arith in
       zip_map (IsTaken (plp_at c.plps plp).delete) (λ (from : ℕ). (x ≤ from) × (from < y))

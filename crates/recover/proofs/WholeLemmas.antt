@@ -157,20 +157,21 @@ from_start r two z =
     (reads r two z [] (state_of [] None) (begins_idle r (omega arith))).gains
     ∙ ap (λ (l : List UserPacket). l ++ given r (state_of [] None) z) (none_empty r two)
 
-gap_given : (r : SlotRule) (s : State) (frame : ℕ) (y : List Item) → given r s (gap frame ∷ y) ≡ given r (state_of [] None) y
+gap_given : (r : SlotRule) (s : State) (epoch : ℕ) (y : List Item) → given r s (gap epoch ∷ y) ≡ given r (state_of [] None) y
 unfolding turn
-gap_given r s frame y = refl
+gap_given r s epoch y = refl
 
 pub gap_parts : GapParts
-gap_parts r z y frame sound =
+gap_parts r z y epoch sound =
     let u = sound.up in
     let two : 2 ≤ r.up_len = omega (arith, u) in
-    from_start r two (z ++ gap frame ∷ y)
-    ∙ given_append r (state_of [] None) z (gap frame ∷ y)
-    ∙ ap₂ (λ (a b : List UserPacket). a ++ b) (sym (from_start r two z)) (gap_given r (after r (state_of [] None) z) frame y
+    from_start r two (z ++ gap epoch ∷ y)
+    ∙ given_append r (state_of [] None) z (gap epoch ∷ y)
+    ∙ ap₂ (λ (a b : List UserPacket). a ++ b) (sym (from_start r two z)) (gap_given r (after r (state_of [] None) z) epoch y
     ∙ sym (from_start r two y))
 
 pub iscr_is : IscrFindsSlot → IscrOfSlot
-iscr_is law r frame slot sound range =
-    sym (iscr_found law r.times sound.times frame (slot_start r.times.num r.times.den slot % 2 ^ 22) slot
-    (sym (law r.times.num r.times.den r.times.epoch frame slot sound.times.some sound.times.long sound.times.most range)) range.0 range.1 refl)
+iscr_is law r epoch slot sound range =
+    sym (iscr_found law r.times sound.times epoch (slot_start r.times.num r.times.den slot % 2 ^ 22) slot
+    (sym (law r.times.num r.times.den r.times.epoch epoch slot sound.times.some sound.times.long sound.times.most range))
+    range.0 range.1 refl)

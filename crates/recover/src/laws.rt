@@ -1,7 +1,7 @@
 // Laws of the definitions. Their functions do nothing.
 ghost use Rattle.frame_records.specs.Laws.{NoneLost};
-ghost use Rattle.recover.specs.Laws.{InterleavingIsEpoch, SlotRecovers, ReadbackRecovers, BlocksTaken, RunRecovers, RecordsRecover};
-ghost use Rattle.recover.specs.Laws.{WholeComesBack, RunComesBack};
+ghost use Rattle.recover.specs.Laws.{InterleavingIsEpoch, SlotRecovers, LostEnded, ReadbackRecovers, BlocksTaken, RunRecovers};
+ghost use Rattle.recover.specs.Laws.{RecordsRecover, WholeComesBack, RunComesBack};
 
 use bb_frame::{bit_counts, scramble_twice, written_is_spelled};
 use cell_map::shape_law;
@@ -11,25 +11,27 @@ use l1_signal::{conf_law, dyn_law, post_law, pre_law};
 use mode_adapt::{begin_law, count_law, end_law, first_law, sent_within, within_law};
 use null_delete::{dnp_fits, next_kept, without_deletion};
 use plp_config::{
-    block_law, delay_law, emission_law, iscr_law, length_law, range_law, release_law,
-    run_length_law, slot_time_law, spread_law,
+    block_law, delay_law, emission_law, interleaving_law, iscr_law, length_law, range_law,
+    release_law, run_length_law, slot_time_law, spread_law,
 };
 use plp_receiver::readback_law as once_law;
 use scheduler::{field_law, order_law};
 
 /// The interleaving frames of every plan are epochs.
-pub fn interleaving_law()
+pub fn plan_epochs_law()
     ensures { InterleavingIsEpoch }
 {
     within_law();
     length_law();
 }
 
-/// Readback of the records of epochs, muted ones among them, is what they give back.
+/// Readback of the epochs that end with some frames, muted ones among them, is what the frames give back.
 pub fn epochs_law()
     ensures slot { SlotRecovers }
+    ensures lost { LostEnded }
     ensures readback { ReadbackRecovers }
 {
+    plan_epochs_law();
     sent_within();
     begin_law();
     end_law();
@@ -42,6 +44,7 @@ pub fn epochs_law()
     next_kept();
     without_deletion();
     length_law();
+    spread_law();
     block_law();
 }
 
@@ -49,6 +52,7 @@ pub fn epochs_law()
 pub fn taken_law()
     ensures { BlocksTaken }
 {
+    plan_epochs_law();
     sent_within();
     begin_law();
     end_law();
@@ -58,6 +62,7 @@ pub fn taken_law()
     dnp_fits();
     written_is_spelled();
     length_law();
+    spread_law();
     block_law();
 }
 
@@ -65,7 +70,6 @@ pub fn taken_law()
 pub fn recover_law()
     ensures { RunRecovers }
 {
-    interleaving_law();
     epochs_law();
     taken_law();
     once_law();
@@ -83,6 +87,7 @@ pub fn recover_law()
     length_law();
     block_law();
     spread_law();
+    interleaving_law();
     field_law();
     order_law();
 }
@@ -108,6 +113,7 @@ pub fn whole_law()
     ensures run { RunComesBack }
 {
     recover_law();
+    epochs_law();
     none_law();
     length_law();
     spread_law();

@@ -3,4 +3,4 @@
 
 mod laws;
 
-pub use laws::{epochs_law, interleaving_law, records_law, recover_law, taken_law, whole_law};
+pub use laws::{epochs_law, plan_epochs_law, records_law, recover_law, taken_law, whole_law};

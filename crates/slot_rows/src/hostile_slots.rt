@@ -3,7 +3,7 @@
 // What must come was counted by hand.
 ghost use Rattle.std.specs.Prelude.{◌≡◌, ◌+◌, ◌<◌, true, false, IfOk};
 ghost use Rattle.plp_config.specs.declared.moment.TheConstants.{MOST_FRAMES};
-ghost use Rattle.packet_slots.specs.StandsFor.{frame_of, is_within, due_of};
+ghost use Rattle.packet_slots.specs.StandsFor.{frame_of, is_within, due_of, rule_of};
 
 use packet_slots::{PacketSlots, SlotRule, TakenBlock};
 use plp_config::SlotTimes;
@@ -18,6 +18,8 @@ const RULE: SlotRule = SlotRule {
         den: 10,
         epoch: 1_000,
     },
+    ticks: 1_000,
+    spread: 1,
     up_len: 188,
     deletes: true,
 };
@@ -81,8 +83,10 @@ fn take_first(slots: &mut PacketSlots, row: &Row, string: &[u8; BYTES])
     requires small { frame_of slots.old < MOST_FRAMES }
     requires outside { is_within slots.old ≡ false }
     requires given_out { due_of slots.old ≡ 0 }
+    requires spread { (rule_of slots.old).spread ≡ 1 }
     ensures frame { frame_of slots.new ≡ frame_of slots.old + 1 }
     ensures outside { is_within slots.new ≡ false }
+    ensures rule { rule_of slots.new ≡ rule_of slots.old }
 {
     let end = if row.rest_in.is_some() {
         BYTES - REST
@@ -108,8 +112,10 @@ fn take_later(slots: &mut PacketSlots, has_rest: bool, string: &[u8; BYTES])
     requires small { frame_of slots.old < MOST_FRAMES }
     requires outside { is_within slots.old ≡ false }
     requires given_out { due_of slots.old ≡ 0 }
+    requires spread { (rule_of slots.old).spread ≡ 1 }
     ensures frame { frame_of slots.new ≡ frame_of slots.old + 1 }
     ensures outside { is_within slots.new ≡ false }
+    ensures rule { rule_of slots.new ≡ rule_of slots.old }
 {
     slots.begin_frame();
     if has_rest {
@@ -126,6 +132,7 @@ fn take_later(slots: &mut PacketSlots, has_rest: bool, string: &[u8; BYTES])
 fn give(slots: &mut PacketSlots, given: &mut Vec<u8>) -> Result<(), Fail>
     ensures frame { frame_of slots.new ≡ frame_of slots.old }
     ensures within { is_within slots.new ≡ is_within slots.old }
+    ensures rule { rule_of slots.new ≡ rule_of slots.old }
     ensures due { IfOk result (λ u. due_of slots.new ≡ 0) }
 {
     let mut out = [0; SIZE];

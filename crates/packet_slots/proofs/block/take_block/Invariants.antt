@@ -12,7 +12,7 @@ invariant-loop-at l = record {
   times : KeepsTimes l.fn.window l.window;
   rule : l.assembler.rule ≡ l.fn.assembler.rule;
   both : (r : SlotRule) (z : List Item) → Both r z l.fn.assembler l.fn.window
-      → Both r (z ++ front_of r.up_len l.frame (block_of l.block) l.at) l.assembler l.window;
+      → Both r (z ++ front_of r.up_len l.epoch (block_of l.block) l.at) l.assembler l.window;
 }
 
 abbrev pub decreases-loop-at : goal.decreases-loop-at

@@ -1,9 +1,9 @@
 use Rattle.std.proofs.Common.{◌≡◌, ◌-◌, length}
 use Rattle.std.specs.Cmp.Lexicographic.{pointwise}
-use Rattle.plp_receiver.specs.Readable.{has_size, block_sizes}
+use Rattle.plp_receiver.specs.Readable.{has_size, block_sizes, coming}
 use Rattle.plp_receiver.specs.Sizes.{sizes_from}
 use Rattle.plp_receiver.proofs.readable.has_blocks.Given as goal
 
 abbrev pub invariant-loop-plp : goal.invariant-loop-plp
-invariant-loop-plp l = pointwise has_size l.blocks (block_sizes l.plan l.shape)
-    ≡ pointwise has_size l.rest (sizes_from l.plan l.shape l.plp (length l.plan.plps - l.plp))
+invariant-loop-plp l = pointwise has_size l.blocks (block_sizes l.plan (coming l.plan l.number l.shape))
+    ≡ pointwise has_size l.rest (sizes_from l.plan (coming l.plan l.number l.shape) l.plp (length l.plan.plps - l.plp))

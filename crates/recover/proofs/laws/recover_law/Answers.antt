@@ -8,8 +8,16 @@ returns c =
     (record {
       given = given_by c.parts_law.ensures.whole c.pre_law.ensures.written c.conf_law.ensures.written c.dyn_law.ensures.back
           c.dyn_law.ensures.written c.bit_counts.ensures c.count_law.ensures c.length_law.ensures.slot c.block_law.ensures.field
-          c.block_law.ensures.chunks c.block_law.ensures.cells c.spread_law.ensures.blocks c.field_law.ensures c.order_law.ensures.counts c.shape_law.ensures
-          c.map_test_law.ensures;
+          c.block_law.ensures.chunks c.block_law.ensures.cells c.spread_law.ensures.blocks c.field_law.ensures
+          c.order_law.ensures.counts c.shape_law.ensures
+          c.map_test_law.ensures
+          (record {
+            superframe = c.interleaving_law.ensures.superframe;
+            first = c.interleaving_law.ensures.first;
+            last = c.interleaving_law.ensures.last;
+            number = c.interleaving_law.ensures.number;
+            frames = c.spread_law.ensures.frames;
+          });
       pre_back = c.pre_law.ensures.back;
       pre_values = c.parts_law.ensures.pre;
       post_len = c.post_law.ensures.len;
@@ -21,4 +29,4 @@ returns c =
       back = c.scramble_twice.ensures;
       taken = c.taken_law.ensures;
     })
-    c.readback_law.ensures.once c.interleaving_law.ensures c.epochs_law.ensures.readback
+    c.readback_law.ensures.once c.epochs_law.ensures.readback

@@ -5,12 +5,12 @@ use Rattle.packet_slots.proofs.assembler.Assembler.gap.Goals as goal
 
 pub returns-clause-stands : goal.returns-clause-stands
 unfolding AssemblerStandsFor
-returns-clause-stands c = λ r z frame h. (
+returns-clause-stands c = λ r z epoch h. (
   c.clear.ensures.rule ∙ h.0,
-  gap_stands frame c.args.self.now.rule r _ _ _ z h.0 c.args.self.now.sound h.1 _ _ _
+  gap_stands epoch c.args.self.now.rule r _ _ _ z h.0 c.args.self.now.sound h.1 _ _ _
       c.clear.ensures.len c.clear.ensures.slot,
 )
 
 pub returns-clause-none : goal.returns-clause-none
 unfolding AssemblerStandsFor
-returns-clause-none c = λ r z frame h. gap_none frame c.args.self.now.rule r _ _ _ z h.0 c.args.self.now.sound h.1
+returns-clause-none c = λ r z epoch h. gap_none epoch c.args.self.now.rule r _ _ _ z h.0 c.args.self.now.sound h.1

@@ -10,26 +10,26 @@ unfolding AssemblerStandsFor
 returns-then-is_idle-clause-stands c = λ r z h. (
   c.clear.ensures.rule ∙ h.0,
   idle_out c.args.self.now.rule r c.args.self.now.len c.args.self.now.held c.args.self.now.base z
-      c.args.mark c.args.frame c.args.bytes.now
-      (record { same = h.0; sound = c.args.self.now.sound; stands = h.1; at = c.requires.frame; some = c.requires.some })
+      c.args.mark c.args.epoch c.args.bytes.now
+      (record { same = h.0; sound = c.args.self.now.sound; stands = h.1; at = c.requires.epoch; some = c.requires.some })
       (sym c.is_idle.ensures ∙ c.if-is_idle.true) _ _ _ c.clear.ensures.len c.clear.ensures.slot,
 )
 
 pub returns-then-is_idle-clause-answer : goal.returns-then-is_idle-clause-answer
 unfolding AssemblerStandsFor
 returns-then-is_idle-clause-answer c = λ r z h.
-    idle_gains_out c.args.self.now.rule r c.args.self.now.len c.args.self.now.held c.args.self.now.base z c.args.mark c.args.frame
+    idle_gains_out c.args.self.now.rule r c.args.self.now.len c.args.self.now.held c.args.self.now.base z c.args.mark c.args.epoch
     c.args.bytes.now
-    (record { same = h.0; sound = c.args.self.now.sound; stands = h.1; at = c.requires.frame; some = c.requires.some })
+    (record { same = h.0; sound = c.args.self.now.sound; stands = h.1; at = c.requires.epoch; some = c.requires.some })
     (sym c.is_idle.ensures ∙ c.if-is_idle.true) _
 
 pub returns-then-total-self-clause-stands : goal.returns-then-total-self-clause-stands
 unfolding AssemblerStandsFor
 returns-then-total-self-clause-stands c = λ r z h. (
   c.clear-then-total-self.ensures.rule ∙ h.0,
-  over_out c.args.self.now.rule r c.args.self.now.len c.args.self.now.held c.args.self.now.base z c.args.mark c.args.frame
+  over_out c.args.self.now.rule r c.args.self.now.len c.args.self.now.held c.args.self.now.base z c.args.mark c.args.epoch
       c.args.bytes.now
-      (record { same = h.0; sound = c.args.self.now.sound; stands = h.1; at = c.requires.frame; some = c.requires.some })
+      (record { same = h.0; sound = c.args.self.now.sound; stands = h.1; at = c.requires.epoch; some = c.requires.some })
       c.base_of-base.result c.base_of-base.ensures.value c.base_of-base.ensures.small
       (sym c.is_idle.ensures ∙ c.if-is_idle.false) (let v = c.from_of-from.ensures.value in
       omega (arith, v)) _ _ _ c.clear-then-total-self.ensures.len c.clear-then-total-self.ensures.slot,
@@ -38,9 +38,9 @@ returns-then-total-self-clause-stands c = λ r z h. (
 pub returns-then-total-self-clause-answer : goal.returns-then-total-self-clause-answer
 unfolding AssemblerStandsFor
 returns-then-total-self-clause-answer c = λ r z h.
-    over_gains_out c.args.self.now.rule r c.args.self.now.len c.args.self.now.held c.args.self.now.base z c.args.mark c.args.frame
+    over_gains_out c.args.self.now.rule r c.args.self.now.len c.args.self.now.held c.args.self.now.base z c.args.mark c.args.epoch
     c.args.bytes.now
-    (record { same = h.0; sound = c.args.self.now.sound; stands = h.1; at = c.requires.frame; some = c.requires.some })
+    (record { same = h.0; sound = c.args.self.now.sound; stands = h.1; at = c.requires.epoch; some = c.requires.some })
     c.base_of-base.result c.base_of-base.ensures.value c.base_of-base.ensures.small
     (sym c.is_idle.ensures ∙ c.if-is_idle.false) (let v = c.from_of-from.ensures.value in omega (arith, v)) _
 
@@ -50,11 +50,11 @@ returns-then-total-self-2-clause-stands c = λ r z h. (
   h.0,
   subst
       (λ (n : ℕ). AssemblerStands r n c.put.new.held c.base_of-base.result
-      (z ++ piece_items c.args.mark c.args.frame c.args.bytes.now))
+      (z ++ piece_items c.args.mark c.args.epoch c.args.bytes.now))
       (ap (λ (n : ℕ). n + length c.args.bytes.now) (sym c.from_of-from.ensures.value))
-      (short_out c.args.self.now.rule r c.args.self.now.len c.args.self.now.held c.args.self.now.base z c.args.mark c.args.frame
+      (short_out c.args.self.now.rule r c.args.self.now.len c.args.self.now.held c.args.self.now.base z c.args.mark c.args.epoch
       c.args.bytes.now
-      (record { same = h.0; sound = c.args.self.now.sound; stands = h.1; at = c.requires.frame; some = c.requires.some })
+      (record { same = h.0; sound = c.args.self.now.sound; stands = h.1; at = c.requires.epoch; some = c.requires.some })
       c.base_of-base.result c.base_of-base.ensures.value c.base_of-base.ensures.small
       (sym c.is_idle.ensures ∙ c.if-is_idle.false) (let v = c.from_of-from.ensures.value in omega (arith, v)) c.put.new.held
       (front_is _ _ _ _ _ c.from_of-from.ensures.value c.put.ensures.front)),
@@ -64,8 +64,8 @@ pub returns-then-total-self-2-clause-answer : goal.returns-then-total-self-2-cla
 unfolding AssemblerStandsFor
 returns-then-total-self-2-clause-answer c = λ r z h.
     short_gains_out c.args.self.now.rule r c.args.self.now.len c.args.self.now.held c.args.self.now.base z c.args.mark
-    c.args.frame c.args.bytes.now
-    (record { same = h.0; sound = c.args.self.now.sound; stands = h.1; at = c.requires.frame; some = c.requires.some })
+    c.args.epoch c.args.bytes.now
+    (record { same = h.0; sound = c.args.self.now.sound; stands = h.1; at = c.requires.epoch; some = c.requires.some })
     c.base_of-base.result c.base_of-base.ensures.value c.base_of-base.ensures.small
     (sym c.is_idle.ensures ∙ c.if-is_idle.false) (let v = c.from_of-from.ensures.value in omega (arith, v)) _
 
@@ -74,8 +74,8 @@ unfolding AssemblerStandsFor
 returns-clause-stands c = λ r z h. (
   c.end.ensures.ends.rule ∙ h.0,
   end_out c.args.self.now.rule r c.args.self.now.len c.args.self.now.held c.args.self.now.base z
-      c.args.mark c.args.frame c.args.bytes.now
-      (record { same = h.0; sound = c.args.self.now.sound; stands = h.1; at = c.requires.frame; some = c.requires.some })
+      c.args.mark c.args.epoch c.args.bytes.now
+      (record { same = h.0; sound = c.args.self.now.sound; stands = h.1; at = c.requires.epoch; some = c.requires.some })
       c.base_of-base.result c.base_of-base.ensures.value c.base_of-base.ensures.small
       (sym c.is_idle.ensures ∙ c.if-is_idle.false) (let v = c.from_of-from.ensures.value in omega (arith, v)) c.put.new.held
       (front_is _ _ _ _ _ c.from_of-from.ensures.value c.put.ensures.front) _ _ _ c.end.ensures.ends.len
@@ -85,11 +85,11 @@ returns-clause-stands c = λ r z h. (
 pub returns-clause-answer : goal.returns-clause-answer
 unfolding AssemblerStandsFor
 returns-clause-answer c = λ r z h.
-    subst (λ (l : List ℕ). Gains r z c.args.frame (piece_items c.args.mark c.args.frame c.args.bytes.now) l c.end.result)
+    subst (λ (l : List ℕ). Gains r z c.args.epoch (piece_items c.args.mark c.args.epoch c.args.bytes.now) l c.end.result)
     (sym c.end.ensures.ends.held)
     (end_gains_out c.args.self.now.rule r c.args.self.now.len c.args.self.now.held c.args.self.now.base z c.args.mark
-    c.args.frame c.args.bytes.now
-    (record { same = h.0; sound = c.args.self.now.sound; stands = h.1; at = c.requires.frame; some = c.requires.some })
+    c.args.epoch c.args.bytes.now
+    (record { same = h.0; sound = c.args.self.now.sound; stands = h.1; at = c.requires.epoch; some = c.requires.some })
     c.base_of-base.result c.base_of-base.ensures.value c.base_of-base.ensures.small
     (sym c.is_idle.ensures ∙ c.if-is_idle.false) (let v = c.from_of-from.ensures.value in omega (arith, v)) c.put.new.held
     (front_is _ _ _ _ _ c.from_of-from.ensures.value c.put.ensures.front) c.end.result c.end.ensures.ends.answer)

@@ -4,7 +4,8 @@ use Rattle.packet_slots.proofs.slots.PacketSlots.end_frame.Goals as goal
 
 pub returns-clause-stands : goal.returns-clause-stands
 unfolding StandsFor StandsWithin
-returns-clause-stands c = λ r first records blocks released h.
+returns-clause-stands c = λ r first count epochs blocks released h.
     let p = c.args.self.now in
     stands_at c.leave.ensures.assembler c.leave.ensures.frame
-    (ends_frame r first p.frame records blocks released p.assembler p.window c.leave.new.self.window h c.leave.ensures.window)
+    (ends_frame r first p.frame count epochs blocks released p.assembler p.window c.leave.new.self.window h c.requires.last
+    c.leave.ensures.window)

@@ -5,8 +5,8 @@ use Rattle.packet_slots.proofs.slots.PacketSlots.held.Goals as goal
 
 pub returns-clause-answer : goal.returns-clause-answer
 unfolding StandsFor
-returns-clause-answer c = λ r first records released h. c.held.ensures.value
-    ∙ held_is c.args.self.now.assembler c.args.self.now.window c.args.self.now.frame r first records released h
+returns-clause-answer c = λ r first count epochs released h. c.held.ensures.value
+    ∙ held_is c.args.self.now.assembler c.args.self.now.window c.args.self.now.frame r first count epochs released h
 
 pub returns-clause-fresh : goal.returns-clause-fresh
 unfolding IsFresh

@@ -1,4 +1,5 @@
 use Rattle.std.proofs.Common.{ap, arith, length}
+use Rattle.packet_slots.specs.Times.{over_after}
 use Rattle.packet_slots.proofs.TimeLemmas.{released_late}
 use Rattle.packet_slots.proofs.window.SlotWindow.begin.Goals as goal
 
@@ -10,5 +11,6 @@ invariant_of-self c =
       sound = w.sound;
       room = w.room;
       span = omega (arith, ap length c.requires.empty);
-      known = let first = c.range_of-first.ensures.first in omega (arith, late, first, c.due_after-due_end.ensures);
+      known =
+          omega (arith, late, c.over_after-first.ensures, ap (over_after w.rule) c.saturating_sub.ensures, c.due_after-due_end.ensures);
     }

@@ -1,21 +1,18 @@
-use Rattle.packet_slots.specs.StandsFor as slots
-use Rattle.site_frame.specs.declared.reading.RecordView.TheVariants.{Frame}
-use Rattle.plp_receiver.proofs.StandsLemmas.{record_came, muted_taken, came_framed}
+use Rattle.std.proofs.Common.{◌∙◌}
+use Rattle.plp_receiver.proofs.StandsLemmas.{record_came, came_in, ends_as}
 use Rattle.plp_receiver.specs.StandsFor.{StandsFor}
 use Rattle.plp_receiver.proofs.receiver.Receiver.frame.Goals as goal
 
-pub returns-in-Muted-clause-stands : goal.returns-in-Muted-clause-stands
+pub returns-clause-stands : goal.returns-clause-stands
 unfolding StandsFor
-returns-in-Muted-clause-stands c = λ first views released s.
-    record_came c.args.self.now.network c.args.self.now.plp c.args.self.now.slots c.mute.new.self c.args.view.now first views
-    released (muted_taken c.args.self.now.network c.args.self.now.plp (slots.frame_of c.args.self.now.slots) c.args.view.now
-    c.in-Muted.moment c.args.self.now.slots c.mute.new.self c.in-Muted.is c.mute.ensures.stands) s
-
-pub returns-in-Frame-clause-stands : goal.returns-in-Frame-clause-stands
-unfolding StandsFor
-returns-in-Frame-clause-stands c = λ first views released s.
-    came_framed c.args.self.now.network c.frame_parts.new.self.network c.args.self.now.plp c.frame_parts.new.self.plp
-    c.args.self.now.slots c.frame_parts.new.self.slots c.args.view.now
-    (Frame c.in-Frame.moment c.in-Frame.pre c.in-Frame.post c.in-Frame.blocks c.in-Frame.cells) first views released
-    c.frame_parts.ensures.network c.frame_parts.ensures.plp c.in-Frame.is
-    (c.frame_parts.ensures.takes c.in-Frame.moment) s
+returns-clause-stands c = λ first views released s.
+    let v = c.args.self.now in
+    let seen = c.see.new.self in
+    let new = c.end_record.new.self in
+    came_in v.network new.network v.plp new.plp new.slots new.held first _ released
+    (c.end_record.ensures.network ∙ c.see.ensures.network) (c.end_record.ensures.plp ∙ c.see.ensures.plp)
+    (record_came v.network v.plp v.slots new.slots v.held seen.held new.held c.args.view.now first views released v.spread
+    c.see.ensures.sees
+    (ends_as v.network seen.network v.plp seen.plp seen.held new.held v.slots seen.slots new.slots c.see.ensures.network
+    c.see.ensures.plp c.see.ensures.slots c.end_record.ensures.ends)
+    s)

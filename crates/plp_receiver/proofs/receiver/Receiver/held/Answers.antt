@@ -1,5 +1,5 @@
 use Rattle.plp_receiver.specs.StandsFor.{StandsFor, IsFresh}
-use Rattle.plp_receiver.specs.Taken.{slot_rule}
+use Rattle.plp_receiver.specs.Epochs.{slot_rule}
 use Rattle.plp_receiver.proofs.StandsLemmas.{held_is}
 use Rattle.plp_receiver.proofs.receiver.Receiver.held.Goals as goal
 
@@ -7,8 +7,8 @@ pub returns-clause-answer : goal.returns-clause-answer
 unfolding StandsFor
 returns-clause-answer c = λ first views released s.
     let v = c.args.self.now in
-    held_is v.network v.plp v.slots first views released c.held.result s c.held.ensures.answer
+    held_is v.network v.plp v.slots v.held first views released c.held.result s c.held.ensures.answer
 
 pub returns-clause-fresh : goal.returns-clause-fresh
 unfolding IsFresh
-returns-clause-fresh c = λ f. c.held.ensures.fresh (slot_rule c.args.self.now.network c.args.self.now.plp) f
+returns-clause-fresh c = λ f. c.held.ensures.fresh (slot_rule c.args.self.now.network c.args.self.now.plp) f.fresh

@@ -5,22 +5,26 @@ use Rattle.plp_receiver.proofs.receiver.Receiver.release.Goals as goal
 pub returns-clause-stands : goal.returns-clause-stands
 unfolding StandsFor
 returns-clause-stands c = λ first views released s.
-    released_or_not c.args.self.now.network c.args.self.now.plp c.args.self.now.slots c.release.new.self first views released
-    c.release.result s c.release.ensures.stands
+    let v = c.args.self.now in
+    released_or_not v.network v.plp v.slots c.release.new.self v.held first views released c.release.result s
+    c.release.ensures.stands
 
 pub returns-clause-answer : goal.returns-clause-answer
 unfolding StandsFor
 returns-clause-answer c = λ e first views released packets s b.
-    packet_is c.readback_law.ensures.once c.args.self.now.network c.args.self.now.plp c.args.self.now.slots first views released
-    packets c.release.new.out s b (c.release.ensures.answer e)
+    let v = c.args.self.now in
+    packet_is c.readback_law.ensures.once v.network v.plp v.slots v.held first views released packets c.release.new.out s b
+    (c.release.ensures.answer e)
 
 pub returns-clause-none : goal.returns-clause-none
 unfolding StandsFor
 returns-clause-none c = λ e first views released packets s b.
-    none_is c.readback_law.ensures.once c.args.self.now.network c.args.self.now.plp c.args.self.now.slots first views released
-    packets s b (c.release.ensures.none e)
+    let v = c.args.self.now in
+    none_is c.readback_law.ensures.once v.network v.plp v.slots v.held first views released packets s b
+    (c.release.ensures.none e)
 
 pub returns-clause-fresh : goal.returns-clause-fresh
 unfolding IsFresh
-returns-clause-fresh c = λ f. still_fresh c.args.self.now.network c.args.self.now.plp c.args.self.now.slots c.release.new.self f
-    c.release.result c.release.ensures.exact c.release.ensures.same
+returns-clause-fresh c = λ f.
+    let v = c.args.self.now in
+    still_fresh v.network v.plp v.slots c.release.new.self v.held f c.release.result c.release.ensures.exact c.release.ensures.same

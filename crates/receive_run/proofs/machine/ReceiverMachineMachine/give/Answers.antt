@@ -36,7 +36,7 @@ returns-clause-becomes c = λ start events came.
     c.saturating_add-self.ensures refl refl refl
     (c.coming_by-coming.ensures.coming ∙ ap coming_by c.due.ensures.value) (c.coming_by-coming.ensures.left
     ∙ ap left_by c.due.ensures.value)
-    (λ first views packets a back. few_packets c.times_law.ensures (network_of m.receiver)
+    (λ first views packets a back. few_packets c.times_law.ensures.frame c.times_law.ensures.slot (network_of m.receiver)
     (plp_of m.receiver) first views packets known.0.rules known.1 a.small back) came
 
 pub returns-clause-left : goal.returns-clause-left

@@ -1,0 +1,371 @@
+-- What records tell of epochs, record by record.
+use Rattle.std.proofs.Common.{◌≡◌, ◌≢◌, ℕ, zero, suc, ◌+◌, ◌-◌, ◌*◌, ◌/◌, ◌%◌, ◌<◌, ◌≤◌, ◌==◌, ◌&&◌, Bool, true, false, List, []}
+use Rattle.std.proofs.Common.{◌∷◌, ◌++◌, length, take, drop, Option, Some, None, refl, ap, ◌∙◌, sym, subst, arith, inl, inr, cond}
+use Rattle.std.proofs.Common.{length-append}
+use Rattle.std.specs.Prelude.{nat_le, not}
+use Rattle.std.specs.List.{AllZip, range_with_len}
+use Rattle.std.proofs.lemmas.Bool.{cases_lt, leb-true, le-leb, eqb-true, eq-eqb, false_from_ne_true}
+use Rattle.std.proofs.lemmas.List.{length-drop, drop-append-le, take-append-le, take_all}
+use Rattle.std.proofs.lemmas.List.Folds.{list_all-append}
+use Rattle.std.proofs.lemmas.Nat.{div-add-mod'}
+use Rattle.std.proofs.Math.Nat.{mod-lt, div-mul-le_self, mul-le-mul_right}
+use Rattle.terms.proofs.RangeLemmas.{range_more}
+use Rattle.packet_slots.proofs.TimeLemmas.{next_epoch, same_epoch}
+use Rattle.packet_slots.specs.Epochs.{Epoch}
+use Rattle.plp_config.specs.declared.config.Config.{Config}
+use Rattle.site_frame.specs.declared.reading.RecordView.{RecordView}
+use Rattle.plp_receiver.specs.Readable.{Part, count_of}
+use Rattle.plp_config.specs.Plps.{spread}
+use Rattle.plp_receiver.specs.Epochs.{part_of, with_part, parts_of, agree, agreeing, epoch_parts, Tells, epochs_in, TellAll}
+use Rattle.plp_receiver.specs.Holds.{Holds, seen_from, seen, is_begun, joined}
+use Rattle.plp_receiver.specs.declared.held.HeldBlocks.{HeldBlocks}
+use Rattle.plp_receiver.proofs.ListLemmas.{zip_more, zip_over}
+
+-- ---- one part more
+abbrev more : Option (List Part) → Option Part → Option (List Part)
+more None part = None
+more (Some parts) None = None
+more (Some parts) (Some q) = Some (parts ++ q ∷ [])
+
+with_none : (o : Option Part) → with_part o (Some []) ≡ more (Some []) o
+with_none None = refl
+with_none (Some p) = refl
+
+with_more : (o : Option Part) (parts : Option (List Part)) (q : Option Part) → with_part o (more parts q) ≡ more (with_part o parts) q
+with_more None parts q = refl
+with_more (Some p) None q = refl
+with_more (Some p) (Some parts) None = refl
+with_more (Some p) (Some parts) (Some q) = refl
+
+parts_more : (c : Config) (n : ℕ) (views : List RecordView) (v : RecordView) → parts_of c n (views ++ v ∷ [])
+    ≡ more (parts_of c n views) (part_of c (n + length views) v)
+unfolding parts_of
+parts_more c n [] v =
+    let e : n ≡ n + 0 = omega arith in
+    with_none (part_of c n v) ∙ ap (λ (k : ℕ). more (Some []) (part_of c k v)) e
+parts_more c n (w ∷ views) v =
+    let e : n + 1 + length views ≡ n + suc (length views) = omega arith in
+    ap (with_part (part_of c n w)) (parts_more c (n + 1) views v)
+    ∙ with_more (part_of c n w) (parts_of c (n + 1) views) (part_of c (n + 1 + length views) v)
+    ∙ ap (λ (k : ℕ). more (with_part (part_of c n w) (parts_of c (n + 1) views)) (part_of c k v)) e
+
+agreeing_more : (plp : ℕ) (parts : Option (List Part)) (q : Option Part) → agreeing plp (more parts q)
+    ≡ joined plp (agreeing plp parts) q
+agreeing_more plp None q = refl
+agreeing_more plp (Some []) None = refl
+agreeing_more plp (Some []) (Some q) = refl
+agreeing_more plp (Some (p ∷ parts)) None = go (agree plp (p ∷ parts))
+  where
+    go : (b : Bool) → None ≡ joined plp (cond {A = Option (List Part)} b (Some (p ∷ parts)) None) None
+    go true = refl
+    go false = refl
+agreeing_more plp (Some (p ∷ parts)) (Some q) =
+    ap (λ (b : Bool). cond {A = Option (List Part)} b (Some (p ∷ parts ++ q ∷ [])) None)
+    (list_all-append (λ (x : Part). count_of plp x == count_of plp p) parts (q ∷ []))
+    ∙ go (agree plp (p ∷ parts))
+  where
+    whole : (b : Bool) → (b && true) ≡ b
+    whole true = refl
+    whole false = refl
+
+    go : (a : Bool) → cond {A = Option (List Part)} (a && ((count_of plp q == count_of plp p) && true))
+        (Some (p ∷ parts ++ q ∷ [])) None
+        ≡ joined plp (cond {A = Option (List Part)} a (Some (p ∷ parts)) None) (Some q)
+    go true = ap (λ (b : Bool). cond {A = Option (List Part)} b (Some (p ∷ parts ++ q ∷ [])) None)
+        (whole (count_of plp q == count_of plp p))
+    go false = refl
+
+pub begun_joined : (plp : ℕ) (parts : Option (List Part)) (part : Option Part) → is_begun (joined plp parts part) ≡ true
+begun_joined plp None part = refl
+begun_joined plp (Some parts) None = none parts
+  where
+    none : (ps : List Part) → is_begun (joined plp (Some ps) None) ≡ true
+    none [] = refl
+    none (p ∷ ps) = refl
+begun_joined plp (Some []) (Some q) = refl
+begun_joined plp (Some (p ∷ parts)) (Some q) = go (count_of plp q == count_of plp p)
+  where
+    go : (b : Bool) → is_begun (cond {A = Option (List Part)} b (Some (p ∷ parts ++ q ∷ [])) None) ≡ true
+    go true = refl
+    go false = refl
+
+-- ---- the epoch under way
+pub seen_more : (c : Config) (plp first : ℕ) (views : List RecordView) (v : RecordView) (from : ℕ) → from ≤ first + length views
+    → seen_from c plp first (views ++ v ∷ []) from ≡ joined plp (seen_from c plp first views from) (part_of c (first + length views) v)
+seen_more c plp first views v from l =
+    elim (cases_lt from first) [
+      | inl lt ↦
+          let e : nat_le first from ≡ false = false_from_ne_true _ (λ (t : nat_le first from ≡ true).
+          let m = leb-true first from t in omega (arith, m, lt)) in
+          ap (λ (b : Bool). cond {A = Option (List Part)} b (agreeing plp (parts_of c from (drop (from - first) (views ++ v ∷ [])))) None)
+          e
+          ∙ sym (ap (λ (b : Bool). joined plp (cond {A = Option (List Part)} b
+          (agreeing plp (parts_of c from (drop (from - first) views))) None) (part_of c (first + length views) v)) e)
+      | inr ge ↦
+          let e : nat_le first from ≡ true = le-leb first from ge in
+          let rest : List RecordView = drop (from - first) views in
+          let longer : drop (from - first) (views ++ v ∷ []) ≡ rest ++ v ∷ [] =
+          drop-append-le (from - first) views (v ∷ []) (omega (arith, l, ge)) in
+          let at : from + length rest ≡ first + length views = omega (arith, l, ge, length-drop (from - first) views) in
+          ap (λ (b : Bool). cond {A = Option (List Part)} b (agreeing plp (parts_of c from (drop (from - first) (views ++ v ∷ [])))) None)
+          e
+          ∙ ap (λ (x : List RecordView). agreeing plp (parts_of c from x)) longer
+          ∙ ap (agreeing plp) (parts_more c from rest v)
+          ∙ agreeing_more plp (parts_of c from rest) (part_of c (from + length rest) v)
+          ∙ ap (λ (n : ℕ). joined plp (agreeing plp (parts_of c from rest)) (part_of c n v)) at
+          ∙ sym (ap (λ (b : Bool). joined plp (cond {A = Option (List Part)} b
+          (agreeing plp (parts_of c from rest)) None) (part_of c (first + length views) v)) e)
+    ]
+
+no_parts : (c : Config) (n : ℕ) → parts_of c n [] ≡ Some []
+unfolding parts_of
+no_parts c n = refl
+
+-- before its first record nothing is seen of it
+pub none_seen : (c : Config) (plp first : ℕ) (views : List RecordView) (from : ℕ) → from ≡ first + length views
+    → seen_from c plp first views from ≡ Some []
+none_seen c plp first views from e =
+    let low : nat_le first from ≡ true = le-leb first from (omega (arith, e)) in
+    let all : drop (from - first) views ≡ [] = nothing views (from - first) (omega (arith, e)) in
+    ap (λ (b : Bool). cond {A = Option (List Part)} b (agreeing plp (parts_of c from (drop (from - first) views))) None) low
+    ∙ ap (λ (x : List RecordView). agreeing plp (parts_of c from x)) all
+    ∙ ap (agreeing plp) (no_parts c from)
+  where
+    nothing : (xs : List RecordView) (k : ℕ) → k ≡ length xs → drop k xs ≡ []
+    nothing [] zero l = refl
+    nothing [] (suc k) l = refl
+    nothing (x ∷ xs) zero l = absurd (omega (arith, l))
+    nothing (x ∷ xs) (suc k) l = nothing xs k (omega (arith, l))
+
+begun_parts : (c : Config) (plp n : ℕ) (v : RecordView) (views : List RecordView)
+    → is_begun (agreeing plp (parts_of c n (v ∷ views))) ≡ true
+unfolding parts_of
+begun_parts c plp n v views = go (part_of c n v) (parts_of c (n + 1) views)
+  where
+    test : (p : Part) (ps : List Part) (b : Bool) → is_begun (cond {A = Option (List Part)} b (Some (p ∷ ps)) None) ≡ true
+    test p ps true = refl
+    test p ps false = refl
+
+    go : (o : Option Part) (ps : Option (List Part)) → is_begun (agreeing plp (with_part o ps)) ≡ true
+    go None ps = refl
+    go (Some p) None = refl
+    go (Some p) (Some ps) = test p ps (agree plp (p ∷ ps))
+
+-- behind it something is
+some_seen : (c : Config) (plp first : ℕ) (views : List RecordView) (from : ℕ) → from < first + length views
+    → is_begun (seen_from c plp first views from) ≡ true
+some_seen c plp first views from l =
+    elim (cases_lt from first) [
+      | inl lt ↦
+          let e : nat_le first from ≡ false = false_from_ne_true _ (λ (t : nat_le first from ≡ true).
+          let m = leb-true first from t in omega (arith, m, lt)) in
+          ap (λ (b : Bool). is_begun (cond {A = Option (List Part)} b (agreeing plp (parts_of c from (drop (from - first) views))) None))
+          e
+      | inr ge ↦
+          let e : nat_le first from ≡ true = le-leb first from ge in
+          ap (λ (b : Bool). is_begun (cond {A = Option (List Part)} b (agreeing plp (parts_of c from (drop (from - first) views))) None))
+          e ∙ go (drop (from - first) views) (omega (arith, l, ge, length-drop (from - first) views))
+    ]
+  where
+    go : (xs : List RecordView) → 1 ≤ length xs → is_begun (agreeing plp (parts_of c from xs)) ≡ true
+    go [] m = absurd (omega (arith, m))
+    go (x ∷ xs) m = begun_parts c plp from x xs
+
+module _ (c : Config) (plp first : ℕ) (views : List RecordView) where
+  abbrev s : ℕ
+  s = spread c.plps plp
+
+  abbrev n : ℕ
+  n = first + length views
+
+  module _ (some : 1 ≤ s) where
+    whole : n / s * s + n % s ≡ n
+    whole = div-add-mod' n s
+
+    pub seen_begun : is_begun (seen c plp first views) ≡ not (n % s == 0)
+    seen_begun =
+        elim (cases_lt 0 (n % s)) [
+          | inl lt ↦
+              let e : (n % s == 0) ≡ false = false_from_ne_true _ (λ (t : (n % s == 0) ≡ true).
+              let z = eqb-true (n % s) 0 t in omega (arith, z, lt)) in
+              some_seen c plp first views (n / s * s) (omega (arith, whole, lt)) ∙ sym (ap not e)
+          | inr ge ↦
+              let z : n % s ≡ 0 = omega (arith, ge) in
+              ap is_begun (none_seen c plp first views (n / s * s) (omega (arith, whole, z)))
+              ∙ sym (ap not (eq-eqb (n % s) 0 z))
+        ]
+
+    module _ (v : RecordView) where
+      abbrev longer : List RecordView
+      longer = views ++ v ∷ []
+
+      next : first + length longer ≡ n + 1
+      next = omega (arith, length-append views (v ∷ []))
+
+      pub seen_joined : seen_from c plp first longer (n / s * s) ≡ joined plp (seen c plp first views) (part_of c n v)
+      seen_joined = seen_more c plp first views v (n / s * s) (omega (arith, whole))
+
+      -- the epoch goes on
+      pub seen_on : (n + 1) % s ≢ 0 → seen c plp first longer ≡ joined plp (seen c plp first views) (part_of c n v)
+      seen_on ne =
+          ap (λ (k : ℕ). seen_from c plp first longer (k / s * s)) next
+          ∙ ap (λ (k : ℕ). seen_from c plp first longer (k * s)) (same_epoch s n some ne)
+          ∙ seen_joined
+
+      -- it has ended
+      pub seen_anew : (n + 1) % s ≡ 0 → seen c plp first longer ≡ Some []
+      seen_anew z =
+          let e : (n + 1) / s * s ≡ n + 1 = omega (arith, div-add-mod' (n + 1) s, z) in
+          ap (λ (k : ℕ). seen_from c plp first longer (k / s * s)) next
+          ∙ none_seen c plp first longer ((n + 1) / s * s) (omega (arith, e, next))
+
+      pub ended_parts : (n + 1) % s ≡ 0 → epoch_parts c plp first longer (n / s)
+          ≡ joined plp (seen c plp first views) (part_of c n v)
+      ended_parts z =
+          let more : (n / s + 1) * s ≡ n / s * s + s = omega arith in
+          let next_is = next_epoch s n some z in
+          let e : (n + 1) / s * s ≡ n + 1 = omega (arith, div-add-mod' (n + 1) s, z) in
+          let f : (n + 1) / s * s ≡ (n / s + 1) * s = ap (λ (k : ℕ). k * s) next_is in
+          let from : ℕ = n / s * s in
+          elim (cases_lt from first) [
+            | inl lt ↦
+                let b : nat_le first from ≡ false = false_from_ne_true _ (λ (t : nat_le first from ≡ true).
+                let m = leb-true first from t in omega (arith, m, lt)) in
+                ap (λ (x : Bool). cond {A = Option (List Part)} x
+                (agreeing plp (parts_of c from (take s (drop (from - first) longer)))) None) b
+                ∙ sym (ap (λ (x : Bool). cond {A = Option (List Part)} x
+                (agreeing plp (parts_of c from (drop (from - first) longer))) None) b)
+                ∙ seen_joined
+            | inr ge ↦
+                let all : take s (drop (from - first) longer) ≡ drop (from - first) longer =
+                take_all s (drop (from - first) longer) (omega (arith, length-drop (from - first) longer, next, e, f, more, ge)) in
+                ap (λ (x : List RecordView). cond {A = Option (List Part)} (nat_le first from) (agreeing plp (parts_of c from x)) None)
+                all ∙ seen_joined
+          ]
+
+  -- an epoch that had ended before
+  pub same_parts : (others : List RecordView) (m : ℕ) → m * s + s ≤ n
+      → epoch_parts c plp first (views ++ others) m ≡ epoch_parts c plp first views m
+  same_parts others m l =
+      elim (cases_lt (m * s) first) [
+        | inl lt ↦
+            let b : nat_le first (m * s) ≡ false = false_from_ne_true _ (λ (t : nat_le first (m * s) ≡ true).
+            let x = leb-true first (m * s) t in omega (arith, x, lt)) in
+            ap (λ (x : Bool). cond {A = Option (List Part)} x
+            (agreeing plp (parts_of c (m * s) (take s (drop (m * s - first) (views ++ others))))) None) b
+            ∙ sym (ap (λ (x : Bool). cond {A = Option (List Part)} x
+            (agreeing plp (parts_of c (m * s) (take s (drop (m * s - first) views)))) None) b)
+        | inr ge ↦
+            let k : ℕ = m * s - first in
+            let e : drop k (views ++ others) ≡ drop k views ++ others = drop-append-le k views others (omega (arith, l, ge)) in
+            let f : take s (drop k views ++ others) ≡ take s (drop k views) =
+            take-append-le s (drop k views) others (omega (arith, length-drop k views, l, ge)) in
+            ap (λ (x : List RecordView). cond {A = Option (List Part)} (nat_le first (m * s)) (agreeing plp (parts_of c (m * s) x))
+            None) (ap (take s) e ∙ f)
+      ]
+
+  ended : (m k : ℕ) → m < first / s + (k / s - first / s) → first / s ≤ k / s → m * s + s ≤ k
+  ended m k l low =
+      let p : m + 1 ≤ k / s = omega (arith, l, low) in
+      let q : (m + 1) * s ≤ k / s * s = mul-le-mul_right s p in
+      let e : (m + 1) * s ≡ m * s + s = omega arith in
+      omega (arith, q, e, div-mul-le_self k s)
+
+  -- what was told of them
+  pub told_before : (others : List RecordView) (told : List Epoch) → first / s ≤ n / s
+      → AllZip (λ m e. Tells c plp (epoch_parts c plp first views m) e) (epochs_in s first (length views)) told
+      → AllZip (λ m e. Tells c plp (epoch_parts c plp first (views ++ others) m) e) (epochs_in s first (length views)) told
+  told_before others told low z =
+      zip_over (λ (m : ℕ) (e : Epoch). Tells c plp (epoch_parts c plp first views m) e)
+      (λ (m : ℕ) (e : Epoch). Tells c plp (epoch_parts c plp first (views ++ others) m) e)
+      (first / s) (n / s - first / s) told
+      (λ m e a b t. subst (λ (o : Option (List Part)). Tells c plp o e) (sym (same_parts others m (ended m n b low))) t) z
+
+  pub told_after : (others : List RecordView) (told : List Epoch) → first / s ≤ n / s
+      → AllZip (λ m e. Tells c plp (epoch_parts c plp first (views ++ others) m) e) (epochs_in s first (length views)) told
+      → AllZip (λ m e. Tells c plp (epoch_parts c plp first views m) e) (epochs_in s first (length views)) told
+  told_after others told low z =
+      zip_over (λ (m : ℕ) (e : Epoch). Tells c plp (epoch_parts c plp first (views ++ others) m) e)
+      (λ (m : ℕ) (e : Epoch). Tells c plp (epoch_parts c plp first views m) e)
+      (first / s) (n / s - first / s) told
+      (λ m e a b t. subst (λ (o : Option (List Part)). Tells c plp o e) (same_parts others m (ended m n b low)) t) z
+
+-- a later frame is of no earlier epoch
+pub epoch_rises : (s a b : ℕ) → 1 ≤ s → a ≤ b → a / s ≤ b / s
+epoch_rises s a b l m =
+    elim (cases_lt (b / s) (a / s)) [
+      | inl lt ↦
+          let p : (b / s + 1) * s ≤ a / s * s = mul-le-mul_right {m = b / s + 1} {n = a / s} s (omega (arith, lt)) in
+          let e : (b / s + 1) * s ≡ b / s * s + s = omega arith in
+          let r : b % s < s = mod-lt b (omega (arith, l)) in
+          absurd (omega (arith, p, e, m, div-add-mod' b s, r, div-mul-le_self a s))
+      | inr ge ↦ ge
+    ]
+
+-- before a record came
+pub none_told : (c : Config) (plp first : ℕ) → TellAll c plp first [] []
+unfolding TellAll
+none_told c plp first =
+    let e : (first + 0) / spread c.plps plp - first / spread c.plps plp ≡ 0 =
+    (let f : first + 0 ≡ first = omega arith in let g = ap (λ (k : ℕ). k / spread c.plps plp) f in omega (arith, g)) in
+    subst (λ (k : ℕ). AllZip (λ m e. Tells c plp (epoch_parts c plp first [] m) e) (range_with_len (first / spread c.plps plp) k) [])
+    (sym e) tt
+
+pub first_seen : (c : Config) (plp first : ℕ) → 1 ≤ spread c.plps plp → (h : HeldBlocks) → h.there ≡ false
+    → Holds c plp (seen c plp first []) h
+first_seen c plp first some h lost =
+    let s : ℕ = spread c.plps plp in
+    let n : ℕ = first + 0 in
+    let w = div-add-mod' n s in
+    elim (cases_lt (n / s * s) first) [
+      | inl lt ↦
+          let e : nat_le first (n / s * s) ≡ false = false_from_ne_true _ (λ (t : nat_le first (n / s * s) ≡ true).
+          let m = leb-true first (n / s * s) t in omega (arith, m, lt)) in
+          subst (λ (b : Bool). Holds c plp (cond {A = Option (List Part)} b
+          (agreeing plp (parts_of c (n / s * s) (drop (n / s * s - first) []))) None) h) (sym e) lost
+      | inr ge ↦ subst (λ (o : Option (List Part)). Holds c plp o h) (sym (none_seen c plp first [] (n / s * s) (omega (arith, w, ge)))) tt
+    ]
+
+module _ (c : Config) (plp first : ℕ) (views : List RecordView) (v : RecordView) (some : 1 ≤ spread c.plps plp)
+    (told : List Epoch) (tells : TellAll c plp first views told) where
+  abbrev rate : ℕ
+  rate = spread c.plps plp
+
+  abbrev number : ℕ
+  number = first + length views
+
+  low : first / rate ≤ number / rate
+  low = epoch_rises rate first number some (omega arith)
+
+  count : first + length (views ++ v ∷ []) ≡ number + 1
+  count = omega (arith, length-append views (v ∷ []))
+
+  -- one record more, with which no epoch ends
+  pub told_on : (number + 1) % rate ≢ 0 → TellAll c plp first (views ++ v ∷ []) told
+  unfolding TellAll
+  told_on ne =
+      let same : (first + length (views ++ v ∷ [])) / rate ≡ number / rate = ap (λ (k : ℕ). k / rate) count
+      ∙ same_epoch rate number some ne in
+      subst (λ (k : ℕ). AllZip (λ m e. Tells c plp (epoch_parts c plp first (views ++ v ∷ []) m) e)
+      (range_with_len (first / rate) (k - first / rate)) told) (sym same)
+      (told_before c plp first views (v ∷ []) told low tells)
+
+  -- with which one ends
+  pub told_more : (number + 1) % rate ≡ 0 → (e : Epoch)
+      → Tells c plp (joined plp (seen c plp first views) (part_of c number v)) e
+      → TellAll c plp first (views ++ v ∷ []) (told ++ e ∷ [])
+  unfolding TellAll
+  told_more z e t =
+      let next : (first + length (views ++ v ∷ [])) / rate ≡ number / rate + 1 = ap (λ (k : ℕ). k / rate) count
+      ∙ next_epoch rate number some z in
+      let n : ℕ = number / rate - first / rate in
+      let last : first / rate + n ≡ number / rate = omega (arith, low) in
+      let longer : (first + length (views ++ v ∷ [])) / rate - first / rate ≡ n + 1 = omega (arith, next, low) in
+      let R : ℕ → Epoch → Type 0 = λ m x. Tells c plp (epoch_parts c plp first (views ++ v ∷ []) m) x in
+      let here : R (first / rate + n) e =
+      subst (λ (m : ℕ). R m e) (sym last)
+      (subst (λ (o : Option (List Part)). Tells c plp o e) (sym (ended_parts c plp first views some v z)) t) in
+      subst (λ (k : ℕ). AllZip R (range_with_len (first / rate) k) (told ++ e ∷ [])) (sym longer)
+      (subst (λ (l : List ℕ). AllZip R l (told ++ e ∷ [])) (sym (range_more (first / rate) n))
+      (zip_more R (range_with_len (first / rate) n) told (first / rate + n) e
+      (told_before c plp first views (v ∷ []) told low tells) here))

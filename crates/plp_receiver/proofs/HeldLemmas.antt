@@ -1,0 +1,275 @@
+-- The blocks that are held, record by record.
+use Rattle.std.proofs.Common.{◌≡◌, ℕ, ◌+◌, ◌-◌, ◌*◌, ◌%◌, ◌<◌, ◌≤◌, ◌==◌, ◌&&◌, Bool, true, false, List, [], ◌∷◌, ◌++◌}
+use Rattle.std.proofs.Common.{length, take, drop, get_or, Option, Some, None, refl, ap, ap₂, ◌∙◌, sym, subst, arith, cond}
+use Rattle.std.proofs.Common.{append_assoc}
+use Rattle.std.specs.Prelude.{not, option_map, slice_index, sum}
+use Rattle.std.specs.Option.{option_map_or}
+use Rattle.std.specs.List.{AllZip, range_with_len}
+use Rattle.std.proofs.lemmas.Bool.{both_ways, and_parts, eqb-true, eq-eqb, false_from_ne_true}
+use Rattle.std.proofs.lemmas.List.{length-take-le, length-drop, drop-drop, drop-take, take-take, drop-append-le, take-append-le}
+use Rattle.std.proofs.lemmas.List.Folds.{list_all-append}
+use Rattle.std.proofs.Math.Seq.{drop-append_seam, take-append_seam}
+use Rattle.std.proofs.Math.Nat.{mul-le-mul_right}
+use Rattle.plp_config.specs.Plps.{plp_at}
+use Rattle.plp_config.specs.declared.config.Config.{Config}
+use Rattle.plp_config.specs.declared.moment.Moment.{Moment}
+use Rattle.scheduler.specs.Shape.{FrameShape}
+use Rattle.cell_map.specs.declared.places.Cell.{Cell}
+use Rattle.site_frame.specs.Record as frame
+use Rattle.site_frame.specs.declared.reading.RecordView.{RecordView}
+use Rattle.site_frame.specs.declared.reading.RecordView.TheVariants.{Frame, Muted}
+use Rattle.packet_slots.specs.Epochs.{lost_epoch, epoch_with}
+use Rattle.packet_slots.specs.Strings.{Block}
+use Rattle.packet_slots.specs.declared.slots.PacketSlots.{PacketSlots}
+use Rattle.plp_receiver.specs.Readable.{Part, part_with, coming, count_of, readable, all_stand}
+use Rattle.plp_config.specs.Plps.{spread}
+use Rattle.plp_receiver.specs.Taken.{IsGiven, bytes_at}
+use Rattle.plp_receiver.specs.Epochs.{part_of, cells_stand, place_of}
+use Rattle.plp_receiver.specs.Holds.{block_at, Keeps, Holds, is_begun, joined, Sees}
+use Rattle.plp_receiver.specs.Taking.{Ends, TakesEpoch, TellsEpoch}
+use Rattle.plp_receiver.specs.declared.held.HeldBlocks.{HeldBlocks}
+use Rattle.plp_receiver.proofs.ListLemmas.{slice_get_drop, zip_over}
+
+-- ---- places
+pub place_in : (k n len : ℕ) → k < n → k * len + len ≤ n * len
+place_in k n len l =
+    let p : (k + 1) * len ≤ n * len = mul-le-mul_right {m = k + 1} {n = n} len (omega (arith, l)) in
+    let e : (k + 1) * len ≡ k * len + len = omega arith in
+    omega (arith, p, e)
+
+pub place_next : (k len : ℕ) → (k + 1) * len ≡ k * len + len
+place_next k len = omega arith
+
+-- what stands behind stays
+pub left_behind : (k len : ℕ) (now mid old : List ℕ) → drop (k * len + len) now ≡ drop (k * len + len) mid
+    → drop (k * len) mid ≡ drop (k * len) old → drop ((k + 1) * len) now ≡ drop ((k + 1) * len) old
+left_behind k len now mid old e f =
+    let next = place_next k len in
+    ap (λ (n : ℕ). drop n now) next
+    ∙ e
+    ∙ sym (drop-drop len (k * len) mid)
+    ∙ ap (drop len) f
+    ∙ drop-drop len (k * len) old
+    ∙ sym (ap (λ (n : ℕ). drop n old) next)
+
+-- all tests were written
+pub written_back : (len : ℕ) (new old : List Bool) → length new ≡ len → take len (new ++ drop (length new) old) ≡ new
+written_back len new old long =
+    ap (λ (n : ℕ). take n (new ++ drop (length new) old)) (sym long) ∙ take-append_seam new (drop (length new) old)
+
+-- a block that was put to a place, and those before it
+module _ (k len : ℕ) (out block new : List ℕ) (long : length block ≡ len) (inside : k * len ≤ length out)
+    (e : new ≡ take (k * len) out ++ block ++ drop (k * len + length block) out) where
+  abbrev rest : List ℕ
+  rest = drop (k * len + length block) out
+
+  front : length (take (k * len) out) ≡ k * len
+  front = length-take-le (k * len) out inside
+
+  new_is : new ≡ take (k * len) out ++ (block ++ rest)
+  new_is = e ∙ append_assoc (take (k * len) out) block rest
+
+  pub put_here : block_at len new k ≡ block
+  put_here =
+      ap (λ (l : List ℕ). take len (drop (k * len) l)) new_is
+      ∙ ap (λ (n : ℕ). take len (drop n (take (k * len) out ++ (block ++ rest)))) (sym front)
+      ∙ ap (take len) (drop-append_seam (take (k * len) out) (block ++ rest))
+      ∙ ap (λ (n : ℕ). take n (block ++ rest)) (sym long)
+      ∙ take-append_seam block rest
+
+  pub put_before : (j : ℕ) → j < k → block_at len new j ≡ block_at len out j
+  put_before j l =
+      let a : ℕ = j * len in
+      let m : ℕ = k * len - a in
+      let fits = place_in j k len l in
+      let whole : k * len ≡ a + m = omega (arith, fits) in
+      let back : drop a (take (k * len) out) ≡ take m (drop a out) = ap (λ (n : ℕ). drop a (take n out)) whole ∙ drop-take a m out in
+      let size : len ≤ length (drop a (take (k * len) out)) = omega (arith, fits, front, length-drop a (take (k * len) out)) in
+      ap (λ (x : List ℕ). take len (drop a x)) new_is
+      ∙ ap (take len) (drop-append-le a (take (k * len) out) (block ++ rest) (omega (arith, fits, front)))
+      ∙ take-append-le len (drop a (take (k * len) out)) (block ++ rest) size
+      ∙ ap (take len) back
+      ∙ take-take len m (drop a out) (omega (arith, fits, whole))
+
+-- ---- the parts
+cells_more : (c : Config) (plp : ℕ) (parts : List Part) (q : Part) (k : ℕ) → cells_stand c plp (parts ++ q ∷ []) k
+    ≡ (cells_stand c plp parts k && all_stand c plp q k)
+cells_more c plp parts q k =
+    list_all-append (λ (p : Part). all_stand c plp p k) parts (q ∷ [])
+    ∙ ap (λ (b : Bool). cells_stand c plp parts k && b) (whole (all_stand c plp q k))
+  where
+    whole : (b : Bool) → (b && true) ≡ b
+    whole true = refl
+    whole false = refl
+
+-- what is known when the blocks of the first part were copied
+pub record Begun (c : Config) (plp : ℕ) (q : Part) (h : HeldBlocks) : Type 0 where
+  pub there : h.there ≡ true
+  pub count : h.count ≡ count_of plp q
+  pub bytes : (k : ℕ) → k < h.count → block_at h.len h.bytes.items k ≡ bytes_at q.blocks (place_of c plp q k)
+  pub stand : (k : ℕ) → k < h.count → get_or h.stands.items k false ≡ true
+
+pub begun_at : (c : Config) (plp n : ℕ) (shape : FrameShape) (blocks rest : List frame.Block) (cells : List (Option Cell))
+    (h : HeldBlocks) → h.there ≡ true → h.count ≡ slice_index shape.counts plp
+    → rest ≡ drop (sum (take plp (coming c n shape))) blocks
+    → ((k : ℕ) → k < h.count → block_at h.len h.bytes.items k ≡ bytes_at rest k)
+    → ((k : ℕ) → k < h.count → get_or h.stands.items k false ≡ true)
+    → Begun c plp (part_with n blocks shape cells) h
+begun_at c plp n shape blocks rest cells h there count behind bytes stand = record {
+  there = there;
+  count = count;
+  bytes = λ k l.
+      let front : ℕ = sum (take plp (coming c n shape)) in
+      bytes k l
+      ∙ ap (λ (l : List frame.Block). bytes_at l k) behind
+      ∙ ap (λ (o : Option frame.Block). option_map_or (λ b. b.bytes) o []) (slice_get_drop blocks front k (front + k) refl);
+  stand = stand;
+}
+
+-- and when the cells of a part were seen
+pub record Seen (c : Config) (plp : ℕ) (q : Part) (old new : HeldBlocks) : Type 0 where
+  pub there : new.there ≡ old.there
+  pub count : new.count ≡ old.count
+  pub len : new.len ≡ old.len
+  pub bytes : new.bytes.items ≡ old.bytes.items
+  pub each : (k : ℕ) → k < old.count → get_or new.stands.items k false
+      ≡ (get_or old.stands.items k false && all_stand c plp q k)
+
+module _ (c : Config) (plp : ℕ) (q : Part) where
+  same_bytes : (old new : HeldBlocks) → Seen c plp q old new → (k : ℕ) → block_at new.len new.bytes.items k
+      ≡ block_at old.len old.bytes.items k
+  same_bytes old new s k = ap₂ (λ (n : ℕ) (l : List ℕ). block_at n l k) s.len s.bytes
+
+  pub first_kept : (mid new : HeldBlocks) → Begun c plp q mid → Seen c plp q mid new → Keeps c plp q (q ∷ []) new
+  first_kept mid new b s = record {
+    there = s.there ∙ b.there;
+    count = s.count ∙ b.count;
+    bytes = λ k l. same_bytes mid new s k ∙ b.bytes k (subst (λ (m : ℕ). k < m) s.count l);
+    stand = λ k l.
+        let inside : k < mid.count = subst (λ (m : ℕ). k < m) s.count l in
+        s.each k inside
+        ∙ ap (λ (t : Bool). t && all_stand c plp q k) (b.stand k inside)
+        ∙ sym (whole (all_stand c plp q k));
+  }
+    where
+      whole : (t : Bool) → (t && true) ≡ (true && t)
+      whole true = refl
+      whole false = refl
+
+  pub begins : (n : ℕ) (old new : HeldBlocks) → (n % spread c.plps plp == 0) ≡ true → Keeps c plp q (q ∷ []) new
+      → Sees c plp n (Some q) old new
+  begins n old new first k parts started h = go parts (started ∙ ap not first)
+    where
+      go : (ps : Option (List Part)) → is_begun ps ≡ false → Holds c plp (joined plp ps (Some q)) new
+      go None e = absurd (both_ways _ e refl)
+      go (Some (p ∷ ps)) e = absurd (both_ways _ e refl)
+      go (Some []) e = k
+
+  -- the record goes on with the others, or not
+  pub goes_on : (n : ℕ) (old new : HeldBlocks) → (n % spread c.plps plp == 0) ≡ false
+      → (old.there && (old.count == count_of plp q)) ≡ true → Seen c plp q old new → Sees c plp n (Some q) old new
+  goes_on n old new later on s parts started h = go parts (started ∙ ap not later) h
+    where
+      both : (old.there ≡ true) × ((old.count == count_of plp q) ≡ true)
+      both = and_parts old.there (old.count == count_of plp q) on
+
+      go : (ps : Option (List Part)) → is_begun ps ≡ true → Holds c plp ps old → Holds c plp (joined plp ps (Some q)) new
+      go None e k = absurd (both_ways _ k both.0)
+      go (Some []) e k = absurd (both_ways _ refl e)
+      go (Some (p ∷ ps)) e k =
+          let count : count_of plp q ≡ count_of plp p = sym (eqb-true old.count (count_of plp q) both.1) ∙ k.count in
+          subst (λ (b : Bool). Holds c plp (cond {A = Option (List Part)} b (Some (p ∷ ps ++ q ∷ [])) None) new)
+          (sym (eq-eqb (count_of plp q) (count_of plp p) count))
+          (record {
+            there = s.there ∙ k.there;
+            count = s.count ∙ k.count;
+            bytes = λ i l. same_bytes old new s i ∙ k.bytes i (subst (λ (m : ℕ). i < m) s.count l);
+            stand = λ i l.
+                let inside : i < old.count = subst (λ (m : ℕ). i < m) s.count l in
+                s.each i inside
+                ∙ ap (λ (t : Bool). t && all_stand c plp q i) (k.stand i inside)
+                ∙ sym (cells_more c plp (p ∷ ps) q i);
+          })
+
+  pub breaks_off : (n : ℕ) (old new : HeldBlocks) → (n % spread c.plps plp == 0) ≡ false
+      → (old.there && (old.count == count_of plp q)) ≡ false → new.there ≡ false → Sees c plp n (Some q) old new
+  breaks_off n old new later off lost parts started h = go parts (started ∙ ap not later) h
+    where
+      go : (ps : Option (List Part)) → is_begun ps ≡ true → Holds c plp ps old → Holds c plp (joined plp ps (Some q)) new
+      go None e k = lost
+      go (Some []) e k = absurd (both_ways _ refl e)
+      go (Some (p ∷ ps)) e k =
+          let other : (old.count == count_of plp q) ≡ false =
+          sym (ap (λ (t : Bool). t && (old.count == count_of plp q)) k.there) ∙ off in
+          let differ : (count_of plp q == count_of plp p) ≡ false =
+          false_from_ne_true _ (λ (t : (count_of plp q == count_of plp p) ≡ true).
+          both_ways _ other (eq-eqb old.count (count_of plp q) (k.count ∙ sym (eqb-true (count_of plp q) (count_of plp p) t)))) in
+          subst (λ (b : Bool). Holds c plp (cond {A = Option (List Part)} b (Some (p ∷ ps ++ q ∷ [])) None) new) (sym differ) lost
+
+-- a record that is not readable
+pub loses : (c : Config) (plp n : ℕ) (old new : HeldBlocks) → new.there ≡ false → Sees c plp n None old new
+loses c plp n old new lost parts started h = go parts
+  where
+    go : (ps : Option (List Part)) → Holds c plp (joined plp ps None) new
+    go None = lost
+    go (Some []) = lost
+    go (Some (p ∷ ps)) = lost
+
+-- ---- the end of an epoch
+pub epoch_told : (c : Config) (plp : ℕ) (deletes : Bool) (h : HeldBlocks) (old new : PacketSlots) → h.there ≡ true
+    → deletes ≡ (plp_at c.plps plp).delete → TakesEpoch deletes h old new
+    → (parts : Option (List Part)) → is_begun parts ≡ true → Holds c plp parts h → TellsEpoch c plp parts old new
+epoch_told c plp deletes h old new there own t None e k = absurd (both_ways _ k there)
+epoch_told c plp deletes h old new there own t (Some []) e k = absurd (both_ways _ refl e)
+epoch_told c plp deletes h old new there own t (Some (p ∷ ps)) e k = record {
+  told = epoch_with t.told;
+  tells = (
+    t.told,
+    subst (λ (n : ℕ). AllZip Given (range_with_len 0 n) t.told) k.count
+        (zip_over (λ i b. IsGiven deletes (get_or h.stands.items i false) (block_at h.len h.bytes.items i) b) Given 0 h.count
+        t.told here t.given),
+    refl,
+  );
+  ends = t.ends;
+}
+  where
+    Given : ℕ → Option Block → Type 0
+    Given i b = IsGiven (plp_at c.plps plp).delete (cells_stand c plp (p ∷ ps) i) (bytes_at p.blocks (place_of c plp p i)) b
+
+    here : (i : ℕ) (b : Option Block) → 0 ≤ i → i < 0 + h.count
+        → IsGiven deletes (get_or h.stands.items i false) (block_at h.len h.bytes.items i) b → Given i b
+    here i b low inside g =
+        let l : i < h.count = omega (arith, inside) in
+        subst (λ (d : Bool). IsGiven d (cells_stand c plp (p ∷ ps) i) (bytes_at p.blocks (place_of c plp p i)) b) own
+        (subst (λ (x : Bool). IsGiven deletes x (bytes_at p.blocks (place_of c plp p i)) b) (k.stand i l)
+        (subst (λ (x : List ℕ). IsGiven deletes (get_or h.stands.items i false) x b) (k.bytes i l) g))
+
+pub epoch_lost : (c : Config) (plp : ℕ) (h : HeldBlocks) (old new : PacketSlots) → h.there ≡ false → Ends old new lost_epoch
+    → (parts : Option (List Part)) → is_begun parts ≡ true → Holds c plp parts h → TellsEpoch c plp parts old new
+epoch_lost c plp h old new lost ends None e k = record { told = lost_epoch; tells = refl; ends = ends }
+epoch_lost c plp h old new lost ends (Some []) e k = absurd (both_ways _ refl e)
+epoch_lost c plp h old new lost ends (Some (p ∷ ps)) e k = absurd (both_ways _ lost k.there)
+
+-- ---- a record by its parts
+pub muted_seen : (c : Config) (plp n : ℕ) (view : RecordView) (moment : Moment) (old new : HeldBlocks) → view ≡ Muted moment
+    → new.there ≡ false → Sees c plp n (part_of c n view) old new
+muted_seen c plp n view moment old new e lost =
+    subst (λ (v : RecordView). Sees c plp n (part_of c n v) old new) (sym e) (loses c plp n old new lost)
+
+pub frame_seen : (c d : Config) (plp n m : ℕ) (moment : Moment) (pre post : List Bool) (blocks : List frame.Block)
+    (cells : List (Option Cell)) (shape : FrameShape) (old new : HeldBlocks) → d ≡ c → m ≡ n
+    → readable c m pre post blocks cells ≡ Some shape → Sees d plp m (Some (part_with m blocks shape cells)) old new
+    → Sees c plp n (part_of c n (Frame moment pre post blocks cells)) old new
+frame_seen c d plp n m moment pre post blocks cells shape old new own same e s =
+    subst (λ (k : ℕ). Sees c plp k (part_of c k (Frame moment pre post blocks cells)) old new) same
+    (subst (λ (o : Option FrameShape). Sees c plp m (option_map (λ s. part_with m blocks s cells) o) old new) (sym e)
+    (subst (λ (x : Config). Sees x plp m (Some (part_with m blocks shape cells)) old new) own s))
+
+pub frame_lost : (c : Config) (plp n m : ℕ) (moment : Moment) (pre post : List Bool) (blocks : List frame.Block)
+    (cells : List (Option Cell)) (old new : HeldBlocks) → m ≡ n
+    → readable c m pre post blocks cells ≡ None → new.there ≡ false
+    → Sees c plp n (part_of c n (Frame moment pre post blocks cells)) old new
+frame_lost c plp n m moment pre post blocks cells old new same e lost =
+    subst (λ (k : ℕ). Sees c plp k (part_of c k (Frame moment pre post blocks cells)) old new) same
+    (subst (λ (o : Option FrameShape). Sees c plp m (option_map (λ s. part_with m blocks s cells) o) old new) (sym e)
+    (loses c plp m old new lost))
