@@ -3,8 +3,7 @@ use Rattle.std.proofs.Common.{◌≡◌, ℕ, List, ap, subst}
 use Rattle.std.specs.Prelude.{Ok, Err}
 use Rattle.plp_config.specs.Capacity as capacity
 use Rattle.plp_config.specs.Capacity.{AllTests}
-use Rattle.plp_config.specs.Laws.{OneRuleFails, OneFirstSpread, RefusalFails, OneTestFails, LackFails}
-use Rattle.plp_config.specs.Places.{FramesStandAlone}
+use Rattle.plp_config.specs.Laws.{OneRuleFails, RefusalFails, OneTestFails, LackFails}
 use Rattle.plp_config.specs.Rules as rules
 use Rattle.plp_config.specs.Rules.{AllRules}
 use Rattle.plp_config.specs.declared.capacity.CapacityFault.{CapacityFault}
@@ -12,12 +11,11 @@ use Rattle.plp_config.specs.declared.config.Config.{Config}
 use Rattle.plp_config.specs.declared.rules.ConfigFault.{ConfigFault}
 use Rattle.config_text.specs.ConfigText.{Spells, Refuses}
 use Rattle.config_text.specs.declared.fault.TextWhy.{TextWhy}
-use Rattle.config_file.specs.ConfigFile.{IsCause, IsNotBuilt}
-use Rattle.config_file.specs.declared.stop.ConfigStop.{ConfigStop}
-use Rattle.config_file.specs.Laws.{OneConfig, OnePlan, OneAlone, GivesPlan}
+use Rattle.config_file.specs.ConfigFile.{IsCause}
+use Rattle.config_file.specs.Laws.{OneConfig, OnePlan}
 use Rattle.config_file.specs.declared.stop.ConfigCause.{ConfigCause}
 use Rattle.config_file.specs.declared.stop.ConfigCause.TheVariants.{Text, Rule}
-use Rattle.config_file.specs.declared.stop.ConfigStop.TheVariants.{Refused, Lacks, NotBuilt, ReadFault, OutOfMemory}
+use Rattle.config_file.specs.declared.stop.ConfigStop.TheVariants.{Refused, Lacks}
 
 -- the laws of the crates below
 pub record ConfigLaws : Type 0 where
@@ -26,7 +24,6 @@ pub record ConfigLaws : Type 0 where
   pub refused : (text : List ℕ) (line other : ℕ) (why reason : TextWhy) → Refuses text line why → Refuses text other reason
       → (line ≡ other) × (why ≡ reason)
   pub one_rule : OneRuleFails
-  pub one_spread : OneFirstSpread
   pub rules_fail : RefusalFails
   pub one_test : OneTestFails
   pub tests_fail : LackFails
@@ -81,53 +78,3 @@ plan_once l text (Ok c) (Err other) a b = absurd b
 plan_once l text (Err (Refused cause)) (Err other) a b = absurd b
 plan_once l text (Err (Lacks fault)) (Err other) a b = absurd b
 plan_once l text (Err stop) other a b = absurd a
-
--- ---- frames that stand alone
--- a place where a demand fails first is none where it holds
-alone_or_not : (c : Config) (at : ℕ) → FramesStandAlone c → IsNotBuilt c (NotBuilt at) → ⊥
-alone_or_not c at alone first = first.fails (alone at first.inside)
-
-module _ (l : ConfigLaws) (text : List ℕ) where
-  -- a plan is one, and none is given beside it
-  one_plan : (c d : Config) → GivesPlan text (Ok c) → GivesPlan text (Ok d) → c ≡ d
-  one_plan c d a b = l.spelled text c d a.0 b.0
-
-  no_stop : (c : Config) (stop : ConfigStop) → GivesPlan text (Ok c) → GivesPlan text (Err stop) → ⊥
-  no_stop c (Refused cause) a b = no_cause l text c cause a.0 a.1.rules b
-  no_stop c (Lacks fault) a b = no_lack l text c b.0 fault a.0 a.1.tests b.1 b.3
-  no_stop c (NotBuilt at) a b = b
-  no_stop c ReadFault a b = b
-  no_stop c OutOfMemory a b = b
-
-pub alone_once : ConfigLaws → OneAlone
-alone_once l text (Ok c) (Ok d) a b = ap Ok (one_plan l text c d (a.0, a.1.0) (b.0, b.1.0))
-alone_once l text (Ok c) (Err (NotBuilt at)) a b =
-    absurd (alone_or_not c at a.1.1 (subst (λ (d : Config). IsNotBuilt d (NotBuilt at)) (one_plan l text b.0 c b.1 (a.0, a.1.0)) b.2))
-alone_once l text (Ok c) (Err (Refused cause)) a b = absurd (no_stop l text c (Refused cause) (a.0, a.1.0) b)
-alone_once l text (Ok c) (Err (Lacks fault)) a b = absurd (no_stop l text c (Lacks fault) (a.0, a.1.0) b)
-alone_once l text (Err (NotBuilt at)) (Ok c) a b =
-    absurd (alone_or_not c at b.1.1 (subst (λ (d : Config). IsNotBuilt d (NotBuilt at)) (one_plan l text a.0 c a.1 (b.0, b.1.0)) a.2))
-alone_once l text (Err (Refused cause)) (Ok c) a b = absurd (no_stop l text c (Refused cause) (b.0, b.1.0) a)
-alone_once l text (Err (Lacks fault)) (Ok c) a b = absurd (no_stop l text c (Lacks fault) (b.0, b.1.0) a)
-alone_once l text (Err (NotBuilt at)) (Err (NotBuilt other)) a b =
-    ap (λ (n : ℕ). Err (NotBuilt n))
-    (l.one_spread b.0 at other
-    (subst (λ (d : Config). IsNotBuilt d (NotBuilt at)) (one_plan l text a.0 b.0 a.1 b.1) a.2) b.2)
-alone_once l text (Err (NotBuilt at)) (Err (Refused cause)) a b = absurd (no_stop l text a.0 (Refused cause) a.1 b)
-alone_once l text (Err (NotBuilt at)) (Err (Lacks fault)) a b = absurd (no_stop l text a.0 (Lacks fault) a.1 b)
-alone_once l text (Err (Refused cause)) (Err (NotBuilt at)) a b = absurd (no_stop l text b.0 (Refused cause) b.1 a)
-alone_once l text (Err (Lacks fault)) (Err (NotBuilt at)) a b = absurd (no_stop l text b.0 (Lacks fault) b.1 a)
-alone_once l text (Err (Refused cause)) (Err (Refused other)) a b = plan_once l text (Err (Refused cause)) (Err (Refused other)) a b
-alone_once l text (Err (Refused cause)) (Err (Lacks fault)) a b = plan_once l text (Err (Refused cause)) (Err (Lacks fault)) a b
-alone_once l text (Err (Lacks fault)) (Err (Refused cause)) a b = plan_once l text (Err (Lacks fault)) (Err (Refused cause)) a b
-alone_once l text (Err (Lacks fault)) (Err (Lacks other)) a b = plan_once l text (Err (Lacks fault)) (Err (Lacks other)) a b
-alone_once l text (Ok c) (Err ReadFault) a b = absurd b
-alone_once l text (Ok c) (Err OutOfMemory) a b = absurd b
-alone_once l text (Err ReadFault) other a b = absurd a
-alone_once l text (Err OutOfMemory) other a b = absurd a
-alone_once l text (Err (Refused cause)) (Err ReadFault) a b = absurd b
-alone_once l text (Err (Refused cause)) (Err OutOfMemory) a b = absurd b
-alone_once l text (Err (Lacks fault)) (Err ReadFault) a b = absurd b
-alone_once l text (Err (Lacks fault)) (Err OutOfMemory) a b = absurd b
-alone_once l text (Err (NotBuilt at)) (Err ReadFault) a b = absurd b
-alone_once l text (Err (NotBuilt at)) (Err OutOfMemory) a b = absurd b

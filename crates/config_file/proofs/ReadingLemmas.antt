@@ -8,7 +8,8 @@ use Rattle.std.proofs.lemmas.Result.{IfOk-weaker, IfErr-weaker}
 use Rattle.std.proofs.Math.Seq.{get_or-append_seam, set-append_seam}
 use Rattle.terms.proofs.OptionLemmas.{was_some}
 use Rattle.ports.specs.declared.counts.Counts.{Counts}
-use Rattle.ports.specs.Counts.{Rose, MayFailReading}
+use Rattle.ports.specs.declared.fault.FaultKind.TheVariants.{Reading}
+use Rattle.ports.specs.Counts.{Rose, MayFailReading, first_of}
 use Rattle.ports.specs.Desk.{State, Held, SameCounts, Opens, bytes_of, left_of}
 use Rattle.desk_io.specs.Faults.{ReadsFail}
 use Rattle.plp_config.specs.Rules.{AllRules}
@@ -160,11 +161,13 @@ front_not_read old mid new name handle waiting text none o counts r few rose =
 
 -- a reading that failed
 pub reading_fails : {T E : Type 0} (old mid new : State) (result : Result T E) → SameCounts old mid
-    → MayFailReading mid.counts new.counts result → Rose mid.counts.reads new.counts.reads → ReadsFail old new
-reading_fails old mid new result calm m rose = record {
+    → MayFailReading mid.counts new.counts result → Rose mid.counts.reads new.counts.reads
+    → new.counts.first ≡ first_of mid.counts.first Reading → ReadsFail old new
+reading_fails old mid new result calm m rose first = record {
   rose = subst (λ (k : Counts). Rose k.reads new.counts.reads) calm rose;
+  first = subst (λ (k : Counts). new.counts.first ≡ first_of k.first Reading) calm first;
   later = subst (λ (k : Counts). k.reads ≤ new.counts.reads) calm m.later;
-  others = subst (λ (k : Counts). new.counts ≡ record k { reads = new.counts.reads }) calm m.others;
+  others = subst (λ (k : Counts). new.counts ≡ record k { reads = new.counts.reads; first = new.counts.first }) calm m.others;
 }
 
 pub config_ok : (old new : State) (name bytes : List ℕ) (result : Result Config ConfigStop) → ReadsFront old new name bytes

@@ -2,10 +2,6 @@
 use Rattle.std.specs.Prelude.{◌≡◌, ◌⊎◌, ℕ, ◌+◌, ◌<◌, ◌≤◌, min, List, length, IfSome}
 use Rattle.ports.specs.Desk.{State, SameCounts, bytes_of}
 use Rattle.plp_config.specs.Capacity as capacity
-use Rattle.plp_config.specs.Capacity.{IsPlan}
-use Rattle.plp_config.specs.FirstFailure.{IsFirstFailure}
-use Rattle.plp_config.specs.Places.{FramesStandAlone}
-use Rattle.plp_config.specs.Plps.{StandsAlone}
 use Rattle.plp_config.specs.Rules as rules
 use Rattle.plp_config.specs.Rules.{AllRules}
 use Rattle.plp_config.specs.declared.config.Config.{Config}
@@ -13,7 +9,7 @@ use Rattle.config_text.specs.ConfigText.{Spells, Refuses, longest_text}
 use Rattle.config_file.specs.declared.stop.ConfigCause.{ConfigCause}
 use Rattle.config_file.specs.declared.stop.ConfigCause.TheVariants.{Text, Rule}
 use Rattle.config_file.specs.declared.stop.ConfigStop.{ConfigStop}
-use Rattle.config_file.specs.declared.stop.ConfigStop.TheVariants.{Refused, Lacks, NotBuilt, ReadFault, OutOfMemory}
+use Rattle.config_file.specs.declared.stop.ConfigStop.TheVariants.{Refused, Lacks, ReadFault, OutOfMemory}
 use Rattle.desk_io.specs.Faults.{ReadsFail}
 use Rattle.desk_io.specs.Opening.{Opened, Unopened}
 
@@ -51,7 +47,6 @@ GivesNone old new name (Refused cause) = ReadsText old new name
 GivesNone old new name ReadFault = FailsToRead old new name
 GivesNone old new name OutOfMemory = (new ≡ old) ⊎ ReadsText old new name
 GivesNone old new name (Lacks fault) = ⊥
-GivesNone old new name (NotBuilt at) = ⊥
 
 -- The named file gives this configuration, which satisfies the rules.
 pub record Gives (old new : State) (name : List ℕ) (c : Config) : Type 0 where
@@ -68,17 +63,3 @@ LacksCapacity c stop = ⊥
 abbrev pub GivesNoPlan : State → State → List ℕ → ConfigStop → Type 0
 GivesNoPlan old new name (Lacks fault) = (c : Config) × Gives old new name c × capacity.Lacks c fault
 GivesNoPlan old new name stop = GivesNone old new name stop
-
--- A configuration is a plan, and its frames stand alone.
-abbrev pub IsAlonePlan : Config → Type 0
-IsAlonePlan c = IsPlan c × FramesStandAlone c
-
--- A plan has an interleaving frame that is carried by several frames.
-abbrev pub IsNotBuilt : Config → ConfigStop → Type 0
-IsNotBuilt c (NotBuilt at) = IsFirstFailure (StandsAlone c.plps) (length c.plps) at
-IsNotBuilt c stop = ⊥
-
--- The named file gives no plan whose frames stand alone, by cause.
-abbrev pub GivesNoAlone : State → State → List ℕ → ConfigStop → Type 0
-GivesNoAlone old new name (NotBuilt at) = (c : Config) × Gives old new name c × IsPlan c × IsNotBuilt c (NotBuilt at)
-GivesNoAlone old new name stop = GivesNoPlan old new name stop

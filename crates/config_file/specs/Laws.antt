@@ -5,9 +5,9 @@ use Rattle.plp_config.specs.Capacity.{IsPlan}
 use Rattle.plp_config.specs.Rules.{AllRules}
 use Rattle.plp_config.specs.declared.config.Config.{Config}
 use Rattle.config_text.specs.ConfigText.{Spells}
-use Rattle.config_file.specs.ConfigFile.{IsCause, IsAlonePlan, IsNotBuilt}
+use Rattle.config_file.specs.ConfigFile.{IsCause}
 use Rattle.config_file.specs.declared.stop.ConfigStop.{ConfigStop}
-use Rattle.config_file.specs.declared.stop.ConfigStop.TheVariants.{Refused, Lacks, NotBuilt}
+use Rattle.config_file.specs.declared.stop.ConfigStop.TheVariants.{Refused, Lacks}
 
 -- What a text gives, if nothing outside fails: the configuration that it spells, or why it has none that satisfies the rules.
 abbrev pub GivesConfig : List ℕ → Result Config ConfigStop → Type 0
@@ -22,12 +22,6 @@ GivesPlan text (Err (Refused cause)) = IsCause text cause
 GivesPlan text (Err (Lacks fault)) = (c : Config) × Spells text c × AllRules c × capacity.Lacks c fault
 GivesPlan text (Err stop) = ⊥
 
--- The same of a plan whose frames stand alone.
-abbrev pub GivesAlone : List ℕ → Result Config ConfigStop → Type 0
-GivesAlone text (Ok c) = Spells text c × IsAlonePlan c
-GivesAlone text (Err (NotBuilt at)) = (c : Config) × GivesPlan text (Ok c) × IsNotBuilt c (NotBuilt at)
-GivesAlone text (Err stop) = GivesPlan text (Err stop)
-
 -- A text gives one thing.
 abbrev pub OneConfig : Type 0
 OneConfig = (text : List ℕ) (result other : Result Config ConfigStop) → GivesConfig text result → GivesConfig text other
@@ -37,16 +31,9 @@ abbrev pub OnePlan : Type 0
 OnePlan = (text : List ℕ) (result other : Result Config ConfigStop) → GivesPlan text result → GivesPlan text other
     → result ≡ other
 
-abbrev pub OneAlone : Type 0
-OneAlone = (text : List ℕ) (result other : Result Config ConfigStop) → GivesAlone text result → GivesAlone text other
-    → result ≡ other
-
 -- Each text gives something.
 abbrev pub ConfigEnds : Type 0
 ConfigEnds = (text : List ℕ) → (result : Result Config ConfigStop) × GivesConfig text result
 
 abbrev pub PlanEnds : Type 0
 PlanEnds = (text : List ℕ) → (result : Result Config ConfigStop) × GivesPlan text result
-
-abbrev pub AloneEnds : Type 0
-AloneEnds = (text : List ℕ) → (result : Result Config ConfigStop) × GivesAlone text result

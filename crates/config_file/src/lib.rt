@@ -6,5 +6,5 @@ mod reading;
 mod stop;
 
 pub use laws::{config_ends, one_config};
-pub use reading::{read_alone_plan, read_config, read_plan};
+pub use reading::{read_config, read_plan};
 pub use stop::{ConfigCause, ConfigStop};

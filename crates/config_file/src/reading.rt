@@ -2,10 +2,9 @@
 ghost use Rattle.std.specs.Prelude.{◌≡◌, ◌⊎◌, ◌<◌, ◌≤◌, ◌+◌, List, ℕ, [], length, IfOk, IfErr, OnOk, OnErr};
 ghost use Rattle.ports.specs.Counts.{MayFailReading};
 ghost use Rattle.plp_config.specs.Capacity.{IsPlan};
-ghost use Rattle.plp_config.specs.Places.{FramesStandAlone};
 ghost use Rattle.plp_config.specs.Rules.{AllRules};
 ghost use Rattle.config_text.specs.ConfigText.{Spells, CausesFault};
-ghost use Rattle.config_file.specs.ConfigFile.{Gives, GivesNone, GivesNoPlan, GivesNoAlone, LacksCapacity, IsAlonePlan, IsNotBuilt};
+ghost use Rattle.config_file.specs.ConfigFile.{Gives, GivesNone, GivesNoPlan, LacksCapacity};
 ghost use Rattle.desk_io.specs.Ahead.{ReadsAhead, IsAtEnd};
 ghost use Rattle.config_file.specs.TextReading.{RefusesText};
 
@@ -83,25 +82,6 @@ pub fn read_plan<D: Desk>(alloc: Global, name: &str, desk: &mut D) -> Result<Pla
     ensures err { IfErr result (GivesNoPlan (D.state desk.old) (D.state desk.new) name.now) }
 {
     plan_of(read_config(alloc, name, desk)?)
-}
-
-// Looks whether frames stand alone.
-fn alone_of(plan: Plan) -> Result<Plan, ConfigStop>
-    ensures ok { IfOk result (λ p. (p ≡ plan) × FramesStandAlone p) }
-    ensures err { IfErr result (IsNotBuilt plan) }
-{
-    match plan.first_spread() {
-        None => Ok(plan),
-        Some(at) => Err(ConfigStop::NotBuilt { at: at as u64 }),
-    }
-}
-
-/// Reads a plan as [`read_plan`] does, and then looks whether its frames stand alone: `NotBuilt` if they do not.
-pub fn read_alone_plan<D: Desk>(alloc: Global, name: &str, desk: &mut D) -> Result<Plan, ConfigStop>
-    ensures ok { IfOk result (λ plan. Gives (D.state desk.old) (D.state desk.new) name.now plan × IsAlonePlan plan) }
-    ensures err { IfErr result (GivesNoAlone (D.state desk.old) (D.state desk.new) name.now) }
-{
-    alone_of(read_plan(alloc, name, desk)?)
 }
 
 /// Reads the configuration of a named file, and tries its rules.

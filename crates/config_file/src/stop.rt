@@ -18,9 +18,6 @@ pub enum ConfigStop {
     Refused(ConfigCause),
     /// It fails a capacity test.
     Lacks(CapacityFault),
-    /// An interleaving frame of the PLP at this place, the first such one, is carried by several frames. No command makes or takes
-    /// such frames yet.
-    NotBuilt { at: u64 },
     /// The file could not be opened or read.
     ReadFault,
     /// No memory was found.

@@ -170,13 +170,6 @@ fn say(
             eprintln!(rt; "{file}: {fault}; mend the configuration")?;
             say_plp(rt, name, plp)
         }
-        Outcome::NotBuilt { at } => {
-            eprintln!(rt;
-                "{file}: several frames carry an interleaving frame of the PLP at place {at}, counted from 0; {} makes or takes such frames only from a later version on; give it spread 1",
-                word_at(words, 0)
-            )?;
-            say_plp(rt, name, u8::try_from(at).ok())
-        }
         Outcome::InputRefused { input, packet } => eprintln!(rt;
             "{}: packet {packet}, counted from 0, does not begin with the sync byte 0x47, or the file ends inside it; OUT holds the units of the frames before; mend the file",
             Shown(word_at(words, 3 + usize::from(input)))

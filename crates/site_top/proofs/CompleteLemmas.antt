@@ -11,11 +11,12 @@ use Rattle.terms.proofs.OptionLemmas.{if_any, if_both}
 use Rattle.frame_groups.specs.Modulated.{FrameRecord}
 use Rattle.ports.specs.Counts.{Rose}
 use Rattle.ports.specs.Desk.{State, Held, SameCounts, with_name, bytes_of}
+use Rattle.plp_config.specs.Capacity.{IsPlan}
 use Rattle.plp_config.specs.Places.{IsPlace}
 use Rattle.plp_config.specs.declared.config.Config.{Config}
 use Rattle.plp_config.specs.declared.moment.TheConstants.{MOST_FRAMES}
-use Rattle.config_file.specs.ConfigFile.{Gives, GivesNone, GivesNoPlan, GivesNoAlone, IsAlonePlan}
-use Rattle.config_file.specs.Laws.{GivesConfig, GivesPlan, GivesAlone, OneAlone}
+use Rattle.config_file.specs.ConfigFile.{Gives, GivesNone, GivesNoPlan}
+use Rattle.config_file.specs.Laws.{GivesConfig, GivesPlan, OnePlan}
 use Rattle.config_file.specs.declared.stop.ConfigStop.{ConfigStop}
 use Rattle.config_file.specs.declared.stop.ConfigStop.TheVariants as config
 use Rattle.file_run.specs.FileRun.{file_at}
@@ -92,7 +93,7 @@ packets_so law file old new given text (Err (show.Files (run_fault.TooLong input
     IfSome_then old.held s (λ held x. λ outcome must r w. let many : 2 ^ 40 ≤ length (bytes_of held.files file) = x.0 in
     absurd (omega (arith, many, must.0)))
 packets_so law file old new given text (Err (show.Files (run_fault.ReadFault input))) s counts =
-    failed (ShowPackets file) old new ReadFault (inl counts.rose)
+    failed (ShowPackets file) old new ReadFault (inl counts.0.rose)
 packets_so law file old new given text (Err (show.Files run_fault.WriteFault)) s counts =
     failed (ShowPackets file) old new WriteFault (inr (inl counts.rose))
 packets_so law file old new given text (Err show.OutOfMemory) s counts =
@@ -115,7 +116,7 @@ records_so law file old new given text (Err (show.Files (run_fault.TooLong input
     IfSome_then old.held s (λ held x. λ outcome must r w. let many : 2 ^ 40 ≤ length (bytes_of held.files file) = x.0 in
     absurd (omega (arith, many, must.0)))
 records_so law file old new given text (Err (show.Files (run_fault.ReadFault input))) s counts =
-    failed (ShowFrames file) old new ReadFault (inl counts.rose)
+    failed (ShowFrames file) old new ReadFault (inl counts.0.rose)
 records_so law file old new given text (Err (show.Files run_fault.WriteFault)) s counts =
     failed (ShowFrames file) old new WriteFault (inr (inl counts.rose))
 records_so law file old new given text (Err show.OutOfMemory) s counts =
@@ -133,7 +134,7 @@ t2mi_so file old new given text (Err (show.Files (run_fault.TooLong input))) s c
     IfSome_then old.held s (λ held x. λ outcome must r w. let many : 2 ^ 40 ≤ length (bytes_of held.files file) = x.0 in
     absurd (omega (arith, many, must.0)))
 t2mi_so file old new given text (Err (show.Files (run_fault.ReadFault input))) s counts =
-    failed (ShowT2mi file) old new ReadFault (inl counts.rose)
+    failed (ShowT2mi file) old new ReadFault (inl counts.0.rose)
 t2mi_so file old new given text (Err (show.Files run_fault.WriteFault)) s counts =
     failed (ShowT2mi file) old new WriteFault (inr (inl counts.rose))
 t2mi_so file old new given text (Err show.OutOfMemory) s counts = failed (ShowT2mi file) old new OutOfMemory (inr (inr refl))
@@ -146,7 +147,6 @@ no_config old new name (config.Refused cause) n = inl n.1
 no_config old new name config.ReadFault n = inr (inl n.counts.rose)
 no_config old new name config.OutOfMemory n = inr (inr (inr refl))
 no_config old new name (config.Lacks fault) n = absurd n
-no_config old new name (config.NotBuilt at) n = absurd n
 
 no_plan : (old new : State) (name : List ℕ) (stop : ConfigStop) → GivesNoPlan old new name stop
     → IfSome old.held (λ held. GivesPlan (bytes_of held.files name) (Err stop)) ⊎ By old new (config_outcome stop)
@@ -154,15 +154,6 @@ no_plan old new name (config.Refused cause) n = inl n.1
 no_plan old new name (config.Lacks fault) n = inl (IfSome_then old.held n.1.spells (λ held x. (n.0, x, n.1.rules, n.2)))
 no_plan old new name config.ReadFault n = inr (inl n.counts.rose)
 no_plan old new name config.OutOfMemory n = inr (inr (inr refl))
-no_plan old new name (config.NotBuilt at) n = absurd n
-
-no_alone : (old new : State) (name : List ℕ) (stop : ConfigStop) → GivesNoAlone old new name stop
-    → IfSome old.held (λ held. GivesAlone (bytes_of held.files name) (Err stop)) ⊎ By old new (config_outcome stop)
-no_alone old new name (config.Refused cause) n = no_plan old new name (config.Refused cause) n
-no_alone old new name (config.Lacks fault) n = no_plan old new name (config.Lacks fault) n
-no_alone old new name (config.NotBuilt at) n = inl (IfSome_then old.held n.1.spells (λ held x. (n.0, (x, n.2), n.3)))
-no_alone old new name config.ReadFault n = no_plan old new name config.ReadFault n
-no_alone old new name config.OutOfMemory n = no_plan old new name config.OutOfMemory n
 
 -- a text was told, behind calls that did not fail
 told : (old mid new : State) (text : List ℕ) (outcome : Outcome) → SameCounts old mid → Tells mid new text outcome
@@ -273,13 +264,13 @@ run_ways old mid new config out ins c outcome same count (inr (frames, units, af
     inr
     (told old after new (gateway_line frames units) outcome (runs.counts ∙ same) tells)
 
-gateway_decided : OneAlone → OneRun → (old new : State) (config out : List ℕ) (ins : List (List ℕ)) (result : Outcome)
+gateway_decided : OnePlan → OneRun → (old new : State) (config out : List ℕ) (ins : List (List ℕ)) (result : Outcome)
     → IfSome old.held (λ held. EndsIfShort held config ins result) → IsComplete (Gateway config out ins) old new result
 gateway_decided one run old new config out ins result s =
     IfSome_then old.held s (λ held x. λ outcome must r w. inl (ended_so one run held config out ins result outcome x must))
 
-follows_so : OneAlone → OneRun → (old mid new : State) (config out : List ℕ) (ins : List (List ℕ)) (c : Config) (result : Outcome)
-    → Gives old mid config c → IsAlonePlan c → Follows mid new out ins c result →
+follows_so : OnePlan → OneRun → (old mid new : State) (config out : List ℕ) (ins : List (List ℕ)) (c : Config) (result : Outcome)
+    → Gives old mid config c → IsPlan c → Follows mid new out ins c result →
     IsComplete (Gateway config out ins) old new result
 follows_so one run old mid new config out ins c result gives plan (inl (same, other)) =
     gateway_decided one run old new config out ins result
@@ -292,13 +283,13 @@ follows_so one run old mid new config out ins c result gives plan (inr (count, r
     (failed (Gateway config out ins) old new result)
     (run_ways old mid new config out ins c result gives.reads.counts count runs)
 
-gateway_so : OneAlone → OneRun → (old new : State) (config out : List ℕ) (ins : List (List ℕ)) (result : Outcome)
+gateway_so : OnePlan → OneRun → (old new : State) (config out : List ℕ) (ins : List (List ℕ)) (result : Outcome)
     → Gateways old new config out ins result → IsComplete (Gateway config out ins) old new result
 gateway_so one run old new config out ins result (inl (stop, none, is)) =
     ⊎_elim
     (λ s. gateway_decided one run old new config out ins result (IfSome_then old.held s (λ held x. inl (stop, x, is))))
     (λ by. failed (Gateway config out ins) old new result (subst (By old new) (sym is) by))
-    (no_alone old new config stop none)
+    (no_plan old new config stop none)
 gateway_so one run old new config out ins result (inr (c, mid, gives, plan, follows)) =
     follows_so one run old mid new config out ins c result gives plan follows
 
@@ -355,7 +346,7 @@ modulate_ways old mid new file out c outcome same (inr (ran, after, runs, holds,
     inr
     (told old after new (modulate_line ran) outcome (runs.counts ∙ same) tells)
 
-modulate_so : OneAlone → OneModulation → (old new : State) (config file out : List ℕ) (result : Outcome)
+modulate_so : OnePlan → OneModulation → (old new : State) (config file out : List ℕ) (result : Outcome)
     → Modulates old new config file out result → IsComplete (Modulate config file out) old new result
 modulate_so one run old new config file out result (inl (stop, none, is)) =
     ⊎_elim
@@ -364,7 +355,7 @@ modulate_so one run old new config file out result (inl (stop, none, is)) =
     inl (unplanned_so one (bytes_of held.files config) (ModulateMustEnd (bytes_of held.files file)) stop result outcome x is
     must)))
     (λ by. failed (Modulate config file out) old new result (subst (By old new) (sym is) by))
-    (no_alone old new config stop none)
+    (no_plan old new config stop none)
 modulate_so one run old new config file out result (inr (c, mid, gives, plan, runs)) =
     ⊎_elim
     (λ w. if_both old.held _ _ _
@@ -409,7 +400,7 @@ receive_ways old mid new id file out c outcome same (inr (plp, at, inr (ran, aft
     inr
     (told old after new (receive_line ran) outcome (runs.counts ∙ same) tells)
 
-receive_so : OneAlone → OneReception → (old new : State) (config : List ℕ) (id : ℕ) (file out : List ℕ) (result : Outcome)
+receive_so : OnePlan → OneReception → (old new : State) (config : List ℕ) (id : ℕ) (file out : List ℕ) (result : Outcome)
     → Receives old new config id file out result → IsComplete (Receive config id file out) old new result
 receive_so one run old new config id file out result (inl (stop, none, is)) =
     ⊎_elim
@@ -418,7 +409,7 @@ receive_so one run old new config id file out result (inl (stop, none, is)) =
     inl (unplanned_so one (bytes_of held.files config) (ReceiveMustEnd (bytes_of held.files file) id) stop result outcome x is
     must)))
     (λ by. failed (Receive config id file out) old new result (subst (By old new) (sym is) by))
-    (no_alone old new config stop none)
+    (no_plan old new config stop none)
 receive_so one run old new config id file out result (inr (c, mid, gives, plan, follows)) =
     ⊎_elim
     (λ w. if_both old.held _ _ _
@@ -438,7 +429,7 @@ trial_so old new seed frames result (inr (text, lines, tells)) =
     (failed (Trial seed frames) old new result)
     (told old old new text result refl tells)
 
-pub is_complete : OneEnding → OneAlone → OneRun → OneModulation → OneReception → Completeness
+pub is_complete : OneEnding → OnePlan → OneRun → OneModulation → OneReception → Completeness
 is_complete law one run modulation reception (ShowPackets file) old new result s =
     subst (IsComplete (ShowPackets file) old new) (sym s.2)
     (packets_so law file old new s.1.given s.1.text s.0 s.1.lines s.1.counts)

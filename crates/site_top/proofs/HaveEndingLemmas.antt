@@ -6,7 +6,7 @@ use Rattle.ports.specs.Desk.{Held, bytes_of}
 use Rattle.plp_config.specs.Capacity.{IsPlan}
 use Rattle.plp_config.specs.declared.config.Config.{Config}
 use Rattle.site_frame.specs.RecordFile.{AreBytes}
-use Rattle.config_file.specs.Laws.{GivesAlone, ConfigEnds, PlanEnds, AloneEnds}
+use Rattle.config_file.specs.Laws.{GivesPlan, ConfigEnds, PlanEnds}
 use Rattle.config_file.specs.declared.stop.ConfigStop.{ConfigStop}
 use Rattle.desk_io.specs.Reading.{longest_file}
 use Rattle.file_run.specs.FileRun.{file_at}
@@ -33,14 +33,14 @@ plan_ends run held ins c short plan =
 
 -- over what CONFIG gives
 gateway_ends : RunEnds → (held : Held) (config out : List ℕ) (ins : List (List ℕ)) (given : Result Config ConfigStop)
-    → AreShort held ins → GivesAlone (bytes_of held.files config) given
+    → AreShort held ins → GivesPlan (bytes_of held.files config) given
     → (outcome : Outcome) × MustEnd (Gateway config out ins) held outcome
 gateway_ends run held config out ins (Err stop) short gives = (config_outcome stop, inl (stop, gives, refl))
-gateway_ends run held config out ins (Ok c) short gives = let end = plan_ends run held ins c short gives.1.0 in
+gateway_ends run held config out ins (Ok c) short gives = let end = plan_ends run held ins c short gives.1 in
     (end.0, inr (c, gives, end.1))
 
 modulate_ends : ModulationEnds → (held : Held) (config file out : List ℕ) (given : Result Config ConfigStop)
-    → length (bytes_of held.files file) < longest_file → GivesAlone (bytes_of held.files config) given
+    → length (bytes_of held.files file) < longest_file → GivesPlan (bytes_of held.files config) given
     → (outcome : Outcome) × MustEnd (Modulate config file out) held outcome
 modulate_ends run held config file out (Err stop) short gives = (config_outcome stop, inl (stop, gives, refl))
 modulate_ends run held config file out (Ok c) short gives =
@@ -57,26 +57,26 @@ receive_ends run bytes id c short plan =
 
 reception_ends : ReceptionEnds → (held : Held) (config file out : List ℕ) (id : ℕ) (given : Result Config ConfigStop)
     → (length (bytes_of held.files file) < longest_file) × AreBytes (bytes_of held.files file)
-    → GivesAlone (bytes_of held.files config) given → (outcome : Outcome) × MustEnd (Receive config id file out) held outcome
+    → GivesPlan (bytes_of held.files config) given → (outcome : Outcome) × MustEnd (Receive config id file out) held outcome
 reception_ends run held config file out id (Err stop) short gives = (config_outcome stop, inl (stop, gives, refl))
 reception_ends run held config file out id (Ok c) short gives = let end =
-    receive_ends run (bytes_of held.files file) id c short gives.1.0 in (end.0, inr (c, gives, end.1))
+    receive_ends run (bytes_of held.files file) id c short gives.1 in (end.0, inr (c, gives, end.1))
 
-pub commands_end : EachEnds → EachRecordsEnd → ConfigEnds → PlanEnds → AloneEnds → RunEnds → ModulationEnds → ReceptionEnds
+pub commands_end : EachEnds → EachRecordsEnd → ConfigEnds → PlanEnds → RunEnds → ModulationEnds → ReceptionEnds
     → CommandsHaveEnding
-commands_end packets records config plan alone run modulate receive (ShowPackets file) held short = let end =
+commands_end packets records config plan run modulate receive (ShowPackets file) held short = let end =
     packets (bytes_of held.files file) in (shown_outcome end.0, (short, (end.0, end.1, refl)))
-commands_end packets records config plan alone run modulate receive (ShowT2mi file) held short = (Done, (short, refl))
-commands_end packets records config plan alone run modulate receive (ShowFrames file) held short = let end =
+commands_end packets records config plan run modulate receive (ShowT2mi file) held short = (Done, (short, refl))
+commands_end packets records config plan run modulate receive (ShowFrames file) held short = let end =
     records (bytes_of held.files file) short.1 in (shown_outcome end.0, (short.0, (end.0, end.1, refl)))
-commands_end packets records config plan alone run modulate receive (ShowConfig file) held short = let end =
+commands_end packets records config plan run modulate receive (ShowConfig file) held short = let end =
     config (bytes_of held.files file) in (given_outcome end.0, (end.0, end.1, refl))
-commands_end packets records config plan alone run modulate receive (Plan file) held short = let end =
+commands_end packets records config plan run modulate receive (Plan file) held short = let end =
     plan (bytes_of held.files file) in (given_outcome end.0, (end.0, end.1, refl))
-commands_end packets records config plan alone run modulate receive (Gateway file out ins) held short = let end =
-    alone (bytes_of held.files file) in gateway_ends run held file out ins end.0 short end.1
-commands_end packets records config plan alone run modulate receive (Modulate config_file file out) held short = let end =
-    alone (bytes_of held.files config_file) in modulate_ends modulate held config_file file out end.0 short end.1
-commands_end packets records config plan alone run modulate receive (Receive config_file id file out) held short =
-    let end = alone (bytes_of held.files config_file) in reception_ends receive held config_file file out id end.0 short end.1
-commands_end packets records config plan alone run modulate receive (Trial seed frames) held short = (Done, refl)
+commands_end packets records config plan run modulate receive (Gateway file out ins) held short = let end =
+    plan (bytes_of held.files file) in gateway_ends run held file out ins end.0 short end.1
+commands_end packets records config plan run modulate receive (Modulate config_file file out) held short = let end =
+    plan (bytes_of held.files config_file) in modulate_ends modulate held config_file file out end.0 short end.1
+commands_end packets records config plan run modulate receive (Receive config_file id file out) held short =
+    let end = plan (bytes_of held.files config_file) in reception_ends receive held config_file file out id end.0 short end.1
+commands_end packets records config plan run modulate receive (Trial seed frames) held short = (Done, refl)

@@ -8,8 +8,6 @@ use Rattle.std.proofs.Math.Seq.{drop-append_seam}
 use Rattle.std.proofs.lemmas.Bool.{cond_both}
 use Rattle.std.proofs.lemmas.Option.{same_Some}
 use Rattle.ports.specs.Desk.{State, Held, bytes_of}
-use Rattle.plp_config.specs.Places.{FramesStandAlone}
-use Rattle.plp_config.specs.SlotTime.{epoch_ticks}
 use Rattle.plp_config.specs.Capacity.{IsPlan}
 use Rattle.plp_config.specs.Emission.{emission}
 use Rattle.plp_config.specs.Laws.{FrameCountLeast}
@@ -32,7 +30,7 @@ use Rattle.frame_records.specs.Records.{record_of, file_bytes}
 use Rattle.frame_records.specs.Recover.{recover}
 use Rattle.sent_frames.specs.SentFrames.{run_length}
 use Rattle.sent_frames.specs.Types.{TypesFit}
-use Rattle.plp_receiver.specs.Taken.{Readback}
+use Rattle.plp_receiver.specs.Epochs.{Readback}
 use Rattle.receive_run.specs.ReceiveRun.{HasAll, RunsAll}
 use Rattle.receive_run.specs.Received.{GivesBack, Received}
 use Rattle.receive_run.specs.declared.stop.Ran.{Ran}
@@ -67,7 +65,7 @@ abbrev first_of : List Moment → Moment → Moment
 first_of [] other = other
 first_of (x ∷ xs) other = x
 
-module _ (laws : FileLaws) (c : Config) (plan : IsPlan c) (types : TypesFit c) (alone : FramesStandAlone c) (plp : ℕ) (inside : plp < length c.plps) where
+module _ (laws : FileLaws) (c : Config) (plan : IsPlan c) (types : TypesFit c) (plp : ℕ) (inside : plp < length c.plps) where
   -- they are those that are read
   same_views : (file : List ℕ) (views ws : List RecordView) → AreRecords file views [] → AllByRecursion FitsRecord ws
       → file ≡ file_bytes ws → views ≡ ws
@@ -112,7 +110,7 @@ module _ (laws : FileLaws) (c : Config) (plan : IsPlan c) (types : TypesFit c) (
   frames_back : (file bytes : List ℕ) (views : List RecordView) → AreRecords file views [] → Received c plp views bytes
       → (inputs : ℕ → List (List ℕ)) (whole : ℕ → Bool) (first count : ℕ) → AllByRecursion IsPacket (inputs plp)
       → 1 ≤ count → first + count ≤ MOST_FRAMES → file ≡ file_bytes (map (record_of c inputs whole) (range_with_len first count))
-      → bytes ≡ concat (recover c plp (epoch_ticks c plp) (packet_at (inputs plp)) (λ m. not (whole m)) first count)
+      → bytes ≡ concat (recover c plp (packet_at (inputs plp)) (λ m. not (whole m)) first count)
   frames_back file bytes views records r inputs whole first count all some small is =
       r.bytes_are
       ∙ ap concat (laws.recovers c plp inputs whole first count r.packets plan types inside all
@@ -138,13 +136,13 @@ module _ (laws : FileLaws) (c : Config) (plan : IsPlan c) (types : TypesFit c) (
   run_back file bytes views records r inputs all canonical small is =
       let back : Readback c plp 0 (run_frames c inputs) r.packets = packets_back file bytes views records r inputs (λ n. true) 0
       (run_length c inputs) (some_frames inputs) (omega (arith, small)) is in
-      let b = laws.back c plp inputs r.packets plan types alone inside all canonical back in
+      let b = laws.back c plp inputs r.packets plan types inside all canonical back in
       (b.0, r.bytes_are ∙ ap concat b.1)
 
-pub comes_back : FileLaws → (c : Config) → IsPlan c → TypesFit c → FramesStandAlone c → ReceivedComesBack c
-comes_back laws c plan types alone plp file bytes views inside records r = record {
-  frames = frames_back laws c plan types alone plp inside file bytes views records r;
-  run = run_back laws c plan types alone plp inside file bytes views records r;
+pub comes_back : FileLaws → (c : Config) → IsPlan c → TypesFit c → ReceivedComesBack c
+comes_back laws c plan types plp file bytes views inside records r = record {
+  frames = frames_back laws c plan types plp inside file bytes views records r;
+  run = run_back laws c plan types plp inside file bytes views records r;
 }
 
 pub holds_back : (c : Config) (plp : ℕ) (old new : State) (file out : List ℕ) (ran : Ran) → ReceivedComesBack c

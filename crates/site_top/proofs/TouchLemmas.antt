@@ -7,7 +7,7 @@ use Rattle.std.specs.FinMap.{get}
 use Rattle.terms.proofs.OptionLemmas.{append-none, append_twice, none_some}
 use Rattle.ports.specs.Desk.{State, Held, with_name}
 use Rattle.plp_config.specs.declared.config.Config.{Config}
-use Rattle.config_file.specs.ConfigFile.{ReadsText, FailsToRead, Gives, GivesNone, GivesNoPlan, GivesNoAlone}
+use Rattle.config_file.specs.ConfigFile.{ReadsText, FailsToRead, Gives, GivesNone, GivesNoPlan}
 use Rattle.config_file.specs.declared.stop.ConfigStop.{ConfigStop}
 use Rattle.config_file.specs.declared.stop.ConfigStop.TheVariants as config
 use Rattle.desk_io.specs.Opening.{Opened, Unopened}
@@ -153,7 +153,6 @@ gives_none out old new name config.ReadFault g = text_failed out old new name g
 gives_none out old new name config.OutOfMemory g =
     ⊎_elim (λ (same : new ≡ old). untouched out 1 old new same) (λ (r : ReadsText old new name). text_read out old new name r) g
 gives_none out old new name (config.Lacks fault) g = absurd g
-gives_none out old new name (config.NotBuilt at) g = absurd g
 
 gives_no_plan : (out : Option (List ℕ)) (old new : State) (name : List ℕ) (stop : ConfigStop) → GivesNoPlan old new name stop
     → Touches out 1 old new
@@ -161,15 +160,6 @@ gives_no_plan out old new name (config.Refused cause) g = gives_none out old new
 gives_no_plan out old new name config.ReadFault g = gives_none out old new name config.ReadFault g
 gives_no_plan out old new name config.OutOfMemory g = gives_none out old new name config.OutOfMemory g
 gives_no_plan out old new name (config.Lacks fault) g = text_read out old new name g.1.reads
-gives_no_plan out old new name (config.NotBuilt at) g = absurd g
-
-gives_no_alone : (out : Option (List ℕ)) (old new : State) (name : List ℕ) (stop : ConfigStop) → GivesNoAlone old new name stop
-    → Touches out 1 old new
-gives_no_alone out old new name (config.Refused cause) g = gives_no_plan out old new name (config.Refused cause) g
-gives_no_alone out old new name config.ReadFault g = gives_no_plan out old new name config.ReadFault g
-gives_no_alone out old new name config.OutOfMemory g = gives_no_plan out old new name config.OutOfMemory g
-gives_no_alone out old new name (config.Lacks fault) g = gives_no_plan out old new name (config.Lacks fault) g
-gives_no_alone out old new name (config.NotBuilt at) g = text_read out old new name g.1.reads
 
 -- what follows CONFIG
 behind : (out : Option (List ℕ)) (reads : ℕ) (old mid new : State) (name : List ℕ) (c : Config) → Gives old mid name c
@@ -247,7 +237,7 @@ gateway_runs c mid new out ins result r = ⊎_elim
 gateway_touches : (old new : State) (config out : List ℕ) (ins : List (List ℕ)) (result : Outcome)
     → gateways.Gateways old new config out ins result → Touches (Some out) (1 + length ins) old new
 gateway_touches old new config out ins result g = ⊎_elim
-    (λ n. fewer (Some out) (length ins) old new (gives_no_alone (Some out) old new config n.0 n.1))
+    (λ n. fewer (Some out) (length ins) old new (gives_no_plan (Some out) old new config n.0 n.1))
     (λ p. behind (Some out) (length ins) old p.1 new config p.0 p.2
     (⊎_elim (λ none. untouched (Some out) (length ins) p.1 new none.0) (λ all. gateway_runs p.0 p.1 new out ins result all.1)
     p.4)) g
@@ -273,7 +263,7 @@ modulate_runs c mid new file out result r = ⊎_elim
 modulate_touches : (old new : State) (config file out : List ℕ) (result : Outcome)
     → modulates.Modulates old new config file out result → Touches (Some out) 2 old new
 modulate_touches old new config file out result g = ⊎_elim
-    (λ n. fewer (Some out) 1 old new (gives_no_alone (Some out) old new config n.0 n.1))
+    (λ n. fewer (Some out) 1 old new (gives_no_plan (Some out) old new config n.0 n.1))
     (λ p. behind (Some out) 1 old p.1 new config p.0 p.2 (modulate_runs p.0 p.1 new file out result p.4)) g
 
 -- that of a receiver
@@ -296,7 +286,7 @@ receive_runs c plp mid new file out result r = ⊎_elim
 receive_touches : (old new : State) (config : List ℕ) (id : ℕ) (file out : List ℕ) (result : Outcome)
     → receives.Receives old new config id file out result → Touches (Some out) 2 old new
 receive_touches old new config id file out result g = ⊎_elim
-    (λ n. fewer (Some out) 1 old new (gives_no_alone (Some out) old new config n.0 n.1))
+    (λ n. fewer (Some out) 1 old new (gives_no_plan (Some out) old new config n.0 n.1))
     (λ p. behind (Some out) 1 old p.1 new config p.0 p.2
     (⊎_elim (λ none. untouched (Some out) 1 p.1 new none.1) (λ all. receive_runs p.0 all.0 p.1 new file out result all.2) p.4)) g
 

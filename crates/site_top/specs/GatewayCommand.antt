@@ -2,8 +2,9 @@
 use Rattle.std.specs.Prelude.{◌≡◌, ◌⊎◌, ℕ, List, ◌++◌, length, codes}
 use Rattle.std.specs.Fmt.{decimal}
 use Rattle.ports.specs.Desk.{State}
+use Rattle.plp_config.specs.Capacity.{IsPlan}
 use Rattle.plp_config.specs.declared.config.Config.{Config}
-use Rattle.config_file.specs.ConfigFile.{Gives, GivesNoAlone, IsAlonePlan}
+use Rattle.config_file.specs.ConfigFile.{Gives, GivesNoPlan}
 use Rattle.config_file.specs.declared.stop.ConfigStop.{ConfigStop}
 use Rattle.gateway_run.specs.GatewayRun.{RunsAll, Stops}
 use Rattle.gateway_run.specs.declared.stop.RunStop.{RunStop}
@@ -27,8 +28,8 @@ abbrev pub Follows : State → State → List ℕ → List (List ℕ) → Config
 Follows mid new out ins c outcome = ((new ≡ mid) × Miscounts c ins outcome)
     ⊎ ((length ins ≡ length c.plps) × RunsAndTells mid new out ins c outcome)
 
--- `gateway CONFIG OUT IN..`: the file gives no plan whose frames stand alone, and nothing else is done; or what follows of the plan.
+-- `gateway CONFIG OUT IN..`: the file gives no plan, and nothing else is done; or what follows of the plan.
 abbrev pub Gateways : State → State → List ℕ → List ℕ → List (List ℕ) → Outcome → Type 0
 Gateways old new config out ins outcome =
-    ((stop : ConfigStop) × GivesNoAlone old new config stop × (outcome ≡ config_outcome stop))
-    ⊎ ((c : Config) × (mid : State) × Gives old mid config c × IsAlonePlan c × Follows mid new out ins c outcome)
+    ((stop : ConfigStop) × GivesNoPlan old new config stop × (outcome ≡ config_outcome stop))
+    ⊎ ((c : Config) × (mid : State) × Gives old mid config c × IsPlan c × Follows mid new out ins c outcome)

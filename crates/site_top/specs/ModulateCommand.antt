@@ -2,13 +2,14 @@
 use Rattle.std.specs.Prelude.{◌≡◌, ◌⊎◌, ◌≤◌, List, ℕ, ◌++◌, codes, IfSome}
 use Rattle.std.specs.Fmt.{decimal}
 use Rattle.ports.specs.Desk.{State, bytes_of}
+use Rattle.plp_config.specs.Capacity.{IsPlan}
 use Rattle.plp_config.specs.declared.config.Config.{Config}
 use Rattle.plp_config.specs.declared.moment.TheConstants.{MOST_FRAMES}
 use Rattle.t2mi_stream.specs.Received.{Fate}
 use Rattle.frame_records.specs.Records.{file_bytes}
 use Rattle.damage.specs.Streams.{Honest}
 use Rattle.sent_frames.specs.SentFrames.{run_length, run_stream, stream_bytes, all_kept, run_records}
-use Rattle.config_file.specs.ConfigFile.{Gives, GivesNoAlone, IsAlonePlan}
+use Rattle.config_file.specs.ConfigFile.{Gives, GivesNoPlan}
 use Rattle.config_file.specs.declared.stop.ConfigStop.{ConfigStop}
 use Rattle.modulate_run.specs.ModulateRun.{RunsAll, Stops}
 use Rattle.modulate_run.specs.declared.stop.Ran.{Ran}
@@ -55,8 +56,8 @@ RunsAndTells mid new file out c outcome =
     ⊎ ((ran : Ran) × (after : State) × RunsAll c mid after file out ran × HoldsWhatMustCome c mid after file out
     × Tells after new (modulate_line ran) outcome)
 
--- `modulate CONFIG IN OUT`: CONFIG gives no plan whose frames stand alone, and nothing else is done; or the run follows.
+-- `modulate CONFIG IN OUT`: CONFIG gives no plan, and nothing else is done; or the run follows.
 abbrev pub Modulates : State → State → List ℕ → List ℕ → List ℕ → Outcome → Type 0
 Modulates old new config file out outcome =
-    ((stop : ConfigStop) × GivesNoAlone old new config stop × (outcome ≡ config_outcome stop))
-    ⊎ ((c : Config) × (mid : State) × Gives old mid config c × IsAlonePlan c × RunsAndTells mid new file out c outcome)
+    ((stop : ConfigStop) × GivesNoPlan old new config stop × (outcome ≡ config_outcome stop))
+    ⊎ ((c : Config) × (mid : State) × Gives old mid config c × IsPlan c × RunsAndTells mid new file out c outcome)

@@ -31,7 +31,7 @@ use Rattle.show_run.specs.declared.stop.ShowStop.TheVariants as show
 use Rattle.site_top.specs.declared.outcome.Outcome.{Outcome}
 use Rattle.site_top.specs.declared.outcome.Outcome.TheVariants.{Done, Usage, WrongInputs, ConfigRefused, CapacityRefused}
 use Rattle.site_top.specs.declared.outcome.Outcome.TheVariants.{InputRefused, NoSuperframe, RecordRefused, UnknownPlp, TooLong}
-use Rattle.site_top.specs.declared.outcome.Outcome.TheVariants.{PacketRefused, NotBuilt, ReadFault, WriteFault, OutOfMemory}
+use Rattle.site_top.specs.declared.outcome.Outcome.TheVariants.{PacketRefused, ReadFault, WriteFault, OutOfMemory}
 
 -- the status that the program ends with
 abbrev pub status_of : Outcome → ℕ
@@ -46,7 +46,6 @@ status_of (RecordRefused number why) = 7
 status_of (UnknownPlp plp_id) = 8
 status_of (TooLong count) = 9
 status_of (PacketRefused at why) = 10
-status_of (NotBuilt at) = 11
 status_of ReadFault = 70
 status_of WriteFault = 71
 status_of OutOfMemory = 72
@@ -102,7 +101,6 @@ last_line (UnknownPlp plp_id) = codes "refused: plp " ++ decimal plp_id ++ codes
 last_line (TooLong count) = codes "refused: too long " ++ decimal count ++ codes "\n"
 last_line (PacketRefused at why) = codes "refused: packet at " ++ decimal at ++ codes " why " ++ decimal (why_number why)
     ++ codes "\n"
-last_line (NotBuilt at) = codes "refused: not built " ++ decimal at ++ codes "\n"
 last_line ReadFault = codes "fault: read\n"
 last_line WriteFault = codes "fault: write\n"
 last_line OutOfMemory = codes "fault: memory\n"
@@ -126,7 +124,6 @@ shown_outcome (Err show.NoRoom) = OutOfMemory
 abbrev pub config_outcome : ConfigStop → Outcome
 config_outcome (config.Refused cause) = ConfigRefused cause
 config_outcome (config.Lacks fault) = CapacityRefused fault.test fault.plp fault.need fault.have
-config_outcome (config.NotBuilt at) = NotBuilt at
 config_outcome config.ReadFault = ReadFault
 config_outcome config.OutOfMemory = OutOfMemory
 

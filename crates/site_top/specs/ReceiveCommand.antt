@@ -3,9 +3,9 @@ use Rattle.std.specs.Prelude.{◌≡◌, ◌⊎◌, ◌+◌, ◌<◌, ◌≤◌,
 use Rattle.std.specs.Fmt.{decimal}
 use Rattle.std.specs.List.{AllByRecursion, concat, range_with_len}
 use Rattle.ports.specs.Desk.{State, bytes_of}
+use Rattle.plp_config.specs.Capacity.{IsPlan}
 use Rattle.plp_config.specs.Places.{IsPlace, HasNoPlace}
 use Rattle.plp_config.specs.Plps.{plp_at}
-use Rattle.plp_config.specs.SlotTime.{epoch_ticks}
 use Rattle.plp_config.specs.declared.config.Config.{Config}
 use Rattle.plp_config.specs.declared.moment.TheConstants.{MOST_FRAMES}
 use Rattle.ts_packet.specs.Null.{null_packet}
@@ -18,7 +18,7 @@ use Rattle.frame_records.specs.Recover.{recover}
 use Rattle.sent_frames.specs.SentFrames.{run_length}
 use Rattle.recover.specs.Laws.{IsCanonical}
 use Rattle.recover.specs.Told.{IsPacket}
-use Rattle.config_file.specs.ConfigFile.{Gives, GivesNoAlone, IsAlonePlan}
+use Rattle.config_file.specs.ConfigFile.{Gives, GivesNoPlan}
 use Rattle.config_file.specs.declared.stop.ConfigStop.{ConfigStop}
 use Rattle.receive_run.specs.ReceiveRun.{RunsAll, Stops}
 use Rattle.receive_run.specs.Received.{Received}
@@ -34,15 +34,15 @@ abbrev pub receive_line : Ran → List ℕ
 receive_line ran = codes "first=" ++ decimal ran.first ++ codes " slots=" ++ decimal ran.slots ++ codes "\n"
 
 -- If a file is records of the frames of a run, these bytes are what the frames give back of the PLP at a place: for each slot
--- that is due the packet that was sent in it, and a null packet if it was not kept, if a frame that carries a part of it is
--- muted, or if the input had ended.
+-- that is due the packet that was sent in it, and a null packet if it was not kept, if the input had ended, or if an interleaving
+-- frame that carries a part of it is not there: one of its frames is muted, or is none of these.
 pub record ComesBack (c : Config) (plp : ℕ) (file bytes : List ℕ) : Type 0 where
   -- the records of frames in a row, each as all transmitters send it, or muted; so are those that must come of what is received
   -- of a stream
   pub frames : (inputs : ℕ → List (List ℕ)) (whole : ℕ → Bool) (first count : ℕ) → AllByRecursion IsPacket (inputs plp)
       → 1 ≤ count → first + count ≤ MOST_FRAMES
       → file ≡ file_bytes (map (record_of c inputs whole) (range_with_len first count))
-      → bytes ≡ concat (recover c plp (epoch_ticks c plp) (packet_at (inputs plp)) (λ m. not (whole m)) first count)
+      → bytes ≡ concat (recover c plp (packet_at (inputs plp)) (λ m. not (whole m)) first count)
   -- all frames of the run, none of them muted: the packets that were sent, if their null packets are canonical or none is
   -- deleted, and null packets behind
   pub run : (inputs : ℕ → List (List ℕ)) → AllByRecursion IsPacket (inputs plp)
@@ -72,8 +72,8 @@ Follows mid new id file out c outcome =
     (HasNoPlace c id × (new ≡ mid) × (outcome ≡ UnknownPlp id))
     ⊎ ((plp : ℕ) × IsPlace c id plp × RunsAndTells mid new file out c plp outcome)
 
--- `receive CONFIG PLP IN OUT`: CONFIG gives no plan whose frames stand alone, and nothing else is done; or what follows does.
+-- `receive CONFIG PLP IN OUT`: CONFIG gives no plan, and nothing else is done; or what follows does.
 abbrev pub Receives : State → State → List ℕ → ℕ → List ℕ → List ℕ → Outcome → Type 0
 Receives old new config id file out outcome =
-    ((stop : ConfigStop) × GivesNoAlone old new config stop × (outcome ≡ config_outcome stop))
-    ⊎ ((c : Config) × (mid : State) × Gives old mid config c × IsAlonePlan c × Follows mid new id file out c outcome)
+    ((stop : ConfigStop) × GivesNoPlan old new config stop × (outcome ≡ config_outcome stop))
+    ⊎ ((c : Config) × (mid : State) × Gives old mid config c × IsPlan c × Follows mid new id file out c outcome)

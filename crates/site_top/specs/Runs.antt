@@ -4,7 +4,7 @@ use Rattle.ports.specs.Counts.{Rose}
 use Rattle.ports.specs.Desk.{State, Held, bytes_of}
 use Rattle.plp_config.specs.Places.{IsPlace, HasNoPlace}
 use Rattle.plp_config.specs.declared.config.Config.{Config}
-use Rattle.config_file.specs.Laws.{GivesConfig, GivesPlan, GivesAlone}
+use Rattle.config_file.specs.Laws.{GivesConfig, GivesPlan}
 use Rattle.config_file.specs.declared.stop.ConfigStop.{ConfigStop}
 use Rattle.desk_io.specs.Reading.{longest_file}
 use Rattle.file_run.specs.FileRun.{file_at}
@@ -88,12 +88,11 @@ ReceiveMustEnd bytes id c outcome = (HasNoPlace c id × (outcome ≡ UnknownPlp 
     ⊎ ((plp : ℕ) × IsPlace c id plp × (length bytes < longest_file)
     × ((result : Result Received ReceiveStop) × ReceiveMust c plp bytes result × (outcome ≡ receive_outcome result)))
 
--- How a command must end whose CONFIG has this text: with its refusal, or as it must over the plan that it gives, whose frames
--- stand alone.
+-- How a command must end whose CONFIG has this text: with its refusal, or as it must over the plan that it gives.
 abbrev pub OverPlan : List ℕ → (Config → Outcome → Type 0) → Outcome → Type 0
 OverPlan text Must outcome =
-    ((stop : ConfigStop) × GivesAlone text (Err stop) × (outcome ≡ config_outcome stop))
-    ⊎ ((c : Config) × GivesAlone text (Ok c) × Must c outcome)
+    ((stop : ConfigStop) × GivesPlan text (Err stop) × (outcome ≡ config_outcome stop))
+    ⊎ ((c : Config) × GivesPlan text (Ok c) × Must c outcome)
 
 -- How a command must end over what a desk holds, if nothing outside fails. If CONFIG alone decides, nothing is asked of
 -- inputs.

@@ -24,7 +24,6 @@ pub fn outcome_of(stop: ConfigStop) -> Outcome
             need: fault.need,
             have: fault.have,
         },
-        ConfigStop::NotBuilt { at } => Outcome::NotBuilt { at },
         ConfigStop::ReadFault => Outcome::ReadFault,
         ConfigStop::OutOfMemory => Outcome::OutOfMemory,
     }

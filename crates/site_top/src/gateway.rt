@@ -6,7 +6,7 @@ ghost use Rattle.site_top.specs.Outcomes.{stopped_outcome};
 
 use crate::config_commands::{outcome_of, tell};
 use crate::outcome::{Outcome, file_outcome};
-use config_file::read_alone_plan;
+use config_file::read_plan;
 use desk_io::Line;
 use gateway_run::{Ran, RunStop};
 use plp_config::MOST_FRAMES;
@@ -48,7 +48,7 @@ pub fn gateway<D: Desk>(
     requires { are_inputs out.now ins.now ≡ true }
     ensures { Gateways (D.state desk.old) (D.state desk.new) config.now out.now ins.now result }
 {
-    let plan = match read_alone_plan(alloc, config, desk) {
+    let plan = match read_plan(alloc, config, desk) {
         Ok(plan) => plan,
         Err(stop) => return outcome_of(stop),
     };

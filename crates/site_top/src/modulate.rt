@@ -6,7 +6,7 @@ ghost use Rattle.site_top.specs.Outcomes.{modulate_stopped};
 
 use crate::config_commands::{outcome_of, tell};
 use crate::outcome::{Outcome, file_outcome};
-use config_file::read_alone_plan;
+use config_file::read_plan;
 use desk_io::Line;
 use modulate_run::{Ran, RunStop};
 use plp_config::MOST_FRAMES;
@@ -50,7 +50,7 @@ pub fn modulate<D: Desk>(
     requires { is_input out.now input.now ≡ true }
     ensures { Modulates (D.state desk.old) (D.state desk.new) config.now input.now out.now result }
 {
-    let plan = match read_alone_plan(alloc, config, desk) {
+    let plan = match read_plan(alloc, config, desk) {
         Ok(plan) => plan,
         Err(stop) => return outcome_of(stop),
     };

@@ -32,11 +32,6 @@ pub enum Outcome {
         need: u64,
         have: u64,
     },
-    /// An interleaving frame of the PLP at this place, the first such one, is carried by several frames. No command makes or takes
-    /// such frames yet.
-    NotBuilt {
-        at: u64,
-    },
     /// This packet of this input, both counted from 0, does not begin with the sync byte, or the input ends inside it. No bad
     /// packet is met in an earlier frame, or in the same frame in an earlier input.
     InputRefused {
@@ -87,7 +82,6 @@ impl Outcome {
             Outcome::UnknownPlp { .. } => 8,
             Outcome::TooLong { .. } => 9,
             Outcome::PacketRefused { .. } => 10,
-            Outcome::NotBuilt { .. } => 11,
             Outcome::ReadFault => 70,
             Outcome::WriteFault => 71,
             Outcome::OutOfMemory => 72,

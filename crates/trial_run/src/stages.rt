@@ -7,7 +7,6 @@ ghost use Rattle.gateway_run.specs.GatewayRun.{RunsAll as GatewayRuns};
 ghost use Rattle.modulate_run.specs.Counted.{counted};
 ghost use Rattle.modulate_run.specs.ModulateRun.{RunsAll as ModulatorRuns, output_of, records_of};
 ghost use Rattle.receive_run.specs.ReceiveRun.{RunsAll as ReceiverRuns};
-ghost use Rattle.plp_config.specs.Places.{FramesStandAlone};
 ghost use Rattle.trial_run.specs.Stages.{HasFile, HasInputs, AreFiles, IsSent, input_names};
 ghost use Rattle.trial_run.specs.Trial.{ComesOf};
 
@@ -81,7 +80,6 @@ fn run_gateway(
     desk: &mut MemoryDesk,
 ) -> Result<gateway_run::Ran, OutOfMemory>
     requires plps { length plan.now.plps ≡ 3 }
-    requires alone { FramesStandAlone plan.now }
     ensures { IfOk result (λ ran.
         GatewayRuns plan.now desk.old.state desk.new.state (codes "out") input_names ran.frames ran.units) }
 {
@@ -93,7 +91,6 @@ fn run_gateway(
 pub fn send(alloc: Global, plan: &Plan, inputs: &[Vec<u8>]) -> Result<Sent, OutOfMemory>
     requires plps { length plan.now.plps ≡ 3 }
     requires inputs { length inputs.now ≡ 3 }
-    requires alone { FramesStandAlone plan.now }
     ensures { (files : ℕ → List ℕ) → AreFiles files inputs.now → IfOk result (λ sent. IsSent plan.now files sent) }
 {
     front_law();
@@ -132,7 +129,6 @@ fn run_receiver(
     desk: &mut MemoryDesk,
 ) -> Result<receive_run::Ran, OutOfMemory>
     requires inside { plp < length plan.now.plps }
-    requires alone { FramesStandAlone plan.now }
     ensures { IfOk result (λ ran. ReceiverRuns plan.now plp desk.old.state desk.new.state (codes "in") (codes "out") ran) }
 {
     receive_run::run(alloc, plan, plp, IN, OUT, desk).map_err(|_| OutOfMemory)
@@ -146,7 +142,6 @@ pub fn receive(
     records: &[u8],
 ) -> Result<Vec<u8>, OutOfMemory>
     requires inside { plp < length plan.now.plps }
-    requires alone { FramesStandAlone plan.now }
     ensures { IfOk result (λ bytes. ComesOf plan.now plp records.now bytes.items) }
 {
     let mut desk = desk_with(alloc, IN, records)?;

@@ -2,7 +2,6 @@
 ghost use Rattle.std.specs.Prelude.{◌≡◌, ◌+◌, ◌*◌, ◌++◌, ◌<◌, ◌≤◌, ℕ, List, [], length, map, IfOk, OnOk};
 ghost use Rattle.std.specs.List.{range_with_len};
 ghost use Rattle.desk_io.specs.declared.line.TheConstants.{ROOM};
-ghost use Rattle.plp_config.specs.Places.{FramesStandAlone};
 ghost use Rattle.plp_config.specs.declared.config.Config.{Config};
 ghost use Rattle.trial_run.specs.Made.{IsMade};
 ghost use Rattle.trial_run.specs.Trial.{IsSameCount, IsNetworkText, IsPlpLine, IsTrialText};
@@ -48,7 +47,6 @@ fn draw_inputs(
 
 fn make(alloc: Global, plan: &Plan, frames: u32, seed: u64) -> Result<Made, OutOfMemory>
     requires plps { length plan.now.plps ≡ 3 }
-    requires alone { FramesStandAlone plan.now }
     ensures { IfOk result (IsMade plan.now frames seed) }
 {
     let mut draws = Draws::new(seed);
@@ -101,7 +99,6 @@ fn input_at(inputs: &[Vec<u8>], plp: usize) -> &[u8]
 fn line_of(alloc: Global, plan: &Plan, made: &Made, plp: usize) -> Result<Line, OutOfMemory>
     requires plp { plp < length plan.now.plps }
     requires inputs { length made.now.inputs.items ≡ length plan.now.plps }
-    requires alone { FramesStandAlone plan.now }
     ensures text { (frames seed : ℕ) → IsMade plan.now frames seed made.now → IfOk result (IsPlpLine plan.now frames seed plp) }
     ensures len { IfOk result (λ line. length line ≤ ROOM) }
 {
@@ -121,7 +118,6 @@ fn line_of(alloc: Global, plan: &Plan, made: &Made, plp: usize) -> Result<Line, 
 /// it makes.
 pub fn trial_text(alloc: Global, plan: &Plan, frames: u32, seed: u64) -> Result<Page, OutOfMemory>
     requires plps { length plan.now.plps ≡ 3 }
-    requires alone { FramesStandAlone plan.now }
     ensures { IfOk result (IsTrialText plan.now frames seed) }
 {
     let mut page = Page::open(alloc)?;

@@ -1,4 +1,4 @@
-use Rattle.config_file.proofs.EndLemmas.{config_ends, plan_ends, alone_ends}
+use Rattle.config_file.proofs.EndLemmas.{config_ends, plan_ends}
 use Rattle.config_file.proofs.laws.config_ends.Goals as goal
 
 pub returns-clause-config : goal.returns-clause-config
@@ -6,7 +6,3 @@ returns-clause-config c = config_ends c.decided.ensures c.refusal_law.ensures.ru
 
 pub returns-clause-plan : goal.returns-clause-plan
 returns-clause-plan c = plan_ends c.decided.ensures c.refusal_law.ensures.rules_decided c.refusal_law.ensures.tests_decided
-
-pub returns-clause-alone : goal.returns-clause-alone
-returns-clause-alone c = alone_ends
-    (plan_ends c.decided.ensures c.refusal_law.ensures.rules_decided c.refusal_law.ensures.tests_decided)

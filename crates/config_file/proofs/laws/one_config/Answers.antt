@@ -1,4 +1,4 @@
-use Rattle.config_file.proofs.LawLemmas.{ConfigLaws, config_once, plan_once, alone_once}
+use Rattle.config_file.proofs.LawLemmas.{ConfigLaws, config_once, plan_once}
 use Rattle.config_file.proofs.laws.one_config.Goals as goal
 
 pub returns : goal.returns
@@ -8,9 +8,8 @@ returns c =
       accepted = c.not_refused.ensures;
       refused = c.refused_once.ensures;
       one_rule = c.refusal_law.ensures.one_rule;
-      one_spread = c.refusal_law.ensures.one_spread;
       rules_fail = c.refusal_law.ensures.rules_fail;
       one_test = c.refusal_law.ensures.one_test;
       tests_fail = c.refusal_law.ensures.tests_fail;
     } in
-    record { config = config_once below; plan = plan_once below; alone = alone_once below }
+    record { config = config_once below; plan = plan_once below }

@@ -6,7 +6,7 @@ returns-in_default-read_text-clause-err g c =
     front_not_read _ _ _ _ _ _ _ c.in-Ok.ensures c.in-Ok-open.ensures.ok c.in-Ok-open.ensures.counts.ok c.read_text.ensures.reads
     c.in_default-read_text.ensures.err (reading_fails (g.D.Desk.state c.args.desk.now) (g.D.Desk.state c.open-2.new.self)
     (g.D.Desk.state c.read_text.new.desk) _ c.in-Ok-open.ensures.counts.ok c.read_text.ensures.counts
-    c.in_default-read_text.ensures.counts.err)
+    c.in_default-read_text.ensures.counts.err c.in_default-read_text.ensures.counts.first)
 
 pub returns-clause-ok : goal.returns-clause-ok
 returns-clause-ok g c =

@@ -5,7 +5,7 @@ use Rattle.site_top.proofs.RecoverLemmas.{holds_back}
 use Rattle.site_top.proofs.receive.receive.Goals as goal
 
 pub run-requires : goal.run-requires
-run-requires g c = record { plp = c.in-Some.ensures.some.inside; alone = c.in-Ok.ensures.ok.1.1; apart = other_name c.args.input.now c.args.out.now c.requires }
+run-requires g c = record { plp = c.in-Some.ensures.some.inside; apart = other_name c.args.input.now c.args.out.now c.requires }
 
 pub returns-in-Ok-run : goal.returns-in-Ok-run
 returns-in-Ok-run g c =
