@@ -1,6 +1,7 @@
 // Streams that no gateway sends: in that of the small network with 20 packets, which has 6 frames, the packets of one frame are
 // changed, and all are piped again. What must come follows from the tests of a frame's packets, and was counted by hand.
-use crate::packets::{packets_in, piped, seal, set_bits};
+use crate::changed::{seal, set_bits};
+use crate::packets::{packets_in, piped};
 use crate::receiver::{ALL, received};
 use crate::records::{Told, bytes_of, told_of};
 use crate::slots::numbered;

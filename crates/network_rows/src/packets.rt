@@ -3,15 +3,11 @@ ghost use Rattle.std.specs.Prelude.{◌≡◌, ◌<◌, ◌^◌, true};
 ghost use Rattle.t2mi_stream.specs.PiperStandsFor.{is_finished};
 ghost use Rattle.t2mi_stream.specs.UnpiperStandsFor.{fed_len, is_ready};
 
-use bit_slice::{BitSlice, OutOfMemory, crc32};
+use bit_slice::OutOfMemory;
 use std::alloc::Global;
 use std::marker::Model;
-use t2mi_packet::LARGEST;
 use t2mi_stream::{Piper, Unpiper};
 use ts_packet::SIZE;
-
-// The bytes of a CRC-32.
-const CRC: usize = 4;
 
 // More packets than any stream here has, and more bytes.
 const MOST: u64 = 1_000;
@@ -76,12 +72,8 @@ impl Unpiping {
     }
 }
 
-// The packets that are accepted in some units, each with its bytes; none if there are too many.
-pub(crate) fn packets_in(
-    alloc: Global,
-    pid: u16,
-    units: &[u8],
-) -> Result<Vec<Vec<u8>>, OutOfMemory> {
+/// The packets that are accepted in some units, each with its bytes; none if there are too many.
+pub fn packets_in(alloc: Global, pid: u16, units: &[u8]) -> Result<Vec<Vec<u8>>, OutOfMemory> {
     let mut unpiping = Unpiping::open(alloc, pid)?;
     let mut packets = Vec::new(alloc);
     for _ in 0..MOST {
@@ -169,8 +161,8 @@ fn pipe(piping: &mut Piping, packet: &[u8], units: &mut Vec<u8>) -> Result<(), O
     Ok(())
 }
 
-// The units of packets.
-pub(crate) fn piped(alloc: Global, pid: u16, packets: &[Vec<u8>]) -> Result<Vec<u8>, OutOfMemory>
+/// The units of packets.
+pub fn piped(alloc: Global, pid: u16, packets: &[Vec<u8>]) -> Result<Vec<u8>, OutOfMemory>
     requires { pid < 2 ^ 13 }
 {
     let mut piping = Piping::new(pid);
@@ -182,31 +174,4 @@ pub(crate) fn piped(alloc: Global, pid: u16, packets: &[Vec<u8>]) -> Result<Vec<
     take_unit(&mut piping, &mut units)?;
     take_unit(&mut piping, &mut units)?;
     Ok(units)
-}
-
-// Gives a packet whose bytes were changed the CRC-32 that fits.
-pub(crate) fn seal(packet: &mut [u8]) {
-    if packet.len() < CRC || packet.len() > LARGEST {
-        return;
-    }
-    let end = packet.len() - CRC;
-    let crc = crc32(BitSlice::whole(&packet[..end]));
-    packet[end..].copy_from_slice(&crc.to_be_bytes());
-}
-
-// Writes a bit of a packet, counted from its first.
-fn set_bit(packet: &mut [u8], place: usize, bit: bool) {
-    if let Some(byte) = packet.get_mut(place / 8) {
-        let mask = 0x80 >> (place % 8);
-        *byte = if bit { *byte | mask } else { *byte & !mask };
-    }
-}
-
-// Writes a number into bits of a packet, and seals it.
-pub(crate) fn set_bits(packet: &mut [u8], at: u16, width: u8, value: u32) {
-    for k in 0..width {
-        let bit = value >> (u32::from(width - 1 - k) % 32) & 1;
-        set_bit(packet, usize::from(at) + usize::from(k), bit == 1);
-    }
-    seal(packet);
 }

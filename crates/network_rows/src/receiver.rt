@@ -1,12 +1,11 @@
 // What the receiver of a PLP gives back by calls, of records that the modulator made of what the gateway made. Expected values
 // come from worked examples, or were counted by hand.
 ghost use Rattle.std.specs.Prelude.{◌≡◌, ◌<◌, length};
-ghost use Rattle.plp_config.specs.Places.{FramesStandAlone};
 ghost use Rattle.plp_receiver.specs.StandsFor.{due_of, frame_of};
 
 use crate::records::records_of;
 use crate::slots::{Slots, add_nulls, null_packet, numbered, packets_of};
-use crate::units::{plps_in, stands_alone, units_of};
+use crate::units::{plps_in, units_of};
 use bit_slice::OutOfMemory;
 use plp_config::{MOST_FRAMES, Moment, Plan, Plp};
 use plp_receiver::Receiver;
@@ -76,7 +75,6 @@ impl<'p> Model for Receiving<'p> {
 impl<'p> Receiving<'p> {
     // A receiver that begins with the frame of the first record.
     fn open(alloc: Global, plan: &'p Plan, how: Reception) -> Result<Receiving<'p>, OutOfMemory>
-        requires alone { FramesStandAlone plan.now }
         requires place { how.plp < length plan.now.plps }
         requires small { how.first < MOST_FRAMES }
     {
@@ -173,7 +171,7 @@ fn follow(
     Ok(left.is_empty() && held <= how.window)
 }
 
-// The same from the beginning. It is false too if there is no such PLP, or if frames do not stand alone.
+// The same from the beginning. It is false too if there is no such PLP.
 fn receive(
     alloc: Global,
     plan: &Plan,
@@ -181,7 +179,7 @@ fn receive(
     records: &[u8],
     given: &mut Vec<u8>,
 ) -> Result<bool, Fail> {
-    if how.plp >= plps_in(plan) || how.first >= MOST_FRAMES || !stands_alone(plan) {
+    if how.plp >= plps_in(plan) || how.first >= MOST_FRAMES {
         return Ok(false);
     }
     let mut receiving = Receiving::open(alloc, plan, how)?;

@@ -1,6 +1,5 @@
 // The units of a network, by calls of the gateway.
 ghost use Rattle.std.specs.Prelude.{◌≡◌, ◌<◌, ℕ, true, false, length};
-ghost use Rattle.plp_config.specs.Places.{FramesStandAlone};
 ghost use Rattle.gateway_core.specs.StandsFor.{plps_of, wants_of, frame_of, has_unit, has_finished};
 
 use bit_slice::OutOfMemory;
@@ -31,13 +30,6 @@ pub(crate) fn plps_in(plan: &Plan) -> usize
     ensures { result ≡ length plan.now.plps }
 {
     plan.config().plps.len()
-}
-
-// Whether each interleaving frame of a plan is carried by one frame.
-pub(crate) fn stands_alone(plan: &Plan) -> bool
-    ensures { result ≡ true → FramesStandAlone plan.now }
-{
-    plan.first_spread().is_none()
 }
 
 fn wants(gateway: &Gateway<'_>, plp: usize) -> u64
@@ -83,9 +75,7 @@ impl<'p> Model for Sending<'p> {
 }
 
 impl<'p> Sending<'p> {
-    fn open(alloc: Global, plan: &'p Plan) -> Result<Sending<'p>, OutOfMemory>
-        requires alone { FramesStandAlone plan.now }
-    {
+    fn open(alloc: Global, plan: &'p Plan) -> Result<Sending<'p>, OutOfMemory> {
         let plps = plps_in(plan);
         let gateway = Gateway::open(alloc, plan)?;
         Ok(Sending {
@@ -202,7 +192,7 @@ fn run(
     drain(sending, units)
 }
 
-// The same from the beginning; nothing, if frames do not stand alone. A gateway is large, so what owns one owns little else.
+// The same from the beginning. A gateway is large, so what owns one owns little else.
 fn send(
     alloc: Global,
     plan: &Plan,
@@ -210,14 +200,11 @@ fn send(
     next: &mut [usize],
     units: &mut Vec<u8>,
 ) -> Result<(), OutOfMemory> {
-    if !stands_alone(plan) {
-        return Ok(());
-    }
     let mut sending = Sending::open(alloc, plan)?;
     run(&mut sending, inputs, next, units)
 }
 
-/// The units of a network over the packets of each PLP; none, if an interleaving frame is carried by several frames.
+/// The units of a network over the packets of each PLP.
 pub fn gateway_units(
     alloc: Global,
     plan: &Plan,

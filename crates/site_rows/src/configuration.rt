@@ -54,17 +54,10 @@ const LOOSE: &[&str] = &[
 // The small network in version 1 of the text.
 const FIRST: &[&str] = &[FIRST_TEXT];
 
-// One whose interleaving frames are carried by two frames each; the same by three, which do not divide a superframe of two, and in two
-// TI-blocks.
+// One whose interleaving frames are carried by two frames each.
 const SPREAD: &[&str] = &[SPREAD_TEXT];
 
-// One whose second PLP alone has a spread above 1.
-const SECOND_SPREAD: &[&str] = &[
-    SMALL_HEAD,
-    SMALL_LINE,
-    "plp 1 type1 1 1/2 qpsk short 0 1 1 delete 250000 2\n",
-];
-
+// The first one with interleaving frames of three frames, which do not divide a superframe of two; and in two TI-blocks.
 const THIRDS: &[&str] = &[
     SMALL_HEAD,
     "plp 0 type1 1 1/2 qpsk short 0 8 1 delete 2000000 3\n",
@@ -291,33 +284,6 @@ static SHOWN: [Row; 8] = [
     },
 ];
 
-// What the three commands say of frames that do not stand alone; nothing else is looked at.
-const NOT_BUILT: Row = Row {
-    files: &[(
-        "c",
-        File {
-            text: SPREAD,
-            ..ONCE
-        },
-    )],
-    outcome: Outcome::NotBuilt { at: 0 },
-    status: 11,
-    said: &["refused: not built 0\n"],
-    ..ROW
-};
-
-#[rattlefmt::skip]
-static NOT_BUILT_YET: [Row; 4] = [
-    Row { why: "gateway makes no frames of a spread of 2 yet", words: &["gateway", "c", "o", "0"], ..NOT_BUILT },
-    Row { why: "nor does modulate", words: &["modulate", "c", "0", "o"], ..NOT_BUILT },
-    Row { why: "receive takes none", words: &["receive", "c", "7", "0", "o"], ..NOT_BUILT },
-    Row {
-        why: "the PLP of place 1 is the first with a spread of 2", words: &["gateway", "c", "o", "0", "1"],
-        files: &[("c", File { text: SECOND_SPREAD, ..ONCE })], outcome: Outcome::NotBuilt { at: 1 },
-        said: &["refused: not built 1\n"], ..NOT_BUILT
-    },
-];
-
 #[test]
 fn plans(rt: HostRuntime) -> Result<(), Fail> {
     all_hold(&rt, &PLANS)
@@ -331,9 +297,4 @@ fn plans_of_spreads_and_common_plps(rt: HostRuntime) -> Result<(), Fail> {
 #[test]
 fn configurations_are_shown(rt: HostRuntime) -> Result<(), Fail> {
     all_hold(&rt, &SHOWN)
-}
-
-#[test]
-fn several_frames_of_an_interleaving_frame_are_not_built_yet(rt: HostRuntime) -> Result<(), Fail> {
-    all_hold(&rt, &NOT_BUILT_YET)
 }

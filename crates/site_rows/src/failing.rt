@@ -2,8 +2,8 @@
 // leaves without a fault. `gateway.rt` has the call that says a last line.
 
 use crate::bench::{Ended, assert_outcome, done, end_of};
-use crate::rows::bytes_of;
-use crate::samples::{LOADED, LOADED_INPUT};
+use crate::rows::{File, bytes_of};
+use crate::samples::{LOADED, LOADED_INPUT, SPREAD};
 use ports::CallKind;
 use site_top::Outcome;
 use std::process::Abort;
@@ -130,14 +130,18 @@ fn calls_of(
     panic!(rt; "{}: {} {MOST}", command.why, kind.why)
 }
 
-#[test]
-fn each_call_that_fails_is_told_and_leaves_a_front(rt: HostRuntime) -> Result<(), Fail> {
+// Makes each call fail in some of the commands over a network.
+fn all_leave_fronts(
+    rt: &(impl AllocGlobal + Abort),
+    config: &File,
+    commands: &[Command],
+) -> Result<(), Fail> {
     let alloc = rt.alloc();
-    let config = bytes_of(alloc, &LOADED)?;
+    let config = bytes_of(alloc, config)?;
     let input = bytes_of(alloc, &LOADED_INPUT)?;
-    let (_, stream) = done(&rt, "gateway", &config, &[("i", &input)], COMMANDS[0].words)?;
+    let (_, stream) = done(rt, "gateway", &config, &[("i", &input)], COMMANDS[0].words)?;
     let (_, records) = done(
-        &rt,
+        rt,
         "modulate",
         &config,
         &[("s", &stream)],
@@ -149,11 +153,11 @@ fn each_call_that_fails_is_told_and_leaves_a_front(rt: HostRuntime) -> Result<()
         ("r", records.as_slice()),
         ("p", STAMP.as_slice()),
     ];
-    for command in &COMMANDS {
+    for command in commands {
         let usual = end_of(alloc, &config, &others, None, command.words)?;
-        assert_outcome(&rt, command.why, usual.outcome, Outcome::Done, 0);
+        assert_outcome(rt, command.why, usual.outcome, Outcome::Done, 0);
         for kind in &KINDS {
-            let calls = calls_of(&rt, &config, &others, command, &usual, kind)?;
+            let calls = calls_of(rt, &config, &others, command, &usual, kind)?;
             let (least, most) = if command.writes {
                 kind.writing
             } else {
@@ -168,4 +172,15 @@ fn each_call_that_fails_is_told_and_leaves_a_front(rt: HostRuntime) -> Result<()
         }
     }
     Ok(())
+}
+
+#[test]
+fn each_call_that_fails_is_told_and_leaves_a_front(rt: HostRuntime) -> Result<(), Fail> {
+    all_leave_fronts(&rt, &LOADED, &COMMANDS)
+}
+
+// The same of `gateway` and `modulate` over a network whose interleaving frames are carried by two frames each.
+#[test]
+fn so_does_each_over_interleaving_frames_of_two_frames(rt: HostRuntime) -> Result<(), Fail> {
+    all_leave_fronts(&rt, &SPREAD, &COMMANDS[..2])
 }

@@ -1,5 +1,5 @@
-// Records of successive frames, of which most are damaged or tell what does not fit. They are those of a small network, spelled by
-// hand from the tables of records and EN 302 755; L1-pre, L1-post and the CRC-8 of headers are from a Python program over its
+// Records of successive frames, of which most are damaged or tell what does not fit. They are those of a small network, spelled
+// by hand from the tables of records and EN 302 755; L1-pre, L1-post and the CRC-8 of headers are from a Python program over its
 // tables. What must come was counted by hand. Slot k starts at tick k · 48,128 / 7, without the fraction, and so frame n has the
 // slots that are over at tick 100,000 n, but not 100,000 ticks before. In two blocks of 869 bytes there are nine user packets and
 // 46 bytes of a tenth; the first one of a block is for the slot whose start its ISCR tells, and each other one for the slot

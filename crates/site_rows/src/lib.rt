@@ -18,6 +18,8 @@ mod hostile_records;
 #[cfg(test)]
 mod hostile_rows;
 #[cfg(test)]
+mod interleaving;
+#[cfg(test)]
 mod modulate;
 #[cfg(test)]
 mod random_networks;

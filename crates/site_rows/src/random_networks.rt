@@ -1,5 +1,6 @@
-// Forty networks, of which some frames are muted on the way. What must come back is counted here from the bit rate and the data
-// field of each PLP (EN 302 755, table 6 and annex C): a packet is lost if a muted frame carries a byte of it.
+// Forty networks, of which some frames are muted on the way. What must come back is counted here from the bit rate, the spread and
+// the data field of each PLP (EN 302 755, table 6 and annex C): a packet is lost if an interleaving frame carries a byte of it of
+// which a frame is muted.
 
 use crate::bench::done;
 use network_rows::null_packet;
@@ -9,9 +10,9 @@ use std::test::Fail;
 
 // Frames of 100,000 ticks of 7/64 microseconds.
 const HEAD: &str = "\
-t2-gateway 1
+t2-gateway 2
 bandwidth 8
-frame 100000 2 60000
+frame 100000 4 60000
 start 700000000 0 5
 pid 256
 network 1 2 3 474000000
@@ -25,19 +26,21 @@ const PACKET_BITS: u64 = 1_504;
 
 const TICKS_IN_SEVEN: u64 = 64_000_000;
 
-// Code rate, modulation and size of a block, the bytes of its data field, and how many have 8,100 cells at most.
+// Code rate, modulation and size of a block, the bytes of its data field, how many have 8,100 cells at most, and how many of the
+// spreads 1, 2 and 4 divide the fifth of its cells.
 struct Kind {
     code: &'static str,
     field: u64,
     blocks: u32,
+    spreads: u32,
 }
 
 #[rattlefmt::skip]
 static KINDS: [Kind; 4] = [
-    Kind { code: "1/2 16qam short", field: 869, blocks: 2 },
-    Kind { code: "3/4 64qam short", field: 1_454, blocks: 3 },
-    Kind { code: "1/2 256qam normal", field: 4_016, blocks: 1 },
-    Kind { code: "2/3 256qam normal", field: 5_370, blocks: 1 },
+    Kind { code: "1/2 16qam short", field: 869, blocks: 2, spreads: 2 },
+    Kind { code: "3/4 64qam short", field: 1_454, blocks: 3, spreads: 3 },
+    Kind { code: "1/2 256qam normal", field: 4_016, blocks: 1, spreads: 3 },
+    Kind { code: "2/3 256qam normal", field: 5_370, blocks: 1, spreads: 3 },
 ];
 
 // Numbers from a seed.
@@ -57,13 +60,15 @@ impl Draws {
     }
 }
 
-// A PLP, with the line of its configuration, what a frame carries at most, and the packets of its input.
+// A PLP, with the line of its configuration, the frames that carry an interleaving frame, what that carries at most, and the packets
+// of its input.
 #[derive(Drop)]
 struct Plp {
     id: String,
     line: String,
     delete: bool,
     bits_per_second: u64,
+    spread: u64,
     capacity: u64,
     sent: Vec<u8>,
 }
@@ -94,21 +99,32 @@ impl Plp {
         };
         let blocks = draws.below(kind.blocks).wrapping_add(1);
         let bits_per_byte = 400 + u64::from(draws.below(331));
-        let interleave = draws.below(blocks.wrapping_add(1));
+        let spread: u32 = match draws.below(kind.spreads) {
+            0 => 1,
+            1 => 2,
+            _ => 4,
+        };
+        let interleave = if spread > 1 {
+            1
+        } else {
+            draws.below(blocks.wrapping_add(1))
+        };
         let delete = draws.below(2) == 0;
-        let capacity = kind.field.wrapping_mul(u64::from(blocks));
-        let bits_per_second = bits_per_byte.wrapping_mul(capacity);
+        let of_frame = kind.field.wrapping_mul(u64::from(blocks));
+        let bits_per_second = bits_per_byte.wrapping_mul(of_frame);
+        let blocks = blocks.wrapping_mul(spread);
         let plp_type = if type2 { "type2" } else { "type1" };
         let deletion = if delete { "delete" } else { "keep" };
         Ok(Plp {
             id: format!(in alloc; "{id}")?,
             line: format!(in alloc;
-                "plp {id} {plp_type} 1 {} 0 {blocks} {interleave} {deletion} {bits_per_second}\n",
+                "plp {id} {plp_type} 1 {} 0 {blocks} {interleave} {deletion} {bits_per_second} {spread}\n",
                 kind.code
             )?,
             delete,
             bits_per_second,
-            capacity,
+            spread: u64::from(spread),
+            capacity: of_frame.wrapping_mul(u64::from(spread)),
             sent: input(alloc, draws, delete)?,
         })
     }
@@ -205,8 +221,14 @@ fn places(alloc: Global, plp: &Plp) -> Result<Vec<(u64, u64)>, Fail> {
     Ok(places)
 }
 
-// The places from which and up to which each muted frame carries bytes: a frame carries what has come when it begins, as far as
-// it can.
+// How many slots of a PLP are over when so many frames have come.
+fn slots_over(plp: &Plp, frames: u64) -> u64 {
+    let ticks = frames.wrapping_mul(TICKS * 7);
+    ticks.wrapping_mul(plp.bits_per_second) / (PACKET_BITS * TICKS_IN_SEVEN)
+}
+
+// The places from which and up to which each interleaving frame carries bytes of which a frame is muted: it carries what has come
+// when it begins, as far as it can.
 fn losses(
     alloc: Global,
     plp: &Plp,
@@ -215,18 +237,25 @@ fn losses(
 ) -> Result<Vec<(u64, u64)>, Fail> {
     let mut losses = Vec::new(alloc);
     let mut begin: u64 = 0;
+    let mut is_lost = false;
     for (frame, is_muted) in muted.iter().enumerate() {
-        let ticks = (frame as u64).wrapping_mul(TICKS * 7);
-        let slots = ticks.wrapping_mul(plp.bits_per_second) / (PACKET_BITS * TICKS_IN_SEVEN);
-        let mut come: u64 = 0;
-        for place in places.iter().take(slots as usize) {
-            come = place.1;
+        let frames = (frame as u64).wrapping_add(1);
+        is_lost = is_lost || *is_muted;
+        if frames.checked_rem(plp.spread) == Some(0) {
+            let mut come: u64 = 0;
+            for place in places
+                .iter()
+                .take(slots_over(plp, frames.wrapping_sub(plp.spread)) as usize)
+            {
+                come = place.1;
+            }
+            let end = come.min(begin.wrapping_add(plp.capacity));
+            if is_lost {
+                losses.push((begin, end))?;
+            }
+            begin = end;
+            is_lost = false;
         }
-        let end = come.min(begin.wrapping_add(plp.capacity));
-        if *is_muted {
-            losses.push((begin, end))?;
-        }
-        begin = end;
     }
     Ok(losses)
 }

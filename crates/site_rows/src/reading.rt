@@ -2,12 +2,13 @@
 
 use crate::bench::Bench;
 use crate::rows::{File, bytes_of};
-use crate::samples::{PACKET, SMALL};
+use crate::samples::{PACKET, SMALL, SPREAD};
 use plp_config::Plan;
 use ports::CallKind;
-use sample_networks::small_plan;
+use sample_networks::{small_plan, spread_plan};
 use site_top::Outcome;
 use std::alloc::Global;
+use std::process::Abort;
 use std::test::Fail;
 use ts_packet::SIZE;
 
@@ -17,7 +18,7 @@ const INPUT: File = File {
     ..PACKET
 };
 
-// Ticks of a frame of the small network.
+// Ticks of a frame of both networks.
 const TICKS: u64 = 100_000;
 
 // The bytes of T2-MI packets in a unit: behind 4 bytes of header, an adaptation field if there is one, and a pointer_field if a
@@ -87,9 +88,14 @@ fn read_by(plan: &Plan, frame: u64) -> u64 {
 
 // Whether a run over a file fails if the write of this number fails, and so of no other cause; the output, and how many bytes of
 // the file were given.
-fn run_to_write(alloc: Global, input: &[u8], nth: u64) -> Result<(bool, Vec<u8>, u64), Fail> {
+fn run_to_write(
+    alloc: Global,
+    config: &[u8],
+    input: &[u8],
+    nth: u64,
+) -> Result<(bool, Vec<u8>, u64), Fail> {
     let mut bench = Bench::new(alloc);
-    bench.put("c", &bytes_of(alloc, &SMALL)?)?;
+    bench.put("c", config)?;
     bench.put("i", input)?;
     bench.fail(CallKind::Write, nth)?;
     let failed = match bench.run(&["gateway", "c", "o", "i"])? {
@@ -101,22 +107,32 @@ fn run_to_write(alloc: Global, input: &[u8], nth: u64) -> Result<(bool, Vec<u8>,
     Ok((failed, out, bench.given("i")))
 }
 
-#[test]
-fn no_more_is_read_than_two_frames_ahead_of_the_first_that_is_lacking(
-    rt: HostRuntime,
+// The first hundred writes of a network fail in turn.
+fn reads_no_further(
+    rt: &(impl AllocGlobal + Abort),
+    config: &File,
+    plan: &Plan,
 ) -> Result<(), Fail> {
     let alloc = rt.alloc();
-    let plan = small_plan(alloc)?;
+    let config = bytes_of(alloc, config)?;
     let input = bytes_of(alloc, &INPUT)?;
-    let (failed, stream, _) = run_to_write(alloc, &input, u64::MAX)?;
+    let (failed, stream, _) = run_to_write(alloc, &config, &input, u64::MAX)?;
     assert!(rt; !failed, "no write fails");
     let places = frame_places(alloc, &carried_by(alloc, &stream)?)?;
     assert!(rt; places.len() > 600, "the stream has more than 600 frames");
     for nth in 1..101 {
-        let (failed, out, given) = run_to_write(alloc, &input, nth)?;
+        let (failed, out, given) = run_to_write(alloc, &config, &input, nth)?;
         assert!(rt; failed && out.len() < stream.len(), "write {nth} fails");
         let frame = first_lacking(&places, carried_by(alloc, &out)?.len());
-        assert!(rt; given <= read_by(&plan, frame), "write {nth}");
+        assert!(rt; given <= read_by(plan, frame), "write {nth}");
     }
     Ok(())
+}
+
+#[test]
+fn no_more_is_read_than_two_frames_ahead_of_the_first_that_is_lacking(
+    rt: HostRuntime,
+) -> Result<(), Fail> {
+    reads_no_further(&rt, &SMALL, &small_plan(rt.alloc())?)?;
+    reads_no_further(&rt, &SPREAD, &spread_plan(rt.alloc())?)
 }

@@ -4,9 +4,9 @@
 use crate::bench::done;
 use crate::damaged::{Damage, damaged};
 use crate::rows::{File, ONCE, bytes_of};
-use crate::samples::{KEPT, LOADED, NULL, SMALL};
+use crate::samples::{KEPT, LOADED, NULL, SMALL, SPREAD};
 use network_rows::{Slots, null_packet, numbered, packets_of};
-use sample_networks::REALISTIC_TEXT;
+use sample_networks::{REALISTIC_TEXT, VARIED_TEXT};
 use std::alloc::Global;
 use std::process::Abort;
 use std::test::Fail;
@@ -36,7 +36,7 @@ struct Row {
 }
 
 #[rattlefmt::skip]
-static ROWS: [Row; 7] = [
+static ROWS: [Row; 8] = [
     Row {
         why: "an empty input gives null packets", config: SMALL, input: Input::Packets(ONCE), damage: Damage::Nothing, unit: 0,
         line: "first=0 slots=14\n", slots: &[Slots::Null(14)],
@@ -74,6 +74,10 @@ static ROWS: [Row; 7] = [
         why: "a network of 40 Mbit/s gives back all packets of four frames, and null packets for the slots behind them",
         config: REALISTIC, input: Input::Numbered(23_847), damage: Damage::Nothing, unit: 0,
         line: "first=0 slots=29809\n", slots: &[Slots::Sent(0, 23_847), Slots::Null(5_962)],
+    },
+    Row {
+        why: "two frames carry an interleaving frame", config: SPREAD, input: Input::Numbered(20), damage: Damage::Nothing, unit: 0,
+        line: "first=0 slots=29\n", slots: &[Slots::Sent(0, 20), Slots::Null(9)],
     },
 ];
 
@@ -153,39 +157,69 @@ plp 3 type2 2 3/5 64qam short 0 2 1 delete 1600000
     ..ONCE
 };
 
+// A network of several PLPs, its texts and the identifiers of its PLPs.
+struct Network {
+    why: &'static str,
+    config: File,
+    plps: &'static [&'static str],
+}
+
+#[rattlefmt::skip]
+static NETWORKS: [Network; 2] = [
+    Network { why: "both types", config: MIXED, plps: &["1", "2", "3"] },
+    Network { why: "spreads of 1, 2 and 4, and a common PLP", config: VARIED, plps: &["7", "3", "9", "5"] },
+];
+
+const VARIED: File = File {
+    text: &[VARIED_TEXT],
+    ..ONCE
+};
+
 // What comes back of each PLP: every packet, and null packets behind; from the second superframe on the same; and without a unit
 // each packet in its slot, or a null packet.
-#[test]
-fn each_plp_of_a_network_of_both_types(rt: HostRuntime) -> Result<(), Fail> {
+fn each_plp_comes_back(rt: &(impl AllocGlobal + Abort), network: &Network) -> Result<(), Fail> {
     let alloc = rt.alloc();
+    let why = network.why;
     let null = null_packet();
-    let config = bytes_of(alloc, &MIXED)?;
+    let config = bytes_of(alloc, &network.config)?;
     let sent = numbered(alloc, 80)?;
-    let inputs = [
-        ("1", sent.as_slice()),
-        ("2", sent.as_slice()),
-        ("3", sent.as_slice()),
-    ];
-    let words = ["gateway", "c", "o", "1", "2", "3"];
-    let (_, stream) = done(&rt, "the stream", &config, &inputs, &words)?;
+    let mut inputs = Vec::new(alloc);
+    let mut words = Vec::new(alloc);
+    words.extend_from_slice(&["gateway", "c", "o"])?;
+    for plp in network.plps {
+        inputs.push((*plp, sent.as_slice()))?;
+        words.push(*plp)?;
+    }
+    let (_, stream) = done(rt, why, &config, &inputs, &words)?;
     let late = damaged(alloc, &stream, 20, Damage::Late)?;
     let lossy = damaged(alloc, &stream, 60, Damage::Lost)?;
-    for plp in ["1", "2", "3"] {
-        let (_, all) = received(&rt, plp, &config, plp, &stream)?;
-        assert!(rt; all.starts_with(&sent), "PLP {plp}");
+    for plp in network.plps {
+        let (_, all) = received(rt, why, &config, plp, &stream)?;
+        assert!(rt; all.starts_with(&sent), "{why}, PLP {plp}");
         for packet in all.chunks_exact(188).skip(80) {
-            assert!(rt; packet == null.as_slice(), "PLP {plp} behind what was sent");
+            assert!(rt;
+                packet == null.as_slice(),
+                "{why}, PLP {plp} behind what was sent"
+            );
         }
-        let (_, end) = received(&rt, plp, &config, plp, &late)?;
-        assert!(rt; all.ends_with(&end), "PLP {plp} of a late stream");
-        let (_, some) = received(&rt, plp, &config, plp, &lossy)?;
-        assert!(rt; some.len() == all.len(), "PLP {plp} without a unit");
+        let (_, end) = received(rt, why, &config, plp, &late)?;
+        assert!(rt; all.ends_with(&end), "{why}, PLP {plp} of a late stream");
+        let (_, some) = received(rt, why, &config, plp, &lossy)?;
+        assert!(rt; some.len() == all.len(), "{why}, PLP {plp} without a unit");
         for (packet, own) in some.chunks_exact(188).zip(all.chunks_exact(188)) {
             assert!(rt;
                 packet == own || packet == null.as_slice(),
-                "PLP {plp} without a unit"
+                "{why}, PLP {plp} without a unit"
             );
         }
+    }
+    Ok(())
+}
+
+#[test]
+fn each_plp_of_a_network_of_several(rt: HostRuntime) -> Result<(), Fail> {
+    for network in &NETWORKS {
+        each_plp_comes_back(&rt, network)?;
     }
     Ok(())
 }

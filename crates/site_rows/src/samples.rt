@@ -1,7 +1,7 @@
 // Networks, packets, units and records that several tables speak of.
 
 use crate::rows::{File, ONCE};
-use sample_networks::{LOADED_LINE, SMALL_HEAD, SMALL_LINE};
+use sample_networks::{LOADED_LINE, SMALL_HEAD, SMALL_LINE, SPREAD_TEXT};
 
 /// A network of 8 MHz with one PLP, of which a frame wants 14 or 15 packets.
 pub(crate) const SMALL: File = File {
@@ -21,6 +21,12 @@ pub(crate) const KEPT: File = File {
 /// A network with one PLP that sends as much as a frame carries.
 pub(crate) const LOADED: File = File {
     text: &[SMALL_HEAD, LOADED_LINE],
+    ..ONCE
+};
+
+/// The small network, but two frames carry an interleaving frame.
+pub(crate) const SPREAD: File = File {
+    text: &[SPREAD_TEXT],
     ..ONCE
 };
 

@@ -1,6 +1,7 @@
 // `show packets FILE`, and words that are no command.
 
 use crate::rows::{File, ONCE, ROW, Row, all_hold};
+use ports::CallKind;
 use site_top::Outcome;
 use std::test::Fail;
 use t2mi_packet::PacketWhy;
@@ -41,7 +42,7 @@ const SHOW: Row = Row {
 };
 
 #[rattlefmt::skip]
-static PACKETS: [Row; 8] = [
+static PACKETS: [Row; 10] = [
     Row {
         why: "a timestamp packet has a line", files: &[("f", File { pieces: &[FRONT, LAST], ..ONCE })],
         said: &[LINE, "packets=1\n"], ..SHOW
@@ -72,6 +73,17 @@ static PACKETS: [Row; 8] = [
         why: "a payload has the wrong length", files: &[("f", File { pieces: &[FRONT, LAST, SHORT_FRAME], ..ONCE })],
         outcome: Outcome::PacketRefused { at: 21, why: PacketWhy::PayloadShape }, status: 10,
         said: &[LINE, "refused: packet at 21 why 4\n"], ..SHOW
+    },
+    Row {
+        why: "a packet that was read is refused, though no more can be read",
+        files: &[("f", File { pieces: &[FRONT, &[0xE5]], ..ONCE })],
+        fault: Some((CallKind::Read, 2)), outcome: Outcome::PacketRefused { at: 0, why: PacketWhy::Crc }, status: 10,
+        said: &["refused: packet at 0 why 2\n"], ..SHOW
+    },
+    Row {
+        why: "a packet that was read has a line, though no more can be read",
+        files: &[("f", File { pieces: &[FRONT, LAST, &[0]], ..ONCE })],
+        fault: Some((CallKind::Read, 2)), outcome: Outcome::ReadFault, status: 70, said: &[LINE, "fault: read\n"], ..SHOW
     },
     Row {
         why: "FILE is absent", words: &["show", "packets", "g"], files: &[("f", File { pieces: &[FRONT, LAST], ..ONCE })],
