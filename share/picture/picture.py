@@ -38,7 +38,7 @@ def field(data, at, width):
 
 
 class Frame:
-    """What a record's rest has: its PLPs, the PLP of each block, and the words of its cells."""
+    """What a record's rest has: its PLPs, the PLP of each block that is sent in it, and the words of its cells."""
 
     def __init__(self, rest):
         bits, = struct.unpack_from(">I", rest, PRE)
@@ -73,8 +73,7 @@ def draw_frame(frame, number, out):
     width = max(1, min(1600, int((len(frame.words) * 2) ** 0.5)))
     rows = (len(frame.words) + width - 1) // width
     scale = max(1, 800 // width)
-    places = {plp[0]: place + 1 for place, plp in enumerate(frame.plps)}
-    of_block = bytes(places.get(plp, 0) % 256 for plp in frame.blocks)
+    of_block = bytes((place + 1) % 256 for place, plp in enumerate(frame.plps) for _ in range(plp[3]))
     pixels = bytearray(width * rows)
     for address, word in enumerate(frame.words):
         if word != NO_CELL and word // CELLS_OF_BLOCK < len(of_block):
