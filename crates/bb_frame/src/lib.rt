@@ -11,7 +11,8 @@ mod writing;
 pub use fault::BbFault;
 pub use header::{HEADER_BITS, HEADER_BYTES, Header, NO_START};
 pub use laws::{
-    bit_counts, no_refusal, one_refusal, scramble_twice, spelled_or_refused, written_is_spelled,
+    bit_counts_law, no_refusal_law, one_refusal_law, scramble_twice_law, spelled_or_refused_law,
+    written_is_spelled_law,
 };
 pub use reading::{BbView, read_frame};
 pub use scrambling::scramble;

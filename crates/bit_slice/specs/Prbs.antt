@@ -36,5 +36,5 @@ abbrev pub prbs_byte : ℕ → ℕ
 prbs_byte k = number_of (map prbs (range_with_len (8 * k) 8))
 
 -- The generator has given so many bytes.
-pub record StandsFor (generator : Prbs) (given : ℕ) : Type 0 where
+pub record PrbsStandsFor (generator : Prbs) (given : ℕ) : Type 0 where
   pub register : generator.register ≡ number_of (fifteen_before (8 * given))

@@ -8,5 +8,5 @@ abbrev pub Runs : List ℕ → ℕ → Type 0
 Runs bytes from = (k : ℕ) → k < 120 → slice_index bytes k ≡ prbs_byte (from + k)
 
 -- So many bytes were passed, and those that follow are held.
-pub record StandsFor (blocks : PrbsBlocks) (passed : ℕ) : Type 0 where
+pub record PrbsBlocksStandsFor (blocks : PrbsBlocks) (passed : ℕ) : Type 0 where
   pub bytes : Runs blocks.bytes passed

@@ -9,19 +9,19 @@ pub struct Prbs {
 
 impl Prbs {
     ghost use Rattle.std.specs.Prelude.{◌≡◌, ◌+◌, ℕ};
-    ghost use Rattle.bit_slice.specs.Prbs.{StandsFor, prbs_byte};
+    ghost use Rattle.bit_slice.specs.Prbs.{PrbsStandsFor, prbs_byte};
 
     /// The sequence from its first byte on, 0x03.
     pub fn new() -> Prbs
-        ensures { StandsFor result 0 }
+        ensures { PrbsStandsFor result 0 }
     {
         Prbs { register: 0xA9 }
     }
 
     /// The next eight bits, the first one highest.
     pub fn next_byte(&mut self) -> u8
-        ensures byte { (given : ℕ) → StandsFor self.old given → result ≡ prbs_byte given }
-        ensures stands { (given : ℕ) → StandsFor self.old given → StandsFor self.new (given + 1) }
+        ensures byte { (given : ℕ) → PrbsStandsFor self.old given → result ≡ prbs_byte given }
+        ensures stands { (given : ℕ) → PrbsStandsFor self.old given → PrbsStandsFor self.new (given + 1) }
     {
         // The newest bit that a sum asks for is the fourteenth before it, so eight sums need none of each other.
         let byte = (self.register >> 6 ^ self.register >> 7) & 0xFF;

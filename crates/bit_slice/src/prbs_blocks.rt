@@ -12,11 +12,11 @@ pub struct PrbsBlocks {
 
 impl PrbsBlocks {
     ghost use Rattle.std.specs.Prelude.{◌≡◌, ◌+◌, ℕ};
-    ghost use Rattle.bit_slice.specs.PrbsBlocks.{StandsFor, Runs};
+    ghost use Rattle.bit_slice.specs.PrbsBlocks.{PrbsBlocksStandsFor, Runs};
 
     /// The sequence from its first byte on.
     pub fn new() -> PrbsBlocks
-        ensures { StandsFor result 0 }
+        ensures { PrbsBlocksStandsFor result 0 }
     {
         let mut sequence = Prbs::new();
         let mut bytes = [0; 120];
@@ -28,14 +28,14 @@ impl PrbsBlocks {
 
     /// The next 120 bytes, as far as the sequence was passed.
     pub fn bytes(&self) -> &[u8; 120]
-        ensures { (passed : ℕ) → StandsFor self.now passed → Runs result.now passed }
+        ensures { (passed : ℕ) → PrbsBlocksStandsFor self.now passed → Runs result.now passed }
     {
         &self.bytes
     }
 
     /// Passes 120 bytes.
     pub fn advance(&mut self)
-        ensures { (passed : ℕ) → StandsFor self.old passed → StandsFor self.new (passed + 120) }
+        ensures { (passed : ℕ) → PrbsBlocksStandsFor self.old passed → PrbsBlocksStandsFor self.new (passed + 120) }
     {
         next_block(&mut self.bytes);
     }

@@ -4,7 +4,7 @@ use Rattle.std.proofs.Common.{sym, ◌∙◌}
 use Rattle.std.proofs.Common.{arith}
 use Rattle.std.specs.Prelude.{slice_index}
 use Rattle.std.proofs.lemmas.Nat.{div-add-mod', mod_below, div-mul-add, mod-mul-add, div_below, mul-le, mul-add-lt}
-use Rattle.plp_config.proofs.SpreadLemmas.{cut_parts}
+use Rattle.terms.proofs.NatLemmas.{cut_parts}
 use Rattle.std.proofs.Math.Nat.{mul_assoc, add-mul}
 use Rattle.plp_config.specs.Capacity.{IsPlan, block_cells}
 use Rattle.plp_config.specs.Rules.{SpreadDivides}

@@ -1,12 +1,12 @@
 // What the map needs of a PLP in a frame.
 ghost use Rattle.std.specs.Prelude.{◌≡◌, ◌+◌, ◌*◌, ◌<◌, ◌≤◌, ◌^◌, length, slice_index};
 ghost use Rattle.plp_config.specs.Capacity.{IsPlan, block_cells};
-ghost use Rattle.scheduler.specs.Shape.{in_type2, cells_of};
+ghost use Rattle.scheduler.specs.Shape.{cells_of};
 ghost use Rattle.cell_map.specs.Address.{first_position};
 ghost use Rattle.cell_map.specs.Slices.{IsRow, slice_count, slices_of};
 
 use crate::slices::Slices;
-use plp_config::{Plan, PlpType};
+use plp_config::Plan;
 use scheduler::Shape;
 
 /// What the plan says of a PLP.
@@ -24,18 +24,11 @@ pub struct Row {
     pub spread: u32,
 }
 
-fn is_type2(plan: &Plan, plp: usize) -> bool
-    requires { plp < length plan.now.plps }
-    ensures { result ≡ in_type2 plan.now plp }
-{
-    plan.config().plps.get(plp).unwrap().plp_type == PlpType::Type2
-}
-
 fn slice_count(plan: &Plan, plp: usize) -> u32
     requires { plp < length plan.now.plps }
     ensures { result ≡ slice_count plan.now plp }
 {
-    if is_type2(plan, plp) {
+    if plan.is_type2(plp) {
         u32::from(plan.config().sub_slices)
     } else {
         1

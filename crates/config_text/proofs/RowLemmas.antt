@@ -15,6 +15,7 @@ use Rattle.plp_config.specs.declared.band.Band.{Band}
 use Rattle.plp_config.specs.declared.band.Band.TheVariants.{Mhz1_7, Mhz5, Mhz6, Mhz7, Mhz8, Mhz10}
 use Rattle.plp_config.specs.declared.config.Config.{Config}
 use Rattle.plp_config.specs.declared.plp.Plp.{Plp}
+use Rattle.plp_config.specs.Plps.{type_number}
 use Rattle.plp_config.specs.declared.plp.PlpType.{PlpType}
 use Rattle.plp_config.specs.declared.plp.PlpType.TheVariants.{Common, Type1, Type2}
 use Rattle.plp_config.specs.declared.plp.FecSize.{FecSize}
@@ -23,7 +24,7 @@ use Rattle.plp_config.specs.declared.plp.Rate.{Rate}
 use Rattle.plp_config.specs.declared.plp.Rate.TheVariants.{R1_2, R3_5, R2_3, R3_4, R4_5, R5_6}
 use Rattle.plp_config.specs.declared.plp.Modulation.{Modulation}
 use Rattle.plp_config.specs.declared.plp.Modulation.TheVariants.{Qpsk, Qam16, Qam64, Qam256}
-use Rattle.config_text.specs.Rows.{rows_of, plp_row, type_place, bit_place, deletion_place}
+use Rattle.config_text.specs.Rows.{rows_of, plp_row, bit_place, deletion_place}
 use Rattle.plp_config.specs.Tables.{bw, plp_cod, plp_mod, plp_fec_type}
 
 -- ---- all values of a type, in the order of their places: each is found at its place
@@ -51,7 +52,7 @@ band_found Mhz10 = refl
 abbrev all_types : List PlpType
 all_types = Common ∷ Type1 ∷ Type2 ∷ []
 
-type_found : (x : PlpType) → get_or all_types (type_place x) Type1 ≡ x
+type_found : (x : PlpType) → get_or all_types (type_number x) Type1 ≡ x
 type_found Common = refl
 type_found Type1 = refl
 type_found Type2 = refl
@@ -149,7 +150,7 @@ plps_found (p ∷ ps) = λ i. plp_found p i ∷ plps_found ps i
 pub plp_put : (row : List ℕ) → FitFields plp_fields row → plp_row (plp_from row) ≡ row
 plp_put row fits =
     let at : FitFields plp_fields (first_values 12 row) = placed plp_fields row fits in
-    let type_is = put type_place all_types Type1 refl (get_or row 1 0) at.1.0 in
+    let type_is = put type_number all_types Type1 refl (get_or row 1 0) at.1.0 in
     let rate_is = put plp_cod all_rates R1_2 refl (get_or row 3 0) at.1.1.1.0 in
     let modulation_is = put plp_mod all_modulations Qpsk refl (get_or row 4 0) at.1.1.1.1.0 in
     let size_is = put plp_fec_type all_sizes Short refl (get_or row 5 0) at.1.1.1.1.1.0 in

@@ -4,18 +4,12 @@ use Rattle.plp_config.specs.declared.band.Band.{Band}
 use Rattle.plp_config.specs.declared.config.Config.{Config}
 use Rattle.plp_config.specs.declared.config.L1Numbers.{L1Numbers}
 use Rattle.plp_config.specs.declared.plp.Plp.{Plp}
-use Rattle.plp_config.specs.declared.plp.PlpType.{PlpType}
-use Rattle.plp_config.specs.declared.plp.PlpType.TheVariants.{Common, Type1, Type2}
+use Rattle.plp_config.specs.Plps.{type_number}
 use Rattle.plp_config.specs.Tables.{bw, plp_cod, plp_mod, plp_fec_type}
 use Rattle.config_text.specs.Fields.{bands}
 
--- the places of the values in their lists of words; those of bandwidth, rate, constellation and size are bw, PLP_COD, PLP_MOD and
--- PLP_FEC_TYPE
-abbrev pub type_place : PlpType → ℕ
-type_place Common = 0
-type_place Type1 = 1
-type_place Type2 = 2
-
+-- The places of the values in their lists of words: those of bandwidth, type, rate, constellation and size are bw, PLP_TYPE, PLP_COD,
+-- PLP_MOD and PLP_FEC_TYPE, and these are the others.
 abbrev pub bit_place : Bool → ℕ
 bit_place false = 0
 bit_place true = 1
@@ -32,7 +26,7 @@ band_word band = slice_index_or bands (bw band) []
 -- the values of a PLP, in the order of its line
 abbrev pub plp_row : Plp → List ℕ
 plp_row p =
-    p.id ∷ type_place p.plp_type ∷ p.group ∷ plp_cod p.rate ∷ plp_mod p.modulation ∷ plp_fec_type p.fec ∷ bit_place p.rotation
+    p.id ∷ type_number p.plp_type ∷ p.group ∷ plp_cod p.rate ∷ plp_mod p.modulation ∷ plp_fec_type p.fec ∷ bit_place p.rotation
     ∷ p.blocks ∷ p.interleave
     ∷ deletion_place p.delete ∷ p.bits_per_second ∷ p.spread ∷ []
 

@@ -1,8 +1,9 @@
 // A configuration that is filled in, a line at a time.
 ghost use Rattle.std.specs.Prelude.{◌≡◌, ℕ, ◌<◌, ◌-◌, ◌∷◌, [], length, OnOk};
+ghost use Rattle.plp_config.specs.Plps.{type_number};
 ghost use Rattle.config_text.specs.ConfigText.{first_lines};
 ghost use Rattle.config_text.specs.Fields.{fields_at, frame_fields, start_fields, network_fields, l1_fields, plp_fields};
-ghost use Rattle.config_text.specs.Rows.{type_place, plp_row};
+ghost use Rattle.config_text.specs.Rows.{plp_row};
 ghost use Rattle.plp_config.specs.Tables.{bw, plp_cod, plp_mod, plp_fec_type};
 ghost use Rattle.config_text.specs.Drafts.{Puts};
 ghost use Rattle.config_text.specs.Words.{first_values, row_of, FitFields};
@@ -32,7 +33,7 @@ fn band_of(place: u64) -> Band
 // The type of a PLP.
 fn type_of(place: u64) -> PlpType
     requires { place < 3 }
-    ensures { type_place result ≡ place }
+    ensures { type_number result ≡ place }
 {
     match place {
         0 => PlpType::Common,

@@ -17,7 +17,7 @@ mod writing;
 
 pub use decimal::number_within;
 pub use fault::{TextFault, TextWhy};
-pub use laws::{decided, not_refused, refused_once, spelled_once};
+pub use laws::{decided_law, not_refused_law, refused_once_law, spelled_once_law};
 pub use reading::{LONGEST_TEXT, read};
 pub use writing::{band_word, write};
 

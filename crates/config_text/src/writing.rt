@@ -2,7 +2,7 @@
 ghost use Rattle.std.specs.Prelude.{◌≡◌, ◌<◌, ◌≤◌, ◌++◌, ◌∷◌, [], length, slice_index_or, IfOk, IfSome, IfNone, OnOk};
 ghost use Rattle.config_text.specs.ConfigText.{canonical_line, canonical_text, Spells};
 ghost use Rattle.config_text.specs.Fields.{plp_fields, l1_fields, fields_at, words_after};
-ghost use Rattle.config_text.specs.Rows.{band_word as word_of_band, rows_of, plp_row, l1_row, type_place};
+ghost use Rattle.config_text.specs.Rows.{band_word as word_of_band, rows_of, plp_row, l1_row};
 ghost use Rattle.config_text.specs.Words.{first_values, row_of, FitFields};
 
 use crate::field::{Field, fields_at, key_at};
@@ -10,7 +10,7 @@ use crate::spelling::BANDS;
 use crate::values::MOST_FIELDS;
 use bit_slice::OutOfMemory;
 use itoa::Buffer;
-use plp_config::{Band, Config, FecSize, L1Numbers, Modulation, Plp, PlpType, Rate};
+use plp_config::{Band, Config, FecSize, L1Numbers, Modulation, Plp, Rate};
 use std::alloc::Global;
 
 type Values = [u64; MOST_FIELDS];
@@ -23,24 +23,13 @@ pub fn band_word(band: Band) -> &'static [u8]
     BANDS[usize::from(band.bw())]
 }
 
-fn type_place(value: PlpType) -> u64
-    ensures place { result ≡ type_place value }
-    ensures small { result < 3 }
-{
-    match value {
-        PlpType::Common => 0,
-        PlpType::Type1 => 1,
-        PlpType::Type2 => 2,
-    }
-}
-
 fn plp_values(plp: &Plp) -> Values
     ensures row { first_values 12 result ≡ plp_row plp.now }
     ensures fits { FitFields plp_fields (first_values 12 result) }
 {
     [
         u64::from(plp.id),
-        type_place(plp.plp_type),
+        u64::from(plp.plp_type.number()),
         u64::from(plp.group),
         u64::from(plp.rate.plp_cod()),
         u64::from(plp.modulation.plp_mod()),

@@ -70,7 +70,7 @@ impl Pool {
     }
 
     /// Each chunk is free or has a part of a block. It does nothing.
-    pub fn stays_whole(&self)
+    pub fn is_whole_law(&self)
         ensures { IsWhole self.now }
     {
         let _ = &self.chains;

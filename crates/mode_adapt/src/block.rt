@@ -5,7 +5,7 @@ ghost use Rattle.bb_frame.specs.BasebandFrame.{frame_bits, Describes};
 ghost use Rattle.bb_frame.specs.declared.header.TheConstants.{HEADER_BYTES};
 ghost use Rattle.plp_config.specs.declared.plp.TheConstants.{MOST_FIELD_BYTES};
 
-use bb_frame::{HEADER_BYTES, Header, bit_counts, write_frame};
+use bb_frame::{HEADER_BYTES, Header, bit_counts_law, write_frame};
 use bit_slice::{BitSlice, FixedBits};
 use plp_config::MOST_BLOCK_BYTES;
 
@@ -25,7 +25,7 @@ pub fn write_block(
     requires short { field_bytes ≤ MOST_FIELD_BYTES }
     ensures { block.new ≡ frame_bits header.now (bits_of field.now) (8 * (field_bytes + HEADER_BYTES)) }
 {
-    bit_counts();
+    bit_counts_law();
     block.clear();
     // There is room for any block.
     write_frame(

@@ -14,11 +14,10 @@ use crate::block::{LONGEST_BLOCK, write_block};
 use crate::block_header::Settings;
 use crate::front::drop_front;
 use crate::laws::{backlog_law, early_fits_law, within_law};
-use crate::matype::deletes;
-use bb_frame::bit_counts;
+use bb_frame::bit_counts_law;
 use bit_slice::{FixedBits, OutOfMemory};
 use linked_pool::{Pool, PoolFull, plan_fits_law};
-use null_delete::{Deleter, decided_by_the_past};
+use null_delete::{Deleter, decided_by_the_past_law};
 use plp_config::{MOST_FIELD_BYTES, Plan, block_law, length_law};
 use std::alloc::Global;
 use ts_packet::{SIZE, TsPacket};
@@ -77,10 +76,11 @@ impl Chain {
         ensures kept { IfOk result (λ chain. kept_of chain ≡ 0) }
         ensures most { IfOk result (λ chain. most_blocks chain ≡ (plp_at plan.now.plps plp).blocks) }
     {
+        plan.rules_law();
         let settings = Settings::new(plan, plp);
         Ok(Chain {
             settings,
-            deleter: Deleter::new(deletes(plan.config(), plp)),
+            deleter: Deleter::new(plan.deletes(plp)),
             slot: 0,
             sent: 0,
             made: 0,
@@ -115,7 +115,7 @@ impl Chain {
         ensures slots { slot_of self.new ≡ slot_of self.old + 1 }
         ensures most { most_blocks self.new ≡ most_blocks self.old }
     {
-        decided_by_the_past();
+        decided_by_the_past_law();
         block_law();
         length_law();
         within_law();
@@ -125,7 +125,7 @@ impl Chain {
         let bytes = packet.as_array();
         match self.deleter.push(packet) {
             None => {
-                pool.stays_whole();
+                pool.is_whole_law();
                 self.skip();
                 Ok(())
             }
@@ -180,7 +180,7 @@ impl Chain {
         ensures stays { self.new.settings ≡ self.old.settings }
         ensures slot { self.new.slot ≡ self.old.slot }
     {
-        pool.stays_whole();
+        pool.is_whole_law();
         let field_bytes = self.settings.field_bytes as usize;
         if self.made >= u32::from(self.settings.blocks) {
             return Ok(());
@@ -223,7 +223,7 @@ impl Chain {
         requires short { count ≤ self.old.settings.field_bytes }
         ensures { Writes self.old self.new count }
     {
-        bit_counts();
+        bit_counts_law();
         let up = self.first_up(count);
         let header = self.settings.header(self.sent, count, up);
         write_block(
@@ -311,7 +311,7 @@ impl Chain {
         ensures stays { self.new.settings ≡ self.old.settings }
         ensures slot { self.new.slot ≡ self.old.slot }
     {
-        pool.stays_whole();
+        pool.is_whole_law();
         let count = self.pending.len();
         if self.made >= u32::from(self.settings.blocks) {
             return Ok(());

@@ -2,8 +2,8 @@
 ghost use Rattle.mode_adapt.specs.Laws.{WithinLaw, BacklogLaw, SentLaw, SentWithin, BeginLaw, EndLaw, PlaceLaw, FirstLaw};
 ghost use Rattle.mode_adapt.specs.Laws.{JoinLaw, CountLaw, BlocksLaw, EarlyFits, BlocksFit, AloneBlocks};
 
-use bb_frame::bit_counts;
-use null_delete::decided_by_the_past;
+use bb_frame::bit_counts_law;
+use null_delete::decided_by_the_past_law;
 use plp_config::{block_law, interleaving_law, length_law, slot_time_law};
 
 /// An interleaving frame carries what the stream brings in it, and at least one user packet.
@@ -25,7 +25,7 @@ pub fn sent_law()
 {}
 
 /// What is sent has arrived, and it never falls.
-pub fn sent_within()
+pub fn sent_within_law()
     ensures { SentWithin }
 {}
 
@@ -63,7 +63,7 @@ pub fn count_law()
 pub fn blocks_law()
     ensures { BlocksLaw }
 {
-    decided_by_the_past();
+    decided_by_the_past_law();
     length_law();
     block_law();
     slot_time_law();
@@ -74,7 +74,7 @@ pub fn early_fits_law()
     ensures early { EarlyFits }
     ensures blocks { BlocksFit }
 {
-    bit_counts();
+    bit_counts_law();
     block_law();
     length_law();
 }

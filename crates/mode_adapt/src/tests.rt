@@ -1,14 +1,14 @@
 // Expected values come from worked examples and from a Python program that applies the rules to the whole list of packets.
-ghost use Rattle.std.specs.Prelude.{◌≡◌, ◌<◌, ◌≤◌, length};
 
-use crate::Chain;
+mod feed;
+
 use bb_frame::scramble;
 use bit_slice::{BitSlice, OutOfMemory, crc32};
-use linked_pool::{Pool, PoolFull};
-use plp_config::{Plan, Plp, Rate};
-use sample_networks::{LOADED_PLP, NoPlan, SMALL_PLP, SPREAD_PLP, network_of, plan_of};
+use feed::{CHUNKS, Feed};
+use linked_pool::PoolFull;
+use plp_config::{Plp, Rate};
+use sample_networks::{LOADED_PLP, SMALL_PLP, SPREAD_PLP};
 use std::alloc::Global;
-use std::process::Abort;
 use std::test::Fail;
 use ts_packet::TsPacket;
 
@@ -18,46 +18,6 @@ const LOADED: Plp = Plp {
     id: 9,
     ..LOADED_PLP
 };
-
-const CELLS: u32 = 80_000;
-
-// The chunks of the pool, if frames of so many cells stand alone.
-const CHUNKS: u32 = 7 * (CELLS / 2_025);
-
-// Why there is no frame.
-#[derive(Clone, Copy, Debug)]
-enum NoFrame {
-    Full(PoolFull),
-    OutOfMemory,
-}
-
-impl From<OutOfMemory> for NoFrame {
-    fn from(_: OutOfMemory) -> NoFrame {
-        NoFrame::OutOfMemory
-    }
-}
-
-impl From<PoolFull> for NoFrame {
-    fn from(full: PoolFull) -> NoFrame {
-        NoFrame::Full(full)
-    }
-}
-
-// A chain with the slot of its next packet, for the first PLP of a plan; `frame` counts interleaving frames.
-#[derive(Drop)]
-struct Feed {
-    alloc: Global,
-    plan: Plan,
-    chain: Chain,
-    pool: Pool,
-    slot: u64,
-    frame: u32,
-    ghost list: { 1 ≤ length pool.lists },
-    ghost same: { slot_of chain ≡ slot },
-    ghost one: { 1 ≤ length plan.plps },
-}
-
-ghost use Rattle.mode_adapt.specs.StandsFor.{slot_of};
 
 // A packet with a number, null or not.
 fn packet(number: u64, null: bool) -> TsPacket {
@@ -87,69 +47,6 @@ fn mixed(alloc: Global, count: u64) -> Result<Vec<TsPacket>, OutOfMemory> {
         packets.push(packet(slot, 500 <= slot && null))?;
     }
     Ok(packets)
-}
-
-impl Feed {
-    fn new(rt: &(impl Abort + AllocGlobal), plps: &[Plp], chunks: u32) -> Result<Feed, NoPlan> {
-        let plan = plan_of(network_of(rt.alloc(), plps, CELLS, 1)?)?;
-        assert!(rt; plan.config().plps.len() > 0);
-        let chain = Chain::open(rt.alloc(), &plan, 0)?;
-        let pool = Pool::open(rt.alloc(), chunks, 1)?;
-        Ok(Feed {
-            alloc: rt.alloc(),
-            plan,
-            chain,
-            pool,
-            slot: 0,
-            frame: 0,
-        })
-    }
-
-    fn offer(&mut self, packet: &TsPacket) -> Result<(), PoolFull> {
-        if self.slot < 1 << 54 {
-            let put = self.chain.offer(packet, &mut self.pool, 0);
-            self.slot += 1;
-            put?;
-        }
-        Ok(())
-    }
-
-    // Offers the packets of the next frame, if these begin at slot 0, and null packets follow.
-    fn fill(&mut self, packets: &[TsPacket]) -> Result<(), PoolFull> {
-        let end = self
-            .plan
-            .slots_by(0, u64::from(self.frame) * self.plan.epoch_ticks(0));
-        for slot in self.slot..end {
-            match packets.get(slot as usize) {
-                Some(packet) => self.offer(packet)?,
-                None => self.offer(&TsPacket::canonical())?,
-            }
-        }
-        Ok(())
-    }
-
-    // The blocks of the list, which is emptied.
-    fn take_list(&mut self) -> Result<Vec<Vec<u8>>, OutOfMemory> {
-        let mut frame = Vec::new(self.alloc);
-        for place in 0..self.pool.count(0) {
-            if let Some(block) = self.pool.block(0, place) {
-                let mut bytes = Vec::new(self.alloc);
-                bytes.resize(block.len(), 0xAA)?;
-                block.copy_to(bytes.as_mut_slice());
-                frame.push(bytes)?;
-            }
-        }
-        self.pool.clear(0);
-        Ok(frame)
-    }
-
-    // The blocks of the next frame.
-    fn next_frame(&mut self, packets: &[TsPacket]) -> Result<Vec<Vec<u8>>, NoFrame> {
-        self.fill(packets)?;
-        self.frame = self.frame.wrapping_add(1);
-        self.chain.cut(&mut self.pool, 0)?;
-        Ok(self.take_list()?)
-    }
 }
 
 // Appends the data field of a block, as long as DFL says.
@@ -190,8 +87,8 @@ fn a_block_is_put_when_its_data_field_is_full(rt: HostRuntime) -> Result<(), Fai
     assert!(rt; feed.next_frame(&packets)?.is_empty());
     for (blocks, backlog) in [(0, 188), (0, 376), (0, 564), (0, 752), (1, 71), (1, 259)] {
         feed.offer(&packet(0, false))?;
-        assert_eq!(rt; feed.pool.count(0), blocks);
-        assert_eq!(rt; feed.chain.backlog(), backlog);
+        assert_eq!(rt; feed.blocks(), blocks);
+        assert_eq!(rt; feed.backlog(), backlog);
     }
     Ok(())
 }
@@ -202,7 +99,6 @@ fn a_block_is_refused_where_the_pool_is_too_small(rt: HostRuntime) -> Result<(),
     let mut feed = Feed::new(&rt, &[PLP], 3)?;
     let packets = packets(rt.alloc(), 0, 20)?;
     assert!(rt; feed.next_frame(&packets)?.is_empty());
-    feed.frame = 1;
     assert_eq!(rt; feed.fill(&packets), Err(PoolFull { need: 4, spare: 3 }));
     Ok(())
 }
@@ -217,7 +113,7 @@ fn two_frames_carry_an_interleaving_frame(rt: HostRuntime) -> Result<(), Fail> {
         let frame = feed.next_frame(&packets)?;
         assert_eq!(rt; frame.len(), blocks);
         assert_eq!(rt; carried(rt.alloc(), &frame)?.len(), bytes);
-        assert_eq!(rt; feed.slot, slot);
+        assert_eq!(rt; feed.slot(), slot);
     }
     Ok(())
 }
@@ -239,7 +135,7 @@ fn backlogs_of_a_loaded_network(rt: HostRuntime) -> Result<(), Fail> {
     ] {
         let frame = feed.next_frame(&packets)?;
         assert_eq!(rt; carried(rt.alloc(), &frame)?.len(), bytes);
-        assert_eq!(rt; feed.chain.backlog(), backlog);
+        assert_eq!(rt; feed.backlog(), backlog);
     }
     Ok(())
 }

@@ -8,7 +8,8 @@ mod laws;
 pub use deleter::Deleter;
 pub use inserter::Inserter;
 pub use laws::{
-    decided_by_the_past, dnp_fits, first_kept, next_kept, run_law, slots_restored, without_deletion,
+    decided_by_the_past_law, dnp_fits_law, first_kept_law, next_kept_law, run_law,
+    slots_restored_law, without_deletion_law,
 };
 
 #[cfg(test)]

@@ -7,8 +7,7 @@ use Rattle.plp_config.proofs.CapacityLemmas.{same_test}
 use Rattle.plp_config.proofs.RuleLemmas.{same_rule}
 use Rattle.plp_config.specs.Capacity.{Test, test_number, PlaceFits, is_of_plps, need_of, supply_of}
 use Rattle.plp_config.specs.FirstFailure.{IsFirstFailure}
-use Rattle.plp_config.specs.Plps.{StandsAlone}
-use Rattle.plp_config.specs.Laws.{OneRuleFails, RefusalFails, OneTestFails, LackFails, OneFirstSpread}
+use Rattle.plp_config.specs.Laws.{OneRuleFails, RefusalFails, OneTestFails, LackFails}
 use Rattle.plp_config.specs.Rules.{Rule, rule_number, PlaceHolds}
 
 -- a number with which neither of two begins is the same
@@ -26,9 +25,6 @@ same_least a b p q =
 same_failure : (holds : ℕ → Type 0) (count p q : ℕ) → IsFirstFailure holds count p → IsFirstFailure holds count q → p ≡ q
 same_failure holds count p q first other =
     same_least p q (λ less. first.fails (other.before p less)) (λ less. other.fails (first.before q less))
-
-pub one_spread : OneFirstSpread
-one_spread c place other first again = same_failure (StandsAlone c.plps) (length c.plps) place other first again
 
 same_place : (late : Bool) (holds : ℕ → Type 0) (count : ℕ) (x y : Option ℕ)
     → MatchBool late (IsSomeAnd x (IsFirstFailure holds count)) (x ≡ None)

@@ -2,15 +2,16 @@
 use Rattle.std.proofs.Common.{◌≡◌, ℕ, zero, suc, ◌+◌, ◌*◌, ◌/◌, ◌%◌, ◌<◌, ◌≤◌, cond, List, [], ◌∷◌, ◌++◌, length, max}
 use Rattle.std.proofs.Common.{take, sum_by, ap, sym, ◌∙◌, arith, inl, inr}
 use Rattle.std.specs.Int.{div_ceil}
-use Rattle.std.proofs.Math.Nat.{div-mul-le_self, mul-le-mul_left, mul-le-mul_right, le_of_mul-le-mul_right, mul_assoc, mul_comm, mul-mod_left, add-mul}
+use Rattle.std.proofs.Math.Nat.{div-mul-le_self, mul-le-mul_left, mul-le-mul_right, le_of_mul-le-mul_right, mul_assoc}
+use Rattle.std.proofs.Math.Nat.{mul_comm, add-mul}
 use Rattle.std.proofs.lemmas.Bool.{cases_lt}
 use Rattle.std.proofs.lemmas.List.{take_more}
 use Rattle.std.proofs.lemmas.List.Sums.{sum_by-cons, get_or-le-sum_by}
-use Rattle.std.proofs.lemmas.Nat.{div-add-mod', div-mul-add, le-div}
-use Rattle.terms.proofs.NatLemmas.{cut_whole}
+use Rattle.std.proofs.lemmas.Nat.{div-add-mod'}
+use Rattle.terms.proofs.NatLemmas.{cut_whole, divides}
 use Rattle.plp_config.proofs.TimeLemmas.{div_ceil-ge}
 use Rattle.plp_config.specs.Capacity.{IsPlan, CellCount, EvenParts, cell_need, frame_room, superframe_room, block_cells}
-use Rattle.plp_config.specs.Laws.{SpreadDividesFrames, SpreadIsGreatest, CellsInParts, RoomsFit, BlocksFit, GreatestAlone}
+use Rattle.plp_config.specs.Laws.{SpreadDividesFrames, SpreadIsGreatest, CellsInParts, RoomsFit, BlocksFit}
 use Rattle.plp_config.specs.Plps.{plp_at, no_plp, is_type2, spread, spread_max}
 use Rattle.plp_config.specs.Rules.{SpreadDivides, SuperframeLength, PlpCount}
 use Rattle.plp_config.specs.Tables.{cells_per_block}
@@ -47,11 +48,6 @@ some_reached (p ∷ plps) some = spread_max-reached p plps
 pub spread_greatest : SpreadIsGreatest
 spread_greatest c rules = (spread_max-ge c.plps, some_reached c.plps (rules PlpCount).0)
 
-pub greatest_alone : GreatestAlone
-greatest_alone c rules alone =
-    let one = (spread_greatest c rules).1 in
-    omega (arith, one.2, alone one.0 one.1)
-
 -- one PLP more
 spread_max_push : (plps : List Plp) (last : Plp) → spread_max (plps ++ last ∷ []) ≡ max (spread_max plps) last.spread
 unfolding spread_max
@@ -66,14 +62,6 @@ pub spread_max_more : (plps : List Plp) (n : ℕ) → n < length plps
 spread_max_more plps n lt = ap spread_max (take_more plps n no_plp lt) ∙ spread_max_push (take n plps) (plp_at plps n)
 
 -- ---- cells
-
--- what is divided by a product is divided by its factors
-divides : (n a b : ℕ) → n % (a * b) ≡ 0 → n % b ≡ 0
-divides n a b whole =
-    let parts : n / (a * b) * (a * b) + n % (a * b) ≡ n = div-add-mod' n (a * b) in
-    let regroup : n / (a * b) * (a * b) ≡ n / (a * b) * a * b = sym (mul_assoc (n / (a * b)) a b) in
-    let is : n ≡ n / (a * b) * a * b = omega arith in
-    ap (λ (k : ℕ). k % b) is ∙ mul-mod_left (n / (a * b) * a) b
 
 pub cells_in_parts : CellsInParts
 cells_in_parts c plp is inside =
@@ -119,35 +107,6 @@ pub room_fits : (c : Config) (plp : ℕ) → IsPlan c → plp < length c.plps �
 room_fits c plp is inside = omega (arith, get_or-le-sum_by frame_room c.plps plp no_plp inside, rooms_fit c is)
 
 -- ---- blocks in parts of one length
-
--- a part of each block makes the part of all
-pub whole_part : (n cells parts : ℕ) → 0 < parts → cells % parts ≡ 0 → n * cells / parts ≡ n * (cells / parts)
-whole_part n cells parts some whole =
-    let all : cells / parts * parts + cells % parts ≡ cells = div-add-mod' cells parts in
-    let is : cells / parts * parts ≡ cells = omega arith in
-    let product : n * cells ≡ n * (cells / parts) * parts + 0 =
-    omega (arith, ap (λ (k : ℕ). n * k) is, mul_assoc n (cells / parts) parts) in
-    ap (λ (k : ℕ). k / parts) product ∙ div-mul-add (n * (cells / parts)) parts 0 some
-
--- the slices of the part of a frame are of one length, if each block has such parts for all slices of all frames
-pub cut_parts : (n cells slices frames : ℕ) → 0 < slices → 0 < frames → cells % (slices * frames) ≡ 0
-    → slices * (n * cells / frames / slices) ≡ n * cells / frames
-cut_parts n cells slices frames some long whole =
-    let all : cells / (slices * frames) * (slices * frames) + cells % (slices * frames) ≡ cells =
-    div-add-mod' cells (slices * frames) in
-    let regroup : cells / (slices * frames) * (slices * frames) ≡ cells / (slices * frames) * slices * frames =
-    sym (mul_assoc (cells / (slices * frames)) slices frames) in
-    let is : cells ≡ cells / (slices * frames) * slices * frames + 0 = omega arith in
-    let part : cells / frames ≡ cells / (slices * frames) * slices =
-    ap (λ (k : ℕ). k / frames) is ∙ div-mul-add (cells / (slices * frames) * slices) frames 0 long in
-    let even : cells / frames % slices ≡ 0 =
-    ap (λ (k : ℕ). k % slices) part ∙ mul-mod_left (cells / (slices * frames)) slices in
-    let frame : n * cells / frames ≡ n * (cells / frames) = whole_part n cells frames long (divides cells slices frames whole) in
-    rw frame (cut_whole n (cells / frames) slices some even)
-
--- of more there are larger parts
-pub part-le : (a b parts : ℕ) → 0 < parts → a ≤ b → a / parts ≤ b / parts
-part-le a b parts some le = le-div (a / parts) b parts some (omega (arith, div-mul-le_self a parts))
 
 -- ---- all blocks that a frame carries parts of
 

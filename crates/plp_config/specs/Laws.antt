@@ -4,9 +4,7 @@ use Rattle.std.specs.Int.{div_ceil}
 use Rattle.plp_config.specs.Capacity.{block_bytes, field_bytes, block_cells, up_bytes, capacity, frame_room, AllTests, Lacks}
 use Rattle.plp_config.specs.Capacity.{IsPlan}
 use Rattle.plp_config.specs.Emission.{subseconds_by, origin, frame_subseconds, emission, FindsFrame}
-use Rattle.plp_config.specs.FirstFailure.{IsFirstFailure}
 use Rattle.plp_config.specs.InterleavingFrames.{interleaving_frame, is_first, begin_of}
-use Rattle.plp_config.specs.Places.{FramesStandAlone}
 use Rattle.plp_config.specs.Plps.{plp_at, spread, spread_max, StandsAlone}
 use Rattle.plp_config.specs.Rules.{AllRules, Refuses}
 use Rattle.plp_config.specs.RunLength.{frame_count, IsFrameCount}
@@ -149,11 +147,6 @@ RefusalFails = (c : Config) (fault : ConfigFault) → Refuses c fault → ¬ (Al
 abbrev pub RulesDecided : Type 0
 RulesDecided = (c : Config) → AllRules c ⊎ ((fault : ConfigFault) × Refuses c fault)
 
--- One PLP is the first of which an interleaving frame is carried by several frames, at most.
-abbrev pub OneFirstSpread : Type 0
-OneFirstSpread = (c : Config) (place other : ℕ) → IsFirstFailure (StandsAlone c.plps) (length c.plps) place
-    → IsFirstFailure (StandsAlone c.plps) (length c.plps) other → place ≡ other
-
 -- The same for the capacity.
 abbrev pub OneTestFails : Type 0
 OneTestFails = (c : Config) (fault other : CapacityFault) → Lacks c fault → Lacks c other → fault ≡ other
@@ -187,10 +180,6 @@ SoundTimes = (c : Config) (plp : ℕ) → AllRules c → plp < length c.plps →
 -- an interleaving frame that is carried by one frame lasts as long
 abbrev pub EpochAlone : Type 0
 EpochAlone = (c : Config) (plp : ℕ) → spread c.plps plp ≡ 1 → epoch_ticks c plp ≡ c.ticks
-
--- if all are, no spread is greater
-abbrev pub GreatestAlone : Type 0
-GreatestAlone = (c : Config) → AllRules c → FramesStandAlone c → spread_max c.plps ≡ 1
 
 -- a superframe holds whole interleaving frames
 abbrev pub SpreadDividesFrames : Type 0

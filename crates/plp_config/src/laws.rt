@@ -6,8 +6,8 @@ ghost use Rattle.plp_config.specs.Laws.{ReleasedOld, WindowHolds, EmissionTotal,
 ghost use Rattle.plp_config.specs.Laws.{FrameCountLeast, OneRuleFails, RefusalFails, RulesDecided, OneTestFails, LackFails};
 ghost use Rattle.plp_config.specs.Laws.{TestsDecided, SlotLength, FrameTicks, FrameQuarter, FieldRange, BlockBits};
 ghost use Rattle.plp_config.specs.Laws.{UserPacketRange, CapacityHoldsUp, CellsByFive, BlockChunks, EpochTicks, RoomsFit};
-ghost use Rattle.plp_config.specs.Laws.{SpreadDividesFrames, SpreadIsGreatest, CellsInParts, BlocksFit, EpochAlone, GreatestAlone};
-ghost use Rattle.plp_config.specs.Laws.{SoundTimes, OneFirstSpread, SuperframeBegins, BeginsInSuperframe, BeginIsFirst};
+ghost use Rattle.plp_config.specs.Laws.{SpreadDividesFrames, SpreadIsGreatest, CellsInParts, BlocksFit, EpochAlone};
+ghost use Rattle.plp_config.specs.Laws.{SoundTimes, SuperframeBegins, BeginsInSuperframe, BeginIsFirst};
 ghost use Rattle.plp_config.specs.Laws.{BeginIsLast, BeginByNumber, BeginAlone};
 
 /// When slots start and when they are over. A count reaches a number exactly if the end of the
@@ -69,7 +69,6 @@ pub fn run_length_law()
 /// Which rule or test fails first: exactly one, if not all hold.
 pub fn refusal_law()
     ensures one_rule { OneRuleFails }
-    ensures one_spread { OneFirstSpread }
     ensures rules_fail { RefusalFails }
     ensures rules_decided { RulesDecided }
     ensures one_test { OneTestFails }
@@ -91,7 +90,6 @@ pub fn spread_law()
     ensures frames { SpreadDividesFrames }
     ensures greatest { SpreadIsGreatest }
     ensures alone { EpochAlone }
-    ensures greatest_alone { GreatestAlone }
     ensures parts { CellsInParts }
     ensures room { RoomsFit }
     ensures blocks { BlocksFit }

@@ -3,10 +3,9 @@ ghost use Rattle.std.specs.Prelude.{◌≡◌, ◌-◌, ◌/◌, ◌%◌, ◌^�
 ghost use Rattle.plp_config.specs.Capacity.{AllTests, Throughput, block_bytes, field_bytes, block_cells, up_bytes, capacity};
 ghost use Rattle.plp_config.specs.Capacity.{frame_room, need_of};
 ghost use Rattle.plp_config.specs.Emission.{emission};
-ghost use Rattle.plp_config.specs.InterleavingFrames.{interleaving_frame, is_first};
+ghost use Rattle.plp_config.specs.InterleavingFrames.{begin_of, is_first};
 ghost use Rattle.plp_config.specs.Places.{IsPlace, HasNoPlace};
-ghost use Rattle.plp_config.specs.FirstFailure.{FindsFailure};
-ghost use Rattle.plp_config.specs.Plps.{plp_at, spread, spread_max, StandsAlone};
+ghost use Rattle.plp_config.specs.Plps.{plp_at, is_type2, spread, spread_max};
 ghost use Rattle.plp_config.specs.Ranges.{HasRanges};
 ghost use Rattle.plp_config.specs.Rules.{AllRules};
 ghost use Rattle.plp_config.specs.SlotTime.{IsSlotLength, start, slots_by, epoch_ticks, delay, window};
@@ -16,7 +15,7 @@ use crate::capacity::throughput_need;
 use crate::config::Config;
 use crate::gcd::gcd;
 use crate::moment::{ISCR_TICKS, Moment, SUPERFRAME_PERIOD};
-use crate::plp::{MOST_BLOCK_BYTES, MOST_CAPACITY, MOST_FIELD_BYTES};
+use crate::plp::{MOST_BLOCK_BYTES, MOST_CAPACITY, MOST_FIELD_BYTES, PlpType};
 use crate::slot_times::SlotTimes;
 use crate::values;
 use std::marker::Model;
@@ -60,7 +59,7 @@ impl Plan {
     }
 
     /// Every plan satisfies every rule and every capacity test. It does nothing.
-    pub fn obeys_rules(&self)
+    pub fn rules_law(&self)
         ensures plan { IsPlan self.now }
         ensures ranges { HasRanges self.now }
     {
@@ -149,13 +148,6 @@ impl Plan {
         (frame / u64::from(values::frames(&self.config)) % SUPERFRAME_PERIOD) as u8
     }
 
-    /// The first PLP whose interleaving frames are carried by several frames, `None` if every frame stands alone.
-    pub fn first_spread(&self) -> Option<usize>
-        ensures { FindsFailure (StandsAlone self.now.plps) (length self.now.plps) result }
-    {
-        values::first_spread(&self.config)
-    }
-
     /// The frames that carry an interleaving frame of a PLP.
     pub fn spread(&self, plp: usize) -> u32
         requires { plp < length self.now.plps }
@@ -176,13 +168,12 @@ impl Plan {
         frame % u64::from(values::spread(&self.config, plp)) == 0
     }
 
-    /// The number of the interleaving frame of a PLP that a frame carries.
-    pub fn interleaving_frame(&self, plp: usize, frame: u64) -> u64
+    /// The first frame of the interleaving frame of a PLP that a frame carries.
+    pub fn begin_of(&self, plp: usize, frame: u64) -> u64
         requires { plp < length self.now.plps }
-        ensures number { result ≡ interleaving_frame self.now plp frame }
-        ensures small { result ≤ frame }
+        ensures { result ≡ begin_of self.now plp frame }
     {
-        frame / u64::from(values::spread(&self.config, plp))
+        frame - frame % u64::from(values::spread(&self.config, plp))
     }
 
     /// The greatest spread of all PLPs.
@@ -219,6 +210,23 @@ impl Plan {
         ensures { result ≡ (plp_at self.now.plps plp).id }
     {
         self.config.plps.get(plp).unwrap().id
+    }
+
+    /// Whether a PLP is of type 2: it has several sub-slices in each frame (EN 302 755, clause 7.2.3.1).
+    pub fn is_type2(&self, plp: usize) -> bool
+        requires { plp < length self.now.plps }
+        ensures value { result ≡ is_type2 (plp_at self.now.plps plp).plp_type }
+        ensures plan { IsPlan self.now }
+    {
+        self.config.plps.get(plp).unwrap().plp_type == PlpType::Type2
+    }
+
+    /// Whether the null packets of a PLP are deleted (EN 302 755, clause 5.1.3).
+    pub fn deletes(&self, plp: usize) -> bool
+        requires { plp < length self.now.plps }
+        ensures { result ≡ (plp_at self.now.plps plp).delete }
+    {
+        self.config.plps.get(plp).unwrap().delete
     }
 
     /// Bytes of the data field of a block.

@@ -32,7 +32,8 @@ pub enum PlpType {
 impl PlpType {
     /// PLP_TYPE.
     pub fn number(self) -> u8
-        ensures { result ≡ type_number self }
+        ensures value { result ≡ type_number self }
+        ensures small { result ≤ 2 }
     {
         self as u8
     }

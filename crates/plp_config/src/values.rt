@@ -3,8 +3,7 @@ ghost use Rattle.std.specs.Prelude.{◌≡◌, ◌<◌, ◌≤◌, ◌*◌, leng
 ghost use Rattle.plp_config.specs.Capacity.{block_bytes, field_bytes, block_cells, up_bytes, capacity, frame_room};
 ghost use Rattle.plp_config.specs.Emission.{frame_subseconds};
 ghost use Rattle.plp_config.specs.Places.{IsPlace, HasNoPlace};
-ghost use Rattle.plp_config.specs.FirstFailure.{FindsFailure};
-ghost use Rattle.plp_config.specs.Plps.{plp_at, spread, spread_max, StandsAlone};
+ghost use Rattle.plp_config.specs.Plps.{plp_at, spread, spread_max};
 ghost use Rattle.plp_config.specs.Rules.{AllRules};
 ghost use Rattle.plp_config.specs.SlotTime.{num, den, epoch_ticks};
 ghost use Rattle.plp_config.specs.SlotTimes.{slot_times, AreSlotTimes};
@@ -78,19 +77,6 @@ pub(crate) fn frame_room(config: &Config, plp: usize) -> u32
 {
     let plp = plp_at(config, plp);
     u32::from(plp.blocks) * plp.block_cells() / u32::from(plp.spread)
-}
-
-// The first PLP with a spread above 1.
-pub(crate) fn first_spread(config: &Config) -> Option<usize>
-    requires { AllRules config.now }
-    ensures { FindsFailure (StandsAlone config.now.plps) (length config.now.plps) result }
-{
-    for plp in 0..config.plps.len() {
-        if spread(config, plp) != 1 {
-            return Some(plp);
-        }
-    }
-    None
 }
 
 // The slots of a PLP and its interleaving frames.

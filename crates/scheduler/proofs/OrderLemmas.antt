@@ -9,7 +9,7 @@ use Rattle.std.proofs.lemmas.Bool.{eqb-true}
 use Rattle.std.proofs.lemmas.List.Folds.{list_any_at}
 use Rattle.std.proofs.lemmas.Nat.{le-div}
 use Rattle.std.proofs.Math.Nat.{div-mul-le_self}
-use Rattle.plp_config.proofs.SpreadLemmas.{cut_parts}
+use Rattle.terms.proofs.NatLemmas.{cut_parts}
 use Rattle.plp_config.specs.Capacity.{IsPlan, block_cells, EvenParts}
 use Rattle.plp_config.specs.Plps.{plp_at, is_type2, has_type2, no_plp, spread}
 use Rattle.plp_config.specs.Rules.{SubSlices, SpreadDivides}

@@ -8,7 +8,8 @@ use Rattle.std.proofs.lemmas.List.Filters.{sum_by-filter_both}
 use Rattle.std.proofs.lemmas.List.Sums.{sum_by-append, sum_by_push, sum_by_more, sum_by-take-le, sum_by-le-sum_by}
 use Rattle.std.proofs.lemmas.Nat.{mul-le}
 use Rattle.std.proofs.Math.Nat.{div-le_self}
-use Rattle.plp_config.proofs.SpreadLemmas.{rooms_fit, part-le}
+use Rattle.terms.proofs.NatLemmas.{part-le}
+use Rattle.plp_config.proofs.SpreadLemmas.{rooms_fit}
 use Rattle.plp_config.specs.Capacity.{IsPlan, block_cells, frame_room}
 use Rattle.plp_config.specs.Plps.{plp_at, no_plp, spread}
 use Rattle.plp_config.specs.Rules.{SpreadDivides}

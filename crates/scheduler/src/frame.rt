@@ -2,25 +2,17 @@
 ghost use Rattle.std.specs.Prelude.{◌≡◌, ◌<◌, ◌≤◌, ◌+◌, length};
 ghost use Rattle.plp_config.specs.Capacity.{IsPlan};
 ghost use Rattle.scheduler.specs.Laws.{CountsFit};
-ghost use Rattle.scheduler.specs.Shape.{cells_of, in_type2, type2_start_of, interval_of, start_of, shape_of};
+ghost use Rattle.scheduler.specs.Shape.{cells_of, type2_start_of, interval_of, start_of, shape_of};
 ghost use Rattle.scheduler.specs.Steps.{AreBefore, AreNext};
 
 use crate::numbers::Shape;
-use plp_config::{Plan, PlpType};
+use plp_config::Plan;
 
 // A number of cells for the PLPs in one slice, common and of type 1, and one for type 2.
 #[derive(Clone, Copy)]
 struct Cells {
     type1: u32,
     type2: u32,
-}
-
-fn is_type2(plan: &Plan, plp: usize) -> bool
-    requires { plp < length plan.now.plps }
-    ensures value { result ≡ in_type2 plan.now plp }
-    ensures plan { IsPlan plan.now }
-{
-    plan.config().plps.get(plp).unwrap().plp_type == PlpType::Type2
 }
 
 // The cells of a PLP in the frame.
@@ -40,7 +32,7 @@ fn all_cells(plan: &Plan, counts: &[u16]) -> Cells
     let mut all = Cells { type1: 0, type2: 0 };
     for plp in 0..counts.len() {
         let cells = cells_of(plan, counts, plp);
-        if is_type2(plan, plp) {
+        if plan.is_type2(plp) {
             all.type2 += cells;
         } else {
             all.type1 += cells;
@@ -60,7 +52,7 @@ fn start_of(plan: &Plan, counts: &[u16], plp: usize, next: Cells) -> u32
     if counts[plp] == 0 {
         return 0;
     }
-    if is_type2(plan, plp) {
+    if plan.is_type2(plp) {
         next.type2
     } else {
         next.type1
@@ -75,7 +67,7 @@ fn behind(plan: &Plan, counts: &[u16], plp: usize, next: Cells) -> Cells
     ensures { AreNext plan.now counts.now (plp + 1) result }
 {
     let cells = cells_of(plan, counts, plp);
-    if is_type2(plan, plp) {
+    if plan.is_type2(plp) {
         Cells {
             type2: next.type2 + cells / u32::from(plan.config().sub_slices),
             ..next

@@ -16,8 +16,8 @@ mod writing;
 
 pub use fault::{PacketFault, PacketWhy};
 pub use laws::{
-    complete_law, front_refusal, no_refusal, one_packet, one_refusal, packet_length, spell_law,
-    spelled_or_refused, view_law, written_law,
+    complete_law, no_refusal_law, one_packet_law, one_refusal_law, packet_length_law, spell_law,
+    spelled_or_refused_law, view_law, written_law,
 };
 pub use packet::{BlockHead, Body, Packet, Stamp};
 pub use packet_view::PacketView;

@@ -14,11 +14,11 @@ mod unpiper;
 
 pub use first_pid::{first_pid_law, unit_pid};
 pub use laws::{
-    accepted_front, any_cutting, complete_law, disjoint, events_push, starts_found, survives,
-    tally_push, unit_reads, whole_packets,
+    accepted_front_law, any_cutting_law, complete_law, disjoint_law, events_push_law,
+    starts_found_law, survives_law, tally_push_law, unit_reads_law, whole_packets_law,
 };
 pub use piper::Piper;
-pub use skipping::{few_packets, packet_places, skip_law};
+pub use skipping::{few_packets_law, packet_places_law, skip_law};
 pub use survivor_laws::{rise_law, stand_law, survivor_law, undamaged_law};
 pub use unpiper::Unpiper;
 

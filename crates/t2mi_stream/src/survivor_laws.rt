@@ -2,8 +2,8 @@
 ghost use Rattle.t2mi_stream.specs.SurvivorLaws.{AcceptedStand, PlacesRise, AcceptedSurvive, SurvivalTold, KeptUndamaged};
 
 use crate::grammar::grammar;
-use crate::laws::survives;
-use ts_packet::{fields_told, payload_last, written_spells};
+use crate::laws::survives_law;
+use ts_packet::{fields_told_law, payload_last_law, written_spells_law};
 
 /// An accepted packet stands at a start of a run.
 pub fn stand_law()
@@ -33,9 +33,9 @@ pub fn undamaged_law()
     ensures { KeptUndamaged }
 {
     grammar();
-    survives();
+    survives_law();
     survivor_law();
-    written_spells();
-    fields_told();
-    payload_last();
+    written_spells_law();
+    fields_told_law();
+    payload_last_law();
 }

@@ -11,8 +11,8 @@ mod writing;
 
 pub use fault::TsFault;
 pub use laws::{
-    canonical_null, fields_told, no_refusal, null_by_pid, one_packet, one_refusal, payload_last,
-    spelled_or_refused, written_spells,
+    canonical_null_law, fields_told_law, no_refusal_law, null_by_pid_law, one_packet_law,
+    one_refusal_law, payload_last_law, spelled_or_refused_law, written_spells_law,
 };
 pub use packet::TsPacket;
 pub use sizes::{PAYLOAD, SIZE, SYNC};

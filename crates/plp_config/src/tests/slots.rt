@@ -26,6 +26,5 @@ fn places_of_frames(rt: HostRuntime) -> Result<(), Fail> {
     assert!(rt;
         plan.frame_idx(33) == 1 && plan.superframe_idx(31) == 15 && plan.superframe_idx(33) == 0
     );
-    assert!(rt; plan.first_spread() == None);
     Ok(())
 }

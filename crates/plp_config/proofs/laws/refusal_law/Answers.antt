@@ -1,13 +1,10 @@
-use Rattle.plp_config.proofs.RefusalLemmas.{one_rule, one_spread, refusal_fails, one_test, lack_fails}
+use Rattle.plp_config.proofs.RefusalLemmas.{one_rule, refusal_fails, one_test, lack_fails}
 use Rattle.plp_config.proofs.RuleDecideLemmas.{rules_decided}
 use Rattle.plp_config.proofs.TestDecideLemmas.{tests_decided}
 use Rattle.plp_config.proofs.laws.refusal_law.Goals as goal
 
 pub returns-clause-one_rule : goal.returns-clause-one_rule
 returns-clause-one_rule c = one_rule
-
-pub returns-clause-one_spread : goal.returns-clause-one_spread
-returns-clause-one_spread c = one_spread
 
 pub returns-clause-rules_fail : goal.returns-clause-rules_fail
 returns-clause-rules_fail c = refusal_fails

@@ -1,4 +1,3 @@
-use Rattle.plp_config.proofs.SpreadLemmas.{greatest_alone}
 use Rattle.plp_config.proofs.SpreadLemmas.{spread_divides, spread_greatest, cells_in_parts, rooms_fit, blocks_fit}
 use Rattle.plp_config.proofs.laws.spread_law.Goals as goal
 
@@ -16,6 +15,3 @@ returns-clause-room c = rooms_fit
 
 pub returns-clause-blocks : goal.returns-clause-blocks
 returns-clause-blocks c = blocks_fit
-
-pub returns-clause-greatest_alone : goal.returns-clause-greatest_alone
-returns-clause-greatest_alone c = greatest_alone

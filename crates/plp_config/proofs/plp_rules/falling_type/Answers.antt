@@ -8,7 +8,7 @@ loop-place-preserved c =
     let kept = c.loop-place.invariant in
     let place = c.loop-place.place in
     let is : c.number-plp_type.result ≡ type_number (plp_at c.args.config.now.plps place).plp_type =
-    rw (← kept.items) c.number-plp_type.ensures in
+    rw (← kept.items) c.number-plp_type.ensures.value in
     record {
       items = kept.items;
       holds = TypeOrder-more c.args.config.now _ _ place kept.holds kept.greatest is (omega arith);

@@ -18,7 +18,7 @@ returns-in-None-clause-takes c = λ config plp events stands room.
     (dnp (plp_keeps config plp (packet_at (offered events ++ c.args.packet.now ∷ []))) (length (offered events)))
     (c.in-None.ensures.answer (plp_at config.plps plp).delete (offered events) h.deleter) in
     let s = c.skip.ensures in
-    let on = goes_on c.decided_by_the_past.ensures c.length_law.ensures.slot c.block_law.ensures.field
+    let on = goes_on c.decided_by_the_past_law.ensures c.length_law.ensures.slot c.block_law.ensures.field
     c.block_law.ensures.user_packet c.args.self.now c.skip.new.self config plp events c.args.packet.now
     (list_at c.args.pool.now c.args.list) stands c.as_array-bytes.ensures.whole room off
     (skipped c.args.self.now c.skip.new.self config plp (offered events) c.args.packet.now s.settings s.slot
@@ -42,7 +42,7 @@ returns-in-Some-clause-takes c = both_on c.put_full.result c.put_full.ensures.no
     c.in-Some.dnp
     (c.in-Some.ensures.answer (plp_at config.plps plp).delete (offered events) o.0.deleter) in
     let keeps = rw c.as_array-bytes.ensures.bytes at c.keep.ensures.keeps space in
-    let kept = goes_kept c.decided_by_the_past.ensures c.length_law.ensures.slot c.block_law.ensures.field
+    let kept = goes_kept c.decided_by_the_past_law.ensures c.length_law.ensures.slot c.block_law.ensures.field
     c.block_law.ensures.user_packet c.args.self.now c.keep.new.self c.put_full.new.self config plp events c.args.packet.now
     (list_at c.args.pool.now c.args.list) (list_at c.put_full.new.pool c.args.list) stands c.as_array-bytes.ensures.whole room
     on.kept

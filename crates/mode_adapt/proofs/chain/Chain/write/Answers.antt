@@ -25,5 +25,5 @@ returns c =
       pending = refl;
       slots = refl;
       block = block;
-      size = ap length block ∙ length-piece c.bit_counts.ensures c.args.self.now c.args.count c.requires.short;
+      size = ap length block ∙ length-piece c.bit_counts_law.ensures c.args.self.now c.args.count c.requires.short;
     }

@@ -1,5 +1,0 @@
-use Rattle.bb_frame.proofs.CountLemmas.{bit_counts}
-use Rattle.bb_frame.proofs.laws.bit_counts.Goals as goal
-
-pub returns : goal.returns
-returns c = bit_counts

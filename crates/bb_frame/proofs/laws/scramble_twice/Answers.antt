@@ -1,5 +1,0 @@
-use Rattle.bb_frame.proofs.ScrambleLemmas.{scrambles_back}
-use Rattle.bb_frame.proofs.laws.scramble_twice.Goals as goal
-
-pub returns : goal.returns
-returns c = scrambles_back

@@ -1,5 +1,0 @@
-use Rattle.bb_frame.proofs.ReadLemmas.{frame_or_refused}
-use Rattle.bb_frame.proofs.laws.spelled_or_refused.Goals as goal
-
-pub returns : goal.returns
-returns c = frame_or_refused

@@ -1,5 +1,0 @@
-use Rattle.bb_frame.proofs.ReadLemmas.{written}
-use Rattle.bb_frame.proofs.laws.written_is_spelled.Goals as goal
-
-pub returns : goal.returns
-returns c = written

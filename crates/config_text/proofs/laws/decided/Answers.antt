@@ -1,5 +1,0 @@
-use Rattle.config_text.proofs.DecideLemmas.{text_decided}
-use Rattle.config_text.proofs.laws.decided.Goals as goal
-
-pub returns : goal.returns
-returns c = text_decided

@@ -1,5 +1,0 @@
-use Rattle.config_text.proofs.TextLemmas.{text_not_refused}
-use Rattle.config_text.proofs.laws.not_refused.Goals as goal
-
-pub returns : goal.returns
-returns c = text_not_refused

@@ -1,5 +1,0 @@
-use Rattle.config_text.proofs.TextLemmas.{text_refused_once}
-use Rattle.config_text.proofs.laws.refused_once.Goals as goal
-
-pub returns : goal.returns
-returns c = text_refused_once

@@ -1,5 +1,0 @@
-use Rattle.linked_pool.proofs.PoolLemmas.{whole_in}
-use Rattle.linked_pool.proofs.pool.Pool.stays_whole.Goals as goal
-
-pub returns : goal.returns
-returns c = whole_in c.self.inside c.args.self.now c.self.view_is c.self.invariant

@@ -1,5 +1,0 @@
-use Rattle.null_delete.proofs.LawLemmas.{dnp_fits}
-use Rattle.null_delete.proofs.laws.dnp_fits.Goals as goal
-
-pub returns : goal.returns
-returns c = dnp_fits

@@ -1,5 +1,0 @@
-use Rattle.null_delete.proofs.LawLemmas.{first_kept}
-use Rattle.null_delete.proofs.laws.first_kept.Goals as goal
-
-pub returns : goal.returns
-returns c = first_kept

@@ -1,5 +1,0 @@
-use Rattle.null_delete.proofs.LawLemmas.{next_kept}
-use Rattle.null_delete.proofs.laws.next_kept.Goals as goal
-
-pub returns : goal.returns
-returns c = next_kept

@@ -1,5 +1,0 @@
-use Rattle.null_delete.proofs.LawLemmas.{slots_restored}
-use Rattle.null_delete.proofs.laws.slots_restored.Goals as goal
-
-pub returns : goal.returns
-returns c = slots_restored

@@ -1,5 +1,0 @@
-use Rattle.null_delete.proofs.LawLemmas.{without_deletion}
-use Rattle.null_delete.proofs.laws.without_deletion.Goals as goal
-
-pub returns : goal.returns
-returns c = without_deletion

@@ -1,5 +1,0 @@
-use Rattle.ts_packet.proofs.WritingLemmas.{canonical_null}
-use Rattle.ts_packet.proofs.laws.canonical_null.Goals as goal
-
-pub returns : goal.returns
-returns c = canonical_null

@@ -1,5 +1,0 @@
-use Rattle.ts_packet.proofs.LawLemmas.{one_refusal}
-use Rattle.ts_packet.proofs.laws.one_refusal.Goals as goal
-
-pub returns : goal.returns
-returns c = one_refusal

@@ -1,5 +1,0 @@
-use Rattle.ts_packet.proofs.LawLemmas.{spelled_or_refused}
-use Rattle.ts_packet.proofs.laws.spelled_or_refused.Goals as goal
-
-pub returns : goal.returns
-returns c = spelled_or_refused
