@@ -47,7 +47,7 @@ fn frame_of(plan: &Plan, moment: &Moment) -> Option<u64>
     ensures none { IfNone result (IsOffGrid plan.now moment.now) }
 {
     emission_law();
-    plan.obeys_rules();
+    plan.rules_law();
     frame_at(plan, moment)
 }
 
@@ -77,6 +77,6 @@ pub fn place_record(plan: &Plan, expected: Option<u64>, moment: &Moment) -> Resu
     ensures refused { (why : RecordWhy) → RefusesPlace plan.now expected moment.now why → result ≡ Err why }
 {
     emission_law();
-    plan.obeys_rules();
+    plan.rules_law();
     place(plan, expected, moment)
 }

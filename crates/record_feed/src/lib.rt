@@ -1,0 +1,17 @@
+//! The bytes of a file of records as they come, in pieces of any size, until each record is whole.
+#![tactic(auto)]
+
+mod begin;
+mod coming;
+mod count;
+mod feed;
+mod head_part;
+mod laws;
+
+pub use coming::Coming;
+pub use count::RecordCount;
+pub use feed::RecordFeed;
+pub use laws::stands_law;
+
+#[cfg(test)]
+mod tests;
