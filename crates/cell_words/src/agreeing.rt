@@ -50,7 +50,7 @@ pub fn agree(
     ensures len { length buffer.new ≡ length buffer.old }
 {
     map_law();
-    plan.obeys_rules();
+    plan.rules_law();
     fill_words(plan, shape, frame_idx, address, count, buffer);
     let words = cells.words();
     are_same(buffer, &words[4 * address as usize..], count)

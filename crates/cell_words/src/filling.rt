@@ -24,7 +24,7 @@ pub fn fill_words(
     ensures { out.new ≡ words plan.now shape.now frame_idx address count }
 {
     map_law();
-    plan.obeys_rules();
+    plan.rules_law();
     let mut cells = Cells::resume(plan, shape, frame_idx, address);
     let mut last = NO_STRIP;
     let mut done = 0;

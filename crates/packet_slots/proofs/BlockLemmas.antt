@@ -2,6 +2,7 @@
 use Rattle.std.proofs.Common.{◌≡◌, ◌≢◌, ℕ, suc, ◌+◌, ◌-◌, ◌%◌, ◌<◌, ◌≤◌, ◌==◌, ◌||◌, Bool, true, false, List, [], ◌∷◌, ◌++◌}
 use Rattle.std.proofs.Common.{length, Option, Some, None, refl, ap, ap₂, ◌∙◌, arith, cond, eq-eqb}
 use Rattle.std.specs.Prelude.{nat_lt, if◌then◌else◌}
+use Rattle.std.proofs.Math.Bool.{or-true}
 use Rattle.std.proofs.lemmas.Bool.{lt-ltb, le-ltb, false_from_ne_true, eqb-true}
 use Rattle.packet_slots.specs.declared.mark.Mark.{Mark}
 use Rattle.packet_slots.specs.declared.mark.Mark.TheVariants.{Inside, Next}
@@ -39,11 +40,7 @@ module _ (len epoch : ℕ) (b : Block) where
   ends_field i e = ap (λ (t : Bool). t || is_start (mark_at len b i)) (eq-eqb i (length b.field) e)
 
   pub ends_start : (i : ℕ) → is_start (mark_at len b i) ≡ true → Ends i ≡ true
-  ends_start i e = ap (λ (t : Bool). (i == length b.field) || t) e ∙ or_true (i == length b.field)
-    where
-      or_true : (x : Bool) → (x || true) ≡ true
-      or_true true = refl
-      or_true false = refl
+  ends_start i e = ap (λ (t : Bool). (i == length b.field) || t) e ∙ or-true (i == length b.field)
 
   pub none_marks : (i : ℕ) → b.first ≡ None → mark_at len b i ≡ Inside
   unfolding mark_at

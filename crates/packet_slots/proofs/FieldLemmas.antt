@@ -15,7 +15,7 @@ use Rattle.packet_slots.specs.Strings.{Item, Block, is_start, first_mark, mark_a
 use Rattle.packet_slots.specs.Pieces.{piece_items}
 use Rattle.packet_slots.proofs.BlockLemmas.{Ends, items_append, piece_is, ends_field, ends_start, none_marks, mark_before}
 use Rattle.packet_slots.proofs.BlockLemmas.{mark_first, mark_next, mark_inner}
-use Rattle.packet_slots.specs.Both.{front_of, IsBegun, IsStart}
+use Rattle.packet_slots.specs.TakenBlocks.{front_of, IsBegun, IsStart}
 
 mod_step : (n t len : ℕ) → n % len ≡ 0 → t < len → (n + t) % len ≡ t
 mod_step n t len e l =

@@ -16,7 +16,7 @@ use Rattle.packet_slots.proofs.BlockLemmas.{Ends, ends_field, ends_start, none_m
 use Rattle.packet_slots.proofs.BlockLemmas.{mark_inner}
 use Rattle.packet_slots.proofs.FieldLemmas.{is_first}
 use Rattle.packet_slots.proofs.PlaceLemmas.{last_is}
-use Rattle.packet_slots.specs.Both.{IsPlace}
+use Rattle.packet_slots.specs.TakenBlocks.{IsPlace}
 use Rattle.packet_slots.specs.LaterBlocks.{at, Placed, run_items, AreInField, Continues, EachLater, CompleteByBlocks}
 
 items_at : (len epoch : ℕ) (b : Block) (vs : List ℕ) (i k : ℕ) → k < length vs → at (items_from len epoch b i vs) k

@@ -3,22 +3,8 @@ use Rattle.std.proofs.Common.{◌≡◌, ◌≢◌, ℕ, zero, suc, ◌+◌, ◌
 use Rattle.std.proofs.Common.{Option, Some, None, refl, ap, ap₂, ◌∙◌, sym, arith, inl, inr, cond}
 use Rattle.std.specs.List.{AllByRecursion, range_with_len, find, filter}
 use Rattle.std.proofs.lemmas.Bool.{cases_eq}
+use Rattle.terms.proofs.RangeLemmas.{map_same}
 use Rattle.packet_slots.specs.Filling.{filled}
-
-pub range_append : (n m a : ℕ) → range_with_len a (n + m) ≡ range_with_len a n ++ range_with_len (a + n) m
-range_append zero m a = let e : zero + m ≡ m = omega arith in let f : a ≡ a + zero = omega arith in
-    ap₂ (λ (x y : ℕ). range_with_len x y) f e
-range_append (suc n) m a =
-    let e : suc n + m ≡ suc (n + m) = omega arith in
-    let f : a + 1 + n ≡ a + suc n = omega arith in
-    ap (range_with_len a) e
-    ∙ ap (λ (l : List ℕ). a ∷ l) (range_append n m (a + 1) ∙ ap (λ (x : ℕ). range_with_len (a + 1) n ++ range_with_len x m) f)
-
-pub map_same : {X : Type 0} (f g : ℕ → X) (n a : ℕ) → ((k : ℕ) → a ≤ k → k < a + n → f k ≡ g k) → map f (range_with_len a n)
-    ≡ map g (range_with_len a n)
-map_same f g zero a h = refl
-map_same f g (suc n) a h =
-    ap₂ (λ x l. x ∷ l) (h a (omega arith) (omega arith)) (map_same f g n (a + 1) (λ k l m. h k (omega arith) (omega arith)))
 
 pub map_none : {X : Type 0} (f : ℕ → Option X) (n a : ℕ) → ((k : ℕ) → a ≤ k → k < a + n → f k ≡ None) → map f (range_with_len a n)
     ≡ replicate n None
@@ -66,7 +52,7 @@ put_list f g k p (suc n) a l other none some =
     ]
   where
     rest : k ≡ a → map g (range_with_len (a + 1) n) ≡ map f (range_with_len (a + 1) n)
-    rest e = map_same g f n (a + 1) (λ j x y. other j (λ (d : j ≡ k). omega (arith, d, e)))
+    rest e = map_same g f (a + 1) n (λ j x y. other j (λ (d : j ≡ k). omega (arith, d, e)))
 
     at : k ≡ a → (o : Option (List ℕ)) → f k ≡ o → filled (map f (range_with_len a (suc n))) (k - a) p
         ≡ filled (o ∷ map f (range_with_len (a + 1) n)) 0 p

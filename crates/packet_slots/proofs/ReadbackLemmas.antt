@@ -8,6 +8,7 @@ use Rattle.std.proofs.lemmas.Bool.{cases_lt, false_from_ne_true, and_parts, eqb-
 use Rattle.std.proofs.lemmas.List.{map-append}
 use Rattle.std.proofs.lemmas.List.Folds.{find-append}
 use Rattle.std.proofs.Math.Nat.{mul-le-mul_right}
+use Rattle.terms.proofs.RangeLemmas.{range_append, map_same}
 use Rattle.ts_packet.specs.Null.{null_packet}
 use Rattle.plp_config.specs.SlotTime.{slot_start}
 use Rattle.plp_config.specs.Laws.{CountRises, ReleasedFirst}
@@ -25,7 +26,7 @@ use Rattle.packet_slots.specs.Holds.{From, UpTo, Since}
 use Rattle.terms.proofs.AllLemmas.{all_append}
 use Rattle.packet_slots.proofs.PlaceLemmas.{all_map, begins_up_to, longer, all_of}
 use Rattle.packet_slots.proofs.TimeLemmas.{last_is_late}
-use Rattle.packet_slots.proofs.ListLemmas.{range_append, map_same, filter_append, none_found}
+use Rattle.packet_slots.proofs.ListLemmas.{filter_append, none_found}
 
 -- Epochs of a string.
 
@@ -81,7 +82,8 @@ counts_parts : (r : SlotRule) (up : UserPacket) → counts r up ≡ true → Cou
 counts_parts r up h =
     let a : Bool = nat_le (over_by r.times ((first_item up.items).epoch - 1)) up.slot in
     let b : Bool = nat_lt up.slot (over_by r.times (first_item up.items).epoch) in
-    let d : Bool = nat_lt (last_frame r (last_item up.items).epoch * r.ticks) (slot_start r.times.num r.times.den up.slot + delay_of r.times) in
+    let d : Bool =
+    nat_lt (last_frame r (last_item up.items).epoch * r.ticks) (slot_start r.times.num r.times.den up.slot + delay_of r.times) in
     let p = and_parts a (b && d) h in
     let q = and_parts b d p.1 in
     record { below = ltb-true _ _ q.0; early = ltb-true _ _ q.1 }
@@ -122,8 +124,8 @@ module _ (r : SlotRule) (sound : IsSound r) where
   or_none (Some x) = refl
 
   -- a slot that is given out when a frame begins has its packet
-  pub final : ReleasedFirst → (z y : List Item) (frame k : ℕ) → Since (epoch_of r frame) y → k < due_after r frame → found_for r (z ++ y) k
-      ≡ found_for r z k
+  pub final : ReleasedFirst → (z y : List Item) (frame k : ℕ) → Since (epoch_of r frame) y → k < due_after r frame
+      → found_for r (z ++ y) k ≡ found_for r z k
   unfolding counted
   final law z y frame k h l =
       let m = longer r z y (epoch_of r frame) one_len h in
@@ -152,7 +154,8 @@ module _ (r : SlotRule) (sound : IsSound r) where
         | inl lt ↦
             let p = (law r.times.num r.times.den (delay_of r.times) (a * r.ticks) (due_after r b) num_pos den_pos).0 lt in
             let q : a * r.ticks ≤ b * r.ticks = mul-le-mul_right r.ticks l in
-            let s = (law r.times.num r.times.den (delay_of r.times) (b * r.ticks) (due_after r b) num_pos den_pos).1 (omega (arith, p, q)) in
+            let s = (law r.times.num r.times.den (delay_of r.times) (b * r.ticks) (due_after r b) num_pos den_pos).1
+            (omega (arith, p, q)) in
             absurd (omega (arith, s))
         | inr ge ↦ ge
       ]
@@ -175,7 +178,7 @@ module _ (r : SlotRule) (sound : IsSound r) where
       let e : due_after r (first + (count + later)) - s ≡ n + m = omega (arith, rises) in
       let w : string_of r.up_len m0 (epochs ++ more) ≡ z ++ y = string_append r.up_len m0 epochs more in
       let same : map (slot_packet r (z ++ y)) (range_with_len s n) ≡ map (slot_packet r z) (range_with_len s n) =
-      map_same (slot_packet r (z ++ y)) (slot_packet r z) n s
+      map_same (slot_packet r (z ++ y)) (slot_packet r z) s n
       (λ k a b.
       ap (λ (o : Option UserPacket). unwrap_or (option_map (λ (up : UserPacket). packet_of (item_values up.items)) o) null_packet)
       (final law z y (first + count) k (since_string r.up_len (m0 + length epochs) (epoch_of r (first + count)) more
@@ -184,7 +187,7 @@ module _ (r : SlotRule) (sound : IsSound r) where
         others = map (slot_packet r (z ++ y)) (range_with_len (s + n) m);
         front =
             ap (λ (x : List Item). map (slot_packet r x) (range_with_len s (due_after r (first + (count + later)) - s))) w
-            ∙ ap (map (slot_packet r (z ++ y))) (ap (range_with_len s) e ∙ range_append n m s)
+            ∙ ap (map (slot_packet r (z ++ y))) (ap (range_with_len s) e ∙ range_append s n m)
             ∙ map-append (slot_packet r (z ++ y)) (range_with_len s n) (range_with_len (s + n) m)
             ∙ ap (λ (l : List (List ℕ)). l ++ map (slot_packet r (z ++ y)) (range_with_len (s + n) m)) same;
       }

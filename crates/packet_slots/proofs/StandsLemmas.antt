@@ -1,11 +1,11 @@
 -- What a `PacketSlots` stands for, call by call, over its parts.
 use Rattle.std.proofs.Common.{◌≡◌, ℕ, suc, ◌+◌, ◌-◌, ◌/◌, ◌%◌, ◌==◌, ◌<◌, ◌≤◌, List, [], ◌∷◌, ◌++◌, length, map, drop}
 use Rattle.std.proofs.Common.{get_or}
-use Rattle.std.proofs.Common.{replicate, Bool, true, false, cond, Option, Some, None, refl, ap, ◌∙◌, sym, subst, arith}
+use Rattle.std.proofs.Common.{replicate, Bool, true, false, cond, Option, Some, None, refl, ap, ap₂, ◌∙◌, sym, subst, arith}
 use Rattle.std.proofs.Common.{append-nil}
 use Rattle.std.proofs.Common.{append_assoc, length-append, eq-eqb}
 use Rattle.std.specs.Prelude.{unwrap_or, slice_get, nat_lt, if◌then◌else◌}
-use Rattle.std.proofs.lemmas.Bool.{ltb-true, eqb-true, both_ways}
+use Rattle.std.proofs.lemmas.Bool.{ltb-true, ltb-false, eqb-true, both_ways}
 use Rattle.std.specs.List.{range_with_len}
 use Rattle.std.proofs.lemmas.List.Concat.{flat_map-append}
 use Rattle.std.proofs.lemmas.List.FromFn.{length-map-range_with_len, get_or-map-range_with_len}
@@ -27,9 +27,8 @@ use Rattle.packet_slots.specs.Times.{epoch_of, over_after, due_after}
 use Rattle.packet_slots.proofs.TimeLemmas.{next_epoch, same_epoch, all_rise, ended_over, none_over, none_given}
 use Rattle.packet_slots.proofs.ReadbackLemmas.{up_to_string, string_append}
 use Rattle.packet_slots.proofs.WindowLemmas as window
-use Rattle.packet_slots.specs.Both.{Both, KeepsTimes}
-use Rattle.packet_slots.specs.StandsFor.{blocks_items, Stands, Within, Fresh, frame_of, rule_of, ends_epoch}
-use Rattle.packet_slots.specs.declared.slots.PacketSlots.{PacketSlots}
+use Rattle.packet_slots.specs.TakenBlocks.{Both, KeepsTimes}
+use Rattle.packet_slots.specs.StandsFor.{blocks_items, Stands, Within, Fresh, SlotsStatus, status_at}
 use Rattle.packet_slots.proofs.BothLemmas.{moved}
 
 shows_none : (r : SlotRule) (z : List Item) (first end : ℕ) (slots : List (Option (List ℕ))) → end ≡ first → slots ≡ []
@@ -86,8 +85,8 @@ begins a old new r first f e =
     }
 
 -- The slots of the next frame come into range.
-pub enters : (r : SlotRule) → IsSound r → CountRises → (first frame count : ℕ) (epochs : List Epoch) (released : ℕ) (a : Assembler)
-    (old new : SlotWindow)
+pub enters : (r : SlotRule) → IsSound r → CountRises → (first frame count : ℕ) (epochs : List Epoch) (released : ℕ)
+    (a : Assembler) (old new : SlotWindow)
     → Stands a old frame r first count epochs released → over_after r (frame - r.spread) ≤ old.end
     → status_of new ≡ entered (status_of old) frame → old.end ≤ new.end
     → Within a new frame r first count epochs [] released
@@ -230,10 +229,40 @@ loses r first frame count epochs released a old new h last e =
     ends_with r first frame count epochs released a old new h.number h.begin h.end e (subst IsSound h.both.rule old.sound)
     lost_epoch h.ended (last_is old.rule r frame h.both.rule last) h.both
 
--- the same frame is the last one of an epoch
-pub same_last : (old new : PacketSlots) → frame_of new ≡ frame_of old → rule_of new ≡ rule_of old → ends_epoch new ≡ ends_epoch old
-same_last old new e f =
-    ap (λ (n : ℕ). (n + 1) % new.window.rule.spread == 0) e ∙ ap (λ (q : SlotRule). (old.frame + 1) % q.spread == 0) f
+-- What a caller sees, call by call.
+abbrev pub seen : SlotRule → ℕ → Bool → ℕ → SlotsStatus
+seen r frame within due = record { rule = r; frame = frame; within = within; due = due }
+
+pub begun_status : (old new : SlotWindow) (frame : ℕ) (within : Bool) → status_of new ≡ begun (status_of old) frame
+    → status_at (status_of new) frame within ≡ seen old.rule frame within 0
+begun_status old new frame within e =
+    let first = ap (λ (s : Status). s.first) e in
+    let end = ap (λ (s : Status). s.end) e in
+    let none : new.due_end - new.first ≡ 0 = let known = new.known in omega (arith, first, end, known) in
+    ap₂ (λ (r : SlotRule) (n : ℕ). seen r frame within n) (ap (λ (s : Status). s.rule) e) none
+
+pub times_status : (old new : SlotWindow) (frame : ℕ) (within : Bool) → KeepsTimes old new
+    → status_at (status_of new) frame within ≡ status_at (status_of old) frame within
+times_status old new frame within t =
+    ap₂ (λ (r : SlotRule) (n : ℕ). seen r frame within n) t.rule (ap₂ (λ (d f : ℕ). d - f) t.due t.first)
+
+pub left_status : (old new : SlotWindow) (frame : ℕ) → status_of new ≡ left (status_of old) frame
+    → status_at (status_of new) (frame + 1) false ≡ seen old.rule (frame + 1) false (new.due_end - new.first)
+left_status old new frame e =
+    ap (λ (s : Status). seen s.rule (frame + 1) false (new.due_end - new.first)) e
+
+pub released_status : (old new : SlotWindow) (frame : ℕ) (within b : Bool) → b ≡ nat_lt old.first old.due_end
+    → status_of new ≡ (if b then given (status_of old) else status_of old)
+    → status_at (status_of new) frame within ≡ seen old.rule frame within (old.due_end - old.first - 1)
+released_status old new frame within true t e =
+    let first = ap (λ (s : Status). s.first) e in
+    let end = ap (λ (s : Status). s.due_end) e in
+    ap₂ (λ (r : SlotRule) (n : ℕ). seen r frame within n) (ap (λ (s : Status). s.rule) e) (omega (arith, first, end))
+released_status old new frame within false t e =
+    let first = ap (λ (s : Status). s.first) e in
+    let end = ap (λ (s : Status). s.due_end) e in
+    let none = ltb-false old.first old.due_end (sym t) in
+    ap₂ (λ (r : SlotRule) (n : ℕ). seen r frame within n) (ap (λ (s : Status). s.rule) e) (omega (arith, first, end, none))
 
 -- no epoch ends
 pub passes : (r : SlotRule) (first frame count : ℕ) (epochs : List Epoch) (released : ℕ) (a : Assembler) (old new : SlotWindow)
@@ -322,8 +351,8 @@ same_stands a old new next r first count epochs released h e =
     }
 
 module _ (a : Assembler) (old new : SlotWindow) (next : ℕ) (r : SlotRule) (first count : ℕ) (epochs : List Epoch) (released : ℕ)
-    (h : Stands a old next r first count epochs released) (e : status_of new ≡ given (status_of old)) (due : old.first < old.due_end)
-    (known : old.due_end ≤ old.end) where
+    (h : Stands a old next r first count epochs released) (e : status_of new ≡ given (status_of old))
+    (due : old.first < old.due_end) (known : old.due_end ≤ old.end) where
   step : (get_or old.slots.items 0 None ≡ slot_option r (string_of r.up_len (epoch_of r first) epochs) old.first)
       × Shows r (string_of r.up_len (epoch_of r first) epochs) (old.first + 1) old.end (drop 1 old.slots.items)
   step = window.released r (string_of r.up_len (epoch_of r first) epochs) old.first old.end old.slots.items
@@ -347,7 +376,8 @@ module _ (a : Assembler) (old new : SlotWindow) (next : ℕ) (r : SlotRule) (fir
         due = ap (λ (s : Status). s.due_end) e ∙ h.due;
       }
 
-pub front_given : (a : Assembler) (old : SlotWindow) (next : ℕ) (r : SlotRule) (first count : ℕ) (epochs : List Epoch) (released : ℕ)
+pub front_given : (a : Assembler) (old : SlotWindow) (next : ℕ) (r : SlotRule) (first count : ℕ) (epochs : List Epoch)
+    (released : ℕ)
     → Stands a old next r first count epochs released
     → old.first < old.due_end → old.due_end ≤ old.end → slice_get (readback r first count epochs) released
     ≡ Some (front_packet (status_of old))
@@ -362,7 +392,8 @@ front_given a old next r first count epochs released h due known =
     let inside : released < n = omega (arith, b, d, due) in
     slice_get-get_or (map f (range_with_len (first_slot r first) n)) released null_packet
     (omega (arith, inside, length-map-range_with_len f (first_slot r first) n))
-    ∙ ap (λ (p : List ℕ). Some p) (get_or-map-range_with_len f (first_slot r first) n released old.first null_packet inside (sym b)
+    ∙ ap (λ (p : List ℕ). Some p)
+    (get_or-map-range_with_len f (first_slot r first) n released old.first null_packet inside (sym b)
     ∙ sym (ap (λ (o : Option (List ℕ)). unwrap_or o null_packet) step.0))
 
 -- Either way.
@@ -372,9 +403,11 @@ pub released_or_not : (a : Assembler) (old new : SlotWindow) (next : ℕ) (r : S
     → old.due_end ≤ old.end → Stands a new next r first count epochs (if b then released + 1 else released)
 released_or_not a old new next r first count epochs released h true t e known =
     release_stands a old new next r first count epochs released h e (ltb-true _ _ (sym t)) known
-released_or_not a old new next r first count epochs released h false t e known = same_stands a old new next r first count epochs released h e
+released_or_not a old new next r first count epochs released h false t e known =
+    same_stands a old new next r first count epochs released h e
 
-pub release_answers : (a : Assembler) (old : SlotWindow) (next : ℕ) (r : SlotRule) (first count : ℕ) (epochs : List Epoch) (released : ℕ)
+pub release_answers : (a : Assembler) (old : SlotWindow) (next : ℕ) (r : SlotRule) (first count : ℕ) (epochs : List Epoch)
+    (released : ℕ)
     → Stands a old next r first count epochs released
     → (b : Bool) → b ≡ true → b ≡ nat_lt old.first old.due_end → (out before : List ℕ)
     → out ≡ (if b then front_packet (status_of old) else before) → old.due_end ≤ old.end

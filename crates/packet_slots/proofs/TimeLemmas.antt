@@ -121,9 +121,10 @@ released_late old rises r sound frame =
     let b = sound.times.long in
     elim (cases_lt (over_after r (frame - r.spread)) (due_after r frame)) [
       | inl lt ↦
-          let p = old r.times.num r.times.den r.times.epoch (frame * r.ticks) (over_after r (frame - r.spread)) (omega (arith, a, b))
-          (omega (arith, a)) lt in
-          let m = rises r.times.num r.times.den (frame * r.ticks - 3 * r.times.epoch) ((frame - r.spread) * r.ticks) (omega (arith, a, b))
+          let p = old r.times.num r.times.den r.times.epoch (frame * r.ticks) (over_after r (frame - r.spread))
+          (omega (arith, a, b)) (omega (arith, a)) lt in
+          let m = rises r.times.num r.times.den (frame * r.ticks - 3 * r.times.epoch) ((frame - r.spread) * r.ticks)
+          (omega (arith, a, b))
           (let own = sound.epoch in let early = early_tick frame r.spread r.ticks in omega (arith, own, early)) in
           absurd (omega (arith, p, m))
       | inr ge ↦ ge
@@ -165,7 +166,8 @@ none_given law r sound =
     let b = sound.times.long in
     elim (cases_lt 0 (due_after r 0)) [
       | inl lt ↦
-          let p = (law r.times.num r.times.den (delay_of r.times) (0 * r.ticks) 0 (omega (arith, a, b)) (omega (arith, a))).0 lt in
+          let p = (law r.times.num r.times.den (delay_of r.times) (0 * r.ticks) 0 (omega (arith, a, b)) (omega (arith, a))).0
+          lt in
           let e : 0 * r.ticks ≡ 0 = omega arith in
           absurd (omega (arith, p, e))
       | inr ge ↦ omega (arith, ge)

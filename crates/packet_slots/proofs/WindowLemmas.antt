@@ -9,6 +9,7 @@ use Rattle.std.proofs.lemmas.List.{map-append}
 use Rattle.std.proofs.lemmas.List.Folds.{find-append}
 use Rattle.std.proofs.lemmas.Bool.{cases_lt, false_from_ne_true, eqb-true, le-ltb}
 use Rattle.std.proofs.lemmas.Option.{none-some}
+use Rattle.terms.proofs.RangeLemmas.{range_append, map_same}
 use Rattle.plp_config.specs.SlotTime.{slot_start}
 use Rattle.plp_config.specs.Laws.{CountRises}
 use Rattle.packet_slots.specs.declared.slot_rule.SlotRule.{SlotRule}
@@ -21,7 +22,7 @@ use Rattle.packet_slots.specs.Packets.{UserPacket, user_packets, packet_of}
 use Rattle.packet_slots.specs.Readback.{counts_by, counts, counted, found_for, slot_option}
 use Rattle.packet_slots.specs.Filling.{filled}
 use Rattle.packet_slots.specs.Holds.{Shows, UpTo}
-use Rattle.packet_slots.proofs.ListLemmas.{range_append, map_same, map_none, filter_append, put_list}
+use Rattle.packet_slots.proofs.ListLemmas.{map_none, filter_append, put_list}
 use Rattle.packet_slots.proofs.ReadbackLemmas.{none_yet}
 
 abbrev packet_of_up : UserPacket → List ℕ
@@ -45,7 +46,7 @@ entered r sound rises z epoch first end next slots h u c l =
           (λ k a b. ap (option_map packet_of_up) (none_yet r sound rises z epoch k u (omega (arith, c))))))
           ∙ sym (map-append (slot_option r z) (range_with_len first (end - first))
           (range_with_len (first + (end - first)) (next - end)))
-          ∙ sym (ap (map (slot_option r z)) (ap (range_with_len first) e ∙ range_append (end - first) (next - end) first));
+          ∙ sym (ap (map (slot_option r z)) (ap (range_with_len first) e ∙ range_append first (end - first) (next - end)));
     }
 
 same_counted : (r : SlotRule) (z w : List Item) → user_packets r w ≡ user_packets r z → counted r w ≡ counted r z
@@ -56,7 +57,7 @@ shown_by : (r : SlotRule) (z w : List Item) (first end : ℕ) (slots : List (Opt
     → Shows r z first end slots → Shows r w first end slots
 shown_by r z w first end slots e h = record {
   order = h.order;
-  slots_are = h.slots_are ∙ map_same (slot_option r z) (slot_option r w) (end - first) first
+  slots_are = h.slots_are ∙ map_same (slot_option r z) (slot_option r w) first (end - first)
       (λ k a b. ap (λ (l : List UserPacket). option_map packet_of_up (find (λ up. up.slot == k) l)) (sym e));
 }
 
@@ -121,7 +122,7 @@ module _ (r : SlotRule) (z w : List Item) (up : UserPacket) (gains : user_packet
       → Shows r z first end slots → Shows r w first end slots
   too_late first end slots e l h = record {
     order = h.order;
-    slots_are = h.slots_are ∙ map_same (slot_option r z) (slot_option r w) (end - first) first
+    slots_are = h.slots_are ∙ map_same (slot_option r z) (slot_option r w) first (end - first)
         (λ k a b. sym (other k e (λ (q : k ≡ up.slot). omega (arith, q))));
   }
 

@@ -5,7 +5,7 @@ use Rattle.std.specs.List.{AllByRecursion, flat_map}
 use Rattle.packet_slots.specs.declared.slot_rule.SlotRule.{SlotRule}
 use Rattle.packet_slots.specs.Sound.{IsSound}
 use Rattle.packet_slots.specs.Strings.{Item, Block, block_items, is_start}
-use Rattle.packet_slots.specs.Both.{IsPlace}
+use Rattle.packet_slots.specs.TakenBlocks.{IsPlace}
 use Rattle.packet_slots.specs.Packets.{no_item, is_complete, window}
 
 -- the item at a place

@@ -15,4 +15,4 @@ pub mod Machine
 pub mod Base
 pub mod Filling
 pub mod Holds
-pub mod Both
+pub mod TakenBlocks

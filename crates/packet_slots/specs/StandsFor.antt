@@ -1,5 +1,5 @@
 -- What a `PacketSlots` stands for.
-use Rattle.std.specs.Prelude.{◌≡◌, ℕ, ◌+◌, ◌-◌, ◌%◌, ◌==◌, List, [], ◌++◌, Option, Bool}
+use Rattle.std.specs.Prelude.{◌≡◌, ℕ, ◌+◌, ◌-◌, ◌%◌, ◌==◌, List, [], ◌++◌, Option, Bool, false}
 use Rattle.std.specs.List.{flat_map}
 use Rattle.packet_slots.specs.declared.slot_rule.SlotRule.{SlotRule}
 use Rattle.packet_slots.specs.declared.assembler.Assembler.{Assembler}
@@ -8,7 +8,8 @@ use Rattle.packet_slots.specs.declared.window.SlotWindow.{SlotWindow}
 use Rattle.packet_slots.specs.Strings.{Item, Block}
 use Rattle.packet_slots.specs.Epochs.{Epoch, HaveEnded, string_of, first_slot, reached, block_or_gap}
 use Rattle.packet_slots.specs.Times.{epoch_of, over_after, due_after}
-use Rattle.packet_slots.specs.Both.{Both}
+use Rattle.packet_slots.specs.TakenBlocks.{Both}
+use Rattle.packet_slots.specs.Window.{Status, status_of}
 
 -- the items of blocks of an epoch
 abbrev pub blocks_items : ℕ → ℕ → List (Option Block) → List Item
@@ -44,17 +45,38 @@ due_of p = p.window.due_end - p.window.first
 abbrev pub rule_of : PacketSlots → SlotRule
 rule_of p = p.window.rule
 
+-- what a caller sees: the slot rule, the frame that comes next or that is under way, whether it is under way, and how many slots
+-- are due
+pub record SlotsStatus : Type 0 where
+  pub rule : SlotRule
+  pub frame : ℕ
+  pub within : Bool
+  pub due : ℕ
+
+abbrev pub status_at : Status → ℕ → Bool → SlotsStatus
+status_at w frame within = record { rule = w.rule; frame = frame; within = within; due = w.due_end - w.first }
+
+abbrev pub slots_status : PacketSlots → SlotsStatus
+slots_status p = status_at (status_of p.window) p.frame p.in_frame
+
+-- that of one to which no frame came
+abbrev pub new_status : SlotRule → SlotsStatus
+new_status r = record { rule = r; frame = 0; within = false; due = 0 }
+
 -- whether an epoch ends with that frame
+abbrev pub ends_by : SlotsStatus → Bool
+ends_by s = (s.frame + 1) % s.rule.spread == 0
+
 abbrev pub ends_epoch : PacketSlots → Bool
-ends_epoch p = (p.frame + 1) % p.window.rule.spread == 0
+ends_epoch p = ends_by (slots_status p)
 
 -- No slot is in the window.
 abbrev pub IsEmpty : PacketSlots → Type 0
 IsEmpty p = p.window.slots.items ≡ []
 
 -- So many frames came from one on, of whose epochs this came, and so many slots were given out.
-unfoldable pub StandsFor : PacketSlots → SlotRule → ℕ → ℕ → List Epoch → ℕ → Type 0
-StandsFor p r first count epochs released = Stands p.assembler p.window p.frame r first count epochs released
+unfoldable pub PacketSlotsStandsFor : PacketSlots → SlotRule → ℕ → ℕ → List Epoch → ℕ → Type 0
+PacketSlotsStandsFor p r first count epochs released = Stands p.assembler p.window p.frame r first count epochs released
 
 -- And the next frame is under way; of the epoch that ends with it came these blocks, nothing in place of one that is not taken.
 unfoldable pub StandsWithin : PacketSlots → SlotRule → ℕ → ℕ → List Epoch → List (Option Block) → ℕ → Type 0

@@ -6,8 +6,8 @@ use Rattle.plp_config.specs.declared.moment.TheConstants.{ISCR_TICKS}
 use Rattle.packet_slots.specs.declared.mark.Mark.{Mark}
 use Rattle.packet_slots.specs.declared.mark.Mark.TheVariants.{Gap, Inside, Next, Timed}
 
--- a byte of the string, or a gap; epoch is the number of the interleaving frame whose block it stands in. A user packet can end at
--- the last byte of a block, and at each byte behind which one begins
+-- a byte of the string, or a gap; epoch is the number of the interleaving frame whose block it stands in. A user packet can end
+-- at the last byte of a block, and at each byte behind which one begins
 pub record Item : Type 0 where
   pub mark : Mark
   pub value : ℕ

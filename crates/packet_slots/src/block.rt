@@ -3,11 +3,11 @@ ghost use Rattle.std.specs.Prelude.{◌≡◌, ◌^◌, ◌+◌, ◌-◌, ◌%�
 ghost use Rattle.std.specs.Prelude.{IfSome, Some, Option, if◌then◌else◌};
 ghost use Rattle.packet_slots.specs.declared.slot_rule.SlotRule.{SlotRule};
 ghost use Rattle.plp_config.specs.declared.moment.TheConstants.{MOST_FRAMES};
-ghost use Rattle.packet_slots.specs.Strings.{Item, gap, items_from, first_mark, block_items};
+ghost use Rattle.packet_slots.specs.Strings.{Item, items_from, first_mark, block_items};
 ghost use Rattle.packet_slots.specs.declared.mark.Mark.TheVariants.{Next};
 ghost use Rattle.packet_slots.specs.Pieces.{piece_items};
 ghost use Rattle.packet_slots.specs.Assembles.{IsEpoch};
-ghost use Rattle.packet_slots.specs.Both.{Both, KeepsTimes, block_of, front_of, IsBegun, IsStart, IsPlace};
+ghost use Rattle.packet_slots.specs.TakenBlocks.{Both, KeepsTimes, block_of, front_of, IsBegun, IsStart, IsPlace};
 
 use crate::assembler::Assembler;
 use crate::mark::Mark;
@@ -46,16 +46,6 @@ fn take_piece(
     if window.counts(&found, epoch) {
         window.put(found.slot, assembler.packet());
     }
-}
-
-/// A block is not taken, or an epoch is not there.
-pub fn take_gap(assembler: &mut Assembler, window: &SlotWindow)
-    ensures rule { assembler.new.rule ≡ assembler.old.rule }
-    ensures both { (r : SlotRule) (z : List Item) (epoch : ℕ) → Both r z assembler.old window.now
-        → Both r (z ++ gap epoch ∷ []) assembler.new window.now }
-{
-    let _ = window;
-    assembler.gap();
 }
 
 // What begins at the first place where a user packet begins: an ISSY that begins with 10 tells its ISCR.

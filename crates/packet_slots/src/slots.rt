@@ -7,7 +7,7 @@ ghost use Rattle.packet_slots.specs.Times.{due_after};
 ghost use Rattle.packet_slots.specs.Window.{Reaches};
 
 use crate::assembler::Assembler;
-use crate::block::{TakenBlock, take_block, take_gap};
+use crate::block::{TakenBlock, take_block};
 use crate::slot_rule::SlotRule;
 use crate::window::SlotWindow;
 use plp_config::{release_law, slot_time_law};
@@ -17,8 +17,9 @@ use ts_packet::SIZE;
 /// Puts the user packets of successive interleaving frames into their slots, and gives each slot's packet out once it is due.
 ///
 /// Of each frame, [`pass`](Self::pass), unless an interleaving frame ends with it. Of one that does,
-/// [`begin_frame`](Self::begin_frame), then each block of the interleaving frame in order, then [`end_frame`](Self::end_frame); or
-/// [`lose`](Self::lose), if the interleaving frame is not there. Behind that, all slots that are due must be given out.
+/// [`begin_frame`](Self::begin_frame), then each block of the interleaving frame in order, then
+/// [`end_frame`](Self::end_frame); or [`lose`](Self::lose), if the interleaving frame is not there. Behind that, all slots that
+/// are due must be given out.
 #[derive(Drop)]
 pub struct PacketSlots {
     assembler: Assembler,
@@ -37,11 +38,11 @@ impl PacketSlots {
     ghost use Rattle.packet_slots.specs.Sound.{IsSound};
     ghost use Rattle.packet_slots.specs.Strings.{Block};
     ghost use Rattle.packet_slots.specs.Epochs.{Epoch, lost_epoch, epoch_with, readback, held_slots};
-    ghost use Rattle.packet_slots.specs.Both.{block_of, IsPlace};
+    ghost use Rattle.packet_slots.specs.TakenBlocks.{block_of, IsPlace};
     ghost use Rattle.std.specs.Prelude.{nat_lt};
     ghost use Rattle.packet_slots.specs.Window.{status_of, left};
-    ghost use Rattle.packet_slots.specs.StandsFor.{StandsFor, StandsWithin, IsFresh, IsEmpty, frame_of, is_within, due_of};
-    ghost use Rattle.packet_slots.specs.StandsFor.{rule_of, ends_epoch};
+    ghost use Rattle.packet_slots.specs.StandsFor.{PacketSlotsStandsFor, StandsWithin, IsFresh, IsEmpty, frame_of, is_within, due_of};
+    ghost use Rattle.packet_slots.specs.StandsFor.{rule_of, ends_epoch, slots_status, new_status};
 
     /// Takes all the memory that is needed.
     ///
@@ -50,9 +51,8 @@ impl PacketSlots {
     pub fn open(alloc: Global, rule: SlotRule) -> Result<PacketSlots, AllocError>
         requires { IsSound rule }
         ensures fresh { IfOk result (λ p. IsFresh p rule) }
-        ensures outside { IfOk result (λ p. is_within p ≡ false) }
         ensures empty { IfOk result IsEmpty }
-        ensures rule { IfOk result (λ p. rule_of p ≡ rule) }
+        ensures status { IfOk result (λ p. slots_status p ≡ new_status rule) }
     {
         release_law();
         Ok(PacketSlots {
@@ -68,11 +68,8 @@ impl PacketSlots {
         requires small { first < MOST_FRAMES }
         requires outside { is_within self.old ≡ false }
         requires empty { IsEmpty self.old }
-        ensures stands { (r : SlotRule) → IsFresh self.old r → StandsFor self.new r first 0 [] 0 }
-        ensures due { due_of self.new ≡ 0 }
-        ensures frame { frame_of self.new ≡ first }
-        ensures outside { is_within self.new ≡ false }
-        ensures rule { rule_of self.new ≡ rule_of self.old }
+        ensures stands { (r : SlotRule) → IsFresh self.old r → PacketSlotsStandsFor self.new r first 0 [] 0 }
+        ensures status { slots_status self.new ≡ record (slots_status self.old) { frame = first; due = 0 } }
     {
         self.window.begin(first);
         slot_time_law();
@@ -85,11 +82,9 @@ impl PacketSlots {
         requires outside { is_within self.old ≡ false }
         requires given_out { due_of self.old ≡ 0 }
         ensures stands { (r : SlotRule) (first count : ℕ) (epochs : List Epoch) (released : ℕ)
-            → StandsFor self.old r first count epochs released
+            → PacketSlotsStandsFor self.old r first count epochs released
             → StandsWithin self.new r first count epochs [] released }
-        ensures frame { frame_of self.new ≡ frame_of self.old }
-        ensures within { is_within self.new ≡ true }
-        ensures rule { rule_of self.new ≡ rule_of self.old }
+        ensures status { slots_status self.new ≡ record (slots_status self.old) { within = true } }
     {
         self.window.enter(self.frame);
         slot_time_law();
@@ -104,9 +99,7 @@ impl PacketSlots {
         ensures stands { (r : SlotRule) (first count : ℕ) (epochs : List Epoch) (blocks : List (Option Block)) (released : ℕ)
             → StandsWithin self.old r first count epochs blocks released
             → StandsWithin self.new r first count epochs (blocks ++ Some (block_of block.now) ∷ []) released }
-        ensures frame { frame_of self.new ≡ frame_of self.old }
-        ensures within { is_within self.new ≡ true }
-        ensures rule { rule_of self.new ≡ rule_of self.old }
+        ensures status { slots_status self.new ≡ slots_status self.old }
     {
         let epoch = self.window.epoch_of(self.frame);
         take_block(&mut self.assembler, &mut self.window, block, epoch);
@@ -118,11 +111,9 @@ impl PacketSlots {
         ensures stands { (r : SlotRule) (first count : ℕ) (epochs : List Epoch) (blocks : List (Option Block)) (released : ℕ)
             → StandsWithin self.old r first count epochs blocks released
             → StandsWithin self.new r first count epochs (blocks ++ None ∷ []) released }
-        ensures frame { frame_of self.new ≡ frame_of self.old }
-        ensures within { is_within self.new ≡ true }
-        ensures rule { rule_of self.new ≡ rule_of self.old }
+        ensures status { slots_status self.new ≡ slots_status self.old }
     {
-        take_gap(&mut self.assembler, &self.window);
+        self.assembler.gap();
     }
 
     // The frame has ended.
@@ -131,8 +122,11 @@ impl PacketSlots {
         requires within { is_within self.old ≡ true }
         ensures assembler { self.new.assembler ≡ self.old.assembler }
         ensures window { status_of self.new.window ≡ left (status_of self.old.window) (frame_of self.old) }
-        ensures frame { frame_of self.new ≡ frame_of self.old + 1 }
-        ensures outside { is_within self.new ≡ false }
+        ensures status { slots_status self.new ≡ record (slots_status self.old) {
+          frame = frame_of self.old + 1;
+          within = false;
+          due = due_of self.new;
+        } }
     {
         self.window.leave(self.frame);
         slot_time_law();
@@ -147,10 +141,12 @@ impl PacketSlots {
         requires last { ends_epoch self.old ≡ true }
         ensures stands { (r : SlotRule) (first count : ℕ) (epochs : List Epoch) (blocks : List (Option Block)) (released : ℕ)
             → StandsWithin self.old r first count epochs blocks released
-            → StandsFor self.new r first (count + 1) (epochs ++ epoch_with blocks ∷ []) released }
-        ensures frame { frame_of self.new ≡ frame_of self.old + 1 }
-        ensures outside { is_within self.new ≡ false }
-        ensures rule { rule_of self.new ≡ rule_of self.old }
+            → PacketSlotsStandsFor self.new r first (count + 1) (epochs ++ epoch_with blocks ∷ []) released }
+        ensures status { slots_status self.new ≡ record (slots_status self.old) {
+          frame = frame_of self.old + 1;
+          within = false;
+          due = due_of self.new;
+        } }
     {
         self.leave();
     }
@@ -162,11 +158,13 @@ impl PacketSlots {
         requires given_out { due_of self.old ≡ 0 }
         requires last { ends_epoch self.old ≡ true }
         ensures stands { (r : SlotRule) (first count : ℕ) (epochs : List Epoch) (released : ℕ)
-            → StandsFor self.old r first count epochs released
-            → StandsFor self.new r first (count + 1) (epochs ++ lost_epoch ∷ []) released }
-        ensures frame { frame_of self.new ≡ frame_of self.old + 1 }
-        ensures outside { is_within self.new ≡ false }
-        ensures rule { rule_of self.new ≡ rule_of self.old }
+            → PacketSlotsStandsFor self.old r first count epochs released
+            → PacketSlotsStandsFor self.new r first (count + 1) (epochs ++ lost_epoch ∷ []) released }
+        ensures status { slots_status self.new ≡ record (slots_status self.old) {
+          frame = frame_of self.old + 1;
+          within = false;
+          due = due_of self.new;
+        } }
     {
         self.begin_frame();
         self.skip();
@@ -180,11 +178,13 @@ impl PacketSlots {
         requires given_out { due_of self.old ≡ 0 }
         requires inner { ends_epoch self.old ≡ false }
         ensures stands { (r : SlotRule) (first count : ℕ) (epochs : List Epoch) (released : ℕ)
-            → StandsFor self.old r first count epochs released
-            → StandsFor self.new r first (count + 1) epochs released }
-        ensures frame { frame_of self.new ≡ frame_of self.old + 1 }
-        ensures outside { is_within self.new ≡ false }
-        ensures rule { rule_of self.new ≡ rule_of self.old }
+            → PacketSlotsStandsFor self.old r first count epochs released
+            → PacketSlotsStandsFor self.new r first (count + 1) epochs released }
+        ensures status { slots_status self.new ≡ record (slots_status self.old) {
+          frame = frame_of self.old + 1;
+          within = false;
+          due = due_of self.new;
+        } }
     {
         self.begin_frame();
         self.leave();
@@ -210,7 +210,7 @@ impl PacketSlots {
         ensures value { result ≡ due_of self.now }
         ensures fresh { (r : SlotRule) → IsFresh self.now r → result ≡ 0 }
         ensures answer { (r : SlotRule) (first count : ℕ) (epochs : List Epoch) (released : ℕ)
-            → StandsFor self.now r first count epochs released
+            → PacketSlotsStandsFor self.now r first count epochs released
             → result ≡ length (readback r first count epochs) - released }
     {
         self.window.due()
@@ -219,10 +219,10 @@ impl PacketSlots {
     /// How many slots are in the window: those that have come into range and were not given out.
     pub fn held(&self) -> u64
         ensures fresh { (r : SlotRule) → IsFresh self.now r → result ≡ 0 }
-        ensures most { result ≤ window_slots (rule_of self.now).times.num (rule_of self.now).times.den (delay_of (rule_of self.now).times)
-            (rule_of self.now).ticks }
+        ensures most { result ≤ window_slots (rule_of self.now).times.num (rule_of self.now).times.den
+            (delay_of (rule_of self.now).times) (rule_of self.now).ticks }
         ensures answer { (r : SlotRule) (first count : ℕ) (epochs : List Epoch) (released : ℕ)
-            → StandsFor self.now r first count epochs released
+            → PacketSlotsStandsFor self.now r first count epochs released
             → result ≡ held_slots r first count - released }
     {
         self.window.held()
@@ -231,21 +231,18 @@ impl PacketSlots {
     /// The packet of the next slot, if one is due: `false` exactly if none is.
     pub fn release(&mut self, out: &mut [u8; SIZE]) -> bool
         ensures stands { (r : SlotRule) (first count : ℕ) (epochs : List Epoch) (released : ℕ)
-            → StandsFor self.old r first count epochs released
-            → StandsFor self.new r first count epochs (if result then released + 1 else released) }
+            → PacketSlotsStandsFor self.old r first count epochs released
+            → PacketSlotsStandsFor self.new r first count epochs (if result then released + 1 else released) }
         ensures answer { result ≡ true → (r : SlotRule) (first count : ℕ) (epochs : List Epoch) (released : ℕ)
-            → StandsFor self.old r first count epochs released
+            → PacketSlotsStandsFor self.old r first count epochs released
             → slice_get (readback r first count epochs) released ≡ Some out.new }
         ensures none { result ≡ false → (r : SlotRule) (first count : ℕ) (epochs : List Epoch) (released : ℕ)
-            → StandsFor self.old r first count epochs released
+            → PacketSlotsStandsFor self.old r first count epochs released
             → length (readback r first count epochs) ≤ released }
         ensures exact { result ≡ nat_lt 0 (due_of self.old) }
-        ensures due { due_of self.new ≡ due_of self.old - 1 }
         ensures same { result ≡ false → self.new ≡ self.old }
         ensures kept { result ≡ false → out.new ≡ out.old }
-        ensures frame { frame_of self.new ≡ frame_of self.old }
-        ensures within { is_within self.new ≡ is_within self.old }
-        ensures rule { rule_of self.new ≡ rule_of self.old }
+        ensures status { slots_status self.new ≡ record (slots_status self.old) { due = due_of self.old - 1 } }
     {
         if self.window.due() == 0 {
             return false;

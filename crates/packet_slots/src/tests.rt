@@ -4,7 +4,7 @@
 ghost use Rattle.std.specs.Prelude.{◌≡◌, ◌+◌, ◌*◌, ◌^◌, ◌<◌, ◌≤◌, true, false, IfOk};
 ghost use Rattle.plp_config.specs.declared.moment.TheConstants.{MOST_FRAMES};
 ghost use Rattle.packet_slots.specs.Sound.{IsSound};
-ghost use Rattle.packet_slots.specs.StandsFor.{frame_of, is_within, due_of, rule_of, ends_epoch};
+ghost use Rattle.packet_slots.specs.StandsFor.{frame_of, is_within, due_of, ends_epoch, slots_status};
 
 use crate::{PacketSlots, SlotRule, TakenBlock, readback_law};
 use plp_config::SlotTimes;
@@ -61,9 +61,7 @@ fn string(alloc: Global, first: u8) -> Result<Vec<u8>, Fail> {
 fn take_first(slots: &mut PacketSlots, begin: u64, string: &[u8])
     requires small { frame_of slots.old < MOST_FRAMES }
     requires within { is_within slots.old ≡ true }
-    ensures frame { frame_of slots.new ≡ frame_of slots.old }
-    ensures within { is_within slots.new ≡ true }
-    ensures rule { rule_of slots.new ≡ rule_of slots.old }
+    ensures status { slots_status slots.new ≡ slots_status slots.old }
 {
     let cut = CUT.min(string.len());
     if cut > 0 {
@@ -79,9 +77,7 @@ fn take_first(slots: &mut PacketSlots, begin: u64, string: &[u8])
 fn take_second(slots: &mut PacketSlots, begin: u64, string: &[u8], lost: bool)
     requires small { frame_of slots.old < MOST_FRAMES }
     requires within { is_within slots.old ≡ true }
-    ensures frame { frame_of slots.new ≡ frame_of slots.old }
-    ensures within { is_within slots.new ≡ true }
-    ensures rule { rule_of slots.new ≡ rule_of slots.old }
+    ensures status { slots_status slots.new ≡ slots_status slots.old }
 {
     if lost || string.len() <= CUT + SECOND {
         return slots.skip();
@@ -99,8 +95,11 @@ fn take_epoch(slots: &mut PacketSlots, epoch: u64, begin: u64, string: &[u8])
     requires outside { is_within slots.old ≡ false }
     requires given_out { due_of slots.old ≡ 0 }
     requires last { ends_epoch slots.old ≡ true }
-    ensures frame { frame_of slots.new ≡ frame_of slots.old + 1 }
-    ensures outside { is_within slots.new ≡ false }
+    ensures status { slots_status slots.new ≡ record (slots_status slots.old) {
+      frame = frame_of slots.old + 1;
+      within = false;
+      due = due_of slots.new;
+    } }
 {
     slots.begin_frame();
     take_first(slots, begin, string);
@@ -113,8 +112,11 @@ fn take(slots: &mut PacketSlots, row: &Row, epoch: u64, string: &[u8])
     requires small { frame_of slots.old < MOST_FRAMES }
     requires outside { is_within slots.old ≡ false }
     requires given_out { due_of slots.old ≡ 0 }
-    ensures frame { frame_of slots.new ≡ frame_of slots.old + 1 }
-    ensures outside { is_within slots.new ≡ false }
+    ensures status { slots_status slots.new ≡ record (slots_status slots.old) {
+      frame = frame_of slots.old + 1;
+      within = false;
+      due = due_of slots.new;
+    } }
 {
     if !slots.ends_epoch() {
         return slots.pass();
@@ -132,8 +134,7 @@ fn take(slots: &mut PacketSlots, row: &Row, epoch: u64, string: &[u8])
 
 // Gives out what is due.
 fn give(slots: &mut PacketSlots, given: &mut Vec<u8>) -> Result<(), Fail>
-    ensures frame { frame_of slots.new ≡ frame_of slots.old }
-    ensures within { is_within slots.new ≡ is_within slots.old }
+    ensures status { slots_status slots.new ≡ record (slots_status slots.old) { due = due_of slots.new } }
     ensures due { IfOk result (λ u. due_of slots.new ≡ 0) }
 {
     let mut out = [0; SIZE];

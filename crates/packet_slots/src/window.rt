@@ -44,7 +44,10 @@ fn push_empty(slots: &mut HeapCircularBuffer<Option<TsPacket>>, count: u64)
 }
 
 // Gives the place of a slot its packet, unless it has one.
-#[tactic(auto, using(crate::proofs::FillLemmas::fill_none, crate::proofs::FillLemmas::fill_some, crate::proofs::FillLemmas::fill_past))]
+#[rattlefmt::skip]
+#[tactic(auto, using(
+    crate::proofs::FillLemmas::fill_none, crate::proofs::FillLemmas::fill_some, crate::proofs::FillLemmas::fill_past
+))]
 fn fill(slots: &mut HeapCircularBuffer<Option<TsPacket>>, place: u64, packet: TsPacket)
     ensures items { slots.new.items ≡ filled slots.old.items place packet }
     ensures capacity { slots.new.capacity ≡ slots.old.capacity }
@@ -173,7 +176,8 @@ impl SlotWindow {
     /// How many slots are held: as many as the window of the PLP has at most.
     pub fn held(&self) -> u64
         ensures value { result ≡ self.now.end - self.now.first }
-        ensures most { result ≤ window_slots self.now.rule.times.num self.now.rule.times.den (delay_of self.now.rule.times) self.now.rule.ticks }
+        ensures most { result ≤ window_slots self.now.rule.times.num self.now.rule.times.den (delay_of self.now.rule.times)
+            self.now.rule.ticks }
     {
         self.slots.len() as u64
     }

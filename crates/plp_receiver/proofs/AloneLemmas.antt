@@ -44,7 +44,8 @@ module _ (c : Config) (plp first : ℕ) (views : List RecordView) (one : spread 
       let at : m - first ≡ place = omega arith in
       ap (λ (s : ℕ). parts_by s (m * s)) one
       ∙ ap (parts_by 1) same
-      ∙ ap (λ (b : Bool). cond {A = Option (List Part)} b (agreeing plp (parts_of c m (take 1 (drop (m - first) views)))) None) there
+      ∙ ap (λ (b : Bool). cond {A = Option (List Part)} b (agreeing plp (parts_of c m (take 1 (drop (m - first) views)))) None)
+      there
       ∙ ap (λ (k : ℕ). agreeing plp (parts_of c m (take 1 (drop k views)))) at
       ∙ ap (λ (l : List RecordView). agreeing plp (parts_of c m l)) (one_taken views place v e)
       ∙ parts_of_one c plp m v

@@ -31,7 +31,8 @@ with_none : (o : Option Part) → with_part o (Some []) ≡ more (Some []) o
 with_none None = refl
 with_none (Some p) = refl
 
-with_more : (o : Option Part) (parts : Option (List Part)) (q : Option Part) → with_part o (more parts q) ≡ more (with_part o parts) q
+with_more : (o : Option Part) (parts : Option (List Part)) (q : Option Part)
+    → with_part o (more parts q) ≡ more (with_part o parts) q
 with_more None parts q = refl
 with_more (Some p) None q = refl
 with_more (Some p) (Some parts) None = refl
@@ -91,13 +92,15 @@ begun_joined plp (Some (p ∷ parts)) (Some q) = go (count_of plp q == count_of 
 
 -- ---- the epoch under way
 pub seen_more : (c : Config) (plp first : ℕ) (views : List RecordView) (v : RecordView) (from : ℕ) → from ≤ first + length views
-    → seen_from c plp first (views ++ v ∷ []) from ≡ joined plp (seen_from c plp first views from) (part_of c (first + length views) v)
+    → seen_from c plp first (views ++ v ∷ []) from ≡ joined plp (seen_from c plp first views from)
+    (part_of c (first + length views) v)
 seen_more c plp first views v from l =
     elim (cases_lt from first) [
       | inl lt ↦
           let e : nat_le first from ≡ false = false_from_ne_true _ (λ (t : nat_le first from ≡ true).
           let m = leb-true first from t in omega (arith, m, lt)) in
-          ap (λ (b : Bool). cond {A = Option (List Part)} b (agreeing plp (parts_of c from (drop (from - first) (views ++ v ∷ [])))) None)
+          ap (λ (b : Bool). cond {A = Option (List Part)} b
+          (agreeing plp (parts_of c from (drop (from - first) (views ++ v ∷ [])))) None)
           e
           ∙ sym (ap (λ (b : Bool). joined plp (cond {A = Option (List Part)} b
           (agreeing plp (parts_of c from (drop (from - first) views))) None) (part_of c (first + length views) v)) e)
@@ -107,7 +110,8 @@ seen_more c plp first views v from l =
           let longer : drop (from - first) (views ++ v ∷ []) ≡ rest ++ v ∷ [] =
           drop-append-le (from - first) views (v ∷ []) (omega (arith, l, ge)) in
           let at : from + length rest ≡ first + length views = omega (arith, l, ge, length-drop (from - first) views) in
-          ap (λ (b : Bool). cond {A = Option (List Part)} b (agreeing plp (parts_of c from (drop (from - first) (views ++ v ∷ [])))) None)
+          ap (λ (b : Bool). cond {A = Option (List Part)} b
+          (agreeing plp (parts_of c from (drop (from - first) (views ++ v ∷ [])))) None)
           e
           ∙ ap (λ (x : List RecordView). agreeing plp (parts_of c from x)) longer
           ∙ ap (agreeing plp) (parts_more c from rest v)
@@ -159,11 +163,13 @@ some_seen c plp first views from l =
       | inl lt ↦
           let e : nat_le first from ≡ false = false_from_ne_true _ (λ (t : nat_le first from ≡ true).
           let m = leb-true first from t in omega (arith, m, lt)) in
-          ap (λ (b : Bool). is_begun (cond {A = Option (List Part)} b (agreeing plp (parts_of c from (drop (from - first) views))) None))
+          ap (λ (b : Bool). is_begun (cond {A = Option (List Part)} b (agreeing plp (parts_of c from (drop (from - first) views)))
+          None))
           e
       | inr ge ↦
           let e : nat_le first from ≡ true = le-leb first from ge in
-          ap (λ (b : Bool). is_begun (cond {A = Option (List Part)} b (agreeing plp (parts_of c from (drop (from - first) views))) None))
+          ap (λ (b : Bool). is_begun (cond {A = Option (List Part)} b (agreeing plp (parts_of c from (drop (from - first) views)))
+          None))
           e ∙ go (drop (from - first) views) (omega (arith, l, ge, length-drop (from - first) views))
     ]
   where
@@ -238,8 +244,10 @@ module _ (c : Config) (plp first : ℕ) (views : List RecordView) where
                 ∙ seen_joined
             | inr ge ↦
                 let all : take s (drop (from - first) longer) ≡ drop (from - first) longer =
-                take_all s (drop (from - first) longer) (omega (arith, length-drop (from - first) longer, next, e, f, more, ge)) in
-                ap (λ (x : List RecordView). cond {A = Option (List Part)} (nat_le first from) (agreeing plp (parts_of c from x)) None)
+                take_all s (drop (from - first) longer)
+                (omega (arith, length-drop (from - first) longer, next, e, f, more, ge)) in
+                ap (λ (x : List RecordView). cond {A = Option (List Part)} (nat_le first from) (agreeing plp (parts_of c from x))
+                None)
                 all ∙ seen_joined
           ]
 
@@ -260,7 +268,8 @@ module _ (c : Config) (plp first : ℕ) (views : List RecordView) where
             let e : drop k (views ++ others) ≡ drop k views ++ others = drop-append-le k views others (omega (arith, l, ge)) in
             let f : take s (drop k views ++ others) ≡ take s (drop k views) =
             take-append-le s (drop k views) others (omega (arith, length-drop k views, l, ge)) in
-            ap (λ (x : List RecordView). cond {A = Option (List Part)} (nat_le first (m * s)) (agreeing plp (parts_of c (m * s) x))
+            ap (λ (x : List RecordView). cond {A = Option (List Part)} (nat_le first (m * s))
+            (agreeing plp (parts_of c (m * s) x))
             None) (ap (take s) e ∙ f)
       ]
 
@@ -308,7 +317,8 @@ unfolding TellAll
 none_told c plp first =
     let e : (first + 0) / spread c.plps plp - first / spread c.plps plp ≡ 0 =
     (let f : first + 0 ≡ first = omega arith in let g = ap (λ (k : ℕ). k / spread c.plps plp) f in omega (arith, g)) in
-    subst (λ (k : ℕ). AllZip (λ m e. Tells c plp (epoch_parts c plp first [] m) e) (range_with_len (first / spread c.plps plp) k) [])
+    subst (λ (k : ℕ). AllZip (λ m e. Tells c plp (epoch_parts c plp first [] m) e) (range_with_len (first / spread c.plps plp) k)
+    [])
     (sym e) tt
 
 pub first_seen : (c : Config) (plp first : ℕ) → 1 ≤ spread c.plps plp → (h : HeldBlocks) → h.there ≡ false
@@ -323,7 +333,9 @@ first_seen c plp first some h lost =
           let m = leb-true first (n / s * s) t in omega (arith, m, lt)) in
           subst (λ (b : Bool). Holds c plp (cond {A = Option (List Part)} b
           (agreeing plp (parts_of c (n / s * s) (drop (n / s * s - first) []))) None) h) (sym e) lost
-      | inr ge ↦ subst (λ (o : Option (List Part)). Holds c plp o h) (sym (none_seen c plp first [] (n / s * s) (omega (arith, w, ge)))) tt
+      | inr ge ↦
+          let none = none_seen c plp first [] (n / s * s) (omega (arith, w, ge)) in
+          subst (λ (o : Option (List Part)). Holds c plp o h) (sym none) tt
     ]
 
 module _ (c : Config) (plp first : ℕ) (views : List RecordView) (v : RecordView) (some : 1 ≤ spread c.plps plp)

@@ -1,6 +1,6 @@
 -- The blocks that are held, record by record.
 use Rattle.std.proofs.Common.{◌≡◌, ℕ, ◌+◌, ◌-◌, ◌*◌, ◌%◌, ◌<◌, ◌≤◌, ◌==◌, ◌&&◌, Bool, true, false, List, [], ◌∷◌, ◌++◌}
-use Rattle.std.proofs.Common.{length, take, drop, get_or, Option, Some, None, refl, ap, ap₂, ◌∙◌, sym, subst, arith, cond}
+use Rattle.std.proofs.Common.{length, take, drop, get_or, Option, Some, None, refl, ap, ◌∙◌, sym, subst, arith, cond}
 use Rattle.std.proofs.Common.{append_assoc}
 use Rattle.std.specs.Prelude.{not, option_map, slice_index, sum}
 use Rattle.std.specs.Option.{option_map_or}
@@ -25,7 +25,7 @@ use Rattle.plp_receiver.specs.Readable.{Part, part_with, coming, count_of, reada
 use Rattle.plp_config.specs.Plps.{spread}
 use Rattle.plp_receiver.specs.Taken.{IsGiven, bytes_at}
 use Rattle.plp_receiver.specs.Epochs.{part_of, cells_stand, place_of}
-use Rattle.plp_receiver.specs.Holds.{block_at, Keeps, Holds, is_begun, joined, Sees}
+use Rattle.plp_receiver.specs.Holds.{Blocks, blocks_of, block_at, Keeps, Holds, is_begun, joined, Sees}
 use Rattle.plp_receiver.specs.Taking.{Ends, TakesEpoch, TellsEpoch}
 use Rattle.plp_receiver.specs.declared.held.HeldBlocks.{HeldBlocks}
 use Rattle.plp_receiver.proofs.ListLemmas.{slice_get_drop, zip_over}
@@ -83,7 +83,8 @@ module _ (k len : ℕ) (out block new : List ℕ) (long : length block ≡ len) 
       let m : ℕ = k * len - a in
       let fits = place_in j k len l in
       let whole : k * len ≡ a + m = omega (arith, fits) in
-      let back : drop a (take (k * len) out) ≡ take m (drop a out) = ap (λ (n : ℕ). drop a (take n out)) whole ∙ drop-take a m out in
+      let back : drop a (take (k * len) out) ≡ take m (drop a out) = ap (λ (n : ℕ). drop a (take n out)) whole
+      ∙ drop-take a m out in
       let size : len ≤ length (drop a (take (k * len) out)) = omega (arith, fits, front, length-drop a (take (k * len) out)) in
       ap (λ (x : List ℕ). take len (drop a x)) new_is
       ∙ ap (take len) (drop-append-le a (take (k * len) out) (block ++ rest) (omega (arith, fits, front)))
@@ -128,25 +129,22 @@ begun_at c plp n shape blocks rest cells h there count behind bytes stand = reco
 
 -- and when the cells of a part were seen
 pub record Seen (c : Config) (plp : ℕ) (q : Part) (old new : HeldBlocks) : Type 0 where
-  pub there : new.there ≡ old.there
-  pub count : new.count ≡ old.count
-  pub len : new.len ≡ old.len
-  pub bytes : new.bytes.items ≡ old.bytes.items
+  pub same : blocks_of new ≡ blocks_of old
   pub each : (k : ℕ) → k < old.count → get_or new.stands.items k false
       ≡ (get_or old.stands.items k false && all_stand c plp q k)
 
 module _ (c : Config) (plp : ℕ) (q : Part) where
   same_bytes : (old new : HeldBlocks) → Seen c plp q old new → (k : ℕ) → block_at new.len new.bytes.items k
       ≡ block_at old.len old.bytes.items k
-  same_bytes old new s k = ap₂ (λ (n : ℕ) (l : List ℕ). block_at n l k) s.len s.bytes
+  same_bytes old new s k = ap (λ (b : Blocks). block_at b.room.len b.bytes k) s.same
 
   pub first_kept : (mid new : HeldBlocks) → Begun c plp q mid → Seen c plp q mid new → Keeps c plp q (q ∷ []) new
   first_kept mid new b s = record {
-    there = s.there ∙ b.there;
-    count = s.count ∙ b.count;
-    bytes = λ k l. same_bytes mid new s k ∙ b.bytes k (subst (λ (m : ℕ). k < m) s.count l);
+    there = ap (λ (b : Blocks). b.there) s.same ∙ b.there;
+    count = ap (λ (b : Blocks). b.count) s.same ∙ b.count;
+    bytes = λ k l. same_bytes mid new s k ∙ b.bytes k (subst (λ (b : Blocks). k < b.count) s.same l);
     stand = λ k l.
-        let inside : k < mid.count = subst (λ (m : ℕ). k < m) s.count l in
+        let inside : k < mid.count = subst (λ (b : Blocks). k < b.count) s.same l in
         s.each k inside
         ∙ ap (λ (t : Bool). t && all_stand c plp q k) (b.stand k inside)
         ∙ sym (whole (all_stand c plp q k));
@@ -181,11 +179,11 @@ module _ (c : Config) (plp : ℕ) (q : Part) where
           subst (λ (b : Bool). Holds c plp (cond {A = Option (List Part)} b (Some (p ∷ ps ++ q ∷ [])) None) new)
           (sym (eq-eqb (count_of plp q) (count_of plp p) count))
           (record {
-            there = s.there ∙ k.there;
-            count = s.count ∙ k.count;
-            bytes = λ i l. same_bytes old new s i ∙ k.bytes i (subst (λ (m : ℕ). i < m) s.count l);
+            there = ap (λ (b : Blocks). b.there) s.same ∙ k.there;
+            count = ap (λ (b : Blocks). b.count) s.same ∙ k.count;
+            bytes = λ i l. same_bytes old new s i ∙ k.bytes i (subst (λ (b : Blocks). i < b.count) s.same l);
             stand = λ i l.
-                let inside : i < old.count = subst (λ (m : ℕ). i < m) s.count l in
+                let inside : i < old.count = subst (λ (b : Blocks). i < b.count) s.same l in
                 s.each i inside
                 ∙ ap (λ (t : Bool). t && all_stand c plp q i) (k.stand i inside)
                 ∙ sym (cells_more c plp (p ∷ ps) q i);

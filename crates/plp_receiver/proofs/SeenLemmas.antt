@@ -72,7 +72,8 @@ from_split t a (suc n) m =
     ∙ sym (and_assoc (t a) (list_all t (range_with_len (a + 1) n)) (list_all t (range_with_len (a + 1 + n) m)))
     ∙ ap (λ (k : ℕ). (t a && list_all t (range_with_len (a + 1) n)) && list_all t (range_with_len k m)) f
 
-pub seen_more : (c : Config) (shape : FrameShape) (frame_idx : ℕ) (cells : List (Option Cell)) (ordinal address n : ℕ) (was before now : Bool)
+pub seen_more : (c : Config) (shape : FrameShape) (frame_idx : ℕ) (cells : List (Option Cell)) (ordinal address n : ℕ)
+    (was before now : Bool)
     (expected found : Option Cell)
     → before ≡ (was && seen_from c shape frame_idx cells ordinal address n) → now ≡ (before && is_seen ordinal expected found)
     → expected ≡ get (cell_map c shape frame_idx) (address + n) → slice_get cells (address + n) ≡ Some found
@@ -88,8 +89,10 @@ seen_more c shape frame_idx cells ordinal address n was before now expected foun
     ∙ sym (from_more (right_at c shape frame_idx cells ordinal) address n))
 
 -- ---- one piece more
-pub pieces_seen : (c : Config) (shape : FrameShape) (frame_idx : ℕ) (cells : List (Option Cell)) (ordinal address n : ℕ) (was before now : Bool)
-    → before ≡ (was && seen_from c shape frame_idx cells ordinal 0 address) → now ≡ (before && seen_from c shape frame_idx cells ordinal address n)
+pub pieces_seen : (c : Config) (shape : FrameShape) (frame_idx : ℕ) (cells : List (Option Cell)) (ordinal address n : ℕ)
+    (was before now : Bool)
+    → before ≡ (was && seen_from c shape frame_idx cells ordinal 0 address)
+    → now ≡ (before && seen_from c shape frame_idx cells ordinal address n)
     → now ≡ (was && seen_from c shape frame_idx cells ordinal 0 (address + n))
 pieces_seen c shape frame_idx cells ordinal address n was before now b e =
     let zero_on : 0 + address ≡ address = omega arith in
@@ -97,7 +100,8 @@ pieces_seen c shape frame_idx cells ordinal address n was before now b e =
     ∙ ap (λ (t : Bool). t && seen_from c shape frame_idx cells ordinal address n) b
     ∙ and_assoc was (seen_from c shape frame_idx cells ordinal 0 address) (seen_from c shape frame_idx cells ordinal address n)
     ∙ ap (λ (t : Bool). was && t)
-    (ap (λ (a : ℕ). seen_from c shape frame_idx cells ordinal 0 address && seen_from c shape frame_idx cells ordinal a n) (sym zero_on)
+    (ap (λ (a : ℕ). seen_from c shape frame_idx cells ordinal 0 address && seen_from c shape frame_idx cells ordinal a n)
+    (sym zero_on)
     ∙ sym (from_split (right_at c shape frame_idx cells ordinal) 0 address n))
 
 -- what stands there is right
@@ -192,4 +196,5 @@ module _ (has : MapHasEachCell) (only : MapHasOnlyCells) (c : Config) (shape : F
   pub seen_stand : all_seen c shape frame_idx cells own ≡ all_stand c plp part block
   unfolding all_stand
   seen_stand = same_test (all_seen c shape frame_idx cells own) (all_stand c plp part block) stands_by
-      (λ e. true_each (right_at c shape frame_idx cells own) c.cells (λ at l. right_here e at (get (cell_map c shape frame_idx) at) refl))
+      (λ e. true_each (right_at c shape frame_idx cells own) c.cells
+      (λ at l. right_here e at (get (cell_map c shape frame_idx) at) refl))

@@ -23,13 +23,13 @@ use Rattle.plp_receiver.proofs.EpochLemmas.{none_told}
 
 -- the frame that comes next, and the rule by which it counts
 next_is : (p : PacketSlots) (r : SlotRule) (first count : ℕ) (told : List Epoch) (released : ℕ)
-    → slots.StandsFor p r first count told released → slots.frame_of p ≡ first + count
-unfolding slots.StandsFor
+    → slots.PacketSlotsStandsFor p r first count told released → slots.frame_of p ≡ first + count
+unfolding slots.PacketSlotsStandsFor
 next_is p r first count told released s = s.number
 
 rule_is : (p : PacketSlots) (r : SlotRule) (first count : ℕ) (told : List Epoch) (released : ℕ)
-    → slots.StandsFor p r first count told released → slots.rule_of p ≡ r
-unfolding slots.StandsFor
+    → slots.PacketSlotsStandsFor p r first count told released → slots.rule_of p ≡ r
+unfolding slots.PacketSlotsStandsFor
 rule_is p r first count told released s = s.both.rule
 
 pub record_came : (c : Config) (plp : ℕ) (old new : PacketSlots) (held mid new_held : HeldBlocks) (view : RecordView) (first : ℕ)
@@ -68,7 +68,7 @@ record_came c plp old new held mid new_held view first views released some sees 
         record {
           told = s.told ++ t.told ∷ [];
           tells = told_more c plp first views view some s.told s.tells z t.told t.tells;
-          stands = subst (λ (k : ℕ). slots.StandsFor new (slot_rule c plp) first k (s.told ++ t.told ∷ []) released) longer
+          stands = subst (λ (k : ℕ). slots.PacketSlotsStandsFor new (slot_rule c plp) first k (s.told ++ t.told ∷ []) released) longer
               (t.ends (slot_rule c plp) first (length views) s.told released s.stands);
           holds = subst (λ (o : Option (List Part)). Holds c plp o new_held) (sym (seen_anew c plp first views some view z)) tt;
         }
@@ -81,7 +81,7 @@ record_came c plp old new held mid new_held view first views released some sees 
         record {
           told = s.told;
           tells = told_on c plp first views view some s.told s.tells ne;
-          stands = subst (λ (k : ℕ). slots.StandsFor new (slot_rule c plp) first k s.told released) longer
+          stands = subst (λ (k : ℕ). slots.PacketSlotsStandsFor new (slot_rule c plp) first k s.told released) longer
               (g.0 (slot_rule c plp) first (length views) s.told released s.stands);
           holds = subst (λ (o : Option (List Part)). Holds c plp o new_held) (sym (seen_on c plp first views some view ne))
               (subst (Holds c plp parts) (sym g.1) holds);
@@ -94,8 +94,9 @@ came_in c d plp q new held first views released same_c same_p s =
     subst (λ (e : Config). Stands e q new held first views released) (sym same_c)
     (subst (λ (p : ℕ). Stands c p new held first views released) (sym same_p) s)
 
-pub begun : (c : Config) (plp : ℕ) (old new : PacketSlots) (h : HeldBlocks) (first : ℕ) → 1 ≤ spread c.plps plp → Fresh c plp old h
-    → ((r : SlotRule) → slots.IsFresh old r → slots.StandsFor new r first 0 [] 0) → Stands c plp new h first [] 0
+pub begun : (c : Config) (plp : ℕ) (old new : PacketSlots) (h : HeldBlocks) (first : ℕ) → 1 ≤ spread c.plps plp
+    → Fresh c plp old h
+    → ((r : SlotRule) → slots.IsFresh old r → slots.PacketSlotsStandsFor new r first 0 [] 0) → Stands c plp new h first [] 0
 begun c plp old new h first some f step = record {
   told = [];
   tells = none_told c plp first;
@@ -121,35 +122,40 @@ still_fresh c plp old new h f result due same =
 
 -- the packets that the slots show
 pub given_back : (c : Config) (plp : ℕ) (p : PacketSlots) (h : HeldBlocks) (first : ℕ) (views : List RecordView) (released : ℕ)
-    → (s : Stands c plp p h first views released) → Readback c plp first views (readback (slot_rule c plp) first (length views) s.told)
+    → (s : Stands c plp p h first views released)
+    → Readback c plp first views (readback (slot_rule c plp) first (length views) s.told)
 given_back c plp p h first views released s =
     record { told = s.told; tells = s.tells; packets_are = refl }
 
-pub due_is : ReadbackOnce → (c : Config) (plp : ℕ) (p : PacketSlots) (h : HeldBlocks) (first : ℕ) (views : List RecordView) (released : ℕ)
+pub due_is : ReadbackOnce → (c : Config) (plp : ℕ) (p : PacketSlots) (h : HeldBlocks) (first : ℕ) (views : List RecordView)
+    (released : ℕ)
     (packets : List (List ℕ)) (due : ℕ)
     → Stands c plp p h first views released → Readback c plp first views packets
-    → ((r : SlotRule) (first count : ℕ) (epochs : List Epoch) (released : ℕ) → slots.StandsFor p r first count epochs released
+    → ((r : SlotRule) (first count : ℕ) (epochs : List Epoch) (released : ℕ) → slots.PacketSlotsStandsFor p r first count epochs released
     → due ≡ length (readback r first count epochs) - released)
     → due ≡ length packets - released
 due_is once c plp p h first views released packets due s b answer =
     answer (slot_rule c plp) first (length views) s.told released s.stands
     ∙ ap (λ (l : List (List ℕ)). length l - released)
-    (once c plp first views (readback (slot_rule c plp) first (length views) s.told) packets (given_back c plp p h first views released s) b)
+    (once c plp first views (readback (slot_rule c plp) first (length views) s.told) packets
+    (given_back c plp p h first views released s) b)
 
-pub none_is : ReadbackOnce → (c : Config) (plp : ℕ) (p : PacketSlots) (h : HeldBlocks) (first : ℕ) (views : List RecordView) (released : ℕ)
+pub none_is : ReadbackOnce → (c : Config) (plp : ℕ) (p : PacketSlots) (h : HeldBlocks) (first : ℕ) (views : List RecordView)
+    (released : ℕ)
     (packets : List (List ℕ))
     → Stands c plp p h first views released → Readback c plp first views packets
-    → ((r : SlotRule) (first count : ℕ) (epochs : List Epoch) (released : ℕ) → slots.StandsFor p r first count epochs released
+    → ((r : SlotRule) (first count : ℕ) (epochs : List Epoch) (released : ℕ) → slots.PacketSlotsStandsFor p r first count epochs released
     → length (readback r first count epochs) ≤ released)
     → length packets ≤ released
 none_is once c plp p h first views released packets s b answer =
     subst (λ (l : List (List ℕ)). length l ≤ released)
-    (once c plp first views (readback (slot_rule c plp) first (length views) s.told) packets (given_back c plp p h first views released s) b)
+    (once c plp first views (readback (slot_rule c plp) first (length views) s.told) packets
+    (given_back c plp p h first views released s) b)
     (answer (slot_rule c plp) first (length views) s.told released s.stands)
 
 pub held_is : (c : Config) (plp : ℕ) (p : PacketSlots) (h : HeldBlocks) (first : ℕ) (views : List RecordView)
     (released held : ℕ) → Stands c plp p h first views released
-    → ((r : SlotRule) (first count : ℕ) (epochs : List Epoch) (released : ℕ) → slots.StandsFor p r first count epochs released
+    → ((r : SlotRule) (first count : ℕ) (epochs : List Epoch) (released : ℕ) → slots.PacketSlotsStandsFor p r first count epochs released
     → held ≡ held_slots r first count - released)
     → held ≡ slots_come c plp first (length views) - released
 held_is c plp p h first views released held s answer =
@@ -160,21 +166,24 @@ held_is c plp p h first views released held s answer =
     come zero = omega arith
     come (suc before) = refl
 
-pub packet_is : ReadbackOnce → (c : Config) (plp : ℕ) (p : PacketSlots) (h : HeldBlocks) (first : ℕ) (views : List RecordView) (released : ℕ)
+pub packet_is : ReadbackOnce → (c : Config) (plp : ℕ) (p : PacketSlots) (h : HeldBlocks) (first : ℕ) (views : List RecordView)
+    (released : ℕ)
     (packets : List (List ℕ)) (out : List ℕ)
     → Stands c plp p h first views released → Readback c plp first views packets
-    → ((r : SlotRule) (first count : ℕ) (epochs : List Epoch) (released : ℕ) → slots.StandsFor p r first count epochs released
+    → ((r : SlotRule) (first count : ℕ) (epochs : List Epoch) (released : ℕ) → slots.PacketSlotsStandsFor p r first count epochs released
     → slice_get (readback r first count epochs) released ≡ Some out)
     → slice_get packets released ≡ Some out
 packet_is once c plp p h first views released packets out s b answer =
     sym (ap (λ (l : List (List ℕ)). slice_get l released)
-    (once c plp first views (readback (slot_rule c plp) first (length views) s.told) packets (given_back c plp p h first views released s) b))
+    (once c plp first views (readback (slot_rule c plp) first (length views) s.told) packets
+    (given_back c plp p h first views released s) b))
     ∙ answer (slot_rule c plp) first (length views) s.told released s.stands
 
-pub released_or_not : (c : Config) (plp : ℕ) (old new : PacketSlots) (h : HeldBlocks) (first : ℕ) (views : List RecordView) (released : ℕ)
+pub released_or_not : (c : Config) (plp : ℕ) (old new : PacketSlots) (h : HeldBlocks) (first : ℕ) (views : List RecordView)
+    (released : ℕ)
     (result : Bool) → Stands c plp old h first views released
-    → ((r : SlotRule) (first count : ℕ) (epochs : List Epoch) (released : ℕ) → slots.StandsFor old r first count epochs released
-    → slots.StandsFor new r first count epochs (if result then released + 1 else released))
+    → ((r : SlotRule) (first count : ℕ) (epochs : List Epoch) (released : ℕ) → slots.PacketSlotsStandsFor old r first count epochs released
+    → slots.PacketSlotsStandsFor new r first count epochs (if result then released + 1 else released))
     → Stands c plp new h first views (if result then released + 1 else released)
 released_or_not c plp old new h first views released result s step =
     record {
@@ -183,10 +192,3 @@ released_or_not c plp old new h first views released result s step =
       stands = step (slot_rule c plp) first (length views) s.told released s.stands;
       holds = s.holds;
     }
-
-pub ends_as : (c d : Config) (plp q : ℕ) (old_held new_held : HeldBlocks) (a b new : PacketSlots) → d ≡ c → q ≡ plp → b ≡ a
-    → EndsRecord d q old_held new_held b new → EndsRecord c plp old_held new_held a new
-ends_as c d plp q old_held new_held a b new same_c same_p same_s e =
-    subst (λ (x : Config). EndsRecord x plp old_held new_held a new) same_c
-    (subst (λ (x : ℕ). EndsRecord d x old_held new_held a new) same_p
-    (subst (λ (x : PacketSlots). EndsRecord d q old_held new_held x new) same_s e))

@@ -16,7 +16,7 @@ use Rattle.plp_config.specs.Capacity.{IsPlan}
 use Rattle.plp_config.specs.declared.config.Config.{Config}
 use Rattle.scheduler.specs.Shape.{FrameShape}
 use Rattle.packet_slots.specs.Epochs.{Epoch, epoch_with}
-use Rattle.packet_slots.specs.StandsFor.{StandsFor, StandsWithin}
+use Rattle.packet_slots.specs.StandsFor.{PacketSlotsStandsFor, StandsWithin}
 use Rattle.packet_slots.specs.Strings.{Block}
 use Rattle.packet_slots.specs.declared.slot_rule.SlotRule.{SlotRule}
 use Rattle.packet_slots.specs.declared.slots.PacketSlots.{PacketSlots}
@@ -81,7 +81,8 @@ took_more deletes stands len bytes n old mid new sent stand was at same t = reco
     here = subst (λ (l : List ℕ). IsGiven deletes (get_or stands n false) l t.told) at
         (subst (λ (x : Bool). IsGiven deletes x sent t.told) same t.given)
 
-pub took_all : (deletes : Bool) (stands : List Bool) (len : ℕ) (bytes : List ℕ) (n : ℕ) (old new : PacketSlots) → n ≡ length stands
+pub took_all : (deletes : Bool) (stands : List Bool) (len : ℕ) (bytes : List ℕ) (n : ℕ) (old new : PacketSlots)
+    → n ≡ length stands
     → Took deletes stands len bytes n old new → TakesBlocks deletes stands len bytes old new
 took_all deletes stands len bytes n old new e t = record {
   told = t.told;
@@ -91,12 +92,12 @@ took_all deletes stands len bytes n old new e t = record {
 
 -- ---- a whole epoch
 pub epoch_taken : (deletes : Bool) (h : HeldBlocks) (old begun within new : PacketSlots)
-    → ((r : SlotRule) (first count : ℕ) (epochs : List Epoch) (released : ℕ) → StandsFor old r first count epochs released
+    → ((r : SlotRule) (first count : ℕ) (epochs : List Epoch) (released : ℕ) → PacketSlotsStandsFor old r first count epochs released
     → StandsWithin begun r first count epochs [] released)
     → TakesBlocks deletes (take h.count h.stands.items) h.len h.bytes.items begun within
     → ((r : SlotRule) (first count : ℕ) (epochs : List Epoch) (blocks : List (Option Block)) (released : ℕ)
     → StandsWithin within r first count epochs blocks released
-    → StandsFor new r first (count + 1) (epochs ++ epoch_with blocks ∷ []) released)
+    → PacketSlotsStandsFor new r first (count + 1) (epochs ++ epoch_with blocks ∷ []) released)
     → TakesEpoch deletes h old new
 epoch_taken deletes h old begun within new begins t ends = record {
   told = t.told;
@@ -107,17 +108,20 @@ epoch_taken deletes h old begun within new begins t ends = record {
       (subst (λ (n : ℕ). AllZip (IsGivenAt deletes (take h.count h.stands.items) h.len h.bytes.items) (range_with_len 0 n) t.told)
       (length-take-le h.count h.stands.items (let few = h.few in omega (arith, few))) t.given);
   ends = λ r first count epochs released s.
-      ends r first count epochs t.told released (t.adds r first count epochs [] released (begins r first count epochs released s));
+      ends r first count epochs t.told released
+      (t.adds r first count epochs [] released (begins r first count epochs released s));
 }
 
 -- ---- a readable record
 -- what a shape agrees with
-pub record Agrees (c : Config) (n : ℕ) (blocks : List frame.Block) (cells : List (Option Cell)) (shape : FrameShape) : Type 0 where
-  pub sizes : pointwise has_size blocks (block_sizes c (coming c n shape)) ≡ true
-  pub all : length cells ≡ c.cells
-  pub passes : Passes c shape
+pub record Agrees (c : Config) (n : ℕ) (blocks : List frame.Block) (cells : List (Option Cell)) (shape : FrameShape) : Type 0
+  where
+    pub sizes : pointwise has_size blocks (block_sizes c (coming c n shape)) ≡ true
+    pub all : length cells ≡ c.cells
+    pub passes : Passes c shape
 
-pub agrees : MapPasses → (c : Config) (n : ℕ) (blocks : List frame.Block) (cells : List (Option Cell)) (shape : FrameShape) → IsPlan c
+pub agrees : MapPasses → (c : Config) (n : ℕ) (blocks : List frame.Block) (cells : List (Option Cell)) (shape : FrameShape)
+    → IsPlan c
     → shape_agrees c n blocks cells shape ≡ true → Agrees c n blocks cells shape
 agrees law c n blocks cells shape plan e =
     let sizes : Bool = pointwise has_size blocks (block_sizes c (coming c n shape)) in

@@ -9,7 +9,7 @@ use Rattle.bb_frame.specs.Laws.{BitCounts}
 use Rattle.plp_config.specs.Capacity.{IsPlan}
 use Rattle.plp_config.specs.Laws.{FrameTicks, SoundTimes, SpreadDividesFrames, UserPacketRange}
 use Rattle.std.proofs.lemmas.List.FromFn.{length-range_with_len}
-use Rattle.packet_slots.proofs.ListLemmas.{range_append}
+use Rattle.terms.proofs.RangeLemmas.{range_append}
 use Rattle.plp_config.specs.Plps.{plp_at}
 use Rattle.plp_config.specs.declared.config.Config.{Config}
 use Rattle.site_frame.specs.declared.reading.RecordView.{RecordView}
@@ -143,7 +143,7 @@ tell_front c plp first views more told some t =
     let R : ℕ → Epoch → Type 0 = λ k e. Tells c plp (epoch_parts c plp first (views ++ more) k) e in
     let e : (first + length (views ++ more)) / s - a ≡ n + m = omega (arith, low, high) in
     let parts = zip_split R (range_with_len a n) (range_with_len (a + n) m) told
-    (subst (λ (l : List ℕ). AllZip R l told) (ap (range_with_len a) e ∙ range_append n m a) t) in
+    (subst (λ (l : List ℕ). AllZip R l told) (ap (range_with_len a) e ∙ range_append a n m) t) in
     (parts.0, parts.1, told_after c plp first views more parts.0 low parts.2, parts.3)
 
 pub readback_front : BitCounts → SoundTimes → UserPacketRange → slots.ReadbackFront → SpreadDividesFrames → FrameTicks

@@ -1,4 +1,5 @@
--- What records tell of the interleaving frames of a PLP, and what it is given back of them. An interleaving frame is an epoch here.
+-- What records tell of the interleaving frames of a PLP, and what it is given back of them. An interleaving frame is an epoch
+-- here.
 use Rattle.std.specs.Prelude.{◌≡◌, ℕ, ◌+◌, ◌-◌, ◌*◌, ◌/◌, ◌==◌, nat_le, List, [], ◌∷◌, length, take, drop, sum, Option}
 use Rattle.std.specs.Prelude.{Some, None, Bool, true, if◌then◌else◌, option_map}
 use Rattle.std.specs.List.{AllZip, range_with_len, list_all}
@@ -17,7 +18,8 @@ use Rattle.plp_receiver.specs.Taken.{IsGiven, bytes_at}
 -- what the record of frame n tells, if it is readable
 abbrev pub part_of : Config → ℕ → RecordView → Option Part
 part_of c n (Muted moment) = None
-part_of c n (Frame moment pre post blocks cells) = option_map (λ shape. part_with n blocks shape cells) (readable c n pre post blocks cells)
+part_of c n (Frame moment pre post blocks cells) = option_map (λ shape. part_with n blocks shape cells)
+    (readable c n pre post blocks cells)
 
 -- what those of the frames from n on tell, if all are
 abbrev pub with_part : Option Part → Option (List Part) → Option (List Part)

@@ -1,6 +1,6 @@
 -- What is held of the epoch under way. No public clause cites this module.
 use Rattle.std.specs.Prelude.{◌≡◌, ℕ, ◌+◌, ◌-◌, ◌*◌, ◌/◌, ◌%◌, ◌==◌, ◌<◌, nat_le, not, Bool, true, false, List, [], ◌∷◌, ◌++◌}
-use Rattle.std.specs.Prelude.{length, take, drop, slice_index_or, Option, Some, None, if◌then◌else◌}
+use Rattle.std.specs.Prelude.{length, take, drop, vec_len, slice_index_or, Option, Some, None, if◌then◌else◌}
 use Rattle.plp_config.specs.declared.config.Config.{Config}
 use Rattle.site_frame.specs.declared.reading.RecordView.{RecordView}
 use Rattle.plp_receiver.specs.Readable.{Part, count_of}
@@ -12,6 +12,24 @@ use Rattle.plp_receiver.specs.declared.held.HeldBlocks.{HeldBlocks}
 -- block k of blocks of one length, one behind the other
 abbrev pub block_at : ℕ → List ℕ → ℕ → List ℕ
 block_at len bytes k = take len (drop (k * len) bytes)
+
+-- for how many blocks there is room, and how long each is
+pub record Room : Type 0 where
+  pub blocks : ℕ
+  pub len : ℕ
+
+abbrev pub room_of : HeldBlocks → Room
+room_of h = record { blocks = vec_len h.stands; len = h.len }
+
+-- all that is held, but for which blocks stand
+pub record Blocks : Type 0 where
+  pub there : Bool
+  pub count : ℕ
+  pub bytes : List ℕ
+  pub room : Room
+
+abbrev pub blocks_of : HeldBlocks → Blocks
+blocks_of h = record { there = h.there; count = h.count; bytes = h.bytes.items; room = room_of h }
 
 -- The blocks of the parts so far are held, the first of them this one, and whether all their cells so far stand.
 pub record Keeps (c : Config) (plp : ℕ) (p : Part) (parts : List Part) (h : HeldBlocks) : Type 0 where

@@ -18,11 +18,13 @@ abbrev pub is_seen : ℕ → Option Cell → Option Cell → Bool
 is_seen ordinal expected found = is_right ordinal expected (Some found)
 
 abbrev pub right_at : Config → FrameShape → ℕ → List (Option Cell) → ℕ → ℕ → Bool
-right_at c shape frame_idx cells ordinal address = is_right ordinal (get (cell_map c shape frame_idx) address) (slice_get cells address)
+right_at c shape frame_idx cells ordinal address = is_right ordinal (get (cell_map c shape frame_idx) address)
+    (slice_get cells address)
 
 -- and so it is at so many addresses from one on
 abbrev pub seen_from : Config → FrameShape → ℕ → List (Option Cell) → ℕ → ℕ → ℕ → Bool
-seen_from c shape frame_idx cells ordinal address n = list_all (right_at c shape frame_idx cells ordinal) (range_with_len address n)
+seen_from c shape frame_idx cells ordinal address n = list_all (right_at c shape frame_idx cells ordinal)
+    (range_with_len address n)
 
 -- and at each
 abbrev pub all_seen : Config → FrameShape → ℕ → List (Option Cell) → ℕ → Bool

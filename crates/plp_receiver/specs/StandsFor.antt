@@ -17,7 +17,7 @@ pub record Stands (c : Config) (plp : ℕ) (p : PacketSlots) (h : HeldBlocks) (f
     (released : ℕ) : Type 0 where
   pub told : List Epoch
   pub tells : TellAll c plp first views told
-  pub stands : slots.StandsFor p (slot_rule c plp) first (length views) told released
+  pub stands : slots.PacketSlotsStandsFor p (slot_rule c plp) first (length views) told released
   pub holds : Holds c plp (seen c plp first views) h
 
 -- no record came yet
@@ -25,7 +25,13 @@ pub record Fresh (c : Config) (plp : ℕ) (p : PacketSlots) (h : HeldBlocks) : T
   pub fresh : slots.IsFresh p (slot_rule c plp)
   pub none : h.there ≡ false
 
--- the network, the place of the PLP, the frame that comes next, and how many slots are due
+-- what a caller sees: the network, the place of the PLP, the frame that comes next, and how many slots are due
+pub record Status : Type 0 where
+  pub network : Config
+  pub plp : ℕ
+  pub frame : ℕ
+  pub due : ℕ
+
 abbrev pub network_of : Receiver → Config
 network_of v = v.network
 
@@ -38,6 +44,22 @@ frame_of v = slots.frame_of v.slots
 abbrev pub due_of : Receiver → ℕ
 due_of v = slots.due_of v.slots
 
+abbrev pub status_of : Receiver → Status
+status_of v = record { network = network_of v; plp = plp_of v; frame = frame_of v; due = due_of v }
+
+-- that of one to which no record came
+abbrev pub new_status : Config → ℕ → Status
+new_status c plp = record { network = c; plp = plp; frame = 0; due = 0 }
+
+-- what seeing a record leaves as it was
+pub record Unseen : Type 0 where
+  pub network : Config
+  pub plp : ℕ
+  pub slots : PacketSlots
+
+abbrev pub unseen_of : Receiver → Unseen
+unseen_of v = record { network = v.network; plp = v.plp; slots = v.slots }
+
 -- how many slots of a PLP are over when so many frames have come; and how many came with so many from one on, from the slot on
 -- at which the output begins
 abbrev pub slots_over : Config → ℕ → ℕ → ℕ
@@ -48,8 +70,8 @@ slots_come c plp first zero = 0
 slots_come c plp first (suc before) = slots_over c plp (first + before) - slots_over c plp (first - spread c.plps plp)
 
 -- These records came, the first of them of this frame, and so many slots were given out.
-unfoldable pub StandsFor : Receiver → ℕ → List RecordView → ℕ → Type 0
-StandsFor v first views released = Stands v.network v.plp v.slots v.held first views released
+unfoldable pub ReceiverStandsFor : Receiver → ℕ → List RecordView → ℕ → Type 0
+ReceiverStandsFor v first views released = Stands v.network v.plp v.slots v.held first views released
 
 unfoldable pub IsFresh : Receiver → Type 0
 IsFresh v = Fresh v.network v.plp v.slots v.held

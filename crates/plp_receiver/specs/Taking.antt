@@ -4,7 +4,7 @@ use Rattle.std.specs.List.{AllZip, range_with_len}
 use Rattle.plp_config.specs.declared.config.Config.{Config}
 use Rattle.site_frame.specs.Record as frame
 use Rattle.packet_slots.specs.Epochs.{Epoch, epoch_with}
-use Rattle.packet_slots.specs.StandsFor.{StandsFor, StandsWithin, ends_epoch}
+use Rattle.packet_slots.specs.StandsFor.{PacketSlotsStandsFor, StandsWithin, ends_epoch}
 use Rattle.packet_slots.specs.Strings.{Block}
 use Rattle.packet_slots.specs.declared.slot_rule.SlotRule.{SlotRule}
 use Rattle.packet_slots.specs.declared.slots.PacketSlots.{PacketSlots}
@@ -39,12 +39,12 @@ pub record TakesBlocks (deletes : Bool) (stands : List Bool) (len : ℕ) (bytes 
 -- A frame came, and an epoch ended with it, of which this came.
 abbrev pub Ends : PacketSlots → PacketSlots → Epoch → Type 0
 Ends old new epoch = (r : SlotRule) (first count : ℕ) (epochs : List Epoch) (released : ℕ)
-    → StandsFor old r first count epochs released → StandsFor new r first (count + 1) (epochs ++ epoch ∷ []) released
+    → PacketSlotsStandsFor old r first count epochs released → PacketSlotsStandsFor new r first (count + 1) (epochs ++ epoch ∷ []) released
 
 -- A frame came, and no epoch ended.
 abbrev pub Goes : PacketSlots → PacketSlots → Type 0
 Goes old new = (r : SlotRule) (first count : ℕ) (epochs : List Epoch) (released : ℕ)
-    → StandsFor old r first count epochs released → StandsFor new r first (count + 1) epochs released
+    → PacketSlotsStandsFor old r first count epochs released → PacketSlotsStandsFor new r first (count + 1) epochs released
 
 -- The blocks that are held were taken.
 pub record TakesEpoch (deletes : Bool) (h : HeldBlocks) (old new : PacketSlots) : Type 0 where

@@ -1,9 +1,10 @@
 // Taking the blocks of an interleaving frame.
-ghost use Rattle.std.specs.Prelude.{◌≡◌, ◌+◌, ◌*◌, ◌^◌, ◌<◌, ◌≤◌, true, false, length, vec_len, take, drop};
+ghost use Rattle.std.specs.Prelude.{◌≡◌, ◌+◌, ◌*◌, ◌^◌, ◌<◌, ◌≤◌, true, false, length, take, drop};
 ghost use Rattle.terms.specs.Bits.{bits_of};
 ghost use Rattle.bb_frame.specs.Scrambled.{scrambled};
 ghost use Rattle.plp_config.specs.declared.moment.TheConstants.{MOST_FRAMES};
-ghost use Rattle.packet_slots.specs.StandsFor.{frame_of, is_within, due_of, rule_of, ends_epoch};
+ghost use Rattle.packet_slots.specs.StandsFor.{frame_of, is_within, due_of, ends_epoch, slots_status};
+ghost use Rattle.plp_receiver.specs.Holds.{room_of};
 ghost use Rattle.plp_receiver.specs.Taking.{TakesBlock, TakesBlocks, TakesEpoch};
 
 use crate::held::HeldBlocks;
@@ -44,9 +45,7 @@ fn take_block(
     requires inside { at + len ≤ length bytes.old }
     requires size { (10 ≤ len) × (len < 2 ^ 16) }
     ensures takes { TakesBlock deletes stands (take len (drop at bytes.old)) slots.old slots.new }
-    ensures frame { frame_of slots.new ≡ frame_of slots.old }
-    ensures within { is_within slots.new ≡ true }
-    ensures rule { rule_of slots.new ≡ rule_of slots.old }
+    ensures status { slots_status slots.new ≡ slots_status slots.old }
     ensures behind { drop (at + len) bytes.new ≡ drop (at + len) bytes.old }
     ensures len { length bytes.new ≡ length bytes.old }
 {
@@ -76,9 +75,7 @@ pub fn take_blocks(
     requires size { (10 ≤ len) × (len < 2 ^ 16) }
     requires there { length stands.now * len ≤ length bytes.old }
     ensures takes { TakesBlocks deletes stands.now len bytes.old slots.old slots.new }
-    ensures frame { frame_of slots.new ≡ frame_of slots.old }
-    ensures within { is_within slots.new ≡ true }
-    ensures rule { rule_of slots.new ≡ rule_of slots.old }
+    ensures status { slots_status slots.new ≡ slots_status slots.old }
     ensures len { length bytes.new ≡ length bytes.old }
 {
     for k in 0..stands.len() {
@@ -93,11 +90,12 @@ pub fn take_epoch(slots: &mut PacketSlots, held: &mut HeldBlocks, deletes: bool)
     requires given_out { due_of slots.old ≡ 0 }
     requires last { ends_epoch slots.old ≡ true }
     ensures takes { TakesEpoch deletes held.old slots.old slots.new }
-    ensures frame { frame_of slots.new ≡ frame_of slots.old + 1 }
-    ensures outside { is_within slots.new ≡ false }
-    ensures rule { rule_of slots.new ≡ rule_of slots.old }
-    ensures len { held.new.len ≡ held.old.len }
-    ensures room { vec_len held.new.stands ≡ vec_len held.old.stands }
+    ensures status { slots_status slots.new ≡ record (slots_status slots.old) {
+      frame = frame_of slots.old + 1;
+      within = false;
+      due = due_of slots.new;
+    } }
+    ensures room { room_of held.new ≡ room_of held.old }
 {
     slots.begin_frame();
     held.give(slots, deletes);

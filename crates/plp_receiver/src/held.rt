@@ -1,8 +1,8 @@
 // The blocks of an interleaving frame of a PLP, from its first record to its last one.
-ghost use Rattle.std.specs.Prelude.{◌≡◌, ◌+◌, ◌*◌, ◌^◌, ◌<◌, ◌≤◌, ◌++◌, ℕ, true, false, length, vec_len, take, drop};
+ghost use Rattle.std.specs.Prelude.{◌≡◌, ◌*◌, ◌^◌, ◌<◌, ◌≤◌, ℕ, true, false, length, vec_len, take};
 ghost use Rattle.std.specs.Prelude.{slice_index_or};
 ghost use Rattle.plp_config.specs.declared.moment.TheConstants.{MOST_FRAMES};
-ghost use Rattle.packet_slots.specs.StandsFor.{frame_of, is_within, rule_of};
+ghost use Rattle.packet_slots.specs.StandsFor.{frame_of, is_within, slots_status};
 
 use crate::blocks::take_blocks;
 use crate::copying::copy_blocks;
@@ -39,7 +39,7 @@ impl HeldBlocks {
     ghost use Rattle.cell_map.specs.CellMap.{Passes};
     ghost use Rattle.plp_receiver.specs.Readable.{all_stand, part_with};
     ghost use Rattle.plp_receiver.specs.Taken.{bytes_at};
-    ghost use Rattle.plp_receiver.specs.Holds.{block_at};
+    ghost use Rattle.plp_receiver.specs.Holds.{block_at, room_of, blocks_of};
     ghost use Rattle.plp_receiver.specs.Taking.{HaveLength, TakesBlocks};
 
     /// Takes memory for so many blocks of this length.
@@ -50,8 +50,7 @@ impl HeldBlocks {
         requires few { count < 2 ^ 16 }
         requires size { (10 ≤ len) × (len < 2 ^ 16) }
         ensures none { IfOk result (λ h. h.there ≡ false) }
-        ensures count { IfOk result (λ h. vec_len h.stands ≡ count) }
-        ensures len { IfOk result (λ h. h.len ≡ len) }
+        ensures room { IfOk result (λ h. room_of h ≡ record { blocks = count; len = len }) }
     {
         Ok(HeldBlocks {
             bytes: vec![in alloc; 0; count * len]?,
@@ -65,8 +64,7 @@ impl HeldBlocks {
     /// A record is not there, or does not go on with the others.
     pub fn lose(&mut self)
         ensures lost { self.new.there ≡ false }
-        ensures len { self.new.len ≡ self.old.len }
-        ensures room { vec_len self.new.stands ≡ vec_len self.old.stands }
+        ensures room { room_of self.new ≡ room_of self.old }
     {
         self.there = false;
     }
@@ -79,8 +77,7 @@ impl HeldBlocks {
         ensures count { self.new.count ≡ count }
         ensures bytes { (k : ℕ) → k < count → block_at self.new.len self.new.bytes.items k ≡ bytes_at rest.old k }
         ensures stand { (k : ℕ) → k < count → slice_index_or self.new.stands.items k false ≡ true }
-        ensures len { self.new.len ≡ self.old.len }
-        ensures room { vec_len self.new.stands ≡ vec_len self.old.stands }
+        ensures room { room_of self.new ≡ room_of self.old }
     {
         copy_blocks(&mut self.bytes, self.len, rest, count);
         self.stands.fill(true);
@@ -112,11 +109,7 @@ impl HeldBlocks {
         ensures each { (blocks : List Block) (k : ℕ) → k < self.old.count → slice_index_or self.new.stands.items k false
             ≡ (slice_index_or self.old.stands.items k false
             && all_stand plan.now plp (part_with number blocks shape.now cells.now) k) }
-        ensures there { self.new.there ≡ self.old.there }
-        ensures count { self.new.count ≡ self.old.count }
-        ensures bytes { self.new.bytes.items ≡ self.old.bytes.items }
-        ensures len { self.new.len ≡ self.old.len }
-        ensures room { vec_len self.new.stands ≡ vec_len self.old.stands }
+        ensures blocks { blocks_of self.new ≡ blocks_of self.old }
     {
         if self.count > 0 {
             see_standing(plan, shape, plp, number, cells, &mut self.stands);
@@ -136,11 +129,8 @@ impl HeldBlocks {
         requires within { is_within slots.old ≡ true }
         ensures takes { TakesBlocks deletes (take self.old.count self.old.stands.items) self.old.len self.old.bytes.items
             slots.old slots.new }
-        ensures frame { frame_of slots.new ≡ frame_of slots.old }
-        ensures within { is_within slots.new ≡ true }
-        ensures rule { rule_of slots.new ≡ rule_of slots.old }
-        ensures len { self.new.len ≡ self.old.len }
-        ensures room { vec_len self.new.stands ≡ vec_len self.old.stands }
+        ensures status { slots_status slots.new ≡ slots_status slots.old }
+        ensures room { room_of self.new ≡ room_of self.old }
     {
         take_blocks(
             slots,

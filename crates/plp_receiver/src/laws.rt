@@ -1,7 +1,7 @@
 // Laws of the definitions. Their functions do nothing.
 ghost use Rattle.plp_receiver.specs.Laws.{ReadbackOnce, ReadbackFront, OneFrame, AllCome};
 
-use bb_frame::bit_counts;
+use bb_frame::bit_counts_law;
 use packet_slots::readback_law as slots_law;
 use plp_config::{block_law, length_law, spread_law};
 
@@ -10,15 +10,15 @@ pub fn readback_law()
     ensures once { ReadbackOnce }
     ensures front { ReadbackFront }
 {
-    bit_counts();
+    bit_counts_law();
     length_law();
     spread_law();
     block_law();
     slots_law();
 }
 
-/// With spread 1 what records tell of a PLP is what each of them tells by itself; and if all spreads are 1, all blocks that a frame's
-/// shape tells come with it.
+/// With spread 1 what records tell of a PLP is what each of them tells by itself; and if all spreads are 1, all blocks that a
+/// frame's shape tells come with it.
 pub fn alone_law()
     ensures records { OneFrame }
     ensures blocks { AllCome }

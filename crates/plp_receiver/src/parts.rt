@@ -1,10 +1,10 @@
 // What the record of a frame tells of the epoch under way.
-ghost use Rattle.std.specs.Prelude.{◌≡◌, ◌^◌, ◌%◌, ◌≤◌, ◌<◌, ◌∷◌, [], true, length, drop, slice_index, sum, take, vec_len, Some};
+ghost use Rattle.std.specs.Prelude.{◌≡◌, ◌<◌, ◌∷◌, [], true, length, drop, slice_index, sum, take, vec_len, Some};
 ghost use Rattle.plp_config.specs.Capacity.{block_bytes};
 ghost use Rattle.plp_config.specs.InterleavingFrames.{is_first};
 ghost use Rattle.plp_config.specs.Plps.{plp_at};
 ghost use Rattle.plp_receiver.specs.Readable.{shape_agrees, coming, part_with};
-ghost use Rattle.plp_receiver.specs.Holds.{Sees, Keeps};
+ghost use Rattle.plp_receiver.specs.Holds.{Sees, Keeps, room_of};
 
 use crate::held::HeldBlocks;
 use frame_tests::map_test_law;
@@ -31,7 +31,7 @@ fn first_place(plan: &Plan, shape: &Shape, number: u64, plp: usize) -> u32
     requires plps { length shape.now.counts ≡ length plan.now.plps }
     ensures value { result ≡ sum (take plp (coming plan.now number shape.now)) }
 {
-    plan.obeys_rules();
+    plan.rules_law();
     let mut first = 0;
     for before in 0..plp {
         first += u32::from(begun_count(plan, shape, number, before));
@@ -66,19 +66,18 @@ fn see_first(
     requires begins { is_first plan.now plp number ≡ true }
     ensures keeps { Keeps plan.now plp (part_with number blocks.now shape.now cells.now)
         (part_with number blocks.now shape.now cells.now ∷ []) held.new }
-    ensures len { held.new.len ≡ held.old.len }
-    ensures room { vec_len held.new.stands ≡ vec_len held.old.stands }
+    ensures room { room_of held.new ≡ room_of held.old }
 {
     map_test_law();
-    plan.obeys_rules();
+    plan.rules_law();
     let mut rest = blocks.iter();
     skip_blocks(&mut rest, first_place(plan, shape, number, plp));
     held.begin(&mut rest, usize::from(shape.count(plp)));
     held.see_cells(plan, shape, plp, number, cells);
 }
 
-/// Sees the record of a frame of this shape: holds the blocks of the epoch that begins in it, if one does, and sees which cells of
-/// the epoch stand in it.
+/// Sees the record of a frame of this shape: holds the blocks of the epoch that begins in it, if one does, and sees which cells
+/// of the epoch stand in it.
 pub fn see_part(
     plan: &Plan,
     shape: &Shape,
@@ -94,11 +93,10 @@ pub fn see_part(
     requires size { held.old.len ≡ block_bytes plan.now plp }
     requires few { vec_len held.old.stands ≡ (plp_at plan.now.plps plp).blocks }
     ensures sees { Sees plan.now plp number (Some (part_with number blocks.now shape.now cells.now)) held.old held.new }
-    ensures len { held.new.len ≡ held.old.len }
-    ensures room { vec_len held.new.stands ≡ vec_len held.old.stands }
+    ensures room { room_of held.new ≡ room_of held.old }
 {
     map_test_law();
-    plan.obeys_rules();
+    plan.rules_law();
     if plan.is_first(plp, number) {
         see_first(plan, shape, plp, number, blocks, cells, held);
     } else if held.goes_on(usize::from(shape.count(plp))) {

@@ -1,38 +1,30 @@
 // The slot rule of a PLP.
-ghost use Rattle.std.specs.Prelude.{◌≡◌, ◌<◌, false, length, IfOk};
-ghost use Rattle.plp_config.specs.Plps.{plp_at};
+ghost use Rattle.std.specs.Prelude.{◌≡◌, ◌<◌, length, IfOk};
 ghost use Rattle.plp_config.specs.SlotTime.{window, window_slots};
 ghost use Rattle.plp_config.specs.SlotTimes.{delay_of};
 ghost use Rattle.packet_slots.specs.Sound.{IsSound};
-ghost use Rattle.packet_slots.specs.StandsFor.{IsFresh, is_within, rule_of};
+ghost use Rattle.packet_slots.specs.StandsFor.{IsFresh, rule_of, slots_status};
+ghost use Rattle.packet_slots.specs.StandsFor as slots;
 ghost use Rattle.plp_receiver.specs.Epochs.{slot_rule};
 
 use packet_slots::{PacketSlots, SlotRule};
 use plp_config::{Plan, length_law};
 use std::alloc::{AllocError, Global};
 
-/// Whether the null packets of a PLP are deleted.
-pub fn deletes(plan: &Plan, plp: usize) -> bool
-    requires { plp < length plan.now.plps }
-    ensures { result ≡ (plp_at plan.now.plps plp).delete }
-{
-    plan.config().plps.get(plp).unwrap().delete
-}
-
-// Its slot rule.
+// The slot rule of a PLP.
 fn rule_of(plan: &Plan, plp: usize) -> SlotRule
     requires { plp < length plan.now.plps }
     ensures is { result ≡ slot_rule plan.now plp }
     ensures sound { IsSound result }
 {
     length_law();
-    plan.obeys_rules();
+    plan.rules_law();
     SlotRule {
         times: plan.slot_times(plp),
         ticks: u64::from(plan.config().ticks),
         spread: u64::from(plan.spread(plp)),
         up_len: plan.up_bytes(plp) as usize,
-        deletes: deletes(plan, plp),
+        deletes: plan.deletes(plp),
     }
 }
 
@@ -43,7 +35,7 @@ fn rule_of(plan: &Plan, plp: usize) -> SlotRule
 pub fn open_slots(alloc: Global, plan: &Plan, plp: usize) -> Result<PacketSlots, AllocError>
     requires { plp < length plan.now.plps }
     ensures fresh { IfOk result (λ p. IsFresh p (slot_rule plan.now plp)) }
-    ensures outside { IfOk result (λ p. is_within p ≡ false) }
+    ensures status { IfOk result (λ p. slots_status p ≡ slots.new_status (slot_rule plan.now plp)) }
     ensures window { IfOk result (λ p. window_slots (rule_of p).times.num (rule_of p).times.den (delay_of (rule_of p).times)
         (rule_of p).ticks ≡ window plan.now plp) }
 {

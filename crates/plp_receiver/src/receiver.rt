@@ -1,6 +1,6 @@
 // The receiver of a PLP.
 ghost use Rattle.std.specs.Prelude.{◌≡◌, ◌<◌, ◌≤◌, ◌+◌, ◌-◌, ◌++◌, ◌∷◌, [], List, ℕ, IfOk, true, false, length, vec_len};
-ghost use Rattle.std.specs.Prelude.{slice_get, slice_index, Some, None, nat_lt, if◌then◌else◌};
+ghost use Rattle.std.specs.Prelude.{slice_get, Some, nat_lt, if◌then◌else◌};
 ghost use Rattle.plp_config.specs.Plps.{plp_at, spread};
 ghost use Rattle.plp_config.specs.Capacity.{block_bytes};
 ghost use Rattle.plp_config.specs.SlotTime.{window, window_slots};
@@ -11,7 +11,7 @@ use crate::blocks::take_epoch;
 use crate::held::HeldBlocks;
 use crate::laws::readback_law;
 use crate::parts::see_part;
-use crate::plp_rule::{deletes, open_slots};
+use crate::plp_rule::open_slots;
 use crate::readable::is_readable;
 use bit_slice::{BitSlice, OutOfMemory};
 use frame_tests::Network;
@@ -22,6 +22,14 @@ use scheduler::Shape;
 use site_frame::{Blocks, Cells, RecordView};
 use std::alloc::Global;
 use ts_packet::SIZE;
+
+// The spread of a PLP is 1 at least.
+fn some_spread_law(plan: &Plan, plp: usize)
+    requires { plp < length plan.now.plps }
+    ensures { 1 ≤ spread plan.now.plps plp }
+{
+    let _spread = plan.spread(plp);
+}
 
 /// Gives back the packets of a PLP, from the records of successive frames.
 ///
@@ -39,8 +47,8 @@ pub struct Receiver<'p> {
     held: HeldBlocks,
     ghost configured: { plp < length network.plps },
     ghost outside: { is_within slots ≡ false },
-    ghost window: { window_slots (rule_of slots).times.num (rule_of slots).times.den (delay_of (rule_of slots).times) (rule_of slots).ticks
-        ≡ window network plp },
+    ghost window: { window_slots (rule_of slots).times.num (rule_of slots).times.den (delay_of (rule_of slots).times)
+        (rule_of slots).ticks ≡ window network plp },
     ghost rows: { length dynamic.plps ≡ length network.plps },
     ghost plps: { length shape.counts ≡ length network.plps },
     ghost spread: { 1 ≤ spread network.plps plp },
@@ -59,7 +67,8 @@ impl<'p> Receiver<'p> {
     ghost use Rattle.packet_slots.specs.StandsFor.{ends_epoch};
     ghost use Rattle.std.specs.Prelude.{Option};
     ghost use Rattle.plp_receiver.specs.Taking.{EndsRecord, TellsEpoch};
-    ghost use Rattle.plp_receiver.specs.StandsFor.{StandsFor, IsFresh, slots_come, network_of, plp_of, frame_of, due_of};
+    ghost use Rattle.plp_receiver.specs.StandsFor.{ReceiverStandsFor, IsFresh, slots_come, network_of, plp_of, frame_of, due_of};
+    ghost use Rattle.plp_receiver.specs.StandsFor.{status_of, new_status, unseen_of};
 
     /// Takes all the memory that is needed to receive the PLP at a place.
     ///
@@ -68,12 +77,10 @@ impl<'p> Receiver<'p> {
     pub fn open(alloc: Global, plan: &'p Plan, plp: usize) -> Result<Receiver<'p>, OutOfMemory>
         requires { plp < length plan.now.plps }
         ensures fresh { IfOk result IsFresh }
-        ensures network { IfOk result (λ v. network_of v ≡ plan.now) }
-        ensures plp { IfOk result (λ v. plp_of v ≡ plp) }
+        ensures status { IfOk result (λ v. status_of v ≡ new_status plan.now plp) }
     {
         block_law();
-        // It is 1 at least.
-        let _ = plan.spread(plp);
+        some_spread_law(plan, plp);
         let count = usize::from(plan.config().plps.get(plp).unwrap().blocks);
         let plps = plan.config().plps.len() as u16;
         Ok(Receiver {
@@ -90,11 +97,8 @@ impl<'p> Receiver<'p> {
     pub fn begin_at(&mut self, first: u64)
         requires small { first < MOST_FRAMES }
         requires fresh { IsFresh self.old }
-        ensures stands { StandsFor self.new first [] 0 }
-        ensures due { due_of self.new ≡ 0 }
-        ensures frame { frame_of self.new ≡ first }
-        ensures network { network_of self.new ≡ network_of self.old }
-        ensures plp { plp_of self.new ≡ plp_of self.old }
+        ensures stands { ReceiverStandsFor self.new first [] 0 }
+        ensures status { status_of self.new ≡ record (status_of self.old) { frame = first; due = 0 } }
     {
         self.slots.begin_at(first);
     }
@@ -103,11 +107,12 @@ impl<'p> Receiver<'p> {
     pub fn frame(&mut self, view: &RecordView<'_>)
         requires small { frame_of self.old < MOST_FRAMES }
         requires given_out { due_of self.old ≡ 0 }
-        ensures stands { (first : ℕ) (views : List RecordView) (released : ℕ) → StandsFor self.old first views released
-            → StandsFor self.new first (views ++ view.now ∷ []) released }
-        ensures frame { frame_of self.new ≡ frame_of self.old + 1 }
-        ensures network { network_of self.new ≡ network_of self.old }
-        ensures plp { plp_of self.new ≡ plp_of self.old }
+        ensures stands { (first : ℕ) (views : List RecordView) (released : ℕ) → ReceiverStandsFor self.old first views released
+            → ReceiverStandsFor self.new first (views ++ view.now ∷ []) released }
+        ensures status { status_of self.new ≡ record (status_of self.old) {
+          frame = frame_of self.old + 1;
+          due = due_of self.new;
+        } }
     {
         self.see(view);
         self.end_record();
@@ -117,9 +122,7 @@ impl<'p> Receiver<'p> {
     fn see(&mut self, view: &RecordView<'_>)
         ensures sees { Sees (network_of self.old) (plp_of self.old) (frame_of self.old)
             (part_of (network_of self.old) (frame_of self.old) view.now) self.old.held self.new.held }
-        ensures slots { self.new.slots ≡ self.old.slots }
-        ensures network { network_of self.new ≡ network_of self.old }
-        ensures plp { plp_of self.new ≡ plp_of self.old }
+        ensures unseen { unseen_of self.new ≡ unseen_of self.old }
     {
         match view {
             RecordView::Muted { .. } => self.held.lose(),
@@ -144,9 +147,7 @@ impl<'p> Receiver<'p> {
         ensures sees { (moment : Moment) → Sees (network_of self.old) (plp_of self.old) (frame_of self.old)
             (part_of (network_of self.old) (frame_of self.old) (Frame moment pre.now post.now blocks.now cells.now))
             self.old.held self.new.held }
-        ensures slots { self.new.slots ≡ self.old.slots }
-        ensures network { network_of self.new ≡ network_of self.old }
-        ensures plp { plp_of self.new ≡ plp_of self.old }
+        ensures unseen { unseen_of self.new ≡ unseen_of self.old }
     {
         let number = self.slots.frame();
         if is_readable(
@@ -179,9 +180,10 @@ impl<'p> Receiver<'p> {
         requires given_out { due_of self.old ≡ 0 }
         ensures ends { EndsRecord (network_of self.old) (plp_of self.old) self.old.held self.new.held self.old.slots
             self.new.slots }
-        ensures frame { frame_of self.new ≡ frame_of self.old + 1 }
-        ensures network { network_of self.new ≡ network_of self.old }
-        ensures plp { plp_of self.new ≡ plp_of self.old }
+        ensures status { status_of self.new ≡ record (status_of self.old) {
+          frame = frame_of self.old + 1;
+          due = due_of self.new;
+        } }
     {
         if self.slots.ends_epoch() {
             self.end_epoch();
@@ -198,12 +200,13 @@ impl<'p> Receiver<'p> {
         ensures ends { (parts : Option (List Part)) → is_begun parts ≡ true
             → Holds (network_of self.old) (plp_of self.old) parts self.old.held
             → TellsEpoch (network_of self.old) (plp_of self.old) parts self.old.slots self.new.slots }
-        ensures frame { frame_of self.new ≡ frame_of self.old + 1 }
-        ensures network { network_of self.new ≡ network_of self.old }
-        ensures plp { plp_of self.new ≡ plp_of self.old }
+        ensures status { status_of self.new ≡ record (status_of self.old) {
+          frame = frame_of self.old + 1;
+          due = due_of self.new;
+        } }
     {
         if self.held.is_there() {
-            let deletes = deletes(self.network.plan(), self.plp);
+            let deletes = self.network.plan().deletes(self.plp);
             take_epoch(&mut self.slots, &mut self.held, deletes);
         } else {
             self.slots.lose();
@@ -214,10 +217,10 @@ impl<'p> Receiver<'p> {
     pub fn due(&self) -> u64
         ensures value { result ≡ due_of self.now }
         ensures fresh { IsFresh self.now → result ≡ 0 }
-        ensures some { (first : ℕ) (views : List RecordView) (released : ℕ) → StandsFor self.now first views released
+        ensures some { (first : ℕ) (views : List RecordView) (released : ℕ) → ReceiverStandsFor self.now first views released
             → (packets : List (List ℕ)) × Readback (network_of self.now) (plp_of self.now) first views packets }
         ensures answer { (first : ℕ) (views : List RecordView) (released : ℕ) (packets : List (List ℕ))
-            → StandsFor self.now first views released
+            → ReceiverStandsFor self.now first views released
             → Readback (network_of self.now) (plp_of self.now) first views packets → result ≡ length packets - released }
     {
         readback_law();
@@ -228,7 +231,7 @@ impl<'p> Receiver<'p> {
     pub fn held(&self) -> u64
         ensures fresh { IsFresh self.now → result ≡ 0 }
         ensures most { result ≤ window (network_of self.now) (plp_of self.now) }
-        ensures answer { (first : ℕ) (views : List RecordView) (released : ℕ) → StandsFor self.now first views released
+        ensures answer { (first : ℕ) (views : List RecordView) (released : ℕ) → ReceiverStandsFor self.now first views released
             → result ≡ slots_come (network_of self.now) (plp_of self.now) first (length views) - released }
     {
         self.slots.held()
@@ -236,21 +239,18 @@ impl<'p> Receiver<'p> {
 
     /// The packet of the next slot, if one is due: `false` exactly if none is.
     pub fn release(&mut self, out: &mut [u8; SIZE]) -> bool
-        ensures stands { (first : ℕ) (views : List RecordView) (released : ℕ) → StandsFor self.old first views released
-            → StandsFor self.new first views (if result then released + 1 else released) }
+        ensures stands { (first : ℕ) (views : List RecordView) (released : ℕ) → ReceiverStandsFor self.old first views released
+            → ReceiverStandsFor self.new first views (if result then released + 1 else released) }
         ensures answer { result ≡ true → (first : ℕ) (views : List RecordView) (released : ℕ) (packets : List (List ℕ))
-            → StandsFor self.old first views released
+            → ReceiverStandsFor self.old first views released
             → Readback (network_of self.old) (plp_of self.old) first views packets → slice_get packets released ≡ Some out.new }
         ensures none { result ≡ false → (first : ℕ) (views : List RecordView) (released : ℕ) (packets : List (List ℕ))
-            → StandsFor self.old first views released
+            → ReceiverStandsFor self.old first views released
             → Readback (network_of self.old) (plp_of self.old) first views packets → length packets ≤ released }
         ensures fresh { IsFresh self.old → IsFresh self.new }
         ensures exact { result ≡ nat_lt 0 (due_of self.old) }
-        ensures due { due_of self.new ≡ due_of self.old - 1 }
         ensures kept { result ≡ false → out.new ≡ out.old }
-        ensures frame { frame_of self.new ≡ frame_of self.old }
-        ensures network { network_of self.new ≡ network_of self.old }
-        ensures plp { plp_of self.new ≡ plp_of self.old }
+        ensures status { status_of self.new ≡ record (status_of self.old) { due = due_of self.old - 1 } }
     {
         readback_law();
         self.slots.release(out)

@@ -154,8 +154,8 @@ fn first_ordinal(shape: &Shape, plp: usize) -> u32
     first
 }
 
-/// Sees which cells of the blocks of a PLP stand in the record of a frame of this shape. The test of a block fails if one does not.
-/// There may be tests of more blocks, which decide nothing.
+/// Sees which cells of the blocks of a PLP stand in the record of a frame of this shape. The test of a block fails if one does
+/// not. There may be tests of more blocks, which decide nothing.
 pub fn see_standing(
     plan: &Plan,
     shape: &Shape,
@@ -174,7 +174,7 @@ pub fn see_standing(
         ≡ (slice_index_or stands.old k false && all_stand plan.now plp (part_with number blocks shape.now cells.now) k) }
 {
     map_law();
-    plan.obeys_rules();
+    plan.rules_law();
     let first = first_ordinal(shape, plp);
     see_all(plan, shape, plan.frame_idx(number), cells, first, stands);
 }

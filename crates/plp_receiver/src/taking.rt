@@ -4,10 +4,10 @@ ghost use Rattle.std.specs.Prelude.{if◌then◌else◌};
 ghost use Rattle.terms.specs.Bits.{bits_of};
 ghost use Rattle.bb_frame.specs.declared.header.TheConstants.{NO_START, HEADER_BYTES};
 ghost use Rattle.packet_slots.specs.Strings.{Block};
-ghost use Rattle.packet_slots.specs.Both.{block_of, IsPlace};
+ghost use Rattle.packet_slots.specs.TakenBlocks.{block_of, IsPlace};
 ghost use Rattle.plp_receiver.specs.Taken.{IsOfStream, IsTaken};
 
-use bb_frame::{HEADER_BYTES, NO_START, bit_counts, read_frame};
+use bb_frame::{HEADER_BYTES, NO_START, bit_counts_law, read_frame};
 use bit_slice::BitSlice;
 use packet_slots::TakenBlock;
 
@@ -45,7 +45,7 @@ pub fn taken_block(block: &[u8], deletes: bool) -> Option<TakenBlock<'_>>
     ensures places { IfSome result (λ b. IsPlace b.first (length b.field.now)) }
     ensures none { result ≡ None → (b : Block) → ¬ (IsTaken deletes (bits_of block.now) b) }
 {
-    bit_counts();
+    bit_counts_law();
     let Ok(view) = read_frame(BitSlice::whole(block)) else {
         return None;
     };

@@ -71,14 +71,20 @@ const NONE: (usize, u8) = (0, 0);
 #[rattlefmt::skip]
 const ROWS: [Row; 11] = [
     Row { why: "nothing is changed", turned: [NONE, NONE, NONE, NONE, NONE], from: 0, end: 9 },
-    Row { why: "the first cells of the blocks are exchanged", turned: [(AT_CELLS + 2, 0x80), (AT_CELLS + 22, 0x80), NONE, NONE, NONE], from: 0, end: 0 },
-    Row { why: "a cell is one of block 7", turned: [(AT_CELLS + 1, 0x03), (AT_CELLS + 2, 0x80), NONE, NONE, NONE], from: 5, end: 9 },
+    Row { why: "the first cells of the blocks are exchanged",
+        turned: [(AT_CELLS + 2, 0x80), (AT_CELLS + 22, 0x80), NONE, NONE, NONE], from: 0, end: 0 },
+    Row { why: "a cell is one of block 7",
+        turned: [(AT_CELLS + 1, 0x03), (AT_CELLS + 2, 0x80), NONE, NONE, NONE], from: 5, end: 9 },
     Row { why: "a cell of block 7 stands where none is", turned: [(LEN - 1, 0xF0), NONE, NONE, NONE, NONE], from: 0, end: 9 },
-    Row { why: "SYNCD is the end of the field", turned: [(AT_FIRST + 7, 0x1B), (AT_FIRST + 8, 0x28), (AT_FIRST + 9, 0x78), NONE, NONE], from: 5, end: 9 },
-    Row { why: "DFL is 0, SYNCD 65535", turned: [(AT_FIRST + 4, 0x1B), (AT_FIRST + 5, 0x28), (AT_FIRST + 7, 0xFF), (AT_FIRST + 8, 0xFF), (AT_FIRST + 9, 0x28)], from: 5, end: 9 },
+    Row { why: "SYNCD is the end of the field",
+        turned: [(AT_FIRST + 7, 0x1B), (AT_FIRST + 8, 0x28), (AT_FIRST + 9, 0x78), NONE, NONE], from: 5, end: 9 },
+    Row { why: "DFL is 0, SYNCD 65535",
+        turned: [(AT_FIRST + 4, 0x1B), (AT_FIRST + 5, 0x28), (AT_FIRST + 7, 0xFF), (AT_FIRST + 8, 0xFF), (AT_FIRST + 9, 0x28)],
+        from: 5, end: 9 },
     Row { why: "normal mode", turned: [(AT_FIRST + 9, 0x01), NONE, NONE, NONE, NONE], from: 5, end: 9 },
     Row { why: "NPD is 0", turned: [(AT_FIRST, 0x04), (AT_FIRST + 9, 0xDC), NONE, NONE, NONE], from: 5, end: 9 },
-    Row { why: "ISSY begins with 00, and tells no ISCR", turned: [(AT_FIRST + 2, 0x80), (AT_FIRST + 9, 0xCB), NONE, NONE, NONE], from: 5, end: 9 },
+    Row { why: "ISSY begins with 00, and tells no ISCR",
+        turned: [(AT_FIRST + 2, 0x80), (AT_FIRST + 9, 0xCB), NONE, NONE, NONE], from: 5, end: 9 },
     Row { why: "the CRC_32 of L1-pre differs", turned: [(48, 0x01), NONE, NONE, NONE, NONE], from: 0, end: 0 },
     Row { why: "a bit of L1-post is turned over", turned: [(77, 0x02), NONE, NONE, NONE, NONE], from: 0, end: 0 },
 ];
@@ -153,7 +159,7 @@ fn give(receiver: &mut Receiver<'_>, given: &mut Vec<u8>) -> Result<(), Fail>
 
 // What is given out after the record, of frame 1, and two muted frames.
 fn given_back(rt: &(impl Abort + AllocGlobal), plan: &Plan, bytes: &[u8]) -> Result<Vec<u8>, Fail> {
-    plan.obeys_rules();
+    plan.rules_law();
     let mut receiver = Receiver::open(rt.alloc(), plan, 0)?;
     let mut given = Vec::new(rt.alloc());
     let (view, _) = read_record(bytes)?;

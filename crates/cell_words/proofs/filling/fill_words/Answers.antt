@@ -12,7 +12,7 @@ put_next-done-requires-clause-fits c =
     let stretch = c.next_stretch-stretch.result in
     stretch_fits c.map_law.ensures.small c.args.plan.now c.args.shape.now c.args.frame_idx
     (c.args.address + c.loop-done.done) stretch
-    c.obeys_rules.ensures.plan c.requires.passes c.next_stretch-stretch.ensures.some
+    c.rules_law.ensures.plan c.requires.passes c.next_stretch-stretch.ensures.some
     (subst (λ (r : Reading). HasStretch r.config r.shape r.frame_idx r.address stretch) c.loop-done.invariant.cells
     c.next_stretch-stretch.ensures.cells)
 

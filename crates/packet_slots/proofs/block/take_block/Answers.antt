@@ -1,6 +1,6 @@
 use Rattle.std.proofs.Common.{◌∙◌, sym, subst, arith}
 use Rattle.packet_slots.specs.declared.slot_rule.SlotRule.{SlotRule}
-use Rattle.packet_slots.specs.Both.{block_of, IsBegun}
+use Rattle.packet_slots.specs.TakenBlocks.{block_of, IsBegun}
 use Rattle.packet_slots.proofs.FieldLemmas.{begun_next}
 use Rattle.packet_slots.proofs.block.take_block.Goals as goal
 

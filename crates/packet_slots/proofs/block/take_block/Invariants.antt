@@ -1,7 +1,7 @@
 use Rattle.std.proofs.Common.{length, ◌-◌, ◌≡◌, ◌<◌, ◌≤◌, ◌++◌, List, Some}
 use Rattle.packet_slots.specs.declared.slot_rule.SlotRule.{SlotRule}
 use Rattle.packet_slots.specs.Strings.{Item}
-use Rattle.packet_slots.specs.Both.{Both, KeepsTimes, block_of, front_of, IsBegun}
+use Rattle.packet_slots.specs.TakenBlocks.{Both, KeepsTimes, block_of, front_of, IsBegun}
 use Rattle.packet_slots.proofs.block.take_block.Given as goal
 
 abbrev pub invariant-loop-at : goal.invariant-loop-at

@@ -1,6 +1,6 @@
 use Rattle.std.proofs.Common.{◌≡◌, ◌∙◌, List, ◌++◌, sym, subst, ap, ℕ, arith, append-nil, refl}
 use Rattle.packet_slots.specs.Strings.{Item}
-use Rattle.packet_slots.specs.Both.{Both, block_of, front_of}
+use Rattle.packet_slots.specs.TakenBlocks.{Both, block_of, front_of}
 use Rattle.packet_slots.proofs.FieldLemmas.{front_taken}
 use Rattle.packet_slots.proofs.block.take_front.Goals as goal
 

@@ -27,7 +27,8 @@ returns-then-counts-clause-both c = λ r z h. record {
   shows =
       moved r _ _ _ _ _ _ (ap (λ (s : Status). s.first) c.put.ensures) (ap (λ (s : Status). s.end) c.put.ensures)
       (gain_put r (subst IsSound h.rule c.args.window.now.sound) z _ c.args.epoch _ _ _ h.shows c.piece.new.self.held
-      c.in-Some.found (delay_of c.args.window.now.rule.times) (ap (λ (q : SlotRule). delay_of q.times) h.rule) (near_by _ _ _ h.rule c.counts.ensures.near)
+      c.in-Some.found (delay_of c.args.window.now.rule.times) (ap (λ (q : SlotRule). delay_of q.times) h.rule)
+      (near_by _ _ _ h.rule c.counts.ensures.near)
       (subst (λ (f : Option Found). Gains r z c.args.epoch (piece_items c.args.mark c.args.epoch c.args.bytes.now)
       c.piece.new.self.held f) c.in-Some.is (c.piece.ensures.answer r z h.assembles))
       (counts_as _ _ _ _ _ _ _ _ h.rule c.counts.ensures.value c.if-counts.true) _
@@ -42,7 +43,8 @@ returns-else-counts-clause-both c = λ r z h. record {
   rule = h.rule;
   shows =
       gain_not r (subst IsSound h.rule c.args.window.now.sound) z _ c.args.epoch _ _ _ h.shows c.piece.new.self.held
-      c.in-Some.found (delay_of c.args.window.now.rule.times) (ap (λ (q : SlotRule). delay_of q.times) h.rule) (near_by _ _ _ h.rule c.counts.ensures.near)
+      c.in-Some.found (delay_of c.args.window.now.rule.times) (ap (λ (q : SlotRule). delay_of q.times) h.rule)
+      (near_by _ _ _ h.rule c.counts.ensures.near)
       (subst (λ (f : Option Found). Gains r z c.args.epoch (piece_items c.args.mark c.args.epoch c.args.bytes.now)
       c.piece.new.self.held f) c.in-Some.is (c.piece.ensures.answer r z h.assembles))
       (counts_as _ _ _ _ _ _ _ _ h.rule c.counts.ensures.value c.if-counts.false);

@@ -2,7 +2,7 @@ use Rattle.std.proofs.Common.{ℕ, List, ◌+◌, ◌++◌, ◌∙◌, ap, lengt
 use Rattle.packet_slots.specs.Sound.{IsSound}
 use Rattle.packet_slots.specs.Assembles.{AssemblerStandsFor}
 use Rattle.packet_slots.specs.Strings.{Item}
-use Rattle.packet_slots.specs.Both.{Both, block_of, front_of}
+use Rattle.packet_slots.specs.TakenBlocks.{Both, block_of, front_of}
 use Rattle.packet_slots.proofs.FieldLemmas.{up_joined}
 use Rattle.packet_slots.proofs.block.take_up.Goals as goal
 

@@ -1,10 +1,9 @@
 use Rattle.std.proofs.Common.{◌≡◌, ◌+◌}
-use Rattle.packet_slots.specs.StandsFor.{frame_of, is_within, due_of}
+use Rattle.packet_slots.specs.StandsFor.{due_of, slots_status}
 use Rattle.packet_slots.proofs.tests.give.Given as goal
 
 abbrev pub invariant-loop : goal.invariant-loop
 invariant-loop l = record {
-  frame : frame_of l.slots ≡ frame_of l.fn.slots;
-  within : is_within l.slots ≡ is_within l.fn.slots;
+  status : slots_status l.slots ≡ record (slots_status l.fn.slots) { due = due_of l.slots };
   due : due_of l.slots + l.counter ≡ due_of l.fn.slots;
 }

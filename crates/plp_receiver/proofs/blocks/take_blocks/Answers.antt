@@ -7,9 +7,7 @@ pub loop-k-init : goal.loop-k-init
 loop-k-init c = record {
   took = none_took c.args.deletes c.args.stands.now c.args.len c.args.bytes.now c.args.slots.now;
   behind = refl;
-  frame = refl;
-  within = c.requires.within;
-  rule = refl;
+  status = refl;
   len = refl;
 }
 
@@ -27,10 +25,9 @@ loop-k-preserved c =
       took = took_more c.args.deletes c.args.stands.now c.args.len c.args.bytes.now n c.args.slots.now c.loop-k.slots
           c.take_block.new.slots _ (get_or c.args.stands.now n false) inv.took (ap (take c.args.len) inv.behind) refl
           c.take_block.ensures.takes;
-      behind = left_behind n c.args.len c.take_block.new.bytes c.loop-k.bytes c.args.bytes.now c.take_block.ensures.behind inv.behind;
-      frame = c.take_block.ensures.frame ∙ inv.frame;
-      within = c.take_block.ensures.within;
-      rule = c.take_block.ensures.rule ∙ inv.rule;
+      behind = left_behind n c.args.len c.take_block.new.bytes c.loop-k.bytes c.args.bytes.now c.take_block.ensures.behind
+          inv.behind;
+      status = c.take_block.ensures.status ∙ inv.status;
       len = c.take_block.ensures.len ∙ inv.len;
     }
 

@@ -28,7 +28,8 @@ loop-k-preserved c =
     let n : ℕ = c.loop-k.k in
     let block : Block = block_of c.in-Some.field-0-0 c.in-Some.block.now in
     let at = next_is c.args.rest.now c.next.new.self n block (sym inv.rest ∙ c.in-Some.ensures.steps) in
-    let bytes : bytes_at c.args.rest.now n ≡ c.in-Some.block.now = ap (λ (o : Option Block). option_map_or (λ x. x.bytes) o []) at in
+    let bytes : bytes_at c.args.rest.now n ≡ c.in-Some.block.now = ap (λ (o : Option Block). option_map_or (λ x. x.bytes) o [])
+    at in
     let long : length c.in-Some.block.now ≡ c.args.len = sym (ap length bytes) ∙ c.requires.there.1 n c.loop-k-test.true in
     let fits = place_in n c.args.count c.args.len c.loop-k-test.true in
     let room = inv.len in

@@ -12,14 +12,14 @@ use Rattle.plp_receiver.proofs.parts.see_first.Goals as goal
 pub begin-requires-clause-few : goal.begin-requires-clause-few
 begin-requires-clause-few c =
     let a = agrees c.map_test_law.ensures c.args.plan.now c.args.number c.args.blocks.now c.args.cells.now c.args.shape.now
-    c.obeys_rules.ensures.plan c.requires.agrees in
+    c.rules_law.ensures.plan c.requires.agrees in
     let most = a.passes.counts c.args.plp c.requires.inside in
     omega (arith, most, c.requires.few, c.from.ensures, c.count.ensures)
 
 pub begin-requires-clause-there : goal.begin-requires-clause-there
 begin-requires-clause-there c =
     let a = agrees c.map_test_law.ensures c.args.plan.now c.args.number c.args.blocks.now c.args.cells.now c.args.shape.now
-    c.obeys_rules.ensures.plan c.requires.agrees in
+    c.rules_law.ensures.plan c.requires.agrees in
     let counts : List ℕ = coming c.args.plan.now c.args.number c.args.shape.now in
     let behind : c.skip_blocks.new.rest ≡ drop (sum (take c.args.plp counts)) c.args.blocks.now =
     c.skip_blocks.ensures ∙ ap (drop c.first_place.result) c.iter-rest.ensures
@@ -29,18 +29,19 @@ begin-requires-clause-there c =
     c.requires.begins (c.from.ensures ∙ c.count.ensures)) in
     subst (λ (n : ℕ). HaveLength n c.from.result c.skip_blocks.new.rest) (sym c.requires.size)
     (subst (λ (l : List Block). HaveLength (block_bytes c.args.plan.now c.args.plp) c.from.result l) (sym behind)
-    (subst (λ (n : ℕ). HaveLength (block_bytes c.args.plan.now c.args.plp) n (drop (sum (take c.args.plp counts)) c.args.blocks.now)) count
+    (subst (λ (n : ℕ). HaveLength (block_bytes c.args.plan.now c.args.plp) n
+    (drop (sum (take c.args.plp counts)) c.args.blocks.now)) count
     (have_length c.args.plan.now counts c.args.blocks.now c.args.plp a.sizes c.requires.inside)))
 
 pub see_cells-requires-clause-passes : goal.see_cells-requires-clause-passes
 see_cells-requires-clause-passes c =
     (agrees c.map_test_law.ensures c.args.plan.now c.args.number c.args.blocks.now c.args.cells.now c.args.shape.now
-    c.obeys_rules.ensures.plan c.requires.agrees).passes
+    c.rules_law.ensures.plan c.requires.agrees).passes
 
 pub see_cells-requires-clause-all : goal.see_cells-requires-clause-all
 see_cells-requires-clause-all c =
     (agrees c.map_test_law.ensures c.args.plan.now c.args.number c.args.blocks.now c.args.cells.now c.args.shape.now
-    c.obeys_rules.ensures.plan c.requires.agrees).all
+    c.rules_law.ensures.plan c.requires.agrees).all
 
 pub returns-clause-keeps : goal.returns-clause-keeps
 returns-clause-keeps c =
@@ -55,9 +56,6 @@ returns-clause-keeps c =
     first_kept c.args.plan.now c.args.plp (part_with c.args.number c.args.blocks.now c.args.shape.now c.args.cells.now)
     c.begin.new.self c.see_cells.new.self begun
     (record {
-      there = c.see_cells.ensures.there;
-      count = c.see_cells.ensures.count;
-      len = c.see_cells.ensures.len;
-      bytes = c.see_cells.ensures.bytes;
+      same = c.see_cells.ensures.blocks;
       each = λ k l. c.see_cells.ensures.each c.args.blocks.now k l;
     })

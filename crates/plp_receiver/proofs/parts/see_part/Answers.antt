@@ -7,12 +7,12 @@ use Rattle.plp_receiver.proofs.parts.see_part.Goals as goal
 pub see_cells-requires-clause-passes : goal.see_cells-requires-clause-passes
 see_cells-requires-clause-passes c =
     (agrees c.map_test_law.ensures c.args.plan.now c.args.number c.args.blocks.now c.args.cells.now c.args.shape.now
-    c.obeys_rules.ensures.plan c.requires.agrees).passes
+    c.rules_law.ensures.plan c.requires.agrees).passes
 
 pub see_cells-requires-clause-all : goal.see_cells-requires-clause-all
 see_cells-requires-clause-all c =
     (agrees c.map_test_law.ensures c.args.plan.now c.args.number c.args.blocks.now c.args.cells.now c.args.shape.now
-    c.obeys_rules.ensures.plan c.requires.agrees).all
+    c.rules_law.ensures.plan c.requires.agrees).all
 
 pub returns-then-is_first-clause-sees : goal.returns-then-is_first-clause-sees
 returns-then-is_first-clause-sees c =
@@ -25,21 +25,21 @@ returns-then-goes_on-clause-sees c =
     goes_on c.args.plan.now c.args.plp (part_with c.args.number c.args.blocks.now c.args.shape.now c.args.cells.now) c.args.number
     c.args.held.now c.see_cells.new.self
     (sym c.is_first.ensures ∙ c.if-is_first.false)
-    (sym (c.goes_on.ensures ∙ ap (λ (n : ℕ). c.args.held.now.there && (c.args.held.now.count == n)) (c.from.ensures ∙ c.count.ensures))
+    (sym (c.goes_on.ensures ∙ ap (λ (n : ℕ). c.args.held.now.there && (c.args.held.now.count == n))
+    (c.from.ensures ∙ c.count.ensures))
     ∙ c.if-goes_on.true)
     (record {
-      there = c.see_cells.ensures.there;
-      count = c.see_cells.ensures.count;
-      len = c.see_cells.ensures.len;
-      bytes = c.see_cells.ensures.bytes;
+      same = c.see_cells.ensures.blocks;
       each = λ k l. c.see_cells.ensures.each c.args.blocks.now k l;
     })
 
 pub returns-else-goes_on-clause-sees : goal.returns-else-goes_on-clause-sees
 returns-else-goes_on-clause-sees c =
-    breaks_off c.args.plan.now c.args.plp (part_with c.args.number c.args.blocks.now c.args.shape.now c.args.cells.now) c.args.number
+    breaks_off c.args.plan.now c.args.plp (part_with c.args.number c.args.blocks.now c.args.shape.now c.args.cells.now)
+    c.args.number
     c.args.held.now c.lose.new.self
     (sym c.is_first.ensures ∙ c.if-is_first.false)
-    (sym (c.goes_on.ensures ∙ ap (λ (n : ℕ). c.args.held.now.there && (c.args.held.now.count == n)) (c.from.ensures ∙ c.count.ensures))
+    (sym (c.goes_on.ensures ∙ ap (λ (n : ℕ). c.args.held.now.there && (c.args.held.now.count == n))
+    (c.from.ensures ∙ c.count.ensures))
     ∙ c.if-goes_on.false)
     c.lose.ensures.lost

@@ -21,5 +21,6 @@ pub returns-clause-each : goal.returns-clause-each
 returns-clause-each c = λ k l.
     let inv = c.loop-address.invariant in
     let all : c.loop-address.address ≡ c.args.plan.now.cells = omega (arith, inv.end, inv.inside, c.loop-address-test.false) in
-    inv.each k l ∙ ap (λ (n : ℕ). get_or c.args.stands.now k false && seen_from c.args.plan.now c.args.shape.now c.args.frame_idx c.args.cells.now
+    inv.each k l ∙ ap (λ (n : ℕ). get_or c.args.stands.now k false && seen_from c.args.plan.now c.args.shape.now c.args.frame_idx
+    c.args.cells.now
     (c.args.first + k) 0 n) all

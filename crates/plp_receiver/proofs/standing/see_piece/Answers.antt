@@ -6,5 +6,6 @@ pub returns-then-agree-clause-each : goal.returns-then-agree-clause-each
 returns-then-agree-clause-each c = λ k l.
     none_seen (get_or c.args.stands.now k false)
     ∙ ap (λ (t : Bool). get_or c.args.stands.now k false && t)
-    (sym (all_own c.args.plan.now c.args.shape.now c.args.frame_idx c.args.cells.now (c.args.first + k) c.args.address c.args.count
+    (sym (all_own c.args.plan.now c.args.shape.now c.args.frame_idx c.args.cells.now (c.args.first + k) c.args.address
+    c.args.count
     (c.agree.ensures.same.0 c.if-agree.true)))

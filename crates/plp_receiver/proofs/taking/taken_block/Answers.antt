@@ -2,7 +2,7 @@ use Rattle.std.proofs.Common.{◌≡◌, ℕ, ◌/◌, ◌<◌, List, length, ta
 use Rattle.std.proofs.lemmas.Bool.{both_ways}
 use Rattle.terms.specs.Bits.{bits_of}
 use Rattle.bb_frame.specs.BasebandFrame.{Spells}
-use Rattle.packet_slots.specs.Both.{IsPlace}
+use Rattle.packet_slots.specs.TakenBlocks.{IsPlace}
 use Rattle.plp_receiver.specs.Taken.{IsOfStream, IsTaken}
 use Rattle.plp_receiver.proofs.TakingLemmas as T
 use Rattle.plp_receiver.proofs.taking.taken_block.Goals as goal
@@ -24,7 +24,7 @@ field_of-requires c =
     let small : (k : ℕ) → get_or c.args.block.now k 0 < 256 = λ k. omega (arith, c.type_inv.block k) in
     let spelled : Spells c.in-Ok.view.header c.in-Ok.view.field (bits_of c.args.block.now) =
     subst (Spells c.in-Ok.view.header c.in-Ok.view.field) c.whole.ensures.bits c.in-Ok.ensures.ok in
-    (T.field_is c.bit_counts.ensures c.args.block.now small c.in-Ok.view.header c.in-Ok.view.field spelled).0
+    (T.field_is c.bit_counts_law.ensures c.args.block.now small c.in-Ok.view.header c.in-Ok.view.field spelled).0
 
 pub returns-clause-some : goal.returns-clause-some
 returns-clause-some c =
@@ -37,16 +37,17 @@ returns-clause-some c =
     (subst (λ (f : Option ℕ). IsTaken c.args.deletes (bits_of c.args.block.now)
     (T.block_with f c.in-Ok.view.header.issy (take (c.in-Ok.view.header.dfl / 8) (drop 10 c.args.block.now))))
     (sym c.first_of.ensures)
-    (T.taken_is c.bit_counts.ensures c.args.block.now small c.in-Ok.view.header c.in-Ok.view.field spelled c.args.deletes stream))
+    (T.taken_is c.bit_counts_law.ensures c.args.block.now small c.in-Ok.view.header c.in-Ok.view.field spelled c.args.deletes
+    stream))
 
 pub returns-clause-places : goal.returns-clause-places
 returns-clause-places c =
     let small : (k : ℕ) → get_or c.args.block.now k 0 < 256 = λ k. omega (arith, c.type_inv.block k) in
     let spelled : Spells c.in-Ok.view.header c.in-Ok.view.field (bits_of c.args.block.now) =
     subst (Spells c.in-Ok.view.header c.in-Ok.view.field) c.whole.ensures.bits c.in-Ok.ensures.ok in
-    let fits = (T.field_is c.bit_counts.ensures c.args.block.now small c.in-Ok.view.header c.in-Ok.view.field spelled).0 in
+    let fits = (T.field_is c.bit_counts_law.ensures c.args.block.now small c.in-Ok.view.header c.in-Ok.view.field spelled).0 in
     let size : length c.field_of.result.now ≡ c.in-Ok.view.header.dfl / 8 = ap length c.field_of.ensures
     ∙ T.field_len c.args.block.now (c.in-Ok.view.header.dfl / 8) fits in
     subst (λ (n : ℕ). IsPlace c.first_of.result n) (sym size)
     (subst (λ (f : Option ℕ). IsPlace f (c.in-Ok.view.header.dfl / 8)) (sym c.first_of.ensures)
-    (T.place_is c.bit_counts.ensures c.args.block.now small c.in-Ok.view.header c.in-Ok.view.field spelled))
+    (T.place_is c.bit_counts_law.ensures c.args.block.now small c.in-Ok.view.header c.in-Ok.view.field spelled))

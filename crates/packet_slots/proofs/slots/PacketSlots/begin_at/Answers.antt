@@ -1,13 +1,13 @@
 use Rattle.std.proofs.Common.{◌∙◌, Bool, ap, sym, subst}
 use Rattle.packet_slots.specs.Window.{Status, Reaches}
 use Rattle.packet_slots.specs.Times.{due_after}
-use Rattle.packet_slots.specs.StandsFor.{StandsFor, IsFresh}
+use Rattle.packet_slots.specs.StandsFor.{PacketSlotsStandsFor, IsFresh}
 use Rattle.packet_slots.specs.declared.slot_rule.SlotRule.{SlotRule}
-use Rattle.packet_slots.proofs.StandsLemmas.{begins, first_range}
+use Rattle.packet_slots.proofs.StandsLemmas.{begins, first_range, begun_status}
 use Rattle.packet_slots.proofs.slots.PacketSlots.begin_at.Goals as goal
 
 pub returns-clause-stands : goal.returns-clause-stands
-unfolding StandsFor IsFresh
+unfolding PacketSlotsStandsFor IsFresh
 returns-clause-stands c =
     λ r h. begins c.args.self.now.assembler c.args.self.now.window c.begin.new.self r c.args.first h c.begin.ensures
 
@@ -22,3 +22,8 @@ invariant_of-self c =
       known = ap (λ (s : Status). s.due_end) c.begin.ensures
           ∙ ap (λ (q : SlotRule). due_after q c.args.first) (sym rule);
     }
+
+pub returns-clause-status : goal.returns-clause-status
+returns-clause-status c =
+    let p = c.args.self.now in
+    begun_status p.window c.begin.new.self c.args.first p.in_frame c.begin.ensures

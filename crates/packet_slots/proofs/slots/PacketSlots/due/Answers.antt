@@ -1,10 +1,10 @@
 use Rattle.std.proofs.Common.{◌∙◌}
-use Rattle.packet_slots.specs.StandsFor.{StandsFor, IsFresh}
+use Rattle.packet_slots.specs.StandsFor.{PacketSlotsStandsFor, IsFresh}
 use Rattle.packet_slots.proofs.StandsLemmas.{due_is, fresh_due}
 use Rattle.packet_slots.proofs.slots.PacketSlots.due.Goals as goal
 
 pub returns-clause-answer : goal.returns-clause-answer
-unfolding StandsFor
+unfolding PacketSlotsStandsFor
 returns-clause-answer c = λ r first count epochs released h. c.due.ensures
     ∙ due_is c.args.self.now.assembler c.args.self.now.window c.args.self.now.frame r first count epochs released h
 

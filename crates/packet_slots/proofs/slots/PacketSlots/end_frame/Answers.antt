@@ -1,11 +1,12 @@
-use Rattle.packet_slots.specs.StandsFor.{StandsFor, StandsWithin}
+use Rattle.std.proofs.Common.{ap}
+use Rattle.packet_slots.specs.StandsFor.{PacketSlotsStandsFor, StandsWithin, SlotsStatus}
 use Rattle.packet_slots.proofs.StandsLemmas.{ends_frame, stands_at}
 use Rattle.packet_slots.proofs.slots.PacketSlots.end_frame.Goals as goal
 
 pub returns-clause-stands : goal.returns-clause-stands
-unfolding StandsFor StandsWithin
+unfolding PacketSlotsStandsFor StandsWithin
 returns-clause-stands c = λ r first count epochs blocks released h.
     let p = c.args.self.now in
-    stands_at c.leave.ensures.assembler c.leave.ensures.frame
+    stands_at c.leave.ensures.assembler (ap (λ (s : SlotsStatus). s.frame) c.leave.ensures.status)
     (ends_frame r first p.frame count epochs blocks released p.assembler p.window c.leave.new.self.window h c.requires.last
     c.leave.ensures.window)

@@ -1,15 +1,19 @@
-use Rattle.std.proofs.Common.{[], ◌∙◌}
-use Rattle.packet_slots.specs.StandsFor.{StandsFor, StandsWithin}
-use Rattle.packet_slots.proofs.StandsLemmas.{loses, stands_at, same_last}
+use Rattle.std.proofs.Common.{[], ◌+◌, ◌∙◌, ap, false}
+use Rattle.packet_slots.specs.StandsFor.{PacketSlotsStandsFor, StandsWithin, SlotsStatus, due_of, ends_by}
+use Rattle.packet_slots.proofs.StandsLemmas.{loses, stands_at}
 use Rattle.packet_slots.proofs.slots.PacketSlots.lose.Goals as goal
 
 pub returns-clause-stands : goal.returns-clause-stands
-unfolding StandsFor StandsWithin
+unfolding PacketSlotsStandsFor StandsWithin
 returns-clause-stands c = λ r first count epochs released h.
     let p = c.skip.new.self in
     let within = c.skip.ensures.stands r first count epochs [] released
     (c.begin_frame.ensures.stands r first count epochs released h) in
-    let last = same_last c.args.self.now p (c.skip.ensures.frame ∙ c.begin_frame.ensures.frame)
-    (c.skip.ensures.rule ∙ c.begin_frame.ensures.rule) ∙ c.requires.last in
-    stands_at c.leave.ensures.assembler c.leave.ensures.frame
+    let last = ap ends_by (c.skip.ensures.status ∙ c.begin_frame.ensures.status) ∙ c.requires.last in
+    stands_at c.leave.ensures.assembler (ap (λ (s : SlotsStatus). s.frame) c.leave.ensures.status)
     (loses r first p.frame count epochs released p.assembler p.window c.leave.new.self.window within last c.leave.ensures.window)
+
+pub returns-clause-status : goal.returns-clause-status
+returns-clause-status c = c.leave.ensures.status
+    ∙ ap (λ (s : SlotsStatus). record s { frame = s.frame + 1; within = false; due = due_of c.leave.new.self })
+    (c.skip.ensures.status ∙ c.begin_frame.ensures.status)

@@ -1,11 +1,11 @@
 use Rattle.std.proofs.Common.{ℕ, ◌++◌, List, Some, ap, subst, ◌∙◌}
-use Rattle.packet_slots.specs.Both.{Both, block_of}
+use Rattle.packet_slots.specs.TakenBlocks.{Both, block_of}
 use Rattle.packet_slots.specs.Epochs.{string_of}
 use Rattle.packet_slots.specs.Strings.{Item, block_items}
 use Rattle.packet_slots.specs.Times.{epoch_of}
 use Rattle.packet_slots.specs.StandsFor.{StandsWithin, blocks_items}
 use Rattle.packet_slots.specs.declared.slot_rule.SlotRule.{SlotRule}
-use Rattle.packet_slots.proofs.StandsLemmas.{takes}
+use Rattle.packet_slots.proofs.StandsLemmas.{takes, times_status}
 use Rattle.packet_slots.proofs.slots.PacketSlots.take.Goals as goal
 
 pub returns-clause-stands : goal.returns-clause-stands
@@ -20,3 +20,8 @@ returns-clause-stands c = λ r first count epochs blocks released h.
     c.take_block.new.window)
     (c.epoch_of-epoch.ensures.value ∙ ap (λ (q : SlotRule). epoch_of q p.frame) h.both.rule)
     (c.take_block.ensures.both r z h.both))
+
+pub returns-clause-status : goal.returns-clause-status
+returns-clause-status c =
+    let p = c.args.self.now in
+    times_status p.window c.take_block.new.window p.frame p.in_frame c.take_block.ensures.times

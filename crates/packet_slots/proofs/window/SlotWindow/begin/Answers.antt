@@ -12,5 +12,6 @@ invariant_of-self c =
       room = w.room;
       span = omega (arith, ap length c.requires.empty);
       known =
-          omega (arith, late, c.over_after-first.ensures, ap (over_after w.rule) c.saturating_sub.ensures, c.due_after-due_end.ensures);
+          omega
+          (arith, late, c.over_after-first.ensures, ap (over_after w.rule) c.saturating_sub.ensures, c.due_after-due_end.ensures);
     }

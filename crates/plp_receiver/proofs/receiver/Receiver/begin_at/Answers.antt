@@ -1,4 +1,4 @@
-use Rattle.plp_receiver.specs.StandsFor.{StandsFor, IsFresh}
+use Rattle.plp_receiver.specs.StandsFor.{ReceiverStandsFor, IsFresh}
 use Rattle.plp_receiver.proofs.StandsLemmas.{begun, is_empty}
 use Rattle.plp_receiver.proofs.receiver.Receiver.begin_at.Goals as goal
 
@@ -8,7 +8,7 @@ begin_at-requires-clause-empty c =
     is_empty c.args.self.now.network c.args.self.now.plp c.args.self.now.slots c.args.self.now.held c.requires.fresh
 
 pub returns-clause-stands : goal.returns-clause-stands
-unfolding StandsFor IsFresh
+unfolding ReceiverStandsFor IsFresh
 returns-clause-stands c =
     begun c.args.self.now.network c.args.self.now.plp c.args.self.now.slots c.begin_at.new.self c.args.self.now.held c.args.first
     c.args.self.now.spread c.requires.fresh c.begin_at.ensures.stands

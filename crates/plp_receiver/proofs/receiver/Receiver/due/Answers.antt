@@ -1,19 +1,19 @@
 use Rattle.std.proofs.Common.{length}
 use Rattle.packet_slots.specs.Epochs.{readback}
 use Rattle.plp_receiver.specs.Epochs.{slot_rule}
-use Rattle.plp_receiver.specs.StandsFor.{StandsFor, IsFresh}
+use Rattle.plp_receiver.specs.StandsFor.{ReceiverStandsFor, IsFresh}
 use Rattle.plp_receiver.proofs.StandsLemmas.{due_is, given_back}
 use Rattle.plp_receiver.proofs.receiver.Receiver.due.Goals as goal
 
 pub returns-clause-answer : goal.returns-clause-answer
-unfolding StandsFor
+unfolding ReceiverStandsFor
 returns-clause-answer c = λ first views released packets s b.
     let v = c.args.self.now in
     due_is c.readback_law.ensures.once v.network v.plp v.slots v.held first views released packets c.due.result s b
     c.due.ensures.answer
 
 pub returns-clause-some : goal.returns-clause-some
-unfolding StandsFor
+unfolding ReceiverStandsFor
 returns-clause-some c = λ first views released s. (
   readback (slot_rule c.args.self.now.network c.args.self.now.plp) first (length views) s.told,
   given_back c.args.self.now.network c.args.self.now.plp c.args.self.now.slots c.args.self.now.held first views released s,

@@ -9,7 +9,8 @@ returns-then-is_there-clause-ends c = λ parts b h.
     let v = c.args.self.now in
     epoch_told v.network v.plp c.deletes-deletes.result v.held v.slots c.take_epoch.new.slots
     (sym c.is_there.ensures ∙ c.if-is_there.true)
-    (c.deletes-deletes.ensures ∙ ap (λ (d : Config). (plp_at d.plps v.plp).delete) c.plan.ensures) c.take_epoch.ensures.takes parts b h
+    (c.deletes-deletes.ensures ∙ ap (λ (d : Config). (plp_at d.plps v.plp).delete) c.plan.ensures) c.take_epoch.ensures.takes
+    parts b h
 
 pub returns-else-is_there-clause-ends : goal.returns-else-is_there-clause-ends
 returns-else-is_there-clause-ends c = λ parts b h.

@@ -1,23 +1,23 @@
-use Rattle.plp_receiver.specs.StandsFor.{StandsFor, IsFresh}
+use Rattle.plp_receiver.specs.StandsFor.{ReceiverStandsFor, IsFresh}
 use Rattle.plp_receiver.proofs.StandsLemmas.{released_or_not, packet_is, none_is, still_fresh}
 use Rattle.plp_receiver.proofs.receiver.Receiver.release.Goals as goal
 
 pub returns-clause-stands : goal.returns-clause-stands
-unfolding StandsFor
+unfolding ReceiverStandsFor
 returns-clause-stands c = λ first views released s.
     let v = c.args.self.now in
     released_or_not v.network v.plp v.slots c.release.new.self v.held first views released c.release.result s
     c.release.ensures.stands
 
 pub returns-clause-answer : goal.returns-clause-answer
-unfolding StandsFor
+unfolding ReceiverStandsFor
 returns-clause-answer c = λ e first views released packets s b.
     let v = c.args.self.now in
     packet_is c.readback_law.ensures.once v.network v.plp v.slots v.held first views released packets c.release.new.out s b
     (c.release.ensures.answer e)
 
 pub returns-clause-none : goal.returns-clause-none
-unfolding StandsFor
+unfolding ReceiverStandsFor
 returns-clause-none c = λ e first views released packets s b.
     let v = c.args.self.now in
     none_is c.readback_law.ensures.once v.network v.plp v.slots v.held first views released packets s b
@@ -27,4 +27,5 @@ pub returns-clause-fresh : goal.returns-clause-fresh
 unfolding IsFresh
 returns-clause-fresh c = λ f.
     let v = c.args.self.now in
-    still_fresh v.network v.plp v.slots c.release.new.self v.held f c.release.result c.release.ensures.exact c.release.ensures.same
+    still_fresh v.network v.plp v.slots c.release.new.self v.held f c.release.result c.release.ensures.exact
+    c.release.ensures.same

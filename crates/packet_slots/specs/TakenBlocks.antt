@@ -1,4 +1,5 @@
--- What an assembler and a window have in common. No public clause cites this module but for `block_of` and `IsPlace`.
+-- A block that is taken, and what an assembler and a window hold together. No public clause cites this module, `block_of` and
+-- `IsPlace` aside.
 use Rattle.std.specs.Prelude.{◌≡◌, ℕ, ◌-◌, ◌%◌, ◌<◌, ◌≤◌, List, take, Option, Some, None}
 use Rattle.packet_slots.specs.declared.slot_rule.SlotRule.{SlotRule}
 use Rattle.packet_slots.specs.declared.assembler.Assembler.{Assembler}
