@@ -7,5 +7,3 @@ pub mod Waits
 pub mod Sequenced
 pub mod Due
 pub mod Laws
--- inner: no public clause cites these
-pub mod Held

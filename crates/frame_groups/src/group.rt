@@ -1,5 +1,6 @@
 // The packets of the frame under way.
 ghost use Rattle.std.specs.Prelude.{◌≡◌, ◌<◌, ◌^◌, ℕ, Bool, List, Option, Some, IfSome, is_some, true, false};
+ghost use Rattle.plp_config.specs.declared.moment.TheConstants.{MOST_FRAMES};
 ghost use Rattle.t2mi_packet.specs.T2miPacket.{Fits};
 ghost use Rattle.frame_groups.specs.declared.key.Key.{Key};
 ghost use Rattle.frame_groups.specs.Groups.{Group};
@@ -58,11 +59,11 @@ pub trait OpenGroup {
         ensures key { key_now self.new ≡ key_now self.old }
         ensures rules { rules self.new ≡ rules self.old };
 
-    /// The frame that its timestamp names: below 2^31.
+    /// The frame that its timestamp names: below `plp_config::MOST_FRAMES`.
     fn named(&self) -> Option<u64>
         requires { is_intact self.now ≡ true }
         ensures value { (past : List Numbered) (h : Group) → holds self.now past (Some h) → result ≡ (rules self.now).named h }
-        ensures small { IfSome result (λ n. n < 2 ^ 31) };
+        ensures small { IfSome result (λ n. n < MOST_FRAMES) };
 
     /// Why it is not the frame of a number, which is above those of the groups before it.
     fn fault(&self, number: u64) -> Option<MuteCause>

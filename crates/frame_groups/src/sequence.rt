@@ -1,5 +1,6 @@
 // The records of frames, in order.
-ghost use Rattle.std.specs.Prelude.{◌≡◌, ◌<◌, ◌≤◌, ◌+◌, ◌⊎◌, ◌^◌, ℕ, List, [], Option, Some, None, is_some, true, false};
+ghost use Rattle.std.specs.Prelude.{◌≡◌, ◌<◌, ◌≤◌, ◌+◌, ◌⊎◌, ℕ, List, [], Option, Some, None, is_some, true, false};
+ghost use Rattle.plp_config.specs.declared.moment.TheConstants.{MOST_FRAMES};
 ghost use Rattle.t2mi_packet.specs.declared.packet.Packet.{Packet};
 ghost use Rattle.frame_groups.specs.Groups.{Group};
 ghost use Rattle.frame_groups.specs.Modulated.{FrameRecord, join_number};
@@ -20,7 +21,7 @@ fn join_number<G: OpenGroup>(group: &G) -> Option<u64>
     ensures value { (h : Group) → G.holds group.now [] (Some h) → result ≡ join_number (G.rules group.now) h }
     ensures passes { (h : Group) → G.holds group.now [] (Some h) → (n : ℕ) → result ≡ Some n
         → (G.rules group.now).fault [] h n ≡ None }
-    ensures small { (n : ℕ) → result ≡ Some n → n < 2 ^ 31 }
+    ensures small { (n : ℕ) → result ≡ Some n → n < MOST_FRAMES }
     ensures frame { is_some result ≡ true → G.is_frame group.now ≡ true }
 {
     let Some(key) = group.key() else {
@@ -48,8 +49,8 @@ fn close_group<G: OpenGroup>(group: &G, progress: Progress) -> Progress
         → Keeps (G.holds group.now) (G.rules group.now) progress ps given
         → Keeps (G.holds group.now) (G.rules group.now) result ps given }
     ensures closing { result.closing ≡ true }
-    ensures near { (bound : ℕ) → 2 ^ 31 ≤ bound → IsWithin bound progress → IsWithin bound result }
-    ensures next { (result.next ≡ progress.next) ⊎ (result.next < 2 ^ 31) }
+    ensures near { (bound : ℕ) → MOST_FRAMES ≤ bound → IsWithin bound progress → IsWithin bound result }
+    ensures next { (result.next ≡ progress.next) ⊎ (result.next < MOST_FRAMES) }
     ensures left { records_left result ≤ records_left progress }
     ensures frame { is_some result.number ≡ true → is_some result.fault ≡ false → G.is_frame group.now ≡ true }
 {
@@ -106,8 +107,9 @@ pub struct Sequence<G: OpenGroup + Drop> {
 }
 
 impl<G: OpenGroup + Drop> Sequence<G> {
-    ghost use Rattle.std.specs.Prelude.{◌≡◌, ◌<◌, ◌≤◌, ◌+◌, ◌-◌, ◌++◌, ◌∷◌, ◌^◌, ℕ, List, [], Option, Some, None, is_some, true};
+    ghost use Rattle.std.specs.Prelude.{◌≡◌, ◌<◌, ◌≤◌, ◌+◌, ◌-◌, ◌++◌, ◌∷◌, ℕ, List, [], Option, Some, None, is_some, true};
     ghost use Rattle.std.specs.Prelude.{false};
+    ghost use Rattle.plp_config.specs.declared.moment.TheConstants.{MOST_FRAMES};
     ghost use Rattle.t2mi_packet.specs.declared.packet.Packet.{Packet};
     ghost use Rattle.frame_groups.specs.Groups.{Group, is_counted, is_same, key_behind};
     ghost use Rattle.frame_groups.specs.Modulated.{FrameRecord};
@@ -146,8 +148,8 @@ impl<G: OpenGroup + Drop> Sequence<G> {
         ensures group { self.new.group ≡ self.old.group }
         ensures intact { G.is_intact self.new.group ≡ true }
         ensures closing { self.new.progress.closing ≡ true }
-        ensures near { (bound : ℕ) → 2 ^ 31 ≤ bound → IsWithin bound self.old.progress → IsWithin bound self.new.progress }
-        ensures next { (self.new.progress.next ≡ self.old.progress.next) ⊎ (self.new.progress.next < 2 ^ 31) }
+        ensures near { (bound : ℕ) → MOST_FRAMES ≤ bound → IsWithin bound self.old.progress → IsWithin bound self.new.progress }
+        ensures next { (self.new.progress.next ≡ self.old.progress.next) ⊎ (self.new.progress.next < MOST_FRAMES) }
         ensures left { records_left self.new.progress ≤ records_left self.old.progress }
     {
         self.progress = close_group(&self.group, self.progress);
@@ -198,11 +200,11 @@ impl<G: OpenGroup + Drop> Sequence<G> {
         ensures open { result ≡ true → self.new.progress.closing ≡ false }
         ensures intact { G.is_intact self.new.group ≡ true }
         ensures rules { G.rules self.new.group ≡ G.rules self.old.group }
-        ensures near { (bound : ℕ) → 2 ^ 31 ≤ bound → IsWithin bound self.old.progress
+        ensures near { (bound : ℕ) → MOST_FRAMES ≤ bound → IsWithin bound self.old.progress
             → IsWithin (bound + greatest_step) self.new.progress }
-        ensures same { result ≡ false → (bound : ℕ) → 2 ^ 31 ≤ bound → IsWithin bound self.old.progress
+        ensures same { result ≡ false → (bound : ℕ) → MOST_FRAMES ≤ bound → IsWithin bound self.old.progress
             → IsWithin bound self.new.progress }
-        ensures next { (self.new.progress.next ≡ self.old.progress.next) ⊎ (self.new.progress.next < 2 ^ 31) }
+        ensures next { (self.new.progress.next ≡ self.old.progress.next) ⊎ (self.new.progress.next < MOST_FRAMES) }
         ensures left { result ≡ false → records_left self.new.progress ≤ records_left self.old.progress }
     {
         self.close();
@@ -233,11 +235,11 @@ impl<G: OpenGroup + Drop> Sequence<G> {
         ensures open { result ≡ true → self.new.progress.closing ≡ true
             → (self.old.progress.closing ≡ true) × (is_counted (G.rules self.old.group).frames packet.now ≡ false) }
         ensures rules { G.rules self.new.group ≡ G.rules self.old.group }
-        ensures near { (bound : ℕ) → 2 ^ 31 ≤ bound → IsWithin bound self.old.progress
+        ensures near { (bound : ℕ) → MOST_FRAMES ≤ bound → IsWithin bound self.old.progress
             → IsWithin (bound + greatest_step) self.new.progress }
-        ensures same { result ≡ false → (bound : ℕ) → 2 ^ 31 ≤ bound → IsWithin bound self.old.progress
+        ensures same { result ≡ false → (bound : ℕ) → MOST_FRAMES ≤ bound → IsWithin bound self.old.progress
             → IsWithin bound self.new.progress }
-        ensures next { (self.new.progress.next ≡ self.old.progress.next) ⊎ (self.new.progress.next < 2 ^ 31) }
+        ensures next { (self.new.progress.next ≡ self.old.progress.next) ⊎ (self.new.progress.next < MOST_FRAMES) }
         ensures left { result ≡ false → records_left self.new.progress ≤ records_left self.old.progress }
     {
         if !is_counted(self.group.frames(), packet) {

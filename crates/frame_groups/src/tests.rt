@@ -1,14 +1,18 @@
 // Expected numbers were counted by hand.
-ghost use Rattle.std.specs.Prelude.{◌≡◌, ◌<◌, true, false, None};
+ghost use Rattle.std.specs.Prelude.{◌≡◌, ◌<◌, nat_lt, length, if◌then◌else◌, true, false, Some, None, IfSome};
 ghost use Rattle.t2mi_packet.specs.T2miPacket.{Fits};
-ghost use Rattle.frame_groups.specs.Held.{IsHeld, held_rules};
+ghost use Rattle.frame_groups.specs.Grouping.{key_of};
+ghost use Rattle.frame_groups.specs.declared.cause.MuteCause.TheVariants.{PacketMissing};
 
 use crate::{
     Key, MuteCause, OpenGroup, Sequence, Waiting, due_law, front_law, goes_on, groups_law,
     is_counted, key_behind, next_law, next_number, numbers_law,
 };
 use bit_slice::BitSlice;
+use plp_config::Config;
+use sample_networks::small_network;
 use std::process::Abort;
+use std::test::Fail;
 use t2mi_packet::{Body, Packet, Stamp};
 
 const fn key(superframe: u8, frame: u8) -> Key {
@@ -98,19 +102,27 @@ fn superframe_idx_comes_again(rt: HostRuntime) {
     next_law();
 }
 
-// A group that knows its key, and whether it has more than one packet.
+// A group that knows its key, and whether it has more than one packet. Superframes have two frames, its timestamp names frame 30,
+// and a lone packet misses others.
 #[derive(Drop)]
-struct Held {
+struct Held<'c> {
+    network: &'c Config,
     key: Option<Key>,
     more: bool,
 }
 
-impl OpenGroup for Held {
-    ghost holds = { λ t past g. IsHeld t.key t.more g };
+impl<'c> OpenGroup for Held<'c> {
+    ghost holds = { λ t past g. (key_of g ≡ t.key)
+        × IfSome g (λ h. (t.more ≡ nat_lt 1 (length h.packets)) × (0 < length h.packets)) };
 
     ghost key_now = { λ t. t.key };
 
-    ghost rules = { λ t. held_rules };
+    ghost rules = { λ t. record {
+      network = t.network.now;
+      frames = 2;
+      named = λ g. Some 30;
+      fault = λ past g n. if nat_lt 1 (length g.packets) then None else Some PacketMissing;
+    } };
 
     ghost is_intact = { λ t. true };
 
@@ -151,7 +163,7 @@ impl OpenGroup for Held {
 }
 
 // Works off a packet, if no record waits.
-fn work(rt: &impl Abort, sequence: &mut Sequence<Held>, packet: &Packet<'_>) -> bool
+fn work(rt: &impl Abort, sequence: &mut Sequence<Held<'_>>, packet: &Packet<'_>) -> bool
     requires { Fits packet.now }
 {
     assert!(rt; sequence.progress.waiting().is_none());
@@ -162,7 +174,7 @@ fn work(rt: &impl Abort, sequence: &mut Sequence<Held>, packet: &Packet<'_>) -> 
 }
 
 // And no record waits behind it.
-fn add(rt: &impl Abort, sequence: &mut Sequence<Held>, packet: &Packet<'_>)
+fn add(rt: &impl Abort, sequence: &mut Sequence<Held<'_>>, packet: &Packet<'_>)
     requires { Fits packet.now }
 {
     assert!(rt; work(rt, sequence, packet));
@@ -170,7 +182,7 @@ fn add(rt: &impl Abort, sequence: &mut Sequence<Held>, packet: &Packet<'_>)
 }
 
 // The record that waits is given.
-fn give(sequence: &mut Sequence<Held>) -> Option<Waiting> {
+fn give(sequence: &mut Sequence<Held<'_>>) -> Option<Waiting> {
     let waiting = sequence.progress.waiting();
     if waiting.is_some() {
         sequence.gave();
@@ -183,12 +195,14 @@ fn record(frame: u64, mute: Option<MuteCause>) -> Option<Waiting> {
 }
 
 #[test]
-fn a_gap_over_the_end_of_a_superframe(rt: HostRuntime) {
+fn a_gap_over_the_end_of_a_superframe(rt: HostRuntime) -> Result<(), Fail> {
     groups_law();
     numbers_law();
     front_law();
     due_law();
+    let network = small_network(rt.alloc())?;
     let mut sequence = Sequence::new(Held {
+        network: &network,
         key: None,
         more: false,
     });
@@ -214,4 +228,5 @@ fn a_gap_over_the_end_of_a_superframe(rt: HostRuntime) {
         record(33, Some(MuteCause::PacketMissing))
     );
     assert_eq!(rt; give(&mut sequence), None);
+    Ok(())
 }

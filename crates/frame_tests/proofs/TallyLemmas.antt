@@ -8,7 +8,7 @@ use Rattle.std.proofs.lemmas.Bool.{and_parts, eqb-true, lt-ltb}
 use Rattle.std.proofs.lemmas.List.Elements.{filter_map-append, filter-append}
 use Rattle.std.proofs.lemmas.List.Folds.{list_all-append, find-append}
 use Rattle.std.proofs.lemmas.List.FromFn.{get_or-map-range_with_len}
-use Rattle.std.proofs.lemmas.List.Sums.{sum_by-cons}
+use Rattle.terms.proofs.RangeLemmas.{sums_same, alls_same}
 use Rattle.plp_config.specs.Capacity.{block_bytes}
 use Rattle.plp_config.specs.Emission.{emission}
 use Rattle.plp_config.specs.Places.{places}
@@ -110,29 +110,12 @@ tally_grows c packets p =
     (known_more c packets p)
 
 -- The tests by the tally.
-sums_same : (f g : ℕ → ℕ) (count : ℕ) → ((plp : ℕ) → plp < count → f plp ≡ g plp) → (a k : ℕ) → a + k ≤ count
-    → sum_by f (range_with_len a k) ≡ sum_by g (range_with_len a k)
-sums_same f g count h a zero l = refl
-sums_same f g count h a (suc k) l =
-    let x = sum_by-cons f a (range_with_len (a + 1) k) in
-    let y = sum_by-cons g a (range_with_len (a + 1) k) in
-    let one = h a (omega (arith, l)) in
-    let rest = sums_same f g count h (a + 1) k (omega (arith, l)) in
-    omega (arith, x, y, one, rest)
-
-alls_same : (f g : ℕ → Bool) (count : ℕ) → ((plp : ℕ) → plp < count → f plp ≡ g plp) → (a k : ℕ) → a + k ≤ count
-    → list_all f (range_with_len a k) ≡ list_all g (range_with_len a k)
-alls_same f g count h a zero l = refl
-alls_same f g count h a (suc k) l =
-    ap₂ (λ (x y : Bool). x && y) (h a (omega (arith, l))) (alls_same f g count h (a + 1) k (omega (arith, l)))
-
 pub need_is : (c : Config) (packets : List Packet) → pool_need c packets ≡ tally_need c (tally c packets)
 need_is c packets =
     let right : ℕ → ℕ = λ plp. length (right_blocks c plp packets) in
     sums_same (λ plp. right plp * chunks_for (block_bytes c plp))
-    (λ plp. slice_index (map right (places c)) plp * chunks_for (block_bytes c plp)) (length c.plps)
-    (λ plp inside. ap (λ (k : ℕ). k * chunks_for (block_bytes c plp)) (sym (at_place c right plp inside))) 0 (length c.plps)
-    (omega arith)
+    (λ plp. slice_index (map right (places c)) plp * chunks_for (block_bytes c plp)) 0 (length c.plps)
+    (λ plp low high. ap (λ (k : ℕ). k * chunks_for (block_bytes c plp)) (sym (at_place c right plp (omega (arith, high)))))
 
 room_is : (c : Config) (packets : List Packet) → room_test c packets ≡ tally_room c (tally c packets)
 unfolding room_test
@@ -202,10 +185,9 @@ counts_is c past n packets None = refl
 counts_is c past n packets (Some shape) =
     let blocks : ℕ → ℕ = λ plp. length (blocks_of c plp packets) in
     alls_same (λ plp. has_count c past n plp (blocks plp) (slice_index shape.counts plp))
-    (λ plp. has_count c past n plp (slice_index (map blocks (places c)) plp) (slice_index shape.counts plp)) (length c.plps)
-    (λ plp inside. ap (λ (k : ℕ). has_count c past n plp k (slice_index shape.counts plp))
-    (sym (at_place c blocks plp inside))) 0 (length c.plps)
-    (omega arith)
+    (λ plp. has_count c past n plp (slice_index (map blocks (places c)) plp) (slice_index shape.counts plp)) 0 (length c.plps)
+    (λ plp low high. ap (λ (k : ℕ). has_count c past n plp k (slice_index shape.counts plp))
+    (sym (at_place c blocks plp (omega (arith, high)))))
 
 blocks_is : (c : Config) (past : List Numbered) (n : ℕ) (packets : List Packet) → blocks_test c past n packets
     ≡ tally_blocks c past n (tally c packets)

@@ -13,6 +13,6 @@ pub fn map_passes(plan: &Plan, shape: &Shape) -> bool
     ensures { result ≡ map_passes plan.now shape.now }
 {
     map_test_law();
-    plan.obeys_rules();
+    plan.rules_law();
     check(plan, shape).is_ok()
 }

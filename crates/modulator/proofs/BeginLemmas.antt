@@ -5,7 +5,6 @@ use Rattle.std.specs.Prelude.{is_some, nat_lt, flat_map}
 use Rattle.std.proofs.lemmas.Bool.{ltb-true, eqb-true}
 use Rattle.terms.proofs.OptionLemmas.{some_injective, none_some}
 use Rattle.t2mi_packet.specs.declared.packet.Packet.{Packet}
-use Rattle.t2mi_stream.specs.declared.unpiper.Unpiper.{Unpiper}
 use Rattle.frame_groups.specs.Groups.{Group}
 use Rattle.frame_groups.specs.Modulated.{Numbered, Rules, FrameRecord}
 use Rattle.frame_groups.specs.Records.{record_of}
@@ -13,10 +12,16 @@ use Rattle.frame_groups.specs.Sequenced.{Sequenced}
 use Rattle.frame_groups.specs.Waits.{waiting_by, waiting_of}
 use Rattle.frame_groups.specs.declared.cause.MuteCause.{MuteCause}
 use Rattle.frame_groups.specs.declared.cause.MuteCause.TheVariants.{Gap}
-use Rattle.frame_groups.specs.declared.key.Key.{Key}
 use Rattle.frame_groups.specs.declared.waiting.Progress.{Progress}
 use Rattle.frame_groups.specs.declared.waiting.Waiting.{Waiting}
-use Rattle.modulator.specs.Modulating.{Stands}
+use Rattle.frame_tests.specs.Tests.{rules}
+use Rattle.open_group.specs.FrameBytes.{bytes_left}
+use Rattle.open_group.specs.Holds.{Holds}
+use Rattle.open_group.specs.Written.{spelled}
+use Rattle.plp_config.specs.declared.config.Config.{Config}
+use Rattle.modulator.specs.Modulating.{StandsAt, Course, course_of, HoldsOn}
+use Rattle.modulator.specs.declared.modulating.Modulating.{Modulating}
+use Rattle.modulator.proofs.StandsLemmas.{moved}
 use Rattle.modulator.specs.Gives.{Gives}
 
 -- the own record of a closed group
@@ -83,43 +88,32 @@ passes r past (Some k) at ps given h w (closed, a, f) e own none =
     ∙ own.fault ∙ none)
 
 -- what is begun of the record that waits
-pub begun_gives : (Old New : List Numbered → Option Group → Type 0) (key other : Option Key) (r s : Rules)
-    (spelled : FrameRecord → List ℕ)
-    (at : Progress) (left : List ℕ) (u : Unpiper) (finished : Bool) (pid : ℕ) (bytes : List ℕ) (given : List FrameRecord)
-    (taken : List ℕ)
-    → ((past : List Numbered) (g : Option Group) → Old past g → New past g) → other ≡ key → s ≡ r
-    → ((w : Waiting) (past : List Numbered) (h : Group) → waiting_of at ≡ Some w → Old past (Some h)
-    → (w.mute ≡ None → r.fault past h w.frame ≡ None)
-    → left ≡ spelled (record_of h w))
-    → Stands Old key r at u finished pid bytes given → taken ≡ flat_map spelled given
-    → Gives New other s spelled at left u finished pid bytes taken
-begun_gives Old New key other r s spelled at left u finished pid bytes given taken on same rules begun st e =
-    subst (λ (s : Rules). Gives New other s spelled at left u finished pid bytes taken) (sym rules)
-    (subst (λ (o : Option Key). Gives New o r spelled at left u finished pid bytes taken) (sym same)
-    (record {
+pub begun_gives : (old new : Modulating) (bytes : List ℕ) (given : List FrameRecord) (taken : List ℕ)
+    → course_of new ≡ course_of old → HoldsOn old new
+    → ((w : Waiting) (past : List Numbered) (h : Group) → waiting_of old.sequence.progress ≡ Some w
+    → Holds old.sequence.group past (Some h)
+    → (w.mute ≡ None → (rules old.sequence.group.network).fault past h w.frame ≡ None)
+    → bytes_left new.sequence.group ≡ spelled old.sequence.group.network (record_of h w))
+    → StandsAt old bytes given → taken ≡ flat_map (spelled old.sequence.group.network) given → Gives new bytes taken
+begun_gives old new bytes given taken same on begun h e =
+    let m = moved old new bytes given same on h in
+    let net : new.sequence.group.network ≡ old.sequence.group.network = ap (λ (k : Course). k.network) same in
+    let at : new.sequence.progress ≡ old.sequence.progress = ap (λ (k : Course). k.progress) same in
+    record {
       given = given;
-      stands =
-          record {
-            events = st.events;
-            stands = st.stands;
-            fed_is = st.fed_is;
-            few = st.few;
-            keeps = record {
-              past = st.keeps.past;
-              group = st.keeps.group;
-              holds = on st.keeps.past st.keeps.group st.keeps.holds;
-              sequenced = st.keeps.sequenced;
-            };
-            ahead = st.ahead;
-          };
+      stands = m.stands;
       took =
           record {
             part = [];
-            taken_is = e ∙ sym (append-nil (flat_map spelled given));
-            rest = λ w i h k.
-                sym (begun w st.keeps.past h i (subst (Old st.keeps.past) k st.keeps.holds)
-                (λ none. passes r st.keeps.past st.keeps.group at _ given h w st.keeps.sequenced k
-                ((waits_for at w i).own none) none));
+            taken_is = e ∙ ap (λ (c : Config). flat_map (spelled c) given) (sym net)
+                ∙ sym (append-nil (flat_map (spelled new.sequence.group.network) given));
+            rest = λ w i o k.
+                let j : waiting_of old.sequence.progress ≡ Some w = ap waiting_of (sym at) ∙ i in
+                let l : h.keeps.group ≡ Some o = sym m.same ∙ k in
+                ap (λ (c : Config). spelled c (record_of o w)) net
+                ∙ sym (begun w h.keeps.past o j (subst (Holds old.sequence.group h.keeps.past) l h.keeps.holds)
+                (λ none. passes (rules old.sequence.group.network) h.keeps.past h.keeps.group old.sequence.progress _ given o w
+                h.keeps.sequenced l ((waits_for old.sequence.progress w j).own none) none));
             idle = λ _. refl;
           };
-    }))
+    }

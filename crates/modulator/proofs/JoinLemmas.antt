@@ -6,9 +6,7 @@ use Rattle.std.specs.List.{range_with_len}
 use Rattle.std.proofs.lemmas.Bool.{true≢false, ltb-false, eqb-false}
 use Rattle.terms.proofs.OptionLemmas.{none_some, neither}
 use Rattle.t2mi_packet.specs.declared.packet.Packet.{Packet}
-use Rattle.t2mi_stream.specs.Events.{UnpiperEvent}
-use Rattle.t2mi_stream.specs.UnpiperStandsFor.{UnpiperStandsFor, is_ready, AllReleased}
-use Rattle.t2mi_stream.specs.declared.unpiper.Unpiper.{Unpiper}
+use Rattle.t2mi_stream.specs.UnpiperStandsFor.{is_ready}
 use Rattle.frame_groups.specs.Groups.{Group}
 use Rattle.frame_groups.specs.Modulated.{Numbered, Rules, FrameRecord, gap_record, group_record, number_behind, gaps_behind}
 use Rattle.frame_groups.specs.Modulated.{own_record, past_with, past_after, records_with, records_from}
@@ -16,12 +14,13 @@ use Rattle.frame_groups.specs.Laws.{ModulatedFront}
 use Rattle.frame_groups.specs.Due.{RecordsAreDue}
 use Rattle.frame_groups.specs.Records.{record_of}
 use Rattle.frame_groups.specs.Sequenced.{Follows, Sequenced, known_number}
-use Rattle.frame_groups.specs.Waits.{waits, waits_by}
+use Rattle.frame_groups.specs.Waits.{waits_by}
 use Rattle.frame_groups.specs.declared.cause.MuteCause.{MuteCause}
-use Rattle.frame_groups.specs.declared.key.Key.{Key}
-use Rattle.frame_groups.specs.declared.waiting.Progress.{Progress}
-use Rattle.modulator.specs.Modulating.{Stands, due_by}
-use Rattle.modulator.proofs.StandsLemmas.{HasKey, all_given, comes_next}
+use Rattle.frame_tests.specs.Tests.{rules}
+use Rattle.modulator.specs.Modulating.{StandsAt, IsSettled, has_record}
+use Rattle.modulator.specs.StandsFor.{records_due}
+use Rattle.modulator.specs.declared.modulating.Modulating.{Modulating}
+use Rattle.modulator.proofs.StandsLemmas.{IsIdle, all_given, comes_next}
 use Rattle.modulator.proofs.TookLemmas.{now_of}
 
 none_from : {X : Type 0} (o : Option X) → is_some o ≡ false → o ≡ None
@@ -106,32 +105,34 @@ given_none r past None number next closing fault ps given (a, o, b, c, d) none =
 given_none r past (Some h) None next closing fault ps given (closed, a, f) none = f.records.1
 given_none r past (Some h) (Some n) next closing fault ps given q none = absurd (true≢false none)
 
-module _ (laws : RecordsAreDue) (front : ModulatedFront) (Holds : List Numbered → Option Group → Type 0) (key : Option Key)
-    (r : Rules)
-    (at : Progress) (u : Unpiper) (finished : Bool) (pid : ℕ) (bytes : List ℕ) (given : List FrameRecord)
-    (has : HasKey Holds key) (none : is_ready u ≡ false → (pid : ℕ) (events : List UnpiperEvent) → UnpiperStandsFor u pid events
-    → AllReleased pid events)
-    (settled : waits at ≡ false → is_ready u ≡ false) (ended : finished ≡ true → waits at ≡ false → at.closing ≡ false
-    → is_some key ≡ false) (h : Stands Holds key r at u finished pid bytes given) where
-  idle : waits at ≡ false → due_by r finished pid bytes ≡ given
-  idle w = all_given laws Holds key r at u finished pid bytes given has (none (settled w)) (λ f c. ended f w c) w h
+module _ (laws : RecordsAreDue) (front : ModulatedFront) (m : Modulating) (bytes : List ℕ) (given : List FrameRecord)
+    (none : is_ready m.unpiper ≡ false → IsIdle m.unpiper) (settled : IsSettled m) (h : StandsAt m bytes given) where
+  idle : has_record m ≡ false → records_due m.sequence.group.network m.finished bytes ≡ given
+  idle w = all_given laws m bytes given (none (settled.done w)) settled w h
 
   -- the join was closed: records are due
-  pub joined_some : is_some at.number ≡ true → 0 < length (due_by r finished pid bytes)
-  joined_some some = go (waits at) refl
+  pub joined_some : is_some m.sequence.progress.number ≡ true
+      → 0 < length (records_due m.sequence.group.network m.finished bytes)
+  joined_some some = go (has_record m) refl
     where
-      go : (t : Bool) → waits at ≡ t → 0 < length (due_by r finished pid bytes)
+      go : (t : Bool) → has_record m ≡ t → 0 < length (records_due m.sequence.group.network m.finished bytes)
       go true w =
-          let now = now_of r h.keeps.past h.keeps.group at _ given h.keeps.sequenced w in
-          let next = comes_next laws front Holds key r at u finished pid bytes given now.waiting now.group has none now.is h
-          now.has in
+          let now =
+          now_of (rules m.sequence.group.network) h.keeps.past h.keeps.group m.sequence.progress _ given h.keeps.sequenced w in
+          let next = comes_next laws front m bytes given now.waiting now.group none now.is h now.has in
           subst (λ (l : List FrameRecord). 0 < length l) (sym next.1)
           (omega (arith, length-append given (record_of now.group now.waiting ∷ next.0)))
-      go false w = subst (λ (l : List FrameRecord). 0 < length l) (sym (idle w))
-          (given_some r h.keeps.past h.keeps.group at.number at.next at.closing at.fault _ given h.keeps.sequenced some w)
+      go false w =
+          let at = m.sequence.progress in
+          subst (λ (l : List FrameRecord). 0 < length l) (sym (idle w))
+          (given_some (rules m.sequence.group.network) h.keeps.past h.keeps.group at.number at.next at.closing at.fault _ given
+          h.keeps.sequenced some w)
 
   -- it was not: none are
-  pub joined_none : is_some at.number ≡ false → due_by r finished pid bytes ≡ []
+  pub joined_none : is_some m.sequence.progress.number ≡ false
+      → records_due m.sequence.group.network m.finished bytes ≡ []
   joined_none not_some =
+      let at = m.sequence.progress in
       idle (ap (λ (o : Option ℕ). waits_by o at.next at.closing at.fault) (none_from at.number not_some))
-      ∙ given_none r h.keeps.past h.keeps.group at.number at.next at.closing at.fault _ given h.keeps.sequenced not_some
+      ∙ given_none (rules m.sequence.group.network) h.keeps.past h.keeps.group at.number at.next at.closing at.fault _ given
+      h.keeps.sequenced not_some

@@ -1,12 +1,14 @@
 -- How much can be taken before bytes are wanted.
 use Rattle.std.proofs.Common.{◌≡◌, ℕ, suc, ◌+◌, ◌*◌, ◌≤◌, ◌<◌, Bool, true, false, cond, Option, Some, None, refl, ap, sym, arith}
+use Rattle.std.proofs.Common.{◌∙◌, ◌++◌, List, length, take, length-append}
+use Rattle.std.proofs.lemmas.List.{length-take-le}
 use Rattle.std.proofs.Math.Nat.{mul-le-mul_right, suc-mul}
 use Rattle.std.proofs.lemmas.Bool.{true≢false}
 use Rattle.t2mi_stream.specs.UnpiperStandsFor.{steps_left}
 use Rattle.t2mi_stream.specs.declared.unpiper.Unpiper.{Unpiper}
 use Rattle.frame_groups.specs.Waits.{records_by, records_left, most_records, most_number, IsWithin}
 use Rattle.frame_groups.specs.declared.waiting.Progress.{Progress}
-use Rattle.modulator.specs.Modulating.{records_ahead}
+use Rattle.modulator.specs.Modulating.{ahead_by}
 
 -- a group has no more records left than a group can have
 few_by : (number : Option ℕ) (next : ℕ) (closing : Bool) → ((n : ℕ) → number ≡ Some n → n ≤ most_number)
@@ -35,21 +37,27 @@ made_up a b k new old less few =
 
 -- a step less makes up for the records of the next group
 pub ahead_by_step : (u v : Unpiper) (at to : Progress) → steps_left v < steps_left u → IsWithin most_number to
-    → records_ahead v to ≤ records_ahead u at
-unfolding records_ahead
+    → ahead_by v to ≤ ahead_by u at
+unfolding ahead_by
 ahead_by_step u v at to less near = made_up (steps_left v) (steps_left u) most_records (records_left to) (records_left at) less
     (few_left to near)
 
 -- the unit is as it was, and of the group no more records are left
-pub ahead_by_group : (u : Unpiper) (at to : Progress) → records_left to ≤ records_left at → records_ahead u to
-    ≤ records_ahead u at
-unfolding records_ahead
+pub ahead_by_group : (u : Unpiper) (at to : Progress) → records_left to ≤ records_left at → ahead_by u to
+    ≤ ahead_by u at
+unfolding ahead_by
 ahead_by_group u at to few = on_le (steps_left u * most_records) (records_left to) (records_left at) few
 
 -- a record was given
-pub ahead_gave : (u : Unpiper) (at to : Progress) → records_left to < records_left at → records_ahead u to < records_ahead u at
-unfolding records_ahead
+pub ahead_gave : (u : Unpiper) (at to : Progress) → records_left to < records_left at → ahead_by u to < ahead_by u at
+unfolding ahead_by
 ahead_gave u at to few = on_lt (steps_left u * most_records) (records_left to) (records_left at) few
+
+-- how many bytes were left before some were taken
+pub taken_len : (old new out : List ℕ) (count : ℕ) → old ≡ take count out ++ new → count ≤ length out
+    → length old ≡ count + length new
+taken_len old new out count cut few =
+    ap length cut ∙ length-append (take count out) new ∙ ap (λ (n : ℕ). n + length new) (length-take-le count out few)
 
 -- bytes of the record that waits were taken, and some are left
 pub part_taken : (waits : Bool) (a j k new old : ℕ) → waits ≡ true → j ≡ k → new < old → a * j + cond waits new 0

@@ -1,10 +1,10 @@
 -- How many steps are left in a unit.
-use Rattle.std.proofs.Common.{◌≡◌, ◌⊎◌, ℕ, ◌+◌, ◌-◌, ◌*◌, ◌≤◌, ◌<◌, ◌^◌, Bool, true, false, cond, ap, ⊎_elim, arith}
+use Rattle.std.proofs.Common.{◌≡◌, ◌⊎◌, ℕ, ◌+◌, ◌-◌, ◌≤◌, ◌<◌, Bool, true, false, cond, ap, ⊎_elim, arith}
 use Rattle.ts_packet.specs.declared.sizes.TheConstants.{SIZE}
 use Rattle.t2mi_stream.specs.UnpiperStandsFor.{is_ready, unit_place, steps_left}
 use Rattle.t2mi_stream.specs.declared.unpiper.Unpiper.{Unpiper}
 use Rattle.frame_groups.specs.Waits.{greatest_step}
-use Rattle.modulator.specs.Modulating.{most_steps}
+use Rattle.modulator.specs.Modulating.{most_steps, near_number}
 
 few : (ready : Bool) → cond ready 1 0 ≤ 1
 few true = omega arith
@@ -28,6 +28,5 @@ fewer u v ready less inside =
     less
 
 -- the number of a group that began as a packet was given up
-pub risen : (m k n : ℕ) → k < m → m ≤ most_steps → n ≤ 2 ^ 31 + greatest_step * (most_steps + 1 - m) + greatest_step
-    → n ≤ 2 ^ 31 + greatest_step * (most_steps + 1 - k)
-risen m k n less top h = omega (arith, less, top, h)
+pub risen : (u v : Unpiper) (n : ℕ) → steps_left v < steps_left u → n ≤ near_number u + greatest_step → n ≤ near_number v
+risen u v n less h = let top = most u in omega (arith, less, top, h)

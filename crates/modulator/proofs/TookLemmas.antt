@@ -1,26 +1,35 @@
 -- Bytes of records that were taken.
-use Rattle.std.proofs.Common.{◌≡◌, ⊎_elim, inl, inr, ℕ, Bool, true, false, List, [], ◌∷◌, ◌++◌, Option, Some, None, refl, ap, sym}
-use Rattle.std.proofs.Common.{subst, ◌∙◌, arith, append_assoc, append-nil}
-use Rattle.std.specs.Prelude.{is_some, flat_map, IfNone}
+use Rattle.std.proofs.Common.{◌≡◌, ◌<◌, ◌≤◌, ℕ, Bool, true, false, List, [], ◌∷◌, ◌++◌, Option, Some, None, refl, ap, sym}
+use Rattle.std.proofs.Common.{length, take}
+use Rattle.std.proofs.Common.{◌∙◌, arith, append_assoc, append-nil}
+use Rattle.std.specs.Prelude.{is_some, flat_map, IfSome, IfNone}
 use Rattle.std.proofs.lemmas.Bool.{true≢false}
 use Rattle.std.proofs.lemmas.List.Concat.{flat_map-append}
+use Rattle.plp_config.specs.declared.config.Config.{Config}
 use Rattle.t2mi_packet.specs.declared.packet.Packet.{Packet}
+use Rattle.frame_groups.specs.Due.{ComesNext}
 use Rattle.frame_groups.specs.Groups.{Group}
 use Rattle.frame_groups.specs.Modulated.{Numbered, Rules, FrameRecord}
-use Rattle.frame_groups.specs.Laws.{IsPrefix, ModulatedFront}
-use Rattle.frame_groups.specs.Due.{RecordsAreDue}
+use Rattle.frame_groups.specs.Laws.{IsPrefix}
 use Rattle.frame_groups.specs.Records.{record_of}
 use Rattle.frame_groups.specs.Sequenced.{Keeps, Sequenced}
 use Rattle.frame_groups.specs.Waits.{waits, waits_by, waiting_of}
-use Rattle.frame_groups.specs.declared.key.Key.{Key}
 use Rattle.frame_groups.specs.declared.waiting.Progress.{Progress}
 use Rattle.frame_groups.specs.declared.waiting.Waiting.{Waiting}
-use Rattle.t2mi_stream.specs.Events.{UnpiperEvent, fed, released}
-use Rattle.t2mi_stream.specs.UnpiperStandsFor.{UnpiperStandsFor, is_ready, AllReleased}
-use Rattle.t2mi_stream.specs.declared.unpiper.Unpiper.{Unpiper}
-use Rattle.modulator.specs.Modulating.{Stands, due_by}
-use Rattle.modulator.specs.Gives.{Gives, spelled_due}
-use Rattle.modulator.proofs.StandsLemmas.{HasKey, comes_next}
+use Rattle.frame_tests.specs.Tests.{rules}
+use Rattle.open_group.specs.FrameBytes.{bytes_left}
+use Rattle.open_group.specs.Holds.{Holds}
+use Rattle.open_group.specs.Written.{spelled}
+use Rattle.t2mi_stream.specs.Events.{fed, released}
+use Rattle.t2mi_stream.specs.UnpiperStandsFor.{UnpiperStandsFor}
+use Rattle.modulator.specs.Gives.{Gives}
+use Rattle.modulator.specs.Modulating.{StandsAt, Course, course_of, HoldsOn, has_record}
+use Rattle.modulator.specs.StandsFor.{WaitsAs, TakesOf, records_due, bytes_due}
+use Rattle.modulator.specs.declared.modulating.Modulating.{Modulating}
+use Rattle.modulator.proofs.BeginLemmas.{waits_for}
+use Rattle.modulator.proofs.MuteLemmas.{mute_told}
+use Rattle.modulator.proofs.LeftLemmas.{taken_len}
+use Rattle.modulator.proofs.StandsLemmas.{moved, no_more, some_at}
 
 -- the record that waits, and its group
 pub record IsNow (g : Option Group) (at : Progress) : Type 0 where
@@ -41,117 +50,145 @@ now_of r past (Some h) at ps given q w =
     let s = some_of (waiting_of at) w in
     record { waiting = s.0; is = s.1; group = h; has = refl }
 
--- the group stands for what it stood for, and is the same
-pub record Moved (New : List Numbered → Option Group → Type 0) (other : Option Key) (s : Rules) (at : Progress) (u : Unpiper)
-    (finished : Bool)
-    (pid : ℕ) (bytes : List ℕ) (given : List FrameRecord) (group : Option Group) : Type 0 where
-  pub stands : Stands New other s at u finished pid bytes given
-  pub same : stands.keeps.group ≡ group
+-- A record that waits, and of which some bytes are left, is the next of those that are due behind those that were taken whole.
+abbrev pub waits_as : (m : Modulating) (bytes taken : List ℕ) (h : Gives m bytes taken) (w : Waiting)
+    → waiting_of m.sequence.progress ≡ Some w → (group : Group) → h.stands.keeps.group ≡ Some group
+    → 0 < length (bytes_left m.sequence.group)
+    → ComesNext (records_due m.sequence.group.network m.finished bytes) h.given (record_of group w)
+    → WaitsAs m.sequence.group.network m.finished bytes taken w
+waits_as m bytes taken h w is group has some next = record {
+  before = h.given;
+  next = record_of group w;
+  after = next.0;
+  all = next.1;
+  number = refl;
+  mute = mute_told group w.mute;
+  part = h.took.part;
+  rest = bytes_left m.sequence.group;
+  cut = h.took.rest w is group has;
+  some = some;
+  taken_is = h.took.taken_is;
+}
 
-pub moved : (Old New : List Numbered → Option Group → Type 0) (key other : Option Key) (r s : Rules) (at : Progress) (u : Unpiper)
-    (finished : Bool) (pid : ℕ) (bytes : List ℕ) (given : List FrameRecord)
-    → ((past : List Numbered) (g : Option Group) → Old past g → New past g) → other ≡ key → s ≡ r
-    → (st : Stands Old key r at u finished pid bytes given)
-    → Moved New other s at u finished pid bytes given st.keeps.group
-moved Old New key other r s at u finished pid bytes given on same rules st =
-    subst (λ (s : Rules). Moved New other s at u finished pid bytes given st.keeps.group) (sym rules)
-    (subst (λ (o : Option Key). Moved New o r at u finished pid bytes given st.keeps.group) (sym same)
-    (record {
-      stands =
-          record {
-            events = st.events;
-            stands = st.stands;
-            fed_is = st.fed_is;
-            few = st.few;
-            keeps = record {
-              past = st.keeps.past;
-              group = st.keeps.group;
-              holds = on st.keeps.past st.keeps.group st.keeps.holds;
-              sequenced = st.keeps.sequenced;
-            };
-            ahead = st.ahead;
-          };
-      same = refl;
-    }))
+-- a record that waits comes next of those that are due, as the object stands for them
+abbrev pub ComesAt : Modulating → Waiting → Type 0
+ComesAt m w = (bytes : List ℕ) (given : List FrameRecord) (group : Group) → (h : StandsAt m bytes given)
+    → h.keeps.group ≡ Some group
+    → ComesNext (records_due m.sequence.group.network m.finished bytes) given (record_of group w)
 
-module _ (Holds : List Numbered → Option Group → Type 0) (key : Option Key) (r : Rules) (spelled : FrameRecord → List ℕ)
-    (at : Progress)
-    (left more rest : List ℕ) (u : Unpiper) (finished : Bool) (pid : ℕ) (bytes taken : List ℕ)
-    (h : Gives Holds key r spelled at left u finished pid bytes taken) (w : waits at ≡ true) (cut : left ≡ more ++ rest) where
-  pub now : IsNow h.stands.keeps.group at
-  now = now_of r h.stands.keeps.past h.stands.keeps.group at _ h.given h.stands.keeps.sequenced w
+module _ (m : Modulating) (bytes taken : List ℕ) (h : Gives m bytes taken) (w : has_record m ≡ true) where
+  pub now : IsNow h.stands.keeps.group m.sequence.progress
+  now = now_of (rules m.sequence.group.network) h.stands.keeps.past h.stands.keeps.group m.sequence.progress _ h.given
+      h.stands.keeps.sequenced w
 
-  record_bytes : spelled (record_of now.group now.waiting) ≡ h.took.part ++ (more ++ rest)
-  record_bytes = h.took.rest now.waiting now.is now.group now.has ∙ ap (λ (l : List ℕ). h.took.part ++ l) cut
+  -- the record that waits is made of what was taken of it and of what is left
+  record_bytes : spelled m.sequence.group.network (record_of now.group now.waiting)
+      ≡ h.took.part ++ bytes_left m.sequence.group
+  record_bytes = h.took.rest now.waiting now.is now.group now.has
 
-  -- a part was taken, and the group stands for what it stood for
-  pub took_more : (New : List Numbered → Option Group → Type 0)
-      → ((past : List Numbered) (g : Option Group) → Holds past g → New past g)
-      → Gives New key r spelled at rest u finished pid bytes (taken ++ more)
-  took_more New on = record {
-    given = h.given;
-    stands =
-        record {
-          events = h.stands.events;
-          stands = h.stands.stands;
-          fed_is = h.stands.fed_is;
-          few = h.stands.few;
-          keeps = record {
-            past = h.stands.keeps.past;
-            group = h.stands.keeps.group;
-            holds = on h.stands.keeps.past h.stands.keeps.group h.stands.keeps.holds;
-            sequenced =
-                h.stands.keeps.sequenced;
-          };
-          ahead = h.stands.ahead;
-        };
-    took =
-        record {
-          part = h.took.part ++ more;
-          taken_is = ap (λ (l : List ℕ). l ++ more) h.took.taken_is ∙ append_assoc (flat_map spelled h.given) h.took.part more;
-          rest = λ w i o k. h.took.rest w i o k ∙ ap (λ (l : List ℕ). h.took.part ++ l) cut
-              ∙ sym (append_assoc h.took.part more rest);
-          idle = λ n. absurd (true≢false (sym w ∙ n));
-        };
+  -- it comes next of those that are due, if what waits does
+  pub now_next : (o : Option Waiting) → o ≡ waiting_of m.sequence.progress → IfSome o (ComesAt m)
+      → ComesNext (records_due m.sequence.group.network m.finished bytes) h.given (record_of now.group now.waiting)
+  now_next o is some =
+      some_at o now.waiting (ComesAt m) some (is ∙ now.is) bytes h.given now.group h.stands now.has
+
+  -- bytes that are taken of it do not go past its end
+  pub takes_of : (out rest : List ℕ) (count : ℕ) → bytes_left m.sequence.group ≡ take count out ++ rest
+      → count ≤ length out → 0 < length (bytes_left m.sequence.group)
+      → ComesNext (records_due m.sequence.group.network m.finished bytes) h.given (record_of now.group now.waiting)
+      → TakesOf m.sequence.group.network m.finished bytes taken m.sequence.progress.next count
+  takes_of out rest count cut few some next = record {
+    waiting = now.waiting;
+    waits = waits_as m bytes taken h now.waiting now.is now.group now.has some next;
+    number_is = (waits_for m.sequence.progress now.waiting now.is).frame;
+    within = let size = taken_len (bytes_left m.sequence.group) rest out count cut few in omega (arith, size);
   }
 
-  -- what was taken is a front of what is due
-  pub took_front : RecordsAreDue → ModulatedFront → HasKey Holds key
-      → (is_ready u ≡ false → (pid : ℕ) (events : List UnpiperEvent) → UnpiperStandsFor u pid events → AllReleased pid events)
-      → IsPrefix (taken ++ more) (spelled_due r spelled finished pid bytes)
+  -- what is taken of it is a front of what is due
+  pub took_front : (more rest : List ℕ) → bytes_left m.sequence.group ≡ more ++ rest
+      → ComesNext (records_due m.sequence.group.network m.finished bytes) h.given (record_of now.group now.waiting)
+      → IsPrefix (taken ++ more) (bytes_due m.sequence.group.network m.finished bytes)
   unfolding record_bytes
-  took_front laws front has none =
-      let n = comes_next laws front Holds key r at u finished pid bytes h.given now.waiting now.group has none now.is h.stands
-      now.has in (
-        rest ++ flat_map spelled n.0,
-        ap (flat_map spelled) n.1 ∙ flat_map-append spelled h.given (record_of now.group now.waiting ∷ n.0)
-            ∙ ap (λ (l : List ℕ). flat_map spelled h.given ++ (l ++ flat_map spelled n.0)) record_bytes
-            ∙ ap (λ (l : List ℕ). flat_map spelled h.given ++ l) (append_assoc h.took.part (more ++ rest) (flat_map spelled n.0)
-            ∙ ap (λ (l : List ℕ). h.took.part ++ l) (append_assoc more rest (flat_map spelled n.0)))
-            ∙ sym (append_assoc (flat_map spelled h.given) h.took.part (more ++ (rest ++ flat_map spelled n.0)))
-            ∙ sym (append_assoc (flat_map spelled h.given ++ h.took.part) more (rest ++ flat_map spelled n.0))
-            ∙ ap (λ (l : List ℕ). (l ++ more) ++ (rest ++ flat_map spelled n.0)) (sym h.took.taken_is),
+  took_front more rest cut n =
+      let spell = spelled m.sequence.group.network in
+      let all = record_bytes ∙ ap (λ (l : List ℕ). h.took.part ++ l) cut in (
+        rest ++ flat_map spell n.0,
+        ap (flat_map spell) n.1 ∙ flat_map-append spell h.given (record_of now.group now.waiting ∷ n.0)
+            ∙ ap (λ (l : List ℕ). flat_map spell h.given ++ (l ++ flat_map spell n.0)) all
+            ∙ ap (λ (l : List ℕ). flat_map spell h.given ++ l) (append_assoc h.took.part (more ++ rest) (flat_map spell n.0)
+            ∙ ap (λ (l : List ℕ). h.took.part ++ l) (append_assoc more rest (flat_map spell n.0)))
+            ∙ sym (append_assoc (flat_map spell h.given) h.took.part (more ++ (rest ++ flat_map spell n.0)))
+            ∙ sym (append_assoc (flat_map spell h.given ++ h.took.part) more (rest ++ flat_map spell n.0))
+            ∙ ap (λ (l : List ℕ). (l ++ more) ++ (rest ++ flat_map spell n.0)) (sym h.took.taken_is),
       )
 
-  -- the record was taken whole
-  pub whole_given : rest ≡ [] → taken ++ more ≡ flat_map spelled (h.given ++ record_of now.group now.waiting ∷ [])
+  -- it was taken whole
+  pub whole_given : (more : List ℕ) → bytes_left m.sequence.group ≡ more
+      → taken ++ more ≡ flat_map (spelled m.sequence.group.network) (h.given ++ record_of now.group now.waiting ∷ [])
   unfolding record_bytes
-  whole_given none =
-      ap (λ (l : List ℕ). l ++ more) h.took.taken_is ∙ append_assoc (flat_map spelled h.given) h.took.part more
-      ∙ ap (λ (l : List ℕ). flat_map spelled h.given ++ l)
-      (ap (λ (l : List ℕ). h.took.part ++ l) (sym (append-nil more) ∙ ap (λ (l : List ℕ). more ++ l) (sym none))
-      ∙ sym record_bytes ∙ sym (append-nil (spelled (record_of now.group now.waiting))))
-      ∙ sym (flat_map-append spelled h.given (record_of now.group now.waiting ∷ []))
+  whole_given more cut =
+      let spell = spelled m.sequence.group.network in
+      ap (λ (l : List ℕ). l ++ more) h.took.taken_is ∙ append_assoc (flat_map spell h.given) h.took.part more
+      ∙ ap (λ (l : List ℕ). flat_map spell h.given ++ l)
+      (ap (λ (l : List ℕ). h.took.part ++ l) (sym cut) ∙ sym record_bytes
+      ∙ sym (append-nil (spell (record_of now.group now.waiting))))
+      ∙ sym (flat_map-append spell h.given (record_of now.group now.waiting ∷ []))
 
--- no record waits, so all that is due was taken
-pub all_taken : (Holds : List Numbered → Option Group → Type 0) (key : Option Key) (r : Rules) (spelled : FrameRecord → List ℕ)
-    (at : Progress)
-    (left : List ℕ) (u : Unpiper) (finished ended : Bool) (pid : ℕ) (bytes front taken : List ℕ)
-    → (h : Gives Holds key r spelled at left u finished pid bytes taken) → waits at ≡ false → due_by r ended pid front ≡ h.given
-    → spelled_due r spelled ended pid front ≡ taken
-all_taken Holds key r spelled at left u finished ended pid bytes front taken h w e =
-    ap (flat_map spelled) e ∙ sym (h.took.taken_is ∙ ap (λ (l : List ℕ). flat_map spelled h.given ++ l) (h.took.idle w)
-    ∙ append-nil (flat_map spelled h.given))
+-- a part of the record that waits was taken, and the group stands for what it stood for
+pub took_more : (old new : Modulating) (more bytes taken : List ℕ) → course_of new ≡ course_of old → HoldsOn old new
+    → bytes_left old.sequence.group ≡ more ++ bytes_left new.sequence.group → has_record old ≡ true
+    → Gives old bytes taken → Gives new bytes (taken ++ more)
+took_more old new more bytes taken same on cut w h =
+    let m = moved old new bytes h.given same on h.stands in
+    let net : new.sequence.group.network ≡ old.sequence.group.network = ap (λ (k : Course). k.network) same in
+    let at : new.sequence.progress ≡ old.sequence.progress = ap (λ (k : Course). k.progress) same in
+    record {
+      given = h.given;
+      stands = m.stands;
+      took =
+          record {
+            part = h.took.part ++ more;
+            taken_is = ap (λ (l : List ℕ). l ++ more) h.took.taken_is
+                ∙ append_assoc (flat_map (spelled old.sequence.group.network) h.given) h.took.part more
+                ∙ ap (λ (c : Config). flat_map (spelled c) h.given ++ (h.took.part ++ more)) (sym net);
+            rest = λ w i o k.
+                ap (λ (c : Config). spelled c (record_of o w)) net
+                ∙ h.took.rest w (ap waiting_of (sym at) ∙ i) o (sym m.same ∙ k)
+                ∙ ap (λ (l : List ℕ). h.took.part ++ l) cut
+                ∙ sym (append_assoc h.took.part more (bytes_left new.sequence.group));
+            idle = λ n. absurd (true≢false (sym w ∙ ap waits (sym at) ∙ n));
+          };
+    }
+
+-- the record that waits was taken whole, and the next one is begun
+pub took_whole : (old mid next new : Modulating) (more bytes taken : List ℕ)
+    → ((bytes : List ℕ) (given : List FrameRecord) (w : Waiting) (group : Group) → waiting_of mid.sequence.progress ≡ Some w
+    → (h : StandsAt mid bytes given) → h.keeps.group ≡ Some group → StandsAt next bytes (given ++ record_of group w ∷ []))
+    → ((bytes : List ℕ) (given : List FrameRecord) (taken : List ℕ) → StandsAt next bytes given
+    → taken ≡ flat_map (spelled next.sequence.group.network) given → Gives new bytes taken)
+    → course_of mid ≡ course_of old → HoldsOn old mid → next.sequence.group.network ≡ mid.sequence.group.network
+    → bytes_left old.sequence.group ≡ more → has_record old ≡ true → Gives old bytes taken → Gives new bytes (taken ++ more)
+took_whole old mid next new more bytes taken gave begun same on kept cut w h =
+    let n = now old bytes taken h w in
+    let m = moved old mid bytes h.given same on h.stands in
+    let given = h.given ++ record_of n.group n.waiting ∷ [] in
+    let net : next.sequence.group.network ≡ old.sequence.group.network = kept ∙ ap (λ (k : Course). k.network) same in
+    begun bytes given (taken ++ more)
+    (gave bytes h.given n.waiting n.group (ap (λ (k : Course). waiting_of k.progress) same ∙ n.is) m.stands (m.same ∙ n.has))
+    (whole_given old bytes taken h w more cut ∙ ap (λ (c : Config). flat_map (spelled c) given) (sym net))
+
+-- no record waits, so what was given was taken whole
+pub given_whole : (m : Modulating) (bytes taken : List ℕ) (h : Gives m bytes taken) → has_record m ≡ false
+    → taken ≡ flat_map (spelled m.sequence.group.network) h.given
+given_whole m bytes taken h w =
+    let given = flat_map (spelled m.sequence.group.network) h.given in
+    h.took.taken_is ∙ ap (λ (l : List ℕ). given ++ l) (h.took.idle w) ∙ append-nil given
+
+-- and all that is due was taken
+pub all_taken : (m : Modulating) (ended : Bool) (bytes front taken : List ℕ) (h : Gives m bytes taken) → has_record m ≡ false
+    → records_due m.sequence.group.network ended front ≡ h.given → bytes_due m.sequence.group.network ended front ≡ taken
+all_taken m ended bytes front taken h w e =
+    ap (flat_map (spelled m.sequence.group.network)) e ∙ sym (given_whole m bytes taken h w)
 
 pub none_at : {X : Type 0} (o : Option X) (P : Type 0) → IfNone o P → is_some o ≡ false → P
 none_at None P h e = h
@@ -161,13 +198,11 @@ pub nothing_more : (taken due : List ℕ) → due ≡ taken → IsPrefix (taken 
 nothing_more taken due e = ([], e ∙ sym (append-nil taken) ∙ sym (append-nil (taken ++ [])))
 
 -- nothing was fed
-pub opened : (Holds : List Numbered → Option Group → Type 0) (key : Option Key) (r : Rules) (spelled : FrameRecord → List ℕ)
-    (at : Progress)
-    (left : List ℕ) (u : Unpiper) (pid : ℕ)
-    → UnpiperStandsFor u pid [] → waits at ≡ false → at.closing ≡ false → Keeps Holds r at [] []
-    → Gives Holds key r spelled at left u false pid [] []
+pub opened : (m : Modulating) → m.finished ≡ false → m.sequence.progress.closing ≡ false → has_record m ≡ false
+    → UnpiperStandsFor m.unpiper m.sequence.group.network.pid []
+    → Keeps (Holds m.sequence.group) (rules m.sequence.group.network) m.sequence.progress [] [] → Gives m [] []
 unfolding fed released
-opened Holds key r spelled at left u pid stands w shut k = record {
+opened m more shut w stands k = record {
   given = [];
   stands =
       record {
@@ -181,29 +216,18 @@ opened Holds key r spelled at left u pid stands w shut k = record {
   took = record { part = []; taken_is = refl; rest = λ v i h g. absurd (true≢false (sym (ap is_some i) ∙ w)); idle = λ _. refl };
 }
 
--- no record waits, so what was given was taken whole
-pub given_whole : (Holds : List Numbered → Option Group → Type 0) (key : Option Key) (r : Rules) (spelled : FrameRecord → List ℕ)
-    (at : Progress)
-    (left : List ℕ) (u : Unpiper) (finished : Bool) (pid : ℕ) (bytes taken : List ℕ)
-    → (h : Gives Holds key r spelled at left u finished pid bytes taken) → waits at ≡ false → taken ≡ flat_map spelled h.given
-given_whole Holds key r spelled at left u finished pid bytes taken h w =
-    h.took.taken_is ∙ ap (λ (l : List ℕ). flat_map spelled h.given ++ l) (h.took.idle w) ∙ append-nil (flat_map spelled h.given)
-
 -- no more bytes come, and the record that waits still does
-pub took_still : (Holds : List Numbered → Option Group → Type 0) (key : Option Key) (r : Rules) (spelled : FrameRecord → List ℕ)
-    (at : Progress)
-    (left : List ℕ) (u : Unpiper) (pid : ℕ) (bytes taken : List ℕ)
-    → Gives Holds key r spelled at left u false pid bytes taken → Gives Holds key r spelled at left u true pid bytes taken
-took_still Holds key r spelled at left u pid bytes taken h = record {
-  given = h.given;
-  stands =
-      record {
-        events = h.stands.events;
-        stands = h.stands.stands;
-        fed_is = h.stands.fed_is;
-        few = h.stands.few;
-        keeps = h.stands.keeps;
-        ahead = λ c. ⊎_elim (λ x. inl x) (λ x. inr (refl, x.1)) (h.stands.ahead c);
+pub took_still : (m : Modulating) (bytes taken : List ℕ) → m.finished ≡ false → Gives m bytes taken
+    → Gives (record m { finished = true }) bytes taken
+took_still m bytes taken more h =
+    let s = no_more m bytes h.given more h.stands in
+    record {
+      given = h.given;
+      stands = s.stands;
+      took = record {
+        part = h.took.part;
+        taken_is = h.took.taken_is;
+        rest = λ w i o k. h.took.rest w i o (sym s.same ∙ k);
+        idle = h.took.idle;
       };
-  took = h.took;
-}
+    }

@@ -1,30 +1,25 @@
 -- Which bytes of the records were taken.
-use Rattle.std.specs.Prelude.{◌≡◌, ℕ, Bool, false, List, [], ◌++◌, Option, Some, flat_map}
-use Rattle.t2mi_stream.specs.declared.unpiper.Unpiper.{Unpiper}
+use Rattle.std.specs.Prelude.{◌≡◌, ℕ, false, List, [], ◌++◌, Option, Some, flat_map}
 use Rattle.frame_groups.specs.Groups.{Group}
-use Rattle.frame_groups.specs.Modulated.{Numbered, Rules, FrameRecord}
+use Rattle.frame_groups.specs.Modulated.{FrameRecord}
 use Rattle.frame_groups.specs.Records.{record_of}
-use Rattle.frame_groups.specs.Waits.{waits, waiting_of}
-use Rattle.frame_groups.specs.declared.key.Key.{Key}
-use Rattle.frame_groups.specs.declared.waiting.Progress.{Progress}
+use Rattle.frame_groups.specs.Waits.{waiting_of}
 use Rattle.frame_groups.specs.declared.waiting.Waiting.{Waiting}
-use Rattle.modulator.specs.Modulating.{Stands, due_by}
+use Rattle.open_group.specs.FrameBytes.{bytes_left}
+use Rattle.open_group.specs.Written.{spelled}
+use Rattle.modulator.specs.Modulating.{StandsAt, has_record}
+use Rattle.modulator.specs.declared.modulating.Modulating.{Modulating}
 
--- The records given were taken, and a part of the one that waits, of which some bytes are left.
-pub record Took (spelled : FrameRecord → List ℕ) (g : Option Group) (at : Progress) (left : List ℕ) (given : List FrameRecord)
-    (taken : List ℕ) : Type 0 where
+-- The records given were taken, and a part of the one that waits, of this group; the rest of it is left.
+pub record Took (m : Modulating) (g : Option Group) (given : List FrameRecord) (taken : List ℕ) : Type 0 where
   pub part : List ℕ
-  pub taken_is : taken ≡ flat_map spelled given ++ part
-  pub rest : (w : Waiting) → waiting_of at ≡ Some w → (h : Group) → g ≡ Some h → spelled (record_of h w) ≡ part ++ left
-  pub idle : waits at ≡ false → part ≡ []
+  pub taken_is : taken ≡ flat_map (spelled m.sequence.group.network) given ++ part
+  pub rest : (w : Waiting) → waiting_of m.sequence.progress ≡ Some w → (h : Group) → g ≡ Some h
+      → spelled m.sequence.group.network (record_of h w) ≡ part ++ bytes_left m.sequence.group
+  pub idle : has_record m ≡ false → part ≡ []
 
 -- Bytes were fed, and bytes of records were taken.
-pub record Gives (Holds : List Numbered → Option Group → Type 0) (key : Option Key) (r : Rules) (spelled : FrameRecord → List ℕ)
-    (at : Progress) (left : List ℕ) (u : Unpiper) (finished : Bool) (pid : ℕ) (bytes taken : List ℕ) : Type 0 where
+pub record Gives (m : Modulating) (bytes taken : List ℕ) : Type 0 where
   pub given : List FrameRecord
-  pub stands : Stands Holds key r at u finished pid bytes given
-  pub took : Took spelled stands.keeps.group at left given taken
-
--- the bytes of the records that are due
-abbrev pub spelled_due : Rules → (FrameRecord → List ℕ) → Bool → ℕ → List ℕ → List ℕ
-spelled_due r spelled finished pid bytes = flat_map spelled (due_by r finished pid bytes)
+  pub stands : StandsAt m bytes given
+  pub took : Took m stands.keeps.group given taken

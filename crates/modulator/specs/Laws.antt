@@ -5,7 +5,7 @@ use Rattle.plp_config.specs.Capacity.{IsPlan}
 use Rattle.plp_config.specs.declared.config.Config.{Config}
 use Rattle.frame_groups.specs.Laws.{AreFrom, IsPrefix}
 use Rattle.frame_groups.specs.Modulated.{FrameRecord, past_after}
-use Rattle.frame_records.specs.Frames.{HasByteIds}
+use Rattle.record_laws.specs.Frames.{HasByteIds}
 use Rattle.site_frame.specs.Whole.{Spells}
 use Rattle.open_group.specs.Written.{content_view, spelled}
 use Rattle.modulator.specs.StandsFor.{records_due}

@@ -7,15 +7,13 @@ use Rattle.t2mi_stream.specs.UnpiperStandsFor.{fed_len}
 use Rattle.frame_groups.specs.Due.{due}
 use Rattle.frame_groups.specs.Modulated.{Content, FrameRecord}
 use Rattle.frame_groups.specs.Modulated.Content.{Whole, Muted}
-use Rattle.frame_groups.specs.Waits.{waits}
 use Rattle.frame_groups.specs.declared.cause.MuteCause.{MuteCause}
 use Rattle.frame_groups.specs.declared.waiting.Waiting.{Waiting}
 use Rattle.frame_tests.specs.Tests.{rules}
-use Rattle.open_group.specs.Given.{bytes_left, most_left}
-use Rattle.open_group.specs.Holds.{Holds}
+use Rattle.open_group.specs.FrameBytes.{bytes_left, most_left}
 use Rattle.open_group.specs.Written.{spelled}
 use Rattle.modulator.specs.Gives.{Gives}
-use Rattle.modulator.specs.Modulating.{packets_of, records_ahead}
+use Rattle.modulator.specs.Modulating.{packets_of, has_record, records_ahead}
 use Rattle.modulator.specs.declared.modulator.Modulator.{Modulator}
 
 -- the records that are due by the bytes of a stream: all but the last one, and at the end all
@@ -41,7 +39,7 @@ next_of m = m.inner.sequence.progress.next
 
 -- A record waits.
 abbrev pub is_waiting : Modulator → Bool
-is_waiting m = waits m.inner.sequence.progress
+is_waiting m = has_record m.inner
 
 -- how many bytes are left of the record that waits
 abbrev pub waiting_len : Modulator → ℕ
@@ -49,15 +47,11 @@ waiting_len m = if is_waiting m then length (bytes_left m.inner.sequence.group) 
 
 -- how often bytes can be taken from it at most before it wants bytes
 unfoldable pub left_of : Modulator → ℕ
-left_of m = records_ahead m.inner.unpiper m.inner.sequence.progress * most_left (config_of m) + waiting_len m
+left_of m = records_ahead m.inner * most_left (config_of m) + waiting_len m
 
 -- These bytes were fed, and these bytes of the records were taken.
 unfoldable pub ModulatorStandsFor : Modulator → List ℕ → List ℕ → Type 0
-ModulatorStandsFor m bytes taken =
-    Gives (Holds m.inner.sequence.group) m.inner.sequence.group.key (rules m.inner.sequence.group.network)
-    (spelled m.inner.sequence.group.network)
-    m.inner.sequence.progress (bytes_left m.inner.sequence.group) m.inner.unpiper m.inner.finished
-    m.inner.sequence.group.network.pid bytes taken
+ModulatorStandsFor m bytes taken = Gives m.inner bytes taken
 
 -- why a record is muted, if it is
 abbrev pub mute_of : Content → Option MuteCause

@@ -1,12 +1,11 @@
 // Bytes in, bytes of records out.
 ghost use Rattle.std.specs.Prelude.{◌≡◌, ◌<◌, length, true};
-ghost use Rattle.frame_groups.specs.Waits.{waits};
-ghost use Rattle.open_group.specs.Given.{bytes_left};
+ghost use Rattle.open_group.specs.FrameBytes.{bytes_left};
+ghost use Rattle.modulator.specs.Modulating.{IsSettled, has_record};
 
-use crate::begin::begin_next;
 use crate::modulating::Modulating;
 use bit_slice::OutOfMemory;
-use frame_groups::{OpenGroup, Sequence, Waiting, due_law, front_law};
+use frame_groups::{Sequence, Waiting};
 use open_group::PooledGroup;
 use plp_config::Plan;
 use std::alloc::Global;
@@ -16,15 +15,17 @@ use t2mi_stream::Unpiper;
 /// that waits, until none does. All its memory is taken in `open`.
 #[derive(Drop)]
 pub struct Modulator<'p> {
-    inner: Modulating<PooledGroup<'p>>,
+    inner: Modulating<'p>,
+    ghost settled: { IsSettled inner },
     // Of the record that waits some bytes are left.
-    ghost some: { waits inner.sequence.progress ≡ true → 0 < length (bytes_left inner.sequence.group) },
+    ghost some: { has_record inner ≡ true → 0 < length (bytes_left inner.sequence.group) },
 }
 
 impl<'p> Modulator<'p> {
     ghost use Rattle.std.specs.Prelude.{◌≡◌, ◌<◌, ◌≤◌, ◌+◌, ◌⊎◌, ◌↔◌, ◌^◌, ◌++◌, ℕ, List, [], IfOk, IfSome, IfNone, length, take};
     ghost use Rattle.std.specs.Prelude.{drop, true, false};
     ghost use Rattle.frame_groups.specs.Laws.{IsPrefix};
+    ghost use Rattle.plp_config.specs.declared.moment.TheConstants.{MOST_FRAMES};
     ghost use Rattle.modulator.specs.StandsFor.{ModulatorStandsFor, WaitsAs, TakesOf, records_due, bytes_due, config_of};
     ghost use Rattle.modulator.specs.StandsFor.{is_finished, fed_of, next_of, is_waiting, left_of};
 
@@ -50,7 +51,7 @@ impl<'p> Modulator<'p> {
     /// Takes bytes until a record waits or the piece ends, and answers how many. No record with a number of 2^31 or more has
     /// waited, and with the piece fewer than 2^60 bytes were fed in all.
     pub fn feed(&mut self, piece: &[u8]) -> usize
-        requires early { next_of self.old ≤ 2 ^ 31 }
+        requires early { next_of self.old ≤ MOST_FRAMES }
         requires open { is_finished self.old ≡ false }
         requires room { fed_of self.old + length piece.now < 2 ^ 60 }
         ensures stands { (bytes taken : List ℕ) → ModulatorStandsFor self.old bytes taken
@@ -62,7 +63,7 @@ impl<'p> Modulator<'p> {
         ensures none { (result ≡ 0) ↔ ((is_waiting self.old ≡ true) ⊎ (length piece.now ≡ 0)) }
         // It stops before the piece ends only if a record waits.
         ensures stops { result < length piece.now → is_waiting self.new ≡ true }
-        ensures next { (next_of self.new ≡ next_of self.old) ⊎ (next_of self.new < 2 ^ 31) }
+        ensures next { (next_of self.new ≡ next_of self.old) ⊎ (next_of self.new < MOST_FRAMES) }
         ensures fed { fed_of self.new ≡ fed_of self.old + result }
         ensures finished { is_finished self.new ≡ false }
         ensures config { config_of self.new ≡ config_of self.old }
@@ -72,7 +73,7 @@ impl<'p> Modulator<'p> {
         }
         let inner = &mut self.inner;
         let count = inner.feed(piece);
-        begin_next(inner);
+        inner.begin_next();
         count
     }
 
@@ -82,7 +83,7 @@ impl<'p> Modulator<'p> {
         ensures stands { (bytes taken : List ℕ) → ModulatorStandsFor self.old bytes taken
             → ModulatorStandsFor self.new bytes taken }
         ensures finished { is_finished self.new ≡ true }
-        ensures next { (next_of self.new ≡ next_of self.old) ⊎ (next_of self.new < 2 ^ 31) }
+        ensures next { (next_of self.new ≡ next_of self.old) ⊎ (next_of self.new < MOST_FRAMES) }
         ensures fed { fed_of self.new ≡ fed_of self.old }
         ensures config { config_of self.new ≡ config_of self.old }
     {
@@ -92,7 +93,7 @@ impl<'p> Modulator<'p> {
             return;
         }
         inner.finish();
-        begin_next(inner);
+        inner.begin_next();
     }
 
     /// The record that waits: the number of its frame, and why it is muted if it is.
@@ -133,24 +134,20 @@ impl<'p> Modulator<'p> {
         // So a loop that takes until it gives none ends.
         ensures left { 0 < result → left_of self.new < left_of self.old }
         ensures next { (next_of self.new ≡ next_of self.old)
-            ⊎ ((next_of self.new ≡ next_of self.old + 1) ⊎ (next_of self.new < 2 ^ 31)) }
+            ⊎ ((next_of self.new ≡ next_of self.old + 1) ⊎ (next_of self.new < MOST_FRAMES)) }
         ensures finished { is_finished self.new ≡ is_finished self.old }
         ensures fed { fed_of self.new ≡ fed_of self.old }
         ensures config { config_of self.new ≡ config_of self.old }
     {
-        due_law();
-        front_law();
         if self.inner.waiting().is_none() {
             return 0;
         }
         let inner = &mut self.inner;
-        let _ready = inner.unpiper.is_ready();
         let sequence = &mut inner.sequence;
-        let _key = sequence.group.key();
         let count = sequence.group.take(out);
         if sequence.group.is_taken() {
             inner.gave();
-            begin_next(inner);
+            inner.begin_next();
         }
         count
     }

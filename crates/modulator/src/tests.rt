@@ -1,6 +1,7 @@
 // The stream comes from an independent encoder. Expected bytes were spelled by hand from the tables of records, but for L1-post,
 // which is from a Python program over the tables of EN 302 755.
-ghost use Rattle.std.specs.Prelude.{◌≡◌, ◌<◌, ◌≤◌, ◌^◌, IfSome};
+ghost use Rattle.std.specs.Prelude.{◌≡◌, ◌<◌, ◌≤◌, IfSome};
+ghost use Rattle.plp_config.specs.declared.moment.TheConstants.{MOST_FRAMES};
 ghost use Rattle.modulator.specs.StandsFor.{fed_of, is_finished, next_of};
 
 mod frames;
@@ -74,7 +75,7 @@ impl<'p> Model for Run<'p> {
     ghost view = { λ _. tt };
 
     ghost invariant = { λ run. (fed_of run.modulator ≡ run.fed) × (is_finished run.modulator ≡ run.finished)
-        × (next_of run.modulator ≤ 2 ^ 31) };
+        × (next_of run.modulator ≤ MOST_FRAMES) };
 }
 
 // The record that waits in a modulator.

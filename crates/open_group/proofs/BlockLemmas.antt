@@ -10,6 +10,7 @@ use Rattle.std.proofs.lemmas.List.Elements.{filter_map-append, filter-append}
 use Rattle.std.proofs.lemmas.List.Folds.{list_any_at, list_any_none}
 use Rattle.std.proofs.lemmas.List.FromFn.{length-range_with_len, get_or-range_with_len}
 use Rattle.std.proofs.lemmas.List.Sums.{sum_by-cons}
+use Rattle.terms.proofs.RangeLemmas.{sums_same}
 use Rattle.frame_tests.proofs.TallyLemmas.{at_place}
 use Rattle.linked_pool.specs.Pool.{State, list_at, chunks_for, appended}
 use Rattle.plp_config.specs.Capacity.{block_bytes}
@@ -22,21 +23,11 @@ use Rattle.t2mi_packet.specs.declared.packet.Packet.{Packet}
 use Rattle.frame_tests.specs.Carried.{body_block, has_length, blocks_of, right_blocks}
 use Rattle.frame_tests.specs.Tally.{Tally, tally_with, tally_need}
 use Rattle.frame_tests.specs.Tests.{body_known, is_known, greatest, capped}
-use Rattle.open_group.specs.HoldsBlocks.{HoldsCounts, HoldsLists}
+use Rattle.open_group.specs.HoldsBlocks.{HoldsCounts, HoldsLists, Held, held_of}
 use Rattle.open_group.specs.Sent.{sent_bytes}
 use Rattle.open_group.specs.declared.blocks.HeldBlocks.{HeldBlocks}
 
--- sums over places
-sums_same : (f g : ℕ → ℕ) (a n : ℕ) → ((j : ℕ) → a ≤ j → j < a + n → g j ≡ f j) → sum_by g (range_with_len a n)
-    ≡ sum_by f (range_with_len a n)
-sums_same f g a zero h = refl
-sums_same f g a (suc n) h =
-    let x = sum_by-cons f a (range_with_len (a + 1) n) in
-    let y = sum_by-cons g a (range_with_len (a + 1) n) in
-    let one = h a (omega arith) (omega arith) in
-    let rest = sums_same f g (a + 1) n (λ j low high. h j (omega arith) (omega arith)) in
-    omega (arith, x, y, one, rest)
-
+-- one place of a sum has more
 sum_more : (f g : ℕ → ℕ) (k more a n : ℕ) → ((j : ℕ) → j < a + n → j ≢ k → g j ≡ f j) → g k ≡ f k + more → a ≤ k → k < a + n
     → sum_by g (range_with_len a n) ≡ sum_by f (range_with_len a n) + more
 sum_more f g k more a zero h own low high = absurd (omega arith)
@@ -46,7 +37,7 @@ sum_more f g k more a (suc n) h own low high =
     ⊎_elim
     (λ (e : a ≡ k).
     let one : g a ≡ f a + more = subst (λ (j : ℕ). g j ≡ f j + more) (sym e) own in
-    let rest = sums_same f g (a + 1) n (λ j from to. h j (omega arith) (λ (s : j ≡ k). omega arith)) in
+    let rest = sums_same g f (a + 1) n (λ j from to. h j (omega arith) (λ (s : j ≡ k). omega arith)) in
     omega (arith, x, y, one, rest))
     (λ (ne : a ≡ k → ⊥).
     let one = h a (omega arith) ne in
@@ -105,8 +96,8 @@ right_same c t p plp inside none = let e = at_place c (λ plp. slice_index t.rig
 need_same : (c : Config) (t : Tally) (p : Packet) → ((plp : ℕ) → plp < length c.plps → added c p plp ≡ 0)
     → tally_need c (tally_with c t p) ≡ tally_need c t
 need_same c t p none =
-    sums_same (λ plp. slice_index t.right plp * chunks_for (block_bytes c plp))
-    (λ plp. right_at c t p plp * chunks_for (block_bytes c plp)) 0 (length c.plps)
+    sums_same (λ plp. right_at c t p plp * chunks_for (block_bytes c plp))
+    (λ plp. slice_index t.right plp * chunks_for (block_bytes c plp)) 0 (length c.plps)
     (λ plp low high. ap (λ (n : ℕ). n * chunks_for (block_bytes c plp))
     (right_same c t p plp (omega arith) (none plp (omega arith))))
 
@@ -137,6 +128,34 @@ lists_same c old new packets p none need chunks pool h few plp inside =
 one_true : (b : Bool) → b ≡ (b && true)
 one_true true = refl
 one_true false = refl
+
+-- a block with its length was counted twice, and kept if there was room
+abbrev pub Counted : HeldBlocks → HeldBlocks → ℕ → ℕ → Type 0
+Counted old new k chunks = held_of new ≡ record (held_of old) {
+  pool = new.pool;
+  counts = slice_set old.counts.items k (capped (slice_index old.counts.items k + 1));
+  rights = slice_set old.rights.items k (capped (slice_index old.rights.items k + 1));
+  need = capped (old.need + chunks);
+}
+
+pub kept_right : (old one two new : HeldBlocks) (k chunks size : ℕ)
+    → held_of one
+    ≡ record (held_of old) { counts = slice_set old.counts.items k (capped (slice_index old.counts.items k + 1)) }
+    → held_of two
+    ≡ record (held_of one) { rights = slice_set one.rights.items k (capped (slice_index one.rights.items k + 1)) }
+    → held_of new ≡ record (held_of two) { pool = new.pool; need = capped (two.need + chunks) }
+    → chunks ≡ size → Counted old new k size
+kept_right old one two new k chunks size first second kept same =
+    kept
+    ∙ ap (λ (b : Held). record b { pool = new.pool; need = capped (b.need + chunks) })
+    (second
+    ∙ ap (λ (b : Held). record b { rights = slice_set b.rights k (capped (slice_index b.rights k + 1)) }) first)
+    ∙ ap (λ (n : ℕ). record (held_of old) {
+      pool = new.pool;
+      counts = slice_set old.counts.items k (capped (slice_index old.counts.items k + 1));
+      rights = slice_set old.rights.items k (capped (slice_index old.rights.items k + 1));
+      need = capped (old.need + n);
+    }) same
 
 -- packets without a block
 module _ (c : Config) (p : Packet) (none : (id : ℕ) → body_block id p.body ≡ None) where
@@ -325,12 +344,13 @@ module _ (c : Config) (p : Packet) (frame_idx id : ℕ) (first : Bool) (bits : L
           (cases_eq plp k)
 
       pub right_counted : (old new : HeldBlocks) (t : Tally) → length old.counts.items ≡ length c.plps
-          → length old.rights.items ≡ length c.plps
-          → new.counts.items ≡ slice_set old.counts.items k (capped (slice_index old.counts.items k + 1))
-          → new.rights.items ≡ slice_set old.rights.items k (capped (slice_index old.rights.items k + 1))
-          → new.need ≡ capped (old.need + chunks_for (block_bytes c k)) → new.known ≡ old.known → HoldsCounts c old t
+          → length old.rights.items ≡ length c.plps → Counted old new k (chunks_for (block_bytes c k)) → HoldsCounts c old t
           → HoldsCounts c new (tally_with c t p)
-      right_counted old new t size rows set row need known h =
+      right_counted old new t size rows e h =
+          let set = ap (λ (b : Held). b.counts) e in
+          let row = ap (λ (b : Held). b.rights) e in
+          let need = ap (λ (b : Held). b.need) e in
+          let known = ap (λ (b : Held). b.known) e in
           counts_added c old new t p h
           (λ plp inside. counted old new size set plp inside (let n = h.counts plp inside in omega (arith, n)))
           (λ plp inside. righted old new rows row plp inside (let n = h.rights plp inside in omega (arith, n)))
@@ -340,10 +360,12 @@ module _ (c : Config) (p : Packet) (frame_idx id : ℕ) (first : Bool) (bits : L
           (known ∙ one_true old.known ∙ ap (λ (b : Bool). old.known && b) (sym right_known))
 
       pub right_listed : (old new : HeldBlocks) (packets : List Packet) → length old.pool.lists ≡ length c.plps
-          → new.need ≡ capped (old.need + chunks_for (block_bytes c k)) → old.need ≤ greatest → new.chunks ≡ old.chunks
+          → Counted old new k (chunks_for (block_bytes c k)) → old.need ≤ greatest
           → (new.need ≤ old.chunks → new.pool ≡ appended old.pool k (sent_bytes bits)) → HoldsLists c old packets
           → HoldsLists c new (packets ++ p ∷ [])
-      right_listed old new packets size need most chunks pool h few plp inside =
+      right_listed old new packets size e most pool h few plp inside =
+          let need = ap (λ (b : Held). b.need) e in
+          let chunks = ap (λ (b : Held). b.chunks) e in
           let grown : List (List ℕ) = list_at old.pool k ++ sent_bytes bits ∷ [] in
           let before = h (omega (arith, few, need, most, chunks)) plp inside in
           let now = ap (λ (s : State). list_at s plp) (pool (omega (arith, few, chunks))) in

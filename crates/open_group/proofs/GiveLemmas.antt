@@ -8,7 +8,7 @@ use Rattle.plp_config.specs.declared.config.Config.{Config}
 use Rattle.t2mi_packet.specs.declared.packet.Packet.{Packet}
 use Rattle.frame_tests.specs.Tally.{Tally, tally}
 use Rattle.open_group.specs.Holds.{HoldsPackets, Holds}
-use Rattle.open_group.specs.HoldsBlocks.{HoldsCounts, HoldsLists}
+use Rattle.open_group.specs.HoldsBlocks.{HoldsCounts, HoldsLists, Held, held_of}
 use Rattle.open_group.specs.HoldsL1.{HoldsL1}
 use Rattle.open_group.specs.HoldsPast.{HoldsPast}
 use Rattle.open_group.specs.HoldsStamps.{HoldsStamps}
@@ -20,22 +20,21 @@ use Rattle.open_group.specs.declared.stamps.HeldStamps.{HeldStamps}
 
 -- Only the pool may differ.
 abbrev pub SameNumbers : HeldBlocks → HeldBlocks → Type 0
-SameNumbers old new = (new.counts ≡ old.counts) × (new.rights ≡ old.rights) × (new.need ≡ old.need) × (new.known ≡ old.known)
-    × (new.chunks ≡ old.chunks)
+SameNumbers old new = held_of new ≡ record (held_of old) { pool = new.pool }
 
 counts_still : (c : Config) (old new : HeldBlocks) (t : Tally) → SameNumbers old new → HoldsCounts c old t → HoldsCounts c new t
 counts_still c old new t same h = record {
-  counts = λ plp inside. ap (λ v. slice_index v.items plp) same.0 ∙ h.counts plp inside;
-  rights = λ plp inside. ap (λ v. slice_index v.items plp) same.1 ∙ h.rights plp inside;
-  need = same.2 ∙ h.need;
-  known = same.3 ∙ h.known;
+  counts = λ plp inside. ap (λ (b : Held). slice_index b.counts plp) same ∙ h.counts plp inside;
+  rights = λ plp inside. ap (λ (b : Held). slice_index b.rights plp) same ∙ h.rights plp inside;
+  need = ap (λ (b : Held). b.need) same ∙ h.need;
+  known = ap (λ (b : Held). b.known) same ∙ h.known;
 }
 
 lists_still : (c : Config) (old new : HeldBlocks) (packets : List Packet) → SameNumbers old new → new.pool ≡ old.pool
     → HoldsLists c old packets → HoldsLists c new packets
 lists_still c old new packets same pool h few plp inside =
-    let need = same.2 in
-    let chunks = same.4 in
+    let need = ap (λ (b : Held). b.need) same in
+    let chunks = ap (λ (b : Held). b.chunks) same in
     ap (λ (s : State). list_at s plp) pool ∙ h (omega (arith, need, chunks, few)) plp inside
 
 -- the parts that stay

@@ -34,8 +34,8 @@ use Rattle.frame_tests.specs.Begun.{packets_at}
 use Rattle.frame_tests.specs.Tests.{pool_test, missing_test, l1_test, time_test, first_shape, has_begun, has_count, has_counts}
 use Rattle.frame_tests.specs.Tests.{body_known, is_known}
 use Rattle.frame_tests.specs.Tests.{blocks_test, map_test, packets_fault}
-use Rattle.frame_records.specs.Frames.{sent_block, sent_blocks, frame_view}
-use Rattle.frame_records.specs.Laws.{rest_size}
+use Rattle.record_laws.specs.Frames.{sent_block, sent_blocks, frame_view}
+use Rattle.record_laws.specs.Laws.{rest_size}
 use Rattle.site_frame.specs.Whole.{written_rest, record_bytes}
 use Rattle.record_writer.specs.Front.{post_with, front_bytes}
 use Rattle.record_writer.specs.Laws.{RecordWritten, BlockCount, RestLength, HasBlocks, post_size, written_frame}

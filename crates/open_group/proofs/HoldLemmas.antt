@@ -17,7 +17,7 @@ use Rattle.frame_tests.specs.Carried.{l1s_of, stamps_of}
 use Rattle.frame_tests.specs.Laws.{TallyGrows}
 use Rattle.frame_tests.specs.Tally.{Tally, tally, tally_with, unlike_behind}
 use Rattle.frame_tests.specs.Tests.{capped}
-use Rattle.open_group.specs.HoldsBlocks.{HoldsCounts}
+use Rattle.open_group.specs.HoldsBlocks.{HoldsCounts, Held, held_of}
 use Rattle.open_group.specs.HoldsL1.{HoldsL1, AddsL1}
 use Rattle.open_group.specs.HoldsStamps.{AddsStamps, HoldsStamps}
 use Rattle.open_group.specs.Parts.{parts_of}
@@ -49,19 +49,27 @@ zero_at zero k = refl
 zero_at (suc n) zero = refl
 zero_at (suc n) (suc k) = zero_at n k
 
-pub no_blocks : (c : Config) (held : HeldBlocks) (n m : ℕ) → held.counts.items ≡ replicate n 0
-    → held.rights.items ≡ replicate m 0 → held.need ≡ 0 → held.known ≡ true → HoldsCounts c held (tally c [])
-no_blocks c held n m counts rights need known = record {
+pub no_blocks : (c : Config) (held : HeldBlocks) (n m chunks : ℕ)
+    → held_of held ≡ record {
+      pool = held.pool;
+      counts = replicate n 0;
+      rights = replicate m 0;
+      chunks = chunks;
+      need = 0;
+      known = true;
+    }
+    → HoldsCounts c held (tally c [])
+no_blocks c held n m chunks e = record {
   counts = λ plp inside.
-      ap (λ (l : List ℕ). slice_index l plp) counts ∙ zero_at n plp ∙ ap capped (sym (none_at c plp inside));
+      ap (λ (b : Held). slice_index b.counts plp) e ∙ zero_at n plp ∙ ap capped (sym (none_at c plp inside));
   rights = λ plp inside.
-      ap (λ (l : List ℕ). slice_index l plp) rights ∙ zero_at m plp ∙ ap capped (sym (none_at c plp inside));
-  need = need
+      ap (λ (b : Held). slice_index b.rights plp) e ∙ zero_at m plp ∙ ap capped (sym (none_at c plp inside));
+  need = ap (λ (b : Held). b.need) e
       ∙ ap capped
       (sym (none_needed (λ plp. slice_index (map (λ plp. 0) (places c)) plp * chunks_for (block_bytes c plp)) 0 (length c.plps)
       (λ plp low high. ap (λ (k : ℕ). k * chunks_for (block_bytes c plp)) (none_at c plp (omega arith))
       ∙ no_times (chunks_for (block_bytes c plp)))));
-  known = known;
+  known = ap (λ (b : Held). b.known) e;
 }
   where
     no_times : (k : ℕ) → 0 * k ≡ 0

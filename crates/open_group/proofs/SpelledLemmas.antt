@@ -14,8 +14,8 @@ use Rattle.frame_groups.specs.Groups.{Group}
 use Rattle.frame_groups.specs.Modulated.{Content, Numbered}
 use Rattle.frame_groups.specs.Modulated.Content.{Whole, Muted}
 use Rattle.frame_groups.specs.declared.cause.MuteCause.TheVariants.{MapRefused}
-use Rattle.frame_records.specs.Frames.{HasByteIds}
-use Rattle.frame_records.specs.Laws.{MutedFits}
+use Rattle.record_laws.specs.Frames.{HasByteIds}
+use Rattle.record_laws.specs.Laws.{MutedFits}
 use Rattle.frame_tests.specs.Carried.{right_blocks, L1Parts, l1s_of}
 use Rattle.frame_tests.specs.Laws.{MapPasses}
 use Rattle.frame_tests.specs.Tests.{has_map, l1_shape, first_shape, read_dynamic, map_test, packets_fault, group_fault}

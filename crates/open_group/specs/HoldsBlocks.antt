@@ -1,6 +1,6 @@
 -- What is held of the blocks of a group.
-use Rattle.std.specs.Prelude.{◌≡◌, ◌<◌, ◌≤◌, ℕ, List, length, map, slice_index}
-use Rattle.linked_pool.specs.Pool.{list_at}
+use Rattle.std.specs.Prelude.{◌≡◌, ◌<◌, ◌≤◌, ℕ, Bool, List, length, map, slice_index}
+use Rattle.linked_pool.specs.Pool.{State, list_at}
 use Rattle.plp_config.specs.declared.config.Config.{Config}
 use Rattle.t2mi_packet.specs.declared.packet.Packet.{Packet}
 use Rattle.frame_tests.specs.Carried.{right_blocks}
@@ -8,6 +8,25 @@ use Rattle.frame_tests.specs.Tally.{Tally, tally_need}
 use Rattle.frame_tests.specs.Tests.{capped}
 use Rattle.open_group.specs.Sent.{sent_bytes}
 use Rattle.open_group.specs.declared.blocks.HeldBlocks.{HeldBlocks}
+
+-- all that is held
+pub record Held : Type 0 where
+  pub pool : State
+  pub counts : List ℕ
+  pub rights : List ℕ
+  pub chunks : ℕ
+  pub need : ℕ
+  pub known : Bool
+
+abbrev pub held_of : HeldBlocks → Held
+held_of h = record {
+  pool = h.pool;
+  counts = h.counts.items;
+  rights = h.rights.items;
+  chunks = h.chunks;
+  need = h.need;
+  known = h.known;
+}
 
 -- The numbers are those of a tally.
 pub record HoldsCounts (c : Config) (held : HeldBlocks) (t : Tally) : Type 0 where

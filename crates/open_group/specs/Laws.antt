@@ -5,7 +5,7 @@ use Rattle.plp_config.specs.declared.config.Config.{Config}
 use Rattle.frame_groups.specs.Groups.{Group}
 use Rattle.frame_groups.specs.Modulated.{Numbered, FrameRecord}
 use Rattle.frame_groups.specs.Modulated.Content.{Whole}
-use Rattle.frame_records.specs.Frames.{HasByteIds}
+use Rattle.record_laws.specs.Frames.{HasByteIds}
 use Rattle.frame_tests.specs.Tests.{group_fault}
 use Rattle.site_frame.specs.Whole.{Spells}
 use Rattle.open_group.specs.Written.{content_view, spelled}

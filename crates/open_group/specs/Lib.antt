@@ -5,7 +5,7 @@ pub mod Sent
 pub mod HoldsBlocks
 pub mod HoldsPast
 pub mod Holds
-pub mod Given
+pub mod FrameBytes
 pub mod Written
 pub mod Laws
 -- inner: no public clause cites these

@@ -9,7 +9,7 @@ use Rattle.frame_groups.specs.Modulated.{Content, FrameRecord}
 use Rattle.frame_groups.specs.Modulated.Content.{Whole, Muted}
 use Rattle.frame_tests.specs.Carried.{right_blocks, l1s_of}
 use Rattle.frame_tests.specs.Tests.{first_shape}
-use Rattle.frame_records.specs.Frames.{sent_blocks, frame_view}
+use Rattle.record_laws.specs.Frames.{sent_blocks, frame_view}
 use Rattle.record_writer.specs.Front.{post_with}
 use Rattle.site_frame.specs.Whole.{record_bytes}
 use Rattle.site_frame.specs.declared.reading.RecordView.{RecordView}

@@ -54,11 +54,11 @@ fn clear_pool(pool: &mut Pool, lists: u32)
     ensures short { AreShort pool.new.lists }
 {
     clear_lists(pool, lists);
-    pool.stays_whole();
+    pool.is_whole_law();
 }
 
 // The bytes of a block as it is sent.
-fn send(bits: &BitSlice<'_>, out: &mut [u8])
+fn scramble_into(bits: &BitSlice<'_>, out: &mut [u8])
     requires { length bits.now ≡ 8 * length out.old }
     ensures bytes { out.new ≡ sent_bytes bits.now }
     ensures len { length out.new ≡ length out.old }
@@ -77,7 +77,7 @@ impl HeldBlocks {
     ghost use Rattle.t2mi_packet.specs.declared.packet.Body.TheVariants.{Block};
     ghost use Rattle.frame_tests.specs.Tally.{Tally, tally_with};
     ghost use Rattle.frame_tests.specs.Tests.{pool_chunks, capped};
-    ghost use Rattle.open_group.specs.HoldsBlocks.{IsOpenFor, HoldsCounts, HoldsLists};
+    ghost use Rattle.open_group.specs.HoldsBlocks.{IsOpenFor, HoldsCounts, HoldsLists, held_of};
     ghost use Rattle.open_group.specs.Sent.{sent_bytes};
     ghost use Rattle.std.specs.Prelude.{◌↔◌, ◌⊎◌, take, drop};
     ghost use Rattle.record_writer.specs.Writes.{bytes_left, IsLast, IsReady, is_done};
@@ -103,13 +103,9 @@ impl HeldBlocks {
     // Counts a block of a PLP.
     fn count(&mut self, plp: usize)
         requires { plp < vec_len self.old.counts }
-        ensures counts { self.new.counts.items ≡ slice_set self.old.counts.items plp
-            (capped (slice_index self.old.counts.items plp + 1)) }
-        ensures rights { self.new.rights ≡ self.old.rights }
-        ensures pool { self.new.pool ≡ self.old.pool }
-        ensures all { self.new.chunks ≡ self.old.chunks }
-        ensures need { self.new.need ≡ self.old.need }
-        ensures known { self.new.known ≡ self.old.known }
+        ensures held { held_of self.new ≡ record (held_of self.old) {
+          counts = slice_set self.old.counts.items plp (capped (slice_index self.old.counts.items plp + 1));
+        } }
     {
         self.counts[plp] = self.counts[plp].saturating_add(1);
     }
@@ -117,13 +113,9 @@ impl HeldBlocks {
     // And one that has its length.
     fn count_right(&mut self, plp: usize)
         requires { plp < vec_len self.old.rights }
-        ensures rights { self.new.rights.items ≡ slice_set self.old.rights.items plp
-            (capped (slice_index self.old.rights.items plp + 1)) }
-        ensures counts { self.new.counts ≡ self.old.counts }
-        ensures pool { self.new.pool ≡ self.old.pool }
-        ensures all { self.new.chunks ≡ self.old.chunks }
-        ensures need { self.new.need ≡ self.old.need }
-        ensures known { self.new.known ≡ self.old.known }
+        ensures held { held_of self.new ≡ record (held_of self.old) {
+          rights = slice_set self.old.rights.items plp (capped (slice_index self.old.rights.items plp + 1));
+        } }
     {
         self.rights[plp] = self.rights[plp].saturating_add(1);
     }
@@ -134,13 +126,12 @@ impl HeldBlocks {
         requires len { length bits.now ≡ 8 * len }
         requires short { len ≤ MOST_BLOCK_BYTES }
         requires chunks { chunks ≡ chunks_for len }
-        ensures need { self.new.need ≡ capped (self.old.need + chunks) }
         ensures kept { self.new.need ≤ self.old.chunks → self.new.pool ≡ appended self.old.pool plp (sent_bytes bits.now) }
-        ensures all { self.new.chunks ≡ self.old.chunks }
         ensures lists { length self.new.pool.lists ≡ length self.old.pool.lists }
-        ensures counts { self.new.counts ≡ self.old.counts }
-        ensures rights { self.new.rights ≡ self.old.rights }
-        ensures known { self.new.known ≡ self.old.known }
+        ensures held { held_of self.new ≡ record (held_of self.old) {
+          pool = self.new.pool;
+          need = capped (self.old.need + chunks);
+        } }
     {
         short_law();
         self.need = self.need.saturating_add(u64::from(chunks));
@@ -149,7 +140,7 @@ impl HeldBlocks {
         }
         let mut bytes = [0; MOST_BLOCK_BYTES as usize];
         let block = &mut bytes[..len];
-        send(bits, block);
+        scramble_into(bits, block);
         short_law();
         self.pool.append(plp, block).unwrap();
     }
@@ -199,13 +190,16 @@ impl HeldBlocks {
     /// Holds nothing.
     pub fn clear(&mut self, plan: &Plan)
         requires open { IsOpenFor self.old (length plan.now.plps) }
-        ensures counts { self.new.counts.items ≡ replicate (length self.old.counts.items) 0 }
-        ensures rights { self.new.rights.items ≡ replicate (length self.old.rights.items) 0 }
-        ensures need { self.new.need ≡ 0 }
-        ensures known { self.new.known ≡ true }
         ensures none { (list : ℕ) → list < length plan.now.plps → list_at self.new.pool list ≡ [] }
         ensures open { IsOpenFor self.new (length plan.now.plps) }
-        ensures all { self.new.chunks ≡ self.old.chunks }
+        ensures held { held_of self.new ≡ record {
+          pool = self.new.pool;
+          counts = replicate (length self.old.counts.items) 0;
+          rights = replicate (length self.old.rights.items) 0;
+          chunks = self.old.chunks;
+          need = 0;
+          known = true;
+        } }
     {
         clear_pool(&mut self.pool, plan.config().plps.len() as u32);
         self.counts.fill(0);
@@ -227,7 +221,7 @@ impl HeldBlocks {
     pub fn fits_chunks(&self)
         ensures { used_chunks self.now.pool.lists ≤ self.now.chunks }
     {
-        self.pool.stays_whole();
+        self.pool.is_whole_law();
     }
 
     /// Whether each block was one of a PLP, with its length.
@@ -265,8 +259,7 @@ impl HeldBlocks {
         ensures last { IsLast writer.old → IsLast writer.new × (self.new.pool ≡ self.old.pool) }
         ensures ready { IsReady writer.new plan.now shape.now self.new.pool.lists }
         ensures open { IsOpenFor self.new (length plan.now.plps) }
-        ensures same { (self.new.counts ≡ self.old.counts) × (self.new.rights ≡ self.old.rights)
-            × (self.new.need ≡ self.old.need) × (self.new.known ≡ self.old.known) × (self.new.chunks ≡ self.old.chunks) }
+        ensures held { held_of self.new ≡ record (held_of self.old) { pool = self.new.pool } }
     {
         writer.take(plan, shape, &mut self.pool, out)
     }

@@ -1,18 +1,18 @@
 // The record that is given: of the group's frame, or of a muted one.
-ghost use Rattle.std.specs.Prelude.{◌≡◌, ◌<◌, ◌≤◌, ◌⊎◌, ◌↔◌, ◌++◌, ◌^◌, ◌%◌, [], true, false, is_some, List, Option, Some, None};
-ghost use Rattle.std.specs.Prelude.{length, take, drop, ℕ};
+ghost use Rattle.std.specs.Prelude.{◌≡◌, ◌<◌, ◌≤◌, ◌⊎◌, ◌↔◌, ◌&&◌, ◌++◌, ◌^◌, ◌%◌, [], true, false, is_some, List};
+ghost use Rattle.std.specs.Prelude.{Option, Some, None, length, take, drop};
 ghost use Rattle.plp_config.specs.Emission.{emission};
 ghost use Rattle.site_frame.specs.Whole.{record_bytes};
 ghost use Rattle.frame_groups.specs.Groups.{Group};
 ghost use Rattle.frame_groups.specs.Modulated.{Numbered, FrameRecord};
 ghost use Rattle.frame_groups.specs.Records.{record_of};
 ghost use Rattle.frame_tests.specs.Tests.{group_fault};
-ghost use Rattle.open_group.specs.Given.{is_frame, bytes_left, most_left};
+ghost use Rattle.open_group.specs.FrameBytes.{is_frame, bytes_left, most_left, status_of};
 ghost use Rattle.open_group.specs.Holds.{Holds};
 ghost use Rattle.open_group.specs.Written.{spelled, packets_view};
 
 use crate::group::PooledGroup;
-use bb_frame::bit_counts;
+use bb_frame::bit_counts_law;
 use frame_groups::Waiting;
 use frame_tests::tally_law;
 use plp_config::Moment;
@@ -30,14 +30,12 @@ impl<'p> PooledGroup<'p> {
         ensures some { 0 < length (bytes_left self.new) }
         ensures most { length (bytes_left self.new) ≤ most_left self.old.network }
         ensures group { (past : List Numbered) (g : Option Group) → Holds self.old past g → Holds self.new past g }
-        ensures key { self.new.key ≡ self.old.key }
-        ensures network { self.new.network ≡ self.old.network }
-        ensures frame { is_frame self.new ≡ is_frame self.old }
+        ensures status { status_of self.new ≡ record (status_of self.old) { intact = false } }
     {
         tally_law();
-        bit_counts();
+        bit_counts_law();
         written_law();
-        self.network.plan().obeys_rules();
+        self.network.plan().rules_law();
         self.blocks.fits_chunks();
         self.l1.begin_frame(
             self.network.plan(),
@@ -60,10 +58,9 @@ impl<'p> PooledGroup<'p> {
         ensures some { 0 < length (bytes_left self.new) }
         ensures most { length (bytes_left self.new) ≤ most_left self.old.network }
         ensures group { (past : List Numbered) (g : Option Group) → Holds self.old past g → Holds self.new past g }
-        ensures key { self.new.key ≡ self.old.key }
-        ensures network { self.new.network ≡ self.old.network }
-        ensures frame { is_frame self.new ≡ is_frame self.old }
-        ensures intact { is_some waiting.mute ≡ true → self.new.intact ≡ self.old.intact }
+        ensures status { status_of self.new ≡ record (status_of self.old) {
+          intact = is_some waiting.mute && self.old.intact;
+        } }
     {
         let moment = self.network.plan().emission(waiting.frame);
         let frame_idx = self.network.plan().frame_idx(waiting.frame);
@@ -80,10 +77,7 @@ impl<'p> PooledGroup<'p> {
         ensures stays { (length out.new ≡ length out.old) × (drop result out.new ≡ drop result out.old) }
         ensures none { (result ≡ 0) ↔ ((length out.old ≡ 0) ⊎ (bytes_left self.old ≡ [])) }
         ensures group { (past : List Numbered) (g : Option Group) → Holds self.old past g → Holds self.new past g }
-        ensures key { self.new.key ≡ self.old.key }
-        ensures network { self.new.network ≡ self.old.network }
-        ensures frame { is_frame self.new ≡ is_frame self.old }
-        ensures intact { self.new.intact ≡ self.old.intact }
+        ensures status { status_of self.new ≡ status_of self.old }
     {
         let plan = self.network.plan();
         let _done = self.writer.is_done();

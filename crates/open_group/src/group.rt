@@ -131,7 +131,7 @@ impl<'p> PooledGroup<'p> {
 
 impl<'p> OpenGroup for PooledGroup<'p> {
     ghost use Rattle.frame_tests.specs.Tests.{rules};
-    ghost use Rattle.open_group.specs.Given.{is_frame};
+    ghost use Rattle.open_group.specs.FrameBytes.{is_frame};
     ghost use Rattle.open_group.specs.Holds.{Holds};
 
     ghost holds = { Holds };

@@ -51,7 +51,7 @@ impl HeldL1 {
     ghost use Rattle.l1_signal.specs.L1Configurable.{conf_bits};
     ghost use Rattle.l1_signal.specs.L1Of.{conf_of};
     ghost use Rattle.frame_tests.specs.Tests.{has_map};
-    ghost use Rattle.frame_records.specs.Laws.{rest_size};
+    ghost use Rattle.record_laws.specs.Laws.{rest_size};
     ghost use Rattle.record_writer.specs.Front.{front_bytes};
     ghost use Rattle.record_writer.specs.Laws.{post_size};
     ghost use Rattle.record_writer.specs.Steps.{step_bytes, HasLists};
@@ -110,7 +110,7 @@ impl HeldL1 {
         ensures rows { length self.new.dynamic.plps ≡ length self.old.dynamic.plps }
     {
         dyn_law();
-        network.plan().obeys_rules();
+        network.plan().rules_law();
         self.parts.hold(pre, conf, dynamic, extension);
         self.is_held = true;
         self.agrees = is_pre(network.plan(), pre, false) && is_network_conf(network, conf);
@@ -259,7 +259,7 @@ impl HeldL1 {
         ensures done { is_done writer.new ≡ false }
     {
         map_test_law();
-        plan.obeys_rules();
+        plan.rules_law();
         let dynamic = self.parts.dynamic();
         let blocks = block_count(plan, number, &self.shape);
         let rest = rest_len(plan, number, &self.shape, dynamic.len());

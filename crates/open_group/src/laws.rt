@@ -1,10 +1,10 @@
 // A law of the definitions. Its function does nothing.
 ghost use Rattle.open_group.specs.Laws.{RecordSpelled};
 
-use bb_frame::bit_counts;
-use frame_records::fit_law;
+use bb_frame::bit_counts_law;
 use frame_tests::map_test_law;
 use l1_signal::dyn_law;
+use record_laws::fit_law;
 use record_writer::written_law;
 use site_frame::writing_law;
 
@@ -12,7 +12,7 @@ use site_frame::writing_law;
 pub fn record_law()
     ensures { RecordSpelled }
 {
-    bit_counts();
+    bit_counts_law();
     fit_law();
     map_test_law();
     dyn_law();

@@ -45,7 +45,7 @@ pub fn named(plan: &Plan, key: Key, stamps: HeldStamps) -> Option<u64>
 {
     named_law();
     emission_law();
-    plan.obeys_rules();
+    plan.rules_law();
     let Some(stamp) = stamps.first else {
         return None;
     };

@@ -1,6 +1,5 @@
 // What is held of the groups before: those in which interleaving frames began.
 ghost use Rattle.std.specs.Prelude.{◌≡◌, ◌<◌, length};
-ghost use Rattle.plp_config.specs.InterleavingFrames.{begin_of};
 ghost use Rattle.frame_tests.specs.Begun.{is_begin};
 
 use crate::blocks::HeldBlocks;
@@ -38,20 +37,12 @@ pub struct HeldPast {
     needs: Vec<Need>,
 }
 
-// The first frame of the interleaving frame of a PLP that a frame carries.
-fn begin_of(plan: &Plan, plp: usize, number: u64) -> u64
-    requires { plp < length plan.now.plps }
-    ensures { result ≡ begin_of plan.now plp number }
-{
-    number - number % u64::from(plan.spread(plp))
-}
-
 // Whether an interleaving frame that a frame carries begins in another one.
 fn is_begin(plan: &Plan, number: u64, begin: u64) -> bool
     ensures { result ≡ is_begin plan.now number begin }
 {
     for plp in 0..plan.config().plps.len() {
-        if begin_of(plan, plp, number) == begin {
+        if plan.begin_of(plp, number) == begin {
             return true;
         }
     }
@@ -144,7 +135,7 @@ impl HeldPast {
         ensures sized { AreSized plan.now self.new }
     {
         interleaving_law();
-        plan.obeys_rules();
+        plan.rules_law();
         let frames = u64::from(plan.config().frames);
         let (_, chunks) = blocks.chunks();
         self.note_plps(plan, number, blocks);
@@ -177,7 +168,7 @@ impl HeldPast {
         if plan.is_first(plp, number) {
             return own == u64::from(told);
         }
-        own == 0 && self.has_begun(plp, begin_of(plan, plp, number), told)
+        own == 0 && self.has_begun(plp, plan.begin_of(plp, number), told)
     }
 
     /// Whether each PLP has as many blocks as a shape tells.
@@ -210,7 +201,7 @@ impl HeldPast {
         ensures { (past : List Numbered) → HoldsPast plan.now self.now past → IsAbove past number
             → result ≡ begun_test plan.now past number (number / plan.now.frames * plan.now.frames + place) }
     {
-        plan.obeys_rules();
+        plan.rules_law();
         let chunks = u64::from(group_chunks(plan));
         let frames = u64::from(plan.config().frames);
         let superframe = number / frames;
@@ -237,7 +228,7 @@ impl HeldPast {
             → result ≡ first_failure (begun_test plan.now past number) (range_with_len 0 number) }
     {
         interleaving_law();
-        plan.obeys_rules();
+        plan.rules_law();
         let frames = u64::from(plan.config().frames);
         for place in 0..(number % frames) as usize {
             let fault = self.fault_at(plan, number, place);

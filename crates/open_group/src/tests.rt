@@ -355,7 +355,7 @@ fn groups_where_interleaving_frames_begin(rt: HostRuntime) -> Result<(), Fail> {
 #[test]
 fn blocks_are_scrambled(rt: HostRuntime) -> Result<(), Fail> {
     let plan = small_plan(rt.alloc())?;
-    plan.obeys_rules();
+    plan.rules_law();
     let mut blocks = blocks::HeldBlocks::open(rt.alloc(), &plan)?;
     blocks.add(
         &plan,

@@ -4,6 +4,7 @@ use Rattle.std.proofs.Common.{ap₂}
 use Rattle.std.proofs.Common.{◌∙◌, arith, append_assoc, append-nil, length-append}
 use Rattle.std.specs.Prelude.{map, sum, sum_by, slice_index, slice_index_or}
 use Rattle.std.specs.List.{concat, flat_map, range_with_len, AllByRecursion}
+use Rattle.std.proofs.lemmas.List.FromFn.{length-map-range_with_len}
 use Rattle.std.specs.FinMap.{get}
 use Rattle.std.proofs.lemmas.Bool.{cond_both}
 use Rattle.std.proofs.lemmas.List.{length-map}
@@ -27,15 +28,14 @@ use Rattle.site_frame.specs.Laws.{BlocksInOrder}
 use Rattle.site_frame.specs.Record.{Block, frame_kind, muted_kind, head_bytes, block_bytes as spelled_block, blocks_bytes}
 use Rattle.site_frame.specs.Record.{cell_bytes}
 use Rattle.site_frame.specs.Whole.{written_rest, block_size}
-use Rattle.frame_records.specs.Frames.{l1_pre, frame_cells, HasByteIds}
-use Rattle.frame_records.specs.Laws.{IsSentBlock, EveryFrameFits, blocks_size}
+use Rattle.record_laws.specs.Frames.{l1_pre, frame_cells, HasByteIds}
+use Rattle.record_laws.specs.Laws.{IsSentBlock, EveryFrameFits, blocks_size}
 use Rattle.cell_words.specs.Words.{words}
 use Rattle.record_writer.specs.Front.{post_with}
 use Rattle.record_writer.specs.RecordBytes.{own_count, list_at, plp_block, sent_bytes, list_blocks, lists_bytes}
 use Rattle.record_writer.specs.Laws.{written_frame, RecordWritten, MutedWritten, HasBlocks, BlockCount, post_size, RestLength}
 use Rattle.record_writer.specs.Laws.{RecordFits}
-use Rattle.frame_records.proofs.FrameLemmas.{cells_count}
-use Rattle.frame_records.proofs.FitLemmas.{length-l1_pre, room_for_all}
+use Rattle.record_laws.proofs.FitLemmas.{length-l1_pre, room_for_all}
 use Rattle.record_writer.proofs.FittingLemmas.{length-crc_behind}
 use Rattle.cell_words.proofs.WordLemmas.{length-words}
 
@@ -90,7 +90,7 @@ record_written order c moment frame_idx dynamic shape lists =
     (ap bytes_of (sym (append-nil post))) (sym spelled)
     ∙ ap₂ (λ (n : ℕ) (w : List ℕ).
     head ++ (pre ++ ((bits ++ bytes_of (post ++ [])) ++ ((count ++ blocks_bytes blocks []) ++ ((big_bytes 4 n ++ w) ++ [])))))
-    (sym (cells_count c shape frame_idx)) (sym all)
+    (sym (length-map-range_with_len (get (cell_map c shape frame_idx)) 0 c.cells)) (sym all)
 
 pub muted_written : MutedWritten
 muted_written moment = sym (append-nil (head_bytes muted_kind moment 0))
@@ -218,7 +218,7 @@ rest_length bits conf order c moment frame_idx dynamic shape count lists h =
       arith,
       ap (λ (l : List ℕ). length l) (words_are c shape frame_idx (range_with_len 0 c.cells)),
       length-words c shape frame_idx c.cells 0,
-      cells_count c shape frame_idx,
+      length-map-range_with_len (get (cell_map c shape frame_idx)) 0 c.cells,
     ) in
     four_sections (bytes_of (l1_pre c)) (big_bytes 4 (length post) ++ bytes_of (post ++ []))
     (big_bytes 2 (length blocks) ++ blocks_bytes blocks [])

@@ -7,7 +7,7 @@ use Rattle.plp_config.specs.declared.moment.Moment.{Moment}
 use Rattle.l1_signal.specs.L1Configurable.{conf_bits}
 use Rattle.l1_signal.specs.L1Of.{conf_of}
 use Rattle.l1_signal.specs.Laws.{crc_behind}
-use Rattle.frame_records.specs.Frames.{l1_pre}
+use Rattle.record_laws.specs.Frames.{l1_pre}
 use Rattle.site_frame.specs.Record.{frame_kind, head_bytes}
 
 -- L1-post with a dynamic part: the configurable part, this one, and the CRC_32 of both (EN 302 755, clause 7.2.3)

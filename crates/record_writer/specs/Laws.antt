@@ -9,8 +9,8 @@ use Rattle.plp_config.specs.declared.moment.Moment.{Moment}
 use Rattle.scheduler.specs.Shape.{FrameShape}
 use Rattle.cell_map.specs.CellMap.{Passes}
 use Rattle.linked_pool.specs.Pool.{State, empty, appended}
-use Rattle.frame_records.specs.Frames.{frame_view, HasByteIds}
-use Rattle.frame_records.specs.Laws.{rest_size}
+use Rattle.record_laws.specs.Frames.{frame_view, HasByteIds}
+use Rattle.record_laws.specs.Laws.{rest_size}
 use Rattle.site_frame.specs.Whole.{written_rest, record_bytes, FitsRecord}
 use Rattle.site_frame.specs.Record.{head_bytes, muted_kind}
 use Rattle.site_frame.specs.declared.reading.RecordView.{RecordView}

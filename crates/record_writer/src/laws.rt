@@ -2,9 +2,9 @@
 ghost use Rattle.record_writer.specs.Laws.{RecordWritten, MutedWritten, EmptyIsShort, AppendedIsShort, BlockCount, RestLength};
 ghost use Rattle.record_writer.specs.Laws.{RecordFits};
 
-use frame_records::fit_law;
 use l1_signal::{post_law, pre_law};
 use plp_config::block_law;
+use record_laws::fit_law;
 use site_frame::writing_law;
 
 /// What is written of a frame is its record, which has so many blocks and so many bytes behind its head. That of a plan spells

@@ -6,7 +6,7 @@ ghost use Rattle.bit_slice.specs.Sink.{Puts};
 ghost use Rattle.l1_signal.specs.Laws.{crc_behind};
 ghost use Rattle.l1_signal.specs.L1Pre.{pre_bits};
 ghost use Rattle.l1_signal.specs.L1Of.{pre_of, conf_of};
-ghost use Rattle.frame_records.specs.Frames.{l1_pre};
+ghost use Rattle.record_laws.specs.Frames.{l1_pre};
 ghost use Rattle.l1_signal.specs.L1Configurable.{conf_bits};
 ghost use Rattle.site_frame.specs.Record.{head_len, pre_len, head_bytes, frame_kind, muted_kind};
 ghost use Rattle.record_writer.specs.Fitting.{HasRoom};
@@ -52,7 +52,7 @@ impl Signalling {
         ensures { IfOk result (λ s. s ≡ conf_bits (conf_of plan.now)) }
     {
         conf_law();
-        plan.obeys_rules();
+        plan.rules_law();
         let mut bits = BitBuf::new(alloc);
         match write_conf(&mut bits, &conf_of(alloc, plan)?) {
             Ok(()) => Ok(Signalling { conf: bits }),

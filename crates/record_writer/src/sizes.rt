@@ -3,14 +3,14 @@ ghost use Rattle.std.specs.Prelude.{◌≡◌, ◌<◌, ◌≤◌, ◌+◌, ◌*
 ghost use Rattle.plp_config.specs.Capacity.{block_bytes};
 ghost use Rattle.cell_map.specs.CellMap.{Passes};
 ghost use Rattle.plp_config.specs.Places.{places};
-ghost use Rattle.frame_records.specs.Laws.{rest_size};
+ghost use Rattle.record_laws.specs.Laws.{rest_size};
 ghost use Rattle.record_writer.specs.Laws.{post_size};
 ghost use Rattle.record_writer.specs.RecordBytes.{own_count};
 ghost use Rattle.record_writer.specs.Sizes.{most_plp};
 
-use frame_records::fit_law;
 use l1_signal::{CRC_BITS, MOST_DYN_BITS, PRE_BYTES, conf_len};
 use plp_config::Plan;
+use record_laws::fit_law;
 use scheduler::Shape;
 
 // The bytes of the numbers of a rest: of the bits of L1-post, of the blocks, and of the cells.
@@ -41,7 +41,7 @@ pub fn block_count(plan: &Plan, number: u64, shape: &Shape) -> u16
     ensures { result ≡ sum_by (own_count plan.now number shape.now) (places plan.now) }
 {
     fit_law();
-    plan.obeys_rules();
+    plan.rules_law();
     let mut count = 0;
     for plp in 0..shape.len() {
         count += own_count(plan, number, shape, plp);
@@ -57,7 +57,7 @@ fn plp_len(plan: &Plan, number: u64, shape: &Shape, plp: usize) -> u32
     ensures value { result ≡ own_count plan.now number shape.now plp * (4 + block_bytes plan.now plp) }
     ensures most { result ≤ most_plp }
 {
-    plan.obeys_rules();
+    plan.rules_law();
     u32::from(own_count(plan, number, shape, plp)) * (BLOCK_HEAD + plan.block_bytes(plp))
 }
 
@@ -69,7 +69,7 @@ fn blocks_len(plan: &Plan, number: u64, shape: &Shape) -> u32
         ≡ sum_by (λ plp. own_count plan.now number shape.now plp * (4 + block_bytes plan.now plp)) (places plan.now) }
     ensures most { result ≤ most_plp * length plan.now.plps }
 {
-    plan.obeys_rules();
+    plan.rules_law();
     let mut len = 0;
     for plp in 0..shape.len() {
         len += plp_len(plan, number, shape, plp);
@@ -84,7 +84,7 @@ pub fn rest_len(plan: &Plan, number: u64, shape: &Shape, dynamic: usize) -> u32
     requires short { dynamic ≤ MOST_DYN_BITS }
     ensures { result ≡ rest_size plan.now (post_size plan.now dynamic) (own_count plan.now number shape.now) }
 {
-    plan.obeys_rules();
+    plan.rules_law();
     let bits = conf_len(plan.config().plps.len()) + dynamic + CRC_BITS;
     let l1 = (PRE_BYTES + bits.div_ceil(8)) as u32;
     l1 + NUMBERS + blocks_len(plan, number, shape) + WORD * plan.config().cells

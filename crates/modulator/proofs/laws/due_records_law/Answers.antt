@@ -2,7 +2,7 @@ use Rattle.modulator.proofs.DueLemmas.{due_fronts, due_follow, due_pass, due_spe
 use Rattle.modulator.proofs.laws.due_records_law.Goals as goal
 
 pub returns-clause-front : goal.returns-clause-front
-returns-clause-front e = due_fronts e.accepted_front.ensures e.front_law.ensures
+returns-clause-front e = due_fronts e.accepted_front_law.ensures e.front_law.ensures
 
 pub returns-clause-follow : goal.returns-clause-follow
 returns-clause-follow e = due_follow e.numbers_law.ensures

@@ -1,6 +1,6 @@
 use Rattle.std.proofs.Common.{◌≡◌, length, ap, ◌∙◌, rules}
-use Rattle.frame_records.specs.Frames.{l1_pre}
-use Rattle.frame_records.proofs.FitLemmas.{length-l1_pre}
+use Rattle.record_laws.specs.Frames.{l1_pre}
+use Rattle.record_laws.proofs.FitLemmas.{length-l1_pre}
 use Rattle.record_writer.proofs.signalling.pre_with_crc.Goals as goal
 
 pub returns-clause-len : goal.returns-clause-len

@@ -1,10 +1,6 @@
-use Rattle.std.proofs.Common.{◌≡◌, ◌∙◌, [], ℕ, Option, ap, sym, subst}
-use Rattle.frame_tests.specs.Tests.{rules}
+use Rattle.std.proofs.Common.{◌≡◌, ◌∙◌, [], ℕ, Option, refl, ap, sym, subst, false}
 use Rattle.frame_groups.specs.Modulated.{Rules}
 use Rattle.frame_groups.specs.Waits.{waits_by}
-use Rattle.open_group.specs.Given.{bytes_left}
-use Rattle.open_group.specs.Holds.{Holds}
-use Rattle.open_group.specs.Written.{spelled}
 use Rattle.plp_config.specs.declared.config.Config.{Config}
 use Rattle.t2mi_stream.specs.UnpiperStandsFor.{UnpiperStandsFor}
 use Rattle.modulator.specs.StandsFor.{ModulatorStandsFor}
@@ -18,13 +14,11 @@ pub returns-clause-stands : goal.returns-clause-stands
 unfolding ModulatorStandsFor
 returns-clause-stands c =
     let sequence = c.new-sequence.result in
-    let group = sequence.group in
     let at = sequence.progress in
-    let network : group.network ≡ c.args.plan.now = ap (λ (r : Rules). r.network) c.new-sequence.ensures.rules
+    let network : sequence.group.network ≡ c.args.plan.now = ap (λ (r : Rules). r.network) c.new-sequence.ensures.rules
     ∙ c.in_ok-open.ensures.network in
-    opened (Holds group) group.key (rules group.network) (spelled group.network) at (bytes_left group) c.in_ok-unpiper.unpiper
-    group.network.pid
+    opened (record { unpiper = c.in_ok-unpiper.unpiper; sequence = sequence; finished = false }) refl
+    c.new-sequence.ensures.«open» (ap (λ (o : Option ℕ). waits_by o at.next at.closing at.fault) c.new-sequence.ensures.none)
     (subst (λ (pid : ℕ). UnpiperStandsFor c.in_ok-unpiper.unpiper pid [])
     (ap (λ (k : Config). k.pid) (c.config.ensures.value ∙ sym network)) c.in_ok-unpiper.ensures.stands)
-    (ap (λ (o : Option ℕ). waits_by o at.next at.closing at.fault) c.new-sequence.ensures.none) c.new-sequence.ensures.«open»
     c.new-sequence.ensures.stands

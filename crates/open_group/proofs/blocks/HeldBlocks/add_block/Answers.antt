@@ -2,6 +2,8 @@ use Rattle.std.proofs.Common.{refl, ap, ◌∙◌, arith}
 use Rattle.linked_pool.specs.Pool.{appended}
 use Rattle.open_group.specs.Sent.{sent_bytes}
 use Rattle.open_group.proofs.BlockLemmas.{stray_counted, stray_listed, wrong_counted, wrong_listed, right_counted, right_listed}
+use Rattle.open_group.proofs.BlockLemmas.{kept_right}
+use Rattle.open_group.specs.HoldsBlocks.{Held}
 use Rattle.open_group.proofs.blocks.HeldBlocks.add_block.Goals as goal
 
 pub returns-in_default-clause-counts : goal.returns-in_default-clause-counts
@@ -17,24 +19,30 @@ returns-in_default-clause-lists c = λ packets p frame_idx first is h.
 pub returns-then-len-clause-counts : goal.returns-then-len-clause-counts
 returns-then-len-clause-counts c = λ t p frame_idx first is h.
     wrong_counted c.args.plan.now p frame_idx c.args.id first c.args.bits.now is c.in-Some.place c.in-Some.ensures.some
-    (λ e. c.if-len.true (cc)) c.args.self.now _ t c.requires.open.counts c.count.ensures.counts
-    (ap (λ v. v.items) c.count.ensures.rights) c.count.ensures.need refl h
+    (λ e. c.if-len.true (cc)) c.args.self.now _ t c.requires.open.counts (ap (λ (b : Held). b.counts) c.count.ensures.held)
+    (ap (λ (b : Held). b.rights) c.count.ensures.held) (ap (λ (b : Held). b.need) c.count.ensures.held) refl h
 
 pub returns-then-len-clause-lists : goal.returns-then-len-clause-lists
 returns-then-len-clause-lists c = λ packets p frame_idx first is h.
     wrong_listed c.args.plan.now p frame_idx c.args.id first c.args.bits.now is c.in-Some.place c.in-Some.ensures.some
-    (λ e. c.if-len.true (cc)) c.args.self.now c.count.new.self packets c.count.ensures.need c.count.ensures.all
-    c.count.ensures.pool h
+    (λ e. c.if-len.true (cc)) c.args.self.now c.count.new.self packets (ap (λ (b : Held). b.need) c.count.ensures.held)
+    (ap (λ (b : Held). b.chunks) c.count.ensures.held) (ap (λ (b : Held). b.pool) c.count.ensures.held) h
 
 pub returns-clause-counts : goal.returns-clause-counts
 returns-clause-counts c = λ t p frame_idx first is h.
     right_counted c.args.plan.now p frame_idx c.args.id first c.args.bits.now is c.in-Some.place c.in-Some.ensures.some
-    (cc) c.args.self.now c.keep.new.self t c.requires.open.counts c.requires.open.rights (cc) (cc) (cc) (cc) h
+    (cc) c.args.self.now c.keep.new.self t c.requires.open.counts c.requires.open.rights
+    (kept_right c.args.self.now c.count.new.self c.count_right.new.self c.keep.new.self c.in-Some.place _ _
+    c.count.ensures.held c.count_right.ensures.held c.keep.ensures.held (cc)) h
 
 pub returns-clause-lists : goal.returns-clause-lists
 returns-clause-lists c = λ packets p frame_idx first is h.
+    let e = kept_right c.args.self.now c.count.new.self c.count_right.new.self c.keep.new.self c.in-Some.place _ _
+    c.count.ensures.held c.count_right.ensures.held c.keep.ensures.held (cc) in
+    let chunks = ap (λ (b : Held). b.chunks) c.count_right.ensures.held
+    ∙ ap (λ (b : Held). b.chunks) c.count.ensures.held in
     right_listed c.args.plan.now p frame_idx c.args.id first c.args.bits.now is c.in-Some.place c.in-Some.ensures.some
-    (cc) c.args.self.now c.keep.new.self packets c.requires.open.lists (cc) (omega arith) (cc)
-    (λ few. c.keep.ensures.kept (omega arith)
-    ∙ ap (λ pool. appended pool c.in-Some.place (sent_bytes c.args.bits.now))
-    (c.count_right.ensures.pool ∙ c.count.ensures.pool)) h
+    (cc) c.args.self.now c.keep.new.self packets c.requires.open.lists e (omega arith)
+    (λ few. c.keep.ensures.kept (omega (arith, few, chunks))
+    ∙ ap (λ (b : Held). appended b.pool c.in-Some.place (sent_bytes c.args.bits.now)) c.count_right.ensures.held
+    ∙ ap (λ (b : Held). appended b.pool c.in-Some.place (sent_bytes c.args.bits.now)) c.count.ensures.held) h

@@ -6,7 +6,7 @@ use Rattle.plp_config.specs.Capacity.{IsPlan}
 use Rattle.plp_config.specs.Places.{places}
 use Rattle.plp_config.specs.declared.config.Config.{Config}
 use Rattle.plp_config.specs.declared.moment.Moment.{Moment}
-use Rattle.frame_records.specs.Laws.{rest_size}
+use Rattle.record_laws.specs.Laws.{rest_size}
 use Rattle.frame_tests.specs.Tally.{tally}
 use Rattle.frame_tests.specs.Tests.{has_map}
 use Rattle.record_writer.specs.Front.{front_bytes}
@@ -36,7 +36,7 @@ returns-clause-left c = λ past h leaves idx held none.
     let lists = g.blocks.pool.lists in
     let blocks = sum_by (own_count network n shape) (places network) in
     let rest = rest_size network (post_size network (length dynamic)) (own_count network n shape) in
-    let is_plan : IsPlan network = subst IsPlan (c.plan.ensures) c.obeys_rules.ensures.plan in
+    let is_plan : IsPlan network = subst IsPlan (c.plan.ensures) c.rules_law.ensures.plan in
     let left = subst
     (λ (k : Config). bytes_left c.begin_frame.new.writer k shape lists
     ≡ front_bytes k c.args.moment.now dynamic (sum_by (own_count k n shape) (places k))
@@ -45,7 +45,7 @@ returns-clause-left c = λ past h leaves idx held none.
     left
     ∙ ap₂ (λ (m : Moment) (i : ℕ). front_bytes network m dynamic blocks rest ++ step_bytes network shape i lists (Blocks 0))
     leaves idx
-    ∙ given_frame c.written_law.ensures.written c.written_law.ensures.blocks c.written_law.ensures.rest c.bit_counts.ensures
+    ∙ given_frame c.written_law.ensures.written c.written_law.ensures.blocks c.written_law.ensures.rest c.bit_counts_law.ensures
     network past n h.packets dynamic shape lists blocks rest
     is_plan none
     (first_dynamic network g.l1 h.packets (tally network h.packets).alike t packets.l1)

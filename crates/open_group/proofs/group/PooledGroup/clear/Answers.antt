@@ -6,8 +6,6 @@ pub returns-clause-holds : goal.returns-clause-holds
 returns-clause-holds c = record {
   stamps = record { first = refl; unlike = refl };
   l1 = no_l1 c.args.self.now.network c.clear.new.self c.clear.ensures.held c.clear.ensures.alike;
-  blocks = no_blocks c.args.self.now.network c.clear-2.new.self _ _ c.clear-2.ensures.counts
-      c.clear-2.ensures.rights c.clear-2.ensures.need
-      c.clear-2.ensures.known;
+  blocks = no_blocks c.args.self.now.network c.clear-2.new.self _ _ _ c.clear-2.ensures.held;
   lists = λ few plp inside. (rw c.plan.ensures at c.clear-2.ensures.none) plp inside;
 }

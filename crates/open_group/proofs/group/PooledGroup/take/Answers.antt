@@ -2,7 +2,7 @@ use Rattle.std.proofs.Common.{◌≡◌, ◌∙◌, [], Bool, true, length, refl
 use Rattle.std.proofs.lemmas.Bool.{true_from_ne_false}
 use Rattle.record_writer.specs.Writes.{is_done}
 use Rattle.open_group.specs.Giving.{CanGive}
-use Rattle.open_group.specs.Given.{bytes_left}
+use Rattle.open_group.specs.FrameBytes.{bytes_left}
 use Rattle.open_group.proofs.GiveLemmas.{holds_still}
 use Rattle.open_group.proofs.group.PooledGroup.take.Goals as goal
 
@@ -37,7 +37,7 @@ returns-clause-group c = holds_still c.args.self.now _ (record {
   stamps = refl;
   l1 = refl;
   past = refl;
-  numbers = c.give.ensures.same;
+  numbers = c.give.ensures.held;
   pool = λ intact.
       (c.give.ensures.last
       (subst (λ (t : Bool). CanGive t c.args.self.now.writer c.args.self.now.network c.args.self.now.l1.shape

@@ -11,7 +11,7 @@ invariant_of-self c = record {
   short = λ ok.
       let size = read_len c.dyn_law.ensures.spelled c.dyn_law.ensures.len (length c.args.self.now.dynamic.plps) c.args.dynamic.now
       c.read_dynamic-self.new.out (c.read_dynamic-self.ensures.value ∙ cond-true _ _ _ ok) in
-      let few : length c.plan.result.now.plps ≤ 255 = (c.obeys_rules.ensures.plan.rules PlpCount).1 in
+      let few : length c.plan.result.now.plps ≤ 255 = (c.rules_law.ensures.plan.rules PlpCount).1 in
       let same = ap (λ (c : Config). length c.plps) c.plan.ensures in
       omega (arith, size, few, same, c.requires.rows, c.hold.ensures.dynamic);
 }

@@ -6,7 +6,7 @@ use Rattle.open_group.proofs.past.HeldPast.fault.Goals as goal
 pub returns-then-is_some : goal.returns-then-is_some
 returns-then-is_some c = λ past h above.
     let frames = c.from-frames.ensures ∙ ap (λ (k : Config). k.frames) c.config.ensures.value in
-    first_lacks c.interleaving_law.ensures.inside c.args.plan.now c.obeys_rules.ensures.plan.rules past c.args.number
+    first_lacks c.interleaving_law.ensures.inside c.args.plan.now c.rules_law.ensures.plan.rules past c.args.number
     c.loop-place.place c.fault_at-fault.result
     (subst (λ (k : ℕ). c.loop-place.place < c.args.number % k) frames c.loop-place-test.true)
     (λ k l. c.loop-place.invariant past h above k l) (c.fault_at-fault.ensures past h above)
@@ -15,6 +15,6 @@ returns-then-is_some c = λ past h above.
 pub returns : goal.returns
 returns c = λ past h above.
     let frames = c.from-frames.ensures ∙ ap (λ (k : Config). k.frames) c.config.ensures.value in
-    sym (none_lacks c.interleaving_law.ensures.inside c.args.plan.now c.obeys_rules.ensures.plan.rules past c.args.number
+    sym (none_lacks c.interleaving_law.ensures.inside c.args.plan.now c.rules_law.ensures.plan.rules past c.args.number
     c.loop-place.place (subst (λ (k : ℕ). c.args.number % k ≤ c.loop-place.place) frames c.loop-place-test.false)
     (λ k l. c.loop-place.invariant past h above k l))

@@ -10,7 +10,7 @@ pub returns-then-need-superframe : goal.returns-then-need-superframe
 returns-then-need-superframe c = λ past h above.
     let plan = c.args.plan.now in
     let frames = c.from-frames.ensures ∙ ap (λ (k : Config). k.frames) c.config.ensures.value in
-    let range = c.obeys_rules.ensures.ranges.frames in
+    let range = c.rules_law.ensures.ranges.frames in
     let few : pool_chunks plan < 2 ^ 32 = omega (arith, c.group_chunks.ensures.value) in
     let needed =
     needed_at plan c.args.self.now past c.args.place c.args.number c.need-need.result h (omega (arith, range)) c.requires.inside
@@ -21,7 +21,7 @@ returns-then-need-superframe c = λ past h above.
 pub returns-then-need-chunks : goal.returns-then-need-chunks
 returns-then-need-chunks c = λ past h above.
     let plan = c.args.plan.now in
-    let range = c.obeys_rules.ensures.ranges.frames in
+    let range = c.rules_law.ensures.ranges.frames in
     let few : pool_chunks plan < 2 ^ 32 = omega (arith, c.group_chunks.ensures.value) in
     let needed =
     needed_at plan c.args.self.now past c.args.place c.args.number c.need-need.result h (omega (arith, range)) c.requires.inside
@@ -41,7 +41,7 @@ pub returns : goal.returns
 returns c = λ past h above.
     let plan = c.args.plan.now in
     let frames = c.from-frames.ensures ∙ ap (λ (k : Config). k.frames) c.config.ensures.value in
-    let range = c.obeys_rules.ensures.ranges.frames in
+    let range = c.rules_law.ensures.ranges.frames in
     let few : pool_chunks plan < 2 ^ 32 = omega (arith, c.group_chunks.ensures.value) in
     let needed =
     needed_at plan c.args.self.now past c.args.place c.args.number c.need-need.result h (omega (arith, range)) c.requires.inside

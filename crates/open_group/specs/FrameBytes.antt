@@ -1,6 +1,7 @@
 -- What a group under way gives of a frame.
 use Rattle.std.specs.Prelude.{ℕ, ◌&&◌, nat_le, Bool, List, Option}
 use Rattle.plp_config.specs.declared.config.Config.{Config}
+use Rattle.frame_groups.specs.declared.key.Key.{Key}
 use Rattle.record_writer.specs.Writes as writer
 use Rattle.scheduler.specs.Shape.{FrameShape}
 use Rattle.frame_tests.specs.Tests.{has_map, pool_chunks}
@@ -18,6 +19,17 @@ shape_of held = shape_told held.l1
 -- what is held can be given as a frame: the right blocks have room, and the first L1-current tells a shape with a cell map
 abbrev pub is_frame : PooledGroup → Bool
 is_frame held = nat_le held.blocks.need held.blocks.chunks && has_map held.network (shape_of held)
+
+-- what a caller sees of it, but for the packets that it stands for: its network, its key, whether its packets are all there, and
+-- whether it can be given as a frame
+pub record Status : Type 0 where
+  pub network : Config
+  pub key : Option Key
+  pub intact : Bool
+  pub frame : Bool
+
+abbrev pub status_of : PooledGroup → Status
+status_of held = record { network = held.network; key = held.key; intact = held.intact; frame = is_frame held }
 
 -- the bytes of the record under way that were not given yet
 abbrev pub bytes_left : PooledGroup → List ℕ
