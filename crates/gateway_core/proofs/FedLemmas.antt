@@ -1,7 +1,8 @@
 -- An input takes packets, and its chain null packets behind them.
 use Rattle.std.proofs.Common.{◌≡◌, ℕ, zero, suc, ◌+◌, ◌-◌, ◌*◌, ◌<◌, ◌≤◌, Bool, true, false, cond, List, [], ◌∷◌, ◌++◌, Option}
 use Rattle.std.proofs.Common.{Some, None, length, map, replicate, is_some, refl, ap, sym, subst, ◌∙◌, arith, append-nil}
-use Rattle.std.proofs.Common.{append_assoc, max, inl, inr}
+use Rattle.std.proofs.Common.{append_assoc, max, inl, inr, ◌^◌}
+use Rattle.std.specs.Prelude.{IfSome}
 use Rattle.std.proofs.Math.Nat.{mul-le-mul_right}
 use Rattle.std.proofs.Math.Logic.{∥∥₁_map}
 use Rattle.std.proofs.lemmas.Grind.{not_there}
@@ -29,7 +30,7 @@ use Rattle.mode_adapt.specs.Laws.{BlocksLaw}
 use Rattle.mode_adapt.specs.Place.{AreShort, HasPlace}
 use Rattle.mode_adapt.specs.StandsFor.{ChainStandsFor, early_blocks}
 use Rattle.mode_adapt.specs.declared.chain.Chain.{Chain}
-use Rattle.gateway_core.specs.Told.{Told, with_packet, in_next, Continues}
+use Rattle.gateway_core.specs.InputSoFar.{Told, with_packet, in_next, Continues}
 use Rattle.gateway_core.specs.IsFed.{Fed, IsSupplied, begun_before}
 use Rattle.gateway_core.specs.Served.{IsServed}
 use Rattle.gateway_core.specs.declared.input.Input.{Input}
@@ -183,7 +184,8 @@ due_within rises slot spreads c plp frame due cuts plan lt e n =
 
 -- What the end of an interleaving frame leaves.
 pub fed_cut : BlocksLaw → CountRises → SlotLength → SpreadDividesFrames → (old new : Chain) (due slot next : ℕ)
-    (total : Option ℕ) (c : Config) (plp : ℕ) (t : Told) (was is : State) (list count : ℕ) → EndsIfReady old new was is list count → IsPlan c → plp < length c.plps
+    (total : Option ℕ) (c : Config) (plp : ℕ) (t : Told) (was is : State) (list count : ℕ) → EndsIfReady old new was is list count
+    → IsPlan c → plp < length c.plps
     → HasPlace c plp was list → is_first c plp t.frame ≡ true → slot ≡ due
     → next ≡ slots_by c plp ((t.frame + 1) * c.ticks)
     → Fed old due slot total c plp t (bits_in was list)
@@ -327,3 +329,9 @@ all_short was is list others stays short = λ j.
       | inl same ↦ subst (λ (k : ℕ). AreShort (list_at is k)) (sym same) (stays (short list))
       | inr differ ↦ subst AreShort (sym (others.lists j differ)) (short j)
     ]
+
+-- an input that ended had no more packets than slots that are over
+pub few_in_all : (total : Option ℕ) (due : ℕ) → ((count : ℕ) → total ≡ Some count → count ≤ due) → due < 2 ^ 54
+    → IfSome total (λ n. n < 2 ^ 54)
+few_in_all None due behind small = tt
+few_in_all (Some n) due behind small = let few = behind n refl in omega (arith, few, small)

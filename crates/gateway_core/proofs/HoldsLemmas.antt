@@ -9,6 +9,7 @@ use Rattle.std.proofs.lemmas.Grind.{flat_map-append}
 use Rattle.std.proofs.lemmas.List.{get_or-map, get_or-replicate, length-replicate}
 use Rattle.std.proofs.lemmas.List.Folds.{list_any-append}
 use Rattle.std.proofs.lemmas.List.Sums.{sum_by-append}
+use Rattle.terms.proofs.RangeLemmas.{flat_same}
 use Rattle.linked_pool.specs.Fits.{frame_chunks}
 use Rattle.linked_pool.specs.Pool.{State}
 use Rattle.plp_config.specs.Plps.{plp_at}
@@ -33,7 +34,7 @@ use Rattle.gateway_core.specs.Packets.{packets_from, front_packets, l1_body, blo
 use Rattle.gateway_core.specs.Packets.{bodies_before}
 use Rattle.gateway_core.specs.Signalling.{pre_part, conf_part, dyn_part}
 use Rattle.gateway_core.specs.StandsFor.{Holds, IsLast, wants_by}
-use Rattle.gateway_core.specs.Told.{Told, told, with_packet, at_end, Continues}
+use Rattle.gateway_core.specs.InputSoFar.{Told, told, with_packet, at_end, Continues}
 use Rattle.gateway_core.specs.declared.flow.Flow.{Flow}
 use Rattle.gateway_core.specs.declared.input.Input.{Input}
 use Rattle.gateway_core.specs.declared.signalling.Signalling.{Signalling}
@@ -43,7 +44,7 @@ use Rattle.gateway_core.proofs.CarriedLemmas.{carries_more}
 use Rattle.gateway_core.proofs.EpochLemmas.{begins_at_once}
 use Rattle.gateway_core.proofs.FedLemmas.{wants}
 use Rattle.gateway_core.proofs.InputsLemmas.{nothing_told, told_offered, told_ended, told_begun, back_begun}
-use Rattle.gateway_core.proofs.LeftLemmas.{bodies_more as more_left, flat_same}
+use Rattle.gateway_core.proofs.LeftLemmas.{bodies_more as more_left}
 use Rattle.terms.proofs.RangeLemmas.{range_more}
 
 -- what continues with an event continues without it
@@ -159,7 +160,8 @@ holds_offer old new before after s frames flow n left c events plp packet lt som
 
 -- Once nothing is left of a frame, the lists of its pool hold what the chains put already.
 pub early_over : (inputs : List Input) (p : Config) (n : ℕ) (step : Step) (plp : ℕ) (pool : State) (c : Config)
-    (events : List Event) → step ≡ Over → AllFed inputs (early_at p n step plp pool) c events → AllFed inputs (bits_in pool) c events
+    (events : List Event) → step ≡ Over → AllFed inputs (early_at p n step plp pool) c events
+    → AllFed inputs (bits_in pool) c events
 early_over inputs p n step plp pool c events e h = subst (λ (s : Step). AllFed inputs (early_at p n s plp pool) c events) e h
 
 -- They may get more: nothing is left of the frame yet.
@@ -177,7 +179,8 @@ holds_over old new before s frames flow p n step place signal rest blocks pool c
     subst (λ (l : List Body). Holds new (early_at p n step place pool) s frames flow n l c (events ++ Offered plp packet ∷ []))
     stays
     (holds_offer old new before (early_at p n step place pool) s frames flow n (from_step p n step signal rest) c events plp
-    packet lt some (subst (λ (s : Step). AllFed new (early_at p n s place pool) c (events ++ Offered plp packet ∷ [])) (sym e) fed) h)
+    packet lt some (subst (λ (s : Step). AllFed new (early_at p n s place pool) c (events ++ Offered plp packet ∷ [])) (sym e)
+    fed) h)
 
 pub has_frame : (p c : Config) (pool : State) → p ≡ c → pool.opened ≡ frame_chunks p → length pool.lists ≡ length p.plps
     → HasFrame c pool

@@ -2,6 +2,7 @@
 use Rattle.std.proofs.Common.{◌≡◌, ◌≢◌, ℕ, ◌+◌, ◌*◌, ◌<◌, ◌≤◌, Bool, true, false, cond, List, [], ◌∷◌, ◌++◌, length, map, refl}
 use Rattle.std.proofs.Common.{ap, sym, subst, ◌∙◌, inl, inr, arith, append-nil, eq-eqb}
 use Rattle.std.specs.Prelude.{slice_index_or, slice_index, slice_set, ◌==◌, ◌||◌}
+use Rattle.std.proofs.Math.Bool.{or-true}
 use Rattle.std.proofs.lemmas.Bool.{cases_eq, cases_lt, cases_Bool, ne_eqb}
 use Rattle.std.proofs.lemmas.Grind.{flat_map-append, same_number_lists, not_there}
 use Rattle.std.proofs.lemmas.List.{length-map, map-set, length-set, get_or-set_same, get_or-set_other, get_or-map, get_or_default}
@@ -28,7 +29,7 @@ use Rattle.gateway_core.specs.IsFed.{IsFed, IsSupplied, wanted, most}
 use Rattle.gateway_core.specs.InputsStandFor.{AllFed, AreFor, AllContinue, AreBlocks, HasCut, CutsOne, CutUntil, HasFrame}
 use Rattle.gateway_core.specs.InputsStandFor.{SameMost, AreSupplied, GoesOn, CountsStay}
 use Rattle.gateway_core.specs.Lists.{bits_in, own_in, later_in}
-use Rattle.gateway_core.specs.Told.{Told, told, with_packet, at_end, in_next, Continues}
+use Rattle.gateway_core.specs.InputSoFar.{Told, told, with_packet, at_end, in_next, Continues}
 use Rattle.gateway_core.specs.declared.input.Input.{Input}
 use Rattle.gateway_core.proofs.EpochLemmas.{same_number}
 
@@ -39,10 +40,6 @@ told_is p q b d m n e f g = rw (e, f, g) refl
 or_false : (b : Bool) → (b || false) ≡ b
 or_false true = refl
 or_false false = refl
-
-or_true : (b : Bool) → (b || true) ≡ true
-or_true true = refl
-or_true false = refl
 
 -- an event that is nothing to an input
 pub nothing_told : (j : ℕ) (events : List Event) (e : Event) → packets_to j e ≡ [] → ends j e ≡ false → begins e ≡ false
@@ -68,7 +65,7 @@ told_ended plp events =
     let self : (plp == plp) ≡ true = eq-eqb plp plp refl in
     told_is _ _ _ _ _ _
     (flat_map-append (packets_to plp) events (Ended plp ∷ []) ∙ append-nil (offered plp events))
-    (list_any-append (ends plp) events (Ended plp ∷ []) ∙ rw self (or_true (has_ended plp events)))
+    (list_any-append (ends plp) events (Ended plp ∷ []) ∙ rw self (or-true (has_ended plp events)))
     (let s = sum_by-append (λ (e : Event). cond (begins e) 1 0) events (Ended plp ∷ []) in omega (arith, s))
 
 pub told_begun : (j : ℕ) (events : List Event) → told j (events ++ Begun ∷ []) ≡ in_next (told j events)

@@ -5,6 +5,7 @@ use Rattle.std.specs.Int.{div_ceil}
 use Rattle.std.specs.List.{range_with_len}
 use Rattle.std.proofs.lemmas.Bool.{cases_lt}
 use Rattle.std.proofs.Math.Nat.{mul-le-mul_right}
+use Rattle.terms.proofs.RangeLemmas.{map_same, flat_same}
 use Rattle.plp_config.specs.Laws.{CountRises, EndsAfterStart, EpochTicks, FrameCountLeast, NotOverBy, SlotLength}
 use Rattle.plp_config.specs.InterleavingFrames.{interleaving_frame, is_first}
 use Rattle.plp_config.specs.Plps.{plp_at}
@@ -26,7 +27,6 @@ use Rattle.gateway_core.specs.Signalling.{pre_part, conf_part, dyn_part}
 use Rattle.gateway_core.proofs.CarriedLemmas.{packets_append}
 use Rattle.gateway_core.proofs.EpochLemmas.{begins_by}
 use Rattle.gateway_core.proofs.HoldsLemmas.{bodies_more}
-use Rattle.gateway_core.proofs.LeftLemmas.{flat_same}
 
 pub tick_more : (c : Config) (packets : ℕ → ℕ) (plp : ℕ) → last_tick c packets (plp + 1) ≡ max (last_tick c packets plp)
     (start c plp (packets plp) + delay c plp)
@@ -74,12 +74,6 @@ fronts_grow c inputs n k =
       ap (packets_from c 0) split.1
           ∙ packets_append c 0 (bodies_before c inputs n) split.0,
     )
-
-map_same : (f g : ℕ → ℕ) (a k : ℕ) → ((j : ℕ) → a ≤ j → j < a + k → f j ≡ g j) → map f (range_with_len a k)
-    ≡ map g (range_with_len a k)
-map_same f g a zero h = refl
-map_same f g a (suc k) h =
-    rw (h a (omega arith) (omega arith), map_same f g (a + 1) k (λ j le lt. h j (omega arith) (omega arith))) refl
 
 -- the bodies of a frame of which all interleaving frames that it carries have the same blocks
 abbrev bodies_of : Config → (ℕ → List (List ℕ)) → ℕ → List Body

@@ -7,6 +7,7 @@ use Rattle.std.specs.List.{flat_map, range_with_len}
 use Rattle.std.proofs.lemmas.Bool.{cases_lt, cases_eq, cases_Bool, ne_eqb, lt-ltb, le-ltb}
 use Rattle.std.proofs.lemmas.List.Elements.{All-drop}
 use Rattle.terms.specs.Bits.{bits_of}
+use Rattle.terms.proofs.RangeLemmas.{flat_same}
 use Rattle.linked_pool.specs.Pool.{State, list_at, popped}
 use Rattle.plp_config.specs.InterleavingFrames.{is_first}
 use Rattle.plp_config.specs.Plps.{plp_at}
@@ -22,7 +23,7 @@ use Rattle.gateway_core.specs.Whole.{IsWhole}
 use Rattle.gateway_core.specs.declared.frame.Step.{Step}
 use Rattle.gateway_core.specs.declared.frame.Step.TheVariants.{Stamp, Signal, Blocks}
 use Rattle.gateway_core.specs.BlocksLeft.{blocks_left}
-use Rattle.gateway_core.specs.FirstStep.{first_step}
+use Rattle.gateway_core.specs.FirstPacket.{first_step}
 use Rattle.gateway_core.specs.Lists.{bits_in, own_in, later_in, AllShort, IsNext}
 
 -- the PLPs from one on are that one and the others
@@ -34,12 +35,6 @@ bodies_more c n blocks from lt = let e : length c.plps - from ≡ suc (length c.
 bodies_none : (c : Config) (n : ℕ) (blocks : ℕ → List (List Bool)) (from : ℕ) → length c.plps ≤ from → plp_bodies c n blocks from
     ≡ []
 bodies_none c n blocks from le = let e : length c.plps - from ≡ 0 = omega arith in rw e refl
-
-pub flat_same : (f g : ℕ → List Body) (a k : ℕ) → ((j : ℕ) → a ≤ j → j < a + k → f j ≡ g j) → flat_map f (range_with_len a k)
-    ≡ flat_map g (range_with_len a k)
-flat_same f g a zero h = refl
-flat_same f g a (suc k) h =
-    rw (h a (omega arith) (omega arith), flat_same f g (a + 1) k (λ j le lt. h j (omega arith) (omega arith))) refl
 
 none_from : (f : ℕ → List Body) (a k : ℕ) → ((j : ℕ) → a ≤ j → f j ≡ []) → flat_map f (range_with_len a k) ≡ []
 none_from f a zero h = refl

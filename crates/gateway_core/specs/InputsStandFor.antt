@@ -15,7 +15,7 @@ use Rattle.mode_adapt.specs.declared.chain.Chain.{Chain}
 use Rattle.gateway_core.specs.Events.{Event, begun}
 use Rattle.gateway_core.specs.Lists.{bits_in, own_in}
 use Rattle.gateway_core.specs.IsFed.{Fed, IsFed, most}
-use Rattle.gateway_core.specs.Told.{Told, told, in_next, Continues}
+use Rattle.gateway_core.specs.InputSoFar.{Told, told, in_next, Continues}
 use Rattle.gateway_core.specs.declared.input.Input.{Input}
 
 -- A pool has a list for each PLP, and the chunks of the interleaving frames under way.

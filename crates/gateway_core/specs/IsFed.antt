@@ -13,7 +13,7 @@ use Rattle.mode_adapt.specs.Place.{HasPlace}
 use Rattle.mode_adapt.specs.StandsFor.{ChainStandsFor, most_blocks, early_blocks}
 use Rattle.mode_adapt.specs.declared.chain.Chain.{Chain}
 use Rattle.gateway_core.specs.Lists.{bits_in}
-use Rattle.gateway_core.specs.Told.{Told}
+use Rattle.gateway_core.specs.InputSoFar.{Told}
 use Rattle.gateway_core.specs.declared.input.Input.{Input}
 
 -- the packets that the next frame still wants; none from an input that ended
@@ -55,3 +55,13 @@ pub record IsSupplied (i : Input) (pool : State) (list : ℕ) : Type 0 where
 -- the greatest number of blocks that an input gives for an interleaving frame
 abbrev pub most : Input → ℕ
 most i = most_blocks i.chain
+
+-- what null packets leave as it was: the slots that are over when the next frame begins, how many packets there were if the input
+-- ended, and that number
+pub record Bounds : Type 0 where
+  pub due : ℕ
+  pub total : Option ℕ
+  pub most : ℕ
+
+abbrev pub bounds_of : Input → Bounds
+bounds_of i = record { due = i.due; total = i.total; most = most i }

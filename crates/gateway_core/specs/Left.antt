@@ -7,7 +7,7 @@ use Rattle.t2mi_packet.specs.declared.packet.Body.{Body}
 use Rattle.t2mi_packet.specs.declared.packet.Body.TheVariants.{Timestamp}
 use Rattle.gateway_core.specs.BlocksLeft.{blocks_left}
 use Rattle.gateway_core.specs.Lists.{bits_in, own_in, later_in}
-use Rattle.gateway_core.specs.FirstStep.{first_step}
+use Rattle.gateway_core.specs.FirstPacket.{first_step}
 use Rattle.gateway_core.specs.Whole.{IsWhole}
 use Rattle.gateway_core.specs.Packets.{stamp_of, l1_body, packet_with}
 use Rattle.gateway_core.specs.Signalling.{dyn_part}

@@ -1,5 +1,5 @@
 pub mod Events
-pub mod Told
+pub mod InputSoFar
 pub mod InputsStandFor
 pub mod Signalling
 pub mod Packets
@@ -13,7 +13,7 @@ pub mod Whole
 pub mod BlocksLeft
 pub mod Left
 pub mod Carried
-pub mod FirstStep
+pub mod FirstPacket
 pub mod Flowing
 -- of the crates below, for those who read this one
 pub use Rattle.terms.specs.Bits

@@ -4,7 +4,7 @@ ghost use Rattle.linked_pool.specs.Fits.{frame_chunks};
 ghost use Rattle.linked_pool.specs.Pool.{list_at};
 ghost use Rattle.plp_config.specs.declared.moment.TheConstants.{MOST_FRAMES};
 ghost use Rattle.gateway_core.specs.Lists.{AllShort, IsNext, own_in};
-ghost use Rattle.gateway_core.specs.FirstStep.{first_step};
+ghost use Rattle.gateway_core.specs.FirstPacket.{first_step};
 ghost use Rattle.gateway_core.specs.declared.frame.Step.TheVariants.{Over};
 
 use crate::packet::{write_block, write_l1_current, write_timestamp};
@@ -133,7 +133,7 @@ impl Frame {
         ensures layout { layout_of self.new ≡ record (layout_of self.old) { number = number } }
     {
         block_law();
-        plan.obeys_rules();
+        plan.rules_law();
         self.dynamic.write(plan, number, &self.counts);
         self.number = number;
         self.step = first_step(plan, number);

@@ -99,7 +99,7 @@ impl<'p> Gateway<'p> {
         ensures status { status_of self.new ≡ status_of self.old }
     {
         early_fits_law();
-        self.plan.obeys_rules();
+        self.plan.rules_law();
         offer(&mut self.inputs, &mut self.frame.blocks, plp, packet);
     }
 
@@ -132,7 +132,7 @@ impl<'p> Gateway<'p> {
         } }
         ensures more { bytes_left self.new ≤ bytes_left self.old + 2 ^ 32 }
     {
-        self.plan.obeys_rules();
+        self.plan.rules_law();
         cut(
             self.plan,
             &mut self.inputs,

@@ -62,15 +62,15 @@ fn end_frame(chain: &mut Chain, pool: &mut Pool, list: u32) -> u16
 impl Input {
     ghost use Rattle.std.specs.Prelude.{◌≡◌, ◌<◌, ◌≤◌, ◌+◌, ◌*◌, ◌^◌, ℕ, List, Bool, [], true, false, length, IfOk, IfSome};
     ghost use Rattle.std.specs.Prelude.{is_some};
-    ghost use Rattle.linked_pool.specs.Pool.{list_at, Others, IsWhole};
+    ghost use Rattle.linked_pool.specs.Pool.{Others, IsWhole};
     ghost use Rattle.plp_config.specs.InterleavingFrames.{is_first};
     ghost use Rattle.plp_config.specs.Plps.{plp_at};
     ghost use Rattle.plp_config.specs.Capacity.{IsPlan};
     ghost use Rattle.plp_config.specs.SlotTime.{slots_by};
     ghost use Rattle.plp_config.specs.declared.config.Config.{Config};
     ghost use Rattle.mode_adapt.specs.Place.{HasPlace};
-    ghost use Rattle.gateway_core.specs.Told.{Told, with_packet, at_end, in_next};
-    ghost use Rattle.gateway_core.specs.IsFed.{IsFed, IsSupplied, wanted, most};
+    ghost use Rattle.gateway_core.specs.InputSoFar.{Told, with_packet, at_end, in_next};
+    ghost use Rattle.gateway_core.specs.IsFed.{IsFed, IsSupplied, wanted, most, bounds_of};
     ghost use Rattle.gateway_core.specs.InputsStandFor.{HasCut};
 
     /// An input of no packets yet, for the PLP at a place of the plan. No later call takes memory.
@@ -81,7 +81,7 @@ impl Input {
     {
         slot_time_law();
         length_law();
-        plan.obeys_rules();
+        plan.rules_law();
         Ok(Input {
             chain: Chain::open(alloc, plan, plp)?,
             due: 0,
@@ -105,8 +105,6 @@ impl Input {
         ensures total { result ≡ self.now.total }
         ensures small { IfSome result (λ total. total < 2 ^ 54) }
     {
-        // A look at a field tells what holds of all.
-        let _ = self.due;
         self.total
     }
 
@@ -119,7 +117,7 @@ impl Input {
             → IsFed self.old c plp t (bits_in pool.old list)
             → IsFed self.new c plp (with_packet t packet.now) (bits_in pool.new list) }
         ensures wanted { wanted self.new + 1 ≡ wanted self.old }
-        ensures most { most self.new ≡ most self.old }
+        ensures bounds { bounds_of self.new ≡ bounds_of self.old }
         ensures short { AllShort pool.old → AllShort pool.new }
         ensures others { Others pool.old pool.new list }
         ensures whole { IsWhole pool.new }
@@ -133,7 +131,7 @@ impl Input {
         ensures fed { (c : Config) (plp : ℕ) (t : Told) (early : List (List Bool)) → IsFed self.old c plp t early
             → IsFed self.new c plp (at_end t) early }
         ensures wanted { wanted self.new ≡ 0 }
-        ensures most { most self.new ≡ most self.old }
+        ensures bounds { bounds_of self.new ≡ record (bounds_of self.old) { total = self.new.total } }
     {
         if self.total.is_none() {
             self.total = Some(self.slot);
@@ -151,9 +149,7 @@ impl Input {
             → IsFed self.new c plp t (bits_in pool.new list) }
         ensures ready { ∥ IsSupplied self.new pool.new list ∥₁ }
         ensures slot { self.new.slot ≡ self.old.slot + 1 }
-        ensures due { self.new.due ≡ self.old.due }
-        ensures total { self.new.total ≡ self.old.total }
-        ensures most { most self.new ≡ most self.old }
+        ensures bounds { bounds_of self.new ≡ bounds_of self.old }
         ensures short { AllShort pool.old → AllShort pool.new }
         ensures others { Others pool.old pool.new list }
     {
@@ -171,8 +167,7 @@ impl Input {
             → IsFed self.old c plp t (bits_in pool.old list)
             → IsFed self.new c plp t (bits_in pool.new list) }
         ensures full { self.new.slot ≡ self.new.due }
-        ensures due { self.new.due ≡ self.old.due }
-        ensures most { most self.new ≡ most self.old }
+        ensures bounds { bounds_of self.new ≡ bounds_of self.old }
         ensures short { AllShort pool.old → AllShort pool.new }
         ensures others { Others pool.old pool.new list }
     {
@@ -191,8 +186,7 @@ impl Input {
             → IsFed self.old c plp t (bits_in pool.old list)
             → IsFed self.new c plp t (bits_in pool.new list) }
         ensures full { self.new.slot ≡ self.new.due }
-        ensures due { self.new.due ≡ self.old.due }
-        ensures most { most self.new ≡ most self.old }
+        ensures bounds { bounds_of self.new ≡ bounds_of self.old }
         ensures short { AllShort pool.old → AllShort pool.new }
         ensures others { Others pool.old pool.new list }
     {
@@ -213,7 +207,7 @@ impl Input {
             → is_first c plp t.frame ≡ true → due ≡ slots_by c plp ((t.frame + 1) * c.ticks)
             → IsFed self.old c plp t (bits_in pool.old list) → HasCut self.new c plp t pool.new result }
         ensures few { result ≤ most self.old }
-        ensures most { most self.new ≡ most self.old }
+        ensures bounds { bounds_of self.new ≡ record (bounds_of self.old) { due = self.new.due } }
         ensures short { AllShort pool.old → AllShort pool.new }
         ensures others { Others pool.old pool.new list }
         ensures whole { IsWhole pool.new }
@@ -235,7 +229,7 @@ impl Input {
         ensures fed { (c : Config) (plp : ℕ) (t : Told) (early : List (List Bool)) → IsPlan c → plp < length c.plps
             → is_first c plp t.frame ≡ false → due ≡ slots_by c plp ((t.frame + 1) * c.ticks)
             → IsFed self.old c plp t early → IsFed self.new c plp (in_next t) early }
-        ensures most { most self.new ≡ most self.old }
+        ensures bounds { bounds_of self.new ≡ record (bounds_of self.old) { due = self.new.due } }
     {
         slot_time_law();
         length_law();

@@ -119,17 +119,15 @@ pub fn cut(plan: &Plan, inputs: &mut [Input], pool: &mut Pool, frame: u64, count
     requires ready { ∥ AreSupplied plan.now frame inputs.old (bits_in pool.old) ∥₁ }
     requires lists { length pool.old.lists ≡ length inputs.old }
     requires counts { length counts.old ≡ length plan.now.plps }
-    ensures fed { (events : List Event) → frame ≡ begun events → HasFrame plan.now pool.old
-        → AllFed inputs.old (bits_in pool.old) plan.now events
+    ensures fed { (events : List Event) → frame ≡ begun events → AllFed inputs.old (bits_in pool.old) plan.now events
         → AllFed inputs.new (later_in plan.now frame pool.new) plan.now (events ++ Begun ∷ []) }
-    ensures blocks { (events : List Event) → frame ≡ begun events → HasFrame plan.now pool.old
-        → AllFed inputs.old (bits_in pool.old) plan.now events
+    ensures blocks { (events : List Event) → frame ≡ begun events → AllFed inputs.old (bits_in pool.old) plan.now events
         → (all : ℕ → List (List ℕ)) → AllContinue plan.now events all → AreBlocks pool.new plan.now frame all }
-    ensures counts { (events : List Event) → frame ≡ begun events → HasFrame plan.now pool.old
-        → AllFed inputs.old (bits_in pool.old) plan.now events → CountsStay plan.now events frame counts.old
+    ensures counts { (events : List Event) → frame ≡ begun events → AllFed inputs.old (bits_in pool.old) plan.now events
+        → CountsStay plan.now events frame counts.old
         → (all : ℕ → List (List ℕ)) → AllContinue plan.now events all → counts.new ≡ told_counts plan.now all frame }
-    ensures stay { (events : List Event) → frame ≡ begun events → HasFrame plan.now pool.old
-        → AllFed inputs.old (bits_in pool.old) plan.now events → CountsStay plan.now events frame counts.old
+    ensures stay { (events : List Event) → frame ≡ begun events → AllFed inputs.old (bits_in pool.old) plan.now events
+        → CountsStay plan.now events frame counts.old
         → CountsStay plan.now (events ++ Begun ∷ []) (frame + 1) counts.new }
     ensures fit { AreFor inputs.old plan.now → CountsFit plan.now counts.old → CountsFit plan.now counts.new }
     // no list has more than an interleaving frame
@@ -143,9 +141,9 @@ pub fn cut(plan: &Plan, inputs: &mut [Input], pool: &mut Pool, frame: u64, count
 {
     early_fits_law();
     spread_law();
-    plan.obeys_rules();
+    plan.rules_law();
     for plp in 0..inputs.len() {
         counts[plp] = cut_one(plan, inputs, pool, plp, frame, counts[plp]);
     }
-    pool.stays_whole();
+    pool.is_whole_law();
 }

@@ -9,7 +9,7 @@ use t2mi_stream::complete_law;
 
 /// A run is three frames longer at least than the next frame when all packets that it wants of an input were there. So a
 /// caller that ends each input where it ends, and begins no frame once the last was begun, begins no frame behind the run.
-pub fn not_yet_last()
+pub fn not_yet_last_law()
     ensures { NotYetLast }
 {
     length_law();

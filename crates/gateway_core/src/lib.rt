@@ -12,7 +12,7 @@ mod run_length;
 mod signalling;
 
 pub use gateway::Gateway;
-pub use laws::{ahead_law, front_law, last_law, not_yet_last, units_law};
+pub use laws::{ahead_law, front_law, last_law, not_yet_last_law, units_law};
 
 #[cfg(test)]
 mod tests;

@@ -47,7 +47,7 @@ fn conf_bits(alloc: Global, plan: &Plan) -> Result<BitBuf, OutOfMemory>
     ensures short { IfOk result (λ bits. length bits ≤ MOST_CONF_BITS) }
 {
     conf_law();
-    plan.obeys_rules();
+    plan.rules_law();
     let conf = conf_of(alloc, plan)?;
     let mut bits = BitBuf::new(alloc);
     match write_conf(&mut bits, &conf) {
@@ -88,7 +88,7 @@ fn write_bits(
     ensures rows { length rows.new.plps ≡ length plan.now.plps }
 {
     dyn_law();
-    plan.obeys_rules();
+    plan.rules_law();
     dyn_of(plan, frame, shape, rows);
     bits.clear();
     // There is room for it.
@@ -130,7 +130,7 @@ impl Dynamic {
         ensures plps { length self.new.shape.counts ≡ length plan.now.plps }
     {
         field_law();
-        plan.obeys_rules();
+        plan.rules_law();
         shape(plan, counts, &mut self.shape);
         write_bits(plan, frame, &self.shape, &mut self.rows, &mut self.bits);
     }

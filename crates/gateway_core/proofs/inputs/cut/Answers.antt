@@ -16,7 +16,7 @@ pub cut_one-requires-clause-ready : goal.cut_one-requires-clause-ready
 cut_one-requires-clause-ready c = λ d. ∥∥₁_map c.requires.ready
     (λ (s : AreSupplied c.args.plan.now c.args.frame c.args.inputs.now (bits_in c.args.pool.now)).
     cut_supplied c.early_fits_law.ensures.early c.early_fits_law.ensures.blocks _ _ _ _ _ _ _ _ c.loop-plp.plp d
-    c.obeys_rules.ensures.plan c.requires.whole (omega (arith, c.loop-plp-test.true)) c.loop-plp.invariant.cut c.requires.frame s)
+    c.rules_law.ensures.plan c.requires.whole (omega (arith, c.loop-plp-test.true)) c.loop-plp.invariant.cut c.requires.frame s)
 
 pub loop-plp-init : goal.loop-plp-init
 loop-plp-init c = record { cut = cut_none _ _ _ _ _; most = λ j d. refl; short = λ short. short }
@@ -24,7 +24,7 @@ loop-plp-init c = record { cut = cut_none _ _ _ _ _; most = λ j d. refl; short 
 pub loop-plp-preserved : goal.loop-plp-preserved
 loop-plp-preserved c = record {
   cut = cut_step c.early_fits_law.ensures.early c.early_fits_law.ensures.blocks _ _ _ _ _ _ _ _ _ _ c.loop-plp.plp _
-      c.obeys_rules.ensures.plan c.requires.whole c.loop-plp-test.true (omega arith)
+      c.rules_law.ensures.plan c.requires.whole c.loop-plp-test.true (omega arith)
       c.loop-plp.invariant.cut c.cut_one.ensures.cuts;
   most = λ j d. c.cut_one.ensures.most j d ∙ c.loop-plp.invariant.most j d;
   short = λ short. c.cut_one.ensures.short (c.loop-plp.invariant.short short);
@@ -36,19 +36,21 @@ returns c =
     let cut = c.loop-plp.invariant.cut in
     let len = c.loop-plp.auto.counts ∙ c.requires.counts in
     record {
-      fed = λ events e has was. cut_fed _ _ _ _ _ _ _ _ _ events cut all c.loop-plp.auto.inputs e has was;
-      blocks = λ events e has was inputs more. cut_blocks _ _ _ _ _ _ _ _ _ events inputs cut all c.requires.whole e has was more;
-      counts = λ events e has was stay inputs more. cut_counts _ _ _ _ _ _ _ _ _ events inputs cut all c.requires.whole len e has
-          was stay more;
-      stay = λ events e has was stay. counts_stay c.spread_law.ensures.frames _ _ _ events c.obeys_rules.ensures.plan
-          (λ inputs more. cut_counts _ _ _ _ _ _ _ _ _ events inputs cut all c.requires.whole len e has was stay more);
+      fed = λ events e was. cut_fed _ _ _ _ _ _ _ _ _ events cut all c.loop-plp.auto.inputs e c.requires.frame was;
+      blocks = λ events e was inputs more. cut_blocks _ _ _ _ _ _ _ _ _ events inputs cut all c.requires.whole e c.requires.frame
+          was more;
+      counts = λ events e was stay inputs more. cut_counts _ _ _ _ _ _ _ _ _ events inputs cut all c.requires.whole len e
+          c.requires.frame was stay more;
+      stay = λ events e was stay. counts_stay c.spread_law.ensures.frames _ _ _ events c.rules_law.ensures.plan
+          (λ inputs more. cut_counts _ _ _ _ _ _ _ _ _ events inputs cut all c.requires.whole len e c.requires.frame was stay
+          more);
       fit = λ are fit. cut_fit _ _ _ _ _ _ _ _ _ cut all c.requires.whole len are fit;
       within = λ plp lt. cut_within c.early_fits_law.ensures.early c.early_fits_law.ensures.blocks _ _ _ _ _ _ _ _ _ plp
-          c.obeys_rules.ensures.plan cut all c.requires.whole c.requires.frame lt c.requires.ready;
+          c.rules_law.ensures.plan cut all c.requires.whole c.requires.frame lt c.requires.ready;
       len = c.loop-plp.auto.counts;
       most = c.loop-plp.invariant.most;
       short = c.loop-plp.invariant.short;
       lists = cut.lists_count;
       opened = cut.opened;
-      whole = c.stays_whole.ensures;
+      whole = c.is_whole_law.ensures;
     }

@@ -2,6 +2,7 @@ use Rattle.std.proofs.Common.{◌≡◌, ◌+◌, ◌*◌, true, arith, ap, sym,
 use Rattle.plp_config.specs.InterleavingFrames.{is_first}
 use Rattle.plp_config.specs.SlotTime.{slots_by}
 use Rattle.plp_config.specs.declared.config.Config.{Config}
+use Rattle.gateway_core.specs.IsFed.{Bounds}
 use Rattle.gateway_core.proofs.InputsLemmas.{cuts_one, same_most}
 use Rattle.gateway_core.proofs.inputs.cut_one.Goals as goal
 
@@ -18,4 +19,5 @@ returns-clause-cuts c =
 
 pub returns-clause-most : goal.returns-clause-most
 returns-clause-most c =
-    same_most c.args.inputs.now c.args.plp c.index-inputs-plp-2.result c.cut.new.self c.requires.place c.cut.ensures.most
+    same_most c.args.inputs.now c.args.plp c.index-inputs-plp-2.result c.cut.new.self c.requires.place
+    (ap (λ (b : Bounds). b.most) c.cut.ensures.bounds)

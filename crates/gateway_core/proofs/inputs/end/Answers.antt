@@ -1,4 +1,5 @@
-use Rattle.std.proofs.Common.{◌∙◌}
+use Rattle.std.proofs.Common.{◌∙◌, ap}
+use Rattle.gateway_core.specs.IsFed.{Bounds}
 use Rattle.gateway_core.proofs.InputsLemmas.{fed_ended, one_wants, others_want, same_most}
 use Rattle.gateway_core.proofs.inputs.end.Goals as goal
 
@@ -8,7 +9,8 @@ returns-clause-fed c = λ early config events h. fed_ended c.args.inputs.now c.a
 
 pub returns-clause-most : goal.returns-clause-most
 returns-clause-most c =
-    same_most c.args.inputs.now c.args.plp c.index-inputs-plp.result c.end.new.self c.requires c.end.ensures.most
+    same_most c.args.inputs.now c.args.plp c.index-inputs-plp.result c.end.new.self c.requires
+    (ap (λ (b : Bounds). b.most) c.end.ensures.bounds)
 
 pub returns-clause-none : goal.returns-clause-none
 returns-clause-none c = one_wants c.args.inputs.now c.args.plp c.end.new.self c.requires ∙ c.end.ensures.wanted

@@ -1,3 +1,5 @@
+use Rattle.std.proofs.Common.{ap}
+use Rattle.gateway_core.specs.IsFed.{Bounds}
 use Rattle.gateway_core.proofs.InputsLemmas.{fed_offered, one_fewer, others_want, same_most}
 use Rattle.gateway_core.proofs.inputs.offer.Goals as goal
 
@@ -9,7 +11,8 @@ returns-clause-fed c = λ config events.
 
 pub returns-clause-most : goal.returns-clause-most
 returns-clause-most c =
-    same_most c.args.inputs.now c.args.plp c.index-inputs-plp.result c.offer.new.self c.requires.place c.offer.ensures.most
+    same_most c.args.inputs.now c.args.plp c.index-inputs-plp.result c.offer.new.self c.requires.place
+    (ap (λ (b : Bounds). b.most) c.offer.ensures.bounds)
 
 pub returns-clause-fewer : goal.returns-clause-fewer
 returns-clause-fewer c =

@@ -23,7 +23,7 @@ pub unwrap-requires : goal.unwrap-requires
 unwrap-requires c =
     let same = rows c.args.plan.now c.args.frame c.args.shape.now c.dyn_of.new.out c.dyn_of.ensures.value in
     let bits = few c.dyn_law.ensures.written c.dyn_law.ensures.len c.args.plan.now c.dyn_of.new.out
-    (c.dyn_of.ensures.fits c.requires.fits) same c.obeys_rules.ensures.ranges.plps.1 in
+    (c.dyn_of.ensures.fits c.requires.fits) same c.rules_law.ensures.ranges.plps.1 in
     let room : length (dyn_bits c.dyn_of.new.out) ≤ 8 * MOST_DYN_BYTES = omega (arith, bits) in
     takes_all c.write_dyn.result MOST_DYN_BYTES c.clear.new.self c.write_dyn.new.sink (dyn_bits c.dyn_of.new.out) c.clear.ensures
     room c.write_dyn.ensures.fault
@@ -32,7 +32,7 @@ pub returns : goal.returns
 returns c =
     let same = rows c.args.plan.now c.args.frame c.args.shape.now c.dyn_of.new.out c.dyn_of.ensures.value in
     let bits = few c.dyn_law.ensures.written c.dyn_law.ensures.len c.args.plan.now c.dyn_of.new.out
-    (c.dyn_of.ensures.fits c.requires.fits) same c.obeys_rules.ensures.ranges.plps.1 in
+    (c.dyn_of.ensures.fits c.requires.fits) same c.rules_law.ensures.ranges.plps.1 in
     let room : length (dyn_bits c.dyn_of.new.out) ≤ 8 * MOST_DYN_BYTES = omega (arith, bits) in
     let all = written_whole c.write_dyn.result MOST_DYN_BYTES c.clear.new.self c.write_dyn.new.sink
     (dyn_bits c.dyn_of.new.out) c.clear.ensures room c.write_dyn.ensures.ok c.write_dyn.ensures.fault in

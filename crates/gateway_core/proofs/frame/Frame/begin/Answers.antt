@@ -9,7 +9,7 @@ returns-clause-few c = λ s.
     let p = c.args.plan.now in
     let blocks = c.args.self.now.blocks in
     few_left c.block_law.ensures.field p c.args.number c.first_step-self.result _ (own_in p c.args.number blocks)
-    c.obeys_rules.ensures.plan
+    c.rules_law.ensures.plan
     (λ j lt. let few = own_few p c.args.number blocks j in let within = c.requires.within j lt in omega (arith, few, within))
 
 pub returns-clause-early : goal.returns-clause-early

@@ -1,4 +1,4 @@
-use Rattle.std.proofs.Common.{rules, ◌≡◌, ◌∙◌, ◌+◌, ◌++◌, ◌∷◌, [], Bool, List, ℕ, length, refl, ap, sym, subst}
+use Rattle.std.proofs.Common.{rules, ◌≡◌, ◌∙◌, ◌+◌, ◌++◌, ◌∷◌, [], Bool, List, ℕ, length, ap, sym, subst}
 use Rattle.std.proofs.Math.Logic.{∥∥₁_map}
 use Rattle.std.specs.Vec.{with_items}
 use Rattle.std.proofs.lemmas.List.{with_items_is}
@@ -11,7 +11,7 @@ use Rattle.gateway_core.specs.Left.{Layout, left, early_of}
 use Rattle.gateway_core.specs.StandsFor.{GatewayStandsFor, Holds}
 use Rattle.gateway_core.specs.declared.input.Input.{Input}
 use Rattle.gateway_core.proofs.FlowLemmas.{dry_when, over_left}
-use Rattle.gateway_core.proofs.HoldsLemmas.{early_over, fed_kept, has_frame, holds_begin, supplied_over, supplied_begun}
+use Rattle.gateway_core.proofs.HoldsLemmas.{early_over, fed_kept, holds_begin, supplied_over, supplied_begun}
 use Rattle.gateway_core.proofs.InputsLemmas.{most_stays, fit_on}
 use Rattle.gateway_core.proofs.gateway.Gateway.begin_frame.Goals as goal
 
@@ -33,23 +33,22 @@ returns-clause-stands c = λ config events h.
     let stay : CountsStay p events g.frames c.deref_mut-2.result.now =
     subst (λ (l : List ℕ). CountsStay p events g.frames l) (sym c.deref_mut-2.ensures.value)
     (subst (λ (k : Config). CountsStay k events g.frames f.counts.items) (sym h.0) h.2) in
-    let has = has_frame p p f.blocks refl g.chunks g.lists in
     let items = with_items_is g.inputs c.cut.new.inputs (c.cut.auto.inputs ∙ c.deref_mut.ensures.len) in
     let counts = with_items_is f.counts c.cut.new.counts (c.cut.auto.counts ∙ c.deref_mut-2.ensures.len) in
     let later : ℕ → List (List Bool) = later_in p g.frames c.cut.new.pool in
     let fed : AllFed (with_items g.inputs c.cut.new.inputs).items (early_of p now) p (events ++ Begun ∷ []) =
     fed_kept _ later (early_of p now) p (events ++ Begun ∷ []) (λ j. c.begin-2.ensures.feeds.early j ∙ c.begin.ensures.early j)
     (subst (λ (l : List Input). AllFed l later p (events ++ Begun ∷ [])) (sym items)
-    (c.cut.ensures.fed events was.frames_are has old)) in
+    (c.cut.ensures.fed events was.frames_are old)) in
     let number : begun.number ≡ g.frames = ap (λ (l : Layout). l.number) c.begin.ensures.layout in
     let new = holds_begin g.inputs.items (with_items g.inputs c.cut.new.inputs).items (early_of p f)
     (early_of p now) g.signalling g.frames g.flow c.begin-2.new.self f.number now.number (left p g.signalling f)
     (left p g.signalling begun)
     (left p g.signalling now) (with_items f.counts c.cut.new.counts).items
     (own_in p g.frames c.cut.new.pool) p events
-    (over_left p g.signalling f over) c.begin-2.ensures.finished fed c.obeys_rules.ensures.ranges.plps.0
-    (λ all more. counts ∙ c.cut.ensures.counts events was.frames_are has old stay all more)
-    (λ all more j lt. c.cut.ensures.blocks events was.frames_are has old all more j lt)
+    (over_left p g.signalling f over) c.begin-2.ensures.finished fed c.rules_law.ensures.ranges.plps.0
+    (λ all more. counts ∙ c.cut.ensures.counts events was.frames_are old stay all more)
+    (λ all more j lt. c.cut.ensures.blocks events was.frames_are old all more j lt)
     (c.begin.ensures.all g.signalling)
     (λ all given k. c.begin-2.ensures.feeds.flows all given
     (subst (λ (n : ℕ). Flows g.flow.outlet p n (left p g.signalling begun) all given) (sym number) k)) was in
@@ -60,7 +59,7 @@ returns-clause-stands c = λ config events h.
           (g.frames + 1) c.begin-2.new.self now.number (left p g.signalling now) k (events ++ Begun ∷ [])) h.0 new,
       subst (λ (k : Config). CountsStay k (events ++ Begun ∷ []) (g.frames + 1) now.counts.items) h.0
           (subst (λ (l : List ℕ). CountsStay p (events ++ Begun ∷ []) (g.frames + 1) l) (sym kept)
-          (c.cut.ensures.stay events was.frames_are has old stay)),
+          (c.cut.ensures.stay events was.frames_are old stay)),
     )
 
 pub cut-requires-clause-ready : goal.cut-requires-clause-ready
@@ -106,7 +105,7 @@ invariant_of-self-2 c =
           (λ events frames fed. fed_kept _ later (early_of p now) p (events ++ Begun ∷ [])
           (λ j. c.begin-2.ensures.feeds.early j ∙ c.begin.ensures.early j)
           (subst (λ (l : List Input). AllFed l later p (events ++ Begun ∷ [])) (sym items)
-          (c.cut.ensures.fed events frames (has_frame p p f.blocks refl g.chunks g.lists)
+          (c.cut.ensures.fed events frames
           (subst (λ (l : List Input). AllFed l (bits_in f.blocks) p events) (sym c.deref_mut.ensures.value)
           (early_over g.inputs.items p f.number f.step f.plp f.blocks p events over fed))))) s);
     }

@@ -10,10 +10,8 @@ loop-preserved c =
       fed = λ config plp t ended place h. o.fed config plp t ended
           (place_stays config plp c.args.pool.now c.loop.pool c.args.list i.others place) (i.fed config plp t ended place h);
       ready = o.ready;
-      total = o.total ∙ i.total;
       short = λ short. o.short (i.short short);
       others = others_on c.args.pool.now c.loop.pool c.offer_null.new.pool c.args.list i.others o.others;
       slot = omega (arith, o.slot, i.slot);
-      due = o.due ∙ i.due;
-      most = o.most ∙ i.most;
+      bounds = o.bounds ∙ i.bounds;
     }

@@ -2,8 +2,8 @@ use Rattle.std.proofs.Common.{◌≡◌, ℕ, true}
 use Rattle.linked_pool.specs.Pool.{Others}
 use Rattle.plp_config.specs.declared.config.Config.{Config}
 use Rattle.mode_adapt.specs.Place.{HasPlace}
-use Rattle.gateway_core.specs.Told.{Told}
-use Rattle.gateway_core.specs.IsFed.{IsFed, IsSupplied, most}
+use Rattle.gateway_core.specs.InputSoFar.{Told}
+use Rattle.gateway_core.specs.IsFed.{IsFed, IsSupplied, bounds_of}
 use Rattle.gateway_core.specs.Lists.{bits_in, AllShort}
 use Rattle.gateway_core.proofs.input.Input.fill.Given as goal
 
@@ -13,10 +13,8 @@ invariant-loop l = record {
       → IsFed l.initial.self c plp t (bits_in l.initial.pool l.list)
       → IsFed l.self c plp t (bits_in l.pool l.list);
   ready : ∥ IsSupplied l.self l.pool l.list ∥₁;
-  total : l.self.total ≡ l.initial.self.total;
   short : AllShort l.initial.pool → AllShort l.pool;
   others : Others l.initial.pool l.pool l.list;
   slot : l.self.slot ≡ l.counter;
-  due : l.self.due ≡ l.initial.self.due;
-  most : most l.self ≡ most l.initial.self;
+  bounds : bounds_of l.self ≡ bounds_of l.initial.self;
 }
