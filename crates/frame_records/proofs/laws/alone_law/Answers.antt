@@ -1,5 +1,0 @@
-use Rattle.frame_records.proofs.AloneLemmas.{alone_law}
-use Rattle.frame_records.proofs.laws.alone_law.Goals as goal
-
-pub returns : goal.returns
-returns c = alone_law c.stand_law.ensures.ordinal c.alone_law.ensures

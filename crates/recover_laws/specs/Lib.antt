@@ -1,0 +1,2 @@
+pub mod ToldEpochs
+pub mod Laws
