@@ -5,6 +5,6 @@ mod laws;
 mod reading;
 mod stop;
 
-pub use laws::{config_ends, one_config};
+pub use laws::{config_ends_law, one_config_law};
 pub use reading::{read_config, read_plan};
 pub use stop::{ConfigCause, ConfigStop};

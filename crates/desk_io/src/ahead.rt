@@ -1,11 +1,10 @@
 // A file that is read ahead.
 
-use crate::input::{BUFFER, Input};
+use crate::input::{BUFFER, Input, MOST_WANTED};
 use bit_slice::OutOfMemory;
 use ports::Desk;
 use std::alloc::Global;
 use std::marker::Model;
-use t2mi_packet::LARGEST;
 use thiserror::Error;
 
 /// A file that gives as many bytes is too long.
@@ -102,7 +101,7 @@ impl ReadAhead {
     // the file is nearly too long, no more is read than is wanted, so that what stands before is looked at first.
     fn read<D: Desk>(&mut self, desk: &mut D, least: usize, most: u64) -> Result<usize, ReadStop>
         requires opened { self.old.handle < length (D.state desk.old).opened }
-        requires within { (least ≤ most) × (least ≤ LARGEST) }
+        requires within { (least ≤ most) × (least ≤ MOST_WANTED) }
         requires less { length self.old.waiting < least }
         requires short { given_of self.old < longest_file }
         ensures reads { ReadsOn (D.state desk.old) (D.state desk.new) self.old self.new }
@@ -140,7 +139,7 @@ impl ReadAhead {
         most: u64,
     ) -> Result<bool, ReadStop>
         requires opened { self.old.handle < length (D.state desk.old).opened }
-        requires within { (least ≤ most) × (least ≤ LARGEST) }
+        requires within { (least ≤ most) × (least ≤ MOST_WANTED) }
         requires short { given_of self.old < longest_file }
         ensures reads { ReadsOn (D.state desk.old) (D.state desk.new) self.old self.new }
         ensures none { TakesNone (D.state desk.old) (D.state desk.new) self.old self.new }

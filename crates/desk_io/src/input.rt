@@ -9,10 +9,13 @@ use bit_slice::OutOfMemory;
 use ports::{Desk, DeskFault};
 use std::alloc::Global;
 use std::marker::Model;
-use t2mi_packet::LARGEST;
 
 /// How many bytes wait at most.
 pub const BUFFER: usize = 131_072;
+
+/// How many bytes may be wanted at once. There is room for as many behind those that wait: as it is an eighth of the buffer, what
+/// waits is moved to the front once in seven eighths of it at most.
+pub const MOST_WANTED: usize = 16_384;
 
 /// A range of places, end excluded.
 #[derive(Clone, Copy)]
@@ -45,11 +48,11 @@ impl Model for Input {
 fn settle(bytes: &mut [u8], span: Span) -> Span
     requires order { span.start ≤ span.end }
     requires within { span.end ≤ length bytes.old }
-    requires few { span.end - span.start + LARGEST ≤ BUFFER }
+    requires few { span.end - span.start + MOST_WANTED ≤ BUFFER }
     requires size { length bytes.old ≡ BUFFER }
     ensures { IsSettled bytes.old span bytes.new result }
 {
-    if BUFFER - span.end >= LARGEST {
+    if BUFFER - span.end >= MOST_WANTED {
         return span;
     }
     bytes.copy_within(span.start..span.end, 0);
@@ -92,7 +95,7 @@ fn read_behind<D: Desk>(
     requires opened { handle < length (D.state desk.old).opened }
     requires order { span.old.start ≤ span.old.end }
     requires within { span.old.end ≤ length bytes.old }
-    requires few { span.old.end - span.old.start + LARGEST ≤ BUFFER }
+    requires few { span.old.end - span.old.start + MOST_WANTED ≤ BUFFER }
     requires size { length bytes.old ≡ BUFFER }
     requires some { 0 < most }
     ensures reads { ReadsAhead (D.state desk.old) (D.state desk.new) handle (part_in span.old bytes.old)
@@ -108,14 +111,6 @@ fn read_behind<D: Desk>(
     let count = read_at(desk, handle, bytes, span.end, most)?;
     span.end += count;
     Ok(count)
-}
-
-// Puts bytes at the front of others.
-fn put_front(all: &mut [u8], bytes: &[u8])
-    requires { length bytes.now ≤ length all.old }
-    ensures { take (length bytes.now) all.new ≡ bytes.now }
-{
-    all[..bytes.len()].copy_from_slice(bytes);
 }
 
 impl Input {
@@ -149,18 +144,6 @@ impl Input {
         &self.bytes[self.span.start..self.span.end]
     }
 
-    /// Sets the bytes that wait.
-    pub fn set(&mut self, bytes: &[u8])
-        requires { length bytes.now ≤ BUFFER }
-        ensures { self.new ≡ bytes.now }
-    {
-        put_front(&mut self.bytes, bytes);
-        self.span = Span {
-            start: 0,
-            end: bytes.len(),
-        };
-    }
-
     /// Takes bytes from the front.
     pub fn skip(&mut self, count: usize)
         requires { count ≤ length self.old }
@@ -177,7 +160,7 @@ impl Input {
         most: u64,
     ) -> Result<usize, DeskFault>
         requires opened { handle < length (D.state desk.old).opened }
-        requires few { length self.old + LARGEST ≤ BUFFER }
+        requires few { length self.old + MOST_WANTED ≤ BUFFER }
         requires some { 0 < most }
         ensures reads { ReadsAhead (D.state desk.old) (D.state desk.new) handle self.old self.new }
         ensures count { IfOk result (λ n. length self.new ≡ length self.old + n) }

@@ -11,7 +11,7 @@ mod tests;
 mod writing;
 
 pub use ahead::{LONGEST_FILE, ReadAhead, ReadStop};
-pub use input::{BUFFER, Input};
+pub use input::{BUFFER, Input, MOST_WANTED};
 pub use laws::{appends_law, creates_law};
 pub use line::{Line, ROOM};
 pub use page::{PAGE, Page};

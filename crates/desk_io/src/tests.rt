@@ -3,13 +3,12 @@
 ghost use Rattle.std.specs.Prelude.{◌<◌, ◌≤◌, ◌≡◌, [], length, IfOk, IfSome};
 ghost use Rattle.desk_io.specs.Reading.{given_of, longest_file};
 
-use crate::{Input, ReadAhead, write_all};
+use crate::{Input, MOST_WANTED, ReadAhead, write_all};
 use bit_slice::OutOfMemory;
 use ports::{Desk, DeskFault, MemoryDesk};
 use std::alloc::Global;
 use std::process::Abort;
 use std::test::Fail;
-use t2mi_packet::LARGEST;
 
 // A desk with this file, of which a read or write moves at most so many bytes.
 fn desk(alloc: Global, bytes: &[u8], most: usize) -> Result<MemoryDesk, Fail>
@@ -46,7 +45,7 @@ fn read_until(
     most: u64,
 ) -> Option<bool>
     requires opened { reader.old.handle < length desk.old.state.opened }
-    requires within { (least ≤ most) × (least ≤ LARGEST) }
+    requires within { (least ≤ most) × (least ≤ MOST_WANTED) }
     requires short { given_of reader.old < longest_file }
     ensures opened { length desk.new.state.opened ≡ length desk.old.state.opened }
     ensures handle { reader.new.handle ≡ reader.old.handle }
@@ -105,7 +104,7 @@ impl Reading {
         let handle = self.handle;
         match step {
             Step::Until(least, most, full, waiting) => {
-                if least > LARGEST || least as u64 > most {
+                if least > MOST_WANTED || least as u64 > most {
                     return None;
                 }
                 let came = read_until(&mut desk, &mut reader, least, most)?;

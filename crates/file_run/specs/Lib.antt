@@ -1,6 +1,7 @@
 pub mod Events
 pub mod FileRun
 pub mod Laws
+pub mod OneRun
 pub mod Running
 pub mod Steps
 pub mod Telling

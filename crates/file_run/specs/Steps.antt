@@ -1,6 +1,6 @@
 -- What a machine may want.
 use Rattle.std.specs.Prelude.{◌<◌, ◌≤◌, ◌≡◌, ◌+◌, ℕ, false, List, length}
-use Rattle.t2mi_packet.specs.declared.reading.TheConstants.{LARGEST}
+use Rattle.desk_io.specs.declared.input.TheConstants.{MOST_WANTED}
 use Rattle.desk_io.specs.Reading.{longest_file}
 use Rattle.file_run.specs.Events.{Event, fed, has_ended}
 use Rattle.file_run.specs.declared.machine.Step.{Step}
@@ -29,7 +29,7 @@ pub record CanBeRead (inputs : ℕ) (events : List Event) (reach : ℕ → ℕ) 
   pub place : input < inputs
   pub is_open : has_ended input events ≡ false
   pub some : 0 < least
-  pub few : least ≤ LARGEST
+  pub few : least ≤ MOST_WANTED
   pub order : least ≤ most
   pub near : length (fed input events) + most ≤ reach input
 
@@ -38,6 +38,12 @@ abbrev pub IsWanted : ℕ → List Event → (ℕ → ℕ) → Step → Type 0
 IsWanted inputs events reach (Read input least most) = CanBeRead inputs events reach input least most
 IsWanted inputs events reach Give = Unit {0}
 IsWanted inputs events reach End = Unit {0}
+
+-- A machine has come from a start.
+pub record HasCome {A : Type 0} (Becomes : A → List Event → A → Type 0) (m : A) : Type 0 where
+  pub start : A
+  pub events : List Event
+  pub came : Becomes start events m
 
 -- With so many bytes more at most 2^40 were fed of an input.
 pub record HasRoom {A : Type 0} (Becomes : A → List Event → A → Type 0) (m : A) (input count : ℕ) : Type 0 where

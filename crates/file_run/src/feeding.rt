@@ -5,9 +5,8 @@ ghost use Rattle.desk_io.specs.Reading.{given_of, spare, longest_file, ReadsOn, 
 ghost use Rattle.file_run.specs.Running.{Feeds, IsReader};
 
 use crate::machine::{Machine, Step};
-use desk_io::{ReadAhead, ReadStop};
+use desk_io::{MOST_WANTED, ReadAhead, ReadStop};
 use ports::Desk;
-use t2mi_packet::LARGEST;
 
 /// Reads what a machine wants of an input, and feeds it, or ends the input where its file ends.
 pub fn feed<M: Machine, D: Desk>(
@@ -19,7 +18,7 @@ pub fn feed<M: Machine, D: Desk>(
     desk: &mut D,
 ) -> Result<(), ReadStop>
     requires next { M.next machine.old ≡ Step.Read input least most }
-    requires within { (least ≤ most) × (least ≤ LARGEST) × (0 < least) }
+    requires within { (least ≤ most) × (least ≤ MOST_WANTED) × (0 < least) }
     requires opened { reader.old.handle < length (D.state desk.old).opened }
     requires short { given_of reader.old < longest_file }
     requires reader { IsReader M.Becomes machine.old input reader.old }

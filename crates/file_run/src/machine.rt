@@ -76,3 +76,25 @@ pub trait Machine {
         ensures left { left self.new < left self.old }
         ensures reach { (other : ℕ) → reach self.old other ≤ reach self.new other };
 }
+
+/// A machine that tells, at its end, what came of its run: what was done, or why it refuses what it was fed.
+pub trait Ending: Machine {
+    ghost use Rattle.std.specs.declared.result.Result.{Result};
+    ghost use Rattle.file_run.specs.Steps.{HasCome};
+    ghost use Rattle.file_run.specs.declared.machine.Step.TheVariants.{End};
+
+    /// What is told of a run that is a success.
+    type Ran;
+
+    /// Why a run is none.
+    type Stop;
+
+    /// What came of its run.
+    ghost ending: { Self → Result Self.Ran Self.Stop };
+
+    /// What came of its run.
+    fn ending(&self) -> Result<Self::Ran, Self::Stop>
+        requires ended { Self.next self.now ≡ End }
+        requires came { HasCome Self.Becomes self.now }
+        ensures { result ≡ ending self.now };
+}

@@ -15,7 +15,7 @@ use Rattle.gateway_core.specs.InputsStandFor.{AllContinue}
 use Rattle.gateway_core.specs.Laws.{NotYetLast, FrontsGrow}
 use Rattle.gateway_core.specs.Packets.{front_packets}
 use Rattle.gateway_core.specs.StandsFor.{GatewayStandsFor, IsLast, plps_of, wants_of}
-use Rattle.gateway_core.specs.Told.{Told, told}
+use Rattle.gateway_core.specs.InputSoFar.{Told, told}
 use Rattle.gateway_core.specs.declared.gateway.Gateway.{Gateway}
 use Rattle.gateway_core.proofs.HoldsLemmas.{finished_now, back_same, begun_with, begun_same, given_same}
 use Rattle.gateway_core.proofs.HoldsLemmas.{finished_same}
@@ -23,7 +23,7 @@ use Rattle.gateway_core.proofs.InputsLemmas.{nothing_told, told_begun, back_begu
 use Rattle.gateway_core.proofs.LawLemmas.{frame_count_same}
 use Rattle.gateway_run.specs.Holds.{ArePackets, AreOffered, IsInTime, AreComplete, HasAll, NoTails, IsIn, StandsIn, Holds}
 use Rattle.gateway_run.specs.Ready.{IsReady}
-use Rattle.gateway_run.specs.declared.place.GatewayStop.TheVariants.{TooManyFrames}
+use Rattle.gateway_run.specs.declared.stop.GatewayStop.TheVariants.{TooManyFrames}
 use Rattle.gateway_run.specs.declared.place.Phase.{Phase}
 use Rattle.gateway_run.specs.declared.place.Phase.TheVariants.{Begins, Gives, Rests, Stopped}
 use Rattle.gateway_run.specs.declared.place.Place.{Place}

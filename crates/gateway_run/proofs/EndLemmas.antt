@@ -13,7 +13,7 @@ use Rattle.ts_packet.specs.TsFile.{packets_in, left_in}
 use Rattle.gateway_core.specs.Laws.{NotYetLast}
 use Rattle.gateway_run.specs.GatewayRun.{inputs_of, frames_of, units_of, Wants, WantsBad, MeetsBad, MeetsNone}
 use Rattle.gateway_run.specs.Laws.{RunEnds}
-use Rattle.gateway_run.specs.declared.stop.RunStop.TheVariants.{Bad, TooManyFrames}
+use Rattle.gateway_run.specs.declared.stop.GatewayStop.TheVariants.{Bad, TooManyFrames}
 
 decide_some : (bytes : List ℕ) → Dec (bytes ≢ [])
 decide_some [] = no (λ h. h refl)

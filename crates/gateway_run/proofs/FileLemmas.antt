@@ -5,7 +5,7 @@ use Rattle.std.specs.Prelude.{slice_index, nat_le, ◌==◌, ◌&&◌, ◌⊎◌
 use Rattle.std.proofs.lemmas.Bool.{cases_Bool, ne_eqb}
 use Rattle.std.proofs.lemmas.Grind.{flat_map-append}
 use Rattle.std.proofs.lemmas.List.{take_at, drop_at, length-drop, drop-drop, get_or_append_left}
-use Rattle.gateway_core.specs.Told.{Told, Continues}
+use Rattle.gateway_core.specs.InputSoFar.{Told, Continues}
 use Rattle.ts_packet.specs.TsFile.{begins_with_packet, packets_up_to, packets_in, left_in, joined, HasBad}
 use Rattle.ts_packet.specs.declared.sizes.TheConstants.{SIZE, SYNC}
 use Rattle.gateway_run.specs.Holds.{ArePackets}

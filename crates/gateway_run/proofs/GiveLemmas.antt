@@ -10,7 +10,7 @@ use Rattle.file_run.specs.Laws.{EventsTell}
 use Rattle.gateway_core.specs.Events.{Event, Gave, begun, finished}
 use Rattle.gateway_core.specs.Packets.{front_packets}
 use Rattle.gateway_core.specs.StandsFor.{GatewayStandsFor, bytes_left}
-use Rattle.gateway_core.specs.Told.{told}
+use Rattle.gateway_core.specs.InputSoFar.{told}
 use Rattle.gateway_core.specs.declared.gateway.Gateway.{Gateway}
 use Rattle.gateway_core.proofs.InputsLemmas.{nothing_told}
 use Rattle.gateway_core.proofs.HoldsLemmas.{back_same, given_with, begun_same, finished_same}

@@ -11,8 +11,8 @@ use Rattle.ts_packet.specs.TsFile.{packets_in}
 use Rattle.gateway_run.specs.GatewayRun.{WantsBad, MeetsBad, MeetsNone}
 use Rattle.gateway_run.specs.Laws.{OneRun}
 use Rattle.gateway_run.specs.declared.stop.Ran.{Ran}
-use Rattle.gateway_run.specs.declared.stop.RunStop.{RunStop}
-use Rattle.gateway_run.specs.declared.stop.RunStop.TheVariants.{Bad, TooManyFrames, Files, OutOfMemory}
+use Rattle.gateway_run.specs.declared.stop.GatewayStop.{GatewayStop}
+use Rattle.gateway_run.specs.declared.stop.GatewayStop.TheVariants.{Bad, TooManyFrames}
 
 quotient_rises : (k a b : ℕ) → a ≤ b → a / k ≤ b / k
 quotient_rises zero a b le = omega (arith, div-zero a, div-zero b)
@@ -61,23 +61,23 @@ same_plp c files frame plp other packet next a b =
       ]
     ]
 
-same_bad : (plp other packet next : ℕ) → plp ≡ other → packet ≡ next → (let r : Result Ran RunStop = Err (Bad plp packet) in r)
+same_bad : (plp other packet next : ℕ) → plp ≡ other → packet ≡ next → (let r : Result Ran GatewayStop = Err (Bad plp packet) in r)
     ≡ Err (Bad other next)
 same_bad plp other packet next e f = rw (e, f) refl
 
 one_bad : (c : Config) (files : ℕ → List ℕ) (frame later plp other packet next : ℕ) → MeetsBad c files frame plp packet
     → MeetsBad c files later other next
-    → (let r : Result Ran RunStop = Err (Bad plp packet) in r) ≡ Err (Bad other next)
+    → (let r : Result Ran GatewayStop = Err (Bad plp packet) in r) ≡ Err (Bad other next)
 one_bad c files frame later plp other packet next a b =
     let f = same_frame c files frame later plp other packet next a b in
     let p = same_plp c files frame plp other packet next a (subst (λ (n : ℕ). MeetsBad c files n other next) (sym f) b) in
     same_bad plp other packet next p (a.number ∙ ap (λ (k : ℕ). length (packets_in (files k))) p ∙ sym b.number)
 
-ran_of : (f g u v : ℕ) → f ≡ g → u ≡ v → (let r : Result Ran RunStop = Ok (record { frames = f; units = u }) in r)
+ran_of : (f g u v : ℕ) → f ≡ g → u ≡ v → (let r : Result Ran GatewayStop = Ok (record { frames = f; units = u }) in r)
     ≡ Ok (record { frames = g; units = v })
 ran_of f g u v e h = rw (e, h) refl
 
-same_ran : (ran other : Ran) → ran.frames ≡ other.frames → ran.units ≡ other.units → (let r : Result Ran RunStop = Ok ran in r)
+same_ran : (ran other : Ran) → ran.frames ≡ other.frames → ran.units ≡ other.units → (let r : Result Ran GatewayStop = Ok ran in r)
     ≡ Ok other
 same_ran ran other e f = ran_of ran.frames other.frames ran.units other.units e f
 
@@ -89,17 +89,9 @@ pub runs_once : OneRun
 runs_once c files (Ok ran) (Ok other) a b = same_ran ran other (a.1 ∙ sym b.1) (a.2 ∙ sym b.2)
 runs_once c files (Ok ran) (Err (Bad plp packet)) a b = absurd (a.0 plp b.1.place b.1.wants.0)
 runs_once c files (Ok ran) (Err TooManyFrames) a b = absurd (let f = a.3 in let t = b.1 in omega (arith, f, t))
-runs_once c files (Ok ran) (Err (Files fault)) a b = absurd b
-runs_once c files (Ok ran) (Err OutOfMemory) a b = absurd b
 runs_once c files (Err (Bad plp packet)) (Ok ran) a b = absurd (b.0 plp a.1.place a.1.wants.0)
 runs_once c files (Err (Bad plp packet)) (Err (Bad other next)) a b = one_bad c files a.0 b.0 plp other packet next a.1 b.1
 runs_once c files (Err (Bad plp packet)) (Err TooManyFrames) a b = absurd (never_bad c files a.0 plp packet a.1 a.2 b.0)
-runs_once c files (Err (Bad plp packet)) (Err (Files fault)) a b = absurd b
-runs_once c files (Err (Bad plp packet)) (Err OutOfMemory) a b = absurd b
 runs_once c files (Err TooManyFrames) (Ok ran) a b = absurd (let f = b.3 in let t = a.1 in omega (arith, f, t))
 runs_once c files (Err TooManyFrames) (Err (Bad plp packet)) a b = absurd (never_bad c files b.0 plp packet b.1 b.2 a.0)
 runs_once c files (Err TooManyFrames) (Err TooManyFrames) a b = refl
-runs_once c files (Err TooManyFrames) (Err (Files fault)) a b = absurd b
-runs_once c files (Err TooManyFrames) (Err OutOfMemory) a b = absurd b
-runs_once c files (Err (Files fault)) other a b = absurd a
-runs_once c files (Err OutOfMemory) other a b = absurd a

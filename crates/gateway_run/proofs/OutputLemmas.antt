@@ -24,7 +24,7 @@ use Rattle.gateway_run.specs.GatewayRun.{inputs_of, frames_of, units_of, ReadsNo
 use Rattle.gateway_run.specs.Holds.{IsOffered, AreComplete, AreAll, HasGiven, HasAll, MetBad, NoTails, IsIn, Holds}
 use Rattle.gateway_run.specs.declared.place.Phase.{Phase}
 use Rattle.gateway_run.specs.declared.place.Phase.TheVariants.{Done, Stopped}
-use Rattle.gateway_run.specs.declared.place.GatewayStop.TheVariants.{Bad}
+use Rattle.gateway_run.specs.declared.stop.GatewayStop.TheVariants.{Bad}
 use Rattle.gateway_run.specs.declared.place.Place.{Place}
 use Rattle.gateway_run.specs.declared.stop.Ran.{Ran}
 use Rattle.gateway_run.proofs.FileLemmas.{IsRead, continues, taken_few, taken_all, none_bad, next_bad, not_wanted, still_bad}

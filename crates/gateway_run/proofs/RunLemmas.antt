@@ -1,7 +1,7 @@
 -- How the run of a gateway ended, by its machine.
 use Rattle.std.proofs.Common.{◌≡◌, ℕ, ◌+◌, ◌-◌, ◌*◌, ◌<◌, ◌≤◌, true, false, List, ◌++◌, length, refl, ap, sym, subst, ◌∙◌, inl}
 use Rattle.std.proofs.Common.{inr, arith, append_assoc, length-append}
-use Rattle.std.specs.Prelude.{IfOk, IfErr, slice_index}
+use Rattle.std.specs.Prelude.{Result, Ok, Err, IfOk, IfErr, slice_index}
 use Rattle.std.proofs.lemmas.List.{nil_from_length}
 use Rattle.std.proofs.lemmas.Option.{IfSome_then}
 use Rattle.ports.specs.Desk.{State}
@@ -15,28 +15,31 @@ use Rattle.t2mi_stream.specs.Complete.{complete_units}
 use Rattle.file_run.specs.Events as run
 use Rattle.file_run.specs.Laws.{EventsTell}
 use Rattle.file_run.specs.FileRun as driver
+use Rattle.file_run.specs.OneRun.{RunsOnce}
 use Rattle.file_run.specs.FileRun.{file_at, AreFed, Works}
 use Rattle.file_run.specs.Steps.{Needs, FallsShort}
 use Rattle.file_run.specs.declared.machine.Step.TheVariants.{Read, Give, End}
 use Rattle.file_run.specs.declared.stop.RunFault.{RunFault}
 use Rattle.file_run.specs.declared.stop.RunFault.TheVariants as fault
+use Rattle.file_run.specs.declared.stop.RunStop.{RunStop}
+use Rattle.file_run.specs.declared.stop.RunStop.TheVariants.{Refused, Files, OutOfMemory}
 use Rattle.file_run.proofs.StandsLemmas.{works_by, fed_since, all_read}
 use Rattle.gateway_core.specs.Events.{Event, offered, begun, finished}
 use Rattle.gateway_core.specs.Laws.{UnitsLaw, FrontsGrow, LastIsAll, WaitsThreeFrames}
 use Rattle.gateway_core.specs.Packets.{front_packets}
 use Rattle.gateway_core.specs.declared.gateway.Gateway.{Gateway}
-use Rattle.gateway_run.specs.AsMachine.{becomes, step_of, next_of, frame_read, reach_of, ending_of}
+use Rattle.gateway_run.specs.AsMachine.{Becomes, step_of, next_of, frame_read, reach_of, ending_of}
 use Rattle.gateway_run.specs.GatewayRun.{inputs_of, frames_of, units_of, MeetsNone, MeetsNoneBefore, ReadsNoFurther, BeginsUnits}
 use Rattle.gateway_run.specs.GatewayRun.{BeginsSome, ReadsAhead, RunsAll, StopsAtBad, MeetsTooManyFrames}
 use Rattle.gateway_run.specs.GatewayRun.{ReadsNoBad, GivesTooMuch, StopsReading, StopsWriting, Stops}
 use Rattle.gateway_run.specs.Holds.{NoTails, HasGiven, IsOneTooMany, MetBad, IsIn, Holds}
 use Rattle.gateway_run.specs.Ready.{IsReady}
 use Rattle.gateway_run.specs.declared.machine.GatewayMachine.{GatewayMachine}
-use Rattle.gateway_run.specs.declared.place.GatewayStop.TheVariants.{Bad, TooManyFrames}
+use Rattle.gateway_run.specs.declared.stop.GatewayStop.{GatewayStop}
+use Rattle.gateway_run.specs.declared.stop.GatewayStop.TheVariants.{Bad, TooManyFrames}
 use Rattle.gateway_run.specs.declared.place.Phase.{Phase}
 use Rattle.gateway_run.specs.declared.place.Place.{Place}
 use Rattle.gateway_run.specs.declared.stop.Ran.{Ran}
-use Rattle.gateway_run.specs.declared.stop.RunStop.TheVariants.{Files}
 use Rattle.gateway_run.specs.declared.place.Phase.TheVariants as phase
 use Rattle.gateway_run.proofs.AheadLemmas.{reads_ahead}
 use Rattle.gateway_run.proofs.BeginLemmas.{before_frame}
@@ -46,7 +49,7 @@ use Rattle.gateway_run.proofs.MachineLemmas.{offered_length}
 use Rattle.gateway_run.proofs.TakeLemmas.{waiting}
 
 -- what a machine holds, of the plan of its start
-holds_of : (start now : GatewayMachine) (events : List run.Event) → becomes start events now
+holds_of : (start now : GatewayMachine) (events : List run.Event) → Becomes start events now
     → Holds start.plan.now events now.gateway now.place now.ran
 holds_of start now events h = subst (λ (c : Config). Holds c events now.gateway now.place now.ran) h.0 h.1
 
@@ -70,7 +73,7 @@ for_plps c ins files places events count are plp lt = are plp (omega (arith, lt,
 -- A run of the machine to its end.
 pub runs_all : (start now : GatewayMachine) (old new : State) (out : List ℕ) (ins : List (List ℕ))
     → length ins ≡ length start.plan.now.plps → now.place.phase ≡ phase.Done
-    → driver.RunsAll old new out ins (reach_of now) (λ events. becomes start events now)
+    → driver.RunsAll old new out ins (reach_of now) (λ events. Becomes start events now)
     → RunsAll start.plan.now old new out ins now.ran.frames now.ran.units
 runs_all start now old new out ins count e r =
     let s = r.stands in
@@ -98,7 +101,7 @@ runs_all start now old new out ins count e r =
 -- The machine met a bad packet.
 pub stops_at_bad : UnitsLaw → (start now : GatewayMachine) (old new : State) (out : List ℕ) (ins : List (List ℕ)) (plp packet : ℕ)
     → length ins ≡ length start.plan.now.plps → now.place.phase ≡ phase.Stopped (Bad plp packet)
-    → driver.RunsAll old new out ins (reach_of now) (λ events. becomes start events now)
+    → driver.RunsAll old new out ins (reach_of now) (λ events. Becomes start events now)
     → StopsAtBad start.plan.now old new out ins plp packet
 stops_at_bad law start now old new out ins plp packet count e r =
     let s = r.stands in
@@ -126,7 +129,7 @@ stops_at_bad law start now old new out ins plp packet count e r =
 -- if the output is the first of all units
 front_works : FrontsGrow → LastIsAll → (start now : GatewayMachine) (old new : State) (out : List ℕ) (ins : List (List ℕ))
     → length ins ≡ length start.plan.now.plps
-    → (s : driver.Stands old new out ins (reach_of now) (λ events. becomes start events now) driver.HoldsAll)
+    → (s : driver.Stands old new out ins (reach_of now) (λ events. Becomes start events now) driver.HoldsAll)
     → Works old new out ins s.places (BeginsUnits start.plan.now ins)
 front_works grow law start now old new out ins count s =
     works_by (λ files bytes. (more : List ℕ) × (joined (units_of start.plan.now files) ≡ bytes ++ more)) s (λ files are bytes is.
@@ -137,7 +140,7 @@ front_works grow law start now old new out ins count s =
 -- A frame would begin of which none may have the number.
 pub too_many_frames : FrontsGrow → LastIsAll → (start now : GatewayMachine) (old new : State) (out : List ℕ) (ins : List (List ℕ))
     → length ins ≡ length start.plan.now.plps → now.place.phase ≡ phase.Stopped TooManyFrames
-    → driver.RunsAll old new out ins (reach_of now) (λ events. becomes start events now)
+    → driver.RunsAll old new out ins (reach_of now) (λ events. Becomes start events now)
     → MeetsTooManyFrames start.plan.now old new out ins
 too_many_frames grow law start now old new out ins count e r =
     let s = r.stands in
@@ -163,11 +166,11 @@ too_many_frames grow law start now old new out ins count e r =
     }
 
 -- how a machine ended that came to its end
-pub ends : UnitsLaw → FrontsGrow → LastIsAll → (start now : GatewayMachine) (old new : State) (out : List ℕ) (ins : List (List ℕ))
+ends : UnitsLaw → FrontsGrow → LastIsAll → (start now : GatewayMachine) (old new : State) (out : List ℕ) (ins : List (List ℕ))
     (p : Phase) → length ins ≡ length start.plan.now.plps → now.place.phase ≡ p → step_of now.gateway now.place.plp p ≡ End
-    → driver.RunsAll old new out ins (reach_of now) (λ events. becomes start events now)
+    → driver.RunsAll old new out ins (reach_of now) (λ events. Becomes start events now)
     → IfOk (ending_of p now.ran) (λ ran. RunsAll start.plan.now old new out ins ran.frames ran.units)
-    × IfErr (ending_of p now.ran) (Stops start.plan.now old new out ins)
+    × IfErr (ending_of p now.ran) (λ why. Stops start.plan.now old new out ins (Refused why))
 ends units grow law start now old new out ins phase.Wants count e end r =
     absurd (let z : Read now.place.plp SIZE _ ≡ End = end in cc)
 ends units grow law start now old new out ins phase.Begins count e end r = absurd (let z : Give ≡ End = end in cc)
@@ -199,7 +202,7 @@ short_wants g at phase.Done plp count w = absurd w
 short_wants g at (phase.Stopped why) plp count w = absurd w
 
 -- So no bad packet was met before.
-none_met : (start now : GatewayMachine) (events : List run.Event) (b : becomes start events now) (files : ℕ → List ℕ)
+none_met : (start now : GatewayMachine) (events : List run.Event) (b : Becomes start events now) (files : ℕ → List ℕ)
     (places : List ℕ) (plp : ℕ) → now.place.phase ≡ phase.Wants → now.place.plp ≡ plp
     → AreFed (length start.plan.now.plps) files places events
     → MeetsNoneBefore start.plan.now files now.ran.frames plp
@@ -212,7 +215,7 @@ none_met start now events b files places plp e at are =
     )
 
 -- No bad packet was read whole of the input that is looked at, if less than a packet waits of it.
-unread : (start now : GatewayMachine) (events : List run.Event) (b : becomes start events now) (files : ℕ → List ℕ)
+unread : (start now : GatewayMachine) (events : List run.Event) (b : Becomes start events now) (files : ℕ → List ℕ)
     (places : List ℕ) (plp : ℕ) → now.place.phase ≡ phase.Wants → now.place.plp ≡ plp
     → AreFed (length start.plan.now.plps) files places events → slice_index places plp < length (run.fed plp events) + SIZE
     → ReadsNoBad (files plp) (slice_index places plp)
@@ -230,7 +233,7 @@ no_multiple fed packets place whole long near = omega (arith, whole, long, near)
 -- This input gave too many bytes.
 gives_too_much : FrontsGrow → LastIsAll → (start now : GatewayMachine) (old new : State) (out : List ℕ) (ins : List (List ℕ))
     (plp : ℕ) → length ins ≡ length start.plan.now.plps
-    → driver.GivesTooMuch old new out ins (reach_of now) (next_of now) (λ events. becomes start events now) plp
+    → driver.GivesTooMuch old new out ins (reach_of now) (next_of now) (λ events. Becomes start events now) plp
     → GivesTooMuch start.plan.now old new out ins plp
 gives_too_much grow law start now old new out ins plp count r =
     let s = r.stands in
@@ -267,7 +270,7 @@ gives_too_much grow law start now old new out ins plp count r =
 -- This input could not be read on.
 stops_reading : UnitsLaw → FrontsGrow → LastIsAll → (start now : GatewayMachine) (old new : State) (out : List ℕ)
     (ins : List (List ℕ)) (plp : ℕ) → length ins ≡ length start.plan.now.plps
-    → driver.FailsToRead old new out ins (reach_of now) (next_of now) (λ events. becomes start events now) plp
+    → driver.FailsToRead old new out ins (reach_of now) (next_of now) (λ events. Becomes start events now) plp
     → StopsReading start.plan.now old new out ins plp
 stops_reading units grow law start now old new out ins plp count r =
     let s = r.stands in
@@ -365,7 +368,7 @@ read_few (phase.Stopped why) frames = omega arith
 pub stops_writing : EventsTell → UnitsLaw → FrontsGrow → LastIsAll → WaitsThreeFrames
     → (start now : GatewayMachine) (old new : State) (out : List ℕ) (ins : List (List ℕ))
     → length ins ≡ length start.plan.now.plps
-    → driver.StopsWriting old new out ins reach_of next_of (becomes start) now → StopsWriting start.plan.now old new out ins
+    → driver.StopsWriting old new out ins reach_of next_of (Becomes start) now → StopsWriting start.plan.now old new out ins
 stops_writing tell units grow law three start now old new out ins count w =
     let s = w.stands in
     let c : Config = start.plan.now in
@@ -422,10 +425,10 @@ stops_writing tell units grow law three start now old new out ins count w =
     }
 
 -- How a run ended that its files stopped.
-pub stops : EventsTell → UnitsLaw → FrontsGrow → LastIsAll → WaitsThreeFrames
+stops : EventsTell → UnitsLaw → FrontsGrow → LastIsAll → WaitsThreeFrames
     → (start now : GatewayMachine) (old new : State) (out : List ℕ) (ins : List (List ℕ)) (why : RunFault)
     → length ins ≡ length start.plan.now.plps
-    → driver.Stops old new out ins reach_of next_of (becomes start) now why → Stops start.plan.now old new out ins (Files why)
+    → driver.Stops old new out ins reach_of next_of (Becomes start) now why → Stops start.plan.now old new out ins (Files why)
 stops tell units grow law three start now old new out ins (fault.TooLong input) count s =
     gives_too_much grow law start now old new out ins input count s
 stops tell units grow law three start now old new out ins (fault.ReadFault input) count s = (
@@ -444,3 +447,25 @@ stops tell units grow law three start now old new out ins fault.WriteFault count
         inr (stops_writing tell units grow law three start now old new out ins count w)
   ],
 )
+
+-- a run, by what it answers
+pub answers : EventsTell → UnitsLaw → FrontsGrow → LastIsAll → WaitsThreeFrames
+    → (start now : GatewayMachine) (old new : State) (out : List ℕ) (ins : List (List ℕ)) (result : Result Ran (RunStop GatewayStop))
+    → length ins ≡ length start.plan.now.plps
+    → RunsOnce old new out ins reach_of next_of (Becomes start) (λ m. ending_of m.place.phase m.ran) now result
+    → IfOk result (λ ran. RunsAll start.plan.now old new out ins ran.frames ran.units)
+    × IfErr result (Stops start.plan.now old new out ins)
+answers tell units grow law three start now old new out ins (Ok ran) count r =
+    let all = ends units grow law start now old new out ins now.place.phase count refl r.end r.runs in (
+      subst (λ (told : Result Ran GatewayStop). IfOk told (λ x. RunsAll start.plan.now old new out ins x.frames x.units)) r.told_is
+          all.0,
+      tt,
+    )
+answers tell units grow law three start now old new out ins (Err (Refused why)) count r =
+    let all = ends units grow law start now old new out ins now.place.phase count refl r.end r.runs in (
+      tt,
+      subst (λ (told : Result Ran GatewayStop). IfErr told (λ x. Stops start.plan.now old new out ins (Refused x))) r.told_is all.1,
+    )
+answers tell units grow law three start now old new out ins (Err (Files why)) count r =
+    (tt, stops tell units grow law three start now old new out ins why count r)
+answers tell units grow law three start now old new out ins (Err OutOfMemory) count r = (tt, r)

@@ -13,7 +13,7 @@ use Rattle.gateway_core.specs.Events.{finished}
 use Rattle.gateway_core.specs.InputsStandFor.{AllContinue}
 use Rattle.gateway_core.specs.Laws.{FrontsGrow}
 use Rattle.gateway_core.specs.Packets.{front_packets}
-use Rattle.gateway_core.specs.Told.{Told, told}
+use Rattle.gateway_core.specs.InputSoFar.{Told, told}
 use Rattle.gateway_core.proofs.InputsLemmas.{nothing_told, back_begun}
 use Rattle.gateway_core.specs.StandsFor.{IsLast}
 use Rattle.file_run.specs.Events as run

@@ -12,15 +12,15 @@ use Rattle.file_run.specs.Events as run
 use Rattle.file_run.specs.Laws.{EventsTell}
 use Rattle.gateway_core.specs.Events.{Event, Offered, Ended, offered, has_ended, begun, finished}
 use Rattle.gateway_core.specs.StandsFor.{GatewayStandsFor, IsLast, wants_of}
-use Rattle.gateway_core.specs.Told.{Told, told}
+use Rattle.gateway_core.specs.InputSoFar.{Told, told}
 use Rattle.gateway_core.specs.declared.gateway.Gateway.{Gateway}
 use Rattle.gateway_core.proofs.InputsLemmas.{told_offered, told_ended}
 use Rattle.gateway_core.proofs.HoldsLemmas.{other_offered, other_ended}
 use Rattle.gateway_run.specs.Holds.{ArePackets, IsOffered, IsInTime, AreComplete, HasAll, MetBad, StopsFor, NoTails, IsIn}
 use Rattle.gateway_run.specs.Holds.{StandsIn, Holds}
 use Rattle.gateway_run.specs.Ready.{IsReady, IsLookedAs, IsLooked, IsBad, IsBadAs}
-use Rattle.gateway_run.specs.declared.place.GatewayStop.{GatewayStop}
-use Rattle.gateway_run.specs.declared.place.GatewayStop.TheVariants.{Bad, TooManyFrames}
+use Rattle.gateway_run.specs.declared.stop.GatewayStop.{GatewayStop}
+use Rattle.gateway_run.specs.declared.stop.GatewayStop.TheVariants.{Bad, TooManyFrames}
 use Rattle.gateway_run.specs.declared.place.Phase.{Phase}
 use Rattle.gateway_run.specs.declared.place.Phase.TheVariants.{Wants, Begins, Gives, Rests, Done, Stopped}
 use Rattle.gateway_run.specs.declared.place.Place.{Place}

@@ -9,15 +9,13 @@ use Rattle.gateway_core.specs.StandsFor.{wants_of}
 use Rattle.gateway_core.specs.declared.gateway.Gateway.{Gateway}
 use Rattle.gateway_run.specs.Holds.{Holds}
 use Rattle.gateway_run.specs.declared.machine.GatewayMachine.{GatewayMachine}
-use Rattle.gateway_run.specs.declared.place.GatewayStop.TheVariants.{Bad, TooManyFrames}
+use Rattle.gateway_run.specs.declared.stop.GatewayStop.{GatewayStop}
 use Rattle.gateway_run.specs.declared.place.Phase.{Phase}
 use Rattle.gateway_run.specs.declared.place.Phase.TheVariants.{Wants, Begins, Gives, Rests, Done, Stopped}
 use Rattle.gateway_run.specs.declared.stop.Ran.{Ran}
-use Rattle.gateway_run.specs.declared.stop.RunStop.{RunStop}
-use Rattle.gateway_run.specs.declared.stop.RunStop.TheVariants as stop
 
-abbrev pub becomes : GatewayMachine → List Event → GatewayMachine → Type 0
-becomes start events m = (m.plan.now ≡ start.plan.now) × Holds m.plan.now events m.gateway m.place m.ran
+abbrev pub Becomes : GatewayMachine → List Event → GatewayMachine → Type 0
+Becomes start events m = (m.plan.now ≡ start.plan.now) × Holds m.plan.now events m.gateway m.place m.ran
 
 abbrev pub step_of : Gateway → ℕ → Phase → Step
 step_of g plp Wants = Read plp SIZE (SIZE * min (wants_of g plp) (2 ^ 30))
@@ -39,8 +37,7 @@ frame_read phase frames = frames
 abbrev pub reach_of : GatewayMachine → ℕ → ℕ
 reach_of m plp = SIZE * slots_by m.plan.now plp (frame_read m.place.phase m.ran.frames * m.plan.now.ticks)
 
--- how a run ends that came so far
-abbrev pub ending_of : Phase → Ran → Result Ran RunStop
-ending_of (Stopped (Bad input packet)) ran = Err (stop.Bad input packet)
-ending_of (Stopped TooManyFrames) ran = Err stop.TooManyFrames
+-- what comes of a run that came so far
+abbrev pub ending_of : Phase → Ran → Result Ran GatewayStop
+ending_of (Stopped why) ran = Err why
 ending_of phase ran = Ok ran

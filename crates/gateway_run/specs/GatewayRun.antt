@@ -17,8 +17,10 @@ use Rattle.desk_io.specs.Faults.{ReadsFail, WritesFail}
 use Rattle.desk_io.specs.Reading.{longest_file}
 use Rattle.file_run.specs.FileRun.{file_at, OpensInputs, FailsToCreateOutput, Works, AllShort}
 use Rattle.file_run.specs.declared.stop.RunFault.TheVariants.{TooLong, ReadFault, WriteFault}
-use Rattle.gateway_run.specs.declared.stop.RunStop.{RunStop}
-use Rattle.gateway_run.specs.declared.stop.RunStop.TheVariants.{Bad, TooManyFrames, Files, OutOfMemory}
+use Rattle.file_run.specs.declared.stop.RunStop.{RunStop}
+use Rattle.file_run.specs.declared.stop.RunStop.TheVariants.{Refused, Files, OutOfMemory}
+use Rattle.gateway_run.specs.declared.stop.GatewayStop.{GatewayStop}
+use Rattle.gateway_run.specs.declared.stop.GatewayStop.TheVariants.{Bad, TooManyFrames}
 
 -- the packets of each file, up to its first bad one
 abbrev pub inputs_of : (ℕ → List ℕ) → ℕ → List (List ℕ)
@@ -171,9 +173,9 @@ pub record StopsWriting (c : Config) (old new : State) (out : List ℕ) (ins : L
   pub before : IfSome old.held (λ h. MeetsNone c (file_at h ins) frame)
 
 -- A run that did not come to its end, by its cause.
-abbrev pub Stops : Config → State → State → List ℕ → List (List ℕ) → RunStop → Type 0
-Stops c old new out ins (Bad input packet) = StopsAtBad c old new out ins input packet
-Stops c old new out ins TooManyFrames = MeetsTooManyFrames c old new out ins
+abbrev pub Stops : Config → State → State → List ℕ → List (List ℕ) → RunStop GatewayStop → Type 0
+Stops c old new out ins (Refused (Bad input packet)) = StopsAtBad c old new out ins input packet
+Stops c old new out ins (Refused TooManyFrames) = MeetsTooManyFrames c old new out ins
 Stops c old new out ins (Files (TooLong input)) = GivesTooMuch c old new out ins input
 Stops c old new out ins (Files (ReadFault input)) =
     ReadsFail old new × (OpensInputs old new ins input ⊎ StopsReading c old new out ins input)

@@ -5,7 +5,7 @@ use Rattle.plp_config.specs.SlotTime.{slots_by}
 use Rattle.plp_config.specs.declared.moment.TheConstants.{MOST_FRAMES}
 use Rattle.gateway_core.specs.StandsFor.{plps_of, wants_of, frame_of, has_unit, has_finished, bytes_left}
 use Rattle.gateway_core.specs.declared.gateway.Gateway.{Gateway}
-use Rattle.gateway_run.specs.declared.place.GatewayStop.TheVariants.{Bad}
+use Rattle.gateway_run.specs.declared.stop.GatewayStop.TheVariants.{Bad}
 use Rattle.gateway_run.specs.declared.place.Phase.{Phase}
 use Rattle.gateway_run.specs.declared.place.Phase.TheVariants.{Wants, Begins, Gives, Rests, Done, Stopped}
 use Rattle.gateway_run.specs.declared.place.Place.{Place}

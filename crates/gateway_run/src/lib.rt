@@ -8,6 +8,6 @@ mod running;
 mod steps;
 mod stop;
 
-pub use laws::{one_run, run_ends};
+pub use laws::{one_run_law, run_ends_law};
 pub use running::run;
-pub use stop::{Ran, RunStop};
+pub use stop::{GatewayStop, Ran};

@@ -1,11 +1,11 @@
 // The gateway as a machine between files.
 ghost use Rattle.gateway_run.specs.Ready.{IsReady};
 
-use crate::place::{GatewayStop, Phase, Place};
+use crate::place::{Phase, Place};
 use crate::steps::{begin, end_input, give, take_packet};
-use crate::stop::{Ran, RunStop};
+use crate::stop::{GatewayStop, Ran};
 use bit_slice::OutOfMemory;
-use file_run::{Machine, Step, events_law};
+use file_run::{Ending, Machine, Step, events_law};
 use gateway_core::Gateway;
 use plp_config::Plan;
 use std::alloc::Global;
@@ -27,10 +27,10 @@ const PACKETS: u64 = 1 << 30;
 
 impl<'p> Machine for GatewayMachine<'p> {
     ghost use Rattle.std.specs.Prelude.{length};
-    ghost use Rattle.gateway_run.specs.AsMachine.{becomes, next_of, reach_of};
+    ghost use Rattle.gateway_run.specs.AsMachine.{Becomes, next_of, reach_of};
     ghost use Rattle.gateway_run.specs.Ready.{left_of};
 
-    ghost Becomes = { becomes };
+    ghost Becomes = { Becomes };
 
     ghost inputs = { λ m. length m.plan.now.plps };
 
@@ -77,16 +77,33 @@ impl<'p> Machine for GatewayMachine<'p> {
     }
 }
 
+impl<'p> Ending for GatewayMachine<'p> {
+    ghost use Rattle.gateway_run.specs.AsMachine.{ending_of};
+
+    type Ran = Ran;
+
+    type Stop = GatewayStop;
+
+    ghost ending = { λ m. ending_of m.place.phase m.ran };
+
+    fn ending(&self) -> Result<Ran, GatewayStop> {
+        match self.place.phase {
+            Phase::Stopped(why) => Err(why),
+            _ => Ok(self.ran),
+        }
+    }
+}
+
 impl<'p> GatewayMachine<'p> {
     ghost use Rattle.std.specs.Prelude.{◌≡◌, [], IfOk};
-    ghost use Rattle.gateway_run.specs.AsMachine.{becomes, next_of, ending_of};
+    ghost use Rattle.gateway_run.specs.AsMachine.{Becomes};
 
     /// A gateway to which nothing was fed, for a plan. Its one refusal is want of memory.
     pub fn open(alloc: Global, plan: &'p Plan) -> Result<GatewayMachine<'p>, OutOfMemory>
         ensures plan { IfOk result (λ m. m.plan.now ≡ plan.now) }
-        ensures becomes { IfOk result (λ m. becomes m [] m) }
+        ensures becomes { IfOk result (λ m. Becomes m [] m) }
     {
-        plan.obeys_rules();
+        plan.rules_law();
         Ok(GatewayMachine {
             plan,
             gateway: Gateway::open(alloc, plan)?,
@@ -99,18 +116,5 @@ impl<'p> GatewayMachine<'p> {
                 units: 0,
             },
         })
-    }
-
-    /// How its run ended.
-    pub fn ending(&self) -> Result<Ran, RunStop>
-        ensures { result ≡ ending_of self.now.place.phase self.now.ran }
-    {
-        match self.place.phase {
-            Phase::Stopped(GatewayStop::Bad { input, packet }) => {
-                Err(RunStop::Bad { input, packet })
-            }
-            Phase::Stopped(GatewayStop::TooManyFrames) => Err(RunStop::TooManyFrames),
-            _ => Ok(self.ran),
-        }
     }
 }

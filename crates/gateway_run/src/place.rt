@@ -1,13 +1,6 @@
 // Where a gateway is in its work.
 
-/// Why a gateway came to an end before that of its run.
-#[derive(Clone, Copy, Debug, PartialEq, Eq)]
-pub enum GatewayStop {
-    /// This packet of this input does not begin with the sync byte, or the file ends inside it.
-    Bad { input: u8, packet: u64 },
-    /// Frame 2^31 would begin.
-    TooManyFrames,
-}
+use crate::stop::GatewayStop;
 
 /// What comes next.
 #[derive(Clone, Copy, Debug, PartialEq, Eq)]
@@ -22,7 +15,7 @@ pub enum Phase {
     Rests,
     /// Nothing: the run is over.
     Done,
-    /// Nothing.
+    /// Nothing: what was fed is refused.
     Stopped(GatewayStop),
 }
 

@@ -8,10 +8,10 @@ ghost use Rattle.gateway_run.specs.Holds.{Holds};
 ghost use Rattle.gateway_run.specs.declared.place.Place.{Place};
 ghost use Rattle.gateway_run.specs.declared.place.Phase.TheVariants.{Wants, Begins};
 
-use crate::place::{GatewayStop, Phase, Place};
-use crate::stop::Ran;
+use crate::place::{Phase, Place};
+use crate::stop::{GatewayStop, Ran};
 use file_run::events_law;
-use gateway_core::{Gateway, front_law, not_yet_last};
+use gateway_core::{Gateway, front_law, not_yet_last_law};
 use plp_config::{MOST_FRAMES, Plan};
 use ts_packet::{SIZE, SYNC, TsPacket};
 
@@ -135,9 +135,9 @@ pub fn begin(gateway: &mut Gateway<'_>, plan: &Plan, place: Place, ran: &mut Ran
     ensures holds { (done : List Event) → Holds plan.now done gateway.old place ran.old
         → Holds plan.now done gateway.new result ran.new }
 {
-    not_yet_last();
+    not_yet_last_law();
     front_law();
-    let _ = plan;
+    plan.rules_law();
     if gateway.last() {
         gateway.finish();
         return Place {

@@ -10,8 +10,8 @@ use Rattle.modulate_run.specs.Counted.{counted}
 use Rattle.modulate_run.specs.Laws.{MustRun, OneRun, RunEnds}
 use Rattle.modulate_run.specs.ModulateRun.{records_of, AreEarly}
 use Rattle.modulate_run.specs.declared.stop.Ran.{Ran}
-use Rattle.modulate_run.specs.declared.stop.RunStop.{RunStop}
-use Rattle.modulate_run.specs.declared.stop.RunStop.TheVariants.{NoSuperframe, TooManyFrames, Files, OutOfMemory}
+use Rattle.modulate_run.specs.declared.stop.ModulateStop.{ModulateStop}
+use Rattle.modulate_run.specs.declared.stop.ModulateStop.TheVariants.{NoSuperframe, TooManyFrames}
 
 none_early : (records : List FrameRecord) → records ≡ [] → AreEarly records
 none_early records e = subst AreEarly (sym e) refl
@@ -20,20 +20,12 @@ pub one_run : OneRun
 one_run c file (Ok ran) (Ok other) a b = ap Ok (a.2 ∙ sym b.2)
 one_run c file (Ok ran) (Err NoSuperframe) a b = absurd (a.0 b)
 one_run c file (Ok ran) (Err TooManyFrames) a b = absurd (b a.1)
-one_run c file (Ok ran) (Err (Files fault)) a b = absurd b
-one_run c file (Ok ran) (Err OutOfMemory) a b = absurd b
 one_run c file (Err NoSuperframe) (Ok other) a b = absurd (b.0 a)
 one_run c file (Err NoSuperframe) (Err NoSuperframe) a b = refl
 one_run c file (Err NoSuperframe) (Err TooManyFrames) a b = absurd (b (none_early (records_of c file) a))
-one_run c file (Err NoSuperframe) (Err (Files fault)) a b = absurd b
-one_run c file (Err NoSuperframe) (Err OutOfMemory) a b = absurd b
 one_run c file (Err TooManyFrames) (Ok other) a b = absurd (a b.1)
 one_run c file (Err TooManyFrames) (Err NoSuperframe) a b = absurd (a (none_early (records_of c file) b))
 one_run c file (Err TooManyFrames) (Err TooManyFrames) a b = refl
-one_run c file (Err TooManyFrames) (Err (Files fault)) a b = absurd b
-one_run c file (Err TooManyFrames) (Err OutOfMemory) a b = absurd b
-one_run c file (Err (Files fault)) other a b = absurd a
-one_run c file (Err OutOfMemory) other a b = absurd a
 
 pub run_ends : RunEnds
 run_ends c file = go (records_of c file) refl
@@ -41,7 +33,7 @@ run_ends c file = go (records_of c file) refl
     some : (x : FrameRecord) (xs : List FrameRecord) → x ∷ xs ≢ []
     some x xs e = absurd (let n = ap length e in omega (arith, n))
 
-    go : (xs : List FrameRecord) → records_of c file ≡ xs → (result : Result Ran RunStop) × MustRun c file result
+    go : (xs : List FrameRecord) → records_of c file ≡ xs → (result : Result Ran ModulateStop) × MustRun c file result
     go [] e = (Err NoSuperframe, e)
     go (x ∷ xs) e =
         bool_cases (list_all (λ (x : FrameRecord). nat_lt x.number MOST_FRAMES) (records_of c file))

@@ -1,7 +1,7 @@
 -- How the run of a modulator ended, by its machine.
 use Rattle.std.proofs.Common.{◌≡◌, ◌≢◌, ℕ, ◌+◌, ◌-◌, ◌<◌, ◌≤◌, ◌==◌, Bool, true, false, cond, List, [], ◌∷◌, ◌++◌, length, take}
 use Rattle.std.proofs.Common.{Option, Some, None, refl, ap, sym, subst, ◌∙◌, inl, inr, arith, append_assoc, append-nil, eqb-true}
-use Rattle.std.specs.Prelude.{IfOk, IfErr, IfSome, nat_lt, slice_index, slice_index_or, flat_map}
+use Rattle.std.specs.Prelude.{Result, Ok, Err, IfOk, IfErr, IfSome, nat_lt, slice_index, flat_map}
 use Rattle.std.proofs.lemmas.Bool.{eqb-false, ltb-false, ltb-true}
 use Rattle.std.proofs.lemmas.List.{take_at, take-append-le, nil_from_length}
 use Rattle.std.proofs.lemmas.List.Concat.{flat_map-append}
@@ -22,17 +22,20 @@ use Rattle.file_run.specs.Events.{Event, fed, has_ended, gave}
 use Rattle.file_run.specs.FileRun as driver
 use Rattle.file_run.specs.FileRun.{file_at, AreFed, IsFed, Works, OpensInputs, Writes, ReadsAll}
 use Rattle.file_run.specs.Laws.{EventsTell}
+use Rattle.file_run.specs.OneRun.{RunsOnce}
 use Rattle.file_run.specs.Steps.{Needs}
 use Rattle.file_run.specs.declared.machine.Step.TheVariants.{Read, Give, End}
 use Rattle.file_run.specs.declared.stop.RunFault.{RunFault}
 use Rattle.file_run.specs.declared.stop.RunFault.TheVariants as fault
-use Rattle.modulate_run.specs.AsMachine.{step_of, Behind, IsNext, IsAll, becomes, ending_of}
+use Rattle.file_run.specs.declared.stop.RunStop.{RunStop}
+use Rattle.file_run.specs.declared.stop.RunStop.TheVariants.{Refused, Files, OutOfMemory}
+use Rattle.modulate_run.specs.AsMachine.{step_of, Behind, IsNext, IsAll, Becomes, ending_of}
 use Rattle.modulate_run.specs.Counted.{counted}
 use Rattle.modulate_run.specs.ModulateRun.{read_ahead, records_of, output_of, AreEarly, RunsAll, FindsNone, HasWritten}
 use Rattle.modulate_run.specs.ModulateRun.{GivesTooMuch, HasEarly, MeetsLate, StopsReading, HasSome, StopsWriting, Stops}
 use Rattle.modulate_run.specs.declared.machine.ModulatorMachine.{ModulatorMachine}
 use Rattle.modulate_run.specs.declared.stop.Ran.{Ran}
-use Rattle.modulate_run.specs.declared.stop.RunStop.TheVariants.{Files}
+use Rattle.modulate_run.specs.declared.stop.ModulateStop.{ModulateStop}
 use Rattle.modulate_run.proofs.CountLemmas.{early_one}
 use Rattle.modulate_run.proofs.MachineLemmas.{falls_short}
 use Rattle.file_run.proofs.OneInputLemmas.{writes_by, whole_file}
@@ -109,9 +112,9 @@ gives_early c ended bytes taken (Some w) ran n few =
 -- By the machine's own configuration.
 abbrev Runs : ModulatorMachine → ModulatorMachine → State → State → List ℕ → List ℕ → Type 0
 Runs start now old new name out = driver.RunsAll old new out (name ∷ []) (λ input. fed_of now.modulator + read_ahead)
-    (λ events. becomes start events now)
+    (λ events. Becomes start events now)
 
-all_of : (start now : ModulatorMachine) (events : List Event) → now.waiting ≡ None → now.ended ≡ true → becomes start events now
+all_of : (start now : ModulatorMachine) (events : List Event) → now.waiting ≡ None → now.ended ≡ true → Becomes start events now
     → IsAll (config_of now.modulator) true (fed 0 events) (gave events) now.ran
 all_of start now events none ended came =
     subst (λ (e : Bool). IsAll (config_of now.modulator) e (fed 0 events) (gave events) now.ran) ended
@@ -223,7 +226,7 @@ take_of n file bytes more is few = ap (take n) is ∙ take-append-le n bytes mor
 ends_by : DueFront → (start now : ModulatorMachine) (old new : State) (name out : List ℕ) (o : Option Waiting) (e : Bool)
     → now.waiting ≡ o → now.ended ≡ e → step_of o e ≡ End → Runs start now old new name out
     → IfOk (ending_of o now.ran) (RunsAll (config_of now.modulator) old new name out)
-    × IfErr (ending_of o now.ran) (Stops (config_of now.modulator) old new name out)
+    × IfErr (ending_of o now.ran) (λ why. Stops (config_of now.modulator) old new name out (Refused why))
 ends_by law start now old new name out (Some w) e is ended end r =
     let last : nat_lt w.frame MOST_FRAMES ≡ false = given_last (nat_lt w.frame MOST_FRAMES) end in
     let few : next_of now.modulator ≤ MOST_FRAMES = now.early in
@@ -244,7 +247,7 @@ wanted (Some w) e input count h = absurd (no_needs (nat_lt w.frame MOST_FRAMES) 
 wanted None true input count h = absurd h
 wanted None false input count h = (refl, refl, h.1)
 
-idle_of : (start now : ModulatorMachine) (events : List Event) → now.waiting ≡ None → now.ended ≡ false → becomes start events now
+idle_of : (start now : ModulatorMachine) (events : List Event) → now.waiting ≡ None → now.ended ≡ false → Becomes start events now
     → IsAll (config_of now.modulator) false (fed 0 events) (gave events) now.ran
 idle_of start now events none going came =
     subst (λ (e : Bool). IsAll (config_of now.modulator) e (fed 0 events) (gave events) now.ran) going
@@ -270,7 +273,7 @@ reach_of m input = fed_of m.modulator + read_ahead
 
 gives_too_much : (start now : ModulatorMachine) (old new : State) (name out : List ℕ) (input : ℕ)
     → driver.GivesTooMuch old new out (name ∷ []) (reach_of now) (step_of now.waiting now.ended)
-    (λ events. becomes start events now) input
+    (λ events. Becomes start events now) input
     → GivesTooMuch (config_of now.modulator) old new name out
 gives_too_much start now old new name out input g =
     let c = config_of now.modulator in
@@ -296,7 +299,7 @@ gives_too_much start now old new name out input g =
 
 stops_reading : (start now : ModulatorMachine) (old new : State) (name out : List ℕ) (input : ℕ)
     → driver.FailsToRead old new out (name ∷ []) (reach_of now) (step_of now.waiting now.ended)
-    (λ events. becomes start events now) input
+    (λ events. Becomes start events now) input
     → StopsReading (config_of now.modulator) old new name out
 stops_reading start now old new name out input g =
     let c = config_of now.modulator in
@@ -319,7 +322,7 @@ stops_reading start now old new name out input g =
 
 stops_writing : EventsTell → DueFront → (start now : ModulatorMachine) (old new : State) (name out : List ℕ)
     → driver.StopsWriting old new out (name ∷ []) reach_of (λ m. step_of m.waiting m.ended)
-    (λ events m. becomes start events m) now → StopsWriting (config_of now.modulator) old new name out
+    (λ events m. Becomes start events m) now → StopsWriting (config_of now.modulator) old new name out
 stops_writing tell law start now old new name out g =
     let c = config_of now.modulator in
     let s = g.stands in
@@ -364,7 +367,7 @@ stops_writing tell law start now old new name out g =
 
 -- how a run ended that its files stopped
 stops_by : EventsTell → DueFront → (start now : ModulatorMachine) (old new : State) (name out : List ℕ) (why : RunFault)
-    → driver.Stops old new out (name ∷ []) reach_of (λ m. step_of m.waiting m.ended) (becomes start) now why
+    → driver.Stops old new out (name ∷ []) reach_of (λ m. step_of m.waiting m.ended) (Becomes start) now why
     → Stops (config_of now.modulator) old new name out (Files why)
 stops_by tell law start now old new name out (fault.TooLong input) g =
     ((let p = g.place in omega (arith, p)), gives_too_much start now old new name out input g)
@@ -382,14 +385,14 @@ stops_by tell law start now old new name out fault.WriteFault (counts, inr g) =
 ends : DueFront → (start now : ModulatorMachine) (old new : State) (name out : List ℕ) → step_of now.waiting now.ended ≡ End
     → Runs start now old new name out
     → IfOk (ending_of now.waiting now.ran) (RunsAll (config_of start.modulator) old new name out)
-    × IfErr (ending_of now.waiting now.ran) (Stops (config_of start.modulator) old new name out)
+    × IfErr (ending_of now.waiting now.ran) (λ why. Stops (config_of start.modulator) old new name out (Refused why))
 ends law start now old new name out end r =
     subst (λ (c : Config). IfOk (ending_of now.waiting now.ran) (RunsAll c old new name out)
-    × IfErr (ending_of now.waiting now.ran) (Stops c old new name out)) r.stands.came.0
+    × IfErr (ending_of now.waiting now.ran) (λ why. Stops c old new name out (Refused why))) r.stands.came.0
     (ends_by law start now old new name out now.waiting now.ended refl refl end r)
 
 stops : EventsTell → DueFront → (start now : ModulatorMachine) (old new : State) (name out : List ℕ) (why : RunFault)
-    → driver.Stops old new out (name ∷ []) reach_of (λ m. step_of m.waiting m.ended) (becomes start) now why
+    → driver.Stops old new out (name ∷ []) reach_of (λ m. step_of m.waiting m.ended) (Becomes start) now why
     → Stops (config_of start.modulator) old new name out (Files why)
 stops tell law start now old new name out (fault.TooLong input) g =
     subst (λ (c : Config). Stops c old new name out (Files (fault.TooLong input))) g.stands.came.0
@@ -405,21 +408,23 @@ stops tell law start now old new name out fault.WriteFault (counts, inr g) =
     subst (λ (c : Config). Stops c old new name out (Files fault.WriteFault)) g.stands.came.1.0
     (stops_by tell law start now old new name out fault.WriteFault (counts, inr g))
 
--- ---- of a list of one input
+-- ---- a run, by what it answers
 
-pub ends_one : DueFront → (start now : ModulatorMachine) (old new : State) (ins : List (List ℕ)) (out : List ℕ) → length ins ≡ 1
-    → step_of now.waiting now.ended ≡ End
-    → driver.RunsAll old new out ins (reach_of now) (λ events. becomes start events now)
-    → IfOk (ending_of now.waiting now.ran) (RunsAll (config_of start.modulator) old new (slice_index_or ins 0 []) out)
-    × IfErr (ending_of now.waiting now.ran) (Stops (config_of start.modulator) old new (slice_index_or ins 0 []) out)
-ends_one law start now old new [] out one end r = absurd (omega (arith, one))
-ends_one law start now old new (name ∷ []) out one end r = ends law start now old new name out end r
-ends_one law start now old new (name ∷ other ∷ ins) out one end r = absurd (omega (arith, one))
-
-pub stops_one : EventsTell → DueFront → (start now : ModulatorMachine) (old new : State) (ins : List (List ℕ)) (out : List ℕ)
-    (why : RunFault) → length ins ≡ 1
-    → driver.Stops old new out ins reach_of (λ m. step_of m.waiting m.ended) (becomes start) now why
-    → Stops (config_of start.modulator) old new (slice_index_or ins 0 []) out (Files why)
-stops_one tell law start now old new [] out why one g = absurd (omega (arith, one))
-stops_one tell law start now old new (name ∷ []) out why one g = stops tell law start now old new name out why g
-stops_one tell law start now old new (name ∷ other ∷ ins) out why one g = absurd (omega (arith, one))
+pub answers : EventsTell → DueFront → (start now : ModulatorMachine) (old new : State) (name out : List ℕ)
+    (result : Result Ran (RunStop ModulateStop))
+    → RunsOnce old new out (name ∷ []) reach_of (λ m. step_of m.waiting m.ended) (Becomes start) (λ m. ending_of m.waiting m.ran) now
+    result
+    → IfOk result (RunsAll (config_of start.modulator) old new name out)
+    × IfErr result (Stops (config_of start.modulator) old new name out)
+answers tell law start now old new name out (Ok ran) r = (
+  subst (λ (told : Result Ran ModulateStop). IfOk told (RunsAll (config_of start.modulator) old new name out)) r.told_is
+      (ends law start now old new name out r.end r.runs).0,
+  tt,
+)
+answers tell law start now old new name out (Err (Refused why)) r = (
+  tt,
+  subst (λ (told : Result Ran ModulateStop). IfErr told (λ x. Stops (config_of start.modulator) old new name out (Refused x)))
+      r.told_is (ends law start now old new name out r.end r.runs).1,
+)
+answers tell law start now old new name out (Err (Files why)) r = (tt, stops tell law start now old new name out why r)
+answers tell law start now old new name out (Err OutOfMemory) r = (tt, r)

@@ -13,8 +13,8 @@ use Rattle.modulate_run.specs.Counted.{counted}
 use Rattle.modulate_run.specs.ModulateRun.{read_ahead, AreEarly}
 use Rattle.modulate_run.specs.declared.machine.ModulatorMachine.{ModulatorMachine}
 use Rattle.modulate_run.specs.declared.stop.Ran.{Ran}
-use Rattle.modulate_run.specs.declared.stop.RunStop.{RunStop}
-use Rattle.modulate_run.specs.declared.stop.RunStop.TheVariants as stop
+use Rattle.modulate_run.specs.declared.stop.ModulateStop.{ModulateStop}
+use Rattle.modulate_run.specs.declared.stop.ModulateStop.TheVariants as stop
 
 -- what is done next: a record is given if one may have its number
 abbrev pub step_of : Option Waiting → Bool → Step
@@ -49,11 +49,11 @@ pub record Shown (m : ModulatorMachine) (bytes taken : List ℕ) (ended : Bool) 
   pub front : (k : ℕ) → k < length bytes → IsPrefix (bytes_due (config_of m.modulator) false (take k bytes)) taken
 
 -- To the first this was done, and then it is the second.
-abbrev pub becomes : ModulatorMachine → List Event → ModulatorMachine → Type 0
-becomes start events m = (config_of m.modulator ≡ config_of start.modulator)
+abbrev pub Becomes : ModulatorMachine → List Event → ModulatorMachine → Type 0
+Becomes start events m = (config_of m.modulator ≡ config_of start.modulator)
     × Shown m (fed 0 events) (gave events) (has_ended 0 events)
 
--- how a run ends that came so far
-abbrev pub ending_of : Option Waiting → Ran → Result Ran RunStop
+-- what comes of a run that came so far
+abbrev pub ending_of : Option Waiting → Ran → Result Ran ModulateStop
 ending_of (Some w) ran = Err stop.TooManyFrames
 ending_of None ran = if ran.records == 0 then Err stop.NoSuperframe else Ok ran

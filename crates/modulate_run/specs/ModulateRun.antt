@@ -13,10 +13,12 @@ use Rattle.desk_io.specs.Faults.{ReadsFail, WritesFail}
 use Rattle.desk_io.specs.Reading.{longest_file}
 use Rattle.file_run.specs.FileRun.{OpensInputs, FailsToCreateOutput, Writes, ReadsAll}
 use Rattle.file_run.specs.declared.stop.RunFault.TheVariants.{TooLong, ReadFault, WriteFault}
+use Rattle.file_run.specs.declared.stop.RunStop.{RunStop}
+use Rattle.file_run.specs.declared.stop.RunStop.TheVariants.{Refused, Files, OutOfMemory}
 use Rattle.modulate_run.specs.Counted.{counted}
 use Rattle.modulate_run.specs.declared.stop.Ran.{Ran}
-use Rattle.modulate_run.specs.declared.stop.RunStop.{RunStop}
-use Rattle.modulate_run.specs.declared.stop.RunStop.TheVariants.{NoSuperframe, TooManyFrames, Files, OutOfMemory}
+use Rattle.modulate_run.specs.declared.stop.ModulateStop.{ModulateStop}
+use Rattle.modulate_run.specs.declared.stop.ModulateStop.TheVariants.{NoSuperframe, TooManyFrames}
 
 -- how many bytes are read ahead at most
 abbrev pub read_ahead : ℕ
@@ -106,9 +108,9 @@ pub record StopsWriting (c : Config) (old new : State) (name out : List ℕ) : T
   pub works : Writes old new name out place (HasSome c place)
 
 -- A run that did not come to its end, by its cause. IN is input 0, the only one.
-abbrev pub Stops : Config → State → State → List ℕ → List ℕ → RunStop → Type 0
-Stops c old new name out NoSuperframe = FindsNone c old new name out
-Stops c old new name out TooManyFrames = MeetsLate c old new name out
+abbrev pub Stops : Config → State → State → List ℕ → List ℕ → RunStop ModulateStop → Type 0
+Stops c old new name out (Refused NoSuperframe) = FindsNone c old new name out
+Stops c old new name out (Refused TooManyFrames) = MeetsLate c old new name out
 Stops c old new name out (Files (TooLong input)) = (input ≡ 0) × GivesTooMuch c old new name out
 Stops c old new name out (Files (ReadFault input)) =
     (input ≡ 0) × ReadsFail old new × (OpensInputs old new (name ∷ []) 0 ⊎ StopsReading c old new name out)

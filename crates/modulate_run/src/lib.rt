@@ -7,6 +7,6 @@ mod running;
 mod stop;
 mod waiting;
 
-pub use laws::{one_run, run_ends};
+pub use laws::{one_run_law, run_ends_law};
 pub use running::run;
-pub use stop::{Ran, RunStop};
+pub use stop::{ModulateStop, Ran};

@@ -4,10 +4,10 @@ ghost use Rattle.frame_groups.specs.declared.waiting.Waiting.{Waiting};
 ghost use Rattle.plp_config.specs.declared.moment.TheConstants.{MOST_FRAMES};
 ghost use Rattle.modulator.specs.StandsFor.{next_of, is_waiting, is_finished};
 
-use crate::stop::{Ran, RunStop};
+use crate::stop::{ModulateStop, Ran};
 use crate::waiting::is_of;
 use bit_slice::OutOfMemory;
-use file_run::{Machine, Step, events_law};
+use file_run::{Ending, Machine, Step, events_law};
 use frame_groups::Waiting;
 use modulator::{Modulator, due_records_law};
 use plp_config::{MOST_FRAMES, Plan};
@@ -34,11 +34,11 @@ pub struct ModulatorMachine<'p> {
 
 impl<'p> Machine for ModulatorMachine<'p> {
     ghost use Rattle.modulator.specs.StandsFor.{left_of, fed_of};
-    ghost use Rattle.modulate_run.specs.AsMachine.{becomes, step_of};
+    ghost use Rattle.modulate_run.specs.AsMachine.{Becomes, step_of};
     ghost use Rattle.modulate_run.specs.ModulateRun.{read_ahead};
     ghost use Rattle.std.specs.Prelude.{◌+◌};
 
-    ghost Becomes = { becomes };
+    ghost Becomes = { Becomes };
 
     ghost inputs = { λ m. 1 };
 
@@ -89,15 +89,35 @@ impl<'p> Machine for ModulatorMachine<'p> {
     }
 }
 
+impl<'p> Ending for ModulatorMachine<'p> {
+    ghost use Rattle.modulate_run.specs.AsMachine.{ending_of};
+
+    type Ran = Ran;
+
+    type Stop = ModulateStop;
+
+    ghost ending = { λ m. ending_of m.waiting m.ran };
+
+    fn ending(&self) -> Result<Ran, ModulateStop> {
+        if self.waiting.is_some() {
+            return Err(ModulateStop::TooManyFrames);
+        }
+        if self.ran.records == 0 {
+            return Err(ModulateStop::NoSuperframe);
+        }
+        Ok(self.ran)
+    }
+}
+
 impl<'p> ModulatorMachine<'p> {
     ghost use Rattle.std.specs.Prelude.{◌≡◌, [], IfOk};
     ghost use Rattle.modulator.specs.StandsFor.{config_of};
-    ghost use Rattle.modulate_run.specs.AsMachine.{becomes, ending_of};
+    ghost use Rattle.modulate_run.specs.AsMachine.{Becomes};
 
     /// A modulator of a plan to which nothing was fed, and all its memory.
     pub fn open(alloc: Global, plan: &'p Plan) -> Result<ModulatorMachine<'p>, OutOfMemory>
         ensures config { IfOk result (λ m. config_of m.modulator ≡ plan.now) }
-        ensures becomes { IfOk result (λ m. becomes m [] m) }
+        ensures becomes { IfOk result (λ m. Becomes m [] m) }
     {
         events_law();
         due_records_law();
@@ -113,18 +133,5 @@ impl<'p> ModulatorMachine<'p> {
                 muted: 0,
             },
         })
-    }
-
-    /// How its run ended.
-    pub fn ending(&self) -> Result<Ran, RunStop>
-        ensures { result ≡ ending_of self.now.waiting self.now.ran }
-    {
-        if self.waiting.is_some() {
-            return Err(RunStop::TooManyFrames);
-        }
-        if self.ran.records == 0 {
-            return Err(RunStop::NoSuperframe);
-        }
-        Ok(self.ran)
     }
 }

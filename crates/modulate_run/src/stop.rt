@@ -1,9 +1,7 @@
-// How a run ends.
+// What comes of a run.
 ghost use Rattle.std.specs.Prelude.{◌≡◌};
 ghost use Rattle.modulate_run.specs.Given.{added};
 
-use bit_slice::OutOfMemory;
-use file_run::RunFault;
 use frame_groups::Waiting;
 use thiserror::Error;
 
@@ -33,41 +31,13 @@ impl Ran {
     }
 }
 
-/// Why a run did not come to its end.
+/// Why a modulator has no records to give.
 #[derive(Clone, Copy, Debug, PartialEq, Eq, Error)]
-pub enum RunStop {
+pub enum ModulateStop {
     /// The input was read to its end, and no frame that begins a superframe passes the tests.
     #[error("no superframe begins in the input with a frame that passes the tests")]
     NoSuperframe,
     /// The record of frame 2^31 waits.
     #[error("too many frames")]
     TooManyFrames,
-    /// The input gave 2^40 bytes, or could not be opened or read; or the output could not be created or written.
-    #[error(transparent)]
-    Files(RunFault),
-    /// No memory was found.
-    #[error("out of memory")]
-    OutOfMemory,
-}
-
-impl From<RunFault> for RunStop {
-    ghost use Rattle.std.specs.Prelude.{◌≡◌};
-    ghost use Rattle.modulate_run.specs.declared.stop.RunStop.TheVariants.{Files};
-
-    ghost from_gives = { λ fault e. e ≡ Files fault };
-
-    fn from(fault: RunFault) -> RunStop {
-        RunStop::Files(fault)
-    }
-}
-
-impl From<OutOfMemory> for RunStop {
-    ghost use Rattle.std.specs.Prelude.{◌≡◌};
-    ghost use Rattle.modulate_run.specs.declared.stop.RunStop.TheVariants.{OutOfMemory};
-
-    ghost from_gives = { λ _ e. e ≡ OutOfMemory };
-
-    fn from(_error: OutOfMemory) -> RunStop {
-        RunStop::OutOfMemory
-    }
 }

@@ -15,12 +15,12 @@ use Rattle.site_frame.specs.Placing.{IsFrameOf, IsPlaced}
 use Rattle.site_frame.specs.Whole.{moment_of}
 use Rattle.site_frame.specs.declared.reading.RecordView.{RecordView}
 use Rattle.plp_receiver.specs.Laws.{ReadbackFront}
-use Rattle.plp_receiver.specs.StandsFor.{StandsFor, network_of, plp_of, frame_of, due_of}
+use Rattle.plp_receiver.specs.StandsFor.{ReceiverStandsFor, network_of, plp_of, frame_of, due_of}
 use Rattle.plp_receiver.specs.Epochs.{Readback}
 use Rattle.plp_receiver.specs.declared.receiver.Receiver.{Receiver}
 use Rattle.receive_run.specs.Received.{expected_after}
 use Rattle.receive_run.specs.AsMachine.{GavePackets, Given, first_of}
-use Rattle.receive_run.specs.Taking.{expected_by, Comes, TellsDue}
+use Rattle.receive_run.specs.Taking.{expected_by, TakesView, TellsDue}
 
 -- ---- successive frames
 
@@ -55,11 +55,11 @@ pub record CameGiven (c : Config) (plp : ℕ) (v : Receiver) (first : ℕ) (view
 
 -- the first one
 first_given : (c : Config) (plp : ℕ) (v : Receiver) (view : RecordView) (frame released : ℕ) (text : List ℕ) → network_of v ≡ c
-    → plp_of v ≡ plp → frame_of v ≡ frame + 1 → StandsFor v frame (view ∷ []) 0 → TellsDue v → released ≡ 0 → text ≡ []
+    → plp_of v ≡ plp → frame_of v ≡ frame + 1 → ReceiverStandsFor v frame (view ∷ []) 0 → TellsDue v → released ≡ 0 → text ≡ []
     → GavePackets c plp v frame (view ∷ []) released text
 first_given c plp v view frame released text same_c same_p number stands due none empty =
     let d = due frame (view ∷ []) 0 stands in record {
-      stands = subst (StandsFor v frame (view ∷ [])) (sym none) stands;
+      stands = subst (ReceiverStandsFor v frame (view ∷ [])) (sym none) stands;
       frame = number;
       packets = d.0;
       back = subst (λ (e : Config). Readback e plp frame (view ∷ []) d.0) same_c
@@ -73,7 +73,7 @@ first_given c plp v view frame released text same_c same_p number stands due non
 -- one more
 next_given : ReadbackFront → (c : Config) (plp : ℕ) (old new : Receiver) (first : ℕ) (w : RecordView) (ws : List RecordView)
     (view : RecordView) (released : ℕ) (text : List ℕ) → IsPlan c → plp < length c.plps → network_of new ≡ c → plp_of new ≡ plp
-    → due_of old ≡ 0 → frame_of new ≡ first + length (w ∷ ws) + 1 → StandsFor new first ((w ∷ ws) ++ view ∷ []) released
+    → due_of old ≡ 0 → frame_of new ≡ first + length (w ∷ ws) + 1 → ReceiverStandsFor new first ((w ∷ ws) ++ view ∷ []) released
     → TellsDue new → GavePackets c plp old first (w ∷ ws) released text
     → GavePackets c plp new first ((w ∷ ws) ++ view ∷ []) released text
 next_given front c plp old new first w ws view released text plan inside same_c same_p none number stands due g =
@@ -114,7 +114,7 @@ next_given front c plp old new first w ws view released text plan inside same_c 
 pub came_given : ReadbackFront → (c : Config) (plp : ℕ) (old new : Receiver) (first frame : ℕ) (views : List RecordView)
     (view : RecordView) (released : ℕ) (text : List ℕ) → IsPlan c → plp < length c.plps → network_of new ≡ c → plp_of new ≡ plp
     → due_of old ≡ 0 → frame_of new ≡ frame + 1 → IsPlaced c (expected_by (first_of first views) (length views))
-    (moment_of view) frame → Comes (expected_by (first_of first views) (length views)) old new frame view → TellsDue new
+    (moment_of view) frame → TakesView (expected_by (first_of first views) (length views)) old new frame view → TellsDue new
     → IsOnGrid c first views → Given c plp old first views released text
     → CameGiven c plp new first views view released text (unwrap_or (first_of first views) frame)
 came_given front c plp old new first frame [] view released text plan inside same_c same_p none number placed comes due a g =

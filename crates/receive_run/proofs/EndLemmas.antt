@@ -2,7 +2,7 @@
 use Rattle.std.proofs.Common.{◌≡◌, ◌≢◌, ◌⊎◌, ℕ, zero, suc, ◌+◌, ◌/◌, ◌%◌, ◌^◌, ◌<◌, ◌≤◌, ◌==◌, Bool, true, false, inl, inr, List}
 use Rattle.std.proofs.Common.{[], ◌∷◌, ◌++◌, length, drop, Option, Some, None, refl, ap, sym, subst, ◌∙◌, arith, append_assoc}
 use Rattle.std.proofs.Common.{length-append, length-drop, eqb-true}
-use Rattle.std.specs.Prelude.{nat_lt, slice_index, bit_xor, Result, Ok, Err, if◌then◌else◌}
+use Rattle.std.specs.Prelude.{nat_lt, bit_xor, Result, Ok, Err, if◌then◌else◌}
 use Rattle.std.specs.List.{AllZip, range_with_len, concat}
 use Rattle.std.proofs.lemmas.Bool.{eqb-false, ltb-true, ltb-false}
 use Rattle.terms.specs.Bits.{field, number_at, bits_of, bytes_of}
@@ -36,8 +36,8 @@ use Rattle.plp_receiver.specs.Taken.{IsOfStream, block_read, IsTaken, IsGiven, b
 use Rattle.receive_run.specs.Laws.{MustRun, RunEnds}
 use Rattle.receive_run.specs.Received.{GivesBack, Received, ran_of, expected_after, RefusesNext}
 use Rattle.receive_run.specs.declared.stop.Ran.{Ran}
-use Rattle.receive_run.specs.declared.stop.RunStop.{RunStop}
-use Rattle.receive_run.specs.declared.stop.RunStop.TheVariants.{RecordRefused}
+use Rattle.receive_run.specs.declared.stop.ReceiveStop.{ReceiveStop}
+use Rattle.receive_run.specs.declared.stop.ReceiveStop.TheVariants.{RecordRefused}
 use Rattle.receive_run.proofs.SameLemmas.{successive_join, successive_none}
 use Rattle.site_frame.proofs.RecordSplitLemmas.{some_bytes, bytes_behind}
 
@@ -112,7 +112,8 @@ zip_there R each (x ∷ xs) = let here = each x in let rest = zip_there R each x
 
 -- ---- what records tell
 
-tells_there : bb.SpelledOrRefused → bb.NoRefusal → bb.BitCounts → (c : Config) (plp : ℕ) (parts : Option (List Part)) → (e : Epoch)
+tells_there : bb.SpelledOrRefused → bb.NoRefusal → bb.BitCounts → (c : Config) (plp : ℕ) (parts : Option (List Part))
+    → (e : Epoch)
     × Tells c plp parts e
 tells_there decides never counts c plp None = (lost_epoch, refl)
 tells_there decides never counts c plp (Some []) = (epoch_with [], refl)
@@ -238,7 +239,7 @@ tail decides c (suc fuel) n (x ∷ file) few bytes enough = go (tail decides c f
 -- ---- endings
 
 abbrev Ends : Config → ℕ → List ℕ → Type 0
-Ends c plp file = (result : Result Ran RunStop) × MustRun c plp file result
+Ends c plp file = (result : Result Ran ReceiveStop) × MustRun c plp file result
 
 received_there : bb.SpelledOrRefused → bb.NoRefusal → bb.BitCounts → (c : Config) (plp first : ℕ) (views : List RecordView)
     → IsOnGrid c first views → (bytes : List ℕ) × (r : Received c plp views bytes) × (r.first ≡ first)

@@ -9,10 +9,10 @@ use Rattle.std.proofs.lemmas.List.Folds.{concat-append}
 use Rattle.std.proofs.lemmas.Option.{slice_get_within}
 use Rattle.terms.proofs.OptionLemmas.{some_injective, none_some}
 use Rattle.site_frame.specs.declared.reading.RecordView.{RecordView}
-use Rattle.plp_receiver.specs.StandsFor.{StandsFor, network_of, plp_of, frame_of, due_of}
+use Rattle.plp_receiver.specs.StandsFor.{ReceiverStandsFor, Status, status_of, network_of, plp_of, due_of}
 use Rattle.plp_receiver.specs.Epochs.{Readback}
 use Rattle.plp_receiver.specs.declared.receiver.Receiver.{Receiver}
-use Rattle.receive_run.specs.Taking.{SamePlp, GivesPacket}
+use Rattle.receive_run.specs.Taking.{GivesPacket}
 
 -- ---- lists of packets
 
@@ -33,21 +33,22 @@ one_more packets k packet e =
 
 -- ---- a receiver
 
-pub gives_one : (old new : Receiver) (packet : List ℕ) (b : Bool) → 0 < due_of old → b ≡ nat_lt 0 (due_of old) → SamePlp old new
-    → frame_of new ≡ frame_of old → due_of new ≡ due_of old - 1
-    → ((first : ℕ) (views : List RecordView) (released : ℕ) → StandsFor old first views released
-    → StandsFor new first views (if b then released + 1 else released))
+pub gives_one : (old new : Receiver) (packet : List ℕ) (b : Bool) → 0 < due_of old → b ≡ nat_lt 0 (due_of old)
+    → status_of new ≡ record (status_of old) { due = due_of old - 1 }
+    → ((first : ℕ) (views : List RecordView) (released : ℕ) → ReceiverStandsFor old first views released
+    → ReceiverStandsFor new first views (if b then released + 1 else released))
     → (b ≡ true → (first : ℕ) (views : List RecordView) (released : ℕ) (packets : List (List ℕ))
-    → StandsFor old first views released → Readback (network_of old) (plp_of old) first views packets
+    → ReceiverStandsFor old first views released → Readback (network_of old) (plp_of old) first views packets
     → slice_get packets released ≡ Some packet)
     → GivesPacket old new packet
-gives_one old new packet b some exact same frame due stands answer =
+gives_one old new packet b some exact status stands answer =
+    let due = ap (λ (s : Status). s.due) status in
     let yes : b ≡ true = exact ∙ lt-ltb 0 (due_of old) some in
     record {
-      same = same;
-      frame = frame;
+      same = (ap (λ (s : Status). s.network) status, ap (λ (s : Status). s.plp) status);
+      frame = ap (λ (s : Status). s.frame) status;
       due = omega (arith, some, due);
-      stands = λ first views released s. subst (λ (t : Bool). StandsFor new first views (if t then released + 1 else released))
+      stands = λ first views released s. subst (λ (t : Bool). ReceiverStandsFor new first views (if t then released + 1 else released))
           yes (stands first views released s);
       packets = λ first views released packets s back inside.
           let here = answer yes first views released packets s back in

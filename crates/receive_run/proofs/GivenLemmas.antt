@@ -1,25 +1,23 @@
 -- Packets that are due were given.
-use Rattle.std.proofs.Common.{◌≡◌, ℕ, ◌+◌, ◌-◌, ◌^◌, ◌<◌, min, Bool, false, List, [], ◌∷◌, ◌++◌, length, refl, ap, sym, subst}
+use Rattle.std.proofs.Common.{◌≡◌, ℕ, ◌+◌, ◌-◌, ◌^◌, ◌<◌, min, Bool, List, [], ◌∷◌, ◌++◌, length, ap, sym, subst}
 use Rattle.std.proofs.Common.{◌∙◌, arith, append_assoc}
 use Rattle.std.specs.List.{concat}
 use Rattle.plp_config.specs.declared.config.Config.{Config}
-use Rattle.site_frame.specs.Record.{head_len}
-use Rattle.site_frame.specs.RecordFile.{AreRecords, IsOnGrid}
+use Rattle.site_frame.specs.RecordFile.{IsOnGrid}
 use Rattle.site_frame.specs.declared.reading.RecordView.{RecordView}
+use Rattle.record_feed.specs.StandsFor.{RecordFeedStandsFor, coming_of, left_of}
+use Rattle.record_feed.specs.declared.coming.Coming.TheVariants.{Head, Whole}
+use Rattle.record_feed.specs.declared.feed.RecordFeed.{RecordFeed}
 use Rattle.plp_receiver.specs.StandsFor.{network_of, plp_of, due_of}
 use Rattle.plp_receiver.specs.Epochs.{Readback}
 use Rattle.plp_receiver.specs.declared.receiver.Receiver.{Receiver}
 use Rattle.file_run.specs.Events.{Event, Gave, fed, has_ended, gave}
 use Rattle.file_run.specs.Laws.{EventsTell}
-use Rattle.file_run.specs.declared.machine.Step.TheVariants.{Read, Give, End}
 use Rattle.receive_run.specs.Received.{expected_after}
-use Rattle.receive_run.specs.AsMachine.{Behind, GaveEarly, GavePackets, Given, Shown, Becomes}
-use Rattle.receive_run.specs.NextStep.{step_of, gives, coming_by, left_by}
+use Rattle.receive_run.specs.AsMachine.{GaveEarly, GavePackets, Given, Becomes}
 use Rattle.receive_run.specs.Taking.{GivesPacket}
-use Rattle.receive_run.specs.declared.machine.Coming.{Coming}
-use Rattle.receive_run.specs.declared.machine.Coming.TheVariants.{Head, Rest, Packets, Refused, Finished}
 use Rattle.receive_run.specs.declared.machine.ReceiverMachine.{ReceiverMachine}
-use Rattle.receive_run.proofs.StepLemmas.{behind_taken, quiet_taken}
+use Rattle.receive_run.proofs.StepLemmas.{judged_none}
 
 -- more was given
 early_more : (c : Config) (plp first : ℕ) (views : List RecordView) (text bytes : List ℕ) → GaveEarly c plp first views text
@@ -70,61 +68,44 @@ given_more c plp old new first (v ∷ vs) released slots text bytes same_c same_
     let e : released + 1 ≡ slots = omega (arith, small, within, is) in
     subst (λ (k : ℕ). GavePackets c plp new first (v ∷ vs) k (text ++ bytes)) e more
 
-packets_behind : (c : Config) (plp : ℕ) (m : ReceiverMachine) (was : List Event) → m.coming ≡ Packets → (s : Shown c plp m was)
-    → (s.rest ≡ []) × (has_ended 0 was ≡ false)
-packets_behind c plp m was packets s =
-    subst (λ (p : Coming). Behind c (expected_after s.first s.views) p m.bytes.items m.left s.rest (has_ended 0 was)) packets
-    s.behind
-
--- a machine that gives has packets that are due
-pub packets_come : (coming : Coming) (left : ℕ) → step_of coming left ≡ Give → coming ≡ Packets
-packets_come Head left e = absurd (let f : Read 0 head_len head_len ≡ Give = e in cc)
-packets_come Rest left e = absurd (let f : Read 0 1 left ≡ Give = e in cc)
-packets_come Packets left e = refl
-packets_come (Refused why) left e = absurd (let f : End ≡ Give = e in cc)
-packets_come Finished left e = absurd (let f : End ≡ Give = e in cc)
-
-pub gave_event : EventsTell → (start m n : ReceiverMachine) (events : List Event) (bytes packet : List ℕ) → m.coming ≡ Packets
-    → bytes ≡ packet → GivesPacket m.receiver n.receiver packet → n.slots ≡ min (m.slots + 1) (2 ^ 64 - 1) → n.at ≡ m.at
-    → n.first ≡ m.first → n.count ≡ m.count
-    → n.coming ≡ coming_by (due_of n.receiver) → n.left ≡ left_by (due_of n.receiver)
+pub gave_event : EventsTell → (start m n : ReceiverMachine) (events : List Event) (bytes packet : List ℕ) → 0 < due_of m.receiver
+    → bytes ≡ packet → GivesPacket m.receiver n.receiver packet → n.slots ≡ min (m.slots + 1) (2 ^ 64 - 1) → n.feed ≡ m.feed
+    → n.first ≡ m.first → n.misplaced ≡ m.misplaced
     → ((first : ℕ) (views : List RecordView) (packets : List (List ℕ)) → IsOnGrid (network_of m.receiver) first views
     → Readback (network_of m.receiver) (plp_of m.receiver) first views packets → length packets < 2 ^ 64)
     → Becomes start events m → Becomes start (events ++ Gave bytes ∷ []) n
-gave_event law start m n events bytes packet packets is given slots at first number comes left few b =
+gave_event law start m n events bytes packet some is given slots same first misplaced few b =
     let gives : GivesPacket m.receiver n.receiver bytes = subst (GivesPacket m.receiver n.receiver) (sym is) given in
     let c : Config = network_of start.receiver in
     let plp : ℕ = plp_of start.receiver in
     let s = b.shown in
+    let now : List Event = events ++ Gave bytes ∷ [] in
     let t = law.given bytes events in
-    let was = packets_behind c plp m events packets s in
+    let between = s.between some in
     let small : (packets : List (List ℕ)) → Readback c plp s.first s.views packets → length packets < 2 ^ 64 =
     subst (λ (e : Config). (packets : List (List ℕ)) → Readback e plp s.first s.views packets → length packets < 2 ^ 64) b.same.0
     (subst (λ (p : ℕ). (packets : List (List ℕ)) → Readback (network_of m.receiver) p s.first s.views packets
     → length packets < 2 ^ 64) b.same.1
     (λ packets back. few s.first s.views packets (subst (λ (e : Config). IsOnGrid e s.first s.views) (sym b.same.0) s.successive)
     back)) in
+    let feed : RecordFeedStandsFor n.feed s.views (fed 0 now) (has_ended 0 now) =
+    subst (λ (l : List ℕ). RecordFeedStandsFor n.feed s.views l (has_ended 0 now)) (sym (t.fed 0))
+    (subst (λ (e : Bool). RecordFeedStandsFor n.feed s.views (fed 0 events) e) (sym (t.ended 0))
+    (subst (λ (f : RecordFeed). RecordFeedStandsFor f s.views (fed 0 events) (has_ended 0 events)) (sym same) s.feed)) in
+    let heads : coming_of n.feed ≡ Head = ap coming_of same ∙ between.0 in
     record {
       same = (gives.same.0 ∙ b.same.0, gives.same.1 ∙ b.same.1);
       shown = record {
         first = s.first;
         views = s.views;
-        rest = [];
-        records = subst (λ (l : List ℕ). AreRecords l s.views []) (sym (t.fed 0))
-            (subst (λ (l : List ℕ). AreRecords (fed 0 events) s.views l) was.0 s.records);
+        feed = feed;
         successive = s.successive;
-        place = at ∙ s.place ∙ ap length (sym (t.fed 0));
         first_is = first ∙ s.first_is;
-        number = number ∙ s.number;
-        behind =
-            subst (λ (p : Coming). Behind c (expected_after s.first s.views) p n.bytes.items n.left []
-            (has_ended 0 (events ++ Gave bytes ∷ []))) (sym comes)
-            (subst (λ (e : Bool). Behind c (expected_after s.first s.views) (coming_by (due_of n.receiver)) n.bytes.items n.left
-            [] e) (sym (t.ended 0 ∙ was.1))
-            (behind_taken c (expected_after s.first s.views) (due_of n.receiver) n.bytes.items n.left left));
+        judged = judged_none c (expected_after s.first s.views) n (coming_of n.feed) feed.rest (misplaced ∙ between.2)
+            (λ whole. let e : Head ≡ Whole = sym heads ∙ whole in cc);
         given = subst (λ (l : List ℕ). Given c plp n.receiver s.first s.views n.slots l) (sym t.gave)
             (given_more c plp m.receiver n.receiver s.first s.views m.slots n.slots (gave events) bytes b.same.0 b.same.1
-            (m.some packets) gives small slots s.given);
-        quiet = quiet_taken n.coming (due_of n.receiver) comes;
+            some gives small slots s.given);
+        between = λ more. (heads, ap left_of same ∙ between.1, misplaced ∙ between.2);
       };
     }

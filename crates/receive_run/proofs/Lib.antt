@@ -4,7 +4,6 @@ pub mod StepLemmas
 pub mod TakenLemmas
 pub mod FedLemmas
 pub mod WantedLemmas
-pub mod FileEndLemmas
 pub mod GivenLemmas
 pub mod FewLemmas
 pub mod SameLemmas

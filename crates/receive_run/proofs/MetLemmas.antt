@@ -1,26 +1,31 @@
 -- What a receiver has met of a file of records, and what it gave of it.
 use Rattle.std.proofs.Common.{◌≡◌, ℕ, ◌+◌, ◌-◌, ◌<◌, List, [], ◌∷◌, ◌++◌, length, refl, ap, subst, ◌∙◌, inl, inr, arith, ◌≤◌}
-use Rattle.std.proofs.Common.{Bool, true, false, take, Option, length-append}
+use Rattle.std.proofs.Common.{Bool, true, take, Option, Some, length-append}
 use Rattle.std.specs.Prelude.{◌⊎◌}
+use Rattle.std.specs.List.{concat}
+use Rattle.std.proofs.Math.Seq.{take-length}
+use Rattle.terms.proofs.OptionLemmas.{some_injective}
 use Rattle.plp_config.specs.declared.config.Config.{Config}
-use Rattle.site_frame.specs.Record.{head_len}
-use Rattle.site_frame.specs.RecordFile.{IsBegun, EndsWithin, bytes_before}
+use Rattle.site_frame.specs.RecordFile.{EndsWithin, bytes_before}
+use Rattle.site_frame.specs.declared.fault.RecordWhy.{RecordWhy}
 use Rattle.site_frame.specs.declared.reading.RecordView.{RecordView}
+use Rattle.record_feed.specs.Laws.{Lacks, TakesOn, LacksWithin}
+use Rattle.record_feed.specs.StandsFor.{coming_of, lacks_of}
+use Rattle.record_feed.specs.declared.coming.Coming.{Coming}
+use Rattle.record_feed.specs.declared.coming.Coming.TheVariants.{Head, Rest, Whole, Refused, NoRoom, Finished}
+use Rattle.plp_receiver.specs.StandsFor.{network_of, plp_of, due_of}
+use Rattle.plp_receiver.specs.declared.receiver.Receiver.{Receiver}
 use Rattle.file_run.specs.Events.{Event, fed, has_ended, gave}
 use Rattle.file_run.specs.FileRun.{IsFed}
 use Rattle.file_run.specs.Steps.{FallsShort, Needs}
-use Rattle.receive_run.specs.AsMachine.{first_of, ran_by, Behind, Given, Shown}
-use Rattle.receive_run.specs.NextStep.{step_of, gives}
+use Rattle.receive_run.specs.AsMachine.{next_of, first_of, ran_by, Judged, Given, Shown}
+use Rattle.receive_run.specs.NextStep.{refusal_of}
 use Rattle.receive_run.specs.ReceiveRun.{HasMet, HasMetPart, LacksSome}
-use Rattle.receive_run.specs.declared.machine.Coming.{Coming}
-use Rattle.receive_run.specs.declared.machine.Coming.TheVariants.{Head, Rest, Packets, Refused, Finished}
+use Rattle.receive_run.specs.Received.{GivesBack, Received, ran_of, expected_after, RefusesNext}
 use Rattle.receive_run.specs.declared.machine.ReceiverMachine.{ReceiverMachine}
-use Rattle.site_frame.proofs.RecordFileLemmas.{records_file, rest_inside, announces_on}
-use Rattle.std.specs.List.{concat}
-use Rattle.std.proofs.Math.Seq.{take-length}
-use Rattle.plp_receiver.specs.StandsFor.{network_of, plp_of, due_of}
-use Rattle.plp_receiver.specs.declared.receiver.Receiver.{Receiver}
-use Rattle.receive_run.specs.Received.{GivesBack, Received, ran_of, expected_after}
+use Rattle.site_frame.proofs.RecordFileLemmas.{records_file, rest_inside, announces_on, begins_on}
+use Rattle.receive_run.proofs.StepLemmas.{behind_at}
+use Rattle.receive_run.proofs.WantedLemmas.{short, needs}
 
 pub record GaveAll (c : Config) (plp first : ℕ) (views : List RecordView) (slots : ℕ) (text : List ℕ) : Type 0 where
   pub packets : List (List ℕ)
@@ -50,9 +55,9 @@ abbrev pub received : (c : Config) (plp : ℕ) (m : ReceiverMachine) (events : L
 received c plp m events bytes s g is =
     record { first = s.first; successive = s.successive; packets = g.packets; back = g.back; bytes_are = is ∙ g.text_is }
 
-pub all_given : (c : Config) (plp : ℕ) (m : ReceiverMachine) (events : List Event) → gives m.coming ≡ false
+pub all_given : (c : Config) (plp : ℕ) (m : ReceiverMachine) (events : List Event) → due_of m.receiver ≡ 0
     → (s : Shown c plp m events) → GaveAll c plp s.first s.views m.slots (gave events)
-all_given c plp m events idle s = gave_all c plp m.receiver s.first s.views m.slots (gave events) (s.quiet idle) s.given
+all_given c plp m events idle s = gave_all c plp m.receiver s.first s.views m.slots (gave events) idle s.given
 
 -- the slots of a machine are those of its records
 pub ran_same : (c : Config) (plp first : ℕ) (views : List RecordView) (begins : Option ℕ) (slots : ℕ) (packets : List (List ℕ))
@@ -68,12 +73,6 @@ plan_of m = network_of m.receiver
 
 abbrev pub place_of : ReceiverMachine → ℕ
 place_of m = plp_of m.receiver
-
-pub behind_at : (c : Config) (plp : ℕ) (m : ReceiverMachine) (events : List Event) (p : Coming) → m.coming ≡ p
-    → (s : Shown c plp m events) → Behind c (expected_after s.first s.views) p m.bytes.items m.left s.rest (has_ended 0 events)
-behind_at c plp m events p is s =
-    subst (λ (q : Coming). Behind c (expected_after s.first s.views) q m.bytes.items m.left s.rest (has_ended 0 events)) is
-    s.behind
 
 -- a machine that wants no more, or whose file has ended, was fed all that was read
 pub all_fed : (file front : List ℕ) (place at left : ℕ) (ended : Bool) → IsFed file place front ended → at ≡ length front
@@ -101,102 +100,112 @@ refused_within file front more rest place parts inside near within =
     let both = length-append rest more in
     fewer_within rest more (place - bytes_before file (rest ++ more)) within (omega (arith, size, sum, both, inside, near))
 
--- a machine that wants bytes
-abbrev Waits : Coming → Type 0
-Waits coming = (coming ≡ Head) ⊎ (coming ≡ Rest)
+abbrev refused_for : RecordWhy → Coming
+refused_for why = Refused why
 
-pub wanted : (coming : Coming) (left input count : ℕ) → Needs (step_of coming left) input count → Waits coming
-wanted Head left input count w = inl refl
-wanted Rest left input count w = inr refl
-wanted Packets left input count w = absurd w
-wanted (Refused why) left input count w = absurd w
-wanted Finished left input count w = absurd w
+-- what stands behind the records is refused whatever follows, ends within a record, and no more is wanted
+pub record StandsRefused (c : Config) (expected : Option ℕ) (why : RecordWhy) (left : ℕ) (rest : List ℕ) (ended : Bool)
+    : Type 0 where
+  pub refuses : (more : List ℕ) → (ended ≡ true → more ≡ []) → RefusesNext c expected (rest ++ more) why
+  pub within : EndsWithin rest (length rest)
+  pub none : (left ≡ 0) ⊎ (ended ≡ true)
 
-pub lacked : (coming : Coming) (left input count : ℕ) → FallsShort (step_of coming left) input count → Waits coming
-lacked Head left input count w = inl refl
-lacked Rest left input count w = inr refl
-lacked Packets left input count w = absurd w
-lacked (Refused why) left input count w = absurd w
-lacked Finished left input count w = absurd w
+abbrev RefusedSo : (c : Config) (plp : ℕ) (m : ReceiverMachine) (events : List Event) → Shown c plp m events → RecordWhy → Type 0
+RefusedSo c plp m events s why =
+    StandsRefused c (expected_after s.first s.views) why m.feed.left s.feed.rest (has_ended 0 events)
 
-waits_idle : (coming : Coming) → Waits coming → gives coming ≡ false
-waits_idle coming (inl h) = ap gives h
-waits_idle coming (inr r) = ap gives r
+refused_feed : (c : Config) (plp : ℕ) (m : ReceiverMachine) (events : List Event) (why : RecordWhy) (s : Shown c plp m events)
+    → coming_of m.feed ≡ Refused why → RefusedSo c plp m events s why
+refused_feed c plp m events why s is =
+    let b = behind_at c plp m events (Refused why) is s in
+    record { refuses = λ more end. inl (b.refuses more end); within = b.within; none = b.none }
 
--- what was read ends within the record that comes
-ends_within : (c : Config) (plp : ℕ) (m : ReceiverMachine) (events : List Event) (more : List ℕ) (count : ℕ) → Waits m.coming
-    → (s : Shown c plp m events) → count ≤ m.left → EndsWithin (s.rest ++ more) (length s.rest + count)
-ends_within c plp m events more count (inl heads) s near =
-    let b = behind_at c plp m events Head heads s in
-    let none = ap length b.0 in
-    let lacks = b.1 in
-    inl (omega (arith, none, lacks, near))
-ends_within c plp m events more count (inr rests) s near =
-    let begun : IsBegun s.rest m.left = (behind_at c plp m events Rest rests s).1 in
-    let lacks = begun.lacks in
-    inr (begun.len, announces_on s.rest more begun.len begun.announces, omega (arith, lacks, near))
+refused_place : (c : Config) (plp : ℕ) (m : ReceiverMachine) (events : List Event) (why : RecordWhy) (s : Shown c plp m events)
+    → m.misplaced ≡ Some why → RefusedSo c plp m events s why
+refused_place c plp m events why s is =
+    let judged = subst (λ (o : Option RecordWhy). Judged c (expected_after s.first s.views) o (coming_of m.feed) s.feed.rest) is
+    s.judged in
+    let p = judged.1 in
+    let b = behind_at c plp m events Whole judged.0 s in
+    let lacks = b.1.lacks in
+    record {
+      refuses = λ more end. inr (p.0, p.1, begins_on s.feed.rest more p.0 p.1 p.2, p.3);
+      within = inr (b.1.len, b.1.announces, omega (arith, lacks));
+      none = inl (m.feed.whole judged.0);
+    }
 
-pub has_met : (c : Config) (plp : ℕ) (m : ReceiverMachine) (events : List Event) (file bytes : List ℕ) (place : ℕ)
-    → Waits m.coming
-    → (s : Shown c plp m events) → IsFed file place (fed 0 events) (has_ended 0 events) → place ≤ m.at + m.left
-    → bytes ≡ gave events
+-- why the record of the next frame does not come
+pub refused_so : (c : Config) (plp : ℕ) (m : ReceiverMachine) (events : List Event) (why : RecordWhy) (s : Shown c plp m events)
+    → refusal_of (coming_of m.feed) m.misplaced ≡ Some why → RefusedSo c plp m events s why
+refused_so c plp m events why s is = go (coming_of m.feed) refl is
+  where
+    go : (p : Coming) → coming_of m.feed ≡ p → refusal_of p m.misplaced ≡ Some why → RefusedSo c plp m events s why
+    go Head at e = refused_place c plp m events why s e
+    go Rest at e = refused_place c plp m events why s e
+    go Whole at e = refused_place c plp m events why s e
+    go (Refused other) at e = refused_feed c plp m events why s (at ∙ ap refused_for (some_injective other why e))
+    go NoRoom at e = refused_place c plp m events why s e
+    go Finished at e = refused_place c plp m events why s e
+
+-- what is lacking of the record that comes
+lacking : TakesOn → (c : Config) (plp : ℕ) (m : ReceiverMachine) (events : List Event) (s : Shown c plp m events)
+    → 0 < lacks_of m.feed → Lacks s.feed.rest (lacks_of m.feed)
+lacking takes c plp m events s some = (takes m.feed s.views (fed 0 events) (has_ended 0 events) s.feed some).0
+
+-- how much was read behind the records that were taken
+read_behind : (c : Config) (plp : ℕ) (m : ReceiverMachine) (events : List Event) (file : List ℕ) (place : ℕ)
+    (s : Shown c plp m events) (f : IsFed file place (fed 0 events) (has_ended 0 events))
+    → length s.feed.rest + (place - length (fed 0 events)) ≡ place - bytes_before file (s.feed.rest ++ f.more)
+read_behind c plp m events file place s f =
+    let size = ap length f.parts in
+    let sum = length-append (fed 0 events) f.more in
+    let both = length-append s.feed.rest f.more in
+    let inside = rest_inside (fed 0 events) s.feed.rest s.views s.feed.records in
+    let ahead = f.ahead in
+    omega (arith, size, sum, both, inside, ahead)
+
+pub has_met : TakesOn → LacksWithin → (c : Config) (plp : ℕ) (m : ReceiverMachine) (events : List Event) (file bytes : List ℕ)
+    (place input : ℕ) → Needs (next_of m) input (place - length (fed 0 events))
+    → (s : Shown c plp m events) → IsFed file place (fed 0 events) (has_ended 0 events) → bytes ≡ gave events
     → HasMet c plp place file bytes
-has_met c plp m events file bytes place waits s f near holds =
-    let g = all_given c plp m events (waits_idle m.coming waits) s in
-    let rest : List ℕ = s.rest ++ f.more in
+has_met takes within c plp m events file bytes place input wants s f holds =
+    let w = needs m input _ wants in
+    let some = w.0.some in
+    let few = w.1 in
+    let g = all_given c plp m events w.0.idle s in
+    let rest : List ℕ = s.feed.rest ++ f.more in
     let count : ℕ = place - length (fed 0 events) in
-    let size = ap length f.parts in
-    let sum = length-append (fed 0 events) f.more in
-    let both = length-append s.rest f.more in
-    let inside = rest_inside (fed 0 events) s.rest s.views s.records in
-    let ahead = f.ahead in
-    let at = s.place in
-    let counted : length s.rest + count ≡ place - bytes_before file rest = omega (arith, size, sum, both, inside, ahead) in
     record {
       views = s.views;
       rest = rest;
-      records = records_file file (fed 0 events) f.more s.rest s.views f.parts s.records;
+      records = records_file file (fed 0 events) f.more s.feed.rest s.views f.parts s.feed.records;
       received = received c plp m events bytes s g holds;
-      within = subst (EndsWithin rest) counted (ends_within c plp m events f.more count waits s (omega (arith, near, at, ahead)));
+      within = subst (EndsWithin rest) (read_behind c plp m events file place s f)
+          (within s.feed.rest f.more (lacks_of m.feed) count (lacking takes c plp m events s some) (omega (arith, some, few)));
     }
 
--- of what is wanted some was not read
-lacks_some : (c : Config) (plp : ℕ) (m : ReceiverMachine) (events : List Event) (more : List ℕ) (input count : ℕ) → Waits m.coming
-    → (s : Shown c plp m events) → FallsShort (step_of m.coming m.left) input count
-    → LacksSome (s.rest ++ more) (length s.rest + count)
-lacks_some c plp m events more input count (inl heads) s f =
-    let b = behind_at c plp m events Head heads s in
-    let none = ap length b.0 in
-    let less : count < head_len = (subst (λ (p : Coming). FallsShort (step_of p m.left) input count) heads f).1 in
-    inl (omega (arith, none, less))
-lacks_some c plp m events more input count (inr rests) s f =
-    let begun : IsBegun s.rest m.left = (behind_at c plp m events Rest rests s).1 in
-    let lacks = begun.lacks in
-    let less : count < 1 = (subst (λ (p : Coming). FallsShort (step_of p m.left) input count) rests f).1 in
-    let some : 0 < m.left = (m.room rests).0 in
-    inr (begun.len, announces_on s.rest more begun.len begun.announces, omega (arith, lacks, less, some))
+-- of what is wanted nothing was read
+lacks_some : (rest more : List ℕ) (left count : ℕ) → Lacks rest left → 0 < left → count < 1
+    → LacksSome (rest ++ more) (length rest + count)
+lacks_some rest more left count (inl head) some none = inl (omega (arith, head, some, none))
+lacks_some rest more left count (inr b) some none =
+    inr (b.len, announces_on rest more b.len b.announces, (let l = b.lacks in omega (arith, l, some, none)))
 
-pub has_met_part : (c : Config) (plp : ℕ) (m : ReceiverMachine) (events : List Event) (file bytes : List ℕ) (place input : ℕ)
-    → Waits m.coming → (s : Shown c plp m events) → IsFed file place (fed 0 events) (has_ended 0 events)
-    → FallsShort (step_of m.coming m.left) input (place - length (fed 0 events)) → bytes ≡ gave events
+pub has_met_part : TakesOn → (c : Config) (plp : ℕ) (m : ReceiverMachine) (events : List Event) (file bytes : List ℕ)
+    (place input : ℕ) → (s : Shown c plp m events) → IsFed file place (fed 0 events) (has_ended 0 events)
+    → FallsShort (next_of m) input (place - length (fed 0 events)) → bytes ≡ gave events
     → HasMetPart c plp place file bytes
-has_met_part c plp m events file bytes place input waits s f wants holds =
-    let g = all_given c plp m events (waits_idle m.coming waits) s in
-    let rest : List ℕ = s.rest ++ f.more in
+has_met_part takes c plp m events file bytes place input s f wants holds =
+    let w = short m input _ wants in
+    let some = w.0.some in
+    let g = all_given c plp m events w.0.idle s in
+    let rest : List ℕ = s.feed.rest ++ f.more in
     let count : ℕ = place - length (fed 0 events) in
-    let size = ap length f.parts in
-    let sum = length-append (fed 0 events) f.more in
-    let both = length-append s.rest f.more in
-    let inside = rest_inside (fed 0 events) s.rest s.views s.records in
-    let ahead = f.ahead in
-    let counted : length s.rest + count ≡ place - bytes_before file rest = omega (arith, size, sum, both, inside, ahead) in
     record {
       views = s.views;
       rest = rest;
-      records = records_file file (fed 0 events) f.more s.rest s.views f.parts s.records;
+      records = records_file file (fed 0 events) f.more s.feed.rest s.views f.parts s.feed.records;
       received = received c plp m events bytes s g holds;
-      within = subst (LacksSome rest) counted (lacks_some c plp m events f.more input count waits s wants);
+      within = subst (LacksSome rest) (read_behind c plp m events file place s f)
+          (lacks_some s.feed.rest f.more (lacks_of m.feed) count (lacking takes c plp m events s some) some w.1);
     }
-
-abbrev pub reach_of : ReceiverMachine → ℕ → ℕ
-reach_of m input = m.at + m.left

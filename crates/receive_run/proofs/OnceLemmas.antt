@@ -20,8 +20,8 @@ use Rattle.receive_run.specs.Laws.{OneRun, OneOutput}
 use Rattle.receive_run.specs.ReceiveRun.{HasAll, HasBefore}
 use Rattle.receive_run.specs.Received.{GivesBack, Received, first_slot, ran_of, expected_after, RefusesNext}
 use Rattle.receive_run.specs.declared.stop.Ran.{Ran}
-use Rattle.receive_run.specs.declared.stop.RunStop.{RunStop}
-use Rattle.receive_run.specs.declared.stop.RunStop.TheVariants.{RecordRefused}
+use Rattle.receive_run.specs.declared.stop.ReceiveStop.{ReceiveStop}
+use Rattle.receive_run.specs.declared.stop.ReceiveStop.TheVariants.{RecordRefused}
 use Rattle.site_frame.proofs.RecordSplitLemmas.{same_front}
 use Rattle.receive_run.proofs.SameLemmas.{GoesOn, begins_nothing, comparable, same_first, next_not_refused, nothing_not_refused}
 
@@ -117,7 +117,7 @@ all_not_refused one never frame c plp rules ran number why file bytes other a b 
         next_not_refused one never frame c rules b.received.first a.received.first b.views o os b.rest why len
         (subst (IsOnGrid c a.received.first) is a.received.successive) b.received.successive begins b.refused
 
-abbrev refused_as : ℕ → RecordWhy → Result Ran RunStop
+abbrev refused_as : ℕ → RecordWhy → Result Ran ReceiveStop
 refused_as number why = Err (RecordRefused number why)
 
 -- two refusals behind the same records
@@ -163,13 +163,10 @@ one_run one never refusal frame once c plp file (Ok ran) (Ok other) plan (bytes,
     (all_once one file a.views b.views a.records b.records) a.received b.received ∙ sym b.ran_is)
 one_run one never refusal frame once c plp file (Ok ran) (Err (RecordRefused number why)) plan (bytes, a) (given, b) =
     absurd (all_not_refused one never frame c plp plan.rules ran number why file bytes given a b)
-one_run one never refusal frame once c plp file (Ok ran) (Err stop) plan a b = absurd b
 one_run one never refusal frame once c plp file (Err (RecordRefused number why)) (Ok ran) plan (bytes, a) (given, b) =
     absurd (all_not_refused one never frame c plp plan.rules ran number why file given bytes b a)
 one_run one never refusal frame once c plp file (Err (RecordRefused number why)) (Err (RecordRefused count other)) plan (bytes, a)
     (given, b) = before_once one never refusal frame c plp plan.rules number count why other file bytes given a b
-one_run one never refusal frame once c plp file (Err (RecordRefused number why)) (Err stop) plan a b = absurd b
-one_run one never refusal frame once c plp file (Err stop) other plan a b = absurd a
 
 -- ---- one output
 

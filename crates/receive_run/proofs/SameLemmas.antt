@@ -1,6 +1,6 @@
 -- Records of one file: of two lists with which it begins one is a front of the other, and records of successive frames are not
 -- refused.
-use Rattle.std.proofs.Common.{◌≡◌, ℕ, suc, ◌+◌, ◌<◌, ◌≤◌, Bool, List, [], ◌∷◌, ◌++◌, length, map, take, drop, Option, refl, ap}
+use Rattle.std.proofs.Common.{◌≡◌, ℕ, suc, ◌+◌, ◌≤◌, List, [], ◌∷◌, ◌++◌, length, map, take, drop, Option, Some, None, refl, ap}
 use Rattle.std.proofs.Common.{ap₂, sym, subst, ◌∙◌, inl, inr, ⊎_elim, arith, append-nil}
 use Rattle.std.specs.Prelude.{◌⊎◌}
 use Rattle.std.specs.List.{range_with_len}
@@ -17,11 +17,12 @@ use Rattle.site_frame.specs.Whole.{BeginsWith, Spells, Refuses, moment_of}
 use Rattle.site_frame.specs.declared.fault.RecordWhy.{RecordWhy}
 use Rattle.site_frame.specs.declared.fault.RecordWhy.TheVariants as why
 use Rattle.site_frame.specs.declared.reading.RecordView.{RecordView}
-use Rattle.receive_run.specs.AsMachine.{Behind}
+use Rattle.record_feed.specs.Laws.{NoneWaits}
+use Rattle.record_feed.specs.StandsFor.{coming_of}
+use Rattle.file_run.specs.Events.{Event, fed, has_ended}
+use Rattle.receive_run.specs.AsMachine.{Judged, Shown}
 use Rattle.receive_run.specs.Received.{expected_after, RefusesNext}
-use Rattle.receive_run.specs.declared.machine.Coming.{Coming}
-use Rattle.receive_run.specs.declared.machine.Coming.TheVariants.{Head, Rest, Packets, Refused, Finished}
-use Rattle.site_frame.proofs.RecordFileLemmas.{whole_len}
+use Rattle.receive_run.specs.declared.machine.ReceiverMachine.{ReceiverMachine}
 use Rattle.site_frame.proofs.RecordSplitLemmas.{same_front}
 
 -- ---- records
@@ -129,40 +130,28 @@ nothing_not_refused c expected why (inr p) = begins_nothing p.0 p.1 p.2
 -- ---- two machines to which the same was fed took the same records
 
 -- what a machine has before it does not begin with the record of the next frame
-nothing_comes : OneRecord → NoRefusal → OneFrame → (c : Config) → AllRules c
-    → (first second : ℕ) (ws : List RecordView) (o : RecordView) (os : List RecordView) (coming : Coming) (bytes rest : List ℕ)
-    (left : ℕ) (ended : Bool) (len : ℕ)
-    → IsOnGrid c second (ws ++ o ∷ os) → IsOnGrid c first ws → BeginsWith rest o len → (coming ≡ Rest → 0 < left)
-    → Behind c (expected_after first ws) coming bytes left rest ended → ⊥
-nothing_comes one never frame c rules first second ws o os Head bytes rest left ended len b a begins some h =
-    begins_nothing o len (subst (λ (l : List ℕ). BeginsWith l o len) h.0 begins)
-nothing_comes one never frame c rules first second ws o os Rest bytes rest left ended len b a begins some h =
-    let begun = h.1 in
-    let whole = whole_len rest o len begun.len begun.announces begins in
-    let lacks = begun.lacks in
-    let inside = begins.inside in
-    let more = some refl in
-    absurd (omega (arith, whole, lacks, inside, more))
-nothing_comes one never frame c rules first second ws o os Packets bytes rest left ended len b a begins some h =
-    begins_nothing o len (subst (λ (l : List ℕ). BeginsWith l o len) h.0 begins)
-nothing_comes one never frame c rules first second ws o os (Refused why) bytes rest left ended len b a begins some h =
-    next_not_refused one never frame c rules first second ws o os rest why len b a begins
-    (subst (λ (l : List ℕ). RefusesNext c (expected_after first ws) l why) (append-nil rest) (h.refuses [] (λ e. refl)))
-nothing_comes one never frame c rules first second ws o os Finished bytes rest left ended len b a begins some h =
-    begins_nothing o len (subst (λ (l : List ℕ). BeginsWith l o len) h.0 begins)
-
-pub same_views : OneRecord → NoRefusal → OneFrame → (c : Config) → AllRules c
-    → (file : List ℕ) (first second : ℕ) (vs ws : List RecordView) (coming : Coming) (bytes rest : List ℕ) (left : ℕ)
-    (ended : Bool) → AreRecords file vs [] → IsOnGrid c second vs
-    → AreRecords file ws rest → IsOnGrid c first ws → (coming ≡ Rest → 0 < left)
-    → Behind c (expected_after first ws) coming bytes left rest ended → ws ≡ vs
-same_views one never frame c rules file first second vs ws coming bytes rest left ended h b k a some behind =
-    go (comparable one file [] rest vs ws h k)
+nothing_comes : OneRecord → NoRefusal → OneFrame → NoneWaits → (c : Config) (plp : ℕ) → AllRules c
+    → (second : ℕ) (m : ReceiverMachine) (events : List Event) (s : Shown c plp m events) (o : RecordView) (os : List RecordView)
+    (len : ℕ) → IsOnGrid c second (s.views ++ o ∷ os) → BeginsWith s.feed.rest o len → ⊥
+nothing_comes one never frame waits c plp rules second m events s o os len b begins = go m.misplaced s.judged
   where
-    go : GoesOn vs [] ws rest ⊎ GoesOn ws rest vs [] → ws ≡ vs
+    go : (misplaced : Option RecordWhy)
+        → Judged c (expected_after s.first s.views) misplaced (coming_of m.feed) s.feed.rest → ⊥
+    go None seen =
+        waits m.feed s.views (fed 0 events) (has_ended 0 events) s.feed seen m.room.coming o len begins
+    go (Some why) (whole, place) =
+        next_not_refused one never frame c rules s.first second s.views o os s.feed.rest why len b s.successive begins (inr place)
+
+pub same_views : OneRecord → NoRefusal → OneFrame → NoneWaits → (c : Config) (plp : ℕ) → AllRules c
+    → (second : ℕ) (vs : List RecordView) (m : ReceiverMachine) (events : List Event) (s : Shown c plp m events)
+    → AreRecords (fed 0 events) vs [] → IsOnGrid c second vs → s.views ≡ vs
+same_views one never frame waits c plp rules second vs m events s h b =
+    go (comparable one (fed 0 events) [] s.feed.rest vs s.views h s.feed.records)
+  where
+    go : GoesOn vs [] s.views s.feed.rest ⊎ GoesOn s.views s.feed.rest vs [] → s.views ≡ vs
     go (inl ([], is, more)) = is ∙ append-nil vs
     go (inl (o ∷ os, is, (len, begins, more))) = absurd (begins_nothing o len begins)
-    go (inr ([], is, more)) = sym (is ∙ append-nil ws)
+    go (inr ([], is, more)) = sym (is ∙ append-nil s.views)
     go (inr (o ∷ os, is, (len, begins, more))) =
-        absurd (nothing_comes one never frame c rules first second ws o os coming bytes rest left ended len
-        (subst (IsOnGrid c second) is b) a begins some behind)
+        absurd (nothing_comes one never frame waits c plp rules second m events s o os len (subst
+        (IsOnGrid c second) is b) begins)

@@ -1,45 +1,37 @@
--- What a call of the machine leaves as it was, and what stands behind the records that were taken.
-use Rattle.std.proofs.Common.{◌≡◌, ℕ, ◌+◌, ◌<◌, Bool, true, false, cond, List, [], ◌++◌, length, Option, None, refl, ap, sym}
-use Rattle.std.proofs.Common.{subst, ◌∙◌, arith, length-append}
-use Rattle.std.specs.Prelude.{nat_lt}
-use Rattle.std.proofs.lemmas.Bool.{ltb-false, true≢false}
+-- What a call of the machine leaves as it was.
+use Rattle.std.proofs.Common.{◌≡◌, ◌≢◌, ℕ, ◌<◌, List, [], Option, None, false, length, refl, ap, sym, subst, ◌∙◌, arith}
 use Rattle.plp_config.specs.Capacity.{IsPlan}
 use Rattle.plp_config.specs.declared.config.Config.{Config}
 use Rattle.site_frame.specs.Record.{head_len}
-use Rattle.site_frame.specs.RecordFile.{AreRecords, IsBegun}
+use Rattle.site_frame.specs.declared.fault.RecordWhy.{RecordWhy}
+use Rattle.record_feed.specs.Behind.{Behind}
+use Rattle.record_feed.specs.StandsFor.{RecordFeedStandsFor, coming_of, left_of}
+use Rattle.record_feed.specs.declared.coming.Coming.{Coming}
+use Rattle.record_feed.specs.declared.coming.Coming.TheVariants.{Head, Whole}
 use Rattle.plp_receiver.specs.StandsFor.{IsFresh, network_of, plp_of, due_of}
 use Rattle.plp_receiver.specs.declared.receiver.Receiver.{Receiver}
 use Rattle.file_run.specs.Events.{Event, fed, has_ended, gave}
 use Rattle.receive_run.specs.Received.{expected_after}
-use Rattle.receive_run.specs.AsMachine.{SameTaken, Behind, Given, first_of, Shown, Becomes}
-use Rattle.receive_run.specs.NextStep.{gives, coming_by, left_by}
+use Rattle.receive_run.specs.AsMachine.{SameTaken, Judged, Given, first_of, Shown, Becomes}
 use Rattle.receive_run.specs.Taking.{expected_by, SamePlp}
-use Rattle.receive_run.specs.declared.machine.Coming.{Coming}
-use Rattle.receive_run.specs.declared.machine.Coming.TheVariants.{Head, Rest, Packets}
 use Rattle.receive_run.specs.declared.machine.ReceiverMachine.{ReceiverMachine}
-use Rattle.site_frame.proofs.RecordFileLemmas.{records_on}
-use Rattle.file_run.proofs.EventLemmas.{Adds}
 
-pub same_shown : (c : Config) (plp : ℕ) (m n : ReceiverMachine) (was now : List Event) (piece : List ℕ) (s : Shown c plp m was)
-    → gives m.coming ≡ false → Adds was now piece → SameTaken m n → n.at ≡ m.at + length piece
-    → Behind c (expected_after s.first s.views) n.coming n.bytes.items n.left (s.rest ++ piece) (has_ended 0 now)
-    → Shown c plp n now
-same_shown c plp m n was now piece s idle a same at behind = record {
+-- no record more was taken
+pub same_shown : (c : Config) (plp : ℕ) (m n : ReceiverMachine) (was now : List Event) (s : Shown c plp m was)
+    → due_of m.receiver ≡ 0 → SameTaken m n → gave now ≡ gave was
+    → (f : RecordFeedStandsFor n.feed s.views (fed 0 now) (has_ended 0 now))
+    → Judged c (expected_after s.first s.views) n.misplaced (coming_of n.feed) f.rest → Shown c plp n now
+same_shown c plp m n was now s idle same text f judged = record {
   first = s.first;
   views = s.views;
-  rest = s.rest ++ piece;
-  records = subst (λ (l : List ℕ). AreRecords l s.views (s.rest ++ piece)) (sym a.fed_is)
-      (records_on (fed 0 was) piece s.rest s.views s.records);
+  feed = f;
   successive = s.successive;
-  place = (let p = s.place in let size = ap length a.fed_is in let sum = length-append (fed 0 was) piece in
-      omega (arith, at, p, size, sum));
   first_is = same.first ∙ s.first_is;
-  number = same.count ∙ s.number;
-  behind = behind;
-  given = subst (λ (l : List ℕ). Given c plp n.receiver s.first s.views n.slots l) (sym a.gave_is)
+  judged = judged;
+  given = subst (λ (l : List ℕ). Given c plp n.receiver s.first s.views n.slots l) (sym text)
       (subst (λ (k : ℕ). Given c plp n.receiver s.first s.views k (gave was)) (sym same.slots)
       (subst (λ (v : Receiver). Given c plp v s.first s.views m.slots (gave was)) (sym same.receiver) s.given));
-  quiet = λ e. ap due_of same.receiver ∙ s.quiet idle;
+  between = λ some. absurd (let e = ap due_of same.receiver in omega (arith, e, idle, some));
 }
 
 pub same_plp : (start m n : ReceiverMachine) → SameTaken m n → SamePlp start.receiver m.receiver
@@ -50,14 +42,8 @@ pub then_same : (m k n : ReceiverMachine) → SameTaken m k → SameTaken k n �
 then_same m k n a b = record {
   receiver = b.receiver ∙ a.receiver;
   first = b.first ∙ a.first;
-  count = b.count ∙ a.count;
   slots = b.slots ∙ a.slots;
 }
-
-abbrev pub taken_same : (m k : ReceiverMachine) → k.receiver ≡ m.receiver → k.first ≡ m.first → k.count ≡ m.count
-    → k.slots ≡ m.slots
-    → SameTaken m k
-taken_same m k receiver first count slots = record { receiver = receiver; first = first; count = count; slots = slots }
 
 -- what a machine knows of its plan
 abbrev pub KnownPlan : Config → ℕ → Type 0
@@ -67,60 +53,37 @@ pub known_of : (m : ReceiverMachine) → IsPlan m.plan.now → KnownPlan (networ
 known_of m plan = subst (λ (c : Config). KnownPlan c (plp_of m.receiver)) (sym m.network)
     (subst (KnownPlan m.plan.now) (sym m.place) (plan, m.inside))
 
--- what is due comes next, or the next head
-pub behind_taken : (c : Config) (expected : Option ℕ) (due : ℕ) (bytes : List ℕ) (left : ℕ) → left ≡ left_by due
-    → Behind c expected (coming_by due) bytes left [] false
-behind_taken c expected due bytes left is = go (nat_lt 0 due) is
-  where
-    go : (b : Bool) → left ≡ cond b 0 head_len → Behind c expected (cond b Packets Head) bytes left [] false
-    go true e = (refl, refl)
-    go false e = (refl, e, refl)
-
-pub quiet_taken : (coming : Coming) (due : ℕ) → coming ≡ coming_by due → gives coming ≡ false → due ≡ 0
-quiet_taken coming due is idle = go (nat_lt 0 due) refl (ap gives (sym is) ∙ idle)
-  where
-    go : (b : Bool) → nat_lt 0 due ≡ b → gives (cond b Packets Head) ≡ false → due ≡ 0
-    go true e h = absurd (true≢false h)
-    go false e h = let l = ltb-false 0 due e in omega (arith, l)
-
 -- by the numbers that a machine holds, what is expected
-pub expects : (c : Config) (plp : ℕ) (m : ReceiverMachine) (was : List Event) (s : Shown c plp m was)
-    → expected_by m.first m.count
-    ≡ expected_by (first_of s.first s.views) (length s.views)
-expects c plp m was s = ap (λ (o : Option ℕ). expected_by o m.count) s.first_is
-    ∙ ap (expected_by (first_of s.first s.views)) s.number
+pub expects : (c : Config) (plp : ℕ) (m : ReceiverMachine) (was : List Event) (s : Shown c plp m was) (count : ℕ)
+    → count ≡ length s.views → expected_by m.first count ≡ expected_by (first_of s.first s.views) (length s.views)
+expects c plp m was s count number = ap (λ (o : Option ℕ). expected_by o count) s.first_is
+    ∙ ap (expected_by (first_of s.first s.views)) number
 
-pub nothing_before : (c : Config) (plp : ℕ) (m : ReceiverMachine) (was : List Event) → m.coming ≡ Head → (s : Shown c plp m was)
-    → (s.rest ≡ []) × (m.left ≡ head_len) × (has_ended 0 was ≡ false)
-nothing_before c plp m was heads s =
-    subst (λ (p : Coming). Behind c (expected_after s.first s.views) p m.bytes.items m.left s.rest (has_ended 0 was)) heads
-    s.behind
+-- what stands behind the records, by what comes next
+pub behind_at : (c : Config) (plp : ℕ) (m : ReceiverMachine) (events : List Event) (p : Coming) → coming_of m.feed ≡ p
+    → (s : Shown c plp m events) → Behind p m.feed.head m.feed.bytes.items m.feed.left s.feed.rest (has_ended 0 events)
+behind_at c plp m events p is s =
+    subst (λ (q : Coming). Behind q m.feed.head m.feed.bytes.items m.feed.left s.feed.rest (has_ended 0 events)) is s.feed.behind
 
-pub idle_at : (m : ReceiverMachine) (p : Coming) → m.coming ≡ p → gives p ≡ false → gives m.coming ≡ false
-idle_at m p is idle = ap gives is ∙ idle
+-- a record that is whole is misplaced, since it was looked at
+pub judged_none : (c : Config) (expected : Option ℕ) (m : ReceiverMachine) (coming : Coming) (rest : List ℕ)
+    → m.misplaced ≡ None → coming ≢ Whole → Judged c expected m.misplaced coming rest
+judged_none c expected m coming rest none seen =
+    subst (λ (o : Option RecordWhy). Judged c expected o coming rest) (sym none) seen
 
-pub rest_before : (c : Config) (plp : ℕ) (m : ReceiverMachine) (was : List Event) → m.coming ≡ Rest → (s : Shown c plp m was)
-    → (s.rest ≡ m.bytes.items) × IsBegun s.rest m.left × (has_ended 0 was ≡ false)
-rest_before c plp m was rests s =
-    subst (λ (p : Coming). Behind c (expected_after s.first s.views) p m.bytes.items m.left s.rest (has_ended 0 was)) rests
-    s.behind
-
-pub becomes_first : (m : ReceiverMachine) → m.at ≡ 0 → m.count ≡ 0 → m.slots ≡ 0 → m.first ≡ None → m.coming ≡ Head
-    → m.left ≡ head_len → IsFresh m.receiver → due_of m.receiver ≡ 0 → Becomes m [] m
-becomes_first m at count slots first heads left fresh due = record {
+pub becomes_first : (m : ReceiverMachine) → RecordFeedStandsFor m.feed [] [] false → coming_of m.feed ≡ Head → left_of m.feed ≡ head_len
+    → m.slots ≡ 0 → m.first ≡ None → m.misplaced ≡ None → IsFresh m.receiver → due_of m.receiver ≡ 0 → Becomes m [] m
+becomes_first m feed heads left slots first misplaced fresh due = record {
   same = (refl, refl);
   shown = record {
     first = 0;
     views = [];
-    rest = [];
-    records = refl;
+    feed = feed;
     successive = record { moments = refl; small = omega arith };
-    place = at;
     first_is = first;
-    number = count;
-    behind = subst (λ (p : Coming). Behind (network_of m.receiver) None p m.bytes.items m.left [] false) (sym heads)
-        (refl, left, refl);
+    judged = judged_none (network_of m.receiver) None m (coming_of m.feed) feed.rest misplaced
+        (λ whole. let e : Head ≡ Whole = sym heads ∙ whole in cc);
     given = (fresh, due, slots, refl);
-    quiet = λ idle. due;
+    between = λ some. (heads, left, misplaced);
   };
 }

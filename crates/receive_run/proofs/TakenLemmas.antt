@@ -1,37 +1,27 @@
 -- A record that came whole was taken or refused.
-use Rattle.std.proofs.Common.{◌≡◌, ℕ, ◌+◌, Bool, false, List, [], ◌∷◌, ◌++◌, length, Option, Some, ap, sym, subst, ◌∙◌, inl}
-use Rattle.std.proofs.Common.{inr, arith, length-append}
+use Rattle.std.proofs.Common.{◌≡◌, ℕ, List, [], ◌∷◌, ◌++◌, length, Option, Some, None, ap, sym, subst, ◌∙◌, inl, inr}
 use Rattle.std.specs.Prelude.{unwrap_or}
 use Rattle.plp_config.specs.declared.config.Config.{Config}
 use Rattle.site_frame.specs.Placing.{IsPlaced}
-use Rattle.site_frame.specs.Record.{head_len}
-use Rattle.site_frame.specs.RecordFile.{AreRecords, Announces}
-use Rattle.site_frame.specs.Whole.{BeginsWith, moment_of}
+use Rattle.site_frame.specs.Whole.{moment_of}
 use Rattle.site_frame.specs.declared.fault.RecordWhy.{RecordWhy}
 use Rattle.site_frame.specs.declared.reading.RecordView.{RecordView}
+use Rattle.record_feed.specs.Behind.{Behind}
+use Rattle.record_feed.specs.StandsFor.{RecordFeedStandsFor, coming_of, count_of}
+use Rattle.record_feed.specs.declared.coming.Coming.{Coming}
+use Rattle.record_feed.specs.declared.coming.Coming.TheVariants.{Head, Whole, Refused}
+use Rattle.record_feed.specs.declared.feed.RecordFeed.{RecordFeed}
 use Rattle.plp_receiver.specs.Laws.{ReadbackFront}
 use Rattle.plp_receiver.specs.StandsFor.{network_of, plp_of, due_of}
 use Rattle.plp_receiver.specs.declared.receiver.Receiver.{Receiver}
 use Rattle.file_run.specs.Events.{Event, fed, has_ended, gave}
-use Rattle.receive_run.specs.Received.{expected_after, RefusesNext}
-use Rattle.receive_run.specs.AsMachine.{IsSeen, SameTaken, IsRefused, Sees, Behind, GavePackets, Given, first_of, Shown, Becomes}
-use Rattle.receive_run.specs.NextStep.{gives, coming_by}
-use Rattle.receive_run.specs.Taking.{expected_by, Comes, RefusesRecord}
-use Rattle.receive_run.specs.declared.machine.Coming.{Coming}
+use Rattle.receive_run.specs.Received.{expected_after, IsMisplaced}
+use Rattle.receive_run.specs.AsMachine.{IsTaken, SameTaken, IsRefused, IsStopped, IsLookedAt, Judged, GavePackets, Given}
+use Rattle.receive_run.specs.AsMachine.{first_of, Shown, Becomes}
+use Rattle.receive_run.specs.Taking.{expected_by, SamePlp, TakesView, TakesRecord}
 use Rattle.receive_run.specs.declared.machine.ReceiverMachine.{ReceiverMachine}
 use Rattle.receive_run.proofs.CameLemmas.{came_given, first_after, expected_is}
-use Rattle.site_frame.proofs.RecordFileLemmas.{records_on, records_more, none_left, begins_on}
-use Rattle.site_frame.proofs.RecordFrontLemmas.{refused_whole}
-use Rattle.file_run.proofs.EventLemmas.{Adds}
-use Rattle.receive_run.proofs.StepLemmas.{same_shown, same_plp, then_same, KnownPlan, behind_taken, quiet_taken, expects}
-
--- what is refused, by the same things under other names
-pub refuses_as : (c d : Config) (expected other : Option ℕ) (bytes held : List ℕ) (why : RecordWhy) → d ≡ c → expected ≡ other
-    → bytes ≡ held → RefusesRecord c expected bytes why → RefusesRecord d other held why
-refuses_as c d expected other bytes held why same_c same_e same_b r =
-    subst (λ (e : Config). RefusesRecord e other held why) (sym same_c)
-    (subst (λ (o : Option ℕ). RefusesRecord c o held why) same_e
-    (subst (λ (l : List ℕ). RefusesRecord c expected l why) same_b r))
+use Rattle.receive_run.proofs.StepLemmas.{same_shown, same_plp, then_same, KnownPlan, expects, judged_none}
 
 as_given : (c : Config) (plp : ℕ) (v : Receiver) (first : ℕ) (views : List RecordView) (view : RecordView) (released : ℕ)
     (text : List ℕ) → GavePackets c plp v first (views ++ view ∷ []) released text
@@ -39,103 +29,115 @@ as_given : (c : Config) (plp : ℕ) (v : Receiver) (first : ℕ) (views : List R
 as_given c plp v first [] view released text g = g
 as_given c plp v first (w ∷ ws) view released text g = g
 
-taken_shown : ReadbackFront → (c : Config) (plp : ℕ) (m mid n : ReceiverMachine) (was now : List Event) (piece : List ℕ) (len : ℕ)
-    (s : Shown c plp m was) → KnownPlan c plp → network_of m.receiver ≡ c → plp_of m.receiver ≡ plp → gives m.coming ≡ false
-    → Adds was now piece → has_ended 0 now ≡ false → Announces (s.rest ++ piece) len → length (s.rest ++ piece) ≡ head_len + len
-    → mid.bytes.items ≡ s.rest ++ piece → SameTaken m mid → n.at ≡ m.at + length piece → IsSeen mid n → Shown c plp n now
-taken_shown front c plp m mid n was now piece len s known same_c same_p idle a going announces whole bytes same at i =
-    let bytes_of : List ℕ = s.rest ++ piece in
+-- what was taken, by the same things under other names
+abbrev pub taken_as : (c d : Config) (expected other : Option ℕ) (bytes : List ℕ) (old new : Receiver) (frame : ℕ) → d ≡ c
+    → expected ≡ other → TakesRecord c expected bytes old new frame → TakesRecord d other bytes old new frame
+taken_as c d expected other bytes old new frame same_c same_e t = record {
+  view = t.view;
+  len = t.len;
+  begins = t.begins;
+  placed = subst (λ (e : Config). IsPlaced e other (moment_of t.view) frame) (sym same_c)
+      (subst (λ (o : Option ℕ). IsPlaced c o (moment_of t.view) frame) same_e t.placed);
+  takes = subst (λ (o : Option ℕ). TakesView o old new frame t.view) same_e t.takes;
+}
+
+-- a record came whole behind those that a machine took, and nothing is due; no record was misplaced
+pub record Waits (c : Config) (plp : ℕ) (m mid : ReceiverMachine) (was now : List Event) : Type 0 where
+  pub shown : Shown c plp m was
+  pub feed : RecordFeedStandsFor mid.feed shown.views (fed 0 now) (has_ended 0 now)
+  pub same : SameTaken m mid
+  pub none : mid.misplaced ≡ None
+  pub text : gave now ≡ gave was
+  pub idle : due_of m.receiver ≡ 0
+
+-- what was expected of it
+asked : (c : Config) (plp : ℕ) (m mid : ReceiverMachine) (was now : List Event) (w : Waits c plp m mid was now)
+    → expected_by mid.first (count_of mid.feed) ≡ expected_by (first_of w.shown.first w.shown.views) (length w.shown.views)
+asked c plp m mid was now w =
+    ap (λ (o : Option ℕ). expected_by o (count_of mid.feed)) w.same.first
+    ∙ expects c plp m was w.shown (count_of mid.feed) w.feed.number
+
+taken_shown : ReadbackFront → (c : Config) (plp : ℕ) (m mid n : ReceiverMachine) (was now : List Event)
+    (w : Waits c plp m mid was now) → KnownPlan c plp → network_of m.receiver ≡ c → plp_of m.receiver ≡ plp
+    → IsTaken mid n → Shown c plp n now
+taken_shown front c plp m mid n was now w known same_c same_p i =
+    let s = w.shown in
     let t = i.takes in
-    let begins : BeginsWith bytes_of t.view t.len = subst (λ (l : List ℕ). BeginsWith l t.view t.len) bytes t.begins in
-    let none = none_left bytes_of t.view t.len len announces whole begins in
-    let all : AreRecords (fed 0 now) s.views bytes_of = subst (λ (l : List ℕ). AreRecords l s.views bytes_of) (sym a.fed_is)
-    (records_on (fed 0 was) piece s.rest s.views s.records) in
-    let c_mid : network_of mid.receiver ≡ c = ap network_of same.receiver ∙ same_c in
-    let p_mid : plp_of mid.receiver ≡ plp = ap plp_of same.receiver ∙ same_p in
-    let asked : expected_by mid.first mid.count ≡ expected_by (first_of s.first s.views) (length s.views) =
-    ap (λ (o : Option ℕ). expected_by o mid.count) same.first ∙ ap (expected_by m.first) same.count ∙ expects c plp m was s in
-    let placed = subst (λ (o : Option ℕ). IsPlaced c o (moment_of t.view) i.frame) asked
-    (subst (λ (e : Config). IsPlaced e (expected_by mid.first mid.count) (moment_of t.view) i.frame) c_mid t.placed) in
-    let comes = subst (λ (o : Option ℕ). Comes o m.receiver n.receiver i.frame t.view) asked
-    (subst (λ (v : Receiver). Comes (expected_by mid.first mid.count) v n.receiver i.frame t.view) same.receiver t.comes) in
+    let c_mid : network_of mid.receiver ≡ c = ap network_of w.same.receiver ∙ same_c in
+    let p_mid : plp_of mid.receiver ≡ plp = ap plp_of w.same.receiver ∙ same_p in
+    let expected = asked c plp m mid was now w in
+    let placed = subst (λ (o : Option ℕ). IsPlaced c o (moment_of t.view) i.frame) expected
+    (subst (λ (e : Config). IsPlaced e (expected_by mid.first (count_of mid.feed)) (moment_of t.view) i.frame) c_mid t.placed) in
+    let takes = subst (λ (o : Option ℕ). TakesView o m.receiver n.receiver i.frame t.view) expected
+    (subst (λ (v : Receiver). TakesView (expected_by mid.first (count_of mid.feed)) v n.receiver i.frame t.view) w.same.receiver
+    t.takes) in
     let start : ℕ = unwrap_or (first_of s.first s.views) i.frame in
     let given = came_given front c plp m.receiver n.receiver s.first i.frame s.views t.view m.slots (gave was) known.0 known.1
-    (i.same.0 ∙ c_mid) (i.same.1 ∙ p_mid) (s.quiet idle) i.frame_is placed comes i.due s.successive s.given in
+    (i.same.0 ∙ c_mid) (i.same.1 ∙ p_mid) w.idle i.frame_is placed takes i.due s.successive s.given in
+    let feed = i.feed s.views (fed 0 now) (has_ended 0 now) w.feed in
     record {
       first = start;
       views = s.views ++ t.view ∷ [];
-      rest = [];
-      records = subst (λ (l : List ℕ). AreRecords (fed 0 now) (s.views ++ t.view ∷ []) l) none
-          (records_more (fed 0 now) bytes_of s.views t.view t.len all begins);
+      feed = feed;
       successive = given.successive;
-      place = (let p = s.place in let size = ap length a.fed_is in let sum = length-append (fed 0 was) piece in
-          omega (arith, at, p, size, sum));
-      first_is = i.first ∙ ap (λ (o : Option ℕ). Some (unwrap_or o i.frame)) (same.first ∙ s.first_is)
+      first_is = i.first ∙ ap (λ (o : Option ℕ). Some (unwrap_or o i.frame)) (w.same.first ∙ s.first_is)
           ∙ first_after s.first i.frame s.views t.view;
-      number = (let k = i.count in let l = same.count in let p = s.number in let sum = length-append s.views (t.view ∷ []) in
-          omega (arith, k, l, p, sum));
-      behind =
-          subst (λ (p : Coming). Behind c (expected_after start (s.views ++ t.view ∷ [])) p n.bytes.items n.left []
-          (has_ended 0 now)) (sym i.coming)
-          (subst (λ (e : Bool). Behind c (expected_after start (s.views ++ t.view ∷ []))
-          (coming_by (due_of n.receiver)) n.bytes.items n.left [] e) (sym going)
-          (behind_taken c (expected_after start (s.views ++ t.view ∷ [])) (due_of n.receiver) n.bytes.items n.left i.left));
-      given = subst (λ (k : ℕ). Given c plp n.receiver start (s.views ++ t.view ∷ []) k (gave now)) (sym (i.slots ∙ same.slots))
-          (subst (λ (l : List ℕ). Given c plp n.receiver start (s.views ++ t.view ∷ []) m.slots l) (sym a.gave_is)
+      judged = judged_none c (expected_after start (s.views ++ t.view ∷ [])) n (coming_of n.feed) feed.rest
+          (i.misplaced ∙ w.none) (λ whole. let e : Head ≡ Whole = sym i.coming ∙ whole in cc);
+      given = subst (λ (k : ℕ). Given c plp n.receiver start (s.views ++ t.view ∷ []) k (gave now)) (sym (i.slots ∙ w.same.slots))
+          (subst (λ (l : List ℕ). Given c plp n.receiver start (s.views ++ t.view ∷ []) m.slots l) (sym w.text)
           (as_given c plp n.receiver start s.views t.view m.slots (gave was) given.given));
-      quiet = quiet_taken n.coming (due_of n.receiver) i.coming;
+      between = λ some. (i.coming, i.left, i.misplaced ∙ w.none);
     }
 
--- what is refused of a record that came whole is refused whatever follows
-refused_next : (c : Config) (expected : Option ℕ) (bytes more : List ℕ) (len : ℕ) (why : RecordWhy) → Announces bytes len
-    → length bytes ≡ head_len + len → RefusesRecord c expected bytes why → RefusesNext c expected (bytes ++ more) why
-refused_next c expected bytes more len why announces whole (inl r) =
-    inl (
-      (λ e. let n = ap length e in let sum = length-append bytes more in absurd (omega (arith, n, sum, whole))),
-      refused_whole bytes more len why announces whole r,
-    )
-refused_next c expected bytes more len why announces whole (inr p) = inr (p.0, p.1, begins_on bytes more p.0 p.1 p.2, p.3)
+refused_shown : (c : Config) (plp : ℕ) (m mid n : ReceiverMachine) (was now : List Event) (w : Waits c plp m mid was now)
+    → IsRefused mid n → Shown c plp n now
+refused_shown c plp m mid n was now w r =
+    let s = w.shown in
+    let feed = r.feed s.views (fed 0 now) (has_ended 0 now) w.feed in
+    same_shown c plp m n was now s w.idle (then_same m mid n w.same r.same) w.text feed
+    (judged_none c (expected_after s.first s.views) n (coming_of n.feed) feed.rest (r.misplaced ∙ w.none)
+    (λ whole. let e : Refused r.why ≡ Whole = sym r.coming ∙ whole in cc))
 
-refused_shown : (c : Config) (plp : ℕ) (m mid n : ReceiverMachine) (was now : List Event) (piece : List ℕ) (len : ℕ)
-    (why : RecordWhy) (s : Shown c plp m was) → network_of m.receiver ≡ c → gives m.coming ≡ false → Adds was now piece
-    → Announces (s.rest ++ piece) len
-    → length (s.rest ++ piece) ≡ head_len + len → mid.bytes.items ≡ s.rest ++ piece → mid.left ≡ 0 → SameTaken m mid
-    → n.at ≡ m.at + length piece → IsRefused mid n why → Shown c plp n now
-refused_shown c plp m mid n was now piece len why s same_c idle a announces whole bytes none same at r =
-    let c_mid : network_of mid.receiver ≡ c = ap network_of same.receiver ∙ same_c in
-    let asked : expected_by mid.first mid.count ≡ expected_after s.first s.views =
-    ap (λ (o : Option ℕ). expected_by o mid.count) same.first ∙ ap (expected_by m.first) same.count ∙ expects c plp m was s
-    ∙ expected_is s.first s.views in
-    let refuses : RefusesRecord c (expected_after s.first s.views) (s.rest ++ piece) why =
-    subst (λ (e : Config). RefusesRecord e (expected_after s.first s.views) (s.rest ++ piece) why) c_mid
-    (subst (λ (o : Option ℕ). RefusesRecord (network_of mid.receiver) o (s.rest ++ piece) why) asked
-    (subst (λ (l : List ℕ). RefusesRecord (network_of mid.receiver) (expected_by mid.first mid.count) l why) bytes r.refuses)) in
-    same_shown c plp m n was now piece s idle a (then_same m mid n same r.same) at
-    (subst (λ (p : Coming). Behind c (expected_after s.first s.views) p n.bytes.items n.left (s.rest ++ piece) (has_ended 0 now))
-    (sym r.coming)
-    (record {
-      refuses = λ more end. refused_next c (expected_after s.first s.views) (s.rest ++ piece) more len why announces whole
-          refuses;
-      within = inr (len, announces, omega (arith, whole));
-      none = inl (r.left ∙ none);
-    }))
+stopped_shown : (c : Config) (plp : ℕ) (m mid n : ReceiverMachine) (was now : List Event) (w : Waits c plp m mid was now)
+    → network_of m.receiver ≡ c → coming_of mid.feed ≡ Whole → IsStopped mid n → Shown c plp n now
+stopped_shown c plp m mid n was now w same_c whole r =
+    let s = w.shown in
+    let c_mid : network_of mid.receiver ≡ c = ap network_of w.same.receiver ∙ same_c in
+    let expected : expected_by mid.first (count_of mid.feed) ≡ expected_after s.first s.views =
+    asked c plp m mid was now w ∙ expected_is s.first s.views in
+    let feed : RecordFeedStandsFor n.feed s.views (fed 0 now) (has_ended 0 now) =
+    subst (λ (f : RecordFeed). RecordFeedStandsFor f s.views (fed 0 now) (has_ended 0 now)) (sym r.feed) w.feed in
+    let comes : coming_of n.feed ≡ Whole = ap coming_of r.feed ∙ whole in
+    let behind = subst (λ (p : Coming). Behind p n.feed.head n.feed.bytes.items n.feed.left feed.rest (has_ended 0 now)) comes
+    feed.behind in
+    let bytes : mid.feed.bytes.items ≡ feed.rest = ap (λ (f : RecordFeed). f.bytes.items) (sym r.feed) ∙ sym behind.0 in
+    let place : IsMisplaced c (expected_after s.first s.views) feed.rest r.why =
+    subst (λ (e : Config). IsMisplaced e (expected_after s.first s.views) feed.rest r.why) c_mid
+    (subst (λ (o : Option ℕ). IsMisplaced (network_of mid.receiver) o feed.rest r.why) expected
+    (subst (λ (l : List ℕ). IsMisplaced (network_of mid.receiver) (expected_by mid.first (count_of mid.feed)) l r.why) bytes
+    r.place)) in
+    same_shown c plp m n was now s w.idle (then_same m mid n w.same r.same) w.text feed
+    (subst (λ (o : Option RecordWhy). Judged c (expected_after s.first s.views) o (coming_of n.feed) feed.rest) (sym r.misplaced)
+    (comes, place))
 
 -- the record that has come whole was looked at
-pub whole_becomes : ReadbackFront → (start m mid n : ReceiverMachine) (was now : List Event) (piece : List ℕ) (len : ℕ)
-    (b : Becomes start was m) → KnownPlan (network_of m.receiver) (plp_of m.receiver) → gives m.coming ≡ false
-    → Adds was now piece
-    → has_ended 0 now ≡ false → Announces (b.shown.rest ++ piece) len → length (b.shown.rest ++ piece) ≡ head_len + len
-    → mid.bytes.items ≡ b.shown.rest ++ piece → mid.left ≡ 0 → SameTaken m mid → n.at ≡ m.at + length piece → Sees mid n
+pub looked_becomes : ReadbackFront → (start m mid n : ReceiverMachine) (was now : List Event) → SamePlp start.receiver m.receiver
+    → KnownPlan (network_of m.receiver) (plp_of m.receiver)
+    → Waits (network_of start.receiver) (plp_of start.receiver) m mid was now → coming_of mid.feed ≡ Whole → IsLookedAt mid n
     → Becomes start now n
-whole_becomes front start m mid n was now piece len b known idle a going announces whole bytes none same at (inl i) = record {
-  same = (i.same.0 ∙ ap network_of same.receiver ∙ b.same.0, i.same.1 ∙ ap plp_of same.receiver ∙ b.same.1);
-  shown = taken_shown front (network_of start.receiver) (plp_of start.receiver) m mid n was now piece len b.shown
-      (subst (λ (c : Config). KnownPlan c (plp_of start.receiver)) b.same.0
-      (subst (KnownPlan (network_of m.receiver)) b.same.1 known)) b.same.0 b.same.1 idle a going announces whole bytes same at
-      i;
+looked_becomes front start m mid n was now same known w whole (inl i) = record {
+  same = (i.same.0 ∙ ap network_of w.same.receiver ∙ same.0, i.same.1 ∙ ap plp_of w.same.receiver ∙ same.1);
+  shown = taken_shown front (network_of start.receiver) (plp_of start.receiver) m mid n was now w
+      (subst (λ (c : Config). KnownPlan c (plp_of start.receiver)) same.0 (subst (KnownPlan
+      (network_of m.receiver)) same.1 known))
+      same.0 same.1 i;
 }
-whole_becomes front start m mid n was now piece len b known idle a going announces whole bytes none same at (inr r) = record {
-  same = same_plp start m n (then_same m mid n same r.1.same) b.same;
-  shown = refused_shown (network_of start.receiver) (plp_of start.receiver) m mid n was now piece len r.0 b.shown b.same.0 idle a
-      announces whole bytes none same at r.1;
+looked_becomes front start m mid n was now same known w whole (inr (inl r)) = record {
+  same = same_plp start m n (then_same m mid n w.same r.same) same;
+  shown = refused_shown (network_of start.receiver) (plp_of start.receiver) m mid n was now w r;
+}
+looked_becomes front start m mid n was now same known w whole (inr (inr r)) = record {
+  same = same_plp start m n (then_same m mid n w.same r.same) same;
+  shown = stopped_shown (network_of start.receiver) (plp_of start.receiver) m mid n was now w same.0 whole r;
 }

@@ -1,5 +1,5 @@
 -- A run whose output could not be written on.
-use Rattle.std.proofs.Common.{◌≡◌, ℕ, ◌+◌, ◌<◌, List, [], ◌∷◌, ◌++◌, length, refl, ap, sym, subst, ◌∙◌, arith, ◌≤◌, take}
+use Rattle.std.proofs.Common.{◌≡◌, ℕ, ◌<◌, List, [], ◌∷◌, ◌++◌, length, refl, ap, sym, subst, ◌∙◌, arith, ◌≤◌, take}
 use Rattle.std.proofs.Common.{length-append, ◌≢◌, drop, append_assoc}
 use Rattle.std.specs.Prelude.{slice_index}
 use Rattle.ports.specs.Desk.{State}
@@ -12,13 +12,18 @@ use Rattle.file_run.specs.Events.{Event, fed, has_ended, gave}
 use Rattle.file_run.specs.FileRun as driver
 use Rattle.file_run.specs.FileRun.{IsFed}
 use Rattle.file_run.specs.Laws.{EventsTell, GaveMore}
-use Rattle.receive_run.specs.AsMachine.{next_of, Becomes, Given, Shown, GavePackets}
+use Rattle.record_feed.specs.Laws.{NoneWaits}
+use Rattle.record_feed.specs.StandsFor.{left_of, lacks_of}
+use Rattle.record_feed.specs.declared.coming.Coming.TheVariants.{Head}
+use Rattle.receive_run.specs.AsMachine.{next_of, reach_of, Becomes, Given, Shown, GavePackets}
 use Rattle.receive_run.specs.ReceiveRun.{HasSome, StopsWriting}
-use Rattle.receive_run.specs.declared.machine.Coming.TheVariants.{Packets}
 use Rattle.receive_run.specs.declared.machine.ReceiverMachine.{ReceiverMachine}
 use Rattle.site_frame.proofs.RecordFileLemmas.{records_file}
 use Rattle.file_run.proofs.OneInputLemmas.{writes_by}
-use Rattle.receive_run.proofs.MetLemmas.{plan_of, place_of, behind_at, reach_of}
+use Rattle.receive_run.proofs.MetLemmas.{plan_of, place_of}
+use Rattle.receive_run.proofs.StepLemmas.{behind_at}
+use Rattle.receive_run.proofs.WantedLemmas.{some_due, none_left}
+use Rattle.std.proofs.lemmas.List.{nil_from_length}
 use Rattle.std.specs.List.{concat}
 use Rattle.plp_receiver.specs.StandsFor.{due_of}
 use Rattle.plp_receiver.specs.declared.receiver.Receiver.{Receiver}
@@ -26,7 +31,6 @@ use Rattle.receive_run.specs.Received.{GivesBack}
 use Rattle.std.proofs.lemmas.List.{take-append-drop}
 use Rattle.std.proofs.lemmas.List.Folds.{concat-append}
 use Rattle.plp_receiver.specs.Epochs.{Readback}
-use Rattle.receive_run.proofs.GivenLemmas.{packets_come}
 use Rattle.receive_run.proofs.SameLemmas.{successive_front, same_views}
 
 -- a record came, if something is due, or if records came
@@ -52,22 +56,25 @@ packets_cut : (packets : List (List ℕ)) (n : ℕ) → concat packets ≡ conca
 packets_cut packets n = ap concat (sym (take-append-drop n packets)) ∙ concat-append (take n packets) (drop n packets)
 
 -- at the moment when all was written for the last time, packets were due; some of these were written
-has_some : EventsTell → OneRecord → NoRefusal → OneFrame → (c : Config) (plp : ℕ) → AllRules c
-    → (mid now : ReceiverMachine) (events late : List Event) (file bytes front more : List ℕ) (place : ℕ) → mid.coming ≡ Packets
+has_some : EventsTell → OneRecord → NoRefusal → OneFrame → NoneWaits → (c : Config) (plp : ℕ) → AllRules c
+    → (mid now : ReceiverMachine) (events late : List Event) (file bytes front more : List ℕ) (place : ℕ)
+    → 0 < due_of mid.receiver
     → (h : Shown c plp mid events) → Shown c plp now (events ++ late)
-    → GaveMore events late → IsFed file place (fed 0 events) (has_ended 0 events) → place ≤ mid.at + mid.left
+    → GaveMore events late → IsFed file place (fed 0 events) (has_ended 0 events) → place ≤ reach_of mid 0
     → gave late ≡ front ++ more → more ≢ [] → bytes ≡ gave events ++ front → HasSome c plp place file bytes
-has_some tell one never frame c plp rules mid now events late file bytes front more place packets h k since f near parts some
+has_some tell one never frame waits c plp rules mid now events late file bytes front more place due h k since f near parts some
     holds =
-    let behind = behind_at c plp mid events Packets packets h in
+    let between = h.between due in
+    let behind = behind_at c plp mid events Head between.0 h in
+    let lacks = behind.1 in
+    let left = between.1 in
+    let nothing : h.feed.rest ≡ [] = nil_from_length h.feed.rest (omega (arith, lacks, left)) in
     let here : AreRecords (fed 0 events) h.views [] =
-    subst (λ (l : List ℕ). AreRecords (fed 0 events) h.views l) behind.0 h.records in
+    subst (λ (l : List ℕ). AreRecords (fed 0 events) h.views l) nothing h.feed.records in
     let same : k.views ≡ h.views =
-    same_views one never frame c rules (fed 0 events) k.first h.first h.views k.views now.coming now.bytes.items k.rest now.left
-    (has_ended 0 (events ++ late)) here h.successive
-    (subst (λ (l : List ℕ). AreRecords l k.views k.rest) (since.fed 0) k.records) k.successive
-    (λ rests. (now.room rests).0) k.behind in
-    let e = (given_due c plp mid.receiver h.first h.views mid.slots (gave events) (mid.some packets) h.given).early in
+    same_views one never frame waits c plp rules h.first h.views now (events ++ late) k
+    (subst (λ (l : List ℕ). AreRecords l h.views []) (sym (since.fed 0)) here) h.successive in
+    let e = (given_due c plp mid.receiver h.first h.views mid.slots (gave events) due h.given).early in
     let are : k.views ≡ e.before ++ e.last ∷ [] = same ∙ e.are in
     let text : List ℕ = gave (events ++ late) in
     let g = given_some c plp now.receiver k.first e.before e.last now.slots text
@@ -79,8 +86,8 @@ has_some tell one never frame c plp rules mid now events late file bytes front m
     let size = ap length f.parts in
     let sum = length-append (fed 0 events) f.more in
     let ahead = f.ahead in
-    let at = h.place in
-    let none = mid.given packets in
+    let at = h.feed.size in
+    let none = none_left (due_of mid.receiver) (left_of mid.feed) due in
     record {
       before = e.before;
       last = e.last;
@@ -111,11 +118,11 @@ has_some tell one never frame c plp rules mid now events late file bytes front m
       since = holds ∙ ap (λ (l : List ℕ). l ++ front) e.begins ∙ append_assoc (concat e.packets) e.more front;
     }
 
-pub stops_writing : EventsTell → OneRecord → NoRefusal → OneFrame
+pub stops_writing : EventsTell → OneRecord → NoRefusal → OneFrame → NoneWaits
     → (start now : ReceiverMachine) (old new : State) (name out : List ℕ) → AllRules (plan_of start)
     → driver.StopsWriting old new out (name ∷ []) reach_of next_of (λ events m. Becomes start events m) now
     → StopsWriting (plan_of start) (place_of start) old new name out
-stops_writing tell one never frame start now old new name out rules g =
+stops_writing tell one never frame waits start now old new name out rules g =
     let c : Config = plan_of start in
     let plp : ℕ = place_of start in
     let s = g.stands in
@@ -124,7 +131,8 @@ stops_writing tell one never frame start now old new name out rules g =
       place = at;
       short = (let n = s.works.all in g.short 0 (omega (arith, n)));
       works = writes_by (HasSome c plp at) s (λ file bytes f holds.
-          has_some tell one never frame c plp rules g.mid now s.events g.late file bytes g.front g.more at
-          (packets_come g.mid.coming g.mid.left g.gives) s.came.0.shown s.came.1.shown (tell.late s.events g.late g.only) f
+          has_some tell one never frame waits c plp rules g.mid now s.events g.late file bytes g.front g.more at
+          (some_due (due_of g.mid.receiver) g.mid.misplaced (lacks_of g.mid.feed) g.gives) s.came.0.shown s.came.1.shown
+          (tell.late s.events g.late g.only) f
           (s.within 0 (omega arith)) g.parts g.some holds);
     }

@@ -1,107 +1,100 @@
 -- The receiver as a machine between files. No public clause cites this module.
-use Rattle.std.specs.Prelude.{◌≡◌, ◌⊎◌, ℕ, ◌+◌, ◌-◌, ◌≤◌, Bool, true, false, List, [], ◌∷◌, ◌++◌, length, take, Option, Some}
+use Rattle.std.specs.Prelude.{◌≡◌, ◌≢◌, ◌⊎◌, ℕ, ◌+◌, ◌-◌, ◌<◌, ◌≤◌, Bool, List, [], ◌∷◌, ◌++◌, length, take, Option, Some}
 use Rattle.std.specs.Prelude.{None, unwrap_or, Result, Ok, Err}
 use Rattle.std.specs.List.{concat}
 use Rattle.plp_config.specs.Plps.{spread}
 use Rattle.plp_config.specs.declared.config.Config.{Config}
 use Rattle.plp_config.specs.declared.moment.TheConstants.{MOST_FRAMES}
 use Rattle.site_frame.specs.Record.{head_len}
-use Rattle.site_frame.specs.RecordFile.{AreRecords, IsBegun, EndsWithin, IsOnGrid}
+use Rattle.site_frame.specs.RecordFile.{IsOnGrid}
 use Rattle.site_frame.specs.declared.fault.RecordWhy.{RecordWhy}
 use Rattle.site_frame.specs.declared.reading.RecordView.{RecordView}
-use Rattle.plp_receiver.specs.StandsFor.{StandsFor, IsFresh, network_of, plp_of, frame_of, due_of, slots_over}
+use Rattle.record_feed.specs.StandsFor.{RecordFeedStandsFor, coming_of, count_of, came_of, left_of, lacks_of, record_of}
+use Rattle.record_feed.specs.declared.coming.Coming.{Coming}
+use Rattle.record_feed.specs.declared.coming.Coming.TheVariants.{Head, Whole, Refused}
+use Rattle.plp_receiver.specs.StandsFor as stands
+use Rattle.plp_receiver.specs.StandsFor.{IsFresh, network_of, plp_of, frame_of, due_of, slots_over}
 use Rattle.plp_receiver.specs.Epochs.{Readback}
 use Rattle.plp_receiver.specs.declared.receiver.Receiver.{Receiver}
 use Rattle.file_run.specs.Events.{Event, fed, has_ended, gave}
 use Rattle.file_run.specs.declared.machine.Step.{Step}
-use Rattle.receive_run.specs.NextStep.{step_of, gives, coming_by, left_by}
-use Rattle.receive_run.specs.Received.{GivesBack, expected_after, RefusesNext}
-use Rattle.receive_run.specs.Taking.{expected_by, Awaits, SamePlp, TakesRecord, RefusesRecord, TellsDue}
-use Rattle.receive_run.specs.declared.machine.Coming.{Coming}
-use Rattle.receive_run.specs.declared.machine.Coming.TheVariants.{Head, Rest, Packets, Refused, Finished}
+use Rattle.receive_run.specs.NextStep.{next_from, left_by}
+use Rattle.receive_run.specs.Received.{GivesBack, expected_after, IsMisplaced}
+use Rattle.receive_run.specs.Taking.{expected_by, Awaits, SamePlp, TakesRecord, TellsDue}
 use Rattle.receive_run.specs.declared.machine.ReceiverMachine.{ReceiverMachine}
 use Rattle.receive_run.specs.declared.stop.Ran.{Ran}
-use Rattle.receive_run.specs.declared.stop.RunStop.{RunStop}
-use Rattle.receive_run.specs.declared.stop.RunStop.TheVariants as stop
+use Rattle.receive_run.specs.declared.stop.ReceiveStop.{ReceiveStop}
+use Rattle.receive_run.specs.declared.stop.ReceiveStop.TheVariants as stop
 
 -- what is done next
 abbrev pub next_of : ReceiverMachine → Step
-next_of m = step_of m.coming m.left
+next_of m = next_from (due_of m.receiver) m.misplaced (lacks_of m.feed)
+
+-- how far the input may have been read
+abbrev pub reach_of : ReceiverMachine → ℕ → ℕ
+reach_of m input = came_of m.feed + left_by (due_of m.receiver) (left_of m.feed)
 
 -- ---- a step of it
 
--- It is ready for a record: all that is due was given, and the receiver waits for the frame that is expected.
-pub record IsReady (m : ReceiverMachine) : Type 0 where
-  pub none : due_of m.receiver ≡ 0
-  pub awaits : Awaits m.receiver (expected_by m.first m.count)
-  pub few : m.count ≤ MOST_FRAMES
-  pub fits : (n : ℕ) → m.first ≡ Some n → n + m.count ≤ MOST_FRAMES
+-- The receiver is ready for a record: all that is due was given, and it waits for the frame that is expected.
+pub record IsReady (v : Receiver) (first : Option ℕ) (count : ℕ) : Type 0 where
+  pub none : due_of v ≡ 0
+  pub awaits : Awaits v (expected_by first count)
+  pub few : count ≤ MOST_FRAMES
+  pub fits : (n : ℕ) → first ≡ Some n → n + count ≤ MOST_FRAMES
 
--- The record that has come whole was taken, and what is due comes next, or the next head; or it was refused.
-pub record IsSeen (old new : ReceiverMachine) : Type 0 where
+-- The record that has come whole was taken, and what is due comes next, or the next head.
+pub record IsTaken (old new : ReceiverMachine) : Type 0 where
   pub frame : ℕ
-  pub takes : TakesRecord (network_of old.receiver) (expected_by old.first old.count) old.bytes.items old.receiver new.receiver
-      frame
+  pub takes : TakesRecord (network_of old.receiver) (expected_by old.first (count_of old.feed)) (record_of old.feed) old.receiver
+      new.receiver frame
   pub same : SamePlp old.receiver new.receiver
   pub due : TellsDue new.receiver
-  pub first : new.first ≡ Some (unwrap_or old.first frame)
-  pub count : new.count ≡ old.count + 1
   pub frame_is : frame_of new.receiver ≡ frame + 1
-  pub coming : new.coming ≡ coming_by (due_of new.receiver)
-  pub left : new.left ≡ left_by (due_of new.receiver)
+  pub first : new.first ≡ Some (unwrap_or old.first frame)
   pub slots : new.slots ≡ old.slots
+  pub misplaced : new.misplaced ≡ old.misplaced
+  pub feed : (views : List RecordView) (came : List ℕ) (ended : Bool) → RecordFeedStandsFor old.feed views came ended
+      → RecordFeedStandsFor new.feed (views ++ takes.view ∷ []) came ended
+  pub coming : coming_of new.feed ≡ Head
+  pub left : left_of new.feed ≡ head_len
 
 -- Nothing was taken.
 pub record SameTaken (old new : ReceiverMachine) : Type 0 where
   pub receiver : new.receiver ≡ old.receiver
   pub first : new.first ≡ old.first
-  pub count : new.count ≡ old.count
   pub slots : new.slots ≡ old.slots
 
-pub record IsRefused (old new : ReceiverMachine) (why : RecordWhy) : Type 0 where
-  pub refuses : RefusesRecord (network_of old.receiver) (expected_by old.first old.count) old.bytes.items why
-  pub coming : new.coming ≡ Refused why
-  pub left : new.left ≡ old.left
+-- What has come whole is no record,
+pub record IsRefused (old new : ReceiverMachine) : Type 0 where
+  pub why : RecordWhy
   pub same : SameTaken old new
+  pub misplaced : new.misplaced ≡ old.misplaced
+  pub feed : (views : List RecordView) (came : List ℕ) (ended : Bool) → RecordFeedStandsFor old.feed views came ended
+      → RecordFeedStandsFor new.feed views came ended
+  pub coming : coming_of new.feed ≡ Refused why
 
-abbrev pub Sees : ReceiverMachine → ReceiverMachine → Type 0
-Sees old new = IsSeen old new ⊎ ((why : RecordWhy) × IsRefused old new why)
-
--- Behind a head: it is all of its record, which was looked at; or its rest comes.
-pub record SeesHead (old new : ReceiverMachine) (head : List ℕ) (rest : ℕ) : Type 0 where
-  pub none : rest ≡ 0
-  pub mid : ReceiverMachine
-  pub bytes : mid.bytes.items ≡ head
-  pub left : mid.left ≡ rest
-  pub same : SameTaken old mid
-  pub sees : Sees mid new
-
-pub record HasBegun (old new : ReceiverMachine) (head : List ℕ) (rest : ℕ) : Type 0 where
-  pub coming : new.coming ≡ Rest
-  pub bytes : new.bytes.items ≡ head
-  pub left : new.left ≡ rest
+-- or not that of the frame that is expected.
+pub record IsStopped (old new : ReceiverMachine) : Type 0 where
+  pub why : RecordWhy
   pub same : SameTaken old new
+  pub feed : new.feed ≡ old.feed
+  pub misplaced : new.misplaced ≡ Some why
+  pub place : IsMisplaced (network_of old.receiver) (expected_by old.first (count_of old.feed)) (record_of old.feed) why
 
-abbrev pub Begins : ReceiverMachine → ReceiverMachine → List ℕ → ℕ → Type 0
-Begins old new head rest = SeesHead old new head rest ⊎ HasBegun old new head rest
+abbrev pub IsLookedAt : ReceiverMachine → ReceiverMachine → Type 0
+IsLookedAt old new = IsTaken old new ⊎ (IsRefused old new ⊎ IsStopped old new)
 
 -- ---- what was done to a machine
 
--- What stands behind the records is refused whatever follows. It is no more than a head, or than the record of which the head
--- stands there; and no more is wanted, unless the file has ended.
-pub record StandsRefused (c : Config) (expected : Option ℕ) (why : RecordWhy) (left : ℕ) (rest : List ℕ)
-    (ended : Bool) : Type 0 where
-  pub refuses : (more : List ℕ) → (ended ≡ true → more ≡ []) → RefusesNext c expected (rest ++ more) why
-  pub within : EndsWithin rest (length rest)
-  pub none : (left ≡ 0) ⊎ (ended ≡ true)
+-- If a record stands whole behind those that were taken, it is misplaced.
+abbrev pub Judged : Config → Option ℕ → Option RecordWhy → Coming → List ℕ → Type 0
+Judged c expected None coming rest = coming ≢ Whole
+Judged c expected (Some why) coming rest = (coming ≡ Whole) × IsMisplaced c expected rest why
 
--- behind the records that were taken: nothing, the part of a record that came, what is refused whatever follows, or the end
-abbrev pub Behind : Config → Option ℕ → Coming → List ℕ → ℕ → List ℕ → Bool → Type 0
-Behind c expected Head bytes left rest ended = (rest ≡ []) × (left ≡ head_len) × (ended ≡ false)
-Behind c expected Rest bytes left rest ended = (rest ≡ bytes) × IsBegun rest left × (ended ≡ false)
-Behind c expected Packets bytes left rest ended = (rest ≡ []) × (ended ≡ false)
-Behind c expected (Refused why) bytes left rest ended = StandsRefused c expected why left rest ended
-Behind c expected Finished bytes left rest ended = (rest ≡ []) × (ended ≡ true)
+-- Between two records.
+abbrev pub IsBetween : ReceiverMachine → Type 0
+IsBetween m = (coming_of m.feed ≡ Head) × (left_of m.feed ≡ head_len) × (m.misplaced ≡ None)
 
 -- All that the records before the last one give back was given.
 pub record GaveEarly (c : Config) (plp first : ℕ) (views : List RecordView) (text : List ℕ) : Type 0 where
@@ -116,7 +109,7 @@ pub record GaveEarly (c : Config) (plp first : ℕ) (views : List RecordView) (t
 -- Of what the records give back so many packets were given, and no other is due but those behind them.
 pub record GavePackets (c : Config) (plp : ℕ) (v : Receiver) (first : ℕ) (views : List RecordView) (released : ℕ)
     (text : List ℕ) : Type 0 where
-  pub stands : StandsFor v first views released
+  pub stands : stands.ReceiverStandsFor v first views released
   pub frame : frame_of v ≡ first + length views
   pub packets : List (List ℕ)
   pub back : Readback c plp first views packets
@@ -138,15 +131,12 @@ first_of first (view ∷ views) = Some first
 pub record Shown (c : Config) (plp : ℕ) (m : ReceiverMachine) (events : List Event) : Type 0 where
   pub first : ℕ
   pub views : List RecordView
-  pub rest : List ℕ
-  pub records : AreRecords (fed 0 events) views rest
+  pub feed : RecordFeedStandsFor m.feed views (fed 0 events) (has_ended 0 events)
   pub successive : IsOnGrid c first views
-  pub place : m.at ≡ length (fed 0 events)
   pub first_is : m.first ≡ first_of first views
-  pub number : m.count ≡ length views
-  pub behind : Behind c (expected_after first views) m.coming m.bytes.items m.left rest (has_ended 0 events)
+  pub judged : Judged c (expected_after first views) m.misplaced (coming_of m.feed) feed.rest
   pub given : Given c plp m.receiver first views m.slots (gave events)
-  pub quiet : gives m.coming ≡ false → due_of m.receiver ≡ 0
+  pub between : 0 < due_of m.receiver → IsBetween m
 
 -- To the first this was done, and then it is the second.
 pub record Becomes (start : ReceiverMachine) (events : List Event) (m : ReceiverMachine) : Type 0 where
@@ -163,7 +153,7 @@ slot_by c plp (Some first) = slots_over c plp (first - spread c.plps plp)
 abbrev pub ran_by : Config → ℕ → Option ℕ → ℕ → Ran
 ran_by c plp first slots = record { first = slot_by c plp first; slots = slots }
 
--- that of a machine at its end
-abbrev pub ending_of : Coming → ℕ → Ran → Result Ran RunStop
-ending_of (Refused why) count ran = Err (stop.RecordRefused count why)
-ending_of coming count ran = Ok ran
+-- what comes of a machine's run, at its end, by why the record of the next frame did not come
+abbrev pub ending_of : Option RecordWhy → ℕ → Ran → Result Ran ReceiveStop
+ending_of (Some why) count ran = Err (stop.RecordRefused count why)
+ending_of None count ran = Ok ran

@@ -8,23 +8,22 @@ use Rattle.site_frame.specs.declared.reading.RecordView.{RecordView}
 use Rattle.receive_run.specs.ReceiveRun.{HasAll, HasBefore}
 use Rattle.receive_run.specs.Received.{GivesBack, ran_of}
 use Rattle.receive_run.specs.declared.stop.Ran.{Ran}
-use Rattle.receive_run.specs.declared.stop.RunStop.{RunStop}
-use Rattle.receive_run.specs.declared.stop.RunStop.TheVariants.{RecordRefused}
+use Rattle.receive_run.specs.declared.stop.ReceiveStop.{ReceiveStop}
+use Rattle.receive_run.specs.declared.stop.ReceiveStop.TheVariants.{RecordRefused}
 
 -- How a run must end over a file that is not too long, if nothing outside fails.
-abbrev pub MustRun : Config → ℕ → List ℕ → Result Ran RunStop → Type 0
+abbrev pub MustRun : Config → ℕ → List ℕ → Result Ran ReceiveStop → Type 0
 MustRun c plp file (Ok ran) = (bytes : List ℕ) × HasAll c plp ran file bytes
 MustRun c plp file (Err (RecordRefused number why)) = (bytes : List ℕ) × HasBefore c plp number why file bytes
-MustRun c plp file (Err stop) = ⊥
 
 -- A file decides how a run of a PLP of a plan over it must end.
 abbrev pub OneRun : Type 0
-OneRun = (c : Config) (plp : ℕ) (file : List ℕ) (result other : Result Ran RunStop) → IsPlan c → MustRun c plp file result
+OneRun = (c : Config) (plp : ℕ) (file : List ℕ) (result other : Result Ran ReceiveStop) → IsPlan c → MustRun c plp file result
     → MustRun c plp file other → result ≡ other
 
 -- A run over a file has an ending.
 abbrev pub RunEnds : Type 0
-RunEnds = (c : Config) (plp : ℕ) (file : List ℕ) → IsPlan c → plp < length c.plps → AreBytes file → (result : Result Ran RunStop)
+RunEnds = (c : Config) (plp : ℕ) (file : List ℕ) → IsPlan c → plp < length c.plps → AreBytes file → (result : Result Ran ReceiveStop)
     × MustRun c plp file result
 
 -- Records of successive frames that are a whole file tell what a run over it writes, and its slots.

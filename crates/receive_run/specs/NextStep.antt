@@ -1,30 +1,24 @@
 -- What comes next. No public clause cites this module.
-use Rattle.std.specs.Prelude.{ℕ, nat_lt, Bool, true, false, if◌then◌else◌}
+use Rattle.std.specs.Prelude.{ℕ, zero, suc, Option, Some, None}
 use Rattle.file_run.specs.declared.machine.Step.{Step}
 use Rattle.file_run.specs.declared.machine.Step.TheVariants.{Read, Give, End}
-use Rattle.site_frame.specs.Record.{head_len}
-use Rattle.receive_run.specs.declared.machine.Coming.{Coming}
-use Rattle.receive_run.specs.declared.machine.Coming.TheVariants.{Head, Rest, Packets, Refused, Finished}
+use Rattle.site_frame.specs.declared.fault.RecordWhy.{RecordWhy}
+use Rattle.record_feed.specs.declared.coming.Coming.{Coming}
+use Rattle.record_feed.specs.declared.coming.Coming.TheVariants.{Refused}
 
--- what is done next
-abbrev pub step_of : Coming → ℕ → Step
-step_of Head left = Read 0 head_len head_len
-step_of Rest left = Read 0 1 left
-step_of Packets left = Give
-step_of (Refused why) left = End
-step_of Finished left = End
+-- what is done next, by how many slots are due, why a record is misplaced, and how many bytes of the next one are lacking
+abbrev pub next_from : ℕ → Option RecordWhy → ℕ → Step
+next_from (suc due) misplaced lacks = Give
+next_from zero (Some why) lacks = End
+next_from zero None zero = End
+next_from zero None (suc lacks) = Read 0 1 (suc lacks)
 
--- what is due is given before anything else comes
-abbrev pub gives : Coming → Bool
-gives Head = false
-gives Rest = false
-gives Packets = true
-gives (Refused why) = false
-gives Finished = false
+-- so many bytes may be read: none before all that is due was given
+abbrev pub left_by : ℕ → ℕ → ℕ
+left_by zero left = left
+left_by (suc due) left = 0
 
--- what comes, by how many slots are due, and how many bytes may be read for it
-abbrev pub coming_by : ℕ → Coming
-coming_by due = if nat_lt 0 due then Packets else Head
-
-abbrev pub left_by : ℕ → ℕ
-left_by due = if nat_lt 0 due then 0 else head_len
+-- why the record of the next frame does not come
+abbrev pub refusal_of : Coming → Option RecordWhy → Option RecordWhy
+refusal_of (Refused why) misplaced = Some why
+refusal_of coming misplaced = misplaced

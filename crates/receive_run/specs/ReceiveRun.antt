@@ -10,10 +10,12 @@ use Rattle.desk_io.specs.Faults.{ReadsFail, WritesFail}
 use Rattle.desk_io.specs.Reading.{longest_file}
 use Rattle.file_run.specs.FileRun.{OpensInputs, FailsToCreateOutput, Writes, ReadsAll}
 use Rattle.file_run.specs.declared.stop.RunFault.TheVariants.{TooLong, ReadFault, WriteFault}
+use Rattle.file_run.specs.declared.stop.RunStop.{RunStop}
+use Rattle.file_run.specs.declared.stop.RunStop.TheVariants.{Refused, Files, OutOfMemory}
 use Rattle.receive_run.specs.Received.{Received, ran_of, expected_after, RefusesNext}
 use Rattle.receive_run.specs.declared.stop.Ran.{Ran}
-use Rattle.receive_run.specs.declared.stop.RunStop.{RunStop}
-use Rattle.receive_run.specs.declared.stop.RunStop.TheVariants.{RecordRefused, Files, OutOfMemory}
+use Rattle.receive_run.specs.declared.stop.ReceiveStop.{ReceiveStop}
+use Rattle.receive_run.specs.declared.stop.ReceiveStop.TheVariants.{RecordRefused}
 
 -- The file is nothing but records, the bytes are what they give back, and these are their slots.
 pub record HasAll (c : Config) (plp : ℕ) (ran : Ran) (file bytes : List ℕ) : Type 0 where
@@ -109,8 +111,8 @@ pub record StopsWriting (c : Config) (plp : ℕ) (old new : State) (name out : L
   pub works : Writes old new name out place (HasSome c plp place)
 
 -- A run that did not come to its end, by its cause. IN is input 0, the only one.
-abbrev pub Stops : Config → ℕ → State → State → List ℕ → List ℕ → RunStop → Type 0
-Stops c plp old new name out (RecordRefused number why) = MeetsRefused c plp old new name out number why
+abbrev pub Stops : Config → ℕ → State → State → List ℕ → List ℕ → RunStop ReceiveStop → Type 0
+Stops c plp old new name out (Refused (RecordRefused number why)) = MeetsRefused c plp old new name out number why
 Stops c plp old new name out (Files (TooLong input)) = (input ≡ 0) × GivesTooMuch c plp old new name out
 Stops c plp old new name out (Files (ReadFault input)) =
     (input ≡ 0) × ReadsFail old new × (OpensInputs old new (name ∷ []) 0 ⊎ StopsReading c plp old new name out)

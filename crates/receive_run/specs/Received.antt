@@ -26,7 +26,8 @@ pub record Received (c : Config) (plp : ℕ) (views : List RecordView) (bytes : 
   pub back : GivesBack c plp first views packets
   pub bytes_are : bytes ≡ concat packets
 
--- the slot at which the output begins: those before it are over one interleaving frame before the first frame begins; 0 if there is
+-- the slot at which the output begins: those before it are over one interleaving frame before the first frame begins; 0 if
+-- there is
 -- no record
 abbrev pub first_slot : Config → ℕ → ℕ → List RecordView → ℕ
 first_slot c plp first [] = 0

@@ -7,6 +7,6 @@ mod record;
 mod running;
 mod stop;
 
-pub use laws::{one_output, one_run, run_ends};
+pub use laws::{one_output_law, one_run_law, run_ends_law};
 pub use running::run;
-pub use stop::{Ran, RunStop};
+pub use stop::{Ran, ReceiveStop};

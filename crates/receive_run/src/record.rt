@@ -1,13 +1,16 @@
 // A record that has come whole, and the packets that are due behind it.
-ghost use Rattle.std.specs.Prelude.{◌≡◌, ◌<◌, ◌+◌, length, IfOk, IfErr};
+ghost use Rattle.std.specs.Prelude.{◌≡◌, ◌<◌, ◌+◌, length};
 ghost use Rattle.site_frame.specs.Placing.{IsPlaced};
 ghost use Rattle.site_frame.specs.Whole.{moment_of as moment_in};
+ghost use Rattle.record_feed.specs.StandsFor.{coming_of, record_of};
+ghost use Rattle.record_feed.specs.declared.coming.Coming.TheVariants.{Whole};
 ghost use Rattle.plp_receiver.specs.StandsFor.{frame_of, due_of, network_of};
-ghost use Rattle.receive_run.specs.Taking.{Awaits, SamePlp, Comes, TakesRecord, RefusesRecord, GivesPacket};
+ghost use Rattle.receive_run.specs.Taking.{Awaits, SamePlp, TakesView, IsLook, GivesPacket};
 
 use plp_config::{Moment, Plan};
 use plp_receiver::Receiver;
-use site_frame::{RecordView, RecordWhy, place_record, read_record};
+use record_feed::RecordFeed;
+use site_frame::{RecordView, RecordWhy, place_record};
 use ts_packet::SIZE;
 
 // When the frame of a record leaves.
@@ -25,7 +28,7 @@ fn take_view(receiver: &mut Receiver<'_>, expected: Option<u64>, frame: u64, vie
     requires given_out { due_of receiver.old ≡ 0 }
     requires awaits { Awaits receiver.old expected }
     requires placed { IsPlaced (network_of receiver.old) expected (moment_in view.now) frame }
-    ensures comes { Comes expected receiver.old receiver.new frame view.now }
+    ensures takes { TakesView expected receiver.old receiver.new frame view.now }
     ensures frame { frame_of receiver.new ≡ frame + 1 }
     ensures same { SamePlp receiver.old receiver.new }
 {
@@ -35,26 +38,41 @@ fn take_view(receiver: &mut Receiver<'_>, expected: Option<u64>, frame: u64, vie
     receiver.frame(view);
 }
 
-/// Takes the record that the bytes begin with, if it is of the frame that is expected, or of any if none is: its frame.
+/// What became of a record that has come whole.
+#[derive(Clone, Copy, Debug, PartialEq, Eq)]
+pub enum Look {
+    /// The receiver took it: the record of this frame.
+    Taken(u64),
+    /// It is no record.
+    NoRecord(RecordWhy),
+    /// No frame leaves at its moment, or not the one that is expected.
+    Misplaced(RecordWhy),
+}
+
+/// Looks at the record that has come whole, and takes it if it is of the frame that is expected, or of any if none is.
 pub fn take_record(
     plan: &Plan,
     expected: Option<u64>,
-    bytes: &[u8],
+    feed: &RecordFeed,
     receiver: &mut Receiver<'_>,
-) -> Result<u64, RecordWhy>
+) -> Look
+    requires whole { coming_of feed.now ≡ Whole }
     requires network { network_of receiver.old ≡ plan.now }
     requires given_out { due_of receiver.old ≡ 0 }
     requires awaits { Awaits receiver.old expected }
-    ensures ok { IfOk result (TakesRecord plan.now expected bytes.now receiver.old receiver.new) }
-    ensures frame { IfOk result (λ frame. frame_of receiver.new ≡ frame + 1) }
-    ensures same { SamePlp receiver.old receiver.new }
-    ensures err { IfErr result (RefusesRecord plan.now expected bytes.now) }
-    ensures kept { IfErr result (λ why. receiver.new ≡ receiver.old) }
+    ensures { IsLook plan.now expected (record_of feed.now) receiver.old receiver.new result }
 {
-    let (view, _) = read_record(bytes)?;
-    let frame = place_record(plan, expected, &moment_of(&view))?;
-    take_view(receiver, expected, frame, &view);
-    Ok(frame)
+    let view = match feed.record() {
+        Ok(view) => view,
+        Err(why) => return Look::NoRecord(why),
+    };
+    match place_record(plan, expected, &moment_of(&view)) {
+        Ok(frame) => {
+            take_view(receiver, expected, frame, &view);
+            Look::Taken(frame)
+        }
+        Err(why) => Look::Misplaced(why),
+    }
 }
 
 /// Gives out the next packet.

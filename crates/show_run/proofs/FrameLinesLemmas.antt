@@ -1,46 +1,41 @@
 -- The lines of records, step by step.
-use Rattle.std.proofs.Common.{◌≡◌, ◌≢◌, ℕ, ◌+◌, ◌<◌, true, false, List, [], ◌∷◌, ◌++◌, length, refl, ap, sym, subst, ◌∙◌, inl}
-use Rattle.std.proofs.Common.{inr, arith, append-nil, length-append}
-use Rattle.file_run.specs.Events.{Event, Fed, fed, has_ended, gave}
+use Rattle.std.proofs.Common.{◌≡◌, ◌≢◌, ℕ, ◌+◌, Bool, true, List, [], ◌∷◌, ◌++◌, length, refl, ap, sym, subst, ◌∙◌, inl, inr}
+use Rattle.std.proofs.Common.{arith, append-nil}
+use Rattle.std.proofs.lemmas.List.{nil_from_length}
+use Rattle.file_run.specs.Events.{Event, Fed, Ended, fed, has_ended, gave}
 use Rattle.file_run.specs.Laws.{EventsTell}
-use Rattle.site_frame.specs.Record.{head_len}
-use Rattle.site_frame.specs.Whole.{Refuses, Follow, RefusesHead}
-use Rattle.site_frame.specs.declared.fault.RecordWhy.{RecordWhy}
+use Rattle.file_run.specs.Steps.{Suffices, FallsShort}
 use Rattle.site_frame.specs.declared.reading.RecordView.{RecordView}
-use Rattle.show_run.specs.FrameLines.{IsLineOf, Sees, Begins, Behind, Given, Shown, Comes}
-use Rattle.site_frame.specs.RecordFile.{AreRecords, Announces, IsBegun}
-use Rattle.show_run.specs.SaidLines.{record_line, record_lines}
-use Rattle.show_run.specs.declared.frame_lines.Coming.{Coming}
-use Rattle.show_run.specs.declared.frame_lines.Coming.TheVariants.{Head, Rest, Refused, NoRoom, Finished}
+use Rattle.record_feed.specs.StandsFor.{RecordFeedStandsFor, coming_of, count_of, lacks_of, IsOver, Takes}
+use Rattle.record_feed.specs.declared.coming.Coming.{Coming}
+use Rattle.record_feed.specs.declared.coming.Coming.TheVariants.{Head, Rest, Whole, Refused, NoRoom, Finished}
+use Rattle.record_feed.specs.declared.feed.RecordFeed.{RecordFeed}
+use Rattle.show_run.specs.FrameLines.{next_of, IsSeen, IsLookedAt, Given, Shown, Comes}
+use Rattle.show_run.specs.SaidLines.{record_line, record_lines, records_line}
 use Rattle.show_run.specs.declared.frame_lines.FrameLines.{FrameLines}
-use Rattle.site_frame.proofs.RecordFileLemmas.{records_on, records_more, announces_head, announces_on, none_left}
+use Rattle.show_run.proofs.FrameWantedLemmas.{Wants, short, enough, unfinished}
 use Rattle.show_run.proofs.RecordTextLemmas.{record_lines-append}
-use Rattle.site_frame.proofs.RecordFrontLemmas.{refused_whole}
-use Rattle.file_run.proofs.EventLemmas.{Adds, fed_adds}
 
--- more records may follow
-abbrev pub IsOpen : Coming → Type 0
-IsOpen Finished = ⊥
-IsOpen coming = Unit {0}
+-- ---- lines, if more records may follow
 
-pub open_is : (p q : Coming) → q ≡ p → IsOpen p → IsOpen q
-open_is p q e o = subst IsOpen (sym e) o
-
-given_of : (coming : Coming) (told next : List RecordView) (line text : List ℕ) → IsOpen coming → Given coming told next line text
+pub given_of : (coming : Coming) (told next : List RecordView) (line text : List ℕ) → coming ≢ Finished
+    → Given coming told next line text
     → (text ≡ record_lines 0 told) × (line ≡ record_lines (length told) next)
-given_of Head told next line text o g = g
-given_of Rest told next line text o g = g
-given_of (Refused why) told next line text o g = g
-given_of NoRoom told next line text o g = g
-given_of Finished told next line text o g = absurd o
+given_of Head told next line text going g = g
+given_of Rest told next line text going g = g
+given_of Whole told next line text going g = g
+given_of (Refused why) told next line text going g = g
+given_of NoRoom told next line text going g = g
+given_of Finished told next line text going g = absurd (going refl)
 
-given_as : (coming : Coming) (told next : List RecordView) (line text : List ℕ) → IsOpen coming → (text ≡ record_lines 0 told)
-    × (line ≡ record_lines (length told) next) → Given coming told next line text
-given_as Head told next line text o g = g
-given_as Rest told next line text o g = g
-given_as (Refused why) told next line text o g = g
-given_as NoRoom told next line text o g = g
-given_as Finished told next line text o g = absurd o
+given_as : (coming : Coming) (told next : List RecordView) (line text : List ℕ) → coming ≢ Finished
+    → (text ≡ record_lines 0 told) × (line ≡ record_lines (length told) next) → Given coming told next line text
+given_as Head told next line text going g = g
+given_as Rest told next line text going g = g
+given_as Whole told next line text going g = g
+given_as (Refused why) told next line text going g = g
+given_as NoRoom told next line text going g = g
+given_as Finished told next line text going g = absurd (going refl)
 
 -- the lines of the next records go behind
 pub lines_next : (told next : List RecordView) (line text : List ℕ) → text ≡ record_lines 0 told
@@ -49,198 +44,137 @@ lines_next told next line text is waits =
     let from : 0 + length told ≡ length told = omega arith in
     rw (is, waits) (ap (λ (k : ℕ). record_lines 0 told ++ record_lines k next) (sym from) ∙ sym (record_lines-append 0 told next))
 
--- all lines of records that were told, if none waits
-pub told_all : (told next : List RecordView) (line text : List ℕ) → line ≡ [] → text ≡ record_lines 0 told
-    → line ≡ record_lines (length told) next → text ≡ record_lines 0 (told ++ next)
-told_all told next line text none is waits = sym (append-nil text) ∙ ap (λ (l : List ℕ). text ++ l) (sym none)
-    ∙ lines_next told next line text is waits
+-- all lines of the records were given, if none waits and more may follow
+pub all_told : (m : FrameLines) (events : List Event) (s : Shown m events) → m.line ≡ [] → coming_of m.feed ≢ Finished
+    → gave events ≡ record_lines 0 (s.told ++ s.next)
+all_told m events s none going =
+    let g = given_of (coming_of m.feed) s.told s.next m.line (gave events) going s.given in
+    sym (append-nil (gave events)) ∙ ap (λ (l : List ℕ). gave events ++ l) (sym none)
+    ∙ lines_next s.told s.next m.line (gave events) g.0 g.1
 
--- what holds before a step, if no line waits: these records, and then a rest
-pub record Before (m : FrameLines) (was : List Event) (views : List RecordView) (rest : List ℕ) : Type 0 where
-  pub records : AreRecords (fed 0 was) views rest
-  pub number : m.count ≡ length views
-  pub text : gave was ≡ record_lines 0 views
+-- the line of a record by its number
+pub line_numbered : (count number : ℕ) (view : RecordView) → count ≡ number → record_line count view ≡ record_line number view
+line_numbered count number view is = ap (λ (k : ℕ). record_line k view) is
 
-pub before : (m : FrameLines) (was : List Event) → m.line ≡ [] → IsOpen m.coming → (s : Shown m was)
-    → Before m was (s.told ++ s.next) s.rest
-before m was idle going s =
-    let g = given_of m.coming s.told s.next m.line (gave was) going s.given in
-    record { records = s.records; number = s.number; text = told_all s.told s.next m.line (gave was) idle g.0 g.1 }
+-- ---- a step
 
 -- no record more was seen
-same_seen : (m n : FrameLines) (was now : List Event) (piece rest : List ℕ) (views : List RecordView) → Before m was views rest
-    → Adds was now piece → n.line ≡ [] → IsOpen n.coming → n.count ≡ m.count → n.at ≡ length (fed 0 now)
-    → Behind n.coming n.bytes.items n.left (rest ++ piece) (has_ended 0 now) → Shown n now
-same_seen m n was now piece rest views b a quiet goes count at behind = record {
-  told = views;
-  next = [];
-  rest = rest ++ piece;
-  records = subst (λ (l : List RecordView). AreRecords (fed 0 now) l (rest ++ piece)) (sym (append-nil views))
-      (subst (λ (l : List ℕ). AreRecords l views (rest ++ piece)) (sym a.fed_is)
-      (records_on (fed 0 was) piece rest views b.records));
-  place = at;
-  number = count ∙ b.number ∙ ap length (sym (append-nil views));
-  behind = behind;
-  given = given_as n.coming views [] n.line (gave now) goes (a.gave_is ∙ b.text, quiet);
-}
-
--- a record that came whole was seen
-one_seen : (m n : FrameLines) (was now : List Event) (piece rest : List ℕ) (views : List RecordView) (len : ℕ)
-    → Before m was views rest → Adds was now piece → has_ended 0 now ≡ false → Announces (rest ++ piece) len
-    → length (rest ++ piece) ≡ head_len + len
-    → IsLineOf (rest ++ piece) m.count n.line → n.coming ≡ Head → n.count ≡ m.count + 1 → n.at ≡ length (fed 0 now) → Shown n now
-one_seen m n was now piece rest views len b a going announces whole f comes count at =
-    let none = none_left (rest ++ piece) f.view f.len len announces whole f.begins in
-    let all : AreRecords (fed 0 now) views (rest ++ piece) =
-    subst (λ (l : List ℕ). AreRecords l views (rest ++ piece)) (sym a.fed_is)
-    (records_on (fed 0 was) piece rest views b.records) in
+same_shown : (m n : FrameLines) (events : List Event) (views : List RecordView) → n.line ≡ [] → coming_of n.feed ≢ Finished
+    → coming_of n.feed ≢ Whole → gave events ≡ record_lines 0 views
+    → RecordFeedStandsFor n.feed views (fed 0 events) (has_ended 0 events) → Shown n events
+same_shown m n events views none going seen text stands =
+    let all : views ≡ views ++ [] = sym (append-nil views) in
     record {
       told = views;
-      next = f.view ∷ [];
-      rest = [];
-      records = subst (λ (l : List ℕ). AreRecords (fed 0 now) (views ++ f.view ∷ []) l) none
-          (records_more (fed 0 now) (rest ++ piece) views f.view f.len all f.begins);
-      place = at;
-      number = (let n = b.number in let s = length-append views (f.view ∷ []) in omega (arith, count, n, s));
-      behind = subst (λ (p : Coming). Behind p n.bytes.items n.left [] (has_ended 0 now)) (sym comes) (refl, going);
-      given = given_as n.coming views (f.view ∷ []) n.line (gave now) (open_is Head n.coming comes tt) (
-        a.gave_is ∙ b.text,
-        f.text ∙ ap (λ (k : ℕ). record_line k f.view) b.number
-            ∙ sym (append-nil (record_line (length views) f.view)),
-      );
+      next = [];
+      feed = subst (λ (l : List RecordView). RecordFeedStandsFor n.feed l (fed 0 events) (has_ended 0 events)) all stands;
+      seen = seen;
+      given = given_as (coming_of n.feed) views [] n.line (gave events) going (text, none);
     }
 
--- what is refused
-pub refused_seen : (m n : FrameLines) (was now : List Event) (piece rest : List ℕ) (views : List RecordView) (why : RecordWhy)
-    → Before m was views rest → Adds was now piece → n.line ≡ [] → n.coming ≡ Refused why → n.count ≡ m.count
-    → n.at ≡ length (fed 0 now)
-    → 0 < length (rest ++ piece)
-    → ((more : List ℕ) → (has_ended 0 now ≡ true → more ≡ []) → Refuses ((rest ++ piece) ++ more) why) → Shown n now
-refused_seen m n was now piece rest views why b a quiet comes count at some refuses =
-    let one : rest ++ piece ≢ [] = λ e. let n = ap length e in absurd (omega (arith, n, some)) in
-    same_seen m n was now piece rest views b a quiet (open_is (Refused why) n.coming comes tt) count at
-    (subst (λ (p : Coming). Behind p n.bytes.items n.left (rest ++ piece) (has_ended 0 now)) (sym comes) (one, refuses))
+-- one was
+one_shown : (n : FrameLines) (events : List Event) (views : List RecordView)
+    → gave events ≡ record_lines 0 views → IsSeen views (fed 0 events) (has_ended 0 events) n → Shown n events
+one_shown n events views text i = record {
+  told = views;
+  next = i.view ∷ [];
+  feed = i.stands;
+  seen = λ whole. let e : Head ≡ Whole = sym i.coming ∙ whole in cc;
+  given = subst (λ (p : Coming). Given p views (i.view ∷ []) n.line (gave events)) (sym i.coming)
+      (text, i.line ∙ sym (append-nil (record_line (length views) i.view)));
+}
 
--- the record that has come whole was looked at
-whole_seen : (m mid n : FrameLines) (was now : List Event) (piece rest : List ℕ) (views : List RecordView) (len : ℕ)
-    → Before m was views rest → Adds was now piece → has_ended 0 now ≡ false → Announces (rest ++ piece) len
-    → length (rest ++ piece) ≡ head_len + len
-    → mid.bytes.items ≡ rest ++ piece → mid.line ≡ [] → mid.count ≡ m.count → n.at ≡ length (fed 0 now) → Sees mid n → Shown n now
-whole_seen m mid n was now piece rest views len b a going announces whole bytes idle count at (inl s) =
-    one_seen m n was now piece rest views len b a going announces whole
-    (subst (λ (l : List ℕ). IsLineOf l m.count n.line) bytes
-    (subst (λ (k : ℕ). IsLineOf mid.bytes.items k n.line) count s.line)) s.coming (s.count ∙ ap (λ (k : ℕ). k + 1) count) at
-whole_seen m mid n was now piece rest views len b a going announces whole bytes idle count at (inr r) =
-    refused_seen m n was now piece rest views r.0 b a (r.1.line ∙ idle) r.1.coming (r.1.count ∙ count) at (omega (arith, whole))
-    (λ more end. refused_whole (rest ++ piece) more len r.0 announces whole
-    (subst (λ (l : List ℕ). Refuses l r.0) bytes r.1.refuses))
+looked_shown : (m n : FrameLines) (events : List Event) (views : List RecordView) → gave events ≡ record_lines 0 views
+    → IsLookedAt views (fed 0 events) (has_ended 0 events) n → Shown n events
+looked_shown m n events views text (inl i) = one_shown n events views text i
+looked_shown m n events views text (inr r) =
+    same_shown m n events views r.line (λ done. let e : Refused r.why ≡ Finished = sym r.coming ∙ done in cc)
+    (λ whole. let e : Refused r.why ≡ Whole = sym r.coming ∙ whole in cc) text r.stands
 
-pub nothing_before : (m : FrameLines) (was : List Event) → m.coming ≡ Head → (s : Shown m was) → (s.rest ≡ [])
-    × (has_ended 0 was ≡ false)
-nothing_before m was heads s = subst (λ (p : Coming). Behind p m.bytes.items m.left s.rest (has_ended 0 was)) heads s.behind
+fed_stands : EventsTell → (f : RecordFeed) (m : FrameLines) (events : List Event) (piece : List ℕ) (s : Shown m events)
+    → Takes m.feed f piece
+    → RecordFeedStandsFor f (s.told ++ s.next) (fed 0 (events ++ Fed 0 piece ∷ [])) (has_ended 0 (events ++ Fed 0 piece ∷ []))
+fed_stands law f m events piece s takes =
+    let more = law.fed 0 piece events in
+    subst (λ (l : List ℕ). RecordFeedStandsFor f (s.told ++ s.next) l (has_ended 0 (events ++ Fed 0 piece ∷ []))) (sym more.here)
+    (subst (λ (e : Bool). RecordFeedStandsFor f (s.told ++ s.next) (fed 0 events ++ piece) e) (sym (more.ended 0))
+    (takes (s.told ++ s.next) (fed 0 events) (has_ended 0 events) s.feed))
 
-at_fed : EventsTell → (m n : FrameLines) (was : List Event) (piece : List ℕ) → Shown m was → n.at ≡ m.at + length piece
-    → n.at ≡ length (fed 0 (was ++ Fed 0 piece ∷ []))
-at_fed law m n was piece s at =
-    let more = ap length (law.fed 0 piece was).here in let sum = length-append (fed 0 was) piece in let p = s.place in
-    omega (arith, at, more, sum, p)
+fed_text : EventsTell → (m : FrameLines) (events : List Event) (input : ℕ) (piece : List ℕ) (s : Shown m events)
+    → Wants m.line (lacks_of m.feed) input → gave (events ++ Fed 0 piece ∷ []) ≡ record_lines 0 (s.told ++ s.next)
+fed_text law m events input piece s w =
+    (law.fed 0 piece events).gave ∙ all_told m events s w.idle (unfinished m.feed w.some)
 
-pub begun : (m k n : FrameLines) (was now : List Event) (head : List ℕ) (views : List RecordView) (rest : ℕ)
-    → Before m was views []
-    → Adds was now head → has_ended 0 now ≡ false → length head ≡ head_len → Announces head rest → m.line ≡ [] → k.line ≡ m.line
-    → k.count ≡ m.count
-    → n.at ≡ length (fed 0 now) → Begins k n head rest → Shown n now
-begun m k n was now head views rest b a going size announces idle line count at (inl none) =
-    same_seen m n was now head [] views b a (none.line ∙ line ∙ idle) (open_is NoRoom n.coming none.coming tt)
-    (none.count ∙ count) at
-    (subst (λ (p : Coming). Behind p n.bytes.items n.left head (has_ended 0 now)) (sym none.coming) (rest, announces))
-begun m k n was now head views rest b a going size announces idle line count at (inr (inl s)) =
-    whole_seen m s.mid n was now head [] views rest b a going announces (let z = s.none in omega (arith, size, z)) s.bytes
-    (s.line ∙ line ∙ idle) (s.count ∙ count) at s.sees
-begun m k n was now head views rest b a going size announces idle line count at (inr (inr h)) =
-    same_seen m n was now head [] views b a (h.line ∙ line ∙ idle) (open_is Rest n.coming h.coming tt) (h.count ∙ count) at
-    (subst (λ (p : Coming). Behind p n.bytes.items n.left head (has_ended 0 now)) (sym h.coming)
-    (sym h.bytes, record { len = rest; announces = announces; lacks = (let l = h.left in omega (arith, size, l)) }, going))
-
-pub took_head : EventsTell → (start m k n : FrameLines) (events : List Event) (head : List ℕ) (rest : ℕ) → length head ≡ head_len
-    → m.coming ≡ Head → m.line ≡ [] → k.line ≡ m.line → k.count ≡ m.count → n.at ≡ m.at + head_len → Follow head rest
-    → Begins k n head rest → Comes start events m → Comes start (events ++ Fed 0 head ∷ []) n
-took_head law start m k n events head rest size heads idle line count at f begins c =
+-- bytes came, and no record is whole
+pub fed_some : EventsTell → (start m n : FrameLines) (events : List Event) (input count : ℕ) (piece : List ℕ)
+    → Suffices (next_of m) input count → n.line ≡ m.line → coming_of n.feed ≢ Finished → coming_of n.feed ≢ Whole
+    → Takes m.feed n.feed piece → Comes start events m → Comes start (events ++ Fed input piece ∷ []) n
+fed_some law start m n events input count piece wanted line going seen takes c =
     let s = c.shown in
-    let none = nothing_before m events heads s in
-    let b = before m events idle (open_is Head m.coming heads tt) s in
-    record {
+    let w = (enough m input count wanted).0 in
+    subst (λ (k : ℕ). Comes start (events ++ Fed k piece ∷ []) n) (sym w.only) (record {
       fresh = c.fresh;
-      shown = begun m k n events (events ++ Fed 0 head ∷ []) head (s.told ++ s.next) rest
-          (subst (Before m events (s.told ++ s.next)) none.0 b) (fed_adds law events head) ((law.fed 0 head events).ended 0
-          ∙ none.1) size
-          (announces_head head rest size f) idle line count (at_fed law m n events head s (omega (arith, at, size))) begins;
-    }
+      shown = same_shown m n (events ++ Fed 0 piece ∷ []) (s.told ++ s.next) (line ∙ w.idle) going seen
+          (fed_text law m events input piece s w) (fed_stands law n.feed m events piece s takes);
+    })
 
-pub refused_head : EventsTell → (start m n : FrameLines) (events : List Event) (head : List ℕ) (why : RecordWhy)
-    → length head ≡ head_len → m.coming ≡ Head → m.line ≡ [] → n.coming ≡ Refused why → n.line ≡ m.line → n.count ≡ m.count
-    → n.at ≡ m.at + head_len
-    → RefusesHead head why → Comes start events m → Comes start (events ++ Fed 0 head ∷ []) n
-refused_head law start m n events head why size heads idle comes line count at refuses c =
+-- bytes came, and the record that is whole was looked at
+pub fed_whole : EventsTell → (start m n : FrameLines) (f : RecordFeed) (events : List Event) (input count : ℕ) (piece : List ℕ)
+    → Suffices (next_of m) input count → Takes m.feed f piece
+    → ((views : List RecordView) (came : List ℕ) (ended : Bool) → RecordFeedStandsFor f views came ended → IsLookedAt views came ended n)
+    → Comes start events m → Comes start (events ++ Fed input piece ∷ []) n
+fed_whole law start m n f events input count piece wanted takes sees c =
     let s = c.shown in
-    let none = nothing_before m events heads s in
-    let b = before m events idle (open_is Head m.coming heads tt) s in
-    record {
+    let w = (enough m input count wanted).0 in
+    subst (λ (k : ℕ). Comes start (events ++ Fed k piece ∷ []) n) (sym w.only) (record {
       fresh = c.fresh;
-      shown = refused_seen m n events (events ++ Fed 0 head ∷ []) head [] (s.told ++ s.next) why
-          (subst (Before m events (s.told ++ s.next)) none.0 b) (fed_adds law events head) (line ∙ idle) comes count
-          (at_fed law m n events head s (omega (arith, at, size))) (omega (arith, size)) (λ more end. refuses more);
-    }
+      shown = looked_shown m n (events ++ Fed 0 piece ∷ []) (s.told ++ s.next) (fed_text law m events input piece s w)
+          (sees (s.told ++ s.next) (fed 0 (events ++ Fed 0 piece ∷ [])) (has_ended 0 (events ++ Fed 0 piece ∷ []))
+          (fed_stands law f m events piece s takes));
+    })
 
-pub rest_before : (m : FrameLines) (was : List Event) → m.coming ≡ Rest → (s : Shown m was) → (s.rest ≡ m.bytes.items)
-    × IsBegun s.rest m.left × (has_ended 0 was ≡ false)
-rest_before m was rests s = subst (λ (p : Coming). Behind p m.bytes.items m.left s.rest (has_ended 0 was)) rests s.behind
+-- ---- the end of the file
 
--- not the last of them
-pub took_some : EventsTell → (start m n : FrameLines) (events : List Event) (piece : List ℕ) → m.coming ≡ Rest → m.line ≡ []
-    → n.coming ≡ m.coming → n.line ≡ m.line → n.count ≡ m.count → n.at ≡ m.at + length piece → n.bytes.items ≡ m.bytes.items
-    ++ piece
-    → n.left + length piece ≡ m.left → Comes start events m → Comes start (events ++ Fed 0 piece ∷ []) n
-took_some law start m n events piece rests idle comes line count at bytes left c =
+-- by what comes then: the number of the records is given, or nothing
+ended_given : (coming : Coming) (views : List RecordView) (count : ℕ) (line text : List ℕ) → IsOver coming
+    → count ≡ length views → text ≡ record_lines 0 views → (coming ≡ Finished → line ≡ records_line count)
+    → (coming ≢ Finished → line ≡ []) → Given coming views [] line text
+ended_given Head views count line text over number is done other = absurd over
+ended_given Rest views count line text over number is done other = absurd over
+ended_given Whole views count line text over number is done other = absurd over
+ended_given (Refused why) views count line text over number is done other = (is, other (λ e. cc))
+ended_given NoRoom views count line text over number is done other = absurd over
+ended_given Finished views count line text over number is done other =
+    (refl, inl (done refl ∙ ap records_line number, is))
+
+pub ended : EventsTell → (start m n : FrameLines) (events : List Event) (input : ℕ) (bytes : List ℕ)
+    → FallsShort (next_of m) input (length bytes) → IsOver (coming_of n.feed) → coming_of n.feed ≢ Whole
+    → (coming_of n.feed ≡ Finished → n.line ≡ records_line (count_of n.feed)) → (coming_of n.feed ≢ Finished → n.line ≡ m.line)
+    → ((views : List RecordView) (came : List ℕ) (over : Bool) → RecordFeedStandsFor m.feed views came over
+    → RecordFeedStandsFor n.feed views came true)
+    → Comes start events m → Comes start (events ++ Ended input bytes ∷ []) n
+ended law start m n events input bytes wanted over seen done other stands c =
     let s = c.shown in
-    let r = rest_before m events rests s in
-    let b = before m events idle (open_is Rest m.coming rests tt) s in
-    let begun = r.1 in
-    let sum = length-append s.rest piece in
-    let lacks = begun.lacks in
-    record {
+    let w = short m input (length bytes) wanted in
+    let few = w.1 in
+    let nothing : bytes ≡ [] = nil_from_length bytes (omega (arith, few)) in
+    let now : List Event = events ++ Ended 0 bytes ∷ [] in
+    let more = law.ended 0 bytes events in
+    let views : List RecordView = s.told ++ s.next in
+    let same : fed 0 now ≡ fed 0 events = more.here ∙ ap (λ (l : List ℕ). fed 0 events ++ l) nothing
+    ∙ append-nil (fed 0 events) in
+    let feed : RecordFeedStandsFor n.feed views (fed 0 now) (has_ended 0 now) =
+    subst (λ (l : List ℕ). RecordFeedStandsFor n.feed views l (has_ended 0 now)) (sym same)
+    (subst (λ (e : Bool). RecordFeedStandsFor n.feed views (fed 0 events) e) (sym more.ended)
+    (stands views (fed 0 events) (has_ended 0 events) s.feed)) in
+    subst (λ (k : ℕ). Comes start (events ++ Ended k bytes ∷ []) n) (sym w.0.only) (record {
       fresh = c.fresh;
-      shown = same_seen m n events (events ++ Fed 0 piece ∷ []) piece s.rest (s.told ++ s.next) b (fed_adds law events piece)
-          (line ∙ idle) (open_is Rest n.coming (comes ∙ rests) tt) count (at_fed law m n events piece s at)
-          (subst (λ (p : Coming). Behind p n.bytes.items n.left (s.rest ++ piece) (has_ended 0 (events ++ Fed 0 piece ∷ [])))
-          (sym (comes ∙ rests)) (
-            ap (λ (l : List ℕ). l ++ piece) r.0 ∙ sym bytes,
-            record {
-              len = begun.len;
-              announces = announces_on s.rest piece begun.len begun.announces;
-              lacks = omega (arith, sum, lacks, left);
-            },
-            (law.fed 0 piece events).ended 0 ∙ r.2,
-          ));
-    }
-
--- the last of them
-pub took_last : EventsTell → (start m mid n : FrameLines) (events : List Event) (piece : List ℕ) → m.coming ≡ Rest → m.line ≡ []
-    → mid.line ≡ m.line → mid.count ≡ m.count → mid.bytes.items ≡ m.bytes.items ++ piece → length piece ≡ m.left
-    → n.at ≡ m.at + length piece
-    → Sees mid n → Comes start events m → Comes start (events ++ Fed 0 piece ∷ []) n
-took_last law start m mid n events piece rests idle line count bytes all at sees c =
-    let s = c.shown in
-    let r = rest_before m events rests s in
-    let b = before m events idle (open_is Rest m.coming rests tt) s in
-    let begun = r.1 in
-    let sum = length-append s.rest piece in
-    let lacks = begun.lacks in
-    record {
-      fresh = c.fresh;
-      shown = whole_seen m mid n events (events ++ Fed 0 piece ∷ []) piece s.rest (s.told ++ s.next) begun.len b
-          (fed_adds law events piece) ((law.fed 0 piece events).ended 0 ∙ r.2)
-          (announces_on s.rest piece begun.len begun.announces)
-          (omega (arith, sum, lacks, all)) (bytes ∙ ap (λ (l : List ℕ). l ++ piece) (sym r.0)) (line ∙ idle) count
-          (at_fed law m n events piece s at) sees;
-    }
+      shown = record {
+        told = views;
+        next = [];
+        feed = subst (λ (l : List RecordView). RecordFeedStandsFor n.feed l (fed 0 now) (has_ended 0 now)) (sym (append-nil views)) feed;
+        seen = seen;
+        given = ended_given (coming_of n.feed) views (count_of n.feed) n.line (gave now) over feed.number
+            (more.gave ∙ all_told m events s w.0.idle (unfinished m.feed w.0.some)) done (λ e. other e ∙ w.0.idle);
+      };
+    })

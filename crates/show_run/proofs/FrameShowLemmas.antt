@@ -7,59 +7,63 @@ use Rattle.std.proofs.lemmas.Option.{IfSome_then}
 use Rattle.terms.proofs.OptionLemmas.{if_any, if_both, append-none}
 use Rattle.ports.specs.Desk.{State, Held, bytes_of}
 use Rattle.desk_io.specs.Reading.{longest_file}
-use Rattle.desk_io.specs.declared.input.TheConstants.{BUFFER}
 use Rattle.file_run.specs.Events.{Event, fed, has_ended, gave}
 use Rattle.file_run.specs.FileRun.{IsFed}
 use Rattle.file_run.specs.Telling.{StartsWith, Tells, TellsAll}
-use Rattle.file_run.specs.declared.machine.Step.TheVariants.{Read, Give, End}
+use Rattle.file_run.specs.declared.machine.Step.TheVariants.{Give}
 use Rattle.file_run.specs.declared.stop.RunFault.TheVariants.{TooLong, ReadFault, WriteFault}
 use Rattle.site_frame.specs.Laws.{OneRecord, NoRefusal}
-use Rattle.site_frame.specs.Record.{head_len}
 use Rattle.site_frame.specs.declared.fault.RecordWhy.{RecordWhy}
 use Rattle.site_frame.specs.declared.reading.RecordView.{RecordView}
-use Rattle.show_run.specs.FrameLines.{next_from, next_of, Behind, Given, Shown, Comes, records_end}
+use Rattle.record_feed.specs.Laws.{TakesOn, LacksWithin}
+use Rattle.record_feed.specs.StandsFor.{coming_of, count_of, lacks_at, lacks_of}
+use Rattle.record_feed.specs.declared.coming.Coming.{Coming}
+use Rattle.record_feed.specs.declared.coming.Coming.TheVariants.{Head, Rest, Whole, Refused, NoRoom, Finished}
+use Rattle.show_run.specs.FrameLines.{next_of, Given, Shown, Comes, records_end}
 use Rattle.site_frame.specs.RecordFile.{AreRecords, IsNoRecord}
 use Rattle.show_run.specs.RecordText.{AreFirstRecords, SaysMetRecords, LeavesRecords, IsRecordText}
 use Rattle.show_run.specs.SaidLines.{record_lines}
 use Rattle.show_run.specs.Shows.{Shows}
 use Rattle.show_run.specs.Told.{StopsLines}
-use Rattle.show_run.specs.declared.frame_lines.Coming.{Coming}
-use Rattle.show_run.specs.declared.frame_lines.Coming.TheVariants.{Head, Rest, Refused, NoRoom, Finished}
 use Rattle.show_run.specs.declared.frame_lines.FrameLines.{FrameLines}
+use Rattle.file_run.specs.declared.stop.RunStop.{RunStop}
+use Rattle.file_run.specs.declared.stop.RunStop.TheVariants as run
 use Rattle.show_run.specs.declared.stop.ShowStop.{ShowStop}
-use Rattle.show_run.specs.declared.stop.ShowStop.TheVariants as stop
-use Rattle.show_run.proofs.FrameWantedLemmas.{short}
+use Rattle.show_run.proofs.FrameWantedLemmas.{short, needs}
 use Rattle.site_frame.proofs.RecordFileLemmas.{records_file, records_first}
 use Rattle.show_run.proofs.RecordTextLemmas.{record_lines-append}
 use Rattle.site_frame.proofs.RecordSplitLemmas.{stuck_nil, same_records, records_within}
 use Rattle.show_run.proofs.PacketMetLemmas.{closed_counted, opened_counted, starts_fed}
-use Rattle.show_run.proofs.FrameMetLemmas.{none_first, said_first, Near, near_needs, near_short, near_less, all_met}
+use Rattle.show_run.proofs.FrameMetLemmas.{none_first, said_first, behind_at, all_met}
 use Rattle.show_run.proofs.FrameMetLemmas.{part_met, all_first, ends_idle, finished_text, refused_text, room_text}
 
-abbrev shows : State → State → List ℕ → Result ℕ ShowStop → Type 0
+abbrev shows : State → State → List ℕ → Result ℕ (RunStop ShowStop) → Type 0
 shows old new name result = Shows IsRecordText old new name result
 
 -- a run to the end
 pub frames_end : (start now : FrameLines) (old new : State) (name : List ℕ) → TellsAll (Comes start) next_of old new name now
-    → shows old new name (records_end now.coming now.count)
-frames_end start now old new name t = go now.coming refl
+    → shows old new name (records_end (coming_of now.feed) (count_of now.feed))
+frames_end start now old new name t = go (coming_of now.feed) refl
   where
     x : Tells (Comes start) next_of old new name now t.place []
     x = t.tells
 
+    ends : (now.line ≡ []) × (lacks_of now.feed ≡ 0)
+    ends = ends_idle now.line (lacks_of now.feed) t.end
+
     idle : now.line ≡ []
-    idle = ends_idle now.line now.coming t.end
+    idle = ends.0
 
     text : gave x.events ≡ gave x.early
     text = x.parts ∙ append-nil (gave x.early)
 
-    at : (p : Coming) → now.coming ≡ p → next_from [] p ≡ End
-    at p is = subst (λ (p : Coming). next_from [] p ≡ End) is
-        (subst (λ (l : List ℕ). next_from l now.coming ≡ End) idle t.end)
+    lacking : (p : Coming) → coming_of now.feed ≡ p → lacks_at p now.feed.left ≡ 0
+    lacking p is = subst (λ (q : Coming). lacks_at q now.feed.left ≡ 0) is ends.1
 
-    go : (p : Coming) → now.coming ≡ p → shows old new name (records_end p now.count)
-    go Head is = absurd (let e : Read 0 head_len BUFFER ≡ End = at Head is in cc)
-    go Rest is = absurd (let e : Read 0 1 BUFFER ≡ End = at Rest is in cc)
+    go : (p : Coming) → coming_of now.feed ≡ p → shows old new name (records_end p (count_of now.feed))
+    go Head is = absurd (let e = lacking Head is in let some = (now.feed.lacks is).0 in omega (arith, e, some))
+    go Rest is = absurd (let e = lacking Rest is in let some = (now.feed.room is).0 in omega (arith, e, some))
+    go Whole is = absurd (x.came.shown.seen is)
     go (Refused why) is = record {
       given = t.place;
       text = gave x.early;
@@ -89,10 +93,10 @@ frames_end start now old new name t = go now.coming refl
     }
 
 -- what was said if not all was
-some_said : (start now : FrameLines) (old new : State) (name : List ℕ) (place count : ℕ) (unsaid : List ℕ)
-    (x : Tells (Comes start) next_of old new name now place unsaid) → (unsaid ≡ [] → (now.line ≡ []) × Near now count)
+some_said : (start now : FrameLines) (old new : State) (name : List ℕ) (place : ℕ) (unsaid : List ℕ)
+    (x : Tells (Comes start) next_of old new name now place unsaid) → (unsaid ≡ [] → (now.line ≡ []) × (0 < lacks_of now.feed))
     → IfSome old.held (λ held. AreFirstRecords (bytes_of held.files name) (gave x.early))
-some_said start now old new name place count unsaid x wants =
+some_said start now old new name place unsaid x wants =
     if_both old.held _ _ _ (λ held f first. go held f first x.going) x.inputs x.first
   where
     go : (held : Held) → IsFed (bytes_of held.files name) place (fed 0 x.events) (has_ended 0 x.events)
@@ -103,7 +107,7 @@ some_said start now old new name place count unsaid x wants =
         let r = wants none in
         subst (λ (l : List ℕ). AreFirstRecords (bytes_of held.files name) l)
         (x.parts ∙ ap (λ (l : List ℕ). gave x.early ++ l) none ∙ append-nil (gave x.early))
-        (all_first (bytes_of held.files name) now x.events count r.0 r.1 x.came.shown
+        (all_first (bytes_of held.files name) now x.events r.0 r.1 x.came.shown
         (starts_fed (bytes_of held.files name) place (fed 0 x.events) (has_ended 0 x.events) f))
     go held f first (inr going) = said_first start (bytes_of held.files name) x.early x.mid first x.met going
 
@@ -113,6 +117,7 @@ told_lines : (coming : Coming) (told next : List RecordView) (line text : List �
 told_lines Head told next line text g = inl g.0
 told_lines Rest told next line text g = inl g.0
 told_lines (Refused why) told next line text g = inl g.0
+told_lines Whole told next line text g = inl g.0
 told_lines NoRoom told next line text g = inl g.0
 told_lines Finished told next line text g = inr refl
 
@@ -128,13 +133,13 @@ left_behind told others views unsaid are is =
 
 -- a file that was gone through has no rest that is refused
 none_refused : OneRecord → NoRefusal → (file : List ℕ) (place : ℕ) (m : FrameLines) (events : List Event)
-    (views : List RecordView) (rest : List ℕ) (why : RecordWhy) → m.coming ≡ Finished
+    (views : List RecordView) (rest : List ℕ) (why : RecordWhy) → coming_of m.feed ≡ Finished
     → IsFed file place (fed 0 events) (has_ended 0 events)
     → Shown m events → AreRecords file views rest → ¬ (IsNoRecord rest why)
 none_refused one never file place m events views rest why done f s records refused =
-    let behind = subst (λ (p : Coming). Behind p m.bytes.items m.left s.rest (has_ended 0 events)) done s.behind in
-    let all = records_file file (fed 0 events) f.more s.rest (s.told ++ s.next) f.parts s.records in
-    let nothing : s.rest ++ f.more ≡ [] = ap (λ (l : List ℕ). l ++ f.more) behind.0 ∙ f.end behind.1 in
+    let behind = behind_at m events Finished done s in
+    let all = records_file file (fed 0 events) f.more s.feed.rest (s.told ++ s.next) f.parts s.feed.records in
+    let nothing : s.feed.rest ++ f.more ≡ [] = ap (λ (l : List ℕ). l ++ f.more) behind.0 ∙ f.end behind.1 in
     refused.0
     ((same_records one never file rest [] views (s.told ++ s.next) records
     (subst (λ (l : List ℕ). AreRecords file (s.told ++ s.next) l) nothing all) (why, refused.1) stuck_nil).1)
@@ -145,9 +150,9 @@ not_refused : OneRecord → NoRefusal → (file : List ℕ) (place : ℕ) (m : F
     → Shown m events → AreRecords file views rest → gave events ≡ record_lines 0 views ++ unsaid → unsaid ≢ []
     → ¬ (IsNoRecord rest why)
 not_refused one never file place m events views rest unsaid why f s records parts some refused =
-    elim (told_lines m.coming s.told s.next m.line (gave events) s.given) [
+    elim (told_lines (coming_of m.feed) s.told s.next m.line (gave events) s.given) [
       | inl told ↦
-          let first = records_first (fed 0 events) s.rest s.told s.next s.records in
+          let first = records_first (fed 0 events) s.feed.rest s.told s.next s.feed.records in
           let within = records_within one never file rest (first.0 ++ f.more) views s.told records
           (records_file file (fed 0 events) f.more first.0 s.told f.parts first.1) (why, refused.1) in
           some (left_behind s.told within.0 views unsaid within.1 (sym told ∙ parts))
@@ -165,10 +170,10 @@ some_left one never start now old new name place unsaid x some =
       first.2,
       (λ why. not_refused one never (bytes_of held.files name) place now x.events first.0 first.1 unsaid why f x.came.shown
           first.2.0 (x.parts ∙ ap (λ (l : List ℕ). l ++ unsaid) first.2.1) some),
-    )) x.inputs (some_said start now old new name place 0 unsaid x (λ all. absurd (some all)))
+    )) x.inputs (some_said start now old new name place unsaid x (λ all. absurd (some all)))
 
 -- nothing was done
-frames_none : (old new : State) (name : List ℕ) → new ≡ old → shows old new name (Err stop.OutOfMemory)
+frames_none : (old new : State) (name : List ℕ) → new ≡ old → shows old new name (Err run.OutOfMemory)
 frames_none old new name s = record {
   given = 0;
   text = [];
@@ -178,14 +183,15 @@ frames_none old new name s = record {
   counts = ap (λ (x : State). x.counts) s;
 }
 
-pub frames_stop : OneRecord → NoRefusal → (start now : FrameLines) (old new : State) (name : List ℕ) (why : ShowStop)
-    → (now.coming ≡ Rest → 0 < now.left) → StopsLines (Comes start) next_of old new name now why → shows old new name (Err why)
-frames_stop one never start now old new name (stop.PacketRefused at why) some s = absurd s
-frames_stop one never start now old new name (stop.RecordRefused number why) some s = absurd s
-frames_stop one never start now old new name (stop.Files (TooLong input)) some s =
+pub frames_stop : OneRecord → NoRefusal → TakesOn → LacksWithin → (start now : FrameLines) (old new : State) (name : List ℕ)
+    (why : RunStop ShowStop) → StopsLines (Comes start) next_of old new name now why → shows old new name (Err why)
+frames_stop one never takes within start now old new name (run.Refused why) s = absurd s
+frames_stop one never takes within start now old new name (run.Files (TooLong input)) s =
     let t = s.1 in
     let x = t.tells in
-    let r = near_needs now _ some t.wants in
+    let r = needs now _ _ t.wants in
+    let lacks = r.0.some in
+    let few = r.1 in
     record {
       given = longest_file;
       text = gave x.early;
@@ -196,12 +202,13 @@ frames_stop one never start now old new name (stop.Files (TooLong input)) some s
           let count : ℕ = longest_file - length (fed 0 x.events) in (
             (let w = f.within in w),
             subst (λ (l : List ℕ). SaysMetRecords (bytes_of held.files name) longest_file l) (x.parts ∙ append-nil (gave x.early))
-                (all_met (bytes_of held.files name) now x.events longest_file count r.0 r.1 x.came.shown (starts_fed _ _ _ _ f)
+                (all_met takes within (bytes_of held.files name) now x.events longest_file count r.0.idle r.0.some
+                (omega (arith, lacks, few)) x.came.shown (starts_fed _ _ _ _ f)
                 (omega (arith, ahead))),
           ));
       counts = t.counts;
     }
-frames_stop one never start now old new name (stop.Files (ReadFault input)) some s = elim s.1 [
+frames_stop one never takes within start now old new name (run.Files (ReadFault input)) s = elim s.1 [
   | inl closed ↦ record {
     given = 0;
     text = [];
@@ -218,22 +225,25 @@ frames_stop one never start now old new name (stop.Files (ReadFault input)) some
       let t = more.1 in
       let x = t.tells in
       let r = short now 0 _ t.wants in
+      let lacks = r.0.some in
+      let few = r.1 in
       record {
         given = t.place;
         text = gave x.early;
         reads = (s.0, inr (x.opened, t.short));
         grew = x.said;
         lines = if_both old.held _ _ _ (λ held f first. (
-          part_met (bytes_of held.files name) now x.events t.place (t.place - length (fed 0 x.events)) (gave x.early) t.unsaid r.0
-              (near_short now _ some r.2) x.came.shown (starts_fed _ _ _ _ f) (let ahead = f.ahead in omega (arith, ahead)) x.parts
+          part_met takes within (bytes_of held.files name) now x.events t.place (t.place - length (fed 0 x.events)) (gave x.early)
+              t.unsaid r.0.idle r.0.some (omega (arith, lacks, few)) x.came.shown (starts_fed _ _ _ _ f)
+              (let ahead = f.ahead in omega (arith, ahead)) x.parts
               x.waits.few,
           first,
         )) x.inputs
-            (some_said start now old new name t.place _ t.unsaid x (λ none. (r.0, near_less now _ (near_short now _ some r.2))));
+            (some_said start now old new name t.place t.unsaid x (λ none. (r.0.idle, r.0.some)));
         counts = opened_counted old new name t.place x.opened more.0;
       }
 ]
-frames_stop one never start now old new name (stop.Files WriteFault) some s =
+frames_stop one never takes within start now old new name (run.Files WriteFault) s =
     let x = s.1.2 in
     record {
       given = s.1.0;
@@ -243,5 +253,4 @@ frames_stop one never start now old new name (stop.Files WriteFault) some s =
       lines = some_left one never start now old new name s.1.0 s.1.1 x s.1.3;
       counts = s.0;
     }
-frames_stop one never start now old new name stop.OutOfMemory some s = frames_none old new name s
-frames_stop one never start now old new name stop.NoRoom some s = absurd s
+frames_stop one never takes within start now old new name run.OutOfMemory s = frames_none old new name s

@@ -1,5 +1,4 @@
 pub mod EndLemmas
-pub mod FrameEndLemmas
 pub mod FrameGivenLemmas
 pub mod FrameLinesLemmas
 pub mod FrameMetLemmas

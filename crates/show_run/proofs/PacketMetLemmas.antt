@@ -21,6 +21,7 @@ use Rattle.show_run.specs.SaidLines.{lines_of, count_line}
 use Rattle.show_run.specs.declared.packet_lines.PacketLines.{PacketLines}
 use Rattle.show_run.specs.declared.packet_lines.Phase.{Phase}
 use Rattle.show_run.specs.declared.packet_lines.Phase.TheVariants.{Reads, Refused, Finished}
+use Rattle.file_run.specs.declared.stop.RunStop.TheVariants as run
 use Rattle.show_run.specs.declared.stop.ShowStop.TheVariants.{PacketRefused}
 use Rattle.show_run.proofs.PacketFileLemmas.{packs_first, file_len}
 use Rattle.show_run.proofs.PacketFrontLemmas.{refused_whole}
@@ -204,7 +205,7 @@ refused_on front more why ended (inr whole) end r = refused_whole front more why
 pub refused_text : (file : List ℕ) (place : ℕ) (m : PacketLines) (events : List Event) (early : List ℕ)
     (why : PacketWhy) → m.line ≡ [] → m.phase ≡ Refused why → (s : Shown m events)
     → IsFed file place (fed 0 events) (has_ended 0 events)
-    → gave events ≡ early → IsPacketText file place (Err (PacketRefused (m.at - length m.bytes.items) why)) early
+    → gave events ≡ early → IsPacketText file place (Err (run.Refused (PacketRefused (m.at - length m.bytes.items) why))) early
 refused_text file place m events early why none refused s f text =
     let behind = subst (λ (p : Phase). Behind p m.bytes.items s.rest (has_ended 0 events)) refused s.behind in
     let size = file_len (fed 0 events) s.rest (s.told ++ s.next) s.packs in

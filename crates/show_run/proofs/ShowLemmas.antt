@@ -24,15 +24,16 @@ use Rattle.show_run.specs.Told.{StopsLines}
 use Rattle.show_run.specs.declared.packet_lines.PacketLines.{PacketLines}
 use Rattle.show_run.specs.declared.packet_lines.Phase.{Phase}
 use Rattle.show_run.specs.declared.packet_lines.Phase.TheVariants.{Reads, Refused, Finished}
+use Rattle.file_run.specs.declared.stop.RunStop.{RunStop}
+use Rattle.file_run.specs.declared.stop.RunStop.TheVariants as run
 use Rattle.show_run.specs.declared.stop.ShowStop.{ShowStop}
-use Rattle.show_run.specs.declared.stop.ShowStop.TheVariants.{PacketRefused, RecordRefused, Files, OutOfMemory, NoRoom}
 use Rattle.show_run.proofs.EndLemmas.{packs_within, same_packets}
 use Rattle.show_run.proofs.PacketFileLemmas.{packs_first, lines_of-append}
 use Rattle.show_run.proofs.PacketMetLemmas.{packs_file, none_first, said_first, closed_counted, opened_counted, needs_reads}
 use Rattle.show_run.proofs.PacketMetLemmas.{short_reads, starts_fed, all_met, some_met, none_met, all_first, ends_idle}
 use Rattle.show_run.proofs.PacketMetLemmas.{finished_text, refused_text}
 
-abbrev shows : State → State → List ℕ → Result ℕ ShowStop → Type 0
+abbrev shows : State → State → List ℕ → Result ℕ (RunStop ShowStop) → Type 0
 shows old new name result = Shows IsPacketText old new name result
 
 -- a run to the end
@@ -151,9 +152,9 @@ some_left one none sizes start now old new name place unsaid x some =
     )) x.inputs (some_said start now old new name place unsaid x (λ all. absurd (some all)))
 
 -- nothing was done
-pub shows_none : (IsText : List ℕ → ℕ → Result ℕ ShowStop → List ℕ → Type 0)
-    → ((file : List ℕ) → IsText file 0 (Err OutOfMemory) []) → (old new : State) (name : List ℕ) → new ≡ old
-    → Shows IsText old new name (Err OutOfMemory)
+pub shows_none : (IsText : List ℕ → ℕ → Result ℕ (RunStop ShowStop) → List ℕ → Type 0)
+    → ((file : List ℕ) → IsText file 0 (Err run.OutOfMemory) []) → (old new : State) (name : List ℕ) → new ≡ old
+    → Shows IsText old new name (Err run.OutOfMemory)
 shows_none IsText nothing old new name s = record {
   given = 0;
   text = [];
@@ -164,10 +165,9 @@ shows_none IsText nothing old new name s = record {
 }
 
 pub shows_stop : OnePacket → NoRefusal → PacketLength → (start now : PacketLines) (old new : State) (name : List ℕ)
-    (why : ShowStop) → StopsLines (Comes start) next_of old new name now why → shows old new name (Err why)
-shows_stop one none sizes start now old new name (PacketRefused at why) s = absurd s
-shows_stop one none sizes start now old new name (RecordRefused number why) s = absurd s
-shows_stop one none sizes start now old new name (Files (TooLong input)) s =
+    (why : RunStop ShowStop) → StopsLines (Comes start) next_of old new name now why → shows old new name (Err why)
+shows_stop one none sizes start now old new name (run.Refused why) s = absurd s
+shows_stop one none sizes start now old new name (run.Files (TooLong input)) s =
     let t = s.1 in
     let x = t.tells in
     let r = needs_reads now.line now.phase _ t.wants in
@@ -184,7 +184,7 @@ shows_stop one none sizes start now old new name (Files (TooLong input)) s =
       ));
       counts = t.counts;
     }
-shows_stop one none sizes start now old new name (Files (ReadFault input)) s = elim s.1 [
+shows_stop one none sizes start now old new name (run.Files (ReadFault input)) s = elim s.1 [
   | inl closed ↦ record {
     given = 0;
     text = [];
@@ -211,7 +211,7 @@ shows_stop one none sizes start now old new name (Files (ReadFault input)) s = e
         counts = opened_counted old new name t.place x.opened some.0;
       }
 ]
-shows_stop one none sizes start now old new name (Files WriteFault) s =
+shows_stop one none sizes start now old new name (run.Files WriteFault) s =
     let x = s.1.2 in
     record {
       given = s.1.0;
@@ -221,5 +221,4 @@ shows_stop one none sizes start now old new name (Files WriteFault) s =
       lines = some_left one none sizes start now old new name s.1.0 s.1.1 x s.1.3;
       counts = s.0;
     }
-shows_stop one none sizes start now old new name OutOfMemory s = shows_none IsPacketText (λ file. refl) old new name s
-shows_stop one none sizes start now old new name NoRoom s = absurd s
+shows_stop one none sizes start now old new name run.OutOfMemory s = shows_none IsPacketText (λ file. refl) old new name s

@@ -28,8 +28,9 @@ use Rattle.show_run.specs.Shows.{Shows}
 use Rattle.show_run.specs.T2miLines.{next_in, next_of, packets_from, Unpiping, Found, Shown, Comes}
 use Rattle.show_run.specs.T2miText.{place_line, place_lines, AreFirstLines, LeavesLines, IsT2miText}
 use Rattle.show_run.specs.Told.{StopsLines}
+use Rattle.file_run.specs.declared.stop.RunStop.{RunStop}
+use Rattle.file_run.specs.declared.stop.RunStop.TheVariants as run
 use Rattle.show_run.specs.declared.stop.ShowStop.{ShowStop}
-use Rattle.show_run.specs.declared.stop.ShowStop.TheVariants.{PacketRefused, RecordRefused, Files, OutOfMemory, NoRoom}
 use Rattle.show_run.specs.declared.t2mi_lines.T2miLines.{T2miLines}
 use Rattle.show_run.specs.declared.t2mi_lines.Search.{Search}
 use Rattle.show_run.specs.declared.t2mi_lines.Search.TheVariants.{Seeks, Unpipes, Finished}
@@ -112,7 +113,7 @@ at_end Unpipes false left line e = absurd (go (nat_lt 0 left) e)
 at_end Finished ready left [] e = (refl, refl)
 at_end Finished ready left (c ∷ line) e = absurd (let f : Give ≡ End = e in cc)
 
-abbrev shows : State → State → List ℕ → Result ℕ ShowStop → Type 0
+abbrev shows : State → State → List ℕ → Result ℕ (RunStop ShowStop) → Type 0
 shows old new name result = Shows IsT2miText old new name result
 
 all_text : (file : List ℕ) (place : ℕ) (m : T2miLines) (events : List Event) (early : List ℕ) → m.search ≡ Finished → m.line ≡ []
@@ -220,10 +221,9 @@ no_text law =
     ap place_lines (law [] [] (record { units = 0; whole = refl; none = λ number lt. absurd (omega (arith, lt)) }) (omega arith))
 
 pub t2mi_stop : NoPackets → AcceptedFront → PacketsBehind → (start now : T2miLines) (old new : State) (name : List ℕ)
-    (why : ShowStop) → GivesAll start now → StopsLines (Comes start) next_of old new name now why → shows old new name (Err why)
-t2mi_stop nothing front behind start now old new name (PacketRefused at why) all s = absurd s
-t2mi_stop nothing front behind start now old new name (RecordRefused number why) all s = absurd s
-t2mi_stop nothing front behind start now old new name (Files (TooLong input)) all s =
+    (why : RunStop ShowStop) → GivesAll start now → StopsLines (Comes start) next_of old new name now why → shows old new name (Err why)
+t2mi_stop nothing front behind start now old new name (run.Refused why) all s = absurd s
+t2mi_stop nothing front behind start now old new name (run.Files (TooLong input)) all s =
     let t = s.1 in
     let x = t.tells in
     record {
@@ -248,7 +248,7 @@ t2mi_stop nothing front behind start now old new name (Files (TooLong input)) al
           (λ none. needs_waits now.search (is_ready now.unpiper) (SIZE - now.from) now.line _ t.wants));
       counts = t.counts;
     }
-t2mi_stop nothing front behind start now old new name (Files (ReadFault input)) all s = elim s.1 [
+t2mi_stop nothing front behind start now old new name (run.Files (ReadFault input)) all s = elim s.1 [
   | inl none ↦ record {
     given = 0;
     text = [];
@@ -292,7 +292,7 @@ t2mi_stop nothing front behind start now old new name (Files (ReadFault input)) 
         counts = opened_counted old new name t.place x.opened some.0;
       }
 ]
-t2mi_stop nothing front behind start now old new name (Files WriteFault) all s =
+t2mi_stop nothing front behind start now old new name (run.Files WriteFault) all s =
     let x = s.1.2 in
     record {
       given = s.1.0;
@@ -305,5 +305,4 @@ t2mi_stop nothing front behind start now old new name (Files WriteFault) all s =
       )) x.inputs (some_said front behind start now old new name s.1.0 s.1.1 x (λ none. absurd (s.1.3 none)));
       counts = s.0;
     }
-t2mi_stop nothing front behind start now old new name OutOfMemory all s = shows_none IsT2miText (λ file. refl) old new name s
-t2mi_stop nothing front behind start now old new name NoRoom all s = absurd s
+t2mi_stop nothing front behind start now old new name run.OutOfMemory all s = shows_none IsT2miText (λ file. refl) old new name s

@@ -1,36 +1,31 @@
 -- How far the lines of records have come. No public clause cites this module.
-use Rattle.std.specs.Prelude.{◌≡◌, ◌≢◌, ◌⊎◌, ℕ, ◌+◌, nat_lt, Bool, true, false, if◌then◌else◌, List, [], ◌∷◌, ◌++◌, length}
+use Rattle.std.specs.Prelude.{◌≡◌, ◌≢◌, ◌⊎◌, ℕ, zero, suc, nat_lt, Bool, false, if◌then◌else◌, List, [], ◌∷◌, ◌++◌, length}
 use Rattle.std.specs.Prelude.{Result, Ok, Err}
 use Rattle.desk_io.specs.declared.input.TheConstants.{BUFFER}
 use Rattle.file_run.specs.Events.{Event, fed, has_ended, gave}
 use Rattle.file_run.specs.declared.machine.Step.{Step}
 use Rattle.file_run.specs.declared.machine.Step.TheVariants.{Read, Give, End}
-use Rattle.site_frame.specs.Record.{head_len}
-use Rattle.site_frame.specs.Whole.{BeginsWith, Refuses}
+use Rattle.site_frame.specs.Whole.{BeginsWith}
 use Rattle.site_frame.specs.declared.fault.RecordWhy.{RecordWhy}
 use Rattle.site_frame.specs.declared.reading.RecordView.{RecordView}
-use Rattle.site_frame.specs.RecordFile.{AreRecords, Announces, IsBegun}
+use Rattle.record_feed.specs.StandsFor.{RecordFeedStandsFor, coming_of, lacks_of}
+use Rattle.record_feed.specs.declared.coming.Coming.{Coming}
+use Rattle.record_feed.specs.declared.coming.Coming.TheVariants.{Head, Whole, Refused, NoRoom, Finished}
 use Rattle.show_run.specs.SaidLines.{record_line, record_lines, records_line}
-use Rattle.show_run.specs.declared.frame_lines.Coming.{Coming}
-use Rattle.show_run.specs.declared.frame_lines.Coming.TheVariants.{Head, Rest, Refused, NoRoom, Finished}
 use Rattle.show_run.specs.declared.frame_lines.FrameLines.{FrameLines}
+use Rattle.file_run.specs.declared.stop.RunStop.{RunStop}
+use Rattle.file_run.specs.declared.stop.RunStop.TheVariants as run
 use Rattle.show_run.specs.declared.stop.ShowStop.{ShowStop}
 use Rattle.show_run.specs.declared.stop.ShowStop.TheVariants as stop
 
--- what is done next if no line waits
-abbrev pub step_of : Coming → Step
-step_of Head = Read 0 head_len BUFFER
-step_of Rest = Read 0 1 BUFFER
-step_of (Refused why) = End
-step_of NoRoom = End
-step_of Finished = End
-
-abbrev pub next_from : List ℕ → Coming → Step
-next_from [] coming = step_of coming
-next_from (c ∷ line) coming = Give
+-- what is done next, by the line that waits and how many bytes a record lacks
+abbrev pub next_from : List ℕ → ℕ → Step
+next_from [] zero = End
+next_from [] (suc lacks) = Read 0 1 BUFFER
+next_from (c ∷ line) lacks = Give
 
 abbrev pub next_of : FrameLines → Step
-next_of m = next_from m.line m.coming
+next_of m = next_from m.line (lacks_of m.feed)
 
 -- how often it gives before it wants bytes
 abbrev pub left_of : FrameLines → ℕ
@@ -43,54 +38,21 @@ pub record IsLineOf (bytes : List ℕ) (number : ℕ) (line : List ℕ) : Type 0
   pub begins : BeginsWith bytes view len
   pub text : line ≡ record_line number view
 
--- The record that has come whole was seen, and the next one comes; or it is none.
-pub record IsSeen (old new : FrameLines) : Type 0 where
-  pub line : IsLineOf old.bytes.items old.count new.line
-  pub coming : new.coming ≡ Head
-  pub count : new.count ≡ old.count + 1
+-- The record that has come whole behind these records was seen, its line waits, and the next one comes; or it is none.
+pub record IsSeen (views : List RecordView) (came : List ℕ) (ended : Bool) (m : FrameLines) : Type 0 where
+  pub view : RecordView
+  pub stands : RecordFeedStandsFor m.feed (views ++ view ∷ []) came ended
+  pub coming : coming_of m.feed ≡ Head
+  pub line : m.line ≡ record_line (length views) view
 
-pub record IsRefused (old new : FrameLines) (why : RecordWhy) : Type 0 where
-  pub refuses : Refuses old.bytes.items why
-  pub coming : new.coming ≡ Refused why
-  pub line : new.line ≡ old.line
-  pub count : new.count ≡ old.count
+pub record IsRefused (views : List RecordView) (came : List ℕ) (ended : Bool) (m : FrameLines) : Type 0 where
+  pub why : RecordWhy
+  pub stands : RecordFeedStandsFor m.feed views came ended
+  pub coming : coming_of m.feed ≡ Refused why
+  pub line : m.line ≡ []
 
-abbrev pub Sees : FrameLines → FrameLines → Type 0
-Sees old new = IsSeen old new ⊎ ((why : RecordWhy) × IsRefused old new why)
-
--- Behind a head: there is no memory for its record; or the head is all of it, and it was looked at; or its rest comes.
-pub record LacksRoom (old new : FrameLines) : Type 0 where
-  pub coming : new.coming ≡ NoRoom
-  pub line : new.line ≡ old.line
-  pub count : new.count ≡ old.count
-
-pub record SeesHead (old new : FrameLines) (head : List ℕ) (rest : ℕ) : Type 0 where
-  pub none : rest ≡ 0
-  pub mid : FrameLines
-  pub bytes : mid.bytes.items ≡ head
-  pub line : mid.line ≡ old.line
-  pub count : mid.count ≡ old.count
-  pub sees : Sees mid new
-
-pub record HasBegun (old new : FrameLines) (head : List ℕ) (rest : ℕ) : Type 0 where
-  pub coming : new.coming ≡ Rest
-  pub bytes : new.bytes.items ≡ head
-  pub left : new.left ≡ rest
-  pub line : new.line ≡ old.line
-  pub count : new.count ≡ old.count
-
-abbrev pub Begins : FrameLines → FrameLines → List ℕ → ℕ → Type 0
-Begins old new head rest = LacksRoom old new ⊎ (SeesHead old new head rest ⊎ HasBegun old new head rest)
-
--- behind the records that were seen: nothing, the part of a record that came, what is refused whatever follows, a head, or the
--- end
-abbrev pub Behind : Coming → List ℕ → ℕ → List ℕ → Bool → Type 0
-Behind Head bytes left rest ended = (rest ≡ []) × (ended ≡ false)
-Behind Rest bytes left rest ended = (rest ≡ bytes) × IsBegun rest left × (ended ≡ false)
-Behind (Refused why) bytes left rest ended =
-    (rest ≢ []) × ((more : List ℕ) → (ended ≡ true → more ≡ []) → Refuses (rest ++ more) why)
-Behind NoRoom bytes left rest ended = (len : ℕ) × Announces rest len
-Behind Finished bytes left rest ended = (rest ≡ []) × (ended ≡ true)
+abbrev pub IsLookedAt : List RecordView → List ℕ → Bool → FrameLines → Type 0
+IsLookedAt views came ended m = IsSeen views came ended m ⊎ IsRefused views came ended m
 
 -- the lines that were given of records: all but those of which the line waits, and last their number
 abbrev pub Given : Coming → List RecordView → List RecordView → List ℕ → List ℕ → Type 0
@@ -103,18 +65,14 @@ Given coming told next line text = (text ≡ record_lines 0 told) × (line ≡ r
 pub record Shown (m : FrameLines) (events : List Event) : Type 0 where
   pub told : List RecordView
   pub next : List RecordView
-  pub rest : List ℕ
-  pub records : AreRecords (fed 0 events) (told ++ next) rest
-  pub place : m.at ≡ length (fed 0 events)
-  pub number : m.count ≡ length (told ++ next)
-  pub behind : Behind m.coming m.bytes.items m.left rest (has_ended 0 events)
-  pub given : Given m.coming told next m.line (gave events)
+  pub feed : RecordFeedStandsFor m.feed (told ++ next) (fed 0 events) (has_ended 0 events)
+  pub seen : coming_of m.feed ≢ Whole
+  pub given : Given (coming_of m.feed) told next m.line (gave events)
 
 -- nothing was done yet
 pub record IsNew (m : FrameLines) : Type 0 where
-  pub at : m.at ≡ 0
-  pub count : m.count ≡ 0
-  pub coming : m.coming ≡ Head
+  pub feed : RecordFeedStandsFor m.feed [] [] false
+  pub coming : coming_of m.feed ≡ Head
   pub line : m.line ≡ []
 
 -- The first is new, and to it this was done.
@@ -123,7 +81,7 @@ pub record Comes (start : FrameLines) (events : List Event) (m : FrameLines) : T
   pub shown : Shown m events
 
 -- how the records of a file ended
-abbrev pub records_end : Coming → ℕ → Result ℕ ShowStop
-records_end (Refused why) count = Err (stop.RecordRefused count why)
-records_end NoRoom count = Err stop.NoRoom
+abbrev pub records_end : Coming → ℕ → Result ℕ (RunStop ShowStop)
+records_end (Refused why) count = Err (run.Refused (stop.RecordRefused count why))
+records_end NoRoom count = Err (run.Refused stop.NoRoom)
 records_end coming count = Ok count

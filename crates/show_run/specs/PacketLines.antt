@@ -10,6 +10,8 @@ use Rattle.file_run.specs.declared.machine.Step.TheVariants.{Read, Give, End}
 use Rattle.show_run.specs.Front.{IsFront, RefusesFront}
 use Rattle.show_run.specs.PacketFile.{Packs, bytes_in, IsRefused}
 use Rattle.show_run.specs.SaidLines.{lines_of, count_line}
+use Rattle.file_run.specs.declared.stop.RunStop.{RunStop}
+use Rattle.file_run.specs.declared.stop.RunStop.TheVariants as run
 use Rattle.show_run.specs.declared.stop.ShowStop.{ShowStop}
 use Rattle.show_run.specs.declared.stop.ShowStop.TheVariants.{PacketRefused}
 use Rattle.show_run.specs.declared.packet_lines.PacketLines.{PacketLines}
@@ -95,6 +97,6 @@ pub record Comes (start : PacketLines) (events : List Event) (m : PacketLines) :
   pub shown : Shown m events
 
 -- how the packets of a file ended
-abbrev pub packets_end : Phase → ℕ → ℕ → Result ℕ ShowStop
-packets_end (Refused why) at count = Err (PacketRefused at why)
+abbrev pub packets_end : Phase → ℕ → ℕ → Result ℕ (RunStop ShowStop)
+packets_end (Refused why) at count = Err (run.Refused (PacketRefused at why))
 packets_end phase at count = Ok count

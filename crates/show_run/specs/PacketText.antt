@@ -7,8 +7,10 @@ use Rattle.t2mi_packet.specs.declared.fault.PacketWhy.{PacketWhy}
 use Rattle.t2mi_packet.specs.T2miPacket.{IsShort}
 use Rattle.show_run.specs.PacketFile.{Packs, bytes_in, IsRefused}
 use Rattle.show_run.specs.SaidLines.{lines_of, count_line}
+use Rattle.file_run.specs.declared.stop.RunStop.{RunStop}
+use Rattle.file_run.specs.declared.stop.RunStop.TheVariants as run
 use Rattle.show_run.specs.declared.stop.ShowStop.{ShowStop}
-use Rattle.show_run.specs.declared.stop.ShowStop.TheVariants.{PacketRefused, RecordRefused, Files, OutOfMemory, NoRoom}
+use Rattle.show_run.specs.declared.stop.ShowStop.TheVariants.{PacketRefused, RecordRefused, NoRoom}
 
 -- The text is the lines of some packets with which the file begins.
 abbrev pub AreFirst : List ℕ → List ℕ → Type 0
@@ -43,16 +45,16 @@ LeavesSome file text = (packets : List (List ℕ)) × (rest : List ℕ) × Packs
 
 -- The text by outcome: the lines of all packets and their number; the lines of those before what is no packet; or those of the
 -- first.
-abbrev pub IsPacketText : List ℕ → ℕ → Result ℕ ShowStop → List ℕ → Type 0
+abbrev pub IsPacketText : List ℕ → ℕ → Result ℕ (RunStop ShowStop) → List ℕ → Type 0
 IsPacketText file given (Ok count) text =
     (packets : List (List ℕ)) × Packs file packets [] × (count ≡ length packets) × (text ≡ lines_of 0 packets ++ count_line count)
     × (given ≡ length file)
-IsPacketText file given (Err (PacketRefused at why)) text =
+IsPacketText file given (Err (run.Refused (PacketRefused at why))) text =
     (packets : List (List ℕ)) × (rest : List ℕ) × Packs file packets rest × IsRefused rest why × (at ≡ bytes_in packets)
     × (text ≡ lines_of 0 packets)
-IsPacketText file given (Err (RecordRefused number why)) text = ⊥
-IsPacketText file given (Err (Files (TooLong input))) text = (longest_file ≤ length file) × SaysMet file given text
-IsPacketText file given (Err (Files (ReadFault input))) text = LacksFew file given text × AreFirst file text
-IsPacketText file given (Err (Files WriteFault)) text = LeavesSome file text
-IsPacketText file given (Err OutOfMemory) text = text ≡ []
-IsPacketText file given (Err NoRoom) text = ⊥
+IsPacketText file given (Err (run.Refused (RecordRefused number why))) text = ⊥
+IsPacketText file given (Err (run.Files (TooLong input))) text = (longest_file ≤ length file) × SaysMet file given text
+IsPacketText file given (Err (run.Files (ReadFault input))) text = LacksFew file given text × AreFirst file text
+IsPacketText file given (Err (run.Files WriteFault)) text = LeavesSome file text
+IsPacketText file given (Err run.OutOfMemory) text = text ≡ []
+IsPacketText file given (Err (run.Refused NoRoom)) text = ⊥

@@ -7,8 +7,10 @@ use Rattle.site_frame.specs.declared.fault.RecordWhy.{RecordWhy}
 use Rattle.site_frame.specs.declared.reading.RecordView.{RecordView}
 use Rattle.site_frame.specs.RecordFile.{AreRecords, IsNoRecord, Announces, EndsWithin, bytes_before}
 use Rattle.show_run.specs.SaidLines.{record_lines, records_line}
+use Rattle.file_run.specs.declared.stop.RunStop.{RunStop}
+use Rattle.file_run.specs.declared.stop.RunStop.TheVariants as run
 use Rattle.show_run.specs.declared.stop.ShowStop.{ShowStop}
-use Rattle.show_run.specs.declared.stop.ShowStop.TheVariants.{PacketRefused, RecordRefused, Files, OutOfMemory, NoRoom}
+use Rattle.show_run.specs.declared.stop.ShowStop.TheVariants.{PacketRefused, RecordRefused, NoRoom}
 
 -- The text is the lines of some records with which the file begins, and then comes a rest.
 abbrev pub SaysFirst : List ℕ → List RecordView → List ℕ → List ℕ → Type 0
@@ -39,17 +41,17 @@ LeavesRecords file text = (views : List RecordView) × (rest : List ℕ) × Says
 
 -- The text by outcome: the lines of all records and their number; the lines of those before what is no record, or before one for
 -- which there was no memory; or those of the first.
-abbrev pub IsRecordText : List ℕ → ℕ → Result ℕ ShowStop → List ℕ → Type 0
+abbrev pub IsRecordText : List ℕ → ℕ → Result ℕ (RunStop ShowStop) → List ℕ → Type 0
 IsRecordText file given (Ok count) text =
     (views : List RecordView) × AreRecords file views [] × (count ≡ length views)
     × (text ≡ record_lines 0 views ++ records_line count) × (given ≡ length file)
-IsRecordText file given (Err (PacketRefused at why)) text = ⊥
-IsRecordText file given (Err (RecordRefused number why)) text =
+IsRecordText file given (Err (run.Refused (PacketRefused at why))) text = ⊥
+IsRecordText file given (Err (run.Refused (RecordRefused number why))) text =
     (views : List RecordView) × (rest : List ℕ) × SaysFirst file views rest text × IsNoRecord rest why × (number ≡ length views)
-IsRecordText file given (Err (Files (TooLong input))) text = (longest_file ≤ length file) × SaysMetRecords file given text
-IsRecordText file given (Err (Files (ReadFault input))) text = LacksFewRecords file given text
+IsRecordText file given (Err (run.Files (TooLong input))) text = (longest_file ≤ length file) × SaysMetRecords file given text
+IsRecordText file given (Err (run.Files (ReadFault input))) text = LacksFewRecords file given text
     × AreFirstRecords file text
-IsRecordText file given (Err (Files WriteFault)) text = LeavesRecords file text
-IsRecordText file given (Err OutOfMemory) text = text ≡ []
-IsRecordText file given (Err NoRoom) text = (views : List RecordView) × (rest : List ℕ) × SaysFirst file views rest text
+IsRecordText file given (Err (run.Files WriteFault)) text = LeavesRecords file text
+IsRecordText file given (Err run.OutOfMemory) text = text ≡ []
+IsRecordText file given (Err (run.Refused NoRoom)) text = (views : List RecordView) × (rest : List ℕ) × SaysFirst file views rest text
     × ((len : ℕ) × Announces rest len)

@@ -6,33 +6,32 @@ use Rattle.desk_io.specs.Reading.{longest_file}
 use Rattle.desk_io.specs.Opening.{Opened, Unopened}
 use Rattle.file_run.specs.Telling.{ReadsFailAtLeast}
 use Rattle.file_run.specs.declared.stop.RunFault.TheVariants.{TooLong, ReadFault, WriteFault}
+use Rattle.file_run.specs.declared.stop.RunStop.{RunStop}
+use Rattle.file_run.specs.declared.stop.RunStop.TheVariants as run
 use Rattle.show_run.specs.declared.stop.ShowStop.{ShowStop}
-use Rattle.show_run.specs.declared.stop.ShowStop.TheVariants.{PacketRefused, RecordRefused, Files, OutOfMemory, NoRoom}
 
 -- What was opened and read, by outcome. The file is input 0, the only one. Memory runs out before, if it does; that for a record
 -- runs out behind its head.
-abbrev pub ReadsFile : State → State → List ℕ → ℕ → Result ℕ ShowStop → Type 0
+abbrev pub ReadsFile : State → State → List ℕ → ℕ → Result ℕ (RunStop ShowStop) → Type 0
 ReadsFile old new name given (Ok count) = Opened old new name given × (given < longest_file)
-ReadsFile old new name given (Err (PacketRefused at why)) = Opened old new name given × (given < longest_file)
-ReadsFile old new name given (Err (RecordRefused number why)) = Opened old new name given × (given < longest_file)
-ReadsFile old new name given (Err (Files (TooLong input))) = (input ≡ 0) × Opened old new name given × (given ≡ longest_file)
-ReadsFile old new name given (Err (Files (ReadFault input))) =
+ReadsFile old new name given (Err (run.Refused why)) = Opened old new name given × (given < longest_file)
+ReadsFile old new name given (Err (run.Files (TooLong input))) = (input ≡ 0) × Opened old new name given × (given ≡ longest_file)
+ReadsFile old new name given (Err (run.Files (ReadFault input))) =
     (input ≡ 0) × ((Unopened old new × (given ≡ 0)) ⊎ (Opened old new name given × (given < longest_file)))
-ReadsFile old new name given (Err (Files WriteFault)) = Opened old new name given × (given ≤ longest_file)
-ReadsFile old new name given (Err OutOfMemory) = new ≡ old
-ReadsFile old new name given (Err NoRoom) = Opened old new name given × (given < longest_file)
+ReadsFile old new name given (Err (run.Files WriteFault)) = Opened old new name given × (given ≤ longest_file)
+ReadsFile old new name given (Err run.OutOfMemory) = new ≡ old
 
 -- A fault is told if it came. One of writing came alone, and so did one of reading if the file was not opened; after a later one
 -- of reading what waits is said still, which may fail too.
-abbrev pub Counted : State → State → Result ℕ ShowStop → Type 0
-Counted old new (Err (Files (ReadFault input))) = ReadsFailAtLeast old new × (Unopened old new → ReadsFail old new)
-Counted old new (Err (Files WriteFault)) = WritesFail old new
+abbrev pub Counted : State → State → Result ℕ (RunStop ShowStop) → Type 0
+Counted old new (Err (run.Files (ReadFault input))) = ReadsFailAtLeast old new × (Unopened old new → ReadsFail old new)
+Counted old new (Err (run.Files WriteFault)) = WritesFail old new
 Counted old new result = SameCounts old new
 
 -- A run over a named file, of which so many bytes were read. Standard output grew by this text, whatever the desk tells, and by
 -- the text that a definition asks for, by the file's bytes, how many were read, and the outcome.
-pub record Shows (IsText : List ℕ → ℕ → Result ℕ ShowStop → List ℕ → Type 0) (old new : State) (name : List ℕ)
-    (result : Result ℕ ShowStop) : Type 0 where
+pub record Shows (IsText : List ℕ → ℕ → Result ℕ (RunStop ShowStop) → List ℕ → Type 0) (old new : State) (name : List ℕ)
+    (result : Result ℕ (RunStop ShowStop)) : Type 0 where
   pub given : ℕ
   pub text : List ℕ
   pub reads : ReadsFile old new name given result

@@ -8,8 +8,10 @@ use Rattle.t2mi_packet.specs.T2miPacket.{view_of}
 use Rattle.t2mi_stream.specs.Accepted.{AcceptedPacket}
 use Rattle.t2mi_stream.specs.FirstPid.{t2mi_packets_in}
 use Rattle.show_run.specs.SaidLines.{view_line, count_line}
+use Rattle.file_run.specs.declared.stop.RunStop.{RunStop}
+use Rattle.file_run.specs.declared.stop.RunStop.TheVariants as run
 use Rattle.show_run.specs.declared.stop.ShowStop.{ShowStop}
-use Rattle.show_run.specs.declared.stop.ShowStop.TheVariants.{PacketRefused, RecordRefused, Files, OutOfMemory, NoRoom}
+use Rattle.show_run.specs.declared.stop.ShowStop.TheVariants.{PacketRefused, RecordRefused, NoRoom}
 
 -- the line of a packet, by its place and the fields of its bytes
 abbrev pub place_line : AcceptedPacket → List ℕ
@@ -52,16 +54,16 @@ pub record LeavesLines (file : List ℕ) (given : ℕ) (text : List ℕ) : Type 
       ⊎ ((more ≡ []) × (place_lines (t2mi_packets_in front) ++ count_line (length (t2mi_packets_in front)) ≡ text ++ unsaid))
 
 -- The text by outcome: the lines of all packets and their number, or the lines of the first.
-abbrev pub IsT2miText : List ℕ → ℕ → Result ℕ ShowStop → List ℕ → Type 0
+abbrev pub IsT2miText : List ℕ → ℕ → Result ℕ (RunStop ShowStop) → List ℕ → Type 0
 IsT2miText file given (Ok count) text =
     (count ≡ length (t2mi_packets_in file)) × (text ≡ place_lines (t2mi_packets_in file) ++ count_line count)
     × (given ≡ length file)
-IsT2miText file given (Err (PacketRefused at why)) text = ⊥
-IsT2miText file given (Err (RecordRefused number why)) text = ⊥
-IsT2miText file given (Err (Files (TooLong input))) text = (longest_file ≤ length file) × SaysThrough file given text
+IsT2miText file given (Err (run.Refused (PacketRefused at why))) text = ⊥
+IsT2miText file given (Err (run.Refused (RecordRefused number why))) text = ⊥
+IsT2miText file given (Err (run.Files (TooLong input))) text = (longest_file ≤ length file) × SaysThrough file given text
     × AreFirstLines (t2mi_packets_in file) text
-IsT2miText file given (Err (Files (ReadFault input))) text = LacksFewLines file given text
+IsT2miText file given (Err (run.Files (ReadFault input))) text = LacksFewLines file given text
     × AreFirstLines (t2mi_packets_in file) text
-IsT2miText file given (Err (Files WriteFault)) text = LeavesLines file given text × AreFirstLines (t2mi_packets_in file) text
-IsT2miText file given (Err OutOfMemory) text = text ≡ []
-IsT2miText file given (Err NoRoom) text = ⊥
+IsT2miText file given (Err (run.Files WriteFault)) text = LeavesLines file given text × AreFirstLines (t2mi_packets_in file) text
+IsT2miText file given (Err run.OutOfMemory) text = text ≡ []
+IsT2miText file given (Err (run.Refused NoRoom)) text = ⊥

@@ -3,12 +3,15 @@ ghost use Rattle.std.specs.Prelude.{◌≡◌, ◌≤◌, ◌+◌, ◌++◌, ℕ
 ghost use Rattle.std.specs.Fmt.{decimal};
 ghost use Rattle.desk_io.specs.declared.line.TheConstants.{ROOM};
 ghost use Rattle.site_frame.specs.Whole.{Refuses};
+ghost use Rattle.record_feed.specs.StandsFor.{coming_of, count_of, record_of};
+ghost use Rattle.record_feed.specs.declared.coming.Coming.TheVariants.{Whole};
 ghost use Rattle.show_run.specs.FrameLines.{IsLineOf};
 ghost use Rattle.show_run.specs.SaidLines.{record_line as line_of_record};
 
 use desk_io::Line;
 use plp_config::Moment;
-use site_frame::{RecordView, RecordWhy, read_record};
+use record_feed::RecordFeed;
+use site_frame::{RecordView, RecordWhy};
 
 // Bytes of the key in front of the seconds at most, and digits of a number at most: those of 2^64 - 1.
 const KEY: usize = 20;
@@ -58,13 +61,14 @@ fn record_line(number: u64, view: &RecordView<'_>) -> Line
     }
 }
 
-/// The line of the record that bytes begin with.
-pub fn line_of(bytes: &[u8], number: u64) -> Result<Line, RecordWhy>
-    ensures ok { IfOk result (IsLineOf bytes.now number) }
-    ensures err { IfErr result (Refuses bytes.now) }
+/// The line of the record that has come whole.
+pub fn line_of(feed: &RecordFeed) -> Result<Line, RecordWhy>
+    requires { coming_of feed.now ≡ Whole }
+    ensures ok { IfOk result (IsLineOf (record_of feed.now) (count_of feed.now)) }
+    ensures err { IfErr result (Refuses (record_of feed.now)) }
 {
-    match read_record(bytes) {
-        Ok((view, _)) => Ok(record_line(number, &view)),
+    match feed.record() {
+        Ok(view) => Ok(record_line(feed.count(), &view)),
         Err(why) => Err(why),
     }
 }

@@ -1,6 +1,7 @@
 // The commands that show a file by lines.
 ghost use Rattle.std.specs.Prelude.{◌≡◌, ◌-◌, [], length, OnOk, IfErr};
 ghost use Rattle.file_run.specs.Telling.{TellsAll};
+ghost use Rattle.record_feed.specs.StandsFor.{coming_of, count_of};
 ghost use Rattle.show_run.specs.FrameLines.{records_end};
 ghost use Rattle.show_run.specs.PacketLines.{packets_end};
 ghost use Rattle.show_run.specs.PacketText.{IsPacketText};
@@ -9,17 +10,18 @@ ghost use Rattle.show_run.specs.Shows.{Shows};
 ghost use Rattle.show_run.specs.T2miText.{IsT2miText};
 ghost use Rattle.show_run.specs.Told.{StopsLines};
 
-use crate::frame_lines::{Coming, FrameLines};
+use crate::frame_lines::FrameLines;
 use crate::packet_lines::{PacketLines, Phase};
 use crate::stop::ShowStop;
 use crate::t2mi_lines::T2miLines;
 use desk_io::ReadAhead;
-use file_run::{Machine, OutBuffer, tell};
+use file_run::{Machine, OutBuffer, RunStop, tell};
 use ports::Desk;
+use record_feed::{Coming, stands_law};
 use site_frame::{reading_law, refusal_law};
 use std::alloc::Global;
-use t2mi_packet::{no_refusal, one_packet, packet_length};
-use t2mi_stream::{accepted_front, first_pid_law};
+use t2mi_packet::{no_refusal_law, one_packet_law, packet_length_law};
+use t2mi_stream::{accepted_front_law, first_pid_law};
 
 // Tells the lines of a machine that is fed with a named file.
 fn tell_lines<M: Machine, D: Desk>(
@@ -27,7 +29,7 @@ fn tell_lines<M: Machine, D: Desk>(
     machine: &mut M,
     name: &str,
     desk: &mut D,
-) -> Result<(), ShowStop>
+) -> Result<(), RunStop<ShowStop>>
     requires inputs { M.inputs machine.old ≡ 1 }
     requires start { M.Becomes machine.old [] machine.old }
     ensures ok { OnOk result
@@ -36,37 +38,41 @@ fn tell_lines<M: Machine, D: Desk>(
         (StopsLines (M.Becomes machine.old) M.next (D.state desk.old) (D.state desk.new) name.now machine.new) }
 {
     let Ok(mut reader) = ReadAhead::open(alloc) else {
-        return Err(ShowStop::OutOfMemory);
+        return Err(RunStop::OutOfMemory);
     };
     let Ok(mut page) = OutBuffer::open(alloc) else {
-        return Err(ShowStop::OutOfMemory);
+        return Err(RunStop::OutOfMemory);
     };
     tell(machine, &mut reader, &mut page, name, desk)?;
     Ok(())
 }
 
 // How the packets of a file ended: their number, or the place at which none begins.
-fn packets_end(lines: &PacketLines) -> Result<u64, ShowStop>
+fn packets_end(lines: &PacketLines) -> Result<u64, RunStop<ShowStop>>
     ensures { result ≡ packets_end lines.now.phase (lines.now.at - length lines.now.bytes.items) lines.now.count }
 {
     match lines.phase {
-        Phase::Refused(why) => Err(ShowStop::PacketRefused {
+        Phase::Refused(why) => Err(RunStop::Refused(ShowStop::PacketRefused {
             at: lines.place(),
             why,
-        }),
+        })),
         Phase::Reads | Phase::Finished => Ok(lines.count),
     }
 }
 
 /// Says a line for each T2-MI packet of a named file in which they stand back to back, and last their number: how many.
-pub fn show_packets<D: Desk>(alloc: Global, name: &str, desk: &mut D) -> Result<u64, ShowStop>
+pub fn show_packets<D: Desk>(
+    alloc: Global,
+    name: &str,
+    desk: &mut D,
+) -> Result<u64, RunStop<ShowStop>>
     ensures { Shows IsPacketText (D.state desk.old) (D.state desk.new) name.now result }
 {
-    one_packet();
-    no_refusal();
-    packet_length();
+    one_packet_law();
+    no_refusal_law();
+    packet_length_law();
     let Ok(mut lines) = PacketLines::open(alloc) else {
-        return Err(ShowStop::OutOfMemory);
+        return Err(RunStop::OutOfMemory);
     };
     tell_lines(alloc, &mut lines, name, desk)?;
     packets_end(&lines)
@@ -74,13 +80,13 @@ pub fn show_packets<D: Desk>(alloc: Global, name: &str, desk: &mut D) -> Result<
 
 /// Says a line for each T2-MI packet in the transport packets of a named file, on the PID of the first that tells one, and last
 /// their number: how many.
-pub fn show_t2mi<D: Desk>(alloc: Global, name: &str, desk: &mut D) -> Result<u64, ShowStop>
+pub fn show_t2mi<D: Desk>(alloc: Global, name: &str, desk: &mut D) -> Result<u64, RunStop<ShowStop>>
     ensures { Shows IsT2miText (D.state desk.old) (D.state desk.new) name.now result }
 {
-    accepted_front();
+    accepted_front_law();
     first_pid_law();
     let Ok(mut lines) = T2miLines::open(alloc) else {
-        return Err(ShowStop::OutOfMemory);
+        return Err(RunStop::OutOfMemory);
     };
     let told = tell_lines(alloc, &mut lines, name, desk);
     let count = lines.count();
@@ -89,25 +95,30 @@ pub fn show_t2mi<D: Desk>(alloc: Global, name: &str, desk: &mut D) -> Result<u64
 }
 
 // How the records of a file ended: their number, or why one is none or has no memory.
-fn records_end(lines: &FrameLines) -> Result<u64, ShowStop>
-    ensures { result ≡ records_end lines.now.coming lines.now.count }
+fn records_end(lines: &FrameLines) -> Result<u64, RunStop<ShowStop>>
+    ensures { result ≡ records_end (coming_of lines.now.feed) (count_of lines.now.feed) }
 {
-    match lines.coming {
-        Coming::Refused(why) => Err(ShowStop::RecordRefused {
-            number: lines.count,
+    match lines.feed.coming() {
+        Coming::Refused(why) => Err(RunStop::Refused(ShowStop::RecordRefused {
+            number: lines.feed.count(),
             why,
-        }),
-        Coming::NoRoom => Err(ShowStop::NoRoom),
-        Coming::Head | Coming::Rest | Coming::Finished => Ok(lines.count),
+        })),
+        Coming::NoRoom => Err(RunStop::Refused(ShowStop::NoRoom)),
+        Coming::Head | Coming::Rest | Coming::Whole | Coming::Finished => Ok(lines.feed.count()),
     }
 }
 
 /// Says a line for each record of a named file, and last their number: how many.
-pub fn show_frames<D: Desk>(alloc: Global, name: &str, desk: &mut D) -> Result<u64, ShowStop>
+pub fn show_frames<D: Desk>(
+    alloc: Global,
+    name: &str,
+    desk: &mut D,
+) -> Result<u64, RunStop<ShowStop>>
     ensures { Shows IsRecordText (D.state desk.old) (D.state desk.new) name.now result }
 {
     reading_law();
     refusal_law();
+    stands_law();
     let mut lines = FrameLines::new(alloc);
     tell_lines(alloc, &mut lines, name, desk)?;
     records_end(&lines)

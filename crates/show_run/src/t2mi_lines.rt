@@ -1,8 +1,9 @@
 // The lines of the T2-MI packets in units.
-ghost use Rattle.std.specs.Prelude.{◌≡◌, ◌<◌, ◌+◌, ◌-◌, ◌≤◌, length, take, IfOk};
+ghost use Rattle.std.specs.Prelude.{◌≡◌, ◌<◌, ◌+◌, ◌-◌, ◌≤◌, ℕ, false, List, length, take, IfOk};
 ghost use Rattle.desk_io.specs.Reading.{longest_file};
 ghost use Rattle.ts_packet.specs.declared.sizes.TheConstants.{SIZE};
-ghost use Rattle.t2mi_stream.specs.UnpiperStandsFor.{fed_len};
+ghost use Rattle.t2mi_stream.specs.Events.{UnpiperEvent};
+ghost use Rattle.t2mi_stream.specs.UnpiperStandsFor.{UnpiperStandsFor, AllReleased, fed_len, is_ready};
 
 use crate::count_line::{count_line, give_line};
 use crate::packet_line::packet_line;
@@ -12,7 +13,8 @@ use file_run::{Machine, Step, events_law};
 use std::alloc::Global;
 use t2mi_packet::view_known;
 use t2mi_stream::{
-    Unpiper, accepted_front, events_push, few_packets, first_pid_law, packet_places, unit_pid,
+    Unpiper, accepted_front_law, events_push_law, few_packets_law, first_pid_law,
+    packet_places_law, unit_pid,
 };
 use ts_packet::SIZE;
 
@@ -77,6 +79,14 @@ fn front_unit(bytes: &[u8]) -> [u8; SIZE]
     unit
 }
 
+// If no packet waits of an unpiper, all were released. It does nothing.
+fn released_law(unpiper: &Unpiper)
+    ensures { is_ready unpiper.now ≡ false → (pid : ℕ) (events : List UnpiperEvent) → UnpiperStandsFor unpiper.now pid events
+        → AllReleased pid events }
+{
+    unpiper.is_ready();
+}
+
 impl T2miLines {
     ghost use Rattle.std.specs.Prelude.{ℕ, List, [], ◌∷◌, ◌++◌, true, false, Some, None};
     ghost use Rattle.file_run.specs.Events.{Event, Fed, Gave};
@@ -84,7 +94,6 @@ impl T2miLines {
     ghost use Rattle.show_run.specs.declared.t2mi_lines.Search.TheVariants.{Seeks, Unpipes};
     ghost use Rattle.ts_packet.specs.Told.{fields_in};
     ghost use Rattle.t2mi_stream.specs.FirstPid.{pid_of};
-    ghost use Rattle.t2mi_stream.specs.UnpiperStandsFor.{is_ready};
     ghost use Rattle.file_run.specs.Events.{fed, gave};
     ghost use Rattle.file_run.specs.Steps.{Needs};
     ghost use Rattle.t2mi_stream.specs.FirstPid.{t2mi_packets_in};
@@ -98,8 +107,7 @@ impl T2miLines {
             → Needs (next_of self.now) 0 least → gave events ≡ place_lines (t2mi_packets_in (fed 0 events)) }
     {
         first_pid_law();
-        // No packet waits then, so all were given.
-        let _ = self.unpiper.is_ready();
+        released_law(&self.unpiper);
         self.count
     }
 
@@ -162,9 +170,9 @@ impl T2miLines {
         ensures at { self.new.at ≡ self.old.at }
     {
         events_law();
-        events_push();
-        packet_places();
-        few_packets();
+        events_push_law();
+        packet_places_law();
+        few_packets_law();
         let place = self.base.saturating_add(self.unpiper.place());
         let mut line = packet_line(b"place=", place, &view_known(self.unpiper.bytes()));
         self.unpiper.release();
@@ -183,8 +191,8 @@ impl T2miLines {
         ensures at { self.new.at ≡ self.old.at }
     {
         events_law();
-        events_push();
-        accepted_front();
+        events_push_law();
+        accepted_front_law();
         let unit = self.unit;
         self.from += self.unpiper.feed(&unit[self.from..]);
     }
@@ -202,8 +210,8 @@ impl T2miLines {
         ensures at { self.new.at ≡ self.old.at + result }
     {
         events_law();
-        events_push();
-        accepted_front();
+        events_push_law();
+        accepted_front_law();
         let count = self.unpiper.feed(bytes);
         self.at += count as u64;
         count
@@ -257,8 +265,7 @@ impl Machine for T2miLines {
     fn end_input(&mut self, _input: usize, bytes: &[u8]) {
         events_law();
         first_pid_law();
-        // No packet waits, so all were given.
-        let _ = self.unpiper.is_ready();
+        released_law(&self.unpiper);
         self.at += bytes.len() as u64;
         self.search = Search::Finished;
         self.line = count_line(self.count);

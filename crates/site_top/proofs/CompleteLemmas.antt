@@ -21,23 +21,23 @@ use Rattle.config_file.specs.declared.stop.ConfigStop.{ConfigStop}
 use Rattle.config_file.specs.declared.stop.ConfigStop.TheVariants as config
 use Rattle.file_run.specs.FileRun.{file_at}
 use Rattle.file_run.specs.declared.stop.RunFault.TheVariants as run_fault
-use Rattle.gateway_run.specs.GatewayRun.{RunsAll, Stops, frames_of, units_of}
+use Rattle.file_run.specs.declared.stop.RunStop.{RunStop}
+use Rattle.file_run.specs.declared.stop.RunStop.TheVariants as run
+use Rattle.gateway_run.specs.GatewayRun.{frames_of, units_of}
 use Rattle.gateway_run.specs.Laws.{MustRun, OneRun}
 use Rattle.gateway_run.specs.declared.stop.Ran.{Ran}
-use Rattle.gateway_run.specs.declared.stop.RunStop.{RunStop}
-use Rattle.gateway_run.specs.declared.stop.RunStop.TheVariants as run
+use Rattle.gateway_run.specs.declared.stop.GatewayStop.{GatewayStop}
+use Rattle.gateway_run.specs.declared.stop.GatewayStop.TheVariants as gateway
 use Rattle.modulate_run.specs.Counted.{counted}
 use Rattle.modulate_run.specs.Laws.{OneRun as OneModulation}
-use Rattle.modulate_run.specs.ModulateRun as modulating
 use Rattle.modulate_run.specs.ModulateRun.{records_of, AreEarly, HasEarly}
 use Rattle.modulate_run.specs.declared.stop.Ran.{Ran as Modulated}
-use Rattle.modulate_run.specs.declared.stop.RunStop.{RunStop as ModulateStop}
-use Rattle.modulate_run.specs.declared.stop.RunStop.TheVariants as modulate
+use Rattle.modulate_run.specs.declared.stop.ModulateStop.{ModulateStop}
+use Rattle.modulate_run.specs.declared.stop.ModulateStop.TheVariants as modulate
 use Rattle.receive_run.specs.Laws.{OneRun as OneReception}
-use Rattle.receive_run.specs.ReceiveRun as receiving
 use Rattle.receive_run.specs.declared.stop.Ran.{Ran as Received}
-use Rattle.receive_run.specs.declared.stop.RunStop.{RunStop as ReceiveStop}
-use Rattle.receive_run.specs.declared.stop.RunStop.TheVariants as receive
+use Rattle.receive_run.specs.declared.stop.ReceiveStop.{ReceiveStop}
+use Rattle.receive_run.specs.declared.stop.ReceiveStop.TheVariants as receive
 use Rattle.show_run.specs.PacketText.{IsPacketText}
 use Rattle.show_run.specs.RecordText.{IsRecordText}
 use Rattle.show_run.specs.Shows.{Counted}
@@ -50,17 +50,19 @@ use Rattle.site_top.specs.declared.outcome.Outcome.TheVariants.{Done, ReadFault,
 use Rattle.site_top.specs.Commands.{Command, ShowPackets, ShowT2mi, ShowFrames, ShowConfig, Plan, Gateway, Modulate, Receive}
 use Rattle.site_top.specs.Commands.{Trial}
 use Rattle.site_top.specs.ConfigCommands.{ShowsConfig, Plans}
-use Rattle.site_top.specs.GatewayCommand.{gateway_line, RunsAndTells, Follows, Gateways}
+use Rattle.trial_run.specs.declared.stop.TrialStop.TheVariants as trial
+use Rattle.site_top.specs.GatewayCommand as gateways
 use Rattle.site_top.specs.Laws.{OneEnding, Completeness}
-use Rattle.site_top.specs.ModulateCommand.{modulate_line, RunsAndTells as ModulatesAndTells, Modulates}
-use Rattle.site_top.specs.ReceiveCommand.{receive_line, Follows as ReceiveFollows, Receives}
-use Rattle.site_top.specs.Outcomes.{shown_outcome, config_outcome, stopped_outcome, ran_outcome, modulate_stopped}
-use Rattle.site_top.specs.Outcomes.{receive_stopped}
-use Rattle.site_top.specs.Runs.{AreShort, ModulateMustEnd, ReceiveMustEnd, MustEnd, IsComplete}
+use Rattle.site_top.specs.ModulateCommand as modulates
+use Rattle.site_top.specs.Outcomes.{run_outcome, stop_outcome, config_outcome, gateway_cause, modulate_cause, receive_cause}
+use Rattle.site_top.specs.Outcomes.{show_cause}
+use Rattle.site_top.specs.PlanCommand.{RunsAndTells, ByPlan}
+use Rattle.site_top.specs.ReceiveCommand as receives
+use Rattle.site_top.specs.Runs.{PlanMustEnd, ModulateMustEnd, ReceiveMustEnd, OverPlan, MustEnd, IsComplete}
 use Rattle.site_top.specs.Saying.{Tells}
 use Rattle.site_top.specs.TrialCommand.{Tries}
-use Rattle.site_top.proofs.EndingLemmas.{EndsIfShort, ended_so, ModulatesIfShort, modulated_so, ReceivesIfShort, received_so}
-use Rattle.site_top.proofs.EndingLemmas.{unplanned_so}
+use Rattle.site_top.proofs.EndingLemmas.{GatewayIfShort, gateway_one, ModulatesIfShort, modulate_one, ReceivesIfShort, receive_one}
+use Rattle.site_top.proofs.EndingLemmas.{over_one, unplanned_so}
 
 -- How a run came to its outcome: by its files, if something is so of what must be; or by a fault, or want of memory.
 abbrev By : (State → State → Outcome → Type 0)
@@ -68,7 +70,7 @@ By old new result = Rose old.counts.reads new.counts.reads ⊎ (Rose old.counts.
 
 failed : (command : Command) (old new : State) (result : Outcome) → By old new result → IsComplete command old new result
 failed command old new result by = if_any old.held _ (λ held. λ outcome must r w.
-    ⊎_elim (λ x. absurd (r x)) (⊎_elim (λ x. absurd (w x)) (λ (x : result ≡ OutOfMemory). inr x)) by)
+    ⊎_elim (λ x. absurd (r x)) (⊎_elim (λ x. absurd (w x)) (λ (x : result ≡ OutOfMemory). inr (inl x))) by)
 
 decided : OneEnding → (command : Command) (old new : State) (result : Outcome)
     → IfSome old.held (λ held. (outcome : Outcome) → MustEnd command held outcome → MustEnd command held result)
@@ -77,68 +79,68 @@ decided law command old new result s =
     IfSome_then old.held s (λ held f. λ outcome must r w. inl (law command held result outcome (f outcome must) must))
 
 -- a file of packets
-packets_so : OneEnding → (file : List ℕ) (old new : State) (given : ℕ) (text : List ℕ) (shown : Result ℕ ShowStop)
+packets_so : OneEnding → (file : List ℕ) (old new : State) (given : ℕ) (text : List ℕ) (shown : Result ℕ (RunStop ShowStop))
     → IfSome old.held (λ held. IsPacketText (bytes_of held.files file) given shown text) → Counted old new shown →
-    IsComplete (ShowPackets file) old new (shown_outcome shown)
+    IsComplete (ShowPackets file) old new (run_outcome (stop_outcome show_cause) shown)
 packets_so law file old new given text (Ok count) s counts =
     decided law (ShowPackets file) old new Done
     (IfSome_then old.held s (λ held x. λ outcome must. (must.0, (Ok count, (x.0, x.1, x.2), refl))))
-packets_so law file old new given text (Err (show.PacketRefused at why)) s counts =
-    decided law (ShowPackets file) old new (shown_outcome (Err (show.PacketRefused at why)))
+packets_so law file old new given text (Err (run.Refused (show.PacketRefused at why))) s counts =
+    decided law (ShowPackets file) old new (show_cause (show.PacketRefused at why))
     (IfSome_then old.held s
     (λ held x. λ outcome must. (must.0, (Err (show.PacketRefused at why), (x.0, x.1, x.2, x.3, x.4), refl))))
-packets_so law file old new given text (Err (show.RecordRefused number why)) s counts =
+packets_so law file old new given text (Err (run.Refused (show.RecordRefused number why))) s counts =
     IfSome_then old.held s (λ held x. absurd x)
-packets_so law file old new given text (Err (show.Files (run_fault.TooLong input))) s counts =
+packets_so law file old new given text (Err (run.Files (run_fault.TooLong input))) s counts =
     IfSome_then old.held s (λ held x. λ outcome must r w. let many : 2 ^ 40 ≤ length (bytes_of held.files file) = x.0 in
     absurd (omega (arith, many, must.0)))
-packets_so law file old new given text (Err (show.Files (run_fault.ReadFault input))) s counts =
+packets_so law file old new given text (Err (run.Files (run_fault.ReadFault input))) s counts =
     failed (ShowPackets file) old new ReadFault (inl counts.0.rose)
-packets_so law file old new given text (Err (show.Files run_fault.WriteFault)) s counts =
+packets_so law file old new given text (Err (run.Files run_fault.WriteFault)) s counts =
     failed (ShowPackets file) old new WriteFault (inr (inl counts.rose))
-packets_so law file old new given text (Err show.OutOfMemory) s counts =
+packets_so law file old new given text (Err run.OutOfMemory) s counts =
     failed (ShowPackets file) old new OutOfMemory (inr (inr refl))
-packets_so law file old new given text (Err show.NoRoom) s counts = failed (ShowPackets file) old new OutOfMemory (inr (inr refl))
+packets_so law file old new given text (Err (run.Refused show.NoRoom)) s counts = failed (ShowPackets file) old new OutOfMemory (inr (inr refl))
 
 -- a file of records
-records_so : OneEnding → (file : List ℕ) (old new : State) (given : ℕ) (text : List ℕ) (shown : Result ℕ ShowStop)
+records_so : OneEnding → (file : List ℕ) (old new : State) (given : ℕ) (text : List ℕ) (shown : Result ℕ (RunStop ShowStop))
     → IfSome old.held (λ held. IsRecordText (bytes_of held.files file) given shown text) → Counted old new shown →
-    IsComplete (ShowFrames file) old new (shown_outcome shown)
+    IsComplete (ShowFrames file) old new (run_outcome (stop_outcome show_cause) shown)
 records_so law file old new given text (Ok count) s counts =
     decided law (ShowFrames file) old new Done
     (IfSome_then old.held s (λ held x. λ outcome must. (must.0, (Ok count, (x.0, x.1, x.2), refl))))
-records_so law file old new given text (Err (show.PacketRefused at why)) s counts = IfSome_then old.held s (λ held x. absurd x)
-records_so law file old new given text (Err (show.RecordRefused number why)) s counts =
-    decided law (ShowFrames file) old new (shown_outcome (Err (show.RecordRefused number why)))
+records_so law file old new given text (Err (run.Refused (show.PacketRefused at why))) s counts = IfSome_then old.held s (λ held x. absurd x)
+records_so law file old new given text (Err (run.Refused (show.RecordRefused number why))) s counts =
+    decided law (ShowFrames file) old new (show_cause (show.RecordRefused number why))
     (IfSome_then old.held s
     (λ held x. λ outcome must. (must.0, (Err (show.RecordRefused number why), (x.0, x.1, x.2.0, x.3, x.4), refl))))
-records_so law file old new given text (Err (show.Files (run_fault.TooLong input))) s counts =
+records_so law file old new given text (Err (run.Files (run_fault.TooLong input))) s counts =
     IfSome_then old.held s (λ held x. λ outcome must r w. let many : 2 ^ 40 ≤ length (bytes_of held.files file) = x.0 in
     absurd (omega (arith, many, must.0)))
-records_so law file old new given text (Err (show.Files (run_fault.ReadFault input))) s counts =
+records_so law file old new given text (Err (run.Files (run_fault.ReadFault input))) s counts =
     failed (ShowFrames file) old new ReadFault (inl counts.0.rose)
-records_so law file old new given text (Err (show.Files run_fault.WriteFault)) s counts =
+records_so law file old new given text (Err (run.Files run_fault.WriteFault)) s counts =
     failed (ShowFrames file) old new WriteFault (inr (inl counts.rose))
-records_so law file old new given text (Err show.OutOfMemory) s counts =
+records_so law file old new given text (Err run.OutOfMemory) s counts =
     failed (ShowFrames file) old new OutOfMemory (inr (inr refl))
-records_so law file old new given text (Err show.NoRoom) s counts = failed (ShowFrames file) old new OutOfMemory (inr (inr refl))
+records_so law file old new given text (Err (run.Refused show.NoRoom)) s counts = failed (ShowFrames file) old new OutOfMemory (inr (inr refl))
 
 -- a file of units
-t2mi_so : (file : List ℕ) (old new : State) (given : ℕ) (text : List ℕ) (shown : Result ℕ ShowStop)
+t2mi_so : (file : List ℕ) (old new : State) (given : ℕ) (text : List ℕ) (shown : Result ℕ (RunStop ShowStop))
     → IfSome old.held (λ held. IsT2miText (bytes_of held.files file) given shown text) → Counted old new shown →
-    IsComplete (ShowT2mi file) old new (shown_outcome shown)
+    IsComplete (ShowT2mi file) old new (run_outcome (stop_outcome show_cause) shown)
 t2mi_so file old new given text (Ok count) s counts = IfSome_then old.held s (λ held x. λ outcome must r w. inl (sym must.1))
-t2mi_so file old new given text (Err (show.PacketRefused at why)) s counts = IfSome_then old.held s (λ held x. absurd x)
-t2mi_so file old new given text (Err (show.RecordRefused number why)) s counts = IfSome_then old.held s (λ held x. absurd x)
-t2mi_so file old new given text (Err (show.Files (run_fault.TooLong input))) s counts =
+t2mi_so file old new given text (Err (run.Refused (show.PacketRefused at why))) s counts = IfSome_then old.held s (λ held x. absurd x)
+t2mi_so file old new given text (Err (run.Refused (show.RecordRefused number why))) s counts = IfSome_then old.held s (λ held x. absurd x)
+t2mi_so file old new given text (Err (run.Files (run_fault.TooLong input))) s counts =
     IfSome_then old.held s (λ held x. λ outcome must r w. let many : 2 ^ 40 ≤ length (bytes_of held.files file) = x.0 in
     absurd (omega (arith, many, must.0)))
-t2mi_so file old new given text (Err (show.Files (run_fault.ReadFault input))) s counts =
+t2mi_so file old new given text (Err (run.Files (run_fault.ReadFault input))) s counts =
     failed (ShowT2mi file) old new ReadFault (inl counts.0.rose)
-t2mi_so file old new given text (Err (show.Files run_fault.WriteFault)) s counts =
+t2mi_so file old new given text (Err (run.Files run_fault.WriteFault)) s counts =
     failed (ShowT2mi file) old new WriteFault (inr (inl counts.rose))
-t2mi_so file old new given text (Err show.OutOfMemory) s counts = failed (ShowT2mi file) old new OutOfMemory (inr (inr refl))
-t2mi_so file old new given text (Err show.NoRoom) s counts = failed (ShowT2mi file) old new OutOfMemory (inr (inr refl))
+t2mi_so file old new given text (Err run.OutOfMemory) s counts = failed (ShowT2mi file) old new OutOfMemory (inr (inr refl))
+t2mi_so file old new given text (Err (run.Refused show.NoRoom)) s counts = failed (ShowT2mi file) old new OutOfMemory (inr (inr refl))
 
 -- a file gives no configuration, or reading it failed
 no_config : (old new : State) (name : List ℕ) (stop : ConfigStop) → GivesNone old new name stop
@@ -223,25 +225,7 @@ must_all c files count frames units same early e = (
   subst (λ (n : ℕ). n ≤ MOST_FRAMES) e.frames_are early,
 )
 
--- How a run ended over files that are not too long is how it must end.
-abbrev RunMust : State → List (List ℕ) → Config → Result Ran RunStop → Type 0
-RunMust mid ins c result = IfSome mid.held (λ h. AreShort h ins → MustRun c (file_at h ins) result)
-
-run_stops : (c : Config) (mid new : State) (out : List ℕ) (ins : List (List ℕ)) (stop : RunStop) → Stops c mid new out ins stop
-    → RunMust mid ins c (Err stop) ⊎ By mid new (stopped_outcome stop)
-run_stops c mid new out ins (run.Bad input packet) s = inl (IfSome_then mid.held s.meets (λ h m. λ short. (s.frame, m, s.early)))
-run_stops c mid new out ins run.TooManyFrames s = inl (IfSome_then mid.held s.has (λ h m. λ short. m))
-run_stops c mid new out ins (run.Files (run_fault.TooLong input)) s =
-    inl (IfSome_then mid.held s.long (λ h most. λ short. let few = short input s.place in absurd (omega (arith, most, few))))
-run_stops c mid new out ins (run.Files (run_fault.ReadFault input)) s = inr (inl s.0.rose)
-run_stops c mid new out ins (run.Files run_fault.WriteFault) s = inr (inr (inl s.0.rose))
-run_stops c mid new out ins run.OutOfMemory s = inr (inr (inr refl))
-
-run_ends : (c : Config) (mid after : State) (out : List ℕ) (ins : List (List ℕ)) (frames units : ℕ) → length ins ≡ length c.plps
-    → RunsAll c mid after out ins frames units → RunMust mid ins c (Ok (record { frames = frames; units = units }))
-run_ends c mid after out ins frames units count r =
-    IfSome_then mid.held (ended mid.held ins c frames units r.whole r.frames_are r.units_are)
-    (λ h e. λ short. must_all c (file_at h ins) (length ins) frames units count r.early e)
+-- ---- a run by the plan of CONFIG
 
 -- the same counts before
 by_before : (old mid new : State) (outcome : Outcome) → SameCounts old mid → By mid new outcome → By old new outcome
@@ -251,53 +235,102 @@ by_before old mid new outcome same by =
     (λ o. ⊎_elim (λ w. inr (inl (subst (λ counts. Rose counts.writes new.counts.writes) same w))) (λ m. inr (inr m)) o)
     by
 
-run_ways : (old mid new : State) (config out : List ℕ) (ins : List (List ℕ)) (c : Config) (outcome : Outcome) → SameCounts old mid
-    → length ins ≡ length c.plps → RunsAndTells mid new out ins c outcome →
-    ((result : Result Ran RunStop) × RunMust mid ins c result × (outcome ≡ ran_outcome result)) ⊎ By old new outcome
-run_ways old mid new config out ins c outcome same count (inl (stop, stops, is)) =
-    ⊎_elim (λ m. inl (Err stop, m, is)) (λ by. inr (by_before old mid new outcome same (subst (By mid new) (sym is) by)))
-    (run_stops c mid new out ins stop stops)
-run_ways old mid new config out ins c outcome same count (inr (frames, units, after, runs, tells)) =
-    ⊎_elim
-    (λ (done : outcome ≡ Done).
-    inl (Ok (record { frames = frames; units = units }), run_ends c mid after out ins frames units count runs, done))
-    inr
-    (told old after new (gateway_line frames units) outcome (runs.counts ∙ same) tells)
+-- A run stops or comes to its end, and its line is told: its outcome is as something must be, or a call failed.
+ways : {R E : Type 0} (Ends : State → State → R → Type 0) (Stops : State → State → RunStop E → Type 0) (line : R → List ℕ)
+    (cause : E → Outcome) (Must : State → Outcome → Type 0)
+    → ((mid new : State) (stop : RunStop E) → Stops mid new stop → Must mid (stop_outcome cause stop)
+    ⊎ By mid new (stop_outcome cause stop))
+    → ((mid after : State) (ran : R) → Ends mid after ran → Must mid Done × SameCounts mid after)
+    → (old mid new : State) (outcome : Outcome) → SameCounts old mid → RunsAndTells Ends Stops line cause mid new outcome
+    → Must mid outcome ⊎ By old new outcome
+ways Ends Stops line cause Must stops ends old mid new outcome same (inl (stop, s, is)) =
+    ⊎_elim (λ m. inl (subst (Must mid) (sym is) m))
+    (λ by. inr (by_before old mid new outcome same (subst (By mid new) (sym is) by)))
+    (stops mid new stop s)
+ways Ends Stops line cause Must stops ends old mid new outcome same (inr (ran, after, e, tells)) =
+    let x = ends mid after ran e in
+    ⊎_elim (λ (done : outcome ≡ Done). inl (subst (Must mid) (sym done) x.0)) inr
+    (told old after new (line ran) outcome (x.1 ∙ same) tells)
 
-gateway_decided : OnePlan → OneRun → (old new : State) (config out : List ℕ) (ins : List (List ℕ)) (result : Outcome)
-    → IfSome old.held (λ held. EndsIfShort held config ins result) → IsComplete (Gateway config out ins) old new result
-gateway_decided one run old new config out ins result s =
-    IfSome_then old.held s (λ held x. λ outcome must r w. inl (ended_so one run held config out ins result outcome x must))
-
-follows_so : OnePlan → OneRun → (old mid new : State) (config out : List ℕ) (ins : List (List ℕ)) (c : Config) (result : Outcome)
-    → Gives old mid config c → IsPlan c → Follows mid new out ins c result →
-    IsComplete (Gateway config out ins) old new result
-follows_so one run old mid new config out ins c result gives plan (inl (same, other)) =
-    gateway_decided one run old new config out ins result
-    (IfSome_then old.held gives.spells (λ held x. inr (c, (x, plan), inl other)))
-follows_so one run old mid new config out ins c result gives plan (inr (count, runs)) =
+-- A command by the plan of CONFIG is complete if what follows is what must be over the plan.
+by_plan : OnePlan → (command : Command) (config : List ℕ) (Follows : Config → State → State → Outcome → Type 0)
+    (Mine Must : Held → Config → Outcome → Type 0)
+    → ((held : Held) (outcome : Outcome) → MustEnd command held outcome → OverPlan (bytes_of held.files config) (Must held) outcome)
+    → ((held : Held) (c : Config) (outcome : Outcome) → Mine (with_name config held) c outcome → Mine held c outcome)
+    → ((held : Held) (c : Config) (result outcome : Outcome) → IsPlan c → Mine held c result → Must held c outcome
+    → result ≡ outcome)
+    → ((c : Config) (old mid new : State) (result : Outcome) → SameCounts old mid → Follows c mid new result
+    → IfSome mid.held (λ h. Mine h c result) ⊎ By old new result)
+    → (old new : State) (result : Outcome) → ByPlan old new config Follows result → IsComplete command old new result
+by_plan one command config Follows Mine Must must named so follows old new result (inl (stop, none, is)) =
     ⊎_elim
-    (λ w. gateway_decided one run old new config out ins result
-    (if_both old.held _ _ _ (λ held x m. inr (c, (x, plan), inr (count, (w.0, m, w.2)))) gives.spells
-    (before_named config old.held mid.held _ gives.reads.opened.held w.1)))
-    (failed (Gateway config out ins) old new result)
-    (run_ways old mid new config out ins c result gives.reads.counts count runs)
+    (λ s. IfSome_then old.held s (λ held x. λ outcome m r w.
+    inl (unplanned_so one (bytes_of held.files config) (Must held) stop result outcome x is (must held outcome m))))
+    (λ by. failed command old new result (subst (By old new) (sym is) by))
+    (no_plan old new config stop none)
+by_plan one command config Follows Mine Must must named so follows old new result (inr (c, mid, gives, plan, f)) =
+    ⊎_elim
+    (λ w. if_both old.held _ _ _ (λ held x m. λ outcome e r g.
+    inl (over_one one (bytes_of held.files config) (Must held) c result outcome (x, plan)
+    (λ y. so held c result outcome plan (named held c result m) y) (must held outcome e)))
+    gives.spells (before_named config old.held mid.held _ gives.reads.opened.held w))
+    (failed command old new result)
+    (follows c old mid new result gives.reads.counts f)
+
+-- ---- `gateway`
+
+abbrev GatewayMust : List (List ℕ) → Config → State → Outcome → Type 0
+GatewayMust ins c mid outcome = IfSome mid.held (λ h. GatewayIfShort h ins c outcome)
+
+gateway_stops : (out : List ℕ) (ins : List (List ℕ)) (c : Config) → length ins ≡ length c.plps
+    → (mid new : State) (stop : RunStop GatewayStop) → gateways.StopsSo out ins c mid new stop
+    → GatewayMust ins c mid (stop_outcome gateway_cause stop) ⊎ By mid new (stop_outcome gateway_cause stop)
+gateway_stops out ins c count mid new (run.Refused (gateway.Bad input packet)) s =
+    inl (IfSome_then mid.held s.meets
+    (λ h m. inr (count, λ short. (Err (gateway.Bad input packet), (s.frame, m, s.early), refl))))
+gateway_stops out ins c count mid new (run.Refused gateway.TooManyFrames) s =
+    inl (IfSome_then mid.held s.has (λ h m. inr (count, λ short. (Err gateway.TooManyFrames, m, refl))))
+gateway_stops out ins c count mid new (run.Files (run_fault.TooLong input)) s =
+    inl (IfSome_then mid.held s.long
+    (λ h most. inr (count, λ short. let few = short input s.place in absurd (omega (arith, most, few)))))
+gateway_stops out ins c count mid new (run.Files (run_fault.ReadFault input)) s = inr (inl s.0.rose)
+gateway_stops out ins c count mid new (run.Files run_fault.WriteFault) s = inr (inr (inl s.0.rose))
+gateway_stops out ins c count mid new run.OutOfMemory s = inr (inr (inr refl))
+
+gateway_ends : (out : List ℕ) (ins : List (List ℕ)) (c : Config) → length ins ≡ length c.plps → (mid after : State) (ran : Ran)
+    → gateways.Ends out ins c mid after ran → GatewayMust ins c mid Done × SameCounts mid after
+gateway_ends out ins c count mid after ran r = (
+  IfSome_then mid.held (ended mid.held ins c ran.frames ran.units r.whole r.frames_are r.units_are)
+      (λ h e. inr (
+        count,
+        λ short. (
+          Ok (record { frames = ran.frames; units = ran.units }),
+          must_all c (file_at h ins) (length ins) ran.frames ran.units count r.early e,
+          refl,
+        ),
+      )),
+  r.counts,
+)
+
+gateway_follows : (out : List ℕ) (ins : List (List ℕ)) (c : Config) (old mid new : State) (result : Outcome) → SameCounts old mid
+    → gateways.Follows out ins c mid new result → GatewayMust ins c mid result ⊎ By old new result
+gateway_follows out ins c old mid new result same (inl (stays, other)) = inl (if_any mid.held _ (λ h. inl other))
+gateway_follows out ins c old mid new result same (inr (count, runs)) =
+    ways (gateways.Ends out ins c) (gateways.StopsSo out ins c) gateways.gateway_line gateway_cause (GatewayMust ins c)
+    (gateway_stops out ins c count) (gateway_ends out ins c count) old mid new result same runs
 
 gateway_so : OnePlan → OneRun → (old new : State) (config out : List ℕ) (ins : List (List ℕ)) (result : Outcome)
-    → Gateways old new config out ins result → IsComplete (Gateway config out ins) old new result
-gateway_so one run old new config out ins result (inl (stop, none, is)) =
-    ⊎_elim
-    (λ s. gateway_decided one run old new config out ins result (IfSome_then old.held s (λ held x. inl (stop, x, is))))
-    (λ by. failed (Gateway config out ins) old new result (subst (By old new) (sym is) by))
-    (no_plan old new config stop none)
-gateway_so one run old new config out ins result (inr (c, mid, gives, plan, follows)) =
-    follows_so one run old mid new config out ins c result gives plan follows
+    → gateways.Gateways old new config out ins result → IsComplete (Gateway config out ins) old new result
+gateway_so one run old new config out ins result does =
+    by_plan one (Gateway config out ins) config (gateways.Follows out ins) (λ held. GatewayIfShort held ins)
+    (λ held. PlanMustEnd held ins) (λ held outcome m. m) (λ held c outcome m. m)
+    (λ held c mine outcome plan. gateway_one run held ins c mine outcome)
+    (gateway_follows out ins) old new result does
 
 -- ---- `modulate`
 
--- How a run ended over an input that is not too long is how it must end.
-abbrev ModulationMust : State → List ℕ → Config → Outcome → Type 0
-ModulationMust mid file c outcome = IfSome mid.held (λ h. ModulatesIfShort (bytes_of h.files file) c outcome)
+abbrev ModulationMust : List ℕ → Config → State → Outcome → Type 0
+ModulationMust file c mid outcome = IfSome mid.held (λ h. ModulatesIfShort (bytes_of h.files file) c outcome)
 
 not_early : (c : Config) (file bytes : List ℕ) → HasEarly c file bytes → ¬ (AreEarly (records_of c file))
 not_early c file bytes h all =
@@ -308,120 +341,90 @@ not_early c file bytes h all =
     let n = h.number in
     absurd (omega (arith, less, n))
 
-modulate_stops : (c : Config) (mid new : State) (file out : List ℕ) (stop : ModulateStop)
-    → modulating.Stops c mid new file out stop → ModulationMust mid file c (modulate_stopped stop)
-    ⊎ By mid new (modulate_stopped stop)
-modulate_stops c mid new file out modulate.NoSuperframe s =
-    inl (IfSome_then mid.held s.none (λ h none. λ short. (Err modulate.NoSuperframe, none, refl)))
-modulate_stops c mid new file out modulate.TooManyFrames s =
-    inl (IfSome_then mid.held s.works.holds
+modulate_stops : (file out : List ℕ) (c : Config) (mid new : State) (stop : RunStop ModulateStop)
+    → modulates.StopsSo file out c mid new stop → ModulationMust file c mid (stop_outcome modulate_cause stop)
+    ⊎ By mid new (stop_outcome modulate_cause stop)
+modulate_stops file out c mid new (run.Refused modulate.NoSuperframe) s =
+    inl (IfSome_then mid.held s.0.none (λ h none. λ short. (Err modulate.NoSuperframe, none, refl)))
+modulate_stops file out c mid new (run.Refused modulate.TooManyFrames) s =
+    inl (IfSome_then mid.held s.0.works.holds
     (λ h w. λ short. (Err modulate.TooManyFrames, not_early c (bytes_of h.files file) w.2.0 w.2.2, refl)))
-modulate_stops c mid new file out (modulate.Files (run_fault.TooLong input)) s =
-    inl (IfSome_then mid.held s.1.long (λ h long. λ short. let most = long.1 in absurd (omega (arith, most, short))))
-modulate_stops c mid new file out (modulate.Files (run_fault.ReadFault input)) s = inr (inl s.1.rose)
-modulate_stops c mid new file out (modulate.Files run_fault.WriteFault) s = inr (inr (inl s.0.rose))
-modulate_stops c mid new file out modulate.OutOfMemory s = inr (inr (inr refl))
+modulate_stops file out c mid new (run.Files (run_fault.TooLong input)) s =
+    inl (IfSome_then mid.held s.0.1.long (λ h long. λ short. let most = long.1 in absurd (omega (arith, most, short))))
+modulate_stops file out c mid new (run.Files (run_fault.ReadFault input)) s = inr (inl s.0.1.rose)
+modulate_stops file out c mid new (run.Files run_fault.WriteFault) s = inr (inr (inl s.0.0.rose))
+modulate_stops file out c mid new run.OutOfMemory s = inr (inr (inr refl))
 
-modulate_ends : (c : Config) (mid after : State) (file out : List ℕ) (ran : Modulated)
-    → modulating.RunsAll c mid after file out ran → ModulationMust mid file c Done
-modulate_ends c mid after file out ran r =
-    if_both mid.held (λ h. AreEarly (records_of c (bytes_of h.files file))
-    × (ran ≡ counted (records_of c (bytes_of h.files file)))) (λ h. records_of c (bytes_of h.files file) ≢ [])
-    (λ h. ModulatesIfShort (bytes_of h.files file) c Done) (λ h more some. λ short. (Ok ran, (some, more.0, more.1), refl))
-    (if_both mid.held (λ h. AreEarly (records_of c (bytes_of h.files file)))
-    (λ h. ran ≡ counted (records_of c (bytes_of h.files file)))
-    (λ h. AreEarly (records_of c (bytes_of h.files file)) × (ran ≡ counted (records_of c (bytes_of h.files file))))
-    (λ h early is. (early, is)) r.early r.ran_is)
-    r.some
-
-modulate_ways : (old mid new : State) (file out : List ℕ) (c : Config) (outcome : Outcome) → SameCounts old mid
-    → ModulatesAndTells mid new file out c outcome → ModulationMust mid file c outcome ⊎ By old new outcome
-modulate_ways old mid new file out c outcome same (inl (stop, stops, with, is)) =
-    ⊎_elim (λ m. inl (subst (ModulationMust mid file c) (sym is) m))
-    (λ by. inr (by_before old mid new outcome same (subst (By mid new) (sym is) by)))
-    (modulate_stops c mid new file out stop stops)
-modulate_ways old mid new file out c outcome same (inr (ran, after, runs, holds, tells)) =
-    ⊎_elim
-    (λ (done : outcome ≡ Done). inl (subst (ModulationMust mid file c) (sym done) (modulate_ends c mid after file out ran runs)))
-    inr
-    (told old after new (modulate_line ran) outcome (runs.counts ∙ same) tells)
+modulate_ends : (file out : List ℕ) (c : Config) (mid after : State) (ran : Modulated)
+    → modulates.Ends file out c mid after ran → ModulationMust file c mid Done × SameCounts mid after
+modulate_ends file out c mid after ran (r, holds) = (
+  if_both mid.held (λ h. AreEarly (records_of c (bytes_of h.files file))
+      × (ran ≡ counted (records_of c (bytes_of h.files file)))) (λ h. records_of c (bytes_of h.files file) ≢ [])
+      (λ h. ModulatesIfShort (bytes_of h.files file) c Done) (λ h more some. λ short. (Ok ran, (some, more.0, more.1), refl))
+      (if_both mid.held (λ h. AreEarly (records_of c (bytes_of h.files file)))
+      (λ h. ran ≡ counted (records_of c (bytes_of h.files file)))
+      (λ h. AreEarly (records_of c (bytes_of h.files file)) × (ran ≡ counted (records_of c (bytes_of h.files file))))
+      (λ h early is. (early, is)) r.early r.ran_is)
+      r.some,
+  r.counts,
+)
 
 modulate_so : OnePlan → OneModulation → (old new : State) (config file out : List ℕ) (result : Outcome)
-    → Modulates old new config file out result → IsComplete (Modulate config file out) old new result
-modulate_so one run old new config file out result (inl (stop, none, is)) =
-    ⊎_elim
-    (λ s. IfSome_then old.held s
-    (λ held x. λ outcome must r w.
-    inl (unplanned_so one (bytes_of held.files config) (ModulateMustEnd (bytes_of held.files file)) stop result outcome x is
-    must)))
-    (λ by. failed (Modulate config file out) old new result (subst (By old new) (sym is) by))
-    (no_plan old new config stop none)
-modulate_so one run old new config file out result (inr (c, mid, gives, plan, runs)) =
-    ⊎_elim
-    (λ w. if_both old.held _ _ _
-    (λ held x m. λ outcome must r f. inl (modulated_so one run held config file out c result outcome (x, plan) m must))
-    gives.spells (before_named config old.held mid.held _ gives.reads.opened.held w))
-    (failed (Modulate config file out) old new result)
-    (modulate_ways old mid new file out c result gives.reads.counts runs)
+    → modulates.Modulates old new config file out result → IsComplete (Modulate config file out) old new result
+modulate_so one run old new config file out result does =
+    by_plan one (Modulate config file out) config (modulates.Follows file out) (λ held. ModulatesIfShort (bytes_of held.files file))
+    (λ held. ModulateMustEnd (bytes_of held.files file)) (λ held outcome m. m) (λ held c outcome m. m)
+    (λ held c mine outcome plan. modulate_one run (bytes_of held.files file) c mine outcome)
+    (λ c old mid new result same runs. ways (modulates.Ends file out c) (modulates.StopsSo file out c) modulates.modulate_line
+    modulate_cause (ModulationMust file c) (modulate_stops file out c) (modulate_ends file out c) old mid new result same runs)
+    old new result does
 
 -- ---- `receive`
 
-abbrev ReceptionMust : State → List ℕ → ℕ → Config → Outcome → Type 0
-ReceptionMust mid file id c outcome = IfSome mid.held (λ h. ReceivesIfShort (bytes_of h.files file) id c outcome)
+abbrev ReceptionMust : ℕ → List ℕ → Config → State → Outcome → Type 0
+ReceptionMust id file c mid outcome = IfSome mid.held (λ h. ReceivesIfShort (bytes_of h.files file) id c outcome)
 
-receive_stops : (c : Config) (id plp : ℕ) (mid new : State) (file out : List ℕ) (stop : ReceiveStop) → IsPlace c id plp
-    → receiving.Stops c plp mid new file out stop →
-    ReceptionMust mid file id c (receive_stopped stop) ⊎ By mid new (receive_stopped stop)
-receive_stops c id plp mid new file out (receive.RecordRefused number why) at s =
+receive_stops : (id : ℕ) (file out : List ℕ) (c : Config) (plp : ℕ) → IsPlace c id plp → (mid new : State)
+    (stop : RunStop ReceiveStop) → receives.StopsSo file out c plp mid new stop
+    → ReceptionMust id file c mid (stop_outcome receive_cause stop) ⊎ By mid new (stop_outcome receive_cause stop)
+receive_stops id file out c plp at mid new (run.Refused (receive.RecordRefused number why)) s =
     inl (IfSome_then mid.held s.works.holds
     (λ h w. inr (plp, at, λ short. (Err (receive.RecordRefused number why), (w.2.0, w.2.2.before), refl))))
-receive_stops c id plp mid new file out (receive.Files (run_fault.TooLong input)) at s =
+receive_stops id file out c plp at mid new (run.Files (run_fault.TooLong input)) s =
     inl (IfSome_then mid.held s.1.long (λ h long. inr (plp, at, λ short. absurd (omega (arith, long, short)))))
-receive_stops c id plp mid new file out (receive.Files (run_fault.ReadFault input)) at s = inr (inl s.1.rose)
-receive_stops c id plp mid new file out (receive.Files run_fault.WriteFault) at s = inr (inr (inl s.0.rose))
-receive_stops c id plp mid new file out receive.OutOfMemory at s = inr (inr (inr refl))
+receive_stops id file out c plp at mid new (run.Files (run_fault.ReadFault input)) s = inr (inl s.1.rose)
+receive_stops id file out c plp at mid new (run.Files run_fault.WriteFault) s = inr (inr (inl s.0.rose))
+receive_stops id file out c plp at mid new run.OutOfMemory s = inr (inr (inr refl))
 
-receive_ends : (c : Config) (id plp : ℕ) (mid after : State) (file out : List ℕ) (ran : Received) → IsPlace c id plp
-    → receiving.RunsAll c plp mid after file out ran → ReceptionMust mid file id c Done
-receive_ends c id plp mid after file out ran at r =
-    IfSome_then mid.held r.works.holds (λ h w. inr (plp, at, λ short. (Ok ran, (w.2.0, w.2.2), refl)))
+receive_ends : (id : ℕ) (file out : List ℕ) (c : Config) (plp : ℕ) → IsPlace c id plp → (mid after : State) (ran : Received)
+    → receives.Ends file out c plp mid after ran → ReceptionMust id file c mid Done × SameCounts mid after
+receive_ends id file out c plp at mid after ran (r, holds) =
+    (IfSome_then mid.held r.works.holds (λ h w. inr (plp, at, λ short. (Ok ran, (w.2.0, w.2.2), refl))), r.counts)
 
-receive_ways : (old mid new : State) (id : ℕ) (file out : List ℕ) (c : Config) (outcome : Outcome) → SameCounts old mid
-    → ReceiveFollows mid new id file out c outcome → ReceptionMust mid file id c outcome ⊎ By old new outcome
-receive_ways old mid new id file out c outcome same (inl (none, stay, is)) = inl (if_any mid.held _ (λ h. inl (none, is)))
-receive_ways old mid new id file out c outcome same (inr (plp, at, inl (stop, stops, is))) =
-    ⊎_elim (λ m. inl (subst (ReceptionMust mid file id c) (sym is) m))
-    (λ by. inr (by_before old mid new outcome same (subst (By mid new) (sym is) by)))
-    (receive_stops c id plp mid new file out stop at stops)
-receive_ways old mid new id file out c outcome same (inr (plp, at, inr (ran, after, runs, holds, tells))) =
-    ⊎_elim
-    (λ (done : outcome ≡ Done).
-    inl (subst (ReceptionMust mid file id c) (sym done) (receive_ends c id plp mid after file out ran at runs)))
-    inr
-    (told old after new (receive_line ran) outcome (runs.counts ∙ same) tells)
+receive_follows : (id : ℕ) (file out : List ℕ) (c : Config) (old mid new : State) (result : Outcome) → SameCounts old mid
+    → receives.Follows id file out c mid new result → ReceptionMust id file c mid result ⊎ By old new result
+receive_follows id file out c old mid new result same (inl (none, stay, is)) = inl (if_any mid.held _ (λ h. inl (none, is)))
+receive_follows id file out c old mid new result same (inr (plp, at, runs)) =
+    ways (receives.Ends file out c plp) (receives.StopsSo file out c plp) receives.receive_line receive_cause
+    (ReceptionMust id file c) (receive_stops id file out c plp at) (receive_ends id file out c plp at) old mid new result same runs
 
 receive_so : OnePlan → OneReception → (old new : State) (config : List ℕ) (id : ℕ) (file out : List ℕ) (result : Outcome)
-    → Receives old new config id file out result → IsComplete (Receive config id file out) old new result
-receive_so one run old new config id file out result (inl (stop, none, is)) =
-    ⊎_elim
-    (λ s. IfSome_then old.held s
-    (λ held x. λ outcome must r w.
-    inl (unplanned_so one (bytes_of held.files config) (ReceiveMustEnd (bytes_of held.files file) id) stop result outcome x is
-    must)))
-    (λ by. failed (Receive config id file out) old new result (subst (By old new) (sym is) by))
-    (no_plan old new config stop none)
-receive_so one run old new config id file out result (inr (c, mid, gives, plan, follows)) =
-    ⊎_elim
-    (λ w. if_both old.held _ _ _
-    (λ held x m. λ outcome must r f. inl (received_so one run held config file out id c result outcome (x, plan) m must))
-    gives.spells (before_named config old.held mid.held _ gives.reads.opened.held w))
-    (failed (Receive config id file out) old new result)
-    (receive_ways old mid new id file out c result gives.reads.counts follows)
+    → receives.Receives old new config id file out result → IsComplete (Receive config id file out) old new result
+receive_so one run old new config id file out result does =
+    by_plan one (Receive config id file out) config (receives.Follows id file out)
+    (λ held. ReceivesIfShort (bytes_of held.files file) id) (λ held. ReceiveMustEnd (bytes_of held.files file) id)
+    (λ held outcome m. m) (λ held c outcome m. m)
+    (λ held c mine outcome plan. receive_one run (bytes_of held.files file) id c mine outcome plan)
+    (receive_follows id file out) old new result does
+
+-- ---- `trial`
 
 trial_so : (old new : State) (seed frames : ℕ) (result : Outcome) → Tries old new seed frames result
     → IsComplete (Trial seed frames) old new result
-trial_so old new seed frames result (inl (same, is)) =
-    subst (IsComplete (Trial seed frames) old new) (sym is) (failed (Trial seed frames) old new OutOfMemory (inr (inr refl)))
+trial_so old new seed frames result (inl (trial.OutOfMemory, same, is)) =
+    if_any old.held _ (λ held. λ outcome must r w. inr (inl is))
+trial_so old new seed frames result (inl (trial.Broken, same, is)) =
+    if_any old.held _ (λ held. λ outcome must r w. inr (inr (tt, is)))
 trial_so old new seed frames result (inr (text, lines, tells)) =
     ⊎_elim
     (λ (done : result ≡ Done). subst (IsComplete (Trial seed frames) old new) (sym done)

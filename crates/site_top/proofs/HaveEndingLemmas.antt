@@ -18,8 +18,8 @@ use Rattle.site_top.specs.declared.outcome.Outcome.{Outcome}
 use Rattle.site_top.specs.declared.outcome.Outcome.TheVariants.{Done, UnknownPlp, WrongInputs}
 use Rattle.site_top.specs.Commands.{ShowPackets, ShowT2mi, ShowFrames, ShowConfig, Plan, Gateway, Modulate, Receive, Trial}
 use Rattle.site_top.specs.Laws.{CommandsHaveEnding}
-use Rattle.site_top.specs.Outcomes.{shown_outcome, given_outcome, config_outcome, ran_outcome, modulate_outcome, receive_outcome}
-use Rattle.site_top.specs.Runs.{AreShort, PlanMustEnd, ReceiveMustEnd, MustEnd}
+use Rattle.site_top.specs.Outcomes.{run_outcome, config_outcome, gateway_cause, modulate_cause, receive_cause, show_cause}
+use Rattle.site_top.specs.Runs.{AreShort, PlanMustEnd, ModulateMustEnd, ReceiveMustEnd, OverPlan}
 use Rattle.site_top.proofs.PlaceLemmas.{has_place}
 
 -- over a plan
@@ -27,24 +27,9 @@ plan_ends : RunEnds → (held : Held) (ins : List (List ℕ)) (c : Config) → A
     × PlanMustEnd held ins c outcome
 plan_ends run held ins c short plan =
     elim (cases_eq (length ins) (length c.plps)) [
-      | inl same ↦ let end = run c (file_at held ins) plan in (ran_outcome end.0, inr (same, short, (end.0, end.1, refl)))
+      | inl same ↦ let end = run c (file_at held ins) plan in (run_outcome gateway_cause end.0, inr (same, short, (end.0, end.1, refl)))
       | inr differ ↦ (WrongInputs (length c.plps) (length ins), inl (differ, refl))
     ]
-
--- over what CONFIG gives
-gateway_ends : RunEnds → (held : Held) (config out : List ℕ) (ins : List (List ℕ)) (given : Result Config ConfigStop)
-    → AreShort held ins → GivesPlan (bytes_of held.files config) given
-    → (outcome : Outcome) × MustEnd (Gateway config out ins) held outcome
-gateway_ends run held config out ins (Err stop) short gives = (config_outcome stop, inl (stop, gives, refl))
-gateway_ends run held config out ins (Ok c) short gives = let end = plan_ends run held ins c short gives.1 in
-    (end.0, inr (c, gives, end.1))
-
-modulate_ends : ModulationEnds → (held : Held) (config file out : List ℕ) (given : Result Config ConfigStop)
-    → length (bytes_of held.files file) < longest_file → GivesPlan (bytes_of held.files config) given
-    → (outcome : Outcome) × MustEnd (Modulate config file out) held outcome
-modulate_ends run held config file out (Err stop) short gives = (config_outcome stop, inl (stop, gives, refl))
-modulate_ends run held config file out (Ok c) short gives =
-    let end = run c (bytes_of held.files file) in (modulate_outcome end.0, inr (c, gives, (short, (end.0, end.1, refl))))
 
 receive_ends : ReceptionEnds → (bytes : List ℕ) (id : ℕ) (c : Config) → (length bytes < longest_file) × AreBytes bytes → IsPlan c
     → (outcome : Outcome) × ReceiveMustEnd bytes id c outcome
@@ -52,31 +37,35 @@ receive_ends run bytes id c short plan =
     elim (has_place c plan.rules id) [
       | inl none ↦ (UnknownPlp id, inl (none, refl))
       | inr found ↦ let end = run c found.0 bytes plan found.1.inside short.1 in
-          (receive_outcome end.0, inr (found.0, found.1, short.0, (end.0, end.1, refl)))
+          (run_outcome receive_cause end.0, inr (found.0, found.1, short.0, (end.0, end.1, refl)))
     ]
 
-reception_ends : ReceptionEnds → (held : Held) (config file out : List ℕ) (id : ℕ) (given : Result Config ConfigStop)
-    → (length (bytes_of held.files file) < longest_file) × AreBytes (bytes_of held.files file)
-    → GivesPlan (bytes_of held.files config) given → (outcome : Outcome) × MustEnd (Receive config id file out) held outcome
-reception_ends run held config file out id (Err stop) short gives = (config_outcome stop, inl (stop, gives, refl))
-reception_ends run held config file out id (Ok c) short gives = let end =
-    receive_ends run (bytes_of held.files file) id c short gives.1 in (end.0, inr (c, gives, end.1))
+-- over what CONFIG gives
+by_plan : (text : List ℕ) (Must : Config → Outcome → Type 0) → ((c : Config) → IsPlan c → (outcome : Outcome) × Must c outcome)
+    → (given : Result Config ConfigStop) → GivesPlan text given → (outcome : Outcome) × OverPlan text Must outcome
+by_plan text Must over (Err stop) gives = (config_outcome stop, inl (stop, gives, refl))
+by_plan text Must over (Ok c) gives = let end = over c gives.1 in (end.0, inr (c, gives, end.1))
 
 pub commands_end : EachEnds → EachRecordsEnd → ConfigEnds → PlanEnds → RunEnds → ModulationEnds → ReceptionEnds
     → CommandsHaveEnding
 commands_end packets records config plan run modulate receive (ShowPackets file) held short = let end =
-    packets (bytes_of held.files file) in (shown_outcome end.0, (short, (end.0, end.1, refl)))
+    packets (bytes_of held.files file) in (run_outcome show_cause end.0, (short, (end.0, end.1, refl)))
 commands_end packets records config plan run modulate receive (ShowT2mi file) held short = (Done, (short, refl))
 commands_end packets records config plan run modulate receive (ShowFrames file) held short = let end =
-    records (bytes_of held.files file) short.1 in (shown_outcome end.0, (short.0, (end.0, end.1, refl)))
+    records (bytes_of held.files file) short.1 in (run_outcome show_cause end.0, (short.0, (end.0, end.1, refl)))
 commands_end packets records config plan run modulate receive (ShowConfig file) held short = let end =
-    config (bytes_of held.files file) in (given_outcome end.0, (end.0, end.1, refl))
+    config (bytes_of held.files file) in (run_outcome config_outcome end.0, (end.0, end.1, refl))
 commands_end packets records config plan run modulate receive (Plan file) held short = let end =
-    plan (bytes_of held.files file) in (given_outcome end.0, (end.0, end.1, refl))
-commands_end packets records config plan run modulate receive (Gateway file out ins) held short = let end =
-    plan (bytes_of held.files file) in gateway_ends run held file out ins end.0 short end.1
-commands_end packets records config plan run modulate receive (Modulate config_file file out) held short = let end =
-    plan (bytes_of held.files config_file) in modulate_ends modulate held config_file file out end.0 short end.1
+    plan (bytes_of held.files file) in (run_outcome config_outcome end.0, (end.0, end.1, refl))
+commands_end packets records config plan run modulate receive (Gateway file out ins) held short =
+    let end = plan (bytes_of held.files file) in
+    by_plan (bytes_of held.files file) (PlanMustEnd held ins) (λ c is. plan_ends run held ins c short is) end.0 end.1
+commands_end packets records config plan run modulate receive (Modulate config_file file out) held short =
+    let end = plan (bytes_of held.files config_file) in
+    by_plan (bytes_of held.files config_file) (ModulateMustEnd (bytes_of held.files file))
+    (λ c is. let m = modulate c (bytes_of held.files file) in (run_outcome modulate_cause m.0, (short, (m.0, m.1, refl)))) end.0 end.1
 commands_end packets records config plan run modulate receive (Receive config_file id file out) held short =
-    let end = plan (bytes_of held.files config_file) in reception_ends receive held config_file file out id end.0 short end.1
+    let end = plan (bytes_of held.files config_file) in
+    by_plan (bytes_of held.files config_file) (ReceiveMustEnd (bytes_of held.files file) id)
+    (λ c is. receive_ends receive (bytes_of held.files file) id c short is) end.0 end.1
 commands_end packets records config plan run modulate receive (Trial seed frames) held short = (Done, refl)

@@ -6,5 +6,6 @@ pub mod RunLemmas
 pub mod HaveEndingLemmas
 mod SurvivorLemmas
 pub mod PlaceLemmas
+pub mod PlanCommandLemmas
 mod RecoverLemmas
 pub mod TouchLemmas

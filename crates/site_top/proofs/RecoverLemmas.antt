@@ -24,18 +24,18 @@ use Rattle.site_frame.specs.Whole.{moment_of, record_bytes, FitsRecord}
 use Rattle.site_frame.specs.declared.reading.RecordView.{RecordView}
 use Rattle.site_frame.specs.declared.reading.RecordView.TheVariants.{Muted}
 use Rattle.site_frame.proofs.RecordSplitLemmas.{stuck_nil, same_records}
-use Rattle.frame_records.specs.Frames.{frame_of, run_frames}
-use Rattle.frame_records.specs.Laws.{RangeFits}
-use Rattle.frame_records.specs.Records.{record_of, file_bytes}
-use Rattle.frame_records.specs.Recover.{recover}
-use Rattle.sent_frames.specs.SentFrames.{run_length}
-use Rattle.sent_frames.specs.Types.{TypesFit}
+use Rattle.record_laws.specs.Frames.{frame_of, run_frames}
+use Rattle.record_laws.specs.Laws.{RangeFits}
+use Rattle.record_laws.specs.Records.{record_of, file_bytes}
+use Rattle.record_laws.specs.Recover.{recover}
+use Rattle.frame_laws.specs.SentFrames.{run_length}
+use Rattle.frame_laws.specs.Types.{TypesFit}
 use Rattle.plp_receiver.specs.Epochs.{Readback}
 use Rattle.receive_run.specs.ReceiveRun.{HasAll, RunsAll}
 use Rattle.receive_run.specs.Received.{GivesBack, Received}
 use Rattle.receive_run.specs.declared.stop.Ran.{Ran}
-use Rattle.recover.specs.Laws.{RunRecovers, RunComesBack, IsCanonical}
-use Rattle.recover.specs.Told.{IsPacket}
+use Rattle.recover_laws.specs.Laws.{RunRecovers, RunComesBack, IsCanonical}
+use Rattle.recover_laws.specs.ToldEpochs.{IsPacket}
 use Rattle.site_top.specs.ReceiveCommand.{ComesBack, HoldsWhatComesBack, ReceivedComesBack}
 
 -- what the laws say that are wanted

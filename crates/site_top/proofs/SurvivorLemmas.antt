@@ -8,12 +8,14 @@ use Rattle.plp_config.specs.declared.config.Config.{Config}
 use Rattle.open_group.specs.Written.{spelled}
 use Rattle.modulator.specs.StandsFor.{bytes_due}
 use Rattle.file_run.specs.FileRun.{Writes}
+use Rattle.file_run.specs.declared.stop.RunStop.{RunStop}
+use Rattle.file_run.specs.declared.stop.RunStop.TheVariants.{Refused, Files, OutOfMemory}
 use Rattle.modulate_run.specs.ModulateRun.{records_of, RunsAll, FindsNone, Stops}
 use Rattle.modulate_run.specs.declared.stop.Ran.{Ran}
-use Rattle.modulate_run.specs.declared.stop.RunStop.{RunStop}
-use Rattle.modulate_run.specs.declared.stop.RunStop.TheVariants.{NoSuperframe, TooManyFrames, Files, OutOfMemory}
-use Rattle.sent_frames.specs.Laws.{WrittenMustCome, UndamagedMustCome}
-use Rattle.sent_frames.specs.SentFrames.{run_length}
+use Rattle.modulate_run.specs.declared.stop.ModulateStop.{ModulateStop}
+use Rattle.modulate_run.specs.declared.stop.ModulateStop.TheVariants.{NoSuperframe, TooManyFrames}
+use Rattle.frame_laws.specs.Laws.{WrittenMustCome, UndamagedMustCome}
+use Rattle.frame_laws.specs.SentFrames.{run_length}
 use Rattle.site_top.specs.ModulateCommand.{MustCome, HoldsWhatMustCome, StopsWith}
 
 must_come : (c : Config) (file bytes : List ℕ) → WrittenMustCome c → UndamagedMustCome c → bytes ≡ bytes_due c true file
@@ -60,9 +62,9 @@ none_due c old new file out honest undamaged r =
         (ap (λ (z : Held). bytes_of z.files out) (same_Some y w.0 w.1) ∙ ap (λ (o : Option (List ℕ)). unwrap_or o []) w.2.1
         ∙ w.2.2 ∙ sym (ap (flat_map (spelled c)) none))
 
-pub stops_with : (c : Config) (old new : State) (file out : List ℕ) (stop : RunStop) → WrittenMustCome c → UndamagedMustCome c
+pub stops_with : (c : Config) (old new : State) (file out : List ℕ) (stop : RunStop ModulateStop) → WrittenMustCome c → UndamagedMustCome c
     → Stops c old new file out stop → StopsWith c old new file out stop
-stops_with c old new file out NoSuperframe honest undamaged s = none_due c old new file out honest undamaged s
-stops_with c old new file out TooManyFrames honest undamaged s = tt
+stops_with c old new file out (Refused NoSuperframe) honest undamaged s = none_due c old new file out honest undamaged s
+stops_with c old new file out (Refused TooManyFrames) honest undamaged s = tt
 stops_with c old new file out (Files fault) honest undamaged s = tt
 stops_with c old new file out OutOfMemory honest undamaged s = tt

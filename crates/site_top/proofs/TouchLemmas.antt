@@ -14,18 +14,19 @@ use Rattle.desk_io.specs.Opening.{Opened, Unopened}
 use Rattle.file_run.specs.FileRun as running
 use Rattle.file_run.specs.FileRun.{SameFiles, OpensInputs, FailsToCreateOutput, Works}
 use Rattle.file_run.specs.declared.stop.RunFault.TheVariants as run_fault
+use Rattle.file_run.specs.declared.stop.RunStop.{RunStop}
+use Rattle.file_run.specs.declared.stop.RunStop.TheVariants as run
 use Rattle.gateway_run.specs.GatewayRun as gateway
-use Rattle.gateway_run.specs.declared.stop.RunStop.{RunStop}
-use Rattle.gateway_run.specs.declared.stop.RunStop.TheVariants as run
+use Rattle.gateway_run.specs.declared.stop.GatewayStop.{GatewayStop}
+use Rattle.gateway_run.specs.declared.stop.GatewayStop.TheVariants as gateway_stop
 use Rattle.modulate_run.specs.ModulateRun as modulating
-use Rattle.modulate_run.specs.declared.stop.RunStop.{RunStop as ModulateStop}
-use Rattle.modulate_run.specs.declared.stop.RunStop.TheVariants as modulate
+use Rattle.modulate_run.specs.declared.stop.ModulateStop.{ModulateStop}
+use Rattle.modulate_run.specs.declared.stop.ModulateStop.TheVariants as modulate
 use Rattle.receive_run.specs.ReceiveRun as receiving
-use Rattle.receive_run.specs.declared.stop.RunStop.{RunStop as ReceiveStop}
-use Rattle.receive_run.specs.declared.stop.RunStop.TheVariants as receive
+use Rattle.receive_run.specs.declared.stop.ReceiveStop.{ReceiveStop}
+use Rattle.receive_run.specs.declared.stop.ReceiveStop.TheVariants as receive
 use Rattle.show_run.specs.Shows.{Shows, ReadsFile}
 use Rattle.show_run.specs.declared.stop.ShowStop.{ShowStop}
-use Rattle.show_run.specs.declared.stop.ShowStop.TheVariants as show
 use Rattle.site_top.specs.declared.outcome.Outcome.{Outcome}
 use Rattle.site_top.specs.declared.outcome.Outcome.TheVariants as outcome
 use Rattle.site_top.specs.Commands.{Command, ShowPackets, ShowT2mi, ShowFrames, ShowConfig, Plan, Gateway, Modulate, Receive}
@@ -36,6 +37,8 @@ use Rattle.site_top.specs.ModulateCommand as modulates
 use Rattle.site_top.specs.ReceiveCommand as receives
 use Rattle.site_top.specs.Endings.{Ends}
 use Rattle.site_top.specs.Laws.{OnlyOutChanges}
+use Rattle.site_top.specs.Outcomes.{gateway_cause, modulate_cause, receive_cause}
+use Rattle.site_top.specs.PlanCommand.{RunsAndTells, ByPlan}
 use Rattle.site_top.specs.Runs.{Does}
 use Rattle.site_top.specs.Saying.{Tells}
 use Rattle.site_top.specs.TrialCommand.{Tries}
@@ -216,11 +219,29 @@ run_works old new out ins places Holds w = record {
   said = w.said ∙ append-none old.said;
 }
 
+-- a run whose line is told
+runs_touch : {R E : Type 0} (Ends : State → State → R → Type 0) (Stops : State → State → RunStop E → Type 0) (line : R → List ℕ)
+    (cause : E → Outcome) (out : Option (List ℕ)) (reads : ℕ)
+    → ((mid new : State) (stop : RunStop E) → Stops mid new stop → Touches out reads mid new)
+    → ((mid after : State) (ran : R) → Ends mid after ran → Touches out reads mid after)
+    → (mid new : State) (result : Outcome) → RunsAndTells Ends Stops line cause mid new result → Touches out reads mid new
+runs_touch Ends Stops line cause out reads stopped ended mid new result r = ⊎_elim
+    (λ s. stopped mid new s.0 s.1)
+    (λ a. told out reads mid a.1 new (line a.0) result (ended mid a.1 a.0 a.2) a.3) r
+
+-- a command by the plan of CONFIG
+plan_then : (Follows : Config → State → State → Outcome → Type 0) (out : Option (List ℕ)) (reads : ℕ)
+    → ((c : Config) (mid new : State) (result : Outcome) → Follows c mid new result → Touches out reads mid new)
+    → (old new : State) (config : List ℕ) (result : Outcome) → ByPlan old new config Follows result → Touches out (1 + reads) old new
+plan_then Follows out reads follows old new config result b = ⊎_elim
+    (λ n. fewer out reads old new (gives_no_plan out old new config n.0 n.1))
+    (λ p. behind out reads old p.1 new config p.0 p.2 (follows p.0 p.1 new result p.4)) b
+
 -- that of a gateway
-gateway_stops : (c : Config) (old new : State) (out : List ℕ) (ins : List (List ℕ)) (stop : RunStop)
+gateway_stops : (c : Config) (old new : State) (out : List ℕ) (ins : List (List ℕ)) (stop : RunStop GatewayStop)
     → gateway.Stops c old new out ins stop → Touches (Some out) (length ins) old new
-gateway_stops c old new out ins (run.Bad plp packet) s = run_works old new out ins s.places _ s.works
-gateway_stops c old new out ins run.TooManyFrames s = run_works old new out ins s.places _ s.works
+gateway_stops c old new out ins (run.Refused (gateway_stop.Bad plp packet)) s = run_works old new out ins s.places _ s.works
+gateway_stops c old new out ins (run.Refused gateway_stop.TooManyFrames) s = run_works old new out ins s.places _ s.works
 gateway_stops c old new out ins (run.Files (run_fault.TooLong input)) s = run_works old new out ins s.places _ s.works
 gateway_stops c old new out ins (run.Files (run_fault.ReadFault input)) s =
     ⊎_elim (λ o. run_opens old new out ins input o) (λ w. run_works old new out ins w.places _ w.works) s.1
@@ -228,86 +249,68 @@ gateway_stops c old new out ins (run.Files run_fault.WriteFault) s =
     ⊎_elim (λ f. run_creates old new out ins f) (λ w. run_works old new out ins w.places _ w.works) s.1
 gateway_stops c old new out ins run.OutOfMemory s = untouched (Some out) (length ins) old new s
 
-gateway_runs : (c : Config) (mid new : State) (out : List ℕ) (ins : List (List ℕ)) (result : Outcome)
-    → gateways.RunsAndTells mid new out ins c result → Touches (Some out) (length ins) mid new
-gateway_runs c mid new out ins result r = ⊎_elim
-    (λ s. gateway_stops c mid new out ins s.0 s.1)
-    (λ a. told (Some out) (length ins) mid a.2 new _ result (run_works mid a.2 out ins a.3.places _ a.3.works) a.4) r
-
-gateway_touches : (old new : State) (config out : List ℕ) (ins : List (List ℕ)) (result : Outcome)
-    → gateways.Gateways old new config out ins result → Touches (Some out) (1 + length ins) old new
-gateway_touches old new config out ins result g = ⊎_elim
-    (λ n. fewer (Some out) (length ins) old new (gives_no_plan (Some out) old new config n.0 n.1))
-    (λ p. behind (Some out) (length ins) old p.1 new config p.0 p.2
-    (⊎_elim (λ none. untouched (Some out) (length ins) p.1 new none.0) (λ all. gateway_runs p.0 p.1 new out ins result all.1)
-    p.4)) g
+gateway_follows : (out : List ℕ) (ins : List (List ℕ)) (c : Config) (mid new : State) (result : Outcome)
+    → gateways.Follows out ins c mid new result → Touches (Some out) (length ins) mid new
+gateway_follows out ins c mid new result f = ⊎_elim
+    (λ none. untouched (Some out) (length ins) mid new none.0)
+    (λ all. runs_touch (gateways.Ends out ins c) (gateways.StopsSo out ins c) gateways.gateway_line gateway_cause (Some out)
+    (length ins) (λ a b stop s. gateway_stops c a b out ins stop s) (λ a b ran r. run_works a b out ins r.places _ r.works)
+    mid new result all.1) f
 
 -- that of a modulator
-modulate_stops : (c : Config) (old new : State) (name out : List ℕ) (stop : ModulateStop)
+modulate_stops : (c : Config) (old new : State) (name out : List ℕ) (stop : RunStop ModulateStop)
     → modulating.Stops c old new name out stop → Touches (Some out) 1 old new
-modulate_stops c old new name out modulate.NoSuperframe s = run_works old new out (name ∷ []) _ _ s.works
-modulate_stops c old new name out modulate.TooManyFrames s = run_works old new out (name ∷ []) _ _ s.works
-modulate_stops c old new name out (modulate.Files (run_fault.TooLong input)) s = run_works old new out (name ∷ []) _ _ s.1.works
-modulate_stops c old new name out (modulate.Files (run_fault.ReadFault input)) s =
+modulate_stops c old new name out (run.Refused modulate.NoSuperframe) s = run_works old new out (name ∷ []) _ _ s.works
+modulate_stops c old new name out (run.Refused modulate.TooManyFrames) s = run_works old new out (name ∷ []) _ _ s.works
+modulate_stops c old new name out (run.Files (run_fault.TooLong input)) s = run_works old new out (name ∷ []) _ _ s.1.works
+modulate_stops c old new name out (run.Files (run_fault.ReadFault input)) s =
     ⊎_elim (λ o. run_opens old new out (name ∷ []) 0 o) (λ w. run_works old new out (name ∷ []) _ _ w.works) s.2
-modulate_stops c old new name out (modulate.Files run_fault.WriteFault) s =
+modulate_stops c old new name out (run.Files run_fault.WriteFault) s =
     ⊎_elim (λ f. run_creates old new out (name ∷ []) f) (λ w. run_works old new out (name ∷ []) _ _ w.works) s.1
-modulate_stops c old new name out modulate.OutOfMemory s = untouched (Some out) 1 old new s
+modulate_stops c old new name out run.OutOfMemory s = untouched (Some out) 1 old new s
 
-modulate_runs : (c : Config) (mid new : State) (file out : List ℕ) (result : Outcome)
-    → modulates.RunsAndTells mid new file out c result → Touches (Some out) 1 mid new
-modulate_runs c mid new file out result r = ⊎_elim
-    (λ s. modulate_stops c mid new file out s.0 s.1)
-    (λ a. told (Some out) 1 mid a.1 new _ result (run_works mid a.1 out (file ∷ []) _ _ a.2.works) a.4) r
-
-modulate_touches : (old new : State) (config file out : List ℕ) (result : Outcome)
-    → modulates.Modulates old new config file out result → Touches (Some out) 2 old new
-modulate_touches old new config file out result g = ⊎_elim
-    (λ n. fewer (Some out) 1 old new (gives_no_plan (Some out) old new config n.0 n.1))
-    (λ p. behind (Some out) 1 old p.1 new config p.0 p.2 (modulate_runs p.0 p.1 new file out result p.4)) g
+modulate_follows : (file out : List ℕ) (c : Config) (mid new : State) (result : Outcome)
+    → modulates.Follows file out c mid new result → Touches (Some out) 1 mid new
+modulate_follows file out c mid new result f =
+    runs_touch (modulates.Ends file out c) (modulates.StopsSo file out c) modulates.modulate_line modulate_cause (Some out) 1
+    (λ a b stop s. modulate_stops c a b file out stop s.0) (λ a b ran r. run_works a b out (file ∷ []) _ _ r.0.works) mid new result
+    f
 
 -- that of a receiver
-receive_stops : (c : Config) (plp : ℕ) (old new : State) (name out : List ℕ) (stop : ReceiveStop)
+receive_stops : (c : Config) (plp : ℕ) (old new : State) (name out : List ℕ) (stop : RunStop ReceiveStop)
     → receiving.Stops c plp old new name out stop → Touches (Some out) 1 old new
-receive_stops c plp old new name out (receive.RecordRefused number why) s = run_works old new out (name ∷ []) _ _ s.works
-receive_stops c plp old new name out (receive.Files (run_fault.TooLong input)) s = run_works old new out (name ∷ []) _ _ s.1.works
-receive_stops c plp old new name out (receive.Files (run_fault.ReadFault input)) s =
+receive_stops c plp old new name out (run.Refused (receive.RecordRefused number why)) s = run_works old new out (name ∷ []) _ _ s.works
+receive_stops c plp old new name out (run.Files (run_fault.TooLong input)) s = run_works old new out (name ∷ []) _ _ s.1.works
+receive_stops c plp old new name out (run.Files (run_fault.ReadFault input)) s =
     ⊎_elim (λ o. run_opens old new out (name ∷ []) 0 o) (λ w. run_works old new out (name ∷ []) _ _ w.works) s.2
-receive_stops c plp old new name out (receive.Files run_fault.WriteFault) s =
+receive_stops c plp old new name out (run.Files run_fault.WriteFault) s =
     ⊎_elim (λ f. run_creates old new out (name ∷ []) f) (λ w. run_works old new out (name ∷ []) _ _ w.works) s.1
-receive_stops c plp old new name out receive.OutOfMemory s = untouched (Some out) 1 old new s
+receive_stops c plp old new name out run.OutOfMemory s = untouched (Some out) 1 old new s
 
-receive_runs : (c : Config) (plp : ℕ) (mid new : State) (file out : List ℕ) (result : Outcome)
-    → receives.RunsAndTells mid new file out c plp result → Touches (Some out) 1 mid new
-receive_runs c plp mid new file out result r = ⊎_elim
-    (λ s. receive_stops c plp mid new file out s.0 s.1)
-    (λ a. told (Some out) 1 mid a.1 new _ result (run_works mid a.1 out (file ∷ []) _ _ a.2.works) a.4) r
-
-receive_touches : (old new : State) (config : List ℕ) (id : ℕ) (file out : List ℕ) (result : Outcome)
-    → receives.Receives old new config id file out result → Touches (Some out) 2 old new
-receive_touches old new config id file out result g = ⊎_elim
-    (λ n. fewer (Some out) 1 old new (gives_no_plan (Some out) old new config n.0 n.1))
-    (λ p. behind (Some out) 1 old p.1 new config p.0 p.2
-    (⊎_elim (λ none. untouched (Some out) 1 p.1 new none.1) (λ all. receive_runs p.0 all.0 p.1 new file out result all.2) p.4)) g
+receive_follows : (id : ℕ) (file out : List ℕ) (c : Config) (mid new : State) (result : Outcome)
+    → receives.Follows id file out c mid new result → Touches (Some out) 1 mid new
+receive_follows id file out c mid new result f = ⊎_elim
+    (λ none. untouched (Some out) 1 mid new none.1)
+    (λ all. runs_touch (receives.Ends file out c all.0) (receives.StopsSo file out c all.0) receives.receive_line receive_cause
+    (Some out) 1 (λ a b stop s. receive_stops c all.0 a b file out stop s)
+    (λ a b ran r. run_works a b out (file ∷ []) _ _ r.0.works) mid new result all.2) f
 
 -- a file that is shown
-file_read : (old new : State) (name : List ℕ) (given : ℕ) (text : List ℕ) (result : Result ℕ ShowStop)
+file_read : (old new : State) (name : List ℕ) (given : ℕ) (text : List ℕ) (result : Result ℕ (RunStop ShowStop))
     → ReadsFile old new name given result → new.said ≡ option_map (λ (said : List ℕ). said ++ text) old.said
     → Touches None 1 old new
 file_read old new name given text (Ok count) r said = opened_one None old new name given text r.0 said
-file_read old new name given text (Err (show.PacketRefused at why)) r said = opened_one None old new name given text r.0 said
-file_read old new name given text (Err (show.RecordRefused number why)) r said = opened_one None old new name given text r.0 said
-file_read old new name given text (Err (show.Files (run_fault.TooLong input))) r said =
+file_read old new name given text (Err (run.Refused why)) r said = opened_one None old new name given text r.0 said
+file_read old new name given text (Err (run.Files (run_fault.TooLong input))) r said =
     opened_one None old new name given text r.1 said
-file_read old new name given text (Err (show.Files (run_fault.ReadFault input))) r said =
+file_read old new name given text (Err (run.Files (run_fault.ReadFault input))) r said =
     ⊎_elim (λ u. unopened None old new text u.0) (λ o. opened_one None old new name given text o.0 said) r.1
-file_read old new name given text (Err (show.Files run_fault.WriteFault)) r said =
+file_read old new name given text (Err (run.Files run_fault.WriteFault)) r said =
     opened_one None old new name given text r.0 said
-file_read old new name given text (Err show.OutOfMemory) r said = untouched None 1 old new r
-file_read old new name given text (Err show.NoRoom) r said = opened_one None old new name given text r.0 said
+file_read old new name given text (Err run.OutOfMemory) r said = untouched None 1 old new r
 
-shown_touches : {IsText : List ℕ → ℕ → Result ℕ ShowStop → List ℕ → Type 0} (old new : State) (name : List ℕ)
-    (result : Result ℕ ShowStop) → Shows IsText old new name result → Touches None 1 old new
+shown_touches : {IsText : List ℕ → ℕ → Result ℕ (RunStop ShowStop) → List ℕ → Type 0} (old new : State) (name : List ℕ)
+    (result : Result ℕ (RunStop ShowStop)) → Shows IsText old new name result → Touches None 1 old new
 shown_touches old new name result s = file_read old new name s.given s.text result s.reads s.grew
 
 -- a configuration that is shown, and a plan
@@ -324,7 +327,7 @@ plan_touches old new name result s = ⊎_elim
 -- a trial
 trial_touches : (old new : State) (seed frames : ℕ) (result : Outcome) → Tries old new seed frames result → Touches None 0 old new
 trial_touches old new seed frames result s = ⊎_elim
-    (λ n. untouched None 0 old new n.0)
+    (λ n. untouched None 0 old new n.1)
     (λ t. told None 0 old old new _ result (untouched None 0 old old refl) t.2) s
 
 pub only_out_changes : OnlyOutChanges
@@ -335,9 +338,12 @@ only_out_changes (ShowConfig file) old new result does = config_touches old new 
 only_out_changes (Plan config) old new result does = plan_touches old new config result does
 only_out_changes (Gateway config out ins) old new result does =
     let more : 1 + length ins ≡ suc (length ins) = omega arith in
-    subst (λ (n : ℕ). Touches (Some out) n old new) more (gateway_touches old new config out ins result does)
-only_out_changes (Modulate config file out) old new result does = modulate_touches old new config file out result does
-only_out_changes (Receive config id file out) old new result does = receive_touches old new config id file out result does
+    subst (λ (n : ℕ). Touches (Some out) n old new) more
+    (plan_then (gateways.Follows out ins) (Some out) (length ins) (gateway_follows out ins) old new config result does)
+only_out_changes (Modulate config file out) old new result does =
+    plan_then (modulates.Follows file out) (Some out) 1 (modulate_follows file out) old new config result does
+only_out_changes (Receive config id file out) old new result does =
+    plan_then (receives.Follows id file out) (Some out) 1 (receive_follows id file out) old new config result does
 only_out_changes (Trial seed frames) old new result does = trial_touches old new seed frames result does
 
 -- its last line changes nothing of that

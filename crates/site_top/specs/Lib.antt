@@ -6,6 +6,7 @@ pub mod Laws
 pub mod ModulateCommand
 pub mod ReceiveCommand
 pub mod Outcomes
+pub mod PlanCommand
 pub mod PlanLines
 pub mod Runs
 pub mod Saying

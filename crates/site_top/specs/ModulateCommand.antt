@@ -1,23 +1,22 @@
 -- What `modulate CONFIG IN OUT` does, up to its last line.
-use Rattle.std.specs.Prelude.{◌≡◌, ◌⊎◌, ◌≤◌, List, ℕ, ◌++◌, codes, IfSome}
+use Rattle.std.specs.Prelude.{◌≡◌, ◌≤◌, List, ℕ, ◌++◌, codes, IfSome}
 use Rattle.std.specs.Fmt.{decimal}
 use Rattle.ports.specs.Desk.{State, bytes_of}
-use Rattle.plp_config.specs.Capacity.{IsPlan}
 use Rattle.plp_config.specs.declared.config.Config.{Config}
 use Rattle.plp_config.specs.declared.moment.TheConstants.{MOST_FRAMES}
 use Rattle.t2mi_stream.specs.Received.{Fate}
-use Rattle.frame_records.specs.Records.{file_bytes}
-use Rattle.damage.specs.Streams.{Honest}
-use Rattle.sent_frames.specs.SentFrames.{run_length, run_stream, stream_bytes, all_kept, run_records}
-use Rattle.config_file.specs.ConfigFile.{Gives, GivesNoPlan}
-use Rattle.config_file.specs.declared.stop.ConfigStop.{ConfigStop}
+use Rattle.record_laws.specs.Records.{file_bytes}
+use Rattle.damage_laws.specs.Streams.{Honest}
+use Rattle.frame_laws.specs.SentFrames.{run_length, run_stream, stream_bytes, all_kept, run_records}
+use Rattle.file_run.specs.declared.stop.RunStop.{RunStop}
+use Rattle.file_run.specs.declared.stop.RunStop.TheVariants.{Refused, Files, OutOfMemory}
 use Rattle.modulate_run.specs.ModulateRun.{RunsAll, Stops}
 use Rattle.modulate_run.specs.declared.stop.Ran.{Ran}
-use Rattle.modulate_run.specs.declared.stop.RunStop.{RunStop}
-use Rattle.modulate_run.specs.declared.stop.RunStop.TheVariants.{NoSuperframe, TooManyFrames, Files, OutOfMemory}
+use Rattle.modulate_run.specs.declared.stop.ModulateStop.{ModulateStop}
+use Rattle.modulate_run.specs.declared.stop.ModulateStop.TheVariants.{NoSuperframe, TooManyFrames}
 use Rattle.site_top.specs.declared.outcome.Outcome.{Outcome}
-use Rattle.site_top.specs.Outcomes.{config_outcome, modulate_stopped}
-use Rattle.site_top.specs.Saying.{Tells}
+use Rattle.site_top.specs.Outcomes.{modulate_cause}
+use Rattle.site_top.specs.PlanCommand.{RunsAndTells, ByPlan}
 
 -- the line of a run to its end
 abbrev pub modulate_line : Ran → List ℕ
@@ -43,21 +42,23 @@ HoldsWhatMustCome c old new file out =
     IfSome old.held (λ h. IfSome new.held (λ k. MustCome c (bytes_of h.files file) (bytes_of k.files out)))
 
 -- So it is also if IN has no record, and OUT is empty.
-abbrev pub StopsWith : Config → State → State → List ℕ → List ℕ → RunStop → Type 0
-StopsWith c old new file out NoSuperframe = HoldsWhatMustCome c old new file out
-StopsWith c old new file out TooManyFrames = Unit {0}
+abbrev pub StopsWith : Config → State → State → List ℕ → List ℕ → RunStop ModulateStop → Type 0
+StopsWith c old new file out (Refused NoSuperframe) = HoldsWhatMustCome c old new file out
+StopsWith c old new file out (Refused TooManyFrames) = Unit {0}
 StopsWith c old new file out (Files fault) = Unit {0}
 StopsWith c old new file out OutOfMemory = Unit {0}
 
--- The run does not come to its end, or it does, and then its line is told.
-abbrev pub RunsAndTells : State → State → List ℕ → List ℕ → Config → Outcome → Type 0
-RunsAndTells mid new file out c outcome =
-    ((stop : RunStop) × Stops c mid new file out stop × StopsWith c mid new file out stop × (outcome ≡ modulate_stopped stop))
-    ⊎ ((ran : Ran) × (after : State) × RunsAll c mid after file out ran × HoldsWhatMustCome c mid after file out
-    × Tells after new (modulate_line ran) outcome)
+-- a run to its end, and one that stops
+abbrev pub Ends : List ℕ → List ℕ → Config → State → State → Ran → Type 0
+Ends file out c mid after ran = RunsAll c mid after file out ran × HoldsWhatMustCome c mid after file out
+
+abbrev pub StopsSo : List ℕ → List ℕ → Config → State → State → RunStop ModulateStop → Type 0
+StopsSo file out c mid new stop = Stops c mid new file out stop × StopsWith c mid new file out stop
+
+-- the run
+abbrev pub Follows : List ℕ → List ℕ → Config → State → State → Outcome → Type 0
+Follows file out c mid new outcome = RunsAndTells (Ends file out c) (StopsSo file out c) modulate_line modulate_cause mid new outcome
 
 -- `modulate CONFIG IN OUT`: CONFIG gives no plan, and nothing else is done; or the run follows.
 abbrev pub Modulates : State → State → List ℕ → List ℕ → List ℕ → Outcome → Type 0
-Modulates old new config file out outcome =
-    ((stop : ConfigStop) × GivesNoPlan old new config stop × (outcome ≡ config_outcome stop))
-    ⊎ ((c : Config) × (mid : State) × Gives old mid config c × IsPlan c × RunsAndTells mid new file out c outcome)
+Modulates old new config file out outcome = ByPlan old new config (Follows file out) outcome

@@ -17,21 +17,23 @@ use Rattle.plp_config.specs.declared.moment.TheConstants.{MOST_FRAMES}
 use Rattle.desk_io.specs.Reading.{longest_file}
 use Rattle.file_run.specs.declared.stop.RunFault.{RunFault}
 use Rattle.file_run.specs.declared.stop.RunFault.TheVariants as run_fault
-use Rattle.gateway_run.specs.declared.stop.Ran.{Ran}
-use Rattle.gateway_run.specs.declared.stop.RunStop.{RunStop}
-use Rattle.gateway_run.specs.declared.stop.RunStop.TheVariants as run
-use Rattle.modulate_run.specs.declared.stop.Ran.{Ran as Modulated}
-use Rattle.modulate_run.specs.declared.stop.RunStop.{RunStop as ModulateStop}
-use Rattle.modulate_run.specs.declared.stop.RunStop.TheVariants as modulate
-use Rattle.receive_run.specs.declared.stop.Ran.{Ran as Received}
-use Rattle.receive_run.specs.declared.stop.RunStop.{RunStop as ReceiveStop}
-use Rattle.receive_run.specs.declared.stop.RunStop.TheVariants as receive
+use Rattle.file_run.specs.declared.stop.RunStop.{RunStop}
+use Rattle.file_run.specs.declared.stop.RunStop.TheVariants as run
+use Rattle.gateway_run.specs.declared.stop.GatewayStop.{GatewayStop}
+use Rattle.gateway_run.specs.declared.stop.GatewayStop.TheVariants as gateway
+use Rattle.modulate_run.specs.declared.stop.ModulateStop.{ModulateStop}
+use Rattle.modulate_run.specs.declared.stop.ModulateStop.TheVariants as modulate
+use Rattle.receive_run.specs.declared.stop.ReceiveStop.{ReceiveStop}
+use Rattle.receive_run.specs.declared.stop.ReceiveStop.TheVariants as receive
 use Rattle.show_run.specs.declared.stop.ShowStop.{ShowStop}
 use Rattle.show_run.specs.declared.stop.ShowStop.TheVariants as show
+use Rattle.trial_run.specs.declared.stop.TrialStop.{TrialStop}
+use Rattle.trial_run.specs.declared.stop.TrialStop.TheVariants as trial
 use Rattle.site_top.specs.declared.outcome.Outcome.{Outcome}
 use Rattle.site_top.specs.declared.outcome.Outcome.TheVariants.{Done, Usage, WrongInputs, ConfigRefused, CapacityRefused}
 use Rattle.site_top.specs.declared.outcome.Outcome.TheVariants.{InputRefused, NoSuperframe, RecordRefused, UnknownPlp, TooLong}
 use Rattle.site_top.specs.declared.outcome.Outcome.TheVariants.{PacketRefused, ReadFault, WriteFault, OutOfMemory}
+use Rattle.site_top.specs.declared.outcome.Outcome.TheVariants.{TrialFault}
 
 -- the status that the program ends with
 abbrev pub status_of : Outcome → ℕ
@@ -49,6 +51,7 @@ status_of (PacketRefused at why) = 10
 status_of ReadFault = 70
 status_of WriteFault = 71
 status_of OutOfMemory = 72
+status_of TrialFault = 73
 
 -- the number of a refusal
 abbrev pub why_number : PacketWhy → ℕ
@@ -104,6 +107,7 @@ last_line (PacketRefused at why) = codes "refused: packet at " ++ decimal at ++ 
 last_line ReadFault = codes "fault: read\n"
 last_line WriteFault = codes "fault: write\n"
 last_line OutOfMemory = codes "fault: memory\n"
+last_line TrialFault = codes "fault: trial\n"
 
 -- the outcome of a command that its files stopped
 abbrev pub file_outcome : RunFault → Outcome
@@ -111,14 +115,36 @@ file_outcome (run_fault.TooLong input) = TooLong longest_file
 file_outcome (run_fault.ReadFault input) = ReadFault
 file_outcome run_fault.WriteFault = WriteFault
 
--- of one that shows a file
-abbrev pub shown_outcome : Result ℕ ShowStop → Outcome
-shown_outcome (Ok count) = Done
-shown_outcome (Err (show.PacketRefused at why)) = PacketRefused at why
-shown_outcome (Err (show.RecordRefused number why)) = RecordRefused number why
-shown_outcome (Err (show.Files why)) = file_outcome why
-shown_outcome (Err show.OutOfMemory) = OutOfMemory
-shown_outcome (Err show.NoRoom) = OutOfMemory
+-- of one that is done, or stops by a cause that has an outcome
+abbrev pub run_outcome : {R S : Type 0} → (S → Outcome) → Result R S → Outcome
+run_outcome of (Ok ran) = Done
+run_outcome of (Err stop) = of stop
+
+-- of one whose run did not succeed, by the outcomes of its machine's own causes
+abbrev pub stop_outcome : {E : Type 0} → (E → Outcome) → RunStop E → Outcome
+stop_outcome own (run.Refused why) = own why
+stop_outcome own (run.Files fault) = file_outcome fault
+stop_outcome own run.OutOfMemory = OutOfMemory
+
+-- ---- the causes of each machine
+
+abbrev pub gateway_cause : GatewayStop → Outcome
+gateway_cause (gateway.Bad input packet) = InputRefused input packet
+gateway_cause gateway.TooManyFrames = TooLong MOST_FRAMES
+
+abbrev pub modulate_cause : ModulateStop → Outcome
+modulate_cause modulate.NoSuperframe = NoSuperframe
+modulate_cause modulate.TooManyFrames = TooLong MOST_FRAMES
+
+abbrev pub receive_cause : ReceiveStop → Outcome
+receive_cause (receive.RecordRefused number why) = RecordRefused number why
+
+abbrev pub show_cause : ShowStop → Outcome
+show_cause (show.PacketRefused at why) = PacketRefused at why
+show_cause (show.RecordRefused number why) = RecordRefused number why
+show_cause show.NoRoom = OutOfMemory
+
+-- ---- of commands without a run over files
 
 -- of one whose file gives no configuration or no plan
 abbrev pub config_outcome : ConfigStop → Outcome
@@ -127,42 +153,11 @@ config_outcome (config.Lacks fault) = CapacityRefused fault.test fault.plp fault
 config_outcome config.ReadFault = ReadFault
 config_outcome config.OutOfMemory = OutOfMemory
 
-abbrev pub given_outcome : Result Config ConfigStop → Outcome
-given_outcome (Ok c) = Done
-given_outcome (Err stop) = config_outcome stop
-
 -- of one that does not have one input for each PLP
 abbrev pub Miscounts : Config → List (List ℕ) → Outcome → Type 0
 Miscounts c ins outcome = (length ins ≢ length c.plps) × (outcome ≡ WrongInputs (length c.plps) (length ins))
 
--- of one whose run did not come to its end
-abbrev pub stopped_outcome : RunStop → Outcome
-stopped_outcome (run.Bad input packet) = InputRefused input packet
-stopped_outcome run.TooManyFrames = TooLong MOST_FRAMES
-stopped_outcome (run.Files why) = file_outcome why
-stopped_outcome run.OutOfMemory = OutOfMemory
-
-abbrev pub ran_outcome : Result Ran RunStop → Outcome
-ran_outcome (Ok ran) = Done
-ran_outcome (Err stop) = stopped_outcome stop
-
--- of one that makes records, whose run did not come to its end
-abbrev pub modulate_stopped : ModulateStop → Outcome
-modulate_stopped modulate.NoSuperframe = NoSuperframe
-modulate_stopped modulate.TooManyFrames = TooLong MOST_FRAMES
-modulate_stopped (modulate.Files why) = file_outcome why
-modulate_stopped modulate.OutOfMemory = OutOfMemory
-
-abbrev pub modulate_outcome : Result Modulated ModulateStop → Outcome
-modulate_outcome (Ok ran) = Done
-modulate_outcome (Err stop) = modulate_stopped stop
-
--- of one that gives packets back, whose run did not come to its end
-abbrev pub receive_stopped : ReceiveStop → Outcome
-receive_stopped (receive.RecordRefused number why) = RecordRefused number why
-receive_stopped (receive.Files why) = file_outcome why
-receive_stopped receive.OutOfMemory = OutOfMemory
-
-abbrev pub receive_outcome : Result Received ReceiveStop → Outcome
-receive_outcome (Ok ran) = Done
-receive_outcome (Err stop) = receive_stopped stop
+-- of a trial
+abbrev pub trial_outcome : TrialStop → Outcome
+trial_outcome trial.OutOfMemory = OutOfMemory
+trial_outcome trial.Broken = TrialFault

@@ -3,7 +3,6 @@ use Rattle.std.specs.Prelude.{◌≡◌, ◌⊎◌, ◌+◌, ◌<◌, ◌≤◌,
 use Rattle.std.specs.Fmt.{decimal}
 use Rattle.std.specs.List.{AllByRecursion, concat, range_with_len}
 use Rattle.ports.specs.Desk.{State, bytes_of}
-use Rattle.plp_config.specs.Capacity.{IsPlan}
 use Rattle.plp_config.specs.Places.{IsPlace, HasNoPlace}
 use Rattle.plp_config.specs.Plps.{plp_at}
 use Rattle.plp_config.specs.declared.config.Config.{Config}
@@ -12,22 +11,21 @@ use Rattle.ts_packet.specs.Null.{null_packet}
 use Rattle.null_delete.specs.Deletion.{packet_at}
 use Rattle.site_frame.specs.RecordFile.{AreRecords}
 use Rattle.site_frame.specs.declared.reading.RecordView.{RecordView}
-use Rattle.frame_records.specs.Frames.{run_frames}
-use Rattle.frame_records.specs.Records.{record_of, file_bytes}
-use Rattle.frame_records.specs.Recover.{recover}
-use Rattle.sent_frames.specs.SentFrames.{run_length}
-use Rattle.recover.specs.Laws.{IsCanonical}
-use Rattle.recover.specs.Told.{IsPacket}
-use Rattle.config_file.specs.ConfigFile.{Gives, GivesNoPlan}
-use Rattle.config_file.specs.declared.stop.ConfigStop.{ConfigStop}
+use Rattle.record_laws.specs.Frames.{run_frames}
+use Rattle.record_laws.specs.Records.{record_of, file_bytes}
+use Rattle.record_laws.specs.Recover.{recover}
+use Rattle.frame_laws.specs.SentFrames.{run_length}
+use Rattle.recover_laws.specs.Laws.{IsCanonical}
+use Rattle.recover_laws.specs.ToldEpochs.{IsPacket}
+use Rattle.file_run.specs.declared.stop.RunStop.{RunStop}
 use Rattle.receive_run.specs.ReceiveRun.{RunsAll, Stops}
 use Rattle.receive_run.specs.Received.{Received}
 use Rattle.receive_run.specs.declared.stop.Ran.{Ran}
-use Rattle.receive_run.specs.declared.stop.RunStop.{RunStop}
+use Rattle.receive_run.specs.declared.stop.ReceiveStop.{ReceiveStop}
 use Rattle.site_top.specs.declared.outcome.Outcome.{Outcome}
 use Rattle.site_top.specs.declared.outcome.Outcome.TheVariants.{UnknownPlp}
-use Rattle.site_top.specs.Outcomes.{config_outcome, receive_stopped}
-use Rattle.site_top.specs.Saying.{Tells}
+use Rattle.site_top.specs.Outcomes.{receive_cause}
+use Rattle.site_top.specs.PlanCommand.{RunsAndTells, ByPlan}
 
 -- the line of a run to its end
 abbrev pub receive_line : Ran → List ℕ
@@ -59,21 +57,20 @@ abbrev pub ReceivedComesBack : Config → Type 0
 ReceivedComesBack c = (plp : ℕ) (file bytes : List ℕ) (views : List RecordView) → plp < length c.plps → AreRecords file views []
     → Received c plp views bytes → ComesBack c plp file bytes
 
--- The run does not come to its end, or it does, and then its line is told.
-abbrev pub RunsAndTells : State → State → List ℕ → List ℕ → Config → ℕ → Outcome → Type 0
-RunsAndTells mid new file out c plp outcome =
-    ((stop : RunStop) × Stops c plp mid new file out stop × (outcome ≡ receive_stopped stop))
-    ⊎ ((ran : Ran) × (after : State) × RunsAll c plp mid after file out ran × HoldsWhatComesBack c plp mid after file out
-    × Tells after new (receive_line ran) outcome)
+-- a run to its end, and one that stops
+abbrev pub Ends : List ℕ → List ℕ → Config → ℕ → State → State → Ran → Type 0
+Ends file out c plp mid after ran = RunsAll c plp mid after file out ran × HoldsWhatComesBack c plp mid after file out
+
+abbrev pub StopsSo : List ℕ → List ℕ → Config → ℕ → State → State → RunStop ReceiveStop → Type 0
+StopsSo file out c plp mid new stop = Stops c plp mid new file out stop
 
 -- No PLP has the identifier, and nothing else is done; or the run follows.
-abbrev pub Follows : State → State → ℕ → List ℕ → List ℕ → Config → Outcome → Type 0
-Follows mid new id file out c outcome =
+abbrev pub Follows : ℕ → List ℕ → List ℕ → Config → State → State → Outcome → Type 0
+Follows id file out c mid new outcome =
     (HasNoPlace c id × (new ≡ mid) × (outcome ≡ UnknownPlp id))
-    ⊎ ((plp : ℕ) × IsPlace c id plp × RunsAndTells mid new file out c plp outcome)
+    ⊎ ((plp : ℕ) × IsPlace c id plp
+    × RunsAndTells (Ends file out c plp) (StopsSo file out c plp) receive_line receive_cause mid new outcome)
 
 -- `receive CONFIG PLP IN OUT`: CONFIG gives no plan, and nothing else is done; or what follows does.
 abbrev pub Receives : State → State → List ℕ → ℕ → List ℕ → List ℕ → Outcome → Type 0
-Receives old new config id file out outcome =
-    ((stop : ConfigStop) × GivesNoPlan old new config stop × (outcome ≡ config_outcome stop))
-    ⊎ ((c : Config) × (mid : State) × Gives old mid config c × IsPlan c × Follows mid new id file out c outcome)
+Receives old new config id file out outcome = ByPlan old new config (Follows id file out) outcome

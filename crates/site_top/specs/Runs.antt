@@ -8,15 +8,16 @@ use Rattle.config_file.specs.Laws.{GivesConfig, GivesPlan}
 use Rattle.config_file.specs.declared.stop.ConfigStop.{ConfigStop}
 use Rattle.desk_io.specs.Reading.{longest_file}
 use Rattle.file_run.specs.FileRun.{file_at}
+use Rattle.file_run.specs.declared.stop.RunStop.{RunStop}
 use Rattle.gateway_run.specs.Laws.{MustRun}
 use Rattle.gateway_run.specs.declared.stop.Ran.{Ran}
-use Rattle.gateway_run.specs.declared.stop.RunStop.{RunStop}
+use Rattle.gateway_run.specs.declared.stop.GatewayStop.{GatewayStop}
 use Rattle.modulate_run.specs.Laws.{MustRun as ModulateMust}
 use Rattle.modulate_run.specs.declared.stop.Ran.{Ran as Modulated}
-use Rattle.modulate_run.specs.declared.stop.RunStop.{RunStop as ModulateStop}
+use Rattle.modulate_run.specs.declared.stop.ModulateStop.{ModulateStop}
 use Rattle.receive_run.specs.Laws.{MustRun as ReceiveMust}
 use Rattle.receive_run.specs.declared.stop.Ran.{Ran as Received}
-use Rattle.receive_run.specs.declared.stop.RunStop.{RunStop as ReceiveStop}
+use Rattle.receive_run.specs.declared.stop.ReceiveStop.{ReceiveStop}
 use Rattle.show_run.specs.Laws.{PacketsEnd, RecordsEnd}
 use Rattle.show_run.specs.PacketText.{IsPacketText}
 use Rattle.show_run.specs.RecordText.{IsRecordText}
@@ -25,7 +26,7 @@ use Rattle.show_run.specs.T2miText.{IsT2miText}
 use Rattle.show_run.specs.declared.stop.ShowStop.{ShowStop}
 use Rattle.site_frame.specs.RecordFile.{AreBytes}
 use Rattle.site_top.specs.declared.outcome.Outcome.{Outcome}
-use Rattle.site_top.specs.declared.outcome.Outcome.TheVariants.{Done, UnknownPlp, OutOfMemory}
+use Rattle.site_top.specs.declared.outcome.Outcome.TheVariants.{Done, UnknownPlp, OutOfMemory, TrialFault}
 use Rattle.site_top.specs.Commands.{Command, ShowPackets, ShowT2mi, ShowFrames, ShowConfig, Plan, Gateway, Modulate, Receive}
 use Rattle.site_top.specs.Commands.{Trial}
 use Rattle.site_top.specs.ConfigCommands.{ShowsConfig, Plans}
@@ -33,13 +34,13 @@ use Rattle.site_top.specs.GatewayCommand.{Gateways}
 use Rattle.site_top.specs.ModulateCommand.{Modulates}
 use Rattle.site_top.specs.ReceiveCommand.{Receives}
 use Rattle.site_top.specs.TrialCommand.{Tries}
-use Rattle.site_top.specs.Outcomes.{shown_outcome, given_outcome, config_outcome, ran_outcome, modulate_outcome, receive_outcome}
-use Rattle.site_top.specs.Outcomes.{Miscounts}
+use Rattle.site_top.specs.Outcomes.{run_outcome, stop_outcome, gateway_cause, modulate_cause, receive_cause, show_cause}
+use Rattle.site_top.specs.Outcomes.{config_outcome, Miscounts}
 
 -- A file is shown by the text that a definition asks for.
-abbrev pub Shows : (List ℕ → ℕ → Result ℕ ShowStop → List ℕ → Type 0) → State → State → List ℕ → Outcome → Type 0
-Shows IsText old new file outcome = (result : Result ℕ ShowStop) × show.Shows IsText old new file result
-    × (outcome ≡ shown_outcome result)
+abbrev pub Shows : (List ℕ → ℕ → Result ℕ (RunStop ShowStop) → List ℕ → Type 0) → State → State → List ℕ → Outcome → Type 0
+Shows IsText old new file outcome = (result : Result ℕ (RunStop ShowStop)) × show.Shows IsText old new file result
+    × (outcome ≡ run_outcome (stop_outcome show_cause) result)
 
 abbrev pub Does : Command → State → State → Outcome → Type 0
 Does (ShowPackets file) old new outcome = Shows IsPacketText old new file outcome
@@ -73,20 +74,20 @@ AreShortFor (Trial seed frames) held = Unit {0}
 -- that are not too long.
 abbrev pub PlanMustEnd : Held → List (List ℕ) → Config → Outcome → Type 0
 PlanMustEnd held ins c outcome = Miscounts c ins outcome
-    ⊎ ((length ins ≡ length c.plps) × AreShort held ins × ((result : Result Ran RunStop) × MustRun c (file_at held ins) result
-    × (outcome ≡ ran_outcome result)))
+    ⊎ ((length ins ≡ length c.plps) × AreShort held ins × ((result : Result Ran GatewayStop) × MustRun c (file_at held ins) result
+    × (outcome ≡ run_outcome gateway_cause result)))
 
 -- How `modulate` must end over a plan: as the run does over an input that is not too long.
 abbrev pub ModulateMustEnd : List ℕ → Config → Outcome → Type 0
 ModulateMustEnd bytes c outcome = (length bytes < longest_file)
-    × ((result : Result Modulated ModulateStop) × ModulateMust c bytes result × (outcome ≡ modulate_outcome result))
+    × ((result : Result Modulated ModulateStop) × ModulateMust c bytes result × (outcome ≡ run_outcome modulate_cause result))
 
 -- How `receive` must end over a plan: with the identifier if no PLP has it, else as the run does over records that are not too
 -- long.
 abbrev pub ReceiveMustEnd : List ℕ → ℕ → Config → Outcome → Type 0
 ReceiveMustEnd bytes id c outcome = (HasNoPlace c id × (outcome ≡ UnknownPlp id))
     ⊎ ((plp : ℕ) × IsPlace c id plp × (length bytes < longest_file)
-    × ((result : Result Received ReceiveStop) × ReceiveMust c plp bytes result × (outcome ≡ receive_outcome result)))
+    × ((result : Result Received ReceiveStop) × ReceiveMust c plp bytes result × (outcome ≡ run_outcome receive_cause result)))
 
 -- How a command must end whose CONFIG has this text: with its refusal, or as it must over the plan that it gives.
 abbrev pub OverPlan : List ℕ → (Config → Outcome → Type 0) → Outcome → Type 0
@@ -98,14 +99,14 @@ OverPlan text Must outcome =
 -- inputs.
 abbrev pub MustEnd : Command → Held → Outcome → Type 0
 MustEnd (ShowPackets file) held outcome = (length (bytes_of held.files file) < longest_file)
-    × ((result : Result ℕ ShowStop) × PacketsEnd (bytes_of held.files file) result × (outcome ≡ shown_outcome result))
+    × ((result : Result ℕ ShowStop) × PacketsEnd (bytes_of held.files file) result × (outcome ≡ run_outcome show_cause result))
 MustEnd (ShowT2mi file) held outcome = (length (bytes_of held.files file) < longest_file) × (outcome ≡ Done)
 MustEnd (ShowFrames file) held outcome = (length (bytes_of held.files file) < longest_file)
-    × ((result : Result ℕ ShowStop) × RecordsEnd (bytes_of held.files file) result × (outcome ≡ shown_outcome result))
+    × ((result : Result ℕ ShowStop) × RecordsEnd (bytes_of held.files file) result × (outcome ≡ run_outcome show_cause result))
 MustEnd (ShowConfig file) held outcome = (result : Result Config ConfigStop) × GivesConfig (bytes_of held.files file) result
-    × (outcome ≡ given_outcome result)
+    × (outcome ≡ run_outcome config_outcome result)
 MustEnd (Plan config) held outcome = (result : Result Config ConfigStop) × GivesPlan (bytes_of held.files config) result
-    × (outcome ≡ given_outcome result)
+    × (outcome ≡ run_outcome config_outcome result)
 MustEnd (Gateway config out ins) held outcome = OverPlan (bytes_of held.files config) (PlanMustEnd held ins) outcome
 MustEnd (Modulate config file out) held outcome =
     OverPlan (bytes_of held.files config) (ModulateMustEnd (bytes_of held.files file)) outcome
@@ -113,8 +114,13 @@ MustEnd (Receive config id file out) held outcome =
     OverPlan (bytes_of held.files config) (ReceiveMustEnd (bytes_of held.files file) id) outcome
 MustEnd (Trial seed frames) held outcome = outcome ≡ Done
 
--- If nothing outside fails, the files decide the outcome, unless memory runs out.
+-- A trial can show a defect of its own.
+abbrev pub IsTrial : Command → Type 0
+IsTrial (Trial seed frames) = Unit {0}
+IsTrial command = ⊥
+
+-- If nothing outside fails, the files decide the outcome, unless memory runs out, or a trial shows a defect.
 abbrev pub IsComplete : Command → State → State → Outcome → Type 0
 IsComplete command old new result = IfSome old.held (λ held. (outcome : Outcome) → MustEnd command held outcome
     → ¬ (Rose old.counts.reads new.counts.reads) → ¬ (Rose old.counts.writes new.counts.writes) → (result ≡ outcome)
-    ⊎ (result ≡ OutOfMemory))
+    ⊎ ((result ≡ OutOfMemory) ⊎ (IsTrial command × (result ≡ TrialFault))))

@@ -1,40 +1,14 @@
 // `gateway CONFIG OUT IN..`.
 ghost use Rattle.std.specs.Prelude.{◌≡◌, true};
 ghost use Rattle.site_top.specs.Commands.{are_inputs};
-ghost use Rattle.site_top.specs.GatewayCommand.{Gateways, gateway_line as line_of_run};
-ghost use Rattle.site_top.specs.Outcomes.{stopped_outcome};
+ghost use Rattle.site_top.specs.GatewayCommand.{Gateways};
 
-use crate::config_commands::{outcome_of, tell};
-use crate::outcome::{Outcome, file_outcome};
+use crate::config_commands::outcome_of;
+use crate::outcome::Outcome;
+use crate::run_end::tell_run;
 use config_file::read_plan;
-use desk_io::Line;
-use gateway_run::{Ran, RunStop};
-use plp_config::MOST_FRAMES;
 use ports::{Desk, Word};
 use std::alloc::Global;
-
-// The line of a run to its end.
-fn gateway_line(ran: Ran) -> Line
-    ensures { result ≡ line_of_run ran.frames ran.units }
-{
-    let mut line = Line::new();
-    line.push_field(b"frames=", ran.frames);
-    line.push_field(b" units=", ran.units);
-    line.push(b"\n");
-    line
-}
-
-// How a command ends whose run did not come to its end.
-fn stopped(stop: RunStop) -> Outcome
-    ensures { result ≡ stopped_outcome stop }
-{
-    match stop {
-        RunStop::Bad { input, packet } => Outcome::InputRefused { input, packet },
-        RunStop::TooManyFrames => Outcome::TooLong { count: MOST_FRAMES },
-        RunStop::Files(fault) => file_outcome(fault),
-        RunStop::OutOfMemory => Outcome::OutOfMemory,
-    }
-}
 
 /// Makes the T2-MI stream of a network, by the named configuration and one named transport stream for each PLP, and says how many
 /// frames and units it has.
@@ -59,8 +33,6 @@ pub fn gateway<D: Desk>(
             inputs: ins.len(),
         };
     }
-    match gateway_run::run(alloc, &plan, out, ins, desk) {
-        Ok(ran) => tell(desk, gateway_line(ran).as_bytes()),
-        Err(stop) => stopped(stop),
-    }
+    let end = gateway_run::run(alloc, &plan, out, ins, desk);
+    tell_run(desk, end)
 }

@@ -175,5 +175,6 @@ pub fn last_line(outcome: Outcome) -> Line
         Outcome::ReadFault => line_with(b"fault: read\n"),
         Outcome::WriteFault => line_with(b"fault: write\n"),
         Outcome::OutOfMemory => line_with(b"fault: memory\n"),
+        Outcome::TrialFault => line_with(b"fault: trial\n"),
     }
 }

@@ -10,13 +10,14 @@ mod outcome;
 mod plan_lines;
 mod receive;
 mod request;
+mod run_end;
 mod running;
-mod show;
 mod trial;
 
 pub use config_file::ConfigCause;
-pub use laws::{commands_have_ending, completeness, one_ending, only_out_changes};
+pub use laws::{commands_have_ending_law, completeness_law, one_ending_law, only_out_changes_law};
 pub use outcome::Outcome;
 pub use ports::Word;
+pub use request::{Request, request_of};
 pub use running::run;
 pub use trial_run::{Draws, trial_input};

@@ -64,6 +64,8 @@ pub enum Outcome {
     WriteFault,
     /// No memory was found.
     OutOfMemory,
+    /// A run inside a trial ended otherwise than it must: the program has a defect, or the losses that were drawn left nothing.
+    TrialFault,
 }
 
 impl Outcome {
@@ -85,6 +87,7 @@ impl Outcome {
             Outcome::ReadFault => 70,
             Outcome::WriteFault => 71,
             Outcome::OutOfMemory => 72,
+            Outcome::TrialFault => 73,
         }
     }
 }

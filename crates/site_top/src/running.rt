@@ -9,12 +9,12 @@ ghost use Rattle.site_top.specs.Touches.{Touches, out_of, ins_of};
 use crate::config_commands::{plan, show_config};
 use crate::gateway::gateway;
 use crate::last_lines::last_line;
-use crate::laws::{completeness, only_out_changes};
+use crate::laws::{completeness_law, only_out_changes_law};
 use crate::modulate::modulate;
 use crate::outcome::Outcome;
 use crate::receive::receive;
 use crate::request::{Request, request_of};
-use crate::show::outcome_of;
+use crate::run_end::outcome_of;
 use crate::trial::trial;
 use ports::{Desk, Word};
 use show_run::{show_frames, show_packets, show_t2mi};
@@ -73,8 +73,8 @@ pub fn run<D: Desk>(alloc: Global, words: &[Word], desk: &mut D) -> Outcome
     ensures complete { IfSome (command_of words.now)
         (λ command. IsComplete command (D.state desk.old) (D.state desk.new) result) }
 {
-    completeness();
-    only_out_changes();
+    completeness_law();
+    only_out_changes_law();
     let outcome = command(alloc, words, desk);
     finish(desk, outcome);
     outcome

@@ -6,7 +6,7 @@ ghost use Rattle.trial_run.specs.Counts.{is_frame as tells_frame, stand_in, is_a
 ghost use Rattle.trial_run.specs.Counts.{same_count as count_of_same};
 ghost use Rattle.trial_run.specs.Losses.{unit_count};
 
-use bit_slice::OutOfMemory;
+use crate::stop::TrialStop;
 use site_frame::{RecordView, read_record};
 use std::alloc::Global;
 use ts_packet::{SIZE, TsPacket};
@@ -54,7 +54,7 @@ fn is_frame(view: &RecordView<'_>) -> bool
 }
 
 /// Cuts a file of records into them.
-pub fn cut(alloc: Global, file: &[u8]) -> Result<Vec<Piece<'_>>, OutOfMemory>
+pub fn cut(alloc: Global, file: &[u8]) -> Result<Vec<Piece<'_>>, TrialStop>
     ensures { IfOk result (λ pieces. AreCut file.now pieces.items []) }
 {
     let mut pieces = Vec::new(alloc);
@@ -63,7 +63,7 @@ pub fn cut(alloc: Global, file: &[u8]) -> Result<Vec<Piece<'_>>, OutOfMemory>
         let Ok((view, len)) = read_record(rest) else {
             // The file is what a modulator wrote. That it writes nothing but records is not proved; in no trial that was tried
             // does this come.
-            return Err(OutOfMemory);
+            return Err(TrialStop::Broken);
         };
         let (bytes, behind) = rest.split_at(len);
         let is_frame = is_frame(&view);

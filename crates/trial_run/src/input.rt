@@ -88,7 +88,7 @@ pub fn trial_input(
     ensures bytes { IfOk result (λ input. input.items ≡ input_from plan.now frames plp draws.old) }
     ensures draws { OnOk result (draws.new ≡ behind (input_len plan.now frames plp) draws.old) }
 {
-    plan.obeys_rules();
+    plan.rules_law();
     let packets = plan.slots_by(plp, u64::from(frames) * u64::from(plan.config().ticks));
     let mut input = Vec::new(alloc);
     for number in 0..packets {

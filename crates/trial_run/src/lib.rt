@@ -9,10 +9,12 @@ mod lines;
 mod losses;
 mod network;
 mod stages;
+mod stop;
 mod trial;
 
 pub use draws::Draws;
 pub use input::trial_input;
 pub use losses::kept_units;
 pub use network::trial_plan;
+pub use stop::TrialStop;
 pub use trial::trial_text;

@@ -2,6 +2,7 @@
 ghost use Rattle.std.specs.Prelude.{◌≡◌, IfOk};
 ghost use Rattle.trial_run.specs.Network.{trial_config, trial_plps};
 
+use crate::stop::TrialStop;
 use bit_slice::OutOfMemory;
 use plp_config::{
     Band, Config, FecSize, L1Numbers, Modulation, Plan, Plp, PlpList, PlpType, Rate, fits, validate,
@@ -97,10 +98,10 @@ fn trial_config(alloc: Global) -> Result<Config, OutOfMemory>
 }
 
 /// The plan of the network of a trial.
-pub fn trial_plan(alloc: Global) -> Result<Plan, OutOfMemory>
+pub fn trial_plan(alloc: Global) -> Result<Plan, TrialStop>
     ensures { IfOk result (λ plan. plan ≡ trial_config) }
 {
-    // The network satisfies all rules and tests, so nothing but memory can be wanting.
-    let valid = validate(trial_config(alloc)?).map_err(|_| OutOfMemory)?;
-    fits(valid).map_err(|_| OutOfMemory)
+    // That the network satisfies all rules and tests is not proved.
+    let valid = validate(trial_config(alloc)?).map_err(|_| TrialStop::Broken)?;
+    fits(valid).map_err(|_| TrialStop::Broken)
 }

@@ -1,6 +1,6 @@
-// The commands' own runs, each over a desk in memory. Whatever stops one is told as want of memory. On such a desk that could
-// also be a file that is too long, a record that is refused, or a stream in which no superframe begins. None of these is
-// likely, since of the first half of the stream the second modulator loses unit 0 alone, but that none comes is not proved.
+// The commands' own runs, each over a desk in memory. On such a desk only a file that is too long, a record that is refused, or a
+// stream in which no superframe begins can stop one beside want of memory. None of these is likely, since of the first half of the
+// stream the second modulator loses unit 0 alone, but that none comes is not proved: a trial tells it as a defect.
 ghost use Rattle.std.specs.Prelude.{◌≡◌, ◌≢◌, ◌<◌, ℕ, List, [], ◌∷◌, codes, length, unwrap_or, IfOk};
 ghost use Rattle.ports.specs.Desk.{file_of};
 ghost use Rattle.gateway_run.specs.GatewayRun.{RunsAll as GatewayRuns};
@@ -10,6 +10,7 @@ ghost use Rattle.receive_run.specs.ReceiveRun.{RunsAll as ReceiverRuns};
 ghost use Rattle.trial_run.specs.Stages.{HasFile, HasInputs, AreFiles, IsSent, input_names};
 ghost use Rattle.trial_run.specs.Trial.{ComesOf};
 
+use crate::stop::TrialStop;
 use bit_slice::OutOfMemory;
 use gateway_core::front_law;
 use plp_config::Plan;
@@ -78,23 +79,23 @@ fn run_gateway(
     alloc: Global,
     plan: &Plan,
     desk: &mut MemoryDesk,
-) -> Result<gateway_run::Ran, OutOfMemory>
+) -> Result<gateway_run::Ran, TrialStop>
     requires plps { length plan.now.plps ≡ 3 }
     ensures { IfOk result (λ ran.
         GatewayRuns plan.now desk.old.state desk.new.state (codes "out") input_names ran.frames ran.units) }
 {
     let names = names_of_inputs(alloc)?;
-    gateway_run::run(alloc, plan, OUT, &names, desk).map_err(|_| OutOfMemory)
+    Ok(gateway_run::run(alloc, plan, OUT, &names, desk)?)
 }
 
 /// Sends the inputs of three PLPs.
-pub fn send(alloc: Global, plan: &Plan, inputs: &[Vec<u8>]) -> Result<Sent, OutOfMemory>
+pub fn send(alloc: Global, plan: &Plan, inputs: &[Vec<u8>]) -> Result<Sent, TrialStop>
     requires plps { length plan.now.plps ≡ 3 }
     requires inputs { length inputs.now ≡ 3 }
     ensures { (files : ℕ → List ℕ) → AreFiles files inputs.now → IfOk result (λ sent. IsSent plan.now files sent) }
 {
     front_law();
-    plan.obeys_rules();
+    plan.rules_law();
     let mut desk = desk_of_inputs(alloc, inputs)?;
     let ran = run_gateway(alloc, plan, &mut desk)?;
     let stream = copy_of(alloc, &desk, OUT)?;
@@ -105,14 +106,14 @@ fn run_modulator(
     alloc: Global,
     plan: &Plan,
     desk: &mut MemoryDesk,
-) -> Result<modulate_run::Ran, OutOfMemory>
+) -> Result<modulate_run::Ran, TrialStop>
     ensures { IfOk result (λ ran. ModulatorRuns plan.now desk.old.state desk.new.state (codes "in") (codes "out") ran) }
 {
-    modulate_run::run(alloc, plan, IN, OUT, desk).map_err(|_| OutOfMemory)
+    Ok(modulate_run::run(alloc, plan, IN, OUT, desk)?)
 }
 
 /// Modulates a stream.
-pub fn modulate(alloc: Global, plan: &Plan, stream: &[u8]) -> Result<Modulated, OutOfMemory>
+pub fn modulate(alloc: Global, plan: &Plan, stream: &[u8]) -> Result<Modulated, TrialStop>
     ensures records { IfOk result (λ x. x.records.items ≡ output_of plan.now stream.now) }
     ensures ran { IfOk result (λ x. x.ran ≡ counted (records_of plan.now stream.now)) }
 {
@@ -127,24 +128,19 @@ fn run_receiver(
     plan: &Plan,
     plp: usize,
     desk: &mut MemoryDesk,
-) -> Result<receive_run::Ran, OutOfMemory>
+) -> Result<receive_run::Ran, TrialStop>
     requires inside { plp < length plan.now.plps }
     ensures { IfOk result (λ ran. ReceiverRuns plan.now plp desk.old.state desk.new.state (codes "in") (codes "out") ran) }
 {
-    receive_run::run(alloc, plan, plp, IN, OUT, desk).map_err(|_| OutOfMemory)
+    Ok(receive_run::run(alloc, plan, plp, IN, OUT, desk)?)
 }
 
 /// What the PLP at a place is given back of records.
-pub fn receive(
-    alloc: Global,
-    plan: &Plan,
-    plp: usize,
-    records: &[u8],
-) -> Result<Vec<u8>, OutOfMemory>
+pub fn receive(alloc: Global, plan: &Plan, plp: usize, records: &[u8]) -> Result<Vec<u8>, TrialStop>
     requires inside { plp < length plan.now.plps }
     ensures { IfOk result (λ bytes. ComesOf plan.now plp records.now bytes.items) }
 {
     let mut desk = desk_with(alloc, IN, records)?;
     run_receiver(alloc, plan, plp, &mut desk)?;
-    copy_of(alloc, &desk, OUT)
+    Ok(copy_of(alloc, &desk, OUT)?)
 }

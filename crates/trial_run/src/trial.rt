@@ -13,6 +13,7 @@ use crate::input::trial_input;
 use crate::lines::{lossy_line, plp_line, stream_line, whole_line};
 use crate::losses::kept_units;
 use crate::stages::{Modulated, Sent, modulate, receive, send};
+use crate::stop::TrialStop;
 use bit_slice::OutOfMemory;
 use desk_io::{Line, Page};
 use plp_config::Plan;
@@ -45,7 +46,7 @@ fn draw_inputs(
     Ok(inputs)
 }
 
-fn make(alloc: Global, plan: &Plan, frames: u32, seed: u64) -> Result<Made, OutOfMemory>
+fn make(alloc: Global, plan: &Plan, frames: u32, seed: u64) -> Result<Made, TrialStop>
     requires plps { length plan.now.plps ≡ 3 }
     ensures { IfOk result (IsMade plan.now frames seed) }
 {
@@ -64,7 +65,7 @@ fn make(alloc: Global, plan: &Plan, frames: u32, seed: u64) -> Result<Made, OutO
 }
 
 // How many records of frames in a file stand in another one.
-fn same_records(alloc: Global, whole: &[u8], lossy: &[u8]) -> Result<u64, OutOfMemory>
+fn same_records(alloc: Global, whole: &[u8], lossy: &[u8]) -> Result<u64, TrialStop>
     ensures { IfOk result (IsSameCount whole.now lossy.now) }
 {
     let whole = cut(alloc, whole)?;
@@ -73,7 +74,7 @@ fn same_records(alloc: Global, whole: &[u8], lossy: &[u8]) -> Result<u64, OutOfM
 }
 
 // Puts the lines of the stream and of both modulators onto a page.
-fn push_network(page: &mut Page, alloc: Global, made: &Made) -> Result<(), OutOfMemory>
+fn push_network(page: &mut Page, alloc: Global, made: &Made) -> Result<(), TrialStop>
     requires { page.old ≡ [] }
     ensures text { (c : Config) (frames seed : ℕ) → IsMade c frames seed made.now
         → OnOk result (IsNetworkText c frames seed page.new) }
@@ -96,7 +97,7 @@ fn input_at(inputs: &[Vec<u8>], plp: usize) -> &[u8]
 }
 
 // The line of the PLP at a place.
-fn line_of(alloc: Global, plan: &Plan, made: &Made, plp: usize) -> Result<Line, OutOfMemory>
+fn line_of(alloc: Global, plan: &Plan, made: &Made, plp: usize) -> Result<Line, TrialStop>
     requires plp { plp < length plan.now.plps }
     requires inputs { length made.now.inputs.items ≡ length plan.now.plps }
     ensures text { (frames seed : ℕ) → IsMade plan.now frames seed made.now → IfOk result (IsPlpLine plan.now frames seed plp) }
@@ -116,7 +117,7 @@ fn line_of(alloc: Global, plan: &Plan, made: &Made, plp: usize) -> Result<Line, 
 /// What is said of a trial of a network of three PLPs: inputs for so many frames are drawn from a number, the gateway sends them,
 /// one modulator reads all units and one loses some, and each PLP is received from the records of both. It keeps all bytes that
 /// it makes.
-pub fn trial_text(alloc: Global, plan: &Plan, frames: u32, seed: u64) -> Result<Page, OutOfMemory>
+pub fn trial_text(alloc: Global, plan: &Plan, frames: u32, seed: u64) -> Result<Page, TrialStop>
     requires plps { length plan.now.plps ≡ 3 }
     ensures { IfOk result (IsTrialText plan.now frames seed) }
 {

@@ -1,20 +1,29 @@
-use Rattle.std.proofs.Common.{subst}
+use Rattle.std.proofs.Common.{length, ap, sym, subst, ◌∙◌}
 use Rattle.std.specs.Prelude.{IfOk, IfErr}
 use Rattle.plp_config.specs.declared.config.Config.{Config}
 use Rattle.gateway_run.specs.GatewayRun.{RunsAll, Stops}
+use Rattle.gateway_run.proofs.RunLemmas.{answers}
 use Rattle.gateway_run.proofs.running.run.Goals as goal
 
 pub returns-clause-err : goal.returns-clause-err
 returns-clause-err g c =
+    let same = c.in_ok-machine.ensures.plan in
     subst (λ (k : Config).
-    IfErr c.run_machine.result
-    (Stops k (g.D.Desk.state c.args.desk.now) (g.D.Desk.state c.run_machine.new.desk) c.args.out.now c.args.ins.now))
-    c.in_ok-machine.ensures.plan c.run_machine.ensures.err
+    IfErr c.run_one.result
+    (Stops k (g.D.Desk.state c.args.desk.now) (g.D.Desk.state c.run_one.new.desk) c.args.out.now c.args.ins.now))
+    same
+    ((answers c.events_law.ensures c.units_law.ensures c.front_law.ensures.grow c.last_law.ensures c.ahead_law.ensures
+    c.in_ok-machine.machine c.run_one.new.machine _ _ c.args.out.now c.args.ins.now c.run_one.result
+    (c.requires.count ∙ ap (λ (k : Config). length k.plps) (sym same)) c.run_one.ensures).1)
 
 pub returns-clause-ok : goal.returns-clause-ok
 returns-clause-ok g c =
+    let same = c.in_ok-machine.ensures.plan in
     subst (λ (k : Config).
-    IfOk c.run_machine.result
-    (λ ran. RunsAll k (g.D.Desk.state c.args.desk.now) (g.D.Desk.state c.run_machine.new.desk) c.args.out.now c.args.ins.now
+    IfOk c.run_one.result
+    (λ ran. RunsAll k (g.D.Desk.state c.args.desk.now) (g.D.Desk.state c.run_one.new.desk) c.args.out.now c.args.ins.now
     ran.frames ran.units))
-    c.in_ok-machine.ensures.plan c.run_machine.ensures.ok
+    same
+    ((answers c.events_law.ensures c.units_law.ensures c.front_law.ensures.grow c.last_law.ensures c.ahead_law.ensures
+    c.in_ok-machine.machine c.run_one.new.machine _ _ c.args.out.now c.args.ins.now c.run_one.result
+    (c.requires.count ∙ ap (λ (k : Config). length k.plps) (sym same)) c.run_one.ensures).0)

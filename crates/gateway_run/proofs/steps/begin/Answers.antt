@@ -8,10 +8,10 @@ returns-then-last-clause-holds c = λ done h. frames_ended _ done _ _ c.args.pla
 
 pub returns-then-ran-eq-MOST_FRAMES-clause-holds : goal.returns-then-ran-eq-MOST_FRAMES-clause-holds
 returns-then-ran-eq-MOST_FRAMES-clause-holds c = λ done h.
-    too_many c.not_yet_last.ensures _ done _ c.args.place _ _ c.requires.ready c.requires.begins
+    too_many c.not_yet_last_law.ensures _ done _ c.args.place _ _ c.requires.ready c.requires.begins
     (ap (λ p. p.phase) c.stopped.ensures) c.if-ran-eq-MOST_FRAMES.true (not_last _ _ c.last.ensures c.if-last.false) h
 
 pub returns-clause-holds : goal.returns-clause-holds
 returns-clause-holds c = λ done h.
-    frame_begun c.not_yet_last.ensures c.front_law.ensures.grow _ done _ _ c.args.place _ _ _ c.requires.ready c.requires.begins
+    frame_begun c.not_yet_last_law.ensures c.front_law.ensures.grow _ done _ _ c.args.place _ _ _ c.requires.ready c.requires.begins
     refl refl refl (not_last _ _ c.last.ensures c.if-last.false) c.begin_frame.ensures.stands h

@@ -2,6 +2,6 @@ use Rattle.receive_run.proofs.GiveLemmas.{gives_one}
 use Rattle.receive_run.proofs.record.give_packet.Goals as goal
 
 pub returns-clause-gives : goal.returns-clause-gives
-returns-clause-gives c = let r = c.release.ensures in
-    gives_one c.args.receiver.now c.release.new.self _ c.release.result c.requires r.exact
-    (r.network, r.plp) r.frame r.due r.stands r.answer
+returns-clause-gives c =
+    let r = c.release.ensures in
+    gives_one c.args.receiver.now c.release.new.self _ c.release.result c.requires r.exact r.status r.stands r.answer

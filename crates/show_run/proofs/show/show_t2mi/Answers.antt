@@ -16,7 +16,7 @@ pub returns-in_err-told : goal.returns-in_err-told
 returns-in_err-told g c =
     let p = err_from_is_err_and c.from_residual.result c.from_residual.ensures.1 in
     rw (p.1, p.2)
-    (t2mi_stop c.first_pid_law.ensures.none c.accepted_front.ensures c.first_pid_law.ensures.behind _
+    (t2mi_stop c.first_pid_law.ensures.none c.accepted_front_law.ensures c.first_pid_law.ensures.behind _
     c.tell_lines-told.new.machine _ _ c.args.name.now _ (c.count-count.ensures.all _) c.in_err-told.ensures.err)
 
 pub returns : goal.returns

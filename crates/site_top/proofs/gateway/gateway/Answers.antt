@@ -1,13 +1,16 @@
-use Rattle.std.proofs.Common.{ℕ, List, inr, rules, subst, ◌∙◌}
-use Rattle.site_top.specs.Saying.{Tells}
+use Rattle.std.proofs.Common.{inr, rules}
+use Rattle.site_top.specs.GatewayCommand.{Ends, StopsSo, gateway_line}
+use Rattle.site_top.specs.Outcomes.{gateway_cause}
 use Rattle.site_top.proofs.GatewayLemmas.{apart}
+use Rattle.site_top.proofs.PlanCommandLemmas.{run_told}
 use Rattle.site_top.proofs.gateway.gateway.Goals as goal
 
-pub run-requires-clause-apart : goal.run-requires-clause-apart
-run-requires-clause-apart g c = apart c.args.out.now c.args.ins.now c.requires
+pub run-end-requires-clause-apart : goal.run-end-requires-clause-apart
+run-end-requires-clause-apart g c = apart c.args.out.now c.args.ins.now c.requires
 
-pub returns-in-Ok-run : goal.returns-in-Ok-run
-returns-in-Ok-run g c =
+pub returns : goal.returns
+returns g c =
+    let plan = c.in-Ok.plan in
     inr (
       _,
       _,
@@ -15,13 +18,7 @@ returns-in-Ok-run g c =
       c.in-Ok.ensures.ok.1,
       inr (
         search rules,
-        inr (
-          _,
-          _,
-          _,
-          c.in-Ok-run.ensures.ok,
-          subst (λ (text : List ℕ). Tells (g.D.Desk.state c.run.new.desk) (g.D.Desk.state c.tell.new.desk) text c.tell.result)
-              (c.as_bytes.ensures ∙ c.gateway_line.ensures) c.tell.ensures,
-        ),
+        run_told (Ends c.args.out.now c.args.ins.now plan) (StopsSo c.args.out.now c.args.ins.now plan) gateway_line gateway_cause _ _ _
+            _ _ c.run-end.ensures.ok c.run-end.ensures.err c.tell_run.ensures.ok c.tell_run.ensures.err,
       ),
     )

@@ -1,40 +1,27 @@
-use Rattle.std.proofs.Common.{ℕ, List, inl, inr, subst, ◌∙◌}
-use Rattle.site_top.specs.Saying.{Tells}
+use Rattle.std.proofs.Common.{inr}
+use Rattle.site_top.specs.ModulateCommand.{Ends, StopsSo, modulate_line}
+use Rattle.site_top.specs.Outcomes.{modulate_cause}
 use Rattle.site_top.proofs.GatewayLemmas.{other_name}
+use Rattle.site_top.proofs.PlanCommandLemmas.{run_told, if_ok, if_err}
 use Rattle.site_top.proofs.SurvivorLemmas.{holds_records, stops_with}
 use Rattle.site_top.proofs.modulate.modulate.Goals as goal
 
-pub run-requires : goal.run-requires
-run-requires g c = record { apart = other_name c.args.input.now c.args.out.now c.requires }
-
-pub returns-in-Ok-run : goal.returns-in-Ok-run
-returns-in-Ok-run g c =
-    inr (
-      _,
-      _,
-      c.in-Ok.ensures.ok.0,
-      c.in-Ok.ensures.ok.1,
-      inr (
-        _,
-        _,
-        c.in-Ok-run.ensures.ok,
-        holds_records _ _ _ _ _ _ c.plan_law.ensures.honest c.plan_law.ensures.undamaged c.in-Ok-run.ensures.ok,
-        subst (λ (text : List ℕ). Tells (g.D.Desk.state c.run.new.desk) (g.D.Desk.state c.tell.new.desk) text c.tell.result)
-            (c.as_bytes.ensures ∙ c.modulate_line.ensures) c.tell.ensures,
-      ),
-    )
+pub run-end-requires : goal.run-end-requires
+run-end-requires g c = record { apart = other_name c.args.input.now c.args.out.now c.requires }
 
 pub returns : goal.returns
 returns g c =
+    let plan = c.in-Ok.plan in
+    let file = c.args.input.now in
+    let out = c.args.out.now in
+    let law = c.plan_law.ensures in
     inr (
       _,
       _,
       c.in-Ok.ensures.ok.0,
       c.in-Ok.ensures.ok.1,
-      inl (
-        _,
-        c.in-Err-run.ensures.err,
-        stops_with _ _ _ _ _ _ c.plan_law.ensures.honest c.plan_law.ensures.undamaged c.in-Err-run.ensures.err,
-        c.stopped.ensures,
-      ),
+      run_told (Ends file out plan) (StopsSo file out plan) modulate_line modulate_cause _ _ _ _ _
+          (if_ok _ _ (Ends file out plan _ _) (λ ran r. (r, holds_records plan _ _ file out ran law.honest law.undamaged r)) c.run-end.ensures.ok)
+          (if_err _ _ (StopsSo file out plan _ _) (λ stop s. (s, stops_with plan _ _ file out stop law.honest law.undamaged s)) c.run-end.ensures.err)
+          c.tell_run.ensures.ok c.tell_run.ensures.err,
     )

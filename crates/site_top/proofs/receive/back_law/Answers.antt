@@ -14,4 +14,4 @@ returns c =
       recovers = c.recover_law.ensures;
       back = c.whole_law.ensures.run;
     } in
-    comes_back laws c.args.plan.now c.obeys_rules.ensures.plan c.type_law.ensures
+    comes_back laws c.args.plan.now c.rules_law.ensures.plan c.type_law.ensures

@@ -1,14 +1,20 @@
-use Rattle.std.proofs.Common.{ℕ, List, inr, inl, subst, ◌∙◌}
-use Rattle.site_top.specs.Saying.{Tells}
+use Rattle.std.proofs.Common.{inr}
+use Rattle.site_top.specs.Outcomes.{receive_cause}
+use Rattle.site_top.specs.ReceiveCommand.{Ends, StopsSo, receive_line}
 use Rattle.site_top.proofs.GatewayLemmas.{other_name}
+use Rattle.site_top.proofs.PlanCommandLemmas.{run_told, if_ok}
 use Rattle.site_top.proofs.RecoverLemmas.{holds_back}
 use Rattle.site_top.proofs.receive.receive.Goals as goal
 
-pub run-requires : goal.run-requires
-run-requires g c = record { plp = c.in-Some.ensures.some.inside; apart = other_name c.args.input.now c.args.out.now c.requires }
+pub run-end-requires : goal.run-end-requires
+run-end-requires g c = record { plp = c.in-Some.ensures.some.inside; apart = other_name c.args.input.now c.args.out.now c.requires }
 
-pub returns-in-Ok-run : goal.returns-in-Ok-run
-returns-in-Ok-run g c =
+pub returns : goal.returns
+returns g c =
+    let plan = c.in-Ok.plan in
+    let file = c.args.input.now in
+    let out = c.args.out.now in
+    let at = c.in-Some.ensures.some in
     inr (
       _,
       _,
@@ -16,24 +22,9 @@ returns-in-Ok-run g c =
       c.in-Ok.ensures.ok.1,
       inr (
         _,
-        c.in-Some.ensures.some,
-        inr (
-          _,
-          _,
-          c.in-Ok-run.ensures.ok,
-          holds_back _ _ _ _ _ _ _ c.back_law.ensures c.in-Some.ensures.some.inside c.in-Ok-run.ensures.ok,
-          subst (λ (text : List ℕ). Tells (g.D.Desk.state c.run.new.desk) (g.D.Desk.state c.tell.new.desk) text c.tell.result)
-              (c.as_bytes.ensures ∙ c.receive_line.ensures) c.tell.ensures,
-        ),
+        at,
+        run_told (Ends file out plan _) (StopsSo file out plan _) receive_line receive_cause _ _ _ _ _
+            (if_ok _ _ (Ends file out plan _ _ _) (λ ran r. (r, holds_back plan _ _ _ file out ran c.back_law.ensures at.inside r)) c.run-end.ensures.ok)
+            c.run-end.ensures.err c.tell_run.ensures.ok c.tell_run.ensures.err,
       ),
-    )
-
-pub returns : goal.returns
-returns g c =
-    inr (
-      _,
-      _,
-      c.in-Ok.ensures.ok.0,
-      c.in-Ok.ensures.ok.1,
-      inr (_, c.in-Some.ensures.some, inl (_, c.in-Err-run.ensures.err, c.stopped.ensures)),
     )

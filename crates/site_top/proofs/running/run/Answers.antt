@@ -8,7 +8,7 @@ returns-clause-does g c = run_does (command_of c.args.words.now) _ _ _ _ c.comma
 
 pub returns-clause-complete : goal.returns-clause-complete
 returns-clause-complete g c =
-    run_complete c.completeness.ensures (command_of c.args.words.now) _ _ _ _ c.command-outcome.ensures.does c.finish.ensures
+    run_complete c.completeness_law.ensures (command_of c.args.words.now) _ _ _ _ c.command-outcome.ensures.does c.finish.ensures
 
 pub returns-clause-usage : goal.returns-clause-usage
 returns-clause-usage g c = run_usage (command_of c.args.words.now) _ _ _ c.command-outcome.ensures.refuses
@@ -18,4 +18,4 @@ returns-clause-refuses g c = run_refuses (command_of c.args.words.now) _ _ _ _ c
 
 pub returns-clause-touches : goal.returns-clause-touches
 returns-clause-touches g c =
-    run_touches c.only_out_changes.ensures (command_of c.args.words.now) _ _ _ _ c.command-outcome.ensures.does c.finish.ensures
+    run_touches c.only_out_changes_law.ensures (command_of c.args.words.now) _ _ _ _ c.command-outcome.ensures.does c.finish.ensures

@@ -1,37 +1,16 @@
-use Rattle.std.proofs.Common.{◌≡◌, ◌<◌, rules, refl, sym, ◌∙◌, arith, length}
-use Rattle.receive_run.specs.declared.machine.Coming.TheVariants.{Rest}
-use Rattle.receive_run.proofs.WantedLemmas.{some_of, short, fits}
-use Rattle.receive_run.proofs.FileEndLemmas.{ended_rest, ended_head, ended_all}
+use Rattle.std.proofs.Common.{refl}
+use Rattle.receive_run.proofs.FedLemmas.{ended}
+use Rattle.receive_run.proofs.WantedLemmas.{short}
 use Rattle.receive_run.proofs.machine.ReceiverMachineMachine.end_input.Goals as goal
 
-pub invariant_of-self-else-is_empty : goal.invariant_of-self-else-is_empty
-invariant_of-self-else-is_empty c = record {
-  network = search rules;
-  place = search rules;
-  inside = search rules;
-  some = search rules;
-  given = search rules;
-  room = search rules;
-  buffer = search rules;
-  small = fits c.args.self.now _ (length c.args.bytes.now) c.requires.room (short c.args.self.now _ _ c.requires.wanted).0;
-}
+pub finish-requires : goal.finish-requires
+finish-requires c = record { wants = (short c.args.self.now _ _ c.requires.wanted).0.some }
 
-pub returns-then-eq-clause-becomes : goal.returns-then-eq-clause-becomes
-returns-then-eq-clause-becomes c =
-    let rests : c.args.self.now.coming ≡ Rest = search rules in
-    λ start events came. ended_rest c.events_law.ensures start c.args.self.now _ events c.args._input c.args.bytes.now
-    c.requires.wanted rests refl refl refl refl refl refl came
+pub invariant_of-self : goal.invariant_of-self
+invariant_of-self c = let m = c.args.self.now in
+    record { network = m.network; place = m.place; inside = m.inside; room = c.finish.ensures.room m.room }
 
-pub returns-then-is_empty-clause-becomes : goal.returns-then-is_empty-clause-becomes
-returns-then-is_empty-clause-becomes c =
-    let other : c.args.self.now.coming ≡ Rest → ⊥ = search rules in
-    let none : length c.args.bytes.now ≡ 0 = search (rules, arith) in
-    λ start events came. ended_all c.events_law.ensures start c.args.self.now _ events c.args._input c.args.bytes.now
-    c.requires.wanted other none refl refl refl refl refl refl came
-
-pub returns-else-is_empty-clause-becomes : goal.returns-else-is_empty-clause-becomes
-returns-else-is_empty-clause-becomes c =
-    let other : c.args.self.now.coming ≡ Rest → ⊥ = search rules in
-    let some : 0 < length c.args.bytes.now = some_of (length c.args.bytes.now) (sym c.is_empty.ensures ∙ c.if-is_empty.false) in
-    λ start events came. ended_head c.events_law.ensures start c.args.self.now _ events c.args._input c.args.bytes.now
-    c.requires.wanted other some refl refl refl refl refl refl came
+pub returns-clause-becomes : goal.returns-clause-becomes
+returns-clause-becomes c = λ start events came.
+    ended c.events_law.ensures start c.args.self.now _ events c.args._input c.args._bytes.now c.requires.wanted
+    (record { receiver = refl; first = refl; slots = refl }) refl c.finish.ensures.whole c.finish.ensures.stands came

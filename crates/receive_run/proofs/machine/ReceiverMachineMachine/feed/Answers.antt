@@ -1,44 +1,72 @@
-use Rattle.std.proofs.Common.{rules, arith}
-use Rattle.receive_run.proofs.WantedLemmas.{enough, wants_head, fits, is_ready, no_packets, lacks_head, at_input}
+use Rattle.std.proofs.Common.{◌≡◌, ◌∙◌, refl, sym, arith, take}
+use Rattle.std.proofs.lemmas.Bool.{true≢false}
+use Rattle.record_feed.specs.StandsFor.{coming_of, left_of}
+use Rattle.record_feed.specs.declared.coming.Coming.TheVariants.{Whole}
+use Rattle.plp_receiver.specs.StandsFor.{due_of}
+use Rattle.receive_run.proofs.FedLemmas.{fed_some, fed_whole}
+use Rattle.receive_run.proofs.StepLemmas.{known_of}
+use Rattle.receive_run.proofs.WantedLemmas.{enough, fits, is_ready, near_left, all_left}
 use Rattle.receive_run.proofs.machine.ReceiverMachineMachine.feed.Goals as goal
 
-pub take_rest-requires-clause-ready : goal.take_rest-requires-clause-ready
-take_rest-requires-clause-ready c =
-    is_ready c.args.self.now _ _ c.requires.room
-    (no_packets c.args.self.now.coming _ (enough c.args.self.now _ _ c.requires.wanted).1)
+pub feed-count-requires-clause-wants : goal.feed-count-requires-clause-wants
+feed-count-requires-clause-wants c = (enough c.args.self.now _ _ c.requires.wanted).0.some
 
-pub take_rest-requires-clause-room : goal.take_rest-requires-clause-room
-take_rest-requires-clause-room c = fits c.args.self.now _ _ c.requires.room (enough c.args.self.now _ _ c.requires.wanted).0
+pub feed-count-requires-clause-some : goal.feed-count-requires-clause-some
+feed-count-requires-clause-some c = (enough c.args.self.now _ _ c.requires.wanted).1
 
-pub returns-then-eq-clause-becomes : goal.returns-then-eq-clause-becomes
-returns-then-eq-clause-becomes c = λ start events came. at_input start _ events c.args._input _
-    (enough c.args.self.now _ _ c.requires.wanted).0 (c.take_rest.ensures.becomes start events came)
+pub feed-count-requires-clause-few : goal.feed-count-requires-clause-few
+feed-count-requires-clause-few c =
+    let few = fits c.args.self.now _ _ c.requires.room (enough c.args.self.now _ _ c.requires.wanted).0.only in omega (arith, few)
 
-pub take_head-requires-clause-ready : goal.take_head-requires-clause-ready
-take_head-requires-clause-ready c =
-    is_ready c.args.self.now _ _ c.requires.room
-    (no_packets c.args.self.now.coming _ (enough c.args.self.now _ _ c.requires.wanted).1)
+pub invariant_of-self : goal.invariant_of-self
+invariant_of-self c = let m = c.args.self.now in
+    record { network = m.network; place = m.place; inside = m.inside; room = c.feed-count.ensures.room m.room }
 
-pub take_head-requires-clause-room : goal.take_head-requires-clause-room
-take_head-requires-clause-room c =
-    let e = enough c.args.self.now _ _ c.requires.wanted in
-    let room = fits c.args.self.now _ _ c.requires.room e.0 in
-    let many = (wants_head c.args.self.now _ (search rules) e.1).1 in
-    omega (arith, room, many)
+pub see-requires-clause-whole : goal.see-requires-clause-whole
+see-requires-clause-whole c = c.is_whole.ensures.0 c.if-is_whole.true
 
-pub returns-clause-some : goal.returns-clause-some
-returns-clause-some c =
-    let many = (wants_head c.args.self.now _ (search rules) (enough c.args.self.now _ _ c.requires.wanted).1).1 in
-    (omega arith, omega (arith, many))
+pub see-requires-clause-ready : goal.see-requires-clause-ready
+see-requires-clause-ready c =
+    is_ready c.args.self.now _ _ _ c.requires.room (enough c.args.self.now _ _ c.requires.wanted).0.idle
+    c.feed-count.ensures.accepted
 
-pub returns-clause-becomes : goal.returns-clause-becomes
-returns-clause-becomes c = λ start events came.
-    at_input start _ events c.args._input _ (enough c.args.self.now _ _ c.requires.wanted).0
-    (rw c.front_head.ensures at (c.take_head.ensures.becomes start events came))
+pub returns-then-is_whole-clause-becomes : goal.returns-then-is_whole-clause-becomes
+returns-then-is_whole-clause-becomes c = λ start events came.
+    let whole : coming_of c.feed-count.new.self ≡ Whole =
+    c.is_whole.ensures.0 c.if-is_whole.true in
+    fed_whole c.events_law.ensures c.readback_law.ensures.front start c.args.self.now _ c.see.new.self events c.args._input _
+    (take c.feed-count.result c.args.bytes.now) (known_of c.args.self.now c.rules_law.ensures.plan) c.requires.wanted
+    (record { receiver = refl; first = refl; slots = refl }) refl whole
+    c.feed-count.ensures.stands c.see.ensures.sees came
 
-pub returns-clause-reach : goal.returns-clause-reach
-returns-clause-reach c = λ other.
-    let heads = (wants_head c.args.self.now _ (search rules) (enough c.args.self.now _ _ c.requires.wanted).1).0 in
-    let lacks = lacks_head c.args.self.now _ _ c.requires.room heads in
-    let at = c.take_head.ensures.at in
-    omega (arith, lacks, at)
+pub returns-then-is_whole-clause-reach : goal.returns-then-is_whole-clause-reach
+returns-then-is_whole-clause-reach c = λ other.
+    let m = c.args.self.now in
+    let f = c.feed-count.ensures in
+    let whole : coming_of c.feed-count.new.self ≡ Whole =
+    c.is_whole.ensures.0 c.if-is_whole.true in
+    let near = near_left (due_of m.receiver) (left_of m.feed) in
+    let all = f.left in
+    let none = f.whole whole in
+    let came = f.came in
+    let same = c.see.ensures.came in
+    omega (arith, near, all, none, came, same)
+
+pub returns-else-is_whole-clause-becomes : goal.returns-else-is_whole-clause-becomes
+returns-else-is_whole-clause-becomes c = λ start events came.
+    let seen : coming_of c.feed-count.new.self ≡ Whole → ⊥ =
+    λ whole. true≢false (sym (c.is_whole.ensures.1 whole) ∙ c.if-is_whole.false) in
+    fed_some c.events_law.ensures start c.args.self.now _ events c.args._input _ (take c.feed-count.result c.args.bytes.now)
+    c.requires.wanted (record { receiver = refl; first = refl; slots = refl }) refl seen
+    c.feed-count.ensures.stands came
+
+pub returns-else-is_whole-clause-reach : goal.returns-else-is_whole-clause-reach
+returns-else-is_whole-clause-reach c = λ other.
+    let m = c.args.self.now in
+    let f = c.feed-count.ensures in
+    let idle = (enough m _ _ c.requires.wanted).0.idle in
+    let near = near_left (due_of m.receiver) (left_of m.feed) in
+    let later = all_left (due_of m.receiver) (left_of c.feed-count.new.self) idle in
+    let all = f.left in
+    let came = f.came in
+    omega (arith, near, later, all, came)

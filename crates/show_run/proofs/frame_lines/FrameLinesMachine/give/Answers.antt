@@ -4,6 +4,5 @@ use Rattle.show_run.proofs.frame_lines.FrameLinesMachine.give.Goals as goal
 
 pub returns-clause-becomes : goal.returns-clause-becomes
 returns-clause-becomes c = λ start events came.
-    gave_line c.events_law.ensures start c.args.self.now _ events _
-    (gives_line c.args.self.now.line c.args.self.now.coming c.requires.gives)
-    c.give_line.ensures.bytes c.give_line.ensures.given refl refl refl refl refl came
+    gave_line c.events_law.ensures start c.args.self.now _ events _ (gives_line c.args.self.now.line _ c.requires.gives)
+    c.give_line.ensures.bytes c.give_line.ensures.given refl came

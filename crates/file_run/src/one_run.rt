@@ -1,0 +1,65 @@
+// One run of a machine, with the memory that it needs.
+ghost use Rattle.std.specs.Prelude.{◌≡◌, ◌≢◌, [], ◌∷◌, length, IfOk};
+ghost use Rattle.file_run.specs.FileRun.{AreApart};
+ghost use Rattle.file_run.specs.OneRun.{RunsOnce};
+
+use crate::machine::Ending;
+use crate::out_buffer::OutBuffer;
+use crate::running::run;
+use crate::stop::RunStop;
+use bit_slice::OutOfMemory;
+use desk_io::ReadAhead;
+use ports::{Desk, Word};
+use std::alloc::Global;
+
+// So many readers, of nothing yet.
+fn open_readers(alloc: Global, count: usize) -> Result<Vec<ReadAhead>, OutOfMemory>
+    ensures { IfOk result (λ readers. length readers.items ≡ count) }
+{
+    let mut readers = Vec::new(alloc);
+    for _ in 0..count {
+        readers.push(ReadAhead::open(alloc)?)?;
+    }
+    Ok(readers)
+}
+
+/// Runs a machine between files as `run` does, and tells what came of it. All memory is taken before the first input is opened.
+pub fn run_one<M: Ending, D: Desk>(
+    alloc: Global,
+    machine: &mut M,
+    out: &str,
+    ins: &[Word],
+    desk: &mut D,
+) -> Result<M::Ran, RunStop<M::Stop>>
+    requires inputs { M.inputs machine.old ≡ length ins.now }
+    requires start { M.Becomes machine.old [] machine.old }
+    requires apart { AreApart out.now ins.now }
+    ensures { RunsOnce (D.state desk.old) (D.state desk.new) out.now ins.now M.reach M.next (M.Becomes machine.old) M.ending
+        machine.new result }
+{
+    let mut readers = open_readers(alloc, ins.len())?;
+    let mut buffer = OutBuffer::open(alloc)?;
+    run(machine, &mut readers, &mut buffer, out, ins, desk)?;
+    match machine.ending() {
+        Ok(ran) => Ok(ran),
+        Err(why) => Err(RunStop::Refused(why)),
+    }
+}
+
+/// The same for a machine of one input, which is named.
+pub fn run_over<M: Ending, D: Desk>(
+    alloc: Global,
+    machine: &mut M,
+    input: &str,
+    out: &str,
+    desk: &mut D,
+) -> Result<M::Ran, RunStop<M::Stop>>
+    requires inputs { M.inputs machine.old ≡ 1 }
+    requires start { M.Becomes machine.old [] machine.old }
+    requires apart { input.now ≢ out.now }
+    ensures { RunsOnce (D.state desk.old) (D.state desk.new) out.now (input.now ∷ []) M.reach M.next (M.Becomes machine.old) M.ending
+        machine.new result }
+{
+    let ins = [Word::new(alloc, input)?];
+    run_one(alloc, machine, out, &ins, desk)
+}

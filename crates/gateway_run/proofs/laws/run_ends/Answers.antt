@@ -1,5 +1,0 @@
-use Rattle.gateway_run.proofs.EndLemmas.{run_ends}
-use Rattle.gateway_run.proofs.laws.run_ends.Goals as goal
-
-pub returns : goal.returns
-returns c = run_ends c.not_yet_last.ensures

@@ -1,5 +1,0 @@
-use Rattle.modulate_run.proofs.LawLemmas.{one_run}
-use Rattle.modulate_run.proofs.laws.one_run.Goals as goal
-
-pub returns : goal.returns
-returns c = one_run

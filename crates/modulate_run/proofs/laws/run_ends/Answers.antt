@@ -1,5 +1,0 @@
-use Rattle.modulate_run.proofs.LawLemmas.{run_ends}
-use Rattle.modulate_run.proofs.laws.run_ends.Goals as goal
-
-pub returns : goal.returns
-returns c = run_ends

@@ -1,5 +1,0 @@
-use Rattle.receive_run.proofs.EndLemmas.{run_ends}
-use Rattle.receive_run.proofs.laws.run_ends.Goals as goal
-
-pub returns : goal.returns
-returns c = run_ends c.refusal_law.ensures.either c.spelled_or_refused.ensures c.no_refusal.ensures c.bit_counts.ensures

@@ -1,0 +1,28 @@
+-- A run was begun by the plan of CONFIG, and told.
+use Rattle.std.proofs.Common.{◌≡◌, ℕ, inl, inr, List, sym, subst}
+use Rattle.std.specs.Prelude.{Result, Ok, Err, IfOk, IfErr}
+use Rattle.ports.specs.Desk.{State}
+use Rattle.file_run.specs.declared.stop.RunStop.{RunStop}
+use Rattle.site_top.specs.declared.outcome.Outcome.{Outcome}
+use Rattle.site_top.specs.Outcomes.{stop_outcome}
+use Rattle.site_top.specs.PlanCommand.{RunsAndTells}
+use Rattle.site_top.specs.Saying.{Tells}
+
+pub if_ok : {R E : Type 0} (r : Result R E) (P Q : R → Type 0) → ((x : R) → P x → Q x) → IfOk r P → IfOk r Q
+if_ok (Ok x) P Q f p = f x p
+if_ok (Err e) P Q f p = tt
+
+pub if_err : {R E : Type 0} (r : Result R E) (P Q : E → Type 0) → ((e : E) → P e → Q e) → IfErr r P → IfErr r Q
+if_err (Ok x) P Q f p = tt
+if_err (Err e) P Q f p = f e p
+
+-- what was told of it
+pub run_told : {R E : Type 0} (Ends : State → State → R → Type 0) (Stops : State → State → RunStop E → Type 0) (line : R → List ℕ)
+    (cause : E → Outcome) (mid after new : State) (run : Result R (RunStop E)) (outcome : Outcome)
+    → IfOk run (Ends mid after) → IfErr run (Stops mid after)
+    → IfOk run (λ ran. Tells after new (line ran) outcome)
+    → IfErr run (λ stop. (new ≡ after) × (outcome ≡ stop_outcome cause stop))
+    → RunsAndTells Ends Stops line cause mid new outcome
+run_told Ends Stops line cause mid after new (Ok ran) outcome ends stops tells is = inr (ran, after, ends, tells)
+run_told Ends Stops line cause mid after new (Err stop) outcome ends stops tells is =
+    inl (stop, subst (λ (s : State). Stops mid s stop) (sym is.0) stops, is.1)

@@ -1,0 +1,166 @@
+// How a command ends whose run of a machine is over.
+ghost use Rattle.std.specs.Prelude.{◌≡◌, IfOk, IfErr};
+ghost use Rattle.site_top.specs.Outcomes.{run_outcome, stop_outcome};
+ghost use Rattle.site_top.specs.Saying.{Tells};
+
+use crate::config_commands::tell;
+use crate::outcome::{Outcome, file_outcome};
+use desk_io::Line;
+use file_run::RunStop;
+use gateway_run::GatewayStop;
+use modulate_run::ModulateStop;
+use plp_config::MOST_FRAMES;
+use ports::Desk;
+use receive_run::ReceiveStop;
+use show_run::ShowStop;
+
+/// A machine's own cause why its run is no success.
+pub trait Cause: Copy {
+    ghost use Rattle.site_top.specs.declared.outcome.Outcome.{Outcome};
+
+    /// How a command ends by it.
+    ghost outcome: { Self → Outcome };
+
+    /// How a command ends by it.
+    fn outcome(self) -> Outcome
+        ensures { result ≡ outcome self };
+}
+
+impl Cause for GatewayStop {
+    ghost use Rattle.site_top.specs.Outcomes.{gateway_cause};
+
+    ghost outcome = { gateway_cause };
+
+    fn outcome(self) -> Outcome {
+        match self {
+            GatewayStop::Bad { input, packet } => Outcome::InputRefused { input, packet },
+            GatewayStop::TooManyFrames => Outcome::TooLong { count: MOST_FRAMES },
+        }
+    }
+}
+
+impl Cause for ModulateStop {
+    ghost use Rattle.site_top.specs.Outcomes.{modulate_cause};
+
+    ghost outcome = { modulate_cause };
+
+    fn outcome(self) -> Outcome {
+        match self {
+            ModulateStop::NoSuperframe => Outcome::NoSuperframe,
+            ModulateStop::TooManyFrames => Outcome::TooLong { count: MOST_FRAMES },
+        }
+    }
+}
+
+impl Cause for ReceiveStop {
+    ghost use Rattle.site_top.specs.Outcomes.{receive_cause};
+
+    ghost outcome = { receive_cause };
+
+    fn outcome(self) -> Outcome {
+        match self {
+            ReceiveStop::RecordRefused { number, why } => Outcome::RecordRefused { number, why },
+        }
+    }
+}
+
+impl Cause for ShowStop {
+    ghost use Rattle.site_top.specs.Outcomes.{show_cause};
+
+    ghost outcome = { show_cause };
+
+    fn outcome(self) -> Outcome {
+        match self {
+            ShowStop::PacketRefused { at, why } => Outcome::PacketRefused { at, why },
+            ShowStop::RecordRefused { number, why } => Outcome::RecordRefused { number, why },
+            ShowStop::NoRoom => Outcome::OutOfMemory,
+        }
+    }
+}
+
+// How a command ends whose run is no success.
+fn stopped<E: Cause>(stop: RunStop<E>) -> Outcome
+    ensures { result ≡ stop_outcome E.outcome stop }
+{
+    match stop {
+        RunStop::Refused(why) => why.outcome(),
+        RunStop::Files(fault) => file_outcome(fault),
+        RunStop::OutOfMemory => Outcome::OutOfMemory,
+    }
+}
+
+/// How a command ends that has said all in its run.
+pub fn outcome_of<R: Copy, E: Cause>(run: Result<R, RunStop<E>>) -> Outcome
+    ensures { result ≡ run_outcome (stop_outcome E.outcome) run }
+{
+    match run {
+        Ok(_) => Outcome::Done,
+        Err(stop) => stopped(stop),
+    }
+}
+
+/// What is told of a run to its end.
+pub trait Ran: Copy {
+    ghost use Rattle.std.specs.Prelude.{List, ℕ};
+
+    /// Its line.
+    ghost line: { Self → List ℕ };
+
+    /// Its line.
+    fn line(self) -> Line
+        ensures { result ≡ line self };
+}
+
+impl Ran for gateway_run::Ran {
+    ghost use Rattle.site_top.specs.GatewayCommand.{gateway_line};
+
+    ghost line = { gateway_line };
+
+    fn line(self) -> Line {
+        let mut line = Line::new();
+        line.push_field(b"frames=", self.frames);
+        line.push_field(b" units=", self.units);
+        line.push(b"\n");
+        line
+    }
+}
+
+impl Ran for modulate_run::Ran {
+    ghost use Rattle.site_top.specs.ModulateCommand.{modulate_line};
+
+    ghost line = { modulate_line };
+
+    fn line(self) -> Line {
+        let mut line = Line::new();
+        line.push_field(b"first=", self.first);
+        line.push_field(b" records=", self.records);
+        line.push_field(b" muted=", self.muted);
+        line.push(b"\n");
+        line
+    }
+}
+
+impl Ran for receive_run::Ran {
+    ghost use Rattle.site_top.specs.ReceiveCommand.{receive_line};
+
+    ghost line = { receive_line };
+
+    fn line(self) -> Line {
+        let mut line = Line::new();
+        line.push_field(b"first=", self.first);
+        line.push_field(b" slots=", self.slots);
+        line.push(b"\n");
+        line
+    }
+}
+
+/// Says the line of a run to its end, or how the command ends whose run is no success.
+pub fn tell_run<R: Ran, E: Cause, D: Desk>(desk: &mut D, run: Result<R, RunStop<E>>) -> Outcome
+    ensures ok { IfOk run (λ ran. Tells (D.state desk.old) (D.state desk.new) (R.line ran) result) }
+    ensures err { IfErr run (λ stop. (D.state desk.new ≡ D.state desk.old) × (result ≡ stop_outcome E.outcome stop)) }
+{
+    match run {
+        Ok(ran) => tell(desk, ran.line().as_bytes()),
+        Err(stop) => stopped(stop),
+    }
+}
