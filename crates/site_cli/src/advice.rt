@@ -1,12 +1,13 @@
 // What is said for people, on standard error: what was wrong, where, and what to do.
-use crate::config_place::{front_of, is_data, plp_line};
-use crate::help::COMMANDS;
+use crate::config_place::{is_data, plp_line, text_of};
+use crate::help::{COMMANDS, rule_of};
 use crate::pids::say_pids;
 use crate::shown::{Shown, Told};
 use config_text::{TextFault, TextWhy};
 use plp_config::{CapacityFault, ConfigFault, MOST_FRAMES};
 use ports::HostFault;
-use site_top::{ConfigCause, Outcome, Word};
+use site_frame::RecordWhy;
+use site_top::{ConfigCause, Outcome, Request, Word, request_of};
 use std::fs::Files;
 use std::io::{self, Eprint};
 
@@ -30,39 +31,12 @@ pub fn warn(rt: &impl Eprint, words: &[Word]) {
     }
 }
 
-// Whether the words are those of `gateway`, which has several inputs.
-fn is_gateway(words: &[Word]) -> bool {
-    words.len() >= 3 && words[0].as_str() == "gateway"
-}
-
-fn is_modulate(words: &[Word]) -> bool {
-    words.len() == 4 && words[0].as_str() == "modulate"
-}
-
-fn is_receive(words: &[Word]) -> bool {
-    words.len() == 5 && words[0].as_str() == "receive"
-}
-
-fn is_trial(words: &[Word]) -> bool {
-    words.len() == 3 && words[0].as_str() == "trial"
-}
-
-fn is_show_t2mi(words: &[Word]) -> bool {
-    words.len() == 3 && words[0].as_str() == "show" && words[1].as_str() == "t2mi"
-}
-
 // Why words are no command.
 fn why_no_command(words: &[Word]) -> &'static str {
     if words.iter().any(|word| word.as_str().is_empty()) {
         "a word is empty or not UTF-8"
-    } else if is_gateway(words) || is_modulate(words) {
-        "OUT must be neither CONFIG nor an IN"
-    } else if is_receive(words) {
-        "PLP must be a decimal number from 0 to 255, without sign and leading zeros, and OUT neither CONFIG nor IN"
-    } else if is_trial(words) {
-        "SEED must be a decimal number below 2^64 and FRAMES one from 6 to 64, both without sign and leading zeros"
     } else {
-        "these words are no command"
+        rule_of(words).unwrap_or("these words are no command")
     }
 }
 
@@ -80,7 +54,7 @@ fn say_plp(
     let Some(place) = plp else {
         return Ok(());
     };
-    let text = front_of(rt, name)?;
+    let text = text_of(rt, name)?;
     match plp_line(&text, place) {
         Some((line, id)) => eprintln!(rt; "{}: PLP {id} is on line {line}", Shown(name)),
         None => Ok(()),
@@ -95,7 +69,7 @@ fn say_text(
     why: TextWhy,
 ) -> io::Result<()> {
     let file = Shown(name);
-    if front_of(rt, name).map_or(false, |front| is_data(&front)) {
+    if text_of(rt, name).map_or(false, |front| is_data(&front)) {
         return eprintln!(rt;
             "{file}: this is a transport stream or other data, and no text; name the text of a configuration"
         );
@@ -136,6 +110,40 @@ fn say_fault(rt: &impl Eprint, fault: Option<&HostFault>) -> io::Result<()> {
     }
 }
 
+// Says that frame 2^31 comes.
+fn say_too_many_frames(
+    rt: &impl Eprint,
+    request: Option<Request<'_>>,
+    file: Shown<'_>,
+) -> io::Result<()> {
+    match request {
+        Some(Request::Modulate { .. }) => eprintln!(rt;
+            "{file}: frame {MOST_FRAMES} of CONFIG comes in it; the records before it were written; what is behind it wants a CONFIG that starts later"
+        ),
+        _ => eprintln!(rt;
+            "the inputs go on for more than {MOST_FRAMES} frames; what was written stays, give the rest to another run"
+        ),
+    }
+}
+
+// Says which record is refused.
+fn say_record(
+    rt: &impl Eprint,
+    request: Option<Request<'_>>,
+    file: Shown<'_>,
+    number: u64,
+    why: RecordWhy,
+) -> io::Result<()> {
+    match request {
+        Some(Request::Receive { .. }) => eprintln!(rt;
+            "{file}: record {number}, counted from 0: {why}; OUT holds what the records before it give back; see that the file holds the records of successive frames of CONFIG and nothing else"
+        ),
+        _ => eprintln!(rt;
+            "{file}: record {number}, counted from 0: {why}; the records before it were shown; see that the file holds whole records and nothing else"
+        ),
+    }
+}
+
 // Says it, as far as standard error takes it: nobody is left to tell of a failure there.
 fn say(
     rt: &(impl Eprint + Files + AllocGlobal),
@@ -145,11 +153,14 @@ fn say(
     fault: Option<&HostFault>,
     none_came: bool,
 ) -> io::Result<()> {
-    let name = file_of(words, outcome);
+    let request = request_of(words);
+    let name = file_of(request, outcome);
     let file = Shown(name);
     match outcome {
-        Outcome::Done if is_show_t2mi(words) => say_pids(rt, name, none_came),
-        Outcome::Done => Ok(()),
+        Outcome::Done => match request {
+            Some(Request::ShowT2mi { file }) => say_pids(rt, file, none_came),
+            _ => Ok(()),
+        },
         Outcome::Usage => say_usage(rt, program, words),
         Outcome::WrongInputs { plps, inputs } => eprintln!(rt;
             "{file} wants one IN for each PLP, in its order: {plps}, and {inputs} were given"
@@ -170,19 +181,13 @@ fn say(
             eprintln!(rt; "{file}: {fault}; mend the configuration")?;
             say_plp(rt, name, plp)
         }
-        Outcome::InputRefused { input, packet } => eprintln!(rt;
-            "{}: packet {packet}, counted from 0, does not begin with the sync byte 0x47, or the file ends inside it; OUT holds the units of the frames before; mend the file",
-            Shown(word_at(words, 3 + usize::from(input)))
+        Outcome::InputRefused { packet, .. } => eprintln!(rt;
+            "{file}: packet {packet}, counted from 0, does not begin with the sync byte 0x47, or the file ends inside it; OUT holds the units of the frames before; mend the file"
         ),
         Outcome::NoSuperframe => eprintln!(rt;
             "{file}: no superframe begins in it with a frame that passes the tests; see that it is the T2-MI stream of the network of CONFIG, on its PID"
         ),
-        Outcome::TooLong { count: MOST_FRAMES } if is_modulate(words) => eprintln!(rt;
-            "{file}: frame {MOST_FRAMES} of CONFIG comes in it; the records before it were written; what is behind it wants a CONFIG that starts later"
-        ),
-        Outcome::TooLong { count: MOST_FRAMES } => eprintln!(rt;
-            "the inputs go on for more than {MOST_FRAMES} frames; what was written stays, give the rest to another run"
-        ),
+        Outcome::TooLong { count: MOST_FRAMES } => say_too_many_frames(rt, request, file),
         Outcome::TooLong { count } => eprintln!(rt;
             "{file}: it gave {count} bytes, which is more than a file may have; split it"
         ),
@@ -192,37 +197,54 @@ fn say(
         Outcome::UnknownPlp { plp_id } => eprintln!(rt;
             "{file}: no PLP has the identifier {plp_id}; it is the first number behind the word plp"
         ),
-        Outcome::RecordRefused { number, why } if is_receive(words) => eprintln!(rt;
-            "{file}: record {number}, counted from 0: {why}; OUT holds what the records before it give back; see that the file holds the records of successive frames of CONFIG and nothing else"
-        ),
-        Outcome::RecordRefused { number, why } => eprintln!(rt;
-            "{file}: record {number}, counted from 0: {why}; the records before it were shown; see that the file holds whole records and nothing else"
-        ),
+        Outcome::RecordRefused { number, why } => say_record(rt, request, file, number, why),
         Outcome::ReadFault | Outcome::WriteFault => say_fault(rt, fault),
         Outcome::OutOfMemory => eprintln!(rt; "out of memory; the command did not come to its end"),
+        Outcome::TrialFault => eprintln!(rt;
+            "a run inside the trial ended otherwise than it must; tell the maintainers the words of the command"
+        ),
     }
 }
 
-// The word at a place.
-fn word_at(words: &[Word], place: usize) -> &str {
-    words.get(place).map_or("", |word| word.as_str())
-}
-
-// The file that an outcome speaks of.
-fn file_of(words: &[Word], outcome: Outcome) -> &str {
-    match outcome {
-        Outcome::TooLong { .. } if is_gateway(words) => "an IN",
-        Outcome::TooLong { .. } | Outcome::NoSuperframe if is_modulate(words) => word_at(words, 2),
-        Outcome::TooLong { .. } | Outcome::RecordRefused { .. } if is_receive(words) => {
-            word_at(words, 3)
+// The file that an outcome of a request speaks of.
+fn file_of(request: Option<Request<'_>>, outcome: Outcome) -> &str {
+    match (request, outcome) {
+        (Some(Request::Gateway { ins, .. }), Outcome::InputRefused { input, .. }) => {
+            ins.get(usize::from(input))
+                .map_or("an IN", |word| word.as_str())
         }
-        _ if is_gateway(words) || is_modulate(words) || is_receive(words) => word_at(words, 1),
-        _ => words.last().map_or("", |word| word.as_str()),
+        (Some(Request::Gateway { .. }), Outcome::TooLong { .. }) => "an IN",
+        (Some(Request::Modulate { input, .. }), Outcome::TooLong { .. } | Outcome::NoSuperframe) =>
+            input,
+        (
+            Some(Request::Receive { input, .. }),
+            Outcome::TooLong { .. } | Outcome::RecordRefused { .. },
+        ) => input,
+        (
+            Some(
+                Request::Gateway { config, .. }
+                | Request::Modulate { config, .. }
+                | Request::Receive { config, .. }
+                | Request::Plan { config },
+            ),
+            _,
+        ) => config,
+        (
+            Some(
+                Request::ShowPackets { file }
+                | Request::ShowT2mi { file }
+                | Request::ShowFrames { file }
+                | Request::ShowConfig { file },
+            ),
+            _,
+        ) => file,
+        (Some(Request::Trial { .. }) | None, _) => "",
     }
 }
 
 /// Says for people, who know the program by this name, why a run over words is not done, and what failed first, if something did;
-/// of a run of `show t2mi` that is done, on which PID it looked, and whether no packet came there.
+/// of a run of `show t2mi` that is done, on which PID it looked, and whether no packet came there: it said the line of their number
+/// alone.
 pub fn advise(
     rt: &(impl Eprint + Files + AllocGlobal),
     program: &str,

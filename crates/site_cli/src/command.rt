@@ -4,7 +4,7 @@ use crate::help;
 use crate::progress::Watched;
 use crate::stream_time::StreamTime;
 use ports::HostDesk;
-use site_top::{Outcome, Word, run};
+use site_top::{Outcome, Word, request_of, run};
 use std::fs::Files;
 use std::io::{Eprint, Print};
 use std::time::Clock;
@@ -24,10 +24,9 @@ pub fn carry_out<R: Files + Print + Eprint + Clock + AllocGlobal>(
         };
     }
     warn(rt, words);
-    let stream = if wanted {
-        StreamTime::of(rt, words)
-    } else {
-        None
+    let stream = match request_of(words) {
+        Some(request) if wanted => StreamTime::of(rt, request),
+        _ => None,
     };
     let mut desk = Watched::new(HostDesk::new(rt, rt.alloc()), rt, wanted, stream);
     let outcome = run(rt.alloc(), words, &mut desk);
@@ -38,7 +37,7 @@ pub fn carry_out<R: Files + Print + Eprint + Clock + AllocGlobal>(
         words,
         outcome,
         desk.desk.first_fault(),
-        desk.none_came,
+        desk.lines == 1,
     );
     outcome
 }

@@ -1,16 +1,12 @@
 // Where in the text of CONFIG a refusal is, looked at again for people.
+use crate::front::front_of;
 use config_text::LONGEST_TEXT;
-use std::fs::{File, Files};
-use std::io::{self, Read};
-use std::str;
+use std::fs::Files;
+use std::{io, str};
 
-/// The front of a named file, as long as a configuration may be.
-pub fn front_of(rt: &(impl Files + AllocGlobal), name: &str) -> io::Result<Vec<u8>> {
-    let mut text = Vec::new(rt.alloc());
-    File::open(rt, name)?
-        .take(LONGEST_TEXT as u64)
-        .read_to_end(&mut text)?;
-    Ok(text)
+/// What a named file has of a configuration: as many bytes as one may have.
+pub fn text_of(rt: &(impl Files + AllocGlobal), name: &str) -> io::Result<Vec<u8>> {
+    front_of(rt, name, LONGEST_TEXT)
 }
 
 /// Whether it begins as a transport stream or as other data that is no text.

@@ -7,12 +7,26 @@ const VERSION: &str = "0.2.0";
 
 const KIT: &str = "rattle-kit-13f";
 
-/// A command: its first word, all its words, what it does, and an example.
+/// A command: its first word, all its words, what it does, an example, and what its words must be beside their number, if
+/// something.
 pub struct Command {
     name: &'static str,
     pub words: &'static str,
     pub what: &'static str,
     example: &'static str,
+    rule: Option<&'static str>,
+}
+
+impl Command {
+    // Whether it has so many words; the last one, if it ends with two dots, stands for some or none.
+    fn has(&self, count: usize) -> bool {
+        let words = self.words.split(' ').count();
+        if self.words.ends_with("..") {
+            count.saturating_add(1) >= words
+        } else {
+            count == words
+        }
+    }
 }
 
 /// The commands.
@@ -22,54 +36,67 @@ pub const COMMANDS: [Command; 9] = [
         words: "gateway CONFIG OUT IN..",
         what: "writes to OUT the T2-MI stream of a network from one transport stream IN for each PLP, in the order of CONFIG",
         example: "gateway small.txt stream.ts a.ts",
+        rule: Some("OUT must be neither CONFIG nor an IN"),
     },
     Command {
         name: "modulate",
         words: "modulate CONFIG IN OUT",
         what: "writes to OUT the records of the T2 frames that a modulator makes from the T2-MI stream IN",
         example: "modulate small.txt stream.ts records",
+        rule: Some("OUT must be neither CONFIG nor an IN"),
     },
     Command {
         name: "receive",
         words: "receive CONFIG PLP IN OUT",
         what: "writes to OUT the transport stream that a receiver of the PLP with the identifier PLP makes from the records IN",
         example: "receive small.txt 0 records b.ts",
+        rule: Some(
+            "PLP must be a decimal number from 0 to 255, without sign and leading zeros, and OUT neither CONFIG nor IN",
+        ),
     },
     Command {
         name: "plan",
         words: "plan CONFIG",
         what: "shows what follows from a configuration: slots, delays and sizes",
         example: "plan small.txt",
+        rule: None,
     },
     Command {
         name: "show",
         words: "show config FILE",
         what: "shows a configuration as it is written, in version 2 of the text",
         example: "show config small.txt",
+        rule: None,
     },
     Command {
         name: "show",
         words: "show packets FILE",
         what: "shows the T2-MI packets that stand back to back in FILE, a line each",
         example: "show packets packets.t2mi",
+        rule: None,
     },
     Command {
         name: "show",
         words: "show t2mi FILE",
         what: "shows the T2-MI packets in the transport packets of FILE, a line each",
         example: "show t2mi stream.ts",
+        rule: None,
     },
     Command {
         name: "show",
         words: "show frames FILE",
         what: "shows the records of T2 frames in FILE, a line each",
         example: "show frames records",
+        rule: None,
     },
     Command {
         name: "trial",
         words: "trial SEED FRAMES",
         what: "tries a whole network on inputs drawn from SEED for 6 to 64 FRAMES, and needs no file",
         example: "trial 1 6",
+        rule: Some(
+            "SEED must be a decimal number below 2^64 and FRAMES one from 6 to 64, both without sign and leading zeros",
+        ),
     },
 ];
 
@@ -88,6 +115,17 @@ fn asks_for_help(word: &str) -> bool {
 
 fn is_command(name: &str) -> bool {
     COMMANDS.iter().any(|command| command.name == name)
+}
+
+/// What the words of a command must be that they are not, by its first word and their number.
+pub fn rule_of(words: &[Word]) -> Option<&'static str> {
+    let first = words.first()?.as_str();
+    for command in &COMMANDS {
+        if command.name == first && command.has(words.len()) {
+            return command.rule;
+        }
+    }
+    None
 }
 
 /// What is asked: the version or help by the first word, or help on a command by the word behind its name.

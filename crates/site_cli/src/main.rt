@@ -8,6 +8,7 @@ ghost use Rattle.site_top.specs.Outcomes.{status_of};
 mod advice;
 mod command;
 mod config_place;
+mod front;
 mod help;
 mod pids;
 mod progress;

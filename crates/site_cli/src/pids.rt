@@ -1,8 +1,9 @@
 // On which PID `show t2mi` looked, and which others the file has.
+use crate::front::front_of;
 use crate::shown::Shown;
 use std::fmt::{self, Display, Formatter, Write};
-use std::fs::{self, File, Files};
-use std::io::{self, Eprint, Read};
+use std::fs::{self, Files};
+use std::io::{self, Eprint};
 use t2mi_stream::unit_pid;
 use ts_packet::SIZE;
 
@@ -44,15 +45,13 @@ fn pids_in(rt: &impl AllocGlobal, bytes: &[u8]) -> io::Result<Vec<u16>> {
     Ok(pids)
 }
 
-// The front of a file. A pipe gives its bytes once, so it is not read again.
-fn front_of(rt: &(impl Files + AllocGlobal), name: &str) -> io::Result<Vec<u8>> {
-    let mut front = Vec::new(rt.alloc());
+// The first units of a file. A pipe gives its bytes once, so it is not read again.
+fn units_of(rt: &(impl Files + AllocGlobal), name: &str) -> io::Result<Vec<u8>> {
     if fs::metadata(rt, name)?.is_file() {
-        File::open(rt, name)?
-            .take((UNITS * SIZE) as u64)
-            .read_to_end(&mut front)?;
+        front_of(rt, name, UNITS * SIZE)
+    } else {
+        Ok(Vec::new(rt.alloc()))
     }
-    Ok(front)
 }
 
 /// Says on which PID of a file T2-MI was looked for: the first one in it. If none came there, the others are told.
@@ -61,7 +60,7 @@ pub fn say_pids(
     name: &str,
     none_came: bool,
 ) -> io::Result<()> {
-    let pids = pids_in(rt, &front_of(rt, name)?)?;
+    let pids = pids_in(rt, &units_of(rt, name)?)?;
     let Some((first, others)) = pids.split_first() else {
         return Ok(());
     };

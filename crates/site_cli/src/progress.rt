@@ -17,9 +17,6 @@ const NEXT_AFTER: u64 = 500;
 // To the start of the line, and away with all that stands behind.
 const WIPE: &str = "\r\x1b[K";
 
-// All that is said if there is no packet.
-const NO_PACKET: &[u8] = b"packets=0\n";
-
 // Bytes, as megabytes with one decimal.
 #[derive(Clone, Copy)]
 struct Megabytes(u64);
@@ -34,6 +31,11 @@ impl Display for Megabytes {
 fn rate(bytes: u64, time: Duration) -> u64 {
     let millis = u64::try_from(time.as_millis()).unwrap_or(u64::MAX).max(1);
     bytes.saturating_mul(1000) / millis
+}
+
+// How many lines end in a text.
+fn lines_in(text: &[u8]) -> u64 {
+    text.iter().filter(|byte| **byte == b'\n').count() as u64
 }
 
 // What was moved, and told of it.
@@ -110,8 +112,8 @@ impl<R: Clock + Eprint> Progress<'_, R> {
 pub struct Watched<'a, D, R> {
     pub desk: D,
     progress: Progress<'a, R>,
-    /// Whether it was said that no packet came.
-    pub none_came: bool,
+    /// How many lines were said.
+    pub lines: u64,
 }
 
 impl<'a, D, R: Clock + Eprint> Watched<'a, D, R> {
@@ -129,7 +131,7 @@ impl<'a, D, R: Clock + Eprint> Watched<'a, D, R> {
                 written: 0,
                 stream,
             },
-            none_came: false,
+            lines: 0,
         }
     }
 
@@ -166,7 +168,7 @@ impl<D: Desk, R: Clock + Eprint> Desk for Watched<'_, D, R> {
 
     fn say(&mut self, text: &[u8]) -> Result<(), DeskFault> {
         self.progress.wipe();
-        self.none_came = self.none_came || text == NO_PACKET;
+        self.lines = self.lines.saturating_add(lines_in(text));
         self.desk.say(text)
     }
 

@@ -1,68 +1,10 @@
 // How much stream time the bytes of a run are, by its configuration.
-ghost use Rattle.std.specs.Prelude.{◌<◌};
-ghost use Rattle.site_frame.specs.declared.head.TheConstants.{HEAD};
-
-use crate::config_place::front_of;
+use crate::config_place::text_of;
 use plp_config::Config;
-use site_frame::{HEAD, rest_len};
-use site_top::Word;
+use record_feed::RecordCount;
+use site_top::Request;
 use std::fmt::{self, Display, Formatter, Write};
 use std::fs::{self, Files};
-
-// Records are counted by their heads, as their bytes come.
-#[derive(Drop)]
-struct Records {
-    // What came of the next head.
-    head: [u8; HEAD],
-    had: usize,
-    // How many bytes of the record under way lack.
-    left: usize,
-    // How many heads came.
-    count: u64,
-    ghost part: { had < HEAD },
-}
-
-impl Records {
-    fn new() -> Records {
-        Records {
-            head: [0; HEAD],
-            had: 0,
-            left: 0,
-            count: 0,
-        }
-    }
-
-    // Takes bytes of the rest under way, or else of the next head: how many.
-    fn step(&mut self, piece: &[u8]) -> usize {
-        if self.left > 0 {
-            let count = self.left.min(piece.len());
-            self.left -= count;
-            return count;
-        }
-        let count = (HEAD - self.had).min(piece.len());
-        self.head[self.had..self.had + count].copy_from_slice(&piece[..count]);
-        if self.had + count < HEAD {
-            self.had += count;
-            return count;
-        }
-        self.had = 0;
-        self.count = self.count.saturating_add(1);
-        self.left = rest_len(&self.head).unwrap_or(0);
-        count
-    }
-
-    fn take(&mut self, piece: &[u8]) {
-        let mut rest = piece;
-        // A step takes a byte at least.
-        for _ in 0..piece.len() {
-            if rest.is_empty() {
-                return;
-            }
-            let count = self.step(rest);
-            rest = rest.get(count..).unwrap_or(&[]);
-        }
-    }
-}
 
 // What tells the stream time.
 #[derive(Drop)]
@@ -77,7 +19,7 @@ enum Told {
     },
     // The records written: subseconds of a frame, and in a second.
     Records {
-        records: Records,
+        records: RecordCount,
         frame: u64,
         second: u64,
     },
@@ -104,9 +46,8 @@ fn rate_of(config: &Config) -> u64 {
     sum
 }
 
-// The bits a second of the PLP with the identifier that a word names.
-fn rate_named(config: &Config, word: &Word) -> Option<u64> {
-    let id = word.as_str().parse::<u8>().ok()?;
+// The bits a second of the PLP with an identifier.
+fn rate_with_id(config: &Config, id: u8) -> Option<u64> {
     for place in 0..config.plps.len() {
         if let Some(plp) = config.plps.get(place) {
             if plp.id == id {
@@ -122,34 +63,44 @@ fn records_of(config: &Config) -> Told {
         config.band.subseconds_per_tick(),
     ));
     Told::Records {
-        records: Records::new(),
+        records: RecordCount::new(),
         frame,
         second: u64::from(config.band.subseconds_per_second()),
     }
 }
 
-fn told_by(words: &[Word], config: &Config) -> Option<Told> {
-    match words.first()?.as_str() {
-        "gateway" => Some(Told::Read {
+fn told_by(request: Request<'_>, config: &Config) -> Option<Told> {
+    match request {
+        Request::Gateway { .. } => Some(Told::Read {
             bits_per_second: rate_of(config),
         }),
-        "modulate" => Some(records_of(config)),
-        "receive" => Some(Told::Written {
-            bits_per_second: rate_named(config, words.get(2)?)?,
+        Request::Modulate { .. } => Some(records_of(config)),
+        Request::Receive { plp_id, .. } => Some(Told::Written {
+            bits_per_second: rate_with_id(config, plp_id)?,
         }),
         _ => None,
     }
 }
 
+// The configuration of a command that has a stream time.
+fn config_of(request: Request<'_>) -> Option<&str> {
+    match request {
+        Request::Gateway { config, .. }
+        | Request::Modulate { config, .. }
+        | Request::Receive { config, .. } => Some(config),
+        _ => None,
+    }
+}
+
 impl StreamTime {
-    /// That of the command that the words name, if its configuration can be read twice: a pipe gives its bytes once.
-    pub fn of(rt: &(impl Files + AllocGlobal), words: &[Word]) -> Option<StreamTime> {
-        let name = words.get(1)?.as_str();
+    /// That of a command, if its configuration can be read twice: a pipe gives its bytes once.
+    pub fn of(rt: &(impl Files + AllocGlobal), request: Request<'_>) -> Option<StreamTime> {
+        let name = config_of(request)?;
         if !fs::metadata(rt, name).ok()?.is_file() {
             return None;
         }
-        let config = config_text::read(rt.alloc(), &front_of(rt, name).ok()?).ok()?;
-        let told = told_by(words, &config)?;
+        let config = config_text::read(rt.alloc(), &text_of(rt, name).ok()?).ok()?;
+        let told = told_by(request, &config)?;
         Some(StreamTime { told })
     }
 
@@ -169,7 +120,7 @@ impl StreamTime {
                 records,
                 frame,
                 second,
-            } => records.count.saturating_mul(*frame) / (*second).max(1),
+            } => records.count().saturating_mul(*frame) / (*second).max(1),
         })
     }
 }

@@ -7,7 +7,7 @@ use crate::stream_time::StreamTime;
 use bit_slice::OutOfMemory;
 use ports::MemoryDesk;
 use site_frame::{HEAD, RecordWhy};
-use site_top::{Outcome, Word, run};
+use site_top::{Outcome, Word, request_of, run};
 use std::alloc::{Alloc, Allocator, Global};
 use std::cell::{Cell, RefCell};
 use std::fmt::Display;
@@ -293,7 +293,7 @@ struct Told {
 }
 
 #[rattlefmt::skip]
-static TOLD: [Told; 12] = [
+static TOLD: [Told; 13] = [
     Told { words: &["plan", "c"], outcome: Outcome::Done, begins: "" },
     Told { words: &["plan"], outcome: Outcome::Usage,
         begins: "these words are no command\nusage: site_cli gateway CONFIG OUT IN..\n" },
@@ -314,6 +314,7 @@ static TOLD: [Told; 12] = [
     Told { words: &["modulate", "c", "i", "o"], outcome: Outcome::TooLong { count: 1 << 31 },
         begins: "i: frame 2147483648 of CONFIG " },
     Told { words: &["plan", "c"], outcome: Outcome::OutOfMemory, begins: "out of memory; " },
+    Told { words: &["trial", "1", "6"], outcome: Outcome::TrialFault, begins: "a run inside the trial ended " },
 ];
 
 fn is_told<R: Files + AllocGlobal + Drop>(rt: R, told: &Told) -> Result<bool, OutOfMemory> {
@@ -344,7 +345,7 @@ fn a_run_is_watched(rt: HostRuntime) -> Result<(), Fail> {
     let outside = Outside::new(&rt, true);
     let mut watched = Watched::new(desk, &outside, true, None);
     assert_eq!(rt; run(rt.alloc(), &words, &mut watched), Outcome::Done);
-    assert!(rt; watched.none_came);
+    assert_eq!(rt; watched.lines, 1);
     assert!(rt; watched.desk.said() == b"packets=0\n".as_slice());
     watched.wipe();
     assert!(rt;
@@ -371,10 +372,15 @@ static TIMES: [Time; 3] = [
     Time { words: &["modulate", "time.txt", "i", "o"], read: 1, written: 1, time: "0:00:00" },
 ];
 
+// That of the command that words name.
+fn stream_time(rt: &(impl Files + AllocGlobal), words: &[Word]) -> Option<StreamTime> {
+    StreamTime::of(rt, request_of(words)?)
+}
+
 // The stream time, in words: none if it is not told.
 fn time_of(rt: &(impl Files + AllocGlobal), time: &Time) -> Result<bool, Fail> {
     let words = words_from(rt.alloc(), time.words)?;
-    let Some(stream) = StreamTime::of(rt, &words) else {
+    let Some(stream) = stream_time(rt, &words) else {
         return Ok(false);
     };
     let text = format!(in rt.alloc(); "{}", stream.seconds(time.read, time.written))?;
@@ -385,7 +391,7 @@ fn time_of(rt: &(impl Files + AllocGlobal), time: &Time) -> Result<bool, Fail> {
 // frame lasts 100,000 ticks of 7 / 64 microseconds.
 fn time_of_records(rt: &(impl Files + AllocGlobal), count: u64) -> Result<String, Fail> {
     let words = words_from(rt.alloc(), &["modulate", "time.txt", "i", "o"])?;
-    let Some(mut stream) = StreamTime::of(rt, &words) else {
+    let Some(mut stream) = stream_time(rt, &words) else {
         return Ok(String::new(rt.alloc()));
     };
     stream.take(&[0; 3]);
