@@ -14,6 +14,8 @@ mod changed;
 #[cfg(test)]
 mod hostile;
 #[cfg(test)]
+mod hostile_slots;
+#[cfg(test)]
 mod receiver;
 #[cfg(test)]
 mod records;

@@ -1,7 +1,8 @@
 // `plan CONFIG` and `show config FILE`.
 
-use crate::rows::{File, ONCE, ROW, Row, all_hold};
+use crate::rows::{ROW, Row, all_hold};
 use config_text::TextWhy;
+use row_bench::{File, ONCE};
 use sample_networks::{
     FIRST_LINE, FIRST_TEXT, REALISTIC_TEXT, SMALL_HEAD, SMALL_LINE, SPREAD_TEXT,
 };

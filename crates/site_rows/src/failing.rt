@@ -1,10 +1,8 @@
 // Commands over devices that fail: each call of each kind in turn, until a run is done. What a run leaves is a front of what it
 // leaves without a fault. `gateway.rt` has the call that says a last line.
 
-use crate::bench::{Ended, assert_outcome, done, end_of};
-use crate::rows::{File, bytes_of};
-use crate::samples::{LOADED, LOADED_INPUT, SPREAD};
 use ports::CallKind;
+use row_bench::{Ended, File, LOADED, LOADED_INPUT, SPREAD, bytes_of, done, end_of, is_outcome};
 use site_top::Outcome;
 use std::process::Abort;
 use std::test::Fail;
@@ -119,7 +117,7 @@ fn calls_of(
         if left.outcome == Outcome::Done {
             return Ok(nth - 1);
         }
-        assert_outcome(rt, command.why, left.outcome, kind.outcome, kind.status);
+        is_outcome(command.why, left.outcome, kind.outcome, kind.status)?;
         assert!(rt;
             leaves_front(&left, usual, kind, nth),
             "{}: {} {nth}",
@@ -155,7 +153,7 @@ fn all_leave_fronts(
     ];
     for command in commands {
         let usual = end_of(alloc, &config, &others, None, command.words)?;
-        assert_outcome(rt, command.why, usual.outcome, Outcome::Done, 0);
+        is_outcome(command.why, usual.outcome, Outcome::Done, 0)?;
         for kind in &KINDS {
             let calls = calls_of(rt, &config, &others, command, &usual, kind)?;
             let (least, most) = if command.writes {

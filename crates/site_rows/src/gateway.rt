@@ -1,8 +1,8 @@
 // `gateway CONFIG OUT IN..`. Expected values come from worked examples.
 
-use crate::rows::{File, ONCE, Out, ROW, Row, all_hold};
-use crate::samples::{BOTH_UNITS, KEPT, LOADED, LOADED_INPUT, NULL, PACKET, SMALL};
+use crate::rows::{Out, ROW, Row, all_hold};
 use ports::CallKind;
+use row_bench::{BOTH_UNITS, File, KEPT, LOADED, LOADED_INPUT, NULL, ONCE, PACKET, SMALL};
 use sample_networks::SMALL_HEAD;
 use site_top::Outcome;
 use std::test::Fail;

@@ -2,11 +2,9 @@
 // blocks: five, which are sent in frame 2 and carried by frames 2 and 3. Expected values were worked out by hand, and by a program
 // over the tables of the standards.
 
-use crate::bench::done;
-use crate::damaged::SUBSECONDS;
-use crate::rows::{File, Out, ROW, Row, all_hold, bytes_of};
-use crate::samples::{EMPTY_RECORD, MUTED_HEAD, NULL, PACKET, SPREAD};
+use crate::rows::{Out, ROW, Row, all_hold};
 use network_rows::{Slots, numbered, packets_in, packets_of, piped};
+use row_bench::{EMPTY_RECORD, File, MUTED_HEAD, NULL, PACKET, SPREAD, SUBSECONDS, bytes_of, done};
 use std::alloc::Global;
 use std::process::Abort;
 use std::test::Fail;

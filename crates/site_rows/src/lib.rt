@@ -2,11 +2,7 @@
 #![tactic(auto)]
 
 #[cfg(test)]
-mod bench;
-#[cfg(test)]
 mod configuration;
-#[cfg(test)]
-mod damaged;
 #[cfg(test)]
 mod draws;
 #[cfg(test)]
@@ -14,25 +10,15 @@ mod failing;
 #[cfg(test)]
 mod gateway;
 #[cfg(test)]
-mod hostile_records;
-#[cfg(test)]
-mod hostile_rows;
-#[cfg(test)]
 mod interleaving;
 #[cfg(test)]
 mod modulate;
-#[cfg(test)]
-mod random_networks;
 #[cfg(test)]
 mod reading;
 #[cfg(test)]
 mod receive;
 #[cfg(test)]
-mod returned;
-#[cfg(test)]
 mod rows;
-#[cfg(test)]
-mod samples;
 #[cfg(test)]
 mod show_frames;
 #[cfg(test)]

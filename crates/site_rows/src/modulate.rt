@@ -1,7 +1,7 @@
 // `modulate CONFIG IN OUT`, over what `gateway` wrote. Expected values come from worked examples.
 
-use crate::rows::{File, ONCE, Out, ROW, Row, all_hold};
-use crate::samples::{BOTH_UNITS, EMPTY_RECORD, FIRST, SECOND, SMALL};
+use crate::rows::{Out, ROW, Row, all_hold};
+use row_bench::{BOTH_UNITS, EMPTY_RECORD, FIRST, File, ONCE, SECOND, SMALL};
 use site_top::Outcome;
 use std::test::Fail;
 

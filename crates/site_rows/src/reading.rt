@@ -1,10 +1,8 @@
 // How far `gateway` reads ahead of what it wrote, if a write fails.
 
-use crate::bench::Bench;
-use crate::rows::{File, bytes_of};
-use crate::samples::{PACKET, SMALL, SPREAD};
 use plp_config::Plan;
 use ports::CallKind;
+use row_bench::{Bench, File, PACKET, SMALL, SPREAD, bytes_of};
 use sample_networks::{small_plan, spread_plan};
 use site_top::Outcome;
 use std::alloc::Global;

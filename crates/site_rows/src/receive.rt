@@ -1,8 +1,8 @@
 // `receive CONFIG PLP IN OUT`, over muted records or none. `returned.rt` has what comes back of packets. Which slots are due was
 // counted by hand: a slot lasts 1,504 · 64 / 14 ticks, and is due 306,877 ticks after its start.
 
-use crate::rows::{File, ONCE, Out, ROW, Row, all_hold};
-use crate::samples::{MUTED_HEAD, NULL, SMALL};
+use crate::rows::{Out, ROW, Row, all_hold};
+use row_bench::{File, MUTED_HEAD, NULL, ONCE, SMALL};
 use site_frame::RecordWhy;
 use site_top::Outcome;
 use std::test::Fail;

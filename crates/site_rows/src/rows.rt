@@ -1,31 +1,11 @@
 // Rows of a table: a command, the files that are there, and what must come of it.
 
-use crate::bench::{Bench, assert_outcome};
 use ports::CallKind;
+use row_bench::{Bench, File, bytes_of, is_outcome};
 use site_top::Outcome;
-use std::alloc::Global;
 use std::process::Abort;
 use std::str;
 use std::test::Fail;
-
-/// What a file holds: a text and pieces behind it, so many times, cut to a length, and then with other bytes at some places.
-#[derive(Clone, Copy)]
-pub(crate) struct File {
-    pub(crate) text: &'static [&'static str],
-    pub(crate) pieces: &'static [&'static [u8]],
-    pub(crate) times: usize,
-    pub(crate) len: usize,
-    pub(crate) set: &'static [(usize, u8)],
-}
-
-/// The start of each `File`: what it has is there once, as it is.
-pub(crate) const ONCE: File = File {
-    text: &[],
-    pieces: &[],
-    times: 1,
-    len: usize::MAX,
-    set: &[],
-};
 
 /// What the file `o` is behind a run.
 #[derive(Clone, Copy)]
@@ -76,26 +56,6 @@ pub(crate) const ROW: Row = Row {
     out: Out::Absent,
 };
 
-/// The bytes of a file.
-pub(crate) fn bytes_of(alloc: Global, file: &File) -> Result<Vec<u8>, Fail> {
-    let mut bytes = Vec::new(alloc);
-    for _ in 0..file.times {
-        for line in file.text {
-            bytes.extend_from_slice(line.as_bytes())?;
-        }
-        for piece in file.pieces {
-            bytes.extend_from_slice(piece)?;
-        }
-    }
-    bytes.truncate(file.len);
-    for (place, byte) in file.set {
-        if let Some(old) = bytes.get_mut(*place) {
-            *old = *byte;
-        }
-    }
-    Ok(bytes)
-}
-
 // Whether some bytes are this text, or begin with it if more may follow.
 fn are(bytes: &[u8], text: &[&str], more: bool) -> bool {
     let mut left = bytes;
@@ -136,9 +96,9 @@ fn follow(
         bench.fail(kind, nth)?;
     }
     for words in row.before {
-        assert_outcome(rt, row.why, bench.run(words)?, Outcome::Done, 0);
+        is_outcome(row.why, bench.run(words)?, Outcome::Done, 0)?;
     }
-    assert_outcome(rt, row.why, bench.run(row.words)?, row.outcome, row.status);
+    is_outcome(row.why, bench.run(row.words)?, row.outcome, row.status)?;
     assert!(rt;
         are(bench.said(), row.said, row.more),
         "{}: it said {}",

@@ -1,7 +1,7 @@
 // `show frames FILE`. Records were spelled by hand, section by section.
 
-use crate::rows::{File, ONCE, ROW, Row, all_hold};
-use crate::samples::MUTED_HEAD;
+use crate::rows::{ROW, Row, all_hold};
+use row_bench::{File, MUTED_HEAD, ONCE};
 use site_frame::RecordWhy;
 use site_top::Outcome;
 use std::test::Fail;

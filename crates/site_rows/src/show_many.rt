@@ -1,8 +1,7 @@
 // Files with more bytes than are read at once, of which more lines are shown than are said at once.
 
-use crate::bench::done;
-use crate::samples::FIRST;
 use crate::show_frames::FRAME;
+use row_bench::{FIRST, done};
 use std::test::Fail;
 
 // A line with a number: what stands before it, the number in the first lines, and what stands behind it.

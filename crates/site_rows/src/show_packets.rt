@@ -1,7 +1,8 @@
 // `show packets FILE`, and words that are no command.
 
-use crate::rows::{File, ONCE, ROW, Row, all_hold};
+use crate::rows::{ROW, Row, all_hold};
 use ports::CallKind;
+use row_bench::{File, ONCE};
 use site_top::Outcome;
 use std::test::Fail;
 use t2mi_packet::PacketWhy;

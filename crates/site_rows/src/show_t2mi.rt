@@ -1,7 +1,7 @@
 // `show t2mi FILE`. The lines come from a Python program that reads the fields of the units' bytes.
 
-use crate::rows::{File, ONCE, ROW, Row, all_hold};
-use crate::samples::{FIRST, SECOND};
+use crate::rows::{ROW, Row, all_hold};
+use row_bench::{FIRST, File, ONCE, SECOND};
 use std::test::Fail;
 
 // Null units, and a unit on PID 512 without payload.

@@ -1,9 +1,9 @@
 // `trial SEED FRAMES`. The packets of the first trial were counted by an independent program.
 
-use crate::bench::done;
 use crate::rows::{ROW, Row, all_hold};
 use bit_slice::{BitSlice, crc32};
 use network_rows::{gateway_units, ts_packets};
+use row_bench::done;
 use site_top::Outcome;
 use std::process::Abort;
 use std::str;

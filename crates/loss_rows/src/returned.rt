@@ -1,11 +1,9 @@
 // What `receive` gives back of packets, over what `modulate` wrote of what `gateway` wrote. Expected values come from worked
 // examples.
 
-use crate::bench::done;
 use crate::damaged::{Damage, damaged};
-use crate::rows::{File, ONCE, bytes_of};
-use crate::samples::{KEPT, LOADED, NULL, SMALL, SPREAD};
 use network_rows::{Slots, null_packet, numbered, packets_of};
+use row_bench::{File, KEPT, LOADED, NULL, ONCE, SMALL, SPREAD, bytes_of, done};
 use sample_networks::{REALISTIC_TEXT, VARIED_TEXT};
 use std::alloc::Global;
 use std::process::Abort;

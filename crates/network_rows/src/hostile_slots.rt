@@ -3,7 +3,7 @@
 // What must come was counted by hand.
 ghost use Rattle.std.specs.Prelude.{◌≡◌, ◌+◌, ◌<◌, true, false, IfOk};
 ghost use Rattle.plp_config.specs.declared.moment.TheConstants.{MOST_FRAMES};
-ghost use Rattle.packet_slots.specs.StandsFor.{frame_of, is_within, due_of, rule_of};
+ghost use Rattle.packet_slots.specs.StandsFor.{frame_of, is_within, due_of, rule_of, slots_status};
 
 use packet_slots::{PacketSlots, SlotRule, TakenBlock};
 use plp_config::SlotTimes;
@@ -84,9 +84,11 @@ fn take_first(slots: &mut PacketSlots, row: &Row, string: &[u8; BYTES])
     requires outside { is_within slots.old ≡ false }
     requires given_out { due_of slots.old ≡ 0 }
     requires spread { (rule_of slots.old).spread ≡ 1 }
-    ensures frame { frame_of slots.new ≡ frame_of slots.old + 1 }
-    ensures outside { is_within slots.new ≡ false }
-    ensures rule { rule_of slots.new ≡ rule_of slots.old }
+    ensures status { slots_status slots.new ≡ record (slots_status slots.old) {
+      frame = frame_of slots.old + 1;
+      within = false;
+      due = due_of slots.new;
+    } }
 {
     let end = if row.rest_in.is_some() {
         BYTES - REST
@@ -113,9 +115,11 @@ fn take_later(slots: &mut PacketSlots, has_rest: bool, string: &[u8; BYTES])
     requires outside { is_within slots.old ≡ false }
     requires given_out { due_of slots.old ≡ 0 }
     requires spread { (rule_of slots.old).spread ≡ 1 }
-    ensures frame { frame_of slots.new ≡ frame_of slots.old + 1 }
-    ensures outside { is_within slots.new ≡ false }
-    ensures rule { rule_of slots.new ≡ rule_of slots.old }
+    ensures status { slots_status slots.new ≡ record (slots_status slots.old) {
+      frame = frame_of slots.old + 1;
+      within = false;
+      due = due_of slots.new;
+    } }
 {
     slots.begin_frame();
     if has_rest {
@@ -130,9 +134,7 @@ fn take_later(slots: &mut PacketSlots, has_rest: bool, string: &[u8; BYTES])
 
 // Gives out what is due.
 fn give(slots: &mut PacketSlots, given: &mut Vec<u8>) -> Result<(), Fail>
-    ensures frame { frame_of slots.new ≡ frame_of slots.old }
-    ensures within { is_within slots.new ≡ is_within slots.old }
-    ensures rule { rule_of slots.new ≡ rule_of slots.old }
+    ensures status { slots_status slots.new ≡ record (slots_status slots.old) { due = due_of slots.new } }
     ensures due { IfOk result (λ u. due_of slots.new ≡ 0) }
 {
     let mut out = [0; SIZE];

@@ -2,8 +2,8 @@
 // the data field of each PLP (EN 302 755, table 6 and annex C): a packet is lost if an interleaving frame carries a byte of it of
 // which a frame is muted.
 
-use crate::bench::done;
 use network_rows::null_packet;
+use row_bench::done;
 use std::alloc::Global;
 use std::process::Abort;
 use std::test::Fail;

@@ -1,9 +1,9 @@
 // A stream of 123 units for twelve frames of a loaded network, in which units are lost or altered. Which records must come was
 // counted by another program, from the lengths of the packets and the units that carry them.
 
-use crate::bench::done;
-use crate::rows::bytes_of;
-use crate::samples::{EMPTY_RECORD, LOADED, LOADED_INPUT, MUTED_HEAD, THREE_BLOCKS};
+use row_bench::{
+    EMPTY_RECORD, LOADED, LOADED_INPUT, MUTED_HEAD, SUBSECONDS, THREE_BLOCKS, bytes_of, done,
+};
 use std::alloc::Global;
 use std::test::Fail;
 use ts_packet::SIZE;
@@ -91,14 +91,6 @@ static TABLES: [Table; 4] = [
     Table { damage: Damage::Late, unit: 90, behind: 91, rows: &[
         Row { why: "the first whole superframe begins with frame 8", units: 1, first: 8, end: 12, muted: 0, back: 0 },
     ] },
-];
-
-/// The subseconds of each frame, every 700,000.
-#[rattlefmt::skip]
-pub(crate) static SUBSECONDS: [[u8; 4]; FRAMES] = [
-    [0x00, 0x00, 0x00, 0x00], [0x00, 0x0A, 0xAE, 0x60], [0x00, 0x15, 0x5C, 0xC0], [0x00, 0x20, 0x0B, 0x20],
-    [0x00, 0x2A, 0xB9, 0x80], [0x00, 0x35, 0x67, 0xE0], [0x00, 0x40, 0x16, 0x40], [0x00, 0x4A, 0xC4, 0xA0],
-    [0x00, 0x55, 0x73, 0x00], [0x00, 0x60, 0x21, 0x60], [0x00, 0x6A, 0xCF, 0xC0], [0x00, 0x75, 0x7E, 0x20],
 ];
 
 /// A stream with damage to this unit.

@@ -5,7 +5,6 @@ use ports::{CallKind, MemoryDesk};
 use site_top::{Outcome, Word, run};
 use std::alloc::Global;
 use std::marker::Model;
-use std::process::Abort;
 use std::test::Fail;
 
 /// A desk in memory, on which commands are run.
@@ -13,7 +12,7 @@ use std::test::Fail;
 /// The contracts of the desk and of a command are large, and what calls them has all that they say in its own proof. So the tests
 /// call the methods of a bench, which have no `ensures`, and its model tells nothing: their proofs are short.
 #[derive(Drop)]
-pub(crate) struct Bench {
+pub struct Bench {
     alloc: Global,
     desk: MemoryDesk,
 }
@@ -26,7 +25,7 @@ impl Model for Bench {
 
 impl Bench {
     /// A bench with no file.
-    pub(crate) fn new(alloc: Global) -> Bench {
+    pub fn new(alloc: Global) -> Bench {
         Bench {
             alloc,
             desk: MemoryDesk::new(alloc),
@@ -34,24 +33,24 @@ impl Bench {
     }
 
     /// Sets a file.
-    pub(crate) fn put(&mut self, name: &str, bytes: &[u8]) -> Result<(), Fail> {
+    pub fn put(&mut self, name: &str, bytes: &[u8]) -> Result<(), Fail> {
         Ok(self.desk.put_file(name, bytes)?)
     }
 
     /// Makes each read and write from now on move at most so many bytes.
-    pub(crate) fn cap(&mut self, most: usize)
+    pub fn cap(&mut self, most: usize)
         requires { 0 < most }
     {
         self.desk.cap(most);
     }
 
     /// Makes a call fail: the nth of its kind.
-    pub(crate) fn fail(&mut self, kind: CallKind, nth: u64) -> Result<(), Fail> {
+    pub fn fail(&mut self, kind: CallKind, nth: u64) -> Result<(), Fail> {
         Ok(self.desk.fail(kind, nth)?)
     }
 
     /// Runs the command that these words name.
-    pub(crate) fn run(&mut self, words: &[&str]) -> Result<Outcome, Fail> {
+    pub fn run(&mut self, words: &[&str]) -> Result<Outcome, Fail> {
         let mut list = Vec::new(self.alloc);
         for word in words {
             list.push(Word::new(self.alloc, word)?)?;
@@ -60,31 +59,31 @@ impl Bench {
     }
 
     /// What was said.
-    pub(crate) fn said(&self) -> &[u8] {
+    pub fn said(&self) -> &[u8] {
         self.desk.said()
     }
 
     /// How many bytes of a file were given.
-    pub(crate) fn given(&self, name: &str) -> u64 {
+    pub fn given(&self, name: &str) -> u64 {
         self.desk.given(name)
     }
 
     /// The bytes of a file, if it is there.
-    pub(crate) fn file(&self, name: &str) -> Option<&[u8]> {
+    pub fn file(&self, name: &str) -> Option<&[u8]> {
         self.desk.file(name)
     }
 }
 
 /// How a run ended, what was said, and what the file `o` holds if it is there.
 #[derive(Drop)]
-pub(crate) struct Ended {
-    pub(crate) outcome: Outcome,
-    pub(crate) said: Vec<u8>,
-    pub(crate) out: Option<Vec<u8>>,
+pub struct Ended {
+    pub outcome: Outcome,
+    pub said: Vec<u8>,
+    pub out: Option<Vec<u8>>,
 }
 
 /// How a command ends on a bench with the file `c` and others, if one call fails: the nth of a kind.
-pub(crate) fn end_of(
+pub fn end_of(
     alloc: Global,
     config: &[u8],
     others: &[(&str, &[u8])],
@@ -109,29 +108,38 @@ pub(crate) fn end_of(
 }
 
 /// What a command says on a bench with the file `c` and others, and what the file `o` holds then. The run is done.
-pub(crate) fn done(
-    rt: &(impl AllocGlobal + Abort),
+pub fn done(
+    rt: &impl AllocGlobal,
     why: &str,
     config: &[u8],
     others: &[(&str, &[u8])],
     words: &[&str],
 ) -> Result<(Vec<u8>, Vec<u8>), Fail> {
     let Ended { outcome, said, out } = end_of(rt.alloc(), config, others, None, words)?;
-    assert_outcome(rt, why, outcome, Outcome::Done, 0);
+    is_outcome(why, outcome, Outcome::Done, 0)?;
     match out {
         Some(out) => Ok((said, out)),
         None => Ok((said, Vec::new(rt.alloc()))),
     }
 }
 
-/// A run ended so, with this status. What the assertion prints has large contracts, so it stands here alone.
-pub(crate) fn assert_outcome(
-    rt: &impl Abort,
-    why: &str,
-    outcome: Outcome,
-    expected: Outcome,
-    status: u8,
-) {
-    assert_eq!(rt; outcome, expected, "{why}");
-    assert_eq!(rt; outcome.status(), status, "{why}");
+/// How a run ended, and how it must.
+#[derive(Clone, Copy, Debug)]
+pub struct Differs<'w> {
+    /// What the run shows.
+    pub why: &'w str,
+    pub outcome: Outcome,
+    pub expected: Outcome,
+}
+
+/// A run must have ended so, with this status.
+pub fn is_outcome(why: &str, outcome: Outcome, expected: Outcome, status: u8) -> Result<(), Fail> {
+    if outcome != expected || outcome.status() != status {
+        return Err(Fail::from(Differs {
+            why,
+            outcome,
+            expected,
+        }));
+    }
+    Ok(())
 }

@@ -1,10 +1,8 @@
 // `receive` over one file of the records of hostile_rows.rt, and what then stands in the output, byte for byte.
 
-use crate::bench::{Bench, assert_outcome};
 use crate::hostile_rows::{POSTS, PRE, ROWS, Row};
-use crate::rows::bytes_of;
-use crate::samples::SMALL;
 use bb_frame::scramble;
+use row_bench::{Bench, SMALL, bytes_of, is_outcome};
 use site_frame::RecordWhy;
 use site_top::Outcome;
 use std::alloc::Global;
@@ -164,7 +162,7 @@ fn a_hostile_file_gives_the_packets_of_its_rows(rt: HostRuntime) -> Result<(), F
         number: 21,
         why: RecordWhy::Length,
     };
-    assert_outcome(&rt, "a muted record tells a rest", outcome, refused, 7);
+    is_outcome("a muted record tells a rest", outcome, refused, 7)?;
     let mut left = bench.file("o").ok_or("there is no output")?;
     for row in &ROWS {
         match left.strip_prefix(given(rt.alloc(), row)?.as_slice()) {

@@ -1,16 +1,16 @@
 // Networks, packets, units and records that several tables speak of.
 
-use crate::rows::{File, ONCE};
+use crate::files::{File, ONCE};
 use sample_networks::{LOADED_LINE, SMALL_HEAD, SMALL_LINE, SPREAD_TEXT};
 
 /// A network of 8 MHz with one PLP, of which a frame wants 14 or 15 packets.
-pub(crate) const SMALL: File = File {
+pub const SMALL: File = File {
     text: &[SMALL_HEAD, SMALL_LINE],
     ..ONCE
 };
 
 /// The same, but null packets are kept.
-pub(crate) const KEPT: File = File {
+pub const KEPT: File = File {
     text: &[
         SMALL_HEAD,
         "plp 0 type1 1 1/2 qpsk short 0 4 1 keep 2000000 1\n",
@@ -19,31 +19,31 @@ pub(crate) const KEPT: File = File {
 };
 
 /// A network with one PLP that sends as much as a frame carries.
-pub(crate) const LOADED: File = File {
+pub const LOADED: File = File {
     text: &[SMALL_HEAD, LOADED_LINE],
     ..ONCE
 };
 
 /// The small network, but two frames carry an interleaving frame.
-pub(crate) const SPREAD: File = File {
+pub const SPREAD: File = File {
     text: &[SPREAD_TEXT],
     ..ONCE
 };
 
 /// A packet that is not null.
-pub(crate) const PACKET: File = File {
+pub const PACKET: File = File {
     pieces: &[&[0x47, 0x01, 0x00, 0x10], &[0xAB; 184]],
     ..ONCE
 };
 
 /// What fills the frames 1 to 8 of the loaded network.
-pub(crate) const LOADED_INPUT: File = File {
+pub const LOADED_INPUT: File = File {
     times: 110,
     ..PACKET
 };
 
 /// The canonical null packet.
-pub(crate) const NULL: File = File {
+pub const NULL: File = File {
     pieces: &[&[0x47, 0x1F, 0xFF, 0x10], &[0xFF; 184]],
     ..ONCE
 };
@@ -52,7 +52,7 @@ pub(crate) const NULL: File = File {
 /// They are two superframes of two frames without blocks: of each a timestamp, and the L1 of two frames. The fourth packet begins
 /// with the last 4 bytes of the first unit.
 #[rattlefmt::skip]
-pub(crate) const FIRST: [u8; 188] = [
+pub const FIRST: [u8; 188] = [
     0x47, 0x41, 0x00, 0x10, 0x00, 0x20, 0x00, 0x00, 0x00, 0x00, 0x58, 0x04, 0x00, 0x29, 0xB9, 0x27,
     0x00, 0x00, 0x00, 0x00, 0x00, 0x05, 0x9C, 0x0C, 0x76, 0xE4, 0x10, 0x01, 0x00, 0x00, 0x02, 0x28,
     0x00, 0x00, 0x00, 0x06, 0x10, 0x10, 0x00, 0xFA, 0x00, 0x13, 0xE6, 0x00, 0x00, 0x01, 0x00, 0x02,
@@ -69,7 +69,7 @@ pub(crate) const FIRST: [u8; 188] = [
 
 /// The second of these units.
 #[rattlefmt::skip]
-pub(crate) const SECOND: [u8; 188] = [
+pub const SECOND: [u8; 188] = [
     0x47, 0x41, 0x00, 0x31, 0x07, 0x00, 0xFF, 0xFF, 0xFF, 0xFF, 0xFF, 0xFF, 0x11, 0x00, 0x58, 0x04,
     0x00, 0x29, 0xB9, 0x27, 0x00, 0x02, 0xAB, 0x98, 0x00, 0x05, 0xB5, 0x76, 0x57, 0x03, 0x10, 0x04,
     0x10, 0x00, 0x02, 0x28, 0x00, 0x00, 0x00, 0x06, 0x10, 0x10, 0x00, 0xFA, 0x00, 0x13, 0xE6, 0x00,
@@ -85,16 +85,24 @@ pub(crate) const SECOND: [u8; 188] = [
 ];
 
 /// Both of them.
-pub(crate) const BOTH_UNITS: File = File {
+pub const BOTH_UNITS: File = File {
     pieces: &[&FIRST, &SECOND],
     ..ONCE
 };
 
 /// A muted record of second 700,000,000, up to its subseconds.
 #[rattlefmt::skip]
-pub(crate) const MUTED_HEAD: [u8; 16] = [0x54, 0x32, 0x46, 0x52, 2, 0, 0, 0, 0, 0, 0, 0, 0x29, 0xB9, 0x27, 0x00];
+pub const MUTED_HEAD: [u8; 16] = [0x54, 0x32, 0x46, 0x52, 2, 0, 0, 0, 0, 0, 0, 0, 0x29, 0xB9, 0x27, 0x00];
 
 /// The bytes of a record without blocks of a network here, and those that three blocks of 879 bytes add.
-pub(crate) const EMPTY_RECORD: usize = 160_103;
+pub const EMPTY_RECORD: usize = 160_103;
 
-pub(crate) const THREE_BLOCKS: usize = 3 * (4 + 879);
+pub const THREE_BLOCKS: usize = 3 * (4 + 879);
+
+/// The subseconds of the first frames of a second, every 700,000.
+#[rattlefmt::skip]
+pub static SUBSECONDS: [[u8; 4]; 12] = [
+    [0x00, 0x00, 0x00, 0x00], [0x00, 0x0A, 0xAE, 0x60], [0x00, 0x15, 0x5C, 0xC0], [0x00, 0x20, 0x0B, 0x20],
+    [0x00, 0x2A, 0xB9, 0x80], [0x00, 0x35, 0x67, 0xE0], [0x00, 0x40, 0x16, 0x40], [0x00, 0x4A, 0xC4, 0xA0],
+    [0x00, 0x55, 0x73, 0x00], [0x00, 0x60, 0x21, 0x60], [0x00, 0x6A, 0xCF, 0xC0], [0x00, 0x75, 0x7E, 0x20],
+];

@@ -1,6 +1,6 @@
 use Rattle.std.proofs.Common.{◌≡◌, false}
 use Rattle.packet_slots.specs.StandsFor.{frame_of, is_within, rule_of}
-use Rattle.slot_rows.proofs.hostile_slots.given_of.Given as goal
+use Rattle.network_rows.proofs.hostile_slots.given_of.Given as goal
 
 abbrev pub invariant-loop-frame : goal.invariant-loop-frame
 invariant-loop-frame l = record {
