@@ -2,13 +2,16 @@
 """Pictures of T2 frames, from a file of records (docs/FORMATS.md). It wants Pillow (Debian: python3-pil).
 
     picture.py frame RECORDS N OUT.png   the cells of record N, counted from 0: a pixel for each cell address, a colour for each PLP
-    picture.py fill RECORDS OUT.png      how many blocks each PLP has in each frame
+    picture.py fill RECORDS OUT.png      how many blocks each PLP has in each frame, a panel for each PLP
 """
 import struct
 import sys
 from array import array
 
-from PIL import Image, ImageDraw
+try:
+    from PIL import Image, ImageDraw
+except ImportError:
+    sys.exit("picture.py: it wants Pillow (Debian: python3-pil)")
 
 HEAD = 24
 PRE = 25
@@ -103,11 +106,9 @@ def draw_frame(frame, number, out):
     image.quantize(64).save(out, optimize=True)
 
 
-def draw_fill(name, out):
-    """A line of blocks over frames for each PLP; a muted frame is a gap, marked at the bottom."""
-    counts = {}
-    muted = []
-    total = 0
+def counts_of(name):
+    """The number of records, the numbers of the muted ones, and for each PLP its blocks by the number of the record."""
+    counts, muted, total = {}, [], 0
     for number, (_, _, rest) in enumerate(records(name)):
         total = number + 1
         if rest is None:
@@ -115,26 +116,45 @@ def draw_fill(name, out):
             continue
         for plp, _, _, blocks in Frame(rest).plps:
             counts.setdefault(plp, {})[number] = blocks
-    width, height, left, low = 900, 360, 50, 320
-    most = max([1] + [n for series in counts.values() for n in series.values()])
-    image = Image.new("RGB", (width, height + 18 * len(counts)), "white")
-    pen = ImageDraw.Draw(image)
-    x = lambda number: left + (width - left - 20) * number // max(1, total - 1)
-    y = lambda blocks: low - (low - 20) * blocks // most
-    pen.line((left, 20, left, low, width - 20, low), fill="black")
-    for value in {0, most // 2, most}:
-        pen.text((8, y(value) - 6), str(value), fill="black")
-    pen.text((left, low + 6), "frame 0", fill="black")
-    pen.text((width - 80, low + 6), f"frame {total - 1}", fill="black")
+    return total, muted, counts
+
+
+def draw_panel(pen, box, colour, title, total, muted, series):
+    """The blocks of one PLP: a bar in each column of pixels, from the fewest to the most of its frames, with a point at their mean."""
+    left, top, right, low = box
+    most = max([1] + list(series.values()))
+    x = lambda number: left + (right - left) * number // max(1, total - 1)
+    y = lambda blocks: low - (low - top) * blocks / most
+    columns = {}
+    for number, blocks in series.items():
+        columns.setdefault(x(number), []).append(blocks)
+    wide = max(1, (right - left) // max(1, total) - 1)
+    for column, blocks in columns.items():
+        pen.rectangle((column, y(max(blocks)), column + wide - 1, low), fill=tuple((c + 510) // 3 for c in colour))
+        pen.rectangle((column, y(max(blocks)), column + wide - 1, y(min(blocks))), fill=tuple((c + 255) // 2 for c in colour))
+        mean = y(sum(blocks) / len(blocks))
+        pen.rectangle((column, mean - 1, column + wide - 1, mean), fill=colour)
     for number in muted:
-        pen.rectangle((x(number) - 2, low - 4, x(number) + 2, low), fill="red")
+        pen.rectangle((x(number), low + 1, x(number) + wide, low + 4), fill="red")
+    pen.line((left, top, left, low, right, low), fill="black")
+    pen.text((left - 40, top - 6), str(most), fill="black")
+    pen.text((left - 40, low - 6), "0", fill="black")
+    pen.text((left, top - 16), title, fill="black")
+
+
+def draw_fill(name, out):
+    """A panel for each PLP, one below the other, with the frames along one axis; a muted frame has no bar, and a red mark."""
+    total, muted, counts = counts_of(name)
+    width, panel, left = 1000, 130, 60
+    image = Image.new("RGB", (width, panel * max(1, len(counts)) + 40), "white")
+    pen = ImageDraw.Draw(image)
     for place, (plp, series) in enumerate(counts.items()):
-        for number, blocks in series.items():
-            if number + 1 in series:
-                pen.line((x(number), y(blocks), x(number + 1), y(series[number + 1])), fill=colour_of(place), width=2)
-        top = height - 8 + 18 * place
-        pen.rectangle((left, top, left + 11, top + 11), fill=colour_of(place))
-        pen.text((left + 18, top), f"PLP {plp}: blocks in each frame", fill="black")
+        box = left, panel * place + 30, width - 30, panel * (place + 1) - 10
+        draw_panel(pen, box, colour_of(place), f"PLP {plp}: blocks in each frame", total, muted, series)
+    below = panel * max(1, len(counts))
+    pen.text((left, below), "frame 0", fill="black")
+    pen.text((width - 110, below), f"frame {total - 1}", fill="black")
+    pen.text((left, below + 16), f"{len(muted)} of {total} records are muted" + (" (red)" if muted else ""), fill="black")
     image.quantize(64).save(out, optimize=True)
 
 

@@ -1,7 +1,8 @@
 -- T2-MI in MPEG transport packets, for Wireshark (ETSI TS 102 773): baseband frames in high-efficiency mode, L1-current in the layout that
 -- docs/FORMATS.md has, timestamps. Load it by `tshark -X lua_script:t2mi.lua`, or from Wireshark's folder of plugins.
 --
--- It looks at the packets of one PID (a preference), joins their payloads, and shows each T2-MI packet in the frame with which it ends.
+-- It looks at the packets of one PID (a preference), joins their payloads, and shows each T2-MI packet in the frame with which it ends; the column
+-- Info names them. Wireshark takes what begins behind a pointer field for a section: `--disable-protocol mpeg_sect` leaves those trees out.
 
 local t2mi = Proto("t2mi", "T2-MI")
 
@@ -156,6 +157,23 @@ local function packet_len(bytes)
   return HEADER + math.floor((bits + 7) / 8) + CRC32
 end
 
+-- A T2-MI packet in a few words.
+local function words_of(bytes)
+  local kind = bytes:byte(1)
+  if kind == 0x00 and #bytes >= HEADER + 3 + CRC32 then
+    return string.format("block PLP %d frame %d", bytes:byte(8), bytes:byte(7))
+  elseif kind == 0x10 and #bytes >= HEADER + 2 + CRC32 then
+    return string.format("L1-current frame %d", bytes:byte(7))
+  elseif kind == 0x20 and #bytes == HEADER + 11 + CRC32 then
+    local seconds = 0
+    for i = 8, 12 do
+      seconds = seconds * 256 + bytes:byte(i)
+    end
+    return string.format("timestamp %d s", seconds)
+  end
+  return string.format("type 0x%02x", kind)
+end
+
 -- Takes bytes of the stream, of which the first stands at a place, and gives the packets that are complete.
 local function take(frame, bytes, place)
   if not state.bytes then
@@ -186,6 +204,7 @@ local function look(frame, unit)
   if pid ~= t2mi.prefs.pid or band(second, 0x80) ~= 0 or band(fourth, 0xC0) ~= 0 or band(fourth, 0x10) == 0 then
     return
   end
+  frame.on_pid = true
   local from = 5
   if band(fourth, 0x20) ~= 0 then
     from = 6 + unit:byte(5)
@@ -355,6 +374,17 @@ local function show(root, bytes, place)
   end
 end
 
+-- The columns of a frame that has transport packets of the PID. What other dissectors made of these is no section.
+local function show_columns(pinfo, frame)
+  local words = {}
+  for _, entry in ipairs(frame) do
+    table.insert(words, entry.note and "loss" or words_of(entry.bytes))
+  end
+  pinfo.cols.info:clear_fence()
+  pinfo.cols.protocol = "T2-MI"
+  pinfo.cols.info = #words > 0 and "T2-MI " .. table.concat(words, ", ") or "T2-MI, inside a packet"
+end
+
 function t2mi.dissector(tvb, pinfo, root)
   if not shown[pinfo.number] then
     local frame = {}
@@ -362,6 +392,9 @@ function t2mi.dissector(tvb, pinfo, root)
       look(frame, unit.range:raw())
     end
     shown[pinfo.number] = frame
+  end
+  if shown[pinfo.number].on_pid then
+    show_columns(pinfo, shown[pinfo.number])
   end
   for _, entry in ipairs(shown[pinfo.number]) do
     if entry.note then

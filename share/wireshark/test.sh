@@ -12,7 +12,7 @@ shown() { # STREAM FILTER FIELD..
     stream=$1 filter=$2
     shift 2
     set -- $(for name; do echo "-e $name"; done)
-    tshark -X "lua_script:$here/t2mi.lua" -r "$stream" -Y "$filter" -T fields "$@" 2>/dev/null
+    tshark --disable-protocol mpeg_sect -X "lua_script:$here/t2mi.lua" -r "$stream" -Y "$filter" -T fields "$@" 2>/dev/null
 }
 
 tr -d '\n' <"$here/empty.hex" | sed 's/../\\\\x&/g' | xargs printf '%b' >"$work/empty.ts"
@@ -20,6 +20,9 @@ while read -r name values; do
     got=$(shown "$work/empty.ts" "frame.number == 1" "$name")
     [ "$got" = "$values" ] || { echo "$name: $got, and not $values"; exit 1; }
 done <"$here/fields.txt"
+info=$(tshark --disable-protocol mpeg_sect -X "lua_script:$here/t2mi.lua" -r "$work/empty.ts" -T fields -e _ws.col.Protocol -e _ws.col.Info 2>/dev/null)
+[ "$info" = "$(printf 'T2-MI\tT2-MI timestamp 700000000 s, L1-current frame 0, L1-current frame 1\nT2-MI\tT2-MI timestamp 700000000 s, L1-current frame 0, L1-current frame 1')" ] ||
+    { echo "columns: $info"; exit 1; }
 echo "fields: $(wc -l <"$here/fields.txt") as in the tables"
 
 if [ $# -eq 2 ]; then
