@@ -9,7 +9,7 @@ use Rattle.plp_config.specs.InterleavingFrames.{is_first}
 use Rattle.plp_config.specs.Plps.{spread}
 use Rattle.plp_config.specs.declared.config.Config.{Config}
 use Rattle.site_frame.specs.declared.reading.RecordView.{RecordView}
-use Rattle.plp_receiver.specs.Readable.{Part}
+use Rattle.plp_receiver.specs.Parts.{Part}
 use Rattle.plp_receiver.specs.Epochs.{part_of, with_part, parts_of, agreeing, epoch_parts, epochs_in}
 use Rattle.plp_receiver.specs.Laws.{OneFrame, AllCome}
 

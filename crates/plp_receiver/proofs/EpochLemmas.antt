@@ -14,7 +14,7 @@ use Rattle.packet_slots.proofs.TimeLemmas.{next_epoch, same_epoch}
 use Rattle.packet_slots.specs.Epochs.{Epoch}
 use Rattle.plp_config.specs.declared.config.Config.{Config}
 use Rattle.site_frame.specs.declared.reading.RecordView.{RecordView}
-use Rattle.plp_receiver.specs.Readable.{Part, count_of}
+use Rattle.plp_receiver.specs.Parts.{Part, count_of}
 use Rattle.plp_config.specs.Plps.{spread}
 use Rattle.plp_receiver.specs.Epochs.{part_of, with_part, parts_of, agree, agreeing, epoch_parts, Tells, epochs_in, TellAll}
 use Rattle.plp_receiver.specs.Holds.{Holds, seen_from, seen, is_begun, joined}

@@ -21,7 +21,8 @@ use Rattle.site_frame.specs.declared.reading.RecordView.TheVariants.{Frame, Mute
 use Rattle.packet_slots.specs.Epochs.{lost_epoch, epoch_with}
 use Rattle.packet_slots.specs.Strings.{Block}
 use Rattle.packet_slots.specs.declared.slots.PacketSlots.{PacketSlots}
-use Rattle.plp_receiver.specs.Readable.{Part, part_with, coming, count_of, readable, all_stand}
+use Rattle.frame_tests.specs.Readable.{coming, readable}
+use Rattle.plp_receiver.specs.Parts.{Part, part_with, count_of, all_stand}
 use Rattle.plp_config.specs.Plps.{spread}
 use Rattle.plp_receiver.specs.Taken.{IsGiven, bytes_at}
 use Rattle.plp_receiver.specs.Epochs.{part_of, cells_stand, place_of}

@@ -9,7 +9,7 @@ use Rattle.l1_signal.specs.declared.dynamic.L1Dyn.{L1Dyn}
 use Rattle.plp_config.specs.declared.config.Config.{Config}
 use Rattle.scheduler.specs.Shape.{FrameShape}
 use Rattle.site_frame.specs.Record.{Block}
-use Rattle.plp_receiver.specs.Readable.{told_dynamic, post_agrees, shape_agrees, fitting, readable}
+use Rattle.frame_tests.specs.Readable.{told_dynamic, post_agrees, shape_agrees, fitting, readable}
 
 pub told_readable : (c : Config) (n : ℕ) (pre post : List Bool) (blocks : List Block) (cells : List (Option Cell)) (d : L1Dyn)
     (shape : FrameShape) (fits : Bool)

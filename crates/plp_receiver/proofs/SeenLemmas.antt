@@ -17,7 +17,7 @@ use Rattle.cell_map.specs.CellMap.{Passes, ordinal_of, is_carried, cell_map}
 use Rattle.cell_map.specs.Laws.{MapHasEachCell, MapHasOnlyCells}
 use Rattle.cell_map.specs.declared.places.Cell.{Cell}
 use Rattle.frame_tests.specs.MapTest.{each_below}
-use Rattle.plp_receiver.specs.Readable.{Part, part_with, is_cell, stands, all_stand}
+use Rattle.plp_receiver.specs.Parts.{Part, part_with, is_cell, stands, all_stand}
 use Rattle.site_frame.specs.Record.{Block}
 use Rattle.plp_receiver.specs.Seeing.{is_right, is_seen, right_at, seen_from, all_seen}
 use Rattle.plp_receiver.proofs.CountLemmas.{ordinals_apart}

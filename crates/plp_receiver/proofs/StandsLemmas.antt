@@ -12,7 +12,7 @@ use Rattle.packet_slots.specs.declared.slots.PacketSlots.{PacketSlots}
 use Rattle.packet_slots.specs.declared.slot_rule.SlotRule.{SlotRule}
 use Rattle.plp_receiver.specs.Laws.{ReadbackOnce}
 use Rattle.plp_config.specs.Plps.{spread}
-use Rattle.plp_receiver.specs.Readable.{Part}
+use Rattle.plp_receiver.specs.Parts.{Part}
 use Rattle.plp_receiver.specs.StandsFor.{Stands, Fresh, slots_come}
 use Rattle.plp_receiver.specs.Epochs.{part_of, slot_rule, Readback}
 use Rattle.plp_receiver.specs.Holds.{Holds, seen, joined, Sees}

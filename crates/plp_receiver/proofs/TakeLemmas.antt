@@ -21,7 +21,7 @@ use Rattle.packet_slots.specs.Strings.{Block}
 use Rattle.packet_slots.specs.declared.slot_rule.SlotRule.{SlotRule}
 use Rattle.packet_slots.specs.declared.slots.PacketSlots.{PacketSlots}
 use Rattle.site_frame.specs.Record as frame
-use Rattle.plp_receiver.specs.Readable.{coming, has_size, block_sizes, shape_agrees}
+use Rattle.frame_tests.specs.Readable.{coming, has_size, block_sizes, shape_agrees}
 use Rattle.plp_receiver.specs.Taken.{IsTaken, IsTold, IsGiven}
 use Rattle.plp_receiver.specs.Holds.{block_at}
 use Rattle.plp_receiver.specs.declared.held.HeldBlocks.{HeldBlocks}

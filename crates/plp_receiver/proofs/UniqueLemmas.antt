@@ -19,7 +19,7 @@ use Rattle.packet_slots.specs.Strings.{Block}
 use Rattle.bb_frame.specs.declared.header.TheConstants.{NO_START}
 use Rattle.plp_config.specs.Plps.{spread}
 use Rattle.packet_slots.specs.Sound.{IsSound}
-use Rattle.plp_receiver.specs.Readable.{Part, count_of}
+use Rattle.plp_receiver.specs.Parts.{Part, count_of}
 use Rattle.plp_receiver.specs.Taken.{block_read, IsTaken, IsTold, IsGiven, bytes_at}
 use Rattle.plp_receiver.specs.Epochs.{epoch_parts, cells_stand, place_of, Tells, epochs_in, TellAll, slot_rule, Readback}
 use Rattle.plp_receiver.proofs.EpochLemmas.{epoch_rises, told_after}

@@ -12,7 +12,8 @@ use Rattle.site_frame.specs.declared.reading.RecordView.TheVariants.{Frame, Mute
 use Rattle.packet_slots.specs.Epochs.{Epoch, lost_epoch, epoch_with, readback}
 use Rattle.packet_slots.specs.Strings.{Block}
 use Rattle.packet_slots.specs.declared.slot_rule.SlotRule.{SlotRule}
-use Rattle.plp_receiver.specs.Readable.{Part, part_with, count_of, coming, readable, all_stand}
+use Rattle.frame_tests.specs.Readable.{coming, readable}
+use Rattle.plp_receiver.specs.Parts.{Part, part_with, count_of, all_stand}
 use Rattle.plp_receiver.specs.Taken.{IsGiven, bytes_at}
 
 -- what the record of frame n tells, if it is readable

@@ -3,7 +3,7 @@ use Rattle.std.specs.Prelude.{◌≡◌, ℕ, ◌+◌, ◌-◌, ◌*◌, ◌/◌
 use Rattle.std.specs.Prelude.{length, take, drop, vec_len, slice_index_or, Option, Some, None, if◌then◌else◌}
 use Rattle.plp_config.specs.declared.config.Config.{Config}
 use Rattle.site_frame.specs.declared.reading.RecordView.{RecordView}
-use Rattle.plp_receiver.specs.Readable.{Part, count_of}
+use Rattle.plp_receiver.specs.Parts.{Part, count_of}
 use Rattle.plp_config.specs.Plps.{spread}
 use Rattle.plp_receiver.specs.Taken.{bytes_at}
 use Rattle.plp_receiver.specs.Epochs.{parts_of, agreeing, cells_stand, place_of}

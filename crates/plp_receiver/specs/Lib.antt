@@ -1,4 +1,4 @@
-pub mod Readable
+pub mod Parts
 pub mod Taken
 pub mod Epochs
 pub mod StandsFor
@@ -8,3 +8,5 @@ pub mod Sizes
 pub mod Seeing
 pub mod Taking
 pub mod Holds
+-- of the crates below, for those who read this one
+pub use Rattle.frame_tests.specs.Readable

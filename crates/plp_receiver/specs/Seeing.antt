@@ -7,7 +7,7 @@ use Rattle.scheduler.specs.Shape.{FrameShape}
 use Rattle.cell_map.specs.CellMap.{cell_map}
 use Rattle.cell_map.specs.declared.places.Cell.{Cell}
 use Rattle.frame_tests.specs.MapTest.{each_below}
-use Rattle.plp_receiver.specs.Readable.{is_cell}
+use Rattle.plp_receiver.specs.Parts.{is_cell}
 
 -- if the map has a cell of the block with an ordinal, it is what is found
 abbrev pub is_right : ℕ → Option Cell → Option (Option Cell) → Bool

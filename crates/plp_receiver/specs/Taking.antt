@@ -8,7 +8,7 @@ use Rattle.packet_slots.specs.StandsFor.{PacketSlotsStandsFor, StandsWithin, end
 use Rattle.packet_slots.specs.Strings.{Block}
 use Rattle.packet_slots.specs.declared.slot_rule.SlotRule.{SlotRule}
 use Rattle.packet_slots.specs.declared.slots.PacketSlots.{PacketSlots}
-use Rattle.plp_receiver.specs.Readable.{Part}
+use Rattle.plp_receiver.specs.Parts.{Part}
 use Rattle.plp_receiver.specs.Taken.{IsGiven, bytes_at}
 use Rattle.plp_receiver.specs.Epochs.{Tells}
 use Rattle.plp_receiver.specs.Holds.{Holds, block_at, is_begun}

@@ -37,7 +37,7 @@ impl HeldBlocks {
     ghost use Rattle.std.specs.Prelude.{◌==◌, slice_index, List};
     ghost use Rattle.site_frame.specs.Record.{Block};
     ghost use Rattle.cell_map.specs.CellMap.{Passes};
-    ghost use Rattle.plp_receiver.specs.Readable.{all_stand, part_with};
+    ghost use Rattle.plp_receiver.specs.Parts.{all_stand, part_with};
     ghost use Rattle.plp_receiver.specs.Taken.{bytes_at};
     ghost use Rattle.plp_receiver.specs.Holds.{block_at, room_of, blocks_of};
     ghost use Rattle.plp_receiver.specs.Taking.{HaveLength, TakesBlocks};

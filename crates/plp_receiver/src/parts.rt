@@ -3,7 +3,8 @@ ghost use Rattle.std.specs.Prelude.{◌≡◌, ◌<◌, ◌∷◌, [], true, len
 ghost use Rattle.plp_config.specs.Capacity.{block_bytes};
 ghost use Rattle.plp_config.specs.InterleavingFrames.{is_first};
 ghost use Rattle.plp_config.specs.Plps.{plp_at};
-ghost use Rattle.plp_receiver.specs.Readable.{shape_agrees, coming, part_with};
+ghost use Rattle.frame_tests.specs.Readable.{shape_agrees, coming};
+ghost use Rattle.plp_receiver.specs.Parts.{part_with};
 ghost use Rattle.plp_receiver.specs.Holds.{Sees, Keeps, room_of};
 
 use crate::held::HeldBlocks;

@@ -5,8 +5,8 @@ ghost use Rattle.std.specs.Bool.{beq};
 ghost use Rattle.std.specs.Cmp.Lexicographic.{pointwise};
 ghost use Rattle.l1_signal.specs.Laws.{crc_behind};
 ghost use Rattle.l1_signal.specs.declared.lengths.TheConstants.{CRC_BITS};
-ghost use Rattle.plp_receiver.specs.Readable.{told_dynamic, post_agrees, BlockSize};
-ghost use Rattle.plp_receiver.specs.Readable.{has_size, block_sizes, coming, shape_agrees, readable};
+ghost use Rattle.frame_tests.specs.Readable.{told_dynamic, post_agrees, BlockSize};
+ghost use Rattle.frame_tests.specs.Readable.{has_size, block_sizes, coming, shape_agrees, readable};
 ghost use Rattle.plp_receiver.specs.Sizes.{size_of};
 
 use crate::parts::begun_count;
@@ -101,7 +101,7 @@ fn has_shape(
 }
 
 /// Whether the record of a frame with these parts is readable. The shape that it tells is given to `shape` then.
-#[tactic(auto, unfolding(crate::specs::Readable::readable))]
+#[tactic(auto, unfolding(frame_tests::specs::Readable::readable))]
 pub fn is_readable(
     network: &Network<'_>,
     number: u64,

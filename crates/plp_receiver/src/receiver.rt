@@ -63,7 +63,7 @@ impl<'p> Receiver<'p> {
     ghost use Rattle.plp_config.specs.declared.moment.Moment.{Moment};
     ghost use Rattle.site_frame.specs.declared.reading.RecordView.TheVariants.{Frame};
     ghost use Rattle.plp_receiver.specs.Holds.{Sees, Holds, is_begun};
-    ghost use Rattle.plp_receiver.specs.Readable.{Part};
+    ghost use Rattle.plp_receiver.specs.Parts.{Part};
     ghost use Rattle.packet_slots.specs.StandsFor.{ends_epoch};
     ghost use Rattle.std.specs.Prelude.{Option};
     ghost use Rattle.plp_receiver.specs.Taking.{EndsRecord, TellsEpoch};

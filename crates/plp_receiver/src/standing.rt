@@ -4,7 +4,7 @@ ghost use Rattle.std.specs.Prelude.{take, List};
 ghost use Rattle.std.specs.Prelude.{Some};
 ghost use Rattle.cell_map.specs.CellMap.{Passes};
 ghost use Rattle.site_frame.specs.Record.{Block};
-ghost use Rattle.plp_receiver.specs.Readable.{is_cell, all_stand, part_with};
+ghost use Rattle.plp_receiver.specs.Parts.{is_cell, all_stand, part_with};
 ghost use Rattle.plp_receiver.specs.Seeing.{is_seen, seen_from, all_seen};
 
 use cell_map::{Cell, Cells, map_law};

@@ -1,5 +1,5 @@
 use Rattle.std.proofs.Common.{◌∙◌, ◌==◌, ◌&&◌, ℕ, ap, sym}
-use Rattle.plp_receiver.specs.Readable.{part_with}
+use Rattle.plp_receiver.specs.Parts.{part_with}
 use Rattle.plp_receiver.proofs.TakeLemmas.{agrees}
 use Rattle.plp_receiver.proofs.HeldLemmas.{begins, goes_on, breaks_off}
 use Rattle.plp_receiver.proofs.parts.see_part.Goals as goal

@@ -2,7 +2,7 @@ use Rattle.std.proofs.Common.{◌∙◌, true, ap, sym}
 use Rattle.frame_tests.specs.Tests.{read_whole, pre_agrees}
 use Rattle.l1_signal.specs.L1Pre.{pre_reading}
 use Rattle.plp_config.specs.declared.config.Config.{Config}
-use Rattle.plp_receiver.specs.Readable.{shape_agrees}
+use Rattle.frame_tests.specs.Readable.{shape_agrees}
 use Rattle.plp_receiver.proofs.ReadableLemmas.{told_readable}
 use Rattle.plp_receiver.proofs.readable.is_readable.Goals as goal
 

@@ -1,5 +1,5 @@
 use Rattle.std.proofs.Common.{◌∙◌, ◌&&◌, Bool, false, List, get_or, ap, arith}
-use Rattle.plp_receiver.specs.Readable.{all_stand, part_with}
+use Rattle.plp_receiver.specs.Parts.{all_stand, part_with}
 use Rattle.plp_receiver.proofs.HeldLemmas.{written_back}
 use Rattle.plp_receiver.proofs.held.HeldBlocks.see_cells.Goals as goal
 

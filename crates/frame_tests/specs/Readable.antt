@@ -1,19 +1,16 @@
--- Which records of frames are readable, and what they tell (EN 302 755, clauses 5 to 8).
-use Rattle.std.specs.Prelude.{ℕ, ◌-◌, ◌%◌, ◌==◌, ◌&&◌, ◌||◌, not, Bool, true, false, List, length, map, take, replicate}
-use Rattle.std.specs.Prelude.{slice_get}
-use Rattle.std.specs.Prelude.{slice_index, Option, Some, None, if◌then◌else◌, option_map}
+-- Which records of frames are readable (EN 302 755, clauses 5 to 8).
+use Rattle.std.specs.Prelude.{ℕ, ◌-◌, ◌==◌, ◌&&◌, Bool, true, List, length, map, take, replicate, slice_index, Option, Some}
+use Rattle.std.specs.Prelude.{None, if◌then◌else◌, option_map}
 use Rattle.std.specs.Bool.{beq}
 use Rattle.std.specs.Cmp.Lexicographic.{pointwise}
 use Rattle.std.specs.List.{flat_map}
 use Rattle.terms.specs.Bits.{part}
-use Rattle.plp_config.specs.Capacity.{block_bytes, block_cells}
+use Rattle.plp_config.specs.Capacity.{block_bytes}
 use Rattle.plp_config.specs.InterleavingFrames.{is_first}
 use Rattle.plp_config.specs.Places.{places}
 use Rattle.plp_config.specs.Plps.{plp_at}
 use Rattle.plp_config.specs.declared.config.Config.{Config}
 use Rattle.scheduler.specs.Shape.{FrameShape}
-use Rattle.cell_map.specs.Address.{address_of}
-use Rattle.cell_map.specs.CellMap.{ordinal_of, is_carried}
 use Rattle.cell_map.specs.declared.places.Cell.{Cell}
 use Rattle.l1_signal.specs.L1Configurable.{conf_read, info_size}
 use Rattle.l1_signal.specs.L1Dynamic.{dyn_read}
@@ -23,9 +20,9 @@ use Rattle.l1_signal.specs.L1Pre.{pre_reading}
 use Rattle.l1_signal.specs.Laws.{crc_behind}
 use Rattle.l1_signal.specs.declared.dynamic.L1Dyn.{L1Dyn}
 use Rattle.l1_signal.specs.declared.lengths.TheConstants.{CRC_BITS}
-use Rattle.frame_tests.specs.MapTest.{map_passes, each_below}
-use Rattle.frame_tests.specs.Tests.{read_whole, pre_agrees, conf_agrees, dyn_agrees}
 use Rattle.site_frame.specs.Record.{Block}
+use Rattle.frame_tests.specs.MapTest.{map_passes}
+use Rattle.frame_tests.specs.Tests.{read_whole, pre_agrees, conf_agrees, dyn_agrees}
 
 -- the dynamic part of L1-post, if it reads
 abbrev pub told_dynamic : Config → List Bool → Option L1Dyn
@@ -70,33 +67,3 @@ unfoldable pub readable : Config → ℕ → List Bool → List Bool → List Bl
 readable c n pre post blocks cells =
     if pre_agrees c (read_whole (pre_reading true pre)) && post_agrees c n post
     then fitting c n blocks cells (option_map told_shape (told_dynamic c post)) else None
-
--- what stands at an address is the cell
-abbrev pub is_cell : ℕ → ℕ → Option (Option Cell) → Bool
-is_cell ordinal cell None = false
-is_cell ordinal cell (Some None) = false
-is_cell ordinal cell (Some (Some x)) = (x.ordinal == ordinal) && (x.cell == cell)
-
--- what a readable record tells: the number of its frame, and the shape; its blocks, and the words of its cells
-pub record Part : Type 0 where
-  pub number : ℕ
-  pub shape : FrameShape
-  pub blocks : List Block
-  pub cells : List (Option Cell)
-
-abbrev pub part_with : ℕ → List Block → FrameShape → List (Option Cell) → Part
-part_with n blocks shape cells = record { number = n; shape = shape; blocks = blocks; cells = cells }
-
--- how many blocks the interleaving frame has that it carries
-abbrev pub count_of : ℕ → Part → ℕ
-count_of plp p = slice_index p.shape.counts plp
-
--- a cell of a block stands at its address, if the frame carries it
-abbrev pub stands : Config → Part → ℕ → ℕ → ℕ → Bool
-stands c p plp block cell =
-    not (is_carried c p.shape (p.number % c.frames) plp block cell)
-    || is_cell (ordinal_of p.shape plp block) cell (slice_get p.cells (address_of c p.shape (p.number % c.frames) plp block cell))
-
--- and so does each cell of the block
-unfoldable pub all_stand : Config → ℕ → Part → ℕ → Bool
-all_stand c plp p block = each_below (block_cells c plp) (stands c p plp block)
