@@ -26,8 +26,9 @@ behind_at f views came ended p is s =
 
 -- ---- behind a head
 
-pub no_room : (head : List ℕ) (rest : ℕ) → length head ≡ head_len → Follow head rest → (len : ℕ) × Announces head len
-no_room head rest size f = (rest, announces_head head rest size f)
+pub no_room : (head : List ℕ) (rest : ℕ) → length head ≡ head_len → Follow head rest
+    → (length head ≡ head_len) × ((len : ℕ) × Announces head len)
+no_room head rest size f = (size, (rest, announces_head head rest size f))
 
 pub begun : (head : List ℕ) (rest : ℕ) → length head ≡ head_len → Follow head rest → IsBegun head rest
 begun head rest size f =

@@ -25,5 +25,5 @@ Behind Head head bytes left rest ended = (rest ≡ head) × (length rest + left 
 Behind Rest head bytes left rest ended = (rest ≡ bytes) × IsBegun rest left × (ended ≡ false)
 Behind Whole head bytes left rest ended = (rest ≡ bytes) × IsBegun rest 0 × (ended ≡ false)
 Behind (Refused why) head bytes left rest ended = StandsRefused why left rest ended
-Behind NoRoom head bytes left rest ended = (len : ℕ) × Announces rest len
+Behind NoRoom head bytes left rest ended = (length rest ≡ head_len) × ((len : ℕ) × Announces rest len)
 Behind Finished head bytes left rest ended = (rest ≡ []) × (ended ≡ true)

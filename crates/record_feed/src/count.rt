@@ -3,7 +3,7 @@ ghost use Rattle.std.specs.Prelude.{◌≡◌, ◌<◌, ◌≤◌, length, min};
 ghost use Rattle.site_frame.specs.declared.head.TheConstants.{HEAD};
 
 use crate::head_part::HeadPart;
-use site_frame::rest_len;
+use crate::told::told;
 
 /// Counts the records of a file by their heads, as its bytes come, and keeps none.
 #[derive(Drop)]
@@ -18,11 +18,12 @@ pub struct RecordCount {
 }
 
 impl RecordCount {
-    ghost use Rattle.record_feed.specs.RecordCount.{heads_of, CountsOn};
+    ghost use Rattle.std.specs.Prelude.{List, ℕ, [], take};
+    ghost use Rattle.record_feed.specs.RecordCount.{RecordCountStandsFor, CountsOn, heads_of};
 
     /// Nothing came.
     pub fn new() -> RecordCount
-        ensures { heads_of result ≡ 0 }
+        ensures { RecordCountStandsFor result [] }
     {
         RecordCount {
             head: HeadPart::new(),
@@ -38,21 +39,28 @@ impl RecordCount {
         self.count
     }
 
-    // Takes bytes of the record under way, or else of the next head: how many.
-    fn step(&mut self, bytes: &[u8]) -> usize
-        requires { 0 < length bytes.now }
+    // Takes bytes of the record under way: how many.
+    fn pass(&mut self, bytes: &[u8]) -> usize
+        requires some { 0 < length bytes.now }
+        requires under_way { 0 < self.old.left }
         ensures count { (0 < result) × (result ≤ length bytes.now) }
-        ensures counts { CountsOn self.old self.new }
+        ensures counts { CountsOn self.old self.new (take result bytes.now) }
     {
-        if self.left > 0 {
-            let count = self.left.min(bytes.len());
-            self.left -= count;
-            return count;
-        }
+        let count = self.left.min(bytes.len());
+        self.left -= count;
+        count
+    }
+
+    // Takes bytes of the next head, and counts it if it is whole: how many.
+    fn step(&mut self, bytes: &[u8]) -> usize
+        requires some { 0 < length bytes.now }
+        requires between { self.old.left ≡ 0 }
+        ensures count { (0 < result) × (result ≤ length bytes.now) }
+        ensures counts { CountsOn self.old self.new (take result bytes.now) }
+    {
         let count = self.head.take(bytes);
         if self.head.lacks() == 0 {
-            // No record begins with a head that is refused, so the next head is looked for behind it.
-            self.left = rest_len(&self.head.whole()).unwrap_or(0);
+            self.left = told(&self.head.whole());
             self.head.clear();
             self.count = self.count.saturating_add(1);
         }
@@ -61,11 +69,16 @@ impl RecordCount {
 
     /// Takes bytes, any number.
     pub fn take(&mut self, bytes: &[u8])
-        ensures { CountsOn self.old self.new }
+        ensures { CountsOn self.old self.new bytes.now }
     {
         let mut at = 0;
         while at < bytes.len() {
-            at += self.step(&bytes[at..]);
+            let rest = &bytes[at..];
+            at += if self.left > 0 {
+                self.pass(rest)
+            } else {
+                self.step(rest)
+            };
         }
     }
 }

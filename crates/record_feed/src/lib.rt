@@ -7,6 +7,7 @@ mod count;
 mod feed;
 mod head_part;
 mod laws;
+mod told;
 
 pub use coming::Coming;
 pub use count::RecordCount;
