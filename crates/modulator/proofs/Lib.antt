@@ -6,3 +6,5 @@ pub mod BeginLemmas
 pub mod MuteLemmas
 pub mod JoinLemmas
 pub mod DueLemmas
+pub mod PlaceLemmas
+pub mod OneLemmas

@@ -1,5 +1,5 @@
 -- What a `Modulator` stands for.
-use Rattle.std.specs.Prelude.{◌≡◌, ℕ, ◌+◌, ◌*◌, ◌<◌, ◌≤◌, Bool, List, ◌++◌, ◌∷◌, length, Option, Some, None, flat_map}
+use Rattle.std.specs.Prelude.{◌≡◌, ℕ, ◌+◌, ◌*◌, ◌<◌, ◌≤◌, ◌==◌, Bool, false, List, ◌++◌, ◌∷◌, length, Option, Some, None, flat_map}
 use Rattle.std.specs.Prelude.{if◌then◌else◌}
 use Rattle.plp_config.specs.declared.config.Config.{Config}
 use Rattle.t2mi_stream.specs.Units.{accepted_of}
@@ -52,6 +52,11 @@ left_of m = records_ahead m.inner * most_left (config_of m) + waiting_len m
 -- These bytes were fed, and these bytes of the records were taken.
 unfoldable pub ModulatorStandsFor : Modulator → List ℕ → List ℕ → Type 0
 ModulatorStandsFor m bytes taken = Gives m.inner bytes taken
+
+-- the record of a frame waits
+abbrev pub waits_for : Option Waiting → ℕ → Bool
+waits_for (Some w) frame = w.frame == frame
+waits_for None frame = false
 
 -- why a record is muted, if it is
 abbrev pub mute_of : Content → Option MuteCause

@@ -6,9 +6,11 @@ mod laws;
 mod modulating;
 mod modulator;
 mod settle;
+mod waiting;
 
-pub use laws::due_records_law;
+pub use laws::{due_records_law, one_waits_law};
 pub use modulator::Modulator;
+pub use waiting::is_of;
 
 #[cfg(test)]
 mod tests;
