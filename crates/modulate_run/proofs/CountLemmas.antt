@@ -18,12 +18,12 @@ use Rattle.frame_groups.specs.declared.waiting.Waiting.{Waiting}
 use Rattle.open_group.specs.Written.{spelled}
 use Rattle.modulator.specs.Laws.{DueFollow}
 use Rattle.modulator.specs.StandsFor.{WaitsAs, TakesOf, records_due, bytes_due, mute_of}
-use Rattle.modulate_run.specs.Given.{held, added}
+use Rattle.modulate_run.specs.GivenRecord.{held, added}
 use Rattle.modulate_run.specs.AsMachine.{IsNext, IsAll}
 use Rattle.modulate_run.specs.Counted.{is_muted, first_number, counted}
 use Rattle.modulate_run.specs.ModulateRun.{AreEarly}
 use Rattle.modulate_run.specs.declared.stop.Ran.{Ran}
-use Rattle.modulate_run.proofs.PlaceLemmas.{place, AllSome, place_within, place_end, place_all, none_left, same_cut, same_front}
+use Rattle.modulator.proofs.PlaceLemmas.{place, AllSome, place_within, place_end, place_all, none_left, same_cut, same_front}
 
 -- a record has its head at least
 pub some_bytes : (c : Config) → AllSome (spelled c)

@@ -4,6 +4,7 @@ use Rattle.std.proofs.Common.{length-append, append_assoc, append-nil}
 use Rattle.std.specs.Prelude.{nat_lt}
 use Rattle.std.proofs.lemmas.Bool.{ltb-true, ltb-false}
 use Rattle.std.proofs.lemmas.List.{take-append-le, take-take, length-take}
+use Rattle.std.proofs.Math.Seq.{take-append-add}
 use Rattle.terms.proofs.CaseLemmas.{bool_cases}
 use Rattle.plp_config.specs.declared.config.Config.{Config}
 use Rattle.frame_groups.specs.Laws.{IsPrefix}
@@ -11,12 +12,6 @@ use Rattle.modulator.specs.StandsFor.{bytes_due}
 
 abbrev pub AreGiven : Config → List ℕ → List ℕ → Type 0
 AreGiven c bytes taken = (k : ℕ) → k < length bytes → IsPrefix (bytes_due c false (take k bytes)) taken
-
-take_past : (xs ys : List ℕ) (k : ℕ) → take (length xs + k) (xs ++ ys) ≡ xs ++ take k ys
-take_past [] ys k = ap (λ (n : ℕ). take n ys) (omega arith)
-take_past (x ∷ xs) ys k =
-    let e : suc (length xs) + k ≡ suc (length xs + k) = omega arith in
-    ap (λ (n : ℕ). take n (x ∷ (xs ++ ys))) e ∙ ap (λ (l : List ℕ). x ∷ l) (take_past xs ys k)
 
 pub given_fed : (c : Config) (bytes piece taken : List ℕ) (count : ℕ) → AreGiven c bytes taken
     → ((k : ℕ) → k < count → bytes_due c false (bytes ++ take k piece) ≡ taken) → AreGiven c (bytes ++ take count piece) taken
@@ -32,7 +27,7 @@ given_fed c bytes piece taken count was first k less =
     let sum : k ≡ length bytes + j = omega (arith, l) in
     let inside : j < count = omega (arith, less, length-append bytes (take count piece), length-take count piece, l) in
     let at : take k (bytes ++ take count piece) ≡ bytes ++ take j piece =
-    ap (λ (n : ℕ). take n (bytes ++ take count piece)) sum ∙ take_past bytes (take count piece) j
+    ap (λ (n : ℕ). take n (bytes ++ take count piece)) sum ∙ take-append-add bytes (take count piece) j
     ∙ ap (λ (l : List ℕ). bytes ++ l) (take-take j count piece (omega (arith, inside))) in
     ([], sym (first j inside) ∙ ap (bytes_due c false) (sym at) ∙ sym (append-nil _)))
 

@@ -1,4 +1,3 @@
-pub mod PlaceLemmas
 pub mod CountLemmas
 pub mod FrontLemmas
 pub mod LawLemmas

@@ -15,9 +15,9 @@ use Rattle.file_run.specs.Steps.{Suffices, FallsShort}
 use Rattle.file_run.specs.declared.machine.Step.TheVariants.{Give, End}
 use Rattle.modulator.specs.Laws.{DueFront, DueFollow}
 use Rattle.modulator.specs.StandsFor.{ModulatorStandsFor, WaitsAs, TakesOf, records_due, bytes_due, config_of, is_finished}
-use Rattle.modulator.specs.StandsFor.{fed_of, next_of, is_waiting}
+use Rattle.modulator.specs.StandsFor.{fed_of, next_of, is_waiting, waits_for}
 use Rattle.modulator.specs.declared.modulator.Modulator.{Modulator}
-use Rattle.modulate_run.specs.Given.{waits_for, added}
+use Rattle.modulate_run.specs.GivenRecord.{added}
 use Rattle.modulate_run.specs.AsMachine.{step_of, IsNext, IsAll, Behind, Shown}
 use Rattle.modulate_run.specs.declared.machine.ModulatorMachine.{ModulatorMachine}
 use Rattle.modulate_run.specs.declared.stop.Ran.{Ran}

@@ -1,5 +1,5 @@
 pub mod AsMachine
 pub mod Counted
-pub mod Given
+pub mod GivenRecord
 pub mod Laws
 pub mod ModulateRun

@@ -5,7 +5,6 @@ mod laws;
 mod machine;
 mod running;
 mod stop;
-mod waiting;
 
 pub use laws::{one_run_law, run_ends_law};
 pub use running::run;

@@ -5,11 +5,10 @@ ghost use Rattle.plp_config.specs.declared.moment.TheConstants.{MOST_FRAMES};
 ghost use Rattle.modulator.specs.StandsFor.{next_of, is_waiting, is_finished};
 
 use crate::stop::{ModulateStop, Ran};
-use crate::waiting::is_of;
 use bit_slice::OutOfMemory;
 use file_run::{Ending, Machine, Step, events_law};
 use frame_groups::Waiting;
-use modulator::{Modulator, due_records_law};
+use modulator::{Modulator, due_records_law, is_of};
 use plp_config::{MOST_FRAMES, Plan};
 use std::alloc::Global;
 

@@ -1,6 +1,6 @@
 // What comes of a run.
 ghost use Rattle.std.specs.Prelude.{◌≡◌};
-ghost use Rattle.modulate_run.specs.Given.{added};
+ghost use Rattle.modulate_run.specs.GivenRecord.{added};
 
 use frame_groups::Waiting;
 use thiserror::Error;

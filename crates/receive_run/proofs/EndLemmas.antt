@@ -31,7 +31,7 @@ use Rattle.site_frame.specs.declared.reading.RecordView.{RecordView}
 use Rattle.packet_slots.specs.Epochs.{Epoch, lost_epoch, epoch_with, readback}
 use Rattle.packet_slots.specs.Strings.{Block}
 use Rattle.plp_receiver.specs.Epochs.{epoch_parts, cells_stand, place_of, Tells, epochs_in, TellAll, slot_rule}
-use Rattle.plp_receiver.specs.Readable.{Part, count_of}
+use Rattle.plp_receiver.specs.Parts.{Part, count_of}
 use Rattle.plp_receiver.specs.Taken.{IsOfStream, block_read, IsTaken, IsGiven, bytes_at}
 use Rattle.receive_run.specs.Laws.{MustRun, RunEnds}
 use Rattle.receive_run.specs.Received.{GivesBack, Received, ran_of, expected_after, RefusesNext}

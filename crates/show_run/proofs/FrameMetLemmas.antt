@@ -192,5 +192,5 @@ room_text file place m events early none lacks s f text =
         records_file file (fed 0 events) f.more s.feed.rest (s.told ++ s.next) f.parts s.feed.records,
         sym text ∙ all_told m events s none (λ done. let e : NoRoom ≡ Finished = sym lacks ∙ done in cc),
       ),
-      (behind.0, announces_on s.feed.rest f.more behind.0 behind.1),
+      (behind.1.0, announces_on s.feed.rest f.more behind.1.0 behind.1.1),
     )

@@ -24,7 +24,7 @@ use Rattle.site_frame.specs.RecordFile.{AreRecords, IsNoRecord}
 use Rattle.show_run.specs.RecordText.{AreFirstRecords, SaysMetRecords, LeavesRecords, IsRecordText}
 use Rattle.show_run.specs.SaidLines.{record_lines}
 use Rattle.show_run.specs.Shows.{Shows}
-use Rattle.show_run.specs.Told.{StopsLines}
+use Rattle.show_run.specs.LinesStop.{StopsLines}
 use Rattle.show_run.specs.declared.frame_lines.FrameLines.{FrameLines}
 use Rattle.file_run.specs.declared.stop.RunStop.{RunStop}
 use Rattle.file_run.specs.declared.stop.RunStop.TheVariants as run

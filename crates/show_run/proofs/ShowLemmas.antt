@@ -20,7 +20,7 @@ use Rattle.show_run.specs.PacketLines.{next_from, next_of, Behind, Given, Shown,
 use Rattle.show_run.specs.PacketText.{AreFirst, SaysMet, LeavesSome, IsPacketText}
 use Rattle.show_run.specs.SaidLines.{lines_of}
 use Rattle.show_run.specs.Shows.{Shows}
-use Rattle.show_run.specs.Told.{StopsLines}
+use Rattle.show_run.specs.LinesStop.{StopsLines}
 use Rattle.show_run.specs.declared.packet_lines.PacketLines.{PacketLines}
 use Rattle.show_run.specs.declared.packet_lines.Phase.{Phase}
 use Rattle.show_run.specs.declared.packet_lines.Phase.TheVariants.{Reads, Refused, Finished}

@@ -27,7 +27,7 @@ use Rattle.show_run.specs.SaidLines.{count_line}
 use Rattle.show_run.specs.Shows.{Shows}
 use Rattle.show_run.specs.T2miLines.{next_in, next_of, packets_from, Unpiping, Found, Shown, Comes}
 use Rattle.show_run.specs.T2miText.{place_line, place_lines, AreFirstLines, LeavesLines, IsT2miText}
-use Rattle.show_run.specs.Told.{StopsLines}
+use Rattle.show_run.specs.LinesStop.{StopsLines}
 use Rattle.file_run.specs.declared.stop.RunStop.{RunStop}
 use Rattle.file_run.specs.declared.stop.RunStop.TheVariants as run
 use Rattle.show_run.specs.declared.stop.ShowStop.{ShowStop}

@@ -9,5 +9,5 @@ pub mod T2miText
 -- inner: no public clause cites these
 pub mod FrameLines
 pub mod PacketLines
-pub mod Told
+pub mod LinesStop
 pub mod T2miLines

@@ -8,7 +8,7 @@ ghost use Rattle.show_run.specs.PacketText.{IsPacketText};
 ghost use Rattle.show_run.specs.RecordText.{IsRecordText};
 ghost use Rattle.show_run.specs.Shows.{Shows};
 ghost use Rattle.show_run.specs.T2miText.{IsT2miText};
-ghost use Rattle.show_run.specs.Told.{StopsLines};
+ghost use Rattle.show_run.specs.LinesStop.{StopsLines};
 
 use crate::frame_lines::FrameLines;
 use crate::packet_lines::{PacketLines, Phase};

@@ -16,12 +16,22 @@ pub enum TrialStop {
 }
 
 impl<T: Drop> From<AllocFailed<T>> for TrialStop {
+    ghost use Rattle.std.specs.Prelude.{◌≡◌};
+    ghost use Rattle.trial_run.specs.declared.stop.TrialStop.TheVariants.{OutOfMemory};
+
+    ghost from_gives = { λ _ e. e ≡ OutOfMemory };
+
     fn from(_error: AllocFailed<T>) -> TrialStop {
         TrialStop::OutOfMemory
     }
 }
 
 impl From<OutOfMemory> for TrialStop {
+    ghost use Rattle.std.specs.Prelude.{◌≡◌};
+    ghost use Rattle.trial_run.specs.declared.stop.TrialStop.TheVariants.{OutOfMemory};
+
+    ghost from_gives = { λ _ e. e ≡ OutOfMemory };
+
     fn from(_error: OutOfMemory) -> TrialStop {
         TrialStop::OutOfMemory
     }
@@ -29,6 +39,11 @@ impl From<OutOfMemory> for TrialStop {
 
 // By what stopped one of the commands' own runs.
 impl<E: Copy> From<RunStop<E>> for TrialStop {
+    ghost use Rattle.std.specs.Prelude.{◌≡◌};
+    ghost use Rattle.trial_run.specs.Stops.{told_of};
+
+    ghost from_gives = { λ stop e. e ≡ told_of stop };
+
     fn from(stop: RunStop<E>) -> TrialStop {
         match stop {
             RunStop::Refused(_) | RunStop::Files(RunFault::TooLong { .. }) => TrialStop::Broken,

@@ -1,12 +1,7 @@
 -- A record that was given. Of public clauses none cites this module.
-use Rattle.std.specs.Prelude.{ℕ, ◌+◌, ◌-◌, ◌^◌, ◌==◌, min, Bool, false, Option, Some, None, is_some, if◌then◌else◌}
+use Rattle.std.specs.Prelude.{ℕ, ◌+◌, ◌-◌, ◌^◌, ◌==◌, min, is_some, if◌then◌else◌}
 use Rattle.frame_groups.specs.declared.waiting.Waiting.{Waiting}
 use Rattle.modulate_run.specs.declared.stop.Ran.{Ran}
-
--- the record of a frame waits
-abbrev pub waits_for : Option Waiting → ℕ → Bool
-waits_for (Some w) frame = w.frame == frame
-waits_for None frame = false
 
 -- a number as it is held: it has 64 bits, and stands still at the greatest
 abbrev pub held : ℕ → ℕ
