@@ -19,12 +19,13 @@ use Rattle.t2mi_packet.specs.declared.packet.Packet.{Packet}
 use Rattle.t2mi_stream.specs.Complete.{complete_units}
 use Rattle.t2mi_stream.specs.CompleteLaws.{CompleteLaw, CountLaw, CarriedRises, JoinedLength}
 use Rattle.t2mi_stream.specs.Pipe.{items, joined, carried_len}
-use Rattle.gateway_core.specs.Carried.{of_frame}
+use Rattle.frame_writer.specs.Carried.{of_frame}
 use Rattle.gateway_core.specs.Laws.{WaitsThreeFrames}
-use Rattle.gateway_core.specs.Packets.{l1_body, plp_bodies, frame_bodies, bodies_before, packet_with, packets_from}
+use Rattle.frame_writer.specs.FramePackets.{l1_body, packet_with, packets_from}
+use Rattle.gateway_core.specs.Packets.{plp_bodies, frame_bodies, bodies_before}
 use Rattle.gateway_core.specs.Packets.{front_packets}
 use Rattle.gateway_core.specs.Signalling.{pre_part, conf_part, dyn_part}
-use Rattle.gateway_core.proofs.CarriedLemmas.{packets_append}
+use Rattle.frame_writer.proofs.CarriedLemmas.{packets_append}
 use Rattle.gateway_core.proofs.HoldsLemmas.{bodies_more}
 use Rattle.gateway_core.proofs.LawLemmas.{fronts_grow}
 

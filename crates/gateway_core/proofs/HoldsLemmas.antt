@@ -20,27 +20,28 @@ use Rattle.ts_packet.specs.Null.{null_packet}
 use Rattle.t2mi_packet.specs.declared.packet.Body.{Body}
 use Rattle.gateway_core.specs.BlocksLeft.{blocks_left}
 use Rattle.gateway_core.specs.Lists.{bits_in}
-use Rattle.gateway_core.specs.Carried.{of_frame}
+use Rattle.frame_writer.specs.Carried.{of_frame}
 use Rattle.gateway_core.specs.Events.{Event, Offered, Ended, Begun, Gave, Finished, offered, has_ended, begins, begun, gives}
 use Rattle.gateway_core.specs.Events.{given, finishes, finished}
-use Rattle.gateway_core.specs.Flowing.{Flows}
+use Rattle.frame_writer.specs.Flowing.{Flows}
 use Rattle.gateway_core.specs.InputsStandFor.{HasFrame, AllFed, AllContinue, AllEnded, HaveEnded, AreSupplied, CountsStay}
 use Rattle.gateway_core.specs.IsFed.{IsFed, wanted}
 use Rattle.gateway_core.specs.Left.{from_step, all_of, early_at}
 use Rattle.t2mi_stream.specs.Complete.{complete_units}
 use Rattle.t2mi_stream.specs.Pipe.{pipe}
 use Rattle.mode_adapt.specs.Blocks.{own_blocks, told_counts}
-use Rattle.gateway_core.specs.Packets.{packets_from, front_packets, l1_body, block_bodies, plp_bodies, frame_bodies}
+use Rattle.frame_writer.specs.FramePackets.{packets_from, l1_body}
+use Rattle.gateway_core.specs.Packets.{front_packets, block_bodies, plp_bodies, frame_bodies}
 use Rattle.gateway_core.specs.Packets.{bodies_before}
 use Rattle.gateway_core.specs.Signalling.{pre_part, conf_part, dyn_part}
 use Rattle.gateway_core.specs.StandsFor.{Holds, IsLast, wants_by}
 use Rattle.gateway_core.specs.InputSoFar.{Told, told, with_packet, at_end, Continues}
-use Rattle.gateway_core.specs.declared.flow.Flow.{Flow}
+use Rattle.frame_writer.specs.declared.flow.Flow.{Flow}
 use Rattle.gateway_core.specs.declared.input.Input.{Input}
 use Rattle.gateway_core.specs.declared.signalling.Signalling.{Signalling}
 use Rattle.gateway_core.specs.declared.frame.Step.{Step}
 use Rattle.gateway_core.specs.declared.frame.Step.TheVariants.{Stamp, Signal, Over}
-use Rattle.gateway_core.proofs.CarriedLemmas.{carries_more}
+use Rattle.frame_writer.proofs.CarriedLemmas.{carries_more}
 use Rattle.gateway_core.proofs.EpochLemmas.{begins_at_once}
 use Rattle.gateway_core.proofs.FedLemmas.{wants}
 use Rattle.gateway_core.proofs.InputsLemmas.{nothing_told, told_offered, told_ended, told_begun, back_begun}

@@ -1,8 +1,7 @@
 -- How many frames a run has, and what decides their packets.
-use Rattle.std.proofs.Common.{◌≡◌, ℕ, zero, suc, ◌+◌, ◌-◌, ◌*◌, ◌%◌, ◌<◌, ◌≤◌, Bool, true, List, [], ◌∷◌, ◌++◌, length, map, max}
+use Rattle.std.proofs.Common.{◌≡◌, ℕ, zero, suc, ◌+◌, ◌-◌, ◌*◌, ◌%◌, ◌<◌, ◌≤◌, Bool, true, List, [], ◌∷◌, ◌++◌, length, max}
 use Rattle.std.proofs.Common.{cond, refl, ap, sym, subst, ◌∙◌, inl, inr, arith, append-nil, append_assoc, add-one}
 use Rattle.std.specs.Int.{div_ceil}
-use Rattle.std.specs.List.{range_with_len}
 use Rattle.std.proofs.lemmas.Bool.{cases_lt}
 use Rattle.std.proofs.Math.Nat.{mul-le-mul_right}
 use Rattle.terms.proofs.RangeLemmas.{map_same, flat_same}
@@ -17,14 +16,16 @@ use Rattle.mode_adapt.specs.Deletion.{packet_at}
 use Rattle.mode_adapt.specs.Laws.{BlocksLaw}
 use Rattle.t2mi_stream.specs.CompleteLaws.{CompleteLaw}
 use Rattle.t2mi_stream.specs.Pipe.{pipe}
-use Rattle.gateway_core.specs.Carried.{of_frame}
+use Rattle.frame_writer.specs.Carried.{of_frame}
 use Rattle.gateway_core.specs.Events.{offered}
 use Rattle.gateway_core.specs.Laws.{NotYetLast, FrontsGrow, UnitsLaw, FrontsDecided, LastIsAll}
 use Rattle.mode_adapt.specs.Blocks.{plp_blocks, own_blocks, told_count, told_counts}
-use Rattle.gateway_core.specs.Packets.{l1_body, block_bodies, plp_bodies, with_stamp, frame_bodies, bodies_before}
-use Rattle.gateway_core.specs.Packets.{packets_from, front_packets}
+use Rattle.frame_writer.specs.FramePackets.{l1_body, with_stamp}
+use Rattle.gateway_core.specs.Packets.{block_bodies, plp_bodies, frame_bodies, bodies_before}
+use Rattle.frame_writer.specs.FramePackets.{packets_from}
+use Rattle.gateway_core.specs.Packets.{front_packets}
 use Rattle.gateway_core.specs.Signalling.{pre_part, conf_part, dyn_part}
-use Rattle.gateway_core.proofs.CarriedLemmas.{packets_append}
+use Rattle.frame_writer.proofs.CarriedLemmas.{packets_append}
 use Rattle.gateway_core.proofs.EpochLemmas.{begins_by}
 use Rattle.gateway_core.proofs.HoldsLemmas.{bodies_more}
 

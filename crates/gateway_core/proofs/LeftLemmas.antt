@@ -17,9 +17,11 @@ use Rattle.mode_adapt.specs.Place.{AreShort}
 use Rattle.t2mi_packet.specs.declared.packet.Body.{Body}
 use Rattle.t2mi_packet.specs.declared.packet.Body.TheVariants.{Block}
 use Rattle.t2mi_packet.specs.T2miPacket.{written_bits}
-use Rattle.gateway_core.specs.Packets.{block_bodies, plp_bodies, packet_with}
-use Rattle.gateway_core.specs.Left.{from_step, early_until, early_at, Builds}
-use Rattle.gateway_core.specs.Whole.{IsWhole}
+use Rattle.frame_writer.specs.FramePackets.{packet_with}
+use Rattle.gateway_core.specs.Packets.{block_bodies, plp_bodies}
+use Rattle.frame_writer.specs.Builds.{Builds}
+use Rattle.gateway_core.specs.Left.{from_step, early_until, early_at}
+use Rattle.frame_writer.specs.Whole.{IsWhole}
 use Rattle.gateway_core.specs.declared.frame.Step.{Step}
 use Rattle.gateway_core.specs.declared.frame.Step.TheVariants.{Stamp, Signal, Blocks}
 use Rattle.gateway_core.specs.BlocksLeft.{blocks_left}

@@ -3,9 +3,8 @@ pub mod FedLemmas
 pub mod InputsLemmas
 pub mod LeftLemmas
 pub mod SignalLemmas
-pub mod CarriedLemmas
 pub mod BoundLemmas
-pub mod FlowLemmas
+mod FrameLemmas
 pub mod HoldsLemmas
 pub mod LawLemmas
 mod AheadLemmas

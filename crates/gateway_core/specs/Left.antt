@@ -1,15 +1,13 @@
 -- What a frame still has to give. No public clause cites this module.
-use Rattle.std.specs.Prelude.{◌≡◌, ℕ, nat_lt, Bool, true, List, [], ◌∷◌, length, if◌then◌else◌}
+use Rattle.std.specs.Prelude.{ℕ, nat_lt, Bool, true, List, [], ◌∷◌, length, if◌then◌else◌}
 use Rattle.linked_pool.specs.Pool.{State}
 use Rattle.plp_config.specs.declared.config.Config.{Config}
-use Rattle.t2mi_packet.specs.T2miPacket.{written_bits}
 use Rattle.t2mi_packet.specs.declared.packet.Body.{Body}
 use Rattle.t2mi_packet.specs.declared.packet.Body.TheVariants.{Timestamp}
+use Rattle.frame_writer.specs.FramePackets.{stamp_of, l1_body}
 use Rattle.gateway_core.specs.BlocksLeft.{blocks_left}
 use Rattle.gateway_core.specs.Lists.{bits_in, own_in, later_in}
 use Rattle.gateway_core.specs.FirstPacket.{first_step}
-use Rattle.gateway_core.specs.Whole.{IsWhole}
-use Rattle.gateway_core.specs.Packets.{stamp_of, l1_body, packet_with}
 use Rattle.gateway_core.specs.Signalling.{dyn_part}
 use Rattle.gateway_core.specs.declared.frame.Step.{Step}
 use Rattle.gateway_core.specs.declared.frame.Step.TheVariants.{Stamp, Signal, Blocks, Over}
@@ -47,8 +45,8 @@ early_at c n Over plp pool j = bits_in pool j
 abbrev pub early_of : Config → Frame → ℕ → List (List Bool)
 early_of c f j = early_at c f.number f.step f.plp f.blocks j
 
--- what stays as a frame gives its packets: its number, the lists and the chunks of its pool, and how many blocks each PLP has in
--- the interleaving frame that it carries
+-- of what stays as a frame gives its packets: its number, the lists and the chunks of its pool, and how many blocks each PLP has
+-- in the interleaving frame that it carries
 pub record Layout : Type 0 where
   pub number : ℕ
   pub lists : ℕ
@@ -58,9 +56,10 @@ pub record Layout : Type 0 where
 abbrev pub layout_of : Frame → Layout
 layout_of f = record { number = f.number; lists = length f.blocks.lists; chunks = f.blocks.opened; counts = f.counts.items }
 
--- The next packet was built, with a packet_count.
-pub record Builds (c : Config) (n packet_count : ℕ) (old new : List Body) (bits : List Bool) : Type 0 where
-  pub body : Body
-  pub was : old ≡ body ∷ new
-  pub built : bits ≡ written_bits (packet_with c packet_count n body)
-  pub whole : IsWhole bits
+-- all that stays: what the chains put already of later interleaving frames, and the layout
+pub record Stays : Type 0 where
+  pub early : ℕ → List (List Bool)
+  pub layout : Layout
+
+abbrev pub stays_of : Config → Frame → Stays
+stays_of c f = record { early = early_of c f; layout = layout_of f }

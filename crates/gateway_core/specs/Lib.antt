@@ -9,16 +9,14 @@ pub mod Laws
 pub mod Served
 pub mod Lists
 pub mod IsFed
-pub mod Whole
 pub mod BlocksLeft
 pub mod Left
-pub mod Carried
 pub mod FirstPacket
-pub mod Flowing
 -- of the crates below, for those who read this one
 pub use Rattle.terms.specs.Bits
 pub use Rattle.plp_config.specs.RunLength
 pub use Rattle.plp_config.specs.SlotTime
+pub use Rattle.frame_writer.specs.FramePackets
 pub use Rattle.mode_adapt.specs.Blocks
 pub use Rattle.mode_adapt.specs.Deletion
 pub use Rattle.t2mi_packet.specs.T2miPacket

@@ -5,13 +5,13 @@ use Rattle.plp_config.specs.SlotTime.{slots_by}
 use Rattle.plp_config.specs.declared.config.Config.{Config}
 use Rattle.t2mi_packet.specs.declared.packet.Body.{Body}
 use Rattle.gateway_core.specs.Events.{Event, offered, has_ended, begun, given, finished}
-use Rattle.gateway_core.specs.Flowing.{Flows, bytes_bound, gives_unit}
+use Rattle.frame_writer.specs.Flowing.{Flows, bytes_bound, gives_unit}
 use Rattle.gateway_core.specs.InputsStandFor.{AllFed, AllContinue, CountsStay}
 use Rattle.gateway_core.specs.IsFed.{wanted}
 use Rattle.gateway_core.specs.Left.{left, early_of}
 use Rattle.gateway_core.specs.Packets.{bodies_before}
 use Rattle.gateway_core.specs.Signalling.{pre_part, conf_part}
-use Rattle.gateway_core.specs.declared.flow.Flow.{Flow}
+use Rattle.frame_writer.specs.declared.flow.Flow.{Flow}
 use Rattle.gateway_core.specs.declared.gateway.Gateway.{Gateway}
 use Rattle.gateway_core.specs.declared.input.Input.{Input}
 use Rattle.gateway_core.specs.declared.signalling.Signalling.{Signalling}

@@ -7,9 +7,9 @@ ghost use Rattle.gateway_core.specs.Lists.{AllShort, IsNext, own_in};
 ghost use Rattle.gateway_core.specs.FirstPacket.{first_step};
 ghost use Rattle.gateway_core.specs.declared.frame.Step.TheVariants.{Over};
 
-use crate::packet::{write_block, write_l1_current, write_timestamp};
 use crate::signalling::{Dynamic, Signalling};
 use bit_slice::{FixedBits, OutOfMemory};
+use frame_writer::{FrameSource, write_block, write_l1_current, write_timestamp};
 use linked_pool::{BlockRef, Pool, frame_chunks};
 use plp_config::{Plan, block_law};
 use std::alloc::Global;
@@ -92,7 +92,8 @@ impl Frame {
     ghost use Rattle.plp_config.specs.Plps.{plp_at};
     ghost use Rattle.scheduler.specs.Laws.{CountsFit};
     ghost use Rattle.gateway_core.specs.Lists.{own_in, later_in};
-    ghost use Rattle.gateway_core.specs.Left.{left, all_of, early_of, layout_of, Builds};
+    ghost use Rattle.frame_writer.specs.Builds.{Builds};
+    ghost use Rattle.gateway_core.specs.Left.{left, all_of, early_of, layout_of};
     ghost use Rattle.gateway_core.specs.declared.signalling.Signalling.{Signalling};
 
     /// One of which nothing is left, with the memory of all frames of a plan.
@@ -174,8 +175,8 @@ impl Frame {
         true
     }
 
-    /// Builds the next packet, if there is one.
-    pub fn build(
+    // Builds the next packet, if there is one.
+    fn build_packet(
         &mut self,
         plan: &Plan,
         signalling: &Signalling,
@@ -215,5 +216,33 @@ impl Frame {
             Step::Blocks => self.build_block(plan, packet_count, out),
             Step::Over => false,
         }
+    }
+}
+
+impl FrameSource<Signalling> for Frame {
+    ghost use Rattle.std.specs.Prelude.{◌≡◌, length};
+    ghost use Rattle.gateway_core.specs.Left.{left, Stays, stays_of};
+    ghost use Rattle.gateway_core.specs.declared.frame.Step.TheVariants.{Over};
+
+    ghost number = { λ f. f.number };
+
+    ghost left = { λ f s c. left c s f };
+
+    ghost IsFor = { λ f _ c. length f.blocks.lists ≡ length c.plps };
+
+    ghost IsOver = { λ f. f.step ≡ Over };
+
+    ghost Kept = { Stays };
+
+    ghost kept = { λ f c. stays_of c f };
+
+    fn build(
+        &mut self,
+        signalling: &Signalling,
+        plan: &Plan,
+        packet_count: u8,
+        out: &mut FixedBits<LARGEST>,
+    ) -> bool {
+        self.build_packet(plan, signalling, packet_count, out)
     }
 }

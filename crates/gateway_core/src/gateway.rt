@@ -7,13 +7,13 @@ ghost use Rattle.gateway_core.specs.InputsStandFor.{AreFor, AreSupplied};
 ghost use Rattle.gateway_core.specs.Left.{early_of};
 ghost use Rattle.gateway_core.specs.declared.frame.Step.TheVariants.{Over};
 
-use crate::flow::Flow;
 use crate::frame::Frame;
 use crate::input::Input;
 use crate::inputs::{cut, end, offer, open_inputs, wanted};
 use crate::run_length::frame_count;
 use crate::signalling::Signalling;
 use bit_slice::OutOfMemory;
+use frame_writer::Flow;
 use mode_adapt::early_fits_law;
 use plp_config::Plan;
 use std::alloc::Global;
@@ -143,7 +143,7 @@ impl<'p> Gateway<'p> {
         self.frame.begin(self.plan, self.frames);
         self.frames += 1;
         self.flow
-            .begin(self.plan, &self.signalling, &mut self.frame);
+            .begin(&self.signalling, self.plan, &mut self.frame);
     }
 
     /// Gives the next unit of the frames begun, a transport packet, if it is complete: 184 bytes wait. After [`Gateway::finish`]
@@ -184,7 +184,7 @@ impl<'p> Gateway<'p> {
         } }
     {
         self.flow
-            .next(self.plan, &self.signalling, &mut self.frame, out)
+            .next(&self.signalling, self.plan, &mut self.frame, out)
     }
 
     /// Whether all inputs ended and as many frames were begun as their packets need.

@@ -1,13 +1,11 @@
 //! The gateway's core: packets of transport streams become units of transport packets that carry T2-MI.
 #![tactic(auto)]
 
-mod flow;
 mod frame;
 mod gateway;
 mod input;
 mod inputs;
 mod laws;
-mod packet;
 mod run_length;
 mod signalling;
 

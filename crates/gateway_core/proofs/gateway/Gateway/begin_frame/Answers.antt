@@ -5,12 +5,13 @@ use Rattle.std.proofs.lemmas.List.{with_items_is}
 use Rattle.plp_config.specs.declared.config.Config.{Config}
 use Rattle.gateway_core.specs.Lists.{bits_in, own_in, later_in}
 use Rattle.gateway_core.specs.Events.{Begun}
-use Rattle.gateway_core.specs.Flowing.{Flows}
+use Rattle.frame_writer.specs.Flowing.{Flows}
 use Rattle.gateway_core.specs.InputsStandFor.{AllFed, AreSupplied, CountsStay}
-use Rattle.gateway_core.specs.Left.{Layout, left, early_of}
+use Rattle.gateway_core.specs.Left.{Layout, Stays, left, early_of}
 use Rattle.gateway_core.specs.StandsFor.{GatewayStandsFor, Holds}
 use Rattle.gateway_core.specs.declared.input.Input.{Input}
-use Rattle.gateway_core.proofs.FlowLemmas.{dry_when, over_left}
+use Rattle.frame_writer.proofs.FlowLemmas.{dry_when}
+use Rattle.gateway_core.proofs.FrameLemmas.{over_left}
 use Rattle.gateway_core.proofs.HoldsLemmas.{early_over, fed_kept, holds_begin, supplied_over, supplied_begun}
 use Rattle.gateway_core.proofs.InputsLemmas.{most_stays, fit_on}
 use Rattle.gateway_core.proofs.gateway.Gateway.begin_frame.Goals as goal
@@ -22,7 +23,7 @@ returns-clause-stands c = λ config events h.
     let f = g.frame in
     let p = g.plan.now in
     let begun = c.begin.new.self in
-    let now = c.begin-2.new.frame in
+    let now = c.begin-2.new.source in
     let over = g.over (dry_when g.flow.dry _ _ g.flow.full (sym c.requires.given)) in
     let was : Holds g.inputs.items (early_of p f) g.signalling g.frames g.flow f.number (left p g.signalling f) p events =
     subst (λ (k : Config). Holds g.inputs.items (early_of p f) g.signalling g.frames g.flow f.number
@@ -37,7 +38,7 @@ returns-clause-stands c = λ config events h.
     let counts = with_items_is f.counts c.cut.new.counts (c.cut.auto.counts ∙ c.deref_mut-2.ensures.len) in
     let later : ℕ → List (List Bool) = later_in p g.frames c.cut.new.pool in
     let fed : AllFed (with_items g.inputs c.cut.new.inputs).items (early_of p now) p (events ++ Begun ∷ []) =
-    fed_kept _ later (early_of p now) p (events ++ Begun ∷ []) (λ j. c.begin-2.ensures.feeds.early j ∙ c.begin.ensures.early j)
+    fed_kept _ later (early_of p now) p (events ++ Begun ∷ []) (λ j. ap (λ (s : Stays). s.early j) c.begin-2.ensures.kept ∙ c.begin.ensures.early j)
     (subst (λ (l : List Input). AllFed l later p (events ++ Begun ∷ [])) (sym items)
     (c.cut.ensures.fed events was.frames_are old)) in
     let number : begun.number ≡ g.frames = ap (λ (l : Layout). l.number) c.begin.ensures.layout in
@@ -50,9 +51,11 @@ returns-clause-stands c = λ config events h.
     (λ all more. counts ∙ c.cut.ensures.counts events was.frames_are old stay all more)
     (λ all more j lt. c.cut.ensures.blocks events was.frames_are old all more j lt)
     (c.begin.ensures.all g.signalling)
-    (λ all given k. c.begin-2.ensures.feeds.flows all given
-    (subst (λ (n : ℕ). Flows g.flow.outlet p n (left p g.signalling begun) all given) (sym number) k)) was in
-    let kept : now.counts.items ≡ c.cut.new.counts = ap (λ (l : Layout). l.counts) c.begin-2.ensures.feeds.layout
+    (λ all given k. subst (λ (n : ℕ). Flows c.begin-2.new.self.outlet p n (left p g.signalling now) all given)
+    (sym c.begin-2.ensures.number)
+    (c.begin-2.ensures.feeds.flows all given
+    (subst (λ (n : ℕ). Flows g.flow.outlet p n (left p g.signalling begun) all given) (sym number) k))) was in
+    let kept : now.counts.items ≡ c.cut.new.counts = ap (λ (s : Stays). s.layout.counts) c.begin-2.ensures.kept
     ∙ ap (λ (l : Layout). l.counts) c.begin.ensures.layout ∙ counts in (
       h.0,
       subst (λ (k : Config). Holds (with_items g.inputs c.cut.new.inputs).items (early_of p now) g.signalling
@@ -83,7 +86,7 @@ invariant_of-self-2 c =
     let g = c.args.self.now in
     let f = g.frame in
     let p = g.plan.now in
-    let now = c.begin-2.new.frame in
+    let now = c.begin-2.new.source in
     let over = g.over (dry_when g.flow.dry _ _ g.flow.full (sym c.requires.given)) in
     let items = with_items_is g.inputs c.cut.new.inputs (c.cut.auto.inputs ∙ c.deref_mut.ensures.len) in
     let counts = with_items_is f.counts c.cut.new.counts (c.cut.auto.counts ∙ c.deref_mut-2.ensures.len) in
@@ -98,12 +101,12 @@ invariant_of-self-2 c =
       over = search rules;
       fit = fit_on p g.inputs.items c.deref_mut.result.now f.counts.items c.deref_mut-2.result.now c.cut.new.counts _
           c.deref_mut.ensures.value c.deref_mut-2.ensures.value
-          (ap (λ (l : Layout). l.counts) c.begin-2.ensures.feeds.layout ∙ ap (λ (l : Layout). l.counts) c.begin.ensures.layout
+          (ap (λ (s : Stays). s.layout.counts) c.begin-2.ensures.kept ∙ ap (λ (l : Layout). l.counts) c.begin.ensures.layout
           ∙ counts) c.cut.ensures.fit g.most g.fit;
       supplied = ∥∥₁_map g.supplied (λ (s : AreSupplied p g.frames g.inputs.items (early_of p f)).
           supplied_begun p g.frames g.inputs.items _ (early_of p f) (early_of p now)
           (λ events frames fed. fed_kept _ later (early_of p now) p (events ++ Begun ∷ [])
-          (λ j. c.begin-2.ensures.feeds.early j ∙ c.begin.ensures.early j)
+          (λ j. ap (λ (s : Stays). s.early j) c.begin-2.ensures.kept ∙ c.begin.ensures.early j)
           (subst (λ (l : List Input). AllFed l later p (events ++ Begun ∷ [])) (sym items)
           (c.cut.ensures.fed events frames
           (subst (λ (l : List Input). AllFed l (bits_in f.blocks) p events) (sym c.deref_mut.ensures.value)

@@ -7,12 +7,13 @@ use Rattle.gateway_core.specs.Packets.{front_packets}
 use Rattle.plp_config.specs.declared.config.Config.{Config}
 use Rattle.scheduler.specs.Laws.{CountsFit}
 use Rattle.t2mi_packet.specs.declared.packet.Body.{Body}
-use Rattle.gateway_core.specs.Flowing.{Flows, bytes_bound, gives_unit}
+use Rattle.frame_writer.specs.Flowing.{Flows, bytes_bound, gives_unit}
 use Rattle.gateway_core.specs.InputsStandFor.{AreSupplied, CountsStay}
-use Rattle.gateway_core.specs.Left.{Layout, left, early_of}
+use Rattle.gateway_core.specs.Left.{Stays, left, early_of}
 use Rattle.gateway_core.specs.StandsFor.{GatewayStandsFor, Holds}
-use Rattle.gateway_core.specs.declared.flow.Flow.{Flow}
+use Rattle.frame_writer.specs.declared.flow.Flow.{Flow}
 use Rattle.gateway_core.specs.declared.frame.Frame.{Frame}
+use Rattle.gateway_core.proofs.FrameLemmas.{over_left}
 use Rattle.gateway_core.proofs.HoldsLemmas.{holds_unit, holds_none, holds_gave, holds_complete, holds_caught_up, both}
 use Rattle.gateway_core.proofs.HoldsLemmas.{stay_gave, supplied_kept}
 use Rattle.gateway_core.proofs.gateway.Gateway.next_ts.Goals as goal
@@ -37,12 +38,12 @@ returns-clause-stands c = λ on config events h. (
       (subst (λ (k : Config). (all : List (ℕ × Body)) (given : ℕ)
       → Flows c.args.self.now.flow.outlet k c.args.self.now.frame.number
       (left c.args.self.now.plan.now c.args.self.now.signalling c.args.self.now.frame) all given
-      → Flows c.next.new.self.outlet k c.next.new.frame.number
-      (left c.args.self.now.plan.now c.args.self.now.signalling c.next.new.frame) all (given + 1)) h.0
-      (c.next.ensures.flows on)) c.next.ensures.early h.1,
-  stay_gave config events c.args.self.now.frames c.next.new.frame.counts.items
+      → Flows c.next.new.self.outlet k c.next.new.source.number
+      (left c.args.self.now.plan.now c.args.self.now.signalling c.next.new.source) all (given + 1)) h.0
+      (c.next.ensures.flows on)) (λ j. ap (λ (s : Stays). s.early j) c.next.ensures.kept) h.1,
+  stay_gave config events c.args.self.now.frames c.next.new.source.counts.items
       (subst (λ (l : List ℕ). CountsStay config events c.args.self.now.frames l)
-      (sym (ap (λ (l : Layout). l.counts) c.next.ensures.layout)) h.2),
+      (sym (ap (λ (s : Stays). s.layout.counts) c.next.ensures.kept)) h.2),
 )
 
 pub returns-clause-still : goal.returns-clause-still
@@ -51,8 +52,8 @@ returns-clause-still c = λ off config events h.
     let g = c.args.self.now in
     let same = c.next.ensures.stays off in (
       h.0,
-      subst (λ (f : Flow). Holds g.inputs.items (early_of g.plan.now c.next.new.frame) g.signalling g.frames f
-          c.next.new.frame.number (left g.plan.now g.signalling c.next.new.frame) config events) (sym same.0)
+      subst (λ (f : Flow). Holds g.inputs.items (early_of g.plan.now c.next.new.source) g.signalling g.frames f
+          c.next.new.source.number (left g.plan.now g.signalling c.next.new.source) config events) (sym same.0)
           (subst (λ (r : Frame). Holds g.inputs.items (early_of g.plan.now r) g.signalling g.frames g.flow r.number
           (left g.plan.now g.signalling r) config events) (sym same.1) h.1),
       subst (λ (r : Frame). CountsStay config events g.frames r.counts.items) (sym same.1) h.2,
@@ -96,7 +97,7 @@ pub returns-clause-kept : goal.returns-clause-kept
 returns-clause-kept c = λ off.
     let g = c.args.self.now in
     let same = c.next.ensures.stays off in
-    ap (λ (f : Flow). bytes_bound f.outlet (left g.plan.now g.signalling c.next.new.frame)) same.0
+    ap (λ (f : Flow). bytes_bound f.outlet (left g.plan.now g.signalling c.next.new.source)) same.0
     ∙ ap (λ (r : Frame). bytes_bound g.flow.outlet (left g.plan.now g.signalling r)) same.1
 
 pub invariant_of-self : goal.invariant_of-self
@@ -109,8 +110,13 @@ invariant_of-self c =
       lists = search rules;
       chunks = search rules;
       over = search rules;
-      fit = subst (λ (l : List ℕ). CountsFit g.plan.now l) (sym (ap (λ (l : Layout). l.counts) c.next.ensures.layout)) g.fit;
+      fit = subst (λ (l : List ℕ). CountsFit g.plan.now l) (sym (ap (λ (s : Stays). s.layout.counts) c.next.ensures.kept)) g.fit;
       supplied = ∥∥₁_map g.supplied (λ (s : AreSupplied g.plan.now g.frames g.inputs.items (early_of g.plan.now g.frame)).
-          supplied_kept g.plan.now g.frames g.inputs.items (early_of g.plan.now g.frame) (early_of g.plan.now c.next.new.frame)
-          c.next.ensures.early s);
+          supplied_kept g.plan.now g.frames g.inputs.items (early_of g.plan.now g.frame) (early_of g.plan.now c.next.new.source)
+          (λ j. ap (λ (s : Stays). s.early j) c.next.ensures.kept) s);
     }
+
+pub next-requires-clause-over : goal.next-requires-clause-over
+next-requires-clause-over c = λ dry.
+    let g = c.args.self.now in
+    over_left g.plan.now g.signalling g.frame (g.over dry)

@@ -8,11 +8,11 @@ use Rattle.gateway_core.specs.Lists.{bits_in, own_in}
 use Rattle.gateway_core.specs.Events.{Offered}
 use Rattle.gateway_core.specs.InputsStandFor.{AllFed, AreSupplied}
 use Rattle.gateway_core.specs.Left.{early_of}
-use Rattle.gateway_core.specs.Packets.{l1_body}
+use Rattle.frame_writer.specs.FramePackets.{l1_body}
 use Rattle.gateway_core.specs.StandsFor.{GatewayStandsFor}
 use Rattle.gateway_core.specs.declared.input.Input.{Input}
 use Rattle.gateway_core.specs.IsFed.{wanted}
-use Rattle.gateway_core.proofs.FlowLemmas.{dry_when}
+use Rattle.frame_writer.proofs.FlowLemmas.{dry_when}
 use Rattle.gateway_core.proofs.HoldsLemmas.{early_over, holds_over, has_frame, stay_offered, supplied_over, supplied_offered}
 use Rattle.gateway_core.proofs.InputsLemmas.{one_supplied}
 use Rattle.gateway_core.proofs.gateway.Gateway.offer.Goals as goal

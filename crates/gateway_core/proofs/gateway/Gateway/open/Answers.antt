@@ -1,10 +1,10 @@
 use Rattle.std.proofs.Common.{rules, ◌≡◌, ℕ, Bool, List, [], refl, ap, sym, subst}
 use Rattle.std.proofs.lemmas.Grind.{merely}
 use Rattle.t2mi_packet.specs.declared.packet.Body.{Body}
-use Rattle.gateway_core.specs.Flowing.{Flows, bytes_bound}
+use Rattle.frame_writer.specs.Flowing.{Flows, bytes_bound}
 use Rattle.gateway_core.specs.Left.{Layout, early_of}
 use Rattle.gateway_core.specs.StandsFor.{GatewayStandsFor, Status}
-use Rattle.gateway_core.proofs.FlowLemmas.{over_left}
+use Rattle.gateway_core.proofs.FrameLemmas.{over_left}
 use Rattle.gateway_core.proofs.HoldsLemmas.{fed_kept, stay_none, fit_zeros}
 use Rattle.gateway_core.proofs.gateway.Gateway.open.Goals as goal
 

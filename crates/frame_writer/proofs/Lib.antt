@@ -1,0 +1,3 @@
+mod BlockLemmas
+pub mod CarriedLemmas
+pub mod FlowLemmas
