@@ -1,0 +1,3 @@
+pub mod StandsFor
+-- inner: no public clause cites these
+pub mod Taking
